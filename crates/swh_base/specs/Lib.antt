@@ -1,0 +1,11 @@
+pub mod Directory
+pub mod Kind
+pub mod Limits
+pub mod Manifest
+pub mod Name
+pub mod Namer
+pub mod Release
+pub mod Revision
+pub mod Snapshot
+pub mod Text
+pub mod Url

@@ -1,0 +1,46 @@
+-- Texts inside manifests and streams: refs (gitrevisions(7), git-check-ref-format(1), restricted) and persons
+-- (git-fast-import(1), author and committer).
+use Rattle.std.specs.Prelude.{◌≡◌, ◌⊎◌, ℕ, ◌≤◌, ◌==◌, Bool, ◌&&◌, not, nat_le, Option, Some, None, List, [], ◌∷◌, ◌++◌, length}
+use Rattle.std.specs.List.{AllPass}
+use Rattle.swh_base.specs.Limits.{ref_limit}
+
+abbrev pub is_digit : ℕ → Bool
+is_digit c = nat_le 48 c && nat_le c 57
+
+-- none up to a space, no DEL, none of `^ : ~ ? * [ \`
+abbrev pub is_ref_byte : ℕ → Bool
+is_ref_byte c = nat_le 33 c && not (c == 127) && not (c == 94) && not (c == 58) && not (c == 126) && not (c == 63) && not (c == 42) && not (c == 91) && not (c == 92)
+
+pub record IsRef (text : List ℕ) : Type 0 where
+  pub some : 1 ≤ length text
+  pub short : length text ≤ ref_limit
+  pub bytes : AllPass is_ref_byte text
+
+-- no `<`, `>`, LF or NUL
+abbrev pub is_person_byte : ℕ → Bool
+is_person_byte c = not (c == 60) && not (c == 62) && not (c == 10) && not (c == 0)
+
+-- a name and a space, or nothing
+abbrev pub named : Option (List ℕ) → List ℕ
+named None = []
+named (Some name) = name ++ 32 ∷ []
+
+abbrev pub IsSign : ℕ → Type 0
+IsSign c = (c ≡ 43) ⊎ (c ≡ 45)
+
+-- `name <email> seconds +zone`, where name and its space may lack
+pub record IsPerson (text : List ℕ) : Type 0 where
+  pub name : Option (List ℕ)
+  pub email : List ℕ
+  pub seconds : List ℕ
+  pub sign : ℕ
+  pub zone : List ℕ
+  pub spelled : text ≡ named name ++ 60 ∷ (email ++ 62 ∷ 32 ∷ (seconds ++ 32 ∷ sign ∷ zone))
+  pub name_bytes : AllPass is_person_byte (named name)
+  pub email_bytes : AllPass is_person_byte email
+  pub some_seconds : 1 ≤ length seconds
+  pub few_seconds : length seconds ≤ 18
+  pub seconds_digits : AllPass is_digit seconds
+  pub is_sign : IsSign sign
+  pub four : length zone ≡ 4
+  pub zone_digits : AllPass is_digit zone

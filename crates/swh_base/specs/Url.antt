@@ -1,0 +1,11 @@
+-- Where an origin is: 1 to 2,048 bytes, none below a space and no DEL.
+use Rattle.std.specs.Prelude.{ℕ, ◌≤◌, ◌==◌, Bool, ◌&&◌, not, nat_le, List, length}
+use Rattle.std.specs.List.{AllPass}
+
+abbrev pub is_url_byte : ℕ → Bool
+is_url_byte c = nat_le 32 c && not (c == 127)
+
+pub record IsUrl (text : List ℕ) : Type 0 where
+  pub some : 1 ≤ length text
+  pub short : length text ≤ 2048
+  pub bytes : AllPass is_url_byte text

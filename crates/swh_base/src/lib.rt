@@ -1,0 +1,35 @@
+//! Names of artifacts by their bytes, and the public grammars of their bodies.
+//! Stands on `sha1` and `hex`.
+//! Above it may rely on: an id is the namer's value of kind and body; a body has one list of kids.
+#![tactic(auto)]
+
+mod bytes;
+mod directory;
+mod entry;
+mod graph;
+mod kind;
+mod many;
+mod memory;
+mod name;
+mod namer;
+mod request;
+mod shared;
+mod url;
+mod visit;
+
+pub use bytes::Bytes;
+pub use directory::one_listing;
+pub use entry::Entry;
+pub use graph::Graph;
+pub use kind::Kind;
+pub use many::Many;
+pub use memory::Memory;
+pub use name::Name;
+pub use namer::{ByteNamer, Namer, Sha1Namer};
+pub use request::{Reply, Request};
+pub use shared::Shared;
+pub use url::{Url, UrlFault, is_url};
+pub use visit::{Status, VisitKind, Which};
+
+#[cfg(test)]
+mod tests;

@@ -1,0 +1,19 @@
+use crate::bytes::Bytes;
+
+/// A request of the read API: an HTTP method, a path with what may follow a `?`, and a body.
+#[derive(Debug, Drop)]
+pub struct Request {
+    pub method: Bytes,
+    pub path: Bytes,
+    pub body: Bytes,
+    /// The connection is kept after the reply.
+    pub keep: bool,
+}
+
+/// A reply of the read API: an HTTP status, and a body that is JSON or plain bytes.
+#[derive(Debug, Drop)]
+pub struct Reply {
+    pub status: u16,
+    pub json: bool,
+    pub body: Bytes,
+}

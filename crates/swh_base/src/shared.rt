@@ -1,0 +1,44 @@
+use crate::memory::Memory;
+use std::marker::Model;
+use std::sync::ArcSlice;
+
+/// Items that several owners share, which contracts see as a list.
+#[derive(Debug, Drop)]
+pub struct Shared<T: Drop> {
+    items: ArcSlice<T>,
+}
+
+impl<T: Drop> Model for Shared<T> {
+    ghost use Rattle.std.specs.Prelude.{List};
+    ghost use Rattle.std.specs.Arc.{arc_slice_items};
+
+    ghost Value = { List T };
+
+    ghost view = { λ s. arc_slice_items s.items };
+}
+
+impl<T: Drop> Shared<T> {
+    ghost use Rattle.std.specs.Prelude.{◌≡◌, IfOk};
+
+    /// Takes the items over without copying them.
+    pub fn from_vec(items: Vec<T>) -> Result<Shared<T>, Memory>
+        ensures { IfOk result (λ s. s ≡ items.items) }
+    {
+        let items = ArcSlice::from_vec(items)?;
+        Ok(Shared { items })
+    }
+
+    pub fn as_slice(&self) -> &[T]
+        ensures { result.now ≡ self.now }
+    {
+        self.items.as_slice()
+    }
+
+    /// An equal one that shares the items.
+    pub fn again(&self) -> Result<Shared<T>, Memory>
+        ensures { IfOk result (λ s. s ≡ self.now) }
+    {
+        let items = self.items.clone()?;
+        Ok(Shared { items })
+    }
+}
