@@ -22,6 +22,7 @@ use Rattle.swh_model.specs.Archive.{Archive, Bodies, body_of, visits_of, IsKid}
 use Rattle.swh_model.specs.Limits.{store_length, stored_length, ledger_length, payload_length}
 use Rattle.swh_model.specs.Step.{IsFinal, last_status, snapshot_name, visit_at, replay, with_status, marked_at}
 use Rattle.swh_model.specs.Judge.{FilePasses, IsThere, MarkCause, OpenCause, IsVerdict, rank}
+use Rattle.swh_base.specs.Snapshot.{target_bytes}
 use Rattle.swh_model.specs.Row.{url, opening, opened_once, failed_once, with_snapshot, revision, branch_to_it, snapshot_body}
 use Rattle.swh_model.proofs.Maps.{visits-put, body-put, body_cases}
 use Rattle.swh_model.proofs.Sounds.{none-opened}
@@ -184,7 +185,10 @@ same_id : (a b : List ℕ) → Some a ≡ Some b → a ≡ b
 same_id a b e = cc
 
 few_bytes : (id : List ℕ) → store_length (with_snapshot id) + stored_length (Mark url 1 Full (Some id)) ≤ 1000
-few_bytes id = let d : length (decimal 20) ≤ 2 = length-decimal-le 2 20 (lit< tt) (lit< tt) (lit< tt) in omega (arith, length-append (decimal 20) (58 ∷ revision.id), d)
+few_bytes id =
+    let digits_of_it : List ℕ = decimal (length (target_bytes branch_to_it.target)) in
+    let d : length digits_of_it ≤ 2 = length-decimal-le 2 20 (lit< tt) (lit< tt) (lit< tt) in
+    omega (arith, length-append digits_of_it (58 ∷ target_bytes branch_to_it.target ++ []), length-append digits_of_it (58 ∷ target_bytes branch_to_it.target), d, length-append (digits_of_it ++ 58 ∷ target_bytes branch_to_it.target) [])
 
 pub snapshot_is_not_closed : (id : List ℕ)
     → IsVerdict (with_snapshot id) 1 (Mark url 1 Full (Some id)) (Err (NotClosed (snapshot_name id) revision))
