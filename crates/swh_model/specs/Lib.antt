@@ -10,3 +10,4 @@ pub mod Certificate
 pub mod Row
 pub mod Coding
 pub mod Stands
+pub mod Answer
