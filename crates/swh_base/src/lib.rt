@@ -4,10 +4,10 @@
 #![tactic(auto)]
 
 mod bytes;
-mod directory;
 mod entry;
 mod graph;
 mod kind;
+mod laws;
 mod many;
 mod memory;
 mod name;
@@ -18,10 +18,10 @@ mod url;
 mod visit;
 
 pub use bytes::Bytes;
-pub use directory::one_listing;
 pub use entry::Entry;
 pub use graph::Graph;
 pub use kind::Kind;
+pub use laws::{one_list_of_kids, one_listing};
 pub use many::Many;
 pub use memory::Memory;
 pub use name::Name;

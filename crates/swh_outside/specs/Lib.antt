@@ -1,0 +1,11 @@
+pub mod Causes
+pub mod Depot
+pub mod Disk
+pub mod Faults
+pub mod Files
+pub mod Folder
+pub mod Link
+pub mod Listing
+pub mod Opened
+pub mod Sink
+pub mod Source

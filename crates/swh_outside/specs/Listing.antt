@@ -1,0 +1,7 @@
+-- What an item of a folder's list says.
+use Rattle.std.specs.Prelude.{string_bytes}
+use Rattle.swh_outside.specs.Folder.{Entry}
+use Rattle.swh_outside.specs.declared.folder.Item.{Item}
+
+abbrev pub listed : Item → Entry
+listed item = record { name = string_bytes item.name; what = item.what }

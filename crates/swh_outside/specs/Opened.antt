@@ -1,0 +1,21 @@
+-- How opening ended.
+use Rattle.swh_outside.specs.declared.fault.Opened.{Opened}
+use Rattle.swh_outside.specs.declared.fault.Opened.TheVariants.{Found, NotFound, Failed, Memory}
+
+abbrev pub IfFound : {T : Type 0} → Opened T → (T → Type 0) → Type 0
+IfFound (Found x) P = P x
+IfFound NotFound P = Unit {0}
+IfFound Failed P = Unit {0}
+IfFound Memory P = Unit {0}
+
+abbrev pub IsNotFound : {T : Type 0} → Opened T → Type 0
+IsNotFound (Found x) = ⊥
+IsNotFound NotFound = Unit {0}
+IsNotFound Failed = ⊥
+IsNotFound Memory = ⊥
+
+abbrev pub IsFailed : {T : Type 0} → Opened T → Type 0
+IsFailed (Found x) = ⊥
+IsFailed NotFound = ⊥
+IsFailed Failed = Unit {0}
+IsFailed Memory = ⊥

@@ -1,0 +1,30 @@
+//! The outside of the archive: bytes in, bytes out, disks, folders, links and the clock, each a trait with a meaning
+//! and a count of faults. It stands on std alone. The layer above may use each trait's clauses, whatever implements
+//! it: content where the implementation tells it, and counts and bounds always.
+#![tactic(auto)]
+
+mod clock;
+mod depot;
+mod disk;
+mod doors;
+mod fault;
+mod folder;
+mod gate;
+mod link;
+mod origins;
+mod sink;
+mod source;
+mod yard;
+
+pub use clock::Clock;
+pub use depot::Depot;
+pub use disk::Disk;
+pub use doors::Doors;
+pub use fault::{Failed, Opened, OutFault};
+pub use folder::{Folder, Item, What};
+pub use gate::{Gate, OpenGate};
+pub use link::Link;
+pub use origins::Origins;
+pub use sink::Sink;
+pub use source::Source;
+pub use yard::Yard;
