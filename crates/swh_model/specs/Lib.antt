@@ -1,0 +1,13 @@
+pub mod Archive
+pub mod Limits
+pub mod Step
+pub mod Sound
+pub mod Grows
+pub mod Judge
+pub mod Held
+pub mod Opened
+pub mod Certificate
+pub mod Row
+pub mod Coding
+pub mod Stands
+pub mod Answer
