@@ -1,0 +1,3 @@
+pub mod PathMap
+pub mod SmallStream
+pub mod Meaning
