@@ -11,3 +11,6 @@ pub mod Row
 pub mod Coding
 pub mod Stands
 pub mod Answer
+pub mod PathMap
+pub mod SmallStream
+pub mod Meaning

@@ -1,0 +1,5 @@
+pub mod Answers
+pub mod Archives
+pub mod Init
+pub mod Run
+pub mod Words
