@@ -9,7 +9,8 @@ use crate::event::{Event, EventKind};
 use std::alloc::Global;
 use swh_base::{Entry, Kind, Memory, Status, Url, VisitKind};
 
-fn kind_byte(kind: Kind) -> u8
+/// The number that stands for a kind in the store.
+pub fn kind_byte(kind: Kind) -> u8
     ensures { result ≡ kind_number kind }
 {
     match kind {
