@@ -59,7 +59,7 @@ tied Less e = absurd (let f : false ≡ true = e in cc)
 tied Equal e = refl
 tied Greater e = absurd (let f : false ≡ true = e in cc)
 
-same_key : (n m : Name) → keys_eq (name_key n) (name_key m) ≡ true → n ≡ m
+pub same_key : (n m : Name) → keys_eq (name_key n) (name_key m) ≡ true → n ≡ m
 same_key n m t = name_key-injective n m (finite.slice_cmp-IsAntisymmetric finite.nat_cmp-IsAntisymmetric (name_key n) (name_key m) (tied (slice_cmp nat_cmp (name_key n) (name_key m)) (sym (texts_ties (name_key n) (name_key m)) ∙ t)))
 
 pub found : (n : Name) (key : List ℕ) (es : List (List ℕ × Entry)) (e : Entry) → key ≡ name_key n → All IsKeyed es → lookup (keys_eq key) es ≡ Some e → IsEntryOf (bodies_of es) n e

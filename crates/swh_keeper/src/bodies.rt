@@ -35,7 +35,7 @@ ghost use Rattle.swh_model.specs.Step.{IsGood, AreNew, added};
 ghost use Rattle.swh_keeper.specs.Maps.{bodies_of, IsKeyed};
 
 /// The kind's number, then the id.
-fn key_of(name: &Name) -> [u8; 21]
+pub fn key_of(name: &Name) -> [u8; 21]
     ensures { result ≡ name_key name.now }
 {
     let mut key = [0; 21];
@@ -84,6 +84,8 @@ fn again_all(alloc: Global, entries: &[Entry]) -> Result<VecDeque<Entry>, Memory
 }
 
 impl HeldBodies {
+    ghost use Rattle.std.specs.Prelude.{◌↔◌, IsTrue};
+    ghost use Rattle.swh_model.specs.Archive.{IsHeld};
     ghost use Rattle.swh_keeper.specs.Maps.{IsEntryOf};
 
     pub fn new(alloc: Global) -> HeldBodies
@@ -100,6 +102,13 @@ impl HeldBodies {
         ensures none { IfNone result (body_of self.now name.now ≡ None) }
     {
         self.by_key.get(&key_of(name))
+    }
+
+    /// Says whether a body is held under a name.
+    pub fn has(&self, name: &Name) -> bool
+        ensures { IsTrue result ↔ IsHeld self.now name.now }
+    {
+        self.get(name).is_some()
     }
 
     /// Adds entries that are not held, and no two of one name.

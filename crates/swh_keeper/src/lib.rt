@@ -4,7 +4,11 @@
 #![tactic(auto)]
 
 mod bodies;
+mod closure;
+mod listing;
 mod visits;
 
 pub use bodies::HeldBodies;
+pub use closure::find_gap;
+pub use listing::Listing;
 pub use visits::OriginVisits;
