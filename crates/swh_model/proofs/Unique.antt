@@ -4,19 +4,17 @@ use Rattle.std.proofs.Common.{◌≡◌, ◌≢◌, ℕ, ◌+◌, ◌<◌, ◌�
 use Rattle.std.specs.List.{AllByRecursion}
 use Rattle.std.specs.Int.{w32, w64, to_be_bytes, from_be_bytes}
 use Rattle.std.proofs.lemmas.Nat.{from_be_bytes-to_be_bytes_4, from_be_bytes-to_be_bytes_8}
-use Rattle.swh_base.specs.declared.kind.Kind.{Kind}
 use Rattle.swh_base.specs.declared.name.Name.{Name}
 use Rattle.swh_base.specs.declared.entry.Entry.{Entry}
 use Rattle.swh_base.specs.declared.visit.VisitKind.{VisitKind}
 use Rattle.swh_base.specs.declared.visit.VisitKind.TheVariants.{Fast, Dir, Batch as BatchVisit}
 use Rattle.swh_base.specs.declared.visit.Status.{Status}
 use Rattle.swh_base.specs.declared.visit.Status.TheVariants.{Created, Ongoing, Full, Partial, NotFound, Failed}
-use Rattle.swh_base.specs.Name.{kind_number, name_key, name_key-injective}
-use Rattle.swh_base.specs.Url.{IsUrl}
+use Rattle.swh_base.specs.Name.{kind_number, name_key-injective}
 use Rattle.swh_model.specs.declared.event.Event.{Event}
 use Rattle.swh_model.specs.declared.event.EventKind.{EventKind}
 use Rattle.swh_model.specs.declared.event.EventKind.TheVariants.{Batch, Open, Mark}
-use Rattle.swh_model.specs.Coding.{magic, coded_entry, coded_run, run_of, event_byte, visit_kind_number, status_number, coded_snapshot, told, payload_of, framed, coded_record, coded_records, coded_runs, IsOrigin, IsCodableEntry, IsSnapshotId, IsCodableBatch, IsCodableOpen, IsCodableMark, IsCodableKind, IsCodable, AreCodable}
+use Rattle.swh_model.specs.Coding.{magic, coded_entry, coded_run, run_of, event_byte, visit_kind_number, status_number, coded_snapshot, told, payload_of, framed, coded_record, coded_records, coded_runs, IsCodableEntry, IsSnapshotId, IsCodableBatch, IsCodableOpen, IsCodableMark, IsCodableKind, IsCodable}
 use Rattle.swh_model.specs.Stands.{StandsFrom, StandsFor, bare, bare_kind, bare_event, AreAlike}
 
 -- what stands before and after a number of bytes
@@ -79,7 +77,7 @@ bare_same e f n b i = record { name = n i; body = b i; kids = [] }
 pub same_entry : (e f : Entry) (x y : List ℕ) → IsCodableEntry e → IsCodableEntry f → coded_entry e ++ x ≡ coded_entry f ++ y → (bare e ≡ bare f) × (x ≡ y)
 same_entry e f x y he hf same =
     let all : kind_number e.name.kind ∷ (to_be_bytes w64 (length e.body) ++ (e.name.id ++ (e.body ++ x))) ≡ kind_number f.name.kind ∷ (to_be_bytes w64 (length f.body) ++ (f.name.id ++ (f.body ++ y))) =
-        sym (entry_then e x) ∙ same ∙ entry_then f y in
+    sym (entry_then e x) ∙ same ∙ entry_then f y in
     let kinds = same_head (kind_number e.name.kind) (kind_number f.name.kind) _ _ all in
     let sizes = cut_eight (length e.body) (length f.body) _ _ he.body hf.body (same_tail (kind_number e.name.kind) (kind_number f.name.kind) _ _ all) in
     let ids = cut e.name.id f.name.id (e.body ++ x) (f.body ++ y) (he.id ∙ sym hf.id) sizes.1 in
@@ -213,9 +211,9 @@ alike_from at (e ∷ g) (f ∷ h) ledger store a b =
     let one = same_event at e f _ _ _ _ a.codable.0 b.codable.0 (sym ra ∙ same_tail 1 1 _ _ (sym a.records ∙ b.records) ∙ rb) runs in
     let places : at + length (run_of e.what) ≡ at + length (run_of f.what) = ap (λ (n : ℕ). at + n) (length_behind (run_of e.what) (run_of f.what) _ _ runs one.2) in
     let here : StandsFrom (at + length (run_of f.what)) (coded_records (at + length (run_of f.what)) h ++ b.gate ∷ b.behind) (coded_runs h ++ b.beyond) h =
-        record { gate = b.gate; closed = b.closed; behind = b.behind; records = refl; beyond = b.beyond; runs = refl; codable = b.codable.1 } in
+    record { gate = b.gate; closed = b.closed; behind = b.behind; records = refl; beyond = b.beyond; runs = refl; codable = b.codable.1 } in
     let there : StandsFrom (at + length (run_of e.what)) (coded_records (at + length (run_of f.what)) h ++ b.gate ∷ b.behind) (coded_runs h ++ b.beyond) g =
-        record { gate = a.gate; closed = a.closed; behind = a.behind; records = sym one.1; beyond = a.beyond; runs = sym one.2; codable = a.codable.1 } in
+    record { gate = a.gate; closed = a.closed; behind = a.behind; records = sym one.1; beyond = a.beyond; runs = sym one.2; codable = a.codable.1 } in
     let more = alike_from (at + length (run_of f.what)) g h _ _ (subst (λ (n : ℕ). StandsFrom n (coded_records (at + length (run_of f.what)) h ++ b.gate ∷ b.behind) (coded_runs h ++ b.beyond) g) places there) here in
     λ i. one.0 i ∷ more i
 

@@ -10,7 +10,7 @@ use Rattle.swh_base.specs.declared.visit.VisitKind.TheVariants.{Fast}
 use Rattle.swh_base.specs.declared.visit.Status.{Status}
 use Rattle.swh_base.specs.declared.visit.Status.TheVariants.{Created, Ongoing, Full, Failed}
 use Rattle.swh_base.specs.declared.visit.Which.{Which}
-use Rattle.swh_base.specs.declared.visit.Which.TheVariants.{Body, Objects, Bytes, Store, Ledger}
+use Rattle.swh_base.specs.declared.visit.Which.TheVariants.{Store, Ledger}
 use Rattle.swh_model.specs.declared.event.Visit.{Visit}
 use Rattle.swh_model.specs.declared.event.Event.{Event}
 use Rattle.swh_model.specs.declared.event.EventKind.{EventKind}

@@ -1,5 +1,5 @@
 -- What is answered to a request for an origin's visits, and the line that reports a job.
-use Rattle.std.specs.Prelude.{◌≡◌, ℕ, ◌==◌, Bool, ◌||◌, nat_le, if◌then◌else◌, Option, Some, None, List, [], ◌∷◌, ◌++◌, ◌/◌, ◌%◌, map, reverse, decimal, codes}
+use Rattle.std.specs.Prelude.{◌≡◌, ℕ, ◌==◌, Bool, ◌||◌, nat_le, if◌then◌else◌, Option, Some, None, List, [], ◌∷◌, ◌++◌, map, reverse, decimal, codes}
 use Rattle.std.specs.List.{flat_map, join_with_byte, before_first}
 use Rattle.hex.specs.Hex.{encode_lower}
 use Rattle.percent_encoding.specs.Percent.{percent_decode, percent_encode_byte}

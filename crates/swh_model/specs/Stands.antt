@@ -1,6 +1,6 @@
 -- The files stand for a history: the ledger has the magic, then each event's record behind an open gate, and then a
 -- closed gate with anything behind it; the store begins with the batches' runs.
-use Rattle.std.specs.Prelude.{◌≡◌, ◌≢◌, ℕ, ◌≤◌, List, [], ◌∷◌, ◌++◌, length, map}
+use Rattle.std.specs.Prelude.{◌≡◌, ◌≢◌, ℕ, List, [], ◌∷◌, ◌++◌, map}
 use Rattle.swh_base.specs.declared.entry.Entry.{Entry}
 use Rattle.swh_model.specs.declared.event.Event.{Event}
 use Rattle.swh_model.specs.declared.event.EventKind.{EventKind}
@@ -21,12 +21,6 @@ pub record StandsFor (ledger store : List ℕ) (h : List Event) : Type 0 where
   pub rest : List ℕ
   pub begins : ledger ≡ magic ++ rest
   pub stands : StandsFrom 0 rest store h
-
--- the ledger has nine bytes or more, and the first is `S`
-pub record IsMade (ledger : List ℕ) : Type 0 where
-  pub more : List ℕ
-  pub first : ledger ≡ 83 ∷ more
-  pub long : 8 ≤ length more
 
 -- an entry without its kids, which its body determines
 abbrev pub bare : Entry → Entry
