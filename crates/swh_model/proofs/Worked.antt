@@ -190,7 +190,7 @@ few_bytes id =
     let d : length digits_of_it ≤ 2 = length-decimal-le 2 20 (lit< tt) (lit< tt) (lit< tt) in
     omega (arith, length-append digits_of_it (58 ∷ target_bytes branch_to_it.target ++ []), length-append digits_of_it (58 ∷ target_bytes branch_to_it.target), d, length-append (digits_of_it ++ 58 ∷ target_bytes branch_to_it.target) [])
 
-pub snapshot_is_not_closed : (id : List ℕ)
+pub snapshot_is_not_closed : (id : List ℕ) → length id ≡ 20 → length id ≡ 20
     → IsVerdict (with_snapshot id) 1 (Mark url 1 Full (Some id)) (Err (NotClosed (snapshot_name id) revision))
 snapshot_is_not_closed id =
     let mark : EventKind = Mark url 1 Full (Some id) in (

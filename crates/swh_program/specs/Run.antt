@@ -35,3 +35,7 @@ pub record IsCut (words : List (List ℕ)) (tells : Type 0) (old new : Folders) 
   pub answer : Answer
   pub obeyed : Obeys words tells old new answer
   pub printed : sink_tells → TakesSome before (line_of answer) now
+
+-- Memory apart, it was done.
+abbrev pub IsDone : ℕ → Type 0
+IsDone status = (status ≡ 0) ⊎ (status ≡ 5)

@@ -6,6 +6,7 @@
 mod answer;
 mod files;
 mod init_command;
+mod job_file;
 mod outside;
 mod top;
 mod words;
@@ -13,6 +14,7 @@ mod words;
 pub use answer::{Answer, tell};
 pub use files::{ArchiveFiles, close_files, open_files};
 pub use init_command::init;
+pub use job_file::{JobFault, JobLine, parse_job};
 pub use outside::Outside;
 pub use top::run;
 pub use words::init_folder;

@@ -1,9 +1,10 @@
 // The top call.
 ghost use Rattle.std.specs.Prelude.{◌≡◌, ◌⊎◌, ◌≤◌, ℕ, List, map, string_bytes};
 ghost use Rattle.swh_outside.specs.Faults.{Rose};
-ghost use Rattle.swh_segment.specs.Making.{IsNotMade, IsMade};
-ghost use Rattle.swh_program.specs.Words.{IsInitOf, IsNoCommand};
-ghost use Rattle.swh_program.specs.Run.{Obeys, IsStatus, Answers, IsCut};
+ghost use Rattle.swh_segment.specs.Making.{IsNotMade};
+ghost use Rattle.swh_program.specs.Archives.{archive_at};
+ghost use Rattle.swh_program.specs.Words.{IsInitOf};
+ghost use Rattle.swh_program.specs.Run.{Obeys, IsStatus, Answers, IsCut, IsDone};
 ghost use Rattle.swh_program.specs.declared.answer.Answer.TheVariants.{Made, Words, AlreadyMade, OutsideDisk, Memory};
 
 use crate::{Answer, Outside, init, init_folder, tell};
@@ -41,6 +42,10 @@ pub fn run<R, N: Namer, P: Depot, O: Origins, Y: Yard, K: Sink, C: Clock, D: Doo
         → (Rose (P.faults world.old.depot) (P.faults world.new.depot) × Answers OutsideDisk (map string_bytes words.now) P.tells (P.files world.old.depot) (P.files world.new.depot) K.tells (K.taken world.old.sink) (K.taken world.new.sink))
         ⊎ (Rose (K.faults world.old.sink) (K.faults world.new.sink) × IsCut (map string_bytes words.now) P.tells (P.files world.old.depot) (P.files world.new.depot) K.tells (K.taken world.old.sink) (K.taken world.new.sink)) }
     ensures memory { result ≡ 5 → Answers Memory (map string_bytes words.now) P.tells (P.files world.old.depot) (P.files world.new.depot) K.tells (K.taken world.old.sink) (K.taken world.new.sink) }
+
+    // An archive that is not made is made, unless memory runs out, where no part of the outside failed.
+    ensures complete_init { (dir : List ℕ) → IsInitOf (map string_bytes words.now) dir → P.tells → IsNotMade (archive_at (P.files world.old.depot) dir 0).seen
+        → (Rose (P.faults world.old.depot) (P.faults world.new.depot) → ⊥) → (Rose (K.faults world.old.sink) (K.faults world.new.sink) → ⊥) → IsDone result }
 
     // The parts that no command touches yet.
     ensures clock { world.new.clock ≡ world.old.clock }
