@@ -181,11 +181,19 @@ pub fn record_of_event(alloc: Global, at: u64, end: u64, event: &Event) -> Resul
     frame(alloc, record_byte(&event.what), &payload)
 }
 
+fn has_twenty_bytes(id: [u8; 20]) -> usize
+    ensures value { result ≡ 20 }
+    ensures length { length id ≡ 20 }
+{
+    let bytes: &[u8] = &id;
+    bytes.len()
+}
+
 /// What the types say of an entry: an id has twenty bytes, and no body is longer than memory.
 pub fn entry_is_codable(entry: &Entry)
     ensures { IsCodableEntry entry.now }
 {
-    let _id = entry.name.id;
+    let _twenty = has_twenty_bytes(entry.name.id);
     let _length = entry.body.as_slice().len();
 }
 
