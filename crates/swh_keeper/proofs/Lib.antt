@@ -2,3 +2,4 @@ pub mod MapLemmas
 pub mod VisitLemmas
 pub mod Results
 pub mod WalkLemmas
+pub mod BatchLemmas

@@ -5,10 +5,12 @@
 
 mod bodies;
 mod closure;
+mod fresh;
 mod listing;
 mod visits;
 
 pub use bodies::HeldBodies;
 pub use closure::find_gap;
+pub use fresh::{Split, find_collision, split_fresh};
 pub use listing::Listing;
 pub use visits::OriginVisits;

@@ -71,7 +71,7 @@ bytes-fresh bodies (e ∷ f ∷ es) =
           let m = bytes-more e (fresh (insert bodies e.name e.body) (f ∷ es)) in omega (arith, h, m)
     ]
 
-fresh-new : (bodies : Bodies) (es : List Entry) → AreNew bodies (fresh bodies es)
+pub fresh-new : (bodies : Bodies) (es : List Entry) → AreNew bodies (fresh bodies es)
 fresh-new bodies [] = tt
 fresh-new bodies (e ∷ es) =
     elim (is_some (body_of bodies e.name)) as (λ t. is_some (body_of bodies e.name) ≡ t → AreNew bodies (cond t (fresh bodies es) (e ∷ fresh (insert bodies e.name e.body) es))) [
