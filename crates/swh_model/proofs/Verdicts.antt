@@ -79,7 +79,7 @@ fresh-new bodies (e ∷ es) =
       | false ↦ λ is. (none_of (body_of bodies e.name) is, fresh-new (insert bodies e.name e.body) es)
     ] refl
 
-short_unless : (es : List Entry) → ((n : ℕ) → first_long es ≡ Some n → ⊥) → AllByRecursion (λ (e : Entry). length e.body ≤ body_limit) es
+pub short_unless : (es : List Entry) → ((n : ℕ) → first_long es ≡ Some n → ⊥) → AllByRecursion (λ (e : Entry). length e.body ≤ body_limit) es
 short_unless [] h = tt
 short_unless (e ∷ es) h =
     elim (nat_lt body_limit (length e.body)) as (λ t. nat_lt body_limit (length e.body) ≡ t → ((n : ℕ) → cond t (Some (length e.body)) (first_long es) ≡ Some n → ⊥)
