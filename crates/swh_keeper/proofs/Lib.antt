@@ -3,3 +3,4 @@ pub mod VisitLemmas
 pub mod Results
 pub mod WalkLemmas
 pub mod BatchLemmas
+pub mod VerdictLemmas

@@ -1,5 +1,5 @@
 //! The causes against a plan, in the order in which they are looked for.
-ghost use Rattle.std.specs.Prelude.{◌≡◌, ◌+◌, ◌≤◌, ◌^◌, ℕ, List, IfOk, IfSome, IfNone, length};
+ghost use Rattle.std.specs.Prelude.{◌≡◌, ◌+◌, ◌≤◌, ◌<◌, ◌^◌, ℕ, List, IfOk, IfSome, IfNone, length};
 ghost use Rattle.std.specs.List.{AllByRecursion};
 ghost use Rattle.swh_base.specs.Limits.{body_limit};
 ghost use Rattle.swh_model.specs.declared.event.Event.{Event};
@@ -65,8 +65,8 @@ pub fn limit_of_batch(entries: &[Entry]) -> Option<(Which, u64)>
 
 /// The first of both files that an event would make too long.
 pub fn limit_of_files(store_end: u64, run: u64, end: u64, record_length: u64) -> Option<(Which, u64)>
-    requires store_fits { store_end + run ≤ 2 ^ 63 }
-    requires ledger_fits { end + record_length ≤ 2 ^ 63 }
+    requires store_fits { store_end + run < 2 ^ 64 }
+    requires ledger_fits { end + 1 + record_length < 2 ^ 64 }
     ensures some { (h : List Event) (event : EventKind) → AreLengths h event store_end run end record_length → IfSome result (IsFirstOf (FilePasses h event)) }
     ensures none { (h : List Event) (event : EventKind) → AreLengths h event store_end run end record_length → IfNone result (NonePasses (FilePasses h event)) }
 {
