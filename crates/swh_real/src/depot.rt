@@ -1,11 +1,10 @@
 // Folders of archives, with files named by their decimal numbers.
 use crate::{FaultCount, RealDisk};
 use std::alloc::Global;
-use std::fs;
 use std::fs::{File, OpenOptions};
-use std::io;
 use std::io::ErrorKind;
 use std::rt::Files;
+use std::{fs, io};
 use swh_outside::{Depot, OutFault};
 
 /// The folders of the system. An absent one is made; who has opened its ledger is alone with it.

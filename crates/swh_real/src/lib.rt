@@ -26,3 +26,6 @@ pub use origins::RealOrigins;
 pub use output::RealSink;
 pub use source::RealSource;
 pub use yard::RealYard;
+
+#[cfg(test)]
+mod tests;
