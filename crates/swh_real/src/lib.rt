@@ -1,0 +1,29 @@
+//! The outside over files, standard output and the clock: the trusted edge. It stands on swh_outside. The layer above
+//! may use each part's count of faults, which rises where the system refuses, and the bounds on lengths; what a file
+//! really holds no part tells.
+#![tactic(auto)]
+
+mod clock;
+mod count;
+mod depot;
+mod disk;
+mod doors;
+mod folder;
+mod link;
+mod origins;
+mod sink;
+mod source;
+#[cfg(test)]
+mod tests;
+mod yard;
+
+pub use clock::RealClock;
+pub use depot::RealDepot;
+pub use disk::RealDisk;
+pub use doors::RealDoors;
+pub use folder::RealFolder;
+pub use link::RealLink;
+pub use origins::RealOrigins;
+pub use sink::RealSink;
+pub use source::RealSource;
+pub use yard::RealYard;

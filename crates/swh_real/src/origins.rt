@@ -1,0 +1,107 @@
+// Files of the system as inputs.
+ghost use Rattle.std.specs.Prelude.{◌≡◌, ◌≤◌, List, ℕ};
+
+use crate::count::Count;
+use crate::{RealFolder, RealSource};
+use std::alloc::Global;
+use std::fs::File;
+use std::io::ErrorKind;
+use std::rt::Files;
+use swh_outside::{Opened, Origins, PathCounts};
+
+/// Inputs in the file system. No folder opens: such a call fails and is counted.
+#[derive(Drop)]
+pub struct RealOrigins<R: Files<File = File> + Drop> {
+    rt: R,
+    alloc: Global,
+    count: Count,
+    counts: PathCounts,
+}
+
+impl<R: Files<File = File> + Drop> RealOrigins<R> {
+    ghost use Rattle.swh_outside.specs.Counts.{count_at};
+    ghost use Rattle.swh_outside.specs.Faults.{Rose};
+
+    pub fn new(rt: R, alloc: Global) -> Self {
+        RealOrigins {
+            rt,
+            alloc,
+            count: Count::new(),
+            counts: PathCounts::new(alloc),
+        }
+    }
+
+    /// How often it has failed, what it gave included once it is given back.
+    pub fn faults(&self) -> u64 {
+        self.count.get()
+    }
+
+    /// How often it has failed at a path.
+    pub fn path_faults(&self, path: &str) -> u64 {
+        self.counts.at(path)
+    }
+
+    // Counts a fault at a path.
+    fn refuse(&mut self, path: &str)
+        ensures later { self.old.count ≤ self.new.count }
+        ensures rose { Rose self.old.count self.new.count }
+        ensures path_later { (p : List ℕ) → count_at self.old.counts p ≤ count_at self.new.counts p }
+        ensures path_rose { Rose (count_at self.old.counts path.now) (count_at self.new.counts path.now) }
+    {
+        let _ = self.count.refuse();
+        self.counts.raise(path);
+    }
+}
+
+impl<R: Files<File = File> + Drop + Send> Origins for RealOrigins<R> {
+    ghost use Rattle.std.specs.Prelude.{None};
+    ghost use Rattle.swh_outside.specs.Counts.{count_at};
+
+    type S = RealSource;
+
+    type F = RealFolder;
+
+    ghost tells = { ⊥ };
+
+    ghost file_at = { λ _ _. None };
+
+    ghost folder_at = { λ _ _. None };
+
+    ghost faults = { λ origins. origins.count };
+
+    ghost path_faults = { λ origins. count_at origins.counts };
+
+    fn file(&mut self, path: &str) -> Opened<RealSource> {
+        if self.counts.place(path).is_err() {
+            return Opened::Memory;
+        }
+        let Ok(name) = String::from_str(self.alloc, path) else {
+            return Opened::Memory;
+        };
+        match File::open(&self.rt, path) {
+            Ok(file) => Opened::Found(RealSource::new(file, name)),
+            Err(fault) if fault.kind() == ErrorKind::NotFound => Opened::NotFound,
+            Err(_) => {
+                self.refuse(path);
+                Opened::Failed
+            }
+        }
+    }
+
+    fn folder(&mut self, path: &str) -> Opened<RealFolder> {
+        self.refuse(path);
+        Opened::Failed
+    }
+
+    fn back(&mut self, source: RealSource) {
+        if source.faults() > 0 {
+            self.refuse(source.path());
+        }
+    }
+
+    fn back_folder(&mut self, folder: RealFolder) {
+        if folder.faults() > 0 {
+            self.refuse(folder.path());
+        }
+    }
+}
