@@ -1,0 +1,111 @@
+-- A body that breaks somewhere is no directory.
+use Rattle.std.proofs.Common.{◌≡◌, ◌≢◌, ℕ, List, [], ◌∷◌, ◌++◌, length, Result, Ok, Err, refl, sym, ap, ◌∙◌, subst, decimal, append_assoc}
+use Rattle.std.proofs.lemmas.List.{append-nil}
+use Rattle.std.specs.Prelude.{IfOk, IfErr}
+use Rattle.swh_base.specs.Directory.{Entry, AreEntries, entry_text, directory_text, IsDirectory}
+use Rattle.swh_base.proofs.Splits.{not_nil}
+use Rattle.swh_base.proofs.DirectoryLemmas.{entry_then, are-each, are-next, one_entry, read_on, one_listing_lem}
+use Rattle.swh_dirfmt.specs.declared.fault.DirWhy.{DirWhy}
+use Rattle.swh_dirfmt.specs.declared.fault.DirWhy.TheVariants.{Mode, Name, Short, Twice, Order}
+use Rattle.swh_dirfmt.specs.declared.fault.ReadDirFault.{ReadDirFault}
+use Rattle.swh_dirfmt.specs.declared.fault.ReadDirFault.TheVariants.{Memory, Bad}
+use Rattle.swh_dirfmt.specs.Fault.{BeginsMode, BeginsName, BeginsEntry, BeginsFresh, BeginsNext, Breaks, IsFault}
+use Rattle.swh_dirfmt.specs.Reading.{Explains, Gives}
+
+-- each stage has those before it
+fresh-from_next : (before : List Entry) (bytes : List ℕ) → BeginsNext before bytes → BeginsFresh before bytes
+fresh-from_next before bytes h = record { entry = h.entry; rest = h.rest; is_entry = h.next.entry; text = h.text; fresh = h.next.fresh }
+
+entry-from_fresh : (before : List Entry) (bytes : List ℕ) → BeginsFresh before bytes → BeginsEntry bytes
+entry-from_fresh before bytes h = record { entry = h.entry; rest = h.rest; is_entry = h.is_entry; text = h.text }
+
+name-from_entry : (bytes : List ℕ) → BeginsEntry bytes → BeginsName bytes
+name-from_entry bytes h = record { mode = h.entry.mode; name = h.entry.name; rest = h.entry.id ++ h.rest; is_mode = h.is_entry.mode; is_name = h.is_entry.name; text = h.text ∙ entry_then h.entry h.rest }
+
+mode-from_name : (bytes : List ℕ) → BeginsName bytes → BeginsMode bytes
+mode-from_name bytes h = record { mode = h.mode; rest = h.name ++ 0 ∷ h.rest; is_mode = h.is_mode; text = h.text }
+
+mode-not_nil : (bytes : List ℕ) → BeginsMode bytes → bytes ≢ []
+mode-not_nil bytes h e = not_nil (decimal h.mode) h.rest 32 (sym h.text ∙ e)
+
+-- where bytes break there are some, and no entry that may follow
+breaks-not_nil : (why : DirWhy) (before : List Entry) (bytes : List ℕ) → Breaks before bytes why → bytes ≢ []
+breaks-not_nil Mode before bytes h = h.0
+breaks-not_nil Name before bytes h = mode-not_nil bytes h.0
+breaks-not_nil Short before bytes h = mode-not_nil bytes (mode-from_name bytes h.0)
+breaks-not_nil Twice before bytes h = mode-not_nil bytes (mode-from_name bytes (name-from_entry bytes h.0))
+breaks-not_nil Order before bytes h = mode-not_nil bytes (mode-from_name bytes (name-from_entry bytes (entry-from_fresh before bytes h.0)))
+
+breaks-not_next : (why : DirWhy) (before : List Entry) (bytes : List ℕ) → Breaks before bytes why → BeginsNext before bytes → ⊥
+breaks-not_next Mode before bytes h n = h.1 (mode-from_name bytes (name-from_entry bytes (entry-from_fresh before bytes (fresh-from_next before bytes n))))
+breaks-not_next Name before bytes h n = h.1 (name-from_entry bytes (entry-from_fresh before bytes (fresh-from_next before bytes n)))
+breaks-not_next Short before bytes h n = h.1 (entry-from_fresh before bytes (fresh-from_next before bytes n))
+breaks-not_next Twice before bytes h n = h.1 (fresh-from_next before bytes n)
+breaks-not_next Order before bytes h n = h.1 n
+
+-- entries and what follows them do not break
+goes_on : (why : DirWhy) (before more : List Entry) (rest : List ℕ) → AreEntries (before ++ more) → rest ≡ directory_text more → Breaks before rest why → ⊥
+goes_on why before [] rest are e h = breaks-not_nil why before rest h e
+goes_on why before (m ∷ more) rest are e h = breaks-not_next why before rest h (record { entry = m; rest = directory_text more; text = e; next = are-next before m more are })
+
+pub no_fault : (body : List ℕ) (es : List Entry) (at : ℕ) (why : DirWhy) → IsDirectory body es → IsFault body at why → ⊥
+no_fault body es at why d f =
+    let on = read_on es f.before f.rest (are-each es d.good) (are-each f.before f.good) (sym d.text ∙ f.text) in
+    goes_on why f.before on.0 f.rest (subst AreEntries on.1 d.good) on.2 f.breaks
+
+-- a reader that is right at both answers reads each directory
+pub gives : (body : List ℕ) (r : Result (List Entry) ReadDirFault) → IfOk r (λ es. IsDirectory body es) → IfErr r (Explains body) → (es : List Entry) → IsDirectory body es → Gives r es
+gives body (Ok found) ok err es d = one_listing_lem body found es ok d
+gives body (Err Memory) ok err es d = tt
+gives body (Err (Bad bad)) ok err es d = no_fault body es bad.at bad.why d err
+
+-- Two fronts of one body that go as far as they can are one.
+same_front : (pre es fs : List Entry) (r q : List ℕ) → AreEntries (pre ++ es) → AreEntries (pre ++ fs) → directory_text es ++ r ≡ directory_text fs ++ q → (BeginsNext (pre ++ es) r → ⊥) → (BeginsNext (pre ++ fs) q → ⊥) → (es ≡ fs) × (r ≡ q)
+same_front pre [] [] r q a b e n m = (refl, e)
+same_front pre [] (f ∷ fs) r q a b e n m =
+    absurd (n (subst (λ (es : List Entry). BeginsNext es r) (sym (append-nil pre)) (record { entry = f; rest = directory_text fs ++ q; text = e ∙ append_assoc (entry_text f) (directory_text fs) q; next = are-next pre f fs b })))
+same_front pre (x ∷ es) [] r q a b e n m =
+    absurd (m (subst (λ (es : List Entry). BeginsNext es q) (sym (append-nil pre)) (record { entry = x; rest = directory_text es ++ r; text = sym e ∙ append_assoc (entry_text x) (directory_text es) r; next = are-next pre x es a })))
+same_front pre (x ∷ es) (f ∷ fs) r q a b e n m =
+    let one = one_entry x f (directory_text es ++ r) (directory_text fs ++ q) (are-next pre x es a).entry (are-next pre f fs b).entry (sym (append_assoc (entry_text x) (directory_text es) r) ∙ e ∙ append_assoc (entry_text f) (directory_text fs) q) in
+    let first = one.0 in
+    let left : pre ++ x ∷ es ≡ (pre ++ x ∷ []) ++ es = sym (append_assoc pre (x ∷ []) es) in
+    let right : pre ++ f ∷ fs ≡ (pre ++ x ∷ []) ++ fs = ap (λ (y : Entry). pre ++ y ∷ fs) (sym first) ∙ sym (append_assoc pre (x ∷ []) fs) in
+    let others = same_front (pre ++ x ∷ []) es fs r q (subst AreEntries left a) (subst AreEntries right b) one.1 (λ h. n (subst (λ (es : List Entry). BeginsNext es r) (sym left) h)) (λ h. m (subst (λ (es : List Entry). BeginsNext es q) (sym right) h)) in
+    let after = others.0 in
+    (cc, others.1)
+
+-- bytes break in one way
+same_why : (a b : DirWhy) (before : List Entry) (bytes : List ℕ) → Breaks before bytes a → Breaks before bytes b → a ≡ b
+same_why Mode Mode before bytes h k = refl
+same_why Mode Name before bytes h k = absurd (h.1 k.0)
+same_why Mode Short before bytes h k = absurd (h.1 (mode-from_name bytes k.0))
+same_why Mode Twice before bytes h k = absurd (h.1 (mode-from_name bytes (name-from_entry bytes k.0)))
+same_why Mode Order before bytes h k = absurd (h.1 (mode-from_name bytes (name-from_entry bytes (entry-from_fresh before bytes k.0))))
+same_why Name Mode before bytes h k = absurd (k.1 h.0)
+same_why Name Name before bytes h k = refl
+same_why Name Short before bytes h k = absurd (h.1 k.0)
+same_why Name Twice before bytes h k = absurd (h.1 (name-from_entry bytes k.0))
+same_why Name Order before bytes h k = absurd (h.1 (name-from_entry bytes (entry-from_fresh before bytes k.0)))
+same_why Short Mode before bytes h k = absurd (k.1 (mode-from_name bytes h.0))
+same_why Short Name before bytes h k = absurd (k.1 h.0)
+same_why Short Short before bytes h k = refl
+same_why Short Twice before bytes h k = absurd (h.1 k.0)
+same_why Short Order before bytes h k = absurd (h.1 (entry-from_fresh before bytes k.0))
+same_why Twice Mode before bytes h k = absurd (k.1 (mode-from_name bytes (name-from_entry bytes h.0)))
+same_why Twice Name before bytes h k = absurd (k.1 (name-from_entry bytes h.0))
+same_why Twice Short before bytes h k = absurd (k.1 h.0)
+same_why Twice Twice before bytes h k = refl
+same_why Twice Order before bytes h k = absurd (h.1 k.0)
+same_why Order Mode before bytes h k = absurd (k.1 (mode-from_name bytes (name-from_entry bytes (entry-from_fresh before bytes h.0))))
+same_why Order Name before bytes h k = absurd (k.1 (name-from_entry bytes (entry-from_fresh before bytes h.0)))
+same_why Order Short before bytes h k = absurd (k.1 (entry-from_fresh before bytes h.0))
+same_why Order Twice before bytes h k = absurd (k.1 h.0)
+same_why Order Order before bytes h k = refl
+
+-- a body has one first fault at most
+pub one_fault_lem : (body : List ℕ) (i j : ℕ) (a b : DirWhy) → IsFault body i a → IsFault body j b → (i ≡ j) × (a ≡ b)
+one_fault_lem body i j a b f g =
+    let same = same_front [] f.before g.before f.rest g.rest f.good g.good (sym f.text ∙ g.text) (breaks-not_next a f.before f.rest f.breaks) (breaks-not_next b g.before g.rest g.breaks) in
+    let moved = subst (λ (es : List Entry). Breaks es g.rest b) (sym same.0) g.breaks in
+    (f.here ∙ ap (λ (es : List Entry). length (directory_text es)) same.0 ∙ sym g.here, same_why a b f.before f.rest f.breaks (subst (λ (t : List ℕ). Breaks f.before t b) (sym same.1) moved))

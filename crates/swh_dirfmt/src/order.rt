@@ -1,0 +1,80 @@
+//! Where an entry stands among others: its name is new, and it comes after them.
+
+ghost use Rattle.std.specs.Prelude.{◌≡◌, ◌≢◌, ◌↔◌, ◌++◌, true, false, length, All, IsTrue};
+ghost use Rattle.std.specs.List.{AllWithin};
+ghost use Rattle.std.specs.Ordering.{nat_cmp, is_lt};
+ghost use Rattle.std.specs.Cmp.Lexicographic.{slice_cmp};
+ghost use Rattle.swh_base.specs.Directory.{IsAfter, AreEntries, suffix_of};
+ghost use Rattle.swh_dirfmt.specs.Entries.{views, comes_before};
+ghost use Rattle.swh_dirfmt.specs.Reading.{entry_of};
+
+use crate::entry::DirEntry;
+use crate::front::Spelled;
+
+/// What a name is compared with behind it.
+fn suffix(mode: u32) -> &'static [u8]
+    ensures { result.now ≡ suffix_of mode }
+{
+    if mode == 40_000 { b"/" } else { b"" }
+}
+
+/// Whether the first name comes before the second.
+fn is_before(mode: u32, name: &[u8], next_mode: u32, next_name: &[u8]) -> bool
+    ensures { result ≡ is_lt (slice_cmp nat_cmp (name.now ++ suffix_of mode) (next_name.now ++ suffix_of next_mode)) }
+{
+    let key = name.iter().chain(suffix(mode));
+    key.cmp(next_name.iter().chain(suffix(next_mode))).is_lt()
+}
+
+/// How many of the entries, which ascend, come before this name.
+fn count_before(entries: &[DirEntry], mode: u32, name: &[u8]) -> usize
+    requires { AreEntries (views entries.now) }
+    ensures before { AllWithin (λ e. comes_before (name.now ++ suffix_of mode) e ≡ true) entries.now 0 result }
+    ensures others { AllWithin (λ e. comes_before (name.now ++ suffix_of mode) e ≡ false) entries.now result (length entries.now) }
+{
+    let mut low = 0;
+    let mut high = entries.len();
+    'halves: while low < high {
+        let middle = low + (high - low) / 2;
+        let entry = &entries[middle];
+        if is_before(entry.mode, entry.name.as_slice(), mode, name) {
+            low = middle + 1;
+        } else {
+            high = middle;
+        }
+    }
+    low
+}
+
+/// Whether one of the entries, which ascend, has this name and is ordered as this mode is.
+fn has_name(entries: &[DirEntry], mode: u32, name: &[u8]) -> bool
+    requires { AreEntries (views entries.now) }
+    ensures found { IsTrue result → All (λ e. e.name ≢ name.now) entries.now → ⊥ }
+    ensures none { (IsTrue result → ⊥) → All (λ e. suffix_of e.mode ≡ suffix_of mode → e.name ≢ name.now) entries.now }
+{
+    match entries.get(count_before(entries, mode, name)) {
+        Some(entry) => entry.name.as_slice() == name,
+        None => false,
+    }
+}
+
+/// Whether no entry has this name, neither as a file nor as a folder. Two searches find it, since the entries ascend.
+pub fn is_fresh(before: &[DirEntry], name: &[u8]) -> bool
+    requires { AreEntries (views before.now) }
+    ensures { IsTrue result ↔ All (λ other. other.name ≢ name.now) before.now }
+{
+    let file = has_name(before, 100_644, name);
+    let folder = has_name(before, 40_000, name);
+    !file && !folder
+}
+
+/// Whether this entry comes after all of the entries.
+pub fn is_after(before: &[DirEntry], next: &Spelled<'_>) -> bool
+    requires { AreEntries (views before.now) }
+    ensures { IsTrue result ↔ IsAfter (views before.now) (entry_of next.now) }
+{
+    match before.last() {
+        Some(last) => is_before(last.mode, last.name.as_slice(), next.mode, next.name),
+        None => true,
+    }
+}

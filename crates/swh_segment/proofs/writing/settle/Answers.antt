@@ -1,0 +1,17 @@
+use Rattle.std.proofs.Common.{◌∷◌, [], sym, ◌∙◌, ap}
+use Rattle.swh_outside.specs.Disk.{File, Sync}
+use Rattle.swh_outside.specs.Files.{on, files_of}
+use Rattle.swh_outside.proofs.Numbered.{files_stopped, files_stops, store_breaks, store_done, files_runs_then, ledger_runs}
+use Rattle.swh_segment.proofs.writing.settle.Goals as goal
+
+pub returns-in_err-sync-clause-runs : goal.returns-in_err-sync-clause-runs
+returns-in_err-sync-clause-runs g c told =
+    files_stopped _ _ _ _ c.from_residual.ensures.0
+    (files_stops (on 1 (Sync ∷ [])) (on 0 (Sync ∷ [])) _ _ (store_breaks (Sync ∷ []) _ _ _ (c.in_err-sync.ensures.runs told).err))
+
+pub returns-clause-runs : goal.returns-clause-runs
+returns-clause-runs g c told =
+    let ledger = g.D.Disk.file c.args.ledger.now in
+    let store = g.D.Disk.file c.args.store.now in
+    let synced = ap (λ (f : File). files_of ledger f) (c.in_ok-sync.ensures.runs told).ok ∙ sym (store_done (Sync ∷ []) ledger store) in
+    files_runs_then (on 1 (Sync ∷ [])) (on 0 (Sync ∷ [])) _ _ _ _ synced (ledger_runs (Sync ∷ []) _ _ _ _ (c.sync-2.ensures.runs told))

@@ -1,0 +1,32 @@
+// How a ledger begins.
+ghost use Rattle.std.specs.Prelude.{◌≡◌, ◌≤◌, IfOk, IsErrOf};
+ghost use Rattle.swh_outside.specs.Faults.{Rose};
+ghost use Rattle.swh_segment.specs.Making.{IsMade, IsNotMade, needs_clearing};
+ghost use Rattle.swh_segment.specs.declared.fault.MakeFault.TheVariants.{Made, Disk};
+
+use crate::MakeFault;
+use swh_outside::Disk;
+
+/// Says whether the first byte of a ledger that is not made has to be cleared before the rest is written.
+pub fn read_beginning<D: Disk>(ledger: &mut D) -> Result<bool, MakeFault>
+    ensures made { D.tells → IsErrOf result Made → IsMade (D.file ledger.old).seen }
+    ensures not_made { D.tells → IfOk result (λ clears. IsNotMade (D.file ledger.old).seen) }
+    ensures clears { D.tells → IfOk result (λ clears. clears ≡ needs_clearing (D.file ledger.old).seen) }
+    ensures same { D.tells → D.file ledger.new ≡ D.file ledger.old }
+    ensures later { D.faults ledger.old ≤ D.faults ledger.new }
+    ensures cause { IsErrOf result Disk → Rose (D.faults ledger.old) (D.faults ledger.new) }
+{
+    let size = ledger.len()?;
+    let mut first = [0; 1];
+    let count = ledger.read_at(0, &mut first)?;
+    if count == 0 {
+        return Ok(true);
+    }
+    if first[0] != b'S' {
+        return Ok(false);
+    }
+    if size < 9 {
+        return Ok(true);
+    }
+    Err(MakeFault::Made)
+}

@@ -1,0 +1,15 @@
+//! The two files of an archive as records: the making, and what is written in which order.
+//! Stands on `swh_outside`.
+//! Above it may rely on: each call on the disks is one of a stated plan, cut where a disk fails.
+#![tactic(auto)]
+
+mod beginning;
+mod fault;
+mod laws;
+mod making;
+mod writing;
+
+pub use fault::MakeFault;
+pub use laws::{made_is_empty, making_survives_crashes};
+pub use making::make;
+pub use writing::{settle, write_synced};

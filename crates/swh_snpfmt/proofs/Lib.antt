@@ -1,0 +1,5 @@
+pub mod Numbers
+pub mod Targets
+pub mod Fronts
+pub mod Follows
+pub mod Exact

@@ -1,0 +1,66 @@
+//! The branch that bytes begin with, cut off part by part.
+
+ghost use Rattle.std.specs.Prelude.{◌≡◌, ℕ, ◌<◌, ◌^◌, List, ◌∷◌, ◌++◌, length, Contains, IfSome, IfNone};
+ghost use Rattle.swh_base.specs.Snapshot.{IsBranch, branch_text};
+ghost use Rattle.swh_snpfmt.specs.Fault.{BeginsBranch};
+ghost use Rattle.swh_snpfmt.specs.Reading.{branch_of, sized_text};
+
+use crate::number::number_of;
+use crate::target::{SpelledTarget, target_from};
+
+/// A branch as it stands in a body, and the bytes after it.
+#[derive(Drop)]
+pub struct Spelled<'a> {
+    pub name: &'a [u8],
+    pub target: SpelledTarget<'a>,
+    pub rest: &'a [u8],
+}
+
+/// What stands before the first of a byte, and what after it.
+fn split_at_byte(bytes: &[u8], stop: u8) -> Option<(&[u8], &[u8])>
+    ensures some { IfSome result (λ x. (Contains x.0.now stop → ⊥) × (bytes.now ≡ x.0.now ++ stop ∷ x.1.now)) }
+    ensures none { IfNone result (Contains bytes.now stop → ⊥) }
+{
+    let end = bytes.iter().position(|byte| *byte == stop)?;
+    Some((&bytes[..end], &bytes[end + 1..]))
+}
+
+/// The bytes behind a length and a colon, as many as the length says, and what follows them.
+fn sized(bytes: &[u8]) -> Option<(&[u8], &[u8])>
+    ensures some { IfSome result (λ x. (bytes.now ≡ sized_text x.0.now ++ x.1.now) × (length x.0.now < 2 ^ 64)) }
+    ensures none { IfNone result ((content rest : List ℕ) → length content < 2 ^ 64 → bytes.now ≡ sized_text content ++ rest → ⊥) }
+{
+    let Some((digits, rest)) = split_at_byte(bytes, b':') else {
+        return None;
+    };
+    let Some(size) = number_of(digits) else {
+        return None;
+    };
+    if size > rest.len() {
+        return None;
+    }
+    Some(rest.split_at(size))
+}
+
+/// The branch at the front of these bytes.
+pub fn front_branch(bytes: &[u8]) -> Option<Spelled<'_>>
+    ensures some { IfSome result (λ x. IsBranch (branch_of x) × (bytes.now ≡ branch_text (branch_of x) ++ x.rest.now)) }
+    ensures none { IfNone result (BeginsBranch bytes.now → ⊥) }
+{
+    let Some((word, rest)) = split_at_byte(bytes, b' ') else {
+        return None;
+    };
+    let Some((name, rest)) = split_at_byte(rest, b'\0') else {
+        return None;
+    };
+    if name.is_empty() {
+        return None;
+    }
+    let Some((content, rest)) = sized(rest) else {
+        return None;
+    };
+    let Some(target) = target_from(word, content) else {
+        return None;
+    };
+    Some(Spelled { name, target, rest })
+}

@@ -1,0 +1,22 @@
+//! Snapshot manifests (SWHID, snapshots): a body read into its branches, and written again, byte for byte.
+//! Stands on `swh_base`, whose grammar of snapshots it reads and writes.
+//! Above it may rely on: exactly the grammar is read, a refusal names the first branch that breaks, and each list of branches has one spelling.
+#![tactic(auto)]
+
+mod branch;
+mod branches;
+mod fault;
+mod front;
+mod number;
+mod reading;
+mod target;
+mod writing;
+
+pub use branch::{Branch, Target};
+pub use branches::Branches;
+pub use fault::{BadSnp, ReadSnpFault, one_fault};
+pub use reading::read_snp;
+pub use writing::{one_spelling, write_snp};
+
+#[cfg(test)]
+mod tests;

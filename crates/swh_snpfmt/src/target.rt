@@ -1,0 +1,117 @@
+//! Targets as they stand in a body: a word, and the bytes behind the length.
+
+ghost use Rattle.std.specs.Prelude.{◌≡◌, ◌≢◌, [], length, IfSome, IfNone};
+ghost use Rattle.swh_base.specs.declared.kind.Kind.{Kind};
+ghost use Rattle.swh_base.specs.Snapshot.{BranchTarget, ToObject, ToBranch, ToNothing, IsTarget, target_kind_word, target_word, target_bytes};
+ghost use Rattle.swh_snpfmt.specs.Branches.{target_view};
+ghost use Rattle.swh_snpfmt.specs.Reading.{target_of_spelled};
+
+use crate::branch::Target;
+use swh_base::{Kind, Name};
+
+/// What a branch leads to, as it stands in a body.
+#[derive(Clone, Copy)]
+pub enum SpelledTarget<'a> {
+    Object(Name),
+    Alias(&'a [u8]),
+    Dangling,
+}
+
+fn kind_of(word: &[u8]) -> Option<Kind>
+    ensures some { IfSome result (λ kind. word.now ≡ target_kind_word kind) }
+    ensures none { IfNone result ((kind : Kind) → word.now ≢ target_kind_word kind) }
+{
+    if word == b"content".as_slice() {
+        Some(Kind::Content)
+    } else if word == b"directory".as_slice() {
+        Some(Kind::Directory)
+    } else if word == b"revision".as_slice() {
+        Some(Kind::Revision)
+    } else if word == b"release".as_slice() {
+        Some(Kind::Release)
+    } else if word == b"snapshot".as_slice() {
+        Some(Kind::Snapshot)
+    } else {
+        None
+    }
+}
+
+fn alias_from(bytes: &[u8]) -> Option<SpelledTarget<'_>>
+    ensures some { IfSome result (λ x. (target_of_spelled x ≡ ToBranch bytes.now) × (bytes.now ≢ [])) }
+    ensures none { IfNone result (bytes.now ≡ []) }
+{
+    if bytes.is_empty() {
+        None
+    } else {
+        Some(SpelledTarget::Alias(bytes))
+    }
+}
+
+fn nothing_from<'a>(bytes: &[u8]) -> Option<SpelledTarget<'a>>
+    ensures some { IfSome result (λ x. (target_of_spelled x ≡ ToNothing) × (bytes.now ≡ [])) }
+    ensures none { IfNone result (bytes.now ≢ []) }
+{
+    if bytes.is_empty() {
+        Some(SpelledTarget::Dangling)
+    } else {
+        None
+    }
+}
+
+fn object_from<'a>(kind: Kind, bytes: &[u8]) -> Option<SpelledTarget<'a>>
+    ensures some { IfSome result (λ x. (target_of_spelled x ≡ ToObject (record { kind = kind; id = bytes.now })) × (length bytes.now ≡ 20)) }
+    ensures none { IfNone result (length bytes.now ≢ 20) }
+{
+    if bytes.len() != 20 {
+        return None;
+    }
+    let (id, _) = bytes.split_first_chunk::<20>()?;
+    Some(SpelledTarget::Object(Name { kind, id: *id }))
+}
+
+/// The target that this word and these bytes stand for.
+pub fn target_from<'a>(word: &[u8], bytes: &'a [u8]) -> Option<SpelledTarget<'a>>
+    ensures some { IfSome result (λ x. let target = target_of_spelled x in IsTarget target × (word.now ≡ target_word target) × (bytes.now ≡ target_bytes target)) }
+    ensures none { IfNone result ((target : BranchTarget) → IsTarget target → word.now ≡ target_word target → bytes.now ≡ target_bytes target → ⊥) }
+{
+    if word == b"alias".as_slice() {
+        return alias_from(bytes);
+    }
+    if word == b"dangling".as_slice() {
+        return nothing_from(bytes);
+    }
+    let kind = kind_of(word)?;
+    object_from(kind, bytes)
+}
+
+fn kind_word(kind: Kind) -> &'static [u8]
+    ensures { result.now ≡ target_kind_word kind }
+{
+    match kind {
+        Kind::Content => b"content",
+        Kind::Directory => b"directory",
+        Kind::Revision => b"revision",
+        Kind::Release => b"release",
+        Kind::Snapshot => b"snapshot",
+    }
+}
+
+pub fn word_of(target: &Target) -> &'static [u8]
+    ensures { result.now ≡ target_word (target_view target.now) }
+{
+    match target {
+        Target::Object(name) => kind_word(name.kind),
+        Target::Alias(_) => b"alias",
+        Target::Dangling => b"dangling",
+    }
+}
+
+pub fn bytes_of(target: &Target) -> &[u8]
+    ensures { result.now ≡ target_bytes (target_view target.now) }
+{
+    match target {
+        Target::Object(name) => &name.id,
+        Target::Alias(name) => name.as_slice(),
+        Target::Dangling => b"",
+    }
+}
