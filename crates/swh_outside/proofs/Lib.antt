@@ -1,3 +1,5 @@
 pub mod Images
 pub mod Plans
 pub mod Numbered
+pub mod FirstsLaws
+pub mod CountLaws

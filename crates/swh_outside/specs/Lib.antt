@@ -1,8 +1,10 @@
 pub mod Causes
+pub mod Counts
 pub mod Depot
 pub mod Disk
 pub mod Faults
 pub mod Files
+pub mod Firsts
 pub mod Folder
 pub mod Link
 pub mod Listing

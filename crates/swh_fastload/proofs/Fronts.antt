@@ -1,0 +1,185 @@
+-- What a text begins with, from the lines that were cut off its front.
+use Rattle.std.proofs.Common.{◌≡◌, ℕ, zero, suc, ◌+◌, ◌<◌, ◌≤◌, ◌⊎◌, inl, inr, Bool, true, false, List, [], ◌∷◌, ◌++◌, length, length-append, Contains, Option, Some, None, refl, sym, ap, ◌∙◌, subst, arith, codes}
+use Rattle.std.specs.Prelude.{IfNone, IsTrue, ◌↔◌}
+use Rattle.swh_base.proofs.Splits.{first_split}
+use Rattle.swh_base.specs.Limits.{line_limit}
+use Rattle.swh_base.specs.Text.{is_ref_byte, is_person_byte, named, IsRef, IsPerson}
+use Rattle.swh_model.specs.SmallStream.{Blob, Change, Commit, line, value_from, IsNumber, IsMark, IsCount, IsFileName, BeginsBlob, BeginsChange, BeginsCommit}
+use Rattle.swh_fastload.specs.View.{BeginsHead}
+use Rattle.swh_fastload.proofs.Cuts.{in_middle, one_line}
+use Rattle.swh_fastload.proofs.Numbers.{passes_not, digits-not}
+
+pub none_at : {X : Type 0} (o : Option X) (P : Type 0) → o ≡ None → P → IfNone o P
+none_at None P e p = p
+none_at (Some x) P e p = tt
+
+-- what a test that failed says
+pub test_fails : (b : Bool) (P : Type 0) → b ≡ false → IsTrue b ↔ P → P → ⊥
+test_fails b P e h p = let both : false ≡ true = sym e ∙ h.1 p in cc
+
+pub number-no_feed : (digits : List ℕ) (n : ℕ) → IsNumber digits n → Contains digits 10 → ⊥
+number-no_feed digits n h = digits-not digits 10 h.digits refl
+
+pub mark-no_feed : (digits : List ℕ) (n : ℕ) → IsMark digits n → Contains digits 10 → ⊥
+mark-no_feed digits n h = number-no_feed digits n h.number
+
+pub count-no_feed : (digits bytes : List ℕ) → IsCount digits bytes → Contains digits 10 → ⊥
+count-no_feed digits bytes h = number-no_feed digits (length bytes) h.number
+
+-- The text of the line that was cut off is no number.
+pub no_number : (bytes word d r : List ℕ) → (Contains d 10 → ⊥) → bytes ≡ line word d r → ((n : ℕ) → IsNumber d n → ⊥) → (digits rest : List ℕ) (n : ℕ) → IsNumber digits n → bytes ≡ line word digits rest → ⊥
+no_number bytes word d r nd e none digits rest n h l = none n (subst (λ (t : List ℕ). IsNumber t n) (sym (one_line word d digits r rest nd (number-no_feed digits n h) (sym e ∙ l)).0) h)
+
+pub no_mark : (bytes word d r : List ℕ) → (Contains d 10 → ⊥) → bytes ≡ line word d r → ((n : ℕ) → IsMark d n → ⊥) → (digits rest : List ℕ) (n : ℕ) → IsMark digits n → bytes ≡ line word digits rest → ⊥
+no_mark bytes word d r nd e none digits rest n h l = none n (subst (λ (t : List ℕ). IsMark t n) (sym (one_line word d digits r rest nd (mark-no_feed digits n h) (sym e ∙ l)).0) h)
+
+-- a mark is not 0
+pub no_zero : (digits : List ℕ) (m : ℕ) → IsNumber digits m → m ≡ 0 → (n : ℕ) → IsMark digits n → ⊥
+no_zero digits m h z n k = let a = h.value in let b = k.number.value in let p = k.positive in absurd (omega (arith, a, b, p, z))
+
+-- the data behind a size
+pub data_size : (bytes d r : List ℕ) (size : ℕ) → IsNumber d size → bytes ≡ line (codes "data ") d r → (count content rest : List ℕ) → IsCount count content → bytes ≡ line (codes "data ") count (content ++ rest) → (size ≡ length content) × (r ≡ content ++ rest)
+data_size bytes d r size h e count content rest k l =
+    let both = one_line (codes "data ") d count r (content ++ rest) (number-no_feed d size h) (count-no_feed count content k) (sym e ∙ l) in
+    (h.value ∙ ap (value_from 0) both.0 ∙ sym k.number.value, both.1)
+
+pub data_over : (bytes d r : List ℕ) (size : ℕ) → IsNumber d size → bytes ≡ line (codes "data ") d r → 67108864 < size → (count content rest : List ℕ) → IsCount count content → bytes ≡ line (codes "data ") count (content ++ rest) → ⊥
+data_over bytes d r size h e over count content rest k l = let both = data_size bytes d r size h e count content rest k l in let a = both.0 in let b = k.short in absurd (omega (arith, a, b, over))
+
+pub data_short : (bytes d r : List ℕ) (size : ℕ) → IsNumber d size → bytes ≡ line (codes "data ") d r → length r < size → (count content rest : List ℕ) → IsCount count content → bytes ≡ line (codes "data ") count (content ++ rest) → ⊥
+data_short bytes d r size h e short count content rest k l = let both = data_size bytes d r size h e count content rest k l in let a = both.0 in absurd (omega (arith, a, ap length both.1, length-append content rest, short))
+
+-- what is cut off a text after its size
+pub data_from : (bytes d r front back : List ℕ) (size : ℕ) → IsNumber d size → bytes ≡ line (codes "data ") d r → size ≤ 67108864 → length front ≡ size → r ≡ front ++ back → (count : List ℕ) × IsCount count front × (bytes ≡ line (codes "data ") count (front ++ back))
+data_from bytes d r front back size h e under size_is cut = (d, record { number = subst (IsNumber d) (sym size_is) h; short = omega (arith, under, size_is) }, e ∙ ap (line (codes "data ") d) cut)
+
+pub nothing_in : (c : ℕ) → Contains [] c → ⊥
+nothing_in c h = let l = h.1 in absurd (omega (arith, l))
+
+pub not_in_middle : (a b : List ℕ) (s c : ℕ) → (Contains a c → ⊥) → (s ≡ c → ⊥) → (Contains b c → ⊥) → Contains (a ++ s ∷ b) c → ⊥
+not_in_middle [] b s c na ns nb (zero, l, e) = ns e
+not_in_middle [] b s c na ns nb (suc k, l, e) = nb (k, omega arith, e)
+not_in_middle (x ∷ a) b s c na ns nb (zero, l, e) = na (0, omega arith, e)
+not_in_middle (x ∷ a) b s c na ns nb (suc k, l, e) = not_in_middle a b s c (λ h. let m = h.1 in na (suc h.0, omega (arith, m), h.2)) ns nb (k, omega arith, e)
+
+pub behind : (a b : List ℕ) (s c : ℕ) → Contains b c → Contains (a ++ s ∷ b) c
+behind [] b s c h = let l = h.1 in (suc h.0, omega (arith, l), h.2)
+behind (x ∷ a) b s c h = let k = behind a b s c h in let l = k.1 in (suc k.0, omega (arith, l), k.2)
+
+-- a name is part of its line
+pub name_one_line : (text digits name : List ℕ) → (Contains text 10 → ⊥) → text ≡ digits ++ 32 ∷ name → Contains name 10 → ⊥
+name_one_line text digits name none e h = none (subst (λ (t : List ℕ). Contains t 10) (sym e) (behind digits name 32 10 h))
+
+pub change-no_feed : (bytes : List ℕ) (change : Change) (rest : List ℕ) → (h : BeginsChange bytes change rest) → Contains (h.mark ++ 32 ∷ change.name) 10 → ⊥
+change-no_feed bytes change rest h = not_in_middle h.mark change.name 32 10 (mark-no_feed h.mark change.mark h.is_mark) (λ e. absurd (omega arith)) h.is_name.one_line
+
+-- the line of a change
+pub change_line : (bytes text r : List ℕ) → (Contains text 10 → ⊥) → bytes ≡ line (codes "M 100644 :") text r → (change : Change) (rest : List ℕ) → (h : BeginsChange bytes change rest) → (text ≡ h.mark ++ 32 ∷ change.name) × (r ≡ rest)
+change_line bytes text r none e change rest h = one_line (codes "M 100644 :") text (h.mark ++ 32 ∷ change.name) r rest none (change-no_feed bytes change rest h) (sym e ∙ h.spelled)
+
+-- its mark and its name
+pub change_parts : (bytes text r digits name : List ℕ) → (Contains text 10 → ⊥) → bytes ≡ line (codes "M 100644 :") text r → (Contains digits 32 → ⊥) → text ≡ digits ++ 32 ∷ name → (change : Change) (rest : List ℕ) → (h : BeginsChange bytes change rest) → (digits ≡ h.mark) × (name ≡ change.name)
+change_parts bytes text r digits name none e nd cut change rest h = first_split 32 digits h.mark name change.name nd (digits-not h.mark 32 h.is_mark.number.digits refl) (sym cut ∙ (change_line bytes text r none e change rest h).0)
+
+pub no_change : (bytes : List ℕ) → ((text rest : List ℕ) → (Contains text 10 → ⊥) → bytes ≡ line (codes "M 100644 :") text rest → ⊥) → (change : Change) (rest : List ℕ) → BeginsChange bytes change rest → ⊥
+no_change bytes none change rest h = none (h.mark ++ 32 ∷ change.name) rest (change-no_feed bytes change rest h) h.spelled
+
+pub change_spaced : (bytes text r : List ℕ) → (Contains text 10 → ⊥) → bytes ≡ line (codes "M 100644 :") text r → (Contains text 32 → ⊥) → (change : Change) (rest : List ℕ) → BeginsChange bytes change rest → ⊥
+change_spaced bytes text r none e nd change rest h = nd (subst (λ (t : List ℕ). Contains t 32) (sym (change_line bytes text r none e change rest h).0) (in_middle h.mark change.name 32))
+
+pub change_marked : (bytes text r digits name : List ℕ) → (Contains text 10 → ⊥) → bytes ≡ line (codes "M 100644 :") text r → (Contains digits 32 → ⊥) → text ≡ digits ++ 32 ∷ name → ((n : ℕ) → IsMark digits n → ⊥) → (change : Change) (rest : List ℕ) → BeginsChange bytes change rest → ⊥
+change_marked bytes text r digits name none e nd cut never change rest h = never change.mark (subst (λ (t : List ℕ). IsMark t change.mark) (sym (change_parts bytes text r digits name none e nd cut change rest h).0) h.is_mark)
+
+pub change_named : (bytes text r digits name : List ℕ) → (Contains text 10 → ⊥) → bytes ≡ line (codes "M 100644 :") text r → (Contains digits 32 → ⊥) → text ≡ digits ++ 32 ∷ name → (IsFileName name → ⊥) → (change : Change) (rest : List ℕ) → BeginsChange bytes change rest → ⊥
+change_named bytes text r digits name none e nd cut never change rest h = never (subst IsFileName (sym (change_parts bytes text r digits name none e nd cut change rest h).1) h.is_name)
+
+-- the lines of a blob
+pub blob_line : (bytes text r : List ℕ) → (Contains text 10 → ⊥) → bytes ≡ line (codes "blob") text r → (blob : Blob) (rest : List ℕ) → (h : BeginsBlob bytes blob rest) → (text ≡ []) × (r ≡ line (codes "mark :") h.mark (line (codes "data ") h.count (blob.bytes ++ rest)))
+blob_line bytes text r none e blob rest h = one_line (codes "blob") text [] r (line (codes "mark :") h.mark (line (codes "data ") h.count (blob.bytes ++ rest))) none (nothing_in 10) (sym e ∙ h.spelled)
+
+pub no_blob : (bytes : List ℕ) → ((text rest : List ℕ) → (Contains text 10 → ⊥) → bytes ≡ line (codes "blob") text rest → ⊥) → (blob : Blob) (rest : List ℕ) → BeginsBlob bytes blob rest → ⊥
+no_blob bytes none blob rest h = none [] (line (codes "mark :") h.mark (line (codes "data ") h.count (blob.bytes ++ rest))) (nothing_in 10) h.spelled
+
+pub blob_marked : (bytes text r : List ℕ) → (Contains text 10 → ⊥) → bytes ≡ line (codes "blob") text r → ((digits rest : List ℕ) (n : ℕ) → IsMark digits n → r ≡ line (codes "mark :") digits rest → ⊥) → (blob : Blob) (rest : List ℕ) → BeginsBlob bytes blob rest → ⊥
+blob_marked bytes text r none e never blob rest h = never h.mark (line (codes "data ") h.count (blob.bytes ++ rest)) blob.mark h.is_mark (blob_line bytes text r none e blob rest h).1
+
+-- what stands behind a mark
+pub after_mark : (r d q : List ℕ) (m : ℕ) → IsMark d m → r ≡ line (codes "mark :") d q → (digits rest : List ℕ) (n : ℕ) → IsMark digits n → r ≡ line (codes "mark :") digits rest → (m ≡ n) × (q ≡ rest)
+after_mark r d q m h e digits rest n k l =
+    let both = one_line (codes "mark :") d digits q rest (mark-no_feed d m h) (mark-no_feed digits n k) (sym e ∙ l) in
+    (h.number.value ∙ ap (value_from 0) both.0 ∙ sym k.number.value, both.1)
+
+pub blob_filled : (bytes text r d q : List ℕ) (m : ℕ) → (Contains text 10 → ⊥) → bytes ≡ line (codes "blob") text r → IsMark d m → r ≡ line (codes "mark :") d q → ((count content rest : List ℕ) → IsCount count content → q ≡ line (codes "data ") count (content ++ rest) → ⊥) → (blob : Blob) (rest : List ℕ) → BeginsBlob bytes blob rest → ⊥
+blob_filled bytes text r d q m none e mark f never blob rest h =
+    let after = (after_mark r d q m mark f h.mark (line (codes "data ") h.count (blob.bytes ++ rest)) blob.mark h.is_mark (blob_line bytes text r none e blob rest h).1).1 in
+    never h.count blob.bytes rest h.is_count after
+
+pub blob_from : (bytes text r q content rest : List ℕ) (m : ℕ) → bytes ≡ line (codes "blob") text r → text ≡ [] → (digits : List ℕ) × IsMark digits m × (r ≡ line (codes "mark :") digits q) → (count : List ℕ) × IsCount count content × (q ≡ line (codes "data ") count (content ++ rest)) → BeginsBlob bytes (record { mark = m; bytes = content }) rest
+blob_from bytes text r q content rest m e t mark f = record {
+  mark = mark.0;
+  count = f.0;
+  spelled = e ∙ ap (λ (x : List ℕ). line (codes "blob") x r) t ∙ ap (line (codes "blob") []) (mark.2 ∙ ap (line (codes "mark :") mark.0) f.2);
+  is_mark = mark.1;
+  is_count = f.1;
+}
+
+cons_not : (s c : ℕ) (b : List ℕ) → (s ≡ c → ⊥) → (Contains b c → ⊥) → Contains (s ∷ b) c → ⊥
+cons_not s c b ns nb h = not_in_middle [] b s c (nothing_in c) ns nb h
+
+sign-no_feed : (sign : ℕ) → (sign ≡ 43) ⊎ (sign ≡ 45) → sign ≡ 10 → ⊥
+sign-no_feed sign (inl a) e = absurd (omega arith)
+sign-no_feed sign (inr a) e = absurd (omega arith)
+
+pub ref-no_feed : (text : List ℕ) → IsRef text → Contains text 10 → ⊥
+ref-no_feed text h = passes_not is_ref_byte text 10 h.bytes (λ t. cc)
+
+pub person-no_feed : (text : List ℕ) → IsPerson text → Contains text 10 → ⊥
+person-no_feed text h c =
+    let zone = cons_not h.sign 10 h.zone (sign-no_feed h.sign h.is_sign) (digits-not h.zone 10 h.zone_digits refl) in
+    let time = not_in_middle h.seconds (h.sign ∷ h.zone) 32 10 (digits-not h.seconds 10 h.seconds_digits refl) (λ e. absurd (omega arith)) zone in
+    let email = not_in_middle h.email (32 ∷ (h.seconds ++ 32 ∷ h.sign ∷ h.zone)) 62 10 (passes_not is_person_byte h.email 10 h.email_bytes (λ t. cc)) (λ e. absurd (omega arith)) (cons_not 32 10 (h.seconds ++ 32 ∷ h.sign ∷ h.zone) (λ e. absurd (omega arith)) time) in
+    not_in_middle (named h.name) (h.email ++ 62 ∷ 32 ∷ (h.seconds ++ 32 ∷ h.sign ∷ h.zone)) 60 10 (passes_not is_person_byte (named h.name) 10 h.name_bytes (λ t. cc)) (λ e. absurd (omega arith)) email (subst (λ (t : List ℕ). Contains t 10) h.spelled c)
+
+-- the lines of a commit's head
+pub from_data : (bytes : List ℕ) (commit : Commit) (rest : List ℕ) → BeginsCommit bytes commit rest → List ℕ
+from_data bytes commit rest h = line (codes "data ") h.count (commit.message ++ rest)
+
+pub from_committer : (bytes : List ℕ) (commit : Commit) (rest : List ℕ) → BeginsCommit bytes commit rest → List ℕ
+unfolding from_data
+from_committer bytes commit rest h = line (codes "committer ") commit.committer (from_data bytes commit rest h)
+
+pub head_line : (bytes branch r : List ℕ) → (Contains branch 10 → ⊥) → bytes ≡ line (codes "commit ") branch r → (commit : Commit) (rest : List ℕ) → (h : BeginsCommit bytes commit rest) → (branch ≡ commit.branch) × (r ≡ line (codes "mark :") h.mark (from_committer bytes commit rest h))
+unfolding from_data from_committer
+head_line bytes branch r none e commit rest h = one_line (codes "commit ") branch commit.branch r _ none (ref-no_feed commit.branch h.is_ref) (sym e ∙ h.spelled)
+
+pub no_head : (bytes : List ℕ) → ((text rest : List ℕ) → (Contains text 10 → ⊥) → bytes ≡ line (codes "commit ") text rest → ⊥) → BeginsHead bytes → ⊥
+no_head bytes none h = let commit = h.0 in let b = h.2 in none commit.branch _ (ref-no_feed commit.branch b.is_ref) b.spelled
+
+pub head_ref : (bytes branch r : List ℕ) → (Contains branch 10 → ⊥) → bytes ≡ line (codes "commit ") branch r → (IsRef branch → ⊥) → BeginsHead bytes → ⊥
+head_ref bytes branch r none e never h = never (subst IsRef (sym (head_line bytes branch r none e h.0 h.1 h.2).0) h.2.is_ref)
+
+pub head_marked : (bytes branch r : List ℕ) → (Contains branch 10 → ⊥) → bytes ≡ line (codes "commit ") branch r → ((digits rest : List ℕ) (n : ℕ) → IsMark digits n → r ≡ line (codes "mark :") digits rest → ⊥) → BeginsHead bytes → ⊥
+head_marked bytes branch r none e never h = let commit = h.0 in never h.2.mark (from_committer bytes h.0 h.1 h.2) commit.mark h.2.is_mark (head_line bytes branch r none e h.0 h.1 h.2).1
+
+-- what stands behind the mark of a head
+pub behind_mark : (bytes branch r q : List ℕ) (m : ℕ) → (Contains branch 10 → ⊥) → bytes ≡ line (codes "commit ") branch r → (digits : List ℕ) × IsMark digits m × (r ≡ line (codes "mark :") digits q) → (commit : Commit) (rest : List ℕ) → (h : BeginsCommit bytes commit rest) → q ≡ from_committer bytes commit rest h
+behind_mark bytes branch r q m none e mark commit rest h = (after_mark r mark.0 q m mark.1 mark.2 h.mark (from_committer bytes commit rest h) commit.mark h.is_mark (head_line bytes branch r none e commit rest h).1).1
+
+pub head_signed : (bytes branch r q : List ℕ) (m : ℕ) → (Contains branch 10 → ⊥) → bytes ≡ line (codes "commit ") branch r → (digits : List ℕ) × IsMark digits m × (r ≡ line (codes "mark :") digits q) → ((text rest : List ℕ) → (Contains text 10 → ⊥) → q ≡ line (codes "committer ") text rest → ⊥) → BeginsHead bytes → ⊥
+unfolding from_committer
+head_signed bytes branch r q m none e mark never h = let commit = h.0 in never commit.committer (from_data bytes h.0 h.1 h.2) (person-no_feed commit.committer h.2.is_person) (behind_mark bytes branch r q m none e mark h.0 h.1 h.2)
+
+-- the committer, and what stands behind it
+pub behind_committer : (bytes branch r q committer t : List ℕ) (m : ℕ) → (Contains branch 10 → ⊥) → bytes ≡ line (codes "commit ") branch r → (digits : List ℕ) × IsMark digits m × (r ≡ line (codes "mark :") digits q) → (Contains committer 10 → ⊥) → q ≡ line (codes "committer ") committer t → (commit : Commit) (rest : List ℕ) → (h : BeginsCommit bytes commit rest) → (committer ≡ commit.committer) × (t ≡ from_data bytes commit rest h)
+unfolding from_committer
+behind_committer bytes branch r q committer t m none e mark nc f commit rest h = one_line (codes "committer ") committer commit.committer t (from_data bytes commit rest h) nc (person-no_feed commit.committer h.is_person) (sym f ∙ behind_mark bytes branch r q m none e mark commit rest h)
+
+pub head_person : (bytes branch r q committer t : List ℕ) (m : ℕ) → (Contains branch 10 → ⊥) → bytes ≡ line (codes "commit ") branch r → (digits : List ℕ) × IsMark digits m × (r ≡ line (codes "mark :") digits q) → (Contains committer 10 → ⊥) → q ≡ line (codes "committer ") committer t → (IsPerson committer × (length (codes "committer ") + length committer + 1 ≤ line_limit) → ⊥) → BeginsHead bytes → ⊥
+head_person bytes branch r q committer t m none e mark nc f never h =
+    let same = (behind_committer bytes branch r q committer t m none e mark nc f h.0 h.1 h.2).0 in
+    never (subst IsPerson (sym same) h.2.is_person, subst (λ (x : List ℕ). length (codes "committer ") + length x + 1 ≤ line_limit) (sym same) h.2.short)
+
+pub head_filled : (bytes branch r q committer t : List ℕ) (m : ℕ) → (Contains branch 10 → ⊥) → bytes ≡ line (codes "commit ") branch r → (digits : List ℕ) × IsMark digits m × (r ≡ line (codes "mark :") digits q) → (Contains committer 10 → ⊥) → q ≡ line (codes "committer ") committer t → ((count content rest : List ℕ) → IsCount count content → t ≡ line (codes "data ") count (content ++ rest) → ⊥) → BeginsHead bytes → ⊥
+unfolding from_data
+head_filled bytes branch r q committer t m none e mark nc f never h =
+    let commit = h.0 in never h.2.count commit.message h.1 h.2.is_count (behind_committer bytes branch r q committer t m none e mark nc f h.0 h.1 h.2).1

@@ -1,0 +1,4 @@
+pub mod Feed
+pub mod Person
+pub mod Refusal
+pub mod View

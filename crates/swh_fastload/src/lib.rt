@@ -1,0 +1,20 @@
+//! Streams: the values of the small grammar, and the objects that a stream makes.
+//! Stands on `swh_base`, `swh_object` and the definitions of `swh_model`.
+//! Above it may rely on: what is parsed is the grammar's one value, and what is loaded is the stream's meaning.
+#![tactic(auto)]
+
+mod fault;
+mod laws;
+mod lines;
+mod parse;
+mod parts;
+mod stream;
+mod words;
+
+pub use fault::StreamFault;
+pub use laws::one_reading;
+pub use parse::parse_stream;
+pub use stream::{Blob, Change, Commit, SmallStream};
+
+#[cfg(test)]
+mod tests;

@@ -1,0 +1,88 @@
+-- What is answered to a request for an origin's visits, and the line that reports a job.
+use Rattle.std.specs.Prelude.{◌≡◌, ℕ, ◌==◌, Bool, ◌||◌, nat_le, if◌then◌else◌, Option, Some, None, List, [], ◌∷◌, ◌++◌, map, reverse, decimal, codes}
+use Rattle.std.specs.List.{flat_map, join_with_byte, before_first}
+use Rattle.hex.specs.Hex.{encode_lower}
+use Rattle.percent_encoding.specs.Percent.{percent_decode, percent_encode_byte}
+use Rattle.swh_base.specs.declared.visit.VisitKind.{VisitKind}
+use Rattle.swh_base.specs.declared.visit.VisitKind.TheVariants.{Fast, Dir, Batch}
+use Rattle.swh_base.specs.declared.visit.Status.{Status}
+use Rattle.swh_base.specs.declared.visit.Status.TheVariants.{Created, Ongoing, Full, Partial, NotFound, Failed}
+use Rattle.swh_model.specs.declared.event.Visit.{Visit}
+use Rattle.swh_model.specs.Archive.{Archive, visits_of}
+use Rattle.swh_model.specs.Step.{Statuses}
+
+abbrev pub visit_kind_word : VisitKind → List ℕ
+visit_kind_word Fast = codes "fast"
+visit_kind_word Dir = codes "dir"
+visit_kind_word Batch = codes "batch"
+
+abbrev pub status_word : Status → List ℕ
+status_word Created = codes "created"
+status_word Ongoing = codes "ongoing"
+status_word Full = codes "full"
+status_word Partial = codes "partial"
+status_word NotFound = codes "not_found"
+status_word Failed = codes "failed"
+
+-- Bytes up to a space, `%`, `;`, DEL and those from 0x80 are escaped.
+abbrev pub is_escaped : ℕ → Bool
+is_escaped c = nat_le c 32 || c == 37 || c == 59 || nat_le 127 c
+
+abbrev pub escaped_byte : ℕ → List ℕ
+escaped_byte c = if is_escaped c then percent_encode_byte c else c ∷ []
+
+-- a quote and a backslash stand behind a backslash in a JSON string
+abbrev pub json_byte : ℕ → List ℕ
+json_byte c = if c == 34 || c == 92 then 92 ∷ c ∷ [] else c ∷ []
+
+-- bytes as an escaped text in a JSON string
+abbrev pub json_text : List ℕ → List ℕ
+json_text bytes = 34 ∷ (flat_map (λ c. flat_map json_byte (escaped_byte c)) bytes ++ 34 ∷ [])
+
+abbrev pub json_snapshot : Option (List ℕ) → List ℕ
+json_snapshot None = codes "null"
+json_snapshot (Some id) = 34 ∷ (encode_lower id ++ 34 ∷ [])
+
+-- the last status with its snapshot, or created where there is none
+abbrev pub last_mark : Statuses → Status × Option (List ℕ)
+last_mark [] = (Created, None)
+last_mark (s ∷ []) = s
+last_mark (s ∷ t ∷ ss) = last_mark (t ∷ ss)
+
+-- members in the order of their keys' bytes
+abbrev pub visit_json : List ℕ → Visit → List ℕ
+visit_json origin v =
+    codes "{\"date\":" ++ (decimal v.date ++ (codes ",\"origin\":" ++ (json_text origin ++ (codes ",\"snapshot\":" ++ (json_snapshot (last_mark v.statuses).1
+    ++ (codes ",\"status\":\"" ++ (status_word (last_mark v.statuses).0 ++ (codes "\",\"type\":\"" ++ (visit_kind_word v.kind ++ (codes "\",\"visit\":" ++ (decimal v.number ++ codes "}")))))))))))
+
+-- the latest visit first
+abbrev pub visits_json : List ℕ → List Visit → List ℕ
+visits_json origin visits = 91 ∷ (join_with_byte 44 (map (visit_json origin) (reverse visits)) ++ 93 ∷ [])
+
+pub record ReplyText : Type 0 where
+  pub status : ℕ
+  pub body : List ℕ
+
+abbrev pub not_found : ReplyText
+not_found = record { status = 404; body = codes "{\"error\":\"not found\"}" }
+
+abbrev pub reply_with : List ℕ → List Visit → ReplyText
+reply_with origin [] = not_found
+reply_with origin (v ∷ vs) = record { status = 200; body = visits_json origin (v ∷ vs) }
+
+-- the reply on the visits of an origin; one that was never opened is not found
+abbrev pub visits_reply : Archive → List ℕ → ReplyText
+visits_reply a origin = reply_with origin (visits_of a.origins origin)
+
+-- The path, up to a `?`, asks for the visits of this origin, which is percent-encoded in it.
+pub record AsksForVisits (path raw : List ℕ) : Type 0 where
+  pub text : before_first (λ c. c == 63) path ≡ codes "/api/1/origin/" ++ (raw ++ codes "/visits/")
+
+-- The reply to a path: the origin's visits, and for every other path 404.
+pub record IsReply (a : Archive) (path : List ℕ) (reply : ReplyText) : Type 0 where
+  pub visits : (raw : List ℕ) → AsksForVisits path raw → reply ≡ visits_reply a (percent_decode raw)
+  pub other : ((raw : List ℕ) → AsksForVisits path raw → ⊥) → reply ≡ not_found
+
+-- a job's report: URL, visit, status and detail, with a TAB between, and an LF
+abbrev pub line_of : List ℕ → ℕ → List ℕ → List ℕ → List ℕ
+line_of url visit status detail = url ++ 9 ∷ (decimal visit ++ 9 ∷ (status ++ 9 ∷ (detail ++ 10 ∷ [])))

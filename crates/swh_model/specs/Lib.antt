@@ -1,0 +1,16 @@
+pub mod Archive
+pub mod Limits
+pub mod Step
+pub mod Sound
+pub mod Grows
+pub mod Judge
+pub mod Held
+pub mod Opened
+pub mod Certificate
+pub mod Row
+pub mod Coding
+pub mod Stands
+pub mod Answer
+pub mod PathMap
+pub mod SmallStream
+pub mod Meaning

@@ -1,0 +1,57 @@
+use swh_base::{Entry, Many, Name, Status, Url, VisitKind, Which};
+
+/// A visit of an origin. Its number is its place, from 1.
+#[derive(Drop)]
+pub struct Visit {
+    pub number: u64,
+    pub date: u64,
+    pub kind: VisitKind,
+    pub by: u32,
+    pub statuses: Many<(Status, Option<[u8; 20]>)>,
+}
+
+/// One thing that happened, and who did it.
+#[derive(Drop)]
+pub struct Event {
+    pub by: u32,
+    pub what: EventKind,
+}
+
+#[derive(Drop)]
+pub enum EventKind {
+    Batch(Many<Entry>),
+    Open {
+        origin: Url,
+        kind: VisitKind,
+        date: u64,
+    },
+    Mark {
+        origin: Url,
+        visit: u64,
+        status: Status,
+        snapshot: Option<[u8; 20]>,
+    },
+}
+
+/// What somebody wants to happen: what is handed over, where an event has what is new of it.
+pub type Wish = EventKind;
+
+/// What came of it.
+#[derive(Clone, Copy, Debug)]
+pub enum Outcome {
+    Added { event: u64, new: u32 },
+    Opened { event: u64, visit: u64 },
+    Marked { event: u64 },
+}
+
+/// Why it may not happen, in the order in which the causes are looked for.
+#[derive(Clone, Copy, Debug)]
+pub enum No {
+    Limit { which: Which, number: u64 },
+    NoVisit { have: u64 },
+    NotYours { by: u32 },
+    Ended { status: Status },
+    NoSnapshot { name: Name },
+    NotClosed { parent: Name, child: Name },
+    Collision { name: Name },
+}

@@ -1,0 +1,6 @@
+pub mod Answers
+pub mod Archives
+pub mod Init
+pub mod JobFile
+pub mod Run
+pub mod Words

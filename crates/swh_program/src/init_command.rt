@@ -1,0 +1,33 @@
+// The command `init`.
+ghost use Rattle.std.specs.Prelude.{◌≡◌, ◌≤◌};
+ghost use Rattle.swh_outside.specs.Faults.{Rose};
+ghost use Rattle.swh_program.specs.Archives.{archive_at, SameElsewhere};
+ghost use Rattle.swh_program.specs.Init.{InitEnds};
+ghost use Rattle.swh_program.specs.declared.answer.Answer.TheVariants.{OutsideDisk, Words};
+
+use crate::Answer;
+use crate::files::{close_files, open_files};
+use swh_outside::{Depot, OutFault};
+use swh_segment::{MakeFault, make};
+
+/// Makes an archive in a folder.
+pub fn init<P: Depot>(depot: &mut P, dir: &str) -> Answer
+    ensures ends { P.tells → InitEnds (archive_at (P.files depot.old) dir.now) (archive_at (P.files depot.new) dir.now) result }
+    ensures elsewhere { P.tells → SameElsewhere dir.now (P.files depot.old) (P.files depot.new) }
+    ensures in_grammar { result ≡ Words → ⊥ }
+    ensures later { P.faults depot.old ≤ P.faults depot.new }
+    ensures cause { result ≡ OutsideDisk → Rose (P.faults depot.old) (P.faults depot.new) }
+{
+    let mut files = match open_files(depot, dir) {
+        Ok(files) => files,
+        Err(OutFault::Failed) => return Answer::OutsideDisk,
+        Err(OutFault::Memory) => return Answer::Memory,
+    };
+    let made = make(&mut files.store, &mut files.ledger);
+    close_files(depot, dir, files);
+    match made {
+        Ok(()) => Answer::Made,
+        Err(MakeFault::Made) => Answer::AlreadyMade,
+        Err(MakeFault::Disk) => Answer::OutsideDisk,
+    }
+}

@@ -1,0 +1,27 @@
+//! How far texts agree.
+
+ghost use Rattle.std.specs.Prelude.{◌≡◌, ◌≤◌, length, drop};
+ghost use Rattle.swh_swhid.specs.Front.{common};
+
+/// How many bytes at the front of the two are the same.
+pub fn shared(word: &[u8], text: &[u8]) -> usize
+    ensures { result ≡ common word.now text.now }
+{
+    for (i, c) in word.iter().enumerate() {
+        if i >= text.len() {
+            return i;
+        }
+        if text[i] != *c {
+            return i;
+        }
+    }
+    word.len()
+}
+
+/// What stands behind the first bytes.
+pub fn behind(text: &[u8], count: usize) -> &[u8]
+    requires { count ≤ length text.now }
+    ensures { result.now ≡ drop count text.now }
+{
+    &text[count..]
+}

@@ -1,0 +1,9 @@
+//! SWHID texts, core identifiers and qualifiers (ISO/IEC 18670): read into values and printed.
+//! Stands on `swh_base` for names, on `hex` for ids and on `percent_encoding` for escapes.
+//! Above it may rely on: what is read is exactly the grammar, a refusal names the longest front that goes on.
+#![tactic(auto)]
+
+mod front;
+mod identifier;
+
+pub use identifier::{core_text, parse_core};
