@@ -46,9 +46,8 @@ pub trait Origins: Send {
 
     /// Opens a folder.
     fn folder(&mut self, path: &str) -> Opened<Self::F>
-        ensures found { tells → IfFound result (λ folder. folder_at self.old path.now ≡ Some (Self.F.holds folder)) }
+        ensures found { tells → Self.F.tells → IfFound result (λ folder. folder_at self.old path.now ≡ Some (Self.F.holds folder)) }
         ensures absent { tells → IsNotFound result → folder_at self.old path.now ≡ None }
-        ensures folder_tells { tells → Self.F.tells }
         ensures folder_path { IfFound result (λ folder. Self.F.opened_at folder ≡ path.now) }
         ensures no_fault { IfFound result (λ folder. Self.F.faults folder ≡ 0) }
 

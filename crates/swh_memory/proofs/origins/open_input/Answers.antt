@@ -1,0 +1,12 @@
+use Rattle.std.proofs.Common.{rules, ◌≡◌, List, ℕ, Some, None, get_or, sym, ◌∙◌, ap}
+use Rattle.swh_outside.proofs.FirstsLaws.{first_of, first_or-at}
+use Rattle.swh_memory.specs.Outside.{is_for, bytes_of}
+use Rattle.swh_memory.proofs.origins.open_input.Goals as goal
+
+pub returns-clause-given : goal.returns-clause-given
+returns-clause-given c =
+    let z = c.index-inputs-i.result in
+    let p = is_for c.args.path.now in
+    let first = first_of p c.args.inputs.now c.args.i z c.requires.found c.requires.inside in
+    let copied : c.in_ok-bytes.bytes.items ≡ (get_or c.args.inputs.now c.args.i z).bytes.items = search rules in
+    first_or-at p bytes_of None c.args.inputs.now c.args.i z first ∙ ap (λ (l : List ℕ). Some l) (sym copied ∙ sym c.new.ensures.left)

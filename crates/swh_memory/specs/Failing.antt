@@ -1,0 +1,25 @@
+-- The parts in memory of which nothing is told, and how often they failed.
+use Rattle.std.specs.Prelude.{ℕ, List, [], string_bytes}
+use Rattle.swh_outside.specs.Folder.{Tree}
+use Rattle.swh_memory.specs.declared.folder.MemoryFolder.{MemoryFolder}
+use Rattle.swh_memory.specs.declared.yard.MemoryYard.{MemoryYard}
+use Rattle.swh_memory.specs.declared.link.MemoryLink.{MemoryLink}
+use Rattle.swh_memory.specs.declared.doors.MemoryDoors.{MemoryDoors}
+
+abbrev pub untold : Tree
+untold = record { entries = λ _. []; bytes = λ _. [] }
+
+abbrev pub folder_path : MemoryFolder → List ℕ
+folder_path folder = string_bytes folder.path
+
+abbrev pub folder_faults : MemoryFolder → ℕ
+folder_faults folder = folder.failures
+
+abbrev pub yard_faults : MemoryYard → ℕ
+yard_faults yard = yard.failures
+
+abbrev pub link_faults : MemoryLink → ℕ
+link_faults link = link.failures
+
+abbrev pub doors_faults : MemoryDoors → ℕ
+doors_faults doors = doors.failures

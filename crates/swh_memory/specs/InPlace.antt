@@ -1,0 +1,29 @@
+-- What the places of a depot in memory hold.
+use Rattle.std.specs.Prelude.{◌<◌, ◌&&◌, nat_eq, ℕ, Bool, List, length, string_bytes}
+use Rattle.std.specs.List.{position_or_len}
+use Rattle.std.specs.Str.{bytes_eq}
+use Rattle.swh_outside.specs.Disk.{File}
+use Rattle.swh_outside.specs.Files.{absent}
+use Rattle.swh_outside.specs.Firsts.{first_or}
+use Rattle.swh_memory.specs.Memory.{memory_file}
+use Rattle.swh_memory.specs.declared.place.Place.{Place}
+use Rattle.swh_memory.specs.declared.depot.MemoryDepot.{MemoryDepot}
+
+abbrev pub is_at : List ℕ → ℕ → Place → Bool
+is_at dir file place = nat_eq place.file file && bytes_eq (string_bytes place.dir) dir
+
+abbrev pub file_at : Place → File
+file_at place = memory_file place.disk
+
+-- the file at the first place that it has, or an empty one
+abbrev pub files_in : List Place → List ℕ → ℕ → File
+files_in places dir file = first_or (is_at dir file) file_at absent places
+
+abbrev pub memory_files : MemoryDepot → List ℕ → ℕ → File
+memory_files depot = files_in depot.places.items
+
+abbrev pub has_place : MemoryDepot → List ℕ → ℕ → Type 0
+has_place depot dir file = position_or_len (is_at dir file) depot.places.items < length depot.places.items
+
+abbrev pub depot_faults : MemoryDepot → ℕ
+depot_faults depot = depot.failures

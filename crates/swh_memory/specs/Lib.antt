@@ -1,0 +1,7 @@
+pub mod Failing
+pub mod InPlace
+pub mod Inputs
+pub mod Kept
+pub mod Memory
+pub mod Outside
+pub mod Parts

@@ -1,0 +1,26 @@
+-- What the origins in memory hold, and how often they failed.
+use Rattle.std.specs.Prelude.{ℕ, Bool, List, Option, Some, None, string_bytes}
+use Rattle.std.specs.Str.{bytes_eq}
+use Rattle.swh_outside.specs.Firsts.{first_or}
+use Rattle.swh_outside.specs.Counts.{count_at}
+use Rattle.swh_memory.specs.declared.input.Input.{Input}
+use Rattle.swh_memory.specs.declared.origins.MemoryOrigins.{MemoryOrigins}
+
+abbrev pub is_for : List ℕ → Input → Bool
+is_for path input = bytes_eq (string_bytes input.path) path
+
+abbrev pub bytes_of : Input → Option (List ℕ)
+bytes_of input = Some input.bytes.items
+
+-- the bytes of the first input at a path
+abbrev pub input_at : List Input → List ℕ → Option (List ℕ)
+input_at inputs path = first_or (is_for path) bytes_of None inputs
+
+abbrev pub origin_files : MemoryOrigins → List ℕ → Option (List ℕ)
+origin_files origins = input_at origins.inputs.items
+
+abbrev pub origin_faults : MemoryOrigins → ℕ
+origin_faults origins = origins.failures
+
+abbrev pub origin_path_faults : MemoryOrigins → List ℕ → ℕ
+origin_path_faults origins = count_at origins.counts

@@ -1,0 +1,16 @@
+-- What the sinks and clocks in memory hold, and how often they failed.
+use Rattle.std.specs.Prelude.{ℕ, List}
+use Rattle.swh_memory.specs.declared.sink.MemorySink.{MemorySink}
+use Rattle.swh_memory.specs.declared.clock.MemoryClock.{MemoryClock}
+
+abbrev pub sink_bytes : MemorySink → List ℕ
+sink_bytes sink = sink.bytes.items
+
+abbrev pub sink_faults : MemorySink → ℕ
+sink_faults sink = sink.failures
+
+abbrev pub clock_time : MemoryClock → ℕ
+clock_time clock = clock.time
+
+abbrev pub clock_faults : MemoryClock → ℕ
+clock_faults clock = clock.failures

@@ -1,0 +1,51 @@
+// A clock in memory that stands.
+ghost use Rattle.std.specs.Prelude.{◌≡◌, ℕ};
+
+use crate::Failures;
+use swh_outside::{Clock, Failed};
+
+/// A clock that always says one time, or fails.
+#[derive(Drop)]
+pub struct MemoryClock {
+    time: u64,
+    failures: Failures,
+}
+
+impl MemoryClock {
+    ghost use Rattle.swh_memory.specs.Parts.{clock_time, clock_faults};
+
+    /// A clock that says this many seconds since 1970. Its calls with the listed numbers, from 0, will fail.
+    pub fn new(time: u64, failing: Vec<u64>) -> Self
+        ensures says { clock_time result ≡ time }
+        ensures no_fault { clock_faults result ≡ 0 }
+    {
+        MemoryClock {
+            time,
+            failures: Failures::at(failing),
+        }
+    }
+
+    /// How often it has failed.
+    pub fn faults(&self) -> u64
+        ensures { result ≡ clock_faults self.now }
+    {
+        self.failures.count()
+    }
+}
+
+impl Clock for MemoryClock {
+    ghost use Rattle.swh_memory.specs.Parts.{clock_time, clock_faults};
+
+    ghost tells = { Unit {0} };
+
+    ghost time = { clock_time };
+
+    ghost faults = { clock_faults };
+
+    fn now(&mut self) -> Result<u64, Failed> {
+        if self.failures.next_fails() {
+            return Err(self.failures.refuse());
+        }
+        Ok(self.time)
+    }
+}

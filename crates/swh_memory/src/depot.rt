@@ -1,0 +1,119 @@
+// Folders of files in memory.
+use crate::place::Place;
+use crate::places::{add_place, find_place, read_place, swap_disk};
+use crate::{Failures, MemoryDisk, Room};
+use std::alloc::{AllocError, Global};
+use swh_outside::{Depot, OutFault};
+
+/// Archives' folders in memory, each with its files by number. A file that is absent opens as an empty disk, with the
+/// room that the depot was made with.
+#[derive(Drop)]
+pub struct MemoryDepot {
+    alloc: Global,
+    room: Room,
+    places: Vec<Place>,
+    failures: Failures,
+}
+
+impl MemoryDepot {
+    ghost use Rattle.std.specs.Prelude.{◌≡◌, ◌<◌, ◌≤◌, [], List, ℕ, length, IfOk, OnOk, OnErr};
+    ghost use Rattle.std.specs.List.{position_or_len};
+    ghost use Rattle.swh_outside.specs.Depot.{SameButAt};
+    ghost use Rattle.swh_outside.specs.Files.{absent};
+    ghost use Rattle.swh_memory.specs.Memory.{memory_file};
+    ghost use Rattle.swh_memory.specs.InPlace.{is_at, has_place, memory_files, depot_faults};
+
+    /// A depot with no files, which makes disks of this room. Its openings with the listed numbers, from 0, will fail.
+    pub fn new(alloc: Global, room: Room, failing: Vec<u64>) -> Self
+        ensures empty { (dir : List ℕ) (file : ℕ) → memory_files result dir file ≡ absent }
+        ensures no_fault { depot_faults result ≡ 0 }
+    {
+        MemoryDepot {
+            alloc,
+            room,
+            places: Vec::new(alloc),
+            failures: Failures::at(failing),
+        }
+    }
+
+    /// Lays a disk down as a file, over the one that is there.
+    pub fn lay(&mut self, dir: &str, file: u32, disk: MemoryDisk) -> Result<(), AllocError>
+        ensures laid { OnOk result (memory_files self.new dir.now file ≡ memory_file disk) }
+        ensures refused { OnErr result (memory_files self.new dir.now file ≡ memory_files self.old dir.now file) }
+        ensures others { SameButAt dir.now file (memory_files self.old) (memory_files self.new) }
+        ensures faults { depot_faults self.new ≡ depot_faults self.old }
+    {
+        let i = self.place(dir, file)?;
+        let _ = swap_disk(&mut self.places, i, disk, dir, file);
+        Ok(())
+    }
+
+    /// What a read gives of a file that is not open. One that is absent has no bytes.
+    pub fn bytes(&self, dir: &str, file: u32) -> &[u8]
+        ensures { result.now ≡ (memory_files self.now dir.now file).seen }
+    {
+        let i = find_place(&self.places, dir, file);
+        if i < self.places.len() {
+            read_place(&self.places, i, dir, file)
+        } else {
+            &[]
+        }
+    }
+
+    /// How often it has failed, its disks included once they are given back.
+    pub fn faults(&self) -> u64
+        ensures { result ≡ depot_faults self.now }
+    {
+        self.failures.count()
+    }
+
+    // The place of a file, made where it is not there.
+    fn place(&mut self, dir: &str, file: u32) -> Result<usize, AllocError>
+        ensures found { IfOk result (λ i. i ≡ position_or_len (is_at dir.now file) self.new.places.items) }
+        ensures inside { IfOk result (λ i. i < length self.new.places.items) }
+        ensures same { (d : List ℕ) (n : ℕ) → memory_files self.new d n ≡ memory_files self.old d n }
+        ensures places { (d : List ℕ) (n : ℕ) → has_place self.old d n → has_place self.new d n }
+        ensures faults { depot_faults self.new ≡ depot_faults self.old }
+    {
+        let i = find_place(&self.places, dir, file);
+        if i == self.places.len() {
+            let disk = MemoryDisk::with_room(self.alloc, self.room)?;
+            add_place(self.alloc, &mut self.places, dir, file, disk)?;
+        }
+        Ok(i)
+    }
+}
+
+impl Depot for MemoryDepot {
+    ghost use Rattle.swh_memory.specs.InPlace.{memory_files, has_place, depot_faults};
+
+    type D = MemoryDisk;
+
+    ghost tells = { Unit {0} };
+
+    ghost files = { memory_files };
+
+    ghost has_place = { has_place };
+
+    ghost faults = { depot_faults };
+
+    fn open(&mut self, dir: &str, file: u32) -> Result<MemoryDisk, OutFault> {
+        if self.failures.next_fails() {
+            let _ = self.failures.refuse();
+            return Err(OutFault::Failed);
+        }
+        let Ok(i) = self.place(dir, file) else {
+            return Err(OutFault::Memory);
+        };
+        let empty = MemoryDisk::empty(self.alloc);
+        Ok(swap_disk(&mut self.places, i, empty, dir, file).with_no_fault())
+    }
+
+    fn close(&mut self, dir: &str, file: u32, disk: MemoryDisk) {
+        if disk.faults() > 0 {
+            let _ = self.failures.refuse();
+        }
+        let i = find_place(&self.places, dir, file);
+        let _ = swap_disk(&mut self.places, i, disk, dir, file);
+    }
+}

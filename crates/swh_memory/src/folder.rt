@@ -1,0 +1,70 @@
+// A folder in memory whose calls fail.
+ghost use Rattle.std.specs.Prelude.{◌≡◌, [], string_bytes};
+
+use crate::{Failures, MemorySource};
+use std::alloc::Global;
+use swh_outside::{Folder, Item, OutFault};
+
+/// A folder of which nothing is told: each call that can fail does so and is counted.
+#[derive(Drop)]
+pub struct MemoryFolder {
+    path: String,
+    failures: Failures,
+}
+
+impl MemoryFolder {
+    ghost use Rattle.swh_memory.specs.Failing.{folder_path, folder_faults};
+
+    /// A folder opened at a path.
+    pub fn new(alloc: Global, path: String) -> Self
+        ensures path { folder_path result ≡ string_bytes path }
+        ensures no_fault { folder_faults result ≡ 0 }
+    {
+        MemoryFolder {
+            path,
+            failures: Failures::at(Vec::new(alloc)),
+        }
+    }
+
+    /// How often it has failed.
+    pub fn faults(&self) -> u64
+        ensures { result ≡ folder_faults self.now }
+    {
+        self.failures.count()
+    }
+
+    /// Where it was opened.
+    pub fn path(&self) -> &str
+        ensures { result.now ≡ folder_path self.now }
+    {
+        self.path.as_str()
+    }
+}
+
+impl Folder for MemoryFolder {
+    ghost use Rattle.swh_memory.specs.Failing.{folder_path, folder_faults, untold};
+
+    type S = MemorySource;
+
+    ghost tells = { ⊥ };
+
+    ghost holds = { λ _. untold };
+
+    ghost opened_at = { folder_path };
+
+    ghost faults = { folder_faults };
+
+    fn list(&mut self, _alloc: Global, _dir: &str) -> Result<Vec<Item>, OutFault> {
+        Err(OutFault::from(self.failures.refuse()))
+    }
+
+    fn read(&mut self, _path: &str) -> Result<MemorySource, OutFault> {
+        Err(OutFault::from(self.failures.refuse()))
+    }
+
+    fn back(&mut self, source: MemorySource) {
+        if source.faults() > 0 {
+            let _ = self.failures.refuse();
+        }
+    }
+}

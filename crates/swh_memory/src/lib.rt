@@ -1,0 +1,35 @@
+//! The outside over memory, told in full: disks, depots, sources, sinks, origins and a clock, of which each can be made
+//! to fail at chosen calls. It stands on swh_outside. Tests of the layers above make these parts, hand them in, and
+//! read back what they hold and how often they failed.
+#![tactic(auto)]
+
+mod clock;
+mod depot;
+mod disk;
+mod doors;
+mod failures;
+mod folder;
+mod input;
+mod link;
+mod origins;
+mod place;
+mod places;
+mod sink;
+mod source;
+mod yard;
+
+pub use clock::MemoryClock;
+pub use depot::MemoryDepot;
+pub use disk::{MemoryCall, MemoryDisk, Room};
+pub use doors::MemoryDoors;
+pub use failures::Failures;
+pub use folder::MemoryFolder;
+pub use input::Input;
+pub use link::MemoryLink;
+pub use origins::MemoryOrigins;
+pub use sink::MemorySink;
+pub use source::MemorySource;
+pub use yard::MemoryYard;
+
+#[cfg(test)]
+mod tests;

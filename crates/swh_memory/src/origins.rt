@@ -1,0 +1,150 @@
+// Origins in memory.
+ghost use Rattle.std.specs.Prelude.{◌≡◌, ◌<◌, ◌≤◌, List, ℕ, None, Some, length, IfOk, string_bytes};
+ghost use Rattle.std.specs.List.{position_or_len};
+ghost use Rattle.swh_memory.specs.Outside.{is_for, input_at};
+ghost use Rattle.swh_memory.specs.Inputs.{source_left, source_path, source_faults};
+
+use crate::{Failures, Input, MemoryFolder, MemorySource};
+use std::alloc::{AllocError, Global};
+use swh_outside::{Opened, Origins, PathCounts};
+
+/// Files outside, by their paths. No folder opens: such a call fails and is counted.
+#[derive(Drop)]
+pub struct MemoryOrigins {
+    alloc: Global,
+    inputs: Vec<Input>,
+    failures: Failures,
+    counts: PathCounts,
+}
+
+impl MemoryOrigins {
+    ghost use Rattle.swh_outside.specs.Faults.{Rose};
+    ghost use Rattle.swh_memory.specs.Outside.{origin_files, origin_faults, origin_path_faults};
+
+    /// Origins with these inputs. Of two at one path the first counts. Openings with the listed numbers, from 0, will
+    /// fail.
+    pub fn new(alloc: Global, inputs: Vec<Input>, failing: Vec<u64>) -> Self
+        ensures files { (path : List ℕ) → origin_files result path ≡ input_at inputs.items path }
+        ensures no_fault { origin_faults result ≡ 0 }
+        ensures no_path_fault { (path : List ℕ) → origin_path_faults result path ≡ 0 }
+    {
+        MemoryOrigins {
+            alloc,
+            inputs,
+            failures: Failures::at(failing),
+            counts: PathCounts::new(alloc),
+        }
+    }
+
+    /// How often it has failed, what it gave included once it is given back.
+    pub fn faults(&self) -> u64
+        ensures { result ≡ origin_faults self.now }
+    {
+        self.failures.count()
+    }
+
+    /// How often it has failed at a path.
+    pub fn path_faults(&self, path: &str) -> u64
+        ensures { result ≡ origin_path_faults self.now path.now }
+    {
+        self.counts.at(path)
+    }
+
+    // Counts a failure at a path.
+    fn refuse(&mut self, path: &str)
+        ensures files { (p : List ℕ) → origin_files self.new p ≡ origin_files self.old p }
+        ensures later { origin_faults self.old ≤ origin_faults self.new }
+        ensures rose { Rose (origin_faults self.old) (origin_faults self.new) }
+        ensures path_later { (p : List ℕ) → origin_path_faults self.old p ≤ origin_path_faults self.new p }
+        ensures path_rose { Rose (origin_path_faults self.old path.now) (origin_path_faults self.new path.now) }
+    {
+        let _ = self.failures.refuse();
+        self.counts.raise(path);
+    }
+}
+
+impl Origins for MemoryOrigins {
+    ghost use Rattle.swh_memory.specs.Outside.{origin_files, origin_faults, origin_path_faults};
+
+    type S = MemorySource;
+
+    type F = MemoryFolder;
+
+    ghost tells = { Unit {0} };
+
+    ghost file_at = { origin_files };
+
+    ghost folder_at = { λ _ _. None };
+
+    ghost faults = { origin_faults };
+
+    ghost path_faults = { origin_path_faults };
+
+    fn file(&mut self, path: &str) -> Opened<MemorySource> {
+        if self.counts.place(path).is_err() {
+            return Opened::Memory;
+        }
+        if self.failures.next_fails() {
+            self.refuse(path);
+            return Opened::Failed;
+        }
+        let i = find_input(&self.inputs, path);
+        if i == self.inputs.len() {
+            return Opened::NotFound;
+        }
+        match open_input(self.alloc, &self.inputs, i, path) {
+            Ok(source) => Opened::Found(source),
+            Err(_) => Opened::Memory,
+        }
+    }
+
+    fn folder(&mut self, path: &str) -> Opened<MemoryFolder> {
+        self.refuse(path);
+        Opened::Failed
+    }
+
+    fn back(&mut self, source: MemorySource) {
+        if source.faults() > 0 {
+            self.refuse(source.path());
+        }
+    }
+
+    fn back_folder(&mut self, folder: MemoryFolder) {
+        if folder.faults() > 0 {
+            self.refuse(folder.path());
+        }
+    }
+}
+
+// The place of the first input at a path, or the number of inputs.
+fn find_input(inputs: &[Input], path: &str) -> usize
+    ensures first { result ≡ position_or_len (is_for path.now) inputs.now }
+    ensures within { result ≤ length inputs.now }
+{
+    for (i, input) in inputs.iter().enumerate() {
+        if input.is_for(path) {
+            return i;
+        }
+    }
+    inputs.len()
+}
+
+// A source of the first input at a path.
+fn open_input(
+    alloc: Global,
+    inputs: &[Input],
+    i: usize,
+    path: &str,
+) -> Result<MemorySource, AllocError>
+    requires found { i ≡ position_or_len (is_for path.now) inputs.now }
+    requires inside { i < length inputs.now }
+    ensures given { IfOk result (λ source. input_at inputs.now path.now ≡ Some (source_left source)) }
+    ensures path { IfOk result (λ source. source_path source ≡ path.now) }
+    ensures no_fault { IfOk result (λ source. source_faults source ≡ 0) }
+{
+    let input = &inputs[i];
+    let name = String::from_str(alloc, path)?;
+    let bytes = input.bytes.to_vec(alloc)?;
+    let failing = input.failing.to_vec(alloc)?;
+    Ok(MemorySource::new(name, bytes, input.piece, failing))
+}

@@ -1,0 +1,67 @@
+// A sink in memory.
+ghost use Rattle.std.specs.Prelude.{◌≡◌, [], IfOk};
+
+use crate::Failures;
+use std::alloc::{AllocError, Global};
+use swh_outside::{Failed, Sink};
+
+/// A sink with room for a number of bytes. A call that would pass it fails and is counted.
+#[derive(Drop)]
+pub struct MemorySink {
+    room: usize,
+    bytes: Vec<u8>,
+    failures: Failures,
+}
+
+impl MemorySink {
+    ghost use Rattle.swh_memory.specs.Parts.{sink_bytes, sink_faults};
+
+    /// An empty sink with room for this many bytes. Its calls with the listed numbers, from 0, will fail, with the
+    /// first half of their bytes taken.
+    pub fn new(alloc: Global, room: usize, failing: Vec<u64>) -> Result<Self, AllocError>
+        ensures empty { IfOk result (λ sink. sink_bytes sink ≡ []) }
+        ensures no_fault { IfOk result (λ sink. sink_faults sink ≡ 0) }
+    {
+        Ok(MemorySink {
+            room,
+            bytes: Vec::with_capacity(alloc, room)?,
+            failures: Failures::at(failing),
+        })
+    }
+
+    /// The bytes that were put.
+    pub fn bytes(&self) -> &[u8]
+        ensures { result.now ≡ sink_bytes self.now }
+    {
+        &self.bytes
+    }
+
+    /// How often it has failed.
+    pub fn faults(&self) -> u64
+        ensures { result ≡ sink_faults self.now }
+    {
+        self.failures.count()
+    }
+}
+
+impl Sink for MemorySink {
+    ghost use Rattle.swh_memory.specs.Parts.{sink_bytes, sink_faults};
+
+    ghost tells = { Unit {0} };
+
+    ghost taken = { sink_bytes };
+
+    ghost faults = { sink_faults };
+
+    fn put(&mut self, bytes: &[u8]) -> Result<(), Failed> {
+        let fails = self.failures.next_fails();
+        let taken = if fails { bytes.len() / 2 } else { bytes.len() };
+        if self.bytes.len() > self.room || taken > self.room - self.bytes.len() {
+            return Err(self.failures.refuse());
+        }
+        if self.bytes.extend_from_slice(&bytes[..taken]).is_err() || fails {
+            return Err(self.failures.refuse());
+        }
+        Ok(())
+    }
+}

@@ -1,0 +1,87 @@
+// A source in memory.
+ghost use Rattle.std.specs.Prelude.{◌≡◌, ◌≤◌, [], false, length, string_bytes};
+
+use crate::Failures;
+use swh_outside::{Failed, Source};
+
+/// A source of given bytes, in pieces of a given size. A call that is to fail takes none.
+#[derive(Drop)]
+pub struct MemorySource {
+    path: String,
+    bytes: Vec<u8>,
+    piece: usize,
+    at: usize,
+    ended: bool,
+    failures: Failures,
+    ghost in_range: { at ≤ length bytes.items },
+}
+
+impl MemorySource {
+    ghost use Rattle.swh_memory.specs.Inputs.{source_left, source_given, source_ended, source_path, source_faults};
+
+    /// A source of these bytes, opened at a path. A call gives a piece of them at most, and one byte where the piece
+    /// is 0. Its calls with the listed numbers, from 0, will fail.
+    pub fn new(path: String, bytes: Vec<u8>, piece: usize, failing: Vec<u64>) -> Self
+        ensures left { source_left result ≡ bytes.items }
+        ensures given { source_given result ≡ [] }
+        ensures not_ended { source_ended result ≡ false }
+        ensures path { source_path result ≡ string_bytes path }
+        ensures no_fault { source_faults result ≡ 0 }
+    {
+        MemorySource {
+            path,
+            bytes,
+            piece,
+            at: 0,
+            ended: false,
+            failures: Failures::at(failing),
+        }
+    }
+
+    /// How often it has failed.
+    pub fn faults(&self) -> u64
+        ensures { result ≡ source_faults self.now }
+    {
+        self.failures.count()
+    }
+
+    /// Where it was opened.
+    pub fn path(&self) -> &str
+        ensures { result.now ≡ source_path self.now }
+    {
+        self.path.as_str()
+    }
+}
+
+impl Source for MemorySource {
+    ghost use Rattle.swh_memory.specs.Inputs.{source_left, source_given, source_ended, source_path, source_faults};
+
+    ghost tells = { Unit {0} };
+
+    ghost left = { source_left };
+
+    ghost given = { source_given };
+
+    ghost ended = { source_ended };
+
+    ghost faults = { source_faults };
+
+    ghost path = { source_path };
+
+    fn get(&mut self, out: &mut [u8]) -> Result<usize, Failed> {
+        if self.failures.next_fails() {
+            return Err(self.failures.refuse());
+        }
+        let count = out
+            .len()
+            .min(self.piece.max(1))
+            .min(self.bytes.len() - self.at);
+        let end = self.at + count;
+        out[..count].copy_from_slice(&self.bytes[self.at..end]);
+        self.at = end;
+        if count == 0 {
+            self.ended = true;
+        }
+        Ok(count)
+    }
+}

@@ -1,0 +1,55 @@
+// A yard in memory whose calls fail.
+ghost use Rattle.std.specs.Prelude.{◌≡◌, []};
+
+use crate::Failures;
+use std::alloc::Global;
+use swh_outside::{Failed, OutFault, Sink, Yard};
+
+/// A yard of which nothing is told: each call fails and is counted.
+#[derive(Drop)]
+pub struct MemoryYard {
+    failures: Failures,
+}
+
+impl MemoryYard {
+    ghost use Rattle.swh_memory.specs.Failing.{yard_faults};
+
+    pub fn new(alloc: Global) -> Self
+        ensures { yard_faults result ≡ 0 }
+    {
+        MemoryYard {
+            failures: Failures::at(Vec::new(alloc)),
+        }
+    }
+
+    /// How often it has failed.
+    pub fn faults(&self) -> u64
+        ensures { result ≡ yard_faults self.now }
+    {
+        self.failures.count()
+    }
+}
+
+impl Sink for MemoryYard {
+    ghost use Rattle.swh_memory.specs.Failing.{yard_faults};
+
+    ghost tells = { ⊥ };
+
+    ghost taken = { λ _. [] };
+
+    ghost faults = { yard_faults };
+
+    fn put(&mut self, _bytes: &[u8]) -> Result<(), Failed> {
+        Err(self.failures.refuse())
+    }
+}
+
+impl Yard for MemoryYard {
+    fn folder(&mut self, _path: &str) -> Result<(), OutFault> {
+        Err(OutFault::from(self.failures.refuse()))
+    }
+
+    fn file(&mut self, _path: &str) -> Result<(), OutFault> {
+        Err(OutFault::from(self.failures.refuse()))
+    }
+}

@@ -1,0 +1,3 @@
+pub mod Folders
+pub mod Sources
+pub mod Untold
