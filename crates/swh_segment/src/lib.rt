@@ -4,12 +4,16 @@
 #![tactic(auto)]
 
 mod beginning;
+mod event;
 mod fault;
 mod laws;
 mod making;
+mod reading;
 mod writing;
 
+pub use event::{Run, append_event};
 pub use fault::MakeFault;
 pub use laws::{made_is_empty, making_survives_crashes};
 pub use making::make;
+pub use reading::{ReadFileFault, fill, read_file};
 pub use writing::{settle, write_synced};

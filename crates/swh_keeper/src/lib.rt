@@ -1,0 +1,14 @@
+//! Keeps an archive: two disks, and the replay of their history in memory.
+//! Stands on `swh_base`, `swh_outside`, `swh_segment` and `swh_model`.
+//! Above it may rely on: a plan is judged as the model says, and the disks stand for the history unless a disk failed.
+#![tactic(auto)]
+
+mod bodies;
+mod closure;
+mod listing;
+mod visits;
+
+pub use bodies::HeldBodies;
+pub use closure::find_gap;
+pub use listing::Listing;
+pub use visits::OriginVisits;
