@@ -2,3 +2,5 @@ pub mod MapLemmas
 pub mod VisitLemmas
 pub mod Results
 pub mod WalkLemmas
+pub mod BatchLemmas
+pub mod VerdictLemmas

@@ -1,2 +1,4 @@
 pub mod Maps
 pub mod Walk
+pub mod Batches
+pub mod Judged

@@ -5,10 +5,14 @@
 
 mod bodies;
 mod closure;
+mod fresh;
+mod judging;
 mod listing;
 mod visits;
 
 pub use bodies::HeldBodies;
 pub use closure::find_gap;
+pub use fresh::{Split, find_collision, split_fresh};
+pub use judging::{limit_of_batch, limit_of_files, snapshot_refusal, visit_refusal};
 pub use listing::Listing;
 pub use visits::OriginVisits;
