@@ -9,6 +9,7 @@ mod lines;
 mod parse;
 mod parts;
 mod stream;
+mod tree;
 mod words;
 
 pub use fault::StreamFault;

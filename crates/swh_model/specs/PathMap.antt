@@ -5,7 +5,7 @@ use Rattle.std.specs.Ordering.{nat_cmp, is_eq}
 use Rattle.std.specs.declared.cmp.Ordering.{Ordering}
 use Rattle.std.specs.declared.cmp.Ordering.TheVariants.{Less, Equal, Greater}
 use Rattle.std.specs.Cmp.Lexicographic.{slice_cmp}
-use Rattle.std.specs.List.{flat_map, starts_with, before_first}
+use Rattle.std.specs.List.{flat_map, starts_with}
 use Rattle.std.specs.BTreeMap.{insert_entry}
 use Rattle.swh_base.specs.Directory.{Entry, sort_key, directory_text}
 
@@ -28,9 +28,9 @@ is_under p q = starts_with nat_eq q (p ++ 47 ∷ [])
 abbrev pub is_at_or_under : List ℕ → List ℕ → Bool
 is_at_or_under p q = same_path p q || is_under p q
 
--- the path itself, what is under it, and its proper fronts
+-- what is under the path, and its proper fronts
 abbrev pub is_in_the_way : List ℕ → List ℕ → Bool
-is_in_the_way p q = is_at_or_under p q || is_under q p
+is_in_the_way p q = is_under p q || is_under q p
 
 abbrev pub leaf_at : List ℕ → PathMap → Option Leaf
 leaf_at p [] = None
@@ -39,6 +39,7 @@ leaf_at p (e ∷ m) = if same_path p e.0 then Some e.1 else leaf_at p m
 abbrev pub cleared : List ℕ → PathMap → PathMap
 cleared p m = filter (λ e. not (is_in_the_way p e.0)) m
 
+-- what stood at the path itself gives way to the leaf
 abbrev pub set : List ℕ → Leaf → PathMap → PathMap
 set p leaf m = insert_entry (slice_cmp nat_cmp) (cleared p m) p leaf
 
@@ -46,8 +47,10 @@ set p leaf m = insert_entry (slice_cmp nat_cmp) (cleared p m) p leaf
 abbrev pub delete : List ℕ → PathMap → PathMap
 delete p m = filter (λ e. not (is_at_or_under p e.0)) m
 
+-- up to the first `/`
 abbrev pub first_component : List ℕ → List ℕ
-first_component path = before_first (λ c. c == 47) path
+first_component [] = []
+first_component (c ∷ path) = if c == 47 then [] else c ∷ first_component path
 
 -- what is under a folder, with paths from there on
 abbrev pub below : List ℕ → PathMap → PathMap

@@ -1,0 +1,34 @@
+use std::alloc::AllocError;
+use swh_outside::Failed;
+
+/// Why a source is not read whole.
+#[derive(Clone, Copy, Debug, PartialEq, Eq)]
+pub enum SourceFault {
+    /// The source failed, and its count of faults rose.
+    Failed,
+    /// More is left than the limit.
+    Limit,
+    Memory,
+}
+
+impl From<AllocError> for SourceFault {
+    ghost use Rattle.std.specs.Prelude.{◌≡◌};
+    ghost use Rattle.swh_fastlex.specs.declared.fault.SourceFault.TheVariants.{Memory};
+
+    ghost from_gives = { λ _ e. e ≡ Memory };
+
+    fn from(_e: AllocError) -> SourceFault {
+        SourceFault::Memory
+    }
+}
+
+impl From<Failed> for SourceFault {
+    ghost use Rattle.std.specs.Prelude.{◌≡◌};
+    ghost use Rattle.swh_fastlex.specs.declared.fault.SourceFault.TheVariants.{Failed};
+
+    ghost from_gives = { λ _ e. e ≡ Failed };
+
+    fn from(_e: Failed) -> SourceFault {
+        SourceFault::Failed
+    }
+}

@@ -1,0 +1,10 @@
+//! Inputs read from a source.
+//! Stands on `swh_outside`.
+//! Above it may rely on: what is read whole is all that was left, and a fault says which limit or count.
+#![tactic(auto)]
+
+mod fault;
+mod source;
+
+pub use fault::SourceFault;
+pub use source::read_source;
