@@ -3,6 +3,9 @@ use Rattle.std.proofs.Common.{◌≡◌, ℕ, zero, suc, ◌-◌, ◌<◌, ◌�
 use Rattle.std.specs.List.{AllByRecursion, slice_get}
 use Rattle.swh_outside.specs.Disk.{File}
 use Rattle.swh_outside.specs.Files.{EachImages, files_of}
+use Rattle.std.specs.FinMap as finite
+use Rattle.swh_segment.specs.Record.{IsSettled}
+use Rattle.swh_segment.specs.Making.{IsEmptyArchive}
 use Rattle.swh_base.specs.declared.kind.Kind.{Kind}
 use Rattle.swh_base.specs.declared.entry.Entry.{Entry}
 use Rattle.swh_model.specs.declared.event.Visit.{Visit}
@@ -96,3 +99,25 @@ refuses_for old new by wish (Refused (Ended status)) none same is = record { unw
 refuses_for old new by wish (Refused (NoSnapshot name)) none same is = record { unwounded = none; verdict = is; same = same }
 refuses_for old new by wish (Refused (NotClosed parent child)) none same is = record { unwounded = none; verdict = is; same = same }
 refuses_for old new by wish (Refused (Collision name)) none same is = record { unwounded = none; verdict = is; same = same }
+
+-- the keeper of an archive with no event
+pub keeping-empty : (id_of : Kind → List ℕ → List ℕ) (tells : Type 0) (ledger store : File) (r : Replayed) (h : List Event) → h ≡ [] → r.bodies ≡ finite.empty → r.visits ≡ finite.empty → r.store_end ≡ 0 → r.ledger_end ≡ 8
+    → (tells → IsEmptyArchive (files_of ledger store)) → IsKeeping id_of tells ledger store r h None
+keeping-empty id_of tells ledger store r h none bodies visits se le empty =
+    subst (λ (l : List Event). IsKeeping id_of tells ledger store r l None) (sym none)
+    (record {
+      history = tt;
+      in_files = record { store_fits = omega (arith, se); ledger_fits = omega (arith, le) };
+      replayed_is = λ _. record { bodies = bodies; visits = visits; store = se; ledger = omega (arith, le) };
+      settled = λ _ told. let e = empty told in record {
+        settled = record {
+          ledger = subst (λ (n : ℕ). IsSettled ledger [] n) (sym le) e.ledger;
+          store = e.store;
+          rest = store.seen;
+          begins = refl;
+          store_end_is = sym se;
+        };
+        codable = tt;
+      };
+      doubt = λ n is_some. absurd (let f : None ≡ Some n = is_some in cc);
+    })

@@ -8,6 +8,7 @@ mod advance;
 mod bodies;
 mod closure;
 mod fault;
+mod fields;
 mod fresh;
 mod judging;
 mod keeper;
