@@ -1,23 +1,23 @@
 -- The two files as records and runs, and as what stands for a history.
-use Rattle.std.proofs.Common.{◌≡◌, ◌⊎◌, inl, inr, ℕ, ◌+◌, ◌<◌, ◌≤◌, Option, Some, None, List, [], ◌∷◌, ◌++◌, length, refl, sym, ap, ◌∙◌, subst, arith, append_assoc, length-append}
+use Rattle.std.proofs.Common.{◌≡◌, inl, inr, ℕ, ◌+◌, ◌≤◌, Option, List, [], ◌∷◌, ◌++◌, length, refl, sym, ap, ◌∙◌, subst, arith, append_assoc, length-append}
 use Rattle.swh_outside.specs.Disk.{File}
 use Rattle.swh_outside.specs.Files.{Files, files_of, Images, EachImages}
-use Rattle.swh_segment.specs.Record.{Record, body, IsReady, coded, front, Stands, IsSettled}
+use Rattle.swh_segment.specs.Record.{body, IsReady, coded, front}
 use Rattle.swh_segment.specs.Events as segment
 use Rattle.swh_base.specs.declared.kind.Kind.{Kind}
 use Rattle.swh_model.specs.declared.event.Event.{Event}
 use Rattle.swh_model.specs.declared.event.EventKind.{EventKind}
 use Rattle.swh_model.specs.declared.event.EventKind.TheVariants.{Batch, Open, Mark}
-use Rattle.swh_model.specs.Coding.{magic, run_of, event_byte, payload_of, framed, coded_record, coded_records, coded_runs, AreCodable, IsCodable}
+use Rattle.swh_model.specs.Coding.{magic, run_of, event_byte, payload_of, framed, coded_records, coded_runs, AreCodable, IsCodable}
 use Rattle.swh_model.specs.Limits.{store_length, stored_length, records_length, payload_length, ledger_length}
 use Rattle.swh_model.specs.Archive.{Archive, empty_archive}
 use Rattle.swh_model.specs.Step.{May, MayAll, after, after_all, replay}
 use Rattle.swh_keeper.specs.Planned.{IsReplayOf}
 use Rattle.swh_keeper.specs.Advance.{archive_of, Advances}
-use Rattle.swh_model.specs.Stands.{StandsFrom, StandsFor}
+use Rattle.swh_model.specs.Stands.{StandsFor}
 use Rattle.swh_keeper.specs.declared.replayed.Replayed.{Replayed}
 use Rattle.swh_keeper.specs.Keeping.{run_written, written, all_written, AreSettledFor, IsKeeping, IsToAdd, WithOrWithout}
-use Rattle.swh_keeper.specs.Kept.{AreStanding, AreInDoubt, Kept, IsKept}
+use Rattle.swh_keeper.specs.Kept.{AreStanding, IsKept}
 
 body-framed : (k : ℕ) (p : List ℕ) → body (record { kind = k; payload = p }) ≡ framed k p
 unfolding body framed
@@ -144,11 +144,13 @@ settled-push r h e run bytes ledger store m n t all s =
 pub images_left : (r : Replayed) (h : List Event) (e : Event) (run bytes : List ℕ) (files : Files) → IsToAdd r h e run bytes → AreCodable 0 h
     → EachImages files (segment.with_or_without_event (all_written 0 h) (written r.store_end e)) → EachImages files (WithOrWithout h e)
 images_left r h e run bytes files t all each =
-    record { has = λ images are. elim (each.has images are) [
-      | inl without ↦ inl (stands_from_files images h all without)
-      | inr with_it ↦ inr (stands_from_files images (h ++ e ∷ []) (codable-at h e r.store_end t.store all t.codable)
-          (subst (λ (es : List segment.Event). segment.FilesStand images es) (sym (written-at h e r.store_end t.store)) with_it))
-    ] }
+    record {
+      has = λ images are. elim (each.has images are) [
+        | inl without ↦ inl (stands_from_files images h all without)
+        | inr with_it ↦ inr (stands_from_files images (h ++ e ∷ []) (codable-at h e r.store_end t.store all t.codable)
+            (subst (λ (es : List segment.Event). segment.FilesStand images es) (sym (written-at h e r.store_end t.store)) with_it))
+      ];
+    }
 
 pub store_place : (ledger store : File) (h : List Event) (m n : ℕ) → AreSettledFor ledger store h m n → m ≤ length store.seen
 store_place ledger store h m n s = let l = s.settled.store_end_is in omega (arith, l, ap length s.settled.begins, length-append (segment.runs (all_written 0 h)) s.settled.rest)

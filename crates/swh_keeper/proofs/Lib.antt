@@ -8,3 +8,4 @@ pub mod EncodeLemmas
 pub mod PlanLemmas
 pub mod KeptLemmas
 pub mod ApplyLemmas
+pub mod OpenLemmas

@@ -1,11 +1,10 @@
 -- Verdicts from their parts.
-use Rattle.std.proofs.Common.{◌≡◌, ◌≢◌, ◌⊎◌, inl, inr, ℕ, zero, suc, ◌+◌, ◌-◌, ◌<◌, ◌≤◌, Option, Some, None, Ok, Err, List, [], ◌∷◌, length, refl, sym, ap, ◌∙◌, subst, arith}
+use Rattle.std.proofs.Common.{◌≡◌, ◌⊎◌, inl, inr, ℕ, zero, suc, ◌+◌, ◌-◌, ◌<◌, ◌≤◌, Option, Some, None, Err, List, [], ◌∷◌, length, sym, ap, ◌∙◌, subst, arith}
 use Rattle.std.specs.List.{slice_get}
 use Rattle.swh_base.specs.declared.name.Name.{Name}
 use Rattle.swh_base.specs.declared.entry.Entry.{Entry}
 use Rattle.swh_base.specs.declared.visit.VisitKind.{VisitKind}
 use Rattle.swh_base.specs.declared.visit.Status.{Status}
-use Rattle.swh_base.specs.declared.visit.Status.TheVariants.{Full}
 use Rattle.swh_base.specs.declared.visit.Which.{Which}
 use Rattle.swh_base.specs.declared.visit.Which.TheVariants.{Body, Objects, Bytes, Store, Ledger, Stream, Line, Path, Ref, Refs}
 use Rattle.swh_model.specs.declared.event.Visit.{Visit}
@@ -14,9 +13,9 @@ use Rattle.swh_model.specs.declared.event.EventKind.{EventKind}
 use Rattle.swh_model.specs.declared.event.EventKind.TheVariants.{Batch, Open, Mark}
 use Rattle.swh_model.specs.declared.event.No.{No}
 use Rattle.swh_model.specs.declared.event.No.TheVariants.{Limit, NoVisit, NotYours, Ended, NoSnapshot, NotClosed, Collision}
-use Rattle.swh_model.specs.Archive.{Archive, Bodies, Origins, body_of, visits_of, IsHeld, IsKid, Reaches}
-use Rattle.swh_model.specs.Step.{IsFinal, last_status, snapshot_name, visit_at, replay}
-use Rattle.swh_model.specs.Judge.{event_of, BatchPasses, FilePasses, BatchCause, OpenCause, MarkCause, Collides, IsThere, IsCause, which_rank, rank, IsVerdict}
+use Rattle.swh_model.specs.Archive.{body_of, visits_of, IsHeld}
+use Rattle.swh_model.specs.Step.{IsFinal, last_status, snapshot_name, replay}
+use Rattle.swh_model.specs.Judge.{event_of, BatchPasses, FilePasses, BatchCause, OpenCause, MarkCause, Collides, which_rank, rank, IsVerdict}
 use Rattle.swh_model.proofs.Worked.{none_below}
 use Rattle.swh_model.proofs.Walks.{reaches-next}
 use Rattle.swh_keeper.specs.Judged.{IsFirstOf, NonePasses, IsAt, IsVisitRefusal, MayBeMarked, IsSnapshotRefusal, SuitsStatus}
@@ -182,9 +181,10 @@ module _ (h : List Event) (by : ℕ) (origin : List ℕ) (number : ℕ) (status 
   pub mark_snapshot_refused : Files → MayBeMarked Visits by number → (no : No) → IsSnapshotRefusal (replay h).bodies status snapshot no → IsVerdict h by Wanted (Err no)
   mark_snapshot_refused files may (NoSnapshot name) is =
       (is, none_below h by Wanted origin number status snapshot 8 files (λ l. no_visit may.visit may.there) (λ l. not_yours may.visit may.there may.opened) (λ l. not_ended may.visit may.there may.unended) (λ l. absurd (omega (arith, l))) (λ l. absurd (omega (arith, l))))
-  mark_snapshot_refused files may (NotClosed parent child) (full, id, s, held, gap) =
-      ((full, id, s, gap.reached, gap.kid, gap.missing),
-      none_below h by Wanted origin number status snapshot 9 files (λ l. no_visit may.visit may.there) (λ l. not_yours may.visit may.there may.opened) (λ l. not_ended may.visit may.there may.unended) (λ l. snapshot_there id s held) (λ l. absurd (omega (arith, l))))
+  mark_snapshot_refused files may (NotClosed parent child) (full, id, s, held, gap) = (
+    (full, id, s, gap.reached, gap.kid, gap.missing),
+    none_below h by Wanted origin number status snapshot 9 files (λ l. no_visit may.visit may.there) (λ l. not_yours may.visit may.there may.opened) (λ l. not_ended may.visit may.there may.unended) (λ l. snapshot_there id s held) (λ l. absurd (omega (arith, l))),
+  )
   mark_snapshot_refused files may (Limit w n) is = absurd is
   mark_snapshot_refused files may (NoVisit have) is = absurd is
   mark_snapshot_refused files may (NotYours other) is = absurd is
