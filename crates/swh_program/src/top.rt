@@ -7,7 +7,7 @@ ghost use Rattle.swh_program.specs.Words.{IsInitOf};
 ghost use Rattle.swh_program.specs.Run.{Obeys, IsStatus, Answers, IsCut, IsDone};
 ghost use Rattle.swh_program.specs.declared.answer.Answer.TheVariants.{Made, Words, AlreadyMade, OutsideDisk, Memory};
 
-use crate::{Answer, Outside, init, init_folder, tell};
+use crate::{Answer, Command, Outside, init, parse_words, tell};
 use std::alloc::Global;
 use swh_base::Namer;
 use swh_outside::{Clock, Depot, Doors, Gate, Origins, Sink, Yard};
@@ -18,9 +18,9 @@ fn obey<P: Depot>(words: &[String], depot: &mut P) -> Answer
     ensures later { P.faults depot.old ≤ P.faults depot.new }
     ensures cause { result ≡ OutsideDisk → Rose (P.faults depot.old) (P.faults depot.new) }
 {
-    match init_folder(words) {
-        Some(dir) => init(depot, dir),
-        None => Answer::Words,
+    match parse_words(words) {
+        Some(Command::Init { dir }) => init(depot, dir),
+        _ => Answer::Words,
     }
 }
 
