@@ -4,3 +4,5 @@ pub mod Results
 pub mod WalkLemmas
 pub mod BatchLemmas
 pub mod VerdictLemmas
+pub mod EncodeLemmas
+pub mod PlanLemmas

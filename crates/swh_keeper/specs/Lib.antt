@@ -2,3 +2,4 @@ pub mod Maps
 pub mod Walk
 pub mod Batches
 pub mod Judged
+pub mod Planned

@@ -69,6 +69,8 @@ pub fn limit_of_files(store_end: u64, run: u64, end: u64, record_length: u64) ->
     requires ledger_fits { end + 1 + record_length < 2 ^ 64 }
     ensures some { (h : List Event) (event : EventKind) → AreLengths h event store_end run end record_length → IfSome result (IsFirstOf (FilePasses h event)) }
     ensures none { (h : List Event) (event : EventKind) → AreLengths h event store_end run end record_length → IfNone result (NonePasses (FilePasses h event)) }
+    ensures store_fits { IfNone result (store_end + run ≤ 2 ^ 62) }
+    ensures ledger_fits { IfNone result (end + 1 + record_length ≤ 2 ^ 62) }
 {
     let store = store_end + run;
     if store > 1 << 62 {

@@ -44,7 +44,7 @@ fresh-all P bodies (e ∷ es) h =
       | false ↦ (h.0, fresh-all P (insert bodies e.name e.body) es h.1)
     ]
 
-length-fresh : (bodies : Bodies) (es : List Entry) → length (fresh bodies es) ≤ length es
+pub length-fresh : (bodies : Bodies) (es : List Entry) → length (fresh bodies es) ≤ length es
 length-fresh bodies [] = omega arith
 length-fresh bodies (e ∷ es) =
     elim (is_some (body_of bodies e.name)) as (λ t. length (cond t (fresh bodies es) (e ∷ fresh (insert bodies e.name e.body) es)) ≤ length (e ∷ es)) [
@@ -88,7 +88,7 @@ short_unless (e ∷ es) h =
       | false ↦ λ is none. (grind arith, short_unless es none)
     ] refl h
 
-le_unless : (a b : ℕ) → (b < a → ⊥) → a ≤ b
+pub le_unless : (a b : ℕ) → (b < a → ⊥) → a ≤ b
 le_unless a b h =
     elim (nat_lt b a) as (λ t. nat_lt b a ≡ t → a ≤ b) [
       | true ↦ λ is. absurd (h (grind arith))
