@@ -1,5 +1,5 @@
-use Rattle.std.proofs.Common.{rules, ◌≡◌, string_bytes, [], ◌∷◌, ◌∙◌, sym, codes}
-use Rattle.swh_program.proofs.TwoWords.{two_words, three_words}
+use Rattle.std.proofs.Common.{rules, ◌≡◌, string_bytes, ◌∙◌, sym, codes}
+use Rattle.swh_program.proofs.FewWords.{two_words, three_words}
 use Rattle.swh_program.proofs.words.command_of.Goals as goal
 
 pub returns-in-len2-clause-some : goal.returns-in-len2-clause-some

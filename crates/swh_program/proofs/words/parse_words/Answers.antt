@@ -5,7 +5,7 @@ use Rattle.std.proofs.lemmas.List.Elements.{All-from_recursion, recursion_from_A
 use Rattle.swh_program.specs.declared.words.Command.{Command}
 use Rattle.swh_program.specs.Commands.{wanted_by}
 use Rattle.swh_program.specs.Words.{IsCommand, IsPlain, spelled}
-use Rattle.swh_program.proofs.TwoWords.{all_mapped, all_unmapped}
+use Rattle.swh_program.proofs.FewWords.{all_mapped, all_unmapped}
 use Rattle.swh_program.proofs.words.parse_words.Goals as goal
 
 untrue : IsTrue false → ⊥
