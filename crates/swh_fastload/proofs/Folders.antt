@@ -18,7 +18,7 @@ use Rattle.swh_model.specs.SmallStream.{IsFileName}
 use Rattle.swh_base.specs.Directory.{Entry, suffix_of, sort_key, entry_text, directory_text, IsEntryName, IsEntry, IsBefore, AreEntries}
 use Rattle.swh_base.specs.Name.{IsId}
 use Rattle.swh_model.specs.PathMap.{Leaf, PathMap, same_path, leaf_at, first_component, below, entry_at, insert_by, insert, ordered, entries_of, bodies_of, depth_of, directory_of, directory_bodies}
-use Rattle.swh_fastload.specs.Tree.{tree_of, file_text}
+use Rattle.swh_fastload.specs.Tree.{tree_of, file_text, IsFile, Ascends}
 use Rattle.swh_fastload.proofs.Trees.{AreFlat}
 use Rattle.swh_fastload.proofs.Cuts.{in_middle}
 
@@ -28,17 +28,12 @@ Files = List (Bor (List ℕ) × List ℕ)
 order : Bor (List ℕ) → Bor (List ℕ) → Ordering
 order a b = slice_cmp nat_cmp a.now b.now
 
--- each path comes before those after it
-abbrev pub Ascends : PathMap → Type 0
-Ascends [] = Unit {0}
-Ascends (e ∷ m) = AllByRecursion (λ f. slice_cmp nat_cmp e.0 f.0 ≡ Less) m × Ascends m
-
 own_reverse : (o : Ordering) → o ≡ ordering_reverse o → o ≡ Equal
 own_reverse Less e = absurd (cc)
 own_reverse Equal e = refl
 own_reverse Greater e = absurd (cc)
 
-same_self : (p : List ℕ) → slice_cmp nat_cmp p p ≡ Equal
+pub same_self : (p : List ℕ) → slice_cmp nat_cmp p p ≡ Equal
 same_self p = own_reverse (slice_cmp nat_cmp p p) (nat_list_cmp_total.antisymm p p)
 
 greater_from_less : (p q : List ℕ) → slice_cmp nat_cmp p q ≡ Less → slice_cmp nat_cmp q p ≡ Greater
@@ -154,11 +149,6 @@ text-files id files flat a = ap directory_text (directory-files id (sum_by (λ e
 name_of_file : (name : List ℕ) → IsFileName name → IsEntryName name
 name_of_file name h = record { not_empty = h.some; no_nul = h.no_nul; no_slash = h.no_slash }
 
--- names and ids of files
-pub record IsFile (e : List ℕ × Leaf) : Type 0 where
-  pub name : IsFileName e.0
-  pub id : IsId e.1.id
-
 file_before : (f : Bor (List ℕ) × List ℕ) (files : List (Bor (List ℕ) × List ℕ)) → AllByRecursion (λ g. slice_cmp nat_cmp f.0.now g.0 ≡ Less) (tree_of files) → AllByRecursion (λ g. IsBefore (file_entry f) g) (map file_entry files)
 file_before f [] a = tt
 file_before f (g ∷ files) a = (before_plain f g a.0, file_before f files a.1)
@@ -172,6 +162,10 @@ are_files : (files : List (Bor (List ℕ) × List ℕ)) → AllByRecursion IsFil
 unfolding file_entry
 are_files [] h a = tt
 are_files (f ∷ files) h a = (record { mode = inl refl; name = name_of_file f.0.now h.0.name; id = h.0.id.0 }, file_other f files a.0, file_before f files a.0, are_files files h.1 a.1)
+
+pub flat_of_files : (m : PathMap) → AllByRecursion IsFile m → AreFlat m
+flat_of_files [] h = tt
+flat_of_files (e ∷ m) h = (h.0.name.no_slash, flat_of_files m h.1)
 
 pub directory_from : (files : List (Bor (List ℕ) × List ℕ)) (body : List ℕ) → AllByRecursion IsFile (tree_of files) → Ascends (tree_of files) → body ≡ flat_map file_text (tree_of files) → (entries : List Entry) × IsDirectory body entries
 directory_from files body h a e = (map file_entry files, record { text = e ∙ sym (files_text files); good = are_files files h a })

@@ -4,8 +4,11 @@
 #![tactic(auto)]
 
 mod fault;
+mod ids;
 mod laws;
 mod lines;
+mod load;
+mod objects;
 mod parse;
 mod parts;
 mod stream;
