@@ -23,7 +23,9 @@ use Rattle.swh_model.specs.Limits.{store_length, stored_length, ledger_length, p
 use Rattle.swh_model.specs.Step.{IsFinal, last_status, snapshot_name, visit_at, replay, with_status, marked_at}
 use Rattle.swh_model.specs.Judge.{FilePasses, IsThere, MarkCause, OpenCause, IsVerdict, rank}
 use Rattle.swh_base.specs.Snapshot.{target_bytes}
-use Rattle.swh_model.specs.Row.{url, opening, opened_once, failed_once, with_snapshot, revision, branch_to_it, snapshot_body}
+use Rattle.swh_base.specs.declared.entry.Entry.{Entry}
+use Rattle.swh_model.specs.Coding.{coded_entry}
+use Rattle.swh_model.specs.Row.{url, opening, opened_once, failed_once, with_snapshot, snapshot_of_it, revision, branch_to_it, snapshot_body}
 use Rattle.swh_model.proofs.Maps.{visits-put, body-put, body_cases}
 use Rattle.swh_model.proofs.Sounds.{none-opened}
 use Rattle.swh_model.proofs.Entries.{none-empty}
@@ -118,11 +120,11 @@ first_is_not_theirs = (
       (λ l. absurd (omega (arith, l))) (λ l. absurd (omega (arith, l))) (λ l. absurd (omega (arith, l))) (λ l. absurd (omega (arith, l))),
 )
 
-pub no_such_snapshot : (id : List ℕ) → IsVerdict opened_once 1 (Mark url 1 Full (Some id)) (Err (NoSnapshot (snapshot_name id)))
-no_such_snapshot id =
+pub no_such_snapshot : (id : List ℕ) → length id ≡ 20 → IsVerdict opened_once 1 (Mark url 1 Full (Some id)) (Err (NoSnapshot (snapshot_name id)))
+no_such_snapshot id twenty =
     let mark : EventKind = Mark url 1 Full (Some id) in (
       (id, refl, refl, none-empty (snapshot_name id)),
-      none_below opened_once 1 mark url 1 Full (Some id) 8 (short opened_once mark (lit≤ tt) (lit≤ tt))
+      none_below opened_once 1 mark url 1 Full (Some id) 8 (short opened_once mark (lit≤ tt) (let t = twenty in omega (arith, t, length-append id url)))
           (λ l. has_first opened_once 1 mark url Full (Some id) first_visit opened_visits)
           (λ l. is_mine opened_once 1 mark url Full (Some id) first_visit opened_visits refl)
           (λ l. has_not_ended opened_once 1 mark url Full (Some id) first_visit opened_visits (λ f. f))
@@ -184,18 +186,24 @@ snapshot_is_held bodies id body name held is none = let e : body_of bodies name 
 same_id : (a b : List ℕ) → Some a ≡ Some b → a ≡ b
 same_id a b e = cc
 
-few_bytes : (id : List ℕ) → store_length (with_snapshot id) + stored_length (Mark url 1 Full (Some id)) ≤ 1000
-few_bytes id =
+entry-length : (e : Entry) → length (coded_entry e) ≡ 9 + (length e.name.id + length e.body)
+unfolding coded_entry
+entry-length e = omega (arith, length-append e.name.id e.body)
+
+few_bytes : (id : List ℕ) → length id ≡ 20 → store_length (with_snapshot id) + stored_length (Mark url 1 Full (Some id)) ≤ 1000
+few_bytes id twenty =
     let digits_of_it : List ℕ = decimal (length (target_bytes branch_to_it.target)) in
     let d : length digits_of_it ≤ 2 = length-decimal-le 2 20 (lit< tt) (lit< tt) (lit< tt) in
-    omega (arith, length-append digits_of_it (58 ∷ target_bytes branch_to_it.target ++ []), length-append digits_of_it (58 ∷ target_bytes branch_to_it.target), d, length-append (digits_of_it ++ 58 ∷ target_bytes branch_to_it.target) [])
+    let whole = entry-length (snapshot_of_it id) in
+    let one = length-append (coded_entry (snapshot_of_it id)) [] in
+    omega (arith, twenty, whole, one, length-append digits_of_it (58 ∷ target_bytes branch_to_it.target ++ []), length-append digits_of_it (58 ∷ target_bytes branch_to_it.target), d, length-append (digits_of_it ++ 58 ∷ target_bytes branch_to_it.target) [])
 
-pub snapshot_is_not_closed : (id : List ℕ)
+pub snapshot_is_not_closed : (id : List ℕ) → length id ≡ 20
     → IsVerdict (with_snapshot id) 1 (Mark url 1 Full (Some id)) (Err (NotClosed (snapshot_name id) revision))
-snapshot_is_not_closed id =
+snapshot_is_not_closed id twenty =
     let mark : EventKind = Mark url 1 Full (Some id) in (
       (refl, id, refl, ([], refl), revision_is_kid id, revision_is_missing id),
-      none_below (with_snapshot id) 1 mark url 1 Full (Some id) 9 (short (with_snapshot id) mark (few_bytes id) (lit≤ tt))
+      none_below (with_snapshot id) 1 mark url 1 Full (Some id) 9 (short (with_snapshot id) mark (few_bytes id twenty) (let t = twenty in omega (arith, t, length-append id url)))
           (λ l. has_first (with_snapshot id) 1 mark url Full (Some id) first_visit opened_visits)
           (λ l. is_mine (with_snapshot id) 1 mark url Full (Some id) first_visit opened_visits refl)
           (λ l. has_not_ended (with_snapshot id) 1 mark url Full (Some id) first_visit opened_visits (λ f. f))

@@ -1,11 +1,11 @@
 -- What is counted, and the lengths that a history gives the two files.
-use Rattle.std.specs.Prelude.{ℕ, ◌+◌, ◌^◌, ◌≤◌, Option, Some, None, List, [], ◌∷◌, length}
+use Rattle.std.specs.Prelude.{ℕ, ◌+◌, ◌^◌, ◌≤◌, List, [], ◌∷◌, length}
 use Rattle.std.specs.List.{AllByRecursion}
 use Rattle.swh_base.specs.declared.entry.Entry.{Entry}
 use Rattle.swh_base.specs.Limits.{body_limit}
 use Rattle.swh_model.specs.declared.event.Event.{Event}
 use Rattle.swh_model.specs.declared.event.EventKind.{EventKind}
-use Rattle.swh_model.specs.declared.event.EventKind.TheVariants.{Batch, Open, Mark}
+use Rattle.swh_model.specs.Coding.{told, run_of}
 
 abbrev pub objects_limit : ℕ
 objects_limit = 4096
@@ -27,25 +27,12 @@ pub record IsWithinLimits (entries : List Entry) : Type 0 where
   pub objects : length entries ≤ objects_limit
   pub bytes : bytes_before_last entries ≤ bytes_limit
 
--- a kind, a length, an id and the body
-abbrev pub run_length : List Entry → ℕ
-run_length [] = 0
-run_length (e ∷ es) = (29 + length e.body) + run_length es
-
-abbrev pub snapshot_length : Option (List ℕ) → ℕ
-snapshot_length None = 1
-snapshot_length (Some id) = 21
-
--- who, and what is said of the event
+-- who, and what is said of the event, wherever its run begins
 abbrev pub payload_length : EventKind → ℕ
-payload_length (Batch entries) = 24
-payload_length (Open origin kind date) = 13 + length origin
-payload_length (Mark origin visit status snapshot) = (13 + snapshot_length snapshot) + length origin
+payload_length what = 4 + length (told 0 what)
 
 abbrev pub stored_length : EventKind → ℕ
-stored_length (Batch entries) = run_length entries
-stored_length (Open origin kind date) = 0
-stored_length (Mark origin visit status snapshot) = 0
+stored_length what = length (run_of what)
 
 abbrev pub store_length : List Event → ℕ
 store_length [] = 0

@@ -3,13 +3,16 @@ ghost use Rattle.std.specs.Prelude.{◌≡◌, ◌+◌, ◌≤◌, ◌<◌, ◌^
 ghost use Rattle.swh_base.specs.Name.{kind_number};
 ghost use Rattle.swh_model.specs.Coding.{visit_kind_number, status_number, coded_snapshot, coded_entry, coded_run, run_of, event_byte, told, payload_of, framed, coded_record, IsCodableKind, IsCodable};
 ghost use Rattle.std.specs.Int.{w32, w64, to_be_bytes};
+ghost use Rattle.std.specs.List.{AllByRecursion};
+ghost use Rattle.swh_model.specs.Coding.{IsCodableEntry, IsOrigin, IsSnapshotId};
 ghost use Rattle.swh_model.specs.declared.event.EventKind.TheVariants.{Batch, Open, Mark};
 
 use crate::event::{Event, EventKind};
 use std::alloc::Global;
 use swh_base::{Entry, Kind, Memory, Status, Url, VisitKind};
 
-fn kind_byte(kind: Kind) -> u8
+/// The number that stands for a kind in the store.
+pub fn kind_byte(kind: Kind) -> u8
     ensures { result ≡ kind_number kind }
 {
     match kind {
@@ -176,4 +179,45 @@ pub fn record_of_event(alloc: Global, at: u64, end: u64, event: &Event) -> Resul
 {
     let payload = payload(alloc, at, end, event)?;
     frame(alloc, record_byte(&event.what), &payload)
+}
+
+fn has_twenty_bytes(id: [u8; 20]) -> usize
+    ensures value { result ≡ 20 }
+    ensures length { length id ≡ 20 }
+{
+    let bytes: &[u8] = &id;
+    bytes.len()
+}
+
+/// What the types say of an entry: an id has twenty bytes, and no body is longer than memory.
+pub fn entry_is_codable(entry: &Entry)
+    ensures { IsCodableEntry entry.now }
+{
+    let _twenty = has_twenty_bytes(entry.name.id);
+    let _length = entry.body.as_slice().len();
+}
+
+/// The same of each.
+pub fn entries_are_codable(entries: &[Entry])
+    ensures { AllByRecursion IsCodableEntry entries.now }
+{
+    for entry in entries {
+        entry_is_codable(entry);
+    }
+}
+
+/// What the type says of a URL: it is one, and it is text.
+pub fn origin_is_codable(origin: &Url)
+    ensures { IsOrigin origin.now }
+{
+    let _text = origin.as_str();
+}
+
+/// What the type says of a snapshot's id: it has twenty bytes.
+pub fn snapshot_is_codable(snapshot: &Option<[u8; 20]>)
+    ensures { IsSnapshotId snapshot.now }
+{
+    if let Some(id) = snapshot {
+        let _twenty = has_twenty_bytes(*id);
+    }
 }

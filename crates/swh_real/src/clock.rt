@@ -1,44 +1,55 @@
-// The clock of the system.
-use crate::FaultCount;
-use std::rt::Clock as SystemClock;
-use std::time::{SystemTime, UNIX_EPOCH};
+// The system's clock.
+ghost use Rattle.std.specs.Prelude.{◌≡◌};
+
+use crate::count::Count;
+use std::marker::Model;
+use std::rt;
 use swh_outside::{Clock, Failed};
 
-/// The seconds since 1970 that the system counts. A time before is a failure.
+/// The time of day. A contract sees the count of faults.
 #[derive(Drop)]
-pub struct RealClock<R: SystemClock + Drop> {
+pub struct RealClock<R: rt::Clock + Drop> {
     rt: R,
-    count: FaultCount,
+    count: Count,
 }
 
-impl<R: SystemClock + Drop> RealClock<R> {
-    pub fn new(rt: R) -> Self {
+impl<R: rt::Clock + Drop> Model for RealClock<R> {
+    ghost use Rattle.std.specs.Prelude.{ℕ};
+
+    ghost Value = { ℕ };
+
+    ghost view = { λ clock. clock.count };
+}
+
+impl<R: rt::Clock + Drop> RealClock<R> {
+    pub fn new(rt: R) -> Self
+        ensures { result ≡ 0 }
+    {
         RealClock {
             rt,
-            count: FaultCount::new(),
+            count: Count::new(),
         }
     }
-}
 
-fn seconds<R: SystemClock>(rt: &R) -> Option<u64> {
-    let now = SystemTime::now(rt).ok()?;
-    match now.duration_since(UNIX_EPOCH) {
-        Ok(since) => Some(since.as_secs()),
-        Err(_) => None,
+    /// How often it has failed.
+    pub fn faults(&self) -> u64
+        ensures { result ≡ self.now }
+    {
+        self.count.get()
     }
 }
 
-impl<R: SystemClock + Drop + Send> Clock for RealClock<R> {
+impl<R: rt::Clock + Drop + Send> Clock for RealClock<R> {
     ghost tells = { ⊥ };
 
     ghost time = { λ _. 0 };
 
-    ghost faults = { λ clock. clock.count.faults };
+    ghost faults = { λ clock. clock };
 
     fn now(&mut self) -> Result<u64, Failed> {
-        match seconds(&self.rt) {
-            Some(seconds) => Ok(seconds),
-            None => Err(self.count.raise()),
+        match self.rt.since_1970() {
+            Ok(time) => Ok(time.as_secs()),
+            Err(_) => Err(self.count.refuse()),
         }
     }
 }

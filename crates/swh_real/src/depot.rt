@@ -1,94 +1,112 @@
-// Folders of archives, with files named by their decimal numbers.
-use crate::{FaultCount, RealDisk};
+// Folders of the system, with files named by their decimal numbers.
+ghost use Rattle.std.specs.Prelude.{◌≡◌};
+
+use crate::RealDisk;
+use crate::count::Count;
 use std::alloc::Global;
-use std::fs;
 use std::fs::{File, OpenOptions};
-use std::io;
 use std::io::ErrorKind;
+use std::marker::Model;
 use std::rt::Files;
+use std::{fs, io};
 use swh_outside::{Depot, OutFault};
 
-/// The folders of the system. An absent one is made; who has opened its ledger is alone with it.
+/// Archives' folders in the file system. While file 0 of a folder is open nobody else opens it, here or in another
+/// process: that fails. A contract sees the count of faults.
 #[derive(Drop)]
 pub struct RealDepot<R: Files<File = File> + Drop> {
     rt: R,
     alloc: Global,
-    count: FaultCount,
+    count: Count,
+}
+
+impl<R: Files<File = File> + Drop> Model for RealDepot<R> {
+    ghost use Rattle.std.specs.Prelude.{ℕ};
+
+    ghost Value = { ℕ };
+
+    ghost view = { λ depot. depot.count };
 }
 
 impl<R: Files<File = File> + Drop> RealDepot<R> {
-    pub fn new(rt: R, alloc: Global) -> Self {
+    pub fn new(rt: R, alloc: Global) -> Self
+        ensures { result ≡ 0 }
+    {
         RealDepot {
             rt,
             alloc,
-            count: FaultCount::new(),
+            count: Count::new(),
         }
     }
-}
 
-// Makes a new file, and waits until its folder names it on the disk.
-fn make_file<R: Files<File = File>>(rt: &R, dir: &str, path: &str) -> io::Result<File> {
-    let file = OpenOptions::new()
-        .read(true)
-        .write(true)
-        .create_new(true)
-        .open(rt, path)?;
-    File::open(rt, dir)?.sync_all()?;
-    Ok(file)
-}
-
-// Opens a file of a folder, each made where it is absent.
-fn open_file<R: Files<File = File>>(rt: &R, dir: &str, path: &str) -> io::Result<File> {
-    fs::create_dir_all(rt, dir)?;
-    match OpenOptions::new().read(true).write(true).open(rt, path) {
-        Ok(file) => Ok(file),
-        Err(fault) => {
-            if fault.kind() == ErrorKind::NotFound {
-                make_file(rt, dir, path)
-            } else {
-                Err(fault)
-            }
-        }
+    /// How often it has failed.
+    pub fn faults(&self) -> u64
+        ensures { result ≡ self.now }
+    {
+        self.count.get()
     }
-}
-
-// The ledger is locked, so that a second process on the archive fails.
-fn lock_ledger(file: &File, number: u32) -> bool {
-    number != 0 || file.try_lock().is_ok()
 }
 
 impl<R: Files<File = File> + Drop + Send> Depot for RealDepot<R> {
-    ghost use Rattle.swh_real.specs.Untold.{untold_file};
+    ghost use Rattle.swh_outside.specs.Files.{absent};
 
     type D = RealDisk;
 
     ghost tells = { ⊥ };
 
-    ghost files = { λ _ _ _. untold_file };
+    ghost files = { λ _ _ _. absent };
 
     ghost has_place = { λ _ _ _. Unit {0} };
 
-    ghost faults = { λ depot. depot.count.faults };
+    ghost faults = { λ depot. depot };
 
     fn open(&mut self, dir: &str, file: u32) -> Result<RealDisk, OutFault> {
         let Ok(path) = format!(in self.alloc; "{dir}/{file}") else {
             return Err(OutFault::Memory);
         };
-        match open_file(&self.rt, dir, path.as_str()) {
-            Ok(opened) => {
-                if lock_ledger(&opened, file) {
-                    Ok(RealDisk::new(opened))
-                } else {
-                    Err(OutFault::from(self.count.raise()))
-                }
-            }
-            Err(_) => Err(OutFault::from(self.count.raise())),
+        match open_file(&self.rt, dir, path.as_str(), file == 0) {
+            Ok(file) => Ok(RealDisk::new(file)),
+            Err(_) => Err(OutFault::from(self.count.refuse())),
         }
     }
 
     fn close(&mut self, _dir: &str, _file: u32, disk: RealDisk) {
-        if disk.has_failed() {
-            let _ = self.count.raise();
+        if disk.faults() > 0 {
+            let _ = self.count.refuse();
         }
+    }
+}
+
+// Opens a file, made where it is absent, and keeps everybody else from it where that is asked.
+fn open_file<R: Files<File = File>>(
+    rt: &R,
+    dir: &str,
+    path: &str,
+    alone: bool,
+) -> io::Result<File> {
+    fs::create_dir_all(rt, dir)?;
+    let file = open_or_make(rt, dir, path)?;
+    if alone && file.try_lock().is_err() {
+        return Err(io::Error::from(ErrorKind::WouldBlock));
+    }
+    Ok(file)
+}
+
+// A new file's name is in its folder only once the folder is on the disk too.
+fn open_or_make<R: Files<File = File>>(rt: &R, dir: &str, path: &str) -> io::Result<File> {
+    match OpenOptions::new()
+        .read(true)
+        .write(true)
+        .create_new(true)
+        .open(rt, path)
+    {
+        Ok(file) => {
+            File::open(rt, dir)?.sync_all()?;
+            Ok(file)
+        }
+        Err(fault) if fault.kind() == ErrorKind::AlreadyExists => {
+            OpenOptions::new().read(true).write(true).open(rt, path)
+        }
+        Err(fault) => Err(fault),
     }
 }

@@ -1,72 +1,82 @@
-// A file of an archive.
-ghost use Rattle.std.specs.Prelude.{◌≡◌, ◌<◌, ◌↔◌, IsTrue};
+// A file of the system.
+ghost use Rattle.std.specs.Prelude.{◌≡◌};
 
-use crate::FaultCount;
+use crate::count::Count;
 use std::fs::File;
+use std::marker::Model;
 use std::os::unix::fs::FileExt;
 use swh_outside::{Disk, Failed};
 
-/// An open file of the system. Its lock, if it took one, is given up with it.
+/// A file that is read and written at places. A contract sees its count of faults.
 #[derive(Drop)]
 pub struct RealDisk {
     file: File,
-    count: FaultCount,
+    count: Count,
+}
+
+impl Model for RealDisk {
+    ghost use Rattle.std.specs.Prelude.{ℕ};
+
+    ghost Value = { ℕ };
+
+    ghost view = { λ disk. disk.count };
 }
 
 impl RealDisk {
+    /// A disk over an open file, which can be read and written.
     pub fn new(file: File) -> Self
-        ensures { result.count.faults ≡ 0 }
+        ensures { result ≡ 0 }
     {
         RealDisk {
             file,
-            count: FaultCount::new(),
+            count: Count::new(),
         }
     }
 
-    /// Says whether it has failed.
-    pub fn has_failed(&self) -> bool
-        ensures { IsTrue result ↔ 0 < self.now.count.faults }
+    /// How often it has failed.
+    pub fn faults(&self) -> u64
+        ensures { result ≡ self.now }
     {
-        self.count.is_raised()
+        self.count.get()
     }
 }
 
 impl Disk for RealDisk {
-    ghost use Rattle.swh_real.specs.Untold.{untold_file};
+    ghost use Rattle.swh_outside.specs.Files.{absent};
 
     ghost tells = { ⊥ };
 
-    ghost file = { λ _. untold_file };
+    ghost file = { λ _. absent };
 
-    ghost faults = { λ disk. disk.count.faults };
+    ghost faults = { λ disk. disk };
 
     ghost sees_image = { λ disk told. absurd told };
 
     fn len(&mut self) -> Result<u64, Failed> {
         match self.file.metadata() {
             Ok(metadata) => Ok(metadata.len()),
-            Err(_) => Err(self.count.raise()),
+            Err(_) => Err(self.count.refuse()),
         }
     }
 
     fn read_at(&mut self, at: u64, out: &mut [u8]) -> Result<usize, Failed> {
         match self.file.read_at(out, at) {
             Ok(count) => Ok(count),
-            Err(_) => Err(self.count.raise()),
+            Err(_) => Err(self.count.refuse()),
         }
     }
 
     fn write_at(&mut self, at: u64, bytes: &[u8]) -> Result<(), Failed> {
         match self.file.write_all_at(bytes, at) {
             Ok(()) => Ok(()),
-            Err(_) => Err(self.count.raise()),
+            Err(_) => Err(self.count.refuse()),
         }
     }
 
     fn sync(&mut self) -> Result<(), Failed> {
         match self.file.sync_all() {
             Ok(()) => Ok(()),
-            Err(_) => Err(self.count.raise()),
+            Err(_) => Err(self.count.refuse()),
         }
     }
 }

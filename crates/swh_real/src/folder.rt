@@ -1,70 +1,78 @@
-// A folder of inputs; none is read yet.
-ghost use Rattle.std.specs.Prelude.{◌≡◌, ◌<◌, ◌↔◌, IsTrue, string_bytes};
+// A folder of the system whose calls fail.
+ghost use Rattle.std.specs.Prelude.{◌≡◌, string_bytes};
 
-use crate::{FaultCount, RealSource};
+use crate::RealSource;
+use crate::count::Count;
 use std::alloc::Global;
+use std::marker::Model;
 use swh_outside::{Folder, Item, OutFault};
 
-/// A folder whose every call that can fail does so and is counted.
+/// A folder. Each call that can fail does so and is counted. A contract sees its count of faults and where it was
+/// opened.
 #[derive(Drop)]
 pub struct RealFolder {
     path: String,
-    count: FaultCount,
+    count: Count,
+}
+
+impl Model for RealFolder {
+    ghost use Rattle.std.specs.Prelude.{ℕ, List, string_bytes};
+
+    ghost Value = { ℕ × List ℕ };
+
+    ghost view = { λ folder. (folder.count, string_bytes folder.path) };
 }
 
 impl RealFolder {
-    ghost use Rattle.swh_real.specs.Folders.{folder_path, folder_faults};
-
     pub fn new(path: String) -> Self
-        ensures path { folder_path result ≡ string_bytes path }
-        ensures no_fault { folder_faults result ≡ 0 }
+        ensures no_fault { result.0 ≡ 0 }
+        ensures path { result.1 ≡ string_bytes path }
     {
         RealFolder {
             path,
-            count: FaultCount::new(),
+            count: Count::new(),
         }
+    }
+
+    /// How often it has failed.
+    pub fn faults(&self) -> u64
+        ensures { result ≡ self.now.0 }
+    {
+        self.count.get()
     }
 
     /// Where it was opened.
     pub fn path(&self) -> &str
-        ensures { result.now ≡ folder_path self.now }
+        ensures { result.now ≡ self.now.1 }
     {
         self.path.as_str()
-    }
-
-    /// Says whether it has failed.
-    pub fn has_failed(&self) -> bool
-        ensures { IsTrue result ↔ 0 < folder_faults self.now }
-    {
-        self.count.is_raised()
     }
 }
 
 impl Folder for RealFolder {
-    ghost use Rattle.swh_real.specs.Untold.{untold_tree};
-    ghost use Rattle.swh_real.specs.Folders.{folder_path, folder_faults};
+    ghost use Rattle.std.specs.Prelude.{[]};
 
     type S = RealSource;
 
     ghost tells = { ⊥ };
 
-    ghost holds = { λ _. untold_tree };
+    ghost holds = { λ _. record { entries = λ _. []; bytes = λ _. [] } };
 
-    ghost opened_at = { folder_path };
+    ghost opened_at = { λ folder. folder.1 };
 
-    ghost faults = { folder_faults };
+    ghost faults = { λ folder. folder.0 };
 
     fn list(&mut self, _alloc: Global, _dir: &str) -> Result<Vec<Item>, OutFault> {
-        Err(OutFault::from(self.count.raise()))
+        Err(OutFault::from(self.count.refuse()))
     }
 
     fn read(&mut self, _path: &str) -> Result<RealSource, OutFault> {
-        Err(OutFault::from(self.count.raise()))
+        Err(OutFault::from(self.count.refuse()))
     }
 
     fn back(&mut self, source: RealSource) {
-        if source.has_failed() {
-            let _ = self.count.raise();
+        if source.faults() > 0 {
+            let _ = self.count.refuse();
         }
     }
 }

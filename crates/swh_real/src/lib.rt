@@ -1,28 +1,29 @@
-//! The outside over the files of the system, standard output and the clock: a few lines each, the trusted edge.
-//! Stands on `swh_outside`.
-//! Above it may rely on: the traits without content, since no part tells what it holds; counts of faults are exact.
+//! The outside over files, standard output and the clock: the trusted edge. It stands on swh_outside. The layer above
+//! may use each part's count of faults, which rises where the system refuses, and the bounds on lengths; what a file
+//! really holds no part tells.
 #![tactic(auto)]
 
 mod clock;
+mod count;
 mod depot;
 mod disk;
 mod doors;
-mod fault_count;
 mod folder;
 mod link;
 mod origins;
-mod output;
+mod sink;
 mod source;
+#[cfg(test)]
+mod tests;
 mod yard;
 
 pub use clock::RealClock;
 pub use depot::RealDepot;
 pub use disk::RealDisk;
 pub use doors::RealDoors;
-pub use fault_count::FaultCount;
 pub use folder::RealFolder;
 pub use link::RealLink;
 pub use origins::RealOrigins;
-pub use output::RealSink;
+pub use sink::RealSink;
 pub use source::RealSource;
 pub use yard::RealYard;

@@ -1,24 +1,44 @@
-// A link; none comes in yet.
-ghost use Rattle.std.specs.Prelude.{[], false};
+// A link of the system whose calls fail.
+ghost use Rattle.std.specs.Prelude.{◌≡◌};
 
-use crate::FaultCount;
+use crate::count::Count;
+use std::marker::Model;
 use swh_outside::{Failed, Link, Sink, Source};
 
-/// A link whose every call fails and is counted.
+/// A link. Each call fails and is counted. A contract sees the count of faults.
 #[derive(Drop)]
 pub struct RealLink {
-    count: FaultCount,
+    count: Count,
+}
+
+impl Model for RealLink {
+    ghost use Rattle.std.specs.Prelude.{ℕ};
+
+    ghost Value = { ℕ };
+
+    ghost view = { λ link. link.count };
 }
 
 impl RealLink {
-    pub fn new() -> Self {
+    pub fn new() -> Self
+        ensures { result ≡ 0 }
+    {
         RealLink {
-            count: FaultCount::new(),
+            count: Count::new(),
         }
+    }
+
+    /// How often it has failed.
+    pub fn faults(&self) -> u64
+        ensures { result ≡ self.now }
+    {
+        self.count.get()
     }
 }
 
 impl Source for RealLink {
+    ghost use Rattle.std.specs.Prelude.{[], false};
+
     ghost tells = { ⊥ };
 
     ghost left = { λ _. [] };
@@ -27,24 +47,26 @@ impl Source for RealLink {
 
     ghost ended = { λ _. false };
 
-    ghost faults = { λ link. link.count.faults };
+    ghost faults = { λ link. link };
 
     ghost path = { λ _. [] };
 
     fn get(&mut self, _out: &mut [u8]) -> Result<usize, Failed> {
-        Err(self.count.raise())
+        Err(self.count.refuse())
     }
 }
 
 impl Sink for RealLink {
+    ghost use Rattle.std.specs.Prelude.{[]};
+
     ghost tells = { ⊥ };
 
     ghost taken = { λ _. [] };
 
-    ghost faults = { λ link. link.count.faults };
+    ghost faults = { λ link. link };
 
     fn put(&mut self, _bytes: &[u8]) -> Result<(), Failed> {
-        Err(self.count.raise())
+        Err(self.count.refuse())
     }
 }
 

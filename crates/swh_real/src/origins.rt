@@ -1,47 +1,60 @@
-// Inputs among the files of the system.
-ghost use Rattle.std.specs.Prelude.{◌≡◌, ◌≤◌, List, ℕ, None};
-ghost use Rattle.swh_outside.specs.Faults.{Rose};
-ghost use Rattle.swh_outside.specs.Counts.{count_at};
+// Files of the system as inputs.
+ghost use Rattle.std.specs.Prelude.{◌≡◌, ◌≤◌, List, ℕ};
 
-use crate::{FaultCount, RealFolder, RealSource};
+use crate::count::Count;
+use crate::{RealFolder, RealSource};
 use std::alloc::Global;
 use std::fs::File;
 use std::io::ErrorKind;
 use std::rt::Files;
 use swh_outside::{Opened, Origins, PathCounts};
 
-/// The files of the system by their paths. No folder opens yet: such a call fails and is counted.
+/// Inputs in the file system. No folder opens: such a call fails and is counted.
 #[derive(Drop)]
 pub struct RealOrigins<R: Files<File = File> + Drop> {
     rt: R,
     alloc: Global,
-    count: FaultCount,
+    count: Count,
     counts: PathCounts,
 }
 
 impl<R: Files<File = File> + Drop> RealOrigins<R> {
+    ghost use Rattle.swh_outside.specs.Counts.{count_at};
+    ghost use Rattle.swh_outside.specs.Faults.{Rose};
+
     pub fn new(rt: R, alloc: Global) -> Self {
         RealOrigins {
             rt,
             alloc,
-            count: FaultCount::new(),
+            count: Count::new(),
             counts: PathCounts::new(alloc),
         }
     }
-}
 
-// Counts a failure at a path.
-fn refuse(count: &mut FaultCount, counts: &mut PathCounts, path: &str)
-    ensures later { count.old.faults ≤ count.new.faults }
-    ensures rose { Rose count.old.faults count.new.faults }
-    ensures path_later { (p : List ℕ) → count_at counts.old p ≤ count_at counts.new p }
-    ensures path_rose { Rose (count_at counts.old path.now) (count_at counts.new path.now) }
-{
-    let _ = count.raise();
-    counts.raise(path);
+    /// How often it has failed, what it gave included once it is given back.
+    pub fn faults(&self) -> u64 {
+        self.count.get()
+    }
+
+    /// How often it has failed at a path.
+    pub fn path_faults(&self, path: &str) -> u64 {
+        self.counts.at(path)
+    }
+
+    // Counts a fault at a path.
+    fn refuse(&mut self, path: &str)
+        ensures later { self.old.count ≤ self.new.count }
+        ensures rose { Rose self.old.count self.new.count }
+        ensures path_later { (p : List ℕ) → count_at self.old.counts p ≤ count_at self.new.counts p }
+        ensures path_rose { Rose (count_at self.old.counts path.now) (count_at self.new.counts path.now) }
+    {
+        let _ = self.count.refuse();
+        self.counts.raise(path);
+    }
 }
 
 impl<R: Files<File = File> + Drop + Send> Origins for RealOrigins<R> {
+    ghost use Rattle.std.specs.Prelude.{None};
     ghost use Rattle.swh_outside.specs.Counts.{count_at};
 
     type S = RealSource;
@@ -54,9 +67,9 @@ impl<R: Files<File = File> + Drop + Send> Origins for RealOrigins<R> {
 
     ghost folder_at = { λ _ _. None };
 
-    ghost faults = { λ origins. origins.count.faults };
+    ghost faults = { λ origins. origins.count };
 
-    ghost path_faults = { λ origins path. count_at origins.counts path };
+    ghost path_faults = { λ origins. count_at origins.counts };
 
     fn file(&mut self, path: &str) -> Opened<RealSource> {
         if self.counts.place(path).is_err() {
@@ -66,31 +79,29 @@ impl<R: Files<File = File> + Drop + Send> Origins for RealOrigins<R> {
             return Opened::Memory;
         };
         match File::open(&self.rt, path) {
-            Ok(file) => Opened::Found(RealSource::new(name, file)),
-            Err(fault) => {
-                if fault.kind() == ErrorKind::NotFound {
-                    return Opened::NotFound;
-                }
-                refuse(&mut self.count, &mut self.counts, path);
+            Ok(file) => Opened::Found(RealSource::new(file, name)),
+            Err(fault) if fault.kind() == ErrorKind::NotFound => Opened::NotFound,
+            Err(_) => {
+                self.refuse(path);
                 Opened::Failed
             }
         }
     }
 
     fn folder(&mut self, path: &str) -> Opened<RealFolder> {
-        refuse(&mut self.count, &mut self.counts, path);
+        self.refuse(path);
         Opened::Failed
     }
 
     fn back(&mut self, source: RealSource) {
-        if source.has_failed() {
-            refuse(&mut self.count, &mut self.counts, source.path());
+        if source.faults() > 0 {
+            self.refuse(source.path());
         }
     }
 
     fn back_folder(&mut self, folder: RealFolder) {
-        if folder.has_failed() {
-            refuse(&mut self.count, &mut self.counts, folder.path());
+        if folder.faults() > 0 {
+            self.refuse(folder.path());
         }
     }
 }

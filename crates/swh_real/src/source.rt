@@ -1,50 +1,58 @@
-// A file that is read once.
-ghost use Rattle.std.specs.Prelude.{◌≡◌, ◌<◌, ◌↔◌, [], false, IsTrue, string_bytes};
+// A file of the system that is read once, from its front.
+ghost use Rattle.std.specs.Prelude.{◌≡◌, string_bytes};
 
-use crate::FaultCount;
+use crate::count::Count;
 use std::fs::File;
 use std::io::Read;
+use std::marker::Model;
 use swh_outside::{Failed, Source};
 
-/// An open file of the system, and the path that it was opened at.
+/// An input. A contract sees its count of faults and where it was opened.
 #[derive(Drop)]
 pub struct RealSource {
-    path: String,
     file: File,
-    count: FaultCount,
+    path: String,
+    count: Count,
+}
+
+impl Model for RealSource {
+    ghost use Rattle.std.specs.Prelude.{ℕ, List, string_bytes};
+
+    ghost Value = { ℕ × List ℕ };
+
+    ghost view = { λ source. (source.count, string_bytes source.path) };
 }
 
 impl RealSource {
-    ghost use Rattle.swh_real.specs.Sources.{source_path, source_faults};
-
-    pub fn new(path: String, file: File) -> Self
-        ensures path { source_path result ≡ string_bytes path }
-        ensures no_fault { source_faults result ≡ 0 }
+    /// A source over an open file, which can be read.
+    pub fn new(file: File, path: String) -> Self
+        ensures no_fault { result.0 ≡ 0 }
+        ensures path { result.1 ≡ string_bytes path }
     {
         RealSource {
-            path,
             file,
-            count: FaultCount::new(),
+            path,
+            count: Count::new(),
         }
+    }
+
+    /// How often it has failed.
+    pub fn faults(&self) -> u64
+        ensures { result ≡ self.now.0 }
+    {
+        self.count.get()
     }
 
     /// Where it was opened.
     pub fn path(&self) -> &str
-        ensures { result.now ≡ source_path self.now }
+        ensures { result.now ≡ self.now.1 }
     {
         self.path.as_str()
-    }
-
-    /// Says whether it has failed.
-    pub fn has_failed(&self) -> bool
-        ensures { IsTrue result ↔ 0 < source_faults self.now }
-    {
-        self.count.is_raised()
     }
 }
 
 impl Source for RealSource {
-    ghost use Rattle.swh_real.specs.Sources.{source_path, source_faults};
+    ghost use Rattle.std.specs.Prelude.{[], false};
 
     ghost tells = { ⊥ };
 
@@ -54,14 +62,14 @@ impl Source for RealSource {
 
     ghost ended = { λ _. false };
 
-    ghost faults = { source_faults };
+    ghost faults = { λ source. source.0 };
 
-    ghost path = { source_path };
+    ghost path = { λ source. source.1 };
 
     fn get(&mut self, out: &mut [u8]) -> Result<usize, Failed> {
         match self.file.read(out) {
             Ok(count) => Ok(count),
-            Err(_) => Err(self.count.raise()),
+            Err(_) => Err(self.count.refuse()),
         }
     }
 }

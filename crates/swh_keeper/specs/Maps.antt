@@ -1,0 +1,41 @@
+-- The maps in memory as the finite maps of the archive.
+use Rattle.std.specs.Prelude.{◌≡◌, ℕ, Some, List, map}
+use Rattle.std.specs.Coded.{Coded, coded_ℕ, coded_list}
+use Rattle.std.specs.FinMap as finite
+use Rattle.swh_base.specs.contracts.name.Name as a_name
+use Rattle.swh_base.specs.declared.name.Name.{Name}
+use Rattle.swh_base.specs.declared.entry.Entry.{Entry}
+use Rattle.swh_base.specs.Name.{name_key}
+use Rattle.std.specs.Global.{Vec}
+use Rattle.swh_model.specs.contracts.event.Visit as a_visit
+use Rattle.swh_model.specs.declared.event.Visit.{Visit}
+use Rattle.swh_model.specs.Archive.{Bodies, Origins, body_of}
+use Rattle.swh_model.specs.Step.{IsGood}
+
+abbrev pub bodies_code : Coded Bodies
+bodies_code = finite.code a_name.the_row.coded (coded_list coded_ℕ)
+
+abbrev pub named_body : List ℕ × Entry → Name × List ℕ
+named_body p = (p.1.name, p.1.body)
+
+abbrev pub bodies_of : List (List ℕ × Entry) → Bodies
+bodies_of es = finite.from_entries (map named_body es)
+
+-- The entry is good, and stands under its name's key.
+abbrev pub IsKeyed : List ℕ × Entry → Type 0
+IsKeyed p = (p.0 ≡ name_key p.1.name) × IsGood p.1
+
+-- The entry is good, has the name, and its body is held.
+pub record IsEntryOf (bodies : Bodies) (n : Name) (e : Entry) : Type 0 where
+  pub name : e.name ≡ n
+  pub held : body_of bodies n ≡ Some e.body
+  pub good : IsGood e
+
+abbrev pub origins_code : Coded Origins
+origins_code = finite.code (coded_list coded_ℕ) (coded_list a_visit.the_row.coded)
+
+abbrev pub with_visits : Vec ℕ × Vec Visit → List ℕ × List Visit
+with_visits p = (p.0.items, p.1.items)
+
+abbrev pub origins_of : List (Vec ℕ × Vec Visit) → Origins
+origins_of es = finite.from_entries (map with_visits es)

@@ -1,0 +1,38 @@
+-- What a walk over what is held has met.
+use Rattle.std.specs.Prelude.{◌≡◌, ◌⊎◌, ◌↔◌, ℕ, ◌<◌, true, Option, Some, None, List, [], ◌∷◌, ◌++◌, length, Contains, slice_get, nat_eq}
+use Rattle.std.specs.List.{AllByRecursion}
+use Rattle.std.specs.HashSet.{HashSet, contains}
+use Rattle.std.specs.Cmp.Lexicographic.{pointwise}
+use Rattle.swh_base.specs.declared.name.Name.{Name}
+use Rattle.swh_base.specs.Name.{name_key}
+use Rattle.swh_model.specs.Archive.{Bodies, body_of, IsHeld, IsKid, Reaches}
+
+-- The set has the keys of the listed names.
+abbrev pub IsSeen : {S : Type 0} → HashSet (List ℕ) S → List Name → Type 0
+IsSeen seen names = (n : Name) → (contains (pointwise nat_eq) seen (name_key n) ≡ true) ↔ Contains names n
+
+-- The list is the same and has the name, or has it at the end.
+abbrev pub MayGain : List Name → List Name → Name → Type 0
+MayGain old new name = (new ≡ old) ⊎ (new ≡ old ++ name ∷ [])
+
+-- A kid that is held.
+abbrev pub IsHeldKid : Bodies → Name → Name → Type 0
+IsHeldKid bodies parent n = IsKid bodies parent n × IsHeld bodies n
+
+-- More names stand behind, each a held kid of the parent.
+pub record GainsKids (bodies : Bodies) (parent : Name) (old new : List Name) : Type 0 where
+  pub more : List Name
+  pub behind : new ≡ old ++ more
+  pub held_kids : AllByRecursion (IsHeldKid bodies parent) more
+
+-- More names stand behind, each one of these and held.
+pub record GainsHeld (bodies : Bodies) (names old new : List Name) : Type 0 where
+  pub more : List Name
+  pub behind : new ≡ old ++ more
+  pub held_names : AllByRecursion (λ n. Contains names n × IsHeld bodies n) more
+
+-- Of a reached parent this kid is not held.
+pub record IsGap (bodies : Bodies) (root parent child : Name) : Type 0 where
+  pub reached : Reaches bodies root parent
+  pub kid : IsKid bodies parent child
+  pub missing : body_of bodies child ≡ None

@@ -1,0 +1,71 @@
+//! Whether all that is reached from a name is held: a walk from nothing, breadth first, each name once.
+ghost use Rattle.std.specs.Prelude.{◌≡◌, None, IfOk, IfSome, IfNone, Contains};
+ghost use Rattle.swh_base.specs.declared.name.Name.{Name};
+ghost use Rattle.swh_model.specs.Archive.{body_of, IsHeld, IsKid, IsClosed};
+ghost use Rattle.swh_keeper.specs.Walk.{GainsHeld, GainsKids, IsGap};
+
+use std::alloc::Global;
+use swh_base::{Memory, Name};
+
+use crate::bodies::HeldBodies;
+use crate::listing::Listing;
+
+/// Lists the names up to the first that is not held, which is answered.
+fn list_held(
+    bodies: &HeldBodies,
+    listing: &mut Listing,
+    kids: &[Name],
+) -> Result<Option<Name>, Memory>
+    ensures gains { GainsHeld bodies.now kids.now listing.old listing.new }
+    ensures gap { IfOk result (λ gap. IfSome gap (λ child. Contains kids.now child × (body_of bodies.now child ≡ None))) }
+    ensures all { IfOk result (λ gap. IfNone gap ((kid : Name) → Contains kids.now kid → Contains listing.new kid)) }
+{
+    for kid in kids {
+        if !bodies.has(kid) {
+            return Ok(Some(*kid));
+        }
+        listing.add(*kid)?;
+    }
+    Ok(None)
+}
+
+/// Lists the kids of a held parent up to the first that is not held, which is answered.
+fn list_kids(
+    bodies: &HeldBodies,
+    listing: &mut Listing,
+    parent: &Name,
+) -> Result<Option<Name>, Memory>
+    requires { IsHeld bodies.now parent.now }
+    ensures gains { GainsKids bodies.now parent.now listing.old listing.new }
+    ensures gap { IfOk result (λ gap. IfSome gap (λ child. IsKid bodies.now parent.now child × (body_of bodies.now child ≡ None))) }
+    ensures all { IfOk result (λ gap. IfNone gap ((kid : Name) → IsKid bodies.now parent.now kid → Contains listing.new kid)) }
+{
+    let Some(entry) = bodies.get(parent) else {
+        unreachable!()
+    };
+    list_held(bodies, listing, entry.kids.as_slice())
+}
+
+/// A kid that is not held of a name that is reached from the root and held, or none where the root is closed.
+pub fn find_gap(
+    alloc: Global,
+    bodies: &HeldBodies,
+    root: &Name,
+) -> Result<Option<(Name, Name)>, Memory>
+    requires { IsHeld bodies.now root.now }
+    ensures closed { IfOk result (λ gap. IfNone gap (IsClosed bodies.now root.now)) }
+    ensures open { IfOk result (λ gap. IfSome gap (λ pair. IsGap bodies.now root.now pair.0 pair.1)) }
+{
+    let mut listing = Listing::new(alloc);
+    listing.add(*root)?;
+    for place in 0..usize::MAX {
+        let Some(parent) = listing.get(place) else {
+            return Ok(None);
+        };
+        if let Some(child) = list_kids(bodies, &mut listing, &parent)? {
+            return Ok(Some((parent, child)));
+        }
+    }
+    listing.bound();
+    unreachable!()
+}

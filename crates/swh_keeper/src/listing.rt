@@ -1,0 +1,71 @@
+//! Names in the order in which they were met, each once.
+use std::alloc::Global;
+use std::collections::HashSet;
+use std::marker::Model;
+use swh_base::{Memory, Name};
+
+use crate::bodies::key_of;
+
+/// Contracts see the list of the names.
+#[derive(Drop)]
+pub struct Listing {
+    names: Vec<Name>,
+    seen: HashSet<[u8; 21]>,
+}
+
+impl Model for Listing {
+    ghost use Rattle.std.specs.Prelude.{List};
+    ghost use Rattle.swh_base.specs.declared.name.Name.{Name};
+    ghost use Rattle.swh_keeper.specs.Walk.{IsSeen};
+
+    ghost Value = { List Name };
+
+    ghost view = { λ l. l.names.items };
+
+    ghost invariant = { λ l. IsSeen l.seen l.names.items };
+}
+
+impl Listing {
+    ghost use Rattle.std.specs.Prelude.{◌≡◌, ◌<◌, ◌≤◌, ◌^◌, [], Contains, MatchOption, OnOk, OnErr, length, slice_get, Some};
+    ghost use Rattle.swh_keeper.specs.Walk.{MayGain};
+
+    pub fn new(alloc: Global) -> Listing
+        ensures { result ≡ [] }
+    {
+        Listing {
+            names: Vec::new(alloc),
+            seen: HashSet::new(alloc),
+        }
+    }
+
+    /// Adds a name at the end, unless it is there.
+    pub fn add(&mut self, name: Name) -> Result<(), Memory>
+        ensures gains { MayGain self.old self.new name }
+        ensures there { OnOk result (Contains self.new name) }
+    {
+        let key = key_of(&name);
+        if self.seen.contains(&key) {
+            return Ok(());
+        }
+        self.names.reserve(1)?;
+        self.seen.insert(key)?;
+        match self.names.push(name) {
+            Ok(()) => Ok(()),
+            Err(_) => unreachable!(),
+        }
+    }
+
+    /// The name at a place.
+    pub fn get(&self, place: usize) -> Option<Name>
+        ensures { MatchOption result (length self.now ≤ place) (λ name. slice_get self.now place ≡ Some name) }
+    {
+        self.names.get(place).copied()
+    }
+
+    /// Fewer names fit in memory.
+    pub fn bound(&self)
+        ensures { length self.now < 2 ^ 63 }
+    {
+        let _names = self.names.len();
+    }
+}

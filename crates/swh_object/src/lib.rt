@@ -1,0 +1,11 @@
+//! Objects: a body of its kind with its name and the names that it names.
+//! Stands on the readers of the manifests, `swh_dirfmt`, `swh_revfmt` and `swh_snpfmt`.
+//! Above it may rely on: an object's body is one of its kind, its children are those of its body, and its id is the namer's.
+#![tactic(auto)]
+
+mod fault;
+mod kids;
+mod object;
+
+pub use fault::ObjectFault;
+pub use object::Object;

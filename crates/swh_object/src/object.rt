@@ -1,0 +1,97 @@
+use crate::fault::ObjectFault;
+use crate::kids::kids_of;
+use std::alloc::Global;
+use std::marker::{Model, PhantomData};
+use swh_base::{Entry, Kind, Name, Namer, Shared};
+
+/// The most bytes that a body may have.
+const BODY_LIMIT: u64 = 67_108_864;
+
+/// An object that the namer `N` named. Contracts see its entry.
+#[derive(Drop)]
+pub struct Object<N: Namer> {
+    entry: Entry,
+    namer: PhantomData<N>,
+}
+
+impl<N: Namer> Model for Object<N> {
+    ghost use Rattle.swh_base.specs.declared.entry.Entry.{Entry};
+    ghost use Rattle.swh_object.specs.Object.{IsObject};
+
+    ghost Value = { Entry };
+
+    ghost view = { λ o. o.entry };
+
+    ghost invariant = { λ o. IsObject N.id_of o.entry };
+}
+
+impl<N: Namer> Object<N> {
+    ghost use Rattle.std.specs.Prelude.{◌≡◌, ◌≤◌, length, IfOk, IfErr, OnOk};
+    ghost use Rattle.swh_base.specs.Limits.{body_limit};
+    ghost use Rattle.swh_base.specs.Manifest.{AreKids, IsWellFormed};
+    ghost use Rattle.swh_object.specs.Object.{IsObject, IsMade, Explains};
+
+    /// The object of this kind and body.
+    pub fn make(
+        alloc: Global,
+        namer: &N,
+        kind: Kind,
+        body: Vec<u8>,
+    ) -> Result<Object<N>, ObjectFault>
+        ensures entry { IfOk result (λ o. (o.name.kind ≡ kind) × (o.body ≡ body.items)) }
+        ensures named { IfOk result (λ o. o.name.id ≡ N.id_of kind body.items) }
+        ensures kids { IfOk result (λ o. AreKids kind body.items o.kids) }
+        ensures short { OnOk result (length body.items ≤ body_limit) }
+
+        // A body above the limit is refused by its length, and else one that its kind's reader refuses by the reader's place.
+        ensures err { IfErr result (Explains kind body.items) }
+
+        // Any other makes an object, unless memory runs out.
+        ensures only { length body.items ≤ body_limit → IsWellFormed kind body.items → IsMade result }
+    {
+        let len = body.len() as u64;
+        if len > BODY_LIMIT {
+            return Err(ObjectFault::TooLong { len });
+        }
+        let kids = kids_of(alloc, kind, &body)?;
+        let id = namer.id(kind, &body);
+        let entry = Entry {
+            name: Name { kind, id },
+            body: Shared::from_vec(body)?,
+            kids: Shared::from_vec(kids)?,
+        };
+        Ok(Object {
+            entry,
+            namer: PhantomData,
+        })
+    }
+
+    pub fn name(&self) -> Name
+        ensures name { result ≡ self.now.name }
+        ensures good { IsObject N.id_of self.now }
+    {
+        self.entry.name
+    }
+
+    pub fn body(&self) -> &[u8]
+        ensures { result.now ≡ self.now.body }
+    {
+        self.entry.body.as_slice()
+    }
+
+    /// The names that the body names, in its order.
+    pub fn children(&self) -> &[Name]
+        ensures { result.now ≡ self.now.kids }
+    {
+        self.entry.kids.as_slice()
+    }
+
+    /// The entry of the object. Its body and its children are not copied.
+    pub fn into_entry(self) -> Entry
+        ensures entry { result ≡ self }
+        ensures good { IsObject N.id_of self }
+    {
+        let Object { entry, namer: _ } = self;
+        entry
+    }
+}

@@ -1,0 +1,14 @@
+//! Revision and release manifests (git objects, commit and tag): read into their parts, and written again, byte for byte.
+//! Stands on `swh_base`, whose grammars of revisions and releases it reads and writes.
+//! Above it may rely on: exactly the grammars are read, and a refusal tells how far the bytes go that some body continues.
+#![tactic(auto)]
+
+mod fault;
+mod line;
+mod place;
+mod release;
+mod revision;
+
+pub use fault::{BadRel, BadRev, ReadRelFault, ReadRevFault, one_fault};
+pub use release::{Rel, read_rel, write_rel};
+pub use revision::{Rev, read_rev, write_rev};

@@ -1,0 +1,47 @@
+//! How far bytes go that some line begins with.
+
+ghost use Rattle.std.specs.Prelude.{◌≡◌};
+ghost use Rattle.swh_base.specs.Name.{is_lower_hex_digit};
+ghost use Rattle.swh_revfmt.specs.Reading.{NotLine, IsCommonFront, IsDigitsFront, IsLinePlace};
+
+/// How many bytes at the front are those of a line.
+pub fn common_front(line: &[u8], bytes: &[u8]) -> usize
+    ensures { IsCommonFront line.now bytes.now result }
+{
+    for (i, byte) in bytes.iter().enumerate() {
+        if i == line.len() || line[i] != *byte {
+            return i;
+        }
+    }
+    bytes.len()
+}
+
+fn is_lower_hex_digit(c: u8) -> bool
+    ensures { result ≡ is_lower_hex_digit c }
+{
+    matches!(c, b'0'..=b'9' | b'a'..=b'f')
+}
+
+/// How many bytes at the front are digits of an id.
+fn digits_front(bytes: &[u8]) -> usize
+    ensures { IsDigitsFront bytes.now result }
+{
+    for (i, byte) in bytes.iter().enumerate() {
+        if i == 40 || !is_lower_hex_digit(*byte) {
+            return i;
+        }
+    }
+    bytes.len()
+}
+
+/// How many bytes go as a line of this word and an id, where they begin with no whole one.
+pub fn line_place(word: &[u8], bytes: &[u8]) -> usize
+    requires { NotLine word.now bytes.now }
+    ensures { IsLinePlace word.now bytes.now result }
+{
+    let common = common_front(word, bytes);
+    if common < word.len() {
+        return common;
+    }
+    common + digits_front(&bytes[common..])
+}

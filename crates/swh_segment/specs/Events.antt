@@ -1,0 +1,54 @@
+-- Events as they stand in the two files: each a record of the ledger and, for a batch, a run of the store.
+use Rattle.std.specs.Prelude.{◌≡◌, ◌⊎◌, ℕ, List, [], ◌∷◌, ◌++◌, length, Option, Some, None}
+use Rattle.swh_outside.specs.Disk.{Call, Write, Sync, IsAtRest}
+use Rattle.swh_outside.specs.Files.{Files, FileCall, Images, on}
+use Rattle.swh_segment.specs.Record.{Record, Stands, IsReady, IsSettled, append_calls}
+
+pub record Event : Type 0 where
+  pub entry : Record
+  pub run : Option (List ℕ)
+
+abbrev pub bytes_of : Option (List ℕ) → List ℕ
+bytes_of None = []
+bytes_of (Some bytes) = bytes
+
+abbrev pub records : List Event → List Record
+records [] = []
+records (e ∷ h) = e.entry ∷ records h
+
+abbrev pub runs : List Event → List ℕ
+runs [] = []
+runs (e ∷ h) = bytes_of e.run ++ runs h
+
+-- Two files stand for a history: the ledger for its records, and the store begins with its runs.
+pub record FilesStand (images : Images) (h : List Event) : Type 0 where
+  pub ledger : Stands (images 0) (records h)
+  pub rest : List ℕ
+  pub store_begins : images 1 ≡ runs h ++ rest
+
+abbrev pub with_or_without_event : List Event → Event → Images → Type 0
+with_or_without_event h e images = FilesStand images h ⊎ FilesStand images (h ++ e ∷ [])
+
+-- The two files stand for the history, with nothing written since a barrier, and their ends are there.
+pub record AreSettled (files : Files) (h : List Event) (store_end end : ℕ) : Type 0 where
+  pub ledger : IsSettled (files 0) (records h) end
+  pub store : IsAtRest (files 1)
+  pub rest : List ℕ
+  pub begins : (files 1).seen ≡ runs h ++ rest
+  pub store_end_is : length (runs h) ≡ store_end
+
+-- The device calls for a run: one write, left out where it is empty, and a barrier; none where there is no run.
+abbrev pub run_calls : ℕ → Option (List ℕ) → List Call
+run_calls at None = []
+run_calls at (Some []) = Sync ∷ []
+run_calls at (Some (b ∷ bytes)) = Write at (b ∷ bytes) ∷ Sync ∷ []
+
+-- The device calls that add an event: its run, then its record behind the closed gate with the next gate, and then
+-- its gate, each with a barrier behind it.
+abbrev pub event_calls : ℕ → Option (List ℕ) → ℕ → List ℕ → List FileCall
+event_calls store_end run end bytes = on 1 (run_calls store_end run) ++ on 0 (append_calls end bytes)
+
+-- what is written for an event: its run and its record
+pub record IsWritten (run : Option (List ℕ)) (bytes : List ℕ) (e : Event) : Type 0 where
+  pub run_is : run ≡ e.run
+  pub entry : IsReady bytes e.entry

@@ -1,0 +1,8 @@
+-- Reads that go on until a buffer is full or the file ends.
+use Rattle.std.specs.Prelude.{◌≡◌, ◌-◌, ◌≤◌, ◌<◌, ℕ, List, length, take, drop}
+
+-- the first n bytes of the buffer are what stands from a place on, and there are more in it only where the file ends
+pub record IsFilled (seen : List ℕ) (at : ℕ) (out : List ℕ) (n : ℕ) : Type 0 where
+  pub bytes : take n out ≡ take n (drop at seen)
+  pub in_file : n ≤ length seen - at
+  pub full : n < length out → n ≡ length seen - at
