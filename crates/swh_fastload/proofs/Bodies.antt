@@ -2,8 +2,8 @@
 use Rattle.std.proofs.Common.{◌≡◌, ℕ, List, [], ◌∷◌, ◌++◌, length, refl, sym, ap, ◌∙◌, codes, append_assoc, decimal}
 use Rattle.std.specs.Fmt.{digits}
 use Rattle.std.proofs.lemmas.List.{append-nil}
-use Rattle.swh_base.specs.Revision.{revision_text, id_line}
-use Rattle.swh_base.specs.Snapshot.{SnapshotBranch, branch_text, snapshot_text}
+use Rattle.swh_base.specs.Revision.{id_line}
+use Rattle.swh_base.specs.Snapshot.{branch_text, snapshot_text}
 use Rattle.swh_model.specs.SmallStream.{Commit, line}
 use Rattle.swh_model.specs.Meaning.{revision, branch_to}
 

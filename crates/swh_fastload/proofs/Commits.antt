@@ -1,24 +1,23 @@
 -- What a commit of files in one folder makes.
-use Rattle.std.proofs.Common.{◌≡◌, ◌≢◌, ℕ, zero, suc, ◌+◌, ◌<◌, ◌≤◌, true, false, List, [], ◌∷◌, ◌++◌, length, map, Contains, Option, Some, None, refl, sym, ap, ◌∙◌, subst, arith, codes, append_assoc}
-use Rattle.std.specs.List.{AllByRecursion, flat_map}
+use Rattle.std.proofs.Common.{◌≡◌, ◌≢◌, ℕ, ◌<◌, ◌≤◌, List, [], ◌∷◌, ◌++◌, length, map, Some, None, refl, sym, ap, ◌∙◌, subst, arith, codes, append_assoc}
+use Rattle.std.specs.List.{flat_map}
 use Rattle.std.specs.Borrow.{Bor}
 use Rattle.swh_base.specs.declared.kind.Kind.{Kind}
-use Rattle.swh_base.specs.declared.kind.Kind.TheVariants.{Content, Directory, Revision, Release, Snapshot}
-use Rattle.swh_base.specs.declared.name.Name.{Name}
+use Rattle.swh_base.specs.declared.kind.Kind.TheVariants.{Directory, Revision, Snapshot}
 use Rattle.swh_base.specs.Limits.{body_limit}
 use Rattle.swh_base.specs.Text.{is_ref_byte, IsRef}
 use Rattle.swh_base.specs.Name.{IsId}
 use Rattle.swh_base.specs.Directory.{directory_text, kids_of}
-use Rattle.swh_base.specs.Revision.{Revision as RevisionParts, revision_text, revision_kids, parent_line, BeginsParent, IsRevision}
-use Rattle.swh_base.specs.Snapshot.{SnapshotBranch, snapshot_text, branch_kid, IsSnapshot, IsBranch, AreBranches}
+use Rattle.swh_base.specs.Revision.{Revision as RevisionParts, revision_kids, BeginsParent}
+use Rattle.swh_base.specs.Snapshot.{snapshot_text, branch_kid, AreBranches}
 use Rattle.std.specs.List.{filter_map}
 use Rattle.swh_base.specs.Manifest.{IsWellFormed}
-use Rattle.swh_model.specs.PathMap.{PathMap, directory_of, directory_bodies}
+use Rattle.swh_model.specs.PathMap.{PathMap, directory_of}
 use Rattle.swh_model.specs.SmallStream.{Commit, line}
 use Rattle.swh_model.specs.Meaning.{Made, directory, revision, branch_to, tip, commit_makes, tree_after, AreWithinLimit}
 use Rattle.swh_fastload.specs.declared.load.Tip.{Tip}
-use Rattle.swh_fastload.specs.Tree.{tree_of, file_text, IsFile, IsFolder}
-use Rattle.swh_fastload.specs.Making.{AreIds, AreTips, branches_of, AddsCommit, IsCommitLeftOut}
+use Rattle.swh_fastload.specs.Tree.{tree_of, file_text, IsFolder}
+use Rattle.swh_fastload.specs.Making.{AddsCommit, IsCommitLeftOut}
 use Rattle.swh_fastload.proofs.Folders.{bodies-files, text-files, directory_from, flat_of_files}
 use Rattle.swh_fastload.proofs.Numbers.{passes_not}
 
@@ -104,10 +103,12 @@ commit_added id marks c files root_body root body old mid new t h e b r v small 
     let text = flat_map file_text (tree_of files) in
     let same : body ≡ (revision (id Directory text) c).body = v ∙ ap (λ (x : List ℕ). (revision x c).body) (r ∙ ap (id Directory) b) in
     let both : directory root_body ∷ record { kind = Revision; body = body } ∷ [] ≡ commit_makes id c (tree_of files) =
-        ap (λ (x : List ℕ). let d : Made = record { kind = Revision; body = body } in directory x ∷ d ∷ []) b ∙ ap (λ (x : List ℕ). let d : Made = record { kind = Revision; body = x } in directory text ∷ d ∷ []) same ∙ sym (makes-flat id c files h) in record {
+    ap (λ (x : List ℕ). let d : Made = record { kind = Revision; body = body } in directory x ∷ d ∷ []) b ∙ ap (λ (x : List ℕ). let d : Made = record { kind = Revision; body = x } in directory text ∷ d ∷ []) same ∙ sym (makes-flat id c files h) in record {
       tree = tree_of files;
       of_changes = e;
-      root = root_body; last = body; plain = sym both;
+      root = root_body;
+      last = body;
+      plain = sym both;
       added = n ∙ ap (λ (x : List Made). x ++ record { kind = Revision; body = body } ∷ []) m ∙ append_assoc old (directory root_body ∷ []) (record { kind = Revision; body = body } ∷ []) ∙ ap (λ (x : List Made). old ++ x) both;
       within = subst AreWithinLimit both (small, (short, tt));
       ends = ap (λ (x : List ℕ). branch_to x t.revision) branch ∙ ap (branch_to c.branch) (is ∙ ap (id Revision) same) ∙ sym (tip-flat id c files h);

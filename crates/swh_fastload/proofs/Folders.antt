@@ -1,10 +1,9 @@
 -- The directory of a tree of files in one folder.
-use Rattle.std.proofs.Common.{◌≡◌, ◌≢◌, ℕ, zero, suc, ◌+◌, ◌<◌, Bool, true, false, ◌==◌, cond, List, [], ◌∷◌, ◌++◌, length, map, Contains, Option, Some, None, refl, sym, ap, ◌∙◌, subst, arith, decimal, codes, inl}
+use Rattle.std.proofs.Common.{◌≡◌, ◌≢◌, ℕ, suc, Bool, true, false, ◌==◌, cond, List, [], ◌∷◌, ◌++◌, length, map, Contains, Option, Some, refl, sym, ap, ◌∙◌, arith, inl}
 use Rattle.std.specs.Prelude.{if◌then◌else◌}
 use Rattle.std.specs.Ordering.{nat_cmp, is_eq, ordering_reverse}
 use Rattle.std.specs.declared.cmp.Ordering.{Ordering}
 use Rattle.std.specs.declared.cmp.Ordering.TheVariants.{Less, Equal, Greater}
-use Rattle.std.specs.Cmp.{IsTotalOrder}
 use Rattle.std.specs.Cmp.Lexicographic.{slice_cmp, nat_list_cmp_total}
 use Rattle.std.specs.List.{AllByRecursion, flat_map}
 use Rattle.std.specs.List.Sorted.{IsStrictlySortedBy}
@@ -15,12 +14,10 @@ use Rattle.std.proofs.lemmas.Bool.{eqb-true}
 use Rattle.std.specs.Prelude.{sum_by}
 use Rattle.swh_base.specs.Directory.{IsDirectory}
 use Rattle.swh_model.specs.SmallStream.{IsFileName}
-use Rattle.swh_base.specs.Directory.{Entry, suffix_of, sort_key, entry_text, directory_text, IsEntryName, IsEntry, IsBefore, AreEntries}
-use Rattle.swh_base.specs.Name.{IsId}
-use Rattle.swh_model.specs.PathMap.{Leaf, PathMap, same_path, leaf_at, first_component, below, entry_at, insert_by, insert, ordered, entries_of, bodies_of, depth_of, directory_of, directory_bodies}
+use Rattle.swh_base.specs.Directory.{Entry, sort_key, entry_text, directory_text, IsEntryName, IsBefore, AreEntries}
+use Rattle.swh_model.specs.PathMap.{Leaf, PathMap, leaf_at, first_component, below, entry_at, insert_by, insert, ordered, entries_of, bodies_of, directory_of, directory_bodies}
 use Rattle.swh_fastload.specs.Tree.{tree_of, file_text, IsFile, Ascends}
 use Rattle.swh_fastload.proofs.Trees.{AreFlat}
-use Rattle.swh_fastload.proofs.Cuts.{in_middle}
 
 Files : Type 0
 Files = List (Bor (List ℕ) × List ℕ)
@@ -59,6 +56,7 @@ first-flat (c ∷ path) none = by_test (c == 47) refl (first-flat path none_afte
   where
     none_after : Contains path 47 → ⊥
     none_after h = let l = h.1 in none (suc h.0, omega (arith, l), h.2)
+
     by_test : (b : Bool) → (c == 47) ≡ b → first_component path ≡ path → cond b [] (c ∷ first_component path) ≡ c ∷ path
     by_test true e h = absurd (none (0, omega arith, eqb-true c 47 e))
     by_test false e h = ap (λ (t : List ℕ). c ∷ t) h
@@ -86,7 +84,7 @@ unfolding FindsAll leaf_entry
 entries_each id depth m [] flat h = refl
 entries_each id depth m (e ∷ es) flat h =
     let first : entry_at id (first_component e.0) (leaf_at (first_component e.0) m) (entries_of id depth (below (first_component e.0) m)) ≡ leaf_entry e =
-        ap (λ (p : List ℕ). entry_at id p (leaf_at p m) (entries_of id depth (below p m))) (first-flat e.0 flat.0) ∙ ap (λ (o : Option Leaf). entry_at id e.0 o (entries_of id depth (below e.0 m))) h.0 in
+    ap (λ (p : List ℕ). entry_at id p (leaf_at p m) (entries_of id depth (below p m))) (first-flat e.0 flat.0) ∙ ap (λ (o : Option Leaf). entry_at id e.0 o (entries_of id depth (below e.0 m))) h.0 in
     ap (λ (x : Entry). x ∷ map (λ e. entry_at id (first_component e.0) (leaf_at (first_component e.0) m) (entries_of id depth (below (first_component e.0) m))) es) first ∙ ap (λ (t : List Entry). leaf_entry e ∷ t) (entries_each id depth m es flat.1 h.1)
 
 pub file_entry : Bor (List ℕ) × List ℕ → Entry

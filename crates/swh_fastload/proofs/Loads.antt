@@ -1,22 +1,21 @@
 -- A stream that is loaded means what was made.
-use Rattle.std.proofs.Common.{◌≡◌, ◌≢◌, ℕ, zero, suc, ◌+◌, ◌<◌, ◌≤◌, Bool, true, false, not, ◌&&◌, ◌||◌, ◌==◌, cond, List, [], ◌∷◌, ◌++◌, length, map, Option, Some, None, refl, sym, ap, ◌∙◌, subst, arith, append_assoc}
+use Rattle.std.proofs.Common.{◌≡◌, ℕ, ◌<◌, ◌≤◌, Bool, true, false, not, ◌&&◌, ◌||◌, ◌==◌, cond, List, [], ◌∷◌, ◌++◌, length, map, Option, Some, None, refl, sym, ap, ◌∙◌, subst, arith, append_assoc}
 use Rattle.std.specs.Prelude.{filter, option_and_then}
 use Rattle.std.specs.Ordering.{nat_cmp, is_eq}
 use Rattle.std.specs.Cmp.Lexicographic.{slice_cmp}
 use Rattle.std.specs.List.{AllByRecursion, list_any}
-use Rattle.std.specs.Option.{option_map}
 use Rattle.swh_base.specs.declared.kind.Kind.{Kind}
-use Rattle.swh_base.specs.declared.kind.Kind.TheVariants.{Content, Directory, Revision, Release, Snapshot}
+use Rattle.swh_base.specs.declared.kind.Kind.TheVariants.{Revision, Snapshot}
 use Rattle.swh_base.specs.Limits.{body_limit}
 use Rattle.swh_base.specs.Text.{IsRef}
-use Rattle.swh_base.specs.Name.{IsId, kind_number}
+use Rattle.swh_base.specs.Name.{kind_number}
 use Rattle.swh_base.specs.Manifest.{IsWellFormed}
 use Rattle.swh_base.specs.Snapshot.{SnapshotBranch, snapshot_text}
 use Rattle.swh_model.specs.PathMap.{PathMap}
 use Rattle.swh_model.specs.SmallStream.{Blob, Change, Commit, SmallStream, IsFileName, AreChanges, Reads, Parses}
 use Rattle.swh_model.specs.Meaning.{Made, same_made, once, Making, Marks, marks_after, tree_after, content, directory, snapshot, branch_to, tip, commit_makes, making, makes, AreWithinLimit, IsMeaning, IsLeftOut}
 use Rattle.swh_fastload.specs.declared.load.Tip.{Tip}
-use Rattle.swh_fastload.specs.Making.{with_made, AreShort, AreTips, branches_of, IsGoodCommit, IsGoodTip, AddsCommit, AddsTip, IsCommitLeftOut, IsTipLeftOut}
+use Rattle.swh_fastload.specs.Making.{AreShort, AreTips, branches_of, IsGoodTip, AddsTip, IsTipLeftOut}
 use Rattle.swh_fastload.proofs.Readings.{one_reading_lem}
 use Rattle.swh_fastload.proofs.Leads.{same_stream}
 use Rattle.swh_fastload.proofs.Onces.{same_is, once_more, with_new}
@@ -130,8 +129,8 @@ pub loaded_makes : (id : Kind → List ℕ → List ℕ) (blobs : List Blob) (ma
 unfolding contents snapshot_made revision_made
 loaded_makes id blobs marks None None mid new objects body sid h =
     sym (same_making objects (once (contents blobs ++ snapshot [] ∷ [])) sid (id Snapshot (snapshot_text []))
-        (h.added ∙ ap (λ (x : List Made). x ++ snapshot_made body ∷ []) (h.adds ∙ h.contents_are) ∙ sym (once_empty blobs body) ∙ ap (λ (x : List ℕ). once (contents blobs ++ snapshot_made x ∷ [])) h.body_is)
-        (h.id_is ∙ ap (id Snapshot) h.body_is))
+    (h.added ∙ ap (λ (x : List Made). x ++ snapshot_made body ∷ []) (h.adds ∙ h.contents_are) ∙ sym (once_empty blobs body) ∙ ap (λ (x : List ℕ). once (contents blobs ++ snapshot_made x ∷ [])) h.body_is)
+    (h.id_is ∙ ap (id Snapshot) h.body_is))
 loaded_makes id blobs marks None (Some t) mid new objects body sid h = absurd h.adds
 loaded_makes id blobs marks (Some c) None mid new objects body sid h = absurd h.adds
 loaded_makes id blobs marks (Some c) (Some t) mid new objects body sid h =
@@ -141,10 +140,10 @@ loaded_makes id blobs marks (Some c) (Some t) mid new objects body sid h =
     let parts : List Made = directory a.root ∷ revision_made a.last ∷ [] in
     ap (option_and_then (λ (tree : PathMap). Some (making id (map (λ b. content b.bytes) blobs ++ commit_makes id c tree) (tip id c tree ∷ [])))) found
     ∙ sym (same_making objects (once ((contents blobs ++ commit_makes id c a.tree) ++ snapshot (tip id c a.tree ∷ []) ∷ [])) sid (id Snapshot (snapshot_text (tip id c a.tree ∷ [])))
-        (h.added ∙ ap (λ (x : List Made). x ++ snapshot_made body ∷ []) (a.added ∙ ap (λ (x : List Made). x ++ commit_makes id c a.tree) h.contents_are ∙ ap (λ (x : List Made). once (contents blobs) ++ x) a.plain)
-            ∙ sym (once_commit blobs a.root a.last body) ∙ ap (λ (x : List ℕ). once ((contents blobs ++ parts) ++ snapshot_made x ∷ [])) text
-            ∙ ap (λ (x : List Made). once ((contents blobs ++ x) ++ snapshot (tip id c a.tree ∷ []) ∷ [])) (sym a.plain))
-        (h.id_is ∙ ap (id Snapshot) text))
+    (h.added ∙ ap (λ (x : List Made). x ++ snapshot_made body ∷ []) (a.added ∙ ap (λ (x : List Made). x ++ commit_makes id c a.tree) h.contents_are ∙ ap (λ (x : List Made). once (contents blobs) ++ x) a.plain)
+    ∙ sym (once_commit blobs a.root a.last body) ∙ ap (λ (x : List ℕ). once ((contents blobs ++ parts) ++ snapshot_made x ∷ [])) text
+    ∙ ap (λ (x : List Made). once ((contents blobs ++ x) ++ snapshot (tip id c a.tree ∷ []) ∷ [])) (sym a.plain))
+    (h.id_is ∙ ap (id Snapshot) text))
 
 within_mid : (id : Kind → List ℕ → List ℕ) (marks : Marks) (commit : Option Commit) (t : Option Tip) (mid new : List Made) → AreWithinLimit mid → AddsTip id marks commit mid t new → AreWithinLimit new
 within_mid id marks None None mid new w a = subst AreWithinLimit (sym a) w
@@ -161,7 +160,8 @@ loaded_within id blobs marks commit t mid new objects body sid h =
 
 pub loaded_means : (id : Kind → List ℕ → List ℕ) (text : List ℕ) (stream : SmallStream) (marks : Marks) (t : Option Tip) (mid new objects : List Made) (body sid : List ℕ) → Parses text stream → IsLoaded id stream.blobs marks stream.commit t mid new objects body sid → IsMeaning id text (record { objects = objects; snapshot = sid })
 loaded_means id text stream marks t mid new objects body sid p h = record {
-  stream = stream; parses = p;
+  stream = stream;
+  parses = p;
   makes_it = loaded_makes id stream.blobs marks stream.commit t mid new objects body sid h;
   within = loaded_within id stream.blobs marks stream.commit t mid new objects body sid h;
 }
@@ -244,3 +244,9 @@ snapshot_is id marks None None mid new body g a e = empty_good body e
 snapshot_is id marks None (Some t) mid new body g a e = absurd a
 snapshot_is id marks (Some c) None mid new body g a e = absurd a
 snapshot_is id marks (Some c) (Some t) mid new body g a e = snapshot_good t.branch.now t.revision body (subst IsRef (sym (branch_name id c a.tree t.branch.now t.revision a.ends)) g.branch) a.good e
+
+pub one_meaning_lem : (id : Kind → List ℕ → List ℕ) (text : List ℕ) (m n : Making) → IsMeaning id text m → IsMeaning id text n → m ≡ n
+one_meaning_lem id text m n h k =
+    let same = same_parse text h.stream k.stream h.parses k.parses in
+    let both : Some m ≡ Some n = sym h.makes_it ∙ ap (λ (s : SmallStream). makes id s.blobs s.commit) same ∙ k.makes_it in
+    cc

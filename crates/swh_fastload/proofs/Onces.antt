@@ -1,10 +1,10 @@
 -- Objects that are made once, and the contents among them.
-use Rattle.std.proofs.Common.{◌≡◌, ◌≢◌, ℕ, zero, suc, ◌+◌, ◌<◌, ◌≤◌, Bool, true, false, not, ◌||◌, ◌&&◌, ◌==◌, cond, List, [], ◌∷◌, ◌++◌, length, map, get_or, drop, take, Option, Some, None, refl, sym, ap, ◌∙◌, subst, arith, add-one}
+use Rattle.std.proofs.Common.{◌≡◌, ℕ, zero, suc, ◌+◌, ◌<◌, ◌≤◌, Bool, true, false, not, ◌||◌, ◌&&◌, ◌==◌, cond, List, [], ◌∷◌, ◌++◌, length, map, get_or, drop, take, Option, Some, None, refl, sym, ap, ◌∙◌, subst, arith, add-one}
 use Rattle.std.specs.Prelude.{filter, if◌then◌else◌}
 use Rattle.std.specs.Ordering.{nat_cmp, is_eq, match_ordering}
 use Rattle.std.specs.declared.cmp.Ordering.{Ordering}
 use Rattle.std.specs.declared.cmp.Ordering.TheVariants.{Less, Equal, Greater}
-use Rattle.std.specs.Cmp.Lexicographic.{slice_cmp, nat_list_cmp_total}
+use Rattle.std.specs.Cmp.Lexicographic.{slice_cmp}
 use Rattle.std.specs.FinMap.{nat_cmp-IsAntisymmetric, slice_cmp-IsAntisymmetric}
 use Rattle.std.specs.List.{AllByRecursion, list_any}
 use Rattle.std.specs.Borrow.{Bor}
@@ -19,14 +19,12 @@ use Rattle.swh_base.specs.Limits.{body_limit}
 use Rattle.swh_fastload.specs.declared.stream.Blob.{Blob as HeldBlob}
 use Rattle.swh_fastload.specs.View.{blob_view}
 use Rattle.swh_base.specs.declared.kind.Kind.{Kind}
-use Rattle.swh_base.specs.declared.kind.Kind.TheVariants.{Content, Directory, Revision, Release, Snapshot}
-use Rattle.swh_base.specs.declared.entry.Entry.{Entry}
+use Rattle.swh_base.specs.declared.kind.Kind.TheVariants.{Content}
 use Rattle.swh_base.specs.Name.{IsByte, IsId, kind_number, name_key-injective}
 use Rattle.swh_base.specs.declared.name.Name.{Name}
 use Rattle.swh_fastload.proofs.Folders.{same_self}
-use Rattle.swh_model.specs.SmallStream.{Blob}
 use Rattle.swh_model.specs.Meaning.{Made, same_made, once, content, marks_after}
-use Rattle.swh_fastload.specs.Making.{made_of, made, with_made, content_id, KnowsContents, AreShort, AreIds}
+use Rattle.swh_fastload.specs.Making.{with_made, content_id, KnowsContents, AreShort, AreIds}
 
 pub are_bytes : (xs : List ℕ) → ((i : ℕ) → get_or xs i 0 < 256) → AllByRecursion IsByte xs
 are_bytes [] h = tt
@@ -57,14 +55,18 @@ module _ {X : Type 0} (same : X → X → Bool) where
     where
       keep : X → Bool
       keep n = not (same x n)
+
       kept : List X
       kept = once_by xs
+
       by_any : (b : Bool) → same x m ≡ false → list_any (λ n. same n m) kept ≡ b → x ∷ filter (λ n. not (same x n)) (cond b kept (kept ++ m ∷ [])) ≡ cond b (x ∷ filter (λ n. not (same x n)) kept) ((x ∷ filter (λ n. not (same x n)) kept) ++ m ∷ [])
       by_any true e a = refl
       by_any false e a = ap (λ (t : List X). x ∷ t) (filter-append (λ n. not (same x n)) kept (m ∷ []) ∙ ap (λ (b : Bool). filter (λ n. not (same x n)) kept ++ cond (not b) (m ∷ []) []) e)
+
       same_filter : (b : Bool) → same x m ≡ true → filter (λ n. not (same x n)) (cond b kept (kept ++ m ∷ [])) ≡ filter (λ n. not (same x n)) kept
       same_filter true e = refl
       same_filter false e = filter-append (λ n. not (same x n)) kept (m ∷ []) ∙ ap (λ (b : Bool). filter (λ n. not (same x n)) kept ++ cond (not b) (m ∷ []) []) e ∙ append-nil (filter (λ n. not (same x n)) kept)
+
       by_test : (b : Bool) → same x m ≡ b → x ∷ filter (λ n. not (same x n)) (with_by kept m) ≡ cond (b || list_any (λ n. same n m) (filter (λ n. not (same x n)) kept)) (x ∷ filter (λ n. not (same x n)) kept) ((x ∷ filter (λ n. not (same x n)) kept) ++ m ∷ [])
       by_test true e = ap (λ (t : List X). x ∷ t) (same_filter (list_any (λ n. same n m) kept) e)
       by_test false e = by_any (list_any (λ n. same n m) kept) e refl ∙ ap (λ (b : Bool). cond b (x ∷ filter (λ n. not (same x n)) kept) ((x ∷ filter (λ n. not (same x n)) kept) ++ m ∷ [])) (sym (any_filter x m kept e (λ n t. left x m n t)))
@@ -146,9 +148,11 @@ knows_more id ms seen new key h fresh updates bytes =
     either : (a : Bool) → a || true ≡ true
     either true = refl
     either false = refl
+
     neither : (a : Bool) → a || false ≡ a
     neither true = refl
     neither false = refl
+
     by_test : (b : Bool) → is_eq (slice_cmp nat_cmp key.now bytes) ≡ b → cond b (Some (id Content key.now)) (content_id id ms bytes) ≡ cond (list_any (λ n. same_made n (content bytes)) ms || (is_eq (slice_cmp nat_cmp key.now bytes) || false)) (Some (id Content bytes)) None
     by_test true e =
         ap (λ (t : List ℕ). Some (id Content t)) (same_bytes key.now bytes e)
@@ -196,5 +200,5 @@ pub contents_step : (all : List HeldBlob) (i : ℕ) (d : HeldBlob) (old new : Li
 contents_step all i d old new l h e =
     e ∙ ap (λ (t : List Made). with_made t (content (get_or all i d).bytes.now)) h ∙ sym (once_more (map (λ b. content b.bytes) (map blob_view (take i all))) (content (get_or all i d).bytes.now))
     ∙ ap once (sym (ap (λ (t : List HeldBlob). map (λ b. content b.bytes) (map blob_view t)) (take_more all i d l)
-        ∙ ap (map (λ b. content b.bytes)) (map-append blob_view (take i all) (get_or all i d ∷ []))
-        ∙ map-append (λ b. content b.bytes) (map blob_view (take i all)) (blob_view (get_or all i d) ∷ [])))
+    ∙ ap (map (λ b. content b.bytes)) (map-append blob_view (take i all) (get_or all i d ∷ []))
+    ∙ map-append (λ b. content b.bytes) (map blob_view (take i all)) (blob_view (get_or all i d) ∷ [])))

@@ -1,11 +1,11 @@
 -- Trees of files in one folder.
-use Rattle.std.proofs.Common.{◌≡◌, ◌≢◌, ℕ, zero, suc, ◌+◌, ◌<◌, ◌≤◌, Bool, true, false, not, ◌||◌, ◌==◌, nat_eq, cond, List, [], ◌∷◌, ◌++◌, length, map, drop, Contains, Option, Some, None, refl, sym, ap, ◌∙◌, subst, arith}
-use Rattle.std.specs.Prelude.{filter, option_and_then}
+use Rattle.std.proofs.Common.{◌≡◌, ℕ, zero, suc, ◌+◌, ◌<◌, Bool, true, false, not, ◌||◌, ◌==◌, cond, List, [], ◌∷◌, ◌++◌, length, map, drop, Contains, Option, Some, None, refl, sym, ap, ◌∙◌, subst, arith}
+use Rattle.std.specs.Prelude.{option_and_then}
 use Rattle.std.specs.Ordering.{nat_cmp, is_eq, match_ordering}
 use Rattle.std.specs.declared.cmp.Ordering.{Ordering}
 use Rattle.std.specs.declared.cmp.Ordering.TheVariants.{Less, Equal, Greater}
 use Rattle.std.specs.Cmp.Lexicographic.{slice_cmp}
-use Rattle.std.specs.List.{AllByRecursion, starts_with}
+use Rattle.std.specs.List.{AllByRecursion}
 use Rattle.std.specs.Borrow.{Bor}
 use Rattle.std.specs.BTreeMap.{insert_entry, is_at}
 use Rattle.std.specs.Map.{lookup}
@@ -121,7 +121,7 @@ files_step marks all i d files new id ids names l e found leads each =
     let same : tree_of new ≡ insert_entry (slice_cmp nat_cmp) (tree_of files) name.now leaf = ap tree_of e ∙ insert_tree files name id in
     let marks_it : marked marks (get_or all i d).mark ≡ Some id = marked-lookup marks (get_or all i d).mark ∙ sym found in record {
       leads = leads ∙ ap (tree_after marks (tree_of files)) (changes_left all i d l) ∙ tree_step marks (tree_of files) (change_view (get_or all i d)) (map change_view (drop (i + 1) all)) id marks_it
-        ∙ ap (λ (t : PathMap). tree_after marks t (map change_view (drop (i + 1) all))) (set-flat name.now leaf (tree_of files) named.no_slash (flat (tree_of files) each) ∙ sym same);
+          ∙ ap (λ (t : PathMap). tree_after marks t (map change_view (drop (i + 1) all))) (set-flat name.now leaf (tree_of files) named.no_slash (flat (tree_of files) each) ∙ sym same);
       each = subst (AllByRecursion IsFile) (sym same) (insert-files name.now leaf (tree_of files) named (found_id (is_at (nat_cmp (get_or all i d).mark)) marks id ids found) each);
     }
 

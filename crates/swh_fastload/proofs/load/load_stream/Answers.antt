@@ -1,10 +1,8 @@
-use Rattle.std.proofs.Common.{List, ap, ◌∙◌, map}
+use Rattle.std.proofs.Common.{map}
 use Rattle.std.specs.Option.{option_map}
 use Rattle.std.proofs.lemmas.Result.{err_from_is_err_and}
-use Rattle.swh_fastload.specs.declared.stream.Blob.{Blob as HeldBlob}
-use Rattle.swh_model.specs.Meaning.{content, marks_after, once}
 use Rattle.swh_fastload.specs.View.{blob_view, commit_view, stream_view}
-use Rattle.swh_fastload.specs.Making.{AreShort, made}
+use Rattle.swh_fastload.specs.Making.{made}
 use Rattle.swh_fastload.proofs.Leads.{refuses_then}
 use Rattle.swh_fastload.proofs.Loads.{parses_short, parses_good, left_out, tip_left_out, snapshot_left_out, snapshot_is, loaded_means}
 use Rattle.swh_fastload.proofs.load.load_stream.Goals as goal
@@ -20,8 +18,8 @@ returns-in_err-tip-clause-err g c =
     let marks = rw c.deref.ensures.value at c.in_ok-marks.ensures.marks in
     let p = err_from_is_err_and c.from_residual-in_err-tip.result c.from_residual-in_err-tip.ensures.1 in
     rw (p.1, p.2) (refuses_then _ _ c.in_err-tip.field-0.0
-        (λ h. left_out g.N.Namer.id_of c.args.text.now (stream_view c.in_ok-stream.stream) c.in_ok-stream.ensures.ok (tip_left_out g.N.Namer.id_of (map blob_view c.in_ok-stream.stream.blobs.items) c.in_ok-marks.marks.entries (option_map commit_view c.in_ok-stream.stream.commit) marks h))
-        c.in_err-tip.ensures.err)
+    (λ h. left_out g.N.Namer.id_of c.args.text.now (stream_view c.in_ok-stream.stream) c.in_ok-stream.ensures.ok (tip_left_out g.N.Namer.id_of (map blob_view c.in_ok-stream.stream.blobs.items) c.in_ok-marks.marks.entries (option_map commit_view c.in_ok-stream.stream.commit) marks h))
+    c.in_err-tip.ensures.err)
 
 pub add_object-requires-after_bounds : goal.add_object-requires-after_bounds
 add_object-requires-after_bounds g c κs within = snapshot_is g.N.Namer.id_of c.in_ok-marks.marks.entries (option_map commit_view c.in_ok-stream.stream.commit) c.in_ok-tip.tip (made c.add_contents.new.objects.items) (made c.add_tip.new.objects.items) c.in_ok-body.body.items
@@ -32,9 +30,9 @@ returns-in_err-snapshot-clause-err g c =
     let marks = rw c.deref.ensures.value at c.in_ok-marks.ensures.marks in
     let p = err_from_is_err_and c.from_residual-in_err-snapshot.result c.from_residual-in_err-snapshot.ensures.1 in
     rw (p.1, p.2) (refuses_then _ _ c.in_err-snapshot.field-0.0
-        (λ over. left_out g.N.Namer.id_of c.args.text.now (stream_view c.in_ok-stream.stream) c.in_ok-stream.ensures.ok
-            (snapshot_left_out g.N.Namer.id_of (map blob_view c.in_ok-stream.stream.blobs.items) c.in_ok-marks.marks.entries (option_map commit_view c.in_ok-stream.stream.commit) c.in_ok-tip.tip (made c.add_contents.new.objects.items) (made c.add_tip.new.objects.items) c.in_ok-body.body.items marks c.in_ok-tip.ensures.ok c.in_ok-body.ensures.ok over))
-        c.in_err-snapshot.ensures.err)
+    (λ over. left_out g.N.Namer.id_of c.args.text.now (stream_view c.in_ok-stream.stream) c.in_ok-stream.ensures.ok
+    (snapshot_left_out g.N.Namer.id_of (map blob_view c.in_ok-stream.stream.blobs.items) c.in_ok-marks.marks.entries (option_map commit_view c.in_ok-stream.stream.commit) c.in_ok-tip.tip (made c.add_contents.new.objects.items) (made c.add_tip.new.objects.items) c.in_ok-body.body.items marks c.in_ok-tip.ensures.ok c.in_ok-body.ensures.ok over))
+    c.in_err-snapshot.ensures.err)
 
 pub returns-clause-ok : goal.returns-clause-ok
 returns-clause-ok g c =
