@@ -10,18 +10,17 @@ ghost use Rattle.swh_model.specs.Judge.{IsHow, FilePasses};
 ghost use Rattle.swh_keeper.specs.Judged.{NonePasses, IsVisitRefusal, MayBeMarked};
 ghost use Rattle.swh_keeper.specs.Planned.{IsReplayOf, IsInFiles, IsPlanned, IsRefused, IsEncoded, IsTooLong};
 
+use crate::fresh::{Split, find_collision, split_fresh};
+use crate::judging::{limit_of_batch, limit_of_files, snapshot_refusal, visit_refusal};
+use crate::planning::{PlanFault, Planned};
+use crate::replayed::Replayed;
+use crate::visits::OriginVisits;
 use std::alloc::Global;
 use swh_base::{Entry, Many, Memory, Status, Url, VisitKind, Which};
 use swh_model::{
     Event, EventKind, No, Outcome, entries_are_codable, origin_is_codable, record_of_event,
     run_of_entries, snapshot_is_codable,
 };
-
-use crate::fresh::{Split, find_collision, split_fresh};
-use crate::judging::{limit_of_batch, limit_of_files, snapshot_refusal, visit_refusal};
-use crate::planning::{PlanFault, Planned};
-use crate::replayed::Replayed;
-use crate::visits::OriginVisits;
 
 fn number_of_visits(visits: &OriginVisits, origin: &Url) -> u64
     ensures value { result ≡ length (visits_of visits.now origin.now) }
