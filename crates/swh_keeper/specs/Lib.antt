@@ -1,2 +1,5 @@
 pub mod Maps
 pub mod Walk
+pub mod Batches
+pub mod Judged
+pub mod Planned

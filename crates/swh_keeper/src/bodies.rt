@@ -111,6 +111,18 @@ impl HeldBodies {
         self.get(name).is_some()
     }
 
+    /// Adds an entry that is not held.
+    pub fn put(&mut self, entry: Entry) -> Result<(), Memory>
+        requires good { IsGood entry }
+        requires absent { body_of self.old entry.name ≡ None }
+        ensures ok { OnOk result (self.new ≡ finite.insert self.old entry.name entry.body) }
+        ensures err { OnErr result (self.new ≡ self.old) }
+    {
+        self.by_key.reserve(1)?;
+        insert_one(&mut self.by_key, entry);
+        Ok(())
+    }
+
     /// Adds entries that are not held, and no two of one name.
     pub fn add(&mut self, alloc: Global, entries: &[Entry]) -> Result<(), Memory>
         requires good { AllByRecursion IsGood entries.now }

@@ -5,10 +5,19 @@
 
 mod bodies;
 mod closure;
+mod fresh;
+mod judging;
 mod listing;
+mod planning;
+mod plans;
+mod replayed;
 mod visits;
 
 pub use bodies::HeldBodies;
 pub use closure::find_gap;
+pub use fresh::{Split, find_collision, split_fresh};
+pub use judging::{limit_of_batch, limit_of_files, snapshot_refusal, visit_refusal};
 pub use listing::Listing;
+pub use planning::{PlanFault, Planned};
+pub use replayed::Replayed;
 pub use visits::OriginVisits;

@@ -44,7 +44,7 @@ fresh-all P bodies (e ∷ es) h =
       | false ↦ (h.0, fresh-all P (insert bodies e.name e.body) es h.1)
     ]
 
-length-fresh : (bodies : Bodies) (es : List Entry) → length (fresh bodies es) ≤ length es
+pub length-fresh : (bodies : Bodies) (es : List Entry) → length (fresh bodies es) ≤ length es
 length-fresh bodies [] = omega arith
 length-fresh bodies (e ∷ es) =
     elim (is_some (body_of bodies e.name)) as (λ t. length (cond t (fresh bodies es) (e ∷ fresh (insert bodies e.name e.body) es)) ≤ length (e ∷ es)) [
@@ -71,7 +71,7 @@ bytes-fresh bodies (e ∷ f ∷ es) =
           let m = bytes-more e (fresh (insert bodies e.name e.body) (f ∷ es)) in omega (arith, h, m)
     ]
 
-fresh-new : (bodies : Bodies) (es : List Entry) → AreNew bodies (fresh bodies es)
+pub fresh-new : (bodies : Bodies) (es : List Entry) → AreNew bodies (fresh bodies es)
 fresh-new bodies [] = tt
 fresh-new bodies (e ∷ es) =
     elim (is_some (body_of bodies e.name)) as (λ t. is_some (body_of bodies e.name) ≡ t → AreNew bodies (cond t (fresh bodies es) (e ∷ fresh (insert bodies e.name e.body) es))) [
@@ -79,7 +79,7 @@ fresh-new bodies (e ∷ es) =
       | false ↦ λ is. (none_of (body_of bodies e.name) is, fresh-new (insert bodies e.name e.body) es)
     ] refl
 
-short_unless : (es : List Entry) → ((n : ℕ) → first_long es ≡ Some n → ⊥) → AllByRecursion (λ (e : Entry). length e.body ≤ body_limit) es
+pub short_unless : (es : List Entry) → ((n : ℕ) → first_long es ≡ Some n → ⊥) → AllByRecursion (λ (e : Entry). length e.body ≤ body_limit) es
 short_unless [] h = tt
 short_unless (e ∷ es) h =
     elim (nat_lt body_limit (length e.body)) as (λ t. nat_lt body_limit (length e.body) ≡ t → ((n : ℕ) → cond t (Some (length e.body)) (first_long es) ≡ Some n → ⊥)
@@ -88,7 +88,7 @@ short_unless (e ∷ es) h =
       | false ↦ λ is none. (grind arith, short_unless es none)
     ] refl h
 
-le_unless : (a b : ℕ) → (b < a → ⊥) → a ≤ b
+pub le_unless : (a b : ℕ) → (b < a → ⊥) → a ≤ b
 le_unless a b h =
     elim (nat_lt b a) as (λ t. nat_lt b a ≡ t → a ≤ b) [
       | true ↦ λ is. absurd (h (grind arith))

@@ -4,7 +4,7 @@ ghost use Rattle.swh_base.specs.Name.{kind_number};
 ghost use Rattle.swh_model.specs.Coding.{visit_kind_number, status_number, coded_snapshot, coded_entry, coded_run, run_of, event_byte, told, payload_of, framed, coded_record, IsCodableKind, IsCodable};
 ghost use Rattle.std.specs.Int.{w32, w64, to_be_bytes};
 ghost use Rattle.std.specs.List.{AllByRecursion};
-ghost use Rattle.swh_model.specs.Coding.{IsCodableEntry};
+ghost use Rattle.swh_model.specs.Coding.{IsCodableEntry, IsOrigin, IsSnapshotId};
 ghost use Rattle.swh_model.specs.declared.event.EventKind.TheVariants.{Batch, Open, Mark};
 
 use crate::event::{Event, EventKind};
@@ -203,5 +203,21 @@ pub fn entries_are_codable(entries: &[Entry])
 {
     for entry in entries {
         entry_is_codable(entry);
+    }
+}
+
+/// What the type says of a URL: it is one, and it is text.
+pub fn origin_is_codable(origin: &Url)
+    ensures { IsOrigin origin.now }
+{
+    let _text = origin.as_str();
+}
+
+/// What the type says of a snapshot's id: it has twenty bytes.
+pub fn snapshot_is_codable(snapshot: &Option<[u8; 20]>)
+    ensures { IsSnapshotId snapshot.now }
+{
+    if let Some(id) = snapshot {
+        let _twenty = has_twenty_bytes(*id);
     }
 }

@@ -1,9 +1,9 @@
 -- What a crash leaves between the device calls of an append.
-use Rattle.std.proofs.Common.{◌≡◌, ◌≢◌, inl, inr, ℕ, zero, suc, ◌+◌, ◌≤◌, ◌<◌, max, List, [], ◌∷◌, ◌++◌, length, get_or, take, drop, refl, sym, ◌∙◌, ap, subst, arith, append_assoc, length-append, length-drop, take-append-drop}
-use Rattle.std.proofs.lemmas.List.{take_at, drop_at, drop_all, length-take-le}
-use Rattle.swh_outside.specs.Disk.{File, IsImage, EachImage, EachMoment, IsAtRest, Call, Write, Sync, done, all_done, patched}
-use Rattle.swh_outside.proofs.Images.{at_rest_image, at_rest_done, front_stays, one_byte, length-patched}
-use Rattle.swh_segment.specs.Record.{Record, body, front, Stands, with_or_without, write_calls, append_calls, IsSettled, IsReady}
+use Rattle.std.proofs.Common.{◌≡◌, inl, inr, ℕ, zero, suc, ◌+◌, ◌≤◌, List, [], ◌∷◌, ◌++◌, length, get_or, take, drop, sym, ◌∙◌, ap, subst, arith, append_assoc, length-append, take-append-drop}
+use Rattle.std.proofs.lemmas.List.{take_at, drop_at}
+use Rattle.swh_outside.specs.Disk.{File, EachImage, EachMoment, IsAtRest, Write, Sync, done, all_done, patched}
+use Rattle.swh_outside.proofs.Images.{at_rest_image, at_rest_done, front_stays, one_byte}
+use Rattle.swh_segment.specs.Record.{Record, body, front, with_or_without, append_calls, IsSettled, IsReady}
 use Rattle.swh_segment.proofs.Gates.{front-push, closed_gate, opened_gate, any_gate}
 
 pub in_file : (file : File) (rs : List Record) (end : ℕ) → IsSettled file rs end → end + 1 ≤ length file.seen

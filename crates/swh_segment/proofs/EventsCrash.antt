@@ -1,8 +1,8 @@
 -- What a crash leaves of both files between the device calls of an event.
-use Rattle.std.proofs.Common.{◌≡◌, ◌≢◌, inl, inr, ⊎_elim, ℕ, zero, suc, ◌+◌, ◌≤◌, ◌<◌, List, [], ◌∷◌, ◌++◌, length, take, drop, Option, Some, None, refl, sym, ◌∙◌, ap, subst, arith, append_assoc, length-append, take-append-drop}
+use Rattle.std.proofs.Common.{◌≡◌, ◌≢◌, inl, inr, ⊎_elim, ℕ, zero, suc, ◌+◌, ◌≤◌, List, [], ◌∷◌, ◌++◌, length, take, drop, Option, Some, None, refl, sym, ◌∙◌, ap, subst, arith, append_assoc, length-append, take-append-drop}
 use Rattle.std.proofs.lemmas.List.{take_at, append-nil}
 use Rattle.swh_outside.specs.Disk.{File, IsImage, IsAtRest, Call, Write, Sync, done, all_done, patched}
-use Rattle.swh_outside.specs.Files.{Files, FileCall, Images, AreImages, EachImages, EachFilesMoment, on, with_file, files_of, files_done}
+use Rattle.swh_outside.specs.Files.{Files, Images, EachFilesMoment, on, files_done}
 use Rattle.swh_outside.proofs.Images.{at_rest_image, at_rest_done, front_stays}
 use Rattle.swh_outside.proofs.Numbered.{files_done-on, files_done-append, with_file_here, with_file_other, files_moments_then, moments_on}
 use Rattle.swh_segment.specs.Record.{Record, Stands, IsReady, IsSettled, append_calls}

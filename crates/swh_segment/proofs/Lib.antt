@@ -6,3 +6,4 @@ pub mod One
 pub mod Pieces
 pub mod EventsCrash
 pub mod Outcomes
+pub mod Barriers

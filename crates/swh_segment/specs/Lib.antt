@@ -4,3 +4,4 @@ pub mod Makes
 pub mod Reading
 pub mod Record
 pub mod Runs
+pub mod Settled

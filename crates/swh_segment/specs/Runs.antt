@@ -1,5 +1,5 @@
 -- The bytes that an event adds to the store: none, or the run of a batch, which may be empty.
-use Rattle.std.specs.Prelude.{ℕ, List, [], Option, Some, None}
+use Rattle.std.specs.Prelude.{ℕ, List, Option, Some, None}
 use Rattle.swh_segment.specs.declared.event.Run.{Run}
 use Rattle.swh_segment.specs.declared.event.Run.TheVariants.{None as NoRun, Batch}
 

@@ -1,8 +1,10 @@
-//! What the plan of the making means for the two files.
-ghost use Rattle.std.specs.Prelude.{◌≡◌, ℕ};
+//! What the plans of the making and of an event mean for the two files.
+ghost use Rattle.std.specs.Prelude.{◌≡◌, ◌+◌, ◌++◌, ◌∷◌, [], ℕ, List, length};
 ghost use Rattle.swh_outside.specs.Disk.{EachImage};
-ghost use Rattle.swh_outside.specs.Files.{Files, files_done};
+ghost use Rattle.swh_outside.specs.Files.{Files, EachFilesMoment, files_done};
 ghost use Rattle.swh_segment.specs.Making.{IsNotMade, IsEmptyArchive, IsCrashSafe, making_calls};
+ghost use Rattle.swh_segment.specs.Record.{Record, Stands, IsReady, AreShort};
+ghost use Rattle.swh_segment.specs.Events.{Event, AreSettled, bytes_of, event_calls, with_or_without_event};
 
 /// After all calls of the making both files stand for no record, with nothing written since a barrier.
 pub fn made_is_empty()
@@ -12,4 +14,21 @@ pub fn made_is_empty()
 /// A crash at any call of the making leaves an archive that is not made, or is made with no record.
 pub fn making_survives_crashes()
     ensures { (files : Files) → IsNotMade (files 0).seen → EachImage (files 0) IsNotMade → IsCrashSafe files }
+{}
+
+/// After all calls of an event both files stand for the history with it, with nothing written since a barrier.
+pub fn event_is_added()
+    ensures { (files : Files) (h : List Event) (e : Event) (store_end end : ℕ) (bytes : List ℕ) → AreSettled files h store_end end → IsReady bytes e.entry
+        → AreSettled (files_done (event_calls store_end e.run end bytes) files) (h ++ e ∷ []) (store_end + length (bytes_of e.run)) (end + length bytes) }
+{}
+
+/// A crash at any call of an event leaves files that stand for the history with the event or without.
+pub fn event_survives_crashes()
+    ensures { (files : Files) (h : List Event) (e : Event) (store_end end : ℕ) (bytes : List ℕ) → AreSettled files h store_end end → IsReady bytes e.entry
+        → EachFilesMoment (event_calls store_end e.run end bytes) files (with_or_without_event h e) }
+{}
+
+/// A ledger stands for one list of records at most.
+pub fn ledger_stands_once()
+    ensures { (ledger : List ℕ) (rs ss : List Record) → AreShort rs → AreShort ss → Stands ledger rs → Stands ledger ss → rs ≡ ss }
 {}

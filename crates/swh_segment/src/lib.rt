@@ -13,7 +13,10 @@ mod writing;
 
 pub use event::{Run, append_event};
 pub use fault::MakeFault;
-pub use laws::{made_is_empty, making_survives_crashes};
+pub use laws::{
+    event_is_added, event_survives_crashes, ledger_stands_once, made_is_empty,
+    making_survives_crashes,
+};
 pub use making::make;
 pub use reading::{ReadFileFault, fill, read_file};
 pub use writing::{settle, write_synced};

@@ -1,10 +1,11 @@
 // Writes that are on the disk before the call returns.
-ghost use Rattle.std.specs.Prelude.{◌≡◌, ◌≤◌, length, OnErr};
+ghost use Rattle.std.specs.Prelude.{◌≡◌, ◌≤◌, length, OnOk, OnErr};
 ghost use Rattle.swh_outside.specs.Disk.{Runs};
-ghost use Rattle.swh_outside.specs.Files.{FilesRuns, files_of};
+ghost use Rattle.swh_outside.specs.Files.{FilesRuns, AreImages, files_of};
 ghost use Rattle.swh_outside.specs.Faults.{HasCause};
 ghost use Rattle.swh_segment.specs.Makes.{EitherRose};
 ghost use Rattle.swh_segment.specs.Making.{barriers};
+ghost use Rattle.swh_segment.specs.Settled.{AreAtRest, seen_of};
 ghost use Rattle.swh_segment.specs.Record.{write_calls};
 
 use swh_outside::{Disk, Failed};
@@ -23,6 +24,11 @@ pub fn write_synced<D: Disk>(disk: &mut D, at: u64, bytes: &[u8]) -> Result<(), 
 /// A barrier on both files, with which the making and each opening begin.
 pub fn settle<D: Disk>(store: &mut D, ledger: &mut D) -> Result<(), Failed>
     ensures runs { D.tells → FilesRuns barriers (files_of (D.file ledger.old) (D.file store.old)) (files_of (D.file ledger.new) (D.file store.new)) result }
+
+    // What a read then gives is one of the images that a crash before the call might have left, also where it fails.
+    ensures seen { D.tells → AreImages (files_of (D.file ledger.old) (D.file store.old)) (seen_of (files_of (D.file ledger.new) (D.file store.new))) }
+    ensures rests { D.tells → OnOk result (AreAtRest (files_of (D.file ledger.new) (D.file store.new))) }
+
     ensures store_later { D.faults store.old ≤ D.faults store.new }
     ensures ledger_later { D.faults ledger.old ≤ D.faults ledger.new }
     ensures cause { OnErr result (EitherRose (D.faults store.old) (D.faults store.new) (D.faults ledger.old) (D.faults ledger.new)) }

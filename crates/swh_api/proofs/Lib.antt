@@ -1,0 +1,4 @@
+pub mod Tables
+pub mod Escapes
+pub mod Texts
+pub mod Paths

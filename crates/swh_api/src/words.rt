@@ -1,0 +1,28 @@
+// The words of visits in JSON.
+ghost use Rattle.std.specs.Prelude.{◌≡◌};
+ghost use Rattle.swh_model.specs.Answer.{visit_kind_word, status_word};
+
+use swh_base::{Status, VisitKind};
+
+pub fn kind_word(kind: VisitKind) -> &'static str
+    ensures { result.now ≡ visit_kind_word kind }
+{
+    match kind {
+        VisitKind::Fast => "fast",
+        VisitKind::Dir => "dir",
+        VisitKind::Batch => "batch",
+    }
+}
+
+pub fn status_word(status: Status) -> &'static str
+    ensures { result.now ≡ status_word status }
+{
+    match status {
+        Status::Created => "created",
+        Status::Ongoing => "ongoing",
+        Status::Full => "full",
+        Status::Partial => "partial",
+        Status::NotFound => "not_found",
+        Status::Failed => "failed",
+    }
+}

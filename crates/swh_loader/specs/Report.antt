@@ -1,0 +1,50 @@
+-- The line that reports a job: its origin, its visit, and how the visit ended.
+use Rattle.std.specs.Prelude.{ℕ, Result, Ok, Err, List, ◌∷◌, ◌++◌, decimal, codes}
+use Rattle.swh_swhid.specs.Core.{core_text}
+use Rattle.swh_model.specs.Step.{snapshot_name}
+use Rattle.swh_model.specs.Answer.{line_of}
+use Rattle.swh_loader.specs.declared.end.StreamWhy.{StreamWhy}
+use Rattle.swh_loader.specs.declared.end.StreamWhy.TheVariants.{Grammar, End as EndOfInput, LeftOut, Mark, Branch, Place}
+use Rattle.swh_loader.specs.declared.end.BadInput.{BadInput}
+use Rattle.swh_loader.specs.declared.end.BadInput.TheVariants.{Stream, Collision, Read}
+use Rattle.swh_loader.specs.declared.end.End.{End}
+use Rattle.swh_loader.specs.declared.end.End.TheVariants.{Full, NotFound, Failed}
+use Rattle.swh_loader.specs.declared.end.Loaded.{Loaded}
+use Rattle.swh_loader.specs.declared.fault.LoadWhy.{LoadWhy}
+use Rattle.swh_loader.specs.declared.fault.LoadWhy.TheVariants.{Ended, DiskFault, Wounded, Limit, Memory}
+use Rattle.swh_loader.specs.declared.fault.LoadFault.{LoadFault}
+
+abbrev pub why_word : StreamWhy → List ℕ
+why_word Grammar = codes "grammar"
+why_word EndOfInput = codes "end"
+why_word LeftOut = codes "left-out"
+why_word Mark = codes "mark"
+why_word Branch = codes "branch"
+why_word Place = codes "place"
+
+abbrev pub bad_detail : BadInput → List ℕ
+bad_detail (Stream at why) = codes "stream " ++ (decimal at ++ 32 ∷ why_word why)
+bad_detail (Collision name) = codes "collision " ++ core_text name
+bad_detail Read = codes "read"
+
+abbrev pub end_word : End → List ℕ
+end_word (Full snapshot) = codes "full"
+end_word NotFound = codes "not_found"
+end_word (Failed bad) = codes "failed"
+
+abbrev pub end_detail : End → List ℕ
+end_detail (Full snapshot) = core_text (snapshot_name snapshot)
+end_detail NotFound = codes "-"
+end_detail (Failed bad) = bad_detail bad
+
+abbrev pub fault_detail : LoadWhy → List ℕ
+fault_detail (Ended status) = codes "ended"
+fault_detail DiskFault = codes "disk"
+fault_detail Wounded = codes "wounded"
+fault_detail (Limit which number) = codes "limit"
+fault_detail Memory = codes "memory"
+
+-- the line, with its LF
+abbrev pub report_of : List ℕ → Result Loaded LoadFault → List ℕ
+report_of url (Ok loaded) = line_of url loaded.visit (end_word loaded.end) (end_detail loaded.end)
+report_of url (Err fault) = line_of url fault.visit (codes "stopped") (fault_detail fault.why)

@@ -1,0 +1,15 @@
+//! Loads the input of an origin into an archive, as one visit.
+//! Stands on the keeper and the readers of inputs.
+//! Above it may rely on: how a load ends, and the line that reports it.
+#![tactic(auto)]
+
+mod end;
+mod fault;
+mod report;
+
+pub use end::{BadInput, End, Loaded, StreamWhy};
+pub use fault::{LoadFault, LoadWhy};
+pub use report::report_line;
+
+#[cfg(test)]
+mod tests;
