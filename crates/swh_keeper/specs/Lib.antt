@@ -3,3 +3,8 @@ pub mod Walk
 pub mod Batches
 pub mod Judged
 pub mod Planned
+pub mod Advance
+pub mod Refusal
+pub mod Kept
+pub mod Keeping
+pub mod Opening
