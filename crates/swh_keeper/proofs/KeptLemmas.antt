@@ -144,11 +144,13 @@ settled-push r h e run bytes ledger store m n t all s =
 pub images_left : (r : Replayed) (h : List Event) (e : Event) (run bytes : List ℕ) (files : Files) → IsToAdd r h e run bytes → AreCodable 0 h
     → EachImages files (segment.with_or_without_event (all_written 0 h) (written r.store_end e)) → EachImages files (WithOrWithout h e)
 images_left r h e run bytes files t all each =
-    record { has = λ images are. elim (each.has images are) [
-      | inl without ↦ inl (stands_from_files images h all without)
-      | inr with_it ↦ inr (stands_from_files images (h ++ e ∷ []) (codable-at h e r.store_end t.store all t.codable)
-          (subst (λ (es : List segment.Event). segment.FilesStand images es) (sym (written-at h e r.store_end t.store)) with_it))
-    ] }
+    record {
+      has = λ images are. elim (each.has images are) [
+        | inl without ↦ inl (stands_from_files images h all without)
+        | inr with_it ↦ inr (stands_from_files images (h ++ e ∷ []) (codable-at h e r.store_end t.store all t.codable)
+            (subst (λ (es : List segment.Event). segment.FilesStand images es) (sym (written-at h e r.store_end t.store)) with_it))
+      ];
+    }
 
 pub store_place : (ledger store : File) (h : List Event) (m n : ℕ) → AreSettledFor ledger store h m n → m ≤ length store.seen
 store_place ledger store h m n s = let l = s.settled.store_end_is in omega (arith, l, ap length s.settled.begins, length-append (segment.runs (all_written 0 h)) s.settled.rest)

@@ -8,15 +8,14 @@ ghost use Rattle.swh_keeper.specs.Planned.{IsReplayOf, IsInFiles};
 ghost use Rattle.swh_keeper.specs.Keeping.{AreSettledFor, IsToAdd, WithOrWithout, HasRoom};
 ghost use Rattle.swh_keeper.specs.declared.adding.AddFault.TheVariants.{Disk as DiskFailed, Memory as OutOfMemory};
 
-use std::alloc::{AllocError, Global};
-use swh_base::Memory;
-use swh_model::{Event, Outcome};
-use swh_outside::Disk;
-
 use crate::advance::advance;
 use crate::planning::Planned;
 use crate::replayed::Replayed;
 use crate::writing::write_event;
+use std::alloc::{AllocError, Global};
+use swh_base::Memory;
+use swh_model::{Event, Outcome};
+use swh_outside::Disk;
 
 #[derive(Clone, Copy, Debug, PartialEq, Eq)]
 pub enum AddFault {

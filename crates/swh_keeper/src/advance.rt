@@ -2,11 +2,10 @@
 ghost use Rattle.std.specs.Prelude.{◌≡◌, OnOk, OnErr};
 ghost use Rattle.swh_keeper.specs.Advance.{MayAdvance, Advances, IsSameReplayed};
 
+use crate::replayed::Replayed;
 use std::alloc::Global;
 use swh_base::Memory;
 use swh_model::{Event, EventKind};
-
-use crate::replayed::Replayed;
 
 /// Carries an event out on the maps. The files' ends stay as they are.
 pub fn advance(alloc: Global, replayed: &mut Replayed, event: &Event) -> Result<(), Memory>

@@ -1,18 +1,17 @@
 //! The keeper: judges plans, and adds their events to the two files.
+use crate::adding::{AddFault, add_event};
+use crate::bodies::HeldBodies;
+use crate::fault::{Refusal, refusal_for};
+use crate::opening::{OpenFault, why_not_made};
+use crate::plans::plan;
+use crate::replayed::Replayed;
+use crate::visits::OriginVisits;
 use std::alloc::Global;
 use std::marker::Model;
 use swh_base::{Entry, Name, Namer};
-use swh_segment::{made_is_empty, make as make_archive};
-use swh_model::{Event, Visit, Wish, Outcome};
+use swh_model::{Event, Outcome, Visit, Wish};
 use swh_outside::Disk;
-
-use crate::adding::{AddFault, add_event};
-use crate::fault::{Refusal, refusal_for};
-use crate::bodies::HeldBodies;
-use crate::opening::{OpenFault, why_not_made};
-use crate::plans::plan;
-use crate::visits::OriginVisits;
-use crate::replayed::Replayed;
+use swh_segment::{made_is_empty, make as make_archive};
 
 /// Keeps an archive. Contracts see its disks, its history, and whether a disk failed.
 pub struct Keeper<N: Namer, D: Disk> {

@@ -8,7 +8,6 @@ mod advance;
 mod bodies;
 mod closure;
 mod fault;
-mod fields;
 mod fresh;
 mod judging;
 mod keeper;

@@ -194,9 +194,7 @@ pub fn plan(
     ensures err { (h : List Event) → IsReplayOf replayed.now h → IfErr result (IsRefused h by wish) }
 {
     match wish {
-        EventKind::Batch(entries) => {
-            plan_batch(alloc, replayed, number, by, entries.as_slice())
-        }
+        EventKind::Batch(entries) => { plan_batch(alloc, replayed, number, by, entries.as_slice()) }
         EventKind::Open { origin, kind, date } => {
             plan_open(alloc, replayed, number, by, origin, kind, date)
         }

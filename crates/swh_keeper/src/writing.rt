@@ -7,11 +7,10 @@ ghost use Rattle.swh_model.specs.Coding.{run_of};
 ghost use Rattle.swh_model.specs.declared.event.Event.{Event};
 ghost use Rattle.swh_keeper.specs.Keeping.{AreSettledFor, IsToAdd, WithOrWithout, run_written};
 
+use crate::replayed::Replayed;
 use swh_model::{Event, EventKind};
 use swh_outside::{Disk, Failed};
 use swh_segment::{Run, append_event};
-
-use crate::replayed::Replayed;
 
 /// What the event adds to the store.
 fn run_for<'a>(event: &Event, run: &'a [u8]) -> Run<'a>
