@@ -1,6 +1,5 @@
 -- What stands between the fixed parts of a path, and before a `?`.
-use Rattle.std.proofs.Common.{◌≡◌, ◌≢◌, ℕ, ◌==◌, ◌<◌, ◌≤◌, Bool, true, false, List, [], ◌∷◌, ◌++◌, Bor, Option, Some, None, MatchOption, length, take, codes, cond, refl, sym, ap, ◌∙◌, arith}
-use Rattle.std.specs.List.{before_first, position, position_or_len}
+use Rattle.std.proofs.Common.{◌≡◌, ◌≢◌, ℕ, List, ◌++◌, Bor, Option, Some, None, MatchOption, codes, sym, ap, ◌∙◌}
 use Rattle.std.proofs.lemmas.List.{append_cancel_left, append_cancel_right}
 use Rattle.percent_encoding.specs.Percent.{percent_decode}
 use Rattle.swh_model.specs.Archive.{Archive}

@@ -1,10 +1,10 @@
 -- The texts of the JSON values that are built.
-use Rattle.std.proofs.Common.{◌≡◌, ℕ, ◌+◌, ◌-◌, ◌<◌, Bool, true, false, ◌||◌, List, [], ◌∷◌, ◌++◌, map, length, get_or, drop, take, suc, Option, Some, None, refl, sym, ap, ap₂, ◌∙◌, arith, rules, append_assoc, codes, decimal, String, Vec, Global, string_bytes}
+use Rattle.std.proofs.Common.{◌≡◌, ℕ, ◌+◌, ◌-◌, ◌<◌, Bool, true, false, ◌||◌, List, [], ◌∷◌, ◌++◌, map, length, get_or, drop, take, suc, Option, refl, sym, ap, ap₂, ◌∙◌, arith, rules, append_assoc, codes, decimal, String, Vec, Global, string_bytes}
 use Rattle.std.specs.List.{join_with_byte}
 use Rattle.std.proofs.lemmas.List.{take_more, map-append}
 use Rattle.json.specs.Print.{escape_byte, escape, quoted}
-use Rattle.serde_json.specs.Data.{Data, Items, no_items, item, array, string}
-use Rattle.serde_json.specs.View.{view, items_of, items_view}
+use Rattle.serde_json.specs.Data.{Data, string}
+use Rattle.serde_json.specs.View.{view, items_view}
 use Rattle.serde_json.specs.Written.{compact_text, items_text, has_float, items_have_float}
 use Rattle.serde_json.specs.declared.value.Value as Value
 use Rattle.serde_json.specs.declared.value.Value.{Value, the_lemmas}
@@ -14,7 +14,7 @@ use Rattle.swh_base.specs.declared.visit.VisitKind.TheVariants.{Fast, Dir, Batch
 use Rattle.swh_base.specs.declared.visit.Status.{Status}
 use Rattle.swh_base.specs.declared.visit.Status.TheVariants.{Created, Ongoing, Full, Partial, NotFound, Failed}
 use Rattle.swh_model.specs.declared.event.Visit.{Visit}
-use Rattle.swh_model.specs.Answer.{status_word, visit_kind_word, json_text, json_snapshot, last_mark, visit_json, visits_json}
+use Rattle.swh_model.specs.Answer.{status_word, visit_kind_word, json_text, json_snapshot, last_mark, visit_json}
 use Rattle.swh_model.specs.Step.{Statuses}
 use Rattle.swh_api.specs.Text.{IsWrittenAs, visit_data}
 

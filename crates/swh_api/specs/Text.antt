@@ -1,5 +1,5 @@
 -- A reply's text, and the JSON that stands behind it.
-use Rattle.std.specs.Prelude.{◌≡◌, ℕ, List, Bool, true, false, codes}
+use Rattle.std.specs.Prelude.{◌≡◌, ℕ, List, false, codes}
 use Rattle.swh_base.specs.declared.request.Reply.{Reply}
 use Rattle.swh_base.specs.declared.visit.Status.{Status}
 use Rattle.swh_model.specs.declared.event.Visit.{Visit}

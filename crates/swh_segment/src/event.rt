@@ -36,13 +36,13 @@ fn append_run<D: Disk>(store: &mut D, at: u64, run: Run<'_>) -> Result<(), Faile
 }
 
 // The record of an event, behind the closed gate at the ledger's end, and then its gate.
-fn append_record<D: Disk>(ledger: &mut D, end: u64, record: &[u8]) -> Result<(), Failed>
+fn append_record<D: Disk>(ledger: &mut D, end: u64, entry: &[u8]) -> Result<(), Failed>
     requires limit { end + 1 < 2 ^ 64 }
     requires place { D.tells → end + 1 ≤ length (D.file ledger.old).seen }
-    ensures runs { D.tells → Runs (append_calls end record.now) (D.file ledger.old) (D.file ledger.new) result }
+    ensures runs { D.tells → Runs (append_calls end entry.now) (D.file ledger.old) (D.file ledger.new) result }
     ensures cause { HasCause (D.faults ledger.old) (D.faults ledger.new) result }
 {
-    write_synced(ledger, end + 1, record)?;
+    write_synced(ledger, end + 1, entry)?;
     write_synced(ledger, end, &[1])
 }
 
@@ -55,23 +55,23 @@ pub fn append_event<D: Disk>(
     run: Run<'_>,
     ledger: &mut D,
     end: u64,
-    record: &[u8],
+    entry: &[u8],
 ) -> Result<(), Failed>
     requires limit { end + 1 < 2 ^ 64 }
     requires store_place { D.tells → store_end ≤ length (D.file store.old).seen }
     requires place { D.tells → end + 1 ≤ length (D.file ledger.old).seen }
 
     // The device calls that it makes, in order, on either file.
-    ensures runs { D.tells → FilesRuns (event_calls store_end (run_of run.entry) end record.now)
+    ensures runs { D.tells → FilesRuns (event_calls store_end (run_of run.entry) end entry.now)
         (files_of (D.file ledger.old) (D.file store.old)) (files_of (D.file ledger.new) (D.file store.new)) result }
 
     ensures appended { D.tells → (h : List Event) (e : Event)
         → AreSettled (files_of (D.file ledger.old) (D.file store.old)) h store_end end
-        → IsWritten (run_of run.entry) record.now e
-        → OnOk result (AreSettled (files_of (D.file ledger.new) (D.file store.new)) (h ++ e ∷ []) (store_end + length (bytes_of (run_of run.entry))) (end + length record.now)) }
+        → IsWritten (run_of run.entry) entry.now e
+        → OnOk result (AreSettled (files_of (D.file ledger.new) (D.file store.new)) (h ++ e ∷ []) (store_end + length (bytes_of (run_of run.entry))) (end + length entry.now)) }
     ensures left { D.tells → (h : List Event) (e : Event)
         → AreSettled (files_of (D.file ledger.old) (D.file store.old)) h store_end end
-        → IsWritten (run_of run.entry) record.now e
+        → IsWritten (run_of run.entry) entry.now e
         → OnErr result (EachImages (files_of (D.file ledger.new) (D.file store.new)) (with_or_without_event h e)) }
 
     ensures store_later { D.faults store.old ≤ D.faults store.new }
@@ -79,5 +79,5 @@ pub fn append_event<D: Disk>(
     ensures cause { OnErr result (EitherRose (D.faults store.old) (D.faults store.new) (D.faults ledger.old) (D.faults ledger.new)) }
 {
     append_run(store, store_end, run)?;
-    append_record(ledger, end, record)
+    append_record(ledger, end, entry)
 }

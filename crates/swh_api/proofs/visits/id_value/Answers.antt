@@ -1,4 +1,4 @@
-use Rattle.std.proofs.Common.{ℕ, List, ◌∷◌, ◌++◌, [], ap, arith}
+use Rattle.std.proofs.Common.{arith}
 use Rattle.swh_api.proofs.Escapes.{escape-encode_lower}
 use Rattle.swh_api.proofs.Texts.{IsWrittenAs-string}
 use Rattle.swh_api.proofs.visits.id_value.Goals as goal

@@ -13,13 +13,13 @@ use Rattle.swh_segment.proofs.event.append_event.Goals as goal
 pub returns-in_err-append_run-clause-runs : goal.returns-in_err-append_run-clause-runs
 returns-in_err-append_run-clause-runs g c told =
     files_stopped _ _ _ _ c.from_residual.ensures.0
-    (files_stops (on 1 (run_calls c.args.store_end (run_of c.args.run))) (on 0 (append_calls c.args.end c.args.record.now)) _ _ (store_breaks (run_calls c.args.store_end (run_of c.args.run)) _ _ _ (c.in_err-append_run.ensures.runs told).err))
+    (files_stops (on 1 (run_calls c.args.store_end (run_of c.args.run))) (on 0 (append_calls c.args.end c.args.entry.now)) _ _ (store_breaks (run_calls c.args.store_end (run_of c.args.run)) _ _ _ (c.in_err-append_run.ensures.runs told).err))
 
 pub returns-in_err-append_run-clause-left : goal.returns-in_err-append_run-clause-left
 returns-in_err-append_run-clause-left g c told h e settled written =
     on_err _ _ c.from_residual.ensures.0
     (files_left_by _ _ _ _ (written_moments _ h e _ _ _ _ settled written)
-    (files_stops (on 1 (run_calls c.args.store_end (run_of c.args.run))) (on 0 (append_calls c.args.end c.args.record.now)) _ _ (store_breaks (run_calls c.args.store_end (run_of c.args.run)) _ _ _ (c.in_err-append_run.ensures.runs told).err)))
+    (files_stops (on 1 (run_calls c.args.store_end (run_of c.args.run))) (on 0 (append_calls c.args.end c.args.entry.now)) _ _ (store_breaks (run_calls c.args.store_end (run_of c.args.run)) _ _ _ (c.in_err-append_run.ensures.runs told).err)))
 
 pub returns-clause-runs : goal.returns-clause-runs
 returns-clause-runs g c told =
@@ -27,7 +27,7 @@ returns-clause-runs g c told =
     let ledger = g.D.Disk.file c.args.ledger.now in
     let store = g.D.Disk.file c.args.store.now in
     let ran = ap (λ (f : File). files_of ledger f) (c.in_ok-append_run.ensures.runs told).ok ∙ sym (store_done plan ledger store) in
-    files_runs_then (on 1 plan) (on 0 (append_calls c.args.end c.args.record.now)) _ _ _ _ ran (ledger_runs (append_calls c.args.end c.args.record.now) _ _ _ _ (c.append_record.ensures.runs told))
+    files_runs_then (on 1 plan) (on 0 (append_calls c.args.end c.args.entry.now)) _ _ _ _ ran (ledger_runs (append_calls c.args.end c.args.entry.now) _ _ _ _ (c.append_record.ensures.runs told))
 
 pub returns-clause-appended : goal.returns-clause-appended
 returns-clause-appended g c told h e settled written =
@@ -35,7 +35,7 @@ returns-clause-appended g c told h e settled written =
     let ledger = g.D.Disk.file c.args.ledger.now in
     let store = g.D.Disk.file c.args.store.now in
     let ran = ap (λ (f : File). files_of ledger f) (c.in_ok-append_run.ensures.runs told).ok ∙ sym (store_done plan ledger store) in
-    let runs = files_runs_then (on 1 plan) (on 0 (append_calls c.args.end c.args.record.now)) _ _ _ _ ran (ledger_runs (append_calls c.args.end c.args.record.now) _ _ _ _ (c.append_record.ensures.runs told)) in
+    let runs = files_runs_then (on 1 plan) (on 0 (append_calls c.args.end c.args.entry.now)) _ _ _ _ ran (ledger_runs (append_calls c.args.end c.args.entry.now) _ _ _ _ (c.append_record.ensures.runs told)) in
     ok_then _ _ _ runs.ok (λ done. written_settled _ _ h e _ _ _ _ settled written done)
 
 pub returns-clause-left : goal.returns-clause-left
@@ -44,5 +44,5 @@ returns-clause-left g c told h e settled written =
     let ledger = g.D.Disk.file c.args.ledger.now in
     let store = g.D.Disk.file c.args.store.now in
     let ran = ap (λ (f : File). files_of ledger f) (c.in_ok-append_run.ensures.runs told).ok ∙ sym (store_done plan ledger store) in
-    let runs = files_runs_then (on 1 plan) (on 0 (append_calls c.args.end c.args.record.now)) _ _ _ _ ran (ledger_runs (append_calls c.args.end c.args.record.now) _ _ _ _ (c.append_record.ensures.runs told)) in
+    let runs = files_runs_then (on 1 plan) (on 0 (append_calls c.args.end c.args.entry.now)) _ _ _ _ ran (ledger_runs (append_calls c.args.end c.args.entry.now) _ _ _ _ (c.append_record.ensures.runs told)) in
     err_then _ _ _ runs.err (λ broken. files_left_by _ _ _ _ (written_moments _ h e _ _ _ _ settled written) broken)

@@ -1,0 +1,92 @@
+// The rows.
+ghost use Rattle.std.specs.Prelude.{◌≡◌, IfOk};
+ghost use Rattle.swh_memory.specs.Memory.{memory_file};
+
+use std::alloc::Global;
+use std::test::Fail;
+use swh_memory::{MemoryDisk, Room};
+use swh_outside::Failed;
+use swh_segment::{MakeFault, Run, append_event, make, read_file};
+
+const ROOM: Room = Room {
+    bytes: 64,
+    calls: 64,
+};
+
+// A record with no payload, and the closed gate behind it.
+const RECORD: [u8; 6] = [b'O', 0, 0, 0, 0, 0];
+
+fn disk(alloc: Global, bytes: &[u8]) -> Result<MemoryDisk, Fail>
+    ensures { IfOk result (λ disk. (memory_file disk).seen ≡ bytes.now) }
+{
+    Ok(MemoryDisk::new(alloc, bytes, ROOM, Vec::new(alloc))?)
+}
+
+#[test]
+fn a_whole_file_is_read(rt: HostRuntime) -> Result<(), Fail> {
+    let alloc = rt.alloc();
+    let mut file = disk(alloc, b"abc")?;
+    let Ok(bytes) = read_file(alloc, &mut file) else {
+        return Err(Fail::from("the file"));
+    };
+    assert_eq!(rt; bytes.as_slice(), b"abc".as_slice());
+    Ok(())
+}
+
+#[test]
+fn an_archive_is_made_once(rt: HostRuntime) -> Result<(), Fail> {
+    let alloc = rt.alloc();
+    let mut store = disk(alloc, b"")?;
+    let mut ledger = disk(alloc, b"")?;
+    assert!(rt; make(&mut store, &mut ledger).is_ok());
+    assert_eq!(rt; ledger.bytes(), b"SWHARC1\n\0".as_slice());
+    assert_eq!(rt; ledger.calls().len(), 7);
+    assert_eq!(rt; store.calls().len(), 1);
+    assert_eq!(rt; make(&mut store, &mut ledger), Err(MakeFault::Made));
+    assert_eq!(rt; ledger.calls().len(), 7);
+    Ok(())
+}
+
+#[test]
+fn an_event_makes_six_calls(rt: HostRuntime) -> Result<(), Fail> {
+    let alloc = rt.alloc();
+    let mut store = disk(alloc, b"")?;
+    let mut ledger = disk(alloc, b"SWHARC1\n\0")?;
+    let run = Run::Batch(&[7, 8]);
+    assert!(rt; append_event(&mut store, 0, run, &mut ledger, 8, &RECORD).is_ok());
+    assert_eq!(rt; store.bytes(), [7, 8].as_slice());
+    assert_eq!(rt; ledger.bytes(), b"SWHARC1\n\x01O\0\0\0\0\0".as_slice());
+    assert_eq!(rt; store.calls().len(), 2);
+    assert_eq!(rt; ledger.calls().len(), 4);
+    Ok(())
+}
+
+#[test]
+fn an_empty_run_makes_five_and_none_four(rt: HostRuntime) -> Result<(), Fail> {
+    let alloc = rt.alloc();
+    let mut store = disk(alloc, b"")?;
+    let mut ledger = disk(alloc, b"SWHARC1\n\0")?;
+    assert!(rt; append_event(&mut store, 0, Run::Batch(&[]), &mut ledger, 8, &RECORD).is_ok());
+    assert_eq!(rt; store.calls().len(), 1);
+    assert_eq!(rt; ledger.calls().len(), 4);
+    let mut other = disk(alloc, b"SWHARC1\n\0")?;
+    assert!(rt; append_event(&mut store, 0, Run::None, &mut other, 8, &RECORD).is_ok());
+    assert_eq!(rt; store.calls().len(), 1);
+    assert_eq!(rt; other.calls().len(), 4);
+    Ok(())
+}
+
+#[test]
+fn a_gate_that_fails_stays_closed(rt: HostRuntime) -> Result<(), Fail> {
+    let alloc = rt.alloc();
+    let mut store = disk(alloc, b"")?;
+    let failing = [2].to_vec(alloc)?;
+    let mut ledger = MemoryDisk::new(alloc, b"SWHARC1\n\0", ROOM, failing)?;
+    let added = append_event(&mut store, 0, Run::None, &mut ledger, 8, &RECORD);
+    assert_eq!(rt; added, Err(Failed));
+    assert_eq!(rt; ledger.bytes(), b"SWHARC1\n\0O\0\0\0\0\0".as_slice());
+    assert!(rt; ledger.is_image(b"SWHARC1\n\0O\0\0\0\0\0"));
+    assert!(rt; ledger.is_image(b"SWHARC1\n\x01O\0\0\0\0\0"));
+    assert!(rt; !ledger.is_image(b"SWHARC1\n\0"));
+    Ok(())
+}
