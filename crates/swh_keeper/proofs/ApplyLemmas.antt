@@ -1,5 +1,5 @@
 -- A planned event may be added.
-use Rattle.std.proofs.Common.{◌≡◌, ℕ, zero, suc, ◌-◌, ◌<◌, ◌≤◌, Some, None, Ok, List, [], ◌∷◌, ◌++◌, length, refl, sym, subst, arith}
+use Rattle.std.proofs.Common.{ap, ◌≡◌, ℕ, zero, suc, ◌-◌, ◌<◌, ◌≤◌, Some, None, Ok, List, [], ◌∷◌, ◌++◌, length, refl, sym, subst, arith}
 use Rattle.std.specs.List.{slice_get}
 use Rattle.swh_outside.specs.Disk.{File}
 use Rattle.swh_outside.specs.Files.{EachImages, files_of}
@@ -24,7 +24,11 @@ use Rattle.swh_keeper.specs.declared.planning.PlanFault.{PlanFault}
 use Rattle.swh_keeper.specs.declared.planning.PlanFault.TheVariants.{Refused, Memory}
 use Rattle.swh_keeper.specs.Advance.{MayAdvance}
 use Rattle.swh_keeper.specs.Planned.{IsReplayOf, IsInFiles, IsPlan, IsPlanned, IsRefused}
-use Rattle.swh_keeper.specs.Keeping.{AreSettledFor, IsToAdd, HasRoom, WithOrWithout, IsKeeping}
+use Rattle.swh_keeper.specs.Keeping.{AreSettledFor, IsToAdd, HasRoom, WithOrWithout, IsKeeping, run_written, calls_for}
+use Rattle.swh_segment.specs.Events as segment
+use Rattle.swh_model.specs.Coding.{coded_record}
+use Rattle.swh_model.specs.Limits.{store_length, records_length}
+use Rattle.std.proofs.Common.{◌+◌, ◌∙◌}
 use Rattle.swh_keeper.specs.Kept.{Kept, Refuses}
 use Rattle.swh_keeper.specs.Refusal.{refusal_for}
 use Rattle.swh_keeper.proofs.KeptLemmas.{history-push}
@@ -118,3 +122,11 @@ keeping-empty id_of tells ledger store r h none bodies visits se le empty =
       };
       doubt = λ n is_some. absurd (let f : None ≡ Some n = is_some in cc);
     })
+
+pub calls_are : (r : Replayed) (h : List Event) (e : Event) (bytes : List ℕ) → IsReplayOf r h → bytes ≡ coded_record r.store_end e ++ 0 ∷ []
+    → segment.event_calls r.store_end (run_written e.what) r.ledger_end bytes ≡ calls_for h e
+calls_are r h e bytes is bytes_are =
+    let s = is.store in
+    let l : r.ledger_end ≡ 8 + records_length h = let m = is.ledger in omega (arith, m) in
+    let b : bytes ≡ coded_record (store_length h) e ++ 0 ∷ [] = bytes_are ∙ ap (λ (n : ℕ). coded_record n e ++ 0 ∷ []) s in
+    λ i. segment.event_calls (s i) (run_written e.what) (l i) (b i)

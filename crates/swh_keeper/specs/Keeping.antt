@@ -1,14 +1,16 @@
 -- What a keeper's fields keep.
-use Rattle.std.specs.Prelude.{◌≡◌, ◌⊎◌, ℕ, ◌+◌, ◌≤◌, ◌^◌, Option, Some, None, List, [], ◌∷◌, ◌++◌, length}
+use Rattle.std.specs.Prelude.{◌≡◌, ◌⊎◌, ℕ, ◌+◌, ◌≤◌, ◌^◌, Option, Some, None, Ok, List, [], ◌∷◌, ◌++◌, length}
 use Rattle.swh_outside.specs.Disk.{File}
-use Rattle.swh_outside.specs.Files.{Images, files_of}
+use Rattle.swh_outside.specs.Files.{Files, FileCall, Images, FilesBreaks, files_of, files_done}
+use Rattle.swh_model.specs.declared.event.Outcome.{Outcome}
+use Rattle.swh_model.specs.Judge.{IsVerdict}
 use Rattle.swh_segment.specs.Events as segment
 use Rattle.swh_base.specs.declared.kind.Kind.{Kind}
 use Rattle.swh_model.specs.declared.event.Event.{Event}
 use Rattle.swh_model.specs.declared.event.EventKind.{EventKind}
 use Rattle.swh_model.specs.declared.event.EventKind.TheVariants.{Batch, Open, Mark}
 use Rattle.swh_model.specs.Coding.{coded_run, coded_record, run_of, event_byte, payload_of, IsCodable, AreCodable}
-use Rattle.swh_model.specs.Limits.{store_length}
+use Rattle.swh_model.specs.Limits.{store_length, records_length}
 use Rattle.swh_model.specs.Stands.{StandsFor}
 use Rattle.swh_model.specs.Step.{IsHistory}
 use Rattle.swh_keeper.specs.declared.replayed.Replayed.{Replayed}
@@ -55,3 +57,20 @@ WithOrWithout h e images = StandsFor (images 0) (images 1) h ⊎ StandsFor (imag
 pub record HasRoom (r : Replayed) (run bytes : List ℕ) : Type 0 where
   pub store_fits : r.store_end + length run ≤ 2 ^ 62
   pub ledger_fits : r.ledger_end + 1 + length bytes ≤ 2 ^ 62
+
+-- The device calls that add an event behind a history.
+abbrev pub calls_for : List Event → Event → List FileCall
+calls_for h e = segment.event_calls (store_length h) (run_written e.what) (8 + records_length h) (coded_record (store_length h) e ++ 0 ∷ [])
+
+-- The event behind the history is the newest, and its calls were made.
+pub record IsCarriedOut (h h' : List Event) (old new : Files) : Type 0 where
+  pub event : Event
+  pub added_behind : h' ≡ h ++ event ∷ []
+  pub calls : new ≡ files_done (calls_for h event) old
+
+-- The plan's event was judged, and one of its calls failed.
+pub record IsBrokenOff (h : List Event) (by : ℕ) (wish : EventKind) (old new : Files) : Type 0 where
+  pub event : Event
+  pub outcome : Outcome
+  pub verdict : IsVerdict h by wish (Ok (event, outcome))
+  pub breaks : FilesBreaks (calls_for h event) old new

@@ -1,11 +1,12 @@
 //! A planned event: carried out in memory, then on both disks.
 ghost use Rattle.std.specs.Prelude.{◌≡◌, ◌+◌, ◌≤◌, ◌<◌, ◌^◌, ◌++◌, ◌∷◌, [], ℕ, List, length, OnOk, OnErr, IfOk, IfErr, IsErrOf};
-ghost use Rattle.swh_outside.specs.Files.{EachImages, files_of};
+ghost use Rattle.swh_outside.specs.Files.{EachImages, FilesBreaks, files_of, files_done};
+ghost use Rattle.swh_segment.specs.Events.{event_calls};
 ghost use Rattle.swh_segment.specs.Makes.{EitherRose};
 ghost use Rattle.swh_model.specs.declared.event.Event.{Event};
 ghost use Rattle.swh_keeper.specs.Advance.{MayAdvance};
 ghost use Rattle.swh_keeper.specs.Planned.{IsReplayOf, IsInFiles};
-ghost use Rattle.swh_keeper.specs.Keeping.{AreSettledFor, IsToAdd, WithOrWithout, HasRoom};
+ghost use Rattle.swh_keeper.specs.Keeping.{AreSettledFor, IsToAdd, WithOrWithout, HasRoom, run_written};
 ghost use Rattle.swh_keeper.specs.declared.adding.AddFault.TheVariants.{Disk as DiskFailed, Memory as OutOfMemory};
 
 use crate::advance::advance;
@@ -59,6 +60,12 @@ pub fn add_event<D: Disk>(
     ensures replay { OnOk result (IsReplayOf replayed.new (history.old.items ++ planned.event ∷ [])) }
     ensures in_files { OnOk result (IsInFiles replayed.new) }
     ensures settled { D.tells → OnOk result (AreSettledFor (D.file ledger.new) (D.file store.new) (history.old.items ++ planned.event ∷ []) replayed.new.store_end replayed.new.ledger_end) }
+
+    // The device calls that it makes.
+    ensures calls { D.tells → OnOk result (files_of (D.file ledger.new) (D.file store.new)
+        ≡ files_done (event_calls replayed.old.store_end (run_written planned.event.what) replayed.old.ledger_end planned.bytes.items) (files_of (D.file ledger.old) (D.file store.old))) }
+    ensures broken { D.tells → IsErrOf result DiskFailed → FilesBreaks (event_calls replayed.old.store_end (run_written planned.event.what) replayed.old.ledger_end planned.bytes.items)
+        (files_of (D.file ledger.old) (D.file store.old)) (files_of (D.file ledger.new) (D.file store.new)) }
 
     ensures same_history { OnErr result (history.new.items ≡ history.old.items) }
     ensures same_store_end { OnErr result (replayed.new.store_end ≡ replayed.old.store_end) }

@@ -50,6 +50,7 @@ impl<N: Namer, D: Disk> Keeper<N, D> {
     ghost use Rattle.swh_model.specs.Step.{replay};
     ghost use Rattle.swh_keeper.specs.Maps.{IsEntryOf};
     ghost use Rattle.swh_keeper.specs.Kept.{IsKept, Applies, Refuses};
+    ghost use Rattle.swh_keeper.specs.Keeping.{IsCarriedOut, IsBrokenOff};
 
     /// Makes an archive of no event, unless the ledger is made.
     pub fn make(
@@ -143,6 +144,13 @@ impl<N: Namer, D: Disk> Keeper<N, D> {
         ensures ok { IfOk result (Applies self.old.history by wish self.new.history) }
         ensures unwounded { OnOk result ((self.old.wounded ≡ None) × (self.new.wounded ≡ None)) }
         ensures err { IfErr result (Refuses self.old by wish self.new) }
+
+        // The device calls that it makes: those that add the event, at a fault up to the one that failed.
+        ensures calls { D.tells → OnOk result (IsCarriedOut self.old.history self.new.history
+            (files_of (D.file self.old.ledger) (D.file self.old.store)) (files_of (D.file self.new.ledger) (D.file self.new.store))) }
+        ensures broken { D.tells → IsErrOf result DiskFault → IsBrokenOff self.old.history by wish
+            (files_of (D.file self.old.ledger) (D.file self.old.store)) (files_of (D.file self.new.ledger) (D.file self.new.store)) }
+
         ensures store_later { D.faults self.old.store ≤ D.faults self.new.store }
         ensures ledger_later { D.faults self.old.ledger ≤ D.faults self.new.ledger }
         ensures cause { IsErrOf result DiskFault → EitherRose (D.faults self.old.store) (D.faults self.new.store) (D.faults self.old.ledger) (D.faults self.new.ledger) }

@@ -1,6 +1,7 @@
 //! An event on both disks.
 ghost use Rattle.std.specs.Prelude.{◌≡◌, ◌+◌, ◌≤◌, ◌<◌, ◌^◌, ◌++◌, ◌∷◌, [], ℕ, List, length, OnOk, OnErr};
-ghost use Rattle.swh_outside.specs.Files.{EachImages, files_of};
+ghost use Rattle.swh_outside.specs.Files.{EachImages, FilesRuns, files_of};
+ghost use Rattle.swh_segment.specs.Events.{event_calls};
 ghost use Rattle.swh_segment.specs.Makes.{EitherRose};
 ghost use Rattle.swh_segment.specs.Runs as runs;
 ghost use Rattle.swh_model.specs.Coding.{run_of};
@@ -36,6 +37,10 @@ pub fn write_event<D: Disk>(
     requires limit { replayed.now.ledger_end + 1 < 2 ^ 64 }
     requires to_add { IsToAdd replayed.now history.now.items event.now run.now bytes.now }
     requires settled { D.tells → AreSettledFor (D.file ledger.old) (D.file store.old) history.now.items replayed.now.store_end replayed.now.ledger_end }
+    // The device calls that it makes, in order, on either file.
+    ensures calls { D.tells → FilesRuns (event_calls replayed.now.store_end (run_written event.now.what) replayed.now.ledger_end bytes.now)
+        (files_of (D.file ledger.old) (D.file store.old)) (files_of (D.file ledger.new) (D.file store.new)) result }
+
     ensures ok { D.tells → OnOk result (AreSettledFor (D.file ledger.new) (D.file store.new) (history.now.items ++ event.now ∷ []) (replayed.now.store_end + length run.now) (replayed.now.ledger_end + length bytes.now)) }
     ensures left { D.tells → OnErr result (EachImages (files_of (D.file ledger.new) (D.file store.new)) (WithOrWithout history.now.items event.now)) }
     ensures store_later { D.faults store.old ≤ D.faults store.new }

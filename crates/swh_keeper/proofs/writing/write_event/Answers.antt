@@ -1,5 +1,5 @@
 use Rattle.std.proofs.Common.{◌≡◌, ℕ, ◌+◌, ◌++◌, ◌∷◌, [], length, Option, List, sym, ap, ◌∙◌, subst}
-use Rattle.swh_outside.specs.Files.{files_of}
+use Rattle.swh_outside.specs.Files.{FilesRuns, files_of}
 use Rattle.swh_segment.specs.Runs as runs
 use Rattle.swh_segment.specs.Events as segment
 use Rattle.swh_keeper.specs.Keeping.{written, all_written}
@@ -30,3 +30,9 @@ returns-clause-left g c told =
     on_err c.append_event.result
     (c.append_event.ensures.left told (all_written 0 h) (written r.store_end e) s.settled (record { run_is = c.run_for-run.ensures; entry = ready r h e c.args.run.now c.args.bytes.now c.requires.to_add }))
     (λ each. images_left r h e c.args.run.now c.args.bytes.now (files_of (g.D.Disk.file c.append_event.new.ledger) (g.D.Disk.file c.append_event.new.store)) c.requires.to_add s.codable each)
+
+pub returns-clause-calls : goal.returns-clause-calls
+returns-clause-calls g c told =
+    subst (λ (o : Option (List ℕ)). FilesRuns (segment.event_calls c.args.replayed.now.store_end o c.args.replayed.now.ledger_end c.args.bytes.now)
+    (files_of (g.D.Disk.file c.args.ledger.now) (g.D.Disk.file c.args.store.now)) (files_of (g.D.Disk.file c.append_event.new.ledger) (g.D.Disk.file c.append_event.new.store)) c.append_event.result)
+    c.run_for-run.ensures (c.append_event.ensures.runs told)

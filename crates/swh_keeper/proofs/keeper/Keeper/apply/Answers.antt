@@ -1,8 +1,11 @@
-use Rattle.std.proofs.Common.{◌≡◌, ◌+◌, Err, List, length, ap, ◌∙◌}
+use Rattle.std.proofs.Common.{subst, ◌≡◌, ◌+◌, Err, List, length, ap, ◌∙◌}
 use Rattle.swh_model.specs.declared.event.Event.{Event}
 use Rattle.swh_keeper.specs.declared.adding.AddFault.{AddFault}
 use Rattle.swh_keeper.specs.declared.adding.AddFault.TheVariants.{Disk}
-use Rattle.swh_keeper.proofs.ApplyLemmas.{may_of_plan, may_advance, keeping-push, keeping-doubt}
+use Rattle.swh_keeper.proofs.ApplyLemmas.{may_of_plan, may_advance, keeping-push, keeping-doubt, calls_are}
+use Rattle.swh_outside.specs.Files.{FileCall, FilesBreaks, files_of}
+use Rattle.swh_keeper.specs.Keeping.{IsBrokenOff}
+use Rattle.swh_keeper.specs.Kept.{Kept}
 use Rattle.swh_keeper.proofs.keeper.Keeper.apply.Goals as goal
 
 pub add_event-added-requires-clause-may : goal.add_event-added-requires-clause-may
@@ -37,3 +40,19 @@ invariant_of-self-in-Disk g c =
     let disk : c.add_event-added.result ≡ Err Disk = failed ∙ ap (λ (x : AddFault). Err x) c.in-Disk.is in
     keeping-doubt g.N.Namer.id_of g.D.Disk.tells (g.D.Disk.file c.add_event-added.new.ledger) (g.D.Disk.file c.add_event-added.new.store) k.replayed c.add_event-added.new.replayed k.history.items c.add_event-added.new.history.items
     c.in-Ok.planned.event (length c.as_slice.result.now + 1) c.self.invariant.history may e c.self.invariant.in_files se le (λ told. c.add_event-added.ensures.left told disk)
+
+pub returns-in-Disk-clause-broken : goal.returns-in-Disk-clause-broken
+returns-in-Disk-clause-broken g c told _ =
+    let k = c.self.inside in
+    let is = c.self.invariant.replayed_is c.in_default.is in
+    let planned = c.in-Ok.ensures.ok k.history.items is (ap (λ (l : List Event). length l + 1) c.as_slice.ensures.value) in
+    let disk : c.add_event-added.result ≡ Err Disk = c.in-Err-added.is ∙ ap (λ (x : AddFault). Err x) c.in-Disk.is in
+    let new = files_of (g.D.Disk.file c.add_event-added.new.ledger) (g.D.Disk.file c.add_event-added.new.store) in
+    subst (λ (v : Kept g.row.D.Denot). IsBrokenOff v.history c.args.by c.args.wish (files_of (g.D.Disk.file v.ledger) (g.D.Disk.file v.store)) new) c.self.view_is
+    (record {
+      event = c.in-Ok.planned.event;
+      outcome = c.in-Ok.planned.outcome;
+      verdict = planned.verdict;
+      breaks = subst (λ (plan : List FileCall). FilesBreaks plan (files_of (g.D.Disk.file k.ledger) (g.D.Disk.file k.store)) new)
+          (calls_are k.replayed k.history.items c.in-Ok.planned.event c.in-Ok.planned.bytes.items is planned.record_is) (c.add_event-added.ensures.broken told disk);
+    })
