@@ -6,3 +6,5 @@ pub mod BatchLemmas
 pub mod VerdictLemmas
 pub mod EncodeLemmas
 pub mod PlanLemmas
+pub mod LengthLemmas
+pub mod CheckLemmas

@@ -3,3 +3,4 @@ pub mod Walk
 pub mod Batches
 pub mod Judged
 pub mod Planned
+pub mod Checked

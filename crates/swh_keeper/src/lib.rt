@@ -1,19 +1,23 @@
 //! Keeps an archive: two disks, and the replay of their history in memory.
-//! Stands on `swh_base`, `swh_outside`, `swh_segment` and `swh_model`.
+//! Stands on `swh_base`, `swh_object`, `swh_outside`, `swh_segment` and `swh_model`.
 //! Above it may rely on: a plan is judged as the model says, and the disks stand for the history unless a disk failed.
 #![tactic(auto)]
 
 mod bodies;
+mod checking;
 mod closure;
 mod fresh;
 mod judging;
+mod lengths;
 mod listing;
 mod planning;
 mod plans;
+mod remaking;
 mod replayed;
 mod visits;
 
 pub use bodies::HeldBodies;
+pub use checking::{Checked, check_replay};
 pub use closure::find_gap;
 pub use fresh::{Split, find_collision, split_fresh};
 pub use judging::{limit_of_batch, limit_of_files, snapshot_refusal, visit_refusal};
