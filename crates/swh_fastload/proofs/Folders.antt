@@ -1,10 +1,9 @@
 -- The directory of a tree of files in one folder.
-use Rattle.std.proofs.Common.{◌≡◌, ◌≢◌, ℕ, zero, suc, ◌+◌, ◌<◌, Bool, true, false, ◌==◌, cond, List, [], ◌∷◌, ◌++◌, length, map, Contains, Option, Some, None, refl, sym, ap, ◌∙◌, subst, arith, decimal, codes, inl}
+use Rattle.std.proofs.Common.{◌≡◌, ◌≢◌, ℕ, suc, Bool, true, false, ◌==◌, cond, List, [], ◌∷◌, ◌++◌, length, map, Contains, Option, Some, refl, sym, ap, ◌∙◌, arith, inl}
 use Rattle.std.specs.Prelude.{if◌then◌else◌}
 use Rattle.std.specs.Ordering.{nat_cmp, is_eq, ordering_reverse}
 use Rattle.std.specs.declared.cmp.Ordering.{Ordering}
 use Rattle.std.specs.declared.cmp.Ordering.TheVariants.{Less, Equal, Greater}
-use Rattle.std.specs.Cmp.{IsTotalOrder}
 use Rattle.std.specs.Cmp.Lexicographic.{slice_cmp, nat_list_cmp_total}
 use Rattle.std.specs.List.{AllByRecursion, flat_map}
 use Rattle.std.specs.List.Sorted.{IsStrictlySortedBy}
@@ -15,12 +14,10 @@ use Rattle.std.proofs.lemmas.Bool.{eqb-true}
 use Rattle.std.specs.Prelude.{sum_by}
 use Rattle.swh_base.specs.Directory.{IsDirectory}
 use Rattle.swh_model.specs.SmallStream.{IsFileName}
-use Rattle.swh_base.specs.Directory.{Entry, suffix_of, sort_key, entry_text, directory_text, IsEntryName, IsEntry, IsBefore, AreEntries}
-use Rattle.swh_base.specs.Name.{IsId}
-use Rattle.swh_model.specs.PathMap.{Leaf, PathMap, same_path, leaf_at, first_component, below, entry_at, insert_by, insert, ordered, entries_of, bodies_of, depth_of, directory_of, directory_bodies}
-use Rattle.swh_fastload.specs.Tree.{tree_of, file_text}
+use Rattle.swh_base.specs.Directory.{Entry, sort_key, entry_text, directory_text, IsEntryName, IsBefore, AreEntries}
+use Rattle.swh_model.specs.PathMap.{Leaf, PathMap, leaf_at, first_component, below, entry_at, insert_by, insert, ordered, entries_of, bodies_of, directory_of, directory_bodies}
+use Rattle.swh_fastload.specs.Tree.{tree_of, file_text, IsFile, Ascends}
 use Rattle.swh_fastload.proofs.Trees.{AreFlat}
-use Rattle.swh_fastload.proofs.Cuts.{in_middle}
 
 Files : Type 0
 Files = List (Bor (List ℕ) × List ℕ)
@@ -28,17 +25,12 @@ Files = List (Bor (List ℕ) × List ℕ)
 order : Bor (List ℕ) → Bor (List ℕ) → Ordering
 order a b = slice_cmp nat_cmp a.now b.now
 
--- each path comes before those after it
-abbrev pub Ascends : PathMap → Type 0
-Ascends [] = Unit {0}
-Ascends (e ∷ m) = AllByRecursion (λ f. slice_cmp nat_cmp e.0 f.0 ≡ Less) m × Ascends m
-
 own_reverse : (o : Ordering) → o ≡ ordering_reverse o → o ≡ Equal
 own_reverse Less e = absurd (cc)
 own_reverse Equal e = refl
 own_reverse Greater e = absurd (cc)
 
-same_self : (p : List ℕ) → slice_cmp nat_cmp p p ≡ Equal
+pub same_self : (p : List ℕ) → slice_cmp nat_cmp p p ≡ Equal
 same_self p = own_reverse (slice_cmp nat_cmp p p) (nat_list_cmp_total.antisymm p p)
 
 greater_from_less : (p q : List ℕ) → slice_cmp nat_cmp p q ≡ Less → slice_cmp nat_cmp q p ≡ Greater
@@ -64,6 +56,7 @@ first-flat (c ∷ path) none = by_test (c == 47) refl (first-flat path none_afte
   where
     none_after : Contains path 47 → ⊥
     none_after h = let l = h.1 in none (suc h.0, omega (arith, l), h.2)
+
     by_test : (b : Bool) → (c == 47) ≡ b → first_component path ≡ path → cond b [] (c ∷ first_component path) ≡ c ∷ path
     by_test true e h = absurd (none (0, omega arith, eqb-true c 47 e))
     by_test false e h = ap (λ (t : List ℕ). c ∷ t) h
@@ -91,7 +84,7 @@ unfolding FindsAll leaf_entry
 entries_each id depth m [] flat h = refl
 entries_each id depth m (e ∷ es) flat h =
     let first : entry_at id (first_component e.0) (leaf_at (first_component e.0) m) (entries_of id depth (below (first_component e.0) m)) ≡ leaf_entry e =
-        ap (λ (p : List ℕ). entry_at id p (leaf_at p m) (entries_of id depth (below p m))) (first-flat e.0 flat.0) ∙ ap (λ (o : Option Leaf). entry_at id e.0 o (entries_of id depth (below e.0 m))) h.0 in
+    ap (λ (p : List ℕ). entry_at id p (leaf_at p m) (entries_of id depth (below p m))) (first-flat e.0 flat.0) ∙ ap (λ (o : Option Leaf). entry_at id e.0 o (entries_of id depth (below e.0 m))) h.0 in
     ap (λ (x : Entry). x ∷ map (λ e. entry_at id (first_component e.0) (leaf_at (first_component e.0) m) (entries_of id depth (below (first_component e.0) m))) es) first ∙ ap (λ (t : List Entry). leaf_entry e ∷ t) (entries_each id depth m es flat.1 h.1)
 
 pub file_entry : Bor (List ℕ) × List ℕ → Entry
@@ -154,11 +147,6 @@ text-files id files flat a = ap directory_text (directory-files id (sum_by (λ e
 name_of_file : (name : List ℕ) → IsFileName name → IsEntryName name
 name_of_file name h = record { not_empty = h.some; no_nul = h.no_nul; no_slash = h.no_slash }
 
--- names and ids of files
-pub record IsFile (e : List ℕ × Leaf) : Type 0 where
-  pub name : IsFileName e.0
-  pub id : IsId e.1.id
-
 file_before : (f : Bor (List ℕ) × List ℕ) (files : List (Bor (List ℕ) × List ℕ)) → AllByRecursion (λ g. slice_cmp nat_cmp f.0.now g.0 ≡ Less) (tree_of files) → AllByRecursion (λ g. IsBefore (file_entry f) g) (map file_entry files)
 file_before f [] a = tt
 file_before f (g ∷ files) a = (before_plain f g a.0, file_before f files a.1)
@@ -172,6 +160,10 @@ are_files : (files : List (Bor (List ℕ) × List ℕ)) → AllByRecursion IsFil
 unfolding file_entry
 are_files [] h a = tt
 are_files (f ∷ files) h a = (record { mode = inl refl; name = name_of_file f.0.now h.0.name; id = h.0.id.0 }, file_other f files a.0, file_before f files a.0, are_files files h.1 a.1)
+
+pub flat_of_files : (m : PathMap) → AllByRecursion IsFile m → AreFlat m
+flat_of_files [] h = tt
+flat_of_files (e ∷ m) h = (h.0.name.no_slash, flat_of_files m h.1)
 
 pub directory_from : (files : List (Bor (List ℕ) × List ℕ)) (body : List ℕ) → AllByRecursion IsFile (tree_of files) → Ascends (tree_of files) → body ≡ flat_map file_text (tree_of files) → (entries : List Entry) × IsDirectory body entries
 directory_from files body h a e = (map file_entry files, record { text = e ∙ sym (files_text files); good = are_files files h a })

@@ -1,8 +1,12 @@
+pub mod Bodies
+pub mod Commits
 pub mod Cuts
 pub mod Folders
 pub mod Fronts
 pub mod Leads
+pub mod Loads
 pub mod Numbers
+pub mod Onces
 pub mod Persons
 pub mod Readings
 pub mod Trees

@@ -1,11 +1,11 @@
 -- Trees of files in one folder.
-use Rattle.std.proofs.Common.{◌≡◌, ◌≢◌, ℕ, zero, suc, ◌+◌, ◌<◌, ◌≤◌, Bool, true, false, not, ◌||◌, ◌==◌, nat_eq, cond, List, [], ◌∷◌, ◌++◌, length, map, drop, Contains, Option, Some, None, refl, sym, ap, ◌∙◌, subst, arith}
-use Rattle.std.specs.Prelude.{filter, option_and_then}
+use Rattle.std.proofs.Common.{◌≡◌, ℕ, zero, suc, ◌+◌, ◌<◌, Bool, true, false, not, ◌||◌, ◌==◌, cond, List, [], ◌∷◌, ◌++◌, length, map, drop, Contains, Option, Some, None, refl, sym, ap, ◌∙◌, subst, arith}
+use Rattle.std.specs.Prelude.{option_and_then}
 use Rattle.std.specs.Ordering.{nat_cmp, is_eq, match_ordering}
 use Rattle.std.specs.declared.cmp.Ordering.{Ordering}
 use Rattle.std.specs.declared.cmp.Ordering.TheVariants.{Less, Equal, Greater}
 use Rattle.std.specs.Cmp.Lexicographic.{slice_cmp}
-use Rattle.std.specs.List.{AllByRecursion, starts_with}
+use Rattle.std.specs.List.{AllByRecursion}
 use Rattle.std.specs.Borrow.{Bor}
 use Rattle.std.specs.BTreeMap.{insert_entry, is_at}
 use Rattle.std.specs.Map.{lookup}
@@ -19,7 +19,8 @@ use Rattle.swh_fastload.proofs.Cuts.{in_middle}
 use Rattle.swh_model.specs.PathMap.{Leaf, PathMap, is_under, is_in_the_way, cleared, set}
 use Rattle.swh_model.specs.SmallStream.{Change, IsFileName}
 use Rattle.swh_model.specs.Meaning.{marked, tree_after}
-use Rattle.swh_fastload.specs.Tree.{tree_of}
+use Rattle.swh_fastload.specs.Tree.{tree_of, IsFile}
+use Rattle.swh_base.specs.Name.{IsId}
 
 -- no path goes on
 abbrev pub AreFlat : PathMap → Type 0
@@ -58,15 +59,6 @@ insert_tree (f ∷ files) name id = by_order (slice_cmp nat_cmp name.now f.0.now
     by_order Equal xs ys h = refl
     by_order Greater xs ys h = ap (λ (t : PathMap). (f.0.now, record { mode = 100644; id = f.1 }) ∷ t) h
 
-pub insert-flat : (p : List ℕ) (leaf : Leaf) (m : PathMap) → (Contains p 47 → ⊥) → AreFlat m → AreFlat (insert_entry (slice_cmp nat_cmp) m p leaf)
-insert-flat p leaf [] np flat = (np, tt)
-insert-flat p leaf (e ∷ m) np flat = by_order (slice_cmp nat_cmp p e.0) _ (insert-flat p leaf m np flat.1)
-  where
-    by_order : (o : Ordering) (t : PathMap) → AreFlat t → AreFlat (match_ordering o ((p, leaf) ∷ e ∷ m) ((e.0, leaf) ∷ m) (e ∷ t))
-    by_order Less t h = (np, flat)
-    by_order Equal t h = flat
-    by_order Greater t h = (flat.0, h)
-
 same_numbers : (a b : ℕ) → is_eq (nat_cmp a b) ≡ (a == b)
 same_numbers a b = grind (arith, nat_tests)
 
@@ -94,21 +86,43 @@ named_at (c ∷ all) (suc i) d h l = named_at all i d h.1 (omega arith)
 changes_left : (all : List HeldChange) (i : ℕ) (d : HeldChange) → i < length all → map change_view (drop i all) ≡ change_view (get_or all i d) ∷ map change_view (drop (i + 1) all)
 changes_left all i d l = ap (map change_view) (drop-cons all i d l ∙ ap (λ (k : ℕ). get_or all i d ∷ drop k all) (sym (add-one i)))
 
+-- a file more
+insert-files : (p : List ℕ) (leaf : Leaf) (m : PathMap) → IsFileName p → IsId leaf.id → AllByRecursion IsFile m → AllByRecursion IsFile (insert_entry (slice_cmp nat_cmp) m p leaf)
+insert-files p leaf [] n i each = (record { name = n; id = i }, tt)
+insert-files p leaf (e ∷ m) n i each = by_order (slice_cmp nat_cmp p e.0) (insert_entry (slice_cmp nat_cmp) m p leaf) (insert-files p leaf m n i each.1)
+  where
+    by_order : (o : Ordering) (t : PathMap) → AllByRecursion IsFile t → AllByRecursion IsFile (match_ordering o ((p, leaf) ∷ e ∷ m) ((e.0, leaf) ∷ m) (e ∷ t))
+    by_order Less t h = (record { name = n; id = i }, each)
+    by_order Equal t h = (record { name = each.0.name; id = i }, each.1)
+    by_order Greater t h = (each.0, h)
+
+flat : (m : PathMap) → AllByRecursion IsFile m → AreFlat m
+flat [] h = tt
+flat (e ∷ m) h = (h.0.name.no_slash, flat m h.1)
+
+found_id : (test : ℕ → Bool) (marks : List (ℕ × List ℕ)) (id : List ℕ) → AllByRecursion (λ e. IsId e.1) marks → Some id ≡ lookup test marks → IsId id
+found_id test [] id h e = absurd (cc)
+found_id test (m ∷ marks) id h e = by_test (test m.0) (found_id test marks id h.1) e
+  where
+    by_test : (b : Bool) → (Some id ≡ lookup test marks → IsId id) → Some id ≡ cond b (Some m.1) (lookup test marks) → IsId id
+    by_test true k e = let same : id ≡ m.1 = cc in subst IsId (sym same) h.0
+    by_test false k e = k e
+
 pub record FilesLead (marks : List (ℕ × List ℕ)) (all : List HeldChange) (i : ℕ) (files : List (Bor (List ℕ) × List ℕ)) : Type 0 where
   pub leads : tree_after marks [] (map change_view all) ≡ tree_after marks (tree_of files) (map change_view (drop i all))
-  pub flat : AreFlat (tree_of files)
+  pub each : AllByRecursion IsFile (tree_of files)
 
-pub files_step : (marks : List (ℕ × List ℕ)) (all : List HeldChange) (i : ℕ) (d : HeldChange) (files new : List (Bor (List ℕ) × List ℕ)) (id : List ℕ) → AreNamed all → i < length all → new ≡ insert_entry (λ a b. slice_cmp nat_cmp a.now b.now) files (get_or all i d).name id → Some id ≡ lookup (is_at (nat_cmp (get_or all i d).mark)) marks
-    → tree_after marks [] (map change_view all) ≡ tree_after marks (tree_of files) (map change_view (drop i all)) → AreFlat (tree_of files) → FilesLead marks all (i + 1) new
-files_step marks all i d files new id names l e found leads flat =
-    let no_slash = (named_at all i d names l).no_slash in
+pub files_step : (marks : List (ℕ × List ℕ)) (all : List HeldChange) (i : ℕ) (d : HeldChange) (files new : List (Bor (List ℕ) × List ℕ)) (id : List ℕ) → AllByRecursion (λ e. IsId e.1) marks → AreNamed all → i < length all → new ≡ insert_entry (λ a b. slice_cmp nat_cmp a.now b.now) files (get_or all i d).name id → Some id ≡ lookup (is_at (nat_cmp (get_or all i d).mark)) marks
+    → tree_after marks [] (map change_view all) ≡ tree_after marks (tree_of files) (map change_view (drop i all)) → AllByRecursion IsFile (tree_of files) → FilesLead marks all (i + 1) new
+files_step marks all i d files new id ids names l e found leads each =
+    let named = named_at all i d names l in
     let name = (get_or all i d).name in
     let leaf : Leaf = record { mode = 100644; id = id } in
     let same : tree_of new ≡ insert_entry (slice_cmp nat_cmp) (tree_of files) name.now leaf = ap tree_of e ∙ insert_tree files name id in
     let marks_it : marked marks (get_or all i d).mark ≡ Some id = marked-lookup marks (get_or all i d).mark ∙ sym found in record {
       leads = leads ∙ ap (tree_after marks (tree_of files)) (changes_left all i d l) ∙ tree_step marks (tree_of files) (change_view (get_or all i d)) (map change_view (drop (i + 1) all)) id marks_it
-        ∙ ap (λ (t : PathMap). tree_after marks t (map change_view (drop (i + 1) all))) (set-flat name.now leaf (tree_of files) no_slash flat ∙ sym same);
-      flat = subst AreFlat (sym same) (insert-flat name.now leaf (tree_of files) no_slash flat);
+          ∙ ap (λ (t : PathMap). tree_after marks t (map change_view (drop (i + 1) all))) (set-flat name.now leaf (tree_of files) named.no_slash (flat (tree_of files) each) ∙ sym same);
+      each = subst (AllByRecursion IsFile) (sym same) (insert-files name.now leaf (tree_of files) named (found_id (is_at (nat_cmp (get_or all i d).mark)) marks id ids found) each);
     }
 
 pub files_unset : (marks : List (ℕ × List ℕ)) (all : List HeldChange) (i : ℕ) (d : HeldChange) (tree : PathMap) → i < length all → None ≡ lookup (is_at (nat_cmp (get_or all i d).mark)) marks → tree_after marks [] (map change_view all) ≡ tree_after marks tree (map change_view (drop i all)) → tree_after marks [] (map change_view all) ≡ None

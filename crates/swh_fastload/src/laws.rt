@@ -1,7 +1,14 @@
 ghost use Rattle.std.specs.Prelude.{◌≡◌, ℕ, List};
+ghost use Rattle.swh_base.specs.declared.kind.Kind.{Kind};
+ghost use Rattle.swh_model.specs.Meaning.{Making, IsMeaning};
 ghost use Rattle.swh_model.specs.SmallStream.{SmallStream, Parses};
 
 /// A text is one stream of the small grammar at most.
 pub fn one_reading()
     ensures { (text : List ℕ) (s t : SmallStream) → Parses text s → Parses text t → s ≡ t }
+{}
+
+/// A text means one thing at most.
+pub fn one_meaning()
+    ensures { (id : Kind → List ℕ → List ℕ) (text : List ℕ) (m n : Making) → IsMeaning id text m → IsMeaning id text n → m ≡ n }
 {}

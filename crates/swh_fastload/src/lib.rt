@@ -4,8 +4,11 @@
 #![tactic(auto)]
 
 mod fault;
+mod ids;
 mod laws;
 mod lines;
+mod load;
+mod objects;
 mod parse;
 mod parts;
 mod stream;
@@ -13,7 +16,8 @@ mod tree;
 mod words;
 
 pub use fault::StreamFault;
-pub use laws::one_reading;
+pub use laws::{one_meaning, one_reading};
+pub use load::{Objects, load_stream};
 pub use parse::parse_stream;
 pub use stream::{Blob, Change, Commit, SmallStream};
 

@@ -1,6 +1,7 @@
 use super::*;
 use std::alloc::Global;
 use std::test::Fail;
+use swh_base::{Kind, Name, Sha1Namer};
 
 /// A blob and a commit of it.
 const FIRST: &[u8] =
@@ -56,6 +57,61 @@ fn leaves_out(rt: HostRuntime) {
         is_left_out(
             rt.alloc(),
             b"commit a\nmark :1\ncommitter <> 1 +0000\ndata 0\n\n\nM 100644 :1 a\n"
+        )
+    );
+}
+
+fn hex_of(name: &Name) -> [u8; 40] {
+    let mut text = [0; 40];
+    name.hex(&mut text);
+    text
+}
+
+#[test]
+fn loads(rt: HostRuntime) -> Result<(), Fail> {
+    let loaded = load_stream(rt.alloc(), &Sha1Namer, FIRST)?;
+    assert_eq!(rt; loaded.objects.len(), 4);
+    let content = loaded.objects[0].name();
+    assert_eq!(rt; content.kind, Kind::Content);
+    assert_eq!(rt;
+        hex_of(&content),
+        *b"83baae61804e65cc73a7201a7252750c76066a30"
+    );
+    let directory = loaded.objects[1].name();
+    assert_eq!(rt; directory.kind, Kind::Directory);
+    assert_eq!(rt;
+        hex_of(&directory),
+        *b"d8329fc1cc938780ffdd9f94e0d364e0ea74f579"
+    );
+    let revision =
+        b"tree d8329fc1cc938780ffdd9f94e0d364e0ea74f579\nauthor A <a@e.org> 1000000000 +0000\ncommitter A <a@e.org> 1000000000 +0000\n\nfirst\n".as_slice();
+    assert_eq!(rt; loaded.objects[2].body(), revision);
+    assert_eq!(rt; loaded.objects[3].body().len(), 48);
+    let empty = load_stream(rt.alloc(), &Sha1Namer, b"")?;
+    assert_eq!(rt; empty.objects.len(), 1);
+    assert_eq!(rt;
+        hex_of(&empty.objects[0].name()),
+        *b"1a8893e6a86f444e8be8e7bda6cb34fb1735a00e"
+    );
+    Ok(())
+}
+
+#[test]
+fn equal_contents_are_made_once(rt: HostRuntime) -> Result<(), Fail> {
+    let text = b"blob\nmark :1\ndata 1\nablob\nmark :2\ndata 1\nbblob\nmark :1\ndata 1\na";
+    let loaded = load_stream(rt.alloc(), &Sha1Namer, text)?;
+    assert_eq!(rt; loaded.objects.len(), 3);
+    Ok(())
+}
+
+#[test]
+fn marks_that_are_not_set_are_left_out(rt: HostRuntime) {
+    let text =
+        b"blob\nmark :1\ndata 0\ncommit a\nmark :2\ncommitter <> 1 +0000\ndata 0\nM 100644 :3 a\n";
+    assert!(rt;
+        matches!(
+            load_stream(rt.alloc(), &Sha1Namer, text),
+            Err(StreamFault::LeftOut)
         )
     );
 }

@@ -4,8 +4,10 @@ ghost use Rattle.std.specs.List.{AllByRecursion, flat_map};
 ghost use Rattle.swh_model.specs.SmallStream.{IsFileName};
 ghost use Rattle.swh_model.specs.Meaning.{tree_after};
 ghost use Rattle.swh_fastload.specs.View.{change_view};
+ghost use Rattle.swh_fastload.specs.Making.{AreIds};
+ghost use Rattle.swh_fastload.specs.declared.fault.StreamFault.TheVariants.{Memory as OutOfMemory};
 ghost use Rattle.swh_fastload.specs.Refusal.{Refuses};
-ghost use Rattle.swh_fastload.specs.Tree.{tree_of, file_text};
+ghost use Rattle.swh_fastload.specs.Tree.{tree_of, file_text, IsFolder};
 
 use crate::fault::StreamFault;
 use crate::stream::Change;
@@ -24,8 +26,10 @@ pub fn files_of<'a>(
     marks: &Marks,
     changes: &[Change<'a>],
 ) -> Result<Files<'a>, StreamFault>
-    requires { AllByRecursion (λ change. IsFileName change.name) (map change_view changes.now) }
+    requires ids { AreIds marks.now.entries }
+    requires names { AllByRecursion (λ change. IsFileName change.name) (map change_view changes.now) }
     ensures ok { IfOk result (λ files. tree_after marks.now.entries [] (map change_view changes.now) ≡ Some (tree_of files.entries)) }
+    ensures folder { IfOk result (λ files. IsFolder (tree_of files.entries)) }
     ensures err { IfErr result (Refuses (tree_after marks.now.entries [] (map change_view changes.now) ≡ None)) }
 {
     let mut files = BTreeMap::new(alloc);
@@ -40,7 +44,8 @@ pub fn files_of<'a>(
 
 /// The body of the directory of these files.
 pub fn directory_body(alloc: Global, files: &Files<'_>) -> Result<Vec<u8>, StreamFault>
-    ensures { IfOk result (λ body. body.items ≡ flat_map file_text (tree_of files.now.entries)) }
+    ensures ok { IfOk result (λ body. body.items ≡ flat_map file_text (tree_of files.now.entries)) }
+    ensures err { IfErr result (λ fault. fault ≡ OutOfMemory) }
 {
     let mut body = Vec::new(alloc);
     for (name, id) in files.iter() {

@@ -53,19 +53,20 @@ take-next es i e less is = take_more es i e less ∙ ap (λ (x : Entry). take i 
 pub fresh-kept : (b : Bodies) (es fs : List Entry) (i : ℕ) (e : Entry) → i < length es → e ≡ get_or es i e → fs ≡ fresh b (take i es) → body_of (added b fs) e.name ≡ None → fs ++ e ∷ [] ≡ fresh b (take (i + 1) es)
 fresh-kept b es fs i e less is so none =
     let new : fresh (added b (fresh b (take i es))) (e ∷ []) ≡ e ∷ [] =
-        ap (λ (t : Bool). cond t [] (e ∷ [])) (ap is_some (ap (λ (gs : List Entry). body_of (added b gs) e.name) (sym so) ∙ none)) in
+    ap (λ (t : Bool). cond t [] (e ∷ [])) (ap is_some (ap (λ (gs : List Entry). body_of (added b gs) e.name) (sym so) ∙ none)) in
     ap (λ (gs : List Entry). gs ++ e ∷ []) so ∙ sym (ap (fresh b) (take-next es i e less is) ∙ fresh-append b (take i es) (e ∷ []) ∙ ap (λ (gs : List Entry). fresh b (take i es) ++ gs) new)
 
 -- one entry more is held or stands earlier
 pub fresh-passed : (b : Bodies) (es fs : List Entry) (i : ℕ) (e : Entry) → i < length es → e ≡ get_or es i e → fs ≡ fresh b (take i es) → (body_of (added b fs) e.name ≡ None → ⊥) → fs ≡ fresh b (take (i + 1) es)
 fresh-passed b es fs i e less is so some =
     let old : fresh (added b (fresh b (take i es))) (e ∷ []) ≡ [] =
-        ap (λ (t : Bool). cond t [] (e ∷ [])) (ap is_some (ap (λ (gs : List Entry). body_of (added b gs) e.name) (sym so)) ∙ some_of (body_of (added b fs) e.name) some) in
+    ap (λ (t : Bool). cond t [] (e ∷ [])) (ap is_some (ap (λ (gs : List Entry). body_of (added b gs) e.name) (sym so)) ∙ some_of (body_of (added b fs) e.name) some) in
     so ∙ sym (ap (fresh b) (take-next es i e less is) ∙ fresh-append b (take i es) (e ∷ []) ∙ ap (λ (gs : List Entry). fresh b (take i es) ++ gs) old ∙ append_none (fresh b (take i es)))
   where
     some_of : (o : Option (List ℕ)) → (o ≡ None → ⊥) → is_some o ≡ true
     some_of None h = absurd (h refl)
     some_of (Some x) h = refl
+
     append_none : (l : List Entry) → l ++ [] ≡ l
     append_none [] = refl
     append_none (x ∷ l) = ap (λ (k : List Entry). x ∷ k) (append_none l)
@@ -111,12 +112,14 @@ covered b (f ∷ es) e h none =
     only : (y m : Entry) → Contains (y ∷ []) m → y ≡ m
     only y m (zero, less, is) = is
     only y m (suc k, less, is) = absurd (omega (arith, less))
+
     held_on : (c : Bodies) (fs : List Entry) (n : Name) → AreNew c fs → is_some (body_of c n) ≡ true → body_of (added c fs) n ≡ None → ⊥
     held_on c fs n new some nothing =
         elim (body_of c n) as (λ o. body_of c n ≡ o → is_some o ≡ true → ⊥) [
           | None ↦ λ i s. absurd (let g : false ≡ true = s in cc)
           | Some x ↦ λ i s. let later : body_of (added c fs) n ≡ Some x = within-added c fs new n x i in let g : None ≡ Some x = sym nothing ∙ later in absurd (cc)
         ] refl some
+
     put_on : (g : Entry) → body_of (added (finite.insert b g.name g.body) (fresh (finite.insert b g.name g.body) es)) g.name ≡ None → ⊥
     put_on g nothing =
         let later = within-added (finite.insert b g.name g.body) (fresh (finite.insert b g.name g.body) es) (fresh-new (finite.insert b g.name g.body) es) g.name g.body (body-put b g.name g.body) in
@@ -127,10 +130,16 @@ pub collides : (b : Bodies) (es : List Entry) (e : Entry) → Contains es e → 
 collides b es e there other =
     elim (body_of (added b (fresh b es)) e.name) as (λ o. body_of (added b (fresh b es)) e.name ≡ o → Collides b es e.name) [
       | None ↦ λ none. absurd (covered b es e there none)
-      | Some x ↦ λ some. (x, e.body, elim (from_entry b (fresh b es) e.name x some) [
-            | inl held ↦ inl held
-            | inr (f, inside, name, body) ↦ inr (f, fresh-inside b es f inside, name, body)
-          ], inr (e, there, refl, refl), λ same. other (some ∙ ap (λ (y : List ℕ). Some y) same))
+      | Some x ↦ λ some. (
+        x,
+        e.body,
+        elim (from_entry b (fresh b es) e.name x some) [
+          | inl held ↦ inl held
+          | inr (f, inside, name, body) ↦ inr (f, fresh-inside b es f inside, name, body)
+        ],
+        inr (e, there, refl, refl),
+        λ same. other (some ∙ ap (λ (y : List ℕ). Some y) same),
+      )
     ] refl
 
 -- where each entry has its body in the end, no name has two

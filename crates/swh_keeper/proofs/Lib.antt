@@ -8,3 +8,5 @@ pub mod EncodeLemmas
 pub mod PlanLemmas
 pub mod LengthLemmas
 pub mod CheckLemmas
+pub mod KeptLemmas
+pub mod ApplyLemmas

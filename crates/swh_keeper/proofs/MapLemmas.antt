@@ -110,6 +110,8 @@ ok-of (Err e) P ok p = absurd (let f : false ≡ true = ok in cc)
 
 pub view-reordered : {S : Type 0} (m n : HashMap (List ℕ) Entry S) → All IsKeyed m.entries → IsReordered keys_eq m n → All IsKeyed n.entries × (bodies_of n.entries ≡ bodies_of m.entries)
 view-reordered m n keyed same =
-    let keyed' = All-permutation IsKeyed m.entries n.entries same.0 keyed in
-    (keyed', same_map name_cmp_total name_cmp-IsAntisymmetric (bodies_of n.entries) (bodies_of m.entries)
-    (λ q. body_of-lookup q n.entries keyed' ∙ ap (option_map entry_body) (same.2 (name_key q)) ∙ sym (body_of-lookup q m.entries keyed)))
+    let keyed' = All-permutation IsKeyed m.entries n.entries same.0 keyed in (
+      keyed',
+      same_map name_cmp_total name_cmp-IsAntisymmetric (bodies_of n.entries) (bodies_of m.entries)
+          (λ q. body_of-lookup q n.entries keyed' ∙ ap (option_map entry_body) (same.2 (name_key q)) ∙ sym (body_of-lookup q m.entries keyed)),
+    )

@@ -182,9 +182,10 @@ module _ (h : List Event) (by : ℕ) (origin : List ℕ) (number : ℕ) (status 
   pub mark_snapshot_refused : Files → MayBeMarked Visits by number → (no : No) → IsSnapshotRefusal (replay h).bodies status snapshot no → IsVerdict h by Wanted (Err no)
   mark_snapshot_refused files may (NoSnapshot name) is =
       (is, none_below h by Wanted origin number status snapshot 8 files (λ l. no_visit may.visit may.there) (λ l. not_yours may.visit may.there may.opened) (λ l. not_ended may.visit may.there may.unended) (λ l. absurd (omega (arith, l))) (λ l. absurd (omega (arith, l))))
-  mark_snapshot_refused files may (NotClosed parent child) (full, id, s, held, gap) =
-      ((full, id, s, gap.reached, gap.kid, gap.missing),
-      none_below h by Wanted origin number status snapshot 9 files (λ l. no_visit may.visit may.there) (λ l. not_yours may.visit may.there may.opened) (λ l. not_ended may.visit may.there may.unended) (λ l. snapshot_there id s held) (λ l. absurd (omega (arith, l))))
+  mark_snapshot_refused files may (NotClosed parent child) (full, id, s, held, gap) = (
+    (full, id, s, gap.reached, gap.kid, gap.missing),
+    none_below h by Wanted origin number status snapshot 9 files (λ l. no_visit may.visit may.there) (λ l. not_yours may.visit may.there may.opened) (λ l. not_ended may.visit may.there may.unended) (λ l. snapshot_there id s held) (λ l. absurd (omega (arith, l))),
+  )
   mark_snapshot_refused files may (Limit w n) is = absurd is
   mark_snapshot_refused files may (NoVisit have) is = absurd is
   mark_snapshot_refused files may (NotYours other) is = absurd is

@@ -29,16 +29,17 @@ keys_itself k = texts_ties k k ∙ ap is_eq (tied_itself nat_list_cmp_total k)
 pub seen-push : {S : Type 0} (seen seen' : HashSet (List ℕ) S) (key : List ℕ) (name : Name) (names names' : List Name) → IsSeen seen names → key ≡ name_key name → names' ≡ names ++ name ∷ [] → Updates keys_eq seen seen' key true → IsSeen seen' names'
 seen-push seen seen' key name names names' is key_is names_are updates n =
     let now : contains keys_eq seen' (name_key n) ≡ cond (keys_eq (name_key name) (name_key n)) true (contains keys_eq seen (name_key n)) =
-        updates.0 (name_key n) ∙ ap (λ (k : List ℕ). cond (keys_eq k (name_key n)) true (contains keys_eq seen (name_key n))) key_is in
-    subst (λ (l : List Name). ((contains keys_eq seen' (name_key n) ≡ true) → Contains l n) × (Contains l n → (contains keys_eq seen' (name_key n) ≡ true))) (sym names_are)
-    (λ t. elim (keys_eq (name_key name) (name_key n)) as (λ b. keys_eq (name_key name) (name_key n) ≡ b → cond b true (contains keys_eq seen (name_key n)) ≡ true → Contains (names ++ name ∷ []) n) [
+    updates.0 (name_key n) ∙ ap (λ (k : List ℕ). cond (keys_eq k (name_key n)) true (contains keys_eq seen (name_key n))) key_is in
+    subst (λ (l : List Name). ((contains keys_eq seen' (name_key n) ≡ true) → Contains l n) × (Contains l n → (contains keys_eq seen' (name_key n) ≡ true))) (sym names_are) (
+      λ t. elim (keys_eq (name_key name) (name_key n)) as (λ b. keys_eq (name_key name) (name_key n) ≡ b → cond b true (contains keys_eq seen (name_key n)) ≡ true → Contains (names ++ name ∷ []) n) [
         | true ↦ λ e _. subst (λ (m : Name). Contains (names ++ name ∷ []) m) (same_key name n e) (Contains-push names name)
         | false ↦ λ e u. Contains-append_left names (name ∷ []) n ((is n).0 u)
       ] refl (sym now ∙ t),
-    λ h. now ∙ elim (Contains-push_cases names name n h) [
-      | inl old ↦ ap (λ (b : Bool). cond (keys_eq (name_key name) (name_key n)) true b) ((is n).1 old) ∙ always (keys_eq (name_key name) (name_key n))
-      | inr same ↦ ap (λ (b : Bool). cond b true (contains keys_eq seen (name_key n))) (ap (λ (m : Name). keys_eq (name_key name) (name_key m)) (sym same) ∙ keys_itself (name_key name))
-    ])
+      λ h. now ∙ elim (Contains-push_cases names name n h) [
+        | inl old ↦ ap (λ (b : Bool). cond (keys_eq (name_key name) (name_key n)) true b) ((is n).1 old) ∙ always (keys_eq (name_key name) (name_key n))
+        | inr same ↦ ap (λ (b : Bool). cond b true (contains keys_eq seen (name_key n))) (ap (λ (m : Name). keys_eq (name_key name) (name_key m)) (sym same) ∙ keys_itself (name_key name))
+      ],
+    )
   where
     always : (b : Bool) → cond b true true ≡ true
     always true = refl
@@ -149,7 +150,7 @@ walk-next bodies root p l l' place is w g all =
     let keep : (n : Name) → Contains l n → Contains l' n = λ n h. subst (λ (k : List Name). Contains k n) (sym g.behind) (Contains-append_left l g.more n h) in
     let less : place + 1 ≤ length l = let a = at.0 in omega (arith, a) in
     let cut : take (place + 1) l' ≡ take place l ++ p ∷ [] =
-        ap (take (place + 1)) g.behind ∙ take-append-le (place + 1) l g.more less ∙ take_more l place p at.0 ∙ ap (λ (y : Name). take place l ++ y ∷ []) (sym at.1) in
+    ap (take (place + 1)) g.behind ∙ take-append-le (place + 1) l g.more less ∙ take_more l place p at.0 ∙ ap (λ (y : Name). take place l ++ y ∷ []) (sym at.1) in
     record {
       begins = keep root w.begins;
       reached = subst (AllByRecursion (λ n. Reaches bodies root n × IsHeld bodies n)) (sym g.behind)

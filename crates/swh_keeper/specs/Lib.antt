@@ -4,3 +4,8 @@ pub mod Batches
 pub mod Judged
 pub mod Planned
 pub mod Checked
+pub mod Advance
+pub mod Refusal
+pub mod Kept
+pub mod Keeping
+pub mod Opening

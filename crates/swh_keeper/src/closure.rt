@@ -4,11 +4,10 @@ ghost use Rattle.swh_base.specs.declared.name.Name.{Name};
 ghost use Rattle.swh_model.specs.Archive.{body_of, IsHeld, IsKid, IsClosed};
 ghost use Rattle.swh_keeper.specs.Walk.{GainsHeld, GainsKids, IsGap};
 
-use std::alloc::Global;
-use swh_base::{Memory, Name};
-
 use crate::bodies::HeldBodies;
 use crate::listing::Listing;
+use std::alloc::Global;
+use swh_base::{Memory, Name};
 
 /// Lists the names up to the first that is not held, which is answered.
 fn list_held(

@@ -8,10 +8,9 @@ ghost use Rattle.swh_model.specs.Step.{IsGood, added};
 ghost use Rattle.swh_model.specs.Judge.{fresh, Collides};
 ghost use Rattle.swh_keeper.specs.Batches.{either, IsSplit};
 
+use crate::bodies::HeldBodies;
 use std::alloc::Global;
 use swh_base::{Entry, Memory, Name};
-
-use crate::bodies::HeldBodies;
 
 /// The entries of a batch that are not held, each once, and the same as a map.
 #[derive(Drop)]
@@ -37,11 +36,7 @@ fn keep(split: &mut Split, entry: &Entry) -> Result<(), Memory>
     Ok(())
 }
 
-pub fn split_fresh(
-    alloc: Global,
-    bodies: &HeldBodies,
-    entries: &[Entry],
-) -> Result<Split, Memory>
+pub fn split_fresh(alloc: Global, bodies: &HeldBodies, entries: &[Entry]) -> Result<Split, Memory>
     requires { AllByRecursion IsGood entries.now }
     ensures { IfOk result (IsSplit bodies.now entries.now) }
 {

@@ -9,12 +9,11 @@ ghost use Rattle.swh_model.specs.Limits.{bytes_before_last};
 ghost use Rattle.swh_model.specs.Judge.{first_long, BatchPasses, FilePasses};
 ghost use Rattle.swh_keeper.specs.Judged.{IsFirstOf, NonePasses, AreLengths, IsVisitRefusal, MayBeMarked, IsGapRefusal, IsSnapshotRefusal, SuitsStatus};
 
+use crate::bodies::HeldBodies;
+use crate::closure::find_gap;
 use std::alloc::Global;
 use swh_base::{Entry, Kind, Memory, Name, Status, Which};
 use swh_model::{No, Visit, is_final, last_of};
-
-use crate::bodies::HeldBodies;
-use crate::closure::find_gap;
 
 /// The length of the first body above the limit.
 fn long_body(entries: &[Entry]) -> Option<u64>
@@ -64,7 +63,12 @@ pub fn limit_of_batch(entries: &[Entry]) -> Option<(Which, u64)>
 }
 
 /// The first of both files that an event would make too long.
-pub fn limit_of_files(store_end: u64, run: u64, end: u64, record_length: u64) -> Option<(Which, u64)>
+pub fn limit_of_files(
+    store_end: u64,
+    run: u64,
+    end: u64,
+    record_length: u64,
+) -> Option<(Which, u64)>
     requires store_fits { store_end + run < 2 ^ 64 }
     requires ledger_fits { end + 1 + record_length < 2 ^ 64 }
     ensures some { (h : List Event) (event : EventKind) → AreLengths h event store_end run end record_length → IfSome result (IsFirstOf (FilePasses h event)) }

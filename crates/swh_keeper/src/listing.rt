@@ -1,10 +1,9 @@
 //! Names in the order in which they were met, each once.
+use crate::bodies::key_of;
 use std::alloc::Global;
 use std::collections::HashSet;
 use std::marker::Model;
 use swh_base::{Memory, Name};
-
-use crate::bodies::key_of;
 
 /// Contracts see the list of the names.
 #[derive(Drop)]

@@ -1,14 +1,13 @@
 //! From a plan to its event with the event's bytes, or to the first cause against the plan.
+use crate::fresh::{Split, find_collision, split_fresh};
+use crate::judging::{limit_of_batch, limit_of_files, snapshot_refusal, visit_refusal};
+use crate::replayed::Replayed;
 use std::alloc::{AllocError, AllocFailed, Global};
 use swh_base::{Entry, Many, Memory, Status, Url, VisitKind};
 use swh_model::{
     Event, EventKind, No, Outcome, entries_are_codable, origin_is_codable, record_of_event,
     run_of_entries,
 };
-
-use crate::fresh::{Split, find_collision, split_fresh};
-use crate::judging::{limit_of_batch, limit_of_files, snapshot_refusal, visit_refusal};
-use crate::replayed::Replayed;
 
 /// An event that may happen, what comes of it, and its bytes for the store and, with the next gate, the ledger.
 #[derive(Drop)]

@@ -8,20 +8,19 @@ ghost use Rattle.swh_model.specs.Coding.{run_of, coded_record, IsCodable, IsCoda
 ghost use Rattle.swh_model.specs.Step.{IsGood};
 ghost use Rattle.swh_model.specs.Judge.{IsHow, FilePasses};
 ghost use Rattle.swh_keeper.specs.Judged.{NonePasses, IsVisitRefusal, MayBeMarked};
-ghost use Rattle.swh_keeper.specs.Planned.{IsReplayOf, IsInFiles, IsPlanned, IsRefused, IsEncoded, IsTooLong};
-
-use std::alloc::Global;
-use swh_base::{Entry, Many, Memory, Status, Url, VisitKind, Which};
-use swh_model::{
-    Event, EventKind, No, Outcome, entries_are_codable, origin_is_codable, record_of_event,
-    run_of_entries, snapshot_is_codable,
-};
+ghost use Rattle.swh_keeper.specs.Planned.{IsReplayOf, IsInFiles, IsPlan, IsPlanned, IsRefused, IsEncoded, IsTooLong};
 
 use crate::fresh::{Split, find_collision, split_fresh};
 use crate::judging::{limit_of_batch, limit_of_files, snapshot_refusal, visit_refusal};
 use crate::planning::{PlanFault, Planned};
 use crate::replayed::Replayed;
 use crate::visits::OriginVisits;
+use std::alloc::Global;
+use swh_base::{Entry, Many, Memory, Status, Url, VisitKind, Which};
+use swh_model::{
+    Event, EventKind, No, Outcome, Wish, entries_are_codable, origin_is_codable, record_of_event,
+    run_of_entries, snapshot_is_codable,
+};
 
 fn number_of_visits(visits: &OriginVisits, origin: &Url) -> u64
     ensures value { result ≡ length (visits_of visits.now origin.now) }
@@ -179,4 +178,31 @@ pub fn plan_mark(
         run: Vec::new(alloc),
         bytes,
     })
+}
+
+/// The event of a plan with its bytes, or the first cause against the plan.
+pub fn plan(
+    alloc: Global,
+    replayed: &Replayed,
+    number: u64,
+    by: u32,
+    wish: Wish,
+) -> Result<Planned, PlanFault>
+    requires in_files { IsInFiles replayed.now }
+    requires plan { IsPlan wish }
+    ensures ok { (h : List Event) → IsReplayOf replayed.now h → number ≡ length h + 1 → IfOk result (IsPlanned h by wish replayed.now) }
+    ensures err { (h : List Event) → IsReplayOf replayed.now h → IfErr result (IsRefused h by wish) }
+{
+    match wish {
+        EventKind::Batch(entries) => { plan_batch(alloc, replayed, number, by, entries.as_slice()) }
+        EventKind::Open { origin, kind, date } => {
+            plan_open(alloc, replayed, number, by, origin, kind, date)
+        }
+        EventKind::Mark {
+            origin,
+            visit,
+            status,
+            snapshot,
+        } => plan_mark(alloc, replayed, number, by, origin, visit, status, snapshot),
+    }
 }

@@ -13,13 +13,13 @@ abbrev pub folder_path : MemoryFolder → List ℕ
 folder_path folder = string_bytes folder.path
 
 abbrev pub folder_faults : MemoryFolder → ℕ
-folder_faults folder = folder.failures
+folder_faults folder = folder.failures.faults
 
 abbrev pub yard_faults : MemoryYard → ℕ
-yard_faults yard = yard.failures
+yard_faults yard = yard.failures.faults
 
 abbrev pub link_faults : MemoryLink → ℕ
-link_faults link = link.failures
+link_faults link = link.failures.faults
 
 abbrev pub doors_faults : MemoryDoors → ℕ
-doors_faults doors = doors.failures
+doors_faults doors = doors.failures.faults

@@ -26,4 +26,4 @@ abbrev pub has_place : MemoryDepot → List ℕ → ℕ → Type 0
 has_place depot dir file = position_or_len (is_at dir file) depot.places.items < length depot.places.items
 
 abbrev pub depot_faults : MemoryDepot → ℕ
-depot_faults depot = depot.failures
+depot_faults depot = depot.failures.faults

@@ -15,4 +15,4 @@ abbrev pub source_path : MemorySource → List ℕ
 source_path source = string_bytes source.path
 
 abbrev pub source_faults : MemorySource → ℕ
-source_faults source = source.failures
+source_faults source = source.failures.faults

@@ -5,3 +5,4 @@ pub mod Kept
 pub mod Memory
 pub mod Outside
 pub mod Parts
+pub mod Tally

@@ -18,4 +18,4 @@ abbrev pub resting : List ℕ → File
 resting bytes = record { base = bytes; ranges = []; longest = length bytes; seen = bytes; calls = [] }
 
 abbrev pub disk_faults : MemoryDisk → ℕ
-disk_faults disk = disk.failures
+disk_faults disk = disk.failures.faults

@@ -20,7 +20,7 @@ abbrev pub origin_files : MemoryOrigins → List ℕ → Option (List ℕ)
 origin_files origins = input_at origins.inputs.items
 
 abbrev pub origin_faults : MemoryOrigins → ℕ
-origin_faults origins = origins.failures
+origin_faults origins = origins.failures.faults
 
 abbrev pub origin_path_faults : MemoryOrigins → List ℕ → ℕ
 origin_path_faults origins = count_at origins.counts

@@ -7,10 +7,10 @@ abbrev pub sink_bytes : MemorySink → List ℕ
 sink_bytes sink = sink.bytes.items
 
 abbrev pub sink_faults : MemorySink → ℕ
-sink_faults sink = sink.failures
+sink_faults sink = sink.failures.faults
 
 abbrev pub clock_time : MemoryClock → ℕ
 clock_time clock = clock.time
 
 abbrev pub clock_faults : MemoryClock → ℕ
-clock_faults clock = clock.failures
+clock_faults clock = clock.failures.faults

@@ -1,12 +1,12 @@
 // Which calls of a part fail, and how many did.
-ghost use Rattle.std.specs.Prelude.{◌≡◌, ◌≤◌};
+ghost use Rattle.std.specs.Prelude.{◌≡◌, ◌≤◌, ◌==◌, ◌+◌, ◌-◌, ◌^◌, min};
+ghost use Rattle.std.specs.List.{list_any};
 ghost use Rattle.swh_outside.specs.Faults.{Rose};
 
 use std::marker::Model;
 use swh_outside::Failed;
 
-/// Which calls of a part are to fail, by their numbers from 0, and how many calls have failed: a contract sees this
-/// count.
+/// Which calls of a part are to fail, by their numbers from 0, how many calls there were, and how many have failed.
 #[derive(Drop)]
 pub struct Failures {
     failing: Vec<u64>,
@@ -15,17 +15,17 @@ pub struct Failures {
 }
 
 impl Model for Failures {
-    ghost use Rattle.std.specs.Prelude.{ℕ};
+    ghost use Rattle.swh_memory.specs.Tally.{Tally};
 
-    ghost Value = { ℕ };
+    ghost Value = { Tally };
 
-    ghost view = { λ failures. failures.faults };
+    ghost view = { λ failures. record { failing = failures.failing.items; calls = failures.calls; faults = failures.faults } };
 }
 
 impl Failures {
     /// The calls of these numbers will fail.
     pub fn at(failing: Vec<u64>) -> Self
-        ensures { result ≡ 0 }
+        ensures { result ≡ record { failing = failing.items; calls = 0; faults = 0 } }
     {
         Failures {
             failing,
@@ -36,7 +36,8 @@ impl Failures {
 
     /// Counts a call, and says whether it is to fail.
     pub fn next_fails(&mut self) -> bool
-        ensures { self.new ≡ self.old }
+        ensures fails { result ≡ list_any (λ n. n == self.old.calls) self.old.failing }
+        ensures counted { self.new ≡ record self.old { calls = min (self.old.calls + 1) (2 ^ 64 - 1) } }
     {
         let fails = self.failing.contains(&self.calls);
         self.calls = self.calls.saturating_add(1);
@@ -45,8 +46,8 @@ impl Failures {
 
     /// Counts a failure.
     pub fn refuse(&mut self) -> Failed
-        ensures later { self.old ≤ self.new }
-        ensures rose { Rose self.old self.new }
+        ensures later { self.old.faults ≤ self.new.faults }
+        ensures rose { Rose self.old.faults self.new.faults }
     {
         self.faults = self.faults.saturating_add(1);
         Failed
@@ -54,14 +55,14 @@ impl Failures {
 
     /// How many calls have failed.
     pub fn count(&self) -> u64
-        ensures { result ≡ self.now }
+        ensures { result ≡ self.now.faults }
     {
         self.faults
     }
 
     /// Forgets the failures so far, and not which calls are to fail.
     pub fn forget(&mut self)
-        ensures { self.new ≡ 0 }
+        ensures { self.new ≡ record self.old { faults = 0 } }
     {
         self.faults = 0;
     }

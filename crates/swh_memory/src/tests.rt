@@ -1,7 +1,12 @@
 // Each part once, with ample memory, and once where it is to fail.
-use crate::{Input, MemoryClock, MemoryDepot, MemoryDisk, MemoryOrigins, MemorySink, Room};
+use crate::{
+    Input, MemoryClock, MemoryDepot, MemoryDisk, MemoryDoors, MemoryFolder, MemoryLink,
+    MemoryOrigins, MemorySink, MemoryYard, Room,
+};
 use std::test::Fail;
-use swh_outside::{Clock, Depot, Disk, Failed, Opened, Origins, Sink, Source};
+use swh_outside::{
+    Clock, Depot, Disk, Doors, Failed, Folder, Opened, Origins, OutFault, Sink, Source, Yard,
+};
 
 #[test]
 fn a_write_is_torn_until_a_barrier(rt: HostRuntime) -> Result<(), Fail> {
@@ -96,5 +101,29 @@ fn a_clock_stands(rt: HostRuntime) -> Result<(), Fail> {
     assert_eq!(rt; clock.now(), Ok(1_000_000_000));
     assert!(rt; clock.now().is_err());
     assert_eq!(rt; clock.faults(), 1);
+    Ok(())
+}
+
+#[test]
+fn parts_that_tell_nothing_fail(rt: HostRuntime) -> Result<(), Fail> {
+    let alloc = rt.alloc();
+    let mut folder = MemoryFolder::new(alloc, String::from_str(alloc, "in")?);
+    assert!(rt; folder.list(alloc, "").is_err());
+    assert!(rt; folder.read("a").is_err());
+    assert_eq!(rt; folder.faults(), 2);
+    let mut yard = MemoryYard::new(alloc);
+    assert_eq!(rt; yard.folder("a"), Err(OutFault::Failed));
+    assert_eq!(rt; yard.file("b"), Err(OutFault::Failed));
+    assert_eq!(rt; yard.put(b"c"), Err(Failed));
+    assert_eq!(rt; yard.faults(), 3);
+    let mut link = MemoryLink::new(alloc);
+    assert_eq!(rt; link.get(&mut [0]), Err(Failed));
+    assert_eq!(rt; link.put(b"c"), Err(Failed));
+    assert_eq!(rt; link.faults(), 2);
+    let mut doors = MemoryDoors::new(alloc);
+    assert_eq!(rt; doors.bind("here"), Err(OutFault::Failed));
+    assert!(rt; doors.accept().is_err());
+    doors.back(link);
+    assert_eq!(rt; doors.faults(), 2);
     Ok(())
 }

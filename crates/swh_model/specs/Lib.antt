@@ -9,6 +9,7 @@ pub mod Opened
 pub mod Certificate
 pub mod Row
 pub mod Coding
+pub mod Decoding
 pub mod Stands
 pub mod Answer
 pub mod PathMap

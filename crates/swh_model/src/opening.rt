@@ -28,7 +28,13 @@ pub fn place_of(origins: &[Visited], url: &[u8]) -> Option<usize>
 }
 
 /// A visit that was just opened.
-pub fn created(alloc: Global, number: u64, date: u64, kind: VisitKind, by: u32) -> Result<Visit, Memory>
+pub fn created(
+    alloc: Global,
+    number: u64,
+    date: u64,
+    kind: VisitKind,
+    by: u32,
+) -> Result<Visit, Memory>
     ensures { IfOk result (λ v. v ≡ first_of number date kind by) }
 {
     let mut statuses = Many::from_vec(Vec::new(alloc));

@@ -9,3 +9,6 @@ mod object;
 
 pub use fault::ObjectFault;
 pub use object::Object;
+
+#[cfg(test)]
+mod tests;

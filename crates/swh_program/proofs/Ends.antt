@@ -1,5 +1,8 @@
 -- What the ends of `init` mean.
-use Rattle.std.proofs.Common.{◌≡◌, ⊎_elim, ℕ, List, sym, subst, refl}
+use Rattle.std.proofs.Common.{◌≡◌, ◌≢◌, ◌<◌, inl, inr, ⊎_elim, ℕ, List, length, get_or, sym, subst, refl, arith}
+use Rattle.swh_outside.specs.Faults.{Rose}
+use Rattle.swh_program.specs.Answers.{status_of, IsPrinted, IsCutOff, IsToldOf}
+use Rattle.swh_program.specs.Run.{IsStatus, IsDone}
 use Rattle.swh_outside.specs.Disk.{EachImage}
 use Rattle.swh_outside.specs.Files.{Files, EachImages}
 use Rattle.swh_outside.proofs.Numbered.{files_left_whole, files_left_same, files_left_by}
@@ -7,31 +10,52 @@ use Rattle.swh_segment.specs.Making.{IsNotMade, IsNotMadeOrEmpty, making_calls}
 use Rattle.swh_segment.proofs.Crash.{making_moments}
 use Rattle.swh_program.specs.Archives.{Folders}
 use Rattle.swh_program.specs.Init.{InitEnds, Inits, IsSafeInit}
-use Rattle.swh_program.specs.Run.{Obeys}
 use Rattle.swh_program.specs.declared.answer.Answer.{Answer}
 use Rattle.swh_program.specs.declared.answer.Answer.TheVariants.{Made, Words, AlreadyMade, OutsideDisk, Memory}
 
 left_by : (old new : Files) (answer : Answer) → InitEnds old new answer → IsNotMade (old 0).seen → EachImage (old 0) IsNotMade → EachImages new IsNotMadeOrEmpty
 left_by old new Made e not_made each = files_left_whole (making_calls (old 0).seen) old new IsNotMadeOrEmpty (making_moments old not_made each).moments e.done
-left_by old new Words e not_made each = absurd e
 left_by old new AlreadyMade e not_made each = files_left_same (making_calls (old 0).seen) old new IsNotMadeOrEmpty (making_moments old not_made each).moments e.same
 left_by old new OutsideDisk e not_made each =
     let moments = (making_moments old not_made each).moments in
     ⊎_elim (λ same. files_left_same (making_calls (old 0).seen) old new IsNotMadeOrEmpty moments same) (λ breaks. files_left_by (making_calls (old 0).seen) old new IsNotMadeOrEmpty moments breaks) e
 left_by old new Memory e not_made each = files_left_same (making_calls (old 0).seen) old new IsNotMadeOrEmpty (making_moments old not_made each).moments e
+left_by old new Words e not_made each = absurd e
 
 pub safe : (old new : Files) (answer : Answer) → InitEnds old new answer → IsSafeInit old new
 safe old new answer ends = record { moments = making_moments old; left = left_by old new answer ends }
-
--- what `init` came to is what its words come to
-pub obeys : (words : List (List ℕ)) (tells : Type 0) (old new : Folders) (answer : Answer) → (answer ≡ Words → ⊥) → Inits words tells old new answer → Obeys words tells old new answer
-obeys words tells old new Made others inits = inits
-obeys words tells old new Words others inits = absurd (others refl)
-obeys words tells old new AlreadyMade others inits = inits
-obeys words tells old new OutsideDisk others inits = inits
-obeys words tells old new Memory others inits = inits
 
 -- an end of the opened files is one of the archive that they are
 pub ends_at : (a b old new : Files) (answer : Answer) → a ≡ old → new ≡ b → InitEnds a b answer → InitEnds old new answer
 ends_at a b old new answer given taken ends =
     subst (λ (f : Files). InitEnds old f answer) (sym taken) (subst (λ (f : Files). InitEnds f b answer) given ends)
+
+-- the status of a run is its answer's, or that of a failing sink
+pub told_status : (answer : Answer) (tells : Type 0) (before now : List ℕ) (faults_before faults_now status : ℕ) → IsStatus (status_of answer) → IsToldOf answer tells before now faults_before faults_now status → IsStatus status
+told_status answer tells before now faults_before faults_now status is told =
+    ⊎_elim
+    (λ (printed : IsPrinted answer tells before now status). subst IsStatus (sym printed.status_is) is)
+    (λ (cut : IsCutOff answer tells before now faults_before faults_now status). subst IsStatus (sym cut.status_is) four)
+    told
+  where
+    four : IsStatus 4
+    four = inr (inr (inr (inl refl)))
+
+-- an archive that was not made, with no fault of its disks, was made, or memory ran out
+pub init_done : (old new : Files) (answer : Answer) → InitEnds old new answer → IsNotMade (old 0).seen → (answer ≡ OutsideDisk → ⊥) → IsDone (status_of answer)
+init_done old new Made ends not_made no_disk = inl refl
+init_done old new AlreadyMade ends not_made no_disk = absurd (⊎_elim (λ (short : length (old 0).seen < 9). let long = ends.made.0 in omega (arith, long, short)) (λ (other : get_or (old 0).seen 0 0 ≢ 83). other ends.made.1) not_made)
+init_done old new OutsideDisk ends not_made no_disk = absurd (no_disk refl)
+init_done old new Memory ends not_made no_disk = inr refl
+init_done old new Words ends not_made no_disk = absurd ends
+
+-- and where the sink did not fail either, so says the run's status
+pub done_status : (answer : Answer) (tells : Type 0) (before now : List ℕ) (faults_before faults_now status : ℕ) → IsDone (status_of answer) → (Rose faults_before faults_now → ⊥) → IsToldOf answer tells before now faults_before faults_now status → IsDone status
+done_status answer tells before now faults_before faults_now status done no_sink told =
+    ⊎_elim
+    (λ (printed : IsPrinted answer tells before now status). subst IsDone (sym printed.status_is) done)
+    (λ (cut : IsCutOff answer tells before now faults_before faults_now status). absurd (no_sink cut.rose))
+    told
+
+pub inits_at : (a b : List ℕ) (tells : Type 0) (old new : Folders) (faults_before faults_now : ℕ) (answer : Answer) → a ≡ b → Inits a tells old new faults_before faults_now answer → Inits b tells old new faults_before faults_now answer
+inits_at a b tells old new faults_before faults_now answer e inits = subst (λ (d : List ℕ). Inits d tells old new faults_before faults_now answer) e inits

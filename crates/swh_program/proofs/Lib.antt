@@ -1,3 +1,4 @@
+pub mod Commands
 pub mod Ends
 pub mod JobFields
-pub mod TwoWords
+pub mod FewWords

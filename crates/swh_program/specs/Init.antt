@@ -1,10 +1,10 @@
 -- How `init` ends.
 use Rattle.std.specs.Prelude.{◌≡◌, ◌⊎◌, ℕ, List}
 use Rattle.swh_outside.specs.Disk.{EachImage}
+use Rattle.swh_outside.specs.Faults.{Rose}
 use Rattle.swh_outside.specs.Files.{Files, EachImages, FilesBreaks, files_done}
 use Rattle.swh_segment.specs.Making.{IsMade, IsNotMade, IsNotMadeOrEmpty, IsEmptyArchive, IsCrashSafe, making_calls}
 use Rattle.swh_program.specs.Archives.{Folders, archive_at, SameElsewhere}
-use Rattle.swh_program.specs.Words.{IsInitOf}
 use Rattle.swh_program.specs.declared.answer.Answer.{Answer}
 use Rattle.swh_program.specs.declared.answer.Answer.TheVariants.{Made, Words, AlreadyMade, OutsideDisk, Memory}
 
@@ -25,10 +25,18 @@ IsCutMaking old new = (new ≡ old) ⊎ FilesBreaks (making_calls (old 0).seen) 
 
 abbrev pub InitEnds : Files → Files → Answer → Type 0
 InitEnds old new Made = IsMaking old new
-InitEnds old new Words = ⊥
 InitEnds old new AlreadyMade = WasMade old new
 InitEnds old new OutsideDisk = IsCutMaking old new
 InitEnds old new Memory = new ≡ old
+InitEnds old new Words = ⊥
+
+-- `init` has no other answers, whether the depot tells its content or not.
+abbrev pub IsInitAnswer : Answer → Type 0
+IsInitAnswer Made = Unit {0}
+IsInitAnswer AlreadyMade = Unit {0}
+IsInitAnswer OutsideDisk = Unit {0}
+IsInitAnswer Memory = Unit {0}
+IsInitAnswer Words = ⊥
 
 -- What a crash leaves at each device call of `init`, and after it, is not made, or made and empty, where at entry no
 -- image is made.
@@ -36,10 +44,10 @@ pub record IsSafeInit (old new : Files) : Type 0 where
   pub moments : IsNotMade (old 0).seen → EachImage (old 0) IsNotMade → IsCrashSafe old
   pub left : IsNotMade (old 0).seen → EachImage (old 0) IsNotMade → EachImages new IsNotMadeOrEmpty
 
--- The words are `init DIR`; its folder, and no other, changed as `init` says.
-pub record Inits (words : List (List ℕ)) (tells : Type 0) (old new : Folders) (answer : Answer) : Type 0 where
-  pub dir : List ℕ
-  pub is_init : IsInitOf words dir
+-- This answer came of `init`; the files of its folder, and no others, changed as it says.
+pub record Inits (dir : List ℕ) (tells : Type 0) (old new : Folders) (faults_before faults_now : ℕ) (answer : Answer) : Type 0 where
+  pub one_of : IsInitAnswer answer
   pub ends : tells → InitEnds (archive_at old dir) (archive_at new dir) answer
   pub elsewhere : tells → SameElsewhere dir old new
   pub crash : tells → IsSafeInit (archive_at old dir) (archive_at new dir)
+  pub cause : answer ≡ OutsideDisk → Rose faults_before faults_now

@@ -17,4 +17,4 @@ pub use init_command::init;
 pub use job_file::{JobFault, JobLine, parse_job};
 pub use outside::Outside;
 pub use top::run;
-pub use words::init_folder;
+pub use words::{Command, parse_words};

@@ -1,10 +1,14 @@
 // Each part once over a folder of its own, which is removed at the end.
-use crate::{RealClock, RealDepot, RealOrigins, RealSink};
+use crate::{
+    RealClock, RealDepot, RealDoors, RealFolder, RealLink, RealOrigins, RealSink, RealYard,
+};
 use std::alloc::Global;
 use std::fs::File;
 use std::test::Fail;
 use std::{env, fs};
-use swh_outside::{Clock, Depot, Disk, Opened, Origins, Sink, Source};
+use swh_outside::{
+    Clock, Depot, Disk, Doors, Failed, Folder, Opened, Origins, OutFault, Sink, Source, Yard,
+};
 
 // The name of a folder that no other test uses, and that is not there.
 fn fresh_folder(rt: &HostRuntime, alloc: Global, name: &str) -> Result<String, Fail> {
@@ -92,5 +96,26 @@ fn a_clock_goes(rt: HostRuntime) -> Result<(), Fail> {
         return Err(Fail::from("the time"));
     };
     assert!(rt; now > 1_600_000_000);
+    Ok(())
+}
+
+#[test]
+fn parts_without_calls_fail(rt: HostRuntime) -> Result<(), Fail> {
+    let mut yard = RealYard::new();
+    assert_eq!(rt; yard.folder("a"), Err(OutFault::Failed));
+    assert_eq!(rt; yard.file("b"), Err(OutFault::Failed));
+    assert_eq!(rt; yard.put(b"c"), Err(Failed));
+    assert_eq!(rt; yard.faults(), 3);
+    let mut link = RealLink::new();
+    assert_eq!(rt; link.get(&mut [0]), Err(Failed));
+    assert_eq!(rt; link.faults(), 1);
+    let mut doors = RealDoors::new();
+    assert_eq!(rt; doors.bind("here"), Err(OutFault::Failed));
+    assert!(rt; doors.accept().is_err());
+    doors.back(link);
+    assert_eq!(rt; doors.faults(), 2);
+    let mut folder = RealFolder::new(String::from_str(rt.alloc(), "in")?);
+    assert!(rt; folder.list(rt.alloc(), "").is_err());
+    assert_eq!(rt; folder.faults(), 1);
     Ok(())
 }

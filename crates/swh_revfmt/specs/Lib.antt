@@ -1,2 +1,4 @@
 pub mod Fault
+pub mod Plain
+pub mod PlainReading
 pub mod Reading

@@ -5,10 +5,17 @@
 
 mod fault;
 mod line;
+mod person;
 mod place;
+mod plain;
 mod release;
+mod rest;
 mod revision;
 
 pub use fault::{BadRel, BadRev, ReadRelFault, ReadRevFault, one_fault};
+pub use plain::{PlainRel, PlainRev, plain_rel, plain_rev};
 pub use release::{Rel, read_rel, write_rel};
 pub use revision::{Rev, read_rev, write_rev};
+
+#[cfg(test)]
+mod tests;

@@ -2,8 +2,8 @@
 use std::alloc::{AllocError, Global};
 use swh_base::Sha1Namer;
 use swh_memory::{
-    Input, MemoryClock, MemoryDepot, MemoryDisk, MemoryDoors, MemoryOrigins, MemorySink, MemoryYard,
-    Room,
+    Input, MemoryClock, MemoryDepot, MemoryDisk, MemoryDoors, MemoryOrigins, MemorySink,
+    MemoryYard, Room,
 };
 use swh_outside::OpenGate;
 use swh_program::{Outside, run};

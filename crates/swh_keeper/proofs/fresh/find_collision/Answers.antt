@@ -20,7 +20,7 @@ pub returns-clause-none : goal.returns-clause-none
 returns-clause-none c =
     let split = c.args.split.now in
     let all : AllByRecursion (λ e. either split.added c.args.bodies.now e.name ≡ Some e.body) c.args.entries.now =
-        subst (AllByRecursion (λ e. either split.added c.args.bodies.now e.name ≡ Some e.body)) (take_all c.loop-entry.entry-index c.args.entries.now c.loop-entry-test.false) c.loop-entry.invariant in
+    subst (AllByRecursion (λ e. either split.added c.args.bodies.now e.name ≡ Some e.body)) (take_all c.loop-entry.entry-index c.args.entries.now c.loop-entry-test.false) c.loop-entry.invariant in
     no_collision c.args.bodies.now c.args.entries.now
     (λ e there. sym (either_is c.args.bodies.now split.added split.fresh.items e.name c.requires.map_is ∙ ap (λ (es : List Entry). body_of (added c.args.bodies.now es) e.name) c.requires.entries_are)
     ∙ all_in (λ f. either split.added c.args.bodies.now f.name ≡ Some f.body) c.args.entries.now all e there)

@@ -12,14 +12,14 @@ use Rattle.swh_keeper.proofs.visits.OriginVisits.mark.Goals as goal
 pub push_status-requires : goal.push_status-requires
 push_status-requires c =
     let same : visits_of c.args.self.now c.args.origin.now ≡ c.in-Some.visits.now.items =
-        sym (ap (λ (o : Origins). visits_of o c.args.origin.now) c.self.view_is) ∙ visits-found c.args.origin.now c.self.inside.by_origin.entries c.in-Some.visits.now (sym c.in-Some.ensures.value) in
+    sym (ap (λ (o : Origins). visits_of o c.args.origin.now) c.self.view_is) ∙ visits-found c.args.origin.now c.self.inside.by_origin.entries c.in-Some.visits.now (sym c.in-Some.ensures.value) in
     let long : length (visits_of c.args.self.now c.args.origin.now) ≡ length c.in-Some.visits.now.items = ap length same in
     let few = c.requires.there in let some = c.requires.positive in omega (arith, long, few, some)
 
 pub unreachable-requires : goal.unreachable-requires
 unreachable-requires c =
     let same : visits_of c.args.self.now c.args.origin.now ≡ [] =
-        sym (ap (λ (o : Origins). visits_of o c.args.origin.now) c.self.view_is) ∙ visits-missing c.args.origin.now c.self.inside.by_origin.entries (sym c.in-None.ensures.value) in
+    sym (ap (λ (o : Origins). visits_of o c.args.origin.now) c.self.view_is) ∙ visits-missing c.args.origin.now c.self.inside.by_origin.entries (sym c.in-None.ensures.value) in
     let long : length (visits_of c.args.self.now c.args.origin.now) ≡ 0 = ap length same in
     let few = c.requires.there in let some = c.requires.positive in omega (arith, long, few, some)
 

@@ -34,7 +34,7 @@ returns-in_ok-insert-in-None-clause-ok c =
     let key = c.in_ok-from_slice-in-None.field-0 in
     let value = c.push_opened-in-None.new.visits in
     let here = view-insert c.self.inside.by_origin.entries c.insert.new.self.entries key value
-        (c.in_ok-insert-in-None.ensures.entries ∙ ap (λ (m : BTreeMap (Vec ℕ) (Vec Visit)). insert_entry key_cmp m.entries key value) c.get_mut.follows.holds-at-none) in
+    (c.in_ok-insert-in-None.ensures.entries ∙ ap (λ (m : BTreeMap (Vec ℕ) (Vec Visit)). insert_entry key_cmp m.entries key value) c.get_mut.follows.holds-at-none) in
     here ∙ ap (λ (k : List ℕ). insert (origins_of c.self.inside.by_origin.entries) k value.items) c.in_ok-from_slice-in-None.ensures.items
     ∙ ap (λ (vs : List Visit). insert (origins_of c.self.inside.by_origin.entries) c.args.origin.now vs) (c.in_ok-push_opened-in-None.ensures.ok ∙ ap opens (c.new-visits.ensures.items ∙ sym missing))
     ∙ ap (λ (o : Origins). opened o c.args.origin.now c.args.by c.args.kind c.args.date) c.self.view_is

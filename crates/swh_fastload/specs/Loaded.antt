@@ -1,0 +1,7 @@
+-- Loaded objects without where they lie in memory.
+use Rattle.swh_model.specs.Meaning.{Making}
+use Rattle.swh_fastload.specs.declared.load.Objects.{Objects}
+use Rattle.swh_fastload.specs.Making.{made}
+
+abbrev pub making_of : {N : Type 0} → Objects N → Making
+making_of loaded = record { objects = made loaded.objects.items; snapshot = loaded.snapshot }

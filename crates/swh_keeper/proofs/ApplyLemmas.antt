@@ -1,0 +1,123 @@
+-- A planned event may be added.
+use Rattle.std.proofs.Common.{◌≡◌, ℕ, zero, suc, ◌-◌, ◌<◌, ◌≤◌, Option, Some, None, Ok, Err, List, [], ◌∷◌, ◌++◌, length, refl, sym, ap, ◌∙◌, subst, arith, inl, inr}
+use Rattle.std.specs.List.{AllByRecursion, slice_get}
+use Rattle.swh_outside.specs.Disk.{File}
+use Rattle.swh_outside.specs.Files.{EachImages, files_of}
+use Rattle.std.specs.FinMap as finite
+use Rattle.swh_segment.specs.Record.{IsSettled}
+use Rattle.swh_segment.specs.Making.{IsEmptyArchive}
+use Rattle.swh_base.specs.declared.kind.Kind.{Kind}
+use Rattle.swh_base.specs.declared.entry.Entry.{Entry}
+use Rattle.swh_model.specs.declared.event.Visit.{Visit}
+use Rattle.swh_model.specs.declared.event.Event.{Event}
+use Rattle.swh_model.specs.declared.event.EventKind.{EventKind}
+use Rattle.swh_model.specs.declared.event.EventKind.TheVariants.{Batch, Open, Mark}
+use Rattle.swh_model.specs.declared.event.Outcome.{Outcome}
+use Rattle.swh_model.specs.declared.event.No.{No}
+use Rattle.swh_model.specs.declared.event.No.TheVariants.{Limit, NoVisit, NotYours, Ended, NoSnapshot, NotClosed, Collision}
+use Rattle.swh_model.specs.Archive.{Archive, Bodies, Origins, visits_of, empty_archive}
+use Rattle.swh_model.specs.Step.{May, May_kind, MayAll, IsGood, IsGoodAndNamed, AreNew, replay, visit_at}
+use Rattle.swh_model.specs.Judge.{IsVerdict, IsWish, IsHow, event_of}
+use Rattle.swh_model.proofs.Verdicts.{wish_may}
+use Rattle.swh_model.proofs.Visits.{all-map}
+use Rattle.swh_keeper.specs.declared.replayed.Replayed.{Replayed}
+use Rattle.swh_keeper.specs.declared.planning.Planned.{Planned}
+use Rattle.swh_keeper.specs.declared.planning.PlanFault.{PlanFault}
+use Rattle.swh_keeper.specs.declared.planning.PlanFault.TheVariants.{Refused, Memory}
+use Rattle.swh_keeper.specs.declared.fault.Refusal.{Refusal}
+use Rattle.swh_keeper.specs.Advance.{MayAdvance}
+use Rattle.swh_keeper.specs.Planned.{IsReplayOf, IsInFiles, IsPlan, IsPlanned, IsRefused}
+use Rattle.swh_keeper.specs.Keeping.{AreSettledFor, IsToAdd, HasRoom, WithOrWithout, IsKeeping}
+use Rattle.swh_keeper.specs.Kept.{Kept, Refuses, AreInDoubt}
+use Rattle.swh_keeper.specs.Refusal.{refusal_of, refusal_for}
+use Rattle.swh_keeper.proofs.KeptLemmas.{history-push}
+
+pub plan_of_wish : (id_of : Kind → List ℕ → List ℕ) (wish : EventKind) → IsWish id_of wish → IsPlan wish
+plan_of_wish id_of (Batch entries) good = all-map (IsGoodAndNamed id_of) IsGood (λ e g. g.good) entries good
+plan_of_wish id_of (Open origin kind date) good = tt
+plan_of_wish id_of (Mark origin visit status snapshot) how = how
+
+pub may_of_plan : (id_of : Kind → List ℕ → List ℕ) (h : List Event) (by : ℕ) (wish : EventKind) (e : Event) (o : Outcome) → IsWish id_of wish → IsVerdict h by wish (Ok (e, o)) → May id_of (replay h) e
+may_of_plan id_of h by wish e o good verdict = subst (λ (x : Event). May id_of (replay h) x) (sym verdict.1) (wish_may id_of h by wish good verdict.0)
+
+within : (vs : List Visit) (k : ℕ) (v : Visit) → slice_get vs k ≡ Some v → k < length vs
+within [] k v is = absurd (let f : None ≡ Some v = is in cc)
+within (w ∷ vs) zero v is = omega arith
+within (w ∷ vs) (suc k) v is = let m = within vs k v is in omega (arith, m)
+
+may_kind_advance : (id_of : Kind → List ℕ → List ℕ) (r : Replayed) (h : List Event) (by : ℕ) (what : EventKind) → IsReplayOf r h → May_kind id_of (replay h) by what → MayAdvance r what
+may_kind_advance id_of r h by (Batch entries) is may =
+    (all-map (IsGoodAndNamed id_of) IsGood (λ e g. g.good) entries may.good, subst (λ (b : Bodies). AreNew b entries) (sym is.bodies) may.new)
+may_kind_advance id_of r h by (Open origin kind date) is may = tt
+may_kind_advance id_of r h by (Mark origin visit status snapshot) is may =
+    let at = within (visits_of (replay h).origins origin) (visit - 1) may.visit may.there in
+    let pos = may.positive in
+    (pos, subst (λ (o : Origins). visit ≤ length (visits_of o origin)) (sym is.visits) (omega (arith, at, pos)))
+
+pub may_advance : (id_of : Kind → List ℕ → List ℕ) (r : Replayed) (h : List Event) (e : Event) → IsReplayOf r h → May id_of (replay h) e → MayAdvance r e.what
+may_advance id_of r h e is may = may_kind_advance id_of r h e.by e.what is may
+
+pub to_add : (r : Replayed) (h : List Event) (by : ℕ) (wish : EventKind) (p : Planned) → IsReplayOf r h → IsPlanned h by wish r p → IsToAdd r h p.event p.run.items p.bytes.items
+to_add r h by wish p is planned = record { run_is = planned.run_is; bytes_are = planned.record_is; codable = planned.codable; store = is.store }
+
+pub room_for : (r : Replayed) (h : List Event) (by : ℕ) (wish : EventKind) (p : Planned) → IsPlanned h by wish r p → HasRoom r p.run.items p.bytes.items
+room_for r h by wish p planned = record { store_fits = planned.store_fits; ledger_fits = planned.ledger_fits }
+
+-- the keeper once the event was added
+pub keeping-push : (id_of : Kind → List ℕ → List ℕ) (tells : Type 0) (ledger store : File) (r : Replayed) (h h' : List Event) (e : Event) → MayAll id_of empty_archive h → May id_of (replay h) e → h' ≡ h ++ e ∷ []
+    → IsReplayOf r (h ++ e ∷ []) → IsInFiles r → (tells → AreSettledFor ledger store (h ++ e ∷ []) r.store_end r.ledger_end) → IsKeeping id_of tells ledger store r h' None
+keeping-push id_of tells ledger store r h h' e history may added_behind is fits settled =
+    subst (λ (l : List Event). IsKeeping id_of tells ledger store r l None) (sym added_behind)
+    (record {
+      history = history-push id_of empty_archive h e history may;
+      in_files = fits;
+      replayed_is = λ _. is;
+      settled = λ _ told. settled told;
+      doubt = λ n is_some. absurd (let f : None ≡ Some n = is_some in cc);
+    })
+
+-- the keeper once a disk failed
+pub keeping-doubt : (id_of : Kind → List ℕ → List ℕ) (tells : Type 0) (ledger store : File) (r r' : Replayed) (h h' : List Event) (e : Event) (n : ℕ) → MayAll id_of empty_archive h → May id_of (replay h) e → h' ≡ h
+    → IsInFiles r → r'.store_end ≡ r.store_end → r'.ledger_end ≡ r.ledger_end → (tells → EachImages (files_of ledger store) (WithOrWithout h e)) → IsKeeping id_of tells ledger store r' h' (Some n)
+keeping-doubt id_of tells ledger store r r' h h' e n history may same fits se le left =
+    subst (λ (l : List Event). IsKeeping id_of tells ledger store r' l (Some n)) (sym same)
+    (record {
+      history = history;
+      in_files = record { store_fits = let f = fits.store_fits in omega (arith, f, se); ledger_fits = let f = fits.ledger_fits in omega (arith, f, le) };
+      replayed_is = λ none. absurd (let f : Some n ≡ None = none in cc);
+      settled = λ none told. absurd (let f : Some n ≡ None = none in cc);
+      doubt = λ m is told. record { event = e; may = may; each = left told };
+    })
+
+-- a cause against the plan is what is answered
+pub refuses_for : {D : Type 0} (old new : Kept D) (by : ℕ) (wish : EventKind) (fault : PlanFault) → old.wounded ≡ None → new ≡ old → IsRefused old.history by wish fault → Refuses old by wish new (refusal_for fault)
+refuses_for old new by wish Memory none same is = (refl, same)
+refuses_for old new by wish (Refused (Limit w n)) none same is = record { unwounded = none; verdict = is; same = same }
+refuses_for old new by wish (Refused (NoVisit have)) none same is = record { unwounded = none; verdict = is; same = same }
+refuses_for old new by wish (Refused (NotYours other)) none same is = record { unwounded = none; verdict = is; same = same }
+refuses_for old new by wish (Refused (Ended status)) none same is = record { unwounded = none; verdict = is; same = same }
+refuses_for old new by wish (Refused (NoSnapshot name)) none same is = record { unwounded = none; verdict = is; same = same }
+refuses_for old new by wish (Refused (NotClosed parent child)) none same is = record { unwounded = none; verdict = is; same = same }
+refuses_for old new by wish (Refused (Collision name)) none same is = record { unwounded = none; verdict = is; same = same }
+
+-- the keeper of an archive with no event
+pub keeping-empty : (id_of : Kind → List ℕ → List ℕ) (tells : Type 0) (ledger store : File) (r : Replayed) (h : List Event) → h ≡ [] → r.bodies ≡ finite.empty → r.visits ≡ finite.empty → r.store_end ≡ 0 → r.ledger_end ≡ 8
+    → (tells → IsEmptyArchive (files_of ledger store)) → IsKeeping id_of tells ledger store r h None
+keeping-empty id_of tells ledger store r h none bodies visits se le empty =
+    subst (λ (l : List Event). IsKeeping id_of tells ledger store r l None) (sym none)
+    (record {
+      history = tt;
+      in_files = record { store_fits = omega (arith, se); ledger_fits = omega (arith, le) };
+      replayed_is = λ _. record { bodies = bodies; visits = visits; store = se; ledger = omega (arith, le) };
+      settled = λ _ told. let e = empty told in record {
+        settled = record {
+          ledger = subst (λ (n : ℕ). IsSettled ledger [] n) (sym le) e.ledger;
+          store = e.store;
+          rest = store.seen;
+          begins = refl;
+          store_end_is = sym se;
+        };
+        codable = tt;
+      };
+      doubt = λ n is_some. absurd (let f : None ≡ Some n = is_some in cc);
+    })

@@ -1,0 +1,39 @@
+use Rattle.std.proofs.Common.{◌≡◌, ◌+◌, ℕ, None, Err, List, length, sym, ap, ◌∙◌, subst}
+use Rattle.swh_model.specs.declared.event.Event.{Event}
+use Rattle.swh_keeper.specs.declared.adding.AddFault.{AddFault}
+use Rattle.swh_keeper.specs.declared.adding.AddFault.TheVariants.{Disk}
+use Rattle.swh_keeper.proofs.ApplyLemmas.{may_of_plan, may_advance, keeping-push, keeping-doubt}
+use Rattle.swh_keeper.proofs.keeper.Keeper.apply.Goals as goal
+
+pub add_event-added-requires-clause-may : goal.add_event-added-requires-clause-may
+add_event-added-requires-clause-may g c κs within =
+    let k = c.self.inside in
+    let is = c.self.invariant.replayed_is c.in_default.is in
+    let planned = c.in-Ok.ensures.ok k.history.items is (ap (λ (l : List Event). length l + 1) c.as_slice.ensures.value) in
+    may_advance g.N.Namer.id_of k.replayed k.history.items c.in-Ok.planned.event is
+    (may_of_plan g.N.Namer.id_of k.history.items c.args.by c.args.wish c.in-Ok.planned.event c.in-Ok.planned.outcome c.requires planned.verdict)
+
+pub invariant_of-self : goal.invariant_of-self
+invariant_of-self g c =
+    let k = c.self.inside in
+    let is = c.self.invariant.replayed_is c.in_default.is in
+    let planned = c.in-Ok.ensures.ok k.history.items is (ap (λ (l : List Event). length l + 1) c.as_slice.ensures.value) in
+    let may = may_of_plan g.N.Namer.id_of k.history.items c.args.by c.args.wish c.in-Ok.planned.event c.in-Ok.planned.outcome c.requires planned.verdict in
+    let added = c.in-Ok-added.ensures in
+    rw c.in_default.is
+    (keeping-push g.N.Namer.id_of g.D.Disk.tells (g.D.Disk.file c.add_event-added.new.ledger) (g.D.Disk.file c.add_event-added.new.store) c.add_event-added.new.replayed k.history.items c.add_event-added.new.history.items
+    c.in-Ok.planned.event c.self.invariant.history may added.history added.replay added.in_files added.settled)
+
+pub invariant_of-self-in-Disk : goal.invariant_of-self-in-Disk
+invariant_of-self-in-Disk g c =
+    let k = c.self.inside in
+    let is = c.self.invariant.replayed_is c.in_default.is in
+    let planned = c.in-Ok.ensures.ok k.history.items is (ap (λ (l : List Event). length l + 1) c.as_slice.ensures.value) in
+    let may = may_of_plan g.N.Namer.id_of k.history.items c.args.by c.args.wish c.in-Ok.planned.event c.in-Ok.planned.outcome c.requires planned.verdict in
+    let failed = c.in-Err-added.is in
+    let e = rw failed at c.add_event-added.ensures.same_history in
+    let se = rw failed at c.add_event-added.ensures.same_store_end in
+    let le = rw failed at c.add_event-added.ensures.same_ledger_end in
+    let disk : c.add_event-added.result ≡ Err Disk = failed ∙ ap (λ (x : AddFault). Err x) c.in-Disk.is in
+    keeping-doubt g.N.Namer.id_of g.D.Disk.tells (g.D.Disk.file c.add_event-added.new.ledger) (g.D.Disk.file c.add_event-added.new.store) k.replayed c.add_event-added.new.replayed k.history.items c.add_event-added.new.history.items
+    c.in-Ok.planned.event (length c.as_slice.result.now + 1) c.self.invariant.history may e c.self.invariant.in_files se le (λ told. c.add_event-added.ensures.left told disk)

@@ -1,0 +1,16 @@
+use Rattle.std.proofs.Common.{refl, sym, subst}
+use Rattle.swh_outside.specs.Files.{Files, files_of}
+use Rattle.swh_segment.specs.Making.{IsEmptyArchive}
+use Rattle.swh_keeper.proofs.ApplyLemmas.{keeping-empty}
+use Rattle.swh_keeper.proofs.keeper.Keeper.make.Goals as goal
+
+pub invariant_of-result : goal.invariant_of-result
+invariant_of-result g c =
+    let made = c.in-Ok.ensures in
+    keeping-empty g.N.Namer.id_of g.D.Disk.tells (g.D.Disk.file c.make.new.ledger) (g.D.Disk.file c.make.new.store) (record { bodies = c.new.result; visits = c.new-in-Ok.result; store_end = 0; ledger_end = 8 }) c.new-in-Ok-2.result.items
+    c.new-in-Ok-2.ensures.items c.new.ensures c.new-in-Ok.ensures refl refl
+    (λ told. subst (λ (files : Files). IsEmptyArchive files) (sym (made.calls told).ok)
+    (c.made_is_empty.ensures (files_of (g.D.Disk.file c.args.ledger) (g.D.Disk.file c.args.store)) (made.not_made told)))
+
+pub returns-in-Ok-clause-calls : goal.returns-in-Ok-clause-calls
+returns-in-Ok-clause-calls g c told = (c.in-Ok.ensures.calls told).ok

@@ -1,0 +1,58 @@
+-- What a keeper's fields keep.
+use Rattle.std.specs.Prelude.{◌≡◌, ◌⊎◌, ℕ, ◌+◌, ◌≤◌, ◌^◌, Option, Some, None, List, [], ◌∷◌, ◌++◌, length}
+use Rattle.swh_outside.specs.Disk.{File}
+use Rattle.swh_outside.specs.Files.{Images, files_of}
+use Rattle.swh_segment.specs.Record.{Record}
+use Rattle.swh_segment.specs.Events as segment
+use Rattle.swh_base.specs.declared.kind.Kind.{Kind}
+use Rattle.swh_model.specs.declared.event.Event.{Event}
+use Rattle.swh_model.specs.declared.event.EventKind.{EventKind}
+use Rattle.swh_model.specs.declared.event.EventKind.TheVariants.{Batch, Open, Mark}
+use Rattle.swh_model.specs.Coding.{coded_run, coded_record, run_of, event_byte, payload_of, IsCodable, AreCodable}
+use Rattle.swh_model.specs.Limits.{store_length}
+use Rattle.swh_model.specs.Stands.{StandsFor}
+use Rattle.swh_model.specs.Step.{IsHistory}
+use Rattle.swh_keeper.specs.declared.replayed.Replayed.{Replayed}
+use Rattle.swh_keeper.specs.Planned.{IsReplayOf, IsInFiles}
+use Rattle.swh_keeper.specs.Kept.{AreInDoubt}
+
+abbrev pub run_written : EventKind → Option (List ℕ)
+run_written (Batch entries) = Some (coded_run entries)
+run_written (Open origin kind date) = None
+run_written (Mark origin visit status snapshot) = None
+
+-- an event as the two files have it
+abbrev pub written : ℕ → Event → segment.Event
+written at e = record { entry = record { kind = event_byte e.what; payload = payload_of at e }; run = run_written e.what }
+
+abbrev pub all_written : ℕ → List Event → List segment.Event
+all_written at [] = []
+all_written at (e ∷ h) = written at e ∷ all_written (at + length (run_of e.what)) h
+
+-- The files are settled for the history, and its events fit their fields.
+pub record AreSettledFor (ledger store : File) (h : List Event) (store_end ledger_end : ℕ) : Type 0 where
+  pub settled : segment.AreSettled (files_of ledger store) (all_written 0 h) store_end ledger_end
+  pub codable : AreCodable 0 h
+
+pub record IsKeeping (id_of : Kind → List ℕ → List ℕ) (tells : Type 0) (ledger store : File) (r : Replayed) (h : List Event) (wounded : Option ℕ) : Type 0 where
+  pub history : IsHistory id_of h
+  pub in_files : IsInFiles r
+  pub replayed_is : wounded ≡ None → IsReplayOf r h
+  pub settled : wounded ≡ None → tells → AreSettledFor ledger store h r.store_end r.ledger_end
+  pub doubt : (n : ℕ) → wounded ≡ Some n → tells → AreInDoubt id_of ledger store h
+
+-- The event of a plan, with its bytes and room for them.
+pub record IsToAdd (r : Replayed) (h : List Event) (e : Event) (run bytes : List ℕ) : Type 0 where
+  pub run_is : run ≡ run_of e.what
+  pub bytes_are : bytes ≡ coded_record r.store_end e ++ 0 ∷ []
+  pub codable : IsCodable r.store_end e
+  pub store : r.store_end ≡ store_length h
+
+-- What a crash leaves stands for the history, with the event or without.
+abbrev pub WithOrWithout : List Event → Event → Images → Type 0
+WithOrWithout h e images = StandsFor (images 0) (images 1) h ⊎ StandsFor (images 0) (images 1) (h ++ e ∷ [])
+
+-- Both files have room for these.
+pub record HasRoom (r : Replayed) (run bytes : List ℕ) : Type 0 where
+  pub store_fits : r.store_end + length run ≤ 2 ^ 62
+  pub ledger_fits : r.ledger_end + 1 + length bytes ≤ 2 ^ 62

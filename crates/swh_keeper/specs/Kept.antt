@@ -1,0 +1,77 @@
+-- What a keeper is, and what holds of its disks.
+use Rattle.std.specs.Prelude.{◌≡◌, ◌⊎◌, ℕ, ◌+◌, Option, Some, None, Result, Ok, Err, true, false, List, [], ◌∷◌, ◌++◌, length, refl}
+use Rattle.std.specs.Coded.{Coded, code_by, coded×, coded_ℕ, coded_option, coded_list}
+use Rattle.swh_outside.specs.Disk.{File, IsAtRest}
+use Rattle.swh_outside.specs.Files.{Images, EachImages, files_of}
+use Rattle.swh_base.specs.declared.kind.Kind.{Kind}
+use Rattle.swh_model.specs.contracts.event.Event as an_event
+use Rattle.swh_model.specs.declared.event.Event.{Event}
+use Rattle.swh_model.specs.declared.event.EventKind.{EventKind}
+use Rattle.swh_model.specs.declared.event.Outcome.{Outcome}
+use Rattle.swh_model.specs.declared.event.No.{No}
+use Rattle.swh_model.specs.declared.event.No.TheVariants.{Limit, NoVisit, NotYours, Ended, NoSnapshot, NotClosed, Collision}
+use Rattle.swh_model.specs.Stands.{StandsFor}
+use Rattle.swh_model.specs.Step.{May, IsHistory, replay}
+use Rattle.swh_model.specs.Judge.{IsVerdict}
+use Rattle.swh_keeper.specs.declared.fault.Refusal.{Refusal}
+use Rattle.swh_keeper.specs.declared.fault.Refusal.TheVariants as refusal
+
+-- the two disks, the history, and the number of the event at which a disk failed
+pub record Kept (D : Type 0) : Type 0 where
+  pub store : D
+  pub ledger : D
+  pub history : List Event
+  pub wounded : Option ℕ
+
+abbrev pub kept_code : {D : Type 0} → Coded D → Coded (Kept D)
+kept_code {D} d =
+    code_by (D × (D × (List Event × Option ℕ))) (coded× d (coded× d (coded× (coded_list an_event.the_row.coded) (coded_option coded_ℕ))))
+    (λ k. (k.store, (k.ledger, (k.history, k.wounded)))) (λ p. record { store = p.0; ledger = p.1.0; history = p.1.1.0; wounded = p.1.1.1 }) (λ _. refl)
+
+-- Nothing was written on either since a barrier, and the two files stand for the history.
+pub record AreStanding (ledger store : File) (h : List Event) : Type 0 where
+  pub ledger_rests : IsAtRest ledger
+  pub store_rests : IsAtRest store
+  pub stand : StandsFor ledger.seen store.seen h
+
+-- One event may have happened behind the history.
+pub record AreInDoubt (id_of : Kind → List ℕ → List ℕ) (ledger store : File) (h : List Event) : Type 0 where
+  pub event : Event
+  pub may : May id_of (replay h) event
+  pub each : EachImages (files_of ledger store) (λ images. StandsFor (images 0) (images 1) h ⊎ StandsFor (images 0) (images 1) (h ++ event ∷ []))
+
+-- What always holds of a keeper.
+pub record IsKept {D : Type 0} (id_of : Kind → List ℕ → List ℕ) (tells : Type 0) (file : D → File) (k : Kept D) : Type 0 where
+  pub history : IsHistory id_of k.history
+  pub standing : k.wounded ≡ None → tells → AreStanding (file k.ledger) (file k.store) k.history
+  pub doubt : (n : ℕ) → k.wounded ≡ Some n → tells → AreInDoubt id_of (file k.ledger) (file k.store) k.history
+
+-- The plan was judged, and its event is the newest.
+pub record Applies (h : List Event) (by : ℕ) (wish : EventKind) (h' : List Event) (outcome : Outcome) : Type 0 where
+  pub event : Event
+  pub verdict : IsVerdict h by wish (Ok (event, outcome))
+  pub added_behind : h' ≡ h ++ event ∷ []
+
+-- A judged cause leaves all as it was.
+pub record IsJudgedAgainst {D : Type 0} (old : Kept D) (by : ℕ) (wish : EventKind) (cause : No) (new : Kept D) : Type 0 where
+  pub unwounded : old.wounded ≡ None
+  pub verdict : IsVerdict old.history by wish (Err cause)
+  pub same : new ≡ old
+
+pub record IsDiskFaulted {D : Type 0} (old new : Kept D) : Type 0 where
+  pub before_it : old.wounded ≡ None
+  pub history : new.history ≡ old.history
+  pub wounded : new.wounded ≡ Some (length old.history + 1)
+
+-- Why a plan was refused, and what is left.
+abbrev pub Refuses : {D : Type 0} → Kept D → ℕ → EventKind → Kept D → Refusal → Type 0
+Refuses old by wish new (refusal.Wounded first) = (old.wounded ≡ Some first) × (new ≡ old)
+Refuses old by wish new (refusal.Limit which number) = IsJudgedAgainst old by wish (Limit which number) new
+Refuses old by wish new (refusal.NoVisit have) = IsJudgedAgainst old by wish (NoVisit have) new
+Refuses old by wish new (refusal.NotYours other) = IsJudgedAgainst old by wish (NotYours other) new
+Refuses old by wish new (refusal.Ended status) = IsJudgedAgainst old by wish (Ended status) new
+Refuses old by wish new (refusal.NoSnapshot name) = IsJudgedAgainst old by wish (NoSnapshot name) new
+Refuses old by wish new (refusal.NotClosed parent child) = IsJudgedAgainst old by wish (NotClosed parent child) new
+Refuses old by wish new (refusal.Collision name) = IsJudgedAgainst old by wish (Collision name) new
+Refuses old by wish new refusal.DiskFault = IsDiskFaulted old new
+Refuses old by wish new (refusal.Memory stands) = (stands ≡ false) × (new ≡ old)

@@ -1,0 +1,91 @@
+//! A planned event: carried out in memory, then on both disks.
+ghost use Rattle.std.specs.Prelude.{◌≡◌, ◌+◌, ◌≤◌, ◌<◌, ◌^◌, ◌++◌, ◌∷◌, [], ℕ, List, length, OnOk, OnErr, IfOk, IfErr, IsErrOf};
+ghost use Rattle.swh_outside.specs.Files.{EachImages, files_of};
+ghost use Rattle.swh_segment.specs.Makes.{EitherRose};
+ghost use Rattle.swh_model.specs.declared.event.Event.{Event};
+ghost use Rattle.swh_keeper.specs.Advance.{MayAdvance};
+ghost use Rattle.swh_keeper.specs.Planned.{IsReplayOf, IsInFiles};
+ghost use Rattle.swh_keeper.specs.Keeping.{AreSettledFor, IsToAdd, WithOrWithout, HasRoom};
+ghost use Rattle.swh_keeper.specs.declared.adding.AddFault.TheVariants.{Disk as DiskFailed, Memory as OutOfMemory};
+
+use crate::advance::advance;
+use crate::planning::Planned;
+use crate::replayed::Replayed;
+use crate::writing::write_event;
+use std::alloc::{AllocError, Global};
+use swh_base::Memory;
+use swh_model::{Event, Outcome};
+use swh_outside::Disk;
+
+#[derive(Clone, Copy, Debug, PartialEq, Eq)]
+pub enum AddFault {
+    Disk,
+    Memory,
+}
+
+impl From<AllocError> for AddFault {
+    ghost from_gives = { λ _ e. e ≡ OutOfMemory };
+
+    fn from(_e: AllocError) -> AddFault {
+        AddFault::Memory
+    }
+}
+
+impl From<Memory> for AddFault {
+    ghost from_gives = { λ _ e. e ≡ OutOfMemory };
+
+    fn from(_e: Memory) -> AddFault {
+        AddFault::Memory
+    }
+}
+
+/// Adds an event. Each growth is made before the first device call.
+pub fn add_event<D: Disk>(
+    alloc: Global,
+    store: &mut D,
+    ledger: &mut D,
+    replayed: &mut Replayed,
+    history: &mut Vec<Event>,
+    planned: Planned,
+) -> Result<Outcome, AddFault>
+    requires replay { IsReplayOf replayed.old history.old.items }
+    requires may { MayAdvance replayed.old planned.event.what }
+    requires to_add { IsToAdd replayed.old history.old.items planned.event planned.run.items planned.bytes.items }
+    requires room { HasRoom replayed.old planned.run.items planned.bytes.items }
+    requires settled { D.tells → AreSettledFor (D.file ledger.old) (D.file store.old) history.old.items replayed.old.store_end replayed.old.ledger_end }
+
+    ensures outcome { IfOk result (λ outcome. outcome ≡ planned.outcome) }
+    ensures history { OnOk result (history.new.items ≡ history.old.items ++ planned.event ∷ []) }
+    ensures replay { OnOk result (IsReplayOf replayed.new (history.old.items ++ planned.event ∷ [])) }
+    ensures in_files { OnOk result (IsInFiles replayed.new) }
+    ensures settled { D.tells → OnOk result (AreSettledFor (D.file ledger.new) (D.file store.new) (history.old.items ++ planned.event ∷ []) replayed.new.store_end replayed.new.ledger_end) }
+
+    ensures same_history { OnErr result (history.new.items ≡ history.old.items) }
+    ensures same_store_end { OnErr result (replayed.new.store_end ≡ replayed.old.store_end) }
+    ensures same_ledger_end { OnErr result (replayed.new.ledger_end ≡ replayed.old.ledger_end) }
+    ensures same_replay { IsErrOf result OutOfMemory → replayed.new ≡ replayed.old }
+    ensures same_store { IsErrOf result OutOfMemory → store.new ≡ store.old }
+    ensures same_ledger { IsErrOf result OutOfMemory → ledger.new ≡ ledger.old }
+    ensures left { D.tells → IsErrOf result DiskFailed → EachImages (files_of (D.file ledger.new) (D.file store.new)) (WithOrWithout history.old.items planned.event) }
+    ensures store_later { D.faults store.old ≤ D.faults store.new }
+    ensures ledger_later { D.faults ledger.old ≤ D.faults ledger.new }
+    ensures cause { IsErrOf result DiskFailed → EitherRose (D.faults store.old) (D.faults store.new) (D.faults ledger.old) (D.faults ledger.new) }
+{
+    let Planned {
+        event,
+        outcome,
+        run,
+        bytes,
+    } = planned;
+    history.reserve(1)?;
+    advance(alloc, replayed, &event)?;
+    let Ok(()) = write_event(store, ledger, replayed, &event, &run, &bytes, history) else {
+        return Err(AddFault::Disk);
+    };
+    replayed.store_end += run.as_slice().len() as u64;
+    replayed.ledger_end += bytes.as_slice().len() as u64;
+    match history.push(event) {
+        Ok(()) => Ok(outcome),
+        Err(_) => unreachable!(),
+    }
+}

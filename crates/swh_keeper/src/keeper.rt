@@ -1,0 +1,178 @@
+//! The keeper: judges plans, and adds their events to the two files.
+use crate::adding::{AddFault, add_event};
+use crate::bodies::HeldBodies;
+use crate::fault::{Refusal, refusal_for};
+use crate::opening::{OpenFault, why_not_made};
+use crate::plans::plan;
+use crate::replayed::Replayed;
+use crate::visits::OriginVisits;
+use std::alloc::Global;
+use std::marker::Model;
+use swh_base::{Entry, Name, Namer};
+use swh_model::{Event, Outcome, Visit, Wish};
+use swh_outside::Disk;
+use swh_segment::{made_is_empty, make as make_archive};
+
+/// Keeps an archive. Contracts see its disks, its history, and whether a disk failed.
+pub struct Keeper<N: Namer, D: Disk> {
+    namer: N,
+    store: D,
+    ledger: D,
+    replayed: Replayed,
+    history: Vec<Event>,
+    wounded: Option<u64>,
+}
+
+impl<N: Namer, D: Disk> Model for Keeper<N, D> {
+    ghost use Rattle.swh_keeper.specs.Kept.{Kept, kept_code};
+
+    ghost Value = { Kept D };
+
+    ghost coded = { kept_code D.code };
+
+    ghost use Rattle.swh_keeper.specs.Keeping.{IsKeeping};
+
+    ghost view = { λ k. record { store = k.store; ledger = k.ledger; history = k.history.items; wounded = k.wounded } };
+
+    ghost invariant = { λ k. IsKeeping N.id_of D.tells (D.file k.ledger) (D.file k.store) k.replayed k.history.items k.wounded };
+}
+
+impl<N: Namer, D: Disk> Keeper<N, D> {
+    ghost use Rattle.std.specs.Prelude.{◌≡◌, ◌≤◌, None, IfSome, IfNone, MatchOption, OnOk, IfOk, IfErr, IsErrOf, []};
+    ghost use Rattle.swh_segment.specs.Makes.{EitherRose};
+    ghost use Rattle.swh_model.specs.Judge.{IsWish};
+    ghost use Rattle.swh_keeper.specs.declared.fault.Refusal.TheVariants.{DiskFault};
+    ghost use Rattle.swh_outside.specs.Files.{files_of, files_done};
+    ghost use Rattle.swh_segment.specs.Making.{IsMade, IsNotMade, making_calls};
+    ghost use Rattle.swh_keeper.specs.Opening.{IsMakeFault, IsCutShort};
+    ghost use Rattle.swh_keeper.specs.declared.opening.OpenWhy.TheVariants.{Made, DiskFault as DiskFaulted};
+    ghost use Rattle.swh_model.specs.Archive.{body_of, visits_of};
+    ghost use Rattle.swh_model.specs.Step.{replay};
+    ghost use Rattle.swh_keeper.specs.Maps.{IsEntryOf};
+    ghost use Rattle.swh_keeper.specs.Kept.{IsKept, Applies, Refuses};
+
+    /// Makes an archive of no event, unless the ledger is made.
+    pub fn make(
+        alloc: Global,
+        namer: N,
+        mut store: D,
+        mut ledger: D,
+    ) -> Result<Keeper<N, D>, OpenFault<D>>
+        ensures empty { IfOk result (λ keeper. keeper.history ≡ []) }
+        ensures unwounded { IfOk result (λ keeper. keeper.wounded ≡ None) }
+        ensures not_made { D.tells → OnOk result (IsNotMade (D.file ledger).seen) }
+        ensures calls { D.tells → IfOk result (λ keeper. files_of (D.file keeper.ledger) (D.file keeper.store) ≡ files_done (making_calls (D.file ledger).seen) (files_of (D.file ledger) (D.file store))) }
+        ensures err { IfErr result (λ fault. IsMakeFault fault.why) }
+        ensures made { D.tells → IfErr result (λ fault. fault.why ≡ Made → IsMade (D.file ledger).seen) }
+        ensures cause { IfErr result (λ fault. fault.why ≡ DiskFaulted → EitherRose (D.faults store) (D.faults fault.store) (D.faults ledger) (D.faults fault.ledger)) }
+        ensures failed { D.tells → IfErr result (λ fault. fault.why ≡ DiskFaulted → IsCutShort (files_of (D.file ledger) (D.file store)) (files_of (D.file fault.ledger) (D.file fault.store))) }
+    {
+        made_is_empty();
+        match make_archive(&mut store, &mut ledger) {
+            Ok(()) => Ok(Keeper {
+                namer,
+                store,
+                ledger,
+                replayed: Replayed {
+                    bodies: HeldBodies::new(alloc),
+                    visits: OriginVisits::new(alloc),
+                    store_end: 0,
+                    ledger_end: 8,
+                },
+                history: Vec::new(alloc),
+                wounded: None,
+            }),
+            Err(fault) => Err(OpenFault {
+                why: why_not_made(fault),
+                store,
+                ledger,
+            }),
+        }
+    }
+
+    /// The events so far, the newest last, and what holds of the disks.
+    pub fn history(&self) -> &[Event]
+        ensures value { result.now ≡ self.now.history }
+        ensures kept { IsKept N.id_of D.tells D.file self.now }
+    {
+        self.history.as_slice()
+    }
+
+    /// The number of the event at which a disk failed.
+    pub fn wounded(&self) -> Option<u64>
+        ensures { result ≡ self.now.wounded }
+    {
+        self.wounded
+    }
+
+    /// The entry that is held under a name, unless the keeper is wounded.
+    pub fn get(&self, name: &Name) -> Option<&Entry>
+        ensures some { self.now.wounded ≡ None → IfSome result (λ entry. IsEntryOf (replay self.now.history).bodies name.now entry.now) }
+        ensures none { self.now.wounded ≡ None → IfNone result (body_of (replay self.now.history).bodies name.now ≡ None) }
+    {
+        self.replayed.bodies.get(name)
+    }
+
+    /// The visits of an origin, where it was opened, unless the keeper is wounded.
+    pub fn visits(&self, origin: &[u8]) -> Option<&[Visit]>
+        ensures { self.now.wounded ≡ None → MatchOption result (visits_of (replay self.now.history).origins origin.now ≡ []) (λ visits. visits.now ≡ visits_of (replay self.now.history).origins origin.now) }
+    {
+        self.replayed.visits.get(origin)
+    }
+
+    /// Gives the store and the ledger back.
+    pub fn close(self) -> (D, D)
+        ensures store { result.0 ≡ self.store }
+        ensures ledger { result.1 ≡ self.ledger }
+        ensures kept { IsKept N.id_of D.tells D.file self }
+    {
+        let Keeper {
+            namer: _namer,
+            store,
+            ledger,
+            replayed: _replayed,
+            history: _history,
+            wounded: _wounded,
+        } = self;
+        (store, ledger)
+    }
+
+    /// Judges a plan and adds its event.
+    pub fn apply(&mut self, alloc: Global, by: u32, wish: Wish) -> Result<Outcome, Refusal>
+        requires { IsWish N.id_of wish }
+        ensures ok { IfOk result (Applies self.old.history by wish self.new.history) }
+        ensures unwounded { OnOk result ((self.old.wounded ≡ None) × (self.new.wounded ≡ None)) }
+        ensures err { IfErr result (Refuses self.old by wish self.new) }
+        ensures store_later { D.faults self.old.store ≤ D.faults self.new.store }
+        ensures ledger_later { D.faults self.old.ledger ≤ D.faults self.new.ledger }
+        ensures cause { IsErrOf result DiskFault → EitherRose (D.faults self.old.store) (D.faults self.new.store) (D.faults self.old.ledger) (D.faults self.new.ledger) }
+    {
+        if let Some(first) = self.wounded {
+            return Err(Refusal::Wounded { first });
+        }
+        let number = self.history.as_slice().len() as u64 + 1;
+        let planned = match plan(alloc, &self.replayed, number, by, wish) {
+            Ok(planned) => planned,
+            Err(fault) => return Err(refusal_for(fault)),
+        };
+        let added = add_event(
+            alloc,
+            &mut self.store,
+            &mut self.ledger,
+            &mut self.replayed,
+            &mut self.history,
+            planned,
+        );
+        let fault = match added {
+            Ok(outcome) => return Ok(outcome),
+            Err(fault) => fault,
+        };
+        match fault {
+            AddFault::Memory => Err(Refusal::Memory { stands: false }),
+            AddFault::Disk => {
+                self.wounded = Some(number);
+                Err(Refusal::DiskFault)
+            }
+        }
+    }
+}

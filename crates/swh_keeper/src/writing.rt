@@ -1,0 +1,54 @@
+//! An event on both disks.
+ghost use Rattle.std.specs.Prelude.{◌≡◌, ◌+◌, ◌≤◌, ◌<◌, ◌^◌, ◌++◌, ◌∷◌, [], ℕ, List, length, OnOk, OnErr};
+ghost use Rattle.swh_outside.specs.Files.{EachImages, files_of};
+ghost use Rattle.swh_segment.specs.Makes.{EitherRose};
+ghost use Rattle.swh_segment.specs.Runs as runs;
+ghost use Rattle.swh_model.specs.Coding.{run_of};
+ghost use Rattle.swh_model.specs.declared.event.Event.{Event};
+ghost use Rattle.swh_keeper.specs.Keeping.{AreSettledFor, IsToAdd, WithOrWithout, run_written};
+
+use crate::replayed::Replayed;
+use swh_model::{Event, EventKind};
+use swh_outside::{Disk, Failed};
+use swh_segment::{Run, append_event};
+
+/// What the event adds to the store.
+fn run_for<'a>(event: &Event, run: &'a [u8]) -> Run<'a>
+    requires { run.now ≡ run_of event.now.what }
+    ensures { runs.run_of result ≡ run_written event.now.what }
+{
+    match &event.what {
+        EventKind::Batch(_) => Run::Batch(run),
+        EventKind::Open { .. } | EventKind::Mark { .. } => Run::None,
+    }
+}
+
+/// Writes an event on both disks.
+pub fn write_event<D: Disk>(
+    store: &mut D,
+    ledger: &mut D,
+    replayed: &Replayed,
+    event: &Event,
+    run: &[u8],
+    bytes: &[u8],
+    history: &Vec<Event>,
+) -> Result<(), Failed>
+    requires limit { replayed.now.ledger_end + 1 < 2 ^ 64 }
+    requires to_add { IsToAdd replayed.now history.now.items event.now run.now bytes.now }
+    requires settled { D.tells → AreSettledFor (D.file ledger.old) (D.file store.old) history.now.items replayed.now.store_end replayed.now.ledger_end }
+    ensures ok { D.tells → OnOk result (AreSettledFor (D.file ledger.new) (D.file store.new) (history.now.items ++ event.now ∷ []) (replayed.now.store_end + length run.now) (replayed.now.ledger_end + length bytes.now)) }
+    ensures left { D.tells → OnErr result (EachImages (files_of (D.file ledger.new) (D.file store.new)) (WithOrWithout history.now.items event.now)) }
+    ensures store_later { D.faults store.old ≤ D.faults store.new }
+    ensures ledger_later { D.faults ledger.old ≤ D.faults ledger.new }
+    ensures cause { OnErr result (EitherRose (D.faults store.old) (D.faults store.new) (D.faults ledger.old) (D.faults ledger.new)) }
+{
+    let run = run_for(event, run);
+    append_event(
+        store,
+        replayed.store_end,
+        run,
+        ledger,
+        replayed.ledger_end,
+        bytes,
+    )
+}

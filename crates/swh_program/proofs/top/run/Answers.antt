@@ -1,0 +1,14 @@
+use Rattle.swh_program.proofs.Ends.{told_status, init_done, done_status}
+use Rattle.swh_program.proofs.top.run.Goals as goal
+
+pub returns-clause-status : goal.returns-clause-status
+returns-clause-status g c = told_status _ _ _ _ _ _ _ c.obey-answer.ensures.status c.tell.ensures
+
+pub returns-clause-init : goal.returns-clause-init
+returns-clause-init g c dir is = record { answer = c.obey-answer.result; is_one = c.obey-answer.ensures.init dir is; told = c.tell.ensures }
+
+pub returns-clause-complete_init : goal.returns-clause-complete_init
+returns-clause-complete_init g c dir is told not_made no_disk no_sink =
+    let inits = c.obey-answer.ensures.init dir is in
+    let done = init_done _ _ _ (inits.ends told) not_made (λ failed. no_disk (inits.cause failed)) in
+    done_status _ _ _ _ _ _ _ done no_sink c.tell.ensures

@@ -1,0 +1,113 @@
+-- Plain revisions and releases: those whose rest is an author, a committer and a message, or a tagger and a message.
+use Rattle.std.specs.Prelude.{◌≡◌, ◌≢◌, ℕ, ◌≤◌, Option, Some, None, IfSome, List, [], ◌∷◌, ◌++◌, length, Contains, codes}
+use Rattle.std.specs.List.{AllPass}
+use Rattle.swh_base.specs.declared.kind.Kind.TheVariants.{Directory}
+use Rattle.swh_base.specs.declared.name.Name.{Name}
+use Rattle.swh_base.specs.Limits.{line_limit}
+use Rattle.swh_base.specs.Text.{IsRef, IsPerson, IsSign, is_person_byte, is_digit, named}
+use Rattle.swh_base.specs.Revision.{IsRevision}
+use Rattle.swh_base.specs.Release.{IsRelease}
+
+-- a line of a word and a text
+abbrev pub text_line : List ℕ → List ℕ → List ℕ
+text_line word text = word ++ (text ++ 10 ∷ [])
+
+-- The text is a person, and its line is not too long.
+pub record IsPersonLine (word text : List ℕ) : Type 0 where
+  pub person : IsPerson text
+  pub short : length (text_line word text) ≤ line_limit
+
+-- The text has a byte and no NUL, and its line is one and not too long.
+pub record IsEncoding (text : List ℕ) : Type 0 where
+  pub some : text ≢ []
+  pub no_nul : Contains text 0 → ⊥
+  pub one_line : Contains text 10 → ⊥
+  pub short : length (text_line (codes "encoding ") text) ≤ line_limit
+
+abbrev pub optional_line : List ℕ → Option (List ℕ) → List ℕ
+optional_line word None = []
+optional_line word (Some text) = text_line word text
+
+-- the rest of a plain revision
+pub record RevisionRest : Type 0 where
+  pub author : List ℕ
+  pub committer : List ℕ
+  pub encoding : Option (List ℕ)
+  pub message : List ℕ
+
+abbrev pub revision_rest : RevisionRest → List ℕ
+revision_rest r = text_line (codes "author ") r.author ++ (text_line (codes "committer ") r.committer ++ (optional_line (codes "encoding ") r.encoding ++ 10 ∷ r.message))
+
+-- The bytes are the rest of a plain revision.
+pub record IsRevisionRest (bytes : List ℕ) (r : RevisionRest) : Type 0 where
+  pub text : bytes ≡ revision_rest r
+  pub author : IsPersonLine (codes "author ") r.author
+  pub committer : IsPersonLine (codes "committer ") r.committer
+  pub encoding : IfSome r.encoding IsEncoding
+
+pub record PlainRevision : Type 0 where
+  pub directory : List ℕ
+  pub parents : List (List ℕ)
+  pub rest : RevisionRest
+
+-- The body is a plain revision with these parts.
+pub record IsPlainRevision (body : List ℕ) (p : PlainRevision) : Type 0 where
+  pub bytes : List ℕ
+  pub revision : IsRevision body (record { directory = p.directory; parents = p.parents; rest = bytes })
+  pub rest : IsRevisionRest bytes p.rest
+
+-- the rest of a plain release
+pub record ReleaseRest : Type 0 where
+  pub tagger : Option (List ℕ)
+  pub message : List ℕ
+
+-- The bytes are the rest of a plain release.
+pub record IsReleaseRest (bytes : List ℕ) (r : ReleaseRest) : Type 0 where
+  pub text : bytes ≡ optional_line (codes "tagger ") r.tagger ++ 10 ∷ r.message
+  pub tagger : IfSome r.tagger (λ text. IsPersonLine (codes "tagger ") text)
+
+pub record PlainRelease : Type 0 where
+  pub object : Name
+  pub tag : List ℕ
+  pub rest : ReleaseRest
+
+-- A ref that is a tag's name, so that `refs/tags/` and it are a ref.
+pub record IsTagName (tag : List ℕ) : Type 0 where
+  pub ref : IsRef tag
+  pub short : length tag ≤ 1014
+
+-- The body is a plain release with these parts: of no directory, with the name of a ref.
+pub record IsPlainRelease (body : List ℕ) (p : PlainRelease) : Type 0 where
+  pub bytes : List ℕ
+  pub release : IsRelease body (record { object = p.object; tag = p.tag; rest = bytes })
+  pub no_directory : p.object.kind ≢ Directory
+  pub tag : IsTagName p.tag
+  pub rest : IsReleaseRest bytes p.rest
+
+-- what stands before an email: nothing, or a name and a space
+pub record IsNamed (text : List ℕ) : Type 0 where
+  pub name : Option (List ℕ)
+  pub spelled : text ≡ named name
+  pub bytes : AllPass is_person_byte text
+
+-- the sign and the four digits of a time zone
+pub record IsZone (text : List ℕ) : Type 0 where
+  pub sign : ℕ
+  pub digits : List ℕ
+  pub spelled : text ≡ sign ∷ digits
+  pub is_sign : IsSign sign
+  pub four : length digits ≡ 4
+  pub zone_digits : AllPass is_digit digits
+
+pub record IsSeconds (text : List ℕ) : Type 0 where
+  pub some : 1 ≤ length text
+  pub few : length text ≤ 18
+  pub digits : AllPass is_digit text
+
+-- what stands behind an email
+pub record IsDate (text : List ℕ) : Type 0 where
+  pub seconds : List ℕ
+  pub zone : List ℕ
+  pub spelled : text ≡ 32 ∷ (seconds ++ 32 ∷ zone)
+  pub are_seconds : IsSeconds seconds
+  pub is_zone : IsZone zone

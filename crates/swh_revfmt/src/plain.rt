@@ -1,0 +1,127 @@
+//! Plain revisions and releases, taken apart.
+
+ghost use Rattle.std.specs.Prelude.{◌≡◌, ◌↔◌, IsTrue, IfOk, IfSome, IfNone, Option, List, ℕ};
+ghost use Rattle.std.specs.Option.{option_copied};
+ghost use Rattle.swh_base.specs.declared.kind.Kind.TheVariants.{Directory};
+ghost use Rattle.swh_revfmt.specs.Plain.{PlainRevision, IsPlainRevision, PlainRelease, IsPlainRelease, IsTagName};
+ghost use Rattle.swh_revfmt.specs.PlainReading.{plain_revision, plain_release};
+
+use crate::fault::{ReadRelFault, ReadRevFault};
+use crate::release::{Rel, read_rel};
+use crate::rest::{release_rest, revision_rest};
+use crate::revision::{Rev, read_rev};
+use std::alloc::Global;
+use swh_base::{Bytes, Kind, Many, Memory, Name};
+
+/// The parts of a plain revision.
+#[derive(Drop)]
+pub struct PlainRev {
+    pub directory: [u8; 20],
+    pub parents: Many<[u8; 20]>,
+    pub author: Bytes,
+    pub committer: Bytes,
+    pub encoding: Option<Bytes>,
+    pub message: Bytes,
+}
+
+/// The parts of a plain release.
+#[derive(Drop)]
+pub struct PlainRel {
+    pub object: Name,
+    pub tag: Bytes,
+    pub tagger: Option<Bytes>,
+    pub message: Bytes,
+}
+
+fn optional_bytes(alloc: Global, text: Option<&[u8]>) -> Result<Option<Bytes>, Memory>
+    ensures { IfOk result (λ bytes. bytes ≡ option_copied text.entry) }
+{
+    match text {
+        Some(text) => Ok(Some(Bytes::from_slice(alloc, text)?)),
+        None => Ok(None),
+    }
+}
+
+/// The parts of the body where it is a plain revision.
+pub fn plain_rev(alloc: Global, body: &[u8]) -> Result<Option<PlainRev>, Memory>
+    ensures some { IfOk result (λ found. IfSome found (λ plain. IsPlainRevision body.now (plain_revision plain))) }
+    ensures none { IfOk result (λ found. IfNone found ((plain : PlainRevision) → IsPlainRevision body.now plain → ⊥)) }
+{
+    let rev = match read_rev(alloc, body) {
+        Ok(rev) => rev,
+        Err(ReadRevFault::Memory) => return Err(Memory),
+        Err(ReadRevFault::Bad(_)) => return Ok(None),
+    };
+    let Rev {
+        directory,
+        parents,
+        rest,
+    } = rev;
+    let Some(rest) = revision_rest(rest.as_slice()) else {
+        return Ok(None);
+    };
+    Ok(Some(PlainRev {
+        directory,
+        parents,
+        author: Bytes::from_slice(alloc, rest.author)?,
+        committer: Bytes::from_slice(alloc, rest.committer)?,
+        encoding: optional_bytes(alloc, rest.encoding)?,
+        message: Bytes::from_slice(alloc, rest.message)?,
+    }))
+}
+
+/// None up to a space, no DEL, none of `^ : ~ ? * [ \`; one to 1,014 bytes.
+fn is_tag_name(tag: &[u8]) -> bool
+    ensures { IsTrue result ↔ IsTagName tag.now }
+{
+    !tag.is_empty()
+        && tag.len() <= 1014
+        && tag.iter().all(|c| {
+            *c >= 33
+                && *c != 127
+                && *c != b'^'
+                && *c != b':'
+                && *c != b'~'
+                && *c != b'?'
+                && *c != b'*'
+                && *c != b'['
+                && *c != b'\\'
+        })
+}
+
+fn is_directory(kind: Kind) -> bool
+    ensures { IsTrue result ↔ (kind ≡ Directory) }
+{
+    match kind {
+        Kind::Directory => true,
+        Kind::Content | Kind::Revision | Kind::Release | Kind::Snapshot => false,
+    }
+}
+
+/// The parts of the body where it is a plain release.
+pub fn plain_rel(alloc: Global, body: &[u8]) -> Result<Option<PlainRel>, Memory>
+    ensures some { IfOk result (λ found. IfSome found (λ plain. IsPlainRelease body.now (plain_release plain))) }
+    ensures none { IfOk result (λ found. IfNone found ((plain : PlainRelease) → IsPlainRelease body.now plain → ⊥)) }
+{
+    let rel = match read_rel(alloc, body) {
+        Ok(rel) => rel,
+        Err(ReadRelFault::Memory) => return Err(Memory),
+        Err(ReadRelFault::Bad(_)) => return Ok(None),
+    };
+    if is_directory(rel.object.kind) {
+        return Ok(None);
+    }
+    if !is_tag_name(rel.tag.as_slice()) {
+        return Ok(None);
+    }
+    let Rel { object, tag, rest } = rel;
+    let Some(rest) = release_rest(rest.as_slice()) else {
+        return Ok(None);
+    };
+    Ok(Some(PlainRel {
+        object,
+        tag,
+        tagger: optional_bytes(alloc, rest.tagger)?,
+        message: Bytes::from_slice(alloc, rest.message)?,
+    }))
+}
