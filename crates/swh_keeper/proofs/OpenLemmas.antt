@@ -1,5 +1,5 @@
 -- A history for which two files stand, and the keeper that opens them.
-use Rattle.std.proofs.Common.{◌≡◌, ℕ, ◌+◌, Some, None, List, [], ◌∷◌, ◌++◌, map, length, refl, sym, ap, ◌∙◌, subst, arith, append_assoc, length-append}
+use Rattle.std.proofs.Common.{◌≡◌, ◌≤◌, ◌^◌, ℕ, ◌+◌, Some, None, List, [], ◌∷◌, ◌++◌, map, length, refl, sym, ap, ◌∙◌, subst, arith, append_assoc, length-append}
 use Rattle.std.specs.List.{AllByRecursion}
 use Rattle.std.specs.Int.{w32, w64, to_be_bytes}
 use Rattle.swh_outside.specs.Disk.{File, IsAtRest}
@@ -11,7 +11,7 @@ use Rattle.swh_model.specs.declared.event.Event.{Event}
 use Rattle.swh_model.specs.declared.event.EventKind.{EventKind}
 use Rattle.swh_model.specs.declared.event.EventKind.TheVariants.{Batch, Open, Mark}
 use Rattle.swh_model.specs.Coding.{magic, run_of, told, event_byte, coded_entry, coded_run, framed, coded_record, coded_records, coded_runs, IsCodableKind, IsCodableEntry, AreCodable}
-use Rattle.swh_model.specs.Limits.{records_length}
+use Rattle.swh_model.specs.Limits.{store_length, records_length, ledger_length}
 use Rattle.swh_model.specs.Stands.{StandsFor, bare, bare_kind, bare_event, AreAlike}
 use Rattle.swh_model.specs.Step.{IsHistory}
 use Rattle.swh_keeper.specs.declared.replayed.Replayed.{Replayed}
@@ -161,3 +161,16 @@ alike_stands ledger store g h alike s =
         codable = codable-from_bare 0 g (subst (AreCodable 0) (sym alike) (codable-to_bare 0 h s.stands.codable));
       };
     }
+
+pub alike_store_length : (g h : List Event) → AreAlike g h → store_length g ≡ store_length h
+alike_store_length g h alike = sym (runs-length g) ∙ ap length (sym (bare-runs g) ∙ ap coded_runs alike ∙ bare-runs h) ∙ runs-length h
+
+pub alike_ledger_length : (g h : List Event) → AreAlike g h → ledger_length g ≡ ledger_length h
+alike_ledger_length g h alike =
+    let same : records_length g ≡ records_length h = sym (records-length 0 g) ∙ ap length (sym (bare-records 0 g) ∙ ap (coded_records 0) alike ∙ bare-records 0 h) ∙ records-length 0 h in
+    omega (arith, same)
+
+pub checked_in_files : (r : Replayed) (g h : List Event) → AreAlike g h → IsReplayOf r g → store_length h ≤ 2 ^ 62 → ledger_length h ≤ 2 ^ 62 → IsInFiles r
+checked_in_files r g h alike is store ledger =
+    let s = is.store in let l = is.ledger in let a = alike_store_length g h alike in let b = alike_ledger_length g h alike in
+    record { store_fits = omega (arith, s, a, store); ledger_fits = omega (arith, l, b, ledger) }

@@ -5,7 +5,7 @@ use Rattle.swh_segment.specs.Making.{making_calls}
 use Rattle.swh_segment.specs.declared.fault.MakeFault.{MakeFault}
 use Rattle.swh_segment.specs.declared.fault.MakeFault.TheVariants as make
 use Rattle.swh_keeper.specs.declared.opening.OpenWhy.{OpenWhy}
-use Rattle.swh_keeper.specs.declared.opening.OpenWhy.TheVariants.{Made, DiskFault}
+use Rattle.swh_keeper.specs.declared.opening.OpenWhy.TheVariants.{Made, Damaged, DiskFault, Memory}
 
 abbrev pub make_why : MakeFault → OpenWhy
 make_why make.Made = Made
@@ -16,6 +16,12 @@ abbrev pub IsMakeFault : OpenWhy → Type 0
 IsMakeFault Made = Unit {0}
 IsMakeFault DiskFault = Unit {0}
 IsMakeFault _ = ⊥
+
+-- the files that were read are refused for one of these
+abbrev pub IsOpenFault : OpenWhy → Type 0
+IsOpenFault Damaged = Unit {0}
+IsOpenFault Memory = Unit {0}
+IsOpenFault _ = ⊥
 
 -- none of the calls of a making was made, or those up to one that failed
 abbrev pub IsCutShort : Files → Files → Type 0
