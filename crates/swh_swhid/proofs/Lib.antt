@@ -7,3 +7,5 @@ pub mod Numerals
 pub mod Ranges
 pub mod Texts
 pub mod KeyWords
+pub mod Wholes
+pub mod Places

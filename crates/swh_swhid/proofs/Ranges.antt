@@ -1,6 +1,5 @@
 -- How far texts go along with numbers and ranges.
-use Rattle.std.proofs.Common.{◌≡◌, ◌≢◌, ℕ, zero, suc, ◌+◌, ◌-◌, ◌*◌, ◌^◌, ◌<◌, ◌≤◌, ◌⊎◌, inl, inr, List, [], ◌∷◌, ◌++◌, length, get_or, take, drop, Option, Some, None, Contains, decimal, refl, sym, ap, ◌∙◌, subst, arith, append_assoc, length-append, drop-cons}
-use Rattle.std.specs.List.{AllByRecursion}
+use Rattle.std.proofs.Common.{◌≡◌, ◌≢◌, ℕ, zero, suc, ◌+◌, ◌^◌, ◌<◌, ◌≤◌, ◌⊎◌, inl, inr, List, [], ◌∷◌, ◌++◌, length, get_or, take, drop, Option, Some, None, Contains, decimal, refl, sym, ap, ◌∙◌, subst, arith, append_assoc, length-append, drop-cons}
 use Rattle.std.proofs.lemmas.Bool.{cases_lt, cases_order}
 use Rattle.std.proofs.lemmas.List.{take-append-drop, length-take-le, take_all}
 use Rattle.std.proofs.lemmas.List.Elements.{Contains-append_right}
@@ -8,7 +7,7 @@ use Rattle.std.proofs.Math.ListN.{drop_of_length-le}
 use Rattle.std.proofs.lemmas.Fmt.{decimal_injective}
 use Rattle.swh_base.proofs.Splits.{first_split}
 use Rattle.swh_swhid.specs.Front.{BreaksAt}
-use Rattle.swh_swhid.specs.Number.{number_limit, IsNumber, HasNumber, IsRange, HasRange, range_text, IsDigit, read_on, GoesOn, MayFollow, IsDigitsFront}
+use Rattle.swh_swhid.specs.Number.{number_limit, IsNumber, HasNumber, IsRange, HasRange, range_text, read_on, GoesOn, MayFollow, IsDigitsFront}
 use Rattle.swh_swhid.proofs.Fronts.{breaks_after}
 use Rattle.swh_swhid.proofs.Numerals.{AreDigits, AreNumber, number_text, text_number, is_number, number_digits, follows, completes, value-small, zero_head}
 
@@ -223,3 +222,15 @@ first_read least text value n one f some whole =
     let low = first_low least value (take n text) one f.goes_on (omega (arith, length-take-le n text f.within)) in
     let number = number_read least text value n f whole some low in
     (record { low = low; small = number.small; last = tt }, number.spelled)
+
+small_below : (n : ℕ) → n < number_limit → n < 2 ^ 64
+small_below n h = omega (arith, h)
+
+-- each range has one text
+pub one_range : (least first other : ℕ) (more rest : Option ℕ) → IsRange least first more → IsRange least other rest → range_text first more ≡ range_text other rest → (first ≡ other) × (more ≡ rest)
+one_range least first other None None h k e = (decimal_injective first other (small_below first h.small) (small_below other k.small) e, refl)
+one_range least first other None (Some last) h k e = absurd (digit-no_dash (decimal first) (decimal-digits first h.small) (subst (λ (t : List ℕ). Contains t 45) (sym e) (Contains-append_right (decimal other) (45 ∷ decimal last) 45 (0, omega arith, refl))))
+one_range least first other (Some last) None h k e = absurd (digit-no_dash (decimal other) (decimal-digits other k.small) (subst (λ (t : List ℕ). Contains t 45) e (Contains-append_right (decimal first) (45 ∷ decimal last) 45 (0, omega arith, refl))))
+one_range least first other (Some last) (Some end) h k e =
+    let both = first_split 45 (decimal first) (decimal other) (decimal last) (decimal end) (digit-no_dash (decimal first) (decimal-digits first h.small)) (digit-no_dash (decimal other) (decimal-digits other k.small)) e in
+    (decimal_injective first other (small_below first h.small) (small_below other k.small) both.0, ap Some (decimal_injective last end (small_below last h.last.1) (small_below end k.last.1) both.1))

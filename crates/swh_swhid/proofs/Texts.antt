@@ -1,12 +1,10 @@
 -- Texts of origins and paths: what may stand behind a front, and how far bytes go along with texts.
-use Rattle.std.proofs.Common.{◌≡◌, ◌≢◌, ℕ, zero, suc, ◌+◌, ◌<◌, ◌≤◌, ◌==◌, Bool, true, false, ◌&&◌, not, ◌⊎◌, inl, inr, List, [], ◌∷◌, ◌++◌, length, get_or, take, drop, nat_le, refl, sym, ap, ◌∙◌, subst, arith, append_assoc, length-append, drop-cons}
-use Rattle.std.proofs.lemmas.Bool.{cases_lt}
+use Rattle.std.proofs.Common.{◌≡◌, ◌≢◌, ℕ, suc, ◌+◌, ◌<◌, true, false, List, [], ◌∷◌, ◌++◌, length, get_or, take, drop, refl, sym, ap, ◌∙◌, subst, arith, append_assoc, drop-cons}
 use Rattle.std.proofs.lemmas.Bool.Decides.{nat_tests}
 use Rattle.std.proofs.lemmas.List.{take-append-drop, length-take-le, take_all, take_more, append-nil}
-use Rattle.std.proofs.Math.ListN.{drop_of_length-le}
 use Rattle.hex.specs.Hex.{is_hex_digit}
 use Rattle.swh_swhid.specs.Front.{BreaksAt}
-use Rattle.swh_swhid.specs.Text.{is_text_byte, BeginsWithDigit, BeginsWithDigits, IsText, IsOriginText, IsPathText, IsTextBehind, IsDueNext}
+use Rattle.swh_swhid.specs.Text.{is_text_byte, IsText, IsOriginText, IsPathText, IsTextBehind, IsDueNext}
 use Rattle.swh_swhid.specs.declared.text.Due.{Due}
 use Rattle.swh_swhid.specs.declared.text.Due.TheVariants.{Nothing, Second, Both}
 use Rattle.swh_swhid.proofs.Fronts.{breaks_after}

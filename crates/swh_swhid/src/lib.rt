@@ -7,10 +7,12 @@ mod fault;
 mod front;
 mod identifier;
 mod number;
+mod parsing;
 mod qualifier;
 mod swhid;
 mod text;
 
 pub use fault::SwhidFault;
 pub use identifier::{core_text, parse_core};
+pub use parsing::parse;
 pub use swhid::Swhid;

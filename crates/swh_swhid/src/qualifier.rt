@@ -29,7 +29,7 @@ pub fn key_word(key: Key) -> &'static [u8]
 }
 
 /// Whether the value lacks what the key says.
-fn is_free(swhid: &Swhid, key: Key) -> bool
+pub fn is_free(swhid: &Swhid, key: Key) -> bool
     ensures { result ≡ is_free swhid.now key }
 {
     match key {
@@ -89,7 +89,7 @@ fn key_of(swhid: &Swhid, piece: &[u8]) -> Result<Key, usize>
     }
 }
 
-fn bad(at: usize) -> SwhidFault
+pub fn bad(at: usize) -> SwhidFault
     ensures { result ≡ SwhidFault.BadText at }
 {
     SwhidFault::BadText { at: at as u64 }

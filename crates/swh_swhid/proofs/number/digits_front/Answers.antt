@@ -1,5 +1,5 @@
-use Rattle.std.proofs.Common.{◌≡◌, ◌<◌, ◌≤◌, ◌+◌, ◌-◌, ◌*◌, ◌^◌, ℕ, List, length, take, get_or, subst, sym, arith}
-use Rattle.std.proofs.lemmas.List.{length-take-le, take_more, take_all}
+use Rattle.std.proofs.Common.{◌<◌, ◌+◌, ◌-◌, ◌*◌, ◌^◌, ℕ, List, take, get_or, subst, sym, arith}
+use Rattle.std.proofs.lemmas.List.{length-take-le, take_more}
 use Rattle.swh_swhid.specs.Number.{GoesOn, MayFollow}
 use Rattle.swh_swhid.proofs.Numerals.{goes_on-small, goes_on-more, goes_on-none, ten-small}
 use Rattle.swh_swhid.proofs.number.digits_front.Goals as goal

@@ -1,5 +1,4 @@
-use Rattle.std.proofs.Common.{◌≡◌, ◌<◌, ◌^◌, rules, arith}
-use Rattle.std.proofs.Math.Nat.{pow-le-pow_right}
+use Rattle.std.proofs.Common.{arith}
 use Rattle.swh_swhid.proofs.Numerals.{ten-small}
 use Rattle.swh_swhid.proofs.number.may_follow.Goals as goal
 

@@ -1,6 +1,6 @@
-use Rattle.std.proofs.Common.{◌≡◌, ◌<◌, ◌^◌, rules, subst, sym, arith, ℕ}
+use Rattle.std.proofs.Common.{◌^◌, arith}
 use Rattle.std.proofs.lemmas.Bool.Decides.{nat_tests}
-use Rattle.swh_swhid.proofs.Numerals.{ten-above, ten-small, reach}
+use Rattle.swh_swhid.proofs.Numerals.{ten-above, reach}
 use Rattle.swh_swhid.proofs.number.reaches.Goals as goal
 
 pub nonzero_div-result : goal.nonzero_div-result

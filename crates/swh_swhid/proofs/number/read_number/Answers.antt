@@ -1,4 +1,4 @@
-use Rattle.std.proofs.Common.{◌≡◌, ◌<◌, ◌≤◌, length, arith, subst, sym, ℕ}
+use Rattle.std.proofs.Common.{arith, subst}
 use Rattle.swh_swhid.specs.Front.{BreaksAt}
 use Rattle.swh_swhid.specs.Number.{HasNumber}
 use Rattle.swh_swhid.proofs.Ranges.{number_breaks, no_empty_number, number_low, number_read}

@@ -1,4 +1,4 @@
-use Rattle.std.proofs.Common.{◌≡◌, ◌<◌, ◌≤◌, length, arith, subst, sym, ℕ}
+use Rattle.std.proofs.Common.{arith, subst}
 use Rattle.swh_swhid.specs.Front.{BreaksAt}
 use Rattle.swh_swhid.specs.Number.{HasRange}
 use Rattle.swh_swhid.proofs.Ranges.{range_breaks, first_read, second_read, second_breaks, value_small}

@@ -1,7 +1,4 @@
-use Rattle.std.proofs.Common.{◌≡◌, ◌≤◌, length, ap, sym, subst, arith}
-use Rattle.swh_swhid.specs.Qualifier.{key_word, IsNext}
-use Rattle.swh_swhid.specs.Front.{BreaksAt}
-use Rattle.swh_swhid.proofs.KeyWords.{key_adds, value_breaks, key_long}
+use Rattle.swh_swhid.proofs.KeyWords.{key_adds, value_breaks}
 use Rattle.swh_swhid.proofs.qualifier.add_qualifier.Goals as goal
 
 pub returns-in-Ok-add_value-clause-ok : goal.returns-in-Ok-add_value-clause-ok

@@ -1,4 +1,3 @@
-use Rattle.std.proofs.Common.{◌≡◌}
 use Rattle.swh_swhid.proofs.KeyWords.{key_breaks}
 use Rattle.swh_swhid.proofs.qualifier.key_of.Goals as goal
 

@@ -1,4 +1,4 @@
-use Rattle.std.proofs.Common.{◌≡◌, ◌∙◌, sym, ℕ, List, length}
+use Rattle.std.proofs.Common.{◌∙◌, sym, ℕ, List, length}
 use Rattle.std.specs.Prelude.{Result, Ok, Err, IfErr}
 use Rattle.std.proofs.lemmas.Bool.{eqb-true}
 use Rattle.swh_swhid.specs.Front.{BreaksAt}

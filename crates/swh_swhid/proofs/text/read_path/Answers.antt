@@ -1,4 +1,4 @@
-use Rattle.std.proofs.Common.{◌≡◌, ◌≢◌, ◌<◌, ◌∙◌, sym, ℕ, length, get_or, arith}
+use Rattle.std.proofs.Common.{◌≢◌, ◌∙◌, sym, length, arith}
 use Rattle.std.proofs.lemmas.Bool.{eqb-true, eqb-false}
 use Rattle.swh_swhid.proofs.Texts.{slash_breaks, path_breaks, path_read, empty_path}
 use Rattle.swh_swhid.proofs.text.read_path.Goals as goal

@@ -1,8 +1,8 @@
-use Rattle.std.proofs.Common.{◌≡◌, [], refl, arith, length}
+use Rattle.std.proofs.Common.{◌≡◌, [], refl, arith}
 use Rattle.swh_swhid.specs.Text.{IsTextBehind}
 use Rattle.swh_swhid.specs.declared.text.Due.{Due}
 use Rattle.swh_swhid.specs.declared.text.Due.TheVariants.{Nothing, Second, Both}
-use Rattle.swh_swhid.proofs.Texts.{Leaves, text_breaks, text_ends, text_read}
+use Rattle.swh_swhid.proofs.Texts.{text_breaks, text_ends, text_read}
 use Rattle.swh_swhid.proofs.text.read_text.Goals as goal
 
 due_some : (due : Due) → (due ≡ Nothing → ⊥) → IsTextBehind due [] → ⊥
