@@ -4,3 +4,4 @@ pub mod Number
 pub mod Text
 pub mod Qualifier
 pub mod Reading
+pub mod Printed
