@@ -18,3 +18,6 @@ pub use identifier::{core_text, parse_core};
 pub use parsing::parse;
 pub use printing::print;
 pub use swhid::Swhid;
+
+#[cfg(test)]
+mod tests;
