@@ -106,3 +106,7 @@ core-injective n m hn hm e =
 pub only_name : (text : List ℕ) (r : Result Name ℕ) → IfOk r (IsCore Text text) → IfErr r (BreaksAt (HasCore Text) text) → (name : Name) → IsName name → text ≡ core_text name → result_ok r ≡ Some name
 only_name text (Ok found) ok err name h e = ap Some (core-injective found name ok.named h (sym ok.spelled ∙ e))
 only_name text (Err n) ok err name h e = absurd (err.refused (record { name = name; core = record { accepted = refl; named = h; spelled = e } }))
+
+-- the core identifier of a snapshot whose id is all zeros stands anywhere
+pub any_core : (place : Place) → HasCore place (lead ++ (kind_word Snapshot ++ replicate 40 48))
+any_core place = core_in place (kind_word Snapshot ++ replicate 40 48) (record { key = Snapshot; may_stand = accepts-Snapshot place; rest = replicate 40 48; spelled = refl; follows = zeros-id })

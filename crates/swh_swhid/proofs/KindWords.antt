@@ -53,7 +53,7 @@ best_of place kind text =
       | false ↦ λ e. record { kind = Snapshot; may = accepts-Snapshot place; far = omega arith }
     ] refl
 
-max_of : (P : ℕ → Type 0) (a b : ℕ) → P a → P b → P (max a b)
+pub max_of : (P : ℕ → Type 0) (a b : ℕ) → P a → P b → P (max a b)
 max_of P a b pa pb = elim (cases_lt a b) [
   | inl less ↦ let e : max a b ≡ b = omega arith in subst P (sym e) pb
   | inr more ↦ let e : max a b ≡ a = omega arith in subst P (sym e) pa

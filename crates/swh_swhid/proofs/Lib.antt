@@ -3,3 +3,9 @@ pub mod Ids
 pub mod KindWords
 pub mod Cores
 pub mod Parts
+pub mod Numerals
+pub mod Ranges
+pub mod Texts
+pub mod KeyWords
+pub mod Wholes
+pub mod Places

@@ -1,6 +1,6 @@
 //! How far texts agree.
 
-ghost use Rattle.std.specs.Prelude.{◌≡◌, ◌≤◌, length, drop};
+ghost use Rattle.std.specs.Prelude.{◌≡◌, ◌≤◌, length, take, drop};
 ghost use Rattle.swh_swhid.specs.Front.{common};
 
 /// How many bytes at the front of the two are the same.
@@ -24,4 +24,12 @@ pub fn behind(text: &[u8], count: usize) -> &[u8]
     ensures { result.now ≡ drop count text.now }
 {
     &text[count..]
+}
+
+/// The first bytes.
+pub fn front(text: &[u8], count: usize) -> &[u8]
+    requires { count ≤ length text.now }
+    ensures { result.now ≡ take count text.now }
+{
+    &text[..count]
 }

@@ -3,7 +3,21 @@
 //! Above it may rely on: what is read is exactly the grammar, a refusal names the longest front that goes on.
 #![tactic(auto)]
 
+mod fault;
 mod front;
 mod identifier;
+mod number;
+mod parsing;
+mod printing;
+mod qualifier;
+mod swhid;
+mod text;
 
+pub use fault::SwhidFault;
 pub use identifier::{core_text, parse_core};
+pub use parsing::parse;
+pub use printing::print;
+pub use swhid::Swhid;
+
+#[cfg(test)]
+mod tests;

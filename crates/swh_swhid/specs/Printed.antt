@@ -1,0 +1,27 @@
+-- The one printed text of a value: the qualifiers in the order of the keys, origin and path escaped.
+use Rattle.std.specs.Prelude.{ℕ, Option, Some, None, option_map, List, [], ◌∷◌, ◌++◌}
+use Rattle.percent_encoding.specs.Percent.{percent_encode}
+use Rattle.swh_swhid.specs.declared.printing.TheConstants.{ESCAPED}
+use Rattle.swh_swhid.specs.declared.swhid.Swhid.{Swhid}
+use Rattle.swh_swhid.specs.declared.swhid.Key.{Key}
+use Rattle.swh_swhid.specs.declared.swhid.Key.TheVariants.{Origin, Visit, Anchor, Path, Lines, Bytes}
+use Rattle.swh_swhid.specs.Core.{core_text}
+use Rattle.swh_swhid.specs.Number.{range_text}
+use Rattle.swh_swhid.specs.Qualifier.{key_word}
+
+-- the bytes with `%` and two upper-case digits for each up to a space, each `%`, `;` and DEL, and each from 128 on
+abbrev pub escaped : List ℕ → List ℕ
+escaped bytes = percent_encode ESCAPED bytes
+
+-- a qualifier behind its `;`, if there is one
+abbrev pub said : Key → Option (List ℕ) → List ℕ
+said key None = []
+said key (Some value) = 59 ∷ (key_word key ++ value)
+
+abbrev pub said_range : Key → Option (ℕ × Option ℕ) → List ℕ
+said_range key None = []
+said_range key (Some range) = 59 ∷ (key_word key ++ range_text range.0 range.1)
+
+abbrev pub printed : Swhid → List ℕ
+printed s =
+    ((((((core_text s.core ++ said Origin (option_map escaped s.origin)) ++ said Visit (option_map core_text s.visit)) ++ said Anchor (option_map core_text s.anchor)) ++ said Path (option_map escaped s.path)) ++ said_range Lines s.lines) ++ said_range Bytes s.bytes)

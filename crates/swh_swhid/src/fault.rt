@@ -1,0 +1,21 @@
+//! Why a text is no SWHID.
+
+ghost use Rattle.std.specs.Prelude.{◌≡◌};
+ghost use Rattle.swh_swhid.specs.declared.fault.SwhidFault.TheVariants.{Memory as OutOfMemory};
+
+use swh_base::Memory;
+
+#[derive(Clone, Copy, Debug, PartialEq, Eq)]
+pub enum SwhidFault {
+    Memory,
+    /// The text is no SWHID, and this is the length of the longest front of it that one begins with.
+    BadText { at: u64 },
+}
+
+impl From<Memory> for SwhidFault {
+    ghost from_gives = { λ _ e. e ≡ OutOfMemory };
+
+    fn from(_e: Memory) -> SwhidFault {
+        SwhidFault::Memory
+    }
+}
