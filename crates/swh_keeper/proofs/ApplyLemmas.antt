@@ -1,35 +1,32 @@
 -- A planned event may be added.
-use Rattle.std.proofs.Common.{◌≡◌, ℕ, zero, suc, ◌-◌, ◌<◌, ◌≤◌, Option, Some, None, Ok, Err, List, [], ◌∷◌, ◌++◌, length, refl, sym, ap, ◌∙◌, subst, arith, inl, inr}
-use Rattle.std.specs.List.{AllByRecursion, slice_get}
+use Rattle.std.proofs.Common.{◌≡◌, ℕ, zero, suc, ◌-◌, ◌<◌, ◌≤◌, Some, None, Ok, List, [], ◌∷◌, ◌++◌, length, refl, sym, subst, arith}
+use Rattle.std.specs.List.{slice_get}
 use Rattle.swh_outside.specs.Disk.{File}
 use Rattle.swh_outside.specs.Files.{EachImages, files_of}
 use Rattle.std.specs.FinMap as finite
 use Rattle.swh_segment.specs.Record.{IsSettled}
 use Rattle.swh_segment.specs.Making.{IsEmptyArchive}
 use Rattle.swh_base.specs.declared.kind.Kind.{Kind}
-use Rattle.swh_base.specs.declared.entry.Entry.{Entry}
 use Rattle.swh_model.specs.declared.event.Visit.{Visit}
 use Rattle.swh_model.specs.declared.event.Event.{Event}
 use Rattle.swh_model.specs.declared.event.EventKind.{EventKind}
 use Rattle.swh_model.specs.declared.event.EventKind.TheVariants.{Batch, Open, Mark}
 use Rattle.swh_model.specs.declared.event.Outcome.{Outcome}
-use Rattle.swh_model.specs.declared.event.No.{No}
 use Rattle.swh_model.specs.declared.event.No.TheVariants.{Limit, NoVisit, NotYours, Ended, NoSnapshot, NotClosed, Collision}
-use Rattle.swh_model.specs.Archive.{Archive, Bodies, Origins, visits_of, empty_archive}
-use Rattle.swh_model.specs.Step.{May, May_kind, MayAll, IsGood, IsGoodAndNamed, AreNew, replay, visit_at}
-use Rattle.swh_model.specs.Judge.{IsVerdict, IsWish, IsHow, event_of}
+use Rattle.swh_model.specs.Archive.{Bodies, Origins, visits_of, empty_archive}
+use Rattle.swh_model.specs.Step.{May, May_kind, MayAll, IsGood, IsGoodAndNamed, AreNew, replay}
+use Rattle.swh_model.specs.Judge.{IsVerdict, IsWish}
 use Rattle.swh_model.proofs.Verdicts.{wish_may}
 use Rattle.swh_model.proofs.Visits.{all-map}
 use Rattle.swh_keeper.specs.declared.replayed.Replayed.{Replayed}
 use Rattle.swh_keeper.specs.declared.planning.Planned.{Planned}
 use Rattle.swh_keeper.specs.declared.planning.PlanFault.{PlanFault}
 use Rattle.swh_keeper.specs.declared.planning.PlanFault.TheVariants.{Refused, Memory}
-use Rattle.swh_keeper.specs.declared.fault.Refusal.{Refusal}
 use Rattle.swh_keeper.specs.Advance.{MayAdvance}
 use Rattle.swh_keeper.specs.Planned.{IsReplayOf, IsInFiles, IsPlan, IsPlanned, IsRefused}
 use Rattle.swh_keeper.specs.Keeping.{AreSettledFor, IsToAdd, HasRoom, WithOrWithout, IsKeeping}
-use Rattle.swh_keeper.specs.Kept.{Kept, Refuses, AreInDoubt}
-use Rattle.swh_keeper.specs.Refusal.{refusal_of, refusal_for}
+use Rattle.swh_keeper.specs.Kept.{Kept, Refuses}
+use Rattle.swh_keeper.specs.Refusal.{refusal_for}
 use Rattle.swh_keeper.proofs.KeptLemmas.{history-push}
 
 pub plan_of_wish : (id_of : Kind → List ℕ → List ℕ) (wish : EventKind) → IsWish id_of wish → IsPlan wish

@@ -1,22 +1,21 @@
 -- What is new of a batch, as far as a loop has come, and which names would have two bodies.
-use Rattle.std.proofs.Common.{◌≡◌, ◌≢◌, ◌⊎◌, inl, inr, ℕ, zero, suc, ◌+◌, ◌<◌, ◌≤◌, Bool, true, false, cond, Option, Some, None, List, [], ◌∷◌, ◌++◌, length, take, get_or, refl, sym, ap, ◌∙◌, subst, arith}
+use Rattle.std.proofs.Common.{◌≡◌, ◌⊎◌, inl, inr, ℕ, zero, suc, ◌+◌, ◌<◌, Bool, true, false, cond, Option, Some, None, List, [], ◌∷◌, ◌++◌, length, take, get_or, refl, sym, ap, ◌∙◌, subst, arith}
 use Rattle.std.specs.Prelude.{Contains, is_some}
 use Rattle.std.specs.List.{AllByRecursion}
 use Rattle.std.specs.FinMap as finite
 use Rattle.std.specs.Ordering.{eq_by_cmp}
-use Rattle.std.proofs.lemmas.List.{take_more, take_all}
-use Rattle.std.proofs.lemmas.List.Elements.{Contains-append_left, Contains-append_right, Contains-append_cases, Contains-push_cases}
+use Rattle.std.proofs.lemmas.List.{take_more}
+use Rattle.std.proofs.lemmas.List.Elements.{Contains-append_left, Contains-append_right, Contains-append_cases}
 use Rattle.swh_base.specs.declared.name.Name.{Name}
 use Rattle.swh_base.specs.declared.entry.Entry.{Entry}
 use Rattle.swh_base.specs.Name.{name_cmp, name_cmp_total}
 use Rattle.swh_model.specs.Archive.{Bodies, body_of}
 use Rattle.swh_model.specs.Step.{added, AreNew}
-use Rattle.swh_model.specs.Grows.{IsWithin}
 use Rattle.swh_model.specs.Judge.{fresh, HasBody, Collides}
 use Rattle.swh_model.proofs.Maps.{within-added, body-put, body_cases}
 use Rattle.swh_model.proofs.Entries.{added-append}
 use Rattle.swh_model.proofs.Verdicts.{fresh-new}
-use Rattle.swh_keeper.specs.Batches.{or_else, either, IsSplit}
+use Rattle.swh_keeper.specs.Batches.{or_else, either}
 
 or_else-cond : (b : Bool) (v : List ℕ) (x y : Option (List ℕ)) → or_else (cond b (Some v) x) y ≡ cond b (Some v) (or_else x y)
 or_else-cond true v x y = refl

@@ -1,23 +1,23 @@
 -- The two files as records and runs, and as what stands for a history.
-use Rattle.std.proofs.Common.{◌≡◌, ◌⊎◌, inl, inr, ℕ, ◌+◌, ◌<◌, ◌≤◌, Option, Some, None, List, [], ◌∷◌, ◌++◌, length, refl, sym, ap, ◌∙◌, subst, arith, append_assoc, length-append}
+use Rattle.std.proofs.Common.{◌≡◌, inl, inr, ℕ, ◌+◌, ◌≤◌, Option, List, [], ◌∷◌, ◌++◌, length, refl, sym, ap, ◌∙◌, subst, arith, append_assoc, length-append}
 use Rattle.swh_outside.specs.Disk.{File}
 use Rattle.swh_outside.specs.Files.{Files, files_of, Images, EachImages}
-use Rattle.swh_segment.specs.Record.{Record, body, IsReady, coded, front, Stands, IsSettled}
+use Rattle.swh_segment.specs.Record.{body, IsReady, coded, front}
 use Rattle.swh_segment.specs.Events as segment
 use Rattle.swh_base.specs.declared.kind.Kind.{Kind}
 use Rattle.swh_model.specs.declared.event.Event.{Event}
 use Rattle.swh_model.specs.declared.event.EventKind.{EventKind}
 use Rattle.swh_model.specs.declared.event.EventKind.TheVariants.{Batch, Open, Mark}
-use Rattle.swh_model.specs.Coding.{magic, run_of, event_byte, payload_of, framed, coded_record, coded_records, coded_runs, AreCodable, IsCodable}
+use Rattle.swh_model.specs.Coding.{magic, run_of, event_byte, payload_of, framed, coded_records, coded_runs, AreCodable, IsCodable}
 use Rattle.swh_model.specs.Limits.{store_length, stored_length, records_length, payload_length, ledger_length}
 use Rattle.swh_model.specs.Archive.{Archive, empty_archive}
 use Rattle.swh_model.specs.Step.{May, MayAll, after, after_all, replay}
 use Rattle.swh_keeper.specs.Planned.{IsReplayOf}
 use Rattle.swh_keeper.specs.Advance.{archive_of, Advances}
-use Rattle.swh_model.specs.Stands.{StandsFrom, StandsFor}
+use Rattle.swh_model.specs.Stands.{StandsFor}
 use Rattle.swh_keeper.specs.declared.replayed.Replayed.{Replayed}
 use Rattle.swh_keeper.specs.Keeping.{run_written, written, all_written, AreSettledFor, IsKeeping, IsToAdd, WithOrWithout}
-use Rattle.swh_keeper.specs.Kept.{AreStanding, AreInDoubt, Kept, IsKept}
+use Rattle.swh_keeper.specs.Kept.{AreStanding, IsKept}
 
 body-framed : (k : ℕ) (p : List ℕ) → body (record { kind = k; payload = p }) ≡ framed k p
 unfolding body framed

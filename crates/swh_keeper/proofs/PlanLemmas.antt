@@ -1,26 +1,24 @@
 -- Plans that may be carried out.
-use Rattle.std.proofs.Common.{◌≡◌, ℕ, ◌+◌, ◌<◌, ◌≤◌, ◌^◌, Option, Some, None, Ok, Err, List, [], ◌∷◌, ◌++◌, length, refl, sym, ap, ◌∙◌, subst, arith}
-use Rattle.std.specs.List.{AllByRecursion}
+use Rattle.std.proofs.Common.{◌≡◌, ℕ, ◌+◌, ◌≤◌, Option, Ok, Err, List, length, refl, ap, ◌∙◌, subst, arith}
 use Rattle.swh_base.specs.declared.name.Name.{Name}
 use Rattle.swh_base.specs.declared.entry.Entry.{Entry}
 use Rattle.swh_base.specs.declared.visit.Status.{Status}
 use Rattle.swh_base.specs.declared.visit.Which.TheVariants.{Objects}
 use Rattle.swh_model.specs.declared.event.Event.{Event}
 use Rattle.swh_model.specs.declared.event.EventKind.{EventKind}
-use Rattle.swh_model.specs.declared.event.EventKind.TheVariants.{Batch, Open, Mark}
-use Rattle.swh_model.specs.declared.event.Outcome.{Outcome}
+use Rattle.swh_model.specs.declared.event.EventKind.TheVariants.{Batch, Mark}
 use Rattle.swh_model.specs.declared.event.Outcome.TheVariants.{Added, Marked}
 use Rattle.swh_model.specs.declared.event.No.{No}
-use Rattle.swh_model.specs.declared.event.No.TheVariants.{Limit, Collision}
-use Rattle.swh_model.specs.Archive.{Archive, Bodies, Origins, visits_of}
+use Rattle.swh_model.specs.declared.event.No.TheVariants.{Collision}
+use Rattle.swh_model.specs.Archive.{Bodies, Origins, visits_of}
 use Rattle.swh_model.specs.Limits.{objects_limit}
 use Rattle.swh_model.specs.Step.{replay}
-use Rattle.swh_model.specs.Judge.{fresh, event_of, outcome_of, BatchPasses, FilePasses, Collides, IsVerdict}
+use Rattle.swh_model.specs.Judge.{fresh, event_of, BatchPasses, FilePasses, Collides, IsVerdict}
 use Rattle.swh_model.proofs.Verdicts.{length-fresh, le_unless}
 use Rattle.swh_keeper.specs.declared.replayed.Replayed.{Replayed}
-use Rattle.swh_keeper.specs.Judged.{NonePasses, IsFirstOf, MayBeMarked, IsVisitRefusal, IsSnapshotRefusal, SuitsStatus}
+use Rattle.swh_keeper.specs.Judged.{NonePasses, MayBeMarked, IsVisitRefusal, IsSnapshotRefusal, SuitsStatus}
 use Rattle.swh_keeper.specs.Planned.{IsReplayOf}
-use Rattle.swh_keeper.proofs.VerdictLemmas.{batch_file_limited, batch_collides, batch_passes, mark_passes, mark_visit_refused, mark_snapshot_refused}
+use Rattle.swh_keeper.proofs.VerdictLemmas.{batch_collides, batch_passes, mark_passes, mark_visit_refused, mark_snapshot_refused}
 
 -- a batch within its limits has few entries, and what is new of it no more
 pub few_fresh : (bodies : Bodies) (es fs : List Entry) → fs ≡ fresh bodies es → NonePasses (BatchPasses es) → length fs ≤ 4096

@@ -1,6 +1,6 @@
 -- What follows from one outcome of a call.
 use Rattle.std.proofs.Common.{Result, Ok, Err, Option, Some, None}
-use Rattle.std.specs.Prelude.{OnOk, OnErr, IfOk, IfSome, IfNone}
+use Rattle.std.specs.Prelude.{OnOk, OnErr, IfOk, IfNone}
 
 pub on_ok : {T E : Type 0} (r : Result T E) {P Q : Type 0} → OnOk r P → (P → Q) → OnOk r Q
 on_ok (Ok x) h f = f h

@@ -1,11 +1,10 @@
 -- Verdicts from their parts.
-use Rattle.std.proofs.Common.{◌≡◌, ◌≢◌, ◌⊎◌, inl, inr, ℕ, zero, suc, ◌+◌, ◌-◌, ◌<◌, ◌≤◌, Option, Some, None, Ok, Err, List, [], ◌∷◌, length, refl, sym, ap, ◌∙◌, subst, arith}
+use Rattle.std.proofs.Common.{◌≡◌, ◌⊎◌, inl, inr, ℕ, zero, suc, ◌+◌, ◌-◌, ◌<◌, ◌≤◌, Option, Some, None, Err, List, [], ◌∷◌, length, sym, ap, ◌∙◌, subst, arith}
 use Rattle.std.specs.List.{slice_get}
 use Rattle.swh_base.specs.declared.name.Name.{Name}
 use Rattle.swh_base.specs.declared.entry.Entry.{Entry}
 use Rattle.swh_base.specs.declared.visit.VisitKind.{VisitKind}
 use Rattle.swh_base.specs.declared.visit.Status.{Status}
-use Rattle.swh_base.specs.declared.visit.Status.TheVariants.{Full}
 use Rattle.swh_base.specs.declared.visit.Which.{Which}
 use Rattle.swh_base.specs.declared.visit.Which.TheVariants.{Body, Objects, Bytes, Store, Ledger, Stream, Line, Path, Ref, Refs}
 use Rattle.swh_model.specs.declared.event.Visit.{Visit}
@@ -14,9 +13,9 @@ use Rattle.swh_model.specs.declared.event.EventKind.{EventKind}
 use Rattle.swh_model.specs.declared.event.EventKind.TheVariants.{Batch, Open, Mark}
 use Rattle.swh_model.specs.declared.event.No.{No}
 use Rattle.swh_model.specs.declared.event.No.TheVariants.{Limit, NoVisit, NotYours, Ended, NoSnapshot, NotClosed, Collision}
-use Rattle.swh_model.specs.Archive.{Archive, Bodies, Origins, body_of, visits_of, IsHeld, IsKid, Reaches}
-use Rattle.swh_model.specs.Step.{IsFinal, last_status, snapshot_name, visit_at, replay}
-use Rattle.swh_model.specs.Judge.{event_of, BatchPasses, FilePasses, BatchCause, OpenCause, MarkCause, Collides, IsThere, IsCause, which_rank, rank, IsVerdict}
+use Rattle.swh_model.specs.Archive.{body_of, visits_of, IsHeld}
+use Rattle.swh_model.specs.Step.{IsFinal, last_status, snapshot_name, replay}
+use Rattle.swh_model.specs.Judge.{event_of, BatchPasses, FilePasses, BatchCause, OpenCause, MarkCause, Collides, which_rank, rank, IsVerdict}
 use Rattle.swh_model.proofs.Worked.{none_below}
 use Rattle.swh_model.proofs.Walks.{reaches-next}
 use Rattle.swh_keeper.specs.Judged.{IsFirstOf, NonePasses, IsAt, IsVisitRefusal, MayBeMarked, IsSnapshotRefusal, SuitsStatus}

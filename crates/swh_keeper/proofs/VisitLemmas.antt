@@ -1,5 +1,5 @@
 -- The map of visits by origins as the finite map of the archive.
-use Rattle.std.proofs.Common.{◌≡◌, ℕ, zero, suc, ◌+◌, ◌-◌, ◌<◌, ◌≤◌, Bool, true, false, cond, Option, Some, None, List, [], ◌∷◌, ◌++◌, map, length, get_or, set, unwrap_or, refl, sym, ap, ◌∙◌, subst, arith}
+use Rattle.std.proofs.Common.{◌≡◌, ℕ, zero, suc, ◌<◌, Bool, true, false, cond, Option, Some, None, List, [], ◌∷◌, ◌++◌, map, length, get_or, set, unwrap_or, refl, sym, ap, ◌∙◌, subst, arith}
 use Rattle.std.specs.Prelude.{IsSome}
 use Rattle.std.specs.Option.{option_map}
 use Rattle.std.specs.Global.{Vec}
@@ -9,11 +9,11 @@ use Rattle.std.specs.declared.cmp.Ordering.{Ordering}
 use Rattle.std.specs.declared.cmp.Ordering.TheVariants.{Less, Equal, Greater}
 use Rattle.std.specs.Ordering.{eq_by_cmp, is_eq, nat_cmp, match_ordering}
 use Rattle.std.specs.Cmp.Lexicographic.{slice_cmp, nat_list_cmp_total}
-use Rattle.std.specs.FinMap.{find, from_entries, insert, get-from_entries, get-insert, same_map, IsAntisymmetric}
+use Rattle.std.specs.FinMap.{find, insert, get-from_entries, get-insert, same_map, IsAntisymmetric}
 use Rattle.std.specs.FinMap as finite
 use Rattle.swh_base.specs.declared.visit.Status.{Status}
 use Rattle.swh_model.specs.declared.event.Visit.{Visit}
-use Rattle.swh_model.specs.Archive.{Origins, visits_of}
+use Rattle.swh_model.specs.Archive.{visits_of}
 use Rattle.swh_model.specs.Step.{with_status, marked_at}
 use Rattle.swh_keeper.specs.Maps.{with_visits, origins_of}
 

@@ -1,11 +1,11 @@
 -- A walk over what is held.
-use Rattle.std.proofs.Common.{◌≡◌, ◌⊎◌, inl, inr, ℕ, zero, suc, ◌+◌, ◌<◌, ◌≤◌, Bool, true, false, cond, Option, Some, None, List, [], ◌∷◌, ◌++◌, length, take, get_or, refl, sym, ap, ◌∙◌, subst, arith, append_assoc}
-use Rattle.std.specs.Prelude.{Contains, slice_get, nat_eq}
+use Rattle.std.proofs.Common.{◌≡◌, inl, inr, ℕ, zero, suc, ◌+◌, ◌<◌, ◌≤◌, Bool, true, false, cond, Some, None, List, [], ◌∷◌, ◌++◌, length, take, get_or, refl, sym, ap, ◌∙◌, subst, arith, append_assoc}
+use Rattle.std.specs.Prelude.{Contains, slice_get}
 use Rattle.std.specs.List.{AllByRecursion}
 use Rattle.std.specs.HashSet.{HashSet, contains, Updates}
 use Rattle.std.specs.Ordering.{is_eq}
 use Rattle.std.specs.Cmp.{tied_itself}
-use Rattle.std.specs.Cmp.Lexicographic.{pointwise, texts_ties, nat_list_cmp_total}
+use Rattle.std.specs.Cmp.Lexicographic.{texts_ties, nat_list_cmp_total}
 use Rattle.std.proofs.lemmas.List.{take_more, take_all, append-nil, take-append-le}
 use Rattle.std.proofs.lemmas.List.Elements.{Contains-append_left, Contains-append_cases, Contains-push, Contains-push_cases}
 use Rattle.swh_base.specs.declared.name.Name.{Name}
@@ -14,13 +14,12 @@ use Rattle.swh_base.specs.Name.{name_key}
 use Rattle.swh_base.specs.Manifest.{AreKids}
 use Rattle.swh_base.proofs.Kids.{one_list}
 use Rattle.std.proofs.Common.{length-append}
-use Rattle.swh_model.specs.Archive.{Bodies, body_of, IsHeld, IsKid, IsWalk, Reaches, IsClosed}
-use Rattle.swh_model.specs.Certificate.{IsCovered, Certifies, AreClosed}
+use Rattle.swh_model.specs.Archive.{Bodies, IsHeld, IsKid, Reaches, IsClosed}
 use Rattle.swh_model.proofs.Entries.{all-append}
 use Rattle.swh_model.proofs.Walks.{reaches-next}
 use Rattle.swh_model.proofs.Certificates.{certified-closed}
 use Rattle.swh_keeper.specs.Maps.{IsEntryOf}
-use Rattle.swh_keeper.specs.Walk.{IsSeen, MayGain, IsHeldKid, GainsKids, GainsHeld, IsGap}
+use Rattle.swh_keeper.specs.Walk.{IsSeen, MayGain, IsHeldKid, GainsKids, GainsHeld}
 use Rattle.swh_keeper.proofs.MapLemmas.{keys_eq, same_key}
 
 keys_itself : (k : List ℕ) → keys_eq k k ≡ true

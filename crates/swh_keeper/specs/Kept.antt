@@ -1,8 +1,8 @@
 -- What a keeper is, and what holds of its disks.
-use Rattle.std.specs.Prelude.{◌≡◌, ◌⊎◌, ℕ, ◌+◌, Option, Some, None, Result, Ok, Err, true, false, List, [], ◌∷◌, ◌++◌, length, refl}
+use Rattle.std.specs.Prelude.{◌≡◌, ◌⊎◌, ℕ, ◌+◌, Option, Some, None, Ok, Err, false, List, [], ◌∷◌, ◌++◌, length, refl}
 use Rattle.std.specs.Coded.{Coded, code_by, coded×, coded_ℕ, coded_option, coded_list}
 use Rattle.swh_outside.specs.Disk.{File, IsAtRest}
-use Rattle.swh_outside.specs.Files.{Images, EachImages, files_of}
+use Rattle.swh_outside.specs.Files.{EachImages, files_of}
 use Rattle.swh_base.specs.declared.kind.Kind.{Kind}
 use Rattle.swh_model.specs.contracts.event.Event as an_event
 use Rattle.swh_model.specs.declared.event.Event.{Event}

@@ -3,6 +3,7 @@ pub mod Walk
 pub mod Batches
 pub mod Judged
 pub mod Planned
+pub mod Checked
 pub mod Advance
 pub mod Refusal
 pub mod Kept

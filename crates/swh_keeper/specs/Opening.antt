@@ -5,7 +5,7 @@ use Rattle.swh_segment.specs.Making.{making_calls}
 use Rattle.swh_segment.specs.declared.fault.MakeFault.{MakeFault}
 use Rattle.swh_segment.specs.declared.fault.MakeFault.TheVariants as make
 use Rattle.swh_keeper.specs.declared.opening.OpenWhy.{OpenWhy}
-use Rattle.swh_keeper.specs.declared.opening.OpenWhy.TheVariants.{Made, NotMade, Damaged, DiskFault, Memory}
+use Rattle.swh_keeper.specs.declared.opening.OpenWhy.TheVariants.{Made, DiskFault}
 
 abbrev pub make_why : MakeFault → OpenWhy
 make_why make.Made = Made

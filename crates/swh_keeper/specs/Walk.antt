@@ -1,5 +1,5 @@
 -- What a walk over what is held has met.
-use Rattle.std.specs.Prelude.{◌≡◌, ◌⊎◌, ◌↔◌, ℕ, ◌<◌, true, Option, Some, None, List, [], ◌∷◌, ◌++◌, length, Contains, slice_get, nat_eq}
+use Rattle.std.specs.Prelude.{◌≡◌, ◌⊎◌, ◌↔◌, ℕ, true, None, List, [], ◌∷◌, ◌++◌, Contains, nat_eq}
 use Rattle.std.specs.List.{AllByRecursion}
 use Rattle.std.specs.HashSet.{HashSet, contains}
 use Rattle.std.specs.Cmp.Lexicographic.{pointwise}

@@ -1,25 +1,29 @@
 //! Keeps an archive: two disks, and the replay of their history in memory.
-//! Stands on `swh_base`, `swh_outside`, `swh_segment` and `swh_model`.
+//! Stands on `swh_base`, `swh_object`, `swh_outside`, `swh_segment` and `swh_model`.
 //! Above it may rely on: a plan is judged as the model says, and the disks stand for the history unless a disk failed.
 #![tactic(auto)]
 
 mod adding;
 mod advance;
 mod bodies;
+mod checking;
 mod closure;
 mod fault;
 mod fresh;
 mod judging;
 mod keeper;
+mod lengths;
 mod listing;
 mod opening;
 mod planning;
 mod plans;
+mod remaking;
 mod replayed;
 mod visits;
 mod writing;
 
 pub use bodies::HeldBodies;
+pub use checking::{Checked, check_replay};
 pub use closure::find_gap;
 pub use fault::Refusal;
 pub use fresh::{Split, find_collision, split_fresh};

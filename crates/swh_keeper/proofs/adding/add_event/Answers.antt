@@ -1,4 +1,4 @@
-use Rattle.std.proofs.Common.{◌≡◌, ◌+◌, length, ap, ◌∙◌, arith}
+use Rattle.std.proofs.Common.{◌+◌, length, ap, ◌∙◌, arith}
 use Rattle.swh_keeper.proofs.KeptLemmas.{replay_of-push}
 use Rattle.swh_keeper.proofs.EncodeLemmas.{record-length}
 use Rattle.swh_keeper.proofs.adding.add_event.Goals as goal

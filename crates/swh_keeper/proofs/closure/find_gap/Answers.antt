@@ -1,6 +1,4 @@
-use Rattle.std.proofs.Common.{List, sym, subst, ap, ◌∙◌}
-use Rattle.swh_base.specs.declared.name.Name.{Name}
-use Rattle.swh_keeper.proofs.WalkLemmas.{Walked, walk_begins, parent_held, walk-next, walk-ends}
+use Rattle.swh_keeper.proofs.WalkLemmas.{walk_begins, parent_held, walk-next, walk-ends}
 use Rattle.swh_keeper.proofs.closure.find_gap.Goals as goal
 
 pub loop-place-init : goal.loop-place-init

@@ -1,9 +1,8 @@
-use Rattle.std.proofs.Common.{Result, Ok, Err, Option, Some, None, List, ℕ, subst, sym}
-use Rattle.std.specs.Prelude.{IfOk, IfSome, IfNone, Contains}
+use Rattle.std.proofs.Common.{List, subst, sym}
+use Rattle.std.specs.Prelude.{Contains}
 use Rattle.swh_base.specs.declared.name.Name.{Name}
-use Rattle.swh_model.specs.Archive.{IsKid}
 use Rattle.swh_keeper.specs.Walk.{GainsHeld}
-use Rattle.swh_keeper.proofs.WalkLemmas.{gains_kids, kid_of, of_kid}
+use Rattle.swh_keeper.proofs.WalkLemmas.{gains_kids, of_kid}
 use Rattle.swh_keeper.proofs.Results.{if_ok_none}
 use Rattle.swh_keeper.proofs.closure.list_kids.Goals as goal
 

@@ -1,4 +1,4 @@
-use Rattle.std.proofs.Common.{◌≡◌, None, List, ◌++◌, ◌∷◌, [], sym, subst, ap, ◌∙◌, refl}
+use Rattle.std.proofs.Common.{List, sym, ap, ◌∙◌, refl}
 use Rattle.std.specs.FinMap as finite
 use Rattle.swh_base.specs.declared.entry.Entry.{Entry}
 use Rattle.swh_model.specs.Step.{added}

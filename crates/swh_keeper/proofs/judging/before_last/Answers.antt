@@ -1,5 +1,4 @@
 use Rattle.std.proofs.Common.{length, ap}
-use Rattle.swh_base.specs.Limits.{body_limit}
 use Rattle.swh_model.proofs.Bytes.{so-far-next, small-at}
 use Rattle.swh_keeper.proofs.judging.before_last.Goals as goal
 

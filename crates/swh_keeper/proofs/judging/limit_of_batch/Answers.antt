@@ -1,4 +1,4 @@
-use Rattle.std.proofs.Common.{◌≡◌, ℕ, Some, None, sym, ◌∙◌}
+use Rattle.std.proofs.Common.{◌≡◌, Some, None, ◌∙◌}
 use Rattle.swh_model.specs.Judge.{first_long}
 use Rattle.swh_model.proofs.Verdicts.{short_unless}
 use Rattle.swh_keeper.proofs.judging.limit_of_batch.Goals as goal

@@ -1,4 +1,4 @@
-use Rattle.std.proofs.Common.{length, refl, ap, ◌∙◌, arith}
+use Rattle.std.proofs.Common.{length, refl, ap, arith}
 use Rattle.swh_keeper.proofs.EncodeLemmas.{lengths_are}
 use Rattle.swh_keeper.proofs.plans.encode.Goals as goal
 

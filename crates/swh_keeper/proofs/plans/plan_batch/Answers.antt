@@ -1,6 +1,5 @@
-use Rattle.std.proofs.Common.{◌≡◌, List, length, sym, ap, ◌∙◌, subst, arith}
+use Rattle.std.proofs.Common.{◌≡◌, length, sym, ap, ◌∙◌, subst, arith}
 use Rattle.std.specs.List.{AllByRecursion}
-use Rattle.swh_base.specs.declared.entry.Entry.{Entry}
 use Rattle.swh_model.specs.Coding.{coded_run, IsCodableEntry}
 use Rattle.swh_keeper.proofs.PlanLemmas.{few_fresh, batch_verdict, batch_collision}
 use Rattle.swh_keeper.proofs.plans.plan_batch.Goals as goal

@@ -1,4 +1,4 @@
-use Rattle.std.proofs.Common.{◌≡◌, length, sym, ap, ◌∙◌, arith}
+use Rattle.std.proofs.Common.{length, ap, arith}
 use Rattle.swh_keeper.proofs.PlanLemmas.{mark_verdict}
 use Rattle.swh_keeper.proofs.plans.plan_mark.Goals as goal
 

@@ -1,4 +1,3 @@
-use Rattle.std.proofs.Common.{refl, ap}
 use Rattle.swh_keeper.proofs.VisitLemmas.{marked-set}
 use Rattle.swh_keeper.proofs.visits.push_status.Goals as goal
 

@@ -1,6 +1,5 @@
-use Rattle.std.proofs.Common.{Option, Some, None, List, ℕ, refl, subst, ap, ◌∙◌, sym, ◌≡◌}
+use Rattle.std.proofs.Common.{Some, None, refl, subst, ◌∙◌, sym, ◌≡◌}
 use Rattle.std.specs.Prelude.{IfSome, IfNone, option_copied}
-use Rattle.swh_base.specs.declared.entry.Entry.{Entry}
 use Rattle.swh_model.specs.Archive.{Bodies, body_of}
 use Rattle.swh_keeper.specs.Maps.{IsEntryOf}
 use Rattle.swh_keeper.proofs.MapLemmas.{found, missing}

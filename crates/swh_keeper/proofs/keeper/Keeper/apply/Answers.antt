@@ -1,4 +1,4 @@
-use Rattle.std.proofs.Common.{◌≡◌, ◌+◌, ℕ, None, Err, List, length, sym, ap, ◌∙◌, subst}
+use Rattle.std.proofs.Common.{◌≡◌, ◌+◌, Err, List, length, ap, ◌∙◌}
 use Rattle.swh_model.specs.declared.event.Event.{Event}
 use Rattle.swh_keeper.specs.declared.adding.AddFault.{AddFault}
 use Rattle.swh_keeper.specs.declared.adding.AddFault.TheVariants.{Disk}

@@ -1,4 +1,4 @@
-use Rattle.std.proofs.Common.{◌≡◌, [], sym, ap, ◌∙◌}
+use Rattle.std.proofs.Common.{sym, ap, ◌∙◌}
 use Rattle.swh_model.specs.Archive.{Origins, visits_of}
 use Rattle.swh_keeper.proofs.VisitLemmas.{visits-found, visits-missing}
 use Rattle.swh_keeper.proofs.visits.OriginVisits.get.Goals as goal

@@ -1,6 +1,6 @@
-use Rattle.std.proofs.Common.{◌≡◌, ℕ, ◌+◌, ◌-◌, None, List, [], ◌∷◌, ◌++◌, length, sym, ap, ◌∙◌, subst, arith}
+use Rattle.std.proofs.Common.{ℕ, ◌+◌, List, [], ◌∷◌, ◌++◌, length, sym, ap, ◌∙◌}
 use Rattle.swh_model.specs.declared.event.Visit.{Visit}
-use Rattle.swh_model.specs.Archive.{Origins, visits_of}
+use Rattle.swh_model.specs.Archive.{Origins}
 use Rattle.swh_model.specs.Step.{opened, first_of}
 use Rattle.std.specs.FinMap.{insert}
 use Rattle.swh_keeper.proofs.VisitLemmas.{visits-found, visits-missing, view-set, view-same, view-insert, key_cmp}

@@ -1,0 +1,163 @@
+-- A history for which two files stand, and the keeper that opens them.
+use Rattle.std.proofs.Common.{◌≡◌, ℕ, ◌+◌, Some, None, List, [], ◌∷◌, ◌++◌, map, length, refl, sym, ap, ◌∙◌, subst, arith, append_assoc, length-append}
+use Rattle.std.specs.List.{AllByRecursion}
+use Rattle.std.specs.Int.{w32, w64, to_be_bytes}
+use Rattle.swh_outside.specs.Disk.{File, IsAtRest}
+use Rattle.swh_segment.specs.Record.{coded}
+use Rattle.swh_segment.specs.Events as segment
+use Rattle.swh_base.specs.declared.kind.Kind.{Kind}
+use Rattle.swh_base.specs.declared.entry.Entry.{Entry}
+use Rattle.swh_model.specs.declared.event.Event.{Event}
+use Rattle.swh_model.specs.declared.event.EventKind.{EventKind}
+use Rattle.swh_model.specs.declared.event.EventKind.TheVariants.{Batch, Open, Mark}
+use Rattle.swh_model.specs.Coding.{magic, run_of, told, event_byte, coded_entry, coded_run, framed, coded_record, coded_records, coded_runs, IsCodableKind, IsCodableEntry, AreCodable}
+use Rattle.swh_model.specs.Limits.{records_length}
+use Rattle.swh_model.specs.Stands.{StandsFor, bare, bare_kind, bare_event, AreAlike}
+use Rattle.swh_model.specs.Step.{IsHistory}
+use Rattle.swh_keeper.specs.declared.replayed.Replayed.{Replayed}
+use Rattle.swh_keeper.specs.Planned.{IsReplayOf, IsInFiles}
+use Rattle.swh_keeper.specs.Keeping.{all_written, AreSettledFor, IsKeeping}
+use Rattle.swh_keeper.proofs.KeptLemmas.{records-written, runs-written, runs-length}
+use Rattle.swh_keeper.proofs.EncodeLemmas.{record-length}
+
+records-length : (at : ℕ) (h : List Event) → length (coded_records at h) ≡ records_length h
+records-length at [] = refl
+records-length at (e ∷ h) =
+    let one = record-length at e (coded_record at e ++ 0 ∷ []) refl in
+    let more = records-length (at + length (run_of e.what)) h in
+    omega (arith, one, more, length-append (coded_record at e) (0 ∷ []), length-append (coded_record at e) (coded_records (at + length (run_of e.what)) h))
+
+-- files that stand for a history are settled for it once nothing was written since a barrier
+pub settled_from_standing : (ledger store : File) (r : Replayed) (h : List Event) → IsAtRest ledger → IsAtRest store → StandsFor ledger.seen store.seen h → IsReplayOf r h → AreSettledFor ledger store h r.store_end r.ledger_end
+settled_from_standing ledger store r h lr sr s is =
+    let written_records = records-written 0 h in
+    record {
+      settled = record {
+        ledger = record {
+          rests = lr;
+          stands = record {
+            gate = s.stands.gate;
+            closed = s.stands.closed;
+            rest = s.stands.behind;
+            split = s.begins ∙ ap (λ (l : List ℕ). magic ++ l) s.stands.records ∙ sym (append_assoc magic (coded_records 0 h) (s.stands.gate ∷ s.stands.behind))
+                ∙ ap (λ (l : List ℕ). (magic ++ l) ++ s.stands.gate ∷ s.stands.behind) (sym written_records);
+          };
+          end_is = let l = is.ledger in let n = records-length 0 h in
+              omega (arith, l, n, ap length written_records, length-append magic (coded (segment.records (all_written 0 h))));
+        };
+        store = sr;
+        rest = s.stands.beyond;
+        begins = s.stands.runs ∙ ap (λ (l : List ℕ). l ++ s.stands.beyond) (sym (runs-written 0 h));
+        store_end_is = let l = is.store in ap length (runs-written 0 h) ∙ runs-length h ∙ sym l;
+      };
+      codable = s.stands.codable;
+    }
+
+pub keeping_opened : (id_of : Kind → List ℕ → List ℕ) (tells : Type 0) (ledger store : File) (r : Replayed) (h : List Event) → IsHistory id_of h → IsInFiles r → IsReplayOf r h
+    → (tells → IsAtRest ledger) → (tells → IsAtRest store) → (tells → StandsFor ledger.seen store.seen h) → IsKeeping id_of tells ledger store r h None
+keeping_opened id_of tells ledger store r h history fits is lr sr s =
+    record {
+      history = history;
+      in_files = fits;
+      replayed_is = λ _. is;
+      settled = λ _ told. settled_from_standing ledger store r h (lr told) (sr told) (s told) is;
+      doubt = λ n is_some. absurd (let f : None ≡ Some n = is_some in cc);
+    }
+
+-- kids are not coded
+bare-entry : (e : Entry) → coded_entry (bare e) ≡ coded_entry e
+unfolding coded_entry
+bare-entry e = refl
+
+bare-run : (es : List Entry) → coded_run (map bare es) ≡ coded_run es
+bare-run [] = refl
+bare-run (e ∷ es) = let one = bare-entry e in let more = bare-run es in λ i. one i ++ more i
+
+length-map : (es : List Entry) → length (map bare es) ≡ length es
+length-map [] = refl
+length-map (e ∷ es) = let m = length-map es in omega (arith, m)
+
+bare-run_of : (what : EventKind) → run_of (bare_kind what) ≡ run_of what
+bare-run_of (Batch entries) = bare-run entries
+bare-run_of (Open origin kind date) = refl
+bare-run_of (Mark origin visit status snapshot) = refl
+
+bare-told : (at : ℕ) (what : EventKind) → told at (bare_kind what) ≡ told at what
+bare-told at (Batch es) =
+    let run_same = ap length (bare-run es) in let count = length-map es in
+    λ i. to_be_bytes w64 at ++ (to_be_bytes w64 (at + run_same i) ++ to_be_bytes w32 (count i))
+bare-told at (Open origin kind date) = refl
+bare-told at (Mark origin visit status snapshot) = refl
+
+bare-byte : (what : EventKind) → event_byte (bare_kind what) ≡ event_byte what
+bare-byte (Batch es) = refl
+bare-byte (Open origin kind date) = refl
+bare-byte (Mark origin visit status snapshot) = refl
+
+bare-record : (at : ℕ) (e : Event) → coded_record at (bare_event e) ≡ coded_record at e
+bare-record at e = let k = bare-byte e.what in let t = bare-told at e.what in λ i. framed (k i) (to_be_bytes w32 e.by ++ t i)
+
+codable-entries : (es : List Entry) → AllByRecursion IsCodableEntry (map bare es) → AllByRecursion IsCodableEntry es
+codable-entries [] h = tt
+codable-entries (e ∷ es) h = (record { id = h.0.id; body = h.0.body }, codable-entries es h.1)
+
+codable-unbare : (es : List Entry) → AllByRecursion IsCodableEntry es → AllByRecursion IsCodableEntry (map bare es)
+codable-unbare [] h = tt
+codable-unbare (e ∷ es) h = (record { id = h.0.id; body = h.0.body }, codable-unbare es h.1)
+
+kind_from_bare : (at : ℕ) (what : EventKind) → IsCodableKind at (bare_kind what) → IsCodableKind at what
+kind_from_bare at (Batch es) h =
+    let n = h.number in let e = h.end in
+    record { entries_codable = codable-entries es h.entries_codable; number = omega (arith, n, length-map es); end = omega (arith, e, ap length (bare-run es)) }
+kind_from_bare at (Open origin kind date) h = h
+kind_from_bare at (Mark origin visit status snapshot) h = h
+
+kind_to_bare : (at : ℕ) (what : EventKind) → IsCodableKind at what → IsCodableKind at (bare_kind what)
+kind_to_bare at (Batch es) h =
+    let n = h.number in let e = h.end in
+    record { entries_codable = codable-unbare es h.entries_codable; number = omega (arith, n, length-map es); end = omega (arith, e, ap length (bare-run es)) }
+kind_to_bare at (Open origin kind date) h = h
+kind_to_bare at (Mark origin visit status snapshot) h = h
+
+bare-records : (at : ℕ) (h : List Event) → coded_records at (map bare_event h) ≡ coded_records at h
+bare-records at [] = refl
+bare-records at (e ∷ h) =
+    let one = bare-record at e in
+    let place = ap (λ (l : List ℕ). at + length l) (bare-run_of e.what) in
+    let more = ap (λ (n : ℕ). coded_records n (map bare_event h)) place ∙ bare-records (at + length (run_of e.what)) h in
+    λ i. 1 ∷ (one i ++ more i)
+
+bare-runs : (h : List Event) → coded_runs (map bare_event h) ≡ coded_runs h
+bare-runs [] = refl
+bare-runs (e ∷ h) = let one = bare-run_of e.what in let more = bare-runs h in λ i. one i ++ more i
+
+codable-from_bare : (at : ℕ) (h : List Event) → AreCodable at (map bare_event h) → AreCodable at h
+codable-from_bare at [] c = tt
+codable-from_bare at (e ∷ h) c =
+    let place = ap (λ (l : List ℕ). at + length l) (bare-run_of e.what) in
+    ((c.0.0, kind_from_bare at e.what c.0.1), codable-from_bare (at + length (run_of e.what)) h (subst (λ (n : ℕ). AreCodable n (map bare_event h)) place c.1))
+
+codable-to_bare : (at : ℕ) (h : List Event) → AreCodable at h → AreCodable at (map bare_event h)
+codable-to_bare at [] c = tt
+codable-to_bare at (e ∷ h) c =
+    let place = ap (λ (l : List ℕ). at + length l) (bare-run_of e.what) in
+    ((c.0.0, kind_to_bare at e.what c.0.1), subst (λ (n : ℕ). AreCodable n (map bare_event h)) (sym place) (codable-to_bare (at + length (run_of e.what)) h c.1))
+
+-- the files stand for a history where they stand for one that is the same up to the kids
+pub alike_stands : (ledger store : List ℕ) (g h : List Event) → AreAlike g h → StandsFor ledger store h → StandsFor ledger store g
+alike_stands ledger store g h alike s =
+    let records_same = sym (bare-records 0 h) ∙ ap (coded_records 0) (sym alike) ∙ bare-records 0 g in
+    let runs_same = sym (bare-runs h) ∙ ap coded_runs (sym alike) ∙ bare-runs g in
+    record {
+      rest = s.rest;
+      begins = s.begins;
+      stands = record {
+        gate = s.stands.gate;
+        closed = s.stands.closed;
+        behind = s.stands.behind;
+        records = s.stands.records ∙ ap (λ (l : List ℕ). l ++ s.stands.gate ∷ s.stands.behind) records_same;
+        beyond = s.stands.beyond;
+        runs = s.stands.runs ∙ ap (λ (l : List ℕ). l ++ s.stands.beyond) runs_same;
+        codable = codable-from_bare 0 g (subst (AreCodable 0) (sym alike) (codable-to_bare 0 h s.stands.codable));
+      };
+    }

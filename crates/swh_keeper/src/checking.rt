@@ -1,0 +1,208 @@
+//! The check of a history that was read from an archive's files: whether each event may happen after those before it.
+ghost use Rattle.std.specs.Prelude.{◌≡◌, ◌↔◌, ◌<◌, ◌^◌, false, IsTrue, IfOk, IfSome, IfNone, length};
+ghost use Rattle.std.specs.List.{AllByRecursion};
+ghost use Rattle.swh_model.specs.Archive.{visits_of};
+ghost use Rattle.swh_model.specs.Limits.{store_length, ledger_length};
+ghost use Rattle.swh_model.specs.Step.{IsGood, AreNew, FitsStatus, MayMark, added};
+ghost use Rattle.swh_model.specs.Judge.{IsHow};
+ghost use Rattle.swh_keeper.specs.Judged.{MayBeMarked};
+ghost use Rattle.swh_keeper.specs.Checked.{archive_of, AreAdded, MayNotBeAdded, IsMarked, Happens, MayNotHappen, IsChecked, IsNoHistory};
+
+use crate::bodies::HeldBodies;
+use crate::judging::{snapshot_refusal, visit_refusal};
+use crate::lengths::{ledger_end_of, store_end_of};
+use crate::remaking::remake_all;
+use crate::replayed::Replayed;
+use crate::visits::OriginVisits;
+use std::alloc::Global;
+use std::collections::VecDeque;
+use swh_base::{Entry, Many, Memory, Namer, Status, Url};
+use swh_model::{Event, EventKind, Visit, are_within_limits};
+
+/// A history and its replay.
+#[derive(Drop)]
+pub struct Checked {
+    pub replayed: Replayed,
+    pub history: Vec<Event>,
+}
+
+/// Adds entries one after another, up to one whose name is held.
+fn add_new(bodies: &mut HeldBodies, entries: &[Entry]) -> Result<bool, Memory>
+    requires { AllByRecursion IsGood entries.now }
+    ensures yes { IfOk result (λ yes. IsTrue yes → AreNew bodies.old entries.now × (bodies.new ≡ added bodies.old entries.now)) }
+    ensures no { IfOk result (λ yes. yes ≡ false → AreNew bodies.old entries.now → ⊥) }
+{
+    for entry in entries {
+        if bodies.has(&entry.name) {
+            return Ok(false);
+        }
+        bodies.put(entry.again()?)?;
+    }
+    Ok(true)
+}
+
+fn check_batch<N: Namer>(
+    alloc: Global,
+    namer: &N,
+    bodies: &mut HeldBodies,
+    given: &[Entry],
+) -> Result<Option<Vec<Entry>>, Memory>
+    ensures some { IfOk result (λ found. IfSome found (λ es. AreAdded N.id_of bodies.old bodies.new given.now es.items)) }
+    ensures none { IfOk result (λ found. IfNone found (MayNotBeAdded N.id_of bodies.old given.now)) }
+{
+    if !are_within_limits(given) {
+        return Ok(None);
+    }
+    let Some(entries) = remake_all(alloc, namer, given)? else {
+        return Ok(None);
+    };
+    if !add_new(bodies, &entries)? {
+        return Ok(None);
+    }
+    Ok(Some(entries))
+}
+
+fn is_markable(visits: &[Visit], by: u32, number: u64) -> bool
+    ensures { IsTrue result ↔ MayBeMarked visits.now by number }
+{
+    match visit_refusal(visits, by, number) {
+        Some(_) => false,
+        None => true,
+    }
+}
+
+fn is_origin_markable(visits: &OriginVisits, origin: &Url, by: u32, number: u64) -> bool
+    ensures { IsTrue result ↔ MayBeMarked (visits_of visits.now origin.now) by number }
+{
+    match visits.get(origin.as_str().as_bytes()) {
+        Some(visits) => is_markable(visits, by, number),
+        None => is_markable(&[], by, number),
+    }
+}
+
+fn is_how(status: Status, snapshot: &Option<[u8; 20]>) -> bool
+    ensures { IsTrue result ↔ IsHow status snapshot.now }
+{
+    match status {
+        Status::Created => false,
+        Status::Full => snapshot.is_some(),
+        Status::Partial => true,
+        Status::Ongoing | Status::NotFound | Status::Failed => snapshot.is_none(),
+    }
+}
+
+/// Says whether what a status needs is held.
+fn fits_status(
+    alloc: Global,
+    bodies: &HeldBodies,
+    status: Status,
+    snapshot: &Option<[u8; 20]>,
+) -> Result<bool, Memory>
+    ensures { IfOk result (λ yes. IsTrue yes ↔ FitsStatus bodies.now status snapshot.now) }
+{
+    if !is_how(status, snapshot) {
+        return Ok(false);
+    }
+    match snapshot_refusal(alloc, bodies, status, snapshot)? {
+        Some(_) => Ok(false),
+        None => Ok(true),
+    }
+}
+
+fn check_mark(
+    alloc: Global,
+    bodies: &HeldBodies,
+    visits: &mut OriginVisits,
+    by: u32,
+    origin: &Url,
+    visit: u64,
+    status: Status,
+    snapshot: Option<[u8; 20]>,
+) -> Result<bool, Memory>
+    ensures yes { IfOk result (λ yes. IsTrue yes → IsMarked (archive_of bodies.now visits.old) visits.new by origin.now visit status snapshot) }
+    ensures no { IfOk result (λ yes. yes ≡ false → MayMark (archive_of bodies.now visits.old) by origin.now visit status snapshot → ⊥) }
+{
+    if !is_origin_markable(visits, origin, by, visit) {
+        return Ok(false);
+    }
+    if !fits_status(alloc, bodies, status, &snapshot)? {
+        return Ok(false);
+    }
+    visits.mark(origin.as_str().as_bytes(), visit, status, snapshot)?;
+    Ok(true)
+}
+
+/// What happened, with the kids of its entries, where it may happen.
+fn check_kind<N: Namer>(
+    alloc: Global,
+    namer: &N,
+    bodies: &mut HeldBodies,
+    visits: &mut OriginVisits,
+    by: u32,
+    given: EventKind,
+) -> Result<Option<EventKind>, Memory>
+    ensures some { IfOk result (λ found. IfSome found (Happens N.id_of (archive_of bodies.old visits.old) (archive_of bodies.new visits.new) by given)) }
+    ensures none { IfOk result (λ found. IfNone found (MayNotHappen N.id_of (archive_of bodies.old visits.old) by given)) }
+{
+    match given {
+        EventKind::Batch(entries) => {
+            match check_batch(alloc, namer, bodies, entries.as_slice())? {
+                Some(entries) => Ok(Some(EventKind::Batch(Many::from_vec(entries)))),
+                None => Ok(None),
+            }
+        }
+        EventKind::Open { origin, kind, date } => {
+            visits.open(alloc, origin.as_str().as_bytes(), by, kind, date)?;
+            Ok(Some(EventKind::Open { origin, kind, date }))
+        }
+        EventKind::Mark {
+            origin,
+            visit,
+            status,
+            snapshot,
+        } => {
+            if !check_mark(alloc, bodies, visits, by, &origin, visit, status, snapshot)? {
+                return Ok(None);
+            }
+            Ok(Some(EventKind::Mark {
+                origin,
+                visit,
+                status,
+                snapshot,
+            }))
+        }
+    }
+}
+
+/// The history that was read, with the kids of its entries, and its replay; none where it may not happen.
+pub fn check_replay<N: Namer>(
+    alloc: Global,
+    namer: N,
+    events: Vec<Event>,
+) -> Result<Option<Checked>, Memory>
+    requires store { store_length events.items < 2 ^ 64 }
+    requires ledger { ledger_length events.items < 2 ^ 64 }
+    ensures some { IfOk result (λ found. IfSome found (IsChecked N.id_of events.items)) }
+    ensures none { IfOk result (λ found. IfNone found (IsNoHistory N.id_of events.items)) }
+{
+    let store_end = store_end_of(&events);
+    let ledger_end = ledger_end_of(&events);
+    let mut bodies = HeldBodies::new(alloc);
+    let mut visits = OriginVisits::new(alloc);
+    let mut history = Vec::new(alloc);
+    let mut rest = VecDeque::from(events);
+    while let Some(event) = rest.pop_front() {
+        let Event { by, what } = event;
+        let Some(what) = check_kind(alloc, &namer, &mut bodies, &mut visits, by, what)? else {
+            return Ok(None);
+        };
+        history.push(Event { by, what })?;
+    }
+    let replayed = Replayed {
+        bodies,
+        visits,
+        store_end,
+        ledger_end,
+    };
+    Ok(Some(Checked { replayed, history }))
+}
