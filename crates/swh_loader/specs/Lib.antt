@@ -1,1 +1,6 @@
+pub mod Ending
+pub mod Reading
 pub mod Report
+pub mod Sending
+pub mod Stopping
+pub mod Visiting

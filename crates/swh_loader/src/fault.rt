@@ -1,5 +1,6 @@
 // Why a load stops before its visit's end.
-use swh_base::{Status, Which};
+use std::alloc::AllocFailed;
+use swh_base::{Memory, Status, Which};
 
 #[derive(Clone, Copy, Debug, PartialEq, Eq)]
 pub enum LoadWhy {
@@ -19,4 +20,26 @@ pub enum LoadWhy {
 pub struct LoadFault {
     pub visit: u64,
     pub why: LoadWhy,
+}
+
+impl From<Memory> for LoadWhy {
+    ghost use Rattle.std.specs.Prelude.{◌≡◌};
+    ghost use Rattle.swh_loader.specs.declared.fault.LoadWhy.TheVariants.{Memory as OutOfMemory};
+
+    ghost from_gives = { λ _ e. e ≡ OutOfMemory };
+
+    fn from(_e: Memory) -> LoadWhy {
+        LoadWhy::Memory
+    }
+}
+
+impl<T: Drop> From<AllocFailed<T>> for LoadWhy {
+    ghost use Rattle.std.specs.Prelude.{◌≡◌};
+    ghost use Rattle.swh_loader.specs.declared.fault.LoadWhy.TheVariants.{Memory as OutOfMemory};
+
+    ghost from_gives = { λ _ e. e ≡ OutOfMemory };
+
+    fn from(_e: AllocFailed<T>) -> LoadWhy {
+        LoadWhy::Memory
+    }
 }

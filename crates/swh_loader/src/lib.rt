@@ -5,10 +5,18 @@
 
 mod end;
 mod fault;
+mod job;
+mod loading;
+mod pending;
 mod report;
+mod sending;
+mod stopping;
+mod visiting;
 
 pub use end::{BadInput, End, Loaded, StreamWhy};
 pub use fault::{LoadFault, LoadWhy};
+pub use job::Job;
+pub use loading::load_one;
 pub use report::report_line;
 
 #[cfg(test)]

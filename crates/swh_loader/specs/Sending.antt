@@ -1,0 +1,64 @@
+-- What a load's input adds to what is held.
+use Rattle.std.specs.Prelude.{◌≡◌, ◌≢◌, ℕ, Option, Some, None, List, [], ◌∷◌, ◌++◌}
+use Rattle.std.specs.List.{AllByRecursion}
+use Rattle.std.specs.FinMap as finite
+use Rattle.swh_base.specs.declared.kind.Kind.{Kind}
+use Rattle.swh_base.specs.declared.name.Name.{Name}
+use Rattle.swh_base.specs.declared.entry.Entry.{Entry}
+use Rattle.swh_model.specs.Archive.{Bodies, body_of}
+use Rattle.swh_model.specs.Step.{AreNew, IsGoodAndNamed, added, replay}
+use Rattle.swh_model.specs.Grows.{IsWithin}
+use Rattle.swh_keeper.specs.Kept.{Kept}
+use Rattle.swh_loader.specs.Visiting.{IsMarked}
+use Rattle.swh_loader.specs.declared.pending.Pending.{Pending}
+use Rattle.swh_loader.specs.declared.sending.Standing.{Standing}
+use Rattle.swh_loader.specs.declared.sending.Standing.TheVariants.{Held, Other, New}
+use Rattle.swh_loader.specs.declared.sending.Taken.{Taken}
+use Rattle.swh_loader.specs.declared.sending.Taken.TheVariants.{Waits, Collides}
+
+abbrev pub IsStanding : Bodies → Entry → Standing → Type 0
+IsStanding bodies e Held = body_of bodies e.name ≡ Some e.body
+IsStanding bodies e Other = (body : List ℕ) × (body_of bodies e.name ≡ Some body) × (body ≢ e.body)
+IsStanding bodies e New = body_of bodies e.name ≡ None
+
+-- Each of these is held with its body.
+abbrev pub AllHeld : Bodies → List Entry → Type 0
+AllHeld bodies entries = AllByRecursion (λ e. body_of bodies e.name ≡ Some e.body) entries
+
+abbrev pub bodies_of : {D : Type 0} → Kept D → Bodies
+bodies_of k = (replay k.history).bodies
+
+-- what is held once what waits was added
+abbrev pub to_be : {D : Type 0} → Kept D → Pending → Bodies
+to_be k p = added (bodies_of k) p.entries.items
+
+-- What waits is new, and good and named.
+pub record IsWaiting (id : Kind → List ℕ → List ℕ) (bodies : Bodies) (p : Pending) : Type 0 where
+  pub held : p.held ≡ added finite.empty p.entries.items
+  pub new : AreNew bodies p.entries.items
+  pub good : AllByRecursion (IsGoodAndNamed id) p.entries.items
+
+-- Visits are as they were.
+abbrev pub SameVisits : {D : Type 0} → Kept D → Kept D → ℕ → Type 0
+SameVisits old new by = (origin : List ℕ) (number : ℕ) → IsMarked old.history new.history origin number by []
+
+-- what became of an entry
+abbrev pub IsTaken : {D : Type 0} → (Kind → List ℕ → List ℕ) → Kept D → Pending → Entry → Kept D → Taken → Type 0
+IsTaken id old p e new (Waits q) = IsWaiting id (bodies_of new) q × IsWithin (to_be old p) (to_be new q) × (body_of (to_be new q) e.name ≡ Some e.body)
+IsTaken id old p e new (Collides name) = (name ≡ e.name) × IsStanding (bodies_of new) e Other
+
+-- An object of these has a name under which another body is held.
+pub record IsCollision (bodies : Bodies) (objects : List Entry) (name : Name) : Type 0 where
+  pub front : List Entry
+  pub entry : Entry
+  pub back : List Entry
+  pub among : objects ≡ front ++ entry ∷ back
+  pub named : name ≡ entry.name
+  pub other : List ℕ
+  pub held : body_of bodies name ≡ Some other
+  pub differs : other ≢ entry.body
+
+-- All are held, or one collides.
+abbrev pub AreSent : Bodies → List Entry → Option Name → Type 0
+AreSent bodies objects None = AllHeld bodies objects
+AreSent bodies objects (Some name) = IsCollision bodies objects name

@@ -1,0 +1,281 @@
+// One load: an input read, made, sent, and its visit ended.
+ghost use Rattle.std.specs.Prelude.{◌≡◌, ◌≤◌, ◌+◌, ◌∷◌, [], Some, None, IfOk, OnOk, length};
+ghost use Rattle.swh_base.specs.declared.visit.Status.TheVariants.{Created, Ongoing, Full as FullStatus, NotFound as NotFoundStatus, Failed as FailedStatus};
+ghost use Rattle.swh_model.specs.Archive.{visits_of};
+ghost use Rattle.swh_model.specs.Step.{replay};
+ghost use Rattle.swh_loader.specs.declared.end.StreamWhy.TheVariants.{LeftOut};
+ghost use Rattle.swh_loader.specs.declared.end.BadInput.TheVariants.{Stream as BadStream, Read as BadRead};
+ghost use Rattle.swh_loader.specs.declared.end.End.TheVariants.{Full as EndFull, NotFound as EndNotFound, Failed as EndFailed};
+ghost use Rattle.swh_loader.specs.Visiting.{IsVisit, GoesOn, IsMarked};
+ghost use Rattle.swh_loader.specs.Sending.{bodies_of};
+ghost use Rattle.swh_loader.specs.Ending.{IsSentEnd, IsEndOf, IsJobEnd, last_of, statuses_of};
+ghost use Rattle.swh_loader.specs.Reading.{IsRead};
+
+use crate::end::{BadInput, End, Loaded, StreamWhy};
+use crate::fault::{LoadFault, LoadWhy};
+use crate::job::Job;
+use crate::sending::send_all;
+use crate::visiting::{mark, open_visit};
+use std::alloc::Global;
+use swh_base::{Namer, Status, Url};
+use swh_fastlex::{SourceFault, read_source};
+use swh_fastload::{Objects, StreamFault, load_stream};
+use swh_keeper::Keeper;
+use swh_outside::{Disk, Gate, Opened, Source};
+
+/// The most bytes of a stream.
+const STREAM_LIMIT: usize = 4_294_967_296;
+
+/// What an input gives.
+#[derive(Drop)]
+pub enum Input<N: Namer> {
+    Made(Objects<N>),
+    Bad(BadInput),
+}
+
+/// A stream that is left out, of which no place is told.
+fn left_out() -> BadInput
+    ensures { result ≡ BadStream 0 LeftOut }
+{
+    BadInput::Stream {
+        at: 0,
+        why: StreamWhy::LeftOut,
+    }
+}
+
+/// Reads an input, and makes its objects.
+fn read_input<N: Namer, S: Source>(
+    alloc: Global,
+    namer: &N,
+    source: &mut S,
+) -> Result<Input<N>, LoadWhy>
+    ensures read { IfOk result (λ input. IsRead N.id_of S.tells (S.left source.old) (S.faults source.old) (S.faults source.new) input) }
+    ensures same_path { S.path source.new ≡ S.path source.old }
+    ensures later { S.faults source.old ≤ S.faults source.new }
+{
+    let text = match read_source(alloc, source, STREAM_LIMIT) {
+        Ok(text) => text,
+        Err(SourceFault::Failed) => return Ok(Input::Bad(BadInput::Read)),
+        Err(SourceFault::Limit) => return Ok(Input::Bad(left_out())),
+        Err(SourceFault::Memory) => return Err(LoadWhy::Memory),
+    };
+    match load_stream(alloc, namer, &text) {
+        Ok(objects) => Ok(Input::Made(objects)),
+        Err(StreamFault::LeftOut) => Ok(Input::Bad(left_out())),
+        Err(StreamFault::Memory) => Err(LoadWhy::Memory),
+    }
+}
+
+/// Ends a visit whose input is bad.
+fn end_bad<N: Namer, D: Disk>(
+    alloc: Global,
+    keeper: &mut Keeper<N, D>,
+    by: u32,
+    origin: &Url,
+    visit: u64,
+    bad: BadInput,
+) -> Result<End, LoadWhy>
+    ensures end { IfOk result (λ end. end ≡ EndFailed bad) }
+    ensures marked { OnOk result (IsMarked keeper.old.history keeper.new.history origin.now visit by ((FailedStatus, None) ∷ [])) }
+    ensures on { OnOk result (GoesOn keeper.old keeper.new) }
+{
+    mark(alloc, keeper, by, origin, visit, Status::Failed, None)?;
+    Ok(End::Failed(bad))
+}
+
+/// Ends a visit whose input is all held.
+fn end_full<N: Namer, D: Disk, G: Gate>(
+    alloc: Global,
+    keeper: &mut Keeper<N, D>,
+    by: u32,
+    origin: &Url,
+    visit: u64,
+    snapshot: [u8; 20],
+    gate: &G,
+    worker: u32,
+    number: u32,
+) -> Result<End, LoadWhy>
+    ensures end { IfOk result (λ end. end ≡ EndFull snapshot) }
+    ensures marked { OnOk result (IsMarked keeper.old.history keeper.new.history origin.now visit by ((FullStatus, Some snapshot) ∷ [])) }
+    ensures on { OnOk result (GoesOn keeper.old keeper.new) }
+{
+    gate.before(worker, number);
+    mark(
+        alloc,
+        keeper,
+        by,
+        origin,
+        visit,
+        Status::Full,
+        Some(snapshot),
+    )?;
+    gate.after(worker, number);
+    Ok(End::Full { snapshot })
+}
+
+/// Sends the objects of an input, and ends its visit.
+fn finish<N: Namer, D: Disk, G: Gate>(
+    alloc: Global,
+    keeper: &mut Keeper<N, D>,
+    by: u32,
+    origin: &Url,
+    visit: u64,
+    made: Objects<N>,
+    gate: &G,
+    worker: u32,
+    number: u32,
+) -> Result<End, LoadWhy>
+    requires { keeper.old.wounded ≡ None }
+    ensures end { IfOk result (λ end. IsSentEnd (bodies_of keeper.new) made end) }
+    ensures marked { IfOk result (λ end. IsMarked keeper.old.history keeper.new.history origin.now visit by (last_of end)) }
+    ensures on { OnOk result (GoesOn keeper.old keeper.new) }
+{
+    match send_all(alloc, keeper, by, made.objects)? {
+        Some(name) => end_bad(
+            alloc,
+            keeper,
+            by,
+            origin,
+            visit,
+            BadInput::Collision { name },
+        ),
+        None => end_full(
+            alloc,
+            keeper,
+            by,
+            origin,
+            visit,
+            made.snapshot,
+            gate,
+            worker,
+            number,
+        ),
+    }
+}
+
+/// Loads an input that is found, of an open visit.
+fn load_found<N: Namer, D: Disk, S: Source, G: Gate>(
+    alloc: Global,
+    namer: &N,
+    keeper: &mut Keeper<N, D>,
+    by: u32,
+    origin: &Url,
+    visit: u64,
+    source: &mut S,
+    gate: &G,
+    worker: u32,
+    number: u32,
+) -> Result<End, LoadWhy>
+    ensures end { IfOk result (λ end. IsEndOf N.id_of S.tells (S.left source.old) (S.faults source.old) (S.faults source.new) (bodies_of keeper.new) end) }
+    ensures marked { IfOk result (λ end. IsMarked keeper.old.history keeper.new.history origin.now visit by (statuses_of end)) }
+    ensures on { OnOk result (GoesOn keeper.old keeper.new) }
+    ensures same_path { S.path source.new ≡ S.path source.old }
+    ensures later { S.faults source.old ≤ S.faults source.new }
+{
+    mark(alloc, keeper, by, origin, visit, Status::Ongoing, None)?;
+    match read_input(alloc, namer, source)? {
+        Input::Made(made) => finish(alloc, keeper, by, origin, visit, made, gate, worker, number),
+        Input::Bad(bad) => end_bad(alloc, keeper, by, origin, visit, bad),
+    }
+}
+
+/// Ends a visit of an origin without an input.
+fn end_absent<N: Namer, D: Disk>(
+    alloc: Global,
+    keeper: &mut Keeper<N, D>,
+    by: u32,
+    origin: &Url,
+    visit: u64,
+) -> Result<End, LoadWhy>
+    ensures end { IfOk result (λ end. end ≡ EndNotFound) }
+    ensures marked { OnOk result (IsMarked keeper.old.history keeper.new.history origin.now visit by ((NotFoundStatus, None) ∷ [])) }
+    ensures on { OnOk result (GoesOn keeper.old keeper.new) }
+{
+    mark(alloc, keeper, by, origin, visit, Status::NotFound, None)?;
+    Ok(End::NotFound)
+}
+
+/// Ends a visit whose input does not open.
+fn end_unread<N: Namer, D: Disk>(
+    alloc: Global,
+    keeper: &mut Keeper<N, D>,
+    by: u32,
+    origin: &Url,
+    visit: u64,
+) -> Result<End, LoadWhy>
+    ensures end { IfOk result (λ end. end ≡ EndFailed BadRead) }
+    ensures marked { OnOk result (IsMarked keeper.old.history keeper.new.history origin.now visit by ((Ongoing, None) ∷ (FailedStatus, None) ∷ [])) }
+    ensures on { OnOk result (GoesOn keeper.old keeper.new) }
+{
+    mark(alloc, keeper, by, origin, visit, Status::Ongoing, None)?;
+    end_bad(alloc, keeper, by, origin, visit, BadInput::Read)
+}
+
+/// Loads what a job's input is, of an open visit.
+fn load_opened<N: Namer, D: Disk, S: Source, G: Gate>(
+    alloc: Global,
+    namer: &N,
+    keeper: &mut Keeper<N, D>,
+    by: u32,
+    origin: &Url,
+    visit: u64,
+    stream: &mut Opened<S>,
+    gate: &G,
+    worker: u32,
+    number: u32,
+) -> Result<End, LoadWhy>
+    ensures end { IfOk result (λ end. IsJobEnd N.id_of S.tells S.left S.faults (bodies_of keeper.new) stream.old stream.new end) }
+    ensures marked { IfOk result (λ end. IsMarked keeper.old.history keeper.new.history origin.now visit by (statuses_of end)) }
+    ensures on { OnOk result (GoesOn keeper.old keeper.new) }
+{
+    match stream {
+        Opened::Found(source) => load_found(
+            alloc, namer, keeper, by, origin, visit, source, gate, worker, number,
+        ),
+        Opened::NotFound => end_absent(alloc, keeper, by, origin, visit),
+        Opened::Failed => end_unread(alloc, keeper, by, origin, visit),
+        Opened::Memory => Err(LoadWhy::Memory),
+    }
+}
+
+/// Loads the input of an origin, as a new visit of it.
+pub fn load_one<N: Namer, D: Disk, S: Source, G: Gate>(
+    alloc: Global,
+    namer: &N,
+    keeper: &mut Keeper<N, D>,
+    by: u32,
+    job: &mut Job<S>,
+    date: u64,
+    gate: &G,
+    worker: u32,
+    number: u32,
+) -> Result<Loaded, LoadFault>
+    // The visit's number is the next of its origin.
+    ensures number { IfOk result (λ loaded. loaded.visit ≡ length (visits_of (replay keeper.old.history).origins job.old.origin) + 1) }
+    // It was created, and its end is the one told.
+    ensures visit { IfOk result (λ loaded. IsVisit keeper.new.history job.old.origin loaded.visit date by ((Created, None) ∷ statuses_of loaded.end)) }
+    // The end says what the input means, and what is held.
+    ensures end { IfOk result (λ loaded. IsJobEnd N.id_of S.tells S.left S.faults (bodies_of keeper.new) job.old.stream job.new.stream loaded.end) }
+    // Nothing that was held is lost.
+    ensures on { OnOk result (GoesOn keeper.old keeper.new) }
+{
+    let visit = match open_visit(alloc, keeper, by, &job.origin, date) {
+        Ok(visit) => visit,
+        Err(why) => return Err(LoadFault { visit: 0, why }),
+    };
+    match load_opened(
+        alloc,
+        namer,
+        keeper,
+        by,
+        &job.origin,
+        visit,
+        &mut job.stream,
+        gate,
+        worker,
+        number,
+    ) {
+        Ok(end) => Ok(Loaded { visit, end }),
+        Err(why) => Err(LoadFault { visit, why }),
+    }
+}

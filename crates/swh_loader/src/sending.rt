@@ -1,0 +1,147 @@
+// What a load's input adds to what is held.
+ghost use Rattle.std.specs.Prelude.{◌≡◌, ◌≢◌, ◌∷◌, [], Some, None, IfOk, OnOk, ℕ};
+ghost use Rattle.swh_model.specs.Archive.{body_of};
+ghost use Rattle.swh_model.specs.Step.{added};
+ghost use Rattle.swh_object.specs.Object.{IsObject};
+ghost use Rattle.swh_loader.specs.Visiting.{GoesOn};
+ghost use Rattle.swh_loader.specs.Sending.{IsStanding, IsWaiting, IsTaken, SameVisits, AreSent, bodies_of, to_be};
+
+use crate::fault::LoadWhy;
+use crate::pending::Pending;
+use crate::stopping::stopped;
+use std::alloc::Global;
+use std::collections::VecDeque;
+use swh_base::{Entry, Many, Name, Namer};
+use swh_keeper::Keeper;
+use swh_model::Wish;
+use swh_object::Object;
+use swh_outside::Disk;
+
+/// How an entry stands to what is held.
+#[derive(Drop)]
+pub enum Standing {
+    /// Its body is held.
+    Held,
+    /// Another body is held under its name.
+    Other,
+    New,
+}
+
+/// What became of an entry.
+#[derive(Drop)]
+pub enum Taken {
+    /// It is held, or it waits among these.
+    Waits(Pending),
+    /// Another body is held under its name.
+    Collides(Name),
+}
+
+fn standing_of<N: Namer, D: Disk>(keeper: &Keeper<N, D>, entry: &Entry) -> Standing
+    requires { keeper.now.wounded ≡ None }
+    ensures { IsStanding (bodies_of keeper.now) entry.now result }
+{
+    let Some(held) = keeper.get(&entry.name) else {
+        return Standing::New;
+    };
+    if held.body.as_slice() == entry.body.as_slice() {
+        Standing::Held
+    } else {
+        Standing::Other
+    }
+}
+
+/// Sends a batch, where there is something to send.
+fn flush<N: Namer, D: Disk>(
+    alloc: Global,
+    keeper: &mut Keeper<N, D>,
+    by: u32,
+    pending: Pending,
+) -> Result<(), LoadWhy>
+    requires unwounded { keeper.old.wounded ≡ None }
+    requires waiting { IsWaiting N.id_of (bodies_of keeper.old) pending }
+    ensures bodies { OnOk result (bodies_of keeper.new ≡ to_be keeper.old pending) }
+    ensures on { OnOk result (GoesOn keeper.old keeper.new) }
+    ensures visits { OnOk result (SameVisits keeper.old keeper.new by) }
+{
+    if pending.entries.is_empty() {
+        return Ok(());
+    }
+    let wish = Wish::Batch(Many::from_vec(pending.entries));
+    match keeper.apply(alloc, by, wish) {
+        Ok(_) => Ok(()),
+        Err(refusal) => Err(stopped(refusal)),
+    }
+}
+
+/// Sends what waits where an entry of this name may not join it.
+fn make_room<N: Namer, D: Disk>(
+    alloc: Global,
+    keeper: &mut Keeper<N, D>,
+    by: u32,
+    pending: Pending,
+    name: &Name,
+) -> Result<Pending, LoadWhy>
+    requires unwounded { keeper.old.wounded ≡ None }
+    requires waiting { IsWaiting N.id_of (bodies_of keeper.old) pending }
+    ensures room { IfOk result (λ room. body_of room.held name.now ≡ None) }
+    ensures waiting { IfOk result (λ room. IsWaiting N.id_of (bodies_of keeper.new) room) }
+    ensures to_be { IfOk result (λ room. to_be keeper.new room ≡ to_be keeper.old pending) }
+    ensures on { OnOk result (GoesOn keeper.old keeper.new) }
+    ensures visits { OnOk result (SameVisits keeper.old keeper.new by) }
+{
+    if pending.has_room(name) {
+        return Ok(pending);
+    }
+    flush(alloc, keeper, by, pending)?;
+    Ok(Pending::new(alloc))
+}
+
+/// Takes an object in: it is held, it waits, or it collides.
+fn take_in<N: Namer, D: Disk>(
+    alloc: Global,
+    keeper: &mut Keeper<N, D>,
+    by: u32,
+    pending: Pending,
+    object: Object<N>,
+) -> Result<Taken, LoadWhy>
+    requires unwounded { keeper.old.wounded ≡ None }
+    requires waiting { IsWaiting N.id_of (bodies_of keeper.old) pending }
+    ensures taken { IfOk result (λ taken. IsTaken N.id_of keeper.old pending object keeper.new taken) }
+    ensures on { OnOk result (GoesOn keeper.old keeper.new) }
+    ensures visits { OnOk result (SameVisits keeper.old keeper.new by) }
+{
+    let entry = object.into_entry();
+    let mut pending = make_room(alloc, keeper, by, pending, &entry.name)?;
+    match standing_of(keeper, &entry) {
+        Standing::Held => Ok(Taken::Waits(pending)),
+        Standing::Other => Ok(Taken::Collides(entry.name)),
+        Standing::New => {
+            pending.push(entry)?;
+            Ok(Taken::Waits(pending))
+        }
+    }
+}
+
+/// Sends what is new of some objects, in order, up to the first that collides.
+pub fn send_all<N: Namer, D: Disk>(
+    alloc: Global,
+    keeper: &mut Keeper<N, D>,
+    by: u32,
+    objects: Vec<Object<N>>,
+) -> Result<Option<Name>, LoadWhy>
+    requires { keeper.old.wounded ≡ None }
+    ensures sent { IfOk result (λ collision. AreSent (bodies_of keeper.new) objects.items collision) }
+    ensures on { OnOk result (GoesOn keeper.old keeper.new) }
+    ensures visits { OnOk result (SameVisits keeper.old keeper.new by) }
+{
+    let mut left = VecDeque::from_vec(objects);
+    let mut pending = Pending::new(alloc);
+    'objects: while let Some(object) = left.pop_front() {
+        pending = match take_in(alloc, keeper, by, pending, object)? {
+            Taken::Waits(pending) => pending,
+            Taken::Collides(name) => return Ok(Some(name)),
+        };
+    }
+    flush(alloc, keeper, by, pending)?;
+    Ok(None)
+}

@@ -1,0 +1,67 @@
+// The visit of a load: opened, marked and ended.
+ghost use Rattle.std.specs.Prelude.{◌≡◌, ◌+◌, ◌∷◌, [], None, length, IfOk, OnOk};
+ghost use Rattle.swh_base.specs.declared.visit.Status.TheVariants.{Created};
+ghost use Rattle.swh_model.specs.Archive.{visits_of};
+ghost use Rattle.swh_model.specs.Judge.{IsHow};
+ghost use Rattle.swh_model.specs.Step.{replay};
+ghost use Rattle.swh_loader.specs.Visiting.{IsVisit, GoesOn, IsMarked};
+
+use crate::fault::LoadWhy;
+use crate::stopping::stopped;
+use std::alloc::Global;
+use swh_base::{Namer, Status, Url, VisitKind};
+use swh_keeper::Keeper;
+use swh_model::{Outcome, Wish};
+use swh_outside::Disk;
+
+/// Opens a visit of an origin, and answers its number.
+pub fn open_visit<N: Namer, D: Disk>(
+    alloc: Global,
+    keeper: &mut Keeper<N, D>,
+    by: u32,
+    origin: &Url,
+    date: u64,
+) -> Result<u64, LoadWhy>
+    ensures number { IfOk result (λ visit. visit ≡ length (visits_of (replay keeper.old.history).origins origin.now) + 1) }
+    ensures visit { IfOk result (λ visit. IsVisit keeper.new.history origin.now visit date by ((Created, None) ∷ [])) }
+    ensures on { OnOk result (GoesOn keeper.old keeper.new) }
+{
+    let Ok(origin) = origin.again(alloc) else {
+        return Err(LoadWhy::Memory);
+    };
+    let kind = VisitKind::Fast;
+    match keeper.apply(alloc, by, Wish::Open { origin, kind, date }) {
+        Ok(Outcome::Opened { event: _, visit }) => Ok(visit),
+        Ok(_) => unreachable!(),
+        Err(refusal) => Err(stopped(refusal)),
+    }
+}
+
+/// Adds a status to a visit.
+pub fn mark<N: Namer, D: Disk>(
+    alloc: Global,
+    keeper: &mut Keeper<N, D>,
+    by: u32,
+    origin: &Url,
+    visit: u64,
+    status: Status,
+    snapshot: Option<[u8; 20]>,
+) -> Result<(), LoadWhy>
+    requires { IsHow status snapshot }
+    ensures marked { OnOk result (IsMarked keeper.old.history keeper.new.history origin.now visit by ((status, snapshot) ∷ [])) }
+    ensures on { OnOk result (GoesOn keeper.old keeper.new) }
+{
+    let Ok(origin) = origin.again(alloc) else {
+        return Err(LoadWhy::Memory);
+    };
+    let wish = Wish::Mark {
+        origin,
+        visit,
+        status,
+        snapshot,
+    };
+    match keeper.apply(alloc, by, wish) {
+        Ok(_) => Ok(()),
+        Err(refusal) => Err(stopped(refusal)),
+    }
+}
