@@ -9,3 +9,5 @@ pub mod Texts
 pub mod KeyWords
 pub mod Wholes
 pub mod Places
+pub mod Escapes
+pub mod Ways

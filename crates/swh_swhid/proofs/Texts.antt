@@ -11,10 +11,10 @@ use Rattle.swh_swhid.proofs.Fronts.{breaks_after}
 use Rattle.swh_swhid.proofs.Ranges.{byte_at}
 
 -- a hexadecimal digit is a byte of a text, and no `%`
-hex-text : (c : ℕ) → is_hex_digit c ≡ true → is_text_byte c ≡ true
+pub hex-text : (c : ℕ) → is_hex_digit c ≡ true → is_text_byte c ≡ true
 hex-text c h = grind (arith, nat_tests)
 
-hex-no_percent : (c : ℕ) → is_hex_digit c ≡ true → c ≡ 37 → ⊥
+pub hex-no_percent : (c : ℕ) → is_hex_digit c ≡ true → c ≡ 37 → ⊥
 hex-no_percent c h e = let at : is_hex_digit 37 ≡ true = subst (λ (k : ℕ). is_hex_digit k ≡ true) e h in absurd cc
 
 percent-text : (c : ℕ) → c ≡ 37 → is_text_byte c ≡ true

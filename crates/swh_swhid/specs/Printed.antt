@@ -1,12 +1,15 @@
 -- The one printed text of a value: the qualifiers in the order of the keys, origin and path escaped.
-use Rattle.std.specs.Prelude.{ℕ, Option, Some, None, option_map, List, [], ◌∷◌, ◌++◌}
+use Rattle.std.specs.Prelude.{◌≡◌, ◌≢◌, true, IfSome, ℕ, Option, Some, None, option_map, List, [], ◌∷◌, ◌++◌}
+use Rattle.std.specs.List.{AllByRecursion}
+use Rattle.swh_base.specs.Name.{IsName, IsByte}
+use Rattle.swh_swhid.specs.declared.identifier.Place.TheVariants.{Visit as AsVisit, Anchor as AsAnchor}
 use Rattle.percent_encoding.specs.Percent.{percent_encode}
 use Rattle.swh_swhid.specs.declared.printing.TheConstants.{ESCAPED}
 use Rattle.swh_swhid.specs.declared.swhid.Swhid.{Swhid}
 use Rattle.swh_swhid.specs.declared.swhid.Key.{Key}
 use Rattle.swh_swhid.specs.declared.swhid.Key.TheVariants.{Origin, Visit, Anchor, Path, Lines, Bytes}
-use Rattle.swh_swhid.specs.Core.{core_text}
-use Rattle.swh_swhid.specs.Number.{range_text}
+use Rattle.swh_swhid.specs.Core.{core_text, accepts}
+use Rattle.swh_swhid.specs.Number.{range_text, IsRange}
 use Rattle.swh_swhid.specs.Qualifier.{key_word}
 
 -- the bytes with `%` and two upper-case digits for each up to a space, each `%`, `;` and DEL, and each from 128 on
@@ -25,3 +28,20 @@ said_range key (Some range) = 59 ∷ (key_word key ++ range_text range.0 range.1
 abbrev pub printed : Swhid → List ℕ
 printed s =
     ((((((core_text s.core ++ said Origin (option_map escaped s.origin)) ++ said Visit (option_map core_text s.visit)) ++ said Anchor (option_map core_text s.anchor)) ++ said Path (option_map escaped s.path)) ++ said_range Lines s.lines) ++ said_range Bytes s.bytes)
+
+abbrev pub AreBytes : List ℕ → Type 0
+AreBytes bytes = AllByRecursion IsByte bytes
+
+abbrev pub BeginsWithSlash : List ℕ → Type 0
+BeginsWithSlash [] = ⊥
+BeginsWithSlash (c ∷ bytes) = c ≡ 47
+
+-- a value that some text spells
+pub record IsValue (s : Swhid) : Type 0 where
+  pub named : IsName s.core
+  pub origin : IfSome s.origin (λ o. (o ≢ []) × AreBytes o)
+  pub visit : IfSome s.visit (λ n. IsName n × (accepts AsVisit n.kind ≡ true))
+  pub anchor : IfSome s.anchor (λ n. IsName n × (accepts AsAnchor n.kind ≡ true))
+  pub path : IfSome s.path (λ p. BeginsWithSlash p × AreBytes p)
+  pub lines : IfSome s.lines (λ r. IsRange 1 r.0 r.1)
+  pub bytes : IfSome s.bytes (λ r. IsRange 0 r.0 r.1)

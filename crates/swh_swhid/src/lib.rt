@@ -6,6 +6,7 @@
 mod fault;
 mod front;
 mod identifier;
+mod laws;
 mod number;
 mod parsing;
 mod printing;
@@ -15,6 +16,7 @@ mod text;
 
 pub use fault::SwhidFault;
 pub use identifier::{core_text, parse_core};
+pub use laws::printed_is_read;
 pub use parsing::parse;
 pub use printing::print;
 pub use swhid::Swhid;
