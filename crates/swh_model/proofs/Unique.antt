@@ -142,7 +142,7 @@ status_of-number Failed = refl
 pub status_same : (a b : Status) → status_number a ≡ status_number b → a ≡ b
 status_same a b e = sym (status_of-number a) ∙ ap status_of e ∙ status_of-number b
 
-snapshot_same : (s t : Option (List ℕ)) (x y : List ℕ) → IsSnapshotId s → IsSnapshotId t → coded_snapshot s ++ x ≡ coded_snapshot t ++ y → (s ≡ t) × (x ≡ y)
+pub snapshot_same : (s t : Option (List ℕ)) (x y : List ℕ) → IsSnapshotId s → IsSnapshotId t → coded_snapshot s ++ x ≡ coded_snapshot t ++ y → (s ≡ t) × (x ≡ y)
 snapshot_same None None x y hs ht e = (refl, same_tail 0 0 x y e)
 snapshot_same None (Some id) x y hs ht e = absurd (omega (arith, same_head 0 1 x (id ++ y) e))
 snapshot_same (Some id) None x y hs ht e = absurd (omega (arith, same_head 1 0 (id ++ x) y e))
@@ -195,7 +195,8 @@ same_event at e f x y u v he hf records runs =
     let whats = same_kinds at e.what f.what u v he.1 hf.1 frames.0 whos.1 runs in
     ((λ i. record { by = whos.0 i; what = whats.0 i }), frames.2, whats.1)
 
-length_behind : (a b u v : List ℕ) → a ++ u ≡ b ++ v → u ≡ v → length a ≡ length b
+-- what is in front of the same is as long
+pub length_behind : (a b u v : List ℕ) → a ++ u ≡ b ++ v → u ≡ v → length a ≡ length b
 length_behind a b u v e f = let p : length (a ++ u) ≡ length (b ++ v) = ap length e in let q : length u ≡ length v = ap length f in omega (arith, p, q, length-append a u, length-append b v)
 
 pub alike_from : (at : ℕ) (g h : List Event) (ledger store : List ℕ) → StandsFrom at ledger store g → StandsFrom at ledger store h → AreAlike g h

@@ -4,14 +4,18 @@ use Rattle.std.specs.List.{AllByRecursion}
 use Rattle.std.specs.Int.{w32, w64, to_be_bytes}
 use Rattle.swh_base.specs.Name.{kind_number}
 use Rattle.swh_base.specs.declared.entry.Entry.{Entry}
-use Rattle.swh_model.specs.Coding.{coded_run, visit_kind_number, status_number, coded_snapshot, framed, IsCodableEntry, IsMarkStatus, IsSnapshotId}
-use Rattle.swh_model.specs.Stands.{bare}
+use Rattle.swh_model.specs.declared.event.Event.{Event}
+use Rattle.swh_model.specs.declared.event.EventKind.{EventKind}
+use Rattle.swh_model.specs.Coding.{coded_run, run_of, event_byte, visit_kind_number, status_number, coded_snapshot, told, framed, coded_record, IsCodableEntry, IsMarkStatus, IsSnapshotId, IsCodableKind, IsCodable}
+use Rattle.swh_model.specs.Stands.{bare, bare_kind, bare_event}
 use Rattle.swh_model.specs.declared.decoding.record.RecordParts.{RecordParts}
 use Rattle.swh_model.specs.declared.decoding.run.Run.{Run}
 use Rattle.swh_model.specs.declared.decoding.payload.BatchParts.{BatchParts}
 use Rattle.swh_model.specs.declared.decoding.payload.OpenParts.{OpenParts}
 use Rattle.swh_model.specs.declared.decoding.payload.MarkParts.{MarkParts}
 use Rattle.swh_model.specs.declared.decoding.entry.EntryParts.{EntryParts}
+use Rattle.swh_model.specs.declared.decoding.told.Told.{Told}
+use Rattle.swh_model.specs.declared.decoding.history.EventParts.{EventParts}
 
 -- The bytes are an object and what is behind it.
 pub record IsEntryFront (bytes : List ℕ) (p : EntryParts) : Type 0 where
@@ -54,3 +58,28 @@ pub record IsMarkTold (told : List ℕ) (p : MarkParts) : Type 0 where
 pub record IsRecordFront (bytes : List ℕ) (p : RecordParts) : Type 0 where
   pub spelled : bytes ≡ framed p.kind p.payload.now ++ p.rest.now
   pub short : length p.payload.now < 2 ^ 32
+
+-- The payload tells of what happened, which is of this kind, without its kids; its run is at the front of the store,
+-- from this place on.
+pub record IsTold (kind at : ℕ) (payload store : List ℕ) (t : Told) : Type 0 where
+  pub byte : kind ≡ event_byte t.what
+  pub spelled : payload ≡ told at t.what
+  pub run : store ≡ run_of t.what ++ t.rest.now
+  pub codable : IsCodableKind at t.what
+  pub is_bare : bare_kind t.what ≡ t.what
+
+-- The payload tells of nothing of this kind whose run is at the front of the store, from this place on.
+abbrev pub IsNotTold : ℕ → ℕ → List ℕ → List ℕ → Type 0
+IsNotTold kind at payload store = (what : EventKind) (x : List ℕ) → IsCodableKind at what → kind ≡ event_byte what → payload ≡ told at what → store ≡ run_of what ++ x → ⊥
+
+-- An event, without its kids: its record is at the front of the ledger, and its run at the front of the store, from
+-- this place on.
+pub record IsEventFront (at : ℕ) (ledger store : List ℕ) (p : EventParts) : Type 0 where
+  pub record_is : ledger ≡ coded_record at p.event ++ p.ledger.now
+  pub run : store ≡ run_of p.event.what ++ p.store.now
+  pub codable : IsCodable at p.event
+  pub is_bare : bare_event p.event ≡ p.event
+
+-- No event's record and run are at the fronts of both files.
+abbrev pub HasNoEvent : ℕ → List ℕ → List ℕ → Type 0
+HasNoEvent at ledger store = (e : Event) (x y : List ℕ) → IsCodable at e → ledger ≡ coded_record at e ++ x → store ≡ run_of e.what ++ y → ⊥
