@@ -11,3 +11,4 @@ pub mod CheckLemmas
 pub mod KeptLemmas
 pub mod ApplyLemmas
 pub mod OpenLemmas
+pub mod ReadLemmas

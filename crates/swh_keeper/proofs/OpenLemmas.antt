@@ -20,7 +20,8 @@ use Rattle.swh_keeper.specs.Keeping.{all_written, AreSettledFor, IsKeeping}
 use Rattle.swh_keeper.proofs.KeptLemmas.{records-written, runs-written, runs-length}
 use Rattle.swh_keeper.proofs.EncodeLemmas.{record-length}
 
-records-length : (at : ℕ) (h : List Event) → length (coded_records at h) ≡ records_length h
+-- the records of a history are as long as the limits say
+pub records-length : (at : ℕ) (h : List Event) → length (coded_records at h) ≡ records_length h
 records-length at [] = refl
 records-length at (e ∷ h) =
     let one = record-length at e (coded_record at e ++ 0 ∷ []) refl in

@@ -1,6 +1,6 @@
 -- What follows from one outcome of a call.
 use Rattle.std.proofs.Common.{Result, Ok, Err, Option, Some, None}
-use Rattle.std.specs.Prelude.{OnOk, OnErr, IfOk, IfNone}
+use Rattle.std.specs.Prelude.{OnOk, OnErr, IfOk, IfErr, IfNone}
 
 pub on_ok : {T E : Type 0} (r : Result T E) {P Q : Type 0} → OnOk r P → (P → Q) → OnOk r Q
 on_ok (Ok x) h f = f h
@@ -14,3 +14,7 @@ pub if_ok_none : {T E : Type 0} (r : Result (Option T) E) {P Q : Type 0} → IfO
 if_ok_none (Ok None) h f = f h
 if_ok_none (Ok (Some x)) h f = tt
 if_ok_none (Err e) h f = tt
+
+pub if_err_all : {T E : Type 0} (r : Result T E) (P : E → Type 0) → ((e : E) → P e) → IfErr r P
+if_err_all (Ok x) P h = tt
+if_err_all (Err e) P h = h e

@@ -1,11 +1,17 @@
 -- How making and opening end.
-use Rattle.std.specs.Prelude.{◌≡◌, ◌⊎◌}
-use Rattle.swh_outside.specs.Files.{Files, FilesBreaks}
-use Rattle.swh_segment.specs.Making.{making_calls}
+use Rattle.std.specs.Prelude.{◌≡◌, ◌⊎◌, ℕ, List}
+use Rattle.swh_outside.specs.Files.{Files, FilesBreaks, files_done}
+use Rattle.swh_segment.specs.Making.{IsMade, barriers, making_calls}
 use Rattle.swh_segment.specs.declared.fault.MakeFault.{MakeFault}
 use Rattle.swh_segment.specs.declared.fault.MakeFault.TheVariants as make
+use Rattle.swh_segment.specs.declared.reading.ReadFileFault.{ReadFileFault}
+use Rattle.swh_segment.specs.declared.reading.ReadFileFault.TheVariants as read
+use Rattle.swh_base.specs.declared.kind.Kind.{Kind}
+use Rattle.swh_model.specs.declared.event.Event.{Event}
+use Rattle.swh_model.specs.Stands.{StandsFor}
+use Rattle.swh_model.specs.Step.{IsHistory}
 use Rattle.swh_keeper.specs.declared.opening.OpenWhy.{OpenWhy}
-use Rattle.swh_keeper.specs.declared.opening.OpenWhy.TheVariants.{Made, Damaged, DiskFault, Memory}
+use Rattle.swh_keeper.specs.declared.opening.OpenWhy.TheVariants.{Made, NotMade, Damaged, DiskFault, Memory}
 
 abbrev pub make_why : MakeFault → OpenWhy
 make_why make.Made = Made
@@ -26,3 +32,44 @@ IsOpenFault _ = ⊥
 -- none of the calls of a making was made, or those up to one that failed
 abbrev pub IsCutShort : Files → Files → Type 0
 IsCutShort old new = (new ≡ old) ⊎ FilesBreaks (making_calls (old 0).seen) old new
+
+abbrev pub read_why : ReadFileFault → OpenWhy
+read_why read.Disk = DiskFault
+read_why read.Memory = Memory
+
+-- two files are not read for one of these
+abbrev pub IsReadFault : OpenWhy → Type 0
+IsReadFault DiskFault = Unit {0}
+IsReadFault Memory = Unit {0}
+IsReadFault _ = ⊥
+
+-- what two files hold is refused for one of these
+abbrev pub IsBytesFault : OpenWhy → Type 0
+IsBytesFault NotMade = Unit {0}
+IsBytesFault Damaged = Unit {0}
+IsBytesFault Memory = Unit {0}
+IsBytesFault _ = ⊥
+
+-- an opening ends for one of these
+abbrev pub IsOpeningFault : OpenWhy → Type 0
+IsOpeningFault Made = ⊥
+IsOpeningFault _ = Unit {0}
+
+-- A barrier was made on each file; where a disk failed, perhaps one of them failed.
+abbrev pub IsLeftFor : OpenWhy → Files → Files → Type 0
+IsLeftFor DiskFault old new = FilesBreaks barriers old new ⊎ (new ≡ files_done barriers old)
+IsLeftFor _ old new = new ≡ files_done barriers old
+
+-- The files stand for no events at all.
+abbrev pub StandsForNone : List ℕ → List ℕ → Type 0
+StandsForNone ledger store = (h : List Event) → StandsFor ledger store h → ⊥
+
+module _ (id_of : Kind → List ℕ → List ℕ) where
+  -- The history is the one for which the files stand.
+  abbrev pub IsTheHistory : List ℕ → List ℕ → List Event → Type 0
+  IsTheHistory ledger store history = (h : List Event) → StandsFor ledger store h → IsHistory id_of h → history ≡ h
+
+  -- The ledger is made, and the files stand for no history.
+  pub record IsDamaged (ledger store : List ℕ) : Type 0 where
+    pub made : IsMade ledger
+    pub none : (h : List Event) → StandsFor ledger store h → IsHistory id_of h → ⊥

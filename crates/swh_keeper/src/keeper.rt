@@ -5,6 +5,7 @@ use crate::checking::{Checked, check_replay};
 use crate::fault::{Refusal, refusal_for};
 use crate::opening::{OpenFault, OpenWhy, why_not_made};
 use crate::plans::plan;
+use crate::reading::read_archive;
 use crate::replayed::Replayed;
 use crate::visits::OriginVisits;
 use std::alloc::Global;
@@ -39,21 +40,21 @@ impl<N: Namer, D: Disk> Model for Keeper<N, D> {
 }
 
 impl<N: Namer, D: Disk> Keeper<N, D> {
-    ghost use Rattle.std.specs.Prelude.{◌≡◌, ◌≤◌, None, IfSome, IfNone, MatchOption, OnOk, IfOk, IfErr, IsErrOf, []};
+    ghost use Rattle.std.specs.Prelude.{◌≡◌, ◌≤◌, None, IfSome, IfNone, MatchOption, MatchResult, OnOk, IfOk, IfErr, IsErrOf, []};
     ghost use Rattle.swh_segment.specs.Makes.{EitherRose};
     ghost use Rattle.swh_model.specs.Judge.{IsWish};
     ghost use Rattle.swh_keeper.specs.declared.fault.Refusal.TheVariants.{DiskFault};
     ghost use Rattle.swh_outside.specs.Files.{files_of, files_done};
-    ghost use Rattle.swh_segment.specs.Making.{IsMade, IsNotMade, making_calls};
+    ghost use Rattle.swh_segment.specs.Making.{IsMade, IsNotMade, barriers, making_calls};
     ghost use Rattle.std.specs.Prelude.{◌^◌};
     ghost use Rattle.swh_outside.specs.Disk.{IsAtRest};
     ghost use Rattle.swh_model.specs.Limits.{store_length, ledger_length};
     ghost use Rattle.swh_model.specs.Stands.{StandsFor, AreAlike};
     ghost use Rattle.swh_keeper.specs.Checked.{IsNoHistory};
-    ghost use Rattle.swh_keeper.specs.Opening.{IsMakeFault, IsOpenFault, IsCutShort};
-    ghost use Rattle.swh_keeper.specs.declared.opening.OpenWhy.TheVariants.{Made, Damaged, DiskFault as DiskFaulted};
+    ghost use Rattle.swh_keeper.specs.Opening.{IsMakeFault, IsOpenFault, IsOpeningFault, IsCutShort, IsLeftFor, IsTheHistory, IsDamaged};
+    ghost use Rattle.swh_keeper.specs.declared.opening.OpenWhy.TheVariants.{Made, NotMade, Damaged, DiskFault as DiskFaulted};
     ghost use Rattle.swh_model.specs.Archive.{body_of, visits_of};
-    ghost use Rattle.swh_model.specs.Step.{replay};
+    ghost use Rattle.swh_model.specs.Step.{IsHistory, replay};
     ghost use Rattle.swh_keeper.specs.Maps.{IsEntryOf};
     ghost use Rattle.swh_keeper.specs.Kept.{IsKept, Applies, Refuses};
     ghost use Rattle.swh_keeper.specs.Keeping.{IsCarriedOut, IsBrokenOff};
@@ -97,6 +98,37 @@ impl<N: Namer, D: Disk> Keeper<N, D> {
         }
     }
 
+    /// Opens an archive: a barrier on each file, then the history for which they stand, and its replay.
+    pub fn open(
+        alloc: Global,
+        namer: N,
+        mut store: D,
+        mut ledger: D,
+    ) -> Result<Keeper<N, D>, OpenFault<D>>
+        // Its history is the one for which the files stand.
+        ensures stand { D.tells → IfOk result (λ keeper. StandsFor (D.file ledger).seen (D.file store).seen keeper.history) }
+        ensures history { D.tells → IfOk result (λ keeper. IsTheHistory N.id_of (D.file ledger).seen (D.file store).seen keeper.history) }
+        ensures unwounded { IfOk result (λ keeper. keeper.wounded ≡ None) }
+        ensures made { D.tells → OnOk result (IsMade (D.file ledger).seen) }
+
+        // Nothing but a barrier on each file was done.
+        ensures calls { D.tells → IfOk result (λ keeper. files_of (D.file keeper.ledger) (D.file keeper.store) ≡ files_done barriers (files_of (D.file ledger) (D.file store))) }
+
+        ensures why { IfErr result (λ fault. IsOpeningFault fault.why) }
+        ensures not_made { D.tells → IfErr result (λ fault. fault.why ≡ NotMade → IsNotMade (D.file ledger).seen) }
+        ensures damaged { D.tells → IfErr result (λ fault. fault.why ≡ Damaged → IsDamaged N.id_of (D.file ledger).seen (D.file store).seen) }
+        ensures cause { IfErr result (λ fault. fault.why ≡ DiskFaulted → EitherRose (D.faults store) (D.faults fault.store) (D.faults ledger) (D.faults fault.ledger)) }
+        ensures left { D.tells → IfErr result (λ fault. IsLeftFor fault.why (files_of (D.file ledger) (D.file store)) (files_of (D.file fault.ledger) (D.file fault.store))) }
+
+        ensures store_later { MatchResult result (λ keeper. D.faults store ≤ D.faults keeper.store) (λ fault. D.faults store ≤ D.faults fault.store) }
+        ensures ledger_later { MatchResult result (λ keeper. D.faults ledger ≤ D.faults keeper.ledger) (λ fault. D.faults ledger ≤ D.faults fault.ledger) }
+    {
+        match read_archive(alloc, &mut store, &mut ledger) {
+            Ok(events) => Keeper::of_files(alloc, namer, store, ledger, events),
+            Err(why) => Err(OpenFault { why, store, ledger }),
+        }
+    }
+
     /// Opens an archive whose two files were read: nothing was written since a barrier, and they stand for these
     /// events, up to the kids of their entries. It is refused where the events are no history.
     pub fn of_files(
@@ -112,6 +144,7 @@ impl<N: Namer, D: Disk> Keeper<N, D> {
         requires store_fits { store_length events.items ≤ 2 ^ 62 }
         requires ledger_fits { ledger_length events.items ≤ 2 ^ 62 }
         ensures history { IfOk result (λ keeper. AreAlike keeper.history events.items) }
+        ensures checked { IfOk result (λ keeper. IsHistory N.id_of keeper.history) }
         ensures unwounded { IfOk result (λ keeper. keeper.wounded ≡ None) }
         ensures same { IfOk result (λ keeper. (keeper.store ≡ store) × (keeper.ledger ≡ ledger)) }
         ensures damaged { IfErr result (λ fault. fault.why ≡ Damaged → IsNoHistory N.id_of events.items) }

@@ -17,6 +17,7 @@ mod listing;
 mod opening;
 mod planning;
 mod plans;
+mod reading;
 mod remaking;
 mod replayed;
 mod visits;

@@ -1,9 +1,11 @@
 //! Why an archive is not opened or made.
 ghost use Rattle.std.specs.Prelude.{◌≡◌};
-ghost use Rattle.swh_keeper.specs.Opening.{make_why};
+ghost use Rattle.swh_keeper.specs.Opening.{make_why, read_why};
+ghost use Rattle.swh_keeper.specs.declared.opening.OpenWhy.TheVariants.{DiskFault, Memory as OutOfMemory};
 
-use swh_outside::Disk;
-use swh_segment::MakeFault;
+use swh_base::Memory;
+use swh_outside::{Disk, Failed};
+use swh_segment::{MakeFault, ReadFileFault};
 
 #[derive(Clone, Copy, Debug, PartialEq, Eq)]
 pub enum OpenWhy {
@@ -31,5 +33,32 @@ pub fn why_not_made(fault: MakeFault) -> OpenWhy
     match fault {
         MakeFault::Made => OpenWhy::Made,
         MakeFault::Disk => OpenWhy::DiskFault,
+    }
+}
+
+impl From<Failed> for OpenWhy {
+    ghost from_gives = { λ _ why. why ≡ DiskFault };
+
+    fn from(_: Failed) -> OpenWhy {
+        OpenWhy::DiskFault
+    }
+}
+
+impl From<Memory> for OpenWhy {
+    ghost from_gives = { λ _ why. why ≡ OutOfMemory };
+
+    fn from(_: Memory) -> OpenWhy {
+        OpenWhy::Memory
+    }
+}
+
+impl From<ReadFileFault> for OpenWhy {
+    ghost from_gives = { λ fault why. why ≡ read_why fault };
+
+    fn from(fault: ReadFileFault) -> OpenWhy {
+        match fault {
+            ReadFileFault::Disk => OpenWhy::DiskFault,
+            ReadFileFault::Memory => OpenWhy::Memory,
+        }
     }
 }
