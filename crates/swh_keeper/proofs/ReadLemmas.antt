@@ -1,5 +1,5 @@
 -- Two files after a barrier on each, and what they hold.
-use Rattle.std.proofs.Common.{◌≡◌, ◌≤◌, ℕ, ◌+◌, List, ◌∷◌, ◌++◌, length, length-append, refl, sym, ap, ◌∙◌, subst, arith, inr}
+use Rattle.std.proofs.Common.{◌≡◌, ◌≤◌, ℕ, ◌+◌, List, ◌∷◌, length, length-append, sym, ap, ◌∙◌, subst, arith, inr}
 use Rattle.swh_outside.specs.Disk.{File, Sync, IsAtRest, done}
 use Rattle.swh_outside.specs.Files.{Files, files_of, files_done}
 use Rattle.swh_outside.proofs.Images.{at_rest_done}

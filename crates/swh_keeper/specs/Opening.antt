@@ -55,7 +55,7 @@ abbrev pub IsOpeningFault : OpenWhy → Type 0
 IsOpeningFault Made = ⊥
 IsOpeningFault _ = Unit {0}
 
--- A barrier was made on each file; where a disk failed, perhaps one of them failed.
+-- A barrier was made on each file; where a disk failed, it may be that one of the two failed.
 abbrev pub IsLeftFor : OpenWhy → Files → Files → Type 0
 IsLeftFor DiskFault old new = FilesBreaks barriers old new ⊎ (new ≡ files_done barriers old)
 IsLeftFor _ old new = new ≡ files_done barriers old

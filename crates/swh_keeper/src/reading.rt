@@ -1,5 +1,5 @@
 //! The reading of an archive's two files.
-ghost use Rattle.std.specs.Prelude.{◌≡◌, ◌≤◌, ◌^◌, IsTrue, false, IfOk, OnOk, IfErr, IsErrOf, map};
+ghost use Rattle.std.specs.Prelude.{◌≡◌, ◌≤◌, ◌^◌, IsTrue, false, IfOk, OnOk, IfErr, IsErrOf};
 ghost use Rattle.swh_outside.specs.Files.{files_of, files_done};
 ghost use Rattle.swh_segment.specs.Makes.{EitherRose};
 ghost use Rattle.swh_segment.specs.Making.{IsMade, IsNotMade, barriers};
@@ -22,11 +22,7 @@ struct BothFiles {
 }
 
 // A barrier on each file, and then what they hold.
-fn read_files<D: Disk>(
-    alloc: Global,
-    store: &mut D,
-    ledger: &mut D,
-) -> Result<BothFiles, OpenWhy>
+fn read_files<D: Disk>(alloc: Global, store: &mut D, ledger: &mut D) -> Result<BothFiles, OpenWhy>
     ensures ledger_bytes { D.tells → IfOk result (λ files. files.ledger.items ≡ (D.file ledger.old).seen) }
     ensures store_bytes { D.tells → IfOk result (λ files. files.store.items ≡ (D.file store.old).seen) }
     ensures calls { D.tells → OnOk result (files_of (D.file ledger.new) (D.file store.new) ≡ files_done barriers (files_of (D.file ledger.old) (D.file store.old))) }

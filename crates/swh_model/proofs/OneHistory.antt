@@ -1,5 +1,5 @@
 -- Histories that are the same up to the kids are the same, since a body has one list of kids.
-use Rattle.std.proofs.Common.{◌≡◌, ℕ, List, [], ◌∷◌, map, refl, sym, ap, subst}
+use Rattle.std.proofs.Common.{◌≡◌, ℕ, List, [], ◌∷◌, map, refl, ap, subst}
 use Rattle.std.specs.List.{AllByRecursion}
 use Rattle.swh_base.specs.declared.kind.Kind.{Kind}
 use Rattle.swh_base.specs.declared.name.Name.{Name}
@@ -11,7 +11,7 @@ use Rattle.swh_model.specs.declared.event.EventKind.{EventKind}
 use Rattle.swh_model.specs.declared.event.EventKind.TheVariants.{Batch, Open, Mark}
 use Rattle.swh_model.specs.Archive.{Archive, empty_archive}
 use Rattle.swh_model.specs.Stands.{bare, bare_kind, bare_event, AreAlike}
-use Rattle.swh_model.specs.Step.{IsGood, IsGoodAndNamed, May_kind, MayAll, IsHistory, after}
+use Rattle.swh_model.specs.Step.{IsGoodAndNamed, May_kind, MayAll, IsHistory, after}
 
 module _ (id_of : Kind → List ℕ → List ℕ) where
   one_entry : (e f : Entry) → bare e ≡ bare f → IsGoodAndNamed id_of e → IsGoodAndNamed id_of f → e ≡ f

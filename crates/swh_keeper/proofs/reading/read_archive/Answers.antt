@@ -1,4 +1,4 @@
-use Rattle.std.proofs.Common.{◌≡◌, ◌∙◌, ap, sym, subst, List, ℕ}
+use Rattle.std.proofs.Common.{◌∙◌, subst, List, ℕ}
 use Rattle.swh_segment.specs.Making.{IsMade}
 use Rattle.swh_keeper.specs.Opening.{StandsForNone}
 use Rattle.swh_keeper.proofs.Results.{if_err_all}

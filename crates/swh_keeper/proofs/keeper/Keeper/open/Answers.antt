@@ -1,14 +1,10 @@
 use Rattle.std.proofs.Common.{rules, ◌≡◌, ◌∙◌, sym, subst, List, ℕ}
-use Rattle.swh_outside.specs.Disk.{File}
 use Rattle.swh_outside.specs.Files.{files_of, files_done}
 use Rattle.swh_segment.specs.Making.{barriers}
 use Rattle.swh_model.specs.Stands.{StandsFor, AreAlike}
 use Rattle.swh_model.specs.Step.{IsHistory}
 use Rattle.swh_keeper.specs.Kept.{Kept}
-use Rattle.swh_keeper.specs.Checked.{IsNoHistory}
-use Rattle.swh_keeper.specs.Opening.{IsTheHistory, IsDamaged}
-use Rattle.swh_keeper.specs.declared.opening.OpenWhy.{OpenWhy}
-use Rattle.swh_keeper.specs.declared.opening.OpenWhy.TheVariants.{Damaged}
+use Rattle.swh_keeper.specs.Opening.{IsTheHistory}
 use Rattle.swh_keeper.proofs.Results.{if_ok_then, if_ok_both, if_err_then}
 use Rattle.swh_keeper.proofs.OpenLemmas.{alike_stands}
 use Rattle.swh_keeper.proofs.ReadLemmas.{ledger_seen, store_seen, ledger_rests, store_rests, left_settled, damaged_events, damaged_bytes, the_one}
