@@ -12,9 +12,9 @@ mod reading;
 mod writing;
 
 pub use entries::Entries;
-pub use entry::DirEntry;
+pub use entry::{DirEntry, SpelledEntry};
 pub use fault::{BadDir, DirWhy, ReadDirFault, one_fault};
-pub use reading::read_dir;
+pub use reading::{read_dir, spelled_dir};
 pub use writing::{one_spelling, write_dir};
 
 #[cfg(test)]

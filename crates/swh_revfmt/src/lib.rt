@@ -14,8 +14,8 @@ mod revision;
 
 pub use fault::{BadRel, BadRev, ReadRelFault, ReadRevFault, one_fault};
 pub use plain::{PlainRel, PlainRev, plain_rel, plain_rev};
-pub use release::{Rel, read_rel, write_rel};
-pub use revision::{Rev, read_rev, write_rev};
+pub use release::{Rel, SpelledRel, read_rel, spelled_rel, write_rel};
+pub use revision::{Rev, SpelledRev, read_rev, spelled_rev, write_rev};
 
 #[cfg(test)]
 mod tests;

@@ -12,10 +12,10 @@ mod reading;
 mod target;
 mod writing;
 
-pub use branch::{Branch, Target};
+pub use branch::{Branch, SpelledBranch, SpelledTarget, Target};
 pub use branches::Branches;
 pub use fault::{BadSnp, ReadSnpFault, one_fault};
-pub use reading::read_snp;
+pub use reading::{read_snp, spelled_snp};
 pub use writing::{one_spelling, write_snp};
 
 #[cfg(test)]
