@@ -5,7 +5,10 @@ use std::test::Fail;
 use swh_base::{ByteNamer, Kind, Name, Sha1Namer};
 
 fn make(alloc: Global, kind: Kind, body: &[u8]) -> Result<Object<Sha1Namer>, ObjectFault> {
-    Object::make(alloc, &Sha1Namer, kind, Vec::from_slice(alloc, body)?)
+    let Ok(body) = Vec::from_slice(alloc, body) else {
+        return Err(ObjectFault::Memory);
+    };
+    Object::make(alloc, &Sha1Namer, kind, body)
 }
 
 fn expect_name(rt: &impl Abort, object: &Object<Sha1Namer>, kind: Kind, id: &[u8]) {
