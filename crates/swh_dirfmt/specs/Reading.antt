@@ -3,12 +3,7 @@ use Rattle.std.specs.Prelude.{◌≡◌, ℕ, List, Result, Ok, Err}
 use Rattle.swh_base.specs.Directory.{Entry}
 use Rattle.swh_dirfmt.specs.declared.fault.ReadDirFault.{ReadDirFault}
 use Rattle.swh_dirfmt.specs.declared.fault.ReadDirFault.TheVariants.{Memory, Bad}
-use Rattle.swh_dirfmt.specs.declared.front.Spelled.{Spelled}
 use Rattle.swh_dirfmt.specs.Fault.{IsFault}
-
--- an entry as it stands in a body
-abbrev pub entry_of : Spelled → Entry
-entry_of x = record { mode = x.mode; name = x.name.now; id = x.id }
 
 -- It is the body's first fault, unless memory ran out.
 abbrev pub Explains : List ℕ → ReadDirFault → Type 0

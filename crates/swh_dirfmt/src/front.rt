@@ -1,29 +1,13 @@
 //! The entry that bytes begin with, cut off part by part.
 
-ghost use Rattle.std.specs.Prelude.{◌≡◌, ◌≢◌, ◌↔◌, List, [], ◌∷◌, ◌++◌, ℕ, Contains, IsTrue, IfOk, IfErr, IfSome, IfNone, decimal};
+ghost use Rattle.std.specs.Prelude.{◌≡◌, ◌≢◌, ◌↔◌, List, [], ◌++◌, ℕ, Contains, IsTrue, IfOk, IfErr, IfSome, IfNone, decimal};
 ghost use Rattle.swh_base.specs.Directory.{Entry, IsMode, IsEntryName, IsEntry, entry_text};
 ghost use Rattle.swh_dirfmt.specs.Fault.{Breaks};
-ghost use Rattle.swh_dirfmt.specs.Reading.{entry_of};
+ghost use Rattle.swh_dirfmt.specs.Entries.{entry_of};
 
+use crate::entry::SpelledEntry;
 use crate::fault::DirWhy;
-
-/// An entry as it stands in a body, and the bytes after it.
-#[derive(Drop)]
-pub struct Spelled<'a> {
-    pub mode: u32,
-    pub name: &'a [u8],
-    pub id: [u8; 20],
-    pub rest: &'a [u8],
-}
-
-/// What stands before the first of a byte, and what after it.
-fn split_at_byte(bytes: &[u8], stop: u8) -> Option<(&[u8], &[u8])>
-    ensures some { IfSome result (λ x. (Contains x.0.now stop → ⊥) × (bytes.now ≡ x.0.now ++ stop ∷ x.1.now)) }
-    ensures none { IfNone result (Contains bytes.now stop → ⊥) }
-{
-    let end = bytes.iter().position(|byte| *byte == stop)?;
-    Some((&bytes[..end], &bytes[end + 1..]))
-}
+use swh_pieces::split_at_byte;
 
 /// The mode of these digits.
 #[tactic(auto, using(crate::proofs::Modes::modes))]
@@ -53,10 +37,10 @@ fn is_name(name: &[u8]) -> bool
     !name.is_empty() && !name.contains(&b'/')
 }
 
-/// The entry at the front of these bytes.
-pub fn front_entry(bytes: &[u8]) -> Result<Spelled<'_>, DirWhy>
+/// The entry at the front of these bytes, and the bytes after it.
+pub fn front_entry(bytes: &[u8]) -> Result<(SpelledEntry<'_>, &[u8]), DirWhy>
     requires { bytes.now ≢ [] }
-    ensures ok { IfOk result (λ x. IsEntry (entry_of x) × (bytes.now ≡ entry_text (entry_of x) ++ x.rest.now)) }
+    ensures ok { IfOk result (λ x. IsEntry (entry_of x.0) × (bytes.now ≡ entry_text (entry_of x.0) ++ x.1.now)) }
     // Whatever entries stand before it, it breaks by its mode, its name or its id.
     ensures err { IfErr result (λ why. (before : List Entry) → Breaks before bytes.now why) }
 {
@@ -75,10 +59,5 @@ pub fn front_entry(bytes: &[u8]) -> Result<Spelled<'_>, DirWhy>
     let Some((id, rest)) = rest.split_first_chunk::<20>() else {
         return Err(DirWhy::Short);
     };
-    Ok(Spelled {
-        mode,
-        name,
-        id: *id,
-        rest,
-    })
+    Ok((SpelledEntry { mode, name, id }, rest))
 }

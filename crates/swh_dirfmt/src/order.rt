@@ -5,11 +5,9 @@ ghost use Rattle.std.specs.List.{AllWithin};
 ghost use Rattle.std.specs.Ordering.{nat_cmp, is_lt};
 ghost use Rattle.std.specs.Cmp.Lexicographic.{slice_cmp};
 ghost use Rattle.swh_base.specs.Directory.{IsAfter, AreEntries, suffix_of};
-ghost use Rattle.swh_dirfmt.specs.Entries.{views, comes_before};
-ghost use Rattle.swh_dirfmt.specs.Reading.{entry_of};
+ghost use Rattle.swh_dirfmt.specs.Entries.{entry_of, entries_of, comes_before};
 
-use crate::entry::DirEntry;
-use crate::front::Spelled;
+use crate::entry::SpelledEntry;
 
 /// What a name is compared with behind it.
 fn suffix(mode: u32) -> &'static [u8]
@@ -27,8 +25,8 @@ fn is_before(mode: u32, name: &[u8], next_mode: u32, next_name: &[u8]) -> bool
 }
 
 /// How many of the entries, which ascend, come before this name.
-fn count_before(entries: &[DirEntry], mode: u32, name: &[u8]) -> usize
-    requires { AreEntries (views entries.now) }
+fn count_before(entries: &[SpelledEntry<'_>], mode: u32, name: &[u8]) -> usize
+    requires { AreEntries (entries_of entries.now) }
     ensures before { AllWithin (λ e. comes_before (name.now ++ suffix_of mode) e ≡ true) entries.now 0 result }
     ensures others { AllWithin (λ e. comes_before (name.now ++ suffix_of mode) e ≡ false) entries.now result (length entries.now) }
 {
@@ -37,7 +35,7 @@ fn count_before(entries: &[DirEntry], mode: u32, name: &[u8]) -> usize
     'halves: while low < high {
         let middle = low + (high - low) / 2;
         let entry = &entries[middle];
-        if is_before(entry.mode, entry.name.as_slice(), mode, name) {
+        if is_before(entry.mode, entry.name, mode, name) {
             low = middle + 1;
         } else {
             high = middle;
@@ -47,21 +45,21 @@ fn count_before(entries: &[DirEntry], mode: u32, name: &[u8]) -> usize
 }
 
 /// Whether one of the entries, which ascend, has this name and is ordered as this mode is.
-fn has_name(entries: &[DirEntry], mode: u32, name: &[u8]) -> bool
-    requires { AreEntries (views entries.now) }
-    ensures found { IsTrue result → All (λ e. e.name ≢ name.now) entries.now → ⊥ }
-    ensures none { (IsTrue result → ⊥) → All (λ e. suffix_of e.mode ≡ suffix_of mode → e.name ≢ name.now) entries.now }
+fn has_name(entries: &[SpelledEntry<'_>], mode: u32, name: &[u8]) -> bool
+    requires { AreEntries (entries_of entries.now) }
+    ensures found { IsTrue result → All (λ e. e.name.now ≢ name.now) entries.now → ⊥ }
+    ensures none { (IsTrue result → ⊥) → All (λ e. suffix_of e.mode ≡ suffix_of mode → e.name.now ≢ name.now) entries.now }
 {
     match entries.get(count_before(entries, mode, name)) {
-        Some(entry) => entry.name.as_slice() == name,
+        Some(entry) => entry.name == name,
         None => false,
     }
 }
 
 /// Whether no entry has this name, neither as a file nor as a folder. Two searches find it, since the entries ascend.
-pub fn is_fresh(before: &[DirEntry], name: &[u8]) -> bool
-    requires { AreEntries (views before.now) }
-    ensures { IsTrue result ↔ All (λ other. other.name ≢ name.now) before.now }
+pub fn is_fresh(before: &[SpelledEntry<'_>], name: &[u8]) -> bool
+    requires { AreEntries (entries_of before.now) }
+    ensures { IsTrue result ↔ All (λ other. other.name.now ≢ name.now) before.now }
 {
     let file = has_name(before, 100_644, name);
     let folder = has_name(before, 40_000, name);
@@ -69,12 +67,12 @@ pub fn is_fresh(before: &[DirEntry], name: &[u8]) -> bool
 }
 
 /// Whether this entry comes after all of the entries.
-pub fn is_after(before: &[DirEntry], next: &Spelled<'_>) -> bool
-    requires { AreEntries (views before.now) }
-    ensures { IsTrue result ↔ IsAfter (views before.now) (entry_of next.now) }
+pub fn is_after(before: &[SpelledEntry<'_>], next: &SpelledEntry<'_>) -> bool
+    requires { AreEntries (entries_of before.now) }
+    ensures { IsTrue result ↔ IsAfter (entries_of before.now) (entry_of next.now) }
 {
     match before.last() {
-        Some(last) => is_before(last.mode, last.name.as_slice(), next.mode, next.name),
+        Some(last) => is_before(last.mode, last.name, next.mode, next.name),
         None => true,
     }
 }

@@ -22,5 +22,7 @@ listed None = refl
 listed (Some x) = refl
 
 -- with one more
-pub filter_map-more : {X Y : Type 0} (f : X → Option Y) (xs : List X) (i : ℕ) (x : X) → i < length xs → x ≡ get_or xs i x → filter_map f (take (i + 1) xs) ≡ filter_map f (take i xs) ++ option_to_list (f x)
-filter_map-more f xs i x l e = ap (filter_map f) (take_more xs i x l ∙ ap (λ y. take i xs ++ y ∷ []) (sym e)) ∙ filter_map-push f (take i xs) x ∙ ap (λ ys. filter_map f (take i xs) ++ ys) (listed (f x))
+pub filter_map-more : {X Y : Type 0} (f : X → Option Y) (xs : List X) (i : ℕ) (d : X) (old new : List Y) → i < length xs → old ≡ filter_map f (take i xs) → new ≡ old ++ option_to_list (f (get_or xs i d)) → new ≡ filter_map f (take (i + 1) xs)
+filter_map-more f xs i d old new l so_far more =
+    let last = get_or xs i d in
+    more ∙ ap (λ ys. ys ++ option_to_list (f last)) so_far ∙ ap (λ ys. filter_map f (take i xs) ++ ys) (sym (listed (f last))) ∙ sym (ap (filter_map f) (take_more xs i d l) ∙ filter_map-push f (take i xs) last)

@@ -8,12 +8,12 @@ use Rattle.swh_base.specs.Limits.{body_limit}
 use Rattle.swh_base.specs.Directory.{kid_of}
 use Rattle.swh_base.specs.Snapshot.{branch_kid}
 use Rattle.swh_base.specs.Manifest.{AreKids}
-use Rattle.swh_dirfmt.specs.declared.entry.DirEntry.{DirEntry}
+use Rattle.swh_dirfmt.specs.declared.entry.SpelledEntry.{SpelledEntry}
 use Rattle.swh_dirfmt.specs.declared.fault.DirWhy.{DirWhy}
 use Rattle.swh_dirfmt.specs.Entries as entries
 use Rattle.swh_dirfmt.specs.Fault as directory
 use Rattle.swh_revfmt.specs.Fault as revision
-use Rattle.swh_snpfmt.specs.declared.branch.Branch.{Branch}
+use Rattle.swh_snpfmt.specs.declared.branch.SpelledBranch.{SpelledBranch}
 use Rattle.swh_snpfmt.specs.Branches as branches
 use Rattle.swh_snpfmt.specs.Fault as snapshot
 use Rattle.swh_object.specs.declared.fault.ObjectFault.{ObjectFault}
@@ -25,11 +25,11 @@ pub record IsObject (id_of : Kind → List ℕ → List ℕ) (e : Entry) : Type 
   pub named : e.name.id ≡ id_of e.name.kind e.body
   pub short : length e.body ≤ body_limit
 
-abbrev pub directory_kid : DirEntry → Option Name
-directory_kid e = kid_of (entries.view e)
+abbrev pub directory_kid : SpelledEntry → Option Name
+directory_kid e = kid_of (entries.entry_of e)
 
-abbrev pub snapshot_kid : Branch → Option Name
-snapshot_kid b = branch_kid (branches.view b)
+abbrev pub snapshot_kid : SpelledBranch → Option Name
+snapshot_kid b = branch_kid (branches.branch_of b)
 
 -- The reader of this kind refuses the body at this place.
 abbrev pub IsBadBody : Kind → List ℕ → ℕ → Type 0

@@ -1,4 +1,4 @@
-use std::alloc::{AllocError, AllocFailed};
+use std::alloc::AllocFailed;
 use swh_base::Memory;
 
 /// Why there is no object.
@@ -18,14 +18,6 @@ impl From<Memory> for ObjectFault {
     ghost from_gives = { λ _ e. e ≡ OutOfMemory };
 
     fn from(_e: Memory) -> ObjectFault {
-        ObjectFault::Memory
-    }
-}
-
-impl From<AllocError> for ObjectFault {
-    ghost from_gives = { λ _ e. e ≡ OutOfMemory };
-
-    fn from(_e: AllocError) -> ObjectFault {
         ObjectFault::Memory
     }
 }

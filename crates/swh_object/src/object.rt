@@ -31,7 +31,7 @@ impl<N: Namer> Object<N> {
     ghost use Rattle.swh_base.specs.Manifest.{AreKids, IsWellFormed};
     ghost use Rattle.swh_object.specs.Object.{IsObject, IsMade, Explains};
 
-    /// The object of this kind and body.
+    /// The object of this kind and body. The body is not copied.
     pub fn make(
         alloc: Global,
         namer: &N,

@@ -5,11 +5,47 @@ use std::test::Fail;
 use swh_base::{ByteNamer, Kind, Name, Sha1Namer};
 
 fn make(alloc: Global, kind: Kind, body: &[u8]) -> Result<Object<Sha1Namer>, ObjectFault> {
-    Object::make(alloc, &Sha1Namer, kind, Vec::from_slice(alloc, body)?)
+    let Ok(body) = Vec::from_slice(alloc, body) else {
+        return Err(ObjectFault::Memory);
+    };
+    Object::make(alloc, &Sha1Namer, kind, body)
 }
 
 fn expect_name(rt: &impl Abort, object: &Object<Sha1Namer>, kind: Kind, id: &[u8]) {
     assert!(rt; Name::from_hex(kind, id) == Some(object.name()));
+}
+
+/// The names that git's and Software Heritage's documents print.
+#[test]
+fn published_names(rt: HostRuntime) -> Result<(), Fail> {
+    let table = [
+        (
+            Kind::Content,
+            b"".as_slice(),
+            b"e69de29bb2d1d6434b8b29ae775ad8c2e48c5391".as_slice(),
+        ),
+        (
+            Kind::Content,
+            b"version 1\n".as_slice(),
+            b"83baae61804e65cc73a7201a7252750c76066a30".as_slice(),
+        ),
+        (
+            Kind::Directory,
+            b"".as_slice(),
+            b"4b825dc642cb6eb9a060e54bf8d69288fbee4904".as_slice(),
+        ),
+        (
+            Kind::Snapshot,
+            b"".as_slice(),
+            b"1a8893e6a86f444e8be8e7bda6cb34fb1735a00e".as_slice(),
+        ),
+    ];
+    for (kind, body, id) in table {
+        let object = make(rt.alloc(), kind, body)?;
+        expect_name(&rt, &object, kind, id);
+        assert_eq!(rt; object.children().len(), 0);
+    }
+    Ok(())
 }
 
 /// The entry `100644 test.txt` of the content `version 1`: its name is published.
@@ -49,23 +85,23 @@ fn children_of_directories(rt: HostRuntime) -> Result<(), Fail> {
     Ok(())
 }
 
-/// The directory first, then the parents.
+/// The directory first, then the parents; git made the merge.
 #[test]
 fn children_of_revisions(rt: HostRuntime) -> Result<(), Fail> {
     let body =
-        b"tree d8329fc1cc938780ffdd9f94e0d364e0ea74f579\nparent a9b2bbc66d0749863c83dbfd569697c8dadd1365\nparent 8fe8674b111dd6eab36ed92ec3c21204d9020743\nauthor A <a@e.org> 1000000000 +0000\ncommitter A <a@e.org> 1000000000 +0000\n\nmerge\n";
+        b"tree d8329fc1cc938780ffdd9f94e0d364e0ea74f579\nparent 94dfee1c055489e7b626a9454f7580b2f2e51181\nparent 0c530490cf162c594c24157a0000994e71fc8515\nauthor A <a@e.org> 1000000000 +0000\ncommitter A <a@e.org> 1000000000 +0000\n\nmerge\n";
     let object = make(rt.alloc(), Kind::Revision, body)?;
     expect_name(
         &rt,
         &object,
         Kind::Revision,
-        b"49832f3a1627ad216dbb2266277d7b50050e8422",
+        b"f613210bc69a8fe1693e4e54c06d78cd5b6285b6",
     );
     let children = object.children();
     assert_eq!(rt; children.len(), 3);
     let directory = Name::from_hex(Kind::Directory, b"d8329fc1cc938780ffdd9f94e0d364e0ea74f579");
     assert!(rt; directory == Some(children[0]));
-    let last = Name::from_hex(Kind::Revision, b"8fe8674b111dd6eab36ed92ec3c21204d9020743");
+    let last = Name::from_hex(Kind::Revision, b"0c530490cf162c594c24157a0000994e71fc8515");
     assert!(rt; last == Some(children[2]));
     Ok(())
 }
@@ -73,15 +109,15 @@ fn children_of_revisions(rt: HostRuntime) -> Result<(), Fail> {
 #[test]
 fn children_of_releases_and_snapshots(rt: HostRuntime) -> Result<(), Fail> {
     let tag =
-        b"object 7af3b266f445780f1e87fe1ac909caee6b378daf\ntype tag\ntag v1-again\ntagger A <a@e.org> 1000000000 +0000\n\nof a tag\n";
+        b"object 330558e4309943d7e0eaa2b15fc9fdca6a21bb22\ntype tag\ntag v1-again\ntagger A <a@e.org> 1000000000 +0000\n\nof a tag\n";
     let release = make(rt.alloc(), Kind::Release, tag)?;
     expect_name(
         &rt,
         &release,
         Kind::Release,
-        b"9c59aa7a4d1e8d2c77793bdd0099c130c86538ab",
+        b"210fc6c153174a5ff5b1071611d66c0373af50c9",
     );
-    let child = Name::from_hex(Kind::Release, b"7af3b266f445780f1e87fe1ac909caee6b378daf");
+    let child = Name::from_hex(Kind::Release, b"330558e4309943d7e0eaa2b15fc9fdca6a21bb22");
     assert_eq!(rt; release.children().len(), 1);
     assert!(rt; child == Some(release.children()[0]));
     let branches = b"alias HEAD\x001:adangling a\x000:release b\x0020:bbbbbbbbbbbbbbbbbbbb";

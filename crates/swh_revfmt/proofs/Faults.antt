@@ -1,5 +1,5 @@
 -- Faults of whole bodies.
-use Rattle.std.proofs.Common.{◌≡◌, ◌≢◌, ℕ, suc, ◌+◌, ◌-◌, inl, inr, List, [], ◌∷◌, ◌++◌, length, take, drop, Contains, Result, Ok, Err, refl, sym, ap, ◌∙◌, subst, arith, append_assoc, length-append, codes}
+use Rattle.std.proofs.Common.{◌≡◌, ◌≢◌, ℕ, ◌+◌, ◌-◌, inl, inr, List, [], ◌∷◌, ◌++◌, length, take, drop, Contains, Result, Ok, Err, refl, sym, ap, ◌∙◌, subst, arith, append_assoc, length-append, codes}
 use Rattle.std.specs.Prelude.{IfOk, IfErr}
 use Rattle.std.specs.List.{flat_map}
 use Rattle.std.proofs.Math.Seq.{take-append-add}
@@ -13,6 +13,7 @@ use Rattle.swh_base.specs.Release.{Release, release_text, IsRelease}
 use Rattle.swh_base.specs.Manifest.{IsWellFormed}
 use Rattle.swh_base.proofs.HexLines.{one_line}
 use Rattle.swh_base.proofs.RevisionLemmas.{one_revision, one_release}
+use Rattle.swh_pieces.proofs.Middle.{in_middle}
 use Rattle.swh_revfmt.specs.declared.revision.Rev.{Rev}
 use Rattle.swh_revfmt.specs.declared.release.Rel.{Rel}
 use Rattle.swh_revfmt.specs.declared.fault.ReadRevFault.{ReadRevFault}
@@ -117,10 +118,6 @@ type_fault id rest n is p =
           p.longest k r.object.kind h.more (r.tag ++ 10 ∷ r.rest) (omega arith) (omega (arith, length-append line rest)) kids.is.no_snapshot
           (behind_line id (take k rest ++ h.more) is (take m (line ++ rest) ++ h.more) cut r kids.is);
     }
-
-in_middle : (a x : List ℕ) (s : ℕ) → Contains (a ++ s ∷ x) s
-in_middle [] x s = (0, omega arith, refl)
-in_middle (c ∷ a) x s = let h = in_middle a x s in let l = h.1 in (suc h.0, omega (arith, l), h.2)
 
 -- the tag's line does not end
 pub tag_fault : (body id rest : List ℕ) (kind : Kind) → IsId id → kind ≢ Snapshot → body ≡ id_line (codes "object ") id ++ (type_text kind ++ rest) → (Contains rest 10 → ⊥) → IsFault ReleaseKind body (length body)

@@ -1,18 +1,15 @@
 -- Persons, cut at their first `<` and `>`, and dates, cut at their spaces.
-use Rattle.std.proofs.Common.{◌≡◌, ℕ, suc, Bool, true, false, List, [], ◌∷◌, ◌++◌, Option, Some, None, Contains, refl, sym, ap, ◌∙◌, subst, arith}
+use Rattle.std.proofs.Common.{◌≡◌, ℕ, Bool, true, false, List, [], ◌∷◌, ◌++◌, Option, Some, None, Contains, refl, sym, ap, ◌∙◌, subst}
 use Rattle.std.specs.List.{AllPass}
 use Rattle.std.proofs.lemmas.List.Elements.{All-contains}
 use Rattle.swh_base.specs.Text.{IsPerson, is_person_byte, is_digit, named}
 use Rattle.swh_base.proofs.Splits.{first_split, not_nil}
+use Rattle.swh_pieces.proofs.Middle.{in_middle}
 use Rattle.swh_revfmt.specs.Plain.{IsNamed, IsZone, IsSeconds, IsDate}
 
 -- what a test refuses is not among what passes it
 pub lacks : (p : ℕ → Bool) (xs : List ℕ) (s : ℕ) → p s ≡ false → AllPass p xs → Contains xs s → ⊥
 lacks p xs s never all h = let yes : p s ≡ true = All-contains (λ x. p x ≡ true) xs s all h in absurd cc
-
-pub in_middle : (a x : List ℕ) (s : ℕ) → Contains (a ++ s ∷ x) s
-in_middle [] x s = (0, omega arith, refl)
-in_middle (c ∷ a) x s = let h = in_middle a x s in let l = h.1 in (suc h.0, omega (arith, l), h.2)
 
 -- a date's parts are what stands before and behind its space
 pub record DateParts (seconds zone : List ℕ) : Type 0 where

@@ -8,19 +8,27 @@ use Rattle.swh_base.specs.Name.{is_lower_hex_digit, IsId}
 use Rattle.swh_base.specs.Revision.{Revision, id_line}
 use Rattle.swh_base.specs.Release.{Release}
 use Rattle.swh_revfmt.specs.declared.revision.Rev.{Rev}
+use Rattle.swh_revfmt.specs.declared.revision.SpelledRev.{SpelledRev}
 use Rattle.swh_revfmt.specs.declared.release.Rel.{Rel}
+use Rattle.swh_revfmt.specs.declared.release.SpelledRel.{SpelledRel}
 use Rattle.swh_revfmt.specs.declared.fault.ReadRevFault.{ReadRevFault}
 use Rattle.swh_revfmt.specs.declared.fault.ReadRevFault.TheVariants.{Memory as RevMemory, Bad as RevBad}
 use Rattle.swh_revfmt.specs.declared.fault.ReadRelFault.{ReadRelFault}
 use Rattle.swh_revfmt.specs.declared.fault.ReadRelFault.TheVariants.{Memory as RelMemory, Bad as RelBad}
 use Rattle.swh_revfmt.specs.Fault.{IsFault}
 
--- The parts without where they lie in memory.
+-- The parts without where they lie: in memory of their own, or in a body.
 abbrev pub revision_of : Rev → Revision
 revision_of rev = record { directory = rev.directory; parents = rev.parents; rest = rev.rest }
 
 abbrev pub release_of : Rel → Release
 release_of rel = record { object = rel.object; tag = rel.tag; rest = rel.rest }
+
+abbrev pub revision_spelled : SpelledRev → Revision
+revision_spelled rev = record { directory = rev.directory; parents = rev.parents; rest = rev.rest.now }
+
+abbrev pub release_spelled : SpelledRel → Release
+release_spelled rel = record { object = rel.object; tag = rel.tag.now; rest = rel.rest.now }
 
 -- The bytes begin with no line of this word and an id.
 abbrev pub NotLine : List ℕ → List ℕ → Type 0

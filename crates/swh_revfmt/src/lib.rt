@@ -1,5 +1,5 @@
 //! Revision and release manifests (git objects, commit and tag): read into their parts, and written again, byte for byte.
-//! Stands on `swh_base`, whose grammars of revisions and releases it reads and writes.
+//! Stands on `swh_base`, whose grammars of revisions and releases it reads and writes, and on `swh_pieces`.
 //! Above it may rely on: exactly the grammars are read, and a refusal tells how far the bytes go that some body continues.
 #![tactic(auto)]
 
@@ -14,8 +14,8 @@ mod revision;
 
 pub use fault::{BadRel, BadRev, ReadRelFault, ReadRevFault, one_fault};
 pub use plain::{PlainRel, PlainRev, plain_rel, plain_rev};
-pub use release::{Rel, read_rel, write_rel};
-pub use revision::{Rev, read_rev, write_rev};
+pub use release::{Rel, SpelledRel, read_rel, spelled_rel, write_rel};
+pub use revision::{Rev, SpelledRev, read_rev, spelled_rev, write_rev};
 
 #[cfg(test)]
 mod tests;

@@ -1,28 +1,12 @@
-//! Lines of a word and an id, and what stands before the first of a byte.
+//! Lines of a word and an id.
 
-ghost use Rattle.std.specs.Prelude.{◌≡◌, ℕ, List, [], ◌∷◌, ◌++◌, Contains, IfSome, IfNone};
+ghost use Rattle.std.specs.Prelude.{◌≡◌, [], ◌++◌, IfSome, IfNone};
 ghost use Rattle.swh_base.specs.Name.{IsId};
 ghost use Rattle.swh_base.specs.Revision.{id_line};
 ghost use Rattle.swh_revfmt.specs.Reading.{NotLine};
 
 use swh_base::{Kind, Name};
-
-/// What stands before the first of a byte, and what after it.
-pub fn split_at_byte(bytes: &[u8], stop: u8) -> Option<(&[u8], &[u8])>
-    ensures some { IfSome result (λ x. (Contains x.0.now stop → ⊥) × (bytes.now ≡ x.0.now ++ stop ∷ x.1.now)) }
-    ensures none { IfNone result (Contains bytes.now stop → ⊥) }
-{
-    let end = bytes.iter().position(|byte| *byte == stop)?;
-    Some((&bytes[..end], &bytes[end + 1..]))
-}
-
-/// What follows these bytes at the front of others.
-pub fn behind<'a>(front: &[u8], bytes: &'a [u8]) -> Option<&'a [u8]>
-    ensures some { IfSome result (λ rest. bytes.now ≡ front.now ++ rest.now) }
-    ensures none { IfNone result ((rest : List ℕ) → bytes.now ≡ front.now ++ rest → ⊥) }
-{
-    bytes.strip_prefix(front)
-}
+use swh_pieces::behind;
 
 /// The id of a line, and the bytes after the line.
 #[derive(Drop)]

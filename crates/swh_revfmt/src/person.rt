@@ -5,7 +5,7 @@ ghost use Rattle.std.specs.List.{AllPass};
 ghost use Rattle.swh_base.specs.Text.{IsPerson, is_person_byte, is_digit};
 ghost use Rattle.swh_revfmt.specs.Plain.{IsNamed, IsSeconds, IsZone, IsDate};
 
-use crate::line::{behind, split_at_byte};
+use swh_pieces::{behind, split_at_byte};
 
 fn are_person_bytes(text: &[u8]) -> bool
     ensures { IsTrue result ↔ AllPass is_person_byte text.now }

@@ -6,10 +6,10 @@ ghost use Rattle.swh_base.specs.declared.kind.Kind.TheVariants.{Directory};
 ghost use Rattle.swh_revfmt.specs.Plain.{PlainRevision, IsPlainRevision, PlainRelease, IsPlainRelease, IsTagName};
 ghost use Rattle.swh_revfmt.specs.PlainReading.{plain_revision, plain_release};
 
-use crate::fault::{ReadRelFault, ReadRevFault};
-use crate::release::{Rel, read_rel};
+use crate::fault::ReadRevFault;
+use crate::release::spelled_rel;
 use crate::rest::{release_rest, revision_rest};
-use crate::revision::{Rev, read_rev};
+use crate::revision::{SpelledRev, spelled_rev};
 use std::alloc::Global;
 use swh_base::{Bytes, Kind, Many, Memory, Name};
 
@@ -47,17 +47,17 @@ pub fn plain_rev(alloc: Global, body: &[u8]) -> Result<Option<PlainRev>, Memory>
     ensures some { IfOk result (λ found. IfSome found (λ plain. IsPlainRevision body.now (plain_revision plain))) }
     ensures none { IfOk result (λ found. IfNone found ((plain : PlainRevision) → IsPlainRevision body.now plain → ⊥)) }
 {
-    let rev = match read_rev(alloc, body) {
+    let rev = match spelled_rev(alloc, body) {
         Ok(rev) => rev,
         Err(ReadRevFault::Memory) => return Err(Memory),
         Err(ReadRevFault::Bad(_)) => return Ok(None),
     };
-    let Rev {
+    let SpelledRev {
         directory,
         parents,
         rest,
     } = rev;
-    let Some(rest) = revision_rest(rest.as_slice()) else {
+    let Some(rest) = revision_rest(rest) else {
         return Ok(None);
     };
     Ok(Some(PlainRev {
@@ -103,24 +103,21 @@ pub fn plain_rel(alloc: Global, body: &[u8]) -> Result<Option<PlainRel>, Memory>
     ensures some { IfOk result (λ found. IfSome found (λ plain. IsPlainRelease body.now (plain_release plain))) }
     ensures none { IfOk result (λ found. IfNone found ((plain : PlainRelease) → IsPlainRelease body.now plain → ⊥)) }
 {
-    let rel = match read_rel(alloc, body) {
-        Ok(rel) => rel,
-        Err(ReadRelFault::Memory) => return Err(Memory),
-        Err(ReadRelFault::Bad(_)) => return Ok(None),
+    let Ok(rel) = spelled_rel(body) else {
+        return Ok(None);
     };
     if is_directory(rel.object.kind) {
         return Ok(None);
     }
-    if !is_tag_name(rel.tag.as_slice()) {
+    if !is_tag_name(rel.tag) {
         return Ok(None);
     }
-    let Rel { object, tag, rest } = rel;
-    let Some(rest) = release_rest(rest.as_slice()) else {
+    let Some(rest) = release_rest(rel.rest) else {
         return Ok(None);
     };
     Ok(Some(PlainRel {
-        object,
-        tag,
+        object: rel.object,
+        tag: Bytes::from_slice(alloc, rel.tag)?,
         tagger: optional_bytes(alloc, rest.tagger)?,
         message: Bytes::from_slice(alloc, rest.message)?,
     }))

@@ -2,16 +2,18 @@
 
 ghost use Rattle.std.specs.Prelude.{◌≡◌, ◌≢◌, ◌<◌, ◌++◌, ℕ, List, length, IfOk, IfErr, MatchResult};
 ghost use Rattle.swh_base.specs.declared.kind.Kind.{Kind};
-ghost use Rattle.swh_base.specs.declared.kind.Kind.TheVariants.{Snapshot};
+ghost use Rattle.swh_base.specs.declared.kind.Kind.TheVariants.{Snapshot, Release as ReleaseKind};
 ghost use Rattle.swh_base.specs.Release.{Release, release_text, IsRelease};
-ghost use Rattle.swh_revfmt.specs.Reading.{release_of, type_text, IsCommonFront, IsTypePlace, ExplainsRel, GivesRel};
+ghost use Rattle.swh_revfmt.specs.Fault.{IsFault};
+ghost use Rattle.swh_revfmt.specs.Reading.{release_of, release_spelled, type_text, IsCommonFront, IsTypePlace, ExplainsRel, GivesRel};
 
 use crate::fault::{BadRel, ReadRelFault};
-use crate::line::{self, split_at_byte};
+use crate::line;
 use crate::place::{common_front, line_place};
 use crate::revision::put_id_line;
 use std::alloc::Global;
 use swh_base::{Bytes, Kind, Memory, Name};
+use swh_pieces::split_at_byte;
 
 /// The parts of a release. Its object is no snapshot.
 #[derive(Drop)]
@@ -19,6 +21,14 @@ pub struct Rel {
     pub object: Name,
     pub tag: Bytes,
     pub rest: Bytes,
+}
+
+/// The parts of a release whose name and rest stand in a body.
+#[derive(Clone, Copy, Debug)]
+pub struct SpelledRel<'a> {
+    pub object: Name,
+    pub tag: &'a [u8],
+    pub rest: &'a [u8],
 }
 
 /// The line that names an object's kind, and the word of the line after it.
@@ -74,29 +84,42 @@ fn kind_from(bytes: &[u8]) -> Result<(Kind, &[u8]), usize>
     Err(revision.max(directory).max(content.max(release)))
 }
 
-fn read(alloc: Global, body: &[u8]) -> Result<Rel, ReadRelFault>
-    ensures ok { IfOk result (λ rel. IsRelease body.now (release_of rel)) }
-    ensures err { IfErr result (ExplainsRel body.now) }
+/// The parts as they stand in a release's body. It takes no memory.
+pub fn spelled_rel(body: &[u8]) -> Result<SpelledRel<'_>, BadRel>
+    ensures ok { IfOk result (λ rel. IsRelease body.now (release_spelled rel)) }
+    ensures err { IfErr result (λ bad. IsFault ReleaseKind body.now bad.at) }
 {
     let Some(line) = line::id_line(b"object ", body) else {
         let at = line_place(b"object ", body) as u64;
-        return Err(ReadRelFault::Bad(BadRel { at }));
+        return Err(BadRel { at });
     };
     let (kind, rest) = match kind_from(line.rest) {
         Ok(found) => found,
         Err(place) => {
             let at = (body.len() - line.rest.len() + place) as u64;
-            return Err(ReadRelFault::Bad(BadRel { at }));
+            return Err(BadRel { at });
         }
     };
     let Some((tag, rest)) = split_at_byte(rest, b'\n') else {
         let at = body.len() as u64;
-        return Err(ReadRelFault::Bad(BadRel { at }));
+        return Err(BadRel { at });
     };
-    let tag = Bytes::from_slice(alloc, tag)?;
-    let rest = Bytes::from_slice(alloc, rest)?;
     let object = Name { kind, id: line.id };
-    Ok(Rel { object, tag, rest })
+    Ok(SpelledRel { object, tag, rest })
+}
+
+fn read(alloc: Global, body: &[u8]) -> Result<Rel, ReadRelFault>
+    ensures ok { IfOk result (λ rel. IsRelease body.now (release_of rel)) }
+    ensures err { IfErr result (ExplainsRel body.now) }
+{
+    match spelled_rel(body) {
+        Ok(SpelledRel { object, tag, rest }) => Ok(Rel {
+            object,
+            tag: Bytes::from_slice(alloc, tag)?,
+            rest: Bytes::from_slice(alloc, rest)?,
+        }),
+        Err(bad) => Err(ReadRelFault::Bad(bad)),
+    }
 }
 
 /// The parts of a release's body.

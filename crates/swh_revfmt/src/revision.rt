@@ -4,7 +4,7 @@ ghost use Rattle.std.specs.Prelude.{◌≡◌, ◌++◌, ℕ, List, IfOk, IfErr,
 ghost use Rattle.std.specs.List.{flat_map, AllByRecursion};
 ghost use Rattle.swh_base.specs.Name.{IsId};
 ghost use Rattle.swh_base.specs.Revision.{Revision, id_line, parent_line, revision_text, BeginsParent, IsRevision};
-ghost use Rattle.swh_revfmt.specs.Reading.{revision_of, ExplainsRev, GivesRev};
+ghost use Rattle.swh_revfmt.specs.Reading.{revision_of, revision_spelled, ExplainsRev, GivesRev};
 
 use crate::fault::{BadRev, ReadRevFault};
 use crate::line;
@@ -18,6 +18,14 @@ pub struct Rev {
     pub directory: [u8; 20],
     pub parents: Many<[u8; 20]>,
     pub rest: Bytes,
+}
+
+/// The parts of a revision whose rest stands in a body.
+#[derive(Drop)]
+pub struct SpelledRev<'a> {
+    pub directory: [u8; 20],
+    pub parents: Many<[u8; 20]>,
+    pub rest: &'a [u8],
 }
 
 /// The parents of the whole parent lines at the front, and what follows these lines.
@@ -35,8 +43,9 @@ fn parents_of(alloc: Global, bytes: &[u8]) -> Result<(Many<[u8; 20]>, &[u8]), Me
     Ok((Many::from_vec(parents), rest))
 }
 
-fn read(alloc: Global, body: &[u8]) -> Result<Rev, ReadRevFault>
-    ensures ok { IfOk result (λ rev. IsRevision body.now (revision_of rev)) }
+/// The parts of a revision's body, whose rest is not copied.
+pub fn spelled_rev(alloc: Global, body: &[u8]) -> Result<SpelledRev<'_>, ReadRevFault>
+    ensures ok { IfOk result (λ rev. IsRevision body.now (revision_spelled rev)) }
     ensures err { IfErr result (ExplainsRev body.now) }
 {
     let Some(line) = line::id_line(b"tree ", body) else {
@@ -44,9 +53,25 @@ fn read(alloc: Global, body: &[u8]) -> Result<Rev, ReadRevFault>
         return Err(ReadRevFault::Bad(BadRev { at }));
     };
     let (parents, rest) = parents_of(alloc, line.rest)?;
+    Ok(SpelledRev {
+        directory: line.id,
+        parents,
+        rest,
+    })
+}
+
+fn read(alloc: Global, body: &[u8]) -> Result<Rev, ReadRevFault>
+    ensures ok { IfOk result (λ rev. IsRevision body.now (revision_of rev)) }
+    ensures err { IfErr result (ExplainsRev body.now) }
+{
+    let SpelledRev {
+        directory,
+        parents,
+        rest,
+    } = spelled_rev(alloc, body)?;
     let rest = Bytes::from_slice(alloc, rest)?;
     Ok(Rev {
-        directory: line.id,
+        directory,
         parents,
         rest,
     })

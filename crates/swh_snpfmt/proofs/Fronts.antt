@@ -1,9 +1,10 @@
 -- What is cut off the front of a branch.
-use Rattle.std.proofs.Common.{◌≡◌, ◌≢◌, ℕ, suc, ◌<◌, ◌^◌, List, [], ◌∷◌, ◌++◌, length, Contains, refl, sym, ap, ◌∙◌, subst, arith, decimal, append_assoc, length-append}
+use Rattle.std.proofs.Common.{◌≡◌, ◌≢◌, ℕ, ◌<◌, ◌^◌, List, [], ◌∷◌, ◌++◌, length, Contains, refl, sym, ap, ◌∙◌, subst, arith, decimal, append_assoc, length-append}
 use Rattle.std.proofs.lemmas.Fmt.{decimal_injective}
 use Rattle.swh_base.specs.Snapshot.{BranchTarget, SnapshotBranch, IsBranch, IsTarget, target_word, target_bytes, branch_text}
 use Rattle.swh_base.proofs.Splits.{first_split, sized_split}
 use Rattle.swh_base.proofs.SnapshotLemmas.{word-no_space, target-short, decimal-no_colon, branch_then}
+use Rattle.swh_pieces.proofs.Middle.{in_middle}
 use Rattle.swh_snpfmt.specs.Fault.{BeginsBranch}
 use Rattle.swh_snpfmt.specs.Reading.{sized_text}
 use Rattle.swh_snpfmt.proofs.Targets.{NoTarget}
@@ -11,10 +12,6 @@ use Rattle.swh_snpfmt.proofs.Targets.{NoTarget}
 pub nil : (xs : List ℕ) → length xs ≡ 0 → xs ≡ []
 nil [] e = refl
 nil (x ∷ xs) e = absurd (omega arith)
-
-in_middle : (a x : List ℕ) (s : ℕ) → Contains (a ++ s ∷ x) s
-in_middle [] x s = (0, omega arith, refl)
-in_middle (c ∷ a) x s = let h = in_middle a x s in let l = h.1 in (suc h.0, omega (arith, l), h.2)
 
 pub sized_then : (content x : List ℕ) → sized_text content ++ x ≡ decimal (length content) ++ 58 ∷ (content ++ x)
 sized_then content x = append_assoc (decimal (length content)) (58 ∷ content) x

@@ -3,3 +3,4 @@ pub mod Targets
 pub mod Fronts
 pub mod Follows
 pub mod Exact
+pub mod Texts

@@ -1,9 +1,12 @@
--- Branches without where they lie in memory.
+-- Branches without where they lie: in memory of their own, or in a body.
 use Rattle.std.specs.Prelude.{List, map}
 use Rattle.swh_base.specs.Snapshot.{BranchTarget, ToObject, ToBranch, ToNothing, SnapshotBranch}
 use Rattle.swh_snpfmt.specs.declared.branch.Target.{Target}
 use Rattle.swh_snpfmt.specs.declared.branch.Target.TheVariants.{Object, Alias, Dangling}
 use Rattle.swh_snpfmt.specs.declared.branch.Branch.{Branch}
+use Rattle.swh_snpfmt.specs.declared.branch.SpelledTarget.{SpelledTarget}
+use Rattle.swh_snpfmt.specs.declared.branch.SpelledTarget.TheVariants.{Object as SpelledObject, Alias as SpelledAlias, Dangling as SpelledDangling}
+use Rattle.swh_snpfmt.specs.declared.branch.SpelledBranch.{SpelledBranch}
 
 abbrev pub target_view : Target → BranchTarget
 target_view (Object name) = ToObject name
@@ -15,3 +18,14 @@ view b = record { name = b.name; target = target_view b.target }
 
 abbrev pub views : List Branch → List SnapshotBranch
 views bs = map view bs
+
+abbrev pub target_spelled : SpelledTarget → BranchTarget
+target_spelled (SpelledObject kind id) = ToObject (record { kind = kind; id = id.now })
+target_spelled (SpelledAlias name) = ToBranch name.now
+target_spelled SpelledDangling = ToNothing
+
+abbrev pub branch_of : SpelledBranch → SnapshotBranch
+branch_of b = record { name = b.name.now; target = target_spelled b.target }
+
+abbrev pub branches_of : List SpelledBranch → List SnapshotBranch
+branches_of bs = map branch_of bs

@@ -1,21 +1,9 @@
 -- What the reader answers.
 use Rattle.std.specs.Prelude.{◌≡◌, ℕ, List, ◌∷◌, ◌++◌, length, decimal, Result, Ok, Err}
-use Rattle.swh_base.specs.Snapshot.{BranchTarget, ToObject, ToBranch, ToNothing, SnapshotBranch}
+use Rattle.swh_base.specs.Snapshot.{SnapshotBranch}
 use Rattle.swh_snpfmt.specs.declared.fault.ReadSnpFault.{ReadSnpFault}
 use Rattle.swh_snpfmt.specs.declared.fault.ReadSnpFault.TheVariants.{Memory, Bad}
-use Rattle.swh_snpfmt.specs.declared.front.Spelled.{Spelled}
-use Rattle.swh_snpfmt.specs.declared.target.SpelledTarget.{SpelledTarget}
-use Rattle.swh_snpfmt.specs.declared.target.SpelledTarget.TheVariants.{Object, Alias, Dangling}
 use Rattle.swh_snpfmt.specs.Fault.{IsFault}
-
--- a target as it stands in a body
-abbrev pub target_of_spelled : SpelledTarget → BranchTarget
-target_of_spelled (Object name) = ToObject name
-target_of_spelled (Alias name) = ToBranch name.now
-target_of_spelled Dangling = ToNothing
-
-abbrev pub branch_of : Spelled → SnapshotBranch
-branch_of x = record { name = x.name.now; target = target_of_spelled x.target }
 
 -- the length in decimal, a colon, and the content
 abbrev pub sized_text : List ℕ → List ℕ

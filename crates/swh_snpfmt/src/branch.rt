@@ -1,4 +1,4 @@
-use swh_base::{Bytes, Name};
+use swh_base::{Bytes, Kind, Name};
 
 /// What a branch leads to: an object, another branch by its name, or nothing.
 #[derive(Debug, Drop)]
@@ -14,4 +14,19 @@ pub enum Target {
 pub struct Branch {
     pub name: Bytes,
     pub target: Target,
+}
+
+/// What a branch leads to, where the object's id or the other branch's name stands in a body.
+#[derive(Clone, Copy, Debug)]
+pub enum SpelledTarget<'a> {
+    Object(Kind, &'a [u8; 20]),
+    Alias(&'a [u8]),
+    Dangling,
+}
+
+/// A branch whose name and target stand in a body.
+#[derive(Clone, Copy, Debug)]
+pub struct SpelledBranch<'a> {
+    pub name: &'a [u8],
+    pub target: SpelledTarget<'a>,
 }

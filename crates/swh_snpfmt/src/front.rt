@@ -1,29 +1,15 @@
 //! The branch that bytes begin with, cut off part by part.
 
-ghost use Rattle.std.specs.Prelude.{◌≡◌, ℕ, ◌<◌, ◌^◌, List, ◌∷◌, ◌++◌, length, Contains, IfSome, IfNone};
+ghost use Rattle.std.specs.Prelude.{◌≡◌, ℕ, ◌<◌, ◌^◌, List, ◌++◌, length, IfSome, IfNone};
 ghost use Rattle.swh_base.specs.Snapshot.{IsBranch, branch_text};
 ghost use Rattle.swh_snpfmt.specs.Fault.{BeginsBranch};
-ghost use Rattle.swh_snpfmt.specs.Reading.{branch_of, sized_text};
+ghost use Rattle.swh_snpfmt.specs.Branches.{branch_of};
+ghost use Rattle.swh_snpfmt.specs.Reading.{sized_text};
 
+use crate::branch::SpelledBranch;
 use crate::number::number_of;
-use crate::target::{SpelledTarget, target_from};
-
-/// A branch as it stands in a body, and the bytes after it.
-#[derive(Drop)]
-pub struct Spelled<'a> {
-    pub name: &'a [u8],
-    pub target: SpelledTarget<'a>,
-    pub rest: &'a [u8],
-}
-
-/// What stands before the first of a byte, and what after it.
-fn split_at_byte(bytes: &[u8], stop: u8) -> Option<(&[u8], &[u8])>
-    ensures some { IfSome result (λ x. (Contains x.0.now stop → ⊥) × (bytes.now ≡ x.0.now ++ stop ∷ x.1.now)) }
-    ensures none { IfNone result (Contains bytes.now stop → ⊥) }
-{
-    let end = bytes.iter().position(|byte| *byte == stop)?;
-    Some((&bytes[..end], &bytes[end + 1..]))
-}
+use crate::target::target_from;
+use swh_pieces::split_at_byte;
 
 /// The bytes behind a length and a colon, as many as the length says, and what follows them.
 fn sized(bytes: &[u8]) -> Option<(&[u8], &[u8])>
@@ -42,9 +28,9 @@ fn sized(bytes: &[u8]) -> Option<(&[u8], &[u8])>
     Some(rest.split_at(size))
 }
 
-/// The branch at the front of these bytes.
-pub fn front_branch(bytes: &[u8]) -> Option<Spelled<'_>>
-    ensures some { IfSome result (λ x. IsBranch (branch_of x) × (bytes.now ≡ branch_text (branch_of x) ++ x.rest.now)) }
+/// The branch at the front of these bytes, and the bytes after it.
+pub fn front_branch(bytes: &[u8]) -> Option<(SpelledBranch<'_>, &[u8])>
+    ensures some { IfSome result (λ x. IsBranch (branch_of x.0) × (bytes.now ≡ branch_text (branch_of x.0) ++ x.1.now)) }
     ensures none { IfNone result (BeginsBranch bytes.now → ⊥) }
 {
     let Some((word, rest)) = split_at_byte(bytes, b' ') else {
@@ -62,5 +48,5 @@ pub fn front_branch(bytes: &[u8]) -> Option<Spelled<'_>>
     let Some(target) = target_from(word, content) else {
         return None;
     };
-    Some(Spelled { name, target, rest })
+    Some((SpelledBranch { name, target }, rest))
 }

@@ -1,5 +1,5 @@
-//! Snapshot manifests (SWHID, snapshots): a body read into its branches, and written again, byte for byte.
-//! Stands on `swh_base`, whose grammar of snapshots it reads and writes.
+//! Snapshot manifests (SWHID v1.2, core identifiers, snapshots): a body read into its branches, and written again, byte for byte.
+//! Stands on `swh_base`, whose grammar of snapshots it reads and writes, and on `swh_pieces`.
 //! Above it may rely on: exactly the grammar is read, a refusal names the first branch that breaks, and each list of branches has one spelling.
 #![tactic(auto)]
 
@@ -12,10 +12,10 @@ mod reading;
 mod target;
 mod writing;
 
-pub use branch::{Branch, Target};
+pub use branch::{Branch, SpelledBranch, SpelledTarget, Target};
 pub use branches::Branches;
 pub use fault::{BadSnp, ReadSnpFault, one_fault};
-pub use reading::read_snp;
+pub use reading::{read_snp, spelled_snp};
 pub use writing::{one_spelling, write_snp};
 
 #[cfg(test)]

@@ -5,28 +5,16 @@ ghost use Rattle.std.specs.Ordering.{nat_cmp, is_lt};
 ghost use Rattle.std.specs.Cmp.Lexicographic.{slice_cmp};
 ghost use Rattle.std.specs.List.{AllByRecursion};
 ghost use Rattle.swh_base.specs.Snapshot.{SnapshotBranch, AreBranches, BranchIsBefore, branch_text, IsSnapshot};
-ghost use Rattle.swh_snpfmt.specs.Branches.{view, views};
+ghost use Rattle.swh_snpfmt.specs.Branches.{view, views, branch_of, branches_of};
 ghost use Rattle.swh_snpfmt.specs.Fault.{MayFollow, BeginsNext};
-ghost use Rattle.swh_snpfmt.specs.Reading.{branch_of, Explains, Gives};
+ghost use Rattle.swh_snpfmt.specs.Reading.{Explains, Gives};
 
-use crate::branch::{Branch, Target};
+use crate::branch::{Branch, SpelledBranch, SpelledTarget, Target};
 use crate::branches::Branches;
 use crate::fault::{BadSnp, ReadSnpFault};
-use crate::front::{Spelled, front_branch};
-use crate::target::SpelledTarget;
+use crate::front::front_branch;
 use std::alloc::Global;
-use swh_base::{Bytes, Memory};
-
-/// Whether this branch comes after all of the branches.
-fn is_after(before: &[Branch], next: &Spelled<'_>) -> bool
-    requires { AreBranches (views before.now) }
-    ensures { IsTrue result ↔ AllByRecursion (λ other. BranchIsBefore other (branch_of next.now)) (views before.now) }
-{
-    match before.last() {
-        Some(last) => is_before(last.name.as_slice(), next.name),
-        None => true,
-    }
-}
+use swh_base::{Bytes, Memory, Name};
 
 fn is_before(name: &[u8], next: &[u8]) -> bool
     ensures { result ≡ is_lt (slice_cmp nat_cmp name.now next.now) }
@@ -34,46 +22,80 @@ fn is_before(name: &[u8], next: &[u8]) -> bool
     name.cmp(next).is_lt()
 }
 
-/// The branch at the front of these bytes, if it may follow the branches before it.
-fn next_branch<'a>(before: &[Branch], bytes: &'a [u8]) -> Option<Spelled<'a>>
-    requires { AreBranches (views before.now) }
-    ensures some { IfSome result (λ x. MayFollow (views before.now) (branch_of x) × (bytes.now ≡ branch_text (branch_of x) ++ x.rest.now)) }
-    ensures none { IfNone result (BeginsNext (views before.now) bytes.now → ⊥) }
+/// Whether this branch comes after all of the branches.
+fn is_after(before: &[SpelledBranch<'_>], next: &SpelledBranch<'_>) -> bool
+    requires { AreBranches (branches_of before.now) }
+    ensures { IsTrue result ↔ AllByRecursion (λ other. BranchIsBefore other (branch_of next.now)) (branches_of before.now) }
 {
-    let next = front_branch(bytes)?;
+    match before.last() {
+        Some(last) => is_before(last.name, next.name),
+        None => true,
+    }
+}
+
+/// The branch at the front of these bytes, if it may follow the branches before it, and the bytes after it.
+fn next_branch<'a>(
+    before: &[SpelledBranch<'_>],
+    bytes: &'a [u8],
+) -> Option<(SpelledBranch<'a>, &'a [u8])>
+    requires { AreBranches (branches_of before.now) }
+    ensures some { IfSome result (λ x. MayFollow (branches_of before.now) (branch_of x.0) × (bytes.now ≡ branch_text (branch_of x.0) ++ x.1.now)) }
+    ensures none { IfNone result (BeginsNext (branches_of before.now) bytes.now → ⊥) }
+{
+    let (next, rest) = front_branch(bytes)?;
     if is_after(before, &next) {
-        Some(next)
+        Some((next, rest))
     } else {
         None
     }
 }
 
-fn owned(alloc: Global, spelled: &Spelled<'_>) -> Result<Branch, Memory>
-    ensures { IfOk result (λ branch. view branch ≡ branch_of spelled.now) }
-{
-    let name = Bytes::from_slice(alloc, spelled.name)?;
-    let target = match spelled.target {
-        SpelledTarget::Object(object) => Target::Object(object),
-        SpelledTarget::Alias(alias) => Target::Alias(Bytes::from_slice(alloc, alias)?),
-        SpelledTarget::Dangling => Target::Dangling,
-    };
-    Ok(Branch { name, target })
-}
-
-fn read(alloc: Global, body: &[u8]) -> Result<Branches, ReadSnpFault>
-    ensures ok { IfOk result (λ branches. IsSnapshot body.now branches) }
+/// The branches as they stand in a snapshot's body, in linear time. No byte of it is copied.
+pub fn spelled_snp(alloc: Global, body: &[u8]) -> Result<Vec<SpelledBranch<'_>>, ReadSnpFault>
+    ensures ok { IfOk result (λ list. IsSnapshot body.now (branches_of list.items)) }
     ensures err { IfErr result (Explains body.now) }
 {
     let mut list = Vec::new(alloc);
     let mut rest = body;
     while !rest.is_empty() {
         let at = (body.len() - rest.len()) as u64;
-        let Some(next) = next_branch(&list, rest) else {
+        let Some((next, after)) = next_branch(&list, rest) else {
             return Err(ReadSnpFault::Bad(BadSnp { at }));
         };
-        list.push(owned(alloc, &next)?)?;
-        rest = next.rest;
+        list.push(next)?;
+        rest = after;
     }
+    Ok(list)
+}
+
+fn owned_branch(alloc: Global, spelled: &SpelledBranch<'_>) -> Result<Branch, Memory>
+    ensures { IfOk result (λ branch. view branch ≡ branch_of spelled.now) }
+{
+    let name = Bytes::from_slice(alloc, spelled.name)?;
+    let target = match spelled.target {
+        SpelledTarget::Object(kind, id) => Target::Object(Name { kind, id: *id }),
+        SpelledTarget::Alias(alias) => Target::Alias(Bytes::from_slice(alloc, alias)?),
+        SpelledTarget::Dangling => Target::Dangling,
+    };
+    Ok(Branch { name, target })
+}
+
+fn owned(alloc: Global, spelled: &[SpelledBranch<'_>]) -> Result<Vec<Branch>, Memory>
+    ensures { IfOk result (λ list. views list.items ≡ branches_of spelled.now) }
+{
+    let mut list = Vec::new(alloc);
+    for branch in spelled {
+        list.push(owned_branch(alloc, branch)?)?;
+    }
+    Ok(list)
+}
+
+fn read(alloc: Global, body: &[u8]) -> Result<Branches, ReadSnpFault>
+    ensures ok { IfOk result (λ branches. IsSnapshot body.now branches) }
+    ensures err { IfErr result (Explains body.now) }
+{
+    let spelled = spelled_snp(alloc, body)?;
+    let list = owned(alloc, &spelled)?;
     Ok(Branches::of(list))
 }
 

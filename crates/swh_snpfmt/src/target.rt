@@ -3,19 +3,10 @@
 ghost use Rattle.std.specs.Prelude.{◌≡◌, ◌≢◌, [], length, IfSome, IfNone};
 ghost use Rattle.swh_base.specs.declared.kind.Kind.{Kind};
 ghost use Rattle.swh_base.specs.Snapshot.{BranchTarget, ToObject, ToBranch, ToNothing, IsTarget, target_kind_word, target_word, target_bytes};
-ghost use Rattle.swh_snpfmt.specs.Branches.{target_view};
-ghost use Rattle.swh_snpfmt.specs.Reading.{target_of_spelled};
+ghost use Rattle.swh_snpfmt.specs.Branches.{target_view, target_spelled};
 
-use crate::branch::Target;
-use swh_base::{Kind, Name};
-
-/// What a branch leads to, as it stands in a body.
-#[derive(Clone, Copy)]
-pub enum SpelledTarget<'a> {
-    Object(Name),
-    Alias(&'a [u8]),
-    Dangling,
-}
+use crate::branch::{SpelledTarget, Target};
+use swh_base::Kind;
 
 fn kind_of(word: &[u8]) -> Option<Kind>
     ensures some { IfSome result (λ kind. word.now ≡ target_kind_word kind) }
@@ -37,7 +28,7 @@ fn kind_of(word: &[u8]) -> Option<Kind>
 }
 
 fn alias_from(bytes: &[u8]) -> Option<SpelledTarget<'_>>
-    ensures some { IfSome result (λ x. (target_of_spelled x ≡ ToBranch bytes.now) × (bytes.now ≢ [])) }
+    ensures some { IfSome result (λ x. (target_spelled x ≡ ToBranch bytes.now) × (bytes.now ≢ [])) }
     ensures none { IfNone result (bytes.now ≡ []) }
 {
     if bytes.is_empty() {
@@ -48,7 +39,7 @@ fn alias_from(bytes: &[u8]) -> Option<SpelledTarget<'_>>
 }
 
 fn nothing_from<'a>(bytes: &[u8]) -> Option<SpelledTarget<'a>>
-    ensures some { IfSome result (λ x. (target_of_spelled x ≡ ToNothing) × (bytes.now ≡ [])) }
+    ensures some { IfSome result (λ x. (target_spelled x ≡ ToNothing) × (bytes.now ≡ [])) }
     ensures none { IfNone result (bytes.now ≢ []) }
 {
     if bytes.is_empty() {
@@ -58,20 +49,20 @@ fn nothing_from<'a>(bytes: &[u8]) -> Option<SpelledTarget<'a>>
     }
 }
 
-fn object_from<'a>(kind: Kind, bytes: &[u8]) -> Option<SpelledTarget<'a>>
-    ensures some { IfSome result (λ x. (target_of_spelled x ≡ ToObject (record { kind = kind; id = bytes.now })) × (length bytes.now ≡ 20)) }
+fn object_from(kind: Kind, bytes: &[u8]) -> Option<SpelledTarget<'_>>
+    ensures some { IfSome result (λ x. (target_spelled x ≡ ToObject (record { kind = kind; id = bytes.now })) × (length bytes.now ≡ 20)) }
     ensures none { IfNone result (length bytes.now ≢ 20) }
 {
     if bytes.len() != 20 {
         return None;
     }
     let (id, _) = bytes.split_first_chunk::<20>()?;
-    Some(SpelledTarget::Object(Name { kind, id: *id }))
+    Some(SpelledTarget::Object(kind, id))
 }
 
 /// The target that this word and these bytes stand for.
 pub fn target_from<'a>(word: &[u8], bytes: &'a [u8]) -> Option<SpelledTarget<'a>>
-    ensures some { IfSome result (λ x. let target = target_of_spelled x in IsTarget target × (word.now ≡ target_word target) × (bytes.now ≡ target_bytes target)) }
+    ensures some { IfSome result (λ x. let target = target_spelled x in IsTarget target × (word.now ≡ target_word target) × (bytes.now ≡ target_bytes target)) }
     ensures none { IfNone result ((target : BranchTarget) → IsTarget target → word.now ≡ target_word target → bytes.now ≡ target_bytes target → ⊥) }
 {
     if word == b"alias".as_slice() {

@@ -1,40 +1,15 @@
 use super::*;
 use std::process::Abort;
 use std::test::Fail;
-use swh_base::{Kind, Namer, Sha1Namer};
+use swh_base::{Kind, Name, Namer, Sha1Namer};
 
-/// A branch to each kind of object, an alias and a branch to nothing, in the order of their names' bytes.
+/// A branch to each kind of object, an alias and a branch to nothing: the example of Software Heritage's data model.
 const BODY: &[u8] =
-    b"alias HEAD\x0015:refs/heads/maindirectory a\x0020:aaaaaaaaaaaaaaaaaaaacontent b\x0020:bbbbbbbbbbbbbbbbbbbbdangling c\x000:revision refs/heads/main\x0020:cccccccccccccccccccc\
-release refs/tags/v1\x0020:ddddddddddddddddddddsnapshot \xff\x0020:eeeeeeeeeeeeeeeeeeee";
+    b"alias alias\x008:revisioncontent content\x0020:\xfe\x95\xa4fy\xd1(\xff\x16{|U\xdf]\x025lZ\x1a\xe1dangling dangling\x000:directory directory\x0020:\x1b\xd0\xe6_}/\xf1J\xe9\x94\xde\x17\xa1\xe7\xfee\x11\x1d\xca\xd8release release\x0020:pE@O=\x1cT\xe6G<q\xbb\xb7\x16R\x9f\xba\xd4\xbe$revision revision\x0020:\xaa\xfb\x16\xd6\x9f\xd3\x0f\xf5\x8a\xfd\xd6\x906\xa2`G\xf3\xae\xbd\xc6snapshot snapshot\x0020:\x1a\x88\x93\xe6\xa8oDN\x8b\xe8\xe7\xbd\xa6\xcb4\xfb\x175\xa0\x0e";
 
-#[test]
-fn reads_and_writes(rt: HostRuntime) -> Result<(), Fail> {
-    let branches = read_snp(rt.alloc(), BODY)?;
-    let names = [
-        b"HEAD".as_slice(),
-        b"a".as_slice(),
-        b"b".as_slice(),
-        b"c".as_slice(),
-        b"refs/heads/main".as_slice(),
-        b"refs/tags/v1".as_slice(),
-        b"\xff".as_slice(),
-    ];
-    assert_eq!(rt; branches.list().len(), names.len());
-    for (branch, name) in branches.list().iter().zip(names) {
-        assert!(rt; branch.name.as_slice() == name);
-    }
-    let body = write_snp(rt.alloc(), &branches)?;
-    assert!(rt; body.as_slice() == BODY);
-    Ok(())
-}
-
-fn leads_to(rt: &impl Abort, branch: &Branch, kind: Kind, byte: u8) {
+fn leads_to(rt: &impl Abort, branch: &Branch, kind: Kind, id: &[u8]) {
     match &branch.target {
-        Target::Object(name) => {
-            assert!(rt; name.kind == kind);
-            assert!(rt; name.id == [byte; 20]);
-        }
+        Target::Object(name) => assert!(rt; Name::from_hex(kind, id) == Some(*name)),
         _ => panic!(rt; "no object"),
     }
 }
@@ -45,28 +20,63 @@ fn targets(rt: HostRuntime) -> Result<(), Fail> {
     let list = branches.list();
     assert_eq!(rt; list.len(), 7);
     match &list[0].target {
-        Target::Alias(name) => assert!(rt; name.as_slice() == b"refs/heads/main".as_slice()),
+        Target::Alias(name) => assert!(rt; name.as_slice() == b"revision".as_slice()),
         _ => panic!(rt; "no alias"),
     }
-    leads_to(&rt, &list[1], Kind::Directory, b'a');
-    leads_to(&rt, &list[2], Kind::Content, b'b');
-    assert!(rt; matches!(&list[3].target, Target::Dangling));
-    leads_to(&rt, &list[4], Kind::Revision, b'c');
-    leads_to(&rt, &list[5], Kind::Release, b'd');
-    leads_to(&rt, &list[6], Kind::Snapshot, b'e');
+    leads_to(
+        &rt,
+        &list[1],
+        Kind::Content,
+        b"fe95a46679d128ff167b7c55df5d02356c5a1ae1",
+    );
+    assert!(rt; matches!(&list[2].target, Target::Dangling));
+    leads_to(
+        &rt,
+        &list[3],
+        Kind::Directory,
+        b"1bd0e65f7d2ff14ae994de17a1e7fe65111dcad8",
+    );
+    leads_to(
+        &rt,
+        &list[4],
+        Kind::Release,
+        b"7045404f3d1c54e6473c71bbb716529fbad4be24",
+    );
+    leads_to(
+        &rt,
+        &list[5],
+        Kind::Revision,
+        b"aafb16d69fd30ff58afdd69036a26047f3aebdc6",
+    );
+    leads_to(
+        &rt,
+        &list[6],
+        Kind::Snapshot,
+        b"1a8893e6a86f444e8be8e7bda6cb34fb1735a00e",
+    );
+    assert!(rt; list[6].name.as_slice() == b"snapshot".as_slice());
     Ok(())
 }
 
-/// The published id of the empty snapshot, 1a8893e6a86f444e8be8e7bda6cb34fb1735a00e.
+/// The published ids of that example and of the empty snapshot.
 #[test]
-fn an_empty_body_has_no_branches(rt: HostRuntime) -> Result<(), Fail> {
-    let branches = read_snp(rt.alloc(), b"")?;
-    let body = write_snp(rt.alloc(), &branches)?;
-    let id = [
-        0x1a, 0x88, 0x93, 0xe6, 0xa8, 0x6f, 0x44, 0x4e, 0x8b, 0xe8, 0xe7, 0xbd, 0xa6, 0xcb, 0x34,
-        0xfb, 0x17, 0x35, 0xa0, 0x0e,
+fn published_snapshots(rt: HostRuntime) -> Result<(), Fail> {
+    let table = [
+        (BODY, b"6e65b86363953b780d92b0a928f3e8fcdd10db36".as_slice()),
+        (
+            b"".as_slice(),
+            b"1a8893e6a86f444e8be8e7bda6cb34fb1735a00e".as_slice(),
+        ),
     ];
-    assert_eq!(rt; Sha1Namer.id(Kind::Snapshot, &body), id);
+    for (body, id) in table {
+        let branches = read_snp(rt.alloc(), body)?;
+        let written = write_snp(rt.alloc(), &branches)?;
+        let name = Name {
+            kind: Kind::Snapshot,
+            id: Sha1Namer.id(Kind::Snapshot, &written),
+        };
+        assert!(rt; Name::from_hex(Kind::Snapshot, id) == Some(name));
+    }
     Ok(())
 }
 
@@ -90,6 +100,8 @@ fn first_branches_that_break(rt: HostRuntime) {
         b"revision a\x0020:aaaaaaaaaaaaaaaaaaa".as_slice(),
         b"commit a\x0020:aaaaaaaaaaaaaaaaaaaa".as_slice(),
         b"revision \x0020:aaaaaaaaaaaaaaaaaaaa".as_slice(),
+        // A NUL in a name ends it.
+        b"revision a\x00b\x0020:aaaaaaaaaaaaaaaaaaaa".as_slice(),
         b"revision a\x0019:aaaaaaaaaaaaaaaaaaa".as_slice(),
         b"revision a\x00020:aaaaaaaaaaaaaaaaaaaa".as_slice(),
         b"revision a\x00+20:aaaaaaaaaaaaaaaaaaaa".as_slice(),
@@ -118,13 +130,15 @@ fn later_branches_that_break(rt: HostRuntime) {
     }
 }
 
-/// An alias leads to any bytes: to a name that no branch has, to itself, to a NUL.
+/// An alias leads to any bytes: to a name that no branch has, to itself, to a NUL. A name may be any bytes but NUL.
 #[test]
-fn good_aliases(rt: HostRuntime) {
+fn good_branches_that_look_bad(rt: HostRuntime) {
     let table = [
         b"alias a\x001:a".as_slice(),
         b"alias a\x003:\x00:\n".as_slice(),
         b"alias a b\x004:nonedangling a/\x000:".as_slice(),
+        b"dangling \n\x000:dangling dangling \x000:dangling \x80\x000:".as_slice(),
+        b"dangling a\x000:revision a\xff\x0020:\x00\x00\x00\x00\x00\x00\x00\x00\x00\x00\x00\x00\x00\x00\x00\x00\x00\x00\x00\x00".as_slice(),
     ];
     for body in table {
         assert!(rt; read_snp(rt.alloc(), body).is_ok());

@@ -1,4 +1,4 @@
-use Rattle.swh_revfmt.specs.Reading.{revision_of}
+use Rattle.swh_revfmt.specs.Reading.{revision_spelled}
 use Rattle.swh_revfmt.proofs.Plains.{no_revision, other_rest}
 use Rattle.swh_revfmt.proofs.plain.plain_rev.Goals as goal
 
@@ -6,4 +6,4 @@ pub returns-in-Err-Bad-clause-none : goal.returns-in-Err-Bad-clause-none
 returns-in-Err-Bad-clause-none c = let fault = rw c.in-Err-Bad.field-0-is at c.in-Err-Bad.ensures.err in no_revision c.args.body.now fault.broken
 
 pub returns-in_default-clause-none : goal.returns-in_default-clause-none
-returns-in_default-clause-none c = other_rest c.args.body.now (revision_of c.in-Ok.rev) c.in-Ok.ensures.ok (rw c.as_slice.ensures at c.in_default.ensures.none)
+returns-in_default-clause-none c = other_rest c.args.body.now (revision_spelled c.in-Ok.rev) c.in-Ok.ensures.ok c.in_default.ensures.none

@@ -1,7 +1,7 @@
 use Rattle.std.proofs.Common.{sym, ap, ◌∙◌, ◌++◌, List, ℕ, arith}
 use Rattle.swh_base.specs.Snapshot.{branch_text}
 use Rattle.swh_snpfmt.specs.Branches.{view}
-use Rattle.swh_snpfmt.proofs.Follows.{text-more}
+use Rattle.swh_snpfmt.proofs.Texts.{text-more}
 use Rattle.swh_snpfmt.proofs.writing.write_snp.Goals as goal
 
 pub loop-branch-preserved : goal.loop-branch-preserved

@@ -3,7 +3,7 @@ use Rattle.std.specs.Prelude.{MatchOption}
 use Rattle.std.specs.Cmp.Lexicographic.{pointwise, bytes_decides}
 use Rattle.std.proofs.lemmas.List.{take-append-drop}
 use Rattle.std.proofs.Math.Seq.{take-append_seam}
-use Rattle.swh_revfmt.proofs.line.behind.Goals as goal
+use Rattle.swh_pieces.proofs.behind.Goals as goal
 
 abbrev Strips : List ℕ → List ℕ → Option (Bor (List ℕ)) → Type 0
 Strips bytes front r =

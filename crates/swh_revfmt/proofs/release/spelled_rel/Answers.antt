@@ -4,7 +4,7 @@ use Rattle.swh_base.specs.Revision.{id_line}
 use Rattle.swh_revfmt.specs.Fault.{IsFault}
 use Rattle.swh_revfmt.specs.Reading.{type_text}
 use Rattle.swh_revfmt.proofs.Faults.{release_fault, type_fault, tag_fault}
-use Rattle.swh_revfmt.proofs.release.read.Goals as goal
+use Rattle.swh_revfmt.proofs.release.spelled_rel.Goals as goal
 
 pub returns-in_default-clause-err : goal.returns-in_default-clause-err
 returns-in_default-clause-err c = release_fault c.args.body.now c.line_place-at.result c.in_default.ensures.none c.line_place-at.ensures
