@@ -16,7 +16,7 @@ mod text;
 
 pub use fault::SwhidFault;
 pub use identifier::{core_text, parse_core};
-pub use laws::printed_is_read;
+pub use laws::{one_printed_text, one_reading, printed_is_read, read_is_value};
 pub use parsing::parse;
 pub use printing::print;
 pub use swhid::Swhid;
