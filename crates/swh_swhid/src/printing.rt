@@ -15,7 +15,7 @@ use std::alloc::Global;
 use swh_base::{Bytes, Memory, Name};
 
 /// The bytes that are escaped, beside those outside ASCII.
-pub const ESCAPED: AsciiSet = percent_encoding::ascii_set!(CONTROLS.add(b' ').add(b'%').add(b';'));
+const ESCAPED: AsciiSet = percent_encoding::ascii_set!(CONTROLS.add(b' ').add(b'%').add(b';'));
 
 fn put_core(out: &mut Vec<u8>, name: &Name) -> Result<(), Memory>
     ensures { OnOk result (out.new.items ≡ out.old.items ++ core_text name.now) }
