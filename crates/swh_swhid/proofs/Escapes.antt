@@ -1,7 +1,7 @@
 -- Escaped bytes are a text, and stand for the bytes.
-use Rattle.std.proofs.Common.{◌≡◌, ◌≢◌, ℕ, zero, suc, ◌/◌, ◌%◌, ◌<◌, if◌then◌else◌, Bool, true, false, ◌&&◌, not, inl, inr, List, [], ◌∷◌, ◌++◌, refl, sym, ap, ap₂, ◌∙◌, subst, arith}
+use Rattle.std.proofs.Common.{◌≡◌, ◌≢◌, ℕ, ◌/◌, ◌%◌, ◌<◌, if◌then◌else◌, Bool, true, false, inl, inr, List, [], ◌∷◌, ◌++◌, refl, sym, ap, ap₂, ◌∙◌, subst, arith}
 use Rattle.std.specs.Fmt.{digit_glyph}
-use Rattle.std.proofs.lemmas.Bool.{and_parts, cases_lt}
+use Rattle.std.proofs.lemmas.Bool.{agree_below_at, cases_lt}
 use Rattle.std.proofs.lemmas.Bool.Decides.{nat_tests}
 use Rattle.hex.specs.Hex.{is_hex_digit}
 use Rattle.percent_encoding.specs.AsciiSet.{should_percent_encode}
@@ -12,31 +12,10 @@ use Rattle.swh_swhid.specs.Text.{is_text_byte, IsText, IsOriginText, IsPathText}
 use Rattle.swh_swhid.specs.Printed.{is_escaped, escaped, AreBytes, BeginsWithSlash}
 use Rattle.swh_swhid.proofs.Texts.{hex-text, hex-no_percent}
 
-abbrev agree : Bool → Bool → Bool
-agree a b = if a then b else not b
-
-same : (a b : Bool) → agree a b ≡ true → a ≡ b
-same true b h = sym h
-same false true h = absurd cc
-same false false h = refl
-
-abbrev all_agree : ℕ → Bool
-all_agree zero = true
-all_agree (suc n) = agree (should_percent_encode ESCAPED n) (is_escaped n) && all_agree n
-
-agree-at : (n k : ℕ) → all_agree n ≡ true → k < n → agree (should_percent_encode ESCAPED k) (is_escaped k) ≡ true
-agree-at zero k h lt = absurd (omega arith)
-agree-at (suc n) k h lt =
-    let parts = and_parts (agree (should_percent_encode ESCAPED n) (is_escaped n)) (all_agree n) h in
-    elim (cases_lt k n) [
-      | inl below ↦ agree-at n k parts.1 below
-      | inr top ↦ let e : k ≡ n = omega arith in rw e parts.0
-    ]
-
 set-is : (b : ℕ) → should_percent_encode ESCAPED b ≡ is_escaped b
 unfolding should_percent_encode
 set-is b = elim (cases_lt b 128) [
-  | inl low ↦ same _ _ (agree-at 128 b refl low)
+  | inl low ↦ agree_below_at (should_percent_encode ESCAPED) is_escaped 128 b refl low
   | inr high ↦ grind (arith, nat_tests)
 ]
 
@@ -52,29 +31,19 @@ kept-text b h = grind (arith, nat_tests)
 kept-no_percent : (b : ℕ) → is_escaped b ≡ false → b ≢ 37
 kept-no_percent b h e = let at : is_escaped 37 ≡ false = subst (λ (k : ℕ). is_escaped k ≡ false) e h in absurd cc
 
-abbrev all_hex : ℕ → Bool
-all_hex zero = true
-all_hex (suc n) = is_hex_digit (digit_glyph true n) && all_hex n
-
-hex-at : (n k : ℕ) → all_hex n ≡ true → k < n → is_hex_digit (digit_glyph true k) ≡ true
-hex-at zero k h lt = absurd (omega arith)
-hex-at (suc n) k h lt =
-    let parts = and_parts (is_hex_digit (digit_glyph true n)) (all_hex n) h in
-    elim (cases_lt k n) [
-      | inl below ↦ hex-at n k parts.1 below
-      | inr top ↦ let e : k ≡ n = omega arith in rw e parts.0
-    ]
+glyph-hex : (k : ℕ) → k < 16 → is_hex_digit (digit_glyph true k) ≡ true
+glyph-hex k h = agree_below_at (λ n. is_hex_digit (digit_glyph true n)) (λ _. true) 16 k refl h
 
 escape-text : (b : ℕ) (t : List ℕ) → IsText t → IsText (percent_encode_byte b ++ t)
 unfolding percent_encode_byte
 escape-text b t h =
-    let high = hex-at 16 (b / 16 % 16) refl (omega arith) in
-    let low = hex-at 16 (b % 16) refl (omega arith) in
+    let high = glyph-hex (b / 16 % 16) (omega arith) in
+    let low = glyph-hex (b % 16) (omega arith) in
     let a : ℕ = digit_glyph true (b / 16 % 16) in
     let z : ℕ = digit_glyph true (b % 16) in
     (refl, (λ _. (high, low)), (hex-text a high, (λ e. absurd (hex-no_percent a high e)), (hex-text z low, (λ e. absurd (hex-no_percent z low e)), h)))
 
-pub escaped-text : (bs : List ℕ) → IsText (escaped bs)
+escaped-text : (bs : List ℕ) → IsText (escaped bs)
 escaped-text [] = tt
 escaped-text (b ∷ bs) =
     elim (is_escaped b) as (λ v. is_escaped b ≡ v → IsText ((if v then percent_encode_byte b else b ∷ []) ++ escaped bs)) [

@@ -100,7 +100,11 @@ fn put_range(out: &mut Vec<u8>, key: Key, range: &Option<(u64, Option<u64>)>) ->
     }
 }
 
-/// The text of the value: its qualifiers in one order, origin and path escaped.
+/// The one printed text of the value: its core identifier, and its qualifiers in the order of their fields
+/// (SWHID v1.2, qualified identifiers).
+///
+/// In origin and path each byte up to a space, `%`, `;`, and each from 127 on is written as `%` and two upper-case
+/// digits.
 pub fn print(alloc: Global, swhid: &Swhid) -> Result<Vec<u8>, Memory>
     ensures { IfOk result (λ text. text.items ≡ printed swhid.now) }
 {
