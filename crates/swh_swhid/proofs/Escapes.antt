@@ -1,103 +1,68 @@
 -- Escaped bytes are a text, and stand for the bytes.
-use Rattle.std.proofs.Common.{◌≡◌, ◌≢◌, ℕ, zero, suc, ◌+◌, ◌/◌, ◌%◌, ◌<◌, ◌≤◌, ◌==◌, Bool, true, false, ◌&&◌, ◌||◌, not, ◌⊎◌, inl, inr, List, [], ◌∷◌, ◌++◌, length, refl, sym, ap, ◌∙◌, subst, arith}
-use Rattle.std.specs.List.{AllByRecursion}
+use Rattle.std.proofs.Common.{◌≡◌, ◌≢◌, ℕ, ◌/◌, ◌%◌, ◌<◌, if◌then◌else◌, Bool, true, false, inl, inr, List, [], ◌∷◌, ◌++◌, refl, sym, ap, ap₂, ◌∙◌, subst, arith}
 use Rattle.std.specs.Fmt.{digit_glyph}
-use Rattle.std.proofs.lemmas.Bool.{and_parts, cases_lt, eqb-false}
+use Rattle.std.proofs.lemmas.Bool.{agree_below_at, cases_lt}
 use Rattle.std.proofs.lemmas.Bool.Decides.{nat_tests}
-use Rattle.std.proofs.lemmas.List.Elements.{All-from_recursion}
 use Rattle.hex.specs.Hex.{is_hex_digit}
 use Rattle.percent_encoding.specs.AsciiSet.{should_percent_encode}
 use Rattle.percent_encoding.specs.Percent.{percent_encode, percent_decode, percent_encode_byte}
-use Rattle.percent_encoding.proofs.PercentLemmas.{percent_encode-nil, percent_encode_escaped, percent_encode_kept, round_trip, IsByte as IsEncodedByte}
-use Rattle.swh_base.specs.Name.{IsByte}
+use Rattle.percent_encoding.proofs.PercentLemmas.{percent_decode-nil, percent_decode_not_percent, percent_decode-percent_encode_byte}
 use Rattle.swh_swhid.specs.declared.printing.TheConstants.{ESCAPED}
 use Rattle.swh_swhid.specs.Text.{is_text_byte, IsText, IsOriginText, IsPathText}
-use Rattle.swh_swhid.specs.Printed.{escaped, AreBytes, BeginsWithSlash}
+use Rattle.swh_swhid.specs.Printed.{is_escaped, escaped, AreBytes, BeginsWithSlash}
 use Rattle.swh_swhid.proofs.Texts.{hex-text, hex-no_percent}
 
-abbrev kept_well : ℕ → Bool
-kept_well b = should_percent_encode ESCAPED b || (is_text_byte b && not (b == 37))
-
-abbrev all_kept_well : ℕ → Bool
-all_kept_well zero = true
-all_kept_well (suc n) = kept_well n && all_kept_well n
-
-kept-at : (n k : ℕ) → all_kept_well n ≡ true → k < n → kept_well k ≡ true
-kept-at zero k h lt = absurd (omega arith)
-kept-at (suc n) k h lt =
-    let parts = and_parts (kept_well n) (all_kept_well n) h in
-    elim (cases_lt k n) [
-      | inl below ↦ kept-at n k parts.1 below
-      | inr top ↦ let e : k ≡ n = omega arith in rw e parts.0
-    ]
-
-kept_all : all_kept_well 128 ≡ true
+set-is : (b : ℕ) → should_percent_encode ESCAPED b ≡ is_escaped b
 unfolding should_percent_encode
-kept_all = refl
-
-ascii_kept : (b : ℕ) → should_percent_encode ESCAPED b ≡ false → b < 128
-unfolding should_percent_encode
-ascii_kept b h = elim (cases_lt b 128) [
-  | inl low ↦ low
-  | inr high ↦ absurd (grind (arith, nat_tests))
+set-is b = elim (cases_lt b 128) [
+  | inl low ↦ agree_below_at (should_percent_encode ESCAPED) is_escaped 128 b refl low
+  | inr high ↦ grind (arith, nat_tests)
 ]
 
-other_or : (a b : Bool) → a || b ≡ true → a ≡ false → b ≡ true
-other_or true b h e = absurd cc
-other_or false b h e = h
+-- what the set makes of bytes
+pub encoded : (bs : List ℕ) → percent_encode ESCAPED bs ≡ escaped bs
+unfolding percent_encode
+encoded [] = refl
+encoded (b ∷ bs) = ap₂ ◌++◌ (ap (λ (v : Bool). if v then percent_encode_byte b else b ∷ []) (set-is b)) (encoded bs)
 
-no_eq : (b : ℕ) → not (b == 37) ≡ true → b ≡ 37 → ⊥
-no_eq b h e = let at : not (37 == 37) ≡ true = subst (λ (k : ℕ). not (k == 37) ≡ true) e h in absurd cc
+kept-text : (b : ℕ) → is_escaped b ≡ false → is_text_byte b ≡ true
+kept-text b h = grind (arith, nat_tests)
 
-kept-text : (b : ℕ) → should_percent_encode ESCAPED b ≡ false → (is_text_byte b ≡ true) × (b ≡ 37 → ⊥)
-kept-text b h =
-    let parts = and_parts (is_text_byte b) (not (b == 37)) (other_or _ _ (kept-at 128 b kept_all (ascii_kept b h)) h) in
-    (parts.0, no_eq b parts.1)
+kept-no_percent : (b : ℕ) → is_escaped b ≡ false → b ≢ 37
+kept-no_percent b h e = let at : is_escaped 37 ≡ false = subst (λ (k : ℕ). is_escaped k ≡ false) e h in absurd cc
 
-abbrev all_hex : ℕ → Bool
-all_hex zero = true
-all_hex (suc n) = is_hex_digit (digit_glyph true n) && all_hex n
-
-hex-at : (n k : ℕ) → all_hex n ≡ true → k < n → is_hex_digit (digit_glyph true k) ≡ true
-hex-at zero k h lt = absurd (omega arith)
-hex-at (suc n) k h lt =
-    let parts = and_parts (is_hex_digit (digit_glyph true n)) (all_hex n) h in
-    elim (cases_lt k n) [
-      | inl below ↦ hex-at n k parts.1 below
-      | inr top ↦ let e : k ≡ n = omega arith in rw e parts.0
-    ]
+glyph-hex : (k : ℕ) → k < 16 → is_hex_digit (digit_glyph true k) ≡ true
+glyph-hex k h = agree_below_at (λ n. is_hex_digit (digit_glyph true n)) (λ _. true) 16 k refl h
 
 escape-text : (b : ℕ) (t : List ℕ) → IsText t → IsText (percent_encode_byte b ++ t)
 unfolding percent_encode_byte
 escape-text b t h =
-    let high = hex-at 16 (b / 16 % 16) refl (omega arith) in
-    let low = hex-at 16 (b % 16) refl (omega arith) in
+    let high = glyph-hex (b / 16 % 16) (omega arith) in
+    let low = glyph-hex (b % 16) (omega arith) in
     let a : ℕ = digit_glyph true (b / 16 % 16) in
     let z : ℕ = digit_glyph true (b % 16) in
     (refl, (λ _. (high, low)), (hex-text a high, (λ e. absurd (hex-no_percent a high e)), (hex-text z low, (λ e. absurd (hex-no_percent z low e)), h)))
 
-pub escaped-text : (bs : List ℕ) → IsText (escaped bs)
-escaped-text [] = subst IsText (sym (percent_encode-nil ESCAPED)) tt
+escaped-text : (bs : List ℕ) → IsText (escaped bs)
+escaped-text [] = tt
 escaped-text (b ∷ bs) =
-    elim (should_percent_encode ESCAPED b) as (λ v. should_percent_encode ESCAPED b ≡ v → IsText (escaped (b ∷ bs))) [
-      | true ↦ λ e. subst IsText (sym (percent_encode_escaped ESCAPED b bs e)) (escape-text b (escaped bs) (escaped-text bs))
-      | false ↦ λ e. let k = kept-text b e in subst IsText (sym (percent_encode_kept ESCAPED b bs e)) (k.0, (λ is. absurd (k.1 is)), escaped-text bs)
+    elim (is_escaped b) as (λ v. is_escaped b ≡ v → IsText ((if v then percent_encode_byte b else b ∷ []) ++ escaped bs)) [
+      | true ↦ λ e. escape-text b (escaped bs) (escaped-text bs)
+      | false ↦ λ e. (kept-text b e, (λ is. absurd (kept-no_percent b e is)), escaped-text bs)
     ] refl
 
 pub escaped-back : (bs : List ℕ) → AreBytes bs → percent_decode (escaped bs) ≡ bs
-escaped-back bs h = round_trip ESCAPED bs refl (All-from_recursion IsEncodedByte bs h)
-
-nil_decodes : percent_decode [] ≡ []
-unfolding percent_decode
-nil_decodes = refl
+escaped-back [] h = percent_decode-nil
+escaped-back (b ∷ bs) h =
+    let rest : b ∷ percent_decode (escaped bs) ≡ b ∷ bs = ap (λ (x : List ℕ). b ∷ x) (escaped-back bs h.1) in
+    elim (is_escaped b) as (λ v. is_escaped b ≡ v → percent_decode ((if v then percent_encode_byte b else b ∷ []) ++ escaped bs) ≡ b ∷ bs) [
+      | true ↦ λ e. percent_decode-percent_encode_byte b (escaped bs) h.0 ∙ rest
+      | false ↦ λ e. percent_decode_not_percent b (escaped bs) (kept-no_percent b e) ∙ rest
+    ] refl
 
 pub escaped-origin : (bs : List ℕ) → bs ≢ [] → AreBytes bs → IsOriginText (escaped bs)
-escaped-origin bs some h = ((λ e. some (sym (escaped-back bs h) ∙ ap percent_decode e ∙ nil_decodes)), escaped-text bs)
-
-slash_kept : should_percent_encode ESCAPED 47 ≡ false
-unfolding should_percent_encode
-slash_kept = refl
+escaped-origin bs some h = ((λ e. some (sym (escaped-back bs h) ∙ ap percent_decode e ∙ percent_decode-nil)), escaped-text bs)
 
 pub escaped-path : (bs : List ℕ) → BeginsWithSlash bs → IsPathText (escaped bs)
 escaped-path [] h = absurd h
-escaped-path (c ∷ bs) h = subst (λ (k : ℕ). IsPathText (escaped (k ∷ bs))) (sym h) (subst IsPathText (sym (percent_encode_kept ESCAPED 47 bs slash_kept)) (refl, escaped-text bs))
+escaped-path (c ∷ bs) h = subst (λ (k : ℕ). IsPathText (escaped (k ∷ bs))) (sym h) (refl, escaped-text bs)

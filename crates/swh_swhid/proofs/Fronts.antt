@@ -1,7 +1,7 @@
 -- How far a text goes along with a language: behind a front, and with one of several words in front.
-use Rattle.std.proofs.Common.{◌≡◌, ◌≢◌, ℕ, zero, suc, ◌+◌, ◌<◌, ◌≤◌, ◌==◌, if◌then◌else◌, Bool, true, false, List, [], ◌∷◌, ◌++◌, length, get_or, take, drop, refl, sym, ap, ◌∙◌, subst, arith, add-one, append_assoc, length-append, length-drop, drop-cons}
+use Rattle.std.proofs.Common.{◌≡◌, ◌≢◌, ℕ, zero, suc, ◌+◌, ◌<◌, ◌≤◌, ◌==◌, if◌then◌else◌, Bool, true, false, inl, inr, List, [], ◌∷◌, ◌++◌, length, get_or, take, drop, refl, sym, ap, ◌∙◌, subst, arith, add-one, append_assoc, length-append, length-drop, drop-cons}
 use Rattle.std.proofs.lemmas.List.{take-append-drop, length-take}
-use Rattle.std.proofs.lemmas.Bool.{eq-eqb, eqb-true}
+use Rattle.std.proofs.lemmas.Bool.{eq-eqb, eqb-true, cases_order}
 use Rattle.swh_swhid.specs.Front.{BreaksAt, common, Chosen}
 
 -- Where each text of L that has this front goes on with one of M, L breaks where M breaks behind it.
@@ -34,7 +34,7 @@ common-same : (c d : ℕ) (w t : List ℕ) → c ≡ d → common (c ∷ w) (d �
 common-same c d w t e = rw (eq-eqb c d e) refl
 
 -- a word's own bytes are common to it and to what begins with it
-pub common-front : (w y : List ℕ) → common w (w ++ y) ≡ length w
+common-front : (w y : List ℕ) → common w (w ++ y) ≡ length w
 common-front [] y = refl
 common-front (c ∷ w) y = common-same c c w (w ++ y) refl ∙ ap suc (common-front w y)
 
@@ -123,3 +123,28 @@ common-end w t i h = let bound = (common-le (drop i w) (drop i t)).1 in omega (a
 
 pub common-over : (w t : List ℕ) (i : ℕ) → length w ≤ i → common (drop i w) t ≡ 0
 common-over w t i h = let bound = (common-le (drop i w) t).0 in omega (arith, bound, length-drop i w, h)
+
+-- Of two fronts of one text the longer goes on from the shorter.
+longer_front : (f r g s : List ℕ) → f ++ r ≡ g ++ s → length f < length g → (c : ℕ) × (mid : List ℕ) × (g ≡ f ++ c ∷ mid) × (r ≡ c ∷ (mid ++ s))
+longer_front f r [] s e h = absurd (omega arith)
+longer_front [] r (d ∷ g) s e h = (d, g, refl, e)
+longer_front (c ∷ f) r (d ∷ g) s e h =
+    let same : c ≡ d = cc in
+    let after : f ++ r ≡ g ++ s = cc in
+    let rest = longer_front f r g s after (omega arith) in
+    let cut = rest.2 in (rest.0, rest.1, cc, rest.3)
+
+no_later : (L : List ℕ → Type 0) (text : List ℕ) (m n : ℕ) → BreaksAt L text m → BreaksAt L text n → m < n → ⊥
+no_later L text m n a b h =
+    let am = a.here in
+    let bn = b.here in
+    let more = longer_front a.front a.rest b.front b.rest (sym a.cut ∙ b.cut) (omega arith) in
+    a.stops more.0 (more.1 ++ b.rest) (more.1 ++ b.more) more.3 (subst L (ap (λ (t : List ℕ). t ++ b.more) more.2 ∙ append_assoc a.front (more.0 ∷ more.1) b.more) b.goes_on)
+
+-- a text breaks off at one place
+pub one_break : (L : List ℕ → Type 0) (text : List ℕ) (m n : ℕ) → BreaksAt L text m → BreaksAt L text n → m ≡ n
+one_break L text m n a b = elim (cases_order m n) [
+  | inl same ↦ same
+  | inr (inl less) ↦ absurd (no_later L text m n a b less)
+  | inr (inr more) ↦ absurd (no_later L text n m b a more)
+]

@@ -1,7 +1,7 @@
 -- Texts of ids: each is an id's, and how far a text goes along with them.
 use Rattle.std.proofs.Common.{◌≡◌, ℕ, zero, suc, ◌+◌, ◌-◌, ◌*◌, ◌/◌, ◌%◌, ◌<◌, ◌≤◌, ◌==◌, if◌then◌else◌, Bool, true, false, ◌&&◌, ◌||◌, not, ◌⊎◌, inl, inr, List, [], ◌∷◌, ◌++◌, length, slice_index, get_or, take, drop, replicate, nat_le, refl, sym, ap, ◌∙◌, subst, arith, length-append, length-drop, drop-cons}
 use Rattle.std.proofs.lemmas.List.{take-append-drop, length-take-le, length-replicate}
-use Rattle.std.proofs.lemmas.Bool.{and_parts, cases_lt, eqb-true}
+use Rattle.std.proofs.lemmas.Bool.{and_parts, agree_below_at, cases_lt, eqb-true}
 use Rattle.std.proofs.lemmas.Bool.Decides.{nat_tests}
 use Rattle.std.proofs.lemmas.List.Elements.{All-append, All-replicate, All-drop, All-head, recursion_from_All, All-from_recursion}
 use Rattle.std.proofs.Math.Seq.{drop-append_seam}
@@ -22,19 +22,6 @@ digit_of c = if nat_le c 57 then c - 48 else c - 87
 abbrev reads_back : ℕ → Bool
 reads_back c = not (is_lower_hex_digit c) || ((slice_index lower_digits (digit_of c) == c) && nat_le (digit_of c) 15)
 
-abbrev all_read_back : ℕ → Bool
-all_read_back zero = true
-all_read_back (suc n) = reads_back n && all_read_back n
-
-all_read_back-at : (n k : ℕ) → all_read_back n ≡ true → k < n → reads_back k ≡ true
-all_read_back-at zero k h lt = absurd (omega arith)
-all_read_back-at (suc n) k h lt =
-    let parts = and_parts (reads_back n) (all_read_back n) h in
-    elim (cases_lt k n) [
-      | inl below ↦ all_read_back-at n k parts.1 below
-      | inr top ↦ let e : k ≡ n = omega arith in rw e parts.0
-    ]
-
 lower-lt : (c : ℕ) → Lower c → c < 103
 lower-lt c h = grind (arith, nat_tests)
 
@@ -47,7 +34,7 @@ le_at a b h = grind (arith, nat_tests)
 
 digit_back : (c : ℕ) → Lower c → (slice_index lower_digits (digit_of c) ≡ c) × (digit_of c ≤ 15)
 digit_back c h =
-    let parts = and_parts (slice_index lower_digits (digit_of c) == c) (nat_le (digit_of c) 15) (implied (is_lower_hex_digit c) _ (all_read_back-at 103 c refl (lower-lt c h)) h) in
+    let parts = and_parts (slice_index lower_digits (digit_of c) == c) (nat_le (digit_of c) 15) (implied (is_lower_hex_digit c) _ (agree_below_at reads_back (λ _. true) 103 c refl (lower-lt c h)) h) in
     (eqb-true (slice_index lower_digits (digit_of c)) c parts.0, le_at (digit_of c) 15 parts.1)
 
 -- The id that a text spells.
@@ -85,25 +72,15 @@ spelled (a ∷ b ∷ text) n h e =
 pub id-spelled : (text : List ℕ) → IsIdText text → Spelled text 20
 id-spelled text h = spelled text 20 (recursion_from_All Lower text h.1) (h.0)
 
-abbrev all_lower : ℕ → Bool
-all_lower zero = true
-all_lower (suc n) = is_lower_hex_digit (slice_index lower_digits n) && all_lower n
-
-all_lower-at : (n k : ℕ) → all_lower n ≡ true → k < n → Lower (slice_index lower_digits k)
-all_lower-at zero k h lt = absurd (omega arith)
-all_lower-at (suc n) k h lt =
-    let parts = and_parts (is_lower_hex_digit (slice_index lower_digits n)) (all_lower n) h in
-    elim (cases_lt k n) [
-      | inl below ↦ all_lower-at n k parts.1 below
-      | inr top ↦ let e : k ≡ n = omega arith in rw e parts.0
-    ]
+digit-lower : (k : ℕ) → k < 16 → Lower (slice_index lower_digits k)
+digit-lower k h = agree_below_at (λ n. is_lower_hex_digit (slice_index lower_digits n)) (λ _. true) 16 k refl h
 
 all-lower : (id : List ℕ) → AllByRecursion IsByte id → AllByRecursion Lower (encode_lower id)
 unfolding encode_with
 all-lower [] h = tt
 all-lower (b ∷ id) h =
     let small = h.0 in
-    (all_lower-at 16 (b / 16) refl (omega (arith, small)), (all_lower-at 16 (b % 16) refl (omega (arith, small)), all-lower id h.1))
+    (digit-lower (b / 16) (omega (arith, small)), (digit-lower (b % 16) (omega (arith, small)), all-lower id h.1))
 
 -- the text of an id is forty lower-case digits
 pub IsIdText-encode : (id : List ℕ) → IsId id → IsIdText (encode_lower id)

@@ -11,3 +11,4 @@ pub mod Wholes
 pub mod Places
 pub mod Escapes
 pub mod Ways
+pub mod Values

@@ -14,19 +14,15 @@ AreDigits ds = AllByRecursion IsDigit ds
 own : IsNumeralModel AreDigits (read_on 0)
 own = numerals_by_fold AreDigits (search rules) read_on (search rules)
 
-pub digits-front : (xs ys : List ℕ) → AreDigits (xs ++ ys) → AreDigits xs
-digits-front [] ys h = tt
-digits-front (x ∷ xs) ys h = (h.0, digits-front xs ys h.1)
-
-pub digits-behind : (xs ys : List ℕ) → AreDigits (xs ++ ys) → AreDigits ys
+digits-behind : (xs ys : List ℕ) → AreDigits (xs ++ ys) → AreDigits ys
 digits-behind [] ys h = h
 digits-behind (x ∷ xs) ys h = digits-behind xs ys h.1
 
-pub digits-append : (xs ys : List ℕ) → AreDigits xs → AreDigits ys → AreDigits (xs ++ ys)
+digits-append : (xs ys : List ℕ) → AreDigits xs → AreDigits ys → AreDigits (xs ++ ys)
 digits-append [] ys h k = k
 digits-append (x ∷ xs) ys h k = (h.0, digits-append xs ys h.1 k)
 
-pub read_on-append : (n : ℕ) (xs ys : List ℕ) → read_on n (xs ++ ys) ≡ read_on (read_on n xs) ys
+read_on-append : (n : ℕ) (xs ys : List ℕ) → read_on n (xs ++ ys) ≡ read_on (read_on n xs) ys
 read_on-append n [] ys = refl
 read_on-append n (x ∷ xs) ys = read_on-append (n * 10 + (x - 48)) xs ys
 
@@ -43,7 +39,7 @@ room_more n k =
     ap (λ (t : ℕ). t * 10 ^ k) ten ∙ mul_assoc (n + 1) 10 (10 ^ k) ∙ ap (λ (t : ℕ). (n + 1) * t) (sym swap)
 
 -- digits raise it to less than the next number of that many digits
-pub read_on-high : (n : ℕ) (ds : List ℕ) → AreDigits ds → read_on n ds < (n + 1) * 10 ^ length ds
+read_on-high : (n : ℕ) (ds : List ℕ) → AreDigits ds → read_on n ds < (n + 1) * 10 ^ length ds
 read_on-high n [] h = let one : 10 ^ 0 ≡ 1 = refl in rw one (omega arith)
 read_on-high n (c ∷ ds) h =
     let digit = h.0 in
@@ -78,9 +74,6 @@ pub record AreNumber (ds : List ℕ) : Type 0 where
   pub some : 0 < length ds
   pub few : length ds ≤ 18
   pub no_zero : get_or ds 0 0 ≡ 48 → length ds ≡ 1
-
-limit_below : number_limit < 2 ^ 64
-limit_below = omega arith
 
 pub value-small : (ds : List ℕ) → AreDigits ds → length ds ≤ 18 → read_on 0 ds < number_limit
 value-small ds h few = digits_value_short own ds 18 h few

@@ -32,7 +32,7 @@ closed-pieces [] = tt
 closed-pieces (p ∷ pieces) = refl
 
 -- a core identifier and what follows it
-one_core : (n m : Name) (x y : List ℕ) → IsName n → IsName m → core_text n ++ x ≡ core_text m ++ y → (n ≡ m) × (x ≡ y)
+pub one_core : (n m : Name) (x y : List ℕ) → IsName n → IsName m → core_text n ++ x ≡ core_text m ++ y → (n ≡ m) × (x ≡ y)
 one_core n m x y hn hm e =
     let both = sized_split (core_text n) (core_text m) x y (length-core_text n hn ∙ sym (length-core_text m hm)) e in
     (core-injective n m hn hm both.0, both.1)
@@ -159,13 +159,13 @@ one_saying Bytes text s t u h k =
     let both = one_range 0 h.first k.first h.more k.more h.range k.range (sym h.spelled ∙ k.spelled) in
     h.becomes ∙ ap (λ (n : ℕ). record s { bytes = Some (n, h.more) }) both.0 ∙ ap (λ (m : Option ℕ). record s { bytes = Some (k.first, m) }) both.1 ∙ sym k.becomes
 
-one_adding : (s t u : Swhid) (piece : List ℕ) → Adds s piece t → Adds s piece u → t ≡ u
+pub one_adding : (s t u : Swhid) (piece : List ℕ) → Adds s piece t → Adds s piece u → t ≡ u
 one_adding s t u piece h k =
     let both = one_key h.key k.key h.value k.value (sym h.spelled ∙ k.spelled) in
     let says : Says h.key h.value s u = subst (λ (v : List ℕ). Says h.key v s u) (sym both.1) (subst (λ (j : Key). Says j k.value s u) (sym both.0) k.says) in
     one_saying h.key h.value s t u h.says says
 
-whole_of_adds : (s t : Swhid) (piece : List ℕ) → Adds s piece t → is_whole piece ≡ true
+pub whole_of_adds : (s t : Swhid) (piece : List ℕ) → Adds s piece t → is_whole piece ≡ true
 whole_of_adds s t piece h = whole-next s piece (record { key = h.key; may_stand = h.free; rest = h.value; spelled = h.spelled; follows = value_text h.key h.value s t h.says })
 
 -- the place behind one more qualifier

@@ -12,7 +12,7 @@ use Rattle.swh_swhid.proofs.Fronts.{breaks_after}
 use Rattle.swh_swhid.proofs.Numerals.{AreDigits, AreNumber, number_text, text_number, is_number, number_digits, follows, completes, value-small, zero_head}
 
 -- digits that begin a number and are some are one themselves
-pub goes_on-number : (least value : ℕ) (ds : List ℕ) → GoesOn least ds value → 0 < length ds → AreNumber ds
+goes_on-number : (least value : ℕ) (ds : List ℕ) → GoesOn least ds value → 0 < length ds → AreNumber ds
 goes_on-number least value ds g some = record { are_digits = g.are_digits; some = some; few = g.few; no_zero = g.no_zero }
 
 -- the byte at a place
@@ -157,7 +157,7 @@ range_breaks least text value n small f dash whole =
     }
 
 -- some digits that begin a number of at least 0 or 1 are one
-pub first_low : (least value : ℕ) (ds : List ℕ) → least ≤ 1 → GoesOn least ds value → 0 < length ds → least ≤ value
+first_low : (least value : ℕ) (ds : List ℕ) → least ≤ 1 → GoesOn least ds value → 0 < length ds → least ≤ value
 first_low least zero (d ∷ ds) low g some = let none = g.only_zero (zero_head d ds g.are_digits.0 (sym g.is)) in omega (arith, none)
 first_low least (suc value) (d ∷ ds) low g some = omega arith
 first_low least value [] low g some = absurd (omega arith)

@@ -1,10 +1,10 @@
 -- Texts of origins and paths: what may stand behind a front, and how far bytes go along with texts.
-use Rattle.std.proofs.Common.{◌≡◌, ◌≢◌, ℕ, suc, ◌+◌, ◌<◌, true, false, List, [], ◌∷◌, ◌++◌, length, get_or, take, drop, refl, sym, ap, ◌∙◌, subst, arith, append_assoc, drop-cons}
+use Rattle.std.proofs.Common.{◌≡◌, ◌≢◌, ℕ, suc, ◌+◌, ◌<◌, true, List, [], ◌∷◌, ◌++◌, length, get_or, take, drop, refl, sym, ap, ◌∙◌, subst, arith, drop-cons}
 use Rattle.std.proofs.lemmas.Bool.Decides.{nat_tests}
-use Rattle.std.proofs.lemmas.List.{take-append-drop, length-take-le, take_all, take_more, append-nil}
+use Rattle.std.proofs.lemmas.List.{take-append-drop, length-take-le, take_all, append-nil}
 use Rattle.hex.specs.Hex.{is_hex_digit}
 use Rattle.swh_swhid.specs.Front.{BreaksAt}
-use Rattle.swh_swhid.specs.Text.{is_text_byte, IsText, IsOriginText, IsPathText, IsTextBehind, IsDueNext}
+use Rattle.swh_swhid.specs.Text.{is_text_byte, IsText, IsOriginText, IsPathText, IsTextBehind}
 use Rattle.swh_swhid.specs.declared.text.Due.{Due}
 use Rattle.swh_swhid.specs.declared.text.Due.TheVariants.{Nothing, Second, Both}
 use Rattle.swh_swhid.proofs.Fronts.{breaks_after}
@@ -17,44 +17,9 @@ hex-text c h = grind (arith, nat_tests)
 pub hex-no_percent : (c : ℕ) → is_hex_digit c ≡ true → c ≡ 37 → ⊥
 hex-no_percent c h e = let at : is_hex_digit 37 ≡ true = subst (λ (k : ℕ). is_hex_digit k ≡ true) e h in absurd cc
 
-percent-text : (c : ℕ) → c ≡ 37 → is_text_byte c ≡ true
-percent-text c e = subst (λ (k : ℕ). is_text_byte k ≡ true) (sym e) refl
-
-pub due-percent : (c : ℕ) → c ≡ 37 → IsDueNext Nothing c Both
-due-percent c e y = (λ h. (h.1 e, h.2), λ h. (percent-text c e, (λ _. h.0), h.1))
-
-pub due-plain : (c : ℕ) → c ≢ 37 → is_text_byte c ≡ true → IsDueNext Nothing c Nothing
-due-plain c ne t y = (λ h. h.2, λ h. (t, (λ e. absurd (ne e)), h))
-
-pub due-second : (c : ℕ) → is_hex_digit c ≡ true → IsDueNext Second c Nothing
-due-second c t y = (λ h. h.1.2, λ h. (t, (hex-text c t, (λ e. absurd (hex-no_percent c t e)), h)))
-
-pub due-both : (c : ℕ) → is_hex_digit c ≡ true → IsDueNext Both c Second
-due-both c t y = (λ h. (h.0.1, h.1.2), λ h. ((t, h.0), (hex-text c t, (λ e. absurd (hex-no_percent c t e)), h.1)))
-
-pub none-plain : (c : ℕ) (y : List ℕ) → is_text_byte c ≡ false → IsTextBehind Nothing (c ∷ y) → ⊥
-none-plain c y f h = let t = h.0 in absurd cc
-
-pub none-second : (c : ℕ) (y : List ℕ) → is_hex_digit c ≡ false → IsTextBehind Second (c ∷ y) → ⊥
-none-second c y f h = let t = h.0 in absurd cc
-
-pub none-both : (c : ℕ) (y : List ℕ) → is_hex_digit c ≡ false → IsTextBehind Both (c ∷ y) → ⊥
-none-both c y f h = let t = h.0.0 in absurd cc
-
 -- The bytes in front are texts with what is due behind them, and with nothing else.
 abbrev pub Leaves : List ℕ → Due → Type 0
 Leaves front due = (y : List ℕ) → (IsText (front ++ y) → IsTextBehind due y) × (IsTextBehind due y → IsText (front ++ y))
-
-pub leaves-none : Leaves [] Nothing
-leaves-none y = (λ h. h, λ h. h)
-
-pub leaves-more : (text : List ℕ) (i : ℕ) (due next : Due) → i < length text → Leaves (take i text) due → IsDueNext due (get_or text i 0) next → Leaves (take (i + 1) text) next
-leaves-more text i due next within l n y =
-    let c : ℕ = get_or text i 0 in
-    let joined : take (i + 1) text ++ y ≡ take i text ++ c ∷ y = ap (λ (t : List ℕ). t ++ y) (take_more text i 0 within) ∙ append_assoc (take i text) (c ∷ []) y in (
-      λ h. (n y).0 ((l (c ∷ y)).0 (subst IsText joined h)),
-      λ h. subst IsText (sym joined) ((l (c ∷ y)).1 ((n y).1 h)),
-    )
 
 abbrev zeros : Due → List ℕ
 zeros Nothing = []

@@ -2,7 +2,6 @@
 use Rattle.std.proofs.Common.{◌≡◌, ◌≢◌, ℕ, Option, Some, None, option_map, true, List, [], ◌∷◌, ◌++◌, refl, sym, ap, ◌∙◌, subst, append_assoc}
 use Rattle.std.specs.Prelude.{IfSome}
 use Rattle.std.proofs.lemmas.List.{append-nil}
-use Rattle.percent_encoding.specs.Percent.{percent_decode}
 use Rattle.swh_base.specs.Name.{IsName}
 use Rattle.swh_base.specs.declared.name.Name.{Name}
 use Rattle.swh_swhid.specs.declared.identifier.Place.TheVariants.{Visit as AsVisit, Anchor as AsAnchor}
@@ -11,7 +10,7 @@ use Rattle.swh_swhid.specs.declared.swhid.Key.TheVariants.{Origin, Visit, Anchor
 use Rattle.swh_swhid.specs.declared.swhid.Swhid.{Swhid}
 use Rattle.swh_swhid.specs.Core.{core_text, accepts}
 use Rattle.swh_swhid.specs.Number.{IsRange, range_text}
-use Rattle.swh_swhid.specs.Qualifier.{key_word, Says, Adds, AddAll, pieces_text, bare, IsSwhid}
+use Rattle.swh_swhid.specs.Qualifier.{key_word, Adds, AddAll, pieces_text, bare, IsSwhid}
 use Rattle.swh_swhid.specs.Printed.{escaped, said, said_range, printed, AreBytes, BeginsWithSlash, IsValue}
 use Rattle.swh_swhid.proofs.Escapes.{escaped-back, escaped-origin, escaped-path}
 

@@ -31,15 +31,15 @@ not_semicolon c h = grind (arith, nat_tests)
 semicolon_not : (c : ℕ) → not (c == 59) ≡ true → c ≡ 59 → ⊥
 semicolon_not c h e = let at : not (59 == 59) ≡ true = subst (λ (k : ℕ). not (k == 59) ≡ true) e h in absurd cc
 
-pub whole-append : (a b : List ℕ) → is_whole a ≡ true → is_whole b ≡ true → is_whole (a ++ b) ≡ true
+whole-append : (a b : List ℕ) → is_whole a ≡ true → is_whole b ≡ true → is_whole (a ++ b) ≡ true
 whole-append [] b h k = k
 whole-append (c ∷ a) b h k = let parts = and_parts (not (c == 59)) (is_whole a) h in both_true (not (c == 59)) (is_whole (a ++ b)) parts.0 (whole-append a b parts.1 k)
 
-pub whole-front : (a b : List ℕ) → is_whole (a ++ b) ≡ true → is_whole a ≡ true
+whole-front : (a b : List ℕ) → is_whole (a ++ b) ≡ true → is_whole a ≡ true
 whole-front [] b h = refl
 whole-front (c ∷ a) b h = let parts = and_parts (not (c == 59)) (is_whole (a ++ b)) h in both_true (not (c == 59)) (is_whole a) parts.0 (whole-front a b parts.1)
 
-pub whole-behind : (a b : List ℕ) → is_whole (a ++ b) ≡ true → is_whole b ≡ true
+whole-behind : (a b : List ℕ) → is_whole (a ++ b) ≡ true → is_whole b ≡ true
 whole-behind [] b h = h
 whole-behind (c ∷ a) b h = let parts = and_parts (not (c == 59)) (is_whole (a ++ b)) h in whole-behind a b parts.1
 

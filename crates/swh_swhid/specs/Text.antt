@@ -5,9 +5,9 @@ use Rattle.hex.specs.Hex.{is_hex_digit}
 use Rattle.swh_swhid.specs.declared.text.Due.{Due}
 use Rattle.swh_swhid.specs.declared.text.Due.TheVariants.{Nothing, Second, Both}
 
--- none up to a space, no `;` and no DEL
+-- a byte above a space, no `;` and no DEL
 abbrev pub is_text_byte : ℕ → Bool
-is_text_byte c = nat_le 33 c && not (c == 59) && not (c == 127)
+is_text_byte c = nat_le 33 c && nat_le c 255 && not (c == 59) && not (c == 127)
 
 abbrev pub BeginsWithDigit : List ℕ → Type 0
 BeginsWithDigit [] = ⊥

@@ -7,8 +7,9 @@ use swh_base::Memory;
 
 #[derive(Clone, Copy, Debug, PartialEq, Eq)]
 pub enum SwhidFault {
+    /// Memory ran out.
     Memory,
-    /// The text is no SWHID, and this is the length of the longest front of it that one begins with.
+    /// The text is no SWHID, and the longest front of it that one begins with has this many bytes.
     BadText { at: u64 },
 }
 

@@ -129,7 +129,8 @@ pub fn read_core(place: Place, text: &[u8]) -> Result<Name, usize>
     }
 }
 
-/// The name whose core identifier the text is: the 50 bytes that `core_text` writes.
+/// The name whose core identifier the text is, which are the 50 bytes that `core_text` writes, without memory
+/// (SWHID v1.2, core identifiers).
 pub fn parse_core(text: &[u8]) -> Option<Name>
     ensures some { IfSome result (λ name. IsName name × (text.now ≡ core_text name)) }
     ensures only { (name : Name) → IsName name → text.now ≡ core_text name → result ≡ Some name }
@@ -137,7 +138,8 @@ pub fn parse_core(text: &[u8]) -> Option<Name>
     read_core(Place::Text, text).ok()
 }
 
-/// Writes the core identifier of the name.
+/// Writes the core identifier of the name: `swh:1:`, three letters for the kind, a colon and 40 lower-case digits
+/// (SWHID v1.2, core identifiers).
 pub fn core_text(name: &Name, out: &mut [u8; 50])
     ensures { out.new ≡ core_text name.now }
 {

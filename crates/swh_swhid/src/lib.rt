@@ -1,6 +1,7 @@
-//! SWHID texts, core identifiers and qualifiers (ISO/IEC 18670): read into values and printed.
-//! Stands on `swh_base` for names, on `hex` for ids and on `percent_encoding` for escapes.
-//! Above it may rely on: what is read is exactly the grammar, a refusal names the longest front that goes on.
+//! SWHIDs as texts: core identifiers and qualifiers, read into values and printed (SWHID v1.2, ISO/IEC 18670).
+//! Stands on `swh_base` for names, on `percent_encoding` for escapes and on `itoa` for numbers.
+//! Above it may rely on: just the grammar is read, a text spells one value, a value has one printed text, and a refusal
+//! names the longest front that goes on.
 #![tactic(auto)]
 
 mod fault;
@@ -16,7 +17,7 @@ mod text;
 
 pub use fault::SwhidFault;
 pub use identifier::{core_text, parse_core};
-pub use laws::printed_is_read;
+pub use laws::{one_place, one_printed_text, one_reading, printed_is_read, read_is_value};
 pub use parsing::parse;
 pub use printing::print;
 pub use swhid::Swhid;

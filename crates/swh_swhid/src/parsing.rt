@@ -105,7 +105,10 @@ fn read(alloc: Global, text: &[u8]) -> Result<Swhid, SwhidFault>
     Ok(swhid)
 }
 
-/// The value that the text is a SWHID of.
+/// The value that the text is a SWHID of (SWHID v1.2, core identifiers and qualified identifiers).
+///
+/// The text is `swh:1:`, `cnt`, `dir`, `rev`, `rel` or `snp`, a colon and 40 lower-case digits; then qualifiers in any
+/// order, each once, as `;key=value`. The keys are `origin`, `visit`, `anchor`, `path`, `lines` and `bytes`.
 pub fn parse(alloc: Global, text: &[u8]) -> Result<Swhid, SwhidFault>
     // What is read is the text's value.
     ensures ok { IfOk result (λ swhid. IsSwhid text.now swhid) }

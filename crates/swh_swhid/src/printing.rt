@@ -15,7 +15,7 @@ use std::alloc::Global;
 use swh_base::{Bytes, Memory, Name};
 
 /// The bytes that are escaped, beside those outside ASCII.
-pub const ESCAPED: AsciiSet = percent_encoding::ascii_set!(CONTROLS.add(b' ').add(b'%').add(b';'));
+const ESCAPED: AsciiSet = percent_encoding::ascii_set!(CONTROLS.add(b' ').add(b'%').add(b';'));
 
 fn put_core(out: &mut Vec<u8>, name: &Name) -> Result<(), Memory>
     ensures { OnOk result (out.new.items ≡ out.old.items ++ core_text name.now) }
@@ -100,7 +100,11 @@ fn put_range(out: &mut Vec<u8>, key: Key, range: &Option<(u64, Option<u64>)>) ->
     }
 }
 
-/// The text of the value: its qualifiers in one order, origin and path escaped.
+/// The one printed text of the value: its core identifier, and its qualifiers in the order of their fields
+/// (SWHID v1.2, qualified identifiers).
+///
+/// In origin and path each byte up to a space, `%`, `;`, and each from 127 on is written as `%` and two upper-case
+/// digits. What is printed of a value that `parse` gives is a SWHID; of one with an empty origin, say, it is none.
 pub fn print(alloc: Global, swhid: &Swhid) -> Result<Vec<u8>, Memory>
     ensures { IfOk result (λ text. text.items ≡ printed swhid.now) }
 {

@@ -89,6 +89,7 @@ fn key_of(swhid: &Swhid, piece: &[u8]) -> Result<Key, usize>
     }
 }
 
+/// The refusal of a text that breaks off there.
 pub fn bad(at: usize) -> SwhidFault
     ensures { result ≡ SwhidFault.BadText at }
 {

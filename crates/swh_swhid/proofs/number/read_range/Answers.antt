@@ -16,7 +16,7 @@ pub returns-then-text-first-ne45-clause-err : goal.returns-then-text-first-ne45-
 returns-then-text-first-ne45-clause-err c = range_breaks c.args.least c.args.text.now _ _ (omega arith) c.digits_front-first.ensures (λ e. absurd (c.if-text-first-ne45.true e)) (λ e. absurd (omega arith))
 
 pub read_number-requires : goal.read_number-requires
-read_number-requires c = value_small c.args.least _ _ c.digits_front-first.ensures.goes_on
+read_number-requires c = let small = value_small c.args.least _ _ c.digits_front-first.ensures.goes_on in omega (arith, small)
 
 pub returns-in-Ok-clause-ok : goal.returns-in-Ok-clause-ok
 returns-in-Ok-clause-ok c =
