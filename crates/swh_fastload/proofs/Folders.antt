@@ -14,7 +14,9 @@ use Rattle.std.proofs.lemmas.Bool.{eqb-true}
 use Rattle.std.specs.Prelude.{sum_by}
 use Rattle.swh_base.specs.Directory.{IsDirectory}
 use Rattle.swh_model.specs.SmallStream.{IsFileName}
-use Rattle.swh_base.specs.Directory.{Entry, sort_key, entry_text, directory_text, IsEntryName, IsBefore, AreEntries}
+use Rattle.swh_base.specs.declared.kind.Kind.TheVariants.{Content}
+use Rattle.swh_base.specs.declared.name.Name.{Name}
+use Rattle.swh_base.specs.Directory.{Entry, kids_of, sort_key, entry_text, directory_text, IsEntryName, IsBefore, AreEntries}
 use Rattle.swh_model.specs.PathMap.{Leaf, PathMap, leaf_at, first_component, below, entry_at, insert_by, insert, ordered, entries_of, bodies_of, directory_of, directory_bodies}
 use Rattle.swh_fastload.specs.Tree.{tree_of, file_text, IsFile, Ascends}
 use Rattle.swh_fastload.proofs.Trees.{AreFlat}
@@ -120,7 +122,7 @@ file_spelled : (f : Bor (List ℕ) × List ℕ) → entry_text (file_entry f) �
 unfolding digits file_entry
 file_spelled f = refl
 
-files_text : (files : List (Bor (List ℕ) × List ℕ)) → directory_text (map file_entry files) ≡ flat_map file_text (tree_of files)
+pub files_text : (files : List (Bor (List ℕ) × List ℕ)) → directory_text (map file_entry files) ≡ flat_map file_text (tree_of files)
 unfolding file_entry
 files_text [] = refl
 files_text (f ∷ files) = ap (λ (t : List ℕ). entry_text (file_entry f) ++ t) (files_text files) ∙ ap (λ (t : List ℕ). t ++ flat_map file_text (tree_of files)) (file_spelled f)
@@ -156,7 +158,7 @@ unfolding file_entry
 file_other f [] a = tt
 file_other f (g ∷ files) a = ((λ e. let both : Equal ≡ Less = sym (same_self f.0.now) ∙ ap (slice_cmp nat_cmp f.0.now) e ∙ a.0 in cc), file_other f files a.1)
 
-are_files : (files : List (Bor (List ℕ) × List ℕ)) → AllByRecursion IsFile (tree_of files) → Ascends (tree_of files) → AreEntries (map file_entry files)
+pub are_files : (files : List (Bor (List ℕ) × List ℕ)) → AllByRecursion IsFile (tree_of files) → Ascends (tree_of files) → AreEntries (map file_entry files)
 unfolding file_entry
 are_files [] h a = tt
 are_files (f ∷ files) h a = (record { mode = inl refl; name = name_of_file f.0.now h.0.name; id = h.0.id.0 }, file_other f files a.0, file_before f files a.0, are_files files h.1 a.1)
@@ -167,3 +169,9 @@ flat_of_files (e ∷ m) h = (h.0.name.no_slash, flat_of_files m h.1)
 
 pub directory_from : (files : List (Bor (List ℕ) × List ℕ)) (body : List ℕ) → AllByRecursion IsFile (tree_of files) → Ascends (tree_of files) → body ≡ flat_map file_text (tree_of files) → (entries : List Entry) × IsDirectory body entries
 directory_from files body h a e = (map file_entry files, record { text = e ∙ sym (files_text files); good = are_files files h a })
+
+-- the kids of the directory: the files' contents
+pub kids-files : (files : List (Bor (List ℕ) × List ℕ)) → kids_of (map file_entry files) ≡ map (λ f. record { kind = Content; id = f.1 }) files
+unfolding file_entry
+kids-files [] = refl
+kids-files (f ∷ files) = ap (λ (t : List Name). record { kind = Content; id = f.1 } ∷ t) (kids-files files)

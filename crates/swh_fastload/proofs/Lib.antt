@@ -10,3 +10,4 @@ pub mod Onces
 pub mod Persons
 pub mod Readings
 pub mod Trees
+pub mod Wholes

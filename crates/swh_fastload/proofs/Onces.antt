@@ -128,6 +128,9 @@ found_content id ms seen bytes found h e =
     let parts = known_some (list_any (λ n. same_made n (content bytes)) ms) found (id Content bytes) (e ∙ h bytes) in
     (parts.1, with_old ms (content bytes) parts.0)
 
+pub found_made : (id : Kind → List ℕ → List ℕ) (ms : List Made) (seen : List (Bor (List ℕ) × List ℕ)) (bytes found : List ℕ) → KnowsContents id ms seen → Some found ≡ lookup (is_at (λ (q : Bor (List ℕ)). slice_cmp nat_cmp bytes q.now)) seen → list_any (λ n. same_made n (content bytes)) ms ≡ true
+found_made id ms seen bytes found h e = (known_some (list_any (λ n. same_made n (content bytes)) ms) found (id Content bytes) (e ∙ h bytes)).0
+
 pub new_content : (id : Kind → List ℕ → List ℕ) (ms : List Made) (seen : List (Bor (List ℕ) × List ℕ)) (bytes : List ℕ) → KnowsContents id ms seen → None ≡ lookup (is_at (λ (q : Bor (List ℕ)). slice_cmp nat_cmp bytes q.now)) seen → list_any (λ n. same_made n (content bytes)) ms ≡ false
 new_content id ms seen bytes h e = known_none (list_any (λ n. same_made n (content bytes)) ms) (id Content bytes) (e ∙ h bytes)
 

@@ -5,3 +5,4 @@ pub mod Person
 pub mod Refusal
 pub mod Tree
 pub mod View
+pub mod Whole

@@ -1,15 +1,17 @@
 //! What a stream means, made.
-ghost use Rattle.std.specs.Prelude.{◌≡◌, ◌≤◌, ◌<◌, ◌++◌, ◌∷◌, [], ℕ, List, Option, Some, None, length, map, IfOk, IfErr, codes};
+ghost use Rattle.std.specs.Prelude.{◌≡◌, ◌≤◌, ◌<◌, ◌++◌, ◌∷◌, [], ℕ, List, Option, Some, None, length, map, Contains, IfOk, IfErr, OnOk, codes};
 ghost use Rattle.std.specs.Option.{option_map};
 ghost use Rattle.swh_base.specs.Limits.{body_limit};
 ghost use Rattle.swh_base.specs.Name.{IsId};
 ghost use Rattle.swh_base.specs.declared.kind.Kind.TheVariants.{Directory as DirectoryKind, Revision as RevisionKind, Snapshot as SnapshotKind};
+ghost use Rattle.swh_base.specs.Revision.{revision_name};
 ghost use Rattle.swh_base.specs.Snapshot.{snapshot_text};
 ghost use Rattle.swh_model.specs.SmallStream.{Change as ChangeValue, IsFileName};
 ghost use Rattle.swh_model.specs.Meaning.{Made, revision, branch_to, tree_after, commit_makes, tip, AreWithinLimit, IsMeaning, IsLeftOut};
 ghost use Rattle.swh_fastload.specs.Making.{made, AreIds, IsCommitLeftOut, branches_of, AreTips, IsGoodCommit, IsGoodTip, AddsCommit, AddsTip, IsTipLeftOut};
 ghost use Rattle.swh_fastload.specs.Loaded.{making_of};
 ghost use Rattle.swh_fastload.specs.View.{commit_view};
+ghost use Rattle.swh_fastload.specs.Whole.{names_of, AreWhole, AreContents, IsTipAmong, IsWhole};
 ghost use Rattle.swh_fastload.specs.Refusal.{Refuses};
 ghost use Rattle.swh_fastload.specs.declared.fault.StreamFault.TheVariants.{Memory as OutOfMemory};
 
@@ -107,7 +109,11 @@ fn add_commit<'a, N: Namer>(
 ) -> Result<Tip<'a>, StreamFault>
     requires ids { AreIds marks.now.entries }
     requires good { IsGoodCommit (commit_view commit.now) }
+    requires whole { AreWhole N.id_of objects.old.items }
+    requires contents { AreContents (names_of objects.old.items) marks.now.entries }
     ensures ok { IfOk result (λ t. AddsCommit N.id_of marks.now.entries (commit_view commit.now) (made objects.old.items) t (made objects.new.items)) }
+    ensures whole { OnOk result (AreWhole N.id_of objects.new.items) }
+    ensures tip { IfOk result (λ t. Contains (names_of objects.new.items) (revision_name t.revision)) }
     ensures err { IfErr result (Refuses (IsCommitLeftOut N.id_of marks.now.entries (commit_view commit.now))) }
 {
     let files = files_of(alloc, marks, &commit.changes)?;
@@ -131,7 +137,11 @@ fn add_tip<'a, N: Namer>(
 ) -> Result<Option<Tip<'a>>, StreamFault>
     requires ids { AreIds marks.now.entries }
     requires good { IsGoodTip (option_map commit_view commit.now) }
+    requires whole { AreWhole N.id_of objects.old.items }
+    requires contents { AreContents (names_of objects.old.items) marks.now.entries }
     ensures ok { IfOk result (λ tip. AddsTip N.id_of marks.now.entries (option_map commit_view commit.now) (made objects.old.items) tip (made objects.new.items)) }
+    ensures whole { OnOk result (AreWhole N.id_of objects.new.items) }
+    ensures tip { IfOk result (IsTipAmong (names_of objects.new.items)) }
     ensures err { IfErr result (Refuses (IsTipLeftOut N.id_of marks.now.entries (option_map commit_view commit.now))) }
 {
     match commit {
@@ -148,6 +158,8 @@ pub fn load_stream<N: Namer>(
 ) -> Result<Objects<N>, StreamFault>
     // What is made is what the text means.
     ensures ok { IfOk result (λ loaded. IsMeaning N.id_of text.now (making_of loaded)) }
+    // The objects have all of their kids, and the snapshot is one of them.
+    ensures whole { IfOk result (IsWhole N.id_of) }
     // What is left out means nothing.
     ensures err { IfErr result (Refuses (IsLeftOut N.id_of text.now)) }
 {

@@ -7,6 +7,7 @@ ghost use Rattle.swh_base.specs.declared.kind.Kind.TheVariants.{Content as Conte
 ghost use Rattle.swh_model.specs.Meaning.{Made, content, marks_after, once};
 ghost use Rattle.swh_fastload.specs.Making.{made, with_made, KnowsContents, AreShort, AreIds};
 ghost use Rattle.swh_fastload.specs.View.{blob_view};
+ghost use Rattle.swh_fastload.specs.Whole.{names_of, content_name, AreWhole, IsAppended, Gains, AreContents};
 ghost use Rattle.swh_fastload.specs.Refusal.{Refuses};
 ghost use Rattle.swh_fastload.specs.declared.fault.StreamFault.TheVariants.{Memory as OutOfMemory};
 
@@ -34,6 +35,7 @@ pub fn add_object<N: Namer>(
     ensures id { IfOk result (λ id. (id ≡ N.id_of kind body.items) × IsId id) }
     ensures short { OnOk result (length body.items ≤ body_limit) }
     ensures added { IfOk result (λ _. made objects.new.items ≡ made objects.old.items ++ record { kind = kind; body = body.items } ∷ []) }
+    ensures appended { IfOk result (IsAppended N.id_of kind body.items objects.old.items objects.new.items) }
     ensures err { IfErr result (Refuses (body_limit < length body.items)) }
 {
     let object = match Object::make(alloc, namer, kind, body) {
@@ -57,9 +59,11 @@ fn add_content<'a, N: Namer>(
 ) -> Result<[u8; 20], StreamFault>
     requires short { length bytes.now ≤ body_limit }
     requires known { KnowsContents N.id_of (made objects.old.items) contents.old.entries }
+    requires whole { AreWhole N.id_of objects.old.items }
     ensures id { IfOk result (λ id. (id ≡ N.id_of ContentKind bytes.now) × IsId id) }
     ensures added { IfOk result (λ _. made objects.new.items ≡ with_made (made objects.old.items) (content bytes.now)) }
     ensures known { IfOk result (λ _. KnowsContents N.id_of (made objects.new.items) contents.new.entries) }
+    ensures gains { IfOk result (λ id. Gains N.id_of objects.old.items objects.new.items (content_name id)) }
     ensures err { IfErr result (λ fault. fault ≡ OutOfMemory) }
 {
     if let Some(id) = contents.get(bytes) {
@@ -83,6 +87,8 @@ pub fn add_contents<N: Namer>(
     ensures marks { IfOk result (λ marks. marks.entries ≡ marks_after N.id_of [] (map blob_view blobs.now)) }
     ensures ids { IfOk result (λ marks. AreIds marks.entries) }
     ensures added { IfOk result (λ _. made objects.new.items ≡ once (map (λ b. content b.bytes) (map blob_view blobs.now))) }
+    ensures whole { OnOk result (AreWhole N.id_of objects.new.items) }
+    ensures contents { IfOk result (λ marks. AreContents (names_of objects.new.items) marks.entries) }
     ensures err { IfErr result (λ fault. fault ≡ OutOfMemory) }
 {
     let mut marks = BTreeMap::new(alloc);

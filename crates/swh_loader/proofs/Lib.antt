@@ -1,3 +1,10 @@
+pub mod Among
+pub mod Closes
 pub mod Ends
+pub mod Further
+pub mod Leaves
+pub mod Limiting
+pub mod Owns
+pub mod Refusals
 pub mod Sends
 pub mod Steps

@@ -1,6 +1,6 @@
 -- What waits, and what is held once it was sent.
-use Rattle.std.proofs.Common.{◌≡◌, ◌≢◌, ℕ, cond, Option, Some, None, List, [], ◌∷◌, ◌++◌, length, refl, sym, ap, ◌∙◌, subst, arith, append_assoc}
-use Rattle.std.specs.Prelude.{is_some}
+use Rattle.std.proofs.Common.{◌≡◌, ◌≢◌, ℕ, ◌+◌, cond, Option, Some, None, List, [], ◌∷◌, ◌++◌, length, refl, sym, ap, ◌∙◌, subst, arith, append_assoc}
+use Rattle.std.specs.Prelude.{is_some, sum_by}
 use Rattle.std.specs.List.{AllByRecursion}
 use Rattle.std.specs.FinMap as finite
 use Rattle.std.proofs.lemmas.List.{append-nil}
@@ -11,6 +11,7 @@ use Rattle.swh_model.specs.declared.event.Event.{Event}
 use Rattle.swh_model.specs.declared.event.EventKind.TheVariants.{Batch}
 use Rattle.swh_model.specs.declared.event.Outcome.{Outcome}
 use Rattle.swh_model.specs.Archive.{Archive, Bodies, body_of}
+use Rattle.swh_model.specs.Limits.{IsWithinLimits}
 use Rattle.swh_model.specs.Step.{AreNew, IsGoodAndNamed, added, replay}
 use Rattle.swh_model.specs.Judge.{fresh}
 use Rattle.swh_model.specs.Grows.{IsWithin}
@@ -20,23 +21,21 @@ use Rattle.swh_keeper.specs.Kept.{Kept, Applies}
 use Rattle.swh_object.specs.Object.{IsObject}
 use Rattle.swh_loader.specs.declared.pending.Pending.{Pending}
 use Rattle.swh_loader.specs.Visiting.{IsVisit, GoesOn}
-use Rattle.swh_loader.specs.declared.sending.Standing.TheVariants.{Other}
-use Rattle.swh_loader.specs.declared.sending.Taken.TheVariants.{Waits, Collides}
-use Rattle.swh_loader.specs.Sending.{IsStanding, IsTaken, IsWaiting, AllHeld, SameVisits, bodies_of, to_be, IsCollision}
+use Rattle.swh_loader.specs.declared.sending.Taken.TheVariants.{Waits}
+use Rattle.swh_loader.specs.Adding.{AreAmong}
+use Rattle.swh_loader.specs.Sending.{HasRoom, IsTaken, IsWaiting, AllHeld, SameVisits, bodies_of, to_be, IsCollision}
 use Rattle.swh_loader.proofs.Steps.{applied}
+use Rattle.swh_loader.proofs.Limiting.{limits_more, counted_more}
+use Rattle.swh_loader.proofs.Among.{among_front, among_push}
 
 -- new entries are all fresh
-fresh-same : (bodies : Bodies) (es : List Entry) → AreNew bodies es → fresh bodies es ≡ es
+pub fresh-same : (bodies : Bodies) (es : List Entry) → AreNew bodies es → fresh bodies es ≡ es
 fresh-same bodies [] n = refl
 fresh-same bodies (e ∷ es) n =
     ap (λ (o : Option (List ℕ)). cond (is_some o) (fresh bodies es) (e ∷ fresh (finite.insert bodies e.name e.body) es)) n.0 ∙ ap (λ (t : List Entry). e ∷ t) (fresh-same (finite.insert bodies e.name e.body) es n.1)
 
 pub batch_bodies : (h : List Event) (by : ℕ) (entries : List Entry) (h' : List Event) (outcome : Outcome) → Applies h by (Batch entries) h' outcome → AreNew (replay h).bodies entries → (replay h').bodies ≡ added (replay h).bodies entries
 batch_bodies h by entries h' outcome a n = ap (λ (x : Archive). x.bodies) (applied h by (Batch entries) h' outcome a) ∙ ap (added (replay h).bodies) (fresh-same (replay h).bodies entries n)
-
--- nothing happens
-pub same_visits : {D : Type 0} (k : Kept D) (by : ℕ) → SameVisits k k by
-same_visits k by origin number date statuses v = subst (IsVisit k.history origin number date by) (sym (append-nil statuses)) v
 
 pub stays : {D : Type 0} (k : Kept D) → k.wounded ≡ None → GoesOn k k
 stays k w = record { more = []; added = sym (append-nil k.history); unwounded = w; within = λ n body e. e }
@@ -67,12 +66,17 @@ held_waits id bodies p e w h = within-added bodies p.entries.items w.new e.name 
 object_good : (id : Kind → List ℕ → List ℕ) (e : Entry) → IsObject id e → IsGoodAndNamed id e
 object_good id e h = record { good = record { kids = h.kids }; named = h.named }
 
+pub room_none : (p : Pending) (n : Name) → p.entries.items ≡ [] → p.held ≡ finite.empty → p.bytes ≡ 0 → HasRoom p n
+room_none p n e held zero_bytes = record { few = let l = ap length e in omega (arith, l); small = omega (arith, zero_bytes); absent = no_room n p.held held }
+
 -- one more waits
-pub waits_more : (id : Kind → List ℕ → List ℕ) (bodies : Bodies) (p q : Pending) (e : Entry) → IsObject id e → IsWaiting id bodies p → body_of p.held e.name ≡ None → body_of bodies e.name ≡ None → q.entries.items ≡ p.entries.items ++ e ∷ [] → q.held ≡ finite.insert p.held e.name e.body → IsWaiting id bodies q
-waits_more id bodies p q e o w h k es held = record {
+pub waits_more : (id : Kind → List ℕ → List ℕ) (bodies : Bodies) (p q : Pending) (e : Entry) → IsObject id e → IsWaiting id bodies p → HasRoom p e.name → body_of bodies e.name ≡ None → q.entries.items ≡ p.entries.items ++ e ∷ [] → q.held ≡ finite.insert p.held e.name e.body → q.bytes ≡ p.bytes + length e.body → IsWaiting id bodies q
+waits_more id bodies p q e o w h k es held bytes = record {
   held = held ∙ ap (λ (b : Bodies). finite.insert b e.name e.body) w.held ∙ sym (added-append finite.empty p.entries.items (e ∷ [])) ∙ ap (added finite.empty) (sym es);
-  new = subst (AreNew bodies) (sym es) (new-push bodies p.entries.items e w.new (none_waits id bodies p e.name w h k));
+  new = subst (AreNew bodies) (sym es) (new-push bodies p.entries.items e w.new (none_waits id bodies p e.name w h.absent k));
   good = subst (AllByRecursion (IsGoodAndNamed id)) (sym es) (all-append (IsGoodAndNamed id) p.entries.items (e ∷ []) w.good (object_good id e o, tt));
+  limits = subst IsWithinLimits (sym es) (limits_more p.entries.items e p.bytes w.limits w.counted h.few h.small o.short);
+  counted = counted_more p.entries.items e p.bytes q.bytes w.counted bytes ∙ ap (sum_by (λ (x : Entry). length x.body)) (sym es);
 }
 
 pub to_be-more : (bodies : Bodies) (p q : Pending) (e : Entry) → q.entries.items ≡ p.entries.items ++ e ∷ [] → added bodies q.entries.items ≡ finite.insert (added bodies p.entries.items) e.name e.body
@@ -99,22 +103,12 @@ pub record Took (bodies : Bodies) (all left : List Entry) : Type 0 where
   pub cut : all ≡ done ++ left
   pub held : AllHeld bodies done
 
-pub took_none : (bodies : Bodies) (all left : List Entry) → left ≡ all → Took bodies all left
-took_none bodies all left e = record { done = []; cut = sym e; held = tt }
-
 pub took_more : (a b : Bodies) (all left next : List Entry) (e : Entry) → Took a all left → left ≡ (e ∷ []) ++ next → IsWithin a b → body_of b e.name ≡ Some e.body → Took b all next
 took_more a b all left next e t cut w h = record {
   done = t.done ++ e ∷ [];
   cut = t.cut ∙ ap (λ (x : List Entry). t.done ++ x) cut ∙ sym (append_assoc t.done (e ∷ []) next);
   held = all_more a b t.done e w t.held h;
 }
-
-pub took_all : (a b : Bodies) (all left : List Entry) → Took a all left → length left ≡ 0 → b ≡ a → AllHeld b all
-took_all a b all left t z e = subst (AllHeld b) (sym (t.cut ∙ ap (λ (x : List Entry). t.done ++ x) (no_length left z) ∙ append-nil t.done)) (subst (λ (x : Bodies). AllHeld x t.done) (sym e) t.held)
-  where
-    no_length : (xs : List Entry) → length xs ≡ 0 → xs ≡ []
-    no_length [] e = refl
-    no_length (x ∷ xs) e = absurd (omega arith)
 
 pub collides : (bodies : Bodies) (a : Bodies) (all left next : List Entry) (e : Entry) (name : Name) (body : List ℕ) → Took a all left → left ≡ (e ∷ []) ++ next → name ≡ e.name → body_of bodies e.name ≡ Some body → body ≢ e.body → IsCollision bodies all name
 collides bodies a all left next e name body t cut n held differs = record {
@@ -129,24 +123,24 @@ collides bodies a all left next e name body t cut n held differs = record {
 }
 
 -- what became of an object that is held
-pub taken_held : {D : Type 0} (id : Kind → List ℕ → List ℕ) (old new : Kept D) (p q : Pending) (x e : Entry) → x ≡ e → IsWaiting id (bodies_of new) q → to_be new q ≡ to_be old p → body_of (bodies_of new) x.name ≡ Some x.body → IsTaken id old p e new (Waits q)
-taken_held id old new p q x e same w b h =
-    (w, (λ n body k. ap (λ (t : Bodies). body_of t n) b ∙ k), subst (λ (y : Entry). body_of (to_be new q) y.name ≡ Some y.body) same (held_waits id (bodies_of new) q x w h))
-
--- and of one that is new
-pub taken_new : {D : Type 0} (id : Kind → List ℕ → List ℕ) (old new : Kept D) (p q r : Pending) (x e : Entry) → x ≡ e → IsObject id x → IsWaiting id (bodies_of new) q → to_be new q ≡ to_be old p → body_of q.held x.name ≡ None → body_of (bodies_of new) x.name ≡ None → r.entries.items ≡ q.entries.items ++ x ∷ [] → r.held ≡ finite.insert q.held x.name x.body → IsTaken id old p e new (Waits r)
-taken_new id old new p q r x e same o w b room absent es held = (
-  waits_more id (bodies_of new) q r x o w room absent es held,
-  (λ n body k. within_more id (bodies_of new) q r x w room absent es n body (ap (λ (t : Bodies). body_of t n) b ∙ k)),
-  subst (λ (y : Entry). body_of (to_be new r) y.name ≡ Some y.body) same (put_more (bodies_of new) q r x es),
+pub taken_held : {D : Type 0} (id : Kind → List ℕ → List ℕ) (old new : Kept D) (p q : Pending) (x e : Entry) → x ≡ e → IsWaiting id (bodies_of new) q → to_be new q ≡ to_be old p → AreAmong p.entries.items q.entries.items → body_of (bodies_of new) x.name ≡ Some x.body → IsTaken id old p e new (Waits q)
+taken_held id old new p q x e same w b among h = (
+  w,
+  (λ n body k. ap (λ (t : Bodies). body_of t n) b ∙ k),
+  subst (λ (y : Entry). body_of (to_be new q) y.name ≡ Some y.body) same (held_waits id (bodies_of new) q x w h),
+  among_front p.entries.items (e ∷ []) q.entries.items among,
 )
 
-pub taken_other : {D : Type 0} (id : Kind → List ℕ → List ℕ) (old new : Kept D) (p : Pending) (x e : Entry) → x ≡ e → IsStanding (bodies_of new) x Other → IsTaken id old p e new (Collides x.name)
-taken_other id old new p x e same h = (ap (λ (y : Entry). y.name) same, subst (λ (y : Entry). IsStanding (bodies_of new) y Other) same h)
+-- and of one that is new
+pub taken_new : {D : Type 0} (id : Kind → List ℕ → List ℕ) (old new : Kept D) (p q r : Pending) (x e : Entry) → x ≡ e → IsObject id x → IsWaiting id (bodies_of new) q → to_be new q ≡ to_be old p → AreAmong p.entries.items q.entries.items → HasRoom q x.name → body_of (bodies_of new) x.name ≡ None → r.entries.items ≡ q.entries.items ++ x ∷ [] → r.held ≡ finite.insert q.held x.name x.body → r.bytes ≡ q.bytes + length x.body
+    → IsTaken id old p e new (Waits r)
+taken_new id old new p q r x e same o w b among room absent es held bytes = (
+  waits_more id (bodies_of new) q r x o w room absent es held bytes,
+  (λ n body k. within_more id (bodies_of new) q r x w room.absent absent es n body (ap (λ (t : Bodies). body_of t n) b ∙ k)),
+  subst (λ (y : Entry). body_of (to_be new r) y.name ≡ Some y.body) same (put_more (bodies_of new) q r x es),
+  subst (AreAmong (p.entries.items ++ e ∷ [])) (sym (es ∙ ap (λ (y : Entry). q.entries.items ++ y ∷ []) same)) (among_push p.entries.items q.entries.items e among),
+)
 
 -- one object after those before it
 pub took_next : {D : Type 0} (id : Kind → List ℕ → List ℕ) (old new : Kept D) (p q : Pending) (all left next : List Entry) (e : Entry) → Took (to_be old p) all left → left ≡ (e ∷ []) ++ next → IsTaken id old p e new (Waits q) → Took (to_be new q) all next
 took_next id old new p q all left next e t cut h = took_more (to_be old p) (to_be new q) all left next e t cut h.1 h.2
-
-pub took_collision : {D : Type 0} (id : Kind → List ℕ → List ℕ) (old new : Kept D) (p : Pending) (all left next : List Entry) (e : Entry) (name : Name) → Took (to_be old p) all left → left ≡ (e ∷ []) ++ next → IsTaken id old p e new (Collides name) → IsCollision (bodies_of new) all name
-took_collision id old new p all left next e name t cut h = collides (bodies_of new) (to_be old p) all left next e name h.1.0 t cut h.0 h.1.1 h.1.2

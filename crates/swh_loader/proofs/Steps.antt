@@ -26,9 +26,6 @@ after_all-push : (a : Archive) (h : List Event) (e : Event) → after_all a (h +
 after_all-push a [] e = refl
 after_all-push a (x ∷ h) e = after_all-push (after a x) h e
 
-event_with : ℕ → EventKind → Event
-event_with by what = record { by = by; what = what }
-
 -- what the archive is once a wish was carried out
 pub applied : (h : List Event) (by : ℕ) (wish : EventKind) (h' : List Event) (outcome : Outcome) → Applies h by wish h' outcome → replay h' ≡ after (replay h) (record { by = by; what = event_of (replay h) wish })
 applied h by wish h' outcome a = ap replay a.added_behind ∙ after_all-push empty_archive h a.event ∙ ap (after (replay h)) a.verdict.1

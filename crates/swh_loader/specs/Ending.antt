@@ -1,12 +1,13 @@
 -- What a visit's end says of its input and of the archive.
-use Rattle.std.specs.Prelude.{◌≡◌, ℕ, Some, None, List, [], ◌∷◌}
+use Rattle.std.specs.Prelude.{◌≡◌, ℕ, Some, None, List, [], ◌∷◌, Contains}
+use Rattle.std.specs.List.{AllByRecursion}
 use Rattle.swh_base.specs.declared.kind.Kind.{Kind}
 use Rattle.swh_base.specs.declared.name.Name.{Name}
 use Rattle.swh_base.specs.declared.entry.Entry.{Entry}
 use Rattle.swh_base.specs.declared.visit.Status.TheVariants.{Ongoing, Full as FullStatus, NotFound as NotFoundStatus, Failed as FailedStatus}
 use Rattle.swh_outside.specs.Faults.{Rose}
 use Rattle.swh_model.specs.Archive.{Bodies}
-use Rattle.swh_model.specs.Step.{Statuses}
+use Rattle.swh_model.specs.Step.{Statuses, IsGoodAndNamed}
 use Rattle.swh_model.specs.Meaning.{IsMeaning, IsLeftOut}
 use Rattle.swh_outside.specs.declared.fault.Opened.{Opened}
 use Rattle.swh_outside.specs.declared.fault.Opened.TheVariants.{Found, NotFound as Missing, Failed as Unopened, Memory as NoRoom}
@@ -25,9 +26,21 @@ statuses_of (Full snapshot) = (Ongoing, None) ∷ (FullStatus, Some snapshot) �
 statuses_of NotFound = (NotFoundStatus, None) ∷ []
 statuses_of (Failed bad) = (Ongoing, None) ∷ (FailedStatus, None) ∷ []
 
--- The input means these objects and this snapshot.
+-- The input means these objects, each under its name and with its kids, and this snapshot.
 pub record MeansObjects (id : Kind → List ℕ → List ℕ) (text : List ℕ) (objects : List Entry) (snapshot : List ℕ) : Type 0 where
   pub meaning : IsMeaning id text (record { objects = made objects; snapshot = snapshot })
+  pub good : AllByRecursion (IsGoodAndNamed id) objects
+
+-- The input makes this object.
+pub record IsMadeBy (id : Kind → List ℕ → List ℕ) (text : List ℕ) (e : Entry) : Type 0 where
+  pub objects : List Entry
+  pub snapshot : List ℕ
+  pub means : MeansObjects id text objects snapshot
+  pub among : Contains objects e
+
+-- The input makes each of these, where it tells what it is.
+abbrev pub AreMadeBy : (Kind → List ℕ → List ℕ) → Type 0 → List ℕ → List Entry → Type 0
+AreMadeBy id tells text entries = tells → AllByRecursion (IsMadeBy id text) entries
 
 -- All of the input is held.
 pub record IsFull (id : Kind → List ℕ → List ℕ) (text : List ℕ) (bodies : Bodies) (snapshot : List ℕ) : Type 0 where

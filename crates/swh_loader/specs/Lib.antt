@@ -1,4 +1,6 @@
+pub mod Adding
 pub mod Ending
+pub mod Leaving
 pub mod Reading
 pub mod Report
 pub mod Sending

@@ -4,6 +4,7 @@ use Rattle.swh_base.specs.declared.kind.Kind.{Kind}
 use Rattle.swh_outside.specs.Faults.{Rose}
 use Rattle.swh_model.specs.Meaning.{IsMeaning, IsLeftOut}
 use Rattle.swh_fastload.specs.Loaded.{making_of}
+use Rattle.swh_fastload.specs.Whole.{IsWhole}
 use Rattle.swh_loader.specs.declared.end.StreamWhy.TheVariants.{LeftOut}
 use Rattle.swh_loader.specs.declared.end.BadInput.{BadInput}
 use Rattle.swh_loader.specs.declared.end.BadInput.TheVariants.{Stream, Collision, Read}
@@ -19,3 +20,8 @@ Broke id tells text before after Read = Rose before after
 abbrev pub IsRead : {N : Type 0} → (Kind → List ℕ → List ℕ) → Type 0 → List ℕ → ℕ → ℕ → Input N → Type 0
 IsRead id tells text before after (Made objects) = tells → IsMeaning id text (making_of objects)
 IsRead id tells text before after (Bad bad) = Broke id tells text before after bad
+
+-- What was made has all of its kids.
+abbrev pub IsWholeInput : {N : Type 0} → (Kind → List ℕ → List ℕ) → Input N → Type 0
+IsWholeInput id (Made objects) = IsWhole id objects
+IsWholeInput id (Bad bad) = Unit {0}

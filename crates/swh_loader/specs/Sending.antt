@@ -1,14 +1,16 @@
 -- What a load's input adds to what is held.
-use Rattle.std.specs.Prelude.{◌≡◌, ◌≢◌, ℕ, Option, Some, None, List, [], ◌∷◌, ◌++◌}
+use Rattle.std.specs.Prelude.{◌≡◌, ◌≢◌, ℕ, ◌<◌, ◌≤◌, Option, Some, None, List, [], ◌∷◌, ◌++◌, length, sum_by}
 use Rattle.std.specs.List.{AllByRecursion}
 use Rattle.std.specs.FinMap as finite
 use Rattle.swh_base.specs.declared.kind.Kind.{Kind}
 use Rattle.swh_base.specs.declared.name.Name.{Name}
 use Rattle.swh_base.specs.declared.entry.Entry.{Entry}
 use Rattle.swh_model.specs.Archive.{Bodies, body_of}
+use Rattle.swh_model.specs.Limits.{objects_limit, bytes_limit, IsWithinLimits}
 use Rattle.swh_model.specs.Step.{AreNew, IsGoodAndNamed, added, replay}
 use Rattle.swh_model.specs.Grows.{IsWithin}
 use Rattle.swh_keeper.specs.Kept.{Kept}
+use Rattle.swh_loader.specs.Adding.{AreAmong}
 use Rattle.swh_loader.specs.Visiting.{IsMarked}
 use Rattle.swh_loader.specs.declared.pending.Pending.{Pending}
 use Rattle.swh_loader.specs.declared.sending.Standing.{Standing}
@@ -32,11 +34,19 @@ bodies_of k = (replay k.history).bodies
 abbrev pub to_be : {D : Type 0} → Kept D → Pending → Bodies
 to_be k p = added (bodies_of k) p.entries.items
 
--- What waits is new, and good and named.
+-- A batch has room for an entry of this name behind what waits.
+pub record HasRoom (p : Pending) (n : Name) : Type 0 where
+  pub few : length p.entries.items < objects_limit
+  pub small : p.bytes ≤ bytes_limit
+  pub absent : body_of p.held n ≡ None
+
+-- What waits is new, good and named, and a batch within the limits.
 pub record IsWaiting (id : Kind → List ℕ → List ℕ) (bodies : Bodies) (p : Pending) : Type 0 where
   pub held : p.held ≡ added finite.empty p.entries.items
   pub new : AreNew bodies p.entries.items
   pub good : AllByRecursion (IsGoodAndNamed id) p.entries.items
+  pub limits : IsWithinLimits p.entries.items
+  pub counted : p.bytes ≡ sum_by (λ e. length e.body) p.entries.items
 
 -- Visits are as they were.
 abbrev pub SameVisits : {D : Type 0} → Kept D → Kept D → ℕ → Type 0
@@ -44,7 +54,8 @@ SameVisits old new by = (origin : List ℕ) (number : ℕ) → IsMarked old.hist
 
 -- what became of an entry
 abbrev pub IsTaken : {D : Type 0} → (Kind → List ℕ → List ℕ) → Kept D → Pending → Entry → Kept D → Taken → Type 0
-IsTaken id old p e new (Waits q) = IsWaiting id (bodies_of new) q × IsWithin (to_be old p) (to_be new q) × (body_of (to_be new q) e.name ≡ Some e.body)
+IsTaken id old p e new (Waits q) =
+    IsWaiting id (bodies_of new) q × IsWithin (to_be old p) (to_be new q) × (body_of (to_be new q) e.name ≡ Some e.body) × AreAmong (p.entries.items ++ e ∷ []) q.entries.items
 IsTaken id old p e new (Collides name) = (name ≡ e.name) × IsStanding (bodies_of new) e Other
 
 -- An object of these has a name under which another body is held.

@@ -1,17 +1,55 @@
--- Why a load stops.
+-- Why a load stops, and what it leaves.
+use Rattle.std.specs.Prelude.{◌≡◌, ℕ, ◌+◌, Some, None, length}
+use Rattle.swh_base.specs.declared.visit.Which.{Which}
+use Rattle.swh_segment.specs.Makes.{EitherRose}
+use Rattle.swh_model.specs.declared.event.Event.{Event}
+use Rattle.swh_model.specs.Judge.{FilePasses}
+use Rattle.swh_keeper.specs.Kept.{Kept}
 use Rattle.swh_keeper.specs.declared.fault.Refusal.{Refusal}
 use Rattle.swh_keeper.specs.declared.fault.Refusal.TheVariants as refusal
 use Rattle.swh_loader.specs.declared.fault.LoadWhy.{LoadWhy}
 use Rattle.swh_loader.specs.declared.fault.LoadWhy.TheVariants as why
 
-abbrev pub why_of : Refusal → LoadWhy
-why_of (refusal.Wounded first) = why.Wounded
-why_of (refusal.Limit which number) = why.Limit which number
-why_of (refusal.NoVisit have) = why.Memory
-why_of (refusal.NotYours by) = why.Memory
-why_of (refusal.Ended status) = why.Ended status
-why_of (refusal.NoSnapshot name) = why.Memory
-why_of (refusal.NotClosed parent child) = why.Memory
-why_of (refusal.Collision name) = why.Memory
-why_of refusal.DiskFault = why.DiskFault
-why_of (refusal.Memory stands) = why.Memory
+-- The refusals that a load may meet.
+abbrev pub MayStop : Refusal → Type 0
+MayStop (refusal.Wounded first) = Unit {0}
+MayStop (refusal.Limit which number) = Unit {0}
+MayStop refusal.DiskFault = Unit {0}
+MayStop (refusal.Memory stands) = Unit {0}
+MayStop _ = ⊥
+
+-- What each of them means for a load.
+abbrev pub IsWhyOf : Refusal → LoadWhy → Type 0
+IsWhyOf (refusal.Wounded first) stop = stop ≡ why.Wounded
+IsWhyOf (refusal.Limit which number) stop = stop ≡ why.Limit which number
+IsWhyOf refusal.DiskFault stop = stop ≡ why.DiskFault
+IsWhyOf (refusal.Memory stands) stop = stop ≡ why.Memory
+IsWhyOf _ stop = ⊥
+
+-- A disk had failed before, and nothing is changed.
+pub record IsStoppedBefore {D : Type 0} (old new : Kept D) : Type 0 where
+  pub first : ℕ
+  pub wounded : old.wounded ≡ Some first
+  pub same : new ≡ old
+
+-- A disk failed at the event behind the history.
+pub record IsFaulted {D : Type 0} (faults : D → ℕ) (old new : Kept D) : Type 0 where
+  pub before_it : old.wounded ≡ None
+  pub wounded : new.wounded ≡ Some (length new.history + 1)
+  pub rose : EitherRose (faults old.store) (faults new.store) (faults old.ledger) (faults new.ledger)
+
+-- One of the two files has no room behind the history for an event like these.
+pub record IsFileFull {D : Type 0} (IsTried : Event → Type 0) (old new : Kept D) (which : Which) (number : ℕ) : Type 0 where
+  pub before_it : old.wounded ≡ None
+  pub unwounded : new.wounded ≡ None
+  pub event : Event
+  pub tried : IsTried event
+  pub passes : FilePasses new.history event.what which number
+
+-- Why a load stops whose events are like these. No one else ends its visit.
+abbrev pub StopsFor : {D : Type 0} → (D → ℕ) → (Event → Type 0) → Kept D → Kept D → LoadWhy → Type 0
+StopsFor faults IsTried old new (why.Ended status) = ⊥
+StopsFor faults IsTried old new why.DiskFault = IsFaulted faults old new
+StopsFor faults IsTried old new why.Wounded = IsStoppedBefore old new
+StopsFor faults IsTried old new (why.Limit which number) = IsFileFull IsTried old new which number
+StopsFor faults IsTried old new why.Memory = new.wounded ≡ old.wounded

@@ -4,7 +4,7 @@ use Rattle.swh_base.specs.declared.visit.VisitKind.TheVariants.{Fast}
 use Rattle.swh_model.specs.declared.event.Event.{Event}
 use Rattle.swh_model.specs.declared.event.Visit.{Visit}
 use Rattle.swh_model.specs.Archive.{visits_of}
-use Rattle.swh_model.specs.Step.{Statuses, visit_at, replay}
+use Rattle.swh_model.specs.Step.{IsFinal, Statuses, last_status, visit_at, replay}
 use Rattle.swh_model.specs.Grows.{IsWithin}
 use Rattle.swh_keeper.specs.Kept.{Kept}
 
@@ -16,6 +16,13 @@ visit_with number date by statuses = record { number = number; date = date; kind
 pub record IsVisit (h : List Event) (origin : List ℕ) (number date by : ℕ) (statuses : Statuses) : Type 0 where
   pub positive : 0 < number
   pub there : visit_at (visits_of (replay h).origins origin) number ≡ Some (visit_with number date by statuses)
+
+-- The visit is there, this one opened it, and it has not ended.
+pub record IsOpen (h : List Event) (origin : List ℕ) (number by : ℕ) : Type 0 where
+  pub date : ℕ
+  pub statuses : Statuses
+  pub visit : IsVisit h origin number date by statuses
+  pub unended : IsFinal (last_status statuses) → ⊥
 
 -- Events were added, and all that was held is.
 pub record GoesOn {D : Type 0} (old new : Kept D) : Type 0 where

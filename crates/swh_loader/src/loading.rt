@@ -1,15 +1,20 @@
 // One load: an input read, made, sent, and its visit ended.
-ghost use Rattle.std.specs.Prelude.{◌≡◌, ◌≤◌, ◌+◌, ◌∷◌, [], Some, None, IfOk, OnOk, length};
+ghost use Rattle.std.specs.Prelude.{◌≡◌, ◌≤◌, ◌+◌, ◌∷◌, [], Some, None, IfOk, IfErr, OnOk, length};
 ghost use Rattle.swh_base.specs.declared.visit.Status.TheVariants.{Created, Ongoing, Full as FullStatus, NotFound as NotFoundStatus, Failed as FailedStatus};
-ghost use Rattle.swh_model.specs.Archive.{visits_of};
-ghost use Rattle.swh_model.specs.Step.{replay};
+ghost use Rattle.swh_model.specs.Archive.{visits_of, IsClosed};
+ghost use Rattle.swh_model.specs.Step.{replay, snapshot_name};
+ghost use Rattle.swh_fastload.specs.Whole.{IsWhole};
+ghost use Rattle.swh_loader.specs.declared.fault.LoadWhy.TheVariants.{Memory as OutOfMemory};
 ghost use Rattle.swh_loader.specs.declared.end.StreamWhy.TheVariants.{LeftOut};
 ghost use Rattle.swh_loader.specs.declared.end.BadInput.TheVariants.{Stream as BadStream, Read as BadRead};
 ghost use Rattle.swh_loader.specs.declared.end.End.TheVariants.{Full as EndFull, NotFound as EndNotFound, Failed as EndFailed};
-ghost use Rattle.swh_loader.specs.Visiting.{IsVisit, GoesOn, IsMarked};
+ghost use Rattle.swh_loader.specs.Adding.{AreAmong, IsNoBatch, IsOwn, Adds};
+ghost use Rattle.swh_loader.specs.Stopping.{StopsFor};
+ghost use Rattle.swh_loader.specs.Visiting.{IsVisit, IsOpen, GoesOn, IsMarked};
 ghost use Rattle.swh_loader.specs.Sending.{bodies_of};
-ghost use Rattle.swh_loader.specs.Ending.{IsSentEnd, IsEndOf, IsJobEnd, last_of, statuses_of};
-ghost use Rattle.swh_loader.specs.Reading.{IsRead};
+ghost use Rattle.swh_loader.specs.Ending.{AreMadeBy, IsSentEnd, IsEndOf, IsJobEnd, last_of, statuses_of};
+ghost use Rattle.swh_loader.specs.Reading.{IsRead, IsWholeInput};
+ghost use Rattle.swh_loader.specs.Leaving.{AreAllowed, AddsVisit, Stops, IsSameInput};
 
 use crate::end::{BadInput, End, Loaded, StreamWhy};
 use crate::fault::{LoadFault, LoadWhy};
@@ -50,6 +55,8 @@ fn read_input<N: Namer, S: Source>(
     source: &mut S,
 ) -> Result<Input<N>, LoadWhy>
     ensures read { IfOk result (λ input. IsRead N.id_of S.tells (S.left source.old) (S.faults source.old) (S.faults source.new) input) }
+    ensures whole { IfOk result (IsWholeInput N.id_of) }
+    ensures err { IfErr result (λ why. why ≡ OutOfMemory) }
     ensures same_path { S.path source.new ≡ S.path source.old }
     ensures later { S.faults source.old ≤ S.faults source.new }
 {
@@ -75,9 +82,13 @@ fn end_bad<N: Namer, D: Disk>(
     visit: u64,
     bad: BadInput,
 ) -> Result<End, LoadWhy>
+    requires unwounded { keeper.old.wounded ≡ None }
+    requires visit { IsOpen keeper.old.history origin.now visit by }
     ensures end { IfOk result (λ end. end ≡ EndFailed bad) }
     ensures marked { OnOk result (IsMarked keeper.old.history keeper.new.history origin.now visit by ((FailedStatus, None) ∷ [])) }
     ensures on { OnOk result (GoesOn keeper.old keeper.new) }
+    ensures adds { Adds D.faults (IsOwn IsNoBatch by origin.now visit) keeper.old keeper.new }
+    ensures stops { IfErr result (StopsFor D.faults (IsOwn IsNoBatch by origin.now visit) keeper.old keeper.new) }
 {
     mark(alloc, keeper, by, origin, visit, Status::Failed, None)?;
     Ok(End::Failed(bad))
@@ -95,9 +106,14 @@ fn end_full<N: Namer, D: Disk, G: Gate>(
     worker: u32,
     number: u32,
 ) -> Result<End, LoadWhy>
+    requires unwounded { keeper.old.wounded ≡ None }
+    requires visit { IsOpen keeper.old.history origin.now visit by }
+    requires closed { IsClosed (bodies_of keeper.old) (snapshot_name snapshot) }
     ensures end { IfOk result (λ end. end ≡ EndFull snapshot) }
     ensures marked { OnOk result (IsMarked keeper.old.history keeper.new.history origin.now visit by ((FullStatus, Some snapshot) ∷ [])) }
     ensures on { OnOk result (GoesOn keeper.old keeper.new) }
+    ensures adds { Adds D.faults (IsOwn IsNoBatch by origin.now visit) keeper.old keeper.new }
+    ensures stops { IfErr result (StopsFor D.faults (IsOwn IsNoBatch by origin.now visit) keeper.old keeper.new) }
 {
     gate.before(worker, number);
     mark(
@@ -125,10 +141,14 @@ fn finish<N: Namer, D: Disk, G: Gate>(
     worker: u32,
     number: u32,
 ) -> Result<End, LoadWhy>
-    requires { keeper.old.wounded ≡ None }
+    requires unwounded { keeper.old.wounded ≡ None }
+    requires visit { IsOpen keeper.old.history origin.now visit by }
+    requires whole { IsWhole N.id_of made }
     ensures end { IfOk result (λ end. IsSentEnd (bodies_of keeper.new) made end) }
     ensures marked { IfOk result (λ end. IsMarked keeper.old.history keeper.new.history origin.now visit by (last_of end)) }
     ensures on { OnOk result (GoesOn keeper.old keeper.new) }
+    ensures adds { Adds D.faults (IsOwn (AreAmong made.objects.items) by origin.now visit) keeper.old keeper.new }
+    ensures stops { IfErr result (StopsFor D.faults (IsOwn (AreAmong made.objects.items) by origin.now visit) keeper.old keeper.new) }
 {
     match send_all(alloc, keeper, by, made.objects)? {
         Some(name) => end_bad(
@@ -166,9 +186,13 @@ fn load_found<N: Namer, D: Disk, S: Source, G: Gate>(
     worker: u32,
     number: u32,
 ) -> Result<End, LoadWhy>
+    requires unwounded { keeper.old.wounded ≡ None }
+    requires visit { IsOpen keeper.old.history origin.now visit by }
     ensures end { IfOk result (λ end. IsEndOf N.id_of S.tells (S.left source.old) (S.faults source.old) (S.faults source.new) (bodies_of keeper.new) end) }
     ensures marked { IfOk result (λ end. IsMarked keeper.old.history keeper.new.history origin.now visit by (statuses_of end)) }
     ensures on { OnOk result (GoesOn keeper.old keeper.new) }
+    ensures adds { Adds D.faults (IsOwn (AreMadeBy N.id_of S.tells (S.left source.old)) by origin.now visit) keeper.old keeper.new }
+    ensures stops { IfErr result (StopsFor D.faults (IsOwn (AreMadeBy N.id_of S.tells (S.left source.old)) by origin.now visit) keeper.old keeper.new) }
     ensures same_path { S.path source.new ≡ S.path source.old }
     ensures later { S.faults source.old ≤ S.faults source.new }
 {
@@ -187,9 +211,13 @@ fn end_absent<N: Namer, D: Disk>(
     origin: &Url,
     visit: u64,
 ) -> Result<End, LoadWhy>
+    requires unwounded { keeper.old.wounded ≡ None }
+    requires visit { IsOpen keeper.old.history origin.now visit by }
     ensures end { IfOk result (λ end. end ≡ EndNotFound) }
     ensures marked { OnOk result (IsMarked keeper.old.history keeper.new.history origin.now visit by ((NotFoundStatus, None) ∷ [])) }
     ensures on { OnOk result (GoesOn keeper.old keeper.new) }
+    ensures adds { Adds D.faults (IsOwn IsNoBatch by origin.now visit) keeper.old keeper.new }
+    ensures stops { IfErr result (StopsFor D.faults (IsOwn IsNoBatch by origin.now visit) keeper.old keeper.new) }
 {
     mark(alloc, keeper, by, origin, visit, Status::NotFound, None)?;
     Ok(End::NotFound)
@@ -203,9 +231,13 @@ fn end_unread<N: Namer, D: Disk>(
     origin: &Url,
     visit: u64,
 ) -> Result<End, LoadWhy>
+    requires unwounded { keeper.old.wounded ≡ None }
+    requires visit { IsOpen keeper.old.history origin.now visit by }
     ensures end { IfOk result (λ end. end ≡ EndFailed BadRead) }
     ensures marked { OnOk result (IsMarked keeper.old.history keeper.new.history origin.now visit by ((Ongoing, None) ∷ (FailedStatus, None) ∷ [])) }
     ensures on { OnOk result (GoesOn keeper.old keeper.new) }
+    ensures adds { Adds D.faults (IsOwn IsNoBatch by origin.now visit) keeper.old keeper.new }
+    ensures stops { IfErr result (StopsFor D.faults (IsOwn IsNoBatch by origin.now visit) keeper.old keeper.new) }
 {
     mark(alloc, keeper, by, origin, visit, Status::Ongoing, None)?;
     end_bad(alloc, keeper, by, origin, visit, BadInput::Read)
@@ -224,9 +256,14 @@ fn load_opened<N: Namer, D: Disk, S: Source, G: Gate>(
     worker: u32,
     number: u32,
 ) -> Result<End, LoadWhy>
+    requires unwounded { keeper.old.wounded ≡ None }
+    requires visit { IsOpen keeper.old.history origin.now visit by }
     ensures end { IfOk result (λ end. IsJobEnd N.id_of S.tells S.left S.faults (bodies_of keeper.new) stream.old stream.new end) }
     ensures marked { IfOk result (λ end. IsMarked keeper.old.history keeper.new.history origin.now visit by (statuses_of end)) }
     ensures on { OnOk result (GoesOn keeper.old keeper.new) }
+    ensures adds { Adds D.faults (IsOwn (AreAllowed N.id_of S.tells S.left stream.old) by origin.now visit) keeper.old keeper.new }
+    ensures stops { IfErr result (StopsFor D.faults (IsOwn (AreAllowed N.id_of S.tells S.left stream.old) by origin.now visit) keeper.old keeper.new) }
+    ensures same { IsSameInput S.path S.faults stream.old stream.new }
 {
     match stream {
         Opened::Found(source) => load_found(
@@ -258,6 +295,18 @@ pub fn load_one<N: Namer, D: Disk, S: Source, G: Gate>(
     ensures end { IfOk result (λ loaded. IsJobEnd N.id_of S.tells S.left S.faults (bodies_of keeper.new) job.old.stream job.new.stream loaded.end) }
     // Nothing that was held is lost.
     ensures on { OnOk result (GoesOn keeper.old keeper.new) }
+    // No disk had failed.
+    ensures before_it { OnOk result (keeper.old.wounded ≡ None) }
+
+    // Whatever it answers, it adds its visit's events alone, with nothing but what the input makes.
+    ensures adds { AddsVisit (AreAllowed N.id_of S.tells S.left job.old.stream) by job.old.origin date keeper.old.history keeper.new.history }
+    // Why it stopped, and what is left then.
+    ensures stops { IfErr result (Stops D.faults (AreAllowed N.id_of S.tells S.left job.old.stream) by job.old.origin date keeper.old keeper.new) }
+    // The counts of faults, and the job.
+    ensures store_later { D.faults keeper.old.store ≤ D.faults keeper.new.store }
+    ensures ledger_later { D.faults keeper.old.ledger ≤ D.faults keeper.new.ledger }
+    ensures same_origin { job.new.origin ≡ job.old.origin }
+    ensures same_input { IsSameInput S.path S.faults job.old.stream job.new.stream }
 {
     let visit = match open_visit(alloc, keeper, by, &job.origin, date) {
         Ok(visit) => visit,

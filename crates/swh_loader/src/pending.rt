@@ -18,14 +18,16 @@ pub struct Pending {
 }
 
 impl Pending {
-    ghost use Rattle.std.specs.Prelude.{◌≡◌, ◌++◌, ◌∷◌, [], None, OnOk, IsTrue};
+    ghost use Rattle.std.specs.Prelude.{◌≡◌, ◌≤◌, ◌+◌, ◌++◌, ◌∷◌, [], length, OnOk, IsTrue};
     ghost use Rattle.std.specs.FinMap as finite;
-    ghost use Rattle.swh_model.specs.Archive.{body_of};
+    ghost use Rattle.swh_base.specs.Limits.{body_limit};
     ghost use Rattle.swh_model.specs.Step.{IsGood};
+    ghost use Rattle.swh_loader.specs.Sending.{HasRoom};
 
     pub fn new(alloc: Global) -> Pending
         ensures entries { result.entries.items ≡ [] }
         ensures held { result.held ≡ finite.empty }
+        ensures bytes { result.bytes ≡ 0 }
     {
         Pending {
             entries: Vec::new(alloc),
@@ -36,7 +38,7 @@ impl Pending {
 
     /// Says whether an entry of this name may join.
     pub fn has_room(&self, name: &Name) -> bool
-        ensures { IsTrue result → body_of self.now.held name.now ≡ None }
+        ensures { IsTrue result → HasRoom self.now name.now }
     {
         self.entries.len() < ENTRIES_LIMIT && self.bytes <= BYTES_LIMIT && !self.held.has(name)
     }
@@ -44,13 +46,13 @@ impl Pending {
     /// Lets an entry join.
     pub fn push(&mut self, entry: Entry) -> Result<(), Memory>
         requires good { IsGood entry }
-        requires absent { body_of self.old.held entry.name ≡ None }
+        requires short { length entry.body ≤ body_limit }
+        requires room { HasRoom self.old entry.name }
         ensures entries { OnOk result (self.new.entries.items ≡ self.old.entries.items ++ entry ∷ []) }
         ensures held { OnOk result (self.new.held ≡ finite.insert self.old.held entry.name entry.body) }
+        ensures bytes { OnOk result (self.new.bytes ≡ self.old.bytes + length entry.body) }
     {
-        self.bytes = self
-            .bytes
-            .saturating_add(entry.body.as_slice().len() as u64);
+        self.bytes += entry.body.as_slice().len() as u64;
         self.held.put(entry.again()?)?;
         self.entries.push(entry)?;
         Ok(())

@@ -1,10 +1,11 @@
 // What a load's input adds to what is held.
-ghost use Rattle.std.specs.Prelude.{◌≡◌, ◌≢◌, ◌∷◌, [], Some, None, IfOk, OnOk, ℕ};
-ghost use Rattle.swh_model.specs.Archive.{body_of};
+ghost use Rattle.std.specs.Prelude.{◌≡◌, ◌≢◌, ◌∷◌, [], Some, None, IfOk, IfErr, OnOk, ℕ};
 ghost use Rattle.swh_model.specs.Step.{added};
 ghost use Rattle.swh_object.specs.Object.{IsObject};
+ghost use Rattle.swh_loader.specs.Adding.{adding, IsEvent, AreAmong, IsBatchAmong, Adds};
+ghost use Rattle.swh_loader.specs.Stopping.{StopsFor};
 ghost use Rattle.swh_loader.specs.Visiting.{GoesOn};
-ghost use Rattle.swh_loader.specs.Sending.{IsStanding, IsWaiting, IsTaken, SameVisits, AreSent, bodies_of, to_be};
+ghost use Rattle.swh_loader.specs.Sending.{HasRoom, IsStanding, IsWaiting, IsTaken, SameVisits, AreSent, bodies_of, to_be};
 
 use crate::fault::LoadWhy;
 use crate::pending::Pending;
@@ -62,6 +63,8 @@ fn flush<N: Namer, D: Disk>(
     ensures bodies { OnOk result (bodies_of keeper.new ≡ to_be keeper.old pending) }
     ensures on { OnOk result (GoesOn keeper.old keeper.new) }
     ensures visits { OnOk result (SameVisits keeper.old keeper.new by) }
+    ensures adds { Adds D.faults (IsEvent (adding by pending.entries.items)) keeper.old keeper.new }
+    ensures stops { IfErr result (StopsFor D.faults (IsEvent (adding by pending.entries.items)) keeper.old keeper.new) }
 {
     if pending.entries.is_empty() {
         return Ok(());
@@ -83,11 +86,14 @@ fn make_room<N: Namer, D: Disk>(
 ) -> Result<Pending, LoadWhy>
     requires unwounded { keeper.old.wounded ≡ None }
     requires waiting { IsWaiting N.id_of (bodies_of keeper.old) pending }
-    ensures room { IfOk result (λ room. body_of room.held name.now ≡ None) }
+    ensures room { IfOk result (λ room. HasRoom room name.now) }
+    ensures among { IfOk result (λ room. AreAmong pending.entries.items room.entries.items) }
     ensures waiting { IfOk result (λ room. IsWaiting N.id_of (bodies_of keeper.new) room) }
     ensures to_be { IfOk result (λ room. to_be keeper.new room ≡ to_be keeper.old pending) }
     ensures on { OnOk result (GoesOn keeper.old keeper.new) }
     ensures visits { OnOk result (SameVisits keeper.old keeper.new by) }
+    ensures adds { Adds D.faults (IsEvent (adding by pending.entries.items)) keeper.old keeper.new }
+    ensures stops { IfErr result (StopsFor D.faults (IsEvent (adding by pending.entries.items)) keeper.old keeper.new) }
 {
     if pending.has_room(name) {
         return Ok(pending);
@@ -109,6 +115,8 @@ fn take_in<N: Namer, D: Disk>(
     ensures taken { IfOk result (λ taken. IsTaken N.id_of keeper.old pending object keeper.new taken) }
     ensures on { OnOk result (GoesOn keeper.old keeper.new) }
     ensures visits { OnOk result (SameVisits keeper.old keeper.new by) }
+    ensures adds { Adds D.faults (IsEvent (adding by pending.entries.items)) keeper.old keeper.new }
+    ensures stops { IfErr result (StopsFor D.faults (IsEvent (adding by pending.entries.items)) keeper.old keeper.new) }
 {
     let entry = object.into_entry();
     let mut pending = make_room(alloc, keeper, by, pending, &entry.name)?;
@@ -133,6 +141,8 @@ pub fn send_all<N: Namer, D: Disk>(
     ensures sent { IfOk result (λ collision. AreSent (bodies_of keeper.new) objects.items collision) }
     ensures on { OnOk result (GoesOn keeper.old keeper.new) }
     ensures visits { OnOk result (SameVisits keeper.old keeper.new by) }
+    ensures adds { Adds D.faults (IsBatchAmong by objects.items) keeper.old keeper.new }
+    ensures stops { IfErr result (StopsFor D.faults (IsBatchAmong by objects.items) keeper.old keeper.new) }
 {
     let mut left = VecDeque::from_vec(objects);
     let mut pending = Pending::new(alloc);

@@ -1,9 +1,10 @@
 // The visit of a load: opened, marked and ended.
-ghost use Rattle.std.specs.Prelude.{◌≡◌, ◌+◌, ◌∷◌, [], None, length, IfOk, OnOk};
+ghost use Rattle.std.specs.Prelude.{◌≡◌, ◌≤◌, ◌+◌, ◌++◌, ◌∷◌, [], None, length, IfOk, IfErr, OnOk, OnErr};
 ghost use Rattle.swh_base.specs.declared.visit.Status.TheVariants.{Created};
 ghost use Rattle.swh_model.specs.Archive.{visits_of};
-ghost use Rattle.swh_model.specs.Judge.{IsHow};
-ghost use Rattle.swh_model.specs.Step.{replay};
+ghost use Rattle.swh_model.specs.Step.{replay, MayMark};
+ghost use Rattle.swh_loader.specs.Adding.{opening, marking, IsEvent, Adds};
+ghost use Rattle.swh_loader.specs.Stopping.{StopsFor};
 ghost use Rattle.swh_loader.specs.Visiting.{IsVisit, GoesOn, IsMarked};
 
 use crate::fault::LoadWhy;
@@ -25,6 +26,12 @@ pub fn open_visit<N: Namer, D: Disk>(
     ensures number { IfOk result (λ visit. visit ≡ length (visits_of (replay keeper.old.history).origins origin.now) + 1) }
     ensures visit { IfOk result (λ visit. IsVisit keeper.new.history origin.now visit date by ((Created, None) ∷ [])) }
     ensures on { OnOk result (GoesOn keeper.old keeper.new) }
+    ensures before_it { OnOk result (keeper.old.wounded ≡ None) }
+    ensures opened { OnOk result (keeper.new.history ≡ keeper.old.history ++ opening by origin.now date ∷ []) }
+    ensures same { OnErr result (keeper.new.history ≡ keeper.old.history) }
+    ensures stops { IfErr result (StopsFor D.faults (IsEvent (opening by origin.now date)) keeper.old keeper.new) }
+    ensures store_later { D.faults keeper.old.store ≤ D.faults keeper.new.store }
+    ensures ledger_later { D.faults keeper.old.ledger ≤ D.faults keeper.new.ledger }
 {
     let Ok(origin) = origin.again(alloc) else {
         return Err(LoadWhy::Memory);
@@ -47,9 +54,11 @@ pub fn mark<N: Namer, D: Disk>(
     status: Status,
     snapshot: Option<[u8; 20]>,
 ) -> Result<(), LoadWhy>
-    requires { IsHow status snapshot }
+    requires { MayMark (replay keeper.old.history) by origin.now visit status snapshot }
     ensures marked { OnOk result (IsMarked keeper.old.history keeper.new.history origin.now visit by ((status, snapshot) ∷ [])) }
     ensures on { OnOk result (GoesOn keeper.old keeper.new) }
+    ensures adds { Adds D.faults (IsEvent (marking by origin.now visit status snapshot)) keeper.old keeper.new }
+    ensures stops { IfErr result (StopsFor D.faults (IsEvent (marking by origin.now visit status snapshot)) keeper.old keeper.new) }
 {
     let Ok(origin) = origin.again(alloc) else {
         return Err(LoadWhy::Memory);

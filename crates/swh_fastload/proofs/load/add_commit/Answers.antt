@@ -4,6 +4,7 @@ use Rattle.swh_fastload.specs.View.{commit_view}
 use Rattle.swh_fastload.specs.Making.{made}
 use Rattle.swh_fastload.proofs.Leads.{refuses_then}
 use Rattle.swh_fastload.proofs.Commits.{directory_good, revision_good, root_over, revision_over, commit_added}
+use Rattle.swh_fastload.proofs.Wholes.{gains_commit}
 use Rattle.swh_fastload.proofs.load.add_commit.Goals as goal
 
 pub add_object-requires-after_bounds : goal.add_object-requires-after_bounds
@@ -31,3 +32,17 @@ returns-clause-ok g c =
     (made c.args.objects.now.items) (made c.add_object.new.objects.items) (made c.add_object-2.new.objects.items) _
     c.in_ok-files.ensures.folder found c.in_ok-body.ensures.ok c.in_ok-root.ensures.id.0 c.in_ok-body-2.ensures.ok c.in_ok-root.ensures.short c.in_ok-revision.ensures.short c.in_ok-root.ensures.added c.in_ok-revision.ensures.added
     refl c.in_ok-revision.ensures.id.0 c.in_ok-revision.ensures.id.1
+
+pub returns-clause-whole : goal.returns-clause-whole
+returns-clause-whole g c =
+    let found = rw c.deref.ensures.value at c.in_ok-files.ensures.ok in
+    (gains_commit g.N.Namer.id_of c.args.marks.now.entries (commit_view c.args.commit.now) c.in_ok-files.files.entries c.in_ok-body.body.items c.in_ok-root.root c.in_ok-body-2.body.items
+    c.args.objects.now.items c.add_object.new.objects.items c.add_object-2.new.objects.items c.in_ok-revision.revision
+    c.requires.whole c.requires.contents c.in_ok-files.ensures.folder found c.in_ok-body.ensures.ok c.in_ok-root.ensures.appended c.in_ok-root.ensures.id.1 c.in_ok-body-2.ensures.ok c.in_ok-revision.ensures.appended).whole
+
+pub returns-clause-tip : goal.returns-clause-tip
+returns-clause-tip g c =
+    let found = rw c.deref.ensures.value at c.in_ok-files.ensures.ok in
+    (gains_commit g.N.Namer.id_of c.args.marks.now.entries (commit_view c.args.commit.now) c.in_ok-files.files.entries c.in_ok-body.body.items c.in_ok-root.root c.in_ok-body-2.body.items
+    c.args.objects.now.items c.add_object.new.objects.items c.add_object-2.new.objects.items c.in_ok-revision.revision
+    c.requires.whole c.requires.contents c.in_ok-files.ensures.folder found c.in_ok-body.ensures.ok c.in_ok-root.ensures.appended c.in_ok-root.ensures.id.1 c.in_ok-body-2.ensures.ok c.in_ok-revision.ensures.appended).there

@@ -5,6 +5,7 @@ use Rattle.swh_fastload.specs.View.{blob_view, commit_view, stream_view}
 use Rattle.swh_fastload.specs.Making.{made}
 use Rattle.swh_fastload.proofs.Leads.{refuses_then}
 use Rattle.swh_fastload.proofs.Loads.{parses_short, parses_good, left_out, tip_left_out, snapshot_left_out, snapshot_is, loaded_means}
+use Rattle.swh_fastload.proofs.Wholes.{gains_snapshot}
 use Rattle.swh_fastload.proofs.load.load_stream.Goals as goal
 
 pub add_contents-requires-clause-short : goal.add_contents-requires-clause-short
@@ -49,3 +50,10 @@ returns-clause-ok g c =
       added = c.in_ok-snapshot.ensures.added;
       id_is = c.in_ok-snapshot.ensures.id.0;
     })
+
+pub returns-clause-whole : goal.returns-clause-whole
+returns-clause-whole g c =
+    let gains = gains_snapshot g.N.Namer.id_of c.in_ok-marks.marks.entries (option_map commit_view c.in_ok-stream.stream.commit) c.in_ok-tip.tip (made c.add_contents.new.objects.items) (made c.add_tip.new.objects.items) c.in_ok-body.body.items
+    c.add_tip.new.objects.items c.add_object.new.objects.items c.in_ok-snapshot.snapshot
+    c.in_ok-tip.ensures.whole c.in_ok-tip.ensures.tip (parses_good c.args.text.now (stream_view c.in_ok-stream.stream) c.in_ok-stream.ensures.ok) c.in_ok-tip.ensures.ok c.in_ok-body.ensures.ok c.in_ok-snapshot.ensures.appended in
+    record { objects = gains.whole; snapshot = gains.there }

@@ -1,5 +1,12 @@
+use Rattle.std.proofs.Common.{List, Err, sym, ap}
+use Rattle.swh_base.specs.declared.entry.Entry.{Entry}
+use Rattle.swh_model.specs.declared.event.EventKind.TheVariants.{Batch}
+use Rattle.swh_model.specs.Step.{replay}
+use Rattle.swh_loader.specs.Adding.{adding}
 use Rattle.swh_loader.proofs.Steps.{goes_on, batch_visit}
-use Rattle.swh_loader.proofs.Sends.{batch_bodies}
+use Rattle.swh_loader.proofs.Sends.{fresh-same, batch_bodies}
+use Rattle.swh_loader.proofs.Further.{adds_one}
+use Rattle.swh_loader.proofs.Refusals.{batch_may, batch_full, stops_at}
 use Rattle.swh_loader.proofs.sending.flush.Goals as goal
 
 pub returns-in-Ok-clause-bodies : goal.returns-in-Ok-clause-bodies
@@ -10,3 +17,20 @@ returns-in-Ok-clause-on g c = goes_on c.args.keeper.now c.apply.new.self c.args.
 
 pub returns-in-Ok-clause-visits : goal.returns-in-Ok-clause-visits
 returns-in-Ok-clause-visits g c origin number = batch_visit c.args.keeper.now.history c.args.by _ c.apply.new.self.history c.in-Ok.field-0 c.in-Ok.ensures.ok origin number
+
+pub returns-in-Ok-clause-adds : goal.returns-in-Ok-clause-adds
+returns-in-Ok-clause-adds g c =
+    let entries = c.args.pending.entries.items in
+    adds_one g.D.Disk.faults c.args.keeper.now c.apply.new.self c.args.by (Batch entries) c.in-Ok.field-0 (adding c.args.by entries) (rw c.from_vec.ensures at c.in-Ok.ensures.ok)
+    (ap (λ (es : List Entry). adding c.args.by es) (sym (fresh-same (replay c.args.keeper.now.history).bodies entries c.requires.waiting.new)))
+    c.in-Ok.ensures.store_later c.in-Ok.ensures.ledger_later
+
+pub stopped-requires : goal.stopped-requires
+stopped-requires g c = batch_may c.args.keeper.now c.apply.new.self c.args.by c.args.pending.entries.items c.in-Err.refusal c.requires.waiting.new (rw c.from_vec.ensures at c.in-Err.ensures.err)
+
+pub returns-clause-stops : goal.returns-clause-stops
+returns-clause-stops g c =
+    let entries = c.args.pending.entries.items in
+    stops_at g.D.Disk.faults c.args.keeper.now c.apply.new.self c.args.by (Batch entries) (adding c.args.by entries) c.in-Err.refusal c.stopped.result
+    (λ which number is. batch_full c.args.keeper.now.history c.args.by entries which number c.requires.waiting.new c.requires.waiting.limits is)
+    (rw c.from_vec.ensures at c.in-Err.ensures.err) c.stopped.ensures (λ e. c.in-Err.ensures.cause (ap Err e))

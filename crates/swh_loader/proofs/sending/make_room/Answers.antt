@@ -1,5 +1,9 @@
-use Rattle.swh_loader.proofs.Sends.{no_room}
+use Rattle.swh_loader.proofs.Among.{among_all}
+use Rattle.swh_loader.proofs.Sends.{room_none}
 use Rattle.swh_loader.proofs.sending.make_room.Goals as goal
 
+pub returns-then-has_room-clause-among : goal.returns-then-has_room-clause-among
+returns-then-has_room-clause-among g c = among_all c.args.pending.entries.items
+
 pub returns-clause-room : goal.returns-clause-room
-returns-clause-room g c = no_room c.args.name.now _ c.new.ensures.held
+returns-clause-room g c = room_none c.new.result c.args.name.now c.new.ensures.entries c.new.ensures.held c.new.ensures.bytes

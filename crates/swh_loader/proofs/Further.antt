@@ -1,0 +1,78 @@
+-- What a load leaves, step by step.
+use Rattle.std.proofs.Common.{◌≡◌, inl, inr, ℕ, ◌≤◌, Option, Some, None, Result, Ok, Err, List, [], ◌∷◌, ◌++◌, sym, ap, ◌∙◌, arith, append_assoc}
+use Rattle.std.specs.Prelude.{IfErr}
+use Rattle.std.specs.List.{AllByRecursion}
+use Rattle.std.proofs.lemmas.List.{append-nil}
+use Rattle.swh_outside.specs.Faults.{Rose}
+use Rattle.swh_segment.specs.Makes.{EitherRose}
+use Rattle.swh_model.specs.declared.event.Event.{Event}
+use Rattle.swh_model.specs.declared.event.Outcome.{Outcome}
+use Rattle.swh_model.specs.declared.event.EventKind.{EventKind}
+use Rattle.swh_model.specs.Step.{replay}
+use Rattle.swh_model.specs.Judge.{event_of}
+use Rattle.swh_keeper.specs.Kept.{Kept, Applies}
+use Rattle.swh_loader.specs.declared.fault.LoadWhy.{LoadWhy}
+use Rattle.swh_loader.specs.declared.fault.LoadWhy.TheVariants as why
+use Rattle.swh_loader.specs.Adding.{IsEvent, Adds}
+use Rattle.swh_loader.specs.Stopping.{StopsFor}
+
+all_as : {X : Type 0} (P Q : X → Type 0) → ((x : X) → P x → Q x) → (xs : List X) → AllByRecursion P xs → AllByRecursion Q xs
+all_as P Q f [] h = tt
+all_as P Q f (x ∷ xs) h = (f x h.0, all_as P Q f xs h.1)
+
+all_append : {X : Type 0} (P : X → Type 0) (xs ys : List X) → AllByRecursion P xs → AllByRecursion P ys → AllByRecursion P (xs ++ ys)
+all_append P [] ys h k = k
+all_append P (x ∷ xs) ys h k = (h.0, all_append P xs ys h.1 k)
+
+-- nothing was added
+pub adds_none : {D : Type 0} (faults : D → ℕ) (P : Event → Type 0) (old new : Kept D) → new.history ≡ old.history → faults old.store ≤ faults new.store → faults old.ledger ≤ faults new.ledger → Adds faults P old new
+adds_none faults P old new e s l = record { more = []; behind = e ∙ sym (append-nil old.history); each = tt; store_later = s; ledger_later = l }
+
+-- one event was
+pub adds_one : {D : Type 0} (faults : D → ℕ) (old new : Kept D) (by : ℕ) (wish : EventKind) (outcome : Outcome) (event : Event) → Applies old.history by wish new.history outcome → event ≡ record { by = by; what = event_of (replay old.history) wish } → faults old.store ≤ faults new.store → faults old.ledger ≤ faults new.ledger → Adds faults (IsEvent event) old new
+adds_one faults old new by wish outcome event a e s l = record { more = a.event ∷ []; behind = a.added_behind; each = (a.verdict.1 ∙ sym e, tt); store_later = s; ledger_later = l }
+
+pub adds_as : {D : Type 0} (faults : D → ℕ) (P Q : Event → Type 0) (old new : Kept D) → ((e : Event) → P e → Q e) → Adds faults P old new → Adds faults Q old new
+adds_as faults P Q old new f a = record { more = a.more; behind = a.behind; each = all_as P Q f a.more a.each; store_later = a.store_later; ledger_later = a.ledger_later }
+
+pub adds_further : {D : Type 0} (faults : D → ℕ) (P : Event → Type 0) (a b c : Kept D) → Adds faults P a b → Adds faults P b c → Adds faults P a c
+adds_further faults P a b c h k = record {
+  more = h.more ++ k.more;
+  behind = k.behind ∙ ap (λ (t : List Event). t ++ k.more) h.behind ∙ append_assoc a.history h.more k.more;
+  each = all_append P h.more k.more h.each k.each;
+  store_later = let x = h.store_later in let y = k.store_later in omega (arith, x, y);
+  ledger_later = let x = h.ledger_later in let y = k.ledger_later in omega (arith, x, y);
+}
+
+rose_further : (a b c : ℕ) → a ≤ b → Rose b c → Rose a c
+rose_further a b c h r = omega (arith, h, r)
+
+either_further : (a b c x y z : ℕ) → a ≤ b → x ≤ y → EitherRose b c y z → EitherRose a c x z
+either_further a b c x y z h k (inl r) = inl (rose_further a b c h r)
+either_further a b c x y z h k (inr r) = inr (rose_further x y z k r)
+
+pub stops_as : {D : Type 0} (faults : D → ℕ) (P Q : Event → Type 0) (old new : Kept D) (stop : LoadWhy) → ((e : Event) → P e → Q e) → StopsFor faults P old new stop → StopsFor faults Q old new stop
+stops_as faults P Q old new (why.Ended status) f s = s
+stops_as faults P Q old new why.DiskFault f s = s
+stops_as faults P Q old new why.Wounded f s = s
+stops_as faults P Q old new (why.Limit which number) f s = record { before_it = s.before_it; unwounded = s.unwounded; event = s.event; tried = f s.event s.tried; passes = s.passes }
+stops_as faults P Q old new why.Memory f s = s
+
+none_some : (o : Option ℕ) (n : ℕ) → o ≡ None → o ≡ Some n → ⊥
+none_some o n x y = cc
+
+-- a load that had begun stops
+pub stops_further : {D : Type 0} (faults : D → ℕ) (P Q : Event → Type 0) (a b c : Kept D) (stop : LoadWhy) → a.wounded ≡ None → b.wounded ≡ None → Adds faults Q a b → StopsFor faults P b c stop → StopsFor faults P a c stop
+stops_further faults P Q a b c (why.Ended status) old mid h s = s
+stops_further faults P Q a b c why.DiskFault old mid h s = record { before_it = old; wounded = s.wounded; rose = either_further (faults a.store) (faults b.store) (faults c.store) (faults a.ledger) (faults b.ledger) (faults c.ledger) h.store_later h.ledger_later s.rose }
+stops_further faults P Q a b c why.Wounded old mid h s = absurd (none_some b.wounded s.first mid s.wounded)
+stops_further faults P Q a b c (why.Limit which number) old mid h s = record { before_it = old; unwounded = s.unwounded; event = s.event; tried = s.tried; passes = s.passes }
+stops_further faults P Q a b c why.Memory old mid h s = s ∙ mid ∙ sym old
+
+-- a step's events and its stop, as parts of a load's
+pub step_adds : {D : Type 0} (faults : D → ℕ) (P Q : Event → Type 0) (a b c : Kept D) → ((e : Event) → P e → Q e) → Adds faults Q a b → Adds faults P b c → Adds faults Q a c
+step_adds faults P Q a b c f h k = adds_further faults Q a b c h (adds_as faults P Q b c f k)
+
+pub step_stops : {D T : Type 0} (faults : D → ℕ) (P Q : Event → Type 0) (a b c : Kept D) (r : Result T LoadWhy) → ((e : Event) → P e → Q e) → a.wounded ≡ None → b.wounded ≡ None → Adds faults Q a b → IfErr r (StopsFor faults P b c) → IfErr r (StopsFor faults Q a c)
+step_stops faults P Q a b c (Ok t) f old mid h s = tt
+step_stops faults P Q a b c (Err stop) f old mid h s = stops_further faults Q Q a b c stop old mid h (stops_as faults P Q b c stop f s)

@@ -1,0 +1,56 @@
+-- What a load adds to a history.
+use Rattle.std.specs.Prelude.{◌≡◌, ℕ, ◌≤◌, Option, List, ◌++◌, Contains}
+use Rattle.std.specs.List.{AllByRecursion}
+use Rattle.swh_base.specs.declared.entry.Entry.{Entry}
+use Rattle.swh_base.specs.declared.visit.VisitKind.TheVariants.{Fast}
+use Rattle.swh_base.specs.declared.visit.Status.{Status}
+use Rattle.swh_model.specs.declared.event.Event.{Event}
+use Rattle.swh_model.specs.declared.event.EventKind.{EventKind}
+use Rattle.swh_model.specs.declared.event.EventKind.TheVariants.{Batch, Open, Mark}
+use Rattle.swh_keeper.specs.Kept.{Kept}
+
+abbrev pub opening : ℕ → List ℕ → ℕ → Event
+opening by origin date = record { by = by; what = Open origin Fast date }
+
+abbrev pub marking : ℕ → List ℕ → ℕ → Status → Option (List ℕ) → Event
+marking by origin number status snapshot = record { by = by; what = Mark origin number status snapshot }
+
+abbrev pub adding : ℕ → List Entry → Event
+adding by entries = record { by = by; what = Batch entries }
+
+-- The event is this one.
+abbrev pub IsEvent : Event → Event → Type 0
+IsEvent x e = e ≡ x
+
+-- Each is one of these objects.
+abbrev pub AreAmong : List Entry → List Entry → Type 0
+AreAmong objects entries = AllByRecursion (Contains objects) entries
+
+-- The event is a batch of some of these objects.
+pub record IsBatchAmong (by : ℕ) (objects : List Entry) (e : Event) : Type 0 where
+  pub entries : List Entry
+  pub is : e ≡ adding by entries
+  pub among : AreAmong objects entries
+
+-- No batch is allowed.
+abbrev pub IsNoBatch : List Entry → Type 0
+IsNoBatch entries = ⊥
+
+-- The event marks this visit, or adds a batch that is allowed.
+abbrev pub IsOwnKind : (List Entry → Type 0) → List ℕ → ℕ → EventKind → Type 0
+IsOwnKind IsAllowed origin number (Batch entries) = IsAllowed entries
+IsOwnKind IsAllowed origin number (Open other kind date) = ⊥
+IsOwnKind IsAllowed origin number (Mark other visit status snapshot) = (other ≡ origin) × (visit ≡ number)
+
+-- The event is a load's own, by the one who opened the visit.
+pub record IsOwn (IsAllowed : List Entry → Type 0) (by : ℕ) (origin : List ℕ) (number : ℕ) (e : Event) : Type 0 where
+  pub by_one : e.by ≡ by
+  pub kind : IsOwnKind IsAllowed origin number e.what
+
+-- Events like these were added behind, and no count of faults fell.
+pub record Adds {D : Type 0} (faults : D → ℕ) (IsAdded : Event → Type 0) (old new : Kept D) : Type 0 where
+  pub more : List Event
+  pub behind : new.history ≡ old.history ++ more
+  pub each : AllByRecursion IsAdded more
+  pub store_later : faults old.store ≤ faults new.store
+  pub ledger_later : faults old.ledger ≤ faults new.ledger

@@ -1,0 +1,61 @@
+-- What a load of a job leaves, whatever it answers.
+use Rattle.std.specs.Prelude.{◌≡◌, ◌⊎◌, ℕ, ◌+◌, ◌≤◌, List, [], ◌∷◌, ◌++◌, length}
+use Rattle.std.specs.List.{AllByRecursion}
+use Rattle.swh_base.specs.declared.kind.Kind.{Kind}
+use Rattle.swh_base.specs.declared.entry.Entry.{Entry}
+use Rattle.swh_outside.specs.declared.fault.Opened.{Opened}
+use Rattle.swh_outside.specs.declared.fault.Opened.TheVariants.{Found, NotFound, Failed, Memory}
+use Rattle.swh_model.specs.declared.event.Event.{Event}
+use Rattle.swh_model.specs.Archive.{visits_of}
+use Rattle.swh_model.specs.Step.{replay}
+use Rattle.swh_keeper.specs.Kept.{Kept}
+use Rattle.swh_loader.specs.declared.fault.LoadFault.{LoadFault}
+use Rattle.swh_loader.specs.Adding.{opening, IsEvent, IsNoBatch, IsOwn}
+use Rattle.swh_loader.specs.Ending.{AreMadeBy}
+use Rattle.swh_loader.specs.Stopping.{StopsFor}
+
+-- The number of an origin's next visit.
+abbrev pub next_visit : List Event → List ℕ → ℕ
+next_visit h origin = length (visits_of (replay h).origins origin) + 1
+
+-- The batches of a load hold only what its input makes; without an input there are none.
+abbrev pub AreAllowed : {S : Type 0} → (Kind → List ℕ → List ℕ) → Type 0 → (S → List ℕ) → Opened S → List Entry → Type 0
+AreAllowed id tells left (Found s) entries = AreMadeBy id tells (left s) entries
+AreAllowed id tells left NotFound entries = IsNoBatch entries
+AreAllowed id tells left Failed entries = IsNoBatch entries
+AreAllowed id tells left Memory entries = IsNoBatch entries
+
+-- The events of one load: none, or its visit's opening and then its own.
+abbrev pub AreOfVisit : (List Entry → Type 0) → ℕ → List ℕ → ℕ → ℕ → List Event → Type 0
+AreOfVisit IsBatch by origin date number [] = Unit {0}
+AreOfVisit IsBatch by origin date number (e ∷ es) = IsEvent (opening by origin date) e × AllByRecursion (IsOwn IsBatch by origin number) es
+
+-- One load's events were added.
+pub record AddsVisit (IsBatch : List Entry → Type 0) (by : ℕ) (origin : List ℕ) (date : ℕ) (h h' : List Event) : Type 0 where
+  pub more : List Event
+  pub behind : h' ≡ h ++ more
+  pub are : AreOfVisit IsBatch by origin date (next_visit h origin) more
+
+-- It stopped before its visit was opened, and nothing was added.
+pub record StopsAtOnce {D : Type 0} (faults : D → ℕ) (by : ℕ) (origin : List ℕ) (date : ℕ) (old new : Kept D) (fault : LoadFault) : Type 0 where
+  pub no_visit : fault.visit ≡ 0
+  pub same : new.history ≡ old.history
+  pub stops : StopsFor faults (IsEvent (opening by origin date)) old new fault.why
+
+-- It stopped once its visit was opened.
+pub record StopsLater {D : Type 0} (faults : D → ℕ) (IsBatch : List Entry → Type 0) (by : ℕ) (origin : List ℕ) (date : ℕ) (old new : Kept D) (fault : LoadFault) : Type 0 where
+  pub visit : fault.visit ≡ next_visit old.history origin
+  pub more : List Event
+  pub opened : new.history ≡ old.history ++ opening by origin date ∷ more
+  pub stops : StopsFor faults (IsOwn IsBatch by origin fault.visit) old new fault.why
+
+abbrev pub Stops : {D : Type 0} → (D → ℕ) → (List Entry → Type 0) → ℕ → List ℕ → ℕ → Kept D → Kept D → LoadFault → Type 0
+Stops faults IsBatch by origin date old new fault = StopsAtOnce faults by origin date old new fault ⊎ StopsLater faults IsBatch by origin date old new fault
+
+-- The input is as it was opened; of one that is found its path is the same, and its count of faults did not fall.
+abbrev pub IsSameInput : {S : Type 0} → (S → List ℕ) → (S → ℕ) → Opened S → Opened S → Type 0
+IsSameInput path faults (Found s) (Found now) = (path now ≡ path s) × (faults s ≤ faults now)
+IsSameInput path faults NotFound NotFound = Unit {0}
+IsSameInput path faults Failed Failed = Unit {0}
+IsSameInput path faults Memory Memory = Unit {0}
+IsSameInput path faults _ _ = ⊥
