@@ -55,6 +55,7 @@ impl<N: Namer, D: Disk> Keeper<N, D> {
     ghost use Rattle.swh_keeper.specs.declared.opening.OpenWhy.TheVariants.{Made, NotMade, Damaged, DiskFault as DiskFaulted};
     ghost use Rattle.swh_model.specs.Archive.{body_of, visits_of};
     ghost use Rattle.swh_model.specs.Step.{IsHistory, replay};
+    ghost use Rattle.swh_keeper.specs.Advance.{archive_of};
     ghost use Rattle.swh_keeper.specs.Maps.{IsEntryOf};
     ghost use Rattle.swh_keeper.specs.Kept.{IsKept, Applies, Refuses};
     ghost use Rattle.swh_keeper.specs.Keeping.{IsCarriedOut, IsBrokenOff};
@@ -197,6 +198,13 @@ impl<N: Namer, D: Disk> Keeper<N, D> {
         ensures { self.now.wounded ≡ None → MatchOption result (visits_of (replay self.now.history).origins origin.now ≡ []) (λ visits. visits.now ≡ visits_of (replay self.now.history).origins origin.now) }
     {
         self.replayed.visits.get(origin)
+    }
+
+    /// What the history makes of an archive, in memory, unless the keeper is wounded.
+    pub fn replayed(&self) -> &Replayed
+        ensures { self.now.wounded ≡ None → archive_of result.now ≡ replay self.now.history }
+    {
+        &self.replayed
     }
 
     /// Gives the store and the ledger back.

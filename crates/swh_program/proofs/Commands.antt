@@ -1,6 +1,6 @@
 -- Words are one command at most.
 use Rattle.std.specs.Prelude.{if◌then◌else◌}
-use Rattle.std.proofs.Common.{◌≡◌, ◌==◌, ℕ, List, [], length, get_or, refl, sym, ◌∙◌, ap}
+use Rattle.std.proofs.Common.{◌≡◌, ◌==◌, ℕ, List, [], length, get_or, refl, sym, subst, ◌∙◌, ap}
 use Rattle.swh_program.specs.Words.{Wanted, ToInit, ToLoad, ToAsk, spelled, IsCommand}
 
 -- their number and the first byte tell the commands apart
@@ -25,3 +25,21 @@ folder_of (ToAsk dir path) = dir
 
 pub one_folder : (a b : List ℕ) → ToInit a ≡ ToInit b → a ≡ b
 one_folder a b e = ap folder_of e
+
+abbrev second_of : Wanted → List ℕ
+second_of (ToInit dir) = []
+second_of (ToLoad dir jobs) = jobs
+second_of (ToAsk dir path) = path
+
+one_load : (a b j k : List ℕ) → ToLoad a j ≡ ToLoad b k → (a ≡ b) × (j ≡ k)
+one_load a b j k e = (ap folder_of e, ap second_of e)
+
+one_ask : (a b p q : List ℕ) → ToAsk a p ≡ ToAsk b q → (a ≡ b) × (p ≡ q)
+one_ask a b p q e = (ap folder_of e, ap second_of e)
+
+-- what holds of the words' folder and file holds of the command's
+pub at_load : (P : List ℕ → List ℕ → Type 0) (a b j k : List ℕ) → ToLoad a j ≡ ToLoad b k → P a j → P b k
+at_load P a b j k e p = let same = one_load a b j k e in subst (λ (d : List ℕ). P d k) same.0 (subst (λ (f : List ℕ). P a f) same.1 p)
+
+pub at_ask : (P : List ℕ → List ℕ → Type 0) (a b p q : List ℕ) → ToAsk a p ≡ ToAsk b q → P a p → P b q
+at_ask P a b p q e x = let same = one_ask a b p q e in subst (λ (d : List ℕ). P d q) same.0 (subst (λ (f : List ℕ). P a f) same.1 x)

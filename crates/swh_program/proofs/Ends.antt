@@ -1,7 +1,9 @@
 -- What the ends of `init` mean.
 use Rattle.std.proofs.Common.{◌≡◌, ◌≢◌, ◌<◌, inl, inr, ⊎_elim, ℕ, List, length, get_or, sym, subst, refl, arith}
 use Rattle.swh_outside.specs.Faults.{Rose}
-use Rattle.swh_program.specs.Answers.{status_of, IsPrinted, IsCutOff, IsToldOf}
+use Rattle.swh_program.specs.Answers.{status_of, status_for, IsPrinted, IsCutOff, IsToldOf}
+use Rattle.swh_program.specs.declared.answer.Ending.{Ending}
+use Rattle.swh_program.specs.declared.answer.Ending.TheVariants as ending
 use Rattle.swh_program.specs.Run.{IsStatus, IsDone}
 use Rattle.swh_outside.specs.Disk.{EachImage}
 use Rattle.swh_outside.specs.Files.{Files, EachImages}
@@ -11,7 +13,7 @@ use Rattle.swh_segment.proofs.Crash.{making_moments}
 use Rattle.swh_program.specs.Archives.{Folders}
 use Rattle.swh_program.specs.Init.{InitEnds, Inits, IsSafeInit}
 use Rattle.swh_program.specs.declared.answer.Answer.{Answer}
-use Rattle.swh_program.specs.declared.answer.Answer.TheVariants.{Made, Words, AlreadyMade, OutsideDisk, Memory}
+use Rattle.swh_program.specs.declared.answer.Answer.TheVariants.{Made, Told, Words, NoJobFile, JobForm, AlreadyMade, NotMade, Damaged, OutsideDisk, OutsideSource, OutsideClock, Memory}
 
 left_by : (old new : Files) (answer : Answer) → InitEnds old new answer → IsNotMade (old 0).seen → EachImage (old 0) IsNotMade → EachImages new IsNotMadeOrEmpty
 left_by old new Made e not_made each = files_left_whole (making_calls (old 0).seen) old new IsNotMadeOrEmpty (making_moments old not_made each).moments e.done
@@ -20,7 +22,14 @@ left_by old new OutsideDisk e not_made each =
     let moments = (making_moments old not_made each).moments in
     ⊎_elim (λ same. files_left_same (making_calls (old 0).seen) old new IsNotMadeOrEmpty moments same) (λ breaks. files_left_by (making_calls (old 0).seen) old new IsNotMadeOrEmpty moments breaks) e
 left_by old new Memory e not_made each = files_left_same (making_calls (old 0).seen) old new IsNotMadeOrEmpty (making_moments old not_made each).moments e
+left_by old new (Told text end) e not_made each = absurd e
 left_by old new Words e not_made each = absurd e
+left_by old new NoJobFile e not_made each = absurd e
+left_by old new JobForm e not_made each = absurd e
+left_by old new NotMade e not_made each = absurd e
+left_by old new Damaged e not_made each = absurd e
+left_by old new OutsideSource e not_made each = absurd e
+left_by old new OutsideClock e not_made each = absurd e
 
 pub safe : (old new : Files) (answer : Answer) → InitEnds old new answer → IsSafeInit old new
 safe old new answer ends = record { moments = making_moments old; left = left_by old new answer ends }
@@ -30,16 +39,33 @@ pub ends_at : (a b old new : Files) (answer : Answer) → a ≡ old → new ≡ 
 ends_at a b old new answer given taken ends =
     subst (λ (f : Files). InitEnds old f answer) (sym taken) (subst (λ (f : Files). InitEnds f b answer) given ends)
 
+ending_status : (end : Ending) → IsStatus (status_for end)
+ending_status ending.Done = inl refl
+ending_status ending.Wanting = inr (inl refl)
+ending_status ending.OutsideDisk = inr (inr (inr (inr (inl refl))))
+ending_status ending.Memory = inr (inr (inr (inr (inr refl))))
+
+answer_status : (answer : Answer) → IsStatus (status_of answer)
+answer_status Made = inl refl
+answer_status (Told text end) = ending_status end
+answer_status Words = inr (inr (inl refl))
+answer_status NoJobFile = inr (inr (inl refl))
+answer_status JobForm = inr (inr (inl refl))
+answer_status AlreadyMade = inr (inr (inr (inl refl)))
+answer_status NotMade = inr (inr (inr (inl refl)))
+answer_status Damaged = inr (inr (inr (inl refl)))
+answer_status OutsideDisk = inr (inr (inr (inr (inl refl))))
+answer_status OutsideSource = inr (inr (inr (inr (inl refl))))
+answer_status OutsideClock = inr (inr (inr (inr (inl refl))))
+answer_status Memory = inr (inr (inr (inr (inr refl))))
+
 -- the status of a run is its answer's, or that of a failing sink
-pub told_status : (answer : Answer) (tells : Type 0) (before now : List ℕ) (faults_before faults_now status : ℕ) → IsStatus (status_of answer) → IsToldOf answer tells before now faults_before faults_now status → IsStatus status
-told_status answer tells before now faults_before faults_now status is told =
+pub told_status : (answer : Answer) (tells : Type 0) (before now : List ℕ) (faults_before faults_now status : ℕ) → IsToldOf answer tells before now faults_before faults_now status → IsStatus status
+told_status answer tells before now faults_before faults_now status told =
     ⊎_elim
-    (λ (printed : IsPrinted answer tells before now status). subst IsStatus (sym printed.status_is) is)
-    (λ (cut : IsCutOff answer tells before now faults_before faults_now status). subst IsStatus (sym cut.status_is) four)
+    (λ (printed : IsPrinted answer tells before now status). subst IsStatus (sym printed.status_is) (answer_status answer))
+    (λ (cut : IsCutOff answer tells before now faults_before faults_now status). subst IsStatus (sym cut.status_is) (answer_status OutsideDisk))
     told
-  where
-    four : IsStatus 4
-    four = inr (inr (inr (inl refl)))
 
 -- an archive that was not made, with no fault of its disks, was made, or memory ran out
 pub init_done : (old new : Files) (answer : Answer) → InitEnds old new answer → IsNotMade (old 0).seen → (answer ≡ OutsideDisk → ⊥) → IsDone (status_of answer)
@@ -47,7 +73,14 @@ init_done old new Made ends not_made no_disk = inl refl
 init_done old new AlreadyMade ends not_made no_disk = absurd (⊎_elim (λ (short : length (old 0).seen < 9). let long = ends.made.0 in omega (arith, long, short)) (λ (other : get_or (old 0).seen 0 0 ≢ 83). other ends.made.1) not_made)
 init_done old new OutsideDisk ends not_made no_disk = absurd (no_disk refl)
 init_done old new Memory ends not_made no_disk = inr refl
+init_done old new (Told text end) ends not_made no_disk = absurd ends
 init_done old new Words ends not_made no_disk = absurd ends
+init_done old new NoJobFile ends not_made no_disk = absurd ends
+init_done old new JobForm ends not_made no_disk = absurd ends
+init_done old new NotMade ends not_made no_disk = absurd ends
+init_done old new Damaged ends not_made no_disk = absurd ends
+init_done old new OutsideSource ends not_made no_disk = absurd ends
+init_done old new OutsideClock ends not_made no_disk = absurd ends
 
 -- and where the sink did not fail either, so says the run's status
 pub done_status : (answer : Answer) (tells : Type 0) (before now : List ℕ) (faults_before faults_now status : ℕ) → IsDone (status_of answer) → (Rose faults_before faults_now → ⊥) → IsToldOf answer tells before now faults_before faults_now status → IsDone status

@@ -2,3 +2,9 @@ pub mod Commands
 pub mod Ends
 pub mod JobFields
 pub mod FewWords
+pub mod Told
+pub mod Opened
+pub mod Asked
+pub mod Inputs
+pub mod Loads
+pub mod JobReads

@@ -2,25 +2,62 @@
 use Rattle.std.specs.Prelude.{◌≡◌, ◌⊎◌, ◌++◌, ◌∷◌, [], ℕ, List, codes}
 use Rattle.swh_outside.specs.Sink.{TakesSome}
 use Rattle.swh_outside.specs.Faults.{Rose}
+use Rattle.swh_program.specs.declared.answer.Ending.{Ending}
+use Rattle.swh_program.specs.declared.answer.Ending.TheVariants as ending
 use Rattle.swh_program.specs.declared.answer.Answer.{Answer}
-use Rattle.swh_program.specs.declared.answer.Answer.TheVariants.{Made, Words, AlreadyMade, OutsideDisk, Memory}
+use Rattle.swh_program.specs.declared.answer.Answer.TheVariants.{Made, Told, Words, NoJobFile, JobForm, AlreadyMade, NotMade, Damaged, OutsideDisk, OutsideSource, OutsideClock, Memory}
 
 abbrev pub refusal : List ℕ → List ℕ
 refusal text = codes "swharc: " ++ (text ++ 10 ∷ [])
 
+-- what is printed behind lines or replies
+abbrev pub last_line_for : Ending → List ℕ
+last_line_for ending.Done = []
+last_line_for ending.Wanting = []
+last_line_for ending.OutsideDisk = refusal (codes "outside disk")
+last_line_for ending.Memory = refusal (codes "memory")
+
+abbrev pub last_line_of : Answer → List ℕ
+last_line_of Made = codes "made" ++ 10 ∷ []
+last_line_of (Told text end) = last_line_for end
+last_line_of Words = refusal (codes "words")
+last_line_of NoJobFile = refusal (codes "no job file")
+last_line_of JobForm = refusal (codes "job line 1: form")
+last_line_of AlreadyMade = refusal (codes "made")
+last_line_of NotMade = refusal (codes "not made")
+last_line_of Damaged = refusal (codes "damaged 0 0")
+last_line_of OutsideDisk = refusal (codes "outside disk")
+last_line_of OutsideSource = refusal (codes "outside source")
+last_line_of OutsideClock = refusal (codes "outside clock")
+last_line_of Memory = refusal (codes "memory")
+
+-- lines or replies
+abbrev pub told_by : Answer → List ℕ
+told_by (Told text end) = text
+told_by _ = []
+
 -- all bytes that are printed
 abbrev pub printed_by : Answer → List ℕ
-printed_by Made = codes "made" ++ 10 ∷ []
-printed_by Words = refusal (codes "words")
-printed_by AlreadyMade = refusal (codes "made")
-printed_by OutsideDisk = refusal (codes "outside disk")
-printed_by Memory = refusal (codes "memory")
+printed_by answer = told_by answer ++ last_line_of answer
+
+abbrev pub status_for : Ending → ℕ
+status_for ending.Done = 0
+status_for ending.Wanting = 1
+status_for ending.OutsideDisk = 4
+status_for ending.Memory = 5
 
 abbrev pub status_of : Answer → ℕ
 status_of Made = 0
+status_of (Told text end) = status_for end
 status_of Words = 2
+status_of NoJobFile = 2
+status_of JobForm = 2
 status_of AlreadyMade = 3
+status_of NotMade = 3
+status_of Damaged = 3
 status_of OutsideDisk = 4
+status_of OutsideSource = 4
+status_of OutsideClock = 4
 status_of Memory = 5
 
 -- All of it was printed.

@@ -6,7 +6,7 @@ use Rattle.swh_outside.specs.Files.{Files, EachImages, FilesBreaks, files_done}
 use Rattle.swh_segment.specs.Making.{IsMade, IsNotMade, IsNotMadeOrEmpty, IsEmptyArchive, IsCrashSafe, making_calls}
 use Rattle.swh_program.specs.Archives.{Folders, archive_at, SameElsewhere}
 use Rattle.swh_program.specs.declared.answer.Answer.{Answer}
-use Rattle.swh_program.specs.declared.answer.Answer.TheVariants.{Made, Words, AlreadyMade, OutsideDisk, Memory}
+use Rattle.swh_program.specs.declared.answer.Answer.TheVariants.{Made, AlreadyMade, OutsideDisk, Memory}
 
 -- All device calls of the making were made, and the disks stand for the empty history, nothing written since a barrier.
 pub record IsMaking (old new : Files) : Type 0 where
@@ -28,7 +28,7 @@ InitEnds old new Made = IsMaking old new
 InitEnds old new AlreadyMade = WasMade old new
 InitEnds old new OutsideDisk = IsCutMaking old new
 InitEnds old new Memory = new ≡ old
-InitEnds old new Words = ⊥
+InitEnds old new _ = ⊥
 
 -- `init` has no other answers, whether the depot tells its content or not.
 abbrev pub IsInitAnswer : Answer → Type 0
@@ -36,7 +36,7 @@ IsInitAnswer Made = Unit {0}
 IsInitAnswer AlreadyMade = Unit {0}
 IsInitAnswer OutsideDisk = Unit {0}
 IsInitAnswer Memory = Unit {0}
-IsInitAnswer Words = ⊥
+IsInitAnswer _ = ⊥
 
 -- What a crash leaves at each device call of `init`, and after it, is not made, or made and empty, where at entry no
 -- image is made.

@@ -5,3 +5,8 @@ pub mod Init
 pub mod JobFile
 pub mod Run
 pub mod Words
+pub mod Opening
+pub mod Ask
+pub mod Jobs
+pub mod Load
+pub mod Loading

@@ -6,7 +6,7 @@ use Rattle.swh_program.specs.declared.answer.Answer.{Answer}
 
 -- The statuses that a run may end with.
 abbrev pub IsStatus : ℕ → Type 0
-IsStatus status = (status ≡ 0) ⊎ (status ≡ 2) ⊎ (status ≡ 3) ⊎ (status ≡ 4) ⊎ (status ≡ 5)
+IsStatus status = (status ≡ 0) ⊎ (status ≡ 1) ⊎ (status ≡ 2) ⊎ (status ≡ 3) ⊎ (status ≡ 4) ⊎ (status ≡ 5)
 
 -- An answer of this sort came, and it was told: what it prints is on the sink and its status is the run's, or the sink
 -- failed.

@@ -4,17 +4,25 @@
 #![tactic(auto)]
 
 mod answer;
+mod ask_command;
 mod files;
 mod init_command;
 mod job_file;
+mod job_reading;
+mod load_command;
+mod opening;
 mod outside;
 mod top;
 mod words;
 
-pub use answer::{Answer, tell};
+pub use answer::{Answer, Ending, tell};
+pub use ask_command::ask;
 pub use files::{ArchiveFiles, close_files, open_files};
 pub use init_command::init;
 pub use job_file::{JobFault, JobLine, parse_job};
+pub use job_reading::read_job;
+pub use load_command::load;
+pub use opening::{close_archive, open_archive};
 pub use outside::Outside;
 pub use top::run;
 pub use words::{Command, parse_words};

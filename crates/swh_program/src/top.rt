@@ -5,40 +5,82 @@ ghost use Rattle.swh_segment.specs.Making.{IsNotMade};
 ghost use Rattle.swh_program.specs.Archives.{archive_at};
 ghost use Rattle.swh_program.specs.Answers.{status_of};
 ghost use Rattle.swh_program.specs.Commands.{wanted_by};
-ghost use Rattle.swh_program.specs.Words.{IsCommand, ToInit};
+ghost use Rattle.swh_program.specs.Words.{IsCommand, ToInit, ToLoad, ToAsk};
 ghost use Rattle.swh_program.specs.Init.{Inits};
+ghost use Rattle.swh_program.specs.Load.{Loads};
+ghost use Rattle.swh_program.specs.Ask.{Asks};
 ghost use Rattle.swh_program.specs.Run.{IsStatus, IsNoCommand, Ends, IsDone};
 ghost use Rattle.swh_program.specs.declared.answer.Answer.TheVariants.{Words};
 
-use crate::{Answer, Command, Outside, init, parse_words, tell};
+use crate::{Answer, Command, Outside, ask, init, load, parse_words, tell};
 use std::alloc::Global;
 use swh_base::Namer;
 use swh_outside::{Clock, Depot, Doors, Gate, Origins, Sink, Yard};
 
 // What a command comes to.
-fn carry_out<P: Depot>(command: &Command<'_>, depot: &mut P) -> Answer
-    ensures status { IsStatus (status_of result) }
+fn carry_out<N: Namer, P: Depot, O: Origins, C: Clock, G: Gate>(
+    alloc: Global,
+    command: &Command<'_>,
+    namer: N,
+    depot: &mut P,
+    desk: &mut O,
+    origins: &mut O,
+    clock: &mut C,
+    gate: &G,
+) -> Answer
     ensures init { (dir : List ℕ) → wanted_by command.now ≡ ToInit dir
         → Inits dir P.tells (P.files depot.old) (P.files depot.new) (P.faults depot.old) (P.faults depot.new) result }
-    ensures later { P.faults depot.old ≤ P.faults depot.new }
+    ensures load { (dir jobs : List ℕ) → wanted_by command.now ≡ ToLoad dir jobs
+        → Loads N.id_of O.tells (O.file_at origins.old) (O.path_faults origins.old) (O.path_faults origins.new) (O.file_at desk.old) C.tells (C.time clock.old) P.tells dir jobs
+        (P.files depot.old) (P.files depot.new) (P.faults depot.old) (P.faults depot.new) (O.faults desk.old) (O.faults desk.new) (C.faults clock.old) (C.faults clock.new) result }
+    ensures ask { (dir path : List ℕ) → wanted_by command.now ≡ ToAsk dir path
+        → Asks N.id_of dir path P.tells (P.files depot.old) (P.files depot.new) (P.faults depot.old) (P.faults depot.new) result }
+    ensures depot_later { P.faults depot.old ≤ P.faults depot.new }
+    ensures desk_later { O.faults desk.old ≤ O.faults desk.new }
+    ensures origins_later { O.faults origins.old ≤ O.faults origins.new }
+    ensures clock_later { C.faults clock.old ≤ C.faults clock.new }
 {
     match command {
         Command::Init { dir } => init(depot, dir),
-        Command::Load { .. } | Command::Ask { .. } => Answer::Words,
+        Command::Load { dir, jobs } => load(
+            alloc, namer, depot, desk, origins, clock, gate, dir, jobs,
+        ),
+        Command::Ask { dir, path } => ask(alloc, namer, depot, dir, path),
     }
 }
 
 // What the words come to.
-fn obey<P: Depot>(words: &[String], depot: &mut P) -> Answer
-    ensures status { IsStatus (status_of result) }
+fn obey<N: Namer, P: Depot, O: Origins, C: Clock, G: Gate>(
+    alloc: Global,
+    words: &[String],
+    namer: N,
+    depot: &mut P,
+    desk: &mut O,
+    origins: &mut O,
+    clock: &mut C,
+    gate: &G,
+) -> Answer
     ensures refused { IsNoCommand (map string_bytes words.now) → result ≡ Words }
-    ensures untouched { IsNoCommand (map string_bytes words.now) → depot.new ≡ depot.old }
+    ensures same_depot { IsNoCommand (map string_bytes words.now) → depot.new ≡ depot.old }
+    ensures same_desk { IsNoCommand (map string_bytes words.now) → desk.new ≡ desk.old }
+    ensures same_origins { IsNoCommand (map string_bytes words.now) → origins.new ≡ origins.old }
+    ensures same_clock { IsNoCommand (map string_bytes words.now) → clock.new ≡ clock.old }
     ensures init { (dir : List ℕ) → IsCommand (map string_bytes words.now) (ToInit dir)
         → Inits dir P.tells (P.files depot.old) (P.files depot.new) (P.faults depot.old) (P.faults depot.new) result }
-    ensures later { P.faults depot.old ≤ P.faults depot.new }
+    ensures load { (dir jobs : List ℕ) → IsCommand (map string_bytes words.now) (ToLoad dir jobs)
+        → Loads N.id_of O.tells (O.file_at origins.old) (O.path_faults origins.old) (O.path_faults origins.new) (O.file_at desk.old) C.tells (C.time clock.old) P.tells dir jobs
+        (P.files depot.old) (P.files depot.new) (P.faults depot.old) (P.faults depot.new) (O.faults desk.old) (O.faults desk.new) (C.faults clock.old) (C.faults clock.new) result }
+    ensures ask { (dir path : List ℕ) → IsCommand (map string_bytes words.now) (ToAsk dir path)
+        → Asks N.id_of dir path P.tells (P.files depot.old) (P.files depot.new) (P.faults depot.old) (P.faults depot.new) result }
+    ensures depot_later { P.faults depot.old ≤ P.faults depot.new }
+    ensures desk_later { O.faults desk.old ≤ O.faults desk.new }
+    ensures origins_later { O.faults origins.old ≤ O.faults origins.new }
+    ensures clock_later { C.faults clock.old ≤ C.faults clock.new }
 {
     match parse_words(words) {
-        Some(command) => carry_out(&command, depot),
+        Some(command) => carry_out(
+            alloc, &command, namer, depot, desk, origins, clock, gate,
+        ),
         None => Answer::Words,
     }
 }
@@ -48,7 +90,7 @@ fn obey<P: Depot>(words: &[String], depot: &mut P) -> Answer
 /// Everything opened is given back.
 pub fn run<R, N: Namer, P: Depot, O: Origins, Y: Yard, K: Sink, C: Clock, D: Doors, G: Gate>(
     _rt: &R,
-    _alloc: Global,
+    alloc: Global,
     words: &[String],
     world: &mut Outside<N, P, O, Y, K, C, D, G>,
 ) -> u8
@@ -57,21 +99,43 @@ pub fn run<R, N: Namer, P: Depot, O: Origins, Y: Yard, K: Sink, C: Clock, D: Doo
     // Words that are no command touch nothing.
     ensures refused { IsNoCommand (map string_bytes words.now)
         → Ends (λ answer. answer ≡ Words) K.tells (K.taken world.old.sink) (K.taken world.new.sink) (K.faults world.old.sink) (K.faults world.new.sink) result }
-
-    ensures untouched { IsNoCommand (map string_bytes words.now) → world.new.depot ≡ world.old.depot }
+    ensures same_depot { IsNoCommand (map string_bytes words.now) → world.new.depot ≡ world.old.depot }
+    ensures same_desk { IsNoCommand (map string_bytes words.now) → world.new.desk ≡ world.old.desk }
+    ensures same_origins { IsNoCommand (map string_bytes words.now) → world.new.origins ≡ world.old.origins }
+    ensures same_clock { IsNoCommand (map string_bytes words.now) → world.new.clock ≡ world.old.clock }
 
     ensures init { (dir : List ℕ) → IsCommand (map string_bytes words.now) (ToInit dir)
         → Ends (Inits dir P.tells (P.files world.old.depot) (P.files world.new.depot) (P.faults world.old.depot) (P.faults world.new.depot))
+        K.tells (K.taken world.old.sink) (K.taken world.new.sink) (K.faults world.old.sink) (K.faults world.new.sink) result }
+
+    ensures load { (dir jobs : List ℕ) → IsCommand (map string_bytes words.now) (ToLoad dir jobs)
+        → Ends (Loads N.id_of O.tells (O.file_at world.old.origins) (O.path_faults world.old.origins) (O.path_faults world.new.origins) (O.file_at world.old.desk) C.tells (C.time world.old.clock) P.tells dir jobs
+        (P.files world.old.depot) (P.files world.new.depot) (P.faults world.old.depot) (P.faults world.new.depot) (O.faults world.old.desk) (O.faults world.new.desk) (C.faults world.old.clock) (C.faults world.new.clock))
+        K.tells (K.taken world.old.sink) (K.taken world.new.sink) (K.faults world.old.sink) (K.faults world.new.sink) result }
+
+    ensures ask { (dir path : List ℕ) → IsCommand (map string_bytes words.now) (ToAsk dir path)
+        → Ends (Asks N.id_of dir path P.tells (P.files world.old.depot) (P.files world.new.depot) (P.faults world.old.depot) (P.faults world.new.depot))
         K.tells (K.taken world.old.sink) (K.taken world.new.sink) (K.faults world.old.sink) (K.faults world.new.sink) result }
 
     // An archive that is not made is made, unless memory runs out, where no part of the outside failed.
     ensures complete_init { (dir : List ℕ) → IsCommand (map string_bytes words.now) (ToInit dir) → P.tells → IsNotMade (archive_at (P.files world.old.depot) dir 0).seen
         → (Rose (P.faults world.old.depot) (P.faults world.new.depot) → ⊥) → (Rose (K.faults world.old.sink) (K.faults world.new.sink) → ⊥) → IsDone result }
 
-    // The parts that no command touches yet.
-    ensures clock { world.new.clock ≡ world.old.clock }
+    // No count of faults falls.
     ensures depot_later { P.faults world.old.depot ≤ P.faults world.new.depot }
+    ensures desk_later { O.faults world.old.desk ≤ O.faults world.new.desk }
+    ensures origins_later { O.faults world.old.origins ≤ O.faults world.new.origins }
+    ensures clock_later { C.faults world.old.clock ≤ C.faults world.new.clock }
 {
-    let answer = obey(words, &mut world.depot);
-    tell(&mut world.sink, answer)
+    let answer = obey(
+        alloc,
+        words,
+        world.namer,
+        &mut world.depot,
+        &mut world.desk,
+        &mut world.origins,
+        &mut world.clock,
+        &world.gate,
+    );
+    tell(&mut world.sink, &answer)
 }

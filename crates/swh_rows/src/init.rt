@@ -36,7 +36,7 @@ fn other_words_are_refused(rt: HostRuntime) -> Result<(), Fail> {
 // Says whether a device that fails is the answer, and a later `init` finds the archive made or makes it.
 fn is_made_later(alloc: Global, ledger: &[u64], store: &[u64]) -> Result<bool, AllocError> {
     let mut world = new_world(alloc, &[])?;
-    lay_failing(alloc, &mut world, ledger, store)?;
+    lay_failing(alloc, &mut world, &[], ledger, store)?;
     let first = run_words(alloc, &["init", "A"], &mut world)?;
     let told = world.sink.bytes() == b"swharc: outside disk\n".as_slice();
     let counted = world.depot.faults() == 1;

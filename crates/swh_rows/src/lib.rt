@@ -6,4 +6,6 @@
 #[cfg(test)]
 mod init;
 #[cfg(test)]
+mod load;
+#[cfg(test)]
 mod world;

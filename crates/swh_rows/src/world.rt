@@ -40,14 +40,35 @@ pub fn new_world(alloc: Global, sink_failing: &[u64]) -> Result<World, AllocErro
     })
 }
 
-/// Lays an archive's files down, whose device calls of these numbers fail.
+/// One file at a path, whose calls of these numbers fail.
+pub fn give_file(
+    alloc: Global,
+    path: &str,
+    bytes: &[u8],
+    failing: &[u64],
+) -> Result<MemoryOrigins, AllocError> {
+    let input = Input {
+        path: String::from_str(alloc, path)?,
+        bytes: bytes.to_vec(alloc)?,
+        piece: 7,
+        failing: failing.to_vec(alloc)?,
+    };
+    Ok(MemoryOrigins::new(
+        alloc,
+        vec![in alloc; input]?,
+        Vec::new(alloc),
+    ))
+}
+
+/// Lays an archive's files down, of these bytes and an empty store, whose device calls of these numbers fail.
 pub fn lay_failing(
     alloc: Global,
     world: &mut World,
+    bytes: &[u8],
     ledger_failing: &[u64],
     store_failing: &[u64],
 ) -> Result<(), AllocError> {
-    let ledger = MemoryDisk::new(alloc, &[], ROOM, ledger_failing.to_vec(alloc)?)?;
+    let ledger = MemoryDisk::new(alloc, bytes, ROOM, ledger_failing.to_vec(alloc)?)?;
     world.depot.lay("A", 0, ledger)?;
     let store = MemoryDisk::new(alloc, &[], ROOM, store_failing.to_vec(alloc)?)?;
     world.depot.lay("A", 1, store)

@@ -1,10 +1,22 @@
 use Rattle.std.proofs.Common.{refl}
-use Rattle.swh_program.specs.Words.{ToInit}
+use Rattle.swh_program.specs.Words.{ToInit, ToLoad, ToAsk}
 use Rattle.swh_program.proofs.Commands.{one_command}
 use Rattle.swh_program.proofs.top.obey.Goals as goal
 
 pub returns-in-Some-clause-init : goal.returns-in-Some-clause-init
 returns-in-Some-clause-init g c dir is = c.carry_out.ensures.init dir (one_command _ _ _ c.in-Some.ensures.some is)
 
+pub returns-in-Some-clause-load : goal.returns-in-Some-clause-load
+returns-in-Some-clause-load g c dir jobs is = c.carry_out.ensures.load dir jobs (one_command _ _ _ c.in-Some.ensures.some is)
+
+pub returns-in-Some-clause-ask : goal.returns-in-Some-clause-ask
+returns-in-Some-clause-ask g c dir path is = c.carry_out.ensures.ask dir path (one_command _ _ _ c.in-Some.ensures.some is)
+
 pub returns-in-None-clause-init : goal.returns-in-None-clause-init
 returns-in-None-clause-init g c dir is = absurd (c.in-None.ensures.none refl (ToInit dir) is)
+
+pub returns-in-None-clause-load : goal.returns-in-None-clause-load
+returns-in-None-clause-load g c dir jobs is = absurd (c.in-None.ensures.none refl (ToLoad dir jobs) is)
+
+pub returns-in-None-clause-ask : goal.returns-in-None-clause-ask
+returns-in-None-clause-ask g c dir path is = absurd (c.in-None.ensures.none refl (ToAsk dir path) is)

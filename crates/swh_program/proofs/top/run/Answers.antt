@@ -2,10 +2,16 @@ use Rattle.swh_program.proofs.Ends.{told_status, init_done, done_status}
 use Rattle.swh_program.proofs.top.run.Goals as goal
 
 pub returns-clause-status : goal.returns-clause-status
-returns-clause-status g c = told_status _ _ _ _ _ _ _ c.obey-answer.ensures.status c.tell.ensures
+returns-clause-status g c = told_status _ _ _ _ _ _ _ c.tell.ensures
 
 pub returns-clause-init : goal.returns-clause-init
 returns-clause-init g c dir is = record { answer = c.obey-answer.result; is_one = c.obey-answer.ensures.init dir is; told = c.tell.ensures }
+
+pub returns-clause-load : goal.returns-clause-load
+returns-clause-load g c dir jobs is = record { answer = c.obey-answer.result; is_one = c.obey-answer.ensures.load dir jobs is; told = c.tell.ensures }
+
+pub returns-clause-ask : goal.returns-clause-ask
+returns-clause-ask g c dir path is = record { answer = c.obey-answer.result; is_one = c.obey-answer.ensures.ask dir path is; told = c.tell.ensures }
 
 pub returns-clause-complete_init : goal.returns-clause-complete_init
 returns-clause-complete_init g c dir is told not_made no_disk no_sink =

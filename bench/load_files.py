@@ -1,0 +1,84 @@
+#!/usr/bin/env python3
+"""Times the load of one commit with many files, 10,000 and 100,000 of 100 bytes each.
+
+    python3 bench/load_files.py [PROGRAM]
+
+Loading is n log n: the larger stream may take at most fifteen times as long as the smaller one. Beside it stands the
+rate of `git fast-import` on the same streams, in the same run. The program is the built one, outside the gate.
+"""
+import os
+import shutil
+import subprocess
+import sys
+import tempfile
+import time
+
+SIZES = (10_000, 100_000)
+FILE_BYTES = 100
+MOST_TIMES = 15
+ROUNDS = 3
+
+
+def stream_of(count):
+    """A stream of one commit with this many files, each of its own bytes."""
+    parts = []
+    for number in range(1, count + 1):
+        data = b"%0*d\n" % (FILE_BYTES - 1, number)
+        parts.append(b"blob\nmark :%d\ndata %d\n%s\n" % (number, len(data), data))
+    parts.append(b"commit refs/heads/main\nmark :%d\n" % (count + 1))
+    parts.append(b"committer A <a@e.org> 1000000000 +0000\ndata 6\nfirst\n\n")
+    for number in range(1, count + 1):
+        parts.append(b"M 100644 :%d file%d\n" % (number, number))
+    parts.append(b"\n")
+    return b"".join(parts)
+
+
+def seconds(command, **options):
+    begun = time.monotonic()
+    done = subprocess.run(command, check=True, stdout=subprocess.PIPE, **options)
+    return time.monotonic() - begun, done.stdout
+
+
+def time_load(program, folder, stream):
+    archive = os.path.join(folder, "archive")
+    shutil.rmtree(archive, ignore_errors=True)
+    jobs = os.path.join(folder, "jobs")
+    with open(jobs, "w") as file:
+        file.write("fast\thttps://e.org/p\t%s\n" % stream)
+    subprocess.run([program, "init", archive], check=True, stdout=subprocess.DEVNULL)
+    took, line = seconds([program, "load", archive, jobs])
+    if b"\tfull\t" not in line:
+        sys.exit("not full: %r" % line)
+    return took
+
+
+def time_import(folder, stream):
+    bare = os.path.join(folder, "bare.git")
+    shutil.rmtree(bare, ignore_errors=True)
+    subprocess.run(["git", "init", "--quiet", "--bare", bare], check=True)
+    with open(stream, "rb") as given:
+        took, _ = seconds(["git", "-C", bare, "fast-import", "--quiet"], stdin=given)
+    return took
+
+
+def main():
+    here = os.path.dirname(os.path.abspath(__file__))
+    program = sys.argv[1] if len(sys.argv) > 1 else os.path.join(here, "..", "crates/swharc/out/swharc")
+    program = os.path.abspath(program)
+    best = {}
+    with tempfile.TemporaryDirectory() as folder:
+        for count in SIZES:
+            stream = os.path.join(folder, "stream%d" % count)
+            with open(stream, "wb") as file:
+                file.write(stream_of(count))
+            best[count] = min(time_load(program, folder, stream) for _ in range(ROUNDS))
+            git = min(time_import(folder, stream) for _ in range(ROUNDS))
+            print("%7d files: swharc %7.3f s (%8.0f files/s), git fast-import %7.3f s (%8.0f files/s)"
+                  % (count, best[count], count / best[count], git, count / git))
+    ratio = best[SIZES[1]] / best[SIZES[0]]
+    print("ratio %.1f, at most %d" % (ratio, MOST_TIMES))
+    sys.exit(0 if ratio <= MOST_TIMES else 1)
+
+
+if __name__ == "__main__":
+    main()

@@ -1,0 +1,29 @@
+use Rattle.std.proofs.Common.{sym, subst}
+use Rattle.swh_program.specs.Archives.{archive_at}
+use Rattle.swh_program.specs.Opening.{OpenEnds}
+use Rattle.swh_program.specs.declared.answer.Answer.{Answer}
+use Rattle.swh_program.proofs.Opened.{archive_kept, no_other_archive, made_here, opened_here, refused_here}
+use Rattle.swh_program.proofs.opening.open_archive.Goals as goal
+
+pub returns-in-Ok-open-clause-archive : goal.returns-in-Ok-open-clause-archive
+returns-in-Ok-open-clause-archive g c told =
+    let tells = c.in-Ok.ensures.disks_tell told in
+    let standing = c.history-history.ensures.kept.standing c.in-Ok-open.ensures.unwounded tells in
+    archive_kept g.N.Namer.id_of _ _ _ (c.in-Ok.ensures.given told) _ _ _ (c.in-Ok-open.ensures.calls tells) standing.stand c.history-history.ensures.kept.history
+
+pub returns-in-Ok-open-clause-no_other : goal.returns-in-Ok-open-clause-no_other
+returns-in-Ok-open-clause-no_other g c told =
+    no_other_archive g.N.Namer.id_of _ _ _ (c.in-Ok.ensures.given told) _ (c.in-Ok-open.ensures.history (c.in-Ok.ensures.disks_tell told))
+
+pub returns-in-Ok-open-clause-made : goal.returns-in-Ok-open-clause-made
+returns-in-Ok-open-clause-made g c told = made_here g.N.Namer.id_of _ _ _ (c.in-Ok.ensures.given told) (c.in-Ok-open.ensures.made (c.in-Ok.ensures.disks_tell told))
+
+pub returns-in-Ok-open-clause-opened : goal.returns-in-Ok-open-clause-opened
+returns-in-Ok-open-clause-opened g c told = opened_here g.N.Namer.id_of _ _ _ (c.in-Ok.ensures.given told) _ (c.in-Ok-open.ensures.calls (c.in-Ok.ensures.disks_tell told))
+
+pub returns-in-Err-clause-ends : goal.returns-in-Err-clause-ends
+returns-in-Err-clause-ends g c told =
+    let tells = c.in-Ok.ensures.disks_tell told in
+    let e = c.in-Err.ensures in
+    let ends = refused_here g.N.Namer.id_of _ _ _ (c.in-Ok.ensures.given told) _ _ _ (c.close_files.ensures.taken told) e.why (e.not_made tells) (e.damaged tells) (e.left tells) in
+    subst (λ (answer : Answer). OpenEnds g.N.Namer.id_of (archive_at (g.P.Depot.files c.args.depot.now) c.args.dir.now) (archive_at (g.P.Depot.files c.close_files.new.depot) c.args.dir.now) answer) (sym c.refused_by.ensures) ends

@@ -1,0 +1,54 @@
+-- The opening of an archive: which history its files stand for, and how a command ends that is refused.
+use Rattle.std.specs.Prelude.{◌≡◌, ◌⊎◌, ℕ, List}
+use Rattle.swh_base.specs.declared.kind.Kind.{Kind}
+use Rattle.swh_outside.specs.Files.{Files, FilesBreaks, files_done}
+use Rattle.swh_model.specs.declared.event.Event.{Event}
+use Rattle.swh_model.specs.Stands.{StandsFor}
+use Rattle.swh_model.specs.Step.{IsHistory}
+use Rattle.swh_segment.specs.Making.{IsMade, IsNotMade, barriers}
+use Rattle.swh_keeper.specs.declared.opening.OpenWhy.{OpenWhy}
+use Rattle.swh_keeper.specs.declared.opening.OpenWhy.TheVariants as why
+use Rattle.swh_program.specs.declared.answer.Answer.{Answer}
+use Rattle.swh_program.specs.declared.answer.Answer.TheVariants.{NotMade, Damaged, OutsideDisk, Memory}
+
+-- Nothing was done but a barrier on each file.
+abbrev pub IsOnlyOpened : Files → Files → Type 0
+IsOnlyOpened old new = new ≡ files_done barriers old
+
+-- Nothing was done, or nothing but these barriers.
+abbrev pub IsUntouched : Files → Files → Type 0
+IsUntouched old new = (new ≡ old) ⊎ IsOnlyOpened old new
+
+-- what the keeper's refusal comes to
+abbrev pub refusal_for : OpenWhy → Answer
+refusal_for why.Made = Memory
+refusal_for why.NotMade = NotMade
+refusal_for why.Damaged = Damaged
+refusal_for why.DiskFault = OutsideDisk
+refusal_for why.Memory = Memory
+
+-- an opening is refused by one of these
+abbrev pub IsOpenRefusal : Answer → Type 0
+IsOpenRefusal NotMade = Unit {0}
+IsOpenRefusal Damaged = Unit {0}
+IsOpenRefusal OutsideDisk = Unit {0}
+IsOpenRefusal Memory = Unit {0}
+IsOpenRefusal _ = ⊥
+
+module _ (id_of : Kind → List ℕ → List ℕ) where
+  -- The two files stand for this history.
+  pub record IsArchive (files : Files) (h : List Event) : Type 0 where
+    pub stand : StandsFor (files 0).seen (files 1).seen h
+    pub history : IsHistory id_of h
+
+  -- The ledger is made, but the files stand for no history.
+  pub record IsDamaged (files : Files) : Type 0 where
+    pub made : IsMade (files 0).seen
+    pub none : (h : List Event) → IsArchive files h → ⊥
+
+  abbrev pub OpenEnds : Files → Files → Answer → Type 0
+  OpenEnds old new NotMade = IsNotMade (old 0).seen × IsOnlyOpened old new
+  OpenEnds old new Damaged = IsDamaged old × IsOnlyOpened old new
+  OpenEnds old new OutsideDisk = IsUntouched old new ⊎ FilesBreaks barriers old new
+  OpenEnds old new Memory = IsUntouched old new
+  OpenEnds old new _ = ⊥

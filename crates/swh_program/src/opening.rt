@@ -1,0 +1,86 @@
+// The archive in a folder, opened and given back.
+ghost use Rattle.std.specs.Prelude.{◌≡◌, ◌≤◌, ◌<◌, List, None, Err, IfOk, IfErr, OnOk, OnErr};
+ghost use Rattle.swh_outside.specs.Faults.{Rose};
+ghost use Rattle.swh_outside.specs.Files.{files_of, files_done};
+ghost use Rattle.swh_model.specs.declared.event.Event.{Event};
+ghost use Rattle.swh_segment.specs.Making.{IsMade, barriers};
+ghost use Rattle.swh_keeper.specs.Kept.{IsKept};
+ghost use Rattle.swh_program.specs.Archives.{archive_at, SameElsewhere};
+ghost use Rattle.swh_keeper.specs.Opening.{IsOpeningFault};
+ghost use Rattle.swh_program.specs.Opening.{IsArchive, IsOpenRefusal, OpenEnds, refusal_for};
+ghost use Rattle.swh_program.specs.declared.answer.Answer.TheVariants.{OutsideDisk};
+
+use crate::Answer;
+use crate::files::{ArchiveFiles, close_files, open_files};
+use std::alloc::Global;
+use swh_base::Namer;
+use swh_keeper::{Keeper, OpenFault, OpenWhy};
+use swh_outside::{Depot, OutFault};
+
+// What a refusal of the keeper comes to.
+fn refused_by(why: OpenWhy) -> Answer
+    requires { IsOpeningFault why }
+    ensures { result ≡ refusal_for why }
+{
+    match why {
+        OpenWhy::Made => unreachable!(),
+        OpenWhy::NotMade => Answer::NotMade,
+        OpenWhy::Damaged => Answer::Damaged,
+        OpenWhy::DiskFault => Answer::OutsideDisk,
+        OpenWhy::Memory => Answer::Memory,
+    }
+}
+
+/// Opens the archive in a folder. Where it is refused, its files are given back.
+pub fn open_archive<N: Namer, P: Depot>(
+    alloc: Global,
+    namer: N,
+    depot: &mut P,
+    dir: &str,
+) -> Result<Keeper<N, P::D>, Answer>
+    ensures disks_tell { P.tells → P.D.tells }
+    ensures archive { P.tells → IfOk result (λ keeper. IsArchive N.id_of (archive_at (P.files depot.old) dir.now) keeper.history) }
+    ensures no_other { P.tells → IfOk result (λ keeper. (h : List Event) → IsArchive N.id_of (archive_at (P.files depot.old) dir.now) h → keeper.history ≡ h) }
+    ensures made { P.tells → OnOk result (IsMade (archive_at (P.files depot.old) dir.now 0).seen) }
+    ensures opened { P.tells → IfOk result (λ keeper. files_of (P.D.file keeper.ledger) (P.D.file keeper.store) ≡ files_done barriers (archive_at (P.files depot.old) dir.now)) }
+    ensures unwounded { IfOk result (λ keeper. keeper.wounded ≡ None) }
+    ensures store_place { OnOk result (P.has_place depot.new dir.now 1) }
+    ensures ledger_place { OnOk result (P.has_place depot.new dir.now 0) }
+
+    ensures one_of { IfErr result (λ answer. IsOpenRefusal answer) }
+    ensures ends { P.tells → IfErr result (OpenEnds N.id_of (archive_at (P.files depot.old) dir.now) (archive_at (P.files depot.new) dir.now)) }
+    ensures others { P.tells → SameElsewhere dir.now (P.files depot.old) (P.files depot.new) }
+    ensures later { P.faults depot.old ≤ P.faults depot.new }
+    ensures cause { IfErr result (λ answer. answer ≡ OutsideDisk → Rose (P.faults depot.old) (P.faults depot.new)) }
+{
+    let ArchiveFiles { store, ledger } = match open_files(depot, dir) {
+        Ok(files) => files,
+        Err(OutFault::Failed) => return Err(Answer::OutsideDisk),
+        Err(OutFault::Memory) => return Err(Answer::Memory),
+    };
+    match Keeper::open(alloc, namer, store, ledger) {
+        Ok(keeper) => {
+            let _history = keeper.history();
+            Ok(keeper)
+        }
+        Err(OpenFault { why, store, ledger }) => {
+            close_files(depot, dir, ArchiveFiles { store, ledger });
+            Err(refused_by(why))
+        }
+    }
+}
+
+/// Gives the files of an archive back. Where one of them has failed, the depot's count rises.
+pub fn close_archive<N: Namer, P: Depot>(depot: &mut P, dir: &str, keeper: Keeper<N, P::D>)
+    requires store_place { P.has_place depot.old dir.now 1 }
+    requires ledger_place { P.has_place depot.old dir.now 0 }
+    ensures taken { P.tells → archive_at (P.files depot.new) dir.now ≡ files_of (P.D.file keeper.ledger) (P.D.file keeper.store) }
+    ensures kept { IsKept N.id_of P.D.tells P.D.file keeper }
+    ensures others { P.tells → SameElsewhere dir.now (P.files depot.old) (P.files depot.new) }
+    ensures later { P.faults depot.old ≤ P.faults depot.new }
+    ensures store_cause { 0 < P.D.faults keeper.store → Rose (P.faults depot.old) (P.faults depot.new) }
+    ensures ledger_cause { 0 < P.D.faults keeper.ledger → Rose (P.faults depot.old) (P.faults depot.new) }
+{
+    let (store, ledger) = keeper.close();
+    close_files(depot, dir, ArchiveFiles { store, ledger });
+}

@@ -1,0 +1,139 @@
+// The commands `load` and `ask`.
+use crate::world::{World, give_file, lay_failing, new_world, run_words};
+use std::alloc::{AllocError, Global};
+use std::test::Fail;
+use swh_memory::{MemoryClock, MemoryOrigins};
+
+const JOB: &[u8] = b"fast\thttps://e.org/p\te\n";
+
+const STREAM: &[u8] = b"blob\nmark :1\ndata 10\nversion 1\n\ncommit refs/heads/main\nmark :2\ncommitter A <a@e.org> 1000000000 +0000\ndata 6\nfirst\n\nM 100644 :1 test.txt\n\n";
+
+const LEDGER: &[u8] = b"SWHARC1\n\x01O\x00\x00\x00\x1c\x00\x00\x00\x01\x01\x00\x00\x00\x00;\x9a\xca\x00https://e.org/p\x01T\x00\x00\x00\x1d\x00\x00\x00\x01\x02\x00\x00\x00\x00\x00\x00\x00\x01\x00https://e.org/p\x01B\x00\x00\x00\x18\x00\x00\x00\x01\x00\x00\x00\x00\x00\x00\x00\x00\x00\x00\x00\x00\x00\x00\x01R\x00\x00\x00\x04\x01T\x00\x00\x001\x00\x00\x00\x01\x03\x00\x00\x00\x00\x00\x00\x00\x01\x01P6\xc2\xb4\xa6v\xf9\xda\xd6\x0f\xba\xedC\x1c\xa2\x1e\xcd\xecV\xffhttps://e.org/p\x00";
+
+const STORE: &[u8] = b"\x01\x00\x00\x00\x00\x00\x00\x00\n\x83\xba\xaea\x80Ne\xccs\xa7 \x1arRu\x0cv\x06j0version 1\n\x02\x00\x00\x00\x00\x00\x00\x00$\xd82\x9f\xc1\xcc\x93\x87\x80\xff\xdd\x9f\x94\xe0\xd3d\xe0\xeat\xf5y100644 test.txt\x00\x83\xba\xaea\x80Ne\xccs\xa7 \x1arRu\x0cv\x06j0\x03\x00\x00\x00\x00\x00\x00\x00\x80)\\\x06Q\xa9[\xa3*\xc5\xe1O\x92\xda\x01a\xb1\"\x94,\xactree d8329fc1cc938780ffdd9f94e0d364e0ea74f579\nauthor A <a@e.org> 1000000000 +0000\ncommitter A <a@e.org> 1000000000 +0000\n\nfirst\n\x05\x00\x00\x00\x00\x00\x00\x000P6\xc2\xb4\xa6v\xf9\xda\xd6\x0f\xba\xedC\x1c\xa2\x1e\xcd\xecV\xffrevision refs/heads/main\x0020:)\\\x06Q\xa9[\xa3*\xc5\xe1O\x92\xda\x01a\xb1\"\x94,\xac";
+
+const VISITS: &str = "/api/1/origin/https://e.org/p/visits/";
+
+// A world whose job file and stream are these, and where an archive is made.
+fn world_of(alloc: Global, job: &[u8], stream: &[u8]) -> Result<World, AllocError> {
+    let mut world = new_world(alloc, &[])?;
+    world.desk = give_file(alloc, "J", job, &[])?;
+    world.origins = give_file(alloc, "e", stream, &[])?;
+    let _made = run_words(alloc, &["init", "A"], &mut world)?;
+    Ok(world)
+}
+
+#[test]
+fn the_first_run(rt: HostRuntime) -> Result<(), Fail> {
+    let alloc = rt.alloc();
+    let mut world = world_of(alloc, JOB, STREAM)?;
+    assert_eq!(rt; run_words(alloc, &["load", "A", "J"], &mut world)?, 0);
+    assert_eq!(rt; world.depot.bytes("A", 0), LEDGER);
+    assert_eq!(rt; world.depot.bytes("A", 1), STORE);
+    assert_eq!(rt; run_words(alloc, &["ask", "A", VISITS], &mut world)?, 0);
+    assert_eq!(rt;
+        world.sink.bytes(),
+        b"made\nhttps://e.org/p\t1\tfull\tswh:1:snp:5036c2b4a676f9dad60fbaed431ca21ecdec56ff\n200 142\n[{\"date\":1000000000,\"origin\":\"https://e.org/p\",\"snapshot\":\"5036c2b4a676f9dad60fbaed431ca21ecdec56ff\",\"status\":\"full\",\"type\":\"fast\",\"visit\":1}]\n".as_slice()
+    );
+    assert_eq!(rt; world.depot.bytes("A", 0), LEDGER);
+    assert_eq!(rt; world.depot.bytes("A", 1), STORE);
+    Ok(())
+}
+
+#[test]
+fn a_stream_is_loaded_twice(rt: HostRuntime) -> Result<(), Fail> {
+    let alloc = rt.alloc();
+    let mut world = world_of(alloc, JOB, b"")?;
+    assert_eq!(rt; run_words(alloc, &["load", "A", "J"], &mut world)?, 0);
+    assert_eq!(rt; run_words(alloc, &["load", "A", "J"], &mut world)?, 0);
+    let unknown = "/api/1/origin/https://none.example/visits/";
+    assert_eq!(rt; run_words(alloc, &["ask", "A", unknown], &mut world)?, 1);
+    assert_eq!(rt;
+        world.sink.bytes(),
+        b"made\nhttps://e.org/p\t1\tfull\tswh:1:snp:1a8893e6a86f444e8be8e7bda6cb34fb1735a00e\nhttps://e.org/p\t2\tfull\tswh:1:snp:1a8893e6a86f444e8be8e7bda6cb34fb1735a00e\n404 21\n{\"error\":\"not found\"}\n".as_slice()
+    );
+    assert_eq!(rt; world.depot.bytes("A", 1).len(), 29);
+    Ok(())
+}
+
+// Says whether a run of `load` ends with this status, and prints this behind `made`.
+fn loads(
+    alloc: Global,
+    world: &mut World,
+    status: u8,
+    printed: &[u8],
+) -> Result<bool, AllocError> {
+    let ended = run_words(alloc, &["load", "A", "J"], world)?;
+    let told = world.sink.bytes().strip_prefix(b"made\n") == Some(printed);
+    Ok(ended == status && told)
+}
+
+#[test]
+fn jobs_that_are_refused(rt: HostRuntime) -> Result<(), Fail> {
+    let alloc = rt.alloc();
+    let mut world = world_of(alloc, JOB, STREAM)?;
+    world.desk = MemoryOrigins::new(alloc, Vec::new(alloc), Vec::new(alloc));
+    assert!(rt; loads(alloc, &mut world, 2, b"swharc: no job file\n")?);
+    let mut world = world_of(alloc, b"fast\te", STREAM)?;
+    assert!(rt; loads(alloc, &mut world, 2, b"swharc: job line 1: form\n")?);
+    let mut world = world_of(alloc, JOB, STREAM)?;
+    world.desk = give_file(alloc, "J", JOB, &[0])?;
+    assert!(rt; loads(alloc, &mut world, 4, b"swharc: outside source\n")?);
+    let mut world = world_of(alloc, JOB, STREAM)?;
+    world.clock = MemoryClock::new(1, vec![in alloc; 0]?);
+    assert!(rt; loads(alloc, &mut world, 4, b"swharc: outside clock\n")?);
+    assert_eq!(rt; world.depot.bytes("A", 0).len(), 9);
+    Ok(())
+}
+
+#[test]
+fn inputs_that_make_no_snapshot(rt: HostRuntime) -> Result<(), Fail> {
+    let alloc = rt.alloc();
+    let mut world = world_of(alloc, JOB, b"feature done\n")?;
+    assert!(rt; loads(alloc, &mut world, 1, b"https://e.org/p\t1\tfailed\tstream 0 left-out\n")?);
+    let mut world = world_of(alloc, JOB, STREAM)?;
+    world.origins = MemoryOrigins::new(alloc, Vec::new(alloc), Vec::new(alloc));
+    assert!(rt; loads(alloc, &mut world, 1, b"https://e.org/p\t1\tnot_found\t-\n")?);
+    let mut world = world_of(alloc, JOB, STREAM)?;
+    world.origins = give_file(alloc, "e", STREAM, &[0])?;
+    assert!(rt; loads(alloc, &mut world, 1, b"https://e.org/p\t1\tfailed\tread\n")?);
+    Ok(())
+}
+
+#[test]
+fn archives_that_are_refused(rt: HostRuntime) -> Result<(), Fail> {
+    let alloc = rt.alloc();
+    let mut world = new_world(alloc, &[])?;
+    assert_eq!(rt; run_words(alloc, &["ask", "A", VISITS], &mut world)?, 3);
+    assert_eq!(rt; world.sink.bytes(), b"swharc: not made\n".as_slice());
+    let mut world = world_of(alloc, b"x", b"")?;
+    lay_failing(alloc, &mut world, b"SWHARC2\n\0", &[], &[])?;
+    assert_eq!(rt; run_words(alloc, &["ask", "A", VISITS], &mut world)?, 3);
+    assert_eq!(rt; world.sink.bytes(), b"made\nswharc: damaged 0 0\n".as_slice());
+    Ok(())
+}
+
+// Says whether a disk that fails stops the load, and the archive is opened afterwards.
+fn is_stopped(alloc: Global, ledger: &[u64], store: &[u64]) -> Result<bool, AllocError> {
+    let mut world = world_of(alloc, JOB, STREAM)?;
+    lay_failing(alloc, &mut world, b"SWHARC1\n\0", ledger, store)?;
+    let ended = run_words(alloc, &["load", "A", "J"], &mut world)?;
+    let told = world.sink.bytes().ends_with(b"\tstopped\tdisk\nswharc: outside disk\n");
+    let counted = world.depot.faults() > 0;
+    let asked = run_words(alloc, &["ask", "A", VISITS], &mut world)?;
+    Ok(ended == 4 && told && counted && asked < 2)
+}
+
+#[test]
+fn each_device_call_fails_in_turn(rt: HostRuntime) -> Result<(), Fail> {
+    let alloc = rt.alloc();
+    // Opening makes a barrier on each file, and reads its length, its bytes and its end. Each of four events then
+    // writes its record and its gate, with a barrier behind each; the batch writes its run before, and a barrier.
+    for call in 4..20 {
+        assert!(rt; is_stopped(alloc, &[call], &[])?);
+    }
+    for call in 2..4 {
+        assert!(rt; is_stopped(alloc, &[], &[call])?);
+    }
+    Ok(())
+}
