@@ -1,0 +1,70 @@
+// Loads whose device calls fail.
+use crate::world::{URL, WORKED, found, load, made};
+use std::alloc::Global;
+use std::test::Fail;
+use swh_base::Sha1Namer;
+use swh_loader::{LoadFault, LoadWhy, Loaded};
+
+/// What two loads of the worked stream answer, and whether a disk had failed after the first.
+#[derive(Drop)]
+struct TwoLoads {
+    first: Result<Loaded, LoadFault>,
+    wounded: bool,
+    second: Result<Loaded, LoadFault>,
+}
+
+fn load_twice(
+    alloc: Global,
+    ledger_failing: &[u64],
+    store_failing: &[u64],
+) -> Result<TwoLoads, Fail> {
+    let one = found(alloc, WORKED, &[])?;
+    let other = found(alloc, WORKED, &[])?;
+    let mut keeper = made(alloc, Sha1Namer, ledger_failing, store_failing)?;
+    let first = load(alloc, &Sha1Namer, &mut keeper, URL, one);
+    let wounded = keeper.wounded().is_some();
+    let second = load(alloc, &Sha1Namer, &mut keeper, URL, other);
+    let (_store, _ledger) = keeper.close();
+    Ok(TwoLoads {
+        first,
+        wounded,
+        second,
+    })
+}
+
+/// Says whether the first load stops at the disk, and the second at once.
+fn is_stopped(loads: &TwoLoads, visit: u64) -> bool {
+    let fault = LoadFault {
+        visit,
+        why: LoadWhy::DiskFault,
+    };
+    let wounded = LoadFault {
+        visit: 0,
+        why: LoadWhy::Wounded,
+    };
+    loads.first == Err(fault) && loads.wounded && loads.second == Err(wounded)
+}
+
+#[test]
+fn each_device_call_fails_in_turn(rt: HostRuntime) -> Result<(), Fail> {
+    let alloc = rt.alloc();
+    // Nine calls of the ledger and one of the store make the archive. Each of the four events then writes its record
+    // and its gate, with a barrier behind each, and the batch writes its run, with a barrier behind it.
+    for call in 9..13 {
+        assert!(rt; is_stopped(&load_twice(alloc, &[call], &[])?, 0));
+    }
+    for call in 13..25 {
+        assert!(rt; is_stopped(&load_twice(alloc, &[call], &[])?, 1));
+    }
+    for call in 1..3 {
+        assert!(rt; is_stopped(&load_twice(alloc, &[], &[call])?, 1));
+    }
+    let later = load_twice(alloc, &[25], &[3])?;
+    assert!(rt; later.first.is_ok() && !later.wounded);
+    let fault = LoadFault {
+        visit: 0,
+        why: LoadWhy::DiskFault,
+    };
+    assert_eq!(rt; later.second, Err(fault));
+    Ok(())
+}

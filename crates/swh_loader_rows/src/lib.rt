@@ -1,0 +1,11 @@
+//! Rows of the loader over memory: loads of inputs, and of each device call that fails in turn.
+//! Stands on the loader, the keeper and the fakes.
+//! Nothing stands above it.
+#![tactic(auto)]
+
+#[cfg(test)]
+mod faults;
+#[cfg(test)]
+mod inputs;
+#[cfg(test)]
+mod world;
