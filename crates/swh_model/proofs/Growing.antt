@@ -63,6 +63,7 @@ visits_grow id_of a (e ∷ es) url number v may is =
   where
     final : Option Visit
     final = visit_at (visits_of (after_all (after a e) es).origins url) number
+
     behind : (o : Option Visit) → visit_at (visits_of (after a e).origins url) number ≡ o → IsLaterVisit v o → ((w : Visit) → visit_at (visits_of (after a e).origins url) number ≡ Some w → IsLaterVisit w final) → IsLaterVisit v final
     behind None at later on = absurd later
     behind (Some w) at later on = later_then v w final later (on w at)

@@ -95,7 +95,6 @@ module _ {S : Type 0} (id_of : Kind → List ℕ → List ℕ) (tells source_tel
     (opened_at : IfFound stream (λ s. path_of s ≡ path)) (quiet : IfFound stream (λ s. faults s ≡ 0))
     (entry middle after : ℕ) (later : entry ≤ middle) (later_still : middle ≤ after) (not_opened : IsFailed stream → Rose entry middle)
     (same : IsSameInput path_of faults stream now) (back : IfFound now (λ s. 0 < faults s → path_of s ≡ path → Rose middle after)) where
-
   abbrev pub failed : Type 0
   failed = Rose entry after
 

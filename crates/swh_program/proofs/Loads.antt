@@ -46,7 +46,6 @@ module _ (id_of : Kind → List ℕ → List ℕ) (before more after : List Even
 
 module _ (id_of : Kind → List ℕ → List ℕ) (tells : Type 0) (found : Option (List ℕ)) (failed disks_tell keeper_tells : Type 0) {D : Type 0} (faults : D → ℕ) (file : D → File) (was now : Kept D) (old new : Files)
     (archive : disks_tell → IsArchive id_of old was.history) (kept : IsKept id_of keeper_tells file now) (told : disks_tell → keeper_tells) (taken : disks_tell → new ≡ files_of (file now.ledger) (file now.store)) where
-
   standing : disks_tell → now.wounded ≡ None → AreStanding (new 0) (new 1) now.history
   standing t none = subst (λ (f : Files). AreStanding (f 0) (f 1) now.history) (sym (taken t)) (kept.standing none (told t))
 

@@ -78,9 +78,7 @@ fn obey<N: Namer, P: Depot, O: Origins, C: Clock, G: Gate>(
     ensures clock_later { C.faults clock.old ≤ C.faults clock.new }
 {
     match parse_words(words) {
-        Some(command) => carry_out(
-            alloc, &command, namer, depot, desk, origins, clock, gate,
-        ),
+        Some(command) => carry_out(alloc, &command, namer, depot, desk, origins, clock, gate),
         None => Answer::Words,
     }
 }

@@ -6,11 +6,14 @@ use swh_memory::{MemoryClock, MemoryOrigins};
 
 const JOB: &[u8] = b"fast\thttps://e.org/p\te\n";
 
-const STREAM: &[u8] = b"blob\nmark :1\ndata 10\nversion 1\n\ncommit refs/heads/main\nmark :2\ncommitter A <a@e.org> 1000000000 +0000\ndata 6\nfirst\n\nM 100644 :1 test.txt\n\n";
+const STREAM: &[u8] =
+    b"blob\nmark :1\ndata 10\nversion 1\n\ncommit refs/heads/main\nmark :2\ncommitter A <a@e.org> 1000000000 +0000\ndata 6\nfirst\n\nM 100644 :1 test.txt\n\n";
 
-const LEDGER: &[u8] = b"SWHARC1\n\x01O\x00\x00\x00\x1c\x00\x00\x00\x01\x01\x00\x00\x00\x00;\x9a\xca\x00https://e.org/p\x01T\x00\x00\x00\x1d\x00\x00\x00\x01\x02\x00\x00\x00\x00\x00\x00\x00\x01\x00https://e.org/p\x01B\x00\x00\x00\x18\x00\x00\x00\x01\x00\x00\x00\x00\x00\x00\x00\x00\x00\x00\x00\x00\x00\x00\x01R\x00\x00\x00\x04\x01T\x00\x00\x001\x00\x00\x00\x01\x03\x00\x00\x00\x00\x00\x00\x00\x01\x01P6\xc2\xb4\xa6v\xf9\xda\xd6\x0f\xba\xedC\x1c\xa2\x1e\xcd\xecV\xffhttps://e.org/p\x00";
+const LEDGER: &[u8] =
+    b"SWHARC1\n\x01O\x00\x00\x00\x1c\x00\x00\x00\x01\x01\x00\x00\x00\x00;\x9a\xca\x00https://e.org/p\x01T\x00\x00\x00\x1d\x00\x00\x00\x01\x02\x00\x00\x00\x00\x00\x00\x00\x01\x00https://e.org/p\x01B\x00\x00\x00\x18\x00\x00\x00\x01\x00\x00\x00\x00\x00\x00\x00\x00\x00\x00\x00\x00\x00\x00\x01R\x00\x00\x00\x04\x01T\x00\x00\x001\x00\x00\x00\x01\x03\x00\x00\x00\x00\x00\x00\x00\x01\x01P6\xc2\xb4\xa6v\xf9\xda\xd6\x0f\xba\xedC\x1c\xa2\x1e\xcd\xecV\xffhttps://e.org/p\x00";
 
-const STORE: &[u8] = b"\x01\x00\x00\x00\x00\x00\x00\x00\n\x83\xba\xaea\x80Ne\xccs\xa7 \x1arRu\x0cv\x06j0version 1\n\x02\x00\x00\x00\x00\x00\x00\x00$\xd82\x9f\xc1\xcc\x93\x87\x80\xff\xdd\x9f\x94\xe0\xd3d\xe0\xeat\xf5y100644 test.txt\x00\x83\xba\xaea\x80Ne\xccs\xa7 \x1arRu\x0cv\x06j0\x03\x00\x00\x00\x00\x00\x00\x00\x80)\\\x06Q\xa9[\xa3*\xc5\xe1O\x92\xda\x01a\xb1\"\x94,\xactree d8329fc1cc938780ffdd9f94e0d364e0ea74f579\nauthor A <a@e.org> 1000000000 +0000\ncommitter A <a@e.org> 1000000000 +0000\n\nfirst\n\x05\x00\x00\x00\x00\x00\x00\x000P6\xc2\xb4\xa6v\xf9\xda\xd6\x0f\xba\xedC\x1c\xa2\x1e\xcd\xecV\xffrevision refs/heads/main\x0020:)\\\x06Q\xa9[\xa3*\xc5\xe1O\x92\xda\x01a\xb1\"\x94,\xac";
+const STORE: &[u8] =
+    b"\x01\x00\x00\x00\x00\x00\x00\x00\n\x83\xba\xaea\x80Ne\xccs\xa7 \x1arRu\x0cv\x06j0version 1\n\x02\x00\x00\x00\x00\x00\x00\x00$\xd82\x9f\xc1\xcc\x93\x87\x80\xff\xdd\x9f\x94\xe0\xd3d\xe0\xeat\xf5y100644 test.txt\x00\x83\xba\xaea\x80Ne\xccs\xa7 \x1arRu\x0cv\x06j0\x03\x00\x00\x00\x00\x00\x00\x00\x80)\\\x06Q\xa9[\xa3*\xc5\xe1O\x92\xda\x01a\xb1\"\x94,\xactree d8329fc1cc938780ffdd9f94e0d364e0ea74f579\nauthor A <a@e.org> 1000000000 +0000\ncommitter A <a@e.org> 1000000000 +0000\n\nfirst\n\x05\x00\x00\x00\x00\x00\x00\x000P6\xc2\xb4\xa6v\xf9\xda\xd6\x0f\xba\xedC\x1c\xa2\x1e\xcd\xecV\xffrevision refs/heads/main\x0020:)\\\x06Q\xa9[\xa3*\xc5\xe1O\x92\xda\x01a\xb1\"\x94,\xac";
 
 const VISITS: &str = "/api/1/origin/https://e.org/p/visits/";
 
@@ -57,12 +60,7 @@ fn a_stream_is_loaded_twice(rt: HostRuntime) -> Result<(), Fail> {
 }
 
 // Says whether a run of `load` ends with this status, and prints this behind `made`.
-fn loads(
-    alloc: Global,
-    world: &mut World,
-    status: u8,
-    printed: &[u8],
-) -> Result<bool, AllocError> {
+fn loads(alloc: Global, world: &mut World, status: u8, printed: &[u8]) -> Result<bool, AllocError> {
     let ended = run_words(alloc, &["load", "A", "J"], world)?;
     let told = world.sink.bytes().strip_prefix(b"made\n") == Some(printed);
     Ok(ended == status && told)
@@ -90,7 +88,14 @@ fn jobs_that_are_refused(rt: HostRuntime) -> Result<(), Fail> {
 fn inputs_that_make_no_snapshot(rt: HostRuntime) -> Result<(), Fail> {
     let alloc = rt.alloc();
     let mut world = world_of(alloc, JOB, b"feature done\n")?;
-    assert!(rt; loads(alloc, &mut world, 1, b"https://e.org/p\t1\tfailed\tstream 0 left-out\n")?);
+    assert!(rt;
+        loads(
+            alloc,
+            &mut world,
+            1,
+            b"https://e.org/p\t1\tfailed\tstream 0 left-out\n"
+        )?
+    );
     let mut world = world_of(alloc, JOB, STREAM)?;
     world.origins = MemoryOrigins::new(alloc, Vec::new(alloc), Vec::new(alloc));
     assert!(rt; loads(alloc, &mut world, 1, b"https://e.org/p\t1\tnot_found\t-\n")?);
@@ -109,7 +114,10 @@ fn archives_that_are_refused(rt: HostRuntime) -> Result<(), Fail> {
     let mut world = world_of(alloc, b"x", b"")?;
     lay_failing(alloc, &mut world, b"SWHARC2\n\0", &[], &[])?;
     assert_eq!(rt; run_words(alloc, &["ask", "A", VISITS], &mut world)?, 3);
-    assert_eq!(rt; world.sink.bytes(), b"made\nswharc: damaged 0 0\n".as_slice());
+    assert_eq!(rt;
+        world.sink.bytes(),
+        b"made\nswharc: damaged 0 0\n".as_slice()
+    );
     Ok(())
 }
 
@@ -118,7 +126,10 @@ fn is_stopped(alloc: Global, ledger: &[u64], store: &[u64]) -> Result<bool, Allo
     let mut world = world_of(alloc, JOB, STREAM)?;
     lay_failing(alloc, &mut world, b"SWHARC1\n\0", ledger, store)?;
     let ended = run_words(alloc, &["load", "A", "J"], &mut world)?;
-    let told = world.sink.bytes().ends_with(b"\tstopped\tdisk\nswharc: outside disk\n");
+    let told = world
+        .sink
+        .bytes()
+        .ends_with(b"\tstopped\tdisk\nswharc: outside disk\n");
     let counted = world.depot.faults() > 0;
     let asked = run_words(alloc, &["ask", "A", VISITS], &mut world)?;
     Ok(ended == 4 && told && counted && asked < 2)

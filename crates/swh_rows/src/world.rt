@@ -53,11 +53,7 @@ pub fn give_file(
         piece: 7,
         failing: failing.to_vec(alloc)?,
     };
-    Ok(MemoryOrigins::new(
-        alloc,
-        vec![in alloc; input]?,
-        Vec::new(alloc),
-    ))
+    Ok(MemoryOrigins::new(alloc, vec![in alloc; input]?, Vec::new(alloc)))
 }
 
 /// Lays an archive's files down, of these bytes and an empty store, whose device calls of these numbers fail.
