@@ -72,7 +72,7 @@ def main():
             with open(stream, "wb") as file:
                 file.write(stream_of(count))
             best[count] = min(time_load(program, folder, stream) for _ in range(ROUNDS))
-            git = min(time_import(folder, stream) for _ in range(ROUNDS))
+            git = time_import(folder, stream)
             print("%7d files: swharc %7.3f s (%8.0f files/s), git fast-import %7.3f s (%8.0f files/s)"
                   % (count, best[count], count / best[count], git, count / git))
     ratio = best[SIZES[1]] / best[SIZES[0]]
