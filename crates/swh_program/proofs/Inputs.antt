@@ -1,5 +1,5 @@
 -- What the load of an opened input says of what stands at its path.
-use Rattle.std.proofs.Common.{◌≡◌, ◌≢◌, ◌⊎◌, inl, inr, ℕ, ◌+◌, ◌-◌, ◌^◌, ◌<◌, ◌≤◌, min, Option, Some, None, Result, Ok, Err, List, [], ◌∷◌, ◌++◌, refl, sym, ap, ◌∙◌, subst, arith}
+use Rattle.std.proofs.Common.{◌≡◌, inl, inr, ℕ, ◌<◌, ◌≤◌, Option, Some, None, Result, Ok, Err, List, [], ◌∷◌, sym, ap, ◌∙◌, subst, arith}
 use Rattle.std.specs.List.{AllByRecursion}
 use Rattle.swh_base.specs.declared.kind.Kind.{Kind}
 use Rattle.swh_base.specs.declared.entry.Entry.{Entry}
@@ -95,7 +95,6 @@ module _ {S : Type 0} (id_of : Kind → List ℕ → List ℕ) (tells source_tel
     (opened_at : IfFound stream (λ s. path_of s ≡ path)) (quiet : IfFound stream (λ s. faults s ≡ 0))
     (entry middle after : ℕ) (later : entry ≤ middle) (later_still : middle ≤ after) (not_opened : IsFailed stream → Rose entry middle)
     (same : IsSameInput path_of faults stream now) (back : IfFound now (λ s. 0 < faults s → path_of s ≡ path → Rose middle after)) where
-
   abbrev pub failed : Type 0
   failed = Rose entry after
 

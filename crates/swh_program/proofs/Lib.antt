@@ -8,3 +8,6 @@ pub mod Asked
 pub mod Inputs
 pub mod Loads
 pub mod JobReads
+pub mod Archived
+pub mod Replies
+pub mod Completes

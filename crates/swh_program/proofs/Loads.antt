@@ -1,11 +1,10 @@
 -- What a load into an open archive means for the files of its folder.
-use Rattle.std.proofs.Common.{◌≡◌, ◌⊎◌, inl, inr, ⊎_elim, ℕ, ◌<◌, ◌≤◌, Option, Some, None, Result, Ok, Err, List, [], ◌∷◌, ◌++◌, sym, ap, ◌∙◌, subst, arith}
+use Rattle.std.proofs.Common.{◌≡◌, ⊎_elim, ℕ, ◌<◌, ◌≤◌, Option, Some, None, Result, Ok, Err, List, ◌++◌, sym, ap, ◌∙◌, subst, arith}
 use Rattle.swh_base.specs.declared.kind.Kind.{Kind}
 use Rattle.swh_outside.specs.Disk.{File}
 use Rattle.swh_outside.specs.Faults.{Rose}
-use Rattle.swh_outside.specs.Files.{Files, files_of, files_done}
+use Rattle.swh_outside.specs.Files.{Files, files_of}
 use Rattle.swh_segment.specs.Makes.{EitherRose}
-use Rattle.swh_segment.specs.Making.{barriers}
 use Rattle.swh_model.specs.declared.event.Event.{Event}
 use Rattle.swh_model.specs.Archive.{Archive, empty_archive, visits_of}
 use Rattle.swh_model.specs.Grows.{IsWithin, IsLaterVisit}
@@ -20,10 +19,9 @@ use Rattle.swh_loader.specs.declared.end.Loaded.{Loaded}
 use Rattle.swh_loader.specs.declared.fault.LoadWhy.{LoadWhy}
 use Rattle.swh_loader.specs.declared.fault.LoadWhy.TheVariants as why
 use Rattle.swh_loader.specs.declared.fault.LoadFault.{LoadFault}
-use Rattle.swh_program.specs.Opening.{IsArchive, IsOnlyOpened, IsOpenRefusal, OpenEnds}
-use Rattle.swh_program.specs.Load.{ending_for, ending_of_end, ending_of_why, TellsLoad, TellsDisk, VisitsStay, StopsFor, StopsDisks, LeavesDisks, IsOutcome, IsLoad, IsUnloaded}
+use Rattle.swh_program.specs.Opening.{IsArchive, IsOpenRefusal, OpenEnds}
+use Rattle.swh_program.specs.Load.{ending_for, ending_of_end, ending_of_why, TellsLoad, TellsDisk, VisitsStay, StopsFor, StopsDisks, LeavesDisks, IsLoad, IsUnloaded}
 use Rattle.swh_program.specs.Loading.{StopsKept, LeavesKept, IsKeptLoad}
-use Rattle.swh_program.specs.declared.answer.Ending.{Ending}
 use Rattle.swh_program.specs.declared.answer.Ending.TheVariants as ending
 use Rattle.swh_program.specs.declared.answer.Answer.{Answer}
 use Rattle.swh_program.specs.declared.answer.Answer.TheVariants.{Made, Told, Words, NoJobFile, JobForm, AlreadyMade, NotMade, Damaged, OutsideDisk, OutsideSource, OutsideClock, Memory}
@@ -46,7 +44,6 @@ module _ (id_of : Kind → List ℕ → List ℕ) (before more after : List Even
 
 module _ (id_of : Kind → List ℕ → List ℕ) (tells : Type 0) (found : Option (List ℕ)) (failed disks_tell keeper_tells : Type 0) {D : Type 0} (faults : D → ℕ) (file : D → File) (was now : Kept D) (old new : Files)
     (archive : disks_tell → IsArchive id_of old was.history) (kept : IsKept id_of keeper_tells file now) (told : disks_tell → keeper_tells) (taken : disks_tell → new ≡ files_of (file now.ledger) (file now.store)) where
-
   standing : disks_tell → now.wounded ≡ None → AreStanding (new 0) (new 1) now.history
   standing t none = subst (λ (f : Files). AreStanding (f 0) (f 1) now.history) (sym (taken t)) (kept.standing none (told t))
 

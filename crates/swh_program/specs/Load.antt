@@ -131,19 +131,14 @@ module _ (id_of : Kind → List ℕ → List ℕ) (tells : Type 0) (found : Opti
     pub after : List Event
     pub archive : disks_tell → IsArchive id_of old before
     pub history : IsHistory id_of after
-
     pub disks : disks_tell → LeavesDisks id_of (new 0) (new 1) after loaded
-
     -- Nothing else is added than this visit, with what its input makes.
     pub nothing_else : AddsVisit IsOfInput loader url date before after
-
     -- What was held is held, and the visits that were there stay.
     pub held : IsWithin (replay before).bodies (replay after).bodies
     pub visits : VisitsStay before after
-
     -- Every full visit names a snapshot whose whole graph is held.
     pub full_is_closed : IsSound id_of (replay after)
-
     pub line : IsOutcome url date before after loaded
 
   -- A load of the job was told, or memory for its line ran out.
