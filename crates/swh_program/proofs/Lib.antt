@@ -11,3 +11,5 @@ pub mod JobReads
 pub mod Archived
 pub mod Replies
 pub mod Completes
+pub mod Fulls
+pub mod Loadings
