@@ -3,6 +3,7 @@ use Rattle.std.proofs.Common.{◌≡◌, inl, inr, ℕ, ◌≤◌, Option, Some,
 use Rattle.std.specs.Prelude.{IfErr}
 use Rattle.std.specs.List.{AllByRecursion}
 use Rattle.std.proofs.lemmas.List.{append-nil}
+use Rattle.swh_base.specs.declared.kind.Kind.{Kind}
 use Rattle.swh_outside.specs.Faults.{Rose}
 use Rattle.swh_segment.specs.Makes.{EitherRose}
 use Rattle.swh_model.specs.declared.event.Event.{Event}
@@ -51,28 +52,28 @@ either_further : (a b c x y z : ℕ) → a ≤ b → x ≤ y → EitherRose b c 
 either_further a b c x y z h k (inl r) = inl (rose_further a b c h r)
 either_further a b c x y z h k (inr r) = inr (rose_further x y z k r)
 
-pub stops_as : {D : Type 0} (faults : D → ℕ) (P Q : Event → Type 0) (old new : Kept D) (stop : LoadWhy) → ((e : Event) → P e → Q e) → StopsFor faults P old new stop → StopsFor faults Q old new stop
-stops_as faults P Q old new (why.Ended status) f s = s
-stops_as faults P Q old new why.DiskFault f s = s
-stops_as faults P Q old new why.Wounded f s = s
-stops_as faults P Q old new (why.Limit which number) f s = record { before_it = s.before_it; unwounded = s.unwounded; event = s.event; tried = f s.event s.tried; passes = s.passes }
-stops_as faults P Q old new why.Memory f s = s
+pub stops_as : {D : Type 0} (id : Kind → List ℕ → List ℕ) (faults : D → ℕ) (P Q : Event → Type 0) (old new : Kept D) (stop : LoadWhy) → ((e : Event) → P e → Q e) → StopsFor id faults P old new stop → StopsFor id faults Q old new stop
+stops_as id faults P Q old new (why.Ended status) f s = s
+stops_as id faults P Q old new why.DiskFault f s = s
+stops_as id faults P Q old new why.Wounded f s = s
+stops_as id faults P Q old new (why.Limit which number) f s = record { before_it = s.before_it; unwounded = s.unwounded; event = s.event; tried = f s.event s.tried; may = s.may; passes = s.passes }
+stops_as id faults P Q old new why.Memory f s = s
 
 none_some : (o : Option ℕ) (n : ℕ) → o ≡ None → o ≡ Some n → ⊥
 none_some o n x y = cc
 
 -- a load that had begun stops
-pub stops_further : {D : Type 0} (faults : D → ℕ) (P Q : Event → Type 0) (a b c : Kept D) (stop : LoadWhy) → a.wounded ≡ None → b.wounded ≡ None → Adds faults Q a b → StopsFor faults P b c stop → StopsFor faults P a c stop
-stops_further faults P Q a b c (why.Ended status) old mid h s = s
-stops_further faults P Q a b c why.DiskFault old mid h s = record { before_it = old; wounded = s.wounded; rose = either_further (faults a.store) (faults b.store) (faults c.store) (faults a.ledger) (faults b.ledger) (faults c.ledger) h.store_later h.ledger_later s.rose }
-stops_further faults P Q a b c why.Wounded old mid h s = absurd (none_some b.wounded s.first mid s.wounded)
-stops_further faults P Q a b c (why.Limit which number) old mid h s = record { before_it = old; unwounded = s.unwounded; event = s.event; tried = s.tried; passes = s.passes }
-stops_further faults P Q a b c why.Memory old mid h s = s ∙ mid ∙ sym old
+pub stops_further : {D : Type 0} (id : Kind → List ℕ → List ℕ) (faults : D → ℕ) (P Q : Event → Type 0) (a b c : Kept D) (stop : LoadWhy) → a.wounded ≡ None → b.wounded ≡ None → Adds faults Q a b → StopsFor id faults P b c stop → StopsFor id faults P a c stop
+stops_further id faults P Q a b c (why.Ended status) old mid h s = s
+stops_further id faults P Q a b c why.DiskFault old mid h s = record { before_it = old; wounded = s.wounded; rose = either_further (faults a.store) (faults b.store) (faults c.store) (faults a.ledger) (faults b.ledger) (faults c.ledger) h.store_later h.ledger_later s.rose }
+stops_further id faults P Q a b c why.Wounded old mid h s = absurd (none_some b.wounded s.first mid s.wounded)
+stops_further id faults P Q a b c (why.Limit which number) old mid h s = record { before_it = old; unwounded = s.unwounded; event = s.event; tried = s.tried; may = s.may; passes = s.passes }
+stops_further id faults P Q a b c why.Memory old mid h s = s ∙ mid ∙ sym old
 
 -- a step's events and its stop, as parts of a load's
 pub step_adds : {D : Type 0} (faults : D → ℕ) (P Q : Event → Type 0) (a b c : Kept D) → ((e : Event) → P e → Q e) → Adds faults Q a b → Adds faults P b c → Adds faults Q a c
 step_adds faults P Q a b c f h k = adds_further faults Q a b c h (adds_as faults P Q b c f k)
 
-pub step_stops : {D T : Type 0} (faults : D → ℕ) (P Q : Event → Type 0) (a b c : Kept D) (r : Result T LoadWhy) → ((e : Event) → P e → Q e) → a.wounded ≡ None → b.wounded ≡ None → Adds faults Q a b → IfErr r (StopsFor faults P b c) → IfErr r (StopsFor faults Q a c)
-step_stops faults P Q a b c (Ok t) f old mid h s = tt
-step_stops faults P Q a b c (Err stop) f old mid h s = stops_further faults Q Q a b c stop old mid h (stops_as faults P Q b c stop f s)
+pub step_stops : {D T : Type 0} (id : Kind → List ℕ → List ℕ) (faults : D → ℕ) (P Q : Event → Type 0) (a b c : Kept D) (r : Result T LoadWhy) → ((e : Event) → P e → Q e) → a.wounded ≡ None → b.wounded ≡ None → Adds faults Q a b → IfErr r (StopsFor id faults P b c) → IfErr r (StopsFor id faults Q a c)
+step_stops id faults P Q a b c (Ok t) f old mid h s = tt
+step_stops id faults P Q a b c (Err stop) f old mid h s = stops_further id faults Q Q a b c stop old mid h (stops_as id faults P Q b c stop f s)

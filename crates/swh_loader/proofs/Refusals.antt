@@ -1,6 +1,7 @@
 -- The refusals that a load meets, and what they leave.
 use Rattle.std.proofs.Common.{◌≡◌, ◌⊎◌, inl, inr, ℕ, zero, suc, ◌+◌, ◌-◌, ◌<◌, ◌≤◌, Option, Some, None, List, [], ◌∷◌, length, refl, sym, ap, ◌∙◌, subst, arith}
 use Rattle.std.specs.List.{slice_get}
+use Rattle.swh_base.specs.declared.kind.Kind.{Kind}
 use Rattle.swh_base.specs.declared.name.Name.{Name}
 use Rattle.swh_base.specs.declared.entry.Entry.{Entry}
 use Rattle.swh_base.specs.declared.visit.Status.{Status}
@@ -14,7 +15,7 @@ use Rattle.swh_model.specs.declared.event.EventKind.TheVariants.{Batch, Mark}
 use Rattle.swh_model.specs.declared.event.No.TheVariants.{Limit, NotYours, Ended, NoSnapshot, NotClosed}
 use Rattle.swh_model.specs.Archive.{Bodies, body_of, visits_of, IsHeld, IsClosed}
 use Rattle.swh_model.specs.Limits.{IsWithinLimits}
-use Rattle.swh_model.specs.Step.{IsFinal, AreNew, FitsStatus, MayMark, snapshot_name, last_status, visit_at, replay}
+use Rattle.swh_model.specs.Step.{IsFinal, AreNew, FitsStatus, May, MayMark, snapshot_name, last_status, visit_at, replay}
 use Rattle.swh_model.specs.Judge.{FilePasses, MarkCause, IsCause}
 use Rattle.swh_model.proofs.Walks.{reaches-next}
 use Rattle.swh_keeper.specs.Kept.{Kept, Refuses}
@@ -27,30 +28,31 @@ use Rattle.swh_loader.proofs.Limiting.{none_collides, none_passes}
 use Rattle.swh_loader.proofs.Sends.{fresh-same}
 
 -- why a load stops at a refusal that it may meet
-pub stops_at : {D : Type 0} (faults : D → ℕ) (old new : Kept D) (by : ℕ) (wish : EventKind) (event : Event) (r : Refusal) (stop : LoadWhy) → ((which : Which) (number : ℕ) → IsCause old.history by wish (Limit which number) → FilePasses old.history event.what which number) → Refuses old by wish new r → IsWhyOf r stop
-    → (r ≡ refusal.DiskFault → EitherRose (faults old.store) (faults new.store) (faults old.ledger) (faults new.ledger)) → StopsFor faults (IsEvent event) old new stop
-stops_at {D} faults old new by wish event (refusal.Wounded first) stop full h e rose = subst (StopsFor faults (IsEvent event) old new) (sym e) (record { first = first; wounded = h.0; same = h.1 })
-stops_at {D} faults old new by wish event (refusal.Limit which number) stop full h e rose =
-    subst (StopsFor faults (IsEvent event) old new) (sym e) (record {
+pub stops_at : {D : Type 0} (id : Kind → List ℕ → List ℕ) (faults : D → ℕ) (old new : Kept D) (by : ℕ) (wish : EventKind) (event : Event) (r : Refusal) (stop : LoadWhy) → May id (replay old.history) event → ((which : Which) (number : ℕ) → IsCause old.history by wish (Limit which number) → FilePasses old.history event.what which number) → Refuses old by wish new r → IsWhyOf r stop
+    → (r ≡ refusal.DiskFault → EitherRose (faults old.store) (faults new.store) (faults old.ledger) (faults new.ledger)) → StopsFor id faults (IsEvent event) old new stop
+stops_at {D} id faults old new by wish event (refusal.Wounded first) stop may full h e rose = subst (StopsFor id faults (IsEvent event) old new) (sym e) (record { first = first; wounded = h.0; same = h.1 })
+stops_at {D} id faults old new by wish event (refusal.Limit which number) stop may full h e rose =
+    subst (StopsFor id faults (IsEvent event) old new) (sym e) (record {
       before_it = h.unwounded;
       unwounded = ap (λ (k : Kept D). k.wounded) h.same ∙ h.unwounded;
       event = event;
       tried = refl;
+      may = subst (λ (k : Kept D). May id (replay k.history) event) (sym h.same) may;
       passes = subst (λ (k : Kept D). FilePasses k.history event.what which number) (sym h.same) (full which number h.verdict.0);
     })
-stops_at {D} faults old new by wish event refusal.DiskFault stop full h e rose =
-    subst (StopsFor faults (IsEvent event) old new) (sym e) (record {
+stops_at {D} id faults old new by wish event refusal.DiskFault stop may full h e rose =
+    subst (StopsFor id faults (IsEvent event) old new) (sym e) (record {
       before_it = h.before_it;
       wounded = h.wounded ∙ ap (λ (t : List Event). Some (length t + 1)) (sym h.history);
       rose = rose refl;
     })
-stops_at {D} faults old new by wish event (refusal.Memory stands) stop full h e rose = subst (StopsFor faults (IsEvent event) old new) (sym e) (ap (λ (k : Kept D). k.wounded) h.1)
-stops_at {D} faults old new by wish event (refusal.NoVisit have) stop full h e rose = absurd e
-stops_at {D} faults old new by wish event (refusal.NotYours other) stop full h e rose = absurd e
-stops_at {D} faults old new by wish event (refusal.Ended status) stop full h e rose = absurd e
-stops_at {D} faults old new by wish event (refusal.NoSnapshot name) stop full h e rose = absurd e
-stops_at {D} faults old new by wish event (refusal.NotClosed parent child) stop full h e rose = absurd e
-stops_at {D} faults old new by wish event (refusal.Collision name) stop full h e rose = absurd e
+stops_at {D} id faults old new by wish event (refusal.Memory stands) stop may full h e rose = subst (StopsFor id faults (IsEvent event) old new) (sym e) (ap (λ (k : Kept D). k.wounded) h.1)
+stops_at {D} id faults old new by wish event (refusal.NoVisit have) stop may full h e rose = absurd e
+stops_at {D} id faults old new by wish event (refusal.NotYours other) stop may full h e rose = absurd e
+stops_at {D} id faults old new by wish event (refusal.Ended status) stop may full h e rose = absurd e
+stops_at {D} id faults old new by wish event (refusal.NoSnapshot name) stop may full h e rose = absurd e
+stops_at {D} id faults old new by wish event (refusal.NotClosed parent child) stop may full h e rose = absurd e
+stops_at {D} id faults old new by wish event (refusal.Collision name) stop may full h e rose = absurd e
 
 -- a batch that is new and within the limits
 pub batch_may : {D : Type 0} (old new : Kept D) (by : ℕ) (entries : List Entry) (r : Refusal) → AreNew (replay old.history).bodies entries → Refuses old by (Batch entries) new r → MayStop r

@@ -37,20 +37,20 @@ pub record AddsVisit (IsBatch : List Entry → Type 0) (by : ℕ) (origin : List
   pub are : AreOfVisit IsBatch by origin date (next_visit h origin) more
 
 -- It stopped before its visit was opened, and nothing was added.
-pub record StopsAtOnce {D : Type 0} (faults : D → ℕ) (by : ℕ) (origin : List ℕ) (date : ℕ) (old new : Kept D) (fault : LoadFault) : Type 0 where
+pub record StopsAtOnce {D : Type 0} (id : Kind → List ℕ → List ℕ) (faults : D → ℕ) (by : ℕ) (origin : List ℕ) (date : ℕ) (old new : Kept D) (fault : LoadFault) : Type 0 where
   pub no_visit : fault.visit ≡ 0
   pub same : new.history ≡ old.history
-  pub stops : StopsFor faults (IsEvent (opening by origin date)) old new fault.why
+  pub stops : StopsFor id faults (IsEvent (opening by origin date)) old new fault.why
 
 -- It stopped once its visit was opened.
-pub record StopsLater {D : Type 0} (faults : D → ℕ) (IsBatch : List Entry → Type 0) (by : ℕ) (origin : List ℕ) (date : ℕ) (old new : Kept D) (fault : LoadFault) : Type 0 where
+pub record StopsLater {D : Type 0} (id : Kind → List ℕ → List ℕ) (faults : D → ℕ) (IsBatch : List Entry → Type 0) (by : ℕ) (origin : List ℕ) (date : ℕ) (old new : Kept D) (fault : LoadFault) : Type 0 where
   pub visit : fault.visit ≡ next_visit old.history origin
   pub more : List Event
   pub opened : new.history ≡ old.history ++ opening by origin date ∷ more
-  pub stops : StopsFor faults (IsOwn IsBatch by origin fault.visit) old new fault.why
+  pub stops : StopsFor id faults (IsOwn IsBatch by origin fault.visit) old new fault.why
 
-abbrev pub Stops : {D : Type 0} → (D → ℕ) → (List Entry → Type 0) → ℕ → List ℕ → ℕ → Kept D → Kept D → LoadFault → Type 0
-Stops faults IsBatch by origin date old new fault = StopsAtOnce faults by origin date old new fault ⊎ StopsLater faults IsBatch by origin date old new fault
+abbrev pub Stops : {D : Type 0} → (Kind → List ℕ → List ℕ) → (D → ℕ) → (List Entry → Type 0) → ℕ → List ℕ → ℕ → Kept D → Kept D → LoadFault → Type 0
+Stops id faults IsBatch by origin date old new fault = StopsAtOnce id faults by origin date old new fault ⊎ StopsLater id faults IsBatch by origin date old new fault
 
 -- The input is as it was opened; of one that is found its path is the same, and its count of faults did not fall.
 abbrev pub IsSameInput : {S : Type 0} → (S → List ℕ) → (S → ℕ) → Opened S → Opened S → Type 0

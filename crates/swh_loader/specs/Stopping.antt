@@ -1,9 +1,11 @@
 -- Why a load stops, and what it leaves.
-use Rattle.std.specs.Prelude.{◌≡◌, ℕ, ◌+◌, Some, None, length}
+use Rattle.std.specs.Prelude.{◌≡◌, ℕ, ◌+◌, Some, None, List, length}
+use Rattle.swh_base.specs.declared.kind.Kind.{Kind}
 use Rattle.swh_base.specs.declared.visit.Which.{Which}
 use Rattle.swh_segment.specs.Makes.{EitherRose}
 use Rattle.swh_model.specs.declared.event.Event.{Event}
 use Rattle.swh_model.specs.Judge.{FilePasses}
+use Rattle.swh_model.specs.Step.{May, replay}
 use Rattle.swh_keeper.specs.Kept.{Kept}
 use Rattle.swh_keeper.specs.declared.fault.Refusal.{Refusal}
 use Rattle.swh_keeper.specs.declared.fault.Refusal.TheVariants as refusal
@@ -38,18 +40,19 @@ pub record IsFaulted {D : Type 0} (faults : D → ℕ) (old new : Kept D) : Type
   pub wounded : new.wounded ≡ Some (length new.history + 1)
   pub rose : EitherRose (faults old.store) (faults new.store) (faults old.ledger) (faults new.ledger)
 
--- One of the two files has no room behind the history for an event like these.
-pub record IsFileFull {D : Type 0} (IsTried : Event → Type 0) (old new : Kept D) (which : Which) (number : ℕ) : Type 0 where
+-- One of the two files has no room behind the history for an event like these, which may happen next.
+pub record IsFileFull {D : Type 0} (id : Kind → List ℕ → List ℕ) (IsTried : Event → Type 0) (old new : Kept D) (which : Which) (number : ℕ) : Type 0 where
   pub before_it : old.wounded ≡ None
   pub unwounded : new.wounded ≡ None
   pub event : Event
   pub tried : IsTried event
+  pub may : May id (replay new.history) event
   pub passes : FilePasses new.history event.what which number
 
 -- Why a load stops whose events are like these. No one else ends its visit.
-abbrev pub StopsFor : {D : Type 0} → (D → ℕ) → (Event → Type 0) → Kept D → Kept D → LoadWhy → Type 0
-StopsFor faults IsTried old new (why.Ended status) = ⊥
-StopsFor faults IsTried old new why.DiskFault = IsFaulted faults old new
-StopsFor faults IsTried old new why.Wounded = IsStoppedBefore old new
-StopsFor faults IsTried old new (why.Limit which number) = IsFileFull IsTried old new which number
-StopsFor faults IsTried old new why.Memory = new.wounded ≡ old.wounded
+abbrev pub StopsFor : {D : Type 0} → (Kind → List ℕ → List ℕ) → (D → ℕ) → (Event → Type 0) → Kept D → Kept D → LoadWhy → Type 0
+StopsFor id faults IsTried old new (why.Ended status) = ⊥
+StopsFor id faults IsTried old new why.DiskFault = IsFaulted faults old new
+StopsFor id faults IsTried old new why.Wounded = IsStoppedBefore old new
+StopsFor id faults IsTried old new (why.Limit which number) = IsFileFull id IsTried old new which number
+StopsFor id faults IsTried old new why.Memory = new.wounded ≡ old.wounded

@@ -88,7 +88,7 @@ fn end_bad<N: Namer, D: Disk>(
     ensures marked { OnOk result (IsMarked keeper.old.history keeper.new.history origin.now visit by ((FailedStatus, None) ∷ [])) }
     ensures on { OnOk result (GoesOn keeper.old keeper.new) }
     ensures adds { Adds D.faults (IsOwn IsNoBatch by origin.now visit) keeper.old keeper.new }
-    ensures stops { IfErr result (StopsFor D.faults (IsOwn IsNoBatch by origin.now visit) keeper.old keeper.new) }
+    ensures stops { IfErr result (StopsFor N.id_of D.faults (IsOwn IsNoBatch by origin.now visit) keeper.old keeper.new) }
 {
     mark(alloc, keeper, by, origin, visit, Status::Failed, None)?;
     Ok(End::Failed(bad))
@@ -113,7 +113,7 @@ fn end_full<N: Namer, D: Disk, G: Gate>(
     ensures marked { OnOk result (IsMarked keeper.old.history keeper.new.history origin.now visit by ((FullStatus, Some snapshot) ∷ [])) }
     ensures on { OnOk result (GoesOn keeper.old keeper.new) }
     ensures adds { Adds D.faults (IsOwn IsNoBatch by origin.now visit) keeper.old keeper.new }
-    ensures stops { IfErr result (StopsFor D.faults (IsOwn IsNoBatch by origin.now visit) keeper.old keeper.new) }
+    ensures stops { IfErr result (StopsFor N.id_of D.faults (IsOwn IsNoBatch by origin.now visit) keeper.old keeper.new) }
 {
     gate.before(worker, number);
     mark(
@@ -148,7 +148,7 @@ fn finish<N: Namer, D: Disk, G: Gate>(
     ensures marked { IfOk result (λ end. IsMarked keeper.old.history keeper.new.history origin.now visit by (last_of end)) }
     ensures on { OnOk result (GoesOn keeper.old keeper.new) }
     ensures adds { Adds D.faults (IsOwn (AreAmong made.objects.items) by origin.now visit) keeper.old keeper.new }
-    ensures stops { IfErr result (StopsFor D.faults (IsOwn (AreAmong made.objects.items) by origin.now visit) keeper.old keeper.new) }
+    ensures stops { IfErr result (StopsFor N.id_of D.faults (IsOwn (AreAmong made.objects.items) by origin.now visit) keeper.old keeper.new) }
 {
     match send_all(alloc, keeper, by, made.objects)? {
         Some(name) => end_bad(
@@ -192,7 +192,7 @@ fn load_found<N: Namer, D: Disk, S: Source, G: Gate>(
     ensures marked { IfOk result (λ end. IsMarked keeper.old.history keeper.new.history origin.now visit by (statuses_of end)) }
     ensures on { OnOk result (GoesOn keeper.old keeper.new) }
     ensures adds { Adds D.faults (IsOwn (AreMadeBy N.id_of S.tells (S.left source.old)) by origin.now visit) keeper.old keeper.new }
-    ensures stops { IfErr result (StopsFor D.faults (IsOwn (AreMadeBy N.id_of S.tells (S.left source.old)) by origin.now visit) keeper.old keeper.new) }
+    ensures stops { IfErr result (StopsFor N.id_of D.faults (IsOwn (AreMadeBy N.id_of S.tells (S.left source.old)) by origin.now visit) keeper.old keeper.new) }
     ensures same_path { S.path source.new ≡ S.path source.old }
     ensures later { S.faults source.old ≤ S.faults source.new }
 {
@@ -217,7 +217,7 @@ fn end_absent<N: Namer, D: Disk>(
     ensures marked { OnOk result (IsMarked keeper.old.history keeper.new.history origin.now visit by ((NotFoundStatus, None) ∷ [])) }
     ensures on { OnOk result (GoesOn keeper.old keeper.new) }
     ensures adds { Adds D.faults (IsOwn IsNoBatch by origin.now visit) keeper.old keeper.new }
-    ensures stops { IfErr result (StopsFor D.faults (IsOwn IsNoBatch by origin.now visit) keeper.old keeper.new) }
+    ensures stops { IfErr result (StopsFor N.id_of D.faults (IsOwn IsNoBatch by origin.now visit) keeper.old keeper.new) }
 {
     mark(alloc, keeper, by, origin, visit, Status::NotFound, None)?;
     Ok(End::NotFound)
@@ -237,7 +237,7 @@ fn end_unread<N: Namer, D: Disk>(
     ensures marked { OnOk result (IsMarked keeper.old.history keeper.new.history origin.now visit by ((Ongoing, None) ∷ (FailedStatus, None) ∷ [])) }
     ensures on { OnOk result (GoesOn keeper.old keeper.new) }
     ensures adds { Adds D.faults (IsOwn IsNoBatch by origin.now visit) keeper.old keeper.new }
-    ensures stops { IfErr result (StopsFor D.faults (IsOwn IsNoBatch by origin.now visit) keeper.old keeper.new) }
+    ensures stops { IfErr result (StopsFor N.id_of D.faults (IsOwn IsNoBatch by origin.now visit) keeper.old keeper.new) }
 {
     mark(alloc, keeper, by, origin, visit, Status::Ongoing, None)?;
     end_bad(alloc, keeper, by, origin, visit, BadInput::Read)
@@ -262,7 +262,7 @@ fn load_opened<N: Namer, D: Disk, S: Source, G: Gate>(
     ensures marked { IfOk result (λ end. IsMarked keeper.old.history keeper.new.history origin.now visit by (statuses_of end)) }
     ensures on { OnOk result (GoesOn keeper.old keeper.new) }
     ensures adds { Adds D.faults (IsOwn (AreAllowed N.id_of S.tells S.left stream.old) by origin.now visit) keeper.old keeper.new }
-    ensures stops { IfErr result (StopsFor D.faults (IsOwn (AreAllowed N.id_of S.tells S.left stream.old) by origin.now visit) keeper.old keeper.new) }
+    ensures stops { IfErr result (StopsFor N.id_of D.faults (IsOwn (AreAllowed N.id_of S.tells S.left stream.old) by origin.now visit) keeper.old keeper.new) }
     ensures same { IsSameInput S.path S.faults stream.old stream.new }
 {
     match stream {
@@ -301,7 +301,7 @@ pub fn load_one<N: Namer, D: Disk, S: Source, G: Gate>(
     // Whatever it answers, it adds its visit's events alone, with nothing but what the input makes.
     ensures adds { AddsVisit (AreAllowed N.id_of S.tells S.left job.old.stream) by job.old.origin date keeper.old.history keeper.new.history }
     // Why it stopped, and what is left then.
-    ensures stops { IfErr result (Stops D.faults (AreAllowed N.id_of S.tells S.left job.old.stream) by job.old.origin date keeper.old keeper.new) }
+    ensures stops { IfErr result (Stops N.id_of D.faults (AreAllowed N.id_of S.tells S.left job.old.stream) by job.old.origin date keeper.old keeper.new) }
     // The counts of faults, and the job.
     ensures store_later { D.faults keeper.old.store ≤ D.faults keeper.new.store }
     ensures ledger_later { D.faults keeper.old.ledger ≤ D.faults keeper.new.ledger }

@@ -64,7 +64,7 @@ fn flush<N: Namer, D: Disk>(
     ensures on { OnOk result (GoesOn keeper.old keeper.new) }
     ensures visits { OnOk result (SameVisits keeper.old keeper.new by) }
     ensures adds { Adds D.faults (IsEvent (adding by pending.entries.items)) keeper.old keeper.new }
-    ensures stops { IfErr result (StopsFor D.faults (IsEvent (adding by pending.entries.items)) keeper.old keeper.new) }
+    ensures stops { IfErr result (StopsFor N.id_of D.faults (IsEvent (adding by pending.entries.items)) keeper.old keeper.new) }
 {
     if pending.entries.is_empty() {
         return Ok(());
@@ -93,7 +93,7 @@ fn make_room<N: Namer, D: Disk>(
     ensures on { OnOk result (GoesOn keeper.old keeper.new) }
     ensures visits { OnOk result (SameVisits keeper.old keeper.new by) }
     ensures adds { Adds D.faults (IsEvent (adding by pending.entries.items)) keeper.old keeper.new }
-    ensures stops { IfErr result (StopsFor D.faults (IsEvent (adding by pending.entries.items)) keeper.old keeper.new) }
+    ensures stops { IfErr result (StopsFor N.id_of D.faults (IsEvent (adding by pending.entries.items)) keeper.old keeper.new) }
 {
     if pending.has_room(name) {
         return Ok(pending);
@@ -116,7 +116,7 @@ fn take_in<N: Namer, D: Disk>(
     ensures on { OnOk result (GoesOn keeper.old keeper.new) }
     ensures visits { OnOk result (SameVisits keeper.old keeper.new by) }
     ensures adds { Adds D.faults (IsEvent (adding by pending.entries.items)) keeper.old keeper.new }
-    ensures stops { IfErr result (StopsFor D.faults (IsEvent (adding by pending.entries.items)) keeper.old keeper.new) }
+    ensures stops { IfErr result (StopsFor N.id_of D.faults (IsEvent (adding by pending.entries.items)) keeper.old keeper.new) }
 {
     let entry = object.into_entry();
     let mut pending = make_room(alloc, keeper, by, pending, &entry.name)?;
@@ -142,7 +142,7 @@ pub fn send_all<N: Namer, D: Disk>(
     ensures on { OnOk result (GoesOn keeper.old keeper.new) }
     ensures visits { OnOk result (SameVisits keeper.old keeper.new by) }
     ensures adds { Adds D.faults (IsBatchAmong by objects.items) keeper.old keeper.new }
-    ensures stops { IfErr result (StopsFor D.faults (IsBatchAmong by objects.items) keeper.old keeper.new) }
+    ensures stops { IfErr result (StopsFor N.id_of D.faults (IsBatchAmong by objects.items) keeper.old keeper.new) }
 {
     let mut left = VecDeque::from_vec(objects);
     let mut pending = Pending::new(alloc);

@@ -29,7 +29,7 @@ pub fn open_visit<N: Namer, D: Disk>(
     ensures before_it { OnOk result (keeper.old.wounded ≡ None) }
     ensures opened { OnOk result (keeper.new.history ≡ keeper.old.history ++ opening by origin.now date ∷ []) }
     ensures same { OnErr result (keeper.new.history ≡ keeper.old.history) }
-    ensures stops { IfErr result (StopsFor D.faults (IsEvent (opening by origin.now date)) keeper.old keeper.new) }
+    ensures stops { IfErr result (StopsFor N.id_of D.faults (IsEvent (opening by origin.now date)) keeper.old keeper.new) }
     ensures store_later { D.faults keeper.old.store ≤ D.faults keeper.new.store }
     ensures ledger_later { D.faults keeper.old.ledger ≤ D.faults keeper.new.ledger }
 {
@@ -58,7 +58,7 @@ pub fn mark<N: Namer, D: Disk>(
     ensures marked { OnOk result (IsMarked keeper.old.history keeper.new.history origin.now visit by ((status, snapshot) ∷ [])) }
     ensures on { OnOk result (GoesOn keeper.old keeper.new) }
     ensures adds { Adds D.faults (IsEvent (marking by origin.now visit status snapshot)) keeper.old keeper.new }
-    ensures stops { IfErr result (StopsFor D.faults (IsEvent (marking by origin.now visit status snapshot)) keeper.old keeper.new) }
+    ensures stops { IfErr result (StopsFor N.id_of D.faults (IsEvent (marking by origin.now visit status snapshot)) keeper.old keeper.new) }
 {
     let Ok(origin) = origin.again(alloc) else {
         return Err(LoadWhy::Memory);

@@ -1,11 +1,10 @@
 -- What an opening and a reply mean for `ask`.
-use Rattle.std.proofs.Common.{◌≡◌, inr, ℕ, List, ◌∙◌}
+use Rattle.std.proofs.Common.{inr, ℕ, List}
 use Rattle.swh_base.specs.declared.kind.Kind.{Kind}
-use Rattle.swh_outside.specs.Files.{Files, files_done}
+use Rattle.swh_outside.specs.Files.{Files}
 use Rattle.swh_model.specs.declared.event.Event.{Event}
 use Rattle.swh_model.specs.Step.{replay}
 use Rattle.swh_model.specs.Answer.{ReplyText, IsReply}
-use Rattle.swh_segment.specs.Making.{barriers}
 use Rattle.swh_program.specs.Opening.{IsArchive, IsOnlyOpened, IsOpenRefusal, OpenEnds}
 use Rattle.swh_program.specs.Ask.{IsToldReply, IsAskAnswer, AskEnds}
 use Rattle.swh_program.specs.declared.answer.Answer.{Answer}

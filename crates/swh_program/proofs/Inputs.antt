@@ -1,5 +1,5 @@
 -- What the load of an opened input says of what stands at its path.
-use Rattle.std.proofs.Common.{◌≡◌, ◌≢◌, ◌⊎◌, inl, inr, ℕ, ◌+◌, ◌-◌, ◌^◌, ◌<◌, ◌≤◌, min, Option, Some, None, Result, Ok, Err, List, [], ◌∷◌, ◌++◌, refl, sym, ap, ◌∙◌, subst, arith}
+use Rattle.std.proofs.Common.{◌≡◌, inl, inr, ℕ, ◌<◌, ◌≤◌, Option, Some, None, Result, Ok, Err, List, [], ◌∷◌, ◌++◌, length, sym, ap, ◌∙◌, subst, arith, append_assoc, length-append}
 use Rattle.std.specs.List.{AllByRecursion}
 use Rattle.swh_base.specs.declared.kind.Kind.{Kind}
 use Rattle.swh_base.specs.declared.entry.Entry.{Entry}
@@ -13,7 +13,7 @@ use Rattle.swh_model.specs.declared.event.EventKind.TheVariants.{Batch, Open, Ma
 use Rattle.swh_model.specs.Archive.{Bodies}
 use Rattle.swh_model.specs.Step.{replay}
 use Rattle.swh_keeper.specs.Kept.{Kept}
-use Rattle.swh_loader.specs.Adding.{IsOwn, IsOwnKind}
+use Rattle.swh_loader.specs.Adding.{opening, IsEvent, IsOwn, IsOwnKind}
 use Rattle.swh_loader.specs.Ending.{IsEndOf, IsJobEnd}
 use Rattle.swh_loader.specs.Leaving.{AreAllowed, AreOfVisit, AddsVisit, Stops, IsSameInput, next_visit}
 use Rattle.swh_loader.specs.Stopping as stopping
@@ -58,28 +58,62 @@ of_visit P Q by origin date number more (e ∷ es) are = (are.0, own_events P Q 
 pub adds_visit : (P Q : List Entry → Type 0) (by : ℕ) (origin : List ℕ) (date : ℕ) (h h' : List Event) → ((entries : List Entry) → P entries → Q entries) → AddsVisit P by origin date h h' → AddsVisit Q by origin date h h'
 adds_visit P Q by origin date h h' more adds = record { more = adds.more; behind = adds.behind; are = of_visit P Q by origin date (next_visit h origin) more adds.more adds.are }
 
--- why a load of an unwounded keeper stopped
-module _ {D : Type 0} (faults : D → ℕ) (tried : Event → Type 0) (old new : Kept D) (unwounded : old.wounded ≡ None) where
-  pub stops_for : (reason : LoadWhy) → stopping.StopsFor faults tried old new reason → StopsFor new.history reason
-  stops_for (why.Ended status) stops = stops
-  stops_for why.DiskFault stops = tt
-  stops_for why.Wounded stops = let f : Some stops.first ≡ None = sym stops.wounded ∙ unwounded in absurd (let g : Some stops.first ≡ None = f in cc)
-  stops_for (why.Limit which number) stops = (stops.event, stops.passes)
-  stops_for why.Memory stops = tt
+all_append : {X : Type 0} (P : X → Type 0) (xs ys : List X) → AllByRecursion P xs → AllByRecursion P ys → AllByRecursion P (xs ++ ys)
+all_append P [] ys h k = k
+all_append P (x ∷ xs) ys h k = (h.0, all_append P xs ys h.1 k)
 
-  pub stops_kept : (reason : LoadWhy) → stopping.StopsFor faults tried old new reason → StopsKept faults old new reason
-  stops_kept (why.Ended status) stops = absurd stops
-  stops_kept why.DiskFault stops = (_, stops.wounded, stops.rose)
-  stops_kept why.Wounded stops = ap (λ (k : Kept D). k.wounded) stops.same ∙ unwounded
-  stops_kept (why.Limit which number) stops = stops.unwounded
-  stops_kept why.Memory stops = stops ∙ unwounded
+-- one event more of a load
+module _ (P : List Entry → Type 0) (by : ℕ) (origin : List ℕ) (date : ℕ) (h h' : List Event) (e : Event) where
+  -- its first
+  pub opened_next : h' ≡ h → IsEvent (opening by origin date) e → AddsVisit P by origin date h (h' ++ e ∷ [])
+  opened_next same is = record { more = e ∷ []; behind = ap (λ (t : List Event). t ++ e ∷ []) same; are = (is, tt) }
 
-pub stops_visit : {D : Type 0} (faults : D → ℕ) (P : List Entry → Type 0) (url : List ℕ) (date : ℕ) (old new : Kept D) (fault : LoadFault) → old.wounded ≡ None → Stops faults P 1 url date old new fault
-    → StopsVisit url date old.history new.history fault × StopsKept faults old new fault.why
-stops_visit faults P url date old new fault unwounded (inl once) =
-    (record { visit = inl (once.no_visit, once.same); stops = stops_for faults _ old new unwounded fault.why once.stops }, stops_kept faults _ old new unwounded fault.why once.stops)
-stops_visit faults P url date old new fault unwounded (inr later) =
-    (record { visit = inr (later.visit, later.more, later.opened); stops = stops_for faults _ old new unwounded fault.why later.stops }, stops_kept faults _ old new unwounded fault.why later.stops)
+  longer : (more : List Event) (o : Event) → h' ≡ h ++ [] → h' ≡ h ++ o ∷ more → ⊥
+  longer more o none some = let l = sym (length-append h []) ∙ ap length (sym none ∙ some) ∙ length-append h (o ∷ more) in omega (arith, l)
+
+  own_more : (m more : List Event) (o : Event) → h' ≡ h ++ m → h' ≡ h ++ o ∷ more → AreOfVisit P by origin date (next_visit h origin) m → IsOwn P by origin (next_visit h origin) e → AreOfVisit P by origin date (next_visit h origin) (m ++ e ∷ [])
+  own_more [] more o none some are own = absurd (longer more o none some)
+  own_more (x ∷ m) more o behind some are own = (are.0, all_append (IsOwn P by origin (next_visit h origin)) m (e ∷ []) are.1 (own, tt))
+
+  -- a later one
+  pub own_next : (more : List Event) (o : Event) → h' ≡ h ++ o ∷ more → AddsVisit P by origin date h h' → IsOwn P by origin (next_visit h origin) e → AddsVisit P by origin date h (h' ++ e ∷ [])
+  own_next more o opened adds own = record {
+    more = adds.more ++ e ∷ [];
+    behind = ap (λ (t : List Event). t ++ e ∷ []) adds.behind ∙ append_assoc h adds.more (e ∷ []);
+    are = own_more adds.more more o adds.behind opened adds.are own;
+  }
+
+-- Why a load of an unwounded keeper stopped.
+module _ {D : Type 0} (id_of : Kind → List ℕ → List ℕ) (tells : Type 0) (found : Option (List ℕ)) (failed : Type 0) (faults : D → ℕ) (P : List Entry → Type 0) (url : List ℕ) (date : ℕ) (old new : Kept D) (unwounded : old.wounded ≡ None)
+    (allowed : (entries : List Entry) → P entries → IsOfInput id_of tells found failed entries) (adds : AddsVisit P 1 url date old.history new.history) where
+  stops_for : (tried : Event → Type 0) → ((e : Event) → tried e → AddsVisit P 1 url date old.history (new.history ++ e ∷ [])) → (reason : LoadWhy) → stopping.StopsFor id_of faults tried old new reason
+      → StopsFor id_of tells found failed url date old.history new.history reason
+  stops_for tried next (why.Ended status) stops = stops
+  stops_for tried next why.DiskFault stops = tt
+  stops_for tried next why.Wounded stops = let f : Some stops.first ≡ None = sym stops.wounded ∙ unwounded in absurd (let g : Some stops.first ≡ None = f in cc)
+  stops_for tried next (why.Limit which number) stops = record {
+    event = stops.event;
+    next = adds_visit P (IsOfInput id_of tells found failed) 1 url date old.history (new.history ++ stops.event ∷ []) allowed (next stops.event stops.tried);
+    may = stops.may;
+    passes = stops.passes;
+  }
+  stops_for tried next why.Memory stops = tt
+
+  stops_kept : (tried : Event → Type 0) (reason : LoadWhy) → stopping.StopsFor id_of faults tried old new reason → StopsKept faults old new reason
+  stops_kept tried (why.Ended status) stops = absurd stops
+  stops_kept tried why.DiskFault stops = (_, stops.wounded, stops.rose)
+  stops_kept tried why.Wounded stops = ap (λ (k : Kept D). k.wounded) stops.same ∙ unwounded
+  stops_kept tried (why.Limit which number) stops = stops.unwounded
+  stops_kept tried why.Memory stops = stops ∙ unwounded
+
+  pub stops_visit : (fault : LoadFault) → Stops id_of faults P 1 url date old new fault → StopsVisit id_of tells found failed url date old.history new.history fault × StopsKept faults old new fault.why
+  stops_visit fault (inl once) =
+      let tried = IsEvent (opening 1 url date) in
+      (record { visit = inl (once.no_visit, once.same); stops = stops_for tried (λ e is. opened_next P 1 url date old.history new.history e once.same is) fault.why once.stops }, stops_kept tried fault.why once.stops)
+  stops_visit fault (inr later) =
+      let tried = IsOwn P 1 url fault.visit in
+      let own = λ (e : Event) (is : IsOwn P 1 url fault.visit e). own_next P 1 url date old.history new.history e later.more (opening 1 url date) later.opened adds (subst (λ (n : ℕ). IsOwn P 1 url n e) later.visit is) in
+      (record { visit = inr (later.visit, later.more, later.opened); stops = stops_for tried own fault.why later.stops }, stops_kept tried fault.why later.stops)
 
 -- a path's count rose where a source of that path had failed
 pub back_at : {S : Type 0} (faults : S → ℕ) (path_of : S → List ℕ) (path : List ℕ) (middle after : List ℕ → ℕ) (now : Opened S) → IfFound now (λ s. 0 < faults s → Rose (middle (path_of s)) (after (path_of s)))
@@ -132,9 +166,9 @@ module _ {S : Type 0} (id_of : Kind → List ℕ → List ℕ) (tells source_tel
       → AddsVisit (AreAllowed id_of source_tells left stream) 1 url date old.history new'.history
       → IfOk loaded (λ l. l.visit ≡ next_visit old.history url) → IfOk loaded (λ l. IsVisit new'.history url l.visit date 1 ((Created, None) ∷ statuses_of l.end))
       → IfOk loaded (λ l. IsJobEnd id_of source_tells left faults (replay new'.history).bodies stream now l.end) → OnOk loaded (GoesOn old new')
-      → IfErr loaded (Stops disk_faults (AreAllowed id_of source_tells left stream) 1 url date old new') → IsKeptLoad id_of tells found failed disk_faults old new' url date loaded
+      → IfErr loaded (Stops id_of disk_faults (AreAllowed id_of source_tells left stream) 1 url date old new') → IsKeptLoad id_of tells found failed disk_faults old new' url date loaded
   kept_load disk_faults old new' url date unwounded (Ok l) adds number visit end on stops =
       record { adds = adds_input 1 url date old.history new'.history adds; leaves = on.unwounded; line = record { number = number; visit = visit; end = ends_input (replay new'.history).bodies l.end end } }
   kept_load disk_faults old new' url date unwounded (Err f) adds number visit end on stops =
-      let both = stops_visit disk_faults (AreAllowed id_of source_tells left stream) url date old new' f unwounded stops in
+      let both = stops_visit id_of tells found failed disk_faults (AreAllowed id_of source_tells left stream) url date old new' unwounded (allowed stream there) adds f stops in
       record { adds = adds_input 1 url date old.history new'.history adds; leaves = both.1; line = both.0 }

@@ -1,6 +1,6 @@
 -- Why a job file that was read is refused.
 use Rattle.std.specs.Prelude.{IfErr}
-use Rattle.std.proofs.Common.{◌≡◌, ◌⊎◌, ⊎_elim, ℕ, ◌+◌, ◌<◌, ◌≤◌, Some, Option, Result, Ok, Err, List, [], ◌∷◌, ◌++◌, length, refl, sym, ap, ◌∙◌, subst, arith, length-append}
+use Rattle.std.proofs.Common.{◌≡◌, ⊎_elim, ℕ, ◌≤◌, Some, Result, Ok, Err, List, [], ◌∷◌, ◌++◌, length, refl, ap, arith, length-append}
 use Rattle.swh_program.specs.JobFile.{IsJobFile, IsLastFeed}
 use Rattle.swh_program.specs.Jobs.{FileAt, IsParseRefusal, IsJobRefused}
 use Rattle.swh_program.specs.declared.answer.Answer.{Answer}

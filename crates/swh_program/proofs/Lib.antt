@@ -8,3 +8,8 @@ pub mod Asked
 pub mod Inputs
 pub mod Loads
 pub mod JobReads
+pub mod Archived
+pub mod Replies
+pub mod Completes
+pub mod Fulls
+pub mod Loadings

@@ -1,11 +1,10 @@
 -- What a load into an open archive means for the files of its folder.
-use Rattle.std.proofs.Common.{◌≡◌, ◌⊎◌, inl, inr, ⊎_elim, ℕ, ◌<◌, ◌≤◌, Option, Some, None, Result, Ok, Err, List, [], ◌∷◌, ◌++◌, sym, ap, ◌∙◌, subst, arith}
+use Rattle.std.proofs.Common.{◌≡◌, ⊎_elim, ℕ, ◌<◌, ◌≤◌, Option, Some, None, Result, Ok, Err, List, ◌++◌, sym, ap, ◌∙◌, subst, arith}
 use Rattle.swh_base.specs.declared.kind.Kind.{Kind}
 use Rattle.swh_outside.specs.Disk.{File}
 use Rattle.swh_outside.specs.Faults.{Rose}
-use Rattle.swh_outside.specs.Files.{Files, files_of, files_done}
+use Rattle.swh_outside.specs.Files.{Files, files_of}
 use Rattle.swh_segment.specs.Makes.{EitherRose}
-use Rattle.swh_segment.specs.Making.{barriers}
 use Rattle.swh_model.specs.declared.event.Event.{Event}
 use Rattle.swh_model.specs.Archive.{Archive, empty_archive, visits_of}
 use Rattle.swh_model.specs.Grows.{IsWithin, IsLaterVisit}
@@ -20,10 +19,9 @@ use Rattle.swh_loader.specs.declared.end.Loaded.{Loaded}
 use Rattle.swh_loader.specs.declared.fault.LoadWhy.{LoadWhy}
 use Rattle.swh_loader.specs.declared.fault.LoadWhy.TheVariants as why
 use Rattle.swh_loader.specs.declared.fault.LoadFault.{LoadFault}
-use Rattle.swh_program.specs.Opening.{IsArchive, IsOnlyOpened, IsOpenRefusal, OpenEnds}
-use Rattle.swh_program.specs.Load.{ending_for, ending_of_end, ending_of_why, TellsLoad, TellsDisk, VisitsStay, StopsFor, StopsDisks, LeavesDisks, IsOutcome, IsLoad, IsUnloaded}
+use Rattle.swh_program.specs.Opening.{IsArchive, IsOpenRefusal, OpenEnds}
+use Rattle.swh_program.specs.Load.{ending_for, ending_of_end, ending_of_why, TellsLoad, TellsDisk, VisitsStay, StopsFor, StopsDisks, LeavesDisks, IsLoad, IsUnloaded}
 use Rattle.swh_program.specs.Loading.{StopsKept, LeavesKept, IsKeptLoad}
-use Rattle.swh_program.specs.declared.answer.Ending.{Ending}
 use Rattle.swh_program.specs.declared.answer.Ending.TheVariants as ending
 use Rattle.swh_program.specs.declared.answer.Answer.{Answer}
 use Rattle.swh_program.specs.declared.answer.Answer.TheVariants.{Made, Told, Words, NoJobFile, JobForm, AlreadyMade, NotMade, Damaged, OutsideDisk, OutsideSource, OutsideClock, Memory}
@@ -83,17 +81,17 @@ module _ (id_of : Kind → List ℕ → List ℕ) (tells : Type 0) (found : Opti
   no_disk NotFound e = let f : ending.Wanting ≡ ending.OutsideDisk = e in cc
   no_disk (Failed bad) e = let f : ending.Wanting ≡ ending.OutsideDisk = e in cc
 
-  stopped_disk : (reason : LoadWhy) → StopsFor now.history reason → StopsKept faults was now reason → ending_of_why reason ≡ ending.OutsideDisk → EitherRose (faults was.store) (faults now.store) (faults was.ledger) (faults now.ledger)
-  stopped_disk (why.Ended status) stops leaves e = absurd stops
-  stopped_disk why.DiskFault stops leaves e = leaves.2
-  stopped_disk why.Wounded stops leaves e = absurd stops
-  stopped_disk (why.Limit which number) stops leaves e = absurd (let f : ending.Wanting ≡ ending.OutsideDisk = e in cc)
-  stopped_disk why.Memory stops leaves e = absurd (let f : ending.Memory ≡ ending.OutsideDisk = e in cc)
+  stopped_disk : (url : List ℕ) (date : ℕ) (reason : LoadWhy) → StopsFor id_of tells found failed url date was.history now.history reason → StopsKept faults was now reason → ending_of_why reason ≡ ending.OutsideDisk → EitherRose (faults was.store) (faults now.store) (faults was.ledger) (faults now.ledger)
+  stopped_disk url date (why.Ended status) stops leaves e = absurd stops
+  stopped_disk url date why.DiskFault stops leaves e = leaves.2
+  stopped_disk url date why.Wounded stops leaves e = absurd stops
+  stopped_disk url date (why.Limit which number) stops leaves e = absurd (let f : ending.Wanting ≡ ending.OutsideDisk = e in cc)
+  stopped_disk url date why.Memory stops leaves e = absurd (let f : ending.Memory ≡ ending.OutsideDisk = e in cc)
 
   pub rose_disk : (url : List ℕ) (date : ℕ) (loaded : Result Loaded LoadFault) → IsKeptLoad id_of tells found failed faults was now url date loaded → ending_for loaded ≡ ending.OutsideDisk
       → EitherRose (faults was.store) (faults now.store) (faults was.ledger) (faults now.ledger)
   rose_disk url date (Ok l) load e = absurd (no_disk l.end e)
-  rose_disk url date (Err f) load e = stopped_disk f.why load.line.stops load.leaves e
+  rose_disk url date (Err f) load e = stopped_disk url date f.why load.line.stops load.leaves e
 
 -- an answer that tells of a disk tells a load that one stopped
 pub told_disk : (url : List ℕ) (loaded : Result Loaded LoadFault) (answer : Answer) → TellsLoad url loaded answer → TellsDisk answer → ending_for loaded ≡ ending.OutsideDisk

@@ -1,5 +1,5 @@
 -- What the keeper's opening means for the archive in a folder.
-use Rattle.std.proofs.Common.{◌≡◌, ◌⊎◌, inl, inr, ℕ, List, refl, sym, ap, ◌∙◌, subst}
+use Rattle.std.proofs.Common.{◌≡◌, inl, inr, ℕ, List, refl, sym, ap, ◌∙◌, subst}
 use Rattle.swh_base.specs.declared.kind.Kind.{Kind}
 use Rattle.swh_outside.specs.Disk.{File}
 use Rattle.swh_outside.specs.Files.{Files, FilesBreaks, files_of, files_done}

@@ -10,3 +10,4 @@ pub mod Ask
 pub mod Jobs
 pub mod Load
 pub mod Loading
+pub mod Complete

@@ -1,9 +1,10 @@
 -- How `load` ends.
-use Rattle.std.specs.Prelude.{◌≡◌, ◌≢◌, ◌⊎◌, ℕ, Option, Some, None, Result, Ok, Err, List, ◌∷◌, ◌++◌}
+use Rattle.std.specs.Prelude.{◌≡◌, ◌≢◌, ◌⊎◌, ℕ, Option, Some, None, Result, Ok, Err, List, [], ◌∷◌, ◌++◌}
 use Rattle.std.specs.List.{AllByRecursion}
 use Rattle.swh_base.specs.declared.kind.Kind.{Kind}
 use Rattle.swh_base.specs.declared.entry.Entry.{Entry}
 use Rattle.swh_base.specs.declared.visit.Status.TheVariants.{Created}
+use Rattle.swh_base.specs.declared.visit.Which.{Which}
 use Rattle.swh_outside.specs.Disk.{File}
 use Rattle.swh_outside.specs.Faults.{Rose}
 use Rattle.swh_outside.specs.Files.{Files}
@@ -14,7 +15,7 @@ use Rattle.swh_model.specs.Grows.{IsWithin, IsLaterVisit}
 use Rattle.swh_model.specs.Judge.{FilePasses}
 use Rattle.swh_model.specs.Meaning.{IsLeftOut}
 use Rattle.swh_model.specs.Sound.{IsSound}
-use Rattle.swh_model.specs.Step.{IsHistory, visit_at, replay}
+use Rattle.swh_model.specs.Step.{May, IsHistory, visit_at, replay}
 use Rattle.swh_keeper.specs.Kept.{AreStanding, AreInDoubt}
 use Rattle.swh_loader.specs.Adding.{opening}
 use Rattle.swh_loader.specs.Ending.{IsMadeBy, IsFull, Collided, statuses_of}
@@ -84,19 +85,6 @@ abbrev pub LeavesDisks : (Kind → List ℕ → List ℕ) → File → File → 
 LeavesDisks id_of ledger store after (Ok loaded) = AreStanding ledger store after
 LeavesDisks id_of ledger store after (Err fault) = StopsDisks id_of ledger store after fault.why
 
--- Why a load stopped: a disk failed, a file would pass its end, or memory ran out.
-abbrev pub StopsFor : List Event → LoadWhy → Type 0
-StopsFor after (why.Ended status) = ⊥
-StopsFor after why.DiskFault = Unit {0}
-StopsFor after why.Wounded = ⊥
-StopsFor after (why.Limit which number) = (event : Event) × FilePasses after event.what which number
-StopsFor after why.Memory = Unit {0}
-
--- A load stopped before its visit was opened, with nothing added, or once it was opened.
-pub record StopsVisit (url : List ℕ) (date : ℕ) (before after : List Event) (fault : LoadFault) : Type 0 where
-  pub visit : ((fault.visit ≡ 0) × (after ≡ before)) ⊎ ((fault.visit ≡ next_visit before url) × (more : List Event) × (after ≡ before ++ opening loader url date ∷ more))
-  pub stops : StopsFor after fault.why
-
 -- What a load says of its input: what stands at its path, if anything, where that is told; whether the path has failed.
 module _ (id_of : Kind → List ℕ → List ℕ) (tells : Type 0) (found : Option (List ℕ)) (failed : Type 0) where
   -- The input is there, and its text has this.
@@ -106,6 +94,26 @@ module _ (id_of : Kind → List ℕ → List ℕ) (tells : Type 0) (found : Opti
   -- The input makes all of these.
   abbrev pub IsOfInput : List Entry → Type 0
   IsOfInput entries = OfText (λ text. AllByRecursion (IsMadeBy id_of text) entries)
+
+  -- An event of this load that may happen next would pass a file's end.
+  pub record MeetsEnd (url : List ℕ) (date : ℕ) (before after : List Event) (which : Which) (number : ℕ) : Type 0 where
+    pub event : Event
+    pub next : AddsVisit IsOfInput loader url date before (after ++ event ∷ [])
+    pub may : May id_of (replay after) event
+    pub passes : FilePasses after event.what which number
+
+  -- Why a load stopped: a disk failed, a file would pass its end, or memory ran out.
+  abbrev pub StopsFor : List ℕ → ℕ → List Event → List Event → LoadWhy → Type 0
+  StopsFor url date before after (why.Ended status) = ⊥
+  StopsFor url date before after why.DiskFault = Unit {0}
+  StopsFor url date before after why.Wounded = ⊥
+  StopsFor url date before after (why.Limit which number) = MeetsEnd url date before after which number
+  StopsFor url date before after why.Memory = Unit {0}
+
+  -- A load stopped before its visit was opened, with nothing added, or once it was opened.
+  pub record StopsVisit (url : List ℕ) (date : ℕ) (before after : List Event) (fault : LoadFault) : Type 0 where
+    pub visit : ((fault.visit ≡ 0) × (after ≡ before)) ⊎ ((fault.visit ≡ next_visit before url) × (more : List Event) × (after ≡ before ++ opening loader url date ∷ more))
+    pub stops : StopsFor url date before after fault.why
 
   abbrev pub IsInputEnd : Bodies → End → Type 0
   IsInputEnd bodies (Full snapshot) = OfText (λ text. IsFull id_of text bodies snapshot)

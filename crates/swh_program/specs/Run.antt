@@ -1,5 +1,7 @@
 -- How a run ends.
-use Rattle.std.specs.Prelude.{◌≡◌, ◌⊎◌, ℕ, List}
+use Rattle.std.specs.Prelude.{◌≡◌, ◌⊎◌, ◌==◌, ◌++◌, ℕ, if◌then◌else◌, List}
+use Rattle.swh_outside.specs.Faults.{Rose}
+use Rattle.swh_model.specs.Answer.{ReplyText}
 use Rattle.swh_program.specs.Answers.{IsToldOf}
 use Rattle.swh_program.specs.Words.{Wanted, IsCommand}
 use Rattle.swh_program.specs.declared.answer.Answer.{Answer}
@@ -22,3 +24,15 @@ IsNoCommand words = (wanted : Wanted) → IsCommand words wanted → ⊥
 -- Memory apart, it was done.
 abbrev pub IsDone : ℕ → Type 0
 IsDone status = (status ≡ 0) ⊎ (status ≡ 5)
+
+-- The count of faults did not rise in this call.
+abbrev pub IsQuiet : ℕ → ℕ → Type 0
+IsQuiet before now = Rose before now → ⊥
+
+-- 0 where the reply is 200, else 1
+abbrev pub reply_status : ReplyText → ℕ
+reply_status reply = if reply.status == 200 then 0 else 1
+
+-- Memory apart, this line was printed with this status.
+abbrev pub IsPrintedWith : List ℕ → ℕ → Type 0 → List ℕ → List ℕ → ℕ → Type 0
+IsPrintedWith line expected tells before now status = (status ≡ 5) ⊎ ((status ≡ expected) × (tells → now ≡ before ++ line))

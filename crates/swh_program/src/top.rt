@@ -1,6 +1,9 @@
 // The top call.
-ghost use Rattle.std.specs.Prelude.{◌≡◌, ◌≤◌, List, ℕ, map, string_bytes};
-ghost use Rattle.swh_outside.specs.Faults.{Rose};
+ghost use Rattle.std.specs.Prelude.{◌≡◌, ◌≤◌, List, Some, ℕ, map, string_bytes};
+ghost use Rattle.swh_model.specs.declared.event.Event.{Event};
+ghost use Rattle.swh_model.specs.Answer.{ReplyText, IsReply};
+ghost use Rattle.swh_model.specs.Meaning.{Making, IsMeaning};
+ghost use Rattle.swh_model.specs.Step.{replay};
 ghost use Rattle.swh_segment.specs.Making.{IsNotMade};
 ghost use Rattle.swh_program.specs.Archives.{archive_at};
 ghost use Rattle.swh_program.specs.Answers.{status_of};
@@ -8,8 +11,11 @@ ghost use Rattle.swh_program.specs.Commands.{wanted_by};
 ghost use Rattle.swh_program.specs.Words.{IsCommand, ToInit, ToLoad, ToAsk};
 ghost use Rattle.swh_program.specs.Init.{Inits};
 ghost use Rattle.swh_program.specs.Load.{Loads};
-ghost use Rattle.swh_program.specs.Ask.{Asks};
-ghost use Rattle.swh_program.specs.Run.{IsStatus, IsNoCommand, Ends, IsDone};
+ghost use Rattle.swh_program.specs.Ask.{Asks, reply_line};
+ghost use Rattle.swh_program.specs.Opening.{IsArchive};
+ghost use Rattle.swh_program.specs.Jobs.{IsJobAt};
+ghost use Rattle.swh_program.specs.Complete.{full_line, HasOneBody, HasRoom};
+ghost use Rattle.swh_program.specs.Run.{IsStatus, IsNoCommand, Ends, IsDone, IsQuiet, IsPrintedWith, reply_status};
 ghost use Rattle.swh_program.specs.declared.answer.Answer.TheVariants.{Words};
 
 use crate::{Answer, Command, Outside, ask, init, load, parse_words, tell};
@@ -117,7 +123,25 @@ pub fn run<R, N: Namer, P: Depot, O: Origins, Y: Yard, K: Sink, C: Clock, D: Doo
 
     // An archive that is not made is made, unless memory runs out, where no part of the outside failed.
     ensures complete_init { (dir : List ℕ) → IsCommand (map string_bytes words.now) (ToInit dir) → P.tells → IsNotMade (archive_at (P.files world.old.depot) dir 0).seen
-        → (Rose (P.faults world.old.depot) (P.faults world.new.depot) → ⊥) → (Rose (K.faults world.old.sink) (K.faults world.new.sink) → ⊥) → IsDone result }
+        → IsQuiet (P.faults world.old.depot) (P.faults world.new.depot) → IsQuiet (K.faults world.old.sink) (K.faults world.new.sink) → IsDone result }
+
+    // The reply of the archive to the path is printed with its status, unless memory runs out, where no part of the
+    // outside failed.
+    ensures complete_ask { (dir path : List ℕ) (h : List Event) (reply : ReplyText) → IsCommand (map string_bytes words.now) (ToAsk dir path) → P.tells
+        → IsArchive N.id_of (archive_at (P.files world.old.depot) dir) h → IsReply (replay h) path reply
+        → IsQuiet (P.faults world.old.depot) (P.faults world.new.depot) → IsQuiet (K.faults world.old.sink) (K.faults world.new.sink)
+        → IsPrintedWith (reply_line reply) (reply_status reply) K.tells (K.taken world.old.sink) (K.taken world.new.sink) result }
+
+    // A job whose input is there and means something is loaded in full, unless memory runs out, where no name has two
+    // bodies, the files have room, and no part of the outside failed.
+    ensures complete_load { (dir jobs url path text : List ℕ) (before : List Event) (making : Making) → IsCommand (map string_bytes words.now) (ToLoad dir jobs) → P.tells → O.tells
+        → IsArchive N.id_of (archive_at (P.files world.old.depot) dir) before → IsJobAt (O.file_at world.old.desk) jobs url path
+        → O.file_at world.old.origins path ≡ Some text → IsMeaning N.id_of text making
+        → HasOneBody N.id_of (replay before).bodies making → HasRoom N.id_of url before making (archive_at (P.files world.new.depot) dir)
+        → IsQuiet (P.faults world.old.depot) (P.faults world.new.depot) → IsQuiet (O.faults world.old.desk) (O.faults world.new.desk)
+        → IsQuiet (O.path_faults world.old.origins path) (O.path_faults world.new.origins path)
+        → IsQuiet (C.faults world.old.clock) (C.faults world.new.clock) → IsQuiet (K.faults world.old.sink) (K.faults world.new.sink)
+        → IsPrintedWith (full_line url before making) 0 K.tells (K.taken world.old.sink) (K.taken world.new.sink) result }
 
     // No count of faults falls.
     ensures depot_later { P.faults world.old.depot ≤ P.faults world.new.depot }

@@ -46,7 +46,7 @@ pub returns-in-Made-clause-stops : goal.returns-in-Made-clause-stops
 returns-in-Made-clause-stops g c =
     let read = rw c.in-Made.is at c.in_ok-made.ensures.read in
     let whole = rw c.in-Made.is at c.in_ok-made.ensures.whole in
-    step_stops g.D.Disk.faults (IsOwn (AreAmong c.in-Made.made.objects.items) c.args.by c.args.origin.now c.args.visit) (IsOwn (AreMadeBy g.N.Namer.id_of g.S.Source.tells (g.S.Source.left c.args.source.now)) c.args.by c.args.origin.now c.args.visit) c.args.keeper.now c.mark.new.keeper c.finish.new.keeper c.finish.result
+    step_stops g.N.Namer.id_of g.D.Disk.faults (IsOwn (AreAmong c.in-Made.made.objects.items) c.args.by c.args.origin.now c.args.visit) (IsOwn (AreMadeBy g.N.Namer.id_of g.S.Source.tells (g.S.Source.left c.args.source.now)) c.args.by c.args.origin.now c.args.visit) c.args.keeper.now c.mark.new.keeper c.finish.new.keeper c.finish.result
     (own_as (AreAmong c.in-Made.made.objects.items) (AreMadeBy g.N.Namer.id_of g.S.Source.tells (g.S.Source.left c.args.source.now)) c.args.by c.args.origin.now c.args.visit (among_made g.N.Namer.id_of g.S.Source.tells (g.S.Source.left c.args.source.now) c.in-Made.made whole read))
     c.requires.unwounded c.in_ok-mark.ensures.on.unwounded
     (adds_as g.D.Disk.faults (IsEvent (marking c.args.by c.args.origin.now c.args.visit Ongoing None)) (IsOwn (AreMadeBy g.N.Namer.id_of g.S.Source.tells (g.S.Source.left c.args.source.now)) c.args.by c.args.origin.now c.args.visit) c.args.keeper.now c.mark.new.keeper (own_mark (AreMadeBy g.N.Namer.id_of g.S.Source.tells (g.S.Source.left c.args.source.now)) c.args.by c.args.origin.now c.args.visit Ongoing None) c.in_ok-mark.ensures.adds)

@@ -31,6 +31,7 @@ stopped-requires g c = batch_may c.args.keeper.now c.apply.new.self c.args.by c.
 pub returns-clause-stops : goal.returns-clause-stops
 returns-clause-stops g c =
     let entries = c.args.pending.entries.items in
-    stops_at g.D.Disk.faults c.args.keeper.now c.apply.new.self c.args.by (Batch entries) (adding c.args.by entries) c.in-Err.refusal c.stopped.result
+    stops_at g.N.Namer.id_of g.D.Disk.faults c.args.keeper.now c.apply.new.self c.args.by (Batch entries) (adding c.args.by entries) c.in-Err.refusal c.stopped.result
+    (record { good = c.requires.waiting.good; limits = c.requires.waiting.limits; new = c.requires.waiting.new })
     (λ which number is. batch_full c.args.keeper.now.history c.args.by entries which number c.requires.waiting.new c.requires.waiting.limits is)
     (rw c.from_vec.ensures at c.in-Err.ensures.err) c.stopped.ensures (λ e. c.in-Err.ensures.cause (ap Err e))

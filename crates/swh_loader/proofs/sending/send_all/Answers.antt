@@ -12,8 +12,8 @@ returns-in_err-pending-clause-adds g c = step_adds g.D.Disk.faults (IsEvent (add
 pub returns-in_err-pending-clause-stops : goal.returns-in_err-pending-clause-stops
 returns-in_err-pending-clause-stops g c =
     let p = err_from_is_err_and c.from_residual.result c.from_residual.ensures.1 in
-    rw (p.1, p.2) (stops_further g.D.Disk.faults (IsBatchAmong c.args.by c.args.objects.items) (IsBatchAmong c.args.by c.args.objects.items) c.args.keeper.now c.objects.keeper c.take_in.new.keeper c.in_err-pending.field-0.0 c.requires c.objects.invariant.on.unwounded c.objects.invariant.adds
-    (stops_as g.D.Disk.faults (IsEvent (adding c.args.by c.objects.pending.entries.items)) (IsBatchAmong c.args.by c.args.objects.items) c.objects.keeper c.take_in.new.keeper c.in_err-pending.field-0.0 (batch_among c.args.by c.args.objects.items c.objects.pending.entries.items c.objects.invariant.among) c.in_err-pending.ensures.stops))
+    rw (p.1, p.2) (stops_further g.N.Namer.id_of g.D.Disk.faults (IsBatchAmong c.args.by c.args.objects.items) (IsBatchAmong c.args.by c.args.objects.items) c.args.keeper.now c.objects.keeper c.take_in.new.keeper c.in_err-pending.field-0.0 c.requires c.objects.invariant.on.unwounded c.objects.invariant.adds
+    (stops_as g.N.Namer.id_of g.D.Disk.faults (IsEvent (adding c.args.by c.objects.pending.entries.items)) (IsBatchAmong c.args.by c.args.objects.items) c.objects.keeper c.take_in.new.keeper c.in_err-pending.field-0.0 (batch_among c.args.by c.args.objects.items c.objects.pending.entries.items c.objects.invariant.among) c.in_err-pending.ensures.stops))
 
 pub returns-in-Collides-clause-adds : goal.returns-in-Collides-clause-adds
 returns-in-Collides-clause-adds g c = step_adds g.D.Disk.faults (IsEvent (adding c.args.by c.objects.pending.entries.items)) (IsBatchAmong c.args.by c.args.objects.items) c.args.keeper.now c.objects.keeper c.take_in.new.keeper (batch_among c.args.by c.args.objects.items c.objects.pending.entries.items c.objects.invariant.among) c.objects.invariant.adds c.in_ok-pending.ensures.adds
@@ -47,8 +47,8 @@ returns-in_err-flush-clause-adds g c = step_adds g.D.Disk.faults (IsEvent (addin
 pub returns-in_err-flush-clause-stops : goal.returns-in_err-flush-clause-stops
 returns-in_err-flush-clause-stops g c =
     let p = err_from_is_err_and c.from_residual-in_err-flush.result c.from_residual-in_err-flush.ensures.1 in
-    rw (p.1, p.2) (stops_further g.D.Disk.faults (IsBatchAmong c.args.by c.args.objects.items) (IsBatchAmong c.args.by c.args.objects.items) c.args.keeper.now c.objects.keeper c.flush.new.keeper c.in_err-flush.field-0.0 c.requires c.objects.invariant.on.unwounded c.objects.invariant.adds
-    (stops_as g.D.Disk.faults (IsEvent (adding c.args.by c.objects.pending.entries.items)) (IsBatchAmong c.args.by c.args.objects.items) c.objects.keeper c.flush.new.keeper c.in_err-flush.field-0.0 (batch_among c.args.by c.args.objects.items c.objects.pending.entries.items c.objects.invariant.among) c.in_err-flush.ensures.stops))
+    rw (p.1, p.2) (stops_further g.N.Namer.id_of g.D.Disk.faults (IsBatchAmong c.args.by c.args.objects.items) (IsBatchAmong c.args.by c.args.objects.items) c.args.keeper.now c.objects.keeper c.flush.new.keeper c.in_err-flush.field-0.0 c.requires c.objects.invariant.on.unwounded c.objects.invariant.adds
+    (stops_as g.N.Namer.id_of g.D.Disk.faults (IsEvent (adding c.args.by c.objects.pending.entries.items)) (IsBatchAmong c.args.by c.args.objects.items) c.objects.keeper c.flush.new.keeper c.in_err-flush.field-0.0 (batch_among c.args.by c.args.objects.items c.objects.pending.entries.items c.objects.invariant.among) c.in_err-flush.ensures.stops))
 
 pub returns-clause-adds : goal.returns-clause-adds
 returns-clause-adds g c = step_adds g.D.Disk.faults (IsEvent (adding c.args.by c.objects.pending.entries.items)) (IsBatchAmong c.args.by c.args.objects.items) c.args.keeper.now c.objects.keeper c.flush.new.keeper (batch_among c.args.by c.args.objects.items c.objects.pending.entries.items c.objects.invariant.among) c.objects.invariant.adds c.in_ok-flush.ensures.adds

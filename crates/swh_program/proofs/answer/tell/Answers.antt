@@ -1,5 +1,4 @@
-use Rattle.std.proofs.Common.{◌≡◌, refl, inl, inr, subst, sym, ap}
-use Rattle.swh_outside.specs.Sink.{TakesSome}
+use Rattle.std.proofs.Common.{refl, inl, inr}
 use Rattle.swh_program.specs.Answers.{told_by, last_line_of}
 use Rattle.swh_program.proofs.Told.{some_of_first, some_of_second, both_pieces}
 use Rattle.swh_program.proofs.answer.tell.Goals as goal

@@ -1,9 +1,6 @@
-use Rattle.std.proofs.Common.{◌≡◌, inr, ◌∙◌, sym, subst, ap}
-use Rattle.swh_model.specs.Archive.{Archive}
-use Rattle.swh_model.specs.Answer.{IsReply}
+use Rattle.std.proofs.Common.{inr, ◌∙◌}
 use Rattle.swh_api.specs.Text.{text_of}
 use Rattle.swh_program.specs.Archives.{archive_at}
-use Rattle.swh_program.specs.Opening.{IsOnlyOpened}
 use Rattle.swh_program.proofs.Asked.{refused, replied}
 use Rattle.swh_program.proofs.ask_command.ask.Goals as goal
 

@@ -1,7 +1,4 @@
-use Rattle.std.proofs.Common.{◌≡◌, ◌≤◌, ℕ, inl, sym, subst, string_bytes}
-use Rattle.swh_outside.specs.Faults.{Rose}
-use Rattle.swh_outside.specs.Opened.{IfFound, IsNotFound, IsFailed}
-use Rattle.swh_program.specs.Load.{TellsLoad}
+use Rattle.std.proofs.Common.{inl, string_bytes}
 use Rattle.swh_program.proofs.Inputs.{kept_load, back_at}
 use Rattle.swh_program.proofs.load_command.load_input.Goals as goal
 

@@ -3,7 +3,6 @@ use Rattle.swh_outside.specs.Faults.{Rose}
 use Rattle.swh_outside.specs.Files.{files_of}
 use Rattle.swh_program.specs.Archives.{archive_at}
 use Rattle.swh_program.specs.Load.{TellsDisk, IsUnloaded}
-use Rattle.swh_program.specs.declared.answer.Answer.{Answer}
 use Rattle.swh_program.specs.declared.answer.Answer.TheVariants.{OutsideDisk, Memory}
 use Rattle.swh_program.proofs.Loads.{loaded_files, refused_unloaded, rose_disk, told_disk, disk_rose}
 use Rattle.swh_program.proofs.load_command.load_job.Goals as goal

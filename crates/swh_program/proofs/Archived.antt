@@ -1,0 +1,26 @@
+-- What an archive is that stands for a history.
+use Rattle.std.proofs.Common.{◌≡◌, ◌≢◌, ⊎_elim, ℕ, ◌<◌, List, ◌∷◌, length, get_or, refl, sym, ap, ◌∙◌, subst, arith, length-append}
+use Rattle.swh_base.specs.declared.kind.Kind.{Kind}
+use Rattle.swh_outside.specs.Files.{Files}
+use Rattle.swh_model.specs.declared.event.Event.{Event}
+use Rattle.swh_model.specs.Coding.{coded_records}
+use Rattle.swh_model.proofs.OneHistory.{one_history}
+use Rattle.swh_model.proofs.Unique.{alike}
+use Rattle.swh_segment.specs.Making.{IsMade, IsNotMade}
+use Rattle.swh_program.specs.Opening.{IsArchive}
+
+pub not_both : (bytes : List ℕ) → IsMade bytes → IsNotMade bytes → ⊥
+not_both bytes made not_made =
+    ⊎_elim (λ (short : length bytes < 9). let long = made.0 in omega (arith, long, short)) (λ (other : get_or bytes 0 0 ≢ 83). other made.1) not_made
+
+module _ (id_of : Kind → List ℕ → List ℕ) (files : Files) where
+  -- it is made
+  pub made_archive : (h : List Event) → IsArchive id_of files h → IsMade (files 0).seen
+  made_archive h a =
+      let s = a.stand.stands in
+      let long = ap length s.records ∙ length-append (coded_records 0 h) (s.gate ∷ s.behind) in
+      subst IsMade (sym a.stand.begins) (omega (arith, long), refl)
+
+  -- of one history
+  pub one_archive : (g h : List Event) → IsArchive id_of files g → IsArchive id_of files h → g ≡ h
+  one_archive g h a b = one_history id_of g h (alike (files 0).seen (files 1).seen g h a.stand b.stand) a.history b.history

@@ -1,0 +1,73 @@
+-- Where nothing stands against a command, it is done, or memory runs out.
+use Rattle.std.specs.Prelude.{if◌then◌else◌}
+use Rattle.std.proofs.Common.{◌≡◌, ◌≢◌, ◌==◌, ◌⊎◌, inl, inr, ⊎_elim, ℕ, Bool, true, false, List, ◌++◌, refl, sym, ap, ◌∙◌, subst}
+use Rattle.std.proofs.lemmas.List.{append-nil}
+use Rattle.std.proofs.lemmas.Bool.{eq-eqb, eqb-true}
+use Rattle.swh_base.specs.declared.kind.Kind.{Kind}
+use Rattle.swh_outside.specs.Files.{Files}
+use Rattle.swh_model.specs.declared.event.Event.{Event}
+use Rattle.swh_model.specs.Step.{replay}
+use Rattle.swh_model.specs.Answer.{ReplyText, IsReply}
+use Rattle.swh_program.specs.Answers.{status_of, status_for, printed_by, last_line_for, IsPrinted, IsCutOff, IsToldOf}
+use Rattle.swh_program.specs.Ask.{reply_line, TellsReply, IsAsked, AskEnds}
+use Rattle.swh_program.specs.Opening.{IsArchive}
+use Rattle.swh_program.specs.Run.{IsQuiet, IsPrintedWith, reply_status}
+use Rattle.swh_program.specs.declared.answer.Ending.{Ending}
+use Rattle.swh_program.specs.declared.answer.Ending.TheVariants as ending
+use Rattle.swh_program.specs.declared.answer.Answer.{Answer}
+use Rattle.swh_program.specs.declared.answer.Answer.TheVariants.{Made, Told, Words, NoJobFile, JobForm, AlreadyMade, NotMade, Damaged, OutsideDisk, OutsideSource, OutsideClock, Memory}
+use Rattle.swh_program.proofs.Archived.{not_both, made_archive, one_archive}
+use Rattle.swh_program.proofs.Replies.{one_reply}
+
+-- what an answer says, where it is done or memory ran out
+abbrev pub Tells : List ℕ → ℕ → Answer → Type 0
+Tells line expected answer = (status_of answer ≡ 5) ⊎ ((status_of answer ≡ expected) × (printed_by answer ≡ line))
+
+-- and where the sink did not fail, so says the run
+pub told_with : (line : List ℕ) (expected : ℕ) (answer : Answer) (tells : Type 0) (before now : List ℕ) (faults_before faults_now status : ℕ) → Tells line expected answer → IsQuiet faults_before faults_now
+    → IsToldOf answer tells before now faults_before faults_now status → IsPrintedWith line expected tells before now status
+told_with line expected answer tells before now faults_before faults_now status says no_sink told =
+    ⊎_elim
+    (λ (printed : IsPrinted answer tells before now status). ⊎_elim
+    (λ (memory : status_of answer ≡ 5). inl (printed.status_is ∙ memory))
+    (λ (done : (status_of answer ≡ expected) × (printed_by answer ≡ line)). inr (printed.status_is ∙ done.0, λ t. printed.printed t ∙ ap (λ (l : List ℕ). before ++ l) done.1))
+    says)
+    (λ (cut : IsCutOff answer tells before now faults_before faults_now status). absurd (no_sink cut.rose))
+    told
+
+abbrev status_by : Bool → ℕ
+status_by found = if found then 0 else 1
+
+other_status : (status : ℕ) (b : Bool) → (status == 200) ≡ b → status ≢ 200 → status_by b ≡ 1
+other_status status true is apart = absurd (apart (eqb-true status 200 is))
+other_status status false is apart = refl
+
+reply_ending : (reply : ReplyText) (text : List ℕ) (end : Ending) → TellsReply reply text end → Tells (reply_line reply) (reply_status reply) (Told text end)
+reply_ending reply text end tells = ⊎_elim
+    (λ (found : (reply.status ≡ 200) × (end ≡ ending.Done)).
+    inr (ap status_for found.1 ∙ sym (ap status_by (eq-eqb reply.status 200 found.0)), ap (λ (e : Ending). text ++ last_line_for e) found.1 ∙ append-nil text ∙ tells.text_is))
+    (λ (other : (reply.status ≢ 200) × (end ≡ ending.Wanting)).
+    inr (ap status_for other.1 ∙ sym (other_status reply.status (reply.status == 200) refl other.0), ap (λ (e : Ending). text ++ last_line_for e) other.1 ∙ append-nil text ∙ tells.text_is))
+    tells.end_is
+
+module _ (id_of : Kind → List ℕ → List ℕ) (path : List ℕ) (old new : Files) (h : List Event) (reply : ReplyText) (archive : IsArchive id_of old h) (is : IsReply (replay h) path reply) where
+  -- the reply of the archive is told
+  asked_done : (text : List ℕ) (end : Ending) → IsAsked id_of old new path text end → Tells (reply_line reply) (reply_status reply) (Told text end)
+  asked_done text end asked =
+      let same = one_archive id_of old asked.history h asked.archive archive in
+      let one = one_reply (replay h) path asked.reply reply (subst (λ (g : List Event). IsReply (replay g) path asked.reply) same asked.is_reply) is in
+      reply_ending reply text end (subst (λ (r : ReplyText). TellsReply r text end) one asked.tells)
+
+  pub ask_done : (answer : Answer) → AskEnds id_of path old new answer → (answer ≡ OutsideDisk → ⊥) → Tells (reply_line reply) (reply_status reply) answer
+  ask_done Made ends no_disk = absurd ends
+  ask_done (Told text end) ends no_disk = asked_done text end ends
+  ask_done Words ends no_disk = absurd ends
+  ask_done NoJobFile ends no_disk = absurd ends
+  ask_done JobForm ends no_disk = absurd ends
+  ask_done AlreadyMade ends no_disk = absurd ends
+  ask_done NotMade ends no_disk = absurd (not_both (old 0).seen (made_archive id_of old h archive) ends.0)
+  ask_done Damaged ends no_disk = absurd (ends.0.none h archive)
+  ask_done OutsideDisk ends no_disk = absurd (no_disk refl)
+  ask_done OutsideSource ends no_disk = absurd ends
+  ask_done OutsideClock ends no_disk = absurd ends
+  ask_done Memory ends no_disk = inl refl
