@@ -60,69 +60,107 @@ fn a_stream_is_loaded_twice(rt: HostRuntime) -> Result<(), Fail> {
 }
 
 // Says whether a run of `load` ends with this status, and prints this behind `made`.
-fn loads(alloc: Global, world: &mut World, status: u8, printed: &[u8]) -> Result<bool, AllocError> {
-    let ended = run_words(alloc, &["load", "A", "J"], world)?;
+fn loads(alloc: Global, mut world: World, status: u8, printed: &[u8]) -> Result<bool, AllocError> {
+    let ended = run_words(alloc, &["load", "A", "J"], &mut world)?;
     let told = world.sink.bytes().strip_prefix(b"made\n") == Some(printed);
     Ok(ended == status && told)
+}
+
+fn without_job_file(alloc: Global) -> Result<World, AllocError> {
+    let mut world = world_of(alloc, JOB, STREAM)?;
+    world.desk = MemoryOrigins::new(alloc, Vec::new(alloc), Vec::new(alloc));
+    Ok(world)
+}
+
+fn with_a_failing_job_file(alloc: Global) -> Result<World, AllocError> {
+    let mut world = world_of(alloc, JOB, STREAM)?;
+    world.desk = give_file(alloc, "J", JOB, &[0])?;
+    Ok(world)
+}
+
+fn with_a_failing_clock(alloc: Global) -> Result<World, AllocError> {
+    let mut world = world_of(alloc, JOB, STREAM)?;
+    world.clock = MemoryClock::new(1, vec![in alloc; 0]?);
+    Ok(world)
 }
 
 #[test]
 fn jobs_that_are_refused(rt: HostRuntime) -> Result<(), Fail> {
     let alloc = rt.alloc();
-    let mut world = world_of(alloc, JOB, STREAM)?;
-    world.desk = MemoryOrigins::new(alloc, Vec::new(alloc), Vec::new(alloc));
-    assert!(rt; loads(alloc, &mut world, 2, b"swharc: no job file\n")?);
-    let mut world = world_of(alloc, b"fast\te", STREAM)?;
-    assert!(rt; loads(alloc, &mut world, 2, b"swharc: job line 1: form\n")?);
-    let mut world = world_of(alloc, JOB, STREAM)?;
-    world.desk = give_file(alloc, "J", JOB, &[0])?;
-    assert!(rt; loads(alloc, &mut world, 4, b"swharc: outside source\n")?);
-    let mut world = world_of(alloc, JOB, STREAM)?;
-    world.clock = MemoryClock::new(1, vec![in alloc; 0]?);
-    assert!(rt; loads(alloc, &mut world, 4, b"swharc: outside clock\n")?);
-    assert_eq!(rt; world.depot.bytes("A", 0).len(), 9);
+    let world = without_job_file(alloc)?;
+    assert!(rt; loads(alloc, world, 2, b"swharc: no job file\n")?);
+    let world = world_of(alloc, b"fast\te", STREAM)?;
+    assert!(rt; loads(alloc, world, 2, b"swharc: job line 1: form\n")?);
+    let world = with_a_failing_job_file(alloc)?;
+    assert!(rt; loads(alloc, world, 4, b"swharc: outside source\n")?);
+    let world = with_a_failing_clock(alloc)?;
+    assert!(rt; loads(alloc, world, 4, b"swharc: outside clock\n")?);
     Ok(())
+}
+
+fn without_an_input(alloc: Global) -> Result<World, AllocError> {
+    let mut world = world_of(alloc, JOB, STREAM)?;
+    world.origins = MemoryOrigins::new(alloc, Vec::new(alloc), Vec::new(alloc));
+    Ok(world)
+}
+
+fn with_a_failing_input(alloc: Global) -> Result<World, AllocError> {
+    let mut world = world_of(alloc, JOB, STREAM)?;
+    world.origins = give_file(alloc, "e", STREAM, &[0])?;
+    Ok(world)
 }
 
 #[test]
 fn inputs_that_make_no_snapshot(rt: HostRuntime) -> Result<(), Fail> {
     let alloc = rt.alloc();
-    let mut world = world_of(alloc, JOB, b"feature done\n")?;
+    let world = world_of(alloc, JOB, b"feature done\n")?;
     assert!(rt;
         loads(
             alloc,
-            &mut world,
+            world,
             1,
             b"https://e.org/p\t1\tfailed\tstream 0 left-out\n"
         )?
     );
-    let mut world = world_of(alloc, JOB, STREAM)?;
-    world.origins = MemoryOrigins::new(alloc, Vec::new(alloc), Vec::new(alloc));
-    assert!(rt; loads(alloc, &mut world, 1, b"https://e.org/p\t1\tnot_found\t-\n")?);
-    let mut world = world_of(alloc, JOB, STREAM)?;
-    world.origins = give_file(alloc, "e", STREAM, &[0])?;
-    assert!(rt; loads(alloc, &mut world, 1, b"https://e.org/p\t1\tfailed\tread\n")?);
+    let world = without_an_input(alloc)?;
+    assert!(rt; loads(alloc, world, 1, b"https://e.org/p\t1\tnot_found\t-\n")?);
+    let world = with_a_failing_input(alloc)?;
+    assert!(rt; loads(alloc, world, 1, b"https://e.org/p\t1\tfailed\tread\n")?);
     Ok(())
+}
+
+// Says whether a run of `ask` ends with this status, and prints this.
+fn asks(alloc: Global, mut world: World, status: u8, printed: &[u8]) -> Result<bool, AllocError> {
+    let ended = run_words(alloc, &["ask", "A", VISITS], &mut world)?;
+    Ok(ended == status && world.sink.bytes() == printed)
+}
+
+fn with_a_damaged_ledger(alloc: Global) -> Result<World, AllocError> {
+    let mut world = new_world(alloc, &[])?;
+    lay_failing(alloc, &mut world, b"SWHARC2\n\0", &[], &[])?;
+    Ok(world)
+}
+
+fn with_a_failing_depot(alloc: Global) -> Result<World, AllocError> {
+    let mut world = new_world(alloc, &[])?;
+    world.depot = MemoryDepot::new(alloc, ROOM, vec![in alloc; 0]?);
+    Ok(world)
 }
 
 #[test]
 fn archives_that_are_refused(rt: HostRuntime) -> Result<(), Fail> {
     let alloc = rt.alloc();
-    let mut world = new_world(alloc, &[])?;
-    assert_eq!(rt; run_words(alloc, &["ask", "A", VISITS], &mut world)?, 3);
-    assert_eq!(rt; world.sink.bytes(), b"swharc: not made\n".as_slice());
-    let mut world = world_of(alloc, b"x", b"")?;
-    lay_failing(alloc, &mut world, b"SWHARC2\n\0", &[], &[])?;
-    assert_eq!(rt; run_words(alloc, &["ask", "A", VISITS], &mut world)?, 3);
-    assert_eq!(rt;
-        world.sink.bytes(),
-        b"made\nswharc: damaged 0 0\n".as_slice()
-    );
+    let world = new_world(alloc, &[])?;
+    assert!(rt; asks(alloc, world, 3, b"swharc: not made\n")?);
+    let world = with_a_damaged_ledger(alloc)?;
+    assert!(rt; asks(alloc, world, 3, b"swharc: damaged 0 0\n")?);
+    let world = with_a_failing_depot(alloc)?;
+    assert!(rt; asks(alloc, world, 4, b"swharc: outside disk\n")?);
     Ok(())
 }
 
 #[test]
-fn parts_that_fail_around_a_load(rt: HostRuntime) -> Result<(), Fail> {
+fn a_failing_sink_is_the_answer(rt: HostRuntime) -> Result<(), Fail> {
     let alloc = rt.alloc();
     let mut world = world_of(alloc, JOB, STREAM)?;
     world.sink = MemorySink::new(alloc, 4096, vec![in alloc; 0]?)?;
@@ -133,12 +171,7 @@ fn parts_that_fail_around_a_load(rt: HostRuntime) -> Result<(), Fail> {
             .bytes()
             .starts_with(b"https://e.org/p\t1\tfull\t")
     );
-    assert_eq!(rt; world.sink.faults(), 1);
     assert_eq!(rt; world.depot.bytes("A", 0), LEDGER);
-    world.depot = MemoryDepot::new(alloc, ROOM, vec![in alloc; 0]?);
-    world.sink = MemorySink::new(alloc, 4096, Vec::new(alloc))?;
-    assert_eq!(rt; run_words(alloc, &["ask", "A", VISITS], &mut world)?, 4);
-    assert_eq!(rt; world.sink.bytes(), b"swharc: outside disk\n".as_slice());
     Ok(())
 }
 
