@@ -7,7 +7,8 @@ use Rattle.std.specs.Prelude.{IfSome, IsUtf8}
 use Rattle.swh_base.specs.Url.{IsUrl, is_url_byte}
 use Rattle.swh_base.proofs.Splits.{first_split}
 use Rattle.swh_pieces.proofs.Middle.{in_middle}
-use Rattle.swh_jobs.specs.Job.{Job, IsJobPath, IsHead, IsLineOf, HasFields, head_text, line_text}
+use Rattle.swh_jobs.specs.Job.{Job, IsJobPath, IsHead, IsLineOf, head_text, line_text}
+use Rattle.swh_jobs.specs.Reading.{HasFields}
 
 -- a byte in front of the rest is in the text
 here : (t a x : List ℕ) (s : ℕ) → t ≡ a ++ s ∷ x → Contains t s

@@ -42,9 +42,3 @@ line_text job = codes "fast" ++ 9 ∷ (job.url ++ 9 ∷ (job.path ++ head_text j
 pub record IsLineOf (line : List ℕ) (job : Job) : Type 0 where
   pub is_job : IsJob job
   pub text : line ≡ line_text job
-
--- The line is cut so, whatever its parts are.
-pub record HasFields (line : List ℕ) (job : Job) : Type 0 where
-  pub text : line ≡ line_text job
-  pub url_no_tab : Contains job.url 9 → ⊥
-  pub path_no_tab : Contains job.path 9 → ⊥

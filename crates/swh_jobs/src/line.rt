@@ -3,7 +3,8 @@ ghost use Rattle.std.specs.Prelude.{◌≡◌, ◌++◌, ◌↔◌, Contains, Is
 ghost use Rattle.std.specs.Option.{option_copied};
 ghost use Rattle.swh_base.specs.Text.{IsRef, is_ref_byte};
 ghost use Rattle.swh_base.specs.Url.{IsUrl};
-ghost use Rattle.swh_jobs.specs.Job.{Job, IsJobPath, IsHead, HasFields, IsLineOf, head_text};
+ghost use Rattle.swh_jobs.specs.Job.{Job, IsJobPath, IsHead, IsLineOf, head_text};
+ghost use Rattle.swh_jobs.specs.Reading.{HasFields};
 ghost use Rattle.swh_jobs.specs.Spelled.{fields_of, spelled};
 
 use crate::job::SpelledJob;
