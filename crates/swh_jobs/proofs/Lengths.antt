@@ -1,0 +1,91 @@
+-- How long job files are, and what is found in a front that is longer.
+use Rattle.std.proofs.Common.{◌≡◌, ◌≢◌, inl, inr, ⊎_elim, ℕ, ◌+◌, ◌*◌, ◌<◌, ◌≤◌, Option, Some, None, List, [], ◌∷◌, ◌++◌, length, refl, sym, ap, ◌∙◌, arith, append_assoc, length-append}
+use Rattle.std.specs.List.{AllByRecursion}
+use Rattle.std.specs.Prelude.{IfSome}
+use Rattle.swh_jobs.specs.Job.{Job, IsJob, IsHead, head_text, line_text}
+use Rattle.swh_jobs.specs.JobFile.{BeginsJob, Breaks, EndsLine, IsFault, IsJobFile, lines_text, most_jobs}
+use Rattle.swh_jobs.specs.declared.fault.JobWhy.{JobWhy}
+use Rattle.swh_jobs.specs.declared.fault.JobWhy.TheVariants.{Form, Origin, Limit}
+
+head_short : (head : Option (List ℕ)) → IfSome head IsHead → length (head_text head) ≤ 1025
+head_short None h = omega arith
+head_short (Some head) h = let short = h.is_ref.short in omega (arith, short)
+
+line_short : (job : Job) → IsJob job → length (line_text job) ≤ 7175
+line_short job h =
+    let url = h.is_url.short in
+    let path = h.is_path.short in
+    let head = head_short job.head h.is_head in
+    omega (arith, url, path, head, length-append job.url (9 ∷ (job.path ++ head_text job.head)), length-append job.path (head_text job.head))
+
+lines_short : (jobs : List Job) → AllByRecursion IsJob jobs → length (lines_text jobs) ≤ 7176 * length jobs
+lines_short [] h = omega arith
+lines_short (job ∷ jobs) h = omega (arith, line_short job h.0, lines_short jobs h.1, length-append (line_text job) (10 ∷ lines_text jobs))
+
+pub longest_lem : (bytes : List ℕ) (jobs : List Job) → IsJobFile bytes jobs → length bytes ≤ 1837056
+longest_lem bytes jobs h =
+    let few = h.good.few in
+    let short = lines_short jobs h.good.each in
+    ⊎_elim
+    (λ (e : bytes ≡ lines_text jobs). let n = ap length e in omega (arith, n, few, short))
+    (λ (e : bytes ++ 10 ∷ [] ≡ lines_text jobs). let n = ap length e in omega (arith, n, few, short, length-append bytes (10 ∷ [])))
+    h.text
+
+-- the longer of two fronts has the other in front
+longer : (a b x y : List ℕ) → length b ≤ length a → a ++ x ≡ b ++ y → (c : List ℕ) × (a ≡ b ++ c) × (y ≡ c ++ x)
+longer a [] x y l e = (a, refl, sym e)
+longer [] (d ∷ b) x y l e = absurd (omega arith)
+longer (c ∷ a) (d ∷ b) x y l e =
+    let first : c ≡ d = cc in
+    let after : a ++ x ≡ b ++ y = cc in
+    let cut = longer a b x y (omega arith) after in
+    (cut.0, ap (λ (k : ℕ). k ∷ a) first ∙ ap (λ (t : List ℕ). d ∷ t) cut.1, cut.2)
+
+module _ (rest more : List ℕ) (long : 7176 < length rest) where
+  -- a long front begins with the same jobs' lines
+  begins_front : (job : Job) → BeginsJob (rest ++ more) job → BeginsJob rest job
+  begins_front job h = record { is_job = h.is_job; behind = cut.0; text = cut.1; ends = by_ends cut.0 (ap length cut.1) cut.2 h.ends }
+    where
+      short : length (line_text job) ≤ 7175
+      short = line_short job h.is_job
+
+      cut : (c : List ℕ) × (rest ≡ line_text job ++ c) × (h.behind ≡ c ++ more)
+      cut = longer rest (line_text job) more h.behind (omega (arith, short, long)) h.text
+
+      by_ends : (c : List ℕ) → length rest ≡ length (line_text job ++ c) → h.behind ≡ c ++ more → EndsLine h.behind → EndsLine c
+      by_ends [] n e ends = absurd (omega (arith, n, short, long, length-append (line_text job) []))
+      by_ends (d ∷ c) n e (inl none) = let both : d ∷ (c ++ more) ≡ [] = sym e ∙ none in absurd (cc)
+      by_ends (d ∷ c) n e (inr (r, some)) = let both : d ∷ (c ++ more) ≡ 10 ∷ r = sym e ∙ some in let first : d ≡ 10 = cc in inr (c, ap (λ (k : ℕ). k ∷ c) first)
+
+  begins_whole : (job : Job) → BeginsJob rest job → BeginsJob (rest ++ more) job
+  begins_whole job h = record { is_job = h.is_job; behind = h.behind ++ more; text = ap (λ (t : List ℕ). t ++ more) h.text ∙ append_assoc (line_text job) h.behind more; ends = by_ends h.ends }
+    where
+      short : length (line_text job) ≤ 7175
+      short = line_short job h.is_job
+
+      by_ends : EndsLine h.behind → EndsLine (h.behind ++ more)
+      by_ends (inl none) = let n = ap length h.text in absurd (omega (arith, n, short, long, length-append (line_text job) h.behind, ap length none))
+      by_ends (inr (r, some)) = inr (r ++ more, ap (λ (t : List ℕ). t ++ more) some)
+
+breaks_front : (why : JobWhy) (before : List Job) (rest more : List ℕ) → (length before < most_jobs → 7176 < length rest) → Breaks before rest why → Breaks before (rest ++ more) why
+breaks_front Form before rest more long h = (h.0, λ job b. h.1 job (begins_front rest more (long h.0) job b))
+breaks_front Origin before rest more long h = (h.0, record { job = h.1.job; begins = begins_whole rest more (long h.0) h.1.job h.1.begins; again = h.1.again })
+breaks_front Limit before rest more long h = h
+
+append-not_nil : (rest more : List ℕ) → rest ≢ [] → rest ++ more ≢ []
+append-not_nil [] more some e = some refl
+append-not_nil (c ∷ rest) more some e = cc
+
+pub front_lem : (front more : List ℕ) (line : ℕ) (why : JobWhy) → 1837056 < length front → IsFault front line why → IsFault (front ++ more) line why
+front_lem front more line why over f =
+    let n = ap length f.text in
+    let short = lines_short f.before f.good.each in
+    let long : length f.before < most_jobs → 7176 < length f.rest = λ few. omega (arith, n, few, short, over, length-append (lines_text f.before) f.rest) in record {
+      before = f.before;
+      rest = f.rest ++ more;
+      good = f.good;
+      text = ap (λ (t : List ℕ). t ++ more) f.text ∙ append_assoc (lines_text f.before) f.rest more;
+      more = append-not_nil f.rest more f.more;
+      here = f.here;
+      breaks = breaks_front why f.before f.rest more long f.breaks;
+    }

@@ -1,0 +1,41 @@
+-- How far a job file is read.
+use Rattle.std.specs.Prelude.{◌≡◌, ◌⊎◌, ◌↔◌, ℕ, ◌+◌, ◌<◌, true, List, [], ◌∷◌, ◌++◌, length, Contains}
+use Rattle.std.specs.BTreeMap.{is_at}
+use Rattle.std.specs.Borrow.{Bor}
+use Rattle.std.specs.Cmp.Lexicographic.{slice_cmp}
+use Rattle.std.specs.List.{list_any}
+use Rattle.std.specs.Ordering.{nat_cmp}
+use Rattle.swh_jobs.specs.Job.{Job, IsJob, line_text}
+use Rattle.swh_jobs.specs.JobFile.{Breaks, lines_text, most_jobs, origins}
+use Rattle.swh_jobs.specs.declared.fault.JobsFault.{JobsFault}
+use Rattle.swh_jobs.specs.declared.fault.JobsFault.TheVariants.{Bad, Memory}
+
+-- The line is cut so, whatever its parts are.
+pub record HasFields (line : List ℕ) (job : Job) : Type 0 where
+  pub text : line ≡ line_text job
+  pub url_no_tab : Contains job.url 9 → ⊥
+  pub path_no_tab : Contains job.path 9 → ⊥
+
+-- The bytes begin with this line, without its LF, and go on so.
+pub record IsFirstLine (bytes line rest : List ℕ) : Type 0 where
+  pub one_line : Contains line 10 → ⊥
+  pub text : (bytes ≡ line ++ 10 ∷ rest) ⊎ ((bytes ≡ line) × (rest ≡ []))
+
+-- What is left of the bytes behind the lines of these jobs.
+abbrev pub IsLeft : List ℕ → List Job → List ℕ → Type 0
+IsLeft bytes jobs rest = (bytes ≡ lines_text jobs ++ rest) ⊎ ((rest ≡ []) × (bytes ++ 10 ∷ [] ≡ lines_text jobs))
+
+-- The keys are the origins of these jobs.
+abbrev pub AreOrigins : List (Bor (List ℕ)) → List Job → Type 0
+AreOrigins keys jobs = (url : List ℕ) → (list_any (is_at (λ (key : Bor (List ℕ)). slice_cmp nat_cmp url key.now)) keys ≡ true) ↔ Contains (origins jobs) url
+
+-- what one more job has to be
+pub record MayFollow (before : List Job) (job : Job) : Type 0 where
+  pub room : length before < most_jobs
+  pub is_job : IsJob job
+  pub fresh : Contains (origins before) job.url → ⊥
+
+-- It is the fault of the line that these bytes begin with, unless memory ran out.
+abbrev pub ExplainsNext : List Job → List ℕ → JobsFault → Type 0
+ExplainsNext before rest (Bad line why) = (line ≡ length before + 1) × Breaks before rest why
+ExplainsNext before rest Memory = Unit {0}

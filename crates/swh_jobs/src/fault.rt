@@ -1,0 +1,40 @@
+//! Why bytes are no job file.
+ghost use Rattle.std.specs.Prelude.{◌≡◌};
+ghost use Rattle.swh_jobs.specs.declared.fault.JobsFault.TheVariants.{Memory as OutOfMemory};
+
+use std::alloc::AllocFailed;
+use swh_base::Memory;
+
+/// What is wrong with a line.
+#[derive(Clone, Copy, Debug, PartialEq, Eq)]
+pub enum JobWhy {
+    /// It spells no job.
+    Form,
+    /// It spells a job, and a line before it has its origin.
+    Origin,
+    /// It is the 257th, whatever stands in it.
+    Limit,
+}
+
+#[derive(Clone, Copy, Debug, PartialEq, Eq)]
+pub enum JobsFault {
+    /// The first line that breaks, counted from 1.
+    Bad { line: u64, why: JobWhy },
+    Memory,
+}
+
+impl From<Memory> for JobsFault {
+    ghost from_gives = { λ _ e. e ≡ OutOfMemory };
+
+    fn from(_e: Memory) -> JobsFault {
+        JobsFault::Memory
+    }
+}
+
+impl<T: Drop> From<AllocFailed<T>> for JobsFault {
+    ghost from_gives = { λ _ e. e ≡ OutOfMemory };
+
+    fn from(_e: AllocFailed<T>) -> JobsFault {
+        JobsFault::Memory
+    }
+}

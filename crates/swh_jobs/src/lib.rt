@@ -1,0 +1,18 @@
+//! Job files: which origins are loaded, and where their streams stand.
+//! Stands on `swh_base` and `swh_pieces`.
+//! Above it may rely on: exactly the grammar is read, and a refusal names the first line that breaks and why.
+#![tactic(auto)]
+
+mod fault;
+mod job;
+mod laws;
+mod line;
+mod reading;
+
+pub use fault::{JobWhy, JobsFault};
+pub use job::JobLine;
+pub use laws::{fault_of_front, longest, no_jobs, one_fault, one_reading};
+pub use reading::{LONGEST, parse_jobs};
+
+#[cfg(test)]
+mod tests;
