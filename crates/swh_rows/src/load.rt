@@ -4,24 +4,33 @@ use std::alloc::{AllocError, Global};
 use std::test::Fail;
 use swh_memory::{MemoryClock, MemoryDepot, MemoryOrigins, MemorySink};
 
-const JOB: &[u8] = b"fast\thttps://e.org/p\te\n";
+// The job of the worked stream.
+fn job() -> &'static [u8] {
+    b"fast\thttps://e.org/p\te\n".as_slice()
+}
 
-const STREAM: &[u8] =
-    b"blob\nmark :1\ndata 10\nversion 1\n\ncommit refs/heads/main\nmark :2\ncommitter A <a@e.org> 1000000000 +0000\ndata 6\nfirst\n\nM 100644 :1 test.txt\n\n";
+// A stream of one file and one commit.
+fn stream() -> &'static [u8] {
+    b"blob\nmark :1\ndata 10\nversion 1\n\ncommit refs/heads/main\nmark :2\ncommitter A <a@e.org> 1000000000 +0000\ndata 6\nfirst\n\nM 100644 :1 test.txt\n\n".as_slice()
+}
 
-const LEDGER: &[u8] =
-    b"SWHARC1\n\x01O\x00\x00\x00\x1c\x00\x00\x00\x01\x01\x00\x00\x00\x00;\x9a\xca\x00https://e.org/p\x01T\x00\x00\x00\x1d\x00\x00\x00\x01\x02\x00\x00\x00\x00\x00\x00\x00\x01\x00https://e.org/p\x01B\x00\x00\x00\x18\x00\x00\x00\x01\x00\x00\x00\x00\x00\x00\x00\x00\x00\x00\x00\x00\x00\x00\x01R\x00\x00\x00\x04\x01T\x00\x00\x001\x00\x00\x00\x01\x03\x00\x00\x00\x00\x00\x00\x00\x01\x01P6\xc2\xb4\xa6v\xf9\xda\xd6\x0f\xba\xedC\x1c\xa2\x1e\xcd\xecV\xffhttps://e.org/p\x00";
+// The ledger once the stream was loaded into a new archive.
+fn ledger_of_one_load() -> &'static [u8] {
+    b"SWHARC1\n\x01O\x00\x00\x00\x1c\x00\x00\x00\x01\x01\x00\x00\x00\x00;\x9a\xca\x00https://e.org/p\x01T\x00\x00\x00\x1d\x00\x00\x00\x01\x02\x00\x00\x00\x00\x00\x00\x00\x01\x00https://e.org/p\x01B\x00\x00\x00\x18\x00\x00\x00\x01\x00\x00\x00\x00\x00\x00\x00\x00\x00\x00\x00\x00\x00\x00\x01R\x00\x00\x00\x04\x01T\x00\x00\x001\x00\x00\x00\x01\x03\x00\x00\x00\x00\x00\x00\x00\x01\x01P6\xc2\xb4\xa6v\xf9\xda\xd6\x0f\xba\xedC\x1c\xa2\x1e\xcd\xecV\xffhttps://e.org/p\x00".as_slice()
+}
 
-const STORE: &[u8] =
-    b"\x01\x00\x00\x00\x00\x00\x00\x00\n\x83\xba\xaea\x80Ne\xccs\xa7 \x1arRu\x0cv\x06j0version 1\n\x02\x00\x00\x00\x00\x00\x00\x00$\xd82\x9f\xc1\xcc\x93\x87\x80\xff\xdd\x9f\x94\xe0\xd3d\xe0\xeat\xf5y100644 test.txt\x00\x83\xba\xaea\x80Ne\xccs\xa7 \x1arRu\x0cv\x06j0\x03\x00\x00\x00\x00\x00\x00\x00\x80)\\\x06Q\xa9[\xa3*\xc5\xe1O\x92\xda\x01a\xb1\"\x94,\xactree d8329fc1cc938780ffdd9f94e0d364e0ea74f579\nauthor A <a@e.org> 1000000000 +0000\ncommitter A <a@e.org> 1000000000 +0000\n\nfirst\n\x05\x00\x00\x00\x00\x00\x00\x000P6\xc2\xb4\xa6v\xf9\xda\xd6\x0f\xba\xedC\x1c\xa2\x1e\xcd\xecV\xffrevision refs/heads/main\x0020:)\\\x06Q\xa9[\xa3*\xc5\xe1O\x92\xda\x01a\xb1\"\x94,\xac";
+// The store then.
+fn store_of_one_load() -> &'static [u8] {
+    b"\x01\x00\x00\x00\x00\x00\x00\x00\n\x83\xba\xaea\x80Ne\xccs\xa7 \x1arRu\x0cv\x06j0version 1\n\x02\x00\x00\x00\x00\x00\x00\x00$\xd82\x9f\xc1\xcc\x93\x87\x80\xff\xdd\x9f\x94\xe0\xd3d\xe0\xeat\xf5y100644 test.txt\x00\x83\xba\xaea\x80Ne\xccs\xa7 \x1arRu\x0cv\x06j0\x03\x00\x00\x00\x00\x00\x00\x00\x80)\\\x06Q\xa9[\xa3*\xc5\xe1O\x92\xda\x01a\xb1\"\x94,\xactree d8329fc1cc938780ffdd9f94e0d364e0ea74f579\nauthor A <a@e.org> 1000000000 +0000\ncommitter A <a@e.org> 1000000000 +0000\n\nfirst\n\x05\x00\x00\x00\x00\x00\x00\x000P6\xc2\xb4\xa6v\xf9\xda\xd6\x0f\xba\xedC\x1c\xa2\x1e\xcd\xecV\xffrevision refs/heads/main\x0020:)\\\x06Q\xa9[\xa3*\xc5\xe1O\x92\xda\x01a\xb1\"\x94,\xac".as_slice()
+}
 
 const VISITS: &str = "/api/1/origin/https://e.org/p/visits/";
 
 // A world whose job file and stream are these, and where an archive is made.
-fn world_of(alloc: Global, job: &[u8], stream: &[u8]) -> Result<World, AllocError> {
+fn world_of(alloc: Global, jobs: &[u8], input: &[u8]) -> Result<World, AllocError> {
     let mut world = new_world(alloc, &[])?;
-    world.desk = give_file(alloc, "J", job, &[])?;
-    world.origins = give_file(alloc, "e", stream, &[])?;
+    world.desk = give_file(alloc, "J", jobs, &[])?;
+    world.origins = give_file(alloc, "e", input, &[])?;
     let _made = run_words(alloc, &["init", "A"], &mut world)?;
     Ok(world)
 }
@@ -29,24 +38,24 @@ fn world_of(alloc: Global, job: &[u8], stream: &[u8]) -> Result<World, AllocErro
 #[test]
 fn the_first_run(rt: HostRuntime) -> Result<(), Fail> {
     let alloc = rt.alloc();
-    let mut world = world_of(alloc, JOB, STREAM)?;
+    let mut world = world_of(alloc, job(), stream())?;
     assert_eq!(rt; run_words(alloc, &["load", "A", "J"], &mut world)?, 0);
-    assert_eq!(rt; world.depot.bytes("A", 0), LEDGER);
-    assert_eq!(rt; world.depot.bytes("A", 1), STORE);
+    assert_eq!(rt; world.depot.bytes("A", 0), ledger_of_one_load());
+    assert_eq!(rt; world.depot.bytes("A", 1), store_of_one_load());
     assert_eq!(rt; run_words(alloc, &["ask", "A", VISITS], &mut world)?, 0);
     assert_eq!(rt;
         world.sink.bytes(),
         b"made\nhttps://e.org/p\t1\tfull\tswh:1:snp:5036c2b4a676f9dad60fbaed431ca21ecdec56ff\n200 142\n[{\"date\":1000000000,\"origin\":\"https://e.org/p\",\"snapshot\":\"5036c2b4a676f9dad60fbaed431ca21ecdec56ff\",\"status\":\"full\",\"type\":\"fast\",\"visit\":1}]\n".as_slice()
     );
-    assert_eq!(rt; world.depot.bytes("A", 0), LEDGER);
-    assert_eq!(rt; world.depot.bytes("A", 1), STORE);
+    assert_eq!(rt; world.depot.bytes("A", 0), ledger_of_one_load());
+    assert_eq!(rt; world.depot.bytes("A", 1), store_of_one_load());
     Ok(())
 }
 
 #[test]
 fn a_stream_is_loaded_twice(rt: HostRuntime) -> Result<(), Fail> {
     let alloc = rt.alloc();
-    let mut world = world_of(alloc, JOB, b"")?;
+    let mut world = world_of(alloc, job(), b"")?;
     assert_eq!(rt; run_words(alloc, &["load", "A", "J"], &mut world)?, 0);
     assert_eq!(rt; run_words(alloc, &["load", "A", "J"], &mut world)?, 0);
     let unknown = "/api/1/origin/https://none.example/visits/";
@@ -67,19 +76,19 @@ fn loads(alloc: Global, mut world: World, status: u8, printed: &[u8]) -> Result<
 }
 
 fn without_job_file(alloc: Global) -> Result<World, AllocError> {
-    let mut world = world_of(alloc, JOB, STREAM)?;
+    let mut world = world_of(alloc, job(), stream())?;
     world.desk = MemoryOrigins::new(alloc, Vec::new(alloc), Vec::new(alloc));
     Ok(world)
 }
 
 fn with_a_failing_job_file(alloc: Global) -> Result<World, AllocError> {
-    let mut world = world_of(alloc, JOB, STREAM)?;
-    world.desk = give_file(alloc, "J", JOB, &[0])?;
+    let mut world = world_of(alloc, job(), stream())?;
+    world.desk = give_file(alloc, "J", job(), &[0])?;
     Ok(world)
 }
 
 fn with_a_failing_clock(alloc: Global) -> Result<World, AllocError> {
-    let mut world = world_of(alloc, JOB, STREAM)?;
+    let mut world = world_of(alloc, job(), stream())?;
     world.clock = MemoryClock::new(1, vec![in alloc; 0]?);
     Ok(world)
 }
@@ -89,7 +98,7 @@ fn jobs_that_are_refused(rt: HostRuntime) -> Result<(), Fail> {
     let alloc = rt.alloc();
     let world = without_job_file(alloc)?;
     assert!(rt; loads(alloc, world, 2, b"swharc: no job file\n")?);
-    let world = world_of(alloc, b"fast\te", STREAM)?;
+    let world = world_of(alloc, b"fast\te", stream())?;
     assert!(rt; loads(alloc, world, 2, b"swharc: job line 1: form\n")?);
     let world = with_a_failing_job_file(alloc)?;
     assert!(rt; loads(alloc, world, 4, b"swharc: outside source\n")?);
@@ -99,21 +108,21 @@ fn jobs_that_are_refused(rt: HostRuntime) -> Result<(), Fail> {
 }
 
 fn without_an_input(alloc: Global) -> Result<World, AllocError> {
-    let mut world = world_of(alloc, JOB, STREAM)?;
+    let mut world = world_of(alloc, job(), stream())?;
     world.origins = MemoryOrigins::new(alloc, Vec::new(alloc), Vec::new(alloc));
     Ok(world)
 }
 
 fn with_a_failing_input(alloc: Global) -> Result<World, AllocError> {
-    let mut world = world_of(alloc, JOB, STREAM)?;
-    world.origins = give_file(alloc, "e", STREAM, &[0])?;
+    let mut world = world_of(alloc, job(), stream())?;
+    world.origins = give_file(alloc, "e", stream(), &[0])?;
     Ok(world)
 }
 
 #[test]
 fn inputs_that_make_no_snapshot(rt: HostRuntime) -> Result<(), Fail> {
     let alloc = rt.alloc();
-    let world = world_of(alloc, JOB, b"feature done\n")?;
+    let world = world_of(alloc, job(), b"feature done\n")?;
     assert!(rt;
         loads(
             alloc,
@@ -162,7 +171,7 @@ fn archives_that_are_refused(rt: HostRuntime) -> Result<(), Fail> {
 #[test]
 fn a_failing_sink_is_the_answer(rt: HostRuntime) -> Result<(), Fail> {
     let alloc = rt.alloc();
-    let mut world = world_of(alloc, JOB, STREAM)?;
+    let mut world = world_of(alloc, job(), stream())?;
     world.sink = MemorySink::new(alloc, 4096, vec![in alloc; 0]?)?;
     assert_eq!(rt; run_words(alloc, &["load", "A", "J"], &mut world)?, 4);
     assert!(rt;
@@ -171,13 +180,13 @@ fn a_failing_sink_is_the_answer(rt: HostRuntime) -> Result<(), Fail> {
             .bytes()
             .starts_with(b"https://e.org/p\t1\tfull\t")
     );
-    assert_eq!(rt; world.depot.bytes("A", 0), LEDGER);
+    assert_eq!(rt; world.depot.bytes("A", 0), ledger_of_one_load());
     Ok(())
 }
 
 // Says whether a disk that fails stops the load, and the archive is opened afterwards.
 fn is_stopped(alloc: Global, ledger: &[u64], store: &[u64]) -> Result<bool, AllocError> {
-    let mut world = world_of(alloc, JOB, STREAM)?;
+    let mut world = world_of(alloc, job(), stream())?;
     lay_failing(alloc, &mut world, b"SWHARC1\n\0", ledger, store)?;
     let ended = run_words(alloc, &["load", "A", "J"], &mut world)?;
     let told = world
