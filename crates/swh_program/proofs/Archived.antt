@@ -1,5 +1,5 @@
 -- What an archive is that stands for a history.
-use Rattle.std.proofs.Common.{◌≡◌, ◌≢◌, ⊎_elim, ℕ, ◌<◌, List, ◌∷◌, length, get_or, refl, sym, ap, ◌∙◌, subst, arith, length-append}
+use Rattle.std.proofs.Common.{◌≡◌, ◌≢◌, ◌⊎◌, inl, inr, ⊎_elim, ℕ, ◌<◌, List, ◌∷◌, length, get_or, refl, sym, ap, ◌∙◌, subst, arith, length-append}
 use Rattle.swh_base.specs.declared.kind.Kind.{Kind}
 use Rattle.swh_outside.specs.Files.{Files}
 use Rattle.swh_model.specs.declared.event.Event.{Event}
@@ -7,7 +7,10 @@ use Rattle.swh_model.specs.Coding.{coded_records}
 use Rattle.swh_model.proofs.OneHistory.{one_history}
 use Rattle.swh_model.proofs.Unique.{alike}
 use Rattle.swh_segment.specs.Making.{IsMade, IsNotMade}
-use Rattle.swh_program.specs.Opening.{IsArchive}
+use Rattle.swh_program.specs.Causes.{IsUnusable}
+use Rattle.swh_program.specs.Opening.{IsArchive, IsDamaged, IsOpenRefusal, OpenEnds}
+use Rattle.swh_program.specs.declared.answer.Answer.{Answer}
+use Rattle.swh_program.specs.declared.answer.Answer.TheVariants.{Made, Told, Words, NoJobFile, JobForm, AlreadyMade, NotMade, Damaged, OutsideDisk, OutsideSource, OutsideClock, Memory}
 
 pub not_both : (bytes : List ℕ) → IsMade bytes → IsNotMade bytes → ⊥
 not_both bytes made not_made =
@@ -24,3 +27,23 @@ module _ (id_of : Kind → List ℕ → List ℕ) (files : Files) where
   -- of one history
   pub one_archive : (g h : List Event) → IsArchive id_of files g → IsArchive id_of files h → g ≡ h
   one_archive g h a b = one_history id_of g h (alike (files 0).seen (files 1).seen g h a.stand b.stand) a.history b.history
+
+  -- and not one that cannot be used
+  pub usable : (h : List Event) → IsArchive id_of files h → IsUnusable id_of files → ⊥
+  usable h archive unusable =
+      ⊎_elim (λ not_made. not_both (files 0).seen (made_archive h archive) not_made) (λ (damaged : IsDamaged id_of files). damaged.none h archive) unusable
+
+  -- its opening is refused for a disk or for memory alone
+  pub opening_of_archive : (new : Files) (h : List Event) → IsArchive id_of files h → (answer : Answer) → IsOpenRefusal answer → OpenEnds id_of files new answer → (answer ≡ OutsideDisk) ⊎ (answer ≡ Memory)
+  opening_of_archive new h archive NotMade is ends = absurd (usable h archive (inl ends.0))
+  opening_of_archive new h archive Damaged is ends = absurd (usable h archive (inr ends.0))
+  opening_of_archive new h archive OutsideDisk is ends = inl refl
+  opening_of_archive new h archive Memory is ends = inr refl
+  opening_of_archive new h archive Made is ends = absurd is
+  opening_of_archive new h archive (Told text end) is ends = absurd is
+  opening_of_archive new h archive Words is ends = absurd is
+  opening_of_archive new h archive NoJobFile is ends = absurd is
+  opening_of_archive new h archive JobForm is ends = absurd is
+  opening_of_archive new h archive AlreadyMade is ends = absurd is
+  opening_of_archive new h archive OutsideSource is ends = absurd is
+  opening_of_archive new h archive OutsideClock is ends = absurd is

@@ -8,15 +8,17 @@ use Rattle.swh_outside.specs.Files.{Files}
 use Rattle.swh_model.specs.declared.event.Event.{Event}
 use Rattle.swh_model.specs.Step.{replay}
 use Rattle.swh_model.specs.Answer.{ReplyText, IsReply}
-use Rattle.swh_program.specs.Answers.{status_of, status_for, printed_by, last_line_for, IsPrinted, IsCutOff, IsToldOf}
+use Rattle.swh_program.specs.Answers.{status_of, status_for, printed_by, last_line_of, last_line_for, IsPrinted, IsCutOff, IsToldOf}
 use Rattle.swh_program.specs.Ask.{reply_line, TellsReply, IsAsked, AskEnds}
+use Rattle.swh_segment.specs.Making.{IsNotMade}
+use Rattle.swh_program.specs.Init.{InitEnds}
 use Rattle.swh_program.specs.Opening.{IsArchive}
 use Rattle.swh_program.specs.Run.{IsQuiet, IsPrintedWith, reply_status}
 use Rattle.swh_program.specs.declared.answer.Ending.{Ending}
 use Rattle.swh_program.specs.declared.answer.Ending.TheVariants as ending
 use Rattle.swh_program.specs.declared.answer.Answer.{Answer}
 use Rattle.swh_program.specs.declared.answer.Answer.TheVariants.{Made, Told, Words, NoJobFile, JobForm, AlreadyMade, NotMade, Damaged, OutsideDisk, OutsideSource, OutsideClock, Memory}
-use Rattle.swh_program.proofs.Archived.{not_both, made_archive, one_archive}
+use Rattle.swh_program.proofs.Archived.{not_both, usable, one_archive}
 use Rattle.swh_program.proofs.Replies.{one_reply}
 
 -- what an answer says, where it is done or memory ran out
@@ -35,6 +37,21 @@ told_with line expected answer tells before now faults_before faults_now status 
     (λ (cut : IsCutOff answer tells before now faults_before faults_now status). absurd (no_sink cut.rose))
     told
 
+-- an archive that was not made, with no fault of its disks, was made, or memory ran out
+pub init_done : (old new : Files) (answer : Answer) → InitEnds old new answer → IsNotMade (old 0).seen → (answer ≡ OutsideDisk → ⊥) → Tells (last_line_of Made) 0 answer
+init_done old new Made ends not_made no_disk = inr (refl, refl)
+init_done old new AlreadyMade ends not_made no_disk = absurd (not_both (old 0).seen ends.made not_made)
+init_done old new OutsideDisk ends not_made no_disk = absurd (no_disk refl)
+init_done old new Memory ends not_made no_disk = inl refl
+init_done old new (Told text end) ends not_made no_disk = absurd ends
+init_done old new Words ends not_made no_disk = absurd ends
+init_done old new NoJobFile ends not_made no_disk = absurd ends
+init_done old new JobForm ends not_made no_disk = absurd ends
+init_done old new NotMade ends not_made no_disk = absurd ends
+init_done old new Damaged ends not_made no_disk = absurd ends
+init_done old new OutsideSource ends not_made no_disk = absurd ends
+init_done old new OutsideClock ends not_made no_disk = absurd ends
+
 abbrev status_by : Bool → ℕ
 status_by found = if found then 0 else 1
 
@@ -52,21 +69,21 @@ reply_ending reply text end tells = ⊎_elim
 
 module _ (id_of : Kind → List ℕ → List ℕ) (path : List ℕ) (old new : Files) (h : List Event) (reply : ReplyText) (archive : IsArchive id_of old h) (is : IsReply (replay h) path reply) where
   -- the reply of the archive is told
-  asked_done : (text : List ℕ) (end : Ending) → IsAsked id_of old new path text end → Tells (reply_line reply) (reply_status reply) (Told text end)
-  asked_done text end asked =
+  pub asked_reply : (text : List ℕ) (end : Ending) → IsAsked id_of old new path text end → TellsReply reply text end
+  asked_reply text end asked =
       let same = one_archive id_of old asked.history h asked.archive archive in
       let one = one_reply (replay h) path asked.reply reply (subst (λ (g : List Event). IsReply (replay g) path asked.reply) same asked.is_reply) is in
-      reply_ending reply text end (subst (λ (r : ReplyText). TellsReply r text end) one asked.tells)
+      subst (λ (r : ReplyText). TellsReply r text end) one asked.tells
 
   pub ask_done : (answer : Answer) → AskEnds id_of path old new answer → (answer ≡ OutsideDisk → ⊥) → Tells (reply_line reply) (reply_status reply) answer
   ask_done Made ends no_disk = absurd ends
-  ask_done (Told text end) ends no_disk = asked_done text end ends
+  ask_done (Told text end) ends no_disk = reply_ending reply text end (asked_reply text end ends)
   ask_done Words ends no_disk = absurd ends
   ask_done NoJobFile ends no_disk = absurd ends
   ask_done JobForm ends no_disk = absurd ends
   ask_done AlreadyMade ends no_disk = absurd ends
-  ask_done NotMade ends no_disk = absurd (not_both (old 0).seen (made_archive id_of old h archive) ends.0)
-  ask_done Damaged ends no_disk = absurd (ends.0.none h archive)
+  ask_done NotMade ends no_disk = absurd (usable id_of old h archive (inl ends.0))
+  ask_done Damaged ends no_disk = absurd (usable id_of old h archive (inr ends.0))
   ask_done OutsideDisk ends no_disk = absurd (no_disk refl)
   ask_done OutsideSource ends no_disk = absurd ends
   ask_done OutsideClock ends no_disk = absurd ends

@@ -1,10 +1,9 @@
 -- What the ends of `init` mean.
-use Rattle.std.proofs.Common.{◌≡◌, ◌≢◌, ◌<◌, inl, inr, ⊎_elim, ℕ, List, length, get_or, sym, subst, refl, arith}
-use Rattle.swh_outside.specs.Faults.{Rose}
+use Rattle.std.proofs.Common.{◌≡◌, inl, inr, ⊎_elim, ℕ, List, sym, subst, refl}
 use Rattle.swh_program.specs.Answers.{status_of, status_for, IsPrinted, IsCutOff, IsToldOf}
 use Rattle.swh_program.specs.declared.answer.Ending.{Ending}
 use Rattle.swh_program.specs.declared.answer.Ending.TheVariants as ending
-use Rattle.swh_program.specs.Run.{IsStatus, IsDone}
+use Rattle.swh_program.specs.Run.{IsStatus}
 use Rattle.swh_outside.specs.Disk.{EachImage}
 use Rattle.swh_outside.specs.Files.{Files, EachImages}
 use Rattle.swh_outside.proofs.Numbered.{files_left_whole, files_left_same, files_left_by}
@@ -65,29 +64,6 @@ told_status answer tells before now faults_before faults_now status told =
     ⊎_elim
     (λ (printed : IsPrinted answer tells before now status). subst IsStatus (sym printed.status_is) (answer_status answer))
     (λ (cut : IsCutOff answer tells before now faults_before faults_now status). subst IsStatus (sym cut.status_is) (answer_status OutsideDisk))
-    told
-
--- an archive that was not made, with no fault of its disks, was made, or memory ran out
-pub init_done : (old new : Files) (answer : Answer) → InitEnds old new answer → IsNotMade (old 0).seen → (answer ≡ OutsideDisk → ⊥) → IsDone (status_of answer)
-init_done old new Made ends not_made no_disk = inl refl
-init_done old new AlreadyMade ends not_made no_disk = absurd (⊎_elim (λ (short : length (old 0).seen < 9). let long = ends.made.0 in omega (arith, long, short)) (λ (other : get_or (old 0).seen 0 0 ≢ 83). other ends.made.1) not_made)
-init_done old new OutsideDisk ends not_made no_disk = absurd (no_disk refl)
-init_done old new Memory ends not_made no_disk = inr refl
-init_done old new (Told text end) ends not_made no_disk = absurd ends
-init_done old new Words ends not_made no_disk = absurd ends
-init_done old new NoJobFile ends not_made no_disk = absurd ends
-init_done old new JobForm ends not_made no_disk = absurd ends
-init_done old new NotMade ends not_made no_disk = absurd ends
-init_done old new Damaged ends not_made no_disk = absurd ends
-init_done old new OutsideSource ends not_made no_disk = absurd ends
-init_done old new OutsideClock ends not_made no_disk = absurd ends
-
--- and where the sink did not fail either, so says the run's status
-pub done_status : (answer : Answer) (tells : Type 0) (before now : List ℕ) (faults_before faults_now status : ℕ) → IsDone (status_of answer) → (Rose faults_before faults_now → ⊥) → IsToldOf answer tells before now faults_before faults_now status → IsDone status
-done_status answer tells before now faults_before faults_now status done no_sink told =
-    ⊎_elim
-    (λ (printed : IsPrinted answer tells before now status). subst IsDone (sym printed.status_is) done)
-    (λ (cut : IsCutOff answer tells before now faults_before faults_now status). absurd (no_sink cut.rose))
     told
 
 pub inits_at : (a b : List ℕ) (tells : Type 0) (old new : Folders) (faults_before faults_now : ℕ) (answer : Answer) → a ≡ b → Inits a tells old new faults_before faults_now answer → Inits b tells old new faults_before faults_now answer

@@ -13,3 +13,6 @@ pub mod Replies
 pub mod Completes
 pub mod Fulls
 pub mod Loadings
+pub mod Statuses
+pub mod Exacts
+pub mod LoadStatuses

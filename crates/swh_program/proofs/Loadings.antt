@@ -1,6 +1,6 @@
 -- A load against which nothing stands is told as full, or memory ran out.
 use Rattle.std.specs.Prelude.{codes}
-use Rattle.std.proofs.Common.{◌≡◌, ◌⊎◌, inl, inr, ℕ, Option, Some, None, Result, Ok, Err, List, [], ◌∷◌, ◌++◌, refl, sym, ap, ◌∙◌, subst}
+use Rattle.std.proofs.Common.{◌≡◌, ◌⊎◌, inl, inr, ⊎_elim, ℕ, Option, Some, None, Result, Ok, Err, List, [], ◌∷◌, ◌++◌, refl, sym, ap, ◌∙◌, subst}
 use Rattle.std.specs.List.{AllByRecursion}
 use Rattle.std.proofs.lemmas.List.{append-nil}
 use Rattle.swh_base.specs.declared.kind.Kind.{Kind}
@@ -27,13 +27,13 @@ use Rattle.swh_program.specs.Complete.{full_line, AreMade, HasOneBody, HasRoom}
 use Rattle.swh_program.specs.JobFile.{IsJobFile}
 use Rattle.swh_program.specs.Jobs.{FileAt, IsJobAt, IsJobRefusal, IsJobRefused}
 use Rattle.swh_program.specs.Load.{loader, ending_for, TellsLoad, TellsDisk, IsOfInput, IsInputEnd, StopsFor, StopsDisks, IsLoad, IsLoadedJob, IsUnloaded, LoadEnds}
-use Rattle.swh_program.specs.Opening.{IsArchive}
+use Rattle.swh_program.specs.Opening.{IsArchive, IsOpenRefusal, OpenEnds}
 use Rattle.swh_program.specs.Run.{IsQuiet}
 use Rattle.swh_program.specs.declared.answer.Ending.{Ending}
 use Rattle.swh_program.specs.declared.answer.Ending.TheVariants as ending
 use Rattle.swh_program.specs.declared.answer.Answer.{Answer}
 use Rattle.swh_program.specs.declared.answer.Answer.TheVariants.{Made, Told, Words, NoJobFile, JobForm, AlreadyMade, NotMade, Damaged, OutsideDisk, OutsideSource, OutsideClock, Memory}
-use Rattle.swh_program.proofs.Archived.{not_both, made_archive, one_archive}
+use Rattle.swh_program.proofs.Archived.{one_archive, opening_of_archive}
 use Rattle.swh_program.proofs.Completes.{Tells}
 use Rattle.swh_program.proofs.Fulls.{are_made, one_snapshot, none_collides}
 use Rattle.swh_program.proofs.Inputs.{adds_visit}
@@ -90,6 +90,29 @@ one_job desk_at jobs url path other_url other_path a b =
     let same : a.bytes ≡ b.bytes = cc in
     one_reading b.bytes url path other_url other_path (subst (λ (t : List ℕ). IsJobFile t url path) same a.job).fields b.job.fields
 
+-- a right job file is refused for the desk or for memory alone
+pub refusal_of_job : (desk_at : FileAt) (jobs url path : List ℕ) → IsJobAt desk_at jobs url path → (answer : Answer) → IsJobRefusal answer → IsJobRefused desk_at jobs answer → (answer ≡ OutsideSource) ⊎ (answer ≡ Memory)
+refusal_of_job desk_at jobs url path job NoJobFile is refused = let both : Some job.bytes ≡ None = sym job.there ∙ refused in absurd (cc)
+refusal_of_job desk_at jobs url path job JobForm is refused =
+    let both : Some job.bytes ≡ Some refused.bytes = sym job.there ∙ refused.there in
+    let same : job.bytes ≡ refused.bytes = cc in
+    absurd (refused.none url path (subst (λ (t : List ℕ). IsJobFile t url path) same job.job))
+refusal_of_job desk_at jobs url path job OutsideSource is refused = inl refl
+refusal_of_job desk_at jobs url path job Memory is refused = inr refl
+refusal_of_job desk_at jobs url path job Made is refused = absurd is
+refusal_of_job desk_at jobs url path job (Told text end) is refused = absurd is
+refusal_of_job desk_at jobs url path job Words is refused = absurd is
+refusal_of_job desk_at jobs url path job AlreadyMade is refused = absurd is
+refusal_of_job desk_at jobs url path job NotMade is refused = absurd is
+refusal_of_job desk_at jobs url path job Damaged is refused = absurd is
+refusal_of_job desk_at jobs url path job OutsideDisk is refused = absurd is
+refusal_of_job desk_at jobs url path job OutsideClock is refused = absurd is
+
+-- a job is not loaded where the clock failed or the archive was not opened
+pub unloaded_cases : (id_of : Kind → List ℕ → List ℕ) (tells : Type 0) (old new : Files) (answer : Answer) → IsUnloaded id_of tells old new answer → (answer ≡ OutsideClock) ⊎ (IsOpenRefusal answer × (tells → OpenEnds id_of old new answer))
+unloaded_cases id_of tells old new OutsideClock is = inl refl
+unloaded_cases id_of tells old new _ is = inr is
+
 -- Nothing stands against the load of this text.
 module _ (id_of : Kind → List ℕ → List ℕ) (text : List ℕ) (making : Making) (means : IsMeaning id_of text making) (before : List Event) (old new : Files) (archive : IsArchive id_of old before) (one : HasOneBody id_of (replay before).bodies making) where
   abbrev AllMade : List Entry → Type 0
@@ -145,36 +168,12 @@ module _ (id_of : Kind → List ℕ → List ℕ) (text : List ℕ) (making : Ma
         stop_done date load.before load.after (one_archive id_of old load.before before (load.archive disks) archive) load.history f.visit f.why load.line.stops (load.disks disks) answer told no_disk
 
     unloaded_done : (answer : Answer) → IsUnloaded id_of disks_tell old new answer → (TellsDisk answer → ⊥) → (answer ≡ OutsideClock → ⊥) → Tells (full_line url before making) 0 answer
-    unloaded_done Made is no_disk no_clock = absurd is.0
-    unloaded_done (Told text end) is no_disk no_clock = absurd is.0
-    unloaded_done Words is no_disk no_clock = absurd is.0
-    unloaded_done NoJobFile is no_disk no_clock = absurd is.0
-    unloaded_done JobForm is no_disk no_clock = absurd is.0
-    unloaded_done AlreadyMade is no_disk no_clock = absurd is.0
-    unloaded_done NotMade is no_disk no_clock = absurd (not_both (old 0).seen (made_archive id_of old before archive) (is.1 disks).0)
-    unloaded_done Damaged is no_disk no_clock = absurd ((is.1 disks).0.none before archive)
-    unloaded_done OutsideDisk is no_disk no_clock = absurd (no_disk refl)
-    unloaded_done OutsideSource is no_disk no_clock = absurd is.0
-    unloaded_done OutsideClock is no_disk no_clock = absurd (no_clock refl)
-    unloaded_done Memory is no_disk no_clock = inl refl
-
--- the refusal of a right job file
-no_job : (desk_at : FileAt) (jobs url path line : List ℕ) → IsJobAt desk_at jobs url path → (answer : Answer) → IsJobRefusal answer → IsJobRefused desk_at jobs answer → (answer ≡ OutsideSource → ⊥) → Tells line 0 answer
-no_job desk_at jobs url path line job Made is refused no_source = absurd is
-no_job desk_at jobs url path line job (Told text end) is refused no_source = absurd is
-no_job desk_at jobs url path line job Words is refused no_source = absurd is
-no_job desk_at jobs url path line job NoJobFile is refused no_source = let both : Some job.bytes ≡ None = sym job.there ∙ refused in absurd (cc)
-no_job desk_at jobs url path line job JobForm is refused no_source =
-    let both : Some job.bytes ≡ Some refused.bytes = sym job.there ∙ refused.there in
-    let same : job.bytes ≡ refused.bytes = cc in
-    absurd (refused.none url path (subst (λ (t : List ℕ). IsJobFile t url path) same job.job))
-no_job desk_at jobs url path line job AlreadyMade is refused no_source = absurd is
-no_job desk_at jobs url path line job NotMade is refused no_source = absurd is
-no_job desk_at jobs url path line job Damaged is refused no_source = absurd is
-no_job desk_at jobs url path line job OutsideDisk is refused no_source = absurd is
-no_job desk_at jobs url path line job OutsideSource is refused no_source = absurd (no_source refl)
-no_job desk_at jobs url path line job OutsideClock is refused no_source = absurd is
-no_job desk_at jobs url path line job Memory is refused no_source = inl refl
+    unloaded_done answer is no_disk no_clock =
+        ⊎_elim
+        (λ (clock : answer ≡ OutsideClock). absurd (no_clock clock))
+        (λ (refused : IsOpenRefusal answer × (disks_tell → OpenEnds id_of old new answer)).
+        ⊎_elim (λ (disk : answer ≡ OutsideDisk). absurd (no_disk (subst TellsDisk (sym disk) refl))) (λ (memory : answer ≡ Memory). inl (ap status_of memory)) (opening_of_archive id_of old new before archive answer refused.0 (refused.1 disks)))
+        (unloaded_cases id_of disks_tell old new answer is)
 
 -- a run of `load`
 module _ (id_of : Kind → List ℕ → List ℕ) (inputs_tell : Type 0) (input_at : FileAt) (failures failures_now : List ℕ → ℕ) (desk_at : FileAt) (time_tells : Type 0) (time : ℕ) (disks_tell : Type 0) (inputs : inputs_tell) (disks : disks_tell)
@@ -194,4 +193,5 @@ module _ (id_of : Kind → List ℕ → List ℕ) (inputs_tell : Type 0) (input_
   load_done answer (inl run) no_disk no_source no_clock =
       let same = one_job desk_at jobs run.url run.path url path (run.job inputs) job in
       outcome_done answer (subst (λ (u : List ℕ). Outcome answer u path) same.0 (subst (λ (p : List ℕ). Outcome answer run.url p) same.1 run.outcome)) no_disk no_clock
-  load_done answer (inr none) no_disk no_source no_clock = no_job desk_at jobs url path (full_line url before making) job answer none.one_of (none.refused inputs) no_source
+  load_done answer (inr none) no_disk no_source no_clock =
+      ⊎_elim (λ (source : answer ≡ OutsideSource). absurd (no_source source)) (λ (memory : answer ≡ Memory). inl (ap status_of memory)) (refusal_of_job desk_at jobs url path job answer none.one_of (none.refused inputs))

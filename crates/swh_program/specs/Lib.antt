@@ -11,3 +11,4 @@ pub mod Jobs
 pub mod Load
 pub mod Loading
 pub mod Complete
+pub mod Causes

@@ -21,10 +21,6 @@ pub record Ends (IsOne : Answer → Type 0) (tells : Type 0) (before now : List 
 abbrev pub IsNoCommand : List (List ℕ) → Type 0
 IsNoCommand words = (wanted : Wanted) → IsCommand words wanted → ⊥
 
--- Memory apart, it was done.
-abbrev pub IsDone : ℕ → Type 0
-IsDone status = (status ≡ 0) ⊎ (status ≡ 5)
-
 -- The count of faults did not rise in this call.
 abbrev pub IsQuiet : ℕ → ℕ → Type 0
 IsQuiet before now = Rose before now → ⊥

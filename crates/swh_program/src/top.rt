@@ -1,22 +1,24 @@
 // The top call.
-ghost use Rattle.std.specs.Prelude.{◌≡◌, ◌≤◌, List, Some, ℕ, map, string_bytes};
+ghost use Rattle.std.specs.Prelude.{◌≡◌, ◌≢◌, ◌⊎◌, ◌≤◌, ◌<◌, List, Some, ℕ, map, string_bytes};
+ghost use Rattle.swh_outside.specs.Faults.{Rose};
 ghost use Rattle.swh_model.specs.declared.event.Event.{Event};
 ghost use Rattle.swh_model.specs.Answer.{ReplyText, IsReply};
 ghost use Rattle.swh_model.specs.Meaning.{Making, IsMeaning};
 ghost use Rattle.swh_model.specs.Step.{replay};
 ghost use Rattle.swh_segment.specs.Making.{IsNotMade};
 ghost use Rattle.swh_program.specs.Archives.{archive_at};
-ghost use Rattle.swh_program.specs.Answers.{status_of};
+ghost use Rattle.swh_program.specs.Answers.{last_line_of};
 ghost use Rattle.swh_program.specs.Commands.{wanted_by};
-ghost use Rattle.swh_program.specs.Words.{IsCommand, ToInit, ToLoad, ToAsk};
+ghost use Rattle.swh_program.specs.Words.{Wanted, IsCommand, ToInit, ToLoad, ToAsk};
 ghost use Rattle.swh_program.specs.Init.{Inits};
 ghost use Rattle.swh_program.specs.Load.{Loads};
 ghost use Rattle.swh_program.specs.Ask.{Asks, reply_line};
 ghost use Rattle.swh_program.specs.Opening.{IsArchive};
 ghost use Rattle.swh_program.specs.Jobs.{IsJobAt};
 ghost use Rattle.swh_program.specs.Complete.{full_line, HasOneBody, HasRoom};
-ghost use Rattle.swh_program.specs.Run.{IsStatus, IsNoCommand, Ends, IsDone, IsQuiet, IsPrintedWith, reply_status};
-ghost use Rattle.swh_program.specs.declared.answer.Answer.TheVariants.{Words};
+ghost use Rattle.swh_program.specs.Causes.{ComesTo, IsExactly, IsDeskTold, HasNoJob, HasOtherArchive, IsByLine, IsBadInput, NamesFailed};
+ghost use Rattle.swh_program.specs.Run.{IsStatus, IsNoCommand, Ends, IsQuiet, IsPrintedWith, reply_status};
+ghost use Rattle.swh_program.specs.declared.answer.Answer.TheVariants.{Made, Words};
 
 use crate::{Answer, Command, Outside, ask, init, load, parse_words, tell};
 use std::alloc::Global;
@@ -41,6 +43,7 @@ fn carry_out<N: Namer, P: Depot, O: Origins, C: Clock, G: Gate>(
         (P.files depot.old) (P.files depot.new) (P.faults depot.old) (P.faults depot.new) (O.faults desk.old) (O.faults desk.new) (C.faults clock.old) (C.faults clock.new) result }
     ensures ask { (dir path : List ℕ) → wanted_by command.now ≡ ToAsk dir path
         → Asks N.id_of dir path P.tells (P.files depot.old) (P.files depot.new) (P.faults depot.old) (P.faults depot.new) result }
+    ensures named { NamesFailed (P.faults depot.old) (P.faults depot.new) (O.faults desk.old) (O.faults desk.new) (C.faults clock.old) (C.faults clock.new) result }
     ensures depot_later { P.faults depot.old ≤ P.faults depot.new }
     ensures desk_later { O.faults desk.old ≤ O.faults desk.new }
     ensures origins_later { O.faults origins.old ≤ O.faults origins.new }
@@ -78,6 +81,7 @@ fn obey<N: Namer, P: Depot, O: Origins, C: Clock, G: Gate>(
         (P.files depot.old) (P.files depot.new) (P.faults depot.old) (P.faults depot.new) (O.faults desk.old) (O.faults desk.new) (C.faults clock.old) (C.faults clock.new) result }
     ensures ask { (dir path : List ℕ) → IsCommand (map string_bytes words.now) (ToAsk dir path)
         → Asks N.id_of dir path P.tells (P.files depot.old) (P.files depot.new) (P.faults depot.old) (P.faults depot.new) result }
+    ensures named { NamesFailed (P.faults depot.old) (P.faults depot.new) (O.faults desk.old) (O.faults desk.new) (C.faults clock.old) (C.faults clock.new) result }
     ensures depot_later { P.faults depot.old ≤ P.faults depot.new }
     ensures desk_later { O.faults desk.old ≤ O.faults desk.new }
     ensures origins_later { O.faults origins.old ≤ O.faults origins.new }
@@ -121,9 +125,35 @@ pub fn run<R, N: Namer, P: Depot, O: Origins, Y: Yard, K: Sink, C: Clock, D: Doo
         → Ends (Asks N.id_of dir path P.tells (P.files world.old.depot) (P.files world.new.depot) (P.faults world.old.depot) (P.faults world.new.depot))
         K.tells (K.taken world.old.sink) (K.taken world.new.sink) (K.faults world.old.sink) (K.faults world.new.sink) result }
 
+    // 2: the words are no command, or the job file is not there or has no job.
+    ensures no_command { IsNoCommand (map string_bytes words.now) → ComesTo 2 result }
+    ensures no_job { (wanted : Wanted) → IsCommand (map string_bytes words.now) wanted → IsDeskTold O.tells wanted → IsExactly 2 (HasNoJob (O.file_at world.old.desk) wanted) result }
+
+    // 3: the archive is not as the command needs it.
+    ensures other_archive { (wanted : Wanted) → IsCommand (map string_bytes words.now) wanted → IsDeskTold O.tells wanted → P.tells
+        → IsExactly 3 (HasOtherArchive N.id_of (P.files world.old.depot) (O.file_at world.old.desk) wanted) result }
+
+    // 1: a reply is not 200, or a line is neither full nor stopped by a disk or by memory.
+    ensures short_reply { (dir path : List ℕ) (h : List Event) (reply : ReplyText) → IsCommand (map string_bytes words.now) (ToAsk dir path) → P.tells
+        → IsArchive N.id_of (archive_at (P.files world.old.depot) dir) h → IsReply (replay h) path reply → IsExactly 1 (reply.status ≢ 200) result }
+    ensures short_line { (dir jobs : List ℕ) → IsCommand (map string_bytes words.now) (ToLoad dir jobs) → result < 2
+        → IsByLine N.id_of O.tells (O.file_at world.old.origins) (O.path_faults world.old.origins) (O.path_faults world.new.origins) (O.file_at world.old.desk) P.tells
+        jobs (archive_at (P.files world.old.depot) dir) (archive_at (P.files world.new.depot) dir) K.tells (K.taken world.old.sink) (K.taken world.new.sink) result }
+    ensures bad_input { (dir jobs url path : List ℕ) (before : List Event) → IsCommand (map string_bytes words.now) (ToLoad dir jobs) → P.tells → O.tells
+        → IsArchive N.id_of (archive_at (P.files world.old.depot) dir) before → IsJobAt (O.file_at world.old.desk) jobs url path
+        → IsBadInput N.id_of (replay before).bodies (O.file_at world.old.origins path) → ComesTo 1 result }
+    ensures init_whole { (dir : List ℕ) → IsCommand (map string_bytes words.now) (ToInit dir) → result ≢ 1 }
+
+    // 4: a part of the outside failed, and where a line names one, that one.
+    ensures outside { result ≡ 4
+        → Rose (P.faults world.old.depot) (P.faults world.new.depot) ⊎ Rose (O.faults world.old.desk) (O.faults world.new.desk)
+        ⊎ Rose (C.faults world.old.clock) (C.faults world.new.clock) ⊎ Rose (K.faults world.old.sink) (K.faults world.new.sink) }
+    ensures named { Ends (NamesFailed (P.faults world.old.depot) (P.faults world.new.depot) (O.faults world.old.desk) (O.faults world.new.desk) (C.faults world.old.clock) (C.faults world.new.clock))
+        K.tells (K.taken world.old.sink) (K.taken world.new.sink) (K.faults world.old.sink) (K.faults world.new.sink) result }
+
     // An archive that is not made is made, unless memory runs out, where no part of the outside failed.
     ensures complete_init { (dir : List ℕ) → IsCommand (map string_bytes words.now) (ToInit dir) → P.tells → IsNotMade (archive_at (P.files world.old.depot) dir 0).seen
-        → IsQuiet (P.faults world.old.depot) (P.faults world.new.depot) → IsQuiet (K.faults world.old.sink) (K.faults world.new.sink) → IsDone result }
+        → IsQuiet (P.faults world.old.depot) (P.faults world.new.depot) → IsQuiet (K.faults world.old.sink) (K.faults world.new.sink) → IsPrintedWith (last_line_of Made) 0 K.tells (K.taken world.old.sink) (K.taken world.new.sink) result }
 
     // The reply of the archive to the path is printed with its status, unless memory runs out, where no part of the
     // outside failed.

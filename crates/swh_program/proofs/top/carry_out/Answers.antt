@@ -4,6 +4,7 @@ use Rattle.swh_program.specs.Commands.{wanted_by}
 use Rattle.swh_program.specs.Load.{Loads}
 use Rattle.swh_program.proofs.Commands.{one_folder, at_load, at_ask}
 use Rattle.swh_program.proofs.Ends.{safe, inits_at}
+use Rattle.swh_program.proofs.Statuses.{init_names, ask_names}
 use Rattle.swh_program.proofs.top.carry_out.Goals as goal
 
 pub returns-in-Init-clause-init : goal.returns-in-Init-clause-init
@@ -29,3 +30,12 @@ returns-in-Ask-clause-ask g c dir path is =
     (λ d p. Asks g.N.Namer.id_of d p g.P.Depot.tells (g.P.Depot.files c.args.depot.now) (g.P.Depot.files c.ask.new.depot) (g.P.Depot.faults c.args.depot.now) (g.P.Depot.faults c.ask.new.depot) c.ask.result)
     c.in-Ask.dir.now dir c.in-Ask.path.now path (ap wanted_by (sym c.in-Ask.is) ∙ is)
     (record { one_of = a.one_of; ends = a.ends; elsewhere = a.elsewhere; cause = a.cause })
+
+pub returns-in-Init-clause-named : goal.returns-in-Init-clause-named
+returns-in-Init-clause-named g c = init_names _ _ _ _ _ _ c.init.result c.init.ensures.one_of c.init.ensures.cause
+
+pub returns-in-Load-clause-named : goal.returns-in-Load-clause-named
+returns-in-Load-clause-named g c = record { disk = c.load.ensures.disk_cause; source = c.load.ensures.source_cause; clock = c.load.ensures.clock_cause }
+
+pub returns-in-Ask-clause-named : goal.returns-in-Ask-clause-named
+returns-in-Ask-clause-named g c = ask_names _ _ _ _ _ _ c.ask.result c.ask.ensures.one_of c.ask.ensures.cause

@@ -1,6 +1,7 @@
 use Rattle.std.proofs.Common.{refl}
 use Rattle.swh_program.specs.Words.{ToInit, ToLoad, ToAsk}
 use Rattle.swh_program.proofs.Commands.{one_command}
+use Rattle.swh_program.proofs.Statuses.{words_name}
 use Rattle.swh_program.proofs.top.obey.Goals as goal
 
 pub returns-in-Some-clause-init : goal.returns-in-Some-clause-init
@@ -20,3 +21,6 @@ returns-in-None-clause-load g c dir jobs is = absurd (c.in-None.ensures.none ref
 
 pub returns-in-None-clause-ask : goal.returns-in-None-clause-ask
 returns-in-None-clause-ask g c dir path is = absurd (c.in-None.ensures.none refl (ToAsk dir path) is)
+
+pub returns-in-None-clause-named : goal.returns-in-None-clause-named
+returns-in-None-clause-named g c = words_name _ _ _ _ _ _

@@ -1,10 +1,18 @@
+use Rattle.std.proofs.Common.{◌≢◌, inl, ap, sym, ◌∙◌, map, string_bytes, arith}
 use Rattle.swh_program.specs.Archives.{archive_at}
+use Rattle.swh_program.specs.Answers.{status_of, last_line_of}
+use Rattle.swh_program.specs.Causes.{IsExactly, IsDeskTold, HasNoJob, HasOtherArchive}
+use Rattle.swh_program.specs.Words.{ToInit, ToLoad, ToAsk, IsCommand}
+use Rattle.swh_program.proofs.Exacts.{init_job, ask_job, init_wants, init_archive, ask_archive, ask_reply}
+use Rattle.swh_program.proofs.LoadStatuses.{load_job, load_archive, load_line, load_input}
+use Rattle.swh_program.proofs.Statuses.{run_comes, uncut, run_exactly, rose_outside}
 use Rattle.swh_program.specs.Ask.{reply_line}
 use Rattle.swh_program.specs.Run.{reply_status}
-use Rattle.swh_program.proofs.Completes.{told_with, ask_done}
+use Rattle.swh_program.specs.declared.answer.Answer.TheVariants.{Made}
+use Rattle.swh_program.proofs.Completes.{told_with, init_done, ask_done}
 use Rattle.swh_program.specs.Complete.{full_line}
 use Rattle.swh_program.proofs.Loadings.{load_done}
-use Rattle.swh_program.proofs.Ends.{told_status, init_done, done_status}
+use Rattle.swh_program.proofs.Ends.{told_status}
 use Rattle.swh_program.proofs.top.run.Goals as goal
 
 pub returns-clause-status : goal.returns-clause-status
@@ -23,7 +31,7 @@ pub returns-clause-complete_init : goal.returns-clause-complete_init
 returns-clause-complete_init g c dir is told not_made no_disk no_sink =
     let inits = c.obey-answer.ensures.init dir is in
     let done = init_done _ _ _ (inits.ends told) not_made (λ failed. no_disk (inits.cause failed)) in
-    done_status _ _ _ _ _ _ _ done no_sink c.tell.ensures
+    told_with (last_line_of Made) 0 _ _ _ _ _ _ _ done no_sink c.tell.ensures
 
 pub returns-clause-complete_ask : goal.returns-clause-complete_ask
 returns-clause-complete_ask g c dir path h reply is told archive replies no_disk no_sink =
@@ -42,3 +50,59 @@ returns-clause-complete_load g c dir jobs url path text before making is disks i
     g.C.Clock.tells (g.C.Clock.time c.args.world.now.clock) g.P.Depot.tells inputs disks jobs url path text before making old new archive job there means one room no_path
     c.obey-answer.result loads.ends (λ failed. no_disk (loads.disk_cause failed)) (λ failed. no_desk (loads.source_cause failed)) (λ failed. no_clock (loads.clock_cause failed)) in
     told_with (full_line url before making) 0 _ _ _ _ _ _ _ done no_sink c.tell.ensures
+
+pub returns-clause-no_command : goal.returns-clause-no_command
+returns-clause-no_command g c none = run_comes _ _ _ _ _ _ _ c.tell.ensures 2 (inl (ap status_of (c.obey-answer.ensures.refused none)))
+
+pub returns-clause-no_job : goal.returns-clause-no_job
+returns-clause-no_job g c wanted =
+    elim wanted as (λ w. IsCommand (map string_bytes c.args.words.now) w → IsDeskTold g.O.Origins.tells w → IsExactly 2 (HasNoJob (g.O.Origins.file_at c.args.world.now.desk) w) c.tell.result) [
+      | ToInit dir ↦ λ is told. run_exactly _ _ _ _ _ _ _ c.tell.ensures 2 ⊥ (omega arith) (record { only = init_job c.obey-answer.result (c.obey-answer.ensures.init dir is).one_of; there = λ none. absurd none })
+      | ToLoad dir jobs ↦ λ is told. run_exactly _ _ _ _ _ _ _ c.tell.ensures 2 (HasNoJob (g.O.Origins.file_at c.args.world.now.desk) (ToLoad dir jobs)) (omega arith)
+          (load_job g.N.Namer.id_of g.O.Origins.tells (g.O.Origins.file_at c.args.world.now.origins) (g.O.Origins.path_faults c.args.world.now.origins) (g.O.Origins.path_faults c.obey-answer.new.origins) (g.O.Origins.file_at c.args.world.now.desk)
+          g.C.Clock.tells (g.C.Clock.time c.args.world.now.clock) g.P.Depot.tells jobs (archive_at (g.P.Depot.files c.args.world.now.depot) dir) (archive_at (g.P.Depot.files c.obey-answer.new.depot) dir) told c.obey-answer.result (c.obey-answer.ensures.load dir jobs is).ends)
+      | ToAsk dir path ↦ λ is told. run_exactly _ _ _ _ _ _ _ c.tell.ensures 2 ⊥ (omega arith) (record { only = ask_job c.obey-answer.result (c.obey-answer.ensures.ask dir path is).one_of; there = λ none. absurd none })
+    ]
+
+pub returns-clause-other_archive : goal.returns-clause-other_archive
+returns-clause-other_archive g c wanted =
+    let folders = g.P.Depot.files c.args.world.now.depot in
+    let desk_at = g.O.Origins.file_at c.args.world.now.desk in
+    elim wanted as (λ w. IsCommand (map string_bytes c.args.words.now) w → IsDeskTold g.O.Origins.tells w → g.P.Depot.tells → IsExactly 3 (HasOtherArchive g.N.Namer.id_of folders desk_at w) c.tell.result) [
+      | ToInit dir ↦ λ is told disks. run_exactly _ _ _ _ _ _ _ c.tell.ensures 3 (HasOtherArchive g.N.Namer.id_of folders desk_at (ToInit dir)) (omega arith)
+          (init_archive (archive_at folders dir) (archive_at (g.P.Depot.files c.obey-answer.new.depot) dir) c.obey-answer.result ((c.obey-answer.ensures.init dir is).ends disks))
+      | ToLoad dir jobs ↦ λ is told disks. run_exactly _ _ _ _ _ _ _ c.tell.ensures 3 (HasOtherArchive g.N.Namer.id_of folders desk_at (ToLoad dir jobs)) (omega arith)
+          (load_archive g.N.Namer.id_of g.O.Origins.tells (g.O.Origins.file_at c.args.world.now.origins) (g.O.Origins.path_faults c.args.world.now.origins) (g.O.Origins.path_faults c.obey-answer.new.origins) desk_at
+          g.C.Clock.tells (g.C.Clock.time c.args.world.now.clock) g.P.Depot.tells jobs (archive_at folders dir) (archive_at (g.P.Depot.files c.obey-answer.new.depot) dir) told disks c.obey-answer.result (c.obey-answer.ensures.load dir jobs is).ends)
+      | ToAsk dir path ↦ λ is told disks. run_exactly _ _ _ _ _ _ _ c.tell.ensures 3 (HasOtherArchive g.N.Namer.id_of folders desk_at (ToAsk dir path)) (omega arith)
+          (ask_archive g.N.Namer.id_of path (archive_at folders dir) (archive_at (g.P.Depot.files c.obey-answer.new.depot) dir) c.obey-answer.result (c.obey-answer.ensures.ask dir path is).one_of ((c.obey-answer.ensures.ask dir path is).ends disks))
+    ]
+
+pub returns-clause-short_reply : goal.returns-clause-short_reply
+returns-clause-short_reply g c dir path h reply is disks archive replies =
+    run_exactly _ _ _ _ _ _ _ c.tell.ensures 1 (reply.status ≢ 200) (omega arith)
+    (ask_reply g.N.Namer.id_of path (archive_at (g.P.Depot.files c.args.world.now.depot) dir) (archive_at (g.P.Depot.files c.obey-answer.new.depot) dir) h reply archive replies c.obey-answer.result ((c.obey-answer.ensures.ask dir path is).ends disks))
+
+pub returns-clause-short_line : goal.returns-clause-short_line
+returns-clause-short_line g c dir jobs is less =
+    load_line g.N.Namer.id_of g.O.Origins.tells (g.O.Origins.file_at c.args.world.now.origins) (g.O.Origins.path_faults c.args.world.now.origins) (g.O.Origins.path_faults c.obey-answer.new.origins) (g.O.Origins.file_at c.args.world.now.desk)
+    g.C.Clock.tells (g.C.Clock.time c.args.world.now.clock) g.P.Depot.tells jobs (archive_at (g.P.Depot.files c.args.world.now.depot) dir) (archive_at (g.P.Depot.files c.obey-answer.new.depot) dir) c.obey-answer.result _ _ _ _
+    (c.obey-answer.ensures.load dir jobs is).ends (uncut _ _ _ _ _ _ _ c.tell.ensures (λ four. omega (arith, four, less))) less
+
+pub returns-clause-bad_input : goal.returns-clause-bad_input
+returns-clause-bad_input g c dir jobs url path before is disks inputs archive job bad =
+    run_comes _ _ _ _ _ _ _ c.tell.ensures 1
+    (load_input g.N.Namer.id_of g.O.Origins.tells (g.O.Origins.file_at c.args.world.now.origins) (g.O.Origins.path_faults c.args.world.now.origins) (g.O.Origins.path_faults c.obey-answer.new.origins) (g.O.Origins.file_at c.args.world.now.desk)
+    g.C.Clock.tells (g.C.Clock.time c.args.world.now.clock) g.P.Depot.tells jobs (archive_at (g.P.Depot.files c.args.world.now.depot) dir) (archive_at (g.P.Depot.files c.obey-answer.new.depot) dir) inputs disks before archive url path job bad
+    c.obey-answer.result (c.obey-answer.ensures.load dir jobs is).ends)
+
+pub returns-clause-init_whole : goal.returns-clause-init_whole
+returns-clause-init_whole g c dir is one =
+    let printed = uncut _ _ _ _ _ _ _ c.tell.ensures (λ four. omega (arith, four, one)) in
+    init_wants c.obey-answer.result (c.obey-answer.ensures.init dir is).one_of (sym printed.status_is ∙ one)
+
+pub returns-clause-outside : goal.returns-clause-outside
+returns-clause-outside g c four = rose_outside _ _ _ _ _ _ _ _ _ _ _ _ _ c.obey-answer.ensures.named c.tell.ensures four
+
+pub returns-clause-named : goal.returns-clause-named
+returns-clause-named g c = record { answer = c.obey-answer.result; is_one = c.obey-answer.ensures.named; told = c.tell.ensures }

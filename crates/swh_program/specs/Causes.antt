@@ -1,0 +1,120 @@
+-- Which status comes of what.
+use Rattle.std.specs.Prelude.{◌≡◌, ◌≢◌, ◌⊎◌, ◌++◌, ℕ, Option, Some, None, Result, Ok, Err, List}
+use Rattle.swh_base.specs.declared.kind.Kind.{Kind}
+use Rattle.swh_base.specs.declared.name.Name.{Name}
+use Rattle.swh_outside.specs.Faults.{Rose}
+use Rattle.swh_outside.specs.Files.{Files}
+use Rattle.swh_segment.specs.Making.{IsMade, IsNotMade}
+use Rattle.swh_model.specs.Archive.{Bodies}
+use Rattle.swh_model.specs.Meaning.{Making, IsMeaning, IsLeftOut}
+use Rattle.swh_loader.specs.Report.{report_of}
+use Rattle.swh_loader.specs.declared.end.End.{End}
+use Rattle.swh_loader.specs.declared.end.End.TheVariants.{Full, NotFound, Failed}
+use Rattle.swh_loader.specs.declared.end.Loaded.{Loaded}
+use Rattle.swh_loader.specs.declared.fault.LoadWhy.{LoadWhy}
+use Rattle.swh_loader.specs.declared.fault.LoadWhy.TheVariants as why
+use Rattle.swh_loader.specs.declared.fault.LoadFault.{LoadFault}
+use Rattle.swh_program.specs.Archives.{Folders, archive_at}
+use Rattle.swh_program.specs.Complete.{HasBody}
+use Rattle.swh_program.specs.Jobs.{FileAt, IsJobAt, IsNoJobAt}
+use Rattle.swh_program.specs.Load.{TellsDisk, IsLoad}
+use Rattle.swh_program.specs.Opening.{IsDamaged}
+use Rattle.swh_program.specs.Words.{Wanted, ToInit, ToLoad, ToAsk}
+use Rattle.swh_program.specs.declared.answer.Answer.{Answer}
+use Rattle.swh_program.specs.declared.answer.Answer.TheVariants.{OutsideSource, OutsideClock}
+
+-- It is this, unless a part of the outside failed or memory ran out.
+abbrev pub ComesTo : ℕ → ℕ → Type 0
+ComesTo expected status = (status ≡ expected) ⊎ (status ≡ 4) ⊎ (status ≡ 5)
+
+-- It is this only where the cause holds; and where the cause holds it is this, unless a part of the outside failed or
+-- memory ran out.
+pub record IsExactly (expected : ℕ) (Cause : Type 0) (status : ℕ) : Type 0 where
+  pub only : status ≡ expected → Cause
+  pub there : Cause → ComesTo expected status
+
+-- The desk tells what it holds, where the command reads from it.
+abbrev pub IsDeskTold : Type 0 → Wanted → Type 0
+IsDeskTold tells (ToInit dir) = Unit {0}
+IsDeskTold tells (ToLoad dir jobs) = tells
+IsDeskTold tells (ToAsk dir path) = Unit {0}
+
+-- The command reads a job file which is not there, or has no job.
+abbrev pub HasNoJob : FileAt → Wanted → Type 0
+HasNoJob desk_at (ToInit dir) = ⊥
+HasNoJob desk_at (ToLoad dir jobs) = (desk_at jobs ≡ None) ⊎ IsNoJobAt desk_at jobs
+HasNoJob desk_at (ToAsk dir path) = ⊥
+
+-- The archive is made already, for `init`; for the others it is not made, or damaged, and a job that is read is right.
+module _ (id_of : Kind → List ℕ → List ℕ) where
+  abbrev pub IsUnusable : Files → Type 0
+  IsUnusable files = IsNotMade (files 0).seen ⊎ IsDamaged id_of files
+
+  abbrev pub HasOtherArchive : Folders → FileAt → Wanted → Type 0
+  HasOtherArchive folders desk_at (ToInit dir) = IsMade (archive_at folders dir 0).seen
+  HasOtherArchive folders desk_at (ToLoad dir jobs) = ((url path : List ℕ) × IsJobAt desk_at jobs url path) × IsUnusable (archive_at folders dir)
+  HasOtherArchive folders desk_at (ToAsk dir path) = IsUnusable (archive_at folders dir)
+
+abbrev pub IsFullEnd : End → Type 0
+IsFullEnd (Full snapshot) = Unit {0}
+IsFullEnd NotFound = ⊥
+IsFullEnd (Failed bad) = ⊥
+
+-- The line of this load is full.
+abbrev pub IsFullLine : Result Loaded LoadFault → Type 0
+IsFullLine (Ok loaded) = IsFullEnd loaded.end
+IsFullLine (Err fault) = ⊥
+
+-- The visit did not end as full.
+abbrev pub IsShortEnd : End → Type 0
+IsShortEnd (Full snapshot) = ⊥
+IsShortEnd NotFound = Unit {0}
+IsShortEnd (Failed bad) = Unit {0}
+
+-- Neither a disk nor memory stopped it.
+abbrev pub IsOtherStop : LoadWhy → Type 0
+IsOtherStop (why.Ended status) = Unit {0}
+IsOtherStop why.DiskFault = ⊥
+IsOtherStop why.Wounded = ⊥
+IsOtherStop (why.Limit which number) = Unit {0}
+IsOtherStop why.Memory = ⊥
+
+-- The line of this load is neither full nor stopped by a disk or by memory.
+abbrev pub IsShortLine : Result Loaded LoadFault → Type 0
+IsShortLine (Ok loaded) = IsShortEnd loaded.end
+IsShortLine (Err fault) = IsOtherStop fault.why
+
+module _ (id_of : Kind → List ℕ → List ℕ) (inputs_tell : Type 0) (input_at : FileAt) (failures failures_now : List ℕ → ℕ) (desk_at : FileAt) (disks_tell : Type 0) where
+  -- The job of the job file was loaded, its line was printed, and the status is by the line.
+  pub record IsByLine (jobs : List ℕ) (old new : Files) (tells : Type 0) (before now : List ℕ) (status : ℕ) : Type 0 where
+    pub url : List ℕ
+    pub path : List ℕ
+    pub job : inputs_tell → IsJobAt desk_at jobs url path
+    pub date : ℕ
+    pub loaded : Result Loaded LoadFault
+    pub load : IsLoad id_of inputs_tell (input_at path) (Rose (failures path) (failures_now path)) disks_tell old new url date loaded
+    pub printed : tells → now ≡ before ++ report_of url loaded
+    pub full : IsExactly 0 (IsFullLine loaded) status
+    pub short : IsExactly 1 (IsShortLine loaded) status
+
+-- Under some name this input would put a second body.
+pub record HasTwoBodies (id_of : Kind → List ℕ → List ℕ) (bodies : Bodies) (text : List ℕ) : Type 0 where
+  pub making : Making
+  pub means : IsMeaning id_of text making
+  pub name : Name
+  pub a : List ℕ
+  pub b : List ℕ
+  pub has_a : HasBody id_of bodies making name a
+  pub has_b : HasBody id_of bodies making name b
+  pub apart : a ≢ b
+
+-- The input is not there, means nothing, or would put a second body under some name.
+abbrev pub IsBadInput : (Kind → List ℕ → List ℕ) → Bodies → Option (List ℕ) → Type 0
+IsBadInput id_of bodies None = Unit {0}
+IsBadInput id_of bodies (Some text) = IsLeftOut id_of text ⊎ HasTwoBodies id_of bodies text
+
+-- The part that an answer names has failed in this call.
+pub record NamesFailed (disk_faults disk_faults_now desk_faults desk_faults_now clock_faults clock_faults_now : ℕ) (answer : Answer) : Type 0 where
+  pub disk : TellsDisk answer → Rose disk_faults disk_faults_now
+  pub source : answer ≡ OutsideSource → Rose desk_faults desk_faults_now
+  pub clock : answer ≡ OutsideClock → Rose clock_faults clock_faults_now
