@@ -4,7 +4,9 @@
 #![tactic(auto)]
 
 mod fault;
+mod reserved;
 mod source;
 
 pub use fault::SourceFault;
+pub use reserved::read_source_reserved;
 pub use source::read_source;

@@ -8,17 +8,17 @@ use std::alloc::{AllocError, Global};
 use swh_outside::Source;
 
 /// How many bytes are got at a time.
-const WINDOW: usize = 65_536;
+pub const WINDOW: usize = 65_536;
 
 /// Room for this many bytes.
-fn window_of(alloc: Global, size: usize) -> Result<Vec<u8>, AllocError>
+pub fn window_of(alloc: Global, size: usize) -> Result<Vec<u8>, AllocError>
     ensures { IfOk result (λ window. vec_len window ≡ size) }
 {
     Vec::from_elem(alloc, 0, size)
 }
 
 /// Takes the next bytes that are left to the end of `bytes`; 0 is the end of input.
-fn get_more<S: Source>(
+pub fn get_more<S: Source>(
     source: &mut S,
     window: &mut [u8],
     bytes: &mut Vec<u8>,

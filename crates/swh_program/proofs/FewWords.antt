@@ -11,17 +11,6 @@ two_words f (p ∷ q ∷ []) a b x y two less first second x_is y_is =
     (λ i. head i ∷ next i ∷ [])
 two_words f (p ∷ q ∷ r ∷ l) a b x y two less first second x_is y_is = absurd (omega (arith, less))
 
-pub three_words : {A : Type 0} (f : A → List ℕ) (l : List A) (a b c : A) (x y z : List ℕ) → 3 ≤ length l → length l < 4 → a ≡ get_or l 0 a → b ≡ get_or l 1 b → c ≡ get_or l 2 c → x ≡ f a → y ≡ f b → z ≡ f c → map f l ≡ x ∷ y ∷ z ∷ []
-three_words f [] a b c x y z three less first second third x_is y_is z_is = absurd (omega (arith, three))
-three_words f (p ∷ []) a b c x y z three less first second third x_is y_is z_is = absurd (omega (arith, three))
-three_words f (p ∷ q ∷ []) a b c x y z three less first second third x_is y_is z_is = absurd (omega (arith, three))
-three_words f (p ∷ q ∷ r ∷ []) a b c x y z three less first second third x_is y_is z_is =
-    let head : f p ≡ x = sym (x_is ∙ ap f first) in
-    let next : f q ≡ y = sym (y_is ∙ ap f second) in
-    let last : f r ≡ z = sym (z_is ∙ ap f third) in
-    (λ i. head i ∷ next i ∷ last i ∷ [])
-three_words f (p ∷ q ∷ r ∷ s ∷ l) a b c x y z three less first second third x_is y_is z_is = absurd (omega (arith, less))
-
 -- what holds of each word holds of each of their texts
 pub all_mapped : {A : Type 0} (f : A → List ℕ) (P : List ℕ → Type 0) (l : List A) → AllByRecursion (λ x. P (f x)) l → AllByRecursion P (map f l)
 all_mapped f P [] h = tt

@@ -16,3 +16,4 @@ pub mod Loadings
 pub mod Statuses
 pub mod Exacts
 pub mod LoadStatuses
+pub mod Naming

@@ -12,3 +12,4 @@ pub mod Load
 pub mod Loading
 pub mod Complete
 pub mod Causes
+pub mod Identify

@@ -1,6 +1,16 @@
 -- The words of a run: which command they spell.
 use Rattle.std.specs.Prelude.{◌≡◌, ◌≢◌, ℕ, List, [], ◌∷◌, codes}
 use Rattle.std.specs.List.{AllByRecursion}
+use Rattle.swh_base.specs.declared.kind.Kind.{Kind}
+use Rattle.swh_base.specs.declared.kind.Kind.TheVariants.{Content, Directory, Revision, Release, Snapshot}
+
+-- the letters of a kind
+abbrev pub kind_letters : Kind → List ℕ
+kind_letters Content = codes "cnt"
+kind_letters Directory = codes "dir"
+kind_letters Revision = codes "rev"
+kind_letters Release = codes "rel"
+kind_letters Snapshot = codes "snp"
 
 -- what a run may be asked to do
 pub data Wanted : Type 0 where
@@ -10,11 +20,24 @@ pub data Wanted : Type 0 where
   ToLoad : List ℕ → List ℕ → Wanted
   -- to ask the archive in a folder by a path
   ToAsk : List ℕ → List ℕ → Wanted
+  -- to name the bytes of a file as a body of a kind
+  ToIdentify : Kind → List ℕ → Wanted
 
 abbrev pub spelled : Wanted → List (List ℕ)
 spelled (ToInit dir) = codes "init" ∷ dir ∷ []
 spelled (ToLoad dir jobs) = codes "load" ∷ dir ∷ jobs ∷ []
 spelled (ToAsk dir path) = codes "ask" ∷ dir ∷ path ∷ []
+spelled (ToIdentify kind path) = codes "identify" ∷ kind_letters kind ∷ path ∷ []
+
+-- A directory is no file.
+abbrev pub IsOffered : Wanted → Type 0
+IsOffered (ToIdentify kind path) = kind ≢ Directory
+IsOffered _ = Unit {0}
+
+-- The words spell this, which is offered.
+pub record IsSpelled (words : List (List ℕ)) (wanted : Wanted) : Type 0 where
+  pub words_are : words ≡ spelled wanted
+  pub offered : IsOffered wanted
 
 -- The word does not begin with `-`.
 abbrev pub IsPlain : List ℕ → Type 0
@@ -23,5 +46,5 @@ IsPlain (b ∷ bytes) = b ≢ 45
 
 -- The words spell this, and none of them begins with `-`.
 pub record IsCommand (words : List (List ℕ)) (wanted : Wanted) : Type 0 where
-  pub words_are : words ≡ spelled wanted
+  pub spells : IsSpelled words wanted
   pub plain : AllByRecursion IsPlain words

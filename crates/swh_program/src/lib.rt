@@ -6,6 +6,7 @@
 mod answer;
 mod ask_command;
 mod files;
+mod identify_command;
 mod init_command;
 mod job_file;
 mod job_reading;
@@ -18,6 +19,7 @@ mod words;
 pub use answer::{Answer, Ending, tell};
 pub use ask_command::ask;
 pub use files::{ArchiveFiles, close_files, open_files};
+pub use identify_command::identify;
 pub use init_command::init;
 pub use job_file::{JobFault, JobLine, parse_job};
 pub use job_reading::read_job;

@@ -1,6 +1,7 @@
 // The top call.
 ghost use Rattle.std.specs.Prelude.{◌≡◌, ◌≢◌, ◌⊎◌, ◌≤◌, ◌<◌, List, Some, ℕ, map, string_bytes};
 ghost use Rattle.swh_outside.specs.Faults.{Rose};
+ghost use Rattle.swh_base.specs.declared.kind.Kind.{Kind};
 ghost use Rattle.swh_model.specs.declared.event.Event.{Event};
 ghost use Rattle.swh_model.specs.Answer.{ReplyText, IsReply};
 ghost use Rattle.swh_model.specs.Meaning.{Making, IsMeaning};
@@ -9,10 +10,11 @@ ghost use Rattle.swh_segment.specs.Making.{IsNotMade};
 ghost use Rattle.swh_program.specs.Archives.{archive_at};
 ghost use Rattle.swh_program.specs.Answers.{last_line_of};
 ghost use Rattle.swh_program.specs.Commands.{wanted_by};
-ghost use Rattle.swh_program.specs.Words.{Wanted, IsCommand, ToInit, ToLoad, ToAsk};
+ghost use Rattle.swh_program.specs.Words.{Wanted, IsCommand, IsOffered, ToInit, ToLoad, ToAsk, ToIdentify};
 ghost use Rattle.swh_program.specs.Init.{Inits};
 ghost use Rattle.swh_program.specs.Load.{Loads};
 ghost use Rattle.swh_program.specs.Ask.{Asks, reply_line};
+ghost use Rattle.swh_program.specs.Identify.{name_of, name_line, IsBody, Identifies};
 ghost use Rattle.swh_program.specs.Opening.{IsArchive};
 ghost use Rattle.swh_program.specs.Jobs.{IsJobAt};
 ghost use Rattle.swh_program.specs.Complete.{full_line, HasOneBody, HasRoom};
@@ -20,7 +22,7 @@ ghost use Rattle.swh_program.specs.Causes.{ComesTo, IsExactly, IsDeskTold, HasNo
 ghost use Rattle.swh_program.specs.Run.{IsStatus, IsNoCommand, Ends, IsQuiet, IsPrintedWith, reply_status};
 ghost use Rattle.swh_program.specs.declared.answer.Answer.TheVariants.{Made, Words};
 
-use crate::{Answer, Command, Outside, ask, init, load, parse_words, tell};
+use crate::{Answer, Command, Outside, ask, identify, init, load, parse_words, tell};
 use std::alloc::Global;
 use swh_base::Namer;
 use swh_outside::{Clock, Depot, Doors, Gate, Origins, Sink, Yard};
@@ -36,6 +38,7 @@ fn carry_out<N: Namer, P: Depot, O: Origins, C: Clock, G: Gate>(
     clock: &mut C,
     gate: &G,
 ) -> Answer
+    requires { IsOffered (wanted_by command.now) }
     ensures init { (dir : List ℕ) → wanted_by command.now ≡ ToInit dir
         → Inits dir P.tells (P.files depot.old) (P.files depot.new) (P.faults depot.old) (P.faults depot.new) result }
     ensures load { (dir jobs : List ℕ) → wanted_by command.now ≡ ToLoad dir jobs
@@ -44,6 +47,9 @@ fn carry_out<N: Namer, P: Depot, O: Origins, C: Clock, G: Gate>(
     ensures ask { (dir path : List ℕ) → wanted_by command.now ≡ ToAsk dir path
         → Asks N.id_of dir path P.tells (P.files depot.old) (P.files depot.new) (P.faults depot.old) (P.faults depot.new) result }
     ensures named { NamesFailed (P.faults depot.old) (P.faults depot.new) (O.faults desk.old) (O.faults desk.new) (C.faults clock.old) (C.faults clock.new) result }
+    ensures identify { (kind : Kind) (path : List ℕ) → wanted_by command.now ≡ ToIdentify kind path
+        → Identifies N.id_of kind O.tells (O.file_at desk.old) path (O.faults desk.old) (O.faults desk.new) result }
+    ensures identify_depot { (kind : Kind) (path : List ℕ) → wanted_by command.now ≡ ToIdentify kind path → depot.new ≡ depot.old }
     ensures depot_later { P.faults depot.old ≤ P.faults depot.new }
     ensures desk_later { O.faults desk.old ≤ O.faults desk.new }
     ensures origins_later { O.faults origins.old ≤ O.faults origins.new }
@@ -55,6 +61,7 @@ fn carry_out<N: Namer, P: Depot, O: Origins, C: Clock, G: Gate>(
             alloc, namer, depot, desk, origins, clock, gate, dir, jobs,
         ),
         Command::Ask { dir, path } => ask(alloc, namer, depot, dir, path),
+        Command::Identify { kind, path } => identify(alloc, &namer, desk, *kind, path),
     }
 }
 
@@ -82,6 +89,9 @@ fn obey<N: Namer, P: Depot, O: Origins, C: Clock, G: Gate>(
     ensures ask { (dir path : List ℕ) → IsCommand (map string_bytes words.now) (ToAsk dir path)
         → Asks N.id_of dir path P.tells (P.files depot.old) (P.files depot.new) (P.faults depot.old) (P.faults depot.new) result }
     ensures named { NamesFailed (P.faults depot.old) (P.faults depot.new) (O.faults desk.old) (O.faults desk.new) (C.faults clock.old) (C.faults clock.new) result }
+    ensures identify { (kind : Kind) (path : List ℕ) → IsCommand (map string_bytes words.now) (ToIdentify kind path)
+        → Identifies N.id_of kind O.tells (O.file_at desk.old) path (O.faults desk.old) (O.faults desk.new) result }
+    ensures identify_depot { (kind : Kind) (path : List ℕ) → IsCommand (map string_bytes words.now) (ToIdentify kind path) → depot.new ≡ depot.old }
     ensures depot_later { P.faults depot.old ≤ P.faults depot.new }
     ensures desk_later { O.faults desk.old ≤ O.faults desk.new }
     ensures origins_later { O.faults origins.old ≤ O.faults origins.new }
@@ -124,6 +134,11 @@ pub fn run<R, N: Namer, P: Depot, O: Origins, Y: Yard, K: Sink, C: Clock, D: Doo
     ensures ask { (dir path : List ℕ) → IsCommand (map string_bytes words.now) (ToAsk dir path)
         → Ends (Asks N.id_of dir path P.tells (P.files world.old.depot) (P.files world.new.depot) (P.faults world.old.depot) (P.faults world.new.depot))
         K.tells (K.taken world.old.sink) (K.taken world.new.sink) (K.faults world.old.sink) (K.faults world.new.sink) result }
+
+    ensures identify { (kind : Kind) (path : List ℕ) → IsCommand (map string_bytes words.now) (ToIdentify kind path)
+        → Ends (Identifies N.id_of kind O.tells (O.file_at world.old.desk) path (O.faults world.old.desk) (O.faults world.new.desk))
+        K.tells (K.taken world.old.sink) (K.taken world.new.sink) (K.faults world.old.sink) (K.faults world.new.sink) result }
+    ensures identify_depot { (kind : Kind) (path : List ℕ) → IsCommand (map string_bytes words.now) (ToIdentify kind path) → world.new.depot ≡ world.old.depot }
 
     // 2: the words are no command, or the job file is not there or has no job.
     ensures no_command { IsNoCommand (map string_bytes words.now) → ComesTo 2 result }
@@ -172,6 +187,13 @@ pub fn run<R, N: Namer, P: Depot, O: Origins, Y: Yard, K: Sink, C: Clock, D: Doo
         → IsQuiet (O.path_faults world.old.origins path) (O.path_faults world.new.origins path)
         → IsQuiet (C.faults world.old.clock) (C.faults world.new.clock) → IsQuiet (K.faults world.old.sink) (K.faults world.new.sink)
         → IsPrintedWith (full_line url before making) 0 K.tells (K.taken world.old.sink) (K.taken world.new.sink) result }
+
+    // The name of a file that is a body of the kind is printed, unless memory runs out, where no part of the outside
+    // failed.
+    ensures complete_identify { (kind : Kind) (path bytes : List ℕ) → IsCommand (map string_bytes words.now) (ToIdentify kind path) → O.tells
+        → O.file_at world.old.desk path ≡ Some bytes → IsBody kind bytes
+        → IsQuiet (O.faults world.old.desk) (O.faults world.new.desk) → IsQuiet (K.faults world.old.sink) (K.faults world.new.sink)
+        → IsPrintedWith (name_line (name_of N.id_of kind bytes)) 0 K.tells (K.taken world.old.sink) (K.taken world.new.sink) result }
 
     // No count of faults falls.
     ensures depot_later { P.faults world.old.depot ≤ P.faults world.new.depot }

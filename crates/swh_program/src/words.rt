@@ -1,7 +1,11 @@
 // Reads the words of a run.
-ghost use Rattle.std.specs.Prelude.{◌≡◌, ◌↔◌, List, map, string_bytes, All, IfSome, None, IsTrue};
-ghost use Rattle.swh_program.specs.Words.{Wanted, IsCommand, IsPlain, spelled};
+ghost use Rattle.std.specs.Prelude.{◌≡◌, ◌≢◌, ◌∷◌, ◌↔◌, [], List, map, string_bytes, All, IfSome, None, IsTrue, codes};
+ghost use Rattle.swh_base.specs.declared.kind.Kind.{Kind};
+ghost use Rattle.swh_base.specs.declared.kind.Kind.TheVariants.{Directory};
+ghost use Rattle.swh_program.specs.Words.{Wanted, IsCommand, IsPlain, IsSpelled, kind_letters};
 ghost use Rattle.swh_program.specs.Commands.{wanted_by};
+
+use swh_base::Kind;
 
 /// What a run is asked to do.
 #[derive(Clone, Copy, Debug)]
@@ -12,6 +16,48 @@ pub enum Command<'a> {
     Load { dir: &'a str, jobs: &'a str },
     /// To ask the archive in a folder by a path.
     Ask { dir: &'a str, path: &'a str },
+    /// To name the bytes of a file as a body of a kind.
+    Identify { kind: Kind, path: &'a str },
+}
+
+/// The letters of a kind.
+pub fn letters_of(kind: Kind) -> &'static [u8]
+    ensures { result.now ≡ kind_letters kind }
+{
+    match kind {
+        Kind::Content => b"cnt".as_slice(),
+        Kind::Directory => b"dir".as_slice(),
+        Kind::Revision => b"rev".as_slice(),
+        Kind::Release => b"rel".as_slice(),
+        Kind::Snapshot => b"snp".as_slice(),
+    }
+}
+
+// The kind of these letters whose bodies are files.
+fn file_kind(letters: &str) -> Option<Kind>
+    ensures some { IfSome result (λ kind. (letters.now ≡ kind_letters kind) × (kind ≢ Directory)) }
+    ensures none { result ≡ None → (kind : Kind) → letters.now ≡ kind_letters kind → kind ≡ Directory }
+{
+    if letters == "cnt" {
+        Some(Kind::Content)
+    } else if letters == "rev" {
+        Some(Kind::Revision)
+    } else if letters == "rel" {
+        Some(Kind::Release)
+    } else if letters == "snp" {
+        Some(Kind::Snapshot)
+    } else {
+        None
+    }
+}
+
+// The command to identify a file, where a kind has these letters.
+fn identify_as<'a>(letters: &str, path: &'a str) -> Option<Command<'a>>
+    ensures some { IfSome result (λ command. IsSpelled (codes "identify" ∷ letters.now ∷ path.now ∷ []) (wanted_by command)) }
+    ensures none { result ≡ None → (wanted : Wanted) → IsSpelled (codes "identify" ∷ letters.now ∷ path.now ∷ []) wanted → ⊥ }
+{
+    let kind = file_kind(letters)?;
+    Some(Command::Identify { kind, path })
 }
 
 // Says whether a word is no option.
@@ -31,21 +77,38 @@ fn are_plain(words: &[String]) -> bool
     words.iter().all(|word| is_plain(word.as_str()))
 }
 
+// The command of a word and two more.
+fn command_of_two<'a>(command: &str, first: &'a str, second: &'a str) -> Option<Command<'a>>
+    ensures some { IfSome result (λ c. IsSpelled (command.now ∷ first.now ∷ second.now ∷ []) (wanted_by c)) }
+    ensures none { result ≡ None → (wanted : Wanted) → IsSpelled (command.now ∷ first.now ∷ second.now ∷ []) wanted → ⊥ }
+{
+    if command == "load" {
+        Some(Command::Load {
+            dir: first,
+            jobs: second,
+        })
+    } else if command == "ask" {
+        Some(Command::Ask {
+            dir: first,
+            path: second,
+        })
+    } else if command == "identify" {
+        identify_as(first, second)
+    } else {
+        None
+    }
+}
+
 // The command, where its word and the number of its words are right.
 fn command_of(words: &[String]) -> Option<Command<'_>>
-    ensures some { IfSome result (λ command. map string_bytes words.now ≡ spelled (wanted_by command)) }
-    ensures none { result ≡ None → (wanted : Wanted) → map string_bytes words.now ≡ spelled wanted → ⊥ }
+    ensures some { IfSome result (λ command. IsSpelled (map string_bytes words.now) (wanted_by command)) }
+    ensures none { result ≡ None → (wanted : Wanted) → IsSpelled (map string_bytes words.now) wanted → ⊥ }
 {
     match words {
         [command, dir] if command.as_str() == "init" => Some(Command::Init { dir: dir.as_str() }),
-        [command, dir, jobs] if command.as_str() == "load" => Some(Command::Load {
-            dir: dir.as_str(),
-            jobs: jobs.as_str(),
-        }),
-        [command, dir, path] if command.as_str() == "ask" => Some(Command::Ask {
-            dir: dir.as_str(),
-            path: path.as_str(),
-        }),
+        [command, first, second] => {
+            command_of_two(command.as_str(), first.as_str(), second.as_str())
+        }
         _ => None,
     }
 }

@@ -4,6 +4,8 @@
 #![tactic(auto)]
 
 #[cfg(test)]
+mod identify;
+#[cfg(test)]
 mod init;
 #[cfg(test)]
 mod load;

@@ -1,8 +1,9 @@
 use Rattle.std.proofs.Common.{◌≡◌, sym, ◌∙◌, ap}
 use Rattle.swh_program.specs.Ask.{Asks}
 use Rattle.swh_program.specs.Commands.{wanted_by}
+use Rattle.swh_program.specs.Identify.{Identifies}
 use Rattle.swh_program.specs.Load.{Loads}
-use Rattle.swh_program.proofs.Commands.{one_folder, at_load, at_ask}
+use Rattle.swh_program.proofs.Commands.{one_folder, at_load, at_ask, at_identify}
 use Rattle.swh_program.proofs.Ends.{safe, inits_at}
 use Rattle.swh_program.proofs.Statuses.{init_names, ask_names}
 use Rattle.swh_program.proofs.top.carry_out.Goals as goal
@@ -39,3 +40,10 @@ returns-in-Load-clause-named g c = record { disk = c.load.ensures.disk_cause; so
 
 pub returns-in-Ask-clause-named : goal.returns-in-Ask-clause-named
 returns-in-Ask-clause-named g c = ask_names _ _ _ _ _ _ c.ask.result c.ask.ensures.one_of c.ask.ensures.cause
+pub returns-in-Identify-clause-identify : goal.returns-in-Identify-clause-identify
+returns-in-Identify-clause-identify g c kind path is =
+    let i = c.identify.ensures in
+    at_identify
+    (λ k p. Identifies g.N.Namer.id_of k g.O.Origins.tells (g.O.Origins.file_at c.args.desk.now) p (g.O.Origins.faults c.args.desk.now) (g.O.Origins.faults c.identify.new.desk) c.identify.result)
+    c.in-Identify.kind kind c.in-Identify.path.now path (ap wanted_by (sym c.in-Identify.is) ∙ is)
+    (record { one_of = i.one_of; ends = i.ends; cause = i.cause })

@@ -1,5 +1,5 @@
 use Rattle.std.proofs.Common.{refl}
-use Rattle.swh_program.specs.Words.{ToInit, ToLoad, ToAsk}
+use Rattle.swh_program.specs.Words.{ToInit, ToLoad, ToAsk, ToIdentify}
 use Rattle.swh_program.proofs.Commands.{one_command}
 use Rattle.swh_program.proofs.Statuses.{words_name}
 use Rattle.swh_program.proofs.top.obey.Goals as goal
@@ -13,6 +13,12 @@ returns-in-Some-clause-load g c dir jobs is = c.carry_out.ensures.load dir jobs 
 pub returns-in-Some-clause-ask : goal.returns-in-Some-clause-ask
 returns-in-Some-clause-ask g c dir path is = c.carry_out.ensures.ask dir path (one_command _ _ _ c.in-Some.ensures.some is)
 
+pub returns-in-Some-clause-identify : goal.returns-in-Some-clause-identify
+returns-in-Some-clause-identify g c kind path is = c.carry_out.ensures.identify kind path (one_command _ _ _ c.in-Some.ensures.some is)
+
+pub returns-in-Some-clause-identify_depot : goal.returns-in-Some-clause-identify_depot
+returns-in-Some-clause-identify_depot g c kind path is = c.carry_out.ensures.identify_depot kind path (one_command _ _ _ c.in-Some.ensures.some is)
+
 pub returns-in-None-clause-init : goal.returns-in-None-clause-init
 returns-in-None-clause-init g c dir is = absurd (c.in-None.ensures.none refl (ToInit dir) is)
 
@@ -24,3 +30,8 @@ returns-in-None-clause-ask g c dir path is = absurd (c.in-None.ensures.none refl
 
 pub returns-in-None-clause-named : goal.returns-in-None-clause-named
 returns-in-None-clause-named g c = words_name _ _ _ _ _ _
+pub returns-in-None-clause-identify : goal.returns-in-None-clause-identify
+returns-in-None-clause-identify g c kind path is = absurd (c.in-None.ensures.none refl (ToIdentify kind path) is)
+
+pub returns-in-None-clause-identify_depot : goal.returns-in-None-clause-identify_depot
+returns-in-None-clause-identify_depot g c kind path is = absurd (c.in-None.ensures.none refl (ToIdentify kind path) is)

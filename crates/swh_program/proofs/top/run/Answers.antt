@@ -11,8 +11,11 @@ use Rattle.swh_program.specs.Run.{reply_status}
 use Rattle.swh_program.specs.declared.answer.Answer.TheVariants.{Made}
 use Rattle.swh_program.proofs.Completes.{told_with, init_done, ask_done}
 use Rattle.swh_program.specs.Complete.{full_line}
+use Rattle.swh_program.specs.Identify.{name_of, name_line}
 use Rattle.swh_program.proofs.Loadings.{load_done}
 use Rattle.swh_program.proofs.Ends.{told_status}
+use Rattle.swh_program.proofs.Ends.{told_status, init_done, done_status}
+use Rattle.swh_program.proofs.Naming.{named}
 use Rattle.swh_program.proofs.top.run.Goals as goal
 
 pub returns-clause-status : goal.returns-clause-status
@@ -26,6 +29,9 @@ returns-clause-load g c dir jobs is = record { answer = c.obey-answer.result; is
 
 pub returns-clause-ask : goal.returns-clause-ask
 returns-clause-ask g c dir path is = record { answer = c.obey-answer.result; is_one = c.obey-answer.ensures.ask dir path is; told = c.tell.ensures }
+
+pub returns-clause-identify : goal.returns-clause-identify
+returns-clause-identify g c kind path is = record { answer = c.obey-answer.result; is_one = c.obey-answer.ensures.identify kind path is; told = c.tell.ensures }
 
 pub returns-clause-complete_init : goal.returns-clause-complete_init
 returns-clause-complete_init g c dir is told not_made no_disk no_sink =
@@ -106,3 +112,9 @@ returns-clause-outside g c four = rose_outside _ _ _ _ _ _ _ _ _ _ _ _ _ c.obey-
 
 pub returns-clause-named : goal.returns-clause-named
 returns-clause-named g c = record { answer = c.obey-answer.result; is_one = c.obey-answer.ensures.named; told = c.tell.ensures }
+pub returns-clause-complete_identify : goal.returns-clause-complete_identify
+returns-clause-complete_identify g c kind path bytes is told there body no_source no_sink =
+    let identifies = c.obey-answer.ensures.identify kind path is in
+    let found = g.O.Origins.file_at c.args.world.now.desk path in
+    let done = named g.N.Namer.id_of kind bytes body found c.obey-answer.result there (λ failed. no_source (identifies.cause failed)) (identifies.ends told) in
+    told_with (name_line (name_of g.N.Namer.id_of kind bytes)) 0 _ _ _ _ _ _ _ done no_sink c.tell.ensures

@@ -1,18 +1,18 @@
-use Rattle.std.proofs.Common.{rules, ◌≡◌, ℕ, List, false, string_bytes, Option, Some, None, map}
+use Rattle.std.proofs.Common.{rules, ℕ, List, false, string_bytes, Option, Some, None, map}
 use Rattle.std.specs.Prelude.{IsTrue, IfSome}
 use Rattle.std.specs.List.{AllByRecursion}
 use Rattle.std.proofs.lemmas.List.Elements.{All-from_recursion, recursion_from_All}
 use Rattle.swh_program.specs.declared.words.Command.{Command}
 use Rattle.swh_program.specs.Commands.{wanted_by}
-use Rattle.swh_program.specs.Words.{IsCommand, IsPlain, spelled}
+use Rattle.swh_program.specs.Words.{IsCommand, IsPlain, IsSpelled}
 use Rattle.swh_program.proofs.FewWords.{all_mapped, all_unmapped}
 use Rattle.swh_program.proofs.words.parse_words.Goals as goal
 
 untrue : IsTrue false → ⊥
 untrue h = search rules
 
-command : (o : Option Command) (texts : List (List ℕ)) → IfSome o (λ c. texts ≡ spelled (wanted_by c)) → AllByRecursion IsPlain texts → IfSome o (λ c. IsCommand texts (wanted_by c))
-command (Some c) texts is plain = record { words_are = is; plain = plain }
+command : (o : Option Command) (texts : List (List ℕ)) → IfSome o (λ c. IsSpelled texts (wanted_by c)) → AllByRecursion IsPlain texts → IfSome o (λ c. IsCommand texts (wanted_by c))
+command (Some c) texts is plain = record { spells = is; plain = plain }
 command None texts is plain = tt
 
 pub returns-then-not-are_plain-clause-none : goal.returns-then-not-are_plain-clause-none
@@ -27,4 +27,4 @@ returns-clause-some c =
     command c.command_of.result (map string_bytes words) c.command_of.ensures.some (all_mapped string_bytes IsPlain words (recursion_from_All (λ word. IsPlain (string_bytes word)) words plain))
 
 pub returns-clause-none : goal.returns-clause-none
-returns-clause-none c is wanted h = c.command_of.ensures.none is wanted h.words_are
+returns-clause-none c is wanted h = c.command_of.ensures.none is wanted h.spells

@@ -1,0 +1,69 @@
+#!/usr/bin/env python3
+"""Times `identify cnt` of a file of 64 MiB beside sha1sum of the same file, and takes its peak memory.
+
+    python3 bench/identify.py [PROGRAM]
+
+The program may take at most twice as long as sha1sum in the same run, and hold less than one and a half times the file
+in memory. Both are run in turn, and the shortest time of each counts. The program is the built one, outside the gate.
+"""
+import hashlib
+import os
+import subprocess
+import sys
+import tempfile
+import time
+
+FILE_BYTES = 67_108_864
+MOST_TIMES = 2.0
+MOST_MEMORY = 1.5
+ROUNDS = 5
+
+
+def run(command):
+    """How many seconds a command took, how many bytes it held at most, and what it printed."""
+    begun = time.monotonic()
+    with subprocess.Popen(command, stdout=subprocess.PIPE) as child:
+        printed = child.stdout.read()
+        _, status, used = os.wait4(child.pid, 0)
+        child.returncode = os.waitstatus_to_exitcode(status)
+    took = time.monotonic() - begun
+    if child.returncode != 0:
+        sys.exit("%s: status %d, %r" % (command[0], child.returncode, printed))
+    return took, used.ru_maxrss * 1024, printed
+
+
+def make_file(path):
+    """A file of bytes that do not repeat, and the identifier of its content."""
+    name = hashlib.sha1(b"blob %d\0" % FILE_BYTES)
+    with open(path, "wb") as file:
+        for _ in range(FILE_BYTES // 1_048_576):
+            piece = os.urandom(1_048_576)
+            name.update(piece)
+            file.write(piece)
+    return b"swh:1:cnt:%s\n" % name.hexdigest().encode()
+
+
+def main():
+    here = os.path.dirname(os.path.abspath(__file__))
+    program = sys.argv[1] if len(sys.argv) > 1 else os.path.join(here, "..", "crates/swharc/out/swharc")
+    program = os.path.abspath(program)
+    ours, theirs, peak = [], [], 0
+    with tempfile.TemporaryDirectory() as folder:
+        path = os.path.join(folder, "file")
+        expected = make_file(path)
+        for _ in range(ROUNDS):
+            took, held, printed = run([program, "identify", "cnt", path])
+            if printed != expected:
+                sys.exit("printed %r, not %r" % (printed, expected))
+            ours.append(took)
+            peak = max(peak, held)
+            theirs.append(run(["sha1sum", path])[0])
+    ratio = min(ours) / min(theirs)
+    share = peak / FILE_BYTES
+    print("swharc %.3f s, sha1sum %.3f s: ratio %.2f, at most %.1f" % (min(ours), min(theirs), ratio, MOST_TIMES))
+    print("peak %d bytes: %.2f times the file, less than %.1f" % (peak, share, MOST_MEMORY))
+    sys.exit(0 if ratio <= MOST_TIMES and share < MOST_MEMORY else 1)
+
+
+if __name__ == "__main__":
+    main()

@@ -1,0 +1,142 @@
+// The command `identify`.
+ghost use Rattle.std.specs.Prelude.{◌≡◌, ◌≢◌, ◌≤◌, ℕ, List, Some, IfOk, codes};
+ghost use Rattle.swh_program.specs.Answers.{refusal};
+ghost use Rattle.swh_base.specs.declared.kind.Kind.TheVariants.{Directory};
+ghost use Rattle.swh_outside.specs.Faults.{Rose};
+ghost use Rattle.swh_program.specs.Identify.{name_of, name_line, bad_line, TellsLine, IsBody, IsIdentifyAnswer, IdentifyEnds};
+ghost use Rattle.swh_program.specs.Run.{IsQuiet};
+ghost use Rattle.swh_program.specs.declared.answer.Ending.TheVariants as ending;
+ghost use Rattle.swh_program.specs.declared.answer.Answer.TheVariants.{OutsideSource};
+
+use crate::answer::{Answer, Ending};
+use crate::words::letters_of;
+use itoa::Buffer;
+use std::alloc::Global;
+use swh_base::{Bytes, Kind, Memory, Name, Namer};
+use swh_fastlex::{SourceFault, read_source_reserved};
+use swh_object::{Object, ObjectFault};
+use swh_outside::{Opened, Origins};
+use swh_swhid::core_text;
+
+/// The most bytes that a body may have.
+const BODY_LIMIT: usize = 67_108_864;
+
+// A name as it is printed.
+fn name_line(alloc: Global, name: &Name) -> Result<Bytes, Memory>
+    ensures { IfOk result (λ line. line ≡ name_line name.now) }
+{
+    let mut text = [0; 50];
+    core_text(name, &mut text);
+    let mut line = Vec::new(alloc);
+    line.extend_from_slice(&text)?;
+    line.push(b'\n')?;
+    Ok(Bytes::from_vec(line))
+}
+
+// What is printed of bytes that are no body of this kind.
+fn bad_line(alloc: Global, kind: Kind, at: u64) -> Result<Bytes, Memory>
+    ensures { IfOk result (λ line. line ≡ bad_line kind at) }
+{
+    let mut digits = Buffer::new();
+    let mut line = Vec::new(alloc);
+    line.extend_from_slice(b"swharc: bad ")?;
+    line.extend_from_slice(letters_of(kind))?;
+    line.push(b' ')?;
+    line.extend_from_slice(digits.format(at).as_bytes())?;
+    line.push(b'\n')?;
+    Ok(Bytes::from_vec(line))
+}
+
+// The answer that tells a name.
+fn tell_name(alloc: Global, name: &Name) -> Answer
+    ensures { TellsLine (name_line name.now) ending.Done result }
+{
+    match name_line(alloc, name) {
+        Ok(text) => Answer::Told {
+            text,
+            ending: Ending::Done,
+        },
+        Err(_) => Answer::Memory,
+    }
+}
+
+// The answer that tells where bytes are no body of this kind.
+fn tell_bad(alloc: Global, kind: Kind, at: u64) -> Answer
+    ensures { TellsLine (bad_line kind at) ending.Wanting result }
+{
+    match bad_line(alloc, kind, at) {
+        Ok(text) => Answer::Told {
+            text,
+            ending: Ending::Wanting,
+        },
+        Err(_) => Answer::Memory,
+    }
+}
+
+// The answer that tells why there is no name.
+fn tell_refusal(alloc: Global, line: &[u8]) -> Answer
+    ensures { TellsLine line.now ending.Wanting result }
+{
+    match Bytes::from_slice(alloc, line) {
+        Ok(text) => Answer::Told {
+            text,
+            ending: Ending::Wanting,
+        },
+        Err(_) => Answer::Memory,
+    }
+}
+
+// What is told of a file that is longer than a body may be.
+fn tell_limit(alloc: Global) -> Answer
+    ensures { TellsLine (refusal (codes "limit body")) ending.Wanting result }
+{
+    tell_refusal(alloc, b"swharc: limit body\n")
+}
+
+// What bytes come to as a body of this kind.
+fn name_bytes<N: Namer>(alloc: Global, namer: &N, kind: Kind, bytes: Vec<u8>) -> Answer
+    ensures ends { IdentifyEnds N.id_of kind (Some bytes.items) result }
+    ensures inside { result ≢ OutsideSource }
+{
+    match Object::make(alloc, namer, kind, bytes) {
+        Ok(object) => tell_name(alloc, &object.name()),
+        Err(ObjectFault::BadBody { at }) => tell_bad(alloc, kind, at),
+        Err(ObjectFault::TooLong { .. }) => tell_limit(alloc),
+        Err(ObjectFault::Memory) => Answer::Memory,
+    }
+}
+
+/// Names the bytes of the file at a path as a body of this kind. A file of more bytes than a body may have is read no
+/// further than one byte above them.
+pub fn identify<N: Namer, O: Origins>(
+    alloc: Global,
+    namer: &N,
+    desk: &mut O,
+    kind: Kind,
+    path: &str,
+) -> Answer
+    requires { kind ≢ Directory }
+    ensures one_of { IsIdentifyAnswer N.id_of kind result }
+    ensures ends { O.tells → IdentifyEnds N.id_of kind (O.file_at desk.old path.now) result }
+    ensures later { O.faults desk.old ≤ O.faults desk.new }
+    ensures cause { result ≡ OutsideSource → Rose (O.faults desk.old) (O.faults desk.new) }
+
+    // A body of its kind is named, unless memory runs out, where the desk did not fail.
+    ensures complete { (bytes : List ℕ) → O.tells → O.file_at desk.old path.now ≡ Some bytes → IsBody kind bytes → IsQuiet (O.faults desk.old) (O.faults desk.new)
+        → TellsLine (name_line (name_of N.id_of kind bytes)) ending.Done result }
+{
+    let mut source = match desk.file(path) {
+        Opened::Found(source) => source,
+        Opened::NotFound => return tell_refusal(alloc, b"swharc: not found\n"),
+        Opened::Failed => return Answer::OutsideSource,
+        Opened::Memory => return Answer::Memory,
+    };
+    let read = read_source_reserved(alloc, &mut source, BODY_LIMIT);
+    desk.back(source);
+    match read {
+        Ok(bytes) => name_bytes(alloc, namer, kind, bytes),
+        Err(SourceFault::Failed) => Answer::OutsideSource,
+        Err(SourceFault::Limit) => tell_limit(alloc),
+        Err(SourceFault::Memory) => Answer::Memory,
+    }
+}
