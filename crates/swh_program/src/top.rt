@@ -16,9 +16,9 @@ ghost use Rattle.swh_program.specs.Load.{Loads};
 ghost use Rattle.swh_program.specs.Ask.{Asks, reply_line};
 ghost use Rattle.swh_program.specs.Identify.{name_of, name_line, IsBody, Identifies};
 ghost use Rattle.swh_program.specs.Opening.{IsArchive};
-ghost use Rattle.swh_program.specs.Jobs.{IsJobAt};
-ghost use Rattle.swh_program.specs.Complete.{full_line, HasOneBody, HasRoom};
-ghost use Rattle.swh_program.specs.Causes.{ComesTo, IsExactly, IsDeskTold, HasNoJob, HasOtherArchive, IsByLine, IsBadInput, NamesFailed};
+ghost use Rattle.swh_program.specs.Jobs.{AreJobsAt};
+ghost use Rattle.swh_program.specs.Complete.{MeantJob, jobs_of, full_lines, all_made, AreMeant, HasOneBody, HasRoom, AreQuiet};
+ghost use Rattle.swh_program.specs.Causes.{ComesTo, IsExactly, IsDeskTold, HasNoJob, HasOtherArchive, IsByLines, IsBadInput, NamesFailed};
 ghost use Rattle.swh_program.specs.Run.{IsStatus, IsNoCommand, Ends, IsQuiet, IsPrintedWith, reply_status};
 ghost use Rattle.swh_program.specs.declared.answer.Answer.TheVariants.{Made, Words};
 
@@ -152,11 +152,11 @@ pub fn run<R, N: Namer, P: Depot, O: Origins, Y: Yard, K: Sink, C: Clock, D: Doo
     ensures short_reply { (dir path : List ℕ) (h : List Event) (reply : ReplyText) → IsCommand (map string_bytes words.now) (ToAsk dir path) → P.tells
         → IsArchive N.id_of (archive_at (P.files world.old.depot) dir) h → IsReply (replay h) path reply → IsExactly 1 (reply.status ≢ 200) result }
     ensures short_line { (dir jobs : List ℕ) → IsCommand (map string_bytes words.now) (ToLoad dir jobs) → result < 2
-        → IsByLine N.id_of O.tells (O.file_at world.old.origins) (O.path_faults world.old.origins) (O.path_faults world.new.origins) (O.file_at world.old.desk) P.tells
+        → IsByLines N.id_of O.tells (O.file_at world.old.origins) (O.path_faults world.old.origins) (O.path_faults world.new.origins) (O.file_at world.old.desk) P.tells
         jobs (archive_at (P.files world.old.depot) dir) (archive_at (P.files world.new.depot) dir) K.tells (K.taken world.old.sink) (K.taken world.new.sink) result }
-    ensures bad_input { (dir jobs url path : List ℕ) (before : List Event) → IsCommand (map string_bytes words.now) (ToLoad dir jobs) → P.tells → O.tells
-        → IsArchive N.id_of (archive_at (P.files world.old.depot) dir) before → IsJobAt (O.file_at world.old.desk) jobs url path
-        → IsBadInput N.id_of (replay before).bodies (O.file_at world.old.origins path) → ComesTo 1 result }
+    ensures bad_input { (dir path : List ℕ) (jobs : List Job) (job : Job) (before : List Event) → IsCommand (map string_bytes words.now) (ToLoad dir path) → P.tells → O.tells
+        → IsArchive N.id_of (archive_at (P.files world.old.depot) dir) before → AreJobsAt (O.file_at world.old.desk) path jobs → Contains jobs job
+        → IsBadInput N.id_of (replay before).bodies (O.file_at world.old.origins job.path) → ComesTo 1 result }
     ensures init_whole { (dir : List ℕ) → IsCommand (map string_bytes words.now) (ToInit dir) → result ≢ 1 }
 
     // 4: a part of the outside failed, and where a line names one, that one.
@@ -177,23 +177,16 @@ pub fn run<R, N: Namer, P: Depot, O: Origins, Y: Yard, K: Sink, C: Clock, D: Doo
         → IsQuiet (P.faults world.old.depot) (P.faults world.new.depot) → IsQuiet (K.faults world.old.sink) (K.faults world.new.sink)
         → IsPrintedWith (reply_line reply) (reply_status reply) K.tells (K.taken world.old.sink) (K.taken world.new.sink) result }
 
-    // A job whose input is there and means something is loaded in full, unless memory runs out, where no name has two
+    // Jobs whose inputs are there and mean something are loaded in full, unless memory runs out, where no name has two
     // bodies, the files have room, and no part of the outside failed.
-    ensures complete_load { (dir jobs url path text : List ℕ) (before : List Event) (making : Making) → IsCommand (map string_bytes words.now) (ToLoad dir jobs) → P.tells → O.tells
-        → IsArchive N.id_of (archive_at (P.files world.old.depot) dir) before → IsJobAt (O.file_at world.old.desk) jobs url path
-        → O.file_at world.old.origins path ≡ Some text → IsMeaning N.id_of text making
-        → HasOneBody N.id_of (replay before).bodies making → HasRoom N.id_of url before making (archive_at (P.files world.new.depot) dir)
+    ensures complete_load { (dir path : List ℕ) (before : List Event) (meant : List MeantJob) → IsCommand (map string_bytes words.now) (ToLoad dir path) → P.tells → O.tells
+        → IsArchive N.id_of (archive_at (P.files world.old.depot) dir) before → AreJobsAt (O.file_at world.old.desk) path (jobs_of meant)
+        → AreMeant N.id_of (O.file_at world.old.origins) meant
+        → HasOneBody N.id_of (replay before).bodies (all_made meant) → HasRoom N.id_of meant (archive_at (P.files world.new.depot) dir)
         → IsQuiet (P.faults world.old.depot) (P.faults world.new.depot) → IsQuiet (O.faults world.old.desk) (O.faults world.new.desk)
-        → IsQuiet (O.path_faults world.old.origins path) (O.path_faults world.new.origins path)
+        → AreQuiet (O.path_faults world.old.origins) (O.path_faults world.new.origins) meant
         → IsQuiet (C.faults world.old.clock) (C.faults world.new.clock) → IsQuiet (K.faults world.old.sink) (K.faults world.new.sink)
-        → IsPrintedWith (full_line url before making) 0 K.tells (K.taken world.old.sink) (K.taken world.new.sink) result }
-
-    // The name of a file that is a body of the kind is printed, unless memory runs out, where no part of the outside
-    // failed.
-    ensures complete_identify { (kind : Kind) (path bytes : List ℕ) → IsCommand (map string_bytes words.now) (ToIdentify kind path) → O.tells
-        → O.file_at world.old.desk path ≡ Some bytes → IsBody kind bytes
-        → IsQuiet (O.faults world.old.desk) (O.faults world.new.desk) → IsQuiet (K.faults world.old.sink) (K.faults world.new.sink)
-        → IsPrintedWith (name_line (name_of N.id_of kind bytes)) 0 K.tells (K.taken world.old.sink) (K.taken world.new.sink) result }
+        → IsPrintedWith (full_lines before meant) 0 K.tells (K.taken world.old.sink) (K.taken world.new.sink) result }
 
     // No count of faults falls.
     ensures depot_later { P.faults world.old.depot ≤ P.faults world.new.depot }
