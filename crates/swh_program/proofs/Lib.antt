@@ -1,6 +1,5 @@
 pub mod Commands
 pub mod Ends
-pub mod JobFields
 pub mod FewWords
 pub mod Told
 pub mod Opened

@@ -47,6 +47,12 @@ pub record TellsBadJob (file_at : FileAt) (path text : List ℕ) : Type 0 where
   pub bad : IsBadAt file_at path line why
   pub text_is : text ≡ bad_job_line line why
 
+-- bytes are refused by one of these
+abbrev pub IsReadRefusal : List ℕ → Answer → Type 0
+IsReadRefusal bytes (BadJob text) = TellsFault bytes text
+IsReadRefusal bytes Memory = Unit {0}
+IsReadRefusal bytes _ = ⊥
+
 -- a job file is refused by one of these
 abbrev pub IsJobRefusal : Answer → Type 0
 IsJobRefusal NoJobFile = Unit {0}

@@ -8,6 +8,8 @@ pub mod Words
 pub mod Opening
 pub mod Ask
 pub mod Jobs
+pub mod Dated
+pub mod Telling
 pub mod Load
 pub mod Loading
 pub mod Complete

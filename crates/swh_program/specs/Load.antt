@@ -36,6 +36,7 @@ use Rattle.swh_loader.specs.declared.fault.LoadWhy.TheVariants as why
 use Rattle.swh_loader.specs.declared.fault.LoadFault.{LoadFault}
 use Rattle.swh_pool.specs.Stops.{AreStops, HaveNoDiskFault}
 use Rattle.swh_program.specs.Archives.{Folders, archive_at, SameElsewhere}
+use Rattle.swh_program.specs.Dated.{AreSaid}
 use Rattle.swh_program.specs.Jobs.{FileAt, AreJobsAt, IsJobRefusal, IsJobRefused}
 use Rattle.swh_program.specs.Opening.{IsArchive, IsOnlyOpened, IsOpenRefusal, OpenEnds}
 use Rattle.swh_program.specs.declared.answer.Ending.{Ending}
@@ -68,6 +69,9 @@ pub record LoadedJob : Type 0 where
   pub job : Job
   pub date : ℕ
   pub outcome : Result Loaded LoadFault
+
+abbrev pub dates : List LoadedJob → List ℕ
+dates loads = map (λ l. l.date) loads
 
 abbrev pub outcomes : List LoadedJob → List (Result Loaded LoadFault)
 outcomes loads = map (λ l. l.outcome) loads
@@ -103,11 +107,6 @@ pub record TellsLoads (loads : List LoadedJob) (text : List ℕ) (end : Ending) 
 abbrev pub TellsLoad : List LoadedJob → Answer → Type 0
 TellsLoad loads (Told text end) = TellsLoads loads text end
 TellsLoad loads _ = ⊥
-
--- The clock said these dates, one after another.
-abbrev pub AreSaid : (ℕ → ℕ) → List LoadedJob → Type 0
-AreSaid time [] = Unit {0}
-AreSaid time (l ∷ loads) = (l.date ≡ time 0) × AreSaid (λ k. time (k + 1)) loads
 
 -- Each visit that was there stays there.
 abbrev pub VisitsStay : List Event → List Event → Type 0
@@ -226,7 +225,7 @@ module _ (id_of : Kind → List ℕ → List ℕ) (tells : Type 0) (input_at : F
   pub record AreLoadedJobs (time_tells : Type 0) (time : ℕ → ℕ) (disks_tell : Type 0) (old new : Files) (jobs : List Job) (answer : Answer) : Type 0 where
     pub loads : List LoadedJob
     pub jobs_are : map (λ l. l.job) loads ≡ jobs
-    pub said : time_tells → AreSaid time loads
+    pub said : time_tells → AreSaid time (dates loads)
     pub load : IsLoad disks_tell old new loads
     pub told : TellsLoad loads answer
 
@@ -234,6 +233,11 @@ module _ (id_of : Kind → List ℕ → List ℕ) (tells : Type 0) (input_at : F
 abbrev pub IsUnloaded : (Kind → List ℕ → List ℕ) → Type 0 → Files → Files → Answer → Type 0
 IsUnloaded id_of tells old new OutsideClock = tells → IsOnlyOpened old new
 IsUnloaded id_of tells old new answer = IsOpenRefusal answer × (tells → OpenEnds id_of old new answer)
+
+-- The jobs were loaded, or none was.
+abbrev pub IsLoadedOrNot : (Kind → List ℕ → List ℕ) → Type 0 → FileAt → (List ℕ → ℕ) → (List ℕ → ℕ) → Type 0 → (ℕ → ℕ) → Type 0 → Files → Files → List Job → Answer → Type 0
+IsLoadedOrNot id_of inputs_tell input_at failures failures_now time_tells time disks_tell old new jobs answer =
+    AreLoadedJobs id_of inputs_tell input_at failures failures_now time_tells time disks_tell old new jobs answer ⊎ IsUnloaded id_of disks_tell old new answer
 
 -- a disk that failed is told
 abbrev pub TellsDisk : Answer → Type 0
@@ -248,7 +252,7 @@ module _ (id_of : Kind → List ℕ → List ℕ) (inputs_tell : Type 0) (input_
     pub jobs : List Job
     pub good : AreJobs jobs
     pub there : inputs_tell → AreJobsAt desk_at path jobs
-    pub outcome : AreLoadedJobs id_of inputs_tell input_at failures failures_now time_tells time disks_tell old new jobs answer ⊎ IsUnloaded id_of disks_tell old new answer
+    pub outcome : IsLoadedOrNot id_of inputs_tell input_at failures failures_now time_tells time disks_tell old new jobs answer
 
   -- There are no jobs, and the archive is not opened.
   pub record IsNoJobsRun (path : List ℕ) (old new : Files) (answer : Answer) : Type 0 where
