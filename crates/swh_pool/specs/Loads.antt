@@ -18,6 +18,9 @@ pub record OneLoad (S : Type 0) : Type 0 where
   pub after : DatedJob S
   pub outcome : Result Loaded LoadFault
 
+abbrev pub one_load : {S : Type 0} → DatedJob S → DatedJob S → Result Loaded LoadFault → OneLoad S
+one_load job after outcome = record { job = job; after = after; outcome = outcome }
+
 module _ {S D : Type 0} (id : Kind → List ℕ → List ℕ) (tells : Type 0) (left : S → List ℕ) (source_faults : S → ℕ) (path : S → List ℕ) (disk_faults : D → ℕ) (by : ℕ) where
   -- The load ended its visit, the next of its origin.
   pub record IsEnded (l : OneLoad S) (old new : Kept D) (loaded : Loaded) : Type 0 where

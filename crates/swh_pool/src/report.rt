@@ -42,15 +42,12 @@ pub fn report_all<S: Source>(
     ensures { IsReport jobs.now outcomes.now result }
 {
     let mut text = Vec::new(alloc);
-    let mut whole = true;
     'lines: for (job, outcome) in jobs.iter().zip(outcomes) {
         if add_line(alloc, &mut text, &job.job.origin, *outcome).is_err() {
-            whole = false;
-            break;
+            let text = Bytes::from_vec(text);
+            return Report { text, whole: false };
         }
     }
-    Report {
-        text: Bytes::from_vec(text),
-        whole,
-    }
+    let text = Bytes::from_vec(text);
+    Report { text, whole: true }
 }
