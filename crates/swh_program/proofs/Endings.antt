@@ -3,6 +3,7 @@ use Rattle.std.specs.Prelude.{IsTrue}
 use Rattle.std.proofs.Common.{◌≡◌, ◌⊎◌, inl, inr, ⊎_elim, ℕ, ◌≤◌, Bool, true, false, Option, Some, None, Result, Ok, Err, List, [], ◌∷◌, ◌++◌, map, flat_map, refl, sym, ap, ◌∙◌, subst, arith}
 use Rattle.std.proofs.lemmas.List.Folds.{flat_map-map}
 use Rattle.swh_base.specs.declared.kind.Kind.{Kind}
+use Rattle.swh_outside.specs.Disk.{File}
 use Rattle.swh_outside.specs.Faults.{Rose}
 use Rattle.swh_segment.specs.Makes.{EitherRose}
 use Rattle.swh_keeper.specs.Kept.{Kept}
@@ -25,37 +26,6 @@ use Rattle.swh_program.specs.declared.answer.Ending.TheVariants as ending
 use Rattle.swh_program.specs.declared.answer.Answer.{Answer}
 use Rattle.swh_program.proofs.Inputs.{url_and_outcome}
 
--- the worse of three, in any order of two steps
-pub worse-assoc : (a b c : Ending) → worse (worse a b) c ≡ worse a (worse b c)
-worse-assoc ending.Done b c = refl
-worse-assoc ending.OutsideDisk b c = refl
-worse-assoc ending.Wanting ending.Done c = refl
-worse-assoc ending.Wanting ending.Wanting ending.Done = refl
-worse-assoc ending.Wanting ending.Wanting ending.Wanting = refl
-worse-assoc ending.Wanting ending.Wanting ending.OutsideDisk = refl
-worse-assoc ending.Wanting ending.Wanting ending.Memory = refl
-worse-assoc ending.Wanting ending.Memory ending.Done = refl
-worse-assoc ending.Wanting ending.Memory ending.Wanting = refl
-worse-assoc ending.Wanting ending.Memory ending.OutsideDisk = refl
-worse-assoc ending.Wanting ending.Memory ending.Memory = refl
-worse-assoc ending.Wanting ending.OutsideDisk c = refl
-worse-assoc ending.Memory ending.Done c = refl
-worse-assoc ending.Memory ending.Wanting ending.Done = refl
-worse-assoc ending.Memory ending.Wanting ending.Wanting = refl
-worse-assoc ending.Memory ending.Wanting ending.OutsideDisk = refl
-worse-assoc ending.Memory ending.Wanting ending.Memory = refl
-worse-assoc ending.Memory ending.Memory ending.Done = refl
-worse-assoc ending.Memory ending.Memory ending.Wanting = refl
-worse-assoc ending.Memory ending.Memory ending.OutsideDisk = refl
-worse-assoc ending.Memory ending.Memory ending.Memory = refl
-worse-assoc ending.Memory ending.OutsideDisk c = refl
-
-pub worse-done : (a : Ending) → worse a ending.Done ≡ a
-worse-done ending.Done = refl
-worse-done ending.Wanting = refl
-worse-done ending.OutsideDisk = refl
-worse-done ending.Memory = refl
-
 -- a disk is told only where one of the two is a disk's
 pub worse_disk : (a b : Ending) → worse a b ≡ ending.OutsideDisk → (a ≡ ending.OutsideDisk) ⊎ (b ≡ ending.OutsideDisk)
 worse_disk ending.Done b is = inr is
@@ -75,7 +45,7 @@ no_disk_end NotFound e = let f : ending.Wanting ≡ ending.OutsideDisk = e in cc
 no_disk_end (Failed bad) e = let f : ending.Wanting ≡ ending.OutsideDisk = e in cc
 
 -- Loads of which one tells of a disk: a count rose.
-module _ {S D : Type 0} (id_of : Kind → List ℕ → List ℕ) (source_tells : Type 0) (left : S → List ℕ) (faults : S → ℕ) (path_of : S → List ℕ) (disk_faults : D → ℕ) where
+module _ {S D : Type 0} (id_of : Kind → List ℕ → List ℕ) (source_tells : Type 0) (left : S → List ℕ) (faults : S → ℕ) (path_of : S → List ℕ) (disks_tell : Type 0) (file : D → File) (disk_faults : D → ℕ) where
   abbrev Raised : Kept D → Kept D → Type 0
   Raised old new = EitherRose (disk_faults old.store) (disk_faults new.store) (disk_faults old.ledger) (disk_faults new.ledger)
 
@@ -83,7 +53,7 @@ module _ {S D : Type 0} (id_of : Kind → List ℕ → List ℕ) (source_tells :
   Later old new = (disk_faults old.store ≤ disk_faults new.store) × (disk_faults old.ledger ≤ disk_faults new.ledger)
 
   abbrev All : List (OneLoad S) → Kept D → Kept D → Type 0
-  All loads old new = AreLoads id_of source_tells left faults path_of disk_faults 1 loads old new
+  All loads old new = AreLoads id_of source_tells left faults path_of disks_tell file disk_faults 1 loads old new
 
   raised_since : (old between new : Kept D) → Later old between → Raised between new → Raised old new
   raised_since old between new later (inl rose) = inl (omega (arith, later.0, rose))
@@ -119,7 +89,7 @@ module _ {S D : Type 0} (id_of : Kind → List ℕ → List ℕ) (source_tells :
     by_why visit (why.Limit which number) unwounded stops more is = from_later ending.Wanting (λ e. cc) more is
     by_why visit why.Memory unwounded stops more is = from_later ending.Memory (λ e. cc) more is
 
-    by_outcome : (o : Result Loaded LoadFault) → IsUnwounded o → IsOutcome id_of source_tells left faults path_of disk_faults 1 l old between o → AreStops (is_disk_fault o) rest → worse (ending_for o) (ending_of_all rest) ≡ ending.OutsideDisk → Raised old new
+    by_outcome : (o : Result Loaded LoadFault) → IsUnwounded o → IsOutcome id_of source_tells left faults path_of disks_tell file disk_faults 1 l old between o → AreStops (is_disk_fault o) rest → worse (ending_for o) (ending_of_all rest) ≡ ending.OutsideDisk → Raised old new
     by_outcome (Ok loaded) unwounded ends more is = from_later (ending_of_end loaded.end) (no_disk_end loaded.end) more is
     by_outcome (Err fault) unwounded ends more is = by_why fault.visit fault.why unwounded ends more is
 
@@ -143,7 +113,7 @@ tail_of : {Y : Type 0} (x y : Y) (xs ys : List Y) → x ∷ xs ≡ y ∷ ys → 
 tail_of x y xs ys e = cc
 
 parts_next : {X Y : Type 0} (f : X → Y) (x : X) (y : Y) (xs : List X) (a b : List Y) → f x ≡ y → Parts f xs a b → Parts f (x ∷ xs) (y ∷ a) b
-parts_next f x y xs a b same p = record {
+parts_next {X} f x y xs a b same p = record {
   front = x ∷ p.front;
   back = p.back;
   cut = ap (λ (l : List X). x ∷ l) p.cut;

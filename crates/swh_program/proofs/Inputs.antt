@@ -3,6 +3,7 @@ use Rattle.std.proofs.Common.{◌≡◌, inl, inr, ℕ, ◌<◌, ◌≤◌, Opti
 use Rattle.std.specs.List.{AllByRecursion}
 use Rattle.swh_base.specs.declared.kind.Kind.{Kind}
 use Rattle.swh_base.specs.declared.entry.Entry.{Entry}
+use Rattle.swh_outside.specs.Disk.{File}
 use Rattle.swh_outside.specs.Faults.{Rose}
 use Rattle.swh_outside.specs.Opened.{IfFound}
 use Rattle.swh_outside.specs.declared.fault.Opened.{Opened}
@@ -116,16 +117,16 @@ module _ {D : Type 0} (id_of : Kind → List ℕ → List ℕ) (tells : Type 0) 
 -- The inputs of jobs: opened, and given back.
 module _ {S : Type 0} (id_of : Kind → List ℕ → List ℕ) (tells source_tells : Type 0) (left : S → List ℕ) (faults : S → ℕ) (path_of : S → List ℕ) (input_at : FileAt) (entry middle after : List ℕ → ℕ)
     (later : (p : List ℕ) → entry p ≤ middle p) (later_still : (p : List ℕ) → middle p ≤ after p) where
-  abbrev HasFailed : Job → Type 0
+  abbrev pub HasFailed : Job → Type 0
   HasFailed job = Rose (entry job.path) (after job.path)
 
-  abbrev Opens : Job → Opened S → Type 0
+  abbrev pub Opens : Job → Opened S → Type 0
   Opens job stream = IsOpenedAt tells source_tells left faults path_of input_at entry middle job.path stream
 
-  abbrev OfJob : Job → List Entry → Type 0
+  abbrev pub OfJob : Job → List Entry → Type 0
   OfJob job = IsOfInput id_of tells (input_at job.path) job.head (HasFailed job)
 
-  allowed : (job : Job) (s : Opened S) → (tells → source_tells) → (tells → IfFound s (λ x. input_at job.path ≡ Some (left x))) → (entries : List Entry) → AreAllowed id_of source_tells left s entries → OfJob job entries
+  pub allowed : (job : Job) (s : Opened S) → (tells → source_tells) → (tells → IfFound s (λ x. input_at job.path ≡ Some (left x))) → (entries : List Entry) → AreAllowed id_of source_tells left s entries → OfJob job entries
   allowed job (Found s) told is entries allowed_by = λ t. (left s, is t, allowed_by (told t))
   allowed job Missing told is entries allowed_by = absurd allowed_by
   allowed job Unopened told is entries allowed_by = absurd allowed_by
@@ -154,9 +155,12 @@ module _ {S : Type 0} (id_of : Kind → List ℕ → List ℕ) (tells source_tel
       subst (IsInputEnd id_of tells (input_at job.path) job.head (HasFailed job) bodies) (sym ends) (rose_until (entry job.path) (middle job.path) (after job.path) (opened.failed tt) (later_still job.path))
   input_end job bodies NoRoom t opened same back end ends = absurd ends
 
-  module _ {D : Type 0} (disk_faults : D → ℕ) where
-    abbrev Loads : OneLoad S → Kept D → Kept D → Type 0
-    Loads l old new = IsOneLoad id_of source_tells left faults path_of disk_faults 1 l old new
+  module _ {D : Type 0} (disks_tell : Type 0) (file : D → File) (disk_faults : D → ℕ) where
+    abbrev pub Loads : OneLoad S → Kept D → Kept D → Type 0
+    Loads l old new = IsOneLoad id_of source_tells left faults path_of disks_tell file disk_faults 1 l old new
+
+    abbrev pub AllLoads : List (OneLoad S) → Kept D → Kept D → Type 0
+    AllLoads loads old new = AreLoads id_of source_tells left faults path_of disks_tell file disk_faults 1 loads old new
 
     -- a job as it was loaded
     abbrev pub loaded_job : Job → OneLoad S → LoadedJob
@@ -164,7 +168,7 @@ module _ {S : Type 0} (id_of : Kind → List ℕ → List ℕ) (tells source_tel
 
     line : (job : Job) (l : OneLoad S) (old new : Kept D) → Opens job l.job.job.stream → IsGivenBack faults path_of middle after l.after.job.stream
         → AddsVisit (AreAllowed id_of source_tells left l.job.job.stream) 1 l.job.job.origin l.job.date old.history new.history → IsSameInput path_of faults l.job.job.stream l.after.job.stream
-        → (outcome : Result Loaded LoadFault) → IsOutcomeOf id_of source_tells left faults path_of disk_faults 1 l old new outcome
+        → (outcome : Result Loaded LoadFault) → IsOutcomeOf id_of source_tells left faults path_of disks_tell file disk_faults 1 l old new outcome
         → IsOutcome id_of tells (input_at job.path) job.head (HasFailed job) l.job.job.origin l.job.date old.history new.history outcome
     line job l old new opened back adds same (Ok loaded) is =
         record { number = is.number; visit = is.visit; end = input_end job (replay new.history).bodies l.job.job.stream l.after.job.stream opened same back loaded.end is.means }
@@ -186,11 +190,11 @@ module _ {S : Type 0} (id_of : Kind → List ℕ → List ℕ) (tells source_tel
     loaded_jobs (job ∷ jobs) [] = []
     loaded_jobs (job ∷ jobs) (l ∷ loads) = loaded_job job l ∷ loaded_jobs jobs loads
 
-    abbrev Open : List Job → List (OneLoad S) → Type 0
+    abbrev pub Open : List Job → List (OneLoad S) → Type 0
     Open jobs loads = AreOpenedJobs tells source_tells left faults path_of input_at entry middle jobs (map (λ l. l.job) loads)
 
     pub each_job : (jobs : List Job) (loads : List (OneLoad S)) (old new : Kept D) → Open jobs loads → AreGivenBack faults path_of middle after (map (λ l. l.after) loads)
-        → AreLoads id_of source_tells left faults path_of disk_faults 1 loads old new → AreJobLoads id_of tells input_at entry after (loaded_jobs jobs loads) old.history new.history
+        → AllLoads loads old new → AreJobLoads id_of tells input_at entry after (loaded_jobs jobs loads) old.history new.history
     each_job [] [] old new opened back are = ap (λ (k : Kept D). k.history) are
     each_job [] (l ∷ loads) old new opened back are = absurd opened
     each_job (job ∷ jobs) [] old new opened back are = absurd opened
@@ -216,7 +220,7 @@ module _ {S : Type 0} (id_of : Kind → List ℕ → List ℕ) (tells source_tel
     same_outcomes (job ∷ jobs) (l ∷ loads) opened = ap (λ (more : List (Result Loaded LoadFault)). l.outcome ∷ more) (same_outcomes jobs loads opened.1)
 
     -- their origins beside their outcomes
-    pub same_ended : (jobs : List Job) (loads : List (OneLoad S)) (old new : Kept D) → Open jobs loads → AreLoads id_of source_tells left faults path_of disk_faults 1 loads old new
+    pub same_ended : (jobs : List Job) (loads : List (OneLoad S)) (old new : Kept D) → Open jobs loads → AllLoads loads old new
         → ended (map (λ l. l.after) loads) (map (λ l. l.outcome) loads) ≡ map url_and_outcome (loaded_jobs jobs loads)
     same_ended [] [] old new opened are = refl
     same_ended [] (l ∷ loads) old new opened are = absurd opened

@@ -5,6 +5,10 @@ pub mod Told
 pub mod Opened
 pub mod Asked
 pub mod Inputs
+pub mod Endings
+pub mod Calling
+pub mod KeptRuns
+pub mod Openings
 pub mod Loads
 pub mod JobReads
 pub mod Archived

@@ -1,13 +1,11 @@
 -- Loads into an archive that is open.
-use Rattle.std.specs.Prelude.{◌≡◌, ◌⊎◌, ◌↔◌, ℕ, false, Some, None, List, ◌++◌, map}
+use Rattle.std.specs.Prelude.{◌≡◌, ◌⊎◌, ◌↔◌, ℕ, false, None, List, map}
 use Rattle.swh_base.specs.declared.kind.Kind.{Kind}
 use Rattle.swh_outside.specs.Disk.{File}
-use Rattle.swh_outside.specs.Files.{files_done}
-use Rattle.swh_model.specs.declared.event.Event.{Event}
 use Rattle.swh_segment.specs.Makes.{EitherRose}
 use Rattle.swh_keeper.specs.Kept.{Kept}
 use Rattle.swh_jobs.specs.Job.{Job}
-use Rattle.swh_loader.specs.Calls.{all_calls, kept_files, BreaksAt}
+use Rattle.swh_loader.specs.Calls.{MakesCalls}
 use Rattle.swh_pool.specs.Stops.{AreStops, HaveNoDiskFault}
 use Rattle.swh_program.specs.Dated.{AreSaid}
 use Rattle.swh_program.specs.Jobs.{FileAt}
@@ -21,20 +19,12 @@ abbrev pub IsUnstarted : Answer → Type 0
 IsUnstarted answer = (answer ≡ OutsideClock) ⊎ (answer ≡ Memory)
 
 module _ (id_of : Kind → List ℕ → List ℕ) (tells : Type 0) (input_at : FileAt) (failures failures_now : List ℕ → ℕ) where
-  -- The device calls of the events were made, in order; where a disk failed, up to one of the next event.
-  pub record MakesKeptCalls {D : Type 0} (file : D → File) (loads : List LoadedJob) (old new : Kept D) : Type 0 where
-    pub more : List Event
-    pub behind : new.history ≡ old.history ++ more
-    pub made : new.wounded ≡ None → kept_files file new ≡ files_done (all_calls old.history more) (kept_files file old)
-    pub broken : (n : ℕ) → new.wounded ≡ Some n
-        → BreaksAt id_of (IsNextOf id_of tells input_at failures failures_now loads new.history) new.history (files_done (all_calls old.history more) (kept_files file old)) (kept_files file new)
-
   pub record AreKeptLoads {D : Type 0} (disks_tell : Type 0) (file : D → File) (faults : D → ℕ) (loads : List LoadedJob) (old new : Kept D) : Type 0 where
     pub each : AreJobLoads id_of tells input_at failures failures_now loads old.history new.history
     pub stops : AreStops false (outcomes loads)
     pub unwounded : (new.wounded ≡ None) ↔ HaveNoDiskFault (outcomes loads)
     pub rose : ending_of_all (outcomes loads) ≡ ending.OutsideDisk → EitherRose (faults old.store) (faults new.store) (faults old.ledger) (faults new.ledger)
-    pub calls : disks_tell → MakesKeptCalls file loads old new
+    pub calls : disks_tell → MakesCalls id_of file (IsNextOf id_of tells input_at failures failures_now loads new.history) old new
 
   -- The jobs were loaded, and their lines told.
   pub record AreKeptJobs {D : Type 0} (disks_tell : Type 0) (file : D → File) (faults : D → ℕ) (time_tells : Type 0) (time : ℕ → ℕ) (old new : Kept D) (jobs : List Job) (answer : Answer) : Type 0 where

@@ -8,7 +8,7 @@ mod ask_command;
 mod files;
 mod identify_command;
 mod init_command;
-mod inputs;
+mod job_inputs;
 mod job_reading;
 mod load_command;
 mod opening;

@@ -8,7 +8,7 @@ ghost use Rattle.swh_program.specs.Loading.{IsKeptRun};
 ghost use Rattle.swh_program.specs.declared.answer.Answer.TheVariants.{OutsideSource, OutsideClock};
 
 use crate::answer::Answer;
-use crate::inputs::{give_all_back, open_inputs};
+use crate::job_inputs::{give_all_back, open_inputs};
 use crate::job_reading::read_jobs;
 use crate::opening::{close_archive, open_archive};
 use crate::telling::tell_loaded;

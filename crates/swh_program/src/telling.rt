@@ -61,7 +61,7 @@ fn worst_of(outcomes: &[Result<Loaded, LoadFault>]) -> Ending
     ensures { result ≡ ending_of_all outcomes.now }
 {
     let mut worst = Ending::Done;
-    'outcomes: for outcome in outcomes {
+    for outcome in outcomes {
         worst = worse(worst, ending_of(*outcome));
     }
     worst
