@@ -1,8 +1,10 @@
 -- How `identify` ends, and where nothing stands against it.
-use Rattle.std.proofs.Common.{◌≡◌, ◌≢◌, ◌⊎◌, inl, inr, ⊎_elim, ℕ, Option, Some, None, List, refl, sym, ◌∙◌, subst, arith}
-use Rattle.std.proofs.lemmas.List.{append-nil}
+use Rattle.std.proofs.Common.{◌≡◌, ◌≢◌, ◌⊎◌, inl, inr, ℕ, ◌<◌, codes, Option, Some, None, List, refl, sym, ◌∙◌, subst, arith}
+use Rattle.std.specs.Prelude.{replicate}
+use Rattle.std.proofs.lemmas.List.{append-nil, length-replicate}
+use Rattle.swh_base.specs.Limits.{body_limit}
 use Rattle.swh_base.specs.declared.kind.Kind.{Kind}
-use Rattle.swh_program.specs.Answers.{status_of}
+use Rattle.swh_program.specs.Answers.{status_of, refusal}
 use Rattle.swh_program.specs.Causes.{IsExactly}
 use Rattle.swh_program.specs.Identify.{name_of, name_line, TellsLine, IsBody, IsTooLong, IsRefused, HasNoBody, TellsFile, IsIdentifyAnswer, IdentifyEnds}
 use Rattle.swh_program.specs.declared.answer.Ending.{Ending}
@@ -42,11 +44,11 @@ module _ (id_of : Kind → List ℕ → List ℕ) (kind : Kind) where
   ends_one found OutsideClock ends = ends
   ends_one found Memory ends = ends
 
-  file_ending : (found : Option (List ℕ)) (end : Ending) (text : List ℕ) → TellsFile id_of kind found end text → (end ≡ ending.Done) ⊎ (end ≡ ending.Wanting)
-  file_ending found ending.Done text tells = inl refl
-  file_ending found ending.Wanting text tells = inr refl
-  file_ending found ending.OutsideDisk text tells = absurd tells
-  file_ending found ending.Memory text tells = absurd tells
+  -- a file above the limit is told of, whatever its bytes
+  pub limit_one : (n : ℕ) → body_limit < n → (answer : Answer) → TellsLine (refusal (codes "limit body")) ending.Wanting answer → IsIdentifyAnswer id_of kind answer
+  limit_one n more answer told =
+      let long : IsTooLong (replicate n 0) (refusal (codes "limit body")) = record { long = subst (λ (m : ℕ). body_limit < m) (sym (length-replicate n 0)) more; text_is = refl } in
+      ends_one (Some (replicate n 0)) answer (told_file (Some (replicate n 0)) (refusal (codes "limit body")) ending.Wanting answer (inl long) told)
 
   -- it is never refused for words, a job or an archive
   pub identify_low : (answer : Answer) → IsIdentifyAnswer id_of kind answer → status_of answer ≡ 2 → ⊥
