@@ -40,6 +40,7 @@ returns-in-Load-clause-named g c = record { disk = c.load.ensures.disk_cause; so
 
 pub returns-in-Ask-clause-named : goal.returns-in-Ask-clause-named
 returns-in-Ask-clause-named g c = ask_names _ _ _ _ _ _ c.ask.result c.ask.ensures.one_of c.ask.ensures.cause
+
 pub returns-in-Identify-clause-identify : goal.returns-in-Identify-clause-identify
 returns-in-Identify-clause-identify g c kind path is =
     let i = c.identify.ensures in

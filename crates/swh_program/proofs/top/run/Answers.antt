@@ -117,6 +117,7 @@ returns-clause-outside g c four = rose_outside _ _ _ _ _ _ _ _ _ _ _ _ _ c.obey-
 
 pub returns-clause-named : goal.returns-clause-named
 returns-clause-named g c = record { answer = c.obey-answer.result; is_one = c.obey-answer.ensures.named; told = c.tell.ensures }
+
 pub returns-clause-complete_identify : goal.returns-clause-complete_identify
 returns-clause-complete_identify g c kind path bytes is told there body no_source no_sink =
     let identifies = c.obey-answer.ensures.identify kind path is in
