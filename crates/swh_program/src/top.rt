@@ -14,7 +14,7 @@ ghost use Rattle.swh_program.specs.Words.{Wanted, IsCommand, IsOffered, ToInit, 
 ghost use Rattle.swh_program.specs.Init.{Inits};
 ghost use Rattle.swh_program.specs.Load.{Loads};
 ghost use Rattle.swh_program.specs.Ask.{Asks, reply_line};
-ghost use Rattle.swh_program.specs.Identify.{name_of, name_line, IsBody, Identifies};
+ghost use Rattle.swh_program.specs.Identify.{name_of, name_line, IsBody, HasNoBody, Identifies};
 ghost use Rattle.swh_program.specs.Opening.{IsArchive};
 ghost use Rattle.swh_program.specs.Jobs.{AreJobsAt};
 ghost use Rattle.swh_program.specs.Complete.{MeantJob, jobs_of, full_lines, all_made, AreMeant, HasOneBody, HasRoom, AreQuiet};
@@ -148,7 +148,7 @@ pub fn run<R, N: Namer, P: Depot, O: Origins, Y: Yard, K: Sink, C: Clock, D: Doo
     ensures other_archive { (wanted : Wanted) → IsCommand (map string_bytes words.now) wanted → IsDeskTold O.tells wanted → P.tells
         → IsExactly 3 (HasOtherArchive N.id_of (P.files world.old.depot) (O.file_at world.old.desk) wanted) result }
 
-    // 1: a reply is not 200, or a line is neither full nor stopped by a disk or by memory.
+    // 1: a reply is not 200, a line is neither full nor stopped by a disk or by memory, or no body stands at a path.
     ensures short_reply { (dir path : List ℕ) (h : List Event) (reply : ReplyText) → IsCommand (map string_bytes words.now) (ToAsk dir path) → P.tells
         → IsArchive N.id_of (archive_at (P.files world.old.depot) dir) h → IsReply (replay h) path reply → IsExactly 1 (reply.status ≢ 200) result }
     ensures short_line { (dir jobs : List ℕ) → IsCommand (map string_bytes words.now) (ToLoad dir jobs) → result < 2
@@ -157,6 +157,7 @@ pub fn run<R, N: Namer, P: Depot, O: Origins, Y: Yard, K: Sink, C: Clock, D: Doo
     ensures bad_input { (dir path : List ℕ) (jobs : List Job) (job : Job) (before : List Event) → IsCommand (map string_bytes words.now) (ToLoad dir path) → P.tells → O.tells
         → IsArchive N.id_of (archive_at (P.files world.old.depot) dir) before → AreJobsAt (O.file_at world.old.desk) path jobs → Contains jobs job
         → IsBadInput N.id_of (replay before).bodies (O.file_at world.old.origins job.path) → ComesTo 1 result }
+    ensures no_body { (kind : Kind) (path : List ℕ) → IsCommand (map string_bytes words.now) (ToIdentify kind path) → O.tells → IsExactly 1 (HasNoBody kind (O.file_at world.old.desk path)) result }
     ensures init_whole { (dir : List ℕ) → IsCommand (map string_bytes words.now) (ToInit dir) → result ≢ 1 }
 
     // 4: a part of the outside failed, and where a line names one, that one.

@@ -2,7 +2,7 @@ use Rattle.std.proofs.Common.{◌≢◌, inl, ap, sym, ◌∙◌, map, string_by
 use Rattle.swh_program.specs.Archives.{archive_at}
 use Rattle.swh_program.specs.Answers.{status_of, last_line_of}
 use Rattle.swh_program.specs.Causes.{IsExactly, IsDeskTold, HasNoJob, HasOtherArchive}
-use Rattle.swh_program.specs.Words.{ToInit, ToLoad, ToAsk, IsCommand}
+use Rattle.swh_program.specs.Words.{ToInit, ToLoad, ToAsk, ToIdentify, IsCommand}
 use Rattle.swh_program.proofs.Exacts.{init_job, ask_job, init_wants, init_archive, ask_archive, ask_reply}
 use Rattle.swh_program.proofs.LoadStatuses.{load_job, load_archive, load_line, load_input}
 use Rattle.swh_program.proofs.Statuses.{run_comes, uncut, run_exactly, rose_outside}
@@ -14,8 +14,7 @@ use Rattle.swh_program.specs.Complete.{full_line}
 use Rattle.swh_program.specs.Identify.{name_of, name_line}
 use Rattle.swh_program.proofs.Loadings.{load_done}
 use Rattle.swh_program.proofs.Ends.{told_status}
-use Rattle.swh_program.proofs.Ends.{told_status, init_done, done_status}
-use Rattle.swh_program.proofs.Naming.{named}
+use Rattle.swh_program.proofs.Naming.{identify_low, identify_archive, identify_exactly, named}
 use Rattle.swh_program.proofs.top.run.Goals as goal
 
 pub returns-clause-status : goal.returns-clause-status
@@ -68,6 +67,7 @@ returns-clause-no_job g c wanted =
           (load_job g.N.Namer.id_of g.O.Origins.tells (g.O.Origins.file_at c.args.world.now.origins) (g.O.Origins.path_faults c.args.world.now.origins) (g.O.Origins.path_faults c.obey-answer.new.origins) (g.O.Origins.file_at c.args.world.now.desk)
           g.C.Clock.tells (g.C.Clock.time c.args.world.now.clock) g.P.Depot.tells jobs (archive_at (g.P.Depot.files c.args.world.now.depot) dir) (archive_at (g.P.Depot.files c.obey-answer.new.depot) dir) told c.obey-answer.result (c.obey-answer.ensures.load dir jobs is).ends)
       | ToAsk dir path ↦ λ is told. run_exactly _ _ _ _ _ _ _ c.tell.ensures 2 ⊥ (omega arith) (record { only = ask_job c.obey-answer.result (c.obey-answer.ensures.ask dir path is).one_of; there = λ none. absurd none })
+      | ToIdentify kind path ↦ λ is told. run_exactly _ _ _ _ _ _ _ c.tell.ensures 2 ⊥ (omega arith) (record { only = identify_low g.N.Namer.id_of kind c.obey-answer.result (c.obey-answer.ensures.identify kind path is).one_of; there = λ none. absurd none })
     ]
 
 pub returns-clause-other_archive : goal.returns-clause-other_archive
@@ -82,6 +82,7 @@ returns-clause-other_archive g c wanted =
           g.C.Clock.tells (g.C.Clock.time c.args.world.now.clock) g.P.Depot.tells jobs (archive_at folders dir) (archive_at (g.P.Depot.files c.obey-answer.new.depot) dir) told disks c.obey-answer.result (c.obey-answer.ensures.load dir jobs is).ends)
       | ToAsk dir path ↦ λ is told disks. run_exactly _ _ _ _ _ _ _ c.tell.ensures 3 (HasOtherArchive g.N.Namer.id_of folders desk_at (ToAsk dir path)) (omega arith)
           (ask_archive g.N.Namer.id_of path (archive_at folders dir) (archive_at (g.P.Depot.files c.obey-answer.new.depot) dir) c.obey-answer.result (c.obey-answer.ensures.ask dir path is).one_of ((c.obey-answer.ensures.ask dir path is).ends disks))
+      | ToIdentify kind path ↦ λ is told disks. run_exactly _ _ _ _ _ _ _ c.tell.ensures 3 ⊥ (omega arith) (record { only = identify_archive g.N.Namer.id_of kind c.obey-answer.result (c.obey-answer.ensures.identify kind path is).one_of; there = λ none. absurd none })
     ]
 
 pub returns-clause-short_reply : goal.returns-clause-short_reply
@@ -102,6 +103,10 @@ returns-clause-bad_input g c dir jobs url path before is disks inputs archive jo
     g.C.Clock.tells (g.C.Clock.time c.args.world.now.clock) g.P.Depot.tells jobs (archive_at (g.P.Depot.files c.args.world.now.depot) dir) (archive_at (g.P.Depot.files c.obey-answer.new.depot) dir) inputs disks before archive url path job bad
     c.obey-answer.result (c.obey-answer.ensures.load dir jobs is).ends)
 
+pub returns-clause-no_body : goal.returns-clause-no_body
+returns-clause-no_body g c kind path is told =
+    run_exactly _ _ _ _ _ _ _ c.tell.ensures 1 _ (omega arith) (identify_exactly g.N.Namer.id_of kind (g.O.Origins.file_at c.args.world.now.desk path) c.obey-answer.result ((c.obey-answer.ensures.identify kind path is).ends told))
+
 pub returns-clause-init_whole : goal.returns-clause-init_whole
 returns-clause-init_whole g c dir is one =
     let printed = uncut _ _ _ _ _ _ _ c.tell.ensures (λ four. omega (arith, four, one)) in
@@ -112,6 +117,7 @@ returns-clause-outside g c four = rose_outside _ _ _ _ _ _ _ _ _ _ _ _ _ c.obey-
 
 pub returns-clause-named : goal.returns-clause-named
 returns-clause-named g c = record { answer = c.obey-answer.result; is_one = c.obey-answer.ensures.named; told = c.tell.ensures }
+
 pub returns-clause-complete_identify : goal.returns-clause-complete_identify
 returns-clause-complete_identify g c kind path bytes is told there body no_source no_sink =
     let identifies = c.obey-answer.ensures.identify kind path is in
