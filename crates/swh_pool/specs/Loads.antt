@@ -2,14 +2,14 @@
 use Rattle.std.specs.Prelude.{◌≡◌, ℕ, ◌≤◌, Some, None, Result, Ok, Err, List, [], ◌∷◌, map}
 use Rattle.swh_base.specs.declared.kind.Kind.{Kind}
 use Rattle.swh_base.specs.declared.visit.Status.TheVariants.{Created}
+use Rattle.swh_outside.specs.Disk.{File}
 use Rattle.swh_keeper.specs.Kept.{Kept}
 use Rattle.swh_loader.specs.declared.end.Loaded.{Loaded}
 use Rattle.swh_loader.specs.declared.fault.LoadFault.{LoadFault}
 use Rattle.swh_loader.specs.Ending.{IsJobEnd, statuses_of}
-use Rattle.swh_loader.specs.Leaving.{AreAllowed, AddsVisit, Stops, IsSameInput, next_visit}
+use Rattle.swh_loader.specs.Leaving.{AreAllowed, AddsVisit, MakesVisitCalls, Stops, IsHeldBack, IsSameInput, next_visit}
 use Rattle.swh_loader.specs.Sending.{bodies_of}
 use Rattle.swh_loader.specs.Visiting.{IsVisit, GoesOn}
-use Rattle.swh_pool.specs.Stops.{IsStoppedAtOnce}
 use Rattle.swh_pool.specs.declared.dated.DatedJob.{DatedJob}
 
 -- one job: as it was, as it is afterwards, and how its load ended
@@ -21,7 +21,7 @@ pub record OneLoad (S : Type 0) : Type 0 where
 abbrev pub one_load : {S : Type 0} → DatedJob S → DatedJob S → Result Loaded LoadFault → OneLoad S
 one_load job after outcome = record { job = job; after = after; outcome = outcome }
 
-module _ {S D : Type 0} (id : Kind → List ℕ → List ℕ) (tells : Type 0) (left : S → List ℕ) (source_faults : S → ℕ) (path : S → List ℕ) (disk_faults : D → ℕ) (by : ℕ) where
+module _ {S D : Type 0} (id : Kind → List ℕ → List ℕ) (tells : Type 0) (left : S → List ℕ) (source_faults : S → ℕ) (path : S → List ℕ) (disks_tell : Type 0) (file : D → File) (disk_faults : D → ℕ) (by : ℕ) where
   -- The load ended its visit, the next of its origin.
   pub record IsEnded (l : OneLoad S) (old new : Kept D) (loaded : Loaded) : Type 0 where
     pub number : loaded.visit ≡ next_visit old.history l.job.job.origin
@@ -39,7 +39,8 @@ module _ {S D : Type 0} (id : Kind → List ℕ → List ℕ) (tells : Type 0) (
   pub record IsOneLoad (l : OneLoad S) (old new : Kept D) : Type 0 where
     pub adds : AddsVisit (AreAllowed id tells left l.job.job.stream) by l.job.job.origin l.job.date old.history new.history
     pub ends : IsOutcome l old new l.outcome
-    pub wounded : (n : ℕ) → old.wounded ≡ Some n → (new ≡ old) × IsStoppedAtOnce l.outcome
+    pub wounded : (n : ℕ) → old.wounded ≡ Some n → IsHeldBack old new l.outcome
+    pub calls : disks_tell → MakesVisitCalls id file (AreAllowed id tells left l.job.job.stream) by l.job.job.origin l.job.date old new
     pub store_later : disk_faults old.store ≤ disk_faults new.store
     pub ledger_later : disk_faults old.ledger ≤ disk_faults new.ledger
     pub same_origin : l.after.job.origin ≡ l.job.job.origin

@@ -21,7 +21,7 @@ fn load_dated<N: Namer, D: Disk, S: Source, G: Gate>(
     worker: u32,
     number: u32,
 ) -> Result<Loaded, LoadFault>
-    ensures { IsOneLoad N.id_of S.tells S.left S.faults S.path D.faults by (one_load dated.old dated.new result) keeper.old keeper.new }
+    ensures { IsOneLoad N.id_of S.tells S.left S.faults S.path D.tells D.file D.faults by (one_load dated.old dated.new result) keeper.old keeper.new }
 {
     load_one(
         alloc,
@@ -48,7 +48,7 @@ pub fn load_all<N: Namer, D: Disk, S: Source, G: Gate>(
     worker: u32,
 ) -> Result<Vec<Result<Loaded, LoadFault>>, Memory>
     // Each load begins where the one before it ended.
-    ensures loads { IfOk result (λ outcomes. AreLoaded N.id_of S.tells S.left S.faults S.path D.faults by jobs.old jobs.new keeper.old keeper.new outcomes.items) }
+    ensures loads { IfOk result (λ outcomes. AreLoaded N.id_of S.tells S.left S.faults S.path D.tells D.file D.faults by jobs.old jobs.new keeper.old keeper.new outcomes.items) }
     // Once a disk has failed, each job is stopped before its visit.
     ensures stops { IfOk result (λ outcomes. AreStops (is_some keeper.old.wounded) outcomes.items) }
     // A disk has failed afterwards exactly where one had before or a load says so.

@@ -40,7 +40,7 @@ jobs-preserved g c =
       before = c.jobs.invariant.before ∙ ap (λ rest. map (λ x. x.job) loads ++ rest) turn.1 ∙ seam_further (λ x. x.job) loads load turn.0;
       now = turn.2 ∙ seam_further (λ x. x.after) loads load turn.0;
       outcomes = c.push_reserved.ensures.items ∙ ap (λ l. l ++ load.outcome ∷ []) c.jobs.invariant.outcomes ∙ sym (map-append (λ x. x.outcome) loads (load ∷ []));
-      each = loads_further g.N.Namer.id_of g.S.Source.tells g.S.Source.left g.S.Source.faults g.S.Source.path g.D.Disk.faults c.args.by loads load c.args.keeper.now c.jobs.keeper c.load_dated-outcome.new.keeper c.jobs.invariant.each c.load_dated-outcome.ensures;
+      each = loads_further g.N.Namer.id_of g.S.Source.tells g.S.Source.left g.S.Source.faults g.S.Source.path g.D.Disk.tells g.D.Disk.file g.D.Disk.faults c.args.by loads load c.args.keeper.now c.jobs.keeper c.load_dated-outcome.new.keeper c.jobs.invariant.each c.load_dated-outcome.ensures;
       index = length-append loads (load ∷ []) ∙ ap (λ n. n + 1) long;
       count = c.push_reserved.ensures.len ∙ ap (λ n. n + 1) c.jobs.invariant.count;
       room = c.push_reserved.ensures.capacity ∙ c.jobs.invariant.room;
@@ -61,13 +61,13 @@ returns-clause-loads g c =
 
 pub returns-clause-stops : goal.returns-clause-stops
 returns-clause-stops g c =
-    let stops = stops_of g.N.Namer.id_of g.S.Source.tells g.S.Source.left g.S.Source.faults g.S.Source.path g.D.Disk.faults c.args.by c.jobs.invariant.loads c.args.keeper.now c.jobs.keeper c.jobs.invariant.each in
+    let stops = stops_of g.N.Namer.id_of g.S.Source.tells g.S.Source.left g.S.Source.faults g.S.Source.path g.D.Disk.tells g.D.Disk.file g.D.Disk.faults c.args.by c.jobs.invariant.loads c.args.keeper.now c.jobs.keeper c.jobs.invariant.each in
     subst (AreStops _) (sym c.jobs.invariant.outcomes) stops
 
 pub returns-clause-unwounded : goal.returns-clause-unwounded
 returns-clause-unwounded g c = (
   λ whole.
-      let since = whole_since g.N.Namer.id_of g.S.Source.tells g.S.Source.left g.S.Source.faults g.S.Source.path g.D.Disk.faults c.args.by c.jobs.invariant.loads c.args.keeper.now c.jobs.keeper c.jobs.invariant.each whole in
+      let since = whole_since g.N.Namer.id_of g.S.Source.tells g.S.Source.left g.S.Source.faults g.S.Source.path g.D.Disk.tells g.D.Disk.file g.D.Disk.faults c.args.by c.jobs.invariant.loads c.args.keeper.now c.jobs.keeper c.jobs.invariant.each whole in
       (since.0, subst HaveNoDiskFault (sym c.jobs.invariant.outcomes) since.1),
-  λ h. whole_still g.N.Namer.id_of g.S.Source.tells g.S.Source.left g.S.Source.faults g.S.Source.path g.D.Disk.faults c.args.by c.jobs.invariant.loads c.args.keeper.now c.jobs.keeper c.jobs.invariant.each h.0 (subst HaveNoDiskFault c.jobs.invariant.outcomes h.1),
+  λ h. whole_still g.N.Namer.id_of g.S.Source.tells g.S.Source.left g.S.Source.faults g.S.Source.path g.D.Disk.tells g.D.Disk.file g.D.Disk.faults c.args.by c.jobs.invariant.loads c.args.keeper.now c.jobs.keeper c.jobs.invariant.each h.0 (subst HaveNoDiskFault c.jobs.invariant.outcomes h.1),
 )

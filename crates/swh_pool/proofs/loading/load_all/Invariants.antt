@@ -10,7 +10,7 @@ invariant-jobs g l = record {
   before : l.fn.jobs ≡ map (λ x. x.job) loads ++ rest;
   now : l.jobs ≡ map (λ x. x.after) loads ++ rest;
   outcomes : l.outcomes.items ≡ map (λ x. x.outcome) loads;
-  each : AreLoads g.N.Namer.id_of g.S.Source.tells g.S.Source.left g.S.Source.faults g.S.Source.path g.D.Disk.faults l.by loads l.fn.keeper l.keeper;
+  each : AreLoads g.N.Namer.id_of g.S.Source.tells g.S.Source.left g.S.Source.faults g.S.Source.path g.D.Disk.tells g.D.Disk.file g.D.Disk.faults l.by loads l.fn.keeper l.keeper;
   index : length loads ≡ l.dated-index;
   count : vec_len l.outcomes ≡ l.dated-index;
   room : vec_capacity l.outcomes ≡ length l.fn.jobs;
