@@ -1,4 +1,5 @@
 pub mod Commands
+pub mod Elements
 pub mod Ends
 pub mod FewWords
 pub mod Told
@@ -14,8 +15,14 @@ pub mod JobReads
 pub mod Archived
 pub mod Replies
 pub mod Completes
+pub mod LoadEndings
 pub mod Fulls
+pub mod OtherOrigins
 pub mod Loadings
+pub mod JobRefusals
+pub mod LoadAnswers
+pub mod LoadsDone
+pub mod BadInputs
 pub mod Statuses
 pub mod Exacts
 pub mod LoadStatuses

@@ -1,15 +1,17 @@
 -- The status of a run, from its answer.
 use Rattle.std.proofs.Common.{◌≡◌, ◌≢◌, ◌⊎◌, inl, inr, ⊎_elim, ℕ, ◌<◌, List, refl, sym, ◌∙◌, subst, arith}
+use Rattle.swh_base.specs.declared.kind.Kind.{Kind}
 use Rattle.swh_outside.specs.Faults.{Rose}
 use Rattle.swh_program.specs.Answers.{status_of, IsPrinted, IsCutOff, IsToldOf}
 use Rattle.swh_program.specs.Ask.{IsAskAnswer, IsReplyEnding}
 use Rattle.swh_program.specs.Causes.{ComesTo, IsExactly, NamesFailed}
+use Rattle.swh_program.specs.Identify.{IsIdentifyAnswer}
 use Rattle.swh_program.specs.Init.{IsInitAnswer}
 use Rattle.swh_program.specs.Load.{TellsDisk}
 use Rattle.swh_program.specs.declared.answer.Ending.{Ending}
 use Rattle.swh_program.specs.declared.answer.Ending.TheVariants as ending
 use Rattle.swh_program.specs.declared.answer.Answer.{Answer}
-use Rattle.swh_program.specs.declared.answer.Answer.TheVariants.{Made, Told, Words, NoJobFile, JobForm, AlreadyMade, NotMade, Damaged, OutsideDisk, OutsideSource, OutsideClock, Memory}
+use Rattle.swh_program.specs.declared.answer.Answer.TheVariants.{Made, Told, Words, NoJobFile, BadJob, AlreadyMade, NotMade, Damaged, OutsideDisk, OutsideSource, OutsideClock, Memory}
 
 -- what an answer comes to, the run does
 module _ (answer : Answer) (tells : Type 0) (before now : List ℕ) (faults_before faults_now status : ℕ) (told : IsToldOf answer tells before now faults_before faults_now status) where
@@ -36,7 +38,7 @@ named_part (Told text ending.OutsideDisk) is = inl refl
 named_part (Told text ending.Memory) is = absurd (omega (arith, is))
 named_part Words is = absurd (omega (arith, is))
 named_part NoJobFile is = absurd (omega (arith, is))
-named_part JobForm is = absurd (omega (arith, is))
+named_part (BadJob text) is = absurd (omega (arith, is))
 named_part AlreadyMade is = absurd (omega (arith, is))
 named_part NotMade is = absurd (omega (arith, is))
 named_part Damaged is = absurd (omega (arith, is))
@@ -93,6 +95,21 @@ module _ (disk_faults disk_faults_now desk_faults desk_faults_now clock_faults c
     source = λ e. absurd (subst IsAskAnswer e is);
     clock = λ e. absurd (subst IsAskAnswer e is);
   }
+
+  module _ (id_of : Kind → List ℕ → List ℕ) (kind : Kind) where
+    identify_disk : (answer : Answer) → IsIdentifyAnswer id_of kind answer → TellsDisk answer → answer ≡ OutsideDisk
+    identify_disk (Told text ending.Done) is tells = let e : ending.Done ≡ ending.OutsideDisk = tells in cc
+    identify_disk (Told text ending.Wanting) is tells = let e : ending.Wanting ≡ ending.OutsideDisk = tells in cc
+    identify_disk (Told text ending.OutsideDisk) is tells = absurd is.1
+    identify_disk (Told text ending.Memory) is tells = absurd is.1
+    identify_disk _ is tells = tells
+
+    pub identify_names : (answer : Answer) → IsIdentifyAnswer id_of kind answer → (answer ≡ OutsideSource → Rose desk_faults desk_faults_now) → Named answer
+    identify_names answer is cause = record {
+      disk = λ tells. absurd (subst (IsIdentifyAnswer id_of kind) (identify_disk answer is tells) is);
+      source = cause;
+      clock = λ e. absurd (subst (IsIdentifyAnswer id_of kind) e is);
+    }
 
   pub words_name : Named Words
   words_name = record {

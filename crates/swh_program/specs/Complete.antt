@@ -65,10 +65,11 @@ module _ (id_of : Kind → List ℕ → List ℕ) where
   pub record HasOneBody (bodies : Bodies) (objects : List Made) : Type 0 where
     pub one : (name : Name) (a b : List ℕ) → HasBody bodies objects name a → HasBody bodies objects name b → a ≡ b
 
-  -- The files, as they stand afterwards, have room for each event that may come next in a load of what an input makes.
-  pub record HasRoom (meant : List MeantJob) (files : Files) : Type 0 where
-    pub room : (m : MeantJob) (date : ℕ) (before after : List Event) (event : Event) → Contains meant m → IsArchive id_of files after
-        → AddsVisit (AreMade m.making.objects) loader m.job.url date before (after ++ event ∷ []) → May id_of (replay after) event
+  -- There is room for each event that may come next in a load, begun behind the history at entry, of what an input
+  -- makes: behind the history that the files stand for afterwards, and behind each front of it.
+  pub record HasRoom (before : List Event) (meant : List MeantJob) (files : Files) : Type 0 where
+    pub room : (m : MeantJob) (date : ℕ) (earlier after later : List Event) (event : Event) → Contains meant m → IsArchive id_of files (after ++ later)
+        → AddsVisit (AreMade m.making.objects) loader m.job.url date (before ++ earlier) (after ++ event ∷ []) → May id_of (replay after) event
         → (which : Which) (number : ℕ) → FilePasses after event.what which number → ⊥
 
 -- None of the jobs' paths has failed.

@@ -1,10 +1,11 @@
 // The top call.
-ghost use Rattle.std.specs.Prelude.{◌≡◌, ◌≢◌, ◌⊎◌, ◌≤◌, ◌<◌, List, Some, ℕ, map, string_bytes};
+ghost use Rattle.std.specs.Prelude.{◌≡◌, ◌≢◌, ◌⊎◌, ◌≤◌, ◌<◌, List, Some, ℕ, Contains, map, string_bytes};
 ghost use Rattle.swh_outside.specs.Faults.{Rose};
 ghost use Rattle.swh_base.specs.declared.kind.Kind.{Kind};
 ghost use Rattle.swh_model.specs.declared.event.Event.{Event};
 ghost use Rattle.swh_model.specs.Answer.{ReplyText, IsReply};
-ghost use Rattle.swh_model.specs.Meaning.{Making, IsMeaning};
+ghost use Rattle.swh_jobs.specs.Job.{Job};
+ghost use Rattle.swh_jobs.specs.declared.fault.JobWhy.{JobWhy};
 ghost use Rattle.swh_model.specs.Step.{replay};
 ghost use Rattle.swh_segment.specs.Making.{IsNotMade};
 ghost use Rattle.swh_program.specs.Archives.{archive_at};
@@ -14,12 +15,12 @@ ghost use Rattle.swh_program.specs.Words.{Wanted, IsCommand, IsOffered, ToInit, 
 ghost use Rattle.swh_program.specs.Init.{Inits};
 ghost use Rattle.swh_program.specs.Load.{Loads};
 ghost use Rattle.swh_program.specs.Ask.{Asks, reply_line};
-ghost use Rattle.swh_program.specs.Identify.{name_of, name_line, IsBody, Identifies};
+ghost use Rattle.swh_program.specs.Identify.{name_of, name_line, IsBody, HasNoBody, Identifies};
 ghost use Rattle.swh_program.specs.Opening.{IsArchive};
-ghost use Rattle.swh_program.specs.Jobs.{AreJobsAt};
+ghost use Rattle.swh_program.specs.Jobs.{AreJobsAt, IsBadAt, bad_job_line};
 ghost use Rattle.swh_program.specs.Complete.{MeantJob, jobs_of, full_lines, all_made, AreMeant, HasOneBody, HasRoom, AreQuiet};
 ghost use Rattle.swh_program.specs.Causes.{ComesTo, IsExactly, IsDeskTold, HasNoJob, HasOtherArchive, IsByLines, IsBadInput, NamesFailed};
-ghost use Rattle.swh_program.specs.Run.{IsStatus, IsNoCommand, Ends, IsQuiet, IsPrintedWith, reply_status};
+ghost use Rattle.swh_program.specs.Run.{IsStatus, IsNoCommand, Ends, IsQuiet, IsPrintedWith, IsPrintedUnlessFailed, reply_status};
 ghost use Rattle.swh_program.specs.declared.answer.Answer.TheVariants.{Made, Words};
 
 use crate::{Answer, Command, Outside, ask, identify, init, load, parse_words, tell};
@@ -140,15 +141,17 @@ pub fn run<R, N: Namer, P: Depot, O: Origins, Y: Yard, K: Sink, C: Clock, D: Doo
         K.tells (K.taken world.old.sink) (K.taken world.new.sink) (K.faults world.old.sink) (K.faults world.new.sink) result }
     ensures identify_depot { (kind : Kind) (path : List ℕ) → IsCommand (map string_bytes words.now) (ToIdentify kind path) → world.new.depot ≡ world.old.depot }
 
-    // 2: the words are no command, or the job file is not there or has no job.
+    // 2: the words are no command, or the job file is not there or has a line that breaks, and then that line is named.
     ensures no_command { IsNoCommand (map string_bytes words.now) → ComesTo 2 result }
     ensures no_job { (wanted : Wanted) → IsCommand (map string_bytes words.now) wanted → IsDeskTold O.tells wanted → IsExactly 2 (HasNoJob (O.file_at world.old.desk) wanted) result }
+    ensures bad_line { (dir path : List ℕ) (line : ℕ) (why : JobWhy) → IsCommand (map string_bytes words.now) (ToLoad dir path) → O.tells
+        → IsBadAt (O.file_at world.old.desk) path line why → IsPrintedUnlessFailed (bad_job_line line why) 2 K.tells (K.taken world.old.sink) (K.taken world.new.sink) result }
 
     // 3: the archive is not as the command needs it.
     ensures other_archive { (wanted : Wanted) → IsCommand (map string_bytes words.now) wanted → IsDeskTold O.tells wanted → P.tells
         → IsExactly 3 (HasOtherArchive N.id_of (P.files world.old.depot) (O.file_at world.old.desk) wanted) result }
 
-    // 1: a reply is not 200, or a line is neither full nor stopped by a disk or by memory.
+    // 1: a reply is not 200, a line is neither full nor stopped by a disk or by memory, or no body stands at a path.
     ensures short_reply { (dir path : List ℕ) (h : List Event) (reply : ReplyText) → IsCommand (map string_bytes words.now) (ToAsk dir path) → P.tells
         → IsArchive N.id_of (archive_at (P.files world.old.depot) dir) h → IsReply (replay h) path reply → IsExactly 1 (reply.status ≢ 200) result }
     ensures short_line { (dir jobs : List ℕ) → IsCommand (map string_bytes words.now) (ToLoad dir jobs) → result < 2
@@ -157,6 +160,7 @@ pub fn run<R, N: Namer, P: Depot, O: Origins, Y: Yard, K: Sink, C: Clock, D: Doo
     ensures bad_input { (dir path : List ℕ) (jobs : List Job) (job : Job) (before : List Event) → IsCommand (map string_bytes words.now) (ToLoad dir path) → P.tells → O.tells
         → IsArchive N.id_of (archive_at (P.files world.old.depot) dir) before → AreJobsAt (O.file_at world.old.desk) path jobs → Contains jobs job
         → IsBadInput N.id_of (replay before).bodies (O.file_at world.old.origins job.path) → ComesTo 1 result }
+    ensures no_body { (kind : Kind) (path : List ℕ) → IsCommand (map string_bytes words.now) (ToIdentify kind path) → O.tells → IsExactly 1 (HasNoBody kind (O.file_at world.old.desk path)) result }
     ensures init_whole { (dir : List ℕ) → IsCommand (map string_bytes words.now) (ToInit dir) → result ≢ 1 }
 
     // 4: a part of the outside failed, and where a line names one, that one.
@@ -182,11 +186,18 @@ pub fn run<R, N: Namer, P: Depot, O: Origins, Y: Yard, K: Sink, C: Clock, D: Doo
     ensures complete_load { (dir path : List ℕ) (before : List Event) (meant : List MeantJob) → IsCommand (map string_bytes words.now) (ToLoad dir path) → P.tells → O.tells
         → IsArchive N.id_of (archive_at (P.files world.old.depot) dir) before → AreJobsAt (O.file_at world.old.desk) path (jobs_of meant)
         → AreMeant N.id_of (O.file_at world.old.origins) meant
-        → HasOneBody N.id_of (replay before).bodies (all_made meant) → HasRoom N.id_of meant (archive_at (P.files world.new.depot) dir)
+        → HasOneBody N.id_of (replay before).bodies (all_made meant) → HasRoom N.id_of before meant (archive_at (P.files world.new.depot) dir)
         → IsQuiet (P.faults world.old.depot) (P.faults world.new.depot) → IsQuiet (O.faults world.old.desk) (O.faults world.new.desk)
         → AreQuiet (O.path_faults world.old.origins) (O.path_faults world.new.origins) meant
         → IsQuiet (C.faults world.old.clock) (C.faults world.new.clock) → IsQuiet (K.faults world.old.sink) (K.faults world.new.sink)
         → IsPrintedWith (full_lines before meant) 0 K.tells (K.taken world.old.sink) (K.taken world.new.sink) result }
+
+    // The name of a file that is a body of the kind is printed, unless memory runs out, where no part of the outside
+    // failed.
+    ensures complete_identify { (kind : Kind) (path bytes : List ℕ) → IsCommand (map string_bytes words.now) (ToIdentify kind path) → O.tells
+        → O.file_at world.old.desk path ≡ Some bytes → IsBody kind bytes
+        → IsQuiet (O.faults world.old.desk) (O.faults world.new.desk) → IsQuiet (K.faults world.old.sink) (K.faults world.new.sink)
+        → IsPrintedWith (name_line (name_of N.id_of kind bytes)) 0 K.tells (K.taken world.old.sink) (K.taken world.new.sink) result }
 
     // No count of faults falls.
     ensures depot_later { P.faults world.old.depot ≤ P.faults world.new.depot }

@@ -5,7 +5,7 @@ use Rattle.swh_program.specs.Identify.{Identifies}
 use Rattle.swh_program.specs.Load.{Loads}
 use Rattle.swh_program.proofs.Commands.{one_folder, at_load, at_ask, at_identify}
 use Rattle.swh_program.proofs.Ends.{safe, inits_at}
-use Rattle.swh_program.proofs.Statuses.{init_names, ask_names}
+use Rattle.swh_program.proofs.Statuses.{init_names, ask_names, identify_names}
 use Rattle.swh_program.proofs.top.carry_out.Goals as goal
 
 pub returns-in-Init-clause-init : goal.returns-in-Init-clause-init
@@ -40,6 +40,7 @@ returns-in-Load-clause-named g c = record { disk = c.load.ensures.disk_cause; so
 
 pub returns-in-Ask-clause-named : goal.returns-in-Ask-clause-named
 returns-in-Ask-clause-named g c = ask_names _ _ _ _ _ _ c.ask.result c.ask.ensures.one_of c.ask.ensures.cause
+
 pub returns-in-Identify-clause-identify : goal.returns-in-Identify-clause-identify
 returns-in-Identify-clause-identify g c kind path is =
     let i = c.identify.ensures in
@@ -47,3 +48,6 @@ returns-in-Identify-clause-identify g c kind path is =
     (λ k p. Identifies g.N.Namer.id_of k g.O.Origins.tells (g.O.Origins.file_at c.args.desk.now) p (g.O.Origins.faults c.args.desk.now) (g.O.Origins.faults c.identify.new.desk) c.identify.result)
     c.in-Identify.kind kind c.in-Identify.path.now path (ap wanted_by (sym c.in-Identify.is) ∙ is)
     (record { one_of = i.one_of; ends = i.ends; cause = i.cause })
+
+pub returns-in-Identify-clause-named : goal.returns-in-Identify-clause-named
+returns-in-Identify-clause-named g c = identify_names _ _ _ _ _ _ g.N.Namer.id_of c.in-Identify.kind c.identify.result c.identify.ensures.one_of c.identify.ensures.cause

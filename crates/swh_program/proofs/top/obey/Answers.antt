@@ -30,6 +30,7 @@ returns-in-None-clause-ask g c dir path is = absurd (c.in-None.ensures.none refl
 
 pub returns-in-None-clause-named : goal.returns-in-None-clause-named
 returns-in-None-clause-named g c = words_name _ _ _ _ _ _
+
 pub returns-in-None-clause-identify : goal.returns-in-None-clause-identify
 returns-in-None-clause-identify g c kind path is = absurd (c.in-None.ensures.none refl (ToIdentify kind path) is)
 
