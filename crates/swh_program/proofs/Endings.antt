@@ -26,6 +26,12 @@ use Rattle.swh_program.specs.declared.answer.Ending.TheVariants as ending
 use Rattle.swh_program.specs.declared.answer.Answer.{Answer}
 use Rattle.swh_program.proofs.Inputs.{url_and_outcome}
 
+pub worse-done : (a : Ending) → worse a ending.Done ≡ a
+worse-done ending.Done = refl
+worse-done ending.Wanting = refl
+worse-done ending.OutsideDisk = refl
+worse-done ending.Memory = refl
+
 -- a disk is told only where one of the two is a disk's
 pub worse_disk : (a b : Ending) → worse a b ≡ ending.OutsideDisk → (a ≡ ending.OutsideDisk) ⊎ (b ≡ ending.OutsideDisk)
 worse_disk ending.Done b is = inr is

@@ -8,6 +8,8 @@ mod identify;
 #[cfg(test)]
 mod init;
 #[cfg(test)]
+mod jobs;
+#[cfg(test)]
 mod load;
 #[cfg(test)]
 mod world;

@@ -9,8 +9,8 @@ fn job() -> &'static [u8] {
     b"fast\thttps://e.org/p\te\n".as_slice()
 }
 
-// A stream of one file and one commit.
-fn stream() -> &'static [u8] {
+/// A stream of one file and one commit.
+pub fn stream() -> &'static [u8] {
     b"blob\nmark :1\ndata 10\nversion 1\n\ncommit refs/heads/main\nmark :2\ncommitter A <a@e.org> 1000000000 +0000\ndata 6\nfirst\n\nM 100644 :1 test.txt\n\n".as_slice()
 }
 
@@ -26,8 +26,8 @@ fn store_of_one_load() -> &'static [u8] {
 
 const VISITS: &str = "/api/1/origin/https://e.org/p/visits/";
 
-// A world whose job file and stream are these, and where an archive is made.
-fn world_of(alloc: Global, jobs: &[u8], input: &[u8]) -> Result<World, AllocError> {
+/// A world whose job file and stream are these, and where an archive is made.
+pub fn world_of(alloc: Global, jobs: &[u8], input: &[u8]) -> Result<World, AllocError> {
     let mut world = new_world(alloc, &[])?;
     world.desk = give_file(alloc, "J", jobs, &[])?;
     world.origins = give_file(alloc, "e", input, &[])?;
@@ -68,8 +68,8 @@ fn a_stream_is_loaded_twice(rt: HostRuntime) -> Result<(), Fail> {
     Ok(())
 }
 
-// Says whether a run of `load` ends with this status, and prints this behind `made`.
-fn loads(alloc: Global, mut world: World, status: u8, printed: &[u8]) -> Result<bool, AllocError> {
+/// Says whether a run of `load` ends with this status, and prints this behind `made`.
+pub fn loads(alloc: Global, mut world: World, status: u8, printed: &[u8]) -> Result<bool, AllocError> {
     let ended = run_words(alloc, &["load", "A", "J"], &mut world)?;
     let told = world.sink.bytes().strip_prefix(b"made\n") == Some(printed);
     Ok(ended == status && told)
