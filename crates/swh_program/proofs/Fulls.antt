@@ -1,5 +1,5 @@
 -- What a load of an input that means something adds, and that no name of it collides.
-use Rattle.std.proofs.Common.{◌≡◌, inr, ℕ, Some, List, [], ◌∷◌, Contains, sym, ap, ◌∙◌, subst}
+use Rattle.std.proofs.Common.{◌≡◌, inr, ℕ, Option, Some, List, [], ◌∷◌, Contains, sym, ap, ◌∙◌, subst}
 use Rattle.std.specs.List.{AllByRecursion}
 use Rattle.std.proofs.lemmas.List.Elements.{Contains-append_right}
 use Rattle.swh_base.specs.declared.kind.Kind.{Kind}
@@ -26,28 +26,28 @@ use Rattle.swh_program.proofs.Elements.{contains_first, map_contains}
 abbrev pub Had : (Kind → List ℕ → List ℕ) → Bodies → List Made → Bodies → Type 0
 Had id_of bodies objects now = (n : Name) (body : List ℕ) → body_of now n ≡ Some body → HasBody id_of bodies objects n body
 
--- a text, what it means, and all that is made, which has this too
-module _ (id_of : Kind → List ℕ → List ℕ) (text : List ℕ) (making : Making) (means : IsMeaning id_of text making) where
+-- a head or none, a text, and what they mean
+module _ (id_of : Kind → List ℕ → List ℕ) (head : Option (List ℕ)) (text : List ℕ) (making : Making) (means : IsMeaning id_of head text making) where
   -- what a text makes are the objects of its meaning
-  made_among : (es : List Entry) (snapshot : List ℕ) → MeansObjects id_of text es snapshot → (e : Entry) → Contains es e → Contains making.objects (made_of e)
+  made_among : (es : List Entry) (snapshot : List ℕ) → MeansObjects id_of head text es snapshot → (e : Entry) → Contains es e → Contains making.objects (made_of e)
   made_among es snapshot m e among =
-      let same = one_meaning_lem id_of text (record { objects = made es; snapshot = snapshot }) making m.meaning means in
+      let same = one_meaning_lem id_of head text (record { objects = made es; snapshot = snapshot }) making m.meaning means in
       subst (λ (k : Making). Contains k.objects (made_of e)) same (map_contains made_of es e among)
 
   -- a batch of what the text makes
-  pub are_made : (entries : List Entry) → AllByRecursion (IsMadeBy id_of text) entries → AreMade making.objects entries
+  pub are_made : (entries : List Entry) → AllByRecursion (IsMadeBy id_of head text) entries → AreMade making.objects entries
   are_made [] all = tt
   are_made (e ∷ entries) all = (made_among all.0.objects all.0.snapshot all.0.means e all.0.among, are_made entries all.1)
 
   -- the snapshot of a full job
-  pub one_snapshot : (es : List Entry) (snapshot : List ℕ) → MeansObjects id_of text es snapshot → snapshot ≡ making.snapshot
-  one_snapshot es snapshot m = ap (λ (k : Making). k.snapshot) (one_meaning_lem id_of text (record { objects = made es; snapshot = snapshot }) making m.meaning means)
+  pub one_snapshot : (es : List Entry) (snapshot : List ℕ) → MeansObjects id_of head text es snapshot → snapshot ≡ making.snapshot
+  one_snapshot es snapshot m = ap (λ (k : Making). k.snapshot) (one_meaning_lem id_of head text (record { objects = made es; snapshot = snapshot }) making m.meaning means)
 
   abbrev AllMade : List Entry → Type 0
-  AllMade entries = AllByRecursion (IsMadeBy id_of text) entries
+  AllMade entries = AllByRecursion (IsMadeBy id_of head text) entries
 
   module _ (objects : List Made) (within : (o : Made) → Contains making.objects o → Contains objects o) where
-    makes_body : (es : List Entry) (snapshot : List ℕ) → MeansObjects id_of text es snapshot → (e : Entry) → Contains es e → MakesBody id_of objects e.name e.body
+    makes_body : (es : List Entry) (snapshot : List ℕ) → MeansObjects id_of head text es snapshot → (e : Entry) → Contains es e → MakesBody id_of objects e.name e.body
     makes_body es snapshot m e among = (within (made_of e) (made_among es snapshot m e among), (at_element (IsGoodAndNamed id_of) es e m.good among).named)
 
     -- what is held stays held, or was made
@@ -78,7 +78,7 @@ module _ (id_of : Kind → List ℕ → List ℕ) (text : List ℕ) (making : Ma
           subst (λ (a : Archive). Had id_of bodies objects a.bodies) (sym grown) (had_visit by origin date (next_visit h origin) (replay h) adds.more adds.are had)
 
       -- so no name collides where each has one body
-      pub none_collides : (now : Bodies) (name : Name) → Had id_of bodies objects now → HasOneBody id_of bodies objects → Collided id_of text now name → ⊥
+      pub none_collides : (now : Bodies) (name : Name) → Had id_of bodies objects now → HasOneBody id_of bodies objects → Collided id_of head text now name → ⊥
       none_collides now name had one collided =
           let c = collided.collision in
           let among : Contains collided.objects c.entry = subst (λ (es : List Entry). Contains es c.entry) (sym c.among) (Contains-append_right c.front (c.entry ∷ c.back) c.entry (contains_first c.entry c.back)) in

@@ -189,7 +189,7 @@ module _ (id_of : Kind → List ℕ → List ℕ) (inputs_tell : Type 0) (input_
 
   -- a bad input
   module _ (inputs : inputs_tell) (disks : disks_tell) (before : List Event) (archive : IsArchive id_of old before) where
-    outcome_bad : (answer : Answer) (jobs : List Job) (job : Job) → Contains jobs job → IsLoadedOrNot id_of inputs_tell input_at failures failures_now time_tells time disks_tell old new jobs answer → IsBadInput id_of (replay before).bodies (input_at job.path) → ComesTo 1 (status_of answer)
+    outcome_bad : (answer : Answer) (jobs : List Job) (job : Job) → Contains jobs job → IsLoadedOrNot id_of inputs_tell input_at failures failures_now time_tells time disks_tell old new jobs answer → IsBadInput id_of job.head (replay before).bodies (input_at job.path) → ComesTo 1 (status_of answer)
     outcome_bad answer jobs job among (inl loaded) bad =
         let told = told_of loaded.loads answer loaded.told in
         let load = loaded.load in
@@ -205,7 +205,7 @@ module _ (id_of : Kind → List ℕ → List ℕ) (inputs_tell : Type 0) (input_
         ⊎_elim (λ (disk : answer ≡ OutsideDisk). inr (inl (ap status_of disk))) (λ (memory : answer ≡ Memory). inr (inr (ap status_of memory))) (opening_of_archive id_of old new before archive answer refused.0 (refused.1 disks)))
         (unloaded_cases id_of disks_tell old new answer none)
 
-    pub load_input : (jobs : List Job) (job : Job) → AreJobsAt desk_at path jobs → Contains jobs job → IsBadInput id_of (replay before).bodies (input_at job.path) → (answer : Answer) → Ends answer → ComesTo 1 (status_of answer)
+    pub load_input : (jobs : List Job) (job : Job) → AreJobsAt desk_at path jobs → Contains jobs job → IsBadInput id_of job.head (replay before).bodies (input_at job.path) → (answer : Answer) → Ends answer → ComesTo 1 (status_of answer)
     load_input jobs job there among bad answer (inl run) =
         outcome_bad answer run.jobs job (subst (λ (js : List Job). Contains js job) (one_list desk_at path jobs run.jobs there (run.there inputs)) among) run.outcome bad
     load_input jobs job there among bad answer (inr none) = right_comes inputs answer none jobs there 1

@@ -70,7 +70,7 @@ module _ (id_of : Kind → List ℕ → List ℕ) (tells : Type 0) (told : tells
     Allowed entries = IsOfJob id_of tells input_at failures failures_now m.job entries
 
     abbrev AllMade : List Entry → Type 0
-    AllMade entries = AllByRecursion (IsMadeBy id_of meant.text) entries
+    AllMade entries = AllByRecursion (IsMadeBy id_of m.job.head meant.text) entries
 
     within : (o : MadeObject) → Contains m.making.objects o → Contains (all_made all) o
     within o made = flat_contains (λ (k : MeantJob). k.making.objects) all m o among made
@@ -79,7 +79,7 @@ module _ (id_of : Kind → List ℕ → List ℕ) (tells : Type 0) (told : tells
     this_text t is = let both : Some t ≡ Some meant.text = sym is ∙ meant.there in cc
 
     of_text : (entries : List Entry) → Allowed entries → AllMade entries
-    of_text entries is = let t = is told in subst (λ (x : List ℕ). AllByRecursion (IsMadeBy id_of x) entries) (this_text t.0 t.1) t.2
+    of_text entries is = let t = is told in subst (λ (x : List ℕ). AllByRecursion (IsMadeBy id_of m.job.head x) entries) (this_text t.0 t.1) t.2
 
     -- its load's events are those of the text
     of_load : (date : ℕ) (h h' : List Event) → AddsVisit Allowed loader m.job.url date h h' → AddsVisit AllMade loader m.job.url date h h'
@@ -87,29 +87,29 @@ module _ (id_of : Kind → List ℕ → List ℕ) (tells : Type 0) (told : tells
 
     had_load : (date : ℕ) (h h' : List Event) → IsHistory id_of h' → AddsVisit Allowed loader m.job.url date h h' → HadBefore h → HadBefore h'
     had_load date h h' history adds had =
-        had_after id_of meant.text m.making meant.means (all_made all) within (replay before).bodies loader m.job.url date h h' history (of_load date h h' adds) had
+        had_after id_of m.job.head meant.text m.making meant.means (all_made all) within (replay before).bodies loader m.job.url date h h' history (of_load date h h' adds) had
 
     -- one load of it
     module _ (date : ℕ) (earlier h h' later : List Event) (begins : h ≡ before ++ earlier) (archive : IsArchive id_of new (h' ++ later)) (had : HadBefore h') (next : IsNextAt h m) where
       made_next : (e : Event) → AddsVisit Allowed loader m.job.url date h (h' ++ e ∷ []) → AddsVisit (AreMade m.making.objects) loader m.job.url date (before ++ earlier) (h' ++ e ∷ [])
       made_next e adds =
           subst (λ (g : List Event). AddsVisit (AreMade m.making.objects) loader m.job.url date g (h' ++ e ∷ [])) begins
-          (adds_visit AllMade (AreMade m.making.objects) loader m.job.url date h (h' ++ e ∷ []) (are_made id_of meant.text m.making meant.means) (of_load date h (h' ++ e ∷ []) adds))
+          (adds_visit AllMade (AreMade m.making.objects) loader m.job.url date h (h' ++ e ∷ []) (are_made id_of m.job.head meant.text m.making meant.means) (of_load date h (h' ++ e ∷ []) adds))
 
       -- how its visit ends
       end_done : (visit : ℕ) → visit ≡ next_visit h m.job.url → (end : End) → IsInputEnd id_of tells (input_at m.job.path) m.job.head (HasFailed id_of tells input_at failures failures_now m.job) (replay h').bodies end
           → (ending_of_end end ≡ ending.Done) × (report_of m.job.url (Ok (record { visit = visit; end = end })) ≡ full_line before m)
       end_done visit number (Full snapshot) is =
           let t = is told in
-          let full = subst (λ (x : List ℕ). IsFull id_of x (replay h').bodies snapshot) (this_text t.0 t.1) t.2 in
-          let snap : snapshot ≡ m.making.snapshot = one_snapshot id_of meant.text m.making meant.means full.objects snapshot full.means in
+          let full = subst (λ (x : List ℕ). IsFull id_of m.job.head x (replay h').bodies snapshot) (this_text t.0 t.1) t.2 in
+          let snap : snapshot ≡ m.making.snapshot = one_snapshot id_of m.job.head meant.text m.making meant.means full.objects snapshot full.means in
           let count : visit ≡ next_visit before m.job.url = number ∙ next in
           (refl, λ i. line_of m.job.url (count i) (codes "full") (core_text (snapshot_name (snap i))))
       end_done visit number NotFound is = let both : Some meant.text ≡ None = sym meant.there ∙ is told in absurd (cc)
-      end_done visit number (Failed (Stream at reason)) is = let t = is.2 told in absurd (subst (IsLeftOut id_of) (this_text t.0 t.1) t.2 m.making meant.means)
+      end_done visit number (Failed (Stream at reason)) is = let t = is.2 told in absurd (subst (IsLeftOut id_of m.job.head) (this_text t.0 t.1) t.2 m.making meant.means)
       end_done visit number (Failed (Collision name)) is =
           let t = is told in
-          absurd (none_collides id_of meant.text m.making meant.means (all_made all) within (replay before).bodies (replay h').bodies name had one (subst (λ (x : List ℕ). Collided id_of x (replay h').bodies name) (this_text t.0 t.1) t.2))
+          absurd (none_collides id_of m.job.head meant.text m.making meant.means (all_made all) within (replay before).bodies (replay h').bodies name had one (subst (λ (x : List ℕ). Collided id_of m.job.head x (replay h').bodies name) (this_text t.0 t.1) t.2))
       end_done visit number (Failed Read) is = absurd (quiet is)
 
       -- why it stopped

@@ -106,10 +106,10 @@ module _ (id_of : Kind → List ℕ → List ℕ) (inputs_tell : Type 0) (input_
     pub full : IsExactly 0 (AllByRecursion IsFullLine (outcomes loads)) status
     pub short : IsExactly 1 (HasShortLine (outcomes loads)) status
 
--- Under some name this input would put a second body.
-pub record HasTwoBodies (id_of : Kind → List ℕ → List ℕ) (bodies : Bodies) (text : List ℕ) : Type 0 where
+-- Under some name this input, with this head or none, would put a second body.
+pub record HasTwoBodies (id_of : Kind → List ℕ → List ℕ) (head : Option (List ℕ)) (bodies : Bodies) (text : List ℕ) : Type 0 where
   pub making : Making
-  pub means : IsMeaning id_of text making
+  pub means : IsMeaning id_of head text making
   pub name : Name
   pub a : List ℕ
   pub b : List ℕ
@@ -117,10 +117,10 @@ pub record HasTwoBodies (id_of : Kind → List ℕ → List ℕ) (bodies : Bodie
   pub has_b : HasBody id_of bodies making.objects name b
   pub apart : a ≢ b
 
--- The input is not there, means nothing, or would put a second body under some name.
-abbrev pub IsBadInput : (Kind → List ℕ → List ℕ) → Bodies → Option (List ℕ) → Type 0
-IsBadInput id_of bodies None = Unit {0}
-IsBadInput id_of bodies (Some text) = IsLeftOut id_of text ⊎ HasTwoBodies id_of bodies text
+-- The input is not there, means nothing with this head or none, or would put a second body under some name.
+abbrev pub IsBadInput : (Kind → List ℕ → List ℕ) → Option (List ℕ) → Bodies → Option (List ℕ) → Type 0
+IsBadInput id_of head bodies None = Unit {0}
+IsBadInput id_of head bodies (Some text) = IsLeftOut id_of head text ⊎ HasTwoBodies id_of head bodies text
 
 -- The part that an answer names has failed in this call.
 pub record NamesFailed (disk_faults disk_faults_now desk_faults desk_faults_now clock_faults clock_faults_now : ℕ) (answer : Answer) : Type 0 where

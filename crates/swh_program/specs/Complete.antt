@@ -44,11 +44,11 @@ abbrev pub AreMade : List Made → List Entry → Type 0
 AreMade objects entries = AllByRecursion (λ e. Contains objects (record { kind = e.name.kind; body = e.body })) entries
 
 module _ (id_of : Kind → List ℕ → List ℕ) where
-  -- The job's input is there, and means this.
+  -- The job's input is there, and means this, with the job's head.
   pub record IsMeant (input_at : FileAt) (m : MeantJob) : Type 0 where
     pub text : List ℕ
     pub there : input_at m.job.path ≡ Some text
-    pub means : IsMeaning id_of text m.making
+    pub means : IsMeaning id_of m.job.head text m.making
 
   abbrev pub AreMeant : FileAt → List MeantJob → Type 0
   AreMeant input_at meant = AllByRecursion (IsMeant input_at) meant

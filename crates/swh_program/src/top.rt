@@ -159,7 +159,7 @@ pub fn run<R, N: Namer, P: Depot, O: Origins, Y: Yard, K: Sink, C: Clock, D: Doo
         jobs (archive_at (P.files world.old.depot) dir) (archive_at (P.files world.new.depot) dir) K.tells (K.taken world.old.sink) (K.taken world.new.sink) result }
     ensures bad_input { (dir path : List ℕ) (jobs : List Job) (job : Job) (before : List Event) → IsCommand (map string_bytes words.now) (ToLoad dir path) → P.tells → O.tells
         → IsArchive N.id_of (archive_at (P.files world.old.depot) dir) before → AreJobsAt (O.file_at world.old.desk) path jobs → Contains jobs job
-        → IsBadInput N.id_of (replay before).bodies (O.file_at world.old.origins job.path) → ComesTo 1 result }
+        → IsBadInput N.id_of job.head (replay before).bodies (O.file_at world.old.origins job.path) → ComesTo 1 result }
     ensures no_body { (kind : Kind) (path : List ℕ) → IsCommand (map string_bytes words.now) (ToIdentify kind path) → O.tells → IsExactly 1 (HasNoBody kind (O.file_at world.old.desk path)) result }
     ensures init_whole { (dir : List ℕ) → IsCommand (map string_bytes words.now) (ToInit dir) → result ≢ 1 }
 
