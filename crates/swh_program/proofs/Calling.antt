@@ -18,7 +18,7 @@ use Rattle.swh_pool.specs.Loads.{OneLoad}
 use Rattle.swh_program.specs.Dated.{IsOpenedJob}
 use Rattle.swh_program.specs.Jobs.{FileAt}
 use Rattle.swh_program.specs.Load.{LoadedJob, IsNextOf}
-use Rattle.swh_program.proofs.Inputs.{adds_visit, allowed, loaded_job, loaded_jobs, OfJob, Loads, AllLoads, Open}
+use Rattle.swh_program.proofs.Inputs.{adds_of, loaded_job, loaded_jobs, Loads, AllLoads, Open}
 
 -- a load on an archive whose disk had failed leaves it as it was
 as_it_was : {D : Type 0} (old new : Kept D) (o : Result Loaded LoadFault) → IsHeldBack old new o → new ≡ old
@@ -46,9 +46,6 @@ module _ {S : Type 0} (id_of : Kind → List ℕ → List ℕ) (tells source_tel
   abbrev job_load : Job → OneLoad S → LoadedJob
   job_load job l = loaded_job id_of tells source_tells left faults path_of input_at entry middle after later later_still disks_tell file disk_faults job l
 
-  abbrev OfInput : Job → List Entry → Type 0
-  OfInput job = OfJob id_of tells source_tells left faults path_of input_at entry middle after later later_still job
-
   abbrev Next : List LoadedJob → List Event → Event → Type 0
   Next loads h event = IsNextOf id_of tells input_at entry after loads h event
 
@@ -64,17 +61,15 @@ module _ {S : Type 0} (id_of : Kind → List ℕ → List ℕ) (tells source_tel
 
   -- what comes next in a load
   next_of : (job : Job) (l : OneLoad S) (more : List LoadedJob) (old new : Kept D) (added : List Event) → IsOpenedJob tells source_tells left faults path_of input_at entry middle job l.job → new.history ≡ old.history ++ added
-      → (e : Event) → AreOfVisit (AreAllowed id_of source_tells left l.job.job.stream) 1 l.job.job.origin l.job.date (next_visit old.history l.job.job.origin) (added ++ e ∷ []) → Next (job_load job l ∷ more) new.history e
+      → (e : Event) → AreOfVisit (AreAllowed id_of l.job.job.head source_tells left l.job.job.stream) 1 l.job.job.origin l.job.date (next_visit old.history l.job.job.origin) (added ++ e ∷ []) → Next (job_load job l ∷ more) new.history e
   next_of job l more old new added opened behind e are =
-      let adds : AddsVisit (AreAllowed id_of source_tells left l.job.job.stream) 1 l.job.job.origin l.job.date old.history (new.history ++ e ∷ []) =
+      let adds : AddsVisit (AreAllowed id_of l.job.job.head source_tells left l.job.job.stream) 1 l.job.job.origin l.job.date old.history (new.history ++ e ∷ []) =
       record { more = added ++ e ∷ []; behind = ap (λ (t : List Event). t ++ e ∷ []) behind ∙ append_assoc old.history added (e ∷ []); are = are } in
       record {
         l = job_load job l;
         among = (0, omega arith, refl);
         between = old.history;
-        adds = subst (λ (u : List ℕ). AddsVisit (OfInput job) 1 u l.job.date old.history (new.history ++ e ∷ [])) opened.origin
-            (adds_visit (AreAllowed id_of source_tells left l.job.job.stream) (OfInput job) 1 l.job.job.origin l.job.date old.history (new.history ++ e ∷ [])
-            (allowed id_of tells source_tells left faults path_of input_at entry middle after later later_still job l.job.job.stream opened.input.told opened.input.found) adds);
+        adds = adds_of id_of tells source_tells left faults path_of input_at entry middle after later later_still disks_tell file disk_faults job l old.history (new.history ++ e ∷ []) opened adds;
       }
 
   pub calls_of : disks_tell → (jobs : List Job) (loads : List (OneLoad S)) (old new : Kept D) → AreOpen jobs loads → All loads old new → old.wounded ≡ None → MakesCalls id_of file (Next (job_loads jobs loads) new.history) old new

@@ -86,7 +86,7 @@ module _ {S D : Type 0} (id_of : Kind → List ℕ → List ℕ) (source_tells :
     from_later : (e : Ending) → (e ≡ ending.OutsideDisk → ⊥) → AreStops false rest → worse e (ending_of_all rest) ≡ ending.OutsideDisk → Raised old new
     from_later e none stops is = ⊎_elim (λ (h : e ≡ ending.OutsideDisk). absurd (none h)) (λ (h : ending_of_all rest ≡ ending.OutsideDisk). raised_since old between new first (later stops h)) (worse_disk e (ending_of_all rest) is)
 
-    by_why : (visit : ℕ) (reason : LoadWhy) → IsUnwounded (Err (record { visit = visit; why = reason })) → Stops id_of disk_faults (AreAllowed id_of source_tells left l.job.job.stream) 1 l.job.job.origin l.job.date old between (record { visit = visit; why = reason })
+    by_why : (visit : ℕ) (reason : LoadWhy) → IsUnwounded (Err (record { visit = visit; why = reason })) → Stops id_of disk_faults (AreAllowed id_of l.job.job.head source_tells left l.job.job.stream) 1 l.job.job.origin l.job.date old between (record { visit = visit; why = reason })
         → AreStops (is_disk_fault (Err (record { visit = visit; why = reason }))) rest → worse (ending_of_why reason) (ending_of_all rest) ≡ ending.OutsideDisk → Raised old new
     by_why visit (why.Ended status) unwounded stops more is = from_later ending.Wanting (λ e. cc) more is
     by_why visit why.DiskFault unwounded (inl once) more is = raised_until old between new once.stops.rose behind

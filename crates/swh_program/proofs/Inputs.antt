@@ -126,7 +126,7 @@ module _ {S : Type 0} (id_of : Kind → List ℕ → List ℕ) (tells source_tel
   abbrev pub OfJob : Job → List Entry → Type 0
   OfJob job = IsOfInput id_of tells (input_at job.path) job.head (HasFailed job)
 
-  pub allowed : (job : Job) (s : Opened S) → (tells → source_tells) → (tells → IfFound s (λ x. input_at job.path ≡ Some (left x))) → (entries : List Entry) → AreAllowed id_of source_tells left s entries → OfJob job entries
+  pub allowed : (job : Job) (s : Opened S) → (tells → source_tells) → (tells → IfFound s (λ x. input_at job.path ≡ Some (left x))) → (entries : List Entry) → AreAllowed id_of job.head source_tells left s entries → OfJob job entries
   allowed job (Found s) told is entries allowed_by = λ t. (left s, is t, allowed_by (told t))
   allowed job Missing told is entries allowed_by = absurd allowed_by
   allowed job Unopened told is entries allowed_by = absurd allowed_by
@@ -137,14 +137,14 @@ module _ {S : Type 0} (id_of : Kind → List ℕ → List ℕ) (tells source_tel
   back_at path s at back some = rose_since (entry path) (middle path) (after path) (later path) (subst (λ (p : List ℕ). Rose (middle p) (after p)) at (back some))
 
   found_end : (job : Job) (bodies : Bodies) (s t : S) → (tells → source_tells) → (tells → input_at job.path ≡ Some (left s)) → faults s ≡ 0 → path_of t ≡ job.path → (0 < faults t → Rose (middle (path_of t)) (after (path_of t)))
-      → (end : End) → IsEndOf id_of source_tells (left s) (faults s) (faults t) bodies end → IsInputEnd id_of tells (input_at job.path) job.head (HasFailed job) bodies end
+      → (end : End) → IsEndOf id_of job.head source_tells (left s) (faults s) (faults t) bodies end → IsInputEnd id_of tells (input_at job.path) job.head (HasFailed job) bodies end
   found_end job bodies s t told is none at back (Full snapshot) ends = λ h. (left s, is h, ends (told h))
   found_end job bodies s t told is none at back NotFound ends = absurd ends
   found_end job bodies s t told is none at back (Failed (Stream place stream_why)) ends = (ends.0, ends.1, λ h. (left s, is h, ends.2 (told h)))
   found_end job bodies s t told is none at back (Failed (Collision name)) ends = λ h. (left s, is h, ends (told h))
   found_end job bodies s t told is none at back (Failed Read) ends = back_at job.path t at back (rose_above (faults s) (faults t) none ends)
 
-  input_end : (job : Job) (bodies : Bodies) (s t : Opened S) → Opens job s → IsSameInput path_of faults s t → IsGivenBack faults path_of middle after t → (end : End) → IsJobEnd id_of source_tells left faults bodies s t end
+  input_end : (job : Job) (bodies : Bodies) (s t : Opened S) → Opens job s → IsSameInput path_of faults s t → IsGivenBack faults path_of middle after t → (end : End) → IsJobEnd id_of job.head source_tells left faults bodies s t end
       → IsInputEnd id_of tells (input_at job.path) job.head (HasFailed job) bodies end
   input_end job bodies (Found s) (Found t) opened same back end ends = found_end job bodies s t opened.told opened.found opened.quiet (same.0 ∙ opened.at) back end ends
   input_end job bodies (Found s) Missing opened same back end ends = absurd ends
@@ -166,22 +166,35 @@ module _ {S : Type 0} (id_of : Kind → List ℕ → List ℕ) (tells source_tel
     abbrev pub loaded_job : Job → OneLoad S → LoadedJob
     loaded_job job l = record { job = job; date = l.job.date; outcome = l.outcome }
 
-    line : (job : Job) (l : OneLoad S) (old new : Kept D) → Opens job l.job.job.stream → IsGivenBack faults path_of middle after l.after.job.stream
-        → AddsVisit (AreAllowed id_of source_tells left l.job.job.stream) 1 l.job.job.origin l.job.date old.history new.history → IsSameInput path_of faults l.job.job.stream l.after.job.stream
+    -- what the load of an opened job says, with the job's head
+    line : (job : Job) (l : OneLoad S) (old new : Kept D) → Opens job l.job.job.stream → l.job.job.head ≡ job.head → IsGivenBack faults path_of middle after l.after.job.stream
+        → AddsVisit (AreAllowed id_of job.head source_tells left l.job.job.stream) 1 l.job.job.origin l.job.date old.history new.history → IsSameInput path_of faults l.job.job.stream l.after.job.stream
         → (outcome : Result Loaded LoadFault) → IsOutcomeOf id_of source_tells left faults path_of disks_tell file disk_faults 1 l old new outcome
         → IsOutcome id_of tells (input_at job.path) job.head (HasFailed job) l.job.job.origin l.job.date old.history new.history outcome
-    line job l old new opened back adds same (Ok loaded) is =
-        record { number = is.number; visit = is.visit; end = input_end job (replay new.history).bodies l.job.job.stream l.after.job.stream opened same back loaded.end is.means }
-    line job l old new opened back adds same (Err fault) is =
-        stops_visit id_of tells (input_at job.path) job.head (HasFailed job) disk_faults (AreAllowed id_of source_tells left l.job.job.stream) l.job.job.origin l.job.date old new (allowed job l.job.job.stream opened.told opened.found) adds fault is
+    line job l old new opened head back adds same (Ok loaded) is =
+        let means = subst (λ (h : Option (List ℕ)). IsJobEnd id_of h source_tells left faults (replay new.history).bodies l.job.job.stream l.after.job.stream loaded.end) head is.means in
+        record { number = is.number; visit = is.visit; end = input_end job (replay new.history).bodies l.job.job.stream l.after.job.stream opened same back loaded.end means }
+    line job l old new opened head back adds same (Err fault) is =
+        let stops = subst (λ (h : Option (List ℕ)). Stops id_of disk_faults (AreAllowed id_of h source_tells left l.job.job.stream) 1 l.job.job.origin l.job.date old new fault) head is in
+        stops_visit id_of tells (input_at job.path) job.head (HasFailed job) disk_faults (AreAllowed id_of job.head source_tells left l.job.job.stream) l.job.job.origin l.job.date old new (allowed job l.job.job.stream opened.told opened.found) adds fault stops
+
+    -- what it adds, with the job's head
+    pub adds_with : (job : Job) (l : OneLoad S) (before after' : List Event) → l.job.job.head ≡ job.head → AddsVisit (AreAllowed id_of l.job.job.head source_tells left l.job.job.stream) 1 l.job.job.origin l.job.date before after'
+        → AddsVisit (AreAllowed id_of job.head source_tells left l.job.job.stream) 1 l.job.job.origin l.job.date before after'
+    adds_with job l before after' head adds = subst (λ (h : Option (List ℕ)). AddsVisit (AreAllowed id_of h source_tells left l.job.job.stream) 1 l.job.job.origin l.job.date before after') head adds
+
+    pub adds_of : (job : Job) (l : OneLoad S) (before after' : List Event) → IsOpenedJob tells source_tells left faults path_of input_at entry middle job l.job → AddsVisit (AreAllowed id_of l.job.job.head source_tells left l.job.job.stream) 1 l.job.job.origin l.job.date before after'
+        → AddsVisit (OfJob job) 1 job.url l.job.date before after'
+    adds_of job l before after' opened adds =
+        subst (λ (u : List ℕ). AddsVisit (OfJob job) 1 u l.job.date before after') opened.origin
+        (adds_visit (AreAllowed id_of job.head source_tells left l.job.job.stream) (OfJob job) 1 l.job.job.origin l.job.date before after' (allowed job l.job.job.stream opened.input.told opened.input.found) (adds_with job l before after' opened.head adds))
 
     pub one_job : (job : Job) (l : OneLoad S) (old new : Kept D) → IsOpenedJob tells source_tells left faults path_of input_at entry middle job l.job → IsGivenBack faults path_of middle after l.after.job.stream → Loads l old new
         → IsJobLoad id_of tells input_at entry after (loaded_job job l) old.history new.history
     one_job job l old new opened back is =
-        let adds = adds_visit (AreAllowed id_of source_tells left l.job.job.stream) (OfJob job) 1 l.job.job.origin l.job.date old.history new.history (allowed job l.job.job.stream opened.input.told opened.input.found) is.adds in
-        let told = line job l old new opened.input back is.adds is.same_input l.outcome is.ends in
+        let told = line job l old new opened.input opened.head back (adds_with job l old.history new.history opened.head is.adds) is.same_input l.outcome is.ends in
         record {
-          nothing_else = subst (λ (u : List ℕ). AddsVisit (OfJob job) 1 u l.job.date old.history new.history) opened.origin adds;
+          nothing_else = adds_of job l old.history new.history opened is.adds;
           line = subst (λ (u : List ℕ). IsOutcome id_of tells (input_at job.path) job.head (HasFailed job) u l.job.date old.history new.history l.outcome) opened.origin told;
         }
 

@@ -1,14 +1,17 @@
 -- Inputs that were opened or given back, as the counts of their paths rise further.
-use Rattle.std.proofs.Common.{◌≡◌, ℕ, ◌+◌, ◌<◌, ◌≤◌, Some, None, List, [], ◌∷◌, ◌++◌, length, length-append, map, refl, sym, ap, ◌∙◌, subst, arith, append_assoc}
+use Rattle.std.specs.Prelude.{IfSome}
+use Rattle.std.proofs.Common.{◌≡◌, ℕ, ◌+◌, ◌<◌, ◌≤◌, Option, Some, None, List, [], ◌∷◌, ◌++◌, length, length-append, map, refl, sym, ap, ◌∙◌, subst, arith, append_assoc}
 use Rattle.std.specs.List.{AllByRecursion}
 use Rattle.std.proofs.lemmas.List.{append-nil, length-map, map-append}
+use Rattle.swh_base.specs.Text.{IsRef}
 use Rattle.swh_outside.specs.Faults.{Rose}
 use Rattle.swh_outside.specs.Opened.{IfFound, IsNotFound}
 use Rattle.swh_outside.specs.declared.fault.Opened.{Opened}
 use Rattle.swh_outside.specs.declared.fault.Opened.TheVariants.{Found, NotFound, Failed, Memory}
 use Rattle.swh_jobs.specs.Answers.{job_of, jobs_of}
-use Rattle.swh_jobs.specs.Job.{Job}
+use Rattle.swh_jobs.specs.Job.{Job, IsHead, IsJob}
 use Rattle.swh_jobs.specs.declared.job.JobLine.{JobLine}
+use Rattle.swh_pool.specs.Loads.{HasHead}
 use Rattle.swh_pool.specs.declared.dated.DatedJob.{DatedJob}
 use Rattle.swh_program.specs.Dated.{AreSaid, IsOpenedAt, IsOpenedJob, AreOpenedJobs, IsGivenBack, AreGivenBack}
 use Rattle.swh_program.specs.Jobs.{FileAt}
@@ -70,6 +73,10 @@ dates_next {S} time opened o said is =
 pub times_next : {S : Type 0} (time : ℕ → ℕ) (opened : List (DatedJob S)) (o : DatedJob S) (k : ℕ) → time ((k + 1) + length opened) ≡ time (k + length (opened ++ o ∷ []))
 times_next time opened o k = ap time (let n = length-append opened (o ∷ []) in omega (arith, n))
 
+ref_of : (head : Option (List ℕ)) → IfSome head IsHead → IfSome head IsRef
+ref_of (Some head) is = is.is_ref
+ref_of None is = tt
+
 -- Inputs that were opened.
 module _ {S : Type 0} (tells source_tells : Type 0) (left : S → List ℕ) (faults : S → ℕ) (path_of : S → List ℕ) where
   abbrev At : FileAt → (List ℕ → ℕ) → (List ℕ → ℕ) → List ℕ → Opened S → Type 0
@@ -90,7 +97,7 @@ module _ {S : Type 0} (tells source_tells : Type 0) (left : S → List ℕ) (fau
   at_within files files' a b c d same early late path Memory is = record { told = is.told; found = λ t. tt; absent = λ t h. absurd h; at = tt; quiet = tt; failed = λ h. absurd h }
 
   job_within : (files files' : FileAt) (a b c d : List ℕ → ℕ) → (tells → (p : List ℕ) → files' p ≡ files p) → ((p : List ℕ) → a p ≤ b p) → ((p : List ℕ) → c p ≤ d p) → (job : Job) (j : DatedJob S) → OpenedJob files' b c job j → OpenedJob files a d job j
-  job_within files files' a b c d same early late job j is = record { origin = is.origin; input = at_within files files' a b c d same early late job.path j.job.stream is.input }
+  job_within files files' a b c d same early late job j is = record { origin = is.origin; head = is.head; input = at_within files files' a b c d same early late job.path j.job.stream is.input }
 
   jobs_within : (files : FileAt) (a c d : List ℕ → ℕ) → ((p : List ℕ) → c p ≤ d p) → (jobs : List Job) (opened : List (DatedJob S)) → OpenedJobs files a c jobs opened → OpenedJobs files a d jobs opened
   jobs_within files a c d late [] [] are = tt
@@ -104,6 +111,14 @@ module _ {S : Type 0} (tells source_tells : Type 0) (left : S → List ℕ) (fau
   jobs_more files a c [] (p ∷ opened) job o are is = absurd are
   jobs_more files a c (first ∷ jobs) [] job o are is = absurd are
   jobs_more files a c (first ∷ jobs) (p ∷ opened) job o are is = (are.0, jobs_more files a c jobs opened job o are.1 is)
+
+  -- a job names no head that is not a ref
+  pub refs_of : (files : FileAt) (before now : List ℕ → ℕ) (jobs : List Job) (opened : List (DatedJob S)) → AllByRecursion IsJob jobs → OpenedJobs files before now jobs opened → AllByRecursion HasHead opened
+  refs_of files before now [] [] good are = tt
+  refs_of files before now [] (o ∷ opened) good are = absurd are
+  refs_of files before now (job ∷ jobs) [] good are = absurd are
+  refs_of files before now (job ∷ jobs) (o ∷ opened) good are =
+      (subst (λ (h : Option (List ℕ)). IfSome h IsRef) (sym are.0.head) (ref_of job.head good.0.is_head), refs_of files before now jobs opened good.1 are.1)
 
   -- Of these lines some are left, and the inputs of the others were opened.
   pub record OpenedSoFar (files : FileAt) (before now : List ℕ → ℕ) (lines rest : List JobLine) (opened : List (DatedJob S)) : Type 0 where

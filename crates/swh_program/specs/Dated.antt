@@ -27,6 +27,7 @@ module _ {S : Type 0} (tells source_tells : Type 0) (left : S → List ℕ) (fau
   -- The job's input was opened.
   pub record IsOpenedJob (job : Job) (opened : DatedJob S) : Type 0 where
     pub origin : opened.job.origin ≡ job.url
+    pub head : opened.job.head ≡ job.head
     pub input : IsOpenedAt job.path opened.job.stream
 
   -- The inputs of these jobs were opened, in their order.

@@ -34,7 +34,11 @@ pub fn give_all_back<O: Origins>(origins: &mut O, mut jobs: Vec<DatedJob<O::S>>)
 {
     'jobs: while let Some(dated) = jobs.pop() {
         let DatedJob { job, date: _ } = dated;
-        let Job { origin: _, stream } = job;
+        let Job {
+            origin: _,
+            stream,
+            head: _,
+        } = job;
         give_back(origins, stream);
     }
     jobs.destroy_empty();
@@ -73,12 +77,13 @@ fn open_job<O: Origins, C: Clock>(
     let Ok(date) = clock.now() else {
         return Err(Answer::OutsideClock);
     };
-    let JobLine { url, path, head: _ } = line;
+    let JobLine { url, path, head } = line;
     match open_input(origins, path.as_str()) {
         Ok(stream) => {
             let job = Job {
                 origin: url,
                 stream,
+                head,
             };
             Ok(DatedJob { job, date })
         }

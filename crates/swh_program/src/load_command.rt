@@ -2,6 +2,7 @@
 ghost use Rattle.std.specs.Prelude.{◌≡◌, ◌⊎◌, ◌≤◌, ℕ, None};
 ghost use Rattle.swh_outside.specs.Faults.{Rose};
 ghost use Rattle.swh_jobs.specs.Answers.{jobs_of};
+ghost use Rattle.swh_jobs.specs.JobFile.{AreJobs};
 ghost use Rattle.swh_program.specs.Archives.{archive_at, SameElsewhere};
 ghost use Rattle.swh_program.specs.Load.{IsLoadedOrNot, TellsDisk, LoadEnds};
 ghost use Rattle.swh_program.specs.Loading.{IsKeptRun};
@@ -32,7 +33,8 @@ fn load_lines<N: Namer, D: Disk, O: Origins, C: Clock, G: Gate>(
     gate: &G,
     lines: Vec<JobLine>,
 ) -> Answer
-    requires { keeper.old.wounded ≡ None }
+    requires unwounded { keeper.old.wounded ≡ None }
+    requires good { AreJobs (jobs_of lines.items) }
     ensures load { IsKeptRun N.id_of O.tells (O.file_at origins.old) (O.path_faults origins.old) (O.path_faults origins.new) D.tells D.file D.faults C.tells (C.time clock.old) keeper.old keeper.new (jobs_of lines.items) result }
     ensures clock_cause { result ≡ OutsideClock → Rose (C.faults clock.old) (C.faults clock.new) }
     ensures clock_later { C.faults clock.old ≤ C.faults clock.new }
@@ -67,6 +69,7 @@ fn load_jobs<N: Namer, P: Depot, O: Origins, C: Clock, G: Gate>(
     dir: &str,
     lines: Vec<JobLine>,
 ) -> Answer
+    requires { AreJobs (jobs_of lines.items) }
     ensures load { IsLoadedOrNot N.id_of O.tells (O.file_at origins.old) (O.path_faults origins.old) (O.path_faults origins.new) C.tells (C.time clock.old) P.tells
         (archive_at (P.files depot.old) dir.now) (archive_at (P.files depot.new) dir.now) (jobs_of lines.items) result }
     ensures elsewhere { P.tells → SameElsewhere dir.now (P.files depot.old) (P.files depot.new) }

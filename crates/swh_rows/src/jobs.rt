@@ -46,3 +46,22 @@ fn no_job(rt: HostRuntime) -> Result<(), Fail> {
     assert!(rt; loads(alloc, world, 0, b"")?);
     Ok(())
 }
+
+#[test]
+fn a_job_names_a_head(rt: HostRuntime) -> Result<(), Fail> {
+    let alloc = rt.alloc();
+    let world = world_of(
+        alloc,
+        b"fast\thttps://e.org/p\te\trefs/heads/main",
+        stream(),
+    )?;
+    assert!(rt;
+        loads(
+            alloc,
+            world,
+            0,
+            b"https://e.org/p\t1\tfull\tswh:1:snp:6a27147bf068e96885531e22302944aa7bf4c5c8\n"
+        )?
+    );
+    Ok(())
+}

@@ -69,7 +69,12 @@ fn a_stream_is_loaded_twice(rt: HostRuntime) -> Result<(), Fail> {
 }
 
 /// Says whether a run of `load` ends with this status, and prints this behind `made`.
-pub fn loads(alloc: Global, mut world: World, status: u8, printed: &[u8]) -> Result<bool, AllocError> {
+pub fn loads(
+    alloc: Global,
+    mut world: World,
+    status: u8,
+    printed: &[u8],
+) -> Result<bool, AllocError> {
     let ended = run_words(alloc, &["load", "A", "J"], &mut world)?;
     let told = world.sink.bytes().strip_prefix(b"made\n") == Some(printed);
     Ok(ended == status && told)

@@ -1,14 +1,24 @@
 use Rattle.std.proofs.Common.{◌≡◌, ℕ, List, ◌++◌, length, take, drop, sym, ap, ◌∙◌, subst, arith}
 use Rattle.std.proofs.lemmas.List.{append-nil, drop_all, take_all}
 use Rattle.swh_jobs.specs.Answers.{jobs_of}
+use Rattle.std.specs.List.{All}
+use Rattle.std.proofs.lemmas.List.Elements.{All-from_recursion}
+use Rattle.swh_pool.specs.Loads.{HasHead}
 use Rattle.swh_program.specs.Dated.{AreGivenBack}
 use Rattle.swh_program.proofs.KeptRuns.{kept_run}
+use Rattle.swh_program.proofs.Openings.{refs_of}
 use Rattle.swh_program.proofs.load_command.load_lines.Goals as goal
 
 -- what was written over the front of a list of the same length
 written_back : {X : Type 0} (xs ys : List X) (n : ℕ) → length xs ≡ n → length ys ≡ n → take n (xs ++ drop (length xs) ys) ≡ xs
 written_back {X} xs ys n a b =
     ap (λ (t : List X). take n (xs ++ t)) (drop_all (length xs) ys (omega (arith, a, b))) ∙ ap (take n) (append-nil xs) ∙ take_all n xs (omega (arith, a))
+
+pub load_all-loaded-requires-after_bounds : goal.load_all-loaded-requires-after_bounds
+load_all-loaded-requires-after_bounds g c = λ lifetimes bounds.
+    let refs = refs_of g.O.Origins.tells g.O.S.Source.tells g.O.S.Source.left g.O.S.Source.faults g.O.S.Source.path (g.O.Origins.file_at c.args.origins.now) (g.O.Origins.path_faults c.args.origins.now) (g.O.Origins.path_faults c.open_inputs.new.origins)
+    (jobs_of c.args.lines.items) c.in-Ok.jobs.items c.requires.good.each c.in-Ok.ensures.opened in
+    subst (All HasHead) (sym c.as_mut_slice.ensures.value) (All-from_recursion HasHead c.in-Ok.jobs.items refs)
 
 pub returns-clause-load : goal.returns-clause-load
 returns-clause-load g c =
@@ -21,5 +31,5 @@ returns-clause-load g c =
     let back = subst (AreGivenBack g.O.S.Source.faults g.O.S.Source.path (g.O.Origins.path_faults c.open_inputs.new.origins) (g.O.Origins.path_faults c.give_all_back.new.origins)) (sym c.as_slice.ensures.value ∙ same) c.give_all_back.ensures.back in
     kept_run g.N.Namer.id_of g.O.Origins.tells g.O.S.Source.tells g.O.S.Source.left g.O.S.Source.faults g.O.S.Source.path (g.O.Origins.file_at c.args.origins.now)
     (g.O.Origins.path_faults c.args.origins.now) (g.O.Origins.path_faults c.open_inputs.new.origins) (g.O.Origins.path_faults c.give_all_back.new.origins) o.path_later c.give_all_back.ensures.path_later
-    g.D.Disk.tells g.D.Disk.file g.D.Disk.faults g.C.Clock.tells (g.C.Clock.time c.args.clock.now) (jobs_of c.args.lines.items) c.in-Ok.jobs.items c.load_all-loaded.new.jobs c.args.keeper.now c.load_all-loaded.new.keeper c.requires
+    g.D.Disk.tells g.D.Disk.file g.D.Disk.faults g.C.Clock.tells (g.C.Clock.time c.args.clock.now) (jobs_of c.args.lines.items) c.in-Ok.jobs.items c.load_all-loaded.new.jobs c.args.keeper.now c.load_all-loaded.new.keeper c.requires.unwounded
     o.opened back o.said (λ v. v.items) c.load_all-loaded.result c.tell_loaded-answer.result l.loads l.stops l.unwounded l.same_keeper t.told t.memory
