@@ -43,6 +43,11 @@ ends_further (Ok x) h h' h'' origin number by end a e b =
     subst (λ (y : End). IsMarked h h'' origin number by (last_of y)) (sym e) (marked_further h h' h'' origin number by [] (last_of end) a b)
 ends_further (Err f) h h' h'' origin number by end a e b = tt
 
+-- all of its statuses are the end's
+pub ends_with : {E : Type 0} (r : Result End E) (h h' : List Event) (origin : List ℕ) (number by : ℕ) (end : End) → IfOk r (λ x. x ≡ end) → OnOk r (IsMarked h h' origin number by (statuses_of end)) → IfOk r (λ x. IsMarked h h' origin number by (statuses_of x))
+ends_with (Ok x) h h' origin number by end e b = subst (λ (y : End). IsMarked h h' origin number by (statuses_of y)) (sym e) b
+ends_with (Err f) h h' origin number by end e b = tt
+
 -- an ongoing visit fails
 pub fails_further : {E : Type 0} (r : Result End E) (h h' h'' : List Event) (origin : List ℕ) (number by : ℕ) (bad : BadInput) → IsMarked h h' origin number by ((Ongoing, None) ∷ []) → IfOk r (λ x. x ≡ Failed bad) → OnOk r (IsMarked h' h'' origin number by ((FailedStatus, None) ∷ [])) → IfOk r (λ x. IsMarked h h'' origin number by (statuses_of x))
 fails_further (Ok x) h h' h'' origin number by bad a e b =

@@ -3,6 +3,7 @@ use Rattle.std.proofs.Common.{◌≡◌, inl, inr, ℕ, ◌≤◌, Option, Some,
 use Rattle.std.specs.Prelude.{IfErr}
 use Rattle.std.specs.List.{AllByRecursion}
 use Rattle.std.proofs.lemmas.List.{append-nil}
+use Rattle.std.proofs.lemmas.Option.{none-some}
 use Rattle.swh_base.specs.declared.kind.Kind.{Kind}
 use Rattle.swh_outside.specs.Faults.{Rose}
 use Rattle.swh_segment.specs.Makes.{EitherRose}
@@ -59,14 +60,11 @@ stops_as id faults P Q old new why.Wounded f s = s
 stops_as id faults P Q old new (why.Limit which number) f s = record { before_it = s.before_it; unwounded = s.unwounded; event = s.event; tried = f s.event s.tried; may = s.may; passes = s.passes }
 stops_as id faults P Q old new why.Memory f s = s
 
-none_some : (o : Option ℕ) (n : ℕ) → o ≡ None → o ≡ Some n → ⊥
-none_some o n x y = cc
-
 -- a load that had begun stops
 pub stops_further : {D : Type 0} (id : Kind → List ℕ → List ℕ) (faults : D → ℕ) (P Q : Event → Type 0) (a b c : Kept D) (stop : LoadWhy) → a.wounded ≡ None → b.wounded ≡ None → Adds faults Q a b → StopsFor id faults P b c stop → StopsFor id faults P a c stop
 stops_further id faults P Q a b c (why.Ended status) old mid h s = s
 stops_further id faults P Q a b c why.DiskFault old mid h s = record { before_it = old; wounded = s.wounded; rose = either_further (faults a.store) (faults b.store) (faults c.store) (faults a.ledger) (faults b.ledger) (faults c.ledger) h.store_later h.ledger_later s.rose }
-stops_further id faults P Q a b c why.Wounded old mid h s = absurd (none_some b.wounded s.first mid s.wounded)
+stops_further id faults P Q a b c why.Wounded old mid h s = absurd (none-some s.first (sym mid ∙ s.wounded))
 stops_further id faults P Q a b c (why.Limit which number) old mid h s = record { before_it = old; unwounded = s.unwounded; event = s.event; tried = s.tried; may = s.may; passes = s.passes }
 stops_further id faults P Q a b c why.Memory old mid h s = s ∙ mid ∙ sym old
 

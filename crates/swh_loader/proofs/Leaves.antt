@@ -1,9 +1,11 @@
 -- What a load of a job leaves, from its steps.
-use Rattle.std.proofs.Common.{◌≡◌, ℕ, Result, Ok, Err, List, [], ◌∷◌, ◌++◌, refl, sym, ap, ◌∙◌, subst, append_assoc}
+use Rattle.std.proofs.Common.{◌≡◌, ℕ, None, Result, Ok, Err, List, [], ◌∷◌, ◌++◌, refl, sym, ap, ◌∙◌, subst, append_assoc}
+use Rattle.std.proofs.lemmas.List.{append-nil, append_cancel_left}
 use Rattle.std.specs.Prelude.{IfOk}
 use Rattle.std.specs.List.{AllByRecursion}
 use Rattle.swh_base.specs.declared.kind.Kind.{Kind}
 use Rattle.swh_base.specs.declared.entry.Entry.{Entry}
+use Rattle.swh_outside.specs.Disk.{File}
 use Rattle.swh_model.specs.declared.event.Event.{Event}
 use Rattle.swh_model.specs.Archive.{Bodies}
 use Rattle.swh_model.specs.Meaning.{IsMeaning}
@@ -14,10 +16,13 @@ use Rattle.swh_fastload.specs.Whole.{IsWhole}
 use Rattle.swh_loader.specs.declared.end.BadInput.TheVariants.{Stream, Collision, Read}
 use Rattle.swh_loader.specs.declared.end.End.{End}
 use Rattle.swh_loader.specs.declared.end.End.TheVariants.{Full, NotFound, Failed}
-use Rattle.swh_loader.specs.Adding.{opening, AreAmong, IsOwn, Adds}
+use Rattle.swh_loader.specs.Adding.{opening, IsEvent, AreAmong, IsOwn, Adds}
+use Rattle.swh_loader.specs.Calls.{MakesCallsOf, MakesCalls}
 use Rattle.swh_loader.specs.Ending.{MeansObjects, IsMadeBy, AreMadeBy, IsSentEnd, IsEndOf}
-use Rattle.swh_loader.specs.Leaving.{next_visit, AddsVisit}
+use Rattle.swh_loader.specs.Leaving.{next_visit, AreOfVisit, AddsVisit, MakesVisitCalls}
+use Rattle.swh_loader.proofs.CallLaws.{of_as, calls_at, of_further}
 use Rattle.swh_loader.proofs.Closes.{whole_good}
+use Rattle.swh_loader.proofs.Limiting.{all-append}
 
 -- the objects that were made are meant
 pub means_made : {N : Type 0} (id : Kind → List ℕ → List ℕ) (text : List ℕ) (made : Objects N) → IsWhole id made → IsMeaning id text (making_of made) → MeansObjects id text made.objects.items made.snapshot
@@ -51,3 +56,24 @@ visit_added faults A by origin date number old mid new opened is a = record {
   behind = a.behind ∙ ap (λ (t : List Event). t ++ a.more) opened ∙ append_assoc old.history (opening by origin date ∷ []) a.more;
   are = (refl, subst (λ (n : ℕ). AllByRecursion (IsOwn A by origin n) a.more) is a.each);
 }
+
+-- the calls of a visit that was not opened
+pub unopened_calls : {D : Type 0} (id : Kind → List ℕ → List ℕ) (file : D → File) (A : List Entry → Type 0) (by : ℕ) (origin : List ℕ) (date : ℕ) (old new : Kept D) → new.history ≡ old.history → MakesCalls id file (IsEvent (opening by origin date)) old new → MakesVisitCalls id file A by origin date old new
+unopened_calls id file A by origin date old new same calls more behind =
+    let none = same ∙ sym (append-nil old.history) in
+    subst (λ (t : List Event). MakesCallsOf id file (λ e. AreOfVisit A by origin date (next_visit old.history origin) (t ++ e ∷ [])) t old new)
+    (append_cancel_left old.history [] more (sym none ∙ behind))
+    (of_as id file (IsEvent (opening by origin date)) (λ e. AreOfVisit A by origin date (next_visit old.history origin) (e ∷ [])) [] old new (λ e is. (is, tt)) (calls_at id file (IsEvent (opening by origin date)) old new [] none calls))
+
+-- and of one that was, with its own events
+pub visit_calls : {D : Type 0} (id : Kind → List ℕ → List ℕ) (faults : D → ℕ) (file : D → File) (A : List Entry → Type 0) (by : ℕ) (origin : List ℕ) (date number : ℕ) (old mid new : Kept D) → old.wounded ≡ None → mid.wounded ≡ None → mid.history ≡ old.history ++ opening by origin date ∷ [] → number ≡ next_visit old.history origin
+    → Adds faults (IsOwn A by origin number) mid new → MakesCalls id file (IsEvent (opening by origin date)) old mid → MakesCalls id file (IsOwn A by origin number) mid new → MakesVisitCalls id file A by origin date old new
+unfolding visit_added
+visit_calls id faults file A by origin date number old mid new begun going opened is a first rest more behind =
+    let added = visit_added faults A by origin date number old mid new opened is a in
+    let next = next_visit old.history origin in
+    subst (λ (t : List Event). MakesCallsOf id file (λ e. AreOfVisit A by origin date next (t ++ e ∷ [])) t old new)
+    (append_cancel_left old.history added.more more (sym added.behind ∙ behind))
+    (of_further id file (IsEvent (opening by origin date)) (IsOwn A by origin number) (λ e. AreOfVisit A by origin date next (opening by origin date ∷ (a.more ++ e ∷ []))) (opening by origin date ∷ []) a.more old mid new
+    (λ e own. (refl, all-append (IsOwn A by origin next) a.more (e ∷ []) added.are.1 (subst (λ (n : ℕ). IsOwn A by origin n e) is own, tt)))
+    begun going opened (calls_at id file (IsEvent (opening by origin date)) old mid (opening by origin date ∷ []) opened first) (calls_at id file (IsOwn A by origin number) mid new a.more a.behind rest))

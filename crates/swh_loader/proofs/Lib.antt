@@ -1,4 +1,5 @@
 pub mod Among
+pub mod CallLaws
 pub mod Closes
 pub mod Ends
 pub mod Further

@@ -7,7 +7,7 @@ use Rattle.swh_model.specs.declared.event.Event.{Event}
 use Rattle.swh_model.specs.declared.event.EventKind.{EventKind}
 use Rattle.swh_model.specs.declared.event.EventKind.TheVariants.{Batch, Open, Mark}
 use Rattle.swh_model.specs.Step.{IsFinal, Statuses, last_status}
-use Rattle.swh_loader.specs.Adding.{adding, marking, IsEvent, AreAmong, IsBatchAmong, IsNoBatch, IsOwnKind, IsOwn}
+use Rattle.swh_loader.specs.Adding.{marking, IsEvent, AreAmong, IsBatchOf, IsBatchAmong, IsNoBatch, IsOwnKind, IsOwn}
 use Rattle.swh_loader.specs.Visiting.{IsOpen, IsMarked}
 
 -- a mark
@@ -15,14 +15,14 @@ pub own_mark : (A : List Entry → Type 0) (by : ℕ) (origin : List ℕ) (numbe
 own_mark A by origin number status snapshot e is = subst (IsOwn A by origin number) (sym is) (record { by_one = refl; kind = (refl, refl) })
 
 -- a batch of some objects
-pub batch_among : (by : ℕ) (objects entries : List Entry) → AreAmong objects entries → (e : Event) → IsEvent (adding by entries) e → IsBatchAmong by objects e
-batch_among by objects entries among e is = record { entries = entries; is = is; among = among }
+pub batch_among : (by : ℕ) (objects entries : List Entry) → AreAmong objects entries → (e : Event) → IsBatchOf by entries e → IsBatchAmong by objects e
+batch_among by objects entries among e is_of = record { entries = entries; is_of = is_of; among = among }
 
 pub own_batch : (A : List Entry → Type 0) (by : ℕ) (origin : List ℕ) (number : ℕ) (objects : List Entry) → ((entries : List Entry) → AreAmong objects entries → A entries) → (e : Event) → IsBatchAmong by objects e → IsOwn A by origin number e
-own_batch A by origin number objects f e b = subst (IsOwn A by origin number) (sym b.is) (record { by_one = refl; kind = f b.entries b.among })
+own_batch A by origin number objects f e b = subst (IsOwn A by origin number) (sym b.is_of.is) (record { by_one = refl; kind = (b.is_of.some, f b.entries b.among) })
 
 kind_as : (A B : List Entry → Type 0) (origin : List ℕ) (number : ℕ) → ((entries : List Entry) → A entries → B entries) → (what : EventKind) → IsOwnKind A origin number what → IsOwnKind B origin number what
-kind_as A B origin number f (Batch entries) h = f entries h
+kind_as A B origin number f (Batch entries) h = (h.0, f entries h.1)
 kind_as A B origin number f (Open other kind date) h = h
 kind_as A B origin number f (Mark other visit status snapshot) h = h
 

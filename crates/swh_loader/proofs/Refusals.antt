@@ -1,6 +1,7 @@
 -- The refusals that a load meets, and what they leave.
 use Rattle.std.proofs.Common.{◌≡◌, ◌⊎◌, inl, inr, ℕ, zero, suc, ◌+◌, ◌-◌, ◌<◌, ◌≤◌, Option, Some, None, List, [], ◌∷◌, length, refl, sym, ap, ◌∙◌, subst, arith}
 use Rattle.std.specs.List.{slice_get}
+use Rattle.std.proofs.lemmas.Option.{none-some}
 use Rattle.swh_base.specs.declared.kind.Kind.{Kind}
 use Rattle.swh_base.specs.declared.name.Name.{Name}
 use Rattle.swh_base.specs.declared.entry.Entry.{Entry}
@@ -23,7 +24,7 @@ use Rattle.swh_keeper.specs.declared.fault.Refusal.{Refusal}
 use Rattle.swh_keeper.specs.declared.fault.Refusal.TheVariants as refusal
 use Rattle.swh_loader.specs.declared.fault.LoadWhy.{LoadWhy}
 use Rattle.swh_loader.specs.Adding.{IsEvent}
-use Rattle.swh_loader.specs.Stopping.{MayStop, IsWhyOf, StopsFor}
+use Rattle.swh_loader.specs.Stopping.{MayStop, IsWhyOf, StopsUnchanged, StopsFor}
 use Rattle.swh_loader.proofs.Limiting.{none_collides, none_passes}
 use Rattle.swh_loader.proofs.Sends.{fresh-same}
 
@@ -53,6 +54,19 @@ stops_at {D} id faults old new by wish event (refusal.Ended status) stop may ful
 stops_at {D} id faults old new by wish event (refusal.NoSnapshot name) stop may full h e rose = absurd e
 stops_at {D} id faults old new by wish event (refusal.NotClosed parent child) stop may full h e rose = absurd e
 stops_at {D} id faults old new by wish event (refusal.Collision name) stop may full h e rose = absurd e
+
+-- a refusal where a disk had failed before
+pub held_back : {D : Type 0} (old new : Kept D) (by : ℕ) (wish : EventKind) (r : Refusal) (stop : LoadWhy) → Refuses old by wish new r → IsWhyOf r stop → (n : ℕ) → old.wounded ≡ Some n → StopsUnchanged old new stop
+held_back old new by wish (refusal.Wounded first) stop h e n some = record { same = h.1; cause = inl e }
+held_back old new by wish (refusal.Limit which number) stop h e n some = absurd (none-some n (sym h.unwounded ∙ some))
+held_back old new by wish refusal.DiskFault stop h e n some = absurd (none-some n (sym h.before_it ∙ some))
+held_back old new by wish (refusal.Memory stands) stop h e n some = record { same = h.1; cause = inr e }
+held_back old new by wish (refusal.NoVisit have) stop h e n some = absurd e
+held_back old new by wish (refusal.NotYours other) stop h e n some = absurd e
+held_back old new by wish (refusal.Ended status) stop h e n some = absurd e
+held_back old new by wish (refusal.NoSnapshot name) stop h e n some = absurd e
+held_back old new by wish (refusal.NotClosed parent child) stop h e n some = absurd e
+held_back old new by wish (refusal.Collision name) stop h e n some = absurd e
 
 -- a batch that is new and within the limits
 pub batch_may : {D : Type 0} (old new : Kept D) (by : ℕ) (entries : List Entry) (r : Refusal) → AreNew (replay old.history).bodies entries → Refuses old by (Batch entries) new r → MayStop r

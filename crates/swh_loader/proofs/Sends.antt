@@ -1,6 +1,7 @@
 -- What waits, and what is held once it was sent.
-use Rattle.std.proofs.Common.{◌≡◌, ◌≢◌, ℕ, ◌+◌, cond, Option, Some, None, List, [], ◌∷◌, ◌++◌, length, refl, sym, ap, ◌∙◌, subst, arith, append_assoc}
-use Rattle.std.specs.Prelude.{is_some, sum_by}
+use Rattle.std.proofs.Common.{◌≡◌, ◌≢◌, ◌==◌, ℕ, ◌+◌, true, false, cond, Option, Some, None, List, [], ◌∷◌, ◌++◌, length, refl, sym, ap, ◌∙◌, subst, arith, append_assoc}
+use Rattle.std.specs.Prelude.{is_some, sum_by, vec_len}
+use Rattle.std.specs.Global.{Vec}
 use Rattle.std.specs.List.{AllByRecursion}
 use Rattle.std.specs.FinMap as finite
 use Rattle.std.proofs.lemmas.List.{append-nil}
@@ -27,6 +28,10 @@ use Rattle.swh_loader.specs.Sending.{HasRoom, IsTaken, IsWaiting, AllHeld, SameV
 use Rattle.swh_loader.proofs.Steps.{applied}
 use Rattle.swh_loader.proofs.Limiting.{limits_more, counted_more}
 use Rattle.swh_loader.proofs.Among.{among_front, among_push}
+
+-- a vector that is not empty has elements
+pub not_empty : (v : Vec Entry) → (vec_len v == 0) ≡ false → v.items ≢ []
+not_empty v some none = let both : true ≡ false = ap (λ (n : ℕ). n == 0) (sym (v.ok.0 ∙ ap length none)) ∙ some in cc
 
 -- new entries are all fresh
 pub fresh-same : (bodies : Bodies) (es : List Entry) → AreNew bodies es → fresh bodies es ≡ es

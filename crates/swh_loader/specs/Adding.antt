@@ -1,5 +1,5 @@
 -- What a load adds to a history.
-use Rattle.std.specs.Prelude.{◌≡◌, ℕ, ◌≤◌, Option, List, ◌++◌, Contains}
+use Rattle.std.specs.Prelude.{◌≡◌, ◌≢◌, ℕ, ◌≤◌, Option, List, [], ◌++◌, Contains}
 use Rattle.std.specs.List.{AllByRecursion}
 use Rattle.swh_base.specs.declared.entry.Entry.{Entry}
 use Rattle.swh_base.specs.declared.visit.VisitKind.TheVariants.{Fast}
@@ -26,19 +26,24 @@ IsEvent x e = e ≡ x
 abbrev pub AreAmong : List Entry → List Entry → Type 0
 AreAmong objects entries = AllByRecursion (Contains objects) entries
 
+-- The event is a batch of these, and there are some.
+pub record IsBatchOf (by : ℕ) (entries : List Entry) (e : Event) : Type 0 where
+  pub is : e ≡ adding by entries
+  pub some : entries ≢ []
+
 -- The event is a batch of some of these objects.
 pub record IsBatchAmong (by : ℕ) (objects : List Entry) (e : Event) : Type 0 where
   pub entries : List Entry
-  pub is : e ≡ adding by entries
+  pub is_of : IsBatchOf by entries e
   pub among : AreAmong objects entries
 
 -- No batch is allowed.
 abbrev pub IsNoBatch : List Entry → Type 0
 IsNoBatch entries = ⊥
 
--- The event marks this visit, or adds a batch that is allowed.
+-- The event marks this visit, or adds a batch that is allowed and not empty.
 abbrev pub IsOwnKind : (List Entry → Type 0) → List ℕ → ℕ → EventKind → Type 0
-IsOwnKind IsAllowed origin number (Batch entries) = IsAllowed entries
+IsOwnKind IsAllowed origin number (Batch entries) = (entries ≢ []) × IsAllowed entries
 IsOwnKind IsAllowed origin number (Open other kind date) = ⊥
 IsOwnKind IsAllowed origin number (Mark other visit status snapshot) = (other ≡ origin) × (visit ≡ number)
 

@@ -1,18 +1,21 @@
 -- What a load of a job leaves, whatever it answers.
-use Rattle.std.specs.Prelude.{◌≡◌, ◌⊎◌, ℕ, ◌+◌, ◌≤◌, List, [], ◌∷◌, ◌++◌, length}
+use Rattle.std.specs.Prelude.{◌≡◌, ◌⊎◌, ℕ, ◌+◌, ◌≤◌, Result, Ok, Err, List, [], ◌∷◌, ◌++◌, length}
 use Rattle.std.specs.List.{AllByRecursion}
 use Rattle.swh_base.specs.declared.kind.Kind.{Kind}
 use Rattle.swh_base.specs.declared.entry.Entry.{Entry}
+use Rattle.swh_outside.specs.Disk.{File}
 use Rattle.swh_outside.specs.declared.fault.Opened.{Opened}
 use Rattle.swh_outside.specs.declared.fault.Opened.TheVariants.{Found, NotFound, Failed, Memory}
 use Rattle.swh_model.specs.declared.event.Event.{Event}
 use Rattle.swh_model.specs.Archive.{visits_of}
 use Rattle.swh_model.specs.Step.{replay}
 use Rattle.swh_keeper.specs.Kept.{Kept}
+use Rattle.swh_loader.specs.declared.end.Loaded.{Loaded}
 use Rattle.swh_loader.specs.declared.fault.LoadFault.{LoadFault}
 use Rattle.swh_loader.specs.Adding.{opening, IsEvent, IsNoBatch, IsOwn}
+use Rattle.swh_loader.specs.Calls.{MakesCallsOf}
 use Rattle.swh_loader.specs.Ending.{AreMadeBy}
-use Rattle.swh_loader.specs.Stopping.{StopsFor}
+use Rattle.swh_loader.specs.Stopping.{StopsUnchanged, StopsFor}
 
 -- The number of an origin's next visit.
 abbrev pub next_visit : List Event → List ℕ → ℕ
@@ -36,6 +39,12 @@ pub record AddsVisit (IsBatch : List Entry → Type 0) (by : ℕ) (origin : List
   pub behind : h' ≡ h ++ more
   pub are : AreOfVisit IsBatch by origin date (next_visit h origin) more
 
+-- The device calls of whatever a load added, and of the event that comes next where a disk failed.
+abbrev pub MakesVisitCalls : {D : Type 0} → (Kind → List ℕ → List ℕ) → (D → File) → (List Entry → Type 0) → ℕ → List ℕ → ℕ → Kept D → Kept D → Type 0
+MakesVisitCalls id file IsBatch by origin date old new =
+    (more : List Event) → new.history ≡ old.history ++ more
+    → MakesCallsOf id file (λ next. AreOfVisit IsBatch by origin date (next_visit old.history origin) (more ++ next ∷ [])) more old new
+
 -- It stopped before its visit was opened, and nothing was added.
 pub record StopsAtOnce {D : Type 0} (id : Kind → List ℕ → List ℕ) (faults : D → ℕ) (by : ℕ) (origin : List ℕ) (date : ℕ) (old new : Kept D) (fault : LoadFault) : Type 0 where
   pub no_visit : fault.visit ≡ 0
@@ -51,6 +60,11 @@ pub record StopsLater {D : Type 0} (id : Kind → List ℕ → List ℕ) (faults
 
 abbrev pub Stops : {D : Type 0} → (Kind → List ℕ → List ℕ) → (D → ℕ) → (List Entry → Type 0) → ℕ → List ℕ → ℕ → Kept D → Kept D → LoadFault → Type 0
 Stops id faults IsBatch by origin date old new fault = StopsAtOnce id faults by origin date old new fault ⊎ StopsLater id faults IsBatch by origin date old new fault
+
+-- Where a disk had failed before, no visit is opened and nothing is changed.
+abbrev pub IsHeldBack : {D : Type 0} → Kept D → Kept D → Result Loaded LoadFault → Type 0
+IsHeldBack old new (Ok loaded) = ⊥
+IsHeldBack old new (Err fault) = (fault.visit ≡ 0) × StopsUnchanged old new fault.why
 
 -- The input is as it was opened; of one that is found its path is the same, and its count of faults did not fall.
 abbrev pub IsSameInput : {S : Type 0} → (S → List ℕ) → (S → ℕ) → Opened S → Opened S → Type 0

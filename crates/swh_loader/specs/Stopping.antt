@@ -1,5 +1,5 @@
 -- Why a load stops, and what it leaves.
-use Rattle.std.specs.Prelude.{◌≡◌, ℕ, ◌+◌, Some, None, List, length}
+use Rattle.std.specs.Prelude.{◌≡◌, ◌⊎◌, ℕ, ◌+◌, Some, None, List, length}
 use Rattle.swh_base.specs.declared.kind.Kind.{Kind}
 use Rattle.swh_base.specs.declared.visit.Which.{Which}
 use Rattle.swh_segment.specs.Makes.{EitherRose}
@@ -48,6 +48,11 @@ pub record IsFileFull {D : Type 0} (id : Kind → List ℕ → List ℕ) (IsTrie
   pub tried : IsTried event
   pub may : May id (replay new.history) event
   pub passes : FilePasses new.history event.what which number
+
+-- Nothing is changed: a disk had failed before, or there is no memory.
+pub record StopsUnchanged {D : Type 0} (old new : Kept D) (stop : LoadWhy) : Type 0 where
+  pub same : new ≡ old
+  pub cause : (stop ≡ why.Wounded) ⊎ (stop ≡ why.Memory)
 
 -- Why a load stops whose events are like these. No one else ends its visit.
 abbrev pub StopsFor : {D : Type 0} → (Kind → List ℕ → List ℕ) → (D → ℕ) → (Event → Type 0) → Kept D → Kept D → LoadWhy → Type 0

@@ -1,5 +1,5 @@
 // One load: an input read, made, sent, and its visit ended.
-ghost use Rattle.std.specs.Prelude.{◌≡◌, ◌≤◌, ◌+◌, ◌∷◌, [], Some, None, IfOk, IfErr, OnOk, length};
+ghost use Rattle.std.specs.Prelude.{◌≡◌, ◌≤◌, ◌+◌, ◌∷◌, [], Some, None, ℕ, IfOk, IfErr, OnOk, length};
 ghost use Rattle.swh_base.specs.declared.visit.Status.TheVariants.{Created, Ongoing, Full as FullStatus, NotFound as NotFoundStatus, Failed as FailedStatus};
 ghost use Rattle.swh_model.specs.Archive.{visits_of, IsClosed};
 ghost use Rattle.swh_model.specs.Step.{replay, snapshot_name};
@@ -9,12 +9,13 @@ ghost use Rattle.swh_loader.specs.declared.end.StreamWhy.TheVariants.{LeftOut};
 ghost use Rattle.swh_loader.specs.declared.end.BadInput.TheVariants.{Stream as BadStream, Read as BadRead};
 ghost use Rattle.swh_loader.specs.declared.end.End.TheVariants.{Full as EndFull, NotFound as EndNotFound, Failed as EndFailed};
 ghost use Rattle.swh_loader.specs.Adding.{AreAmong, IsNoBatch, IsOwn, Adds};
+ghost use Rattle.swh_loader.specs.Calls.{MakesCalls};
 ghost use Rattle.swh_loader.specs.Stopping.{StopsFor};
 ghost use Rattle.swh_loader.specs.Visiting.{IsVisit, IsOpen, GoesOn, IsMarked};
 ghost use Rattle.swh_loader.specs.Sending.{bodies_of};
 ghost use Rattle.swh_loader.specs.Ending.{AreMadeBy, IsSentEnd, IsEndOf, IsJobEnd, last_of, statuses_of};
 ghost use Rattle.swh_loader.specs.Reading.{IsRead, IsWholeInput};
-ghost use Rattle.swh_loader.specs.Leaving.{AreAllowed, AddsVisit, Stops, IsSameInput};
+ghost use Rattle.swh_loader.specs.Leaving.{AreAllowed, AddsVisit, MakesVisitCalls, Stops, IsHeldBack, IsSameInput};
 
 use crate::end::{BadInput, End, Loaded, StreamWhy};
 use crate::fault::{LoadFault, LoadWhy};
@@ -87,6 +88,7 @@ fn end_bad<N: Namer, D: Disk>(
     ensures end { IfOk result (λ end. end ≡ EndFailed bad) }
     ensures marked { OnOk result (IsMarked keeper.old.history keeper.new.history origin.now visit by ((FailedStatus, None) ∷ [])) }
     ensures on { OnOk result (GoesOn keeper.old keeper.new) }
+    ensures calls { D.tells → MakesCalls N.id_of D.file (IsOwn IsNoBatch by origin.now visit) keeper.old keeper.new }
     ensures adds { Adds D.faults (IsOwn IsNoBatch by origin.now visit) keeper.old keeper.new }
     ensures stops { IfErr result (StopsFor N.id_of D.faults (IsOwn IsNoBatch by origin.now visit) keeper.old keeper.new) }
 {
@@ -112,6 +114,7 @@ fn end_full<N: Namer, D: Disk, G: Gate>(
     ensures end { IfOk result (λ end. end ≡ EndFull snapshot) }
     ensures marked { OnOk result (IsMarked keeper.old.history keeper.new.history origin.now visit by ((FullStatus, Some snapshot) ∷ [])) }
     ensures on { OnOk result (GoesOn keeper.old keeper.new) }
+    ensures calls { D.tells → MakesCalls N.id_of D.file (IsOwn IsNoBatch by origin.now visit) keeper.old keeper.new }
     ensures adds { Adds D.faults (IsOwn IsNoBatch by origin.now visit) keeper.old keeper.new }
     ensures stops { IfErr result (StopsFor N.id_of D.faults (IsOwn IsNoBatch by origin.now visit) keeper.old keeper.new) }
 {
@@ -147,6 +150,7 @@ fn finish<N: Namer, D: Disk, G: Gate>(
     ensures end { IfOk result (λ end. IsSentEnd (bodies_of keeper.new) made end) }
     ensures marked { IfOk result (λ end. IsMarked keeper.old.history keeper.new.history origin.now visit by (last_of end)) }
     ensures on { OnOk result (GoesOn keeper.old keeper.new) }
+    ensures calls { D.tells → MakesCalls N.id_of D.file (IsOwn (AreAmong made.objects.items) by origin.now visit) keeper.old keeper.new }
     ensures adds { Adds D.faults (IsOwn (AreAmong made.objects.items) by origin.now visit) keeper.old keeper.new }
     ensures stops { IfErr result (StopsFor N.id_of D.faults (IsOwn (AreAmong made.objects.items) by origin.now visit) keeper.old keeper.new) }
 {
@@ -191,6 +195,7 @@ fn load_found<N: Namer, D: Disk, S: Source, G: Gate>(
     ensures end { IfOk result (λ end. IsEndOf N.id_of S.tells (S.left source.old) (S.faults source.old) (S.faults source.new) (bodies_of keeper.new) end) }
     ensures marked { IfOk result (λ end. IsMarked keeper.old.history keeper.new.history origin.now visit by (statuses_of end)) }
     ensures on { OnOk result (GoesOn keeper.old keeper.new) }
+    ensures calls { D.tells → MakesCalls N.id_of D.file (IsOwn (AreMadeBy N.id_of S.tells (S.left source.old)) by origin.now visit) keeper.old keeper.new }
     ensures adds { Adds D.faults (IsOwn (AreMadeBy N.id_of S.tells (S.left source.old)) by origin.now visit) keeper.old keeper.new }
     ensures stops { IfErr result (StopsFor N.id_of D.faults (IsOwn (AreMadeBy N.id_of S.tells (S.left source.old)) by origin.now visit) keeper.old keeper.new) }
     ensures same_path { S.path source.new ≡ S.path source.old }
@@ -216,6 +221,7 @@ fn end_absent<N: Namer, D: Disk>(
     ensures end { IfOk result (λ end. end ≡ EndNotFound) }
     ensures marked { OnOk result (IsMarked keeper.old.history keeper.new.history origin.now visit by ((NotFoundStatus, None) ∷ [])) }
     ensures on { OnOk result (GoesOn keeper.old keeper.new) }
+    ensures calls { D.tells → MakesCalls N.id_of D.file (IsOwn IsNoBatch by origin.now visit) keeper.old keeper.new }
     ensures adds { Adds D.faults (IsOwn IsNoBatch by origin.now visit) keeper.old keeper.new }
     ensures stops { IfErr result (StopsFor N.id_of D.faults (IsOwn IsNoBatch by origin.now visit) keeper.old keeper.new) }
 {
@@ -236,6 +242,7 @@ fn end_unread<N: Namer, D: Disk>(
     ensures end { IfOk result (λ end. end ≡ EndFailed BadRead) }
     ensures marked { OnOk result (IsMarked keeper.old.history keeper.new.history origin.now visit by ((Ongoing, None) ∷ (FailedStatus, None) ∷ [])) }
     ensures on { OnOk result (GoesOn keeper.old keeper.new) }
+    ensures calls { D.tells → MakesCalls N.id_of D.file (IsOwn IsNoBatch by origin.now visit) keeper.old keeper.new }
     ensures adds { Adds D.faults (IsOwn IsNoBatch by origin.now visit) keeper.old keeper.new }
     ensures stops { IfErr result (StopsFor N.id_of D.faults (IsOwn IsNoBatch by origin.now visit) keeper.old keeper.new) }
 {
@@ -261,6 +268,7 @@ fn load_opened<N: Namer, D: Disk, S: Source, G: Gate>(
     ensures end { IfOk result (λ end. IsJobEnd N.id_of S.tells S.left S.faults (bodies_of keeper.new) stream.old stream.new end) }
     ensures marked { IfOk result (λ end. IsMarked keeper.old.history keeper.new.history origin.now visit by (statuses_of end)) }
     ensures on { OnOk result (GoesOn keeper.old keeper.new) }
+    ensures calls { D.tells → MakesCalls N.id_of D.file (IsOwn (AreAllowed N.id_of S.tells S.left stream.old) by origin.now visit) keeper.old keeper.new }
     ensures adds { Adds D.faults (IsOwn (AreAllowed N.id_of S.tells S.left stream.old) by origin.now visit) keeper.old keeper.new }
     ensures stops { IfErr result (StopsFor N.id_of D.faults (IsOwn (AreAllowed N.id_of S.tells S.left stream.old) by origin.now visit) keeper.old keeper.new) }
     ensures same { IsSameInput S.path S.faults stream.old stream.new }
@@ -300,6 +308,10 @@ pub fn load_one<N: Namer, D: Disk, S: Source, G: Gate>(
 
     // Whatever it answers, it adds its visit's events alone, with nothing but what the input makes.
     ensures adds { AddsVisit (AreAllowed N.id_of S.tells S.left job.old.stream) by job.old.origin date keeper.old.history keeper.new.history }
+    // The device calls that it makes: those of its events, in order; where a disk fails, up to one of the next event.
+    ensures calls { D.tells → MakesVisitCalls N.id_of D.file (AreAllowed N.id_of S.tells S.left job.old.stream) by job.old.origin date keeper.old keeper.new }
+    // Where a disk had failed before, it opens no visit and changes nothing.
+    ensures wounded { (n : ℕ) → keeper.old.wounded ≡ Some n → IsHeldBack keeper.old keeper.new result }
     // Why it stopped, and what is left then.
     ensures stops { IfErr result (Stops N.id_of D.faults (AreAllowed N.id_of S.tells S.left job.old.stream) by job.old.origin date keeper.old keeper.new) }
     // The counts of faults, and the job.

@@ -2,7 +2,8 @@
 ghost use Rattle.std.specs.Prelude.{◌≡◌, ◌≢◌, ◌∷◌, [], Some, None, IfOk, IfErr, OnOk, ℕ};
 ghost use Rattle.swh_model.specs.Step.{added};
 ghost use Rattle.swh_object.specs.Object.{IsObject};
-ghost use Rattle.swh_loader.specs.Adding.{adding, IsEvent, AreAmong, IsBatchAmong, Adds};
+ghost use Rattle.swh_loader.specs.Adding.{AreAmong, IsBatchOf, IsBatchAmong, Adds};
+ghost use Rattle.swh_loader.specs.Calls.{MakesCalls};
 ghost use Rattle.swh_loader.specs.Stopping.{StopsFor};
 ghost use Rattle.swh_loader.specs.Visiting.{GoesOn};
 ghost use Rattle.swh_loader.specs.Sending.{HasRoom, IsStanding, IsWaiting, IsTaken, SameVisits, AreSent, bodies_of, to_be};
@@ -63,8 +64,9 @@ fn flush<N: Namer, D: Disk>(
     ensures bodies { OnOk result (bodies_of keeper.new ≡ to_be keeper.old pending) }
     ensures on { OnOk result (GoesOn keeper.old keeper.new) }
     ensures visits { OnOk result (SameVisits keeper.old keeper.new by) }
-    ensures adds { Adds D.faults (IsEvent (adding by pending.entries.items)) keeper.old keeper.new }
-    ensures stops { IfErr result (StopsFor N.id_of D.faults (IsEvent (adding by pending.entries.items)) keeper.old keeper.new) }
+    ensures calls { D.tells → MakesCalls N.id_of D.file (IsBatchOf by pending.entries.items) keeper.old keeper.new }
+    ensures adds { Adds D.faults (IsBatchOf by pending.entries.items) keeper.old keeper.new }
+    ensures stops { IfErr result (StopsFor N.id_of D.faults (IsBatchOf by pending.entries.items) keeper.old keeper.new) }
 {
     if pending.entries.is_empty() {
         return Ok(());
@@ -92,8 +94,9 @@ fn make_room<N: Namer, D: Disk>(
     ensures to_be { IfOk result (λ room. to_be keeper.new room ≡ to_be keeper.old pending) }
     ensures on { OnOk result (GoesOn keeper.old keeper.new) }
     ensures visits { OnOk result (SameVisits keeper.old keeper.new by) }
-    ensures adds { Adds D.faults (IsEvent (adding by pending.entries.items)) keeper.old keeper.new }
-    ensures stops { IfErr result (StopsFor N.id_of D.faults (IsEvent (adding by pending.entries.items)) keeper.old keeper.new) }
+    ensures calls { D.tells → MakesCalls N.id_of D.file (IsBatchOf by pending.entries.items) keeper.old keeper.new }
+    ensures adds { Adds D.faults (IsBatchOf by pending.entries.items) keeper.old keeper.new }
+    ensures stops { IfErr result (StopsFor N.id_of D.faults (IsBatchOf by pending.entries.items) keeper.old keeper.new) }
 {
     if pending.has_room(name) {
         return Ok(pending);
@@ -115,8 +118,9 @@ fn take_in<N: Namer, D: Disk>(
     ensures taken { IfOk result (λ taken. IsTaken N.id_of keeper.old pending object keeper.new taken) }
     ensures on { OnOk result (GoesOn keeper.old keeper.new) }
     ensures visits { OnOk result (SameVisits keeper.old keeper.new by) }
-    ensures adds { Adds D.faults (IsEvent (adding by pending.entries.items)) keeper.old keeper.new }
-    ensures stops { IfErr result (StopsFor N.id_of D.faults (IsEvent (adding by pending.entries.items)) keeper.old keeper.new) }
+    ensures calls { D.tells → MakesCalls N.id_of D.file (IsBatchOf by pending.entries.items) keeper.old keeper.new }
+    ensures adds { Adds D.faults (IsBatchOf by pending.entries.items) keeper.old keeper.new }
+    ensures stops { IfErr result (StopsFor N.id_of D.faults (IsBatchOf by pending.entries.items) keeper.old keeper.new) }
 {
     let entry = object.into_entry();
     let mut pending = make_room(alloc, keeper, by, pending, &entry.name)?;
@@ -141,6 +145,7 @@ pub fn send_all<N: Namer, D: Disk>(
     ensures sent { IfOk result (λ collision. AreSent (bodies_of keeper.new) objects.items collision) }
     ensures on { OnOk result (GoesOn keeper.old keeper.new) }
     ensures visits { OnOk result (SameVisits keeper.old keeper.new by) }
+    ensures calls { D.tells → MakesCalls N.id_of D.file (IsBatchAmong by objects.items) keeper.old keeper.new }
     ensures adds { Adds D.faults (IsBatchAmong by objects.items) keeper.old keeper.new }
     ensures stops { IfErr result (StopsFor N.id_of D.faults (IsBatchAmong by objects.items) keeper.old keeper.new) }
 {

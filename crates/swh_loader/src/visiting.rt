@@ -1,10 +1,11 @@
 // The visit of a load: opened, marked and ended.
-ghost use Rattle.std.specs.Prelude.{◌≡◌, ◌≤◌, ◌+◌, ◌++◌, ◌∷◌, [], None, length, IfOk, IfErr, OnOk, OnErr};
+ghost use Rattle.std.specs.Prelude.{◌≡◌, ◌≤◌, ◌+◌, ◌++◌, ◌∷◌, [], Some, None, ℕ, length, IfOk, IfErr, OnOk, OnErr};
 ghost use Rattle.swh_base.specs.declared.visit.Status.TheVariants.{Created};
 ghost use Rattle.swh_model.specs.Archive.{visits_of};
 ghost use Rattle.swh_model.specs.Step.{replay, MayMark};
 ghost use Rattle.swh_loader.specs.Adding.{opening, marking, IsEvent, Adds};
-ghost use Rattle.swh_loader.specs.Stopping.{StopsFor};
+ghost use Rattle.swh_loader.specs.Calls.{MakesCalls};
+ghost use Rattle.swh_loader.specs.Stopping.{StopsUnchanged, StopsFor};
 ghost use Rattle.swh_loader.specs.Visiting.{IsVisit, GoesOn, IsMarked};
 
 use crate::fault::LoadWhy;
@@ -27,8 +28,10 @@ pub fn open_visit<N: Namer, D: Disk>(
     ensures visit { IfOk result (λ visit. IsVisit keeper.new.history origin.now visit date by ((Created, None) ∷ [])) }
     ensures on { OnOk result (GoesOn keeper.old keeper.new) }
     ensures before_it { OnOk result (keeper.old.wounded ≡ None) }
+    ensures calls { D.tells → MakesCalls N.id_of D.file (IsEvent (opening by origin.now date)) keeper.old keeper.new }
     ensures opened { OnOk result (keeper.new.history ≡ keeper.old.history ++ opening by origin.now date ∷ []) }
     ensures same { OnErr result (keeper.new.history ≡ keeper.old.history) }
+    ensures wounded { IfErr result (λ stop. (n : ℕ) → keeper.old.wounded ≡ Some n → StopsUnchanged keeper.old keeper.new stop) }
     ensures stops { IfErr result (StopsFor N.id_of D.faults (IsEvent (opening by origin.now date)) keeper.old keeper.new) }
     ensures store_later { D.faults keeper.old.store ≤ D.faults keeper.new.store }
     ensures ledger_later { D.faults keeper.old.ledger ≤ D.faults keeper.new.ledger }
@@ -57,6 +60,7 @@ pub fn mark<N: Namer, D: Disk>(
     requires { MayMark (replay keeper.old.history) by origin.now visit status snapshot }
     ensures marked { OnOk result (IsMarked keeper.old.history keeper.new.history origin.now visit by ((status, snapshot) ∷ [])) }
     ensures on { OnOk result (GoesOn keeper.old keeper.new) }
+    ensures calls { D.tells → MakesCalls N.id_of D.file (IsEvent (marking by origin.now visit status snapshot)) keeper.old keeper.new }
     ensures adds { Adds D.faults (IsEvent (marking by origin.now visit status snapshot)) keeper.old keeper.new }
     ensures stops { IfErr result (StopsFor N.id_of D.faults (IsEvent (marking by origin.now visit status snapshot)) keeper.old keeper.new) }
 {

@@ -63,7 +63,7 @@ module _ (id_of : Kind → List ℕ → List ℕ) (text : List ℕ) (making : Ma
     makes_all (e ∷ entries) all = (inr (makes_body all.0.objects all.0.snapshot all.0.means e all.0.among), makes_all entries all.1)
 
     had_kind : (a : Archive) (by : ℕ) (origin : List ℕ) (number : ℕ) (what : EventKind) → IsOwnKind AllMade origin number what → Had a.bodies → Had (after_kind a by what).bodies
-    had_kind a by origin number (Batch entries) own had = added-all (HasBody id_of bodies making) a.bodies entries had (makes_all entries own)
+    had_kind a by origin number (Batch entries) own had = added-all (HasBody id_of bodies making) a.bodies entries had (makes_all entries own.1)
     had_kind a by origin number (Open other kind date) own had = had
     had_kind a by origin number (Mark other visit status snapshot) own had = had
 

@@ -43,7 +43,7 @@ rose_above a b none rose = omega (arith, none, rose)
 
 -- events are a load's own also where more batches are allowed
 own_kind : (P Q : List Entry → Type 0) (origin : List ℕ) (number : ℕ) → ((entries : List Entry) → P entries → Q entries) → (what : EventKind) → IsOwnKind P origin number what → IsOwnKind Q origin number what
-own_kind P Q origin number more (Batch entries) is = more entries is
+own_kind P Q origin number more (Batch entries) is = (is.0, more entries is.1)
 own_kind P Q origin number more (Open other kind date) is = is
 own_kind P Q origin number more (Mark other visit status snapshot) is = is
 

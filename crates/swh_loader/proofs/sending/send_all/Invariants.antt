@@ -1,5 +1,6 @@
 use Rattle.std.proofs.Common.{length}
 use Rattle.swh_loader.specs.Adding.{AreAmong, IsBatchAmong, Adds}
+use Rattle.swh_loader.specs.Calls.{MakesCalls}
 use Rattle.swh_loader.specs.Visiting.{GoesOn}
 use Rattle.swh_loader.specs.Sending.{IsWaiting, SameVisits, bodies_of, to_be}
 use Rattle.swh_loader.proofs.Sends.{Took}
@@ -11,6 +12,7 @@ invariant-objects g l = record {
   visits : SameVisits l.fn.keeper l.keeper l.by;
   waiting : IsWaiting g.N.Namer.id_of (bodies_of l.keeper) l.pending;
   among : AreAmong l.fn.objects.items l.pending.entries.items;
+  calls : g.D.Disk.tells → MakesCalls g.N.Namer.id_of g.D.Disk.file (IsBatchAmong l.by l.fn.objects.items) l.fn.keeper l.keeper;
   adds : Adds g.D.Disk.faults (IsBatchAmong l.by l.fn.objects.items) l.fn.keeper l.keeper;
   took : Took (to_be l.keeper l.pending) l.fn.objects.items l.left.items;
 }
