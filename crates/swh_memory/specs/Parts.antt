@@ -9,8 +9,8 @@ sink_bytes sink = sink.bytes.items
 abbrev pub sink_faults : MemorySink → ℕ
 sink_faults sink = sink.failures.faults
 
-abbrev pub clock_time : MemoryClock → ℕ
-clock_time clock = clock.time
+abbrev pub clock_time : MemoryClock → ℕ → ℕ
+clock_time clock _ = clock.time
 
 abbrev pub clock_faults : MemoryClock → ℕ
 clock_faults clock = clock.failures.faults

@@ -16,7 +16,7 @@ impl MemoryClock {
 
     /// A clock that says this many seconds since 1970. Its calls with the listed numbers, from 0, will fail.
     pub fn new(time: u64, failing: Vec<u64>) -> Self
-        ensures says { clock_time result ≡ time }
+        ensures says { (k : ℕ) → clock_time result k ≡ time }
         ensures no_fault { clock_faults result ≡ 0 }
     {
         MemoryClock {

@@ -100,6 +100,7 @@ fn a_clock_stands(rt: HostRuntime) -> Result<(), Fail> {
     let mut clock = MemoryClock::new(1_000_000_000, [1].to_vec(alloc)?);
     assert_eq!(rt; clock.now(), Ok(1_000_000_000));
     assert!(rt; clock.now().is_err());
+    assert_eq!(rt; clock.now(), Ok(1_000_000_000));
     assert_eq!(rt; clock.faults(), 1);
     Ok(())
 }

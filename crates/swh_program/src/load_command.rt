@@ -126,7 +126,7 @@ fn load_job<N: Namer, P: Depot, O: Origins, C: Clock, G: Gate>(
     job: JobLine,
 ) -> Answer
     ensures load { IsLoadedJob N.id_of O.tells (O.file_at origins.old (string_bytes job.path)) (Rose (O.path_faults origins.old (string_bytes job.path)) (O.path_faults origins.new (string_bytes job.path)))
-        C.tells (C.time clock.old) P.tells (archive_at (P.files depot.old) dir.now) (archive_at (P.files depot.new) dir.now) job.url result
+        C.tells (C.time clock.old 0) P.tells (archive_at (P.files depot.old) dir.now) (archive_at (P.files depot.new) dir.now) job.url result
         ⊎ IsUnloaded N.id_of P.tells (archive_at (P.files depot.old) dir.now) (archive_at (P.files depot.new) dir.now) result }
     ensures elsewhere { P.tells → SameElsewhere dir.now (P.files depot.old) (P.files depot.new) }
     ensures disk_cause { TellsDisk result → Rose (P.faults depot.old) (P.faults depot.new) }
@@ -160,7 +160,7 @@ pub fn load<N: Namer, P: Depot, O: Origins, C: Clock, G: Gate>(
     dir: &str,
     jobs: &str,
 ) -> Answer
-    ensures ends { LoadEnds N.id_of O.tells (O.file_at origins.old) (O.path_faults origins.old) (O.path_faults origins.new) (O.file_at desk.old) C.tells (C.time clock.old) P.tells
+    ensures ends { LoadEnds N.id_of O.tells (O.file_at origins.old) (O.path_faults origins.old) (O.path_faults origins.new) (O.file_at desk.old) C.tells (C.time clock.old 0) P.tells
         jobs.now (archive_at (P.files depot.old) dir.now) (archive_at (P.files depot.new) dir.now) result }
     ensures elsewhere { P.tells → SameElsewhere dir.now (P.files depot.old) (P.files depot.new) }
     ensures disk_cause { TellsDisk result → Rose (P.faults depot.old) (P.faults depot.new) }

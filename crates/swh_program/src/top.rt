@@ -42,7 +42,7 @@ fn carry_out<N: Namer, P: Depot, O: Origins, C: Clock, G: Gate>(
     ensures init { (dir : List ℕ) → wanted_by command.now ≡ ToInit dir
         → Inits dir P.tells (P.files depot.old) (P.files depot.new) (P.faults depot.old) (P.faults depot.new) result }
     ensures load { (dir jobs : List ℕ) → wanted_by command.now ≡ ToLoad dir jobs
-        → Loads N.id_of O.tells (O.file_at origins.old) (O.path_faults origins.old) (O.path_faults origins.new) (O.file_at desk.old) C.tells (C.time clock.old) P.tells dir jobs
+        → Loads N.id_of O.tells (O.file_at origins.old) (O.path_faults origins.old) (O.path_faults origins.new) (O.file_at desk.old) C.tells (C.time clock.old 0) P.tells dir jobs
         (P.files depot.old) (P.files depot.new) (P.faults depot.old) (P.faults depot.new) (O.faults desk.old) (O.faults desk.new) (C.faults clock.old) (C.faults clock.new) result }
     ensures ask { (dir path : List ℕ) → wanted_by command.now ≡ ToAsk dir path
         → Asks N.id_of dir path P.tells (P.files depot.old) (P.files depot.new) (P.faults depot.old) (P.faults depot.new) result }
@@ -84,7 +84,7 @@ fn obey<N: Namer, P: Depot, O: Origins, C: Clock, G: Gate>(
     ensures init { (dir : List ℕ) → IsCommand (map string_bytes words.now) (ToInit dir)
         → Inits dir P.tells (P.files depot.old) (P.files depot.new) (P.faults depot.old) (P.faults depot.new) result }
     ensures load { (dir jobs : List ℕ) → IsCommand (map string_bytes words.now) (ToLoad dir jobs)
-        → Loads N.id_of O.tells (O.file_at origins.old) (O.path_faults origins.old) (O.path_faults origins.new) (O.file_at desk.old) C.tells (C.time clock.old) P.tells dir jobs
+        → Loads N.id_of O.tells (O.file_at origins.old) (O.path_faults origins.old) (O.path_faults origins.new) (O.file_at desk.old) C.tells (C.time clock.old 0) P.tells dir jobs
         (P.files depot.old) (P.files depot.new) (P.faults depot.old) (P.faults depot.new) (O.faults desk.old) (O.faults desk.new) (C.faults clock.old) (C.faults clock.new) result }
     ensures ask { (dir path : List ℕ) → IsCommand (map string_bytes words.now) (ToAsk dir path)
         → Asks N.id_of dir path P.tells (P.files depot.old) (P.files depot.new) (P.faults depot.old) (P.faults depot.new) result }
@@ -127,7 +127,7 @@ pub fn run<R, N: Namer, P: Depot, O: Origins, Y: Yard, K: Sink, C: Clock, D: Doo
         K.tells (K.taken world.old.sink) (K.taken world.new.sink) (K.faults world.old.sink) (K.faults world.new.sink) result }
 
     ensures load { (dir jobs : List ℕ) → IsCommand (map string_bytes words.now) (ToLoad dir jobs)
-        → Ends (Loads N.id_of O.tells (O.file_at world.old.origins) (O.path_faults world.old.origins) (O.path_faults world.new.origins) (O.file_at world.old.desk) C.tells (C.time world.old.clock) P.tells dir jobs
+        → Ends (Loads N.id_of O.tells (O.file_at world.old.origins) (O.path_faults world.old.origins) (O.path_faults world.new.origins) (O.file_at world.old.desk) C.tells (C.time world.old.clock 0) P.tells dir jobs
         (P.files world.old.depot) (P.files world.new.depot) (P.faults world.old.depot) (P.faults world.new.depot) (O.faults world.old.desk) (O.faults world.new.desk) (C.faults world.old.clock) (C.faults world.new.clock))
         K.tells (K.taken world.old.sink) (K.taken world.new.sink) (K.faults world.old.sink) (K.faults world.new.sink) result }
 

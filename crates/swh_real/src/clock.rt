@@ -42,7 +42,7 @@ impl<R: rt::Clock + Drop> RealClock<R> {
 impl<R: rt::Clock + Drop + Send> Clock for RealClock<R> {
     ghost tells = { ⊥ };
 
-    ghost time = { λ _. 0 };
+    ghost time = { λ _ _. 0 };
 
     ghost faults = { λ clock. clock };
 

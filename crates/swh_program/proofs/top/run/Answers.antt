@@ -52,7 +52,7 @@ returns-clause-complete_load g c dir jobs url path text before making is disks i
     let old = archive_at (g.P.Depot.files c.args.world.now.depot) dir in
     let new = archive_at (g.P.Depot.files c.obey-answer.new.depot) dir in
     let done = load_done g.N.Namer.id_of g.O.Origins.tells (g.O.Origins.file_at c.args.world.now.origins) (g.O.Origins.path_faults c.args.world.now.origins) (g.O.Origins.path_faults c.obey-answer.new.origins) (g.O.Origins.file_at c.args.world.now.desk)
-    g.C.Clock.tells (g.C.Clock.time c.args.world.now.clock) g.P.Depot.tells inputs disks jobs url path text before making old new archive job there means one room no_path
+    g.C.Clock.tells (g.C.Clock.time c.args.world.now.clock 0) g.P.Depot.tells inputs disks jobs url path text before making old new archive job there means one room no_path
     c.obey-answer.result loads.ends (λ failed. no_disk (loads.disk_cause failed)) (λ failed. no_desk (loads.source_cause failed)) (λ failed. no_clock (loads.clock_cause failed)) in
     told_with (full_line url before making) 0 _ _ _ _ _ _ _ done no_sink c.tell.ensures
 
@@ -65,7 +65,7 @@ returns-clause-no_job g c wanted =
       | ToInit dir ↦ λ is told. run_exactly _ _ _ _ _ _ _ c.tell.ensures 2 ⊥ (omega arith) (record { only = init_job c.obey-answer.result (c.obey-answer.ensures.init dir is).one_of; there = λ none. absurd none })
       | ToLoad dir jobs ↦ λ is told. run_exactly _ _ _ _ _ _ _ c.tell.ensures 2 (HasNoJob (g.O.Origins.file_at c.args.world.now.desk) (ToLoad dir jobs)) (omega arith)
           (load_job g.N.Namer.id_of g.O.Origins.tells (g.O.Origins.file_at c.args.world.now.origins) (g.O.Origins.path_faults c.args.world.now.origins) (g.O.Origins.path_faults c.obey-answer.new.origins) (g.O.Origins.file_at c.args.world.now.desk)
-          g.C.Clock.tells (g.C.Clock.time c.args.world.now.clock) g.P.Depot.tells jobs (archive_at (g.P.Depot.files c.args.world.now.depot) dir) (archive_at (g.P.Depot.files c.obey-answer.new.depot) dir) told c.obey-answer.result (c.obey-answer.ensures.load dir jobs is).ends)
+          g.C.Clock.tells (g.C.Clock.time c.args.world.now.clock 0) g.P.Depot.tells jobs (archive_at (g.P.Depot.files c.args.world.now.depot) dir) (archive_at (g.P.Depot.files c.obey-answer.new.depot) dir) told c.obey-answer.result (c.obey-answer.ensures.load dir jobs is).ends)
       | ToAsk dir path ↦ λ is told. run_exactly _ _ _ _ _ _ _ c.tell.ensures 2 ⊥ (omega arith) (record { only = ask_job c.obey-answer.result (c.obey-answer.ensures.ask dir path is).one_of; there = λ none. absurd none })
       | ToIdentify kind path ↦ λ is told. run_exactly _ _ _ _ _ _ _ c.tell.ensures 2 ⊥ (omega arith) (record { only = identify_low g.N.Namer.id_of kind c.obey-answer.result (c.obey-answer.ensures.identify kind path is).one_of; there = λ none. absurd none })
     ]
@@ -79,7 +79,7 @@ returns-clause-other_archive g c wanted =
           (init_archive (archive_at folders dir) (archive_at (g.P.Depot.files c.obey-answer.new.depot) dir) c.obey-answer.result ((c.obey-answer.ensures.init dir is).ends disks))
       | ToLoad dir jobs ↦ λ is told disks. run_exactly _ _ _ _ _ _ _ c.tell.ensures 3 (HasOtherArchive g.N.Namer.id_of folders desk_at (ToLoad dir jobs)) (omega arith)
           (load_archive g.N.Namer.id_of g.O.Origins.tells (g.O.Origins.file_at c.args.world.now.origins) (g.O.Origins.path_faults c.args.world.now.origins) (g.O.Origins.path_faults c.obey-answer.new.origins) desk_at
-          g.C.Clock.tells (g.C.Clock.time c.args.world.now.clock) g.P.Depot.tells jobs (archive_at folders dir) (archive_at (g.P.Depot.files c.obey-answer.new.depot) dir) told disks c.obey-answer.result (c.obey-answer.ensures.load dir jobs is).ends)
+          g.C.Clock.tells (g.C.Clock.time c.args.world.now.clock 0) g.P.Depot.tells jobs (archive_at folders dir) (archive_at (g.P.Depot.files c.obey-answer.new.depot) dir) told disks c.obey-answer.result (c.obey-answer.ensures.load dir jobs is).ends)
       | ToAsk dir path ↦ λ is told disks. run_exactly _ _ _ _ _ _ _ c.tell.ensures 3 (HasOtherArchive g.N.Namer.id_of folders desk_at (ToAsk dir path)) (omega arith)
           (ask_archive g.N.Namer.id_of path (archive_at folders dir) (archive_at (g.P.Depot.files c.obey-answer.new.depot) dir) c.obey-answer.result (c.obey-answer.ensures.ask dir path is).one_of ((c.obey-answer.ensures.ask dir path is).ends disks))
       | ToIdentify kind path ↦ λ is told disks. run_exactly _ _ _ _ _ _ _ c.tell.ensures 3 ⊥ (omega arith) (record { only = identify_archive g.N.Namer.id_of kind c.obey-answer.result (c.obey-answer.ensures.identify kind path is).one_of; there = λ none. absurd none })
@@ -93,14 +93,14 @@ returns-clause-short_reply g c dir path h reply is disks archive replies =
 pub returns-clause-short_line : goal.returns-clause-short_line
 returns-clause-short_line g c dir jobs is less =
     load_line g.N.Namer.id_of g.O.Origins.tells (g.O.Origins.file_at c.args.world.now.origins) (g.O.Origins.path_faults c.args.world.now.origins) (g.O.Origins.path_faults c.obey-answer.new.origins) (g.O.Origins.file_at c.args.world.now.desk)
-    g.C.Clock.tells (g.C.Clock.time c.args.world.now.clock) g.P.Depot.tells jobs (archive_at (g.P.Depot.files c.args.world.now.depot) dir) (archive_at (g.P.Depot.files c.obey-answer.new.depot) dir) c.obey-answer.result _ _ _ _
+    g.C.Clock.tells (g.C.Clock.time c.args.world.now.clock 0) g.P.Depot.tells jobs (archive_at (g.P.Depot.files c.args.world.now.depot) dir) (archive_at (g.P.Depot.files c.obey-answer.new.depot) dir) c.obey-answer.result _ _ _ _
     (c.obey-answer.ensures.load dir jobs is).ends (uncut _ _ _ _ _ _ _ c.tell.ensures (λ four. omega (arith, four, less))) less
 
 pub returns-clause-bad_input : goal.returns-clause-bad_input
 returns-clause-bad_input g c dir jobs url path before is disks inputs archive job bad =
     run_comes _ _ _ _ _ _ _ c.tell.ensures 1
     (load_input g.N.Namer.id_of g.O.Origins.tells (g.O.Origins.file_at c.args.world.now.origins) (g.O.Origins.path_faults c.args.world.now.origins) (g.O.Origins.path_faults c.obey-answer.new.origins) (g.O.Origins.file_at c.args.world.now.desk)
-    g.C.Clock.tells (g.C.Clock.time c.args.world.now.clock) g.P.Depot.tells jobs (archive_at (g.P.Depot.files c.args.world.now.depot) dir) (archive_at (g.P.Depot.files c.obey-answer.new.depot) dir) inputs disks before archive url path job bad
+    g.C.Clock.tells (g.C.Clock.time c.args.world.now.clock 0) g.P.Depot.tells jobs (archive_at (g.P.Depot.files c.args.world.now.depot) dir) (archive_at (g.P.Depot.files c.obey-answer.new.depot) dir) inputs disks before archive url path job bad
     c.obey-answer.result (c.obey-answer.ensures.load dir jobs is).ends)
 
 pub returns-clause-no_body : goal.returns-clause-no_body
