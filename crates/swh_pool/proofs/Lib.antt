@@ -1,0 +1,4 @@
+mod Lines
+mod Loads
+mod Stopped
+mod Walks

@@ -1,0 +1,73 @@
+use Rattle.std.proofs.Common.{rules, arith, ◌≡◌, ◌++◌, ◌∷◌, [], ◌≤◌, ◌+◌, List, Bool, length, get_or, map, refl, sym, ap, ◌∙◌, subst, length-append}
+use Rattle.std.proofs.lemmas.List.{length-map, map-append}
+use Rattle.swh_loader.specs.declared.end.Loaded.{Loaded}
+use Rattle.swh_pool.specs.Loads.{OneLoad, one_load, AreLoads}
+use Rattle.swh_pool.specs.Stops.{AreStops, HaveNoDiskFault}
+use Rattle.swh_pool.proofs.Loads.{loads_further}
+use Rattle.swh_pool.proofs.Stopped.{stops_of, whole_since, whole_still}
+use Rattle.swh_pool.proofs.Walks.{turned, seam_further, walked}
+use Rattle.swh_pool.proofs.loading.load_all.Goals as goal
+
+pub push_reserved-requires : goal.push_reserved-requires
+push_reserved-requires g c = omega (arith, c.jobs-test.true, c.jobs.invariant.count, c.jobs.invariant.room)
+
+pub jobs-init : goal.jobs-init
+jobs-init g c = record {
+  loads = [];
+  rest = c.args.jobs.now;
+  before = refl;
+  now = refl;
+  outcomes = c.in_ok-outcomes.ensures.items;
+  each = refl;
+  index = refl;
+  count = c.in_ok-outcomes.ensures.len;
+  room = search rules;
+}
+
+pub jobs-preserved : goal.jobs-preserved
+jobs-preserved g c =
+    let loads = c.jobs.invariant.loads in
+    let job = get_or c.jobs.jobs c.jobs.dated-index c.dated-item.result in
+    let after = c.load_dated-outcome.new.dated in
+    let load = one_load job after c.load_dated-outcome.result in
+    let long = c.jobs.invariant.index in
+    let same : length c.jobs.jobs ≡ length c.args.jobs.now = search rules in
+    let below = c.jobs-test.true in
+    let turn = turned c.jobs.jobs (map (λ x. x.after) loads) c.jobs.invariant.rest c.jobs.dated-index c.dated-item.result after c.jobs.invariant.now (length-map loads (λ x. x.after) ∙ long) (omega (arith, same, below)) in
+    record {
+      loads = loads ++ load ∷ [];
+      rest = turn.0;
+      before = c.jobs.invariant.before ∙ ap (λ rest. map (λ x. x.job) loads ++ rest) turn.1 ∙ seam_further (λ x. x.job) loads load turn.0;
+      now = turn.2 ∙ seam_further (λ x. x.after) loads load turn.0;
+      outcomes = c.push_reserved.ensures.items ∙ ap (λ l. l ++ load.outcome ∷ []) c.jobs.invariant.outcomes ∙ sym (map-append (λ x. x.outcome) loads (load ∷ []));
+      each = loads_further g.N.Namer.id_of g.S.Source.tells g.S.Source.left g.S.Source.faults g.S.Source.path g.D.Disk.tells g.D.Disk.file g.D.Disk.faults c.args.by loads load c.args.keeper.now c.jobs.keeper c.load_dated-outcome.new.keeper c.jobs.invariant.each c.load_dated-outcome.ensures;
+      index = length-append loads (load ∷ []) ∙ ap (λ n. n + 1) long;
+      count = c.push_reserved.ensures.len ∙ ap (λ n. n + 1) c.jobs.invariant.count;
+      room = c.push_reserved.ensures.capacity ∙ c.jobs.invariant.room;
+    }
+
+pub returns-clause-loads : goal.returns-clause-loads
+returns-clause-loads g c =
+    let loads = c.jobs.invariant.loads in
+    let end : length c.args.jobs.now ≤ c.jobs.dated-index = omega (arith, c.jobs-test.false) in
+    let same : length c.jobs.jobs ≡ length c.args.jobs.now = search rules in
+    record {
+      loads = loads;
+      jobs = (walked (λ x. x.job) c.args.jobs.now c.jobs.invariant.rest loads c.jobs.dated-index c.jobs.invariant.before c.jobs.invariant.index end).1;
+      after = (walked (λ x. x.after) c.jobs.jobs c.jobs.invariant.rest loads c.jobs.dated-index c.jobs.invariant.now c.jobs.invariant.index (omega (arith, end, same))).1;
+      ended = c.jobs.invariant.outcomes;
+      each = c.jobs.invariant.each;
+    }
+
+pub returns-clause-stops : goal.returns-clause-stops
+returns-clause-stops g c =
+    let stops = stops_of g.N.Namer.id_of g.S.Source.tells g.S.Source.left g.S.Source.faults g.S.Source.path g.D.Disk.tells g.D.Disk.file g.D.Disk.faults c.args.by c.jobs.invariant.loads c.args.keeper.now c.jobs.keeper c.jobs.invariant.each in
+    subst (AreStops _) (sym c.jobs.invariant.outcomes) stops
+
+pub returns-clause-unwounded : goal.returns-clause-unwounded
+returns-clause-unwounded g c = (
+  λ whole.
+      let since = whole_since g.N.Namer.id_of g.S.Source.tells g.S.Source.left g.S.Source.faults g.S.Source.path g.D.Disk.tells g.D.Disk.file g.D.Disk.faults c.args.by c.jobs.invariant.loads c.args.keeper.now c.jobs.keeper c.jobs.invariant.each whole in
+      (since.0, subst HaveNoDiskFault (sym c.jobs.invariant.outcomes) since.1),
+  λ h. whole_still g.N.Namer.id_of g.S.Source.tells g.S.Source.left g.S.Source.faults g.S.Source.path g.D.Disk.tells g.D.Disk.file g.D.Disk.faults c.args.by c.jobs.invariant.loads c.args.keeper.now c.jobs.keeper c.jobs.invariant.each h.0 (subst HaveNoDiskFault c.jobs.invariant.outcomes h.1),
+)

@@ -1,0 +1,17 @@
+use Rattle.std.proofs.Common.{◌≡◌, List, ◌++◌, map, length, vec_len, vec_capacity}
+use Rattle.swh_pool.specs.declared.dated.DatedJob.{DatedJob}
+use Rattle.swh_pool.specs.Loads.{OneLoad, AreLoads}
+use Rattle.swh_pool.proofs.loading.load_all.Given as goal
+
+abbrev pub invariant-jobs : goal.invariant-jobs
+invariant-jobs g l = record {
+  loads : List (OneLoad g.row.S.Denot);
+  rest : List (DatedJob g.row.S.Denot);
+  before : l.fn.jobs ≡ map (λ x. x.job) loads ++ rest;
+  now : l.jobs ≡ map (λ x. x.after) loads ++ rest;
+  outcomes : l.outcomes.items ≡ map (λ x. x.outcome) loads;
+  each : AreLoads g.N.Namer.id_of g.S.Source.tells g.S.Source.left g.S.Source.faults g.S.Source.path g.D.Disk.tells g.D.Disk.file g.D.Disk.faults l.by loads l.fn.keeper l.keeper;
+  index : length loads ≡ l.dated-index;
+  count : vec_len l.outcomes ≡ l.dated-index;
+  room : vec_capacity l.outcomes ≡ length l.fn.jobs;
+}

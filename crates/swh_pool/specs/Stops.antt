@@ -1,0 +1,38 @@
+-- How loads end once a disk has failed.
+use Rattle.std.specs.Prelude.{◌≡◌, ◌≢◌, ◌⊎◌, Bool, true, false, Result, Ok, Err, List, [], ◌∷◌}
+use Rattle.std.specs.List.{AllByRecursion}
+use Rattle.swh_loader.specs.declared.end.Loaded.{Loaded}
+use Rattle.swh_loader.specs.declared.fault.LoadWhy.{LoadWhy}
+use Rattle.swh_loader.specs.declared.fault.LoadWhy.TheVariants.{Ended, DiskFault, Wounded, Limit, Memory}
+use Rattle.swh_loader.specs.declared.fault.LoadFault.{LoadFault}
+
+-- It stopped before its visit was opened, since a disk had failed before, or for want of memory.
+abbrev pub IsStoppedAtOnce : Result Loaded LoadFault → Type 0
+IsStoppedAtOnce (Ok loaded) = ⊥
+IsStoppedAtOnce (Err fault) = (fault.visit ≡ 0) × ((fault.why ≡ Wounded) ⊎ (fault.why ≡ Memory))
+
+-- No disk had failed before it.
+abbrev pub IsUnwounded : Result Loaded LoadFault → Type 0
+IsUnwounded (Ok loaded) = Unit {0}
+IsUnwounded (Err fault) = fault.why ≢ Wounded
+
+-- whether it stopped since a disk failed
+abbrev pub is_fault : LoadWhy → Bool
+is_fault (Ended status) = false
+is_fault DiskFault = true
+is_fault Wounded = false
+is_fault (Limit which number) = false
+is_fault Memory = false
+
+abbrev pub is_disk_fault : Result Loaded LoadFault → Bool
+is_disk_fault (Ok loaded) = false
+is_disk_fault (Err fault) = is_fault fault.why
+
+-- Once a disk has failed, each later one is stopped at once, and none is said to be before.
+abbrev pub AreStops : Bool → List (Result Loaded LoadFault) → Type 0
+AreStops failed [] = Unit {0}
+AreStops true (o ∷ outcomes) = IsStoppedAtOnce o × AreStops true outcomes
+AreStops false (o ∷ outcomes) = IsUnwounded o × AreStops (is_disk_fault o) outcomes
+
+abbrev pub HaveNoDiskFault : List (Result Loaded LoadFault) → Type 0
+HaveNoDiskFault outcomes = AllByRecursion (λ o. is_disk_fault o ≡ false) outcomes
