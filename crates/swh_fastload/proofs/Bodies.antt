@@ -1,11 +1,8 @@
 -- The bodies of a commit's revision and of a snapshot, put together.
-use Rattle.std.proofs.Common.{◌≡◌, ℕ, List, [], ◌∷◌, ◌++◌, length, refl, sym, ap, ◌∙◌, codes, append_assoc, decimal}
-use Rattle.std.specs.Fmt.{digits}
-use Rattle.std.proofs.lemmas.List.{append-nil}
+use Rattle.std.proofs.Common.{◌≡◌, ℕ, List, [], ◌∷◌, ◌++◌, ap, ◌∙◌, codes, append_assoc}
 use Rattle.swh_base.specs.Revision.{id_line}
-use Rattle.swh_base.specs.Snapshot.{branch_text, snapshot_text}
 use Rattle.swh_model.specs.SmallStream.{Commit, line}
-use Rattle.swh_model.specs.Meaning.{revision, branch_to}
+use Rattle.swh_model.specs.Meaning.{revision}
 
 -- a line in front
 line_joined : (word text rest : List ℕ) → (word ++ (text ++ 10 ∷ [])) ++ rest ≡ line word text rest
@@ -20,14 +17,3 @@ revision_joined root c b0 b1 b2 b3 b4 b5 e0 e1 e2 e3 e4 e5 =
     let whole : b5 ≡ (((tree ++ author) ++ committer) ++ 10 ∷ []) ++ c.message = e5 ∙ ap (λ (t : List ℕ). t ++ c.message) (e4 ∙ ap (λ (t : List ℕ). t ++ 10 ∷ []) (e3 ∙ ap (λ (t : List ℕ). t ++ committer) (e2 ∙ ap (λ (t : List ℕ). t ++ author) first))) in
     whole ∙ append_assoc ((tree ++ author) ++ committer) (10 ∷ []) c.message ∙ append_assoc (tree ++ author) committer (10 ∷ c.message) ∙ append_assoc tree author (committer ++ 10 ∷ c.message)
     ∙ ap (λ (t : List ℕ). tree ++ t) (ap (λ (t : List ℕ). author ++ t) (line_joined (codes "committer ") c.committer (10 ∷ c.message)) ∙ line_joined (codes "author ") c.committer (line (codes "committer ") c.committer (10 ∷ c.message)))
-
-twenty : decimal 20 ≡ codes "20"
-unfolding digits
-twenty = refl
-
-pub branch_joined : (name id b0 b1 b2 b3 b4 : List ℕ) → length id ≡ 20 → b0 ≡ [] → b1 ≡ b0 ++ codes "revision " → b2 ≡ b1 ++ name → b3 ≡ b2 ++ (0 ∷ codes "20:") → b4 ≡ b3 ++ id → b4 ≡ snapshot_text (branch_to name id ∷ [])
-branch_joined name id b0 b1 b2 b3 b4 l e0 e1 e2 e3 e4 =
-    let whole : b4 ≡ ((codes "revision " ++ name) ++ (0 ∷ codes "20:")) ++ id = e4 ∙ ap (λ (t : List ℕ). t ++ id) (e3 ∙ ap (λ (t : List ℕ). t ++ (0 ∷ codes "20:")) (e2 ∙ ap (λ (t : List ℕ). t ++ name) (e1 ∙ ap (λ (t : List ℕ). t ++ codes "revision ") e0))) in
-    whole ∙ append_assoc (codes "revision " ++ name) (0 ∷ codes "20:") id ∙ append_assoc (codes "revision ") name ((0 ∷ codes "20:") ++ id)
-    ∙ ap (λ (t : List ℕ). codes "revision " ++ (name ++ 0 ∷ (t ++ 58 ∷ id))) (sym twenty ∙ ap decimal (sym l))
-    ∙ sym (append-nil (branch_text (branch_to name id)))

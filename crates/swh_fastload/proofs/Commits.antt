@@ -1,24 +1,21 @@
 -- What a commit of files in one folder makes.
-use Rattle.std.proofs.Common.{◌≡◌, ◌≢◌, ℕ, ◌<◌, ◌≤◌, List, [], ◌∷◌, ◌++◌, length, map, Some, None, refl, sym, ap, ◌∙◌, subst, arith, codes, append_assoc}
+use Rattle.std.proofs.Common.{◌≡◌, ℕ, ◌<◌, ◌≤◌, List, [], ◌∷◌, ◌++◌, length, map, Some, None, refl, sym, ap, ◌∙◌, subst, arith, codes, append_assoc}
 use Rattle.std.specs.List.{flat_map}
 use Rattle.std.specs.Borrow.{Bor}
 use Rattle.swh_base.specs.declared.kind.Kind.{Kind}
-use Rattle.swh_base.specs.declared.kind.Kind.TheVariants.{Directory, Revision, Snapshot}
+use Rattle.swh_base.specs.declared.kind.Kind.TheVariants.{Directory, Revision}
 use Rattle.swh_base.specs.Limits.{body_limit}
-use Rattle.swh_base.specs.Text.{is_ref_byte, IsRef}
 use Rattle.swh_base.specs.Name.{IsId}
 use Rattle.swh_base.specs.Directory.{directory_text, kids_of}
-use Rattle.swh_base.specs.Revision.{Revision as RevisionParts, revision_name, BeginsParent}
-use Rattle.swh_base.specs.Snapshot.{snapshot_text, AreBranches}
+use Rattle.swh_base.specs.Revision.{Revision as RevisionParts, BeginsParent}
 use Rattle.swh_base.specs.Manifest.{AreKids, IsWellFormed}
 use Rattle.swh_model.specs.PathMap.{PathMap, directory_of}
 use Rattle.swh_model.specs.SmallStream.{Commit, line}
 use Rattle.swh_model.specs.Meaning.{Made, directory, revision, branch_to, tip, commit_makes, tree_after, AreWithinLimit}
-use Rattle.swh_fastload.specs.declared.load.Tip.{Tip}
+use Rattle.swh_fastload.specs.declared.snapshot.Tip.{Tip}
 use Rattle.swh_fastload.specs.Tree.{tree_of, file_text, IsFolder}
 use Rattle.swh_fastload.specs.Making.{AddsCommit, IsCommitLeftOut}
 use Rattle.swh_fastload.proofs.Folders.{bodies-files, text-files, directory_from, flat_of_files}
-use Rattle.swh_fastload.proofs.Numbers.{passes_not}
 
 Files : Type 0
 Files = List (Bor (List ℕ) × List ℕ)
@@ -48,25 +45,6 @@ revision_kid root c body i e =
 
 pub revision_good : (root : List ℕ) (c : Commit) (body : List ℕ) → IsId root → body ≡ (revision root c).body → IsWellFormed Revision body
 revision_good root c body i e = (record { kind = Directory; id = root } ∷ [], revision_kid root c body i e)
-
-ref-not_nil : (text : List ℕ) → IsRef text → text ≢ []
-ref-not_nil text h e = let l = h.some in absurd (omega (arith, l, ap length e))
-
--- the snapshot is one, and its kid is the revision
-pub snapshot_kid : (name id body : List ℕ) → IsRef name → IsId id → body ≡ snapshot_text (branch_to name id ∷ []) → AreKids Snapshot body (revision_name id ∷ [])
-snapshot_kid name id body n i e =
-    let branches = branch_to name id ∷ [] in
-    let good : AreBranches branches = (record { not_empty = ref-not_nil name n; no_nul = passes_not is_ref_byte name 0 n.bytes (λ t. cc); target = i.0 }, tt, tt) in
-    record { branches = branches; is = record { text = e; good = good }; kids = refl }
-
-pub snapshot_good : (name id body : List ℕ) → IsRef name → IsId id → body ≡ snapshot_text (branch_to name id ∷ []) → IsWellFormed Snapshot body
-snapshot_good name id body n i e = (revision_name id ∷ [], snapshot_kid name id body n i e)
-
-pub no_kid : (body : List ℕ) → body ≡ snapshot_text [] → AreKids Snapshot body []
-no_kid body e = record { branches = []; is = record { text = e; good = tt }; kids = refl }
-
-pub empty_good : (body : List ℕ) → body ≡ snapshot_text [] → IsWellFormed Snapshot body
-empty_good body e = ([], no_kid body e)
 
 -- the directory and the revision
 pub makes-flat : (id : Kind → List ℕ → List ℕ) (c : Commit) (files : List (Bor (List ℕ) × List ℕ)) → IsFolder (tree_of files) → commit_makes id c (tree_of files) ≡ directory (flat_map file_text (tree_of files)) ∷ revision (id Directory (flat_map file_text (tree_of files))) c ∷ []

@@ -9,5 +9,6 @@ pub mod Numbers
 pub mod Onces
 pub mod Persons
 pub mod Readings
+pub mod Snapshots
 pub mod Trees
 pub mod Wholes

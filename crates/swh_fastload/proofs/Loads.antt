@@ -7,19 +7,16 @@ use Rattle.std.specs.List.{AllByRecursion, list_any}
 use Rattle.swh_base.specs.declared.kind.Kind.{Kind}
 use Rattle.swh_base.specs.declared.kind.Kind.TheVariants.{Revision, Snapshot}
 use Rattle.swh_base.specs.Limits.{body_limit}
-use Rattle.swh_base.specs.Text.{IsRef}
 use Rattle.swh_base.specs.Name.{kind_number}
-use Rattle.swh_base.specs.Manifest.{IsWellFormed}
 use Rattle.swh_base.specs.Snapshot.{SnapshotBranch, snapshot_text}
 use Rattle.swh_model.specs.PathMap.{PathMap}
 use Rattle.swh_model.specs.SmallStream.{Blob, Change, Commit, SmallStream, IsFileName, AreChanges, Reads, Parses}
-use Rattle.swh_model.specs.Meaning.{Made, same_made, once, Making, Marks, marks_after, tree_after, content, directory, snapshot, branch_to, tip, commit_makes, making, makes, AreWithinLimit, IsMeaning, IsLeftOut}
-use Rattle.swh_fastload.specs.declared.load.Tip.{Tip}
-use Rattle.swh_fastload.specs.Making.{AreShort, AreTips, branches_of, IsGoodTip, AddsTip, IsTipLeftOut}
+use Rattle.swh_model.specs.Meaning.{Made, same_made, once, Making, Marks, marks_after, tree_after, content, directory, snapshot, with_head, tip, commit_makes, making, makes, AreWithinLimit, IsMeaning, IsLeftOut}
+use Rattle.swh_fastload.specs.declared.snapshot.Tip.{Tip}
+use Rattle.swh_fastload.specs.Making.{AreShort, branches_of, IsGoodTip, AddsTip, IsTipLeftOut}
 use Rattle.swh_fastload.proofs.Readings.{one_reading_lem}
 use Rattle.swh_fastload.proofs.Leads.{same_stream}
 use Rattle.swh_fastload.proofs.Onces.{same_is, once_more, with_new}
-use Rattle.swh_fastload.proofs.Commits.{snapshot_good, empty_good}
 
 -- what holds of each element of two lists
 all_append : {X : Type 0} (P : X → Type 0) (xs ys : List X) → AllByRecursion P xs → AllByRecursion P ys → AllByRecursion P (xs ++ ys)
@@ -106,12 +103,12 @@ once_commit blobs root last body =
     ∙ ap (λ (t : List Made). t ++ s ∷ []) (once_new (c ++ d ∷ []) r with_root ∙ ap (λ (t : List Made). t ++ r ∷ []) (once_new c d (others_contents d refl blobs)) ∙ append_assoc (once c) (d ∷ []) (r ∷ []))
 
 -- what was loaded
-pub record IsLoaded (id : Kind → List ℕ → List ℕ) (blobs : List Blob) (marks : Marks) (commit : Option Commit) (t : Option Tip) (mid new objects : List Made) (body sid : List ℕ) : Type 0 where
+pub record IsLoaded (id : Kind → List ℕ → List ℕ) (head : Option (List ℕ)) (blobs : List Blob) (marks : Marks) (commit : Option Commit) (t : Option Tip) (mid new objects : List Made) (body sid : List ℕ) : Type 0 where
   pub short : AreShort blobs
   pub marks_are : marks ≡ marks_after id [] blobs
   pub contents_are : mid ≡ once (map (λ b. content b.bytes) blobs)
   pub adds : AddsTip id marks commit mid t new
-  pub body_is : body ≡ snapshot_text (branches_of t)
+  pub body_is : body ≡ snapshot_text (with_head head (branches_of t))
   pub small : length body ≤ body_limit
   pub added : objects ≡ new ++ record { kind = Snapshot; body = body } ∷ []
   pub id_is : sid ≡ id Snapshot body
@@ -125,24 +122,25 @@ same_making : (os ps : List Made) (s t : List ℕ) → os ≡ ps → s ≡ t →
 same_making os ps s t e f = ap (λ (x : List Made). let m : Making = record { objects = x; snapshot = s } in Some m) e ∙ ap (λ (x : List ℕ). let m : Making = record { objects = ps; snapshot = x } in Some m) f
 
 -- and what it means
-pub loaded_makes : (id : Kind → List ℕ → List ℕ) (blobs : List Blob) (marks : Marks) (commit : Option Commit) (t : Option Tip) (mid new objects : List Made) (body sid : List ℕ) → IsLoaded id blobs marks commit t mid new objects body sid → makes id blobs commit ≡ Some (record { objects = objects; snapshot = sid })
+pub loaded_makes : (id : Kind → List ℕ → List ℕ) (head : Option (List ℕ)) (blobs : List Blob) (marks : Marks) (commit : Option Commit) (t : Option Tip) (mid new objects : List Made) (body sid : List ℕ) → IsLoaded id head blobs marks commit t mid new objects body sid → makes id head blobs commit ≡ Some (record { objects = objects; snapshot = sid })
 unfolding contents snapshot_made revision_made
-loaded_makes id blobs marks None None mid new objects body sid h =
-    sym (same_making objects (once (contents blobs ++ snapshot [] ∷ [])) sid (id Snapshot (snapshot_text []))
+loaded_makes id head blobs marks None None mid new objects body sid h =
+    sym (same_making objects (once (contents blobs ++ snapshot (with_head head []) ∷ [])) sid (id Snapshot (snapshot_text (with_head head [])))
     (h.added ∙ ap (λ (x : List Made). x ++ snapshot_made body ∷ []) (h.adds ∙ h.contents_are) ∙ sym (once_empty blobs body) ∙ ap (λ (x : List ℕ). once (contents blobs ++ snapshot_made x ∷ [])) h.body_is)
     (h.id_is ∙ ap (id Snapshot) h.body_is))
-loaded_makes id blobs marks None (Some t) mid new objects body sid h = absurd h.adds
-loaded_makes id blobs marks (Some c) None mid new objects body sid h = absurd h.adds
-loaded_makes id blobs marks (Some c) (Some t) mid new objects body sid h =
+loaded_makes id head blobs marks None (Some t) mid new objects body sid h = absurd h.adds
+loaded_makes id head blobs marks (Some c) None mid new objects body sid h = absurd h.adds
+loaded_makes id head blobs marks (Some c) (Some t) mid new objects body sid h =
     let a = h.adds in
     let found : tree_after (marks_after id [] blobs) [] c.changes ≡ Some a.tree = ap (λ (m : Marks). tree_after m [] c.changes) (sym h.marks_are) ∙ a.of_changes in
-    let text : body ≡ snapshot_text (tip id c a.tree ∷ []) = h.body_is ∙ ap (λ (b : SnapshotBranch). snapshot_text (b ∷ [])) a.ends in
+    let branches : List SnapshotBranch = with_head head (tip id c a.tree ∷ []) in
+    let text : body ≡ snapshot_text branches = h.body_is ∙ ap (λ (b : SnapshotBranch). snapshot_text (with_head head (b ∷ []))) a.ends in
     let parts : List Made = directory a.root ∷ revision_made a.last ∷ [] in
-    ap (option_and_then (λ (tree : PathMap). Some (making id (map (λ b. content b.bytes) blobs ++ commit_makes id c tree) (tip id c tree ∷ [])))) found
-    ∙ sym (same_making objects (once ((contents blobs ++ commit_makes id c a.tree) ++ snapshot (tip id c a.tree ∷ []) ∷ [])) sid (id Snapshot (snapshot_text (tip id c a.tree ∷ [])))
+    ap (option_and_then (λ (tree : PathMap). Some (making id head (map (λ b. content b.bytes) blobs ++ commit_makes id c tree) (tip id c tree ∷ [])))) found
+    ∙ sym (same_making objects (once ((contents blobs ++ commit_makes id c a.tree) ++ snapshot branches ∷ [])) sid (id Snapshot (snapshot_text branches))
     (h.added ∙ ap (λ (x : List Made). x ++ snapshot_made body ∷ []) (a.added ∙ ap (λ (x : List Made). x ++ commit_makes id c a.tree) h.contents_are ∙ ap (λ (x : List Made). once (contents blobs) ++ x) a.plain)
     ∙ sym (once_commit blobs a.root a.last body) ∙ ap (λ (x : List ℕ). once ((contents blobs ++ parts) ++ snapshot_made x ∷ [])) text
-    ∙ ap (λ (x : List Made). once ((contents blobs ++ x) ++ snapshot (tip id c a.tree ∷ []) ∷ [])) (sym a.plain))
+    ∙ ap (λ (x : List Made). once ((contents blobs ++ x) ++ snapshot branches ∷ [])) (sym a.plain))
     (h.id_is ∙ ap (id Snapshot) text))
 
 within_mid : (id : Kind → List ℕ → List ℕ) (marks : Marks) (commit : Option Commit) (t : Option Tip) (mid new : List Made) → AreWithinLimit mid → AddsTip id marks commit mid t new → AreWithinLimit new
@@ -151,19 +149,19 @@ within_mid id marks None (Some t) mid new w a = absurd a
 within_mid id marks (Some c) None mid new w a = absurd a
 within_mid id marks (Some c) (Some t) mid new w a = subst AreWithinLimit (sym a.added) (all_append (λ (m : Made). length m.body ≤ body_limit) mid (commit_makes id c a.tree) w a.within)
 
-pub loaded_within : (id : Kind → List ℕ → List ℕ) (blobs : List Blob) (marks : Marks) (commit : Option Commit) (t : Option Tip) (mid new objects : List Made) (body sid : List ℕ) → IsLoaded id blobs marks commit t mid new objects body sid → AreWithinLimit objects
+pub loaded_within : (id : Kind → List ℕ → List ℕ) (head : Option (List ℕ)) (blobs : List Blob) (marks : Marks) (commit : Option Commit) (t : Option Tip) (mid new objects : List Made) (body sid : List ℕ) → IsLoaded id head blobs marks commit t mid new objects body sid → AreWithinLimit objects
 unfolding contents
-loaded_within id blobs marks commit t mid new objects body sid h =
+loaded_within id head blobs marks commit t mid new objects body sid h =
     let first : AreWithinLimit mid = subst AreWithinLimit (sym h.contents_are) (once_all (λ m. length m.body ≤ body_limit) (contents blobs) (short_contents blobs h.short)) in
     let both = within_mid id marks commit t mid new first h.adds in
     subst AreWithinLimit (sym h.added) (all_append (λ (m : Made). length m.body ≤ body_limit) new (record { kind = Snapshot; body = body } ∷ []) both (h.small, tt))
 
-pub loaded_means : (id : Kind → List ℕ → List ℕ) (text : List ℕ) (stream : SmallStream) (marks : Marks) (t : Option Tip) (mid new objects : List Made) (body sid : List ℕ) → Parses text stream → IsLoaded id stream.blobs marks stream.commit t mid new objects body sid → IsMeaning id text (record { objects = objects; snapshot = sid })
-loaded_means id text stream marks t mid new objects body sid p h = record {
+pub loaded_means : (id : Kind → List ℕ → List ℕ) (head : Option (List ℕ)) (text : List ℕ) (stream : SmallStream) (marks : Marks) (t : Option Tip) (mid new objects : List Made) (body sid : List ℕ) → Parses text stream → IsLoaded id head stream.blobs marks stream.commit t mid new objects body sid → IsMeaning id head text (record { objects = objects; snapshot = sid })
+loaded_means id head text stream marks t mid new objects body sid p h = record {
   stream = stream;
   parses = p;
-  makes_it = loaded_makes id stream.blobs marks stream.commit t mid new objects body sid h;
-  within = loaded_within id stream.blobs marks stream.commit t mid new objects body sid h;
+  makes_it = loaded_makes id head stream.blobs marks stream.commit t mid new objects body sid h;
+  within = loaded_within id head stream.blobs marks stream.commit t mid new objects body sid h;
 }
 
 -- what the grammar says of blobs and of the commit
@@ -190,63 +188,48 @@ pub same_parse : (text : List ℕ) (s t : SmallStream) → Parses text s → Par
 same_parse text s t h k = let same = one_reading_lem text s.blobs t.blobs s.commit t.commit h.reads k.reads in same_stream s t same.0 same.1
 
 -- a text whose stream makes nothing within the limit
-pub left_out : (id : Kind → List ℕ → List ℕ) (text : List ℕ) (stream : SmallStream) → Parses text stream → ((m : Making) → makes id stream.blobs stream.commit ≡ Some m → AreWithinLimit m.objects → ⊥) → IsLeftOut id text
-left_out id text stream p none m h =
+pub left_out : (id : Kind → List ℕ → List ℕ) (head : Option (List ℕ)) (text : List ℕ) (stream : SmallStream) → Parses text stream → ((m : Making) → makes id head stream.blobs stream.commit ≡ Some m → AreWithinLimit m.objects → ⊥) → IsLeftOut id head text
+left_out id head text stream p none m h =
     let same = same_parse text h.stream stream h.parses p in
-    none m (subst (λ (s : SmallStream). makes id s.blobs s.commit ≡ Some m) same h.makes_it) h.within
+    none m (subst (λ (s : SmallStream). makes id head s.blobs s.commit ≡ Some m) same h.makes_it) h.within
 
 same_objects : (m n : Making) → Some m ≡ Some n → m.objects ≡ n.objects
 same_objects m n e = let both : m ≡ n = cc in ap (λ (x : Making). x.objects) both
 
 -- a commit that is left out
-pub tip_left_out : (id : Kind → List ℕ → List ℕ) (blobs : List Blob) (marks : Marks) (commit : Option Commit) → marks ≡ marks_after id [] blobs → IsTipLeftOut id marks commit → (m : Making) → makes id blobs commit ≡ Some m → AreWithinLimit m.objects → ⊥
-tip_left_out id blobs marks None e h m k w = h
-tip_left_out id blobs marks (Some c) e h m k w = by_tree (tree_after (marks_after id [] blobs) [] c.changes) refl k
+pub tip_left_out : (id : Kind → List ℕ → List ℕ) (head : Option (List ℕ)) (blobs : List Blob) (marks : Marks) (commit : Option Commit) → marks ≡ marks_after id [] blobs → IsTipLeftOut id marks commit → (m : Making) → makes id head blobs commit ≡ Some m → AreWithinLimit m.objects → ⊥
+tip_left_out id head blobs marks None e h m k w = h
+tip_left_out id head blobs marks (Some c) e h m k w = by_tree (tree_after (marks_after id [] blobs) [] c.changes) refl k
   where
-    by_tree : (o : Option PathMap) → tree_after (marks_after id [] blobs) [] c.changes ≡ o → option_and_then (λ (tree : PathMap). Some (making id (map (λ b. content b.bytes) blobs ++ commit_makes id c tree) (tip id c tree ∷ []))) o ≡ Some m → ⊥
+    by_tree : (o : Option PathMap) → tree_after (marks_after id [] blobs) [] c.changes ≡ o → option_and_then (λ (tree : PathMap). Some (making id head (map (λ b. content b.bytes) blobs ++ commit_makes id c tree) (tip id c tree ∷ []))) o ≡ Some m → ⊥
     by_tree None f k = let both : None ≡ Some m = k in cc
     by_tree (Some tree) f k =
         let front = map (λ (b : Blob). content b.bytes) blobs in
-        let last : List Made = snapshot (tip id c tree ∷ []) ∷ [] in
-        let all = once_back (λ n. length n.body ≤ body_limit) ((front ++ commit_makes id c tree) ++ last) (subst AreWithinLimit (sym (same_objects (making id (front ++ commit_makes id c tree) (tip id c tree ∷ [])) m k)) w) in
+        let last : List Made = snapshot (with_head head (tip id c tree ∷ [])) ∷ [] in
+        let all = once_back (λ n. length n.body ≤ body_limit) ((front ++ commit_makes id c tree) ++ last) (subst AreWithinLimit (sym (same_objects (making id head (front ++ commit_makes id c tree) (tip id c tree ∷ [])) m k)) w) in
         h tree (ap (λ (x : Marks). tree_after x [] c.changes) e ∙ f) (all_back (λ (n : Made). length n.body ≤ body_limit) front (commit_makes id c tree) (all_front (λ (n : Made). length n.body ≤ body_limit) (front ++ commit_makes id c tree) last all))
 
 last_short : (front : List Made) (branches : List SnapshotBranch) (objects : List Made) → objects ≡ once (front ++ snapshot branches ∷ []) → AreWithinLimit objects → length (snapshot_text branches) ≤ body_limit
 last_short front branches objects e w = (all_back (λ (n : Made). length n.body ≤ body_limit) front (snapshot branches ∷ []) (once_back (λ n. length n.body ≤ body_limit) (front ++ snapshot branches ∷ []) (subst AreWithinLimit e w))).0
 
 -- a snapshot above the limit
-pub snapshot_left_out : (id : Kind → List ℕ → List ℕ) (blobs : List Blob) (marks : Marks) (commit : Option Commit) (t : Option Tip) (mid new : List Made) (body : List ℕ) → marks ≡ marks_after id [] blobs → AddsTip id marks commit mid t new → body ≡ snapshot_text (branches_of t) → body_limit < length body → (m : Making) → makes id blobs commit ≡ Some m → AreWithinLimit m.objects → ⊥
-snapshot_left_out id blobs marks None None mid new body e a b over m k w =
-    let small = last_short (map (λ b. content b.bytes) blobs) [] m.objects (sym (same_objects (making id (map (λ b. content b.bytes) blobs) []) m k)) w in
+pub snapshot_left_out : (id : Kind → List ℕ → List ℕ) (head : Option (List ℕ)) (blobs : List Blob) (marks : Marks) (commit : Option Commit) (t : Option Tip) (mid new : List Made) (body : List ℕ) → marks ≡ marks_after id [] blobs → AddsTip id marks commit mid t new → body ≡ snapshot_text (with_head head (branches_of t)) → body_limit < length body → (m : Making) → makes id head blobs commit ≡ Some m → AreWithinLimit m.objects → ⊥
+snapshot_left_out id head blobs marks None None mid new body e a b over m k w =
+    let small = last_short (map (λ b. content b.bytes) blobs) (with_head head []) m.objects (sym (same_objects (making id head (map (λ b. content b.bytes) blobs) []) m k)) w in
     absurd (omega (arith, small, ap length b, over))
-snapshot_left_out id blobs marks None (Some t) mid new body e a b over m k w = absurd a
-snapshot_left_out id blobs marks (Some c) None mid new body e a b over m k w = absurd a
-snapshot_left_out id blobs marks (Some c) (Some t) mid new body e a b over m k w =
+snapshot_left_out id head blobs marks None (Some t) mid new body e a b over m k w = absurd a
+snapshot_left_out id head blobs marks (Some c) None mid new body e a b over m k w = absurd a
+snapshot_left_out id head blobs marks (Some c) (Some t) mid new body e a b over m k w =
     let found : tree_after (marks_after id [] blobs) [] c.changes ≡ Some a.tree = ap (λ (m : Marks). tree_after m [] c.changes) (sym e) ∙ a.of_changes in
     let front = map (λ (b : Blob). content b.bytes) blobs ++ commit_makes id c a.tree in
-    let made_it : Some (making id front (tip id c a.tree ∷ [])) ≡ Some m = sym (ap (option_and_then (λ (tree : PathMap). Some (making id (map (λ b. content b.bytes) blobs ++ commit_makes id c tree) (tip id c tree ∷ [])))) found) ∙ k in
-    let small = last_short front (tip id c a.tree ∷ []) m.objects (sym (same_objects (making id front (tip id c a.tree ∷ [])) m made_it)) w in
-    let text : body ≡ snapshot_text (tip id c a.tree ∷ []) = b ∙ ap (λ (x : SnapshotBranch). snapshot_text (x ∷ [])) a.ends in
+    let made_it : Some (making id head front (tip id c a.tree ∷ [])) ≡ Some m = sym (ap (option_and_then (λ (tree : PathMap). Some (making id head (map (λ b. content b.bytes) blobs ++ commit_makes id c tree) (tip id c tree ∷ [])))) found) ∙ k in
+    let branches : List SnapshotBranch = with_head head (tip id c a.tree ∷ []) in
+    let small = last_short front branches m.objects (sym (same_objects (making id head front (tip id c a.tree ∷ [])) m made_it)) w in
+    let text : body ≡ snapshot_text branches = b ∙ ap (λ (x : SnapshotBranch). snapshot_text (with_head head (x ∷ []))) a.ends in
     absurd (omega (arith, small, ap length text, over))
 
--- the snapshot is one
-pub tips_good : (id : Kind → List ℕ → List ℕ) (marks : Marks) (commit : Option Commit) (t : Option Tip) (mid new : List Made) → AddsTip id marks commit mid t new → AreTips t
-tips_good id marks None None mid new a = tt
-tips_good id marks None (Some t) mid new a = absurd a
-tips_good id marks (Some c) None mid new a = absurd a
-tips_good id marks (Some c) (Some t) mid new a = a.good
-
-branch_name : (id : Kind → List ℕ → List ℕ) (c : Commit) (tree : PathMap) (name rev : List ℕ) → branch_to name rev ≡ tip id c tree → name ≡ c.branch
-branch_name id c tree name rev e = ap (λ (b : SnapshotBranch). b.name) e
-
-pub snapshot_is : (id : Kind → List ℕ → List ℕ) (marks : Marks) (commit : Option Commit) (t : Option Tip) (mid new : List Made) (body : List ℕ) → IsGoodTip commit → AddsTip id marks commit mid t new → body ≡ snapshot_text (branches_of t) → IsWellFormed Snapshot body
-snapshot_is id marks None None mid new body g a e = empty_good body e
-snapshot_is id marks None (Some t) mid new body g a e = absurd a
-snapshot_is id marks (Some c) None mid new body g a e = absurd a
-snapshot_is id marks (Some c) (Some t) mid new body g a e = snapshot_good t.branch.now t.revision body (subst IsRef (sym (branch_name id c a.tree t.branch.now t.revision a.ends)) g.branch) a.good e
-
-pub one_meaning_lem : (id : Kind → List ℕ → List ℕ) (text : List ℕ) (m n : Making) → IsMeaning id text m → IsMeaning id text n → m ≡ n
-one_meaning_lem id text m n h k =
+pub one_meaning_lem : (id : Kind → List ℕ → List ℕ) (head : Option (List ℕ)) (text : List ℕ) (m n : Making) → IsMeaning id head text m → IsMeaning id head text n → m ≡ n
+one_meaning_lem id head text m n h k =
     let same = same_parse text h.stream k.stream h.parses k.parses in
-    let both : Some m ≡ Some n = sym h.makes_it ∙ ap (λ (s : SmallStream). makes id s.blobs s.commit) same ∙ k.makes_it in
+    let both : Some m ≡ Some n = sym h.makes_it ∙ ap (λ (s : SmallStream). makes id head s.blobs s.commit) same ∙ k.makes_it in
     cc

@@ -1,7 +1,7 @@
 -- Objects whose kids are among them.
 use Rattle.std.proofs.Common.{◌≡◌, ℕ, true, false, Bool, ◌||◌, cond, Option, Some, None, List, [], ◌∷◌, ◌++◌, map, Contains, refl, sym, ap, ◌∙◌, subst, arith}
 use Rattle.std.specs.Prelude.{nat_eq, not, option_and_then}
-use Rattle.std.specs.List.{AllByRecursion, flat_map, list_any}
+use Rattle.std.specs.List.{AllByRecursion, flat_map, filter_map, list_any}
 use Rattle.std.specs.Ordering.{nat_cmp, match_ordering}
 use Rattle.std.specs.declared.cmp.Ordering.{Ordering}
 use Rattle.std.specs.declared.cmp.Ordering.TheVariants.{Less, Equal, Greater}
@@ -16,21 +16,21 @@ use Rattle.swh_base.specs.declared.name.Name.{Name}
 use Rattle.swh_base.specs.declared.entry.Entry.{Entry}
 use Rattle.swh_base.specs.Name.{IsId}
 use Rattle.swh_base.specs.Revision.{revision_name}
-use Rattle.swh_base.specs.Snapshot.{SnapshotBranch, snapshot_text}
-use Rattle.swh_base.specs.Text.{IsRef}
+use Rattle.swh_base.specs.Snapshot.{AreBranches, snapshot_text, branch_kid}
 use Rattle.swh_base.specs.Manifest.{AreKids}
 use Rattle.swh_base.proofs.Kids.{one_list}
 use Rattle.swh_model.specs.Step.{snapshot_name}
 use Rattle.swh_object.specs.Object.{IsObject}
 use Rattle.swh_model.specs.PathMap.{Leaf, PathMap, is_in_the_way, cleared, set}
 use Rattle.swh_model.specs.SmallStream.{Change, Commit}
-use Rattle.swh_model.specs.Meaning.{Made, same_made, Marks, content, marked, tree_after, revision}
-use Rattle.swh_fastload.specs.declared.load.Tip.{Tip}
-use Rattle.swh_fastload.specs.Making.{made, made_of, branches_of, AddsTip, IsGoodTip}
+use Rattle.swh_model.specs.Meaning.{Made, same_made, Marks, content, marked, tree_after, revision, with_head}
+use Rattle.swh_fastload.specs.declared.snapshot.Tip.{Tip}
+use Rattle.swh_fastload.specs.Making.{made, made_of, branches_of}
 use Rattle.swh_fastload.specs.Tree.{tree_of, file_text, IsFolder}
 use Rattle.swh_fastload.specs.Whole.{names_of, content_name, HasKidsAmong, AreWhole, IsAppended, Gains, AreContents, IsTipAmong}
 use Rattle.swh_fastload.proofs.Folders.{files_text, are_files, file_entry, kids-files}
-use Rattle.swh_fastload.proofs.Commits.{revision_kid, snapshot_kid, no_kid}
+use Rattle.swh_fastload.proofs.Commits.{revision_kid}
+use Rattle.swh_fastload.proofs.Snapshots.{snapshot_kids, kids_among}
 use Rattle.swh_fastload.proofs.Onces.{same_is}
 
 all_as : {X : Type 0} (P Q : X → Type 0) → ((x : X) → P x → Q x) → (xs : List X) → AllByRecursion P xs → AllByRecursion Q xs
@@ -186,10 +186,7 @@ gains_commit id marks c files root_body root body old mid new own_id w contents 
     gains_revision id root c body old mid new own_id (gains_directory id marks c files root_body old mid root w contents folder found text a) i last b
 
 -- the snapshot, whose kid is the tip's revision
-pub gains_snapshot : (id : Kind → List ℕ → List ℕ) (marks : Marks) (commit : Option Commit) (t : Option Tip) (mid new : List Made) (body : List ℕ) (old last : List Entry) (own_id : List ℕ) → AreWhole id old → IsTipAmong (names_of old) t → IsGoodTip commit → AddsTip id marks commit mid t new → body ≡ snapshot_text (branches_of t) → IsAppended id Snapshot body old last own_id → Gains id old last (snapshot_name own_id)
-gains_snapshot id marks None None mid new body old last own_id w among g a text more = gains_one id Snapshot body old last own_id [] w more (no_kid body text) tt
-gains_snapshot id marks None (Some t) mid new body old last own_id w among g a text more = absurd a
-gains_snapshot id marks (Some c) None mid new body old last own_id w among g a text more = absurd a
-gains_snapshot id marks (Some c) (Some t) mid new body old last own_id w among g a text more =
-    let named : t.branch.now ≡ c.branch = ap (λ (b : SnapshotBranch). b.name) a.ends in
-    gains_one id Snapshot body old last own_id (revision_name t.revision ∷ []) w more (snapshot_kid t.branch.now t.revision body (subst IsRef (sym named) g.branch) a.good text) (among, tt)
+pub gains_snapshot : (id : Kind → List ℕ → List ℕ) (head : Option (List ℕ)) (t : Option Tip) (body : List ℕ) (old last : List Entry) (own_id : List ℕ) → AreWhole id old → IsTipAmong (names_of old) t → AreBranches (with_head head (branches_of t)) → body ≡ snapshot_text (with_head head (branches_of t)) → IsAppended id Snapshot body old last own_id → Gains id old last (snapshot_name own_id)
+gains_snapshot id head t body old last own_id w among good text more =
+    let branches = with_head head (branches_of t) in
+    gains_one id Snapshot body old last own_id (filter_map branch_kid branches) w more (snapshot_kids branches body good text) (kids_among (names_of old) head t among)

@@ -13,7 +13,7 @@ use Rattle.swh_base.specs.Limits.{body_limit}
 use Rattle.swh_base.specs.Name.{IsId}
 use Rattle.swh_base.specs.Text.{IsRef}
 use Rattle.swh_base.specs.Snapshot.{SnapshotBranch}
-use Rattle.swh_fastload.specs.declared.load.Tip.{Tip}
+use Rattle.swh_fastload.specs.declared.snapshot.Tip.{Tip}
 use Rattle.swh_model.specs.PathMap.{PathMap}
 use Rattle.swh_model.specs.SmallStream.{Blob, Commit, IsFileName}
 use Rattle.swh_model.specs.Meaning.{Made, same_made, content, directory, branch_to, tree_after, commit_makes, tip, AreWithinLimit}
@@ -53,11 +53,6 @@ IsCommitLeftOut id marks c = (tree : PathMap) → tree_after marks [] c.changes 
 abbrev pub branches_of : Option Tip → List SnapshotBranch
 branches_of None = []
 branches_of (Some t) = branch_to t.branch.now t.revision ∷ []
-
--- a tip's id is one
-abbrev pub AreTips : Option Tip → Type 0
-AreTips None = Unit {0}
-AreTips (Some t) = IsId t.revision
 
 -- what the grammar says of a commit
 pub record IsGoodCommit (c : Commit) : Type 0 where

@@ -9,7 +9,7 @@ use Rattle.swh_base.specs.Revision.{revision_name}
 use Rattle.swh_model.specs.Step.{snapshot_name}
 use Rattle.swh_object.specs.Object.{IsObject}
 use Rattle.swh_fastload.specs.declared.load.Objects.{Objects}
-use Rattle.swh_fastload.specs.declared.load.Tip.{Tip}
+use Rattle.swh_fastload.specs.declared.snapshot.Tip.{Tip}
 
 abbrev pub names_of : List Entry → List Name
 names_of objects = map (λ e. e.name) objects

@@ -2,6 +2,7 @@ ghost use Rattle.std.specs.Prelude.{◌≡◌};
 ghost use Rattle.swh_fastload.specs.declared.fault.StreamFault.TheVariants.{Memory as OutOfMemory};
 
 use std::alloc::{AllocError, AllocFailed};
+use swh_base::Memory;
 
 /// Why a text gives no stream.
 #[derive(Clone, Copy, Debug, PartialEq, Eq)]
@@ -15,6 +16,14 @@ impl From<AllocError> for StreamFault {
     ghost from_gives = { λ _ e. e ≡ OutOfMemory };
 
     fn from(_e: AllocError) -> StreamFault {
+        StreamFault::Memory
+    }
+}
+
+impl From<Memory> for StreamFault {
+    ghost from_gives = { λ _ e. e ≡ OutOfMemory };
+
+    fn from(_e: Memory) -> StreamFault {
         StreamFault::Memory
     }
 }

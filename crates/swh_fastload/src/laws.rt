@@ -1,4 +1,4 @@
-ghost use Rattle.std.specs.Prelude.{◌≡◌, ℕ, List};
+ghost use Rattle.std.specs.Prelude.{◌≡◌, ℕ, List, Option};
 ghost use Rattle.swh_base.specs.declared.kind.Kind.{Kind};
 ghost use Rattle.swh_model.specs.Meaning.{Making, IsMeaning};
 ghost use Rattle.swh_model.specs.SmallStream.{SmallStream, Parses};
@@ -10,5 +10,5 @@ pub fn one_reading()
 
 /// A text means one thing at most.
 pub fn one_meaning()
-    ensures { (id : Kind → List ℕ → List ℕ) (text : List ℕ) (m n : Making) → IsMeaning id text m → IsMeaning id text n → m ≡ n }
+    ensures { (id : Kind → List ℕ → List ℕ) (head : Option (List ℕ)) (text : List ℕ) (m n : Making) → IsMeaning id head text m → IsMeaning id head text n → m ≡ n }
 {}

@@ -1,5 +1,5 @@
 //! Streams: the values of the small grammar, and the objects that a stream makes.
-//! Stands on `swh_base`, `swh_object` and the definitions of `swh_model`.
+//! Stands on `swh_base`, `swh_snpfmt`, `swh_object` and the definitions of `swh_model`.
 //! Above it may rely on: what is parsed is the grammar's one value, and what is loaded is the stream's meaning.
 #![tactic(auto)]
 
@@ -11,6 +11,7 @@ mod load;
 mod objects;
 mod parse;
 mod parts;
+mod snapshot;
 mod stream;
 mod tree;
 mod words;

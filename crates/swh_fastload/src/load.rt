@@ -1,14 +1,14 @@
 //! What a stream means, made.
-ghost use Rattle.std.specs.Prelude.{◌≡◌, ◌≤◌, ◌<◌, ◌++◌, ◌∷◌, [], ℕ, List, Option, Some, None, length, map, Contains, IfOk, IfErr, OnOk, codes};
-ghost use Rattle.std.specs.Option.{option_map};
+ghost use Rattle.std.specs.Prelude.{◌≡◌, ◌≤◌, ◌<◌, ◌++◌, ◌∷◌, [], ℕ, List, Option, Some, None, length, map, Contains, IfOk, IfErr, OnOk, IfSome, codes};
+ghost use Rattle.std.specs.Option.{option_map, option_copied};
 ghost use Rattle.swh_base.specs.Limits.{body_limit};
 ghost use Rattle.swh_base.specs.Name.{IsId};
 ghost use Rattle.swh_base.specs.declared.kind.Kind.TheVariants.{Directory as DirectoryKind, Revision as RevisionKind, Snapshot as SnapshotKind};
 ghost use Rattle.swh_base.specs.Revision.{revision_name};
-ghost use Rattle.swh_base.specs.Snapshot.{snapshot_text};
+ghost use Rattle.swh_base.specs.Text.{IsRef};
 ghost use Rattle.swh_model.specs.SmallStream.{Change as ChangeValue, IsFileName};
-ghost use Rattle.swh_model.specs.Meaning.{Made, revision, branch_to, tree_after, commit_makes, tip, AreWithinLimit, IsMeaning, IsLeftOut};
-ghost use Rattle.swh_fastload.specs.Making.{made, AreIds, IsCommitLeftOut, branches_of, AreTips, IsGoodCommit, IsGoodTip, AddsCommit, AddsTip, IsTipLeftOut};
+ghost use Rattle.swh_model.specs.Meaning.{Made, revision, tree_after, commit_makes, tip, AreWithinLimit, IsMeaning, IsLeftOut};
+ghost use Rattle.swh_fastload.specs.Making.{made, AreIds, IsCommitLeftOut, IsGoodCommit, IsGoodTip, AddsCommit, AddsTip, IsTipLeftOut};
 ghost use Rattle.swh_fastload.specs.Loaded.{making_of};
 ghost use Rattle.swh_fastload.specs.View.{commit_view};
 ghost use Rattle.swh_fastload.specs.Whole.{names_of, AreWhole, AreContents, IsTipAmong, IsWhole};
@@ -18,6 +18,7 @@ ghost use Rattle.swh_fastload.specs.declared.fault.StreamFault.TheVariants.{Memo
 use crate::fault::StreamFault;
 use crate::objects::{add_contents, add_object};
 use crate::parse::parse_stream;
+use crate::snapshot::{Tip, snapshot_body};
 use crate::stream::Commit;
 use crate::tree::{Marks, directory_body, files_of};
 use std::alloc::Global;
@@ -64,39 +65,6 @@ fn revision_body(
     body.push(b'\n')?;
     body.extend_from_slice(commit.message)?;
     Ok(body)
-}
-
-/// A ref and the revision that it leads to.
-#[derive(Debug, Drop)]
-pub struct Tip<'a> {
-    pub branch: &'a [u8],
-    pub revision: [u8; 20],
-}
-
-/// The body of the snapshot of one branch.
-fn branch_body(alloc: Global, tip: &Tip<'_>) -> Result<Vec<u8>, StreamFault>
-    requires { IsId tip.now.revision }
-    ensures ok { IfOk result (λ body. body.items ≡ snapshot_text (branch_to tip.now.branch.now tip.now.revision ∷ [])) }
-    ensures err { IfErr result (λ fault. fault ≡ OutOfMemory) }
-{
-    let mut body = Vec::new(alloc);
-    body.extend_from_slice(b"revision ")?;
-    body.extend_from_slice(tip.branch)?;
-    body.extend_from_slice(b"\x0020:")?;
-    body.extend_from_slice(&tip.revision)?;
-    Ok(body)
-}
-
-/// The body of the snapshot of one branch, or of none.
-fn snapshot_body(alloc: Global, tip: &Option<Tip<'_>>) -> Result<Vec<u8>, StreamFault>
-    requires { AreTips tip.now }
-    ensures ok { IfOk result (λ body. body.items ≡ snapshot_text (branches_of tip.now)) }
-    ensures err { IfErr result (λ fault. fault ≡ OutOfMemory) }
-{
-    match tip {
-        Some(tip) => branch_body(alloc, tip),
-        None => Ok(Vec::new(alloc)),
-    }
 }
 
 /// Adds the directory and the revision of a commit, and answers its tip.
@@ -150,24 +118,26 @@ fn add_tip<'a, N: Namer>(
     }
 }
 
-/// The objects that a stream makes.
+/// The objects that a stream makes, where this head is named, or none.
 pub fn load_stream<N: Namer>(
     alloc: Global,
     namer: &N,
+    head: Option<&[u8]>,
     text: &[u8],
 ) -> Result<Objects<N>, StreamFault>
+    requires { IfSome (option_copied head) IsRef }
     // What is made is what the text means.
-    ensures ok { IfOk result (λ loaded. IsMeaning N.id_of text.now (making_of loaded)) }
+    ensures ok { IfOk result (λ loaded. IsMeaning N.id_of (option_copied head.entry) text.now (making_of loaded)) }
     // The objects have all of their kids, and the snapshot is one of them.
     ensures whole { IfOk result (IsWhole N.id_of) }
     // What is left out means nothing.
-    ensures err { IfErr result (Refuses (IsLeftOut N.id_of text.now)) }
+    ensures err { IfErr result (Refuses (IsLeftOut N.id_of (option_copied head.entry) text.now)) }
 {
     let stream = parse_stream(alloc, text)?;
     let mut objects = Vec::new(alloc);
     let marks = add_contents(alloc, namer, &stream.blobs, &mut objects)?;
     let tip = add_tip(alloc, namer, &marks, &stream.commit, &mut objects)?;
-    let body = snapshot_body(alloc, &tip)?;
+    let body = snapshot_body(alloc, head, &tip)?;
     let snapshot = add_object(alloc, namer, Kind::Snapshot, body, &mut objects)?;
     Ok(Objects { objects, snapshot })
 }

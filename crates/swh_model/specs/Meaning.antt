@@ -1,7 +1,8 @@
--- What a stream makes: objects, in the order in which they are made, and the snapshot among them. A text that the small
--- grammar leaves out, names a mark that is not set, or makes a body above the limit, makes nothing.
+-- What a stream makes: objects, in the order in which they are made, and the snapshot among them, whose `HEAD` is an
+-- alias to the head where one is named. A text that the small grammar leaves out, names a mark that is not set, or makes
+-- a body above the limit, makes nothing.
 use Rattle.std.specs.Prelude.{◌≡◌, ℕ, ◌≤◌, ◌==◌, Bool, not, ◌&&◌, if◌then◌else◌, List, [], ◌∷◌, ◌++◌, length, map, filter, Option, Some, None, option_and_then, codes}
-use Rattle.std.specs.Ordering.{nat_cmp, is_eq}
+use Rattle.std.specs.Ordering.{nat_cmp, is_eq, match_ordering}
 use Rattle.std.specs.Cmp.Lexicographic.{slice_cmp}
 use Rattle.std.specs.List.{AllByRecursion}
 use Rattle.std.specs.BTreeMap.{insert_entry}
@@ -12,7 +13,7 @@ use Rattle.swh_base.specs.Name.{kind_number}
 use Rattle.swh_base.specs.Directory.{directory_text}
 use Rattle.swh_base.specs.Revision.{revision_text, revision_name}
 use Rattle.swh_base.specs.Snapshot.{SnapshotBranch, snapshot_text}
-use Rattle.swh_base.specs.Snapshot.BranchTarget.{ToObject}
+use Rattle.swh_base.specs.Snapshot.BranchTarget.{ToObject, ToBranch}
 use Rattle.swh_model.specs.PathMap.{PathMap, set, directory_of, directory_bodies}
 use Rattle.swh_model.specs.SmallStream.{Blob, Change, Commit, SmallStream, line, Parses}
 
@@ -64,6 +65,19 @@ revision root c = record { kind = Revision; body = revision_text (record { direc
 abbrev pub branch_to : List ℕ → List ℕ → SnapshotBranch
 branch_to name id = record { name = name; target = ToObject (revision_name id) }
 
+-- a branch at its place among branches that ascend by name, instead of one of its name
+abbrev pub put_branch : SnapshotBranch → List SnapshotBranch → List SnapshotBranch
+put_branch b [] = b ∷ []
+put_branch b (c ∷ cs) = match_ordering (slice_cmp nat_cmp b.name c.name) (b ∷ c ∷ cs) (b ∷ cs) (c ∷ put_branch b cs)
+
+abbrev pub head_branch : List ℕ → SnapshotBranch
+head_branch head = record { name = codes "HEAD"; target = ToBranch head }
+
+-- branches with `HEAD` as an alias to the head, where one is named
+abbrev pub with_head : Option (List ℕ) → List SnapshotBranch → List SnapshotBranch
+with_head None branches = branches
+with_head (Some head) branches = put_branch (head_branch head) branches
+
 abbrev pub snapshot : List SnapshotBranch → Made
 snapshot branches = record { kind = Snapshot; body = snapshot_text branches }
 
@@ -74,24 +88,24 @@ commit_makes id c tree = map directory (directory_bodies (id Directory) tree) ++
 abbrev pub tip : (Kind → List ℕ → List ℕ) → Commit → PathMap → SnapshotBranch
 tip id c tree = branch_to c.branch (id Revision (revision (id Directory (directory_text (directory_of (id Directory) tree))) c).body)
 
-abbrev pub making : (Kind → List ℕ → List ℕ) → List Made → List SnapshotBranch → Making
-making id objects branches = record { objects = once (objects ++ snapshot branches ∷ []); snapshot = id Snapshot (snapshot_text branches) }
+abbrev pub making : (Kind → List ℕ → List ℕ) → Option (List ℕ) → List Made → List SnapshotBranch → Making
+making id head objects branches = record { objects = once (objects ++ snapshot (with_head head branches) ∷ []); snapshot = id Snapshot (snapshot_text (with_head head branches)) }
 
 -- the fold over blobs and commit
-abbrev pub makes : (Kind → List ℕ → List ℕ) → List Blob → Option Commit → Option Making
-makes id blobs None = Some (making id (map (λ b. content b.bytes) blobs) [])
-makes id blobs (Some c) = option_and_then (λ tree. Some (making id (map (λ b. content b.bytes) blobs ++ commit_makes id c tree) (tip id c tree ∷ []))) (tree_after (marks_after id [] blobs) [] c.changes)
+abbrev pub makes : (Kind → List ℕ → List ℕ) → Option (List ℕ) → List Blob → Option Commit → Option Making
+makes id head blobs None = Some (making id head (map (λ b. content b.bytes) blobs) [])
+makes id head blobs (Some c) = option_and_then (λ tree. Some (making id head (map (λ b. content b.bytes) blobs ++ commit_makes id c tree) (tip id c tree ∷ []))) (tree_after (marks_after id [] blobs) [] c.changes)
 
 abbrev pub AreWithinLimit : List Made → Type 0
 AreWithinLimit objects = AllByRecursion (λ m. length m.body ≤ body_limit) objects
 
--- The text means this, by a namer's ids.
-pub record IsMeaning (id : Kind → List ℕ → List ℕ) (text : List ℕ) (making : Making) : Type 0 where
+-- Where this head is named, or none, the text means this, by a namer's ids.
+pub record IsMeaning (id : Kind → List ℕ → List ℕ) (head : Option (List ℕ)) (text : List ℕ) (making : Making) : Type 0 where
   pub stream : SmallStream
   pub parses : Parses text stream
-  pub makes_it : makes id stream.blobs stream.commit ≡ Some making
+  pub makes_it : makes id head stream.blobs stream.commit ≡ Some making
   pub within : AreWithinLimit making.objects
 
 -- The text means nothing.
-abbrev pub IsLeftOut : (Kind → List ℕ → List ℕ) → List ℕ → Type 0
-IsLeftOut id text = (making : Making) → IsMeaning id text making → ⊥
+abbrev pub IsLeftOut : (Kind → List ℕ → List ℕ) → Option (List ℕ) → List ℕ → Type 0
+IsLeftOut id head text = (making : Making) → IsMeaning id head text making → ⊥
