@@ -69,7 +69,7 @@ pub full_sent : {D E N : Type 0} (r : Result End E) (a b : Kept D) (made : Objec
 full_sent (Ok x) a b made held on e = subst (λ (y : End). IsSentEnd (bodies_of b) made y) (sym e) (refl, all_within (bodies_of a) (bodies_of b) made.objects.items on.within held)
 full_sent (Err f) a b made held on e = tt
 
-pub left_out : (id : Kind → List ℕ → List ℕ) (tells : Type 0) (left text slice : List ℕ) (before now : ℕ) (bad : BadInput) (fault : StreamFault) → bad ≡ Stream 0 LeftOut → (tells → text ≡ left) → slice ≡ text → fault ≡ FaultLeftOut → Refuses (IsLeftOut id slice) fault → Broke id tells left before now bad
-left_out id tells left text slice before now bad fault e w same at h =
-    let said : IsLeftOut id slice = subst (Refuses (IsLeftOut id slice)) at h in
-    subst (Broke id tells left before now) (sym e) (refl, refl, λ t. subst (IsLeftOut id) (same ∙ w t) said)
+pub left_out : (id : Kind → List ℕ → List ℕ) (head : Option (List ℕ)) (tells : Type 0) (left text slice : List ℕ) (before now : ℕ) (bad : BadInput) (fault : StreamFault) → bad ≡ Stream 0 LeftOut → (tells → text ≡ left) → slice ≡ text → fault ≡ FaultLeftOut → Refuses (IsLeftOut id head slice) fault → Broke id head tells left before now bad
+left_out id head tells left text slice before now bad fault e w same at h =
+    let said : IsLeftOut id head slice = subst (Refuses (IsLeftOut id head slice)) at h in
+    subst (Broke id head tells left before now) (sym e) (refl, refl, λ t. subst (IsLeftOut id head) (same ∙ w t) said)

@@ -1,5 +1,5 @@
 -- What a load of a job leaves, from its steps.
-use Rattle.std.proofs.Common.{◌≡◌, ℕ, None, Result, Ok, Err, List, [], ◌∷◌, ◌++◌, refl, sym, ap, ◌∙◌, subst, append_assoc}
+use Rattle.std.proofs.Common.{◌≡◌, ℕ, None, Result, Ok, Err, Option, List, [], ◌∷◌, ◌++◌, refl, sym, ap, ◌∙◌, subst, append_assoc}
 use Rattle.std.proofs.lemmas.List.{append-nil, append_cancel_left}
 use Rattle.std.specs.Prelude.{IfOk}
 use Rattle.std.specs.List.{AllByRecursion}
@@ -25,29 +25,29 @@ use Rattle.swh_loader.proofs.Closes.{whole_good}
 use Rattle.swh_loader.proofs.Limiting.{all-append}
 
 -- the objects that were made are meant
-pub means_made : {N : Type 0} (id : Kind → List ℕ → List ℕ) (text : List ℕ) (made : Objects N) → IsWhole id made → IsMeaning id text (making_of made) → MeansObjects id text made.objects.items made.snapshot
-means_made id text made w m = record { meaning = m; good = whole_good id made.objects.items w.objects.each }
+pub means_made : {N : Type 0} (id : Kind → List ℕ → List ℕ) (head : Option (List ℕ)) (text : List ℕ) (made : Objects N) → IsWhole id made → IsMeaning id head text (making_of made) → MeansObjects id head text made.objects.items made.snapshot
+means_made id head text made w m = record { meaning = m; good = whole_good id made.objects.items w.objects.each }
 
-made_by : (id : Kind → List ℕ → List ℕ) (text : List ℕ) (objects : List Entry) (snapshot : List ℕ) → MeansObjects id text objects snapshot → (entries : List Entry) → AreAmong objects entries → AllByRecursion (IsMadeBy id text) entries
-made_by id text objects snapshot m [] h = tt
-made_by id text objects snapshot m (e ∷ entries) h = (record { objects = objects; snapshot = snapshot; means = m; among = h.0 }, made_by id text objects snapshot m entries h.1)
+made_by : (id : Kind → List ℕ → List ℕ) (head : Option (List ℕ)) (text : List ℕ) (objects : List Entry) (snapshot : List ℕ) → MeansObjects id head text objects snapshot → (entries : List Entry) → AreAmong objects entries → AllByRecursion (IsMadeBy id head text) entries
+made_by id head text objects snapshot m [] h = tt
+made_by id head text objects snapshot m (e ∷ entries) h = (record { objects = objects; snapshot = snapshot; means = m; among = h.0 }, made_by id head text objects snapshot m entries h.1)
 
 -- a batch of some of them is made by the input
-pub among_made : {N : Type 0} (id : Kind → List ℕ → List ℕ) (tells : Type 0) (text : List ℕ) (made : Objects N) → IsWhole id made → (tells → IsMeaning id text (making_of made)) → (entries : List Entry) → AreAmong made.objects.items entries → AreMadeBy id tells text entries
-among_made id tells text made w m entries h t = made_by id text made.objects.items made.snapshot (means_made id text made w (m t)) entries h
+pub among_made : {N : Type 0} (id : Kind → List ℕ → List ℕ) (head : Option (List ℕ)) (tells : Type 0) (text : List ℕ) (made : Objects N) → IsWhole id made → (tells → IsMeaning id head text (making_of made)) → (entries : List Entry) → AreAmong made.objects.items entries → AreMadeBy id head tells text entries
+among_made id head tells text made w m entries h t = made_by id head text made.objects.items made.snapshot (means_made id head text made w (m t)) entries h
 
 -- the end of a visit whose input was sent
-pub sent_end : {N E : Type 0} (id : Kind → List ℕ → List ℕ) (tells : Type 0) (text : List ℕ) (before now : ℕ) (bodies : Bodies) (made : Objects N) (r : Result End E) → (tells → MeansObjects id text made.objects.items made.snapshot) → IfOk r (λ x. IsSentEnd bodies made x) → IfOk r (λ x. IsEndOf id tells text before now bodies x)
-sent_end id tells text before now bodies made (Ok (Full snapshot)) m h = λ t. record {
+pub sent_end : {N E : Type 0} (id : Kind → List ℕ → List ℕ) (head : Option (List ℕ)) (tells : Type 0) (text : List ℕ) (before now : ℕ) (bodies : Bodies) (made : Objects N) (r : Result End E) → (tells → MeansObjects id head text made.objects.items made.snapshot) → IfOk r (λ x. IsSentEnd bodies made x) → IfOk r (λ x. IsEndOf id head tells text before now bodies x)
+sent_end id head tells text before now bodies made (Ok (Full snapshot)) m h = λ t. record {
   objects = made.objects.items;
-  means = subst (MeansObjects id text made.objects.items) (sym h.0) (m t);
+  means = subst (MeansObjects id head text made.objects.items) (sym h.0) (m t);
   held = h.1;
 }
-sent_end id tells text before now bodies made (Ok NotFound) m h = h
-sent_end id tells text before now bodies made (Ok (Failed (Stream at why))) m h = absurd h
-sent_end id tells text before now bodies made (Ok (Failed (Collision name))) m h = λ t. record { objects = made.objects.items; snapshot = made.snapshot; means = m t; collision = h }
-sent_end id tells text before now bodies made (Ok (Failed Read)) m h = absurd h
-sent_end id tells text before now bodies made (Err e) m h = tt
+sent_end id head tells text before now bodies made (Ok NotFound) m h = h
+sent_end id head tells text before now bodies made (Ok (Failed (Stream at why))) m h = absurd h
+sent_end id head tells text before now bodies made (Ok (Failed (Collision name))) m h = λ t. record { objects = made.objects.items; snapshot = made.snapshot; means = m t; collision = h }
+sent_end id head tells text before now bodies made (Ok (Failed Read)) m h = absurd h
+sent_end id head tells text before now bodies made (Err e) m h = tt
 
 -- a visit that was opened, and its own events
 pub visit_added : {D : Type 0} (faults : D → ℕ) (A : List Entry → Type 0) (by : ℕ) (origin : List ℕ) (date number : ℕ) (old mid new : Kept D) → mid.history ≡ old.history ++ opening by origin date ∷ [] → number ≡ next_visit old.history origin → Adds faults (IsOwn A by origin number) mid new → AddsVisit A by origin date old.history new.history

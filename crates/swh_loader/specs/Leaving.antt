@@ -1,5 +1,5 @@
 -- What a load of a job leaves, whatever it answers.
-use Rattle.std.specs.Prelude.{◌≡◌, ◌⊎◌, ℕ, ◌+◌, ◌≤◌, Result, Ok, Err, List, [], ◌∷◌, ◌++◌, length}
+use Rattle.std.specs.Prelude.{◌≡◌, ◌⊎◌, ℕ, ◌+◌, ◌≤◌, Result, Ok, Err, Option, List, [], ◌∷◌, ◌++◌, length}
 use Rattle.std.specs.List.{AllByRecursion}
 use Rattle.swh_base.specs.declared.kind.Kind.{Kind}
 use Rattle.swh_base.specs.declared.entry.Entry.{Entry}
@@ -22,11 +22,11 @@ abbrev pub next_visit : List Event → List ℕ → ℕ
 next_visit h origin = length (visits_of (replay h).origins origin) + 1
 
 -- The batches of a load hold only what its input makes; without an input there are none.
-abbrev pub AreAllowed : {S : Type 0} → (Kind → List ℕ → List ℕ) → Type 0 → (S → List ℕ) → Opened S → List Entry → Type 0
-AreAllowed id tells left (Found s) entries = AreMadeBy id tells (left s) entries
-AreAllowed id tells left NotFound entries = IsNoBatch entries
-AreAllowed id tells left Failed entries = IsNoBatch entries
-AreAllowed id tells left Memory entries = IsNoBatch entries
+abbrev pub AreAllowed : {S : Type 0} → (Kind → List ℕ → List ℕ) → Option (List ℕ) → Type 0 → (S → List ℕ) → Opened S → List Entry → Type 0
+AreAllowed id head tells left (Found s) entries = AreMadeBy id head tells (left s) entries
+AreAllowed id head tells left NotFound entries = IsNoBatch entries
+AreAllowed id head tells left Failed entries = IsNoBatch entries
+AreAllowed id head tells left Memory entries = IsNoBatch entries
 
 -- The events of one load: none, or its visit's opening and then its own.
 abbrev pub AreOfVisit : (List Entry → Type 0) → ℕ → List ℕ → ℕ → ℕ → List Event → Type 0

@@ -1,5 +1,5 @@
 -- What a source gave.
-use Rattle.std.specs.Prelude.{◌≡◌, ℕ, List}
+use Rattle.std.specs.Prelude.{◌≡◌, ℕ, Option, List}
 use Rattle.swh_base.specs.declared.kind.Kind.{Kind}
 use Rattle.swh_outside.specs.Faults.{Rose}
 use Rattle.swh_model.specs.Meaning.{IsMeaning, IsLeftOut}
@@ -12,14 +12,14 @@ use Rattle.swh_loader.specs.declared.loading.Input.{Input}
 use Rattle.swh_loader.specs.declared.loading.Input.TheVariants.{Made, Bad}
 
 -- Why a text gives nothing.
-abbrev pub Broke : (Kind → List ℕ → List ℕ) → Type 0 → List ℕ → ℕ → ℕ → BadInput → Type 0
-Broke id tells text before after (Stream at why) = (at ≡ 0) × (why ≡ LeftOut) × (tells → IsLeftOut id text)
-Broke id tells text before after (Collision name) = ⊥
-Broke id tells text before after Read = Rose before after
+abbrev pub Broke : (Kind → List ℕ → List ℕ) → Option (List ℕ) → Type 0 → List ℕ → ℕ → ℕ → BadInput → Type 0
+Broke id head tells text before after (Stream at why) = (at ≡ 0) × (why ≡ LeftOut) × (tells → IsLeftOut id head text)
+Broke id head tells text before after (Collision name) = ⊥
+Broke id head tells text before after Read = Rose before after
 
-abbrev pub IsRead : {N : Type 0} → (Kind → List ℕ → List ℕ) → Type 0 → List ℕ → ℕ → ℕ → Input N → Type 0
-IsRead id tells text before after (Made objects) = tells → IsMeaning id text (making_of objects)
-IsRead id tells text before after (Bad bad) = Broke id tells text before after bad
+abbrev pub IsRead : {N : Type 0} → (Kind → List ℕ → List ℕ) → Option (List ℕ) → Type 0 → List ℕ → ℕ → ℕ → Input N → Type 0
+IsRead id head tells text before after (Made objects) = tells → IsMeaning id head text (making_of objects)
+IsRead id head tells text before after (Bad bad) = Broke id head tells text before after bad
 
 -- What was made has all of its kids.
 abbrev pub IsWholeInput : {N : Type 0} → (Kind → List ℕ → List ℕ) → Input N → Type 0

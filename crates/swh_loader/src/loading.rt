@@ -1,5 +1,7 @@
 // One load: an input read, made, sent, and its visit ended.
-ghost use Rattle.std.specs.Prelude.{◌≡◌, ◌≤◌, ◌+◌, ◌∷◌, [], Some, None, ℕ, IfOk, IfErr, OnOk, length};
+ghost use Rattle.std.specs.Prelude.{◌≡◌, ◌≤◌, ◌+◌, ◌∷◌, [], Some, None, ℕ, IfOk, IfErr, IfSome, OnOk, length};
+ghost use Rattle.std.specs.Option.{option_copied};
+ghost use Rattle.swh_base.specs.Text.{IsRef};
 ghost use Rattle.swh_base.specs.declared.visit.Status.TheVariants.{Created, Ongoing, Full as FullStatus, NotFound as NotFoundStatus, Failed as FailedStatus};
 ghost use Rattle.swh_model.specs.Archive.{visits_of, IsClosed};
 ghost use Rattle.swh_model.specs.Step.{replay, snapshot_name};
@@ -23,7 +25,7 @@ use crate::job::Job;
 use crate::sending::send_all;
 use crate::visiting::{mark, open_visit};
 use std::alloc::Global;
-use swh_base::{Namer, Status, Url};
+use swh_base::{Bytes, Namer, Status, Url};
 use swh_fastlex::{SourceFault, read_source};
 use swh_fastload::{Objects, StreamFault, load_stream};
 use swh_keeper::Keeper;
@@ -54,8 +56,10 @@ fn read_input<N: Namer, S: Source>(
     alloc: Global,
     namer: &N,
     source: &mut S,
+    head: Option<&[u8]>,
 ) -> Result<Input<N>, LoadWhy>
-    ensures read { IfOk result (λ input. IsRead N.id_of S.tells (S.left source.old) (S.faults source.old) (S.faults source.new) input) }
+    requires { IfSome (option_copied head) IsRef }
+    ensures read { IfOk result (λ input. IsRead N.id_of (option_copied head.entry) S.tells (S.left source.old) (S.faults source.old) (S.faults source.new) input) }
     ensures whole { IfOk result (IsWholeInput N.id_of) }
     ensures err { IfErr result (λ why. why ≡ OutOfMemory) }
     ensures same_path { S.path source.new ≡ S.path source.old }
@@ -67,7 +71,7 @@ fn read_input<N: Namer, S: Source>(
         Err(SourceFault::Limit) => return Ok(Input::Bad(left_out())),
         Err(SourceFault::Memory) => return Err(LoadWhy::Memory),
     };
-    match load_stream(alloc, namer, &text) {
+    match load_stream(alloc, namer, head, &text) {
         Ok(objects) => Ok(Input::Made(objects)),
         Err(StreamFault::LeftOut) => Ok(Input::Bad(left_out())),
         Err(StreamFault::Memory) => Err(LoadWhy::Memory),
@@ -186,23 +190,25 @@ fn load_found<N: Namer, D: Disk, S: Source, G: Gate>(
     origin: &Url,
     visit: u64,
     source: &mut S,
+    head: Option<&[u8]>,
     gate: &G,
     worker: u32,
     number: u32,
 ) -> Result<End, LoadWhy>
     requires unwounded { keeper.old.wounded ≡ None }
+    requires head { IfSome (option_copied head) IsRef }
     requires visit { IsOpen keeper.old.history origin.now visit by }
-    ensures end { IfOk result (λ end. IsEndOf N.id_of S.tells (S.left source.old) (S.faults source.old) (S.faults source.new) (bodies_of keeper.new) end) }
+    ensures end { IfOk result (λ end. IsEndOf N.id_of (option_copied head.entry) S.tells (S.left source.old) (S.faults source.old) (S.faults source.new) (bodies_of keeper.new) end) }
     ensures marked { IfOk result (λ end. IsMarked keeper.old.history keeper.new.history origin.now visit by (statuses_of end)) }
     ensures on { OnOk result (GoesOn keeper.old keeper.new) }
-    ensures calls { D.tells → MakesCalls N.id_of D.file (IsOwn (AreMadeBy N.id_of S.tells (S.left source.old)) by origin.now visit) keeper.old keeper.new }
-    ensures adds { Adds D.faults (IsOwn (AreMadeBy N.id_of S.tells (S.left source.old)) by origin.now visit) keeper.old keeper.new }
-    ensures stops { IfErr result (StopsFor N.id_of D.faults (IsOwn (AreMadeBy N.id_of S.tells (S.left source.old)) by origin.now visit) keeper.old keeper.new) }
+    ensures calls { D.tells → MakesCalls N.id_of D.file (IsOwn (AreMadeBy N.id_of (option_copied head.entry) S.tells (S.left source.old)) by origin.now visit) keeper.old keeper.new }
+    ensures adds { Adds D.faults (IsOwn (AreMadeBy N.id_of (option_copied head.entry) S.tells (S.left source.old)) by origin.now visit) keeper.old keeper.new }
+    ensures stops { IfErr result (StopsFor N.id_of D.faults (IsOwn (AreMadeBy N.id_of (option_copied head.entry) S.tells (S.left source.old)) by origin.now visit) keeper.old keeper.new) }
     ensures same_path { S.path source.new ≡ S.path source.old }
     ensures later { S.faults source.old ≤ S.faults source.new }
 {
     mark(alloc, keeper, by, origin, visit, Status::Ongoing, None)?;
-    match read_input(alloc, namer, source)? {
+    match read_input(alloc, namer, source, head)? {
         Input::Made(made) => finish(alloc, keeper, by, origin, visit, made, gate, worker, number),
         Input::Bad(bad) => end_bad(alloc, keeper, by, origin, visit, bad),
     }
@@ -259,27 +265,39 @@ fn load_opened<N: Namer, D: Disk, S: Source, G: Gate>(
     origin: &Url,
     visit: u64,
     stream: &mut Opened<S>,
+    head: Option<&[u8]>,
     gate: &G,
     worker: u32,
     number: u32,
 ) -> Result<End, LoadWhy>
     requires unwounded { keeper.old.wounded ≡ None }
+    requires head { IfSome (option_copied head) IsRef }
     requires visit { IsOpen keeper.old.history origin.now visit by }
-    ensures end { IfOk result (λ end. IsJobEnd N.id_of S.tells S.left S.faults (bodies_of keeper.new) stream.old stream.new end) }
+    ensures end { IfOk result (λ end. IsJobEnd N.id_of (option_copied head.entry) S.tells S.left S.faults (bodies_of keeper.new) stream.old stream.new end) }
     ensures marked { IfOk result (λ end. IsMarked keeper.old.history keeper.new.history origin.now visit by (statuses_of end)) }
     ensures on { OnOk result (GoesOn keeper.old keeper.new) }
-    ensures calls { D.tells → MakesCalls N.id_of D.file (IsOwn (AreAllowed N.id_of S.tells S.left stream.old) by origin.now visit) keeper.old keeper.new }
-    ensures adds { Adds D.faults (IsOwn (AreAllowed N.id_of S.tells S.left stream.old) by origin.now visit) keeper.old keeper.new }
-    ensures stops { IfErr result (StopsFor N.id_of D.faults (IsOwn (AreAllowed N.id_of S.tells S.left stream.old) by origin.now visit) keeper.old keeper.new) }
+    ensures calls { D.tells → MakesCalls N.id_of D.file (IsOwn (AreAllowed N.id_of (option_copied head.entry) S.tells S.left stream.old) by origin.now visit) keeper.old keeper.new }
+    ensures adds { Adds D.faults (IsOwn (AreAllowed N.id_of (option_copied head.entry) S.tells S.left stream.old) by origin.now visit) keeper.old keeper.new }
+    ensures stops { IfErr result (StopsFor N.id_of D.faults (IsOwn (AreAllowed N.id_of (option_copied head.entry) S.tells S.left stream.old) by origin.now visit) keeper.old keeper.new) }
     ensures same { IsSameInput S.path S.faults stream.old stream.new }
 {
     match stream {
         Opened::Found(source) => load_found(
-            alloc, namer, keeper, by, origin, visit, source, gate, worker, number,
+            alloc, namer, keeper, by, origin, visit, source, head, gate, worker, number,
         ),
         Opened::NotFound => end_absent(alloc, keeper, by, origin, visit),
         Opened::Failed => end_unread(alloc, keeper, by, origin, visit),
         Opened::Memory => Err(LoadWhy::Memory),
+    }
+}
+
+/// The bytes of a head, where one is named.
+fn head_of(head: &Option<Bytes>) -> Option<&[u8]>
+    ensures { option_copied result ≡ head.now }
+{
+    match head {
+        Some(head) => Some(head.as_slice()),
+        None => None,
     }
 }
 
@@ -295,29 +313,32 @@ pub fn load_one<N: Namer, D: Disk, S: Source, G: Gate>(
     worker: u32,
     number: u32,
 ) -> Result<Loaded, LoadFault>
+    // A head is a ref.
+    requires { IfSome job.old.head IsRef }
     // The visit's number is the next of its origin.
     ensures number { IfOk result (λ loaded. loaded.visit ≡ length (visits_of (replay keeper.old.history).origins job.old.origin) + 1) }
     // It was created, and its end is the one told.
     ensures visit { IfOk result (λ loaded. IsVisit keeper.new.history job.old.origin loaded.visit date by ((Created, None) ∷ statuses_of loaded.end)) }
     // The end says what the input means, and what is held.
-    ensures end { IfOk result (λ loaded. IsJobEnd N.id_of S.tells S.left S.faults (bodies_of keeper.new) job.old.stream job.new.stream loaded.end) }
+    ensures end { IfOk result (λ loaded. IsJobEnd N.id_of job.old.head S.tells S.left S.faults (bodies_of keeper.new) job.old.stream job.new.stream loaded.end) }
     // Nothing that was held is lost.
     ensures on { OnOk result (GoesOn keeper.old keeper.new) }
     // No disk had failed.
     ensures before_it { OnOk result (keeper.old.wounded ≡ None) }
 
     // Whatever it answers, it adds its visit's events alone, with nothing but what the input makes.
-    ensures adds { AddsVisit (AreAllowed N.id_of S.tells S.left job.old.stream) by job.old.origin date keeper.old.history keeper.new.history }
+    ensures adds { AddsVisit (AreAllowed N.id_of job.old.head S.tells S.left job.old.stream) by job.old.origin date keeper.old.history keeper.new.history }
     // The device calls that it makes: those of its events, in order; where a disk fails, up to one of the next event.
-    ensures calls { D.tells → MakesVisitCalls N.id_of D.file (AreAllowed N.id_of S.tells S.left job.old.stream) by job.old.origin date keeper.old keeper.new }
+    ensures calls { D.tells → MakesVisitCalls N.id_of D.file (AreAllowed N.id_of job.old.head S.tells S.left job.old.stream) by job.old.origin date keeper.old keeper.new }
     // Where a disk had failed before, it opens no visit and changes nothing.
     ensures wounded { (n : ℕ) → keeper.old.wounded ≡ Some n → IsHeldBack keeper.old keeper.new result }
     // Why it stopped, and what is left then.
-    ensures stops { IfErr result (Stops N.id_of D.faults (AreAllowed N.id_of S.tells S.left job.old.stream) by job.old.origin date keeper.old keeper.new) }
+    ensures stops { IfErr result (Stops N.id_of D.faults (AreAllowed N.id_of job.old.head S.tells S.left job.old.stream) by job.old.origin date keeper.old keeper.new) }
     // The counts of faults, and the job.
     ensures store_later { D.faults keeper.old.store ≤ D.faults keeper.new.store }
     ensures ledger_later { D.faults keeper.old.ledger ≤ D.faults keeper.new.ledger }
     ensures same_origin { job.new.origin ≡ job.old.origin }
+    ensures same_head { job.new.head ≡ job.old.head }
     ensures same_input { IsSameInput S.path S.faults job.old.stream job.new.stream }
 {
     let visit = match open_visit(alloc, keeper, by, &job.origin, date) {
@@ -332,6 +353,7 @@ pub fn load_one<N: Namer, D: Disk, S: Source, G: Gate>(
         &job.origin,
         visit,
         &mut job.stream,
+        head_of(&job.head),
         gate,
         worker,
         number,

@@ -68,12 +68,17 @@ pub fn load<N: Namer>(
             why: LoadWhy::Memory,
         });
     };
-    let mut job = Job { origin, stream };
+    let mut job = Job {
+        origin,
+        stream,
+        head: None,
+    };
     let date = 1_000_000_000;
     let answer = load_one(alloc, namer, keeper, 1, &mut job, date, &OpenGate, 0, 0);
     let Job {
         origin: _origin,
         stream: _stream,
+        head: _head,
     } = job;
     answer
 }

@@ -1,5 +1,5 @@
 -- Where nothing stands against a load, its job is full.
-use Rattle.std.proofs.Common.{◌≡◌, inl, inr, ℕ, zero, suc, ◌<◌, Some, List, [], ◌∷◌, length, get_or, map, Contains, refl, sym, ap, ◌∙◌, subst, arith}
+use Rattle.std.proofs.Common.{◌≡◌, inl, inr, ℕ, zero, suc, ◌<◌, Some, None, List, [], ◌∷◌, length, get_or, map, Contains, refl, sym, ap, ◌∙◌, subst, arith}
 use Rattle.std.specs.List.{AllByRecursion}
 use Rattle.std.proofs.lemmas.List.Elements.{Contains-append_right}
 use Rattle.swh_base.specs.declared.kind.Kind.{Kind}
@@ -31,27 +31,27 @@ map_contains {X} {Y} f xs x h = at xs h.0 h.1 h.2
     at (y ∷ ys) zero less h = (0, omega arith, ap f h)
     at (y ∷ ys) (suc k) less h = let r = at ys k (omega (arith, less)) h in let l = r.1 in (suc r.0, omega (arith, l), r.2)
 
-module _ (id_of : Kind → List ℕ → List ℕ) (text : List ℕ) (making : Making) (means : IsMeaning id_of text making) where
+module _ (id_of : Kind → List ℕ → List ℕ) (text : List ℕ) (making : Making) (means : IsMeaning id_of None text making) where
   -- what a text makes are the objects of its meaning
-  made_among : (objects : List Entry) (snapshot : List ℕ) → MeansObjects id_of text objects snapshot → (e : Entry) → Contains objects e → Contains making.objects (made_of e)
+  made_among : (objects : List Entry) (snapshot : List ℕ) → MeansObjects id_of None text objects snapshot → (e : Entry) → Contains objects e → Contains making.objects (made_of e)
   made_among objects snapshot m e among =
-      let same = one_meaning_lem id_of text (record { objects = made objects; snapshot = snapshot }) making m.meaning means in
+      let same = one_meaning_lem id_of None text (record { objects = made objects; snapshot = snapshot }) making m.meaning means in
       subst (λ (k : Making). Contains k.objects (made_of e)) same (map_contains made_of objects e among)
 
-  makes_body : (objects : List Entry) (snapshot : List ℕ) → MeansObjects id_of text objects snapshot → (e : Entry) → Contains objects e → MakesBody id_of making e.name e.body
+  makes_body : (objects : List Entry) (snapshot : List ℕ) → MeansObjects id_of None text objects snapshot → (e : Entry) → Contains objects e → MakesBody id_of making e.name e.body
   makes_body objects snapshot m e among = (made_among objects snapshot m e among, (at_element (IsGoodAndNamed id_of) objects e m.good among).named)
 
   -- a batch of what the text makes
-  pub are_made : (entries : List Entry) → AllByRecursion (IsMadeBy id_of text) entries → AreMade making entries
+  pub are_made : (entries : List Entry) → AllByRecursion (IsMadeBy id_of None text) entries → AreMade making entries
   are_made [] all = tt
   are_made (e ∷ entries) all = (made_among all.0.objects all.0.snapshot all.0.means e all.0.among, are_made entries all.1)
 
   -- the snapshot of a full job
-  pub one_snapshot : (objects : List Entry) (snapshot : List ℕ) → MeansObjects id_of text objects snapshot → snapshot ≡ making.snapshot
-  one_snapshot objects snapshot m = ap (λ (k : Making). k.snapshot) (one_meaning_lem id_of text (record { objects = made objects; snapshot = snapshot }) making m.meaning means)
+  pub one_snapshot : (objects : List Entry) (snapshot : List ℕ) → MeansObjects id_of None text objects snapshot → snapshot ≡ making.snapshot
+  one_snapshot objects snapshot m = ap (λ (k : Making). k.snapshot) (one_meaning_lem id_of None text (record { objects = made objects; snapshot = snapshot }) making m.meaning means)
 
   abbrev AllMade : List Entry → Type 0
-  AllMade entries = AllByRecursion (IsMadeBy id_of text) entries
+  AllMade entries = AllByRecursion (IsMadeBy id_of None text) entries
 
   -- what is held stays held, or was made
   module _ (bodies : Bodies) where
@@ -86,7 +86,7 @@ module _ (id_of : Kind → List ℕ → List ℕ) (text : List ℕ) (making : Ma
 
   -- so no name collides where each has one body
   pub none_collides : (origin : List ℕ) (date : ℕ) (before after : List Event) (name : Name) → IsHistory id_of after → AddsVisit AllMade loader origin date before after → HasOneBody id_of (replay before).bodies making
-      → Collided id_of text (replay after).bodies name → ⊥
+      → Collided id_of None text (replay after).bodies name → ⊥
   none_collides origin date before after name history adds one collided =
       let c = collided.collision in
       let among : Contains collided.objects c.entry = subst (λ (es : List Entry). Contains es c.entry) (sym c.among) (Contains-append_right c.front (c.entry ∷ c.back) c.entry (0, omega arith, refl)) in

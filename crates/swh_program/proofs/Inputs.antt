@@ -132,16 +132,16 @@ module _ {S : Type 0} (id_of : Kind → List ℕ → List ℕ) (tells source_tel
   abbrev pub failed : Type 0
   failed = Rose entry after
 
-  allowed : (s : Opened S) → (tells → IfFound s (λ x. found ≡ Some (left x))) → (entries : List Entry) → AreAllowed id_of source_tells left s entries → IsOfInput id_of tells found failed entries
+  allowed : (s : Opened S) → (tells → IfFound s (λ x. found ≡ Some (left x))) → (entries : List Entry) → AreAllowed id_of None source_tells left s entries → IsOfInput id_of tells found failed entries
   allowed (Found s) is entries allowed_by = λ t. (left s, is t, allowed_by (told t))
   allowed Missing is entries allowed_by = absurd allowed_by
   allowed Unopened is entries allowed_by = absurd allowed_by
   allowed NoRoom is entries allowed_by = absurd allowed_by
 
-  pub adds_input : (by : ℕ) (origin : List ℕ) (date : ℕ) (h h' : List Event) → AddsVisit (AreAllowed id_of source_tells left stream) by origin date h h' → AddsVisit (IsOfInput id_of tells found failed) by origin date h h'
-  adds_input by origin date h h' adds = adds_visit (AreAllowed id_of source_tells left stream) (IsOfInput id_of tells found failed) by origin date h h' (allowed stream there) adds
+  pub adds_input : (by : ℕ) (origin : List ℕ) (date : ℕ) (h h' : List Event) → AddsVisit (AreAllowed id_of None source_tells left stream) by origin date h h' → AddsVisit (IsOfInput id_of tells found failed) by origin date h h'
+  adds_input by origin date h h' adds = adds_visit (AreAllowed id_of None source_tells left stream) (IsOfInput id_of tells found failed) by origin date h h' (allowed stream there) adds
 
-  found_end : (bodies : Bodies) (s t : S) → (tells → found ≡ Some (left s)) → faults s ≡ 0 → path_of t ≡ path → (0 < faults t → path_of t ≡ path → Rose middle after) → (end : End) → IsEndOf id_of source_tells (left s) (faults s) (faults t) bodies end
+  found_end : (bodies : Bodies) (s t : S) → (tells → found ≡ Some (left s)) → faults s ≡ 0 → path_of t ≡ path → (0 < faults t → path_of t ≡ path → Rose middle after) → (end : End) → IsEndOf id_of None source_tells (left s) (faults s) (faults t) bodies end
       → IsInputEnd id_of tells found failed bodies end
   found_end bodies s t is none at rose (Full snapshot) ends = λ h. (left s, is h, ends (told h))
   found_end bodies s t is none at rose NotFound ends = absurd ends
@@ -150,7 +150,7 @@ module _ {S : Type 0} (id_of : Kind → List ℕ → List ℕ) (tells source_tel
   found_end bodies s t is none at rose (Failed Read) ends = rose_since entry middle after later (rose (rose_above (faults s) (faults t) none ends) at)
 
   input_end : (bodies : Bodies) (s t : Opened S) → (tells → IfFound s (λ x. found ≡ Some (left x))) → (tells → IsNotFound s → found ≡ None) → IfFound s (λ x. path_of x ≡ path) → IfFound s (λ x. faults x ≡ 0) → (IsFailed s → Rose entry middle)
-      → IsSameInput path_of faults s t → IfFound t (λ x. 0 < faults x → path_of x ≡ path → Rose middle after) → (end : End) → IsJobEnd id_of source_tells left faults bodies s t end → IsInputEnd id_of tells found failed bodies end
+      → IsSameInput path_of faults s t → IfFound t (λ x. 0 < faults x → path_of x ≡ path → Rose middle after) → (end : End) → IsJobEnd id_of None source_tells left faults bodies s t end → IsInputEnd id_of tells found failed bodies end
   input_end bodies (Found s) (Found t) is none_there at none broke is_same rose end ends = found_end bodies s t is none (is_same.0 ∙ at) rose end ends
   input_end bodies (Found s) Missing is none_there at none broke is_same rose end ends = absurd ends
   input_end bodies (Found s) Unopened is none_there at none broke is_same rose end ends = absurd ends
@@ -159,16 +159,16 @@ module _ {S : Type 0} (id_of : Kind → List ℕ → List ℕ) (tells source_tel
   input_end bodies Unopened t is none_there at none broke is_same rose end ends = subst (IsInputEnd id_of tells found failed bodies) (sym ends) (rose_until entry middle after (broke tt) later_still)
   input_end bodies NoRoom t is none_there at none broke is_same rose end ends = absurd ends
 
-  pub ends_input : (bodies : Bodies) (end : End) → IsJobEnd id_of source_tells left faults bodies stream now end → IsInputEnd id_of tells found failed bodies end
+  pub ends_input : (bodies : Bodies) (end : End) → IsJobEnd id_of None source_tells left faults bodies stream now end → IsInputEnd id_of tells found failed bodies end
   ends_input bodies end ends = input_end bodies stream now there absent opened_at quiet not_opened same back end ends
 
   pub kept_load : {D : Type 0} (disk_faults : D → ℕ) (old new' : Kept D) (url : List ℕ) (date : ℕ) → old.wounded ≡ None → (loaded : Result Loaded LoadFault)
-      → AddsVisit (AreAllowed id_of source_tells left stream) 1 url date old.history new'.history
+      → AddsVisit (AreAllowed id_of None source_tells left stream) 1 url date old.history new'.history
       → IfOk loaded (λ l. l.visit ≡ next_visit old.history url) → IfOk loaded (λ l. IsVisit new'.history url l.visit date 1 ((Created, None) ∷ statuses_of l.end))
-      → IfOk loaded (λ l. IsJobEnd id_of source_tells left faults (replay new'.history).bodies stream now l.end) → OnOk loaded (GoesOn old new')
-      → IfErr loaded (Stops id_of disk_faults (AreAllowed id_of source_tells left stream) 1 url date old new') → IsKeptLoad id_of tells found failed disk_faults old new' url date loaded
+      → IfOk loaded (λ l. IsJobEnd id_of None source_tells left faults (replay new'.history).bodies stream now l.end) → OnOk loaded (GoesOn old new')
+      → IfErr loaded (Stops id_of disk_faults (AreAllowed id_of None source_tells left stream) 1 url date old new') → IsKeptLoad id_of tells found failed disk_faults old new' url date loaded
   kept_load disk_faults old new' url date unwounded (Ok l) adds number visit end on stops =
       record { adds = adds_input 1 url date old.history new'.history adds; leaves = on.unwounded; line = record { number = number; visit = visit; end = ends_input (replay new'.history).bodies l.end end } }
   kept_load disk_faults old new' url date unwounded (Err f) adds number visit end on stops =
-      let both = stops_visit id_of tells found failed disk_faults (AreAllowed id_of source_tells left stream) url date old new' unwounded (allowed stream there) adds f stops in
+      let both = stops_visit id_of tells found failed disk_faults (AreAllowed id_of None source_tells left stream) url date old new' unwounded (allowed stream there) adds f stops in
       record { adds = adds_input 1 url date old.history new'.history adds; leaves = both.1; line = both.0 }

@@ -251,11 +251,11 @@ from_map {X} {Y} f xs y h = at xs h.0 h.1 h.2
     at (z ∷ zs) (suc k) less e = let r = at zs k (omega (arith, less)) e in let l = r.1.1 in (r.0, (suc r.1.0, omega (arith, l), r.1.2), r.2)
 
 -- Nothing is wrong with the input of a full job.
-module _ (id_of : Kind → List ℕ → List ℕ) (bodies held : Bodies) (within : IsWithin bodies held) (text snapshot : List ℕ) (full : IsFull id_of text held snapshot) where
-  has_then : (making : Making) → IsMeaning id_of text making → (name : Name) (body : List ℕ) → HasBody id_of bodies making name body → body_of held name ≡ Some body
+module _ (id_of : Kind → List ℕ → List ℕ) (bodies held : Bodies) (within : IsWithin bodies held) (text snapshot : List ℕ) (full : IsFull id_of None text held snapshot) where
+  has_then : (making : Making) → IsMeaning id_of None text making → (name : Name) (body : List ℕ) → HasBody id_of bodies making name body → body_of held name ≡ Some body
   has_then making means name body (inl there) = within name body there
   has_then making means name body (inr makes) =
-      let same : making ≡ record { objects = made full.objects; snapshot = snapshot } = one_meaning_lem id_of text making (record { objects = made full.objects; snapshot = snapshot }) means full.means.meaning in
+      let same : making ≡ record { objects = made full.objects; snapshot = snapshot } = one_meaning_lem id_of None text making (record { objects = made full.objects; snapshot = snapshot }) means full.means.meaning in
       let object : MadeObject = record { kind = name.kind; body = body } in
       let from = from_map made_of full.objects object (subst (λ (k : Making). Contains k.objects object) same makes.0) in
       let entry = from.0 in
@@ -269,7 +269,7 @@ module _ (id_of : Kind → List ℕ → List ℕ) (bodies held : Bodies) (within
   not_bad : IsBadInput id_of bodies (Some text) → ⊥
   not_bad bad =
       ⊎_elim
-      (λ (left : IsLeftOut id_of text). left (record { objects = made full.objects; snapshot = snapshot }) full.means.meaning)
+      (λ (left : IsLeftOut id_of None text). left (record { objects = made full.objects; snapshot = snapshot }) full.means.meaning)
       (λ (two : HasTwoBodies id_of bodies text).
       two.apart
       (let both : Some two.a ≡ Some two.b = sym (has_then two.making two.means two.name two.a two.has_a) ∙ has_then two.making two.means two.name two.b two.has_b in cc))

@@ -114,16 +114,16 @@ unloaded_cases id_of tells old new OutsideClock is = inl refl
 unloaded_cases id_of tells old new _ is = inr is
 
 -- Nothing stands against the load of this text.
-module _ (id_of : Kind → List ℕ → List ℕ) (text : List ℕ) (making : Making) (means : IsMeaning id_of text making) (before : List Event) (old new : Files) (archive : IsArchive id_of old before) (one : HasOneBody id_of (replay before).bodies making) where
+module _ (id_of : Kind → List ℕ → List ℕ) (text : List ℕ) (making : Making) (means : IsMeaning id_of None text making) (before : List Event) (old new : Files) (archive : IsArchive id_of old before) (one : HasOneBody id_of (replay before).bodies making) where
   abbrev AllMade : List Entry → Type 0
-  AllMade entries = AllByRecursion (IsMadeBy id_of text) entries
+  AllMade entries = AllByRecursion (IsMadeBy id_of None text) entries
 
   module _ (inputs_tell disks_tell : Type 0) (inputs : inputs_tell) (disks : disks_tell) (found : Option (List ℕ)) (failed : Type 0) (there : found ≡ Some text) (unfailed : failed → ⊥) (url : List ℕ) (room : HasRoom id_of url before making new) where
     this_text : (t : List ℕ) → found ≡ Some t → t ≡ text
     this_text t is = let both : Some t ≡ Some text = sym is ∙ there in cc
 
     of_text : (entries : List Entry) → IsOfInput id_of inputs_tell found failed entries → AllMade entries
-    of_text entries is = let t = is inputs in subst (λ (x : List ℕ). AllByRecursion (IsMadeBy id_of x) entries) (this_text t.0 t.1) t.2
+    of_text entries is = let t = is inputs in subst (λ (x : List ℕ). AllByRecursion (IsMadeBy id_of None x) entries) (this_text t.0 t.1) t.2
 
     -- the load's events are those of the text, behind this history
     of_load : (date : ℕ) (h h' : List Event) → h ≡ before → AddsVisit (IsOfInput id_of inputs_tell found failed) loader url date h h' → AddsVisit AllMade loader url date before h'
@@ -136,16 +136,16 @@ module _ (id_of : Kind → List ℕ → List ℕ) (text : List ℕ) (making : Ma
           → (answer : Answer) → TellsLoad url (Ok (record { visit = visit; end = end })) answer → Tells (full_line url before making) 0 answer
       end_done adds visit number (Full snapshot) is answer told =
           let t = is inputs in
-          let full = subst (λ (x : List ℕ). IsFull id_of x (replay h').bodies snapshot) (this_text t.0 t.1) t.2 in
+          let full = subst (λ (x : List ℕ). IsFull id_of None x (replay h').bodies snapshot) (this_text t.0 t.1) t.2 in
           let snap : snapshot ≡ making.snapshot = one_snapshot id_of text making means full.objects snapshot full.means in
           let next : visit ≡ next_visit before url = number ∙ ap (λ (g : List Event). next_visit g url) same in
           let line : report_of url (Ok (record { visit = visit; end = Full snapshot })) ≡ full_line url before making = λ i. line_of url (next i) (codes "full") (core_text (snapshot_name (snap i))) in
           subst (λ (l : List ℕ). Tells l 0 answer) line (tells_full url (Ok (record { visit = visit; end = Full snapshot })) answer told refl)
       end_done adds visit number NotFound is answer told = let both : Some text ≡ None = sym there ∙ is inputs in absurd (cc)
-      end_done adds visit number (Failed (Stream at reason)) is answer told = let t = is.2 inputs in absurd (subst (IsLeftOut id_of) (this_text t.0 t.1) t.2 making means)
+      end_done adds visit number (Failed (Stream at reason)) is answer told = let t = is.2 inputs in absurd (subst (IsLeftOut id_of None) (this_text t.0 t.1) t.2 making means)
       end_done adds visit number (Failed (Collision name)) is answer told =
           let t = is inputs in
-          absurd (none_collides id_of text making means url date before h' name history (of_load date h h' same adds) one (subst (λ (x : List ℕ). Collided id_of x (replay h').bodies name) (this_text t.0 t.1) t.2))
+          absurd (none_collides id_of text making means url date before h' name history (of_load date h h' same adds) one (subst (λ (x : List ℕ). Collided id_of None x (replay h').bodies name) (this_text t.0 t.1) t.2))
       end_done adds visit number (Failed Read) is answer told = absurd (unfailed is)
 
       made_next : (e : Event) → AddsVisit (IsOfInput id_of inputs_tell found failed) loader url date h (h' ++ e ∷ []) → AddsVisit (AreMade making) loader url date before (h' ++ e ∷ [])
@@ -177,7 +177,7 @@ module _ (id_of : Kind → List ℕ → List ℕ) (text : List ℕ) (making : Ma
 
 -- a run of `load`
 module _ (id_of : Kind → List ℕ → List ℕ) (inputs_tell : Type 0) (input_at : FileAt) (failures failures_now : List ℕ → ℕ) (desk_at : FileAt) (time_tells : Type 0) (time : ℕ) (disks_tell : Type 0) (inputs : inputs_tell) (disks : disks_tell)
-    (jobs url path text : List ℕ) (before : List Event) (making : Making) (old new : Files) (archive : IsArchive id_of old before) (job : IsJobAt desk_at jobs url path) (there : input_at path ≡ Some text) (means : IsMeaning id_of text making)
+    (jobs url path text : List ℕ) (before : List Event) (making : Making) (old new : Files) (archive : IsArchive id_of old before) (job : IsJobAt desk_at jobs url path) (there : input_at path ≡ Some text) (means : IsMeaning id_of None text making)
     (one : HasOneBody id_of (replay before).bodies making) (room : HasRoom id_of url before making new) (unfailed : IsQuiet (failures path) (failures_now path)) where
   abbrev Outcome : Answer → List ℕ → List ℕ → Type 0
   Outcome answer u p = IsLoadedJob id_of inputs_tell (input_at p) (Rose (failures p) (failures_now p)) time_tells time disks_tell old new u answer ⊎ IsUnloaded id_of disks_tell old new answer

@@ -103,7 +103,7 @@ module _ (id_of : Kind → List ℕ → List ℕ) (inputs_tell : Type 0) (input_
 -- Under some name this input would put a second body.
 pub record HasTwoBodies (id_of : Kind → List ℕ → List ℕ) (bodies : Bodies) (text : List ℕ) : Type 0 where
   pub making : Making
-  pub means : IsMeaning id_of text making
+  pub means : IsMeaning id_of None text making
   pub name : Name
   pub a : List ℕ
   pub b : List ℕ
@@ -114,7 +114,7 @@ pub record HasTwoBodies (id_of : Kind → List ℕ → List ℕ) (bodies : Bodie
 -- The input is not there, means nothing, or would put a second body under some name.
 abbrev pub IsBadInput : (Kind → List ℕ → List ℕ) → Bodies → Option (List ℕ) → Type 0
 IsBadInput id_of bodies None = Unit {0}
-IsBadInput id_of bodies (Some text) = IsLeftOut id_of text ⊎ HasTwoBodies id_of bodies text
+IsBadInput id_of bodies (Some text) = IsLeftOut id_of None text ⊎ HasTwoBodies id_of bodies text
 
 -- The part that an answer names has failed in this call.
 pub record NamesFailed (disk_faults disk_faults_now desk_faults desk_faults_now clock_faults clock_faults_now : ℕ) (answer : Answer) : Type 0 where

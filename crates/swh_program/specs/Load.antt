@@ -93,7 +93,7 @@ module _ (id_of : Kind → List ℕ → List ℕ) (tells : Type 0) (found : Opti
 
   -- The input makes all of these.
   abbrev pub IsOfInput : List Entry → Type 0
-  IsOfInput entries = OfText (λ text. AllByRecursion (IsMadeBy id_of text) entries)
+  IsOfInput entries = OfText (λ text. AllByRecursion (IsMadeBy id_of None text) entries)
 
   -- An event of this load that may happen next would pass a file's end.
   pub record MeetsEnd (url : List ℕ) (date : ℕ) (before after : List Event) (which : Which) (number : ℕ) : Type 0 where
@@ -116,10 +116,10 @@ module _ (id_of : Kind → List ℕ → List ℕ) (tells : Type 0) (found : Opti
     pub stops : StopsFor url date before after fault.why
 
   abbrev pub IsInputEnd : Bodies → End → Type 0
-  IsInputEnd bodies (Full snapshot) = OfText (λ text. IsFull id_of text bodies snapshot)
+  IsInputEnd bodies (Full snapshot) = OfText (λ text. IsFull id_of None text bodies snapshot)
   IsInputEnd bodies NotFound = tells → found ≡ None
-  IsInputEnd bodies (Failed (Stream at why)) = (at ≡ 0) × (why ≡ LeftOut) × OfText (IsLeftOut id_of)
-  IsInputEnd bodies (Failed (Collision name)) = OfText (λ text. Collided id_of text bodies name)
+  IsInputEnd bodies (Failed (Stream at why)) = (at ≡ 0) × (why ≡ LeftOut) × OfText (IsLeftOut id_of None)
+  IsInputEnd bodies (Failed (Collision name)) = OfText (λ text. Collided id_of None text bodies name)
   IsInputEnd bodies (Failed Read) = failed
 
   -- The visit is the next of its origin, and ended as its input has it.

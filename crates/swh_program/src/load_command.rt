@@ -105,11 +105,16 @@ fn load_input<N: Namer, D: Disk, O: Origins, G: Gate>(
     let mut job = Job {
         origin: url,
         stream,
+        head: None,
     };
     let loaded = load_one(
         alloc, namer, keeper, LOADER, &mut job, date, gate, LOADER, LOADER,
     );
-    let Job { origin, stream } = job;
+    let Job {
+        origin,
+        stream,
+        head: _head,
+    } = job;
     give_back(origins, stream);
     tell_load(alloc, &origin, loaded)
 }

@@ -1,5 +1,5 @@
 // The top call.
-ghost use Rattle.std.specs.Prelude.{◌≡◌, ◌≢◌, ◌⊎◌, ◌≤◌, ◌<◌, List, Some, ℕ, map, string_bytes};
+ghost use Rattle.std.specs.Prelude.{◌≡◌, ◌≢◌, ◌⊎◌, ◌≤◌, ◌<◌, List, Some, None, ℕ, map, string_bytes};
 ghost use Rattle.swh_outside.specs.Faults.{Rose};
 ghost use Rattle.swh_base.specs.declared.kind.Kind.{Kind};
 ghost use Rattle.swh_model.specs.declared.event.Event.{Event};
@@ -182,7 +182,7 @@ pub fn run<R, N: Namer, P: Depot, O: Origins, Y: Yard, K: Sink, C: Clock, D: Doo
     // bodies, the files have room, and no part of the outside failed.
     ensures complete_load { (dir jobs url path text : List ℕ) (before : List Event) (making : Making) → IsCommand (map string_bytes words.now) (ToLoad dir jobs) → P.tells → O.tells
         → IsArchive N.id_of (archive_at (P.files world.old.depot) dir) before → IsJobAt (O.file_at world.old.desk) jobs url path
-        → O.file_at world.old.origins path ≡ Some text → IsMeaning N.id_of text making
+        → O.file_at world.old.origins path ≡ Some text → IsMeaning N.id_of None text making
         → HasOneBody N.id_of (replay before).bodies making → HasRoom N.id_of url before making (archive_at (P.files world.new.depot) dir)
         → IsQuiet (P.faults world.old.depot) (P.faults world.new.depot) → IsQuiet (O.faults world.old.desk) (O.faults world.new.desk)
         → IsQuiet (O.path_faults world.old.origins path) (O.path_faults world.new.origins path)

@@ -11,22 +11,22 @@ returns-in-Ok-load_opened-clause-visit g c = c.in-Ok-load_opened.ensures.marked 
 
 pub returns-in-Ok-load_opened-clause-calls : goal.returns-in-Ok-load_opened-clause-calls
 returns-in-Ok-load_opened-clause-calls g c told =
-    visit_calls g.N.Namer.id_of g.D.Disk.faults g.D.Disk.file (AreAllowed g.N.Namer.id_of g.S.Source.tells g.S.Source.left c.args.job.now.stream) c.args.by c.args.job.now.origin c.args.date c.in-Ok.visit c.args.keeper.now c.open_visit.new.keeper c.load_opened.new.keeper c.in-Ok.ensures.before_it c.in-Ok.ensures.on.unwounded c.in-Ok.ensures.opened c.in-Ok.ensures.number
-    c.in-Ok-load_opened.ensures.adds (c.in-Ok.ensures.calls told) (c.in-Ok-load_opened.ensures.calls told)
+    visit_calls g.N.Namer.id_of g.D.Disk.faults g.D.Disk.file (AreAllowed g.N.Namer.id_of c.args.job.now.head g.S.Source.tells g.S.Source.left c.args.job.now.stream) c.args.by c.args.job.now.origin c.args.date c.in-Ok.visit c.args.keeper.now c.open_visit.new.keeper c.load_opened.new.keeper c.in-Ok.ensures.before_it c.in-Ok.ensures.on.unwounded c.in-Ok.ensures.opened c.in-Ok.ensures.number
+    (rw c.head_of.ensures at c.in-Ok-load_opened.ensures.adds) (c.in-Ok.ensures.calls told) (rw c.head_of.ensures at c.in-Ok-load_opened.ensures.calls told)
 
 pub returns-in-Ok-load_opened-clause-adds : goal.returns-in-Ok-load_opened-clause-adds
-returns-in-Ok-load_opened-clause-adds g c = visit_added g.D.Disk.faults (AreAllowed g.N.Namer.id_of g.S.Source.tells g.S.Source.left c.args.job.now.stream) c.args.by c.args.job.now.origin c.args.date c.in-Ok.visit c.args.keeper.now c.open_visit.new.keeper c.load_opened.new.keeper c.in-Ok.ensures.opened c.in-Ok.ensures.number c.in-Ok-load_opened.ensures.adds
+returns-in-Ok-load_opened-clause-adds g c = visit_added g.D.Disk.faults (AreAllowed g.N.Namer.id_of c.args.job.now.head g.S.Source.tells g.S.Source.left c.args.job.now.stream) c.args.by c.args.job.now.origin c.args.date c.in-Ok.visit c.args.keeper.now c.open_visit.new.keeper c.load_opened.new.keeper c.in-Ok.ensures.opened c.in-Ok.ensures.number (rw c.head_of.ensures at c.in-Ok-load_opened.ensures.adds)
 
 pub returns-in-Err-clause-calls : goal.returns-in-Err-clause-calls
-returns-in-Err-clause-calls g c told = unopened_calls g.N.Namer.id_of g.D.Disk.file (AreAllowed g.N.Namer.id_of g.S.Source.tells g.S.Source.left c.args.job.now.stream) c.args.by c.args.job.now.origin c.args.date c.args.keeper.now c.open_visit.new.keeper c.in-Err.ensures.same (c.in-Err.ensures.calls told)
+returns-in-Err-clause-calls g c told = unopened_calls g.N.Namer.id_of g.D.Disk.file (AreAllowed g.N.Namer.id_of c.args.job.now.head g.S.Source.tells g.S.Source.left c.args.job.now.stream) c.args.by c.args.job.now.origin c.args.date c.args.keeper.now c.open_visit.new.keeper c.in-Err.ensures.same (c.in-Err.ensures.calls told)
 
 pub returns-in-Err-load_opened-clause-calls : goal.returns-in-Err-load_opened-clause-calls
 returns-in-Err-load_opened-clause-calls g c told =
-    visit_calls g.N.Namer.id_of g.D.Disk.faults g.D.Disk.file (AreAllowed g.N.Namer.id_of g.S.Source.tells g.S.Source.left c.args.job.now.stream) c.args.by c.args.job.now.origin c.args.date c.in-Ok.visit c.args.keeper.now c.open_visit.new.keeper c.load_opened.new.keeper c.in-Ok.ensures.before_it c.in-Ok.ensures.on.unwounded c.in-Ok.ensures.opened c.in-Ok.ensures.number
-    c.in-Err-load_opened.ensures.adds (c.in-Ok.ensures.calls told) (c.in-Err-load_opened.ensures.calls told)
+    visit_calls g.N.Namer.id_of g.D.Disk.faults g.D.Disk.file (AreAllowed g.N.Namer.id_of c.args.job.now.head g.S.Source.tells g.S.Source.left c.args.job.now.stream) c.args.by c.args.job.now.origin c.args.date c.in-Ok.visit c.args.keeper.now c.open_visit.new.keeper c.load_opened.new.keeper c.in-Ok.ensures.before_it c.in-Ok.ensures.on.unwounded c.in-Ok.ensures.opened c.in-Ok.ensures.number
+    (rw c.head_of.ensures at c.in-Err-load_opened.ensures.adds) (c.in-Ok.ensures.calls told) (rw c.head_of.ensures at c.in-Err-load_opened.ensures.calls told)
 
 pub returns-in-Err-load_opened-clause-adds : goal.returns-in-Err-load_opened-clause-adds
-returns-in-Err-load_opened-clause-adds g c = visit_added g.D.Disk.faults (AreAllowed g.N.Namer.id_of g.S.Source.tells g.S.Source.left c.args.job.now.stream) c.args.by c.args.job.now.origin c.args.date c.in-Ok.visit c.args.keeper.now c.open_visit.new.keeper c.load_opened.new.keeper c.in-Ok.ensures.opened c.in-Ok.ensures.number c.in-Err-load_opened.ensures.adds
+returns-in-Err-load_opened-clause-adds g c = visit_added g.D.Disk.faults (AreAllowed g.N.Namer.id_of c.args.job.now.head g.S.Source.tells g.S.Source.left c.args.job.now.stream) c.args.by c.args.job.now.origin c.args.date c.in-Ok.visit c.args.keeper.now c.open_visit.new.keeper c.load_opened.new.keeper c.in-Ok.ensures.opened c.in-Ok.ensures.number (rw c.head_of.ensures at c.in-Err-load_opened.ensures.adds)
 
 pub returns-in-Ok-load_opened-clause-on : goal.returns-in-Ok-load_opened-clause-on
 returns-in-Ok-load_opened-clause-on g c = goes_further c.args.keeper.now c.open_visit.new.keeper c.load_opened.new.keeper c.in-Ok.ensures.on c.in-Ok-load_opened.ensures.on

@@ -1,6 +1,4 @@
-use Rattle.std.proofs.Common.{List, sym, subst}
-use Rattle.swh_base.specs.declared.entry.Entry.{Entry}
-use Rattle.swh_outside.specs.declared.fault.Opened.{Opened}
+use Rattle.std.specs.Option.{option_copied}
 use Rattle.swh_loader.specs.declared.end.BadInput.TheVariants.{Read}
 use Rattle.swh_loader.specs.declared.end.End.TheVariants.{NotFound, Failed}
 use Rattle.swh_loader.specs.Adding.{IsNoBatch, IsOwn}
@@ -14,15 +12,15 @@ use Rattle.swh_loader.proofs.loading.load_opened.Goals as goal
 
 pub returns-in-Found-clause-calls : goal.returns-in-Found-clause-calls
 returns-in-Found-clause-calls g c told =
-    let allowed = AreAllowed g.N.Namer.id_of g.S.Source.tells g.S.Source.left c.args.stream.now in
-    let made = AreMadeBy g.N.Namer.id_of g.S.Source.tells (g.S.Source.left c.in-Found.source) in
+    let allowed = AreAllowed g.N.Namer.id_of (option_copied c.args.head) g.S.Source.tells g.S.Source.left c.args.stream.now in
+    let made = AreMadeBy g.N.Namer.id_of (option_copied c.args.head) g.S.Source.tells (g.S.Source.left c.in-Found.source) in
     calls_as g.N.Namer.id_of g.D.Disk.file (IsOwn made c.args.by c.args.origin.now c.args.visit) (IsOwn allowed c.args.by c.args.origin.now c.args.visit) c.args.keeper.now c.load_found.new.keeper
     (own_as made allowed c.args.by c.args.origin.now c.args.visit (λ entries h. rw c.in-Found.is h)) (c.load_found.ensures.calls told)
 
 pub returns-in-Found-clause-adds : goal.returns-in-Found-clause-adds
 returns-in-Found-clause-adds g c =
-    let allowed = AreAllowed g.N.Namer.id_of g.S.Source.tells g.S.Source.left c.args.stream.now in
-    let made = AreMadeBy g.N.Namer.id_of g.S.Source.tells (g.S.Source.left c.in-Found.source) in
+    let allowed = AreAllowed g.N.Namer.id_of (option_copied c.args.head) g.S.Source.tells g.S.Source.left c.args.stream.now in
+    let made = AreMadeBy g.N.Namer.id_of (option_copied c.args.head) g.S.Source.tells (g.S.Source.left c.in-Found.source) in
     adds_as g.D.Disk.faults (IsOwn made c.args.by c.args.origin.now c.args.visit) (IsOwn allowed c.args.by c.args.origin.now c.args.visit) c.args.keeper.now c.load_found.new.keeper
     (own_as made allowed c.args.by c.args.origin.now c.args.visit (λ entries h. rw c.in-Found.is h)) c.load_found.ensures.adds
 
@@ -31,13 +29,13 @@ returns-in-NotFound-clause-marked g c = ends_with c.end_absent.result c.args.kee
 
 pub returns-in-NotFound-clause-calls : goal.returns-in-NotFound-clause-calls
 returns-in-NotFound-clause-calls g c told =
-    let allowed = AreAllowed g.N.Namer.id_of g.S.Source.tells g.S.Source.left c.args.stream.now in
+    let allowed = AreAllowed g.N.Namer.id_of (option_copied c.args.head) g.S.Source.tells g.S.Source.left c.args.stream.now in
     calls_as g.N.Namer.id_of g.D.Disk.file (IsOwn IsNoBatch c.args.by c.args.origin.now c.args.visit) (IsOwn allowed c.args.by c.args.origin.now c.args.visit) c.args.keeper.now c.end_absent.new.keeper
     (own_any allowed c.args.by c.args.origin.now c.args.visit) (c.end_absent.ensures.calls told)
 
 pub returns-in-NotFound-clause-adds : goal.returns-in-NotFound-clause-adds
 returns-in-NotFound-clause-adds g c =
-    let allowed = AreAllowed g.N.Namer.id_of g.S.Source.tells g.S.Source.left c.args.stream.now in
+    let allowed = AreAllowed g.N.Namer.id_of (option_copied c.args.head) g.S.Source.tells g.S.Source.left c.args.stream.now in
     adds_as g.D.Disk.faults (IsOwn IsNoBatch c.args.by c.args.origin.now c.args.visit) (IsOwn allowed c.args.by c.args.origin.now c.args.visit) c.args.keeper.now c.end_absent.new.keeper
     (own_any allowed c.args.by c.args.origin.now c.args.visit) c.end_absent.ensures.adds
 
@@ -46,12 +44,12 @@ returns-in-Failed-clause-marked g c = ends_with c.end_unread.result c.args.keepe
 
 pub returns-in-Failed-clause-calls : goal.returns-in-Failed-clause-calls
 returns-in-Failed-clause-calls g c told =
-    let allowed = AreAllowed g.N.Namer.id_of g.S.Source.tells g.S.Source.left c.args.stream.now in
+    let allowed = AreAllowed g.N.Namer.id_of (option_copied c.args.head) g.S.Source.tells g.S.Source.left c.args.stream.now in
     calls_as g.N.Namer.id_of g.D.Disk.file (IsOwn IsNoBatch c.args.by c.args.origin.now c.args.visit) (IsOwn allowed c.args.by c.args.origin.now c.args.visit) c.args.keeper.now c.end_unread.new.keeper
     (own_any allowed c.args.by c.args.origin.now c.args.visit) (c.end_unread.ensures.calls told)
 
 pub returns-in-Failed-clause-adds : goal.returns-in-Failed-clause-adds
 returns-in-Failed-clause-adds g c =
-    let allowed = AreAllowed g.N.Namer.id_of g.S.Source.tells g.S.Source.left c.args.stream.now in
+    let allowed = AreAllowed g.N.Namer.id_of (option_copied c.args.head) g.S.Source.tells g.S.Source.left c.args.stream.now in
     adds_as g.D.Disk.faults (IsOwn IsNoBatch c.args.by c.args.origin.now c.args.visit) (IsOwn allowed c.args.by c.args.origin.now c.args.visit) c.args.keeper.now c.end_unread.new.keeper
     (own_any allowed c.args.by c.args.origin.now c.args.visit) c.end_unread.ensures.adds
