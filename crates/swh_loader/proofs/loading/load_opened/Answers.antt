@@ -1,6 +1,3 @@
-use Rattle.std.proofs.Common.{List, sym, subst}
-use Rattle.swh_base.specs.declared.entry.Entry.{Entry}
-use Rattle.swh_outside.specs.declared.fault.Opened.{Opened}
 use Rattle.swh_loader.specs.declared.end.BadInput.TheVariants.{Read}
 use Rattle.swh_loader.specs.declared.end.End.TheVariants.{NotFound, Failed}
 use Rattle.swh_loader.specs.Adding.{IsNoBatch, IsOwn}
