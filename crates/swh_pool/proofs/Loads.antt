@@ -1,5 +1,5 @@
 -- Loads one after the other: what one says, and one more behind some.
-use Rattle.std.proofs.Common.{◌≡◌, ℕ, Result, Ok, Err, List, [], ◌∷◌, ◌++◌, refl, sym, subst}
+use Rattle.std.proofs.Common.{◌≡◌, ℕ, Result, Ok, Err, List, [], ◌∷◌, ◌++◌, refl, subst}
 use Rattle.std.specs.Prelude.{IfOk, IfErr, OnOk, None}
 use Rattle.swh_base.specs.declared.kind.Kind.{Kind}
 use Rattle.swh_base.specs.declared.visit.Status.TheVariants.{Created}

@@ -1,5 +1,5 @@
 -- A walk over a list that changes each item in turn.
-use Rattle.std.proofs.Common.{◌≡◌, ℕ, ◌+◌, ◌<◌, ◌≤◌, List, [], ◌∷◌, ◌++◌, map, length, get_or, set, arith, refl, sym, ap, ◌∙◌, append_assoc, append-nil, length-append}
+use Rattle.std.proofs.Common.{◌≡◌, ℕ, ◌<◌, ◌≤◌, List, [], ◌∷◌, ◌++◌, map, length, get_or, set, arith, refl, sym, ap, ◌∙◌, append_assoc, append-nil, length-append}
 use Rattle.std.proofs.lemmas.List.{map-append, length-map}
 use Rattle.std.proofs.Math.Seq.{get_or-append_seam, set-append_seam}
 
@@ -8,8 +8,7 @@ pub turned : {T : Type 0} (items front rest : List T) (i : ℕ) (d y : T) → it
     → (behind : List T) × (rest ≡ get_or items i d ∷ behind) × (set items i y ≡ front ++ y ∷ behind)
 turned items front [] i d y cut long below = let all = ap length cut ∙ length-append front [] in absurd (omega (arith, all, long, below))
 turned {T} items front (z ∷ behind) i d y cut long below =
-    let here : get_or items i d ≡ z = ap (λ (l : List T). get_or l i d) cut ∙ ap (λ (n : ℕ). get_or (front ++ z ∷ behind) n d) (sym long) ∙ get_or-append_seam front z behind d in
-    (
+    let here : get_or items i d ≡ z = ap (λ (l : List T). get_or l i d) cut ∙ ap (λ (n : ℕ). get_or (front ++ z ∷ behind) n d) (sym long) ∙ get_or-append_seam front z behind d in (
       behind,
       ap (λ (w : T). w ∷ behind) (sym here),
       ap (λ (l : List T). set l i y) cut ∙ ap (λ (n : ℕ). set (front ++ z ∷ behind) n y) (sym long) ∙ set-append_seam front z behind y,

@@ -1,7 +1,6 @@
-use Rattle.std.proofs.Common.{rules, arith, ◌≡◌, ◌++◌, ◌∷◌, [], ◌≤◌, ◌+◌, List, Bool, length, get_or, map, refl, sym, ap, ◌∙◌, subst, length-append}
+use Rattle.std.proofs.Common.{rules, arith, ◌≡◌, ◌++◌, ◌∷◌, [], ◌≤◌, ◌+◌, length, get_or, map, refl, sym, ap, ◌∙◌, subst, length-append}
 use Rattle.std.proofs.lemmas.List.{length-map, map-append}
-use Rattle.swh_loader.specs.declared.end.Loaded.{Loaded}
-use Rattle.swh_pool.specs.Loads.{OneLoad, one_load, AreLoads}
+use Rattle.swh_pool.specs.Loads.{one_load}
 use Rattle.swh_pool.specs.Stops.{AreStops, HaveNoDiskFault}
 use Rattle.swh_pool.proofs.Loads.{loads_further}
 use Rattle.swh_pool.proofs.Stopped.{stops_of, whole_since, whole_still}

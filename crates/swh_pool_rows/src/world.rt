@@ -1,0 +1,125 @@
+// Archives and jobs in memory.
+use std::alloc::{AllocError, Global};
+use std::test::Fail;
+use swh_base::{Sha1Namer, Url};
+use swh_keeper::{Keeper, OpenFault};
+use swh_loader::Job;
+use swh_memory::{MemoryDisk, MemorySource, Room};
+use swh_outside::{OpenGate, Opened};
+use swh_pool::{DatedJob, Report, load_all, report_all};
+
+type Archive = Keeper<Sha1Namer, MemoryDisk>;
+
+const ROOM: Room = Room {
+    bytes: 4096,
+    calls: 256,
+};
+
+/// What the loads of three jobs leave.
+#[derive(Drop)]
+pub struct Left {
+    pub report: Report,
+    pub store: MemoryDisk,
+    pub ledger: MemoryDisk,
+}
+
+/// What an archive holds that was opened again.
+#[derive(Drop)]
+pub struct Held {
+    pub events: usize,
+    /// The visits of the first job's origin.
+    pub visits: usize,
+}
+
+fn kept(opened: Result<Archive, OpenFault<MemoryDisk>>) -> Result<Archive, Fail> {
+    match opened {
+        Ok(keeper) => Ok(keeper),
+        Err(fault) => {
+            let OpenFault {
+                why: _why,
+                store: _store,
+                ledger: _ledger,
+            } = fault;
+            Err(Fail::from("kept"))
+        }
+    }
+}
+
+// An archive of no event. The ledger's calls of these numbers fail, those of its making counted.
+fn made(alloc: Global, ledger_failing: &[u64]) -> Result<Archive, Fail> {
+    let store = MemoryDisk::with_room(alloc, ROOM)?;
+    let ledger = MemoryDisk::new(alloc, b"", ROOM, ledger_failing.to_vec(alloc)?)?;
+    kept(Keeper::make(alloc, Sha1Namer, store, ledger))
+}
+
+/// Opens an archive again.
+pub fn open_again(alloc: Global, store: MemoryDisk, ledger: MemoryDisk) -> Result<Held, Fail> {
+    let keeper = kept(Keeper::open(alloc, Sha1Namer, store, ledger))?;
+    let events = keeper.history().len();
+    let visits = match keeper.visits(b"https://e.org/p") {
+        Some(visits) => visits.len(),
+        None => 0,
+    };
+    let (_store, _ledger) = keeper.close();
+    Ok(Held { events, visits })
+}
+
+/// An input that is found. It gives these bytes in pieces of 64.
+pub fn found(alloc: Global, text: &[u8]) -> Result<Opened<MemorySource>, AllocError> {
+    let path = String::from_str(alloc, "input")?;
+    let source = MemorySource::new(path, text.to_vec(alloc)?, 64, Vec::new(alloc));
+    Ok(Opened::Found(source))
+}
+
+fn dated(origin: Url, stream: Opened<MemorySource>) -> DatedJob<MemorySource> {
+    DatedJob {
+        job: Job { origin, stream },
+        date: 1_000_000_000,
+    }
+}
+
+fn let_go(dated: DatedJob<MemorySource>) {
+    let DatedJob { job, date: _date } = dated;
+    let Job {
+        origin: _origin,
+        stream: _stream,
+    } = job;
+}
+
+// Loads jobs, and reports them.
+fn reported(
+    alloc: Global,
+    keeper: &mut Archive,
+    jobs: &mut [DatedJob<MemorySource>],
+) -> Result<Report, Fail> {
+    let outcomes = load_all(alloc, &Sha1Namer, keeper, 1, jobs, &OpenGate, 1)?;
+    Ok(report_all(alloc, jobs, &outcomes))
+}
+
+/// Loads three inputs into an archive of no event. The ledger's calls of these numbers fail, those of its making
+/// counted.
+pub fn load_three(
+    alloc: Global,
+    first: Opened<MemorySource>,
+    second: Opened<MemorySource>,
+    third: Opened<MemorySource>,
+    ledger_failing: &[u64],
+) -> Result<Left, Fail> {
+    let p = Url::new(alloc, "https://e.org/p")?;
+    let q = Url::new(alloc, "https://e.org/q")?;
+    let r = Url::new(alloc, "https://e.org/r")?;
+    let mut keeper = made(alloc, ledger_failing)?;
+    let mut jobs = [dated(p, first), dated(q, second), dated(r, third)];
+    let report = reported(alloc, &mut keeper, &mut jobs);
+    let [first, second, third] = jobs;
+    let_go(first);
+    let_go(second);
+    let_go(third);
+    let (store, ledger) = keeper.close();
+    let report = report?;
+    Ok(Left {
+        report,
+        store,
+        ledger,
+    })
+}
