@@ -1,6 +1,6 @@
 ghost use Rattle.std.specs.Prelude.{◌≡◌, ◌≢◌, ◌+◌, ◌≤◌, ◌<◌, IfOk, IfErr, IsErrOf, length, vec_len};
 ghost use Rattle.swh_outside.specs.Faults.{Rose};
-ghost use Rattle.swh_fastlex.specs.Whole.{IsWhole, TakesMore};
+ghost use Rattle.swh_fastlex.specs.Whole.{IsWhole, IsFront, TakesMore};
 ghost use Rattle.swh_fastlex.specs.declared.fault.SourceFault.TheVariants.{Failed, Limit};
 
 use crate::fault::SourceFault;
@@ -37,6 +37,30 @@ pub fn get_more<S: Source>(
     Ok(count)
 }
 
+/// A front of what is left of a source: all of it where it is no longer than the limit, else more than the limit and at
+/// most a window above it.
+pub fn read_front<S: Source>(
+    alloc: Global,
+    source: &mut S,
+    limit: usize,
+) -> Result<Vec<u8>, SourceFault>
+    ensures front { S.tells → IfOk result (λ bytes. IsFront (S.left source.old) (S.left source.new) limit bytes.items) }
+
+    ensures same_path { S.path source.new ≡ S.path source.old }
+    ensures later { S.faults source.old ≤ S.faults source.new }
+    ensures not_limit { IfErr result (λ fault. fault ≢ Limit) }
+    ensures cause { IsErrOf result Failed → Rose (S.faults source.old) (S.faults source.new) }
+{
+    let mut bytes = Vec::new(alloc);
+    let mut window = window_of(alloc, WINDOW)?;
+    'rounds: while bytes.len() <= limit {
+        if get_more(source, window.as_mut_slice(), &mut bytes)? == 0 {
+            return Ok(bytes);
+        }
+    }
+    Ok(bytes)
+}
+
 /// All that is left of a source, where it is no longer than the limit.
 pub fn read_source<S: Source>(
     alloc: Global,
@@ -51,12 +75,9 @@ pub fn read_source<S: Source>(
     ensures later { S.faults source.old ≤ S.faults source.new }
     ensures cause { IsErrOf result Failed → Rose (S.faults source.old) (S.faults source.new) }
 {
-    let mut bytes = Vec::new(alloc);
-    let mut window = window_of(alloc, WINDOW)?;
-    'rounds: while bytes.len() <= limit {
-        if get_more(source, window.as_mut_slice(), &mut bytes)? == 0 {
-            return Ok(bytes);
-        }
+    let bytes = read_front(alloc, source, limit)?;
+    if bytes.len() > limit {
+        return Err(SourceFault::Limit);
     }
-    Err(SourceFault::Limit)
+    Ok(bytes)
 }

@@ -10,7 +10,7 @@ use Rattle.swh_segment.specs.Making.{IsMade, IsNotMade}
 use Rattle.swh_program.specs.Causes.{IsUnusable}
 use Rattle.swh_program.specs.Opening.{IsArchive, IsDamaged, IsOpenRefusal, OpenEnds}
 use Rattle.swh_program.specs.declared.answer.Answer.{Answer}
-use Rattle.swh_program.specs.declared.answer.Answer.TheVariants.{Made, Told, Words, NoJobFile, JobForm, AlreadyMade, NotMade, Damaged, OutsideDisk, OutsideSource, OutsideClock, Memory}
+use Rattle.swh_program.specs.declared.answer.Answer.TheVariants.{Made, Told, Words, NoJobFile, BadJob, AlreadyMade, NotMade, Damaged, OutsideDisk, OutsideSource, OutsideClock, Memory}
 
 pub not_both : (bytes : List ℕ) → IsMade bytes → IsNotMade bytes → ⊥
 not_both bytes made not_made =
@@ -43,7 +43,7 @@ module _ (id_of : Kind → List ℕ → List ℕ) (files : Files) where
   opening_of_archive new h archive (Told text end) is ends = absurd is
   opening_of_archive new h archive Words is ends = absurd is
   opening_of_archive new h archive NoJobFile is ends = absurd is
-  opening_of_archive new h archive JobForm is ends = absurd is
+  opening_of_archive new h archive (BadJob text) is ends = absurd is
   opening_of_archive new h archive AlreadyMade is ends = absurd is
   opening_of_archive new h archive OutsideSource is ends = absurd is
   opening_of_archive new h archive OutsideClock is ends = absurd is

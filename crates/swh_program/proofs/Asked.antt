@@ -8,7 +8,7 @@ use Rattle.swh_model.specs.Answer.{ReplyText, IsReply}
 use Rattle.swh_program.specs.Opening.{IsArchive, IsOnlyOpened, IsOpenRefusal, OpenEnds}
 use Rattle.swh_program.specs.Ask.{IsToldReply, IsAskAnswer, AskEnds}
 use Rattle.swh_program.specs.declared.answer.Answer.{Answer}
-use Rattle.swh_program.specs.declared.answer.Answer.TheVariants.{Made, Told, Words, NoJobFile, JobForm, AlreadyMade, NotMade, Damaged, OutsideDisk, OutsideSource, OutsideClock, Memory}
+use Rattle.swh_program.specs.declared.answer.Answer.TheVariants.{Made, Told, Words, NoJobFile, BadJob, AlreadyMade, NotMade, Damaged, OutsideDisk, OutsideSource, OutsideClock, Memory}
 
 module _ (id_of : Kind → List ℕ → List ℕ) (path : List ℕ) (old new : Files) where
   -- an opening that is refused ends the command
@@ -17,7 +17,7 @@ module _ (id_of : Kind → List ℕ → List ℕ) (path : List ℕ) (old new : F
   refused (Told text end) ends = absurd ends
   refused Words ends = ends
   refused NoJobFile ends = ends
-  refused JobForm ends = ends
+  refused (BadJob text) ends = ends
   refused AlreadyMade ends = ends
   refused NotMade ends = ends
   refused Damaged ends = ends
@@ -32,7 +32,7 @@ module _ (id_of : Kind → List ℕ → List ℕ) (path : List ℕ) (old new : F
   replied history reply archive is opened (Told text end) told = record { history = history; archive = archive; reply = reply; is_reply = is; tells = told; opened = opened }
   replied history reply archive is opened Words told = absurd told
   replied history reply archive is opened NoJobFile told = absurd told
-  replied history reply archive is opened JobForm told = absurd told
+  replied history reply archive is opened (BadJob text) told = absurd told
   replied history reply archive is opened AlreadyMade told = absurd told
   replied history reply archive is opened NotMade told = absurd told
   replied history reply archive is opened Damaged told = absurd told
@@ -47,7 +47,7 @@ refused_one Made is = is
 refused_one (Told text end) is = absurd is
 refused_one Words is = is
 refused_one NoJobFile is = is
-refused_one JobForm is = is
+refused_one (BadJob text) is = is
 refused_one AlreadyMade is = is
 refused_one NotMade is = is
 refused_one Damaged is = is
@@ -61,7 +61,7 @@ told_one reply Made is = absurd is
 told_one reply (Told text end) is = (reply, is)
 told_one reply Words is = absurd is
 told_one reply NoJobFile is = absurd is
-told_one reply JobForm is = absurd is
+told_one reply (BadJob text) is = absurd is
 told_one reply AlreadyMade is = absurd is
 told_one reply NotMade is = absurd is
 told_one reply Damaged is = absurd is

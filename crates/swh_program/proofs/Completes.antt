@@ -8,16 +8,16 @@ use Rattle.swh_outside.specs.Files.{Files}
 use Rattle.swh_model.specs.declared.event.Event.{Event}
 use Rattle.swh_model.specs.Step.{replay}
 use Rattle.swh_model.specs.Answer.{ReplyText, IsReply}
-use Rattle.swh_program.specs.Answers.{status_of, status_for, printed_by, last_line_of, last_line_for, IsPrinted, IsCutOff, IsToldOf}
+use Rattle.swh_program.specs.Answers.{status_of, status_for, printed_by, last_line_of, last_line_for, IsPrinted, IsToldOf}
 use Rattle.swh_program.specs.Ask.{reply_line, TellsReply, IsAsked, AskEnds}
 use Rattle.swh_segment.specs.Making.{IsNotMade}
 use Rattle.swh_program.specs.Init.{InitEnds}
 use Rattle.swh_program.specs.Opening.{IsArchive}
-use Rattle.swh_program.specs.Run.{IsQuiet, IsPrintedWith, reply_status}
+use Rattle.swh_program.specs.Run.{IsQuiet, IsPrintedWith, IsPrintedUnlessFailed, reply_status}
 use Rattle.swh_program.specs.declared.answer.Ending.{Ending}
 use Rattle.swh_program.specs.declared.answer.Ending.TheVariants as ending
 use Rattle.swh_program.specs.declared.answer.Answer.{Answer}
-use Rattle.swh_program.specs.declared.answer.Answer.TheVariants.{Made, Told, Words, NoJobFile, JobForm, AlreadyMade, NotMade, Damaged, OutsideDisk, OutsideSource, OutsideClock, Memory}
+use Rattle.swh_program.specs.declared.answer.Answer.TheVariants.{Made, Told, Words, NoJobFile, BadJob, AlreadyMade, NotMade, Damaged, OutsideDisk, OutsideSource, OutsideClock, Memory}
 use Rattle.swh_program.proofs.Archived.{not_both, usable, one_archive}
 use Rattle.swh_program.proofs.Replies.{one_reply}
 
@@ -25,17 +25,23 @@ use Rattle.swh_program.proofs.Replies.{one_reply}
 abbrev pub Tells : List ℕ → ℕ → Answer → Type 0
 Tells line expected answer = (status_of answer ≡ 5) ⊎ ((status_of answer ≡ expected) × (printed_by answer ≡ line))
 
--- and where the sink did not fail, so says the run
+-- and so says the run that printed it
+printed_with : (line : List ℕ) (expected : ℕ) (answer : Answer) (tells : Type 0) (before now : List ℕ) (status : ℕ) → Tells line expected answer → IsPrinted answer tells before now status → IsPrintedWith line expected tells before now status
+printed_with line expected answer tells before now status (inl memory) printed = inl (printed.status_is ∙ memory)
+printed_with line expected answer tells before now status (inr done) printed = inr (printed.status_is ∙ done.0, λ t. printed.printed t ∙ ap (λ (l : List ℕ). before ++ l) done.1)
+
+-- where the sink did not fail
 pub told_with : (line : List ℕ) (expected : ℕ) (answer : Answer) (tells : Type 0) (before now : List ℕ) (faults_before faults_now status : ℕ) → Tells line expected answer → IsQuiet faults_before faults_now
     → IsToldOf answer tells before now faults_before faults_now status → IsPrintedWith line expected tells before now status
-told_with line expected answer tells before now faults_before faults_now status says no_sink told =
-    ⊎_elim
-    (λ (printed : IsPrinted answer tells before now status). ⊎_elim
-    (λ (memory : status_of answer ≡ 5). inl (printed.status_is ∙ memory))
-    (λ (done : (status_of answer ≡ expected) × (printed_by answer ≡ line)). inr (printed.status_is ∙ done.0, λ t. printed.printed t ∙ ap (λ (l : List ℕ). before ++ l) done.1))
-    says)
-    (λ (cut : IsCutOff answer tells before now faults_before faults_now status). absurd (no_sink cut.rose))
-    told
+told_with line expected answer tells before now faults_before faults_now status says no_sink (inl printed) = printed_with line expected answer tells before now status says printed
+told_with line expected answer tells before now faults_before faults_now status says no_sink (inr cut) = absurd (no_sink cut.rose)
+
+-- the same where a part of the outside may have failed
+pub told_unless : (line : List ℕ) (expected : ℕ) (answer : Answer) (tells : Type 0) (before now : List ℕ) (faults_before faults_now status : ℕ) → (status_of answer ≡ 4) ⊎ Tells line expected answer
+    → IsToldOf answer tells before now faults_before faults_now status → IsPrintedUnlessFailed line expected tells before now status
+told_unless line expected answer tells before now faults_before faults_now status (inl failed) (inl printed) = inl (printed.status_is ∙ failed)
+told_unless line expected answer tells before now faults_before faults_now status (inr says) (inl printed) = inr (printed_with line expected answer tells before now status says printed)
+told_unless line expected answer tells before now faults_before faults_now status says (inr cut) = inl cut.status_is
 
 -- an archive that was not made, with no fault of its disks, was made, or memory ran out
 pub init_done : (old new : Files) (answer : Answer) → InitEnds old new answer → IsNotMade (old 0).seen → (answer ≡ OutsideDisk → ⊥) → Tells (last_line_of Made) 0 answer
@@ -46,7 +52,7 @@ init_done old new Memory ends not_made no_disk = inl refl
 init_done old new (Told text end) ends not_made no_disk = absurd ends
 init_done old new Words ends not_made no_disk = absurd ends
 init_done old new NoJobFile ends not_made no_disk = absurd ends
-init_done old new JobForm ends not_made no_disk = absurd ends
+init_done old new (BadJob text) ends not_made no_disk = absurd ends
 init_done old new NotMade ends not_made no_disk = absurd ends
 init_done old new Damaged ends not_made no_disk = absurd ends
 init_done old new OutsideSource ends not_made no_disk = absurd ends
@@ -80,7 +86,7 @@ module _ (id_of : Kind → List ℕ → List ℕ) (path : List ℕ) (old new : F
   ask_done (Told text end) ends no_disk = reply_ending reply text end (asked_reply text end ends)
   ask_done Words ends no_disk = absurd ends
   ask_done NoJobFile ends no_disk = absurd ends
-  ask_done JobForm ends no_disk = absurd ends
+  ask_done (BadJob text) ends no_disk = absurd ends
   ask_done AlreadyMade ends no_disk = absurd ends
   ask_done NotMade ends no_disk = absurd (usable id_of old h archive (inl ends.0))
   ask_done Damaged ends no_disk = absurd (usable id_of old h archive (inr ends.0))

@@ -12,7 +12,7 @@ use Rattle.swh_segment.proofs.Crash.{making_moments}
 use Rattle.swh_program.specs.Archives.{Folders}
 use Rattle.swh_program.specs.Init.{InitEnds, Inits, IsSafeInit}
 use Rattle.swh_program.specs.declared.answer.Answer.{Answer}
-use Rattle.swh_program.specs.declared.answer.Answer.TheVariants.{Made, Told, Words, NoJobFile, JobForm, AlreadyMade, NotMade, Damaged, OutsideDisk, OutsideSource, OutsideClock, Memory}
+use Rattle.swh_program.specs.declared.answer.Answer.TheVariants.{Made, Told, Words, NoJobFile, BadJob, AlreadyMade, NotMade, Damaged, OutsideDisk, OutsideSource, OutsideClock, Memory}
 
 left_by : (old new : Files) (answer : Answer) → InitEnds old new answer → IsNotMade (old 0).seen → EachImage (old 0) IsNotMade → EachImages new IsNotMadeOrEmpty
 left_by old new Made e not_made each = files_left_whole (making_calls (old 0).seen) old new IsNotMadeOrEmpty (making_moments old not_made each).moments e.done
@@ -24,7 +24,7 @@ left_by old new Memory e not_made each = files_left_same (making_calls (old 0).s
 left_by old new (Told text end) e not_made each = absurd e
 left_by old new Words e not_made each = absurd e
 left_by old new NoJobFile e not_made each = absurd e
-left_by old new JobForm e not_made each = absurd e
+left_by old new (BadJob text) e not_made each = absurd e
 left_by old new NotMade e not_made each = absurd e
 left_by old new Damaged e not_made each = absurd e
 left_by old new OutsideSource e not_made each = absurd e
@@ -49,7 +49,7 @@ answer_status Made = inl refl
 answer_status (Told text end) = ending_status end
 answer_status Words = inr (inr (inl refl))
 answer_status NoJobFile = inr (inr (inl refl))
-answer_status JobForm = inr (inr (inl refl))
+answer_status (BadJob text) = inr (inr (inl refl))
 answer_status AlreadyMade = inr (inr (inr (inl refl)))
 answer_status NotMade = inr (inr (inr (inl refl)))
 answer_status Damaged = inr (inr (inr (inl refl)))

@@ -14,7 +14,7 @@ use Rattle.swh_program.specs.Opening.{IsArchive, IsOpenRefusal, OpenEnds}
 use Rattle.swh_program.specs.declared.answer.Ending.{Ending}
 use Rattle.swh_program.specs.declared.answer.Ending.TheVariants as ending
 use Rattle.swh_program.specs.declared.answer.Answer.{Answer}
-use Rattle.swh_program.specs.declared.answer.Answer.TheVariants.{Made, Told, Words, NoJobFile, JobForm, AlreadyMade, NotMade, Damaged, OutsideDisk, OutsideSource, OutsideClock, Memory}
+use Rattle.swh_program.specs.declared.answer.Answer.TheVariants.{Made, Told, Words, NoJobFile, BadJob, AlreadyMade, NotMade, Damaged, OutsideDisk, OutsideSource, OutsideClock, Memory}
 use Rattle.swh_program.proofs.Archived.{not_both, usable}
 use Rattle.swh_program.proofs.Completes.{asked_reply}
 
@@ -35,7 +35,7 @@ init_job Memory is e = omega (arith, e)
 init_job (Told text end) is e = is
 init_job Words is e = is
 init_job NoJobFile is e = is
-init_job JobForm is e = is
+init_job (BadJob text) is e = is
 init_job NotMade is e = is
 init_job Damaged is e = is
 init_job OutsideSource is e = is
@@ -50,7 +50,7 @@ ask_job Memory is e = omega (arith, e)
 ask_job Made is e = is
 ask_job Words is e = is
 ask_job NoJobFile is e = is
-ask_job JobForm is e = is
+ask_job (BadJob text) is e = is
 ask_job AlreadyMade is e = is
 ask_job OutsideSource is e = is
 ask_job OutsideClock is e = is
@@ -64,7 +64,7 @@ init_wants Memory is e = omega (arith, e)
 init_wants (Told text end) is e = is
 init_wants Words is e = is
 init_wants NoJobFile is e = is
-init_wants JobForm is e = is
+init_wants (BadJob text) is e = is
 init_wants NotMade is e = is
 init_wants Damaged is e = is
 init_wants OutsideSource is e = is
@@ -80,7 +80,7 @@ module _ (old new : Files) where
   init_only (Told text end) ends e = absurd ends
   init_only Words ends e = absurd ends
   init_only NoJobFile ends e = absurd ends
-  init_only JobForm ends e = absurd ends
+  init_only (BadJob text) ends e = absurd ends
   init_only NotMade ends e = absurd ends
   init_only Damaged ends e = absurd ends
   init_only OutsideSource ends e = absurd ends
@@ -94,7 +94,7 @@ module _ (old new : Files) where
   init_there (Told text end) ends made = absurd ends
   init_there Words ends made = absurd ends
   init_there NoJobFile ends made = absurd ends
-  init_there JobForm ends made = absurd ends
+  init_there (BadJob text) ends made = absurd ends
   init_there NotMade ends made = absurd ends
   init_there Damaged ends made = absurd ends
   init_there OutsideSource ends made = absurd ends
@@ -114,7 +114,7 @@ module _ (id_of : Kind → List ℕ → List ℕ) (old new : Files) where
   refusal_only (Told text end) is ends e = absurd is
   refusal_only Words is ends e = absurd is
   refusal_only NoJobFile is ends e = absurd is
-  refusal_only JobForm is ends e = absurd is
+  refusal_only (BadJob text) is ends e = absurd is
   refusal_only AlreadyMade is ends e = absurd is
   refusal_only OutsideSource is ends e = absurd is
   refusal_only OutsideClock is ends e = absurd is
@@ -128,7 +128,7 @@ module _ (id_of : Kind → List ℕ → List ℕ) (old new : Files) where
   refusal_comes (Told text end) is = absurd is
   refusal_comes Words is = absurd is
   refusal_comes NoJobFile is = absurd is
-  refusal_comes JobForm is = absurd is
+  refusal_comes (BadJob text) is = absurd is
   refusal_comes AlreadyMade is = absurd is
   refusal_comes OutsideSource is = absurd is
   refusal_comes OutsideClock is = absurd is
@@ -140,7 +140,7 @@ module _ (id_of : Kind → List ℕ → List ℕ) (path : List ℕ) (old new : F
   ask_only Made is ends e = absurd is
   ask_only Words is ends e = absurd is
   ask_only NoJobFile is ends e = absurd is
-  ask_only JobForm is ends e = absurd is
+  ask_only (BadJob text) is ends e = absurd is
   ask_only AlreadyMade is ends e = absurd is
   ask_only NotMade is ends e = inl ends.0
   ask_only Damaged is ends e = inr ends.0
@@ -154,7 +154,7 @@ module _ (id_of : Kind → List ℕ → List ℕ) (path : List ℕ) (old new : F
   ask_there Made is ends unusable = absurd is
   ask_there Words is ends unusable = absurd is
   ask_there NoJobFile is ends unusable = absurd is
-  ask_there JobForm is ends unusable = absurd is
+  ask_there (BadJob text) is ends unusable = absurd is
   ask_there AlreadyMade is ends unusable = absurd is
   ask_there NotMade is ends unusable = inl refl
   ask_there Damaged is ends unusable = inl refl
@@ -187,7 +187,7 @@ module _ (id_of : Kind → List ℕ → List ℕ) (path : List ℕ) (old new : F
     ask_reply Made ends = absurd ends
     ask_reply Words ends = absurd ends
     ask_reply NoJobFile ends = absurd ends
-    ask_reply JobForm ends = absurd ends
+    ask_reply (BadJob text) ends = absurd ends
     ask_reply AlreadyMade ends = absurd ends
     ask_reply NotMade ends = absurd (usable id_of old h archive (inl ends.0))
     ask_reply Damaged ends = absurd (usable id_of old h archive (inr ends.0))

@@ -1,18 +1,20 @@
--- What the load of an opened input says of what stands at its path.
-use Rattle.std.proofs.Common.{◌≡◌, inl, inr, ℕ, ◌<◌, ◌≤◌, Option, Some, None, Result, Ok, Err, List, [], ◌∷◌, ◌++◌, length, sym, ap, ◌∙◌, subst, arith, append_assoc, length-append}
+-- What the loads of opened inputs say of what stands at their paths.
+use Rattle.std.proofs.Common.{◌≡◌, inl, inr, ℕ, ◌<◌, ◌≤◌, Option, Some, None, Result, Ok, Err, List, [], ◌∷◌, ◌++◌, length, map, refl, sym, ap, ◌∙◌, subst, arith, append_assoc, length-append}
 use Rattle.std.specs.List.{AllByRecursion}
 use Rattle.swh_base.specs.declared.kind.Kind.{Kind}
 use Rattle.swh_base.specs.declared.entry.Entry.{Entry}
+use Rattle.swh_outside.specs.Disk.{File}
 use Rattle.swh_outside.specs.Faults.{Rose}
-use Rattle.swh_outside.specs.Opened.{IfFound, IsNotFound, IsFailed}
+use Rattle.swh_outside.specs.Opened.{IfFound}
 use Rattle.swh_outside.specs.declared.fault.Opened.{Opened}
 use Rattle.swh_outside.specs.declared.fault.Opened.TheVariants.{Found, NotFound as Missing, Failed as Unopened, Memory as NoRoom}
 use Rattle.swh_model.specs.declared.event.Event.{Event}
 use Rattle.swh_model.specs.declared.event.EventKind.{EventKind}
-use Rattle.swh_model.specs.declared.event.EventKind.TheVariants.{Batch, Open, Mark}
+use Rattle.swh_model.specs.declared.event.EventKind.TheVariants.{Batch, Open as OpenEvent, Mark}
 use Rattle.swh_model.specs.Archive.{Bodies}
 use Rattle.swh_model.specs.Step.{replay}
 use Rattle.swh_keeper.specs.Kept.{Kept}
+use Rattle.swh_jobs.specs.Job.{Job}
 use Rattle.swh_loader.specs.Adding.{opening, IsEvent, IsOwn, IsOwnKind}
 use Rattle.swh_loader.specs.Ending.{IsEndOf, IsJobEnd}
 use Rattle.swh_loader.specs.Leaving.{AreAllowed, AreOfVisit, AddsVisit, Stops, IsSameInput, next_visit}
@@ -20,16 +22,15 @@ use Rattle.swh_loader.specs.Stopping as stopping
 use Rattle.swh_loader.specs.declared.end.BadInput.TheVariants.{Stream, Collision, Read}
 use Rattle.swh_loader.specs.declared.end.End.{End}
 use Rattle.swh_loader.specs.declared.end.End.TheVariants.{Full, NotFound, Failed}
+use Rattle.swh_loader.specs.declared.end.Loaded.{Loaded}
 use Rattle.swh_loader.specs.declared.fault.LoadWhy.{LoadWhy}
 use Rattle.swh_loader.specs.declared.fault.LoadWhy.TheVariants as why
 use Rattle.swh_loader.specs.declared.fault.LoadFault.{LoadFault}
-use Rattle.swh_program.specs.Load.{IsOfInput, IsInputEnd, StopsFor, StopsVisit}
-use Rattle.std.specs.Prelude.{IfOk, IfErr, OnOk}
-use Rattle.swh_base.specs.declared.visit.Status.TheVariants.{Created}
-use Rattle.swh_loader.specs.Ending.{statuses_of}
-use Rattle.swh_loader.specs.Visiting.{IsVisit, GoesOn}
-use Rattle.swh_loader.specs.declared.end.Loaded.{Loaded}
-use Rattle.swh_program.specs.Loading.{StopsKept, IsKeptLoad}
+use Rattle.swh_pool.specs.Lines.{ended}
+use Rattle.swh_pool.specs.Loads.{OneLoad, IsOutcome as IsOutcomeOf, IsOneLoad, AreLoads}
+use Rattle.swh_program.specs.Dated.{IsOpenedAt, IsOpenedJob, AreOpenedJobs, IsGivenBack, AreGivenBack}
+use Rattle.swh_program.specs.Jobs.{FileAt}
+use Rattle.swh_program.specs.Load.{LoadedJob, dates, outcomes, IsOfInput, IsInputEnd, StopsFor, StopsVisit, IsOutcome, IsJobLoad, AreJobLoads}
 
 -- a count that rose later rose since before
 pub rose_since : (a b c : ℕ) → a ≤ b → Rose b c → Rose a c
@@ -41,10 +42,14 @@ rose_until a b c rose le = omega (arith, rose, le)
 pub rose_above : (a b : ℕ) → a ≡ 0 → Rose a b → 0 < b
 rose_above a b none rose = omega (arith, none, rose)
 
+-- what the line of a load is made of
+abbrev pub url_and_outcome : LoadedJob → List ℕ × Result Loaded LoadFault
+url_and_outcome l = (l.job.url, l.outcome)
+
 -- events are a load's own also where more batches are allowed
 own_kind : (P Q : List Entry → Type 0) (origin : List ℕ) (number : ℕ) → ((entries : List Entry) → P entries → Q entries) → (what : EventKind) → IsOwnKind P origin number what → IsOwnKind Q origin number what
 own_kind P Q origin number more (Batch entries) is = (is.0, more entries is.1)
-own_kind P Q origin number more (Open other kind date) is = is
+own_kind P Q origin number more (OpenEvent other kind date) is = is
 own_kind P Q origin number more (Mark other visit status snapshot) is = is
 
 own_events : (P Q : List Entry → Type 0) (by : ℕ) (origin : List ℕ) (number : ℕ) → ((entries : List Entry) → P entries → Q entries) → (es : List Event) → AllByRecursion (IsOwn P by origin number) es → AllByRecursion (IsOwn Q by origin number) es
@@ -83,92 +88,144 @@ module _ (P : List Entry → Type 0) (by : ℕ) (origin : List ℕ) (date : ℕ)
     are = own_more adds.more more o adds.behind opened adds.are own;
   }
 
--- Why a load of an unwounded keeper stopped.
-module _ {D : Type 0} (id_of : Kind → List ℕ → List ℕ) (tells : Type 0) (found : Option (List ℕ)) (failed : Type 0) (faults : D → ℕ) (P : List Entry → Type 0) (url : List ℕ) (date : ℕ) (old new : Kept D) (unwounded : old.wounded ≡ None)
-    (allowed : (entries : List Entry) → P entries → IsOfInput id_of tells found failed entries) (adds : AddsVisit P 1 url date old.history new.history) where
+-- Why a load stopped.
+module _ {D : Type 0} (id_of : Kind → List ℕ → List ℕ) (tells : Type 0) (found head : Option (List ℕ)) (failed : Type 0) (faults : D → ℕ) (P : List Entry → Type 0) (url : List ℕ) (date : ℕ) (old new : Kept D)
+    (allowed : (entries : List Entry) → P entries → IsOfInput id_of tells found head failed entries) (adds : AddsVisit P 1 url date old.history new.history) where
   stops_for : (tried : Event → Type 0) → ((e : Event) → tried e → AddsVisit P 1 url date old.history (new.history ++ e ∷ [])) → (reason : LoadWhy) → stopping.StopsFor id_of faults tried old new reason
-      → StopsFor id_of tells found failed url date old.history new.history reason
+      → StopsFor id_of tells found head failed url date old.history new.history reason
   stops_for tried next (why.Ended status) stops = stops
   stops_for tried next why.DiskFault stops = tt
-  stops_for tried next why.Wounded stops = let f : Some stops.first ≡ None = sym stops.wounded ∙ unwounded in absurd (let g : Some stops.first ≡ None = f in cc)
+  stops_for tried next why.Wounded stops = tt
   stops_for tried next (why.Limit which number) stops = record {
     event = stops.event;
-    next = adds_visit P (IsOfInput id_of tells found failed) 1 url date old.history (new.history ++ stops.event ∷ []) allowed (next stops.event stops.tried);
+    next = adds_visit P (IsOfInput id_of tells found head failed) 1 url date old.history (new.history ++ stops.event ∷ []) allowed (next stops.event stops.tried);
     may = stops.may;
     passes = stops.passes;
   }
   stops_for tried next why.Memory stops = tt
 
-  stops_kept : (tried : Event → Type 0) (reason : LoadWhy) → stopping.StopsFor id_of faults tried old new reason → StopsKept faults old new reason
-  stops_kept tried (why.Ended status) stops = absurd stops
-  stops_kept tried why.DiskFault stops = (_, stops.wounded, stops.rose)
-  stops_kept tried why.Wounded stops = ap (λ (k : Kept D). k.wounded) stops.same ∙ unwounded
-  stops_kept tried (why.Limit which number) stops = stops.unwounded
-  stops_kept tried why.Memory stops = stops ∙ unwounded
-
-  pub stops_visit : (fault : LoadFault) → Stops id_of faults P 1 url date old new fault → StopsVisit id_of tells found failed url date old.history new.history fault × StopsKept faults old new fault.why
+  stops_visit : (fault : LoadFault) → Stops id_of faults P 1 url date old new fault → StopsVisit id_of tells found head failed url date old.history new.history fault
   stops_visit fault (inl once) =
-      let tried = IsEvent (opening 1 url date) in
-      (record { visit = inl (once.no_visit, once.same); stops = stops_for tried (λ e is. opened_next P 1 url date old.history new.history e once.same is) fault.why once.stops }, stops_kept tried fault.why once.stops)
+      record {
+        visit = inl (once.no_visit, once.same);
+        stops = stops_for (IsEvent (opening 1 url date)) (λ e is. opened_next P 1 url date old.history new.history e once.same is) fault.why once.stops;
+      }
   stops_visit fault (inr later) =
-      let tried = IsOwn P 1 url fault.visit in
       let own = λ (e : Event) (is : IsOwn P 1 url fault.visit e). own_next P 1 url date old.history new.history e later.more (opening 1 url date) later.opened adds (subst (λ (n : ℕ). IsOwn P 1 url n e) later.visit is) in
-      (record { visit = inr (later.visit, later.more, later.opened); stops = stops_for tried own fault.why later.stops }, stops_kept tried fault.why later.stops)
+      record { visit = inr (later.visit, later.more, later.opened); stops = stops_for (IsOwn P 1 url fault.visit) own fault.why later.stops }
 
--- a path's count rose where a source of that path had failed
-pub back_at : {S : Type 0} (faults : S → ℕ) (path_of : S → List ℕ) (path : List ℕ) (middle after : List ℕ → ℕ) (now : Opened S) → IfFound now (λ s. 0 < faults s → Rose (middle (path_of s)) (after (path_of s)))
-    → IfFound now (λ s. 0 < faults s → path_of s ≡ path → Rose (middle path) (after path))
-back_at faults path_of path middle after (Found s) rose = λ some at. subst (λ (p : List ℕ). Rose (middle p) (after p)) at (rose some)
-back_at faults path_of path middle after Missing rose = tt
-back_at faults path_of path middle after Unopened rose = tt
-back_at faults path_of path middle after NoRoom rose = tt
+-- The inputs of jobs: opened, and given back.
+module _ {S : Type 0} (id_of : Kind → List ℕ → List ℕ) (tells source_tells : Type 0) (left : S → List ℕ) (faults : S → ℕ) (path_of : S → List ℕ) (input_at : FileAt) (entry middle after : List ℕ → ℕ)
+    (later : (p : List ℕ) → entry p ≤ middle p) (later_still : (p : List ℕ) → middle p ≤ after p) where
+  abbrev pub HasFailed : Job → Type 0
+  HasFailed job = Rose (entry job.path) (after job.path)
 
--- The input of a job, opened at its path.
-module _ {S : Type 0} (id_of : Kind → List ℕ → List ℕ) (tells source_tells : Type 0) (found : Option (List ℕ)) (left : S → List ℕ) (faults : S → ℕ) (path_of : S → List ℕ) (path : List ℕ) (stream now : Opened S)
-    (told : tells → source_tells) (there : tells → IfFound stream (λ s. found ≡ Some (left s))) (absent : tells → IsNotFound stream → found ≡ None)
-    (opened_at : IfFound stream (λ s. path_of s ≡ path)) (quiet : IfFound stream (λ s. faults s ≡ 0))
-    (entry middle after : ℕ) (later : entry ≤ middle) (later_still : middle ≤ after) (not_opened : IsFailed stream → Rose entry middle)
-    (same : IsSameInput path_of faults stream now) (back : IfFound now (λ s. 0 < faults s → path_of s ≡ path → Rose middle after)) where
-  abbrev pub failed : Type 0
-  failed = Rose entry after
+  abbrev pub Opens : Job → Opened S → Type 0
+  Opens job stream = IsOpenedAt tells source_tells left faults path_of input_at entry middle job.path stream
 
-  allowed : (s : Opened S) → (tells → IfFound s (λ x. found ≡ Some (left x))) → (entries : List Entry) → AreAllowed id_of None source_tells left s entries → IsOfInput id_of tells found failed entries
-  allowed (Found s) is entries allowed_by = λ t. (left s, is t, allowed_by (told t))
-  allowed Missing is entries allowed_by = absurd allowed_by
-  allowed Unopened is entries allowed_by = absurd allowed_by
-  allowed NoRoom is entries allowed_by = absurd allowed_by
+  abbrev pub OfJob : Job → List Entry → Type 0
+  OfJob job = IsOfInput id_of tells (input_at job.path) job.head (HasFailed job)
 
-  pub adds_input : (by : ℕ) (origin : List ℕ) (date : ℕ) (h h' : List Event) → AddsVisit (AreAllowed id_of None source_tells left stream) by origin date h h' → AddsVisit (IsOfInput id_of tells found failed) by origin date h h'
-  adds_input by origin date h h' adds = adds_visit (AreAllowed id_of None source_tells left stream) (IsOfInput id_of tells found failed) by origin date h h' (allowed stream there) adds
+  pub allowed : (job : Job) (s : Opened S) → (tells → source_tells) → (tells → IfFound s (λ x. input_at job.path ≡ Some (left x))) → (entries : List Entry) → AreAllowed id_of source_tells left s entries → OfJob job entries
+  allowed job (Found s) told is entries allowed_by = λ t. (left s, is t, allowed_by (told t))
+  allowed job Missing told is entries allowed_by = absurd allowed_by
+  allowed job Unopened told is entries allowed_by = absurd allowed_by
+  allowed job NoRoom told is entries allowed_by = absurd allowed_by
 
-  found_end : (bodies : Bodies) (s t : S) → (tells → found ≡ Some (left s)) → faults s ≡ 0 → path_of t ≡ path → (0 < faults t → path_of t ≡ path → Rose middle after) → (end : End) → IsEndOf id_of None source_tells (left s) (faults s) (faults t) bodies end
-      → IsInputEnd id_of tells found failed bodies end
-  found_end bodies s t is none at rose (Full snapshot) ends = λ h. (left s, is h, ends (told h))
-  found_end bodies s t is none at rose NotFound ends = absurd ends
-  found_end bodies s t is none at rose (Failed (Stream place stream_why)) ends = (ends.0, ends.1, λ h. (left s, is h, ends.2 (told h)))
-  found_end bodies s t is none at rose (Failed (Collision name)) ends = λ h. (left s, is h, ends (told h))
-  found_end bodies s t is none at rose (Failed Read) ends = rose_since entry middle after later (rose (rose_above (faults s) (faults t) none ends) at)
+  -- a path's count rose where a source of that path had failed
+  back_at : (path : List ℕ) (s : S) → path_of s ≡ path → (0 < faults s → Rose (middle (path_of s)) (after (path_of s))) → 0 < faults s → Rose (entry path) (after path)
+  back_at path s at back some = rose_since (entry path) (middle path) (after path) (later path) (subst (λ (p : List ℕ). Rose (middle p) (after p)) at (back some))
 
-  input_end : (bodies : Bodies) (s t : Opened S) → (tells → IfFound s (λ x. found ≡ Some (left x))) → (tells → IsNotFound s → found ≡ None) → IfFound s (λ x. path_of x ≡ path) → IfFound s (λ x. faults x ≡ 0) → (IsFailed s → Rose entry middle)
-      → IsSameInput path_of faults s t → IfFound t (λ x. 0 < faults x → path_of x ≡ path → Rose middle after) → (end : End) → IsJobEnd id_of None source_tells left faults bodies s t end → IsInputEnd id_of tells found failed bodies end
-  input_end bodies (Found s) (Found t) is none_there at none broke is_same rose end ends = found_end bodies s t is none (is_same.0 ∙ at) rose end ends
-  input_end bodies (Found s) Missing is none_there at none broke is_same rose end ends = absurd ends
-  input_end bodies (Found s) Unopened is none_there at none broke is_same rose end ends = absurd ends
-  input_end bodies (Found s) NoRoom is none_there at none broke is_same rose end ends = absurd ends
-  input_end bodies Missing t is none_there at none broke is_same rose end ends = subst (IsInputEnd id_of tells found failed bodies) (sym ends) (λ h. none_there h tt)
-  input_end bodies Unopened t is none_there at none broke is_same rose end ends = subst (IsInputEnd id_of tells found failed bodies) (sym ends) (rose_until entry middle after (broke tt) later_still)
-  input_end bodies NoRoom t is none_there at none broke is_same rose end ends = absurd ends
+  found_end : (job : Job) (bodies : Bodies) (s t : S) → (tells → source_tells) → (tells → input_at job.path ≡ Some (left s)) → faults s ≡ 0 → path_of t ≡ job.path → (0 < faults t → Rose (middle (path_of t)) (after (path_of t)))
+      → (end : End) → IsEndOf id_of source_tells (left s) (faults s) (faults t) bodies end → IsInputEnd id_of tells (input_at job.path) job.head (HasFailed job) bodies end
+  found_end job bodies s t told is none at back (Full snapshot) ends = λ h. (left s, is h, ends (told h))
+  found_end job bodies s t told is none at back NotFound ends = absurd ends
+  found_end job bodies s t told is none at back (Failed (Stream place stream_why)) ends = (ends.0, ends.1, λ h. (left s, is h, ends.2 (told h)))
+  found_end job bodies s t told is none at back (Failed (Collision name)) ends = λ h. (left s, is h, ends (told h))
+  found_end job bodies s t told is none at back (Failed Read) ends = back_at job.path t at back (rose_above (faults s) (faults t) none ends)
 
-  pub ends_input : (bodies : Bodies) (end : End) → IsJobEnd id_of None source_tells left faults bodies stream now end → IsInputEnd id_of tells found failed bodies end
-  ends_input bodies end ends = input_end bodies stream now there absent opened_at quiet not_opened same back end ends
+  input_end : (job : Job) (bodies : Bodies) (s t : Opened S) → Opens job s → IsSameInput path_of faults s t → IsGivenBack faults path_of middle after t → (end : End) → IsJobEnd id_of source_tells left faults bodies s t end
+      → IsInputEnd id_of tells (input_at job.path) job.head (HasFailed job) bodies end
+  input_end job bodies (Found s) (Found t) opened same back end ends = found_end job bodies s t opened.told opened.found opened.quiet (same.0 ∙ opened.at) back end ends
+  input_end job bodies (Found s) Missing opened same back end ends = absurd ends
+  input_end job bodies (Found s) Unopened opened same back end ends = absurd ends
+  input_end job bodies (Found s) NoRoom opened same back end ends = absurd ends
+  input_end job bodies Missing t opened same back end ends = subst (IsInputEnd id_of tells (input_at job.path) job.head (HasFailed job) bodies) (sym ends) (λ h. opened.absent h tt)
+  input_end job bodies Unopened t opened same back end ends =
+      subst (IsInputEnd id_of tells (input_at job.path) job.head (HasFailed job) bodies) (sym ends) (rose_until (entry job.path) (middle job.path) (after job.path) (opened.failed tt) (later_still job.path))
+  input_end job bodies NoRoom t opened same back end ends = absurd ends
 
-  pub kept_load : {D : Type 0} (disk_faults : D → ℕ) (old new' : Kept D) (url : List ℕ) (date : ℕ) → old.wounded ≡ None → (loaded : Result Loaded LoadFault)
-      → AddsVisit (AreAllowed id_of None source_tells left stream) 1 url date old.history new'.history
-      → IfOk loaded (λ l. l.visit ≡ next_visit old.history url) → IfOk loaded (λ l. IsVisit new'.history url l.visit date 1 ((Created, None) ∷ statuses_of l.end))
-      → IfOk loaded (λ l. IsJobEnd id_of None source_tells left faults (replay new'.history).bodies stream now l.end) → OnOk loaded (GoesOn old new')
-      → IfErr loaded (Stops id_of disk_faults (AreAllowed id_of None source_tells left stream) 1 url date old new') → IsKeptLoad id_of tells found failed disk_faults old new' url date loaded
-  kept_load disk_faults old new' url date unwounded (Ok l) adds number visit end on stops =
-      record { adds = adds_input 1 url date old.history new'.history adds; leaves = on.unwounded; line = record { number = number; visit = visit; end = ends_input (replay new'.history).bodies l.end end } }
-  kept_load disk_faults old new' url date unwounded (Err f) adds number visit end on stops =
-      let both = stops_visit id_of tells found failed disk_faults (AreAllowed id_of None source_tells left stream) url date old new' unwounded (allowed stream there) adds f stops in
-      record { adds = adds_input 1 url date old.history new'.history adds; leaves = both.1; line = both.0 }
+  module _ {D : Type 0} (disks_tell : Type 0) (file : D → File) (disk_faults : D → ℕ) where
+    abbrev pub Loads : OneLoad S → Kept D → Kept D → Type 0
+    Loads l old new = IsOneLoad id_of source_tells left faults path_of disks_tell file disk_faults 1 l old new
+
+    abbrev pub AllLoads : List (OneLoad S) → Kept D → Kept D → Type 0
+    AllLoads loads old new = AreLoads id_of source_tells left faults path_of disks_tell file disk_faults 1 loads old new
+
+    -- a job as it was loaded
+    abbrev pub loaded_job : Job → OneLoad S → LoadedJob
+    loaded_job job l = record { job = job; date = l.job.date; outcome = l.outcome }
+
+    line : (job : Job) (l : OneLoad S) (old new : Kept D) → Opens job l.job.job.stream → IsGivenBack faults path_of middle after l.after.job.stream
+        → AddsVisit (AreAllowed id_of source_tells left l.job.job.stream) 1 l.job.job.origin l.job.date old.history new.history → IsSameInput path_of faults l.job.job.stream l.after.job.stream
+        → (outcome : Result Loaded LoadFault) → IsOutcomeOf id_of source_tells left faults path_of disks_tell file disk_faults 1 l old new outcome
+        → IsOutcome id_of tells (input_at job.path) job.head (HasFailed job) l.job.job.origin l.job.date old.history new.history outcome
+    line job l old new opened back adds same (Ok loaded) is =
+        record { number = is.number; visit = is.visit; end = input_end job (replay new.history).bodies l.job.job.stream l.after.job.stream opened same back loaded.end is.means }
+    line job l old new opened back adds same (Err fault) is =
+        stops_visit id_of tells (input_at job.path) job.head (HasFailed job) disk_faults (AreAllowed id_of source_tells left l.job.job.stream) l.job.job.origin l.job.date old new (allowed job l.job.job.stream opened.told opened.found) adds fault is
+
+    pub one_job : (job : Job) (l : OneLoad S) (old new : Kept D) → IsOpenedJob tells source_tells left faults path_of input_at entry middle job l.job → IsGivenBack faults path_of middle after l.after.job.stream → Loads l old new
+        → IsJobLoad id_of tells input_at entry after (loaded_job job l) old.history new.history
+    one_job job l old new opened back is =
+        let adds = adds_visit (AreAllowed id_of source_tells left l.job.job.stream) (OfJob job) 1 l.job.job.origin l.job.date old.history new.history (allowed job l.job.job.stream opened.input.told opened.input.found) is.adds in
+        let told = line job l old new opened.input back is.adds is.same_input l.outcome is.ends in
+        record {
+          nothing_else = subst (λ (u : List ℕ). AddsVisit (OfJob job) 1 u l.job.date old.history new.history) opened.origin adds;
+          line = subst (λ (u : List ℕ). IsOutcome id_of tells (input_at job.path) job.head (HasFailed job) u l.job.date old.history new.history l.outcome) opened.origin told;
+        }
+
+    abbrev pub loaded_jobs : List Job → List (OneLoad S) → List LoadedJob
+    loaded_jobs [] loads = []
+    loaded_jobs (job ∷ jobs) [] = []
+    loaded_jobs (job ∷ jobs) (l ∷ loads) = loaded_job job l ∷ loaded_jobs jobs loads
+
+    abbrev pub Open : List Job → List (OneLoad S) → Type 0
+    Open jobs loads = AreOpenedJobs tells source_tells left faults path_of input_at entry middle jobs (map (λ l. l.job) loads)
+
+    pub each_job : (jobs : List Job) (loads : List (OneLoad S)) (old new : Kept D) → Open jobs loads → AreGivenBack faults path_of middle after (map (λ l. l.after) loads)
+        → AllLoads loads old new → AreJobLoads id_of tells input_at entry after (loaded_jobs jobs loads) old.history new.history
+    each_job [] [] old new opened back are = ap (λ (k : Kept D). k.history) are
+    each_job [] (l ∷ loads) old new opened back are = absurd opened
+    each_job (job ∷ jobs) [] old new opened back are = absurd opened
+    each_job (job ∷ jobs) (l ∷ loads) old new opened back are =
+        (are.0.history, one_job job l old are.0 opened.0 back.0 are.1, each_job jobs loads are.0 new opened.1 back.1 are.2)
+
+    -- their jobs, dates and outcomes
+    pub same_jobs : (jobs : List Job) (loads : List (OneLoad S)) → Open jobs loads → map (λ l. l.job) (loaded_jobs jobs loads) ≡ jobs
+    same_jobs [] loads opened = refl
+    same_jobs (job ∷ jobs) [] opened = absurd opened
+    same_jobs (job ∷ jobs) (l ∷ loads) opened = ap (λ (more : List Job). job ∷ more) (same_jobs jobs loads opened.1)
+
+    pub same_dates : (jobs : List Job) (loads : List (OneLoad S)) → Open jobs loads → dates (loaded_jobs jobs loads) ≡ map (λ j. j.date) (map (λ l. l.job) loads)
+    same_dates [] [] opened = refl
+    same_dates [] (l ∷ loads) opened = absurd opened
+    same_dates (job ∷ jobs) [] opened = absurd opened
+    same_dates (job ∷ jobs) (l ∷ loads) opened = ap (λ (more : List ℕ). l.job.date ∷ more) (same_dates jobs loads opened.1)
+
+    pub same_outcomes : (jobs : List Job) (loads : List (OneLoad S)) → Open jobs loads → outcomes (loaded_jobs jobs loads) ≡ map (λ l. l.outcome) loads
+    same_outcomes [] [] opened = refl
+    same_outcomes [] (l ∷ loads) opened = absurd opened
+    same_outcomes (job ∷ jobs) [] opened = absurd opened
+    same_outcomes (job ∷ jobs) (l ∷ loads) opened = ap (λ (more : List (Result Loaded LoadFault)). l.outcome ∷ more) (same_outcomes jobs loads opened.1)
+
+    -- their origins beside their outcomes
+    pub same_ended : (jobs : List Job) (loads : List (OneLoad S)) (old new : Kept D) → Open jobs loads → AllLoads loads old new
+        → ended (map (λ l. l.after) loads) (map (λ l. l.outcome) loads) ≡ map url_and_outcome (loaded_jobs jobs loads)
+    same_ended [] [] old new opened are = refl
+    same_ended [] (l ∷ loads) old new opened are = absurd opened
+    same_ended (job ∷ jobs) [] old new opened are = absurd opened
+    same_ended (job ∷ jobs) (l ∷ loads) old new opened are =
+        let url : l.after.job.origin ≡ job.url = are.1.same_origin ∙ opened.0.origin in
+        let rest = same_ended jobs loads are.0 new opened.1 are.2 in
+        λ i. (url i, l.outcome) ∷ rest i

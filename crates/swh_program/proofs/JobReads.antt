@@ -1,35 +1,67 @@
--- Why a job file that was read is refused.
-use Rattle.std.specs.Prelude.{IfErr}
-use Rattle.std.proofs.Common.{◌≡◌, ⊎_elim, ℕ, ◌≤◌, Some, Result, Ok, Err, List, [], ◌∷◌, ◌++◌, length, refl, ap, arith, length-append}
-use Rattle.swh_program.specs.JobFile.{IsJobFile, IsLastFeed}
-use Rattle.swh_program.specs.Jobs.{FileAt, IsParseRefusal, IsJobRefused}
+-- What the reading of a front of a job file says of all of it.
+use Rattle.std.specs.Prelude.{IfOk, IfErr}
+use Rattle.std.proofs.Common.{◌≡◌, ⊎_elim, ◌⊎◌, ℕ, ◌<◌, ◌≤◌, Some, Result, Ok, Err, List, [], ◌++◌, length, refl, sym, ap, ◌∙◌, subst, arith}
+use Rattle.std.proofs.lemmas.Bool.{cases_lt}
+use Rattle.std.proofs.lemmas.List.{append-nil}
+use Rattle.swh_fastlex.specs.Whole.{IsFront}
+use Rattle.swh_jobs.specs.Job.{Job}
+use Rattle.swh_jobs.specs.JobFile.{IsJobFile, IsFault}
+use Rattle.swh_jobs.specs.declared.fault.JobWhy.{JobWhy}
+use Rattle.swh_jobs.proofs.Lengths.{longest_lem, front_lem}
+use Rattle.swh_program.specs.Jobs.{FileAt, TellsFault, TellsBadJob, AreJobsAt, IsReadRefusal, IsJobRefusal, IsJobRefused}
 use Rattle.swh_program.specs.declared.answer.Answer.{Answer}
-use Rattle.swh_program.specs.declared.answer.Answer.TheVariants.{Made, Told, Words, NoJobFile, JobForm, AlreadyMade, NotMade, Damaged, OutsideDisk, OutsideSource, OutsideClock, Memory}
+use Rattle.swh_program.specs.declared.answer.Answer.TheVariants.{Made, Told, Words, NoJobFile, BadJob, AlreadyMade, NotMade, Damaged, OutsideDisk, OutsideSource, OutsideClock, Memory}
 
-feed_short : (feed : List ℕ) → IsLastFeed feed → length feed ≤ 1
-feed_short feed is = ⊎_elim (λ (e : feed ≡ []). let n = ap length e in omega (arith, n)) (λ (e : feed ≡ 10 ∷ []). let n = ap length e in omega (arith, n)) is
+pub one_of_read : (bytes : List ℕ) (answer : Answer) → IsReadRefusal bytes answer → IsJobRefusal answer
+one_of_read bytes Made is = absurd is
+one_of_read bytes (Told text end) is = absurd is
+one_of_read bytes Words is = absurd is
+one_of_read bytes NoJobFile is = absurd is
+one_of_read bytes (BadJob text) is = (bytes, is)
+one_of_read bytes AlreadyMade is = absurd is
+one_of_read bytes NotMade is = absurd is
+one_of_read bytes Damaged is = absurd is
+one_of_read bytes OutsideDisk is = absurd is
+one_of_read bytes OutsideSource is = absurd is
+one_of_read bytes OutsideClock is = absurd is
+one_of_read bytes Memory is = tt
 
--- a job file is no longer than its longest parts
-pub job_short : (bytes url path : List ℕ) → IsJobFile bytes url path → length bytes ≤ 6151
-job_short bytes url path job =
-    let all = ap length job.fields.spelled in
-    let u = job.url_is.short in
-    let p = job.path_is.short in
-    let f = feed_short job.fields.feed job.fields.is_feed in
-    omega (arith, all, u, p, f, length-append url (9 ∷ (path ++ job.fields.feed)), length-append path job.fields.feed)
+-- A front of the file at a path was read, longer than any job file where it is not all of it.
+module _ (file_at : FileAt) (path left now front : List ℕ) (there : file_at path ≡ Some left) (read : IsFront left now 1837056 front) where
+  whole_at : length front ≤ 1837056 → file_at path ≡ Some front
+  whole_at short = there ∙ ap (λ (bytes : List ℕ). Some bytes) (read.cut ∙ ap (λ (rest : List ℕ). front ++ rest) (read.whole short) ∙ append-nil front)
 
-pub refused_by_form : {T : Type 0} (file_at : FileAt) (jobs bytes : List ℕ) (result : Result T Answer) → file_at jobs ≡ Some bytes → IfErr result (λ answer. IsParseRefusal answer)
-    → IfErr result (λ answer. answer ≡ JobForm → (url path : List ℕ) → IsJobFile bytes url path → ⊥) → IfErr result (λ answer. IsJobRefused file_at jobs answer)
-refused_by_form file_at jobs bytes (Ok job) there one form = tt
-refused_by_form file_at jobs bytes (Err Made) there one form = absurd one
-refused_by_form file_at jobs bytes (Err (Told text end)) there one form = absurd one
-refused_by_form file_at jobs bytes (Err Words) there one form = absurd one
-refused_by_form file_at jobs bytes (Err NoJobFile) there one form = absurd one
-refused_by_form file_at jobs bytes (Err JobForm) there one form = record { bytes = bytes; there = there; none = form refl }
-refused_by_form file_at jobs bytes (Err AlreadyMade) there one form = absurd one
-refused_by_form file_at jobs bytes (Err NotMade) there one form = absurd one
-refused_by_form file_at jobs bytes (Err Damaged) there one form = absurd one
-refused_by_form file_at jobs bytes (Err OutsideDisk) there one form = absurd one
-refused_by_form file_at jobs bytes (Err OutsideSource) there one form = absurd one
-refused_by_form file_at jobs bytes (Err OutsideClock) there one form = absurd one
-refused_by_form file_at jobs bytes (Err Memory) there one form = tt
+  pub jobs_at : (jobs : List Job) → IsJobFile front jobs → AreJobsAt file_at path jobs
+  jobs_at jobs are = record { bytes = front; there = whole_at (longest_lem front jobs are); are = are }
+
+  tells_bad : (text : List ℕ) → TellsFault front text → TellsBadJob file_at path text
+  tells_bad text tells =
+      ⊎_elim
+      (λ (long : 1837056 < length front).
+      let fault = front_lem front now tells.line tells.why long tells.fault in
+      record { line = tells.line; why = tells.why; bad = record { bytes = front ++ now; there = there ∙ ap (λ (bytes : List ℕ). Some bytes) read.cut; fault = fault }; text_is = tells.text_is })
+      (λ (short : length front ≤ 1837056). record { line = tells.line; why = tells.why; bad = record { bytes = front; there = whole_at short; fault = tells.fault }; text_is = tells.text_is })
+      (cases_lt 1837056 (length front))
+
+  pub refused_at : (answer : Answer) → IsReadRefusal front answer → IsJobRefused file_at path answer
+  refused_at Made is = absurd is
+  refused_at (Told text end) is = absurd is
+  refused_at Words is = absurd is
+  refused_at NoJobFile is = absurd is
+  refused_at (BadJob text) is = tells_bad text is
+  refused_at AlreadyMade is = absurd is
+  refused_at NotMade is = absurd is
+  refused_at Damaged is = absurd is
+  refused_at OutsideDisk is = absurd is
+  refused_at OutsideSource is = absurd is
+  refused_at OutsideClock is = absurd is
+  refused_at Memory is = tt
+
+  -- The reader's answer on the front.
+  pub jobs_read : {V : Type 0} (jobs_in : V → List Job) (result : Result V Answer) → IfOk result (λ v. IsJobFile front (jobs_in v)) → IfOk result (λ v. AreJobsAt file_at path (jobs_in v))
+  jobs_read jobs_in (Ok v) are = jobs_at (jobs_in v) are
+  jobs_read jobs_in (Err answer) are = tt
+
+  pub refusal_read : {V : Type 0} (result : Result V Answer) → IfErr result (λ answer. IsReadRefusal front answer) → IfErr result (λ answer. IsJobRefused file_at path answer)
+  refusal_read (Ok v) is = tt
+  refusal_read (Err answer) is = refused_at answer is

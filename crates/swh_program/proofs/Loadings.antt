@@ -1,17 +1,20 @@
--- A load against which nothing stands is told as full, or memory ran out.
+-- Loads against which nothing stands are told as full, or memory ran out.
 use Rattle.std.specs.Prelude.{codes}
-use Rattle.std.proofs.Common.{◌≡◌, ◌⊎◌, inl, inr, ⊎_elim, ℕ, Option, Some, None, Result, Ok, Err, List, [], ◌∷◌, ◌++◌, refl, sym, ap, ◌∙◌, subst}
-use Rattle.std.specs.List.{AllByRecursion}
+use Rattle.std.proofs.Common.{◌≡◌, ◌⊎◌, inl, inr, ℕ, Some, None, Result, Ok, Err, List, [], ◌∷◌, ◌++◌, map, Contains, refl, sym, ap, ◌∙◌, subst, append_assoc}
+use Rattle.std.specs.List.{AllByRecursion, flat_map}
 use Rattle.std.proofs.lemmas.List.{append-nil}
 use Rattle.swh_base.specs.declared.kind.Kind.{Kind}
 use Rattle.swh_base.specs.declared.entry.Entry.{Entry}
-use Rattle.swh_outside.specs.Faults.{Rose}
 use Rattle.swh_outside.specs.Files.{Files}
-use Rattle.swh_model.specs.declared.event.Event.{Event}
 use Rattle.swh_swhid.specs.Core.{core_text}
+use Rattle.swh_jobs.specs.Job.{Job}
+use Rattle.swh_jobs.specs.JobFile.{AreDistinct, origins}
+use Rattle.swh_model.specs.declared.event.Event.{Event}
 use Rattle.swh_model.specs.Answer.{line_of}
-use Rattle.swh_model.specs.Meaning.{Making, IsMeaning, IsLeftOut}
+use Rattle.swh_model.specs.Archive.{empty_archive}
+use Rattle.swh_model.specs.Meaning.{Made as MadeObject, IsLeftOut}
 use Rattle.swh_model.specs.Step.{IsHistory, snapshot_name, replay}
+use Rattle.swh_model.proofs.Histories.{fronts}
 use Rattle.swh_loader.specs.Ending.{IsMadeBy, IsFull, Collided}
 use Rattle.swh_loader.specs.Leaving.{AddsVisit, next_visit}
 use Rattle.swh_loader.specs.Report.{report_of}
@@ -22,176 +25,143 @@ use Rattle.swh_loader.specs.declared.end.Loaded.{Loaded}
 use Rattle.swh_loader.specs.declared.fault.LoadWhy.{LoadWhy}
 use Rattle.swh_loader.specs.declared.fault.LoadWhy.TheVariants as why
 use Rattle.swh_loader.specs.declared.fault.LoadFault.{LoadFault}
-use Rattle.swh_program.specs.Answers.{status_of, status_for, last_line_for}
-use Rattle.swh_program.specs.Complete.{full_line, AreMade, HasOneBody, HasRoom}
-use Rattle.swh_program.specs.JobFile.{IsJobFile}
-use Rattle.swh_program.specs.Jobs.{FileAt, IsJobAt, IsJobRefusal, IsJobRefused}
-use Rattle.swh_program.specs.Load.{loader, ending_for, TellsLoad, TellsDisk, IsOfInput, IsInputEnd, StopsFor, StopsDisks, IsLoad, IsLoadedJob, IsUnloaded, LoadEnds}
-use Rattle.swh_program.specs.Opening.{IsArchive, IsOpenRefusal, OpenEnds}
+use Rattle.swh_program.specs.Complete.{MeantJob, jobs_of, full_line, full_lines, all_made, AreMade, IsMeant, AreMeant, HasOneBody, HasRoom, AreQuiet}
+use Rattle.swh_program.specs.Jobs.{FileAt}
+use Rattle.swh_program.specs.Load.{loader, LoadedJob, outcomes, load_line, ending_of_end, ending_of_why, ending_for, ending_of_all, worse, IsInputEnd, StopsFor, IsOutcome, HasFailed, IsOfJob, AreJobLoads}
+use Rattle.swh_program.specs.Opening.{IsArchive}
 use Rattle.swh_program.specs.Run.{IsQuiet}
 use Rattle.swh_program.specs.declared.answer.Ending.{Ending}
 use Rattle.swh_program.specs.declared.answer.Ending.TheVariants as ending
-use Rattle.swh_program.specs.declared.answer.Answer.{Answer}
-use Rattle.swh_program.specs.declared.answer.Answer.TheVariants.{Made, Told, Words, NoJobFile, JobForm, AlreadyMade, NotMade, Damaged, OutsideDisk, OutsideSource, OutsideClock, Memory}
-use Rattle.swh_program.proofs.Archived.{one_archive, opening_of_archive}
-use Rattle.swh_program.proofs.Completes.{Tells}
-use Rattle.swh_program.proofs.Fulls.{are_made, one_snapshot, none_collides}
+use Rattle.swh_program.proofs.Elements.{contains_first, contains_more, flat_contains}
+use Rattle.swh_program.proofs.LoadEndings.{first_apart, others_apart}
+use Rattle.swh_program.proofs.Fulls.{Had, are_made, one_snapshot, had_after, none_collides}
 use Rattle.swh_program.proofs.Inputs.{adds_visit}
-use Rattle.swh_program.proofs.JobFields.{one_reading}
+use Rattle.swh_program.proofs.OtherOrigins.{next_stays}
 
--- what an answer is that tells a load
-module _ (url : List ℕ) (loaded : Result Loaded LoadFault) where
-  tells_full : (answer : Answer) → TellsLoad url loaded answer → ending_for loaded ≡ ending.Done → Tells (report_of url loaded) 0 answer
-  tells_full Made told e = absurd told
-  tells_full (Told text end) told e = inr (ap status_for (told.1 ∙ e), ap (λ (x : Ending). text ++ last_line_for x) (told.1 ∙ e) ∙ append-nil text ∙ told.0)
-  tells_full Words told e = absurd told
-  tells_full NoJobFile told e = absurd told
-  tells_full JobForm told e = absurd told
-  tells_full AlreadyMade told e = absurd told
-  tells_full NotMade told e = absurd told
-  tells_full Damaged told e = absurd told
-  tells_full OutsideDisk told e = let f : ending.OutsideDisk ≡ ending.Done = sym told ∙ e in absurd (cc)
-  tells_full OutsideSource told e = absurd told
-  tells_full OutsideClock told e = absurd told
-  tells_full Memory told e = inl refl
+-- loads only add to the history
+pub loads_behind : (id_of : Kind → List ℕ → List ℕ) (tells : Type 0) (input_at : FileAt) (failures failures_now : List ℕ → ℕ) (loads : List LoadedJob) (h after : List Event)
+    → AreJobLoads id_of tells input_at failures failures_now loads h after → (more : List Event) × (after ≡ h ++ more)
+loads_behind id_of tells input_at failures failures_now [] h after each = ([], each ∙ sym (append-nil h))
+loads_behind id_of tells input_at failures failures_now (l ∷ loads) h after each =
+    let adds = each.1.nothing_else in
+    let rest = loads_behind id_of tells input_at failures failures_now loads each.0 after each.2 in
+    (adds.more ++ rest.0, rest.1 ∙ ap (λ (g : List Event). g ++ rest.0) adds.behind ∙ append_assoc h adds.more rest.0)
 
-  tells_memory : (answer : Answer) → TellsLoad url loaded answer → ending_for loaded ≡ ending.Memory → status_of answer ≡ 5
-  tells_memory Made told e = absurd told
-  tells_memory (Told text end) told e = ap status_for (told.1 ∙ e)
-  tells_memory Words told e = absurd told
-  tells_memory NoJobFile told e = absurd told
-  tells_memory JobForm told e = absurd told
-  tells_memory AlreadyMade told e = absurd told
-  tells_memory NotMade told e = absurd told
-  tells_memory Damaged told e = absurd told
-  tells_memory OutsideDisk told e = let f : ending.OutsideDisk ≡ ending.Memory = sym told ∙ e in absurd (cc)
-  tells_memory OutsideSource told e = absurd told
-  tells_memory OutsideClock told e = absurd told
-  tells_memory Memory told e = refl
+-- Nothing stands against the loads of these jobs.
+module _ (id_of : Kind → List ℕ → List ℕ) (tells : Type 0) (told : tells) (input_at : FileAt) (failures failures_now : List ℕ → ℕ) (before : List Event) (all : List MeantJob) (new : Files)
+    (one : HasOneBody id_of (replay before).bodies (all_made all)) (room : HasRoom id_of before all new) where
+  abbrev HadBefore : List Event → Type 0
+  HadBefore h = Had id_of (replay before).bodies (all_made all) (replay h).bodies
 
-  tells_disk : (answer : Answer) → TellsLoad url loaded answer → ending_for loaded ≡ ending.OutsideDisk → TellsDisk answer
-  tells_disk Made told e = absurd told
-  tells_disk (Told text end) told e = told.1 ∙ e
-  tells_disk Words told e = absurd told
-  tells_disk NoJobFile told e = absurd told
-  tells_disk JobForm told e = absurd told
-  tells_disk AlreadyMade told e = absurd told
-  tells_disk NotMade told e = absurd told
-  tells_disk Damaged told e = absurd told
-  tells_disk OutsideDisk told e = refl
-  tells_disk OutsideSource told e = absurd told
-  tells_disk OutsideClock told e = absurd told
-  tells_disk Memory told e = absurd (told e)
+  abbrev IsNextAt : List Event → MeantJob → Type 0
+  IsNextAt h m = next_visit h m.job.url ≡ next_visit before m.job.url
 
--- a job file is read in one way
-pub one_job : (desk_at : FileAt) (jobs url path other_url other_path : List ℕ) → IsJobAt desk_at jobs url path → IsJobAt desk_at jobs other_url other_path → (url ≡ other_url) × (path ≡ other_path)
-one_job desk_at jobs url path other_url other_path a b =
-    let both : Some a.bytes ≡ Some b.bytes = sym a.there ∙ b.there in
-    let same : a.bytes ≡ b.bytes = cc in
-    one_reading b.bytes url path other_url other_path (subst (λ (t : List ℕ). IsJobFile t url path) same a.job).fields b.job.fields
+  -- The job is full, or memory ran out.
+  abbrev IsOneDone : MeantJob → Result Loaded LoadFault → Type 0
+  IsOneDone m outcome = (ending_for outcome ≡ ending.Memory) ⊎ ((ending_for outcome ≡ ending.Done) × (report_of m.job.url outcome ≡ full_line before m))
 
--- a right job file is refused for the desk or for memory alone
-pub refusal_of_job : (desk_at : FileAt) (jobs url path : List ℕ) → IsJobAt desk_at jobs url path → (answer : Answer) → IsJobRefusal answer → IsJobRefused desk_at jobs answer → (answer ≡ OutsideSource) ⊎ (answer ≡ Memory)
-refusal_of_job desk_at jobs url path job NoJobFile is refused = let both : Some job.bytes ≡ None = sym job.there ∙ refused in absurd (cc)
-refusal_of_job desk_at jobs url path job JobForm is refused =
-    let both : Some job.bytes ≡ Some refused.bytes = sym job.there ∙ refused.there in
-    let same : job.bytes ≡ refused.bytes = cc in
-    absurd (refused.none url path (subst (λ (t : List ℕ). IsJobFile t url path) same job.job))
-refusal_of_job desk_at jobs url path job OutsideSource is refused = inl refl
-refusal_of_job desk_at jobs url path job Memory is refused = inr refl
-refusal_of_job desk_at jobs url path job Made is refused = absurd is
-refusal_of_job desk_at jobs url path job (Told text end) is refused = absurd is
-refusal_of_job desk_at jobs url path job Words is refused = absurd is
-refusal_of_job desk_at jobs url path job AlreadyMade is refused = absurd is
-refusal_of_job desk_at jobs url path job NotMade is refused = absurd is
-refusal_of_job desk_at jobs url path job Damaged is refused = absurd is
-refusal_of_job desk_at jobs url path job OutsideDisk is refused = absurd is
-refusal_of_job desk_at jobs url path job OutsideClock is refused = absurd is
+  -- All are, or memory ran out.
+  abbrev pub AreDone : List LoadedJob → List MeantJob → Type 0
+  AreDone loads meant = (ending_of_all (outcomes loads) ≡ ending.Memory) ⊎ ((ending_of_all (outcomes loads) ≡ ending.Done) × (flat_map load_line loads ≡ full_lines before meant))
 
--- a job is not loaded where the clock failed or the archive was not opened
-pub unloaded_cases : (id_of : Kind → List ℕ → List ℕ) (tells : Type 0) (old new : Files) (answer : Answer) → IsUnloaded id_of tells old new answer → (answer ≡ OutsideClock) ⊎ (IsOpenRefusal answer × (tells → OpenEnds id_of old new answer))
-unloaded_cases id_of tells old new OutsideClock is = inl refl
-unloaded_cases id_of tells old new _ is = inr is
+  -- one job
+  module _ (m : MeantJob) (among : Contains all m) (meant : IsMeant id_of input_at m) (quiet : IsQuiet (failures m.job.path) (failures_now m.job.path)) where
+    abbrev Allowed : List Entry → Type 0
+    Allowed entries = IsOfJob id_of tells input_at failures failures_now m.job entries
 
--- Nothing stands against the load of this text.
-module _ (id_of : Kind → List ℕ → List ℕ) (text : List ℕ) (making : Making) (means : IsMeaning id_of None text making) (before : List Event) (old new : Files) (archive : IsArchive id_of old before) (one : HasOneBody id_of (replay before).bodies making) where
-  abbrev AllMade : List Entry → Type 0
-  AllMade entries = AllByRecursion (IsMadeBy id_of None text) entries
+    abbrev AllMade : List Entry → Type 0
+    AllMade entries = AllByRecursion (IsMadeBy id_of meant.text) entries
 
-  module _ (inputs_tell disks_tell : Type 0) (inputs : inputs_tell) (disks : disks_tell) (found : Option (List ℕ)) (failed : Type 0) (there : found ≡ Some text) (unfailed : failed → ⊥) (url : List ℕ) (room : HasRoom id_of url before making new) where
-    this_text : (t : List ℕ) → found ≡ Some t → t ≡ text
-    this_text t is = let both : Some t ≡ Some text = sym is ∙ there in cc
+    within : (o : MadeObject) → Contains m.making.objects o → Contains (all_made all) o
+    within o made = flat_contains (λ (k : MeantJob). k.making.objects) all m o among made
 
-    of_text : (entries : List Entry) → IsOfInput id_of inputs_tell found failed entries → AllMade entries
-    of_text entries is = let t = is inputs in subst (λ (x : List ℕ). AllByRecursion (IsMadeBy id_of None x) entries) (this_text t.0 t.1) t.2
+    this_text : (t : List ℕ) → input_at m.job.path ≡ Some t → t ≡ meant.text
+    this_text t is = let both : Some t ≡ Some meant.text = sym is ∙ meant.there in cc
 
-    -- the load's events are those of the text, behind this history
-    of_load : (date : ℕ) (h h' : List Event) → h ≡ before → AddsVisit (IsOfInput id_of inputs_tell found failed) loader url date h h' → AddsVisit AllMade loader url date before h'
-    of_load date h h' same adds = adds_visit (IsOfInput id_of inputs_tell found failed) AllMade loader url date before h' of_text
-        (subst (λ (g : List Event). AddsVisit (IsOfInput id_of inputs_tell found failed) loader url date g h') same adds)
+    of_text : (entries : List Entry) → Allowed entries → AllMade entries
+    of_text entries is = let t = is told in subst (λ (x : List ℕ). AllByRecursion (IsMadeBy id_of x) entries) (this_text t.0 t.1) t.2
 
-    module _ (date : ℕ) (h h' : List Event) (same : h ≡ before) (history : IsHistory id_of h') where
+    -- its load's events are those of the text
+    of_load : (date : ℕ) (h h' : List Event) → AddsVisit Allowed loader m.job.url date h h' → AddsVisit AllMade loader m.job.url date h h'
+    of_load date h h' adds = adds_visit Allowed AllMade loader m.job.url date h h' of_text adds
+
+    had_load : (date : ℕ) (h h' : List Event) → IsHistory id_of h' → AddsVisit Allowed loader m.job.url date h h' → HadBefore h → HadBefore h'
+    had_load date h h' history adds had =
+        had_after id_of meant.text m.making meant.means (all_made all) within (replay before).bodies loader m.job.url date h h' history (of_load date h h' adds) had
+
+    -- one load of it
+    module _ (date : ℕ) (earlier h h' later : List Event) (begins : h ≡ before ++ earlier) (archive : IsArchive id_of new (h' ++ later)) (had : HadBefore h') (next : IsNextAt h m) where
+      made_next : (e : Event) → AddsVisit Allowed loader m.job.url date h (h' ++ e ∷ []) → AddsVisit (AreMade m.making.objects) loader m.job.url date (before ++ earlier) (h' ++ e ∷ [])
+      made_next e adds =
+          subst (λ (g : List Event). AddsVisit (AreMade m.making.objects) loader m.job.url date g (h' ++ e ∷ [])) begins
+          (adds_visit AllMade (AreMade m.making.objects) loader m.job.url date h (h' ++ e ∷ []) (are_made id_of meant.text m.making meant.means) (of_load date h (h' ++ e ∷ []) adds))
+
       -- how its visit ends
-      end_done : AddsVisit (IsOfInput id_of inputs_tell found failed) loader url date h h' → (visit : ℕ) → visit ≡ next_visit h url → (end : End) → IsInputEnd id_of inputs_tell found failed (replay h').bodies end
-          → (answer : Answer) → TellsLoad url (Ok (record { visit = visit; end = end })) answer → Tells (full_line url before making) 0 answer
-      end_done adds visit number (Full snapshot) is answer told =
-          let t = is inputs in
-          let full = subst (λ (x : List ℕ). IsFull id_of None x (replay h').bodies snapshot) (this_text t.0 t.1) t.2 in
-          let snap : snapshot ≡ making.snapshot = one_snapshot id_of text making means full.objects snapshot full.means in
-          let next : visit ≡ next_visit before url = number ∙ ap (λ (g : List Event). next_visit g url) same in
-          let line : report_of url (Ok (record { visit = visit; end = Full snapshot })) ≡ full_line url before making = λ i. line_of url (next i) (codes "full") (core_text (snapshot_name (snap i))) in
-          subst (λ (l : List ℕ). Tells l 0 answer) line (tells_full url (Ok (record { visit = visit; end = Full snapshot })) answer told refl)
-      end_done adds visit number NotFound is answer told = let both : Some text ≡ None = sym there ∙ is inputs in absurd (cc)
-      end_done adds visit number (Failed (Stream at reason)) is answer told = let t = is.2 inputs in absurd (subst (IsLeftOut id_of None) (this_text t.0 t.1) t.2 making means)
-      end_done adds visit number (Failed (Collision name)) is answer told =
-          let t = is inputs in
-          absurd (none_collides id_of text making means url date before h' name history (of_load date h h' same adds) one (subst (λ (x : List ℕ). Collided id_of None x (replay h').bodies name) (this_text t.0 t.1) t.2))
-      end_done adds visit number (Failed Read) is answer told = absurd (unfailed is)
-
-      made_next : (e : Event) → AddsVisit (IsOfInput id_of inputs_tell found failed) loader url date h (h' ++ e ∷ []) → AddsVisit (AreMade making) loader url date before (h' ++ e ∷ [])
-      made_next e next = adds_visit AllMade (AreMade making) loader url date before (h' ++ e ∷ []) (are_made id_of text making means) (of_load date h (h' ++ e ∷ []) same next)
+      end_done : (visit : ℕ) → visit ≡ next_visit h m.job.url → (end : End) → IsInputEnd id_of tells (input_at m.job.path) m.job.head (HasFailed id_of tells input_at failures failures_now m.job) (replay h').bodies end
+          → (ending_of_end end ≡ ending.Done) × (report_of m.job.url (Ok (record { visit = visit; end = end })) ≡ full_line before m)
+      end_done visit number (Full snapshot) is =
+          let t = is told in
+          let full = subst (λ (x : List ℕ). IsFull id_of x (replay h').bodies snapshot) (this_text t.0 t.1) t.2 in
+          let snap : snapshot ≡ m.making.snapshot = one_snapshot id_of meant.text m.making meant.means full.objects snapshot full.means in
+          let count : visit ≡ next_visit before m.job.url = number ∙ next in
+          (refl, λ i. line_of m.job.url (count i) (codes "full") (core_text (snapshot_name (snap i))))
+      end_done visit number NotFound is = let both : Some meant.text ≡ None = sym meant.there ∙ is told in absurd (cc)
+      end_done visit number (Failed (Stream at reason)) is = let t = is.2 told in absurd (subst (IsLeftOut id_of) (this_text t.0 t.1) t.2 m.making meant.means)
+      end_done visit number (Failed (Collision name)) is =
+          let t = is told in
+          absurd (none_collides id_of meant.text m.making meant.means (all_made all) within (replay before).bodies (replay h').bodies name had one (subst (λ (x : List ℕ). Collided id_of x (replay h').bodies name) (this_text t.0 t.1) t.2))
+      end_done visit number (Failed Read) is = absurd (quiet is)
 
       -- why it stopped
-      stop_done : (visit : ℕ) (reason : LoadWhy) → StopsFor id_of inputs_tell found failed url date h h' reason → StopsDisks id_of (new 0) (new 1) h' reason
-          → (answer : Answer) → TellsLoad url (Err (record { visit = visit; why = reason })) answer → (TellsDisk answer → ⊥) → Tells (full_line url before making) 0 answer
-      stop_done visit (why.Ended status) stops left answer told no_disk = absurd stops
-      stop_done visit why.DiskFault stops left answer told no_disk = absurd (no_disk (tells_disk url (Err (record { visit = visit; why = why.DiskFault })) answer told refl))
-      stop_done visit why.Wounded stops left answer told no_disk = absurd stops
-      stop_done visit (why.Limit which number) stops left answer told no_disk =
-          absurd (room.room date h' stops.event (record { stand = left.stand; history = history }) (made_next stops.event stops.next) stops.may which number stops.passes)
-      stop_done visit why.Memory stops left answer told no_disk = inl (tells_memory url (Err (record { visit = visit; why = why.Memory })) answer told refl)
+      stop_done : (reason : LoadWhy) → StopsFor id_of tells (input_at m.job.path) m.job.head (HasFailed id_of tells input_at failures failures_now m.job) m.job.url date h h' reason
+          → (ending_of_why reason ≡ ending.OutsideDisk → ⊥) → ending_of_why reason ≡ ending.Memory
+      stop_done (why.Ended status) stops apart = absurd stops
+      stop_done why.DiskFault stops apart = absurd (apart refl)
+      stop_done why.Wounded stops apart = absurd (apart refl)
+      stop_done (why.Limit which number) stops apart =
+          absurd (room.room m date earlier h' later stops.event among archive (made_next stops.event stops.next) stops.may which number stops.passes)
+      stop_done why.Memory stops apart = refl
 
-    loaded_done : (date : ℕ) (loaded : Result Loaded LoadFault) → IsLoad id_of inputs_tell found failed disks_tell old new url date loaded → (answer : Answer) → TellsLoad url loaded answer → (TellsDisk answer → ⊥) → Tells (full_line url before making) 0 answer
-    loaded_done date (Ok l) load answer told no_disk =
-        end_done date load.before load.after (one_archive id_of old load.before before (load.archive disks) archive) load.history load.nothing_else l.visit load.line.number l.end load.line.end answer told
-    loaded_done date (Err f) load answer told no_disk =
-        stop_done date load.before load.after (one_archive id_of old load.before before (load.archive disks) archive) load.history f.visit f.why load.line.stops (load.disks disks) answer told no_disk
+      one_done : (outcome : Result Loaded LoadFault) → IsOutcome id_of tells (input_at m.job.path) m.job.head (HasFailed id_of tells input_at failures failures_now m.job) m.job.url date h h' outcome
+          → (ending_for outcome ≡ ending.OutsideDisk → ⊥) → IsOneDone m outcome
+      one_done (Ok l) line apart = inr (end_done l.visit line.number l.end line.end)
+      one_done (Err f) line apart = inl (stop_done f.why line.stops apart)
 
-    unloaded_done : (answer : Answer) → IsUnloaded id_of disks_tell old new answer → (TellsDisk answer → ⊥) → (answer ≡ OutsideClock → ⊥) → Tells (full_line url before making) 0 answer
-    unloaded_done answer is no_disk no_clock =
-        ⊎_elim
-        (λ (clock : answer ≡ OutsideClock). absurd (no_clock clock))
-        (λ (refused : IsOpenRefusal answer × (disks_tell → OpenEnds id_of old new answer)).
-        ⊎_elim (λ (disk : answer ≡ OutsideDisk). absurd (no_disk (subst TellsDisk (sym disk) refl))) (λ (memory : answer ≡ Memory). inl (ap status_of memory)) (opening_of_archive id_of old new before archive answer refused.0 (refused.1 disks)))
-        (unloaded_cases id_of disks_tell old new answer is)
+  -- a load leaves the next visits of the jobs behind it
+  others_next : (P : List Entry → Type 0) (origin : List ℕ) (date : ℕ) (h h' : List Event) → IsHistory id_of h' → AddsVisit P loader origin date h h' → (ms : List MeantJob)
+      → (Contains (origins (jobs_of ms)) origin → ⊥) → AllByRecursion (IsNextAt h) ms → AllByRecursion (IsNextAt h') ms
+  others_next P origin date h h' history adds [] apart next = tt
+  others_next P origin date h h' history adds (m ∷ ms) apart next =
+      (next_stays P loader origin m.job.url (λ e. apart (subst (λ (u : List ℕ). Contains (m.job.url ∷ origins (jobs_of ms)) u) e (contains_first m.job.url (origins (jobs_of ms))))) id_of date h h' history adds ∙ next.0,
+      others_next P origin date h h' history adds ms (λ there. apart (contains_more m.job.url (origins (jobs_of ms)) origin there)) next.1)
 
--- a run of `load`
-module _ (id_of : Kind → List ℕ → List ℕ) (inputs_tell : Type 0) (input_at : FileAt) (failures failures_now : List ℕ → ℕ) (desk_at : FileAt) (time_tells : Type 0) (time : ℕ) (disks_tell : Type 0) (inputs : inputs_tell) (disks : disks_tell)
-    (jobs url path text : List ℕ) (before : List Event) (making : Making) (old new : Files) (archive : IsArchive id_of old before) (job : IsJobAt desk_at jobs url path) (there : input_at path ≡ Some text) (means : IsMeaning id_of None text making)
-    (one : HasOneBody id_of (replay before).bodies making) (room : HasRoom id_of url before making new) (unfailed : IsQuiet (failures path) (failures_now path)) where
-  abbrev Outcome : Answer → List ℕ → List ℕ → Type 0
-  Outcome answer u p = IsLoadedJob id_of inputs_tell (input_at p) (Rose (failures p) (failures_now p)) time_tells time disks_tell old new u answer ⊎ IsUnloaded id_of disks_tell old new answer
+  -- one done and the others
+  both_done : (l : LoadedJob) (loads : List LoadedJob) (m : MeantJob) (ms : List MeantJob) → l.job ≡ m.job → IsOneDone m l.outcome → AreDone loads ms → AreDone (l ∷ loads) (m ∷ ms)
+  both_done l loads m ms same (inl memory) (inl others) = inl (ap (λ (x : Ending). worse x (ending_of_all (outcomes loads))) memory ∙ ap (worse ending.Memory) others)
+  both_done l loads m ms same (inl memory) (inr others) = inl (ap (λ (x : Ending). worse x (ending_of_all (outcomes loads))) memory ∙ ap (worse ending.Memory) others.0)
+  both_done l loads m ms same (inr done) (inl others) = inl (ap (λ (x : Ending). worse x (ending_of_all (outcomes loads))) done.0 ∙ others)
+  both_done l loads m ms same (inr done) (inr others) =
+      inr (ap (λ (x : Ending). worse x (ending_of_all (outcomes loads))) done.0 ∙ others.0,
+      ap (λ (t : List ℕ). t ++ flat_map load_line loads) (ap (λ (j : Job). report_of j.url l.outcome) same ∙ done.1) ∙ ap (λ (t : List ℕ). full_line before m ++ t) others.1)
 
-  outcome_done : (answer : Answer) → Outcome answer url path → (TellsDisk answer → ⊥) → (answer ≡ OutsideClock → ⊥) → Tells (full_line url before making) 0 answer
-  outcome_done answer (inl told) no_disk no_clock =
-      loaded_done id_of text making means before old new archive one inputs_tell disks_tell inputs disks (input_at path) (Rose (failures path) (failures_now path)) there unfailed url room told.date told.loaded told.load answer told.told no_disk
-  outcome_done answer (inr none) no_disk no_clock =
-      unloaded_done id_of text making means before old new archive one inputs_tell disks_tell inputs disks (input_at path) (Rose (failures path) (failures_now path)) there unfailed url room answer none no_disk no_clock
-
-  pub load_done : (answer : Answer) → LoadEnds id_of inputs_tell input_at failures failures_now desk_at time_tells time disks_tell jobs old new answer → (TellsDisk answer → ⊥) → (answer ≡ OutsideSource → ⊥) → (answer ≡ OutsideClock → ⊥)
-      → Tells (full_line url before making) 0 answer
-  load_done answer (inl run) no_disk no_source no_clock =
-      let same = one_job desk_at jobs run.url run.path url path (run.job inputs) job in
-      outcome_done answer (subst (λ (u : List ℕ). Outcome answer u path) same.0 (subst (λ (p : List ℕ). Outcome answer run.url p) same.1 run.outcome)) no_disk no_clock
-  load_done answer (inr none) no_disk no_source no_clock =
-      ⊎_elim (λ (source : answer ≡ OutsideSource). absurd (no_source source)) (λ (memory : answer ≡ Memory). inl (ap status_of memory)) (refusal_of_job desk_at jobs url path job answer none.one_of (none.refused inputs))
+  -- jobs loaded one after the other
+  pub all_done : (loads : List LoadedJob) (meant : List MeantJob) (earlier h after : List Event) → map (λ l. l.job) loads ≡ jobs_of meant → AllByRecursion (Contains all) meant
+      → AreMeant id_of input_at meant → AreQuiet failures failures_now meant → AreDistinct (origins (jobs_of meant)) → AllByRecursion (IsNextAt h) meant → HadBefore h → h ≡ before ++ earlier
+      → IsHistory id_of after → IsArchive id_of new after → AreJobLoads id_of tells input_at failures failures_now loads h after → (ending_of_all (outcomes loads) ≡ ending.OutsideDisk → ⊥) → AreDone loads meant
+  all_done [] [] earlier h after jobs among are quiet distinct next had begins history archive each apart = inr (refl, refl)
+  all_done [] (m ∷ ms) earlier h after jobs among are quiet distinct next had begins history archive each apart = let e : [] ≡ m.job ∷ jobs_of ms = jobs in absurd (cc)
+  all_done (l ∷ loads) [] earlier h after jobs among are quiet distinct next had begins history archive each apart = let e : l.job ∷ map (λ k. k.job) loads ≡ [] = jobs in absurd (cc)
+  all_done (l ∷ loads) (m ∷ ms) earlier h after jobs among are quiet distinct next had begins history archive each apart =
+      let both : l.job ∷ map (λ k. k.job) loads ≡ m.job ∷ jobs_of ms = jobs in
+      let same : l.job ≡ m.job = cc in
+      let others : map (λ k. k.job) loads ≡ jobs_of ms = cc in
+      let between = each.0 in
+      let rest = loads_behind id_of tells input_at failures failures_now loads between after each.2 in
+      let here : IsHistory id_of between = (fronts id_of empty_archive between rest.0 (subst (IsHistory id_of) rest.1 history)).0 in
+      let adds = subst (λ (j : Job). AddsVisit (IsOfJob id_of tells input_at failures failures_now j) loader j.url l.date h between) same each.1.nothing_else in
+      let line = subst (λ (j : Job). IsOutcome id_of tells (input_at j.path) j.head (HasFailed id_of tells input_at failures failures_now j) j.url l.date h between l.outcome) same each.1.line in
+      let had_here = had_load m among.0 are.0 quiet.0 l.date h between here adds had in
+      both_done l loads m ms same
+      (one_done m among.0 are.0 quiet.0 l.date earlier h between rest.0 begins (subst (IsArchive id_of new) rest.1 archive) had_here next.0 l.outcome line (first_apart l.outcome (outcomes loads) apart))
+      (all_done loads ms (earlier ++ adds.more) between after others among.1 are.1 quiet.1 distinct.1 (others_next (IsOfJob id_of tells input_at failures failures_now m.job) m.job.url l.date h between here adds ms distinct.0 next.1) had_here
+      (adds.behind ∙ ap (λ (g : List Event). g ++ adds.more) begins ∙ append_assoc before earlier adds.more) history archive each.2 (others_apart l.outcome (outcomes loads) apart))

@@ -4,13 +4,14 @@ use Rattle.std.specs.Prelude.{replicate}
 use Rattle.std.proofs.lemmas.List.{append-nil, length-replicate}
 use Rattle.swh_base.specs.Limits.{body_limit}
 use Rattle.swh_base.specs.declared.kind.Kind.{Kind}
-use Rattle.swh_program.specs.Answers.{status_of, refusal}
+use Rattle.swh_program.specs.Answers.{status_of}
 use Rattle.swh_program.specs.Causes.{IsExactly}
+use Rattle.swh_program.specs.Refusal.{refusal}
 use Rattle.swh_program.specs.Identify.{name_of, name_line, TellsLine, IsBody, IsTooLong, IsRefused, HasNoBody, TellsFile, IsIdentifyAnswer, IdentifyEnds}
 use Rattle.swh_program.specs.declared.answer.Ending.{Ending}
 use Rattle.swh_program.specs.declared.answer.Ending.TheVariants as ending
 use Rattle.swh_program.specs.declared.answer.Answer.{Answer}
-use Rattle.swh_program.specs.declared.answer.Answer.TheVariants.{Made, Told, Words, NoJobFile, JobForm, AlreadyMade, NotMade, Damaged, OutsideDisk, OutsideSource, OutsideClock, Memory}
+use Rattle.swh_program.specs.declared.answer.Answer.TheVariants.{Made, Told, Words, NoJobFile, BadJob, AlreadyMade, NotMade, Damaged, OutsideDisk, OutsideSource, OutsideClock, Memory}
 use Rattle.swh_program.proofs.Completes.{Tells}
 
 module _ (id_of : Kind → List ℕ → List ℕ) (kind : Kind) where
@@ -20,7 +21,7 @@ module _ (id_of : Kind → List ℕ → List ℕ) (kind : Kind) where
   told_file found line end (Told text e) tells told = subst (λ (f : Ending). TellsFile id_of kind found f text) (sym told.1) (subst (λ (t : List ℕ). TellsFile id_of kind found end t) (sym told.0) tells)
   told_file found line end Words tells told = absurd told
   told_file found line end NoJobFile tells told = absurd told
-  told_file found line end JobForm tells told = absurd told
+  told_file found line end (BadJob text) tells told = absurd told
   told_file found line end AlreadyMade tells told = absurd told
   told_file found line end NotMade tells told = absurd told
   told_file found line end Damaged tells told = absurd told
@@ -35,7 +36,7 @@ module _ (id_of : Kind → List ℕ → List ℕ) (kind : Kind) where
   ends_one found (Told text end) ends = (found, ends)
   ends_one found Words ends = ends
   ends_one found NoJobFile ends = ends
-  ends_one found JobForm ends = ends
+  ends_one found (BadJob text) ends = ends
   ends_one found AlreadyMade ends = ends
   ends_one found NotMade ends = ends
   ends_one found Damaged ends = ends
@@ -59,7 +60,7 @@ module _ (id_of : Kind → List ℕ → List ℕ) (kind : Kind) where
   identify_low (Told text ending.Memory) is e = omega (arith, e)
   identify_low Words is e = is
   identify_low NoJobFile is e = is
-  identify_low JobForm is e = is
+  identify_low (BadJob text) is e = is
   identify_low AlreadyMade is e = is
   identify_low NotMade is e = is
   identify_low Damaged is e = is
@@ -76,7 +77,7 @@ module _ (id_of : Kind → List ℕ → List ℕ) (kind : Kind) where
   identify_archive (Told text ending.Memory) is e = omega (arith, e)
   identify_archive Words is e = is
   identify_archive NoJobFile is e = is
-  identify_archive JobForm is e = is
+  identify_archive (BadJob text) is e = is
   identify_archive AlreadyMade is e = is
   identify_archive NotMade is e = is
   identify_archive Damaged is e = is
@@ -103,7 +104,7 @@ module _ (id_of : Kind → List ℕ → List ℕ) (kind : Kind) where
   identify_exactly found (Told text end) ends = told_exactly found text end ends
   identify_exactly found Words ends = absurd ends
   identify_exactly found NoJobFile ends = absurd ends
-  identify_exactly found JobForm ends = absurd ends
+  identify_exactly found (BadJob text) ends = absurd ends
   identify_exactly found AlreadyMade ends = absurd ends
   identify_exactly found NotMade ends = absurd ends
   identify_exactly found Damaged ends = absurd ends
@@ -125,7 +126,7 @@ module _ (id_of : Kind → List ℕ → List ℕ) (kind : Kind) where
     body_named (Told text end) no_source ends = told_name text end ends
     body_named Words no_source ends = absurd ends
     body_named NoJobFile no_source ends = absurd ends
-    body_named JobForm no_source ends = absurd ends
+    body_named (BadJob text) no_source ends = absurd ends
     body_named AlreadyMade no_source ends = absurd ends
     body_named NotMade no_source ends = absurd ends
     body_named Damaged no_source ends = absurd ends

@@ -11,7 +11,7 @@ use Rattle.swh_program.specs.Load.{TellsDisk}
 use Rattle.swh_program.specs.declared.answer.Ending.{Ending}
 use Rattle.swh_program.specs.declared.answer.Ending.TheVariants as ending
 use Rattle.swh_program.specs.declared.answer.Answer.{Answer}
-use Rattle.swh_program.specs.declared.answer.Answer.TheVariants.{Made, Told, Words, NoJobFile, JobForm, AlreadyMade, NotMade, Damaged, OutsideDisk, OutsideSource, OutsideClock, Memory}
+use Rattle.swh_program.specs.declared.answer.Answer.TheVariants.{Made, Told, Words, NoJobFile, BadJob, AlreadyMade, NotMade, Damaged, OutsideDisk, OutsideSource, OutsideClock, Memory}
 
 -- what an answer comes to, the run does
 module _ (answer : Answer) (tells : Type 0) (before now : List ℕ) (faults_before faults_now status : ℕ) (told : IsToldOf answer tells before now faults_before faults_now status) where
@@ -38,7 +38,7 @@ named_part (Told text ending.OutsideDisk) is = inl refl
 named_part (Told text ending.Memory) is = absurd (omega (arith, is))
 named_part Words is = absurd (omega (arith, is))
 named_part NoJobFile is = absurd (omega (arith, is))
-named_part JobForm is = absurd (omega (arith, is))
+named_part (BadJob text) is = absurd (omega (arith, is))
 named_part AlreadyMade is = absurd (omega (arith, is))
 named_part NotMade is = absurd (omega (arith, is))
 named_part Damaged is = absurd (omega (arith, is))

@@ -2,13 +2,11 @@
 use Rattle.std.specs.Prelude.{◌≡◌, ◌⊎◌, ◌++◌, ◌∷◌, [], ℕ, List, codes}
 use Rattle.swh_outside.specs.Sink.{TakesSome}
 use Rattle.swh_outside.specs.Faults.{Rose}
+use Rattle.swh_program.specs.Refusal.{refusal}
 use Rattle.swh_program.specs.declared.answer.Ending.{Ending}
 use Rattle.swh_program.specs.declared.answer.Ending.TheVariants as ending
 use Rattle.swh_program.specs.declared.answer.Answer.{Answer}
-use Rattle.swh_program.specs.declared.answer.Answer.TheVariants.{Made, Told, Words, NoJobFile, JobForm, AlreadyMade, NotMade, Damaged, OutsideDisk, OutsideSource, OutsideClock, Memory}
-
-abbrev pub refusal : List ℕ → List ℕ
-refusal text = codes "swharc: " ++ (text ++ 10 ∷ [])
+use Rattle.swh_program.specs.declared.answer.Answer.TheVariants.{Made, Told, Words, NoJobFile, BadJob, AlreadyMade, NotMade, Damaged, OutsideDisk, OutsideSource, OutsideClock, Memory}
 
 -- what is printed behind lines or replies
 abbrev pub last_line_for : Ending → List ℕ
@@ -22,7 +20,7 @@ last_line_of Made = codes "made" ++ 10 ∷ []
 last_line_of (Told text end) = last_line_for end
 last_line_of Words = refusal (codes "words")
 last_line_of NoJobFile = refusal (codes "no job file")
-last_line_of JobForm = refusal (codes "job line 1: form")
+last_line_of (BadJob text) = []
 last_line_of AlreadyMade = refusal (codes "made")
 last_line_of NotMade = refusal (codes "not made")
 last_line_of Damaged = refusal (codes "damaged 0 0")
@@ -34,6 +32,7 @@ last_line_of Memory = refusal (codes "memory")
 -- lines or replies
 abbrev pub told_by : Answer → List ℕ
 told_by (Told text end) = text
+told_by (BadJob text) = text
 told_by _ = []
 
 -- all bytes that are printed
@@ -51,7 +50,7 @@ status_of Made = 0
 status_of (Told text end) = status_for end
 status_of Words = 2
 status_of NoJobFile = 2
-status_of JobForm = 2
+status_of (BadJob text) = 2
 status_of AlreadyMade = 3
 status_of NotMade = 3
 status_of Damaged = 3

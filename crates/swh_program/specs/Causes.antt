@@ -1,5 +1,6 @@
 -- Which status comes of what.
-use Rattle.std.specs.Prelude.{◌≡◌, ◌≢◌, ◌⊎◌, ◌++◌, ℕ, Option, Some, None, Result, Ok, Err, List}
+use Rattle.std.specs.Prelude.{◌≡◌, ◌≢◌, ◌⊎◌, ◌++◌, ℕ, Option, Some, None, Result, Ok, Err, List, Contains, map, flat_map}
+use Rattle.std.specs.List.{AllByRecursion}
 use Rattle.swh_base.specs.declared.kind.Kind.{Kind}
 use Rattle.swh_base.specs.declared.name.Name.{Name}
 use Rattle.swh_outside.specs.Faults.{Rose}
@@ -7,7 +8,8 @@ use Rattle.swh_outside.specs.Files.{Files}
 use Rattle.swh_segment.specs.Making.{IsMade, IsNotMade}
 use Rattle.swh_model.specs.Archive.{Bodies}
 use Rattle.swh_model.specs.Meaning.{Making, IsMeaning, IsLeftOut}
-use Rattle.swh_loader.specs.Report.{report_of}
+use Rattle.swh_jobs.specs.Job.{Job}
+use Rattle.swh_jobs.specs.declared.fault.JobWhy.{JobWhy}
 use Rattle.swh_loader.specs.declared.end.End.{End}
 use Rattle.swh_loader.specs.declared.end.End.TheVariants.{Full, NotFound, Failed}
 use Rattle.swh_loader.specs.declared.end.Loaded.{Loaded}
@@ -16,8 +18,8 @@ use Rattle.swh_loader.specs.declared.fault.LoadWhy.TheVariants as why
 use Rattle.swh_loader.specs.declared.fault.LoadFault.{LoadFault}
 use Rattle.swh_program.specs.Archives.{Folders, archive_at}
 use Rattle.swh_program.specs.Complete.{HasBody}
-use Rattle.swh_program.specs.Jobs.{FileAt, IsJobAt, IsNoJobAt}
-use Rattle.swh_program.specs.Load.{TellsDisk, IsLoad}
+use Rattle.swh_program.specs.Jobs.{FileAt, AreJobsAt, IsBadAt}
+use Rattle.swh_program.specs.Load.{LoadedJob, outcomes, load_line, TellsDisk, IsLoad}
 use Rattle.swh_program.specs.Opening.{IsDamaged}
 use Rattle.swh_program.specs.Words.{Wanted, ToInit, ToLoad, ToAsk, ToIdentify}
 use Rattle.swh_program.specs.declared.answer.Answer.{Answer}
@@ -40,21 +42,22 @@ IsDeskTold tells (ToLoad dir jobs) = tells
 IsDeskTold tells (ToAsk dir path) = Unit {0}
 IsDeskTold tells (ToIdentify kind path) = tells
 
--- The command reads a job file which is not there, or has no job.
+-- The command reads a job file which is not there, or has a line that breaks.
 abbrev pub HasNoJob : FileAt → Wanted → Type 0
 HasNoJob desk_at (ToInit dir) = ⊥
-HasNoJob desk_at (ToLoad dir jobs) = (desk_at jobs ≡ None) ⊎ IsNoJobAt desk_at jobs
+HasNoJob desk_at (ToLoad dir jobs) = (desk_at jobs ≡ None) ⊎ ((line : ℕ) × (why : JobWhy) × IsBadAt desk_at jobs line why)
 HasNoJob desk_at (ToAsk dir path) = ⊥
 HasNoJob desk_at (ToIdentify kind path) = ⊥
 
--- The archive is made already, for `init`; for the others it is not made, or damaged, and a job that is read is right.
+-- The archive is made already, for `init`; for the others it is not made, or damaged, and a job file that is read is
+-- right.
 module _ (id_of : Kind → List ℕ → List ℕ) where
   abbrev pub IsUnusable : Files → Type 0
   IsUnusable files = IsNotMade (files 0).seen ⊎ IsDamaged id_of files
 
   abbrev pub HasOtherArchive : Folders → FileAt → Wanted → Type 0
   HasOtherArchive folders desk_at (ToInit dir) = IsMade (archive_at folders dir 0).seen
-  HasOtherArchive folders desk_at (ToLoad dir jobs) = ((url path : List ℕ) × IsJobAt desk_at jobs url path) × IsUnusable (archive_at folders dir)
+  HasOtherArchive folders desk_at (ToLoad dir jobs) = ((list : List Job) × AreJobsAt desk_at jobs list) × IsUnusable (archive_at folders dir)
   HasOtherArchive folders desk_at (ToAsk dir path) = IsUnusable (archive_at folders dir)
   HasOtherArchive folders desk_at (ToIdentify kind path) = ⊥
 
@@ -87,34 +90,37 @@ abbrev pub IsShortLine : Result Loaded LoadFault → Type 0
 IsShortLine (Ok loaded) = IsShortEnd loaded.end
 IsShortLine (Err fault) = IsOtherStop fault.why
 
+-- One of these lines is short.
+pub record HasShortLine (ended : List (Result Loaded LoadFault)) : Type 0 where
+  pub outcome : Result Loaded LoadFault
+  pub among : Contains ended outcome
+  pub short : IsShortLine outcome
+
 module _ (id_of : Kind → List ℕ → List ℕ) (inputs_tell : Type 0) (input_at : FileAt) (failures failures_now : List ℕ → ℕ) (desk_at : FileAt) (disks_tell : Type 0) where
-  -- The job of the job file was loaded, its line was printed, and the status is by the line.
-  pub record IsByLine (jobs : List ℕ) (old new : Files) (tells : Type 0) (before now : List ℕ) (status : ℕ) : Type 0 where
-    pub url : List ℕ
-    pub path : List ℕ
-    pub job : inputs_tell → IsJobAt desk_at jobs url path
-    pub date : ℕ
-    pub loaded : Result Loaded LoadFault
-    pub load : IsLoad id_of inputs_tell (input_at path) (Rose (failures path) (failures_now path)) disks_tell old new url date loaded
-    pub printed : tells → now ≡ before ++ report_of url loaded
-    pub full : IsExactly 0 (IsFullLine loaded) status
-    pub short : IsExactly 1 (IsShortLine loaded) status
+  -- The jobs of the job file were loaded, their lines were printed, and the status is by the lines.
+  pub record IsByLines (path : List ℕ) (old new : Files) (tells : Type 0) (before now : List ℕ) (status : ℕ) : Type 0 where
+    pub loads : List LoadedJob
+    pub jobs : inputs_tell → AreJobsAt desk_at path (map (λ l. l.job) loads)
+    pub load : IsLoad id_of inputs_tell input_at failures failures_now disks_tell old new loads
+    pub printed : tells → now ≡ before ++ flat_map load_line loads
+    pub full : IsExactly 0 (AllByRecursion IsFullLine (outcomes loads)) status
+    pub short : IsExactly 1 (HasShortLine (outcomes loads)) status
 
 -- Under some name this input would put a second body.
 pub record HasTwoBodies (id_of : Kind → List ℕ → List ℕ) (bodies : Bodies) (text : List ℕ) : Type 0 where
   pub making : Making
-  pub means : IsMeaning id_of None text making
+  pub means : IsMeaning id_of text making
   pub name : Name
   pub a : List ℕ
   pub b : List ℕ
-  pub has_a : HasBody id_of bodies making name a
-  pub has_b : HasBody id_of bodies making name b
+  pub has_a : HasBody id_of bodies making.objects name a
+  pub has_b : HasBody id_of bodies making.objects name b
   pub apart : a ≢ b
 
 -- The input is not there, means nothing, or would put a second body under some name.
 abbrev pub IsBadInput : (Kind → List ℕ → List ℕ) → Bodies → Option (List ℕ) → Type 0
 IsBadInput id_of bodies None = Unit {0}
-IsBadInput id_of bodies (Some text) = IsLeftOut id_of None text ⊎ HasTwoBodies id_of bodies text
+IsBadInput id_of bodies (Some text) = IsLeftOut id_of text ⊎ HasTwoBodies id_of bodies text
 
 -- The part that an answer names has failed in this call.
 pub record NamesFailed (disk_faults disk_faults_now desk_faults desk_faults_now clock_faults clock_faults_now : ℕ) (answer : Answer) : Type 0 where

@@ -1,5 +1,5 @@
--- When a job has to be full, and its line.
-use Rattle.std.specs.Prelude.{◌≡◌, ◌⊎◌, ℕ, Some, List, [], ◌∷◌, ◌++◌, Contains, codes}
+-- When jobs have to be full, and their lines.
+use Rattle.std.specs.Prelude.{◌≡◌, ◌⊎◌, ℕ, Some, List, [], ◌∷◌, ◌++◌, Contains, map, flat_map, codes}
 use Rattle.std.specs.List.{AllByRecursion}
 use Rattle.swh_base.specs.declared.kind.Kind.{Kind}
 use Rattle.swh_base.specs.declared.name.Name.{Name}
@@ -7,38 +7,71 @@ use Rattle.swh_base.specs.declared.entry.Entry.{Entry}
 use Rattle.swh_base.specs.declared.visit.Which.{Which}
 use Rattle.swh_outside.specs.Files.{Files}
 use Rattle.swh_swhid.specs.Core.{core_text}
+use Rattle.swh_jobs.specs.Job.{Job}
 use Rattle.swh_model.specs.declared.event.Event.{Event}
 use Rattle.swh_model.specs.Answer.{line_of}
 use Rattle.swh_model.specs.Archive.{Bodies, body_of}
 use Rattle.swh_model.specs.Judge.{FilePasses}
-use Rattle.swh_model.specs.Meaning.{Making}
+use Rattle.swh_model.specs.Meaning.{Made, Making, IsMeaning}
 use Rattle.swh_model.specs.Step.{May, replay, snapshot_name}
 use Rattle.swh_loader.specs.Leaving.{AddsVisit, next_visit}
+use Rattle.swh_program.specs.Jobs.{FileAt}
 use Rattle.swh_program.specs.Load.{loader}
 use Rattle.swh_program.specs.Opening.{IsArchive}
+use Rattle.swh_program.specs.Run.{IsQuiet}
+
+-- a job and what its input makes
+pub record MeantJob : Type 0 where
+  pub job : Job
+  pub making : Making
+
+abbrev pub jobs_of : List MeantJob → List Job
+jobs_of meant = map (λ m. m.job) meant
 
 -- the line of a full job: its origin's next visit, and the snapshot that its input makes
-abbrev pub full_line : List ℕ → List Event → Making → List ℕ
-full_line url before making = line_of url (next_visit before url) (codes "full") (core_text (snapshot_name making.snapshot))
+abbrev pub full_line : List Event → MeantJob → List ℕ
+full_line before m = line_of m.job.url (next_visit before m.job.url) (codes "full") (core_text (snapshot_name m.making.snapshot))
 
--- Each of these is an object that the input makes.
-abbrev pub AreMade : Making → List Entry → Type 0
-AreMade making entries = AllByRecursion (λ e. Contains making.objects (record { kind = e.name.kind; body = e.body })) entries
+abbrev pub full_lines : List Event → List MeantJob → List ℕ
+full_lines before meant = flat_map (full_line before) meant
+
+-- all that the inputs make
+abbrev pub all_made : List MeantJob → List Made
+all_made meant = flat_map (λ m. m.making.objects) meant
+
+-- Each of these is among the objects that are made.
+abbrev pub AreMade : List Made → List Entry → Type 0
+AreMade objects entries = AllByRecursion (λ e. Contains objects (record { kind = e.name.kind; body = e.body })) entries
 
 module _ (id_of : Kind → List ℕ → List ℕ) where
-  -- The input makes this body, under this name.
-  abbrev pub MakesBody : Making → Name → List ℕ → Type 0
-  MakesBody making name body = Contains making.objects (record { kind = name.kind; body = body }) × (name.id ≡ id_of name.kind body)
+  -- The job's input is there, and means this.
+  pub record IsMeant (input_at : FileAt) (m : MeantJob) : Type 0 where
+    pub text : List ℕ
+    pub there : input_at m.job.path ≡ Some text
+    pub means : IsMeaning id_of text m.making
 
-  -- The body is held under this name, or the input makes it.
-  abbrev pub HasBody : Bodies → Making → Name → List ℕ → Type 0
-  HasBody bodies making name body = (body_of bodies name ≡ Some body) ⊎ MakesBody making name body
+  abbrev pub AreMeant : FileAt → List MeantJob → Type 0
+  AreMeant input_at meant = AllByRecursion (IsMeant input_at) meant
 
-  -- No name has two bodies among those that are held and those that the input makes.
-  pub record HasOneBody (bodies : Bodies) (making : Making) : Type 0 where
-    pub one : (name : Name) (a b : List ℕ) → HasBody bodies making name a → HasBody bodies making name b → a ≡ b
+  -- This body is made, under this name.
+  abbrev pub MakesBody : List Made → Name → List ℕ → Type 0
+  MakesBody objects name body = Contains objects (record { kind = name.kind; body = body }) × (name.id ≡ id_of name.kind body)
 
-  -- The files, as they stand afterwards, have room for each event that may come next in a load of what the input makes.
-  pub record HasRoom (url : List ℕ) (before : List Event) (making : Making) (files : Files) : Type 0 where
-    pub room : (date : ℕ) (after : List Event) (event : Event) → IsArchive id_of files after → AddsVisit (AreMade making) loader url date before (after ++ event ∷ []) → May id_of (replay after) event
+  -- The body is held under this name, or it is made.
+  abbrev pub HasBody : Bodies → List Made → Name → List ℕ → Type 0
+  HasBody bodies objects name body = (body_of bodies name ≡ Some body) ⊎ MakesBody objects name body
+
+  -- No name has two bodies among those that are held and those that are made.
+  pub record HasOneBody (bodies : Bodies) (objects : List Made) : Type 0 where
+    pub one : (name : Name) (a b : List ℕ) → HasBody bodies objects name a → HasBody bodies objects name b → a ≡ b
+
+  -- There is room for each event that may come next in a load, begun behind the history at entry, of what an input
+  -- makes: behind the history that the files stand for afterwards, and behind each front of it.
+  pub record HasRoom (before : List Event) (meant : List MeantJob) (files : Files) : Type 0 where
+    pub room : (m : MeantJob) (date : ℕ) (earlier after later : List Event) (event : Event) → Contains meant m → IsArchive id_of files (after ++ later)
+        → AddsVisit (AreMade m.making.objects) loader m.job.url date (before ++ earlier) (after ++ event ∷ []) → May id_of (replay after) event
         → (which : Which) (number : ℕ) → FilePasses after event.what which number → ⊥
+
+-- None of the jobs' paths has failed.
+abbrev pub AreQuiet : (List ℕ → ℕ) → (List ℕ → ℕ) → List MeantJob → Type 0
+AreQuiet failures failures_now meant = AllByRecursion (λ m. IsQuiet (failures m.job.path) (failures_now m.job.path)) meant

@@ -7,7 +7,7 @@ use Rattle.swh_base.specs.Manifest.{IsWellFormed}
 use Rattle.swh_object.specs.Object.{IsBadBody}
 use Rattle.swh_outside.specs.Faults.{Rose}
 use Rattle.swh_swhid.specs.Core.{core_text}
-use Rattle.swh_program.specs.Answers.{refusal}
+use Rattle.swh_program.specs.Refusal.{refusal}
 use Rattle.swh_program.specs.Jobs.{FileAt}
 use Rattle.swh_program.specs.Words.{kind_letters}
 use Rattle.swh_program.specs.declared.answer.Ending.{Ending}

@@ -1,43 +1,70 @@
--- The job that a run is asked to load.
-use Rattle.std.specs.Prelude.{◌≡◌, ℕ, Option, Some, None, List}
-use Rattle.swh_program.specs.JobFile.{IsJobFile}
+-- The jobs that a run is asked to load.
+use Rattle.std.specs.Prelude.{◌≡◌, ◌⊎◌, ◌++◌, ℕ, Option, Some, None, List, codes, decimal}
+use Rattle.swh_jobs.specs.Job.{Job}
+use Rattle.swh_jobs.specs.JobFile.{IsJobFile, IsFault}
+use Rattle.swh_jobs.specs.declared.fault.JobWhy.{JobWhy}
+use Rattle.swh_jobs.specs.declared.fault.JobWhy.TheVariants.{Form, Origin, Limit}
+use Rattle.swh_program.specs.Refusal.{refusal}
 use Rattle.swh_program.specs.declared.answer.Answer.{Answer}
-use Rattle.swh_program.specs.declared.answer.Answer.TheVariants.{NoJobFile, JobForm, OutsideSource, Memory}
+use Rattle.swh_program.specs.declared.answer.Answer.TheVariants.{NoJobFile, BadJob, OutsideSource, Memory}
 
 -- what stands at each path
 abbrev pub FileAt : Type 0
 FileAt = List ℕ → Option (List ℕ)
 
--- The file at the path of the jobs is a job file of this origin, whose stream stands at this path.
-pub record IsJobAt (file_at : FileAt) (jobs url path : List ℕ) : Type 0 where
+-- The file at the path is a job file of these jobs.
+pub record AreJobsAt (file_at : FileAt) (path : List ℕ) (jobs : List Job) : Type 0 where
   pub bytes : List ℕ
-  pub there : file_at jobs ≡ Some bytes
-  pub job : IsJobFile bytes url path
+  pub there : file_at path ≡ Some bytes
+  pub are : IsJobFile bytes jobs
 
--- The file at the path is no job file.
-pub record IsNoJobAt (file_at : FileAt) (jobs : List ℕ) : Type 0 where
+-- The file at the path has this first line that breaks, and it breaks so.
+pub record IsBadAt (file_at : FileAt) (path : List ℕ) (line : ℕ) (why : JobWhy) : Type 0 where
   pub bytes : List ℕ
-  pub there : file_at jobs ≡ Some bytes
-  pub none : (url path : List ℕ) → IsJobFile bytes url path → ⊥
+  pub there : file_at path ≡ Some bytes
+  pub fault : IsFault bytes line why
+
+abbrev pub why_word : JobWhy → List ℕ
+why_word Form = codes "form"
+why_word Origin = codes "origin"
+why_word Limit = codes "limit"
+
+-- what is printed of the first line that breaks
+abbrev pub bad_job_line : ℕ → JobWhy → List ℕ
+bad_job_line line why = refusal (codes "job line " ++ (decimal line ++ (codes ": " ++ why_word why)))
+
+-- The text tells the first line of these bytes that breaks.
+pub record TellsFault (bytes text : List ℕ) : Type 0 where
+  pub line : ℕ
+  pub why : JobWhy
+  pub fault : IsFault bytes line why
+  pub text_is : text ≡ bad_job_line line why
+
+-- The text tells the first line of the file at the path that breaks.
+pub record TellsBadJob (file_at : FileAt) (path text : List ℕ) : Type 0 where
+  pub line : ℕ
+  pub why : JobWhy
+  pub bad : IsBadAt file_at path line why
+  pub text_is : text ≡ bad_job_line line why
 
 -- bytes are refused by one of these
-abbrev pub IsParseRefusal : Answer → Type 0
-IsParseRefusal JobForm = Unit {0}
-IsParseRefusal Memory = Unit {0}
-IsParseRefusal _ = ⊥
+abbrev pub IsReadRefusal : List ℕ → Answer → Type 0
+IsReadRefusal bytes (BadJob text) = TellsFault bytes text
+IsReadRefusal bytes Memory = Unit {0}
+IsReadRefusal bytes _ = ⊥
 
 -- a job file is refused by one of these
 abbrev pub IsJobRefusal : Answer → Type 0
 IsJobRefusal NoJobFile = Unit {0}
-IsJobRefusal JobForm = Unit {0}
+IsJobRefusal (BadJob text) = (bytes : List ℕ) × TellsFault bytes text
 IsJobRefusal OutsideSource = Unit {0}
 IsJobRefusal Memory = Unit {0}
 IsJobRefusal _ = ⊥
 
 -- why a job file is refused
 abbrev pub IsJobRefused : FileAt → List ℕ → Answer → Type 0
-IsJobRefused file_at jobs NoJobFile = file_at jobs ≡ None
-IsJobRefused file_at jobs JobForm = IsNoJobAt file_at jobs
-IsJobRefused file_at jobs OutsideSource = Unit {0}
-IsJobRefused file_at jobs Memory = Unit {0}
-IsJobRefused file_at jobs _ = ⊥
+IsJobRefused file_at path NoJobFile = file_at path ≡ None
+IsJobRefused file_at path (BadJob text) = TellsBadJob file_at path text
+IsJobRefused file_at path OutsideSource = Unit {0}
+IsJobRefused file_at path Memory = Unit {0}
+IsJobRefused file_at path _ = ⊥

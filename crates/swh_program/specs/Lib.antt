@@ -1,13 +1,15 @@
+pub mod Refusal
 pub mod Answers
 pub mod Archives
 pub mod Commands
 pub mod Init
-pub mod JobFile
 pub mod Run
 pub mod Words
 pub mod Opening
 pub mod Ask
 pub mod Jobs
+pub mod Dated
+pub mod Telling
 pub mod Load
 pub mod Loading
 pub mod Complete

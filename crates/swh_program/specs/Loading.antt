@@ -1,37 +1,39 @@
--- A load into an archive that is open.
-use Rattle.std.specs.Prelude.{◌≡◌, ◌⊎◌, ℕ, Option, Some, None, Result, Ok, Err, List}
+-- Loads into an archive that is open.
+use Rattle.std.specs.Prelude.{◌≡◌, ◌⊎◌, ◌↔◌, ℕ, false, None, List, map}
 use Rattle.swh_base.specs.declared.kind.Kind.{Kind}
+use Rattle.swh_outside.specs.Disk.{File}
 use Rattle.swh_segment.specs.Makes.{EitherRose}
 use Rattle.swh_keeper.specs.Kept.{Kept}
-use Rattle.swh_loader.specs.Leaving.{AddsVisit}
-use Rattle.swh_loader.specs.declared.end.Loaded.{Loaded}
-use Rattle.swh_loader.specs.declared.fault.LoadWhy.{LoadWhy}
-use Rattle.swh_loader.specs.declared.fault.LoadWhy.TheVariants as why
-use Rattle.swh_loader.specs.declared.fault.LoadFault.{LoadFault}
-use Rattle.swh_program.specs.Load.{loader, TellsLoad, IsOfInput, IsOutcome}
+use Rattle.swh_jobs.specs.Job.{Job}
+use Rattle.swh_loader.specs.Calls.{MakesCalls}
+use Rattle.swh_pool.specs.Stops.{AreStops, HaveNoDiskFault}
+use Rattle.swh_program.specs.Dated.{AreSaid}
+use Rattle.swh_program.specs.Jobs.{FileAt}
+use Rattle.swh_program.specs.Load.{LoadedJob, dates, outcomes, ending_of_all, TellsLoad, AreJobLoads, IsNextOf}
+use Rattle.swh_program.specs.declared.answer.Ending.TheVariants as ending
 use Rattle.swh_program.specs.declared.answer.Answer.{Answer}
-use Rattle.swh_program.specs.declared.answer.Answer.TheVariants.{Memory}
+use Rattle.swh_program.specs.declared.answer.Answer.TheVariants.{OutsideClock, Memory}
 
--- A disk failed in this load, or none did.
-abbrev pub StopsKept : {D : Type 0} → (D → ℕ) → Kept D → Kept D → LoadWhy → Type 0
-StopsKept faults old new why.DiskFault = (n : ℕ) × (new.wounded ≡ Some n) × EitherRose (faults old.store) (faults new.store) (faults old.ledger) (faults new.ledger)
-StopsKept faults old new _ = new.wounded ≡ None
+-- Before any load the clock failed, or memory ran out.
+abbrev pub IsUnstarted : Answer → Type 0
+IsUnstarted answer = (answer ≡ OutsideClock) ⊎ (answer ≡ Memory)
 
-abbrev pub LeavesKept : {D : Type 0} → (D → ℕ) → Kept D → Kept D → Result Loaded LoadFault → Type 0
-LeavesKept faults old new (Ok loaded) = new.wounded ≡ None
-LeavesKept faults old new (Err fault) = StopsKept faults old new fault.why
+module _ (id_of : Kind → List ℕ → List ℕ) (tells : Type 0) (input_at : FileAt) (failures failures_now : List ℕ → ℕ) where
+  pub record AreKeptLoads {D : Type 0} (disks_tell : Type 0) (file : D → File) (faults : D → ℕ) (loads : List LoadedJob) (old new : Kept D) : Type 0 where
+    pub each : AreJobLoads id_of tells input_at failures failures_now loads old.history new.history
+    pub stops : AreStops false (outcomes loads)
+    pub unwounded : (new.wounded ≡ None) ↔ HaveNoDiskFault (outcomes loads)
+    pub rose : ending_of_all (outcomes loads) ≡ ending.OutsideDisk → EitherRose (faults old.store) (faults new.store) (faults old.ledger) (faults new.ledger)
+    pub calls : disks_tell → MakesCalls id_of file (IsNextOf id_of tells input_at failures failures_now loads new.history) old new
 
-module _ (id_of : Kind → List ℕ → List ℕ) (tells : Type 0) (found : Option (List ℕ)) (failed : Type 0) where
-  pub record IsKeptLoad {D : Type 0} (faults : D → ℕ) (old new : Kept D) (url : List ℕ) (date : ℕ) (loaded : Result Loaded LoadFault) : Type 0 where
-    pub adds : AddsVisit (IsOfInput id_of tells found failed) loader url date old.history new.history
-    pub leaves : LeavesKept faults old new loaded
-    pub line : IsOutcome id_of tells found failed url date old.history new.history loaded
+  -- The jobs were loaded, and their lines told.
+  pub record AreKeptJobs {D : Type 0} (disks_tell : Type 0) (file : D → File) (faults : D → ℕ) (time_tells : Type 0) (time : ℕ → ℕ) (old new : Kept D) (jobs : List Job) (answer : Answer) : Type 0 where
+    pub loads : List LoadedJob
+    pub jobs_are : map (λ l. l.job) loads ≡ jobs
+    pub said : time_tells → AreSaid time (dates loads)
+    pub load : AreKeptLoads disks_tell file faults loads old new
+    pub told : TellsLoad loads answer
 
-  pub record IsToldInput {D : Type 0} (faults : D → ℕ) (old new : Kept D) (url : List ℕ) (date : ℕ) (answer : Answer) : Type 0 where
-    pub loaded : Result Loaded LoadFault
-    pub load : IsKeptLoad faults old new url date loaded
-    pub told : TellsLoad url loaded answer
-
-  -- The input was loaded and its line told, or it was not opened for want of memory.
-  abbrev pub IsInputLoad : {D : Type 0} → (D → ℕ) → Kept D → Kept D → List ℕ → ℕ → Answer → Type 0
-  IsInputLoad faults old new url date answer = IsToldInput faults old new url date answer ⊎ ((answer ≡ Memory) × (new ≡ old))
+  -- They were loaded, or none was.
+  abbrev pub IsKeptRun : {D : Type 0} → Type 0 → (D → File) → (D → ℕ) → Type 0 → (ℕ → ℕ) → Kept D → Kept D → List Job → Answer → Type 0
+  IsKeptRun disks_tell file faults time_tells time old new jobs answer = AreKeptJobs disks_tell file faults time_tells time old new jobs answer ⊎ (IsUnstarted answer × (new ≡ old))

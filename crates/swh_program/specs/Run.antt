@@ -32,3 +32,7 @@ reply_status reply = if reply.status == 200 then 0 else 1
 -- Memory apart, this line was printed with this status.
 abbrev pub IsPrintedWith : List ℕ → ℕ → Type 0 → List ℕ → List ℕ → ℕ → Type 0
 IsPrintedWith line expected tells before now status = (status ≡ 5) ⊎ ((status ≡ expected) × (tells → now ≡ before ++ line))
+
+-- Memory apart, and a part of the outside, this line was printed with this status.
+abbrev pub IsPrintedUnlessFailed : List ℕ → ℕ → Type 0 → List ℕ → List ℕ → ℕ → Type 0
+IsPrintedUnlessFailed line expected tells before now status = (status ≡ 4) ⊎ IsPrintedWith line expected tells before now status

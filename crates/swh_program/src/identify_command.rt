@@ -1,6 +1,6 @@
 // The command `identify`.
 ghost use Rattle.std.specs.Prelude.{◌≡◌, ◌≢◌, ◌≤◌, ℕ, List, Some, IfOk, codes};
-ghost use Rattle.swh_program.specs.Answers.{refusal};
+ghost use Rattle.swh_program.specs.Refusal.{refusal};
 ghost use Rattle.swh_base.specs.declared.kind.Kind.TheVariants.{Directory};
 ghost use Rattle.swh_outside.specs.Faults.{Rose};
 ghost use Rattle.swh_program.specs.Identify.{name_of, name_line, bad_line, TellsLine, IsBody, IsIdentifyAnswer, IdentifyEnds};

@@ -1,35 +1,75 @@
 // Reads the job file of a run.
-ghost use Rattle.std.specs.Prelude.{◌≡◌, ◌≤◌, ℕ, List, IfOk, IfErr, string_bytes};
+ghost use Rattle.std.specs.Prelude.{◌≡◌, ◌≤◌, ℕ, IfOk, IfErr};
 ghost use Rattle.swh_outside.specs.Faults.{Rose};
-ghost use Rattle.swh_program.specs.JobFile.{IsJobFile};
-ghost use Rattle.swh_program.specs.Jobs.{IsJobAt, IsParseRefusal, IsJobRefusal, IsJobRefused};
-ghost use Rattle.swh_program.specs.declared.answer.Answer.TheVariants.{JobForm, OutsideSource};
+ghost use Rattle.swh_jobs.specs.Answers.{jobs_of};
+ghost use Rattle.swh_jobs.specs.JobFile.{AreJobs, IsJobFile, IsFault};
+ghost use Rattle.swh_program.specs.Jobs.{why_word, bad_job_line, AreJobsAt, IsReadRefusal, IsJobRefusal, IsJobRefused};
+ghost use Rattle.swh_program.specs.declared.answer.Answer.TheVariants.{OutsideSource};
 
 use crate::Answer;
-use crate::job_file::{JobFault, JobLine, parse_job};
+use itoa::Buffer;
 use std::alloc::Global;
-use swh_fastlex::{SourceFault, read_source};
+use swh_base::{Bytes, Memory};
+use swh_fastlex::{SourceFault, read_front};
+use swh_jobs::{JobLine, JobWhy, JobsFault, LONGEST, parse_jobs};
 use swh_outside::{Opened, Origins};
 
-/// No job file is longer: a kind, a URL and a path, each with one byte behind it.
-const LONGEST: usize = 6151;
-
-// The job of these bytes.
-fn job_of(alloc: Global, bytes: &[u8]) -> Result<JobLine, Answer>
-    ensures job { IfOk result (λ job. IsJobFile bytes.now job.url (string_bytes job.path)) }
-    ensures one_of { IfErr result (λ answer. IsParseRefusal answer) }
-    ensures form { IfErr result (λ answer. answer ≡ JobForm → (url path : List ℕ) → IsJobFile bytes.now url path → ⊥) }
+fn word_of_why(why: JobWhy) -> &'static [u8]
+    ensures { result.now ≡ why_word why }
 {
-    match parse_job(alloc, bytes) {
-        Ok(job) => Ok(job),
-        Err(JobFault::Form) => Err(Answer::JobForm),
-        Err(JobFault::Memory) => Err(Answer::Memory),
+    match why {
+        JobWhy::Form => b"form".as_slice(),
+        JobWhy::Origin => b"origin".as_slice(),
+        JobWhy::Limit => b"limit".as_slice(),
     }
 }
 
-/// The job of the job file at a path.
-pub fn read_job<O: Origins>(alloc: Global, desk: &mut O, path: &str) -> Result<JobLine, Answer>
-    ensures job { O.tells → IfOk result (λ job. IsJobAt (O.file_at desk.old) path.now job.url (string_bytes job.path)) }
+// What is printed of the first line that breaks.
+fn bad_job_line(alloc: Global, line: u64, why: JobWhy) -> Result<Bytes, Memory>
+    ensures { IfOk result (λ text. text ≡ bad_job_line line why) }
+{
+    let mut digits = Buffer::new();
+    let mut text = Vec::new(alloc);
+    text.extend_from_slice(b"swharc: job line ")?;
+    text.extend_from_slice(digits.format(line).as_bytes())?;
+    text.extend_from_slice(b": ")?;
+    text.extend_from_slice(word_of_why(why))?;
+    text.push(b'\n')?;
+    Ok(Bytes::from_vec(text))
+}
+
+// The answer that tells the first line of these bytes that breaks.
+fn refuse_line(alloc: Global, bytes: &[u8], line: u64, why: JobWhy) -> Answer
+    requires { IsFault bytes.now line why }
+    ensures { IsReadRefusal bytes.now result }
+{
+    match bad_job_line(alloc, line, why) {
+        Ok(text) => Answer::BadJob { text },
+        Err(_) => Answer::Memory,
+    }
+}
+
+// The jobs of these bytes.
+fn jobs_of(alloc: Global, bytes: &[u8]) -> Result<Vec<JobLine>, Answer>
+    ensures jobs { IfOk result (λ jobs. IsJobFile bytes.now (jobs_of jobs.items)) }
+    ensures refused { IfErr result (λ answer. IsReadRefusal bytes.now answer) }
+{
+    match parse_jobs(alloc, bytes) {
+        Ok(jobs) => Ok(jobs),
+        Err(JobsFault::Bad { line, why }) => Err(refuse_line(alloc, bytes, line, why)),
+        Err(JobsFault::Memory) => Err(Answer::Memory),
+    }
+}
+
+/// The jobs of the job file at a path. Of a longer file than any job file is, no more is read than shows its first line
+/// that breaks.
+pub fn read_jobs<O: Origins>(
+    alloc: Global,
+    desk: &mut O,
+    path: &str,
+) -> Result<Vec<JobLine>, Answer>
+    ensures good { IfOk result (λ jobs. AreJobs (jobs_of jobs.items)) }
+    ensures there { O.tells → IfOk result (λ jobs. AreJobsAt (O.file_at desk.old) path.now (jobs_of jobs.items)) }
     ensures one_of { IfErr result (λ answer. IsJobRefusal answer) }
     ensures refused { O.tells → IfErr result (λ answer. IsJobRefused (O.file_at desk.old) path.now answer) }
     ensures later { O.faults desk.old ≤ O.faults desk.new }
@@ -41,12 +81,12 @@ pub fn read_job<O: Origins>(alloc: Global, desk: &mut O, path: &str) -> Result<J
         Opened::Failed => return Err(Answer::OutsideSource),
         Opened::Memory => return Err(Answer::Memory),
     };
-    let read = read_source(alloc, &mut source, LONGEST);
+    let read = read_front(alloc, &mut source, LONGEST);
     desk.back(source);
     match read {
-        Ok(bytes) => job_of(alloc, &bytes),
+        Ok(bytes) => jobs_of(alloc, &bytes),
         Err(SourceFault::Failed) => Err(Answer::OutsideSource),
-        Err(SourceFault::Limit) => Err(Answer::JobForm),
+        Err(SourceFault::Limit) => unreachable!(),
         Err(SourceFault::Memory) => Err(Answer::Memory),
     }
 }

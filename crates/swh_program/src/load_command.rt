@@ -1,126 +1,63 @@
 // The command `load`.
-ghost use Rattle.std.specs.Prelude.{◌≡◌, ◌⊎◌, ◌≤◌, ◌<◌, ℕ, List, None, string_bytes};
-ghost use Rattle.swh_program.specs.Archives.{archive_at, SameElsewhere};
-ghost use Rattle.swh_program.specs.declared.answer.Answer.TheVariants.{OutsideSource, OutsideClock};
+ghost use Rattle.std.specs.Prelude.{◌≡◌, ◌⊎◌, ◌≤◌, ℕ, None};
 ghost use Rattle.swh_outside.specs.Faults.{Rose};
-ghost use Rattle.swh_outside.specs.Opened.{IfFound};
-ghost use Rattle.swh_program.specs.Load.{ending_of_end, ending_of_why, ending_for, IsWithoutLine, TellsLoad, IsLoadedJob, IsUnloaded, TellsDisk, LoadEnds};
-ghost use Rattle.swh_program.specs.Loading.{IsInputLoad};
+ghost use Rattle.swh_jobs.specs.Answers.{jobs_of};
+ghost use Rattle.swh_program.specs.Archives.{archive_at, SameElsewhere};
+ghost use Rattle.swh_program.specs.Load.{IsLoadedOrNot, TellsDisk, LoadEnds};
+ghost use Rattle.swh_program.specs.Loading.{IsKeptRun};
+ghost use Rattle.swh_program.specs.declared.answer.Answer.TheVariants.{OutsideSource, OutsideClock};
 
-use crate::answer::{Answer, Ending};
-use crate::job_file::JobLine;
-use crate::job_reading::read_job;
+use crate::answer::Answer;
+use crate::job_inputs::{give_all_back, open_inputs};
+use crate::job_reading::read_jobs;
 use crate::opening::{close_archive, open_archive};
+use crate::telling::tell_loaded;
 use std::alloc::Global;
-use swh_base::{Namer, Url};
+use swh_base::Namer;
+use swh_jobs::JobLine;
 use swh_keeper::Keeper;
-use swh_loader::{End, Job, LoadFault, LoadWhy, Loaded, load_one, report_line};
-use swh_outside::{Clock, Depot, Disk, Gate, Opened, Origins};
+use swh_outside::{Clock, Depot, Disk, Gate, Origins};
+use swh_pool::load_all;
 
 /// Who loads the jobs of a run.
 const LOADER: u32 = 1;
 
-fn ending_of_end(end: End) -> Ending
-    ensures { result ≡ ending_of_end end }
-{
-    match end {
-        End::Full { .. } => Ending::Done,
-        End::NotFound | End::Failed(_) => Ending::Wanting,
-    }
-}
-
-fn ending_of_why(why: LoadWhy) -> Ending
-    ensures { result ≡ ending_of_why why }
-{
-    match why {
-        LoadWhy::DiskFault | LoadWhy::Wounded => Ending::OutsideDisk,
-        LoadWhy::Ended { .. } | LoadWhy::Limit { .. } => Ending::Wanting,
-        LoadWhy::Memory => Ending::Memory,
-    }
-}
-
-fn ending_of(loaded: Result<Loaded, LoadFault>) -> Ending
-    ensures { result ≡ ending_for loaded }
-{
-    match loaded {
-        Ok(loaded) => ending_of_end(loaded.end),
-        Err(fault) => ending_of_why(fault.why),
-    }
-}
-
-// What is told where memory for the line ran out.
-fn without_line(ending: Ending) -> Answer
-    ensures { IsWithoutLine ending result }
-{
-    match ending {
-        Ending::OutsideDisk => Answer::OutsideDisk,
-        Ending::Done | Ending::Wanting | Ending::Memory => Answer::Memory,
-    }
-}
-
-// The answer that tells the line of a load.
-fn tell_load(alloc: Global, url: &Url, loaded: Result<Loaded, LoadFault>) -> Answer
-    ensures { TellsLoad url.now loaded result }
-{
-    let ending = ending_of(loaded);
-    match report_line(alloc, url, loaded) {
-        Ok(text) => Answer::Told { text, ending },
-        Err(_) => without_line(ending),
-    }
-}
-
-// Gives an input back, where there is one.
-fn give_back<O: Origins>(origins: &mut O, stream: Opened<O::S>)
-    ensures later { O.faults origins.old ≤ O.faults origins.new }
-    ensures path_later { (p : List ℕ) → O.path_faults origins.old p ≤ O.path_faults origins.new p }
-    ensures path_cause { IfFound stream (λ source. 0 < O.S.faults source → Rose (O.path_faults origins.old (O.S.path source)) (O.path_faults origins.new (O.S.path source))) }
-{
-    match stream {
-        Opened::Found(source) => origins.back(source),
-        Opened::NotFound | Opened::Failed | Opened::Memory => {}
-    }
-}
-
-// Loads the input of a job into an open archive, and tells how that ended.
-fn load_input<N: Namer, D: Disk, O: Origins, G: Gate>(
+// Loads jobs into an open archive, and tells how that ended.
+fn load_lines<N: Namer, D: Disk, O: Origins, C: Clock, G: Gate>(
     alloc: Global,
     namer: &N,
     keeper: &mut Keeper<N, D>,
     origins: &mut O,
+    clock: &mut C,
     gate: &G,
-    job: JobLine,
-    date: u64,
+    lines: Vec<JobLine>,
 ) -> Answer
     requires { keeper.old.wounded ≡ None }
-    ensures load { IsInputLoad N.id_of O.tells (O.file_at origins.old (string_bytes job.path)) (Rose (O.path_faults origins.old (string_bytes job.path)) (O.path_faults origins.new (string_bytes job.path)))
-        D.faults keeper.old keeper.new job.url date result }
-    ensures later { O.faults origins.old ≤ O.faults origins.new }
-    ensures path_later { (p : List ℕ) → O.path_faults origins.old p ≤ O.path_faults origins.new p }
+    ensures load { IsKeptRun N.id_of O.tells (O.file_at origins.old) (O.path_faults origins.old) (O.path_faults origins.new) D.tells D.file D.faults C.tells (C.time clock.old) keeper.old keeper.new (jobs_of lines.items) result }
+    ensures clock_cause { result ≡ OutsideClock → Rose (C.faults clock.old) (C.faults clock.new) }
+    ensures clock_later { C.faults clock.old ≤ C.faults clock.new }
+    ensures origins_later { O.faults origins.old ≤ O.faults origins.new }
 {
-    let JobLine { url, path } = job;
-    let stream = match origins.file(path.as_str()) {
-        Opened::Memory => return Answer::Memory,
-        stream => stream,
+    let mut jobs = match open_inputs(alloc, origins, clock, lines) {
+        Ok(jobs) => jobs,
+        Err(answer) => return answer,
     };
-    let mut job = Job {
-        origin: url,
-        stream,
-        head: None,
-    };
-    let loaded = load_one(
-        alloc, namer, keeper, LOADER, &mut job, date, gate, LOADER, LOADER,
+    let loaded = load_all(
+        alloc,
+        namer,
+        keeper,
+        LOADER,
+        jobs.as_mut_slice(),
+        gate,
+        LOADER,
     );
-    let Job {
-        origin,
-        stream,
-        head: _head,
-    } = job;
-    give_back(origins, stream);
-    tell_load(alloc, &origin, loaded)
+    let answer = tell_loaded(alloc, jobs.as_slice(), &loaded);
+    give_all_back(origins, jobs);
+    answer
 }
 
-// Loads a job into the archive in a folder.
-fn load_job<N: Namer, P: Depot, O: Origins, C: Clock, G: Gate>(
+// Loads jobs into the archive in a folder.
+fn load_jobs<N: Namer, P: Depot, O: Origins, C: Clock, G: Gate>(
     alloc: Global,
     namer: N,
     depot: &mut P,
@@ -128,11 +65,10 @@ fn load_job<N: Namer, P: Depot, O: Origins, C: Clock, G: Gate>(
     clock: &mut C,
     gate: &G,
     dir: &str,
-    job: JobLine,
+    lines: Vec<JobLine>,
 ) -> Answer
-    ensures load { IsLoadedJob N.id_of O.tells (O.file_at origins.old (string_bytes job.path)) (Rose (O.path_faults origins.old (string_bytes job.path)) (O.path_faults origins.new (string_bytes job.path)))
-        C.tells (C.time clock.old 0) P.tells (archive_at (P.files depot.old) dir.now) (archive_at (P.files depot.new) dir.now) job.url result
-        ⊎ IsUnloaded N.id_of P.tells (archive_at (P.files depot.old) dir.now) (archive_at (P.files depot.new) dir.now) result }
+    ensures load { IsLoadedOrNot N.id_of O.tells (O.file_at origins.old) (O.path_faults origins.old) (O.path_faults origins.new) C.tells (C.time clock.old) P.tells
+        (archive_at (P.files depot.old) dir.now) (archive_at (P.files depot.new) dir.now) (jobs_of lines.items) result }
     ensures elsewhere { P.tells → SameElsewhere dir.now (P.files depot.old) (P.files depot.new) }
     ensures disk_cause { TellsDisk result → Rose (P.faults depot.old) (P.faults depot.new) }
     ensures clock_cause { result ≡ OutsideClock → Rose (C.faults clock.old) (C.faults clock.new) }
@@ -144,16 +80,13 @@ fn load_job<N: Namer, P: Depot, O: Origins, C: Clock, G: Gate>(
         Ok(keeper) => keeper,
         Err(answer) => return answer,
     };
-    let Ok(date) = clock.now() else {
-        close_archive(depot, dir, keeper);
-        return Answer::OutsideClock;
-    };
-    let answer = load_input(alloc, &namer, &mut keeper, origins, gate, job, date);
+    let answer = load_lines(alloc, &namer, &mut keeper, origins, clock, gate, lines);
     close_archive(depot, dir, keeper);
     answer
 }
 
-/// Loads the job of a job file into the archive in a folder.
+/// Loads the jobs of a job file into the archive in a folder. The job file is tested first; then the archive is opened;
+/// then all inputs are opened, each after a look at the clock, before any is loaded.
 pub fn load<N: Namer, P: Depot, O: Origins, C: Clock, G: Gate>(
     alloc: Global,
     namer: N,
@@ -165,7 +98,7 @@ pub fn load<N: Namer, P: Depot, O: Origins, C: Clock, G: Gate>(
     dir: &str,
     jobs: &str,
 ) -> Answer
-    ensures ends { LoadEnds N.id_of O.tells (O.file_at origins.old) (O.path_faults origins.old) (O.path_faults origins.new) (O.file_at desk.old) C.tells (C.time clock.old 0) P.tells
+    ensures ends { LoadEnds N.id_of O.tells (O.file_at origins.old) (O.path_faults origins.old) (O.path_faults origins.new) (O.file_at desk.old) C.tells (C.time clock.old) P.tells
         jobs.now (archive_at (P.files depot.old) dir.now) (archive_at (P.files depot.new) dir.now) result }
     ensures elsewhere { P.tells → SameElsewhere dir.now (P.files depot.old) (P.files depot.new) }
     ensures disk_cause { TellsDisk result → Rose (P.faults depot.old) (P.faults depot.new) }
@@ -176,8 +109,8 @@ pub fn load<N: Namer, P: Depot, O: Origins, C: Clock, G: Gate>(
     ensures clock_later { C.faults clock.old ≤ C.faults clock.new }
     ensures origins_later { O.faults origins.old ≤ O.faults origins.new }
 {
-    match read_job(alloc, desk, jobs) {
-        Ok(job) => load_job(alloc, namer, depot, origins, clock, gate, dir, job),
+    match read_jobs(alloc, desk, jobs) {
+        Ok(lines) => load_jobs(alloc, namer, depot, origins, clock, gate, dir, lines),
         Err(answer) => answer,
     }
 }

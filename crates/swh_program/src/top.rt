@@ -1,10 +1,11 @@
 // The top call.
-ghost use Rattle.std.specs.Prelude.{◌≡◌, ◌≢◌, ◌⊎◌, ◌≤◌, ◌<◌, List, Some, None, ℕ, map, string_bytes};
+ghost use Rattle.std.specs.Prelude.{◌≡◌, ◌≢◌, ◌⊎◌, ◌≤◌, ◌<◌, List, Some, ℕ, Contains, map, string_bytes};
 ghost use Rattle.swh_outside.specs.Faults.{Rose};
 ghost use Rattle.swh_base.specs.declared.kind.Kind.{Kind};
 ghost use Rattle.swh_model.specs.declared.event.Event.{Event};
 ghost use Rattle.swh_model.specs.Answer.{ReplyText, IsReply};
-ghost use Rattle.swh_model.specs.Meaning.{Making, IsMeaning};
+ghost use Rattle.swh_jobs.specs.Job.{Job};
+ghost use Rattle.swh_jobs.specs.declared.fault.JobWhy.{JobWhy};
 ghost use Rattle.swh_model.specs.Step.{replay};
 ghost use Rattle.swh_segment.specs.Making.{IsNotMade};
 ghost use Rattle.swh_program.specs.Archives.{archive_at};
@@ -16,10 +17,10 @@ ghost use Rattle.swh_program.specs.Load.{Loads};
 ghost use Rattle.swh_program.specs.Ask.{Asks, reply_line};
 ghost use Rattle.swh_program.specs.Identify.{name_of, name_line, IsBody, HasNoBody, Identifies};
 ghost use Rattle.swh_program.specs.Opening.{IsArchive};
-ghost use Rattle.swh_program.specs.Jobs.{IsJobAt};
-ghost use Rattle.swh_program.specs.Complete.{full_line, HasOneBody, HasRoom};
-ghost use Rattle.swh_program.specs.Causes.{ComesTo, IsExactly, IsDeskTold, HasNoJob, HasOtherArchive, IsByLine, IsBadInput, NamesFailed};
-ghost use Rattle.swh_program.specs.Run.{IsStatus, IsNoCommand, Ends, IsQuiet, IsPrintedWith, reply_status};
+ghost use Rattle.swh_program.specs.Jobs.{AreJobsAt, IsBadAt, bad_job_line};
+ghost use Rattle.swh_program.specs.Complete.{MeantJob, jobs_of, full_lines, all_made, AreMeant, HasOneBody, HasRoom, AreQuiet};
+ghost use Rattle.swh_program.specs.Causes.{ComesTo, IsExactly, IsDeskTold, HasNoJob, HasOtherArchive, IsByLines, IsBadInput, NamesFailed};
+ghost use Rattle.swh_program.specs.Run.{IsStatus, IsNoCommand, Ends, IsQuiet, IsPrintedWith, IsPrintedUnlessFailed, reply_status};
 ghost use Rattle.swh_program.specs.declared.answer.Answer.TheVariants.{Made, Words};
 
 use crate::{Answer, Command, Outside, ask, identify, init, load, parse_words, tell};
@@ -42,7 +43,7 @@ fn carry_out<N: Namer, P: Depot, O: Origins, C: Clock, G: Gate>(
     ensures init { (dir : List ℕ) → wanted_by command.now ≡ ToInit dir
         → Inits dir P.tells (P.files depot.old) (P.files depot.new) (P.faults depot.old) (P.faults depot.new) result }
     ensures load { (dir jobs : List ℕ) → wanted_by command.now ≡ ToLoad dir jobs
-        → Loads N.id_of O.tells (O.file_at origins.old) (O.path_faults origins.old) (O.path_faults origins.new) (O.file_at desk.old) C.tells (C.time clock.old 0) P.tells dir jobs
+        → Loads N.id_of O.tells (O.file_at origins.old) (O.path_faults origins.old) (O.path_faults origins.new) (O.file_at desk.old) C.tells (C.time clock.old) P.tells dir jobs
         (P.files depot.old) (P.files depot.new) (P.faults depot.old) (P.faults depot.new) (O.faults desk.old) (O.faults desk.new) (C.faults clock.old) (C.faults clock.new) result }
     ensures ask { (dir path : List ℕ) → wanted_by command.now ≡ ToAsk dir path
         → Asks N.id_of dir path P.tells (P.files depot.old) (P.files depot.new) (P.faults depot.old) (P.faults depot.new) result }
@@ -84,7 +85,7 @@ fn obey<N: Namer, P: Depot, O: Origins, C: Clock, G: Gate>(
     ensures init { (dir : List ℕ) → IsCommand (map string_bytes words.now) (ToInit dir)
         → Inits dir P.tells (P.files depot.old) (P.files depot.new) (P.faults depot.old) (P.faults depot.new) result }
     ensures load { (dir jobs : List ℕ) → IsCommand (map string_bytes words.now) (ToLoad dir jobs)
-        → Loads N.id_of O.tells (O.file_at origins.old) (O.path_faults origins.old) (O.path_faults origins.new) (O.file_at desk.old) C.tells (C.time clock.old 0) P.tells dir jobs
+        → Loads N.id_of O.tells (O.file_at origins.old) (O.path_faults origins.old) (O.path_faults origins.new) (O.file_at desk.old) C.tells (C.time clock.old) P.tells dir jobs
         (P.files depot.old) (P.files depot.new) (P.faults depot.old) (P.faults depot.new) (O.faults desk.old) (O.faults desk.new) (C.faults clock.old) (C.faults clock.new) result }
     ensures ask { (dir path : List ℕ) → IsCommand (map string_bytes words.now) (ToAsk dir path)
         → Asks N.id_of dir path P.tells (P.files depot.old) (P.files depot.new) (P.faults depot.old) (P.faults depot.new) result }
@@ -127,7 +128,7 @@ pub fn run<R, N: Namer, P: Depot, O: Origins, Y: Yard, K: Sink, C: Clock, D: Doo
         K.tells (K.taken world.old.sink) (K.taken world.new.sink) (K.faults world.old.sink) (K.faults world.new.sink) result }
 
     ensures load { (dir jobs : List ℕ) → IsCommand (map string_bytes words.now) (ToLoad dir jobs)
-        → Ends (Loads N.id_of O.tells (O.file_at world.old.origins) (O.path_faults world.old.origins) (O.path_faults world.new.origins) (O.file_at world.old.desk) C.tells (C.time world.old.clock 0) P.tells dir jobs
+        → Ends (Loads N.id_of O.tells (O.file_at world.old.origins) (O.path_faults world.old.origins) (O.path_faults world.new.origins) (O.file_at world.old.desk) C.tells (C.time world.old.clock) P.tells dir jobs
         (P.files world.old.depot) (P.files world.new.depot) (P.faults world.old.depot) (P.faults world.new.depot) (O.faults world.old.desk) (O.faults world.new.desk) (C.faults world.old.clock) (C.faults world.new.clock))
         K.tells (K.taken world.old.sink) (K.taken world.new.sink) (K.faults world.old.sink) (K.faults world.new.sink) result }
 
@@ -140,9 +141,11 @@ pub fn run<R, N: Namer, P: Depot, O: Origins, Y: Yard, K: Sink, C: Clock, D: Doo
         K.tells (K.taken world.old.sink) (K.taken world.new.sink) (K.faults world.old.sink) (K.faults world.new.sink) result }
     ensures identify_depot { (kind : Kind) (path : List ℕ) → IsCommand (map string_bytes words.now) (ToIdentify kind path) → world.new.depot ≡ world.old.depot }
 
-    // 2: the words are no command, or the job file is not there or has no job.
+    // 2: the words are no command, or the job file is not there or has a line that breaks, and then that line is named.
     ensures no_command { IsNoCommand (map string_bytes words.now) → ComesTo 2 result }
     ensures no_job { (wanted : Wanted) → IsCommand (map string_bytes words.now) wanted → IsDeskTold O.tells wanted → IsExactly 2 (HasNoJob (O.file_at world.old.desk) wanted) result }
+    ensures bad_line { (dir path : List ℕ) (line : ℕ) (why : JobWhy) → IsCommand (map string_bytes words.now) (ToLoad dir path) → O.tells
+        → IsBadAt (O.file_at world.old.desk) path line why → IsPrintedUnlessFailed (bad_job_line line why) 2 K.tells (K.taken world.old.sink) (K.taken world.new.sink) result }
 
     // 3: the archive is not as the command needs it.
     ensures other_archive { (wanted : Wanted) → IsCommand (map string_bytes words.now) wanted → IsDeskTold O.tells wanted → P.tells
@@ -152,11 +155,11 @@ pub fn run<R, N: Namer, P: Depot, O: Origins, Y: Yard, K: Sink, C: Clock, D: Doo
     ensures short_reply { (dir path : List ℕ) (h : List Event) (reply : ReplyText) → IsCommand (map string_bytes words.now) (ToAsk dir path) → P.tells
         → IsArchive N.id_of (archive_at (P.files world.old.depot) dir) h → IsReply (replay h) path reply → IsExactly 1 (reply.status ≢ 200) result }
     ensures short_line { (dir jobs : List ℕ) → IsCommand (map string_bytes words.now) (ToLoad dir jobs) → result < 2
-        → IsByLine N.id_of O.tells (O.file_at world.old.origins) (O.path_faults world.old.origins) (O.path_faults world.new.origins) (O.file_at world.old.desk) P.tells
+        → IsByLines N.id_of O.tells (O.file_at world.old.origins) (O.path_faults world.old.origins) (O.path_faults world.new.origins) (O.file_at world.old.desk) P.tells
         jobs (archive_at (P.files world.old.depot) dir) (archive_at (P.files world.new.depot) dir) K.tells (K.taken world.old.sink) (K.taken world.new.sink) result }
-    ensures bad_input { (dir jobs url path : List ℕ) (before : List Event) → IsCommand (map string_bytes words.now) (ToLoad dir jobs) → P.tells → O.tells
-        → IsArchive N.id_of (archive_at (P.files world.old.depot) dir) before → IsJobAt (O.file_at world.old.desk) jobs url path
-        → IsBadInput N.id_of (replay before).bodies (O.file_at world.old.origins path) → ComesTo 1 result }
+    ensures bad_input { (dir path : List ℕ) (jobs : List Job) (job : Job) (before : List Event) → IsCommand (map string_bytes words.now) (ToLoad dir path) → P.tells → O.tells
+        → IsArchive N.id_of (archive_at (P.files world.old.depot) dir) before → AreJobsAt (O.file_at world.old.desk) path jobs → Contains jobs job
+        → IsBadInput N.id_of (replay before).bodies (O.file_at world.old.origins job.path) → ComesTo 1 result }
     ensures no_body { (kind : Kind) (path : List ℕ) → IsCommand (map string_bytes words.now) (ToIdentify kind path) → O.tells → IsExactly 1 (HasNoBody kind (O.file_at world.old.desk path)) result }
     ensures init_whole { (dir : List ℕ) → IsCommand (map string_bytes words.now) (ToInit dir) → result ≢ 1 }
 
@@ -178,16 +181,16 @@ pub fn run<R, N: Namer, P: Depot, O: Origins, Y: Yard, K: Sink, C: Clock, D: Doo
         → IsQuiet (P.faults world.old.depot) (P.faults world.new.depot) → IsQuiet (K.faults world.old.sink) (K.faults world.new.sink)
         → IsPrintedWith (reply_line reply) (reply_status reply) K.tells (K.taken world.old.sink) (K.taken world.new.sink) result }
 
-    // A job whose input is there and means something is loaded in full, unless memory runs out, where no name has two
+    // Jobs whose inputs are there and mean something are loaded in full, unless memory runs out, where no name has two
     // bodies, the files have room, and no part of the outside failed.
-    ensures complete_load { (dir jobs url path text : List ℕ) (before : List Event) (making : Making) → IsCommand (map string_bytes words.now) (ToLoad dir jobs) → P.tells → O.tells
-        → IsArchive N.id_of (archive_at (P.files world.old.depot) dir) before → IsJobAt (O.file_at world.old.desk) jobs url path
-        → O.file_at world.old.origins path ≡ Some text → IsMeaning N.id_of None text making
-        → HasOneBody N.id_of (replay before).bodies making → HasRoom N.id_of url before making (archive_at (P.files world.new.depot) dir)
+    ensures complete_load { (dir path : List ℕ) (before : List Event) (meant : List MeantJob) → IsCommand (map string_bytes words.now) (ToLoad dir path) → P.tells → O.tells
+        → IsArchive N.id_of (archive_at (P.files world.old.depot) dir) before → AreJobsAt (O.file_at world.old.desk) path (jobs_of meant)
+        → AreMeant N.id_of (O.file_at world.old.origins) meant
+        → HasOneBody N.id_of (replay before).bodies (all_made meant) → HasRoom N.id_of before meant (archive_at (P.files world.new.depot) dir)
         → IsQuiet (P.faults world.old.depot) (P.faults world.new.depot) → IsQuiet (O.faults world.old.desk) (O.faults world.new.desk)
-        → IsQuiet (O.path_faults world.old.origins path) (O.path_faults world.new.origins path)
+        → AreQuiet (O.path_faults world.old.origins) (O.path_faults world.new.origins) meant
         → IsQuiet (C.faults world.old.clock) (C.faults world.new.clock) → IsQuiet (K.faults world.old.sink) (K.faults world.new.sink)
-        → IsPrintedWith (full_line url before making) 0 K.tells (K.taken world.old.sink) (K.taken world.new.sink) result }
+        → IsPrintedWith (full_lines before meant) 0 K.tells (K.taken world.old.sink) (K.taken world.new.sink) result }
 
     // The name of a file that is a body of the kind is printed, unless memory runs out, where no part of the outside
     // failed.

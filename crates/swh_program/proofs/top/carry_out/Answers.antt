@@ -19,7 +19,7 @@ returns-in-Load-clause-load g c dir jobs is =
     let l = c.load.ensures in
     at_load
     (λ d j. Loads g.N.Namer.id_of g.O.Origins.tells (g.O.Origins.file_at c.args.origins.now) (g.O.Origins.path_faults c.args.origins.now) (g.O.Origins.path_faults c.load.new.origins) (g.O.Origins.file_at c.args.desk.now)
-    g.C.Clock.tells (g.C.Clock.time c.args.clock.now 0) g.P.Depot.tells d j (g.P.Depot.files c.args.depot.now) (g.P.Depot.files c.load.new.depot) (g.P.Depot.faults c.args.depot.now) (g.P.Depot.faults c.load.new.depot)
+    g.C.Clock.tells (g.C.Clock.time c.args.clock.now) g.P.Depot.tells d j (g.P.Depot.files c.args.depot.now) (g.P.Depot.files c.load.new.depot) (g.P.Depot.faults c.args.depot.now) (g.P.Depot.faults c.load.new.depot)
     (g.O.Origins.faults c.args.desk.now) (g.O.Origins.faults c.load.new.desk) (g.C.Clock.faults c.args.clock.now) (g.C.Clock.faults c.load.new.clock) c.load.result)
     c.in-Load.dir.now dir c.in-Load.jobs.now jobs (ap wanted_by (sym c.in-Load.is) ∙ is)
     (record { ends = l.ends; elsewhere = l.elsewhere; disk_cause = l.disk_cause; source_cause = l.source_cause; clock_cause = l.clock_cause })

@@ -4,15 +4,16 @@ use Rattle.swh_program.specs.Answers.{status_of, last_line_of}
 use Rattle.swh_program.specs.Causes.{IsExactly, IsDeskTold, HasNoJob, HasOtherArchive}
 use Rattle.swh_program.specs.Words.{ToInit, ToLoad, ToAsk, ToIdentify, IsCommand}
 use Rattle.swh_program.proofs.Exacts.{init_job, ask_job, init_wants, init_archive, ask_archive, ask_reply}
-use Rattle.swh_program.proofs.LoadStatuses.{load_job, load_archive, load_line, load_input}
+use Rattle.swh_program.proofs.LoadStatuses.{load_job, load_bad, load_archive, load_lines, load_input}
 use Rattle.swh_program.proofs.Statuses.{run_comes, uncut, run_exactly, rose_outside}
 use Rattle.swh_program.specs.Ask.{reply_line}
 use Rattle.swh_program.specs.Run.{reply_status}
 use Rattle.swh_program.specs.declared.answer.Answer.TheVariants.{Made}
-use Rattle.swh_program.proofs.Completes.{told_with, init_done, ask_done}
-use Rattle.swh_program.specs.Complete.{full_line}
+use Rattle.swh_program.proofs.Completes.{told_with, told_unless, init_done, ask_done}
+use Rattle.swh_program.specs.Complete.{full_lines}
+use Rattle.swh_program.specs.Jobs.{bad_job_line}
 use Rattle.swh_program.specs.Identify.{name_of, name_line}
-use Rattle.swh_program.proofs.Loadings.{load_done}
+use Rattle.swh_program.proofs.LoadsDone.{load_done}
 use Rattle.swh_program.proofs.Ends.{told_status}
 use Rattle.swh_program.proofs.Naming.{identify_low, identify_archive, identify_exactly, named}
 use Rattle.swh_program.proofs.top.run.Goals as goal
@@ -47,14 +48,14 @@ returns-clause-complete_ask g c dir path h reply is told archive replies no_disk
     told_with (reply_line reply) (reply_status reply) _ _ _ _ _ _ _ done no_sink c.tell.ensures
 
 pub returns-clause-complete_load : goal.returns-clause-complete_load
-returns-clause-complete_load g c dir jobs url path text before making is disks inputs archive job there means one room no_disk no_desk no_path no_clock no_sink =
-    let loads = c.obey-answer.ensures.load dir jobs is in
+returns-clause-complete_load g c dir path before meant is disks inputs archive there are one room no_disk no_desk quiet no_clock no_sink =
+    let loads = c.obey-answer.ensures.load dir path is in
     let old = archive_at (g.P.Depot.files c.args.world.now.depot) dir in
     let new = archive_at (g.P.Depot.files c.obey-answer.new.depot) dir in
     let done = load_done g.N.Namer.id_of g.O.Origins.tells (g.O.Origins.file_at c.args.world.now.origins) (g.O.Origins.path_faults c.args.world.now.origins) (g.O.Origins.path_faults c.obey-answer.new.origins) (g.O.Origins.file_at c.args.world.now.desk)
-    g.C.Clock.tells (g.C.Clock.time c.args.world.now.clock 0) g.P.Depot.tells inputs disks jobs url path text before making old new archive job there means one room no_path
+    g.C.Clock.tells (g.C.Clock.time c.args.world.now.clock) g.P.Depot.tells inputs disks path before meant old new archive there are one room quiet
     c.obey-answer.result loads.ends (λ failed. no_disk (loads.disk_cause failed)) (λ failed. no_desk (loads.source_cause failed)) (λ failed. no_clock (loads.clock_cause failed)) in
-    told_with (full_line url before making) 0 _ _ _ _ _ _ _ done no_sink c.tell.ensures
+    told_with (full_lines before meant) 0 _ _ _ _ _ _ _ done no_sink c.tell.ensures
 
 pub returns-clause-no_command : goal.returns-clause-no_command
 returns-clause-no_command g c none = run_comes _ _ _ _ _ _ _ c.tell.ensures 2 (inl (ap status_of (c.obey-answer.ensures.refused none)))
@@ -65,7 +66,7 @@ returns-clause-no_job g c wanted =
       | ToInit dir ↦ λ is told. run_exactly _ _ _ _ _ _ _ c.tell.ensures 2 ⊥ (omega arith) (record { only = init_job c.obey-answer.result (c.obey-answer.ensures.init dir is).one_of; there = λ none. absurd none })
       | ToLoad dir jobs ↦ λ is told. run_exactly _ _ _ _ _ _ _ c.tell.ensures 2 (HasNoJob (g.O.Origins.file_at c.args.world.now.desk) (ToLoad dir jobs)) (omega arith)
           (load_job g.N.Namer.id_of g.O.Origins.tells (g.O.Origins.file_at c.args.world.now.origins) (g.O.Origins.path_faults c.args.world.now.origins) (g.O.Origins.path_faults c.obey-answer.new.origins) (g.O.Origins.file_at c.args.world.now.desk)
-          g.C.Clock.tells (g.C.Clock.time c.args.world.now.clock 0) g.P.Depot.tells jobs (archive_at (g.P.Depot.files c.args.world.now.depot) dir) (archive_at (g.P.Depot.files c.obey-answer.new.depot) dir) told c.obey-answer.result (c.obey-answer.ensures.load dir jobs is).ends)
+          g.C.Clock.tells (g.C.Clock.time c.args.world.now.clock) g.P.Depot.tells jobs (archive_at (g.P.Depot.files c.args.world.now.depot) dir) (archive_at (g.P.Depot.files c.obey-answer.new.depot) dir) told c.obey-answer.result (c.obey-answer.ensures.load dir jobs is).ends)
       | ToAsk dir path ↦ λ is told. run_exactly _ _ _ _ _ _ _ c.tell.ensures 2 ⊥ (omega arith) (record { only = ask_job c.obey-answer.result (c.obey-answer.ensures.ask dir path is).one_of; there = λ none. absurd none })
       | ToIdentify kind path ↦ λ is told. run_exactly _ _ _ _ _ _ _ c.tell.ensures 2 ⊥ (omega arith) (record { only = identify_low g.N.Namer.id_of kind c.obey-answer.result (c.obey-answer.ensures.identify kind path is).one_of; there = λ none. absurd none })
     ]
@@ -79,7 +80,7 @@ returns-clause-other_archive g c wanted =
           (init_archive (archive_at folders dir) (archive_at (g.P.Depot.files c.obey-answer.new.depot) dir) c.obey-answer.result ((c.obey-answer.ensures.init dir is).ends disks))
       | ToLoad dir jobs ↦ λ is told disks. run_exactly _ _ _ _ _ _ _ c.tell.ensures 3 (HasOtherArchive g.N.Namer.id_of folders desk_at (ToLoad dir jobs)) (omega arith)
           (load_archive g.N.Namer.id_of g.O.Origins.tells (g.O.Origins.file_at c.args.world.now.origins) (g.O.Origins.path_faults c.args.world.now.origins) (g.O.Origins.path_faults c.obey-answer.new.origins) desk_at
-          g.C.Clock.tells (g.C.Clock.time c.args.world.now.clock 0) g.P.Depot.tells jobs (archive_at folders dir) (archive_at (g.P.Depot.files c.obey-answer.new.depot) dir) told disks c.obey-answer.result (c.obey-answer.ensures.load dir jobs is).ends)
+          g.C.Clock.tells (g.C.Clock.time c.args.world.now.clock) g.P.Depot.tells jobs (archive_at folders dir) (archive_at (g.P.Depot.files c.obey-answer.new.depot) dir) told disks c.obey-answer.result (c.obey-answer.ensures.load dir jobs is).ends)
       | ToAsk dir path ↦ λ is told disks. run_exactly _ _ _ _ _ _ _ c.tell.ensures 3 (HasOtherArchive g.N.Namer.id_of folders desk_at (ToAsk dir path)) (omega arith)
           (ask_archive g.N.Namer.id_of path (archive_at folders dir) (archive_at (g.P.Depot.files c.obey-answer.new.depot) dir) c.obey-answer.result (c.obey-answer.ensures.ask dir path is).one_of ((c.obey-answer.ensures.ask dir path is).ends disks))
       | ToIdentify kind path ↦ λ is told disks. run_exactly _ _ _ _ _ _ _ c.tell.ensures 3 ⊥ (omega arith) (record { only = identify_archive g.N.Namer.id_of kind c.obey-answer.result (c.obey-answer.ensures.identify kind path is).one_of; there = λ none. absurd none })
@@ -92,16 +93,24 @@ returns-clause-short_reply g c dir path h reply is disks archive replies =
 
 pub returns-clause-short_line : goal.returns-clause-short_line
 returns-clause-short_line g c dir jobs is less =
-    load_line g.N.Namer.id_of g.O.Origins.tells (g.O.Origins.file_at c.args.world.now.origins) (g.O.Origins.path_faults c.args.world.now.origins) (g.O.Origins.path_faults c.obey-answer.new.origins) (g.O.Origins.file_at c.args.world.now.desk)
-    g.C.Clock.tells (g.C.Clock.time c.args.world.now.clock 0) g.P.Depot.tells jobs (archive_at (g.P.Depot.files c.args.world.now.depot) dir) (archive_at (g.P.Depot.files c.obey-answer.new.depot) dir) c.obey-answer.result _ _ _ _
+    load_lines g.N.Namer.id_of g.O.Origins.tells (g.O.Origins.file_at c.args.world.now.origins) (g.O.Origins.path_faults c.args.world.now.origins) (g.O.Origins.path_faults c.obey-answer.new.origins) (g.O.Origins.file_at c.args.world.now.desk)
+    g.C.Clock.tells (g.C.Clock.time c.args.world.now.clock) g.P.Depot.tells jobs (archive_at (g.P.Depot.files c.args.world.now.depot) dir) (archive_at (g.P.Depot.files c.obey-answer.new.depot) dir) c.obey-answer.result _ _ _ _
     (c.obey-answer.ensures.load dir jobs is).ends (uncut _ _ _ _ _ _ _ c.tell.ensures (λ four. omega (arith, four, less))) less
 
 pub returns-clause-bad_input : goal.returns-clause-bad_input
-returns-clause-bad_input g c dir jobs url path before is disks inputs archive job bad =
+returns-clause-bad_input g c dir path jobs job before is disks inputs archive there among bad =
     run_comes _ _ _ _ _ _ _ c.tell.ensures 1
     (load_input g.N.Namer.id_of g.O.Origins.tells (g.O.Origins.file_at c.args.world.now.origins) (g.O.Origins.path_faults c.args.world.now.origins) (g.O.Origins.path_faults c.obey-answer.new.origins) (g.O.Origins.file_at c.args.world.now.desk)
-    g.C.Clock.tells (g.C.Clock.time c.args.world.now.clock 0) g.P.Depot.tells jobs (archive_at (g.P.Depot.files c.args.world.now.depot) dir) (archive_at (g.P.Depot.files c.obey-answer.new.depot) dir) inputs disks before archive url path job bad
-    c.obey-answer.result (c.obey-answer.ensures.load dir jobs is).ends)
+    g.C.Clock.tells (g.C.Clock.time c.args.world.now.clock) g.P.Depot.tells path (archive_at (g.P.Depot.files c.args.world.now.depot) dir) (archive_at (g.P.Depot.files c.obey-answer.new.depot) dir) inputs disks before archive jobs job there among bad
+    c.obey-answer.result (c.obey-answer.ensures.load dir path is).ends)
+
+pub returns-clause-bad_line : goal.returns-clause-bad_line
+returns-clause-bad_line g c dir path line why is inputs bad =
+    told_unless (bad_job_line line why) 2 _ _ _ _ _ _ _
+    (load_bad g.N.Namer.id_of g.O.Origins.tells (g.O.Origins.file_at c.args.world.now.origins) (g.O.Origins.path_faults c.args.world.now.origins) (g.O.Origins.path_faults c.obey-answer.new.origins) (g.O.Origins.file_at c.args.world.now.desk)
+    g.C.Clock.tells (g.C.Clock.time c.args.world.now.clock) g.P.Depot.tells path (archive_at (g.P.Depot.files c.args.world.now.depot) dir) (archive_at (g.P.Depot.files c.obey-answer.new.depot) dir) inputs line why bad
+    c.obey-answer.result (c.obey-answer.ensures.load dir path is).ends)
+    c.tell.ensures
 
 pub returns-clause-no_body : goal.returns-clause-no_body
 returns-clause-no_body g c kind path is told =

@@ -1,5 +1,5 @@
 use Rattle.std.proofs.Common.{◌≡◌, ◌≤◌, ◌+◌, ◌-◌, ◌++◌, ◌<◌, length, vec_len}
-use Rattle.swh_fastlex.proofs.source.read_source.Given as goal
+use Rattle.swh_fastlex.proofs.source.read_front.Given as goal
 
 abbrev pub invariant-rounds : goal.invariant-rounds
 invariant-rounds g l = record {

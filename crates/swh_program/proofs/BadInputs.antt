@@ -1,0 +1,95 @@
+-- A job whose input is bad is not full.
+use Rattle.std.proofs.Common.{◌≡◌, inl, inr, ⊎_elim, ℕ, Some, Result, Ok, Err, List, [], ◌∷◌, ◌++◌, map, Contains, sym, ap, ◌∙◌, subst}
+use Rattle.std.specs.List.{AllByRecursion}
+use Rattle.swh_base.specs.declared.kind.Kind.{Kind}
+use Rattle.swh_base.specs.declared.name.Name.{Name}
+use Rattle.swh_base.specs.declared.entry.Entry.{Entry}
+use Rattle.swh_jobs.specs.Job.{Job}
+use Rattle.swh_model.specs.declared.event.Event.{Event}
+use Rattle.swh_model.specs.Archive.{Bodies, empty_archive, body_of}
+use Rattle.swh_model.specs.Grows.{IsWithin}
+use Rattle.swh_model.specs.Meaning.{Made as MadeObject, Making, IsMeaning, IsLeftOut}
+use Rattle.swh_model.specs.Step.{IsHistory, IsGoodAndNamed, replay}
+use Rattle.swh_model.proofs.Growing.{bodies_grow}
+use Rattle.swh_model.proofs.Histories.{fronts}
+use Rattle.swh_fastload.specs.Making.{made_of, made}
+use Rattle.swh_fastload.proofs.Loads.{one_meaning_lem}
+use Rattle.swh_loader.specs.Ending.{IsFull}
+use Rattle.swh_loader.proofs.Limiting.{at_element}
+use Rattle.swh_loader.specs.declared.end.End.{End}
+use Rattle.swh_loader.specs.declared.end.End.TheVariants.{Full, NotFound, Failed}
+use Rattle.swh_loader.specs.declared.end.Loaded.{Loaded}
+use Rattle.swh_loader.specs.declared.fault.LoadFault.{LoadFault}
+use Rattle.swh_program.specs.Causes.{HasTwoBodies, IsBadInput}
+use Rattle.swh_program.specs.Complete.{HasBody}
+use Rattle.swh_program.specs.Jobs.{FileAt}
+use Rattle.swh_program.specs.Load.{LoadedJob, outcomes, ending_of_end, ending_for, ending_of_all, IsInputEnd, IsOutcome, HasFailed, AreJobLoads}
+use Rattle.swh_program.specs.declared.answer.Ending.TheVariants as ending
+use Rattle.swh_program.proofs.Elements.{from_map}
+use Rattle.swh_program.proofs.LoadEndings.{both_done, why_undone}
+use Rattle.swh_program.proofs.Loadings.{loads_behind}
+
+-- Nothing is wrong with the input of a full job.
+module _ (id_of : Kind → List ℕ → List ℕ) (bodies held : Bodies) (within : IsWithin bodies held) (text snapshot : List ℕ) (full : IsFull id_of text held snapshot) where
+  has_then : (making : Making) → IsMeaning id_of text making → (name : Name) (body : List ℕ) → HasBody id_of bodies making.objects name body → body_of held name ≡ Some body
+  has_then making means name body (inl there) = within name body there
+  has_then making means name body (inr makes) =
+      let same : making ≡ record { objects = made full.objects; snapshot = snapshot } = one_meaning_lem id_of text making (record { objects = made full.objects; snapshot = snapshot }) means full.means.meaning in
+      let object : MadeObject = record { kind = name.kind; body = body } in
+      let from = from_map made_of full.objects object (subst (λ (k : Making). Contains k.objects object) same makes.0) in
+      let entry = from.0 in
+      let kinds : entry.name.kind ≡ name.kind = ap (λ (m : MadeObject). m.kind) from.2 in
+      let texts : entry.body ≡ body = ap (λ (m : MadeObject). m.body) from.2 in
+      let named = (at_element (IsGoodAndNamed id_of) full.objects entry full.means.good from.1).named in
+      let ids : entry.name.id ≡ name.id = named ∙ (λ i. id_of (kinds i) (texts i)) ∙ sym makes.1 in
+      let names : entry.name ≡ name = λ i. record { kind = kinds i; id = ids i } in
+      subst (λ (n : Name). body_of held n ≡ Some body) names (at_element (λ (e : Entry). body_of held e.name ≡ Some e.body) full.objects entry full.held from.1 ∙ ap (λ (b : List ℕ). Some b) texts)
+
+  not_bad : IsBadInput id_of bodies (Some text) → ⊥
+  not_bad bad =
+      ⊎_elim
+      (λ (left : IsLeftOut id_of text). left (record { objects = made full.objects; snapshot = snapshot }) full.means.meaning)
+      (λ (two : HasTwoBodies id_of bodies text).
+      two.apart
+      (let both : Some two.a ≡ Some two.b = sym (has_then two.making two.means two.name two.a two.has_a) ∙ has_then two.making two.means two.name two.b two.has_b in cc))
+      bad
+
+module _ (id_of : Kind → List ℕ → List ℕ) (tells : Type 0) (told : tells) (input_at : FileAt) (failures failures_now : List ℕ → ℕ) (bodies : Bodies) where
+  -- so a job that is done has no bad input
+  end_not_bad : (job : Job) (held : Bodies) → IsWithin bodies held → (end : End) → IsInputEnd id_of tells (input_at job.path) job.head (HasFailed id_of tells input_at failures failures_now job) held end
+      → ending_of_end end ≡ ending.Done → IsBadInput id_of bodies (input_at job.path) → ⊥
+  end_not_bad job held within (Full snapshot) is e bad = let t = is told in not_bad id_of bodies held within t.0 snapshot t.2 (subst (IsBadInput id_of bodies) t.1 bad)
+  end_not_bad job held within NotFound is e bad = let f : ending.Wanting ≡ ending.Done = e in cc
+  end_not_bad job held within (Failed reason) is e bad = let f : ending.Wanting ≡ ending.Done = e in cc
+
+  load_not_bad : (job : Job) (date : ℕ) (h h' : List Event) → IsWithin bodies (replay h').bodies → (outcome : Result Loaded LoadFault)
+      → IsOutcome id_of tells (input_at job.path) job.head (HasFailed id_of tells input_at failures failures_now job) job.url date h h' outcome → ending_for outcome ≡ ending.Done → IsBadInput id_of bodies (input_at job.path) → ⊥
+  load_not_bad job date h h' within (Ok l) line e bad = end_not_bad job (replay h').bodies within l.end line.end e bad
+  load_not_bad job date h h' within (Err f) line e bad = why_undone f.why e
+
+  -- what is held at entry is held behind each load
+  within_more : (h more : List Event) → IsHistory id_of (h ++ more) → IsWithin bodies (replay h).bodies → IsWithin bodies (replay (h ++ more)).bodies
+  within_more h more history within n body held =
+      let parts = fronts id_of empty_archive h more history in
+      subst (λ (b : Bodies). body_of b n ≡ Some body) (ap (λ a. a.bodies) (sym parts.2)) (bodies_grow id_of (replay h) more parts.1 n body (within n body held))
+
+  pub none_bad : (loads : List LoadedJob) (h after : List Event) → AreJobLoads id_of tells input_at failures failures_now loads h after → IsHistory id_of after → IsWithin bodies (replay h).bodies
+      → ending_of_all (outcomes loads) ≡ ending.Done → AllByRecursion (λ l. IsBadInput id_of bodies (input_at l.job.path) → ⊥) loads
+  none_bad [] h after each history within e = tt
+  none_bad (l ∷ loads) h after each history within e =
+      let between = each.0 in
+      let adds = each.1.nothing_else in
+      let rest = loads_behind id_of tells input_at failures failures_now loads between after each.2 in
+      let here : IsHistory id_of between = (fronts id_of empty_archive between rest.0 (subst (IsHistory id_of) rest.1 history)).0 in
+      let held : IsWithin bodies (replay between).bodies = subst (λ (g : List Event). IsWithin bodies (replay g).bodies) (sym adds.behind) (within_more h adds.more (subst (IsHistory id_of) adds.behind here) within) in
+      let done = both_done (ending_for l.outcome) (ending_of_all (outcomes loads)) e in
+      (load_not_bad l.job l.date h between held l.outcome each.1.line done.0, none_bad loads between after each.2 history held done.1)
+
+  -- of jobs that are all done none has a bad input
+  pub bad_undone : (loads : List LoadedJob) (h after : List Event) → AreJobLoads id_of tells input_at failures failures_now loads h after → IsHistory id_of after → bodies ≡ (replay h).bodies
+      → (job : Job) → Contains (map (λ l. l.job) loads) job → IsBadInput id_of bodies (input_at job.path) → ending_of_all (outcomes loads) ≡ ending.Done → ⊥
+  bad_undone loads h after each history same job among bad e =
+      let from = from_map (λ (l : LoadedJob). l.job) loads job among in
+      at_element (λ (l : LoadedJob). IsBadInput id_of bodies (input_at l.job.path) → ⊥) loads from.0
+      (none_bad loads h after each history (λ n body held. subst (λ (b : Bodies). body_of b n ≡ Some body) same held) e) from.1
+      (subst (λ (j : Job). IsBadInput id_of bodies (input_at j.path)) (sym from.2) bad)

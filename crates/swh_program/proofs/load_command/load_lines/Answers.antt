@@ -1,0 +1,25 @@
+use Rattle.std.proofs.Common.{◌≡◌, ℕ, List, ◌++◌, length, take, drop, sym, ap, ◌∙◌, subst, arith}
+use Rattle.std.proofs.lemmas.List.{append-nil, drop_all, take_all}
+use Rattle.swh_jobs.specs.Answers.{jobs_of}
+use Rattle.swh_program.specs.Dated.{AreGivenBack}
+use Rattle.swh_program.proofs.KeptRuns.{kept_run}
+use Rattle.swh_program.proofs.load_command.load_lines.Goals as goal
+
+-- what was written over the front of a list of the same length
+written_back : {X : Type 0} (xs ys : List X) (n : ℕ) → length xs ≡ n → length ys ≡ n → take n (xs ++ drop (length xs) ys) ≡ xs
+written_back {X} xs ys n a b =
+    ap (λ (t : List X). take n (xs ++ t)) (drop_all (length xs) ys (omega (arith, a, b))) ∙ ap (take n) (append-nil xs) ∙ take_all n xs (omega (arith, a))
+
+pub returns-clause-load : goal.returns-clause-load
+returns-clause-load g c =
+    let o = c.in-Ok.ensures in
+    let l = rw c.as_mut_slice.ensures.value at c.load_all-loaded.ensures in
+    let len = c.load_all-loaded.auto.jobs ∙ c.as_mut_slice.ensures.len in
+    let items = sym (ap length c.as_mut_slice.ensures.value) ∙ c.as_mut_slice.ensures.len in
+    let same = c.as_slice.ensures.value ∙ written_back c.load_all-loaded.new.jobs c.in-Ok.jobs.items c.in-Ok.jobs.len len items in
+    let t = rw same at c.tell_loaded-answer.ensures in
+    let back = subst (AreGivenBack g.O.S.Source.faults g.O.S.Source.path (g.O.Origins.path_faults c.open_inputs.new.origins) (g.O.Origins.path_faults c.give_all_back.new.origins)) (sym c.as_slice.ensures.value ∙ same) c.give_all_back.ensures.back in
+    kept_run g.N.Namer.id_of g.O.Origins.tells g.O.S.Source.tells g.O.S.Source.left g.O.S.Source.faults g.O.S.Source.path (g.O.Origins.file_at c.args.origins.now)
+    (g.O.Origins.path_faults c.args.origins.now) (g.O.Origins.path_faults c.open_inputs.new.origins) (g.O.Origins.path_faults c.give_all_back.new.origins) o.path_later c.give_all_back.ensures.path_later
+    g.D.Disk.tells g.D.Disk.file g.D.Disk.faults g.C.Clock.tells (g.C.Clock.time c.args.clock.now) (jobs_of c.args.lines.items) c.in-Ok.jobs.items c.load_all-loaded.new.jobs c.args.keeper.now c.load_all-loaded.new.keeper c.requires
+    o.opened back o.said (λ v. v.items) c.load_all-loaded.result c.tell_loaded-answer.result l.loads l.stops l.unwounded l.same_keeper t.told t.memory

@@ -1,0 +1,5 @@
+-- A line that tells a refusal.
+use Rattle.std.specs.Prelude.{ℕ, List, ◌++◌, ◌∷◌, [], codes}
+
+abbrev pub refusal : List ℕ → List ℕ
+refusal text = codes "swharc: " ++ (text ++ 10 ∷ [])
