@@ -18,9 +18,9 @@ module _ {S D : Type 0} (id : Kind → List ℕ → List ℕ) (tells : Type 0) (
   pub outcome_of : (l : OneLoad S) (old new : Kept D) (result : Result Loaded LoadFault)
       → IfOk result (λ loaded. loaded.visit ≡ next_visit old.history l.job.job.origin)
       → IfOk result (λ loaded. IsVisit new.history l.job.job.origin loaded.visit l.job.date by ((Created, None) ∷ statuses_of loaded.end))
-      → IfOk result (λ loaded. IsJobEnd id tells left source_faults (bodies_of new) l.job.job.stream l.after.job.stream loaded.end)
+      → IfOk result (λ loaded. IsJobEnd id l.job.job.head tells left source_faults (bodies_of new) l.job.job.stream l.after.job.stream loaded.end)
       → OnOk result (GoesOn old new) → OnOk result (old.wounded ≡ None)
-      → IfErr result (Stops id disk_faults (AreAllowed id tells left l.job.job.stream) by l.job.job.origin l.job.date old new)
+      → IfErr result (Stops id disk_faults (AreAllowed id l.job.job.head tells left l.job.job.stream) by l.job.job.origin l.job.date old new)
       → IsOutcome id tells left source_faults path disks_tell file disk_faults by l old new result
   outcome_of l old new (Ok loaded) number visit means on before stops = record { number = number; visit = visit; means = means; on = on; before_it = before }
   outcome_of l old new (Err fault) number visit means on before stops = stops

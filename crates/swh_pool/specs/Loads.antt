@@ -1,6 +1,7 @@
 -- Jobs loaded one after the other.
-use Rattle.std.specs.Prelude.{◌≡◌, ℕ, ◌≤◌, Some, None, Result, Ok, Err, List, [], ◌∷◌, map}
+use Rattle.std.specs.Prelude.{◌≡◌, ℕ, ◌≤◌, IfSome, Some, None, Result, Ok, Err, List, [], ◌∷◌, map}
 use Rattle.swh_base.specs.declared.kind.Kind.{Kind}
+use Rattle.swh_base.specs.Text.{IsRef}
 use Rattle.swh_base.specs.declared.visit.Status.TheVariants.{Created}
 use Rattle.swh_outside.specs.Disk.{File}
 use Rattle.swh_keeper.specs.Kept.{Kept}
@@ -11,6 +12,10 @@ use Rattle.swh_loader.specs.Leaving.{AreAllowed, AddsVisit, MakesVisitCalls, Sto
 use Rattle.swh_loader.specs.Sending.{bodies_of}
 use Rattle.swh_loader.specs.Visiting.{IsVisit, GoesOn}
 use Rattle.swh_pool.specs.declared.dated.DatedJob.{DatedJob}
+
+-- The job's head is a ref, where it names one.
+abbrev pub HasHead : {S : Type 0} → DatedJob S → Type 0
+HasHead dated = IfSome dated.job.head IsRef
 
 -- one job: as it was, as it is afterwards, and how its load ended
 pub record OneLoad (S : Type 0) : Type 0 where
@@ -26,24 +31,25 @@ module _ {S D : Type 0} (id : Kind → List ℕ → List ℕ) (tells : Type 0) (
   pub record IsEnded (l : OneLoad S) (old new : Kept D) (loaded : Loaded) : Type 0 where
     pub number : loaded.visit ≡ next_visit old.history l.job.job.origin
     pub visit : IsVisit new.history l.job.job.origin loaded.visit l.job.date by ((Created, None) ∷ statuses_of loaded.end)
-    pub means : IsJobEnd id tells left source_faults (bodies_of new) l.job.job.stream l.after.job.stream loaded.end
+    pub means : IsJobEnd id l.job.job.head tells left source_faults (bodies_of new) l.job.job.stream l.after.job.stream loaded.end
     pub on : GoesOn old new
     pub before_it : old.wounded ≡ None
 
   -- What the outcome says.
   abbrev pub IsOutcome : OneLoad S → Kept D → Kept D → Result Loaded LoadFault → Type 0
   IsOutcome l old new (Ok loaded) = IsEnded l old new loaded
-  IsOutcome l old new (Err fault) = Stops id disk_faults (AreAllowed id tells left l.job.job.stream) by l.job.job.origin l.job.date old new fault
+  IsOutcome l old new (Err fault) = Stops id disk_faults (AreAllowed id l.job.job.head tells left l.job.job.stream) by l.job.job.origin l.job.date old new fault
 
   -- The load of one job, between two states of the archive.
   pub record IsOneLoad (l : OneLoad S) (old new : Kept D) : Type 0 where
-    pub adds : AddsVisit (AreAllowed id tells left l.job.job.stream) by l.job.job.origin l.job.date old.history new.history
+    pub adds : AddsVisit (AreAllowed id l.job.job.head tells left l.job.job.stream) by l.job.job.origin l.job.date old.history new.history
     pub ends : IsOutcome l old new l.outcome
     pub wounded : (n : ℕ) → old.wounded ≡ Some n → IsHeldBack old new l.outcome
-    pub calls : disks_tell → MakesVisitCalls id file (AreAllowed id tells left l.job.job.stream) by l.job.job.origin l.job.date old new
+    pub calls : disks_tell → MakesVisitCalls id file (AreAllowed id l.job.job.head tells left l.job.job.stream) by l.job.job.origin l.job.date old new
     pub store_later : disk_faults old.store ≤ disk_faults new.store
     pub ledger_later : disk_faults old.ledger ≤ disk_faults new.ledger
     pub same_origin : l.after.job.origin ≡ l.job.job.origin
+    pub same_head : l.after.job.head ≡ l.job.job.head
     pub same_input : IsSameInput path source_faults l.job.job.stream l.after.job.stream
     pub same_date : l.after.date ≡ l.job.date
 

@@ -1,6 +1,6 @@
 // Jobs loaded one after the other.
-ghost use Rattle.std.specs.Prelude.{◌≡◌, ◌↔◌, None, IfOk, OnErr, is_some, length};
-ghost use Rattle.swh_pool.specs.Loads.{one_load, IsOneLoad, AreLoaded};
+ghost use Rattle.std.specs.Prelude.{◌≡◌, ◌↔◌, None, All, IfOk, OnErr, is_some, length};
+ghost use Rattle.swh_pool.specs.Loads.{HasHead, one_load, IsOneLoad, AreLoaded};
 ghost use Rattle.swh_pool.specs.Stops.{AreStops, HaveNoDiskFault};
 
 use crate::dated::DatedJob;
@@ -21,6 +21,7 @@ fn load_dated<N: Namer, D: Disk, S: Source, G: Gate>(
     worker: u32,
     number: u32,
 ) -> Result<Loaded, LoadFault>
+    requires { HasHead dated.old }
     ensures { IsOneLoad N.id_of S.tells S.left S.faults S.path D.tells D.file D.faults by (one_load dated.old dated.new result) keeper.old keeper.new }
 {
     load_one(
@@ -47,6 +48,8 @@ pub fn load_all<N: Namer, D: Disk, S: Source, G: Gate>(
     gate: &G,
     worker: u32,
 ) -> Result<Vec<Result<Loaded, LoadFault>>, Memory>
+    // A head is a ref.
+    requires { All HasHead jobs.old }
     // Each load begins where the one before it ended.
     ensures loads { IfOk result (λ outcomes. AreLoaded N.id_of S.tells S.left S.faults S.path D.tells D.file D.faults by jobs.old jobs.new keeper.old keeper.new outcomes.items) }
     // Once a disk has failed, each job is stopped before its visit.

@@ -14,13 +14,13 @@ pub returns-then-is_empty-clause-calls : goal.returns-then-is_empty-clause-calls
 returns-then-is_empty-clause-calls g c told = calls_none g.N.Namer.id_of g.D.Disk.file (IsBatchOf c.args.by c.args.pending.entries.items) c.args.keeper.now c.args.keeper.now refl
 
 pub returns-in-Ok-clause-bodies : goal.returns-in-Ok-clause-bodies
-returns-in-Ok-clause-bodies g c = batch_bodies c.args.keeper.now.history c.args.by c.args.pending.entries.items c.apply.new.self.history c.in-Ok.field-0 (rw c.from_vec.ensures at c.in-Ok.ensures.ok) c.requires.waiting.new
+returns-in-Ok-clause-bodies g c = batch_bodies c.args.keeper.now.history _ c.args.pending.entries.items c.apply.new.self.history c.in-Ok.field-0 (rw c.from_vec.ensures at c.in-Ok.ensures.ok) c.requires.waiting.new
 
 pub returns-in-Ok-clause-on : goal.returns-in-Ok-clause-on
-returns-in-Ok-clause-on g c = goes_on c.args.keeper.now c.apply.new.self c.args.by _ c.in-Ok.field-0 c.in-Ok.ensures.ok c.in-Ok.ensures.unwounded.1
+returns-in-Ok-clause-on g c = goes_on c.args.keeper.now c.apply.new.self _ _ c.in-Ok.field-0 c.in-Ok.ensures.ok c.in-Ok.ensures.unwounded.1
 
 pub returns-in-Ok-clause-visits : goal.returns-in-Ok-clause-visits
-returns-in-Ok-clause-visits g c origin number = batch_visit c.args.keeper.now.history c.args.by _ c.apply.new.self.history c.in-Ok.field-0 c.in-Ok.ensures.ok origin number
+returns-in-Ok-clause-visits g c origin number = batch_visit c.args.keeper.now.history _ _ c.apply.new.self.history c.in-Ok.field-0 c.in-Ok.ensures.ok origin number
 
 pub returns-in-Ok-clause-calls : goal.returns-in-Ok-clause-calls
 returns-in-Ok-clause-calls g c told = calls_one g.N.Namer.id_of g.D.Disk.file (IsBatchOf c.args.by c.args.pending.entries.items) c.args.keeper.now c.apply.new.self c.in-Ok.ensures.unwounded.1 (c.in-Ok.ensures.calls told)
@@ -35,7 +35,7 @@ returns-in-Ok-clause-adds g c =
     c.in-Ok.ensures.store_later c.in-Ok.ensures.ledger_later)
 
 pub stopped-requires : goal.stopped-requires
-stopped-requires g c = batch_may c.args.keeper.now c.apply.new.self c.args.by c.args.pending.entries.items c.in-Err.refusal c.requires.waiting.new (rw c.from_vec.ensures at c.in-Err.ensures.err)
+stopped-requires g c = batch_may c.args.keeper.now c.apply.new.self _ c.args.pending.entries.items c.in-Err.refusal c.requires.waiting.new (rw c.from_vec.ensures at c.in-Err.ensures.err)
 
 pub returns-clause-calls : goal.returns-clause-calls
 returns-clause-calls g c told =

@@ -1,6 +1,8 @@
 use Rattle.std.proofs.Common.{rules, arith, ◌≡◌, ◌++◌, ◌∷◌, [], ◌≤◌, ◌+◌, length, get_or, map, refl, sym, ap, ◌∙◌, subst, length-append}
 use Rattle.std.proofs.lemmas.List.{length-map, map-append}
-use Rattle.swh_pool.specs.Loads.{one_load}
+use Rattle.std.specs.List.{AllByRecursion}
+use Rattle.std.proofs.lemmas.List.Elements.{recursion_from_All}
+use Rattle.swh_pool.specs.Loads.{HasHead, one_load}
 use Rattle.swh_pool.specs.Stops.{AreStops, HaveNoDiskFault}
 use Rattle.swh_pool.proofs.Loads.{loads_further}
 use Rattle.swh_pool.proofs.Stopped.{stops_of, whole_since, whole_still}
@@ -16,12 +18,22 @@ jobs-init g c = record {
   rest = c.args.jobs.now;
   before = refl;
   now = refl;
+  heads = recursion_from_All HasHead c.args.jobs.now c.requires;
   outcomes = c.in_ok-outcomes.ensures.items;
   each = refl;
   index = refl;
   count = c.in_ok-outcomes.ensures.len;
   room = search rules;
 }
+
+pub load_dated-outcome-requires-after_bounds : goal.load_dated-outcome-requires-after_bounds
+load_dated-outcome-requires-after_bounds g c κs within =
+    let loads = c.jobs.invariant.loads in
+    let below = c.jobs-test.true in
+    let same : length c.jobs.jobs ≡ length c.args.jobs.now = search rules in
+    let job = get_or c.jobs.jobs c.jobs.dated-index c.dated-item.result in
+    let turn = turned c.jobs.jobs (map (λ x. x.after) loads) c.jobs.invariant.rest c.jobs.dated-index c.dated-item.result job c.jobs.invariant.now (length-map loads (λ x. x.after) ∙ c.jobs.invariant.index) (omega (arith, same, below)) in
+    (subst (AllByRecursion HasHead) turn.1 c.jobs.invariant.heads).0
 
 pub jobs-preserved : goal.jobs-preserved
 jobs-preserved g c =
@@ -38,6 +50,7 @@ jobs-preserved g c =
       rest = turn.0;
       before = c.jobs.invariant.before ∙ ap (λ rest. map (λ x. x.job) loads ++ rest) turn.1 ∙ seam_further (λ x. x.job) loads load turn.0;
       now = turn.2 ∙ seam_further (λ x. x.after) loads load turn.0;
+      heads = (subst (AllByRecursion HasHead) turn.1 c.jobs.invariant.heads).1;
       outcomes = c.push_reserved.ensures.items ∙ ap (λ l. l ++ load.outcome ∷ []) c.jobs.invariant.outcomes ∙ sym (map-append (λ x. x.outcome) loads (load ∷ []));
       each = loads_further g.N.Namer.id_of g.S.Source.tells g.S.Source.left g.S.Source.faults g.S.Source.path g.D.Disk.tells g.D.Disk.file g.D.Disk.faults c.args.by loads load c.args.keeper.now c.jobs.keeper c.load_dated-outcome.new.keeper c.jobs.invariant.each c.load_dated-outcome.ensures;
       index = length-append loads (load ∷ []) ∙ ap (λ n. n + 1) long;

@@ -1,6 +1,7 @@
 use Rattle.std.proofs.Common.{◌≡◌, List, ◌++◌, map, length, vec_len, vec_capacity}
 use Rattle.swh_pool.specs.declared.dated.DatedJob.{DatedJob}
-use Rattle.swh_pool.specs.Loads.{OneLoad, AreLoads}
+use Rattle.std.specs.List.{AllByRecursion}
+use Rattle.swh_pool.specs.Loads.{HasHead, OneLoad, AreLoads}
 use Rattle.swh_pool.proofs.loading.load_all.Given as goal
 
 abbrev pub invariant-jobs : goal.invariant-jobs
@@ -9,6 +10,7 @@ invariant-jobs g l = record {
   rest : List (DatedJob g.row.S.Denot);
   before : l.fn.jobs ≡ map (λ x. x.job) loads ++ rest;
   now : l.jobs ≡ map (λ x. x.after) loads ++ rest;
+  heads : AllByRecursion HasHead rest;
   outcomes : l.outcomes.items ≡ map (λ x. x.outcome) loads;
   each : AreLoads g.N.Namer.id_of g.S.Source.tells g.S.Source.left g.S.Source.faults g.S.Source.path g.D.Disk.tells g.D.Disk.file g.D.Disk.faults l.by loads l.fn.keeper l.keeper;
   index : length loads ≡ l.dated-index;

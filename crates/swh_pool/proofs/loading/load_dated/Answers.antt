@@ -15,6 +15,7 @@ returns g c =
       store_later = ensures.store_later;
       ledger_later = ensures.ledger_later;
       same_origin = ensures.same_origin;
+      same_head = ensures.same_head;
       same_input = ensures.same_input;
       same_date = refl;
     }

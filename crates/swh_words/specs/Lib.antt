@@ -1,0 +1,3 @@
+pub mod Commands
+pub mod Definition
+pub mod Words

@@ -1,0 +1,52 @@
+-- The words of a run: which command they are, by the program's definition for clap.
+use Rattle.std.specs.Prelude.{◌≡◌, ◌≢◌, ◌<◌, ℕ, List, [], ◌∷◌, Some, IsSomeAnd, length, codes}
+use Rattle.clap.specs.Words.{Row, Text, all_of, fault_of, first_of, subcommand_of}
+use Rattle.swh_base.specs.declared.kind.Kind.{Kind}
+use Rattle.swh_base.specs.declared.kind.Kind.TheVariants.{Content, Directory, Revision, Release, Snapshot}
+use Rattle.swh_words.specs.Definition.{program_app}
+
+-- the letters of a kind
+abbrev pub kind_letters : Kind → List ℕ
+kind_letters Content = codes "cnt"
+kind_letters Directory = codes "dir"
+kind_letters Revision = codes "rev"
+kind_letters Release = codes "rel"
+kind_letters Snapshot = codes "snp"
+
+-- what a run may be asked to do
+pub data Wanted : Type 0 where
+  -- to make an archive in a folder
+  ToInit : List ℕ → Wanted
+  -- to load the jobs of a file into the archive in a folder
+  ToLoad : List ℕ → List ℕ → Wanted
+  -- to ask the archive in a folder by paths
+  ToAsk : List ℕ → List (List ℕ) → Wanted
+  -- to name the bytes of a file as a body of a kind
+  ToIdentify : Kind → List ℕ → Wanted
+
+-- A subcommand's name and clap's values for it are what is wanted.
+abbrev pub IsGiven : Text × List Row → Wanted → Type 0
+IsGiven given (ToInit dir) = (given.0 ≡ codes "init") × (first_of (codes "dir") given.1 ≡ Some dir)
+IsGiven given (ToLoad dir jobs) =
+    (given.0 ≡ codes "load") × (first_of (codes "dir") given.1 ≡ Some dir) × (first_of (codes "jobs") given.1 ≡ Some jobs)
+IsGiven given (ToAsk dir paths) =
+    (given.0 ≡ codes "ask") × (first_of (codes "dir") given.1 ≡ Some dir) × (all_of (codes "path") given.1 ≡ Some paths)
+IsGiven given (ToIdentify kind path) =
+    (given.0 ≡ codes "identify") × (first_of (codes "kind") given.1 ≡ Some (kind_letters kind)) × (first_of (codes "path") given.1 ≡ Some path)
+
+-- One path or more is asked, and a directory is no file.
+abbrev pub IsOffered : Wanted → Type 0
+IsOffered (ToInit dir) = Unit {0}
+IsOffered (ToLoad dir jobs) = Unit {0}
+IsOffered (ToAsk dir paths) = paths ≢ []
+IsOffered (ToIdentify kind path) = kind ≢ Directory
+
+-- A subcommand's name and clap's values for it ask for this, which is offered.
+pub record IsAsked (given : Text × List Row) (wanted : Wanted) : Type 0 where
+  pub is_given : IsGiven given wanted
+  pub offered : IsOffered wanted
+
+-- Clap takes the words by the program's definition, and what it gives for them asks for this.
+pub record IsCommand (words : List (List ℕ)) (wanted : Wanted) : Type 0 where
+  pub taken : fault_of program_app words ≡ []
+  pub asked : IsSomeAnd (subcommand_of program_app words) (λ given. IsAsked given wanted)

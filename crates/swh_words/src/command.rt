@@ -1,0 +1,49 @@
+//! What the words of a run ask for.
+ghost use Rattle.std.specs.Prelude.{◌≡◌};
+ghost use Rattle.swh_words.specs.Words.{kind_letters};
+ghost use Rattle.swh_words.specs.declared.command.WordsFault.TheVariants.{Memory as OutOfMemory};
+
+use std::alloc::AllocError;
+use swh_base::Kind;
+
+/// What a run is asked to do.
+#[derive(Debug, Drop)]
+pub enum Command<'a> {
+    /// To make an archive in a folder.
+    Init { dir: &'a str },
+    /// To load the jobs of a file into the archive in a folder.
+    Load { dir: &'a str, jobs: &'a str },
+    /// To ask the archive in a folder by paths, one or more.
+    Ask { dir: &'a str, paths: Vec<&'a str> },
+    /// To name the bytes of a file as a body of a kind.
+    Identify { kind: Kind, path: &'a str },
+}
+
+/// Why words give no command.
+#[derive(Clone, Copy, Debug, PartialEq, Eq)]
+pub enum WordsFault {
+    /// They are none.
+    Words,
+    Memory,
+}
+
+impl From<AllocError> for WordsFault {
+    ghost from_gives = { λ _ fault. fault ≡ OutOfMemory };
+
+    fn from(_e: AllocError) -> WordsFault {
+        WordsFault::Memory
+    }
+}
+
+/// The letters of a kind.
+pub fn letters_of(kind: Kind) -> &'static [u8]
+    ensures { result.now ≡ kind_letters kind }
+{
+    match kind {
+        Kind::Content => b"cnt".as_slice(),
+        Kind::Directory => b"dir".as_slice(),
+        Kind::Revision => b"rev".as_slice(),
+        Kind::Release => b"rel".as_slice(),
+        Kind::Snapshot => b"snp".as_slice(),
+    }
+}
