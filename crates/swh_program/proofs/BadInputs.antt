@@ -23,7 +23,9 @@ use Rattle.swh_loader.specs.declared.fault.LoadFault.{LoadFault}
 use Rattle.swh_program.specs.Causes.{HasTwoBodies, IsBadInput}
 use Rattle.swh_program.specs.Complete.{HasBody}
 use Rattle.swh_program.specs.Jobs.{FileAt}
-use Rattle.swh_program.specs.Load.{LoadedJob, outcomes, ending_of_end, ending_for, ending_of_all, IsInputEnd, IsOutcome, HasFailed, AreJobLoads}
+use Rattle.swh_program.specs.Inputs.{IsInputEnd, IsOutcome}
+use Rattle.swh_program.specs.Lines.{LoadedJob, outcomes, ending_of_end, ending_for, ending_of_all}
+use Rattle.swh_program.specs.Load.{HasFailed, AreJobLoads}
 use Rattle.swh_program.specs.declared.answer.Ending.TheVariants as ending
 use Rattle.swh_program.proofs.Elements.{from_map}
 use Rattle.swh_program.proofs.LoadEndings.{both_done, why_undone}

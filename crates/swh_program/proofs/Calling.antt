@@ -17,7 +17,8 @@ use Rattle.swh_loader.proofs.CallLaws.{calls_none, of_as, of_further}
 use Rattle.swh_pool.specs.Loads.{OneLoad}
 use Rattle.swh_program.specs.Dated.{IsOpenedJob}
 use Rattle.swh_program.specs.Jobs.{FileAt}
-use Rattle.swh_program.specs.Load.{LoadedJob, IsNextOf}
+use Rattle.swh_program.specs.Lines.{LoadedJob}
+use Rattle.swh_program.specs.Load.{IsNextOf}
 use Rattle.swh_program.proofs.Inputs.{adds_of, loaded_job, loaded_jobs, Loads, AllLoads, Open}
 
 -- a load on an archive whose disk had failed leaves it as it was

@@ -19,7 +19,7 @@ use Rattle.swh_pool.specs.Lines.{ended, lines_of, IsReport}
 use Rattle.swh_pool.specs.Loads.{OneLoad, IsOutcome, IsOneLoad, AreLoads}
 use Rattle.swh_pool.specs.Stops.{IsUnwounded, is_disk_fault, AreStops}
 use Rattle.swh_pool.specs.declared.dated.DatedJob.{DatedJob}
-use Rattle.swh_program.specs.Load.{LoadedJob, outcomes, load_line, ending_of_end, ending_of_why, ending_for, worse, ending_of_all, ending_without, TellsLoads, TellsLoad}
+use Rattle.swh_program.specs.Lines.{LoadedJob, outcomes, load_line, ending_of_end, ending_of_why, ending_for, worse, ending_of_all, ending_without, TellsLoads, TellsLoad}
 use Rattle.swh_program.specs.Telling.{ending_of_whole, TellsReport}
 use Rattle.swh_program.specs.declared.answer.Ending.{Ending}
 use Rattle.swh_program.specs.declared.answer.Ending.TheVariants as ending

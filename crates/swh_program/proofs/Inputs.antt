@@ -30,7 +30,9 @@ use Rattle.swh_pool.specs.Lines.{ended}
 use Rattle.swh_pool.specs.Loads.{OneLoad, IsOutcome as IsOutcomeOf, IsOneLoad, AreLoads}
 use Rattle.swh_program.specs.Dated.{IsOpenedAt, IsOpenedJob, AreOpenedJobs, IsGivenBack, AreGivenBack}
 use Rattle.swh_program.specs.Jobs.{FileAt}
-use Rattle.swh_program.specs.Load.{LoadedJob, dates, outcomes, IsOfInput, IsInputEnd, StopsFor, StopsVisit, IsOutcome, IsJobLoad, AreJobLoads}
+use Rattle.swh_program.specs.Inputs.{IsOfInput, IsInputEnd, StopsFor, StopsVisit, IsOutcome}
+use Rattle.swh_program.specs.Lines.{LoadedJob, dates, outcomes}
+use Rattle.swh_program.specs.Load.{IsJobLoad, AreJobLoads}
 
 -- a count that rose later rose since before
 pub rose_since : (a b c : ℕ) → a ≤ b → Rose b c → Rose a c

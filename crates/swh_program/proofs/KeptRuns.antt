@@ -13,7 +13,7 @@ use Rattle.swh_pool.specs.Stops.{AreStops, HaveNoDiskFault}
 use Rattle.swh_pool.specs.declared.dated.DatedJob.{DatedJob}
 use Rattle.swh_program.specs.Dated.{AreSaid, AreOpenedJobs, AreGivenBack}
 use Rattle.swh_program.specs.Jobs.{FileAt}
-use Rattle.swh_program.specs.Load.{LoadedJob, dates, outcomes, ending_of_all}
+use Rattle.swh_program.specs.Lines.{LoadedJob, dates, outcomes, ending_of_all}
 use Rattle.swh_program.specs.Loading.{AreKeptLoads, IsKeptRun}
 use Rattle.swh_program.specs.Telling.{TellsReport}
 use Rattle.swh_program.specs.declared.answer.Ending.TheVariants as ending

@@ -2,7 +2,8 @@
 use Rattle.std.proofs.Common.{◌≡◌, ◌⊎◌, inl, inr, ℕ, List, refl}
 use Rattle.swh_base.specs.declared.kind.Kind.{Kind}
 use Rattle.swh_outside.specs.Files.{Files}
-use Rattle.swh_program.specs.Load.{LoadedJob, TellsLoads, TellsLoad, IsUnloaded}
+use Rattle.swh_program.specs.Lines.{LoadedJob, TellsLoads, TellsLoad}
+use Rattle.swh_program.specs.Load.{IsUnloaded}
 use Rattle.swh_program.specs.Opening.{IsOpenRefusal, OpenEnds}
 use Rattle.swh_program.specs.declared.answer.Ending.{Ending}
 use Rattle.swh_program.specs.declared.answer.Answer.{Answer}

@@ -11,7 +11,8 @@ use Rattle.swh_model.specs.Step.{replay}
 use Rattle.swh_program.specs.Answers.{status_of, status_for, printed_by, IsPrinted}
 use Rattle.swh_program.specs.Causes.{ComesTo, IsExactly, IsUnusable, IsFullLine, HasShortLine, IsByLines, IsBadInput}
 use Rattle.swh_program.specs.Jobs.{FileAt, AreJobsAt, IsBadAt, IsJobRefusal, bad_job_line}
-use Rattle.swh_program.specs.Load.{LoadedJob, outcomes, load_line, ending_of_all, ending_without, TellsLoads, AreLoadedJobs, IsUnloaded, IsLoadedOrNot, LoadEnds, IsNoJobsRun}
+use Rattle.swh_program.specs.Lines.{LoadedJob, outcomes, load_line, ending_of_all, ending_without, TellsLoads}
+use Rattle.swh_program.specs.Load.{AreLoadedJobs, IsUnloaded, IsLoadedOrNot, LoadEnds, IsNoJobsRun}
 use Rattle.swh_program.specs.Opening.{IsArchive, IsOpenRefusal, OpenEnds}
 use Rattle.swh_program.specs.declared.answer.Ending.{Ending}
 use Rattle.swh_program.specs.declared.answer.Ending.TheVariants as ending

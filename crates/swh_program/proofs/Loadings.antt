@@ -27,7 +27,9 @@ use Rattle.swh_loader.specs.declared.fault.LoadWhy.TheVariants as why
 use Rattle.swh_loader.specs.declared.fault.LoadFault.{LoadFault}
 use Rattle.swh_program.specs.Complete.{MeantJob, jobs_of, full_line, full_lines, all_made, AreMade, IsMeant, AreMeant, HasOneBody, HasRoom, AreQuiet}
 use Rattle.swh_program.specs.Jobs.{FileAt}
-use Rattle.swh_program.specs.Load.{loader, LoadedJob, outcomes, load_line, ending_of_end, ending_of_why, ending_for, ending_of_all, worse, IsInputEnd, StopsFor, IsOutcome, HasFailed, IsOfJob, AreJobLoads}
+use Rattle.swh_program.specs.Inputs.{loader, IsInputEnd, StopsFor, IsOutcome}
+use Rattle.swh_program.specs.Lines.{LoadedJob, outcomes, load_line, ending_of_end, ending_of_why, ending_for, ending_of_all, worse}
+use Rattle.swh_program.specs.Load.{HasFailed, IsOfJob, AreJobLoads}
 use Rattle.swh_program.specs.Opening.{IsArchive}
 use Rattle.swh_program.specs.Run.{IsQuiet}
 use Rattle.swh_program.specs.declared.answer.Ending.{Ending}

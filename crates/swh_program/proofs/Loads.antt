@@ -23,7 +23,8 @@ use Rattle.swh_pool.specs.Stops.{HaveNoDiskFault}
 use Rattle.swh_program.specs.Dated.{AreSaid}
 use Rattle.swh_program.specs.Jobs.{FileAt}
 use Rattle.swh_program.specs.Opening.{IsArchive, IsOnlyOpened, IsOpenRefusal, OpenEnds}
-use Rattle.swh_program.specs.Load.{LoadedJob, outcomes, ending_of_all, ending_without, worse, TellsLoad, TellsDisk, VisitsStay, LeavesDisks, IsNextOf, AreJobLoads, MakesRunCalls, IsLoad, AreLoadedJobs, IsLoadedOrNot, IsUnloaded}
+use Rattle.swh_program.specs.Lines.{LoadedJob, outcomes, ending_of_all, ending_without, worse, TellsLoad}
+use Rattle.swh_program.specs.Load.{TellsDisk, VisitsStay, LeavesDisks, IsNextOf, AreJobLoads, MakesRunCalls, IsLoad, AreLoadedJobs, IsLoadedOrNot, IsUnloaded}
 use Rattle.swh_program.specs.Loading.{IsUnstarted, AreKeptLoads, AreKeptJobs, IsKeptRun}
 use Rattle.swh_program.specs.declared.answer.Ending.TheVariants as ending
 use Rattle.swh_program.specs.declared.answer.Answer.{Answer}

@@ -12,7 +12,8 @@ use Rattle.swh_loader.specs.Leaving.{next_visit}
 use Rattle.swh_program.specs.Answers.{status_of, status_for, last_line_for}
 use Rattle.swh_program.specs.Complete.{MeantJob, jobs_of, full_lines, all_made, AreMeant, HasOneBody, HasRoom, AreQuiet}
 use Rattle.swh_program.specs.Jobs.{FileAt, AreJobsAt}
-use Rattle.swh_program.specs.Load.{LoadedJob, outcomes, load_line, ending_of_all, ending_without, worse, TellsLoads, TellsDisk, IsLoad, AreLoadedJobs, IsUnloaded, IsLoadedOrNot, LoadEnds}
+use Rattle.swh_program.specs.Lines.{LoadedJob, outcomes, load_line, ending_of_all, ending_without, worse, TellsLoads}
+use Rattle.swh_program.specs.Load.{TellsDisk, IsLoad, AreLoadedJobs, IsUnloaded, IsLoadedOrNot, LoadEnds}
 use Rattle.swh_program.specs.Opening.{IsArchive, IsOpenRefusal, OpenEnds}
 use Rattle.swh_program.specs.declared.answer.Ending.{Ending}
 use Rattle.swh_program.specs.declared.answer.Ending.TheVariants as ending

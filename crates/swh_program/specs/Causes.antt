@@ -19,7 +19,8 @@ use Rattle.swh_loader.specs.declared.fault.LoadFault.{LoadFault}
 use Rattle.swh_program.specs.Archives.{Folders, archive_at}
 use Rattle.swh_program.specs.Complete.{HasBody}
 use Rattle.swh_program.specs.Jobs.{FileAt, AreJobsAt, IsBadAt}
-use Rattle.swh_program.specs.Load.{LoadedJob, outcomes, load_line, TellsDisk, IsLoad}
+use Rattle.swh_program.specs.Lines.{LoadedJob, outcomes, load_line}
+use Rattle.swh_program.specs.Load.{TellsDisk, IsLoad}
 use Rattle.swh_program.specs.Opening.{IsDamaged}
 use Rattle.swh_program.specs.Words.{Wanted, ToInit, ToLoad, ToAsk, ToIdentify}
 use Rattle.swh_program.specs.declared.answer.Answer.{Answer}

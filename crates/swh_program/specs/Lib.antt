@@ -10,6 +10,8 @@ pub mod Ask
 pub mod Jobs
 pub mod Dated
 pub mod Telling
+pub mod Inputs
+pub mod Lines
 pub mod Load
 pub mod Loading
 pub mod Complete

@@ -1,112 +1,34 @@
 -- How `load` ends.
-use Rattle.std.specs.Prelude.{◌≡◌, ◌⊎◌, ℕ, ◌+◌, Option, Some, None, false, Result, Ok, Err, List, [], ◌∷◌, ◌++◌, Contains, map, flat_map}
-use Rattle.std.specs.List.{AllByRecursion}
+use Rattle.std.specs.Prelude.{◌≡◌, ◌⊎◌, ℕ, ◌+◌, Some, false, Result, List, [], ◌∷◌, ◌++◌, Contains, map}
 use Rattle.swh_base.specs.declared.kind.Kind.{Kind}
 use Rattle.swh_base.specs.declared.entry.Entry.{Entry}
-use Rattle.swh_base.specs.declared.visit.Status.TheVariants.{Created}
-use Rattle.swh_base.specs.declared.visit.Which.{Which}
 use Rattle.swh_outside.specs.Disk.{File}
 use Rattle.swh_outside.specs.Faults.{Rose}
 use Rattle.swh_outside.specs.Files.{Files, files_done}
 use Rattle.swh_model.specs.declared.event.Event.{Event}
 use Rattle.swh_model.specs.declared.event.Visit.{Visit}
-use Rattle.swh_model.specs.Archive.{Bodies, visits_of}
+use Rattle.swh_model.specs.Archive.{visits_of}
 use Rattle.swh_model.specs.Grows.{IsWithin, IsLaterVisit}
-use Rattle.swh_model.specs.Judge.{FilePasses}
-use Rattle.swh_model.specs.Meaning.{IsLeftOut}
 use Rattle.swh_model.specs.Sound.{IsSound}
-use Rattle.swh_model.specs.Step.{May, IsHistory, visit_at, replay}
+use Rattle.swh_model.specs.Step.{IsHistory, visit_at, replay}
 use Rattle.swh_keeper.specs.Kept.{AreStanding, AreInDoubt}
 use Rattle.swh_segment.specs.Making.{barriers}
 use Rattle.swh_jobs.specs.Job.{Job}
 use Rattle.swh_jobs.specs.JobFile.{AreJobs}
-use Rattle.swh_loader.specs.Adding.{opening}
 use Rattle.swh_loader.specs.Calls.{all_calls, BreaksAt}
-use Rattle.swh_loader.specs.Ending.{IsMadeBy, IsFull, Collided, statuses_of}
-use Rattle.swh_loader.specs.Leaving.{AddsVisit, next_visit}
-use Rattle.swh_loader.specs.Report.{report_of}
-use Rattle.swh_loader.specs.Visiting.{IsVisit}
-use Rattle.swh_loader.specs.declared.end.StreamWhy.TheVariants.{LeftOut}
-use Rattle.swh_loader.specs.declared.end.BadInput.TheVariants.{Stream, Collision, Read}
-use Rattle.swh_loader.specs.declared.end.End.{End}
-use Rattle.swh_loader.specs.declared.end.End.TheVariants.{Full, NotFound, Failed}
+use Rattle.swh_loader.specs.Leaving.{AddsVisit}
 use Rattle.swh_loader.specs.declared.end.Loaded.{Loaded}
-use Rattle.swh_loader.specs.declared.fault.LoadWhy.{LoadWhy}
-use Rattle.swh_loader.specs.declared.fault.LoadWhy.TheVariants as why
 use Rattle.swh_loader.specs.declared.fault.LoadFault.{LoadFault}
 use Rattle.swh_pool.specs.Stops.{AreStops, HaveNoDiskFault}
 use Rattle.swh_program.specs.Archives.{Folders, archive_at, SameElsewhere}
 use Rattle.swh_program.specs.Dated.{AreSaid}
 use Rattle.swh_program.specs.Jobs.{FileAt, AreJobsAt, IsJobRefusal, IsJobRefused}
 use Rattle.swh_program.specs.Opening.{IsArchive, IsOnlyOpened, IsOpenRefusal, OpenEnds}
-use Rattle.swh_program.specs.declared.answer.Ending.{Ending}
 use Rattle.swh_program.specs.declared.answer.Ending.TheVariants as ending
 use Rattle.swh_program.specs.declared.answer.Answer.{Answer}
-use Rattle.swh_program.specs.declared.answer.Answer.TheVariants.{Told, OutsideDisk, OutsideSource, OutsideClock, Memory}
-
--- who loads the jobs of a run
-abbrev pub loader : ℕ
-loader = 1
-
-abbrev pub ending_of_end : End → Ending
-ending_of_end (Full snapshot) = ending.Done
-ending_of_end NotFound = ending.Wanting
-ending_of_end (Failed bad) = ending.Wanting
-
-abbrev pub ending_of_why : LoadWhy → Ending
-ending_of_why (why.Ended status) = ending.Wanting
-ending_of_why why.DiskFault = ending.OutsideDisk
-ending_of_why why.Wounded = ending.OutsideDisk
-ending_of_why (why.Limit which number) = ending.Wanting
-ending_of_why why.Memory = ending.Memory
-
-abbrev pub ending_for : Result Loaded LoadFault → Ending
-ending_for (Ok loaded) = ending_of_end loaded.end
-ending_for (Err fault) = ending_of_why fault.why
-
--- a job, the date of its load, and how that ended
-pub record LoadedJob : Type 0 where
-  pub job : Job
-  pub date : ℕ
-  pub outcome : Result Loaded LoadFault
-
-abbrev pub dates : List LoadedJob → List ℕ
-dates loads = map (λ l. l.date) loads
-
-abbrev pub outcomes : List LoadedJob → List (Result Loaded LoadFault)
-outcomes loads = map (λ l. l.outcome) loads
-
--- the worse of two: a disk that failed, then want of memory, then a job that is not full
-abbrev pub worse : Ending → Ending → Ending
-worse ending.Done b = b
-worse ending.Wanting b = elim b [ ending.Done ↦ ending.Wanting | ending.Wanting ↦ ending.Wanting | ending.OutsideDisk ↦ ending.OutsideDisk | ending.Memory ↦ ending.Memory ]
-worse ending.Memory b = elim b [ ending.Done ↦ ending.Memory | ending.Wanting ↦ ending.Memory | ending.OutsideDisk ↦ ending.OutsideDisk | ending.Memory ↦ ending.Memory ]
-worse ending.OutsideDisk b = ending.OutsideDisk
-
-abbrev pub ending_of_all : List (Result Loaded LoadFault) → Ending
-ending_of_all [] = ending.Done
-ending_of_all (o ∷ more) = worse (ending_for o) (ending_of_all more)
-
--- memory ran out where lines are missing
-abbrev pub ending_without : List LoadedJob → Ending
-ending_without [] = ending.Done
-ending_without (l ∷ missing) = ending.Memory
-
-abbrev pub load_line : LoadedJob → List ℕ
-load_line l = report_of l.job.url l.outcome
-
--- The text is the lines of these loads, in their order, without the last ones where memory for them ran out.
-pub record TellsLoads (loads : List LoadedJob) (text : List ℕ) (end : Ending) : Type 0 where
-  pub shown : List LoadedJob
-  pub missing : List LoadedJob
-  pub are : loads ≡ shown ++ missing
-  pub text_is : text ≡ flat_map load_line shown
-  pub end_is : end ≡ worse (ending_of_all (outcomes loads)) (ending_without missing)
-
--- the answer tells them
-abbrev pub TellsLoad : List LoadedJob → Answer → Type 0
-TellsLoad loads (Told text end) = TellsLoads loads text end
-TellsLoad loads _ = ⊥
+use Rattle.swh_program.specs.declared.answer.Answer.TheVariants.{Told, OutsideDisk, OutsideSource, OutsideClock}
+use Rattle.swh_program.specs.Inputs.{loader, IsOfInput, IsOutcome}
+use Rattle.swh_program.specs.Lines.{LoadedJob, dates, outcomes, TellsLoad}
 
 -- Each visit that was there stays there.
 abbrev pub VisitsStay : List Event → List Event → Type 0
@@ -118,54 +40,6 @@ VisitsStay before after = (origin : List ℕ) (number : ℕ) (v : Visit) → vis
 pub record LeavesDisks (id_of : Kind → List ℕ → List ℕ) (ledger store : File) (after : List Event) (ended : List (Result Loaded LoadFault)) : Type 0 where
   pub standing : HaveNoDiskFault ended → AreStanding ledger store after
   pub doubt : (HaveNoDiskFault ended → ⊥) → AreInDoubt id_of ledger store after
-
--- What a load says of its input: what stands at its path, if anything, where that is told; the head that its job names;
--- whether the path has failed.
-module _ (id_of : Kind → List ℕ → List ℕ) (tells : Type 0) (found head : Option (List ℕ)) (failed : Type 0) where
-  -- The input is there, and its text has this.
-  abbrev pub OfText : (List ℕ → Type 0) → Type 0
-  OfText P = tells → (text : List ℕ) × (found ≡ Some text) × P text
-
-  -- The input makes all of these.
-  abbrev pub IsOfInput : List Entry → Type 0
-  IsOfInput entries = OfText (λ text. AllByRecursion (IsMadeBy id_of head text) entries)
-
-  -- An event of this load that may happen next would pass a file's end.
-  pub record MeetsEnd (url : List ℕ) (date : ℕ) (before after : List Event) (which : Which) (number : ℕ) : Type 0 where
-    pub event : Event
-    pub next : AddsVisit IsOfInput loader url date before (after ++ event ∷ [])
-    pub may : May id_of (replay after) event
-    pub passes : FilePasses after event.what which number
-
-  -- Why a load stopped: a disk failed, a file would pass its end, or memory ran out.
-  abbrev pub StopsFor : List ℕ → ℕ → List Event → List Event → LoadWhy → Type 0
-  StopsFor url date before after (why.Ended status) = ⊥
-  StopsFor url date before after why.DiskFault = Unit {0}
-  StopsFor url date before after why.Wounded = Unit {0}
-  StopsFor url date before after (why.Limit which number) = MeetsEnd url date before after which number
-  StopsFor url date before after why.Memory = Unit {0}
-
-  -- A load stopped before its visit was opened, with nothing added, or once it was opened.
-  pub record StopsVisit (url : List ℕ) (date : ℕ) (before after : List Event) (fault : LoadFault) : Type 0 where
-    pub visit : ((fault.visit ≡ 0) × (after ≡ before)) ⊎ ((fault.visit ≡ next_visit before url) × (more : List Event) × (after ≡ before ++ opening loader url date ∷ more))
-    pub stops : StopsFor url date before after fault.why
-
-  abbrev pub IsInputEnd : Bodies → End → Type 0
-  IsInputEnd bodies (Full snapshot) = OfText (λ text. IsFull id_of head text bodies snapshot)
-  IsInputEnd bodies NotFound = tells → found ≡ None
-  IsInputEnd bodies (Failed (Stream at why)) = (at ≡ 0) × (why ≡ LeftOut) × OfText (IsLeftOut id_of head)
-  IsInputEnd bodies (Failed (Collision name)) = OfText (λ text. Collided id_of head text bodies name)
-  IsInputEnd bodies (Failed Read) = failed
-
-  -- The visit is the next of its origin, and ended as its input has it.
-  pub record EndsVisit (url : List ℕ) (date : ℕ) (before after : List Event) (loaded : Loaded) : Type 0 where
-    pub number : loaded.visit ≡ next_visit before url
-    pub visit : IsVisit after url loaded.visit date loader ((Created, None) ∷ statuses_of loaded.end)
-    pub end : IsInputEnd (replay after).bodies loaded.end
-
-  abbrev pub IsOutcome : List ℕ → ℕ → List Event → List Event → Result Loaded LoadFault → Type 0
-  IsOutcome url date before after (Ok loaded) = EndsVisit url date before after loaded
-  IsOutcome url date before after (Err fault) = StopsVisit url date before after fault
 
 -- The loads of jobs: by what stands at each path, and how often each has failed at entry and at the end.
 module _ (id_of : Kind → List ℕ → List ℕ) (tells : Type 0) (input_at : FileAt) (failures failures_now : List ℕ → ℕ) where

@@ -9,7 +9,8 @@ use Rattle.swh_loader.specs.Calls.{MakesCalls}
 use Rattle.swh_pool.specs.Stops.{AreStops, HaveNoDiskFault}
 use Rattle.swh_program.specs.Dated.{AreSaid}
 use Rattle.swh_program.specs.Jobs.{FileAt}
-use Rattle.swh_program.specs.Load.{LoadedJob, dates, outcomes, ending_of_all, TellsLoad, AreJobLoads, IsNextOf}
+use Rattle.swh_program.specs.Lines.{LoadedJob, dates, outcomes, ending_of_all, TellsLoad}
+use Rattle.swh_program.specs.Load.{AreJobLoads, IsNextOf}
 use Rattle.swh_program.specs.declared.answer.Ending.TheVariants as ending
 use Rattle.swh_program.specs.declared.answer.Answer.{Answer}
 use Rattle.swh_program.specs.declared.answer.Answer.TheVariants.{OutsideClock, Memory}

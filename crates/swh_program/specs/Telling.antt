@@ -5,7 +5,7 @@ use Rattle.swh_loader.specs.declared.fault.LoadFault.{LoadFault}
 use Rattle.swh_pool.specs.Lines.{IsReport}
 use Rattle.swh_pool.specs.declared.dated.DatedJob.{DatedJob}
 use Rattle.swh_pool.specs.declared.report.Report.{Report}
-use Rattle.swh_program.specs.Load.{ending_of_all, worse}
+use Rattle.swh_program.specs.Lines.{ending_of_all, worse}
 use Rattle.swh_program.specs.declared.answer.Ending.{Ending}
 use Rattle.swh_program.specs.declared.answer.Ending.TheVariants as ending
 use Rattle.swh_program.specs.declared.answer.Answer.{Answer}

@@ -1,6 +1,6 @@
 // What is told of loads.
 ghost use Rattle.std.specs.Prelude.{◌≡◌, IfOk, OnErr, length};
-ghost use Rattle.swh_program.specs.Load.{ending_of_end, ending_of_why, ending_for, ending_of_all, worse};
+ghost use Rattle.swh_program.specs.Lines.{ending_of_end, ending_of_why, ending_for, ending_of_all, worse};
 ghost use Rattle.swh_program.specs.Telling.{ending_of_whole, TellsReport};
 ghost use Rattle.swh_program.specs.declared.answer.Answer.TheVariants.{Memory as OutOfMemory};
 

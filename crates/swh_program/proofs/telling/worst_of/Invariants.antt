@@ -1,5 +1,5 @@
 use Rattle.std.proofs.Common.{◌≡◌, drop}
-use Rattle.swh_program.specs.Load.{ending_of_all, worse}
+use Rattle.swh_program.specs.Lines.{ending_of_all, worse}
 use Rattle.swh_program.proofs.telling.worst_of.Given as goal
 
 abbrev pub invariant-loop-outcome : goal.invariant-loop-outcome

@@ -1,0 +1,76 @@
+-- What a load says of its input.
+use Rattle.std.specs.Prelude.{◌≡◌, ◌⊎◌, ℕ, ◌+◌, Option, Some, None, Result, Ok, Err, List, [], ◌∷◌, ◌++◌}
+use Rattle.std.specs.List.{AllByRecursion}
+use Rattle.swh_base.specs.declared.kind.Kind.{Kind}
+use Rattle.swh_base.specs.declared.entry.Entry.{Entry}
+use Rattle.swh_base.specs.declared.visit.Status.TheVariants.{Created}
+use Rattle.swh_base.specs.declared.visit.Which.{Which}
+use Rattle.swh_model.specs.declared.event.Event.{Event}
+use Rattle.swh_model.specs.Archive.{Bodies}
+use Rattle.swh_model.specs.Judge.{FilePasses}
+use Rattle.swh_model.specs.Meaning.{IsLeftOut}
+use Rattle.swh_model.specs.Step.{May, replay}
+use Rattle.swh_loader.specs.Adding.{opening}
+use Rattle.swh_loader.specs.Ending.{IsMadeBy, IsFull, Collided, statuses_of}
+use Rattle.swh_loader.specs.Leaving.{AddsVisit, next_visit}
+use Rattle.swh_loader.specs.Visiting.{IsVisit}
+use Rattle.swh_loader.specs.declared.end.StreamWhy.TheVariants.{LeftOut}
+use Rattle.swh_loader.specs.declared.end.BadInput.TheVariants.{Stream, Collision, Read}
+use Rattle.swh_loader.specs.declared.end.End.{End}
+use Rattle.swh_loader.specs.declared.end.End.TheVariants.{Full, NotFound, Failed}
+use Rattle.swh_loader.specs.declared.end.Loaded.{Loaded}
+use Rattle.swh_loader.specs.declared.fault.LoadWhy.{LoadWhy}
+use Rattle.swh_loader.specs.declared.fault.LoadWhy.TheVariants as why
+use Rattle.swh_loader.specs.declared.fault.LoadFault.{LoadFault}
+
+-- who loads the jobs of a run
+abbrev pub loader : ℕ
+loader = 1
+
+-- What a load says of its input: what stands at its path, if anything, where that is told; the head that its job names;
+-- whether the path has failed.
+module _ (id_of : Kind → List ℕ → List ℕ) (tells : Type 0) (found head : Option (List ℕ)) (failed : Type 0) where
+  -- The input is there, and its text has this.
+  abbrev pub OfText : (List ℕ → Type 0) → Type 0
+  OfText P = tells → (text : List ℕ) × (found ≡ Some text) × P text
+
+  -- The input makes all of these.
+  abbrev pub IsOfInput : List Entry → Type 0
+  IsOfInput entries = OfText (λ text. AllByRecursion (IsMadeBy id_of head text) entries)
+
+  -- An event of this load that may happen next would pass a file's end.
+  pub record MeetsEnd (url : List ℕ) (date : ℕ) (before after : List Event) (which : Which) (number : ℕ) : Type 0 where
+    pub event : Event
+    pub next : AddsVisit IsOfInput loader url date before (after ++ event ∷ [])
+    pub may : May id_of (replay after) event
+    pub passes : FilePasses after event.what which number
+
+  -- Why a load stopped: a disk failed, a file would pass its end, or memory ran out.
+  abbrev pub StopsFor : List ℕ → ℕ → List Event → List Event → LoadWhy → Type 0
+  StopsFor url date before after (why.Ended status) = ⊥
+  StopsFor url date before after why.DiskFault = Unit {0}
+  StopsFor url date before after why.Wounded = Unit {0}
+  StopsFor url date before after (why.Limit which number) = MeetsEnd url date before after which number
+  StopsFor url date before after why.Memory = Unit {0}
+
+  -- A load stopped before its visit was opened, with nothing added, or once it was opened.
+  pub record StopsVisit (url : List ℕ) (date : ℕ) (before after : List Event) (fault : LoadFault) : Type 0 where
+    pub visit : ((fault.visit ≡ 0) × (after ≡ before)) ⊎ ((fault.visit ≡ next_visit before url) × (more : List Event) × (after ≡ before ++ opening loader url date ∷ more))
+    pub stops : StopsFor url date before after fault.why
+
+  abbrev pub IsInputEnd : Bodies → End → Type 0
+  IsInputEnd bodies (Full snapshot) = OfText (λ text. IsFull id_of head text bodies snapshot)
+  IsInputEnd bodies NotFound = tells → found ≡ None
+  IsInputEnd bodies (Failed (Stream at why)) = (at ≡ 0) × (why ≡ LeftOut) × OfText (IsLeftOut id_of head)
+  IsInputEnd bodies (Failed (Collision name)) = OfText (λ text. Collided id_of head text bodies name)
+  IsInputEnd bodies (Failed Read) = failed
+
+  -- The visit is the next of its origin, and ended as its input has it.
+  pub record EndsVisit (url : List ℕ) (date : ℕ) (before after : List Event) (loaded : Loaded) : Type 0 where
+    pub number : loaded.visit ≡ next_visit before url
+    pub visit : IsVisit after url loaded.visit date loader ((Created, None) ∷ statuses_of loaded.end)
+    pub end : IsInputEnd (replay after).bodies loaded.end
+
+  abbrev pub IsOutcome : List ℕ → ℕ → List Event → List Event → Result Loaded LoadFault → Type 0
+  IsOutcome url date before after (Ok loaded) = EndsVisit url date before after loaded
+  IsOutcome url date before after (Err fault) = StopsVisit url date before after fault

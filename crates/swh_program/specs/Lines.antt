@@ -1,0 +1,74 @@
+-- How loads end together, and the lines that tell them.
+use Rattle.std.specs.Prelude.{◌≡◌, ℕ, ◌+◌, Result, Ok, Err, List, [], ◌∷◌, ◌++◌, map, flat_map}
+use Rattle.swh_jobs.specs.Job.{Job}
+use Rattle.swh_loader.specs.Report.{report_of}
+use Rattle.swh_loader.specs.declared.end.End.{End}
+use Rattle.swh_loader.specs.declared.end.End.TheVariants.{Full, NotFound, Failed}
+use Rattle.swh_loader.specs.declared.end.Loaded.{Loaded}
+use Rattle.swh_loader.specs.declared.fault.LoadWhy.{LoadWhy}
+use Rattle.swh_loader.specs.declared.fault.LoadWhy.TheVariants as why
+use Rattle.swh_loader.specs.declared.fault.LoadFault.{LoadFault}
+use Rattle.swh_program.specs.declared.answer.Ending.{Ending}
+use Rattle.swh_program.specs.declared.answer.Ending.TheVariants as ending
+use Rattle.swh_program.specs.declared.answer.Answer.{Answer}
+use Rattle.swh_program.specs.declared.answer.Answer.TheVariants.{Told}
+
+abbrev pub ending_of_end : End → Ending
+ending_of_end (Full snapshot) = ending.Done
+ending_of_end NotFound = ending.Wanting
+ending_of_end (Failed bad) = ending.Wanting
+
+abbrev pub ending_of_why : LoadWhy → Ending
+ending_of_why (why.Ended status) = ending.Wanting
+ending_of_why why.DiskFault = ending.OutsideDisk
+ending_of_why why.Wounded = ending.OutsideDisk
+ending_of_why (why.Limit which number) = ending.Wanting
+ending_of_why why.Memory = ending.Memory
+
+abbrev pub ending_for : Result Loaded LoadFault → Ending
+ending_for (Ok loaded) = ending_of_end loaded.end
+ending_for (Err fault) = ending_of_why fault.why
+
+-- a job, the date of its load, and how that ended
+pub record LoadedJob : Type 0 where
+  pub job : Job
+  pub date : ℕ
+  pub outcome : Result Loaded LoadFault
+
+abbrev pub dates : List LoadedJob → List ℕ
+dates loads = map (λ l. l.date) loads
+
+abbrev pub outcomes : List LoadedJob → List (Result Loaded LoadFault)
+outcomes loads = map (λ l. l.outcome) loads
+
+-- the worse of two: a disk that failed, then want of memory, then a job that is not full
+abbrev pub worse : Ending → Ending → Ending
+worse ending.Done b = b
+worse ending.Wanting b = elim b [ ending.Done ↦ ending.Wanting | ending.Wanting ↦ ending.Wanting | ending.OutsideDisk ↦ ending.OutsideDisk | ending.Memory ↦ ending.Memory ]
+worse ending.Memory b = elim b [ ending.Done ↦ ending.Memory | ending.Wanting ↦ ending.Memory | ending.OutsideDisk ↦ ending.OutsideDisk | ending.Memory ↦ ending.Memory ]
+worse ending.OutsideDisk b = ending.OutsideDisk
+
+abbrev pub ending_of_all : List (Result Loaded LoadFault) → Ending
+ending_of_all [] = ending.Done
+ending_of_all (o ∷ more) = worse (ending_for o) (ending_of_all more)
+
+-- memory ran out where lines are missing
+abbrev pub ending_without : List LoadedJob → Ending
+ending_without [] = ending.Done
+ending_without (l ∷ missing) = ending.Memory
+
+abbrev pub load_line : LoadedJob → List ℕ
+load_line l = report_of l.job.url l.outcome
+
+-- The text is the lines of these loads, in their order, without the last ones where memory for them ran out.
+pub record TellsLoads (loads : List LoadedJob) (text : List ℕ) (end : Ending) : Type 0 where
+  pub shown : List LoadedJob
+  pub missing : List LoadedJob
+  pub are : loads ≡ shown ++ missing
+  pub text_is : text ≡ flat_map load_line shown
+  pub end_is : end ≡ worse (ending_of_all (outcomes loads)) (ending_without missing)
+
+-- the answer tells them
+abbrev pub TellsLoad : List LoadedJob → Answer → Type 0
+TellsLoad loads (Told text end) = TellsLoads loads text end
+TellsLoad loads _ = ⊥
