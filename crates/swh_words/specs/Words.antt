@@ -38,7 +38,7 @@ IsGiven given (ToIdentify kind path) =
 abbrev pub IsOffered : Wanted → Type 0
 IsOffered (ToInit dir) = Unit {0}
 IsOffered (ToLoad dir jobs) = Unit {0}
-IsOffered (ToAsk dir paths) = paths ≢ []
+IsOffered (ToAsk dir paths) = 0 < length paths
 IsOffered (ToIdentify kind path) = kind ≢ Directory
 
 -- A subcommand's name and clap's values for it ask for this, which is offered.
