@@ -1,5 +1,5 @@
 // Reads the words of a run.
-ghost use Rattle.std.specs.Prelude.{◌≡◌, ◌≢◌, ◌∷◌, ◌↔◌, [], List, map, string_bytes, All, IfSome, None, IsTrue, codes};
+ghost use Rattle.std.specs.Prelude.{◌≡◌, ◌≢◌, ◌<◌, ◌⊎◌, ◌∷◌, ◌↔◌, [], ℕ, List, length, map, string_bytes, All, IfSome, None, IsTrue, codes};
 ghost use Rattle.swh_base.specs.declared.kind.Kind.{Kind};
 ghost use Rattle.swh_base.specs.declared.kind.Kind.TheVariants.{Directory};
 ghost use Rattle.swh_program.specs.Words.{Wanted, IsCommand, IsPlain, IsSpelled, kind_letters};
@@ -14,8 +14,8 @@ pub enum Command<'a> {
     Init { dir: &'a str },
     /// To load the job of a file into the archive in a folder.
     Load { dir: &'a str, jobs: &'a str },
-    /// To ask the archive in a folder by a path.
-    Ask { dir: &'a str, path: &'a str },
+    /// To ask the archive in a folder by paths.
+    Ask { dir: &'a str, paths: &'a [String] },
     /// To name the bytes of a file as a body of a kind.
     Identify { kind: Kind, path: &'a str },
 }
@@ -77,28 +77,6 @@ fn are_plain(words: &[String]) -> bool
     words.iter().all(|word| is_plain(word.as_str()))
 }
 
-// The command of a word and two more.
-fn command_of_two<'a>(command: &str, first: &'a str, second: &'a str) -> Option<Command<'a>>
-    ensures some { IfSome result (λ c. IsSpelled (command.now ∷ first.now ∷ second.now ∷ []) (wanted_by c)) }
-    ensures none { result ≡ None → (wanted : Wanted) → IsSpelled (command.now ∷ first.now ∷ second.now ∷ []) wanted → ⊥ }
-{
-    if command == "load" {
-        Some(Command::Load {
-            dir: first,
-            jobs: second,
-        })
-    } else if command == "ask" {
-        Some(Command::Ask {
-            dir: first,
-            path: second,
-        })
-    } else if command == "identify" {
-        identify_as(first, second)
-    } else {
-        None
-    }
-}
-
 // The command, where its word and the number of its words are right.
 fn command_of(words: &[String]) -> Option<Command<'_>>
     ensures some { IfSome result (λ command. IsSpelled (map string_bytes words.now) (wanted_by command)) }
@@ -106,8 +84,16 @@ fn command_of(words: &[String]) -> Option<Command<'_>>
 {
     match words {
         [command, dir] if command.as_str() == "init" => Some(Command::Init { dir: dir.as_str() }),
-        [command, first, second] => {
-            command_of_two(command.as_str(), first.as_str(), second.as_str())
+        [command, dir, jobs] if command.as_str() == "load" => Some(Command::Load {
+            dir: dir.as_str(),
+            jobs: jobs.as_str(),
+        }),
+        [command, dir, _, ..] if command.as_str() == "ask" => Some(Command::Ask {
+            dir: dir.as_str(),
+            paths: &words[2..],
+        }),
+        [command, letters, path] if command.as_str() == "identify" => {
+            identify_as(letters.as_str(), path.as_str())
         }
         _ => None,
     }
