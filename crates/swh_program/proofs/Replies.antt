@@ -56,9 +56,9 @@ more_replies a (p ∷ ps) (r ∷ rs) path reply are is = (are.0, more_replies a 
 -- a short reply stays one of them
 still_short : (replies : List ReplyText) (reply : ReplyText) → HasShortReply replies → HasShortReply (replies ++ reply ∷ [])
 still_short replies reply short =
-    let less = short.1.1.0 in
+    let less = short.2 in
     let long = length-append replies (reply ∷ []) in
-    (short.0, (short.1.0, (omega (arith, less, long), (get_or-append replies (reply ∷ []) short.1.0 short.0 less ∙ short.1.1.1.0, short.1.1.1.1))))
+    (short.0, short.1, omega (arith, less, long), get_or-append replies (reply ∷ []) short.1 short.0 less ∙ short.3, short.4)
 
 -- how a run ends that has one more reply
 more_ending : (replies : List ReplyText) (reply : ReplyText) (end now : Ending) → IsEndingOf replies end → ((reply.status ≡ 200) × (now ≡ end)) ⊎ ((reply.status ≢ 200) × (now ≡ Wanting)) → IsEndingOf (replies ++ reply ∷ []) now
@@ -86,4 +86,4 @@ found_at (r ∷ rs) (suc k) reply found less at = found_at rs k reply found.1 (o
 
 -- not each is found where one is short
 pub none_short : (replies : List ReplyText) → AreFound replies → HasShortReply replies → ⊥
-none_short replies found short = short.1.1.1.1 (found_at replies short.0 short.1.0 found short.1.1.0 short.1.1.1.0)
+none_short replies found short = short.4 (found_at replies short.0 short.1 found short.2 short.3)

@@ -1,5 +1,5 @@
 // Reads the words of a run.
-ghost use Rattle.std.specs.Prelude.{◌≡◌, ◌≢◌, ◌<◌, ◌⊎◌, ◌∷◌, ◌↔◌, [], ℕ, List, length, map, string_bytes, All, IfSome, None, IsTrue, codes};
+ghost use Rattle.std.specs.Prelude.{◌≡◌, ◌≢◌, ◌<◌, ◌∷◌, ◌↔◌, [], ℕ, List, length, map, string_bytes, All, IfSome, None, IsTrue, codes};
 ghost use Rattle.swh_base.specs.declared.kind.Kind.{Kind};
 ghost use Rattle.swh_base.specs.declared.kind.Kind.TheVariants.{Directory};
 ghost use Rattle.swh_program.specs.Words.{Wanted, IsCommand, IsPlain, IsSpelled, kind_letters};
@@ -77,26 +77,82 @@ fn are_plain(words: &[String]) -> bool
     words.iter().all(|word| is_plain(word.as_str()))
 }
 
+// The command to make an archive, by the words behind its own.
+fn init_by(words: &[String]) -> Option<Command<'_>>
+    ensures some { IfSome result (λ command. IsSpelled (codes "init" ∷ map string_bytes words.now) (wanted_by command)) }
+    ensures none { result ≡ None → (wanted : Wanted) → IsSpelled (codes "init" ∷ map string_bytes words.now) wanted → ⊥ }
+{
+    match words {
+        [dir] => Some(Command::Init { dir: dir.as_str() }),
+        _ => None,
+    }
+}
+
+// The command to load, by the words behind its own.
+fn load_by(words: &[String]) -> Option<Command<'_>>
+    ensures some { IfSome result (λ command. IsSpelled (codes "load" ∷ map string_bytes words.now) (wanted_by command)) }
+    ensures none { result ≡ None → (wanted : Wanted) → IsSpelled (codes "load" ∷ map string_bytes words.now) wanted → ⊥ }
+{
+    match words {
+        [dir, jobs] => Some(Command::Load {
+            dir: dir.as_str(),
+            jobs: jobs.as_str(),
+        }),
+        _ => None,
+    }
+}
+
+// The command to ask, by the words behind its own.
+fn ask_by(words: &[String]) -> Option<Command<'_>>
+    ensures some { IfSome result (λ command. IsSpelled (codes "ask" ∷ map string_bytes words.now) (wanted_by command)) }
+    ensures none { result ≡ None → (wanted : Wanted) → IsSpelled (codes "ask" ∷ map string_bytes words.now) wanted → ⊥ }
+{
+    let (dir, paths) = words.split_first()?;
+    if paths.is_empty() {
+        return None;
+    }
+    Some(Command::Ask {
+        dir: dir.as_str(),
+        paths,
+    })
+}
+
+// The command to identify a file, by the words behind its own.
+fn identify_by(words: &[String]) -> Option<Command<'_>>
+    ensures some { IfSome result (λ command. IsSpelled (codes "identify" ∷ map string_bytes words.now) (wanted_by command)) }
+    ensures none { result ≡ None → (wanted : Wanted) → IsSpelled (codes "identify" ∷ map string_bytes words.now) wanted → ⊥ }
+{
+    match words {
+        [letters, path] => identify_as(letters.as_str(), path.as_str()),
+        _ => None,
+    }
+}
+
+// The command of a word, by the words behind it.
+fn command_by<'a>(command: &str, words: &'a [String]) -> Option<Command<'a>>
+    ensures some { IfSome result (λ c. IsSpelled (command.now ∷ map string_bytes words.now) (wanted_by c)) }
+    ensures none { result ≡ None → (wanted : Wanted) → IsSpelled (command.now ∷ map string_bytes words.now) wanted → ⊥ }
+{
+    if command == "init" {
+        init_by(words)
+    } else if command == "load" {
+        load_by(words)
+    } else if command == "ask" {
+        ask_by(words)
+    } else if command == "identify" {
+        identify_by(words)
+    } else {
+        None
+    }
+}
+
 // The command, where its word and the number of its words are right.
 fn command_of(words: &[String]) -> Option<Command<'_>>
     ensures some { IfSome result (λ command. IsSpelled (map string_bytes words.now) (wanted_by command)) }
     ensures none { result ≡ None → (wanted : Wanted) → IsSpelled (map string_bytes words.now) wanted → ⊥ }
 {
-    match words {
-        [command, dir] if command.as_str() == "init" => Some(Command::Init { dir: dir.as_str() }),
-        [command, dir, jobs] if command.as_str() == "load" => Some(Command::Load {
-            dir: dir.as_str(),
-            jobs: jobs.as_str(),
-        }),
-        [command, dir, _, ..] if command.as_str() == "ask" => Some(Command::Ask {
-            dir: dir.as_str(),
-            paths: &words[2..],
-        }),
-        [command, letters, path] if command.as_str() == "identify" => {
-            identify_as(letters.as_str(), path.as_str())
-        }
-        _ => None,
-    }
+    let (command, rest) = words.split_first()?;
+    command_by(command.as_str(), rest)
 }
 
 /// The command that the words are.

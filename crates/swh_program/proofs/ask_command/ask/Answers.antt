@@ -1,14 +1,13 @@
-use Rattle.std.proofs.Common.{◌∙◌, map, subst}
+use Rattle.std.proofs.Common.{◌∙◌, map}
 use Rattle.swh_program.specs.Archives.{archive_at}
-use Rattle.swh_program.specs.Ask.{IsToldArchive}
 use Rattle.swh_program.proofs.Asked.{refused, replied}
 use Rattle.swh_program.proofs.ask_command.ask.Goals as goal
 
 pub returns-in-Err-clause-ends : goal.returns-in-Err-clause-ends
 returns-in-Err-clause-ends g c told = refused g.N.Namer.id_of _ _ _ c.in-Err.answer (c.in-Err.ensures.ends told)
 
-pub returns-in-Ok-clause-ends : goal.returns-in-Ok-clause-ends
-returns-in-Ok-clause-ends g c told =
+pub returns-clause-ends : goal.returns-clause-ends
+returns-clause-ends g c told =
     let opened = c.close_archive.ensures.taken told ∙ c.in-Ok.ensures.opened told in
     let shown = c.replayed.ensures c.in-Ok.ensures.unwounded in
     replied g.N.Namer.id_of (map g.W.AsStr.text c.args.paths.now) (archive_at (g.P.Depot.files c.args.depot.now) c.args.dir.now) (archive_at (g.P.Depot.files c.close_archive.new.depot) c.args.dir.now) _ (c.in-Ok.ensures.archive told) opened _
