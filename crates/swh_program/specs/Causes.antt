@@ -37,14 +37,14 @@ pub record IsExactly (expected : ℕ) (Cause : Type 0) (status : ℕ) : Type 0 w
 abbrev pub IsDeskTold : Type 0 → Wanted → Type 0
 IsDeskTold tells (ToInit dir) = Unit {0}
 IsDeskTold tells (ToLoad dir jobs) = tells
-IsDeskTold tells (ToAsk dir path) = Unit {0}
+IsDeskTold tells (ToAsk dir paths) = Unit {0}
 IsDeskTold tells (ToIdentify kind path) = tells
 
 -- The command reads a job file which is not there, or has no job.
 abbrev pub HasNoJob : FileAt → Wanted → Type 0
 HasNoJob desk_at (ToInit dir) = ⊥
 HasNoJob desk_at (ToLoad dir jobs) = (desk_at jobs ≡ None) ⊎ IsNoJobAt desk_at jobs
-HasNoJob desk_at (ToAsk dir path) = ⊥
+HasNoJob desk_at (ToAsk dir paths) = ⊥
 HasNoJob desk_at (ToIdentify kind path) = ⊥
 
 -- The archive is made already, for `init`; for the others it is not made, or damaged, and a job that is read is right.
@@ -55,7 +55,7 @@ module _ (id_of : Kind → List ℕ → List ℕ) where
   abbrev pub HasOtherArchive : Folders → FileAt → Wanted → Type 0
   HasOtherArchive folders desk_at (ToInit dir) = IsMade (archive_at folders dir 0).seen
   HasOtherArchive folders desk_at (ToLoad dir jobs) = ((url path : List ℕ) × IsJobAt desk_at jobs url path) × IsUnusable (archive_at folders dir)
-  HasOtherArchive folders desk_at (ToAsk dir path) = IsUnusable (archive_at folders dir)
+  HasOtherArchive folders desk_at (ToAsk dir paths) = IsUnusable (archive_at folders dir)
   HasOtherArchive folders desk_at (ToIdentify kind path) = ⊥
 
 abbrev pub IsFullEnd : End → Type 0

@@ -1,5 +1,5 @@
 -- The words of a run: which command they spell.
-use Rattle.std.specs.Prelude.{◌≡◌, ◌≢◌, ℕ, List, [], ◌∷◌, codes}
+use Rattle.std.specs.Prelude.{◌≡◌, ◌≢◌, ℕ, ◌<◌, List, [], ◌∷◌, length, codes}
 use Rattle.std.specs.List.{AllByRecursion}
 use Rattle.swh_base.specs.declared.kind.Kind.{Kind}
 use Rattle.swh_base.specs.declared.kind.Kind.TheVariants.{Content, Directory, Revision, Release, Snapshot}
@@ -18,19 +18,20 @@ pub data Wanted : Type 0 where
   ToInit : List ℕ → Wanted
   -- to load the job of a file into the archive in a folder
   ToLoad : List ℕ → List ℕ → Wanted
-  -- to ask the archive in a folder by a path
-  ToAsk : List ℕ → List ℕ → Wanted
+  -- to ask the archive in a folder by paths
+  ToAsk : List ℕ → List (List ℕ) → Wanted
   -- to name the bytes of a file as a body of a kind
   ToIdentify : Kind → List ℕ → Wanted
 
 abbrev pub spelled : Wanted → List (List ℕ)
 spelled (ToInit dir) = codes "init" ∷ dir ∷ []
 spelled (ToLoad dir jobs) = codes "load" ∷ dir ∷ jobs ∷ []
-spelled (ToAsk dir path) = codes "ask" ∷ dir ∷ path ∷ []
+spelled (ToAsk dir paths) = codes "ask" ∷ dir ∷ paths
 spelled (ToIdentify kind path) = codes "identify" ∷ kind_letters kind ∷ path ∷ []
 
--- A directory is no file.
+-- There is a path to ask by, and a directory is no file.
 abbrev pub IsOffered : Wanted → Type 0
+IsOffered (ToAsk dir paths) = 0 < length paths
 IsOffered (ToIdentify kind path) = kind ≢ Directory
 IsOffered _ = Unit {0}
 

@@ -1,9 +1,9 @@
 // The top call.
-ghost use Rattle.std.specs.Prelude.{◌≡◌, ◌≢◌, ◌⊎◌, ◌≤◌, ◌<◌, List, Some, ℕ, map, string_bytes};
+ghost use Rattle.std.specs.Prelude.{◌≡◌, ◌≢◌, ◌⊎◌, ◌≤◌, ◌<◌, List, Some, ℕ, map, flat_map, string_bytes};
 ghost use Rattle.swh_outside.specs.Faults.{Rose};
 ghost use Rattle.swh_base.specs.declared.kind.Kind.{Kind};
 ghost use Rattle.swh_model.specs.declared.event.Event.{Event};
-ghost use Rattle.swh_model.specs.Answer.{ReplyText, IsReply};
+ghost use Rattle.swh_model.specs.Answer.{ReplyText};
 ghost use Rattle.swh_model.specs.Meaning.{Making, IsMeaning};
 ghost use Rattle.swh_model.specs.Step.{replay};
 ghost use Rattle.swh_segment.specs.Making.{IsNotMade};
@@ -13,13 +13,13 @@ ghost use Rattle.swh_program.specs.Commands.{wanted_by};
 ghost use Rattle.swh_program.specs.Words.{Wanted, IsCommand, IsOffered, ToInit, ToLoad, ToAsk, ToIdentify};
 ghost use Rattle.swh_program.specs.Init.{Inits};
 ghost use Rattle.swh_program.specs.Load.{Loads};
-ghost use Rattle.swh_program.specs.Ask.{Asks, reply_line};
-ghost use Rattle.swh_program.specs.Identify.{name_of, name_line, IsBody, Identifies};
+ghost use Rattle.swh_program.specs.Ask.{Asks, AreReplies, HasShortReply, reply_line};
+ghost use Rattle.swh_program.specs.Identify.{name_of, name_line, IsBody, HasNoBody, Identifies};
 ghost use Rattle.swh_program.specs.Opening.{IsArchive};
 ghost use Rattle.swh_program.specs.Jobs.{IsJobAt};
 ghost use Rattle.swh_program.specs.Complete.{full_line, HasOneBody, HasRoom};
 ghost use Rattle.swh_program.specs.Causes.{ComesTo, IsExactly, IsDeskTold, HasNoJob, HasOtherArchive, IsByLine, IsBadInput, NamesFailed};
-ghost use Rattle.swh_program.specs.Run.{IsStatus, IsNoCommand, Ends, IsQuiet, IsPrintedWith, reply_status};
+ghost use Rattle.swh_program.specs.Run.{IsStatus, IsNoCommand, Ends, IsQuiet, IsPrintedWith, replies_status};
 ghost use Rattle.swh_program.specs.declared.answer.Answer.TheVariants.{Made, Words};
 
 use crate::{Answer, Command, Outside, ask, identify, init, load, parse_words, tell};
@@ -44,8 +44,8 @@ fn carry_out<N: Namer, P: Depot, O: Origins, C: Clock, G: Gate>(
     ensures load { (dir jobs : List ℕ) → wanted_by command.now ≡ ToLoad dir jobs
         → Loads N.id_of O.tells (O.file_at origins.old) (O.path_faults origins.old) (O.path_faults origins.new) (O.file_at desk.old) C.tells (C.time clock.old) P.tells dir jobs
         (P.files depot.old) (P.files depot.new) (P.faults depot.old) (P.faults depot.new) (O.faults desk.old) (O.faults desk.new) (C.faults clock.old) (C.faults clock.new) result }
-    ensures ask { (dir path : List ℕ) → wanted_by command.now ≡ ToAsk dir path
-        → Asks N.id_of dir path P.tells (P.files depot.old) (P.files depot.new) (P.faults depot.old) (P.faults depot.new) result }
+    ensures ask { (dir : List ℕ) (paths : List (List ℕ)) → wanted_by command.now ≡ ToAsk dir paths
+        → Asks N.id_of dir paths P.tells (P.files depot.old) (P.files depot.new) (P.faults depot.old) (P.faults depot.new) result }
     ensures named { NamesFailed (P.faults depot.old) (P.faults depot.new) (O.faults desk.old) (O.faults desk.new) (C.faults clock.old) (C.faults clock.new) result }
     ensures identify { (kind : Kind) (path : List ℕ) → wanted_by command.now ≡ ToIdentify kind path
         → Identifies N.id_of kind O.tells (O.file_at desk.old) path (O.faults desk.old) (O.faults desk.new) result }
@@ -60,7 +60,7 @@ fn carry_out<N: Namer, P: Depot, O: Origins, C: Clock, G: Gate>(
         Command::Load { dir, jobs } => load(
             alloc, namer, depot, desk, origins, clock, gate, dir, jobs,
         ),
-        Command::Ask { dir, path } => ask(alloc, namer, depot, dir, path),
+        Command::Ask { dir, paths } => ask(alloc, namer, depot, dir, paths),
         Command::Identify { kind, path } => identify(alloc, &namer, desk, *kind, path),
     }
 }
@@ -86,8 +86,8 @@ fn obey<N: Namer, P: Depot, O: Origins, C: Clock, G: Gate>(
     ensures load { (dir jobs : List ℕ) → IsCommand (map string_bytes words.now) (ToLoad dir jobs)
         → Loads N.id_of O.tells (O.file_at origins.old) (O.path_faults origins.old) (O.path_faults origins.new) (O.file_at desk.old) C.tells (C.time clock.old) P.tells dir jobs
         (P.files depot.old) (P.files depot.new) (P.faults depot.old) (P.faults depot.new) (O.faults desk.old) (O.faults desk.new) (C.faults clock.old) (C.faults clock.new) result }
-    ensures ask { (dir path : List ℕ) → IsCommand (map string_bytes words.now) (ToAsk dir path)
-        → Asks N.id_of dir path P.tells (P.files depot.old) (P.files depot.new) (P.faults depot.old) (P.faults depot.new) result }
+    ensures ask { (dir : List ℕ) (paths : List (List ℕ)) → IsCommand (map string_bytes words.now) (ToAsk dir paths)
+        → Asks N.id_of dir paths P.tells (P.files depot.old) (P.files depot.new) (P.faults depot.old) (P.faults depot.new) result }
     ensures named { NamesFailed (P.faults depot.old) (P.faults depot.new) (O.faults desk.old) (O.faults desk.new) (C.faults clock.old) (C.faults clock.new) result }
     ensures identify { (kind : Kind) (path : List ℕ) → IsCommand (map string_bytes words.now) (ToIdentify kind path)
         → Identifies N.id_of kind O.tells (O.file_at desk.old) path (O.faults desk.old) (O.faults desk.new) result }
@@ -131,8 +131,8 @@ pub fn run<R, N: Namer, P: Depot, O: Origins, Y: Yard, K: Sink, C: Clock, D: Doo
         (P.files world.old.depot) (P.files world.new.depot) (P.faults world.old.depot) (P.faults world.new.depot) (O.faults world.old.desk) (O.faults world.new.desk) (C.faults world.old.clock) (C.faults world.new.clock))
         K.tells (K.taken world.old.sink) (K.taken world.new.sink) (K.faults world.old.sink) (K.faults world.new.sink) result }
 
-    ensures ask { (dir path : List ℕ) → IsCommand (map string_bytes words.now) (ToAsk dir path)
-        → Ends (Asks N.id_of dir path P.tells (P.files world.old.depot) (P.files world.new.depot) (P.faults world.old.depot) (P.faults world.new.depot))
+    ensures ask { (dir : List ℕ) (paths : List (List ℕ)) → IsCommand (map string_bytes words.now) (ToAsk dir paths)
+        → Ends (Asks N.id_of dir paths P.tells (P.files world.old.depot) (P.files world.new.depot) (P.faults world.old.depot) (P.faults world.new.depot))
         K.tells (K.taken world.old.sink) (K.taken world.new.sink) (K.faults world.old.sink) (K.faults world.new.sink) result }
 
     ensures identify { (kind : Kind) (path : List ℕ) → IsCommand (map string_bytes words.now) (ToIdentify kind path)
@@ -148,15 +148,16 @@ pub fn run<R, N: Namer, P: Depot, O: Origins, Y: Yard, K: Sink, C: Clock, D: Doo
     ensures other_archive { (wanted : Wanted) → IsCommand (map string_bytes words.now) wanted → IsDeskTold O.tells wanted → P.tells
         → IsExactly 3 (HasOtherArchive N.id_of (P.files world.old.depot) (O.file_at world.old.desk) wanted) result }
 
-    // 1: a reply is not 200, or a line is neither full nor stopped by a disk or by memory.
-    ensures short_reply { (dir path : List ℕ) (h : List Event) (reply : ReplyText) → IsCommand (map string_bytes words.now) (ToAsk dir path) → P.tells
-        → IsArchive N.id_of (archive_at (P.files world.old.depot) dir) h → IsReply (replay h) path reply → IsExactly 1 (reply.status ≢ 200) result }
+    // 1: a reply is not 200, a line is neither full nor stopped by a disk or by memory, or no body stands at a path.
+    ensures short_reply { (dir : List ℕ) (paths : List (List ℕ)) (h : List Event) (replies : List ReplyText) → IsCommand (map string_bytes words.now) (ToAsk dir paths) → P.tells
+        → IsArchive N.id_of (archive_at (P.files world.old.depot) dir) h → AreReplies (replay h) paths replies → IsExactly 1 (HasShortReply replies) result }
     ensures short_line { (dir jobs : List ℕ) → IsCommand (map string_bytes words.now) (ToLoad dir jobs) → result < 2
         → IsByLine N.id_of O.tells (O.file_at world.old.origins) (O.path_faults world.old.origins) (O.path_faults world.new.origins) (O.file_at world.old.desk) P.tells
         jobs (archive_at (P.files world.old.depot) dir) (archive_at (P.files world.new.depot) dir) K.tells (K.taken world.old.sink) (K.taken world.new.sink) result }
     ensures bad_input { (dir jobs url path : List ℕ) (before : List Event) → IsCommand (map string_bytes words.now) (ToLoad dir jobs) → P.tells → O.tells
         → IsArchive N.id_of (archive_at (P.files world.old.depot) dir) before → IsJobAt (O.file_at world.old.desk) jobs url path
         → IsBadInput N.id_of (replay before).bodies (O.file_at world.old.origins path) → ComesTo 1 result }
+    ensures no_body { (kind : Kind) (path : List ℕ) → IsCommand (map string_bytes words.now) (ToIdentify kind path) → O.tells → IsExactly 1 (HasNoBody kind (O.file_at world.old.desk path)) result }
     ensures init_whole { (dir : List ℕ) → IsCommand (map string_bytes words.now) (ToInit dir) → result ≢ 1 }
 
     // 4: a part of the outside failed, and where a line names one, that one.
@@ -170,12 +171,12 @@ pub fn run<R, N: Namer, P: Depot, O: Origins, Y: Yard, K: Sink, C: Clock, D: Doo
     ensures complete_init { (dir : List ℕ) → IsCommand (map string_bytes words.now) (ToInit dir) → P.tells → IsNotMade (archive_at (P.files world.old.depot) dir 0).seen
         → IsQuiet (P.faults world.old.depot) (P.faults world.new.depot) → IsQuiet (K.faults world.old.sink) (K.faults world.new.sink) → IsPrintedWith (last_line_of Made) 0 K.tells (K.taken world.old.sink) (K.taken world.new.sink) result }
 
-    // The reply of the archive to the path is printed with its status, unless memory runs out, where no part of the
-    // outside failed.
-    ensures complete_ask { (dir path : List ℕ) (h : List Event) (reply : ReplyText) → IsCommand (map string_bytes words.now) (ToAsk dir path) → P.tells
-        → IsArchive N.id_of (archive_at (P.files world.old.depot) dir) h → IsReply (replay h) path reply
+    // The replies of the archive to the paths are printed with their status, unless memory runs out, where no part of
+    // the outside failed.
+    ensures complete_ask { (dir : List ℕ) (paths : List (List ℕ)) (h : List Event) (replies : List ReplyText) → IsCommand (map string_bytes words.now) (ToAsk dir paths) → P.tells
+        → IsArchive N.id_of (archive_at (P.files world.old.depot) dir) h → AreReplies (replay h) paths replies
         → IsQuiet (P.faults world.old.depot) (P.faults world.new.depot) → IsQuiet (K.faults world.old.sink) (K.faults world.new.sink)
-        → IsPrintedWith (reply_line reply) (reply_status reply) K.tells (K.taken world.old.sink) (K.taken world.new.sink) result }
+        → IsPrintedWith (flat_map reply_line replies) (replies_status replies) K.tells (K.taken world.old.sink) (K.taken world.new.sink) result }
 
     // A job whose input is there and means something is loaded in full, unless memory runs out, where no name has two
     // bodies, the files have room, and no part of the outside failed.

@@ -1,5 +1,5 @@
 // Reads the words of a run.
-ghost use Rattle.std.specs.Prelude.{◌≡◌, ◌≢◌, ◌∷◌, ◌↔◌, [], List, map, string_bytes, All, IfSome, None, IsTrue, codes};
+ghost use Rattle.std.specs.Prelude.{◌≡◌, ◌≢◌, ◌<◌, ◌∷◌, ◌↔◌, [], ℕ, List, length, map, string_bytes, All, IfSome, None, IsTrue, codes};
 ghost use Rattle.swh_base.specs.declared.kind.Kind.{Kind};
 ghost use Rattle.swh_base.specs.declared.kind.Kind.TheVariants.{Directory};
 ghost use Rattle.swh_program.specs.Words.{Wanted, IsCommand, IsPlain, IsSpelled, kind_letters};
@@ -14,8 +14,8 @@ pub enum Command<'a> {
     Init { dir: &'a str },
     /// To load the job of a file into the archive in a folder.
     Load { dir: &'a str, jobs: &'a str },
-    /// To ask the archive in a folder by a path.
-    Ask { dir: &'a str, path: &'a str },
+    /// To ask the archive in a folder by paths.
+    Ask { dir: &'a str, paths: &'a [String] },
     /// To name the bytes of a file as a body of a kind.
     Identify { kind: Kind, path: &'a str },
 }
@@ -77,23 +77,70 @@ fn are_plain(words: &[String]) -> bool
     words.iter().all(|word| is_plain(word.as_str()))
 }
 
-// The command of a word and two more.
-fn command_of_two<'a>(command: &str, first: &'a str, second: &'a str) -> Option<Command<'a>>
-    ensures some { IfSome result (λ c. IsSpelled (command.now ∷ first.now ∷ second.now ∷ []) (wanted_by c)) }
-    ensures none { result ≡ None → (wanted : Wanted) → IsSpelled (command.now ∷ first.now ∷ second.now ∷ []) wanted → ⊥ }
+// The command to make an archive, by the words behind its own.
+fn init_by(words: &[String]) -> Option<Command<'_>>
+    ensures some { IfSome result (λ command. IsSpelled (codes "init" ∷ map string_bytes words.now) (wanted_by command)) }
+    ensures none { result ≡ None → (wanted : Wanted) → IsSpelled (codes "init" ∷ map string_bytes words.now) wanted → ⊥ }
 {
-    if command == "load" {
-        Some(Command::Load {
-            dir: first,
-            jobs: second,
-        })
+    match words {
+        [dir] => Some(Command::Init { dir: dir.as_str() }),
+        _ => None,
+    }
+}
+
+// The command to load, by the words behind its own.
+fn load_by(words: &[String]) -> Option<Command<'_>>
+    ensures some { IfSome result (λ command. IsSpelled (codes "load" ∷ map string_bytes words.now) (wanted_by command)) }
+    ensures none { result ≡ None → (wanted : Wanted) → IsSpelled (codes "load" ∷ map string_bytes words.now) wanted → ⊥ }
+{
+    match words {
+        [dir, jobs] => Some(Command::Load {
+            dir: dir.as_str(),
+            jobs: jobs.as_str(),
+        }),
+        _ => None,
+    }
+}
+
+// The command to ask, by the words behind its own.
+fn ask_by(words: &[String]) -> Option<Command<'_>>
+    ensures some { IfSome result (λ command. IsSpelled (codes "ask" ∷ map string_bytes words.now) (wanted_by command)) }
+    ensures none { result ≡ None → (wanted : Wanted) → IsSpelled (codes "ask" ∷ map string_bytes words.now) wanted → ⊥ }
+{
+    let (dir, paths) = words.split_first()?;
+    if paths.is_empty() {
+        return None;
+    }
+    Some(Command::Ask {
+        dir: dir.as_str(),
+        paths,
+    })
+}
+
+// The command to identify a file, by the words behind its own.
+fn identify_by(words: &[String]) -> Option<Command<'_>>
+    ensures some { IfSome result (λ command. IsSpelled (codes "identify" ∷ map string_bytes words.now) (wanted_by command)) }
+    ensures none { result ≡ None → (wanted : Wanted) → IsSpelled (codes "identify" ∷ map string_bytes words.now) wanted → ⊥ }
+{
+    match words {
+        [letters, path] => identify_as(letters.as_str(), path.as_str()),
+        _ => None,
+    }
+}
+
+// The command of a word, by the words behind it.
+fn command_by<'a>(command: &str, words: &'a [String]) -> Option<Command<'a>>
+    ensures some { IfSome result (λ c. IsSpelled (command.now ∷ map string_bytes words.now) (wanted_by c)) }
+    ensures none { result ≡ None → (wanted : Wanted) → IsSpelled (command.now ∷ map string_bytes words.now) wanted → ⊥ }
+{
+    if command == "init" {
+        init_by(words)
+    } else if command == "load" {
+        load_by(words)
     } else if command == "ask" {
-        Some(Command::Ask {
-            dir: first,
-            path: second,
-        })
+        ask_by(words)
     } else if command == "identify" {
-        identify_as(first, second)
+        identify_by(words)
     } else {
         None
     }
@@ -104,13 +151,8 @@ fn command_of(words: &[String]) -> Option<Command<'_>>
     ensures some { IfSome result (λ command. IsSpelled (map string_bytes words.now) (wanted_by command)) }
     ensures none { result ≡ None → (wanted : Wanted) → IsSpelled (map string_bytes words.now) wanted → ⊥ }
 {
-    match words {
-        [command, dir] if command.as_str() == "init" => Some(Command::Init { dir: dir.as_str() }),
-        [command, first, second] => {
-            command_of_two(command.as_str(), first.as_str(), second.as_str())
-        }
-        _ => None,
-    }
+    let (command, rest) = words.split_first()?;
+    command_by(command.as_str(), rest)
 }
 
 /// The command that the words are.

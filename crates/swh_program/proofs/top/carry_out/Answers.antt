@@ -1,11 +1,11 @@
-use Rattle.std.proofs.Common.{◌≡◌, sym, ◌∙◌, ap}
+use Rattle.std.proofs.Common.{◌≡◌, sym, ◌∙◌, ap, map, string_bytes}
 use Rattle.swh_program.specs.Ask.{Asks}
 use Rattle.swh_program.specs.Commands.{wanted_by}
 use Rattle.swh_program.specs.Identify.{Identifies}
 use Rattle.swh_program.specs.Load.{Loads}
 use Rattle.swh_program.proofs.Commands.{one_folder, at_load, at_ask, at_identify}
 use Rattle.swh_program.proofs.Ends.{safe, inits_at}
-use Rattle.swh_program.proofs.Statuses.{init_names, ask_names}
+use Rattle.swh_program.proofs.Statuses.{init_names, ask_names, identify_names}
 use Rattle.swh_program.proofs.top.carry_out.Goals as goal
 
 pub returns-in-Init-clause-init : goal.returns-in-Init-clause-init
@@ -25,11 +25,11 @@ returns-in-Load-clause-load g c dir jobs is =
     (record { ends = l.ends; elsewhere = l.elsewhere; disk_cause = l.disk_cause; source_cause = l.source_cause; clock_cause = l.clock_cause })
 
 pub returns-in-Ask-clause-ask : goal.returns-in-Ask-clause-ask
-returns-in-Ask-clause-ask g c dir path is =
+returns-in-Ask-clause-ask g c dir paths is =
     let a = c.ask.ensures in
     at_ask
     (λ d p. Asks g.N.Namer.id_of d p g.P.Depot.tells (g.P.Depot.files c.args.depot.now) (g.P.Depot.files c.ask.new.depot) (g.P.Depot.faults c.args.depot.now) (g.P.Depot.faults c.ask.new.depot) c.ask.result)
-    c.in-Ask.dir.now dir c.in-Ask.path.now path (ap wanted_by (sym c.in-Ask.is) ∙ is)
+    c.in-Ask.dir.now dir (map string_bytes c.in-Ask.paths.now) paths (ap wanted_by (sym c.in-Ask.is) ∙ is)
     (record { one_of = a.one_of; ends = a.ends; elsewhere = a.elsewhere; cause = a.cause })
 
 pub returns-in-Init-clause-named : goal.returns-in-Init-clause-named
@@ -40,6 +40,7 @@ returns-in-Load-clause-named g c = record { disk = c.load.ensures.disk_cause; so
 
 pub returns-in-Ask-clause-named : goal.returns-in-Ask-clause-named
 returns-in-Ask-clause-named g c = ask_names _ _ _ _ _ _ c.ask.result c.ask.ensures.one_of c.ask.ensures.cause
+
 pub returns-in-Identify-clause-identify : goal.returns-in-Identify-clause-identify
 returns-in-Identify-clause-identify g c kind path is =
     let i = c.identify.ensures in
@@ -47,3 +48,6 @@ returns-in-Identify-clause-identify g c kind path is =
     (λ k p. Identifies g.N.Namer.id_of k g.O.Origins.tells (g.O.Origins.file_at c.args.desk.now) p (g.O.Origins.faults c.args.desk.now) (g.O.Origins.faults c.identify.new.desk) c.identify.result)
     c.in-Identify.kind kind c.in-Identify.path.now path (ap wanted_by (sym c.in-Identify.is) ∙ is)
     (record { one_of = i.one_of; ends = i.ends; cause = i.cause })
+
+pub returns-in-Identify-clause-named : goal.returns-in-Identify-clause-named
+returns-in-Identify-clause-named g c = identify_names _ _ _ _ _ _ g.N.Namer.id_of c.in-Identify.kind c.identify.result c.identify.ensures.one_of c.identify.ensures.cause

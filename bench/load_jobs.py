@@ -1,0 +1,69 @@
+#!/usr/bin/env python3
+"""Times the load of job files of 32 and of 256 jobs, each of a small stream of its own, into one new archive.
+
+    python3 bench/load_jobs.py [PROGRAM]
+
+Loading is linear in the jobs: eight times as many may take at most twelve times as long. The shortest of several times
+counts. The program is the built one, outside the gate.
+"""
+import os
+import shutil
+import subprocess
+import sys
+import tempfile
+import time
+
+SIZES = (32, 256)
+MOST_TIMES = 12
+ROUNDS = 5
+
+
+def stream_of(number):
+    """A stream of one file and one commit, which no other number has."""
+    data = b"file %d\n" % number
+    return (b"blob\nmark :1\ndata %d\n%s\ncommit refs/heads/main\nmark :2\ncommitter A <a@e.org> %d +0000\n"
+            b"data 6\nfirst\n\nM 100644 :1 file\n\n" % (len(data), data, 1_000_000_000 + number))
+
+
+def write_jobs(folder, count):
+    """A job file of this many streams."""
+    path = os.path.join(folder, "jobs%d" % count)
+    with open(path, "w") as jobs:
+        for number in range(count):
+            stream = os.path.join(folder, "stream%d" % number)
+            with open(stream, "wb") as file:
+                file.write(stream_of(number))
+            jobs.write("fast\thttps://e.org/%d\t%s\n" % (number, stream))
+    return path
+
+
+def time_load(program, folder, jobs, count):
+    archive = os.path.join(folder, "archive")
+    shutil.rmtree(archive, ignore_errors=True)
+    subprocess.run([program, "init", archive], check=True, stdout=subprocess.DEVNULL)
+    begun = time.monotonic()
+    lines = subprocess.run([program, "load", archive, jobs], check=True, stdout=subprocess.PIPE).stdout
+    took = time.monotonic() - begun
+    if lines.count(b"\t1\tfull\t") != count:
+        sys.exit("not all full: %r" % lines[:400])
+    return took
+
+
+def main():
+    here = os.path.dirname(os.path.abspath(__file__))
+    program = sys.argv[1] if len(sys.argv) > 1 else os.path.join(here, "..", "crates/swharc/out/swharc")
+    program = os.path.abspath(program)
+    shortest = []
+    with tempfile.TemporaryDirectory() as folder:
+        for count in SIZES:
+            jobs = write_jobs(folder, count)
+            took = min(time_load(program, folder, jobs, count) for _ in range(ROUNDS))
+            print("%d jobs: %.3f s, %.2f ms a job" % (count, took, 1000 * took / count))
+            shortest.append(took)
+    ratio = shortest[1] / shortest[0]
+    print("%d times the jobs take %.1f times as long, at most %d" % (SIZES[1] // SIZES[0], ratio, MOST_TIMES))
+    sys.exit(0 if ratio <= MOST_TIMES else 1)
+
+
+if __name__ == "__main__":
+    main()
