@@ -1,39 +1,8 @@
--- Words are one command at most.
-use Rattle.std.specs.Prelude.{if◌then◌else◌}
-use Rattle.std.proofs.Common.{◌≡◌, ◌==◌, ℕ, List, [], length, get_or, drop, refl, sym, subst, ◌∙◌, ap}
+-- What a command's words are.
+use Rattle.std.proofs.Common.{◌≡◌, ℕ, List, [], subst, ap}
 use Rattle.swh_base.specs.declared.kind.Kind.{Kind}
-use Rattle.swh_base.specs.declared.kind.Kind.TheVariants.{Content, Directory, Revision, Release, Snapshot}
-use Rattle.swh_program.specs.Words.{Wanted, ToInit, ToLoad, ToAsk, ToIdentify, spelled, IsCommand}
-
--- the last letter tells the kinds apart
-abbrev kind_from : List ℕ → Kind
-kind_from letters =
-    if get_or letters 2 0 == 116 then Content
-    else if get_or letters 2 0 == 114 then Directory
-    else if get_or letters 2 0 == 118 then Revision
-    else if get_or letters 2 0 == 108 then Release
-    else Snapshot
-
--- the first byte and their number tell the commands apart
-abbrev wanted_from : List (List ℕ) → Wanted
-wanted_from words =
-    if get_or (get_or words 0 []) 0 0 == 97 then ToAsk (get_or words 1 []) (drop 2 words)
-    else if get_or (get_or words 0 []) 0 0 == 108 then ToLoad (get_or words 1 []) (get_or words 2 [])
-    else if length words == 2 then ToInit (get_or words 1 [])
-    else ToIdentify (kind_from (get_or words 1 [])) (get_or words 2 [])
-
-wanted_from-spelled : (wanted : Wanted) → wanted_from (spelled wanted) ≡ wanted
-wanted_from-spelled (ToInit dir) = refl
-wanted_from-spelled (ToLoad dir jobs) = refl
-wanted_from-spelled (ToAsk dir paths) = refl
-wanted_from-spelled (ToIdentify Content path) = refl
-wanted_from-spelled (ToIdentify Directory path) = refl
-wanted_from-spelled (ToIdentify Revision path) = refl
-wanted_from-spelled (ToIdentify Release path) = refl
-wanted_from-spelled (ToIdentify Snapshot path) = refl
-
-pub one_command : (words : List (List ℕ)) (a b : Wanted) → IsCommand words a → IsCommand words b → a ≡ b
-one_command words a b is_a is_b = sym (wanted_from-spelled a) ∙ ap wanted_from (sym is_a.spells.words_are ∙ is_b.spells.words_are) ∙ wanted_from-spelled b
+use Rattle.swh_base.specs.declared.kind.Kind.TheVariants.{Content}
+use Rattle.swh_words.specs.Words.{Wanted, ToInit, ToLoad, ToAsk, ToIdentify}
 
 abbrev folder_of : Wanted → List ℕ
 folder_of (ToInit dir) = dir

@@ -19,7 +19,7 @@ use Rattle.swh_program.specs.Complete.{HasBody}
 use Rattle.swh_program.specs.Jobs.{FileAt, IsJobAt, IsNoJobAt}
 use Rattle.swh_program.specs.Load.{TellsDisk, IsLoad}
 use Rattle.swh_program.specs.Opening.{IsDamaged}
-use Rattle.swh_program.specs.Words.{Wanted, ToInit, ToLoad, ToAsk, ToIdentify}
+use Rattle.swh_words.specs.Words.{Wanted, ToInit, ToLoad, ToAsk, ToIdentify}
 use Rattle.swh_program.specs.declared.answer.Answer.{Answer}
 use Rattle.swh_program.specs.declared.answer.Answer.TheVariants.{OutsideSource, OutsideClock}
 

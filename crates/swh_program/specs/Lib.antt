@@ -1,10 +1,8 @@
 pub mod Answers
 pub mod Archives
-pub mod Commands
 pub mod Init
 pub mod JobFile
 pub mod Run
-pub mod Words
 pub mod Opening
 pub mod Ask
 pub mod Jobs

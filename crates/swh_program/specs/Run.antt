@@ -4,7 +4,7 @@ use Rattle.std.specs.List.{list_all}
 use Rattle.swh_outside.specs.Faults.{Rose}
 use Rattle.swh_model.specs.Answer.{ReplyText}
 use Rattle.swh_program.specs.Answers.{IsToldOf}
-use Rattle.swh_program.specs.Words.{Wanted, IsCommand}
+use Rattle.swh_words.specs.Words.{Wanted, IsCommand}
 use Rattle.swh_program.specs.declared.answer.Answer.{Answer}
 
 -- The statuses that a run may end with.

@@ -9,8 +9,8 @@ ghost use Rattle.swh_model.specs.Step.{replay};
 ghost use Rattle.swh_segment.specs.Making.{IsNotMade};
 ghost use Rattle.swh_program.specs.Archives.{archive_at};
 ghost use Rattle.swh_program.specs.Answers.{last_line_of};
-ghost use Rattle.swh_program.specs.Commands.{wanted_by};
-ghost use Rattle.swh_program.specs.Words.{Wanted, IsCommand, IsOffered, ToInit, ToLoad, ToAsk, ToIdentify};
+ghost use Rattle.swh_words.specs.Commands.{wanted_by};
+ghost use Rattle.swh_words.specs.Words.{Wanted, IsCommand, IsOffered, ToInit, ToLoad, ToAsk, ToIdentify};
 ghost use Rattle.swh_program.specs.Init.{Inits};
 ghost use Rattle.swh_program.specs.Load.{Loads};
 ghost use Rattle.swh_program.specs.Ask.{Asks, AreReplies, HasShortReply, reply_line};
@@ -20,12 +20,13 @@ ghost use Rattle.swh_program.specs.Jobs.{IsJobAt};
 ghost use Rattle.swh_program.specs.Complete.{full_line, HasOneBody, HasRoom};
 ghost use Rattle.swh_program.specs.Causes.{ComesTo, IsExactly, IsDeskTold, HasNoJob, HasOtherArchive, IsByLine, IsBadInput, NamesFailed};
 ghost use Rattle.swh_program.specs.Run.{IsStatus, IsNoCommand, Ends, IsQuiet, IsPrintedWith, replies_status};
-ghost use Rattle.swh_program.specs.declared.answer.Answer.TheVariants.{Made, Words};
+ghost use Rattle.swh_program.specs.declared.answer.Answer.TheVariants.{Made, Words, Memory};
 
-use crate::{Answer, Command, Outside, ask, identify, init, load, parse_words, tell};
+use crate::{Answer, Outside, ask, identify, init, load, tell};
 use std::alloc::Global;
 use swh_base::Namer;
 use swh_outside::{Clock, Depot, Doors, Gate, Origins, Sink, Yard};
+use swh_words::{Command, WordsFault, parse_words};
 
 // What a command comes to.
 fn carry_out<N: Namer, P: Depot, O: Origins, C: Clock, G: Gate>(
@@ -60,7 +61,7 @@ fn carry_out<N: Namer, P: Depot, O: Origins, C: Clock, G: Gate>(
         Command::Load { dir, jobs } => load(
             alloc, namer, depot, desk, origins, clock, gate, dir, jobs,
         ),
-        Command::Ask { dir, paths } => ask(alloc, namer, depot, dir, paths),
+        Command::Ask { dir, paths } => ask(alloc, namer, depot, dir, paths.as_slice()),
         Command::Identify { kind, path } => identify(alloc, &namer, desk, *kind, path),
     }
 }
@@ -76,7 +77,7 @@ fn obey<N: Namer, P: Depot, O: Origins, C: Clock, G: Gate>(
     clock: &mut C,
     gate: &G,
 ) -> Answer
-    ensures refused { IsNoCommand (map string_bytes words.now) → result ≡ Words }
+    ensures refused { IsNoCommand (map string_bytes words.now) → (result ≡ Words) ⊎ (result ≡ Memory) }
     ensures same_depot { IsNoCommand (map string_bytes words.now) → depot.new ≡ depot.old }
     ensures same_desk { IsNoCommand (map string_bytes words.now) → desk.new ≡ desk.old }
     ensures same_origins { IsNoCommand (map string_bytes words.now) → origins.new ≡ origins.old }
@@ -97,9 +98,10 @@ fn obey<N: Namer, P: Depot, O: Origins, C: Clock, G: Gate>(
     ensures origins_later { O.faults origins.old ≤ O.faults origins.new }
     ensures clock_later { C.faults clock.old ≤ C.faults clock.new }
 {
-    match parse_words(words) {
-        Some(command) => carry_out(alloc, &command, namer, depot, desk, origins, clock, gate),
-        None => Answer::Words,
+    match parse_words(alloc, words) {
+        Ok(command) => carry_out(alloc, &command, namer, depot, desk, origins, clock, gate),
+        Err(WordsFault::Words) => Answer::Words,
+        Err(WordsFault::Memory) => Answer::Memory,
     }
 }
 
@@ -114,9 +116,9 @@ pub fn run<R, N: Namer, P: Depot, O: Origins, Y: Yard, K: Sink, C: Clock, D: Doo
 ) -> u8
     ensures status { IsStatus result }
 
-    // Words that are no command touch nothing.
+    // Words that are no command touch nothing, and are told, unless memory runs out.
     ensures refused { IsNoCommand (map string_bytes words.now)
-        → Ends (λ answer. answer ≡ Words) K.tells (K.taken world.old.sink) (K.taken world.new.sink) (K.faults world.old.sink) (K.faults world.new.sink) result }
+        → Ends (λ answer. (answer ≡ Words) ⊎ (answer ≡ Memory)) K.tells (K.taken world.old.sink) (K.taken world.new.sink) (K.faults world.old.sink) (K.faults world.new.sink) result }
     ensures same_depot { IsNoCommand (map string_bytes words.now) → world.new.depot ≡ world.old.depot }
     ensures same_desk { IsNoCommand (map string_bytes words.now) → world.new.desk ≡ world.old.desk }
     ensures same_origins { IsNoCommand (map string_bytes words.now) → world.new.origins ≡ world.old.origins }

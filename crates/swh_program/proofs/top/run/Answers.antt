@@ -1,9 +1,9 @@
-use Rattle.std.proofs.Common.{◌≢◌, inl, ap, sym, ◌∙◌, map, string_bytes, arith}
+use Rattle.std.proofs.Common.{◌≢◌, ⊎_elim, inl, inr, ap, sym, ◌∙◌, map, string_bytes, arith}
 use Rattle.std.specs.List.{flat_map}
 use Rattle.swh_program.specs.Archives.{archive_at}
 use Rattle.swh_program.specs.Answers.{status_of, last_line_of}
 use Rattle.swh_program.specs.Causes.{IsExactly, IsDeskTold, HasNoJob, HasOtherArchive}
-use Rattle.swh_program.specs.Words.{ToInit, ToLoad, ToAsk, ToIdentify, IsCommand}
+use Rattle.swh_words.specs.Words.{ToInit, ToLoad, ToAsk, ToIdentify, IsCommand}
 use Rattle.swh_program.proofs.Exacts.{init_job, ask_job, init_wants, init_archive, ask_archive, ask_replies}
 use Rattle.swh_program.proofs.LoadStatuses.{load_job, load_archive, load_line, load_input}
 use Rattle.swh_program.proofs.Statuses.{run_comes, uncut, run_exactly, rose_outside}
@@ -58,7 +58,8 @@ returns-clause-complete_load g c dir jobs url path text before making is disks i
     told_with (full_line url before making) 0 _ _ _ _ _ _ _ done no_sink c.tell.ensures
 
 pub returns-clause-no_command : goal.returns-clause-no_command
-returns-clause-no_command g c none = run_comes _ _ _ _ _ _ _ c.tell.ensures 2 (inl (ap status_of (c.obey-answer.ensures.refused none)))
+returns-clause-no_command g c none = run_comes _ _ _ _ _ _ _ c.tell.ensures 2
+    (⊎_elim (λ words. inl (ap status_of words)) (λ memory. inr (inr (ap status_of memory))) (c.obey-answer.ensures.refused none))
 
 pub returns-clause-no_job : goal.returns-clause-no_job
 returns-clause-no_job g c wanted =
