@@ -1,25 +1,26 @@
 -- Where nothing stands against a command, it is done, or memory runs out.
-use Rattle.std.specs.Prelude.{if◌then◌else◌}
-use Rattle.std.proofs.Common.{◌≡◌, ◌≢◌, ◌==◌, ◌⊎◌, inl, inr, ⊎_elim, ℕ, Bool, true, false, List, ◌++◌, refl, sym, ap, ◌∙◌, subst}
+use Rattle.std.specs.Prelude.{if◌then◌else◌, ◌&&◌}
+use Rattle.std.specs.List.{flat_map, list_all}
+use Rattle.std.proofs.Common.{◌≡◌, ◌≢◌, ◌==◌, ◌⊎◌, inl, inr, ⊎_elim, ℕ, Bool, true, false, List, [], ◌∷◌, ◌++◌, refl, sym, ap, ◌∙◌, subst}
 use Rattle.std.proofs.lemmas.List.{append-nil}
 use Rattle.std.proofs.lemmas.Bool.{eq-eqb, eqb-true}
 use Rattle.swh_base.specs.declared.kind.Kind.{Kind}
 use Rattle.swh_outside.specs.Files.{Files}
 use Rattle.swh_model.specs.declared.event.Event.{Event}
 use Rattle.swh_model.specs.Step.{replay}
-use Rattle.swh_model.specs.Answer.{ReplyText, IsReply}
+use Rattle.swh_model.specs.Answer.{ReplyText}
 use Rattle.swh_program.specs.Answers.{status_of, status_for, printed_by, last_line_of, last_line_for, IsPrinted, IsToldOf}
-use Rattle.swh_program.specs.Ask.{reply_line, TellsReply, IsAsked, AskEnds}
+use Rattle.swh_program.specs.Ask.{reply_line, AreReplies, AreFound, HasShortReply, TellsReplies, IsAsked, AskEnds}
 use Rattle.swh_segment.specs.Making.{IsNotMade}
 use Rattle.swh_program.specs.Init.{InitEnds}
 use Rattle.swh_program.specs.Opening.{IsArchive}
-use Rattle.swh_program.specs.Run.{IsQuiet, IsPrintedWith, IsPrintedUnlessFailed, reply_status}
+use Rattle.swh_program.specs.Run.{IsQuiet, IsPrintedWith, IsPrintedUnlessFailed, replies_status}
 use Rattle.swh_program.specs.declared.answer.Ending.{Ending}
 use Rattle.swh_program.specs.declared.answer.Ending.TheVariants as ending
 use Rattle.swh_program.specs.declared.answer.Answer.{Answer}
 use Rattle.swh_program.specs.declared.answer.Answer.TheVariants.{Made, Told, Words, NoJobFile, BadJob, AlreadyMade, NotMade, Damaged, OutsideDisk, OutsideSource, OutsideClock, Memory}
 use Rattle.swh_program.proofs.Archived.{not_both, usable, one_archive}
-use Rattle.swh_program.proofs.Replies.{one_reply}
+use Rattle.swh_program.proofs.Replies.{same_replies, none_short}
 
 -- what an answer says, where it is done or memory ran out
 abbrev pub Tells : List ℕ → ℕ → Answer → Type 0
@@ -61,29 +62,45 @@ init_done old new OutsideClock ends not_made no_disk = absurd ends
 abbrev status_by : Bool → ℕ
 status_by found = if found then 0 else 1
 
-other_status : (status : ℕ) (b : Bool) → (status == 200) ≡ b → status ≢ 200 → status_by b ≡ 1
-other_status status true is apart = absurd (apart (eqb-true status 200 is))
-other_status status false is apart = refl
+abbrev is_found : ReplyText → Bool
+is_found reply = reply.status == 200
 
-reply_ending : (reply : ReplyText) (text : List ℕ) (end : Ending) → TellsReply reply text end → Tells (reply_line reply) (reply_status reply) (Told text end)
-reply_ending reply text end tells = ⊎_elim
-    (λ (found : (reply.status ≡ 200) × (end ≡ ending.Done)).
-    inr (ap status_for found.1 ∙ sym (ap status_by (eq-eqb reply.status 200 found.0)), ap (λ (e : Ending). text ++ last_line_for e) found.1 ∙ append-nil text ∙ tells.text_is))
-    (λ (other : (reply.status ≢ 200) × (end ≡ ending.Wanting)).
-    inr (ap status_for other.1 ∙ sym (other_status reply.status (reply.status == 200) refl other.0), ap (λ (e : Ending). text ++ last_line_for e) other.1 ∙ append-nil text ∙ tells.text_is))
+found_all : (replies : List ReplyText) → AreFound replies → list_all is_found replies ≡ true
+found_all [] found = refl
+found_all (r ∷ rs) found = rw (eq-eqb r.status 200 found.0) (found_all rs found.1)
+
+found_both : (r : ReplyText) (rs : List ReplyText) (b : Bool) → is_found r ≡ b → (list_all is_found rs ≡ true → AreFound rs) → (b && list_all is_found rs) ≡ true → AreFound (r ∷ rs)
+found_both r rs true is rest all = (eqb-true r.status 200 is, rest all)
+found_both r rs false is rest all = absurd (let e : false ≡ true = all in cc)
+
+all_found : (replies : List ReplyText) → list_all is_found replies ≡ true → AreFound replies
+all_found [] all = tt
+all_found (r ∷ rs) all = found_both r rs (is_found r) refl (all_found rs) all
+
+short_status : (replies : List ReplyText) (b : Bool) → list_all is_found replies ≡ b → HasShortReply replies → status_by b ≡ 1
+short_status replies true all short = absurd (none_short replies (all_found replies all) short)
+short_status replies false all short = refl
+
+replies_ending : (replies : List ReplyText) (text : List ℕ) (end : Ending) → TellsReplies replies text end → Tells (flat_map reply_line replies) (replies_status replies) (Told text end)
+replies_ending replies text end tells = ⊎_elim
+    (λ (found : AreFound replies × (end ≡ ending.Done)).
+    inr (ap status_for found.1 ∙ sym (ap status_by (found_all replies found.0)), ap (λ (e : Ending). text ++ last_line_for e) found.1 ∙ append-nil text ∙ tells.text_is))
+    (λ (short : HasShortReply replies × (end ≡ ending.Wanting)).
+    inr (ap status_for short.1 ∙ sym (short_status replies (list_all is_found replies) refl short.0), ap (λ (e : Ending). text ++ last_line_for e) short.1 ∙ append-nil text ∙ tells.text_is))
     tells.end_is
 
-module _ (id_of : Kind → List ℕ → List ℕ) (path : List ℕ) (old new : Files) (h : List Event) (reply : ReplyText) (archive : IsArchive id_of old h) (is : IsReply (replay h) path reply) where
-  -- the reply of the archive is told
-  pub asked_reply : (text : List ℕ) (end : Ending) → IsAsked id_of old new path text end → TellsReply reply text end
-  asked_reply text end asked =
+module _ (id_of : Kind → List ℕ → List ℕ) (paths : List (List ℕ)) (old new : Files) (h : List Event) (replies : List ReplyText) (archive : IsArchive id_of old h) (are_replies : AreReplies (replay h) paths replies) where
+  -- the replies of the archive are told
+  pub asked_replies : (text : List ℕ) (end : Ending) → IsAsked id_of old new paths text end → TellsReplies replies text end
+  asked_replies text end asked =
       let same = one_archive id_of old asked.history h asked.archive archive in
-      let one = one_reply (replay h) path asked.reply reply (subst (λ (g : List Event). IsReply (replay g) path asked.reply) same asked.is_reply) is in
-      subst (λ (r : ReplyText). TellsReply r text end) one asked.tells
+      let told = asked.told in
+      let one = same_replies (replay h) paths told.replies replies (subst (λ (g : List Event). AreReplies (replay g) paths told.replies) same told.are_replies) are_replies in
+      subst (λ (rs : List ReplyText). TellsReplies rs text end) one told.tells
 
-  pub ask_done : (answer : Answer) → AskEnds id_of path old new answer → (answer ≡ OutsideDisk → ⊥) → Tells (reply_line reply) (reply_status reply) answer
+  pub ask_done : (answer : Answer) → AskEnds id_of paths old new answer → (answer ≡ OutsideDisk → ⊥) → Tells (flat_map reply_line replies) (replies_status replies) answer
   ask_done Made ends no_disk = absurd ends
-  ask_done (Told text end) ends no_disk = reply_ending reply text end (asked_reply text end ends)
+  ask_done (Told text end) ends no_disk = replies_ending replies text end (asked_replies text end ends)
   ask_done Words ends no_disk = absurd ends
   ask_done NoJobFile ends no_disk = absurd ends
   ask_done (BadJob text) ends no_disk = absurd ends

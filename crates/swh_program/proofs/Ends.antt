@@ -9,7 +9,7 @@ use Rattle.swh_outside.specs.Files.{Files, EachImages}
 use Rattle.swh_outside.proofs.Numbered.{files_left_whole, files_left_same, files_left_by}
 use Rattle.swh_segment.specs.Making.{IsNotMade, IsNotMadeOrEmpty, making_calls}
 use Rattle.swh_segment.proofs.Crash.{making_moments}
-use Rattle.swh_program.specs.Archives.{Folders}
+use Rattle.swh_program.specs.Archives.{Folders, archive_at}
 use Rattle.swh_program.specs.Init.{InitEnds, Inits, IsSafeInit}
 use Rattle.swh_program.specs.declared.answer.Answer.{Answer}
 use Rattle.swh_program.specs.declared.answer.Answer.TheVariants.{Made, Told, Words, NoJobFile, BadJob, AlreadyMade, NotMade, Damaged, OutsideDisk, OutsideSource, OutsideClock, Memory}
@@ -32,6 +32,16 @@ left_by old new OutsideClock e not_made each = absurd e
 
 pub safe : (old new : Files) (answer : Answer) → InitEnds old new answer → IsSafeInit old new
 safe old new answer ends = record { moments = making_moments old; left = left_by old new answer ends }
+
+-- `init` changes nothing where memory runs out before the words are read
+pub init_unread : (dir : List ℕ) (tells : Type 0) (folders : Folders) (faults : ℕ) → Inits dir tells folders folders faults faults Memory
+init_unread dir tells folders faults = record {
+  one_of = tt;
+  ends = λ told. refl;
+  elsewhere = λ told. record { elsewhere = λ d n apart. refl };
+  crash = λ told. safe (archive_at folders dir) (archive_at folders dir) Memory refl;
+  cause = λ e. let failed : Memory ≡ OutsideDisk = e in cc;
+}
 
 -- an end of the opened files is one of the archive that they are
 pub ends_at : (a b old new : Files) (answer : Answer) → a ≡ old → new ≡ b → InitEnds a b answer → InitEnds old new answer

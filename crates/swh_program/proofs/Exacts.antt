@@ -4,10 +4,10 @@ use Rattle.swh_base.specs.declared.kind.Kind.{Kind}
 use Rattle.swh_outside.specs.Files.{Files}
 use Rattle.swh_segment.specs.Making.{IsMade}
 use Rattle.swh_model.specs.declared.event.Event.{Event}
-use Rattle.swh_model.specs.Answer.{ReplyText, IsReply}
+use Rattle.swh_model.specs.Answer.{ReplyText}
 use Rattle.swh_model.specs.Step.{replay}
 use Rattle.swh_program.specs.Answers.{status_of, status_for}
-use Rattle.swh_program.specs.Ask.{IsReplyEnding, IsAskAnswer, AskEnds}
+use Rattle.swh_program.specs.Ask.{AreReplies, AreFound, HasShortReply, IsEndingOf, IsAskAnswer, AskEnds}
 use Rattle.swh_program.specs.Causes.{ComesTo, IsExactly, IsUnusable}
 use Rattle.swh_program.specs.Init.{InitEnds, IsInitAnswer}
 use Rattle.swh_program.specs.Opening.{IsArchive, IsOpenRefusal, OpenEnds}
@@ -16,14 +16,15 @@ use Rattle.swh_program.specs.declared.answer.Ending.TheVariants as ending
 use Rattle.swh_program.specs.declared.answer.Answer.{Answer}
 use Rattle.swh_program.specs.declared.answer.Answer.TheVariants.{Made, Told, Words, NoJobFile, BadJob, AlreadyMade, NotMade, Damaged, OutsideDisk, OutsideSource, OutsideClock, Memory}
 use Rattle.swh_program.proofs.Archived.{not_both, usable}
-use Rattle.swh_program.proofs.Completes.{asked_reply}
+use Rattle.swh_program.proofs.Completes.{asked_replies}
+use Rattle.swh_program.proofs.Replies.{none_short}
 
--- a reply's status is 0 or 1
-reply_status : (end : Ending) (reply : ℕ) → IsReplyEnding reply end → status_for end < 2
-reply_status end reply is =
+-- the status of replies is 0 or 1
+replies_below : (end : Ending) (replies : List ReplyText) → IsEndingOf replies end → status_for end < 2
+replies_below end replies is =
     ⊎_elim
-    (λ (found : (reply ≡ 200) × (end ≡ ending.Done)). let e = ap status_for found.1 in omega (arith, e))
-    (λ (other : (reply ≢ 200) × (end ≡ ending.Wanting)). let e = ap status_for other.1 in omega (arith, e))
+    (λ (found : AreFound replies × (end ≡ ending.Done)). let e = ap status_for found.1 in omega (arith, e))
+    (λ (short : HasShortReply replies × (end ≡ ending.Wanting)). let e = ap status_for short.1 in omega (arith, e))
     is
 
 -- `init` and `ask` are never refused for a job
@@ -42,7 +43,7 @@ init_job OutsideSource is e = is
 init_job OutsideClock is e = is
 
 pub ask_job : (answer : Answer) → IsAskAnswer answer → status_of answer ≡ 2 → ⊥
-ask_job (Told text end) is e = let less = reply_status end is.0.status is.1.end_is in omega (arith, e, less)
+ask_job (Told text end) is e = let less = replies_below end is.0 is.1.end_is in omega (arith, e, less)
 ask_job NotMade is e = omega (arith, e)
 ask_job Damaged is e = omega (arith, e)
 ask_job OutsideDisk is e = omega (arith, e)
@@ -134,9 +135,9 @@ module _ (id_of : Kind → List ℕ → List ℕ) (old new : Files) where
   refusal_comes OutsideClock is = absurd is
 
 -- 3 and 1 of `ask`
-module _ (id_of : Kind → List ℕ → List ℕ) (path : List ℕ) (old new : Files) where
-  ask_only : (answer : Answer) → IsAskAnswer answer → AskEnds id_of path old new answer → status_of answer ≡ 3 → IsUnusable id_of old
-  ask_only (Told text end) is ends e = let less = reply_status end is.0.status is.1.end_is in absurd (omega (arith, e, less))
+module _ (id_of : Kind → List ℕ → List ℕ) (paths : List (List ℕ)) (old new : Files) where
+  ask_only : (answer : Answer) → IsAskAnswer answer → AskEnds id_of paths old new answer → status_of answer ≡ 3 → IsUnusable id_of old
+  ask_only (Told text end) is ends e = let less = replies_below end is.0 is.1.end_is in absurd (omega (arith, e, less))
   ask_only Made is ends e = absurd is
   ask_only Words is ends e = absurd is
   ask_only NoJobFile is ends e = absurd is
@@ -149,7 +150,7 @@ module _ (id_of : Kind → List ℕ → List ℕ) (path : List ℕ) (old new : F
   ask_only OutsideClock is ends e = absurd is
   ask_only Memory is ends e = absurd (omega (arith, e))
 
-  ask_there : (answer : Answer) → IsAskAnswer answer → AskEnds id_of path old new answer → IsUnusable id_of old → ComesTo 3 (status_of answer)
+  ask_there : (answer : Answer) → IsAskAnswer answer → AskEnds id_of paths old new answer → IsUnusable id_of old → ComesTo 3 (status_of answer)
   ask_there (Told text end) is ends unusable = absurd (usable id_of old ends.history ends.archive unusable)
   ask_there Made is ends unusable = absurd is
   ask_there Words is ends unusable = absurd is
@@ -163,35 +164,35 @@ module _ (id_of : Kind → List ℕ → List ℕ) (path : List ℕ) (old new : F
   ask_there OutsideClock is ends unusable = absurd is
   ask_there Memory is ends unusable = inr (inr refl)
 
-  pub ask_archive : (answer : Answer) → IsAskAnswer answer → AskEnds id_of path old new answer → IsExactly 3 (IsUnusable id_of old) (status_of answer)
+  pub ask_archive : (answer : Answer) → IsAskAnswer answer → AskEnds id_of paths old new answer → IsExactly 3 (IsUnusable id_of old) (status_of answer)
   ask_archive answer is ends = record { only = ask_only answer is ends; there = ask_there answer is ends }
 
-  module _ (h : List Event) (reply : ReplyText) (archive : IsArchive id_of old h) (is_reply : IsReply (replay h) path reply) where
-    exact_ending : (end : Ending) → IsReplyEnding reply.status end → IsExactly 1 (reply.status ≢ 200) (status_for end)
+  module _ (h : List Event) (replies : List ReplyText) (archive : IsArchive id_of old h) (are_replies : AreReplies (replay h) paths replies) where
+    exact_ending : (end : Ending) → IsEndingOf replies end → IsExactly 1 (HasShortReply replies) (status_for end)
     exact_ending end is =
         ⊎_elim
-        (λ (found : (reply.status ≡ 200) × (end ≡ ending.Done)).
+        (λ (found : AreFound replies × (end ≡ ending.Done)).
         let s = ap status_for found.1 in
-        let done : IsExactly 1 (reply.status ≢ 200) (status_for end) = record { only = λ e. absurd (omega (arith, s, e)); there = λ apart. absurd (apart found.0) } in
+        let done : IsExactly 1 (HasShortReply replies) (status_for end) = record { only = λ e. absurd (omega (arith, s, e)); there = λ short. absurd (none_short replies found.0 short) } in
         done)
-        (λ (other : (reply.status ≢ 200) × (end ≡ ending.Wanting)).
-        let wanting : IsExactly 1 (reply.status ≢ 200) (status_for end) = record { only = λ e. other.0; there = λ apart. inl (ap status_for other.1) } in
+        (λ (short : HasShortReply replies × (end ≡ ending.Wanting)).
+        let wanting : IsExactly 1 (HasShortReply replies) (status_for end) = record { only = λ e. short.0; there = λ other. inl (ap status_for short.1) } in
         wanting)
         is
 
-    stopped : (status : ℕ) → (status ≡ 1 → ⊥) → ComesTo 1 status → IsExactly 1 (reply.status ≢ 200) status
+    stopped : (status : ℕ) → (status ≡ 1 → ⊥) → ComesTo 1 status → IsExactly 1 (HasShortReply replies) status
     stopped status apart comes = record { only = λ e. absurd (apart e); there = λ _. comes }
 
-    pub ask_reply : (answer : Answer) → AskEnds id_of path old new answer → IsExactly 1 (reply.status ≢ 200) (status_of answer)
-    ask_reply (Told text end) ends = exact_ending end (asked_reply id_of path old new h reply archive is_reply text end ends).end_is
-    ask_reply Made ends = absurd ends
-    ask_reply Words ends = absurd ends
-    ask_reply NoJobFile ends = absurd ends
-    ask_reply (BadJob text) ends = absurd ends
-    ask_reply AlreadyMade ends = absurd ends
-    ask_reply NotMade ends = absurd (usable id_of old h archive (inl ends.0))
-    ask_reply Damaged ends = absurd (usable id_of old h archive (inr ends.0))
-    ask_reply OutsideDisk ends = stopped 4 (λ e. omega (arith, e)) (inr (inl refl))
-    ask_reply OutsideSource ends = absurd ends
-    ask_reply OutsideClock ends = absurd ends
-    ask_reply Memory ends = stopped 5 (λ e. omega (arith, e)) (inr (inr refl))
+    pub ask_replies : (answer : Answer) → AskEnds id_of paths old new answer → IsExactly 1 (HasShortReply replies) (status_of answer)
+    ask_replies (Told text end) ends = exact_ending end (asked_replies id_of paths old new h replies archive are_replies text end ends).end_is
+    ask_replies Made ends = absurd ends
+    ask_replies Words ends = absurd ends
+    ask_replies NoJobFile ends = absurd ends
+    ask_replies (BadJob text) ends = absurd ends
+    ask_replies AlreadyMade ends = absurd ends
+    ask_replies NotMade ends = absurd (usable id_of old h archive (inl ends.0))
+    ask_replies Damaged ends = absurd (usable id_of old h archive (inr ends.0))
+    ask_replies OutsideDisk ends = stopped 4 (λ e. omega (arith, e)) (inr (inl refl))
+    ask_replies OutsideSource ends = absurd ends
+    ask_replies OutsideClock ends = absurd ends
+    ask_replies Memory ends = stopped 5 (λ e. omega (arith, e)) (inr (inr refl))

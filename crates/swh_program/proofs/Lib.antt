@@ -1,7 +1,6 @@
 pub mod Commands
 pub mod Elements
 pub mod Ends
-pub mod FewWords
 pub mod Told
 pub mod Opened
 pub mod Asked

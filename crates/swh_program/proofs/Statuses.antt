@@ -2,8 +2,9 @@
 use Rattle.std.proofs.Common.{◌≡◌, ◌≢◌, ◌⊎◌, inl, inr, ⊎_elim, ℕ, ◌<◌, List, refl, sym, ◌∙◌, subst, arith}
 use Rattle.swh_base.specs.declared.kind.Kind.{Kind}
 use Rattle.swh_outside.specs.Faults.{Rose}
+use Rattle.swh_model.specs.Answer.{ReplyText}
 use Rattle.swh_program.specs.Answers.{status_of, IsPrinted, IsCutOff, IsToldOf}
-use Rattle.swh_program.specs.Ask.{IsAskAnswer, IsReplyEnding}
+use Rattle.swh_program.specs.Ask.{IsAskAnswer, AreFound, HasShortReply, IsEndingOf}
 use Rattle.swh_program.specs.Causes.{ComesTo, IsExactly, NamesFailed}
 use Rattle.swh_program.specs.Identify.{IsIdentifyAnswer}
 use Rattle.swh_program.specs.Init.{IsInitAnswer}
@@ -71,11 +72,12 @@ no_end_outside : (end : Ending) → (end ≡ ending.Done) ⊎ (end ≡ ending.Wa
 no_end_outside end (inl done) disk = let e : ending.Done ≡ ending.OutsideDisk = sym done ∙ disk in cc
 no_end_outside end (inr wanting) disk = let e : ending.Wanting ≡ ending.OutsideDisk = sym wanting ∙ disk in cc
 
-reply_inside : (end : Ending) (reply : ℕ) → IsReplyEnding reply end → end ≡ ending.OutsideDisk → ⊥
-reply_inside end reply is disk = ⊎_elim (λ (found : (reply ≡ 200) × (end ≡ ending.Done)). no_end_outside end (inl found.1) disk) (λ (other : (reply ≢ 200) × (end ≡ ending.Wanting)). no_end_outside end (inr other.1) disk) is
+replies_inside : (end : Ending) (replies : List ReplyText) → IsEndingOf replies end → end ≡ ending.OutsideDisk → ⊥
+replies_inside end replies is disk =
+    ⊎_elim (λ (found : AreFound replies × (end ≡ ending.Done)). no_end_outside end (inl found.1) disk) (λ (short : HasShortReply replies × (end ≡ ending.Wanting)). no_end_outside end (inr short.1) disk) is
 
 ask_disk : (answer : Answer) → IsAskAnswer answer → TellsDisk answer → answer ≡ OutsideDisk
-ask_disk (Told text end) is tells = absurd (reply_inside end is.0.status is.1.end_is tells)
+ask_disk (Told text end) is tells = absurd (replies_inside end is.0 is.1.end_is tells)
 ask_disk _ is tells = tells
 
 module _ (disk_faults disk_faults_now desk_faults desk_faults_now clock_faults clock_faults_now : ℕ) where

@@ -1,9 +1,11 @@
 -- How `ask` ends.
-use Rattle.std.specs.Prelude.{◌≡◌, ◌≢◌, ◌⊎◌, ◌++◌, ◌∷◌, [], ℕ, List, length, decimal}
+use Rattle.std.specs.Prelude.{◌≡◌, ◌≢◌, ◌⊎◌, ◌++◌, ◌∷◌, [], ℕ, List, Any, length, decimal, flat_map}
+use Rattle.std.specs.List.{AllByRecursion, AllZip}
 use Rattle.swh_base.specs.declared.kind.Kind.{Kind}
 use Rattle.swh_outside.specs.Faults.{Rose}
 use Rattle.swh_outside.specs.Files.{Files}
 use Rattle.swh_model.specs.declared.event.Event.{Event}
+use Rattle.swh_model.specs.Archive.{Archive}
 use Rattle.swh_model.specs.Step.{replay}
 use Rattle.swh_model.specs.Answer.{ReplyText, IsReply}
 use Rattle.swh_program.specs.Archives.{Folders, archive_at, SameElsewhere}
@@ -17,42 +19,58 @@ use Rattle.swh_program.specs.declared.answer.Answer.TheVariants.{Told, OutsideDi
 abbrev pub reply_line : ReplyText → List ℕ
 reply_line r = decimal r.status ++ 32 ∷ (decimal (length r.body) ++ 10 ∷ (r.body ++ 10 ∷ []))
 
--- done exactly at status 200
-abbrev pub IsReplyEnding : ℕ → Ending → Type 0
-IsReplyEnding status end = ((status ≡ 200) × (end ≡ Done)) ⊎ ((status ≢ 200) × (end ≡ Wanting))
+-- The replies of an archive, one to each path, in the order of the paths.
+abbrev pub AreReplies : Archive → List (List ℕ) → List ReplyText → Type 0
+AreReplies a paths replies = AllZip (IsReply a) paths replies
 
--- The text tells a reply, and the run ends by its status.
-pub record TellsReply (reply : ReplyText) (text : List ℕ) (end : Ending) : Type 0 where
-  pub text_is : text ≡ reply_line reply
-  pub end_is : IsReplyEnding reply.status end
+-- Each reply's status is 200.
+abbrev pub AreFound : List ReplyText → Type 0
+AreFound replies = AllByRecursion (λ r. r.status ≡ 200) replies
 
--- The answer tells the reply, or memory ran out.
-abbrev pub IsToldReply : ReplyText → Answer → Type 0
-IsToldReply reply (Told text end) = TellsReply reply text end
-IsToldReply reply Memory = Unit {0}
-IsToldReply reply _ = ⊥
+-- Some reply's status is not 200.
+abbrev pub HasShortReply : List ReplyText → Type 0
+HasShortReply replies = Any (λ r. r.status ≢ 200) replies
+
+-- done exactly where each status is 200
+abbrev pub IsEndingOf : List ReplyText → Ending → Type 0
+IsEndingOf replies end = (AreFound replies × (end ≡ Done)) ⊎ (HasShortReply replies × (end ≡ Wanting))
+
+-- The text tells the replies, and the run ends by their statuses.
+pub record TellsReplies (replies : List ReplyText) (text : List ℕ) (end : Ending) : Type 0 where
+  pub text_is : text ≡ flat_map reply_line replies
+  pub end_is : IsEndingOf replies end
+
+-- The text tells the replies of an archive to paths.
+pub record TellsArchive (a : Archive) (paths : List (List ℕ)) (text : List ℕ) (end : Ending) : Type 0 where
+  pub replies : List ReplyText
+  pub are_replies : AreReplies a paths replies
+  pub tells : TellsReplies replies text end
+
+-- The answer tells these replies, or memory ran out.
+abbrev pub IsToldArchive : Archive → List (List ℕ) → Answer → Type 0
+IsToldArchive a paths (Told text end) = TellsArchive a paths text end
+IsToldArchive a paths Memory = Unit {0}
+IsToldArchive a paths _ = ⊥
 
 abbrev pub IsAskAnswer : Answer → Type 0
-IsAskAnswer (Told text end) = (reply : ReplyText) × TellsReply reply text end
+IsAskAnswer (Told text end) = (replies : List ReplyText) × TellsReplies replies text end
 IsAskAnswer answer = IsOpenRefusal answer
 
 module _ (id_of : Kind → List ℕ → List ℕ) where
-  -- The reply is the answer of the replay of the history for which the files stand, and nothing is written.
-  pub record IsAsked (old new : Files) (path text : List ℕ) (end : Ending) : Type 0 where
+  -- The replies are those of the replay of the history for which the files stand, and nothing is written.
+  pub record IsAsked (old new : Files) (paths : List (List ℕ)) (text : List ℕ) (end : Ending) : Type 0 where
     pub history : List Event
     pub archive : IsArchive id_of old history
-    pub reply : ReplyText
-    pub is_reply : IsReply (replay history) path reply
-    pub tells : TellsReply reply text end
+    pub told : TellsArchive (replay history) paths text end
     pub opened : IsOnlyOpened old new
 
-  abbrev pub AskEnds : List ℕ → Files → Files → Answer → Type 0
-  AskEnds path old new (Told text end) = IsAsked old new path text end
-  AskEnds path old new answer = OpenEnds id_of old new answer
+  abbrev pub AskEnds : List (List ℕ) → Files → Files → Answer → Type 0
+  AskEnds paths old new (Told text end) = IsAsked old new paths text end
+  AskEnds paths old new answer = OpenEnds id_of old new answer
 
   -- This answer came of `ask`; the files of its folder are as it says, and no others changed.
-  pub record Asks (dir path : List ℕ) (tells : Type 0) (old new : Folders) (faults_before faults_now : ℕ) (answer : Answer) : Type 0 where
+  pub record Asks (dir : List ℕ) (paths : List (List ℕ)) (tells : Type 0) (old new : Folders) (faults_before faults_now : ℕ) (answer : Answer) : Type 0 where
     pub one_of : IsAskAnswer answer
-    pub ends : tells → AskEnds path (archive_at old dir) (archive_at new dir) answer
+    pub ends : tells → AskEnds paths (archive_at old dir) (archive_at new dir) answer
     pub elsewhere : tells → SameElsewhere dir old new
     pub cause : answer ≡ OutsideDisk → Rose faults_before faults_now

@@ -22,7 +22,7 @@ use Rattle.swh_program.specs.Jobs.{FileAt, AreJobsAt, IsBadAt}
 use Rattle.swh_program.specs.Lines.{LoadedJob, outcomes, load_line}
 use Rattle.swh_program.specs.Load.{TellsDisk, IsLoad}
 use Rattle.swh_program.specs.Opening.{IsDamaged}
-use Rattle.swh_program.specs.Words.{Wanted, ToInit, ToLoad, ToAsk, ToIdentify}
+use Rattle.swh_words.specs.Words.{Wanted, ToInit, ToLoad, ToAsk, ToIdentify}
 use Rattle.swh_program.specs.declared.answer.Answer.{Answer}
 use Rattle.swh_program.specs.declared.answer.Answer.TheVariants.{OutsideSource, OutsideClock}
 
@@ -40,14 +40,14 @@ pub record IsExactly (expected : ℕ) (Cause : Type 0) (status : ℕ) : Type 0 w
 abbrev pub IsDeskTold : Type 0 → Wanted → Type 0
 IsDeskTold tells (ToInit dir) = Unit {0}
 IsDeskTold tells (ToLoad dir jobs) = tells
-IsDeskTold tells (ToAsk dir path) = Unit {0}
+IsDeskTold tells (ToAsk dir paths) = Unit {0}
 IsDeskTold tells (ToIdentify kind path) = tells
 
 -- The command reads a job file which is not there, or has a line that breaks.
 abbrev pub HasNoJob : FileAt → Wanted → Type 0
 HasNoJob desk_at (ToInit dir) = ⊥
 HasNoJob desk_at (ToLoad dir jobs) = (desk_at jobs ≡ None) ⊎ ((line : ℕ) × (why : JobWhy) × IsBadAt desk_at jobs line why)
-HasNoJob desk_at (ToAsk dir path) = ⊥
+HasNoJob desk_at (ToAsk dir paths) = ⊥
 HasNoJob desk_at (ToIdentify kind path) = ⊥
 
 -- The archive is made already, for `init`; for the others it is not made, or damaged, and a job file that is read is
@@ -59,7 +59,7 @@ module _ (id_of : Kind → List ℕ → List ℕ) where
   abbrev pub HasOtherArchive : Folders → FileAt → Wanted → Type 0
   HasOtherArchive folders desk_at (ToInit dir) = IsMade (archive_at folders dir 0).seen
   HasOtherArchive folders desk_at (ToLoad dir jobs) = ((list : List Job) × AreJobsAt desk_at jobs list) × IsUnusable (archive_at folders dir)
-  HasOtherArchive folders desk_at (ToAsk dir path) = IsUnusable (archive_at folders dir)
+  HasOtherArchive folders desk_at (ToAsk dir paths) = IsUnusable (archive_at folders dir)
   HasOtherArchive folders desk_at (ToIdentify kind path) = ⊥
 
 abbrev pub IsFullEnd : End → Type 0

@@ -1,10 +1,8 @@
 pub mod Refusal
 pub mod Answers
 pub mod Archives
-pub mod Commands
 pub mod Init
 pub mod Run
-pub mod Words
 pub mod Opening
 pub mod Ask
 pub mod Jobs

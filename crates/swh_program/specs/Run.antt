@@ -1,9 +1,10 @@
 -- How a run ends.
 use Rattle.std.specs.Prelude.{◌≡◌, ◌⊎◌, ◌==◌, ◌++◌, ℕ, if◌then◌else◌, List}
+use Rattle.std.specs.List.{list_all}
 use Rattle.swh_outside.specs.Faults.{Rose}
 use Rattle.swh_model.specs.Answer.{ReplyText}
 use Rattle.swh_program.specs.Answers.{IsToldOf}
-use Rattle.swh_program.specs.Words.{Wanted, IsCommand}
+use Rattle.swh_words.specs.Words.{Wanted, IsCommand}
 use Rattle.swh_program.specs.declared.answer.Answer.{Answer}
 
 -- The statuses that a run may end with.
@@ -25,14 +26,14 @@ IsNoCommand words = (wanted : Wanted) → IsCommand words wanted → ⊥
 abbrev pub IsQuiet : ℕ → ℕ → Type 0
 IsQuiet before now = Rose before now → ⊥
 
--- 0 where the reply is 200, else 1
-abbrev pub reply_status : ReplyText → ℕ
-reply_status reply = if reply.status == 200 then 0 else 1
+-- 0 where each reply is 200, else 1
+abbrev pub replies_status : List ReplyText → ℕ
+replies_status replies = if list_all (λ r. r.status == 200) replies then 0 else 1
 
--- Memory apart, this line was printed with this status.
+-- Memory apart, this text was printed with this status.
 abbrev pub IsPrintedWith : List ℕ → ℕ → Type 0 → List ℕ → List ℕ → ℕ → Type 0
-IsPrintedWith line expected tells before now status = (status ≡ 5) ⊎ ((status ≡ expected) × (tells → now ≡ before ++ line))
+IsPrintedWith text expected tells before now status = (status ≡ 5) ⊎ ((status ≡ expected) × (tells → now ≡ before ++ text))
 
--- Memory apart, and a part of the outside, this line was printed with this status.
+-- Memory apart, and a part of the outside, this text was printed with this status.
 abbrev pub IsPrintedUnlessFailed : List ℕ → ℕ → Type 0 → List ℕ → List ℕ → ℕ → Type 0
-IsPrintedUnlessFailed line expected tells before now status = (status ≡ 4) ⊎ IsPrintedWith line expected tells before now status
+IsPrintedUnlessFailed text expected tells before now status = (status ≡ 4) ⊎ IsPrintedWith text expected tells before now status

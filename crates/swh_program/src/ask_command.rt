@@ -1,16 +1,18 @@
 // The command `ask`.
-ghost use Rattle.std.specs.Prelude.{◌≡◌, ◌≤◌, ◌++◌, ◌∷◌, [], None, IfOk, decimal, length};
+ghost use Rattle.std.specs.Prelude.{◌≡◌, ◌≢◌, ◌⊎◌, ◌≤◌, ◌++◌, ◌∷◌, [], None, IfOk, OnOk, decimal, length, map};
 ghost use Rattle.swh_outside.specs.Faults.{Rose};
-ghost use Rattle.swh_model.specs.Step.{replay};
 ghost use Rattle.swh_api.specs.Text.{text_of};
 ghost use Rattle.swh_program.specs.Archives.{archive_at, SameElsewhere};
-ghost use Rattle.swh_program.specs.Ask.{reply_line, IsReplyEnding, IsToldReply, IsAskAnswer, AskEnds};
+ghost use Rattle.swh_program.specs.Ask.{reply_line, TellsArchive, IsToldArchive, IsAskAnswer, AskEnds};
+ghost use Rattle.swh_keeper.specs.Advance.{archive_of};
+ghost use Rattle.swh_program.specs.declared.answer.Ending.TheVariants.{Wanting};
 ghost use Rattle.swh_program.specs.declared.answer.Answer.TheVariants.{OutsideDisk};
 
 use crate::answer::{Answer, Ending};
 use crate::opening::{close_archive, open_archive};
 use itoa::Buffer;
 use std::alloc::Global;
+use std::convert::AsStr;
 use swh_api::{Look, reply};
 use swh_base::{Bytes, Memory, Namer, Reply};
 use swh_keeper::Replayed;
@@ -38,55 +40,77 @@ impl<'a> Look for Shown<'a> {
     }
 }
 
-// A reply as it is printed.
-fn line_of(alloc: Global, reply: &Reply) -> Result<Bytes, Memory>
-    ensures { IfOk result (λ line. line ≡ reply_line (text_of reply.now)) }
+/// What is printed of replies, and how the run ends.
+#[derive(Drop)]
+struct Told {
+    text: Bytes,
+    ending: Ending,
+}
+
+// Appends a reply as it is printed.
+fn put_reply(text: &mut Vec<u8>, reply: &Reply) -> Result<(), Memory>
+    ensures { OnOk result (text.new.items ≡ text.old.items ++ reply_line (text_of reply.now)) }
 {
     let body = reply.body.as_slice();
     let mut digits = Buffer::new();
-    let mut line = Vec::new(alloc);
-    line.extend_from_slice(digits.format(reply.status).as_bytes())?;
-    line.push(b' ')?;
-    line.extend_from_slice(digits.format(body.len()).as_bytes())?;
-    line.push(b'\n')?;
-    line.extend_from_slice(body)?;
-    line.push(b'\n')?;
-    Ok(Bytes::from_vec(line))
+    text.extend_from_slice(digits.format(reply.status).as_bytes())?;
+    text.push(b' ')?;
+    text.extend_from_slice(digits.format(body.len()).as_bytes())?;
+    text.push(b'\n')?;
+    text.extend_from_slice(body)?;
+    text.push(b'\n')?;
+    Ok(())
 }
 
-fn ending_of(status: u16) -> Ending
-    ensures { IsReplyEnding status result }
+// How a run ends that has one more reply, of this status.
+fn ending_with(ending: Ending, status: u16) -> Ending
+    ensures { ((status ≡ 200) × (result ≡ ending)) ⊎ ((status ≢ 200) × (result ≡ Wanting)) }
 {
     if status == 200 {
-        Ending::Done
+        ending
     } else {
         Ending::Wanting
     }
 }
 
-// The answer that tells a reply.
-fn tell_reply(alloc: Global, reply: &Reply) -> Answer
-    ensures { IsToldReply (text_of reply.now) result }
+// The replies to the paths, in their order.
+fn replies<W: AsStr>(alloc: Global, replayed: &Replayed, paths: &[W]) -> Result<Told, Memory>
+    ensures { IfOk result (λ told. TellsArchive (archive_of replayed.now) (map W.text paths.now) told.text told.ending) }
 {
-    match line_of(alloc, reply) {
-        Ok(text) => Answer::Told {
-            text,
-            ending: ending_of(reply.status),
-        },
+    let shown = Shown { replayed };
+    let mut text = Vec::new(alloc);
+    let mut ending = Ending::Done;
+    for path in paths {
+        let reply = reply(alloc, &shown, path.as_str().as_bytes())?;
+        put_reply(&mut text, &reply)?;
+        ending = ending_with(ending, reply.status);
+    }
+    Ok(Told {
+        text: Bytes::from_vec(text),
+        ending,
+    })
+}
+
+// The answer that tells the replies.
+fn tell_replies<W: AsStr>(alloc: Global, replayed: &Replayed, paths: &[W]) -> Answer
+    ensures { IsToldArchive (archive_of replayed.now) (map W.text paths.now) result }
+{
+    match replies(alloc, replayed, paths) {
+        Ok(Told { text, ending }) => Answer::Told { text, ending },
         Err(_) => Answer::Memory,
     }
 }
 
-/// Asks the archive in a folder by a path.
-pub fn ask<N: Namer, P: Depot>(
+/// Asks the archive in a folder by paths.
+pub fn ask<N: Namer, P: Depot, W: AsStr>(
     alloc: Global,
     namer: N,
     depot: &mut P,
     dir: &str,
-    path: &str,
+    paths: &[W],
 ) -> Answer
     ensures one_of { IsAskAnswer result }
-    ensures ends { P.tells → AskEnds N.id_of path.now (archive_at (P.files depot.old) dir.now) (archive_at (P.files depot.new) dir.now) result }
+    ensures ends { P.tells → AskEnds N.id_of (map W.text paths.now) (archive_at (P.files depot.old) dir.now) (archive_at (P.files depot.new) dir.now) result }
     ensures elsewhere { P.tells → SameElsewhere dir.now (P.files depot.old) (P.files depot.new) }
     ensures later { P.faults depot.old ≤ P.faults depot.new }
     ensures cause { result ≡ OutsideDisk → Rose (P.faults depot.old) (P.faults depot.new) }
@@ -95,11 +119,7 @@ pub fn ask<N: Namer, P: Depot>(
         Ok(keeper) => keeper,
         Err(answer) => return answer,
     };
-    let replayed = keeper.replayed();
-    let replied = reply(alloc, &Shown { replayed }, path.as_bytes());
+    let answer = tell_replies(alloc, keeper.replayed(), paths);
     close_archive(depot, dir, keeper);
-    match replied {
-        Ok(reply) => tell_reply(alloc, &reply),
-        Err(_) => Answer::Memory,
-    }
+    answer
 }

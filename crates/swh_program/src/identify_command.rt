@@ -9,7 +9,6 @@ ghost use Rattle.swh_program.specs.declared.answer.Ending.TheVariants as ending;
 ghost use Rattle.swh_program.specs.declared.answer.Answer.TheVariants.{OutsideSource};
 
 use crate::answer::{Answer, Ending};
-use crate::words::letters_of;
 use itoa::Buffer;
 use std::alloc::Global;
 use swh_base::{Bytes, Kind, Memory, Name, Namer};
@@ -17,6 +16,7 @@ use swh_fastlex::{SourceFault, read_source_reserved};
 use swh_object::{Object, ObjectFault};
 use swh_outside::{Opened, Origins};
 use swh_swhid::core_text;
+use swh_words::letters_of;
 
 /// The most bytes that a body may have.
 const BODY_LIMIT: usize = 67_108_864;

@@ -15,7 +15,6 @@ mod opening;
 mod outside;
 mod telling;
 mod top;
-mod words;
 
 pub use answer::{Answer, Ending, tell};
 pub use ask_command::ask;
@@ -27,4 +26,3 @@ pub use load_command::load;
 pub use opening::{close_archive, open_archive};
 pub use outside::Outside;
 pub use top::run;
-pub use words::{Command, parse_words};

@@ -1,32 +1,33 @@
 // The top call.
-ghost use Rattle.std.specs.Prelude.{◌≡◌, ◌≢◌, ◌⊎◌, ◌≤◌, ◌<◌, List, Some, ℕ, Contains, map, string_bytes};
+ghost use Rattle.std.specs.Prelude.{◌≡◌, ◌≢◌, ◌⊎◌, ◌≤◌, ◌<◌, List, Some, ℕ, Contains, map, flat_map, string_bytes};
 ghost use Rattle.swh_outside.specs.Faults.{Rose};
 ghost use Rattle.swh_base.specs.declared.kind.Kind.{Kind};
 ghost use Rattle.swh_model.specs.declared.event.Event.{Event};
-ghost use Rattle.swh_model.specs.Answer.{ReplyText, IsReply};
+ghost use Rattle.swh_model.specs.Answer.{ReplyText};
 ghost use Rattle.swh_jobs.specs.Job.{Job};
 ghost use Rattle.swh_jobs.specs.declared.fault.JobWhy.{JobWhy};
 ghost use Rattle.swh_model.specs.Step.{replay};
 ghost use Rattle.swh_segment.specs.Making.{IsNotMade};
 ghost use Rattle.swh_program.specs.Archives.{archive_at};
 ghost use Rattle.swh_program.specs.Answers.{last_line_of};
-ghost use Rattle.swh_program.specs.Commands.{wanted_by};
-ghost use Rattle.swh_program.specs.Words.{Wanted, IsCommand, IsOffered, ToInit, ToLoad, ToAsk, ToIdentify};
+ghost use Rattle.swh_words.specs.Commands.{wanted_by};
+ghost use Rattle.swh_words.specs.Words.{Wanted, IsCommand, IsOffered, ToInit, ToLoad, ToAsk, ToIdentify};
 ghost use Rattle.swh_program.specs.Init.{Inits};
 ghost use Rattle.swh_program.specs.Load.{Loads};
-ghost use Rattle.swh_program.specs.Ask.{Asks, reply_line};
+ghost use Rattle.swh_program.specs.Ask.{Asks, AreReplies, HasShortReply, reply_line};
 ghost use Rattle.swh_program.specs.Identify.{name_of, name_line, IsBody, HasNoBody, Identifies};
 ghost use Rattle.swh_program.specs.Opening.{IsArchive};
 ghost use Rattle.swh_program.specs.Jobs.{AreJobsAt, IsBadAt, bad_job_line};
 ghost use Rattle.swh_program.specs.Complete.{MeantJob, jobs_of, full_lines, all_made, AreMeant, HasOneBody, HasRoom, AreQuiet};
 ghost use Rattle.swh_program.specs.Causes.{ComesTo, IsExactly, IsDeskTold, HasNoJob, HasOtherArchive, IsByLines, IsBadInput, NamesFailed};
-ghost use Rattle.swh_program.specs.Run.{IsStatus, IsNoCommand, Ends, IsQuiet, IsPrintedWith, IsPrintedUnlessFailed, reply_status};
-ghost use Rattle.swh_program.specs.declared.answer.Answer.TheVariants.{Made, Words};
+ghost use Rattle.swh_program.specs.Run.{IsStatus, IsNoCommand, Ends, IsQuiet, IsPrintedWith, IsPrintedUnlessFailed, replies_status};
+ghost use Rattle.swh_program.specs.declared.answer.Answer.TheVariants.{Made, Words, Memory};
 
-use crate::{Answer, Command, Outside, ask, identify, init, load, parse_words, tell};
+use crate::{Answer, Outside, ask, identify, init, load, tell};
 use std::alloc::Global;
 use swh_base::Namer;
 use swh_outside::{Clock, Depot, Doors, Gate, Origins, Sink, Yard};
+use swh_words::{Command, WordsFault, parse_words};
 
 // What a command comes to.
 fn carry_out<N: Namer, P: Depot, O: Origins, C: Clock, G: Gate>(
@@ -45,8 +46,8 @@ fn carry_out<N: Namer, P: Depot, O: Origins, C: Clock, G: Gate>(
     ensures load { (dir jobs : List ℕ) → wanted_by command.now ≡ ToLoad dir jobs
         → Loads N.id_of O.tells (O.file_at origins.old) (O.path_faults origins.old) (O.path_faults origins.new) (O.file_at desk.old) C.tells (C.time clock.old) P.tells dir jobs
         (P.files depot.old) (P.files depot.new) (P.faults depot.old) (P.faults depot.new) (O.faults desk.old) (O.faults desk.new) (C.faults clock.old) (C.faults clock.new) result }
-    ensures ask { (dir path : List ℕ) → wanted_by command.now ≡ ToAsk dir path
-        → Asks N.id_of dir path P.tells (P.files depot.old) (P.files depot.new) (P.faults depot.old) (P.faults depot.new) result }
+    ensures ask { (dir : List ℕ) (paths : List (List ℕ)) → wanted_by command.now ≡ ToAsk dir paths
+        → Asks N.id_of dir paths P.tells (P.files depot.old) (P.files depot.new) (P.faults depot.old) (P.faults depot.new) result }
     ensures named { NamesFailed (P.faults depot.old) (P.faults depot.new) (O.faults desk.old) (O.faults desk.new) (C.faults clock.old) (C.faults clock.new) result }
     ensures identify { (kind : Kind) (path : List ℕ) → wanted_by command.now ≡ ToIdentify kind path
         → Identifies N.id_of kind O.tells (O.file_at desk.old) path (O.faults desk.old) (O.faults desk.new) result }
@@ -61,7 +62,7 @@ fn carry_out<N: Namer, P: Depot, O: Origins, C: Clock, G: Gate>(
         Command::Load { dir, jobs } => load(
             alloc, namer, depot, desk, origins, clock, gate, dir, jobs,
         ),
-        Command::Ask { dir, path } => ask(alloc, namer, depot, dir, path),
+        Command::Ask { dir, paths } => ask(alloc, namer, depot, dir, paths.as_slice()),
         Command::Identify { kind, path } => identify(alloc, &namer, desk, *kind, path),
     }
 }
@@ -77,7 +78,7 @@ fn obey<N: Namer, P: Depot, O: Origins, C: Clock, G: Gate>(
     clock: &mut C,
     gate: &G,
 ) -> Answer
-    ensures refused { IsNoCommand (map string_bytes words.now) → result ≡ Words }
+    ensures refused { IsNoCommand (map string_bytes words.now) → (result ≡ Words) ⊎ (result ≡ Memory) }
     ensures same_depot { IsNoCommand (map string_bytes words.now) → depot.new ≡ depot.old }
     ensures same_desk { IsNoCommand (map string_bytes words.now) → desk.new ≡ desk.old }
     ensures same_origins { IsNoCommand (map string_bytes words.now) → origins.new ≡ origins.old }
@@ -87,8 +88,8 @@ fn obey<N: Namer, P: Depot, O: Origins, C: Clock, G: Gate>(
     ensures load { (dir jobs : List ℕ) → IsCommand (map string_bytes words.now) (ToLoad dir jobs)
         → Loads N.id_of O.tells (O.file_at origins.old) (O.path_faults origins.old) (O.path_faults origins.new) (O.file_at desk.old) C.tells (C.time clock.old) P.tells dir jobs
         (P.files depot.old) (P.files depot.new) (P.faults depot.old) (P.faults depot.new) (O.faults desk.old) (O.faults desk.new) (C.faults clock.old) (C.faults clock.new) result }
-    ensures ask { (dir path : List ℕ) → IsCommand (map string_bytes words.now) (ToAsk dir path)
-        → Asks N.id_of dir path P.tells (P.files depot.old) (P.files depot.new) (P.faults depot.old) (P.faults depot.new) result }
+    ensures ask { (dir : List ℕ) (paths : List (List ℕ)) → IsCommand (map string_bytes words.now) (ToAsk dir paths)
+        → Asks N.id_of dir paths P.tells (P.files depot.old) (P.files depot.new) (P.faults depot.old) (P.faults depot.new) result }
     ensures named { NamesFailed (P.faults depot.old) (P.faults depot.new) (O.faults desk.old) (O.faults desk.new) (C.faults clock.old) (C.faults clock.new) result }
     ensures identify { (kind : Kind) (path : List ℕ) → IsCommand (map string_bytes words.now) (ToIdentify kind path)
         → Identifies N.id_of kind O.tells (O.file_at desk.old) path (O.faults desk.old) (O.faults desk.new) result }
@@ -98,9 +99,10 @@ fn obey<N: Namer, P: Depot, O: Origins, C: Clock, G: Gate>(
     ensures origins_later { O.faults origins.old ≤ O.faults origins.new }
     ensures clock_later { C.faults clock.old ≤ C.faults clock.new }
 {
-    match parse_words(words) {
-        Some(command) => carry_out(alloc, &command, namer, depot, desk, origins, clock, gate),
-        None => Answer::Words,
+    match parse_words(alloc, words) {
+        Ok(command) => carry_out(alloc, &command, namer, depot, desk, origins, clock, gate),
+        Err(WordsFault::Words) => Answer::Words,
+        Err(WordsFault::Memory) => Answer::Memory,
     }
 }
 
@@ -115,9 +117,9 @@ pub fn run<R, N: Namer, P: Depot, O: Origins, Y: Yard, K: Sink, C: Clock, D: Doo
 ) -> u8
     ensures status { IsStatus result }
 
-    // Words that are no command touch nothing.
+    // Words that are no command touch nothing, and are told, unless memory runs out.
     ensures refused { IsNoCommand (map string_bytes words.now)
-        → Ends (λ answer. answer ≡ Words) K.tells (K.taken world.old.sink) (K.taken world.new.sink) (K.faults world.old.sink) (K.faults world.new.sink) result }
+        → Ends (λ answer. (answer ≡ Words) ⊎ (answer ≡ Memory)) K.tells (K.taken world.old.sink) (K.taken world.new.sink) (K.faults world.old.sink) (K.faults world.new.sink) result }
     ensures same_depot { IsNoCommand (map string_bytes words.now) → world.new.depot ≡ world.old.depot }
     ensures same_desk { IsNoCommand (map string_bytes words.now) → world.new.desk ≡ world.old.desk }
     ensures same_origins { IsNoCommand (map string_bytes words.now) → world.new.origins ≡ world.old.origins }
@@ -132,8 +134,8 @@ pub fn run<R, N: Namer, P: Depot, O: Origins, Y: Yard, K: Sink, C: Clock, D: Doo
         (P.files world.old.depot) (P.files world.new.depot) (P.faults world.old.depot) (P.faults world.new.depot) (O.faults world.old.desk) (O.faults world.new.desk) (C.faults world.old.clock) (C.faults world.new.clock))
         K.tells (K.taken world.old.sink) (K.taken world.new.sink) (K.faults world.old.sink) (K.faults world.new.sink) result }
 
-    ensures ask { (dir path : List ℕ) → IsCommand (map string_bytes words.now) (ToAsk dir path)
-        → Ends (Asks N.id_of dir path P.tells (P.files world.old.depot) (P.files world.new.depot) (P.faults world.old.depot) (P.faults world.new.depot))
+    ensures ask { (dir : List ℕ) (paths : List (List ℕ)) → IsCommand (map string_bytes words.now) (ToAsk dir paths)
+        → Ends (Asks N.id_of dir paths P.tells (P.files world.old.depot) (P.files world.new.depot) (P.faults world.old.depot) (P.faults world.new.depot))
         K.tells (K.taken world.old.sink) (K.taken world.new.sink) (K.faults world.old.sink) (K.faults world.new.sink) result }
 
     ensures identify { (kind : Kind) (path : List ℕ) → IsCommand (map string_bytes words.now) (ToIdentify kind path)
@@ -152,8 +154,8 @@ pub fn run<R, N: Namer, P: Depot, O: Origins, Y: Yard, K: Sink, C: Clock, D: Doo
         → IsExactly 3 (HasOtherArchive N.id_of (P.files world.old.depot) (O.file_at world.old.desk) wanted) result }
 
     // 1: a reply is not 200, a line is neither full nor stopped by a disk or by memory, or no body stands at a path.
-    ensures short_reply { (dir path : List ℕ) (h : List Event) (reply : ReplyText) → IsCommand (map string_bytes words.now) (ToAsk dir path) → P.tells
-        → IsArchive N.id_of (archive_at (P.files world.old.depot) dir) h → IsReply (replay h) path reply → IsExactly 1 (reply.status ≢ 200) result }
+    ensures short_reply { (dir : List ℕ) (paths : List (List ℕ)) (h : List Event) (replies : List ReplyText) → IsCommand (map string_bytes words.now) (ToAsk dir paths) → P.tells
+        → IsArchive N.id_of (archive_at (P.files world.old.depot) dir) h → AreReplies (replay h) paths replies → IsExactly 1 (HasShortReply replies) result }
     ensures short_line { (dir jobs : List ℕ) → IsCommand (map string_bytes words.now) (ToLoad dir jobs) → result < 2
         → IsByLines N.id_of O.tells (O.file_at world.old.origins) (O.path_faults world.old.origins) (O.path_faults world.new.origins) (O.file_at world.old.desk) P.tells
         jobs (archive_at (P.files world.old.depot) dir) (archive_at (P.files world.new.depot) dir) K.tells (K.taken world.old.sink) (K.taken world.new.sink) result }
@@ -174,12 +176,12 @@ pub fn run<R, N: Namer, P: Depot, O: Origins, Y: Yard, K: Sink, C: Clock, D: Doo
     ensures complete_init { (dir : List ℕ) → IsCommand (map string_bytes words.now) (ToInit dir) → P.tells → IsNotMade (archive_at (P.files world.old.depot) dir 0).seen
         → IsQuiet (P.faults world.old.depot) (P.faults world.new.depot) → IsQuiet (K.faults world.old.sink) (K.faults world.new.sink) → IsPrintedWith (last_line_of Made) 0 K.tells (K.taken world.old.sink) (K.taken world.new.sink) result }
 
-    // The reply of the archive to the path is printed with its status, unless memory runs out, where no part of the
-    // outside failed.
-    ensures complete_ask { (dir path : List ℕ) (h : List Event) (reply : ReplyText) → IsCommand (map string_bytes words.now) (ToAsk dir path) → P.tells
-        → IsArchive N.id_of (archive_at (P.files world.old.depot) dir) h → IsReply (replay h) path reply
+    // The replies of the archive to the paths are printed with their status, unless memory runs out, where no part of
+    // the outside failed.
+    ensures complete_ask { (dir : List ℕ) (paths : List (List ℕ)) (h : List Event) (replies : List ReplyText) → IsCommand (map string_bytes words.now) (ToAsk dir paths) → P.tells
+        → IsArchive N.id_of (archive_at (P.files world.old.depot) dir) h → AreReplies (replay h) paths replies
         → IsQuiet (P.faults world.old.depot) (P.faults world.new.depot) → IsQuiet (K.faults world.old.sink) (K.faults world.new.sink)
-        → IsPrintedWith (reply_line reply) (reply_status reply) K.tells (K.taken world.old.sink) (K.taken world.new.sink) result }
+        → IsPrintedWith (flat_map reply_line replies) (replies_status replies) K.tells (K.taken world.old.sink) (K.taken world.new.sink) result }
 
     // Jobs whose inputs are there and mean something are loaded in full, unless memory runs out, where no name has two
     // bodies, the files have room, and no part of the outside failed.

@@ -1,15 +1,15 @@
 -- What words ask for is one command at most.
-use Rattle.std.proofs.Common.{◌≡◌, ◌∙◌, ℕ, List, [], refl, sym, ap, subst, Option, Some, None, Result, Ok, Err, IfOk, IfErr, length, get_or, true≢false}
+use Rattle.std.proofs.Common.{◌≡◌, ◌∙◌, ℕ, List, [], refl, sym, ap, Option, Some, None, Result, Ok, Err, IfErr, length, get_or, true≢false}
 use Rattle.std.specs.Prelude.{codes, if◌then◌else◌, ◌==◌, unwrap_or, IsSomeAnd, Bool, true, false}
 use Rattle.clap.specs.Words.{Row, Text, all_of, first_of, subcommand_of}
 use Rattle.swh_base.specs.declared.kind.Kind.{Kind}
 use Rattle.swh_base.specs.declared.kind.Kind.TheVariants.{Content, Directory, Revision, Release, Snapshot}
 use Rattle.swh_words.specs.Definition.{program_app}
-use Rattle.swh_words.specs.Words.{Wanted, ToInit, ToLoad, ToAsk, ToIdentify, IsAsked, IsCommand, IsGiven, kind_letters}
+use Rattle.swh_words.specs.Words.{Wanted, ToInit, ToLoad, ToAsk, ToIdentify, IsAsked, IsCommand, IsGiven, IsOffered, kind_letters}
 use Rattle.swh_words.specs.declared.command.Command.{Command}
 use Rattle.swh_words.specs.declared.command.WordsFault.{WordsFault}
 use Rattle.swh_words.specs.declared.command.WordsFault.TheVariants.{Words, Memory}
-use Rattle.swh_words.specs.Commands.{wanted_by, Answers}
+use Rattle.swh_words.specs.Commands.{Answers}
 
 -- the last letter tells the kinds apart
 abbrev kind_from : List ℕ → Kind
@@ -56,6 +56,14 @@ one_asked (Some given) a b is_a is_b = sym (read-given given a is_a.is_given) �
 
 pub one_command : (words : List (List ℕ)) (a b : Wanted) → IsCommand words a → IsCommand words b → a ≡ b
 one_command words a b is_a is_b = one_asked (subcommand_of program_app words) a b is_a.asked is_b.asked
+
+offered_of : (o : Option (Text × List Row)) (wanted : Wanted) → IsSomeAnd o (λ given. IsAsked given wanted) → IsOffered wanted
+offered_of None wanted is = absurd is
+offered_of (Some given) wanted is = is.offered
+
+-- what is a command is offered
+pub offered : (words : List (List ℕ)) (wanted : Wanted) → IsCommand words wanted → IsOffered wanted
+offered words wanted is = offered_of (subcommand_of program_app words) wanted is.asked
 
 is_memory : WordsFault → Bool
 is_memory Words = false

@@ -1,5 +1,5 @@
 -- What a command asks for.
-use Rattle.std.specs.Prelude.{List, map, Result, Ok, Err}
+use Rattle.std.specs.Prelude.{map, Result, Ok, Err}
 use Rattle.swh_words.specs.declared.command.Command.{Command}
 use Rattle.swh_words.specs.declared.command.Command.TheVariants.{Init, Load, Ask, Identify}
 use Rattle.swh_words.specs.declared.command.WordsFault.{WordsFault}

@@ -1,5 +1,5 @@
 -- The program's definition for clap: its subcommands and their words.
-use Rattle.std.specs.Prelude.{◌≡◌, Bool, true, false, Some, codes}
+use Rattle.std.specs.Prelude.{◌≡◌, true, false, Some, codes}
 use Rattle.clap.specs.Lexer.{usize_max}
 use Rattle.clap.specs.Words.{App, Rule, Shape, Text, app_of, new_app, new_rule, with_rule, with_subcommand}
 use Rattle.clap.specs.declared.Command.{Command}

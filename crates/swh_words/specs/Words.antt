@@ -1,5 +1,5 @@
 -- The words of a run: which command they are, by the program's definition for clap.
-use Rattle.std.specs.Prelude.{◌≡◌, ◌≢◌, ◌<◌, ℕ, List, [], ◌∷◌, Some, IsSomeAnd, length, codes}
+use Rattle.std.specs.Prelude.{◌≡◌, ◌≢◌, ◌<◌, ℕ, List, [], Some, IsSomeAnd, length, codes}
 use Rattle.clap.specs.Words.{Row, Text, all_of, fault_of, first_of, subcommand_of}
 use Rattle.swh_base.specs.declared.kind.Kind.{Kind}
 use Rattle.swh_base.specs.declared.kind.Kind.TheVariants.{Content, Directory, Revision, Release, Snapshot}
@@ -38,7 +38,7 @@ IsGiven given (ToIdentify kind path) =
 abbrev pub IsOffered : Wanted → Type 0
 IsOffered (ToInit dir) = Unit {0}
 IsOffered (ToLoad dir jobs) = Unit {0}
-IsOffered (ToAsk dir paths) = paths ≢ []
+IsOffered (ToAsk dir paths) = 0 < length paths
 IsOffered (ToIdentify kind path) = kind ≢ Directory
 
 -- A subcommand's name and clap's values for it ask for this, which is offered.

@@ -13,3 +13,5 @@ pub use command::{Command, WordsFault, letters_of};
 pub use laws::one_command;
 pub use reading::parse_words;
 
+#[cfg(test)]
+mod tests;

@@ -126,10 +126,7 @@ fn command_of<'a>(
 }
 
 // The command of what clap gives.
-fn command_given<'a>(
-    alloc: Global,
-    matches: &ArgMatches<'a>,
-) -> Result<Command<'a>, WordsFault>
+fn command_given<'a>(alloc: Global, matches: &ArgMatches<'a>) -> Result<Command<'a>, WordsFault>
     ensures { Answers (λ wanted. IsSomeAnd (subcommand_rows_of matches.now) (λ given. IsAsked given wanted)) result }
 {
     match matches.subcommand() {

@@ -1,6 +1,7 @@
-use Rattle.std.proofs.Common.{◌≡◌, sym, ◌∙◌, ap}
+use Rattle.std.proofs.Common.{rules, ◌≡◌, ℕ, List, Bor, sym, ◌∙◌, ap, map}
 use Rattle.swh_program.specs.Ask.{Asks}
-use Rattle.swh_program.specs.Commands.{wanted_by}
+use Rattle.swh_words.specs.Commands.{wanted_by}
+use Rattle.swh_words.specs.Words.{ToAsk}
 use Rattle.swh_program.specs.Identify.{Identifies}
 use Rattle.swh_program.specs.Load.{Loads}
 use Rattle.swh_program.proofs.Commands.{one_folder, at_load, at_ask, at_identify}
@@ -25,11 +26,13 @@ returns-in-Load-clause-load g c dir jobs is =
     (record { ends = l.ends; elsewhere = l.elsewhere; disk_cause = l.disk_cause; source_cause = l.source_cause; clock_cause = l.clock_cause })
 
 pub returns-in-Ask-clause-ask : goal.returns-in-Ask-clause-ask
-returns-in-Ask-clause-ask g c dir path is =
+returns-in-Ask-clause-ask g c dir paths is =
     let a = c.ask.ensures in
+    let slice : c.as_slice.result.now ≡ c.in-Ask.paths.items = search rules in
     at_ask
     (λ d p. Asks g.N.Namer.id_of d p g.P.Depot.tells (g.P.Depot.files c.args.depot.now) (g.P.Depot.files c.ask.new.depot) (g.P.Depot.faults c.args.depot.now) (g.P.Depot.faults c.ask.new.depot) c.ask.result)
-    c.in-Ask.dir.now dir c.in-Ask.path.now path (ap wanted_by (sym c.in-Ask.is) ∙ is)
+    c.in-Ask.dir.now dir (map (λ path. path.now) c.as_slice.result.now) paths
+    (ap (λ (l : List (Bor (List ℕ))). ToAsk c.in-Ask.dir.now (map (λ path. path.now) l)) slice ∙ ap wanted_by (sym c.in-Ask.is) ∙ is)
     (record { one_of = a.one_of; ends = a.ends; elsewhere = a.elsewhere; cause = a.cause })
 
 pub returns-in-Init-clause-named : goal.returns-in-Init-clause-named

@@ -1,13 +1,14 @@
-use Rattle.std.proofs.Common.{◌≢◌, inl, ap, sym, ◌∙◌, map, string_bytes, arith}
+use Rattle.std.proofs.Common.{◌≢◌, ⊎_elim, inl, inr, ap, sym, ◌∙◌, map, string_bytes, arith}
+use Rattle.std.specs.List.{flat_map}
 use Rattle.swh_program.specs.Archives.{archive_at}
 use Rattle.swh_program.specs.Answers.{status_of, last_line_of}
 use Rattle.swh_program.specs.Causes.{IsExactly, IsDeskTold, HasNoJob, HasOtherArchive}
-use Rattle.swh_program.specs.Words.{ToInit, ToLoad, ToAsk, ToIdentify, IsCommand}
-use Rattle.swh_program.proofs.Exacts.{init_job, ask_job, init_wants, init_archive, ask_archive, ask_reply}
+use Rattle.swh_words.specs.Words.{ToInit, ToLoad, ToAsk, ToIdentify, IsCommand}
+use Rattle.swh_program.proofs.Exacts.{init_job, ask_job, init_wants, init_archive, ask_archive, ask_replies}
 use Rattle.swh_program.proofs.LoadStatuses.{load_job, load_bad, load_archive, load_lines, load_input}
 use Rattle.swh_program.proofs.Statuses.{run_comes, uncut, run_exactly, rose_outside}
-use Rattle.swh_program.specs.Ask.{reply_line}
-use Rattle.swh_program.specs.Run.{reply_status}
+use Rattle.swh_program.specs.Ask.{HasShortReply, reply_line}
+use Rattle.swh_program.specs.Run.{replies_status}
 use Rattle.swh_program.specs.declared.answer.Answer.TheVariants.{Made}
 use Rattle.swh_program.proofs.Completes.{told_with, told_unless, init_done, ask_done}
 use Rattle.swh_program.specs.Complete.{full_lines}
@@ -28,7 +29,7 @@ pub returns-clause-load : goal.returns-clause-load
 returns-clause-load g c dir jobs is = record { answer = c.obey-answer.result; is_one = c.obey-answer.ensures.load dir jobs is; told = c.tell.ensures }
 
 pub returns-clause-ask : goal.returns-clause-ask
-returns-clause-ask g c dir path is = record { answer = c.obey-answer.result; is_one = c.obey-answer.ensures.ask dir path is; told = c.tell.ensures }
+returns-clause-ask g c dir paths is = record { answer = c.obey-answer.result; is_one = c.obey-answer.ensures.ask dir paths is; told = c.tell.ensures }
 
 pub returns-clause-identify : goal.returns-clause-identify
 returns-clause-identify g c kind path is = record { answer = c.obey-answer.result; is_one = c.obey-answer.ensures.identify kind path is; told = c.tell.ensures }
@@ -40,12 +41,12 @@ returns-clause-complete_init g c dir is told not_made no_disk no_sink =
     told_with (last_line_of Made) 0 _ _ _ _ _ _ _ done no_sink c.tell.ensures
 
 pub returns-clause-complete_ask : goal.returns-clause-complete_ask
-returns-clause-complete_ask g c dir path h reply is told archive replies no_disk no_sink =
-    let asks = c.obey-answer.ensures.ask dir path is in
+returns-clause-complete_ask g c dir paths h replies is told archive are_replies no_disk no_sink =
+    let asks = c.obey-answer.ensures.ask dir paths is in
     let old = archive_at (g.P.Depot.files c.args.world.now.depot) dir in
     let new = archive_at (g.P.Depot.files c.obey-answer.new.depot) dir in
-    let done = ask_done g.N.Namer.id_of path old new h reply archive replies c.obey-answer.result (asks.ends told) (λ failed. no_disk (asks.cause failed)) in
-    told_with (reply_line reply) (reply_status reply) _ _ _ _ _ _ _ done no_sink c.tell.ensures
+    let done = ask_done g.N.Namer.id_of paths old new h replies archive are_replies c.obey-answer.result (asks.ends told) (λ failed. no_disk (asks.cause failed)) in
+    told_with (flat_map reply_line replies) (replies_status replies) _ _ _ _ _ _ _ done no_sink c.tell.ensures
 
 pub returns-clause-complete_load : goal.returns-clause-complete_load
 returns-clause-complete_load g c dir path before meant is disks inputs archive there are one room no_disk no_desk quiet no_clock no_sink =
@@ -58,7 +59,8 @@ returns-clause-complete_load g c dir path before meant is disks inputs archive t
     told_with (full_lines before meant) 0 _ _ _ _ _ _ _ done no_sink c.tell.ensures
 
 pub returns-clause-no_command : goal.returns-clause-no_command
-returns-clause-no_command g c none = run_comes _ _ _ _ _ _ _ c.tell.ensures 2 (inl (ap status_of (c.obey-answer.ensures.refused none)))
+returns-clause-no_command g c none = run_comes _ _ _ _ _ _ _ c.tell.ensures 2
+    (⊎_elim (λ words. inl (ap status_of words)) (λ memory. inr (inr (ap status_of memory))) (c.obey-answer.ensures.refused none))
 
 pub returns-clause-no_job : goal.returns-clause-no_job
 returns-clause-no_job g c wanted =
@@ -67,7 +69,7 @@ returns-clause-no_job g c wanted =
       | ToLoad dir jobs ↦ λ is told. run_exactly _ _ _ _ _ _ _ c.tell.ensures 2 (HasNoJob (g.O.Origins.file_at c.args.world.now.desk) (ToLoad dir jobs)) (omega arith)
           (load_job g.N.Namer.id_of g.O.Origins.tells (g.O.Origins.file_at c.args.world.now.origins) (g.O.Origins.path_faults c.args.world.now.origins) (g.O.Origins.path_faults c.obey-answer.new.origins) (g.O.Origins.file_at c.args.world.now.desk)
           g.C.Clock.tells (g.C.Clock.time c.args.world.now.clock) g.P.Depot.tells jobs (archive_at (g.P.Depot.files c.args.world.now.depot) dir) (archive_at (g.P.Depot.files c.obey-answer.new.depot) dir) told c.obey-answer.result (c.obey-answer.ensures.load dir jobs is).ends)
-      | ToAsk dir path ↦ λ is told. run_exactly _ _ _ _ _ _ _ c.tell.ensures 2 ⊥ (omega arith) (record { only = ask_job c.obey-answer.result (c.obey-answer.ensures.ask dir path is).one_of; there = λ none. absurd none })
+      | ToAsk dir paths ↦ λ is told. run_exactly _ _ _ _ _ _ _ c.tell.ensures 2 ⊥ (omega arith) (record { only = ask_job c.obey-answer.result (c.obey-answer.ensures.ask dir paths is).one_of; there = λ none. absurd none })
       | ToIdentify kind path ↦ λ is told. run_exactly _ _ _ _ _ _ _ c.tell.ensures 2 ⊥ (omega arith) (record { only = identify_low g.N.Namer.id_of kind c.obey-answer.result (c.obey-answer.ensures.identify kind path is).one_of; there = λ none. absurd none })
     ]
 
@@ -81,15 +83,15 @@ returns-clause-other_archive g c wanted =
       | ToLoad dir jobs ↦ λ is told disks. run_exactly _ _ _ _ _ _ _ c.tell.ensures 3 (HasOtherArchive g.N.Namer.id_of folders desk_at (ToLoad dir jobs)) (omega arith)
           (load_archive g.N.Namer.id_of g.O.Origins.tells (g.O.Origins.file_at c.args.world.now.origins) (g.O.Origins.path_faults c.args.world.now.origins) (g.O.Origins.path_faults c.obey-answer.new.origins) desk_at
           g.C.Clock.tells (g.C.Clock.time c.args.world.now.clock) g.P.Depot.tells jobs (archive_at folders dir) (archive_at (g.P.Depot.files c.obey-answer.new.depot) dir) told disks c.obey-answer.result (c.obey-answer.ensures.load dir jobs is).ends)
-      | ToAsk dir path ↦ λ is told disks. run_exactly _ _ _ _ _ _ _ c.tell.ensures 3 (HasOtherArchive g.N.Namer.id_of folders desk_at (ToAsk dir path)) (omega arith)
-          (ask_archive g.N.Namer.id_of path (archive_at folders dir) (archive_at (g.P.Depot.files c.obey-answer.new.depot) dir) c.obey-answer.result (c.obey-answer.ensures.ask dir path is).one_of ((c.obey-answer.ensures.ask dir path is).ends disks))
+      | ToAsk dir paths ↦ λ is told disks. run_exactly _ _ _ _ _ _ _ c.tell.ensures 3 (HasOtherArchive g.N.Namer.id_of folders desk_at (ToAsk dir paths)) (omega arith)
+          (ask_archive g.N.Namer.id_of paths (archive_at folders dir) (archive_at (g.P.Depot.files c.obey-answer.new.depot) dir) c.obey-answer.result (c.obey-answer.ensures.ask dir paths is).one_of ((c.obey-answer.ensures.ask dir paths is).ends disks))
       | ToIdentify kind path ↦ λ is told disks. run_exactly _ _ _ _ _ _ _ c.tell.ensures 3 ⊥ (omega arith) (record { only = identify_archive g.N.Namer.id_of kind c.obey-answer.result (c.obey-answer.ensures.identify kind path is).one_of; there = λ none. absurd none })
     ]
 
 pub returns-clause-short_reply : goal.returns-clause-short_reply
-returns-clause-short_reply g c dir path h reply is disks archive replies =
-    run_exactly _ _ _ _ _ _ _ c.tell.ensures 1 (reply.status ≢ 200) (omega arith)
-    (ask_reply g.N.Namer.id_of path (archive_at (g.P.Depot.files c.args.world.now.depot) dir) (archive_at (g.P.Depot.files c.obey-answer.new.depot) dir) h reply archive replies c.obey-answer.result ((c.obey-answer.ensures.ask dir path is).ends disks))
+returns-clause-short_reply g c dir paths h replies is disks archive are_replies =
+    run_exactly _ _ _ _ _ _ _ c.tell.ensures 1 (HasShortReply replies) (omega arith)
+    (ask_replies g.N.Namer.id_of paths (archive_at (g.P.Depot.files c.args.world.now.depot) dir) (archive_at (g.P.Depot.files c.obey-answer.new.depot) dir) h replies archive are_replies c.obey-answer.result ((c.obey-answer.ensures.ask dir paths is).ends disks))
 
 pub returns-clause-short_line : goal.returns-clause-short_line
 returns-clause-short_line g c dir jobs is less =

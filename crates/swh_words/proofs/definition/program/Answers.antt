@@ -1,7 +1,7 @@
 use Rattle.std.proofs.lemmas.Result.{IfOk-weaker}
 use Rattle.std.specs.Prelude.{codes}
 use Rattle.clap.specs.Words.{App, new_app, with_subcommand}
-use Rattle.swh_words.specs.Definition.{ask_app, bare_app, identify_app, init_app, load_app, IsDefinedAs}
+use Rattle.swh_words.specs.Definition.{ask_app, bare_app, identify_app, init_app, load_app}
 use Rattle.swh_words.proofs.Definitions.{joined}
 use Rattle.swh_words.proofs.definition.program.Goals as goal
 

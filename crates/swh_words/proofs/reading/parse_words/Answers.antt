@@ -1,8 +1,8 @@
-use Rattle.std.proofs.Common.{◌≡◌, ◌∙◌, ap, sym, subst, map, List, ℕ, Option, string_bytes}
+use Rattle.std.proofs.Common.{◌≡◌, ◌∙◌, ap, sym, subst, map, List, Option, string_bytes}
 use Rattle.std.specs.Prelude.{IsSomeAnd}
 use Rattle.clap.specs.Words.{Row, Text, is_simple, subcommand_of, subcommand_rows_of}
 use Rattle.swh_words.specs.Definition.{program_app}
-use Rattle.swh_words.specs.Words.{IsAsked, Wanted}
+use Rattle.swh_words.specs.Words.{IsAsked}
 use Rattle.swh_words.proofs.Commands.{none_of_answer}
 use Rattle.swh_words.proofs.Definitions.{program_is_simple}
 use Rattle.swh_words.proofs.reading.parse_words.Goals as goal

@@ -1,0 +1,7 @@
+use Rattle.std.proofs.Common.{map, take}
+use Rattle.swh_keeper.specs.Advance.{archive_of}
+use Rattle.swh_program.specs.Ask.{TellsArchive}
+use Rattle.swh_program.proofs.ask_command.replies.Given as goal
+
+abbrev pub invariant-loop-path : goal.invariant-loop-path
+invariant-loop-path g l = TellsArchive (archive_of l.replayed) (map g.W.AsStr.text (take l.path-index l.paths)) l.text.items l.ending
