@@ -6,8 +6,10 @@ use Rattle.swh_outside.specs.Disk.{File}
 use Rattle.swh_outside.specs.Files.{absent}
 use Rattle.swh_outside.specs.Firsts.{first_or}
 use Rattle.swh_memory.specs.Memory.{memory_file}
+use Rattle.swh_memory.specs.Tally.{Tally}
 use Rattle.swh_memory.specs.declared.place.Place.{Place}
 use Rattle.swh_memory.specs.declared.depot.MemoryDepot.{MemoryDepot}
+use Rattle.swh_memory.specs.declared.disk.Room.{Room}
 
 abbrev pub is_at : List ℕ → ℕ → Place → Bool
 is_at dir file place = nat_eq place.file file && bytes_eq (string_bytes place.dir) dir
@@ -24,6 +26,13 @@ memory_files depot = files_in depot.places.items
 
 abbrev pub has_place : MemoryDepot → List ℕ → ℕ → Type 0
 has_place depot dir file = position_or_len (is_at dir file) depot.places.items < length depot.places.items
+
+-- the room of the disks that it makes
+abbrev pub depot_room : MemoryDepot → Room
+depot_room depot = depot.room
+
+abbrev pub depot_tally : MemoryDepot → Tally
+depot_tally depot = depot.failures
 
 abbrev pub depot_faults : MemoryDepot → ℕ
 depot_faults depot = depot.failures.faults

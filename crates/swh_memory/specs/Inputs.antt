@@ -1,5 +1,6 @@
--- What a source in memory holds, and how often it failed.
+-- What a source in memory holds, and what is kept of its calls.
 use Rattle.std.specs.Prelude.{ℕ, Bool, List, take, drop, string_bytes}
+use Rattle.swh_memory.specs.Tally.{Tally}
 use Rattle.swh_memory.specs.declared.source.MemorySource.{MemorySource}
 
 abbrev pub source_left : MemorySource → List ℕ
@@ -13,6 +14,13 @@ source_ended source = source.ended
 
 abbrev pub source_path : MemorySource → List ℕ
 source_path source = string_bytes source.path
+
+-- how many bytes a call gives at most, where it is above 0
+abbrev pub source_piece : MemorySource → ℕ
+source_piece source = source.piece
+
+abbrev pub source_tally : MemorySource → Tally
+source_tally source = source.failures
 
 abbrev pub source_faults : MemorySource → ℕ
 source_faults source = source.failures.faults

@@ -1,8 +1,9 @@
--- What the origins in memory hold, and how often they failed.
+-- What the origins in memory hold, and what is kept of their calls.
 use Rattle.std.specs.Prelude.{ℕ, Bool, List, Option, Some, None, string_bytes}
 use Rattle.std.specs.Str.{bytes_eq}
 use Rattle.swh_outside.specs.Firsts.{first_or}
 use Rattle.swh_outside.specs.Counts.{count_at}
+use Rattle.swh_memory.specs.Tally.{Tally}
 use Rattle.swh_memory.specs.declared.input.Input.{Input}
 use Rattle.swh_memory.specs.declared.origins.MemoryOrigins.{MemoryOrigins}
 
@@ -18,6 +19,9 @@ input_at inputs path = first_or (is_for path) bytes_of None inputs
 
 abbrev pub origin_files : MemoryOrigins → List ℕ → Option (List ℕ)
 origin_files origins = input_at origins.inputs.items
+
+abbrev pub origin_tally : MemoryOrigins → Tally
+origin_tally origins = origins.failures
 
 abbrev pub origin_faults : MemoryOrigins → ℕ
 origin_faults origins = origins.failures.faults

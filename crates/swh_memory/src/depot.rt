@@ -21,11 +21,14 @@ impl MemoryDepot {
     ghost use Rattle.swh_outside.specs.Depot.{SameButAt};
     ghost use Rattle.swh_outside.specs.Files.{absent};
     ghost use Rattle.swh_memory.specs.Memory.{memory_file};
-    ghost use Rattle.swh_memory.specs.InPlace.{is_at, has_place, memory_files, depot_faults};
+    ghost use Rattle.swh_memory.specs.InPlace.{is_at, has_place, memory_files, depot_room, depot_tally, depot_faults};
+    ghost use Rattle.swh_memory.specs.Tally.{fresh};
 
     /// A depot with no files, which makes disks of this room. Its openings with the listed numbers, from 0, will fail.
     pub fn new(alloc: Global, room: Room, failing: Vec<u64>) -> Self
         ensures empty { (dir : List ℕ) (file : ℕ) → memory_files result dir file ≡ absent }
+        ensures room { depot_room result ≡ room }
+        ensures failing { depot_tally result ≡ fresh failing.items }
         ensures no_fault { depot_faults result ≡ 0 }
     {
         MemoryDepot {

@@ -37,7 +37,8 @@ pub struct MemoryDisk {
 
 impl MemoryDisk {
     ghost use Rattle.swh_outside.specs.Disk.{IsBroken, Write, Sync, begun};
-    ghost use Rattle.swh_memory.specs.Memory.{memory_file, disk_faults, call_of, resting};
+    ghost use Rattle.swh_memory.specs.Memory.{memory_file, disk_room, disk_tally, disk_faults, call_of, resting};
+    ghost use Rattle.swh_memory.specs.Tally.{fresh};
     ghost use Rattle.swh_outside.specs.Files.{absent};
     ghost use Rattle.swh_outside.specs.Faults.{Rose};
     ghost use Rattle.std.specs.Prelude.{map};
@@ -50,6 +51,8 @@ impl MemoryDisk {
         failing: Vec<u64>,
     ) -> Result<Self, AllocError>
         ensures file { IfOk result (λ disk. memory_file disk ≡ resting bytes.now) }
+        ensures room { IfOk result (λ disk. disk_room disk ≡ room) }
+        ensures failing { IfOk result (λ disk. disk_tally disk ≡ fresh failing.items) }
         ensures no_fault { IfOk result (λ disk. disk_faults disk ≡ 0) }
     {
         Ok(MemoryDisk {
@@ -67,6 +70,8 @@ impl MemoryDisk {
     /// A disk with no bytes, none of whose calls will fail.
     pub fn with_room(alloc: Global, room: Room) -> Result<Self, AllocError>
         ensures file { IfOk result (λ disk. memory_file disk ≡ absent) }
+        ensures room { IfOk result (λ disk. disk_room disk ≡ room) }
+        ensures failing { IfOk result (λ disk. disk_tally disk ≡ fresh []) }
         ensures no_fault { IfOk result (λ disk. disk_faults disk ≡ 0) }
     {
         MemoryDisk::new(alloc, &[], room, Vec::new(alloc))
@@ -99,6 +104,8 @@ impl MemoryDisk {
     /// The same disk, whose count of faults begins anew.
     pub fn with_no_fault(mut self) -> Self
         ensures file { memory_file result ≡ memory_file self }
+        ensures room { disk_room result ≡ disk_room self }
+        ensures failing { disk_tally result ≡ record (disk_tally self) { faults = 0 } }
         ensures no_fault { disk_faults result ≡ 0 }
     {
         self.failures.forget();

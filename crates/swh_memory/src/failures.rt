@@ -23,9 +23,11 @@ impl Model for Failures {
 }
 
 impl Failures {
+    ghost use Rattle.swh_memory.specs.Tally.{fresh};
+
     /// The calls of these numbers will fail.
     pub fn at(failing: Vec<u64>) -> Self
-        ensures { result ≡ record { failing = failing.items; calls = 0; faults = 0 } }
+        ensures { result ≡ fresh failing.items }
     {
         Failures {
             failing,
@@ -46,6 +48,7 @@ impl Failures {
 
     /// Counts a failure.
     pub fn refuse(&mut self) -> Failed
+        ensures counted { self.new ≡ record self.old { faults = min (self.old.faults + 1) (2 ^ 64 - 1) } }
         ensures later { self.old.faults ≤ self.new.faults }
         ensures rose { Rose self.old.faults self.new.faults }
     {

@@ -17,7 +17,8 @@ pub struct MemorySource {
 }
 
 impl MemorySource {
-    ghost use Rattle.swh_memory.specs.Inputs.{source_left, source_given, source_ended, source_path, source_faults};
+    ghost use Rattle.swh_memory.specs.Inputs.{source_left, source_given, source_ended, source_path, source_piece, source_tally, source_faults};
+    ghost use Rattle.swh_memory.specs.Tally.{fresh};
 
     /// A source of these bytes, opened at a path. A call gives a piece of them at most, and one byte where the piece
     /// is 0. Its calls with the listed numbers, from 0, will fail.
@@ -26,6 +27,8 @@ impl MemorySource {
         ensures given { source_given result ≡ [] }
         ensures not_ended { source_ended result ≡ false }
         ensures path { source_path result ≡ string_bytes path }
+        ensures piece { source_piece result ≡ piece }
+        ensures failing { source_tally result ≡ fresh failing.items }
         ensures no_fault { source_faults result ≡ 0 }
     {
         MemorySource {
