@@ -1,5 +1,5 @@
 // How often the system refused.
-ghost use Rattle.std.specs.Prelude.{◌≡◌, ◌≤◌};
+ghost use Rattle.std.specs.Prelude.{◌≡◌, ◌≤◌, ◌+◌, ◌-◌, ◌^◌, min};
 ghost use Rattle.swh_outside.specs.Faults.{Rose};
 
 use std::marker::Model;
@@ -28,6 +28,7 @@ impl Count {
 
     /// Counts a fault.
     pub fn refuse(&mut self) -> Failed
+        ensures counted { self.new ≡ min (self.old + 1) (2 ^ 64 - 1) }
         ensures later { self.old ≤ self.new }
         ensures rose { Rose self.old self.new }
     {

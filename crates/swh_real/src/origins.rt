@@ -6,10 +6,12 @@ use crate::{RealFolder, RealSource};
 use std::alloc::Global;
 use std::fs::File;
 use std::io::ErrorKind;
+use std::marker::Model;
 use std::rt::Files;
 use swh_outside::{Opened, Origins, PathCounts};
 
-/// Inputs in the file system. No folder opens: such a call fails and is counted.
+/// Inputs in the file system. No folder opens: such a call fails and is counted. A contract sees the count of faults
+/// and those of the paths.
 #[derive(Drop)]
 pub struct RealOrigins<R: Files<File = File> + Drop> {
     rt: R,
@@ -18,11 +20,23 @@ pub struct RealOrigins<R: Files<File = File> + Drop> {
     counts: PathCounts,
 }
 
+impl<R: Files<File = File> + Drop> Model for RealOrigins<R> {
+    ghost use Rattle.std.specs.Prelude.{ℕ};
+    ghost use Rattle.swh_outside.specs.declared.path_counts.PathCounts as counted;
+
+    ghost Value = { ℕ × counted.PathCounts };
+
+    ghost view = { λ origins. (origins.count, origins.counts) };
+}
+
 impl<R: Files<File = File> + Drop> RealOrigins<R> {
     ghost use Rattle.swh_outside.specs.Counts.{count_at};
     ghost use Rattle.swh_outside.specs.Faults.{Rose};
 
-    pub fn new(rt: R, alloc: Global) -> Self {
+    pub fn new(rt: R, alloc: Global) -> Self
+        ensures no_fault { result.0 ≡ 0 }
+        ensures no_path_fault { (p : List ℕ) → count_at result.1 p ≡ 0 }
+    {
         RealOrigins {
             rt,
             alloc,
@@ -32,21 +46,25 @@ impl<R: Files<File = File> + Drop> RealOrigins<R> {
     }
 
     /// How often it has failed, what it gave included once it is given back.
-    pub fn faults(&self) -> u64 {
+    pub fn faults(&self) -> u64
+        ensures { result ≡ self.now.0 }
+    {
         self.count.get()
     }
 
     /// How often it has failed at a path.
-    pub fn path_faults(&self, path: &str) -> u64 {
+    pub fn path_faults(&self, path: &str) -> u64
+        ensures { result ≡ count_at self.now.1 path.now }
+    {
         self.counts.at(path)
     }
 
     // Counts a fault at a path.
     fn refuse(&mut self, path: &str)
-        ensures later { self.old.count ≤ self.new.count }
-        ensures rose { Rose self.old.count self.new.count }
-        ensures path_later { (p : List ℕ) → count_at self.old.counts p ≤ count_at self.new.counts p }
-        ensures path_rose { Rose (count_at self.old.counts path.now) (count_at self.new.counts path.now) }
+        ensures later { self.old.0 ≤ self.new.0 }
+        ensures rose { Rose self.old.0 self.new.0 }
+        ensures path_later { (p : List ℕ) → count_at self.old.1 p ≤ count_at self.new.1 p }
+        ensures path_rose { Rose (count_at self.old.1 path.now) (count_at self.new.1 path.now) }
     {
         let _ = self.count.refuse();
         self.counts.raise(path);
@@ -67,9 +85,9 @@ impl<R: Files<File = File> + Drop + Send> Origins for RealOrigins<R> {
 
     ghost folder_at = { λ _ _. None };
 
-    ghost faults = { λ origins. origins.count };
+    ghost faults = { λ origins. origins.0 };
 
-    ghost path_faults = { λ origins. count_at origins.counts };
+    ghost path_faults = { λ origins. count_at origins.1 };
 
     fn file(&mut self, path: &str) -> Opened<RealSource> {
         if self.counts.place(path).is_err() {
