@@ -1,11 +1,8 @@
 -- The device calls of loads, one after another.
-use Rattle.std.proofs.Common.{◌≡◌, ℕ, ◌<◌, ◌≤◌, Option, Some, None, Result, Ok, Err, List, [], ◌∷◌, ◌++◌, length, Contains, refl, sym, ap, ◌∙◌, subst, append_assoc, arith}
+use Rattle.std.proofs.Common.{◌≡◌, ℕ, ◌≤◌, Option, Some, None, Result, Ok, Err, List, [], ◌∷◌, ◌++◌, refl, sym, ap, ◌∙◌, subst, append_assoc, arith}
 use Rattle.std.proofs.lemmas.List.Elements.{Contains-append_right}
-use Rattle.std.proofs.lemmas.Option.{none-some}
 use Rattle.swh_base.specs.declared.kind.Kind.{Kind}
-use Rattle.swh_base.specs.declared.entry.Entry.{Entry}
 use Rattle.swh_outside.specs.Disk.{File}
-use Rattle.swh_outside.specs.Files.{Files}
 use Rattle.swh_model.specs.declared.event.Event.{Event}
 use Rattle.swh_keeper.specs.Kept.{Kept}
 use Rattle.swh_jobs.specs.Job.{Job}

@@ -1,10 +1,9 @@
 -- How loads end together, and the lines that tell them.
 use Rattle.std.specs.Prelude.{IsTrue}
-use Rattle.std.proofs.Common.{◌≡◌, ◌⊎◌, inl, inr, ⊎_elim, ℕ, ◌≤◌, Bool, true, false, Option, Some, None, Result, Ok, Err, List, [], ◌∷◌, ◌++◌, map, flat_map, refl, sym, ap, ◌∙◌, subst, arith}
+use Rattle.std.proofs.Common.{◌≡◌, ◌⊎◌, inl, inr, ⊎_elim, ℕ, ◌≤◌, Bool, true, false, Result, Ok, Err, List, [], ◌∷◌, ◌++◌, map, flat_map, refl, sym, ap, ◌∙◌, subst, arith}
 use Rattle.std.proofs.lemmas.List.Folds.{flat_map-map}
 use Rattle.swh_base.specs.declared.kind.Kind.{Kind}
 use Rattle.swh_outside.specs.Disk.{File}
-use Rattle.swh_outside.specs.Faults.{Rose}
 use Rattle.swh_segment.specs.Makes.{EitherRose}
 use Rattle.swh_keeper.specs.Kept.{Kept}
 use Rattle.swh_loader.specs.Leaving.{AreAllowed, Stops}
@@ -15,8 +14,8 @@ use Rattle.swh_loader.specs.declared.end.Loaded.{Loaded}
 use Rattle.swh_loader.specs.declared.fault.LoadWhy.{LoadWhy}
 use Rattle.swh_loader.specs.declared.fault.LoadWhy.TheVariants as why
 use Rattle.swh_loader.specs.declared.fault.LoadFault.{LoadFault}
-use Rattle.swh_pool.specs.Lines.{ended, lines_of, IsReport}
-use Rattle.swh_pool.specs.Loads.{OneLoad, IsOutcome, IsOneLoad, AreLoads}
+use Rattle.swh_pool.specs.Lines.{ended, lines_of}
+use Rattle.swh_pool.specs.Loads.{OneLoad, IsOutcome, AreLoads}
 use Rattle.swh_pool.specs.Stops.{IsUnwounded, is_disk_fault, AreStops}
 use Rattle.swh_pool.specs.declared.dated.DatedJob.{DatedJob}
 use Rattle.swh_program.specs.Lines.{LoadedJob, outcomes, load_line, ending_of_end, ending_of_why, ending_for, worse, ending_of_all, ending_without, TellsLoads, TellsLoad}

@@ -1,12 +1,11 @@
 -- What the reading of a front of a job file says of all of it.
 use Rattle.std.specs.Prelude.{IfOk, IfErr}
-use Rattle.std.proofs.Common.{◌≡◌, ⊎_elim, ◌⊎◌, ℕ, ◌<◌, ◌≤◌, Some, Result, Ok, Err, List, [], ◌++◌, length, refl, sym, ap, ◌∙◌, subst, arith}
+use Rattle.std.proofs.Common.{◌≡◌, ⊎_elim, ℕ, ◌<◌, ◌≤◌, Some, Result, Ok, Err, List, ◌++◌, length, ap, ◌∙◌}
 use Rattle.std.proofs.lemmas.Bool.{cases_lt}
 use Rattle.std.proofs.lemmas.List.{append-nil}
 use Rattle.swh_fastlex.specs.Whole.{IsFront}
 use Rattle.swh_jobs.specs.Job.{Job}
-use Rattle.swh_jobs.specs.JobFile.{IsJobFile, IsFault}
-use Rattle.swh_jobs.specs.declared.fault.JobWhy.{JobWhy}
+use Rattle.swh_jobs.specs.JobFile.{IsJobFile}
 use Rattle.swh_jobs.proofs.Lengths.{longest_lem, front_lem}
 use Rattle.swh_program.specs.Jobs.{FileAt, TellsFault, TellsBadJob, AreJobsAt, IsReadRefusal, IsJobRefusal, IsJobRefused}
 use Rattle.swh_program.specs.declared.answer.Answer.{Answer}

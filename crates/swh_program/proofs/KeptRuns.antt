@@ -1,6 +1,6 @@
 -- What the loads of opened inputs come to for an archive that is open.
 use Rattle.std.specs.Prelude.{◌↔◌, IfOk, OnErr}
-use Rattle.std.proofs.Common.{◌≡◌, ◌⊎◌, inl, inr, ℕ, ◌≤◌, false, Option, Some, None, is_some, Result, Ok, Err, List, [], ◌∷◌, map, refl, sym, ap, ◌∙◌, subst}
+use Rattle.std.proofs.Common.{◌≡◌, inl, inr, ℕ, ◌≤◌, false, Option, None, is_some, Result, Ok, Err, List, map, sym, ap, ◌∙◌, subst}
 use Rattle.swh_base.specs.declared.kind.Kind.{Kind}
 use Rattle.swh_outside.specs.Disk.{File}
 use Rattle.swh_keeper.specs.Kept.{Kept}
@@ -16,7 +16,6 @@ use Rattle.swh_program.specs.Jobs.{FileAt}
 use Rattle.swh_program.specs.Lines.{LoadedJob, dates, outcomes, ending_of_all}
 use Rattle.swh_program.specs.Loading.{AreKeptLoads, IsKeptRun}
 use Rattle.swh_program.specs.Telling.{TellsReport}
-use Rattle.swh_program.specs.declared.answer.Ending.TheVariants as ending
 use Rattle.swh_program.specs.declared.answer.Answer.{Answer}
 use Rattle.swh_program.specs.declared.answer.Answer.TheVariants.{Memory}
 use Rattle.swh_program.proofs.Inputs.{loaded_jobs, each_job, same_jobs, same_dates, same_outcomes, same_ended, url_and_outcome}

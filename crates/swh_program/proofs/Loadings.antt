@@ -133,9 +133,10 @@ module _ (id_of : Kind → List ℕ → List ℕ) (tells : Type 0) (told : tells
   others_next : (P : List Entry → Type 0) (origin : List ℕ) (date : ℕ) (h h' : List Event) → IsHistory id_of h' → AddsVisit P loader origin date h h' → (ms : List MeantJob)
       → (Contains (origins (jobs_of ms)) origin → ⊥) → AllByRecursion (IsNextAt h) ms → AllByRecursion (IsNextAt h') ms
   others_next P origin date h h' history adds [] apart next = tt
-  others_next P origin date h h' history adds (m ∷ ms) apart next =
-      (next_stays P loader origin m.job.url (λ e. apart (subst (λ (u : List ℕ). Contains (m.job.url ∷ origins (jobs_of ms)) u) e (contains_first m.job.url (origins (jobs_of ms))))) id_of date h h' history adds ∙ next.0,
-      others_next P origin date h h' history adds ms (λ there. apart (contains_more m.job.url (origins (jobs_of ms)) origin there)) next.1)
+  others_next P origin date h h' history adds (m ∷ ms) apart next = (
+    next_stays P loader origin m.job.url (λ e. apart (subst (λ (u : List ℕ). Contains (m.job.url ∷ origins (jobs_of ms)) u) e (contains_first m.job.url (origins (jobs_of ms))))) id_of date h h' history adds ∙ next.0,
+    others_next P origin date h h' history adds ms (λ there. apart (contains_more m.job.url (origins (jobs_of ms)) origin there)) next.1,
+  )
 
   -- one done and the others
   both_done : (l : LoadedJob) (loads : List LoadedJob) (m : MeantJob) (ms : List MeantJob) → l.job ≡ m.job → IsOneDone m l.outcome → AreDone loads ms → AreDone (l ∷ loads) (m ∷ ms)
@@ -143,8 +144,10 @@ module _ (id_of : Kind → List ℕ → List ℕ) (tells : Type 0) (told : tells
   both_done l loads m ms same (inl memory) (inr others) = inl (ap (λ (x : Ending). worse x (ending_of_all (outcomes loads))) memory ∙ ap (worse ending.Memory) others.0)
   both_done l loads m ms same (inr done) (inl others) = inl (ap (λ (x : Ending). worse x (ending_of_all (outcomes loads))) done.0 ∙ others)
   both_done l loads m ms same (inr done) (inr others) =
-      inr (ap (λ (x : Ending). worse x (ending_of_all (outcomes loads))) done.0 ∙ others.0,
-      ap (λ (t : List ℕ). t ++ flat_map load_line loads) (ap (λ (j : Job). report_of j.url l.outcome) same ∙ done.1) ∙ ap (λ (t : List ℕ). full_line before m ++ t) others.1)
+      inr (
+        ap (λ (x : Ending). worse x (ending_of_all (outcomes loads))) done.0 ∙ others.0,
+        ap (λ (t : List ℕ). t ++ flat_map load_line loads) (ap (λ (j : Job). report_of j.url l.outcome) same ∙ done.1) ∙ ap (λ (t : List ℕ). full_line before m ++ t) others.1,
+      )
 
   -- jobs loaded one after the other
   pub all_done : (loads : List LoadedJob) (meant : List MeantJob) (earlier h after : List Event) → map (λ l. l.job) loads ≡ jobs_of meant → AllByRecursion (Contains all) meant

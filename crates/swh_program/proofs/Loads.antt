@@ -1,11 +1,10 @@
 -- What loads into an open archive mean for the files of its folder.
-use Rattle.std.proofs.Common.{◌≡◌, ◌⊎◌, inl, inr, ⊎_elim, ℕ, ◌<◌, ◌≤◌, Option, Some, None, Result, Ok, Err, List, [], ◌∷◌, ◌++◌, refl, sym, ap, ◌∙◌, subst, arith, append_assoc}
+use Rattle.std.proofs.Common.{◌≡◌, inl, inr, ⊎_elim, ℕ, ◌<◌, ◌≤◌, Option, Some, None, List, [], ◌∷◌, ◌++◌, refl, sym, ap, ◌∙◌, subst, arith, append_assoc}
 use Rattle.std.proofs.lemmas.List.{append-nil}
-use Rattle.std.proofs.lemmas.Option.{none-some}
 use Rattle.swh_base.specs.declared.kind.Kind.{Kind}
 use Rattle.swh_outside.specs.Disk.{File}
 use Rattle.swh_outside.specs.Faults.{Rose}
-use Rattle.swh_outside.specs.Files.{Files, FileCall, files_of, files_done}
+use Rattle.swh_outside.specs.Files.{Files, files_done}
 use Rattle.swh_outside.proofs.Numbered.{files_done-append}
 use Rattle.swh_segment.specs.Makes.{EitherRose}
 use Rattle.swh_segment.specs.Making.{barriers}
@@ -20,12 +19,11 @@ use Rattle.swh_keeper.specs.Kept.{Kept, IsKept, AreStanding, AreInDoubt}
 use Rattle.swh_jobs.specs.Job.{Job}
 use Rattle.swh_loader.specs.Calls.{all_calls, kept_files, BreaksAt, MakesCalls}
 use Rattle.swh_pool.specs.Stops.{HaveNoDiskFault}
-use Rattle.swh_program.specs.Dated.{AreSaid}
 use Rattle.swh_program.specs.Jobs.{FileAt}
 use Rattle.swh_program.specs.Opening.{IsArchive, IsOnlyOpened, IsOpenRefusal, OpenEnds}
-use Rattle.swh_program.specs.Lines.{LoadedJob, outcomes, ending_of_all, ending_without, worse, TellsLoad}
-use Rattle.swh_program.specs.Load.{TellsDisk, VisitsStay, LeavesDisks, IsNextOf, AreJobLoads, MakesRunCalls, IsLoad, AreLoadedJobs, IsLoadedOrNot, IsUnloaded}
-use Rattle.swh_program.specs.Loading.{IsUnstarted, AreKeptLoads, AreKeptJobs, IsKeptRun}
+use Rattle.swh_program.specs.Lines.{LoadedJob, outcomes, ending_of_all, ending_without, TellsLoad}
+use Rattle.swh_program.specs.Load.{TellsDisk, VisitsStay, LeavesDisks, IsNextOf, AreJobLoads, MakesRunCalls, IsLoad, IsLoadedOrNot, IsUnloaded}
+use Rattle.swh_program.specs.Loading.{IsUnstarted, AreKeptLoads, IsKeptRun}
 use Rattle.swh_program.specs.declared.answer.Ending.TheVariants as ending
 use Rattle.swh_program.specs.declared.answer.Answer.{Answer}
 use Rattle.swh_program.specs.declared.answer.Answer.TheVariants.{Made, Told, Words, NoJobFile, BadJob, AlreadyMade, NotMade, Damaged, OutsideDisk, OutsideSource, OutsideClock, Memory}

@@ -40,8 +40,10 @@ module _ (loads : List LoadedJob) (lines text : List ℕ) (end : Ending) (tells 
   without [] are is (inr done) =
       let finished : end ≡ ending.Done = is ∙ worse-done (ending_of_all (outcomes loads)) ∙ done.0 in
       let shown : tells.shown ≡ loads = sym (append-nil tells.shown) ∙ sym are in
-      inr (ap status_for finished,
-      ap (λ (x : Ending). text ++ last_line_for x) finished ∙ append-nil text ∙ tells.text_is ∙ ap (λ (ls : List LoadedJob). flat_map load_line ls) shown ∙ done.1)
+      inr (
+        ap status_for finished,
+        ap (λ (x : Ending). text ++ last_line_for x) finished ∙ append-nil text ∙ tells.text_is ∙ ap (λ (ls : List LoadedJob). flat_map load_line ls) shown ∙ done.1,
+      )
   without (l ∷ missing) are is (inl memory) = inl (ap status_for (is ∙ ap (λ (x : Ending). worse x ending.Memory) memory))
   without (l ∷ missing) are is (inr done) = inl (ap status_for (is ∙ ap (λ (x : Ending). worse x ending.Memory) done.0))
 

@@ -1,5 +1,5 @@
 -- The jobs that a run is asked to load.
-use Rattle.std.specs.Prelude.{◌≡◌, ◌⊎◌, ◌++◌, ℕ, Option, Some, None, List, codes, decimal}
+use Rattle.std.specs.Prelude.{◌≡◌, ◌++◌, ℕ, Option, Some, None, List, codes, decimal}
 use Rattle.swh_jobs.specs.Job.{Job}
 use Rattle.swh_jobs.specs.JobFile.{IsJobFile, IsFault}
 use Rattle.swh_jobs.specs.declared.fault.JobWhy.{JobWhy}

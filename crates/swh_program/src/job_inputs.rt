@@ -1,5 +1,5 @@
 // The inputs of jobs, opened and given back.
-ghost use Rattle.std.specs.Prelude.{◌≡◌, ◌≤◌, ◌+◌, ◌<◌, ℕ, List, IfOk, IfErr, map};
+ghost use Rattle.std.specs.Prelude.{◌≡◌, ◌≤◌, ◌+◌, ℕ, List, IfOk, IfErr, map};
 ghost use Rattle.swh_outside.specs.Faults.{Rose};
 ghost use Rattle.swh_jobs.specs.Answers.{job_of, jobs_of};
 ghost use Rattle.swh_program.specs.Dated.{AreSaid, IsOpenedAt, IsOpenedJob, AreOpenedJobs, IsGivenBack, AreGivenBack};

@@ -1,5 +1,5 @@
 // Reads the job file of a run.
-ghost use Rattle.std.specs.Prelude.{◌≡◌, ◌≤◌, ℕ, IfOk, IfErr};
+ghost use Rattle.std.specs.Prelude.{◌≡◌, ◌≤◌, IfOk, IfErr};
 ghost use Rattle.swh_outside.specs.Faults.{Rose};
 ghost use Rattle.swh_jobs.specs.Answers.{jobs_of};
 ghost use Rattle.swh_jobs.specs.JobFile.{AreJobs, IsJobFile, IsFault};

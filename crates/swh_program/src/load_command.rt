@@ -1,5 +1,5 @@
 // The command `load`.
-ghost use Rattle.std.specs.Prelude.{◌≡◌, ◌⊎◌, ◌≤◌, ℕ, None};
+ghost use Rattle.std.specs.Prelude.{◌≡◌, ◌≤◌, None};
 ghost use Rattle.swh_outside.specs.Faults.{Rose};
 ghost use Rattle.swh_jobs.specs.Answers.{jobs_of};
 ghost use Rattle.swh_jobs.specs.JobFile.{AreJobs};

@@ -1,4 +1,4 @@
-use Rattle.std.proofs.Common.{arith, rules, sym, ◌∙◌, ap, List, ◌≡◌, ◌++◌, ◌∷◌, []}
+use Rattle.std.proofs.Common.{arith}
 use Rattle.swh_program.proofs.Openings.{back_next}
 use Rattle.swh_program.proofs.job_inputs.give_all_back.Goals as goal
 

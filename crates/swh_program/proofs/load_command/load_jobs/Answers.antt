@@ -1,5 +1,4 @@
 use Rattle.std.proofs.Common.{inr}
-use Rattle.swh_outside.specs.Faults.{Rose}
 use Rattle.swh_jobs.specs.Answers.{jobs_of}
 use Rattle.swh_program.specs.Archives.{archive_at}
 use Rattle.swh_program.proofs.Loads.{run_files, run_disk, refused_unloaded, disk_rose}
