@@ -17,7 +17,7 @@ loop-path-preserved g c =
     let reply = text_of c.in_ok-reply.reply in
     let same : c.as_bytes.result.now ≡ text path = c.as_bytes.ensures.value ∙ c.as_str.ensures in
     let more : map text (take (i + 1) paths) ≡ map text (take i paths) ++ text path ∷ [] =
-        ap (map text) (take_more paths i path c.loop-path-test.true ∙ ap (λ p. take i paths ++ p ∷ []) (sym c.path-item.is)) ∙ map-append text (take i paths) (path ∷ []) in
+    ap (map text) (take_more paths i path c.loop-path-test.true ∙ ap (λ p. take i paths ++ p ∷ []) (sym c.path-item.is)) ∙ map-append text (take i paths) (path ∷ []) in
     let told = told_more a (map text (take i paths)) (text path) reply c.loop-path.text.items c.put_reply.new.text.items c.loop-path.ending c.ending_with-ending.result c.loop-path.invariant
-        (subst (λ (p : List ℕ). IsReply a p reply) same c.in_ok-reply.ensures.text) c.in_ok-put_reply.ensures c.ending_with-ending.ensures in
+    (subst (λ (p : List ℕ). IsReply a p reply) same c.in_ok-reply.ensures.text) c.in_ok-put_reply.ensures c.ending_with-ending.ensures in
     subst (λ (l : List (List ℕ)). TellsArchive a l c.put_reply.new.text.items c.ending_with-ending.result) (sym more) told
