@@ -4,9 +4,8 @@ use Rattle.swh_base.specs.declared.kind.Kind.{Kind}
 use Rattle.swh_outside.specs.Files.{Files}
 use Rattle.swh_model.specs.declared.event.Event.{Event}
 use Rattle.swh_model.specs.Step.{replay}
-use Rattle.swh_model.specs.Archive.{Archive}
-use Rattle.swh_program.specs.Opening.{IsArchive, IsOnlyOpened, IsOpenRefusal, OpenEnds}
-use Rattle.swh_program.specs.Ask.{IsToldArchive, IsAskAnswer, AskEnds}
+use Rattle.swh_program.specs.Opening.{IsArchive, IsOnlyOpened, OpenEnds}
+use Rattle.swh_program.specs.Ask.{IsToldArchive, AskEnds}
 use Rattle.swh_program.specs.declared.answer.Answer.{Answer}
 use Rattle.swh_program.specs.declared.answer.Answer.TheVariants.{Made, Told, Words, NoJobFile, BadJob, AlreadyMade, NotMade, Damaged, OutsideDisk, OutsideSource, OutsideClock, Memory}
 
@@ -40,32 +39,3 @@ module _ (id_of : Kind → List ℕ → List ℕ) (paths : List (List ℕ)) (old
   replied history archive opened OutsideSource told = absurd told
   replied history archive opened OutsideClock told = absurd told
   replied history archive opened Memory told = inr opened
-
--- an opening has no answer that tells replies
-pub refused_one : (answer : Answer) → IsOpenRefusal answer → IsAskAnswer answer
-refused_one Made is = is
-refused_one (Told text end) is = absurd is
-refused_one Words is = is
-refused_one NoJobFile is = is
-refused_one (BadJob text) is = is
-refused_one AlreadyMade is = is
-refused_one NotMade is = is
-refused_one Damaged is = is
-refused_one OutsideDisk is = is
-refused_one OutsideSource is = is
-refused_one OutsideClock is = is
-refused_one Memory is = is
-
-pub told_one : (a : Archive) (paths : List (List ℕ)) (answer : Answer) → IsToldArchive a paths answer → IsAskAnswer answer
-told_one a paths Made told = absurd told
-told_one a paths (Told text end) told = (told.replies, told.tells)
-told_one a paths Words told = absurd told
-told_one a paths NoJobFile told = absurd told
-told_one a paths (BadJob text) told = absurd told
-told_one a paths AlreadyMade told = absurd told
-told_one a paths NotMade told = absurd told
-told_one a paths Damaged told = absurd told
-told_one a paths OutsideDisk told = absurd told
-told_one a paths OutsideSource told = absurd told
-told_one a paths OutsideClock told = absurd told
-told_one a paths Memory told = tt

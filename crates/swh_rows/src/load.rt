@@ -74,7 +74,10 @@ fn two_paths_are_asked(rt: HostRuntime) -> Result<(), Fail> {
     let mut world = world_of(alloc, job(), b"")?;
     assert_eq!(rt; run_words(alloc, &["load", "A", "J"], &mut world)?, 0);
     world.sink = MemorySink::new(alloc, 4096, Vec::new(alloc))?;
-    assert_eq!(rt; run_words(alloc, &["ask", "A", "/", VISITS], &mut world)?, 1);
+    assert_eq!(rt;
+        run_words(alloc, &["ask", "A", "/", VISITS], &mut world)?,
+        1
+    );
     assert_eq!(rt;
         world.sink.bytes(),
         b"404 21\n{\"error\":\"not found\"}\n200 142\n[{\"date\":1000000000,\"origin\":\"https://e.org/p\",\"snapshot\":\"1a8893e6a86f444e8be8e7bda6cb34fb1735a00e\",\"status\":\"full\",\"type\":\"fast\",\"visit\":1}]\n".as_slice()

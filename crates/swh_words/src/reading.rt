@@ -135,10 +135,10 @@ fn command_given<'a>(alloc: Global, matches: &ArgMatches<'a>) -> Result<Command<
     }
 }
 
-/// The command that the words are. No allocation is kept but that of an `ask`'s paths.
+/// The command that the words are. Its texts are the words' own.
 pub fn parse_words<'a>(alloc: Global, words: &'a [String]) -> Result<Command<'a>, WordsFault>
-    ensures ok { IfOk result (λ command. IsCommand (map string_bytes words.entry.now) (wanted_by command)) }
-    ensures err { IfErr result (λ fault. fault ≡ Words → (wanted : Wanted) → IsCommand (map string_bytes words.entry.now) wanted → ⊥) }
+    ensures ok { IfOk result (λ command. IsCommand (map string_bytes words.now) (wanted_by command)) }
+    ensures err { IfErr result (λ fault. fault ≡ Words → (wanted : Wanted) → IsCommand (map string_bytes words.now) wanted → ⊥) }
 {
     let program = program(alloc)?;
     match program.try_get_matches_from(words) {

@@ -1,4 +1,4 @@
-use Rattle.std.proofs.Common.{◌≢◌, ⊎_elim, inl, inr, ap, sym, ◌∙◌, map, string_bytes, arith}
+use Rattle.std.proofs.Common.{⊎_elim, inl, inr, ap, sym, ◌∙◌, map, string_bytes, arith}
 use Rattle.std.specs.List.{flat_map}
 use Rattle.swh_program.specs.Archives.{archive_at}
 use Rattle.swh_program.specs.Answers.{status_of, last_line_of}
