@@ -37,8 +37,8 @@ fn load_dated<N: Namer, D: Disk, S: Source, G: Gate>(
     )
 }
 
-/// Loads the jobs one after the other. The outcomes are in their order. Where memory for the outcomes is wanting,
-/// nothing is loaded.
+/// Loads the jobs one after the other. The outcomes are in their order, and the gate sees the worker's jobs as 1, 2 and
+/// so on. Where memory for the outcomes is wanting, nothing is loaded.
 pub fn load_all<N: Namer, D: Disk, S: Source, G: Gate>(
     alloc: Global,
     namer: &N,

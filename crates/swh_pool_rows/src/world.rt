@@ -78,12 +78,15 @@ fn dated(origin: Url, stream: Opened<MemorySource>) -> DatedJob<MemorySource> {
     }
 }
 
-fn let_go(dated: DatedJob<MemorySource>) {
-    let DatedJob { job, date: _date } = dated;
-    let Job {
-        origin: _origin,
-        stream: _stream,
-    } = job;
+fn let_go(mut jobs: Vec<DatedJob<MemorySource>>) {
+    'jobs: while let Some(dated) = jobs.pop() {
+        let DatedJob { job, date: _date } = dated;
+        let Job {
+            origin: _origin,
+            stream: _stream,
+        } = job;
+    }
+    jobs.destroy_empty();
 }
 
 // Loads jobs, and reports them.
@@ -96,6 +99,39 @@ fn reported(
     Ok(report_all(alloc, jobs, &outcomes))
 }
 
+// Loads jobs into an archive of no event.
+fn load_anew(
+    alloc: Global,
+    jobs: &mut [DatedJob<MemorySource>],
+    ledger_failing: &[u64],
+) -> Result<Left, Fail> {
+    let mut keeper = made(alloc, ledger_failing)?;
+    let report = reported(alloc, &mut keeper, jobs);
+    let (store, ledger) = keeper.close();
+    let report = report?;
+    Ok(Left {
+        report,
+        store,
+        ledger,
+    })
+}
+
+fn three_jobs(
+    alloc: Global,
+    first: Opened<MemorySource>,
+    second: Opened<MemorySource>,
+    third: Opened<MemorySource>,
+) -> Result<Vec<DatedJob<MemorySource>>, Fail> {
+    let p = Url::new(alloc, "https://e.org/p")?;
+    let q = Url::new(alloc, "https://e.org/q")?;
+    let r = Url::new(alloc, "https://e.org/r")?;
+    let mut jobs = Vec::with_capacity(alloc, 3)?;
+    jobs.push_reserved(dated(p, first));
+    jobs.push_reserved(dated(q, second));
+    jobs.push_reserved(dated(r, third));
+    Ok(jobs)
+}
+
 /// Loads three inputs into an archive of no event. The ledger's calls of these numbers fail, those of its making
 /// counted.
 pub fn load_three(
@@ -105,21 +141,8 @@ pub fn load_three(
     third: Opened<MemorySource>,
     ledger_failing: &[u64],
 ) -> Result<Left, Fail> {
-    let p = Url::new(alloc, "https://e.org/p")?;
-    let q = Url::new(alloc, "https://e.org/q")?;
-    let r = Url::new(alloc, "https://e.org/r")?;
-    let mut keeper = made(alloc, ledger_failing)?;
-    let mut jobs = [dated(p, first), dated(q, second), dated(r, third)];
-    let report = reported(alloc, &mut keeper, &mut jobs);
-    let [first, second, third] = jobs;
-    let_go(first);
-    let_go(second);
-    let_go(third);
-    let (store, ledger) = keeper.close();
-    let report = report?;
-    Ok(Left {
-        report,
-        store,
-        ledger,
-    })
+    let mut jobs = three_jobs(alloc, first, second, third)?;
+    let left = load_anew(alloc, jobs.as_mut_slice(), ledger_failing);
+    let_go(jobs);
+    left
 }
