@@ -1,4 +1,7 @@
 // Archives and jobs in memory.
+ghost use Rattle.std.specs.Prelude.{All, IfOk};
+ghost use Rattle.swh_pool.specs.Loads.{HasHead};
+
 use std::alloc::{AllocError, Global};
 use std::test::Fail;
 use swh_base::{Sha1Namer, Url};
@@ -71,9 +74,16 @@ pub fn found(alloc: Global, text: &[u8]) -> Result<Opened<MemorySource>, AllocEr
     Ok(Opened::Found(source))
 }
 
-fn dated(origin: Url, stream: Opened<MemorySource>) -> DatedJob<MemorySource> {
+fn dated(origin: Url, stream: Opened<MemorySource>) -> DatedJob<MemorySource>
+    ensures { HasHead result }
+{
+    let head = None;
     DatedJob {
-        job: Job { origin, stream },
+        job: Job {
+            origin,
+            stream,
+            head,
+        },
         date: 1_000_000_000,
     }
 }
@@ -84,6 +94,7 @@ fn let_go(mut jobs: Vec<DatedJob<MemorySource>>) {
         let Job {
             origin: _origin,
             stream: _stream,
+            head: _head,
         } = job;
     }
     jobs.destroy_empty();
@@ -94,7 +105,9 @@ fn reported(
     alloc: Global,
     keeper: &mut Archive,
     jobs: &mut [DatedJob<MemorySource>],
-) -> Result<Report, Fail> {
+) -> Result<Report, Fail>
+    requires { All HasHead jobs.old }
+{
     let outcomes = load_all(alloc, &Sha1Namer, keeper, 1, jobs, &OpenGate, 1)?;
     Ok(report_all(alloc, jobs, &outcomes))
 }
@@ -104,7 +117,9 @@ fn load_anew(
     alloc: Global,
     jobs: &mut [DatedJob<MemorySource>],
     ledger_failing: &[u64],
-) -> Result<Left, Fail> {
+) -> Result<Left, Fail>
+    requires { All HasHead jobs.old }
+{
     let mut keeper = made(alloc, ledger_failing)?;
     let report = reported(alloc, &mut keeper, jobs);
     let (store, ledger) = keeper.close();
@@ -121,7 +136,9 @@ fn three_jobs(
     first: Opened<MemorySource>,
     second: Opened<MemorySource>,
     third: Opened<MemorySource>,
-) -> Result<Vec<DatedJob<MemorySource>>, Fail> {
+) -> Result<Vec<DatedJob<MemorySource>>, Fail>
+    ensures { IfOk result (λ jobs. All HasHead jobs.items) }
+{
     let p = Url::new(alloc, "https://e.org/p")?;
     let q = Url::new(alloc, "https://e.org/q")?;
     let r = Url::new(alloc, "https://e.org/r")?;
