@@ -46,6 +46,34 @@ fn files_are_named(rt: HostRuntime) -> Result<(), Fail> {
     Ok(())
 }
 
+/// The name that git gives the commit.
+#[test]
+fn a_commit_is_named(rt: HostRuntime) -> Result<(), Fail> {
+    let alloc = rt.alloc();
+    let body =
+        b"tree d8329fc1cc938780ffdd9f94e0d364e0ea74f579\nauthor A <a@e.org> 1000000000 +0000\ncommitter A <a@e.org> 1000000000 +0000\n\nfirst\n".as_slice();
+    let world = with_file(alloc, body, &[])?;
+    let name = b"swh:1:rev:295c0651a95ba32ac5e14f92da0161b122942cac\n";
+    assert!(rt; identifies(alloc, world, "rev", 0, name)?);
+    Ok(())
+}
+
+fn world_of_zeros(alloc: Global, count: usize) -> Result<World, AllocError> {
+    with_file(alloc, &vec![in alloc; 0; count]?, &[])
+}
+
+/// The name of 64 MiB of zeros, by another SHA-1.
+#[test]
+fn the_longest_body(rt: HostRuntime) -> Result<(), Fail> {
+    let alloc = rt.alloc();
+    let world = world_of_zeros(alloc, 67_108_864)?;
+    let name = b"swh:1:cnt:51c513d36451ab389b5b3e9bca9b478b84a2e2ce\n";
+    assert!(rt; identifies(alloc, world, "cnt", 0, name)?);
+    let world = world_of_zeros(alloc, 67_108_865)?;
+    assert!(rt; identifies(alloc, world, "cnt", 1, b"swharc: limit body\n")?);
+    Ok(())
+}
+
 #[test]
 fn files_are_refused(rt: HostRuntime) -> Result<(), Fail> {
     let alloc = rt.alloc();
