@@ -12,7 +12,7 @@ use Rattle.swh_words.specs.declared.command.WordsFault.TheVariants.{Words, Memor
 use Rattle.swh_words.specs.Commands.{Answers}
 
 -- the last letter tells the kinds apart
-abbrev kind_from : List ℕ → Kind
+abbrev pub kind_from : List ℕ → Kind
 kind_from letters =
     if get_or letters 2 0 == 116 then Content
     else if get_or letters 2 0 == 114 then Directory
@@ -35,11 +35,11 @@ wanted_from name dir jobs kind paths path =
     else if get_or name 0 0 == 108 then ToLoad (unwrap_or dir []) (unwrap_or jobs [])
     else ToAsk (unwrap_or dir []) (unwrap_or paths [])
 
-abbrev read : Text × List Row → Wanted
+abbrev pub read : Text × List Row → Wanted
 read given = wanted_from given.0 (first_of (codes "dir") given.1) (first_of (codes "jobs") given.1) (first_of (codes "kind") given.1)
     (all_of (codes "path") given.1) (first_of (codes "path") given.1)
 
-read-given : (given : Text × List Row) (wanted : Wanted) → IsGiven given wanted → read given ≡ wanted
+pub read-given : (given : Text × List Row) (wanted : Wanted) → IsGiven given wanted → read given ≡ wanted
 read-given given (ToInit dir) h =
     (λ i. wanted_from (h.0 i) (h.1 i) (first_of (codes "jobs") given.1) (first_of (codes "kind") given.1) (all_of (codes "path") given.1) (first_of (codes "path") given.1))
 read-given given (ToLoad dir jobs) h =

@@ -1,3 +1,4 @@
 pub mod Commands
 pub mod Definition
+pub mod Spelling
 pub mod Words
