@@ -1,391 +1,148 @@
--- Clap takes plain words exactly where they spell a command.
-use Rattle.std.proofs.Common.{◌≡◌, ◌∙◌, ◌<◌, ◌==◌, ◌++◌, ◌∷◌, ℕ, Bool, true, false, arith, List, [], refl, sym, ap, ap₂, subst, inl, inr, true≢false, rules, ◌^◌, Option, Some, None, length, append-nil, append_assoc}
-use Rattle.std.proofs.lemmas.Bool.{ne_eqb}
+-- Words are a command exactly where they spell it.
+use Rattle.std.proofs.Common.{◌≡◌, ◌∙◌, ◌<◌, ◌≤◌, ◌∷◌, Bool, true, false, arith, List, [], refl, sym, ap, subst, inl, inr, ◌^◌, Option, Some, None, length}
 use Rattle.std.proofs.lemmas.Slice.Eq.{bytes_eq-Decides}
-use Rattle.std.specs.Prelude.{codes, ◌⊎◌, ◌↔◌, ◌||◌, option_map, unwrap_or, nat_lt, is_some, IsSomeAnd, if◌then◌else◌, ◌&&◌, option_and_then}
-use Rattle.std.specs.List.{AllByRecursion, fold}
-use Rattle.std.specs.Option.{option_map_or}
+use Rattle.std.specs.Prelude.{codes, ◌⊎◌, ◌↔◌, ◌||◌, option_map, unwrap_or, IsSomeAnd, if◌then◌else◌}
 use Rattle.std.specs.Str.{bytes_eq}
-use Rattle.clap.specs.declared.builder.value_parser.Reading.TheVariants.{AsWritten}
-use Rattle.clap.specs.declared.builder.value_parser.ValueParser.TheVariants.{String}
-use Rattle.clap.specs.declared.parser.matches.ValueSource.TheVariants.{CommandLine}
-use Rattle.clap.specs.Lexer.{usize_max, long_of, long_of_rest, short_of, short_of_rest, strip_byte}
-use Rattle.clap.specs.Faults.{bundle_fault, check_fault, defaults_fault, entered_fault, fault_of, flag_word_fault, other_fault, settle_fault, step_fault, turn_fault, walk_fault, word_fault}
-use Rattle.clap.specs.Kinds.{Kinds, or_else, range_kinds, values_kinds}
-use Rattle.clap.specs.Walk.{Held, Names, Row, Rule, Step, Text, Waiting, Walk, after_step, arg_by_index, finished, idle, long_or_other, nothing_held, plain_word, positional, rows_after, settled, short_or_plain, subcommand_met, subcommand_or_other, to_positional, trailing, value, walk_from, walked, word_met}
-use Rattle.clap.specs.Simple.{Shape, built, built_leaf, entered, inherited, marked_built, names_of, subcommand_of, with_leaf_noted}
+use Rattle.clap.specs.Faults.{fault_of, turn_fault, walk_fault, word_fault}
+use Rattle.clap.specs.Walk.{Row, Text, idle, nothing_held, subcommand_met, walk_from, walked}
+use Rattle.clap.specs.Simple.{names_of, subcommand_of}
 use Rattle.clap.specs.Words.{App, first_of}
 use Rattle.clap.proofs.OnLiterals.{clap_on_literals}
 use Rattle.swh_words.specs.Definition.{ask_app, identify_app, init_app, load_app, program_app}
 use Rattle.swh_words.proofs.Commands.{kind_from, offered, read, read-given}
-use Rattle.swh_words.specs.Spelling.{IsPlain, spelled}
+use Rattle.swh_words.specs.Spelling.{is_flag, spelled, spelling_of, values_given}
 use Rattle.swh_words.specs.Words.{Wanted, ToInit, ToLoad, ToAsk, ToIdentify, IsAsked, IsCommand, IsGiven, IsOffered, kind_letters}
-
--- ---- a plain word is no flag
-
-is_no_dashes : (word : Text) → IsPlain word → bytes_eq word (45 ∷ 45 ∷ []) ≡ false
-is_no_dashes [] plain = refl
-is_no_dashes (b ∷ rest) plain = ap (λ same. same && bytes_eq rest (45 ∷ [])) (ne_eqb b 45 plain)
-
-no_hyphen : (word : Text) → IsPlain word → strip_byte 45 word ≡ None
-no_hyphen [] plain = refl
-no_hyphen (b ∷ rest) plain = ap (λ same. if same then Some rest else None) (ne_eqb b 45 plain)
-
-is_not_long : (word : Text) → IsPlain word → long_of word ≡ None
-is_not_long word plain = ap (λ o. option_and_then long_of_rest (option_and_then (strip_byte 45) o)) (no_hyphen word plain)
-
-is_not_short : (word : Text) → IsPlain word → short_of word ≡ None
-is_not_short word plain = ap (λ o. option_and_then short_of_rest o) (no_hyphen word plain)
-
-met_plain : (rules : List Rule) (names : Names) (waiting : Waiting) (position : ℕ) (word : Text) (h : Held) → IsPlain word
-    → subcommand_met names waiting word ≡ None → word_met rules names false waiting position word h ≡ plain_word rules waiting word h
-met_plain rules names waiting position word h plain none =
-    ap (λ name. subcommand_or_other rules name waiting position word h) none
-    ∙ ap (λ dashes. if dashes then (h, trailing position) else long_or_other rules waiting word (long_of word) h) (is_no_dashes word plain)
-    ∙ ap (λ long. long_or_other rules waiting word long h) (is_not_long word plain)
-    ∙ ap (λ short. short_or_plain rules waiting word short h) (is_not_short word plain)
-
-passes_plain : (s : Shape) (names : Names) (waiting : Waiting) (word : Text) (h : Held) → IsPlain word
-    → subcommand_met names waiting word ≡ None → word_fault s names false waiting word h ≡ []
-passes_plain s names waiting word h plain none =
-    ap (λ name. other_fault s name word h) none
-    ∙ ap (λ dashes. if dashes then [] else flag_word_fault s.rules s.args_override_self (long_of word) word h) (is_no_dashes word plain)
-    ∙ ap (λ long. flag_word_fault s.rules s.args_override_self long word h) (is_not_long word plain)
-    ∙ ap (λ short. option_map_or (λ flags. bundle_fault s.rules s.args_override_self flags h) short []) (is_not_short word plain)
-
--- ---- a plain word goes to a positional
-
-abbrev standing : Held → Waiting → ℕ → Walk
-standing h waiting position = record { held = h; waiting = waiting; position = position; is_trailing = false; stopped = None }
-
-abbrev after_plain : List Rule → Held → Waiting → ℕ → Text → Walk
-after_plain rules h waiting position word = to_positional rules (arg_by_index rules position) word (standing h waiting position) h
-
-walked_plain : (rules : List Rule) (names : Names) (h : Held) (waiting : Waiting) (position : ℕ) (word : Text) → IsPlain word
-    → subcommand_met names waiting word ≡ None → plain_word rules waiting word h ≡ (h, value)
-    → walked rules names (standing h waiting position) word ≡ after_plain rules h waiting position word
-unfolding clap_on_literals
-walked_plain rules names h waiting position word plain none free =
-    ap (λ (met : Held × Step). after_step rules word (standing h waiting position) met.0 met.1) (met_plain rules names waiting position word h plain none ∙ free)
-
-turned_plain : (s : Shape) (names : Names) (h : Held) (waiting : Waiting) (position : ℕ) (word : Text) → IsPlain word
-    → subcommand_met names waiting word ≡ None → plain_word s.rules waiting word h ≡ (h, value)
-    → turn_fault s names (standing h waiting position) word ≡ step_fault s position h value
-turned_plain s names h waiting position word plain none free =
-    ap₂ (λ (fault : Kinds) (met : Held × Step). or_else fault (step_fault s position met.0 met.1)) (passes_plain s names waiting word h plain none)
-    (met_plain s.rules names waiting position word h plain none ∙ free)
-
--- ---- the words of a subcommand
-
--- what is wrong at the end of a walk
-abbrev end_fault : Shape → Walk → Kinds
-end_fault s w = or_else (settle_fault s.rules s.args_override_self w.held)
-    (or_else (defaults_fault (settled s.rules w.held).rows s.rules) (check_fault s (finished s.rules w.held) false))
-
-abbrev fault_from : Shape → Walk → List Text → Kinds
-fault_from s w words = or_else (walk_fault s [] w words) (end_fault s (fold (walked s.rules []) w words))
-
--- one plain word more
-fault_on : (s : Shape) (h : Held) (waiting : Waiting) (position : ℕ) (word : Text) (rest : List Text) → IsPlain word
-    → plain_word s.rules waiting word h ≡ (h, value) → subcommand_met [] waiting word ≡ None
-    → fault_from s (standing h waiting position) (word ∷ rest)
-    ≡ or_else (or_else (step_fault s position h value) (walk_fault s [] (after_plain s.rules h waiting position word) rest))
-    (end_fault s (fold (walked s.rules []) (after_plain s.rules h waiting position word) rest))
-unfolding clap_on_literals
-fault_on s h waiting position word rest plain free none =
-    ap₂ (λ (fault : Kinds) (w : Walk). or_else (or_else fault (walk_fault s [] w rest)) (end_fault s (fold (walked s.rules []) w rest)))
-    (turned_plain s [] h waiting position word plain none free) (walked_plain s.rules [] h waiting position word plain none free)
-
-walk_on : (rules : List Rule) (h : Held) (waiting : Waiting) (position : ℕ) (word : Text) (rest : List Text) → IsPlain word
-    → plain_word rules waiting word h ≡ (h, value) → subcommand_met [] waiting word ≡ None
-    → fold (walked rules []) (standing h waiting position) (word ∷ rest) ≡ fold (walked rules []) (after_plain rules h waiting position word) rest
-walk_on rules h waiting position word rest plain free none =
-    ap (λ w. fold (walked rules []) w rest) (walked_plain rules [] h waiting position word plain none free)
-
--- ---- after the subcommand's name
-
--- a walk that has stopped keeps the words that are left
-stopped_walk : (rules : List Rule) (names : Names) (w : Walk) (name : Text) (before rest : List Text)
-    → fold (walked rules names) (record w { stopped = Some (name, before) }) rest ≡ record w { stopped = Some (name, before ++ rest) }
-unfolding clap_on_literals
-stopped_walk rules names w name before [] = ap (λ l. record w { stopped = Some (name, l) }) (sym (append-nil before))
-stopped_walk rules names w name before (word ∷ rest) =
-    stopped_walk rules names w name (before ++ word ∷ []) rest ∙ ap (λ l. record w { stopped = Some (name, l) }) (append_assoc before (word ∷ []) rest)
-
--- and refuses none of them
-stopped_fault : (s : Shape) (names : Names) (w : Walk) (name : Text) (before rest : List Text)
-    → walk_fault s names (record w { stopped = Some (name, before) }) rest ≡ []
-unfolding clap_on_literals
-stopped_fault s names w name before [] = refl
-stopped_fault s names w name before (word ∷ rest) = stopped_fault s names w name (before ++ word ∷ []) rest
-
--- a subcommand as the program builds it
-abbrev built_sub : App → Shape
-built_sub a = built_leaf (inherited (with_leaf_noted (marked_built program_app.top)) a.top)
-
-abbrev fault_within : App → List Text → Kinds
-fault_within a words = fault_from (built_sub a) (walk_from nothing_held) words
-
-abbrev rows_within : App → List Text → List Row
-rows_within a words = rows_after (built_sub a).rules [] words
-
-or_else-nil : (k : Kinds) → or_else k [] ≡ k
-or_else-nil [] = refl
-or_else-nil (x ∷ k) = refl
-
-abbrev program : App
-program = built program_app
-
--- where the walk and its fault are these
-abbrev program_fault : Walk → Kinds → Kinds
-program_fault w fault = or_else fault (or_else (entered_fault program w.stopped)
-    (or_else (settle_fault program.top.rules program.top.args_override_self w.held)
-    (or_else (defaults_fault (settled program.top.rules w.held).rows program.top.rules)
-    (check_fault program.top (finished program.top.rules w.held) (is_some (entered program w.stopped))))))
-
-abbrev stopped_at : Text → List Text → Walk
-stopped_at name rest = record (walk_from nothing_held) { stopped = Some (name, rest) }
-
--- the word names a subcommand, which has the words that follow
-record Enters (name : Text) (sub : App) : Type 0 where
-  fault : (rest : List Text) → fault_of program_app (name ∷ rest) ≡ fault_within sub rest
-  rows : (rest : List Text) → subcommand_of program_app (name ∷ rest) ≡ Some (name, rows_within sub rest)
-
-named_fault : (name : Text) (rest : List Text) → walked program.top.rules (names_of program) (walk_from nothing_held) name ≡ stopped_at name []
-    → turn_fault program.top (names_of program) (walk_from nothing_held) name ≡ []
-    → fault_of program_app (name ∷ rest) ≡ program_fault (stopped_at name rest) []
-unfolding clap_on_literals
-named_fault name rest stops passes =
-    ap₂ (λ (fault : Kinds) (w : Walk). program_fault (fold (walked program.top.rules (names_of program)) w rest)
-    (or_else fault (walk_fault program.top (names_of program) w rest))) passes stops
-    ∙ ap₂ program_fault (stopped_walk program.top.rules (names_of program) (walk_from nothing_held) name [] rest)
-    (stopped_fault program.top (names_of program) (walk_from nothing_held) name [] rest)
-
-named_rows : (name : Text) (rest : List Text) → walked program.top.rules (names_of program) (walk_from nothing_held) name ≡ stopped_at name []
-    → subcommand_of program_app (name ∷ rest) ≡ entered program (Some (name, rest))
-unfolding clap_on_literals
-named_rows name rest stops =
-    ap (λ (w : Walk). entered program (fold (walked program.top.rules (names_of program)) w rest).stopped) stops
-    ∙ ap (λ (w : Walk). entered program w.stopped) (stopped_walk program.top.rules (names_of program) (walk_from nothing_held) name [] rest)
-
-enters_init : Enters (codes "init") init_app
-unfolding clap_on_literals
-enters_init = record {
-  fault = λ rest. named_fault (codes "init") rest refl refl ∙ or_else-nil (fault_within init_app rest);
-  rows = λ rest. named_rows (codes "init") rest refl;
-}
-
-enters_load : Enters (codes "load") load_app
-unfolding clap_on_literals
-enters_load = record {
-  fault = λ rest. named_fault (codes "load") rest refl refl ∙ or_else-nil (fault_within load_app rest);
-  rows = λ rest. named_rows (codes "load") rest refl;
-}
-
-enters_ask : Enters (codes "ask") ask_app
-unfolding clap_on_literals
-enters_ask = record {
-  fault = λ rest. named_fault (codes "ask") rest refl refl ∙ or_else-nil (fault_within ask_app rest);
-  rows = λ rest. named_rows (codes "ask") rest refl;
-}
-
-enters_identify : Enters (codes "identify") identify_app
-unfolding clap_on_literals
-enters_identify = record {
-  fault = λ rest. named_fault (codes "identify") rest refl refl ∙ or_else-nil (fault_within identify_app rest);
-  rows = λ rest. named_rows (codes "identify") rest refl;
-}
-
--- ---- what each subcommand makes of its words
-
--- what the words give a positional
-abbrev given_row : Text → List Text → Row
-given_row id values = record { id = id; values = values; count = None; source = Some CommandLine; reading = AsWritten }
-
--- what is held after the first word
-abbrev held_after : App → Text → Held
-held_after sub word = (after_plain (built_sub sub).rules nothing_held idle 1 word).held
-
-init_taken : (dir : Text) → IsPlain dir → fault_within init_app (dir ∷ []) ≡ []
-unfolding clap_on_literals
-init_taken dir plain = fault_on (built_sub init_app) nothing_held idle 1 dir [] plain refl refl
-
-init_rows : (dir : Text) → IsPlain dir → rows_within init_app (dir ∷ []) ≡ given_row (codes "dir") (dir ∷ []) ∷ []
-unfolding clap_on_literals
-init_rows dir plain =
-    ap (λ (w : Walk). finished (built_sub init_app).rules w.held) (walk_on (built_sub init_app).rules nothing_held idle 1 dir [] plain refl refl)
-
-load_taken : (dir jobs : Text) → IsPlain dir → IsPlain jobs → fault_within load_app (dir ∷ jobs ∷ []) ≡ []
-unfolding clap_on_literals
-load_taken dir jobs plain_dir plain_jobs =
-    fault_on (built_sub load_app) nothing_held idle 1 dir (jobs ∷ []) plain_dir refl refl
-    ∙ fault_on (built_sub load_app) (held_after load_app dir) idle 2 jobs [] plain_jobs refl refl
-
-load_rows : (dir jobs : Text) → IsPlain dir → IsPlain jobs
-    → rows_within load_app (dir ∷ jobs ∷ []) ≡ given_row (codes "dir") (dir ∷ []) ∷ given_row (codes "jobs") (jobs ∷ []) ∷ []
-unfolding clap_on_literals
-load_rows dir jobs plain_dir plain_jobs =
-    ap (λ (w : Walk). finished (built_sub load_app).rules w.held)
-    (walk_on (built_sub load_app).rules nothing_held idle 1 dir (jobs ∷ []) plain_dir refl refl
-    ∙ walk_on (built_sub load_app).rules (held_after load_app dir) idle 2 jobs [] plain_jobs refl refl)
-
-identify_taken : (kind path : Text) → IsPlain kind → IsPlain path → fault_within identify_app (kind ∷ path ∷ []) ≡ []
-unfolding clap_on_literals
-identify_taken kind path plain_kind plain_path =
-    fault_on (built_sub identify_app) nothing_held idle 1 kind (path ∷ []) plain_kind refl refl
-    ∙ fault_on (built_sub identify_app) (held_after identify_app kind) idle 2 path [] plain_path refl refl
-
-identify_rows : (kind path : Text) → IsPlain kind → IsPlain path
-    → rows_within identify_app (kind ∷ path ∷ []) ≡ given_row (codes "kind") (kind ∷ []) ∷ given_row (codes "path") (path ∷ []) ∷ []
-unfolding clap_on_literals
-identify_rows kind path plain_kind plain_path =
-    ap (λ (w : Walk). finished (built_sub identify_app).rules w.held)
-    (walk_on (built_sub identify_app).rules nothing_held idle 1 kind (path ∷ []) plain_kind refl refl
-    ∙ walk_on (built_sub identify_app).rules (held_after identify_app kind) idle 2 path [] plain_path refl refl)
-
--- ---- one path or more
-
-abbrev paths_held : Text → List Text → Held
-paths_held dir paths = record { rows = given_row (codes "dir") (dir ∷ []) ∷ []; pending = Some (codes "path", paths); skip = 0 }
-
--- where the walk stands after these paths
-abbrev at_paths : Text → List Text → Walk
-at_paths dir paths = standing (paths_held dir paths) positional 2
-
-paths_walk : (dir : Text) (paths more : List Text) → AllByRecursion IsPlain more
-    → fold (walked (built_sub ask_app).rules []) (at_paths dir paths) more ≡ at_paths dir (paths ++ more)
-unfolding clap_on_literals
-paths_walk dir paths [] plain = ap (at_paths dir) (sym (append-nil paths))
-paths_walk dir paths (path ∷ more) plain =
-    walk_on (built_sub ask_app).rules (paths_held dir paths) positional 2 path more plain.0 refl refl
-    ∙ paths_walk dir (paths ++ path ∷ []) more plain.1
-    ∙ ap (at_paths dir) (append_assoc paths (path ∷ []) more)
-
-paths_fault : (dir : Text) (paths more : List Text) → AllByRecursion IsPlain more
-    → fault_from (built_sub ask_app) (at_paths dir paths) more ≡ end_fault (built_sub ask_app) (at_paths dir (paths ++ more))
-unfolding clap_on_literals
-paths_fault dir paths [] plain = ap (λ l. end_fault (built_sub ask_app) (at_paths dir l)) (sym (append-nil paths))
-paths_fault dir paths (path ∷ more) plain =
-    fault_on (built_sub ask_app) (paths_held dir paths) positional 2 path more plain.0 refl refl
-    ∙ paths_fault dir (paths ++ path ∷ []) more plain.1
-    ∙ ap (λ l. end_fault (built_sub ask_app) (at_paths dir l)) (append_assoc paths (path ∷ []) more)
-
-any_values : (values : List Text) → values_kinds false String values ≡ []
-any_values [] = refl
-any_values (v ∷ vs) = any_values vs
-
-any_number : (n : ℕ) → 0 < n → n < 2 ^ 64 → range_kinds 1 usize_max n ≡ []
-any_number n some few =
-    let not_none : (n == 0) ≡ false = ne_eqb n 0 (λ none. absurd (omega arith)) in
-    let enough : nat_lt n 1 ≡ false = search (arith, rules) in
-    let not_too_many : nat_lt usize_max n ≡ false = search (arith, rules) in
-    rw (not_none, enough, not_too_many) refl
-
-paths_pass : (dir path : Text) (more : List Text) → length (path ∷ more) < 2 ^ 64 → end_fault (built_sub ask_app) (at_paths dir (path ∷ more)) ≡ []
-unfolding clap_on_literals
-paths_pass dir path more few =
-    ap₂ (λ (range values : Kinds). or_else (or_else range values) []) (any_number (length (path ∷ more)) (omega arith) few) (any_values (path ∷ more))
-
-ask_taken : (dir path : Text) (more : List Text) → IsPlain dir → AllByRecursion IsPlain (path ∷ more) → length (path ∷ more) < 2 ^ 64
-    → fault_within ask_app (dir ∷ path ∷ more) ≡ []
-unfolding clap_on_literals
-ask_taken dir path more plain_dir plain_paths few =
-    fault_on (built_sub ask_app) nothing_held idle 1 dir (path ∷ more) plain_dir refl refl
-    ∙ fault_on (built_sub ask_app) (held_after ask_app dir) idle 2 path more plain_paths.0 refl refl
-    ∙ paths_fault dir (path ∷ []) more plain_paths.1
-    ∙ paths_pass dir path more few
-
-ask_rows : (dir path : Text) (more : List Text) → IsPlain dir → AllByRecursion IsPlain (path ∷ more)
-    → rows_within ask_app (dir ∷ path ∷ more) ≡ given_row (codes "dir") (dir ∷ []) ∷ given_row (codes "path") (path ∷ more) ∷ []
-unfolding clap_on_literals
-ask_rows dir path more plain_dir plain_paths =
-    ap (λ (w : Walk). finished (built_sub ask_app).rules w.held)
-    (walk_on (built_sub ask_app).rules nothing_held idle 1 dir (path ∷ more) plain_dir refl refl
-    ∙ walk_on (built_sub ask_app).rules (held_after ask_app dir) idle 2 path more plain_paths.0 refl refl
-    ∙ paths_walk dir (path ∷ []) more plain_paths.1)
+use Rattle.swh_words.proofs.Flags.{HasValuesOnly, dashes, first_bad, first_clean, is_clean, refused, value_met, value_passes, word_refused}
+use Rattle.swh_words.proofs.Values.{given_by, some≢none, turned_by}
+use Rattle.swh_words.proofs.Subcommands.{Enters, ask_rows, ask_taken, built_sub, enters_ask, enters_identify, enters_init, enters_load, fault_in, identify_rows, identify_taken, init_rows, init_taken, load_rows, load_taken, only_ask, only_identify, only_init, only_load, program, reads, rows_in, taken_values}
 
 -- ---- words that spell a command are one
 
-command_of : (name : Text) (sub : App) (rest : List Text) (rows : List Row) (wanted : Wanted) → Enters name sub → fault_within sub rest ≡ []
-    → rows_within sub rest ≡ rows → IsAsked (name, rows) wanted → IsCommand (name ∷ rest) wanted
-command_of name sub rest rows wanted enters passes are asked = record {
-  taken = enters.fault rest ∙ passes;
-  asked = subst (λ (o : Option (Text × List Row)). IsSomeAnd o (λ given. IsAsked given wanted))
-      (sym (enters.rows rest ∙ ap (λ (r : List Row). Some (name, r)) are)) asked;
-}
+first_text : List Text → Text
+first_text [] = []
+first_text (word ∷ rest) = word
 
-pub spelled_is_command : (wanted : Wanted) → length (spelled wanted) < 2 ^ 64 → AllByRecursion IsPlain (spelled wanted) → IsOffered wanted
-    → IsCommand (spelled wanted) wanted
-spelled_is_command (ToInit dir) few plain offered =
-    command_of (codes "init") init_app (dir ∷ []) _ (ToInit dir) enters_init (init_taken dir plain.1.0) (init_rows dir plain.1.0)
-    (record { is_given = (refl, refl); offered = offered })
-spelled_is_command (ToLoad dir jobs) few plain offered =
-    command_of (codes "load") load_app (dir ∷ jobs ∷ []) _ (ToLoad dir jobs) enters_load (load_taken dir jobs plain.1.0 plain.1.1.0)
-    (load_rows dir jobs plain.1.0 plain.1.1.0) (record { is_given = (refl, refl, refl); offered = offered })
-spelled_is_command (ToAsk dir []) few plain offered = absurd (omega arith)
-spelled_is_command (ToAsk dir (path ∷ more)) few plain offered =
-    command_of (codes "ask") ask_app (dir ∷ path ∷ more) _ (ToAsk dir (path ∷ more)) enters_ask
-    (ask_taken dir path more plain.1.0 plain.1.1 (omega arith)) (ask_rows dir path more plain.1.0 plain.1.1)
-    (record { is_given = (refl, refl, refl); offered = offered })
-spelled_is_command (ToIdentify kind path) few plain offered =
-    command_of (codes "identify") identify_app (kind_letters kind ∷ path ∷ []) _ (ToIdentify kind path) enters_identify
-    (identify_taken (kind_letters kind) path plain.1.0 plain.1.1.0) (identify_rows (kind_letters kind) path plain.1.0 plain.1.1.0)
-    (record { is_given = (refl, refl, refl); offered = offered })
+later_texts : List Text → List Text
+later_texts [] = []
+later_texts (word ∷ rest) = rest
 
--- ---- plain words that are a command spell it
+values_few : (words values : List Text) → values_given words ≡ Some values → length values ≤ length words
+values_few [] values given = subst (λ (l : List Text). length l ≤ 0) (ap (λ o. unwrap_or o []) given) (omega arith)
+values_few (word ∷ more) values given =
+    given_by (length values ≤ length (word ∷ more)) word more values given
+    (λ marked same. subst (λ (l : List Text). length l ≤ length (word ∷ more)) same (omega arith))
+    (λ no_dashes no_flag vs rest same. subst (λ (l : List Text). length l ≤ length (word ∷ more)) same
+    (let few : length vs ≤ length more = values_few more vs rest in omega arith))
 
-is_clean : Kinds → Bool
-is_clean [] = true
-is_clean (k ∷ rest) = false
+command_of : (name : Text) (sub : App) (rest values : List Text) (rows : List Row) (wanted : Wanted) → Enters name sub
+    → HasValuesOnly (built_sub sub).rules → values_given rest ≡ Some values → fault_in sub true values ≡ [] → rows_in sub true values ≡ rows
+    → IsAsked (name, rows) wanted → IsCommand (name ∷ rest) wanted
+command_of name sub rest values rows wanted enters only given passes are asked =
+    let same = reads sub rest values only given in
+    record {
+      taken = enters.fault rest ∙ same.fault ∙ passes;
+      asked = subst (λ (o : Option (Text × List Row)). IsSomeAnd o (λ given. IsAsked given wanted))
+          (sym (enters.rows rest ∙ ap (λ (r : List Row). Some (name, r)) (same.rows ∙ are))) asked;
+    }
 
-refused : (fault : Kinds) → is_clean fault ≡ false → fault ≡ [] → ⊥
-unfolding is_clean
-refused fault bad none = true≢false (sym (ap is_clean none) ∙ bad)
+-- the name and the values are these
+given_as : (rest values : List Text) (name expected : Text) (expected_values : List Text) → values_given rest ≡ Some values
+    → name ∷ values ≡ expected ∷ expected_values → values_given rest ≡ Some expected_values
+unfolding later_texts
+given_as rest values name expected expected_values given same = given ∙ ap (λ l. Some l) (ap later_texts same)
 
-first_clean : (first next : Kinds) → or_else first next ≡ [] → first ≡ []
-first_clean [] next clean = refl
-first_clean (k ∷ rest) next clean = clean
+named_as : (rest values : List Text) (name expected : Text) (expected_values : List Text) (wanted : Wanted)
+    → name ∷ values ≡ expected ∷ expected_values → IsCommand (expected ∷ rest) wanted → IsCommand (name ∷ rest) wanted
+unfolding first_text
+named_as rest values name expected expected_values wanted same = subst (λ (n : Text). IsCommand (n ∷ rest) wanted) (sym (ap first_text same))
+
+spelled_is_command : (wanted : Wanted) (name : Text) (rest values : List Text) → values_given rest ≡ Some values → name ∷ values ≡ spelled wanted
+    → length values < 2 ^ 64 → IsOffered wanted → IsCommand (name ∷ rest) wanted
+unfolding later_texts
+spelled_is_command (ToInit dir) name rest values given same few offered =
+    named_as rest values name (codes "init") (dir ∷ []) (ToInit dir) same
+    (command_of (codes "init") init_app rest (dir ∷ []) _ (ToInit dir) enters_init only_init (given_as rest values name _ _ given same)
+    (init_taken dir) (init_rows dir) (record { is_given = (refl, refl); offered = offered }))
+spelled_is_command (ToLoad dir jobs) name rest values given same few offered =
+    named_as rest values name (codes "load") (dir ∷ jobs ∷ []) (ToLoad dir jobs) same
+    (command_of (codes "load") load_app rest (dir ∷ jobs ∷ []) _ (ToLoad dir jobs) enters_load only_load (given_as rest values name _ _ given same)
+    (load_taken dir jobs) (load_rows dir jobs) (record { is_given = (refl, refl, refl); offered = offered }))
+spelled_is_command (ToAsk dir []) name rest values given same few offered = absurd (omega arith)
+spelled_is_command (ToAsk dir (path ∷ more)) name rest values given same few offered =
+    let few_paths : length (dir ∷ path ∷ more) < 2 ^ 64 = subst (λ (l : List Text). length l < 2 ^ 64) (ap later_texts same) few in
+    named_as rest values name (codes "ask") (dir ∷ path ∷ more) (ToAsk dir (path ∷ more)) same
+    (command_of (codes "ask") ask_app rest (dir ∷ path ∷ more) _ (ToAsk dir (path ∷ more)) enters_ask only_ask (given_as rest values name _ _ given same)
+    (ask_taken dir path more (omega arith)) (ask_rows dir path more) (record { is_given = (refl, refl, refl); offered = offered }))
+spelled_is_command (ToIdentify kind path) name rest values given same few offered =
+    named_as rest values name (codes "identify") (kind_letters kind ∷ path ∷ []) (ToIdentify kind path) same
+    (command_of (codes "identify") identify_app rest (kind_letters kind ∷ path ∷ []) _ (ToIdentify kind path) enters_identify only_identify
+    (given_as rest values name _ _ given same) (identify_taken (kind_letters kind) path) (identify_rows (kind_letters kind) path)
+    (record { is_given = (refl, refl, refl); offered = offered }))
+
+spelling_is_command : (words : List Text) (wanted : Wanted) → length words < 2 ^ 64 → spelling_of words ≡ Some (spelled wanted) → IsOffered wanted
+    → IsCommand words wanted
+spelling_is_command [] wanted few spells offered = absurd (some≢none (List Text) (spelled wanted) (sym spells))
+spelling_is_command (name ∷ rest) wanted few spells offered = go (values_given rest) refl spells
+  where
+    go : (o : Option (List Text)) → values_given rest ≡ o → option_map (λ values. name ∷ values) o ≡ Some (spelled wanted) → IsCommand (name ∷ rest) wanted
+    go None given same = absurd (some≢none (List Text) (spelled wanted) (sym same))
+    go (Some values) given same =
+        let fewer : length values ≤ length rest = values_few rest values given in
+        spelled_is_command wanted name rest values given (ap (λ o. unwrap_or o []) same) (omega arith) offered
+
+-- ---- how many values each subcommand has
+
+pub init_by : (Holds : List Text → Type 0) → ((dir : Text) → Holds (dir ∷ [])) → (values : List Text) → fault_in init_app true values ≡ [] → Holds values
+unfolding clap_on_literals
+init_by Holds one [] clean = absurd (refused (fault_in init_app true []) refl clean)
+init_by Holds one (dir ∷ []) clean = one dir
+init_by Holds one (dir ∷ more ∷ rest) clean = absurd (refused (fault_in init_app true (dir ∷ more ∷ rest)) refl clean)
+
+pub load_by : (Holds : List Text → Type 0) → ((dir jobs : Text) → Holds (dir ∷ jobs ∷ [])) → (values : List Text) → fault_in load_app true values ≡ []
+    → Holds values
+unfolding clap_on_literals
+load_by Holds two [] clean = absurd (refused (fault_in load_app true []) refl clean)
+load_by Holds two (dir ∷ []) clean = absurd (refused (fault_in load_app true (dir ∷ [])) refl clean)
+load_by Holds two (dir ∷ jobs ∷ []) clean = two dir jobs
+load_by Holds two (dir ∷ jobs ∷ more ∷ rest) clean = absurd (refused (fault_in load_app true (dir ∷ jobs ∷ more ∷ rest)) refl clean)
+
+pub ask_by : (Holds : List Text → Type 0) → ((dir path : Text) (more : List Text) → Holds (dir ∷ path ∷ more)) → (values : List Text)
+    → fault_in ask_app true values ≡ [] → Holds values
+unfolding clap_on_literals
+ask_by Holds some [] clean = absurd (refused (fault_in ask_app true []) refl clean)
+ask_by Holds some (dir ∷ []) clean = absurd (refused (fault_in ask_app true (dir ∷ [])) refl clean)
+ask_by Holds some (dir ∷ path ∷ more) clean = some dir path more
+
+pub identify_by : (Holds : List Text → Type 0) → ((kind path : Text) → Holds (kind ∷ path ∷ [])) → (values : List Text)
+    → fault_in identify_app true values ≡ [] → Holds values
+unfolding clap_on_literals
+identify_by Holds two [] clean = absurd (refused (fault_in identify_app true []) refl clean)
+identify_by Holds two (kind ∷ []) clean = absurd (refused (fault_in identify_app true (kind ∷ [])) refl clean)
+identify_by Holds two (kind ∷ path ∷ []) clean = two kind path
+identify_by Holds two (kind ∷ path ∷ more ∷ rest) clean = absurd (refused (fault_in identify_app true (kind ∷ path ∷ more ∷ rest)) refl clean)
+
+-- ---- words that are a command spell it
 
 -- what is asked of a subcommand's rows is what they are read as
 read_as_wanted : (name : Text) (rows known : List Row) (wanted : Wanted) → rows ≡ known → IsAsked (name, rows) wanted → read (name, known) ≡ wanted
 read_as_wanted name rows known wanted are asked =
     sym (ap (λ (r : List Row). read (name, r)) are) ∙ read-given (name, rows) wanted asked.is_given
 
-init_only : (rest : List Text) (wanted : Wanted) → AllByRecursion IsPlain rest → fault_within init_app rest ≡ []
-    → IsAsked (codes "init", rows_within init_app rest) wanted → codes "init" ∷ rest ≡ spelled wanted
-unfolding clap_on_literals is_clean
-init_only [] wanted plain clean asked = absurd (refused (fault_within init_app []) refl clean)
-init_only (dir ∷ []) wanted plain clean asked = ap spelled (read_as_wanted (codes "init") _ _ wanted (init_rows dir plain.0) asked)
-init_only (dir ∷ more ∷ rest) wanted plain clean asked =
-    absurd (refused (fault_within init_app (dir ∷ more ∷ rest))
-    (ap is_clean (fault_on (built_sub init_app) nothing_held idle 1 dir (more ∷ rest) plain.0 refl refl
-    ∙ fault_on (built_sub init_app) (held_after init_app dir) idle 2 more rest plain.1.0 refl refl)) clean)
+-- values that ask a subcommand for something spell it
+abbrev Spells : Text → App → Wanted → List Text → Type 0
+Spells name sub wanted values = IsAsked (name, rows_in sub true values) wanted → name ∷ values ≡ spelled wanted
 
-load_only : (rest : List Text) (wanted : Wanted) → AllByRecursion IsPlain rest → fault_within load_app rest ≡ []
-    → IsAsked (codes "load", rows_within load_app rest) wanted → codes "load" ∷ rest ≡ spelled wanted
-unfolding clap_on_literals is_clean
-load_only [] wanted plain clean asked = absurd (refused (fault_within load_app []) refl clean)
-load_only (dir ∷ []) wanted plain clean asked =
-    absurd (refused (fault_within load_app (dir ∷ []))
-    (ap is_clean (fault_on (built_sub load_app) nothing_held idle 1 dir [] plain.0 refl refl)) clean)
-load_only (dir ∷ jobs ∷ []) wanted plain clean asked =
-    ap spelled (read_as_wanted (codes "load") _ _ wanted (load_rows dir jobs plain.0 plain.1.0) asked)
-load_only (dir ∷ jobs ∷ more ∷ rest) wanted plain clean asked =
-    absurd (refused (fault_within load_app (dir ∷ jobs ∷ more ∷ rest))
-    (ap is_clean (fault_on (built_sub load_app) nothing_held idle 1 dir (jobs ∷ more ∷ rest) plain.0 refl refl
-    ∙ fault_on (built_sub load_app) (held_after load_app dir) idle 2 jobs (more ∷ rest) plain.1.0 refl refl
-    ∙ fault_on (built_sub load_app) (after_plain (built_sub load_app).rules (held_after load_app dir) idle 2 jobs).held idle 3 more rest plain.1.1.0 refl refl))
-    clean)
+init_spells : (wanted : Wanted) (values : List Text) → fault_in init_app true values ≡ [] → Spells (codes "init") init_app wanted values
+init_spells wanted = init_by (Spells (codes "init") init_app wanted)
+    (λ dir asked. ap spelled (read_as_wanted (codes "init") _ _ wanted (init_rows dir) asked))
 
-ask_only : (rest : List Text) (wanted : Wanted) → AllByRecursion IsPlain rest → fault_within ask_app rest ≡ []
-    → IsAsked (codes "ask", rows_within ask_app rest) wanted → codes "ask" ∷ rest ≡ spelled wanted
-unfolding clap_on_literals is_clean
-ask_only [] wanted plain clean asked = absurd (refused (fault_within ask_app []) refl clean)
-ask_only (dir ∷ []) wanted plain clean asked =
-    absurd (refused (fault_within ask_app (dir ∷ []))
-    (ap is_clean (fault_on (built_sub ask_app) nothing_held idle 1 dir [] plain.0 refl refl)) clean)
-ask_only (dir ∷ path ∷ more) wanted plain clean asked =
-    ap spelled (read_as_wanted (codes "ask") _ _ wanted (ask_rows dir path more plain.0 plain.1) asked)
+load_spells : (wanted : Wanted) (values : List Text) → fault_in load_app true values ≡ [] → Spells (codes "load") load_app wanted values
+load_spells wanted = load_by (Spells (codes "load") load_app wanted)
+    (λ dir jobs asked. ap spelled (read_as_wanted (codes "load") _ _ wanted (load_rows dir jobs) asked))
+
+ask_spells : (wanted : Wanted) (values : List Text) → fault_in ask_app true values ≡ [] → Spells (codes "ask") ask_app wanted values
+ask_spells wanted = ask_by (Spells (codes "ask") ask_app wanted)
+    (λ dir path more asked. ap spelled (read_as_wanted (codes "ask") _ _ wanted (ask_rows dir path more) asked))
 
 -- the letters of what is identified are its kind's
 identify_letters : (rows : List Row) (letters path : Text) (wanted : Wanted) → first_of (codes "kind") rows ≡ Some letters
@@ -395,23 +152,11 @@ identify_letters rows letters path wanted is_first are given =
     let back : IsGiven (codes "identify", rows) (ToIdentify (kind_from letters) path) = subst (IsGiven (codes "identify", rows)) (sym are) given in
     ap (λ (o : Option Text). codes "identify" ∷ unwrap_or o [] ∷ path ∷ []) (sym is_first ∙ back.1) ∙ ap spelled are
 
-identify_only : (rest : List Text) (wanted : Wanted) → AllByRecursion IsPlain rest → fault_within identify_app rest ≡ []
-    → IsAsked (codes "identify", rows_within identify_app rest) wanted → codes "identify" ∷ rest ≡ spelled wanted
-unfolding clap_on_literals is_clean
-identify_only [] wanted plain clean asked = absurd (refused (fault_within identify_app []) refl clean)
-identify_only (kind ∷ []) wanted plain clean asked =
-    absurd (refused (fault_within identify_app (kind ∷ []))
-    (ap is_clean (fault_on (built_sub identify_app) nothing_held idle 1 kind [] plain.0 refl refl)) clean)
-identify_only (kind ∷ path ∷ []) wanted plain clean asked =
-    identify_letters (rows_within identify_app (kind ∷ path ∷ [])) kind path wanted
-    (ap (first_of (codes "kind")) (identify_rows kind path plain.0 plain.1.0))
-    (read_as_wanted (codes "identify") _ _ wanted (identify_rows kind path plain.0 plain.1.0) asked) asked.is_given
-identify_only (kind ∷ path ∷ more ∷ rest) wanted plain clean asked =
-    absurd (refused (fault_within identify_app (kind ∷ path ∷ more ∷ rest))
-    (ap is_clean (fault_on (built_sub identify_app) nothing_held idle 1 kind (path ∷ more ∷ rest) plain.0 refl refl
-    ∙ fault_on (built_sub identify_app) (held_after identify_app kind) idle 2 path (more ∷ rest) plain.1.0 refl refl
-    ∙ fault_on (built_sub identify_app) (after_plain (built_sub identify_app).rules (held_after identify_app kind) idle 2 path).held idle 3 more rest plain.1.1.0 refl refl))
-    clean)
+identify_spells : (wanted : Wanted) (values : List Text) → fault_in identify_app true values ≡ []
+    → Spells (codes "identify") identify_app wanted values
+identify_spells wanted = identify_by (Spells (codes "identify") identify_app wanted) (λ kind path asked.
+    identify_letters (rows_in identify_app true (kind ∷ path ∷ [])) kind path wanted (ap (first_of (codes "kind")) (identify_rows kind path))
+    (read_as_wanted (codes "identify") _ _ wanted (identify_rows kind path) asked) asked.is_given)
 
 -- a word that names no subcommand is refused
 abbrev name_met : Bool → Bool → Bool → Bool → Option Text
@@ -422,27 +167,40 @@ name_met is_init is_load is_ask is_identify = option_map (λ (s : Text × List T
     else if is_identify || false then Some (codes "identify", [])
     else None)
 
-other_name : (name : Text) (rest : List Text) → IsPlain name → bytes_eq (codes "init") name ≡ false → bytes_eq (codes "load") name ≡ false
+only_program : HasValuesOnly program.top.rules
+only_program = record { no_long = λ name. refl; no_short = λ c. refl; no_trail = tt }
+
+-- no word stands behind a `--` that is the first
+marked_refused : (rest : List Text) → is_clean (fault_of program_app (dashes ∷ rest)) ≡ false
+unfolding clap_on_literals
+marked_refused [] = refl
+marked_refused (word ∷ rest) = refl
+
+other_turn : (name : Text) → subcommand_met (names_of program) idle name ≡ None → bytes_eq name dashes ≡ false
+    → is_clean (turn_fault program.top (names_of program) (walk_from nothing_held) name) ≡ false
+other_turn name none no_dashes = go (is_flag name) refl
+  where
+    go : (f : Bool) → is_flag name ≡ f → is_clean (turn_fault program.top (names_of program) (walk_from nothing_held) name) ≡ false
+    go true flag = first_bad (word_fault program.top (names_of program) false idle name nothing_held) _
+        (word_refused program.top (names_of program) idle name nothing_held only_program refl none no_dashes flag)
+    go false no_flag = ap is_clean (turned_by program.top (names_of program) false nothing_held idle 1 name
+        (value_met program.top.rules (names_of program) idle 1 name nothing_held tt refl none no_dashes no_flag)
+        (value_passes program.top (names_of program) idle name nothing_held none no_dashes no_flag))
+
+other_name : (name : Text) (rest : List Text) → bytes_eq (codes "init") name ≡ false → bytes_eq (codes "load") name ≡ false
     → bytes_eq (codes "ask") name ≡ false → bytes_eq (codes "identify") name ≡ false → fault_of program_app (name ∷ rest) ≡ [] → ⊥
-unfolding clap_on_literals is_clean
-other_name name rest plain no_init no_load no_ask no_identify clean =
-    let none : subcommand_met (names_of program) idle name ≡ None = λ i. name_met (no_init i) (no_load i) (no_ask i) (no_identify i) in
-    refused (turn_fault program.top (names_of program) (walk_from nothing_held) name)
-    (ap is_clean (turned_plain program.top (names_of program) nothing_held idle 1 name plain none refl))
-    (first_clean _ (walk_fault program.top (names_of program) (walked program.top.rules (names_of program) (walk_from nothing_held) name) rest)
-    (first_clean _ _ clean))
+unfolding clap_on_literals
+other_name name rest no_init no_load no_ask no_identify clean = go (bytes_eq name dashes) refl
+  where
+    none : subcommand_met (names_of program) idle name ≡ None
+    none = λ i. name_met (no_init i) (no_load i) (no_ask i) (no_identify i)
 
-asked_of : (name : Text) (sub : App) (rest : List Text) (wanted : Wanted) → Enters name sub → IsCommand (name ∷ rest) wanted
-    → IsAsked (name, rows_within sub rest) wanted
-asked_of name sub rest wanted enters is =
-    subst (λ (o : Option (Text × List Row)). IsSomeAnd o (λ given. IsAsked given wanted)) (enters.rows rest) is.asked
-
--- a word begins the words as another that is the same
-as_name : (expected name : Text) (rest : List Text) (wanted : Wanted) → expected ≡ name
-    → (AllByRecursion IsPlain rest → IsCommand (expected ∷ rest) wanted → expected ∷ rest ≡ spelled wanted)
-    → AllByRecursion IsPlain rest → IsCommand (name ∷ rest) wanted → name ∷ rest ≡ spelled wanted
-as_name expected name rest wanted same law =
-    subst (λ (n : Text). AllByRecursion IsPlain rest → IsCommand (n ∷ rest) wanted → n ∷ rest ≡ spelled wanted) same law
+    go : (d : Bool) → bytes_eq name dashes ≡ d → ⊥
+    go true same = refused (fault_of program_app (name ∷ rest))
+        (subst (λ (n : Text). is_clean (fault_of program_app (n ∷ rest)) ≡ false) (sym ((bytes_eq-Decides name dashes).0 same)) (marked_refused rest)) clean
+    go false no_dashes = refused (turn_fault program.top (names_of program) (walk_from nothing_held) name) (other_turn name none no_dashes)
+        (first_clean _ (walk_fault program.top (names_of program) (walked program.top.rules (names_of program) (walk_from nothing_held) name) rest)
+        (first_clean _ _ clean))
 
 same_or_not : (expected name : Text) → (expected ≡ name) ⊎ (bytes_eq expected name ≡ false)
 same_or_not expected name = go (bytes_eq expected name) refl
@@ -451,31 +209,67 @@ same_or_not expected name = go (bytes_eq expected name) refl
     go true same = inl ((bytes_eq-Decides expected name).0 same)
     go false other = inr other
 
-pub command_is_spelled : (words : List Text) (wanted : Wanted) → AllByRecursion IsPlain words → IsCommand words wanted → words ≡ spelled wanted
-unfolding clap_on_literals is_clean
-command_is_spelled [] wanted plain is = absurd (refused (fault_of program_app []) refl is.taken)
-command_is_spelled (name ∷ rest) wanted plain is = elim (same_or_not (codes "init") name) [
-  | inl same ↦ as_name (codes "init") name rest wanted same (λ p c. init_only rest wanted p (sym (enters_init.fault rest) ∙ c.taken)
-      (asked_of (codes "init") init_app rest wanted enters_init c)) plain.1 is
+-- what holds of the words of each subcommand holds of all words that are taken
+pub taken_by : (Holds : List Text → Type 0)
+    → ((rest : List Text) → fault_of program_app (codes "init" ∷ rest) ≡ [] → Holds (codes "init" ∷ rest))
+    → ((rest : List Text) → fault_of program_app (codes "load" ∷ rest) ≡ [] → Holds (codes "load" ∷ rest))
+    → ((rest : List Text) → fault_of program_app (codes "ask" ∷ rest) ≡ [] → Holds (codes "ask" ∷ rest))
+    → ((rest : List Text) → fault_of program_app (codes "identify" ∷ rest) ≡ [] → Holds (codes "identify" ∷ rest))
+    → (words : List Text) → fault_of program_app words ≡ [] → Holds words
+unfolding clap_on_literals
+taken_by Holds of_init of_load of_ask of_identify [] clean = absurd (refused (fault_of program_app []) refl clean)
+taken_by Holds of_init of_load of_ask of_identify (name ∷ rest) clean = elim (same_or_not (codes "init") name) [
+  | inl same ↦ as_name (codes "init") of_init same
   | inr no_init ↦ elim (same_or_not (codes "load") name) [
-    | inl same ↦ as_name (codes "load") name rest wanted same (λ p c. load_only rest wanted p (sym (enters_load.fault rest) ∙ c.taken)
-        (asked_of (codes "load") load_app rest wanted enters_load c)) plain.1 is
+    | inl same ↦ as_name (codes "load") of_load same
     | inr no_load ↦ elim (same_or_not (codes "ask") name) [
-      | inl same ↦ as_name (codes "ask") name rest wanted same (λ p c. ask_only rest wanted p (sym (enters_ask.fault rest) ∙ c.taken)
-          (asked_of (codes "ask") ask_app rest wanted enters_ask c)) plain.1 is
+      | inl same ↦ as_name (codes "ask") of_ask same
       | inr no_ask ↦ elim (same_or_not (codes "identify") name) [
-        | inl same ↦ as_name (codes "identify") name rest wanted same (λ p c. identify_only rest wanted p (sym (enters_identify.fault rest) ∙ c.taken)
-            (asked_of (codes "identify") identify_app rest wanted enters_identify c)) plain.1 is
-        | inr no_identify ↦ absurd (other_name name rest plain.0 no_init no_load no_ask no_identify is.taken)
+        | inl same ↦ as_name (codes "identify") of_identify same
+        | inr no_identify ↦ absurd (other_name name rest no_init no_load no_ask no_identify clean)
       ]
     ]
   ]
 ]
+  where
+    as_name : (expected : Text) → ((rest : List Text) → fault_of program_app (expected ∷ rest) ≡ [] → Holds (expected ∷ rest)) → expected ≡ name
+        → Holds (name ∷ rest)
+    as_name expected holds same =
+        subst (λ (n : Text). fault_of program_app (n ∷ rest) ≡ [] → Holds (n ∷ rest)) same (holds rest) clean
 
-pub plain_words : (words : List Text) (wanted : Wanted) → length words < 2 ^ 64 → AllByRecursion IsPlain words
-    → IsCommand words wanted ↔ ((words ≡ spelled wanted) × IsOffered wanted)
-plain_words words wanted few plain = (
-  λ is. (command_is_spelled words wanted plain is, offered words wanted is),
-  λ (h : (words ≡ spelled wanted) × IsOffered wanted). subst (λ (w : List Text). length w < 2 ^ 64 → AllByRecursion IsPlain w → IsCommand w wanted) (sym h.0)
-      (λ f p. spelled_is_command wanted f p h.1) few plain,
+-- the subcommand's values, and what is asked of them
+pub named_by : (G : Type 0) (name : Text) (sub : App) (rest : List Text) → Enters name sub → HasValuesOnly (built_sub sub).rules
+    → fault_of program_app (name ∷ rest) ≡ []
+    → ((values : List Text) → values_given rest ≡ Some values → fault_in sub true values ≡ []
+    → subcommand_of program_app (name ∷ rest) ≡ Some (name, rows_in sub true values) → G) → G
+named_by G name sub rest enters only clean next =
+    taken_values G sub rest only (sym (enters.fault rest) ∙ clean)
+    (λ values given passes are. next values given passes (enters.rows rest ∙ ap (λ (r : List Row). Some (name, r)) are))
+
+abbrev pub IsAskedBy : Option (Text × List Row) → Wanted → Type 0
+IsAskedBy o wanted = IsSomeAnd o (λ given. IsAsked given wanted)
+
+abbrev SpellsWhatItIs : Wanted → List Text → Type 0
+SpellsWhatItIs wanted words = IsAskedBy (subcommand_of program_app words) wanted → spelling_of words ≡ Some (spelled wanted)
+
+named_spells : (name : Text) (sub : App) (wanted : Wanted) → Enters name sub → HasValuesOnly (built_sub sub).rules
+    → ((values : List Text) → fault_in sub true values ≡ [] → Spells name sub wanted values)
+    → (rest : List Text) → fault_of program_app (name ∷ rest) ≡ [] → SpellsWhatItIs wanted (name ∷ rest)
+named_spells name sub wanted enters only spells rest clean asked =
+    named_by (spelling_of (name ∷ rest) ≡ Some (spelled wanted)) name sub rest enters only clean
+    (λ values given passes are. ap (option_map (λ vs. name ∷ vs)) given
+    ∙ ap (λ l. Some l) (spells values passes (subst (λ (o : Option (Text × List Row)). IsAskedBy o wanted) are asked)))
+
+command_is_spelled : (words : List Text) (wanted : Wanted) → IsCommand words wanted → spelling_of words ≡ Some (spelled wanted)
+command_is_spelled words wanted is = taken_by (SpellsWhatItIs wanted)
+    (named_spells (codes "init") init_app wanted enters_init only_init (init_spells wanted))
+    (named_spells (codes "load") load_app wanted enters_load only_load (load_spells wanted))
+    (named_spells (codes "ask") ask_app wanted enters_ask only_ask (ask_spells wanted))
+    (named_spells (codes "identify") identify_app wanted enters_identify only_identify (identify_spells wanted)) words is.taken is.asked
+
+pub spelled_words : (words : List Text) (wanted : Wanted) → length words < 2 ^ 64
+    → IsCommand words wanted ↔ ((spelling_of words ≡ Some (spelled wanted)) × IsOffered wanted)
+spelled_words words wanted few = (
+  λ is. (command_is_spelled words wanted is, offered words wanted is),
+  λ (h : (spelling_of words ≡ Some (spelled wanted)) × IsOffered wanted). spelling_is_command words wanted few h.0 h.1,
 )

@@ -1,15 +1,46 @@
--- How a command is spelled, in words none of which is a flag.
-use Rattle.std.specs.Prelude.{◌≢◌, ℕ, List, [], ◌∷◌, codes}
+-- How a command is spelled.
+use Rattle.std.specs.Prelude.{◌≡◌, ◌≢◌, ◌==◌, ◌&&◌, ℕ, Bool, true, false, List, [], ◌∷◌, Option, Some, None, IsSomeAnd, option_map, if◌then◌else◌, codes, chars}
+use Rattle.std.specs.Str.{bytes_eq}
+use Rattle.clap.specs.Words.{first_of, subcommand_of}
+use Rattle.swh_base.specs.declared.kind.Kind.{Kind}
+use Rattle.swh_base.specs.declared.kind.Kind.TheVariants.{Directory}
+use Rattle.swh_words.specs.Definition.{program_app}
 use Rattle.swh_words.specs.Words.{Wanted, ToInit, ToLoad, ToAsk, ToIdentify, kind_letters}
 
--- the words that ask for this
+-- the subcommand and the values that ask for this
 abbrev pub spelled : Wanted → List (List ℕ)
 spelled (ToInit dir) = codes "init" ∷ dir ∷ []
 spelled (ToLoad dir jobs) = codes "load" ∷ dir ∷ jobs ∷ []
 spelled (ToAsk dir paths) = codes "ask" ∷ dir ∷ paths
 spelled (ToIdentify kind path) = codes "identify" ∷ kind_letters kind ∷ path ∷ []
 
--- the word does not begin with `-` (45)
-abbrev pub IsPlain : List ℕ → Type 0
-IsPlain [] = Unit {0}
-IsPlain (b ∷ rest) = b ≢ 45
+abbrev pub is_nonempty : List ℕ → Bool
+is_nonempty [] = false
+is_nonempty (c ∷ rest) = true
+
+-- the word is a `-` (45) with a character or more behind it
+abbrev pub is_flag : List ℕ → Bool
+is_flag [] = false
+is_flag (b ∷ rest) = b == 45 && is_nonempty (chars rest)
+
+-- The values that words give: each word is one but for the first `--`, behind which each word is. A flag before it gives none.
+abbrev pub values_given : List (List ℕ) → Option (List (List ℕ))
+values_given [] = Some []
+values_given (word ∷ rest) =
+    if bytes_eq word (codes "--") then Some rest
+    else if is_flag word then None
+    else option_map (λ values. word ∷ values) (values_given rest)
+
+-- the first word, and the values that the words behind it give
+abbrev pub spelling_of : List (List ℕ) → Option (List (List ℕ))
+spelling_of [] = None
+spelling_of (name ∷ rest) = option_map (λ values. name ∷ values) (values_given rest)
+
+-- the letters of no kind whose bodies are files
+abbrev pub IsNoKind : List ℕ → Type 0
+IsNoKind letters = (kind : Kind) → kind ≢ Directory → letters ≢ kind_letters kind
+
+-- `identify`, of no kind
+abbrev pub NamesNoKind : List (List ℕ) → Type 0
+NamesNoKind words =
+    IsSomeAnd (subcommand_of program_app words) (λ given. (given.0 ≡ codes "identify") × IsSomeAnd (first_of (codes "kind") given.1) IsNoKind)

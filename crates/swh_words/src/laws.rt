@@ -1,7 +1,8 @@
 //! What holds of all words.
-ghost use Rattle.std.specs.Prelude.{◌≡◌, ◌<◌, ◌↔◌, ◌^◌, ℕ, List, length};
-ghost use Rattle.std.specs.List.{AllByRecursion};
-ghost use Rattle.swh_words.specs.Spelling.{IsPlain, spelled};
+ghost use Rattle.std.specs.Prelude.{◌≡◌, ◌≢◌, ◌<◌, ◌↔◌, ◌⊎◌, ◌^◌, ℕ, List, [], Some, length};
+ghost use Rattle.clap.specs.Words.{fault_of};
+ghost use Rattle.swh_words.specs.Definition.{program_app};
+ghost use Rattle.swh_words.specs.Spelling.{NamesNoKind, spelled, spelling_of};
 ghost use Rattle.swh_words.specs.Words.{Wanted, IsCommand, IsOffered};
 
 /// Words are one command at most.
@@ -9,7 +10,12 @@ pub fn one_command()
     ensures { (words : List (List ℕ)) (a b : Wanted) → IsCommand words a → IsCommand words b → a ≡ b }
 {}
 
-/// Fewer than 2^64 words, none of which begins with `-`, are a command exactly where they spell it and it is offered.
-pub fn plain_words()
-    ensures { (words : List (List ℕ)) (wanted : Wanted) → length words < 2 ^ 64 → AllByRecursion IsPlain words → IsCommand words wanted ↔ ((words ≡ spelled wanted) × IsOffered wanted) }
+/// Fewer than 2^64 words are a command exactly where they spell it and it is offered.
+pub fn spelled_words()
+    ensures { (words : List (List ℕ)) (wanted : Wanted) → length words < 2 ^ 64 → IsCommand words wanted ↔ ((spelling_of words ≡ Some (spelled wanted)) × IsOffered wanted) }
+{}
+
+/// Words are no command exactly where clap's definition of the program refuses them, or they name no kind whose bodies are files.
+pub fn refused_words()
+    ensures { (words : List (List ℕ)) → ((wanted : Wanted) → IsCommand words wanted → ⊥) ↔ ((fault_of program_app words ≢ []) ⊎ NamesNoKind words) }
 {}
