@@ -36,7 +36,10 @@ impl MemoryClock {
 }
 
 impl Clock for MemoryClock {
-    ghost use Rattle.swh_memory.specs.Parts.{clock_time, clock_faults};
+    ghost use Rattle.std.specs.Prelude.{◌+◌, IfOk, is_err};
+    ghost use Rattle.swh_outside.specs.Faults.{HasCause};
+    ghost use Rattle.swh_memory.specs.Parts.{clock_time, clock_tally, clock_faults};
+    ghost use Rattle.swh_memory.specs.Tally.{is_next_listed, answered};
 
     ghost tells = { Unit {0} };
 
@@ -44,7 +47,14 @@ impl Clock for MemoryClock {
 
     ghost faults = { clock_faults };
 
-    fn now(&mut self) -> Result<u64, Failed> {
+    fn now(&mut self) -> Result<u64, Failed>
+        ensures value { IfOk result (λ n. n ≡ clock_time self.old 0) }
+        ensures next { (k : ℕ) → clock_time self.new k ≡ clock_time self.old (k + 1) }
+        ensures cause { HasCause (clock_faults self.old) (clock_faults self.new) result }
+
+        ensures fails { is_err result ≡ is_next_listed (clock_tally self.old) }
+        ensures counted { clock_tally self.new ≡ answered (clock_tally self.old) }
+    {
         if self.failures.next_fails() {
             return Err(self.failures.refuse());
         }

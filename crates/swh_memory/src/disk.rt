@@ -151,7 +151,7 @@ impl MemoryDisk {
         requires { at ≤ length (memory_file self.old).seen }
         ensures ok { OnOk result (memory_file self.new ≡ begun (Write at bytes.now) (memory_file self.old)) }
         ensures err { OnErr result (IsBroken (Write at bytes.now) (memory_file self.old) (memory_file self.new)) }
-        ensures faults { disk_faults self.new ≡ disk_faults self.old }
+        ensures tally { disk_tally self.new ≡ disk_tally self.old }
     {
         let copy = bytes.to_vec(self.alloc)?;
         self.ranges.reserve(1)?;
@@ -165,7 +165,7 @@ impl MemoryDisk {
     fn begin_sync(&mut self) -> Result<(), AllocError>
         ensures ok { OnOk result (memory_file self.new ≡ begun Sync (memory_file self.old)) }
         ensures err { OnErr result (memory_file self.new ≡ memory_file self.old) }
-        ensures faults { disk_faults self.new ≡ disk_faults self.old }
+        ensures tally { disk_tally self.new ≡ disk_tally self.old }
     {
         self.calls.push(MemoryCall::Synced)?;
         Ok(())
@@ -173,7 +173,11 @@ impl MemoryDisk {
 }
 
 impl Disk for MemoryDisk {
-    ghost use Rattle.swh_memory.specs.Memory.{memory_file, disk_faults};
+    ghost use Rattle.std.specs.Prelude.{◌∷◌, IsErr, is_err};
+    ghost use Rattle.swh_outside.specs.Disk.{IsReadAt, Runs, Sync, Write};
+    ghost use Rattle.swh_outside.specs.Faults.{HasCause};
+    ghost use Rattle.swh_memory.specs.Memory.{memory_file, disk_tally, disk_faults};
+    ghost use Rattle.swh_memory.specs.Tally.{is_next_listed, answered, CountsCall};
     ghost use Rattle.swh_outside.proofs.Images.{recast};
     ghost use Rattle.std.specs.Prelude.{refl};
 
@@ -185,14 +189,29 @@ impl Disk for MemoryDisk {
 
     ghost sees_image = { λ disk told. recast _ _ _ refl refl refl disk.sees_image };
 
-    fn len(&mut self) -> Result<u64, Failed> {
+    fn len(&mut self) -> Result<u64, Failed>
+        ensures value { IfOk result (λ n. n ≡ length (memory_file self.old).seen) }
+        ensures same { memory_file self.new ≡ memory_file self.old }
+        ensures cause { HasCause (disk_faults self.old) (disk_faults self.new) result }
+
+        ensures fails { is_err result ≡ is_next_listed (disk_tally self.old) }
+        ensures counted { disk_tally self.new ≡ answered (disk_tally self.old) }
+    {
         if self.failures.next_fails() {
             return Err(self.failures.refuse());
         }
         Ok(self.bytes.len() as u64)
     }
 
-    fn read_at(&mut self, at: u64, out: &mut [u8]) -> Result<usize, Failed> {
+    fn read_at(&mut self, at: u64, out: &mut [u8]) -> Result<usize, Failed>
+        ensures bound { IfOk result (λ n. n ≤ length out.new) }
+        ensures bytes { IfOk result (λ n. IsReadAt (memory_file self.old).seen at n out.new) }
+        ensures same { memory_file self.new ≡ memory_file self.old }
+        ensures cause { HasCause (disk_faults self.old) (disk_faults self.new) result }
+
+        ensures fails { is_err result ≡ is_next_listed (disk_tally self.old) }
+        ensures counted { disk_tally self.new ≡ answered (disk_tally self.old) }
+    {
         if self.failures.next_fails() {
             return Err(self.failures.refuse());
         }
@@ -205,7 +224,14 @@ impl Disk for MemoryDisk {
         Ok(count)
     }
 
-    fn write_at(&mut self, at: u64, bytes: &[u8]) -> Result<(), Failed> {
+    fn write_at(&mut self, at: u64, bytes: &[u8]) -> Result<(), Failed>
+        requires { at ≤ length (memory_file self.old).seen }
+        ensures runs { Runs (Write at bytes.now ∷ []) (memory_file self.old) (memory_file self.new) result }
+        ensures cause { HasCause (disk_faults self.old) (disk_faults self.new) result }
+
+        ensures fails { IsTrue (is_next_listed (disk_tally self.old)) → IsErr result }
+        ensures counted { CountsCall (disk_tally self.old) (disk_tally self.new) }
+    {
         let fails = self.failures.next_fails();
         let at = at as usize;
         if !self.has_room(at + bytes.len()) {
@@ -223,7 +249,13 @@ impl Disk for MemoryDisk {
         }
     }
 
-    fn sync(&mut self) -> Result<(), Failed> {
+    fn sync(&mut self) -> Result<(), Failed>
+        ensures runs { Runs (Sync ∷ []) (memory_file self.old) (memory_file self.new) result }
+        ensures cause { HasCause (disk_faults self.old) (disk_faults self.new) result }
+
+        ensures fails { IsTrue (is_next_listed (disk_tally self.old)) → IsErr result }
+        ensures counted { CountsCall (disk_tally self.old) (disk_tally self.new) }
+    {
         let fails = self.failures.next_fails();
         if !self.has_room(0) {
             return Err(self.failures.refuse());

@@ -1,5 +1,5 @@
 // Doors in memory whose calls fail.
-ghost use Rattle.std.specs.Prelude.{◌≡◌, []};
+ghost use Rattle.std.specs.Prelude.{◌≡◌, [], IsErr};
 
 use crate::{Failures, MemoryLink};
 use std::alloc::Global;
@@ -31,7 +31,9 @@ impl MemoryDoors {
 }
 
 impl Doors for MemoryDoors {
-    ghost use Rattle.swh_memory.specs.Failing.{doors_faults};
+    ghost use Rattle.swh_memory.specs.Failing.{doors_faults, doors_tally};
+    ghost use Rattle.swh_memory.specs.Tally.{refused};
+    ghost use Rattle.swh_outside.specs.Causes.{HasOutCause};
 
     type L = MemoryLink;
 
@@ -43,11 +45,19 @@ impl Doors for MemoryDoors {
 
     ghost faults = { doors_faults };
 
-    fn bind(&mut self, _addr: &str) -> Result<(), OutFault> {
+    fn bind(&mut self, _addr: &str) -> Result<(), OutFault>
+        ensures fails { IsErr result }
+        ensures counted { doors_tally self.new ≡ refused (doors_tally self.old) }
+        ensures cause { HasOutCause (doors_faults self.old) (doors_faults self.new) result }
+    {
         Err(OutFault::from(self.failures.refuse()))
     }
 
-    fn accept(&mut self) -> Result<MemoryLink, OutFault> {
+    fn accept(&mut self) -> Result<MemoryLink, OutFault>
+        ensures fails { IsErr result }
+        ensures counted { doors_tally self.new ≡ refused (doors_tally self.old) }
+        ensures cause { HasOutCause (doors_faults self.old) (doors_faults self.new) result }
+    {
         Err(OutFault::from(self.failures.refuse()))
     }
 

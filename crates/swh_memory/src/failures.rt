@@ -23,7 +23,7 @@ impl Model for Failures {
 }
 
 impl Failures {
-    ghost use Rattle.swh_memory.specs.Tally.{fresh};
+    ghost use Rattle.swh_memory.specs.Tally.{fresh, is_next_listed, called, refused};
 
     /// The calls of these numbers will fail.
     pub fn at(failing: Vec<u64>) -> Self
@@ -38,8 +38,8 @@ impl Failures {
 
     /// Counts a call, and says whether it is to fail.
     pub fn next_fails(&mut self) -> bool
-        ensures fails { result ≡ list_any (λ n. n == self.old.calls) self.old.failing }
-        ensures counted { self.new ≡ record self.old { calls = min (self.old.calls + 1) (2 ^ 64 - 1) } }
+        ensures fails { result ≡ is_next_listed self.old }
+        ensures counted { self.new ≡ called self.old }
     {
         let fails = self.failing.contains(&self.calls);
         self.calls = self.calls.saturating_add(1);
@@ -48,7 +48,7 @@ impl Failures {
 
     /// Counts a failure.
     pub fn refuse(&mut self) -> Failed
-        ensures counted { self.new ≡ record self.old { faults = min (self.old.faults + 1) (2 ^ 64 - 1) } }
+        ensures counted { self.new ≡ refused self.old }
         ensures later { self.old.faults ≤ self.new.faults }
         ensures rose { Rose self.old.faults self.new.faults }
     {

@@ -1,5 +1,5 @@
 // A folder in memory whose calls fail.
-ghost use Rattle.std.specs.Prelude.{◌≡◌, [], string_bytes};
+ghost use Rattle.std.specs.Prelude.{◌≡◌, [], IsErr, string_bytes};
 
 use crate::{Failures, MemorySource};
 use std::alloc::Global;
@@ -42,7 +42,9 @@ impl MemoryFolder {
 }
 
 impl Folder for MemoryFolder {
-    ghost use Rattle.swh_memory.specs.Failing.{folder_path, folder_faults, untold};
+    ghost use Rattle.swh_memory.specs.Failing.{folder_path, folder_faults, folder_tally, untold};
+    ghost use Rattle.swh_memory.specs.Tally.{refused};
+    ghost use Rattle.swh_outside.specs.Causes.{HasOutCause};
 
     type S = MemorySource;
 
@@ -54,11 +56,21 @@ impl Folder for MemoryFolder {
 
     ghost faults = { folder_faults };
 
-    fn list(&mut self, _alloc: Global, _dir: &str) -> Result<Vec<Item>, OutFault> {
+    fn list(&mut self, _alloc: Global, _dir: &str) -> Result<Vec<Item>, OutFault>
+        ensures fails { IsErr result }
+        ensures counted { folder_tally self.new ≡ refused (folder_tally self.old) }
+        ensures cause { HasOutCause (folder_faults self.old) (folder_faults self.new) result }
+        ensures same_path { folder_path self.new ≡ folder_path self.old }
+    {
         Err(OutFault::from(self.failures.refuse()))
     }
 
-    fn read(&mut self, _path: &str) -> Result<MemorySource, OutFault> {
+    fn read(&mut self, _path: &str) -> Result<MemorySource, OutFault>
+        ensures fails { IsErr result }
+        ensures counted { folder_tally self.new ≡ refused (folder_tally self.old) }
+        ensures cause { HasOutCause (folder_faults self.old) (folder_faults self.new) result }
+        ensures same_path { folder_path self.new ≡ folder_path self.old }
+    {
         Err(OutFault::from(self.failures.refuse()))
     }
 

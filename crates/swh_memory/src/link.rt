@@ -1,5 +1,5 @@
 // A link in memory whose calls fail.
-ghost use Rattle.std.specs.Prelude.{◌≡◌, [], false};
+ghost use Rattle.std.specs.Prelude.{◌≡◌, [], IsErr, false};
 
 use crate::Failures;
 use std::alloc::Global;
@@ -31,7 +31,9 @@ impl MemoryLink {
 }
 
 impl Source for MemoryLink {
-    ghost use Rattle.swh_memory.specs.Failing.{link_faults};
+    ghost use Rattle.swh_memory.specs.Failing.{link_faults, link_tally};
+    ghost use Rattle.swh_memory.specs.Tally.{refused};
+    ghost use Rattle.swh_outside.specs.Faults.{HasCause};
 
     ghost tells = { ⊥ };
 
@@ -45,13 +47,19 @@ impl Source for MemoryLink {
 
     ghost path = { λ _. [] };
 
-    fn get(&mut self, _out: &mut [u8]) -> Result<usize, Failed> {
+    fn get(&mut self, _out: &mut [u8]) -> Result<usize, Failed>
+        ensures fails { IsErr result }
+        ensures counted { link_tally self.new ≡ refused (link_tally self.old) }
+        ensures cause { HasCause (link_faults self.old) (link_faults self.new) result }
+    {
         Err(self.failures.refuse())
     }
 }
 
 impl Sink for MemoryLink {
-    ghost use Rattle.swh_memory.specs.Failing.{link_faults};
+    ghost use Rattle.swh_memory.specs.Failing.{link_faults, link_tally};
+    ghost use Rattle.swh_memory.specs.Tally.{refused};
+    ghost use Rattle.swh_outside.specs.Faults.{HasCause};
 
     ghost tells = { ⊥ };
 
@@ -59,7 +67,11 @@ impl Sink for MemoryLink {
 
     ghost faults = { link_faults };
 
-    fn put(&mut self, _bytes: &[u8]) -> Result<(), Failed> {
+    fn put(&mut self, _bytes: &[u8]) -> Result<(), Failed>
+        ensures fails { IsErr result }
+        ensures counted { link_tally self.new ≡ refused (link_tally self.old) }
+        ensures cause { HasCause (link_faults self.old) (link_faults self.new) result }
+    {
         Err(self.failures.refuse())
     }
 }

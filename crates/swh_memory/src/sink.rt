@@ -48,7 +48,11 @@ impl MemorySink {
 }
 
 impl Sink for MemorySink {
-    ghost use Rattle.swh_memory.specs.Parts.{sink_bytes, sink_faults};
+    ghost use Rattle.std.specs.Prelude.{IsErr, IsTrue, OnOk};
+    ghost use Rattle.swh_outside.specs.Faults.{HasCause};
+    ghost use Rattle.swh_outside.specs.Sink.{IsPut};
+    ghost use Rattle.swh_memory.specs.Parts.{sink_bytes, sink_tally, sink_faults};
+    ghost use Rattle.swh_memory.specs.Tally.{is_next_listed, CountsCall};
 
     ghost tells = { Unit {0} };
 
@@ -56,7 +60,14 @@ impl Sink for MemorySink {
 
     ghost faults = { sink_faults };
 
-    fn put(&mut self, bytes: &[u8]) -> Result<(), Failed> {
+    fn put(&mut self, bytes: &[u8]) -> Result<(), Failed>
+        ensures bytes { IsPut (sink_bytes self.old) bytes.now (sink_bytes self.new) result }
+        ensures quiet { OnOk result (sink_faults self.new ≡ sink_faults self.old) }
+        ensures cause { HasCause (sink_faults self.old) (sink_faults self.new) result }
+
+        ensures fails { IsTrue (is_next_listed (sink_tally self.old)) → IsErr result }
+        ensures counted { CountsCall (sink_tally self.old) (sink_tally self.new) }
+    {
         let fails = self.failures.next_fails();
         let taken = if fails { bytes.len() / 2 } else { bytes.len() };
         if self.bytes.len() > self.room || taken > self.room - self.bytes.len() {

@@ -57,7 +57,11 @@ impl MemorySource {
 }
 
 impl Source for MemorySource {
-    ghost use Rattle.swh_memory.specs.Inputs.{source_left, source_given, source_ended, source_path, source_faults};
+    ghost use Rattle.std.specs.Prelude.{◌<◌, IfOk, OnOk, OnErr, is_err};
+    ghost use Rattle.swh_outside.specs.Faults.{HasCause};
+    ghost use Rattle.swh_outside.specs.Source.{IsGot, IsHeard};
+    ghost use Rattle.swh_memory.specs.Inputs.{source_left, source_given, source_ended, source_path, source_tally, source_faults};
+    ghost use Rattle.swh_memory.specs.Tally.{is_next_listed, answered};
 
     ghost tells = { Unit {0} };
 
@@ -71,7 +75,19 @@ impl Source for MemorySource {
 
     ghost path = { source_path };
 
-    fn get(&mut self, out: &mut [u8]) -> Result<usize, Failed> {
+    fn get(&mut self, out: &mut [u8]) -> Result<usize, Failed>
+        requires { 0 < length out.old }
+        ensures bound { IfOk result (λ n. n ≤ length out.new) }
+        ensures bytes { IfOk result (λ n. IsGot (source_left self.old) n out.new (source_left self.new)) }
+        ensures loses { OnErr result (source_left self.new ≡ source_left self.old) }
+        ensures heard { IsHeard (source_given self.old) (source_ended self.old) out.new (source_given self.new) (source_ended self.new) result }
+        ensures same_path { source_path self.new ≡ source_path self.old }
+        ensures quiet { OnOk result (source_faults self.new ≡ source_faults self.old) }
+        ensures cause { HasCause (source_faults self.old) (source_faults self.new) result }
+
+        ensures fails { is_err result ≡ is_next_listed (source_tally self.old) }
+        ensures counted { source_tally self.new ≡ answered (source_tally self.old) }
+    {
         if self.failures.next_fails() {
             return Err(self.failures.refuse());
         }

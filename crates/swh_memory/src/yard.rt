@@ -1,5 +1,5 @@
 // A yard in memory whose calls fail.
-ghost use Rattle.std.specs.Prelude.{◌≡◌, []};
+ghost use Rattle.std.specs.Prelude.{◌≡◌, [], IsErr};
 
 use crate::Failures;
 use std::alloc::Global;
@@ -31,7 +31,9 @@ impl MemoryYard {
 }
 
 impl Sink for MemoryYard {
-    ghost use Rattle.swh_memory.specs.Failing.{yard_faults};
+    ghost use Rattle.swh_memory.specs.Failing.{yard_faults, yard_tally};
+    ghost use Rattle.swh_memory.specs.Tally.{refused};
+    ghost use Rattle.swh_outside.specs.Faults.{HasCause};
 
     ghost tells = { ⊥ };
 
@@ -39,17 +41,33 @@ impl Sink for MemoryYard {
 
     ghost faults = { yard_faults };
 
-    fn put(&mut self, _bytes: &[u8]) -> Result<(), Failed> {
+    fn put(&mut self, _bytes: &[u8]) -> Result<(), Failed>
+        ensures fails { IsErr result }
+        ensures counted { yard_tally self.new ≡ refused (yard_tally self.old) }
+        ensures cause { HasCause (yard_faults self.old) (yard_faults self.new) result }
+    {
         Err(self.failures.refuse())
     }
 }
 
 impl Yard for MemoryYard {
-    fn folder(&mut self, _path: &str) -> Result<(), OutFault> {
+    ghost use Rattle.swh_memory.specs.Failing.{yard_faults, yard_tally};
+    ghost use Rattle.swh_memory.specs.Tally.{refused};
+    ghost use Rattle.swh_outside.specs.Causes.{HasOutCause};
+
+    fn folder(&mut self, _path: &str) -> Result<(), OutFault>
+        ensures fails { IsErr result }
+        ensures counted { yard_tally self.new ≡ refused (yard_tally self.old) }
+        ensures cause { HasOutCause (yard_faults self.old) (yard_faults self.new) result }
+    {
         Err(OutFault::from(self.failures.refuse()))
     }
 
-    fn file(&mut self, _path: &str) -> Result<(), OutFault> {
+    fn file(&mut self, _path: &str) -> Result<(), OutFault>
+        ensures fails { IsErr result }
+        ensures counted { yard_tally self.new ≡ refused (yard_tally self.old) }
+        ensures cause { HasOutCause (yard_faults self.old) (yard_faults self.new) result }
+    {
         Err(OutFault::from(self.failures.refuse()))
     }
 }

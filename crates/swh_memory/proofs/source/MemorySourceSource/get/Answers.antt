@@ -6,7 +6,7 @@ use Rattle.std.proofs.Math.Seq.{take-add}
 use Rattle.swh_memory.proofs.source.MemorySourceSource.get.Goals as goal
 
 pub returns-else-count-eq0-clause-heard : goal.returns-else-count-eq0-clause-heard
-returns-else-count-eq0-clause-heard c told =
+returns-else-count-eq0-clause-heard c =
     let bytes = c.args.self.now.bytes.items in
     let at = c.args.self.now.at in
     let n = c.min-count.result in
