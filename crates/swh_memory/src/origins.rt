@@ -66,6 +66,8 @@ impl MemoryOrigins {
 }
 
 impl Origins for MemoryOrigins {
+    ghost use Rattle.swh_outside.specs.Faults.{Rose};
+    ghost use Rattle.swh_outside.specs.Opened.{IsFailed};
     ghost use Rattle.swh_memory.specs.Outside.{origin_files, origin_faults, origin_path_faults};
 
     type S = MemorySource;
@@ -100,7 +102,15 @@ impl Origins for MemoryOrigins {
         }
     }
 
-    fn folder(&mut self, path: &str) -> Opened<MemoryFolder> {
+    fn folder(&mut self, path: &str) -> Opened<MemoryFolder>
+        ensures fails { IsFailed result }
+        ensures same_files { (p : List ℕ) → origin_files self.new p ≡ origin_files self.old p }
+
+        ensures later { origin_faults self.old ≤ origin_faults self.new }
+        ensures path_later { (p : List ℕ) → origin_path_faults self.old p ≤ origin_path_faults self.new p }
+        ensures cause { Rose (origin_faults self.old) (origin_faults self.new) }
+        ensures path_cause { Rose (origin_path_faults self.old path.now) (origin_path_faults self.new path.now) }
+    {
         self.refuse(path);
         Opened::Failed
     }
