@@ -1,5 +1,6 @@
 -- The maps in memory as the finite maps of the archive.
-use Rattle.std.specs.Prelude.{◌≡◌, ℕ, Some, List, map}
+use Rattle.std.specs.Prelude.{◌≡◌, ◌≢◌, ℕ, Some, List, [], map}
+use Rattle.std.specs.Borrow.{Bor}
 use Rattle.std.specs.Coded.{Coded, coded_ℕ, coded_list}
 use Rattle.std.specs.FinMap as finite
 use Rattle.swh_base.specs.contracts.name.Name as a_name
@@ -39,3 +40,8 @@ with_visits p = (p.0.items, p.1.items)
 
 abbrev pub origins_of : List (Vec ℕ × Vec Visit) → Origins
 origins_of es = finite.from_entries (map with_visits es)
+
+-- what is given are these visits, one or more
+pub record IsAll (visits : List Visit) (given : Bor (List Visit)) : Type 0 where
+  pub same : given.now ≡ visits
+  pub some : visits ≢ []

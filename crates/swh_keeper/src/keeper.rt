@@ -56,7 +56,7 @@ impl<N: Namer, D: Disk> Keeper<N, D> {
     ghost use Rattle.swh_model.specs.Archive.{body_of, visits_of};
     ghost use Rattle.swh_model.specs.Step.{IsHistory, replay};
     ghost use Rattle.swh_keeper.specs.Advance.{archive_of};
-    ghost use Rattle.swh_keeper.specs.Maps.{IsEntryOf};
+    ghost use Rattle.swh_keeper.specs.Maps.{IsAll, IsEntryOf};
     ghost use Rattle.swh_keeper.specs.Kept.{IsKept, Applies, Refuses};
     ghost use Rattle.swh_keeper.specs.Keeping.{IsCarriedOut, IsBrokenOff};
 
@@ -193,9 +193,9 @@ impl<N: Namer, D: Disk> Keeper<N, D> {
         self.replayed.bodies.get(name)
     }
 
-    /// The visits of an origin, where it was opened, unless the keeper is wounded.
+    /// The visits of an origin, one or more, where it was opened, unless the keeper is wounded.
     pub fn visits(&self, origin: &[u8]) -> Option<&[Visit]>
-        ensures { self.now.wounded ≡ None → MatchOption result (visits_of (replay self.now.history).origins origin.now ≡ []) (λ visits. visits.now ≡ visits_of (replay self.now.history).origins origin.now) }
+        ensures { self.now.wounded ≡ None → MatchOption result (visits_of (replay self.now.history).origins origin.now ≡ []) (IsAll (visits_of (replay self.now.history).origins origin.now)) }
     {
         self.replayed.visits.get(origin)
     }

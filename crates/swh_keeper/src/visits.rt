@@ -26,7 +26,7 @@ ghost use Rattle.std.specs.Prelude.{◌≡◌, ◌+◌, ◌-◌, ◌<◌, ◌≤
 ghost use Rattle.std.specs.FinMap as finite;
 ghost use Rattle.swh_model.specs.Archive.{visits_of};
 ghost use Rattle.swh_model.specs.Step.{opened, marked, marked_at, first_of};
-ghost use Rattle.swh_keeper.specs.Maps.{origins_of};
+ghost use Rattle.swh_keeper.specs.Maps.{IsAll, origins_of};
 
 fn push_opened(
     alloc: Global,
@@ -59,6 +59,17 @@ fn push_status(
     Ok(())
 }
 
+// The visits, where there are any.
+fn where_any(visits: &[Visit]) -> Option<&[Visit]>
+    ensures { MatchOption result (visits.now ≡ []) (IsAll visits.now) }
+{
+    if visits.is_empty() {
+        None
+    } else {
+        Some(visits)
+    }
+}
+
 impl OriginVisits {
     pub fn new(alloc: Global) -> OriginVisits
         ensures { result ≡ finite.empty }
@@ -68,12 +79,12 @@ impl OriginVisits {
         }
     }
 
-    /// The visits of an origin, where it was opened.
+    /// The visits of an origin, one or more, where it was opened.
     pub fn get(&self, origin: &[u8]) -> Option<&[Visit]>
-        ensures { MatchOption result (visits_of self.now origin.now ≡ []) (λ visits. visits.now ≡ visits_of self.now origin.now) }
+        ensures { MatchOption result (visits_of self.now origin.now ≡ []) (IsAll (visits_of self.now origin.now)) }
     {
         match self.by_origin.get(origin) {
-            Some(visits) => Some(visits.as_slice()),
+            Some(visits) => where_any(visits.as_slice()),
             None => None,
         }
     }
