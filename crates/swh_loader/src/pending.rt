@@ -18,7 +18,7 @@ pub struct Pending {
 }
 
 impl Pending {
-    ghost use Rattle.std.specs.Prelude.{◌≡◌, ◌≤◌, ◌+◌, ◌++◌, ◌∷◌, [], length, OnOk, IsTrue};
+    ghost use Rattle.std.specs.Prelude.{◌≡◌, ◌≤◌, ◌+◌, ◌++◌, ◌∷◌, ◌↔◌, [], length, OnOk, IsTrue};
     ghost use Rattle.std.specs.FinMap as finite;
     ghost use Rattle.swh_base.specs.Limits.{body_limit};
     ghost use Rattle.swh_model.specs.Step.{IsGood};
@@ -38,7 +38,7 @@ impl Pending {
 
     /// Says whether an entry of this name may join.
     pub fn has_room(&self, name: &Name) -> bool
-        ensures { IsTrue result → HasRoom self.now name.now }
+        ensures { IsTrue result ↔ HasRoom self.now name.now }
     {
         self.entries.len() < ENTRIES_LIMIT && self.bytes <= BYTES_LIMIT && !self.held.has(name)
     }
