@@ -1,4 +1,4 @@
--- A reply's text, and the JSON that stands behind it.
+-- A reply's text, and the JSON value that it is written from.
 use Rattle.std.specs.Prelude.{◌≡◌, ℕ, List, false, codes}
 use Rattle.swh_base.specs.declared.request.Reply.{Reply}
 use Rattle.swh_base.specs.declared.visit.Status.{Status}
@@ -9,6 +9,7 @@ use Rattle.serde_json.specs.View.{view}
 use Rattle.serde_json.specs.Written.{compact_text, has_float}
 use Rattle.serde_json.specs.declared.value.Value.{Value}
 
+-- a reply's status and body
 abbrev pub text_of : Reply → ReplyText
 text_of r = record { status = r.status; body = r.body }
 

@@ -24,7 +24,7 @@ pub trait Look {
         ensures { result.now ≡ visits_of (archive self.now).origins origin.now };
 }
 
-/// The reply to a GET of this path: an origin's visits, and 404 for every other path.
+/// The reply to a GET of this path: an origin's visits, and 404 for every other path. Fails where memory runs out.
 pub fn reply<L: Look>(alloc: Global, look: &L, path: &[u8]) -> Result<Reply, Memory>
     requires { L.can_look look.now }
     ensures text { IfOk result (λ r. IsReply (L.archive look.now) path.now (text_of r)) }
@@ -39,7 +39,7 @@ pub fn reply<L: Look>(alloc: Global, look: &L, path: &[u8]) -> Result<Reply, Mem
     }
 }
 
-/// The reply where nothing answers to a path: 404.
+/// The reply where nothing answers to a path: 404, with a JSON body. Fails where memory runs out.
 pub fn not_found(alloc: Global) -> Result<Reply, Memory>
     ensures text { IfOk result (λ r. text_of r ≡ not_found_text) }
     ensures json { IfOk result (λ r. r.json ≡ true) }

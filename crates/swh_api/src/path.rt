@@ -8,7 +8,8 @@ use std::alloc::Global;
 use swh_base::{Bytes, Memory};
 
 /// The origin whose visits the path asks for, percent-decoded: `/api/1/origin/<url>/visits/`, where a `?` and what
-/// follows it are ignored. A `%` without two hexadecimal digits stays as it is. Every other path asks for none.
+/// follows it are ignored. `%` and two hexadecimal digits stand for a byte (RFC 3986, percent-encoding), and a `%`
+/// without them stays as it is. Every other path asks for none. Fails where memory runs out.
 pub fn visits_origin(alloc: Global, path: &[u8]) -> Result<Option<Bytes>, Memory>
     ensures { IfOk result (IsVisitsOrigin path.now) }
 {

@@ -13,7 +13,8 @@ use std::alloc::{AllocError, Global};
 use swh_base::{Bytes, Memory, Reply, Status};
 use swh_model::Visit;
 
-/// The reply on an origin's visits, the latest first: 200 and a JSON array, or 404 where there is none.
+/// The reply on an origin's visits, which are handed in with the oldest first: 200 and a JSON array (RFC 8259) with the
+/// latest first, or 404 where there is none. Dates are in seconds since 1970. Fails where memory runs out.
 pub fn visits_reply(alloc: Global, origin: &[u8], visits: &[Visit]) -> Result<Reply, Memory>
     ensures text { IfOk result (λ r. text_of r ≡ reply_with origin.now visits.now) }
     ensures json { IfOk result (λ r. r.json ≡ true) }

@@ -4,6 +4,7 @@ ghost use Rattle.swh_model.specs.Answer.{visit_kind_word, status_word};
 
 use swh_base::{Status, VisitKind};
 
+/// The word of a visit's kind.
 pub fn kind_word(kind: VisitKind) -> &'static str
     ensures { result.now ≡ visit_kind_word kind }
 {
@@ -14,6 +15,7 @@ pub fn kind_word(kind: VisitKind) -> &'static str
     }
 }
 
+/// The word of a visit's status.
 pub fn status_word(status: Status) -> &'static str
     ensures { result.now ≡ status_word status }
 {

@@ -19,6 +19,7 @@ is_lower_hex_digit c = (nat_le 48 c && nat_le c 57) || (nat_le 97 c && nat_le c 
 abbrev pub IsIdText : List ℕ → Type 0
 IsIdText text = (length text ≡ 40) × AllPass is_lower_hex_digit text
 
+-- A number below 256.
 abbrev pub IsByte : ℕ → Type 0
 IsByte b = b < 256
 
@@ -26,6 +27,7 @@ IsByte b = b < 256
 abbrev pub IsId : List ℕ → Type 0
 IsId id = (length id ≡ 20) × AllByRecursion IsByte id
 
+-- The id has twenty bytes.
 abbrev pub IsName : Name → Type 0
 IsName n = IsId n.id
 
@@ -41,6 +43,7 @@ kind_number Snapshot = 5
 abbrev pub name_key : Name → List ℕ
 name_key n = kind_number n.kind ∷ n.id
 
+-- Names are compared by the kind, then by the id, byte by byte.
 abbrev pub name_cmp : Name → Name → Ordering
 name_cmp = on name_key (slice_cmp nat_cmp)
 

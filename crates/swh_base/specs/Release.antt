@@ -6,11 +6,13 @@ use Rattle.swh_base.specs.Kind.{word_of}
 use Rattle.swh_base.specs.Name.{IsName}
 use Rattle.swh_base.specs.Revision.{id_line}
 
+-- the object's name, the tag's name, and every byte after the line of the tag's name
 pub record Release : Type 0 where
   pub object : Name
   pub tag : List ℕ
   pub rest : List ℕ
 
+-- the lines `object`, `type` and `tag`, and the rest
 abbrev pub release_text : Release → List ℕ
 release_text r = id_line (codes "object ") r.object.id ++ (codes "type " ++ (word_of r.object.kind ++ 10 ∷ (codes "tag " ++ (r.tag ++ 10 ∷ r.rest))))
 

@@ -6,7 +6,7 @@ use Rattle.swh_base.specs.declared.kind.Kind.TheVariants.{Directory as Directory
 use Rattle.swh_base.specs.declared.name.Name.{Name}
 use Rattle.swh_base.specs.Name.{IsId}
 
--- the directory's id, the parents' ids in order, and every byte behind the last whole parent line
+-- the directory's id, the parents' ids in order, and every byte after the last whole parent line
 pub record Revision : Type 0 where
   pub directory : List ℕ
   pub parents : List (List ℕ)
@@ -16,9 +16,11 @@ pub record Revision : Type 0 where
 abbrev pub id_line : List ℕ → List ℕ → List ℕ
 id_line word id = word ++ (encode_lower id ++ 10 ∷ [])
 
+-- the line that names a parent
 abbrev pub parent_line : List ℕ → List ℕ
 parent_line id = id_line (codes "parent ") id
 
+-- the line `tree`, the lines of the parents, and the rest
 abbrev pub revision_text : Revision → List ℕ
 revision_text r = id_line (codes "tree ") r.directory ++ (flat_map parent_line r.parents ++ r.rest)
 
@@ -36,6 +38,7 @@ pub record IsRevision (body : List ℕ) (r : Revision) : Type 0 where
   pub parents : AllByRecursion IsId r.parents
   pub no_more : BeginsParent r.rest → ⊥
 
+-- the name of the revision with this id
 abbrev pub revision_name : List ℕ → Name
 revision_name id = record { kind = RevisionKind; id = id }
 

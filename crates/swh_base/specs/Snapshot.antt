@@ -14,6 +14,7 @@ pub data BranchTarget : Type 0 where
   ToBranch : List ℕ → BranchTarget
   ToNothing : BranchTarget
 
+-- a branch: its name and what it leads to
 pub record SnapshotBranch : Type 0 where
   pub name : List ℕ
   pub target : BranchTarget
@@ -26,11 +27,13 @@ target_kind_word Revision = codes "revision"
 target_kind_word Release = codes "release"
 target_kind_word Snapshot = codes "snapshot"
 
+-- the word that stands for what a branch leads to
 abbrev pub target_word : BranchTarget → List ℕ
 target_word (ToObject n) = target_kind_word n.kind
 target_word (ToBranch name) = codes "alias"
 target_word ToNothing = codes "dangling"
 
+-- the bytes that name what a branch leads to: an object's id, the other branch's name, or none
 abbrev pub target_bytes : BranchTarget → List ℕ
 target_bytes (ToObject n) = n.id
 target_bytes (ToBranch name) = name
@@ -42,11 +45,13 @@ IsTarget (ToObject n) = length n.id ≡ 20
 IsTarget (ToBranch name) = (name ≢ []) × (length name < 2 ^ 64)
 IsTarget ToNothing = Unit {0}
 
+-- The name has a byte and no NUL, and the target is one.
 pub record IsBranch (branch : SnapshotBranch) : Type 0 where
   pub not_empty : branch.name ≢ []
   pub no_nul : Contains branch.name 0 → ⊥
   pub target : IsTarget branch.target
 
+-- The first name comes before the second, byte by byte.
 abbrev pub BranchIsBefore : SnapshotBranch → SnapshotBranch → Type 0
 BranchIsBefore a b = slice_cmp nat_cmp a.name b.name ≡ Less
 
@@ -59,6 +64,7 @@ AreBranches (b ∷ bs) = IsBranch b × AllByRecursion (λ other. BranchIsBefore 
 abbrev pub branch_text : SnapshotBranch → List ℕ
 branch_text b = target_word b.target ++ 32 ∷ (b.name ++ 0 ∷ (decimal (length (target_bytes b.target)) ++ 58 ∷ target_bytes b.target))
 
+-- the texts of the branches, one after another
 abbrev pub snapshot_text : List SnapshotBranch → List ℕ
 snapshot_text branches = flat_map branch_text branches
 

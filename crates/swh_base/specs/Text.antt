@@ -4,6 +4,7 @@ use Rattle.std.specs.Prelude.{◌≡◌, ◌⊎◌, ℕ, ◌≤◌, ◌==◌, Bo
 use Rattle.std.specs.List.{AllPass}
 use Rattle.swh_base.specs.Limits.{ref_limit}
 
+-- `0` to `9`
 abbrev pub is_digit : ℕ → Bool
 is_digit c = nat_le 48 c && nat_le c 57
 
@@ -11,6 +12,7 @@ is_digit c = nat_le 48 c && nat_le c 57
 abbrev pub is_ref_byte : ℕ → Bool
 is_ref_byte c = nat_le 33 c && not (c == 127) && not (c == 94) && not (c == 58) && not (c == 126) && not (c == 63) && not (c == 42) && not (c == 91) && not (c == 92)
 
+-- one byte to 1,024 bytes of a ref
 pub record IsRef (text : List ℕ) : Type 0 where
   pub some : 1 ≤ length text
   pub short : length text ≤ ref_limit
@@ -25,6 +27,7 @@ abbrev pub named : Option (List ℕ) → List ℕ
 named None = []
 named (Some name) = name ++ 32 ∷ []
 
+-- `+` or `-`
 abbrev pub IsSign : ℕ → Type 0
 IsSign c = (c ≡ 43) ⊎ (c ≡ 45)
 

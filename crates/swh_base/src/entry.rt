@@ -1,3 +1,5 @@
+//! Artifacts as they are held: a name, a body and kids.
+
 use crate::memory::Memory;
 use crate::name::Name;
 use crate::shared::Shared;
@@ -6,14 +8,16 @@ use crate::shared::Shared;
 #[derive(Debug, Drop)]
 pub struct Entry {
     pub name: Name,
+    /// The bytes that the name's id is computed from, without the header.
     pub body: Shared<u8>,
+    /// The names in the order in which they stand in the body.
     pub kids: Shared<Name>,
 }
 
 impl Entry {
     ghost use Rattle.std.specs.Prelude.{◌≡◌, IfOk};
 
-    /// An equal entry that shares the body and the kids.
+    /// An equal entry that shares the body and the kids: no byte is copied. Fails where memory runs out.
     pub fn again(&self) -> Result<Entry, Memory>
         ensures { IfOk result (λ entry. entry ≡ self.now) }
     {

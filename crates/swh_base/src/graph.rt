@@ -1,3 +1,5 @@
+//! Bodies and the names that they name, as a graph.
+
 ghost use Rattle.std.specs.Prelude.{◌≡◌, List, Option, None, IfSome, IfNone};
 ghost use Rattle.swh_base.specs.declared.name.Name.{Name};
 

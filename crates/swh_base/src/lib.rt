@@ -1,6 +1,6 @@
 //! Names of artifacts by their bytes, and the public grammars of their bodies.
-//! Stands on `sha1` and `hex`.
-//! Above it may rely on: an id is the namer's value of kind and body; a body has one list of kids.
+//! Stands on `sha1`, `hex` and `itoa`.
+//! Callers may rely on: an id is the namer's value of kind and body; a body names one list of kids.
 #![tactic(auto)]
 
 mod bytes;

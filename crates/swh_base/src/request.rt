@@ -1,3 +1,5 @@
+//! Requests of the read API, and replies to them.
+
 use crate::bytes::Bytes;
 
 /// A request of the read API: an HTTP method, a path with what may follow a `?`, and a body.
@@ -13,7 +15,9 @@ pub struct Request {
 /// A reply of the read API: an HTTP status, and a body that is JSON or plain bytes.
 #[derive(Debug, Drop)]
 pub struct Reply {
+    /// The HTTP status: 200 where the request is answered.
     pub status: u16,
+    /// Whether the body is JSON (RFC 8259); else it is plain bytes.
     pub json: bool,
     pub body: Bytes,
 }

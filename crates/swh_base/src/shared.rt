@@ -1,3 +1,5 @@
+//! Items of several owners.
+
 use crate::memory::Memory;
 use std::marker::Model;
 use std::sync::ArcSlice;
@@ -20,7 +22,7 @@ impl<T: Drop> Model for Shared<T> {
 impl<T: Drop> Shared<T> {
     ghost use Rattle.std.specs.Prelude.{◌≡◌, IfOk};
 
-    /// Takes the items over without copying them.
+    /// Takes the items over without copying them. Fails where memory runs out, and the items are let go.
     pub fn from_vec(items: Vec<T>) -> Result<Shared<T>, Memory>
         ensures { IfOk result (λ s. s ≡ items.items) }
     {
@@ -28,13 +30,14 @@ impl<T: Drop> Shared<T> {
         Ok(Shared { items })
     }
 
+    /// The items where they lie.
     pub fn as_slice(&self) -> &[T]
         ensures { result.now ≡ self.now }
     {
         self.items.as_slice()
     }
 
-    /// An equal one that shares the items.
+    /// An equal one that shares the items: none is copied. Fails where memory runs out.
     pub fn again(&self) -> Result<Shared<T>, Memory>
         ensures { IfOk result (λ s. s ≡ self.now) }
     {

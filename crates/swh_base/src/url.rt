@@ -1,3 +1,5 @@
+//! URLs of origins.
+
 use crate::memory::Memory;
 use std::alloc::{AllocError, Global};
 use std::marker::Model;
@@ -7,6 +9,7 @@ use std::marker::Model;
 pub enum UrlFault {
     /// The text names no origin: it is empty, longer than 2,048 bytes, or has a byte below a space or DEL.
     BadUrl,
+    /// Memory ran out.
     Memory,
 }
 
@@ -41,7 +44,8 @@ impl Model for Url {
 ghost use Rattle.std.specs.Prelude.{◌↔◌, IsTrue};
 ghost use Rattle.swh_base.specs.Url.{IsUrl, is_url_byte};
 
-/// Says whether a text may name an origin.
+/// Whether a text may name an origin: 1 to 2,048 bytes, none below a space and no DEL. That it is a URI (RFC 3986) is
+/// not tested.
 pub fn is_url(text: &[u8]) -> bool
     ensures { IsTrue result ↔ IsUrl text.now }
 {
@@ -53,7 +57,7 @@ impl Url {
     ghost use Rattle.swh_base.specs.Url.{IsUrl};
     ghost use Rattle.swh_base.specs.declared.url.UrlFault.TheVariants.{BadUrl};
 
-    /// The URL of this text.
+    /// The URL of this text. Fails with `BadUrl` exactly where the text names no origin, and where memory runs out.
     pub fn new(alloc: Global, text: &str) -> Result<Url, UrlFault>
         ensures ok { IfOk result (λ url. url ≡ text.now) }
         ensures good { OnOk result (IsUrl text.now) }
@@ -66,6 +70,7 @@ impl Url {
         Ok(Url { text })
     }
 
+    /// The text, which names an origin.
     pub fn as_str(&self) -> &str
         ensures text { result.now ≡ self.now }
         ensures good { IsUrl self.now }
@@ -73,7 +78,7 @@ impl Url {
         self.text.as_str()
     }
 
-    /// An equal one.
+    /// An equal one with a text of its own. Fails where memory runs out.
     pub fn again(&self, alloc: Global) -> Result<Url, Memory>
         ensures { IfOk result (λ url. url ≡ self.now) }
     {

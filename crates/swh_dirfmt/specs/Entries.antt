@@ -6,18 +6,23 @@ use Rattle.swh_base.specs.Directory.{Entry, sort_key}
 use Rattle.swh_dirfmt.specs.declared.entry.DirEntry.{DirEntry}
 use Rattle.swh_dirfmt.specs.declared.entry.SpelledEntry.{SpelledEntry}
 
+-- an entry of its own, as the grammar's
 abbrev pub view : DirEntry → Entry
 view e = record { mode = e.mode; name = e.name; id = e.id }
 
+-- entries of their own, as the grammar's
 abbrev pub views : List DirEntry → List Entry
 views es = map view es
 
+-- an entry that stands in a body, as the grammar's
 abbrev pub entry_of : SpelledEntry → Entry
 entry_of e = record { mode = e.mode; name = e.name.now; id = e.id.now }
 
+-- entries that stand in a body, as the grammar's
 abbrev pub entries_of : List SpelledEntry → List Entry
 entries_of es = map entry_of es
 
+-- what an entry that stands in a body is compared by
 abbrev pub key_of : SpelledEntry → List ℕ
 key_of e = sort_key (entry_of e)
 

@@ -23,16 +23,19 @@ pub enum DirWhy {
     Order,
 }
 
-/// The first entry that breaks: the place of its first byte, and what is wrong with it.
+/// The first entry that breaks: the place of its first byte in the body, in bytes from 0, and what is wrong with it.
 #[derive(Clone, Copy, Debug, PartialEq, Eq)]
 pub struct BadDir {
     pub at: u64,
     pub why: DirWhy,
 }
 
+/// Why a body gives no entries.
 #[derive(Clone, Copy, Debug, PartialEq, Eq)]
 pub enum ReadDirFault {
+    /// Memory ran out.
     Memory,
+    /// The body is no directory.
     Bad(BadDir),
 }
 

@@ -1,6 +1,7 @@
 //! Directory manifests (git objects, tree): a body read into its entries, and written again, byte for byte.
-//! Stands on `swh_base`, whose grammar of directories it reads and writes, and on `swh_pieces`.
-//! Above it may rely on: exactly the grammar is read, a refusal names the first entry that breaks and why, and each list of entries has one spelling.
+//! Stands on `swh_base`, whose grammar of directories it reads and writes, on `swh_pieces` and on `itoa`.
+//! Callers may rely on: exactly the grammar is read, a refusal names the first entry that breaks and why, and each list
+//! of entries has one spelling.
 #![tactic(auto)]
 
 mod entries;

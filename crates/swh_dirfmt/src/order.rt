@@ -9,7 +9,7 @@ ghost use Rattle.swh_dirfmt.specs.Entries.{entry_of, entries_of, comes_before};
 
 use crate::entry::SpelledEntry;
 
-/// What a name is compared with behind it.
+/// What a name is compared with after its own bytes.
 fn suffix(mode: u32) -> &'static [u8]
     ensures { result.now ≡ suffix_of mode }
 {

@@ -34,7 +34,8 @@ fn next_entry<'a>(
     Ok((next, rest))
 }
 
-/// The entries as they stand in a directory's body, in time n log n of their number. No byte of it is copied.
+/// The entries as they stand in a directory's body, in time n log n of their number. No byte of it is copied. Fails
+/// with the first entry that breaks, or where memory runs out.
 pub fn spelled_dir(alloc: Global, body: &[u8]) -> Result<Vec<SpelledEntry<'_>>, ReadDirFault>
     ensures ok { IfOk result (λ list. IsDirectory body.now (entries_of list.items)) }
     ensures err { IfErr result (Explains body.now) }
@@ -76,7 +77,8 @@ fn read(alloc: Global, body: &[u8]) -> Result<Entries, ReadDirFault>
     Ok(Entries::of(list))
 }
 
-/// The entries of a directory's body, in time n log n of their number.
+/// The entries of a directory's body (git objects, tree), in time n log n of their number. Fails with the first entry
+/// that breaks, or where memory runs out.
 pub fn read_dir(alloc: Global, body: &[u8]) -> Result<Entries, ReadDirFault>
     // What is read is the body's entries.
     ensures ok { IfOk result (λ entries. IsDirectory body.now entries) }

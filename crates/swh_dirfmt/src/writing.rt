@@ -22,7 +22,7 @@ fn put_entry(out: &mut Vec<u8>, entry: &DirEntry) -> Result<(), Memory>
     Ok(())
 }
 
-/// The body that has these entries.
+/// The body that has these entries (git objects, tree). Fails where memory runs out.
 pub fn write_dir(alloc: Global, entries: &Entries) -> Result<Vec<u8>, Memory>
     ensures directory { IfOk result (λ body. IsDirectory body.items entries.now) }
     // What was read is written again, byte for byte.

@@ -6,9 +6,11 @@ use Rattle.swh_jobs.specs.declared.fault.JobsFault.{JobsFault}
 use Rattle.swh_jobs.specs.declared.fault.JobsFault.TheVariants.{Bad, Memory}
 use Rattle.swh_jobs.specs.declared.job.JobLine.{JobLine}
 
+-- a job of its own, as the grammar's
 abbrev pub job_of : JobLine → Job
 job_of line = record { url = line.url; path = string_bytes line.path; head = line.head }
 
+-- jobs of their own, as the grammar's
 abbrev pub jobs_of : List JobLine → List Job
 jobs_of lines = map job_of lines
 

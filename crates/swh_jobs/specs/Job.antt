@@ -23,6 +23,7 @@ pub record IsHead (head : List ℕ) : Type 0 where
   pub other : head ≢ codes "HEAD"
   pub utf8 : IsUtf8 head
 
+-- The URL is an origin's and is text, the path is a job's, and so is the head where one is named.
 pub record IsJob (job : Job) : Type 0 where
   pub is_url : IsUrl job.url
   pub utf8 : IsUtf8 job.url

@@ -9,6 +9,7 @@ use Rattle.swh_jobs.specs.declared.fault.JobWhy.TheVariants.{Form, Origin, Limit
 abbrev pub most_jobs : ℕ
 most_jobs = 256
 
+-- the URLs of the jobs, in their order
 abbrev pub origins : List Job → List (List ℕ)
 origins jobs = map (λ job. job.url) jobs
 
@@ -17,6 +18,7 @@ abbrev pub AreDistinct : List (List ℕ) → Type 0
 AreDistinct [] = Unit {0}
 AreDistinct (url ∷ urls) = (Contains urls url → ⊥) × AreDistinct urls
 
+-- Each is a job, no origin stands twice, and there are 256 at most.
 pub record AreJobs (jobs : List Job) : Type 0 where
   pub each : AllByRecursion IsJob jobs
   pub distinct : AreDistinct (origins jobs)

@@ -21,7 +21,7 @@ pub record IsFirstLine (bytes line rest : List ℕ) : Type 0 where
   pub one_line : Contains line 10 → ⊥
   pub text : (bytes ≡ line ++ 10 ∷ rest) ⊎ ((bytes ≡ line) × (rest ≡ []))
 
--- What is left of the bytes behind the lines of these jobs.
+-- What is left of the bytes after the lines of these jobs.
 abbrev pub IsLeft : List ℕ → List Job → List ℕ → Type 0
 IsLeft bytes jobs rest = (bytes ≡ lines_text jobs ++ rest) ⊎ ((rest ≡ []) × (bytes ++ 10 ∷ [] ≡ lines_text jobs))
 

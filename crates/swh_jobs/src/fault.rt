@@ -5,7 +5,7 @@ ghost use Rattle.swh_jobs.specs.declared.fault.JobsFault.TheVariants.{Memory as 
 use std::alloc::AllocFailed;
 use swh_base::Memory;
 
-/// What is wrong with a line.
+/// What is wrong with a line: `Limit` where it holds, else the first of the others that holds.
 #[derive(Clone, Copy, Debug, PartialEq, Eq)]
 pub enum JobWhy {
     /// It spells no job.
@@ -16,10 +16,12 @@ pub enum JobWhy {
     Limit,
 }
 
+/// Why bytes give no jobs.
 #[derive(Clone, Copy, Debug, PartialEq, Eq)]
 pub enum JobsFault {
-    /// The first line that breaks, counted from 1.
+    /// The bytes are no job file: the first line that breaks, counted from 1, and why it does.
     Bad { line: u64, why: JobWhy },
+    /// Memory ran out.
     Memory,
 }
 

@@ -13,7 +13,9 @@ use swh_base::{Bytes, Memory, Url, UrlFault};
 #[derive(Debug, Drop)]
 pub struct JobLine {
     pub url: Url,
+    /// 1 to 4,096 bytes without TAB and LF.
     pub path: String,
+    /// A ref other than `HEAD`.
     pub head: Option<Bytes>,
 }
 

@@ -109,7 +109,8 @@ fn may_end(head: Option<&[u8]>) -> bool
     }
 }
 
-/// The job that a line spells.
+/// The job that a line spells: `fast`, the URL, the path and, where one is named, the head, with TABs between. None
+/// where the line spells no job.
 pub fn spelled_line(line: &[u8]) -> Option<SpelledJob<'_>>
     requires { Contains line.now 10 → ⊥ }
     ensures some { IfSome result (λ job. IsLineOf line.now (spelled job)) }

@@ -16,10 +16,10 @@ use swh_pieces::split_at_byte;
 // A job file has no more lines.
 const MOST: usize = 256;
 
-/// No job file is longer: the kind, the URL, the path and the head of each line, with a byte behind each of them.
+/// No job file has more bytes: the kind, the URL, the path and the head of each line, with a byte after each of them.
 pub const LONGEST: usize = MOST * (4 + 1 + 2_048 + 1 + 4_096 + 1 + 1_024 + 1);
 
-// The line that bytes begin with, without its LF, and what stands behind it.
+// The line that bytes begin with, without its LF, and what stands after it.
 fn first_line(bytes: &[u8]) -> (&[u8], &[u8])
     ensures { IsFirstLine bytes.now result.0.now result.1.now }
 {
@@ -29,7 +29,7 @@ fn first_line(bytes: &[u8]) -> (&[u8], &[u8])
     }
 }
 
-// The job of the line that these bytes begin with, which may follow the jobs before it, and the bytes behind that line.
+// The job of the line that these bytes begin with, which may follow the jobs before it, and the bytes after that line.
 fn next_job<'a>(
     before: &[SpelledJob<'a>],
     origins: &mut BTreeSet<&'a [u8]>,
@@ -92,7 +92,9 @@ fn read_owned(alloc: Global, bytes: &[u8]) -> Result<Vec<JobLine>, JobsFault>
     Ok(all_owned(alloc, &jobs)?)
 }
 
-/// The jobs of a job file, in time n log n of its length.
+/// The jobs of a job file, in their order and in time n log n of its length: up to 256 lines, none of an origin that a
+/// line before it has. The LF of the last line may lack, and no bytes are no jobs. Fails with the first line that
+/// breaks, or where memory runs out.
 pub fn parse_jobs(alloc: Global, bytes: &[u8]) -> Result<Vec<JobLine>, JobsFault>
     // What is read is what the bytes spell.
     ensures ok { IfOk result (λ jobs. IsJobFile bytes.now (jobs_of jobs.items)) }

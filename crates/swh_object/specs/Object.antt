@@ -25,9 +25,11 @@ pub record IsObject (id_of : Kind → List ℕ → List ℕ) (e : Entry) : Type 
   pub named : e.name.id ≡ id_of e.name.kind e.body
   pub short : length e.body ≤ body_limit
 
+-- the kid of an entry that stands in a directory's body
 abbrev pub directory_kid : SpelledEntry → Option Name
 directory_kid e = kid_of (entries.entry_of e)
 
+-- the kid of a branch that stands in a snapshot's body
 abbrev pub snapshot_kid : SpelledBranch → Option Name
 snapshot_kid b = branch_kid (branches.branch_of b)
 

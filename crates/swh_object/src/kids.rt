@@ -141,7 +141,8 @@ fn snapshot_kids(alloc: Global, body: &[u8]) -> Result<Vec<Name>, ObjectFault>
     }
 }
 
-/// The kids of a body of this kind.
+/// The kids of a body of this kind, in its order. Fails with the place that the reader of the kind names, or where
+/// memory runs out.
 pub fn kids_of(alloc: Global, kind: Kind, body: &[u8]) -> Result<Vec<Name>, ObjectFault>
     ensures ok { IfOk result (λ kids. AreKids kind body.now kids.items) }
     ensures err { IfErr result (ExplainsBad kind body.now) }

@@ -1,3 +1,5 @@
+//! Objects, and how one is made of a body.
+
 use crate::fault::ObjectFault;
 use crate::kids::kids_of;
 use std::alloc::Global;
@@ -31,7 +33,10 @@ impl<N: Namer> Object<N> {
     ghost use Rattle.swh_base.specs.Manifest.{AreKids, IsWellFormed};
     ghost use Rattle.swh_object.specs.Object.{IsObject, IsMade, Explains};
 
-    /// The object of this kind and body. The body is not copied.
+    /// The object of this kind and body (SWHID v1.2, core identifiers). The body is not copied.
+    ///
+    /// Fails with `TooLong` where the body is longer than 67,108,864 bytes; with `BadBody` where it is not, and is none
+    /// of its kind; and where memory runs out.
     pub fn make(
         alloc: Global,
         namer: &N,
@@ -66,6 +71,7 @@ impl<N: Namer> Object<N> {
         })
     }
 
+    /// The kind, and the id that the namer gives for kind and body.
     pub fn name(&self) -> Name
         ensures name { result ≡ self.now.name }
         ensures good { IsObject N.id_of self.now }
@@ -73,6 +79,7 @@ impl<N: Namer> Object<N> {
         self.entry.name
     }
 
+    /// The bytes that the object was made of.
     pub fn body(&self) -> &[u8]
         ensures { result.now ≡ self.now.body }
     {

@@ -24,6 +24,7 @@ pub record IsEncoding (text : List ℕ) : Type 0 where
   pub one_line : Contains text 10 → ⊥
   pub short : length (text_line (codes "encoding ") text) ≤ line_limit
 
+-- a line of a word and a text, or nothing
 abbrev pub optional_line : List ℕ → Option (List ℕ) → List ℕ
 optional_line word None = []
 optional_line word (Some text) = text_line word text
@@ -35,6 +36,7 @@ pub record RevisionRest : Type 0 where
   pub encoding : Option (List ℕ)
   pub message : List ℕ
 
+-- the lines of author and committer, that of an encoding where there is one, an empty line and the message
 abbrev pub revision_rest : RevisionRest → List ℕ
 revision_rest r = text_line (codes "author ") r.author ++ (text_line (codes "committer ") r.committer ++ (optional_line (codes "encoding ") r.encoding ++ 10 ∷ r.message))
 
@@ -45,6 +47,7 @@ pub record IsRevisionRest (bytes : List ℕ) (r : RevisionRest) : Type 0 where
   pub committer : IsPersonLine (codes "committer ") r.committer
   pub encoding : IfSome r.encoding IsEncoding
 
+-- the directory's id, the parents' ids, and the rest
 pub record PlainRevision : Type 0 where
   pub directory : List ℕ
   pub parents : List (List ℕ)
@@ -66,6 +69,7 @@ pub record IsReleaseRest (bytes : List ℕ) (r : ReleaseRest) : Type 0 where
   pub text : bytes ≡ optional_line (codes "tagger ") r.tagger ++ 10 ∷ r.message
   pub tagger : IfSome r.tagger (λ text. IsPersonLine (codes "tagger ") text)
 
+-- the object's name, the tag's name, and the rest
 pub record PlainRelease : Type 0 where
   pub object : Name
   pub tag : List ℕ
@@ -99,12 +103,13 @@ pub record IsZone (text : List ℕ) : Type 0 where
   pub four : length digits ≡ 4
   pub zone_digits : AllPass is_digit digits
 
+-- 1 to 18 digits
 pub record IsSeconds (text : List ℕ) : Type 0 where
   pub some : 1 ≤ length text
   pub few : length text ≤ 18
   pub digits : AllPass is_digit text
 
--- what stands behind an email
+-- what stands after an email
 pub record IsDate (text : List ℕ) : Type 0 where
   pub seconds : List ℕ
   pub zone : List ℕ

@@ -17,16 +17,19 @@ use Rattle.swh_revfmt.specs.declared.fault.ReadRelFault.{ReadRelFault}
 use Rattle.swh_revfmt.specs.declared.fault.ReadRelFault.TheVariants.{Memory as RelMemory, Bad as RelBad}
 use Rattle.swh_revfmt.specs.Fault.{IsFault}
 
--- The parts without where they lie: in memory of their own, or in a body.
+-- the parts of a revision of their own, as the grammar's
 abbrev pub revision_of : Rev → Revision
 revision_of rev = record { directory = rev.directory; parents = rev.parents; rest = rev.rest }
 
+-- the parts of a release of their own, as the grammar's
 abbrev pub release_of : Rel → Release
 release_of rel = record { object = rel.object; tag = rel.tag; rest = rel.rest }
 
+-- the parts of a revision that stand in a body, as the grammar's
 abbrev pub revision_spelled : SpelledRev → Revision
 revision_spelled rev = record { directory = rev.directory; parents = rev.parents; rest = rev.rest.now }
 
+-- the parts of a release that stand in a body, as the grammar's
 abbrev pub release_spelled : SpelledRel → Release
 release_spelled rel = record { object = rel.object; tag = rel.tag.now; rest = rel.rest.now }
 
@@ -75,6 +78,7 @@ abbrev pub ExplainsRev : List ℕ → ReadRevFault → Type 0
 ExplainsRev body RevMemory = Unit {0}
 ExplainsRev body (RevBad bad) = IsFault RevisionKind body bad.at
 
+-- It is the place where the bytes cease to be those of a release, unless memory ran out.
 abbrev pub ExplainsRel : List ℕ → ReadRelFault → Type 0
 ExplainsRel body RelMemory = Unit {0}
 ExplainsRel body (RelBad bad) = IsFault ReleaseKind body bad.at
@@ -85,6 +89,7 @@ GivesRev (Ok rev) revision = revision_of rev ≡ revision
 GivesRev (Err RevMemory) revision = Unit {0}
 GivesRev (Err (RevBad bad)) revision = ⊥
 
+-- It gives these parts of a release, unless memory ran out.
 abbrev pub GivesRel : Result Rel ReadRelFault → Release → Type 0
 GivesRel (Ok rel) release = release_of rel ≡ release
 GivesRel (Err RelMemory) release = Unit {0}

@@ -9,27 +9,33 @@ ghost use Rattle.swh_revfmt.specs.declared.fault.ReadRelFault.TheVariants.{Memor
 use std::alloc::AllocFailed;
 use swh_base::Memory;
 
-/// How many bytes at the front some revision begins with.
+/// A body that is no revision: the longest front of it that some revision continues has this many bytes.
 #[derive(Clone, Copy, Debug, PartialEq, Eq)]
 pub struct BadRev {
     pub at: u64,
 }
 
-/// How many bytes at the front some release begins with.
+/// A body that is no release: the longest front of it that some release continues has this many bytes.
 #[derive(Clone, Copy, Debug, PartialEq, Eq)]
 pub struct BadRel {
     pub at: u64,
 }
 
+/// Why a body gives no parts of a revision.
 #[derive(Clone, Copy, Debug, PartialEq, Eq)]
 pub enum ReadRevFault {
+    /// Memory ran out.
     Memory,
+    /// The body is no revision.
     Bad(BadRev),
 }
 
+/// Why a body gives no parts of a release.
 #[derive(Clone, Copy, Debug, PartialEq, Eq)]
 pub enum ReadRelFault {
+    /// Memory ran out.
     Memory,
+    /// The body is no release.
     Bad(BadRel),
 }
 

@@ -13,23 +13,30 @@ use crate::revision::{SpelledRev, spelled_rev};
 use std::alloc::Global;
 use swh_base::{Bytes, Kind, Many, Memory, Name};
 
-/// The parts of a plain revision.
+/// The parts of a plain revision: one whose rest is an author, a committer, perhaps an encoding, and a message.
 #[derive(Drop)]
 pub struct PlainRev {
     pub directory: [u8; 20],
     pub parents: Many<[u8; 20]>,
+    /// A person and a date, `name <email> seconds +zone`, byte for byte; the committer likewise.
     pub author: Bytes,
     pub committer: Bytes,
+    /// The text of the line `encoding`, where there is one.
     pub encoding: Option<Bytes>,
+    /// Every byte after the empty line.
     pub message: Bytes,
 }
 
-/// The parts of a plain release.
+/// The parts of a plain release: one whose rest is perhaps a tagger, and a message.
 #[derive(Drop)]
 pub struct PlainRel {
+    /// Neither a directory nor a snapshot.
     pub object: Name,
+    /// 1 to 1,014 bytes of a ref.
     pub tag: Bytes,
+    /// A person and a date, byte for byte.
     pub tagger: Option<Bytes>,
+    /// Every byte after the empty line.
     pub message: Bytes,
 }
 
@@ -42,7 +49,8 @@ fn optional_bytes(alloc: Global, text: Option<&[u8]>) -> Result<Option<Bytes>, M
     }
 }
 
-/// The parts of the body where it is a plain revision.
+/// The parts of the body where it is a plain revision (git objects, commit), and none where it is not. Fails where
+/// memory runs out.
 pub fn plain_rev(alloc: Global, body: &[u8]) -> Result<Option<PlainRev>, Memory>
     ensures some { IfOk result (λ found. IfSome found (λ plain. IsPlainRevision body.now (plain_revision plain))) }
     ensures none { IfOk result (λ found. IfNone found ((plain : PlainRevision) → IsPlainRevision body.now plain → ⊥)) }
@@ -98,7 +106,8 @@ fn is_directory(kind: Kind) -> bool
     }
 }
 
-/// The parts of the body where it is a plain release.
+/// The parts of the body where it is a plain release (git objects, tag), and none where it is not. Fails where memory
+/// runs out.
 pub fn plain_rel(alloc: Global, body: &[u8]) -> Result<Option<PlainRel>, Memory>
     ensures some { IfOk result (λ found. IfSome found (λ plain. IsPlainRelease body.now (plain_release plain))) }
     ensures none { IfOk result (λ found. IfNone found ((plain : PlainRelease) → IsPlainRelease body.now plain → ⊥)) }

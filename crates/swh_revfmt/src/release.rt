@@ -15,7 +15,8 @@ use std::alloc::Global;
 use swh_base::{Bytes, Kind, Memory, Name};
 use swh_pieces::split_at_byte;
 
-/// The parts of a release. Its object is no snapshot.
+/// The parts of a release (git objects, tag): its object, which is no snapshot, the tag's name without LF, and every
+/// byte after the line of the tag's name.
 #[derive(Drop)]
 pub struct Rel {
     pub object: Name,
@@ -84,7 +85,8 @@ fn kind_from(bytes: &[u8]) -> Result<(Kind, &[u8]), usize>
     Err(revision.max(directory).max(content.max(release)))
 }
 
-/// The parts as they stand in a release's body. It takes no memory.
+/// The parts as they stand in a release's body. It takes no memory. Fails with the length in bytes of the longest
+/// front that some release continues.
 pub fn spelled_rel(body: &[u8]) -> Result<SpelledRel<'_>, BadRel>
     ensures ok { IfOk result (λ rel. IsRelease body.now (release_spelled rel)) }
     ensures err { IfErr result (λ bad. IsFault ReleaseKind body.now bad.at) }
@@ -122,7 +124,8 @@ fn read(alloc: Global, body: &[u8]) -> Result<Rel, ReadRelFault>
     }
 }
 
-/// The parts of a release's body.
+/// The parts of a release's body (git objects, tag). Fails with the length in bytes of the longest front that some
+/// release continues, or where memory runs out.
 pub fn read_rel(alloc: Global, body: &[u8]) -> Result<Rel, ReadRelFault>
     // What is read are the body's parts.
     ensures ok { IfOk result (λ rel. IsRelease body.now (release_of rel)) }
@@ -134,7 +137,8 @@ pub fn read_rel(alloc: Global, body: &[u8]) -> Result<Rel, ReadRelFault>
     read(alloc, body)
 }
 
-/// The text of these parts. It is the body of a release with these parts where the tag's name has no LF.
+/// The text of these parts. It is the body of a release with these parts where the tag's name has no LF. Fails where
+/// memory runs out.
 pub fn write_rel(alloc: Global, rel: &Rel) -> Result<Vec<u8>, Memory>
     requires { rel.now.object.kind ≢ Snapshot }
     ensures text { IfOk result (λ out. out.items ≡ release_text (release_of rel.now)) }

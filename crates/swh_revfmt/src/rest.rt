@@ -11,7 +11,7 @@ use swh_pieces::{behind, split_at_byte};
 /// The most bytes of a line, with its LF.
 const LINE_LIMIT: usize = 1_048_576;
 
-/// The text of a line behind its word, and the bytes after the line.
+/// The text of a line after its word, and the bytes after the line.
 #[derive(Drop)]
 struct TextLine<'a> {
     text: &'a [u8],
@@ -70,7 +70,7 @@ fn encoding_line(bytes: &[u8]) -> Option<TextLine<'_>>
     Some(line)
 }
 
-/// An optional line, and the message behind an empty line.
+/// An optional line, and the message after an empty line.
 #[derive(Drop)]
 struct Tail<'a> {
     text: Option<&'a [u8]>,
@@ -132,6 +132,7 @@ pub struct RevRest<'a> {
     pub message: &'a [u8],
 }
 
+/// The rest of a plain revision in these bytes; none where they are no such rest.
 pub fn revision_rest(bytes: &[u8]) -> Option<RevRest<'_>>
     ensures some { IfSome result (λ rest. IsRevisionRest bytes.now (rev_rest rest)) }
     ensures none { IfNone result ((rest : RevisionRest) → IsRevisionRest bytes.now rest → ⊥) }
@@ -160,6 +161,7 @@ pub struct RelRest<'a> {
     pub message: &'a [u8],
 }
 
+/// The rest of a plain release in these bytes; none where they are no such rest.
 pub fn release_rest(bytes: &[u8]) -> Option<RelRest<'_>>
     ensures some { IfSome result (λ rest. IsReleaseRest bytes.now (rel_rest rest)) }
     ensures none { IfNone result ((rest : ReleaseRest) → IsReleaseRest bytes.now rest → ⊥) }

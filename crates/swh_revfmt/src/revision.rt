@@ -12,7 +12,8 @@ use crate::place::line_place;
 use std::alloc::Global;
 use swh_base::{Bytes, Kind, Many, Memory, Name};
 
-/// The parts of a revision: as many parents as whole parent lines stand there, and every byte behind them.
+/// The parts of a revision (git objects, commit): the directory's id, the parents' ids, as many as whole parent lines
+/// stand there, and every byte after these lines.
 #[derive(Drop)]
 pub struct Rev {
     pub directory: [u8; 20],
@@ -43,7 +44,8 @@ fn parents_of(alloc: Global, bytes: &[u8]) -> Result<(Many<[u8; 20]>, &[u8]), Me
     Ok((Many::from_vec(parents), rest))
 }
 
-/// The parts of a revision's body, whose rest is not copied.
+/// The parts of a revision's body, whose rest is not copied. Fails with the length in bytes of the longest front that
+/// some revision continues, or where memory runs out.
 pub fn spelled_rev(alloc: Global, body: &[u8]) -> Result<SpelledRev<'_>, ReadRevFault>
     ensures ok { IfOk result (λ rev. IsRevision body.now (revision_spelled rev)) }
     ensures err { IfErr result (ExplainsRev body.now) }
@@ -77,7 +79,8 @@ fn read(alloc: Global, body: &[u8]) -> Result<Rev, ReadRevFault>
     })
 }
 
-/// The parts of a revision's body.
+/// The parts of a revision's body (git objects, commit). Fails with the length in bytes of the longest front that some
+/// revision continues, or where memory runs out.
 pub fn read_rev(alloc: Global, body: &[u8]) -> Result<Rev, ReadRevFault>
     // What is read are the body's parts.
     ensures ok { IfOk result (λ rev. IsRevision body.now (revision_of rev)) }
@@ -105,7 +108,8 @@ pub fn put_id_line(out: &mut Vec<u8>, word: &[u8], id: &[u8; 20]) -> Result<(), 
     Ok(())
 }
 
-/// The text of these parts. It is the body of a revision with these parts where the rest does not begin with a parent line.
+/// The text of these parts. It is the body of a revision with these parts where the rest does not begin with a parent
+/// line. Fails where memory runs out.
 pub fn write_rev(alloc: Global, rev: &Rev) -> Result<Vec<u8>, Memory>
     ensures text { IfOk result (λ out. out.items ≡ revision_text (revision_of rev.now)) }
     // What was read is written again, byte for byte.

@@ -118,7 +118,8 @@ fn rel_place(found: Result<Rel, ReadRelFault>) -> Option<u64> {
     }
 }
 
-/// Cut in the word, behind it, in the digits, before the line's end; a digit that is none, in upper case, or one too many.
+/// Cut in the word, after it, in the digits, before the line's end; a digit that is none, in upper case, or one too
+/// many.
 #[test]
 fn places_of_revisions(rt: HostRuntime) {
     let table = [
@@ -218,7 +219,7 @@ fn places_of_releases(rt: HostRuntime) {
 }
 
 /// What follows the last whole parent line is the rest, whatever it is: nothing, a parent line that is cut, that has an
-/// upper-case digit or one too many, that stands behind another line, or a second tree.
+/// upper-case digit or one too many, that stands after another line, or a second tree.
 #[test]
 fn good_revisions_that_look_bad(rt: HostRuntime) -> Result<(), Fail> {
     let table = [

@@ -8,24 +8,30 @@ use Rattle.swh_snpfmt.specs.declared.branch.SpelledTarget.{SpelledTarget}
 use Rattle.swh_snpfmt.specs.declared.branch.SpelledTarget.TheVariants.{Object as SpelledObject, Alias as SpelledAlias, Dangling as SpelledDangling}
 use Rattle.swh_snpfmt.specs.declared.branch.SpelledBranch.{SpelledBranch}
 
+-- a target of its own, as the grammar's
 abbrev pub target_view : Target → BranchTarget
 target_view (Object name) = ToObject name
 target_view (Alias name) = ToBranch name
 target_view Dangling = ToNothing
 
+-- a branch of its own, as the grammar's
 abbrev pub view : Branch → SnapshotBranch
 view b = record { name = b.name; target = target_view b.target }
 
+-- branches of their own, as the grammar's
 abbrev pub views : List Branch → List SnapshotBranch
 views bs = map view bs
 
+-- a target that stands in a body, as the grammar's
 abbrev pub target_spelled : SpelledTarget → BranchTarget
 target_spelled (SpelledObject kind id) = ToObject (record { kind = kind; id = id.now })
 target_spelled (SpelledAlias name) = ToBranch name.now
 target_spelled SpelledDangling = ToNothing
 
+-- a branch that stands in a body, as the grammar's
 abbrev pub branch_of : SpelledBranch → SnapshotBranch
 branch_of b = record { name = b.name.now; target = target_spelled b.target }
 
+-- branches that stand in a body, as the grammar's
 abbrev pub branches_of : List SpelledBranch → List SnapshotBranch
 branches_of bs = map branch_of bs

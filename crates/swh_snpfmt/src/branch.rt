@@ -1,15 +1,19 @@
+//! One branch of a snapshot, of its own or in a body.
+
 use swh_base::{Bytes, Kind, Name};
 
 /// What a branch leads to: an object, another branch by its name, or nothing.
 #[derive(Debug, Drop)]
 pub enum Target {
+    /// The object of this name, of any of the five kinds.
     Object(Name),
     /// Any bytes but none; whether a branch has this name is not tested.
     Alias(Bytes),
+    /// Nothing.
     Dangling,
 }
 
-/// A branch of a snapshot.
+/// A branch of a snapshot. Its name is any bytes without NUL, one or more.
 #[derive(Debug, Drop)]
 pub struct Branch {
     pub name: Bytes,

@@ -1,3 +1,5 @@
+//! The branches of a snapshot as one value.
+
 use crate::branch::Branch;
 use std::marker::Model;
 
@@ -32,6 +34,7 @@ impl Branches {
         Branches { list }
     }
 
+    /// The branches where they lie, in the order of the body.
     pub fn list(&self) -> &[Branch]
         ensures list { views result.now ≡ self.now }
         ensures good { AreBranches self.now }

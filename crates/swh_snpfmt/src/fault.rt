@@ -7,15 +7,18 @@ ghost use Rattle.swh_snpfmt.specs.declared.fault.ReadSnpFault.TheVariants.{Memor
 use std::alloc::AllocFailed;
 use swh_base::Memory;
 
-/// The place of the first byte of the first branch that breaks.
+/// The place of the first byte of the first branch that breaks, in bytes from 0.
 #[derive(Clone, Copy, Debug, PartialEq, Eq)]
 pub struct BadSnp {
     pub at: u64,
 }
 
+/// Why a body gives no branches.
 #[derive(Clone, Copy, Debug, PartialEq, Eq)]
 pub enum ReadSnpFault {
+    /// Memory ran out.
     Memory,
+    /// The body is no snapshot.
     Bad(BadSnp),
 }
 

@@ -11,7 +11,7 @@ use crate::number::number_of;
 use crate::target::target_from;
 use swh_pieces::split_at_byte;
 
-/// The bytes behind a length and a colon, as many as the length says, and what follows them.
+/// The bytes after a length and a colon, as many as the length says, and what follows them.
 fn sized(bytes: &[u8]) -> Option<(&[u8], &[u8])>
     ensures some { IfSome result (λ x. (bytes.now ≡ sized_text x.0.now ++ x.1.now) × (length x.0.now < 2 ^ 64)) }
     ensures none { IfNone result ((content rest : List ℕ) → length content < 2 ^ 64 → bytes.now ≡ sized_text content ++ rest → ⊥) }

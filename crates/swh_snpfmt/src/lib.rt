@@ -1,6 +1,7 @@
 //! Snapshot manifests (SWHID v1.2, core identifiers, snapshots): a body read into its branches, and written again, byte for byte.
-//! Stands on `swh_base`, whose grammar of snapshots it reads and writes, and on `swh_pieces`.
-//! Above it may rely on: exactly the grammar is read, a refusal names the first branch that breaks, and each list of branches has one spelling.
+//! Stands on `swh_base`, whose grammar of snapshots it reads and writes, on `swh_pieces` and on `itoa`.
+//! Callers may rely on: exactly the grammar is read, a refusal names the first branch that breaks, and each list of
+//! branches has one spelling.
 #![tactic(auto)]
 
 mod branch;

@@ -1,3 +1,5 @@
+//! Decimal numbers in a body.
+
 ghost use Rattle.std.specs.Prelude.{◌≡◌, ◌^◌, ◌<◌, ℕ, IfSome, IfNone, decimal};
 
 use itoa::Buffer;

@@ -50,7 +50,8 @@ fn next_branch<'a>(
     }
 }
 
-/// The branches as they stand in a snapshot's body, in linear time. No byte of it is copied.
+/// The branches as they stand in a snapshot's body, in linear time. No byte of it is copied. Fails with the place of
+/// the first branch that breaks, or where memory runs out.
 pub fn spelled_snp(alloc: Global, body: &[u8]) -> Result<Vec<SpelledBranch<'_>>, ReadSnpFault>
     ensures ok { IfOk result (λ list. IsSnapshot body.now (branches_of list.items)) }
     ensures err { IfErr result (Explains body.now) }
@@ -99,7 +100,8 @@ fn read(alloc: Global, body: &[u8]) -> Result<Branches, ReadSnpFault>
     Ok(Branches::of(list))
 }
 
-/// The branches of a snapshot's body.
+/// The branches of a snapshot's body (SWHID v1.2, core identifiers, snapshots), in linear time. Fails with the place of
+/// the first branch that breaks, or where memory runs out.
 pub fn read_snp(alloc: Global, body: &[u8]) -> Result<Branches, ReadSnpFault>
     // What is read is the body's branches.
     ensures ok { IfOk result (λ branches. IsSnapshot body.now branches) }

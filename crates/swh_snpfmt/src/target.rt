@@ -1,4 +1,4 @@
-//! Targets as they stand in a body: a word, and the bytes behind the length.
+//! Targets as they stand in a body: a word, and the bytes after the length.
 
 ghost use Rattle.std.specs.Prelude.{◌≡◌, ◌≢◌, [], length, IfSome, IfNone};
 ghost use Rattle.swh_base.specs.declared.kind.Kind.{Kind};
@@ -87,6 +87,7 @@ fn kind_word(kind: Kind) -> &'static [u8]
     }
 }
 
+/// The word of a target: an object's kind, `alias` or `dangling`.
 pub fn word_of(target: &Target) -> &'static [u8]
     ensures { result.now ≡ target_word (target_view target.now) }
 {
@@ -97,6 +98,7 @@ pub fn word_of(target: &Target) -> &'static [u8]
     }
 }
 
+/// The bytes of a target: an object's id, the other branch's name, or none.
 pub fn bytes_of(target: &Target) -> &[u8]
     ensures { result.now ≡ target_bytes (target_view target.now) }
 {

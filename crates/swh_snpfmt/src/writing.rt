@@ -26,7 +26,7 @@ fn put_branch(out: &mut Vec<u8>, branch: &Branch) -> Result<(), Memory>
     Ok(())
 }
 
-/// The body that has these branches.
+/// The body that has these branches (SWHID v1.2, core identifiers, snapshots). Fails where memory runs out.
 pub fn write_snp(alloc: Global, branches: &Branches) -> Result<Vec<u8>, Memory>
     ensures snapshot { IfOk result (λ body. IsSnapshot body.items branches.now) }
     // What was read is written again, byte for byte.

@@ -9,7 +9,7 @@ use Rattle.swh_swhid.specs.Front.{common, Chosen}
 use Rattle.swh_swhid.specs.declared.identifier.Place.{Place}
 use Rattle.swh_swhid.specs.declared.identifier.Place.TheVariants.{Text, Visit, Anchor}
 
--- the letters of a kind and the colon behind them
+-- the letters of a kind and the colon after them
 abbrev pub kind_word : Kind → List ℕ
 kind_word Content = codes "cnt:"
 kind_word Directory = codes "dir:"

@@ -36,10 +36,11 @@ pub record HasRange (least : ℕ) (text : List ℕ) : Type 0 where
   pub range : IsRange least first more
   pub spelled : text ≡ range_text first more
 
+-- `0` to `9`
 abbrev pub IsDigit : ℕ → Type 0
 IsDigit c = IsInRange 48 57 c
 
--- the number that the digits write behind those of another
+-- the number that the digits write after those of another
 abbrev pub read_on : ℕ → List ℕ → ℕ
 read_on n [] = n
 read_on n (c ∷ ds) = read_on (n * 10 + (c - 48)) ds
@@ -53,7 +54,7 @@ pub record GoesOn (least : ℕ) (digits : List ℕ) (value : ℕ) : Type 0 where
   pub is : value ≡ read_on 0 digits
   pub enough : least < (value + 1) * 10 ^ (18 - length digits)
 
--- No zero stands in front of other digits, and `0` alone only where the first is 0.
+-- No zero stands before other digits, and `0` alone only where the first is 0.
 abbrev pub ZerosAllow : ℕ → ℕ → ℕ → ℕ → Type 0
 ZerosAllow least value count c = (0 < count → 0 < value) × (count ≡ 0 → c ≡ 48 → least ≡ 0)
 

@@ -19,22 +19,26 @@ is_escaped c = nat_le c 32 || c == 37 || c == 59 || nat_le 127 c
 abbrev pub escaped : List ℕ → List ℕ
 escaped bytes = flat_map (λ c. if is_escaped c then percent_encode_byte c else c ∷ []) bytes
 
--- a qualifier behind its `;`, if there is one
+-- a qualifier after its `;`, if there is one
 abbrev pub said : Key → Option (List ℕ) → List ℕ
 said key None = []
 said key (Some value) = 59 ∷ (key_word key ++ value)
 
+-- a qualifier of a range after its `;`, if there is one
 abbrev pub said_range : Key → Option (ℕ × Option ℕ) → List ℕ
 said_range key None = []
 said_range key (Some range) = 59 ∷ (key_word key ++ range_text range.0 range.1)
 
+-- the core identifier, then what is said of origin, visit, anchor, path, lines and bytes
 abbrev pub printed : Swhid → List ℕ
 printed s =
     ((((((core_text s.core ++ said Origin (option_map escaped s.origin)) ++ said Visit (option_map core_text s.visit)) ++ said Anchor (option_map core_text s.anchor)) ++ said Path (option_map escaped s.path)) ++ said_range Lines s.lines) ++ said_range Bytes s.bytes)
 
+-- Each is a byte.
 abbrev pub AreBytes : List ℕ → Type 0
 AreBytes bytes = AllByRecursion IsByte bytes
 
+-- The first byte is a `/`.
 abbrev pub BeginsWithSlash : List ℕ → Type 0
 BeginsWithSlash [] = ⊥
 BeginsWithSlash (c ∷ bytes) = c ≡ 47

@@ -13,7 +13,7 @@ use Rattle.swh_swhid.specs.Core.{core_text, IsCore, HasCore}
 use Rattle.swh_swhid.specs.Number.{IsRange, HasRange, range_text}
 use Rattle.swh_swhid.specs.Text.{IsOriginText, IsPathText}
 
--- a qualifier's key and the `=` behind it
+-- a qualifier's key and the `=` after it
 abbrev pub key_word : Key → List ℕ
 key_word Origin = codes "origin="
 key_word Visit = codes "visit="
@@ -31,7 +31,7 @@ is_free s Path = is_none s.path
 is_free s Lines = is_none s.lines
 is_free s Bytes = is_none s.bytes
 
--- what stands behind a key
+-- what stands after a key
 abbrev pub IsValueText : Key → List ℕ → Type 0
 IsValueText Origin = IsOriginText
 IsValueText Visit = HasCore AsVisit
@@ -40,16 +40,19 @@ IsValueText Path = IsPathText
 IsValueText Lines = HasRange 1
 IsValueText Bytes = HasRange 0
 
+-- The text is a snapshot's core identifier, and the first becomes the second with it as the visit.
 pub record SaysVisit (text : List ℕ) (s t : Swhid) : Type 0 where
   pub name : Name
   pub core : IsCore AsVisit text name
   pub becomes : t ≡ record s { visit = Some name }
 
+-- The text is the core identifier of no content, and the first becomes the second with it as the anchor.
 pub record SaysAnchor (text : List ℕ) (s t : Swhid) : Type 0 where
   pub name : Name
   pub core : IsCore AsAnchor text name
   pub becomes : t ≡ record s { anchor = Some name }
 
+-- The text is a range of lines, from 1, and the first becomes the second with it.
 pub record SaysLines (text : List ℕ) (s t : Swhid) : Type 0 where
   pub first : ℕ
   pub more : Option ℕ
@@ -57,6 +60,7 @@ pub record SaysLines (text : List ℕ) (s t : Swhid) : Type 0 where
   pub spelled : text ≡ range_text first more
   pub becomes : t ≡ record s { lines = Some (first, more) }
 
+-- The text is a range of bytes, from 0, and the first becomes the second with it.
 pub record SaysBytes (text : List ℕ) (s t : Swhid) : Type 0 where
   pub first : ℕ
   pub more : Option ℕ
@@ -90,7 +94,7 @@ abbrev pub AddAll : List (List ℕ) → Swhid → Swhid → Type 0
 AddAll [] s t = s ≡ t
 AddAll (piece ∷ pieces) s t = (m : Swhid) × Adds s piece m × AddAll pieces m t
 
--- each piece behind a `;`
+-- each piece after a `;`
 abbrev pub pieces_text : List (List ℕ) → List ℕ
 pieces_text pieces = flat_map (λ piece. 59 ∷ piece) pieces
 
@@ -98,7 +102,7 @@ pieces_text pieces = flat_map (λ piece. 59 ∷ piece) pieces
 abbrev pub bare : Name → Swhid
 bare name = record { core = name; origin = None; visit = None; anchor = None; path = None; lines = None; bytes = None }
 
--- The text is a SWHID of this value: a core identifier, and qualifiers in any order, each behind a `;`.
+-- The text is a SWHID of this value: a core identifier, and qualifiers in any order, each after a `;`.
 pub record IsSwhid (text : List ℕ) (s : Swhid) : Type 0 where
   pub name : Name
   pub pieces : List (List ℕ)

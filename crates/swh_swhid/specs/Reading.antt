@@ -26,7 +26,7 @@ abbrev pub IsClosed : List ℕ → Type 0
 IsClosed [] = Unit {0}
 IsClosed (c ∷ text) = c ≡ 59
 
--- Pieces behind `;` that take the first value to the second.
+-- Pieces, each after a `;`, that take the first value to the second.
 pub record Tail (s : Swhid) (text : List ℕ) (t : Swhid) : Type 0 where
   pub pieces : List (List ℕ)
   pub spelled : text ≡ pieces_text pieces

@@ -5,11 +5,12 @@ ghost use Rattle.swh_swhid.specs.declared.fault.SwhidFault.TheVariants.{Memory a
 
 use swh_base::Memory;
 
+/// Why a text gives no value.
 #[derive(Clone, Copy, Debug, PartialEq, Eq)]
 pub enum SwhidFault {
     /// Memory ran out.
     Memory,
-    /// The text is no SWHID, and the longest front of it that one begins with has this many bytes.
+    /// The text is no SWHID, and the longest front of it that some SWHID begins with has this many bytes.
     BadText { at: u64 },
 }
 

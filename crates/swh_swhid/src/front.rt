@@ -18,7 +18,7 @@ pub fn shared(word: &[u8], text: &[u8]) -> usize
     word.len()
 }
 
-/// What stands behind the first bytes.
+/// What stands after the first bytes.
 pub fn behind(text: &[u8], count: usize) -> &[u8]
     requires { count ≤ length text.now }
     ensures { result.now ≡ drop count text.now }

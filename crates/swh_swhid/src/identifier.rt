@@ -32,7 +32,7 @@ fn accepts(place: Place, kind: Kind) -> bool
     }
 }
 
-/// The letters of the kind and the colon behind them.
+/// The letters of the kind and the colon after them.
 fn kind_word(kind: Kind) -> &'static [u8]
     ensures { result.now ≡ kind_word kind }
 {
@@ -129,8 +129,8 @@ pub fn read_core(place: Place, text: &[u8]) -> Result<Name, usize>
     }
 }
 
-/// The name whose core identifier the text is, which are the 50 bytes that `core_text` writes, without memory
-/// (SWHID v1.2, core identifiers).
+/// The name whose core identifier the text is, which are the 50 bytes that `core_text` writes; none where the text is
+/// anything else (SWHID v1.2, core identifiers). It takes no memory.
 pub fn parse_core(text: &[u8]) -> Option<Name>
     ensures some { IfSome result (λ name. IsName name × (text.now ≡ core_text name)) }
     ensures only { (name : Name) → IsName name → text.now ≡ core_text name → result ≡ Some name }

@@ -1,6 +1,6 @@
 //! SWHIDs as texts: core identifiers and qualifiers, read into values and printed (SWHID v1.2, ISO/IEC 18670).
-//! Stands on `swh_base` for names, on `percent_encoding` for escapes and on `itoa` for numbers.
-//! Above it may rely on: just the grammar is read, a text spells one value, a value has one printed text, and a refusal
+//! Stands on `swh_base` for names, on `percent_encoding` and `hex` for escapes and on `itoa` for numbers.
+//! Callers may rely on: just the grammar is read, a text spells one value, a value has one printed text, and a refusal
 //! names the longest front that goes on.
 #![tactic(auto)]
 

@@ -19,7 +19,7 @@ fn is_digit(c: u8) -> bool
     c >= b'0' && c <= b'9'
 }
 
-/// Whether zeros allow the byte: none stands in front of other digits, and `0` alone is at least `least`.
+/// Whether zeros allow the byte: none stands before other digits, and `0` alone is at least `least`.
 fn zeros_allow(least: u64, value: u64, count: usize, c: u8) -> bool
     ensures { IsTrue result ↔ ZerosAllow least value count c }
 {
@@ -38,7 +38,7 @@ fn reaches(least: u64, value: u64, left: u32) -> bool
     least / 10_u64.pow(left) <= value
 }
 
-/// Whether the byte may come behind these digits, on the way to a number of at least `least`.
+/// Whether the byte may come after these digits, on the way to a number of at least `least`.
 fn may_follow(least: u64, value: u64, count: usize, c: u8) -> bool
     requires { value < 10 ^ count }
     ensures { IsTrue result ↔ MayFollow least value count c }

@@ -1,4 +1,4 @@
-//! SWHID texts, piece by piece: a core identifier, and qualifiers behind `;`.
+//! SWHID texts, piece by piece: a core identifier, and qualifiers, each after a `;`.
 
 ghost use Rattle.std.specs.Prelude.{◌≡◌, ◌<◌, ◌≤◌, length, take, drop, true, false, IfOk, IfErr, IfSome, IfNone};
 ghost use Rattle.swh_swhid.specs.declared.swhid.Swhid.{Swhid};
@@ -64,7 +64,7 @@ fn free_key(swhid: &Swhid) -> Option<Key>
     }
 }
 
-/// Takes the qualifier behind the `;` here, and says where it ends.
+/// Takes the qualifier after the `;` here, and says where it ends.
 fn read_next(alloc: Global, swhid: &mut Swhid, text: &[u8], at: usize) -> Result<usize, SwhidFault>
     requires place { IsPlace text.now at swhid.old }
     requires within { at < length text.now }
@@ -108,7 +108,10 @@ fn read(alloc: Global, text: &[u8]) -> Result<Swhid, SwhidFault>
 /// The value that the text is a SWHID of (SWHID v1.2, core identifiers and qualified identifiers).
 ///
 /// The text is `swh:1:`, `cnt`, `dir`, `rev`, `rel` or `snp`, a colon and 40 lower-case digits; then qualifiers in any
-/// order, each once, as `;key=value`. The keys are `origin`, `visit`, `anchor`, `path`, `lines` and `bytes`.
+/// order, each once at most, as `;key=value`. The keys are `origin`, `visit`, `anchor`, `path`, `lines` and `bytes`. In
+/// origin and path `%` and two hexadecimal digits of either case stand for a byte (RFC 3986, percent-encoding).
+///
+/// Fails with the length in bytes of the longest front that some SWHID begins with, or where memory runs out.
 pub fn parse(alloc: Global, text: &[u8]) -> Result<Swhid, SwhidFault>
     // What is read is the text's value.
     ensures ok { IfOk result (λ swhid. IsSwhid text.now swhid) }

@@ -104,7 +104,8 @@ fn put_range(out: &mut Vec<u8>, key: Key, range: &Option<(u64, Option<u64>)>) ->
 /// (SWHID v1.2, qualified identifiers).
 ///
 /// In origin and path each byte up to a space, `%`, `;`, and each from 127 on is written as `%` and two upper-case
-/// digits. What is printed of a value that `parse` gives is a SWHID; of one with an empty origin, say, it is none.
+/// hexadecimal digits (RFC 3986, percent-encoding). What is printed of a value that `parse` gives is a SWHID; of one
+/// with an empty origin, say, it is none. Fails where memory runs out.
 pub fn print(alloc: Global, swhid: &Swhid) -> Result<Vec<u8>, Memory>
     ensures { IfOk result (λ text. text.items ≡ printed swhid.now) }
 {

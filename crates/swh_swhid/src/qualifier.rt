@@ -14,7 +14,7 @@ use crate::swhid::{Key, Swhid};
 use crate::text::{decode, read_origin, read_path};
 use std::alloc::Global;
 
-/// The key and the `=` behind it.
+/// The key and the `=` after it.
 pub fn key_word(key: Key) -> &'static [u8]
     ensures { result.now ≡ key_word key }
 {

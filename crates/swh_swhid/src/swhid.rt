@@ -5,6 +5,7 @@ use swh_base::{Bytes, Name};
 /// An artifact's name, and where it was seen (SWHID v1.2, qualified identifiers).
 #[derive(Debug, Drop)]
 pub struct Swhid {
+    /// The artifact that the text names.
     pub core: Name,
     /// The URL that it was loaded from, decoded: one byte or more.
     pub origin: Option<Bytes>,

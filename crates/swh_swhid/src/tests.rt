@@ -7,7 +7,7 @@ use swh_base::Kind;
 /// The core identifier of the empty content.
 const EMPTY: &[u8] = b"swh:1:cnt:e69de29bb2d1d6434b8b29ae775ad8c2e48c5391";
 
-/// The text with this behind the core identifier of the empty content.
+/// The text with this after the core identifier of the empty content.
 fn behind_empty(alloc: Global, tail: &[u8]) -> Result<Vec<u8>, AllocError> {
     let mut text = Vec::new(alloc);
     text.extend_from_slice(EMPTY)?;

@@ -14,9 +14,9 @@ use swh_base::{Bytes, Memory};
 #[derive(Clone, Copy)]
 pub enum Due {
     Nothing,
-    /// The second behind a `%`.
+    /// The second after a `%`.
     Second,
-    /// Both behind a `%`.
+    /// Both after a `%`.
     Both,
 }
 
@@ -32,7 +32,7 @@ fn is_text_byte(c: u8) -> bool
     c >= 33 && c != b';' && c != 127
 }
 
-/// What is due behind the byte, if it may stand here.
+/// What is due after the byte, if it may stand here.
 fn due_behind(due: Due, c: u8) -> Option<Due>
     ensures some { IfSome result (λ next. IsDueNext due c next) }
     ensures none { IfNone result ((y : List ℕ) → IsTextBehind due (c ∷ y) → ⊥) }
@@ -92,7 +92,7 @@ pub fn read_path(text: &[u8]) -> Result<(), usize>
     }
 }
 
-/// The bytes that a text stands for.
+/// The bytes that a text stands for (RFC 3986, percent-encoding). Fails where memory runs out.
 pub fn decode(alloc: Global, text: &[u8]) -> Result<Bytes, Memory>
     ensures { IfOk result (λ bytes. bytes ≡ percent_decode text.now) }
 {

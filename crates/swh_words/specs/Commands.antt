@@ -6,6 +6,7 @@ use Rattle.swh_words.specs.declared.command.WordsFault.{WordsFault}
 use Rattle.swh_words.specs.declared.command.WordsFault.TheVariants.{Words, Memory}
 use Rattle.swh_words.specs.Words.{Wanted, ToInit, ToLoad, ToAsk, ToIdentify}
 
+-- what a command asks for
 abbrev pub wanted_by : Command → Wanted
 wanted_by (Init dir) = ToInit dir.now
 wanted_by (Load dir jobs) = ToLoad dir.now jobs.now

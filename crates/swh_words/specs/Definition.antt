@@ -13,15 +13,19 @@ one_word id = record (new_rule id) { required = true }
 abbrev pub some_words : Text → Rule
 some_words id = record (one_word id) { range = Some (record { start_inclusive = 1; end_inclusive = usize_max }) }
 
+-- `init` and a folder
 abbrev pub init_app : App
 init_app = with_rule (new_app (codes "init")) (one_word (codes "dir"))
 
+-- `load`, a folder and a job file
 abbrev pub load_app : App
 load_app = with_rule (with_rule (new_app (codes "load")) (one_word (codes "dir"))) (one_word (codes "jobs"))
 
+-- `ask`, a folder, and one path or more
 abbrev pub ask_app : App
 ask_app = with_rule (with_rule (new_app (codes "ask")) (one_word (codes "dir"))) (some_words (codes "path"))
 
+-- `identify`, a kind and a path
 abbrev pub identify_app : App
 identify_app = with_rule (with_rule (new_app (codes "identify")) (one_word (codes "kind"))) (one_word (codes "path"))
 
@@ -35,9 +39,11 @@ bare_shape s = record s {
   subcommand_required = true;
 }
 
+-- a definition with that shape
 abbrev pub bare_app : App → App
 bare_app a = record a { top = bare_shape a.top }
 
+-- the program: its four subcommands
 abbrev pub program_app : App
 program_app =
     let bare = bare_app (new_app (codes "swharc")) in

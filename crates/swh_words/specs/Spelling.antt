@@ -14,16 +14,18 @@ spelled (ToLoad dir jobs) = codes "load" ∷ dir ∷ jobs ∷ []
 spelled (ToAsk dir paths) = codes "ask" ∷ dir ∷ paths
 spelled (ToIdentify kind path) = codes "identify" ∷ kind_letters kind ∷ path ∷ []
 
+-- one character or more
 abbrev pub is_nonempty : List ℕ → Bool
 is_nonempty [] = false
 is_nonempty (c ∷ rest) = true
 
--- the word is a `-` (45) with a character or more behind it
+-- the word is a `-` (45) with a character or more after it
 abbrev pub is_flag : List ℕ → Bool
 is_flag [] = false
 is_flag (b ∷ rest) = b == 45 && is_nonempty (chars rest)
 
--- The values that words give: each word is one but for the first `--`, behind which each word is. A flag before it gives none.
+-- The values that words give: each word is one but for the first `--`, after which each word is. A flag before it
+-- gives none.
 abbrev pub values_given : List (List ℕ) → Option (List (List ℕ))
 values_given [] = Some []
 values_given (word ∷ rest) =
@@ -31,7 +33,7 @@ values_given (word ∷ rest) =
     else if is_flag word then None
     else option_map (λ values. word ∷ values) (values_given rest)
 
--- the first word, and the values that the words behind it give
+-- the first word, and the values that the words after it give
 abbrev pub spelling_of : List (List ℕ) → Option (List (List ℕ))
 spelling_of [] = None
 spelling_of (name ∷ rest) = option_map (λ values. name ∷ values) (values_given rest)

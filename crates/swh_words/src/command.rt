@@ -15,15 +15,16 @@ pub enum Command<'a> {
     Load { dir: &'a str, jobs: &'a str },
     /// To ask the archive in a folder by paths, one or more.
     Ask { dir: &'a str, paths: Vec<&'a str> },
-    /// To name the bytes of a file as a body of a kind.
+    /// To name the bytes of a file as a body of a kind, which is no directory.
     Identify { kind: Kind, path: &'a str },
 }
 
 /// Why words give no command.
 #[derive(Clone, Copy, Debug, PartialEq, Eq)]
 pub enum WordsFault {
-    /// They are none.
+    /// They are no command.
     Words,
+    /// Memory ran out.
     Memory,
 }
 
@@ -35,7 +36,7 @@ impl From<AllocError> for WordsFault {
     }
 }
 
-/// The letters of a kind.
+/// The letters of a kind: `cnt`, `dir`, `rev`, `rel` or `snp` (SWHID v1.2, core identifiers, object types).
 pub fn letters_of(kind: Kind) -> &'static [u8]
     ensures { result.now ≡ kind_letters kind }
 {

@@ -66,7 +66,8 @@ fn bare_command<'a>(alloc: Global) -> Command<'a>
         .subcommand_required(true)
 }
 
-/// The program's definition.
+/// The program's definition for clap: `init`, `load`, `ask` and `identify`, with their words. Fails where memory runs
+/// out.
 pub fn program<'a>(alloc: Global) -> Result<Command<'a>, AllocError>
     ensures { IfOk result (IsDefinedAs program_app) }
 {

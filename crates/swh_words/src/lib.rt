@@ -1,6 +1,6 @@
 //! The words of a run, read by clap.
 //! Stands on `swh_base` and `clap`.
-//! Above it may rely on: words are a command exactly where clap's definition of the program takes them and gives its
+//! Callers may rely on: words are a command exactly where clap's definition of the program takes them and gives its
 //! values, and are one command at most. They are one exactly where they spell it, and none exactly where clap refuses
 //! them or they name no kind whose bodies are files.
 #![tactic(auto)]

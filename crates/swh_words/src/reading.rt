@@ -135,7 +135,8 @@ fn command_given<'a>(alloc: Global, matches: &ArgMatches<'a>) -> Result<Command<
     }
 }
 
-/// The command that the words are. Its texts are the words' own.
+/// The command that the words are, which are those after the program's name. Its texts are the words' own. Fails with
+/// `Words` where the words are no command, or where memory runs out.
 pub fn parse_words<'a>(alloc: Global, words: &'a [String]) -> Result<Command<'a>, WordsFault>
     ensures ok { IfOk result (λ command. IsCommand (map string_bytes words.now) (wanted_by command)) }
     ensures err { IfErr result (λ fault. fault ≡ Words → (wanted : Wanted) → IsCommand (map string_bytes words.now) wanted → ⊥) }
