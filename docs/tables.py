@@ -1,0 +1,175 @@
+#!/usr/bin/env python3
+"""Makes the tables of docs/MAP.md and docs/DEFINITIONS.md from crates.txt and the files of the crates.
+
+    docs/tables.py             writes both tables between their markers
+    docs/tables.py --check     writes nothing, and ends with 1 where a table is not what would be written
+
+Both name the listed definitions that have no comment above them.
+
+MAP has a row for each crate: the libraries that crates.txt says it stands on, and what the crate's first doc comment
+says that callers may rely on. DEFINITIONS lists, for each crate, the definitions of its specs/ that other crates cite,
+in contracts or in definitions of their own, and those that the clauses of `run` cite: each with its file and the
+comment above it.
+"""
+import pathlib
+import re
+import sys
+
+ROOT = pathlib.Path(__file__).resolve().parent.parent
+CRATES = ROOT / "crates"
+BEGIN = "<!-- docs/tables.py writes from here -->"
+END = "<!-- docs/tables.py writes to here -->"
+
+DEFINITION = re.compile(r" *(?:pub (record|data)|(?:abbrev|unfoldable) pub) +(\S+)")
+CONSTRUCTOR = re.compile(r" +(\S+) +:")
+USE = re.compile(r"\buse\s+Rattle\.(\w+)\.specs\.(\w+)(?:\.\{([^}]*)\}| as (\w+))?\s*;?$", re.MULTILINE)
+TOP_CALL = re.compile(r"^pub fn run\b", re.MULTILINE)
+
+
+def stands_on():
+    """The crates of crates.txt, each with the libraries that stand on its line, in their order."""
+    crates = {}
+    for line in (ROOT / "crates.txt").read_text().splitlines():
+        line = line.split("#")[0].strip()
+        if line:
+            name, libraries = line.split(":")
+            crates[name.split()[0]] = libraries.split()
+    return crates
+
+
+def in_layers(crates):
+    """The names of the crates, lowest first: a crate's layer is one above the highest that it stands on."""
+    layers = {}
+
+    def layer(name):
+        if name not in layers:
+            layers[name] = 1 + max((layer(below) for below in crates[name] if below in crates), default=0)
+        return layers[name]
+
+    return sorted(crates, key=lambda name: (layer(name), name))
+
+
+def doc_comment(crate):
+    """The first doc comment of a crate, as one line."""
+    source = CRATES / crate / "src"
+    root = source / "lib.rt" if (source / "lib.rt").exists() else source / "main.rt"
+    lines = []
+    for line in root.read_text().splitlines():
+        if not line.startswith("//!"):
+            break
+        lines.append(line[3:].strip())
+    return " ".join(lines)
+
+
+def relied_on(crate):
+    """What the doc comment says that callers may rely on; where it says nothing of that, what the crate is."""
+    text = doc_comment(crate)
+    promise = re.search(r"\bmay (?:rely on:?|use) (.*)$", text)
+    said = promise.group(1) if promise else text.split(". ")[0].rstrip(".") + "."
+    return said[:1].upper() + said[1:]
+
+
+def cell(text):
+    """A text as it stands in a table."""
+    return text.replace("|", "\\|")
+
+
+def map_rows(crates):
+    rows = ["| Crate | Stands on | What callers may rely on |", "|---|---|---|"]
+    for crate in in_layers(crates):
+        below = ", ".join(f"`{name}`" for name in crates[crate])
+        rows.append(f"| `{crate}` | {below} | {cell(relied_on(crate))} |")
+    return rows
+
+
+def comment_above(lines, index):
+    """The comment that stands right above a line, as one line."""
+    comment = []
+    while index > 0 and lines[index - 1].lstrip().startswith("--"):
+        index -= 1
+        comment.insert(0, lines[index].strip()[2:].strip())
+    return " ".join(comment)
+
+
+def definitions(crate):
+    """The definitions of a crate: a comment for each (file, name), and the name of the data of each constructor."""
+    comments, owners = {}, {}
+    for path in sorted((CRATES / crate / "specs").glob("*.antt")):
+        lines = path.read_text().splitlines()
+        data = None
+        for index, line in enumerate(lines):
+            definition = DEFINITION.match(line)
+            if definition:
+                data = definition.group(2) if definition.group(1) == "data" else None
+                comments[path.stem, definition.group(2)] = comment_above(lines, index)
+            elif line and not line.startswith(" "):
+                data = None
+            elif data and CONSTRUCTOR.match(line):
+                owners[path.stem, CONSTRUCTOR.match(line).group(1)] = data
+    return comments, owners
+
+
+def cited(crates):
+    """The (crate, file, name) that other crates cite, in contracts or definitions, or the clauses of `run`."""
+    names = set()
+    for crate in crates:
+        folder = CRATES / crate
+        for path in [*(folder / "src").glob("**/*.rt"), *(folder / "specs").glob("*.antt")]:
+            text = path.read_text()
+            for owner, file, items, alias in USE.findall(text):
+                if owner == crate and not TOP_CALL.search(text):
+                    continue
+                if items:
+                    names |= {(owner, file, item.split(" as ")[0].strip()) for item in items.split(",")}
+                else:
+                    names |= {(owner, file, name) for name in re.findall(rf"\b{alias or file}\.([\w-]+)", text)}
+    return names
+
+
+def definition_rows(crates):
+    """The tables of the definitions, and those of them that have no comment."""
+    names = cited(crates)
+    rows, bare = [], []
+    for crate in in_layers(crates):
+        comments, owners = definitions(crate)
+        wanted = {(file, owners.get((file, name), name)) for owner, file, name in names if owner == crate}
+        listed = [entry for entry in comments if entry in wanted]
+        if listed:
+            rows += ["", f"## `{crate}`", "", "| Definition | File | What it says |", "|---|---|---|"]
+        for file, name in listed:
+            said = comments[file, name]
+            rows.append(f"| `{name}` | `{file}.antt` | {cell(said[:1].upper() + said[1:])} |")
+            if not said:
+                bare.append(f"crates/{crate}/specs/{file}.antt: {name}")
+    return rows[1:], bare
+
+
+def rewritten(text, rows):
+    """A document's text with these rows between its markers."""
+    before, rest = text.split(BEGIN)
+    after = rest.split(END)[1]
+    return before + "\n".join([BEGIN, "", *rows, "", END]) + after
+
+
+def main():
+    check = sys.argv[1:] == ["--check"]
+    if sys.argv[1:] and not check:
+        sys.exit(__doc__)
+    crates = stands_on()
+    listed, bare = definition_rows(crates)
+    differ = False
+    for name, rows in (("MAP.md", map_rows(crates)), ("DEFINITIONS.md", listed)):
+        path = ROOT / "docs" / name
+        old = path.read_text()
+        new = rewritten(old, rows)
+        if old != new and check:
+            differ = True
+            print(f"docs/{name} is not what docs/tables.py writes")
+        elif old != new:
+            path.write_text(new)
+    for name in bare:
+        print(f"no comment above {name}")
+    sys.exit(1 if differ else 0)
+
+
+main()
