@@ -37,7 +37,7 @@ escape-visit_kind_word Batch = refl
 
 -- ---- a visit
 
--- the quotes that end two words go to the text behind them
+-- the quotes that end two words go to the text after them
 quotes-moved : (date origin snapshot word kind number : List ℕ)
     → codes "{\"date\":" ++ (date ++ (codes ",\"origin\":" ++ (origin ++ (codes ",\"snapshot\":" ++ (snapshot ++ (codes ",\"status\":\"" ++ ((word ++ 34 ∷ []) ++ (codes ",\"type\":\"" ++ ((kind ++ 34 ∷ []) ++ (codes ",\"visit\":" ++ (number ++ codes "}")))))))))))
     ≡ codes "{\"date\":" ++ (date ++ (codes ",\"origin\":" ++ (origin ++ (codes ",\"snapshot\":" ++ (snapshot ++ (codes ",\"status\":\"" ++ (word ++ (codes "\",\"type\":\"" ++ (kind ++ (codes "\",\"visit\":" ++ (number ++ codes "}")))))))))))
@@ -103,7 +103,7 @@ AreWrittenAs-more f all vs i n v x h less is next k =
     let more : take n all ≡ take i all ++ x ∷ [] = ap (λ (m : ℕ). take m all) next ∙ take_more all i x less ∙ ap (λ (y : Visit). take i all ++ y ∷ []) (sym is) in
     rw (more, map-append) (AreWrittenAs-push vs (map f (take i all)) v (f x) h k)
 
--- the values that go on, each behind a comma
+-- the values that go on, each after a comma
 later_items : (v : Value) (vs : List Value) (t : List ℕ) (ts : List (List ℕ)) → IsWrittenAs v t → AreWrittenAs vs ts
     → compact_text (view v) ++ items_text true (items_view vs) ≡ join_with_byte 44 (t ∷ ts) ++ 93 ∷ []
 later_items v [] t [] h k = ap (λ (s : List ℕ). s ++ 93 ∷ []) h.text_is

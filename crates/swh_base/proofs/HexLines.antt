@@ -24,7 +24,7 @@ hex-injective a b ha hb e =
 pub length-hex : (a b : List ℕ) → length a ≡ length b → length (encode_lower a) ≡ length (encode_lower b)
 length-hex a b e = length-encode_with lower_digits a ∙ ap (λ n. 2 * n) e ∙ sym (length-encode_with lower_digits b)
 
--- a line and what follows, cut behind the word and behind the digits
+-- a line and what follows, cut after the word and after the digits
 pub line_then : (word id x : List ℕ) → id_line word id ++ x ≡ word ++ (encode_lower id ++ 10 ∷ x)
 line_then word id x = append_assoc word (encode_lower id ++ 10 ∷ []) x ∙ ap (λ (t : List ℕ). word ++ t) (append_assoc (encode_lower id) (10 ∷ []) x)
 

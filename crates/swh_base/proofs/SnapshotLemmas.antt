@@ -23,7 +23,7 @@ word-no_space (ToObject n) = kind_word-no_space n.kind
 word-no_space (ToBranch name) = absent 32 (codes "alias") refl
 word-no_space ToNothing = absent 32 (codes "dangling") refl
 
--- what a word and the bytes behind it say: length and first byte tell the words apart
+-- what a word and the bytes after it say: length and first byte tell the words apart
 abbrev target_from : List ℕ → List ℕ → BranchTarget
 target_from word bytes =
     if length word == 5 then ToBranch bytes

@@ -18,7 +18,7 @@ here t a x s e = subst (λ (l : List ℕ). Contains l s) (sym e) (in_middle a x 
 pub passes_not : (test : ℕ → Bool) (xs : List ℕ) (c : ℕ) → AllPass test xs → (test c ≡ true → ⊥) → Contains xs c → ⊥
 passes_not test xs c all fails h = fails (subst (λ (d : ℕ). test d ≡ true) h.2 (all h.0 c h.1))
 
--- what stands behind the kind
+-- what stands after the kind
 pub behind_kind : (line rest : List ℕ) → line ≡ codes "fast" ++ 9 ∷ rest → (job : Job) → line ≡ line_text job → rest ≡ job.url ++ 9 ∷ (job.path ++ head_text job.head)
 behind_kind line rest e job h = let all = sym e ∙ h in cc
 

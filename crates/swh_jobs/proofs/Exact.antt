@@ -30,7 +30,7 @@ same_lines jobs others h k e = by_more (read_on jobs others [] h k (append-nil (
     by_more ([], all, none) = sym (append-nil jobs) ∙ sym all
     by_more (m ∷ more, all, none) = absurd (lines-not_nil m more none)
 
--- an LF behind whole lines is no line of a job
+-- an LF after whole lines is no line of a job
 no_feed_behind : (jobs others : List Job) → AllByRecursion IsJob jobs → AllByRecursion IsJob others → lines_text jobs ++ 10 ∷ [] ≡ lines_text others → ⊥
 no_feed_behind jobs others h k e = let on = read_on jobs others (10 ∷ []) h k e in feed-no_lines on.0 on.2
 

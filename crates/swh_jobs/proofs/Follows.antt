@@ -22,7 +22,7 @@ distinct-push [] url h fresh = (λ c. let l = c.1 in absurd (omega (arith, l)), 
 distinct-push (u ∷ urls) url h fresh =
     (λ c. ⊎_elim h.0 (λ (e : url ≡ u). fresh (head_in u url urls (sym e))) (Contains-push_cases urls url u c), distinct-push urls url h.1 (λ c. fresh (tail_in u url urls c)))
 
--- what stands behind others is none of them
+-- what stands after others is none of them
 distinct-fresh : (urls : List (List ℕ)) (url : List ℕ) (more : List (List ℕ)) → AreDistinct (urls ++ url ∷ more) → Contains urls url → ⊥
 distinct-fresh [] url more h c = let l = c.1 in absurd (omega (arith, l))
 distinct-fresh (u ∷ urls) url more h (zero, l, e) = h.0 (there urls)

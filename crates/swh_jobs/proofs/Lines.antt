@@ -1,4 +1,4 @@
--- Lines of jobs, one behind another.
+-- Lines of jobs, one after another.
 use Rattle.std.proofs.Common.{◌≡◌, ◌≢◌, inl, inr, ⊎_elim, ℕ, zero, suc, Option, Some, None, List, [], ◌∷◌, ◌++◌, Contains, refl, sym, ap, ◌∙◌, subst, arith, append_assoc, codes}
 use Rattle.std.proofs.lemmas.List.{append-nil}
 use Rattle.std.specs.List.{AllByRecursion}
@@ -74,7 +74,7 @@ read_more bytes jobs job rest behind left more first = ⊎_elim by_cut (λ (end 
     by_cut : bytes ≡ lines_text jobs ++ rest → IsLeft bytes (jobs ++ job ∷ []) behind
     by_cut e = ⊎_elim (fed e) (unfed e) first.text
 
--- what stands behind the first line
+-- what stands after the first line
 pub first-ends : (bytes line rest : List ℕ) → IsFirstLine bytes line rest → (behind : List ℕ) × (bytes ≡ line ++ behind) × EndsLine behind
 first-ends bytes line rest h = ⊎_elim fed unfed h.text
   where

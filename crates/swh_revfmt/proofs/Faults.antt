@@ -59,7 +59,7 @@ revision_fault body n never p = record {
       p.longest m kids.revision.directory h.more (flat_map parent_line kids.revision.parents ++ kids.revision.rest) lt within kids.is.directory kids.is.text;
 }
 
--- a release, cut behind its kind's line
+-- a release, cut after its kind's line
 pub release_then : (r : Release) → release_text r ≡ id_line (codes "object ") r.object.id ++ (type_text r.object.kind ++ (r.tag ++ 10 ∷ r.rest))
 release_then r = ap (λ (t : List ℕ). id_line (codes "object ") r.object.id ++ t) (sym (type_then r.object.kind (r.tag ++ 10 ∷ r.rest)))
 

@@ -61,7 +61,7 @@ place_in_word word bytes n c lt = record {
   longest = λ m other others rest more within is e. c.stops lt (omega arith) (front_at bytes others (id_line word other ++ rest) m n more within e ∙ in_word word other rest n lt);
 }
 
--- the bytes behind the whole word
+-- the bytes after the whole word
 pub behind_word : (word bytes : List ℕ) (n : ℕ) → IsCommonFront word bytes n → length word ≤ n → bytes ≡ word ++ drop n bytes
 behind_word word bytes n c le =
     let size : n ≡ length word = let most = c.in_line in omega arith in
@@ -73,7 +73,7 @@ some_digits digits d f =
     let few = f.few in
     (omega (arith, length-append (take d digits) (replicate (40 - d) 48), length-take-le d digits f.in_bytes, length-replicate {A = ℕ} (40 - d) 48), All-append (λ c. is_lower_hex_digit c ≡ true) (take d digits) (replicate (40 - d) 48) f.digits (All-replicate (λ c. is_lower_hex_digit c ≡ true) (40 - d) 48 refl))
 
--- the bytes break behind the word
+-- the bytes break after the word
 pub place_in_digits : (word digits : List ℕ) (d : ℕ) → IsDigitsFront digits d → NotLine word (word ++ digits) → IsLinePlace word (word ++ digits) (length word + d)
 place_in_digits word digits d f never =
     let zeros : List ℕ = replicate (40 - d) 48 in

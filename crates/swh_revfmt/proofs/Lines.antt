@@ -29,7 +29,7 @@ pub whole_line : (bytes digits after id rest : List ℕ) → bytes ≡ digits ++
 whole_line bytes digits after id rest cut text spelled feed =
     (IsId-from_text digits id text spelled, cut ∙ ap (λ (t : List ℕ). t ++ after) spelled ∙ ap (λ (t : List ℕ). encode_lower id ++ t) feed ∙ sym (line_then [] id rest))
 
--- behind a word
+-- after a word
 pub not_behind : (word bytes : List ℕ) → ((rest : List ℕ) → bytes ≡ word ++ rest → ⊥) → NotLine word bytes
 not_behind word bytes never id rest is e = never (encode_lower id ++ 10 ∷ rest) (e ∙ line_then word id rest)
 

@@ -11,7 +11,7 @@ use Rattle.swh_revfmt.specs.Plain.{IsNamed, IsZone, IsSeconds, IsDate}
 pub lacks : (p : ℕ → Bool) (xs : List ℕ) (s : ℕ) → p s ≡ false → AllPass p xs → Contains xs s → ⊥
 lacks p xs s never all h = let yes : p s ≡ true = All-contains (λ x. p x ≡ true) xs s all h in absurd cc
 
--- a date's parts are what stands before and behind its space
+-- a date's parts are what stands before and after its space
 pub record DateParts (seconds zone : List ℕ) : Type 0 where
   pub are_seconds : IsSeconds seconds
   pub is_zone : IsZone zone
@@ -30,7 +30,7 @@ date_parts text rest seconds zone cut none e h =
 pub whole_date : (text rest seconds zone : List ℕ) → text ≡ 32 ∷ rest → rest ≡ seconds ++ 32 ∷ zone → IsSeconds seconds → IsZone zone → IsDate text
 whole_date text rest seconds zone cut e s z = record { seconds = seconds; zone = zone; spelled = cut ∙ ap (λ (t : List ℕ). 32 ∷ t) e; are_seconds = s; is_zone = z }
 
--- a person's parts are what stands before its `<`, between the two, and behind its `>`
+-- a person's parts are what stands before its `<`, between the two, and after its `>`
 pub record PersonParts (name email date : List ℕ) : Type 0 where
   pub is_named : IsNamed name
   pub email_bytes : AllPass is_person_byte email

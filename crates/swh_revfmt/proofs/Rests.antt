@@ -74,13 +74,13 @@ nul_encoding bytes a x na e nul text rest p f =
     let same = (same_line (codes "encoding ") bytes a text x rest na p.one_line e f).text in
     p.no_nul (subst (λ (t : List ℕ). Contains t 0) same nul)
 
--- an optional line behind which no empty line stands
+-- an optional line after which no empty line stands
 pub no_message : (word bytes a x : List ℕ) (P : List ℕ → Type 0) → ((text : List ℕ) → P text → Contains text 10 → ⊥) → (Contains a 10 → ⊥) → bytes ≡ text_line word a ++ x → ((rest : List ℕ) → bytes ≡ 10 ∷ rest → ⊥) → ((rest : List ℕ) → x ≡ 10 ∷ rest → ⊥)
     → (text : Option (List ℕ)) (message : List ℕ) → IfSome text P → bytes ≡ optional_line word text ++ 10 ∷ message → ⊥
 no_message word bytes a x P lines na e never none None message h f = never message f
 no_message word bytes a x P lines na e never none (Some text) message h f = none message (same_line word bytes a text x (10 ∷ message) na (lines text h) e f).rest
 
--- the rest of a plain revision, cut behind its author and its committer
+-- the rest of a plain revision, cut after its author and its committer
 pub behind_author : (bytes a x : List ℕ) (r : RevisionRest) → IsPersonLine (codes "author ") a → bytes ≡ text_line (codes "author ") a ++ x → IsRevisionRest bytes r → x ≡ text_line (codes "committer ") r.committer ++ (optional_line (codes "encoding ") r.encoding ++ 10 ∷ r.message)
 behind_author bytes a x r p e h =
     (same_line (codes "author ") bytes a r.author x (text_line (codes "committer ") r.committer ++ (optional_line (codes "encoding ") r.encoding ++ 10 ∷ r.message)) (person-no_feed a p.person) (person-no_feed r.author h.author.person) e h.text).rest

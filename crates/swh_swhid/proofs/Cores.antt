@@ -18,7 +18,7 @@ use Rattle.swh_swhid.proofs.Fronts.{common-le, take-common, breaks_after, breaks
 use Rattle.swh_swhid.proofs.Ids.{id-spelled, IsId-from_text, IsIdText-encode, zeros-id}
 use Rattle.swh_swhid.proofs.KindWords.{one_kind, length-kind_word, accepted_along, accepts-Snapshot}
 
--- a core identifier behind its lead, both ways
+-- a core identifier after its lead, both ways
 core_in : (place : Place) (y : List ℕ) → KindAndId place y → HasCore place (lead ++ y)
 core_in place y h =
     let id = id-spelled h.rest h.follows in
@@ -72,7 +72,7 @@ id_behind_lead place kind text n h a b =
     let same : drop 4 (drop 6 text) ≡ drop 10 text = drop-drop 4 6 text in
     subst (BreaksAt (HasCore place) text) (omega arith) (kind_behind place text (4 + n) h (id_behind place kind (drop 6 text) n a (subst (λ (t : List ℕ). BreaksAt IsIdText t n) (sym same) b)))
 
--- a text that goes on with a kind's word behind the lead has ten bytes
+-- a text that goes on with a kind's word after the lead has ten bytes
 pub kind_long : (place : Place) (kind : Kind) (text : List ℕ) → along place kind (drop 6 text) ≡ 4 → 10 ≤ length text
 kind_long place kind text h =
     let far = (accepted_along place kind (drop 6 text) h).1 in

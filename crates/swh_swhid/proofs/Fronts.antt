@@ -1,10 +1,10 @@
--- How far a text goes along with a language: behind a front, and with one of several words in front.
+-- How far a text goes along with a language: after a front, and with one of several words in front.
 use Rattle.std.proofs.Common.{◌≡◌, ◌≢◌, ℕ, zero, suc, ◌+◌, ◌<◌, ◌≤◌, ◌==◌, if◌then◌else◌, Bool, true, false, inl, inr, List, [], ◌∷◌, ◌++◌, length, get_or, take, drop, refl, sym, ap, ◌∙◌, subst, arith, add-one, append_assoc, length-append, length-drop, drop-cons}
 use Rattle.std.proofs.lemmas.List.{take-append-drop, length-take}
 use Rattle.std.proofs.lemmas.Bool.{eq-eqb, eqb-true, cases_order}
 use Rattle.swh_swhid.specs.Front.{BreaksAt, common, Chosen}
 
--- Where each text of L that has this front goes on with one of M, L breaks where M breaks behind it.
+-- Where each text of L that has this front goes on with one of M, L breaks where M breaks after it.
 pub breaks_after : (L M : List ℕ → Type 0) (f x : List ℕ) (n : ℕ) → ((y : List ℕ) → M y → L (f ++ y)) → ((y : List ℕ) → L (f ++ y) → M y) → BreaksAt M x n → BreaksAt L (f ++ x) (length f + n)
 breaks_after L M f x n to from b = record {
   front = f ++ b.front;
@@ -73,7 +73,7 @@ common-le (c ∷ w) (d ∷ t) =
       | false ↦ (omega arith, omega arith)
     ]
 
--- Where no word that may stand here is a front of the text, it breaks behind what the best of them has in
+-- Where no word that may stand here is a front of the text, it breaks after what the best of them has in
 -- common with it.
 pub chosen_breaks : (K : Type 0) (word : K → List ℕ) (may : K → Bool) (L : K → List ℕ → Type 0) (text : List ℕ) (n : ℕ) (best : K) (rest : List ℕ) → may best ≡ true → n ≤ common (word best) text → L best rest
     → ((k : K) → may k ≡ true → (common (word k) text ≤ n) × (common (word k) text < length (word k))) → BreaksAt (Chosen K word may L) text n

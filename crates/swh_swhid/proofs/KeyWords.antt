@@ -107,7 +107,7 @@ key_breaks s piece any o v a p l b free eo ev ea ep el eb no_o no_v no_a no_p no
     ] in
     chosen_breaks Key key_word (is_free s) IsValueText piece n best.key (full best.key).text best.free best.far (full best.key).value (λ k may. far_enough s k piece n (each k) may)
 
--- the piece behind a free key's word
+-- the piece after a free key's word
 key_cut : (s : Swhid) (key : Key) (piece : List ℕ) → along_key s key piece ≡ length (key_word key) → piece ≡ key_word key ++ drop (length (key_word key)) piece
 key_cut s key piece h = word_first (key_word key) piece (free_along s key piece h).1
 

@@ -1,4 +1,4 @@
--- What is read so far, and how it goes on: a place behind whole pieces.
+-- What is read so far, and how it goes on: a place after whole pieces.
 use Rattle.std.proofs.Common.{◌≡◌, ℕ, suc, ◌+◌, ◌<◌, ◌≤◌, true, false, Option, Some, List, [], ◌∷◌, ◌++◌, length, get_or, take, drop, refl, sym, ap, ◌∙◌, subst, arith, append_assoc, length-append, length-drop, drop-cons}
 use Rattle.std.proofs.lemmas.List.{take-append-drop, length-take-le, take_all, append-nil, drop-drop}
 use Rattle.hex.specs.Hex.{encode_lower, lower_digits}
@@ -37,7 +37,7 @@ one_core n m x y hn hm e =
     let both = sized_split (core_text n) (core_text m) x y (length-core_text n hn ∙ sym (length-core_text m hm)) e in
     (core-injective n m hn hm both.0, both.1)
 
--- the place behind the core identifier
+-- the place after the core identifier
 pub first_place : (text : List ℕ) (n : ℕ) (name : Name) → n ≤ length text → IsClosed (drop n text) → IsCore Text (take n text) name → IsPlace text n (bare name)
 first_place text n name within closed core = record {
   within = within;
@@ -66,12 +66,12 @@ core_breaks text e n whole closed b =
     subst (λ (t : List ℕ). BreaksAt HasSwhid t n) (take-append-drop e text)
     (piece_breaks (HasCore Text) HasSwhid (take e text) (drop e text) n (λ q h. whole-core Text q h) core_begins core_whole whole closed b)
 
--- What goes on from a value behind a `;`.
+-- What goes on from a value after a `;`.
 record HasTail (s : Swhid) (y : List ℕ) : Type 0 where
   swhid : Swhid
   tail : Tail s (59 ∷ y) swhid
 
--- a tail behind a `;` begins with a qualifier
+-- a tail after a `;` begins with a qualifier
 record First (s : Swhid) (y : List ℕ) (t : Swhid) : Type 0 where
   piece : List ℕ
   pieces : List (List ℕ)
@@ -168,7 +168,7 @@ one_adding s t u piece h k =
 pub whole_of_adds : (s t : Swhid) (piece : List ℕ) → Adds s piece t → is_whole piece ≡ true
 whole_of_adds s t piece h = whole-next s piece (record { key = h.key; may_stand = h.free; rest = h.value; spelled = h.spelled; follows = value_text h.key h.value s t h.says })
 
--- the place behind one more qualifier
+-- the place after one more qualifier
 pub next_place : (text : List ℕ) (at e : ℕ) (s m : Swhid) → IsPlace text at s → at < length text → e ≤ length (drop (at + 1) text) → is_whole (take e (drop (at + 1) text)) ≡ true → IsClosed (drop e (drop (at + 1) text)) → Adds s (take e (drop (at + 1) text)) m → IsPlace text (at + 1 + e) m
 next_place text at e s m place within fits whole closed adds =
     let rest : List ℕ = drop (at + 1) text in
@@ -191,7 +191,7 @@ next_place text at e s m place within fits whole closed adds =
           record { pieces = f.pieces; spelled = both.1; adds = subst (λ (x : Swhid). AddAll f.pieces x t) same f.rest };
     }
 
--- no qualifier may come behind all six
+-- no qualifier may come after all six
 pub full_breaks : (text : List ℕ) (at : ℕ) (s : Swhid) → IsPlace text at s → at < length text → ((key : Key) → is_free s key ≡ false) → BreaksAt HasSwhid text at
 full_breaks text at s place within none =
     let never : (x : List ℕ) → HasSwhid (take at text ++ 59 ∷ x) → ⊥ = λ x h.

@@ -81,7 +81,7 @@ digit-no_dash (d ∷ ds) h (suc k, l, e) = digit-no_dash ds h.1 (k, omega arith,
 decimal-digits : (n : ℕ) → n < number_limit → AreDigits (decimal n)
 decimal-digits n h = (text_number n h).0.are_digits
 
--- a text that goes on behind a front with another byte than the one that ends it
+-- a text that goes on after a front with another byte than the one that ends it
 split_later : (s b : ℕ) (a f x y : List ℕ) → (Contains f s → ⊥) → b ≢ s → a ++ s ∷ y ≡ f ++ b ∷ x → (more : List ℕ) × (a ≡ f ++ b ∷ more)
 split_later s b [] [] x y free ne e = absurd (ne cc)
 split_later s b [] (c ∷ f) x y free ne e = absurd (free (0, omega arith, cc))
@@ -162,7 +162,7 @@ first_low least zero (d ∷ ds) low g some = let none = g.only_zero (zero_head d
 first_low least (suc value) (d ∷ ds) low g some = omega arith
 first_low least value [] low g some = absurd (omega arith)
 
--- a range behind its first number and the `-`, both ways
+-- a range after its first number and the `-`, both ways
 range_in : (least value : ℕ) (y : List ℕ) → least ≤ value → value < number_limit → HasNumber value y → HasRange least (decimal value ++ 45 ∷ y)
 range_in least value y low small h = record {
   first = value;

@@ -1,4 +1,4 @@
--- Texts of origins and paths: what may stand behind a front, and how far bytes go along with texts.
+-- Texts of origins and paths: what may stand after a front, and how far bytes go along with texts.
 use Rattle.std.proofs.Common.{◌≡◌, ◌≢◌, ℕ, suc, ◌+◌, ◌<◌, true, List, [], ◌∷◌, ◌++◌, length, get_or, take, drop, refl, sym, ap, ◌∙◌, subst, arith, drop-cons}
 use Rattle.std.proofs.lemmas.Bool.Decides.{nat_tests}
 use Rattle.std.proofs.lemmas.List.{take-append-drop, length-take-le, take_all, append-nil}
@@ -17,7 +17,7 @@ hex-text c h = grind (arith, nat_tests)
 pub hex-no_percent : (c : ℕ) → is_hex_digit c ≡ true → c ≡ 37 → ⊥
 hex-no_percent c h e = let at : is_hex_digit 37 ≡ true = subst (λ (k : ℕ). is_hex_digit k ≡ true) e h in absurd cc
 
--- The bytes in front are texts with what is due behind them, and with nothing else.
+-- The bytes in front are texts with what is due after them, and with nothing else.
 abbrev pub Leaves : List ℕ → Due → Type 0
 Leaves front due = (y : List ℕ) → (IsText (front ++ y) → IsTextBehind due y) × (IsTextBehind due y → IsText (front ++ y))
 

@@ -17,7 +17,7 @@ use Rattle.swh_swhid.proofs.Wholes.{same_piece}
 use Rattle.swh_swhid.proofs.Places.{closed-pieces, one_core, one_adding, whole_of_adds}
 use Rattle.swh_swhid.proofs.Ways.{printed_reads}
 
--- qualifiers behind one value lead to one value
+-- qualifiers after one value lead to one value
 one_tail : (ps qs : List (List ℕ)) (s t u : Swhid) → AddAll ps s t → AddAll qs s u → pieces_text ps ≡ pieces_text qs → t ≡ u
 one_tail [] [] s t u h k e = sym h ∙ k
 one_tail [] (q ∷ qs) s t u h k e = absurd cc

@@ -103,7 +103,7 @@ whole-next s t h = along t _ h.spelled (whole-append (key_word h.key) h.rest (wh
 closed_head : (z x : List ℕ) (c : ℕ) → IsClosed z → z ≡ c ∷ x → c ≡ 59
 closed_head z x c h e = subst IsClosed e h
 
--- two pieces and what is closed behind them
+-- two pieces and what is closed after them
 pub same_piece : (q p z y : List ℕ) → is_whole q ≡ true → is_whole p ≡ true → IsClosed z → IsClosed y → q ++ z ≡ p ++ y → (q ≡ p) × (z ≡ y)
 same_piece [] [] z y hq hp hz hy e = (refl, e)
 same_piece [] (c ∷ p) z y hq hp hz hy e = absurd (semicolon_not c (and_parts (not (c == 59)) (is_whole p) hp).0 (closed_head z (p ++ y) c hz e))
@@ -124,7 +124,7 @@ longer_piece (d ∷ q) (a ∷ f) z x c hf hz ne e =
     let rest = longer_piece q f z x c (and_parts (not (a == 59)) (is_whole f) hf).1 hz ne after in
     let found = rest.1 in (rest.0, cc)
 
--- A text that begins with a piece of a language and is closed behind it.
+-- A text that begins with a piece of a language and is closed after it.
 pub record Begins (L : List ℕ → Type 0) (text : List ℕ) : Type 0 where
   pub piece : List ℕ
   pub rest : List ℕ

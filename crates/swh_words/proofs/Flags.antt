@@ -52,7 +52,7 @@ is_empty : (text : Text) → is_nonempty text ≡ false → text ≡ []
 is_empty [] none = refl
 is_empty (c ∷ rest) none = absurd (true≢false none)
 
--- behind a hyphen there is neither a long flag nor a bundle of a character or more
+-- after a hyphen there is neither a long flag nor a bundle of a character or more
 hyphen_value : (rest : Text) → bytes_eq (45 ∷ rest) dashes ≡ false → is_flag (45 ∷ rest) ≡ false
     → (long_of (45 ∷ rest) ≡ None) × IfSome (short_of (45 ∷ rest)) (λ flags. chars flags ≡ [])
 hyphen_value [] no_dashes no_flag = (refl, tt)

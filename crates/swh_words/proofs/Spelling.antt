@@ -170,7 +170,7 @@ name_met is_init is_load is_ask is_identify = option_map (λ (s : Text × List T
 only_program : HasValuesOnly program.top.rules
 only_program = record { no_long = λ name. refl; no_short = λ c. refl; no_trail = tt }
 
--- no word stands behind a `--` that is the first
+-- no word stands after a `--` that is the first
 marked_refused : (rest : List Text) → is_clean (fault_of program_app (dashes ∷ rest)) ≡ false
 unfolding clap_on_literals
 marked_refused [] = refl

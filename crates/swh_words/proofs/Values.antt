@@ -1,4 +1,4 @@
--- Words of a subcommand fail and leave as their values do behind a `--`.
+-- Words of a subcommand fail and leave as their values do after a `--`.
 use Rattle.std.proofs.Common.{◌≡◌, ◌∙◌, ◌∷◌, ℕ, Bool, true, false, List, [], refl, sym, ap, ap₂, subst, true≢false, rules, Option, Some, None, find, IfSome}
 use Rattle.std.specs.Prelude.{◌||◌, option_map, unwrap_or, is_some, if◌then◌else◌, ◌&&◌}
 use Rattle.std.specs.List.{AllByRecursion, fold}
@@ -84,7 +84,7 @@ pub turned_by : (s : Shape) (names : Names) (trails : Bool) (h : Held) (waiting 
 turned_by s names trails h waiting position word met passes =
     ap₂ (λ (fault : Kinds) (m : Held × Step). or_else fault (step_fault s position m.0 m.1)) passes met
 
--- ---- words come to what their values come to behind `--`
+-- ---- words come to what their values come to after `--`
 
 no_name : (waiting : Waiting) (word : Text) → subcommand_met [] waiting word ≡ None
 no_name idle word = refl
