@@ -33,10 +33,7 @@ impl<N: Namer> Object<N> {
     ghost use Rattle.swh_base.specs.Manifest.{AreKids, IsWellFormed};
     ghost use Rattle.swh_object.specs.Object.{IsObject, IsMade, Explains};
 
-    /// The object of this kind and body (SWHID v1.2, core identifiers). The body is not copied.
-    ///
-    /// Fails with `TooLong` where the body is longer than 67,108,864 bytes; with `BadBody` where it is not, and is none
-    /// of its kind; and where memory runs out.
+    /// The object of this kind and body. The body is not copied.
     pub fn make(
         alloc: Global,
         namer: &N,
