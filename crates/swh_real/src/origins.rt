@@ -98,7 +98,7 @@ impl<R: Files<File = File> + Drop + Send> Origins for RealOrigins<R> {
         };
         match File::open(&self.rt, path) {
             Ok(file) => Opened::Found(RealSource::new(file, name)),
-            Err(fault) if fault.kind() == ErrorKind::NotFound => Opened::NotFound,
+            Err(fault) if is_absence(fault.kind()) => Opened::NotFound,
             Err(_) => {
                 self.refuse(path);
                 Opened::Failed
@@ -122,4 +122,9 @@ impl<R: Files<File = File> + Drop + Send> Origins for RealOrigins<R> {
             self.refuse(folder.path());
         }
     }
+}
+
+// Nothing stands at a path that does not lead on either: one of its folders is absent, or is no folder.
+fn is_absence(kind: ErrorKind) -> bool {
+    matches!(kind, ErrorKind::NotFound | ErrorKind::NotADirectory)
 }
