@@ -4,7 +4,7 @@ ghost use Rattle.std.specs.Prelude.{◌≡◌};
 use crate::RealDisk;
 use crate::count::Count;
 use crate::place::{Access, Place};
-use std::alloc::Global;
+use std::alloc::{AllocError, Global};
 use std::fs::File;
 use std::marker::Model;
 use std::rt::Files;
@@ -91,7 +91,9 @@ impl<R: Files<File = File> + Clone + Drop + Send> Depot for RealDepot<R> {
         if dir.is_empty() {
             return Err(OutFault::from(self.count.refuse()));
         }
-        let (Ok(place), Ok(rt)) = (Place::new(self.alloc, dir, file), self.rt.clone()) else {
+        let place = Place::new(self.alloc, dir, file);
+        let rt: Result<R, AllocError> = self.rt.clone();
+        let (Ok(place), Ok(rt)) = (place, rt) else {
             return Err(OutFault::Memory);
         };
         match place.open(&rt, self.access) {

@@ -83,7 +83,11 @@ impl Place {
 fn open_file<R: Files<File = File>>(rt: &R, path: &str, access: Access) -> io::Result<File> {
     match access {
         Access::Read => File::open(rt, path),
-        Access::Write | Access::Make => match OpenOptions::new().read(true).write(true).open(rt, path) {
+        Access::Write | Access::Make => match OpenOptions::new()
+            .read(true)
+            .write(true)
+            .open(rt, path)
+        {
             Err(fault) if may_be_read(fault.kind()) => File::open(rt, path),
             opened => opened,
         },
