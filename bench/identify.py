@@ -13,6 +13,8 @@ import sys
 import tempfile
 import time
 
+from program import find_program
+
 FILE_BYTES = 67_108_864
 MOST_TIMES = 2.0
 MOST_MEMORY = 1.5
@@ -44,9 +46,7 @@ def make_file(path):
 
 
 def main():
-    here = os.path.dirname(os.path.abspath(__file__))
-    program = sys.argv[1] if len(sys.argv) > 1 else os.path.join(here, "..", "crates/swharc/out/swharc")
-    program = os.path.abspath(program)
+    program = find_program()
     ours, theirs, peak = [], [], 0
     with tempfile.TemporaryDirectory() as folder:
         path = os.path.join(folder, "file")

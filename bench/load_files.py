@@ -13,6 +13,8 @@ import sys
 import tempfile
 import time
 
+from program import find_program
+
 SIZES = (10_000, 100_000)
 FILE_BYTES = 100
 MOST_TIMES = 15
@@ -62,9 +64,7 @@ def time_import(folder, stream):
 
 
 def main():
-    here = os.path.dirname(os.path.abspath(__file__))
-    program = sys.argv[1] if len(sys.argv) > 1 else os.path.join(here, "..", "crates/swharc/out/swharc")
-    program = os.path.abspath(program)
+    program = find_program()
     best = {}
     with tempfile.TemporaryDirectory() as folder:
         for count in SIZES:

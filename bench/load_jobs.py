@@ -13,6 +13,8 @@ import sys
 import tempfile
 import time
 
+from program import find_program
+
 SIZES = (32, 256)
 MOST_TIMES = 12
 ROUNDS = 5
@@ -50,9 +52,7 @@ def time_load(program, folder, jobs, count):
 
 
 def main():
-    here = os.path.dirname(os.path.abspath(__file__))
-    program = sys.argv[1] if len(sys.argv) > 1 else os.path.join(here, "..", "crates/swharc/out/swharc")
-    program = os.path.abspath(program)
+    program = find_program()
     shortest = []
     with tempfile.TemporaryDirectory() as folder:
         for count in SIZES:

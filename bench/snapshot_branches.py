@@ -15,6 +15,8 @@ import sys
 import tempfile
 import time
 
+from program import find_program
+
 SIZES = (10_000, 100_000)
 MOST_TIMES = 15
 ROUNDS = 5
@@ -48,9 +50,7 @@ def time_ask(program, folder):
 
 
 def main():
-    here = os.path.dirname(os.path.abspath(__file__))
-    program = sys.argv[1] if len(sys.argv) > 1 else os.path.join(here, "..", "crates/swharc/out/swharc")
-    program = os.path.abspath(program)
+    program = find_program()
     best = {}
     with tempfile.TemporaryDirectory() as folder:
         for count in SIZES:

@@ -1,14 +1,10 @@
 -- The parts in memory of which nothing is told, and how often they failed.
-use Rattle.std.specs.Prelude.{ℕ, List, [], string_bytes}
-use Rattle.swh_outside.specs.Folder.{Tree}
+use Rattle.std.specs.Prelude.{ℕ, List, string_bytes}
 use Rattle.swh_memory.specs.Tally.{Tally}
 use Rattle.swh_memory.specs.declared.folder.MemoryFolder.{MemoryFolder}
 use Rattle.swh_memory.specs.declared.yard.MemoryYard.{MemoryYard}
 use Rattle.swh_memory.specs.declared.link.MemoryLink.{MemoryLink}
 use Rattle.swh_memory.specs.declared.doors.MemoryDoors.{MemoryDoors}
-
-abbrev pub untold : Tree
-untold = record { entries = λ _. []; bytes = λ _. [] }
 
 abbrev pub folder_path : MemoryFolder → List ℕ
 folder_path folder = string_bytes folder.path

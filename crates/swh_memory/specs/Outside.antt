@@ -2,7 +2,7 @@
 use Rattle.std.specs.Prelude.{ℕ, Bool, List, Option, Some, None, string_bytes}
 use Rattle.std.specs.Str.{bytes_eq}
 use Rattle.swh_outside.specs.Firsts.{first_or}
-use Rattle.swh_outside.specs.Counts.{count_at}
+use Rattle.swh_outside.specs.Counts.{count_at, is_counted}
 use Rattle.swh_memory.specs.Tally.{Tally}
 use Rattle.swh_memory.specs.declared.input.Input.{Input}
 use Rattle.swh_memory.specs.declared.origins.MemoryOrigins.{MemoryOrigins}
@@ -28,3 +28,6 @@ origin_faults origins = origins.failures.faults
 
 abbrev pub origin_path_faults : MemoryOrigins → List ℕ → ℕ
 origin_path_faults origins = count_at origins.counts
+
+abbrev pub has_origin_place : MemoryOrigins → List ℕ → Type 0
+has_origin_place origins = is_counted origins.counts

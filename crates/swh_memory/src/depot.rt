@@ -105,6 +105,10 @@ impl Depot for MemoryDepot {
             let _ = self.failures.refuse();
             return Err(OutFault::Failed);
         }
+        if dir.is_empty() {
+            let _ = self.failures.refuse();
+            return Err(OutFault::Failed);
+        }
         let Ok(i) = self.place(dir, file) else {
             return Err(OutFault::Memory);
         };

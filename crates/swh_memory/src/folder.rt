@@ -1,11 +1,11 @@
-// A folder in memory whose calls fail.
+// A folder in memory in which nothing stands.
 ghost use Rattle.std.specs.Prelude.{◌≡◌, [], IsErr, string_bytes};
 
 use crate::{Failures, MemorySource};
 use std::alloc::Global;
 use swh_outside::{Folder, Item, OutFault};
 
-/// A folder of which nothing is told: each call that can fail does so and is counted.
+/// A folder in which nothing stands: each call that can fail does so and is counted.
 #[derive(Drop)]
 pub struct MemoryFolder {
     path: String,
@@ -42,15 +42,16 @@ impl MemoryFolder {
 }
 
 impl Folder for MemoryFolder {
-    ghost use Rattle.swh_memory.specs.Failing.{folder_path, folder_faults, folder_tally, untold};
+    ghost use Rattle.swh_memory.specs.Failing.{folder_path, folder_faults, folder_tally};
     ghost use Rattle.swh_memory.specs.Tally.{refused};
     ghost use Rattle.swh_outside.specs.Causes.{HasOutCause};
+    ghost use Rattle.swh_outside.specs.Folder.{nothing};
 
     type S = MemorySource;
 
-    ghost tells = { ⊥ };
+    ghost tells = { Unit {0} };
 
-    ghost holds = { λ _. untold };
+    ghost holds = { λ _. nothing };
 
     ghost opened_at = { folder_path };
 

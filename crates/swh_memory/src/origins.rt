@@ -1,5 +1,5 @@
 // Origins in memory.
-ghost use Rattle.std.specs.Prelude.{◌≡◌, ◌<◌, ◌≤◌, List, ℕ, None, Some, length, IfOk, string_bytes};
+ghost use Rattle.std.specs.Prelude.{◌≡◌, ◌≢◌, ◌<◌, ◌≤◌, List, ℕ, None, Some, length, IfOk, string_bytes};
 ghost use Rattle.std.specs.List.{position_or_len};
 ghost use Rattle.swh_memory.specs.Outside.{is_for, input_at};
 ghost use Rattle.swh_memory.specs.Inputs.{source_left, source_path, source_faults};
@@ -18,8 +18,8 @@ pub struct MemoryOrigins {
 }
 
 impl MemoryOrigins {
-    ghost use Rattle.swh_outside.specs.Faults.{Rose};
-    ghost use Rattle.swh_memory.specs.Outside.{origin_files, origin_tally, origin_faults, origin_path_faults};
+    ghost use Rattle.swh_outside.specs.Faults.{Rose, one_more};
+    ghost use Rattle.swh_memory.specs.Outside.{origin_files, origin_tally, origin_faults, origin_path_faults, has_origin_place};
     ghost use Rattle.swh_memory.specs.Tally.{fresh};
 
     /// Origins with these inputs. Of two at one path the first counts. Openings with the listed numbers, from 0, will
@@ -58,7 +58,10 @@ impl MemoryOrigins {
         ensures later { origin_faults self.old ≤ origin_faults self.new }
         ensures rose { Rose (origin_faults self.old) (origin_faults self.new) }
         ensures path_later { (p : List ℕ) → origin_path_faults self.old p ≤ origin_path_faults self.new p }
-        ensures path_rose { Rose (origin_path_faults self.old path.now) (origin_path_faults self.new path.now) }
+        ensures path_rose { origin_path_faults self.new path.now ≡ one_more (origin_path_faults self.old path.now) }
+        ensures other_paths { has_origin_place self.old path.now → (p : List ℕ) → p ≢ path.now → origin_path_faults self.new p ≡ origin_path_faults self.old p }
+        ensures other_places { (p : List ℕ) → p ≢ path.now → has_origin_place self.old p → origin_path_faults self.new p ≡ origin_path_faults self.old p }
+        ensures places { (p : List ℕ) → has_origin_place self.old p → has_origin_place self.new p }
     {
         let _ = self.failures.refuse();
         self.counts.raise(path);
@@ -68,7 +71,7 @@ impl MemoryOrigins {
 impl Origins for MemoryOrigins {
     ghost use Rattle.swh_outside.specs.Faults.{Rose};
     ghost use Rattle.swh_outside.specs.Opened.{IsFailed};
-    ghost use Rattle.swh_memory.specs.Outside.{origin_files, origin_faults, origin_path_faults};
+    ghost use Rattle.swh_memory.specs.Outside.{origin_files, origin_faults, origin_path_faults, has_origin_place};
 
     type S = MemorySource;
 
@@ -83,6 +86,8 @@ impl Origins for MemoryOrigins {
     ghost faults = { origin_faults };
 
     ghost path_faults = { origin_path_faults };
+
+    ghost has_place = { has_origin_place };
 
     fn file(&mut self, path: &str) -> Opened<MemorySource> {
         if self.counts.place(path).is_err() {
@@ -102,15 +107,10 @@ impl Origins for MemoryOrigins {
         }
     }
 
-    fn folder(&mut self, path: &str) -> Opened<MemoryFolder>
-        ensures fails { IsFailed result }
-        ensures same_files { (p : List ℕ) → origin_files self.new p ≡ origin_files self.old p }
-
-        ensures later { origin_faults self.old ≤ origin_faults self.new }
-        ensures path_later { (p : List ℕ) → origin_path_faults self.old p ≤ origin_path_faults self.new p }
-        ensures cause { Rose (origin_faults self.old) (origin_faults self.new) }
-        ensures path_cause { Rose (origin_path_faults self.old path.now) (origin_path_faults self.new path.now) }
-    {
+    fn folder(&mut self, path: &str) -> Opened<MemoryFolder> {
+        if self.counts.place(path).is_err() {
+            return Opened::Memory;
+        }
         self.refuse(path);
         Opened::Failed
     }

@@ -1,12 +1,12 @@
 -- Counts of paths in a list.
-use Rattle.std.proofs.Common.{◌≡◌, ℕ, ◌<◌, ◌≤◌, Bool, true, false, cond, List, [], ◌∷◌, ◌++◌, length, length-append, get_or, set, string_bytes, refl, sym, ◌∙◌, subst, arith}
+use Rattle.std.proofs.Common.{◌≡◌, ◌≢◌, ℕ, ◌<◌, ◌≤◌, Bool, true, false, cond, List, [], ◌∷◌, ◌++◌, length, length-append, get_or, set, string_bytes, refl, sym, ◌∙◌, ap, subst, arith}
 use Rattle.std.specs.List.{position_or_len}
 use Rattle.std.proofs.lemmas.List.Sums.{fails_before_first}
 use Rattle.std.proofs.lemmas.Slice.Eq.{bytes_eq-Decides}
-use Rattle.swh_outside.specs.Faults.{Rose}
+use Rattle.swh_outside.specs.Faults.{one_more}
 use Rattle.swh_outside.specs.Counts.{is_of, count_in}
 use Rattle.swh_outside.specs.declared.path_counts.PathCount.{PathCount}
-use Rattle.swh_outside.proofs.FirstsLaws.{IsFirst, first_or-at, first_or-set_hit, first_or-set_miss, first_or-push, first_or-none, found_last}
+use Rattle.swh_outside.proofs.FirstsLaws.{IsFirst, first_of, first_or-at, first_or-set_hit, first_or-set_miss, first_or-push, first_or-none, found_last}
 
 abbrev pub with_faults : PathCount → ℕ → PathCount
 with_faults count n = record { path = count.path; faults = n }
@@ -26,13 +26,32 @@ count_in-later (c ∷ counts) others now path le = at (is_of path c) (count_in-l
     at true rest = omega arith
     at false rest = rest
 
+-- and one with a count of its own does not have that
+pub count_in-counted : (counts : List PathCount) (others now : ℕ) (path : List ℕ) → position_or_len (is_of path) counts < length counts → count_in counts now path ≡ count_in counts others path
+count_in-counted [] others now path inside = absurd (omega (arith, inside))
+count_in-counted (c ∷ counts) others now path inside =
+    let first = first_of (is_of path) (c ∷ counts) (position_or_len (is_of path) (c ∷ counts)) c refl inside in
+    first_or-at (is_of path) (λ (count : PathCount). count.faults) now (c ∷ counts) _ c first ∙ sym (first_or-at (is_of path) (λ (count : PathCount). count.faults) others (c ∷ counts) _ c first)
+
 -- the first count of a path is raised
-pub raised : (counts : List PathCount) (i : ℕ) (z : PathCount) (path : List ℕ) (n : ℕ) → IsFirst (is_of path) counts i z → Rose (get_or counts i z).faults n
-    → (others : ℕ) → Rose (count_in counts others path) (count_in (set counts i (with_faults (get_or counts i z) n)) others path)
+pub raised : (counts : List PathCount) (i : ℕ) (z : PathCount) (path : List ℕ) (n : ℕ) → IsFirst (is_of path) counts i z → n ≡ one_more (get_or counts i z).faults
+    → (others : ℕ) → count_in (set counts i (with_faults (get_or counts i z) n)) others path ≡ one_more (count_in counts others path)
 raised counts i z path n first rose others =
     let was = first_or-at (is_of path) (λ (count : PathCount). count.faults) others counts i z first in
     let is = first_or-set_hit (is_of path) (λ (count : PathCount). count.faults) others counts i z (with_faults (get_or counts i z) n) first first.here in
-    subst (λ (m : ℕ). Rose m (count_in (set counts i (with_faults (get_or counts i z) n)) others path)) (sym was) (subst (λ (m : ℕ). Rose (get_or counts i z).faults m) (sym is) rose)
+    is ∙ rose ∙ ap one_more (sym was)
+
+-- and that of no other path
+pub raised-others : (counts : List PathCount) (i : ℕ) (z : PathCount) (path : List ℕ) (n : ℕ) → IsFirst (is_of path) counts i z
+    → (others : ℕ) (p : List ℕ) → p ≢ path → count_in (set counts i (with_faults (get_or counts i z) n)) others p ≡ count_in counts others p
+raised-others counts i z path n first others p apart = at (is_of p (get_or counts i z)) refl
+  where
+    at : (b : Bool) → is_of p (get_or counts i z) ≡ b → count_in (set counts i (with_faults (get_or counts i z) n)) others p ≡ count_in counts others p
+    at true hit =
+        let mine = (bytes_eq-Decides (string_bytes (get_or counts i z).path) path).0 first.here in
+        let yours = (bytes_eq-Decides (string_bytes (get_or counts i z).path) p).0 hit in
+        absurd (apart (sym yours ∙ mine))
+    at false miss = first_or-set_miss (is_of p) (λ (count : PathCount). count.faults) others counts i z (with_faults (get_or counts i z) n) first.inside miss miss
 
 -- and no count of any path falls
 pub raised-later : (counts : List PathCount) (i : ℕ) (z : PathCount) (path : List ℕ) (n : ℕ) → IsFirst (is_of path) counts i z → (get_or counts i z).faults ≤ n

@@ -1,15 +1,44 @@
 -- What a folder holds, and what the names in its list owe.
-use Rattle.std.specs.Prelude.{◌≢◌, ℕ, List, [], ◌∷◌, All, AllPairs}
+use Rattle.std.specs.Prelude.{◌≢◌, ℕ, List, [], ◌∷◌, All, AllPairs, Option, Some, None}
+use Rattle.std.specs.Ordering.{nat_cmp}
+use Rattle.std.specs.Cmp.Lexicographic.{slice_cmp}
+use Rattle.std.specs.FinMap as map
 use Rattle.swh_outside.specs.declared.folder.What.{What}
 
 pub record Entry : Type 0 where
   pub name : List ℕ
   pub what : What
 
--- the entries of each folder in it, and the bytes of each file
-pub record Tree : Type 0 where
-  pub entries : List ℕ → List Entry
-  pub bytes : List ℕ → List ℕ
+-- What stands at a path: a file with its bytes, or a folder with its entries in the order of its list.
+pub data Standing : Type 0 where
+  FileOf : List ℕ → Standing
+  FolderOf : List Entry → Standing
+
+-- what stands at the paths of a folder, of which there are finitely many; its own path is the empty one
+abbrev pub Tree : Type 0
+Tree = map.FinMap (slice_cmp nat_cmp) Standing
+
+-- nothing at any path
+abbrev pub nothing : Tree
+nothing = map.empty
+
+abbrev pub bytes_of : Option Standing → Option (List ℕ)
+bytes_of (Some (FileOf bytes)) = Some bytes
+bytes_of (Some (FolderOf entries)) = None
+bytes_of None = None
+
+abbrev pub entries_of : Option Standing → Option (List Entry)
+entries_of (Some (FileOf bytes)) = None
+entries_of (Some (FolderOf entries)) = Some entries
+entries_of None = None
+
+-- the bytes of the file at a path, if one stands there
+abbrev pub bytes_at : Tree → List ℕ → Option (List ℕ)
+bytes_at tree path = bytes_of (map.get tree path)
+
+-- the entries of the folder at a path, if one stands there: an empty folder has none
+abbrev pub entries_at : Tree → List ℕ → Option (List Entry)
+entries_at tree path = entries_of (map.get tree path)
 
 -- not empty, not `.` or `..`, without `/` and NUL
 pub record IsName (name : List ℕ) : Type 0 where

@@ -8,6 +8,20 @@ IfFound NotFound P = Unit {0}
 IfFound Failed P = Unit {0}
 IfFound Memory P = Unit {0}
 
+-- P, unless it failed
+abbrev pub UnlessFailed : {T : Type 0} → Opened T → Type 0 → Type 0
+UnlessFailed (Found x) P = P
+UnlessFailed NotFound P = P
+UnlessFailed Failed P = Unit {0}
+UnlessFailed Memory P = P
+
+-- P, unless memory is wanting
+abbrev pub UnlessMemory : {T : Type 0} → Opened T → Type 0 → Type 0
+UnlessMemory (Found x) P = P
+UnlessMemory NotFound P = P
+UnlessMemory Failed P = P
+UnlessMemory Memory P = Unit {0}
+
 abbrev pub IsNotFound : {T : Type 0} → Opened T → Type 0
 IsNotFound (Found x) = ⊥
 IsNotFound NotFound = Unit {0}

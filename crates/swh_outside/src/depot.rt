@@ -1,9 +1,10 @@
 // The folders of archives, each with its files by number.
-ghost use Rattle.std.specs.Prelude.{◌≡◌, ◌≤◌, ◌<◌, List, ℕ, IfOk, OnOk, OnErr};
+ghost use Rattle.std.specs.Prelude.{◌≡◌, ◌≤◌, ◌<◌, [], List, ℕ, IfOk, OnOk, OnErr, IsErrOf};
 ghost use Rattle.swh_outside.specs.Disk.{File};
 ghost use Rattle.swh_outside.specs.Depot.{SameButAt};
 ghost use Rattle.swh_outside.specs.Faults.{Rose};
 ghost use Rattle.swh_outside.specs.Causes.{HasOutCause};
+ghost use Rattle.swh_outside.specs.declared.fault.OutFault.TheVariants.{Failed};
 
 use crate::{Disk, OutFault};
 
@@ -23,7 +24,7 @@ pub trait Depot: Send {
     /// How often it has failed, its disks included once they are given back.
     ghost faults: { Self → ℕ };
 
-    /// Opens a file. One that is absent opens as an empty disk.
+    /// Opens a file. One that is absent opens as an empty disk. The empty path is no folder's, and opening there fails.
     fn open(&mut self, dir: &str, file: u32) -> Result<Self::D, OutFault>
         ensures given { tells → IfOk result (λ disk. Self.D.file disk ≡ files self.old dir.now file) }
         ensures disk_tells { tells → Self.D.tells }
@@ -32,14 +33,16 @@ pub trait Depot: Send {
         ensures refused { tells → OnErr result (files self.new dir.now file ≡ files self.old dir.now file) }
         ensures place { OnOk result (has_place self.new dir.now file) }
         ensures places { (d : List ℕ) (n : ℕ) → has_place self.old d n → has_place self.new d n }
+        ensures no_folder { dir.now ≡ [] → IsErrOf result Failed }
         ensures cause { HasOutCause (faults self.old) (faults self.new) result };
 
-    /// Takes a file back as it stands. Where the disk has failed, the depot's count rises.
+    /// Takes a file back as it stands. Where the disk has failed, the depot's count rises, and else it stays.
     fn close(&mut self, dir: &str, file: u32, disk: Self::D)
         requires { has_place self.old dir.now file }
         ensures taken { tells → files self.new dir.now file ≡ Self.D.file disk }
         ensures others { tells → SameButAt dir.now file (files self.old) (files self.new) }
         ensures places { (d : List ℕ) (n : ℕ) → has_place self.old d n → has_place self.new d n }
         ensures later { faults self.old ≤ faults self.new }
-        ensures cause { 0 < Self.D.faults disk → Rose (faults self.old) (faults self.new) };
+        ensures cause { 0 < Self.D.faults disk → Rose (faults self.old) (faults self.new) }
+        ensures quiet { Self.D.faults disk ≡ 0 → faults self.new ≡ faults self.old };
 }

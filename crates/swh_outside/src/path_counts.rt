@@ -1,7 +1,7 @@
 // Faults counted per path, for implementations of `Origins`.
-ghost use Rattle.std.specs.Prelude.{◌≡◌, ◌≤◌, ◌<◌, List, ℕ, length, OnOk, OnErr};
+ghost use Rattle.std.specs.Prelude.{◌≡◌, ◌≢◌, ◌≤◌, ◌<◌, List, ℕ, length, OnOk};
 ghost use Rattle.std.specs.List.{position_or_len};
-ghost use Rattle.swh_outside.specs.Faults.{Rose};
+ghost use Rattle.swh_outside.specs.Faults.{one_more};
 ghost use Rattle.swh_outside.specs.Counts.{is_of, count_in};
 
 use std::alloc::{AllocError, Global};
@@ -44,6 +44,7 @@ impl PathCounts {
     /// Makes a place for the path's count, where it has none.
     pub fn place(&mut self, path: &str) -> Result<(), AllocError>
         ensures counted { OnOk result (is_counted self.new path.now) }
+        ensures places { (p : List ℕ) → is_counted self.old p → is_counted self.new p }
         ensures same { (p : List ℕ) → count_at self.new p ≡ count_at self.old p }
     {
         if find_count(&self.counts, path) < self.counts.len() {
@@ -54,8 +55,11 @@ impl PathCounts {
 
     /// Counts a fault at a path: at its own place where it has one, and else at that of all others.
     pub fn raise(&mut self, path: &str)
-        ensures rose { Rose (count_at self.old path.now) (count_at self.new path.now) }
+        ensures rose { count_at self.new path.now ≡ one_more (count_at self.old path.now) }
         ensures later { (p : List ℕ) → count_at self.old p ≤ count_at self.new p }
+        ensures other_paths { is_counted self.old path.now → (p : List ℕ) → p ≢ path.now → count_at self.new p ≡ count_at self.old p }
+        ensures other_places { (p : List ℕ) → p ≢ path.now → is_counted self.old p → count_at self.new p ≡ count_at self.old p }
+        ensures places { (p : List ℕ) → is_counted self.old p → is_counted self.new p }
     {
         let i = find_count(&self.counts, path);
         if i < self.counts.len() {
@@ -100,6 +104,8 @@ fn add_count(
 ) -> Result<(), AllocError>
     requires { position_or_len (is_of path.now) counts.old.items ≡ length counts.old.items }
     ensures counted { OnOk result (position_or_len (is_of path.now) counts.new.items < length counts.new.items) }
+    ensures places { (p : List ℕ) → position_or_len (is_of p) counts.old.items < length counts.old.items
+        → position_or_len (is_of p) counts.new.items < length counts.new.items }
     ensures same { (p : List ℕ) → count_in counts.new.items others p ≡ count_in counts.old.items others p }
 {
     let name = String::from_str(alloc, path)?;
@@ -114,8 +120,10 @@ fn add_count(
 fn raise_count(counts: &mut [PathCount], i: usize, path: &str)
     requires found { i ≡ position_or_len (is_of path.now) counts.old }
     requires inside { i < length counts.old }
-    ensures rose { (others : ℕ) → Rose (count_in counts.old others path.now) (count_in counts.new others path.now) }
+    ensures rose { (others : ℕ) → count_in counts.new others path.now ≡ one_more (count_in counts.old others path.now) }
     ensures later { (others : ℕ) (p : List ℕ) → count_in counts.old others p ≤ count_in counts.new others p }
+    ensures other_paths { (others : ℕ) (p : List ℕ) → p ≢ path.now → count_in counts.new others p ≡ count_in counts.old others p }
+    ensures positions { (p : List ℕ) → position_or_len (is_of p) counts.new ≡ position_or_len (is_of p) counts.old }
 {
     let count = &mut counts[i];
     count.faults = count.faults.saturating_add(1);

@@ -1,5 +1,5 @@
 // Where bytes are put.
-ghost use Rattle.std.specs.Prelude.{◌≡◌, List, [], ℕ, OnOk};
+ghost use Rattle.std.specs.Prelude.{◌≡◌, List, [], ℕ};
 ghost use Rattle.swh_outside.specs.Sink.{IsPut, Begun};
 ghost use Rattle.swh_outside.specs.Source.{Heard, nothing_heard};
 ghost use Rattle.swh_outside.specs.Faults.{HasCause};
@@ -31,6 +31,5 @@ pub trait Sink: Send {
         ensures same_begun { begun self.new ≡ begun self.old }
         ensures same_heard { heard self.new ≡ heard self.old }
 
-        ensures quiet { OnOk result (faults self.new ≡ faults self.old) }
         ensures cause { HasCause (faults self.old) (faults self.new) result };
 }

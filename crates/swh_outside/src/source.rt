@@ -1,5 +1,5 @@
 // Where bytes are got.
-ghost use Rattle.std.specs.Prelude.{◌≡◌, ◌≤◌, ◌<◌, List, [], ℕ, Bool, length, IfOk, OnOk, OnErr};
+ghost use Rattle.std.specs.Prelude.{◌≡◌, ◌≤◌, ◌<◌, List, [], ℕ, Bool, length, IfOk, OnErr};
 ghost use Rattle.swh_outside.specs.Source.{IsGot, LosesSome, IsHeard};
 ghost use Rattle.swh_outside.specs.Faults.{HasCause};
 
@@ -41,6 +41,5 @@ pub trait Source: Send {
         ensures same_path { path self.new ≡ path self.old }
         ensures same_put { put_so_far self.new ≡ put_so_far self.old }
 
-        ensures quiet { OnOk result (faults self.new ≡ faults self.old) }
         ensures cause { HasCause (faults self.old) (faults self.new) result };
 }

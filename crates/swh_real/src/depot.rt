@@ -3,20 +3,21 @@ ghost use Rattle.std.specs.Prelude.{◌≡◌};
 
 use crate::RealDisk;
 use crate::count::Count;
-use std::alloc::Global;
-use std::fs::{File, OpenOptions};
-use std::io::ErrorKind;
+use crate::place::{Access, Place};
+use std::alloc::{AllocError, Global};
+use std::fs::File;
 use std::marker::Model;
 use std::rt::Files;
-use std::{fs, io};
 use swh_outside::{Depot, OutFault};
 
-/// Archives' folders in the file system. While file 0 of a folder is open nobody else opens it, here or in another
-/// process: that fails. A contract sees the count of faults.
+/// Archives' folders in the file system. A file that is absent is made at its first write, and its folder with it. While
+/// file 0 of a folder is open for writing nobody else opens it, here or in another process: that fails. Those who open
+/// it for reading alone do not shut each other out. A contract sees the count of faults.
 #[derive(Drop)]
 pub struct RealDepot<R: Files<File = File> + Drop> {
     rt: R,
     alloc: Global,
+    access: Access,
     count: Count,
 }
 
@@ -29,12 +30,38 @@ impl<R: Files<File = File> + Drop> Model for RealDepot<R> {
 }
 
 impl<R: Files<File = File> + Drop> RealDepot<R> {
+    /// Files are opened for reading and writing, and those that may not be written for reading.
     pub fn new(rt: R, alloc: Global) -> Self
         ensures { result ≡ 0 }
     {
         RealDepot {
             rt,
             alloc,
+            access: Access::Write,
+            count: Count::new(),
+        }
+    }
+
+    /// As `new`, but that files which are absent are made, with their folder, when they are opened.
+    pub fn to_make(rt: R, alloc: Global) -> Self
+        ensures { result ≡ 0 }
+    {
+        RealDepot {
+            rt,
+            alloc,
+            access: Access::Make,
+            count: Count::new(),
+        }
+    }
+
+    /// Files are opened for reading alone: each write to one fails.
+    pub fn to_read(rt: R, alloc: Global) -> Self
+        ensures { result ≡ 0 }
+    {
+        RealDepot {
+            rt,
+            alloc,
+            access: Access::Read,
             count: Count::new(),
         }
     }
@@ -47,10 +74,10 @@ impl<R: Files<File = File> + Drop> RealDepot<R> {
     }
 }
 
-impl<R: Files<File = File> + Drop + Send> Depot for RealDepot<R> {
+impl<R: Files<File = File> + Clone + Drop + Send> Depot for RealDepot<R> {
     ghost use Rattle.swh_outside.specs.Files.{absent};
 
-    type D = RealDisk;
+    type D = RealDisk<R>;
 
     ghost tells = { ⊥ };
 
@@ -60,53 +87,24 @@ impl<R: Files<File = File> + Drop + Send> Depot for RealDepot<R> {
 
     ghost faults = { λ depot. depot };
 
-    fn open(&mut self, dir: &str, file: u32) -> Result<RealDisk, OutFault> {
-        let Ok(path) = format!(in self.alloc; "{dir}/{file}") else {
+    fn open(&mut self, dir: &str, file: u32) -> Result<RealDisk<R>, OutFault> {
+        if dir.is_empty() {
+            return Err(OutFault::from(self.count.refuse()));
+        }
+        let place = Place::new(self.alloc, dir, file);
+        let rt: Result<R, AllocError> = self.rt.clone();
+        let (Ok(place), Ok(rt)) = (place, rt) else {
             return Err(OutFault::Memory);
         };
-        match open_file(&self.rt, dir, path.as_str(), file == 0) {
-            Ok(file) => Ok(RealDisk::new(file)),
+        match place.open(&rt, self.access) {
+            Ok(file) => Ok(RealDisk::new(rt, place, self.access, file)),
             Err(_) => Err(OutFault::from(self.count.refuse())),
         }
     }
 
-    fn close(&mut self, _dir: &str, _file: u32, disk: RealDisk) {
+    fn close(&mut self, _dir: &str, _file: u32, disk: RealDisk<R>) {
         if disk.faults() > 0 {
             let _ = self.count.refuse();
         }
-    }
-}
-
-// Opens a file, made where it is absent, and keeps everybody else from it where that is asked.
-fn open_file<R: Files<File = File>>(
-    rt: &R,
-    dir: &str,
-    path: &str,
-    alone: bool,
-) -> io::Result<File> {
-    fs::create_dir_all(rt, dir)?;
-    let file = open_or_make(rt, dir, path)?;
-    if alone && file.try_lock().is_err() {
-        return Err(io::Error::from(ErrorKind::WouldBlock));
-    }
-    Ok(file)
-}
-
-// A new file's name is in its folder only once the folder is on the disk too.
-fn open_or_make<R: Files<File = File>>(rt: &R, dir: &str, path: &str) -> io::Result<File> {
-    match OpenOptions::new()
-        .read(true)
-        .write(true)
-        .create_new(true)
-        .open(rt, path)
-    {
-        Ok(file) => {
-            File::open(rt, dir)?.sync_all()?;
-            Ok(file)
-        }
-        Err(fault) if fault.kind() == ErrorKind::AlreadyExists => {
-            OpenOptions::new().read(true).write(true).open(rt, path)
-        }
-        Err(fault) => Err(fault),
     }
 }

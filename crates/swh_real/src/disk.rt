@@ -2,19 +2,30 @@
 ghost use Rattle.std.specs.Prelude.{◌≡◌};
 
 use crate::count::Count;
+use crate::place::{Access, Place};
+use crate::reading::read_from;
+use crate::size_limit::check_size_limit;
 use std::fs::File;
+use std::io;
+use std::io::ErrorKind;
 use std::marker::Model;
 use std::os::unix::fs::FileExt;
+use std::rt::Files;
 use swh_outside::{Disk, Failed};
 
-/// A file that is read and written at places. A contract sees its count of faults.
+/// A file that is read and written at places. One that does not stand is empty, and is made at the first write. A
+/// contract sees the count of faults.
 #[derive(Drop)]
-pub struct RealDisk {
-    file: File,
+pub struct RealDisk<R: Files<File = File> + Drop> {
+    rt: R,
+    place: Place,
+    access: Access,
+    file: Option<File>,
+    is_named: bool,
     count: Count,
 }
 
-impl Model for RealDisk {
+impl<R: Files<File = File> + Drop> Model for RealDisk<R> {
     ghost use Rattle.std.specs.Prelude.{ℕ};
 
     ghost Value = { ℕ };
@@ -22,13 +33,17 @@ impl Model for RealDisk {
     ghost view = { λ disk. disk.count };
 }
 
-impl RealDisk {
-    /// A disk over an open file, which can be read and written.
-    pub fn new(file: File) -> Self
+impl<R: Files<File = File> + Drop> RealDisk<R> {
+    /// A disk over the file of a place, or over none where it does not stand.
+    pub(crate) fn new(rt: R, place: Place, access: Access, file: Option<File>) -> Self
         ensures { result ≡ 0 }
     {
         RealDisk {
+            rt,
+            place,
+            access,
             file,
+            is_named: false,
             count: Count::new(),
         }
     }
@@ -39,9 +54,53 @@ impl RealDisk {
     {
         self.count.get()
     }
+
+    // Makes the file where it does not stand, and writes.
+    fn write(&mut self, at: u64, bytes: &[u8]) -> io::Result<()>
+        ensures { self.new ≡ self.old }
+    {
+        if let Access::Read = self.access {
+            return Err(io::Error::from(ErrorKind::PermissionDenied));
+        }
+        check_size_limit(at, bytes)?;
+        let file = match self.file.take() {
+            Some(file) => file,
+            None => self.place.make(&self.rt)?,
+        };
+        let written = file.write_all_at(bytes, at);
+        self.file = Some(file);
+        written
+    }
+
+    // The first barrier on a file that stands is one on its name too, but for who only reads.
+    fn settle(&mut self) -> io::Result<()>
+        ensures { self.new ≡ self.old }
+    {
+        let Some(file) = &self.file else {
+            return Ok(());
+        };
+        if let Access::Read = self.access {
+            return sync_read(file);
+        }
+        file.sync_all()?;
+        if !self.is_named {
+            self.place.sync_names(&self.rt)?;
+            self.is_named = true;
+        }
+        Ok(())
+    }
 }
 
-impl Disk for RealDisk {
+// A barrier on a file that is only read, which another run may have written. A file system that takes no writes may
+// know no barrier: there is nothing to bring to the disk.
+fn sync_read(file: &File) -> io::Result<()> {
+    match file.sync_all() {
+        Err(fault) if fault.kind() == ErrorKind::InvalidInput => Ok(()),
+        synced => synced,
+    }
+}
+
+impl<R: Files<File = File> + Drop + Send> Disk for RealDisk<R> {
     ghost use Rattle.swh_outside.specs.Files.{absent};
 
     ghost tells = { ⊥ };
@@ -53,28 +112,34 @@ impl Disk for RealDisk {
     ghost sees_image = { λ disk told. absurd told };
 
     fn len(&mut self) -> Result<u64, Failed> {
-        match self.file.metadata() {
+        let Some(file) = &self.file else {
+            return Ok(0);
+        };
+        match file.metadata() {
             Ok(metadata) => Ok(metadata.len()),
             Err(_) => Err(self.count.refuse()),
         }
     }
 
     fn read_at(&mut self, at: u64, out: &mut [u8]) -> Result<usize, Failed> {
-        match self.file.read_at(out, at) {
+        let Some(file) = &self.file else {
+            return Ok(0);
+        };
+        match read_from(file, at, out) {
             Ok(count) => Ok(count),
             Err(_) => Err(self.count.refuse()),
         }
     }
 
     fn write_at(&mut self, at: u64, bytes: &[u8]) -> Result<(), Failed> {
-        match self.file.write_all_at(bytes, at) {
+        match self.write(at, bytes) {
             Ok(()) => Ok(()),
             Err(_) => Err(self.count.refuse()),
         }
     }
 
     fn sync(&mut self) -> Result<(), Failed> {
-        match self.file.sync_all() {
+        match self.settle() {
             Ok(()) => Ok(()),
             Err(_) => Err(self.count.refuse()),
         }

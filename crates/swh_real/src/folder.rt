@@ -50,13 +50,13 @@ impl RealFolder {
 }
 
 impl Folder for RealFolder {
-    ghost use Rattle.std.specs.Prelude.{[]};
+    ghost use Rattle.swh_outside.specs.Folder.{nothing};
 
     type S = RealSource;
 
     ghost tells = { ⊥ };
 
-    ghost holds = { λ _. record { entries = λ _. []; bytes = λ _. [] } };
+    ghost holds = { λ _. nothing };
 
     ghost opened_at = { λ folder. folder.1 };
 

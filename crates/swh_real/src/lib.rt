@@ -11,7 +11,10 @@ mod doors;
 mod folder;
 mod link;
 mod origins;
+mod place;
+mod reading;
 mod sink;
+mod size_limit;
 mod source;
 #[cfg(test)]
 mod tests;

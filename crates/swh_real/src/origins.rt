@@ -1,5 +1,5 @@
 // Files of the system as inputs.
-ghost use Rattle.std.specs.Prelude.{◌≡◌, ◌≤◌, List, ℕ};
+ghost use Rattle.std.specs.Prelude.{◌≡◌, ◌≢◌, ◌≤◌, List, ℕ};
 
 use crate::count::Count;
 use crate::{RealFolder, RealSource};
@@ -30,8 +30,8 @@ impl<R: Files<File = File> + Drop> Model for RealOrigins<R> {
 }
 
 impl<R: Files<File = File> + Drop> RealOrigins<R> {
-    ghost use Rattle.swh_outside.specs.Counts.{count_at};
-    ghost use Rattle.swh_outside.specs.Faults.{Rose};
+    ghost use Rattle.swh_outside.specs.Counts.{count_at, is_counted};
+    ghost use Rattle.swh_outside.specs.Faults.{Rose, one_more};
 
     pub fn new(rt: R, alloc: Global) -> Self
         ensures no_fault { result.0 ≡ 0 }
@@ -64,7 +64,10 @@ impl<R: Files<File = File> + Drop> RealOrigins<R> {
         ensures later { self.old.0 ≤ self.new.0 }
         ensures rose { Rose self.old.0 self.new.0 }
         ensures path_later { (p : List ℕ) → count_at self.old.1 p ≤ count_at self.new.1 p }
-        ensures path_rose { Rose (count_at self.old.1 path.now) (count_at self.new.1 path.now) }
+        ensures path_rose { count_at self.new.1 path.now ≡ one_more (count_at self.old.1 path.now) }
+        ensures other_paths { is_counted self.old.1 path.now → (p : List ℕ) → p ≢ path.now → count_at self.new.1 p ≡ count_at self.old.1 p }
+        ensures other_places { (p : List ℕ) → p ≢ path.now → is_counted self.old.1 p → count_at self.new.1 p ≡ count_at self.old.1 p }
+        ensures places { (p : List ℕ) → is_counted self.old.1 p → is_counted self.new.1 p }
     {
         let _ = self.count.refuse();
         self.counts.raise(path);
@@ -73,7 +76,7 @@ impl<R: Files<File = File> + Drop> RealOrigins<R> {
 
 impl<R: Files<File = File> + Drop + Send> Origins for RealOrigins<R> {
     ghost use Rattle.std.specs.Prelude.{None};
-    ghost use Rattle.swh_outside.specs.Counts.{count_at};
+    ghost use Rattle.swh_outside.specs.Counts.{count_at, is_counted};
 
     type S = RealSource;
 
@@ -89,6 +92,8 @@ impl<R: Files<File = File> + Drop + Send> Origins for RealOrigins<R> {
 
     ghost path_faults = { λ origins. count_at origins.1 };
 
+    ghost has_place = { λ origins. is_counted origins.1 };
+
     fn file(&mut self, path: &str) -> Opened<RealSource> {
         if self.counts.place(path).is_err() {
             return Opened::Memory;
@@ -98,7 +103,7 @@ impl<R: Files<File = File> + Drop + Send> Origins for RealOrigins<R> {
         };
         match File::open(&self.rt, path) {
             Ok(file) => Opened::Found(RealSource::new(file, name)),
-            Err(fault) if fault.kind() == ErrorKind::NotFound => Opened::NotFound,
+            Err(fault) if is_absence(fault.kind()) => Opened::NotFound,
             Err(_) => {
                 self.refuse(path);
                 Opened::Failed
@@ -107,6 +112,9 @@ impl<R: Files<File = File> + Drop + Send> Origins for RealOrigins<R> {
     }
 
     fn folder(&mut self, path: &str) -> Opened<RealFolder> {
+        if self.counts.place(path).is_err() {
+            return Opened::Memory;
+        }
         self.refuse(path);
         Opened::Failed
     }
@@ -122,4 +130,9 @@ impl<R: Files<File = File> + Drop + Send> Origins for RealOrigins<R> {
             self.refuse(folder.path());
         }
     }
+}
+
+// Nothing stands at a path that does not lead on either: one of its folders is absent, or is no folder.
+fn is_absence(kind: ErrorKind) -> bool {
+    matches!(kind, ErrorKind::NotFound | ErrorKind::NotADirectory)
 }

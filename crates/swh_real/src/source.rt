@@ -2,8 +2,8 @@
 ghost use Rattle.std.specs.Prelude.{◌≡◌, string_bytes};
 
 use crate::count::Count;
+use crate::reading::read_next;
 use std::fs::File;
-use std::io::Read;
 use std::marker::Model;
 use swh_outside::{Failed, Source};
 
@@ -67,7 +67,7 @@ impl Source for RealSource {
     ghost path = { λ source. source.1 };
 
     fn get(&mut self, out: &mut [u8]) -> Result<usize, Failed> {
-        match self.file.read(out) {
+        match read_next(&mut self.file, out) {
             Ok(count) => Ok(count),
             Err(_) => Err(self.count.refuse()),
         }

@@ -23,23 +23,47 @@ fn a_depot_keeps_bytes(rt: HostRuntime) -> Result<(), Fail> {
     let folder = fresh_folder(&rt, rt.alloc(), "depot")?;
     let dir = folder.as_str();
     let mut depot = RealDepot::new(rt.clone()?, rt.alloc());
-    let Ok(mut disk) = depot.open(dir, 0) else {
-        return Err(Fail::from("the first opening"));
+    let (Ok(mut disk), Ok(mut slower)) = (depot.open(dir, 0), depot.open(dir, 0)) else {
+        return Err(Fail::from("the first openings"));
     };
     assert_eq!(rt; disk.len(), Ok(0));
+    assert!(rt; disk.sync().is_ok());
+    assert!(rt; !fs::exists(&rt, dir)?);
     assert!(rt; disk.write_at(0, b"abc").is_ok());
+    assert!(rt; slower.write_at(0, b"no").is_err());
     assert!(rt; disk.write_at(1, b"xyz").is_ok());
     assert!(rt; disk.sync().is_ok());
     assert!(rt; depot.open(dir, 0).is_err());
     depot.close(dir, 0, disk);
     assert_eq!(rt; depot.faults(), 1);
+    depot.close(dir, 0, slower);
+    assert_eq!(rt; depot.faults(), 2);
+    assert!(rt; depot.open("", 0).is_err());
+    fs::remove_dir_all(&rt, dir)?;
+    Ok(())
+}
+
+#[test]
+fn readers_stand_beside_each_other(rt: HostRuntime) -> Result<(), Fail> {
+    let folder = fresh_folder(&rt, rt.alloc(), "readers")?;
+    let dir = folder.as_str();
+    let mut depot = RealDepot::to_make(rt.clone()?, rt.alloc());
+    let mut readers = RealDepot::to_read(rt.clone()?, rt.alloc());
     let Ok(mut disk) = depot.open(dir, 0) else {
-        return Err(Fail::from("the second opening"));
+        return Err(Fail::from("the making"));
     };
-    let mut out = [0; 8];
-    assert_eq!(rt; disk.read_at(1, &mut out), Ok(3));
-    assert_eq!(rt; &out[..3], b"xyz".as_slice());
+    assert!(rt; disk.write_at(0, b"xyz").is_ok());
+    assert!(rt; readers.open(dir, 0).is_err());
     depot.close(dir, 0, disk);
+    let (Ok(mut one), Ok(mut other)) = (readers.open(dir, 0), readers.open(dir, 0)) else {
+        return Err(Fail::from("the readers"));
+    };
+    assert!(rt; depot.open(dir, 0).is_err());
+    let mut out = [0; 8];
+    assert_eq!(rt; one.read_at(1, &mut out), Ok(2));
+    assert_eq!(rt; &out[..2], b"yz".as_slice());
+    assert!(rt; other.sync().is_ok());
+    assert!(rt; other.write_at(0, b"no").is_err());
     fs::remove_dir_all(&rt, dir)?;
     Ok(())
 }
@@ -62,6 +86,9 @@ fn origins_give_files(rt: HostRuntime) -> Result<(), Fail> {
     origins.back(source);
     fs::remove_file(&rt, path.as_str())?;
     assert!(rt; matches!(&origins.file(path.as_str()), Opened::NotFound));
+    fs::write(&rt, path.as_str(), "")?;
+    let through = format!(in rt.alloc(); "{dir}/in/more")?;
+    assert!(rt; matches!(&origins.file(through.as_str()), Opened::NotFound));
     assert_eq!(rt; origins.faults(), 0);
     let Opened::Found(mut folder) = origins.file(dir) else {
         return Err(Fail::from("a folder opens as a file"));

@@ -28,11 +28,30 @@ fn read_words(rt: &HostRuntime) -> io::Result<Vec<String>> {
     Ok(words)
 }
 
+// The depot for a command: `init` makes files, `load` writes to them, and what asks leaves them to others that ask. The
+// wrong one could cost an answer, since its call fails and is told, and never what was promised before.
+fn depot_for(
+    rt: &HostRuntime,
+    alloc: Global,
+    words: &[String],
+) -> io::Result<RealDepot<HostRuntime>> {
+    let rt = rt.clone()?;
+    let command = match words.first() {
+        Some(word) => word.as_str(),
+        None => "",
+    };
+    Ok(match command {
+        "init" => RealDepot::to_make(rt, alloc),
+        "ask" => RealDepot::to_read(rt, alloc),
+        _ => RealDepot::new(rt, alloc),
+    })
+}
+
 fn start(rt: &HostRuntime, alloc: Global) -> io::Result<u8> {
     let words = read_words(rt)?;
     let mut world = Outside {
         namer: Sha1Namer,
-        depot: RealDepot::new(rt.clone()?, alloc),
+        depot: depot_for(rt, alloc, &words)?,
         desk: RealOrigins::new(rt.clone()?, alloc),
         origins: RealOrigins::new(rt.clone()?, alloc),
         yard: RealYard::new(),

@@ -24,5 +24,5 @@ loop-done-preserved g c =
           let read : IsReadAt seen (c.args.at + c.loop-done.done) c.in_ok-count.count c.read_at.new.out =
           subst (λ (f : File). IsReadAt f.seen (c.args.at + c.loop-done.done) c.in_ok-count.count c.read_at.new.out) (i.same told) (c.in_ok-count.ensures.bytes told) in
           omega (arith, read.within, i.inside told, length-drop c.args.at seen);
-      later = omega (arith, c.in_ok-count.ensures.cause.later, i.later);
+      quiet = c.in_ok-count.ensures.cause.quiet ∙ i.quiet;
     }

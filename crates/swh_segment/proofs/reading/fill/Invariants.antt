@@ -7,7 +7,7 @@ invariant-loop-done g l = record {
   same : g.D.Disk.tells → g.D.Disk.file l.disk ≡ g.D.Disk.file l.fn.disk;
   filled : g.D.Disk.tells → take l.done l.out ≡ take l.done (drop l.at (g.D.Disk.file l.fn.disk).seen);
   inside : g.D.Disk.tells → l.done ≤ length (drop l.at (g.D.Disk.file l.fn.disk).seen);
-  later : g.D.Disk.faults l.fn.disk ≤ g.D.Disk.faults l.disk;
+  quiet : g.D.Disk.faults l.disk ≡ g.D.Disk.faults l.fn.disk;
 }
 
 abbrev pub decreases-loop-done : goal.decreases-loop-done

@@ -1,0 +1,170 @@
+#!/usr/bin/env python3
+"""Tries what the built program makes of the system: folders that are not there, archives that may only be read, several
+runs at once, interrupted reads and a limit on the size of files.
+
+    python3 bench/outside.py [PROGRAM]
+
+Interrupted reads want `strace` (Debian: apt-get install strace). Run as root, it asks a read-only archive as nobody.
+"""
+import contextlib
+import fcntl
+import os
+import resource
+import shutil
+import subprocess
+import sys
+import tempfile
+
+from program import TOP, find_program
+
+STREAM = os.path.join(TOP, "examples", "first.fi")
+VISITS = "/api/1/origin/https://e.org/p/visits/"
+NOBODY = 65534
+
+
+class Wrong(Exception):
+    pass
+
+
+class Room:
+    """A folder in which the program is run."""
+
+    def __init__(self, program, folder):
+        self.program, self.folder = program, folder
+        os.chmod(folder, 0o755)
+        self.write("jobs", b"fast\thttps://e.org/p\tstream\n")
+        shutil.copy(STREAM, self.path("stream"))
+
+    def path(self, name):
+        return os.path.join(self.folder, name)
+
+    def write(self, name, data):
+        with open(self.path(name), "wb") as file:
+            file.write(data)
+
+    def run(self, *words, before=None, prefix=()):
+        done = subprocess.run(list(prefix) + [self.program] + list(words), cwd=self.folder, stdout=subprocess.PIPE,
+                              stderr=subprocess.DEVNULL, preexec_fn=before)
+        return done.returncode, done.stdout
+
+    def expect(self, status, front, *words, **options):
+        ended, printed = self.run(*words, **options)
+        if ended != status or not printed.startswith(front):
+            raise Wrong("%r: status %d, %r; wanted %d, %r" % (words, ended, printed, status, front))
+
+    def archive(self, name):
+        self.expect(0, b"made\n", "init", name)
+        self.expect(0, b"https://e.org/p\t1\tfull\t", "load", name, "jobs")
+
+
+def no_name(room):
+    """The empty name is no folder."""
+    for words in (("init", ""), ("load", "", "jobs"), ("ask", "", "/x")):
+        room.expect(4, b"swharc: outside disk\n", *words)
+
+
+def not_there(room):
+    """Asking and loading make nothing."""
+    room.expect(3, b"swharc: not made\n", "load", "none", "jobs")
+    room.expect(3, b"swharc: not made\n", "ask", "none", "/x")
+    if os.path.exists(room.path("none")):
+        raise Wrong("a folder was made")
+
+
+def not_a_folder(room):
+    """An input's path through a file leads nowhere; a job file's likewise."""
+    room.archive("A")
+    room.write("through", b"fast\thttps://e.org/q\tstream/x\n")
+    room.expect(1, b"https://e.org/q\t1\tnot_found\t-\n", "load", "A", "through")
+    room.expect(2, b"swharc: no job file\n", "load", "A", "stream/x")
+    room.expect(4, b"swharc: outside disk\n", "init", "stream")
+
+
+def become_nobody():
+    if os.geteuid() == 0:
+        os.setgid(NOBODY)
+        os.setuid(NOBODY)
+
+
+def only_read(room):
+    """Who may not write an archive may ask it, and a load is told as a disk that fails."""
+    room.archive("A")
+    for name in ("A/0", "A/1"):
+        os.chmod(room.path(name), 0o444)
+    os.chmod(room.path("A"), 0o555)
+    room.expect(0, b"200 ", "ask", "A", VISITS, before=become_nobody)
+    room.expect(4, b"https://e.org/p\t", "load", "A", "jobs", before=become_nobody)
+    room.expect(0, b"200 ", "ask", "A", VISITS)
+
+
+@contextlib.contextmanager
+def locked(path, how):
+    with open(path, "rb") as file:
+        fcntl.flock(file, how)
+        yield
+
+
+def at_once(room):
+    """Those who ask go beside each other; who writes goes alone."""
+    room.archive("A")
+    with locked(room.path("A/0"), fcntl.LOCK_SH):
+        room.expect(0, b"200 ", "ask", "A", VISITS)
+        room.expect(4, b"swharc: outside disk\n", "load", "A", "jobs")
+        room.expect(4, b"swharc: outside disk\n", "init", "A")
+    with locked(room.path("A/0"), fcntl.LOCK_EX):
+        room.expect(4, b"swharc: outside disk\n", "ask", "A", VISITS)
+    room.expect(0, b"200 ", "ask", "A", VISITS)
+
+
+def several_makings(room):
+    """Of several makings at once at most one makes the archive; another is refused, or fails, and spoils nothing."""
+    for turn in range(20):
+        name = "made%d" % turn
+        runs = [subprocess.Popen([room.program, "init", name], cwd=room.folder, stdout=subprocess.PIPE)
+                for _ in range(4)]
+        ends = [(run.communicate()[0], run.returncode) for run in runs]
+        if not set(ends) <= {(b"made\n", 0), (b"swharc: made\n", 3), (b"swharc: outside disk\n", 4)}:
+            raise Wrong("ends %r" % (ends,))
+        if ends.count((b"made\n", 0)) > 1:
+            raise Wrong("made twice: %r" % (ends,))
+        if (b"made\n", 0) in ends:
+            room.expect(1, b"404 ", "ask", name, VISITS)
+
+
+def size_limit(room):
+    """A limit on the size of files is a disk that fails, and no end of the process; what stood before stands."""
+    room.archive("A")
+
+    def limited():
+        resource.setrlimit(resource.RLIMIT_FSIZE, (400, 400))
+    room.write("more", b"fast\thttps://e.org/q\tlonger\n")
+    data = b"x" * 1000
+    room.write("longer", b"blob\nmark :1\ndata 1000\n" + data + b"\n")
+    room.expect(4, b"https://e.org/q\t1\tstopped\tdisk\nswharc: outside disk\n", "load", "A", "more", before=limited)
+    room.expect(0, b"200 ", "ask", "A", VISITS)
+
+
+def interrupted(room):
+    """A read that a signal interrupts is tried again."""
+    if shutil.which("strace") is None:
+        print("interrupted: left out, strace is not there")
+        return
+    room.archive("A")
+    for call in ("read", "pread64"):
+        prefix = ("strace", "-f", "-o", "/dev/null", "-e", "inject=%s:error=EINTR:when=2+3" % call)
+        room.expect(0, b"https://e.org/p\t", "load", "A", "jobs", prefix=prefix)
+
+
+def main():
+    program = find_program()
+    for case in (no_name, not_there, not_a_folder, only_read, at_once, several_makings, size_limit, interrupted):
+        with tempfile.TemporaryDirectory() as folder:
+            try:
+                case(Room(program, folder))
+            except Wrong as wrong:
+                sys.exit("%s: %s" % (case.__name__, wrong))
+        print("%s: as told" % case.__name__)
+
+
+if __name__ == "__main__":
+    main()

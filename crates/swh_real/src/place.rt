@@ -1,0 +1,155 @@
+// Where a file of an archive stands, and what keeps its name.
+use std::alloc::{AllocError, Global};
+use std::fs::{File, OpenOptions};
+use std::io::ErrorKind;
+use std::os::unix::fs::FileExt;
+use std::rt::Files;
+use std::{fs, io};
+
+/// What the files of a depot are opened for.
+#[derive(Clone, Copy)]
+pub enum Access {
+    Read,
+    /// Reading and writing. A file that does not stand is made at its first write.
+    Write,
+    /// Reading and writing. A file that does not stand is made when it is opened.
+    Make,
+}
+
+/// A file of a folder, by its number, and the ledger beside it.
+#[derive(Drop)]
+pub struct Place {
+    folder: String,
+    path: String,
+    ledger: String,
+    is_ledger: bool,
+}
+
+impl Place {
+    /// The place of a file in a folder that has a name.
+    pub fn new(alloc: Global, folder: &str, file: u32) -> Result<Self, AllocError> {
+        Ok(Place {
+            folder: String::from_str(alloc, folder)?,
+            path: format!(in alloc; "{folder}/{file}")?,
+            ledger: format!(in alloc; "{folder}/0")?,
+            is_ledger: file == 0,
+        })
+    }
+
+    /// Opens the file, if it stands or is to be made.
+    pub fn open<R: Files<File = File>>(&self, rt: &R, access: Access) -> io::Result<Option<File>> {
+        match (self.find(rt, access)?, access) {
+            (None, Access::Make) => Ok(Some(self.make(rt)?)),
+            (found, _) => Ok(found),
+        }
+    }
+
+    // Opens the file, if it stands. One that may not be written is opened for reading. A ledger is locked for as long
+    // as it is open: against all others by who writes, and against writers by who reads.
+    fn find<R: Files<File = File>>(&self, rt: &R, access: Access) -> io::Result<Option<File>> {
+        let file = match open_file(rt, self.path.as_str(), access) {
+            Ok(file) => file,
+            Err(fault) if fault.kind() == ErrorKind::NotFound => return Ok(None),
+            Err(fault) => return Err(fault),
+        };
+        if self.is_ledger {
+            lock_file(&file, access)?;
+        }
+        Ok(Some(file))
+    }
+
+    /// Makes the file, which did not stand when it was looked for, and the folders above it. It fails where somebody
+    /// else has made it since.
+    pub fn make<R: Files<File = File>>(&self, rt: &R) -> io::Result<File> {
+        fs::create_dir_all(rt, self.folder.as_str())?;
+        let file = File::create_new(rt, self.path.as_str())?;
+        if self.is_ledger {
+            lock_file(&file, Access::Write)?;
+        }
+        Ok(file)
+    }
+
+    /// Brings the file's name to the disk, whoever made it: a run before this one may have been killed between making
+    /// it and here. No ledger is made before this went well, so the folders above are looked at only until then.
+    pub fn sync_names<R: Files<File = File>>(&self, rt: &R) -> io::Result<()> {
+        File::open(rt, self.folder.as_str())?.sync_all()?;
+        if is_made(rt, self.ledger.as_str()) {
+            return Ok(());
+        }
+        sync_above(rt, self.folder.as_str())
+    }
+}
+
+fn open_file<R: Files<File = File>>(rt: &R, path: &str, access: Access) -> io::Result<File> {
+    match access {
+        Access::Read => File::open(rt, path),
+        Access::Write | Access::Make => match OpenOptions::new()
+            .read(true)
+            .write(true)
+            .open(rt, path)
+        {
+            Err(fault) if may_be_read(fault.kind()) => File::open(rt, path),
+            opened => opened,
+        },
+    }
+}
+
+// The writing alone may be what was refused.
+fn may_be_read(kind: ErrorKind) -> bool {
+    matches!(
+        kind,
+        ErrorKind::PermissionDenied | ErrorKind::ReadOnlyFilesystem
+    )
+}
+
+fn lock_file(file: &File, access: Access) -> io::Result<()> {
+    let locked = match access {
+        Access::Read => file.try_lock_shared(),
+        Access::Write | Access::Make => file.try_lock(),
+    };
+    match locked {
+        Ok(()) => Ok(()),
+        Err(fault) => Err(io::Error::from(fault)),
+    }
+}
+
+// The ledger has all of its beginning, of which the first byte was written last. Where that cannot be seen it is taken
+// for one that is not made, since then more is synced.
+fn is_made<R: Files<File = File>>(rt: &R, ledger: &str) -> bool {
+    let Ok(file) = File::open(rt, ledger) else {
+        return false;
+    };
+    let mut beginning = [0; 9];
+    match file.read_exact_at(&mut beginning, 0) {
+        Ok(()) => beginning[0] == b'S',
+        Err(_) => false,
+    }
+}
+
+// Syncs the folders above one, as far as its path names them, since each holds the name of the one below.
+fn sync_above<R: Files<File = File>>(rt: &R, folder: &str) -> io::Result<()> {
+    let top = if folder.starts_with('/') { "/" } else { "." };
+    sync_if_allowed(rt, top)?;
+    for end in 1..folder.len() {
+        if let Some((above, rest)) = folder.split_at_checked(end)
+            && rest.starts_with('/')
+        {
+            sync_if_allowed(rt, above)?;
+        }
+    }
+    Ok(())
+}
+
+// Syncs a folder above. One that may not be opened, or whose file system knows no barrier, is left to the system: it is
+// somebody else's.
+fn sync_if_allowed<R: Files<File = File>>(rt: &R, folder: &str) -> io::Result<()> {
+    let file = match File::open(rt, folder) {
+        Ok(file) => file,
+        Err(fault) if fault.kind() == ErrorKind::PermissionDenied => return Ok(()),
+        Err(fault) => return Err(fault),
+    };
+    match file.sync_all() {
+        Err(fault) if fault.kind() == ErrorKind::InvalidInput => Ok(()),
+        synced => synced,
+    }
+}
