@@ -125,14 +125,14 @@ Tells at (told_of.Batch p) (Mark origin visit status snapshot) = ⊥
 Tells at (told_of.Whole whole) what = whole ≡ what
 
 -- A closed gate is at the front of the bytes.
-pub record IsClosedAt (records : List ℕ) : Type 0 where
+pub record IsGateClosed (records : List ℕ) : Type 0 where
   pub gate : ℕ
   pub behind : List ℕ
   pub is : records ≡ gate ∷ behind
   pub closed : gate ≢ 1
 
 -- An open gate is at the front of the bytes, and the record behind it.
-pub record IsOpenAt (records : List ℕ) (r : Record) : Type 0 where
+pub record IsGateOpen (records : List ℕ) (r : Record) : Type 0 where
   pub behind : List ℕ
   pub is : records ≡ 1 ∷ behind
   pub record_is : IsRecordOf behind r
@@ -144,6 +144,6 @@ IsBroken records = (at : ℕ) (h : List Event) (gate : ℕ) (behind : List ℕ) 
 
 -- What comes next of a ledger's records.
 abbrev pub IsNext : List ℕ → Next → Type 0
-IsNext records next.End = IsClosedAt records
-IsNext records (next.Record r) = IsOpenAt records r
+IsNext records next.End = IsGateClosed records
+IsNext records (next.Record r) = IsGateOpen records r
 IsNext records next.Broken = IsBroken records
