@@ -26,10 +26,8 @@ use Rattle.swh_model.proofs.Entries.{held_not_none, none_unless_held, new-push, 
 use Rattle.swh_model.proofs.Visits.{all-map}
 use Rattle.swh_model.proofs.Walks.{reaches-next}
 use Rattle.swh_keeper.specs.Judged.{IsSnapshotRefusal, SuitsStatus, MayBeMarked}
-use Rattle.swh_keeper.specs.Checked.{archive_of, AreAlikeEntries, IsRemade, CannotBeMade, AreRemade, CannotAllBeMade, AreAdded, MayNotBeAdded, Happens, MayNotHappen, IsChecked}
-use Rattle.swh_keeper.specs.declared.checking.Checked.{Checked}
+use Rattle.swh_keeper.specs.Checked.{archive_of, AreAlikeEntries, IsRemade, CannotBeMade, AreRemade, CannotAllBeMade, AreAdded, MayNotBeAdded, Happens, MayNotHappen}
 use Rattle.swh_keeper.proofs.BatchLemmas.{all_in, item_in}
-use Rattle.swh_keeper.proofs.LengthLemmas.{store_alike, ledger_alike}
 
 pub cons_same : {X : Type 0} (x y : X) (xs ys : List X) → x ∷ xs ≡ y ∷ ys → (x ≡ y) × (xs ≡ ys)
 cons_same x y xs ys e = (cc, cc)
@@ -141,7 +139,7 @@ module _ (id_of : Kind → List ℕ → List ℕ) where
       let f : Mark o v s n ≡ Mark origin visit status snapshot = alike in
       not (subst (λ (k : EventKind). May_kind id_of a by k) f may)
 
-  -- ---- histories
+  -- ---- events
 
   one_kind : (a : Archive) (by : ℕ) (j k : EventKind) → bare_kind j ≡ bare_kind k → May_kind id_of a by j → May_kind id_of a by k → j ≡ k
   one_kind a by (Batch es) (Batch fs) alike mj mk = ap (λ (l : List Entry). Batch l) (one_batch es fs (batch_same (map bare es) (map bare fs) alike) (all_good es mj.good) (all_good fs mk.good))
@@ -154,32 +152,12 @@ module _ (id_of : Kind → List ℕ → List ℕ) where
   one_kind a by (Mark o v s n) (Open o' kind date) alike mj mk = absurd (let f : Mark o v s n ≡ Open o' kind date = alike in cc)
   one_kind a by (Mark o v s n) (Mark o' v' s' n') alike mj mk = alike
 
-  one_event : (a : Archive) (e f : Event) → bare_event e ≡ bare_event f → May id_of a e → May id_of a f → e ≡ f
+  pub one_event : (a : Archive) (e f : Event) → bare_event e ≡ bare_event f → May id_of a e → May id_of a f → e ≡ f
   one_event a e f alike me mf =
       let who : e.by ≡ f.by = ap (λ (x : Event). x.by) alike in
       let what : bare_kind e.what ≡ bare_kind f.what = ap (λ (x : Event). x.what) alike in
       let same : e.what ≡ f.what = one_kind a f.by e.what f.what what (subst (λ (n : ℕ). May_kind id_of a n e.what) who me) mf in
       λ i. record { by = who i; what = same i }
-
-  -- where the next event may not happen, no history goes on with one like it
-  pub no_history_from : (a : Archive) (h rest k : List Event) (e : Event) → MayAll id_of a h → MayNotHappen id_of (after_all a h) e.by e.what → AreAlike k (h ++ e ∷ rest) → MayAll id_of a k → ⊥
-  no_history_from a [] rest [] e may not alike all = let f : [] ≡ bare_event e ∷ map bare_event rest = alike in cc
-  no_history_from a [] rest (x ∷ k) e may not alike all =
-      let same = (cons_same (bare_event x) (bare_event e) (map bare_event k) (map bare_event rest) alike).0 in
-      not x.what (ap (λ (y : Event). y.what) same) (subst (λ (n : ℕ). May_kind id_of a n x.what) (ap (λ (y : Event). y.by) same) all.0)
-  no_history_from a (g ∷ h) rest [] e may not alike all = let f : [] ≡ bare_event g ∷ map bare_event (h ++ e ∷ rest) = alike in cc
-  no_history_from a (g ∷ h) rest (x ∷ k) e may not alike all =
-      let both = cons_same (bare_event x) (bare_event g) (map bare_event k) (map bare_event (h ++ e ∷ rest)) alike in
-      let same = one_event a x g both.0 all.0 may.0 in
-      no_history_from (after a g) h rest k e may.1 not both.1 (subst (λ (y : Event). MayAll id_of (after a y) k) same all.1)
-
-  pub may-push : (a : Archive) (h : List Event) (e : Event) → MayAll id_of a h → May id_of (after_all a h) e → MayAll id_of a (h ++ e ∷ [])
-  may-push a [] e may next = (next, tt)
-  may-push a (g ∷ h) e may next = (may.0, may-push (after a g) h e may.1 next)
-
-pub after-push : (a : Archive) (h : List Event) (e : Event) → after_all a (h ++ e ∷ []) ≡ after (after_all a h) e
-after-push a [] e = refl
-after-push a (g ∷ h) e = after-push (after a g) h e
 
 -- ---- new entries
 
@@ -260,59 +238,3 @@ in_list (u ∷ vs) (suc k) v e = let more = in_list vs k v e in omega (arith, mo
 
 pub is_there : (vs : List Visit) (by number : ℕ) → MayBeMarked vs by number → number ≤ length vs
 is_there vs by number may = let p = may.there.0 in let less = in_list vs (number - 1) may.visit may.there.1 in omega (arith, p, less)
-
--- ---- the replay, as far as a loop has come
-
-pub record ReplayedSoFar (id_of : Kind → List ℕ → List ℕ) (given history rest : List Event) (a : Archive) : Type 0 where
-  pub alike : AreAlike (history ++ rest) given
-  pub may : MayAll id_of empty_archive history
-  pub now : a ≡ replay history
-
-pub replay_begins : (id_of : Kind → List ℕ → List ℕ) (given history rest : List Event) (bodies : Bodies) (visits : Origins) → rest ≡ given → history ≡ [] → bodies ≡ finite.empty → visits ≡ finite.empty
-    → ReplayedSoFar id_of given history rest (archive_of bodies visits)
-replay_begins id_of given history rest bodies visits all none no_bodies no_visits =
-    record {
-      alike = ap (λ (l : List Event). map bare_event (l ++ rest)) none ∙ ap (λ (l : List Event). map bare_event l) all;
-      may = subst (MayAll id_of empty_archive) (sym none) tt;
-      now = (λ i. archive_of (no_bodies i) (no_visits i)) ∙ ap replay (sym none);
-    }
-
-module _ (id_of : Kind → List ℕ → List ℕ) (given history rest more : List Event) (a : Archive) (so_far : ReplayedSoFar id_of given history rest a) (e : Event) (next : rest ≡ e ∷ more) where
-  pub replay_stuck : MayNotHappen id_of a e.by e.what → (h : List Event) → AreAlike h given → IsHistory id_of h → ⊥
-  replay_stuck not h alike all =
-      no_history_from id_of empty_archive history more h e so_far.may (subst (λ (b : Archive). MayNotHappen id_of b e.by e.what) so_far.now not)
-      (alike ∙ sym so_far.alike ∙ ap (λ (l : List Event). map bare_event (history ++ l)) next) all
-
-  pub replay-next : (f : Event) (history' : List Event) (b : Archive) → f.by ≡ e.by → Happens id_of a b e.by e.what f.what → history' ≡ history ++ f ∷ [] → ReplayedSoFar id_of given history' more b
-  replay-next f history' b who happens longer =
-      let may : May id_of (after_all empty_archive history) f =
-      subst (λ (c : Archive). May_kind id_of c f.by f.what) so_far.now (subst (λ (n : ℕ). May_kind id_of a n f.what) (sym who) happens.may) in
-      let one : bare_event f ≡ bare_event e = λ i. record { by = who i; what = happens.alike i } in
-      subst (λ (h : List Event). ReplayedSoFar id_of given h more b) (sym longer)
-      (record {
-        alike = ap (λ (l : List Event). map bare_event l) (append_assoc history (f ∷ []) more) ∙ map-append bare_event history (f ∷ more)
-            ∙ ap (λ (x : Event). map bare_event history ++ x ∷ map bare_event more) one ∙ sym (map-append bare_event history (e ∷ more))
-            ∙ ap (λ (l : List Event). map bare_event (history ++ l)) (sym next) ∙ so_far.alike;
-        may = may-push id_of empty_archive history f so_far.may may;
-        now = happens.now ∙ ap (λ (n : ℕ). after_kind a n f.what) (sym who) ∙ ap (λ (c : Archive). after c f) so_far.now ∙ sym (after-push empty_archive history f);
-      })
-
-none_left : (xs : List Event) → xs ≡ drop 1 xs → xs ≡ []
-none_left [] e = refl
-none_left (x ∷ xs) e = absurd (let l : length (x ∷ xs) ≡ length xs = ap (λ (l : List Event). length l) e in omega (arith, l))
-
-pub replay_ends : (id_of : Kind → List ℕ → List ℕ) (given rest rest' : List Event) (c : Checked) → ReplayedSoFar id_of given c.history.items rest (archive_of c.replayed.bodies c.replayed.visits) → rest ≡ rest' → rest' ≡ drop 1 rest
-    → c.replayed.store_end ≡ store_length given → c.replayed.ledger_end + 1 ≡ ledger_length given → IsChecked id_of given c
-replay_ends id_of given rest rest' c so_far same left store ledger =
-    let none : rest ≡ [] = none_left rest (same ∙ left) in
-    let alike : AreAlike c.history.items given = sym (ap (λ (l : List Event). map bare_event l) (ap (λ (l : List Event). c.history.items ++ l) none ∙ append-nil c.history.items)) ∙ so_far.alike in
-    record {
-      alike = alike;
-      history = so_far.may;
-      replay = record {
-        bodies = ap (λ (a : Archive). a.bodies) so_far.now;
-        visits = ap (λ (a : Archive). a.origins) so_far.now;
-        store = store ∙ sym (store_alike c.history.items given alike);
-        ledger = ledger ∙ sym (ledger_alike c.history.items given alike);
-      };
-    }

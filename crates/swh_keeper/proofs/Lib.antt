@@ -6,7 +6,6 @@ pub mod BatchLemmas
 pub mod VerdictLemmas
 pub mod EncodeLemmas
 pub mod PlanLemmas
-pub mod LengthLemmas
 pub mod CheckLemmas
 pub mod KeptLemmas
 pub mod ApplyLemmas

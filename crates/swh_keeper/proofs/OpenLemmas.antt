@@ -74,29 +74,14 @@ bare-run : (es : List Entry) → coded_run (map bare es) ≡ coded_run es
 bare-run [] = refl
 bare-run (e ∷ es) = let one = bare-entry e in let more = bare-run es in λ i. one i ++ more i
 
-length-map : (es : List Entry) → length (map bare es) ≡ length es
+pub length-map : (es : List Entry) → length (map bare es) ≡ length es
 length-map [] = refl
 length-map (e ∷ es) = let m = length-map es in omega (arith, m)
 
-bare-run_of : (what : EventKind) → run_of (bare_kind what) ≡ run_of what
+pub bare-run_of : (what : EventKind) → run_of (bare_kind what) ≡ run_of what
 bare-run_of (Batch entries) = bare-run entries
 bare-run_of (Open origin kind date) = refl
 bare-run_of (Mark origin visit status snapshot) = refl
-
-bare-told : (at : ℕ) (what : EventKind) → told at (bare_kind what) ≡ told at what
-bare-told at (Batch es) =
-    let run_same = ap length (bare-run es) in let count = length-map es in
-    λ i. to_be_bytes w64 at ++ (to_be_bytes w64 (at + run_same i) ++ to_be_bytes w32 (count i))
-bare-told at (Open origin kind date) = refl
-bare-told at (Mark origin visit status snapshot) = refl
-
-bare-byte : (what : EventKind) → event_byte (bare_kind what) ≡ event_byte what
-bare-byte (Batch es) = refl
-bare-byte (Open origin kind date) = refl
-bare-byte (Mark origin visit status snapshot) = refl
-
-bare-record : (at : ℕ) (e : Event) → coded_record at (bare_event e) ≡ coded_record at e
-bare-record at e = let k = bare-byte e.what in let t = bare-told at e.what in λ i. framed (k i) (to_be_bytes w32 e.by ++ t i)
 
 codable-entries : (es : List Entry) → AllByRecursion IsCodableEntry (map bare es) → AllByRecursion IsCodableEntry es
 codable-entries [] h = tt
@@ -106,72 +91,16 @@ codable-unbare : (es : List Entry) → AllByRecursion IsCodableEntry es → AllB
 codable-unbare [] h = tt
 codable-unbare (e ∷ es) h = (record { id = h.0.id; body = h.0.body }, codable-unbare es h.1)
 
-kind_from_bare : (at : ℕ) (what : EventKind) → IsCodableKind at (bare_kind what) → IsCodableKind at what
+pub kind_from_bare : (at : ℕ) (what : EventKind) → IsCodableKind at (bare_kind what) → IsCodableKind at what
 kind_from_bare at (Batch es) h =
     let n = h.number in let e = h.end in
     record { entries_codable = codable-entries es h.entries_codable; number = omega (arith, n, length-map es); end = omega (arith, e, ap length (bare-run es)) }
 kind_from_bare at (Open origin kind date) h = h
 kind_from_bare at (Mark origin visit status snapshot) h = h
 
-kind_to_bare : (at : ℕ) (what : EventKind) → IsCodableKind at what → IsCodableKind at (bare_kind what)
+pub kind_to_bare : (at : ℕ) (what : EventKind) → IsCodableKind at what → IsCodableKind at (bare_kind what)
 kind_to_bare at (Batch es) h =
     let n = h.number in let e = h.end in
     record { entries_codable = codable-unbare es h.entries_codable; number = omega (arith, n, length-map es); end = omega (arith, e, ap length (bare-run es)) }
 kind_to_bare at (Open origin kind date) h = h
 kind_to_bare at (Mark origin visit status snapshot) h = h
-
-bare-records : (at : ℕ) (h : List Event) → coded_records at (map bare_event h) ≡ coded_records at h
-bare-records at [] = refl
-bare-records at (e ∷ h) =
-    let one = bare-record at e in
-    let place = ap (λ (l : List ℕ). at + length l) (bare-run_of e.what) in
-    let more = ap (λ (n : ℕ). coded_records n (map bare_event h)) place ∙ bare-records (at + length (run_of e.what)) h in
-    λ i. 1 ∷ (one i ++ more i)
-
-bare-runs : (h : List Event) → coded_runs (map bare_event h) ≡ coded_runs h
-bare-runs [] = refl
-bare-runs (e ∷ h) = let one = bare-run_of e.what in let more = bare-runs h in λ i. one i ++ more i
-
-codable-from_bare : (at : ℕ) (h : List Event) → AreCodable at (map bare_event h) → AreCodable at h
-codable-from_bare at [] c = tt
-codable-from_bare at (e ∷ h) c =
-    let place = ap (λ (l : List ℕ). at + length l) (bare-run_of e.what) in
-    ((c.0.0, kind_from_bare at e.what c.0.1), codable-from_bare (at + length (run_of e.what)) h (subst (λ (n : ℕ). AreCodable n (map bare_event h)) place c.1))
-
-codable-to_bare : (at : ℕ) (h : List Event) → AreCodable at h → AreCodable at (map bare_event h)
-codable-to_bare at [] c = tt
-codable-to_bare at (e ∷ h) c =
-    let place = ap (λ (l : List ℕ). at + length l) (bare-run_of e.what) in
-    ((c.0.0, kind_to_bare at e.what c.0.1), subst (λ (n : ℕ). AreCodable n (map bare_event h)) (sym place) (codable-to_bare (at + length (run_of e.what)) h c.1))
-
--- the files stand for a history where they stand for one that is the same up to the kids
-pub alike_stands : (ledger store : List ℕ) (g h : List Event) → AreAlike g h → StandsFor ledger store h → StandsFor ledger store g
-alike_stands ledger store g h alike s =
-    let records_same = sym (bare-records 0 h) ∙ ap (coded_records 0) (sym alike) ∙ bare-records 0 g in
-    let runs_same = sym (bare-runs h) ∙ ap coded_runs (sym alike) ∙ bare-runs g in
-    record {
-      rest = s.rest;
-      begins = s.begins;
-      stands = record {
-        gate = s.stands.gate;
-        closed = s.stands.closed;
-        behind = s.stands.behind;
-        records = s.stands.records ∙ ap (λ (l : List ℕ). l ++ s.stands.gate ∷ s.stands.behind) records_same;
-        beyond = s.stands.beyond;
-        runs = s.stands.runs ∙ ap (λ (l : List ℕ). l ++ s.stands.beyond) runs_same;
-        codable = codable-from_bare 0 g (subst (AreCodable 0) (sym alike) (codable-to_bare 0 h s.stands.codable));
-      };
-    }
-
-pub alike_store_length : (g h : List Event) → AreAlike g h → store_length g ≡ store_length h
-alike_store_length g h alike = sym (runs-length g) ∙ ap length (sym (bare-runs g) ∙ ap coded_runs alike ∙ bare-runs h) ∙ runs-length h
-
-pub alike_ledger_length : (g h : List Event) → AreAlike g h → ledger_length g ≡ ledger_length h
-alike_ledger_length g h alike =
-    let same : records_length g ≡ records_length h = sym (records-length 0 g) ∙ ap length (sym (bare-records 0 g) ∙ ap (coded_records 0) alike ∙ bare-records 0 h) ∙ records-length 0 h in
-    omega (arith, same)
-
-pub checked_in_files : (r : Replayed) (g h : List Event) → AreAlike g h → IsReplayOf r g → store_length h ≤ 2 ^ 62 → ledger_length h ≤ 2 ^ 62 → IsInFiles r
-checked_in_files r g h alike is store ledger =
-    let s = is.store in let l = is.ledger in let a = alike_store_length g h alike in let b = alike_ledger_length g h alike in
-    record { store_fits = omega (arith, s, a, store); ledger_fits = omega (arith, l, b, ledger) }

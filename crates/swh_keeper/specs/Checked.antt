@@ -5,13 +5,10 @@ use Rattle.swh_base.specs.declared.kind.Kind.{Kind}
 use Rattle.swh_base.specs.declared.entry.Entry.{Entry}
 use Rattle.swh_base.specs.declared.visit.Status.{Status}
 use Rattle.swh_base.specs.Limits.{body_limit}
-use Rattle.swh_model.specs.declared.event.Event.{Event}
 use Rattle.swh_model.specs.declared.event.EventKind.{EventKind}
 use Rattle.swh_model.specs.Archive.{Archive, Bodies, Origins}
-use Rattle.swh_model.specs.Step.{IsGoodAndNamed, MayAdd, MayMark, May_kind, IsHistory, added, marked, after_kind}
-use Rattle.swh_model.specs.Stands.{bare, bare_kind, AreAlike}
-use Rattle.swh_keeper.specs.Planned.{IsReplayOf}
-use Rattle.swh_keeper.specs.declared.checking.Checked.{Checked}
+use Rattle.swh_model.specs.Step.{IsGoodAndNamed, MayAdd, MayMark, May_kind, added, marked, after_kind}
+use Rattle.swh_model.specs.Stands.{bare, bare_kind}
 
 abbrev pub archive_of : Bodies → Origins → Archive
 archive_of bodies origins = record { bodies = bodies; origins = origins }
@@ -54,16 +51,6 @@ module _ (id_of : Kind → List ℕ → List ℕ) where
 
   abbrev pub MayNotHappen : Archive → ℕ → EventKind → Type 0
   MayNotHappen old by given = (what : EventKind) → bare_kind what ≡ bare_kind given → May_kind id_of old by what → ⊥
-
-  -- The history is the read one up to the kids, and the rest is its replay.
-  pub record IsChecked (given : List Event) (c : Checked) : Type 0 where
-    pub alike : AreAlike c.history.items given
-    pub history : IsHistory id_of c.history.items
-    pub replay : IsReplayOf c.replayed c.history.items
-
-  -- No history is the read one up to the kids.
-  abbrev pub IsNoHistory : List Event → Type 0
-  IsNoHistory given = (h : List Event) → AreAlike h given → IsHistory id_of h → ⊥
 
 -- The visit may be marked, and one origin's visits are others.
 pub record IsMarked (old : Archive) (new : Origins) (by : ℕ) (origin : List ℕ) (visit : ℕ) (status : Status) (snapshot : Option (List ℕ)) : Type 0 where

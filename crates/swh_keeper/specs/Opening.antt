@@ -23,12 +23,6 @@ IsMakeFault Made = Unit {0}
 IsMakeFault DiskFault = Unit {0}
 IsMakeFault _ = ⊥
 
--- the files that were read are refused for one of these
-abbrev pub IsOpenFault : OpenWhy → Type 0
-IsOpenFault Damaged = Unit {0}
-IsOpenFault Memory = Unit {0}
-IsOpenFault _ = ⊥
-
 -- none of the calls of a making was made, or those up to one that failed
 abbrev pub IsCutShort : Files → Files → Type 0
 IsCutShort old new = (new ≡ old) ⊎ FilesBreaks (making_calls (old 0).seen) old new
@@ -43,12 +37,12 @@ IsReadFault DiskFault = Unit {0}
 IsReadFault Memory = Unit {0}
 IsReadFault _ = ⊥
 
--- what two files hold is refused for one of these
-abbrev pub IsBytesFault : OpenWhy → Type 0
-IsBytesFault NotMade = Unit {0}
-IsBytesFault Damaged = Unit {0}
-IsBytesFault Memory = Unit {0}
-IsBytesFault _ = ⊥
+-- records are not read for one of these
+abbrev pub IsReadingFault : OpenWhy → Type 0
+IsReadingFault DiskFault = Unit {0}
+IsReadingFault Damaged = Unit {0}
+IsReadingFault Memory = Unit {0}
+IsReadingFault _ = ⊥
 
 -- an opening ends for one of these
 abbrev pub IsOpeningFault : OpenWhy → Type 0
@@ -59,10 +53,6 @@ IsOpeningFault _ = Unit {0}
 abbrev pub IsLeftFor : OpenWhy → Files → Files → Type 0
 IsLeftFor DiskFault old new = FilesBreaks barriers old new ⊎ (new ≡ files_done barriers old)
 IsLeftFor _ old new = new ≡ files_done barriers old
-
--- The files stand for no events at all.
-abbrev pub StandsForNone : List ℕ → List ℕ → Type 0
-StandsForNone ledger store = (h : List Event) → StandsFor ledger store h → ⊥
 
 module _ (id_of : Kind → List ℕ → List ℕ) where
   -- The history is the one for which the files stand.

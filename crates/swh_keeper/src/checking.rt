@@ -1,21 +1,18 @@
-//! The check of a history that was read from an archive's files: whether each event may happen after those before it.
-ghost use Rattle.std.specs.Prelude.{◌≡◌, ◌↔◌, ◌<◌, ◌^◌, false, IsTrue, IfOk, IfSome, IfNone, length};
+//! The check of an event that was read from an archive's files: whether it may happen after those before it.
+ghost use Rattle.std.specs.Prelude.{◌≡◌, ◌↔◌, false, IsTrue, IfOk, IfSome, IfNone};
 ghost use Rattle.std.specs.List.{AllByRecursion};
 ghost use Rattle.swh_model.specs.Archive.{visits_of};
-ghost use Rattle.swh_model.specs.Limits.{store_length, ledger_length};
 ghost use Rattle.swh_model.specs.Step.{IsGood, AreNew, FitsStatus, MayMark, added};
 ghost use Rattle.swh_model.specs.Judge.{IsHow};
 ghost use Rattle.swh_keeper.specs.Judged.{MayBeMarked};
-ghost use Rattle.swh_keeper.specs.Checked.{archive_of, AreAdded, MayNotBeAdded, IsMarked, Happens, MayNotHappen, IsChecked, IsNoHistory};
+ghost use Rattle.swh_keeper.specs.Checked.{archive_of, AreAdded, MayNotBeAdded, IsMarked, Happens, MayNotHappen};
 
 use crate::bodies::HeldBodies;
 use crate::judging::{snapshot_refusal, visit_refusal};
-use crate::lengths::{ledger_end_of, store_end_of};
 use crate::remaking::remake_all;
 use crate::replayed::Replayed;
 use crate::visits::OriginVisits;
 use std::alloc::Global;
-use std::collections::VecDeque;
 use swh_base::{Entry, Many, Memory, Namer, Status, Url};
 use swh_model::{Event, EventKind, Visit, are_within_limits};
 
@@ -133,7 +130,7 @@ fn check_mark(
 }
 
 /// What happened, with the kids of its entries, where it may happen.
-fn check_kind<N: Namer>(
+pub fn check_kind<N: Namer>(
     alloc: Global,
     namer: &N,
     bodies: &mut HeldBodies,
@@ -172,37 +169,4 @@ fn check_kind<N: Namer>(
             }))
         }
     }
-}
-
-/// The history that was read, with the kids of its entries, and its replay; none where it may not happen.
-pub fn check_replay<N: Namer>(
-    alloc: Global,
-    namer: N,
-    events: Vec<Event>,
-) -> Result<Option<Checked>, Memory>
-    requires store { store_length events.items < 2 ^ 64 }
-    requires ledger { ledger_length events.items < 2 ^ 64 }
-    ensures some { IfOk result (λ found. IfSome found (IsChecked N.id_of events.items)) }
-    ensures none { IfOk result (λ found. IfNone found (IsNoHistory N.id_of events.items)) }
-{
-    let store_end = store_end_of(&events);
-    let ledger_end = ledger_end_of(&events);
-    let mut bodies = HeldBodies::new(alloc);
-    let mut visits = OriginVisits::new(alloc);
-    let mut history = Vec::new(alloc);
-    let mut rest = VecDeque::from(events);
-    while let Some(event) = rest.pop_front() {
-        let Event { by, what } = event;
-        let Some(what) = check_kind(alloc, &namer, &mut bodies, &mut visits, by, what)? else {
-            return Ok(None);
-        };
-        history.push(Event { by, what })?;
-    }
-    let replayed = Replayed {
-        bodies,
-        visits,
-        store_end,
-        ledger_end,
-    };
-    Ok(Some(Checked { replayed, history }))
 }

@@ -1,7 +1,7 @@
 //! The keeper: judges plans, and adds their events to the two files.
 use crate::adding::{AddFault, add_event};
 use crate::bodies::HeldBodies;
-use crate::checking::{Checked, check_replay};
+use crate::checking::Checked;
 use crate::fault::{Refusal, refusal_for};
 use crate::opening::{OpenFault, OpenWhy, why_not_made};
 use crate::plans::plan;
@@ -46,15 +46,11 @@ impl<N: Namer, D: Disk> Keeper<N, D> {
     ghost use Rattle.swh_keeper.specs.declared.fault.Refusal.TheVariants.{DiskFault};
     ghost use Rattle.swh_outside.specs.Files.{files_of, files_done};
     ghost use Rattle.swh_segment.specs.Making.{IsMade, IsNotMade, barriers, making_calls};
-    ghost use Rattle.std.specs.Prelude.{◌^◌};
-    ghost use Rattle.swh_outside.specs.Disk.{IsAtRest};
-    ghost use Rattle.swh_model.specs.Limits.{store_length, ledger_length};
-    ghost use Rattle.swh_model.specs.Stands.{StandsFor, AreAlike};
-    ghost use Rattle.swh_keeper.specs.Checked.{IsNoHistory};
-    ghost use Rattle.swh_keeper.specs.Opening.{IsMakeFault, IsOpenFault, IsOpeningFault, IsCutShort, IsLeftFor, IsTheHistory, IsDamaged};
+    ghost use Rattle.swh_model.specs.Stands.{StandsFor};
+    ghost use Rattle.swh_keeper.specs.Opening.{IsMakeFault, IsOpeningFault, IsCutShort, IsLeftFor, IsTheHistory, IsDamaged};
     ghost use Rattle.swh_keeper.specs.declared.opening.OpenWhy.TheVariants.{Made, NotMade, Damaged, DiskFault as DiskFaulted};
     ghost use Rattle.swh_model.specs.Archive.{body_of, visits_of};
-    ghost use Rattle.swh_model.specs.Step.{IsHistory, replay};
+    ghost use Rattle.swh_model.specs.Step.{replay};
     ghost use Rattle.swh_keeper.specs.Advance.{archive_of};
     ghost use Rattle.swh_keeper.specs.Maps.{IsAll, IsEntryOf};
     ghost use Rattle.swh_keeper.specs.Kept.{IsKept, Applies, Refuses};
@@ -124,50 +120,20 @@ impl<N: Namer, D: Disk> Keeper<N, D> {
         ensures store_later { MatchResult result (λ keeper. D.faults store ≤ D.faults keeper.store) (λ fault. D.faults store ≤ D.faults fault.store) }
         ensures ledger_later { MatchResult result (λ keeper. D.faults ledger ≤ D.faults keeper.ledger) (λ fault. D.faults ledger ≤ D.faults fault.ledger) }
     {
-        match read_archive(alloc, &mut store, &mut ledger) {
-            Ok(events) => Keeper::of_files(alloc, namer, store, ledger, events),
-            Err(why) => Err(OpenFault { why, store, ledger }),
-        }
-    }
-
-    /// Opens an archive whose two files were read: nothing was written since a barrier, and they stand for these
-    /// events, up to the kids of their entries. It is refused where the events are no history.
-    pub fn of_files(
-        alloc: Global,
-        namer: N,
-        store: D,
-        ledger: D,
-        events: Vec<Event>,
-    ) -> Result<Keeper<N, D>, OpenFault<D>>
-        requires ledger_rests { D.tells → IsAtRest (D.file ledger) }
-        requires store_rests { D.tells → IsAtRest (D.file store) }
-        requires stand { D.tells → StandsFor (D.file ledger).seen (D.file store).seen events.items }
-        requires store_fits { store_length events.items ≤ 2 ^ 62 }
-        requires ledger_fits { ledger_length events.items ≤ 2 ^ 62 }
-        ensures history { IfOk result (λ keeper. AreAlike keeper.history events.items) }
-        ensures checked { IfOk result (λ keeper. IsHistory N.id_of keeper.history) }
-        ensures unwounded { IfOk result (λ keeper. keeper.wounded ≡ None) }
-        ensures same { IfOk result (λ keeper. (keeper.store ≡ store) × (keeper.ledger ≡ ledger)) }
-        ensures damaged { IfErr result (λ fault. fault.why ≡ Damaged → IsNoHistory N.id_of events.items) }
-        ensures why { IfErr result (λ fault. IsOpenFault fault.why) }
-        ensures back { IfErr result (λ fault. (fault.store ≡ store) × (fault.ledger ≡ ledger)) }
-    {
-        let why = match check_replay(alloc, namer, events) {
-            Ok(Some(checked)) => {
+        match read_archive(alloc, &namer, &mut store, &mut ledger) {
+            Ok(checked) => {
                 let Checked { replayed, history } = checked;
-                return Ok(Keeper {
+                Ok(Keeper {
                     namer,
                     store,
                     ledger,
                     replayed,
                     history,
                     wounded: None,
-                });
+                })
             }
-            Ok(None) => OpenWhy::Damaged,
-            Err(_) => OpenWhy::Memory,
-        };
-        Err(OpenFault { why, store, ledger })
+            Err(why) => Err(OpenFault { why, store, ledger }),
+        }
     }
 
     /// The events so far, the newest last, and what holds of the disks.

@@ -12,7 +12,6 @@ mod fault;
 mod fresh;
 mod judging;
 mod keeper;
-mod lengths;
 mod listing;
 mod opening;
 mod planning;
@@ -24,7 +23,6 @@ mod visits;
 mod writing;
 
 pub use bodies::HeldBodies;
-pub use checking::{Checked, check_replay};
 pub use closure::find_gap;
 pub use fault::Refusal;
 pub use fresh::{Split, find_collision, split_fresh};

@@ -3,6 +3,7 @@ ghost use Rattle.std.specs.Prelude.{◌≡◌};
 ghost use Rattle.swh_keeper.specs.Opening.{make_why, read_why};
 ghost use Rattle.swh_keeper.specs.declared.opening.OpenWhy.TheVariants.{DiskFault, Memory as OutOfMemory};
 
+use std::alloc::AllocError;
 use swh_base::Memory;
 use swh_outside::{Disk, Failed};
 use swh_segment::{MakeFault, ReadFileFault};
@@ -41,6 +42,14 @@ impl From<Failed> for OpenWhy {
 
     fn from(_: Failed) -> OpenWhy {
         OpenWhy::DiskFault
+    }
+}
+
+impl From<AllocError> for OpenWhy {
+    ghost from_gives = { λ _ why. why ≡ OutOfMemory };
+
+    fn from(_: AllocError) -> OpenWhy {
+        OpenWhy::Memory
     }
 }
 

@@ -1,41 +1,268 @@
-//! The reading of an archive's two files.
-ghost use Rattle.std.specs.Prelude.{◌≡◌, ◌≤◌, ◌^◌, IsTrue, false, IfOk, OnOk, IfErr, IsErrOf};
+//! The reading of an archive's two files: the ledger record by record, the store run by run, each event checked as it
+//! is read. Of the store nothing is read behind the last run.
+ghost use Rattle.std.specs.Prelude.{◌≡◌, ◌↔◌, ◌+◌, ◌≤◌, ◌<◌, [], IsTrue, false, IfOk, OnOk, IfSome, IfNone, IfErr, IsErrOf, length};
+ghost use Rattle.std.specs.FinMap as finite;
 ghost use Rattle.swh_outside.specs.Files.{files_of, files_done};
+ghost use Rattle.swh_outside.specs.Faults.{Rose};
 ghost use Rattle.swh_segment.specs.Makes.{EitherRose};
 ghost use Rattle.swh_segment.specs.Making.{IsMade, IsNotMade, barriers};
-ghost use Rattle.swh_model.specs.Limits.{store_length, ledger_length};
+ghost use Rattle.swh_model.specs.Coding.{coded_run, run_of};
+ghost use Rattle.swh_model.specs.Decoding.{IsFit};
 ghost use Rattle.swh_model.specs.Stands.{StandsFor};
-ghost use Rattle.swh_keeper.specs.Opening.{IsReadFault, IsBytesFault, IsOpeningFault, IsLeftFor, StandsForNone};
+ghost use Rattle.swh_model.specs.Step.{IsHistory};
+ghost use Rattle.swh_keeper.specs.Checked.{archive_of, MayNotHappen};
+ghost use Rattle.swh_keeper.specs.Planned.{IsReplayOf, IsInFiles};
+ghost use Rattle.swh_keeper.specs.Reading.{MayBeRun, IsBatchRead, HoldsAt, IsNoBatch, IsKindRead, IsNoKind, IsLonger, IsTaken, NoneMayHappen, IsReadSoFar, HasRuns, IsAtEnd, IsNoArchive};
+ghost use Rattle.swh_keeper.specs.Opening.{IsReadFault, IsReadingFault, IsOpeningFault, IsLeftFor, IsDamaged};
 ghost use Rattle.swh_keeper.specs.declared.opening.OpenWhy.TheVariants.{NotMade, Damaged, DiskFault};
 
+use crate::bodies::HeldBodies;
+use crate::checking::{Checked, check_kind};
 use crate::opening::OpenWhy;
+use crate::replayed::Replayed;
+use crate::visits::OriginVisits;
 use std::alloc::Global;
-use swh_model::{Event, read_history};
+use swh_base::{Entry, Many, Memory, Namer};
+use swh_model::{BatchParts, Event, EventKind, Next, Record, Told, next_record, read_run, split_magic};
 use swh_outside::Disk;
-use swh_segment::{read_file, settle};
+use swh_segment::{fill, read_file, settle};
 
-// What both files hold.
+/// What happened, without the kids of its entries, and the place in the store behind its run.
 #[derive(Drop)]
-struct BothFiles {
-    ledger: Vec<u8>,
-    store: Vec<u8>,
+pub struct KindRead {
+    pub what: EventKind,
+    pub end: u64,
 }
 
-// A barrier on each file, and then what they hold.
-fn read_files<D: Disk>(alloc: Global, store: &mut D, ledger: &mut D) -> Result<BothFiles, OpenWhy>
-    ensures ledger_bytes { D.tells → IfOk result (λ files. files.ledger.items ≡ (D.file ledger.old).seen) }
-    ensures store_bytes { D.tells → IfOk result (λ files. files.store.items ≡ (D.file store.old).seen) }
-    ensures calls { D.tells → OnOk result (files_of (D.file ledger.new) (D.file store.new) ≡ files_done barriers (files_of (D.file ledger.old) (D.file store.old))) }
-    ensures why { IfErr result IsReadFault }
-    ensures left { D.tells → IfErr result (λ why. IsLeftFor why (files_of (D.file ledger.old) (D.file store.old)) (files_of (D.file ledger.new) (D.file store.new))) }
-    ensures store_later { D.faults store.old ≤ D.faults store.new }
-    ensures ledger_later { D.faults ledger.old ≤ D.faults ledger.new }
-    ensures cause { IsErrOf result DiskFault → EitherRose (D.faults store.old) (D.faults store.new) (D.faults ledger.old) (D.faults ledger.new) }
+// The longest run of a batch within its limits: 4,096 objects with 29 bytes each in front of their bodies, of which all
+// but the last have 8,388,608 bytes, and the last has 67,108,864.
+const LONGEST_RUN: u64 = 75_616_256;
+
+const MOST_OBJECTS: u32 = 4_096;
+
+// Says whether the run of a record may be that of a batch within its limits.
+fn may_be_run(parts: &BatchParts, at: u64, size: u64) -> bool
+    ensures { IsTrue result ↔ MayBeRun parts.now at size }
 {
-    settle(store, ledger)?;
-    let ledger = read_file(alloc, ledger)?;
-    let store = read_file(alloc, store)?;
-    Ok(BothFiles { ledger, store })
+    if parts.from != at || parts.to < at {
+        return false;
+    }
+    parts.to <= size && parts.to - at <= LONGEST_RUN && parts.number <= MOST_OBJECTS
+}
+
+// The objects of a batch whose run begins at this place of the store, without their kids. Room is taken only for a run
+// that ends within the store, and that a batch within its limits may have.
+fn read_batch<D: Disk>(
+    alloc: Global,
+    store: &mut D,
+    size: u64,
+    at: u64,
+    parts: &BatchParts,
+) -> Result<Option<Vec<Entry>>, OpenWhy>
+    requires size { D.tells → size ≡ length (D.file store.old).seen }
+    requires inside { at ≤ size }
+    ensures read { IfOk result (λ found. IfSome found (λ es. IsBatchRead at parts.now es.items)) }
+    ensures inside { IfOk result (λ found. IfSome found (λ es. at + length (coded_run es.items) ≤ size)) }
+    ensures holds { D.tells → IfOk result (λ found. IfSome found (λ es. HoldsAt (D.file store.old).seen at (coded_run es.items))) }
+    ensures none { D.tells → IfOk result (λ found. IfNone found (IsNoBatch at parts.now (D.file store.old).seen)) }
+    ensures why { IfErr result IsReadFault }
+    ensures same { D.tells → D.file store.new ≡ D.file store.old }
+    ensures later { D.faults store.old ≤ D.faults store.new }
+    ensures cause { IsErrOf result DiskFault → Rose (D.faults store.old) (D.faults store.new) }
+{
+    if !may_be_run(parts, at, size) {
+        return Ok(None);
+    }
+    let mut bytes = vec![in alloc; 0u8; (parts.to - at) as usize]?;
+    let count = fill(store, at, &mut bytes)?;
+    if count < bytes.len() {
+        return Ok(None);
+    }
+    Ok(read_run(alloc, &bytes, parts.number)?)
+}
+
+// What a record tells, with the run of a batch.
+fn read_kind<D: Disk>(
+    alloc: Global,
+    store: &mut D,
+    size: u64,
+    at: u64,
+    told: Told,
+) -> Result<Option<KindRead>, OpenWhy>
+    requires size { D.tells → size ≡ length (D.file store.old).seen }
+    requires inside { at ≤ size }
+    requires fit { IsFit told }
+    ensures read { IfOk result (λ found. IfSome found (IsKindRead at size told)) }
+    ensures holds { D.tells → IfOk result (λ found. IfSome found (λ read. HoldsAt (D.file store.old).seen at (run_of read.what))) }
+    ensures none { D.tells → IfOk result (λ found. IfNone found (IsNoKind at told (D.file store.old).seen)) }
+    ensures why { IfErr result IsReadFault }
+    ensures same { D.tells → D.file store.new ≡ D.file store.old }
+    ensures later { D.faults store.old ≤ D.faults store.new }
+    ensures cause { IsErrOf result DiskFault → Rose (D.faults store.old) (D.faults store.new) }
+{
+    match told {
+        Told::Whole(what) => Ok(Some(KindRead { what, end: at })),
+        Told::Batch(parts) => {
+            let Some(entries) = read_batch(alloc, store, size, at, &parts)? else {
+                return Ok(None);
+            };
+            let what = EventKind::Batch(Many::from_vec(entries));
+            Ok(Some(KindRead {
+                what,
+                end: parts.to,
+            }))
+        }
+    }
+}
+
+// Lets an event happen that was read, with the kids of its entries, where it may.
+fn happen<N: Namer>(
+    alloc: Global,
+    namer: &N,
+    checked: &mut Checked,
+    event: Event,
+) -> Result<bool, Memory>
+    ensures yes { IfOk result (λ yes. IsTrue yes → IsLonger N.id_of checked.old event checked.new) }
+    ensures no { IfOk result (λ yes. yes ≡ false → MayNotHappen N.id_of (archive_of checked.old.replayed.bodies checked.old.replayed.visits) event.by event.what) }
+{
+    let Event { by, what } = event;
+    let replayed = &mut checked.replayed;
+    let happened = check_kind(
+        alloc,
+        namer,
+        &mut replayed.bodies,
+        &mut replayed.visits,
+        by,
+        what,
+    )?;
+    let Some(what) = happened else {
+        return Ok(false);
+    };
+    checked.history.push(Event { by, what })?;
+    Ok(true)
+}
+
+// Takes the event of the next record, where it may happen.
+fn take_record<N: Namer, D: Disk>(
+    alloc: Global,
+    namer: &N,
+    store: &mut D,
+    size: u64,
+    checked: &mut Checked,
+    by: u32,
+    told: Told,
+) -> Result<bool, OpenWhy>
+    requires size { D.tells → size ≡ length (D.file store.old).seen }
+    requires inside { checked.old.replayed.store_end ≤ size }
+    requires fit { IsFit told }
+    ensures taken { IfOk result (λ yes. IsTrue yes → IsTaken N.id_of D.tells (D.file store.old).seen checked.old by told checked.new) }
+    ensures inside { IfOk result (λ yes. IsTrue yes → checked.new.replayed.store_end ≤ size) }
+    ensures none { D.tells → IfOk result (λ yes. yes ≡ false → NoneMayHappen N.id_of checked.old by told (D.file store.old).seen) }
+    ensures why { IfErr result IsReadFault }
+    ensures same { D.tells → D.file store.new ≡ D.file store.old }
+    ensures later { D.faults store.old ≤ D.faults store.new }
+    ensures cause { IsErrOf result DiskFault → Rose (D.faults store.old) (D.faults store.new) }
+{
+    let at = checked.replayed.store_end;
+    let Some(read) = read_kind(alloc, store, size, at, told)? else {
+        return Ok(false);
+    };
+    let KindRead { what, end } = read;
+    if !happen(alloc, namer, checked, Event { by, what })? {
+        return Ok(false);
+    }
+    checked.replayed.store_end = end;
+    Ok(true)
+}
+
+// Reads the next record and takes its event. Says whether there is one; none where the gate is closed.
+fn read_next<N: Namer, D: Disk>(
+    alloc: Global,
+    namer: &N,
+    store: &mut D,
+    size: u64,
+    ledger: &[u8],
+    checked: &mut Checked,
+) -> Result<bool, OpenWhy>
+    requires size { D.tells → size ≡ length (D.file store.old).seen }
+    requires inside { checked.old.replayed.store_end ≤ size }
+    requires so_far { IsReadSoFar N.id_of ledger.now checked.old }
+    requires runs { D.tells → HasRuns (D.file store.old).seen checked.old }
+    ensures so_far { OnOk result (IsReadSoFar N.id_of ledger.now checked.new) }
+    ensures runs { D.tells → OnOk result (HasRuns (D.file store.old).seen checked.new) }
+    ensures inside { OnOk result (checked.new.replayed.store_end ≤ size) }
+    ensures longer { IfOk result (λ more. IsTrue more → checked.old.replayed.ledger_end < checked.new.replayed.ledger_end) }
+    ensures end { IfOk result (λ more. more ≡ false → IsAtEnd ledger.now checked.new) }
+    ensures damaged { D.tells → IsErrOf result Damaged → IsNoArchive N.id_of ledger.now (D.file store.old).seen }
+    ensures why { IfErr result IsReadingFault }
+    ensures same { D.tells → D.file store.new ≡ D.file store.old }
+    ensures later { D.faults store.old ≤ D.faults store.new }
+    ensures cause { IsErrOf result DiskFault → Rose (D.faults store.old) (D.faults store.new) }
+{
+    let place = checked.replayed.ledger_end as usize;
+    let record = match next_record(alloc, &ledger[place..])? {
+        Next::End => return Ok(false),
+        Next::Broken => return Err(OpenWhy::Damaged),
+        Next::Record(record) => record,
+    };
+    let Record { by, told, rest } = record;
+    if !take_record(alloc, namer, store, size, checked, by, told)? {
+        return Err(OpenWhy::Damaged);
+    }
+    checked.replayed.ledger_end = (ledger.len() - rest.len()) as u64;
+    Ok(true)
+}
+
+// A keeper keeps both files below this length.
+const MOST_BYTES: u64 = 1 << 62;
+
+// An archive of no event, whose ledger has its magic and a gate.
+fn nothing_read(alloc: Global) -> Checked
+    ensures history { result.history.items ≡ [] }
+    ensures bodies { result.replayed.bodies ≡ finite.empty }
+    ensures visits { result.replayed.visits ≡ finite.empty }
+    ensures store_end { result.replayed.store_end ≡ 0 }
+    ensures ledger_end { result.replayed.ledger_end ≡ 8 }
+{
+    Checked {
+        replayed: Replayed {
+            bodies: HeldBodies::new(alloc),
+            visits: OriginVisits::new(alloc),
+            store_end: 0,
+            ledger_end: 8,
+        },
+        history: Vec::new(alloc),
+    }
+}
+
+// The history that the records of a ledger tell, up to the first closed gate, and its replay.
+fn read_records<N: Namer, D: Disk>(
+    alloc: Global,
+    namer: &N,
+    store: &mut D,
+    size: u64,
+    ledger: &[u8],
+) -> Result<Checked, OpenWhy>
+    requires size { D.tells → size ≡ length (D.file store.old).seen }
+    ensures so_far { IfOk result (IsReadSoFar N.id_of ledger.now) }
+    ensures runs { D.tells → IfOk result (HasRuns (D.file store.old).seen) }
+    ensures inside { IfOk result (λ checked. checked.replayed.store_end ≤ size) }
+    ensures end { IfOk result (IsAtEnd ledger.now) }
+    ensures damaged { D.tells → IsErrOf result Damaged → IsNoArchive N.id_of ledger.now (D.file store.old).seen }
+    ensures why { IfErr result IsReadingFault }
+    ensures same { D.tells → D.file store.new ≡ D.file store.old }
+    ensures later { D.faults store.old ≤ D.faults store.new }
+    ensures cause { IsErrOf result DiskFault → Rose (D.faults store.old) (D.faults store.new) }
+{
+    let Some(_records) = split_magic(ledger) else {
+        return Err(OpenWhy::Damaged);
+    };
+    let mut checked = nothing_read(alloc);
+    'records: loop {
+        if !read_next(alloc, namer, store, size, ledger, &mut checked)? {
+            return Ok(checked);
+        }
+    }
 }
 
 fn is_made(ledger: &[u8]) -> bool
@@ -45,53 +272,58 @@ fn is_made(ledger: &[u8]) -> bool
     ledger.len() >= 9 && ledger[0] == b'S'
 }
 
-// A keeper keeps both files below this length.
-const MOST_BYTES: usize = 1 << 62;
-
-// The events for which the bytes of the two files stand.
-fn events_of(alloc: Global, ledger: &[u8], store: &[u8]) -> Result<Vec<Event>, OpenWhy>
-    ensures stand { IfOk result (λ events. StandsFor ledger.now store.now events.items) }
-    ensures store_fits { IfOk result (λ events. store_length events.items ≤ 2 ^ 62) }
-    ensures ledger_fits { IfOk result (λ events. ledger_length events.items ≤ 2 ^ 62) }
+// The history for which the store stands with a ledger of these bytes, and its replay.
+fn read_store<N: Namer, D: Disk>(
+    alloc: Global,
+    namer: &N,
+    store: &mut D,
+    ledger: &[u8],
+) -> Result<Checked, OpenWhy>
+    ensures history { IfOk result (λ checked. IsHistory N.id_of checked.history.items) }
+    ensures replay { IfOk result (λ checked. IsReplayOf checked.replayed checked.history.items) }
+    ensures in_files { IfOk result (λ checked. IsInFiles checked.replayed) }
+    ensures stand { D.tells → IfOk result (λ checked. StandsFor ledger.now (D.file store.old).seen checked.history.items) }
     ensures made { OnOk result (IsMade ledger.now) }
-    ensures why { IfErr result IsBytesFault }
+    ensures why { IfErr result IsOpeningFault }
     ensures not_made { IsErrOf result NotMade → IsNotMade ledger.now }
-    ensures damaged { IsErrOf result Damaged → IsMade ledger.now × StandsForNone ledger.now store.now }
+    ensures damaged { D.tells → IsErrOf result Damaged → IsDamaged N.id_of ledger.now (D.file store.old).seen }
+    ensures same { D.tells → D.file store.new ≡ D.file store.old }
+    ensures later { D.faults store.old ≤ D.faults store.new }
+    ensures cause { IsErrOf result DiskFault → Rose (D.faults store.old) (D.faults store.new) }
 {
     if !is_made(ledger) {
         return Err(OpenWhy::NotMade);
     }
-    if ledger.len() > MOST_BYTES {
+    let size = store.len()?;
+    if size > MOST_BYTES || ledger.len() as u64 > MOST_BYTES {
         return Err(OpenWhy::Memory);
     }
-    if store.len() > MOST_BYTES {
-        return Err(OpenWhy::Memory);
-    }
-    match read_history(alloc, ledger, store)? {
-        Some(events) => Ok(events),
-        None => Err(OpenWhy::Damaged),
-    }
+    read_records(alloc, namer, store, size, ledger)
 }
 
-/// A barrier on each file, and then the events for which they stand.
-pub fn read_archive<D: Disk>(
+/// A barrier on each file, and then the history for which they stand, and its replay. The ledger is read whole, and of
+/// the store the runs alone, each up to its end.
+pub fn read_archive<N: Namer, D: Disk>(
     alloc: Global,
+    namer: &N,
     store: &mut D,
     ledger: &mut D,
-) -> Result<Vec<Event>, OpenWhy>
-    ensures stand { D.tells → IfOk result (λ events. StandsFor (D.file ledger.old).seen (D.file store.old).seen events.items) }
-    ensures store_fits { IfOk result (λ events. store_length events.items ≤ 2 ^ 62) }
-    ensures ledger_fits { IfOk result (λ events. ledger_length events.items ≤ 2 ^ 62) }
+) -> Result<Checked, OpenWhy>
+    ensures history { IfOk result (λ checked. IsHistory N.id_of checked.history.items) }
+    ensures replay { IfOk result (λ checked. IsReplayOf checked.replayed checked.history.items) }
+    ensures in_files { IfOk result (λ checked. IsInFiles checked.replayed) }
+    ensures stand { D.tells → IfOk result (λ checked. StandsFor (D.file ledger.old).seen (D.file store.old).seen checked.history.items) }
     ensures made { D.tells → OnOk result (IsMade (D.file ledger.old).seen) }
     ensures calls { D.tells → OnOk result (files_of (D.file ledger.new) (D.file store.new) ≡ files_done barriers (files_of (D.file ledger.old) (D.file store.old))) }
     ensures why { IfErr result IsOpeningFault }
     ensures not_made { D.tells → IsErrOf result NotMade → IsNotMade (D.file ledger.old).seen }
-    ensures damaged { D.tells → IsErrOf result Damaged → IsMade (D.file ledger.old).seen × StandsForNone (D.file ledger.old).seen (D.file store.old).seen }
+    ensures damaged { D.tells → IsErrOf result Damaged → IsDamaged N.id_of (D.file ledger.old).seen (D.file store.old).seen }
     ensures left { D.tells → IfErr result (λ why. IsLeftFor why (files_of (D.file ledger.old) (D.file store.old)) (files_of (D.file ledger.new) (D.file store.new))) }
     ensures store_later { D.faults store.old ≤ D.faults store.new }
     ensures ledger_later { D.faults ledger.old ≤ D.faults ledger.new }
     ensures cause { IsErrOf result DiskFault → EitherRose (D.faults store.old) (D.faults store.new) (D.faults ledger.old) (D.faults ledger.new) }
 {
-    let files = read_files(alloc, store, ledger)?;
-    events_of(alloc, &files.ledger, &files.store)
+    settle(store, ledger)?;
+    let bytes = read_file(alloc, ledger)?;
+    read_store(alloc, namer, store, &bytes)
 }

@@ -5,22 +5,22 @@ ghost use Rattle.swh_base.specs.Manifest.{AreKids, IsWellFormed};
 ghost use Rattle.swh_keeper.specs.Checked.{IsRemade, CannotBeMade, AreRemade, CannotAllBeMade};
 
 use std::alloc::Global;
-use swh_base::{Entry, Kind, Memory, Namer};
+use swh_base::{Entry, Kind, Memory, Namer, Shared};
 use swh_object::{Object, ObjectFault};
 
-/// The entry of a kind and a body, where there is one.
+/// The entry of a kind and a body, which it shares, where there is one.
 fn entry_of<N: Namer>(
     alloc: Global,
     namer: &N,
     kind: Kind,
-    body: &[u8],
+    body: Shared<u8>,
 ) -> Result<Option<Entry>, Memory>
-    ensures parts { IfOk result (λ found. IfSome found (λ e. (e.name.kind ≡ kind) × (e.body ≡ body.now))) }
-    ensures named { IfOk result (λ found. IfSome found (λ e. e.name.id ≡ N.id_of kind body.now)) }
-    ensures kids { IfOk result (λ found. IfSome found (λ e. AreKids kind body.now e.kids)) }
-    ensures none { IfOk result (λ found. IfNone found (length body.now ≤ body_limit → IsWellFormed kind body.now → ⊥)) }
+    ensures parts { IfOk result (λ found. IfSome found (λ e. (e.name.kind ≡ kind) × (e.body ≡ body))) }
+    ensures named { IfOk result (λ found. IfSome found (λ e. e.name.id ≡ N.id_of kind body)) }
+    ensures kids { IfOk result (λ found. IfSome found (λ e. AreKids kind body e.kids)) }
+    ensures none { IfOk result (λ found. IfNone found (length body ≤ body_limit → IsWellFormed kind body → ⊥)) }
 {
-    match Object::make(alloc, namer, kind, Vec::from_slice(alloc, body)?) {
+    match Object::of_shared(alloc, namer, kind, body) {
         Ok(object) => Ok(Some(object.into_entry())),
         Err(ObjectFault::Memory) => Err(Memory),
         Err(ObjectFault::TooLong { .. }) => Ok(None),
@@ -38,7 +38,7 @@ fn remake<N: Namer>(alloc: Global, namer: &N, given: &Entry) -> Result<Option<En
     ensures some { IfOk result (λ found. IfSome found (IsRemade N.id_of given.now)) }
     ensures none { IfOk result (λ found. IfNone found (CannotBeMade N.id_of given.now)) }
 {
-    let Some(entry) = entry_of(alloc, namer, given.name.kind, given.body.as_slice())? else {
+    let Some(entry) = entry_of(alloc, namer, given.name.kind, given.body.again()?)? else {
         return Ok(None);
     };
     if !is_same_id(&entry.name.id, &given.name.id) {
@@ -47,7 +47,8 @@ fn remake<N: Namer>(alloc: Global, namer: &N, given: &Entry) -> Result<Option<En
     Ok(Some(entry))
 }
 
-/// The entries of a batch, where each is of its kind, has its id, and is within the limit of a body.
+/// The entries of a batch, where each is of its kind, has its id, and is within the limit of a body. They share the
+/// bodies.
 pub fn remake_all<N: Namer>(
     alloc: Global,
     namer: &N,

@@ -1,12 +1,11 @@
 -- A run at the front of bytes, as far as it is read.
-use Rattle.std.proofs.Common.{◌≡◌, ℕ, zero, suc, ◌+◌, ◌<◌, List, [], ◌∷◌, ◌++◌, length, length-append, map, drop, refl, sym, ap, ◌∙◌, subst, arith, append_assoc}
+use Rattle.std.proofs.Common.{◌≡◌, ℕ, zero, suc, ◌+◌, ◌<◌, List, [], ◌∷◌, ◌++◌, length, length-append, map, refl, sym, ap, ◌∙◌, subst, arith, append_assoc}
 use Rattle.std.specs.List.{AllByRecursion}
-use Rattle.std.proofs.Math.Seq.{drop-append_seam}
 use Rattle.std.proofs.lemmas.List.{append-nil}
 use Rattle.swh_base.specs.declared.entry.Entry.{Entry}
 use Rattle.swh_model.specs.Coding.{coded_entry, coded_run, IsCodableEntry}
 use Rattle.swh_model.specs.Stands.{bare}
-use Rattle.swh_model.specs.Decoding.{IsEntryFront, IsEntryOfParts}
+use Rattle.swh_model.specs.Decoding.{IsEntryFront, IsEntryOfParts, IsRunOf, IsNoRun}
 use Rattle.swh_model.specs.declared.decoding.entry.EntryParts.{EntryParts}
 use Rattle.swh_model.proofs.Unique.{same_run, entry_then}
 use Rattle.swh_model.proofs.Runs.{coded_run-append}
@@ -70,20 +69,30 @@ all_front P (x ∷ xs) y ys h = let more = all_front P xs y ys h.1 in ((h.0, mor
 
 -- where no object is at the front of what is left, there is no run of more objects than were read
 pub no_run : (bytes rest : List ℕ) (entries : List Entry) (count number : ℕ) → IsRunSoFar bytes entries count rest → count < number
-    → ((e : Entry) (x : List ℕ) → IsCodableEntry e → rest ≡ coded_entry e ++ x → ⊥) → (es : List Entry) (x : List ℕ) → length es ≡ number → AllByRecursion IsCodableEntry es → bytes ≡ coded_run es ++ x → ⊥
-no_run bytes rest entries count number so_far less none es x size codable is =
+    → ((e : Entry) (x : List ℕ) → IsCodableEntry e → rest ≡ coded_entry e ++ x → ⊥) → IsNoRun bytes number
+no_run bytes rest entries count number so_far less none es size codable is =
     let c = cut_at es count (omega (arith, size, less)) in
     let parts = all_front IsCodableEntry c.front c.entry c.more (subst (AllByRecursion IsCodableEntry) c.is codable) in
-    let spelled : coded_run es ≡ coded_run c.front ++ (coded_entry c.entry ++ coded_run c.more) = ap coded_run c.is ∙ coded_run-append c.front (c.entry ∷ c.more) in
-    let behind : bytes ≡ coded_run c.front ++ (coded_entry c.entry ++ (coded_run c.more ++ x)) =
-    is ∙ ap (λ (l : List ℕ). l ++ x) spelled ∙ append_assoc (coded_run c.front) (coded_entry c.entry ++ coded_run c.more) x ∙ ap (λ (l : List ℕ). coded_run c.front ++ l) (append_assoc (coded_entry c.entry) (coded_run c.more) x) in
-    let both = same_run entries c.front rest (coded_entry c.entry ++ (coded_run c.more ++ x)) (so_far.number ∙ sym c.size) so_far.codable parts.0 (sym so_far.spelled ∙ behind) in
-    none c.entry (coded_run c.more ++ x) parts.1 both.1
+    let behind : bytes ≡ coded_run c.front ++ (coded_entry c.entry ++ coded_run c.more) = is ∙ ap coded_run c.is ∙ coded_run-append c.front (c.entry ∷ c.more) in
+    let both = same_run entries c.front rest (coded_entry c.entry ++ coded_run c.more) (so_far.number ∙ sym c.size) so_far.codable parts.0 (sym so_far.spelled ∙ behind) in
+    none c.entry (coded_run c.more) parts.1 both.1
 
--- what was read is behind what is left
-pub run_read : (bytes rest : List ℕ) (entries : List Entry) (count used : ℕ) → IsRunSoFar bytes entries count rest → used + length rest ≡ length bytes → (bytes ≡ coded_run entries ++ drop used bytes) × (length (coded_run entries) ≡ used)
-run_read bytes rest entries count used so_far size =
-    let whole : length bytes ≡ length (coded_run entries) + length rest = ap length so_far.spelled ∙ length-append (coded_run entries) rest in
-    let taken : length (coded_run entries) ≡ used = omega (arith, whole, size) in
-    let left : drop used bytes ≡ rest = ap (λ (n : ℕ). drop n bytes) (sym taken) ∙ ap (drop (length (coded_run entries))) so_far.spelled ∙ drop-append_seam (coded_run entries) rest in
-    (so_far.spelled ∙ ap (λ (l : List ℕ). coded_run entries ++ l) (sym left), taken)
+-- where bytes are left behind as many objects, the bytes are no run of them
+pub no_rest : (bytes rest : List ℕ) (entries : List Entry) (number : ℕ) → IsRunSoFar bytes entries number rest → (length rest ≡ 0 → ⊥) → IsNoRun bytes number
+no_rest bytes rest entries number so_far some es size codable is =
+    let both = same_run entries es rest [] (so_far.number ∙ sym size) so_far.codable codable (sym so_far.spelled ∙ is ∙ sym (append-nil (coded_run es))) in
+    some (ap length both.1)
+
+nil_of : (xs : List ℕ) → length xs ≡ 0 → xs ≡ []
+nil_of [] e = refl
+nil_of (x ∷ xs) e = absurd (omega (arith, e))
+
+-- where nothing is left, they are the run of these
+pub run_whole : (bytes rest : List ℕ) (entries : List Entry) (number : ℕ) → IsRunSoFar bytes entries number rest → length rest ≡ 0 → IsRunOf bytes number entries
+run_whole bytes rest entries number so_far none =
+    record {
+      spelled = so_far.spelled ∙ ap (λ (l : List ℕ). coded_run entries ++ l) (nil_of rest none) ∙ append-nil (coded_run entries);
+      count = so_far.number;
+      codable = so_far.codable;
+      are_bare = so_far.are_bare;
+    }

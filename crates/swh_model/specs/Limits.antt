@@ -13,6 +13,10 @@ objects_limit = 4096
 abbrev pub bytes_limit : ℕ
 bytes_limit = 8388608
 
+-- no batch within its limits has a longer run
+abbrev pub run_limit : ℕ
+run_limit = 75616256
+
 abbrev pub file_limit : ℕ
 file_limit = 2 ^ 62
 

@@ -33,7 +33,9 @@ impl<N: Namer> Object<N> {
     ghost use Rattle.swh_base.specs.Manifest.{AreKids, IsWellFormed};
     ghost use Rattle.swh_object.specs.Object.{IsObject, IsMade, Explains};
 
-    /// The object of this kind and body. The body is not copied.
+    /// The object of this kind (git objects; SWHID v1.2, core identifiers) and body. The body is not copied. `TooLong`
+    /// tells its length in bytes where that is above 67,108,864; `BadBody` the place, in bytes from 0, at which the
+    /// reader of its kind refuses it; `Memory` that there was none.
     pub fn make(
         alloc: Global,
         namer: &N,
@@ -51,15 +53,32 @@ impl<N: Namer> Object<N> {
         // Any other makes an object, unless memory runs out.
         ensures only { length body.items ≤ body_limit → IsWellFormed kind body.items → IsMade result }
     {
-        let len = body.len() as u64;
+        Object::of_shared(alloc, namer, kind, Shared::from_vec(body)?)
+    }
+
+    /// The object of this kind and of a body that others may share, which is not copied. Faults are those of `make`.
+    pub fn of_shared(
+        alloc: Global,
+        namer: &N,
+        kind: Kind,
+        body: Shared<u8>,
+    ) -> Result<Object<N>, ObjectFault>
+        ensures entry { IfOk result (λ o. (o.name.kind ≡ kind) × (o.body ≡ body)) }
+        ensures named { IfOk result (λ o. o.name.id ≡ N.id_of kind body) }
+        ensures kids { IfOk result (λ o. AreKids kind body o.kids) }
+        ensures short { OnOk result (length body ≤ body_limit) }
+        ensures err { IfErr result (Explains kind body) }
+        ensures only { length body ≤ body_limit → IsWellFormed kind body → IsMade result }
+    {
+        let len = body.as_slice().len() as u64;
         if len > BODY_LIMIT {
             return Err(ObjectFault::TooLong { len });
         }
-        let kids = kids_of(alloc, kind, &body)?;
-        let id = namer.id(kind, &body);
+        let kids = kids_of(alloc, kind, body.as_slice())?;
+        let id = namer.id(kind, body.as_slice());
         let entry = Entry {
             name: Name { kind, id },
-            body: Shared::from_vec(body)?,
+            body,
             kids: Shared::from_vec(kids)?,
         };
         Ok(Object {

@@ -1,20 +1,10 @@
 // The run of a batch: objects, one behind another.
-ghost use Rattle.std.specs.Prelude.{◌≡◌, ◌++◌, ◌<◌, ◌^◌, [], IfOk, IfSome, IfNone, None, List, ℕ, length, drop};
-ghost use Rattle.std.specs.List.{AllByRecursion};
-ghost use Rattle.swh_base.specs.declared.entry.Entry.{Entry as AnyEntry};
-ghost use Rattle.swh_model.specs.Coding.{coded_entry, coded_run, IsCodableEntry};
-ghost use Rattle.swh_model.specs.Decoding.{IsEntryOfParts, IsRunFront};
+ghost use Rattle.std.specs.Prelude.{IfOk, IfSome, IfNone};
+ghost use Rattle.swh_model.specs.Decoding.{IsEntryOfParts, IsRunOf, IsNoRun};
 
 use crate::decoding::entry::{EntryParts, split_entry};
 use std::alloc::Global;
 use swh_base::{Entry, Memory, Name, Shared};
-
-/// A batch's objects, and how many bytes of the store they take.
-#[derive(Drop)]
-pub struct Run {
-    pub entries: Vec<Entry>,
-    pub used: usize,
-}
 
 // The object without its kids.
 fn entry_of(alloc: Global, parts: &EntryParts<'_>) -> Result<Entry, Memory>
@@ -30,10 +20,11 @@ fn entry_of(alloc: Global, parts: &EntryParts<'_>) -> Result<Entry, Memory>
     })
 }
 
-/// The objects of this number at the front of bytes.
-pub fn read_run(alloc: Global, bytes: &[u8], number: u32) -> Result<Option<Run>, Memory>
-    ensures some { IfOk result (λ found. IfSome found (IsRunFront bytes.now number)) }
-    ensures none { IfOk result (λ found. found ≡ None → (es : List AnyEntry) (x : List ℕ) → length es ≡ number → AllByRecursion IsCodableEntry es → bytes.now ≡ coded_run es ++ x → ⊥) }
+/// The objects of a run, which has this number of them and nothing else. Each body is copied once, into its shared
+/// place, and the kids are left out; none where the bytes are no such run.
+pub fn read_run(alloc: Global, bytes: &[u8], number: u32) -> Result<Option<Vec<Entry>>, Memory>
+    ensures some { IfOk result (λ found. IfSome found (λ es. IsRunOf bytes.now number es.items)) }
+    ensures none { IfOk result (λ found. IfNone found (IsNoRun bytes.now number)) }
 {
     let mut entries = Vec::new(alloc);
     let mut rest = bytes;
@@ -45,8 +36,10 @@ pub fn read_run(alloc: Global, bytes: &[u8], number: u32) -> Result<Option<Run>,
         entries.push(entry)?;
         rest = parts.rest;
     }
-    let used = bytes.len() - rest.len();
-    Ok(Some(Run { entries, used }))
+    if !rest.is_empty() {
+        return Ok(None);
+    }
+    Ok(Some(entries))
 }
 
 #[cfg(test)]
@@ -64,15 +57,15 @@ mod tests {
     #[test]
     fn a_run_of_one_object(rt: HostRuntime) -> Result<(), Fail> {
         let alloc = rt.alloc();
-        let Some(run) = read_run(alloc, &STORE, 1)? else {
+        let Some(entries) = read_run(alloc, &STORE[..31], 1)? else {
             return Err(Fail::from("a run"));
         };
-        assert_eq!(rt; run.used, 31);
-        assert_eq!(rt; run.entries.len(), 1);
-        assert_eq!(rt; run.entries[0].name.kind, Kind::Content);
-        assert_eq!(rt; run.entries[0].body.as_slice(), b"hi".as_slice());
-        assert!(rt; read_run(alloc, &STORE, 2)?.is_none());
+        assert_eq!(rt; entries.len(), 1);
+        assert_eq!(rt; entries[0].name.kind, Kind::Content);
+        assert_eq!(rt; entries[0].body.as_slice(), b"hi".as_slice());
+        assert!(rt; read_run(alloc, &STORE[..31], 2)?.is_none());
         assert!(rt; read_run(alloc, &STORE[..30], 1)?.is_none());
+        assert!(rt; read_run(alloc, &STORE, 1)?.is_none());
         Ok(())
     }
 }

@@ -1,0 +1,123 @@
+// The ledger, record by record.
+ghost use Rattle.std.specs.Prelude.{◌≡◌, ◌++◌, IfOk, IfSome, IfNone, List, ℕ};
+ghost use Rattle.swh_model.specs.Coding.{magic};
+ghost use Rattle.swh_model.specs.Decoding.{IsRecordOf, HasNoRecord, IsNext};
+
+use crate::decoding::number::split_four;
+use crate::decoding::record::split_record;
+use crate::decoding::told::{Told, read_told};
+use std::alloc::Global;
+use swh_base::Memory;
+
+/// A record: who wrote it, what it tells, and what is behind it.
+#[derive(Drop)]
+pub struct Record<'a> {
+    pub by: u32,
+    pub told: Told,
+    pub rest: &'a [u8],
+}
+
+/// What comes next of a ledger's records.
+#[derive(Drop)]
+pub enum Next<'a> {
+    /// A closed gate, with which the records end.
+    End,
+    /// A record behind an open gate.
+    Record(Record<'a>),
+    /// No gate, or an open one and no record behind it.
+    Broken,
+}
+
+// How a ledger begins.
+const MAGIC: [u8; 8] = *b"SWHARC1\n";
+
+// The gate of a record that stands.
+const OPEN: u8 = 1;
+
+/// What is behind the magic.
+pub fn split_magic(ledger: &[u8]) -> Option<&[u8]>
+    ensures some { IfSome result (λ rest. ledger.now ≡ magic ++ rest.now) }
+    ensures none { IfNone result ((rest : List ℕ) → ledger.now ≡ magic ++ rest → ⊥) }
+{
+    let Some((front, rest)) = ledger.split_first_chunk::<8>() else {
+        return None;
+    };
+    if *front != MAGIC {
+        return None;
+    }
+    Some(rest)
+}
+
+// The record at the front of bytes.
+fn read_record(alloc: Global, bytes: &[u8]) -> Result<Option<Record<'_>>, Memory>
+    ensures some { IfOk result (λ found. IfSome found (IsRecordOf bytes.now)) }
+    ensures none { IfOk result (λ found. IfNone found (HasNoRecord bytes.now)) }
+{
+    let Some(parts) = split_record(bytes) else {
+        return Ok(None);
+    };
+    let Some((by, payload)) = split_four(parts.payload) else {
+        return Ok(None);
+    };
+    let Some(told) = read_told(alloc, parts.kind, payload)? else {
+        return Ok(None);
+    };
+    Ok(Some(Record {
+        by,
+        told,
+        rest: parts.rest,
+    }))
+}
+
+/// What comes next of a ledger's records, from a gate on.
+pub fn next_record(alloc: Global, records: &[u8]) -> Result<Next<'_>, Memory>
+    ensures { IfOk result (IsNext records.now) }
+{
+    let Some((gate, behind)) = records.split_first() else {
+        return Ok(Next::Broken);
+    };
+    if *gate != OPEN {
+        return Ok(Next::End);
+    }
+    match read_record(alloc, behind)? {
+        Some(record) => Ok(Next::Record(record)),
+        None => Ok(Next::Broken),
+    }
+}
+
+#[cfg(test)]
+mod tests {
+    use super::{Next, next_record, split_magic};
+    use crate::decoding::told::Told;
+    use crate::event::EventKind;
+    use std::test::Fail;
+    use swh_base::VisitKind;
+
+    #[test]
+    fn a_closed_gate_ends_the_records(rt: HostRuntime) -> Result<(), Fail> {
+        let alloc = rt.alloc();
+        assert!(rt; matches!(next_record(alloc, b"\0O")?, Next::End));
+        assert!(rt; matches!(next_record(alloc, b"")?, Next::Broken));
+        assert!(rt; matches!(next_record(alloc, b"\x01O")?, Next::Broken));
+        assert!(rt; split_magic(b"SWHARC2\n\0").is_none());
+        Ok(())
+    }
+
+    #[test]
+    fn an_opening_stands_behind_an_open_gate(rt: HostRuntime) -> Result<(), Fail> {
+        let alloc = rt.alloc();
+        let records = b"\x01O\0\0\0\x1c\0\0\0\x01\x01\0\0\0\0\x3b\x9a\xca\0https://e.org/p\0";
+        let Next::Record(record) = next_record(alloc, records)? else {
+            return Err(Fail::from("a record"));
+        };
+        assert_eq!(rt; record.by, 1);
+        assert_eq!(rt; record.rest, b"\0".as_slice());
+        let Told::Whole(EventKind::Open { origin, kind, date }) = record.told else {
+            return Err(Fail::from("an opening"));
+        };
+        assert_eq!(rt; origin.as_str(), "https://e.org/p");
+        assert_eq!(rt; kind, VisitKind::Fast);
+        assert_eq!(rt; date, 1_000_000_000);
+        Ok(())
+    }
+}
