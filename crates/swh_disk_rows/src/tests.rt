@@ -22,6 +22,12 @@ fn disk(alloc: Global, bytes: &[u8]) -> Result<MemoryDisk, Fail>
     Ok(MemoryDisk::new(alloc, bytes, ROOM, Vec::new(alloc))?)
 }
 
+// How many writes and barriers were begun.
+fn changes(disk: &MemoryDisk) -> usize {
+    let calls = disk.calls();
+    calls.iter().filter(|r| r.call.is_change()).count()
+}
+
 #[test]
 fn a_whole_file_is_read(rt: HostRuntime) -> Result<(), Fail> {
     let alloc = rt.alloc();
@@ -40,10 +46,10 @@ fn an_archive_is_made_once(rt: HostRuntime) -> Result<(), Fail> {
     let mut ledger = disk(alloc, b"")?;
     assert!(rt; make(&mut store, &mut ledger).is_ok());
     assert_eq!(rt; ledger.bytes(), b"SWHARC1\n\0".as_slice());
-    assert_eq!(rt; ledger.calls().len(), 7);
-    assert_eq!(rt; store.calls().len(), 1);
+    assert_eq!(rt; changes(&ledger), 7);
+    assert_eq!(rt; changes(&store), 1);
     assert_eq!(rt; make(&mut store, &mut ledger), Err(MakeFault::Made));
-    assert_eq!(rt; ledger.calls().len(), 7);
+    assert_eq!(rt; changes(&ledger), 7);
     Ok(())
 }
 
@@ -56,8 +62,8 @@ fn an_event_makes_six_calls(rt: HostRuntime) -> Result<(), Fail> {
     assert!(rt; append_event(&mut store, 0, run, &mut ledger, 8, &RECORD).is_ok());
     assert_eq!(rt; store.bytes(), [7, 8].as_slice());
     assert_eq!(rt; ledger.bytes(), b"SWHARC1\n\x01O\0\0\0\0\0".as_slice());
-    assert_eq!(rt; store.calls().len(), 2);
-    assert_eq!(rt; ledger.calls().len(), 4);
+    assert_eq!(rt; changes(&store), 2);
+    assert_eq!(rt; changes(&ledger), 4);
     Ok(())
 }
 
@@ -67,12 +73,12 @@ fn an_empty_run_makes_five_and_none_four(rt: HostRuntime) -> Result<(), Fail> {
     let mut store = disk(alloc, b"")?;
     let mut ledger = disk(alloc, b"SWHARC1\n\0")?;
     assert!(rt; append_event(&mut store, 0, Run::Batch(&[]), &mut ledger, 8, &RECORD).is_ok());
-    assert_eq!(rt; store.calls().len(), 1);
-    assert_eq!(rt; ledger.calls().len(), 4);
+    assert_eq!(rt; changes(&store), 1);
+    assert_eq!(rt; changes(&ledger), 4);
     let mut other = disk(alloc, b"SWHARC1\n\0")?;
     assert!(rt; append_event(&mut store, 0, Run::None, &mut other, 8, &RECORD).is_ok());
-    assert_eq!(rt; store.calls().len(), 1);
-    assert_eq!(rt; other.calls().len(), 4);
+    assert_eq!(rt; changes(&store), 1);
+    assert_eq!(rt; changes(&other), 4);
     Ok(())
 }
 

@@ -1,3 +1,4 @@
-mod Ranges
+pub mod RangeLaws
+pub mod RecordLaws
 pub mod InPlaces
 pub mod Absent

@@ -1,15 +1,15 @@
 -- What the places of a depot in memory hold.
-use Rattle.std.specs.Prelude.{◌<◌, ◌&&◌, nat_eq, ℕ, Bool, List, length, string_bytes}
+use Rattle.std.specs.Prelude.{◌<◌, ◌&&◌, ◌||◌, nat_eq, ℕ, Bool, List, length, string_bytes}
 use Rattle.std.specs.List.{position_or_len}
 use Rattle.std.specs.Str.{bytes_eq}
 use Rattle.swh_outside.specs.Disk.{File}
 use Rattle.swh_outside.specs.Files.{absent}
 use Rattle.swh_outside.specs.Firsts.{first_or}
 use Rattle.swh_memory.specs.Memory.{memory_file}
-use Rattle.swh_memory.specs.Tally.{Tally}
+use Rattle.swh_memory.specs.Tally.{Tally, is_next_listed}
 use Rattle.swh_memory.specs.declared.place.Place.{Place}
 use Rattle.swh_memory.specs.declared.depot.MemoryDepot.{MemoryDepot}
-use Rattle.swh_memory.specs.declared.disk.Room.{Room}
+use Rattle.swh_memory.specs.declared.record.Room.{Room}
 
 abbrev pub is_at : List ℕ → ℕ → Place → Bool
 is_at dir file place = nat_eq place.file file && bytes_eq (string_bytes place.dir) dir
@@ -36,3 +36,7 @@ depot_tally depot = depot.failures
 
 abbrev pub depot_faults : MemoryDepot → ℕ
 depot_faults depot = depot.failures.faults
+
+-- the next opening in the folder is to fail
+abbrev pub is_open_to_fail : MemoryDepot → List ℕ → Bool
+is_open_to_fail depot dir = is_next_listed (depot_tally depot) || nat_eq (length dir) 0

@@ -1,3 +1,4 @@
+pub mod Answers
 pub mod Failing
 pub mod InPlace
 pub mod Inputs
@@ -5,4 +6,5 @@ pub mod Kept
 pub mod Memory
 pub mod Outside
 pub mod Parts
+pub mod Record
 pub mod Tally

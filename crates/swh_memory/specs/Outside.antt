@@ -3,7 +3,7 @@ use Rattle.std.specs.Prelude.{ℕ, Bool, List, Option, Some, None, string_bytes}
 use Rattle.std.specs.Str.{bytes_eq}
 use Rattle.swh_outside.specs.Firsts.{first_or}
 use Rattle.swh_outside.specs.Counts.{count_at, is_counted}
-use Rattle.swh_memory.specs.Tally.{Tally}
+use Rattle.swh_memory.specs.Tally.{Tally, fresh}
 use Rattle.swh_memory.specs.declared.input.Input.{Input}
 use Rattle.swh_memory.specs.declared.origins.MemoryOrigins.{MemoryOrigins}
 
@@ -16,6 +16,16 @@ bytes_of input = Some input.bytes.items
 -- the bytes of the first input at a path
 abbrev pub input_at : List Input → List ℕ → Option (List ℕ)
 input_at inputs path = first_or (is_for path) bytes_of None inputs
+
+-- the greatest piece of the first input's source at a path, and which of its calls fail
+abbrev pub made_of : Input → Option (ℕ × Tally)
+made_of input = Some (input.piece, fresh input.failing.items)
+
+abbrev pub made_at : List Input → List ℕ → Option (ℕ × Tally)
+made_at inputs path = first_or (is_for path) made_of None inputs
+
+abbrev pub origin_inputs : MemoryOrigins → List Input
+origin_inputs origins = origins.inputs.items
 
 abbrev pub origin_files : MemoryOrigins → List ℕ → Option (List ℕ)
 origin_files origins = input_at origins.inputs.items

@@ -1,5 +1,5 @@
 -- What is kept of a part's calls.
-use Rattle.std.specs.Prelude.{◌≡◌, ◌+◌, ◌-◌, ◌^◌, ◌==◌, ℕ, Bool, List, min, if◌then◌else◌}
+use Rattle.std.specs.Prelude.{◌+◌, ◌-◌, ◌^◌, ◌==◌, ℕ, Bool, List, min, if◌then◌else◌}
 use Rattle.std.specs.List.{list_any}
 
 -- the numbers of the calls that are to fail, how many calls there were, and how many failed
@@ -24,11 +24,6 @@ called tally = record tally { calls = min (tally.calls + 1) (2 ^ 64 - 1) }
 abbrev pub refused : Tally → Tally
 refused tally = record tally { faults = min (tally.faults + 1) (2 ^ 64 - 1) }
 
--- one call more, which fails where it is listed, and nowhere else
-abbrev pub answered : Tally → Tally
-answered tally = if is_next_listed tally then refused (called tally) else called tally
-
--- one call more was counted, and which are to fail stays
-pub record CountsCall (before now : Tally) : Type 0 where
-  pub failing : now.failing ≡ before.failing
-  pub calls : now.calls ≡ (called before).calls
+-- one call more, which failed or not
+abbrev pub tallied : Bool → Tally → Tally
+tallied failed tally = if failed then refused (called tally) else called tally

@@ -39,7 +39,7 @@ impl Clock for MemoryClock {
     ghost use Rattle.std.specs.Prelude.{◌+◌, IfOk, is_err};
     ghost use Rattle.swh_outside.specs.Faults.{HasCause};
     ghost use Rattle.swh_memory.specs.Parts.{clock_time, clock_tally, clock_faults};
-    ghost use Rattle.swh_memory.specs.Tally.{is_next_listed, answered};
+    ghost use Rattle.swh_memory.specs.Tally.{is_next_listed, tallied};
 
     ghost tells = { Unit {0} };
 
@@ -53,7 +53,7 @@ impl Clock for MemoryClock {
         ensures cause { HasCause (clock_faults self.old) (clock_faults self.new) result }
 
         ensures fails { is_err result ≡ is_next_listed (clock_tally self.old) }
-        ensures counted { clock_tally self.new ≡ answered (clock_tally self.old) }
+        ensures counted { clock_tally self.new ≡ tallied (is_err result) (clock_tally self.old) }
     {
         if self.failures.next_fails() {
             return Err(self.failures.refuse());

@@ -6,7 +6,7 @@ use std::alloc::{AllocError, Global};
 use swh_outside::{Depot, OutFault};
 
 /// Archives' folders in memory, each with its files by number. A file that is absent opens as an empty disk, with the
-/// room that the depot was made with.
+/// room that the depot was made with. The empty path is no folder's: an opening there fails and is counted.
 #[derive(Drop)]
 pub struct MemoryDepot {
     alloc: Global,
@@ -44,7 +44,7 @@ impl MemoryDepot {
         ensures laid { OnOk result (memory_files self.new dir.now file ≡ memory_file disk) }
         ensures refused { OnErr result (memory_files self.new dir.now file ≡ memory_files self.old dir.now file) }
         ensures others { SameButAt dir.now file (memory_files self.old) (memory_files self.new) }
-        ensures faults { depot_faults self.new ≡ depot_faults self.old }
+        ensures tally { depot_tally self.new ≡ depot_tally self.old }
     {
         let i = self.place(dir, file)?;
         let _ = swap_disk(&mut self.places, i, disk, dir, file);
@@ -76,7 +76,7 @@ impl MemoryDepot {
         ensures inside { IfOk result (λ i. i < length self.new.places.items) }
         ensures same { (d : List ℕ) (n : ℕ) → memory_files self.new d n ≡ memory_files self.old d n }
         ensures places { (d : List ℕ) (n : ℕ) → has_place self.old d n → has_place self.new d n }
-        ensures faults { depot_faults self.new ≡ depot_faults self.old }
+        ensures tally { depot_tally self.new ≡ depot_tally self.old }
     {
         let i = find_place(&self.places, dir, file);
         if i == self.places.len() {
@@ -88,7 +88,15 @@ impl MemoryDepot {
 }
 
 impl Depot for MemoryDepot {
-    ghost use Rattle.swh_memory.specs.InPlace.{memory_files, has_place, depot_faults};
+    ghost use Rattle.std.specs.Prelude.{◌≡◌, ◌<◌, ◌≤◌, [], List, ℕ, IfOk, OnOk, OnErr, IsErrOf};
+    ghost use Rattle.swh_outside.specs.Causes.{HasOutCause};
+    ghost use Rattle.swh_outside.specs.Depot.{SameButAt};
+    ghost use Rattle.swh_outside.specs.Faults.{Rose};
+    ghost use Rattle.swh_outside.specs.declared.fault.OutFault.TheVariants.{Failed};
+    ghost use Rattle.swh_memory.specs.Answers.{has_failed, with_given_back};
+    ghost use Rattle.swh_memory.specs.InPlace.{memory_files, has_place, depot_tally, depot_faults, is_open_to_fail};
+    ghost use Rattle.swh_memory.specs.Memory.{memory_file, disk_faults};
+    ghost use Rattle.swh_memory.specs.Tally.{tallied};
 
     type D = MemoryDisk;
 
@@ -100,12 +108,21 @@ impl Depot for MemoryDepot {
 
     ghost faults = { depot_faults };
 
-    fn open(&mut self, dir: &str, file: u32) -> Result<MemoryDisk, OutFault> {
-        if self.failures.next_fails() {
-            let _ = self.failures.refuse();
-            return Err(OutFault::Failed);
-        }
-        if dir.is_empty() {
+    fn open(&mut self, dir: &str, file: u32) -> Result<MemoryDisk, OutFault>
+        ensures given { IfOk result (λ disk. memory_file disk ≡ memory_files self.old dir.now file) }
+        ensures no_fault { IfOk result (λ disk. disk_faults disk ≡ 0) }
+        ensures others { SameButAt dir.now file (memory_files self.old) (memory_files self.new) }
+        ensures refused { OnErr result (memory_files self.new dir.now file ≡ memory_files self.old dir.now file) }
+        ensures place { OnOk result (has_place self.new dir.now file) }
+        ensures places { (d : List ℕ) (n : ℕ) → has_place self.old d n → has_place self.new d n }
+        ensures no_folder { dir.now ≡ [] → IsErrOf result Failed }
+        ensures cause { HasOutCause (depot_faults self.old) (depot_faults self.new) result }
+
+        ensures fails { has_failed result ≡ is_open_to_fail self.old dir.now }
+        ensures counted { depot_tally self.new ≡ tallied (has_failed result) (depot_tally self.old) }
+    {
+        let fails = self.failures.next_fails();
+        if fails || dir.is_empty() {
             let _ = self.failures.refuse();
             return Err(OutFault::Failed);
         }
@@ -116,7 +133,17 @@ impl Depot for MemoryDepot {
         Ok(swap_disk(&mut self.places, i, empty, dir, file).with_no_fault())
     }
 
-    fn close(&mut self, dir: &str, file: u32, disk: MemoryDisk) {
+    fn close(&mut self, dir: &str, file: u32, disk: MemoryDisk)
+        requires { has_place self.old dir.now file }
+        ensures taken { memory_files self.new dir.now file ≡ memory_file disk }
+        ensures others { SameButAt dir.now file (memory_files self.old) (memory_files self.new) }
+        ensures places { (d : List ℕ) (n : ℕ) → has_place self.old d n → has_place self.new d n }
+        ensures later { depot_faults self.old ≤ depot_faults self.new }
+        ensures cause { 0 < disk_faults disk → Rose (depot_faults self.old) (depot_faults self.new) }
+        ensures quiet { disk_faults disk ≡ 0 → depot_faults self.new ≡ depot_faults self.old }
+
+        ensures counted { depot_tally self.new ≡ with_given_back (disk_faults disk) (depot_tally self.old) }
+    {
         if disk.faults() > 0 {
             let _ = self.failures.refuse();
         }

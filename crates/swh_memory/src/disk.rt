@@ -1,47 +1,47 @@
 // A disk in memory. It keeps what a crash may leave, and each call that was begun.
-ghost use Rattle.std.specs.Prelude.{◌≡◌, ◌≤◌, ◌<◌, ◌↔◌, [], length, reverse, IsTrue, IfOk, OnOk, OnErr};
-ghost use Rattle.swh_outside.specs.Disk.{IsImage, IsOutside, patched};
+ghost use Rattle.std.specs.Prelude.{◌≡◌, ◌≤◌, ◌<◌, ◌↔◌, [], length, vec_len, vec_capacity, IsTrue, IfOk};
+ghost use Rattle.swh_outside.specs.Disk.{IsImage};
 ghost use Rattle.swh_memory.specs.Kept.{kept_file};
+ghost use Rattle.swh_memory.specs.Record.{sizes_of};
 
-use crate::Failures;
+use crate::ranges::{filled, is_outside, patch, settle};
+use crate::{Failures, MemoryCall, MemoryRecord, Room};
 use std::alloc::{AllocError, Global};
 use swh_outside::{Disk, Failed};
 
-/// The room that a disk is made with: its greatest length, and how many writes and barriers it takes.
-#[derive(Clone, Copy, Debug, PartialEq, Eq)]
-pub struct Room {
-    pub bytes: usize,
-    pub calls: usize,
-}
-
-/// A call that was begun: a write with its place and bytes, or a barrier.
-#[derive(Drop)]
-pub enum MemoryCall {
-    Written(usize, Vec<u8>),
-    Synced,
-}
-
-/// A disk in memory. A call that would pass its room fails and is counted, as do the calls that are to fail.
+/// A disk in memory. A call that would pass its room is not begun; it fails and is counted, as do the calls that are
+/// to fail. No call allocates, and a barrier costs no more than the writes since the last one.
 #[derive(Drop)]
 pub struct MemoryDisk {
-    alloc: Global,
     room: Room,
     bytes: Vec<u8>,
     base: Vec<u8>,
     ranges: Vec<(usize, usize)>,
     longest: usize,
-    calls: Vec<MemoryCall>,
+    written: Vec<u8>,
+    calls: Vec<MemoryRecord>,
     failures: Failures,
     ghost sees_image: { IsImage (kept_file base.items ranges.items longest bytes.items []) bytes.items },
+    ghost bytes_room: { room.bytes ≤ vec_capacity bytes },
+    ghost base_room: { room.bytes ≤ vec_capacity base },
+    ghost base_fits: { vec_len bytes ≤ vec_capacity base },
+    ghost written_room: { room.bytes ≤ vec_capacity written },
+    ghost calls_room: { room.calls ≤ vec_capacity calls },
+    ghost ranges_room: { room.calls ≤ vec_capacity ranges },
+    ghost few_ranges: { vec_len ranges ≤ vec_len calls },
+    ghost sizes: { sizes_of calls.items ≡ length written.items },
 }
 
 impl MemoryDisk {
-    ghost use Rattle.swh_outside.specs.Disk.{IsBroken, Write, Sync, begun};
-    ghost use Rattle.swh_memory.specs.Memory.{memory_file, disk_room, disk_tally, disk_faults, call_of, resting};
-    ghost use Rattle.swh_memory.specs.Tally.{fresh};
+    ghost use Rattle.swh_outside.specs.Disk.{IsBroken, Write, begun};
+    ghost use Rattle.swh_outside.specs.Faults.{HasCause};
     ghost use Rattle.swh_outside.specs.Files.{absent};
-    ghost use Rattle.swh_outside.specs.Faults.{Rose};
-    ghost use Rattle.std.specs.Prelude.{map};
+    ghost use Rattle.swh_memory.specs.Memory.{memory_file, disk_room, disk_calls, disk_tally, disk_faults, resting};
+    ghost use Rattle.swh_memory.specs.Memory.{has_call_room, has_write_room, is_call_to_fail, is_write_to_fail, with_calls};
+    ghost use Rattle.swh_memory.specs.Record.{call_of, size_of, noted};
+    ghost use Rattle.swh_memory.specs.Tally.{fresh, tallied};
+    ghost use Rattle.swh_memory.specs.declared.record.MemoryCall.TheVariants.{Written};
+    ghost use Rattle.std.specs.Prelude.{◌+◌, ◌⊎◌, true, OnOk, OnErr, is_err};
 
     /// A disk with these bytes, all of them on it. Its calls with the listed numbers, from 0, will fail.
     pub fn new(
@@ -52,16 +52,18 @@ impl MemoryDisk {
     ) -> Result<Self, AllocError>
         ensures file { IfOk result (λ disk. memory_file disk ≡ resting bytes.now) }
         ensures room { IfOk result (λ disk. disk_room disk ≡ room) }
+        ensures calls { IfOk result (λ disk. disk_calls disk ≡ []) }
         ensures failing { IfOk result (λ disk. disk_tally disk ≡ fresh failing.items) }
         ensures no_fault { IfOk result (λ disk. disk_faults disk ≡ 0) }
     {
+        let longer = room.bytes.max(bytes.len());
         Ok(MemoryDisk {
-            alloc,
             room,
-            bytes: filled(alloc, room.bytes, bytes)?,
-            base: filled(alloc, room.bytes, bytes)?,
+            bytes: filled(alloc, longer, bytes)?,
+            base: filled(alloc, longer, bytes)?,
             ranges: Vec::with_capacity(alloc, room.calls)?,
             longest: bytes.len(),
+            written: Vec::with_capacity(alloc, room.bytes)?,
             calls: Vec::with_capacity(alloc, room.calls)?,
             failures: Failures::at(failing),
         })
@@ -71,6 +73,7 @@ impl MemoryDisk {
     pub fn with_room(alloc: Global, room: Room) -> Result<Self, AllocError>
         ensures file { IfOk result (λ disk. memory_file disk ≡ absent) }
         ensures room { IfOk result (λ disk. disk_room disk ≡ room) }
+        ensures calls { IfOk result (λ disk. disk_calls disk ≡ []) }
         ensures failing { IfOk result (λ disk. disk_tally disk ≡ fresh []) }
         ensures no_fault { IfOk result (λ disk. disk_faults disk ≡ 0) }
     {
@@ -83,12 +86,12 @@ impl MemoryDisk {
         ensures no_fault { disk_faults result ≡ 0 }
     {
         MemoryDisk {
-            alloc,
             room: Room { bytes: 0, calls: 0 },
             bytes: Vec::new(alloc),
             base: Vec::new(alloc),
             ranges: Vec::new(alloc),
             longest: 0,
+            written: Vec::new(alloc),
             calls: Vec::new(alloc),
             failures: Failures::at(Vec::new(alloc)),
         }
@@ -105,6 +108,7 @@ impl MemoryDisk {
     pub fn with_no_fault(mut self) -> Self
         ensures file { memory_file result ≡ memory_file self }
         ensures room { disk_room result ≡ disk_room self }
+        ensures calls { disk_calls result ≡ disk_calls self }
         ensures failing { disk_tally result ≡ record (disk_tally self) { faults = 0 } }
         ensures no_fault { disk_faults result ≡ 0 }
     {
@@ -119,9 +123,9 @@ impl MemoryDisk {
         &self.bytes
     }
 
-    /// The writes and barriers that were begun, the last at the end.
-    pub fn calls(&self) -> &[MemoryCall]
-        ensures { map call_of result.now ≡ (memory_file self.now).calls }
+    /// The calls that were begun, of any kind, the last at the end.
+    pub fn calls(&self) -> &[MemoryRecord]
+        ensures { result.now ≡ disk_calls self.now }
     {
         &self.calls
     }
@@ -141,43 +145,105 @@ impl MemoryDisk {
         true
     }
 
-    // Says whether one more call with this many bytes, the file then being this long, is within the room.
-    fn has_room(&self, end: usize) -> bool {
-        end <= self.room.bytes && self.calls.len() < self.room.calls
+    // Says whether one more call is within the room.
+    fn has_call_room(&self) -> bool
+        ensures { result ≡ has_call_room self.now }
+    {
+        self.calls.len() < self.room.calls
+    }
+
+    // Says whether one more call, a write, is within the room.
+    fn has_write_room(&self, at: usize, bytes: &[u8]) -> bool
+        requires { at ≤ length (memory_file self.now).seen }
+        ensures { result ≡ has_write_room self.now at (length bytes.now) }
+    {
+        self.has_call_room()
+            && at + bytes.len() <= self.room.bytes
+            && self.written.len() + bytes.len() <= self.room.bytes
+    }
+
+    // Begins a call that carries no bytes; or counts a failure, where it has no room or is to fail.
+    fn begin(&mut self, call: MemoryCall) -> Result<(), Failed>
+        requires { size_of call ≡ 0 }
+        ensures fails { is_err result ≡ is_call_to_fail self.old }
+        ensures counted { disk_tally self.new ≡ tallied (is_err result) (disk_tally self.old) }
+        ensures noted { disk_calls self.new ≡ noted (has_call_room self.old) (disk_calls self.old) call (is_err result) }
+        ensures ok { OnOk result (memory_file self.new ≡ with_calls (call_of call []) (memory_file self.old)) }
+        ensures err { OnErr result ((memory_file self.new ≡ memory_file self.old) ⊎ (memory_file self.new ≡ with_calls (call_of call []) (memory_file self.old))) }
+        ensures cause { HasCause (disk_faults self.old) (disk_faults self.new) result }
+    {
+        let fails = self.failures.next_fails();
+        if !self.has_call_room() {
+            return Err(self.failures.refuse());
+        }
+        self.note(call, fails);
+        if fails {
+            return Err(self.failures.refuse());
+        }
+        Ok(())
+    }
+
+    // Puts a call that carries no bytes on record.
+    fn note(&mut self, call: MemoryCall, failed: bool)
+        requires room { has_call_room self.old ≡ true }
+        requires size { size_of call ≡ 0 }
+        ensures file { memory_file self.new ≡ with_calls (call_of call []) (memory_file self.old) }
+        ensures noted { disk_calls self.new ≡ noted true (disk_calls self.old) call failed }
+        ensures tally { disk_tally self.new ≡ disk_tally self.old }
+    {
+        self.calls.push_reserved(MemoryRecord { call, failed });
+    }
+
+    // Begins a write; or counts a failure, where it has no room or is to fail.
+    fn begin_write(&mut self, at: usize, bytes: &[u8]) -> Result<(), Failed>
+        requires { at ≤ length (memory_file self.old).seen }
+        ensures fails { is_err result ≡ is_write_to_fail self.old at (length bytes.now) }
+        ensures counted { disk_tally self.new ≡ tallied (is_err result) (disk_tally self.old) }
+        ensures noted { disk_calls self.new ≡ noted (has_write_room self.old at (length bytes.now)) (disk_calls self.old)
+            (Written at (length bytes.now)) (is_err result) }
+        ensures ok { OnOk result (memory_file self.new ≡ begun (Write at bytes.now) (memory_file self.old)) }
+        ensures err { OnErr result (IsBroken (Write at bytes.now) (memory_file self.old) (memory_file self.new)) }
+        ensures fits { OnOk result (at + length bytes.now ≤ (disk_room self.new).bytes) }
+        ensures cause { HasCause (disk_faults self.old) (disk_faults self.new) result }
+    {
+        let fails = self.failures.next_fails();
+        if !self.has_write_room(at, bytes) {
+            return Err(self.failures.refuse());
+        }
+        self.note_write(at, bytes, fails);
+        if fails {
+            return Err(self.failures.refuse());
+        }
+        Ok(())
     }
 
     // Puts a write on record, and its range among those that a crash may tear.
-    fn begin_write(&mut self, at: usize, bytes: &[u8]) -> Result<(), AllocError>
-        requires { at ≤ length (memory_file self.old).seen }
-        ensures ok { OnOk result (memory_file self.new ≡ begun (Write at bytes.now) (memory_file self.old)) }
-        ensures err { OnErr result (IsBroken (Write at bytes.now) (memory_file self.old) (memory_file self.new)) }
+    fn note_write(&mut self, at: usize, bytes: &[u8], failed: bool)
+        requires room { has_write_room self.old at (length bytes.now) ≡ true }
+        requires inside { at ≤ length (memory_file self.old).seen }
+        ensures file { memory_file self.new ≡ begun (Write at bytes.now) (memory_file self.old) }
+        ensures noted { disk_calls self.new ≡ noted true (disk_calls self.old) (Written at (length bytes.now)) failed }
         ensures tally { disk_tally self.new ≡ disk_tally self.old }
+        ensures fits { at + length bytes.now ≤ (disk_room self.new).bytes }
     {
-        let copy = bytes.to_vec(self.alloc)?;
-        self.ranges.reserve(1)?;
-        self.calls.push(MemoryCall::Written(at, copy))?;
-        self.ranges.push((at, bytes.len()))?;
-        self.longest = self.longest.max(at + bytes.len());
-        Ok(())
-    }
-
-    // Puts a barrier on record.
-    fn begin_sync(&mut self) -> Result<(), AllocError>
-        ensures ok { OnOk result (memory_file self.new ≡ begun Sync (memory_file self.old)) }
-        ensures err { OnErr result (memory_file self.new ≡ memory_file self.old) }
-        ensures tally { disk_tally self.new ≡ disk_tally self.old }
-    {
-        self.calls.push(MemoryCall::Synced)?;
-        Ok(())
+        let count = bytes.len();
+        let _ = self.written.extend_from_slice(bytes);
+        let call = MemoryCall::Written(at, count);
+        self.calls.push_reserved(MemoryRecord { call, failed });
+        self.ranges.push_reserved((at, count));
+        self.longest = self.longest.max(at + count);
     }
 }
 
 impl Disk for MemoryDisk {
-    ghost use Rattle.std.specs.Prelude.{◌∷◌, IsErr, is_err};
+    ghost use Rattle.std.specs.Prelude.{◌∷◌, ◌-◌, min, is_err};
     ghost use Rattle.swh_outside.specs.Disk.{IsReadAt, Runs, Sync, Write};
     ghost use Rattle.swh_outside.specs.Faults.{HasCause};
-    ghost use Rattle.swh_memory.specs.Memory.{memory_file, disk_tally, disk_faults};
-    ghost use Rattle.swh_memory.specs.Tally.{is_next_listed, answered, CountsCall};
+    ghost use Rattle.swh_memory.specs.Memory.{memory_file, disk_calls, disk_tally, disk_faults};
+    ghost use Rattle.swh_memory.specs.Memory.{has_call_room, has_write_room, is_call_to_fail, is_write_to_fail};
+    ghost use Rattle.swh_memory.specs.Record.{noted};
+    ghost use Rattle.swh_memory.specs.Tally.{tallied};
+    ghost use Rattle.swh_memory.specs.declared.record.MemoryCall.TheVariants.{Length, Read, Written, Synced};
     ghost use Rattle.swh_outside.proofs.Images.{recast};
     ghost use Rattle.std.specs.Prelude.{refl};
 
@@ -194,12 +260,13 @@ impl Disk for MemoryDisk {
         ensures same { memory_file self.new ≡ memory_file self.old }
         ensures cause { HasCause (disk_faults self.old) (disk_faults self.new) result }
 
-        ensures fails { is_err result ≡ is_next_listed (disk_tally self.old) }
-        ensures counted { disk_tally self.new ≡ answered (disk_tally self.old) }
+        ensures fails { is_err result ≡ is_call_to_fail self.old }
+        ensures counted { disk_tally self.new ≡ tallied (is_err result) (disk_tally self.old) }
+        ensures noted { disk_calls self.new ≡ noted (has_call_room self.old) (disk_calls self.old) Length (is_err result) }
     {
-        if self.failures.next_fails() {
-            return Err(self.failures.refuse());
-        }
+        let Ok(()) = self.begin(MemoryCall::Length) else {
+            return Err(Failed);
+        };
         Ok(self.bytes.len() as u64)
     }
 
@@ -209,12 +276,14 @@ impl Disk for MemoryDisk {
         ensures same { memory_file self.new ≡ memory_file self.old }
         ensures cause { HasCause (disk_faults self.old) (disk_faults self.new) result }
 
-        ensures fails { is_err result ≡ is_next_listed (disk_tally self.old) }
-        ensures counted { disk_tally self.new ≡ answered (disk_tally self.old) }
+        ensures whole { IfOk result (λ n. n ≡ min (length out.old) (length (memory_file self.old).seen - at)) }
+        ensures fails { is_err result ≡ is_call_to_fail self.old }
+        ensures counted { disk_tally self.new ≡ tallied (is_err result) (disk_tally self.old) }
+        ensures noted { disk_calls self.new ≡ noted (has_call_room self.old) (disk_calls self.old) (Read at (length out.old)) (is_err result) }
     {
-        if self.failures.next_fails() {
-            return Err(self.failures.refuse());
-        }
+        let Ok(()) = self.begin(MemoryCall::Read(at, out.len())) else {
+            return Err(Failed);
+        };
         let at = at as usize;
         if at >= self.bytes.len() {
             return Ok(0);
@@ -229,81 +298,32 @@ impl Disk for MemoryDisk {
         ensures runs { Runs (Write at bytes.now ∷ []) (memory_file self.old) (memory_file self.new) result }
         ensures cause { HasCause (disk_faults self.old) (disk_faults self.new) result }
 
-        ensures fails { IsTrue (is_next_listed (disk_tally self.old)) → IsErr result }
-        ensures counted { CountsCall (disk_tally self.old) (disk_tally self.new) }
+        ensures fails { is_err result ≡ is_write_to_fail self.old at (length bytes.now) }
+        ensures counted { disk_tally self.new ≡ tallied (is_err result) (disk_tally self.old) }
+        ensures noted { disk_calls self.new ≡ noted (has_write_room self.old at (length bytes.now)) (disk_calls self.old)
+            (Written at (length bytes.now)) (is_err result) }
     {
-        let fails = self.failures.next_fails();
         let at = at as usize;
-        if !self.has_room(at + bytes.len()) {
-            return Err(self.failures.refuse());
-        }
         let Ok(()) = self.begin_write(at, bytes) else {
-            return Err(self.failures.refuse());
+            return Err(Failed);
         };
-        if fails {
-            return Err(self.failures.refuse());
-        }
-        match patch(&mut self.bytes, at, bytes) {
-            Ok(()) => Ok(()),
-            Err(_) => Err(self.failures.refuse()),
-        }
+        patch(&mut self.bytes, at, bytes);
+        Ok(())
     }
 
     fn sync(&mut self) -> Result<(), Failed>
         ensures runs { Runs (Sync ∷ []) (memory_file self.old) (memory_file self.new) result }
         ensures cause { HasCause (disk_faults self.old) (disk_faults self.new) result }
 
-        ensures fails { IsTrue (is_next_listed (disk_tally self.old)) → IsErr result }
-        ensures counted { CountsCall (disk_tally self.old) (disk_tally self.new) }
+        ensures fails { is_err result ≡ is_call_to_fail self.old }
+        ensures counted { disk_tally self.new ≡ tallied (is_err result) (disk_tally self.old) }
+        ensures noted { disk_calls self.new ≡ noted (has_call_room self.old) (disk_calls self.old) Synced (is_err result) }
     {
-        let fails = self.failures.next_fails();
-        if !self.has_room(0) {
-            return Err(self.failures.refuse());
-        }
-        let Ok(()) = self.begin_sync() else {
-            return Err(self.failures.refuse());
+        let Ok(()) = self.begin(MemoryCall::Synced) else {
+            return Err(Failed);
         };
-        if fails {
-            return Err(self.failures.refuse());
-        }
-        let Ok(()) = patch(&mut self.base, 0, &self.bytes) else {
-            return Err(self.failures.refuse());
-        };
-        self.ranges.clear();
+        settle(&mut self.base, &self.bytes, &mut self.ranges);
         self.longest = self.bytes.len();
         Ok(())
     }
-}
-
-// The bytes, with room for this many in all.
-fn filled(alloc: Global, room: usize, bytes: &[u8]) -> Result<Vec<u8>, AllocError>
-    ensures { IfOk result (λ v. v.items ≡ bytes.now) }
-{
-    let mut filled = Vec::with_capacity(alloc, room)?;
-    filled.extend_from_slice(bytes)?;
-    Ok(filled)
-}
-
-// Says whether a place is in none of the ranges.
-fn is_outside(ranges: &[(usize, usize)], k: usize) -> bool
-    ensures { IsTrue result ↔ IsOutside (reverse ranges.now) k }
-{
-    for range in ranges {
-        if range.0 <= k && k - range.0 < range.1 {
-            return false;
-        }
-    }
-    true
-}
-
-// Writes bytes over those at a place, and past the end.
-fn patch(target: &mut Vec<u8>, at: usize, bytes: &[u8]) -> Result<(), AllocError>
-    requires { at ≤ length target.old.items }
-    ensures ok { OnOk result (target.new.items ≡ patched target.old.items at bytes.now) }
-    ensures err { OnErr result (target.new.items ≡ target.old.items) }
-{
-    let kept = bytes.len().min(target.len() - at);
-    target.extend_from_slice(&bytes[kept..])?;
-    target[at..at + kept].copy_from_slice(&bytes[..kept]);
-    Ok(())
 }

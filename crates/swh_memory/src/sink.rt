@@ -1,16 +1,17 @@
 // A sink in memory.
-ghost use Rattle.std.specs.Prelude.{◌≡◌, [], IfOk};
+ghost use Rattle.std.specs.Prelude.{◌≡◌, ◌≤◌, [], length, vec_capacity, IfOk};
 
 use crate::Failures;
 use std::alloc::{AllocError, Global};
 use swh_outside::{Failed, Sink};
 
-/// A sink with room for a number of bytes. A call that would pass it fails and is counted.
+/// A sink with room for a number of bytes. A call that would pass it takes none, fails and is counted. No call allocates.
 #[derive(Drop)]
 pub struct MemorySink {
     room: usize,
     bytes: Vec<u8>,
     failures: Failures,
+    ghost has_room: { room ≤ vec_capacity bytes },
 }
 
 impl MemorySink {
@@ -48,11 +49,11 @@ impl MemorySink {
 }
 
 impl Sink for MemorySink {
-    ghost use Rattle.std.specs.Prelude.{IsErr, IsTrue, OnOk};
+    ghost use Rattle.std.specs.Prelude.{◌++◌, take, is_err};
     ghost use Rattle.swh_outside.specs.Faults.{HasCause};
     ghost use Rattle.swh_outside.specs.Sink.{IsPut};
-    ghost use Rattle.swh_memory.specs.Parts.{sink_bytes, sink_tally, sink_faults};
-    ghost use Rattle.swh_memory.specs.Tally.{is_next_listed, CountsCall};
+    ghost use Rattle.swh_memory.specs.Parts.{sink_bytes, sink_room, sink_tally, sink_faults, is_put_to_fail, taken_count};
+    ghost use Rattle.swh_memory.specs.Tally.{tallied};
 
     ghost tells = { Unit {0} };
 
@@ -62,18 +63,20 @@ impl Sink for MemorySink {
 
     fn put(&mut self, bytes: &[u8]) -> Result<(), Failed>
         ensures bytes { IsPut (sink_bytes self.old) bytes.now (sink_bytes self.new) result }
-        ensures quiet { OnOk result (sink_faults self.new ≡ sink_faults self.old) }
         ensures cause { HasCause (sink_faults self.old) (sink_faults self.new) result }
 
-        ensures fails { IsTrue (is_next_listed (sink_tally self.old)) → IsErr result }
-        ensures counted { CountsCall (sink_tally self.old) (sink_tally self.new) }
+        ensures taken { sink_bytes self.new ≡ sink_bytes self.old ++ take (taken_count self.old (length bytes.now)) bytes.now }
+        ensures fails { is_err result ≡ is_put_to_fail self.old (length bytes.now) }
+        ensures counted { sink_tally self.new ≡ tallied (is_err result) (sink_tally self.old) }
+        ensures room { sink_room self.new ≡ sink_room self.old }
     {
         let fails = self.failures.next_fails();
-        let taken = if fails { bytes.len() / 2 } else { bytes.len() };
-        if self.bytes.len() > self.room || taken > self.room - self.bytes.len() {
+        let count = if fails { bytes.len() / 2 } else { bytes.len() };
+        if self.bytes.len() + count > self.room {
             return Err(self.failures.refuse());
         }
-        if self.bytes.extend_from_slice(&bytes[..taken]).is_err() || fails {
+        let _ = self.bytes.extend_from_slice(&bytes[..count]);
+        if fails {
             return Err(self.failures.refuse());
         }
         Ok(())

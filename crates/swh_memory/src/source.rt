@@ -57,11 +57,11 @@ impl MemorySource {
 }
 
 impl Source for MemorySource {
-    ghost use Rattle.std.specs.Prelude.{◌<◌, IfOk, OnOk, OnErr, is_err};
+    ghost use Rattle.std.specs.Prelude.{◌<◌, IfOk, OnErr, is_err, min, max};
     ghost use Rattle.swh_outside.specs.Faults.{HasCause};
     ghost use Rattle.swh_outside.specs.Source.{IsGot, IsHeard};
-    ghost use Rattle.swh_memory.specs.Inputs.{source_left, source_given, source_ended, source_path, source_tally, source_faults};
-    ghost use Rattle.swh_memory.specs.Tally.{is_next_listed, answered};
+    ghost use Rattle.swh_memory.specs.Inputs.{source_left, source_given, source_ended, source_path, source_piece, source_tally, source_faults};
+    ghost use Rattle.swh_memory.specs.Tally.{is_next_listed, tallied};
 
     ghost tells = { Unit {0} };
 
@@ -82,11 +82,12 @@ impl Source for MemorySource {
         ensures loses { OnErr result (source_left self.new ≡ source_left self.old) }
         ensures heard { IsHeard (source_given self.old) (source_ended self.old) out.new (source_given self.new) (source_ended self.new) result }
         ensures same_path { source_path self.new ≡ source_path self.old }
-        ensures quiet { OnOk result (source_faults self.new ≡ source_faults self.old) }
         ensures cause { HasCause (source_faults self.old) (source_faults self.new) result }
 
+        ensures piece { IfOk result (λ n. n ≡ min (min (length out.old) (max (source_piece self.old) 1)) (length (source_left self.old))) }
+        ensures same_piece { source_piece self.new ≡ source_piece self.old }
         ensures fails { is_err result ≡ is_next_listed (source_tally self.old) }
-        ensures counted { source_tally self.new ≡ answered (source_tally self.old) }
+        ensures counted { source_tally self.new ≡ tallied (is_err result) (source_tally self.old) }
     {
         if self.failures.next_fails() {
             return Err(self.failures.refuse());

@@ -1,11 +1,11 @@
 // Each part once, with ample memory, and once where it is to fail.
 use crate::{
-    Input, MemoryClock, MemoryDepot, MemoryDisk, MemoryDoors, MemoryFolder, MemoryLink,
-    MemoryOrigins, MemorySink, MemoryYard, Room,
+    Input, MemoryCall, MemoryClock, MemoryDepot, MemoryDisk, MemoryDoors, MemoryFolder, MemoryGate,
+    MemoryLink, MemoryOrigins, MemoryRecord, MemorySink, MemoryYard, Room,
 };
 use std::test::Fail;
 use swh_outside::{
-    Clock, Depot, Disk, Doors, Failed, Folder, Opened, Origins, OutFault, Sink, Source, Yard,
+    Clock, Depot, Disk, Doors, Failed, Folder, Gate, Opened, Origins, OutFault, Sink, Source, Yard,
 };
 
 #[test]
@@ -23,10 +23,51 @@ fn a_write_is_torn_until_a_barrier(rt: HostRuntime) -> Result<(), Fail> {
     let mut out = [0; 8];
     assert_eq!(rt; disk.read_at(2, &mut out), Ok(2));
     assert!(rt; disk.sync().is_err());
-    assert_eq!(rt; disk.calls().len(), 3);
     assert!(rt; disk.write_at(0, &[1, 2, 3, 4, 5]).is_err());
     assert_eq!(rt; disk.faults(), 2);
+    assert_eq!(rt; disk.calls().len(), 4);
     Ok(())
+}
+
+#[test]
+fn each_call_is_on_record(rt: HostRuntime) -> Result<(), Fail> {
+    let alloc = rt.alloc();
+    let room = Room { bytes: 4, calls: 4 };
+    let mut disk = MemoryDisk::new(alloc, &[], room, [1].to_vec(alloc)?)?;
+    assert_eq!(rt; disk.len(), Ok(0));
+    assert!(rt; disk.write_at(0, &[7, 8]).is_err());
+    assert!(rt; disk.sync().is_ok());
+    assert_eq!(rt; disk.read_at(1, &mut [0; 3]), Ok(0));
+    assert!(rt; disk.len().is_err());
+    assert_eq!(rt; disk.faults(), 2);
+    let calls = [
+        done(MemoryCall::Length),
+        MemoryRecord {
+            call: MemoryCall::Written(0, 2),
+            failed: true,
+        },
+        done(MemoryCall::Synced),
+        done(MemoryCall::Read(1, 3)),
+    ];
+    assert_eq!(rt; disk.calls(), calls.as_slice());
+    Ok(())
+}
+
+fn done(call: MemoryCall) -> MemoryRecord {
+    MemoryRecord {
+        call,
+        failed: false,
+    }
+}
+
+#[test]
+fn a_gate_counts_its_calls(rt: HostRuntime) {
+    let gate = MemoryGate::new();
+    gate.before(1, 1);
+    gate.before(2, 1);
+    gate.after(1, 1);
+    assert_eq!(rt; gate.count_before(), 2);
+    assert_eq!(rt; gate.count_after(), 1);
 }
 
 #[test]
@@ -51,6 +92,8 @@ fn a_depot_keeps_its_files(rt: HostRuntime) -> Result<(), Fail> {
     assert!(rt; disk.len().is_err());
     depot.close("B", 1, disk);
     assert_eq!(rt; depot.faults(), 2);
+    assert!(rt; matches!(&depot.open("", 0), Err(OutFault::Failed)));
+    assert_eq!(rt; depot.faults(), 3);
     Ok(())
 }
 

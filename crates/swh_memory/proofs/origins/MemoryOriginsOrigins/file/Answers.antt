@@ -6,7 +6,7 @@ use Rattle.swh_memory.specs.declared.input.Input.{Input}
 use Rattle.swh_memory.proofs.origins.MemoryOriginsOrigins.file.Goals as goal
 
 pub returns-then-i-len-clause-absent : goal.returns-then-i-len-clause-absent
-returns-then-i-len-clause-absent c told not_found =
+returns-then-i-len-clause-absent c not_found =
     let p = is_for c.args.path.now in
     let inputs = c.args.self.now.inputs.items in
     let e = c.deref.ensures.value in
