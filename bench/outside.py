@@ -151,7 +151,8 @@ def interrupted(room):
         return
     room.archive("A")
     for call in ("read", "pread64"):
-        prefix = ("strace", "-f", "-o", "/dev/null", "-e", "inject=%s:error=EINTR:when=2+3" % call)
+        paths = [word for name in ("A/0", "A/1", "jobs", "stream") for word in ("-P", name)]
+        prefix = ["strace", "-f", "-o", "/dev/null", "-e", "inject=%s:error=EINTR:when=1+2" % call] + paths
         room.expect(0, b"https://e.org/p\t", "load", "A", "jobs", prefix=prefix)
 
 
