@@ -11,6 +11,7 @@ import fcntl
 import os
 import resource
 import shutil
+import signal
 import subprocess
 import sys
 import tempfile
@@ -144,6 +145,20 @@ def size_limit(room):
     room.expect(0, b"200 ", "ask", "A", VISITS)
 
 
+def full_output(room):
+    """Where the signal of the limit is ignored, an output that meets it is an output that fails."""
+    room.archive("A")
+
+    def limited():
+        resource.setrlimit(resource.RLIMIT_FSIZE, (4, 4))
+        signal.signal(signal.SIGXFSZ, signal.SIG_IGN)
+    with open(room.path("out"), "wb") as out:
+        done = subprocess.run([room.program, "ask", "A", VISITS], cwd=room.folder, stdout=out, preexec_fn=limited,
+                              restore_signals=False)
+    if done.returncode != 4:
+        raise Wrong("status %d" % done.returncode)
+
+
 def interrupted(room):
     """A read that a signal interrupts is tried again."""
     if shutil.which("strace") is None:
@@ -151,13 +166,15 @@ def interrupted(room):
         return
     room.archive("A")
     for call in ("read", "pread64"):
-        prefix = ("strace", "-f", "-o", "/dev/null", "-e", "inject=%s:error=EINTR:when=2+3" % call)
+        paths = [word for name in ("A/0", "A/1", "jobs", "stream") for word in ("-P", name)]
+        prefix = ["strace", "-f", "-o", "/dev/null", "-e", "inject=%s:error=EINTR:when=1+2" % call] + paths
         room.expect(0, b"https://e.org/p\t", "load", "A", "jobs", prefix=prefix)
 
 
 def main():
     program = find_program()
-    for case in (no_name, not_there, not_a_folder, only_read, at_once, several_makings, size_limit, interrupted):
+    for case in (no_name, not_there, not_a_folder, only_read, at_once, several_makings, size_limit, full_output,
+                 interrupted):
         with tempfile.TemporaryDirectory() as folder:
             try:
                 case(Room(program, folder))

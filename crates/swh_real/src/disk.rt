@@ -2,7 +2,7 @@
 ghost use Rattle.std.specs.Prelude.{◌≡◌};
 
 use crate::count::Count;
-use crate::place::{Access, Place};
+use crate::place::{Access, Names, Place};
 use crate::reading::read_from;
 use crate::size_limit::check_size_limit;
 use std::fs::File;
@@ -21,7 +21,7 @@ pub struct RealDisk<R: Files<File = File> + Drop> {
     place: Place,
     access: Access,
     file: Option<File>,
-    is_named: bool,
+    names: Names,
     count: Count,
 }
 
@@ -34,16 +34,17 @@ impl<R: Files<File = File> + Drop> Model for RealDisk<R> {
 }
 
 impl<R: Files<File = File> + Drop> RealDisk<R> {
-    /// A disk over the file of a place, or over none where it does not stand.
+    /// A disk over the file of a place, as it was opened, or over none where it does not stand.
     pub(crate) fn new(rt: R, place: Place, access: Access, file: Option<File>) -> Self
         ensures { result ≡ 0 }
     {
+        let names = place.names(&rt, access);
         RealDisk {
             rt,
             place,
             access,
             file,
-            is_named: false,
+            names,
             count: Count::new(),
         }
     }
@@ -72,31 +73,26 @@ impl<R: Files<File = File> + Drop> RealDisk<R> {
         written
     }
 
-    // The first barrier on a file that stands is one on its name too, but for who only reads.
+    // The first barrier on a file that stands is one on its name too.
     fn settle(&mut self) -> io::Result<()>
         ensures { self.new ≡ self.old }
     {
         let Some(file) = &self.file else {
             return Ok(());
         };
-        if let Access::Read = self.access {
-            return sync_read(file);
-        }
-        file.sync_all()?;
-        if !self.is_named {
-            self.place.sync_names(&self.rt)?;
-            self.is_named = true;
-        }
+        sync_file(file, self.access)?;
+        self.place.sync_names(&self.rt, self.names)?;
+        self.names = Names::Settled;
         Ok(())
     }
 }
 
-// A barrier on a file that is only read, which another run may have written. A file system that takes no writes may
-// know no barrier: there is nothing to bring to the disk.
-fn sync_read(file: &File) -> io::Result<()> {
-    match file.sync_all() {
-        Err(fault) if fault.kind() == ErrorKind::InvalidInput => Ok(()),
-        synced => synced,
+// A barrier on a file, which another run may have written. For who only reads it may be one of a file system that takes
+// no writes and knows no barrier: there is nothing to bring to the disk.
+fn sync_file(file: &File, access: Access) -> io::Result<()> {
+    match (file.sync_all(), access) {
+        (Err(fault), Access::Read) if fault.kind() == ErrorKind::InvalidInput => Ok(()),
+        (synced, _) => synced,
     }
 }
 

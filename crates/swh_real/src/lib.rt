@@ -29,4 +29,6 @@ pub use link::RealLink;
 pub use origins::RealOrigins;
 pub use sink::RealSink;
 pub use source::RealSource;
+/// The gate of the program, which holds nobody.
+pub use swh_outside::OpenGate as RealGate;
 pub use yard::RealYard;

@@ -16,6 +16,17 @@ pub enum Access {
     Make,
 }
 
+/// What a barrier on a file owes to its name.
+#[derive(Clone, Copy)]
+pub enum Names {
+    /// Nothing: the name is on the disk, or nothing is written.
+    Settled,
+    /// That the folder is synced, which holds the name of the file.
+    Own,
+    /// That the folders above are synced too, each of which holds the name of the one below.
+    All,
+}
+
 /// A file of a folder, by its number, and the ledger beside it.
 #[derive(Drop)]
 pub struct Place {
@@ -69,14 +80,26 @@ impl Place {
         Ok(file)
     }
 
-    /// Brings the file's name to the disk, whoever made it: a run before this one may have been killed between making
-    /// it and here. No ledger is made before this went well, so the folders above are looked at only until then.
-    pub fn sync_names<R: Files<File = File>>(&self, rt: &R) -> io::Result<()> {
-        File::open(rt, self.folder.as_str())?.sync_all()?;
-        if is_made(rt, self.ledger.as_str()) {
-            return Ok(());
+    /// What the first barrier owes, when the file has been opened: a run before this one may have been killed between
+    /// making the file and that barrier. No ledger is made before the folders above are synced.
+    pub fn names<R: Files<File = File>>(&self, rt: &R, access: Access) -> Names {
+        match access {
+            Access::Read => Names::Settled,
+            Access::Write | Access::Make if is_made(rt, self.ledger.as_str()) => Names::Own,
+            Access::Write | Access::Make => Names::All,
         }
-        sync_above(rt, self.folder.as_str())
+    }
+
+    /// Brings these names to the disk.
+    pub fn sync_names<R: Files<File = File>>(&self, rt: &R, names: Names) -> io::Result<()> {
+        match names {
+            Names::Settled => Ok(()),
+            Names::Own => sync_folder(rt, self.folder.as_str()),
+            Names::All => {
+                sync_folder(rt, self.folder.as_str())?;
+                sync_above(rt, self.folder.as_str())
+            }
+        }
     }
 }
 
@@ -126,7 +149,11 @@ fn is_made<R: Files<File = File>>(rt: &R, ledger: &str) -> bool {
     }
 }
 
-// Syncs the folders above one, as far as its path names them, since each holds the name of the one below.
+fn sync_folder<R: Files<File = File>>(rt: &R, folder: &str) -> io::Result<()> {
+    File::open(rt, folder)?.sync_all()
+}
+
+// Syncs the folders above one, as far as its path names them.
 fn sync_above<R: Files<File = File>>(rt: &R, folder: &str) -> io::Result<()> {
     let top = if folder.starts_with('/') { "/" } else { "." };
     sync_if_allowed(rt, top)?;

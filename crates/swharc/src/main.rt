@@ -6,9 +6,8 @@ use std::io::ErrorKind;
 use std::process::ExitCode;
 use std::{env, io};
 use swh_base::Sha1Namer;
-use swh_outside::OpenGate;
 use swh_program::{Outside, run};
-use swh_real::{RealClock, RealDepot, RealDoors, RealOrigins, RealSink, RealYard};
+use swh_real::{RealClock, RealDepot, RealDoors, RealGate, RealOrigins, RealSink, RealYard};
 
 // The words after the program's name. Words that are not UTF-8 are none, which no command is.
 fn read_words(rt: &HostRuntime) -> io::Result<Vec<String>> {
@@ -58,7 +57,7 @@ fn start(rt: &HostRuntime, alloc: Global) -> io::Result<u8> {
         sink: RealSink::new(io::writer(rt)),
         clock: RealClock::new(rt.clone()?),
         doors: RealDoors::new(),
-        gate: OpenGate,
+        gate: RealGate,
     };
     Ok(run(rt, alloc, &words, &mut world))
 }
