@@ -8,6 +8,7 @@ use Rattle.swh_memory.specs.declared.record.MemoryRecord.{MemoryRecord}
 use Rattle.swh_memory.specs.declared.record.Room.{Room}
 use Rattle.swh_memory.specs.declared.disk.MemoryDisk.{MemoryDisk}
 
+-- the file that a disk in memory is
 abbrev pub memory_file : MemoryDisk → File
 memory_file disk = kept_file disk.base.items disk.ranges.items disk.longest disk.bytes.items (calls_in disk.calls.items disk.written.items)
 

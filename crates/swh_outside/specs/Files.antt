@@ -2,6 +2,7 @@
 use Rattle.std.specs.Prelude.{◌≡◌, ◌≢◌, ◌==◌, ℕ, cond, List, [], ◌∷◌, ◌++◌, take, map, Result, OnOk, OnErr}
 use Rattle.swh_outside.specs.Disk.{File, Call, IsImage, IsBroken, done}
 
+-- files by their numbers
 abbrev pub Files : Type 0
 Files = ℕ → File
 
@@ -29,6 +30,7 @@ files_of ledger store = with_file 0 ledger (with_file 1 store (λ k. absent))
 abbrev pub file_done : FileCall → Files → Files
 file_done call files = with_file call.0 (done call.1 (files call.0)) files
 
+-- the files after these calls, all of which succeeded
 abbrev pub files_done : List FileCall → Files → Files
 files_done [] files = files
 files_done (call ∷ calls) files = files_done calls (file_done call files)
@@ -55,6 +57,7 @@ pub record FilesRuns {T E : Type 0} (plan : List FileCall) (old new : Files) (re
 abbrev pub Images : Type 0
 Images = ℕ → List ℕ
 
+-- Each is an image that a crash may leave of its file.
 pub record AreImages (files : Files) (images : Images) : Type 0 where
   pub each : (k : ℕ) → IsImage (files k) (images k)
 
