@@ -1,9 +1,12 @@
 -- Two files after a barrier on each, and what they hold.
-use Rattle.std.proofs.Common.{◌≡◌, ◌≤◌, ℕ, ◌+◌, List, ◌∷◌, length, length-append, sym, ap, ◌∙◌, subst, arith, inr}
+use Rattle.std.proofs.Common.{◌≡◌, ◌≤◌, ℕ, ◌+◌, Err, List, ◌∷◌, length, length-append, refl, sym, ap, ◌∙◌, subst, arith, inr}
 use Rattle.swh_outside.specs.Disk.{File, Sync, IsAtRest, done}
 use Rattle.swh_outside.specs.Files.{Files, files_of, files_done}
 use Rattle.swh_outside.proofs.Images.{at_rest_done}
 use Rattle.swh_segment.specs.Making.{IsMade, barriers}
+use Rattle.swh_segment.specs.Makes.{Makes}
+use Rattle.swh_segment.specs.declared.fault.MakeFault.{MakeFault}
+use Rattle.swh_segment.specs.declared.fault.MakeFault.TheVariants as make
 use Rattle.swh_base.specs.declared.kind.Kind.{Kind}
 use Rattle.swh_model.specs.declared.event.Event.{Event}
 use Rattle.swh_model.specs.Coding.{magic, coded_records, coded_runs}
@@ -13,7 +16,7 @@ use Rattle.swh_model.specs.Step.{IsHistory}
 use Rattle.swh_model.proofs.Unique.{alike}
 use Rattle.swh_model.proofs.OneHistory.{one_history}
 use Rattle.swh_keeper.specs.Checked.{IsNoHistory}
-use Rattle.swh_keeper.specs.Opening.{IsLeftFor, StandsForNone, IsDamaged}
+use Rattle.swh_keeper.specs.Opening.{make_why, IsLeftOfMaking, IsLeftFor, StandsForNone, IsDamaged}
 use Rattle.swh_keeper.specs.declared.opening.OpenWhy.{OpenWhy}
 use Rattle.swh_keeper.specs.declared.opening.OpenWhy.TheVariants.{Made, NotMade, Damaged, DiskFault, Memory}
 use Rattle.swh_keeper.proofs.KeptLemmas.{runs-length}
@@ -71,3 +74,11 @@ pub the_one : (id_of : Kind → List ℕ → List ℕ) (ledger store : List ℕ)
     → StandsFor ledger store h → IsHistory id_of h → history ≡ h
 the_one id_of ledger store events history h stands like is s is_h =
     one_history id_of history h (like ∙ alike ledger store events h stands s) is is_h
+
+-- what is left of a making that ends for a fault
+pub left_of_making : (fault : MakeFault) (why : OpenWhy) (old new : Files) → why ≡ make_why fault → Makes old new (Err fault) → IsLeftOfMaking why old new
+left_of_making fault why old new is makes = subst (λ (w : OpenWhy). IsLeftOfMaking w old new) (sym is) (left fault makes)
+  where
+    left : (f : MakeFault) → Makes old new (Err f) → IsLeftOfMaking (make_why f) old new
+    left make.Made m = m.made refl
+    left make.Disk m = m.failed refl
