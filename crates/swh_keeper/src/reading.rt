@@ -6,6 +6,7 @@ ghost use Rattle.swh_outside.specs.Files.{files_of, files_done};
 ghost use Rattle.swh_outside.specs.Faults.{Rose};
 ghost use Rattle.swh_segment.specs.Makes.{EitherRose};
 ghost use Rattle.swh_segment.specs.Making.{IsMade, IsNotMade, barriers};
+ghost use Rattle.swh_model.specs.Certificate.{AreClosed};
 ghost use Rattle.swh_model.specs.Coding.{coded_run, run_of};
 ghost use Rattle.swh_model.specs.Decoding.{IsFit};
 ghost use Rattle.swh_model.specs.Stands.{StandsFor};
@@ -18,12 +19,15 @@ ghost use Rattle.swh_keeper.specs.declared.opening.OpenWhy.TheVariants.{NotMade,
 
 use crate::bodies::HeldBodies;
 use crate::checking::{Checked, check_kind};
+use crate::listing::Listing;
 use crate::opening::OpenWhy;
 use crate::replayed::Replayed;
 use crate::visits::OriginVisits;
 use std::alloc::Global;
 use swh_base::{Entry, Many, Memory, Namer};
-use swh_model::{BatchParts, Event, EventKind, Next, Record, Told, next_record, read_run, split_magic};
+use swh_model::{
+    BatchParts, Event, EventKind, Next, Record, Told, next_record, read_run, split_magic,
+};
 use swh_outside::Disk;
 use swh_segment::{fill, read_file, settle};
 
@@ -122,6 +126,7 @@ fn happen<N: Namer>(
     checked: &mut Checked,
     event: Event,
 ) -> Result<bool, Memory>
+    requires { AreClosed checked.old.replayed.bodies checked.old.closed }
     ensures yes { IfOk result (λ yes. IsTrue yes → IsLonger N.id_of checked.old event checked.new) }
     ensures no { IfOk result (λ yes. yes ≡ false → MayNotHappen N.id_of (archive_of checked.old.replayed.bodies checked.old.replayed.visits) event.by event.what) }
 {
@@ -131,6 +136,7 @@ fn happen<N: Namer>(
         alloc,
         namer,
         &mut replayed.bodies,
+        &mut checked.closed,
         &mut replayed.visits,
         by,
         what,
@@ -154,6 +160,7 @@ fn take_record<N: Namer, D: Disk>(
 ) -> Result<bool, OpenWhy>
     requires size { D.tells → size ≡ length (D.file store.old).seen }
     requires inside { checked.old.replayed.store_end ≤ size }
+    requires closed { AreClosed checked.old.replayed.bodies checked.old.closed }
     requires fit { IsFit told }
     ensures taken { IfOk result (λ yes. IsTrue yes → IsTaken N.id_of D.tells (D.file store.old).seen checked.old by told checked.new) }
     ensures inside { IfOk result (λ yes. IsTrue yes → checked.new.replayed.store_end ≤ size) }
@@ -223,6 +230,7 @@ fn nothing_read(alloc: Global) -> Checked
     ensures visits { result.replayed.visits ≡ finite.empty }
     ensures store_end { result.replayed.store_end ≡ 0 }
     ensures ledger_end { result.replayed.ledger_end ≡ 8 }
+    ensures closed { result.closed ≡ [] }
 {
     Checked {
         replayed: Replayed {
@@ -232,6 +240,7 @@ fn nothing_read(alloc: Global) -> Checked
             ledger_end: 8,
         },
         history: Vec::new(alloc),
+        closed: Listing::new(alloc),
     }
 }
 

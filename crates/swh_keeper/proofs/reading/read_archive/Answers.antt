@@ -44,7 +44,7 @@ returns-clause-damaged g c told is =
     (subst (λ (l : List ℕ). IsDamaged g.N.Namer.id_of c.deref.result.now l) store (c.read_store.ensures.damaged told is))
 
 pub returns-clause-left : goal.returns-clause-left
-returns-clause-left g c told = 
+returns-clause-left g c told =
     let settled = (c.in_ok-settle.ensures.runs told).ok in
     let same = ap (λ (f : File). files_of f (g.D.Disk.file c.settle.new.store)) (c.in_ok-bytes.ensures.same told) in
     let same_store = ap (λ (f : File). files_of (g.D.Disk.file c.read_file.new.disk) f) (c.read_store.ensures.same told) in

@@ -12,10 +12,10 @@ invariant_of-result g c =
     (λ told. ledger_rests (g.D.Disk.file c.args.ledger) (g.D.Disk.file c.args.store) _ (g.D.Disk.file c.read_archive.new.store) (done.calls told))
     (λ told. store_rests (g.D.Disk.file c.args.ledger) (g.D.Disk.file c.args.store) (g.D.Disk.file c.read_archive.new.ledger) _ (done.calls told))
     (λ told.
-        let ledger = ledger_seen (g.D.Disk.file c.args.ledger) (g.D.Disk.file c.args.store) _ (g.D.Disk.file c.read_archive.new.store) (done.calls told) in
-        let store = store_seen (g.D.Disk.file c.args.ledger) (g.D.Disk.file c.args.store) (g.D.Disk.file c.read_archive.new.ledger) _ (done.calls told) in
-        subst (λ (l : List ℕ). StandsFor l (g.D.Disk.file c.read_archive.new.store).seen checked.history.items) (sym ledger)
-        (subst (λ (l : List ℕ). StandsFor (g.D.Disk.file c.args.ledger).seen l checked.history.items) (sym store) (done.stand told)))
+    let ledger = ledger_seen (g.D.Disk.file c.args.ledger) (g.D.Disk.file c.args.store) _ (g.D.Disk.file c.read_archive.new.store) (done.calls told) in
+    let store = store_seen (g.D.Disk.file c.args.ledger) (g.D.Disk.file c.args.store) (g.D.Disk.file c.read_archive.new.ledger) _ (done.calls told) in
+    subst (λ (l : List ℕ). StandsFor l (g.D.Disk.file c.read_archive.new.store).seen checked.history.items) (sym ledger)
+    (subst (λ (l : List ℕ). StandsFor (g.D.Disk.file c.args.ledger).seen l checked.history.items) (sym store) (done.stand told)))
 
 pub returns-in-Ok-clause-history : goal.returns-in-Ok-clause-history
 returns-in-Ok-clause-history g c told h stands is =
