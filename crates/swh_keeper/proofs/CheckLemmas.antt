@@ -24,7 +24,10 @@ use Rattle.swh_model.specs.Judge.{IsHow}
 use Rattle.swh_model.specs.Stands.{bare, bare_kind, bare_event, AreAlike}
 use Rattle.swh_model.proofs.Entries.{held_not_none, none_unless_held, new-push, new-at, added-append, all-append}
 use Rattle.swh_model.proofs.Visits.{all-map}
-use Rattle.swh_model.proofs.Walks.{reaches-next}
+use Rattle.swh_model.specs.Certificate.{AreClosed}
+use Rattle.swh_model.specs.Grows.{IsWithin}
+use Rattle.swh_model.proofs.Maps.{within-added}
+use Rattle.swh_model.proofs.Walks.{reaches-next, closed-within}
 use Rattle.swh_keeper.specs.Judged.{IsSnapshotRefusal, SuitsStatus, MayBeMarked}
 use Rattle.swh_keeper.specs.Checked.{archive_of, AreAlikeEntries, IsRemade, CannotBeMade, AreRemade, CannotAllBeMade, AreAdded, MayNotBeAdded, Happens, MayNotHappen}
 use Rattle.swh_keeper.proofs.BatchLemmas.{all_in, item_in}
@@ -177,6 +180,12 @@ held_at old new es i e less is held h fresh =
 
 pub good_at : (es : List Entry) (i : ℕ) (e : Entry) → i < length es → e ≡ get_or es i e → AllByRecursion IsGood es → IsGood e
 good_at es i e less is good = all_in IsGood es good e (item_in es i e less is)
+
+-- ---- what is known to be closed
+
+pub closed_added : (id_of : Kind → List ℕ → List ℕ) (old new : Bodies) (given es : List Entry) (names : List Name) → AreAdded id_of old new given es → AreClosed old names → AreClosed new names
+closed_added id_of old new given es names are closed n there =
+    closed-within old new n (subst (IsWithin old) (sym are.now) (within-added old es are.may.new)) (closed n there)
 
 -- ---- what a status needs
 

@@ -1,5 +1,5 @@
 -- Two files after a barrier on each, and what is read of them.
-use Rattle.std.proofs.Common.{◌≡◌, ◌≢◌, ◌≤◌, ◌<◌, ◌^◌, ℕ, ◌+◌, ◌-◌, ◌*◌, Option, Some, None, List, [], ◌∷◌, ◌++◌, length, length-append, length-drop, map, take, drop, refl, sym, ap, ◌∙◌, subst, arith, inr, append_assoc}
+use Rattle.std.proofs.Common.{◌≡◌, ◌≢◌, ◌≤◌, ◌<◌, ◌^◌, ℕ, ◌+◌, ◌-◌, ◌*◌, Option, Some, None, Err, List, [], ◌∷◌, ◌++◌, length, length-append, length-drop, map, take, drop, refl, sym, ap, ◌∙◌, subst, arith, inr, append_assoc}
 use Rattle.std.specs.Prelude.{IfSome}
 use Rattle.std.specs.Global.{Vec}
 use Rattle.std.specs.List.{AllByRecursion}
@@ -10,6 +10,9 @@ use Rattle.swh_outside.specs.Files.{Files, files_of, files_done}
 use Rattle.swh_outside.proofs.Images.{at_rest_done}
 use Rattle.swh_segment.specs.Making.{IsMade, barriers}
 use Rattle.swh_segment.specs.Reading.{IsFilled}
+use Rattle.swh_segment.specs.Makes.{Makes}
+use Rattle.swh_segment.specs.declared.fault.MakeFault.{MakeFault}
+use Rattle.swh_segment.specs.declared.fault.MakeFault.TheVariants as make
 use Rattle.swh_base.specs.declared.kind.Kind.{Kind}
 use Rattle.swh_base.specs.declared.entry.Entry.{Entry}
 use Rattle.swh_base.specs.Limits.{body_limit}
@@ -36,7 +39,7 @@ use Rattle.swh_keeper.specs.declared.opening.OpenWhy.{OpenWhy}
 use Rattle.swh_keeper.specs.declared.opening.OpenWhy.TheVariants.{Made, NotMade, Damaged, DiskFault, Memory}
 use Rattle.swh_keeper.specs.Checked.{archive_of, MayNotHappen}
 use Rattle.swh_keeper.specs.Planned.{IsReplayOf, IsInFiles}
-use Rattle.swh_keeper.specs.Opening.{IsLeftFor, IsDamaged}
+use Rattle.swh_keeper.specs.Opening.{make_why, IsLeftOfMaking, IsLeftFor}
 use Rattle.swh_keeper.specs.Reading.{MayBeRun, IsBatchRead, HoldsAt, IsNoBatch, IsWithin, IsKindRead, IsNoKind, IsLonger, IsTaken, NoneMayHappen, IsReadSoFar, IsNoArchive, HasRuns, IsAtEnd}
 use Rattle.swh_keeper.proofs.CheckLemmas.{one_event}
 use Rattle.swh_keeper.proofs.KeptLemmas.{runs-length, codable-at, store_length-push, replay-push, history-push}
@@ -113,21 +116,9 @@ filled_whole store out at n is all bound =
     let whole = subst (λ (k : ℕ). take k out ≡ take k (drop at store)) same is.bytes in
     sym (take-all out) ∙ whole
 
-pub fills : (store out : List ℕ) (at n to size : ℕ) → IsFilled store at out n → size ≡ length store → to ≤ size → length out ≡ to - at → n < length out → ⊥
-fills store out at n to size is sized inside len less = let full = is.full less in omega (arith, full, sized, inside, len, less)
-
 pub take-front : (a b : List ℕ) → take (length a) (a ++ b) ≡ a
 take-front [] b = refl
 take-front (x ∷ a) b = ap (λ (l : List ℕ). x ∷ l) (take-front a b)
-
-pub no_batch_run : (at : ℕ) (p : BatchParts) (store out : List ℕ) → length out ≡ p.to - at → out ≡ take (length out) (drop at store) → IsNoRun out p.number → IsNoBatch at p store
-no_batch_run at p store out len is none es y limits codable from to number holds =
-    let size : length out ≡ length (coded_run es) = omega (arith, len, to) in
-    none es (sym number) codable (is ∙ ap (λ (n : ℕ). take n (drop at store)) size ∙ ap (take (length (coded_run es))) holds ∙ take-front (coded_run es) y)
-
-pub batch_read : (at : ℕ) (p : BatchParts) (out : List ℕ) (es : List Entry) → p.from ≡ at → at ≤ p.to → length out ≡ p.to - at → IsRunOf out p.number es → IsBatchRead at p es
-batch_read at p out es begins ends len is =
-    record { begins = begins; ends = omega (arith, ends, len, ap length is.spelled); count = sym is.count; codable = is.codable }
 
 pub holds_batch : (at : ℕ) (p : BatchParts) (store out : List ℕ) (es : List Entry) → out ≡ take (length out) (drop at store) → IsRunOf out p.number es → HoldsAt store at (coded_run es)
 holds_batch at p store out es is run =
@@ -139,38 +130,6 @@ pub holds_found : (at : ℕ) (p : BatchParts) (store out bytes : List ℕ) (foun
     → IfSome found (λ (es : Vec Entry). IsRunOf bytes p.number es.items) → IfSome found (λ (es : Vec Entry). HoldsAt store at (coded_run es.items))
 holds_found at p store out bytes None same is run = tt
 holds_found at p store out bytes (Some es) same is run = holds_batch at p store out es.items is (subst (λ (l : List ℕ). IsRunOf l p.number es.items) same run)
-
--- ---- what a record tells
-
-pub whole_read : (at size : ℕ) (what : EventKind) (k : KindRead) → k ≡ record { what = what; end = at } → IsFit (told_of.Whole what) → at ≤ size → IsKindRead at size (told_of.Whole what) k
-whole_read at size what k is fit inside =
-    subst (IsKindRead at size (told_of.Whole what)) (sym is)
-    (record {
-      told = refl;
-      codable = whole_codable at what fit;
-      end_is = let none = ap length (whole_runless what fit.whole) in omega (arith, none);
-      inside = inside;
-    })
-
-pub whole_holds : (at : ℕ) (what : EventKind) (store : List ℕ) → IsFit (told_of.Whole what) → HoldsAt store at (run_of what)
-whole_holds at what store fit =
-    subst (λ (l : List ℕ). HoldsAt store at l) (sym (whole_runless what fit.whole)) (ap (λ (n : ℕ). drop n store) (let z : at ≡ at + 0 = omega arith in z))
-
-pub batch_kind : (at size : ℕ) (p : BatchParts) (es : List Entry) (k : KindRead) → k ≡ record { what = Batch es; end = p.to } → IsFit (told_of.Batch p) → IsBatchRead at p es → at + length (coded_run es) ≤ size → IsKindRead at size (told_of.Batch p) k
-batch_kind at size p es k is fit read inside =
-    let to_fits = fit.to_fits in let few = fit.number_fits in let n = read.count in let e = read.ends in
-    subst (IsKindRead at size (told_of.Batch p)) (sym is)
-    (record {
-      told = (read.begins, read.ends, read.count);
-      codable = record { entries_codable = read.codable; number = omega (arith, few, n); end = omega (arith, to_fits, e) };
-      end_is = read.ends;
-      inside = omega (arith, inside, e);
-    })
-
-pub no_kind : (at : ℕ) (p : BatchParts) (store : List ℕ) → IsNoBatch at p store → IsNoKind at (told_of.Batch p) store
-no_kind at p store none (Batch es) y within codable tells holds = none es y within codable.entries_codable tells.0 tells.1 tells.2 holds
-no_kind at p store none (Open origin kind date) y within codable tells holds = absurd tells
-no_kind at p store none (Mark origin visit status snapshot) y within codable tells holds = absurd tells
 
 -- ---- what was read with kids and without
 
@@ -211,15 +170,6 @@ same_told at (told_of.Batch p) (Mark o v s n) b x y store fit ca cb ta tb ha hb 
 same_told at (told_of.Whole whole) a b x y store fit ca cb ta tb ha hb = ap bare_kind (sym ta ∙ tb)
 
 module _ (id_of : Kind → List ℕ → List ℕ) where
-  may_within : (a : Archive) (by : ℕ) (what : EventKind) → May_kind id_of a by what → IsWithin what
-  may_within a by (Batch es) may = may.limits
-  may_within a by (Open origin kind date) may = tt
-  may_within a by (Mark origin visit status snapshot) may = tt
-
-  pub none_kind : (old : Checked) (by : ℕ) (t : Told) (store : List ℕ) → IsNoKind old.replayed.store_end t store → NoneMayHappen id_of old by t store
-  none_kind old by t store none what y codable tells holds may =
-      none what y (may_within (archive_of old.replayed.bodies old.replayed.visits) by what may) codable tells holds
-
   pub none_happens : (old : Checked) (by size : ℕ) (t : Told) (store : List ℕ) (k : KindRead) → IsFit t → IsKindRead old.replayed.store_end size t k → HoldsAt store old.replayed.store_end (run_of k.what)
       → MayNotHappen id_of (archive_of old.replayed.bodies old.replayed.visits) by k.what → NoneMayHappen id_of old by t store
   none_happens old by size t store k fit read here not what y codable tells holds may =
@@ -240,6 +190,7 @@ module _ (id_of : Kind → List ℕ → List ℕ) where
         history = longer.history;
         store_end = read.end_is ∙ ap (λ (l : List ℕ). at + length l) (sym run);
         ledger_end = longer.ledger_end;
+        closed = longer.closed;
         holds = λ told. subst (λ (l : List ℕ). HoldsAt store at l) (sym run) (holds told);
       }
 
@@ -295,14 +246,14 @@ module _ (id_of : Kind → List ℕ → List ℕ) (tells_store : Type 0) (store 
       let place : at ≡ 0 + length (coded_runs g) = let s = so_far.replay.store in omega (arith, s, runs-length g) in
       let front = magic ++ coded_records 0 (g ++ e ∷ []) in
       let whole : ledger ≡ magic ++ (coded_records 0 (g ++ e ∷ []) ++ rest) =
-          so_far.records ∙ ap (λ (l : List ℕ). magic ++ (coded_records 0 g ++ l)) (spelled open_gate t)
-          ∙ ap (λ (n : ℕ). magic ++ (coded_records 0 g ++ 1 ∷ (coded_record n e ++ rest))) place ∙ ap (λ (l : List ℕ). magic ++ l) (sym (records-push 0 g e rest)) in
+      so_far.records ∙ ap (λ (l : List ℕ). magic ++ (coded_records 0 g ++ l)) (spelled open_gate t)
+      ∙ ap (λ (n : ℕ). magic ++ (coded_records 0 g ++ 1 ∷ (coded_record n e ++ rest))) place ∙ ap (λ (l : List ℕ). magic ++ l) (sym (records-push 0 g e rest)) in
       let cut_here : ledger ≡ front ++ rest = whole ∙ sym (append_assoc magic (coded_records 0 (g ++ e ∷ [])) rest) in
       let size : length front ≡ length ledger - length rest = omega (arith, ap length cut_here, length-append front rest) in
       let left : rest ≡ drop (length ledger - length rest) ledger = sym (drop-append_seam front rest) ∙ ap (drop (length front)) (sym cut_here) ∙ ap (λ (n : ℕ). drop n ledger) size in
       let may : May id_of (replay g) e = subst (λ (a : Archive). May_kind id_of a r.by t.what) (same_archive so_far) t.may in
       let now : archive_of mid.replayed.bodies mid.replayed.visits ≡ replay (g ++ e ∷ []) =
-          t.now ∙ ap (λ (a : Archive). after a e) (same_archive so_far) ∙ sym (replay-push empty_archive g e) in
+      t.now ∙ ap (λ (a : Archive). after a e) (same_archive so_far) ∙ sym (replay-push empty_archive g e) in
       let all : AreParts id_of ledger mid (length ledger - length rest) (g ++ e ∷ []) = record {
         history = history-push id_of empty_archive g e so_far.history may;
         bodies = ap (λ (a : Archive). a.bodies) now;
@@ -319,6 +270,7 @@ module _ (id_of : Kind → List ℕ → List ℕ) (tells_store : Type 0) (store 
         codable = parts.codable;
         records = parts.records;
         inside = omega arith;
+        closed = t.closed;
       }
     where
       same_archive : IsReadSoFar id_of ledger old → archive_of old.replayed.bodies old.replayed.visits ≡ replay old.history.items
@@ -329,9 +281,9 @@ module _ (id_of : Kind → List ℕ → List ℕ) (tells_store : Type 0) (store 
       let e = event_taken t in
       let g = old.history.items in
       let runs : store ≡ coded_runs (g ++ e ∷ []) ++ drop mid.replayed.store_end store =
-          has.runs ∙ ap (λ (l : List ℕ). coded_runs g ++ l) (t.holds told) ∙ sym (append_assoc (coded_runs g) (run_of t.what) _)
-          ∙ ap (λ (l : List ℕ). l ++ drop (old.replayed.store_end + length (run_of t.what)) store) (sym (runs-push g e))
-          ∙ ap (λ (n : ℕ). coded_runs (g ++ e ∷ []) ++ drop n store) (sym t.store_end) in
+      has.runs ∙ ap (λ (l : List ℕ). coded_runs g ++ l) (t.holds told) ∙ sym (append_assoc (coded_runs g) (run_of t.what) _)
+      ∙ ap (λ (l : List ℕ). l ++ drop (old.replayed.store_end + length (run_of t.what)) store) (sym (runs-push g e))
+      ∙ ap (λ (n : ℕ). coded_runs (g ++ e ∷ []) ++ drop n store) (sym t.store_end) in
       record { runs = subst (λ (h : List Event). store ≡ coded_runs h ++ drop mid.replayed.store_end store) (sym t.history) runs }
 
 -- ---- where nothing can follow, the files stand for no history
@@ -357,13 +309,13 @@ continues id_of a at (e ∷ g) records behind store runs rs us codable may (f �
     let mine_run = append_assoc (run_of e.what) (coded_runs g) runs in
     let other_run = append_assoc (run_of f.what) (coded_runs h) s.beyond in
     let one = same_event at e f (coded_records next g ++ behind) (coded_records after_f h ++ s.gate ∷ s.behind) (coded_runs g ++ runs) (coded_runs h ++ s.beyond) codable.0 s.codable.0
-        (sym mine ∙ same_tail 1 1 _ _ (sym rs ∙ s.records) ∙ other) (sym mine_run ∙ sym us ∙ s.runs ∙ other_run) in
+    (sym mine ∙ same_tail 1 1 _ _ (sym rs ∙ s.records) ∙ other) (sym mine_run ∙ sym us ∙ s.runs ∙ other_run) in
     let same : e ≡ f = one_event id_of a e f one.0 may.0 m.0 in
     let there : StandsFrom after_f (coded_records after_f h ++ s.gate ∷ s.behind) (coded_runs h ++ s.beyond) h =
-        record { gate = s.gate; closed = s.closed; behind = s.behind; records = refl; beyond = s.beyond; runs = refl; codable = s.codable.1 } in
+    record { gate = s.gate; closed = s.closed; behind = s.behind; records = refl; beyond = s.beyond; runs = refl; codable = s.codable.1 } in
     let here : StandsFrom next (coded_records next g ++ behind) (coded_runs g ++ runs) h =
-        subst (λ (n : ℕ). StandsFrom n (coded_records next g ++ behind) (coded_runs g ++ runs) h) (ap (λ (x : Event). at + length (run_of x.what)) (sym same))
-        (subst (λ (l : List ℕ). StandsFrom after_f l (coded_runs g ++ runs) h) (sym one.1) (subst (λ (l : List ℕ). StandsFrom after_f (coded_records after_f h ++ s.gate ∷ s.behind) l h) (sym one.2) there)) in
+    subst (λ (n : ℕ). StandsFrom n (coded_records next g ++ behind) (coded_runs g ++ runs) h) (ap (λ (x : Event). at + length (run_of x.what)) (sym same))
+    (subst (λ (l : List ℕ). StandsFrom after_f l (coded_runs g ++ runs) h) (sym one.1) (subst (λ (l : List ℕ). StandsFrom after_f (coded_records after_f h ++ s.gate ∷ s.behind) l h) (sym one.2) there)) in
     let more = continues id_of (after a e) next g _ behind _ runs refl refl codable.1 may.1 h here (subst (λ (x : Event). MayAll id_of (after a x) h) (sym same) m.1) in
     let place : next + length (coded_runs g) ≡ at + length (run_of e.what ++ coded_runs g) = omega (arith, length-append (run_of e.what) (coded_runs g)) in
     record {
@@ -402,56 +354,18 @@ module _ (id_of : Kind → List ℕ → List ℕ) (ledger store : List ℕ) (c :
           let at = c.replayed.store_end in
           let next = at + length (run_of e.what) in
           let told = record_only gate_open.behind q at e (coded_records next k ++ f.gate ∷ f.behind) gate_open.record_is f.codable.0
-              (same_tail 1 1 _ _ (sym gate_open.is ∙ f.records) ∙ append_assoc (coded_record at e) (coded_records next k) (f.gate ∷ f.behind)) in
+          (same_tail 1 1 _ _ (sym gate_open.is ∙ f.records) ∙ append_assoc (coded_record at e) (coded_records next k) (f.gate ∷ f.behind)) in
           not e.what (coded_runs k ++ f.beyond) f.codable.0.1 told.1 (f.runs ∙ append_assoc (run_of e.what) (coded_runs k) f.beyond)
           (subst (λ (n : ℕ). May_kind id_of (archive_of c.replayed.bodies c.replayed.visits) n e.what) (sym told.0) m.0)
-
-  pub stands_read : IsAtEnd ledger c → StandsFor ledger store c.history.items
-  stands_read end =
-      record {
-        rest = coded_records 0 c.history.items ++ drop c.replayed.ledger_end ledger;
-        begins = so_far.records;
-        stands = record {
-          gate = end.gate;
-          closed = end.closed;
-          behind = end.behind;
-          records = ap (λ (l : List ℕ). coded_records 0 c.history.items ++ l) end.is;
-          beyond = drop c.replayed.store_end store;
-          runs = has.runs;
-          codable = so_far.codable;
-        };
-      }
-
--- ---- the first and the last of it
-
-pub no_magic : (id_of : Kind → List ℕ → List ℕ) (ledger store : List ℕ) → ((rest : List ℕ) → ledger ≡ magic ++ rest → ⊥) → IsNoArchive id_of ledger store
-no_magic id_of ledger store none h s is = none s.rest s.begins
-
-pub start_so_far : (id_of : Kind → List ℕ → List ℕ) (ledger rest : List ℕ) (c : Checked) → ledger ≡ magic ++ rest → c.history.items ≡ [] → c.replayed.bodies ≡ empty_archive.bodies → c.replayed.visits ≡ empty_archive.origins
-    → c.replayed.store_end ≡ 0 → c.replayed.ledger_end ≡ 8 → IsReadSoFar id_of ledger c
-start_so_far id_of ledger rest c begins none bodies visits store_end ledger_end =
-    record {
-      history = subst (IsHistory id_of) (sym none) tt;
-      replay = record {
-        bodies = bodies ∙ ap (λ (h : List Event). (replay h).bodies) (sym none);
-        visits = visits ∙ ap (λ (h : List Event). (replay h).origins) (sym none);
-        store = store_end ∙ ap store_length (sym none);
-        ledger = ap (λ (n : ℕ). n + 1) ledger_end ∙ ap ledger_length (sym none);
-      };
-      codable = subst (AreCodable 0) (sym none) tt;
-      records = begins ∙ ap (λ (l : List ℕ). magic ++ l) (ap (drop 8) (sym begins) ∙ ap (λ (n : ℕ). drop n ledger) (sym ledger_end))
-          ∙ ap (λ (h : List Event). magic ++ (coded_records 0 h ++ drop c.replayed.ledger_end ledger)) (sym none);
-      inside = omega (arith, ledger_end, ap length begins, length-append magic rest);
-    }
-
-pub start_runs : (store : List ℕ) (c : Checked) → c.history.items ≡ [] → c.replayed.store_end ≡ 0 → HasRuns store c
-start_runs store c none store_end =
-    record { runs = ap (λ (n : ℕ). drop n store) (sym store_end) ∙ ap (λ (h : List Event). coded_runs h ++ drop c.replayed.store_end store) (sym none) }
-
-pub read_in_files : (ledger : List ℕ) (c : Checked) (size : ℕ) → c.replayed.store_end ≤ size → size ≤ 2 ^ 62 → length ledger ≤ 2 ^ 62 → c.replayed.ledger_end ≤ length ledger → IsAtEnd ledger c → IsInFiles c.replayed
-read_in_files ledger c size inside store_fits ledger_fits within end =
-    record { store_fits = omega (arith, inside, store_fits); ledger_fits = omega (arith, within, ledger_fits, ap length end.is, length-drop c.replayed.ledger_end ledger) }
 
 -- two histories for which the files stand are one
 pub the_one : (id_of : Kind → List ℕ → List ℕ) (ledger store : List ℕ) (g h : List Event) → StandsFor ledger store g → IsHistory id_of g → StandsFor ledger store h → IsHistory id_of h → g ≡ h
 the_one id_of ledger store g h sg hg sh hh = one_history id_of g h (alike ledger store g h sg sh) hg hh
+
+-- what is left of a making that ends for a fault
+pub left_of_making : (fault : MakeFault) (why : OpenWhy) (old new : Files) → why ≡ make_why fault → Makes old new (Err fault) → IsLeftOfMaking why old new
+left_of_making fault why old new is makes = subst (λ (w : OpenWhy). IsLeftOfMaking w old new) (sym is) (left fault makes)
+  where
+    left : (f : MakeFault) → Makes old new (Err f) → IsLeftOfMaking (make_why f) old new
+    left make.Made m = m.made refl
+    left make.Disk m = m.failed refl

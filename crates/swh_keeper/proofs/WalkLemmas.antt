@@ -2,10 +2,7 @@
 use Rattle.std.proofs.Common.{◌≡◌, inl, inr, ℕ, zero, suc, ◌+◌, ◌<◌, ◌≤◌, Bool, true, false, cond, Some, None, List, [], ◌∷◌, ◌++◌, length, take, get_or, refl, sym, ap, ◌∙◌, subst, arith, append_assoc}
 use Rattle.std.specs.Prelude.{Contains, slice_get}
 use Rattle.std.specs.List.{AllByRecursion}
-use Rattle.std.specs.HashSet.{HashSet, contains, Updates}
-use Rattle.std.specs.Ordering.{is_eq}
-use Rattle.std.specs.Cmp.{tied_itself}
-use Rattle.std.specs.Cmp.Lexicographic.{texts_ties, nat_list_cmp_total}
+use Rattle.std.specs.BTreeSet.{BTreeSet, contains, Updates}
 use Rattle.std.proofs.lemmas.List.{take_more, take_all, append-nil, take-append-le}
 use Rattle.std.proofs.lemmas.List.Elements.{Contains-append_left, Contains-append_cases, Contains-push, Contains-push_cases}
 use Rattle.swh_base.specs.declared.name.Name.{Name}
@@ -19,24 +16,22 @@ use Rattle.swh_model.proofs.Entries.{all-append}
 use Rattle.swh_model.proofs.Walks.{reaches-next}
 use Rattle.swh_model.proofs.Certificates.{certified-closed}
 use Rattle.swh_keeper.specs.Maps.{IsEntryOf}
-use Rattle.swh_keeper.specs.Walk.{IsSeen, MayGain, IsHeldKid, GainsKids, GainsHeld}
-use Rattle.swh_keeper.proofs.MapLemmas.{keys_eq, same_key}
+use Rattle.swh_model.specs.Certificate.{IsCovered, AreClosed}
+use Rattle.swh_keeper.specs.Walk.{IsSeen, MayGain, IsHeldKid, GainsKids, GainsHeld, GainsReached}
+use Rattle.swh_keeper.proofs.MapLemmas.{keys_cmp, at, same_key, key_itself}
 
-keys_itself : (k : List ℕ) → keys_eq k k ≡ true
-keys_itself k = texts_ties k k ∙ ap is_eq (tied_itself nat_list_cmp_total k)
-
-pub seen-push : {S : Type 0} (seen seen' : HashSet (List ℕ) S) (key : List ℕ) (name : Name) (names names' : List Name) → IsSeen seen names → key ≡ name_key name → names' ≡ names ++ name ∷ [] → Updates keys_eq seen seen' key true → IsSeen seen' names'
+pub seen-push : (seen seen' : BTreeSet (List ℕ)) (key : List ℕ) (name : Name) (names names' : List Name) → IsSeen seen names → key ≡ name_key name → names' ≡ names ++ name ∷ [] → Updates keys_cmp seen seen' key true → IsSeen seen' names'
 seen-push seen seen' key name names names' is key_is names_are updates n =
-    let now : contains keys_eq seen' (name_key n) ≡ cond (keys_eq (name_key name) (name_key n)) true (contains keys_eq seen (name_key n)) =
-    updates.0 (name_key n) ∙ ap (λ (k : List ℕ). cond (keys_eq k (name_key n)) true (contains keys_eq seen (name_key n))) key_is in
-    subst (λ (l : List Name). ((contains keys_eq seen' (name_key n) ≡ true) → Contains l n) × (Contains l n → (contains keys_eq seen' (name_key n) ≡ true))) (sym names_are) (
-      λ t. elim (keys_eq (name_key name) (name_key n)) as (λ b. keys_eq (name_key name) (name_key n) ≡ b → cond b true (contains keys_eq seen (name_key n)) ≡ true → Contains (names ++ name ∷ []) n) [
+    let now : contains keys_cmp seen' (name_key n) ≡ cond (at (name_key name) (name_key n)) true (contains keys_cmp seen (name_key n)) =
+    updates.0 (name_key n) ∙ ap (λ (k : List ℕ). cond (at k (name_key n)) true (contains keys_cmp seen (name_key n))) key_is in
+    subst (λ (l : List Name). ((contains keys_cmp seen' (name_key n) ≡ true) → Contains l n) × (Contains l n → (contains keys_cmp seen' (name_key n) ≡ true))) (sym names_are) (
+      λ t. elim (at (name_key name) (name_key n)) as (λ b. at (name_key name) (name_key n) ≡ b → cond b true (contains keys_cmp seen (name_key n)) ≡ true → Contains (names ++ name ∷ []) n) [
         | true ↦ λ e _. subst (λ (m : Name). Contains (names ++ name ∷ []) m) (same_key name n e) (Contains-push names name)
         | false ↦ λ e u. Contains-append_left names (name ∷ []) n ((is n).0 u)
       ] refl (sym now ∙ t),
       λ h. now ∙ elim (Contains-push_cases names name n h) [
-        | inl old ↦ ap (λ (b : Bool). cond (keys_eq (name_key name) (name_key n)) true b) ((is n).1 old) ∙ always (keys_eq (name_key name) (name_key n))
-        | inr same ↦ ap (λ (b : Bool). cond b true (contains keys_eq seen (name_key n))) (ap (λ (m : Name). keys_eq (name_key name) (name_key m)) (sym same) ∙ keys_itself (name_key name))
+        | inl old ↦ ap (λ (b : Bool). cond (at (name_key name) (name_key n)) true b) ((is n).1 old) ∙ always (at (name_key name) (name_key n))
+        | inr same ↦ ap (λ (b : Bool). cond b true (contains keys_cmp seen (name_key n))) (ap (λ (m : Name). at (name_key name) (name_key m)) (sym same) ∙ key_itself (name_key name))
       ],
     )
   where
@@ -44,8 +39,8 @@ seen-push seen seen' key name names names' is key_is names_are updates n =
     always true = refl
     always false = refl
 
-pub seen_there : {S : Type 0} (seen : HashSet (List ℕ) S) (key : List ℕ) (name : Name) (names : List Name) → IsSeen seen names → key ≡ name_key name → contains keys_eq seen key ≡ true → Contains names name
-seen_there seen key name names is key_is t = (is name).0 (subst (λ (k : List ℕ). contains keys_eq seen k ≡ true) key_is t)
+pub seen_there : (seen : BTreeSet (List ℕ)) (key : List ℕ) (name : Name) (names : List Name) → IsSeen seen names → key ≡ name_key name → contains keys_cmp seen key ≡ true → Contains names name
+seen_there seen key name names is key_is t = (is name).0 (subst (λ (k : List ℕ). contains keys_cmp seen k ≡ true) key_is t)
 
 pub may_keep : (l l' : List Name) (x n : Name) → MayGain l l' x → Contains l n → Contains l' n
 may_keep l l' x n (inl same) h = subst (λ (k : List Name). Contains k n) (sym same) h
@@ -108,59 +103,99 @@ held_kids bodies p e is (m ∷ ms) h = ((kid_of bodies p m e is h.0.0, h.0.1), h
 pub gains_kids : (bodies : Bodies) (p : Name) (e : Entry) (old new : List Name) → IsEntryOf bodies p e → GainsHeld bodies e.kids old new → GainsKids bodies p old new
 gains_kids bodies p e old new is g = record { more = g.more; behind = g.behind; held_kids = held_kids bodies p e is g.more g.held_names }
 
--- what a walk has met, as far as it has come
-pub record Walked (bodies : Bodies) (root : Name) (l : List Name) (place : ℕ) : Type 0 where
+-- what a walk has met beyond what is known, as far as it has come
+pub record Walked (bodies : Bodies) (root : Name) (known l : List Name) (place : ℕ) : Type 0 where
   pub begins : Contains l root
-  pub reached : AllByRecursion (λ n. Reaches bodies root n × IsHeld bodies n) l
-  pub followed : (n kid : Name) → Contains (take place l) n → IsKid bodies n kid → Contains l kid
-  pub within : place ≤ length l
+  pub gains : GainsReached bodies root known l
+  pub done : ℕ
+  pub place_is : place ≡ length known + done
+  pub within : done ≤ length gains.more
+  pub followed : (n kid : Name) → Contains (take done gains.more) n → IsKid bodies n kid → Contains l kid
 
-pub walk_begins : (bodies : Bodies) (root : Name) (empty l : List Name) → IsHeld bodies root → empty ≡ [] → MayGain empty l root → Contains l root → Walked bodies root l 0
-walk_begins bodies root empty l held is (inl same) there = absurd (none_in root (subst (λ (k : List Name). Contains k root) (same ∙ is) there))
-walk_begins bodies root empty l held is (inr more) there =
-    let one : l ≡ root ∷ [] = more ∙ ap (λ (k : List Name). k ++ root ∷ []) is in
+pub walk_fits : (bodies : Bodies) (root : Name) (known l : List Name) (place : ℕ) → Walked bodies root known l place → place ≤ length l
+walk_fits bodies root known l place w =
+    let few = w.within in let is = w.place_is in omega (arith, few, is, ap length w.gains.behind, length-append known w.gains.more)
+
+none_in_front : (n : Name) (xs : List Name) → Contains (take 0 xs) n → ⊥
+none_in_front n [] h = none_in n h
+none_in_front n (x ∷ xs) h = none_in n h
+
+pub walk_begins : (bodies : Bodies) (root : Name) (known l : List Name) (place : ℕ) → IsHeld bodies root → MayGain known l root → Contains l root → place ≡ length known → Walked bodies root known l place
+walk_begins bodies root known l place held (inl same) there is =
     record {
       begins = there;
-      reached = subst (AllByRecursion (λ n. Reaches bodies root n × IsHeld bodies n)) (sym one) ((([], refl), held), tt);
-      followed = λ n kid h _. none_taken l l kid (absurd (none_in n (subst (λ (k : List Name). Contains k n) (take_zero l) h)));
+      gains = record { more = []; behind = same ∙ sym (append-nil known); reached = tt };
+      done = 0;
+      place_is = omega (arith, is);
       within = omega arith;
+      followed = λ n kid h _. absurd (none_in_front n [] h);
     }
-  where
-    take_zero : (xs : List Name) → take 0 xs ≡ []
-    take_zero [] = refl
-    take_zero (x ∷ xs) = refl
+walk_begins bodies root known l place held (inr more) there is =
+    record {
+      begins = there;
+      gains = record { more = root ∷ []; behind = more; reached = ((([], refl), held), tt) };
+      done = 0;
+      place_is = omega (arith, is);
+      within = omega arith;
+      followed = λ n kid h _. absurd (none_in_front n (root ∷ []) h);
+    }
+
+-- what was met before a kid's parent was looked at
+pub gains-root : (bodies : Bodies) (root : Name) (known l : List Name) → IsHeld bodies root → MayGain known l root → GainsReached bodies root known l
+gains-root bodies root known l held (inl same) = record { more = []; behind = same ∙ sym (append-nil known); reached = tt }
+gains-root bodies root known l held (inr more) = record { more = root ∷ []; behind = more; reached = ((([], refl), held), tt) }
 
 reached_more : (bodies : Bodies) (root p : Name) → Reaches bodies root p → (ms : List Name) → AllByRecursion (IsHeldKid bodies p) ms → AllByRecursion (λ n. Reaches bodies root n × IsHeld bodies n) ms
 reached_more bodies root p reach [] h = tt
 reached_more bodies root p reach (m ∷ ms) h = ((reaches-next bodies reach.0 root p m reach.1 h.0.0, h.0.1), reached_more bodies root p reach ms h.1)
 
-pub at_place : (P : Name → Type 0) (l : List Name) (i : ℕ) (p : Name) → slice_get l i ≡ Some p → AllByRecursion P l → (i < length l) × (p ≡ get_or l i p) × P p
+at_place : (P : Name → Type 0) (l : List Name) (i : ℕ) (p : Name) → slice_get l i ≡ Some p → AllByRecursion P l → (i < length l) × (p ≡ get_or l i p) × P p
 at_place P [] i p is h = absurd (let f : None ≡ Some p = is in cc)
 at_place P (x ∷ l) zero p is h = let e : x ≡ p = cc in (omega arith, sym e, subst P e h.0)
 at_place P (x ∷ l) (suc i) p is h = let more = at_place P l i p is h.1 in (let m = more.0 in omega (arith, m), more.1, more.2)
 
-pub parent_held : (bodies : Bodies) (root p : Name) (l : List Name) (place : ℕ) → slice_get l place ≡ Some p → Walked bodies root l place → Reaches bodies root p × IsHeld bodies p
-parent_held bodies root p l place is w = (at_place (λ n. Reaches bodies root n × IsHeld bodies n) l place p is w.reached).2
+-- behind a front the places begin anew
+behind_front : (front more : List Name) (place done : ℕ) (p : Name) → place ≡ length front + done → slice_get (front ++ more) place ≡ Some p → slice_get more done ≡ Some p
+behind_front [] more place done p e is = let same : place ≡ done = omega (arith, e) in subst (λ (k : ℕ). slice_get more k ≡ Some p) same is
+behind_front (x ∷ front) more zero done p e is = absurd (omega (arith, e))
+behind_front (x ∷ front) more (suc place) done p e is = behind_front front more place done p (omega (arith, e)) is
 
-pub walk-next : (bodies : Bodies) (root p : Name) (l l' : List Name) (place : ℕ) → slice_get l place ≡ Some p → Walked bodies root l place → GainsKids bodies p l l'
-    → ((kid : Name) → IsKid bodies p kid → Contains l' kid) → Walked bodies root l' (place + 1)
-walk-next bodies root p l l' place is w g all =
-    let at = at_place (λ n. Reaches bodies root n × IsHeld bodies n) l place p is w.reached in
-    let keep : (n : Name) → Contains l n → Contains l' n = λ n h. subst (λ (k : List Name). Contains k n) (sym g.behind) (Contains-append_left l g.more n h) in
-    let less : place + 1 ≤ length l = let a = at.0 in omega (arith, a) in
-    let cut : take (place + 1) l' ≡ take place l ++ p ∷ [] =
-    ap (take (place + 1)) g.behind ∙ take-append-le (place + 1) l g.more less ∙ take_more l place p at.0 ∙ ap (λ (y : Name). take place l ++ y ∷ []) (sym at.1) in
-    record {
-      begins = keep root w.begins;
-      reached = subst (AllByRecursion (λ n. Reaches bodies root n × IsHeld bodies n)) (sym g.behind)
-          (all-append (λ n. Reaches bodies root n × IsHeld bodies n) l g.more w.reached (reached_more bodies root p at.2.0 g.more g.held_kids));
-      followed = λ n kid h is_kid.
-          elim (Contains-push_cases (take place l) p n (subst (λ (k : List Name). Contains k n) cut h)) [
-            | inl old ↦ keep kid (w.followed n kid old is_kid)
-            | inr same ↦ all kid (subst (λ (m : Name). IsKid bodies m kid) (sym same) is_kid)
-          ];
-      within = omega (arith, less, ap length g.behind, length-append l g.more);
-    }
+module _ (bodies : Bodies) (root p : Name) (known l : List Name) (place : ℕ) (is : slice_get l place ≡ Some p) (w : Walked bodies root known l place) where
+  there : slice_get w.gains.more w.done ≡ Some p
+  there = behind_front known w.gains.more place w.done p w.place_is (subst (λ (k : List Name). slice_get k place ≡ Some p) w.gains.behind is)
+
+  pub parent_held : Reaches bodies root p × IsHeld bodies p
+  parent_held = (at_place (λ n. Reaches bodies root n × IsHeld bodies n) w.gains.more w.done p there w.gains.reached).2
+
+  joined : (l' : List Name) (g : GainsKids bodies p l l') → l' ≡ known ++ (w.gains.more ++ g.more)
+  joined l' g = g.behind ∙ ap (λ (k : List Name). k ++ g.more) w.gains.behind ∙ append_assoc known w.gains.more g.more
+
+  all_reached : (l' : List Name) (g : GainsKids bodies p l l') → AllByRecursion (λ n. Reaches bodies root n × IsHeld bodies n) (w.gains.more ++ g.more)
+  all_reached l' g = all-append (λ n. Reaches bodies root n × IsHeld bodies n) w.gains.more g.more w.gains.reached (reached_more bodies root p parent_held.0 g.more g.held_kids)
+
+  pub gains-next : (l' : List Name) → GainsKids bodies p l l' → GainsReached bodies root known l'
+  gains-next l' g =
+      record { more = w.gains.more ++ g.more; behind = joined l' g; reached = all_reached l' g }
+
+  pub walk-next : (l' : List Name) → GainsKids bodies p l l' → ((kid : Name) → IsKid bodies p kid → Contains l' kid) → Walked bodies root known l' (place + 1)
+  walk-next l' g all =
+      let a = at_place (λ n. Reaches bodies root n × IsHeld bodies n) w.gains.more w.done p there w.gains.reached in
+      let keep : (n : Name) → Contains l n → Contains l' n = λ n h. subst (λ (k : List Name). Contains k n) (sym g.behind) (Contains-append_left l g.more n h) in
+      let less : w.done + 1 ≤ length w.gains.more = let m = a.0 in omega (arith, m) in
+      let cut : take (w.done + 1) (w.gains.more ++ g.more) ≡ take w.done w.gains.more ++ p ∷ [] =
+      take-append-le (w.done + 1) w.gains.more g.more less ∙ take_more w.gains.more w.done p a.0 ∙ ap (λ (y : Name). take w.done w.gains.more ++ y ∷ []) (sym a.1) in
+      record {
+        begins = keep root w.begins;
+        gains = record { more = w.gains.more ++ g.more; behind = joined l' g; reached = all_reached l' g };
+        done = w.done + 1;
+        place_is = let e = w.place_is in omega (arith, e);
+        within = omega (arith, less, length-append w.gains.more g.more);
+        followed = λ n kid h is_kid.
+            elim (Contains-push_cases (take w.done w.gains.more) p n (subst (λ (k : List Name). Contains k n) cut h)) [
+              | inl old ↦ keep kid (w.followed n kid old is_kid)
+              | inr same ↦ all kid (subst (λ (m : Name). IsKid bodies m kid) (sym same) is_kid)
+            ];
+      }
 
 held_all : (bodies : Bodies) (root : Name) (l : List Name) → AllByRecursion (λ n. Reaches bodies root n × IsHeld bodies n) l → (n : Name) → Contains l n → IsHeld bodies n
 held_all bodies root [] h n there = absurd (none_in n there)
@@ -174,14 +209,28 @@ held_all bodies root (x ∷ l) h n there =
     only y m (zero, less, is) = is
     only y m (suc k, less, is) = absurd (omega (arith, less))
 
-pub walk-ends : (bodies : Bodies) (root : Name) (l : List Name) (place : ℕ) → length l ≤ place → Walked bodies root l place → IsClosed bodies root
-walk-ends bodies root l place past w =
-    certified-closed bodies [] l root (λ n h. absurd (none_in n h))
-    (record {
-      begins = inl w.begins;
-      held = held_all bodies root l w.reached;
-      kids = λ n kid there is_kid. inl (w.followed n kid (subst (λ (k : List Name). Contains k n) (sym (take_all place l past)) there) is_kid);
-    })
+covered : (known more l : List Name) (n : Name) → l ≡ known ++ more → Contains l n → IsCovered known more n
+covered known more l n is h =
+    elim (Contains-append_cases known more n (subst (λ (k : List Name). Contains k n) is h)) [ inl old ↦ inr old | inr new ↦ inl new ]
+
+module _ (bodies : Bodies) (root : Name) (known l : List Name) (place : ℕ) (past : length l ≤ place) (w : Walked bodies root known l place) (are : AreClosed bodies known) where
+  more_closed : (n : Name) → Contains w.gains.more n → IsClosed bodies n
+  more_closed n listed =
+      certified-closed bodies known w.gains.more n are
+      (record {
+        begins = inl listed;
+        held = held_all bodies root w.gains.more w.gains.reached;
+        kids = λ m kid met is_kid.
+            let all_done : length w.gains.more ≤ w.done = let is = w.place_is in omega (arith, past, is, ap length w.gains.behind, length-append known w.gains.more) in
+            covered known w.gains.more l kid w.gains.behind (w.followed m kid (subst (λ (k : List Name). Contains k m) (sym (take_all w.done w.gains.more all_done)) met) is_kid);
+      })
+
+  pub walk-ends : AreClosed bodies l
+  walk-ends n h =
+      elim (covered known w.gains.more l n w.gains.behind h) [ inl new ↦ more_closed n new | inr old ↦ are n old ]
+
+pub none_known : (bodies : Bodies) (l : List Name) → l ≡ [] → AreClosed bodies l
+none_known bodies l is n h = absurd (none_in n (subst (λ (k : List Name). Contains k n) is h))
 
 -- an element that is there is read with any default
 pub item_is : (xs : List Name) (i : ℕ) (d e : Name) → i < length xs → get_or xs i d ≡ get_or xs i e

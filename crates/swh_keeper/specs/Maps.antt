@@ -1,5 +1,5 @@
 -- The maps in memory as the finite maps of the archive.
-use Rattle.std.specs.Prelude.{◌≡◌, ◌≢◌, ℕ, Some, List, [], map}
+use Rattle.std.specs.Prelude.{◌≡◌, ◌≢◌, ℕ, Some, None, List, [], map}
 use Rattle.std.specs.Borrow.{Bor}
 use Rattle.std.specs.Coded.{Coded, coded_ℕ, coded_list}
 use Rattle.std.specs.FinMap as finite
@@ -31,6 +31,11 @@ pub record IsEntryOf (bodies : Bodies) (n : Name) (e : Entry) : Type 0 where
   pub name : e.name ≡ n
   pub held : body_of bodies n ≡ Some e.body
   pub good : IsGood e
+
+-- The second map is the first without the name.
+pub record IsWithout (before now : Bodies) (n : Name) : Type 0 where
+  pub gone : body_of now n ≡ None
+  pub others : (q : Name) → q ≢ n → body_of now q ≡ body_of before q
 
 abbrev pub origins_code : Coded Origins
 origins_code = finite.code (coded_list coded_ℕ) (coded_list a_visit.the_row.coded)

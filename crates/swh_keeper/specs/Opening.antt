@@ -27,6 +27,12 @@ IsMakeFault _ = ⊥
 abbrev pub IsCutShort : Files → Files → Type 0
 IsCutShort old new = (new ≡ old) ⊎ FilesBreaks (making_calls (old 0).seen) old new
 
+-- what a making that ends for this leaves of the files
+abbrev pub IsLeftOfMaking : OpenWhy → Files → Files → Type 0
+IsLeftOfMaking Made old new = new ≡ old
+IsLeftOfMaking DiskFault old new = IsCutShort old new
+IsLeftOfMaking _ old new = ⊥
+
 abbrev pub read_why : ReadFileFault → OpenWhy
 read_why read.Disk = DiskFault
 read_why read.Memory = Memory

@@ -8,6 +8,7 @@ use Rattle.swh_model.specs.declared.event.EventKind.{EventKind}
 use Rattle.swh_model.specs.declared.event.EventKind.TheVariants.{Batch, Open, Mark}
 use Rattle.swh_model.specs.declared.decoding.payload.BatchParts.{BatchParts}
 use Rattle.swh_model.specs.declared.decoding.told.Told.{Told}
+use Rattle.swh_model.specs.Certificate.{AreClosed}
 use Rattle.swh_model.specs.Coding.{magic, coded_run, run_of, coded_records, coded_runs, IsCodableEntry, IsCodableKind, AreCodable}
 use Rattle.swh_model.specs.Decoding.{IsGateClosed, Tells}
 use Rattle.swh_model.specs.Limits.{objects_limit, run_limit, IsWithinLimits}
@@ -67,6 +68,7 @@ module _ (id_of : Kind → List ℕ → List ℕ) where
     pub history : new.history.items ≡ old.history.items ++ record { by = given.by; what = what } ∷ []
     pub store_end : new.replayed.store_end ≡ old.replayed.store_end
     pub ledger_end : new.replayed.ledger_end ≡ old.replayed.ledger_end
+    pub closed : AreClosed new.replayed.bodies new.closed
 
   -- An event of which a record tells happens and is the newest, and the store's end is behind its run.
   pub record IsTaken (store_told : Type 0) (store : List ℕ) (old : Checked) (by : ℕ) (t : Told) (new : Checked) : Type 0 where
@@ -78,6 +80,7 @@ module _ (id_of : Kind → List ℕ → List ℕ) where
     pub history : new.history.items ≡ old.history.items ++ record { by = by; what = what } ∷ []
     pub store_end : new.replayed.store_end ≡ old.replayed.store_end + length (run_of what)
     pub ledger_end : new.replayed.ledger_end ≡ old.replayed.ledger_end
+    pub closed : AreClosed new.replayed.bodies new.closed
     pub holds : store_told → HoldsAt store old.replayed.store_end (run_of what)
 
   -- Nothing of which the record tells, and whose run the store holds, may happen.
@@ -85,13 +88,15 @@ module _ (id_of : Kind → List ℕ → List ℕ) where
   NoneMayHappen old by t store = (what : EventKind) (y : List ℕ) → IsCodableKind old.replayed.store_end what → Tells old.replayed.store_end t what
       → drop old.replayed.store_end store ≡ run_of what ++ y → May_kind id_of (archive_of old.replayed.bodies old.replayed.visits) by what → ⊥
 
-  -- The history is what the ledger's records up to a place tell, and may happen; the rest is its replay.
+  -- The history is what the ledger's records up to a place tell, and may happen; the rest is its replay, and names that
+  -- are closed in it.
   pub record IsReadSoFar (ledger : List ℕ) (c : Checked) : Type 0 where
     pub history : IsHistory id_of c.history.items
     pub replay : IsReplayOf c.replayed c.history.items
     pub codable : AreCodable 0 c.history.items
     pub records : ledger ≡ magic ++ (coded_records 0 c.history.items ++ drop c.replayed.ledger_end ledger)
     pub inside : c.replayed.ledger_end ≤ length ledger
+    pub closed : AreClosed c.replayed.bodies c.closed
 
   -- The files stand for no history.
   abbrev pub IsNoArchive : List ℕ → List ℕ → Type 0

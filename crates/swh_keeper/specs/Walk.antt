@@ -1,15 +1,16 @@
 -- What a walk over what is held has met.
-use Rattle.std.specs.Prelude.{◌≡◌, ◌⊎◌, ◌↔◌, ℕ, true, None, List, [], ◌∷◌, ◌++◌, Contains, nat_eq}
+use Rattle.std.specs.Prelude.{◌≡◌, ◌⊎◌, ◌↔◌, ℕ, true, None, List, [], ◌∷◌, ◌++◌, Contains}
 use Rattle.std.specs.List.{AllByRecursion}
-use Rattle.std.specs.HashSet.{HashSet, contains}
-use Rattle.std.specs.Cmp.Lexicographic.{pointwise}
+use Rattle.std.specs.BTreeSet.{BTreeSet, contains}
+use Rattle.std.specs.Ordering.{nat_cmp}
+use Rattle.std.specs.Cmp.Lexicographic.{slice_cmp}
 use Rattle.swh_base.specs.declared.name.Name.{Name}
 use Rattle.swh_base.specs.Name.{name_key}
 use Rattle.swh_model.specs.Archive.{Bodies, body_of, IsHeld, IsKid, Reaches}
 
 -- The set has the keys of the listed names.
-abbrev pub IsSeen : {S : Type 0} → HashSet (List ℕ) S → List Name → Type 0
-IsSeen seen names = (n : Name) → (contains (pointwise nat_eq) seen (name_key n) ≡ true) ↔ Contains names n
+abbrev pub IsSeen : BTreeSet (List ℕ) → List Name → Type 0
+IsSeen seen names = (n : Name) → (contains (slice_cmp nat_cmp) seen (name_key n) ≡ true) ↔ Contains names n
 
 -- The list is the same and has the name, or has it at the end.
 abbrev pub MayGain : List Name → List Name → Name → Type 0
@@ -30,6 +31,12 @@ pub record GainsHeld (bodies : Bodies) (names old new : List Name) : Type 0 wher
   pub more : List Name
   pub behind : new ≡ old ++ more
   pub held_names : AllByRecursion (λ n. Contains names n × IsHeld bodies n) more
+
+-- More names stand behind, each reached from the root and held.
+pub record GainsReached (bodies : Bodies) (root : Name) (old new : List Name) : Type 0 where
+  pub more : List Name
+  pub behind : new ≡ old ++ more
+  pub reached : AllByRecursion (λ n. Reaches bodies root n × IsHeld bodies n) more
 
 -- Of a reached parent this kid is not held.
 pub record IsGap (bodies : Bodies) (root parent child : Name) : Type 0 where

@@ -14,7 +14,7 @@ pub fn advance(alloc: Global, replayed: &mut Replayed, event: &Event) -> Result<
     ensures err { OnErr result (IsSameReplayed replayed.old replayed.new) }
 {
     match &event.what {
-        EventKind::Batch(entries) => replayed.bodies.add(alloc, entries.as_slice()),
+        EventKind::Batch(entries) => replayed.bodies.add(entries.as_slice()),
         EventKind::Open { origin, kind, date } => {
             let origin = origin.as_str().as_bytes();
             replayed.visits.open(alloc, origin, event.by, *kind, *date)

@@ -1,14 +1,15 @@
 //! The bodies of an archive in memory, by their names.
 use std::alloc::Global;
-use std::collections::{HashMap, VecDeque};
+use std::collections::BTreeMap;
 use std::marker::Model;
 use swh_base::{Entry, Memory, Name};
 use swh_model::kind_byte;
 
-/// A finite map from names to entries, seen as one to bodies.
+/// A finite map from names to entries, seen as one to bodies. It is ordered: strangers choose names, and no choice makes
+/// a look-up longer than the logarithm of their number.
 #[derive(Drop)]
 pub struct HeldBodies {
-    by_key: HashMap<[u8; 21], Entry>,
+    by_key: BTreeMap<[u8; 21], Entry>,
 }
 
 impl Model for HeldBodies {
@@ -25,14 +26,13 @@ impl Model for HeldBodies {
     ghost invariant = { λ h. All IsKeyed h.by_key.entries };
 }
 
-ghost use Rattle.std.specs.Prelude.{◌≡◌, ◌+◌, ◌<◌, ◌≤◌, None, All, IfOk, IfSome, IfNone, OnOk, OnErr, length};
+ghost use Rattle.std.specs.Prelude.{◌≡◌, None, All, IfSome, IfNone, OnOk, OnErr};
 ghost use Rattle.std.specs.List.{AllByRecursion};
-ghost use Rattle.std.specs.HashMap.{spare};
 ghost use Rattle.std.specs.FinMap as finite;
 ghost use Rattle.swh_base.specs.Name.{name_key};
-ghost use Rattle.swh_model.specs.Archive.{body_of};
+ghost use Rattle.swh_model.specs.Archive.{Bodies, body_of};
 ghost use Rattle.swh_model.specs.Step.{IsGood, AreNew, added};
-ghost use Rattle.swh_keeper.specs.Maps.{bodies_of, IsKeyed};
+ghost use Rattle.swh_keeper.specs.Maps.{bodies_of, IsKeyed, IsWithout};
 
 /// The kind's number, then the id.
 pub fn key_of(name: &Name) -> [u8; 21]
@@ -44,43 +44,70 @@ pub fn key_of(name: &Name) -> [u8; 21]
     key
 }
 
-fn insert_one(by_key: &mut HashMap<[u8; 21], Entry>, entry: Entry)
-    requires room { 0 < spare by_key.old }
+fn insert_one(by_key: &mut BTreeMap<[u8; 21], Entry>, entry: Entry) -> Result<(), Memory>
     requires keyed { All IsKeyed by_key.old.entries }
     requires good { IsGood entry }
     requires absent { body_of (bodies_of by_key.old.entries) entry.name ≡ None }
     ensures keyed { All IsKeyed by_key.new.entries }
-    ensures view { bodies_of by_key.new.entries ≡ finite.insert (bodies_of by_key.old.entries) entry.name entry.body }
-    ensures room { spare by_key.old ≤ spare by_key.new + 1 }
+    ensures ok { OnOk result (bodies_of by_key.new.entries
+        ≡ finite.insert (bodies_of by_key.old.entries) entry.name entry.body) }
+    ensures err { OnErr result (bodies_of by_key.new.entries ≡ bodies_of by_key.old.entries) }
 {
-    match by_key.insert(key_of(&entry.name), entry) {
-        Ok(_) => {}
-        Err(_) => unreachable!(),
-    }
+    by_key.insert(key_of(&entry.name), entry)?;
+    Ok(())
 }
 
-fn insert_all(by_key: &mut HashMap<[u8; 21], Entry>, mut entries: VecDeque<Entry>)
-    requires room { length entries.items ≤ spare by_key.old }
+/// Inserts an equal entry, which shares the body.
+fn insert_again(by_key: &mut BTreeMap<[u8; 21], Entry>, entry: &Entry) -> Result<(), Memory>
     requires keyed { All IsKeyed by_key.old.entries }
-    requires good { AllByRecursion IsGood entries.items }
-    requires absent { AreNew (bodies_of by_key.old.entries) entries.items }
+    requires good { IsGood entry.now }
+    requires absent { body_of (bodies_of by_key.old.entries) entry.now.name ≡ None }
     ensures keyed { All IsKeyed by_key.new.entries }
-    ensures view { bodies_of by_key.new.entries ≡ added (bodies_of by_key.old.entries) entries.items }
+    ensures ok { OnOk result (bodies_of by_key.new.entries
+        ≡ finite.insert (bodies_of by_key.old.entries) entry.now.name entry.now.body) }
+    ensures err { OnErr result (bodies_of by_key.new.entries ≡ bodies_of by_key.old.entries) }
 {
-    while let Some(entry) = entries.pop_front() {
-        insert_one(by_key, entry);
+    insert_one(by_key, entry.again()?)
+}
+
+fn remove_one(by_key: &mut BTreeMap<[u8; 21], Entry>, name: &Name)
+    requires { All IsKeyed by_key.old.entries }
+    ensures keyed { All IsKeyed by_key.new.entries }
+    ensures view { IsWithout (bodies_of by_key.old.entries) (bodies_of by_key.new.entries) name.now }
+{
+    by_key.remove(&key_of(name));
+}
+
+/// Takes out entries that were inserted one after another, which wants no memory.
+fn remove_all(by_key: &mut BTreeMap<[u8; 21], Entry>, entries: &[Entry])
+    requires { All IsKeyed by_key.old.entries }
+    ensures keyed { All IsKeyed by_key.new.entries }
+    ensures view { (bodies : Bodies) → AreNew bodies entries.now
+        → bodies_of by_key.old.entries ≡ added bodies entries.now → bodies_of by_key.new.entries ≡ bodies }
+{
+    let mut left = entries.len();
+    while left > 0 {
+        left -= 1;
+        remove_one(by_key, &entries[left].name);
     }
 }
 
-/// Equal entries, which share the bodies.
-fn again_all(alloc: Global, entries: &[Entry]) -> Result<VecDeque<Entry>, Memory>
-    ensures { IfOk result (λ all. all.items ≡ entries.now) }
+/// Inserts entries one after another, and takes them out again where memory runs out.
+fn insert_all(by_key: &mut BTreeMap<[u8; 21], Entry>, entries: &[Entry]) -> Result<(), Memory>
+    requires keyed { All IsKeyed by_key.old.entries }
+    requires good { AllByRecursion IsGood entries.now }
+    requires absent { AreNew (bodies_of by_key.old.entries) entries.now }
+    ensures keyed { All IsKeyed by_key.new.entries }
+    ensures ok { OnOk result (bodies_of by_key.new.entries ≡ added (bodies_of by_key.old.entries) entries.now) }
+    ensures err { OnErr result (bodies_of by_key.new.entries ≡ bodies_of by_key.old.entries) }
 {
-    let mut all = VecDeque::new(alloc);
-    for entry in entries {
-        all.push_back(entry.again()?)?;
+    for (place, entry) in entries.iter().enumerate() {
+        if let Err(fault) = insert_again(by_key, entry) {
+            remove_all(by_key, &entries[..place]);
+            return Err(fault);
+        }
     }
-    Ok(all)
+    Ok(())
 }
 
 impl HeldBodies {
@@ -92,7 +119,7 @@ impl HeldBodies {
         ensures { result ≡ finite.empty }
     {
         HeldBodies {
-            by_key: HashMap::new(alloc),
+            by_key: BTreeMap::new(alloc),
         }
     }
 
@@ -118,21 +145,16 @@ impl HeldBodies {
         ensures ok { OnOk result (self.new ≡ finite.insert self.old entry.name entry.body) }
         ensures err { OnErr result (self.new ≡ self.old) }
     {
-        self.by_key.reserve(1)?;
-        insert_one(&mut self.by_key, entry);
-        Ok(())
+        insert_one(&mut self.by_key, entry)
     }
 
     /// Adds entries that are not held, and no two of one name.
-    pub fn add(&mut self, alloc: Global, entries: &[Entry]) -> Result<(), Memory>
+    pub fn add(&mut self, entries: &[Entry]) -> Result<(), Memory>
         requires good { AllByRecursion IsGood entries.now }
         requires absent { AreNew self.old entries.now }
         ensures ok { OnOk result (self.new ≡ added self.old entries.now) }
         ensures err { OnErr result (self.new ≡ self.old) }
     {
-        let all = again_all(alloc, entries)?;
-        self.by_key.reserve(entries.len())?;
-        insert_all(&mut self.by_key, all);
-        Ok(())
+        insert_all(&mut self.by_key, entries)
     }
 }

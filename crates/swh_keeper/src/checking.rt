@@ -2,6 +2,7 @@
 ghost use Rattle.std.specs.Prelude.{◌≡◌, ◌↔◌, false, IsTrue, IfOk, IfSome, IfNone};
 ghost use Rattle.std.specs.List.{AllByRecursion};
 ghost use Rattle.swh_model.specs.Archive.{visits_of};
+ghost use Rattle.swh_model.specs.Certificate.{AreClosed};
 ghost use Rattle.swh_model.specs.Step.{IsGood, AreNew, FitsStatus, MayMark, added};
 ghost use Rattle.swh_model.specs.Judge.{IsHow};
 ghost use Rattle.swh_keeper.specs.Judged.{MayBeMarked};
@@ -9,6 +10,7 @@ ghost use Rattle.swh_keeper.specs.Checked.{archive_of, AreAdded, MayNotBeAdded, 
 
 use crate::bodies::HeldBodies;
 use crate::judging::{snapshot_refusal, visit_refusal};
+use crate::listing::Listing;
 use crate::remaking::remake_all;
 use crate::replayed::Replayed;
 use crate::visits::OriginVisits;
@@ -16,11 +18,12 @@ use std::alloc::Global;
 use swh_base::{Entry, Many, Memory, Namer, Status, Url};
 use swh_model::{Event, EventKind, Visit, are_within_limits};
 
-/// A history and its replay.
+/// A history, its replay, and names that are known to be closed.
 #[derive(Drop)]
 pub struct Checked {
     pub replayed: Replayed,
     pub history: Vec<Event>,
+    pub closed: Listing,
 }
 
 /// Adds entries one after another, up to one whose name is held.
@@ -88,27 +91,29 @@ fn is_how(status: Status, snapshot: &Option<[u8; 20]>) -> bool
     }
 }
 
-/// Says whether what a status needs is held.
+/// Says whether what a status needs is held. Where it is, what a walk met joins what is known to be closed.
 fn fits_status(
-    alloc: Global,
     bodies: &HeldBodies,
+    closed: &mut Listing,
     status: Status,
     snapshot: &Option<[u8; 20]>,
 ) -> Result<bool, Memory>
-    ensures { IfOk result (λ yes. IsTrue yes ↔ FitsStatus bodies.now status snapshot.now) }
+    requires { AreClosed bodies.now closed.old }
+    ensures fits { IfOk result (λ yes. IsTrue yes ↔ FitsStatus bodies.now status snapshot.now) }
+    ensures known { IfOk result (λ yes. IsTrue yes → AreClosed bodies.now closed.new) }
 {
     if !is_how(status, snapshot) {
         return Ok(false);
     }
-    match snapshot_refusal(alloc, bodies, status, snapshot)? {
+    match snapshot_refusal(bodies, closed, status, snapshot)? {
         Some(_) => Ok(false),
         None => Ok(true),
     }
 }
 
 fn check_mark(
-    alloc: Global,
     bodies: &HeldBodies,
+    closed: &mut Listing,
     visits: &mut OriginVisits,
     by: u32,
     origin: &Url,
@@ -116,13 +121,15 @@ fn check_mark(
     status: Status,
     snapshot: Option<[u8; 20]>,
 ) -> Result<bool, Memory>
+    requires { AreClosed bodies.now closed.old }
     ensures yes { IfOk result (λ yes. IsTrue yes → IsMarked (archive_of bodies.now visits.old) visits.new by origin.now visit status snapshot) }
     ensures no { IfOk result (λ yes. yes ≡ false → MayMark (archive_of bodies.now visits.old) by origin.now visit status snapshot → ⊥) }
+    ensures known { IfOk result (λ yes. IsTrue yes → AreClosed bodies.now closed.new) }
 {
     if !is_origin_markable(visits, origin, by, visit) {
         return Ok(false);
     }
-    if !fits_status(alloc, bodies, status, &snapshot)? {
+    if !fits_status(bodies, closed, status, &snapshot)? {
         return Ok(false);
     }
     visits.mark(origin.as_str().as_bytes(), visit, status, snapshot)?;
@@ -134,12 +141,15 @@ pub fn check_kind<N: Namer>(
     alloc: Global,
     namer: &N,
     bodies: &mut HeldBodies,
+    closed: &mut Listing,
     visits: &mut OriginVisits,
     by: u32,
     given: EventKind,
 ) -> Result<Option<EventKind>, Memory>
+    requires { AreClosed bodies.old closed.old }
     ensures some { IfOk result (λ found. IfSome found (Happens N.id_of (archive_of bodies.old visits.old) (archive_of bodies.new visits.new) by given)) }
     ensures none { IfOk result (λ found. IfNone found (MayNotHappen N.id_of (archive_of bodies.old visits.old) by given)) }
+    ensures known { IfOk result (λ found. IfSome found (λ _. AreClosed bodies.new closed.new)) }
 {
     match given {
         EventKind::Batch(entries) => {
@@ -158,7 +168,7 @@ pub fn check_kind<N: Namer>(
             status,
             snapshot,
         } => {
-            if !check_mark(alloc, bodies, visits, by, &origin, visit, status, snapshot)? {
+            if !check_mark(bodies, closed, visits, by, &origin, visit, status, snapshot)? {
                 return Ok(None);
             }
             Ok(Some(EventKind::Mark {

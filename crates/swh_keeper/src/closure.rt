@@ -1,8 +1,10 @@
-//! Whether all that is reached from a name is held: a walk from nothing, breadth first, each name once.
+//! Whether all that is reached from a name is held: a walk, breadth first, each name once, from nothing or from names
+//! that are known to be closed.
 ghost use Rattle.std.specs.Prelude.{◌≡◌, None, IfOk, IfSome, IfNone, Contains};
 ghost use Rattle.swh_base.specs.declared.name.Name.{Name};
 ghost use Rattle.swh_model.specs.Archive.{body_of, IsHeld, IsKid, IsClosed};
-ghost use Rattle.swh_keeper.specs.Walk.{GainsHeld, GainsKids, IsGap};
+ghost use Rattle.swh_model.specs.Certificate.{AreClosed};
+ghost use Rattle.swh_keeper.specs.Walk.{GainsHeld, GainsKids, GainsReached, IsGap};
 
 use crate::bodies::HeldBodies;
 use crate::listing::Listing;
@@ -45,6 +47,35 @@ fn list_kids(
     list_held(bodies, listing, entry.kids.as_slice())
 }
 
+/// A kid that is not held of a name that is reached from the root and held, or none where the root is closed. The walk
+/// leaves out the names that are known to be closed, and those that it met join them: all of them where the root is
+/// closed, and else the held ones that it had come to.
+pub fn find_gap_beyond(
+    bodies: &HeldBodies,
+    closed: &mut Listing,
+    root: &Name,
+) -> Result<Option<(Name, Name)>, Memory>
+    requires held { IsHeld bodies.now root.now }
+    requires known { AreClosed bodies.now closed.old }
+    ensures gains { GainsReached bodies.now root.now closed.old closed.new }
+    ensures closed { IfOk result (λ gap. IfNone gap (IsClosed bodies.now root.now × AreClosed bodies.now closed.new)) }
+    ensures there { IfOk result (λ gap. IfNone gap (Contains closed.new root.now)) }
+    ensures open { IfOk result (λ gap. IfSome gap (λ pair. IsGap bodies.now root.now pair.0 pair.1)) }
+{
+    let known = closed.len();
+    closed.add(*root)?;
+    for place in known..usize::MAX {
+        let Some(parent) = closed.get(place) else {
+            return Ok(None);
+        };
+        if let Some(child) = list_kids(bodies, closed, &parent)? {
+            return Ok(Some((parent, child)));
+        }
+    }
+    let _count = closed.len();
+    unreachable!()
+}
+
 /// A kid that is not held of a name that is reached from the root and held, or none where the root is closed.
 pub fn find_gap(
     alloc: Global,
@@ -55,16 +86,5 @@ pub fn find_gap(
     ensures closed { IfOk result (λ gap. IfNone gap (IsClosed bodies.now root.now)) }
     ensures open { IfOk result (λ gap. IfSome gap (λ pair. IsGap bodies.now root.now pair.0 pair.1)) }
 {
-    let mut listing = Listing::new(alloc);
-    listing.add(*root)?;
-    for place in 0..usize::MAX {
-        let Some(parent) = listing.get(place) else {
-            return Ok(None);
-        };
-        if let Some(child) = list_kids(bodies, &mut listing, &parent)? {
-            return Ok(Some((parent, child)));
-        }
-    }
-    listing.bound();
-    unreachable!()
+    find_gap_beyond(bodies, &mut Listing::new(alloc), root)
 }

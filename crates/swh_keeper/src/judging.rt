@@ -5,13 +5,14 @@ ghost use Rattle.swh_base.specs.Limits.{body_limit};
 ghost use Rattle.swh_model.specs.declared.event.Event.{Event};
 ghost use Rattle.swh_model.specs.declared.event.EventKind.{EventKind};
 ghost use Rattle.swh_model.specs.Archive.{IsHeld, IsClosed};
+ghost use Rattle.swh_model.specs.Certificate.{AreClosed};
 ghost use Rattle.swh_model.specs.Limits.{bytes_before_last};
 ghost use Rattle.swh_model.specs.Judge.{first_long, BatchPasses, FilePasses};
 ghost use Rattle.swh_keeper.specs.Judged.{IsFirstOf, NonePasses, AreLengths, IsVisitRefusal, MayBeMarked, IsGapRefusal, IsSnapshotRefusal, SuitsStatus};
 
 use crate::bodies::HeldBodies;
-use crate::closure::find_gap;
-use std::alloc::Global;
+use crate::closure::find_gap_beyond;
+use crate::listing::Listing;
 use swh_base::{Entry, Kind, Memory, Name, Status, Which};
 use swh_model::{No, Visit, is_final, last_of};
 
@@ -107,26 +108,30 @@ pub fn visit_refusal(visits: &[Visit], by: u32, number: u64) -> Option<No>
     None
 }
 
-fn gap_refusal(alloc: Global, bodies: &HeldBodies, name: &Name) -> Result<Option<No>, Memory>
-    requires { IsHeld bodies.now name.now }
+fn gap_refusal(bodies: &HeldBodies, closed: &mut Listing, name: &Name) -> Result<Option<No>, Memory>
+    requires held { IsHeld bodies.now name.now }
+    requires known { AreClosed bodies.now closed.old }
     ensures some { IfOk result (λ no. IfSome no (IsGapRefusal bodies.now name.now)) }
-    ensures none { IfOk result (λ no. IfNone no (IsClosed bodies.now name.now)) }
+    ensures none { IfOk result (λ no. IfNone no (IsClosed bodies.now name.now × AreClosed bodies.now closed.new)) }
 {
-    match find_gap(alloc, bodies, name)? {
+    match find_gap_beyond(bodies, closed, name)? {
         Some((parent, child)) => Ok(Some(No::NotClosed { parent, child })),
         None => Ok(None),
     }
 }
 
-/// The cause against a snapshot with this status.
+/// The cause against a snapshot with this status. What is known to be closed is not walked again, and where there is no
+/// cause what the walk met joins it.
 pub fn snapshot_refusal(
-    alloc: Global,
     bodies: &HeldBodies,
+    closed: &mut Listing,
     status: Status,
     snapshot: &Option<[u8; 20]>,
 ) -> Result<Option<No>, Memory>
+    requires { AreClosed bodies.now closed.old }
     ensures some { IfOk result (λ no. IfSome no (IsSnapshotRefusal bodies.now status snapshot.now)) }
     ensures none { IfOk result (λ no. IfNone no (SuitsStatus bodies.now status snapshot.now)) }
+    ensures known { IfOk result (λ no. IfNone no (AreClosed bodies.now closed.new)) }
 {
     let Some(id) = snapshot else {
         return Ok(None);
@@ -139,7 +144,7 @@ pub fn snapshot_refusal(
         return Ok(Some(No::NoSnapshot { name }));
     }
     match status {
-        Status::Full => gap_refusal(alloc, bodies, &name),
+        Status::Full => gap_refusal(bodies, closed, &name),
         _ => Ok(None),
     }
 }

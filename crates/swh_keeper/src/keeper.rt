@@ -47,7 +47,7 @@ impl<N: Namer, D: Disk> Keeper<N, D> {
     ghost use Rattle.swh_outside.specs.Files.{files_of, files_done};
     ghost use Rattle.swh_segment.specs.Making.{IsMade, IsNotMade, barriers, making_calls};
     ghost use Rattle.swh_model.specs.Stands.{StandsFor};
-    ghost use Rattle.swh_keeper.specs.Opening.{IsMakeFault, IsOpeningFault, IsCutShort, IsLeftFor, IsTheHistory, IsDamaged};
+    ghost use Rattle.swh_keeper.specs.Opening.{IsMakeFault, IsOpeningFault, IsLeftOfMaking, IsLeftFor, IsTheHistory, IsDamaged};
     ghost use Rattle.swh_keeper.specs.declared.opening.OpenWhy.TheVariants.{Made, NotMade, Damaged, DiskFault as DiskFaulted};
     ghost use Rattle.swh_model.specs.Archive.{body_of, visits_of};
     ghost use Rattle.swh_model.specs.Step.{replay};
@@ -70,7 +70,14 @@ impl<N: Namer, D: Disk> Keeper<N, D> {
         ensures err { IfErr result (λ fault. IsMakeFault fault.why) }
         ensures made { D.tells → IfErr result (λ fault. fault.why ≡ Made → IsMade (D.file ledger).seen) }
         ensures cause { IfErr result (λ fault. fault.why ≡ DiskFaulted → EitherRose (D.faults store) (D.faults fault.store) (D.faults ledger) (D.faults fault.ledger)) }
-        ensures failed { D.tells → IfErr result (λ fault. fault.why ≡ DiskFaulted → IsCutShort (files_of (D.file ledger) (D.file store)) (files_of (D.file fault.ledger) (D.file fault.store))) }
+
+        // A made archive is as it was, and each disk comes back as the one that it was.
+        ensures left { D.tells → IfErr result (λ fault. IsLeftOfMaking fault.why
+            (files_of (D.file ledger) (D.file store)) (files_of (D.file fault.ledger) (D.file fault.store))) }
+        ensures store_later { MatchResult result
+            (λ keeper. D.faults store ≤ D.faults keeper.store) (λ fault. D.faults store ≤ D.faults fault.store) }
+        ensures ledger_later { MatchResult result
+            (λ keeper. D.faults ledger ≤ D.faults keeper.ledger) (λ fault. D.faults ledger ≤ D.faults fault.ledger) }
     {
         made_is_empty();
         match make_archive(&mut store, &mut ledger) {
@@ -122,7 +129,11 @@ impl<N: Namer, D: Disk> Keeper<N, D> {
     {
         match read_archive(alloc, &namer, &mut store, &mut ledger) {
             Ok(checked) => {
-                let Checked { replayed, history } = checked;
+                let Checked {
+                    replayed,
+                    history,
+                    closed: _closed,
+                } = checked;
                 Ok(Keeper {
                     namer,
                     store,

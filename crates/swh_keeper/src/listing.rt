@@ -1,7 +1,8 @@
-//! Names in the order in which they were met, each once.
+//! Names in the order in which they were met, each once. What was met stands in an ordered set, whose cost no choice of
+//! names makes longer.
 use crate::bodies::key_of;
 use std::alloc::Global;
-use std::collections::HashSet;
+use std::collections::BTreeSet;
 use std::marker::Model;
 use swh_base::{Memory, Name};
 
@@ -9,7 +10,7 @@ use swh_base::{Memory, Name};
 #[derive(Drop)]
 pub struct Listing {
     names: Vec<Name>,
-    seen: HashSet<[u8; 21]>,
+    seen: BTreeSet<[u8; 21]>,
 }
 
 impl Model for Listing {
@@ -33,7 +34,7 @@ impl Listing {
     {
         Listing {
             names: Vec::new(alloc),
-            seen: HashSet::new(alloc),
+            seen: BTreeSet::new(alloc),
         }
     }
 
@@ -54,17 +55,18 @@ impl Listing {
         }
     }
 
+    /// How many names there are.
+    pub fn len(&self) -> usize
+        ensures value { result ≡ length self.now }
+        ensures small { result < 2 ^ 63 }
+    {
+        self.names.len()
+    }
+
     /// The name at a place.
     pub fn get(&self, place: usize) -> Option<Name>
         ensures { MatchOption result (length self.now ≤ place) (λ name. slice_get self.now place ≡ Some name) }
     {
         self.names.get(place).copied()
-    }
-
-    /// Fewer names fit in memory.
-    pub fn bound(&self)
-        ensures { length self.now < 2 ^ 63 }
-    {
-        let _names = self.names.len();
     }
 }

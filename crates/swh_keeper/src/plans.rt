@@ -12,6 +12,7 @@ ghost use Rattle.swh_keeper.specs.Planned.{IsReplayOf, IsInFiles, IsPlan, IsPlan
 
 use crate::fresh::{Split, find_collision, split_fresh};
 use crate::judging::{limit_of_batch, limit_of_files, snapshot_refusal, visit_refusal};
+use crate::listing::Listing;
 use crate::planning::{PlanFault, Planned};
 use crate::replayed::Replayed;
 use crate::visits::OriginVisits;
@@ -136,7 +137,7 @@ pub fn plan_batch(
     })
 }
 
-/// Marks a visit.
+/// Marks a visit. What is reached from the snapshot is walked where nothing else is against the plan.
 pub fn plan_mark(
     alloc: Global,
     replayed: &Replayed,
@@ -153,7 +154,6 @@ pub fn plan_mark(
     ensures err { (h : List Event) → IsReplayOf replayed.now h → IfErr result (IsRefused h by (Mark origin visit status snapshot)) }
 {
     let refusal = mark_visit_refusal(&replayed.visits, &origin, by, visit);
-    let no_snapshot = snapshot_refusal(alloc, &replayed.bodies, status, &snapshot)?;
     origin_is_codable(&origin);
     snapshot_is_codable(&snapshot);
     let event = Event {
@@ -169,6 +169,8 @@ pub fn plan_mark(
     if let Some(cause) = refusal {
         return Err(PlanFault::Refused(cause));
     }
+    let mut closed = Listing::new(alloc);
+    let no_snapshot = snapshot_refusal(&replayed.bodies, &mut closed, status, &snapshot)?;
     if let Some(cause) = no_snapshot {
         return Err(PlanFault::Refused(cause));
     }

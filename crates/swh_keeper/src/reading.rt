@@ -127,7 +127,6 @@ fn happen<N: Namer>(
     event: Event,
 ) -> Result<bool, Memory>
     requires { AreClosed checked.old.replayed.bodies checked.old.closed }
-    ensures known { IfOk result (λ yes. IsTrue yes → AreClosed checked.new.replayed.bodies checked.new.closed) }
     ensures yes { IfOk result (λ yes. IsTrue yes → IsLonger N.id_of checked.old event checked.new) }
     ensures no { IfOk result (λ yes. yes ≡ false → MayNotHappen N.id_of (archive_of checked.old.replayed.bodies checked.old.replayed.visits) event.by event.what) }
 {
@@ -161,9 +160,8 @@ fn take_record<N: Namer, D: Disk>(
 ) -> Result<bool, OpenWhy>
     requires size { D.tells → size ≡ length (D.file store.old).seen }
     requires inside { checked.old.replayed.store_end ≤ size }
-    requires known { AreClosed checked.old.replayed.bodies checked.old.closed }
+    requires closed { AreClosed checked.old.replayed.bodies checked.old.closed }
     requires fit { IsFit told }
-    ensures known { IfOk result (λ yes. IsTrue yes → AreClosed checked.new.replayed.bodies checked.new.closed) }
     ensures taken { IfOk result (λ yes. IsTrue yes → IsTaken N.id_of D.tells (D.file store.old).seen checked.old by told checked.new) }
     ensures inside { IfOk result (λ yes. IsTrue yes → checked.new.replayed.store_end ≤ size) }
     ensures none { D.tells → IfOk result (λ yes. yes ≡ false → NoneMayHappen N.id_of checked.old by told (D.file store.old).seen) }
@@ -195,10 +193,8 @@ fn read_next<N: Namer, D: Disk>(
 ) -> Result<bool, OpenWhy>
     requires size { D.tells → size ≡ length (D.file store.old).seen }
     requires inside { checked.old.replayed.store_end ≤ size }
-    requires known { AreClosed checked.old.replayed.bodies checked.old.closed }
     requires so_far { IsReadSoFar N.id_of ledger.now checked.old }
     requires runs { D.tells → HasRuns (D.file store.old).seen checked.old }
-    ensures known { OnOk result (AreClosed checked.new.replayed.bodies checked.new.closed) }
     ensures so_far { OnOk result (IsReadSoFar N.id_of ledger.now checked.new) }
     ensures runs { D.tells → OnOk result (HasRuns (D.file store.old).seen checked.new) }
     ensures inside { OnOk result (checked.new.replayed.store_end ≤ size) }

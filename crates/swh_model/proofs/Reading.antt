@@ -1,16 +1,14 @@
 -- The reading of a ledger's records, and of the events that they tell.
-use Rattle.std.proofs.Common.{◌≡◌, ◌≢◌, ℕ, ◌+◌, ◌<◌, ◌^◌, List, [], ◌∷◌, ◌++◌, length, map, refl, sym, ap, ◌∙◌, subst, arith, append_assoc}
+use Rattle.std.proofs.Common.{◌≡◌, ℕ, ◌+◌, ◌<◌, ◌^◌, List, [], ◌∷◌, ◌++◌, length, refl, sym, ap, ◌∙◌, arith, append_assoc}
 use Rattle.std.specs.Int.{w32, w64, to_be_bytes}
-use Rattle.swh_base.specs.declared.entry.Entry.{Entry}
 use Rattle.swh_model.specs.declared.event.Event.{Event}
 use Rattle.swh_model.specs.declared.event.EventKind.{EventKind}
 use Rattle.swh_model.specs.declared.event.EventKind.TheVariants.{Batch, Open, Mark}
 use Rattle.swh_model.specs.declared.decoding.record.RecordParts.{RecordParts}
-use Rattle.swh_model.specs.declared.decoding.payload.BatchParts.{BatchParts}
 use Rattle.swh_model.specs.declared.decoding.told.Told.{Told}
 use Rattle.swh_model.specs.declared.decoding.told.Told.TheVariants as told_of
 use Rattle.swh_model.specs.declared.decoding.ledger.Record.{Record}
-use Rattle.swh_model.specs.Coding.{run_of, event_byte, told, payload_of, framed, coded_run, coded_record, coded_records, IsCodableKind, IsCodable, AreCodable}
+use Rattle.swh_model.specs.Coding.{run_of, event_byte, told, payload_of, framed, coded_run, coded_record, coded_records, IsCodableKind, IsCodable}
 use Rattle.swh_model.specs.Decoding.{IsRecordFront, IsWhole, IsFit, IsTold, IsNotTold, HasNoRecord, IsRecordOf, Tells, told_byte, told_bytes, IsBroken}
 use Rattle.swh_model.proofs.Unique.{cut, cut_four, cut_eight, same_four, same_head, same_tail, same_frame, same_kinds, payload-short}
 

@@ -3,6 +3,7 @@ use Rattle.std.specs.Prelude.{◌≡◌, ◌≢◌, ℕ, ◌+◌, ◌<◌, ◌�
 use Rattle.std.specs.List.{AllByRecursion}
 use Rattle.std.specs.FinMap as map
 use Rattle.swh_base.specs.declared.kind.Kind.{Kind}
+use Rattle.swh_base.specs.declared.kind.Kind.TheVariants.{Content}
 use Rattle.swh_base.specs.declared.name.Name.{Name}
 use Rattle.swh_base.specs.declared.entry.Entry.{Entry}
 use Rattle.swh_base.specs.declared.visit.Status.{Status}
@@ -147,12 +148,22 @@ IsWish id_of (Batch entries) = AllByRecursion (IsGoodAndNamed id_of) entries
 IsWish id_of (Open origin kind date) = Unit {0}
 IsWish id_of (Mark origin number status snapshot) = IsHow status snapshot
 
--- Both give the same, or both refuse for a cause of the same kind.
+-- no name at all
+abbrev pub unnamed : Name
+unnamed = record { kind = Content; id = [] }
+
+-- a cause without the names that a refusal may choose: where a snapshot is open, and which name has two bodies
+abbrev pub without_names : No → No
+without_names (NotClosed parent child) = NotClosed unnamed unnamed
+without_names (Collision name) = Collision unnamed
+without_names cause = cause
+
+-- Both give the same, or both refuse for the same cause, up to the names that a refusal may choose.
 abbrev pub AgreeOnVerdict : Result (Event × Outcome) No → Result (Event × Outcome) No → Type 0
 AgreeOnVerdict (Ok a) (Ok b) = a ≡ b
 AgreeOnVerdict (Ok a) (Err f) = ⊥
 AgreeOnVerdict (Err e) (Ok b) = ⊥
-AgreeOnVerdict (Err e) (Err f) = rank e ≡ rank f
+AgreeOnVerdict (Err e) (Err f) = without_names e ≡ without_names f
 
 -- Of the snapshot that the wish names this parent is reached, and its kid is not held.
 abbrev pub IsOpenAt : List Event → EventKind → Name → Name → Type 0

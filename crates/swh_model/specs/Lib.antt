@@ -4,8 +4,6 @@ pub mod Step
 pub mod Sound
 pub mod Grows
 pub mod Judge
-pub mod Held
-pub mod Opened
 pub mod Certificate
 pub mod Row
 pub mod Coding

@@ -1,4 +1,4 @@
-// The plain state once, with ample memory, and the worked bytes of an opening.
+// The worked bytes of an opening and of a run.
 use crate::{Event, EventKind, record_of_event, run_of_entries};
 use std::alloc::Global;
 use std::test::Fail;

@@ -1,11 +1,9 @@
 use Rattle.std.proofs.Common.{◌≡◌, ◌≤◌, ◌-◌, length}
-use Rattle.swh_model.specs.Certificate.{AreClosed}
 use Rattle.swh_keeper.specs.Reading.{IsReadSoFar, HasRuns}
 use Rattle.swh_keeper.proofs.reading.read_records.Given as goal
 
 abbrev pub invariant-records : goal.invariant-records
 invariant-records g l = record {
-  known : AreClosed l.checked.replayed.bodies l.checked.closed;
   so_far : IsReadSoFar g.N.Namer.id_of l.ledger l.checked;
   inside : l.checked.replayed.store_end ≤ l.size;
   runs : g.D.Disk.tells → HasRuns (g.D.Disk.file l.fn.store).seen l.checked;

@@ -1,0 +1,160 @@
+#!/usr/bin/env python3
+"""Times the load and the opening of 140,000 files whose ids were chosen, beside as many that were not.
+
+    python3 bench/chosen_names.py [PROGRAM [FILES]]
+
+The chosen ones collide in a hash map of the kit: their keys (the kind's number and the id) begin their search in one
+32nd of the table, where each goes past all that stand there. Finding them takes 32 SHA-1 a file. Loading and opening
+them may take at most one and a half times as long as the others. The script compiles a few lines of C for the map's
+hash with `cc`. The program is the built one, outside the gate: after a whole `rt ci` it stands in
+`crates/swharc/out/swharc`; before, `rt run` in `crates/swharc` builds it.
+"""
+import hashlib
+import os
+import shutil
+import subprocess
+import sys
+import tempfile
+import time
+
+FILES = 140_000
+CHOSEN_BITS = 5
+GROUP_LOAD = 9
+MOST_TIMES = 1.5
+ROUNDS = 3
+
+# Reads ids of 20 bytes; writes for each the table's 32 bits, in the machine's order.
+HASH = r"""
+#include <stdint.h>
+#include <stdio.h>
+
+static uint64_t fold(uint64_t a, uint64_t b) {
+    unsigned __int128 product = (unsigned __int128)a * b;
+    return (uint64_t)product ^ (uint64_t)(product >> 64);
+}
+
+static uint64_t feed(uint64_t state, uint64_t word, uint64_t length) {
+    return fold(state ^ word, 0x9e3779b97f4a7c15ULL ^ (2 * length));
+}
+
+int main(void) {
+    unsigned char id[20];
+    while (fread(id, 1, 20, stdin) == 20) {
+        uint64_t state = feed(0x243f6a8885a308d3ULL, 21, 8);
+        uint64_t kind = 1;
+        state = feed(state, kind | kind << 8 | kind << 16, 1);
+        for (int i = 0; i < 20; i++) {
+            uint64_t byte = id[i];
+            state = feed(state, byte | byte << 8 | byte << 16, 1);
+        }
+        uint32_t bits = (uint32_t)(state ^ (state >> 32));
+        fwrite(&bits, 4, 1, stdout);
+    }
+    return 0;
+}
+"""
+
+
+def groups_for(count):
+    """How many groups a table of this many entries has: a power of two."""
+    groups = 1
+    while groups * GROUP_LOAD < count:
+        groups *= 2
+    return groups
+
+
+def body_of(number):
+    return b"%d\n" % number
+
+
+def hashes(folder, ids):
+    """The table's 32 bits for the key of each content's id."""
+    source = os.path.join(folder, "hash.c")
+    program = os.path.join(folder, "hash")
+    with open(source, "w") as file:
+        file.write(HASH)
+    subprocess.run(["cc", "-O2", "-o", program, source], check=True)
+    done = subprocess.run([program], input=b"".join(ids), stdout=subprocess.PIPE, check=True)
+    return memoryview(done.stdout).cast("I")
+
+
+def choose(folder, count):
+    """Numbers of bodies whose keys begin in the first 32nd of the table, and as many first numbers."""
+    first = groups_for(count) >> CHOSEN_BITS
+    last_bits = groups_for(count) - 1
+    chosen = []
+    begin = 0
+    step = 1_000_000
+    while len(chosen) < count:
+        numbers = range(begin, begin + step)
+        bodies = (body_of(number) for number in numbers)
+        ids = [hashlib.sha1(b"blob %d\0" % len(body) + body).digest() for body in bodies]
+        found = hashes(folder, ids)
+        chosen.extend(number for number, bits in zip(numbers, found) if bits & last_bits < first)
+        begin += step
+    return chosen[:count], list(range(count))
+
+
+def write_stream(path, numbers):
+    """A stream of one commit with these bodies as its files."""
+    with open(path, "wb") as file:
+        for mark, number in enumerate(numbers, 1):
+            body = body_of(number)
+            file.write(b"blob\nmark :%d\ndata %d\n%s\n" % (mark, len(body), body))
+        file.write(b"commit refs/heads/main\nmark :%d\n" % (len(numbers) + 1))
+        file.write(b"committer A <a@e.org> 1000000000 +0000\ndata 6\nfirst\n\n")
+        for mark in range(1, len(numbers) + 1):
+            file.write(b"M 100644 :%d file%d\n" % (mark, mark))
+        file.write(b"\n")
+
+
+def timed(command):
+    begun = time.monotonic()
+    done = subprocess.run(command, stdout=subprocess.PIPE)
+    return time.monotonic() - begun, done
+
+
+def time_load(program, archive, stream):
+    shutil.rmtree(archive, ignore_errors=True)
+    subprocess.run([program, "init", archive], check=True, stdout=subprocess.DEVNULL)
+    jobs = archive + ".jobs"
+    with open(jobs, "w") as file:
+        file.write("fast\thttps://e.org/p\t%s\n" % stream)
+    took, done = timed([program, "load", archive, jobs])
+    if b"\tfull\t" not in done.stdout:
+        sys.exit("not full: %r" % done.stdout)
+    return took
+
+
+def time_ask(program, archive):
+    took, done = timed([program, "ask", archive, "/api/1/origin/https://none.example/visits/"])
+    if done.returncode != 1 or not done.stdout.startswith(b"404 21\n"):
+        sys.exit("not opened: %r" % done.stdout)
+    return took
+
+
+def main():
+    here = os.path.dirname(os.path.abspath(__file__))
+    program = sys.argv[1] if len(sys.argv) > 1 else os.path.join(here, "..", "crates/swharc/out/swharc")
+    program = os.path.abspath(program)
+    count = int(sys.argv[2]) if len(sys.argv) > 2 else FILES
+    good = True
+    with tempfile.TemporaryDirectory() as folder:
+        chosen, others = choose(folder, count)
+        loads, asks = {}, {}
+        for which, numbers in (("chosen", chosen), ("others", others)):
+            stream = os.path.join(folder, which)
+            write_stream(stream, numbers)
+            archive = os.path.join(folder, which + ".archive")
+            loads[which] = min(time_load(program, archive, stream) for _ in range(ROUNDS))
+            asks[which] = min(time_ask(program, archive) for _ in range(ROUNDS))
+        for what, took in (("load", loads), ("open", asks)):
+            ratio = took["chosen"] / took["others"]
+            good = good and ratio <= MOST_TIMES
+            print("%s of %d files: chosen %7.3f s, others %7.3f s, ratio %.2f, at most %.1f"
+                  % (what, count, took["chosen"], took["others"], ratio, MOST_TIMES))
+    sys.exit(0 if good else 1)
+
+
+if __name__ == "__main__":
+    main()
