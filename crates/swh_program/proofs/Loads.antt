@@ -130,7 +130,8 @@ module _ (id_of : Kind → List ℕ → List ℕ) (tells : Type 0) (input_at : F
         }
 
     unstarted : (answer : Answer) → IsUnstarted answer → (disks_tell → IsOnlyOpened old new) → IsUnloaded id_of disks_tell old new answer
-    unstarted answer (inl clock) only = subst (IsUnloaded id_of disks_tell old new) (sym clock) only
+    unstarted answer (inl clock) only =
+        subst (IsUnloaded id_of disks_tell old new) (sym clock) (λ t. record { history = was.history; archive = archive t; opened = only t })
     unstarted answer (inr memory) only = subst (IsUnloaded id_of disks_tell old new) (sym memory) (tt, λ t. inr (only t))
 
     pub run_files : (time_tells : Type 0) (time : ℕ → ℕ) (jobs : List Job) (answer : Answer) → IsKeptRun id_of tells input_at failures failures_now keeper_tells file faults time_tells time was now jobs answer
