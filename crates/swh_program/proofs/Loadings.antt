@@ -48,7 +48,7 @@ loads_behind id_of tells input_at failures failures_now (l ∷ loads) h after ea
     (adds.more ++ rest.0, rest.1 ∙ ap (λ (g : List Event). g ++ rest.0) adds.behind ∙ append_assoc h adds.more rest.0)
 
 -- memory that ran out is told beside visits that ended
-pub end-worse : (end : End) → worse (ending_of_end end) ending.Memory ≡ ending.Memory
+end-worse : (end : End) → worse (ending_of_end end) ending.Memory ≡ ending.Memory
 end-worse (Full snapshot) = refl
 end-worse NotFound = refl
 end-worse (Failed bad) = refl
@@ -68,11 +68,7 @@ ends_or (end ∷ ends) = both (ending_of_end end) (ending_of_ends ends) (end_or 
     both a b (inr x) (inl y) = inr (λ i. worse (x i) (y i))
     both a b (inr x) (inr y) = inr (λ i. worse (x i) (y i))
 
-pub ends-worse : (ends : List End) → worse (ending_of_ends ends) ending.Memory ≡ ending.Memory
-ends-worse ends =
-    ⊎_elim (λ (done : ending_of_ends ends ≡ ending.Done). ap (λ (x : Ending). worse x ending.Memory) done) (λ (wanting : ending_of_ends ends ≡ ending.Wanting). ap (λ (x : Ending). worse x ending.Memory) wanting) (ends_or ends)
-
-pub memory-worse : (ends : List End) → worse ending.Memory (ending_of_ends ends) ≡ ending.Memory
+memory-worse : (ends : List End) → worse ending.Memory (ending_of_ends ends) ≡ ending.Memory
 memory-worse ends =
     ⊎_elim (λ (done : ending_of_ends ends ≡ ending.Done). ap (worse ending.Memory) done) (λ (wanting : ending_of_ends ends ≡ ending.Wanting). ap (worse ending.Memory) wanting) (ends_or ends)
 

@@ -1,6 +1,6 @@
 -- A run of `load` against which nothing stands tells each job's line as the input has it, or memory ran out.
 use Rattle.std.proofs.Common.{◌≡◌, ◌⊎◌, inl, inr, ⊎_elim, ℕ, Option, Some, List, [], ◌∷◌, ◌++◌, map, Contains, refl, sym, ap, ◌∙◌, subst}
-use Rattle.std.specs.List.{AllByRecursion, flat_map}
+use Rattle.std.specs.List.{AllByRecursion}
 use Rattle.std.proofs.lemmas.List.{append-nil}
 use Rattle.swh_base.specs.declared.kind.Kind.{Kind}
 use Rattle.swh_base.specs.declared.name.Name.{Name}
@@ -20,7 +20,7 @@ use Rattle.swh_program.specs.Answers.{status_of, status_for, last_line_for, prin
 use Rattle.swh_program.specs.Complete.{MeantJob, jobs_of, full_lines, all_made, IsMeant, AreMeant, HasAllMade, HasBody, HasOneBody, HasRoom, AreQuiet}
 use Rattle.swh_program.specs.Exact.{line_for, lines_for, ending_of_ends, MeansCollision, IsEndFor, IsExactEnd, AreExactEnds, IsExact}
 use Rattle.swh_program.specs.Jobs.{FileAt, AreJobsAt}
-use Rattle.swh_program.specs.Lines.{LoadedJob, outcomes, load_line, ending_of_end, ending_of_all, ending_without, worse, TellsLoads}
+use Rattle.swh_program.specs.Lines.{LoadedJob, outcomes, ending_of_end, ending_of_all, worse, TellsLoads}
 use Rattle.swh_program.specs.Load.{TellsDisk, IsLoad, AreLoadedJobs, IsUnloaded, IsLoadedOrNot, LoadEnds}
 use Rattle.swh_program.specs.Opening.{IsArchive, IsOpenRefusal, OpenEnds}
 use Rattle.swh_program.specs.Run.{IsQuiet}
@@ -31,15 +31,14 @@ use Rattle.swh_program.specs.declared.answer.Answer.TheVariants.{Told, OutsideDi
 use Rattle.swh_program.proofs.Archived.{one_archive, opening_of_archive}
 use Rattle.swh_program.proofs.Completes.{Tells}
 use Rattle.swh_program.proofs.Elements.{each_among, from_map, flat_contains}
-use Rattle.swh_program.proofs.Endings.{worse-done}
 use Rattle.swh_program.proofs.LoadEndings.{no_disk_faults}
 use Rattle.swh_program.proofs.JobRefusals.{one_list, refusal_of_jobs}
-use Rattle.swh_program.proofs.Loadings.{AreDone, all_done, ends-worse}
+use Rattle.swh_program.proofs.Loadings.{AreDone, all_done}
 use Rattle.swh_program.proofs.LoadAnswers.{told_of, unloaded_cases}
 
 -- no disk failed where none is told
 no_disk_told : (loads : List LoadedJob) (text : List ℕ) (end : Ending) → TellsLoads loads text end → (end ≡ ending.OutsideDisk → ⊥) → ending_of_all (outcomes loads) ≡ ending.OutsideDisk → ⊥
-no_disk_told loads text end tells apart e = apart (tells.end_is ∙ ap (λ (x : Ending). worse x (ending_without tells.missing)) e)
+no_disk_told loads text end tells apart e = apart (tells.end_is ∙ e)
 
 -- a run of `load`
 module _ (id_of : Kind → List ℕ → List ℕ) (inputs_tell : Type 0) (input_at : FileAt) (failures failures_now : List ℕ → ℕ) (desk_at : FileAt) (time_tells : Type 0) (time : ℕ → ℕ) (disks_tell : Type 0) (inputs : inputs_tell) (disks : disks_tell)
@@ -50,16 +49,12 @@ module _ (id_of : Kind → List ℕ → List ℕ) (inputs_tell : Type 0) (input_
 
   -- the lines of loads that are told, or memory ran out
   module _ (loads : List LoadedJob) (text : List ℕ) (end : Ending) (tells : TellsLoads loads text end) where
-    told_without : (missing : List LoadedJob) → loads ≡ tells.shown ++ missing → end ≡ worse (ending_of_all (outcomes loads)) (ending_without missing)
-        → AreDone id_of inputs_tell inputs input_at failures failures_now before jobs objects new has one room loads jobs → Exactly (Told text end)
-    told_without [] are is (inl memory) = inl (ap status_for (is ∙ worse-done (ending_of_all (outcomes loads)) ∙ memory))
-    told_without [] are is (inr done) =
-        let finished : end ≡ ending_of_ends done.ends = is ∙ worse-done (ending_of_all (outcomes loads)) ∙ done.ending_is in
-        let shown : tells.shown ≡ loads = sym (append-nil tells.shown) ∙ sym are in
-        let lines : text ≡ lines_for (replay before) jobs done.ends = tells.text_is ∙ ap (λ (ls : List LoadedJob). flat_map load_line ls) shown ∙ done.lines_are in
+    told_lines : AreDone id_of inputs_tell inputs input_at failures failures_now before jobs objects new has one room loads jobs → Exactly (Told text end)
+    told_lines (inl memory) = inl (ap status_for (tells.end_is ∙ memory))
+    told_lines (inr done) =
+        let finished : end ≡ ending_of_ends done.ends = tells.end_is ∙ done.ending_is in
+        let lines : text ≡ lines_for (replay before) jobs done.ends = tells.text_is ∙ done.lines_are in
         inr (record { ends = done.ends; are = done.are_ends; is = λ i. Told (lines i) (finished i) })
-    told_without (l ∷ missing) are is (inl memory) = inl (ap status_for (is ∙ ap (λ (x : Ending). worse x ending.Memory) memory))
-    told_without (l ∷ missing) are is (inr done) = inl (ap status_for (is ∙ ap (λ (x : Ending). worse x ending.Memory) done.ending_is ∙ ends-worse done.ends))
 
   -- behind the history at entry
   next_same : (h : List Event) → h ≡ before → (js : List Job) → AllByRecursion (λ job. next_visit h job.url ≡ next_visit before job.url) js
@@ -83,7 +78,7 @@ module _ (id_of : Kind → List ℕ → List ℕ) (inputs_tell : Type 0) (input_
       let tells = told.2 in
       let apart : end ≡ ending.OutsideDisk → ⊥ = λ e. no_disk (subst TellsDisk (sym told.3) e) in
       subst Exactly (sym told.3)
-      (told_without loaded.loads text end tells tells.missing tells.are tells.end_is (loads_done loaded.loads loaded.jobs_are loaded.load (no_disk_told loaded.loads text end tells apart)))
+      (told_lines loaded.loads text end tells (loads_done loaded.loads loaded.jobs_are loaded.load (no_disk_told loaded.loads text end tells apart)))
 
   unloaded_done : (answer : Answer) → IsUnloaded id_of disks_tell old new answer → (TellsDisk answer → ⊥) → (answer ≡ OutsideClock → ⊥) → Exactly answer
   unloaded_done answer is no_disk no_clock =

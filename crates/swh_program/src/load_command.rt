@@ -54,7 +54,7 @@ fn load_lines<N: Namer, D: Disk, O: Origins, C: Clock, G: Gate>(
         gate,
         LOADER,
     );
-    let answer = tell_loaded(alloc, jobs.as_slice(), &loaded);
+    let answer = tell_loaded(loaded);
     give_all_back(origins, jobs);
     answer
 }
