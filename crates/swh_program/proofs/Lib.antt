@@ -28,4 +28,3 @@ pub mod LoadStatuses
 pub mod Naming
 pub mod Leaving
 pub mod Orders
-pub mod Growth
