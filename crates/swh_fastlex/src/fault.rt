@@ -1,7 +1,8 @@
+// Why a source is not read whole.
 use std::alloc::AllocError;
 use swh_outside::Failed;
 
-/// Why a source is not read whole.
+/// Why the bytes of a source are not given.
 #[derive(Clone, Copy, Debug, PartialEq, Eq)]
 pub enum SourceFault {
     /// The source failed, and its count of faults rose.

@@ -1,6 +1,7 @@
+// Sources read into a buffer whose room is reserved.
 ghost use Rattle.std.specs.Prelude.{◌≡◌, ◌+◌, ◌≤◌, ◌<◌, IfOk, IsErrOf, OnOk, length, vec_capacity};
 ghost use Rattle.swh_outside.specs.Faults.{Rose};
-ghost use Rattle.swh_fastlex.specs.Whole.{IsWhole};
+ghost use Rattle.swh_fastlex.specs.Whole.{IsWhole, IsCutAbove, GivesAtMost};
 ghost use Rattle.swh_fastlex.specs.declared.fault.SourceFault.TheVariants.{Failed, Limit};
 
 use crate::fault::SourceFault;
@@ -38,8 +39,12 @@ fn piece_size(bytes: &Vec<u8>, limit: usize) -> usize
     room.min(left.min(WINDOW - 1) + 1)
 }
 
-/// All that is left of a source, where it is no longer than the limit, in a buffer that moves at most once. Of a
-/// longer source no more is taken than one byte above the limit.
+/// All that is left of a source, where it is no longer than the limit, in a buffer that moves at most once. No more
+/// than one byte above the limit is taken, whatever the answer.
+///
+/// # Errors
+///
+/// `Limit` where more is left than the limit, `Failed` where the source fails, and `Memory`.
 pub fn read_source_reserved<S: Source>(
     alloc: Global,
     source: &mut S,
@@ -48,6 +53,8 @@ pub fn read_source_reserved<S: Source>(
     ensures whole { S.tells → IfOk result (λ bytes. IsWhole (S.left source.old) (S.left source.new) bytes.items) }
     ensures within { IfOk result (λ bytes. length bytes.items ≤ limit) }
     ensures over { S.tells → IsErrOf result Limit → limit < length (S.left source.old) }
+    ensures cut { S.tells → IsErrOf result Limit → IsCutAbove (S.left source.old) (S.left source.new) limit (limit + 1) }
+    ensures given { S.tells → GivesAtMost (S.given source.old) (S.given source.new) (limit + 1) }
 
     ensures same_path { S.path source.new ≡ S.path source.old }
     ensures later { S.faults source.old ≤ S.faults source.new }

@@ -5,6 +5,7 @@ pub mod Ends
 pub mod Further
 pub mod Leaves
 pub mod Limiting
+pub mod Opens
 pub mod Owns
 pub mod Refusals
 pub mod Sends

@@ -16,6 +16,7 @@ use Rattle.swh_loader.specs.Adding.{opening, IsEvent, IsNoBatch, IsOwn}
 use Rattle.swh_loader.specs.Calls.{MakesCallsOf}
 use Rattle.swh_loader.specs.Ending.{AreMadeBy}
 use Rattle.swh_loader.specs.Stopping.{StopsUnchanged, StopsFor}
+use Rattle.swh_loader.specs.Visiting.{IsOpen}
 
 -- The number of an origin's next visit.
 abbrev pub next_visit : List Event → List ℕ → ℕ
@@ -51,11 +52,12 @@ pub record StopsAtOnce {D : Type 0} (id : Kind → List ℕ → List ℕ) (fault
   pub same : new.history ≡ old.history
   pub stops : StopsFor id faults (IsEvent (opening by origin date)) old new fault.why
 
--- It stopped once its visit was opened.
+-- It stopped once its visit was opened. The visit is there, and it has no end.
 pub record StopsLater {D : Type 0} (id : Kind → List ℕ → List ℕ) (faults : D → ℕ) (IsBatch : List Entry → Type 0) (by : ℕ) (origin : List ℕ) (date : ℕ) (old new : Kept D) (fault : LoadFault) : Type 0 where
   pub visit : fault.visit ≡ next_visit old.history origin
   pub more : List Event
   pub opened : new.history ≡ old.history ++ opening by origin date ∷ more
+  pub unended : IsOpen new.history origin fault.visit by
   pub stops : StopsFor id faults (IsOwn IsBatch by origin fault.visit) old new fault.why
 
 abbrev pub Stops : {D : Type 0} → (Kind → List ℕ → List ℕ) → (D → ℕ) → (List Entry → Type 0) → ℕ → List ℕ → ℕ → Kept D → Kept D → LoadFault → Type 0

@@ -48,3 +48,7 @@ fault_detail Memory = codes "memory"
 abbrev pub report_of : List ℕ → Result Loaded LoadFault → List ℕ
 report_of url (Ok loaded) = line_of url loaded.visit (end_word loaded.end) (end_detail loaded.end)
 report_of url (Err fault) = line_of url fault.visit (codes "stopped") (fault_detail fault.why)
+
+-- the most bytes of a line
+abbrev pub line_limit : ℕ
+line_limit = 2141

@@ -1,6 +1,6 @@
 //! Loads the input of an origin into an archive, as one visit.
 //! Stands on the keeper and the readers of inputs.
-//! Above it may rely on: how a load ends, and the line that reports it.
+//! Callers may rely on: how a load ends, that the visit of a load that stopped has no end, and the line that reports it.
 #![tactic(auto)]
 
 mod end;
@@ -17,7 +17,7 @@ pub use end::{BadInput, End, Loaded, StreamWhy};
 pub use fault::{LoadFault, LoadWhy};
 pub use job::Job;
 pub use loading::load_one;
-pub use report::report_line;
+pub use report::{LINE_LIMIT, report_line};
 
 #[cfg(test)]
 mod tests;

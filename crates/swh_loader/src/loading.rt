@@ -1,5 +1,5 @@
 // One load: an input read, made, sent, and its visit ended.
-ghost use Rattle.std.specs.Prelude.{◌≡◌, ◌≤◌, ◌+◌, ◌∷◌, [], Some, None, ℕ, IfOk, IfErr, IfSome, OnOk, length};
+ghost use Rattle.std.specs.Prelude.{◌≡◌, ◌≤◌, ◌+◌, ◌∷◌, [], Some, None, ℕ, IfOk, IfErr, IfSome, OnOk, OnErr, length};
 ghost use Rattle.std.specs.Option.{option_copied};
 ghost use Rattle.swh_base.specs.Text.{IsRef};
 ghost use Rattle.swh_base.specs.declared.visit.Status.TheVariants.{Created, Ongoing, Full as FullStatus, NotFound as NotFoundStatus, Failed as FailedStatus};
@@ -91,6 +91,7 @@ fn end_bad<N: Namer, D: Disk>(
     requires visit { IsOpen keeper.old.history origin.now visit by }
     ensures end { IfOk result (λ end. end ≡ EndFailed bad) }
     ensures marked { OnOk result (IsMarked keeper.old.history keeper.new.history origin.now visit by ((FailedStatus, None) ∷ [])) }
+    ensures unended { OnErr result (IsOpen keeper.new.history origin.now visit by) }
     ensures on { OnOk result (GoesOn keeper.old keeper.new) }
     ensures calls { D.tells → MakesCalls N.id_of D.file (IsOwn IsNoBatch by origin.now visit) keeper.old keeper.new }
     ensures adds { Adds D.faults (IsOwn IsNoBatch by origin.now visit) keeper.old keeper.new }
@@ -117,6 +118,7 @@ fn end_full<N: Namer, D: Disk, G: Gate>(
     requires closed { IsClosed (bodies_of keeper.old) (snapshot_name snapshot) }
     ensures end { IfOk result (λ end. end ≡ EndFull snapshot) }
     ensures marked { OnOk result (IsMarked keeper.old.history keeper.new.history origin.now visit by ((FullStatus, Some snapshot) ∷ [])) }
+    ensures unended { OnErr result (IsOpen keeper.new.history origin.now visit by) }
     ensures on { OnOk result (GoesOn keeper.old keeper.new) }
     ensures calls { D.tells → MakesCalls N.id_of D.file (IsOwn IsNoBatch by origin.now visit) keeper.old keeper.new }
     ensures adds { Adds D.faults (IsOwn IsNoBatch by origin.now visit) keeper.old keeper.new }
@@ -153,6 +155,7 @@ fn finish<N: Namer, D: Disk, G: Gate>(
     requires whole { IsWhole N.id_of made }
     ensures end { IfOk result (λ end. IsSentEnd (bodies_of keeper.new) made end) }
     ensures marked { IfOk result (λ end. IsMarked keeper.old.history keeper.new.history origin.now visit by (last_of end)) }
+    ensures unended { OnErr result (IsOpen keeper.new.history origin.now visit by) }
     ensures on { OnOk result (GoesOn keeper.old keeper.new) }
     ensures calls { D.tells → MakesCalls N.id_of D.file (IsOwn (AreAmong made.objects.items) by origin.now visit) keeper.old keeper.new }
     ensures adds { Adds D.faults (IsOwn (AreAmong made.objects.items) by origin.now visit) keeper.old keeper.new }
@@ -200,6 +203,7 @@ fn load_found<N: Namer, D: Disk, S: Source, G: Gate>(
     requires visit { IsOpen keeper.old.history origin.now visit by }
     ensures end { IfOk result (λ end. IsEndOf N.id_of (option_copied head.entry) S.tells (S.left source.old) (S.faults source.old) (S.faults source.new) (bodies_of keeper.new) end) }
     ensures marked { IfOk result (λ end. IsMarked keeper.old.history keeper.new.history origin.now visit by (statuses_of end)) }
+    ensures unended { OnErr result (IsOpen keeper.new.history origin.now visit by) }
     ensures on { OnOk result (GoesOn keeper.old keeper.new) }
     ensures calls { D.tells → MakesCalls N.id_of D.file (IsOwn (AreMadeBy N.id_of (option_copied head.entry) S.tells (S.left source.old)) by origin.now visit) keeper.old keeper.new }
     ensures adds { Adds D.faults (IsOwn (AreMadeBy N.id_of (option_copied head.entry) S.tells (S.left source.old)) by origin.now visit) keeper.old keeper.new }
@@ -226,6 +230,7 @@ fn end_absent<N: Namer, D: Disk>(
     requires visit { IsOpen keeper.old.history origin.now visit by }
     ensures end { IfOk result (λ end. end ≡ EndNotFound) }
     ensures marked { OnOk result (IsMarked keeper.old.history keeper.new.history origin.now visit by ((NotFoundStatus, None) ∷ [])) }
+    ensures unended { OnErr result (IsOpen keeper.new.history origin.now visit by) }
     ensures on { OnOk result (GoesOn keeper.old keeper.new) }
     ensures calls { D.tells → MakesCalls N.id_of D.file (IsOwn IsNoBatch by origin.now visit) keeper.old keeper.new }
     ensures adds { Adds D.faults (IsOwn IsNoBatch by origin.now visit) keeper.old keeper.new }
@@ -247,6 +252,7 @@ fn end_unread<N: Namer, D: Disk>(
     requires visit { IsOpen keeper.old.history origin.now visit by }
     ensures end { IfOk result (λ end. end ≡ EndFailed BadRead) }
     ensures marked { OnOk result (IsMarked keeper.old.history keeper.new.history origin.now visit by ((Ongoing, None) ∷ (FailedStatus, None) ∷ [])) }
+    ensures unended { OnErr result (IsOpen keeper.new.history origin.now visit by) }
     ensures on { OnOk result (GoesOn keeper.old keeper.new) }
     ensures calls { D.tells → MakesCalls N.id_of D.file (IsOwn IsNoBatch by origin.now visit) keeper.old keeper.new }
     ensures adds { Adds D.faults (IsOwn IsNoBatch by origin.now visit) keeper.old keeper.new }
@@ -275,6 +281,7 @@ fn load_opened<N: Namer, D: Disk, S: Source, G: Gate>(
     requires visit { IsOpen keeper.old.history origin.now visit by }
     ensures end { IfOk result (λ end. IsJobEnd N.id_of (option_copied head.entry) S.tells S.left S.faults (bodies_of keeper.new) stream.old stream.new end) }
     ensures marked { IfOk result (λ end. IsMarked keeper.old.history keeper.new.history origin.now visit by (statuses_of end)) }
+    ensures unended { OnErr result (IsOpen keeper.new.history origin.now visit by) }
     ensures on { OnOk result (GoesOn keeper.old keeper.new) }
     ensures calls { D.tells → MakesCalls N.id_of D.file (IsOwn (AreAllowed N.id_of (option_copied head.entry) S.tells S.left stream.old) by origin.now visit) keeper.old keeper.new }
     ensures adds { Adds D.faults (IsOwn (AreAllowed N.id_of (option_copied head.entry) S.tells S.left stream.old) by origin.now visit) keeper.old keeper.new }

@@ -1,17 +1,21 @@
 // The line that reports a job.
-ghost use Rattle.std.specs.Prelude.{◌≡◌, ◌++◌, ◌∷◌, [], IfOk, OnOk, decimal};
+ghost use Rattle.std.specs.Prelude.{◌≡◌, ◌+◌, ◌≤◌, ◌++◌, ◌∷◌, [], length, vec_capacity, decimal};
 ghost use Rattle.swh_swhid.specs.Core.{core_text};
 ghost use Rattle.swh_loader.specs.Report.{why_word, bad_detail, end_word, end_detail, fault_detail, report_of};
 
 use crate::end::{BadInput, End, Loaded, StreamWhy};
 use crate::fault::{LoadFault, LoadWhy};
 use itoa::Buffer;
-use std::alloc::Global;
-use swh_base::{Bytes, Kind, Memory, Name, Url};
+use swh_base::{Kind, Name, Url};
 use swh_swhid::core_text;
 
+/// The most bytes of a line: a URL of 2,048, a number of 20, a status of 9 and a detail of 60, with a TAB after each of
+/// the first three and an LF at the end.
+pub const LINE_LIMIT: usize = 2_141;
+
 fn word_of_why(why: StreamWhy) -> &'static [u8]
-    ensures { result.now ≡ why_word why }
+    ensures is { result.now ≡ why_word why }
+    ensures short { length result.now ≤ 8 }
 {
     match why {
         StreamWhy::Grammar => b"grammar".as_slice(),
@@ -24,7 +28,8 @@ fn word_of_why(why: StreamWhy) -> &'static [u8]
 }
 
 fn word_of_end(end: End) -> &'static [u8]
-    ensures { result.now ≡ end_word end }
+    ensures is { result.now ≡ end_word end }
+    ensures short { length result.now ≤ 9 }
 {
     match end {
         End::Full { .. } => b"full".as_slice(),
@@ -34,7 +39,8 @@ fn word_of_end(end: End) -> &'static [u8]
 }
 
 fn detail_of_fault(why: LoadWhy) -> &'static [u8]
-    ensures { result.now ≡ fault_detail why }
+    ensures is { result.now ≡ fault_detail why }
+    ensures short { length result.now ≤ 60 }
 {
     match why {
         LoadWhy::Ended { .. } => b"ended".as_slice(),
@@ -45,48 +51,65 @@ fn detail_of_fault(why: LoadWhy) -> &'static [u8]
     }
 }
 
-fn put(out: &mut Vec<u8>, bytes: &[u8]) -> Result<(), Memory>
-    ensures { OnOk result (out.new.items ≡ out.old.items ++ bytes.now) }
+/// Adds bytes for which there is room.
+fn put(out: &mut Vec<u8>, bytes: &[u8])
+    requires { length out.old.items + length bytes.now ≤ vec_capacity out.old }
+    ensures items { out.new.items ≡ out.old.items ++ bytes.now }
+    ensures len { length out.new.items ≡ length out.old.items + length bytes.now }
+    ensures capacity { vec_capacity out.old ≤ vec_capacity out.new }
 {
-    out.extend_from_slice(bytes)?;
-    Ok(())
+    let Ok(()) = out.extend_from_slice(bytes) else {
+        unreachable!();
+    };
 }
 
-fn put_number(out: &mut Vec<u8>, number: u64) -> Result<(), Memory>
-    ensures { OnOk result (out.new.items ≡ out.old.items ++ decimal number) }
+fn put_number(out: &mut Vec<u8>, number: u64)
+    requires { length out.old.items + 20 ≤ vec_capacity out.old }
+    ensures items { out.new.items ≡ out.old.items ++ decimal number }
+    ensures short { length out.new.items ≤ length out.old.items + 20 }
+    ensures capacity { vec_capacity out.old ≤ vec_capacity out.new }
 {
     let mut digits = Buffer::new();
-    put(out, digits.format(number).as_bytes())
+    put(out, digits.format(number).as_bytes());
 }
 
-fn put_core(out: &mut Vec<u8>, name: &Name) -> Result<(), Memory>
-    ensures { OnOk result (out.new.items ≡ out.old.items ++ core_text name.now) }
+fn put_core(out: &mut Vec<u8>, name: &Name)
+    requires { length out.old.items + 50 ≤ vec_capacity out.old }
+    ensures items { out.new.items ≡ out.old.items ++ core_text name.now }
+    ensures len { length out.new.items ≡ length out.old.items + 50 }
+    ensures capacity { vec_capacity out.old ≤ vec_capacity out.new }
 {
     let mut text = [0; 50];
     core_text(name, &mut text);
-    put(out, &text)
+    put(out, &text);
 }
 
-fn put_bad(out: &mut Vec<u8>, bad: BadInput) -> Result<(), Memory>
-    ensures { OnOk result (out.new.items ≡ out.old.items ++ bad_detail bad) }
+fn put_bad(out: &mut Vec<u8>, bad: BadInput)
+    requires { length out.old.items + 60 ≤ vec_capacity out.old }
+    ensures items { out.new.items ≡ out.old.items ++ bad_detail bad }
+    ensures short { length out.new.items ≤ length out.old.items + 60 }
+    ensures capacity { vec_capacity out.old ≤ vec_capacity out.new }
 {
     match bad {
         BadInput::Stream { at, why } => {
-            put(out, b"stream ")?;
-            put_number(out, at)?;
-            put(out, b" ")?;
-            put(out, word_of_why(why))
+            put(out, b"stream ");
+            put_number(out, at);
+            put(out, b" ");
+            put(out, word_of_why(why));
         }
         BadInput::Collision { name } => {
-            put(out, b"collision ")?;
-            put_core(out, &name)
+            put(out, b"collision ");
+            put_core(out, &name);
         }
         BadInput::Read => put(out, b"read"),
     }
 }
 
-fn put_detail(out: &mut Vec<u8>, end: End) -> Result<(), Memory>
-    ensures { OnOk result (out.new.items ≡ out.old.items ++ end_detail end) }
+fn put_detail(out: &mut Vec<u8>, end: End)
+    requires { length out.old.items + 60 ≤ vec_capacity out.old }
+    ensures items { out.new.items ≡ out.old.items ++ end_detail end }
+    ensures short { length out.new.items ≤ length out.old.items + 60 }
+    ensures capacity { vec_capacity out.old ≤ vec_capacity out.new }
 {
     match end {
         End::Full { snapshot } => put_core(
@@ -101,38 +124,39 @@ fn put_detail(out: &mut Vec<u8>, end: End) -> Result<(), Memory>
     }
 }
 
-// The origin, the visit and the status, each with a TAB behind it.
-fn put_front(out: &mut Vec<u8>, url: &Url, visit: u64, status: &[u8]) -> Result<(), Memory>
-    ensures { OnOk result (out.new.items ≡ out.old.items ++ (url.now ++ 9 ∷ (decimal visit ++ 9 ∷ (status.now ++ 9 ∷ [])))) }
+/// The origin, the visit and the status, with a TAB after each.
+fn put_front(out: &mut Vec<u8>, url: &Url, visit: u64, status: &[u8])
+    requires room { length out.old.items + 2080 ≤ vec_capacity out.old }
+    requires status { length status.now ≤ 9 }
+    ensures items { out.new.items ≡ out.old.items ++ (url.now ++ 9 ∷ (decimal visit ++ 9 ∷ (status.now ++ 9 ∷ []))) }
+    ensures short { length out.new.items ≤ length out.old.items + 2080 }
+    ensures capacity { vec_capacity out.old ≤ vec_capacity out.new }
 {
-    put(out, url.as_str().as_bytes())?;
-    put(out, b"\t")?;
-    put_number(out, visit)?;
-    put(out, b"\t")?;
-    put(out, status)?;
-    put(out, b"\t")
+    put(out, url.as_str().as_bytes());
+    put(out, b"\t");
+    put_number(out, visit);
+    put(out, b"\t");
+    put(out, status);
+    put(out, b"\t");
 }
 
-/// The line that reports how the load of an origin ended: its URL, the visit, the status and a detail, with TABs
-/// between and an LF behind.
-pub fn report_line(
-    alloc: Global,
-    url: &Url,
-    ended: Result<Loaded, LoadFault>,
-) -> Result<Bytes, Memory>
-    ensures { IfOk result (λ line. line ≡ report_of url.now ended) }
+/// Adds the line that reports how the load of an origin ended: its URL, the visit, the status and a detail, with TABs
+/// between and an LF at the end.
+pub fn report_line(out: &mut Vec<u8>, url: &Url, ended: Result<Loaded, LoadFault>)
+    requires { length out.old.items + LINE_LIMIT ≤ vec_capacity out.old }
+    ensures line { out.new.items ≡ out.old.items ++ report_of url.now ended }
+    ensures short { length out.new.items ≤ length out.old.items + LINE_LIMIT }
+    ensures capacity { vec_capacity out.old ≤ vec_capacity out.new }
 {
-    let mut out = Vec::new(alloc);
     match ended {
         Ok(loaded) => {
-            put_front(&mut out, url, loaded.visit, word_of_end(loaded.end))?;
-            put_detail(&mut out, loaded.end)?;
+            put_front(out, url, loaded.visit, word_of_end(loaded.end));
+            put_detail(out, loaded.end);
         }
         Err(fault) => {
-            put_front(&mut out, url, fault.visit, b"stopped")?;
-            put(&mut out, detail_of_fault(fault.why))?;
+            put_front(out, url, fault.visit, b"stopped");
+            put(out, detail_of_fault(fault.why));
         }
     }
-    put(&mut out, b"\n")?;
-    Ok(Bytes::from_vec(out))
+    put(out, b"\n");
 }

@@ -63,7 +63,7 @@ fn flush<N: Namer, D: Disk>(
     requires waiting { IsWaiting N.id_of (bodies_of keeper.old) pending }
     ensures bodies { OnOk result (bodies_of keeper.new ≡ to_be keeper.old pending) }
     ensures on { OnOk result (GoesOn keeper.old keeper.new) }
-    ensures visits { OnOk result (SameVisits keeper.old keeper.new by) }
+    ensures visits { SameVisits keeper.old keeper.new by }
     ensures calls { D.tells → MakesCalls N.id_of D.file (IsBatchOf by pending.entries.items) keeper.old keeper.new }
     ensures adds { Adds D.faults (IsBatchOf by pending.entries.items) keeper.old keeper.new }
     ensures stops { IfErr result (StopsFor N.id_of D.faults (IsBatchOf by pending.entries.items) keeper.old keeper.new) }
@@ -93,7 +93,7 @@ fn make_room<N: Namer, D: Disk>(
     ensures waiting { IfOk result (λ room. IsWaiting N.id_of (bodies_of keeper.new) room) }
     ensures to_be { IfOk result (λ room. to_be keeper.new room ≡ to_be keeper.old pending) }
     ensures on { OnOk result (GoesOn keeper.old keeper.new) }
-    ensures visits { OnOk result (SameVisits keeper.old keeper.new by) }
+    ensures visits { SameVisits keeper.old keeper.new by }
     ensures calls { D.tells → MakesCalls N.id_of D.file (IsBatchOf by pending.entries.items) keeper.old keeper.new }
     ensures adds { Adds D.faults (IsBatchOf by pending.entries.items) keeper.old keeper.new }
     ensures stops { IfErr result (StopsFor N.id_of D.faults (IsBatchOf by pending.entries.items) keeper.old keeper.new) }
@@ -117,7 +117,7 @@ fn take_in<N: Namer, D: Disk>(
     requires waiting { IsWaiting N.id_of (bodies_of keeper.old) pending }
     ensures taken { IfOk result (λ taken. IsTaken N.id_of keeper.old pending object keeper.new taken) }
     ensures on { OnOk result (GoesOn keeper.old keeper.new) }
-    ensures visits { OnOk result (SameVisits keeper.old keeper.new by) }
+    ensures visits { SameVisits keeper.old keeper.new by }
     ensures calls { D.tells → MakesCalls N.id_of D.file (IsBatchOf by pending.entries.items) keeper.old keeper.new }
     ensures adds { Adds D.faults (IsBatchOf by pending.entries.items) keeper.old keeper.new }
     ensures stops { IfErr result (StopsFor N.id_of D.faults (IsBatchOf by pending.entries.items) keeper.old keeper.new) }
@@ -144,7 +144,7 @@ pub fn send_all<N: Namer, D: Disk>(
     requires { keeper.old.wounded ≡ None }
     ensures sent { IfOk result (λ collision. AreSent (bodies_of keeper.new) objects.items collision) }
     ensures on { OnOk result (GoesOn keeper.old keeper.new) }
-    ensures visits { OnOk result (SameVisits keeper.old keeper.new by) }
+    ensures visits { SameVisits keeper.old keeper.new by }
     ensures calls { D.tells → MakesCalls N.id_of D.file (IsBatchAmong by objects.items) keeper.old keeper.new }
     ensures adds { Adds D.faults (IsBatchAmong by objects.items) keeper.old keeper.new }
     ensures stops { IfErr result (StopsFor N.id_of D.faults (IsBatchAmong by objects.items) keeper.old keeper.new) }

@@ -1,6 +1,18 @@
-use crate::{BadInput, End, LoadFault, LoadWhy, Loaded, StreamWhy, report_line};
+// Lines that report loads.
+use crate::{BadInput, End, LINE_LIMIT, LoadFault, LoadWhy, Loaded, StreamWhy, report_line};
+use std::alloc::{AllocError, Global};
 use std::test::Fail;
 use swh_base::{Kind, Name, Url};
+
+fn line_of(
+    alloc: Global,
+    url: &Url,
+    ended: Result<Loaded, LoadFault>,
+) -> Result<Vec<u8>, AllocError> {
+    let mut line = Vec::with_capacity(alloc, LINE_LIMIT)?;
+    report_line(&mut line, url, ended);
+    Ok(line)
+}
 
 #[test]
 fn worked_lines(rt: HostRuntime) -> Result<(), Fail> {
@@ -12,7 +24,7 @@ fn worked_lines(rt: HostRuntime) -> Result<(), Fail> {
         end: End::Full { snapshot: id },
     };
     assert_eq!(rt;
-        report_line(alloc, &url, Ok(full))?.as_slice(),
+        line_of(alloc, &url, Ok(full))?.as_slice(),
         b"https://e.org/p\t1\tfull\tswh:1:snp:1a8893e6a86f444e8be8e7bda6cb34fb1735a00e\n".as_slice()
     );
     let mut byte = [0; 20];
@@ -26,7 +38,7 @@ fn worked_lines(rt: HostRuntime) -> Result<(), Fail> {
         end: End::Failed(BadInput::Collision { name }),
     };
     assert_eq!(rt;
-        report_line(alloc, &url, Ok(collision))?.as_slice(),
+        line_of(alloc, &url, Ok(collision))?.as_slice(),
         b"https://e.org/p\t2\tfailed\tcollision swh:1:cnt:00000000000000000000000000000000000000c3\n".as_slice()
     );
     let cut = Loaded {
@@ -37,7 +49,7 @@ fn worked_lines(rt: HostRuntime) -> Result<(), Fail> {
         }),
     };
     assert_eq!(rt;
-        report_line(alloc, &url, Ok(cut))?.as_slice(),
+        line_of(alloc, &url, Ok(cut))?.as_slice(),
         b"https://e.org/p\t1\tfailed\tstream 13 end\n".as_slice()
     );
     let stopped = LoadFault {
@@ -45,7 +57,7 @@ fn worked_lines(rt: HostRuntime) -> Result<(), Fail> {
         why: LoadWhy::DiskFault,
     };
     assert_eq!(rt;
-        report_line(alloc, &url, Err(stopped))?.as_slice(),
+        line_of(alloc, &url, Err(stopped))?.as_slice(),
         b"https://e.org/p\t0\tstopped\tdisk\n".as_slice()
     );
     Ok(())

@@ -59,6 +59,7 @@ pub fn mark<N: Namer, D: Disk>(
 ) -> Result<(), LoadWhy>
     requires { MayMark (replay keeper.old.history) by origin.now visit status snapshot }
     ensures marked { OnOk result (IsMarked keeper.old.history keeper.new.history origin.now visit by ((status, snapshot) ∷ [])) }
+    ensures same { OnErr result (keeper.new.history ≡ keeper.old.history) }
     ensures on { OnOk result (GoesOn keeper.old keeper.new) }
     ensures calls { D.tells → MakesCalls N.id_of D.file (IsEvent (marking by origin.now visit status snapshot)) keeper.old keeper.new }
     ensures adds { Adds D.faults (IsEvent (marking by origin.now visit status snapshot)) keeper.old keeper.new }

@@ -1,4 +1,4 @@
-mod Lines
+mod JobLines
 mod Loads
 mod Stopped
 mod Walks

@@ -1,12 +1,11 @@
 //! Loads jobs into an open archive, one after the other, and writes their lines.
 //! Stands on the loader and the keeper.
-//! Above it may rely on: each job's load between two states of the archive, and the lines in the jobs' order.
+//! Callers may rely on: each job's load between two states of the archive, and a line of each job, in the jobs' order.
 #![tactic(auto)]
 
 mod dated;
+mod lines;
 mod loading;
-mod report;
 
 pub use dated::DatedJob;
-pub use loading::load_all;
-pub use report::{Report, report_all};
+pub use loading::{Report, load_all};

@@ -1,11 +1,13 @@
 // Jobs loaded one after the other.
 ghost use Rattle.std.specs.Prelude.{◌≡◌, ◌↔◌, None, All, IfOk, OnErr, is_some, length};
+ghost use Rattle.swh_pool.specs.Lines.{ended, lines_of};
 ghost use Rattle.swh_pool.specs.Loads.{HasHead, one_load, IsOneLoad, AreLoaded};
 ghost use Rattle.swh_pool.specs.Stops.{AreStops, HaveNoDiskFault};
 
 use crate::dated::DatedJob;
+use crate::lines::Lines;
 use std::alloc::Global;
-use swh_base::{Memory, Namer};
+use swh_base::{Bytes, Memory, Namer};
 use swh_keeper::Keeper;
 use swh_loader::{LoadFault, Loaded, load_one};
 use swh_outside::{Disk, Gate, Source};
@@ -37,8 +39,19 @@ fn load_dated<N: Namer, D: Disk, S: Source, G: Gate>(
     )
 }
 
-/// Loads the jobs one after the other. The outcomes are in their order, and the gate sees the worker's jobs as 1, 2 and
-/// so on. Where memory for the outcomes is wanting, nothing is loaded.
+/// How jobs were loaded, and the lines that report it, both in the jobs' order.
+#[derive(Drop)]
+pub struct Report {
+    pub outcomes: Vec<Result<Loaded, LoadFault>>,
+    pub text: Bytes,
+}
+
+/// Loads the jobs one after the other, and writes their lines. The gate sees the worker's jobs as 1, 2 and so on.
+///
+/// # Errors
+///
+/// `Memory` where it is wanting for the outcomes and the lines. Nothing is loaded then: their room is taken first, so
+/// that no line is missing once a load has begun.
 pub fn load_all<N: Namer, D: Disk, S: Source, G: Gate>(
     alloc: Global,
     namer: &N,
@@ -47,25 +60,30 @@ pub fn load_all<N: Namer, D: Disk, S: Source, G: Gate>(
     jobs: &mut [DatedJob<S>],
     gate: &G,
     worker: u32,
-) -> Result<Vec<Result<Loaded, LoadFault>>, Memory>
+) -> Result<Report, Memory>
     // A head is a ref.
     requires { All HasHead jobs.old }
     // Each load begins where the one before it ended.
-    ensures loads { IfOk result (λ outcomes. AreLoaded N.id_of S.tells S.left S.faults S.path D.tells D.file D.faults by jobs.old jobs.new keeper.old keeper.new outcomes.items) }
+    ensures loads { IfOk result (λ report. AreLoaded N.id_of S.tells S.left S.faults S.path D.tells D.file D.faults by jobs.old jobs.new keeper.old keeper.new report.outcomes.items) }
     // Once a disk has failed, each job is stopped before its visit.
-    ensures stops { IfOk result (λ outcomes. AreStops (is_some keeper.old.wounded) outcomes.items) }
+    ensures stops { IfOk result (λ report. AreStops (is_some keeper.old.wounded) report.outcomes.items) }
     // A disk has failed afterwards exactly where one had before or a load says so.
-    ensures unwounded { IfOk result (λ outcomes. (keeper.new.wounded ≡ None) ↔ ((keeper.old.wounded ≡ None) × HaveNoDiskFault outcomes.items)) }
-    ensures each { IfOk result (λ outcomes. length outcomes.items ≡ length jobs.new) }
+    ensures unwounded { IfOk result (λ report. (keeper.new.wounded ≡ None) ↔ ((keeper.old.wounded ≡ None) × HaveNoDiskFault report.outcomes.items)) }
+    ensures each { IfOk result (λ report. length report.outcomes.items ≡ length jobs.new) }
+    // Each job has its line.
+    ensures lines { IfOk result (λ report. report.text ≡ lines_of (ended jobs.new report.outcomes.items)) }
     ensures same_keeper { OnErr result (keeper.new ≡ keeper.old) }
     ensures same_jobs { OnErr result (jobs.new ≡ jobs.old) }
 {
     let mut outcomes = Vec::with_capacity(alloc, jobs.len())?;
+    let mut lines = Lines::with_room(alloc, jobs.len())?;
     let mut number: u32 = 0;
     'jobs: for dated in jobs.iter_mut() {
         number = number.saturating_add(1);
         let outcome = load_dated(alloc, namer, keeper, by, dated, gate, worker, number);
+        lines.add(&dated.job.origin, outcome);
         outcomes.push_reserved(outcome);
     }
-    Ok(outcomes)
+    let text = lines.into_text();
+    Ok(Report { outcomes, text })
 }

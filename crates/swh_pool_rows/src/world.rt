@@ -4,12 +4,12 @@ ghost use Rattle.swh_pool.specs.Loads.{HasHead};
 
 use std::alloc::{AllocError, Global};
 use std::test::Fail;
-use swh_base::{Sha1Namer, Url};
+use swh_base::{Bytes, Sha1Namer, Url};
 use swh_keeper::{Keeper, OpenFault};
 use swh_loader::Job;
 use swh_memory::{MemoryDisk, MemorySource, Room};
 use swh_outside::{OpenGate, Opened};
-use swh_pool::{DatedJob, Report, load_all, report_all};
+use swh_pool::{DatedJob, load_all};
 
 type Archive = Keeper<Sha1Namer, MemoryDisk>;
 
@@ -21,7 +21,8 @@ const ROOM: Room = Room {
 /// What the loads of three jobs leave.
 #[derive(Drop)]
 pub struct Left {
-    pub report: Report,
+    /// The lines of the jobs.
+    pub text: Bytes,
     pub store: MemoryDisk,
     pub ledger: MemoryDisk,
 }
@@ -100,16 +101,16 @@ fn let_go(mut jobs: Vec<DatedJob<MemorySource>>) {
     jobs.destroy_empty();
 }
 
-// Loads jobs, and reports them.
-fn reported(
+// Loads jobs, and gives their lines.
+fn lines_of(
     alloc: Global,
     keeper: &mut Archive,
     jobs: &mut [DatedJob<MemorySource>],
-) -> Result<Report, Fail>
+) -> Result<Bytes, Fail>
     requires { All HasHead jobs.old }
 {
-    let outcomes = load_all(alloc, &Sha1Namer, keeper, 1, jobs, &OpenGate, 1)?;
-    Ok(report_all(alloc, jobs, &outcomes))
+    let report = load_all(alloc, &Sha1Namer, keeper, 1, jobs, &OpenGate, 1)?;
+    Ok(report.text)
 }
 
 // Loads jobs into an archive of no event.
@@ -121,11 +122,11 @@ fn load_anew(
     requires { All HasHead jobs.old }
 {
     let mut keeper = made(alloc, ledger_failing)?;
-    let report = reported(alloc, &mut keeper, jobs);
+    let text = lines_of(alloc, &mut keeper, jobs);
     let (store, ledger) = keeper.close();
-    let report = report?;
+    let text = text?;
     Ok(Left {
-        report,
+        text,
         store,
         ledger,
     })

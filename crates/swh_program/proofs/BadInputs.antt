@@ -52,8 +52,8 @@ module _ (id_of : Kind → List ℕ → List ℕ) (bodies held : Bodies) (within
       ⊎_elim
       (λ (left : IsLeftOut id_of head text). left (record { objects = made full.objects; snapshot = snapshot }) full.means.meaning)
       (λ (two : HasTwoBodies id_of head bodies text).
-      two.apart
-      (let both : Some two.a ≡ Some two.b = sym (has_then two.making two.means two.name two.a two.has_a) ∙ has_then two.making two.means two.name two.b two.has_b in cc))
+      let t = two.1 in
+      t.apart (let both : Some t.a ≡ Some t.b = sym (has_then t.making t.means two.0 t.a t.has_a) ∙ has_then t.making t.means two.0 t.b t.has_b in cc))
       bad
 
 module _ (id_of : Kind → List ℕ → List ℕ) (tells : Type 0) (told : tells) (input_at : FileAt) (failures failures_now : List ℕ → ℕ) (bodies : Bodies) where

@@ -1,5 +1,4 @@
 -- How loads end together, and the lines that tell them.
-use Rattle.std.specs.Prelude.{IsTrue}
 use Rattle.std.proofs.Common.{◌≡◌, ◌⊎◌, inl, inr, ⊎_elim, ℕ, ◌≤◌, Bool, true, false, Result, Ok, Err, List, [], ◌∷◌, ◌++◌, map, flat_map, refl, sym, ap, ◌∙◌, subst, arith}
 use Rattle.std.proofs.lemmas.List.Folds.{flat_map-map}
 use Rattle.swh_base.specs.declared.kind.Kind.{Kind}
@@ -18,18 +17,12 @@ use Rattle.swh_pool.specs.Lines.{ended, lines_of}
 use Rattle.swh_pool.specs.Loads.{OneLoad, IsOutcome, AreLoads}
 use Rattle.swh_pool.specs.Stops.{IsUnwounded, is_disk_fault, AreStops}
 use Rattle.swh_pool.specs.declared.dated.DatedJob.{DatedJob}
-use Rattle.swh_program.specs.Lines.{LoadedJob, outcomes, load_line, ending_of_end, ending_of_why, ending_for, worse, ending_of_all, ending_without, TellsLoads, TellsLoad}
-use Rattle.swh_program.specs.Telling.{ending_of_whole, TellsReport}
+use Rattle.swh_program.specs.Lines.{LoadedJob, outcomes, load_line, ending_of_end, ending_of_why, ending_for, worse, ending_of_all, TellsLoads, TellsLoad}
+use Rattle.swh_program.specs.Telling.{TellsReport}
 use Rattle.swh_program.specs.declared.answer.Ending.{Ending}
 use Rattle.swh_program.specs.declared.answer.Ending.TheVariants as ending
 use Rattle.swh_program.specs.declared.answer.Answer.{Answer}
 use Rattle.swh_program.proofs.Inputs.{url_and_outcome}
-
-pub worse-done : (a : Ending) → worse a ending.Done ≡ a
-worse-done ending.Done = refl
-worse-done ending.Wanting = refl
-worse-done ending.OutsideDisk = refl
-worse-done ending.Memory = refl
 
 -- a disk is told only where one of the two is a disk's
 pub worse_disk : (a b : Ending) → worse a b ≡ ending.OutsideDisk → (a ≡ ending.OutsideDisk) ⊎ (b ≡ ending.OutsideDisk)
@@ -103,53 +96,10 @@ module _ {S D : Type 0} (id_of : Kind → List ℕ → List ℕ) (source_tells :
   raised (l ∷ loads) old new are stops is =
       by_outcome l (map (λ m. m.outcome) loads) old are.0 new (are.1.store_later, are.1.ledger_later) (all_later loads are.0 new are.2) (raised loads are.0 new are.2) l.outcome stops.0 are.1.ends stops.1 is
 
--- a list that maps onto two parts is two parts
-pub record Parts {X Y : Type 0} (f : X → Y) (xs : List X) (a b : List Y) : Type 0 where
-  pub front : List X
-  pub back : List X
-  pub cut : xs ≡ front ++ back
-  pub front_is : map f front ≡ a
-  pub back_is : map f back ≡ b
-
-head_of : {Y : Type 0} (x y : Y) (xs ys : List Y) → x ∷ xs ≡ y ∷ ys → x ≡ y
-head_of x y xs ys e = cc
-
-tail_of : {Y : Type 0} (x y : Y) (xs ys : List Y) → x ∷ xs ≡ y ∷ ys → xs ≡ ys
-tail_of x y xs ys e = cc
-
-parts_next : {X Y : Type 0} (f : X → Y) (x : X) (y : Y) (xs : List X) (a b : List Y) → f x ≡ y → Parts f xs a b → Parts f (x ∷ xs) (y ∷ a) b
-parts_next {X} f x y xs a b same p = record {
-  front = x ∷ p.front;
-  back = p.back;
-  cut = ap (λ (l : List X). x ∷ l) p.cut;
-  front_is = λ i. same i ∷ p.front_is i;
-  back_is = p.back_is;
-}
-
-pub parts : {X Y : Type 0} (f : X → Y) (xs : List X) (a b : List Y) → map f xs ≡ a ++ b → Parts f xs a b
-parts f xs [] b e = record { front = []; back = xs; cut = refl; front_is = refl; back_is = e }
-parts f [] (y ∷ a) b e = absurd cc
-parts f (x ∷ xs) (y ∷ a) b e = parts_next f x y xs a b (head_of (f x) y (map f xs) (a ++ b) e) (parts f xs a b (tail_of (f x) y (map f xs) (a ++ b) e))
-
--- memory ran out where lines are missing
-pub whole_or_not : (whole : Bool) (missing : List LoadedJob) → (IsTrue whole → map url_and_outcome missing ≡ []) → (map url_and_outcome missing ≡ [] → IsTrue whole) → ending_of_whole whole ≡ ending_without missing
-whole_or_not true [] only there = refl
-whole_or_not true (l ∷ missing) only there = absurd (let f : url_and_outcome l ∷ map url_and_outcome missing ≡ [] = only refl in cc)
-whole_or_not false [] only there = absurd (let f : IsTrue false = there refl in cc)
-whole_or_not false (l ∷ missing) only there = refl
-
 -- the answer that tells a report tells the loads
 pub told_loads : {S : Type 0} (now : List (DatedJob S)) (ends : List (Result Loaded LoadFault)) (loads : List LoadedJob) (answer : Answer) → ended now ends ≡ map url_and_outcome loads → ends ≡ outcomes loads → TellsReport now ends answer
     → TellsLoad loads answer
 told_loads {S} now ends loads answer pairs same told =
-    let p = parts url_and_outcome loads told.is_report.shown told.is_report.hidden (sym pairs ∙ told.is_report.cut) in
-    let text : told.report.text ≡ flat_map load_line p.front = told.is_report.text ∙ ap lines_of (sym p.front_is) ∙ flat_map-map (λ (j : List ℕ × Result Loaded LoadFault). report_of j.0 j.1) url_and_outcome p.front in
-    let whole = whole_or_not told.report.whole p.back (λ h. p.back_is ∙ told.is_report.whole.0 h) (λ h. told.is_report.whole.1 (sym p.back_is ∙ h)) in
-    let lines : TellsLoads loads told.report.text (worse (ending_of_all ends) (ending_of_whole told.report.whole)) = record {
-      shown = p.front;
-      missing = p.back;
-      are = p.cut;
-      text_is = text;
-      end_is = λ i. worse (ending_of_all (same i)) (whole i);
-    } in
+    let text : told.text ≡ flat_map load_line loads = told.text_is ∙ ap lines_of pairs ∙ flat_map-map (λ (j : List ℕ × Result Loaded LoadFault). report_of j.0 j.1) url_and_outcome loads in
+    let lines : TellsLoads loads told.text (ending_of_all ends) = record { text_is = text; end_is = ap ending_of_all same } in
     subst (TellsLoad loads) (sym told.tells) lines

@@ -14,7 +14,6 @@ use Rattle.swh_model.specs.Step.{IsHistory, after, after_kind, after_all, replay
 use Rattle.swh_model.proofs.Histories.{fronts}
 use Rattle.swh_model.proofs.Maps.{added-all}
 use Rattle.swh_fastload.specs.Making.{made_of, made}
-use Rattle.swh_fastload.proofs.Loads.{one_meaning_lem}
 use Rattle.swh_loader.specs.Adding.{IsOwn, IsOwnKind}
 use Rattle.swh_loader.specs.Ending.{MeansObjects, IsMadeBy, Collided}
 use Rattle.swh_loader.specs.Leaving.{AddsVisit, AreOfVisit, next_visit}
@@ -26,61 +25,54 @@ use Rattle.swh_program.proofs.Elements.{contains_first, map_contains}
 abbrev pub Had : (Kind → List ℕ → List ℕ) → Bodies → List Made → Bodies → Type 0
 Had id_of bodies objects now = (n : Name) (body : List ℕ) → body_of now n ≡ Some body → HasBody id_of bodies objects n body
 
--- a head or none, a text, and what they mean
-module _ (id_of : Kind → List ℕ → List ℕ) (head : Option (List ℕ)) (text : List ℕ) (making : Making) (means : IsMeaning id_of head text making) where
-  -- what a text makes are the objects of its meaning
-  made_among : (es : List Entry) (snapshot : List ℕ) → MeansObjects id_of head text es snapshot → (e : Entry) → Contains es e → Contains making.objects (made_of e)
-  made_among es snapshot m e among =
-      let same = one_meaning_lem id_of head text (record { objects = made es; snapshot = snapshot }) making m.meaning means in
-      subst (λ (k : Making). Contains k.objects (made_of e)) same (map_contains made_of es e among)
+module _ (id_of : Kind → List ℕ → List ℕ) (objects : List Made) where
+  -- All that the text means, with this head or none, is among the objects.
+  abbrev pub MakesWithin : Option (List ℕ) → List ℕ → Type 0
+  MakesWithin head text = (making : Making) → IsMeaning id_of head text making → (o : Made) → Contains making.objects o → Contains objects o
 
-  -- a batch of what the text makes
-  pub are_made : (entries : List Entry) → AllByRecursion (IsMadeBy id_of head text) entries → AreMade making.objects entries
-  are_made [] all = tt
-  are_made (e ∷ entries) all = (made_among all.0.objects all.0.snapshot all.0.means e all.0.among, are_made entries all.1)
-
-  -- the snapshot of a full job
-  pub one_snapshot : (es : List Entry) (snapshot : List ℕ) → MeansObjects id_of head text es snapshot → snapshot ≡ making.snapshot
-  one_snapshot es snapshot m = ap (λ (k : Making). k.snapshot) (one_meaning_lem id_of head text (record { objects = made es; snapshot = snapshot }) making m.meaning means)
-
-  abbrev AllMade : List Entry → Type 0
-  AllMade entries = AllByRecursion (IsMadeBy id_of head text) entries
-
-  module _ (objects : List Made) (within : (o : Made) → Contains making.objects o → Contains objects o) where
+  module _ (head : Option (List ℕ)) (text : List ℕ) (within : MakesWithin head text) where
     makes_body : (es : List Entry) (snapshot : List ℕ) → MeansObjects id_of head text es snapshot → (e : Entry) → Contains es e → MakesBody id_of objects e.name e.body
-    makes_body es snapshot m e among = (within (made_of e) (made_among es snapshot m e among), (at_element (IsGoodAndNamed id_of) es e m.good among).named)
+    makes_body es snapshot m e among = (
+      within (record { objects = made es; snapshot = snapshot }) m.meaning (made_of e) (map_contains made_of es e among),
+      (at_element (IsGoodAndNamed id_of) es e m.good among).named,
+    )
 
-    -- what is held stays held, or was made
-    module _ (bodies : Bodies) where
-      makes_all : (entries : List Entry) → AllMade entries → AllByRecursion (λ e. HasBody id_of bodies objects e.name e.body) entries
-      makes_all [] all = tt
-      makes_all (e ∷ entries) all = (inr (makes_body all.0.objects all.0.snapshot all.0.means e all.0.among), makes_all entries all.1)
+    -- a batch of what the text makes
+    pub are_made : (entries : List Entry) → AllByRecursion (IsMadeBy id_of head text) entries → AreMade id_of objects entries
+    are_made [] all = tt
+    are_made (e ∷ entries) all = (makes_body all.0.objects all.0.snapshot all.0.means e all.0.among, are_made entries all.1)
 
-      had_kind : (a : Archive) (by : ℕ) (origin : List ℕ) (number : ℕ) (what : EventKind) → IsOwnKind AllMade origin number what → Had id_of bodies objects a.bodies → Had id_of bodies objects (after_kind a by what).bodies
-      had_kind a by origin number (Batch entries) own had = added-all (HasBody id_of bodies objects) a.bodies entries had (makes_all entries own.1)
-      had_kind a by origin number (Open other kind date) own had = had
-      had_kind a by origin number (Mark other visit status snapshot) own had = had
+    -- no name collides where each has one body
+    pub none_collides : (bodies now : Bodies) (name : Name) → Had id_of bodies objects now → HasOneBody id_of bodies objects → Collided id_of head text now name → ⊥
+    none_collides bodies now name had one collided =
+        let c = collided.collision in
+        let among : Contains collided.objects c.entry = subst (λ (es : List Entry). Contains es c.entry) (sym c.among) (Contains-append_right c.front (c.entry ∷ c.back) c.entry (contains_first c.entry c.back)) in
+        let makes = makes_body collided.objects collided.snapshot collided.means c.entry among in
+        c.differs (one.one name c.other c.entry.body (had name c.other c.held) (inr (subst (λ (n : Name). MakesBody id_of objects n c.entry.body) (sym c.named) makes)))
 
-      had_own : (by : ℕ) (origin : List ℕ) (number : ℕ) (a : Archive) (es : List Event) → AllByRecursion (IsOwn AllMade by origin number) es → Had id_of bodies objects a.bodies → Had id_of bodies objects (after_all a es).bodies
-      had_own by origin number a [] own had = had
-      had_own by origin number a (e ∷ es) own had = had_own by origin number (after a e) es own.1 (had_kind a e.by origin number e.what own.0.kind had)
+  -- what is held stays held, or was made
+  module _ (bodies : Bodies) where
+    makes_all : (entries : List Entry) → AreMade id_of objects entries → AllByRecursion (λ e. HasBody id_of bodies objects e.name e.body) entries
+    makes_all [] all = tt
+    makes_all (e ∷ entries) all = (inr all.0, makes_all entries all.1)
 
-      had_visit : (by : ℕ) (origin : List ℕ) (date number : ℕ) (a : Archive) (es : List Event) → AreOfVisit AllMade by origin date number es → Had id_of bodies objects a.bodies → Had id_of bodies objects (after_all a es).bodies
-      had_visit by origin date number a [] are had = had
-      had_visit by origin date number a (e ∷ es) are had =
-          had_own by origin number (after a e) es are.1 (subst (λ (x : Event). Had id_of bodies objects (after a x).bodies) (sym are.0) had)
+    had_kind : (a : Archive) (by : ℕ) (origin : List ℕ) (number : ℕ) (what : EventKind) → IsOwnKind (AreMade id_of objects) origin number what → Had id_of bodies objects a.bodies → Had id_of bodies objects (after_kind a by what).bodies
+    had_kind a by origin number (Batch entries) own had = added-all (HasBody id_of bodies objects) a.bodies entries had (makes_all entries own.1)
+    had_kind a by origin number (Open other kind date) own had = had
+    had_kind a by origin number (Mark other visit status snapshot) own had = had
 
-      -- which the archive holds after the load
-      pub had_after : (by : ℕ) (origin : List ℕ) (date : ℕ) (h h' : List Event) → IsHistory id_of h' → AddsVisit AllMade by origin date h h' → Had id_of bodies objects (replay h).bodies → Had id_of bodies objects (replay h').bodies
-      had_after by origin date h h' history adds had =
-          let parts = fronts id_of empty_archive h adds.more (subst (IsHistory id_of) adds.behind history) in
-          let grown : replay h' ≡ after_all (replay h) adds.more = ap replay adds.behind ∙ parts.2 in
-          subst (λ (a : Archive). Had id_of bodies objects a.bodies) (sym grown) (had_visit by origin date (next_visit h origin) (replay h) adds.more adds.are had)
+    had_own : (by : ℕ) (origin : List ℕ) (number : ℕ) (a : Archive) (es : List Event) → AllByRecursion (IsOwn (AreMade id_of objects) by origin number) es → Had id_of bodies objects a.bodies → Had id_of bodies objects (after_all a es).bodies
+    had_own by origin number a [] own had = had
+    had_own by origin number a (e ∷ es) own had = had_own by origin number (after a e) es own.1 (had_kind a e.by origin number e.what own.0.kind had)
 
-      -- so no name collides where each has one body
-      pub none_collides : (now : Bodies) (name : Name) → Had id_of bodies objects now → HasOneBody id_of bodies objects → Collided id_of head text now name → ⊥
-      none_collides now name had one collided =
-          let c = collided.collision in
-          let among : Contains collided.objects c.entry = subst (λ (es : List Entry). Contains es c.entry) (sym c.among) (Contains-append_right c.front (c.entry ∷ c.back) c.entry (contains_first c.entry c.back)) in
-          let makes = makes_body collided.objects collided.snapshot collided.means c.entry among in
-          c.differs (one.one name c.other c.entry.body (had name c.other c.held) (inr (subst (λ (n : Name). MakesBody id_of objects n c.entry.body) (sym c.named) makes)))
+    had_visit : (by : ℕ) (origin : List ℕ) (date number : ℕ) (a : Archive) (es : List Event) → AreOfVisit (AreMade id_of objects) by origin date number es → Had id_of bodies objects a.bodies → Had id_of bodies objects (after_all a es).bodies
+    had_visit by origin date number a [] are had = had
+    had_visit by origin date number a (e ∷ es) are had =
+        had_own by origin number (after a e) es are.1 (subst (λ (x : Event). Had id_of bodies objects (after a x).bodies) (sym are.0) had)
+
+    -- which the archive holds after the load
+    pub had_after : (by : ℕ) (origin : List ℕ) (date : ℕ) (h h' : List Event) → IsHistory id_of h' → AddsVisit (AreMade id_of objects) by origin date h h' → Had id_of bodies objects (replay h).bodies → Had id_of bodies objects (replay h').bodies
+    had_after by origin date h h' history adds had =
+        let parts = fronts id_of empty_archive h adds.more (subst (IsHistory id_of) adds.behind history) in
+        let grown : replay h' ≡ after_all (replay h) adds.more = ap replay adds.behind ∙ parts.2 in
+        subst (λ (a : Archive). Had id_of bodies objects a.bodies) (sym grown) (had_visit by origin date (next_visit h origin) (replay h) adds.more adds.are had)

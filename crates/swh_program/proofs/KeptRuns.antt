@@ -7,7 +7,7 @@ use Rattle.swh_keeper.specs.Kept.{Kept}
 use Rattle.swh_jobs.specs.Job.{Job}
 use Rattle.swh_loader.specs.declared.end.Loaded.{Loaded}
 use Rattle.swh_loader.specs.declared.fault.LoadFault.{LoadFault}
-use Rattle.swh_pool.specs.Lines.{ended}
+use Rattle.swh_pool.specs.Lines.{ended, lines_of}
 use Rattle.swh_pool.specs.Loads.{AreLoaded}
 use Rattle.swh_pool.specs.Stops.{AreStops, HaveNoDiskFault}
 use Rattle.swh_pool.specs.declared.dated.DatedJob.{DatedJob}
@@ -17,7 +17,7 @@ use Rattle.swh_program.specs.Lines.{LoadedJob, dates, outcomes, ending_of_all}
 use Rattle.swh_program.specs.Loading.{AreKeptLoads, IsKeptRun}
 use Rattle.swh_program.specs.Telling.{TellsReport}
 use Rattle.swh_program.specs.declared.answer.Answer.{Answer}
-use Rattle.swh_program.specs.declared.answer.Answer.TheVariants.{Memory}
+use Rattle.swh_program.specs.declared.answer.Answer.TheVariants.{Told, Memory}
 use Rattle.swh_program.proofs.Inputs.{loaded_jobs, each_job, same_jobs, same_dates, same_outcomes, same_ended, url_and_outcome}
 use Rattle.swh_program.proofs.Endings.{raised, told_loads}
 use Rattle.swh_program.proofs.Calling.{calls_of}
@@ -58,8 +58,8 @@ module _ {S : Type 0} (id_of : Kind → List ℕ → List ℕ) (tells source_tel
         told = told_loads now ends all answer pairs as_told told;
       })
 
-  pub kept_run : {V E : Type 0} (items : V → List (Result Loaded LoadFault)) (loaded : Result V E) (answer : Answer) → IfOk loaded (λ v. AreLoaded id_of source_tells left faults path_of disks_tell file disk_faults 1 dated now old new (items v))
-      → IfOk loaded (λ v. AreStops (is_some old.wounded) (items v)) → IfOk loaded (λ v. (new.wounded ≡ None) ↔ ((old.wounded ≡ None) × HaveNoDiskFault (items v))) → OnErr loaded (new ≡ old)
-      → IfOk loaded (λ v. TellsReport now (items v) answer) → OnErr loaded (answer ≡ Memory) → Run answer
-  kept_run items (Ok v) answer are stops wounds same told memory = loaded_run (items v) answer are stops wounds told
-  kept_run items (Err e) answer are stops wounds same told memory = inr (inr memory, same)
+  pub kept_run : {V E : Type 0} (items : V → List (Result Loaded LoadFault)) (text : V → List ℕ) (loaded : Result V E) (answer : Answer) → IfOk loaded (λ v. AreLoaded id_of source_tells left faults path_of disks_tell file disk_faults 1 dated now old new (items v))
+      → IfOk loaded (λ v. AreStops (is_some old.wounded) (items v)) → IfOk loaded (λ v. (new.wounded ≡ None) ↔ ((old.wounded ≡ None) × HaveNoDiskFault (items v))) → IfOk loaded (λ v. text v ≡ lines_of (ended now (items v))) → OnErr loaded (new ≡ old)
+      → IfOk loaded (λ v. answer ≡ Told (text v) (ending_of_all (items v))) → OnErr loaded (answer ≡ Memory) → Run answer
+  kept_run items text (Ok v) answer are stops wounds lines same told memory = loaded_run (items v) answer are stops wounds (record { text = text v; text_is = lines; tells = told })
+  kept_run items text (Err e) answer are stops wounds lines same told memory = inr (inr memory, same)

@@ -26,3 +26,5 @@ pub mod Statuses
 pub mod Exacts
 pub mod LoadStatuses
 pub mod Naming
+pub mod Leaving
+pub mod Orders

@@ -12,11 +12,10 @@ use Rattle.swh_loader.proofs.Limiting.{at_element}
 use Rattle.swh_pool.specs.Stops.{is_fault, is_disk_fault, HaveNoDiskFault}
 use Rattle.swh_program.specs.Answers.{status_for, last_line_for}
 use Rattle.swh_program.specs.Causes.{ComesTo, IsFullEnd, IsFullLine, IsShortEnd, IsOtherStop, IsShortLine, HasShortLine}
-use Rattle.swh_program.specs.Lines.{ending_of_end, ending_of_why, ending_for, ending_of_all, ending_without, worse, LoadedJob}
+use Rattle.swh_program.specs.Lines.{ending_of_end, ending_of_why, ending_for, ending_of_all, worse}
 use Rattle.swh_program.specs.declared.answer.Ending.{Ending}
 use Rattle.swh_program.specs.declared.answer.Ending.TheVariants as ending
 use Rattle.swh_program.proofs.Elements.{contains_first, contains_more}
-use Rattle.swh_program.proofs.Endings.{worse-done}
 
 -- a line is short where its load ended as wanting
 end_short : (end : End) → ending_of_end end ≡ ending.Wanting → IsShortEnd end
@@ -116,13 +115,6 @@ worse-by_disk ending.Wanting = refl
 worse-by_disk ending.OutsideDisk = refl
 worse-by_disk ending.Memory = refl
 
--- want of memory is told, unless a disk failed
-pub worse-by_memory : (a : Ending) → 4 ≤ status_for (worse a ending.Memory)
-worse-by_memory ending.Done = omega arith
-worse-by_memory ending.Wanting = omega arith
-worse-by_memory ending.OutsideDisk = omega arith
-worse-by_memory ending.Memory = omega arith
-
 -- both are done where the worse is
 pub both_done : (a b : Ending) → worse a b ≡ ending.Done → (a ≡ ending.Done) × (b ≡ ending.Done)
 both_done ending.Done b e = (refl, e)
@@ -199,8 +191,3 @@ module _ (o : Result Loaded LoadFault) (os : List (Result Loaded LoadFault)) (ap
 pub no_disk_faults : (os : List (Result Loaded LoadFault)) → (ending_of_all os ≡ ending.OutsideDisk → ⊥) → HaveNoDiskFault os
 no_disk_faults [] apart = tt
 no_disk_faults (o ∷ os) apart = (no_disk_fault o (first_apart o os apart), no_disk_faults os (others_apart o os apart))
-
--- no line is missing where it ended with neither
-pub none_missing : (all end : Ending) (missing : List LoadedJob) → end ≡ worse all (ending_without missing) → status_for end < 2 → (missing ≡ []) × (end ≡ all)
-none_missing all end [] is less = (refl, is ∙ worse-done all)
-none_missing all end (l ∷ missing) is less = let more = worse-by_memory all in let same = ap status_for is in absurd (omega (arith, same, more, less))

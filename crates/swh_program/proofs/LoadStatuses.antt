@@ -11,7 +11,7 @@ use Rattle.swh_model.specs.Step.{replay}
 use Rattle.swh_program.specs.Answers.{status_of, status_for, printed_by, IsPrinted}
 use Rattle.swh_program.specs.Causes.{ComesTo, IsExactly, IsUnusable, IsFullLine, HasShortLine, IsByLines, IsBadInput}
 use Rattle.swh_program.specs.Jobs.{FileAt, AreJobsAt, IsBadAt, IsJobRefusal, bad_job_line}
-use Rattle.swh_program.specs.Lines.{LoadedJob, outcomes, load_line, ending_of_all, ending_without, TellsLoads}
+use Rattle.swh_program.specs.Lines.{LoadedJob, outcomes, load_line, ending_of_all, TellsLoads}
 use Rattle.swh_program.specs.Load.{AreLoadedJobs, IsUnloaded, IsLoadedOrNot, LoadEnds, IsNoJobsRun}
 use Rattle.swh_program.specs.Opening.{IsArchive, IsOpenRefusal, OpenEnds}
 use Rattle.swh_program.specs.declared.answer.Ending.{Ending}
@@ -21,7 +21,7 @@ use Rattle.swh_program.specs.declared.answer.Answer.TheVariants.{Made, Told, Wor
 use Rattle.swh_program.proofs.Archived.{one_archive, usable, opening_of_archive}
 use Rattle.swh_program.proofs.BadInputs.{bad_undone}
 use Rattle.swh_program.proofs.Completes.{Tells}
-use Rattle.swh_program.proofs.LoadEndings.{one_done, one_wanting, told_status, line_alone, undone, both_done, all_full, full_all, one_short, short_undone, none_missing}
+use Rattle.swh_program.proofs.LoadEndings.{one_done, one_wanting, told_status, line_alone, undone, all_full, full_all, one_short, short_undone}
 use Rattle.swh_program.proofs.Exacts.{refusal_only, refusal_comes}
 use Rattle.swh_program.proofs.JobRefusals.{IsRefusedBy, one_list, jobs_or_none, jobs_or_bad, refused_by, refusal_of_jobs, refusal_of_bad}
 use Rattle.swh_program.proofs.LoadAnswers.{told_of, unloaded_cases}
@@ -50,18 +50,11 @@ module _ (loads : List LoadedJob) where
     pub short : IsExactly 1 (HasShortLine (outcomes loads)) (status_of answer)
 
   lines_told : (text : List ℕ) (end : Ending) → TellsLoads loads text end → status_for end < 2 → IsLinesTold (Told text end)
-  lines_told text end tells less =
-      let none = none_missing (ending_of_all (outcomes loads)) end tells.missing tells.end_is less in
-      let shown : tells.shown ≡ loads = sym (append-nil tells.shown) ∙ ap (λ (ls : List LoadedJob). tells.shown ++ ls) (sym none.0) ∙ sym tells.are in
-      record {
-        lines = line_alone text end less ∙ tells.text_is ∙ ap (λ (ls : List LoadedJob). flat_map load_line ls) shown;
-        full = exact_full end none.1;
-        short = exact_short end none.1;
-      }
+  lines_told text end tells less = record { lines = line_alone text end less ∙ tells.text_is; full = exact_full end tells.end_is; short = exact_short end tells.end_is }
 
   -- loads that are not all done
   not_done : (text : List ℕ) (end : Ending) → TellsLoads loads text end → (ending_of_all (outcomes loads) ≡ ending.Done → ⊥) → ComesTo 1 (status_for end)
-  not_done text end tells apart = undone end (λ e. apart (both_done (ending_of_all (outcomes loads)) (ending_without tells.missing) (sym tells.end_is ∙ e)).0)
+  not_done text end tells apart = undone end (λ e. apart (sym tells.end_is ∙ e))
 
 -- a refused job file
 no_job_status : (answer : Answer) → IsJobRefusal answer → (status_of answer ≡ 2) ⊎ (4 ≤ status_of answer)

@@ -21,14 +21,13 @@ use Rattle.swh_loader.specs.Calls.{all_calls, kept_files, BreaksAt, MakesCalls}
 use Rattle.swh_pool.specs.Stops.{HaveNoDiskFault}
 use Rattle.swh_program.specs.Jobs.{FileAt}
 use Rattle.swh_program.specs.Opening.{IsArchive, IsOnlyOpened, IsOpenRefusal, OpenEnds}
-use Rattle.swh_program.specs.Lines.{LoadedJob, outcomes, ending_of_all, ending_without, TellsLoad}
+use Rattle.swh_program.specs.Lines.{LoadedJob, outcomes, ending_of_all, TellsLoad}
 use Rattle.swh_program.specs.Load.{TellsDisk, VisitsStay, LeavesDisks, IsNextOf, AreJobLoads, MakesRunCalls, IsLoad, IsLoadedOrNot, IsUnloaded}
 use Rattle.swh_program.specs.Loading.{IsUnstarted, AreKeptLoads, IsKeptRun}
 use Rattle.swh_program.specs.declared.answer.Ending.TheVariants as ending
 use Rattle.swh_program.specs.declared.answer.Answer.{Answer}
 use Rattle.swh_program.specs.declared.answer.Answer.TheVariants.{Made, Told, Words, NoJobFile, BadJob, AlreadyMade, NotMade, Damaged, OutsideDisk, OutsideSource, OutsideClock, Memory}
 use Rattle.swh_program.proofs.Inputs.{rose_since}
-use Rattle.swh_program.proofs.Endings.{worse_disk}
 
 -- What was held by a front of a history is held by the whole.
 module _ (id_of : Kind → List ℕ → List ℕ) (before more after : List Event) (behind : after ≡ before ++ more) (history : IsHistory id_of after) where
@@ -49,16 +48,10 @@ wounded_by : (w : Option ℕ) → (w ≡ None → ⊥) → (n : ℕ) × (w ≡ S
 wounded_by (Some n) some = (n, refl)
 wounded_by None some = absurd (some refl)
 
-no_disk_without : (missing : List LoadedJob) → ending_without missing ≡ ending.OutsideDisk → ⊥
-no_disk_without [] e = let f : ending.Done ≡ ending.OutsideDisk = e in cc
-no_disk_without (l ∷ missing) e = let f : ending.Memory ≡ ending.OutsideDisk = e in cc
-
 -- an answer that tells of a disk tells loads of which one does
 told_disk : (loads : List LoadedJob) (answer : Answer) → TellsLoad loads answer → TellsDisk answer → ending_of_all (outcomes loads) ≡ ending.OutsideDisk
 told_disk loads Made told is = absurd told
-told_disk loads (Told text end) told is =
-    ⊎_elim (λ (e : ending_of_all (outcomes loads) ≡ ending.OutsideDisk). e) (λ (e : ending_without told.missing ≡ ending.OutsideDisk). absurd (no_disk_without told.missing e))
-    (worse_disk (ending_of_all (outcomes loads)) (ending_without told.missing) (sym told.end_is ∙ is))
+told_disk loads (Told text end) told is = sym told.end_is ∙ is
 told_disk loads Words told is = absurd told
 told_disk loads NoJobFile told is = absurd told
 told_disk loads (BadJob text) told is = absurd told
@@ -130,7 +123,8 @@ module _ (id_of : Kind → List ℕ → List ℕ) (tells : Type 0) (input_at : F
         }
 
     unstarted : (answer : Answer) → IsUnstarted answer → (disks_tell → IsOnlyOpened old new) → IsUnloaded id_of disks_tell old new answer
-    unstarted answer (inl clock) only = subst (IsUnloaded id_of disks_tell old new) (sym clock) only
+    unstarted answer (inl clock) only =
+        subst (IsUnloaded id_of disks_tell old new) (sym clock) (λ t. record { history = was.history; archive = archive t; opened = only t })
     unstarted answer (inr memory) only = subst (IsUnloaded id_of disks_tell old new) (sym memory) (tt, λ t. inr (only t))
 
     pub run_files : (time_tells : Type 0) (time : ℕ → ℕ) (jobs : List Job) (answer : Answer) → IsKeptRun id_of tells input_at failures failures_now keeper_tells file faults time_tells time was now jobs answer

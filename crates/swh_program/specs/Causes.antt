@@ -1,5 +1,5 @@
 -- Which status comes of what.
-use Rattle.std.specs.Prelude.{◌≡◌, ◌≢◌, ◌⊎◌, ◌++◌, ℕ, Option, Some, None, Result, Ok, Err, List, Contains, map, flat_map}
+use Rattle.std.specs.Prelude.{◌≡◌, ◌⊎◌, ◌++◌, ℕ, Option, Some, None, Result, Ok, Err, List, Contains, map, flat_map}
 use Rattle.std.specs.List.{AllByRecursion}
 use Rattle.swh_base.specs.declared.kind.Kind.{Kind}
 use Rattle.swh_base.specs.declared.name.Name.{Name}
@@ -7,7 +7,7 @@ use Rattle.swh_outside.specs.Faults.{Rose}
 use Rattle.swh_outside.specs.Files.{Files}
 use Rattle.swh_segment.specs.Making.{IsMade, IsNotMade}
 use Rattle.swh_model.specs.Archive.{Bodies}
-use Rattle.swh_model.specs.Meaning.{Making, IsMeaning, IsLeftOut}
+use Rattle.swh_model.specs.Meaning.{IsLeftOut}
 use Rattle.swh_jobs.specs.Job.{Job}
 use Rattle.swh_jobs.specs.declared.fault.JobWhy.{JobWhy}
 use Rattle.swh_loader.specs.declared.end.End.{End}
@@ -17,7 +17,7 @@ use Rattle.swh_loader.specs.declared.fault.LoadWhy.{LoadWhy}
 use Rattle.swh_loader.specs.declared.fault.LoadWhy.TheVariants as why
 use Rattle.swh_loader.specs.declared.fault.LoadFault.{LoadFault}
 use Rattle.swh_program.specs.Archives.{Folders, archive_at}
-use Rattle.swh_program.specs.Complete.{HasBody}
+use Rattle.swh_program.specs.Exact.{MeansCollision}
 use Rattle.swh_program.specs.Jobs.{FileAt, AreJobsAt, IsBadAt}
 use Rattle.swh_program.specs.Lines.{LoadedJob, outcomes, load_line}
 use Rattle.swh_program.specs.Load.{TellsDisk, IsLoad}
@@ -108,15 +108,8 @@ module _ (id_of : Kind → List ℕ → List ℕ) (inputs_tell : Type 0) (input_
     pub short : IsExactly 1 (HasShortLine (outcomes loads)) status
 
 -- Under some name this input, with this head or none, would put a second body.
-pub record HasTwoBodies (id_of : Kind → List ℕ → List ℕ) (head : Option (List ℕ)) (bodies : Bodies) (text : List ℕ) : Type 0 where
-  pub making : Making
-  pub means : IsMeaning id_of head text making
-  pub name : Name
-  pub a : List ℕ
-  pub b : List ℕ
-  pub has_a : HasBody id_of bodies making.objects name a
-  pub has_b : HasBody id_of bodies making.objects name b
-  pub apart : a ≢ b
+abbrev pub HasTwoBodies : (Kind → List ℕ → List ℕ) → Option (List ℕ) → Bodies → List ℕ → Type 0
+HasTwoBodies id_of head bodies text = (name : Name) × MeansCollision id_of head bodies text name
 
 -- The input is not there, means nothing with this head or none, or would put a second body under some name.
 abbrev pub IsBadInput : (Kind → List ℕ → List ℕ) → Option (List ℕ) → Bodies → Option (List ℕ) → Type 0

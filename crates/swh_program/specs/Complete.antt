@@ -1,4 +1,4 @@
--- When jobs have to be full, and their lines.
+-- When jobs have to be full, and their lines; what their inputs make, and the room that they need.
 use Rattle.std.specs.Prelude.{◌≡◌, ◌⊎◌, ℕ, Some, List, [], ◌∷◌, ◌++◌, Contains, map, flat_map, codes}
 use Rattle.std.specs.List.{AllByRecursion}
 use Rattle.swh_base.specs.declared.kind.Kind.{Kind}
@@ -39,10 +39,6 @@ full_lines before meant = flat_map (full_line before) meant
 abbrev pub all_made : List MeantJob → List Made
 all_made meant = flat_map (λ m. m.making.objects) meant
 
--- Each of these is among the objects that are made.
-abbrev pub AreMade : List Made → List Entry → Type 0
-AreMade objects entries = AllByRecursion (λ e. Contains objects (record { kind = e.name.kind; body = e.body })) entries
-
 module _ (id_of : Kind → List ℕ → List ℕ) where
   -- The job's input is there, and means this, with the job's head.
   pub record IsMeant (input_at : FileAt) (m : MeantJob) : Type 0 where
@@ -61,15 +57,24 @@ module _ (id_of : Kind → List ℕ → List ℕ) where
   abbrev pub HasBody : Bodies → List Made → Name → List ℕ → Type 0
   HasBody bodies objects name body = (body_of bodies name ≡ Some body) ⊎ MakesBody objects name body
 
+  -- Each of these is among the objects that are made, under its name.
+  abbrev pub AreMade : List Made → List Entry → Type 0
+  AreMade objects entries = AllByRecursion (λ e. MakesBody objects e.name e.body) entries
+
+  -- All that the inputs of these jobs make is among these objects.
+  pub record HasAllMade (input_at : FileAt) (jobs : List Job) (objects : List Made) : Type 0 where
+    pub has : (job : Job) (text : List ℕ) (making : Making) → Contains jobs job → input_at job.path ≡ Some text → IsMeaning id_of job.head text making
+        → (o : Made) → Contains making.objects o → Contains objects o
+
   -- No name has two bodies among those that are held and those that are made.
   pub record HasOneBody (bodies : Bodies) (objects : List Made) : Type 0 where
     pub one : (name : Name) (a b : List ℕ) → HasBody bodies objects name a → HasBody bodies objects name b → a ≡ b
 
-  -- There is room for each event that may come next in a load, begun behind the history at entry, of what an input
-  -- makes: behind the history that the files stand for afterwards, and behind each front of it.
-  pub record HasRoom (before : List Event) (meant : List MeantJob) (files : Files) : Type 0 where
-    pub room : (m : MeantJob) (date : ℕ) (earlier after later : List Event) (event : Event) → Contains meant m → IsArchive id_of files (after ++ later)
-        → AddsVisit (AreMade m.making.objects) loader m.job.url date (before ++ earlier) (after ++ event ∷ []) → May id_of (replay after) event
+  -- There is room for each event that may come next in a load, begun behind the history at entry, of what the inputs
+  -- make: behind the history that the files stand for afterwards, and behind each front of it.
+  pub record HasRoom (before : List Event) (jobs : List Job) (objects : List Made) (files : Files) : Type 0 where
+    pub room : (job : Job) (date : ℕ) (earlier after later : List Event) (event : Event) → Contains jobs job → IsArchive id_of files (after ++ later)
+        → AddsVisit (AreMade objects) loader job.url date (before ++ earlier) (after ++ event ∷ []) → May id_of (replay after) event
         → (which : Which) (number : ℕ) → FilePasses after event.what which number → ⊥
 
 -- None of the jobs' paths has failed.

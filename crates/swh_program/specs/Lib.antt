@@ -13,5 +13,7 @@ pub mod Lines
 pub mod Load
 pub mod Loading
 pub mod Complete
+pub mod Exact
 pub mod Causes
 pub mod Identify
+pub mod LeftAlone

@@ -1,5 +1,5 @@
 -- How loads end together, and the lines that tell them.
-use Rattle.std.specs.Prelude.{◌≡◌, ℕ, Result, Ok, Err, List, [], ◌∷◌, ◌++◌, map, flat_map}
+use Rattle.std.specs.Prelude.{◌≡◌, ℕ, Result, Ok, Err, List, [], ◌∷◌, map, flat_map}
 use Rattle.swh_jobs.specs.Job.{Job}
 use Rattle.swh_loader.specs.Report.{report_of}
 use Rattle.swh_loader.specs.declared.end.End.{End}
@@ -52,21 +52,13 @@ abbrev pub ending_of_all : List (Result Loaded LoadFault) → Ending
 ending_of_all [] = ending.Done
 ending_of_all (o ∷ more) = worse (ending_for o) (ending_of_all more)
 
--- memory ran out where lines are missing
-abbrev pub ending_without : List LoadedJob → Ending
-ending_without [] = ending.Done
-ending_without (l ∷ missing) = ending.Memory
-
 abbrev pub load_line : LoadedJob → List ℕ
 load_line l = report_of l.job.url l.outcome
 
--- The text is the lines of these loads, in their order, without the last ones where memory for them ran out.
+-- The text is the lines of these loads, in their order, and this is how they end together.
 pub record TellsLoads (loads : List LoadedJob) (text : List ℕ) (end : Ending) : Type 0 where
-  pub shown : List LoadedJob
-  pub missing : List LoadedJob
-  pub are : loads ≡ shown ++ missing
-  pub text_is : text ≡ flat_map load_line shown
-  pub end_is : end ≡ worse (ending_of_all (outcomes loads)) (ending_without missing)
+  pub text_is : text ≡ flat_map load_line loads
+  pub end_is : end ≡ ending_of_all (outcomes loads)
 
 -- the answer tells them
 abbrev pub TellsLoad : List LoadedJob → Answer → Type 0

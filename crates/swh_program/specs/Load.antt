@@ -103,9 +103,15 @@ module _ (id_of : Kind → List ℕ → List ℕ) (tells : Type 0) (input_at : F
     pub load : IsLoad disks_tell old new loads
     pub told : TellsLoad loads answer
 
--- No job was loaded: the archive is refused, or the clock failed, or memory ran out before.
+-- The files stood for a history, and nothing was done but a barrier on each.
+pub record IsOpenedArchive (id_of : Kind → List ℕ → List ℕ) (old new : Files) : Type 0 where
+  pub history : List Event
+  pub archive : IsArchive id_of old history
+  pub opened : IsOnlyOpened old new
+
+-- No job was loaded: the archive is refused, or the clock failed once it was opened, or memory ran out before.
 abbrev pub IsUnloaded : (Kind → List ℕ → List ℕ) → Type 0 → Files → Files → Answer → Type 0
-IsUnloaded id_of tells old new OutsideClock = tells → IsOnlyOpened old new
+IsUnloaded id_of tells old new OutsideClock = tells → IsOpenedArchive id_of old new
 IsUnloaded id_of tells old new answer = IsOpenRefusal answer × (tells → OpenEnds id_of old new answer)
 
 -- The jobs were loaded, or none was.

@@ -1,5 +1,7 @@
 // The command `identify`.
-ghost use Rattle.std.specs.Prelude.{◌≡◌, ◌≢◌, ◌≤◌, ℕ, List, Some, IfOk, codes};
+ghost use Rattle.std.specs.Prelude.{◌≡◌, ◌≢◌, ◌+◌, ◌<◌, ◌≤◌, ℕ, List, Some, IfOk, IsErrOf, length, codes};
+ghost use Rattle.swh_fastlex.specs.Whole.{IsWhole, GivesAtMost};
+ghost use Rattle.swh_fastlex.specs.declared.fault.SourceFault.TheVariants.{Failed, Limit};
 ghost use Rattle.swh_program.specs.Refusal.{refusal};
 ghost use Rattle.swh_base.specs.declared.kind.Kind.TheVariants.{Directory};
 ghost use Rattle.swh_outside.specs.Faults.{Rose};
@@ -14,7 +16,7 @@ use std::alloc::Global;
 use swh_base::{Bytes, Kind, Memory, Name, Namer};
 use swh_fastlex::{SourceFault, read_source_reserved};
 use swh_object::{Object, ObjectFault};
-use swh_outside::{Opened, Origins};
+use swh_outside::{Opened, Origins, Source};
 use swh_swhid::core_text;
 use swh_words::letters_of;
 
@@ -106,6 +108,19 @@ fn name_bytes<N: Namer>(alloc: Global, namer: &N, kind: Kind, bytes: Vec<u8>) ->
     }
 }
 
+// The bytes of a source that may be a body. No more than one byte above the limit is taken.
+fn read_body<S: Source>(alloc: Global, source: &mut S) -> Result<Vec<u8>, SourceFault>
+    ensures whole { S.tells → IfOk result (λ bytes. IsWhole (S.left source.old) (S.left source.new) bytes.items) }
+    ensures within { IfOk result (λ bytes. length bytes.items ≤ BODY_LIMIT) }
+    ensures over { S.tells → IsErrOf result Limit → BODY_LIMIT < length (S.left source.old) }
+    ensures given { S.tells → GivesAtMost (S.given source.old) (S.given source.new) (BODY_LIMIT + 1) }
+    ensures same_path { S.path source.new ≡ S.path source.old }
+    ensures later { S.faults source.old ≤ S.faults source.new }
+    ensures cause { IsErrOf result Failed → Rose (S.faults source.old) (S.faults source.new) }
+{
+    read_source_reserved(alloc, source, BODY_LIMIT)
+}
+
 /// Names the bytes of the file at a path as a body of this kind. A file of more bytes than a body may have is read no
 /// further than one byte above them.
 pub fn identify<N: Namer, O: Origins>(
@@ -131,7 +146,7 @@ pub fn identify<N: Namer, O: Origins>(
         Opened::Failed => return Answer::OutsideSource,
         Opened::Memory => return Answer::Memory,
     };
-    let read = read_source_reserved(alloc, &mut source, BODY_LIMIT);
+    let read = read_body(alloc, &mut source);
     desk.back(source);
     match read {
         Ok(bytes) => name_bytes(alloc, namer, kind, bytes),

@@ -1,5 +1,7 @@
 // Reads the job file of a run.
-ghost use Rattle.std.specs.Prelude.{◌≡◌, ◌≤◌, IfOk, IfErr};
+ghost use Rattle.std.specs.Prelude.{◌≡◌, ◌≢◌, ◌+◌, ◌≤◌, IfOk, IfErr, IsErrOf};
+ghost use Rattle.swh_fastlex.specs.Whole.{IsFront, GivesAtMost};
+ghost use Rattle.swh_fastlex.specs.declared.fault.SourceFault.TheVariants.{Failed, Limit};
 ghost use Rattle.swh_outside.specs.Faults.{Rose};
 ghost use Rattle.swh_jobs.specs.Answers.{jobs_of};
 ghost use Rattle.swh_jobs.specs.JobFile.{AreJobs, IsJobFile, IsFault};
@@ -10,9 +12,9 @@ use crate::Answer;
 use itoa::Buffer;
 use std::alloc::Global;
 use swh_base::{Bytes, Memory};
-use swh_fastlex::{SourceFault, read_front};
+use swh_fastlex::{SourceFault, WINDOW, read_front};
 use swh_jobs::{JobLine, JobWhy, JobsFault, LONGEST, parse_jobs};
-use swh_outside::{Opened, Origins};
+use swh_outside::{Opened, Origins, Source};
 
 fn word_of_why(why: JobWhy) -> &'static [u8]
     ensures { result.now ≡ why_word why }
@@ -61,6 +63,18 @@ fn jobs_of(alloc: Global, bytes: &[u8]) -> Result<Vec<JobLine>, Answer>
     }
 }
 
+// A front of a job file, longer than any is where it is not all of it. No more than a window above that length is taken.
+fn read_job_file<S: Source>(alloc: Global, source: &mut S) -> Result<Vec<u8>, SourceFault>
+    ensures front { S.tells → IfOk result (λ bytes. IsFront (S.left source.old) (S.left source.new) LONGEST bytes.items) }
+    ensures given { S.tells → GivesAtMost (S.given source.old) (S.given source.new) (LONGEST + WINDOW) }
+    ensures same_path { S.path source.new ≡ S.path source.old }
+    ensures later { S.faults source.old ≤ S.faults source.new }
+    ensures not_limit { IfErr result (λ fault. fault ≢ Limit) }
+    ensures cause { IsErrOf result Failed → Rose (S.faults source.old) (S.faults source.new) }
+{
+    read_front(alloc, source, LONGEST)
+}
+
 /// The jobs of the job file at a path. Of a longer file than any job file is, no more is read than shows its first line
 /// that breaks.
 pub fn read_jobs<O: Origins>(
@@ -81,7 +95,7 @@ pub fn read_jobs<O: Origins>(
         Opened::Failed => return Err(Answer::OutsideSource),
         Opened::Memory => return Err(Answer::Memory),
     };
-    let read = read_front(alloc, &mut source, LONGEST);
+    let read = read_job_file(alloc, &mut source);
     desk.back(source);
     match read {
         Ok(bytes) => jobs_of(alloc, &bytes),

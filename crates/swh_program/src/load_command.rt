@@ -6,6 +6,7 @@ ghost use Rattle.swh_jobs.specs.JobFile.{AreJobs};
 ghost use Rattle.swh_program.specs.Archives.{archive_at, SameElsewhere};
 ghost use Rattle.swh_program.specs.Load.{IsLoadedOrNot, TellsDisk, LoadEnds};
 ghost use Rattle.swh_program.specs.Loading.{IsKeptRun};
+ghost use Rattle.swh_program.specs.LeftAlone.{parts, IsArchiveRefusal, IsRefusedInOrder};
 ghost use Rattle.swh_program.specs.declared.answer.Answer.TheVariants.{OutsideSource, OutsideClock};
 
 use crate::answer::Answer;
@@ -53,7 +54,7 @@ fn load_lines<N: Namer, D: Disk, O: Origins, C: Clock, G: Gate>(
         gate,
         LOADER,
     );
-    let answer = tell_loaded(alloc, jobs.as_slice(), &loaded);
+    let answer = tell_loaded(loaded);
     give_all_back(origins, jobs);
     answer
 }
@@ -75,13 +76,15 @@ fn load_jobs<N: Namer, P: Depot, O: Origins, C: Clock, G: Gate>(
     ensures elsewhere { P.tells → SameElsewhere dir.now (P.files depot.old) (P.files depot.new) }
     ensures disk_cause { TellsDisk result → Rose (P.faults depot.old) (P.faults depot.new) }
     ensures clock_cause { result ≡ OutsideClock → Rose (C.faults clock.old) (C.faults clock.new) }
+    ensures origins_left { IsArchiveRefusal result → origins.new ≡ origins.old }
+    ensures clock_left { IsArchiveRefusal result → clock.new ≡ clock.old }
     ensures depot_later { P.faults depot.old ≤ P.faults depot.new }
     ensures clock_later { C.faults clock.old ≤ C.faults clock.new }
     ensures origins_later { O.faults origins.old ≤ O.faults origins.new }
 {
     let mut keeper = match open_archive(alloc, namer, depot, dir) {
         Ok(keeper) => keeper,
-        Err(answer) => return answer,
+        Err(refusal) => return refusal,
     };
     let answer = load_lines(alloc, &namer, &mut keeper, origins, clock, gate, lines);
     close_archive(depot, dir, keeper);
@@ -107,6 +110,7 @@ pub fn load<N: Namer, P: Depot, O: Origins, C: Clock, G: Gate>(
     ensures disk_cause { TellsDisk result → Rose (P.faults depot.old) (P.faults depot.new) }
     ensures source_cause { result ≡ OutsideSource → Rose (O.faults desk.old) (O.faults desk.new) }
     ensures clock_cause { result ≡ OutsideClock → Rose (C.faults clock.old) (C.faults clock.new) }
+    ensures left { IsRefusedInOrder (parts depot.old desk.old origins.old clock.old) (parts depot.new desk.new origins.new clock.new) result }
     ensures depot_later { P.faults depot.old ≤ P.faults depot.new }
     ensures desk_later { O.faults desk.old ≤ O.faults desk.new }
     ensures clock_later { C.faults clock.old ≤ C.faults clock.new }

@@ -1,15 +1,12 @@
 // What is told of loads.
-ghost use Rattle.std.specs.Prelude.{◌≡◌, IfOk, OnErr, length};
+ghost use Rattle.std.specs.Prelude.{◌≡◌, IfOk, OnErr};
 ghost use Rattle.swh_program.specs.Lines.{ending_of_end, ending_of_why, ending_for, ending_of_all, worse};
-ghost use Rattle.swh_program.specs.Telling.{ending_of_whole, TellsReport};
-ghost use Rattle.swh_program.specs.declared.answer.Answer.TheVariants.{Memory as OutOfMemory};
+ghost use Rattle.swh_program.specs.declared.answer.Answer.TheVariants.{Told, Memory as OutOfMemory};
 
 use crate::answer::{Answer, Ending};
-use std::alloc::Global;
 use swh_base::Memory;
 use swh_loader::{End, LoadFault, LoadWhy, Loaded};
-use swh_outside::Source;
-use swh_pool::{DatedJob, report_all};
+use swh_pool::Report;
 
 fn ending_of_end(end: End) -> Ending
     ensures { result ≡ ending_of_end end }
@@ -39,12 +36,6 @@ fn ending_of(outcome: Result<Loaded, LoadFault>) -> Ending
     }
 }
 
-fn ending_of_whole(whole: bool) -> Ending
-    ensures { result ≡ ending_of_whole whole }
-{
-    if whole { Ending::Done } else { Ending::Memory }
-}
-
 // The worse of two: a disk that failed, then want of memory, then a job that is not full.
 fn worse(a: Ending, b: Ending) -> Ending
     ensures { result ≡ worse a b }
@@ -67,35 +58,16 @@ fn worst_of(outcomes: &[Result<Loaded, LoadFault>]) -> Ending
     worst
 }
 
-// The answer that tells loads.
-fn tell_loads<S: Source>(
-    alloc: Global,
-    jobs: &[DatedJob<S>],
-    outcomes: &[Result<Loaded, LoadFault>],
-) -> Answer
-    requires { length outcomes.now ≡ length jobs.now }
-    ensures { TellsReport jobs.now outcomes.now result }
-{
-    let report = report_all(alloc, jobs, outcomes);
-    let ending = worse(worst_of(outcomes), ending_of_whole(report.whole));
-    Answer::Told {
-        text: report.text,
-        ending,
-    }
-}
-
 /// The answer that tells how loads ended, or that memory ran out before them.
-pub fn tell_loaded<S: Source>(
-    alloc: Global,
-    jobs: &[DatedJob<S>],
-    loaded: &Result<Vec<Result<Loaded, LoadFault>>, Memory>,
-) -> Answer
-    requires { IfOk loaded.now (λ outcomes. length outcomes.items ≡ length jobs.now) }
-    ensures told { IfOk loaded.now (λ outcomes. TellsReport jobs.now outcomes.items result) }
-    ensures memory { OnErr loaded.now (result ≡ OutOfMemory) }
+pub fn tell_loaded(loaded: Result<Report, Memory>) -> Answer
+    ensures told { IfOk loaded (λ report. result ≡ Told report.text (ending_of_all report.outcomes.items)) }
+    ensures memory { OnErr loaded (result ≡ OutOfMemory) }
 {
     match loaded {
-        Ok(outcomes) => tell_loads(alloc, jobs, outcomes),
+        Ok(Report { outcomes, text }) => {
+            let ending = worst_of(&outcomes);
+            Answer::Told { text, ending }
+        }
         Err(_) => Answer::Memory,
     }
 }

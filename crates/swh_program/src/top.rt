@@ -4,6 +4,7 @@ ghost use Rattle.swh_outside.specs.Faults.{Rose};
 ghost use Rattle.swh_base.specs.declared.kind.Kind.{Kind};
 ghost use Rattle.swh_model.specs.declared.event.Event.{Event};
 ghost use Rattle.swh_model.specs.Answer.{ReplyText};
+ghost use Rattle.swh_model.specs.Meaning.{Made as MadeObject};
 ghost use Rattle.swh_jobs.specs.Job.{Job};
 ghost use Rattle.swh_jobs.specs.declared.fault.JobWhy.{JobWhy};
 ghost use Rattle.swh_model.specs.Step.{replay};
@@ -18,8 +19,10 @@ ghost use Rattle.swh_program.specs.Ask.{Asks, AreReplies, HasShortReply, reply_l
 ghost use Rattle.swh_program.specs.Identify.{name_of, name_line, IsBody, HasNoBody, Identifies};
 ghost use Rattle.swh_program.specs.Opening.{IsArchive};
 ghost use Rattle.swh_program.specs.Jobs.{AreJobsAt, IsBadAt, bad_job_line};
-ghost use Rattle.swh_program.specs.Complete.{MeantJob, jobs_of, full_lines, all_made, AreMeant, HasOneBody, HasRoom, AreQuiet};
-ghost use Rattle.swh_program.specs.Causes.{ComesTo, IsExactly, IsDeskTold, HasNoJob, HasOtherArchive, IsByLines, IsBadInput, NamesFailed};
+ghost use Rattle.swh_program.specs.Complete.{MeantJob, jobs_of, full_lines, all_made, AreMeant, HasAllMade, HasOneBody, HasRoom, AreQuiet};
+ghost use Rattle.swh_program.specs.Exact.{IsExact};
+ghost use Rattle.swh_program.specs.Causes.{ComesTo, IsExactly, IsDeskTold, HasNoJob, HasOtherArchive, IsByLines, IsBadInput, IsUnusable, NamesFailed};
+ghost use Rattle.swh_program.specs.LeftAlone.{parts, IsLeftAlone};
 ghost use Rattle.swh_program.specs.Run.{IsStatus, IsNoCommand, Ends, IsQuiet, IsPrintedWith, IsPrintedUnlessFailed, replies_status};
 ghost use Rattle.swh_program.specs.declared.answer.Answer.TheVariants.{Made, Words, Memory};
 
@@ -51,7 +54,7 @@ fn carry_out<N: Namer, P: Depot, O: Origins, C: Clock, G: Gate>(
     ensures named { NamesFailed (P.faults depot.old) (P.faults depot.new) (O.faults desk.old) (O.faults desk.new) (C.faults clock.old) (C.faults clock.new) result }
     ensures identify { (kind : Kind) (path : List ℕ) → wanted_by command.now ≡ ToIdentify kind path
         → Identifies N.id_of kind O.tells (O.file_at desk.old) path (O.faults desk.old) (O.faults desk.new) result }
-    ensures identify_depot { (kind : Kind) (path : List ℕ) → wanted_by command.now ≡ ToIdentify kind path → depot.new ≡ depot.old }
+    ensures left { IsLeftAlone (parts depot.old desk.old origins.old clock.old) (parts depot.new desk.new origins.new clock.new) (wanted_by command.now) result }
     ensures depot_later { P.faults depot.old ≤ P.faults depot.new }
     ensures desk_later { O.faults desk.old ≤ O.faults desk.new }
     ensures origins_later { O.faults origins.old ≤ O.faults origins.new }
@@ -79,10 +82,7 @@ fn obey<N: Namer, P: Depot, O: Origins, C: Clock, G: Gate>(
     gate: &G,
 ) -> Answer
     ensures refused { IsNoCommand (map string_bytes words.now) → (result ≡ Words) ⊎ (result ≡ Memory) }
-    ensures same_depot { IsNoCommand (map string_bytes words.now) → depot.new ≡ depot.old }
-    ensures same_desk { IsNoCommand (map string_bytes words.now) → desk.new ≡ desk.old }
-    ensures same_origins { IsNoCommand (map string_bytes words.now) → origins.new ≡ origins.old }
-    ensures same_clock { IsNoCommand (map string_bytes words.now) → clock.new ≡ clock.old }
+    ensures untouched { IsNoCommand (map string_bytes words.now) → parts depot.new desk.new origins.new clock.new ≡ parts depot.old desk.old origins.old clock.old }
     ensures init { (dir : List ℕ) → IsCommand (map string_bytes words.now) (ToInit dir)
         → Inits dir P.tells (P.files depot.old) (P.files depot.new) (P.faults depot.old) (P.faults depot.new) result }
     ensures load { (dir jobs : List ℕ) → IsCommand (map string_bytes words.now) (ToLoad dir jobs)
@@ -93,7 +93,8 @@ fn obey<N: Namer, P: Depot, O: Origins, C: Clock, G: Gate>(
     ensures named { NamesFailed (P.faults depot.old) (P.faults depot.new) (O.faults desk.old) (O.faults desk.new) (C.faults clock.old) (C.faults clock.new) result }
     ensures identify { (kind : Kind) (path : List ℕ) → IsCommand (map string_bytes words.now) (ToIdentify kind path)
         → Identifies N.id_of kind O.tells (O.file_at desk.old) path (O.faults desk.old) (O.faults desk.new) result }
-    ensures identify_depot { (kind : Kind) (path : List ℕ) → IsCommand (map string_bytes words.now) (ToIdentify kind path) → depot.new ≡ depot.old }
+    ensures left { (wanted : Wanted) → IsCommand (map string_bytes words.now) wanted
+        → IsLeftAlone (parts depot.old desk.old origins.old clock.old) (parts depot.new desk.new origins.new clock.new) wanted result }
     ensures depot_later { P.faults depot.old ≤ P.faults depot.new }
     ensures desk_later { O.faults desk.old ≤ O.faults desk.new }
     ensures origins_later { O.faults origins.old ≤ O.faults origins.new }
@@ -120,10 +121,8 @@ pub fn run<R, N: Namer, P: Depot, O: Origins, Y: Yard, K: Sink, C: Clock, D: Doo
     // Words that are no command touch nothing, and are told, unless memory runs out.
     ensures refused { IsNoCommand (map string_bytes words.now)
         → Ends (λ answer. (answer ≡ Words) ⊎ (answer ≡ Memory)) K.tells (K.taken world.old.sink) (K.taken world.new.sink) (K.faults world.old.sink) (K.faults world.new.sink) result }
-    ensures same_depot { IsNoCommand (map string_bytes words.now) → world.new.depot ≡ world.old.depot }
-    ensures same_desk { IsNoCommand (map string_bytes words.now) → world.new.desk ≡ world.old.desk }
-    ensures same_origins { IsNoCommand (map string_bytes words.now) → world.new.origins ≡ world.old.origins }
-    ensures same_clock { IsNoCommand (map string_bytes words.now) → world.new.clock ≡ world.old.clock }
+    ensures untouched { IsNoCommand (map string_bytes words.now)
+        → parts world.new.depot world.new.desk world.new.origins world.new.clock ≡ parts world.old.depot world.old.desk world.old.origins world.old.clock }
 
     ensures init { (dir : List ℕ) → IsCommand (map string_bytes words.now) (ToInit dir)
         → Ends (Inits dir P.tells (P.files world.old.depot) (P.files world.new.depot) (P.faults world.old.depot) (P.faults world.new.depot))
@@ -141,7 +140,15 @@ pub fn run<R, N: Namer, P: Depot, O: Origins, Y: Yard, K: Sink, C: Clock, D: Doo
     ensures identify { (kind : Kind) (path : List ℕ) → IsCommand (map string_bytes words.now) (ToIdentify kind path)
         → Ends (Identifies N.id_of kind O.tells (O.file_at world.old.desk) path (O.faults world.old.desk) (O.faults world.new.desk))
         K.tells (K.taken world.old.sink) (K.taken world.new.sink) (K.faults world.old.sink) (K.faults world.new.sink) result }
-    ensures identify_depot { (kind : Kind) (path : List ℕ) → IsCommand (map string_bytes words.now) (ToIdentify kind path) → world.new.depot ≡ world.old.depot }
+
+    // What a command has no use for is as it was.
+    ensures left { (wanted : Wanted) → IsCommand (map string_bytes words.now) wanted
+        → Ends (IsLeftAlone (parts world.old.depot world.old.desk world.old.origins world.old.clock) (parts world.new.depot world.new.desk world.new.origins world.new.clock) wanted)
+        K.tells (K.taken world.old.sink) (K.taken world.new.sink) (K.faults world.old.sink) (K.faults world.new.sink) result }
+    ensures same_namer { world.new.namer ≡ world.old.namer }
+    ensures same_yard { world.new.yard ≡ world.old.yard }
+    ensures same_doors { world.new.doors ≡ world.old.doors }
+    ensures same_gate { world.new.gate ≡ world.old.gate }
 
     // 2: the words are no command, or the job file is not there or has a line that breaks, and then that line is named.
     ensures no_command { IsNoCommand (map string_bytes words.now) → ComesTo 2 result }
@@ -152,6 +159,16 @@ pub fn run<R, N: Namer, P: Depot, O: Origins, Y: Yard, K: Sink, C: Clock, D: Doo
     // 3: the archive is not as the command needs it.
     ensures other_archive { (wanted : Wanted) → IsCommand (map string_bytes words.now) wanted → IsDeskTold O.tells wanted → P.tells
         → IsExactly 3 (HasOtherArchive N.id_of (P.files world.old.depot) (O.file_at world.old.desk) wanted) result }
+
+    // Of several causes against a load the first is told: the job file's before the archive's, and the archive's before
+    // the clock's.
+    ensures job_first { (dir path : List ℕ) → IsCommand (map string_bytes words.now) (ToLoad dir path) → O.tells
+        → HasNoJob (O.file_at world.old.desk) (ToLoad dir path) → result ≡ 4
+        → Rose (O.faults world.old.desk) (O.faults world.new.desk) ⊎ Rose (K.faults world.old.sink) (K.faults world.new.sink) }
+    ensures archive_first { (dir path : List ℕ) → IsCommand (map string_bytes words.now) (ToLoad dir path) → O.tells → P.tells
+        → IsUnusable N.id_of (archive_at (P.files world.old.depot) dir) → result ≡ 4
+        → Rose (P.faults world.old.depot) (P.faults world.new.depot) ⊎ Rose (O.faults world.old.desk) (O.faults world.new.desk)
+        ⊎ Rose (K.faults world.old.sink) (K.faults world.new.sink) }
 
     // 1: a reply is not 200, a line is neither full nor stopped by a disk or by memory, or no body stands at a path.
     ensures short_reply { (dir : List ℕ) (paths : List (List ℕ)) (h : List Event) (replies : List ReplyText) → IsCommand (map string_bytes words.now) (ToAsk dir paths) → P.tells
@@ -183,12 +200,22 @@ pub fn run<R, N: Namer, P: Depot, O: Origins, Y: Yard, K: Sink, C: Clock, D: Doo
         → IsQuiet (P.faults world.old.depot) (P.faults world.new.depot) → IsQuiet (K.faults world.old.sink) (K.faults world.new.sink)
         → IsPrintedWith (flat_map reply_line replies) (replies_status replies) K.tells (K.taken world.old.sink) (K.taken world.new.sink) result }
 
+    // Each job's line is the one that the archive and its input call for, or tells a read that failed, which it does only
+    // where the job's path has failed; unless memory runs out, where no name has two bodies, the files have room, and
+    // neither a disk nor the desk nor the clock failed.
+    ensures exact_lines { (dir path : List ℕ) (before : List Event) (jobs : List Job) (objects : List MadeObject) → IsCommand (map string_bytes words.now) (ToLoad dir path) → P.tells → O.tells
+        → IsArchive N.id_of (archive_at (P.files world.old.depot) dir) before → AreJobsAt (O.file_at world.old.desk) path jobs → HasAllMade N.id_of (O.file_at world.old.origins) jobs objects
+        → HasOneBody N.id_of (replay before).bodies objects → HasRoom N.id_of before jobs objects (archive_at (P.files world.new.depot) dir)
+        → IsQuiet (P.faults world.old.depot) (P.faults world.new.depot) → IsQuiet (O.faults world.old.desk) (O.faults world.new.desk) → IsQuiet (C.faults world.old.clock) (C.faults world.new.clock)
+        → Ends (IsExact N.id_of (O.file_at world.old.origins) (O.path_faults world.old.origins) (O.path_faults world.new.origins) (replay before) jobs)
+        K.tells (K.taken world.old.sink) (K.taken world.new.sink) (K.faults world.old.sink) (K.faults world.new.sink) result }
+
     // Jobs whose inputs are there and mean something are loaded in full, unless memory runs out, where no name has two
     // bodies, the files have room, and no part of the outside failed.
     ensures complete_load { (dir path : List ℕ) (before : List Event) (meant : List MeantJob) → IsCommand (map string_bytes words.now) (ToLoad dir path) → P.tells → O.tells
         → IsArchive N.id_of (archive_at (P.files world.old.depot) dir) before → AreJobsAt (O.file_at world.old.desk) path (jobs_of meant)
         → AreMeant N.id_of (O.file_at world.old.origins) meant
-        → HasOneBody N.id_of (replay before).bodies (all_made meant) → HasRoom N.id_of before meant (archive_at (P.files world.new.depot) dir)
+        → HasOneBody N.id_of (replay before).bodies (all_made meant) → HasRoom N.id_of before (jobs_of meant) (all_made meant) (archive_at (P.files world.new.depot) dir)
         → IsQuiet (P.faults world.old.depot) (P.faults world.new.depot) → IsQuiet (O.faults world.old.desk) (O.faults world.new.desk)
         → AreQuiet (O.path_faults world.old.origins) (O.path_faults world.new.origins) meant
         → IsQuiet (C.faults world.old.clock) (C.faults world.new.clock) → IsQuiet (K.faults world.old.sink) (K.faults world.new.sink)
@@ -206,6 +233,9 @@ pub fn run<R, N: Namer, P: Depot, O: Origins, Y: Yard, K: Sink, C: Clock, D: Doo
     ensures desk_later { O.faults world.old.desk ≤ O.faults world.new.desk }
     ensures origins_later { O.faults world.old.origins ≤ O.faults world.new.origins }
     ensures clock_later { C.faults world.old.clock ≤ C.faults world.new.clock }
+    ensures yard_later { Y.Sink.faults world.old.yard ≤ Y.Sink.faults world.new.yard }
+    ensures sink_later { K.faults world.old.sink ≤ K.faults world.new.sink }
+    ensures doors_later { D.faults world.old.doors ≤ D.faults world.new.doors }
 {
     let answer = obey(
         alloc,

@@ -52,19 +52,20 @@ fn the_first_run(rt: HostRuntime) -> Result<(), Fail> {
     Ok(())
 }
 
+/// Two visits, and its four objects once.
 #[test]
 fn a_stream_is_loaded_twice(rt: HostRuntime) -> Result<(), Fail> {
     let alloc = rt.alloc();
-    let mut world = world_of(alloc, job(), b"")?;
+    let mut world = world_of(alloc, job(), stream())?;
     assert_eq!(rt; run_words(alloc, &["load", "A", "J"], &mut world)?, 0);
     assert_eq!(rt; run_words(alloc, &["load", "A", "J"], &mut world)?, 0);
     let unknown = "/api/1/origin/https://none.example/visits/";
     assert_eq!(rt; run_words(alloc, &["ask", "A", unknown], &mut world)?, 1);
     assert_eq!(rt;
         world.sink.bytes(),
-        b"made\nhttps://e.org/p\t1\tfull\tswh:1:snp:1a8893e6a86f444e8be8e7bda6cb34fb1735a00e\nhttps://e.org/p\t2\tfull\tswh:1:snp:1a8893e6a86f444e8be8e7bda6cb34fb1735a00e\n404 21\n{\"error\":\"not found\"}\n".as_slice()
+        b"made\nhttps://e.org/p\t1\tfull\tswh:1:snp:5036c2b4a676f9dad60fbaed431ca21ecdec56ff\nhttps://e.org/p\t2\tfull\tswh:1:snp:5036c2b4a676f9dad60fbaed431ca21ecdec56ff\n404 21\n{\"error\":\"not found\"}\n".as_slice()
     );
-    assert_eq!(rt; world.depot.bytes("A", 1).len(), 29);
+    assert_eq!(rt; world.depot.bytes("A", 1), store_of_one_load());
     Ok(())
 }
 
@@ -206,30 +207,47 @@ fn a_failing_sink_is_the_answer(rt: HostRuntime) -> Result<(), Fail> {
     Ok(())
 }
 
-// Says whether a disk that fails stops the load, and the archive is opened afterwards.
-fn is_stopped(alloc: Global, ledger: &[u64], store: &[u64]) -> Result<bool, AllocError> {
+// Says whether a disk that fails is told so, and the archive is opened afterwards.
+fn is_stopped(
+    alloc: Global,
+    told: &[u8],
+    ledger: &[u64],
+    store: &[u64],
+) -> Result<bool, AllocError> {
     let mut world = world_of(alloc, job(), stream())?;
     lay_failing(alloc, &mut world, b"SWHARC1\n\0", ledger, store)?;
     let ended = run_words(alloc, &["load", "A", "J"], &mut world)?;
-    let told = world
-        .sink
-        .bytes()
-        .ends_with(b"\tstopped\tdisk\nswharc: outside disk\n");
+    let is_told = world.sink.bytes().ends_with(told);
     let counted = world.depot.faults() > 0;
     let asked = run_words(alloc, &["ask", "A", VISITS], &mut world)?;
-    Ok(ended == 4 && told && counted && asked < 2)
+    Ok(ended == 4 && is_told && counted && asked < 2)
 }
 
+/// Opening makes a barrier on each file, and reads its length and its bytes.
+#[test]
+fn each_device_call_of_opening_fails_in_turn(rt: HostRuntime) -> Result<(), Fail> {
+    let alloc = rt.alloc();
+    let told = b"made\nswharc: outside disk\n".as_slice();
+    for call in 0..3 {
+        assert!(rt; is_stopped(alloc, told, &[call], &[])?);
+    }
+    for call in 0..2 {
+        assert!(rt; is_stopped(alloc, told, &[], &[call])?);
+    }
+    Ok(())
+}
+
+/// Behind the opening each of four events writes its record and its gate, with a barrier behind each; the batch writes
+/// its run before, and a barrier.
 #[test]
 fn each_device_call_fails_in_turn(rt: HostRuntime) -> Result<(), Fail> {
     let alloc = rt.alloc();
-    // Opening makes a barrier on each file, and reads its length and its bytes. Each of four events then writes its
-    // record and its gate, with a barrier behind each; the batch writes its run before, and a barrier.
+    let told = b"\tstopped\tdisk\nswharc: outside disk\n".as_slice();
     for call in 3..19 {
-        assert!(rt; is_stopped(alloc, &[call], &[])?);
+        assert!(rt; is_stopped(alloc, told, &[call], &[])?);
     }
     for call in 2..4 {
-        assert!(rt; is_stopped(alloc, &[], &[call])?);
+        assert!(rt; is_stopped(alloc, told, &[], &[call])?);
     }
     Ok(())
 }

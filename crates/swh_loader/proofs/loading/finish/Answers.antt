@@ -3,9 +3,11 @@ use Rattle.swh_loader.specs.declared.end.End.TheVariants.{Full, Failed}
 use Rattle.swh_loader.proofs.Ends.{ends_further, on_further, sent_all, full_sent}
 use Rattle.swh_loader.specs.Adding.{AreAmong, IsBatchAmong, IsNoBatch, IsOwn}
 use Rattle.swh_loader.specs.Sending.{bodies_of}
+use Rattle.swh_loader.specs.Visiting.{IsOpen}
 use Rattle.swh_loader.proofs.CallLaws.{calls_as, step_calls}
 use Rattle.swh_loader.proofs.Closes.{whole_closed}
 use Rattle.swh_loader.proofs.Further.{adds_as, step_adds}
+use Rattle.swh_loader.proofs.Opens.{on_err}
 use Rattle.swh_loader.proofs.Owns.{own_batch, own_any, open_still}
 use Rattle.swh_loader.proofs.loading.finish.Goals as goal
 
@@ -66,3 +68,8 @@ returns-in-None-clause-adds g c =
     step_adds g.D.Disk.faults (IsOwn IsNoBatch c.args.by c.args.origin.now c.args.visit) own c.args.keeper.now c.send_all.new.keeper c.end_full.new.keeper (own_any (AreAmong c.args.made.objects.items) c.args.by c.args.origin.now c.args.visit)
     (adds_as g.D.Disk.faults (IsBatchAmong c.args.by c.args.made.objects.items) own c.args.keeper.now c.send_all.new.keeper (own_batch (AreAmong c.args.made.objects.items) c.args.by c.args.origin.now c.args.visit c.args.made.objects.items (λ entries h. h)) c.in_ok-name.ensures.adds)
     c.end_full.ensures.adds
+
+pub returns-in_err-name-clause-unended : goal.returns-in_err-name-clause-unended
+returns-in_err-name-clause-unended g c =
+    on_err c.from_residual.result (IsOpen c.send_all.new.keeper.history c.args.origin.now c.args.visit c.args.by)
+    (open_still c.args.keeper.now.history c.send_all.new.keeper.history c.args.origin.now c.args.visit c.args.by c.requires.visit (c.in_err-name.ensures.visits c.args.origin.now c.args.visit))

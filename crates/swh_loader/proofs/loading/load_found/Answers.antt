@@ -4,9 +4,11 @@ use Rattle.swh_base.specs.declared.visit.Status.TheVariants.{Ongoing}
 use Rattle.swh_loader.specs.Adding.{marking, IsEvent, AreAmong, IsNoBatch, IsOwn}
 use Rattle.swh_loader.specs.Sending.{bodies_of}
 use Rattle.swh_loader.specs.Ending.{AreMadeBy}
+use Rattle.swh_loader.specs.Visiting.{IsOpen}
 use Rattle.swh_loader.proofs.CallLaws.{calls_as, step_calls}
 use Rattle.swh_loader.proofs.Further.{adds_as, step_adds, step_stops}
 use Rattle.swh_loader.proofs.Leaves.{means_made, among_made, sent_end}
+use Rattle.swh_loader.proofs.Opens.{on_err}
 use Rattle.swh_loader.proofs.Owns.{own_mark, own_as, own_any, open_marked}
 use Rattle.swh_loader.proofs.Ends.{fails_further, sent_further, on_further}
 use Rattle.swh_loader.proofs.loading.load_found.Goals as goal
@@ -87,3 +89,8 @@ returns-in-Bad-clause-adds g c =
     step_adds g.D.Disk.faults (IsOwn IsNoBatch c.args.by c.args.origin.now c.args.visit) (IsOwn (AreMadeBy g.N.Namer.id_of (option_copied c.args.head) g.S.Source.tells (g.S.Source.left c.args.source.now)) c.args.by c.args.origin.now c.args.visit) c.args.keeper.now c.mark.new.keeper c.end_bad.new.keeper (own_any (AreMadeBy g.N.Namer.id_of (option_copied c.args.head) g.S.Source.tells (g.S.Source.left c.args.source.now)) c.args.by c.args.origin.now c.args.visit)
     (adds_as g.D.Disk.faults (IsEvent (marking c.args.by c.args.origin.now c.args.visit Ongoing None)) (IsOwn (AreMadeBy g.N.Namer.id_of (option_copied c.args.head) g.S.Source.tells (g.S.Source.left c.args.source.now)) c.args.by c.args.origin.now c.args.visit) c.args.keeper.now c.mark.new.keeper (own_mark (AreMadeBy g.N.Namer.id_of (option_copied c.args.head) g.S.Source.tells (g.S.Source.left c.args.source.now)) c.args.by c.args.origin.now c.args.visit Ongoing None) c.in_ok-mark.ensures.adds)
     c.end_bad.ensures.adds
+
+pub returns-in_err-made-clause-unended : goal.returns-in_err-made-clause-unended
+returns-in_err-made-clause-unended g c =
+    on_err c.from_residual-in_err-made.result (IsOpen c.mark.new.keeper.history c.args.origin.now c.args.visit c.args.by)
+    (open_marked c.args.keeper.now.history c.mark.new.keeper.history c.args.origin.now c.args.visit c.args.by Ongoing None (λ final. final) c.requires.visit c.in_ok-mark.ensures.marked)

@@ -7,6 +7,7 @@ use Rattle.swh_loader.proofs.CallLaws.{calls_none, calls_one, calls_as, calls_re
 use Rattle.swh_loader.proofs.Steps.{goes_on, batch_visit}
 use Rattle.swh_loader.proofs.Sends.{not_empty, fresh-same, batch_bodies}
 use Rattle.swh_loader.proofs.Further.{adds_one, adds_as, stops_as}
+use Rattle.swh_loader.proofs.Opens.{refused_same, visits_same}
 use Rattle.swh_loader.proofs.Refusals.{batch_may, batch_full, stops_at}
 use Rattle.swh_loader.proofs.sending.flush.Goals as goal
 
@@ -56,3 +57,8 @@ returns-clause-stops g c =
     (record { good = c.requires.waiting.good; limits = c.requires.waiting.limits; new = c.requires.waiting.new })
     (λ which number is. batch_full c.args.keeper.now.history c.args.by entries which number c.requires.waiting.new c.requires.waiting.limits is)
     (rw c.from_vec.ensures at c.in-Err.ensures.err) c.stopped.ensures (λ e. c.in-Err.ensures.cause (ap Err e)))
+
+pub returns-clause-visits : goal.returns-clause-visits
+returns-clause-visits g c =
+    visits_same c.args.keeper.now c.apply.new.self c.args.by
+    (refused_same c.args.keeper.now c.apply.new.self c.args.by (Batch c.args.pending.entries.items) c.in-Err.refusal (rw c.from_vec.ensures at c.in-Err.ensures.err))

@@ -86,3 +86,9 @@ returns-clause-calls g c told =
 
 pub returns-clause-adds : goal.returns-clause-adds
 returns-clause-adds g c = step_adds g.D.Disk.faults (IsBatchOf c.args.by c.objects.pending.entries.items) (IsBatchAmong c.args.by c.args.objects.items) c.args.keeper.now c.objects.keeper c.flush.new.keeper (batch_among c.args.by c.args.objects.items c.objects.pending.entries.items c.objects.invariant.among) c.objects.invariant.adds c.in_ok-flush.ensures.adds
+
+pub returns-in_err-pending-clause-visits : goal.returns-in_err-pending-clause-visits
+returns-in_err-pending-clause-visits g c = visits_further c.args.keeper.now c.objects.keeper c.take_in.new.keeper c.args.by c.objects.invariant.visits c.in_err-pending.ensures.visits
+
+pub returns-in_err-flush-clause-visits : goal.returns-in_err-flush-clause-visits
+returns-in_err-flush-clause-visits g c = visits_further c.args.keeper.now c.objects.keeper c.flush.new.keeper c.args.by c.objects.invariant.visits c.in_err-flush.ensures.visits

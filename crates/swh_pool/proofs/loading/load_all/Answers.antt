@@ -4,6 +4,7 @@ use Rattle.std.specs.List.{AllByRecursion}
 use Rattle.std.proofs.lemmas.List.Elements.{recursion_from_All}
 use Rattle.swh_pool.specs.Loads.{HasHead, one_load}
 use Rattle.swh_pool.specs.Stops.{AreStops, HaveNoDiskFault}
+use Rattle.swh_pool.proofs.JobLines.{lines_more, lines_all}
 use Rattle.swh_pool.proofs.Loads.{loads_further}
 use Rattle.swh_pool.proofs.Stopped.{stops_of, whole_since, whole_still}
 use Rattle.swh_pool.proofs.Walks.{turned, seam_further, walked}
@@ -23,8 +24,15 @@ jobs-init g c = record {
   each = refl;
   index = refl;
   count = c.in_ok-outcomes.ensures.len;
+  text = c.in_ok-lines.ensures.text;
+  left = search rules;
   room = search rules;
 }
+
+pub add-requires : goal.add-requires
+add-requires g c =
+    let same : length c.jobs.jobs ≡ length c.args.jobs.now = search rules in
+    omega (arith, same, c.jobs-test.true, c.jobs.invariant.left)
 
 pub load_dated-outcome-requires-after_bounds : goal.load_dated-outcome-requires-after_bounds
 load_dated-outcome-requires-after_bounds g c κs within =
@@ -55,6 +63,8 @@ jobs-preserved g c =
       each = loads_further g.N.Namer.id_of g.S.Source.tells g.S.Source.left g.S.Source.faults g.S.Source.path g.D.Disk.tells g.D.Disk.file g.D.Disk.faults c.args.by loads load c.args.keeper.now c.jobs.keeper c.load_dated-outcome.new.keeper c.jobs.invariant.each c.load_dated-outcome.ensures;
       index = length-append loads (load ∷ []) ∙ ap (λ n. n + 1) long;
       count = c.push_reserved.ensures.len ∙ ap (λ n. n + 1) c.jobs.invariant.count;
+      text = c.add.ensures.text ∙ lines_more loads load c.jobs.lines.text.items c.jobs.invariant.text;
+      left = let left = c.jobs.invariant.left in let less = c.add.ensures.left in omega (arith, left, less);
       room = c.push_reserved.ensures.capacity ∙ c.jobs.invariant.room;
     }
 
@@ -83,3 +93,10 @@ returns-clause-unwounded g c = (
       (since.0, subst HaveNoDiskFault (sym c.jobs.invariant.outcomes) since.1),
   λ h. whole_still g.N.Namer.id_of g.S.Source.tells g.S.Source.left g.S.Source.faults g.S.Source.path g.D.Disk.tells g.D.Disk.file g.D.Disk.faults c.args.by c.jobs.invariant.loads c.args.keeper.now c.jobs.keeper c.jobs.invariant.each h.0 (subst HaveNoDiskFault c.jobs.invariant.outcomes h.1),
 )
+
+pub returns-clause-lines : goal.returns-clause-lines
+returns-clause-lines g c =
+    let loads = c.jobs.invariant.loads in
+    let end : length c.args.jobs.now ≤ c.jobs.dated-index = omega (arith, c.jobs-test.false) in
+    let same : length c.jobs.jobs ≡ length c.args.jobs.now = search rules in
+    lines_all loads c.jobs.jobs c.jobs.outcomes.items c.into_text-text.result (walked (λ x. x.after) c.jobs.jobs c.jobs.invariant.rest loads c.jobs.dated-index c.jobs.invariant.now c.jobs.invariant.index (omega (arith, end, same))).1 c.jobs.invariant.outcomes (c.into_text-text.ensures ∙ c.jobs.invariant.text)

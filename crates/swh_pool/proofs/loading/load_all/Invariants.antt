@@ -1,7 +1,9 @@
-use Rattle.std.proofs.Common.{◌≡◌, List, ◌++◌, map, length, vec_len, vec_capacity}
+use Rattle.std.proofs.Common.{◌≡◌, ◌+◌, List, ◌++◌, map, length, vec_len, vec_capacity}
 use Rattle.swh_pool.specs.declared.dated.DatedJob.{DatedJob}
 use Rattle.std.specs.List.{AllByRecursion}
+use Rattle.swh_pool.specs.Lines.{lines_of}
 use Rattle.swh_pool.specs.Loads.{HasHead, OneLoad, AreLoads}
+use Rattle.swh_pool.proofs.JobLines.{end_of}
 use Rattle.swh_pool.proofs.loading.load_all.Given as goal
 
 abbrev pub invariant-jobs : goal.invariant-jobs
@@ -15,5 +17,7 @@ invariant-jobs g l = record {
   each : AreLoads g.N.Namer.id_of g.S.Source.tells g.S.Source.left g.S.Source.faults g.S.Source.path g.D.Disk.tells g.D.Disk.file g.D.Disk.faults l.by loads l.fn.keeper l.keeper;
   index : length loads ≡ l.dated-index;
   count : vec_len l.outcomes ≡ l.dated-index;
+  text : l.lines.text.items ≡ lines_of (map end_of loads);
+  left : l.lines.left + l.dated-index ≡ length l.fn.jobs;
   room : vec_capacity l.outcomes ≡ length l.fn.jobs;
 }

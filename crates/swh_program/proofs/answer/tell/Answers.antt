@@ -1,27 +1,33 @@
-use Rattle.std.proofs.Common.{refl, inl, inr}
+use Rattle.std.proofs.Common.{refl, inl, inr, arith}
 use Rattle.swh_program.specs.Answers.{told_by, last_line_of}
 use Rattle.swh_program.proofs.Told.{some_of_first, some_of_second, both_pieces}
 use Rattle.swh_program.proofs.answer.tell.Goals as goal
 
-pub returns-in_default : goal.returns-in_default
-returns-in_default g c =
+pub returns-in_default-clause-told : goal.returns-in_default-clause-told
+returns-in_default-clause-told g c =
     inr (record {
       status_is = refl;
       rose = c.in_default.ensures.cause;
       printed = λ told. some_of_first _ _ (last_line_of c.args.answer.now) _ (rw c.told.ensures at c.in_default.ensures.err told);
     })
 
-pub returns-in_default-print : goal.returns-in_default-print
-returns-in_default-print g c =
+pub returns-in_default-print-clause-told : goal.returns-in_default-print-clause-told
+returns-in_default-print-clause-told g c =
     inr (record {
       status_is = refl;
       rose = rw c.in-Ok.ensures.quiet at c.in_default-print.ensures.cause;
       printed = λ told. some_of_second _ (told_by c.args.answer.now) _ _ _ (rw c.told.ensures at c.in-Ok.ensures.ok told) (rw c.last_line.ensures at c.in_default-print.ensures.err told);
     })
 
-pub returns : goal.returns
-returns g c =
+pub returns-clause-told : goal.returns-clause-told
+returns-clause-told g c =
     inl (record {
       status_is = c.status.ensures;
       printed = λ told. both_pieces _ (told_by c.args.answer.now) (last_line_of c.args.answer.now) _ _ (rw c.told.ensures at c.in-Ok.ensures.ok told) (rw c.last_line.ensures at c.in-Ok-print.ensures.ok told);
     })
+
+pub returns-in_default-clause-later : goal.returns-in_default-clause-later
+returns-in_default-clause-later g c = c.in_default.ensures.later
+
+pub returns-in_default-print-clause-later : goal.returns-in_default-print-clause-later
+returns-in_default-print-clause-later g c = let same = c.in-Ok.ensures.quiet in let more = c.in_default-print.ensures.later in omega (arith, same, more)

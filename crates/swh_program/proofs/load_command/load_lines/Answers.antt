@@ -26,10 +26,9 @@ returns-clause-load g c =
     let l = rw c.as_mut_slice.ensures.value at c.load_all-loaded.ensures in
     let len = c.load_all-loaded.auto.jobs ∙ c.as_mut_slice.ensures.len in
     let items = sym (ap length c.as_mut_slice.ensures.value) ∙ c.as_mut_slice.ensures.len in
-    let same = c.as_slice.ensures.value ∙ written_back c.load_all-loaded.new.jobs c.in-Ok.jobs.items c.in-Ok.jobs.len len items in
-    let t = rw same at c.tell_loaded-answer.ensures in
-    let back = subst (AreGivenBack g.O.S.Source.faults g.O.S.Source.path (g.O.Origins.path_faults c.open_inputs.new.origins) (g.O.Origins.path_faults c.give_all_back.new.origins)) (sym c.as_slice.ensures.value ∙ same) c.give_all_back.ensures.back in
+    let same = written_back c.load_all-loaded.new.jobs c.in-Ok.jobs.items c.in-Ok.jobs.len len items in
+    let back = subst (AreGivenBack g.O.S.Source.faults g.O.S.Source.path (g.O.Origins.path_faults c.open_inputs.new.origins) (g.O.Origins.path_faults c.give_all_back.new.origins)) same c.give_all_back.ensures.back in
     kept_run g.N.Namer.id_of g.O.Origins.tells g.O.S.Source.tells g.O.S.Source.left g.O.S.Source.faults g.O.S.Source.path (g.O.Origins.file_at c.args.origins.now)
     (g.O.Origins.path_faults c.args.origins.now) (g.O.Origins.path_faults c.open_inputs.new.origins) (g.O.Origins.path_faults c.give_all_back.new.origins) o.path_later c.give_all_back.ensures.path_later
     g.D.Disk.tells g.D.Disk.file g.D.Disk.faults g.C.Clock.tells (g.C.Clock.time c.args.clock.now) (jobs_of c.args.lines.items) c.in-Ok.jobs.items c.load_all-loaded.new.jobs c.args.keeper.now c.load_all-loaded.new.keeper c.requires.unwounded
-    o.opened back o.said (λ v. v.items) c.load_all-loaded.result c.tell_loaded-answer.result l.loads l.stops l.unwounded l.same_keeper t.told t.memory
+    o.opened back o.said (λ v. v.outcomes.items) (λ v. v.text) c.load_all-loaded.result c.tell_loaded-answer.result l.loads l.stops l.unwounded l.lines l.same_keeper c.tell_loaded-answer.ensures.told c.tell_loaded-answer.ensures.memory

@@ -1,0 +1,82 @@
+-- The line that reports a job, by the archive before its load and by its input.
+use Rattle.std.specs.Prelude.{◌≡◌, ◌≢◌, ◌⊎◌, ℕ, ◌+◌, Option, Some, None, Ok, List, [], ◌∷◌, ◌++◌, length}
+use Rattle.std.specs.List.{AllZip}
+use Rattle.swh_base.specs.declared.kind.Kind.{Kind}
+use Rattle.swh_base.specs.declared.name.Name.{Name}
+use Rattle.swh_outside.specs.Faults.{Rose}
+use Rattle.swh_jobs.specs.Job.{Job}
+use Rattle.swh_model.specs.Archive.{Archive, Bodies, visits_of}
+use Rattle.swh_model.specs.Meaning.{Making, IsMeaning, IsLeftOut}
+use Rattle.swh_loader.specs.Report.{report_of}
+use Rattle.swh_loader.specs.declared.end.StreamWhy.TheVariants.{LeftOut}
+use Rattle.swh_loader.specs.declared.end.BadInput.TheVariants.{Stream, Collision, Read}
+use Rattle.swh_loader.specs.declared.end.End.{End}
+use Rattle.swh_loader.specs.declared.end.End.TheVariants.{Full, NotFound, Failed}
+use Rattle.swh_program.specs.Answers.{status_of}
+use Rattle.swh_program.specs.Complete.{HasBody, HasOneBody}
+use Rattle.swh_program.specs.Jobs.{FileAt}
+use Rattle.swh_program.specs.Lines.{ending_of_end, worse}
+use Rattle.swh_program.specs.declared.answer.Ending.{Ending}
+use Rattle.swh_program.specs.declared.answer.Ending.TheVariants as ending
+use Rattle.swh_program.specs.declared.answer.Answer.{Answer}
+use Rattle.swh_program.specs.declared.answer.Answer.TheVariants.{Told}
+
+-- the line of a visit that ended so: the origin, the number of its next visit, the status and the detail
+abbrev pub line_for : Archive → Job → End → List ℕ
+line_for a job end = report_of job.url (Ok (record { visit = length (visits_of a.origins job.url) + 1; end = end }))
+
+abbrev pub lines_for : Archive → List Job → List End → List ℕ
+lines_for a [] ends = []
+lines_for a (job ∷ jobs) [] = []
+lines_for a (job ∷ jobs) (end ∷ ends) = line_for a job end ++ lines_for a jobs ends
+
+-- how they end together
+abbrev pub ending_of_ends : List End → Ending
+ending_of_ends [] = ending.Done
+ending_of_ends (end ∷ ends) = worse (ending_of_end end) (ending_of_ends ends)
+
+module _ (id_of : Kind → List ℕ → List ℕ) where
+  -- With this head or none, the input means this snapshot, and no name has two bodies among what is held and what it
+  -- makes.
+  pub record MeansSnapshot (head : Option (List ℕ)) (bodies : Bodies) (text snapshot : List ℕ) : Type 0 where
+    pub making : Making
+    pub means : IsMeaning id_of head text making
+    pub one : HasOneBody id_of bodies making.objects
+    pub snapshot_is : snapshot ≡ making.snapshot
+
+  -- With this head or none, the input would put a second body under this name.
+  pub record MeansCollision (head : Option (List ℕ)) (bodies : Bodies) (text : List ℕ) (name : Name) : Type 0 where
+    pub making : Making
+    pub means : IsMeaning id_of head text making
+    pub a : List ℕ
+    pub b : List ℕ
+    pub has_a : HasBody id_of bodies making.objects name a
+    pub has_b : HasBody id_of bodies making.objects name b
+    pub apart : a ≢ b
+
+  -- The end of a visit that loads what stands at a path, with this head or none, where these bodies are held.
+  abbrev pub IsEndFor : Option (List ℕ) → Bodies → Option (List ℕ) → End → Type 0
+  IsEndFor head bodies None end = end ≡ NotFound
+  IsEndFor head bodies (Some text) (Full snapshot) = MeansSnapshot head bodies text snapshot
+  IsEndFor head bodies (Some text) NotFound = ⊥
+  IsEndFor head bodies (Some text) (Failed (Stream at why)) = (at ≡ 0) × (why ≡ LeftOut) × IsLeftOut id_of head text
+  IsEndFor head bodies (Some text) (Failed (Collision name)) = MeansCollision head bodies text name
+  IsEndFor head bodies (Some text) (Failed Read) = ⊥
+
+  module _ (input_at : FileAt) (failures failures_now : List ℕ → ℕ) where
+    -- The job's visit ended as its input has it, or in a read that failed, where its path has failed.
+    abbrev pub IsExactEnd : Archive → Job → End → Type 0
+    IsExactEnd a job end = IsEndFor job.head a.bodies (input_at job.path) end ⊎ ((end ≡ Failed Read) × Rose (failures job.path) (failures_now job.path))
+
+    abbrev pub AreExactEnds : Archive → List Job → List End → Type 0
+    AreExactEnds a jobs ends = AllZip (IsExactEnd a) jobs ends
+
+    -- The answer tells one line for each job, in their order, and the worst of their endings.
+    pub record TellsExactly (a : Archive) (jobs : List Job) (answer : Answer) : Type 0 where
+      pub ends : List End
+      pub are : AreExactEnds a jobs ends
+      pub is : answer ≡ Told (lines_for a jobs ends) (ending_of_ends ends)
+
+    -- It does, or memory ran out.
+    abbrev pub IsExact : Archive → List Job → Answer → Type 0
+    IsExact a jobs answer = (status_of answer ≡ 5) ⊎ TellsExactly a jobs answer
