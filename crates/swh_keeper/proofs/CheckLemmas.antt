@@ -1,8 +1,7 @@
 -- Entries and events that are the same up to the kids, and good ones among them.
-use Rattle.std.proofs.Common.{◌≡◌, ℕ, zero, suc, ◌+◌, ◌-◌, ◌<◌, ◌≤◌, Option, Some, None, List, [], ◌∷◌, ◌++◌, length, take, drop, append_assoc, get_or, map, refl, sym, ap, ◌∙◌, subst, arith}
+use Rattle.std.proofs.Common.{◌≡◌, ℕ, zero, suc, ◌+◌, ◌-◌, ◌<◌, ◌≤◌, Option, Some, None, List, [], ◌∷◌, ◌++◌, length, take, get_or, map, refl, sym, ap, ◌∙◌, subst, arith}
 use Rattle.std.specs.List.{AllByRecursion, slice_get}
-use Rattle.std.specs.FinMap as finite
-use Rattle.std.proofs.lemmas.List.{take_more, append-nil, map-append}
+use Rattle.std.proofs.lemmas.List.{take_more, map-append}
 use Rattle.swh_base.specs.declared.kind.Kind.{Kind}
 use Rattle.swh_base.specs.declared.name.Name.{Name}
 use Rattle.swh_base.specs.declared.entry.Entry.{Entry}
@@ -17,11 +16,11 @@ use Rattle.swh_model.specs.declared.event.EventKind.{EventKind}
 use Rattle.swh_model.specs.declared.event.EventKind.TheVariants.{Batch, Open, Mark}
 use Rattle.swh_model.specs.declared.event.No.{No}
 use Rattle.swh_model.specs.declared.event.No.TheVariants.{Limit, NoVisit, NotYours, Ended, NoSnapshot, NotClosed, Collision}
-use Rattle.swh_model.specs.Archive.{Archive, empty_archive, Bodies, Origins, body_of, visits_of, IsHeld}
-use Rattle.swh_model.specs.Limits.{bytes_before_last, IsWithinLimits, store_length, ledger_length}
-use Rattle.swh_model.specs.Step.{IsGood, IsGoodAndNamed, AreNew, FitsStatus, MayMark, May, May_kind, MayAll, IsHistory, replay, added, after, after_all, after_kind, snapshot_name}
+use Rattle.swh_model.specs.Archive.{Archive, Bodies, Origins, body_of, visits_of, IsHeld}
+use Rattle.swh_model.specs.Limits.{bytes_before_last, IsWithinLimits}
+use Rattle.swh_model.specs.Step.{IsGood, IsGoodAndNamed, AreNew, FitsStatus, MayMark, May, May_kind, added, snapshot_name}
 use Rattle.swh_model.specs.Judge.{IsHow}
-use Rattle.swh_model.specs.Stands.{bare, bare_kind, bare_event, AreAlike}
+use Rattle.swh_model.specs.Stands.{bare, bare_kind, bare_event}
 use Rattle.swh_model.proofs.Entries.{held_not_none, none_unless_held, new-push, new-at, added-append, all-append}
 use Rattle.swh_model.proofs.Visits.{all-map}
 use Rattle.swh_model.specs.Certificate.{AreClosed}

@@ -1,7 +1,6 @@
 -- A history for which two files stand, and the keeper that opens them.
-use Rattle.std.proofs.Common.{◌≡◌, ◌≤◌, ◌^◌, ℕ, ◌+◌, Some, None, List, [], ◌∷◌, ◌++◌, map, length, refl, sym, ap, ◌∙◌, subst, arith, append_assoc, length-append}
+use Rattle.std.proofs.Common.{◌≡◌, ℕ, ◌+◌, Some, None, List, [], ◌∷◌, ◌++◌, map, length, refl, sym, ap, ◌∙◌, arith, append_assoc, length-append}
 use Rattle.std.specs.List.{AllByRecursion}
-use Rattle.std.specs.Int.{w32, w64, to_be_bytes}
 use Rattle.swh_outside.specs.Disk.{File, IsAtRest}
 use Rattle.swh_segment.specs.Record.{coded}
 use Rattle.swh_segment.specs.Events as segment
@@ -10,9 +9,9 @@ use Rattle.swh_base.specs.declared.entry.Entry.{Entry}
 use Rattle.swh_model.specs.declared.event.Event.{Event}
 use Rattle.swh_model.specs.declared.event.EventKind.{EventKind}
 use Rattle.swh_model.specs.declared.event.EventKind.TheVariants.{Batch, Open, Mark}
-use Rattle.swh_model.specs.Coding.{magic, run_of, told, event_byte, coded_entry, coded_run, framed, coded_record, coded_records, coded_runs, IsCodableKind, IsCodableEntry, AreCodable}
-use Rattle.swh_model.specs.Limits.{store_length, records_length, ledger_length}
-use Rattle.swh_model.specs.Stands.{StandsFor, bare, bare_kind, bare_event, AreAlike}
+use Rattle.swh_model.specs.Coding.{magic, run_of, coded_entry, coded_run, coded_record, coded_records, IsCodableKind, IsCodableEntry}
+use Rattle.swh_model.specs.Limits.{records_length}
+use Rattle.swh_model.specs.Stands.{StandsFor, bare, bare_kind}
 use Rattle.swh_model.specs.Step.{IsHistory}
 use Rattle.swh_keeper.specs.declared.replayed.Replayed.{Replayed}
 use Rattle.swh_keeper.specs.Planned.{IsReplayOf, IsInFiles}

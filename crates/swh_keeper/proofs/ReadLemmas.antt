@@ -1,5 +1,5 @@
 -- Two files after a barrier on each, and what is read of them.
-use Rattle.std.proofs.Common.{◌≡◌, ◌≢◌, ◌≤◌, ◌<◌, ◌^◌, ℕ, ◌+◌, ◌-◌, ◌*◌, Option, Some, None, Err, List, [], ◌∷◌, ◌++◌, length, length-append, length-drop, map, take, drop, refl, sym, ap, ◌∙◌, subst, arith, inr, append_assoc}
+use Rattle.std.proofs.Common.{◌≡◌, ◌≤◌, ◌<◌, ℕ, ◌+◌, ◌-◌, ◌*◌, Option, Some, None, Err, List, [], ◌∷◌, ◌++◌, length, length-append, length-drop, map, take, drop, refl, sym, ap, ◌∙◌, subst, arith, inr, append_assoc}
 use Rattle.std.specs.Prelude.{IfSome}
 use Rattle.std.specs.Global.{Vec}
 use Rattle.std.specs.List.{AllByRecursion}
@@ -8,7 +8,7 @@ use Rattle.std.proofs.Math.Seq.{drop-append_seam}
 use Rattle.swh_outside.specs.Disk.{File, Sync, IsAtRest, done}
 use Rattle.swh_outside.specs.Files.{Files, files_of, files_done}
 use Rattle.swh_outside.proofs.Images.{at_rest_done}
-use Rattle.swh_segment.specs.Making.{IsMade, barriers}
+use Rattle.swh_segment.specs.Making.{barriers}
 use Rattle.swh_segment.specs.Reading.{IsFilled}
 use Rattle.swh_segment.specs.Makes.{Makes}
 use Rattle.swh_segment.specs.declared.fault.MakeFault.{MakeFault}
@@ -26,11 +26,11 @@ use Rattle.swh_model.specs.declared.decoding.ledger.Record.{Record}
 use Rattle.swh_model.specs.declared.decoding.ledger.Next.{Next}
 use Rattle.swh_model.specs.Archive.{Archive, empty_archive}
 use Rattle.swh_model.specs.Coding.{magic, coded_entry, coded_run, run_of, coded_record, coded_records, coded_runs, IsCodableEntry, IsCodableKind, AreCodable}
-use Rattle.swh_model.specs.Decoding.{IsRunOf, IsNoRun, IsWhole, IsFit, IsGateClosed, IsGateOpen, IsBroken, IsNext, Tells}
-use Rattle.swh_model.specs.Limits.{run_limit, bytes_before_last, IsWithinLimits, store_length, records_length, ledger_length}
+use Rattle.swh_model.specs.Decoding.{IsRunOf, IsWhole, IsFit, IsGateOpen, IsBroken, IsNext, Tells}
+use Rattle.swh_model.specs.Limits.{run_limit, bytes_before_last, IsWithinLimits, store_length, ledger_length}
 use Rattle.swh_model.specs.Stands.{StandsFrom, StandsFor, bare, bare_kind}
 use Rattle.swh_model.specs.Step.{May_kind, May, MayAll, IsHistory, after, after_all, replay}
-use Rattle.swh_model.proofs.Reading.{record_of_told, record_only, whole_codable, whole_runless}
+use Rattle.swh_model.proofs.Reading.{record_of_told, record_only}
 use Rattle.swh_model.proofs.OneHistory.{one_history}
 use Rattle.swh_model.proofs.Unique.{alike, cut, same_head, same_tail, same_run, same_event}
 use Rattle.swh_keeper.specs.declared.checking.Checked.{Checked}
@@ -38,9 +38,8 @@ use Rattle.swh_keeper.specs.declared.reading.KindRead.{KindRead}
 use Rattle.swh_keeper.specs.declared.opening.OpenWhy.{OpenWhy}
 use Rattle.swh_keeper.specs.declared.opening.OpenWhy.TheVariants.{Made, NotMade, Damaged, DiskFault, Memory}
 use Rattle.swh_keeper.specs.Checked.{archive_of, MayNotHappen}
-use Rattle.swh_keeper.specs.Planned.{IsReplayOf, IsInFiles}
 use Rattle.swh_keeper.specs.Opening.{make_why, IsLeftOfMaking, IsLeftFor}
-use Rattle.swh_keeper.specs.Reading.{MayBeRun, IsBatchRead, HoldsAt, IsNoBatch, IsWithin, IsKindRead, IsNoKind, IsLonger, IsTaken, NoneMayHappen, IsReadSoFar, IsNoArchive, HasRuns, IsAtEnd}
+use Rattle.swh_keeper.specs.Reading.{MayBeRun, HoldsAt, IsNoBatch, IsKindRead, IsLonger, IsTaken, NoneMayHappen, IsReadSoFar, IsNoArchive, HasRuns}
 use Rattle.swh_keeper.proofs.CheckLemmas.{one_event}
 use Rattle.swh_keeper.proofs.KeptLemmas.{runs-length, codable-at, store_length-push, replay-push, history-push}
 use Rattle.swh_keeper.proofs.OpenLemmas.{records-length, bare-run_of, length-map, kind_from_bare, kind_to_bare}

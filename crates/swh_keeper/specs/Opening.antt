@@ -11,7 +11,7 @@ use Rattle.swh_model.specs.declared.event.Event.{Event}
 use Rattle.swh_model.specs.Stands.{StandsFor}
 use Rattle.swh_model.specs.Step.{IsHistory}
 use Rattle.swh_keeper.specs.declared.opening.OpenWhy.{OpenWhy}
-use Rattle.swh_keeper.specs.declared.opening.OpenWhy.TheVariants.{Made, NotMade, Damaged, DiskFault, Memory}
+use Rattle.swh_keeper.specs.declared.opening.OpenWhy.TheVariants.{Made, Damaged, DiskFault, Memory}
 
 abbrev pub make_why : MakeFault → OpenWhy
 make_why make.Made = Made

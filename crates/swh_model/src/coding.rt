@@ -69,7 +69,7 @@ fn push_entry(bytes: &mut Vec<u8>, entry: &Entry) -> Result<(), Memory>
     Ok(())
 }
 
-/// The run of a batch: its objects, one behind another.
+/// The run of a batch: its objects, one behind another; `Memory` where there is none.
 pub fn run_of_entries(alloc: Global, entries: &[Entry]) -> Result<Vec<u8>, Memory>
     ensures { IfOk result (λ bytes. bytes.items ≡ coded_run entries.now) }
 {
@@ -171,7 +171,8 @@ fn frame(alloc: Global, kind: u8, payload: &[u8]) -> Result<Vec<u8>, Memory>
     Ok(bytes)
 }
 
-/// The record of an event with the next gate, which is closed. A batch's run begins at `at` and ends at `end`.
+/// The record of an event with the next gate, which is closed. A batch's run begins at `at` and ends at `end`, in bytes
+/// from the store's beginning. `Memory` where there is none.
 pub fn record_of_event(alloc: Global, at: u64, end: u64, event: &Event) -> Result<Vec<u8>, Memory>
     requires run { end ≡ at + length (run_of event.now.what) }
     requires codable { IsCodable at event.now }

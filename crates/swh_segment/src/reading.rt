@@ -36,7 +36,8 @@ impl From<AllocError> for ReadFileFault {
     }
 }
 
-/// Fills the buffer with what stands from a place on, up to the end of the file, and answers how many bytes there are.
+/// Fills the buffer with what stands from a place on (in bytes from 0), up to the end of the file, and answers how many
+/// bytes there are. `Failed` where the disk failed.
 pub fn fill<D: Disk>(disk: &mut D, at: u64, out: &mut [u8]) -> Result<usize, Failed>
     requires { at + length out.old < 2 ^ 64 }
     ensures bound { IfOk result (λ n. n ≤ length out.new) }
@@ -55,7 +56,8 @@ pub fn fill<D: Disk>(disk: &mut D, at: u64, out: &mut [u8]) -> Result<usize, Fai
     Ok(done)
 }
 
-/// Reads a whole file.
+/// Reads a whole file. `Disk` where the disk failed; `Memory` where the file is longer than any memory, or there was
+/// none.
 pub fn read_file<D: Disk>(alloc: Global, disk: &mut D) -> Result<Vec<u8>, ReadFileFault>
     ensures bytes { D.tells → IfOk result (λ bytes. bytes.items ≡ (D.file disk.old).seen) }
     ensures same { D.tells → D.file disk.new ≡ D.file disk.old }

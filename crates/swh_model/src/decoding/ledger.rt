@@ -69,7 +69,7 @@ fn read_record(alloc: Global, bytes: &[u8]) -> Result<Option<Record<'_>>, Memory
     }))
 }
 
-/// What comes next of a ledger's records, from a gate on.
+/// What comes next of a ledger's records, from a gate on; `Memory` where there is none for an origin.
 pub fn next_record(alloc: Global, records: &[u8]) -> Result<Next<'_>, Memory>
     ensures { IfOk result (IsNext records.now) }
 {

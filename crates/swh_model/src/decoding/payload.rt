@@ -9,7 +9,7 @@ ghost use Rattle.swh_model.specs.Decoding.{IsBatchTold, IsOpenTold, IsMarkTold};
 use crate::decoding::number::{split_eight, split_four};
 use swh_base::{Status, VisitKind};
 
-/// Where a batch's run begins and ends in the store, and the number of its objects.
+/// Where a batch's run begins and ends in the store, in bytes from its beginning, and the number of its objects.
 #[derive(Clone, Copy)]
 pub struct BatchParts {
     pub from: u64,

@@ -21,7 +21,7 @@ fn entry_of(alloc: Global, parts: &EntryParts<'_>) -> Result<Entry, Memory>
 }
 
 /// The objects of a run, which has this number of them and nothing else. Each body is copied once, into its shared
-/// place, and the kids are left out; none where the bytes are no such run.
+/// place, and the kids are left out; none where the bytes are no such run. `Memory` where there is none.
 pub fn read_run(alloc: Global, bytes: &[u8], number: u32) -> Result<Option<Vec<Entry>>, Memory>
     ensures some { IfOk result (λ found. IfSome found (λ es. IsRunOf bytes.now number es.items)) }
     ensures none { IfOk result (λ found. IfNone found (IsNoRun bytes.now number)) }

@@ -1,6 +1,5 @@
 use Rattle.std.proofs.Common.{List, ℕ, All, sym, subst}
 use Rattle.swh_base.specs.declared.entry.Entry.{Entry}
-use Rattle.std.specs.BTreeMap.{is_at}
 use Rattle.swh_keeper.specs.Maps.{IsKeyed}
 use Rattle.swh_keeper.proofs.MapLemmas.{at, keyed-remove, without}
 use Rattle.swh_keeper.proofs.bodies.remove_one.Goals as goal

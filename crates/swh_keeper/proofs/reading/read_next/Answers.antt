@@ -1,4 +1,4 @@
-use Rattle.std.proofs.Common.{rules, ◌≡◌, true, false}
+use Rattle.std.proofs.Common.{rules, ◌≡◌, false}
 use Rattle.swh_keeper.proofs.ReadLemmas.{next_is, broken, none_next, next_longer, next_so_far, next_runs}
 use Rattle.swh_keeper.proofs.reading.read_next.Goals as goal
 
