@@ -1,0 +1,3 @@
+mod Follow
+mod Ends
+mod Stand

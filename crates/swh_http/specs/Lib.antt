@@ -1,0 +1,4 @@
+pub mod Field
+pub mod Place
+pub mod Reply
+pub mod Wire
