@@ -28,7 +28,7 @@ no-request bytes goes h rest reads =
 pub never-request : (bytes : List ℕ) → place_of bytes ≡ Broken → NeverHasRequest bytes
 never-request bytes is more h rest reads =
     let stays : place_of (bytes ++ more) ≡ Broken =
-      advance_all-append [] Blank bytes more ∙ ap (λ (p : Place). advance_all bytes p more) is ∙ broken more bytes in
+    advance_all-append [] Blank bytes more ∙ ap (λ (p : Place). advance_all bytes p more) is ∙ broken more bytes in
     elim (begins-head (bytes ++ more) h rest reads) [ inl whole ↦ cc | inr over ↦ cc ]
 
 -- the head that is whole
@@ -56,7 +56,7 @@ no-target bytes is (blank, method, target, token, all, text) =
     let there : place_of front ≡ Space = blank-leads blank (method ++ 32 ∷ []) Space (method-leads method [] Space token (λ before. refl)) [] in
     let split : bytes ≡ front ++ target = text ∙ regrouped (print_blank blank) method target in
     let place : place_of bytes ≡ advance_all front Space target =
-      ap place_of split ∙ advance_all-append [] Blank front target ∙ ap (λ (p : Place). advance_all front p target) there in
+    ap place_of split ∙ advance_all-append [] Blank front target ∙ ap (λ (p : Place). advance_all front p target) there in
     let P : Place → Type 0 = λ p. GoesOn p in
     subst P (sym place ∙ is) (space-goes front target all)
   where
@@ -101,6 +101,7 @@ method-ends t h =
   where
     regrouped : (a b : List ℕ) → (a ++ b) ++ 32 ∷ 47 ∷ [] ≡ (a ++ (b ++ 32 ∷ [])) ++ 47 ∷ []
     regrouped a b = simp (append_assoc, cons-append)
+
     joined : (t v : List ℕ) → ((t ++ 32 ∷ 47 ∷ []) ++ 32 ∷ []) ++ v ≡ t ++ 32 ∷ 47 ∷ 32 ∷ v
     joined t v = simp (append_assoc, cons-append)
 
@@ -118,7 +119,7 @@ blank-ends t h =
 blank-end-ends : (t : List ℕ) → Stands BlankEnd t → (s : List ℕ) × IsWhole (t ++ s)
 blank-end-ends t h =
     let line : Stands Blank (t ++ 10 ∷ []) =
-      (h.0 ++ crlf ∷ [], ap (λ (x : List ℕ). x ++ 10 ∷ []) h.1 ∙ append_assoc (print_blank h.0) (13 ∷ []) (10 ∷ []) ∙ sym (blank-push h.0 crlf)) in
+    (h.0 ++ crlf ∷ [], ap (λ (x : List ℕ). x ++ 10 ∷ []) h.1 ∙ append_assoc (print_blank h.0) (13 ∷ []) (10 ∷ []) ∙ sym (blank-push h.0 crlf)) in
     let rest = blank-ends (t ++ 10 ∷ []) line in
     let P : List ℕ → Type 0 = λ x. IsWhole x in
     (10 ∷ rest.0, subst P (append_assoc t (10 ∷ []) rest.0) rest.1)

@@ -160,6 +160,7 @@ field-leads f more q good next before =
   where
     regrouped : (n r e m : List ℕ) → (n ++ 58 ∷ r ++ e) ++ m ≡ n ++ 58 ∷ (r ++ (e ++ m))
     regrouped n r e m = simp append_assoc
+
     name-leads : (name raw : List ℕ) (end : LineEnd) (more : List ℕ) (q : Place) → IsToken name → AllPass is_value_byte raw
         → Leads Line more q → Leads Line (name ++ 58 ∷ (raw ++ (print_end end ++ more))) q
     name-leads [] raw end more q token all next before = absurd (omega (arith, token.0))

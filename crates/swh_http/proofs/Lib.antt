@@ -1,3 +1,7 @@
-mod Follow
 mod Ends
+mod Fields
+mod Follow
+mod Heads
+mod Numbers
 mod Stand
+mod Turns

@@ -103,8 +103,8 @@ whole-of t from h utf8 s ends =
     let section = line.2 in
     let head : RequestHead = record { blank = h.blank; method = h.method; target = h.target; minor = minor.0; line_end = line.0; fields = section.0; last = section.1 } in
     let text : (t ++ 32 ∷ []) ++ s ≡ print_request head ++ [] =
-      rw (print_request-append head [], h.text, ends.2, minor.4, line.3, section.3)
-      (regrouped (print_blank h.blank) h.method h.target (codes "HTTP/1.") (48 + minor.0) (print_end line.0) (print_section section.0 section.1)) in
+    rw (print_request-append head [], h.text, ends.2, minor.4, line.3, section.3)
+    (regrouped (print_blank h.blank) h.method h.target (codes "HTTP/1.") (48 + minor.0) (print_end line.0) (print_section section.0 section.1)) in
     (head, (record { method = h.token; target = (h.some, h.all); target_text = utf8; minor = minor.2; fields = section.2 }, text))
   where
     regrouped : (a b c v : List ℕ) (m : ℕ) (e f : List ℕ)
@@ -118,7 +118,7 @@ line-name b s token ends =
     let field : Field = record { name = b ∷ ends.0; raw = value.0; end = value.1 } in
     let good : IsField field = record { name = (omega arith, All-cons (λ x. IsTrue (is_token_byte x)) b ends.0 token ends.2); raw = value.3 } in
     let text : b ∷ s ≡ print_section (field ∷ line.0) line.1 =
-      rw (ends.4, value.5, line.3) (regrouped b ends.0 value.0 (print_end value.1) (flat_map print_field line.0) (print_end line.1)) in
+    rw (ends.4, value.5, line.3) (regrouped b ends.0 value.0 (print_end value.1) (flat_map print_field line.0) (print_end line.1)) in
     (field ∷ line.0, line.1, All-cons IsField field line.0 good line.2, text)
   where
     regrouped : (b : ℕ) (n r e f l : List ℕ) → b ∷ (n ++ 58 ∷ (r ++ (e ++ (f ++ l)))) ≡ (((b ∷ n) ++ 58 ∷ r ++ e) ++ f) ++ l
@@ -188,12 +188,15 @@ test-is false = inr refl
 step-blank : (t : List ℕ) (b : ℕ) → Stands Blank t → Stands (advance t Blank b) (t ++ b ∷ [])
 unfolding Is
 step-blank t b h = elim (is-it b 10) [
-    inl feed ↦ rw feed.0 (h.0 ++ lf ∷ [], rw (h.1, feed.1) (sym (blank-push h.0 lf)))
+  | inl feed ↦ rw feed.0 (h.0 ++ lf ∷ [], rw (h.1, feed.1) (sym (blank-push h.0 lf)))
   | inr no_feed ↦ elim (is-it b 13) [
-      inl return ↦ rw (no_feed, return.0) (h.0, rw (h.1, return.1) refl)
+    | inl return ↦ rw (no_feed, return.0) (h.0, rw (h.1, return.1) refl)
     | inr no_return ↦ elim (test-is (is_token_byte b)) [
-        inl token ↦ rw (no_feed, no_return, token) (h.0, b ∷ [], one-token b token, ap (λ (x : List ℕ). x ++ b ∷ []) h.1)
-      | inr other ↦ rw (no_feed, no_return, other) tt ] ] ]
+      | inl token ↦ rw (no_feed, no_return, token) (h.0, b ∷ [], one-token b token, ap (λ (x : List ℕ). x ++ b ∷ []) h.1)
+      | inr other ↦ rw (no_feed, no_return, other) tt
+    ]
+  ]
+]
   where
     one-token : (b : ℕ) → is_token_byte b ≡ true → IsToken (b ∷ [])
     one-token b token = (omega arith, All-cons (λ x. IsTrue (is_token_byte x)) b [] token (All-nil (λ x. IsTrue (is_token_byte x))))
@@ -202,8 +205,9 @@ step-feed : (t : List ℕ) (b : ℕ) (p q : Place) → (b ≡ 10 → Stands q (t
     → Stands (if b == 10 then q else Broken) (t ++ b ∷ [])
 unfolding Is
 step-feed t b p q h = elim (is-it b 10) [
-    inl feed ↦ rw feed.0 (h feed.1)
-  | inr other ↦ rw other tt ]
+  | inl feed ↦ rw feed.0 (h feed.1)
+  | inr other ↦ rw other tt
+]
 
 step-blank-end : (t : List ℕ) (b : ℕ) → Stands BlankEnd t → Stands (advance t BlankEnd b) (t ++ b ∷ [])
 step-blank-end t b h = step-feed t b BlankEnd Blank (λ feed. (h.0 ++ crlf ∷ [], rw (h.1, feed) (append_assoc (print_blank h.0) (13 ∷ []) (10 ∷ []) ∙ sym (blank-push h.0 crlf))))
@@ -214,10 +218,12 @@ step-token : (t : List ℕ) (b end : ℕ) (p q : Place) → (is_token_byte b ≡
     → Stands (if is_token_byte b then p else (if b == end then q else Broken)) (t ++ b ∷ [])
 unfolding Is
 step-token t b end p q stays ends = elim (test-is (is_token_byte b)) [
-    inl token ↦ rw token (stays token)
+  | inl token ↦ rw token (stays token)
   | inr no_token ↦ elim (is-it b end) [
-      inl stop ↦ rw (no_token, stop.0) (ends stop.1)
-    | inr other ↦ rw (no_token, other) tt ] ]
+    | inl stop ↦ rw (no_token, stop.0) (ends stop.1)
+    | inr other ↦ rw (no_token, other) tt
+  ]
+]
 
 step-method : (t : List ℕ) (b : ℕ) → Stands Method t → Stands (advance t Method b) (t ++ b ∷ [])
 step-method t b h =
@@ -227,17 +233,18 @@ step-method t b h =
 
 step-space : (t : List ℕ) (b : ℕ) → Stands Space t → Stands (advance t Space b) (t ++ b ∷ [])
 step-space t b h = elim (test-is (is_uri_byte b)) [
-    inl uri ↦ rw uri (record {
-      blank = h.0;
-      method = h.1;
-      target = b ∷ [];
-      token = h.2;
-      some = omega arith;
-      all = All-cons (λ x. IsTrue (is_uri_byte x)) b [] uri (All-nil (λ x. IsTrue (is_uri_byte x)));
-      text = ap (λ (x : List ℕ). x ++ b ∷ []) h.3;
-      start = ap length h.3;
-    })
-  | inr other ↦ rw other tt ]
+  | inl uri ↦ rw uri (record {
+    blank = h.0;
+    method = h.1;
+    target = b ∷ [];
+    token = h.2;
+    some = omega arith;
+    all = All-cons (λ x. IsTrue (is_uri_byte x)) b [] uri (All-nil (λ x. IsTrue (is_uri_byte x)));
+    text = ap (λ (x : List ℕ). x ++ b ∷ []) h.3;
+    start = ap length h.3;
+  })
+  | inr other ↦ rw other tt
+]
 
 -- the target is text where the machine says so
 target-text : (t : List ℕ) (from : ℕ) (h : HasTarget t from) → is_utf8 (drop from t) ≡ true → IsUtf8 h.target
@@ -251,44 +258,51 @@ target-text t from h text =
 step-target : (t : List ℕ) (b from : ℕ) → Stands (Target from) t → Stands (advance t (Target from) b) (t ++ b ∷ [])
 unfolding Is
 step-target t b from h = elim (test-is (is_uri_byte b)) [
-    inl uri ↦ rw uri (record {
-      blank = h.blank;
-      method = h.method;
-      target = h.target ++ b ∷ [];
-      token = h.token;
-      some = omega (arith, h.some, length-append h.target (b ∷ []));
-      all = All-push (λ x. IsTrue (is_uri_byte x)) h.target b h.all uri;
-      text = ap (λ (x : List ℕ). x ++ b ∷ []) h.text ∙ append_assoc (print_blank h.blank ++ (h.method ++ 32 ∷ [])) h.target (b ∷ []);
-      start = h.start;
-    })
+  | inl uri ↦ rw uri (record {
+    blank = h.blank;
+    method = h.method;
+    target = h.target ++ b ∷ [];
+    token = h.token;
+    some = omega (arith, h.some, length-append h.target (b ∷ []));
+    all = All-push (λ x. IsTrue (is_uri_byte x)) h.target b h.all uri;
+    text = ap (λ (x : List ℕ). x ++ b ∷ []) h.text ∙ append_assoc (print_blank h.blank ++ (h.method ++ 32 ∷ [])) h.target (b ∷ []);
+    start = h.start;
+  })
   | inr no_uri ↦ elim (is-it b 32) [
-      inl space ↦ elim (test-is (is_utf8 (drop from t))) [
-        inl text ↦ rw (no_uri, space.0, text, space.1) (omega arith, whole-of t from h (target-text t from h text))
-      | inr broken ↦ rw (no_uri, space.0, broken) tt ]
-    | inr other ↦ rw (no_uri, other) tt ] ]
+    | inl space ↦ elim (test-is (is_utf8 (drop from t))) [
+      | inl text ↦ rw (no_uri, space.0, text, space.1) (omega arith, whole-of t from h (target-text t from h text))
+      | inr broken ↦ rw (no_uri, space.0, broken) tt
+    ]
+    | inr other ↦ rw (no_uri, other) tt
+  ]
+]
 
 step-version : (t : List ℕ) (b k : ℕ) → Stands (Version k) t → Stands (advance t (Version k) b) (t ++ b ∷ [])
 unfolding Is
 step-version t b k h = elim (is-it b (version_byte k)) [
-    inl right ↦ elim (test-is (nat_lt k 6)) [
-      inl more ↦ let small : k < 6 = ltb-true k 6 more in
+  | inl right ↦ elim (test-is (nat_lt k 6)) [
+    | inl more ↦ let small : k < 6 = ltb-true k 6 more in
         rw (right.0, more) (omega (arith, small), turn (EndsVersion k) (EndsVersion (k + 1)) b t (λ s. version-more k b s small right.1) h.1)
     | inr no_more ↦ let last : k ≡ 6 = omega (arith, h.0, ltb-false k 6 no_more) in
-        rw (right.0, no_more) (minor-next t b k last right.1 h.1) ]
-  | inr wrong ↦ rw wrong tt ]
+        rw (right.0, no_more) (minor-next t b k last right.1 h.1)
+  ]
+  | inr wrong ↦ rw wrong tt
+]
   where
     minor-next : (t : List ℕ) (b k : ℕ) → k ≡ 6 → b ≡ version_byte k → Continues (EndsVersion k) t → Continues EndsMinor (t ++ b ∷ [])
     minor-next t b k last is h =
-      let P : ℕ → Type 0 = λ n. Continues (EndsVersion n) t in
-      turn (EndsVersion 6) EndsMinor b t (λ s. version-last b s (is ∙ ap version_byte last)) (subst P last h)
+        let P : ℕ → Type 0 = λ n. Continues (EndsVersion n) t in
+        turn (EndsVersion 6) EndsMinor b t (λ s. version-last b s (is ∙ ap version_byte last)) (subst P last h)
 
 step-minor : (t : List ℕ) (b : ℕ) → Stands Minor t → Stands (advance t Minor b) (t ++ b ∷ [])
 unfolding Is
 step-minor t b h = elim (is-it b 48) [
-    inl nought ↦ rw nought.0 (turn EndsMinor EndsLineEnd b t (λ s. minor-of b 0 s nought.1 (omega arith)) h)
+  | inl nought ↦ rw nought.0 (turn EndsMinor EndsLineEnd b t (λ s. minor-of b 0 s nought.1 (omega arith)) h)
   | inr no_nought ↦ elim (is-it b 49) [
-      inl one ↦ rw (no_nought, one.0) (turn EndsMinor EndsLineEnd b t (λ s. minor-of b 1 s one.1 (omega arith)) h)
-    | inr other ↦ rw (no_nought, other) tt ] ]
+    | inl one ↦ rw (no_nought, one.0) (turn EndsMinor EndsLineEnd b t (λ s. minor-of b 1 s one.1 (omega arith)) h)
+    | inr other ↦ rw (no_nought, other) tt
+  ]
+]
 
 -- a line feed and a carriage return lead on
 step-end : (t : List ℕ) (b : ℕ) (p q : Place) (last : Place) → (b ≡ 10 → Stands p (t ++ b ∷ [])) → (b ≡ 13 → Stands q (t ++ b ∷ []))
@@ -296,10 +310,12 @@ step-end : (t : List ℕ) (b : ℕ) (p q : Place) (last : Place) → (b ≡ 10 �
     → Stands (if b == 10 then p else (if b == 13 then q else last)) (t ++ b ∷ [])
 unfolding Is
 step-end t b p q last feeds returns others = elim (is-it b 10) [
-    inl feed ↦ rw feed.0 (feeds feed.1)
+  | inl feed ↦ rw feed.0 (feeds feed.1)
   | inr no_feed ↦ elim (is-it b 13) [
-      inl return ↦ rw (no_feed, return.0) (returns return.1)
-    | inr other ↦ rw (no_feed, other) (others no_feed other) ] ]
+    | inl return ↦ rw (no_feed, return.0) (returns return.1)
+    | inr other ↦ rw (no_feed, other) (others no_feed other)
+  ]
+]
 
 step-line-end : (t : List ℕ) (b : ℕ) → Stands AtLineEnd t → Stands (advance t AtLineEnd b) (t ++ b ∷ [])
 step-line-end t b h =
@@ -320,8 +336,9 @@ step-line t b h =
   where
     named : (t : List ℕ) (b : ℕ) → Stands Line t → Stands (if is_token_byte b then Name else Broken) (t ++ b ∷ [])
     named t b h = elim (test-is (is_token_byte b)) [
-        inl token ↦ rw token (turn EndsLine EndsName b t (λ s. line-name b s token) h)
-      | inr other ↦ rw other tt ]
+      | inl token ↦ rw token (turn EndsLine EndsName b t (λ s. line-name b s token) h)
+      | inr other ↦ rw other tt
+    ]
 
 step-last : (t : List ℕ) (b : ℕ) → Stands LastFeed t → Stands (advance t LastFeed b) (t ++ b ∷ [])
 step-last t b h = step-feed t b LastFeed Whole (λ feed. rw feed (h (10 ∷ []) refl))
@@ -334,11 +351,12 @@ step-name t b h =
 
 step-value : (t : List ℕ) (b : ℕ) → Stands Value t → Stands (advance t Value b) (t ++ b ∷ [])
 step-value t b h = elim (test-is (is_value_byte b)) [
-    inl value ↦ rw value (turn EndsValue EndsValue b t (λ s. value-more b s value) h)
+  | inl value ↦ rw value (turn EndsValue EndsValue b t (λ s. value-more b s value) h)
   | inr no_value ↦ rw no_value (step-end t b Line Feed Broken
       (λ feed. rw feed (turn EndsValue EndsLine 10 t value-feed h))
       (λ return. rw return (turn EndsValue EndsFeed 13 t value-return h))
-      (λ _ _. tt)) ]
+      (λ _ _. tt))
+]
 
 pub step : (p : Place) (t : List ℕ) (b : ℕ) → Stands p t → Stands (advance t p b) (t ++ b ∷ [])
 step Blank t b h = step-blank t b h

@@ -1,8 +1,9 @@
 -- The fields of a request's head that decide what follows it (RFC 9112, sections 6 and 9.3; RFC 9110, sections 5.6.1
 -- and 8.6). A field is its name and its value without the white space around it.
-use Rattle.std.specs.Prelude.{◌≡◌, ◌⊎◌, ℕ, ◌<◌, ◌≤◌, ◌==◌, ◌&&◌, not, Bool, true, false, List, [], ◌∷◌, ◌++◌, length, take, drop, codes, if◌then◌else◌}
-use Rattle.std.specs.List.{AllByRecursion, list_all, list_any}
-use Rattle.std.specs.Str.{all_ascii_digits, str_eq_ignore_ascii_case}
+use Rattle.std.specs.Prelude.{◌≡◌, ◌⊎◌, ℕ, ◌<◌, ◌≤◌, ◌==◌, ◌&&◌, not, Bool, true, false, List, [], ◌∷◌, ◌++◌, length, take, drop, All, codes, if◌then◌else◌}
+use Rattle.std.specs.List.{list_all, list_any}
+use Rattle.std.specs.Char.{is_ascii_digit}
+use Rattle.std.specs.Str.{str_eq_ignore_ascii_case}
 use Rattle.std.specs.Str.Parse.{digits_value}
 use Rattle.httparse.specs.Grammar.{is_ows, skip_ows}
 use Rattle.swh_base.specs.Limits.{body_limit}
@@ -25,13 +26,13 @@ values name (f ∷ fs) =
 pub record IsLength (text : List ℕ) (n : ℕ) : Type 0 where
   pub some : 1 ≤ length text
   pub few : length text ≤ 18
-  pub digits : all_ascii_digits text ≡ true
+  pub digits : list_all is_ascii_digit text ≡ true
   pub value : n ≡ digits_value 10 text
 
 -- Each of the values is this length. Where there is none, the length is 0.
-unfoldable pub AreLength : List (List ℕ) → ℕ → Type 0
-AreLength [] n = n ≡ 0
-AreLength (v ∷ vs) n = AllByRecursion (λ text. IsLength text n) (v ∷ vs)
+pub record AreLength (texts : List (List ℕ)) (n : ℕ) : Type 0 where
+  pub each : All (λ text. IsLength text n) texts
+  pub none : length texts ≡ 0 → n ≡ 0
 
 abbrev pub content_lengths : List Pair → List (List ℕ)
 content_lengths fs = values (codes "content-length") fs

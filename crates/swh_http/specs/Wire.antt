@@ -64,3 +64,8 @@ AreAsks bytes [] left = IsWaiting bytes × (left ≡ Some bytes)
 AreAsks bytes (Asked request ∷ asks) left =
     (rest : List ℕ) × BeginsRequest bytes request rest × AreAsks rest asks left
 AreAsks bytes (Refused status ∷ asks) left = BeginsRefusal bytes status × (asks ≡ []) × (left ≡ None)
+
+-- how many bytes wait
+abbrev pub held_length : Option (List ℕ) → ℕ
+held_length None = 0
+held_length (Some held) = length held

@@ -6,7 +6,5 @@ use swh_base::Request;
 pub enum Ask {
     Request(Request),
     /// The status to reply with; the connection is to be closed, and nothing more is taken from it.
-    Refused {
-        status: u16,
-    },
+    Refused { status: u16 },
 }

@@ -1,10 +1,11 @@
 //! The fields of a head.
-ghost use Rattle.std.specs.Prelude.{◌≡◌, ℕ, ◌≤◌, true, IfOk, IfSome, IfNone, All, List, map, length};
+ghost use Rattle.std.specs.Prelude.{◌≡◌, ◌↔◌, IsTrue, ℕ, ◌≤◌, true, ◌++◌, ◌∷◌, [], OnOk, IfOk, IfSome, IfNone, All, List, map, length};
 ghost use Rattle.httparse.specs.Grammar.{is_ows, skip_ows};
 ghost use Rattle.httparse.specs.Spans.{IsHeaderWithin, header_bytes};
-ghost use Rattle.std.specs.Str.{str_eq_ignore_ascii_case, all_ascii_digits};
+ghost use Rattle.std.specs.Str.{str_eq_ignore_ascii_case};
+ghost use Rattle.std.specs.Char.{is_ascii_digit};
 ghost use Rattle.std.specs.Str.Parse.{digits_value};
-ghost use Rattle.std.specs.List.{list_any};
+ghost use Rattle.std.specs.List.{list_any, list_all};
 ghost use Rattle.std.specs.Borrow.{Bor};
 ghost use Rattle.swh_http.specs.Field.{values, IsLength, AreLength, is_close, has_close, IsTaken, IsRefusedAs};
 
@@ -19,6 +20,22 @@ fn is_same_word(word: &[u8], other: &[u8]) -> bool
     word.eq_ignore_ascii_case(other)
 }
 
+// The value of this field, where it has the name.
+fn push_named<'a>(
+    found: &mut Vec<&'a [u8]>,
+    head: &'a [u8],
+    header: &HeaderSpan,
+    name: &[u8],
+) -> Result<(), Memory>
+    requires { IsHeaderWithin (length head.now) header.now }
+    ensures { OnOk result (map (λ (v : Bor (List ℕ)). v.now) found.new.items ≡ map (λ (v : Bor (List ℕ)). v.now) found.old.items ++ values name.now (header_bytes head.now header.now ∷ [])) }
+{
+    if is_same_word(header.name.of(head), name) {
+        found.push(header.value.of(head))?;
+    }
+    Ok(())
+}
+
 /// The values of the fields of this name, in any case.
 pub fn values_of<'a>(
     alloc: Global,
@@ -31,22 +48,20 @@ pub fn values_of<'a>(
 {
     let mut found = Vec::new(alloc);
     for header in headers {
-        if is_same_word(header.name.of(head), name) {
-            found.push(header.value.of(head))?;
-        }
+        push_named(&mut found, head, header, name)?;
     }
     Ok(found)
 }
 
 fn is_digits(text: &[u8]) -> bool
-    ensures { result ≡ all_ascii_digits text.now }
+    ensures { result ≡ list_all is_ascii_digit text.now }
 {
     text.iter().all(|byte| byte.is_ascii_digit())
 }
 
 fn number(digits: &[u8]) -> u64
     requires few { length digits.now ≤ 18 }
-    requires all { all_ascii_digits digits.now ≡ true }
+    requires all { list_all is_ascii_digit digits.now ≡ true }
     ensures { result ≡ digits_value 10 digits.now }
 {
     let mut number = 0;
@@ -70,6 +85,21 @@ fn said_length(value: &[u8]) -> Option<u64>
     Some(number(value))
 }
 
+fn says(value: &[u8], length: u64) -> bool
+    ensures { IsTrue result ↔ IsLength value.now length }
+{
+    match said_length(value) {
+        Some(said) => said == length,
+        None => false,
+    }
+}
+
+fn all_say(values: &[&[u8]], length: u64) -> bool
+    ensures { IsTrue result ↔ All (λ (v : Bor (List ℕ)). IsLength v.now length) values.now }
+{
+    values.iter().all(|value| says(value, length))
+}
+
 /// The length that all the values say.
 pub fn common_length(values: &[&[u8]]) -> Option<u64>
     ensures some { IfSome result (λ n. AreLength (map (λ (v : Bor (List ℕ)). v.now) values.now) n) }
@@ -79,12 +109,11 @@ pub fn common_length(values: &[&[u8]]) -> Option<u64>
         return Some(0);
     };
     let length = said_length(first)?;
-    for value in values {
-        if said_length(value) != Some(length) {
-            return None;
-        }
+    if all_say(values, length) {
+        Some(length)
+    } else {
+        None
     }
-    Some(length)
 }
 
 fn is_ows(byte: u8) -> bool
@@ -93,11 +122,17 @@ fn is_ows(byte: u8) -> bool
     byte == b' ' || byte == b'\t'
 }
 
+fn are_ows(text: &[u8]) -> bool
+    ensures { result ≡ list_all is_ows text.now }
+{
+    text.iter().all(|byte| is_ows(*byte))
+}
+
 fn after_ows(text: &[u8]) -> &[u8]
     ensures { result.now ≡ skip_ows text.now }
 {
     let mut rest = text;
-    while let Some((first, more)) = rest.split_first() {
+    'bytes: while let Some((first, more)) = rest.split_first() {
         if !is_ows(*first) {
             return rest;
         }
@@ -113,14 +148,14 @@ fn is_close(item: &[u8]) -> bool
     if word.len() < 5 {
         return false;
     }
-    is_same_word(&word[..5], b"close") && word[5..].iter().all(|byte| is_ows(*byte))
+    is_same_word(&word[..5], b"close") && are_ows(&word[5..])
 }
 
 fn has_close(value: &[u8]) -> bool
     ensures { result ≡ has_close value.now }
 {
     let mut rest = value;
-    while let Some((item, more)) = split_at_byte(rest, b',') {
+    'items: while let Some((item, more)) = split_at_byte(rest, b',') {
         if is_close(item) {
             return true;
         }
@@ -131,7 +166,7 @@ fn has_close(value: &[u8]) -> bool
 
 /// Whether one of these values of `Connection` lists `close`.
 pub fn asks_close(values: &[&[u8]]) -> bool
-    ensures { result ≡ list_any has_close (map (λ (v : Bor (List ℕ)). v.now) values.now) }
+    ensures { result ≡ list_any (λ (v : Bor (List ℕ)). has_close v.now) values.now }
 {
     values.iter().any(|value| has_close(value))
 }
