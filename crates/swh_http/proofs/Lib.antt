@@ -3,5 +3,6 @@ mod Fields
 mod Follow
 mod Heads
 mod Numbers
+mod Pieces
 mod Stand
 mod Turns

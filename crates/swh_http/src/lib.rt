@@ -6,11 +6,16 @@
 mod ask;
 mod field;
 mod head;
+mod laws;
 mod place;
 mod reply;
 mod session;
 mod state;
 
 pub use ask::Ask;
+pub use laws::any_pieces;
 pub use reply::reply_bytes;
 pub use session::Session;
+
+#[cfg(test)]
+mod tests;
