@@ -1,0 +1,26 @@
+-- The bytes of a reply (RFC 9112, section 4; RFC 9110, sections 8.3 and 8.6).
+use Rattle.std.specs.Prelude.{ℕ, Bool, List, [], ◌∷◌, ◌++◌, length, codes, decimal, unwrap_or, if◌then◌else◌}
+use Rattle.http.specs.StatusCode.{reason_phrase}
+use Rattle.swh_base.specs.declared.request.Reply.{Reply}
+
+-- the standard phrase of a status, and none where it has none
+abbrev pub phrase_of : ℕ → List ℕ
+phrase_of status = unwrap_or (reason_phrase status) []
+
+unfoldable pub status_line : ℕ → List ℕ
+status_line status = codes "HTTP/1.1 " ++ decimal status ++ codes " " ++ phrase_of status ++ codes "\r\n"
+
+unfoldable pub length_line : ℕ → List ℕ
+length_line n = codes "Content-Length: " ++ decimal n ++ codes "\r\n"
+
+abbrev pub type_line : Bool → List ℕ
+type_line json =
+    if json then codes "Content-Type: application/json\r\n" else codes "Content-Type: application/octet-stream\r\n"
+
+abbrev pub closing : Bool → List ℕ
+closing keep = if keep then [] else codes "Connection: close\r\n"
+
+unfoldable pub bytes_of : Reply → Bool → List ℕ
+bytes_of reply keep =
+    status_line reply.status ++ length_line (length reply.body) ++ type_line reply.json ++ closing keep
+    ++ codes "\r\n" ++ reply.body

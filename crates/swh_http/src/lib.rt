@@ -1,0 +1,21 @@
+//! Requests and replies on the wire: HTTP/1.0 and 1.1, over one connection.
+//! Stands on `swh_base`, `swh_pieces`, `httparse`, `http` and `itoa`.
+//! Above it may rely on: over any pieces the requests are those of the bytes, and a refusal comes exactly in its case.
+#![tactic(auto)]
+
+mod ask;
+mod field;
+mod head;
+mod laws;
+mod place;
+mod reply;
+mod session;
+mod state;
+
+pub use ask::Ask;
+pub use laws::any_pieces;
+pub use reply::reply_bytes;
+pub use session::Session;
+
+#[cfg(test)]
+mod tests;

@@ -1,0 +1,79 @@
+//! The bytes of a reply.
+ghost use Rattle.std.specs.Prelude.{◌≡◌, ◌++◌, IfOk, OnOk, decimal};
+ghost use Rattle.http.specs.StatusCode.{IsStatusCode};
+ghost use Rattle.swh_http.specs.Reply.{bytes_of, phrase_of, closing, status_line, length_line, type_line};
+
+use http::StatusCode;
+use itoa::Buffer;
+use std::alloc::{AllocError, Global};
+use swh_base::{Memory, Reply};
+
+fn push_decimal(text: &mut Vec<u8>, number: u64) -> Result<(), AllocError>
+    ensures { OnOk result (text.new.items ≡ text.old.items ++ decimal number) }
+{
+    let mut buffer = Buffer::new();
+    text.extend_from_slice(buffer.format(number).as_bytes())
+}
+
+fn phrase(status: u16) -> &'static str
+    requires { IsStatusCode status }
+    ensures { result.now ≡ phrase_of status }
+{
+    match StatusCode::from_u16(status) {
+        Ok(status) => status.canonical_reason().unwrap_or(""),
+        Err(_) => unreachable!(),
+    }
+}
+
+fn push_status(text: &mut Vec<u8>, status: u16) -> Result<(), AllocError>
+    requires { IsStatusCode status }
+    ensures { OnOk result (text.new.items ≡ text.old.items ++ status_line status) }
+{
+    text.extend_from_slice(b"HTTP/1.1 ")?;
+    push_decimal(text, u64::from(status))?;
+    text.extend_from_slice(b" ")?;
+    text.extend_from_slice(phrase(status).as_bytes())?;
+    text.extend_from_slice(b"\r\n")?;
+    Ok(())
+}
+
+fn push_length(text: &mut Vec<u8>, length: u64) -> Result<(), AllocError>
+    ensures { OnOk result (text.new.items ≡ text.old.items ++ length_line length) }
+{
+    text.extend_from_slice(b"Content-Length: ")?;
+    push_decimal(text, length)?;
+    text.extend_from_slice(b"\r\n")?;
+    Ok(())
+}
+
+fn type_line(json: bool) -> &'static [u8]
+    ensures { result.now ≡ type_line json }
+{
+    if json {
+        b"Content-Type: application/json\r\n"
+    } else {
+        b"Content-Type: application/octet-stream\r\n"
+    }
+}
+
+fn closing(keep: bool) -> &'static [u8]
+    ensures { result.now ≡ closing keep }
+{
+    if keep { b"" } else { b"Connection: close\r\n" }
+}
+
+/// The bytes of a reply, whose status is a number of three digits. A connection that is not kept is said to close.
+pub fn reply_bytes(alloc: Global, reply: &Reply, keep: bool) -> Result<Vec<u8>, Memory>
+    requires { IsStatusCode reply.now.status }
+    ensures { IfOk result (λ bytes. bytes.items ≡ bytes_of reply.now keep) }
+{
+    let body = reply.body.as_slice();
+    let mut text = Vec::new(alloc);
+    push_status(&mut text, reply.status)?;
+    push_length(&mut text, body.len() as u64)?;
+    text.extend_from_slice(type_line(reply.json))?;
+    text.extend_from_slice(closing(keep))?;
+    text.extend_from_slice(b"\r\n")?;
+    text.extend_from_slice(body)?;
+    Ok(text)
+}
