@@ -22,6 +22,7 @@ use Rattle.swh_model.specs.Meaning.{Made, same_made, content, directory, branch_
 abbrev pub made_of : Entry → Made
 made_of object = record { kind = object.name.kind; body = object.body }
 
+-- the kinds and bodies of these objects
 abbrev pub made : List Entry → List Made
 made objects = map made_of objects
 

@@ -8,6 +8,7 @@ use Rattle.swh_model.specs.Archive.{Archive, visits_of}
 use Rattle.swh_model.specs.Step.{IsGood, AreNew, after}
 use Rattle.swh_keeper.specs.declared.replayed.Replayed.{Replayed}
 
+-- the archive that is in memory
 abbrev pub archive_of : Replayed → Archive
 archive_of r = record { bodies = r.bodies; origins = r.visits }
 

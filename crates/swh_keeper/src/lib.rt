@@ -1,6 +1,6 @@
 //! Keeps an archive: two disks, and the replay of their history in memory.
 //! Stands on `swh_base`, `swh_object`, `swh_outside`, `swh_segment` and `swh_model`.
-//! Above it may rely on: a plan is judged as the model says, and the disks stand for the history unless a disk failed.
+//! Callers may rely on: a plan is judged as the model says, and the disks stand for the history unless a disk failed.
 #![tactic(auto)]
 
 mod adding;

@@ -9,6 +9,7 @@ use Rattle.swh_model.specs.declared.event.EventKind.{EventKind}
 use Rattle.swh_model.specs.declared.event.EventKind.TheVariants.{Batch, Open, Mark}
 use Rattle.swh_keeper.specs.Kept.{Kept}
 
+-- the opening of a visit of this origin
 abbrev pub opening : ℕ → List ℕ → ℕ → Event
 opening by origin date = record { by = by; what = Open origin Fast date }
 

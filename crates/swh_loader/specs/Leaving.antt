@@ -60,6 +60,7 @@ pub record StopsLater {D : Type 0} (id : Kind → List ℕ → List ℕ) (faults
   pub unended : IsOpen new.history origin fault.visit by
   pub stops : StopsFor id faults (IsOwn IsBatch by origin fault.visit) old new fault.why
 
+-- The load stopped before its visit was opened, or after.
 abbrev pub Stops : {D : Type 0} → (Kind → List ℕ → List ℕ) → (D → ℕ) → (List Entry → Type 0) → ℕ → List ℕ → ℕ → Kept D → Kept D → LoadFault → Type 0
 Stops id faults IsBatch by origin date old new fault = StopsAtOnce id faults by origin date old new fault ⊎ StopsLater id faults IsBatch by origin date old new fault
 

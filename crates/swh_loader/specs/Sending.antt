@@ -27,6 +27,7 @@ IsStanding bodies e New = body_of bodies e.name ≡ None
 abbrev pub AllHeld : Bodies → List Entry → Type 0
 AllHeld bodies entries = AllByRecursion (λ e. body_of bodies e.name ≡ Some e.body) entries
 
+-- the bodies that an archive holds
 abbrev pub bodies_of : {D : Type 0} → Kept D → Bodies
 bodies_of k = (replay k.history).bodies
 

@@ -11,11 +11,13 @@ use Rattle.swh_model.specs.declared.event.Visit.{Visit}
 use Rattle.swh_model.specs.Archive.{Archive, visits_of}
 use Rattle.swh_model.specs.Step.{Statuses}
 
+-- the word of a visit's kind
 abbrev pub visit_kind_word : VisitKind → List ℕ
 visit_kind_word Fast = codes "fast"
 visit_kind_word Dir = codes "dir"
 visit_kind_word Batch = codes "batch"
 
+-- the word of a visit's status
 abbrev pub status_word : Status → List ℕ
 status_word Created = codes "created"
 status_word Ongoing = codes "ongoing"
@@ -39,6 +41,7 @@ json_byte c = if c == 34 || c == 92 then 92 ∷ c ∷ [] else c ∷ []
 abbrev pub json_text : List ℕ → List ℕ
 json_text bytes = 34 ∷ (flat_map (λ c. flat_map json_byte (escaped_byte c)) bytes ++ 34 ∷ [])
 
+-- a snapshot's id in JSON: its forty digits as a string, or null
 abbrev pub json_snapshot : Option (List ℕ) → List ℕ
 json_snapshot None = codes "null"
 json_snapshot (Some id) = 34 ∷ (encode_lower id ++ 34 ∷ [])
@@ -59,13 +62,16 @@ visit_json origin v =
 abbrev pub visits_json : List ℕ → List Visit → List ℕ
 visits_json origin visits = 91 ∷ (join_with_byte 44 (map (visit_json origin) (reverse visits)) ++ 93 ∷ [])
 
+-- a reply: its HTTP status and its body
 pub record ReplyText : Type 0 where
   pub status : ℕ
   pub body : List ℕ
 
+-- the reply where nothing answers to a path
 abbrev pub not_found : ReplyText
 not_found = record { status = 404; body = codes "{\"error\":\"not found\"}" }
 
+-- the reply on an origin's visits: 404 where there is none
 abbrev pub reply_with : List ℕ → List Visit → ReplyText
 reply_with origin [] = not_found
 reply_with origin (v ∷ vs) = record { status = 200; body = visits_json origin (v ∷ vs) }

@@ -19,6 +19,7 @@ use Rattle.swh_model.specs.declared.event.EventKind.TheVariants.{Batch, Open, Ma
 abbrev pub magic : List ℕ
 magic = 83 ∷ 87 ∷ 72 ∷ 65 ∷ 82 ∷ 67 ∷ 49 ∷ 10 ∷ []
 
+-- an object in the store: its kind, the body's length in eight bytes, the id and the body
 unfoldable pub coded_entry : Entry → List ℕ
 coded_entry e = kind_number e.name.kind ∷ (to_be_bytes w64 (length e.body) ++ (e.name.id ++ e.body))
 
@@ -52,6 +53,7 @@ status_number Partial = 4
 status_number NotFound = 5
 status_number Failed = 6
 
+-- a byte 1 and the id, or a byte 0
 abbrev pub coded_snapshot : Option (List ℕ) → List ℕ
 coded_snapshot None = 0 ∷ []
 coded_snapshot (Some id) = 1 ∷ id
@@ -71,6 +73,7 @@ payload_of at e = to_be_bytes w32 e.by ++ told at e.what
 unfoldable pub framed : ℕ → List ℕ → List ℕ
 framed kind payload = kind ∷ (to_be_bytes w32 (length payload) ++ payload)
 
+-- the record of an event whose run begins at this place of the store
 abbrev pub coded_record : ℕ → Event → List ℕ
 coded_record at e = framed (event_byte e.what) (payload_of at e)
 
@@ -88,6 +91,7 @@ pub record IsOrigin (origin : List ℕ) : Type 0 where
   pub url : IsUrl origin
   pub utf8 : IsUtf8 origin
 
+-- The id has twenty bytes, and the body's length fits eight.
 pub record IsCodableEntry (e : Entry) : Type 0 where
   pub id : length e.name.id ≡ 20
   pub body : length e.body < 2 ^ 64
@@ -125,6 +129,7 @@ IsCodableKind at (Mark origin visit status snapshot) = IsCodableMark origin visi
 abbrev pub IsCodable : ℕ → Event → Type 0
 IsCodable at e = (e.by < 2 ^ 32) × IsCodableKind at e.what
 
+-- All parts of these events fit their fields.
 abbrev pub AreCodable : ℕ → List Event → Type 0
 AreCodable at [] = Unit {0}
 AreCodable at (e ∷ es) = IsCodable at e × AreCodable (at + length (run_of e.what)) es

@@ -7,9 +7,11 @@ use Rattle.swh_model.specs.declared.event.Event.{Event}
 use Rattle.swh_model.specs.declared.event.EventKind.{EventKind}
 use Rattle.swh_model.specs.Coding.{told, run_of}
 
+-- the objects of a batch
 abbrev pub objects_limit : ℕ
 objects_limit = 4096
 
+-- the bytes of a batch's bodies, but for the last
 abbrev pub bytes_limit : ℕ
 bytes_limit = 8388608
 
@@ -26,6 +28,7 @@ bytes_before_last [] = 0
 bytes_before_last (e ∷ []) = 0
 bytes_before_last (e ∷ f ∷ es) = length e.body + bytes_before_last (f ∷ es)
 
+-- A batch of these is within the limits.
 pub record IsWithinLimits (entries : List Entry) : Type 0 where
   pub bodies : AllByRecursion (λ e. length e.body ≤ body_limit) entries
   pub objects : length entries ≤ objects_limit
@@ -35,9 +38,11 @@ pub record IsWithinLimits (entries : List Entry) : Type 0 where
 abbrev pub payload_length : EventKind → ℕ
 payload_length what = 4 + length (told 0 what)
 
+-- the bytes that an event adds to the store
 abbrev pub stored_length : EventKind → ℕ
 stored_length what = length (run_of what)
 
+-- where the runs of a history end in the store
 abbrev pub store_length : List Event → ℕ
 store_length [] = 0
 store_length (e ∷ es) = stored_length e.what + store_length es

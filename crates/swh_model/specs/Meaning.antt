@@ -22,6 +22,7 @@ pub record Made : Type 0 where
   pub kind : Kind
   pub body : List ℕ
 
+-- whether the two have one kind and one body
 abbrev pub same_made : Made → Made → Bool
 same_made a b = (kind_number a.kind == kind_number b.kind) && is_eq (slice_cmp nat_cmp a.body b.body)
 
@@ -39,6 +40,7 @@ pub record Making : Type 0 where
 abbrev pub Marks : Type 0
 Marks = List (ℕ × List ℕ)
 
+-- the marks after some blobs
 abbrev pub marks_after : (Kind → List ℕ → List ℕ) → Marks → List Blob → Marks
 marks_after id marks [] = marks
 marks_after id marks (b ∷ bs) = marks_after id (insert_entry nat_cmp marks b.mark (id Content b.bytes)) bs
@@ -52,9 +54,11 @@ abbrev pub tree_after : Marks → PathMap → List Change → Option PathMap
 tree_after marks tree [] = Some tree
 tree_after marks tree (c ∷ cs) = option_and_then (λ id. tree_after marks (set c.name (record { mode = 100644; id = id }) tree) cs) (marked marks c.mark)
 
+-- the content of these bytes
 abbrev pub content : List ℕ → Made
 content bytes = record { kind = Content; body = bytes }
 
+-- the directory of this body
 abbrev pub directory : List ℕ → Made
 directory body = record { kind = Directory; body = body }
 
@@ -62,6 +66,7 @@ directory body = record { kind = Directory; body = body }
 abbrev pub revision : List ℕ → Commit → Made
 revision root c = record { kind = Revision; body = revision_text (record { directory = root; parents = []; rest = line (codes "author ") c.committer (line (codes "committer ") c.committer (10 ∷ c.message)) }) }
 
+-- the branch of this name that leads to the revision of this id
 abbrev pub branch_to : List ℕ → List ℕ → SnapshotBranch
 branch_to name id = record { name = name; target = ToObject (revision_name id) }
 
@@ -70,6 +75,7 @@ abbrev pub put_branch : SnapshotBranch → List SnapshotBranch → List Snapshot
 put_branch b [] = b ∷ []
 put_branch b (c ∷ cs) = match_ordering (slice_cmp nat_cmp b.name c.name) (b ∷ c ∷ cs) (b ∷ cs) (c ∷ put_branch b cs)
 
+-- the branch `HEAD`, an alias to this head
 abbrev pub head_branch : List ℕ → SnapshotBranch
 head_branch head = record { name = codes "HEAD"; target = ToBranch head }
 
@@ -85,6 +91,7 @@ snapshot branches = record { kind = Snapshot; body = snapshot_text branches }
 abbrev pub commit_makes : (Kind → List ℕ → List ℕ) → Commit → PathMap → List Made
 commit_makes id c tree = map directory (directory_bodies (id Directory) tree) ++ revision (id Directory (directory_text (directory_of (id Directory) tree))) c ∷ []
 
+-- the commit's branch, which leads to its revision
 abbrev pub tip : (Kind → List ℕ → List ℕ) → Commit → PathMap → SnapshotBranch
 tip id c tree = branch_to c.branch (id Revision (revision (id Directory (directory_text (directory_of (id Directory) tree))) c).body)
 
@@ -96,6 +103,7 @@ abbrev pub makes : (Kind → List ℕ → List ℕ) → Option (List ℕ) → Li
 makes id head blobs None = Some (making id head (map (λ b. content b.bytes) blobs) [])
 makes id head blobs (Some c) = option_and_then (λ tree. Some (making id head (map (λ b. content b.bytes) blobs ++ commit_makes id c tree) (tip id c tree ∷ []))) (tree_after (marks_after id [] blobs) [] c.changes)
 
+-- No body is above the limit.
 abbrev pub AreWithinLimit : List Made → Type 0
 AreWithinLimit objects = AllByRecursion (λ m. length m.body ≤ body_limit) objects
 

@@ -10,14 +10,17 @@ use Rattle.std.specs.List.{AllPass, AllByRecursion}
 use Rattle.swh_base.specs.Limits.{body_limit, line_limit, path_limit}
 use Rattle.swh_base.specs.Text.{is_digit, IsRef, IsPerson}
 
+-- a blob: its mark and its bytes
 pub record Blob : Type 0 where
   pub mark : ℕ
   pub bytes : List ℕ
 
+-- a change: the mark of a blob, and the name of the file that it becomes
 pub record Change : Type 0 where
   pub mark : ℕ
   pub name : List ℕ
 
+-- a commit: its branch, its mark, its committer, its message and its changes
 pub record Commit : Type 0 where
   pub branch : List ℕ
   pub mark : ℕ
@@ -25,6 +28,7 @@ pub record Commit : Type 0 where
   pub message : List ℕ
   pub changes : List Change
 
+-- a stream: its blobs, and its commit where there is one
 pub record SmallStream : Type 0 where
   pub blobs : List Blob
   pub commit : Option Commit
@@ -44,6 +48,7 @@ pub record IsNumber (text : List ℕ) (n : ℕ) : Type 0 where
   pub digits : AllPass is_digit text
   pub value : n ≡ value_from 0 text
 
+-- The text spells the mark, which is 1 or more.
 pub record IsMark (text : List ℕ) (mark : ℕ) : Type 0 where
   pub number : IsNumber text mark
   pub positive : 1 ≤ mark

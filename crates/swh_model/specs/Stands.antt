@@ -17,6 +17,7 @@ pub record StandsFrom (at : ℕ) (ledger store : List ℕ) (h : List Event) : Ty
   pub runs : store ≡ coded_runs h ++ beyond
   pub codable : AreCodable at h
 
+-- The ledger is the magic, the events' records and a closed gate, and the store begins with their runs.
 pub record StandsFor (ledger store : List ℕ) (h : List Event) : Type 0 where
   pub rest : List ℕ
   pub begins : ledger ≡ magic ++ rest
@@ -26,6 +27,7 @@ pub record StandsFor (ledger store : List ℕ) (h : List Event) : Type 0 where
 abbrev pub bare : Entry → Entry
 bare e = record e { kids = [] }
 
+-- what happened, its entries without their kids
 abbrev pub bare_kind : EventKind → EventKind
 bare_kind (Batch entries) = Batch (map bare entries)
 bare_kind (Open origin kind date) = Open origin kind date

@@ -34,5 +34,6 @@ AreStops failed [] = Unit {0}
 AreStops true (o ∷ outcomes) = IsStoppedAtOnce o × AreStops true outcomes
 AreStops false (o ∷ outcomes) = IsUnwounded o × AreStops (is_disk_fault o) outcomes
 
+-- No disk failed in any of these loads.
 abbrev pub HaveNoDiskFault : List (Result Loaded LoadFault) → Type 0
 HaveNoDiskFault outcomes = AllByRecursion (λ o. is_disk_fault o ≡ false) outcomes

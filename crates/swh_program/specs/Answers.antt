@@ -15,6 +15,7 @@ last_line_for ending.Wanting = []
 last_line_for ending.OutsideDisk = refusal (codes "outside disk")
 last_line_for ending.Memory = refusal (codes "memory")
 
+-- the last line that is printed for an answer
 abbrev pub last_line_of : Answer → List ℕ
 last_line_of Made = codes "made" ++ 10 ∷ []
 last_line_of (Told text end) = last_line_for end

@@ -56,6 +56,7 @@ module _ (id_of : Kind → List ℕ → List ℕ) where
   abbrev pub IsUnusable : Files → Type 0
   IsUnusable files = IsNotMade (files 0).seen ⊎ IsDamaged id_of files
 
+  -- The archive is not as the command needs it.
   abbrev pub HasOtherArchive : Folders → FileAt → Wanted → Type 0
   HasOtherArchive folders desk_at (ToInit dir) = IsMade (archive_at folders dir 0).seen
   HasOtherArchive folders desk_at (ToLoad dir jobs) = ((list : List Job) × AreJobsAt desk_at jobs list) × IsUnusable (archive_at folders dir)

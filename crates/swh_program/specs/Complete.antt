@@ -25,6 +25,7 @@ pub record MeantJob : Type 0 where
   pub job : Job
   pub making : Making
 
+-- the jobs, without what their inputs make
 abbrev pub jobs_of : List MeantJob → List Job
 jobs_of meant = map (λ m. m.job) meant
 
@@ -32,6 +33,7 @@ jobs_of meant = map (λ m. m.job) meant
 abbrev pub full_line : List Event → MeantJob → List ℕ
 full_line before m = line_of m.job.url (next_visit before m.job.url) (codes "full") (core_text (snapshot_name m.making.snapshot))
 
+-- the lines of full jobs, in their order
 abbrev pub full_lines : List Event → List MeantJob → List ℕ
 full_lines before meant = flat_map (full_line before) meant
 
@@ -46,6 +48,7 @@ module _ (id_of : Kind → List ℕ → List ℕ) where
     pub there : input_at m.job.path ≡ Some text
     pub means : IsMeaning id_of m.job.head text m.making
 
+  -- The inputs of these jobs are there, and mean this.
   abbrev pub AreMeant : FileAt → List MeantJob → Type 0
   AreMeant input_at meant = AllByRecursion (IsMeant input_at) meant
 

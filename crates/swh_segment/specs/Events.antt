@@ -4,6 +4,7 @@ use Rattle.swh_outside.specs.Disk.{Call, Write, Sync, IsAtRest}
 use Rattle.swh_outside.specs.Files.{Files, FileCall, Images, on}
 use Rattle.swh_segment.specs.Record.{Record, Stands, IsReady, IsSettled, append_calls}
 
+-- an event: its record, and its run where it is a batch
 pub record Event : Type 0 where
   pub entry : Record
   pub run : Option (List ℕ)

@@ -8,6 +8,7 @@ use Rattle.swh_segment.specs.Record.{Stands, IsSettled, write_calls}
 abbrev pub IsMade : List ℕ → Type 0
 IsMade bytes = (9 ≤ length bytes) × (get_or bytes 0 0 ≡ 83)
 
+-- a ledger is not made where it has fewer than 9 bytes, or the first is no S
 abbrev pub IsNotMade : List ℕ → Type 0
 IsNotMade bytes = (length bytes < 9) ⊎ (get_or bytes 0 0 ≢ 83)
 

@@ -1,6 +1,6 @@
 //! The two files of an archive as records: the making, and what is written in which order.
 //! Stands on `swh_outside`.
-//! Above it may rely on: each call on the disks is one of a stated plan, cut where a disk fails.
+//! Callers may rely on: each call on the disks is one of a stated plan, cut where a disk fails.
 #![tactic(auto)]
 
 mod beginning;
