@@ -1,13 +1,12 @@
 #!/usr/bin/env python3
-"""Times the load and the opening of 140,000 files whose ids were chosen, beside as many that were not.
+"""Times the load and the opening of 70,000 files whose ids were chosen, beside as many that were not.
 
     python3 bench/chosen_names.py [PROGRAM [FILES]]
 
 The chosen ones collide in a hash map of the kit: their keys (the kind's number and the id) begin their search in one
 32nd of the table, where each goes past all that stand there. Finding them takes 32 SHA-1 a file. Loading and opening
 them may take at most one and a half times as long as the others. The script compiles a few lines of C for the map's
-hash with `cc`. The program is the built one, outside the gate: after a whole `rt ci` it stands in
-`crates/swharc/out/swharc`; before, `rt run` in `crates/swharc` builds it.
+hash with `cc`. The program is the built one, outside the gate.
 """
 import hashlib
 import os
@@ -17,7 +16,9 @@ import sys
 import tempfile
 import time
 
-FILES = 140_000
+from program import find_program
+
+FILES = 70_000
 CHOSEN_BITS = 5
 GROUP_LOAD = 9
 MOST_TIMES = 1.5
@@ -134,9 +135,7 @@ def time_ask(program, archive):
 
 
 def main():
-    here = os.path.dirname(os.path.abspath(__file__))
-    program = sys.argv[1] if len(sys.argv) > 1 else os.path.join(here, "..", "crates/swharc/out/swharc")
-    program = os.path.abspath(program)
+    program = find_program()
     count = int(sys.argv[2]) if len(sys.argv) > 2 else FILES
     good = True
     with tempfile.TemporaryDirectory() as folder:

@@ -5,8 +5,7 @@
 
 What is closed once is not walked again: the opening with 256 visits may take at most 1.3 times as long as that with
 one, by the medians of runs in turn. Each opening is an `ask` for an origin that is not there. The program is the built
-one, outside the gate: after a whole `rt ci` it stands in `crates/swharc/out/swharc`; before, `rt run` in
-`crates/swharc` builds it.
+one, outside the gate.
 """
 import hashlib
 import os
@@ -16,6 +15,8 @@ import subprocess
 import sys
 import tempfile
 import time
+
+from program import find_program
 
 FILES = 10_000
 VISITS = (1, 256)
@@ -79,9 +80,7 @@ def time_ask(program, archive):
 
 
 def main():
-    here = os.path.dirname(os.path.abspath(__file__))
-    program = sys.argv[1] if len(sys.argv) > 1 else os.path.join(here, "..", "crates/swharc/out/swharc")
-    program = os.path.abspath(program)
+    program = find_program()
     objects = objects_of(FILES)
     took = {visits: [] for visits in VISITS}
     with tempfile.TemporaryDirectory() as folder:
