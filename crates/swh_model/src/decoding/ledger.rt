@@ -87,7 +87,7 @@ pub fn next_record(alloc: Global, records: &[u8]) -> Result<Next<'_>, Memory>
 
 #[cfg(test)]
 mod tests {
-    use super::{Next, next_record, split_magic};
+    use super::{Next, Record, next_record, split_magic};
     use crate::decoding::told::Told;
     use crate::event::EventKind;
     use std::test::Fail;
@@ -104,15 +104,18 @@ mod tests {
     }
 
     #[test]
-    fn an_opening_stands_behind_an_open_gate(rt: HostRuntime) -> Result<(), Fail> {
+    fn an_opening_stands_after_an_open_gate(rt: HostRuntime) -> Result<(), Fail> {
         let alloc = rt.alloc();
         let records = b"\x01O\0\0\0\x1c\0\0\0\x01\x01\0\0\0\0\x3b\x9a\xca\0https://e.org/p\0";
-        let Next::Record(record) = next_record(alloc, records)? else {
-            return Err(Fail::from("a record"));
+        let record = match next_record(alloc, records)? {
+            Next::Record(record) => record,
+            Next::End => return Err(Fail::from("an end")),
+            Next::Broken => return Err(Fail::from("no record")),
         };
-        assert_eq!(rt; record.by, 1);
-        assert_eq!(rt; record.rest, b"\0".as_slice());
-        let Told::Whole(EventKind::Open { origin, kind, date }) = record.told else {
+        let Record { by, told, rest } = record;
+        assert_eq!(rt; by, 1);
+        assert_eq!(rt; rest.len(), 1);
+        let Told::Whole(EventKind::Open { origin, kind, date }) = told else {
             return Err(Fail::from("an opening"));
         };
         assert_eq!(rt; origin.as_str(), "https://e.org/p");
