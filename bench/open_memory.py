@@ -6,8 +6,7 @@
 Two archives are written as files: one of four contents of 64 MiB, and one of 300,000 contents of 20 bytes. Each is
 opened by an `ask` for an origin that is not there. Above the peak of an `ask` on an archive of no event, an opening may
 take 1.3 times the bytes of all bodies and 400 bytes an object. Then the store of a small archive is made a terabyte
-long by a hole behind its last run, and is opened all the same. The program is the built one, outside the gate: after a
-whole `rt ci` it stands in `crates/swharc/out/swharc`; before, `rt run` in `crates/swharc` builds it.
+long by a hole after its last run, and is opened all the same. The program is the built one, outside the gate.
 """
 import hashlib
 import os
@@ -15,6 +14,8 @@ import struct
 import subprocess
 import sys
 import tempfile
+
+from program import find_program
 
 LARGE = (4, 64 << 20)
 SMALL = (300_000, 20)
@@ -54,21 +55,28 @@ def write_archive(folder, count, size):
     return folder
 
 
+# A process takes over the peak of the one that starts it, so that one is small.
+LAUNCHER = """
+import resource, subprocess, sys
+said = subprocess.run(sys.argv[1:], stdout=subprocess.PIPE, stderr=subprocess.STDOUT).stdout
+print(resource.getrusage(resource.RUSAGE_CHILDREN).ru_maxrss)
+sys.stdout.flush()
+sys.stdout.buffer.write(said)
+"""
+
+
 def peak_of_asking(program, archive):
     """The most bytes that the process held at once."""
     command = [program, "ask", archive, "/api/1/origin/https%3A%2F%2Fe.org%2Fp/visits/"]
-    child = subprocess.Popen(command, stdout=subprocess.PIPE, stderr=subprocess.STDOUT)
-    said = child.stdout.read()
-    _, _, usage = os.wait4(child.pid, 0)
+    launched = subprocess.run([sys.executable, "-S", "-c", LAUNCHER] + command, check=True, stdout=subprocess.PIPE)
+    kilobytes, said = launched.stdout.split(b"\n", 1)
     if not said.startswith(NOT_FOUND):
         sys.exit("%s is not opened: %r" % (archive, said[:200]))
-    return usage.ru_maxrss * 1024
+    return int(kilobytes) * 1024
 
 
 def main():
-    here = os.path.dirname(os.path.abspath(__file__))
-    program = sys.argv[1] if len(sys.argv) > 1 else os.path.join(here, "..", "crates/swharc/out/swharc")
-    program = os.path.abspath(program)
+    program = find_program()
     good = True
     with tempfile.TemporaryDirectory() as folder:
         empty = peak_of_asking(program, write_archive(os.path.join(folder, "empty"), 0, 20))
