@@ -50,18 +50,21 @@ space-goes before (b ∷ bs) all =
     subst P (sym (one-on before Space b bs (Target (length before)) (Target (length before)) (target-starts before b (pass-head is_uri_byte b bs all))
     (target-goes (before ++ b ∷ []) (length before) bs (pass-tail is_uri_byte b bs all)))) tt
 
-pub no-target : (bytes : List ℕ) → place_of bytes ≡ Broken → EndsInTarget bytes → ⊥
-no-target bytes is (blank, method, target, token, all, text) =
+pub target-goes-on : (bytes : List ℕ) → EndsInTarget bytes → GoesOn (place_of bytes)
+target-goes-on bytes (blank, method, target, token, all, text) =
     let front = print_blank blank ++ (method ++ 32 ∷ []) in
     let there : place_of front ≡ Space = blank-leads blank (method ++ 32 ∷ []) Space (method-leads method [] Space token (λ before. refl)) [] in
     let split : bytes ≡ front ++ target = text ∙ regrouped (print_blank blank) method target in
     let place : place_of bytes ≡ advance_all front Space target =
     ap place_of split ∙ advance_all-append [] Blank front target ∙ ap (λ (p : Place). advance_all front p target) there in
     let P : Place → Type 0 = λ p. GoesOn p in
-    subst P (sym place ∙ is) (space-goes front target all)
+    subst P (sym place) (space-goes front target all)
   where
     regrouped : (a b c : List ℕ) → (a ++ b) ++ 32 ∷ c ≡ (a ++ (b ++ 32 ∷ [])) ++ c
     regrouped a b c = simp (append_assoc, cons-append)
+
+pub no-target : (bytes : List ℕ) → place_of bytes ≡ Broken → EndsInTarget bytes → ⊥
+no-target bytes is target = let P : Place → Type 0 = λ p. GoesOn p in subst P is (target-goes-on bytes target)
 
 -- ---- a request may follow
 

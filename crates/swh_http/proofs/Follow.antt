@@ -47,7 +47,7 @@ pub one-on : (before : List ℕ) (p : Place) (b : ℕ) (bs : List ℕ) (r q : Pl
     → advance before p b ≡ r → advance_all (before ++ b ∷ []) r bs ≡ q → advance_all before p (b ∷ bs) ≡ q
 one-on before p b bs r q e h = let P : Place → Type 0 = λ x. advance_all (before ++ b ∷ []) x bs ≡ q in subst P (sym e) h
 
-over : (bytes : List ℕ) → Leads Over bytes Over
+pub over : (bytes : List ℕ) → Leads Over bytes Over
 over [] before = refl
 over (b ∷ bs) before = over bs (before ++ b ∷ [])
 

@@ -6,3 +6,4 @@ mod Numbers
 mod Pieces
 mod Stand
 mod Turns
+mod Unique

@@ -6,13 +6,14 @@ use Rattle.std.proofs.lemmas.List.{append-nil, length-append, take-append-drop, 
 use Rattle.std.proofs.Math.Seq.{append_snoc, drop-length}
 use Rattle.httparse.specs.Grammar.{RequestHead, ReadsRequest, print_request, print_blank, is_token_byte, is_uri_byte, is_value_byte}
 use Rattle.httparse.proofs.GrammarLemmas.{ReadsRequest-append}
+use Rattle.swh_base.specs.Limits.{body_limit}
 use Rattle.swh_base.specs.declared.request.Request.{Request}
 use Rattle.swh_http.specs.declared.ask.Ask.{Ask}
 use Rattle.swh_http.specs.declared.ask.Ask.TheVariants.{Request as Asked, Refused}
 use Rattle.swh_http.specs.declared.place.Place.{Place}
 use Rattle.swh_http.specs.declared.place.Place.TheVariants.{Blank, BlankEnd, Method, Space, Target, Version, Minor, LineEnd as AtLineEnd, Feed, Line, LastFeed, Name, Value, Whole, Over, Broken}
 use Rattle.swh_http.specs.Place.{version_byte, advance, advance_all, place_of, GoesOn, IsWithin}
-use Rattle.swh_http.specs.Wire.{head_limit, fields_of, BeginsHead, BeginsRequest, BeginsRefusal, BeginsSo, IsBroken, IsUnfinished, IsWaiting, AreAsks}
+use Rattle.swh_http.specs.Wire.{head_limit, fields_of, BeginsHead, BeginsRequest, BeginsRefusal, BeginsSo, IsBroken, IsUnfinished, IsWaiting, AreAsks, held_length}
 use Rattle.swh_http.specs.declared.state.State.{State}
 use Rattle.swh_http.specs.declared.state.State.TheVariants.{Head, Body, Closed}
 use Rattle.swh_http.specs.declared.head.Framed.{Framed}
@@ -197,7 +198,7 @@ no-body head body rest bytes k taken ask state empty after turn =
 
 -- ---- many turns
 
-ready-waits : (state : State) (held : List ℕ) → IsReady state → held_of state ≡ Some held → IsWaiting held
+pub ready-waits : (state : State) (held : List ℕ) → IsReady state → held_of state ≡ Some held → IsWaiting held
 ready-waits (Head bytes place) held ready is =
     let P : List ℕ → Type 0 = λ x. IsWaiting x in
     let same : bytes.items ≡ held = cc in
@@ -207,6 +208,13 @@ ready-waits (Body head framed body) held ready is =
     let same : head.items ++ body.items ≡ held = cc in
     subst P same (inr (ready.0.head, body.items, framed.length, begins-head head.items body.items ready.0.head ready.0.reads ready.1, ready.0.taken, ready.2))
 ready-waits Closed held ready is = cc
+
+-- the bytes that wait are a head's and fewer than a body's
+pub ready-few : (state : State) → IsReady state → held_length (held_of state) < head_limit + body_limit
+ready-few (Head bytes place) ready = omega (arith, ready.short)
+ready-few (Body head framed body) ready =
+    omega (arith, ready.1, ready.2, ready.0.taken.short, length-append head.items body.items)
+ready-few Closed ready = omega arith
 
 rests : (held : List ℕ) → IsWaiting held → AreAsks held [] (Some held)
 unfolding AreAsks

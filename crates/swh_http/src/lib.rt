@@ -13,7 +13,7 @@ mod session;
 mod state;
 
 pub use ask::Ask;
-pub use laws::any_pieces;
+pub use laws::{any_pieces, one_answer};
 pub use reply::reply_bytes;
 pub use session::Session;
 

@@ -28,7 +28,7 @@ impl Model for Session {
 
 ghost use Rattle.std.specs.Prelude.{◌≡◌, ◌++◌, ℕ, List, [], Some, None, IfOk, OnOk};
 ghost use Rattle.swh_http.specs.Turn.{held_of, IsReady, asks_with};
-ghost use Rattle.swh_http.specs.Wire.{AreAsks};
+ghost use Rattle.swh_http.specs.Wire.{AreAsks, held_length};
 
 // One more ask, where there is one.
 fn push_ask(asks: &mut Vec<Ask>, ask: Option<Ask>) -> Result<(), Memory>
@@ -60,9 +60,21 @@ fn read(alloc: Global, state: State, piece: &[u8]) -> Result<(Vec<Ask>, State), 
     Ok((asks, state))
 }
 
+// How many bytes wait.
+fn waiting_bytes(state: &State) -> u64
+    ensures { result ≡ held_length (held_of state.now) }
+{
+    match state {
+        State::Head { bytes, .. } => bytes.len() as u64,
+        State::Body { head, body, .. } => head.len() as u64 + body.len() as u64,
+        State::Closed => 0,
+    }
+}
+
 impl Session {
-    ghost use Rattle.std.specs.Prelude.{◌≡◌, ◌++◌, ◌<◌, ◌^◌, ℕ, List, [], length, Some, None, IfOk, OnErr, MatchOption};
-    ghost use Rattle.swh_http.specs.Wire.{AreAsks, held_length};
+    ghost use Rattle.std.specs.Prelude.{◌≡◌, ◌++◌, ◌+◌, ◌<◌, ℕ, List, [], Some, None, IfOk, OnErr};
+    ghost use Rattle.swh_base.specs.Limits.{body_limit};
+    ghost use Rattle.swh_http.specs.Wire.{AreAsks, IsWaiting, head_limit, held_length};
 
     /// A session that has taken nothing.
     pub fn new(alloc: Global) -> Session
@@ -86,14 +98,14 @@ impl Session {
         Ok(asks)
     }
 
-    /// How many bytes wait for more: those of a head, and of its body.
+    /// How many bytes wait for more: a head's, at most 16,384, or those of a head that is taken and of its body, which
+    /// are fewer than the at most 67,108,864 that it says. The room for a body grows with the bytes that came, at most
+    /// by doubling, and none is taken for the length that the head says.
     pub fn held(&self) -> u64
-        ensures { result ≡ held_length self.now }
+        ensures length { result ≡ held_length self.now }
+        ensures waits { (held : List ℕ) → self.now ≡ Some held → IsWaiting held }
+        ensures few { result < head_limit + body_limit }
     {
-        match &self.state {
-            State::Head { bytes, .. } => bytes.len() as u64,
-            State::Body { head, body, .. } => head.len() as u64 + body.len() as u64,
-            State::Closed => 0,
-        }
+        waiting_bytes(&self.state)
     }
 }
