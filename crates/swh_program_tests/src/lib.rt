@@ -1,5 +1,5 @@
-//! Tests that cross the crates: the program's rows over memory, each part of the outside failing in turn.
-//! Stands on the program and the fakes.
+//! Tests of the program over memory, each part of the outside failing in turn.
+//! Stands on the program, the fakes and the fixtures.
 //! Nothing stands above it.
 #![tactic(auto)]
 
@@ -11,5 +11,7 @@ mod init;
 mod jobs;
 #[cfg(test)]
 mod load;
+#[cfg(test)]
+mod words;
 #[cfg(test)]
 mod world;

@@ -1,17 +1,14 @@
 // Lines of jobs that were loaded one after the other.
-use crate::world::{found, load_three, open_again};
+use crate::world::{load_three, open_again};
 use std::test::Fail;
+use swh_fixtures::{STREAM, found};
 use swh_outside::Opened;
-
-/// A blob and a commit of it.
-const WORKED: &[u8] =
-    b"blob\nmark :1\ndata 10\nversion 1\n\ncommit refs/heads/main\nmark :2\ncommitter A <a@e.org> 1000000000 +0000\ndata 6\nfirst\n\nM 100644 :1 test.txt\n\n";
 
 #[test]
 fn three_jobs_are_told_in_order(rt: HostRuntime) -> Result<(), Fail> {
     let alloc = rt.alloc();
-    let first = found(alloc, WORKED)?;
-    let third = found(alloc, b"")?;
+    let first = found(alloc, STREAM, &[])?;
+    let third = found(alloc, b"", &[])?;
     let left = load_three(alloc, first, Opened::NotFound, third, &[])?;
     assert_eq!(rt;
         left.text.as_slice(),
@@ -23,8 +20,8 @@ fn three_jobs_are_told_in_order(rt: HostRuntime) -> Result<(), Fail> {
 #[test]
 fn a_device_fault_stops_the_jobs_after_it(rt: HostRuntime) -> Result<(), Fail> {
     let alloc = rt.alloc();
-    let first = found(alloc, b"")?;
-    let third = found(alloc, b"")?;
+    let first = found(alloc, b"", &[])?;
+    let third = found(alloc, b"", &[])?;
     // Nine calls of the ledger make the archive. Each event then writes its record and its gate, with a barrier
     // after each: four events of the first job, and the opening of the second job's visit.
     let left = load_three(alloc, first, Opened::NotFound, third, &[29])?;

@@ -5,48 +5,17 @@ ghost use Rattle.swh_model.specs.Judge.{IsWish};
 use std::alloc::Global;
 use std::test::Fail;
 use swh_base::{ByteNamer, Status, Url, VisitKind};
+use swh_fixtures::{Archive, ArchiveFault, URL, disk, kept, made_archive};
 use swh_keeper::{Keeper, OpenFault, OpenWhy, Refusal};
-use swh_memory::{MemoryDisk, Room};
 use swh_model::{EventKind, Outcome, Wish};
-
-const URL: &str = "https://e.org/p";
 
 // The ledger of one opening.
 const LEDGER: [u8; 43] =
     *b"SWHARC1\n\x01O\0\0\0\x1c\0\0\0\x01\x01\0\0\0\0\x3b\x9a\xca\0https://e.org/p\0";
 
-type MemoryKeeper = Keeper<ByteNamer, MemoryDisk>;
+type MemoryKeeper = Archive<ByteNamer>;
 
-type MemoryFault = OpenFault<MemoryDisk>;
-
-// A disk with these bytes. Its calls with the listed numbers fail.
-fn disk_of(alloc: Global, bytes: &[u8], failing: Vec<u64>) -> Result<MemoryDisk, Fail> {
-    let room = Room {
-        bytes: 4096,
-        calls: 256,
-    };
-    Ok(MemoryDisk::new(alloc, bytes, room, failing)?)
-}
-
-fn disk(alloc: Global, bytes: &[u8]) -> Result<MemoryDisk, Fail> {
-    disk_of(alloc, bytes, Vec::new(alloc))
-}
-
-fn keeper_of(given: Result<MemoryKeeper, MemoryFault>) -> Result<MemoryKeeper, Fail> {
-    match given {
-        Ok(keeper) => Ok(keeper),
-        Err(fault) => {
-            let OpenFault {
-                why: _why,
-                store: _store,
-                ledger: _ledger,
-            } = fault;
-            Err(Fail::from("a keeper"))
-        }
-    }
-}
-
-fn fault_of(given: Result<MemoryKeeper, MemoryFault>) -> Result<MemoryFault, Fail> {
+fn fault_of(given: Result<MemoryKeeper, ArchiveFault>) -> Result<ArchiveFault, Fail> {
     match given {
         Ok(keeper) => {
             let (_store, _ledger) = keeper.close();
@@ -57,13 +26,13 @@ fn fault_of(given: Result<MemoryKeeper, MemoryFault>) -> Result<MemoryFault, Fai
 }
 
 fn made(alloc: Global) -> Result<MemoryKeeper, Fail> {
-    keeper_of(Keeper::make(alloc, ByteNamer, disk(alloc, b"")?, disk(alloc, b"")?))
+    Ok(made_archive(alloc, ByteNamer, &[], &[])?)
 }
 
 // An archive with this ledger and an empty store, opened.
-fn opened(alloc: Global, ledger: &[u8]) -> Result<Result<MemoryKeeper, MemoryFault>, Fail> {
-    let store = disk(alloc, b"")?;
-    let ledger = disk(alloc, ledger)?;
+fn opened(alloc: Global, ledger: &[u8]) -> Result<Result<MemoryKeeper, ArchiveFault>, Fail> {
+    let store = disk(alloc, b"", &[])?;
+    let ledger = disk(alloc, ledger, &[])?;
     Ok(Keeper::open(alloc, ByteNamer, store, ledger))
 }
 
@@ -163,7 +132,7 @@ fn an_archive_is_opened_again(rt: HostRuntime) -> Result<(), Fail> {
     let answer = keeper.apply(alloc, 1, open);
     assert!(rt; matches!(answer, Ok(Outcome::Opened { event: 1, visit: 1 })));
     let (store, ledger) = keeper.close();
-    let keeper = keeper_of(Keeper::open(alloc, ByteNamer, store, ledger))?;
+    let keeper = kept(Keeper::open(alloc, ByteNamer, store, ledger))?;
     assert_eq!(rt; keeper.history().len(), 1);
     assert!(rt; keeper.visits(URL.as_bytes()).is_some());
     let (_store, ledger) = keeper.close();
@@ -172,11 +141,11 @@ fn an_archive_is_opened_again(rt: HostRuntime) -> Result<(), Fail> {
 }
 
 #[test]
-fn a_record_behind_a_closed_gate_is_dropped(rt: HostRuntime) -> Result<(), Fail> {
+fn a_record_after_a_closed_gate_is_dropped(rt: HostRuntime) -> Result<(), Fail> {
     let alloc = rt.alloc();
     let mut ledger = LEDGER;
     ledger[8] = 0;
-    let keeper = keeper_of(opened(alloc, &ledger)?)?;
+    let keeper = kept(opened(alloc, &ledger)?)?;
     assert_eq!(rt; keeper.history().len(), 0);
     let (_store, _ledger) = keeper.close();
     Ok(())
@@ -207,8 +176,8 @@ fn files_of_no_archive_are_refused(rt: HostRuntime) -> Result<(), Fail> {
 #[test]
 fn a_barrier_that_fails_hands_both_disks_back(rt: HostRuntime) -> Result<(), Fail> {
     let alloc = rt.alloc();
-    let store = disk(alloc, b"")?;
-    let ledger = disk_of(alloc, &LEDGER, vec![in alloc; 0u64]?)?;
+    let store = disk(alloc, b"", &[])?;
+    let ledger = disk(alloc, &LEDGER, &[0])?;
     let fault = fault_of(Keeper::open(alloc, ByteNamer, store, ledger))?;
     let OpenFault { why, store, ledger } = fault;
     assert_eq!(rt; why, OpenWhy::DiskFault);

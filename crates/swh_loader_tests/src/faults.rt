@@ -1,8 +1,9 @@
 // Loads whose device calls fail.
-use crate::world::{URL, WORKED, found, load, made};
+use crate::world::load;
 use std::alloc::Global;
 use std::test::Fail;
 use swh_base::Sha1Namer;
+use swh_fixtures::{STREAM, URL, found, made_archive};
 use swh_loader::{LoadFault, LoadWhy, Loaded};
 
 /// What two loads of the worked stream answer, and whether a disk had failed after the first.
@@ -18,9 +19,9 @@ fn load_twice(
     ledger_failing: &[u64],
     store_failing: &[u64],
 ) -> Result<TwoLoads, Fail> {
-    let one = found(alloc, WORKED, &[])?;
-    let other = found(alloc, WORKED, &[])?;
-    let mut keeper = made(alloc, Sha1Namer, ledger_failing, store_failing)?;
+    let one = found(alloc, STREAM, &[])?;
+    let other = found(alloc, STREAM, &[])?;
+    let mut keeper = made_archive(alloc, Sha1Namer, ledger_failing, store_failing)?;
     let first = load(alloc, &Sha1Namer, &mut keeper, URL, one);
     let wounded = keeper.wounded().is_some();
     let second = load(alloc, &Sha1Namer, &mut keeper, URL, other);
@@ -49,7 +50,7 @@ fn is_stopped(loads: &TwoLoads, visit: u64) -> bool {
 fn each_device_call_fails_in_turn(rt: HostRuntime) -> Result<(), Fail> {
     let alloc = rt.alloc();
     // Nine calls of the ledger and one of the store make the archive. Each of the four events then writes its record
-    // and its gate, with a barrier behind each, and the batch writes its run, with a barrier behind it.
+    // and its gate, with a barrier after each, and the batch writes its run, with a barrier after it.
     for call in 9..13 {
         assert!(rt; is_stopped(&load_twice(alloc, &[call], &[])?, 0));
     }

@@ -1,37 +1,27 @@
 // What becomes of inputs.
-use crate::world::{URL, WORKED, found, holds, load, made, objects_in};
+use crate::world::{holds, load, objects_in};
 use std::test::Fail;
 use swh_base::{ByteNamer, Kind, Name, Sha1Namer};
+use swh_fixtures::{
+    CONTENT, DIRECTORY, EMPTY_SNAPSHOT, REVISION, SNAPSHOT, STREAM, URL, found, made_archive,
+};
 use swh_loader::{BadInput, End, LoadFault, LoadWhy, Loaded, StreamWhy};
 use swh_outside::Opened;
-
-const EMPTY: [u8; 20] =
-    *b"\x1a\x88\x93\xe6\xa8\x6f\x44\x4e\x8b\xe8\xe7\xbd\xa6\xcb\x34\xfb\x17\x35\xa0\x0e";
-
-const CONTENT: [u8; 20] =
-    *b"\x83\xba\xae\x61\x80\x4e\x65\xcc\x73\xa7\x20\x1a\x72\x52\x75\x0c\x76\x06\x6a\x30";
-
-const DIRECTORY: [u8; 20] =
-    *b"\xd8\x32\x9f\xc1\xcc\x93\x87\x80\xff\xdd\x9f\x94\xe0\xd3\x64\xe0\xea\x74\xf5\x79";
-
-const REVISION: [u8; 20] =
-    *b"\x29\x5c\x06\x51\xa9\x5b\xa3\x2a\xc5\xe1\x4f\x92\xda\x01\x61\xb1\x22\x94\x2c\xac";
-
-const SNAPSHOT: [u8; 20] =
-    *b"\x50\x36\xc2\xb4\xa6\x76\xf9\xda\xd6\x0f\xba\xed\x43\x1c\xa2\x1e\xcd\xec\x56\xff";
 
 #[test]
 fn an_empty_input_is_full(rt: HostRuntime) -> Result<(), Fail> {
     let alloc = rt.alloc();
     let input = found(alloc, b"", &[])?;
-    let mut keeper = made(alloc, Sha1Namer, &[], &[])?;
+    let mut keeper = made_archive(alloc, Sha1Namer, &[], &[])?;
     let answer = load(alloc, &Sha1Namer, &mut keeper, URL, input);
     let full = Loaded {
         visit: 1,
-        end: End::Full { snapshot: EMPTY },
+        end: End::Full {
+            snapshot: EMPTY_SNAPSHOT,
+        },
     };
     assert_eq!(rt; answer, Ok(full));
-    assert!(rt; holds(&keeper, Kind::Snapshot, EMPTY, b""));
+    assert!(rt; holds(&keeper, Kind::Snapshot, EMPTY_SNAPSHOT, b""));
     assert_eq!(rt; keeper.history().len(), 4);
     assert_eq!(rt; objects_in(keeper.history()), 1);
     let (_store, _ledger) = keeper.close();
@@ -41,10 +31,10 @@ fn an_empty_input_is_full(rt: HostRuntime) -> Result<(), Fail> {
 #[test]
 fn the_worked_stream_is_loaded_twice(rt: HostRuntime) -> Result<(), Fail> {
     let alloc = rt.alloc();
-    let first = found(alloc, WORKED, &[])?;
-    let second = found(alloc, WORKED, &[])?;
+    let first = found(alloc, STREAM, &[])?;
+    let second = found(alloc, STREAM, &[])?;
     let end = End::Full { snapshot: SNAPSHOT };
-    let mut keeper = made(alloc, Sha1Namer, &[], &[])?;
+    let mut keeper = made_archive(alloc, Sha1Namer, &[], &[])?;
     let answer = load(alloc, &Sha1Namer, &mut keeper, URL, first);
     assert_eq!(rt; answer, Ok(Loaded { visit: 1, end }));
     assert!(rt; holds(&keeper, Kind::Content, CONTENT, b"version 1\n"));
@@ -67,12 +57,12 @@ fn the_worked_stream_is_loaded_twice(rt: HostRuntime) -> Result<(), Fail> {
 fn bad_inputs_fail(rt: HostRuntime) -> Result<(), Fail> {
     let alloc = rt.alloc();
     let feature = found(alloc, b"feature done\n", &[])?;
-    let broken = found(alloc, WORKED, &[1])?;
+    let broken = found(alloc, STREAM, &[1])?;
     let left_out = BadInput::Stream {
         at: 0,
         why: StreamWhy::LeftOut,
     };
-    let mut keeper = made(alloc, Sha1Namer, &[], &[])?;
+    let mut keeper = made_archive(alloc, Sha1Namer, &[], &[])?;
     let answer = load(alloc, &Sha1Namer, &mut keeper, URL, feature);
     let end = End::Failed(left_out);
     assert_eq!(rt; answer, Ok(Loaded { visit: 1, end }));
@@ -105,7 +95,7 @@ fn another_body_of_a_name_collides(rt: HostRuntime) -> Result<(), Fail> {
         kind: Kind::Content,
         id,
     };
-    let mut keeper = made(alloc, ByteNamer, &[], &[])?;
+    let mut keeper = made_archive(alloc, ByteNamer, &[], &[])?;
     let answer = load(alloc, &ByteNamer, &mut keeper, URL, held);
     let end = End::Full { snapshot: [0; 20] };
     assert_eq!(rt; answer, Ok(Loaded { visit: 1, end }));

@@ -2,21 +2,15 @@
 ghost use Rattle.std.specs.Prelude.{All, IfOk};
 ghost use Rattle.swh_pool.specs.Loads.{HasHead};
 
-use std::alloc::{AllocError, Global};
+use std::alloc::Global;
 use std::test::Fail;
 use swh_base::{Bytes, Sha1Namer, Url};
-use swh_keeper::{Keeper, OpenFault};
+use swh_fixtures::{Archive, kept, made_archive};
+use swh_keeper::Keeper;
 use swh_loader::Job;
-use swh_memory::{MemoryDisk, MemorySource, Room};
+use swh_memory::{MemoryDisk, MemorySource};
 use swh_outside::{OpenGate, Opened};
 use swh_pool::{DatedJob, load_all};
-
-type Archive = Keeper<Sha1Namer, MemoryDisk>;
-
-const ROOM: Room = Room {
-    bytes: 4096,
-    calls: 256,
-};
 
 /// What the loads of three jobs leave.
 #[derive(Drop)]
@@ -35,27 +29,6 @@ pub struct Held {
     pub visits: usize,
 }
 
-fn kept(opened: Result<Archive, OpenFault<MemoryDisk>>) -> Result<Archive, Fail> {
-    match opened {
-        Ok(keeper) => Ok(keeper),
-        Err(fault) => {
-            let OpenFault {
-                why: _why,
-                store: _store,
-                ledger: _ledger,
-            } = fault;
-            Err(Fail::from("kept"))
-        }
-    }
-}
-
-// An archive of no event. The ledger's calls of these numbers fail, those of its making counted.
-fn made(alloc: Global, ledger_failing: &[u64]) -> Result<Archive, Fail> {
-    let store = MemoryDisk::with_room(alloc, ROOM)?;
-    let ledger = MemoryDisk::new(alloc, b"", ROOM, ledger_failing.to_vec(alloc)?)?;
-    kept(Keeper::make(alloc, Sha1Namer, store, ledger))
-}
-
 /// Opens an archive again.
 pub fn open_again(alloc: Global, store: MemoryDisk, ledger: MemoryDisk) -> Result<Held, Fail> {
     let keeper = kept(Keeper::open(alloc, Sha1Namer, store, ledger))?;
@@ -66,13 +39,6 @@ pub fn open_again(alloc: Global, store: MemoryDisk, ledger: MemoryDisk) -> Resul
     };
     let (_store, _ledger) = keeper.close();
     Ok(Held { events, visits })
-}
-
-/// An input that is found. It gives these bytes in pieces of 64.
-pub fn found(alloc: Global, text: &[u8]) -> Result<Opened<MemorySource>, AllocError> {
-    let path = String::from_str(alloc, "input")?;
-    let source = MemorySource::new(path, text.to_vec(alloc)?, 64, Vec::new(alloc));
-    Ok(Opened::Found(source))
 }
 
 fn dated(origin: Url, stream: Opened<MemorySource>) -> DatedJob<MemorySource>
@@ -104,7 +70,7 @@ fn let_go(mut jobs: Vec<DatedJob<MemorySource>>) {
 // Loads jobs, and gives their lines.
 fn lines_of(
     alloc: Global,
-    keeper: &mut Archive,
+    keeper: &mut Archive<Sha1Namer>,
     jobs: &mut [DatedJob<MemorySource>],
 ) -> Result<Bytes, Fail>
     requires { All HasHead jobs.old }
@@ -121,7 +87,7 @@ fn load_anew(
 ) -> Result<Left, Fail>
     requires { All HasHead jobs.old }
 {
-    let mut keeper = made(alloc, ledger_failing)?;
+    let mut keeper = made_archive(alloc, Sha1Namer, ledger_failing, &[])?;
     let text = lines_of(alloc, &mut keeper, jobs);
     let (store, ledger) = keeper.close();
     let text = text?;

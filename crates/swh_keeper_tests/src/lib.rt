@@ -1,0 +1,7 @@
+//! Tests of the keeper over disks in memory: what it answers, and the bytes that it writes.
+//! Stands on the keeper, the fakes and the fixtures.
+//! Nothing stands above it.
+#![tactic(auto)]
+
+#[cfg(test)]
+mod tests;

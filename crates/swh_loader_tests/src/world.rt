@@ -1,0 +1,56 @@
+// Loads over memory, and what they leave.
+use std::alloc::Global;
+use swh_base::{Kind, Name, Namer, Url};
+use swh_fixtures::Archive;
+use swh_loader::{Job, LoadFault, LoadWhy, Loaded, load_one};
+use swh_memory::MemorySource;
+use swh_model::{Event, EventKind};
+use swh_outside::{OpenGate, Opened};
+
+/// Loads an input of an origin.
+pub fn load<N: Namer>(
+    alloc: Global,
+    namer: &N,
+    keeper: &mut Archive<N>,
+    url: &str,
+    stream: Opened<MemorySource>,
+) -> Result<Loaded, LoadFault> {
+    let Ok(origin) = Url::new(alloc, url) else {
+        return Err(LoadFault {
+            visit: 0,
+            why: LoadWhy::Memory,
+        });
+    };
+    let mut job = Job {
+        origin,
+        stream,
+        head: None,
+    };
+    let date = 1_000_000_000;
+    let answer = load_one(alloc, namer, keeper, 1, &mut job, date, &OpenGate, 0, 0);
+    let Job {
+        origin: _origin,
+        stream: _stream,
+        head: _head,
+    } = job;
+    answer
+}
+
+/// Says whether this body is held.
+pub fn holds<N: Namer>(keeper: &Archive<N>, kind: Kind, id: [u8; 20], body: &[u8]) -> bool {
+    match keeper.get(&Name { kind, id }) {
+        Some(entry) => entry.body.as_slice() == body,
+        None => false,
+    }
+}
+
+/// How many objects the batches of a history have.
+pub fn objects_in(history: &[Event]) -> usize {
+    let mut count: usize = 0;
+    for event in history {
+        if let EventKind::Batch(entries) = &event.what {
+            count = count.saturating_add(entries.as_slice().len());
+        }
+    }
+    count
+}

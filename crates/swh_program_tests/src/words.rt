@@ -1,0 +1,8 @@
+// The words of runs.
+
+pub const INIT: &[&str] = &["init", "A"];
+
+pub const LOAD: &[&str] = &["load", "A", "J"];
+
+/// Asks for the visits of the worked stream's origin.
+pub const ASK: &[&str] = &["ask", "A", "/api/1/origin/https://e.org/p/visits/"];

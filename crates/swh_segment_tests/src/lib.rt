@@ -1,0 +1,7 @@
+//! Tests of the two files over disks in memory: their bytes, their device calls, and a call that fails.
+//! Stands on the segment and the fakes.
+//! Nothing stands above it.
+#![tactic(auto)]
+
+#[cfg(test)]
+mod tests;
