@@ -1,6 +1,6 @@
 //! Streams made of a seed: small histories for a loader to load, the same on every machine.
 //! Stands on `itoa` alone.
-//! Above it may rely on: a seed, a number and a size determine the stream's bytes, which `job_text` defines.
+//! Callers may rely on: a seed, a number and a size determine the stream's bytes, which `job_text` defines.
 #![tactic(auto)]
 
 ghost use Rattle.std.specs.Prelude.{◌≡◌, ◌+◌, ◌<◌, ◌++◌, ◌^◌, IfOk, OnOk, decimal};

@@ -1,6 +1,6 @@
 //! Requests and replies on the wire: HTTP/1.0 and 1.1, over one connection.
 //! Stands on `swh_base`, `swh_pieces`, `httparse`, `http` and `itoa`.
-//! Above it may rely on: over any pieces the requests are those of the bytes, and a refusal comes exactly in its case.
+//! Callers may rely on: over any pieces the requests are those of the bytes, and a refusal comes exactly in its case.
 #![tactic(auto)]
 
 mod ask;
