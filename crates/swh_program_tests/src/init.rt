@@ -51,7 +51,7 @@ fn is_made_later(
     let second = both.statuses.as_slice().last().map_or(9, |status| *status);
     Ok(
         first.statuses.as_slice() == [4].as_slice()
-            && first.printed.as_slice() == b"swharc: outside disk\n"
+            && first.printed.as_slice() == b"swharc: outside disk\n".as_slice()
             && first.faults == 1
             && (second == 0 || second == 3)
             && both.ledger.as_slice() == MADE_LEDGER,

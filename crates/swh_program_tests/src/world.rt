@@ -149,7 +149,7 @@ fn run_all(alloc: Global, world: &mut World, runs: &[&[&str]]) -> Result<Vec<u8>
     Ok(statuses)
 }
 
-fn ended(alloc: Global, world: &World, statuses: Vec<u8>) -> Result<Ended, AllocError> {
+fn what_is_left(alloc: Global, world: &World, statuses: Vec<u8>) -> Result<Ended, AllocError> {
     Ok(Ended {
         statuses,
         printed: world.sink.bytes().to_vec(alloc)?,
@@ -163,7 +163,7 @@ fn ended(alloc: Global, world: &World, statuses: Vec<u8>) -> Result<Ended, Alloc
 pub fn play(alloc: Global, setting: &Setting<'_>, runs: &[&[&str]]) -> Result<Ended, AllocError> {
     let mut world = world(alloc, setting)?;
     let statuses = run_all(alloc, &mut world, runs)?;
-    ended(alloc, &world, statuses)
+    what_is_left(alloc, &world, statuses)
 }
 
 /// Whether one run on these words ends with this status, and prints this.
