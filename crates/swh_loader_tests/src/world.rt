@@ -2,7 +2,7 @@
 use std::alloc::Global;
 use swh_base::{Kind, Name, Namer, Url};
 use swh_fixtures::Archive;
-use swh_loader::{Job, LoadFault, LoadWhy, Loaded, load_one};
+use swh_loader::{Job, LoadFault, LoadWhy, Loaded, Turn, Worker, load_one};
 use swh_memory::MemorySource;
 use swh_model::{Event, EventKind};
 use swh_outside::{OpenGate, Opened};
@@ -27,7 +27,16 @@ pub fn load<N: Namer>(
         head: None,
     };
     let date = 1_000_000_000;
-    let answer = load_one(alloc, namer, keeper, 1, &mut job, date, &OpenGate, 0, 0);
+    let worker = Worker {
+        by: 1,
+        gate: &OpenGate,
+        number: 0,
+    };
+    let turn = Turn {
+        worker: &worker,
+        job: 0,
+    };
+    let answer = load_one(alloc, namer, keeper, &turn, &mut job, date);
     let Job {
         origin: _origin,
         stream: _stream,
