@@ -8,8 +8,8 @@ Both name the listed definitions that have no comment above them.
 
 MAP has a row for each crate: the libraries that crates.txt says it stands on, and what the crate's first doc comment
 says that callers may rely on. DEFINITIONS lists, for each crate, the definitions of its specs/ that other crates cite,
-in contracts or in definitions of their own, and those that the clauses of `run` cite: each with its file and the
-comment above it.
+in contracts or in definitions of their own, and all of the crate that has `run`: each with its file and the comment
+above it.
 """
 import pathlib
 import re
@@ -110,14 +110,14 @@ def definitions(crate):
 
 
 def cited(crates):
-    """The (crate, file, name) that other crates cite, in contracts or definitions, or the clauses of `run`."""
+    """The (crate, file, name) that other crates cite, in contracts or definitions."""
     names = set()
     for crate in crates:
         folder = CRATES / crate
         for path in [*(folder / "src").glob("**/*.rt"), *(folder / "specs").glob("*.antt")]:
             text = path.read_text()
             for owner, file, items, alias in USE.findall(text):
-                if owner == crate and not TOP_CALL.search(text):
+                if owner == crate:
                     continue
                 if items:
                     names |= {(owner, file, item.split(" as ")[0].strip()) for item in items.split(",")}
@@ -126,14 +126,20 @@ def cited(crates):
     return names
 
 
+def has_top_call(crate):
+    """Whether the crate has the call that the program makes."""
+    return any(TOP_CALL.search(path.read_text()) for path in (CRATES / crate / "src").glob("**/*.rt"))
+
+
 def definition_rows(crates):
     """The tables of the definitions, and those of them that have no comment."""
     names = cited(crates)
     rows, bare = [], []
     for crate in in_layers(crates):
         comments, owners = definitions(crate)
+        whole = has_top_call(crate)
         wanted = {(file, owners.get((file, name), name)) for owner, file, name in names if owner == crate}
-        listed = [entry for entry in comments if entry in wanted]
+        listed = [entry for entry in comments if whole or entry in wanted]
         if listed:
             rows += ["", f"## `{crate}`", "", "| Definition | File | What it says |", "|---|---|---|"]
         for file, name in listed:
