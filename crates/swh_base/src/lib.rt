@@ -8,6 +8,7 @@ mod entry;
 mod graph;
 mod kind;
 mod laws;
+mod limits;
 mod many;
 mod memory;
 mod name;
@@ -22,6 +23,10 @@ pub use entry::Entry;
 pub use graph::Graph;
 pub use kind::Kind;
 pub use laws::{one_list_of_kids, one_listing};
+pub use limits::{
+    BODY_LIMIT, BYTES_LIMIT, FILE_LIMIT, LINE_LIMIT, OBJECTS_LIMIT, PATH_LIMIT, REF_LIMIT,
+    RUN_LIMIT, TAG_LIMIT, URL_LIMIT,
+};
 pub use many::Many;
 pub use memory::Memory;
 pub use name::Name;

@@ -2,7 +2,7 @@
 use Rattle.std.proofs.Common.{◌≡◌, ℕ, zero, suc, ◌+◌, ◌<◌, ◌≤◌, ◌⊎◌, inl, inr, Bool, true, false, List, [], ◌∷◌, ◌++◌, length, length-append, Contains, Option, Some, None, refl, sym, ap, ◌∙◌, subst, arith, codes}
 use Rattle.std.specs.Prelude.{IfNone, IsTrue, ◌↔◌}
 use Rattle.swh_base.proofs.Splits.{first_split}
-use Rattle.swh_base.specs.Limits.{line_limit}
+use Rattle.swh_base.specs.Limits.{body_limit, line_limit}
 use Rattle.swh_base.specs.Text.{is_ref_byte, is_person_byte, named, IsRef, IsPerson}
 use Rattle.swh_model.specs.SmallStream.{Blob, Change, Commit, line, value_from, IsNumber, IsMark, IsCount, IsFileName, BeginsBlob, BeginsChange, BeginsCommit}
 use Rattle.swh_fastload.specs.View.{BeginsHead}
@@ -43,14 +43,14 @@ data_size bytes d r size h e count content rest k l =
     let both = one_line (codes "data ") d count r (content ++ rest) (number-no_feed d size h) (count-no_feed count content k) (sym e ∙ l) in
     (h.value ∙ ap (value_from 0) both.0 ∙ sym k.number.value, both.1)
 
-pub data_over : (bytes d r : List ℕ) (size : ℕ) → IsNumber d size → bytes ≡ line (codes "data ") d r → 67108864 < size → (count content rest : List ℕ) → IsCount count content → bytes ≡ line (codes "data ") count (content ++ rest) → ⊥
+pub data_over : (bytes d r : List ℕ) (size : ℕ) → IsNumber d size → bytes ≡ line (codes "data ") d r → body_limit < size → (count content rest : List ℕ) → IsCount count content → bytes ≡ line (codes "data ") count (content ++ rest) → ⊥
 data_over bytes d r size h e over count content rest k l = let both = data_size bytes d r size h e count content rest k l in let a = both.0 in let b = k.short in absurd (omega (arith, a, b, over))
 
 pub data_short : (bytes d r : List ℕ) (size : ℕ) → IsNumber d size → bytes ≡ line (codes "data ") d r → length r < size → (count content rest : List ℕ) → IsCount count content → bytes ≡ line (codes "data ") count (content ++ rest) → ⊥
 data_short bytes d r size h e short count content rest k l = let both = data_size bytes d r size h e count content rest k l in let a = both.0 in absurd (omega (arith, a, ap length both.1, length-append content rest, short))
 
 -- what is cut off a text after its size
-pub data_from : (bytes d r front back : List ℕ) (size : ℕ) → IsNumber d size → bytes ≡ line (codes "data ") d r → size ≤ 67108864 → length front ≡ size → r ≡ front ++ back → (count : List ℕ) × IsCount count front × (bytes ≡ line (codes "data ") count (front ++ back))
+pub data_from : (bytes d r front back : List ℕ) (size : ℕ) → IsNumber d size → bytes ≡ line (codes "data ") d r → size ≤ body_limit → length front ≡ size → r ≡ front ++ back → (count : List ℕ) × IsCount count front × (bytes ≡ line (codes "data ") count (front ++ back))
 data_from bytes d r front back size h e under size_is cut = (d, record { number = subst (IsNumber d) (sym size_is) h; short = omega (arith, under, size_is) }, e ∙ ap (line (codes "data ") d) cut)
 
 pub nothing_in : (c : ℕ) → Contains [] c → ⊥

@@ -8,6 +8,7 @@ ghost use Rattle.swh_fastload.specs.View.{blob_view, change_view, IsHead, Begins
 use crate::lines::{split_at_byte, take_line};
 use crate::stream::{Blob, Change};
 use crate::words::{is_file_name, is_person, is_ref, number_of};
+use swh_base::{BODY_LIMIT, LINE_LIMIT};
 
 /// The number of bytes of the data that a line opens.
 fn take_size(bytes: &[u8]) -> Option<(u64, &[u8])>
@@ -47,7 +48,7 @@ fn take_data(bytes: &[u8]) -> Option<(&[u8], &[u8])>
     ensures none { IfNone result ((count content rest : List ℕ) → IsCount count content → bytes.now ≢ line (codes "data ") count (content ++ rest)) }
 {
     let (size, rest) = take_size(bytes)?;
-    if size > 67_108_864 {
+    if size > BODY_LIMIT {
         return None;
     }
     if size > rest.len() as u64 {
@@ -88,7 +89,7 @@ pub fn take_change(bytes: &[u8]) -> Option<(Change<'_>, &[u8])>
 fn is_committer(person: &[u8]) -> bool
     ensures { IsTrue result ↔ (IsPerson person.now × (length (codes "committer ") + length person.now + 1 ≤ line_limit)) }
 {
-    person.len() <= 1_048_565 && is_person(person)
+    person.len() <= LINE_LIMIT - 11 && is_person(person)
 }
 
 /// A commit without its changes.

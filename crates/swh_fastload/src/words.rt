@@ -6,6 +6,7 @@ ghost use Rattle.swh_fastload.specs.Person.{IsNamed, IsZone, IsSeconds, IsTime};
 ghost use Rattle.swh_model.specs.SmallStream.{IsNumber, IsFileName};
 
 use crate::lines::{after_word, split_at_byte};
+use swh_base::PATH_LIMIT;
 
 /// The number of 1 to 18 digits.
 pub fn number_of(digits: &[u8]) -> Option<u64>
@@ -51,7 +52,7 @@ pub fn is_file_name(name: &[u8]) -> bool
     requires { Contains name.now 10 → ⊥ }
     ensures { IsTrue result ↔ IsFileName name.now }
 {
-    if name.is_empty() || name.len() > 65_535 {
+    if name.is_empty() || name.len() > PATH_LIMIT {
         return false;
     }
     if name.contains(&0) || name.contains(&b'/') {

@@ -8,6 +8,7 @@ ghost use Rattle.swh_jobs.specs.Reading.{HasFields};
 ghost use Rattle.swh_jobs.specs.Spelled.{fields_of, spelled};
 
 use crate::job::SpelledJob;
+use crate::limits::STREAM_PATH_LIMIT;
 use swh_base::is_url;
 use swh_pieces::{behind, split_at_byte};
 
@@ -61,7 +62,7 @@ fn path_text(path: &[u8]) -> Option<&str>
     ensures some { IfSome result (λ text. IsJobPath path.now × (text.now ≡ path.now)) }
     ensures none { IfNone result (IsJobPath path.now → ⊥) }
 {
-    if path.is_empty() || path.len() > 4096 {
+    if path.is_empty() || path.len() > STREAM_PATH_LIMIT {
         return None;
     }
     str::from_utf8(path).ok()

@@ -3,7 +3,7 @@ use Rattle.std.specs.Prelude.{◌≡◌, ◌≢◌, ℕ, ◌≤◌, Option, Some
 use Rattle.std.specs.List.{AllPass}
 use Rattle.swh_base.specs.declared.kind.Kind.TheVariants.{Directory}
 use Rattle.swh_base.specs.declared.name.Name.{Name}
-use Rattle.swh_base.specs.Limits.{line_limit}
+use Rattle.swh_base.specs.Limits.{line_limit, tag_limit}
 use Rattle.swh_base.specs.Text.{IsRef, IsPerson, IsSign, is_person_byte, is_digit, named}
 use Rattle.swh_base.specs.Revision.{IsRevision}
 use Rattle.swh_base.specs.Release.{IsRelease}
@@ -78,7 +78,7 @@ pub record PlainRelease : Type 0 where
 -- A ref that is a tag's name, so that `refs/tags/` and it are a ref.
 pub record IsTagName (tag : List ℕ) : Type 0 where
   pub ref : IsRef tag
-  pub short : length tag ≤ 1014
+  pub short : length tag ≤ tag_limit
 
 -- The body is a plain release with these parts: of no directory, with the name of a ref.
 pub record IsPlainRelease (body : List ℕ) (p : PlainRelease) : Type 0 where

@@ -11,7 +11,7 @@ use crate::release::spelled_rel;
 use crate::rest::{release_rest, revision_rest};
 use crate::revision::{SpelledRev, spelled_rev};
 use std::alloc::Global;
-use swh_base::{Bytes, Kind, Many, Memory, Name};
+use swh_base::{Bytes, Kind, Many, Memory, Name, TAG_LIMIT};
 
 /// The parts of a plain revision: one whose rest is an author, a committer, perhaps an encoding, and a message.
 #[derive(Drop)]
@@ -83,7 +83,7 @@ fn is_tag_name(tag: &[u8]) -> bool
     ensures { IsTrue result ↔ IsTagName tag.now }
 {
     !tag.is_empty()
-        && tag.len() <= 1014
+        && tag.len() <= TAG_LIMIT
         && tag.iter().all(|c| {
             *c >= 33
                 && *c != 127
