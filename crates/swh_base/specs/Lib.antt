@@ -1,4 +1,5 @@
 pub mod Directory
+pub mod Escape
 pub mod Kind
 pub mod Limits
 pub mod Manifest

@@ -47,3 +47,32 @@ pub record IsPerson (text : List ℕ) : Type 0 where
   pub is_sign : IsSign sign
   pub four : length zone ≡ 4
   pub zone_digits : AllPass is_digit zone
+
+-- what stands before an email: nothing, or a name and a space
+pub record IsNamed (text : List ℕ) : Type 0 where
+  pub name : Option (List ℕ)
+  pub spelled : text ≡ named name
+  pub bytes : AllPass is_person_byte text
+
+-- the sign and the four digits of a time zone
+pub record IsZone (text : List ℕ) : Type 0 where
+  pub sign : ℕ
+  pub digits : List ℕ
+  pub spelled : text ≡ sign ∷ digits
+  pub is_sign : IsSign sign
+  pub four : length digits ≡ 4
+  pub zone_digits : AllPass is_digit digits
+
+-- 1 to 18 digits
+pub record IsSeconds (text : List ℕ) : Type 0 where
+  pub some : 1 ≤ length text
+  pub few : length text ≤ 18
+  pub digits : AllPass is_digit text
+
+-- what stands after an email
+pub record IsDate (text : List ℕ) : Type 0 where
+  pub seconds : List ℕ
+  pub zone : List ℕ
+  pub spelled : text ≡ 32 ∷ (seconds ++ 32 ∷ zone)
+  pub are_seconds : IsSeconds seconds
+  pub is_zone : IsZone zone

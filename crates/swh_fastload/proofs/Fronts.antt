@@ -6,7 +6,8 @@ use Rattle.swh_base.specs.Limits.{body_limit, line_limit}
 use Rattle.swh_base.specs.Text.{is_ref_byte, is_person_byte, named, IsRef, IsPerson}
 use Rattle.swh_model.specs.SmallStream.{Blob, Change, Commit, line, value_from, IsNumber, IsMark, IsCount, IsFileName, BeginsBlob, BeginsChange, BeginsCommit}
 use Rattle.swh_fastload.specs.View.{BeginsHead}
-use Rattle.swh_fastload.proofs.Cuts.{in_middle, one_line}
+use Rattle.swh_pieces.proofs.Middle.{in_middle}
+use Rattle.swh_fastload.proofs.Cuts.{one_line}
 use Rattle.swh_fastload.proofs.Numbers.{passes_not, digits-not}
 
 pub none_at : {X : Type 0} (o : Option X) (P : Type 0) → o ≡ None → P → IfNone o P

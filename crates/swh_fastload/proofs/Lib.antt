@@ -7,7 +7,6 @@ pub mod Leads
 pub mod Loads
 pub mod Numbers
 pub mod Onces
-pub mod Persons
 pub mod Readings
 pub mod Snapshots
 pub mod Trees

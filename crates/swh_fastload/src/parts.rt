@@ -5,10 +5,11 @@ ghost use Rattle.swh_base.specs.Text.{IsPerson};
 ghost use Rattle.swh_model.specs.SmallStream.{Blob as BlobValue, Change as ChangeValue, line, IsNumber, IsMark, IsCount, BeginsBlob, BeginsChange};
 ghost use Rattle.swh_fastload.specs.View.{blob_view, change_view, IsHead, BeginsHead};
 
-use crate::lines::{split_at_byte, take_line};
+use crate::lines::take_line;
 use crate::stream::{Blob, Change};
-use crate::words::{is_file_name, is_person, is_ref, number_of};
-use swh_base::{BODY_LIMIT, LINE_LIMIT};
+use crate::words::{is_file_name, number_of};
+use swh_base::{BODY_LIMIT, LINE_LIMIT, is_person, is_ref};
+use swh_pieces::split_at_byte;
 
 /// The number of bytes of the data that a line opens.
 fn take_size(bytes: &[u8]) -> Option<(u64, &[u8])>

@@ -1,8 +1,9 @@
 -- What is answered to a request for an origin's visits, and the line that reports a job.
-use Rattle.std.specs.Prelude.{◌≡◌, ℕ, ◌==◌, Bool, ◌||◌, nat_le, if◌then◌else◌, Option, Some, None, List, [], ◌∷◌, ◌++◌, map, reverse, decimal, codes}
+use Rattle.std.specs.Prelude.{◌≡◌, ℕ, ◌==◌, ◌||◌, if◌then◌else◌, Option, Some, None, List, [], ◌∷◌, ◌++◌, map, reverse, decimal, codes}
 use Rattle.std.specs.List.{flat_map, join_with_byte, before_first}
 use Rattle.hex.specs.Hex.{encode_lower}
-use Rattle.percent_encoding.specs.Percent.{percent_decode, percent_encode_byte}
+use Rattle.percent_encoding.specs.Percent.{percent_decode}
+use Rattle.swh_base.specs.Escape.{escaped_byte}
 use Rattle.swh_base.specs.declared.visit.VisitKind.{VisitKind}
 use Rattle.swh_base.specs.declared.visit.VisitKind.TheVariants.{Fast, Dir, Batch}
 use Rattle.swh_base.specs.declared.visit.Status.{Status}
@@ -25,13 +26,6 @@ status_word Full = codes "full"
 status_word Partial = codes "partial"
 status_word NotFound = codes "not_found"
 status_word Failed = codes "failed"
-
--- Bytes up to a space, `%`, `;`, DEL and those from 0x80 are escaped.
-abbrev pub is_escaped : ℕ → Bool
-is_escaped c = nat_le c 32 || c == 37 || c == 59 || nat_le 127 c
-
-abbrev pub escaped_byte : ℕ → List ℕ
-escaped_byte c = if is_escaped c then percent_encode_byte c else c ∷ []
 
 -- a quote and a backslash stand behind a backslash in a JSON string
 abbrev pub json_byte : ℕ → List ℕ

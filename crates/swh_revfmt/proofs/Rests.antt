@@ -5,7 +5,7 @@ use Rattle.swh_base.specs.Text.{IsPerson, IsSign, is_person_byte, is_digit, name
 use Rattle.swh_base.proofs.Splits.{first_split, sized_split}
 use Rattle.swh_revfmt.specs.Plain.{text_line, optional_line, IsPersonLine, IsEncoding, RevisionRest, IsRevisionRest}
 use Rattle.swh_pieces.proofs.Middle.{in_middle}
-use Rattle.swh_revfmt.proofs.Persons.{lacks}
+use Rattle.swh_base.proofs.Persons.{lacks}
 
 lacks-cons : (c s : ℕ) (xs : List ℕ) → c ≢ s → (Contains xs s → ⊥) → Contains (c ∷ xs) s → ⊥
 lacks-cons c s xs ne never (zero, l, e) = ne e

@@ -5,8 +5,7 @@ ghost use Rattle.std.specs.Option.{option_copied};
 ghost use Rattle.swh_revfmt.specs.Plain.{text_line, optional_line, IsPersonLine, IsEncoding, RevisionRest, IsRevisionRest, ReleaseRest, IsReleaseRest};
 ghost use Rattle.swh_revfmt.specs.PlainReading.{rev_rest, rel_rest};
 
-use crate::person::is_person;
-use swh_base::LINE_LIMIT;
+use swh_base::{LINE_LIMIT, is_person};
 use swh_pieces::{behind, split_at_byte};
 
 /// The text of a line after its word, and the bytes after the line.

@@ -2,8 +2,8 @@ use Rattle.std.proofs.Common.{rules, eq-eqb}
 use Rattle.std.specs.List.{AllPass}
 use Rattle.std.proofs.lemmas.Bool.{eqb-true}
 use Rattle.swh_base.specs.Text.{is_person_byte}
-use Rattle.swh_revfmt.proofs.Persons.{named-last, named_from}
-use Rattle.swh_revfmt.proofs.person.is_named.Goals as goal
+use Rattle.swh_base.proofs.Persons.{named-last, named_from}
+use Rattle.swh_base.proofs.text.is_named.Goals as goal
 
 pub returns-in-Some : goal.returns-in-Some
 returns-in-Some c =

@@ -1,13 +1,13 @@
 -- Ids and their digits: forty digits are those of one id, and an id's digits are digits.
-use Rattle.std.proofs.Common.{◌≡◌, ℕ, zero, suc, ◌+◌, ◌-◌, ◌*◌, ◌/◌, ◌%◌, ◌<◌, ◌==◌, Bool, true, false, ◌&&◌, ◌||◌, not, nat_lt, if◌then◌else◌, inl, inr, List, [], ◌∷◌, length, slice_index, refl, sym, ap, ◌∙◌, arith}
+use Rattle.std.proofs.Common.{◌≡◌, ℕ, zero, suc, ◌+◌, ◌*◌, ◌/◌, ◌%◌, ◌<◌, Bool, true, ◌&&◌, inl, inr, List, [], ◌∷◌, length, slice_index, refl, sym, ap, ◌∙◌, arith}
 use Rattle.std.proofs.Math.ListN.{get_or-eq_default}
 use Rattle.std.specs.List.{AllByRecursion, AllPass}
-use Rattle.std.proofs.lemmas.Bool.{and_parts, cases_lt, eqb-true}
-use Rattle.std.proofs.lemmas.Bool.Decides.{nat_tests}
+use Rattle.std.proofs.lemmas.Bool.{and_parts, cases_lt}
 use Rattle.std.proofs.lemmas.List.Elements.{All-nil, All-cons, All-head, All-tail}
 use Rattle.hex.specs.Hex.{encode_with, encode_lower, lower_digits}
 use Rattle.hex.proofs.HexLemmas.{length-encode_with}
 use Rattle.swh_base.specs.Name.{is_lower_hex_digit, IsIdText, IsByte, IsId}
+use Rattle.swh_base.proofs.IdText.{lower_reads}
 
 abbrev Lower : ℕ → Type 0
 Lower c = is_lower_hex_digit c ≡ true
@@ -69,48 +69,6 @@ IsId-from_text text id h e =
     let size = h.0 in
     (omega (arith, size, ap length e, length-encode_with lower_digits id), bytes_from id digits)
 
--- the value of a digit
-abbrev value_of : ℕ → ℕ
-value_of c = if nat_lt c 58 then c - 48 else c - 87
-
--- a digit is that of its value
-abbrev reads_back : ℕ → Bool
-reads_back c = not (is_lower_hex_digit c) || (nat_lt (value_of c) 16 && (slice_index lower_digits (value_of c) == c))
-
-abbrev all_read_back : ℕ → Bool
-all_read_back zero = true
-all_read_back (suc n) = reads_back n && all_read_back n
-
-all_read_back-at : (n k : ℕ) → all_read_back n ≡ true → k < n → reads_back k ≡ true
-all_read_back-at zero k h lt = absurd (omega arith)
-all_read_back-at (suc n) k h lt =
-    let parts = and_parts (reads_back n) (all_read_back n) h in
-    elim (cases_lt k n) [
-      | inl below ↦ all_read_back-at n k parts.1 below
-      | inr top ↦ let e : k ≡ n = omega arith in rw e parts.0
-    ]
-
-lower-lt : (c : ℕ) → Lower c → c < 103
-lower-lt c h = grind (arith, nat_tests)
-
-implied : (a b : Bool) → not a || b ≡ true → a ≡ true → b ≡ true
-implied true b h e = h
-implied false b h e = absurd cc
-
-record Reads (c : ℕ) : Type 0 where
-  value : ℕ
-  small : value < 16
-  back : slice_index lower_digits value ≡ c
-
-below_16 : (v : ℕ) → nat_lt v 16 ≡ true → v < 16
-below_16 v h = grind (arith, nat_tests)
-
-reads : (c : ℕ) → Lower c → Reads c
-reads c h =
-    let back : reads_back c ≡ true = all_read_back-at 103 c refl (lower-lt c h) in
-    let parts = and_parts (nat_lt (value_of c) 16) (slice_index lower_digits (value_of c) == c) (implied (is_lower_hex_digit c) _ back h) in
-    record { value = value_of c; small = below_16 (value_of c) parts.0; back = eqb-true _ c parts.1 }
-
 -- an id and its digits
 pub record Spells (text : List ℕ) : Type 0 where
   pub id : List ℕ
@@ -124,8 +82,8 @@ spelled zero (a ∷ text) e h = absurd (omega arith)
 spelled (suc n) (a ∷ []) e h = absurd (omega arith)
 spelled (suc n) (a ∷ b ∷ text) e h =
     let digits = parts a b text h in
-    let high = reads a digits.first in
-    let low = reads b digits.second in
+    let high = lower_reads a digits.first in
+    let low = lower_reads b digits.second in
     let after = spelled n text (omega arith) digits.others in
     let byte : ℕ = high.value * 16 + low.value in
     let hs = high.small in
@@ -142,3 +100,7 @@ spelled (suc n) (a ∷ b ∷ text) e h =
 -- forty digits are those of an id
 pub spelled_id : (text : List ℕ) → IsIdText text → Spells text
 spelled_id text h = spelled 20 text h.0 h.1
+
+-- the text of an id is forty lower-case digits
+pub IsIdText-encode : (id : List ℕ) → IsId id → IsIdText (encode_lower id)
+IsIdText-encode id h = let len = h.0 in (length-encode_with lower_digits id ∙ omega (arith, len), Lower-encode_lower id h.1)

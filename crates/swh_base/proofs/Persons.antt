@@ -5,7 +5,7 @@ use Rattle.std.proofs.lemmas.List.Elements.{All-contains}
 use Rattle.swh_base.specs.Text.{IsPerson, is_person_byte, is_digit, named}
 use Rattle.swh_base.proofs.Splits.{first_split, not_nil}
 use Rattle.swh_pieces.proofs.Middle.{in_middle}
-use Rattle.swh_revfmt.specs.Plain.{IsNamed, IsZone, IsSeconds, IsDate}
+use Rattle.swh_base.specs.Text.{IsNamed, IsZone, IsSeconds, IsDate}
 
 -- what a test refuses is not among what passes it
 pub lacks : (p : ℕ → Bool) (xs : List ℕ) (s : ℕ) → p s ≡ false → AllPass p xs → Contains xs s → ⊥

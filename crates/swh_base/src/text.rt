@@ -1,23 +1,53 @@
-//! Persons (git-fast-import(1), author and committer), carried byte for byte.
+//! Texts that several crates read: digits, refs (gitrevisions(7), git-check-ref-format(1), restricted), and persons
+//! (git-fast-import(1), author and committer), which are carried byte for byte.
 
 ghost use Rattle.std.specs.Prelude.{◌≡◌, ◌↔◌, IsTrue};
 ghost use Rattle.std.specs.List.{AllPass};
-ghost use Rattle.swh_base.specs.Text.{IsPerson, is_person_byte, is_digit};
-ghost use Rattle.swh_revfmt.specs.Plain.{IsNamed, IsSeconds, IsZone, IsDate};
+ghost use Rattle.swh_base.specs.Text.{is_digit, is_ref_byte, is_person_byte, IsRef, IsPerson, IsNamed, IsSeconds, IsZone, IsDate};
 
+use crate::limits::REF_LIMIT;
 use swh_pieces::{behind, split_at_byte};
+
+/// Whether a byte is a digit, `0` to `9`.
+pub fn is_digit(byte: u8) -> bool
+    ensures { result ≡ is_digit byte }
+{
+    byte >= b'0' && byte <= b'9'
+}
+
+/// Whether each byte of the text is a digit.
+pub fn are_digits(text: &[u8]) -> bool
+    ensures { IsTrue result ↔ AllPass is_digit text.now }
+{
+    text.iter().all(|byte| is_digit(*byte))
+}
+
+fn is_ref_byte(byte: u8) -> bool
+    ensures { result ≡ is_ref_byte byte }
+{
+    byte >= 33
+        && !(byte == 127)
+        && !(byte == b'^')
+        && !(byte == b':')
+        && !(byte == b'~')
+        && !(byte == b'?')
+        && !(byte == b'*')
+        && !(byte == b'[')
+        && !(byte == b'\\')
+}
+
+/// Whether the text is a ref: 1 to 1,024 bytes, none up to a space, no DEL, none of `^ : ~ ? * [ \`.
+pub fn is_ref(text: &[u8]) -> bool
+    ensures { IsTrue result ↔ IsRef text.now }
+{
+    !text.is_empty() && text.len() <= REF_LIMIT && text.iter().all(|byte| is_ref_byte(*byte))
+}
 
 fn are_person_bytes(text: &[u8]) -> bool
     ensures { IsTrue result ↔ AllPass is_person_byte text.now }
 {
     text.iter()
         .all(|c| *c != b'<' && *c != b'>' && *c != b'\n' && *c != b'\0')
-}
-
-fn are_digits(text: &[u8]) -> bool
-    ensures { IsTrue result ↔ AllPass is_digit text.now }
-{
-    text.iter().all(|c| *c >= b'0' && *c <= b'9')
 }
 
 /// Nothing, or a name and a space.
@@ -66,7 +96,7 @@ fn is_date(text: &[u8]) -> bool
     is_zone(zone)
 }
 
-/// Whether the text is a person.
+/// Whether the text is a person: `name <email> seconds +zone`, where the name and the space after it may lack.
 pub fn is_person(text: &[u8]) -> bool
     ensures { IsTrue result ↔ IsPerson text.now }
 {

@@ -1,9 +1,9 @@
 use Rattle.std.proofs.Common.{rules}
 use Rattle.std.specs.List.{AllPass}
 use Rattle.swh_base.specs.Text.{is_person_byte}
-use Rattle.swh_revfmt.specs.Plain.{IsNamed}
-use Rattle.swh_revfmt.proofs.Persons.{person-no_open, person-no_close, person_parts, whole_person}
-use Rattle.swh_revfmt.proofs.person.is_person.Goals as goal
+use Rattle.swh_base.specs.Text.{IsNamed}
+use Rattle.swh_base.proofs.Persons.{person-no_open, person-no_close, person_parts, whole_person}
+use Rattle.swh_base.proofs.text.is_person.Goals as goal
 
 pub returns-in_default : goal.returns-in_default
 returns-in_default c = (λ t. absurd cc, λ h. absurd (person-no_open c.args.text.now c.in_default.ensures.none h))

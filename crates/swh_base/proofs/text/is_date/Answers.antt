@@ -1,7 +1,7 @@
 use Rattle.std.proofs.Common.{rules}
-use Rattle.swh_revfmt.specs.Plain.{IsSeconds}
-use Rattle.swh_revfmt.proofs.Persons.{date-no_space, date_parts, whole_date}
-use Rattle.swh_revfmt.proofs.person.is_date.Goals as goal
+use Rattle.swh_base.specs.Text.{IsSeconds}
+use Rattle.swh_base.proofs.Persons.{date-no_space, date_parts, whole_date}
+use Rattle.swh_base.proofs.text.is_date.Goals as goal
 
 pub returns-in_default-split_at_byte : goal.returns-in_default-split_at_byte
 returns-in_default-split_at_byte c =
