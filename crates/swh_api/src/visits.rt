@@ -3,7 +3,8 @@ ghost use Rattle.std.specs.Prelude.{◌≡◌, ℕ, List, true, IfOk, string_byt
 ghost use Rattle.json.specs.Print.{quoted};
 ghost use Rattle.serde_json.specs.View.{view};
 ghost use Rattle.swh_api.specs.Text.{text_of, IsWrittenAs, visit_data};
-ghost use Rattle.swh_model.specs.Answer.{json_text, json_snapshot, last_mark as last_mark_of, reply_with, visit_json, visits_json};
+ghost use Rattle.swh_model.specs.Answer.{json_text, json_snapshot, reply_with, visit_json, visits_json};
+ghost use Rattle.swh_base.specs.Visit.{last_mark as last_mark_of};
 
 use crate::answer::not_found;
 use crate::words::{kind_word, status_word};

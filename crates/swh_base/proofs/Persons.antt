@@ -1,15 +1,11 @@
 -- Persons, cut at their first `<` and `>`, and dates, cut at their spaces.
-use Rattle.std.proofs.Common.{◌≡◌, ℕ, Bool, true, false, List, [], ◌∷◌, ◌++◌, Option, Some, None, Contains, refl, sym, ap, ◌∙◌, subst}
+use Rattle.std.proofs.Common.{◌≡◌, ℕ, List, [], ◌∷◌, ◌++◌, Option, Some, None, Contains, refl, sym, ap, ◌∙◌, subst}
 use Rattle.std.specs.List.{AllPass}
-use Rattle.std.proofs.lemmas.List.Elements.{All-contains}
 use Rattle.swh_base.specs.Text.{IsPerson, is_person_byte, is_digit, named}
+use Rattle.swh_base.proofs.Lacks.{lacks}
 use Rattle.swh_base.proofs.Splits.{first_split, not_nil}
 use Rattle.swh_pieces.proofs.Middle.{in_middle}
 use Rattle.swh_base.specs.Text.{IsNamed, IsZone, IsSeconds, IsDate}
-
--- what a test refuses is not among what passes it
-pub lacks : (p : ℕ → Bool) (xs : List ℕ) (s : ℕ) → p s ≡ false → AllPass p xs → Contains xs s → ⊥
-lacks p xs s never all h = let yes : p s ≡ true = All-contains (λ x. p x ≡ true) xs s all h in absurd cc
 
 -- a date's parts are what stands before and after its space
 pub record DateParts (seconds zone : List ℕ) : Type 0 where

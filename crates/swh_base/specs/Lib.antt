@@ -5,8 +5,10 @@ pub mod Limits
 pub mod Manifest
 pub mod Name
 pub mod Namer
+pub mod Reach
 pub mod Release
 pub mod Revision
 pub mod Snapshot
 pub mod Text
 pub mod Url
+pub mod Visit

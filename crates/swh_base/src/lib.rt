@@ -26,7 +26,10 @@ pub use entry::Entry;
 pub use escaping::escape;
 pub use graph::Graph;
 pub use kind::Kind;
-pub use laws::{one_list_of_kids, one_listing};
+pub use laws::{
+    certificates_show_closed, growth_keeps_certificates, growth_keeps_closed, one_list_of_kids,
+    one_listing,
+};
 pub use limits::{
     BODY_LIMIT, BYTES_LIMIT, FILE_LIMIT, LINE_LIMIT, OBJECTS_LIMIT, PATH_LIMIT, REF_LIMIT,
     RUN_LIMIT, TAG_LIMIT, URL_LIMIT,

@@ -8,7 +8,8 @@ use Rattle.swh_model.specs.SmallStream.{Blob, Change, Commit, line, value_from, 
 use Rattle.swh_fastload.specs.View.{BeginsHead}
 use Rattle.swh_pieces.proofs.Middle.{in_middle}
 use Rattle.swh_fastload.proofs.Cuts.{one_line}
-use Rattle.swh_fastload.proofs.Numbers.{passes_not, digits-not}
+use Rattle.swh_base.proofs.Lacks.{nothing_in, not_in_middle, cons_not, ref-no_feed, person-no_feed}
+use Rattle.swh_fastload.proofs.Numbers.{digits-not}
 
 pub none_at : {X : Type 0} (o : Option X) (P : Type 0) → o ≡ None → P → IfNone o P
 none_at None P e p = p
@@ -53,15 +54,6 @@ data_short bytes d r size h e short count content rest k l = let both = data_siz
 -- what is cut off a text after its size
 pub data_from : (bytes d r front back : List ℕ) (size : ℕ) → IsNumber d size → bytes ≡ line (codes "data ") d r → size ≤ body_limit → length front ≡ size → r ≡ front ++ back → (count : List ℕ) × IsCount count front × (bytes ≡ line (codes "data ") count (front ++ back))
 data_from bytes d r front back size h e under size_is cut = (d, record { number = subst (IsNumber d) (sym size_is) h; short = omega (arith, under, size_is) }, e ∙ ap (line (codes "data ") d) cut)
-
-pub nothing_in : (c : ℕ) → Contains [] c → ⊥
-nothing_in c h = let l = h.1 in absurd (omega (arith, l))
-
-pub not_in_middle : (a b : List ℕ) (s c : ℕ) → (Contains a c → ⊥) → (s ≡ c → ⊥) → (Contains b c → ⊥) → Contains (a ++ s ∷ b) c → ⊥
-not_in_middle [] b s c na ns nb (zero, l, e) = ns e
-not_in_middle [] b s c na ns nb (suc k, l, e) = nb (k, omega arith, e)
-not_in_middle (x ∷ a) b s c na ns nb (zero, l, e) = na (0, omega arith, e)
-not_in_middle (x ∷ a) b s c na ns nb (suc k, l, e) = not_in_middle a b s c (λ h. let m = h.1 in na (suc h.0, omega (arith, m), h.2)) ns nb (k, omega arith, e)
 
 pub behind : (a b : List ℕ) (s c : ℕ) → Contains b c → Contains (a ++ s ∷ b) c
 behind [] b s c h = let l = h.1 in (suc h.0, omega (arith, l), h.2)
@@ -123,23 +115,6 @@ blob_from bytes text r q content rest m e t mark f = record {
   is_mark = mark.1;
   is_count = f.1;
 }
-
-cons_not : (s c : ℕ) (b : List ℕ) → (s ≡ c → ⊥) → (Contains b c → ⊥) → Contains (s ∷ b) c → ⊥
-cons_not s c b ns nb h = not_in_middle [] b s c (nothing_in c) ns nb h
-
-sign-no_feed : (sign : ℕ) → (sign ≡ 43) ⊎ (sign ≡ 45) → sign ≡ 10 → ⊥
-sign-no_feed sign (inl a) e = absurd (omega arith)
-sign-no_feed sign (inr a) e = absurd (omega arith)
-
-pub ref-no_feed : (text : List ℕ) → IsRef text → Contains text 10 → ⊥
-ref-no_feed text h = passes_not is_ref_byte text 10 h.bytes (λ t. cc)
-
-pub person-no_feed : (text : List ℕ) → IsPerson text → Contains text 10 → ⊥
-person-no_feed text h c =
-    let zone = cons_not h.sign 10 h.zone (sign-no_feed h.sign h.is_sign) (digits-not h.zone 10 h.zone_digits refl) in
-    let time = not_in_middle h.seconds (h.sign ∷ h.zone) 32 10 (digits-not h.seconds 10 h.seconds_digits refl) (λ e. absurd (omega arith)) zone in
-    let email = not_in_middle h.email (32 ∷ (h.seconds ++ 32 ∷ h.sign ∷ h.zone)) 62 10 (passes_not is_person_byte h.email 10 h.email_bytes (λ t. cc)) (λ e. absurd (omega arith)) (cons_not 32 10 (h.seconds ++ 32 ∷ h.sign ∷ h.zone) (λ e. absurd (omega arith)) time) in
-    not_in_middle (named h.name) (h.email ++ 62 ∷ 32 ∷ (h.seconds ++ 32 ∷ h.sign ∷ h.zone)) 60 10 (passes_not is_person_byte (named h.name) 10 h.name_bytes (λ t. cc)) (λ e. absurd (omega arith)) email (subst (λ (t : List ℕ). Contains t 10) h.spelled c)
 
 -- the lines of a commit's head
 pub from_data : (bytes : List ℕ) (commit : Commit) (rest : List ℕ) → BeginsCommit bytes commit rest → List ℕ

@@ -7,6 +7,7 @@ use Rattle.std.proofs.Math.ListN.{drop_of_length-le}
 use Rattle.std.proofs.lemmas.List.{take_more, take_all}
 use Rattle.std.proofs.lemmas.List.Elements.{All-append}
 use Rattle.swh_base.specs.Text.{is_digit}
+use Rattle.swh_base.proofs.Lacks.{lacks}
 use Rattle.swh_model.specs.SmallStream.{IsNumber, value_from}
 
 pub number_small : (n i size : ℕ) → n < 10 ^ i → i < size → size ≤ 18 → n < 10 ^ 17
@@ -39,9 +40,5 @@ number_whole xs n i some short over v d = record { some = some; short = short; d
     drop_all : (xs : List ℕ) (i : ℕ) → length xs ≤ i → drop i xs ≡ []
     drop_all xs i l = drop_of_length-le xs l
 
--- a byte that fails a test stands nowhere in a text that passes it
-pub passes_not : (test : ℕ → Bool) (xs : List ℕ) (c : ℕ) → AllPass test xs → (test c ≡ true → ⊥) → Contains xs c → ⊥
-passes_not test xs c all fails h = fails (subst (λ (d : ℕ). test d ≡ true) h.2 (all h.0 c h.1))
-
 pub digits-not : (xs : List ℕ) (c : ℕ) → AllPass is_digit xs → is_digit c ≡ false → Contains xs c → ⊥
-digits-not xs c all e = passes_not is_digit xs c all (λ t. let both : false ≡ true = sym e ∙ t in cc)
+digits-not xs c all e = lacks is_digit xs c e all

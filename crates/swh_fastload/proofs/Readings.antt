@@ -7,7 +7,8 @@ use Rattle.swh_model.specs.SmallStream.{Blob, Change, Commit, line, value_from, 
 use Rattle.swh_fastload.specs.Feed.{TakesFeed}
 use Rattle.swh_fastload.proofs.Cuts.{one_line, feeds-append}
 use Rattle.swh_fastload.proofs.Numbers.{digits-not}
-use Rattle.swh_fastload.proofs.Fronts.{mark-no_feed, count-no_feed, nothing_in, change-no_feed, change_line, ref-no_feed, person-no_feed}
+use Rattle.swh_base.proofs.Lacks.{nothing_in, ref-no_feed, person-no_feed}
+use Rattle.swh_fastload.proofs.Fronts.{mark-no_feed, count-no_feed, change-no_feed, change_line}
 
 first_byte : List ℕ → ℕ
 first_byte [] = 0
