@@ -1,12 +1,24 @@
--- Texts inside manifests and streams: refs (gitrevisions(7), git-check-ref-format(1), restricted) and persons
+-- Texts inside manifests, streams and requests: numbers, refs (gitrevisions(7), git-check-ref-format(1), restricted) and persons
 -- (git-fast-import(1), author and committer).
-use Rattle.std.specs.Prelude.{◌≡◌, ◌⊎◌, ℕ, ◌≤◌, ◌==◌, Bool, ◌&&◌, not, nat_le, Option, Some, None, List, [], ◌∷◌, ◌++◌, length}
+use Rattle.std.specs.Prelude.{◌≡◌, ◌⊎◌, ℕ, ◌+◌, ◌-◌, ◌*◌, ◌≤◌, ◌==◌, Bool, ◌&&◌, not, nat_le, Option, Some, None, List, [], ◌∷◌, ◌++◌, length}
 use Rattle.std.specs.List.{AllPass}
 use Rattle.swh_base.specs.Limits.{ref_limit}
 
 -- `0` to `9`
 abbrev pub is_digit : ℕ → Bool
 is_digit c = nat_le 48 c && nat_le c 57
+
+-- the number that the digits write after those of another
+abbrev pub value_from : ℕ → List ℕ → ℕ
+value_from high [] = high
+value_from high (c ∷ cs) = value_from (high * 10 + (c - 48)) cs
+
+-- 1 to 18 digits, and the number that they write
+pub record IsNumber (text : List ℕ) (n : ℕ) : Type 0 where
+  pub some : 1 ≤ length text
+  pub short : length text ≤ 18
+  pub digits : AllPass is_digit text
+  pub value : n ≡ value_from 0 text
 
 -- none up to a space, no DEL, none of `^ : ~ ? * [ \`
 abbrev pub is_ref_byte : ℕ → Bool

@@ -3,13 +3,12 @@ use Rattle.std.proofs.Common.{◌≡◌, ℕ, zero, suc, ◌+◌, ◌<◌, ◌�
 use Rattle.std.specs.Prelude.{IfNone, IsTrue, ◌↔◌}
 use Rattle.swh_base.proofs.Splits.{first_split}
 use Rattle.swh_base.specs.Limits.{body_limit, line_limit}
-use Rattle.swh_base.specs.Text.{is_ref_byte, is_person_byte, named, IsRef, IsPerson}
-use Rattle.swh_model.specs.SmallStream.{Blob, Change, Commit, line, value_from, IsNumber, IsMark, IsCount, IsFileName, BeginsBlob, BeginsChange, BeginsCommit}
+use Rattle.swh_base.specs.Text.{is_digit, IsRef, IsPerson, IsNumber, value_from}
+use Rattle.swh_model.specs.SmallStream.{Blob, Change, Commit, line, IsMark, IsCount, IsFileName, BeginsBlob, BeginsChange, BeginsCommit}
 use Rattle.swh_fastload.specs.View.{BeginsHead}
 use Rattle.swh_pieces.proofs.Middle.{in_middle}
 use Rattle.swh_fastload.proofs.Cuts.{one_line}
-use Rattle.swh_base.proofs.Lacks.{nothing_in, not_in_middle, cons_not, ref-no_feed, person-no_feed}
-use Rattle.swh_fastload.proofs.Numbers.{digits-not}
+use Rattle.swh_base.proofs.Lacks.{lacks, nothing_in, not_in_middle, cons_not, ref-no_feed, person-no_feed}
 
 pub none_at : {X : Type 0} (o : Option X) (P : Type 0) → o ≡ None → P → IfNone o P
 none_at None P e p = p
@@ -20,7 +19,7 @@ pub test_fails : (b : Bool) (P : Type 0) → b ≡ false → IsTrue b ↔ P → 
 test_fails b P e h p = let both : false ≡ true = sym e ∙ h.1 p in cc
 
 pub number-no_feed : (digits : List ℕ) (n : ℕ) → IsNumber digits n → Contains digits 10 → ⊥
-number-no_feed digits n h = digits-not digits 10 h.digits refl
+number-no_feed digits n h = lacks is_digit digits 10 refl h.digits
 
 pub mark-no_feed : (digits : List ℕ) (n : ℕ) → IsMark digits n → Contains digits 10 → ⊥
 mark-no_feed digits n h = number-no_feed digits n h.number
@@ -72,7 +71,7 @@ change_line bytes text r none e change rest h = one_line (codes "M 100644 :") te
 
 -- its mark and its name
 pub change_parts : (bytes text r digits name : List ℕ) → (Contains text 10 → ⊥) → bytes ≡ line (codes "M 100644 :") text r → (Contains digits 32 → ⊥) → text ≡ digits ++ 32 ∷ name → (change : Change) (rest : List ℕ) → (h : BeginsChange bytes change rest) → (digits ≡ h.mark) × (name ≡ change.name)
-change_parts bytes text r digits name none e nd cut change rest h = first_split 32 digits h.mark name change.name nd (digits-not h.mark 32 h.is_mark.number.digits refl) (sym cut ∙ (change_line bytes text r none e change rest h).0)
+change_parts bytes text r digits name none e nd cut change rest h = first_split 32 digits h.mark name change.name nd (lacks is_digit h.mark 32 refl h.is_mark.number.digits) (sym cut ∙ (change_line bytes text r none e change rest h).0)
 
 pub no_change : (bytes : List ℕ) → ((text rest : List ℕ) → (Contains text 10 → ⊥) → bytes ≡ line (codes "M 100644 :") text rest → ⊥) → (change : Change) (rest : List ℕ) → BeginsChange bytes change rest → ⊥
 no_change bytes none change rest h = none (h.mark ++ 32 ∷ change.name) rest (change-no_feed bytes change rest h) h.spelled

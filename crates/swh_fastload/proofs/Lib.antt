@@ -5,7 +5,6 @@ pub mod Folders
 pub mod Fronts
 pub mod Leads
 pub mod Loads
-pub mod Numbers
 pub mod Onces
 pub mod Readings
 pub mod Snapshots

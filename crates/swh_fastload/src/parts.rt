@@ -1,14 +1,14 @@
 //! What a text begins with: numbers on a line, data, blobs, changes, and a commit in front of its changes.
 ghost use Rattle.std.specs.Prelude.{◌≡◌, ◌≢◌, ◌++◌, ◌∷◌, ◌+◌, ◌≤◌, ◌↔◌, ℕ, List, length, IfSome, IfNone, IsTrue, codes};
 ghost use Rattle.swh_base.specs.Limits.{line_limit};
-ghost use Rattle.swh_base.specs.Text.{IsPerson};
-ghost use Rattle.swh_model.specs.SmallStream.{Blob as BlobValue, Change as ChangeValue, line, IsNumber, IsMark, IsCount, BeginsBlob, BeginsChange};
+ghost use Rattle.swh_base.specs.Text.{IsPerson, IsNumber};
+ghost use Rattle.swh_model.specs.SmallStream.{Blob as BlobValue, Change as ChangeValue, line, IsMark, IsCount, BeginsBlob, BeginsChange};
 ghost use Rattle.swh_fastload.specs.View.{blob_view, change_view, IsHead, BeginsHead};
 
 use crate::lines::take_line;
 use crate::stream::{Blob, Change};
-use crate::words::{is_file_name, number_of};
-use swh_base::{BODY_LIMIT, LINE_LIMIT, is_person, is_ref};
+use crate::words::is_file_name;
+use swh_base::{BODY_LIMIT, LINE_LIMIT, is_person, is_ref, number_of};
 use swh_pieces::split_at_byte;
 
 /// The number of bytes of the data that a line opens.

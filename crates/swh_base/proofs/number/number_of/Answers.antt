@@ -1,6 +1,6 @@
 use Rattle.std.proofs.Common.{rules, arith, length}
-use Rattle.swh_fastload.proofs.Numbers.{number_small, number_more, value_more, digits_more, number_whole}
-use Rattle.swh_fastload.proofs.words.number_of.Goals as goal
+use Rattle.swh_base.proofs.Numbers.{number_small, number_more, value_more, digits_more, number_whole}
+use Rattle.swh_base.proofs.number.number_of.Goals as goal
 
 pub overflow_mul-n : goal.overflow_mul-n
 overflow_mul-n c =

@@ -1,8 +1,7 @@
 use Rattle.std.proofs.Common.{◌≡◌, ◌<◌, ◌^◌, take, drop}
 use Rattle.std.specs.List.{AllPass}
-use Rattle.swh_base.specs.Text.{is_digit}
-use Rattle.swh_model.specs.SmallStream.{value_from}
-use Rattle.swh_fastload.proofs.words.number_of.Given as goal
+use Rattle.swh_base.specs.Text.{is_digit, value_from}
+use Rattle.swh_base.proofs.number.number_of.Given as goal
 
 abbrev pub invariant-loop-digit : goal.invariant-loop-digit
 invariant-loop-digit l = record {

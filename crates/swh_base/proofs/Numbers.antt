@@ -6,9 +6,7 @@ use Rattle.std.proofs.Math.Seq.{drop-cons}
 use Rattle.std.proofs.Math.ListN.{drop_of_length-le}
 use Rattle.std.proofs.lemmas.List.{take_more, take_all}
 use Rattle.std.proofs.lemmas.List.Elements.{All-append}
-use Rattle.swh_base.specs.Text.{is_digit}
-use Rattle.swh_base.proofs.Lacks.{lacks}
-use Rattle.swh_model.specs.SmallStream.{IsNumber, value_from}
+use Rattle.swh_base.specs.Text.{is_digit, value_from, IsNumber}
 
 pub number_small : (n i size : ℕ) → n < 10 ^ i → i < size → size ≤ 18 → n < 10 ^ 17
 number_small n i size s l h =
@@ -39,6 +37,3 @@ number_whole xs n i some short over v d = record { some = some; short = short; d
   where
     drop_all : (xs : List ℕ) (i : ℕ) → length xs ≤ i → drop i xs ≡ []
     drop_all xs i l = drop_of_length-le xs l
-
-pub digits-not : (xs : List ℕ) (c : ℕ) → AllPass is_digit xs → is_digit c ≡ false → Contains xs c → ⊥
-digits-not xs c all e = lacks is_digit xs c e all
