@@ -1,5 +1,5 @@
 -- Laws of every graph: what is closed stays closed as it grows, and a certificate shows that a node is closed.
-use Rattle.std.proofs.Common.{◌≡◌, inl, inr, Option, Some, List, [], ◌∷◌, Contains, refl, sym, ap, ◌∙◌, subst}
+use Rattle.std.proofs.Common.{◌≡◌, inl, inr, Option, Some, List, [], ◌∷◌, refl, sym, ap, ◌∙◌, subst}
 use Rattle.swh_base.specs.Reach.{IsHeldIn, IsKidIn, IsWalk, Reaches, IsClosed, AreClosed, IsCovered, Certifies, IsAmong, Grows, IsWithin}
 
 module _ {X : Type 0} (IsHeld : X → Type 0) (IsKid : X → X → Type 0) where

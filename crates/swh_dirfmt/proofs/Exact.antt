@@ -1,5 +1,5 @@
 -- A body that breaks somewhere is no directory.
-use Rattle.std.proofs.Common.{◌≡◌, ◌≢◌, ℕ, List, [], ◌∷◌, ◌++◌, length, Result, Ok, Err, refl, sym, ap, ◌∙◌, subst, decimal, append_assoc}
+use Rattle.std.proofs.Common.{◌≡◌, ◌≢◌, ℕ, List, [], ◌∷◌, ◌++◌, length, Result, Ok, Err, refl, sym, ap, ◌∙◌, subst, decimal}
 use Rattle.std.specs.Prelude.{IfOk, IfErr}
 use Rattle.swh_base.specs.Directory.{Entry, IsEntry, AreEntries, MayFollow, entry_text, directory_text, IsDirectory}
 use Rattle.swh_base.proofs.Items.{same_front}

@@ -1,5 +1,5 @@
 -- What a text begins with, from the lines that were cut off its front.
-use Rattle.std.proofs.Common.{◌≡◌, ℕ, zero, suc, ◌+◌, ◌<◌, ◌≤◌, ◌⊎◌, inl, inr, Bool, true, false, List, [], ◌∷◌, ◌++◌, length, length-append, Contains, Option, Some, None, refl, sym, ap, ◌∙◌, subst, arith, codes}
+use Rattle.std.proofs.Common.{◌≡◌, ℕ, suc, ◌+◌, ◌<◌, ◌≤◌, Bool, true, false, List, [], ◌∷◌, ◌++◌, length, length-append, Contains, Option, Some, None, refl, sym, ap, ◌∙◌, subst, arith, codes}
 use Rattle.std.specs.Prelude.{IfNone, IsTrue, ◌↔◌}
 use Rattle.swh_base.proofs.Splits.{first_split}
 use Rattle.swh_base.specs.Limits.{body_limit, line_limit}
@@ -8,7 +8,7 @@ use Rattle.swh_model.specs.SmallStream.{Blob, Change, Commit, line, IsMark, IsCo
 use Rattle.swh_fastload.specs.View.{BeginsHead}
 use Rattle.swh_pieces.proofs.Middle.{in_middle}
 use Rattle.swh_fastload.proofs.Cuts.{one_line}
-use Rattle.swh_base.proofs.Lacks.{lacks, nothing_in, not_in_middle, cons_not, ref-no_feed, person-no_feed}
+use Rattle.swh_base.proofs.Lacks.{lacks, nothing_in, not_in_middle, ref-no_feed, person-no_feed}
 
 pub none_at : {X : Type 0} (o : Option X) (P : Type 0) → o ≡ None → P → IfNone o P
 none_at None P e p = p

@@ -1,8 +1,7 @@
 -- A line is cut in one way, and spells one job at most.
-use Rattle.std.proofs.Common.{◌≡◌, ℕ, Option, Some, None, Bool, true, List, [], ◌∷◌, ◌++◌, Contains, refl, sym, ap, ◌∙◌, subst, append_assoc, codes}
+use Rattle.std.proofs.Common.{◌≡◌, ℕ, Option, Some, None, List, [], ◌∷◌, ◌++◌, Contains, refl, sym, ap, ◌∙◌, subst, append_assoc, codes}
 use Rattle.std.proofs.lemmas.List.{append-nil}
 use Rattle.std.proofs.lemmas.List.Elements.{Contains-append_left, Contains-append_right}
-use Rattle.std.specs.List.{AllPass}
 use Rattle.std.specs.Prelude.{IfSome, IsUtf8}
 use Rattle.swh_base.specs.Url.{IsUrl, is_url_byte}
 use Rattle.swh_base.proofs.Lacks.{passes_not}

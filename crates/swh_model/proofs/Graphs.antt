@@ -1,12 +1,12 @@
 -- The bodies of an archive are a graph: a function that has their kids tells what is reached and what is closed.
-use Rattle.std.proofs.Common.{◌≡◌, inl, inr, ◌⊎◌, ℕ, Option, Some, None, List, Contains, refl, sym, ap, ◌∙◌, subst}
+use Rattle.std.proofs.Common.{◌≡◌, ℕ, Option, Some, None, List, Contains, refl, sym, ◌∙◌, subst}
 use Rattle.std.specs.Prelude.{◌↔◌}
 use Rattle.swh_base.specs.declared.name.Name.{Name}
 use Rattle.swh_base.specs.Manifest.{AreKids}
 use Rattle.swh_base.specs.Reach.{IsHeldIn, IsKidIn, ReachesIn, IsClosedIn}
 use Rattle.swh_base.proofs.Kids.{one_list}
 use Rattle.swh_base.proofs.Reaches.{reaches-there}
-use Rattle.swh_model.specs.Archive.{Bodies, body_of, IsHeld, IsKid, Reaches, IsClosed, IsGraphOf}
+use Rattle.swh_model.specs.Archive.{Bodies, IsHeld, IsKid, Reaches, IsClosed, IsGraphOf}
 
 module _ (bodies : Bodies) (kids_of : Name → Option (List Name)) (is : IsGraphOf bodies kids_of) where
   held-in : (n : Name) → IsHeld bodies n → IsHeldIn kids_of n

@@ -5,8 +5,8 @@
 --     change = "M 100644 :" num SP name LF
 --     data   = "data " num LF bytes [LF]
 -- A stream that passes a limit is outside it, and so are comments and a mark of 0.
-use Rattle.std.specs.Prelude.{◌≡◌, ◌≢◌, ◌⊎◌, ℕ, ◌+◌, ◌-◌, ◌*◌, ◌^◌, ◌≤◌, List, [], ◌∷◌, ◌++◌, length, Option, Some, None, Contains, codes}
-use Rattle.std.specs.List.{AllPass, AllByRecursion}
+use Rattle.std.specs.Prelude.{◌≡◌, ◌≢◌, ◌⊎◌, ℕ, ◌+◌, ◌^◌, ◌≤◌, List, [], ◌∷◌, ◌++◌, length, Option, Some, None, Contains, codes}
+use Rattle.std.specs.List.{AllByRecursion}
 use Rattle.swh_base.specs.Limits.{body_limit, line_limit, path_limit}
 use Rattle.swh_base.specs.Text.{IsNumber, IsRef, IsPerson}
 

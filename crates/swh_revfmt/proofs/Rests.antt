@@ -1,5 +1,5 @@
 -- Lines of a word and a text, and the rests of plain manifests.
-use Rattle.std.proofs.Common.{◌≡◌, ◌≢◌, ℕ, zero, suc, ◌+◌, ◌≤◌, inl, inr, List, [], ◌∷◌, ◌++◌, length, Option, Some, None, Contains, IfSome, refl, sym, ap, ◌∙◌, subst, arith, append_assoc, length-append, codes}
+use Rattle.std.proofs.Common.{◌≡◌, ℕ, ◌+◌, ◌≤◌, List, [], ◌∷◌, ◌++◌, length, Option, Some, None, Contains, IfSome, refl, sym, ap, ◌∙◌, subst, arith, append_assoc, length-append, codes}
 use Rattle.swh_base.specs.Limits.{line_limit}
 use Rattle.swh_base.specs.Text.{IsPerson}
 use Rattle.swh_base.proofs.Splits.{first_split, sized_split}

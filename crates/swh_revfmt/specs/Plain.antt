@@ -1,6 +1,5 @@
 -- Plain revisions and releases: those whose rest is an author, a committer and a message, or a tagger and a message.
 use Rattle.std.specs.Prelude.{◌≡◌, ◌≢◌, ℕ, ◌≤◌, Option, Some, None, IfSome, List, [], ◌∷◌, ◌++◌, length, Contains, codes}
-use Rattle.std.specs.List.{AllPass}
 use Rattle.swh_base.specs.declared.kind.Kind.TheVariants.{Directory}
 use Rattle.swh_base.specs.declared.name.Name.{Name}
 use Rattle.swh_base.specs.Limits.{line_limit, tag_limit}

@@ -1,5 +1,5 @@
 -- A body that breaks somewhere is no snapshot, and it breaks in one place first.
-use Rattle.std.proofs.Common.{◌≡◌, ℕ, List, [], ◌∷◌, ◌++◌, length, Result, Ok, Err, refl, sym, ap, ◌∙◌, subst, append_assoc}
+use Rattle.std.proofs.Common.{◌≡◌, ℕ, List, [], ◌∷◌, ◌++◌, length, Result, Ok, Err, sym, ap, ◌∙◌, subst}
 use Rattle.std.specs.Prelude.{IfOk, IfErr}
 use Rattle.swh_base.specs.Snapshot.{SnapshotBranch, IsBranch, AreBranches, branch_text, snapshot_text, IsSnapshot}
 use Rattle.swh_base.proofs.Items.{same_front}

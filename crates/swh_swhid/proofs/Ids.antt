@@ -1,14 +1,10 @@
 -- Texts of ids: each is an id's, and how far a text goes along with them.
-use Rattle.std.proofs.Common.{◌≡◌, ℕ, zero, suc, ◌+◌, ◌-◌, ◌*◌, ◌/◌, ◌%◌, ◌<◌, ◌≤◌, ◌==◌, if◌then◌else◌, Bool, true, false, ◌&&◌, ◌||◌, not, ◌⊎◌, inl, inr, List, [], ◌∷◌, ◌++◌, length, slice_index, get_or, take, drop, replicate, nat_le, refl, sym, ap, ◌∙◌, subst, arith, length-append, length-drop, drop-cons}
+use Rattle.std.proofs.Common.{◌≡◌, ℕ, suc, ◌+◌, ◌-◌, ◌<◌, ◌≤◌, true, false, ◌⊎◌, inl, inr, List, ◌∷◌, ◌++◌, length, get_or, take, drop, replicate, refl, sym, ap, ◌∙◌, subst, arith, length-append, length-drop, drop-cons}
 use Rattle.std.proofs.lemmas.List.{take-append-drop, length-take-le, length-replicate}
-use Rattle.std.proofs.lemmas.Bool.{and_parts, agree_below_at, cases_lt, eqb-true}
-use Rattle.std.proofs.lemmas.Bool.Decides.{nat_tests}
-use Rattle.std.proofs.lemmas.List.Elements.{All-append, All-replicate, All-drop, All-head, recursion_from_All, All-from_recursion}
+use Rattle.std.proofs.lemmas.List.Elements.{All-append, All-replicate, All-drop, All-head}
 use Rattle.std.proofs.Math.Seq.{drop-append_seam}
-use Rattle.std.specs.List.{AllPass, AllByRecursion}
-use Rattle.hex.specs.Hex.{encode_with, encode_lower, lower_digits}
-use Rattle.hex.proofs.HexLemmas.{length-encode_with}
-use Rattle.swh_base.specs.Name.{is_lower_hex_digit, IsIdText, IsByte, IsId}
+use Rattle.std.specs.List.{AllPass}
+use Rattle.swh_base.specs.Name.{is_lower_hex_digit, IsIdText}
 use Rattle.swh_swhid.specs.Front.{BreaksAt}
 
 abbrev Lower : ℕ → Type 0
