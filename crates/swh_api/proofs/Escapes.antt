@@ -1,8 +1,8 @@
 -- An escaped text, and hexadecimal digits, in a JSON string.
-use Rattle.std.proofs.Common.{◌≡◌, ℕ, ◌<◌, ◌≤◌, ◌/◌, ◌%◌, Bool, true, false, not, cond, true≢false, List, [], ◌∷◌, ◌++◌, get_or, suc, refl, sym, ap, ap₂, ◌∙◌, ⊎_elim, arith}
+use Rattle.std.proofs.Common.{◌≡◌, ℕ, ◌<◌, ◌≤◌, ◌/◌, ◌%◌, Bool, List, [], ◌∷◌, ◌++◌, get_or, suc, refl, ap, ap₂, ◌∙◌, arith}
 use Rattle.std.specs.List.{flat_map}
 use Rattle.std.specs.Str.{bytes_eq}
-use Rattle.std.proofs.lemmas.Bool.{cond_both, cases_lt}
+use Rattle.std.proofs.lemmas.Bool.{cond_both}
 use Rattle.std.proofs.lemmas.Bool.Decides.{nat_tests}
 use Rattle.std.proofs.lemmas.Grind.{flat_map-append}
 use Rattle.std.proofs.lemmas.List.Elements.{All-nil, All-cons, All-head, All-tail, All-weaker}
@@ -10,30 +10,11 @@ use Rattle.std.proofs.lemmas.Slice.Eq.{bytes_eq-Decides}
 use Rattle.std.specs.List.{All}
 use Rattle.hex.specs.Hex.{encode_with, encode_lower, lower_digits}
 use Rattle.json.specs.Print.{escape_byte, escape, quoted}
-use Rattle.percent_encoding.specs.AsciiSet.{should_percent_encode}
-use Rattle.percent_encoding.specs.Percent.{percent_encode_byte, encode_byte, percent_encode}
+use Rattle.percent_encoding.specs.Percent.{percent_encode_byte}
 use Rattle.percent_encoding.proofs.PercentLemmas.{IsEscapeByte, All-percent_encode_byte}
-use Rattle.swh_api.specs.declared.visits.TheConstants.{ESCAPED}
 use Rattle.swh_api.proofs.Tables.{below}
-use Rattle.swh_model.specs.Answer.{is_escaped, escaped_byte, json_byte, json_text}
-
--- ---- which bytes are escaped
-
-abbrev agree : Bool → Bool → Bool
-agree a b = cond a b (not b)
-
-same-from_agree : (a b : Bool) → agree a b ≡ true → a ≡ b
-same-from_agree true b h = sym h
-same-from_agree false true h = absurd (true≢false (sym h))
-same-from_agree false false h = refl
-
-should_percent_encode-escaped : (c : ℕ) → should_percent_encode ESCAPED c ≡ is_escaped c
-unfolding should_percent_encode
-should_percent_encode-escaped c =
-    ⊎_elim
-    (λ small. same-from_agree _ _ (below (λ b. agree (should_percent_encode ESCAPED b) (is_escaped b)) 128 refl c small))
-    (λ large. grind (arith, nat_tests))
-    (cases_lt c 128)
+use Rattle.swh_model.specs.Answer.{json_byte, json_text}
+use Rattle.swh_base.specs.Escape.{is_escaped, escaped_byte, escaped}
 
 -- ---- their escapes in a JSON string
 
@@ -52,17 +33,16 @@ All-escaped_byte c =
     (λ e. All-weaker IsEscapeByte P (λ b h. printed b (grind arith)) (percent_encode_byte c) (All-percent_encode_byte c))
     (λ e. All-cons P c [] (printed c (grind (arith, nat_tests))) (All-nil P))
 
-escape-encode_byte : (c : ℕ) → escape (encode_byte ESCAPED c) ≡ flat_map json_byte (escaped_byte c)
-escape-encode_byte c = rw should_percent_encode-escaped (flat_map-same escape_byte json_byte (escaped_byte c) (All-escaped_byte c))
+escape-escaped_byte : (c : ℕ) → escape (escaped_byte c) ≡ flat_map json_byte (escaped_byte c)
+escape-escaped_byte c = flat_map-same escape_byte json_byte (escaped_byte c) (All-escaped_byte c)
 
-escape-percent_encode : (bytes : List ℕ) → escape (percent_encode ESCAPED bytes) ≡ flat_map (λ c. flat_map json_byte (escaped_byte c)) bytes
-unfolding percent_encode
-escape-percent_encode [] = refl
-escape-percent_encode (c ∷ bytes) = flat_map-append escape_byte (encode_byte ESCAPED c) (flat_map (encode_byte ESCAPED) bytes) ∙ ap₂ ◌++◌ (escape-encode_byte c) (escape-percent_encode bytes)
+escape-escaped : (bytes : List ℕ) → escape (escaped bytes) ≡ flat_map (λ c. flat_map json_byte (escaped_byte c)) bytes
+escape-escaped [] = refl
+escape-escaped (c ∷ bytes) = flat_map-append escape_byte (escaped_byte c) (escaped bytes) ∙ ap₂ ◌++◌ (escape-escaped_byte c) (escape-escaped bytes)
 
 -- an escaped text is quoted as the model says
-pub quoted-percent_encode : (bytes : List ℕ) → quoted (percent_encode ESCAPED bytes) ≡ json_text bytes
-quoted-percent_encode bytes = ap (λ (s : List ℕ). 34 ∷ (s ++ 34 ∷ [])) (escape-percent_encode bytes)
+pub quoted-escaped : (bytes : List ℕ) → quoted (escaped bytes) ≡ json_text bytes
+quoted-escaped bytes = ap (λ (s : List ℕ). 34 ∷ (s ++ 34 ∷ [])) (escape-escaped bytes)
 
 -- ---- hexadecimal digits
 

@@ -14,8 +14,8 @@ use Rattle.swh_base.specs.declared.visit.VisitKind.TheVariants.{Fast, Dir, Batch
 use Rattle.swh_base.specs.declared.visit.Status.{Status}
 use Rattle.swh_base.specs.declared.visit.Status.TheVariants.{Created, Ongoing, Full, Partial, NotFound, Failed}
 use Rattle.swh_model.specs.declared.event.Visit.{Visit}
-use Rattle.swh_model.specs.Answer.{status_word, visit_kind_word, json_text, json_snapshot, last_mark, visit_json}
-use Rattle.swh_model.specs.Step.{Statuses}
+use Rattle.swh_model.specs.Answer.{json_text, json_snapshot, visit_json}
+use Rattle.swh_base.specs.Visit.{Statuses, visit_kind_word, status_word, last_mark}
 use Rattle.swh_api.specs.Text.{IsWrittenAs, visit_data}
 
 -- ---- words stand in a JSON string as they are

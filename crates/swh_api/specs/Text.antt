@@ -3,7 +3,8 @@ use Rattle.std.specs.Prelude.{◌≡◌, ℕ, List, false, codes}
 use Rattle.swh_base.specs.declared.request.Reply.{Reply}
 use Rattle.swh_base.specs.declared.visit.Status.{Status}
 use Rattle.swh_model.specs.declared.event.Visit.{Visit}
-use Rattle.swh_model.specs.Answer.{ReplyText, status_word, visit_kind_word}
+use Rattle.swh_model.specs.Answer.{ReplyText}
+use Rattle.swh_base.specs.Visit.{visit_kind_word, status_word}
 use Rattle.serde_json.specs.Data.{Data, number, unsigned, string, object, member, no_members}
 use Rattle.serde_json.specs.View.{view}
 use Rattle.serde_json.specs.Written.{compact_text, has_float}

@@ -3,14 +3,14 @@ ghost use Rattle.std.specs.Prelude.{◌≡◌, ℕ, List, true, IfOk, string_byt
 ghost use Rattle.json.specs.Print.{quoted};
 ghost use Rattle.serde_json.specs.View.{view};
 ghost use Rattle.swh_api.specs.Text.{text_of, IsWrittenAs, visit_data};
-ghost use Rattle.swh_model.specs.Answer.{json_text, json_snapshot, last_mark as last_mark_of, reply_with, visit_json, visits_json};
+ghost use Rattle.swh_model.specs.Answer.{json_text, json_snapshot, reply_with, visit_json, visits_json};
+ghost use Rattle.swh_base.specs.Visit.{last_mark as last_mark_of};
 
 use crate::answer::not_found;
 use crate::words::{kind_word, status_word};
-use percent_encoding::{AsciiSet, CONTROLS, ascii_set, percent_encode};
 use serde_json::{Value, json};
 use std::alloc::{AllocError, Global};
-use swh_base::{Bytes, Memory, Reply, Status};
+use swh_base::{Bytes, Memory, Reply, Status, escape};
 use swh_model::Visit;
 
 /// The reply on an origin's visits, which are handed in with the oldest first: 200 and a JSON array (RFC 8259) with the
@@ -33,7 +33,7 @@ pub fn visits_reply(alloc: Global, origin: &[u8], visits: &[Visit]) -> Result<Re
 fn visits_value(alloc: Global, origin: &[u8], visits: &[Visit]) -> Result<Value, AllocError>
     ensures { IfOk result (λ value. IsWrittenAs value (visits_json origin.now visits.now)) }
 {
-    let escaped = escape(alloc, origin)?;
+    let escaped = escaped_origin(alloc, origin)?;
     let mut values = Vec::new(alloc);
     for visit in visits.iter().rev() {
         values.push(visit_value(alloc, escaped.as_str(), visit)?)?;
@@ -97,13 +97,10 @@ fn id_value(alloc: Global, id: &[u8]) -> Result<Value, AllocError>
     Ok(Value::String(text))
 }
 
-// Bytes up to a space, `%`, `;`, DEL and those from 0x80 are escaped.
-const ESCAPED: AsciiSet = ascii_set!(CONTROLS.add(b' ').add(b'%').add(b';'));
-
-fn escape(alloc: Global, bytes: &[u8]) -> Result<String, AllocError>
-    ensures { IfOk result (λ text. quoted (string_bytes text) ≡ json_text bytes.now) }
+// The origin, escaped, as a text that is quoted as it stands.
+fn escaped_origin(alloc: Global, origin: &[u8]) -> Result<String, AllocError>
+    ensures { IfOk result (λ text. quoted (string_bytes text) ≡ json_text origin.now) }
 {
-    let mut text = String::new(alloc);
-    percent_encode(bytes, ESCAPED).append_to(&mut text)?;
+    let text = escape(alloc, origin)?;
     Ok(text)
 }

@@ -1,6 +1,6 @@
 // The words of visits in JSON.
 ghost use Rattle.std.specs.Prelude.{◌≡◌};
-ghost use Rattle.swh_model.specs.Answer.{visit_kind_word, status_word};
+ghost use Rattle.swh_base.specs.Visit.{visit_kind_word, status_word};
 
 use swh_base::{Status, VisitKind};
 

@@ -18,7 +18,7 @@ one_revision body r s hr hs =
     let c = others.1 in
     (λ i. record { directory = a i; parents = b i; rest = c i })
 
-no_feed : (kind : Kind) → Contains (word_of kind) 10 → ⊥
+pub no_feed : (kind : Kind) → Contains (word_of kind) 10 → ⊥
 no_feed Content = absent 10 (codes "blob") refl
 no_feed Directory = absent 10 (codes "tree") refl
 no_feed RevisionKind = absent 10 (codes "commit") refl

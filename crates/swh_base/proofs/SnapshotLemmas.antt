@@ -3,12 +3,12 @@ use Rattle.std.specs.Prelude.{if◌then◌else◌}
 use Rattle.std.proofs.Common.{◌≡◌, ℕ, zero, suc, ◌+◌, ◌<◌, ◌^◌, ◌==◌, List, [], ◌∷◌, ◌++◌, length, get_or, map, Contains, refl, sym, ap, ◌∙◌, subst, arith, decimal, append_assoc, codes}
 use Rattle.std.specs.List.{AllByRecursion}
 use Rattle.std.specs.Int.Digits.{digits_of}
-use Rattle.std.proofs.lemmas.List.{append-nil}
 use Rattle.std.proofs.lemmas.Int.Digits.{all_below_base_digits_of}
 use Rattle.std.proofs.lemmas.Fmt.{decimal_injective, decimal-digits_of, decimal_digit}
 use Rattle.swh_base.specs.declared.kind.Kind.{Kind}
 use Rattle.swh_base.specs.declared.kind.Kind.TheVariants.{Content, Directory, Revision, Release, Snapshot}
 use Rattle.swh_base.specs.Snapshot.{BranchTarget, ToObject, ToBranch, ToNothing, SnapshotBranch, target_kind_word, target_word, target_bytes, IsTarget, IsBranch, AreBranches, branch_text, snapshot_text, IsSnapshot}
+use Rattle.swh_base.proofs.Items.{items_on, one_items}
 use Rattle.swh_base.proofs.Splits.{first_split, sized_split, absent, not_nil}
 
 kind_word-no_space : (kind : Kind) → Contains (target_kind_word kind) 32 → ⊥
@@ -97,19 +97,7 @@ are-each_branch (b ∷ bs) h = (h.0, are-each_branch bs h.2)
 -- A text of branches that goes on from the text of others has these in front.
 pub branches_on : (bs cs : List SnapshotBranch) (rest : List ℕ) → AllByRecursion IsBranch bs → AllByRecursion IsBranch cs → snapshot_text bs ≡ snapshot_text cs ++ rest
     → (more : List SnapshotBranch) × (bs ≡ cs ++ more) × (rest ≡ snapshot_text more)
-branches_on bs [] rest hb hc e = (bs, refl, sym e)
-branches_on [] (c ∷ cs) rest hb hc e = absurd (branch-not_nil c (snapshot_text cs ++ rest) (sym (append_assoc (branch_text c) (snapshot_text cs) rest) ∙ sym e))
-branches_on (b ∷ bs) (c ∷ cs) rest hb hc e =
-    let one = one_branch b c (snapshot_text bs) (snapshot_text cs ++ rest) hb.0 hc.0 (e ∙ append_assoc (branch_text c) (snapshot_text cs) rest) in
-    let others = branches_on bs cs rest hb.1 hc.1 one.1 in
-    let first = one.0 in
-    let after = others.1 in
-    (others.0, cc, others.2)
+branches_on = items_on branch_text IsBranch one_branch branch-not_nil
 
 pub one_snapshot : (body : List ℕ) (bs cs : List SnapshotBranch) → IsSnapshot body bs → IsSnapshot body cs → bs ≡ cs
-one_snapshot body bs cs hb hc =
-    let on = branches_on bs cs [] (are-each_branch bs hb.good) (are-each_branch cs hc.good) (sym hb.text ∙ hc.text ∙ sym (append-nil (snapshot_text cs))) in
-    elim on.0 as (λ more. bs ≡ cs ++ more → [] ≡ snapshot_text more → bs ≡ cs) [
-      | [] ↦ λ e _. e ∙ append-nil cs
-      | m ∷ more ↦ λ _ e. absurd (branch-not_nil m (snapshot_text more) (sym e))
-    ] on.1 on.2
+one_snapshot body bs cs hb hc = one_items branch_text IsBranch one_branch branch-not_nil bs cs (are-each_branch bs hb.good) (are-each_branch cs hc.good) (sym hb.text ∙ hc.text)

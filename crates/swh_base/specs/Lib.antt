@@ -1,11 +1,14 @@
 pub mod Directory
+pub mod Escape
 pub mod Kind
 pub mod Limits
 pub mod Manifest
 pub mod Name
 pub mod Namer
+pub mod Reach
 pub mod Release
 pub mod Revision
 pub mod Snapshot
 pub mod Text
 pub mod Url
+pub mod Visit

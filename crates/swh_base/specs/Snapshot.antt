@@ -73,6 +73,10 @@ pub record IsSnapshot (body : List ℕ) (branches : List SnapshotBranch) : Type 
   pub text : body ≡ snapshot_text branches
   pub good : AreBranches branches
 
+-- the name of the snapshot with this id
+abbrev pub snapshot_name : List ℕ → Name
+snapshot_name id = record { kind = Snapshot; id = id }
+
 -- An alias is no kid, and nor is nothing.
 abbrev pub branch_kid : SnapshotBranch → Option Name
 branch_kid b = elim b.target [ ToObject n ↦ Some n | ToBranch name ↦ None | ToNothing ↦ None ]

@@ -1,4 +1,5 @@
-//! Bodies and the names that they name, as a graph.
+//! Bodies and the names that they name, as a graph. `specs/Reach.antt` says what is reached over one, and what is
+//! closed.
 
 ghost use Rattle.std.specs.Prelude.{◌≡◌, List, Option, None, IfSome, IfNone};
 ghost use Rattle.swh_base.specs.declared.name.Name.{Name};

@@ -1,33 +1,48 @@
-//! Names of artifacts by their bytes, and the public grammars of their bodies.
-//! Stands on `sha1`, `hex` and `itoa`.
+//! Names of artifacts by their bytes, the public grammars of their bodies, and the texts and limits that several crates
+//! read and count against.
+//! Stands on `sha1`, `hex`, `itoa`, `percent_encoding` and `swh_pieces`.
 //! Callers may rely on: an id is the namer's value of kind and body; a body names one list of kids.
 #![tactic(auto)]
 
 mod bytes;
 mod entry;
+mod escaping;
 mod graph;
 mod kind;
 mod laws;
+mod limits;
 mod many;
 mod memory;
 mod name;
 mod namer;
+mod number;
 mod request;
 mod shared;
+mod text;
 mod url;
 mod visit;
 
 pub use bytes::Bytes;
 pub use entry::Entry;
+pub use escaping::escape;
 pub use graph::Graph;
 pub use kind::Kind;
-pub use laws::{one_list_of_kids, one_listing};
+pub use laws::{
+    certificates_show_closed, growth_keeps_certificates, growth_keeps_closed, one_list_of_kids,
+    one_listing,
+};
+pub use limits::{
+    BODY_LIMIT, BYTES_LIMIT, FILE_LIMIT, LINE_LIMIT, OBJECTS_LIMIT, PATH_LIMIT, REF_LIMIT,
+    RUN_LIMIT, TAG_LIMIT, URL_LIMIT,
+};
 pub use many::Many;
 pub use memory::Memory;
-pub use name::Name;
+pub use name::{Name, is_lower_hex_digit};
 pub use namer::{ByteNamer, Namer, Sha1Namer};
+pub use number::number_of;
 pub use request::{Reply, Request};
 pub use shared::Shared;
+pub use text::{are_digits, is_digit, is_person, is_ref};
 pub use url::{Url, UrlFault, is_url};
 pub use visit::{Status, VisitKind, Which};
 

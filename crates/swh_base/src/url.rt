@@ -1,5 +1,6 @@
 //! URLs of origins.
 
+use crate::limits::URL_LIMIT;
 use crate::memory::Memory;
 use std::alloc::{AllocError, Global};
 use std::marker::Model;
@@ -49,7 +50,7 @@ ghost use Rattle.swh_base.specs.Url.{IsUrl, is_url_byte};
 pub fn is_url(text: &[u8]) -> bool
     ensures { IsTrue result ↔ IsUrl text.now }
 {
-    !text.is_empty() && text.len() <= 2048 && text.iter().all(|c| *c >= 32 && *c != 127)
+    !text.is_empty() && text.len() <= URL_LIMIT && text.iter().all(|c| *c >= 32 && *c != 127)
 }
 
 impl Url {

@@ -1,8 +1,8 @@
 -- A body that breaks somewhere is no directory.
-use Rattle.std.proofs.Common.{◌≡◌, ◌≢◌, ℕ, List, [], ◌∷◌, ◌++◌, length, Result, Ok, Err, refl, sym, ap, ◌∙◌, subst, decimal, append_assoc}
-use Rattle.std.proofs.lemmas.List.{append-nil}
+use Rattle.std.proofs.Common.{◌≡◌, ◌≢◌, ℕ, List, [], ◌∷◌, ◌++◌, length, Result, Ok, Err, refl, sym, ap, ◌∙◌, subst, decimal}
 use Rattle.std.specs.Prelude.{IfOk, IfErr}
-use Rattle.swh_base.specs.Directory.{Entry, AreEntries, entry_text, directory_text, IsDirectory}
+use Rattle.swh_base.specs.Directory.{Entry, IsEntry, AreEntries, MayFollow, entry_text, directory_text, IsDirectory}
+use Rattle.swh_base.proofs.Items.{same_front}
 use Rattle.swh_base.proofs.Splits.{not_nil}
 use Rattle.swh_base.proofs.DirectoryLemmas.{entry_then, are-each, are-next, one_entry, read_on, one_listing_lem}
 use Rattle.swh_dirfmt.specs.declared.fault.DirWhy.{DirWhy}
@@ -59,21 +59,8 @@ gives body (Ok found) ok err es d = one_listing_lem body found es ok d
 gives body (Err Memory) ok err es d = tt
 gives body (Err (Bad bad)) ok err es d = no_fault body es bad.at bad.why d err
 
--- Two fronts of one body that go as far as they can are one.
-same_front : (pre es fs : List Entry) (r q : List ℕ) → AreEntries (pre ++ es) → AreEntries (pre ++ fs) → directory_text es ++ r ≡ directory_text fs ++ q → (BeginsNext (pre ++ es) r → ⊥) → (BeginsNext (pre ++ fs) q → ⊥) → (es ≡ fs) × (r ≡ q)
-same_front pre [] [] r q a b e n m = (refl, e)
-same_front pre [] (f ∷ fs) r q a b e n m =
-    absurd (n (subst (λ (es : List Entry). BeginsNext es r) (sym (append-nil pre)) (record { entry = f; rest = directory_text fs ++ q; text = e ∙ append_assoc (entry_text f) (directory_text fs) q; next = are-next pre f fs b })))
-same_front pre (x ∷ es) [] r q a b e n m =
-    absurd (m (subst (λ (es : List Entry). BeginsNext es q) (sym (append-nil pre)) (record { entry = x; rest = directory_text es ++ r; text = sym e ∙ append_assoc (entry_text x) (directory_text es) r; next = are-next pre x es a })))
-same_front pre (x ∷ es) (f ∷ fs) r q a b e n m =
-    let one = one_entry x f (directory_text es ++ r) (directory_text fs ++ q) (are-next pre x es a).entry (are-next pre f fs b).entry (sym (append_assoc (entry_text x) (directory_text es) r) ∙ e ∙ append_assoc (entry_text f) (directory_text fs) q) in
-    let first = one.0 in
-    let left : pre ++ x ∷ es ≡ (pre ++ x ∷ []) ++ es = sym (append_assoc pre (x ∷ []) es) in
-    let right : pre ++ f ∷ fs ≡ (pre ++ x ∷ []) ++ fs = ap (λ (y : Entry). pre ++ y ∷ fs) (sym first) ∙ sym (append_assoc pre (x ∷ []) fs) in
-    let others = same_front (pre ++ x ∷ []) es fs r q (subst AreEntries left a) (subst AreEntries right b) one.1 (λ h. n (subst (λ (es : List Entry). BeginsNext es r) (sym left) h)) (λ h. m (subst (λ (es : List Entry). BeginsNext es q) (sym right) h)) in
-    let after = others.0 in
-    (cc, others.1)
+none_follows : (why : DirWhy) (before : List Entry) (bytes : List ℕ) → Breaks before bytes why → (e : Entry) (rest : List ℕ) → bytes ≡ entry_text e ++ rest → MayFollow before e → ⊥
+none_follows why before bytes h e rest text next = breaks-not_next why before bytes h (record { entry = e; rest = rest; text = text; next = next })
 
 -- bytes break in one way
 same_why : (a b : DirWhy) (before : List Entry) (bytes : List ℕ) → Breaks before bytes a → Breaks before bytes b → a ≡ b
@@ -106,6 +93,6 @@ same_why Order Order before bytes h k = refl
 -- a body has one first fault at most
 pub one_fault_lem : (body : List ℕ) (i j : ℕ) (a b : DirWhy) → IsFault body i a → IsFault body j b → (i ≡ j) × (a ≡ b)
 one_fault_lem body i j a b f g =
-    let same = same_front [] f.before g.before f.rest g.rest f.good g.good (sym f.text ∙ g.text) (breaks-not_next a f.before f.rest f.breaks) (breaks-not_next b g.before g.rest g.breaks) in
+    let same = same_front entry_text IsEntry one_entry AreEntries MayFollow are-next (λ _ _ may. may.entry) [] f.before g.before f.rest g.rest f.good g.good (sym f.text ∙ g.text) (none_follows a f.before f.rest f.breaks) (none_follows b g.before g.rest g.breaks) in
     let moved = subst (λ (es : List Entry). Breaks es g.rest b) (sym same.0) g.breaks in
     (f.here ∙ ap (λ (es : List Entry). length (directory_text es)) same.0 ∙ sym g.here, same_why a b f.before f.rest f.breaks (subst (λ (t : List ℕ). Breaks f.before t b) (sym same.1) moved))

@@ -1,16 +1,9 @@
 -- Lines cut a text in one way.
-use Rattle.std.proofs.Common.{◌≡◌, ℕ, suc, List, [], ◌∷◌, ◌++◌, Contains, Option, Some, None, MatchOption, IfSome, refl, sym, ap, ◌∙◌, subst, arith, append_assoc}
+use Rattle.std.proofs.Common.{◌≡◌, ℕ, List, [], ◌∷◌, ◌++◌, Contains, Option, Some, None, refl, sym, ap, ◌∙◌, subst, append_assoc}
 use Rattle.std.specs.Prelude.{IfNone}
 use Rattle.swh_base.proofs.Splits.{first_split, sized_split}
+use Rattle.swh_pieces.proofs.Middle.{in_middle}
 use Rattle.swh_model.specs.SmallStream.{line, AreFeeds}
-
-pub some_from : {X : Type 0} (o : Option X) (P : Type 0) (Q : X → Type 0) → MatchOption o P Q → IfSome o Q
-some_from None P Q h = tt
-some_from (Some x) P Q h = h
-
-pub none_from : {X : Type 0} (o : Option X) (P : Type 0) (Q : X → Type 0) → MatchOption o P Q → IfNone o P
-none_from None P Q h = h
-none_from (Some x) P Q h = tt
 
 pub none_then : {X : Type 0} (o : Option X) (P Q : Type 0) → IfNone o P → (P → Q) → IfNone o Q
 none_then None P Q h f = f h
@@ -18,10 +11,6 @@ none_then (Some x) P Q h f = tt
 
 pub same_tail : (a x y : List ℕ) → a ++ x ≡ a ++ y → x ≡ y
 same_tail a x y e = (sized_split a a x y refl e).1
-
-pub in_middle : (a x : List ℕ) (s : ℕ) → Contains (a ++ s ∷ x) s
-in_middle [] x s = (0, omega arith, refl)
-in_middle (c ∷ a) x s = let h = in_middle a x s in let l = h.1 in (suc h.0, omega (arith, l), h.2)
 
 -- the text and the rest of a line
 pub one_line : (word a b x y : List ℕ) → (Contains a 10 → ⊥) → (Contains b 10 → ⊥) → line word a x ≡ line word b y → (a ≡ b) × (x ≡ y)

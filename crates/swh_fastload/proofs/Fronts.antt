@@ -1,13 +1,14 @@
 -- What a text begins with, from the lines that were cut off its front.
-use Rattle.std.proofs.Common.{◌≡◌, ℕ, zero, suc, ◌+◌, ◌<◌, ◌≤◌, ◌⊎◌, inl, inr, Bool, true, false, List, [], ◌∷◌, ◌++◌, length, length-append, Contains, Option, Some, None, refl, sym, ap, ◌∙◌, subst, arith, codes}
+use Rattle.std.proofs.Common.{◌≡◌, ℕ, suc, ◌+◌, ◌<◌, ◌≤◌, Bool, true, false, List, [], ◌∷◌, ◌++◌, length, length-append, Contains, Option, Some, None, refl, sym, ap, ◌∙◌, subst, arith, codes}
 use Rattle.std.specs.Prelude.{IfNone, IsTrue, ◌↔◌}
 use Rattle.swh_base.proofs.Splits.{first_split}
-use Rattle.swh_base.specs.Limits.{line_limit}
-use Rattle.swh_base.specs.Text.{is_ref_byte, is_person_byte, named, IsRef, IsPerson}
-use Rattle.swh_model.specs.SmallStream.{Blob, Change, Commit, line, value_from, IsNumber, IsMark, IsCount, IsFileName, BeginsBlob, BeginsChange, BeginsCommit}
+use Rattle.swh_base.specs.Limits.{body_limit, line_limit}
+use Rattle.swh_base.specs.Text.{is_digit, IsRef, IsPerson, IsNumber, value_from}
+use Rattle.swh_model.specs.SmallStream.{Blob, Change, Commit, line, IsMark, IsCount, IsFileName, BeginsBlob, BeginsChange, BeginsCommit}
 use Rattle.swh_fastload.specs.View.{BeginsHead}
-use Rattle.swh_fastload.proofs.Cuts.{in_middle, one_line}
-use Rattle.swh_fastload.proofs.Numbers.{passes_not, digits-not}
+use Rattle.swh_pieces.proofs.Middle.{in_middle}
+use Rattle.swh_fastload.proofs.Cuts.{one_line}
+use Rattle.swh_base.proofs.Lacks.{lacks, nothing_in, not_in_middle, ref-no_feed, person-no_feed}
 
 pub none_at : {X : Type 0} (o : Option X) (P : Type 0) → o ≡ None → P → IfNone o P
 none_at None P e p = p
@@ -18,7 +19,7 @@ pub test_fails : (b : Bool) (P : Type 0) → b ≡ false → IsTrue b ↔ P → 
 test_fails b P e h p = let both : false ≡ true = sym e ∙ h.1 p in cc
 
 pub number-no_feed : (digits : List ℕ) (n : ℕ) → IsNumber digits n → Contains digits 10 → ⊥
-number-no_feed digits n h = digits-not digits 10 h.digits refl
+number-no_feed digits n h = lacks is_digit digits 10 refl h.digits
 
 pub mark-no_feed : (digits : List ℕ) (n : ℕ) → IsMark digits n → Contains digits 10 → ⊥
 mark-no_feed digits n h = number-no_feed digits n h.number
@@ -43,24 +44,15 @@ data_size bytes d r size h e count content rest k l =
     let both = one_line (codes "data ") d count r (content ++ rest) (number-no_feed d size h) (count-no_feed count content k) (sym e ∙ l) in
     (h.value ∙ ap (value_from 0) both.0 ∙ sym k.number.value, both.1)
 
-pub data_over : (bytes d r : List ℕ) (size : ℕ) → IsNumber d size → bytes ≡ line (codes "data ") d r → 67108864 < size → (count content rest : List ℕ) → IsCount count content → bytes ≡ line (codes "data ") count (content ++ rest) → ⊥
+pub data_over : (bytes d r : List ℕ) (size : ℕ) → IsNumber d size → bytes ≡ line (codes "data ") d r → body_limit < size → (count content rest : List ℕ) → IsCount count content → bytes ≡ line (codes "data ") count (content ++ rest) → ⊥
 data_over bytes d r size h e over count content rest k l = let both = data_size bytes d r size h e count content rest k l in let a = both.0 in let b = k.short in absurd (omega (arith, a, b, over))
 
 pub data_short : (bytes d r : List ℕ) (size : ℕ) → IsNumber d size → bytes ≡ line (codes "data ") d r → length r < size → (count content rest : List ℕ) → IsCount count content → bytes ≡ line (codes "data ") count (content ++ rest) → ⊥
 data_short bytes d r size h e short count content rest k l = let both = data_size bytes d r size h e count content rest k l in let a = both.0 in absurd (omega (arith, a, ap length both.1, length-append content rest, short))
 
 -- what is cut off a text after its size
-pub data_from : (bytes d r front back : List ℕ) (size : ℕ) → IsNumber d size → bytes ≡ line (codes "data ") d r → size ≤ 67108864 → length front ≡ size → r ≡ front ++ back → (count : List ℕ) × IsCount count front × (bytes ≡ line (codes "data ") count (front ++ back))
+pub data_from : (bytes d r front back : List ℕ) (size : ℕ) → IsNumber d size → bytes ≡ line (codes "data ") d r → size ≤ body_limit → length front ≡ size → r ≡ front ++ back → (count : List ℕ) × IsCount count front × (bytes ≡ line (codes "data ") count (front ++ back))
 data_from bytes d r front back size h e under size_is cut = (d, record { number = subst (IsNumber d) (sym size_is) h; short = omega (arith, under, size_is) }, e ∙ ap (line (codes "data ") d) cut)
-
-pub nothing_in : (c : ℕ) → Contains [] c → ⊥
-nothing_in c h = let l = h.1 in absurd (omega (arith, l))
-
-pub not_in_middle : (a b : List ℕ) (s c : ℕ) → (Contains a c → ⊥) → (s ≡ c → ⊥) → (Contains b c → ⊥) → Contains (a ++ s ∷ b) c → ⊥
-not_in_middle [] b s c na ns nb (zero, l, e) = ns e
-not_in_middle [] b s c na ns nb (suc k, l, e) = nb (k, omega arith, e)
-not_in_middle (x ∷ a) b s c na ns nb (zero, l, e) = na (0, omega arith, e)
-not_in_middle (x ∷ a) b s c na ns nb (suc k, l, e) = not_in_middle a b s c (λ h. let m = h.1 in na (suc h.0, omega (arith, m), h.2)) ns nb (k, omega arith, e)
 
 pub behind : (a b : List ℕ) (s c : ℕ) → Contains b c → Contains (a ++ s ∷ b) c
 behind [] b s c h = let l = h.1 in (suc h.0, omega (arith, l), h.2)
@@ -79,7 +71,7 @@ change_line bytes text r none e change rest h = one_line (codes "M 100644 :") te
 
 -- its mark and its name
 pub change_parts : (bytes text r digits name : List ℕ) → (Contains text 10 → ⊥) → bytes ≡ line (codes "M 100644 :") text r → (Contains digits 32 → ⊥) → text ≡ digits ++ 32 ∷ name → (change : Change) (rest : List ℕ) → (h : BeginsChange bytes change rest) → (digits ≡ h.mark) × (name ≡ change.name)
-change_parts bytes text r digits name none e nd cut change rest h = first_split 32 digits h.mark name change.name nd (digits-not h.mark 32 h.is_mark.number.digits refl) (sym cut ∙ (change_line bytes text r none e change rest h).0)
+change_parts bytes text r digits name none e nd cut change rest h = first_split 32 digits h.mark name change.name nd (lacks is_digit h.mark 32 refl h.is_mark.number.digits) (sym cut ∙ (change_line bytes text r none e change rest h).0)
 
 pub no_change : (bytes : List ℕ) → ((text rest : List ℕ) → (Contains text 10 → ⊥) → bytes ≡ line (codes "M 100644 :") text rest → ⊥) → (change : Change) (rest : List ℕ) → BeginsChange bytes change rest → ⊥
 no_change bytes none change rest h = none (h.mark ++ 32 ∷ change.name) rest (change-no_feed bytes change rest h) h.spelled
@@ -122,23 +114,6 @@ blob_from bytes text r q content rest m e t mark f = record {
   is_mark = mark.1;
   is_count = f.1;
 }
-
-cons_not : (s c : ℕ) (b : List ℕ) → (s ≡ c → ⊥) → (Contains b c → ⊥) → Contains (s ∷ b) c → ⊥
-cons_not s c b ns nb h = not_in_middle [] b s c (nothing_in c) ns nb h
-
-sign-no_feed : (sign : ℕ) → (sign ≡ 43) ⊎ (sign ≡ 45) → sign ≡ 10 → ⊥
-sign-no_feed sign (inl a) e = absurd (omega arith)
-sign-no_feed sign (inr a) e = absurd (omega arith)
-
-pub ref-no_feed : (text : List ℕ) → IsRef text → Contains text 10 → ⊥
-ref-no_feed text h = passes_not is_ref_byte text 10 h.bytes (λ t. cc)
-
-pub person-no_feed : (text : List ℕ) → IsPerson text → Contains text 10 → ⊥
-person-no_feed text h c =
-    let zone = cons_not h.sign 10 h.zone (sign-no_feed h.sign h.is_sign) (digits-not h.zone 10 h.zone_digits refl) in
-    let time = not_in_middle h.seconds (h.sign ∷ h.zone) 32 10 (digits-not h.seconds 10 h.seconds_digits refl) (λ e. absurd (omega arith)) zone in
-    let email = not_in_middle h.email (32 ∷ (h.seconds ++ 32 ∷ h.sign ∷ h.zone)) 62 10 (passes_not is_person_byte h.email 10 h.email_bytes (λ t. cc)) (λ e. absurd (omega arith)) (cons_not 32 10 (h.seconds ++ 32 ∷ h.sign ∷ h.zone) (λ e. absurd (omega arith)) time) in
-    not_in_middle (named h.name) (h.email ++ 62 ∷ 32 ∷ (h.seconds ++ 32 ∷ h.sign ∷ h.zone)) 60 10 (passes_not is_person_byte (named h.name) 10 h.name_bytes (λ t. cc)) (λ e. absurd (omega arith)) email (subst (λ (t : List ℕ). Contains t 10) h.spelled c)
 
 -- the lines of a commit's head
 pub from_data : (bytes : List ℕ) (commit : Commit) (rest : List ℕ) → BeginsCommit bytes commit rest → List ℕ

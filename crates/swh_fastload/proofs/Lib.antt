@@ -5,9 +5,7 @@ pub mod Folders
 pub mod Fronts
 pub mod Leads
 pub mod Loads
-pub mod Numbers
 pub mod Onces
-pub mod Persons
 pub mod Readings
 pub mod Snapshots
 pub mod Trees

@@ -3,11 +3,12 @@ use Rattle.std.proofs.Common.{◌≡◌, ◌≢◌, ℕ, inl, inr, Bool, true, f
 use Rattle.std.proofs.lemmas.List.{append-nil}
 use Rattle.std.proofs.lemmas.Bool.{eq-eqb, eqb-true}
 use Rattle.swh_base.proofs.Splits.{first_split, sized_split}
-use Rattle.swh_model.specs.SmallStream.{Blob, Change, Commit, line, value_from, IsMark, IsCount, AreFeeds, IsFeed, BeginsBlob, BeginsChange, AreChanges, BeginsCommit, IsCommit, Reads}
+use Rattle.swh_model.specs.SmallStream.{Blob, Change, Commit, line, IsMark, IsCount, AreFeeds, IsFeed, BeginsBlob, BeginsChange, AreChanges, BeginsCommit, IsCommit, Reads}
+use Rattle.swh_base.specs.Text.{is_digit, value_from}
 use Rattle.swh_fastload.specs.Feed.{TakesFeed}
 use Rattle.swh_fastload.proofs.Cuts.{one_line, feeds-append}
-use Rattle.swh_fastload.proofs.Numbers.{digits-not}
-use Rattle.swh_fastload.proofs.Fronts.{mark-no_feed, count-no_feed, nothing_in, change-no_feed, change_line, ref-no_feed, person-no_feed}
+use Rattle.swh_base.proofs.Lacks.{lacks, nothing_in, ref-no_feed, person-no_feed}
+use Rattle.swh_fastload.proofs.Fronts.{mark-no_feed, count-no_feed, change-no_feed, change_line}
 
 first_byte : List ℕ → ℕ
 first_byte [] = 0
@@ -52,7 +53,7 @@ one_mark a b m n h k e = h.number.value ∙ ap (value_from 0) e ∙ sym k.number
 pub one_change : (text : List ℕ) (c d : Change) (r q : List ℕ) → BeginsChange text c r → BeginsChange text d q → (c ≡ d) × (r ≡ q)
 one_change text c d r q h k =
     let lines = change_line text (h.mark ++ 32 ∷ c.name) r (change-no_feed text c r h) h.spelled d q k in
-    let parts = first_split 32 h.mark k.mark c.name d.name (digits-not h.mark 32 h.is_mark.number.digits refl) (digits-not k.mark 32 k.is_mark.number.digits refl) lines.0 in
+    let parts = first_split 32 h.mark k.mark c.name d.name (lacks is_digit h.mark 32 refl h.is_mark.number.digits) (lacks is_digit k.mark 32 refl k.is_mark.number.digits) lines.0 in
     (same_change c d (one_mark h.mark k.mark c.mark d.mark h.is_mark k.is_mark parts.0) parts.1, lines.1)
 
 -- data and what follows it

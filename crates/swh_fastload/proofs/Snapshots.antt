@@ -20,7 +20,7 @@ use Rattle.swh_model.specs.Meaning.{Made, Marks, branch_to, head_branch, put_bra
 use Rattle.swh_fastload.specs.declared.snapshot.Tip.{Tip}
 use Rattle.swh_fastload.specs.Making.{branches_of, IsGoodTip, AddsTip}
 use Rattle.swh_fastload.specs.Whole.{IsTipAmong}
-use Rattle.swh_fastload.proofs.Numbers.{passes_not}
+use Rattle.swh_base.proofs.Lacks.{passes_not}
 
 ref-not_nil : (text : List ℕ) → IsRef text → text ≢ []
 ref-not_nil text h e = let l = h.some in absurd (omega (arith, l, ap length e))

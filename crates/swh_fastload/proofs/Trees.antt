@@ -15,7 +15,7 @@ use Rattle.swh_fastload.specs.declared.stream.Change.{Change as HeldChange}
 use Rattle.swh_fastload.specs.View.{change_view}
 use Rattle.std.proofs.lemmas.Slice.Eq.{starts_is}
 use Rattle.std.proofs.lemmas.Bool.Decides.{Decides-eqb, nat_tests}
-use Rattle.swh_fastload.proofs.Cuts.{in_middle}
+use Rattle.swh_pieces.proofs.Middle.{in_middle}
 use Rattle.swh_model.specs.PathMap.{Leaf, PathMap, is_under, is_in_the_way, cleared, set}
 use Rattle.swh_model.specs.SmallStream.{Change, IsFileName}
 use Rattle.swh_model.specs.Meaning.{marked, tree_after}

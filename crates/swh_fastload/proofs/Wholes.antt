@@ -16,10 +16,9 @@ use Rattle.swh_base.specs.declared.name.Name.{Name}
 use Rattle.swh_base.specs.declared.entry.Entry.{Entry}
 use Rattle.swh_base.specs.Name.{IsId}
 use Rattle.swh_base.specs.Revision.{revision_name}
-use Rattle.swh_base.specs.Snapshot.{AreBranches, snapshot_text, branch_kid}
+use Rattle.swh_base.specs.Snapshot.{AreBranches, snapshot_text, branch_kid, snapshot_name}
 use Rattle.swh_base.specs.Manifest.{AreKids}
 use Rattle.swh_base.proofs.Kids.{one_list}
-use Rattle.swh_model.specs.Step.{snapshot_name}
 use Rattle.swh_object.specs.Object.{IsObject}
 use Rattle.swh_model.specs.PathMap.{Leaf, PathMap, is_in_the_way, cleared, set}
 use Rattle.swh_model.specs.SmallStream.{Change, Commit}

@@ -1,7 +1,6 @@
 pub mod Feed
 pub mod Loaded
 pub mod Making
-pub mod Person
 pub mod Refusal
 pub mod Tree
 pub mod View

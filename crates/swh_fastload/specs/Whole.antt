@@ -6,7 +6,7 @@ use Rattle.swh_base.specs.declared.kind.Kind.TheVariants.{Content}
 use Rattle.swh_base.specs.declared.name.Name.{Name}
 use Rattle.swh_base.specs.declared.entry.Entry.{Entry}
 use Rattle.swh_base.specs.Revision.{revision_name}
-use Rattle.swh_model.specs.Step.{snapshot_name}
+use Rattle.swh_base.specs.Snapshot.{snapshot_name}
 use Rattle.swh_object.specs.Object.{IsObject}
 use Rattle.swh_fastload.specs.declared.load.Objects.{Objects}
 use Rattle.swh_fastload.specs.declared.snapshot.Tip.{Tip}

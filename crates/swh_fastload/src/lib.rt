@@ -1,5 +1,5 @@
 //! Streams: the values of the small grammar, and the objects that a stream makes.
-//! Stands on `swh_base`, `swh_snpfmt`, `swh_object` and the definitions of `swh_model`.
+//! Stands on `swh_base`, `swh_pieces`, `swh_snpfmt`, `swh_object` and the definitions of `swh_model`.
 //! Callers may rely on: what is parsed is the grammar's one value, and what is loaded is the stream's meaning.
 #![tactic(auto)]
 

@@ -3,29 +3,14 @@ ghost use Rattle.std.specs.Prelude.{◌≡◌, ◌≢◌, ◌++◌, ◌∷◌, �
 ghost use Rattle.std.specs.List.{AllByRecursion};
 ghost use Rattle.swh_model.specs.SmallStream.{line, AreFeeds};
 
-/// What stands before the first of a byte, and what after it.
-pub fn split_at_byte(bytes: &[u8], stop: u8) -> Option<(&[u8], &[u8])>
-    ensures some { IfSome result (λ x. (Contains x.0.now stop → ⊥) × (bytes.now ≡ x.0.now ++ stop ∷ x.1.now)) }
-    ensures none { IfNone result (Contains bytes.now stop → ⊥) }
-{
-    let end = bytes.iter().position(|byte| *byte == stop)?;
-    Some((&bytes[..end], &bytes[end + 1..]))
-}
-
-/// What follows a word.
-pub fn after_word<'a>(bytes: &'a [u8], word: &[u8]) -> Option<&'a [u8]>
-    ensures some { IfSome result (λ rest. bytes.now ≡ word.now ++ rest.now) }
-    ensures none { IfNone result ((rest : List ℕ) → bytes.now ≢ word.now ++ rest) }
-{
-    bytes.strip_prefix(word)
-}
+use swh_pieces::{behind, split_at_byte};
 
 /// The text behind the word of a line, and what follows the line.
 pub fn take_line<'a>(bytes: &'a [u8], word: &[u8]) -> Option<(&'a [u8], &'a [u8])>
     ensures some { IfSome result (λ x. (Contains x.0.now 10 → ⊥) × (bytes.now ≡ line word.now x.0.now x.1.now)) }
     ensures none { IfNone result ((text rest : List ℕ) → (Contains text 10 → ⊥) → bytes.now ≢ line word.now text rest) }
 {
-    let after = after_word(bytes, word)?;
+    let after = behind(word, bytes)?;
     split_at_byte(after, b'\n')
 }
 

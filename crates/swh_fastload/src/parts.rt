@@ -1,13 +1,15 @@
 //! What a text begins with: numbers on a line, data, blobs, changes, and a commit in front of its changes.
 ghost use Rattle.std.specs.Prelude.{◌≡◌, ◌≢◌, ◌++◌, ◌∷◌, ◌+◌, ◌≤◌, ◌↔◌, ℕ, List, length, IfSome, IfNone, IsTrue, codes};
 ghost use Rattle.swh_base.specs.Limits.{line_limit};
-ghost use Rattle.swh_base.specs.Text.{IsPerson};
-ghost use Rattle.swh_model.specs.SmallStream.{Blob as BlobValue, Change as ChangeValue, line, IsNumber, IsMark, IsCount, BeginsBlob, BeginsChange};
+ghost use Rattle.swh_base.specs.Text.{IsPerson, IsNumber};
+ghost use Rattle.swh_model.specs.SmallStream.{Blob as BlobValue, Change as ChangeValue, line, IsMark, IsCount, BeginsBlob, BeginsChange};
 ghost use Rattle.swh_fastload.specs.View.{blob_view, change_view, IsHead, BeginsHead};
 
-use crate::lines::{split_at_byte, take_line};
+use crate::lines::take_line;
 use crate::stream::{Blob, Change};
-use crate::words::{is_file_name, is_person, is_ref, number_of};
+use crate::words::is_file_name;
+use swh_base::{BODY_LIMIT, LINE_LIMIT, is_person, is_ref, number_of};
+use swh_pieces::split_at_byte;
 
 /// The number of bytes of the data that a line opens.
 fn take_size(bytes: &[u8]) -> Option<(u64, &[u8])>
@@ -47,7 +49,7 @@ fn take_data(bytes: &[u8]) -> Option<(&[u8], &[u8])>
     ensures none { IfNone result ((count content rest : List ℕ) → IsCount count content → bytes.now ≢ line (codes "data ") count (content ++ rest)) }
 {
     let (size, rest) = take_size(bytes)?;
-    if size > 67_108_864 {
+    if size > BODY_LIMIT {
         return None;
     }
     if size > rest.len() as u64 {
@@ -88,7 +90,7 @@ pub fn take_change(bytes: &[u8]) -> Option<(Change<'_>, &[u8])>
 fn is_committer(person: &[u8]) -> bool
     ensures { IsTrue result ↔ (IsPerson person.now × (length (codes "committer ") + length person.now + 1 ≤ line_limit)) }
 {
-    person.len() <= 1_048_565 && is_person(person)
+    person.len() <= LINE_LIMIT - 11 && is_person(person)
 }
 
 /// A commit without its changes.

@@ -1,8 +1,7 @@
 use super::*;
-use crate::words::is_ref;
 use std::alloc::Global;
 use std::test::Fail;
-use swh_base::{Kind, Name, Sha1Namer};
+use swh_base::{Kind, Name, Sha1Namer, is_ref};
 
 /// A blob and a commit of it.
 const FIRST: &[u8] =

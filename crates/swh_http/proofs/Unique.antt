@@ -11,7 +11,8 @@ use Rattle.swh_http.specs.declared.ask.Ask.{Ask}
 use Rattle.swh_http.specs.declared.ask.Ask.TheVariants.{Request as Asked, Refused}
 use Rattle.swh_http.specs.declared.place.Place.{Place}
 use Rattle.swh_http.specs.declared.place.Place.TheVariants.{Blank, BlankEnd, Method, Space, Target, Version, Minor, LineEnd as AtLineEnd, Feed, Line, LastFeed, Name, Value, Whole, Over, Broken}
-use Rattle.swh_http.specs.Field.{Pair, IsLength, AreLength, IsTaken, IsRefusedAs, IsMalformed, HasMany, IsEncoded, IsLong, content_lengths, keeps}
+use Rattle.swh_base.specs.Text.{IsNumber}
+use Rattle.swh_http.specs.Field.{Pair, AreLength, IsTaken, IsRefusedAs, IsMalformed, HasMany, IsEncoded, IsLong, content_lengths, keeps}
 use Rattle.swh_http.specs.Place.{advance_all, place_of, GoesOn}
 use Rattle.swh_http.specs.Wire.{head_limit, fields_of, BeginsHead, BeginsRequest, BeginsRefusal, BeginsSo, IsBroken, IsUnfinished, IsWaiting, AreAsks}
 use Rattle.swh_http.proofs.Ends.{may-become, target-goes-on, whole-head}
@@ -125,13 +126,13 @@ open-broken-fronts bytes front more other rest so stops text full goes =
 
 -- ---- one length, one refusal
 
-one-length : (text : List ℕ) (n m : ℕ) → IsLength text n → IsLength text m → n ≡ m
+one-length : (text : List ℕ) (n m : ℕ) → IsNumber text n → IsNumber text m → n ≡ m
 one-length text n m a b = a.value ∙ sym b.value
 
 lengths-unique : (texts : List (List ℕ)) (n m : ℕ) → AreLength texts n → AreLength texts m → n ≡ m
 lengths-unique [] n m a b = a.none refl ∙ sym (b.none refl)
 lengths-unique (t ∷ ts) n m a b =
-    one-length t n m (All-head (λ text. IsLength text n) t ts a.each) (All-head (λ text. IsLength text m) t ts b.each)
+    one-length t n m (All-head (λ text. IsNumber text n) t ts a.each) (All-head (λ text. IsNumber text m) t ts b.each)
 
 taken-not-refused : (fs : List Pair) (n status : ℕ) → IsTaken fs n → IsRefusedAs fs status → ⊥
 taken-not-refused fs n status taken (inl (is, malformed)) = malformed n taken.lengths

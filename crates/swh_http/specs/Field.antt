@@ -1,12 +1,11 @@
 -- The fields of a request's head that decide what follows it (RFC 9112, sections 6 and 9.3; RFC 9110, sections 5.6.1
 -- and 8.6). A field is its name and its value without the white space around it.
-use Rattle.std.specs.Prelude.{◌≡◌, ◌⊎◌, ℕ, ◌<◌, ◌≤◌, ◌==◌, ◌&&◌, not, Bool, true, false, List, [], ◌∷◌, ◌++◌, length, take, drop, All, codes, if◌then◌else◌}
+use Rattle.std.specs.Prelude.{◌≡◌, ◌⊎◌, ℕ, ◌<◌, ◌≤◌, ◌==◌, ◌&&◌, not, Bool, false, List, [], ◌∷◌, ◌++◌, length, take, drop, All, codes, if◌then◌else◌}
 use Rattle.std.specs.List.{list_all, list_any}
-use Rattle.std.specs.Char.{is_ascii_digit}
 use Rattle.std.specs.Str.{str_eq_ignore_ascii_case}
-use Rattle.std.specs.Str.Parse.{digits_value}
 use Rattle.httparse.specs.Grammar.{is_ows, skip_ows}
 use Rattle.swh_base.specs.Limits.{body_limit}
+use Rattle.swh_base.specs.Text.{IsNumber}
 
 -- a name and a value
 abbrev pub Pair : Type 0
@@ -22,16 +21,9 @@ values name [] = []
 values name (f ∷ fs) =
     if str_eq_ignore_ascii_case f.0 name then f.1 ∷ values name fs else values name fs
 
--- The text is 1 to 18 digits that write this number.
-pub record IsLength (text : List ℕ) (n : ℕ) : Type 0 where
-  pub some : 1 ≤ length text
-  pub few : length text ≤ 18
-  pub digits : list_all is_ascii_digit text ≡ true
-  pub value : n ≡ digits_value 10 text
-
 -- Each of the values is this length. Where there is none, the length is 0.
 pub record AreLength (texts : List (List ℕ)) (n : ℕ) : Type 0 where
-  pub each : All (λ text. IsLength text n) texts
+  pub each : All (λ text. IsNumber text n) texts
   pub none : length texts ≡ 0 → n ≡ 0
 
 abbrev pub content_lengths : List Pair → List (List ℕ)

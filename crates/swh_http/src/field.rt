@@ -1,17 +1,16 @@
 //! The fields of a head.
-ghost use Rattle.std.specs.Prelude.{◌≡◌, ◌↔◌, IsTrue, ℕ, ◌≤◌, true, ◌++◌, ◌∷◌, [], OnOk, IfOk, IfSome, IfNone, All, List, map, length};
+ghost use Rattle.std.specs.Prelude.{◌≡◌, ◌↔◌, IsTrue, ℕ, true, ◌++◌, ◌∷◌, [], OnOk, IfOk, IfSome, IfNone, All, List, map, length};
 ghost use Rattle.httparse.specs.Grammar.{is_ows, skip_ows};
 ghost use Rattle.httparse.specs.Spans.{IsHeaderWithin, header_bytes};
 ghost use Rattle.std.specs.Str.{str_eq_ignore_ascii_case};
-ghost use Rattle.std.specs.Char.{is_ascii_digit};
-ghost use Rattle.std.specs.Str.Parse.{digits_value};
 ghost use Rattle.std.specs.List.{list_any, list_all};
 ghost use Rattle.std.specs.Borrow.{Bor};
-ghost use Rattle.swh_http.specs.Field.{values, IsLength, AreLength, is_close, has_close, IsTaken, IsRefusedAs};
+ghost use Rattle.swh_base.specs.Text.{IsNumber};
+ghost use Rattle.swh_http.specs.Field.{values, AreLength, is_close, has_close, IsTaken, IsRefusedAs};
 
 use httparse::spans::HeaderSpan;
 use std::alloc::Global;
-use swh_base::Memory;
+use swh_base::{Memory, number_of};
 use swh_pieces::split_at_byte;
 
 fn is_same_word(word: &[u8], other: &[u8]) -> bool
@@ -53,49 +52,17 @@ pub fn values_of<'a>(
     Ok(found)
 }
 
-fn is_digits(text: &[u8]) -> bool
-    ensures { result ≡ list_all is_ascii_digit text.now }
-{
-    text.iter().all(|byte| byte.is_ascii_digit())
-}
-
-fn number(digits: &[u8]) -> u64
-    requires few { length digits.now ≤ 18 }
-    requires all { list_all is_ascii_digit digits.now ≡ true }
-    ensures { result ≡ digits_value 10 digits.now }
-{
-    let mut number = 0;
-    for digit in digits {
-        number = number * 10 + u64::from(*digit - b'0');
-    }
-    number
-}
-
-// The length that a value says.
-fn said_length(value: &[u8]) -> Option<u64>
-    ensures some { IfSome result (λ n. IsLength value.now n) }
-    ensures none { IfNone result ((n : ℕ) → IsLength value.now n → ⊥) }
-{
-    if value.is_empty() || value.len() > 18 {
-        return None;
-    }
-    if !is_digits(value) {
-        return None;
-    }
-    Some(number(value))
-}
-
 fn says(value: &[u8], length: u64) -> bool
-    ensures { IsTrue result ↔ IsLength value.now length }
+    ensures { IsTrue result ↔ IsNumber value.now length }
 {
-    match said_length(value) {
+    match number_of(value) {
         Some(said) => said == length,
         None => false,
     }
 }
 
 fn all_say(values: &[&[u8]], length: u64) -> bool
-    ensures { IsTrue result ↔ All (λ (v : Bor (List ℕ)). IsLength v.now length) values.now }
+    ensures { IsTrue result ↔ All (λ (v : Bor (List ℕ)). IsNumber v.now length) values.now }
 {
     values.iter().all(|value| says(value, length))
 }
@@ -108,7 +75,7 @@ pub fn common_length(values: &[&[u8]]) -> Option<u64>
     let Some(first) = values.first() else {
         return Some(0);
     };
-    let length = said_length(first)?;
+    let length = number_of(first)?;
     if all_say(values, length) {
         Some(length)
     } else {

@@ -8,13 +8,10 @@ use crate::field::{asks_close, common_length, values_of};
 use httparse::Status;
 use httparse::spans::{EMPTY_HEADER_SPAN, HeaderSpan, RequestSpans, parse_request};
 use std::alloc::Global;
-use swh_base::{Bytes, Memory};
+use swh_base::{BODY_LIMIT, Bytes, Memory};
 
 /// The most fields of a head.
 const FIELD_LIMIT: usize = 64;
-
-/// The most bytes of a body.
-const BODY_LIMIT: u64 = 67_108_864;
 
 /// A request without its body.
 #[derive(Debug, Drop)]

@@ -1,10 +1,10 @@
 -- A line is cut in one way, and spells one job at most.
-use Rattle.std.proofs.Common.{◌≡◌, ℕ, Option, Some, None, Bool, true, List, [], ◌∷◌, ◌++◌, Contains, refl, sym, ap, ◌∙◌, subst, append_assoc, codes}
+use Rattle.std.proofs.Common.{◌≡◌, ℕ, Option, Some, None, List, [], ◌∷◌, ◌++◌, Contains, refl, sym, ap, ◌∙◌, subst, append_assoc, codes}
 use Rattle.std.proofs.lemmas.List.{append-nil}
 use Rattle.std.proofs.lemmas.List.Elements.{Contains-append_left, Contains-append_right}
-use Rattle.std.specs.List.{AllPass}
 use Rattle.std.specs.Prelude.{IfSome, IsUtf8}
 use Rattle.swh_base.specs.Url.{IsUrl, is_url_byte}
+use Rattle.swh_base.proofs.Lacks.{passes_not}
 use Rattle.swh_base.proofs.Splits.{first_split}
 use Rattle.swh_pieces.proofs.Middle.{in_middle}
 use Rattle.swh_jobs.specs.Job.{Job, IsJobPath, IsHead, IsLineOf, head_text, line_text}
@@ -13,10 +13,6 @@ use Rattle.swh_jobs.specs.Reading.{HasFields}
 -- a byte in front of the rest is in the text
 here : (t a x : List ℕ) (s : ℕ) → t ≡ a ++ s ∷ x → Contains t s
 here t a x s e = subst (λ (l : List ℕ). Contains l s) (sym e) (in_middle a x s)
-
--- a byte that fails a test stands nowhere in a text that passes it
-pub passes_not : (test : ℕ → Bool) (xs : List ℕ) (c : ℕ) → AllPass test xs → (test c ≡ true → ⊥) → Contains xs c → ⊥
-passes_not test xs c all fails h = fails (subst (λ (d : ℕ). test d ≡ true) h.2 (all h.0 c h.1))
 
 -- what stands after the kind
 pub behind_kind : (line rest : List ℕ) → line ≡ codes "fast" ++ 9 ∷ rest → (job : Job) → line ≡ line_text job → rest ≡ job.url ++ 9 ∷ (job.path ++ head_text job.head)

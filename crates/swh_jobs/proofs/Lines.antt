@@ -1,25 +1,19 @@
 -- Lines of jobs, one after another.
-use Rattle.std.proofs.Common.{◌≡◌, ◌≢◌, inl, inr, ⊎_elim, ℕ, zero, suc, Option, Some, None, List, [], ◌∷◌, ◌++◌, Contains, refl, sym, ap, ◌∙◌, subst, arith, append_assoc, codes}
+use Rattle.std.proofs.Common.{◌≡◌, ◌≢◌, inl, inr, ⊎_elim, ℕ, Option, Some, None, List, [], ◌∷◌, ◌++◌, Contains, refl, sym, ap, ◌∙◌, subst, arith, append_assoc, codes}
 use Rattle.std.proofs.lemmas.List.{append-nil}
 use Rattle.std.specs.List.{AllByRecursion}
 use Rattle.std.specs.Prelude.{IfSome}
-use Rattle.swh_base.specs.Text.{is_ref_byte}
 use Rattle.swh_base.proofs.Splits.{first_split, absent, not_nil}
 use Rattle.swh_pieces.proofs.Middle.{in_middle}
 use Rattle.swh_jobs.specs.Job.{Job, IsJob, IsHead, head_text, line_text}
 use Rattle.swh_jobs.specs.JobFile.{BeginsJob, EndsLine, lines_text}
 use Rattle.swh_jobs.specs.Reading.{IsFirstLine, IsLeft}
-use Rattle.swh_jobs.proofs.Cuts.{passes_not, url-no_feed, one_job}
-
-not_in_middle : (a b : List ℕ) (s c : ℕ) → (Contains a c → ⊥) → s ≢ c → (Contains b c → ⊥) → Contains (a ++ s ∷ b) c → ⊥
-not_in_middle [] b s c na ns nb (zero, l, e) = ns e
-not_in_middle [] b s c na ns nb (suc k, l, e) = nb (k, omega arith, e)
-not_in_middle (x ∷ a) b s c na ns nb (zero, l, e) = na (0, omega arith, e)
-not_in_middle (x ∷ a) b s c na ns nb (suc k, l, e) = not_in_middle a b s c (λ h. let m = h.1 in na (suc h.0, omega (arith, m), h.2)) ns nb (k, omega arith, e)
+use Rattle.swh_base.proofs.Lacks.{not_in_middle, ref-no_feed}
+use Rattle.swh_jobs.proofs.Cuts.{url-no_feed, one_job}
 
 path-no_feed : (path : List ℕ) (head : Option (List ℕ)) → (Contains path 10 → ⊥) → IfSome head IsHead → Contains (path ++ head_text head) 10 → ⊥
 path-no_feed path None none h c = none (subst (λ (l : List ℕ). Contains l 10) (append-nil path) c)
-path-no_feed path (Some head) none h c = not_in_middle path head 9 10 none (λ e. absurd (omega arith)) (passes_not is_ref_byte head 10 h.is_ref.bytes (λ t. cc)) c
+path-no_feed path (Some head) none h c = not_in_middle path head 9 10 none (λ e. absurd (omega arith)) (ref-no_feed head h.is_ref) c
 
 -- the line of a job has no LF
 pub line-no_feed : (job : Job) → IsJob job → Contains (line_text job) 10 → ⊥

@@ -2,6 +2,7 @@
 use Rattle.std.specs.Prelude.{◌≡◌, ◌≢◌, ℕ, ◌≤◌, Option, Some, None, List, [], ◌∷◌, ◌++◌, length, Contains, IfSome, IsUtf8, codes}
 use Rattle.swh_base.specs.Url.{IsUrl}
 use Rattle.swh_base.specs.Text.{IsRef}
+use Rattle.swh_jobs.specs.declared.limits.TheConstants.{STREAM_PATH_LIMIT}
 
 -- an origin, the path of the stream that is loaded for it, and the head where one is named
 pub record Job : Type 0 where
@@ -12,7 +13,7 @@ pub record Job : Type 0 where
 -- 1 to 4,096 bytes of text without TAB and LF
 pub record IsJobPath (path : List ℕ) : Type 0 where
   pub some : 1 ≤ length path
-  pub short : length path ≤ 4096
+  pub short : length path ≤ STREAM_PATH_LIMIT
   pub no_tab : Contains path 9 → ⊥
   pub no_feed : Contains path 10 → ⊥
   pub utf8 : IsUtf8 path

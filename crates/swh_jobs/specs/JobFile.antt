@@ -2,12 +2,13 @@
 use Rattle.std.specs.Prelude.{◌≡◌, ◌≢◌, ◌⊎◌, ℕ, ◌+◌, ◌<◌, ◌≤◌, List, [], ◌∷◌, ◌++◌, length, map, Contains}
 use Rattle.std.specs.List.{AllByRecursion}
 use Rattle.swh_jobs.specs.Job.{Job, IsJob, line_text}
+use Rattle.swh_jobs.specs.declared.limits.TheConstants.{JOBS_LIMIT}
 use Rattle.swh_jobs.specs.declared.fault.JobWhy.{JobWhy}
 use Rattle.swh_jobs.specs.declared.fault.JobWhy.TheVariants.{Form, Origin, Limit}
 
--- no job file has more lines
+-- no job file has more lines: 256
 abbrev pub most_jobs : ℕ
-most_jobs = 256
+most_jobs = JOBS_LIMIT
 
 -- the URLs of the jobs, in their order
 abbrev pub origins : List Job → List (List ℕ)

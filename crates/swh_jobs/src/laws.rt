@@ -4,7 +4,7 @@ ghost use Rattle.swh_jobs.specs.Job.{Job};
 ghost use Rattle.swh_jobs.specs.JobFile.{IsJobFile, IsFault};
 ghost use Rattle.swh_jobs.specs.declared.fault.JobWhy.{JobWhy};
 
-use crate::reading::LONGEST;
+use crate::limits::LONGEST;
 
 /// Bytes spell one list of jobs at most.
 pub fn one_reading()

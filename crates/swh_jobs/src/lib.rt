@@ -6,13 +6,15 @@
 mod fault;
 mod job;
 mod laws;
+mod limits;
 mod line;
 mod reading;
 
 pub use fault::{JobWhy, JobsFault};
 pub use job::JobLine;
 pub use laws::{fault_of_front, longest, no_jobs, one_fault, one_reading};
-pub use reading::{LONGEST, parse_jobs};
+pub use limits::{JOBS_LIMIT, LONGEST, STREAM_PATH_LIMIT};
+pub use reading::parse_jobs;
 
 #[cfg(test)]
 mod tests;

@@ -1,14 +1,14 @@
 //! The job of one line.
 ghost use Rattle.std.specs.Prelude.{◌≡◌, ◌++◌, ◌↔◌, Contains, IsTrue, IfSome, IfNone, IsUtf8};
 ghost use Rattle.std.specs.Option.{option_copied};
-ghost use Rattle.swh_base.specs.Text.{IsRef, is_ref_byte};
 ghost use Rattle.swh_base.specs.Url.{IsUrl};
 ghost use Rattle.swh_jobs.specs.Job.{Job, IsJobPath, IsHead, IsLineOf, head_text};
 ghost use Rattle.swh_jobs.specs.Reading.{HasFields};
 ghost use Rattle.swh_jobs.specs.Spelled.{fields_of, spelled};
 
 use crate::job::SpelledJob;
-use swh_base::is_url;
+use crate::limits::STREAM_PATH_LIMIT;
+use swh_base::{is_ref, is_url};
 use swh_pieces::{behind, split_at_byte};
 
 /// What stands between the TABs of a line, which is not looked at yet.
@@ -61,30 +61,10 @@ fn path_text(path: &[u8]) -> Option<&str>
     ensures some { IfSome result (λ text. IsJobPath path.now × (text.now ≡ path.now)) }
     ensures none { IfNone result (IsJobPath path.now → ⊥) }
 {
-    if path.is_empty() || path.len() > 4096 {
+    if path.is_empty() || path.len() > STREAM_PATH_LIMIT {
         return None;
     }
     str::from_utf8(path).ok()
-}
-
-fn is_ref_byte(byte: u8) -> bool
-    ensures { result ≡ is_ref_byte byte }
-{
-    byte >= 33
-        && !(byte == 127)
-        && !(byte == b'^')
-        && !(byte == b':')
-        && !(byte == b'~')
-        && !(byte == b'?')
-        && !(byte == b'*')
-        && !(byte == b'[')
-        && !(byte == b'\\')
-}
-
-fn is_ref(text: &[u8]) -> bool
-    ensures { IsTrue result ↔ IsRef text.now }
-{
-    !text.is_empty() && text.len() <= 1024 && text.iter().all(|byte| is_ref_byte(*byte))
 }
 
 fn is_head(head: &[u8]) -> bool

@@ -8,16 +8,11 @@ ghost use Rattle.swh_jobs.specs.Spelled.{spelled, all_spelled};
 
 use crate::fault::{JobWhy, JobsFault};
 use crate::job::{JobLine, SpelledJob, all_owned};
+use crate::limits::JOBS_LIMIT;
 use crate::line::spelled_line;
 use std::alloc::Global;
 use std::collections::BTreeSet;
 use swh_pieces::split_at_byte;
-
-// A job file has no more lines.
-const MOST: usize = 256;
-
-/// No job file has more bytes: the kind, the URL, the path and the head of each line, with a byte after each of them.
-pub const LONGEST: usize = MOST * (4 + 1 + 2_048 + 1 + 4_096 + 1 + 1_024 + 1);
 
 // The line that bytes begin with, without its LF, and what stands after it.
 fn first_line(bytes: &[u8]) -> (&[u8], &[u8])
@@ -43,7 +38,7 @@ fn next_job<'a>(
     ensures err { IfErr result (ExplainsNext (all_spelled before.now) rest.now) }
 {
     let line = before.len() as u64 + 1;
-    if before.len() >= MOST {
+    if before.len() >= JOBS_LIMIT {
         return Err(JobsFault::Bad {
             line,
             why: JobWhy::Limit,

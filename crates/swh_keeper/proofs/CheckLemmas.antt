@@ -18,7 +18,8 @@ use Rattle.swh_model.specs.declared.event.No.{No}
 use Rattle.swh_model.specs.declared.event.No.TheVariants.{Limit, NoVisit, NotYours, Ended, NoSnapshot, NotClosed, Collision}
 use Rattle.swh_model.specs.Archive.{Archive, Bodies, Origins, body_of, visits_of, IsHeld}
 use Rattle.swh_model.specs.Limits.{bytes_before_last, IsWithinLimits}
-use Rattle.swh_model.specs.Step.{IsGood, IsGoodAndNamed, AreNew, FitsStatus, MayMark, May, May_kind, added, snapshot_name}
+use Rattle.swh_model.specs.Step.{IsGood, IsGoodAndNamed, AreNew, FitsStatus, MayMark, May, May_kind, added}
+use Rattle.swh_base.specs.Snapshot.{snapshot_name}
 use Rattle.swh_model.specs.Judge.{IsHow}
 use Rattle.swh_model.specs.Stands.{bare, bare_kind, bare_event}
 use Rattle.swh_model.proofs.Entries.{held_not_none, none_unless_held, new-push, new-at, added-append, all-append}

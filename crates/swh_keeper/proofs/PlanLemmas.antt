@@ -11,7 +11,7 @@ use Rattle.swh_model.specs.declared.event.Outcome.TheVariants.{Added, Marked}
 use Rattle.swh_model.specs.declared.event.No.{No}
 use Rattle.swh_model.specs.declared.event.No.TheVariants.{Collision}
 use Rattle.swh_model.specs.Archive.{Bodies, Origins, visits_of}
-use Rattle.swh_model.specs.Limits.{objects_limit}
+use Rattle.swh_base.specs.Limits.{objects_limit}
 use Rattle.swh_model.specs.Step.{replay}
 use Rattle.swh_model.specs.Judge.{fresh, event_of, BatchPasses, FilePasses, Collides, IsVerdict}
 use Rattle.swh_model.proofs.Verdicts.{length-fresh, le_unless}

@@ -15,7 +15,7 @@ use Rattle.swh_segment.specs.declared.fault.MakeFault.{MakeFault}
 use Rattle.swh_segment.specs.declared.fault.MakeFault.TheVariants as make
 use Rattle.swh_base.specs.declared.kind.Kind.{Kind}
 use Rattle.swh_base.specs.declared.entry.Entry.{Entry}
-use Rattle.swh_base.specs.Limits.{body_limit}
+use Rattle.swh_base.specs.Limits.{body_limit, run_limit}
 use Rattle.swh_model.specs.declared.event.Event.{Event}
 use Rattle.swh_model.specs.declared.event.EventKind.{EventKind}
 use Rattle.swh_model.specs.declared.event.EventKind.TheVariants.{Batch, Open, Mark}
@@ -27,7 +27,7 @@ use Rattle.swh_model.specs.declared.decoding.ledger.Next.{Next}
 use Rattle.swh_model.specs.Archive.{Archive, empty_archive}
 use Rattle.swh_model.specs.Coding.{magic, coded_entry, coded_run, run_of, coded_record, coded_records, coded_runs, IsCodableEntry, IsCodableKind, AreCodable}
 use Rattle.swh_model.specs.Decoding.{IsRunOf, IsWhole, IsFit, IsGateOpen, IsBroken, IsNext, Tells}
-use Rattle.swh_model.specs.Limits.{run_limit, bytes_before_last, IsWithinLimits, store_length, ledger_length}
+use Rattle.swh_model.specs.Limits.{bytes_before_last, IsWithinLimits, store_length, ledger_length}
 use Rattle.swh_model.specs.Stands.{StandsFrom, StandsFor, bare, bare_kind}
 use Rattle.swh_model.specs.Step.{May_kind, May, MayAll, IsHistory, after, after_all, replay}
 use Rattle.swh_model.proofs.Reading.{record_of_told, record_only}

@@ -14,7 +14,9 @@ use Rattle.swh_model.specs.declared.event.EventKind.TheVariants.{Batch, Open, Ma
 use Rattle.swh_model.specs.declared.event.No.{No}
 use Rattle.swh_model.specs.declared.event.No.TheVariants.{Limit, NoVisit, NotYours, Ended, NoSnapshot, NotClosed, Collision}
 use Rattle.swh_model.specs.Archive.{body_of, visits_of, IsHeld}
-use Rattle.swh_model.specs.Step.{IsFinal, last_status, snapshot_name, replay}
+use Rattle.swh_model.specs.Step.{replay}
+use Rattle.swh_base.specs.Snapshot.{snapshot_name}
+use Rattle.swh_base.specs.Visit.{IsFinal, last_status}
 use Rattle.swh_model.specs.Judge.{event_of, BatchPasses, FilePasses, BatchCause, OpenCause, MarkCause, Collides, which_rank, rank, IsVerdict}
 use Rattle.swh_model.proofs.Worked.{none_below}
 use Rattle.swh_model.proofs.Walks.{reaches-next}

@@ -16,7 +16,8 @@ use Rattle.swh_model.proofs.Entries.{all-append}
 use Rattle.swh_model.proofs.Walks.{reaches-next}
 use Rattle.swh_model.proofs.Certificates.{certified-closed}
 use Rattle.swh_keeper.specs.Maps.{IsEntryOf}
-use Rattle.swh_model.specs.Certificate.{IsCovered, AreClosed}
+use Rattle.swh_model.specs.Certificate.{AreClosed}
+use Rattle.swh_base.specs.Reach.{IsCovered}
 use Rattle.swh_keeper.specs.Walk.{IsSeen, MayGain, IsHeldKid, GainsKids, GainsHeld, GainsReached}
 use Rattle.swh_keeper.proofs.MapLemmas.{keys_cmp, at, same_key, key_itself}
 

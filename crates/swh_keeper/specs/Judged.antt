@@ -11,7 +11,9 @@ use Rattle.swh_model.specs.declared.event.No.{No}
 use Rattle.swh_model.specs.declared.event.No.TheVariants.{NoVisit, NotYours, Ended, NoSnapshot, NotClosed}
 use Rattle.swh_model.specs.Archive.{Bodies, body_of, IsHeld, IsClosed}
 use Rattle.swh_model.specs.Limits.{stored_length, store_length, payload_length, ledger_length}
-use Rattle.swh_model.specs.Step.{IsFinal, last_status, snapshot_name, visit_at}
+use Rattle.swh_model.specs.Step.{visit_at}
+use Rattle.swh_base.specs.Snapshot.{snapshot_name}
+use Rattle.swh_base.specs.Visit.{IsFinal, last_status}
 use Rattle.swh_model.specs.Judge.{which_rank}
 use Rattle.swh_keeper.specs.Walk.{IsGap}
 

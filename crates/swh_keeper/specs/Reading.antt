@@ -11,7 +11,8 @@ use Rattle.swh_model.specs.declared.decoding.told.Told.{Told}
 use Rattle.swh_model.specs.Certificate.{AreClosed}
 use Rattle.swh_model.specs.Coding.{magic, coded_run, run_of, coded_records, coded_runs, IsCodableEntry, IsCodableKind, AreCodable}
 use Rattle.swh_model.specs.Decoding.{IsGateClosed, Tells}
-use Rattle.swh_model.specs.Limits.{objects_limit, run_limit, IsWithinLimits}
+use Rattle.swh_model.specs.Limits.{IsWithinLimits}
+use Rattle.swh_base.specs.Limits.{objects_limit, run_limit}
 use Rattle.swh_model.specs.Stands.{StandsFor}
 use Rattle.swh_model.specs.Step.{May_kind, IsHistory, after_kind}
 use Rattle.swh_keeper.specs.declared.checking.Checked.{Checked}

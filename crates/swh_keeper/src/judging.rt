@@ -13,7 +13,9 @@ ghost use Rattle.swh_keeper.specs.Judged.{IsFirstOf, NonePasses, AreLengths, IsV
 use crate::bodies::HeldBodies;
 use crate::closure::find_gap_beyond;
 use crate::listing::Listing;
-use swh_base::{Entry, Kind, Memory, Name, Status, Which};
+use swh_base::{
+    BODY_LIMIT, BYTES_LIMIT, Entry, FILE_LIMIT, Kind, Memory, Name, OBJECTS_LIMIT, Status, Which,
+};
 use swh_model::{No, Visit, is_final, last_of};
 
 /// The length of the first body above the limit.
@@ -21,9 +23,9 @@ fn long_body(entries: &[Entry]) -> Option<u64>
     ensures { result ≡ first_long entries.now }
 {
     for entry in entries {
-        let size = entry.body.as_slice().len();
-        if size > 67108864 {
-            return Some(size as u64);
+        let size = entry.body.as_slice().len() as u64;
+        if size > BODY_LIMIT {
+            return Some(size);
         }
     }
     None
@@ -32,7 +34,7 @@ fn long_body(entries: &[Entry]) -> Option<u64>
 /// The bytes of all bodies but the last.
 fn before_last(entries: &[Entry]) -> u64
     requires small { AllByRecursion (λ e. length e.body ≤ body_limit) entries.now }
-    requires few { length entries.now ≤ 4096 }
+    requires few { length entries.now ≤ OBJECTS_LIMIT }
     ensures { result ≡ bytes_before_last entries.now }
 {
     let mut before: u64 = 0;
@@ -53,11 +55,11 @@ pub fn limit_of_batch(entries: &[Entry]) -> Option<(Which, u64)>
         return Some((Which::Body, size));
     }
     let count = entries.len() as u64;
-    if count > 4096 {
+    if entries.len() > OBJECTS_LIMIT {
         return Some((Which::Objects, count));
     }
     let bytes = before_last(entries);
-    if bytes > 8388608 {
+    if bytes > BYTES_LIMIT {
         return Some((Which::Bytes, bytes));
     }
     None
@@ -78,11 +80,11 @@ pub fn limit_of_files(
     ensures ledger_fits { IfNone result (end + 1 + record_length ≤ 2 ^ 62) }
 {
     let store = store_end + run;
-    if store > 1 << 62 {
+    if store > FILE_LIMIT {
         return Some((Which::Store, store));
     }
     let ledger = end + 1 + record_length;
-    if ledger > 1 << 62 {
+    if ledger > FILE_LIMIT {
         return Some((Which::Ledger, ledger));
     }
     None

@@ -24,7 +24,7 @@ use crate::opening::OpenWhy;
 use crate::replayed::Replayed;
 use crate::visits::OriginVisits;
 use std::alloc::Global;
-use swh_base::{Entry, Many, Memory, Namer};
+use swh_base::{Entry, FILE_LIMIT, Many, Memory, Namer, OBJECTS_LIMIT, RUN_LIMIT};
 use swh_model::{
     BatchParts, Event, EventKind, Next, Record, Told, next_record, read_run, split_magic,
 };
@@ -38,12 +38,6 @@ pub struct KindRead {
     pub end: u64,
 }
 
-// The longest run of a batch within its limits: 4,096 objects with 29 bytes each in front of their bodies, of which all
-// but the last have 8,388,608 bytes, and the last has 67,108,864.
-const LONGEST_RUN: u64 = 75_616_256;
-
-const MOST_OBJECTS: u32 = 4_096;
-
 // Says whether the run of a record may be that of a batch within its limits.
 fn may_be_run(parts: &BatchParts, at: u64, size: u64) -> bool
     ensures { IsTrue result ↔ MayBeRun parts.now at size }
@@ -51,7 +45,7 @@ fn may_be_run(parts: &BatchParts, at: u64, size: u64) -> bool
     if parts.from != at || parts.to < at {
         return false;
     }
-    parts.to <= size && parts.to - at <= LONGEST_RUN && parts.number <= MOST_OBJECTS
+    parts.to <= size && parts.to - at <= RUN_LIMIT && parts.number as usize <= OBJECTS_LIMIT
 }
 
 // The objects of a batch whose run begins at this place of the store, without their kids. Room is taken only for a run
@@ -220,9 +214,6 @@ fn read_next<N: Namer, D: Disk>(
     Ok(true)
 }
 
-// A keeper keeps both files below this length.
-const MOST_BYTES: u64 = 1 << 62;
-
 // An archive of no event, whose ledger has its magic and a gate.
 fn nothing_read(alloc: Global) -> Checked
     ensures history { result.history.items ≡ [] }
@@ -304,7 +295,7 @@ fn read_store<N: Namer, D: Disk>(
         return Err(OpenWhy::NotMade);
     }
     let size = store.len()?;
-    if size > MOST_BYTES || ledger.len() as u64 > MOST_BYTES {
+    if size > FILE_LIMIT || ledger.len() as u64 > FILE_LIMIT {
         return Err(OpenWhy::Memory);
     }
     read_records(alloc, namer, store, size, ledger)

@@ -8,7 +8,8 @@ use Rattle.swh_base.specs.Manifest.{AreKids}
 use Rattle.swh_base.proofs.Kids.{one_list}
 use Rattle.swh_model.specs.Archive.{Bodies, body_of, IsHeld, IsKid, IsClosed}
 use Rattle.swh_model.specs.Certificate.{Certifies}
-use Rattle.swh_model.specs.Step.{snapshot_name, IsGoodAndNamed}
+use Rattle.swh_model.specs.Step.{IsGoodAndNamed}
+use Rattle.swh_base.specs.Snapshot.{snapshot_name}
 use Rattle.swh_model.proofs.Certificates.{certified-closed}
 use Rattle.swh_object.specs.Object.{IsObject}
 use Rattle.swh_fastload.specs.declared.load.Objects.{Objects}

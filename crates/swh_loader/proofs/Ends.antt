@@ -7,7 +7,7 @@ use Rattle.swh_base.specs.declared.entry.Entry.{Entry}
 use Rattle.swh_base.specs.declared.visit.Status.TheVariants.{Ongoing, Full as FullStatus, Failed as FailedStatus}
 use Rattle.swh_model.specs.declared.event.Event.{Event}
 use Rattle.swh_model.specs.Archive.{Bodies}
-use Rattle.swh_model.specs.Step.{Statuses}
+use Rattle.swh_base.specs.Visit.{Statuses}
 use Rattle.swh_model.specs.Meaning.{IsLeftOut}
 use Rattle.swh_keeper.specs.Kept.{Kept}
 use Rattle.swh_fastload.specs.Refusal.{Refuses}

@@ -9,9 +9,9 @@ use Rattle.swh_base.specs.declared.name.Name.{Name}
 use Rattle.swh_base.specs.declared.entry.Entry.{Entry}
 use Rattle.swh_base.specs.declared.visit.Which.{Which}
 use Rattle.swh_base.specs.declared.visit.Which.TheVariants.{Body, Objects, Bytes}
-use Rattle.swh_base.specs.Limits.{body_limit}
+use Rattle.swh_base.specs.Limits.{body_limit, objects_limit, bytes_limit}
 use Rattle.swh_model.specs.Archive.{Bodies, body_of}
-use Rattle.swh_model.specs.Limits.{objects_limit, bytes_limit, bytes_before_last, IsWithinLimits}
+use Rattle.swh_model.specs.Limits.{bytes_before_last, IsWithinLimits}
 use Rattle.swh_model.specs.Step.{AreNew, added}
 use Rattle.swh_model.specs.Judge.{first_long, BatchPasses, HasBody, Collides}
 use Rattle.swh_model.proofs.Maps.{body-put, within-added}

@@ -6,7 +6,7 @@ use Rattle.swh_base.specs.declared.visit.Status.{Status}
 use Rattle.swh_model.specs.declared.event.Event.{Event}
 use Rattle.swh_model.specs.declared.event.EventKind.{EventKind}
 use Rattle.swh_model.specs.declared.event.EventKind.TheVariants.{Batch, Open, Mark}
-use Rattle.swh_model.specs.Step.{IsFinal, Statuses, last_status}
+use Rattle.swh_base.specs.Visit.{IsFinal, Statuses, last_status}
 use Rattle.swh_loader.specs.Adding.{marking, IsEvent, AreAmong, IsBatchOf, IsBatchAmong, IsNoBatch, IsOwnKind, IsOwn}
 use Rattle.swh_loader.specs.Visiting.{IsOpen, IsMarked}
 

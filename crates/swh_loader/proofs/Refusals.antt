@@ -16,7 +16,9 @@ use Rattle.swh_model.specs.declared.event.EventKind.TheVariants.{Batch, Mark}
 use Rattle.swh_model.specs.declared.event.No.TheVariants.{Limit, NotYours, Ended, NoSnapshot, NotClosed}
 use Rattle.swh_model.specs.Archive.{Bodies, body_of, visits_of, IsHeld, IsClosed}
 use Rattle.swh_model.specs.Limits.{IsWithinLimits}
-use Rattle.swh_model.specs.Step.{IsFinal, AreNew, FitsStatus, May, MayMark, snapshot_name, last_status, visit_at, replay}
+use Rattle.swh_model.specs.Step.{AreNew, FitsStatus, May, MayMark, visit_at, replay}
+use Rattle.swh_base.specs.Snapshot.{snapshot_name}
+use Rattle.swh_base.specs.Visit.{IsFinal, last_status}
 use Rattle.swh_model.specs.Judge.{FilePasses, MarkCause, IsCause}
 use Rattle.swh_model.proofs.Walks.{reaches-next}
 use Rattle.swh_keeper.specs.Kept.{Kept, Refuses}

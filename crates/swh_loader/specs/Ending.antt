@@ -7,7 +7,8 @@ use Rattle.swh_base.specs.declared.entry.Entry.{Entry}
 use Rattle.swh_base.specs.declared.visit.Status.TheVariants.{Ongoing, Full as FullStatus, NotFound as NotFoundStatus, Failed as FailedStatus}
 use Rattle.swh_outside.specs.Faults.{Rose}
 use Rattle.swh_model.specs.Archive.{Bodies}
-use Rattle.swh_model.specs.Step.{Statuses, IsGoodAndNamed}
+use Rattle.swh_model.specs.Step.{IsGoodAndNamed}
+use Rattle.swh_base.specs.Visit.{Statuses}
 use Rattle.swh_model.specs.Meaning.{IsMeaning, IsLeftOut}
 use Rattle.swh_outside.specs.declared.fault.Opened.{Opened}
 use Rattle.swh_outside.specs.declared.fault.Opened.TheVariants.{Found, NotFound as Missing, Failed as Unopened, Memory as NoRoom}

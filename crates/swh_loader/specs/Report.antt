@@ -1,7 +1,7 @@
 -- The line that reports a job: its origin, its visit, and how the visit ended.
 use Rattle.std.specs.Prelude.{ℕ, Result, Ok, Err, List, ◌∷◌, ◌++◌, decimal, codes}
 use Rattle.swh_swhid.specs.Core.{core_text}
-use Rattle.swh_model.specs.Step.{snapshot_name}
+use Rattle.swh_base.specs.Snapshot.{snapshot_name}
 use Rattle.swh_model.specs.Answer.{line_of}
 use Rattle.swh_loader.specs.declared.end.StreamWhy.{StreamWhy}
 use Rattle.swh_loader.specs.declared.end.StreamWhy.TheVariants.{Grammar, End as EndOfInput, LeftOut, Mark, Branch, Place}

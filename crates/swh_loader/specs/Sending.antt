@@ -6,7 +6,8 @@ use Rattle.swh_base.specs.declared.kind.Kind.{Kind}
 use Rattle.swh_base.specs.declared.name.Name.{Name}
 use Rattle.swh_base.specs.declared.entry.Entry.{Entry}
 use Rattle.swh_model.specs.Archive.{Bodies, body_of}
-use Rattle.swh_model.specs.Limits.{objects_limit, bytes_limit, IsWithinLimits}
+use Rattle.swh_model.specs.Limits.{IsWithinLimits}
+use Rattle.swh_base.specs.Limits.{objects_limit, bytes_limit}
 use Rattle.swh_model.specs.Step.{AreNew, IsGoodAndNamed, added, replay}
 use Rattle.swh_model.specs.Grows.{IsWithin}
 use Rattle.swh_keeper.specs.Kept.{Kept}

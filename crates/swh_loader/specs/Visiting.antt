@@ -4,7 +4,8 @@ use Rattle.swh_base.specs.declared.visit.VisitKind.TheVariants.{Fast}
 use Rattle.swh_model.specs.declared.event.Event.{Event}
 use Rattle.swh_model.specs.declared.event.Visit.{Visit}
 use Rattle.swh_model.specs.Archive.{visits_of}
-use Rattle.swh_model.specs.Step.{IsFinal, Statuses, last_status, visit_at, replay}
+use Rattle.swh_model.specs.Step.{visit_at, replay}
+use Rattle.swh_base.specs.Visit.{IsFinal, Statuses, last_status}
 use Rattle.swh_model.specs.Grows.{IsWithin}
 use Rattle.swh_keeper.specs.Kept.{Kept}
 

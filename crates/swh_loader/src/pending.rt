@@ -1,13 +1,7 @@
 // The entries of a batch that was not sent yet.
 use std::alloc::Global;
-use swh_base::{Entry, Memory, Name};
+use swh_base::{BYTES_LIMIT, Entry, Memory, Name, OBJECTS_LIMIT};
 use swh_keeper::HeldBodies;
-
-/// The most entries in a batch.
-const ENTRIES_LIMIT: usize = 4096;
-
-/// The most bytes in a batch, without its last entry.
-const BYTES_LIMIT: u64 = 8_388_608;
 
 /// Entries that wait, the same by their names, and how many bytes they have.
 #[derive(Drop)]
@@ -40,7 +34,7 @@ impl Pending {
     pub fn has_room(&self, name: &Name) -> bool
         ensures { IsTrue result ↔ HasRoom self.now name.now }
     {
-        self.entries.len() < ENTRIES_LIMIT && self.bytes <= BYTES_LIMIT && !self.held.has(name)
+        self.entries.len() < OBJECTS_LIMIT && self.bytes <= BYTES_LIMIT && !self.held.has(name)
     }
 
     /// Lets an entry join.

@@ -17,8 +17,8 @@ pub record SoFar (es : List Entry) (i before_ last : ℕ) : Type 0 where
   pub small : AreSmall (take i es)
   pub bytes : before_ ≡ bytes_before_last (take i es)
   pub sum : before_ + last ≡ all_bytes (take i es)
-  pub bound : before_ + last ≤ i * 67108864
-  pub last_one : last ≤ 67108864
+  pub bound : before_ + last ≤ i * body_limit
+  pub last_one : last ≤ body_limit
 
 all_bytes-push : (es : List Entry) (e : Entry) → all_bytes (es ++ e ∷ []) ≡ all_bytes es + length e.body
 all_bytes-push [] e = omega arith
@@ -41,7 +41,7 @@ small-at (x ∷ es) (suc k) e less is h = small-at es k e (omega (arith, less)) 
 take-next : (es : List Entry) (i : ℕ) (e : Entry) → i < length es → e ≡ get_or es i e → take (i + 1) es ≡ take i es ++ e ∷ []
 take-next es i e less is = take_more es i e less ∙ ap (λ (x : Entry). take i es ++ x ∷ []) (sym is)
 
-pub so-far-next : (es : List Entry) (i before_ last size : ℕ) (e : Entry) → i < length es → e ≡ get_or es i e → size ≡ length e.body → size ≤ 67108864 → SoFar es i before_ last → SoFar es (i + 1) (before_ + last) size
+pub so-far-next : (es : List Entry) (i before_ last size : ℕ) (e : Entry) → i < length es → e ≡ get_or es i e → size ≡ length e.body → size ≤ body_limit → SoFar es i before_ last → SoFar es (i + 1) (before_ + last) size
 so-far-next es i before_ last size e less is size_is fits h =
     let more : take (i + 1) es ≡ take i es ++ e ∷ [] = take-next es i e less is in
     let s = h.sum in let b = h.bound in

@@ -7,7 +7,8 @@ use Rattle.swh_model.specs.declared.event.Event.{Event}
 use Rattle.swh_model.specs.declared.event.EventKind.{EventKind}
 use Rattle.swh_model.specs.declared.event.EventKind.TheVariants.{Batch, Open, Mark}
 use Rattle.swh_model.specs.Archive.{Archive, visits_of}
-use Rattle.swh_model.specs.Step.{IsFinal, Statuses, last_status, May_kind, MayAll, after, after_kind, after_all, visit_at}
+use Rattle.swh_model.specs.Step.{May_kind, MayAll, after, after_kind, after_all, visit_at}
+use Rattle.swh_base.specs.Visit.{IsFinal, Statuses, last_status}
 use Rattle.swh_model.specs.Grows.{IsWithin, ContinuesVisit, IsLaterVisit}
 use Rattle.swh_model.proofs.Maps.{within-added, visits_cases}
 use Rattle.swh_model.proofs.Visits.{later_same, get-push, get-marked}

@@ -17,9 +17,11 @@ use Rattle.swh_model.specs.declared.event.EventKind.TheVariants.{Batch, Open, Ma
 use Rattle.swh_model.specs.declared.event.No.{No}
 use Rattle.swh_model.specs.declared.event.No.TheVariants.{Limit, NoVisit, NotYours, Ended, NoSnapshot, NotClosed}
 use Rattle.swh_model.specs.Archive.{Bodies, body_of, IsHeld, visits_of, IsKid, IsWalk, Reaches}
-use Rattle.swh_base.specs.Limits.{body_limit}
-use Rattle.swh_model.specs.Limits.{objects_limit, bytes_limit, bytes_before_last}
-use Rattle.swh_model.specs.Step.{last_status, snapshot_name, replay, IsGoodAndNamed, AreNew, FitsStatus, May_kind, MayMark, MayAdd}
+use Rattle.swh_base.specs.Limits.{body_limit, objects_limit, bytes_limit}
+use Rattle.swh_model.specs.Limits.{bytes_before_last}
+use Rattle.swh_model.specs.Step.{replay, IsGoodAndNamed, AreNew, FitsStatus, May_kind, MayMark, MayAdd}
+use Rattle.swh_base.specs.Snapshot.{snapshot_name}
+use Rattle.swh_base.specs.Visit.{last_status}
 use Rattle.swh_model.specs.Judge.{fresh, event_of, first_long, IsThere, IsCause, IsWish, IsHow, MarkCause, BatchCause}
 use Rattle.swh_model.proofs.Walks.{reaches-next}
 

@@ -20,9 +20,10 @@ use Rattle.swh_model.specs.declared.event.No.{No}
 use Rattle.swh_model.specs.declared.event.No.TheVariants.{Limit, NoVisit, NotYours, Ended, NoSnapshot, NotClosed, Collision}
 use Rattle.swh_model.specs.Archive.{Archive, Bodies, body_of, visits_of, IsKid}
 use Rattle.swh_model.specs.Limits.{store_length, stored_length, ledger_length, payload_length}
-use Rattle.swh_model.specs.Step.{IsFinal, last_status, snapshot_name, visit_at, replay, with_status, marked_at}
+use Rattle.swh_model.specs.Step.{visit_at, replay, with_status, marked_at}
+use Rattle.swh_base.specs.Visit.{IsFinal, last_status}
 use Rattle.swh_model.specs.Judge.{FilePasses, IsThere, MarkCause, OpenCause, IsVerdict, rank}
-use Rattle.swh_base.specs.Snapshot.{target_bytes}
+use Rattle.swh_base.specs.Snapshot.{target_bytes, snapshot_name}
 use Rattle.swh_base.specs.declared.entry.Entry.{Entry}
 use Rattle.swh_model.specs.Coding.{coded_entry}
 use Rattle.swh_model.specs.Row.{url, opening, opened_once, failed_once, with_snapshot, snapshot_of_it, revision, branch_to_it, snapshot_body}

@@ -1,37 +1,12 @@
 -- What is answered to a request for an origin's visits, and the line that reports a job.
-use Rattle.std.specs.Prelude.{◌≡◌, ℕ, ◌==◌, Bool, ◌||◌, nat_le, if◌then◌else◌, Option, Some, None, List, [], ◌∷◌, ◌++◌, map, reverse, decimal, codes}
+use Rattle.std.specs.Prelude.{◌≡◌, ℕ, ◌==◌, ◌||◌, if◌then◌else◌, Option, Some, None, List, [], ◌∷◌, ◌++◌, map, reverse, decimal, codes}
 use Rattle.std.specs.List.{flat_map, join_with_byte, before_first}
 use Rattle.hex.specs.Hex.{encode_lower}
-use Rattle.percent_encoding.specs.Percent.{percent_decode, percent_encode_byte}
-use Rattle.swh_base.specs.declared.visit.VisitKind.{VisitKind}
-use Rattle.swh_base.specs.declared.visit.VisitKind.TheVariants.{Fast, Dir, Batch}
-use Rattle.swh_base.specs.declared.visit.Status.{Status}
-use Rattle.swh_base.specs.declared.visit.Status.TheVariants.{Created, Ongoing, Full, Partial, NotFound, Failed}
+use Rattle.percent_encoding.specs.Percent.{percent_decode}
+use Rattle.swh_base.specs.Escape.{escaped_byte}
+use Rattle.swh_base.specs.Visit.{visit_kind_word, status_word, last_mark}
 use Rattle.swh_model.specs.declared.event.Visit.{Visit}
 use Rattle.swh_model.specs.Archive.{Archive, visits_of}
-use Rattle.swh_model.specs.Step.{Statuses}
-
--- the word of a visit's kind
-abbrev pub visit_kind_word : VisitKind → List ℕ
-visit_kind_word Fast = codes "fast"
-visit_kind_word Dir = codes "dir"
-visit_kind_word Batch = codes "batch"
-
--- the word of a visit's status
-abbrev pub status_word : Status → List ℕ
-status_word Created = codes "created"
-status_word Ongoing = codes "ongoing"
-status_word Full = codes "full"
-status_word Partial = codes "partial"
-status_word NotFound = codes "not_found"
-status_word Failed = codes "failed"
-
--- Bytes up to a space, `%`, `;`, DEL and those from 0x80 are escaped.
-abbrev pub is_escaped : ℕ → Bool
-is_escaped c = nat_le c 32 || c == 37 || c == 59 || nat_le 127 c
-
-abbrev pub escaped_byte : ℕ → List ℕ
-escaped_byte c = if is_escaped c then percent_encode_byte c else c ∷ []
 
 -- a quote and a backslash stand behind a backslash in a JSON string
 abbrev pub json_byte : ℕ → List ℕ
@@ -45,12 +20,6 @@ json_text bytes = 34 ∷ (flat_map (λ c. flat_map json_byte (escaped_byte c)) b
 abbrev pub json_snapshot : Option (List ℕ) → List ℕ
 json_snapshot None = codes "null"
 json_snapshot (Some id) = 34 ∷ (encode_lower id ++ 34 ∷ [])
-
--- the last status with its snapshot, or created where there is none
-abbrev pub last_mark : Statuses → Status × Option (List ℕ)
-last_mark [] = (Created, None)
-last_mark (s ∷ []) = s
-last_mark (s ∷ t ∷ ss) = last_mark (t ∷ ss)
 
 -- members in the order of their keys' bytes
 abbrev pub visit_json : List ℕ → Visit → List ℕ

@@ -19,9 +19,11 @@ use Rattle.swh_model.specs.declared.event.Outcome.TheVariants.{Added, Opened, Ma
 use Rattle.swh_model.specs.declared.event.No.{No}
 use Rattle.swh_model.specs.declared.event.No.TheVariants.{Limit, NoVisit, NotYours, Ended, NoSnapshot, NotClosed, Collision}
 use Rattle.swh_model.specs.Archive.{Archive, Bodies, body_of, visits_of, IsKid, Reaches}
-use Rattle.swh_base.specs.Limits.{body_limit}
-use Rattle.swh_model.specs.Limits.{objects_limit, bytes_limit, file_limit, bytes_before_last, stored_length, store_length, payload_length, ledger_length}
-use Rattle.swh_model.specs.Step.{IsFinal, last_status, snapshot_name, visit_at, replay, IsGoodAndNamed}
+use Rattle.swh_base.specs.Limits.{body_limit, objects_limit, bytes_limit, file_limit}
+use Rattle.swh_model.specs.Limits.{bytes_before_last, stored_length, store_length, payload_length, ledger_length}
+use Rattle.swh_model.specs.Step.{visit_at, replay, IsGoodAndNamed}
+use Rattle.swh_base.specs.Snapshot.{snapshot_name}
+use Rattle.swh_base.specs.Visit.{IsFinal, last_status}
 
 -- the entries that are not held, each once, in order
 abbrev pub fresh : Bodies → List Entry → List Entry

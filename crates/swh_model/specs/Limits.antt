@@ -1,26 +1,11 @@
 -- What is counted, and the lengths that a history gives the two files.
-use Rattle.std.specs.Prelude.{ℕ, ◌+◌, ◌^◌, ◌≤◌, List, [], ◌∷◌, length}
+use Rattle.std.specs.Prelude.{ℕ, ◌+◌, ◌≤◌, List, [], ◌∷◌, length}
 use Rattle.std.specs.List.{AllByRecursion}
 use Rattle.swh_base.specs.declared.entry.Entry.{Entry}
-use Rattle.swh_base.specs.Limits.{body_limit}
+use Rattle.swh_base.specs.Limits.{body_limit, bytes_limit, objects_limit}
 use Rattle.swh_model.specs.declared.event.Event.{Event}
 use Rattle.swh_model.specs.declared.event.EventKind.{EventKind}
 use Rattle.swh_model.specs.Coding.{told, run_of}
-
--- the objects of a batch
-abbrev pub objects_limit : ℕ
-objects_limit = 4096
-
--- the bytes of a batch's bodies, but for the last
-abbrev pub bytes_limit : ℕ
-bytes_limit = 8388608
-
--- no batch within its limits has a longer run
-abbrev pub run_limit : ℕ
-run_limit = 75616256
-
-abbrev pub file_limit : ℕ
-file_limit = 2 ^ 62
 
 -- the bytes of all bodies but the last one's
 abbrev pub bytes_before_last : List Entry → ℕ

@@ -5,10 +5,10 @@
 --     change = "M 100644 :" num SP name LF
 --     data   = "data " num LF bytes [LF]
 -- A stream that passes a limit is outside it, and so are comments and a mark of 0.
-use Rattle.std.specs.Prelude.{◌≡◌, ◌≢◌, ◌⊎◌, ℕ, ◌+◌, ◌-◌, ◌*◌, ◌^◌, ◌≤◌, List, [], ◌∷◌, ◌++◌, length, Option, Some, None, Contains, codes}
-use Rattle.std.specs.List.{AllPass, AllByRecursion}
+use Rattle.std.specs.Prelude.{◌≡◌, ◌≢◌, ◌⊎◌, ℕ, ◌+◌, ◌^◌, ◌≤◌, List, [], ◌∷◌, ◌++◌, length, Option, Some, None, Contains, codes}
+use Rattle.std.specs.List.{AllByRecursion}
 use Rattle.swh_base.specs.Limits.{body_limit, line_limit, path_limit}
-use Rattle.swh_base.specs.Text.{is_digit, IsRef, IsPerson}
+use Rattle.swh_base.specs.Text.{IsNumber, IsRef, IsPerson}
 
 -- a blob: its mark and its bytes
 pub record Blob : Type 0 where
@@ -36,17 +36,6 @@ pub record SmallStream : Type 0 where
 -- a line of a word and a text, and what follows it
 abbrev pub line : List ℕ → List ℕ → List ℕ → List ℕ
 line word text rest = word ++ (text ++ 10 ∷ rest)
-
-abbrev pub value_from : ℕ → List ℕ → ℕ
-value_from high [] = high
-value_from high (c ∷ cs) = value_from (high * 10 + (c - 48)) cs
-
--- 1 to 18 digits
-pub record IsNumber (text : List ℕ) (n : ℕ) : Type 0 where
-  pub some : 1 ≤ length text
-  pub short : length text ≤ 18
-  pub digits : AllPass is_digit text
-  pub value : n ≡ value_from 0 text
 
 -- The text spells the mark, which is 1 or more.
 pub record IsMark (text : List ℕ) (mark : ℕ) : Type 0 where

@@ -4,10 +4,7 @@ use crate::fault::ObjectFault;
 use crate::kids::kids_of;
 use std::alloc::Global;
 use std::marker::{Model, PhantomData};
-use swh_base::{Entry, Kind, Name, Namer, Shared};
-
-/// The most bytes that a body may have.
-const BODY_LIMIT: u64 = 67_108_864;
+use swh_base::{BODY_LIMIT, Entry, Kind, Name, Namer, Shared};
 
 /// An object that the namer `N` named. Contracts see its entry.
 #[derive(Drop)]

@@ -13,7 +13,8 @@ use Rattle.swh_model.specs.Answer.{line_of}
 use Rattle.swh_model.specs.Archive.{Bodies, body_of}
 use Rattle.swh_model.specs.Judge.{FilePasses}
 use Rattle.swh_model.specs.Meaning.{Made, Making, IsMeaning}
-use Rattle.swh_model.specs.Step.{May, replay, snapshot_name}
+use Rattle.swh_model.specs.Step.{May, replay}
+use Rattle.swh_base.specs.Snapshot.{snapshot_name}
 use Rattle.swh_loader.specs.Leaving.{AddsVisit, next_visit}
 use Rattle.swh_program.specs.Jobs.{FileAt}
 use Rattle.swh_program.specs.Inputs.{loader}

@@ -9,7 +9,7 @@ use Rattle.swh_outside.specs.Faults.{Rose}
 use Rattle.swh_swhid.specs.Core.{core_text}
 use Rattle.swh_program.specs.Refusal.{refusal}
 use Rattle.swh_program.specs.Jobs.{FileAt}
-use Rattle.swh_words.specs.Words.{kind_letters}
+use Rattle.swh_base.specs.Kind.{kind_letters}
 use Rattle.swh_program.specs.declared.answer.Ending.{Ending}
 use Rattle.swh_program.specs.declared.answer.Ending.TheVariants as ending
 use Rattle.swh_program.specs.declared.answer.Answer.{Answer}

@@ -13,15 +13,11 @@ ghost use Rattle.swh_program.specs.declared.answer.Answer.TheVariants.{OutsideSo
 use crate::answer::{Answer, Ending};
 use itoa::Buffer;
 use std::alloc::Global;
-use swh_base::{Bytes, Kind, Memory, Name, Namer};
+use swh_base::{BODY_LIMIT, Bytes, Kind, Memory, Name, Namer};
 use swh_fastlex::{SourceFault, read_source_reserved};
 use swh_object::{Object, ObjectFault};
 use swh_outside::{Opened, Origins, Source};
 use swh_swhid::core_text;
-use swh_words::letters_of;
-
-/// The most bytes that a body may have.
-const BODY_LIMIT: usize = 67_108_864;
 
 // A name as it is printed.
 fn name_line(alloc: Global, name: &Name) -> Result<Bytes, Memory>
@@ -42,7 +38,7 @@ fn bad_line(alloc: Global, kind: Kind, at: u64) -> Result<Bytes, Memory>
     let mut digits = Buffer::new();
     let mut line = Vec::new(alloc);
     line.extend_from_slice(b"swharc: bad ")?;
-    line.extend_from_slice(letters_of(kind))?;
+    line.extend_from_slice(kind.letters())?;
     line.push(b' ')?;
     line.extend_from_slice(digits.format(at).as_bytes())?;
     line.push(b'\n')?;
@@ -118,7 +114,7 @@ fn read_body<S: Source>(alloc: Global, source: &mut S) -> Result<Vec<u8>, Source
     ensures later { S.faults source.old ≤ S.faults source.new }
     ensures cause { IsErrOf result Failed → Rose (S.faults source.old) (S.faults source.new) }
 {
-    read_source_reserved(alloc, source, BODY_LIMIT)
+    read_source_reserved(alloc, source, BODY_LIMIT as usize)
 }
 
 /// Names the bytes of the file at a path as a body of this kind. A file of more bytes than a body may have is read no

@@ -11,7 +11,7 @@ use Rattle.swh_base.specs.Name.{is_lower_hex_digit, IsIdText, IsId}
 use Rattle.swh_base.specs.Revision.{id_line}
 use Rattle.swh_base.proofs.HexLines.{line_then}
 use Rattle.swh_revfmt.specs.Reading.{NotLine, IsCommonFront, IsDigitsFront, IsLinePlace}
-use Rattle.swh_revfmt.proofs.Ids.{Lower-encode_lower, IsId-from_text, spelled_id}
+use Rattle.swh_base.proofs.Ids.{Lower-encode_lower, IsId-from_text, spelled_id}
 
 -- a byte of a front is that of the text that goes on from it
 pub front_at : (bytes more text : List ℕ) (m k : ℕ) → k < m → m ≤ length bytes → take m bytes ++ more ≡ text → get_or bytes k 0 ≡ get_or text k 0

@@ -10,7 +10,7 @@ use Rattle.swh_base.proofs.DirectoryLemmas.{all-push}
 use Rattle.swh_base.proofs.HexLines.{line_then}
 use Rattle.swh_base.proofs.Splits.{sized_split}
 use Rattle.swh_revfmt.specs.Reading.{NotLine}
-use Rattle.swh_revfmt.proofs.Ids.{Lower-encode_lower, IsId-from_text}
+use Rattle.swh_base.proofs.Ids.{Lower-encode_lower, IsId-from_text}
 use Rattle.swh_revfmt.proofs.LinePlaces.{length-digits, length-line}
 
 pub too_short : (bytes : List ℕ) → length bytes < 41 → NotLine [] bytes

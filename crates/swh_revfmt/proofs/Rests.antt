@@ -1,34 +1,11 @@
 -- Lines of a word and a text, and the rests of plain manifests.
-use Rattle.std.proofs.Common.{◌≡◌, ◌≢◌, ℕ, zero, suc, ◌+◌, ◌≤◌, inl, inr, List, [], ◌∷◌, ◌++◌, length, Option, Some, None, Contains, IfSome, refl, sym, ap, ◌∙◌, subst, arith, append_assoc, length-append, codes}
+use Rattle.std.proofs.Common.{◌≡◌, ℕ, ◌+◌, ◌≤◌, List, [], ◌∷◌, ◌++◌, length, Option, Some, None, Contains, IfSome, refl, sym, ap, ◌∙◌, subst, arith, append_assoc, length-append, codes}
 use Rattle.swh_base.specs.Limits.{line_limit}
-use Rattle.swh_base.specs.Text.{IsPerson, IsSign, is_person_byte, is_digit, named}
+use Rattle.swh_base.specs.Text.{IsPerson}
 use Rattle.swh_base.proofs.Splits.{first_split, sized_split}
 use Rattle.swh_revfmt.specs.Plain.{text_line, optional_line, IsPersonLine, IsEncoding, RevisionRest, IsRevisionRest}
 use Rattle.swh_pieces.proofs.Middle.{in_middle}
-use Rattle.swh_revfmt.proofs.Persons.{lacks}
-
-lacks-cons : (c s : ℕ) (xs : List ℕ) → c ≢ s → (Contains xs s → ⊥) → Contains (c ∷ xs) s → ⊥
-lacks-cons c s xs ne never (zero, l, e) = ne e
-lacks-cons c s xs ne never (suc k, l, e) = never (k, omega arith, e)
-
-lacks-append : (a b : List ℕ) (s : ℕ) → (Contains a s → ⊥) → (Contains b s → ⊥) → Contains (a ++ b) s → ⊥
-lacks-append [] b s na nb h = nb h
-lacks-append (c ∷ a) b s na nb (zero, l, e) = na (0, omega arith, e)
-lacks-append (c ∷ a) b s na nb (suc k, l, e) = lacks-append a b s (λ h. let m = h.1 in na (suc h.0, omega (arith, m), h.2)) nb (k, omega arith, e)
-
-sign-no_feed : (c : ℕ) → IsSign c → c ≢ 10
-sign-no_feed c (inl plus) e = absurd (omega arith)
-sign-no_feed c (inr minus) e = absurd (omega arith)
-
--- a person stands in one line
-pub person-no_feed : (text : List ℕ) → IsPerson text → Contains text 10 → ⊥
-person-no_feed text h contained =
-    let zone = lacks-cons h.sign 10 h.zone (sign-no_feed h.sign h.is_sign) (lacks is_digit h.zone 10 refl h.zone_digits) in
-    let seconds = lacks-append h.seconds (32 ∷ h.sign ∷ h.zone) 10 (lacks is_digit h.seconds 10 refl h.seconds_digits) (lacks-cons 32 10 (h.sign ∷ h.zone) (λ e. absurd (omega arith)) zone) in
-    let behind = lacks-cons 62 10 (32 ∷ (h.seconds ++ 32 ∷ h.sign ∷ h.zone)) (λ e. absurd (omega arith)) (lacks-cons 32 10 (h.seconds ++ 32 ∷ h.sign ∷ h.zone) (λ e. absurd (omega arith)) seconds) in
-    let email = lacks-append h.email (62 ∷ 32 ∷ (h.seconds ++ 32 ∷ h.sign ∷ h.zone)) 10 (lacks is_person_byte h.email 10 refl h.email_bytes) behind in
-    let opened = lacks-cons 60 10 (h.email ++ 62 ∷ 32 ∷ (h.seconds ++ 32 ∷ h.sign ∷ h.zone)) (λ e. absurd (omega arith)) email in
-    lacks-append (named h.name) (60 ∷ (h.email ++ 62 ∷ 32 ∷ (h.seconds ++ 32 ∷ h.sign ∷ h.zone))) 10 (lacks is_person_byte (named h.name) 10 refl h.name_bytes) opened (subst (λ (t : List ℕ). Contains t 10) h.spelled contained)
+use Rattle.swh_base.proofs.Lacks.{person-no_feed}
 
 -- a line and what follows
 pub line_cut : (word text x : List ℕ) → text_line word text ++ x ≡ word ++ (text ++ 10 ∷ x)

@@ -1,20 +1,14 @@
 -- How far bytes go that the line of some kind begins with.
-use Rattle.std.proofs.Common.{◌≡◌, ◌≢◌, ℕ, ◌<◌, ◌≤◌, max, inl, inr, List, ◌∷◌, ◌++◌, length, get_or, take, Contains, refl, sym, ap, ◌∙◌, subst, arith, append_assoc, length-append, codes}
+use Rattle.std.proofs.Common.{◌≡◌, ◌≢◌, ℕ, ◌<◌, ◌≤◌, max, inl, inr, List, ◌∷◌, ◌++◌, length, get_or, take, refl, sym, ap, ◌∙◌, subst, arith, append_assoc, length-append, codes}
 use Rattle.std.proofs.Math.ListN.{get_or-append}
 use Rattle.std.proofs.lemmas.Bool.{cases_lt}
 use Rattle.swh_base.specs.declared.kind.Kind.{Kind}
 use Rattle.swh_base.specs.declared.kind.Kind.TheVariants.{Content, Directory, Revision, Release, Snapshot}
 use Rattle.swh_base.specs.Kind.{word_of}
-use Rattle.swh_base.proofs.Splits.{first_split, sized_split, absent}
+use Rattle.swh_base.proofs.RevisionLemmas.{no_feed}
+use Rattle.swh_base.proofs.Splits.{first_split, sized_split}
 use Rattle.swh_revfmt.specs.Reading.{type_text, IsCommonFront, IsTypePlace}
 use Rattle.swh_revfmt.proofs.LinePlaces.{front_at}
-
-no_feed : (kind : Kind) → Contains (word_of kind) 10 → ⊥
-no_feed Content = absent 10 (codes "blob") refl
-no_feed Directory = absent 10 (codes "tree") refl
-no_feed Revision = absent 10 (codes "commit") refl
-no_feed Release = absent 10 (codes "tag") refl
-no_feed Snapshot = absent 10 (codes "snapshot") refl
 
 -- a kind's line and what follows
 pub type_then : (kind : Kind) (x : List ℕ) → type_text kind ++ x ≡ codes "type " ++ (word_of kind ++ 10 ∷ (codes "tag " ++ x))

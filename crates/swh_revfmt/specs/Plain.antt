@@ -1,10 +1,9 @@
 -- Plain revisions and releases: those whose rest is an author, a committer and a message, or a tagger and a message.
 use Rattle.std.specs.Prelude.{◌≡◌, ◌≢◌, ℕ, ◌≤◌, Option, Some, None, IfSome, List, [], ◌∷◌, ◌++◌, length, Contains, codes}
-use Rattle.std.specs.List.{AllPass}
 use Rattle.swh_base.specs.declared.kind.Kind.TheVariants.{Directory}
 use Rattle.swh_base.specs.declared.name.Name.{Name}
-use Rattle.swh_base.specs.Limits.{line_limit}
-use Rattle.swh_base.specs.Text.{IsRef, IsPerson, IsSign, is_person_byte, is_digit, named}
+use Rattle.swh_base.specs.Limits.{line_limit, tag_limit}
+use Rattle.swh_base.specs.Text.{IsRef, IsPerson}
 use Rattle.swh_base.specs.Revision.{IsRevision}
 use Rattle.swh_base.specs.Release.{IsRelease}
 
@@ -78,7 +77,7 @@ pub record PlainRelease : Type 0 where
 -- A ref that is a tag's name, so that `refs/tags/` and it are a ref.
 pub record IsTagName (tag : List ℕ) : Type 0 where
   pub ref : IsRef tag
-  pub short : length tag ≤ 1014
+  pub short : length tag ≤ tag_limit
 
 -- The body is a plain release with these parts: of no directory, with the name of a ref.
 pub record IsPlainRelease (body : List ℕ) (p : PlainRelease) : Type 0 where
@@ -87,32 +86,3 @@ pub record IsPlainRelease (body : List ℕ) (p : PlainRelease) : Type 0 where
   pub no_directory : p.object.kind ≢ Directory
   pub tag : IsTagName p.tag
   pub rest : IsReleaseRest bytes p.rest
-
--- what stands before an email: nothing, or a name and a space
-pub record IsNamed (text : List ℕ) : Type 0 where
-  pub name : Option (List ℕ)
-  pub spelled : text ≡ named name
-  pub bytes : AllPass is_person_byte text
-
--- the sign and the four digits of a time zone
-pub record IsZone (text : List ℕ) : Type 0 where
-  pub sign : ℕ
-  pub digits : List ℕ
-  pub spelled : text ≡ sign ∷ digits
-  pub is_sign : IsSign sign
-  pub four : length digits ≡ 4
-  pub zone_digits : AllPass is_digit digits
-
--- 1 to 18 digits
-pub record IsSeconds (text : List ℕ) : Type 0 where
-  pub some : 1 ≤ length text
-  pub few : length text ≤ 18
-  pub digits : AllPass is_digit text
-
--- what stands after an email
-pub record IsDate (text : List ℕ) : Type 0 where
-  pub seconds : List ℕ
-  pub zone : List ℕ
-  pub spelled : text ≡ 32 ∷ (seconds ++ 32 ∷ zone)
-  pub are_seconds : IsSeconds seconds
-  pub is_zone : IsZone zone

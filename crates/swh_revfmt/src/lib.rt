@@ -6,7 +6,6 @@
 
 mod fault;
 mod line;
-mod person;
 mod place;
 mod plain;
 mod release;

@@ -1,8 +1,8 @@
 //! How far bytes go that some line begins with.
 
-ghost use Rattle.std.specs.Prelude.{◌≡◌};
-ghost use Rattle.swh_base.specs.Name.{is_lower_hex_digit};
 ghost use Rattle.swh_revfmt.specs.Reading.{NotLine, IsCommonFront, IsDigitsFront, IsLinePlace};
+
+use swh_base::is_lower_hex_digit;
 
 /// How many bytes at the front are those of a line.
 pub fn common_front(line: &[u8], bytes: &[u8]) -> usize
@@ -14,12 +14,6 @@ pub fn common_front(line: &[u8], bytes: &[u8]) -> usize
         }
     }
     bytes.len()
-}
-
-fn is_lower_hex_digit(c: u8) -> bool
-    ensures { result ≡ is_lower_hex_digit c }
-{
-    matches!(c, b'0'..=b'9' | b'a'..=b'f')
 }
 
 /// How many bytes at the front are digits of an id.

@@ -11,7 +11,7 @@ use crate::release::spelled_rel;
 use crate::rest::{release_rest, revision_rest};
 use crate::revision::{SpelledRev, spelled_rev};
 use std::alloc::Global;
-use swh_base::{Bytes, Kind, Many, Memory, Name};
+use swh_base::{Bytes, Kind, Many, Memory, Name, TAG_LIMIT, is_ref};
 
 /// The parts of a plain revision: one whose rest is an author, a committer, perhaps an encoding, and a message.
 #[derive(Drop)]
@@ -78,23 +78,11 @@ pub fn plain_rev(alloc: Global, body: &[u8]) -> Result<Option<PlainRev>, Memory>
     }))
 }
 
-/// None up to a space, no DEL, none of `^ : ~ ? * [ \`; one to 1,014 bytes.
+/// Whether a text is a ref of 1 to 1,014 bytes.
 fn is_tag_name(tag: &[u8]) -> bool
     ensures { IsTrue result ↔ IsTagName tag.now }
 {
-    !tag.is_empty()
-        && tag.len() <= 1014
-        && tag.iter().all(|c| {
-            *c >= 33
-                && *c != 127
-                && *c != b'^'
-                && *c != b':'
-                && *c != b'~'
-                && *c != b'?'
-                && *c != b'*'
-                && *c != b'['
-                && *c != b'\\'
-        })
+    tag.len() <= TAG_LIMIT && is_ref(tag)
 }
 
 fn is_directory(kind: Kind) -> bool

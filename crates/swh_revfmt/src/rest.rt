@@ -5,11 +5,8 @@ ghost use Rattle.std.specs.Option.{option_copied};
 ghost use Rattle.swh_revfmt.specs.Plain.{text_line, optional_line, IsPersonLine, IsEncoding, RevisionRest, IsRevisionRest, ReleaseRest, IsReleaseRest};
 ghost use Rattle.swh_revfmt.specs.PlainReading.{rev_rest, rel_rest};
 
-use crate::person::is_person;
+use swh_base::{LINE_LIMIT, is_person};
 use swh_pieces::{behind, split_at_byte};
-
-/// The most bytes of a line, with its LF.
-const LINE_LIMIT: usize = 1_048_576;
 
 /// The text of a line after its word, and the bytes after the line.
 #[derive(Drop)]

@@ -15,16 +15,17 @@ use Rattle.swh_swhid.specs.declared.identifier.Place.TheVariants.{Text}
 use Rattle.swh_swhid.specs.Front.{BreaksAt, Chosen, common}
 use Rattle.swh_swhid.specs.Core.{accepts, kind_word, lead, along, core_text, IsCore, HasCore, KindAndId}
 use Rattle.swh_swhid.proofs.Fronts.{common-le, take-common, breaks_after, breaks_same, chosen_breaks}
-use Rattle.swh_swhid.proofs.Ids.{id-spelled, IsId-from_text, IsIdText-encode, zeros-id}
+use Rattle.swh_base.proofs.Ids.{spelled_id, IsId-from_text, IsIdText-encode}
+use Rattle.swh_swhid.proofs.Ids.{zeros-id}
 use Rattle.swh_swhid.proofs.KindWords.{one_kind, length-kind_word, accepted_along, accepts-Snapshot}
 
 -- a core identifier after its lead, both ways
 core_in : (place : Place) (y : List ℕ) → KindAndId place y → HasCore place (lead ++ y)
 core_in place y h =
-    let id = id-spelled h.rest h.follows in
+    let id = spelled_id h.rest h.follows in
     record {
       name = record { kind = h.key; id = id.id };
-      core = record { accepted = h.may_stand; named = (id.sized, id.bytes); spelled = ap (λ (t : List ℕ). lead ++ t) (h.spelled ∙ ap (λ (t : List ℕ). kind_word h.key ++ t) id.text_is) };
+      core = record { accepted = h.may_stand; named = IsId-from_text h.rest id.id h.follows id.same; spelled = ap (λ (t : List ℕ). lead ++ t) (h.spelled ∙ ap (λ (t : List ℕ). kind_word h.key ++ t) id.same) };
     }
 
 core_out : (place : Place) (y : List ℕ) → HasCore place (lead ++ y) → KindAndId place y

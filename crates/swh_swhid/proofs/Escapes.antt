@@ -1,29 +1,15 @@
 -- Escaped bytes are a text, and stand for the bytes.
-use Rattle.std.proofs.Common.{◌≡◌, ◌≢◌, ℕ, ◌/◌, ◌%◌, ◌<◌, if◌then◌else◌, Bool, true, false, inl, inr, List, [], ◌∷◌, ◌++◌, refl, sym, ap, ap₂, ◌∙◌, subst, arith}
+use Rattle.std.proofs.Common.{◌≡◌, ◌≢◌, ℕ, ◌/◌, ◌%◌, ◌<◌, if◌then◌else◌, true, false, List, [], ◌∷◌, ◌++◌, refl, sym, ap, ◌∙◌, subst, arith}
 use Rattle.std.specs.Fmt.{digit_glyph}
-use Rattle.std.proofs.lemmas.Bool.{agree_below_at, cases_lt}
+use Rattle.std.proofs.lemmas.Bool.{agree_below_at}
 use Rattle.std.proofs.lemmas.Bool.Decides.{nat_tests}
 use Rattle.hex.specs.Hex.{is_hex_digit}
-use Rattle.percent_encoding.specs.AsciiSet.{should_percent_encode}
-use Rattle.percent_encoding.specs.Percent.{percent_encode, percent_decode, percent_encode_byte}
+use Rattle.percent_encoding.specs.Percent.{percent_decode, percent_encode_byte}
 use Rattle.percent_encoding.proofs.PercentLemmas.{percent_decode-nil, percent_decode_not_percent, percent_decode-percent_encode_byte}
-use Rattle.swh_swhid.specs.declared.printing.TheConstants.{ESCAPED}
 use Rattle.swh_swhid.specs.Text.{is_text_byte, IsText, IsOriginText, IsPathText}
-use Rattle.swh_swhid.specs.Printed.{is_escaped, escaped, AreBytes, BeginsWithSlash}
+use Rattle.swh_base.specs.Escape.{is_escaped, escaped}
+use Rattle.swh_swhid.specs.Printed.{AreBytes, BeginsWithSlash}
 use Rattle.swh_swhid.proofs.Texts.{hex-text, hex-no_percent}
-
-set-is : (b : ℕ) → should_percent_encode ESCAPED b ≡ is_escaped b
-unfolding should_percent_encode
-set-is b = elim (cases_lt b 128) [
-  | inl low ↦ agree_below_at (should_percent_encode ESCAPED) is_escaped 128 b refl low
-  | inr high ↦ grind (arith, nat_tests)
-]
-
--- what the set makes of bytes
-pub encoded : (bs : List ℕ) → percent_encode ESCAPED bs ≡ escaped bs
-unfolding percent_encode
-encoded [] = refl
-encoded (b ∷ bs) = ap₂ ◌++◌ (ap (λ (v : Bool). if v then percent_encode_byte b else b ∷ []) (set-is b)) (encoded bs)
 
 kept-text : (b : ℕ) → is_escaped b ≡ false → is_text_byte b ≡ true
 kept-text b h = grind (arith, nat_tests)

@@ -11,7 +11,8 @@ use Rattle.swh_swhid.specs.declared.swhid.Swhid.{Swhid}
 use Rattle.swh_swhid.specs.Core.{core_text, accepts}
 use Rattle.swh_swhid.specs.Number.{IsRange, range_text}
 use Rattle.swh_swhid.specs.Qualifier.{key_word, Adds, AddAll, pieces_text, bare, IsSwhid}
-use Rattle.swh_swhid.specs.Printed.{escaped, said, said_range, printed, AreBytes, BeginsWithSlash, IsValue}
+use Rattle.swh_base.specs.Escape.{escaped}
+use Rattle.swh_swhid.specs.Printed.{said, said_range, printed, AreBytes, BeginsWithSlash, IsValue}
 use Rattle.swh_swhid.proofs.Escapes.{escaped-back, escaped-origin, escaped-path}
 
 record Way (s t : Swhid) (text : List ℕ) : Type 0 where

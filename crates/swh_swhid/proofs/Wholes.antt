@@ -19,7 +19,7 @@ use Rattle.swh_swhid.specs.Number.{HasRange, IsRange, range_text}
 use Rattle.swh_swhid.specs.Text.{is_text_byte, IsText, IsPathText}
 use Rattle.swh_swhid.specs.Qualifier.{key_word, IsValueText, IsNext}
 use Rattle.swh_swhid.specs.Reading.{is_whole, IsClosed}
-use Rattle.swh_swhid.proofs.Ids.{IsIdText-encode}
+use Rattle.swh_base.proofs.Ids.{IsIdText-encode}
 use Rattle.swh_swhid.proofs.Numerals.{AreDigits, text_number}
 
 both_true : (a b : Bool) → a ≡ true → b ≡ true → a && b ≡ true

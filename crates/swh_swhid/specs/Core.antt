@@ -1,9 +1,10 @@
 -- Core identifiers: SWHID v1.2, core identifiers.
-use Rattle.std.specs.Prelude.{◌≡◌, ℕ, Bool, true, false, if◌then◌else◌, List, ◌++◌, codes}
+use Rattle.std.specs.Prelude.{◌≡◌, ℕ, Bool, true, false, if◌then◌else◌, List, [], ◌∷◌, ◌++◌, codes}
 use Rattle.hex.specs.Hex.{encode_lower}
 use Rattle.swh_base.specs.Name.{IsName, IsIdText}
 use Rattle.swh_base.specs.declared.kind.Kind.{Kind}
-use Rattle.swh_base.specs.declared.kind.Kind.TheVariants.{Content, Directory, Revision, Release, Snapshot}
+use Rattle.swh_base.specs.Kind.{kind_letters}
+use Rattle.swh_base.specs.declared.kind.Kind.TheVariants.{Content, Snapshot}
 use Rattle.swh_base.specs.declared.name.Name.{Name}
 use Rattle.swh_swhid.specs.Front.{common, Chosen}
 use Rattle.swh_swhid.specs.declared.identifier.Place.{Place}
@@ -11,11 +12,7 @@ use Rattle.swh_swhid.specs.declared.identifier.Place.TheVariants.{Text, Visit, A
 
 -- the letters of a kind and the colon after them
 abbrev pub kind_word : Kind → List ℕ
-kind_word Content = codes "cnt:"
-kind_word Directory = codes "dir:"
-kind_word Revision = codes "rev:"
-kind_word Release = codes "rel:"
-kind_word Snapshot = codes "snp:"
+kind_word kind = kind_letters kind ++ 58 ∷ []
 
 -- the scheme and its version
 abbrev pub lead : List ℕ

@@ -1,23 +1,15 @@
 -- The one printed text of a value: the qualifiers in the order of the keys, origin and path escaped.
-use Rattle.std.specs.Prelude.{◌≡◌, ◌≢◌, Bool, true, ◌||◌, ◌==◌, nat_le, if◌then◌else◌, IfSome, ℕ, Option, Some, None, option_map, List, [], ◌∷◌, ◌++◌}
-use Rattle.std.specs.List.{AllByRecursion, flat_map}
+use Rattle.std.specs.Prelude.{◌≡◌, ◌≢◌, true, IfSome, ℕ, Option, Some, None, option_map, List, [], ◌∷◌, ◌++◌}
+use Rattle.std.specs.List.{AllByRecursion}
+use Rattle.swh_base.specs.Escape.{escaped}
 use Rattle.swh_base.specs.Name.{IsName, IsByte}
 use Rattle.swh_swhid.specs.declared.identifier.Place.TheVariants.{Visit as AsVisit, Anchor as AsAnchor}
-use Rattle.percent_encoding.specs.Percent.{percent_encode_byte}
 use Rattle.swh_swhid.specs.declared.swhid.Swhid.{Swhid}
 use Rattle.swh_swhid.specs.declared.swhid.Key.{Key}
 use Rattle.swh_swhid.specs.declared.swhid.Key.TheVariants.{Origin, Visit, Anchor, Path, Lines, Bytes}
 use Rattle.swh_swhid.specs.Core.{core_text, accepts}
 use Rattle.swh_swhid.specs.Number.{range_text, IsRange}
 use Rattle.swh_swhid.specs.Qualifier.{key_word}
-
--- bytes up to a space, `%`, `;`, DEL, and those from 128 on
-abbrev pub is_escaped : ℕ → Bool
-is_escaped c = nat_le c 32 || c == 37 || c == 59 || nat_le 127 c
-
--- the bytes with `%` and two upper-case digits for each that is escaped
-abbrev pub escaped : List ℕ → List ℕ
-escaped bytes = flat_map (λ c. if is_escaped c then percent_encode_byte c else c ∷ []) bytes
 
 -- a qualifier after its `;`, if there is one
 abbrev pub said : Key → Option (List ℕ) → List ℕ

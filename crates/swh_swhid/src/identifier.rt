@@ -3,13 +3,13 @@
 ghost use Rattle.std.specs.Prelude.{◌≡◌, ◌≤◌, ◌++◌, ℕ, ◌==◌, if◌then◌else◌, true, length, replicate, IfOk, IfErr, IfSome};
 ghost use Rattle.std.specs.List.{AllPass};
 ghost use Rattle.hex.specs.Hex.{encode_lower};
-ghost use Rattle.swh_base.specs.Name.{IsName, is_lower_hex_digit, IsIdText};
+ghost use Rattle.swh_base.specs.Name.{IsName, IsIdText};
 ghost use Rattle.swh_swhid.specs.Front.{BreaksAt, common};
 ghost use Rattle.swh_swhid.specs.Core.{accepts, kind_word, along, core_text, IsCore, HasCore, KindAndId};
 ghost use Rattle.swh_swhid.specs.declared.identifier.Place.TheVariants.{Text};
 
 use crate::front::{behind, shared};
-use swh_base::{Kind, Name};
+use swh_base::{Kind, Name, is_lower_hex_digit};
 
 /// Where a core identifier stands, which settles the kinds that it may have.
 #[derive(Clone, Copy)]
@@ -85,12 +85,6 @@ fn kind_of(place: Place, text: &[u8]) -> Result<Kind, usize>
                 .max(snapshot),
         )
     }
-}
-
-fn is_lower_hex_digit(c: u8) -> bool
-    ensures { result ≡ is_lower_hex_digit c }
-{
-    matches!(c, b'0'..=b'9' | b'a'..=b'f')
 }
 
 /// Where a text that is no id stops being one.

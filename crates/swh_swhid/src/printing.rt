@@ -1,21 +1,18 @@
 //! The printed text of a value.
 
 ghost use Rattle.std.specs.Prelude.{◌≡◌, ◌++◌, ◌∷◌, option_map, decimal, IfOk, OnOk};
+ghost use Rattle.swh_base.specs.Escape.{escaped};
 ghost use Rattle.swh_swhid.specs.Core.{core_text};
 ghost use Rattle.swh_swhid.specs.Number.{range_text};
 ghost use Rattle.swh_swhid.specs.Qualifier.{key_word};
-ghost use Rattle.swh_swhid.specs.Printed.{escaped, said, said_range, printed};
+ghost use Rattle.swh_swhid.specs.Printed.{said, said_range, printed};
 
 use crate::identifier::core_text;
 use crate::qualifier::key_word;
 use crate::swhid::{Key, Swhid};
 use itoa::Buffer;
-use percent_encoding::{AsciiSet, CONTROLS, percent_encode};
 use std::alloc::Global;
-use swh_base::{Bytes, Memory, Name};
-
-/// The bytes that are escaped, beside those outside ASCII.
-const ESCAPED: AsciiSet = percent_encoding::ascii_set!(CONTROLS.add(b' ').add(b'%').add(b';'));
+use swh_base::{Bytes, Memory, Name, escape};
 
 fn put_core(out: &mut Vec<u8>, name: &Name) -> Result<(), Memory>
     ensures { OnOk result (out.new.items ≡ out.old.items ++ core_text name.now) }
@@ -37,8 +34,7 @@ fn put_key(out: &mut Vec<u8>, key: Key) -> Result<(), Memory>
 fn put_escaped(alloc: Global, out: &mut Vec<u8>, bytes: &[u8]) -> Result<(), Memory>
     ensures { OnOk result (out.new.items ≡ out.old.items ++ escaped bytes.now) }
 {
-    let mut text = String::new(alloc);
-    percent_encode(bytes, ESCAPED).append_to(&mut text)?;
+    let text = escape(alloc, bytes)?;
     out.extend_from_slice(text.as_bytes())?;
     Ok(())
 }

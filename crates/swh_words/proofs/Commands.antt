@@ -5,7 +5,8 @@ use Rattle.clap.specs.Words.{Row, Text, all_of, first_of, subcommand_of}
 use Rattle.swh_base.specs.declared.kind.Kind.{Kind}
 use Rattle.swh_base.specs.declared.kind.Kind.TheVariants.{Content, Directory, Revision, Release, Snapshot}
 use Rattle.swh_words.specs.Definition.{program_app}
-use Rattle.swh_words.specs.Words.{Wanted, ToInit, ToLoad, ToAsk, ToIdentify, IsAsked, IsCommand, IsGiven, IsOffered, kind_letters}
+use Rattle.swh_words.specs.Words.{Wanted, ToInit, ToLoad, ToAsk, ToIdentify, IsAsked, IsCommand, IsGiven, IsOffered}
+use Rattle.swh_base.specs.Kind.{kind_letters}
 use Rattle.swh_words.specs.declared.command.Command.{Command}
 use Rattle.swh_words.specs.declared.command.WordsFault.{WordsFault}
 use Rattle.swh_words.specs.declared.command.WordsFault.TheVariants.{Words, Memory}

@@ -11,7 +11,8 @@ use Rattle.clap.proofs.OnLiterals.{clap_on_literals}
 use Rattle.swh_words.specs.Definition.{ask_app, identify_app, init_app, load_app, program_app}
 use Rattle.swh_words.proofs.Commands.{kind_from, offered, read, read-given}
 use Rattle.swh_words.specs.Spelling.{is_flag, spelled, spelling_of, values_given}
-use Rattle.swh_words.specs.Words.{Wanted, ToInit, ToLoad, ToAsk, ToIdentify, IsAsked, IsCommand, IsGiven, IsOffered, kind_letters}
+use Rattle.swh_words.specs.Words.{Wanted, ToInit, ToLoad, ToAsk, ToIdentify, IsAsked, IsCommand, IsGiven, IsOffered}
+use Rattle.swh_base.specs.Kind.{kind_letters}
 use Rattle.swh_words.proofs.Flags.{HasValuesOnly, dashes, first_bad, first_clean, is_clean, refused, value_met, value_passes, word_refused}
 use Rattle.swh_words.proofs.Values.{given_by, some≢none, turned_by}
 use Rattle.swh_words.proofs.Subcommands.{Enters, ask_rows, ask_taken, built_sub, enters_ask, enters_identify, enters_init, enters_load, fault_in, identify_rows, identify_taken, init_rows, init_taken, load_rows, load_taken, only_ask, only_identify, only_init, only_load, program, reads, rows_in, taken_values}

@@ -5,7 +5,8 @@ use Rattle.clap.specs.Words.{first_of, subcommand_of}
 use Rattle.swh_base.specs.declared.kind.Kind.{Kind}
 use Rattle.swh_base.specs.declared.kind.Kind.TheVariants.{Directory}
 use Rattle.swh_words.specs.Definition.{program_app}
-use Rattle.swh_words.specs.Words.{Wanted, ToInit, ToLoad, ToAsk, ToIdentify, kind_letters}
+use Rattle.swh_words.specs.Words.{Wanted, ToInit, ToLoad, ToAsk, ToIdentify}
+use Rattle.swh_base.specs.Kind.{kind_letters}
 
 -- the subcommand and the values that ask for this
 abbrev pub spelled : Wanted → List (List ℕ)

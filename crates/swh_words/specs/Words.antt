@@ -2,16 +2,9 @@
 use Rattle.std.specs.Prelude.{◌≡◌, ◌≢◌, ◌<◌, ℕ, List, [], Some, IsSomeAnd, length, codes}
 use Rattle.clap.specs.Words.{Row, Text, all_of, fault_of, first_of, subcommand_of}
 use Rattle.swh_base.specs.declared.kind.Kind.{Kind}
-use Rattle.swh_base.specs.declared.kind.Kind.TheVariants.{Content, Directory, Revision, Release, Snapshot}
+use Rattle.swh_base.specs.Kind.{kind_letters}
+use Rattle.swh_base.specs.declared.kind.Kind.TheVariants.{Directory}
 use Rattle.swh_words.specs.Definition.{program_app}
-
--- the letters of a kind
-abbrev pub kind_letters : Kind → List ℕ
-kind_letters Content = codes "cnt"
-kind_letters Directory = codes "dir"
-kind_letters Revision = codes "rev"
-kind_letters Release = codes "rel"
-kind_letters Snapshot = codes "snp"
 
 -- what a run may be asked to do
 pub data Wanted : Type 0 where

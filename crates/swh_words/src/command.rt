@@ -1,6 +1,5 @@
 //! What the words of a run ask for.
 ghost use Rattle.std.specs.Prelude.{◌≡◌};
-ghost use Rattle.swh_words.specs.Words.{kind_letters};
 ghost use Rattle.swh_words.specs.declared.command.WordsFault.TheVariants.{Memory as OutOfMemory};
 
 use std::alloc::AllocError;
@@ -33,18 +32,5 @@ impl From<AllocError> for WordsFault {
 
     fn from(_e: AllocError) -> WordsFault {
         WordsFault::Memory
-    }
-}
-
-/// The letters of a kind: `cnt`, `dir`, `rev`, `rel` or `snp` (SWHID v1.2, core identifiers, object types).
-pub fn letters_of(kind: Kind) -> &'static [u8]
-    ensures { result.now ≡ kind_letters kind }
-{
-    match kind {
-        Kind::Content => b"cnt".as_slice(),
-        Kind::Directory => b"dir".as_slice(),
-        Kind::Revision => b"rev".as_slice(),
-        Kind::Release => b"rel".as_slice(),
-        Kind::Snapshot => b"snp".as_slice(),
     }
 }

@@ -10,7 +10,7 @@ mod definition;
 mod laws;
 mod reading;
 
-pub use command::{Command, WordsFault, letters_of};
+pub use command::{Command, WordsFault};
 pub use laws::{one_command, refused_words, spelled_words};
 pub use reading::parse_words;
 

@@ -3,7 +3,8 @@ ghost use Rattle.std.specs.Prelude.{◌≡◌, ◌≢◌, List, [], IfSome, IfOk
 ghost use Rattle.clap.specs.Words.{all_of, first_of, found_of, rows_of, subcommand_rows_of};
 ghost use Rattle.swh_base.specs.declared.kind.Kind.{Kind};
 ghost use Rattle.swh_base.specs.declared.kind.Kind.TheVariants.{Directory};
-ghost use Rattle.swh_words.specs.Words.{Wanted, IsCommand, IsAsked, kind_letters};
+ghost use Rattle.swh_words.specs.Words.{Wanted, IsCommand, IsAsked};
+ghost use Rattle.swh_base.specs.Kind.{kind_letters};
 ghost use Rattle.swh_words.specs.Commands.{Answers, wanted_by};
 ghost use Rattle.swh_words.specs.declared.command.WordsFault.TheVariants.{Words};
 

@@ -9,7 +9,7 @@ use Rattle.swh_jobs.proofs.reading.next_job.Goals as goal
 pub returns-in_default-clause-err : goal.returns-in_default-clause-err
 returns-in_default-clause-err c =
     let many = length-map c.args.before.now spelled in
-    let room = c.if-before-ge-MOST.false in (
+    let room = c.if-before-ge-JOBS_LIMIT.false in (
       omega (arith, many),
       (
         omega (arith, many, room),
@@ -20,7 +20,7 @@ returns-in_default-clause-err c =
 pub returns-then-not-branch-clause-err : goal.returns-then-not-branch-clause-err
 returns-then-not-branch-clause-err c =
     let many = length-map c.args.before.now spelled in
-    let room = c.if-before-ge-MOST.false in
+    let room = c.if-before-ge-JOBS_LIMIT.false in
     let line = c.in-Some.ensures.some in
     let ends = first-ends c.args.rest.now c.first_line.result.0.now c.first_line.result.1.now c.first_line.ensures in
     let begins : BeginsJob c.args.rest.now (spelled c.in-Some.job) = record { is_job = line.is_job; behind = ends.0; text = ends.1 ∙ ap (λ (l : List ℕ). l ++ ends.0) line.text; ends = ends.2 } in
@@ -30,7 +30,7 @@ returns-then-not-branch-clause-err c =
 pub returns-clause-follows : goal.returns-clause-follows
 returns-clause-follows c =
     let many = length-map c.args.before.now spelled in
-    let room = c.if-before-ge-MOST.false in
+    let room = c.if-before-ge-JOBS_LIMIT.false in
     record {
       room = omega (arith, many, room);
       is_job = c.in-Some.ensures.some.is_job;

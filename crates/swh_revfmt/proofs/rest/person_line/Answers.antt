@@ -1,4 +1,5 @@
-use Rattle.swh_revfmt.proofs.Rests.{person-no_feed, long_line, no_person}
+use Rattle.swh_base.proofs.Lacks.{person-no_feed}
+use Rattle.swh_revfmt.proofs.Rests.{long_line, no_person}
 use Rattle.swh_revfmt.proofs.rest.person_line.Goals as goal
 
 pub returns-in_default-clause-none : goal.returns-in_default-clause-none

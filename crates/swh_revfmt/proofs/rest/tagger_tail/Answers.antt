@@ -1,6 +1,7 @@
 use Rattle.std.proofs.Common.{codes}
 use Rattle.swh_revfmt.specs.Plain.{IsPersonLine}
-use Rattle.swh_revfmt.proofs.Rests.{no_message, person-no_feed}
+use Rattle.swh_base.proofs.Lacks.{person-no_feed}
+use Rattle.swh_revfmt.proofs.Rests.{no_message}
 use Rattle.swh_revfmt.proofs.rest.tagger_tail.Goals as goal
 
 pub returns-in_default-behind-clause-none : goal.returns-in_default-behind-clause-none
