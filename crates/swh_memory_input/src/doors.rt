@@ -13,10 +13,12 @@ pub struct MemoryDoors {
 }
 
 impl MemoryDoors {
-    ghost use Rattle.swh_memory_input.specs.Failing.{doors_faults};
+    ghost use Rattle.swh_memory_failures.specs.Tally.{fresh};
+    ghost use Rattle.swh_memory_input.specs.Failing.{doors_faults, doors_tally};
 
     pub fn new(alloc: Global) -> Self
-        ensures { doors_faults result ≡ 0 }
+        ensures failing { doors_tally result ≡ fresh [] }
+        ensures no_fault { doors_faults result ≡ 0 }
     {
         MemoryDoors {
             failures: Failures::at(Vec::new(alloc)),
@@ -62,5 +64,8 @@ impl Doors for MemoryDoors {
         Err(OutFault::from(self.failures.refuse()))
     }
 
-    fn back(&mut self, _link: MemoryLink) {}
+    fn back(&mut self, _link: MemoryLink)
+        ensures same { doors_tally self.new ≡ doors_tally self.old }
+        ensures same_count { doors_faults self.new ≡ doors_faults self.old }
+    {}
 }

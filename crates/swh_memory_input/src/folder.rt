@@ -1,5 +1,5 @@
 // A folder in memory in which nothing stands.
-ghost use Rattle.std.specs.Prelude.{◌≡◌, [], IsErr, string_bytes};
+ghost use Rattle.std.specs.Prelude.{◌≡◌, ◌≤◌, ◌<◌, [], IsErr, string_bytes};
 
 use crate::MemorySource;
 use std::alloc::Global;
@@ -14,11 +14,13 @@ pub struct MemoryFolder {
 }
 
 impl MemoryFolder {
-    ghost use Rattle.swh_memory_input.specs.Failing.{folder_path, folder_faults};
+    ghost use Rattle.swh_memory_failures.specs.Tally.{fresh};
+    ghost use Rattle.swh_memory_input.specs.Failing.{folder_path, folder_faults, folder_tally};
 
     /// A folder opened at a path.
     pub fn new(alloc: Global, path: String) -> Self
         ensures path { folder_path result ≡ string_bytes path }
+        ensures failing { folder_tally result ≡ fresh [] }
         ensures no_fault { folder_faults result ≡ 0 }
     {
         MemoryFolder {
@@ -45,7 +47,10 @@ impl MemoryFolder {
 impl Folder for MemoryFolder {
     ghost use Rattle.swh_memory_input.specs.Failing.{folder_path, folder_faults, folder_tally};
     ghost use Rattle.swh_memory_failures.specs.Tally.{refused};
+    ghost use Rattle.swh_memory_failures.specs.Answers.{with_given_back};
+    ghost use Rattle.swh_memory_input.specs.Inputs.{source_faults};
     ghost use Rattle.swh_outside.specs.Causes.{HasOutCause};
+    ghost use Rattle.swh_outside.specs.Faults.{Rose};
     ghost use Rattle.swh_outside.specs.Folder.{nothing};
 
     type S = MemorySource;
@@ -76,7 +81,13 @@ impl Folder for MemoryFolder {
         Err(OutFault::from(self.failures.refuse()))
     }
 
-    fn back(&mut self, source: MemorySource) {
+    fn back(&mut self, source: MemorySource)
+        ensures counted { folder_tally self.new ≡ with_given_back (source_faults source) (folder_tally self.old) }
+        ensures same_path { folder_path self.new ≡ folder_path self.old }
+        ensures later { folder_faults self.old ≤ folder_faults self.new }
+        ensures cause { 0 < source_faults source → Rose (folder_faults self.old) (folder_faults self.new) }
+        ensures quiet { source_faults source ≡ 0 → folder_faults self.new ≡ folder_faults self.old }
+    {
         if source.faults() > 0 {
             let _ = self.failures.refuse();
         }

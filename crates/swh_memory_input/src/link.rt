@@ -12,10 +12,12 @@ pub struct MemoryLink {
 }
 
 impl MemoryLink {
-    ghost use Rattle.swh_memory_input.specs.Failing.{link_faults};
+    ghost use Rattle.swh_memory_failures.specs.Tally.{fresh};
+    ghost use Rattle.swh_memory_input.specs.Failing.{link_faults, link_tally};
 
     pub fn new(alloc: Global) -> Self
-        ensures { link_faults result ≡ 0 }
+        ensures failing { link_tally result ≡ fresh [] }
+        ensures no_fault { link_faults result ≡ 0 }
     {
         MemoryLink {
             failures: Failures::at(Vec::new(alloc)),
@@ -47,8 +49,9 @@ impl Source for MemoryLink {
 
     ghost path = { λ _. [] };
 
-    fn get(&mut self, _out: &mut [u8]) -> Result<usize, Failed>
+    fn get(&mut self, out: &mut [u8]) -> Result<usize, Failed>
         ensures fails { IsErr result }
+        ensures untouched { out.new ≡ out.old }
         ensures counted { link_tally self.new ≡ refused (link_tally self.old) }
         ensures cause { HasCause (link_faults self.old) (link_faults self.new) result }
     {

@@ -1,8 +1,8 @@
 // Origins in memory.
-ghost use Rattle.std.specs.Prelude.{◌≡◌, ◌≢◌, ◌<◌, ◌≤◌, List, ℕ, None, Some, length, IfOk, string_bytes};
+ghost use Rattle.std.specs.Prelude.{◌≡◌, ◌≢◌, ◌<◌, ◌≤◌, [], false, List, ℕ, None, Some, length, IfOk, string_bytes};
 ghost use Rattle.std.specs.List.{position_or_len};
 ghost use Rattle.swh_memory_input.specs.Outside.{is_for, input_at, made_at};
-ghost use Rattle.swh_memory_input.specs.Inputs.{source_left, source_path, source_piece, source_tally, source_faults};
+ghost use Rattle.swh_memory_input.specs.Inputs.{source_left, source_given, source_ended, source_path, source_piece, source_tally, source_faults};
 
 use crate::{Input, MemoryFolder, MemorySource};
 use std::alloc::{AllocError, Global};
@@ -72,9 +72,10 @@ impl MemoryOrigins {
 }
 
 impl Origins for MemoryOrigins {
-    ghost use Rattle.swh_outside.specs.Faults.{Rose};
+    ghost use Rattle.swh_outside.specs.Faults.{Rose, one_more};
     ghost use Rattle.swh_outside.specs.Opened.{IfFound, IsNotFound, IsFailed, UnlessFailed, UnlessMemory};
-    ghost use Rattle.swh_memory_failures.specs.Answers.{opening_failed};
+    ghost use Rattle.swh_memory_failures.specs.Answers.{opening_failed, with_given_back};
+    ghost use Rattle.swh_memory_input.specs.Failing.{folder_path, folder_faults};
     ghost use Rattle.swh_memory_input.specs.Outside.{origin_files, origin_inputs, origin_tally, origin_faults, origin_path_faults, has_origin_place};
     ghost use Rattle.swh_memory_failures.specs.Tally.{is_next_listed, tallied};
 
@@ -100,12 +101,15 @@ impl Origins for MemoryOrigins {
         ensures source_path { IfFound result (λ source. source_path source ≡ path.now) }
         ensures no_fault { IfFound result (λ source. source_faults source ≡ 0) }
         ensures made { IfFound result (λ source. made_at (origin_inputs self.old) path.now ≡ Some (source_piece source, source_tally source)) }
+        ensures nothing_given { IfFound result (λ source. source_given source ≡ []) }
+        ensures not_ended { IfFound result (λ source. source_ended source ≡ false) }
 
         ensures same_files { (p : List ℕ) → origin_files self.new p ≡ origin_files self.old p }
         ensures later { origin_faults self.old ≤ origin_faults self.new }
         ensures path_later { (p : List ℕ) → origin_path_faults self.old p ≤ origin_path_faults self.new p }
         ensures cause { IsFailed result → Rose (origin_faults self.old) (origin_faults self.new) }
         ensures path_cause { IsFailed result → Rose (origin_path_faults self.old path.now) (origin_path_faults self.new path.now) }
+        ensures path_counted { IsFailed result → origin_path_faults self.new path.now ≡ one_more (origin_path_faults self.old path.now) }
         ensures quiet { UnlessFailed result (origin_faults self.new ≡ origin_faults self.old) }
         ensures path_quiet { UnlessFailed result (origin_path_faults self.new path.now ≡ origin_path_faults self.old path.now) }
         ensures other_paths { (p : List ℕ) → p ≢ path.now → origin_path_faults self.new p ≡ origin_path_faults self.old p }
@@ -144,6 +148,7 @@ impl Origins for MemoryOrigins {
         ensures path_later { (p : List ℕ) → origin_path_faults self.old p ≤ origin_path_faults self.new p }
         ensures cause { IsFailed result → Rose (origin_faults self.old) (origin_faults self.new) }
         ensures path_cause { IsFailed result → Rose (origin_path_faults self.old path.now) (origin_path_faults self.new path.now) }
+        ensures path_counted { IsFailed result → origin_path_faults self.new path.now ≡ one_more (origin_path_faults self.old path.now) }
         ensures quiet { UnlessFailed result (origin_faults self.new ≡ origin_faults self.old) }
         ensures path_quiet { UnlessFailed result (origin_path_faults self.new path.now ≡ origin_path_faults self.old path.now) }
         ensures other_paths { (p : List ℕ) → p ≢ path.now → origin_path_faults self.new p ≡ origin_path_faults self.old p }
@@ -158,13 +163,47 @@ impl Origins for MemoryOrigins {
         Opened::Failed
     }
 
-    fn back(&mut self, source: MemorySource) {
+    fn back(&mut self, source: MemorySource)
+        ensures same_files { (p : List ℕ) → origin_files self.new p ≡ origin_files self.old p }
+        ensures inputs { origin_inputs self.new ≡ origin_inputs self.old }
+        ensures counted { origin_tally self.new ≡ with_given_back (source_faults source) (origin_tally self.old) }
+        ensures path_counted { 0 < source_faults source
+            → origin_path_faults self.new (source_path source) ≡ one_more (origin_path_faults self.old (source_path source)) }
+
+        ensures later { origin_faults self.old ≤ origin_faults self.new }
+        ensures path_later { (p : List ℕ) → origin_path_faults self.old p ≤ origin_path_faults self.new p }
+        ensures cause { 0 < source_faults source → Rose (origin_faults self.old) (origin_faults self.new) }
+        ensures path_cause { 0 < source_faults source
+            → Rose (origin_path_faults self.old (source_path source)) (origin_path_faults self.new (source_path source)) }
+        ensures quiet { source_faults source ≡ 0 → origin_faults self.new ≡ origin_faults self.old }
+        ensures path_quiet { source_faults source ≡ 0 → (p : List ℕ) → origin_path_faults self.new p ≡ origin_path_faults self.old p }
+        ensures other_paths { (p : List ℕ) → p ≢ source_path source → has_origin_place self.old p
+            → origin_path_faults self.new p ≡ origin_path_faults self.old p }
+        ensures places { (p : List ℕ) → has_origin_place self.old p → has_origin_place self.new p }
+    {
         if source.faults() > 0 {
             self.refuse(source.path());
         }
     }
 
-    fn back_folder(&mut self, folder: MemoryFolder) {
+    fn back_folder(&mut self, folder: MemoryFolder)
+        ensures same_files { (p : List ℕ) → origin_files self.new p ≡ origin_files self.old p }
+        ensures inputs { origin_inputs self.new ≡ origin_inputs self.old }
+        ensures counted { origin_tally self.new ≡ with_given_back (folder_faults folder) (origin_tally self.old) }
+        ensures path_counted { 0 < folder_faults folder
+            → origin_path_faults self.new (folder_path folder) ≡ one_more (origin_path_faults self.old (folder_path folder)) }
+
+        ensures later { origin_faults self.old ≤ origin_faults self.new }
+        ensures path_later { (p : List ℕ) → origin_path_faults self.old p ≤ origin_path_faults self.new p }
+        ensures cause { 0 < folder_faults folder → Rose (origin_faults self.old) (origin_faults self.new) }
+        ensures path_cause { 0 < folder_faults folder
+            → Rose (origin_path_faults self.old (folder_path folder)) (origin_path_faults self.new (folder_path folder)) }
+        ensures quiet { folder_faults folder ≡ 0 → origin_faults self.new ≡ origin_faults self.old }
+        ensures path_quiet { folder_faults folder ≡ 0 → (p : List ℕ) → origin_path_faults self.new p ≡ origin_path_faults self.old p }
+        ensures other_paths { (p : List ℕ) → p ≢ folder_path folder → has_origin_place self.old p
+            → origin_path_faults self.new p ≡ origin_path_faults self.old p }
+        ensures places { (p : List ℕ) → has_origin_place self.old p → has_origin_place self.new p }
+    {
         if folder.faults() > 0 {
             self.refuse(folder.path());
         }
@@ -197,6 +236,8 @@ fn open_input(
     ensures path { IfOk result (λ source. source_path source ≡ path.now) }
     ensures no_fault { IfOk result (λ source. source_faults source ≡ 0) }
     ensures made { IfOk result (λ source. made_at inputs.now path.now ≡ Some (source_piece source, source_tally source)) }
+    ensures nothing_given { IfOk result (λ source. source_given source ≡ []) }
+    ensures not_ended { IfOk result (λ source. source_ended source ≡ false) }
 {
     let input = &inputs[i];
     let name = String::from_str(alloc, path)?;

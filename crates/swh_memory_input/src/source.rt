@@ -57,7 +57,7 @@ impl MemorySource {
 }
 
 impl Source for MemorySource {
-    ghost use Rattle.std.specs.Prelude.{◌<◌, IfOk, OnErr, is_err, min, max};
+    ghost use Rattle.std.specs.Prelude.{◌<◌, IfOk, OnErr, drop, is_err, min, max};
     ghost use Rattle.swh_outside.specs.Faults.{HasCause};
     ghost use Rattle.swh_outside.specs.Source.{IsGot, IsHeard};
     ghost use Rattle.swh_memory_input.specs.Inputs.{source_left, source_given, source_ended, source_path, source_piece, source_tally, source_faults};
@@ -86,6 +86,8 @@ impl Source for MemorySource {
 
         ensures piece { IfOk result (λ n. n ≡ min (min (length out.old) (max (source_piece self.old) 1)) (length (source_left self.old))) }
         ensures same_piece { source_piece self.new ≡ source_piece self.old }
+        ensures rest { IfOk result (λ n. drop n out.new ≡ drop n out.old) }
+        ensures untouched { OnErr result (out.new ≡ out.old) }
         ensures fails { is_err result ≡ is_next_listed (source_tally self.old) }
         ensures counted { source_tally self.new ≡ tallied (is_err result) (source_tally self.old) }
     {

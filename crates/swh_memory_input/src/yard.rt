@@ -12,10 +12,12 @@ pub struct MemoryYard {
 }
 
 impl MemoryYard {
-    ghost use Rattle.swh_memory_input.specs.Failing.{yard_faults};
+    ghost use Rattle.swh_memory_failures.specs.Tally.{fresh};
+    ghost use Rattle.swh_memory_input.specs.Failing.{yard_faults, yard_tally};
 
     pub fn new(alloc: Global) -> Self
-        ensures { yard_faults result ≡ 0 }
+        ensures failing { yard_tally result ≡ fresh [] }
+        ensures no_fault { yard_faults result ≡ 0 }
     {
         MemoryYard {
             failures: Failures::at(Vec::new(alloc)),
