@@ -11,9 +11,11 @@ use Rattle.swh_memory_disk.specs.declared.place.Place.{Place}
 use Rattle.swh_memory_disk.specs.declared.depot.MemoryDepot.{MemoryDepot}
 use Rattle.swh_memory_disk.specs.declared.record.Room.{Room}
 
+-- it is the place of this file
 abbrev pub is_at : List ℕ → ℕ → Place → Bool
 is_at dir file place = nat_eq place.file file && bytes_eq (string_bytes place.dir) dir
 
+-- the file of a place
 abbrev pub file_at : Place → File
 file_at place = memory_file place.disk
 
@@ -21,6 +23,7 @@ file_at place = memory_file place.disk
 abbrev pub files_in : List Place → List ℕ → ℕ → File
 files_in places dir file = first_or (is_at dir file) file_at absent places
 
+-- what is kept of the disk at a place
 abbrev pub notes_at : Place → DiskNotes
 notes_at place = notes_of place.disk
 
@@ -32,6 +35,7 @@ notes_in room places dir file = first_or (is_at dir file) notes_at (new_notes ro
 pub record SameNotesButAt (dir : List ℕ) (number : ℕ) (before now : List ℕ → ℕ → DiskNotes) : Type 0 where
   pub at_other : (d : List ℕ) (n : ℕ) → (d ≢ dir) ⊎ (n ≢ number) → now d n ≡ before d n
 
+-- the files of a depot that are not open
 abbrev pub memory_files : MemoryDepot → List ℕ → ℕ → File
 memory_files depot = files_in depot.places.items
 
@@ -39,6 +43,7 @@ memory_files depot = files_in depot.places.items
 abbrev pub memory_notes : MemoryDepot → List ℕ → ℕ → DiskNotes
 memory_notes depot = notes_in depot.room depot.places.items
 
+-- the file was opened or laid down before
 abbrev pub has_place : MemoryDepot → List ℕ → ℕ → Type 0
 has_place depot dir file = position_or_len (is_at dir file) depot.places.items < length depot.places.items
 
@@ -46,9 +51,11 @@ has_place depot dir file = position_or_len (is_at dir file) depot.places.items <
 abbrev pub depot_room : MemoryDepot → Room
 depot_room depot = depot.room
 
+-- what is kept of the depot's openings
 abbrev pub depot_tally : MemoryDepot → Tally
 depot_tally depot = depot.failures
 
+-- how often it has failed
 abbrev pub depot_faults : MemoryDepot → ℕ
 depot_faults depot = depot.failures.faults
 

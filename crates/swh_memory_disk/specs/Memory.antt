@@ -16,15 +16,19 @@ memory_file disk = kept_file disk.base.items disk.ranges.items disk.longest disk
 abbrev pub resting : List ℕ → File
 resting bytes = record { base = bytes; ranges = []; longest = length bytes; seen = bytes; calls = [] }
 
+-- the room that it was made with
 abbrev pub disk_room : MemoryDisk → Room
 disk_room disk = disk.room
 
+-- the calls on record
 abbrev pub disk_calls : MemoryDisk → List MemoryRecord
 disk_calls disk = disk.calls.items
 
+-- which of its calls are to fail, and how many did
 abbrev pub disk_tally : MemoryDisk → Tally
 disk_tally disk = disk.failures
 
+-- how often it has failed
 abbrev pub disk_faults : MemoryDisk → ℕ
 disk_faults disk = disk.failures.faults
 
@@ -34,6 +38,7 @@ pub record DiskNotes : Type 0 where
   pub calls : List MemoryRecord
   pub tally : Tally
 
+-- what is kept of this disk
 abbrev pub notes_of : MemoryDisk → DiskNotes
 notes_of disk = record { room = disk.room; calls = disk.calls.items; tally = disk.failures }
 

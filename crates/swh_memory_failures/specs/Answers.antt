@@ -6,11 +6,13 @@ use Rattle.swh_outside.specs.declared.fault.Opened.{Opened}
 use Rattle.swh_outside.specs.declared.fault.Opened.TheVariants as opened
 use Rattle.swh_memory_failures.specs.Tally.{Tally, refused}
 
+-- the part failed, and did not want memory
 abbrev pub has_failed : {T : Type 0} → Result T OutFault → Bool
 has_failed (Ok x) = false
 has_failed (Err Failed) = true
 has_failed (Err Memory) = false
 
+-- the opening failed: something else than that nothing was there, or memory wanting
 abbrev pub opening_failed : {T : Type 0} → Opened T → Bool
 opening_failed (opened.Found x) = false
 opening_failed opened.NotFound = false
