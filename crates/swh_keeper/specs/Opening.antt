@@ -52,6 +52,11 @@ IsReadingFault Damaged = Unit {0}
 IsReadingFault Memory = Unit {0}
 IsReadingFault _ = ⊥
 
+-- P, unless a disk failed
+abbrev pub UnlessDiskFault : OpenWhy → Type 0 → Type 0
+UnlessDiskFault DiskFault P = Unit {0}
+UnlessDiskFault _ P = P
+
 -- an opening ends for one of these
 abbrev pub IsOpeningFault : OpenWhy → Type 0
 IsOpeningFault Made = ⊥
