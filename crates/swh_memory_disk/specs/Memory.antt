@@ -1,6 +1,6 @@
 -- What a disk in memory holds, its room, and what is kept of its calls.
-use Rattle.std.specs.Prelude.{ℕ, Bool, ◌+◌, ◌++◌, ◌&&◌, ◌||◌, not, nat_lt, nat_le, List, [], length}
-use Rattle.swh_outside.specs.Disk.{File, Call}
+use Rattle.std.specs.Prelude.{ℕ, Bool, ◌+◌, ◌++◌, ◌&&◌, ◌||◌, not, nat_lt, nat_le, List, [], length, if◌then◌else◌}
+use Rattle.swh_outside.specs.Disk.{File, Call, begun}
 use Rattle.swh_memory_disk.specs.Kept.{kept_file}
 use Rattle.swh_memory_disk.specs.Record.{calls_in}
 use Rattle.swh_memory_failures.specs.Tally.{Tally, fresh, is_next_listed}
@@ -65,6 +65,10 @@ is_call_to_fail disk = is_next_listed (disk_tally disk) || not (has_call_room di
 -- the next call, a write of so many bytes at a place, is to fail
 abbrev pub is_write_to_fail : MemoryDisk → ℕ → ℕ → Bool
 is_write_to_fail disk at count = is_next_listed (disk_tally disk) || not (has_write_room disk at count)
+
+-- the file after a call that failed: it was begun where there was room for it
+abbrev pub begun_within : Bool → Call → File → File
+begun_within has_room call file = if has_room then begun call file else file
 
 -- the file after more calls that were begun
 abbrev pub with_calls : List Call → File → File

@@ -38,11 +38,11 @@ impl MemoryDisk {
     ghost use Rattle.swh_outside.specs.Faults.{HasCause};
     ghost use Rattle.swh_outside.specs.Files.{absent};
     ghost use Rattle.swh_memory_disk.specs.Memory.{memory_file, disk_room, disk_calls, disk_tally, disk_faults, resting, notes_of, new_notes};
-    ghost use Rattle.swh_memory_disk.specs.Memory.{has_call_room, has_write_room, is_call_to_fail, is_write_to_fail, with_calls};
+    ghost use Rattle.swh_memory_disk.specs.Memory.{has_call_room, has_write_room, is_call_to_fail, is_write_to_fail, with_calls, begun_within};
     ghost use Rattle.swh_memory_disk.specs.Record.{call_of, size_of, noted};
     ghost use Rattle.swh_memory_failures.specs.Tally.{fresh, tallied};
     ghost use Rattle.swh_memory_disk.specs.declared.record.MemoryCall.TheVariants.{Written};
-    ghost use Rattle.std.specs.Prelude.{◌+◌, ◌⊎◌, true, OnOk, OnErr, is_err};
+    ghost use Rattle.std.specs.Prelude.{◌+◌, ◌⊎◌, true, OnOk, OnErr, is_err, if◌then◌else◌};
 
     /// A disk with these bytes, all of them on it. Its calls with the listed numbers, from 0, will fail.
     pub fn new(
@@ -173,6 +173,7 @@ impl MemoryDisk {
         ensures same_room { disk_room self.new ≡ disk_room self.old }
         ensures ok { OnOk result (memory_file self.new ≡ with_calls (call_of call []) (memory_file self.old)) }
         ensures err { OnErr result ((memory_file self.new ≡ memory_file self.old) ⊎ (memory_file self.new ≡ with_calls (call_of call []) (memory_file self.old))) }
+        ensures left { OnErr result (memory_file self.new ≡ if has_call_room self.old then with_calls (call_of call []) (memory_file self.old) else memory_file self.old) }
         ensures cause { HasCause (disk_faults self.old) (disk_faults self.new) result }
     {
         let fails = self.failures.next_fails();
@@ -208,6 +209,8 @@ impl MemoryDisk {
         ensures same_room { disk_room self.new ≡ disk_room self.old }
         ensures ok { OnOk result (memory_file self.new ≡ begun (Write at bytes.now) (memory_file self.old)) }
         ensures err { OnErr result (IsBroken (Write at bytes.now) (memory_file self.old) (memory_file self.new)) }
+        ensures left { OnErr result (memory_file self.new
+            ≡ begun_within (has_write_room self.old at (length bytes.now)) (Write at bytes.now) (memory_file self.old)) }
         ensures fits { OnOk result (at + length bytes.now ≤ (disk_room self.new).bytes) }
         ensures cause { HasCause (disk_faults self.old) (disk_faults self.new) result }
     {
@@ -246,7 +249,7 @@ impl Disk for MemoryDisk {
     ghost use Rattle.swh_outside.specs.Disk.{IsReadAt, Runs, Sync, Write};
     ghost use Rattle.swh_outside.specs.Faults.{HasCause};
     ghost use Rattle.swh_memory_disk.specs.Memory.{memory_file, disk_room, disk_calls, disk_tally, disk_faults};
-    ghost use Rattle.swh_memory_disk.specs.Memory.{has_call_room, has_write_room, is_call_to_fail, is_write_to_fail};
+    ghost use Rattle.swh_memory_disk.specs.Memory.{has_call_room, has_write_room, is_call_to_fail, is_write_to_fail, begun_within};
     ghost use Rattle.swh_memory_disk.specs.Record.{noted};
     ghost use Rattle.swh_memory_failures.specs.Tally.{tallied};
     ghost use Rattle.swh_memory_disk.specs.declared.record.MemoryCall.TheVariants.{Length, Read, Written, Synced};
@@ -308,6 +311,10 @@ impl Disk for MemoryDisk {
         ensures runs { Runs (Write at bytes.now ∷ []) (memory_file self.old) (memory_file self.new) result }
         ensures cause { HasCause (disk_faults self.old) (disk_faults self.new) result }
 
+        // A write that fails changes no byte that a read gives.
+        ensures left { OnErr result (memory_file self.new
+            ≡ begun_within (has_write_room self.old at (length bytes.now)) (Write at bytes.now) (memory_file self.old)) }
+
         ensures fails { is_err result ≡ is_write_to_fail self.old at (length bytes.now) }
         ensures counted { disk_tally self.new ≡ tallied (is_err result) (disk_tally self.old) }
         ensures noted { disk_calls self.new ≡ noted (has_write_room self.old at (length bytes.now)) (disk_calls self.old)
@@ -325,6 +332,7 @@ impl Disk for MemoryDisk {
     fn sync(&mut self) -> Result<(), Failed>
         ensures runs { Runs (Sync ∷ []) (memory_file self.old) (memory_file self.new) result }
         ensures cause { HasCause (disk_faults self.old) (disk_faults self.new) result }
+        ensures left { OnErr result (memory_file self.new ≡ begun_within (has_call_room self.old) Sync (memory_file self.old)) }
 
         ensures fails { is_err result ≡ is_call_to_fail self.old }
         ensures counted { disk_tally self.new ≡ tallied (is_err result) (disk_tally self.old) }
