@@ -12,7 +12,7 @@ has_failed (Ok x) = false
 has_failed (Err Failed) = true
 has_failed (Err Memory) = false
 
--- the opening failed: something else than that nothing was there, or memory wanting
+-- the opening failed, and neither was nothing there, nor was memory wanting
 abbrev pub opening_failed : {T : Type 0} → Opened T → Bool
 opening_failed (opened.Found x) = false
 opening_failed opened.NotFound = false
