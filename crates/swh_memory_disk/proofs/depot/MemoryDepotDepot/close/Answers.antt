@@ -1,4 +1,4 @@
-use Rattle.std.proofs.Common.{rules, ◌≡◌, List, length, ℕ, ◌∙◌, ap}
+use Rattle.std.proofs.Common.{rules, ◌≡◌, List, length, ◌∙◌, ap}
 use Rattle.std.proofs.lemmas.List.{with_items_is}
 use Rattle.swh_memory_disk.specs.InPlace.{notes_in}
 use Rattle.swh_memory_disk.specs.declared.place.Place.{Place}

@@ -1,7 +1,7 @@
-use Rattle.std.proofs.Common.{◌≡◌, ◌++◌, ◌∷◌, [], List, ℕ, refl, sym, ◌∙◌, ap, arith}
+use Rattle.std.proofs.Common.{List, ◌∙◌, ap, arith}
 use Rattle.swh_outside.specs.Disk.{Call}
 use Rattle.swh_memory_disk.specs.Kept.{kept_file}
-use Rattle.swh_memory_disk.specs.Record.{calls_in, sizes_of, call_of}
+use Rattle.swh_memory_disk.specs.Record.{calls_in, sizes_of}
 use Rattle.swh_memory_disk.specs.declared.record.MemoryRecord.{MemoryRecord}
 use Rattle.swh_memory_disk.proofs.RecordLaws.{calls_in-push_none, sizes_of-push}
 use Rattle.swh_memory_disk.proofs.disk.MemoryDisk.note.Goals as goal

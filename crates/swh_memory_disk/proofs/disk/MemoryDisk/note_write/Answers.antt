@@ -1,7 +1,6 @@
-use Rattle.std.proofs.Common.{rules, ◌≡◌, ◌+◌, ◌++◌, ◌∷◌, [], List, ℕ, length, max, reverse, refl, sym, ◌∙◌, ap, arith}
+use Rattle.std.proofs.Common.{rules, ◌≡◌, ◌+◌, ◌++◌, ◌∷◌, [], List, ℕ, length, max, reverse, refl, ◌∙◌, ap, arith}
 use Rattle.std.proofs.lemmas.List.{reverse-append}
 use Rattle.swh_outside.specs.Disk.{Call, Write}
-use Rattle.swh_memory_disk.specs.Kept.{kept_file}
 use Rattle.swh_memory_disk.specs.Record.{calls_in, sizes_of}
 use Rattle.swh_memory_disk.specs.declared.record.MemoryRecord.{MemoryRecord}
 use Rattle.swh_memory_disk.specs.declared.record.MemoryCall.TheVariants.{Written}
