@@ -48,7 +48,11 @@ new_notes room = record { room = room; calls = []; tally = fresh [] }
 
 -- the same, with no failure so far
 abbrev pub reopened : DiskNotes → DiskNotes
-reopened notes = record { room = notes.room; calls = notes.calls; tally = record { failing = notes.tally.failing; calls = notes.tally.calls; faults = 0 } }
+reopened notes = record {
+  room = notes.room;
+  calls = notes.calls;
+  tally = record { failing = notes.tally.failing; calls = notes.tally.calls; faults = 0 };
+}
 
 -- one call more is within the room
 abbrev pub has_call_room : MemoryDisk → Bool

@@ -173,7 +173,8 @@ impl MemoryDisk {
         ensures same_room { disk_room self.new ≡ disk_room self.old }
         ensures ok { OnOk result (memory_file self.new ≡ with_calls (call_of call []) (memory_file self.old)) }
         ensures err { OnErr result ((memory_file self.new ≡ memory_file self.old) ⊎ (memory_file self.new ≡ with_calls (call_of call []) (memory_file self.old))) }
-        ensures left { OnErr result (memory_file self.new ≡ if has_call_room self.old then with_calls (call_of call []) (memory_file self.old) else memory_file self.old) }
+        ensures left { OnErr result (memory_file self.new
+            ≡ if has_call_room self.old then with_calls (call_of call []) (memory_file self.old) else memory_file self.old) }
         ensures cause { HasCause (disk_faults self.old) (disk_faults self.new) result }
     {
         let fails = self.failures.next_fails();
@@ -210,7 +211,8 @@ impl MemoryDisk {
         ensures ok { OnOk result (memory_file self.new ≡ begun (Write at bytes.now) (memory_file self.old)) }
         ensures err { OnErr result (IsBroken (Write at bytes.now) (memory_file self.old) (memory_file self.new)) }
         ensures left { OnErr result (memory_file self.new
-            ≡ begun_within (has_write_room self.old at (length bytes.now)) (Write at bytes.now) (memory_file self.old)) }
+            ≡ begun_within (has_write_room self.old at (length bytes.now)) (Write at bytes.now)
+            (memory_file self.old)) }
         ensures fits { OnOk result (at + length bytes.now ≤ (disk_room self.new).bytes) }
         ensures cause { HasCause (disk_faults self.old) (disk_faults self.new) result }
     {
@@ -313,7 +315,8 @@ impl Disk for MemoryDisk {
 
         // A write that fails changes no byte that a read gives.
         ensures left { OnErr result (memory_file self.new
-            ≡ begun_within (has_write_room self.old at (length bytes.now)) (Write at bytes.now) (memory_file self.old)) }
+            ≡ begun_within (has_write_room self.old at (length bytes.now)) (Write at bytes.now)
+            (memory_file self.old)) }
 
         ensures fails { is_err result ≡ is_write_to_fail self.old at (length bytes.now) }
         ensures counted { disk_tally self.new ≡ tallied (is_err result) (disk_tally self.old) }
@@ -332,7 +335,8 @@ impl Disk for MemoryDisk {
     fn sync(&mut self) -> Result<(), Failed>
         ensures runs { Runs (Sync ∷ []) (memory_file self.old) (memory_file self.new) result }
         ensures cause { HasCause (disk_faults self.old) (disk_faults self.new) result }
-        ensures left { OnErr result (memory_file self.new ≡ begun_within (has_call_room self.old) Sync (memory_file self.old)) }
+        ensures left { OnErr result (memory_file self.new
+            ≡ begun_within (has_call_room self.old) Sync (memory_file self.old)) }
 
         ensures fails { is_err result ≡ is_call_to_fail self.old }
         ensures counted { disk_tally self.new ≡ tallied (is_err result) (disk_tally self.old) }

@@ -109,7 +109,8 @@ impl Origins for MemoryOrigins {
         ensures path_later { (p : List ℕ) → origin_path_faults self.old p ≤ origin_path_faults self.new p }
         ensures cause { IsFailed result → Rose (origin_faults self.old) (origin_faults self.new) }
         ensures path_cause { IsFailed result → Rose (origin_path_faults self.old path.now) (origin_path_faults self.new path.now) }
-        ensures path_counted { IsFailed result → origin_path_faults self.new path.now ≡ one_more (origin_path_faults self.old path.now) }
+        ensures path_counted { IsFailed result
+            → origin_path_faults self.new path.now ≡ one_more (origin_path_faults self.old path.now) }
         ensures quiet { UnlessFailed result (origin_faults self.new ≡ origin_faults self.old) }
         ensures path_quiet { UnlessFailed result (origin_path_faults self.new path.now ≡ origin_path_faults self.old path.now) }
         ensures other_paths { (p : List ℕ) → p ≢ path.now → origin_path_faults self.new p ≡ origin_path_faults self.old p }
@@ -148,7 +149,8 @@ impl Origins for MemoryOrigins {
         ensures path_later { (p : List ℕ) → origin_path_faults self.old p ≤ origin_path_faults self.new p }
         ensures cause { IsFailed result → Rose (origin_faults self.old) (origin_faults self.new) }
         ensures path_cause { IsFailed result → Rose (origin_path_faults self.old path.now) (origin_path_faults self.new path.now) }
-        ensures path_counted { IsFailed result → origin_path_faults self.new path.now ≡ one_more (origin_path_faults self.old path.now) }
+        ensures path_counted { IsFailed result
+            → origin_path_faults self.new path.now ≡ one_more (origin_path_faults self.old path.now) }
         ensures quiet { UnlessFailed result (origin_faults self.new ≡ origin_faults self.old) }
         ensures path_quiet { UnlessFailed result (origin_path_faults self.new path.now ≡ origin_path_faults self.old path.now) }
         ensures other_paths { (p : List ℕ) → p ≢ path.now → origin_path_faults self.new p ≡ origin_path_faults self.old p }
@@ -168,15 +170,18 @@ impl Origins for MemoryOrigins {
         ensures inputs { origin_inputs self.new ≡ origin_inputs self.old }
         ensures counted { origin_tally self.new ≡ with_given_back (source_faults source) (origin_tally self.old) }
         ensures path_counted { 0 < source_faults source
-            → origin_path_faults self.new (source_path source) ≡ one_more (origin_path_faults self.old (source_path source)) }
+            → origin_path_faults self.new (source_path source)
+            ≡ one_more (origin_path_faults self.old (source_path source)) }
 
         ensures later { origin_faults self.old ≤ origin_faults self.new }
         ensures path_later { (p : List ℕ) → origin_path_faults self.old p ≤ origin_path_faults self.new p }
         ensures cause { 0 < source_faults source → Rose (origin_faults self.old) (origin_faults self.new) }
         ensures path_cause { 0 < source_faults source
-            → Rose (origin_path_faults self.old (source_path source)) (origin_path_faults self.new (source_path source)) }
+            → Rose (origin_path_faults self.old (source_path source))
+            (origin_path_faults self.new (source_path source)) }
         ensures quiet { source_faults source ≡ 0 → origin_faults self.new ≡ origin_faults self.old }
-        ensures path_quiet { source_faults source ≡ 0 → (p : List ℕ) → origin_path_faults self.new p ≡ origin_path_faults self.old p }
+        ensures path_quiet { source_faults source ≡ 0
+            → (p : List ℕ) → origin_path_faults self.new p ≡ origin_path_faults self.old p }
         ensures other_paths { (p : List ℕ) → p ≢ source_path source → has_origin_place self.old p
             → origin_path_faults self.new p ≡ origin_path_faults self.old p }
         ensures places { (p : List ℕ) → has_origin_place self.old p → has_origin_place self.new p }
@@ -191,15 +196,18 @@ impl Origins for MemoryOrigins {
         ensures inputs { origin_inputs self.new ≡ origin_inputs self.old }
         ensures counted { origin_tally self.new ≡ with_given_back (folder_faults folder) (origin_tally self.old) }
         ensures path_counted { 0 < folder_faults folder
-            → origin_path_faults self.new (folder_path folder) ≡ one_more (origin_path_faults self.old (folder_path folder)) }
+            → origin_path_faults self.new (folder_path folder)
+            ≡ one_more (origin_path_faults self.old (folder_path folder)) }
 
         ensures later { origin_faults self.old ≤ origin_faults self.new }
         ensures path_later { (p : List ℕ) → origin_path_faults self.old p ≤ origin_path_faults self.new p }
         ensures cause { 0 < folder_faults folder → Rose (origin_faults self.old) (origin_faults self.new) }
         ensures path_cause { 0 < folder_faults folder
-            → Rose (origin_path_faults self.old (folder_path folder)) (origin_path_faults self.new (folder_path folder)) }
+            → Rose (origin_path_faults self.old (folder_path folder))
+            (origin_path_faults self.new (folder_path folder)) }
         ensures quiet { folder_faults folder ≡ 0 → origin_faults self.new ≡ origin_faults self.old }
-        ensures path_quiet { folder_faults folder ≡ 0 → (p : List ℕ) → origin_path_faults self.new p ≡ origin_path_faults self.old p }
+        ensures path_quiet { folder_faults folder ≡ 0
+            → (p : List ℕ) → origin_path_faults self.new p ≡ origin_path_faults self.old p }
         ensures other_paths { (p : List ℕ) → p ≢ folder_path folder → has_origin_place self.old p
             → origin_path_faults self.new p ≡ origin_path_faults self.old p }
         ensures places { (p : List ℕ) → has_origin_place self.old p → has_origin_place self.new p }
