@@ -43,6 +43,12 @@ seen-push seen seen' key name names names' is key_is names_are updates n =
 pub seen_there : (seen : BTreeSet (List ℕ)) (key : List ℕ) (name : Name) (names : List Name) → IsSeen seen names → key ≡ name_key name → contains keys_cmp seen key ≡ true → Contains names name
 seen_there seen key name names is key_is t = (is name).0 (subst (λ (k : List ℕ). contains keys_cmp seen k ≡ true) key_is t)
 
+pub not_seen : (seen : BTreeSet (List ℕ)) (key : List ℕ) (name : Name) (names : List Name) → IsSeen seen names → key ≡ name_key name → contains keys_cmp seen key ≡ false → Contains names name → ⊥
+not_seen seen key name names is key_is f listed =
+    let t : contains keys_cmp seen key ≡ true = subst (λ (k : List ℕ). contains keys_cmp seen k ≡ true) (sym key_is) ((is name).1 listed) in
+    let e : true ≡ false = sym t ∙ f in
+    cc
+
 pub may_keep : (l l' : List Name) (x n : Name) → MayGain l l' x → Contains l n → Contains l' n
 may_keep l l' x n (inl same) h = subst (λ (k : List Name). Contains k n) (sym same) h
 may_keep l l' x n (inr more) h = subst (λ (k : List Name). Contains k n) (sym more) (Contains-append_left l (x ∷ []) n h)

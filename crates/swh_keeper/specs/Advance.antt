@@ -12,6 +12,7 @@ use Rattle.swh_keeper.specs.declared.replayed.Replayed.{Replayed}
 abbrev pub archive_of : Replayed → Archive
 archive_of r = record { bodies = r.bodies; origins = r.visits }
 
+-- What carrying an event out in memory asks of it.
 abbrev pub MayAdvance : Replayed → EventKind → Type 0
 MayAdvance r (Batch entries) = AllByRecursion IsGood entries × AreNew r.bodies entries
 MayAdvance r (Open origin kind date) = Unit {0}
@@ -23,5 +24,6 @@ pub record Advances (old : Replayed) (e : Event) (new : Replayed) : Type 0 where
   pub store_end : new.store_end ≡ old.store_end
   pub ledger_end : new.ledger_end ≡ old.ledger_end
 
+-- Nothing in memory changed.
 pub record IsSameReplayed (old new : Replayed) : Type 0 where
   pub same : new ≡ old

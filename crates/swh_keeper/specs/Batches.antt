@@ -8,6 +8,7 @@ use Rattle.swh_model.specs.Step.{added}
 use Rattle.swh_model.specs.Judge.{fresh}
 use Rattle.swh_keeper.specs.declared.fresh.Split.{Split}
 
+-- the first, or else the second
 abbrev pub or_else : Option (List ℕ) → Option (List ℕ) → Option (List ℕ)
 or_else (Some x) o = Some x
 or_else None o = o
@@ -16,6 +17,7 @@ or_else None o = o
 abbrev pub either : Bodies → Bodies → Name → Option (List ℕ)
 either first second n = or_else (body_of first n) (body_of second n)
 
+-- The entries that are not held, each once, and the same as a map.
 pub record IsSplit (bodies : Bodies) (entries : List Entry) (split : Split) : Type 0 where
   pub entries_are : split.fresh.items ≡ fresh bodies entries
   pub map_is : split.added ≡ added finite.empty split.fresh.items

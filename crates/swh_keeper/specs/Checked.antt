@@ -10,6 +10,7 @@ use Rattle.swh_model.specs.Archive.{Archive, Bodies, Origins}
 use Rattle.swh_model.specs.Step.{IsGoodAndNamed, MayAdd, MayMark, May_kind, added, marked, after_kind}
 use Rattle.swh_model.specs.Stands.{bare, bare_kind}
 
+-- the archive of these bodies and visits
 abbrev pub archive_of : Bodies → Origins → Archive
 archive_of bodies origins = record { bodies = bodies; origins = origins }
 
@@ -27,10 +28,12 @@ module _ (id_of : Kind → List ℕ → List ℕ) where
   abbrev pub CannotBeMade : Entry → Type 0
   CannotBeMade given = (e : Entry) → bare e ≡ bare given → IsGoodAndNamed id_of e → length e.body ≤ body_limit → ⊥
 
+  -- The entries are the given ones up to the kids, and are good and named.
   pub record AreRemade (given es : List Entry) : Type 0 where
     pub alike : AreAlikeEntries es given
     pub good : AllByRecursion (IsGoodAndNamed id_of) es
 
+  -- No entries that are the given ones up to the kids are good, named and within the limit of a body.
   abbrev pub CannotAllBeMade : List Entry → Type 0
   CannotAllBeMade given = (es : List Entry) → AreAlikeEntries es given → AllByRecursion (IsGoodAndNamed id_of) es → AllByRecursion (λ e. length e.body ≤ body_limit) es → ⊥
 
@@ -40,6 +43,7 @@ module _ (id_of : Kind → List ℕ → List ℕ) where
     pub may : MayAdd id_of old es
     pub now : new ≡ added old es
 
+  -- No entries that are the given ones up to the kids may be added.
   abbrev pub MayNotBeAdded : Bodies → List Entry → Type 0
   MayNotBeAdded old given = (es : List Entry) → AreAlikeEntries es given → MayAdd id_of old es → ⊥
 
@@ -49,6 +53,7 @@ module _ (id_of : Kind → List ℕ → List ℕ) where
     pub may : May_kind id_of old by what
     pub now : new ≡ after_kind old by what
 
+  -- Nothing that is the given up to the kids may happen.
   abbrev pub MayNotHappen : Archive → ℕ → EventKind → Type 0
   MayNotHappen old by given = (what : EventKind) → bare_kind what ≡ bare_kind given → May_kind id_of old by what → ⊥
 

@@ -22,6 +22,7 @@ pub record IsFirstOf (Passes : Which → ℕ → Type 0) (limit : Which × ℕ) 
   pub passes : Passes limit.0 limit.1
   pub before_it : (w : Which) (n : ℕ) → which_rank w < which_rank limit.0 → Passes w n → ⊥
 
+-- No number passes its limit.
 abbrev pub NonePasses : (Which → ℕ → Type 0) → Type 0
 NonePasses Passes = (w : Which) (n : ℕ) → Passes w n → ⊥
 
@@ -32,6 +33,7 @@ pub record AreLengths (h : List Event) (event : EventKind) (store_end run end re
   pub ledger : end + 1 ≡ ledger_length h
   pub record_is : record_length ≡ 6 + payload_length event
 
+-- The visit of this number stands in the list.
 abbrev pub IsAt : List Visit → ℕ → Visit → Type 0
 IsAt visits number v = (0 < number) × (visit_at visits number ≡ Some v)
 
@@ -42,6 +44,7 @@ IsVisitRefusal visits by number (NotYours other) = (v : Visit) × IsAt visits nu
 IsVisitRefusal visits by number (Ended last) = (v : Visit) × IsAt visits number v × (v.by ≡ by) × (last ≡ last_status v.statuses) × IsFinal last
 IsVisitRefusal visits by number _ = ⊥
 
+-- The visit is there, was opened by this one, and has not ended.
 pub record MayBeMarked (visits : List Visit) (by number : ℕ) : Type 0 where
   pub visit : Visit
   pub there : IsAt visits number visit

@@ -17,6 +17,7 @@ use Rattle.swh_keeper.specs.declared.replayed.Replayed.{Replayed}
 use Rattle.swh_keeper.specs.Planned.{IsReplayOf, IsInFiles}
 use Rattle.swh_keeper.specs.Kept.{AreInDoubt}
 
+-- the run that an event adds to the store, if it adds one
 abbrev pub run_written : EventKind → Option (List ℕ)
 run_written (Batch entries) = Some (coded_run entries)
 run_written (Open origin kind date) = None
@@ -26,6 +27,7 @@ run_written (Mark origin visit status snapshot) = None
 abbrev pub written : ℕ → Event → segment.Event
 written at e = record { entry = record { kind = event_byte e.what; payload = payload_of at e }; run = run_written e.what }
 
+-- the events as the two files have them, from this place of the store on
 abbrev pub all_written : ℕ → List Event → List segment.Event
 all_written at [] = []
 all_written at (e ∷ h) = written at e ∷ all_written (at + length (run_of e.what)) h
@@ -35,6 +37,7 @@ pub record AreSettledFor (ledger store : File) (h : List Event) (store_end ledge
   pub settled : segment.AreSettled (files_of ledger store) (all_written 0 h) store_end ledger_end
   pub codable : AreCodable 0 h
 
+-- what holds of the fields of a keeper
 pub record IsKeeping (id_of : Kind → List ℕ → List ℕ) (tells : Type 0) (ledger store : File) (r : Replayed) (h : List Event) (wounded : Option ℕ) : Type 0 where
   pub history : IsHistory id_of h
   pub in_files : IsInFiles r

@@ -23,6 +23,7 @@ pub record Kept (D : Type 0) : Type 0 where
   pub history : List Event
   pub wounded : Option ℕ
 
+-- how a keeper as contracts see it is told apart from another
 abbrev pub kept_code : {D : Type 0} → Coded D → Coded (Kept D)
 kept_code {D} d =
     code_by (D × (D × (List Event × Option ℕ))) (coded× d (coded× d (coded× (coded_list an_event.the_row.coded) (coded_option coded_ℕ))))
@@ -58,6 +59,7 @@ pub record IsJudgedAgainst {D : Type 0} (old : Kept D) (by : ℕ) (wish : EventK
   pub verdict : IsVerdict old.history by wish (Err cause)
   pub same : new ≡ old
 
+-- A disk failed: the history stays, and the number of the event is kept.
 pub record IsDiskFaulted {D : Type 0} (old new : Kept D) : Type 0 where
   pub before_it : old.wounded ≡ None
   pub history : new.history ≡ old.history

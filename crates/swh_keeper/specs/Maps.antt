@@ -13,12 +13,15 @@ use Rattle.swh_model.specs.declared.event.Visit.{Visit}
 use Rattle.swh_model.specs.Archive.{Bodies, Origins, body_of}
 use Rattle.swh_model.specs.Step.{IsGood}
 
+-- how maps of bodies are told apart
 abbrev pub bodies_code : Coded Bodies
 bodies_code = finite.code a_name.the_row.coded (coded_list coded_ℕ)
 
+-- what an entry in memory says: a name and its body
 abbrev pub named_body : List ℕ × Entry → Name × List ℕ
 named_body p = (p.1.name, p.1.body)
 
+-- the map of the entries in memory
 abbrev pub bodies_of : List (List ℕ × Entry) → Bodies
 bodies_of es = finite.from_entries (map named_body es)
 
@@ -37,12 +40,15 @@ pub record IsWithout (before now : Bodies) (n : Name) : Type 0 where
   pub gone : body_of now n ≡ None
   pub others : (q : Name) → q ≢ n → body_of now q ≡ body_of before q
 
+-- how maps of visits are told apart
 abbrev pub origins_code : Coded Origins
 origins_code = finite.code (coded_list coded_ℕ) (coded_list a_visit.the_row.coded)
 
+-- an origin's bytes and its visits
 abbrev pub with_visits : Vec ℕ × Vec Visit → List ℕ × List Visit
 with_visits p = (p.0.items, p.1.items)
 
+-- the map of the visits in memory
 abbrev pub origins_of : List (Vec ℕ × Vec Visit) → Origins
 origins_of es = finite.from_entries (map with_visits es)
 

@@ -13,6 +13,7 @@ use Rattle.swh_model.specs.Step.{IsHistory}
 use Rattle.swh_keeper.specs.declared.opening.OpenWhy.{OpenWhy}
 use Rattle.swh_keeper.specs.declared.opening.OpenWhy.TheVariants.{Made, Damaged, DiskFault, Memory}
 
+-- why an archive is not made, for why its two files are not
 abbrev pub make_why : MakeFault → OpenWhy
 make_why make.Made = Made
 make_why make.Disk = DiskFault
@@ -33,6 +34,7 @@ IsLeftOfMaking Made old new = new ≡ old
 IsLeftOfMaking DiskFault old new = IsCutShort old new
 IsLeftOfMaking _ old new = ⊥
 
+-- why an archive is not opened, for why a file is not read
 abbrev pub read_why : ReadFileFault → OpenWhy
 read_why read.Disk = DiskFault
 read_why read.Memory = Memory
@@ -49,6 +51,11 @@ IsReadingFault DiskFault = Unit {0}
 IsReadingFault Damaged = Unit {0}
 IsReadingFault Memory = Unit {0}
 IsReadingFault _ = ⊥
+
+-- P, unless a disk failed
+abbrev pub UnlessDiskFault : OpenWhy → Type 0 → Type 0
+UnlessDiskFault DiskFault P = Unit {0}
+UnlessDiskFault _ P = P
 
 -- an opening ends for one of these
 abbrev pub IsOpeningFault : OpenWhy → Type 0

@@ -7,6 +7,7 @@ use Rattle.swh_keeper.specs.declared.planning.PlanFault.TheVariants.{Refused, Me
 use Rattle.swh_keeper.specs.declared.fault.Refusal as refused
 use Rattle.swh_keeper.specs.declared.fault.Refusal.TheVariants as refusal
 
+-- the refusal for a judged cause
 abbrev pub refusal_of : No → refused.Refusal
 refusal_of (Limit which number) = refusal.Limit which number
 refusal_of (NoVisit have) = refusal.NoVisit have
@@ -16,6 +17,7 @@ refusal_of (NoSnapshot name) = refusal.NoSnapshot name
 refusal_of (NotClosed parent child) = refusal.NotClosed parent child
 refusal_of (Collision name) = refusal.Collision name
 
+-- the refusal for why there is no plan
 abbrev pub refusal_for : PlanFault → refused.Refusal
 refusal_for (Refused cause) = refusal_of cause
 refusal_for Memory = refusal.Memory false

@@ -77,6 +77,10 @@ pub fn add_event<D: Disk>(
     ensures store_later { D.faults store.old ≤ D.faults store.new }
     ensures ledger_later { D.faults ledger.old ≤ D.faults ledger.new }
     ensures cause { IsErrOf result DiskFailed → EitherRose (D.faults store.old) (D.faults store.new) (D.faults ledger.old) (D.faults ledger.new) }
+
+    // Where no disk failed, both counts are as they were.
+    ensures store_quiet { OnOk result (D.faults store.new ≡ D.faults store.old) }
+    ensures ledger_quiet { OnOk result (D.faults ledger.new ≡ D.faults ledger.old) }
 {
     let Planned {
         event,

@@ -47,7 +47,7 @@ impl<N: Namer, D: Disk> Keeper<N, D> {
     ghost use Rattle.swh_outside.specs.Files.{files_of, files_done};
     ghost use Rattle.swh_segment.specs.Making.{IsMade, IsNotMade, barriers, making_calls};
     ghost use Rattle.swh_model.specs.Stands.{StandsFor};
-    ghost use Rattle.swh_keeper.specs.Opening.{IsMakeFault, IsOpeningFault, IsLeftOfMaking, IsLeftFor, IsTheHistory, IsDamaged};
+    ghost use Rattle.swh_keeper.specs.Opening.{IsMakeFault, IsOpeningFault, IsLeftOfMaking, IsLeftFor, IsTheHistory, IsDamaged, UnlessDiskFault};
     ghost use Rattle.swh_keeper.specs.declared.opening.OpenWhy.TheVariants.{Made, NotMade, Damaged, DiskFault as DiskFaulted};
     ghost use Rattle.swh_model.specs.Archive.{body_of, visits_of};
     ghost use Rattle.swh_model.specs.Step.{replay};
@@ -78,6 +78,12 @@ impl<N: Namer, D: Disk> Keeper<N, D> {
             (λ keeper. D.faults store ≤ D.faults keeper.store) (λ fault. D.faults store ≤ D.faults fault.store) }
         ensures ledger_later { MatchResult result
             (λ keeper. D.faults ledger ≤ D.faults keeper.ledger) (λ fault. D.faults ledger ≤ D.faults fault.ledger) }
+
+        // Where no disk failed, both counts are as they were.
+        ensures store_quiet { MatchResult result (λ keeper. D.faults keeper.store ≡ D.faults store)
+            (λ fault. UnlessDiskFault fault.why (D.faults fault.store ≡ D.faults store)) }
+        ensures ledger_quiet { MatchResult result (λ keeper. D.faults keeper.ledger ≡ D.faults ledger)
+            (λ fault. UnlessDiskFault fault.why (D.faults fault.ledger ≡ D.faults ledger)) }
     {
         made_is_empty();
         match make_archive(&mut store, &mut ledger) {
@@ -126,6 +132,12 @@ impl<N: Namer, D: Disk> Keeper<N, D> {
 
         ensures store_later { MatchResult result (λ keeper. D.faults store ≤ D.faults keeper.store) (λ fault. D.faults store ≤ D.faults fault.store) }
         ensures ledger_later { MatchResult result (λ keeper. D.faults ledger ≤ D.faults keeper.ledger) (λ fault. D.faults ledger ≤ D.faults fault.ledger) }
+
+        // Where no disk failed, both counts are as they were.
+        ensures store_quiet { MatchResult result (λ keeper. D.faults keeper.store ≡ D.faults store)
+            (λ fault. UnlessDiskFault fault.why (D.faults fault.store ≡ D.faults store)) }
+        ensures ledger_quiet { MatchResult result (λ keeper. D.faults keeper.ledger ≡ D.faults ledger)
+            (λ fault. UnlessDiskFault fault.why (D.faults fault.ledger ≡ D.faults ledger)) }
     {
         match read_archive(alloc, &namer, &mut store, &mut ledger) {
             Ok(checked) => {
@@ -217,6 +229,10 @@ impl<N: Namer, D: Disk> Keeper<N, D> {
         ensures store_later { D.faults self.old.store ≤ D.faults self.new.store }
         ensures ledger_later { D.faults self.old.ledger ≤ D.faults self.new.ledger }
         ensures cause { IsErrOf result DiskFault → EitherRose (D.faults self.old.store) (D.faults self.new.store) (D.faults self.old.ledger) (D.faults self.new.ledger) }
+
+        // Where the event is added, both counts are as they were.
+        ensures store_quiet { OnOk result (D.faults self.new.store ≡ D.faults self.old.store) }
+        ensures ledger_quiet { OnOk result (D.faults self.new.ledger ≡ D.faults self.old.ledger) }
     {
         if let Some(first) = self.wounded {
             return Err(Refusal::Wounded { first });

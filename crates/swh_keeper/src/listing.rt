@@ -42,6 +42,7 @@ impl Listing {
     pub fn add(&mut self, name: Name) -> Result<(), Memory>
         ensures gains { MayGain self.old self.new name }
         ensures there { OnOk result (Contains self.new name) }
+        ensures once { Contains self.old name → self.new ≡ self.old }
     {
         let key = key_of(&name);
         if self.seen.contains(&key) {

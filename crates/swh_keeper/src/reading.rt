@@ -14,7 +14,7 @@ ghost use Rattle.swh_model.specs.Step.{IsHistory};
 ghost use Rattle.swh_keeper.specs.Checked.{archive_of, MayNotHappen};
 ghost use Rattle.swh_keeper.specs.Planned.{IsReplayOf, IsInFiles};
 ghost use Rattle.swh_keeper.specs.Reading.{MayBeRun, IsBatchRead, HoldsAt, IsNoBatch, IsKindRead, IsNoKind, IsLonger, IsTaken, NoneMayHappen, IsReadSoFar, HasRuns, IsAtEnd, IsNoArchive};
-ghost use Rattle.swh_keeper.specs.Opening.{IsReadFault, IsReadingFault, IsOpeningFault, IsLeftFor, IsDamaged};
+ghost use Rattle.swh_keeper.specs.Opening.{IsReadFault, IsReadingFault, IsOpeningFault, IsLeftFor, IsDamaged, UnlessDiskFault};
 ghost use Rattle.swh_keeper.specs.declared.opening.OpenWhy.TheVariants.{NotMade, Damaged, DiskFault};
 
 use crate::bodies::HeldBodies;
@@ -67,6 +67,8 @@ fn read_batch<D: Disk>(
     ensures same { D.tells → D.file store.new ≡ D.file store.old }
     ensures later { D.faults store.old ≤ D.faults store.new }
     ensures cause { IsErrOf result DiskFault → Rose (D.faults store.old) (D.faults store.new) }
+    ensures quiet { OnOk result (D.faults store.new ≡ D.faults store.old) }
+    ensures quiet_fault { IfErr result (λ why. UnlessDiskFault why (D.faults store.new ≡ D.faults store.old)) }
 {
     if !may_be_run(parts, at, size) {
         return Ok(None);
@@ -97,6 +99,8 @@ fn read_kind<D: Disk>(
     ensures same { D.tells → D.file store.new ≡ D.file store.old }
     ensures later { D.faults store.old ≤ D.faults store.new }
     ensures cause { IsErrOf result DiskFault → Rose (D.faults store.old) (D.faults store.new) }
+    ensures quiet { OnOk result (D.faults store.new ≡ D.faults store.old) }
+    ensures quiet_fault { IfErr result (λ why. UnlessDiskFault why (D.faults store.new ≡ D.faults store.old)) }
 {
     match told {
         Told::Whole(what) => Ok(Some(KindRead { what, end: at })),
@@ -163,6 +167,8 @@ fn take_record<N: Namer, D: Disk>(
     ensures same { D.tells → D.file store.new ≡ D.file store.old }
     ensures later { D.faults store.old ≤ D.faults store.new }
     ensures cause { IsErrOf result DiskFault → Rose (D.faults store.old) (D.faults store.new) }
+    ensures quiet { OnOk result (D.faults store.new ≡ D.faults store.old) }
+    ensures quiet_fault { IfErr result (λ why. UnlessDiskFault why (D.faults store.new ≡ D.faults store.old)) }
 {
     let at = checked.replayed.store_end;
     let Some(read) = read_kind(alloc, store, size, at, told)? else {
@@ -199,6 +205,8 @@ fn read_next<N: Namer, D: Disk>(
     ensures same { D.tells → D.file store.new ≡ D.file store.old }
     ensures later { D.faults store.old ≤ D.faults store.new }
     ensures cause { IsErrOf result DiskFault → Rose (D.faults store.old) (D.faults store.new) }
+    ensures quiet { OnOk result (D.faults store.new ≡ D.faults store.old) }
+    ensures quiet_fault { IfErr result (λ why. UnlessDiskFault why (D.faults store.new ≡ D.faults store.old)) }
 {
     let place = checked.replayed.ledger_end as usize;
     let record = match next_record(alloc, &ledger[place..])? {
@@ -253,6 +261,8 @@ fn read_records<N: Namer, D: Disk>(
     ensures same { D.tells → D.file store.new ≡ D.file store.old }
     ensures later { D.faults store.old ≤ D.faults store.new }
     ensures cause { IsErrOf result DiskFault → Rose (D.faults store.old) (D.faults store.new) }
+    ensures quiet { OnOk result (D.faults store.new ≡ D.faults store.old) }
+    ensures quiet_fault { IfErr result (λ why. UnlessDiskFault why (D.faults store.new ≡ D.faults store.old)) }
 {
     let Some(_records) = split_magic(ledger) else {
         return Err(OpenWhy::Damaged);
@@ -290,6 +300,8 @@ fn read_store<N: Namer, D: Disk>(
     ensures same { D.tells → D.file store.new ≡ D.file store.old }
     ensures later { D.faults store.old ≤ D.faults store.new }
     ensures cause { IsErrOf result DiskFault → Rose (D.faults store.old) (D.faults store.new) }
+    ensures quiet { OnOk result (D.faults store.new ≡ D.faults store.old) }
+    ensures quiet_fault { IfErr result (λ why. UnlessDiskFault why (D.faults store.new ≡ D.faults store.old)) }
 {
     if !is_made(ledger) {
         return Err(OpenWhy::NotMade);
@@ -322,6 +334,12 @@ pub fn read_archive<N: Namer, D: Disk>(
     ensures store_later { D.faults store.old ≤ D.faults store.new }
     ensures ledger_later { D.faults ledger.old ≤ D.faults ledger.new }
     ensures cause { IsErrOf result DiskFault → EitherRose (D.faults store.old) (D.faults store.new) (D.faults ledger.old) (D.faults ledger.new) }
+
+    // Where no disk failed, both counts are as they were.
+    ensures store_quiet { OnOk result (D.faults store.new ≡ D.faults store.old) }
+    ensures ledger_quiet { OnOk result (D.faults ledger.new ≡ D.faults ledger.old) }
+    ensures store_quiet_fault { IfErr result (λ why. UnlessDiskFault why (D.faults store.new ≡ D.faults store.old)) }
+    ensures ledger_quiet_fault { IfErr result (λ why. UnlessDiskFault why (D.faults ledger.new ≡ D.faults ledger.old)) }
 {
     settle(store, ledger)?;
     let bytes = read_file(alloc, ledger)?;

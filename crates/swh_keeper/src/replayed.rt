@@ -1,3 +1,4 @@
+//! What a keeper has in memory of its archive.
 use crate::bodies::HeldBodies;
 use crate::visits::OriginVisits;
 

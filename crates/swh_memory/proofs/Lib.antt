@@ -1,4 +1,0 @@
-pub mod RangeLaws
-pub mod RecordLaws
-pub mod InPlaces
-pub mod Absent

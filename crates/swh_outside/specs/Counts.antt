@@ -6,6 +6,7 @@ use Rattle.swh_outside.specs.Firsts.{first_or}
 use Rattle.swh_outside.specs.declared.path_counts.PathCount.{PathCount}
 use Rattle.swh_outside.specs.declared.path_counts.PathCounts.{PathCounts}
 
+-- it is the count of this path
 abbrev pub is_of : List ℕ → PathCount → Bool
 is_of path count = bytes_eq (string_bytes count.path) path
 

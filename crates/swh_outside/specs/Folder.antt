@@ -5,6 +5,7 @@ use Rattle.std.specs.Cmp.Lexicographic.{slice_cmp}
 use Rattle.std.specs.FinMap as map
 use Rattle.swh_outside.specs.declared.folder.What.{What}
 
+-- an entry of a folder's list: its name, and what stands under it
 pub record Entry : Type 0 where
   pub name : List ℕ
   pub what : What
@@ -22,11 +23,13 @@ Tree = map.FinMap (slice_cmp nat_cmp) Standing
 abbrev pub nothing : Tree
 nothing = map.empty
 
+-- the bytes, where a file stands
 abbrev pub bytes_of : Option Standing → Option (List ℕ)
 bytes_of (Some (FileOf bytes)) = Some bytes
 bytes_of (Some (FolderOf entries)) = None
 bytes_of None = None
 
+-- the entries, where a folder stands
 abbrev pub entries_of : Option Standing → Option (List Entry)
 entries_of (Some (FileOf bytes)) = None
 entries_of (Some (FolderOf entries)) = Some entries

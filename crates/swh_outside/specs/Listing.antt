@@ -3,5 +3,6 @@ use Rattle.std.specs.Prelude.{string_bytes}
 use Rattle.swh_outside.specs.Folder.{Entry}
 use Rattle.swh_outside.specs.declared.folder.Item.{Item}
 
+-- an item as an entry of the folder's list
 abbrev pub listed : Item → Entry
 listed item = record { name = string_bytes item.name; what = item.what }

@@ -17,6 +17,7 @@ pub data Begun : Type 0 where
   FolderAt : List ℕ → Begun
   FileAt : List ℕ → ℕ → Begun
 
+-- where it was begun
 abbrev pub path_of : Begun → List ℕ
 path_of (FolderAt path) = path
 path_of (FileAt path at) = path

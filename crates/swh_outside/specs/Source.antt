@@ -26,5 +26,6 @@ pub record Heard : Type 0 where
   pub given : List ℕ
   pub ended : Bool
 
+-- what is heard of what is no source
 abbrev pub nothing_heard : Heard
 nothing_heard = record { left = []; given = []; ended = false }

@@ -9,14 +9,17 @@ pub record Event : Type 0 where
   pub entry : Record
   pub run : Option (List ℕ)
 
+-- the bytes of a run, of which there may be none
 abbrev pub bytes_of : Option (List ℕ) → List ℕ
 bytes_of None = []
 bytes_of (Some bytes) = bytes
 
+-- the records of events
 abbrev pub records : List Event → List Record
 records [] = []
 records (e ∷ h) = e.entry ∷ records h
 
+-- the bytes of all their runs
 abbrev pub runs : List Event → List ℕ
 runs [] = []
 runs (e ∷ h) = bytes_of e.run ++ runs h
@@ -27,6 +30,7 @@ pub record FilesStand (images : Images) (h : List Event) : Type 0 where
   pub rest : List ℕ
   pub store_begins : images 1 ≡ runs h ++ rest
 
+-- What a crash leaves stands for the events, with one more or without.
 abbrev pub with_or_without_event : List Event → Event → Images → Type 0
 with_or_without_event h e images = FilesStand images h ⊎ FilesStand images (h ++ e ∷ [])
 

@@ -26,6 +26,7 @@ abbrev pub clearing : Bool → List Call
 clearing true = write_calls 0 (0 ∷ [])
 clearing false = []
 
+-- the calls that clear the first byte, where that is needed, and then write the magic with a closed gate
 abbrev pub magic_calls : Bool → List Call
 magic_calls clears = clearing clears ++ (write_calls 1 magic_end ++ write_calls 0 (83 ∷ []))
 

@@ -1,5 +1,5 @@
 // How a ledger begins.
-ghost use Rattle.std.specs.Prelude.{◌≡◌, ◌≤◌, IfOk, IsErrOf};
+ghost use Rattle.std.specs.Prelude.{◌≡◌, ◌≤◌, IfOk, OnOk, IsErrOf};
 ghost use Rattle.swh_outside.specs.Faults.{Rose};
 ghost use Rattle.swh_segment.specs.Making.{IsMade, IsNotMade, needs_clearing};
 ghost use Rattle.swh_segment.specs.declared.fault.MakeFault.TheVariants.{Made, Disk};
@@ -15,6 +15,8 @@ pub fn read_beginning<D: Disk>(ledger: &mut D) -> Result<bool, MakeFault>
     ensures same { D.tells → D.file ledger.new ≡ D.file ledger.old }
     ensures later { D.faults ledger.old ≤ D.faults ledger.new }
     ensures cause { IsErrOf result Disk → Rose (D.faults ledger.old) (D.faults ledger.new) }
+    ensures quiet { OnOk result (D.faults ledger.new ≡ D.faults ledger.old) }
+    ensures made_quiet { IsErrOf result Made → D.faults ledger.new ≡ D.faults ledger.old }
 {
     let size = ledger.len()?;
     let mut first = [0; 1];

@@ -46,6 +46,12 @@ pub fn make<D: Disk>(store: &mut D, ledger: &mut D) -> Result<(), MakeFault>
     ensures store_later { D.faults store.old ≤ D.faults store.new }
     ensures ledger_later { D.faults ledger.old ≤ D.faults ledger.new }
     ensures cause { IsErrOf result Disk → EitherRose (D.faults store.old) (D.faults store.new) (D.faults ledger.old) (D.faults ledger.new) }
+
+    // Where no disk failed, both counts are as they were.
+    ensures store_quiet { OnOk result (D.faults store.new ≡ D.faults store.old) }
+    ensures ledger_quiet { OnOk result (D.faults ledger.new ≡ D.faults ledger.old) }
+    ensures made_store { IsErrOf result Made → D.faults store.new ≡ D.faults store.old }
+    ensures made_ledger { IsErrOf result Made → D.faults ledger.new ≡ D.faults ledger.old }
 {
     let clears = read_beginning(ledger)?;
     settle(store, ledger)?;

@@ -1,8 +1,8 @@
 //! The reading of a whole file, from a disk that may give fewer bytes than are asked.
-ghost use Rattle.std.specs.Prelude.{◌≡◌, ◌+◌, ◌≤◌, ◌<◌, ◌^◌, length, IfOk, IsErrOf};
+ghost use Rattle.std.specs.Prelude.{◌≡◌, ◌+◌, ◌≤◌, ◌<◌, ◌^◌, length, IfOk, OnOk, IsErrOf};
 ghost use Rattle.swh_outside.specs.Faults.{HasCause, Rose};
 ghost use Rattle.swh_segment.specs.Reading.{IsFilled};
-ghost use Rattle.swh_segment.specs.declared.reading.ReadFileFault.TheVariants.{Disk as DiskFailed};
+ghost use Rattle.swh_segment.specs.declared.reading.ReadFileFault.TheVariants.{Disk as DiskFailed, Memory as OutOfMemory};
 
 use std::alloc::{AllocError, Global};
 use swh_outside::{Disk, Failed};
@@ -63,6 +63,8 @@ pub fn read_file<D: Disk>(alloc: Global, disk: &mut D) -> Result<Vec<u8>, ReadFi
     ensures same { D.tells → D.file disk.new ≡ D.file disk.old }
     ensures later { D.faults disk.old ≤ D.faults disk.new }
     ensures cause { IsErrOf result DiskFailed → Rose (D.faults disk.old) (D.faults disk.new) }
+    ensures quiet { OnOk result (D.faults disk.new ≡ D.faults disk.old) }
+    ensures memory_quiet { IsErrOf result OutOfMemory → D.faults disk.new ≡ D.faults disk.old }
 {
     let size = disk.len()?;
     if size > MOST_BYTES {

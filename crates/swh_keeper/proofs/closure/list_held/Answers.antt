@@ -14,3 +14,11 @@ loop-kid-preserved c =
           (item_there c.args.kids.now c.loop-kid.kid-index kid c.loop-kid-test.true is) (c.if-not-has.ensures.0 refl);
       all = all-more c.args.kids.now c.loop-kid.listing c.add.new.self c.loop-kid.kid-index kid c.loop-kid-test.true is c.loop-kid.invariant.all c.in_ok-add.ensures.gains c.in_ok-add.ensures.there;
     }
+
+pub returns-in_err-add-clause-gains : goal.returns-in_err-add-clause-gains
+returns-in_err-add-clause-gains c =
+    let none : Name = record { kind = Content; id = [] } in
+    let kid = get_or c.args.kids.now c.loop-kid.kid-index none in
+    let is = item_is c.args.kids.now c.loop-kid.kid-index none kid c.loop-kid-test.true in
+    gains-more c.args.bodies.now c.args.kids.now c.args.listing.now c.loop-kid.listing c.add.new.self kid c.loop-kid.invariant.gains c.in_err-add.ensures.gains
+    (item_there c.args.kids.now c.loop-kid.kid-index kid c.loop-kid-test.true is) (c.if-not-has.ensures.0 refl)

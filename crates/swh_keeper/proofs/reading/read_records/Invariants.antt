@@ -9,6 +9,7 @@ invariant-records g l = record {
   runs : g.D.Disk.tells → HasRuns (g.D.Disk.file l.fn.store).seen l.checked;
   same : g.D.Disk.tells → g.D.Disk.file l.store ≡ g.D.Disk.file l.fn.store;
   later : g.D.Disk.faults l.fn.store ≤ g.D.Disk.faults l.store;
+  quiet : g.D.Disk.faults l.store ≡ g.D.Disk.faults l.fn.store;
 }
 
 abbrev pub decreases-records : goal.decreases-records

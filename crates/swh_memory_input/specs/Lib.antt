@@ -1,0 +1,6 @@
+pub mod Failing
+pub mod Inputs
+pub mod Outside
+pub mod Parts
+pub use Rattle.swh_memory_failures.specs.Answers
+pub use Rattle.swh_memory_failures.specs.Tally

@@ -1,0 +1,52 @@
+-- What the origins in memory hold, and what is kept of their calls.
+use Rattle.std.specs.Prelude.{ℕ, Bool, List, Option, Some, None, string_bytes}
+use Rattle.std.specs.Str.{bytes_eq}
+use Rattle.swh_outside.specs.Firsts.{first_or}
+use Rattle.swh_outside.specs.Counts.{count_at, is_counted}
+use Rattle.swh_memory_failures.specs.Tally.{Tally, fresh}
+use Rattle.swh_memory_input.specs.declared.input.Input.{Input}
+use Rattle.swh_memory_input.specs.declared.origins.MemoryOrigins.{MemoryOrigins}
+
+-- it stands at this path
+abbrev pub is_for : List ℕ → Input → Bool
+is_for path input = bytes_eq (string_bytes input.path) path
+
+-- its bytes, for an input that is there
+abbrev pub bytes_of : Input → Option (List ℕ)
+bytes_of input = Some input.bytes.items
+
+-- the bytes of the first input at a path
+abbrev pub input_at : List Input → List ℕ → Option (List ℕ)
+input_at inputs path = first_or (is_for path) bytes_of None inputs
+
+-- the greatest piece of the first input's source at a path, and which of its calls fail
+abbrev pub made_of : Input → Option (ℕ × Tally)
+made_of input = Some (input.piece, fresh input.failing.items)
+
+-- the same at a path, where an input stands
+abbrev pub made_at : List Input → List ℕ → Option (ℕ × Tally)
+made_at inputs path = first_or (is_for path) made_of None inputs
+
+-- the inputs that it was made with
+abbrev pub origin_inputs : MemoryOrigins → List Input
+origin_inputs origins = origins.inputs.items
+
+-- the bytes at each path
+abbrev pub origin_files : MemoryOrigins → List ℕ → Option (List ℕ)
+origin_files origins = input_at origins.inputs.items
+
+-- which of its openings are to fail, and how often it failed
+abbrev pub origin_tally : MemoryOrigins → Tally
+origin_tally origins = origins.failures
+
+-- how often it has failed
+abbrev pub origin_faults : MemoryOrigins → ℕ
+origin_faults origins = origins.failures.faults
+
+-- how often it has failed at each path
+abbrev pub origin_path_faults : MemoryOrigins → List ℕ → ℕ
+origin_path_faults origins = count_at origins.counts
+
+-- the path has a count of its own
+abbrev pub has_origin_place : MemoryOrigins → List ℕ → Type 0
+has_origin_place origins = is_counted origins.counts

@@ -1,0 +1,255 @@
+// Origins in memory.
+ghost use Rattle.std.specs.Prelude.{◌≡◌, ◌≢◌, ◌<◌, ◌≤◌, [], false, List, ℕ, None, Some, length, IfOk, string_bytes};
+ghost use Rattle.std.specs.List.{position_or_len};
+ghost use Rattle.swh_memory_input.specs.Outside.{is_for, input_at, made_at};
+ghost use Rattle.swh_memory_input.specs.Inputs.{source_left, source_given, source_ended, source_path, source_piece, source_tally, source_faults};
+
+use crate::{Input, MemoryFolder, MemorySource};
+use std::alloc::{AllocError, Global};
+use swh_memory_failures::Failures;
+use swh_outside::{Opened, Origins, PathCounts};
+
+/// Files outside, by their paths. No folder opens: such a call fails and is counted.
+#[derive(Drop)]
+pub struct MemoryOrigins {
+    alloc: Global,
+    inputs: Vec<Input>,
+    failures: Failures,
+    counts: PathCounts,
+}
+
+impl MemoryOrigins {
+    ghost use Rattle.swh_outside.specs.Faults.{one_more};
+    ghost use Rattle.swh_memory_input.specs.Outside.{origin_files, origin_inputs, origin_tally, origin_faults, origin_path_faults, has_origin_place};
+    ghost use Rattle.swh_memory_failures.specs.Tally.{fresh, refused};
+
+    /// Origins with these inputs. Of two at one path the first counts. Openings with the listed numbers, from 0, will
+    /// fail.
+    pub fn new(alloc: Global, inputs: Vec<Input>, failing: Vec<u64>) -> Self
+        ensures files { (path : List ℕ) → origin_files result path ≡ input_at inputs.items path }
+        ensures inputs { origin_inputs result ≡ inputs.items }
+        ensures failing { origin_tally result ≡ fresh failing.items }
+        ensures no_fault { origin_faults result ≡ 0 }
+        ensures no_path_fault { (path : List ℕ) → origin_path_faults result path ≡ 0 }
+    {
+        MemoryOrigins {
+            alloc,
+            inputs,
+            failures: Failures::at(failing),
+            counts: PathCounts::new(alloc),
+        }
+    }
+
+    /// How often it has failed, what it gave included once it is given back.
+    pub fn faults(&self) -> u64
+        ensures { result ≡ origin_faults self.now }
+    {
+        self.failures.count()
+    }
+
+    /// How often it has failed at a path.
+    pub fn path_faults(&self, path: &str) -> u64
+        ensures { result ≡ origin_path_faults self.now path.now }
+    {
+        self.counts.at(path)
+    }
+
+    // Counts a failure at a path.
+    fn refuse(&mut self, path: &str)
+        ensures files { (p : List ℕ) → origin_files self.new p ≡ origin_files self.old p }
+        ensures inputs { origin_inputs self.new ≡ origin_inputs self.old }
+        ensures counted { origin_tally self.new ≡ refused (origin_tally self.old) }
+        ensures later { origin_faults self.old ≤ origin_faults self.new }
+        ensures path_later { (p : List ℕ) → origin_path_faults self.old p ≤ origin_path_faults self.new p }
+        ensures path_rose { origin_path_faults self.new path.now ≡ one_more (origin_path_faults self.old path.now) }
+        ensures other_paths { has_origin_place self.old path.now → (p : List ℕ) → p ≢ path.now → origin_path_faults self.new p ≡ origin_path_faults self.old p }
+        ensures other_places { (p : List ℕ) → p ≢ path.now → has_origin_place self.old p → origin_path_faults self.new p ≡ origin_path_faults self.old p }
+        ensures places { (p : List ℕ) → has_origin_place self.old p → has_origin_place self.new p }
+    {
+        let _ = self.failures.refuse();
+        self.counts.raise(path);
+    }
+}
+
+impl Origins for MemoryOrigins {
+    ghost use Rattle.swh_outside.specs.Faults.{Rose, one_more};
+    ghost use Rattle.swh_outside.specs.Opened.{IfFound, IsNotFound, IsFailed, UnlessFailed, UnlessMemory};
+    ghost use Rattle.swh_memory_failures.specs.Answers.{opening_failed, with_given_back};
+    ghost use Rattle.swh_memory_input.specs.Failing.{folder_path, folder_faults};
+    ghost use Rattle.swh_memory_input.specs.Outside.{origin_files, origin_inputs, origin_tally, origin_faults, origin_path_faults, has_origin_place};
+    ghost use Rattle.swh_memory_failures.specs.Tally.{is_next_listed, tallied};
+
+    type S = MemorySource;
+
+    type F = MemoryFolder;
+
+    ghost tells = { Unit {0} };
+
+    ghost file_at = { origin_files };
+
+    ghost folder_at = { λ _ _. None };
+
+    ghost faults = { origin_faults };
+
+    ghost path_faults = { origin_path_faults };
+
+    ghost has_place = { has_origin_place };
+
+    fn file(&mut self, path: &str) -> Opened<MemorySource>
+        ensures found { IfFound result (λ source. origin_files self.old path.now ≡ Some (source_left source)) }
+        ensures absent { IsNotFound result → origin_files self.old path.now ≡ None }
+        ensures source_path { IfFound result (λ source. source_path source ≡ path.now) }
+        ensures no_fault { IfFound result (λ source. source_faults source ≡ 0) }
+        ensures made { IfFound result (λ source. made_at (origin_inputs self.old) path.now ≡ Some (source_piece source, source_tally source)) }
+        ensures nothing_given { IfFound result (λ source. source_given source ≡ []) }
+        ensures not_ended { IfFound result (λ source. source_ended source ≡ false) }
+
+        ensures same_files { (p : List ℕ) → origin_files self.new p ≡ origin_files self.old p }
+        ensures later { origin_faults self.old ≤ origin_faults self.new }
+        ensures path_later { (p : List ℕ) → origin_path_faults self.old p ≤ origin_path_faults self.new p }
+        ensures cause { IsFailed result → Rose (origin_faults self.old) (origin_faults self.new) }
+        ensures path_cause { IsFailed result → Rose (origin_path_faults self.old path.now) (origin_path_faults self.new path.now) }
+        ensures path_counted { IsFailed result
+            → origin_path_faults self.new path.now ≡ one_more (origin_path_faults self.old path.now) }
+        ensures quiet { UnlessFailed result (origin_faults self.new ≡ origin_faults self.old) }
+        ensures path_quiet { UnlessFailed result (origin_path_faults self.new path.now ≡ origin_path_faults self.old path.now) }
+        ensures other_paths { (p : List ℕ) → p ≢ path.now → origin_path_faults self.new p ≡ origin_path_faults self.old p }
+        ensures place { UnlessMemory result (has_origin_place self.new path.now) }
+        ensures places { (p : List ℕ) → has_origin_place self.old p → has_origin_place self.new p }
+
+        ensures fails { UnlessMemory result (opening_failed result ≡ is_next_listed (origin_tally self.old)) }
+        ensures inputs { origin_inputs self.new ≡ origin_inputs self.old }
+        ensures counted { origin_tally self.new ≡ tallied (opening_failed result) (origin_tally self.old) }
+    {
+        let fails = self.failures.next_fails();
+        if self.counts.place(path).is_err() {
+            return Opened::Memory;
+        }
+        if fails {
+            self.refuse(path);
+            return Opened::Failed;
+        }
+        let i = find_input(&self.inputs, path);
+        if i == self.inputs.len() {
+            return Opened::NotFound;
+        }
+        match open_input(self.alloc, &self.inputs, i, path) {
+            Ok(source) => Opened::Found(source),
+            Err(_) => Opened::Memory,
+        }
+    }
+
+    fn folder(&mut self, path: &str) -> Opened<MemoryFolder>
+        ensures fails { UnlessMemory result (IsFailed result) }
+        ensures inputs { origin_inputs self.new ≡ origin_inputs self.old }
+        ensures counted { origin_tally self.new ≡ tallied (opening_failed result) (origin_tally self.old) }
+
+        ensures same_files { (p : List ℕ) → origin_files self.new p ≡ origin_files self.old p }
+        ensures later { origin_faults self.old ≤ origin_faults self.new }
+        ensures path_later { (p : List ℕ) → origin_path_faults self.old p ≤ origin_path_faults self.new p }
+        ensures cause { IsFailed result → Rose (origin_faults self.old) (origin_faults self.new) }
+        ensures path_cause { IsFailed result → Rose (origin_path_faults self.old path.now) (origin_path_faults self.new path.now) }
+        ensures path_counted { IsFailed result
+            → origin_path_faults self.new path.now ≡ one_more (origin_path_faults self.old path.now) }
+        ensures quiet { UnlessFailed result (origin_faults self.new ≡ origin_faults self.old) }
+        ensures path_quiet { UnlessFailed result (origin_path_faults self.new path.now ≡ origin_path_faults self.old path.now) }
+        ensures other_paths { (p : List ℕ) → p ≢ path.now → origin_path_faults self.new p ≡ origin_path_faults self.old p }
+        ensures place { UnlessMemory result (has_origin_place self.new path.now) }
+        ensures places { (p : List ℕ) → has_origin_place self.old p → has_origin_place self.new p }
+    {
+        let _ = self.failures.next_fails();
+        if self.counts.place(path).is_err() {
+            return Opened::Memory;
+        }
+        self.refuse(path);
+        Opened::Failed
+    }
+
+    fn back(&mut self, source: MemorySource)
+        ensures same_files { (p : List ℕ) → origin_files self.new p ≡ origin_files self.old p }
+        ensures inputs { origin_inputs self.new ≡ origin_inputs self.old }
+        ensures counted { origin_tally self.new ≡ with_given_back (source_faults source) (origin_tally self.old) }
+        ensures path_counted { 0 < source_faults source
+            → origin_path_faults self.new (source_path source)
+            ≡ one_more (origin_path_faults self.old (source_path source)) }
+
+        ensures later { origin_faults self.old ≤ origin_faults self.new }
+        ensures path_later { (p : List ℕ) → origin_path_faults self.old p ≤ origin_path_faults self.new p }
+        ensures cause { 0 < source_faults source → Rose (origin_faults self.old) (origin_faults self.new) }
+        ensures path_cause { 0 < source_faults source
+            → Rose (origin_path_faults self.old (source_path source))
+            (origin_path_faults self.new (source_path source)) }
+        ensures quiet { source_faults source ≡ 0 → origin_faults self.new ≡ origin_faults self.old }
+        ensures path_quiet { source_faults source ≡ 0
+            → (p : List ℕ) → origin_path_faults self.new p ≡ origin_path_faults self.old p }
+        ensures other_paths { (p : List ℕ) → p ≢ source_path source → has_origin_place self.old p
+            → origin_path_faults self.new p ≡ origin_path_faults self.old p }
+        ensures places { (p : List ℕ) → has_origin_place self.old p → has_origin_place self.new p }
+    {
+        if source.faults() > 0 {
+            self.refuse(source.path());
+        }
+    }
+
+    fn back_folder(&mut self, folder: MemoryFolder)
+        ensures same_files { (p : List ℕ) → origin_files self.new p ≡ origin_files self.old p }
+        ensures inputs { origin_inputs self.new ≡ origin_inputs self.old }
+        ensures counted { origin_tally self.new ≡ with_given_back (folder_faults folder) (origin_tally self.old) }
+        ensures path_counted { 0 < folder_faults folder
+            → origin_path_faults self.new (folder_path folder)
+            ≡ one_more (origin_path_faults self.old (folder_path folder)) }
+
+        ensures later { origin_faults self.old ≤ origin_faults self.new }
+        ensures path_later { (p : List ℕ) → origin_path_faults self.old p ≤ origin_path_faults self.new p }
+        ensures cause { 0 < folder_faults folder → Rose (origin_faults self.old) (origin_faults self.new) }
+        ensures path_cause { 0 < folder_faults folder
+            → Rose (origin_path_faults self.old (folder_path folder))
+            (origin_path_faults self.new (folder_path folder)) }
+        ensures quiet { folder_faults folder ≡ 0 → origin_faults self.new ≡ origin_faults self.old }
+        ensures path_quiet { folder_faults folder ≡ 0
+            → (p : List ℕ) → origin_path_faults self.new p ≡ origin_path_faults self.old p }
+        ensures other_paths { (p : List ℕ) → p ≢ folder_path folder → has_origin_place self.old p
+            → origin_path_faults self.new p ≡ origin_path_faults self.old p }
+        ensures places { (p : List ℕ) → has_origin_place self.old p → has_origin_place self.new p }
+    {
+        if folder.faults() > 0 {
+            self.refuse(folder.path());
+        }
+    }
+}
+
+// The place of the first input at a path, or the number of inputs.
+fn find_input(inputs: &[Input], path: &str) -> usize
+    ensures first { result ≡ position_or_len (is_for path.now) inputs.now }
+    ensures within { result ≤ length inputs.now }
+{
+    for (i, input) in inputs.iter().enumerate() {
+        if input.is_for(path) {
+            return i;
+        }
+    }
+    inputs.len()
+}
+
+// A source of the first input at a path.
+fn open_input(
+    alloc: Global,
+    inputs: &[Input],
+    i: usize,
+    path: &str,
+) -> Result<MemorySource, AllocError>
+    requires found { i ≡ position_or_len (is_for path.now) inputs.now }
+    requires inside { i < length inputs.now }
+    ensures given { IfOk result (λ source. input_at inputs.now path.now ≡ Some (source_left source)) }
+    ensures path { IfOk result (λ source. source_path source ≡ path.now) }
+    ensures no_fault { IfOk result (λ source. source_faults source ≡ 0) }
+    ensures made { IfOk result (λ source. made_at inputs.now path.now ≡ Some (source_piece source, source_tally source)) }
+    ensures nothing_given { IfOk result (λ source. source_given source ≡ []) }
+    ensures not_ended { IfOk result (λ source. source_ended source ≡ false) }
+{
+    let input = &inputs[i];
+    let name = String::from_str(alloc, path)?;
+    let bytes = input.bytes.to_vec(alloc)?;
+    let failing = input.failing.to_vec(alloc)?;
+    Ok(MemorySource::new(name, bytes, input.piece, failing))
+}
