@@ -63,7 +63,11 @@ visit_added faults A a number old mid new o adds = record {
   are = (refl, subst (λ (n : ℕ). AllByRecursion (IsOwn A a n) adds.more) o.next adds.each);
 }
 
--- the calls of a visit that was not opened
+-- a visit that was not opened
+pub unopened_added : (A : List Entry → Type 0) (a : Attempt) (h h' : List Event) → h' ≡ h → AddsVisit A a h h'
+unopened_added A a h h' same = record { more = []; behind = same ∙ sym (append-nil h); are = tt }
+
+-- and its calls
 pub unopened_calls : {D : Type 0} (id : Kind → List ℕ → List ℕ) (disks : Disks D) (A : List Entry → Type 0) (a : Attempt) (old new : Kept D) → new.history ≡ old.history → MakesCalls id disks.file (IsEvent (opening a)) old new → MakesVisitCalls id disks A a old new
 unopened_calls id disks A a old new same calls more behind =
     let none = same ∙ sym (append-nil old.history) in
@@ -89,10 +93,10 @@ visit_calls id disks A a number old mid new o going adds first rest more behind 
 pub visit_stops : {D : Type 0} (id : Kind → List ℕ → List ℕ) (disks : Disks D) (A : List Entry → Type 0) (a : Attempt) (number : ℕ) (old mid new : Kept D) (why : LoadWhy) → IsOpened a old mid number → mid.wounded ≡ None
     → Adds disks.faults (IsEvent (opening a)) old mid → Adds disks.faults (IsOwn A a number) mid new → IsOpen new.history a number → StopsFor id disks.faults (IsOwn A a number) mid new why
     → Stops id disks A a old new (record { visit = number; why = why })
-visit_stops id disks A a number old mid new why o going first adds open stops = inr (record {
+visit_stops id disks A a number old mid new why o going first adds still stops = inr (record {
   visit = o.next;
   more = adds.more;
   opened = adds.behind ∙ ap (λ (t : List Event). t ++ adds.more) o.opened ∙ append_assoc old.history (opening a ∷ []) adds.more;
-  unended = open;
+  unended = still;
   stops = stops_further id disks.faults (IsOwn A a number) (IsEvent (opening a)) old mid new why o.before_it going first stops;
 })

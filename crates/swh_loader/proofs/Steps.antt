@@ -31,6 +31,10 @@ after_all-push a (x ∷ h) e = after_all-push (after a x) h e
 pub applied : (h : List Event) (by : ℕ) (wish : EventKind) (h' : List Event) (outcome : Outcome) → Applies h by wish h' outcome → replay h' ≡ after (replay h) (record { by = by; what = event_of (replay h) wish })
 applied h by wish h' outcome a = ap replay a.added_behind ∙ after_all-push empty_archive h a.event ∙ ap (after (replay h)) a.verdict.1
 
+-- the event that a wish was carried out as
+pub added_event : (h : List Event) (by : ℕ) (wish : EventKind) (h' : List Event) (outcome : Outcome) → Applies h by wish h' outcome → h' ≡ h ++ record { by = by; what = event_of (replay h) wish } ∷ []
+added_event h by wish h' outcome a = a.added_behind ∙ ap (λ (e : Event). h ++ e ∷ []) a.verdict.1
+
 get-last : (vs : List Visit) (v : Visit) → slice_get (vs ++ v ∷ []) (length vs) ≡ Some v
 get-last [] v = refl
 get-last (x ∷ vs) v = get-last vs v
