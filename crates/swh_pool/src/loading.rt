@@ -55,7 +55,7 @@ pub fn load_all<N: Namer, D: Disk, S: Source, G: Gate>(
     'jobs: for dated in jobs.iter_mut() {
         number = number.saturating_add(1);
         let turn = Turn {
-            worker,
+            worker: &*worker,
             job: number,
         };
         let outcome = load_one(alloc, namer, keeper, &turn, &mut dated.job, dated.date);

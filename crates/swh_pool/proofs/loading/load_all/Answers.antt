@@ -3,6 +3,7 @@ use Rattle.std.proofs.lemmas.List.{length-map, map-append}
 use Rattle.std.specs.List.{AllByRecursion}
 use Rattle.std.proofs.lemmas.List.Elements.{recursion_from_All}
 use Rattle.swh_outside.specs.Views.{disks, sources}
+use Rattle.swh_pool.specs.declared.dated.DatedJob.{DatedJob}
 use Rattle.swh_pool.specs.Loads.{HasHead, IsOneLoad, loading, one_load}
 use Rattle.swh_pool.specs.Stops.{AreStops, HaveNoDiskFault}
 use Rattle.swh_pool.proofs.JobLines.{lines_more, lines_all}
@@ -49,7 +50,7 @@ jobs-preserved g c =
     let loads = c.jobs.invariant.loads in
     let job = get_or c.jobs.jobs c.jobs.dated-index c.dated-item.result in
     let said = c.load_one-outcome.ensures in
-    let after = record { job = c.load_one-outcome.new.job; date = job.date } in
+    let after : DatedJob g.row.S.Denot = record { job = c.load_one-outcome.new.job; date = job.date } in
     let load = one_load job after c.load_one-outcome.result in
     let one : IsOneLoad (loading g.N.Namer.id_of c.args.worker.now.by (sources g.S.Source.tells g.S.Source.left g.S.Source.faults g.S.Source.path) (disks g.D.Disk.tells g.D.Disk.file g.D.Disk.faults)) load c.jobs.keeper c.load_one-outcome.new.keeper = record {
       adds = said.adds;
