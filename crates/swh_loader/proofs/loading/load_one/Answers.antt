@@ -1,7 +1,5 @@
-use Rattle.std.proofs.Common.{arith, rules, inl, ◌≤◌, ◌∷◌, [], refl, sym, ◌∙◌}
+use Rattle.std.proofs.Common.{inl, refl, sym, ◌∙◌}
 use Rattle.std.proofs.lemmas.Option.{none-some}
-use Rattle.std.specs.Prelude.{None}
-use Rattle.swh_base.specs.declared.visit.Status.TheVariants.{Created}
 use Rattle.swh_outside.specs.Views.{disks, sources}
 use Rattle.swh_loader.specs.Adding.{attempt}
 use Rattle.swh_loader.specs.Leaving.{AreAllowed}
@@ -13,7 +11,7 @@ pub returns-in-Ok-load_opened-clause-number : goal.returns-in-Ok-load_opened-cla
 returns-in-Ok-load_opened-clause-number g c = c.in-Ok.ensures.opened.next
 
 pub returns-in-Ok-load_opened-clause-visit : goal.returns-in-Ok-load_opened-clause-visit
-returns-in-Ok-load_opened-clause-visit g c = c.in-Ok-load_opened.ensures.leaves.marked ((Created, None) ∷ []) c.in-Ok.ensures.opened.visit
+returns-in-Ok-load_opened-clause-visit g c = c.in-Ok-load_opened.ensures.leaves.ended
 
 pub returns-in-Ok-load_opened-clause-on : goal.returns-in-Ok-load_opened-clause-on
 returns-in-Ok-load_opened-clause-on g c = goes_further c.args.keeper.now c.open_visit.new.keeper c.load_opened.new.keeper c.in-Ok.ensures.leaves.on c.in-Ok-load_opened.ensures.leaves.leaves.on
