@@ -9,7 +9,7 @@ use Rattle.swh_model.specs.declared.event.EventKind.TheVariants.{Batch, Open, Ma
 use Rattle.swh_model.specs.Step.{FitsStatus, MayMark, replay}
 use Rattle.swh_loader.specs.declared.end.End.{End}
 use Rattle.swh_loader.specs.declared.end.End.TheVariants.{Full, NotFound, Failed}
-use Rattle.swh_loader.specs.Adding.{Attempt, marking, IsEvent, AreAmong, IsBatchOf, IsBatchAmong, IsNoBatch, IsOwnKind, IsOwn}
+use Rattle.swh_loader.specs.Adding.{Attempt, marking, IsEvent, AreAmong, IsBatchOf, IsBatchAmong, IsOwnKind, IsOwn}
 use Rattle.swh_loader.specs.Ending.{before_end, last_of, statuses_of}
 use Rattle.swh_loader.specs.Visiting.{IsVisit, IsOpen, created, ongoing, visit_with}
 
@@ -32,9 +32,6 @@ kind_as A B origin number f (Mark other visit status snapshot) h = h
 -- where more batches are allowed
 pub own_as : (A B : List Entry → Type 0) (a : Attempt) (number : ℕ) → ((entries : List Entry) → A entries → B entries) → (e : Event) → IsOwn A a number e → IsOwn B a number e
 own_as A B a number f e h = record { by_one = h.by_one; kind = kind_as A B a.origin number f e.what h.kind }
-
-pub own_any : (A : List Entry → Type 0) (a : Attempt) (number : ℕ) (e : Event) → IsOwn IsNoBatch a number e → IsOwn A a number e
-own_any A a number e h = own_as IsNoBatch A a number (λ entries none. absurd none) e h
 
 -- a visit that was created, or goes on, is open
 pub created_open : (h : List Event) (a : Attempt) (number : ℕ) → IsVisit h a number created → IsOpen h a number

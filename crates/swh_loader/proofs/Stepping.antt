@@ -21,7 +21,7 @@ use Rattle.swh_loader.specs.declared.fault.LoadWhy.TheVariants.{Memory}
 use Rattle.swh_loader.specs.declared.end.End.{End}
 use Rattle.swh_loader.specs.declared.fault.LoadWhy.{LoadWhy}
 use Rattle.swh_loader.specs.declared.visiting.OpenVisit.{OpenVisit}
-use Rattle.swh_loader.specs.Adding.{Attempt, marking, AreAmong, IsEvent, IsBatchOf, IsBatchAmong, IsOwn}
+use Rattle.swh_loader.specs.Adding.{Attempt, marking, AreAmong, IsEvent, IsBatchOf, IsBatchAmong, IsNoBatch, IsOwn}
 use Rattle.swh_loader.specs.Calls.{kept_files}
 use Rattle.swh_loader.specs.Ending.{before_end, last_of, statuses_of}
 use Rattle.swh_loader.specs.Steps.{Leaves, LeavesVisit}
@@ -30,7 +30,7 @@ use Rattle.swh_loader.specs.Visiting.{IsVisit, IsOpen, GoesOn, IsMarked, attempt
 use Rattle.swh_loader.proofs.CallLaws.{calls_none, calls_one, calls_refused, calls_as, step_calls}
 use Rattle.swh_loader.proofs.Further.{adds_none, adds_one, adds_as, adds_further, stops_as, step_stops}
 use Rattle.swh_loader.proofs.Opens.{refused_same}
-use Rattle.swh_loader.proofs.Owns.{own_mark, own_as, batch_among, all_statuses}
+use Rattle.swh_loader.proofs.Owns.{own_mark, own_batch, own_as, batch_among, all_statuses}
 use Rattle.swh_loader.proofs.Refusals.{stops_at}
 use Rattle.swh_loader.proofs.Sends.{stays, goes_further}
 use Rattle.swh_loader.proofs.Steps.{goes_on}
@@ -127,7 +127,7 @@ module _ {D : Type 0} (id : Kind → List ℕ → List ℕ) (disks : Disks D) wh
   visit_err A visit old new why r is l = subst (LeavesVisit id disks A visit old new) (sym is) l
 
   -- a step of a visit that stops
-  pub visit_stopped : {T : Type 0} (A : List Entry → Type 0) (visit : OpenVisit) (old new : Kept D) (why : LoadWhy) (r : Result End LoadWhy) → r ≡ Err why
+  visit_stopped : {T : Type 0} (A : List Entry → Type 0) (visit : OpenVisit) (old new : Kept D) (why : LoadWhy) (r : Result End LoadWhy) → r ≡ Err why
       → Leaves id disks {T = T} (IsOwn A (attempt_of visit) visit.number) old new (Err why) → IsOpen new.history (attempt_of visit) visit.number → LeavesVisit id disks A visit old new r
   visit_stopped {T} A visit old new why r is l still = visit_err A visit old new why r is (record {
     leaves = leaves_err {T = T} (IsOwn A (attempt_of visit) visit.number) old new why (Err why) refl l;
@@ -167,14 +167,29 @@ module _ {D : Type 0} (id : Kind → List ℕ → List ℕ) (disks : Disks D) wh
   }
 
   -- a step of a visit, and then what ends it
-  pub visit_further : {T : Type 0} (A : List Entry → Type 0) (visit : OpenVisit) (a b c : Kept D) (t : T) (r : Result End LoadWhy) → a.wounded ≡ None
+  visit_further : {T : Type 0} (A : List Entry → Type 0) (visit : OpenVisit) (a b c : Kept D) (t : T) (r : Result End LoadWhy) → a.wounded ≡ None
       → Leaves id disks {T = T} (IsOwn A (attempt_of visit) visit.number) a b (Ok t) → LeavesVisit id disks A visit b c r → LeavesVisit id disks A visit a c r
   visit_further {T} A visit a b c t r begun first l = record { leaves = leaves_further {T = T} (IsOwn A (attempt_of visit) visit.number) a b c t r begun first l.leaves; ended = l.ended; unended = l.unended }
 
   -- a mark, and then what ends its visit
-  pub marked_further : {T : Type 0} (A : List Entry → Type 0) (visit : OpenVisit) (status : Status) (a b c : Kept D) (t : T) (r : Result End LoadWhy) → a.wounded ≡ None
-      → Leaves id disks {T = T} (IsEvent (marking (attempt_of visit) visit.number status None)) a b (Ok t) → LeavesVisit id disks A visit b c r → LeavesVisit id disks A visit a c r
-  marked_further {T} A visit status a b c t r begun first l = visit_further {T = T} A visit a b c t r begun (mark_own A visit status None a b (Ok t) first) l
+  pub marked_further : {T : Type 0} (A B : List Entry → Type 0) (visit : OpenVisit) (status : Status) (a b c : Kept D) (t : T) (r : Result End LoadWhy) → a.wounded ≡ None → ((entries : List Entry) → A entries → B entries)
+      → Leaves id disks {T = T} (IsEvent (marking (attempt_of visit) visit.number status None)) a b (Ok t) → LeavesVisit id disks A visit b c r → LeavesVisit id disks B visit a c r
+  marked_further {T} A B visit status a b c t r begun f first l = visit_further {T = T} B visit a b c t r begun (mark_own B visit status None a b (Ok t) first) (visit_as A B visit b c r f l)
+
+  -- batches of some objects are a visit's own events
+  sent_own : {T : Type 0} (objects : List Entry) (visit : OpenVisit) (old new : Kept D) (r : Result T LoadWhy) → Leaves id disks (IsBatchAmong visit.by objects) old new r → Leaves id disks (IsOwn (AreAmong objects) (attempt_of visit) visit.number) old new r
+  sent_own objects visit old new r l = leaves_as (IsBatchAmong visit.by objects) (IsOwn (AreAmong objects) (attempt_of visit) visit.number) old new r (own_batch (AreAmong objects) (attempt_of visit) visit.number objects (λ entries h. h)) l
+
+  -- objects that were not all sent
+  pub unsent : {T : Type 0} (objects : List Entry) (visit : OpenVisit) (old new : Kept D) (why : LoadWhy) (r : Result End LoadWhy) → r ≡ Err why
+      → Leaves id disks {T = T} (IsBatchAmong visit.by objects) old new (Err why) → IsOpen new.history (attempt_of visit) visit.number → LeavesVisit id disks (AreAmong objects) visit old new r
+  unsent {T} objects visit old new why r is l still = visit_stopped {T = T} (AreAmong objects) visit old new why r is (sent_own objects visit old new (Err why) l) still
+
+  -- objects that were, and then what ends their visit
+  pub sent_ended : {T : Type 0} (objects : List Entry) (visit : OpenVisit) (a b c : Kept D) (t : T) (r : Result End LoadWhy) → a.wounded ≡ None
+      → Leaves id disks {T = T} (IsBatchAmong visit.by objects) a b (Ok t) → LeavesVisit id disks IsNoBatch visit b c r → LeavesVisit id disks (AreAmong objects) visit a c r
+  sent_ended {T} objects visit a b c t r begun first l =
+      visit_further {T = T} (AreAmong objects) visit a b c t r begun (sent_own objects visit a b (Ok t) first) (visit_as IsNoBatch (AreAmong objects) visit b c r (λ entries none. absurd none) l)
 
   -- a batch among a load's objects, after those before it
   pub sent_further : {T : Type 0} (by : ℕ) (objects entries : List Entry) (a b c : Kept D) (r : Result T LoadWhy) → AreAmong objects entries → a.wounded ≡ None

@@ -1,8 +1,7 @@
 // One load: an input read, made, sent, and its visit ended.
-ghost use Rattle.std.specs.Prelude.{◌≡◌, ◌≤◌, ◌∷◌, [], Some, None, ℕ, IfOk, IfErr, IfSome, OnOk};
+ghost use Rattle.std.specs.Prelude.{◌≡◌, ◌∷◌, [], Some, None, ℕ, IfOk, IfErr, IfSome};
 ghost use Rattle.std.specs.Option.{option_copied};
 ghost use Rattle.swh_base.specs.Text.{IsRef};
-ghost use Rattle.swh_base.specs.declared.visit.Status.TheVariants.{Created};
 ghost use Rattle.swh_outside.specs.Views.{disks, sources};
 ghost use Rattle.swh_model.specs.Archive.{IsClosed};
 ghost use Rattle.swh_model.specs.Step.{snapshot_name, FitsStatus};
@@ -13,12 +12,12 @@ ghost use Rattle.swh_loader.specs.declared.end.BadInput.TheVariants.{Stream as B
 ghost use Rattle.swh_loader.specs.declared.end.End.TheVariants.{Full as EndFull, NotFound as EndNotFound};
 ghost use Rattle.swh_loader.specs.declared.end.End.TheVariants.{Failed as EndFailed};
 ghost use Rattle.swh_loader.specs.Adding.{AreAmong, IsNoBatch, attempt};
-ghost use Rattle.swh_loader.specs.Visiting.{IsVisit, GoesOn, attempt_of, created, ongoing};
+ghost use Rattle.swh_loader.specs.Visiting.{IsVisit, attempt_of, created, ongoing};
 ghost use Rattle.swh_loader.specs.Sending.{bodies_of};
-ghost use Rattle.swh_loader.specs.Ending.{AreMadeBy, IsSentEnd, IsEndOf, IsJobEnd, before_end, last_of, statuses_of};
+ghost use Rattle.swh_loader.specs.Ending.{AreMadeBy, IsSentEnd, IsEndOf, IsJobEnd, before_end, last_of};
 ghost use Rattle.swh_loader.specs.Reading.{IsRead, IsWholeInput};
-ghost use Rattle.swh_loader.specs.Leaving.{AreAllowed, AddsVisit, MakesVisitCalls, Stops, next_visit};
-ghost use Rattle.swh_loader.specs.Leaving.{IsHeldBack, IsSameSource, IsSameInput};
+ghost use Rattle.swh_loader.specs.Leaving.{AreAllowed, AddsVisit, MakesVisitCalls, EndsVisit, Stops, NoCountFell};
+ghost use Rattle.swh_loader.specs.Leaving.{IsHeldBack, IsSameSource, IsSameInput, IsSameJob};
 ghost use Rattle.swh_loader.specs.Steps.{LeavesVisit};
 
 use crate::end::{BadInput, End, Loaded, StreamWhy};
@@ -270,18 +269,11 @@ pub fn load_one<N: Namer, D: Disk, S: Source, G: Gate>(
 ) -> Result<Loaded, LoadFault>
     // A head is a ref.
     requires { IfSome job.old.head IsRef }
-    // The visit's number is the next of its origin.
-    ensures number { IfOk result (λ loaded. loaded.visit ≡ next_visit keeper.old.history job.old.origin) }
-    // It was created, and its end is the one told.
-    ensures visit { IfOk result (λ loaded. IsVisit keeper.new.history
-        (attempt turn.now.worker.now.by job.old.origin date) loaded.visit ((Created, None) ∷ statuses_of loaded.end)) }
+    // The visit is the next of its origin, and its end is the one told. Nothing that was held is lost.
+    ensures ended { IfOk result (EndsVisit (attempt turn.now.worker.now.by job.old.origin date) keeper.old keeper.new) }
     // The end says what the input means, and what is held.
     ensures end { IfOk result (λ loaded. IsJobEnd N.id_of job.old.head (sources S.tells S.left S.faults S.path)
         (bodies_of keeper.new) job.old.stream job.new.stream loaded.end) }
-    // Nothing that was held is lost.
-    ensures on { OnOk result (GoesOn keeper.old keeper.new) }
-    // No disk had failed.
-    ensures before_it { OnOk result (keeper.old.wounded ≡ None) }
 
     // Whatever it answers, it adds its visit's events alone, with nothing but what the input makes.
     ensures adds { AddsVisit (AreAllowed N.id_of job.old.head (sources S.tells S.left S.faults S.path) job.old.stream)
@@ -297,11 +289,8 @@ pub fn load_one<N: Namer, D: Disk, S: Source, G: Gate>(
         (AreAllowed N.id_of job.old.head (sources S.tells S.left S.faults S.path) job.old.stream)
         (attempt turn.now.worker.now.by job.old.origin date) keeper.old keeper.new) }
     // The counts of faults, and the job.
-    ensures store_later { D.faults keeper.old.store ≤ D.faults keeper.new.store }
-    ensures ledger_later { D.faults keeper.old.ledger ≤ D.faults keeper.new.ledger }
-    ensures same_origin { job.new.origin ≡ job.old.origin }
-    ensures same_head { job.new.head ≡ job.old.head }
-    ensures same_input { IsSameInput (sources S.tells S.left S.faults S.path) job.old.stream job.new.stream }
+    ensures later { NoCountFell (disks D.tells D.file D.faults) keeper.old keeper.new }
+    ensures same { IsSameJob (sources S.tells S.left S.faults S.path) job.old job.new }
 {
     let by = turn.worker.by;
     let number = match open_visit(alloc, keeper, by, &job.origin, date) {

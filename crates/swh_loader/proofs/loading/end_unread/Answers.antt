@@ -19,5 +19,5 @@ end_bad-requires-clause-visit g c κs within = c.in_ok-mark.ensures.marked creat
 
 pub returns-clause-leaves : goal.returns-clause-leaves
 returns-clause-leaves g c =
-    marked_further g.N.Namer.id_of (disks g.D.Disk.tells g.D.Disk.file g.D.Disk.faults) IsNoBatch c.args.visit.now Ongoing c.args.keeper.now c.mark.new.keeper c.end_bad.new.keeper tt c.end_bad.result c.requires.unwounded
+    marked_further g.N.Namer.id_of (disks g.D.Disk.tells g.D.Disk.file g.D.Disk.faults) IsNoBatch IsNoBatch c.args.visit.now Ongoing c.args.keeper.now c.mark.new.keeper c.end_bad.new.keeper tt c.end_bad.result c.requires.unwounded (λ entries h. h)
     c.in_ok-mark.ensures.leaves c.end_bad.ensures.leaves

@@ -8,7 +8,7 @@ use Rattle.swh_loader.specs.Sending.{bodies_of}
 use Rattle.swh_loader.specs.Visiting.{attempt_of, created}
 use Rattle.swh_loader.proofs.Leaves.{means_made, among_made, sent_end}
 use Rattle.swh_loader.proofs.Owns.{created_open, ongoing_open}
-use Rattle.swh_loader.proofs.Stepping.{visit_as, visit_memory, unmarked, marked_further}
+use Rattle.swh_loader.proofs.Stepping.{visit_memory, unmarked, marked_further}
 use Rattle.swh_loader.proofs.loading.load_found.Goals as goal
 
 pub returns-in_err-mark-clause-leaves : goal.returns-in_err-mark-clause-leaves
@@ -44,13 +44,10 @@ pub returns-in-Made-clause-leaves : goal.returns-in-Made-clause-leaves
 returns-in-Made-clause-leaves g c =
     let read = rw c.in-Made.is at c.in_ok-made.ensures.read in
     let whole = rw c.in-Made.is at c.in_ok-made.ensures.whole in
-    marked_further g.N.Namer.id_of (disks g.D.Disk.tells g.D.Disk.file g.D.Disk.faults) (AreMadeBy g.N.Namer.id_of c.args.head.now (sources g.S.Source.tells g.S.Source.left g.S.Source.faults g.S.Source.path) c.args.source.now) c.args.visit.now Ongoing c.args.keeper.now c.mark.new.keeper c.finish.new.keeper tt c.finish.result c.requires.unwounded
-    c.in_ok-mark.ensures.leaves
-    (visit_as g.N.Namer.id_of (disks g.D.Disk.tells g.D.Disk.file g.D.Disk.faults) (AreAmong c.in-Made.made.objects.items) (AreMadeBy g.N.Namer.id_of c.args.head.now (sources g.S.Source.tells g.S.Source.left g.S.Source.faults g.S.Source.path) c.args.source.now) c.args.visit.now c.mark.new.keeper c.finish.new.keeper c.finish.result
-    (among_made g.N.Namer.id_of c.args.head.now (sources g.S.Source.tells g.S.Source.left g.S.Source.faults g.S.Source.path) c.args.source.now c.in-Made.made whole read) c.finish.ensures.leaves)
+    marked_further g.N.Namer.id_of (disks g.D.Disk.tells g.D.Disk.file g.D.Disk.faults) (AreAmong c.in-Made.made.objects.items) (AreMadeBy g.N.Namer.id_of c.args.head.now (sources g.S.Source.tells g.S.Source.left g.S.Source.faults g.S.Source.path) c.args.source.now) c.args.visit.now Ongoing c.args.keeper.now c.mark.new.keeper c.finish.new.keeper tt c.finish.result c.requires.unwounded
+    (among_made g.N.Namer.id_of c.args.head.now (sources g.S.Source.tells g.S.Source.left g.S.Source.faults g.S.Source.path) c.args.source.now c.in-Made.made whole read) c.in_ok-mark.ensures.leaves c.finish.ensures.leaves
 
 pub returns-in-Bad-clause-leaves : goal.returns-in-Bad-clause-leaves
 returns-in-Bad-clause-leaves g c =
-    marked_further g.N.Namer.id_of (disks g.D.Disk.tells g.D.Disk.file g.D.Disk.faults) (AreMadeBy g.N.Namer.id_of c.args.head.now (sources g.S.Source.tells g.S.Source.left g.S.Source.faults g.S.Source.path) c.args.source.now) c.args.visit.now Ongoing c.args.keeper.now c.mark.new.keeper c.end_bad.new.keeper tt c.end_bad.result c.requires.unwounded
-    c.in_ok-mark.ensures.leaves
-    (visit_as g.N.Namer.id_of (disks g.D.Disk.tells g.D.Disk.file g.D.Disk.faults) IsNoBatch (AreMadeBy g.N.Namer.id_of c.args.head.now (sources g.S.Source.tells g.S.Source.left g.S.Source.faults g.S.Source.path) c.args.source.now) c.args.visit.now c.mark.new.keeper c.end_bad.new.keeper c.end_bad.result (λ entries none. absurd none) c.end_bad.ensures.leaves)
+    marked_further g.N.Namer.id_of (disks g.D.Disk.tells g.D.Disk.file g.D.Disk.faults) IsNoBatch (AreMadeBy g.N.Namer.id_of c.args.head.now (sources g.S.Source.tells g.S.Source.left g.S.Source.faults g.S.Source.path) c.args.source.now) c.args.visit.now Ongoing c.args.keeper.now c.mark.new.keeper c.end_bad.new.keeper tt c.end_bad.result c.requires.unwounded
+    (λ entries none. absurd none) c.in_ok-mark.ensures.leaves c.end_bad.ensures.leaves
