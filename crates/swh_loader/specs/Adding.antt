@@ -15,6 +15,7 @@ pub record Attempt : Type 0 where
   pub origin : List ℕ
   pub date : ℕ
 
+-- an attempt of this one, at this origin, on this date
 abbrev pub attempt : ℕ → List ℕ → ℕ → Attempt
 attempt by origin date = record { by = by; origin = origin; date = date }
 
