@@ -1,6 +1,6 @@
 //! Loads the input of an origin into an archive, as one visit.
 //! Stands on the keeper and the readers of inputs.
-//! Callers may rely on: how a load ends, that the visit of a load that stopped has no end, and the line that reports it.
+//! Callers may rely on: how a load ends, that a visit whose load stopped has no end, and the line that reports it.
 #![tactic(auto)]
 
 mod end;
@@ -11,6 +11,7 @@ mod pending;
 mod report;
 mod sending;
 mod stopping;
+mod turn;
 mod visiting;
 
 pub use end::{BadInput, End, Loaded, StreamWhy};
@@ -18,6 +19,7 @@ pub use fault::{LoadFault, LoadWhy};
 pub use job::Job;
 pub use loading::load_one;
 pub use report::{LINE_LIMIT, report_line};
+pub use turn::{Turn, Worker};
 
 #[cfg(test)]
 mod tests;

@@ -11,3 +11,4 @@ pub mod Listing
 pub mod Opened
 pub mod Sink
 pub mod Source
+pub mod Views
