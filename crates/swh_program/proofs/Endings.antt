@@ -2,7 +2,7 @@
 use Rattle.std.proofs.Common.{◌≡◌, ◌⊎◌, inl, inr, ⊎_elim, ℕ, ◌≤◌, Bool, true, false, Result, Ok, Err, List, [], ◌∷◌, ◌++◌, map, flat_map, refl, sym, ap, ◌∙◌, subst, arith}
 use Rattle.std.proofs.lemmas.List.Folds.{flat_map-map}
 use Rattle.swh_base.specs.declared.kind.Kind.{Kind}
-use Rattle.swh_outside.specs.Disk.{File}
+use Rattle.swh_outside.specs.Views.{Disks, Sources}
 use Rattle.swh_segment.specs.Makes.{EitherRose}
 use Rattle.swh_keeper.specs.Kept.{Kept}
 use Rattle.swh_loader.specs.Leaving.{AreAllowed, Stops}
@@ -43,15 +43,15 @@ no_disk_end NotFound e = let f : ending.Wanting ≡ ending.OutsideDisk = e in cc
 no_disk_end (Failed bad) e = let f : ending.Wanting ≡ ending.OutsideDisk = e in cc
 
 -- Loads of which one tells of a disk: a count rose.
-module _ {S D : Type 0} (id_of : Kind → List ℕ → List ℕ) (source_tells : Type 0) (left : S → List ℕ) (faults : S → ℕ) (path_of : S → List ℕ) (disks_tell : Type 0) (file : D → File) (disk_faults : D → ℕ) where
+module _ {S D : Type 0} (id_of : Kind → List ℕ → List ℕ) (sources : Sources S) (disks : Disks D) where
   abbrev Raised : Kept D → Kept D → Type 0
-  Raised old new = EitherRose (disk_faults old.store) (disk_faults new.store) (disk_faults old.ledger) (disk_faults new.ledger)
+  Raised old new = EitherRose (disks.faults old.store) (disks.faults new.store) (disks.faults old.ledger) (disks.faults new.ledger)
 
   abbrev Later : Kept D → Kept D → Type 0
-  Later old new = (disk_faults old.store ≤ disk_faults new.store) × (disk_faults old.ledger ≤ disk_faults new.ledger)
+  Later old new = (disks.faults old.store ≤ disks.faults new.store) × (disks.faults old.ledger ≤ disks.faults new.ledger)
 
   abbrev All : List (OneLoad S) → Kept D → Kept D → Type 0
-  All loads old new = AreLoads id_of source_tells left faults path_of disks_tell file disk_faults 1 loads old new
+  All loads old new = AreLoads id_of sources.tells sources.left sources.faults sources.path disks.tells disks.file disks.faults 1 loads old new
 
   raised_since : (old between new : Kept D) → Later old between → Raised between new → Raised old new
   raised_since old between new later (inl rose) = inl (omega (arith, later.0, rose))
@@ -63,8 +63,8 @@ module _ {S D : Type 0} (id_of : Kind → List ℕ → List ℕ) (source_tells :
 
   all_later : (loads : List (OneLoad S)) (old new : Kept D) → All loads old new → Later old new
   all_later [] old new are =
-      let store = ap (λ (k : Kept D). disk_faults k.store) are in
-      let ledger = ap (λ (k : Kept D). disk_faults k.ledger) are in
+      let store = ap (λ (k : Kept D). disks.faults k.store) are in
+      let ledger = ap (λ (k : Kept D). disks.faults k.ledger) are in
       (omega (arith, store), omega (arith, ledger))
   all_later (l ∷ loads) old new are =
       let rest = all_later loads are.0 new are.2 in
@@ -78,7 +78,7 @@ module _ {S D : Type 0} (id_of : Kind → List ℕ → List ℕ) (source_tells :
     from_later : (e : Ending) → (e ≡ ending.OutsideDisk → ⊥) → AreStops false rest → worse e (ending_of_all rest) ≡ ending.OutsideDisk → Raised old new
     from_later e none stops is = ⊎_elim (λ (h : e ≡ ending.OutsideDisk). absurd (none h)) (λ (h : ending_of_all rest ≡ ending.OutsideDisk). raised_since old between new first (later stops h)) (worse_disk e (ending_of_all rest) is)
 
-    by_why : (visit : ℕ) (reason : LoadWhy) → IsUnwounded (Err (record { visit = visit; why = reason })) → Stops id_of disk_faults (AreAllowed id_of l.job.job.head source_tells left l.job.job.stream) 1 l.job.job.origin l.job.date old between (record { visit = visit; why = reason })
+    by_why : (visit : ℕ) (reason : LoadWhy) → IsUnwounded (Err (record { visit = visit; why = reason })) → Stops id_of disks.faults (AreAllowed id_of l.job.job.head sources.tells sources.left l.job.job.stream) 1 l.job.job.origin l.job.date old between (record { visit = visit; why = reason })
         → AreStops (is_disk_fault (Err (record { visit = visit; why = reason }))) rest → worse (ending_of_why reason) (ending_of_all rest) ≡ ending.OutsideDisk → Raised old new
     by_why visit (why.Ended status) unwounded stops more is = from_later ending.Wanting (λ e. cc) more is
     by_why visit why.DiskFault unwounded (inl once) more is = raised_until old between new once.stops.rose behind
@@ -87,7 +87,7 @@ module _ {S D : Type 0} (id_of : Kind → List ℕ → List ℕ) (source_tells :
     by_why visit (why.Limit which number) unwounded stops more is = from_later ending.Wanting (λ e. cc) more is
     by_why visit why.Memory unwounded stops more is = from_later ending.Memory (λ e. cc) more is
 
-    by_outcome : (o : Result Loaded LoadFault) → IsUnwounded o → IsOutcome id_of source_tells left faults path_of disks_tell file disk_faults 1 l old between o → AreStops (is_disk_fault o) rest → worse (ending_for o) (ending_of_all rest) ≡ ending.OutsideDisk → Raised old new
+    by_outcome : (o : Result Loaded LoadFault) → IsUnwounded o → IsOutcome id_of sources.tells sources.left sources.faults sources.path disks.tells disks.file disks.faults 1 l old between o → AreStops (is_disk_fault o) rest → worse (ending_for o) (ending_of_all rest) ≡ ending.OutsideDisk → Raised old new
     by_outcome (Ok loaded) unwounded ends more is = from_later (ending_of_end loaded.end) (no_disk_end loaded.end) more is
     by_outcome (Err fault) unwounded ends more is = by_why fault.visit fault.why unwounded ends more is
 

@@ -7,10 +7,10 @@ use Rattle.swh_model.specs.declared.event.Event.{Event}
 use Rattle.swh_model.specs.Answer.{ReplyText}
 use Rattle.swh_model.specs.Step.{replay}
 use Rattle.swh_program.specs.Answers.{status_of, status_for}
-use Rattle.swh_program.specs.Ask.{AreReplies, AreFound, HasShortReply, IsEndingOf, IsAskAnswer, AskEnds}
-use Rattle.swh_program.specs.Causes.{ComesTo, IsExactly, IsUnusable}
-use Rattle.swh_program.specs.Init.{InitEnds, IsInitAnswer}
-use Rattle.swh_program.specs.Opening.{IsArchive, IsOpenRefusal, OpenEnds}
+use Rattle.swh_program.specs.AskCommand.{AreReplies, AreFound, HasShortReply, IsEndingOf, IsAskAnswer, AskEnds}
+use Rattle.swh_program.specs.Run.{ComesTo, IsExactly}
+use Rattle.swh_program.specs.InitCommand.{InitEnds, IsInitAnswer}
+use Rattle.swh_program.specs.Opening.{IsArchive, IsUnusable, IsOpenRefusal, OpenEnds}
 use Rattle.swh_program.specs.declared.answer.Ending.{Ending}
 use Rattle.swh_program.specs.declared.answer.Ending.TheVariants as ending
 use Rattle.swh_program.specs.declared.answer.Answer.{Answer}
@@ -33,14 +33,7 @@ init_job Made is e = omega (arith, e)
 init_job AlreadyMade is e = omega (arith, e)
 init_job OutsideDisk is e = omega (arith, e)
 init_job Memory is e = omega (arith, e)
-init_job (Told text end) is e = is
-init_job Words is e = is
-init_job NoJobFile is e = is
-init_job (BadJob text) is e = is
-init_job NotMade is e = is
-init_job Damaged is e = is
-init_job OutsideSource is e = is
-init_job OutsideClock is e = is
+init_job _ is e = is
 
 pub ask_job : (answer : Answer) → IsAskAnswer answer → status_of answer ≡ 2 → ⊥
 ask_job (Told text end) is e = let less = replies_below end is.0 is.1.end_is in omega (arith, e, less)
@@ -48,13 +41,7 @@ ask_job NotMade is e = omega (arith, e)
 ask_job Damaged is e = omega (arith, e)
 ask_job OutsideDisk is e = omega (arith, e)
 ask_job Memory is e = omega (arith, e)
-ask_job Made is e = is
-ask_job Words is e = is
-ask_job NoJobFile is e = is
-ask_job (BadJob text) is e = is
-ask_job AlreadyMade is e = is
-ask_job OutsideSource is e = is
-ask_job OutsideClock is e = is
+ask_job _ is e = is
 
 -- `init` wants nothing
 pub init_wants : (answer : Answer) → IsInitAnswer answer → status_of answer ≡ 1 → ⊥
@@ -62,14 +49,7 @@ init_wants Made is e = omega (arith, e)
 init_wants AlreadyMade is e = omega (arith, e)
 init_wants OutsideDisk is e = omega (arith, e)
 init_wants Memory is e = omega (arith, e)
-init_wants (Told text end) is e = is
-init_wants Words is e = is
-init_wants NoJobFile is e = is
-init_wants (BadJob text) is e = is
-init_wants NotMade is e = is
-init_wants Damaged is e = is
-init_wants OutsideSource is e = is
-init_wants OutsideClock is e = is
+init_wants _ is e = is
 
 -- 3 of `init`
 module _ (old new : Files) where
@@ -78,28 +58,14 @@ module _ (old new : Files) where
   init_only Made ends e = absurd (omega (arith, e))
   init_only OutsideDisk ends e = absurd (omega (arith, e))
   init_only Memory ends e = absurd (omega (arith, e))
-  init_only (Told text end) ends e = absurd ends
-  init_only Words ends e = absurd ends
-  init_only NoJobFile ends e = absurd ends
-  init_only (BadJob text) ends e = absurd ends
-  init_only NotMade ends e = absurd ends
-  init_only Damaged ends e = absurd ends
-  init_only OutsideSource ends e = absurd ends
-  init_only OutsideClock ends e = absurd ends
+  init_only _ ends e = absurd ends
 
   init_there : (answer : Answer) → InitEnds old new answer → IsMade (old 0).seen → ComesTo 3 (status_of answer)
   init_there AlreadyMade ends made = inl refl
   init_there Made ends made = absurd (not_both (old 0).seen made ends.not_made)
   init_there OutsideDisk ends made = inr (inl refl)
   init_there Memory ends made = inr (inr refl)
-  init_there (Told text end) ends made = absurd ends
-  init_there Words ends made = absurd ends
-  init_there NoJobFile ends made = absurd ends
-  init_there (BadJob text) ends made = absurd ends
-  init_there NotMade ends made = absurd ends
-  init_there Damaged ends made = absurd ends
-  init_there OutsideSource ends made = absurd ends
-  init_there OutsideClock ends made = absurd ends
+  init_there _ ends made = absurd ends
 
   pub init_archive : (answer : Answer) → InitEnds old new answer → IsExactly 3 (IsMade (old 0).seen) (status_of answer)
   init_archive answer ends = record { only = init_only answer ends; there = init_there answer ends }
@@ -111,58 +77,32 @@ module _ (id_of : Kind → List ℕ → List ℕ) (old new : Files) where
   refusal_only Damaged is ends e = inr ends.0
   refusal_only OutsideDisk is ends e = absurd (omega (arith, e))
   refusal_only Memory is ends e = absurd (omega (arith, e))
-  refusal_only Made is ends e = absurd is
-  refusal_only (Told text end) is ends e = absurd is
-  refusal_only Words is ends e = absurd is
-  refusal_only NoJobFile is ends e = absurd is
-  refusal_only (BadJob text) is ends e = absurd is
-  refusal_only AlreadyMade is ends e = absurd is
-  refusal_only OutsideSource is ends e = absurd is
-  refusal_only OutsideClock is ends e = absurd is
+  refusal_only _ is ends e = absurd is
 
   pub refusal_comes : (answer : Answer) → IsOpenRefusal answer → ComesTo 3 (status_of answer)
   refusal_comes NotMade is = inl refl
   refusal_comes Damaged is = inl refl
   refusal_comes OutsideDisk is = inr (inl refl)
   refusal_comes Memory is = inr (inr refl)
-  refusal_comes Made is = absurd is
-  refusal_comes (Told text end) is = absurd is
-  refusal_comes Words is = absurd is
-  refusal_comes NoJobFile is = absurd is
-  refusal_comes (BadJob text) is = absurd is
-  refusal_comes AlreadyMade is = absurd is
-  refusal_comes OutsideSource is = absurd is
-  refusal_comes OutsideClock is = absurd is
+  refusal_comes _ is = absurd is
 
 -- 3 and 1 of `ask`
 module _ (id_of : Kind → List ℕ → List ℕ) (paths : List (List ℕ)) (old new : Files) where
   ask_only : (answer : Answer) → IsAskAnswer answer → AskEnds id_of paths old new answer → status_of answer ≡ 3 → IsUnusable id_of old
   ask_only (Told text end) is ends e = let less = replies_below end is.0 is.1.end_is in absurd (omega (arith, e, less))
-  ask_only Made is ends e = absurd is
-  ask_only Words is ends e = absurd is
-  ask_only NoJobFile is ends e = absurd is
-  ask_only (BadJob text) is ends e = absurd is
-  ask_only AlreadyMade is ends e = absurd is
   ask_only NotMade is ends e = inl ends.0
   ask_only Damaged is ends e = inr ends.0
   ask_only OutsideDisk is ends e = absurd (omega (arith, e))
-  ask_only OutsideSource is ends e = absurd is
-  ask_only OutsideClock is ends e = absurd is
   ask_only Memory is ends e = absurd (omega (arith, e))
+  ask_only _ is ends e = absurd is
 
   ask_there : (answer : Answer) → IsAskAnswer answer → AskEnds id_of paths old new answer → IsUnusable id_of old → ComesTo 3 (status_of answer)
   ask_there (Told text end) is ends unusable = absurd (usable id_of old ends.history ends.archive unusable)
-  ask_there Made is ends unusable = absurd is
-  ask_there Words is ends unusable = absurd is
-  ask_there NoJobFile is ends unusable = absurd is
-  ask_there (BadJob text) is ends unusable = absurd is
-  ask_there AlreadyMade is ends unusable = absurd is
   ask_there NotMade is ends unusable = inl refl
   ask_there Damaged is ends unusable = inl refl
   ask_there OutsideDisk is ends unusable = inr (inl refl)
-  ask_there OutsideSource is ends unusable = absurd is
-  ask_there OutsideClock is ends unusable = absurd is
   ask_there Memory is ends unusable = inr (inr refl)
+  ask_there _ is ends unusable = absurd is
 
   pub ask_archive : (answer : Answer) → IsAskAnswer answer → AskEnds id_of paths old new answer → IsExactly 3 (IsUnusable id_of old) (status_of answer)
   ask_archive answer is ends = record { only = ask_only answer is ends; there = ask_there answer is ends }
@@ -185,14 +125,8 @@ module _ (id_of : Kind → List ℕ → List ℕ) (paths : List (List ℕ)) (old
 
     pub ask_replies : (answer : Answer) → AskEnds id_of paths old new answer → IsExactly 1 (HasShortReply replies) (status_of answer)
     ask_replies (Told text end) ends = exact_ending end (asked_replies id_of paths old new h replies archive are_replies text end ends).end_is
-    ask_replies Made ends = absurd ends
-    ask_replies Words ends = absurd ends
-    ask_replies NoJobFile ends = absurd ends
-    ask_replies (BadJob text) ends = absurd ends
-    ask_replies AlreadyMade ends = absurd ends
     ask_replies NotMade ends = absurd (usable id_of old h archive (inl ends.0))
     ask_replies Damaged ends = absurd (usable id_of old h archive (inr ends.0))
     ask_replies OutsideDisk ends = stopped 4 (λ e. omega (arith, e)) (inr (inl refl))
-    ask_replies OutsideSource ends = absurd ends
-    ask_replies OutsideClock ends = absurd ends
     ask_replies Memory ends = stopped 5 (λ e. omega (arith, e)) (inr (inr refl))
+    ask_replies _ ends = absurd ends

@@ -3,7 +3,7 @@ use Rattle.std.proofs.Common.{◌≡◌, inl, inr, ℕ, ◌<◌, ◌≤◌, Opti
 use Rattle.std.specs.List.{AllByRecursion}
 use Rattle.swh_base.specs.declared.kind.Kind.{Kind}
 use Rattle.swh_base.specs.declared.entry.Entry.{Entry}
-use Rattle.swh_outside.specs.Disk.{File}
+use Rattle.swh_outside.specs.Views.{Disks, Sources}
 use Rattle.swh_outside.specs.Faults.{Rose}
 use Rattle.swh_outside.specs.Opened.{IfFound}
 use Rattle.swh_outside.specs.declared.fault.Opened.{Opened}
@@ -29,8 +29,7 @@ use Rattle.swh_loader.specs.declared.fault.LoadFault.{LoadFault}
 use Rattle.swh_pool.specs.Lines.{ended}
 use Rattle.swh_pool.specs.Loads.{OneLoad, IsOutcome as IsOutcomeOf, IsOneLoad, AreLoads}
 use Rattle.swh_program.specs.Dated.{IsOpenedAt, IsOpenedJob, AreOpenedJobs, IsGivenBack, AreGivenBack}
-use Rattle.swh_program.specs.Jobs.{FileAt}
-use Rattle.swh_program.specs.Inputs.{IsOfInput, IsInputEnd, StopsFor, StopsVisit, IsOutcome}
+use Rattle.swh_program.specs.Inputs.{Inputs, inputs, Input, input_of, HasFailed, IsOfInput, IsInputEnd, StopsFor, StopsVisit, IsOutcome}
 use Rattle.swh_program.specs.Lines.{LoadedJob, dates, outcomes}
 use Rattle.swh_program.specs.Load.{IsJobLoad, AreJobLoads}
 
@@ -91,22 +90,22 @@ module _ (P : List Entry → Type 0) (by : ℕ) (origin : List ℕ) (date : ℕ)
   }
 
 -- Why a load stopped.
-module _ {D : Type 0} (id_of : Kind → List ℕ → List ℕ) (tells : Type 0) (found head : Option (List ℕ)) (failed : Type 0) (faults : D → ℕ) (P : List Entry → Type 0) (url : List ℕ) (date : ℕ) (old new : Kept D)
-    (allowed : (entries : List Entry) → P entries → IsOfInput id_of tells found head failed entries) (adds : AddsVisit P 1 url date old.history new.history) where
+module _ {D : Type 0} (id_of : Kind → List ℕ → List ℕ) (input : Input) (faults : D → ℕ) (P : List Entry → Type 0) (url : List ℕ) (date : ℕ) (old new : Kept D)
+    (allowed : (entries : List Entry) → P entries → IsOfInput id_of input entries) (adds : AddsVisit P 1 url date old.history new.history) where
   stops_for : (tried : Event → Type 0) → ((e : Event) → tried e → AddsVisit P 1 url date old.history (new.history ++ e ∷ [])) → (reason : LoadWhy) → stopping.StopsFor id_of faults tried old new reason
-      → StopsFor id_of tells found head failed url date old.history new.history reason
+      → StopsFor id_of input url date old.history new.history reason
   stops_for tried next (why.Ended status) stops = stops
   stops_for tried next why.DiskFault stops = tt
   stops_for tried next why.Wounded stops = tt
   stops_for tried next (why.Limit which number) stops = record {
     event = stops.event;
-    next = adds_visit P (IsOfInput id_of tells found head failed) 1 url date old.history (new.history ++ stops.event ∷ []) allowed (next stops.event stops.tried);
+    next = adds_visit P (IsOfInput id_of input) 1 url date old.history (new.history ++ stops.event ∷ []) allowed (next stops.event stops.tried);
     may = stops.may;
     passes = stops.passes;
   }
   stops_for tried next why.Memory stops = tt
 
-  stops_visit : (fault : LoadFault) → Stops id_of faults P 1 url date old new fault → StopsVisit id_of tells found head failed url date old.history new.history fault
+  stops_visit : (fault : LoadFault) → Stops id_of faults P 1 url date old new fault → StopsVisit id_of input url date old.history new.history fault
   stops_visit fault (inl once) =
       record {
         visit = inl (once.no_visit, once.same);
@@ -117,87 +116,88 @@ module _ {D : Type 0} (id_of : Kind → List ℕ → List ℕ) (tells : Type 0) 
       record { visit = inr (later.visit, later.more, later.opened); stops = stops_for (IsOwn P 1 url fault.visit) own fault.why later.stops }
 
 -- The inputs of jobs: opened, and given back.
-module _ {S : Type 0} (id_of : Kind → List ℕ → List ℕ) (tells source_tells : Type 0) (left : S → List ℕ) (faults : S → ℕ) (path_of : S → List ℕ) (input_at : FileAt) (entry middle after : List ℕ → ℕ)
-    (later : (p : List ℕ) → entry p ≤ middle p) (later_still : (p : List ℕ) → middle p ≤ after p) where
-  abbrev pub HasFailed : Job → Type 0
-  HasFailed job = Rose (entry job.path) (after job.path)
+module _ {S : Type 0} (id_of : Kind → List ℕ → List ℕ) (sources : Sources S) (opened_by : Inputs) (after : List ℕ → ℕ)
+    (later : (p : List ℕ) → opened_by.failures p ≤ opened_by.failures_now p) (later_still : (p : List ℕ) → opened_by.failures_now p ≤ after p) where
+  -- by the counts before the opening and after the giving back
+  abbrev pub of_jobs : Inputs
+  of_jobs = inputs opened_by.tell opened_by.at opened_by.failures after
 
   abbrev pub Opens : Job → Opened S → Type 0
-  Opens job stream = IsOpenedAt tells source_tells left faults path_of input_at entry middle job.path stream
+  Opens job stream = IsOpenedAt sources opened_by job.path stream
 
   abbrev pub OfJob : Job → List Entry → Type 0
-  OfJob job = IsOfInput id_of tells (input_at job.path) job.head (HasFailed job)
+  OfJob job = IsOfInput id_of (input_of of_jobs job)
 
-  pub allowed : (job : Job) (s : Opened S) → (tells → source_tells) → (tells → IfFound s (λ x. input_at job.path ≡ Some (left x))) → (entries : List Entry) → AreAllowed id_of job.head source_tells left s entries → OfJob job entries
-  allowed job (Found s) told is entries allowed_by = λ t. (left s, is t, allowed_by (told t))
+  pub allowed : (job : Job) (s : Opened S) → (opened_by.tell → sources.tells) → (opened_by.tell → IfFound s (λ x. opened_by.at job.path ≡ Some (sources.left x))) → (entries : List Entry) → AreAllowed id_of job.head sources.tells sources.left s entries → OfJob job entries
+  allowed job (Found s) told is entries allowed_by = λ t. (sources.left s, is t, allowed_by (told t))
   allowed job Missing told is entries allowed_by = absurd allowed_by
   allowed job Unopened told is entries allowed_by = absurd allowed_by
   allowed job NoRoom told is entries allowed_by = absurd allowed_by
 
   -- a path's count rose where a source of that path had failed
-  back_at : (path : List ℕ) (s : S) → path_of s ≡ path → (0 < faults s → Rose (middle (path_of s)) (after (path_of s))) → 0 < faults s → Rose (entry path) (after path)
-  back_at path s at back some = rose_since (entry path) (middle path) (after path) (later path) (subst (λ (p : List ℕ). Rose (middle p) (after p)) at (back some))
+  back_at : (path : List ℕ) (s : S) → sources.path s ≡ path → (0 < sources.faults s → Rose (opened_by.failures_now (sources.path s)) (after (sources.path s))) → 0 < sources.faults s → Rose (opened_by.failures path) (after path)
+  back_at path s at back some = rose_since (opened_by.failures path) (opened_by.failures_now path) (after path) (later path) (subst (λ (p : List ℕ). Rose (opened_by.failures_now p) (after p)) at (back some))
 
-  found_end : (job : Job) (bodies : Bodies) (s t : S) → (tells → source_tells) → (tells → input_at job.path ≡ Some (left s)) → faults s ≡ 0 → path_of t ≡ job.path → (0 < faults t → Rose (middle (path_of t)) (after (path_of t)))
-      → (end : End) → IsEndOf id_of job.head source_tells (left s) (faults s) (faults t) bodies end → IsInputEnd id_of tells (input_at job.path) job.head (HasFailed job) bodies end
-  found_end job bodies s t told is none at back (Full snapshot) ends = λ h. (left s, is h, ends (told h))
+  found_end : (job : Job) (bodies : Bodies) (s t : S) → (opened_by.tell → sources.tells) → (opened_by.tell → opened_by.at job.path ≡ Some (sources.left s)) → sources.faults s ≡ 0 → sources.path t ≡ job.path → (0 < sources.faults t → Rose (opened_by.failures_now (sources.path t)) (after (sources.path t)))
+      → (end : End) → IsEndOf id_of job.head sources.tells (sources.left s) (sources.faults s) (sources.faults t) bodies end → IsInputEnd id_of (input_of of_jobs job) bodies end
+  found_end job bodies s t told is none at back (Full snapshot) ends = λ h. (sources.left s, is h, ends (told h))
   found_end job bodies s t told is none at back NotFound ends = absurd ends
-  found_end job bodies s t told is none at back (Failed (Stream place stream_why)) ends = (ends.0, ends.1, λ h. (left s, is h, ends.2 (told h)))
-  found_end job bodies s t told is none at back (Failed (Collision name)) ends = λ h. (left s, is h, ends (told h))
-  found_end job bodies s t told is none at back (Failed Read) ends = back_at job.path t at back (rose_above (faults s) (faults t) none ends)
+  found_end job bodies s t told is none at back (Failed (Stream place stream_why)) ends = (ends.0, ends.1, λ h. (sources.left s, is h, ends.2 (told h)))
+  found_end job bodies s t told is none at back (Failed (Collision name)) ends = λ h. (sources.left s, is h, ends (told h))
+  found_end job bodies s t told is none at back (Failed Read) ends = back_at job.path t at back (rose_above (sources.faults s) (sources.faults t) none ends)
 
-  input_end : (job : Job) (bodies : Bodies) (s t : Opened S) → Opens job s → IsSameInput path_of faults s t → IsGivenBack faults path_of middle after t → (end : End) → IsJobEnd id_of job.head source_tells left faults bodies s t end
-      → IsInputEnd id_of tells (input_at job.path) job.head (HasFailed job) bodies end
+  input_end : (job : Job) (bodies : Bodies) (s t : Opened S) → Opens job s → IsSameInput sources.path sources.faults s t → IsGivenBack sources opened_by.failures_now after t → (end : End) → IsJobEnd id_of job.head sources.tells sources.left sources.faults bodies s t end
+      → IsInputEnd id_of (input_of of_jobs job) bodies end
   input_end job bodies (Found s) (Found t) opened same back end ends = found_end job bodies s t opened.told opened.found opened.quiet (same.0 ∙ opened.at) back end ends
   input_end job bodies (Found s) Missing opened same back end ends = absurd ends
   input_end job bodies (Found s) Unopened opened same back end ends = absurd ends
   input_end job bodies (Found s) NoRoom opened same back end ends = absurd ends
-  input_end job bodies Missing t opened same back end ends = subst (IsInputEnd id_of tells (input_at job.path) job.head (HasFailed job) bodies) (sym ends) (λ h. opened.absent h tt)
+  input_end job bodies Missing t opened same back end ends = subst (IsInputEnd id_of (input_of of_jobs job) bodies) (sym ends) (λ h. opened.absent h tt)
   input_end job bodies Unopened t opened same back end ends =
-      subst (IsInputEnd id_of tells (input_at job.path) job.head (HasFailed job) bodies) (sym ends) (rose_until (entry job.path) (middle job.path) (after job.path) (opened.failed tt) (later_still job.path))
+      subst (IsInputEnd id_of (input_of of_jobs job) bodies) (sym ends) (rose_until (opened_by.failures job.path) (opened_by.failures_now job.path) (after job.path) (opened.failed tt) (later_still job.path))
   input_end job bodies NoRoom t opened same back end ends = absurd ends
 
-  module _ {D : Type 0} (disks_tell : Type 0) (file : D → File) (disk_faults : D → ℕ) where
+  module _ {D : Type 0} (disks : Disks D) where
     abbrev pub Loads : OneLoad S → Kept D → Kept D → Type 0
-    Loads l old new = IsOneLoad id_of source_tells left faults path_of disks_tell file disk_faults 1 l old new
+    Loads l old new = IsOneLoad id_of sources.tells sources.left sources.faults sources.path disks.tells disks.file disks.faults 1 l old new
 
     abbrev pub AllLoads : List (OneLoad S) → Kept D → Kept D → Type 0
-    AllLoads loads old new = AreLoads id_of source_tells left faults path_of disks_tell file disk_faults 1 loads old new
+    AllLoads loads old new = AreLoads id_of sources.tells sources.left sources.faults sources.path disks.tells disks.file disks.faults 1 loads old new
 
     -- a job as it was loaded
     abbrev pub loaded_job : Job → OneLoad S → LoadedJob
     loaded_job job l = record { job = job; date = l.job.date; outcome = l.outcome }
 
     -- what the load of an opened job says, with the job's head
-    line : (job : Job) (l : OneLoad S) (old new : Kept D) → Opens job l.job.job.stream → l.job.job.head ≡ job.head → IsGivenBack faults path_of middle after l.after.job.stream
-        → AddsVisit (AreAllowed id_of job.head source_tells left l.job.job.stream) 1 l.job.job.origin l.job.date old.history new.history → IsSameInput path_of faults l.job.job.stream l.after.job.stream
-        → (outcome : Result Loaded LoadFault) → IsOutcomeOf id_of source_tells left faults path_of disks_tell file disk_faults 1 l old new outcome
-        → IsOutcome id_of tells (input_at job.path) job.head (HasFailed job) l.job.job.origin l.job.date old.history new.history outcome
+    line : (job : Job) (l : OneLoad S) (old new : Kept D) → Opens job l.job.job.stream → l.job.job.head ≡ job.head → IsGivenBack sources opened_by.failures_now after l.after.job.stream
+        → AddsVisit (AreAllowed id_of job.head sources.tells sources.left l.job.job.stream) 1 l.job.job.origin l.job.date old.history new.history → IsSameInput sources.path sources.faults l.job.job.stream l.after.job.stream
+        → (outcome : Result Loaded LoadFault) → IsOutcomeOf id_of sources.tells sources.left sources.faults sources.path disks.tells disks.file disks.faults 1 l old new outcome
+        → IsOutcome id_of (input_of of_jobs job) l.job.job.origin l.job.date old.history new.history outcome
     line job l old new opened head back adds same (Ok loaded) is =
-        let means = subst (λ (h : Option (List ℕ)). IsJobEnd id_of h source_tells left faults (replay new.history).bodies l.job.job.stream l.after.job.stream loaded.end) head is.means in
+        let means = subst (λ (h : Option (List ℕ)). IsJobEnd id_of h sources.tells sources.left sources.faults (replay new.history).bodies l.job.job.stream l.after.job.stream loaded.end) head is.means in
         record { number = is.number; visit = is.visit; end = input_end job (replay new.history).bodies l.job.job.stream l.after.job.stream opened same back loaded.end means }
     line job l old new opened head back adds same (Err fault) is =
-        let stops = subst (λ (h : Option (List ℕ)). Stops id_of disk_faults (AreAllowed id_of h source_tells left l.job.job.stream) 1 l.job.job.origin l.job.date old new fault) head is in
-        stops_visit id_of tells (input_at job.path) job.head (HasFailed job) disk_faults (AreAllowed id_of job.head source_tells left l.job.job.stream) l.job.job.origin l.job.date old new (allowed job l.job.job.stream opened.told opened.found) adds fault stops
+        let stops = subst (λ (h : Option (List ℕ)). Stops id_of disks.faults (AreAllowed id_of h sources.tells sources.left l.job.job.stream) 1 l.job.job.origin l.job.date old new fault) head is in
+        stops_visit id_of (input_of of_jobs job) disks.faults (AreAllowed id_of job.head sources.tells sources.left l.job.job.stream) l.job.job.origin l.job.date old new (allowed job l.job.job.stream opened.told opened.found) adds fault stops
 
     -- what it adds, with the job's head
-    pub adds_with : (job : Job) (l : OneLoad S) (before after' : List Event) → l.job.job.head ≡ job.head → AddsVisit (AreAllowed id_of l.job.job.head source_tells left l.job.job.stream) 1 l.job.job.origin l.job.date before after'
-        → AddsVisit (AreAllowed id_of job.head source_tells left l.job.job.stream) 1 l.job.job.origin l.job.date before after'
-    adds_with job l before after' head adds = subst (λ (h : Option (List ℕ)). AddsVisit (AreAllowed id_of h source_tells left l.job.job.stream) 1 l.job.job.origin l.job.date before after') head adds
+    pub adds_with : (job : Job) (l : OneLoad S) (before after' : List Event) → l.job.job.head ≡ job.head → AddsVisit (AreAllowed id_of l.job.job.head sources.tells sources.left l.job.job.stream) 1 l.job.job.origin l.job.date before after'
+        → AddsVisit (AreAllowed id_of job.head sources.tells sources.left l.job.job.stream) 1 l.job.job.origin l.job.date before after'
+    adds_with job l before after' head adds = subst (λ (h : Option (List ℕ)). AddsVisit (AreAllowed id_of h sources.tells sources.left l.job.job.stream) 1 l.job.job.origin l.job.date before after') head adds
 
-    pub adds_of : (job : Job) (l : OneLoad S) (before after' : List Event) → IsOpenedJob tells source_tells left faults path_of input_at entry middle job l.job → AddsVisit (AreAllowed id_of l.job.job.head source_tells left l.job.job.stream) 1 l.job.job.origin l.job.date before after'
+    pub adds_of : (job : Job) (l : OneLoad S) (before after' : List Event) → IsOpenedJob sources opened_by job l.job → AddsVisit (AreAllowed id_of l.job.job.head sources.tells sources.left l.job.job.stream) 1 l.job.job.origin l.job.date before after'
         → AddsVisit (OfJob job) 1 job.url l.job.date before after'
     adds_of job l before after' opened adds =
         subst (λ (u : List ℕ). AddsVisit (OfJob job) 1 u l.job.date before after') opened.origin
-        (adds_visit (AreAllowed id_of job.head source_tells left l.job.job.stream) (OfJob job) 1 l.job.job.origin l.job.date before after' (allowed job l.job.job.stream opened.input.told opened.input.found) (adds_with job l before after' opened.head adds))
+        (adds_visit (AreAllowed id_of job.head sources.tells sources.left l.job.job.stream) (OfJob job) 1 l.job.job.origin l.job.date before after' (allowed job l.job.job.stream opened.input.told opened.input.found) (adds_with job l before after' opened.head adds))
 
-    pub one_job : (job : Job) (l : OneLoad S) (old new : Kept D) → IsOpenedJob tells source_tells left faults path_of input_at entry middle job l.job → IsGivenBack faults path_of middle after l.after.job.stream → Loads l old new
-        → IsJobLoad id_of tells input_at entry after (loaded_job job l) old.history new.history
+    pub one_job : (job : Job) (l : OneLoad S) (old new : Kept D) → IsOpenedJob sources opened_by job l.job → IsGivenBack sources opened_by.failures_now after l.after.job.stream → Loads l old new
+        → IsJobLoad id_of of_jobs (loaded_job job l) old.history new.history
     one_job job l old new opened back is =
         let told = line job l old new opened.input opened.head back (adds_with job l old.history new.history opened.head is.adds) is.same_input l.outcome is.ends in
         record {
           nothing_else = adds_of job l old.history new.history opened is.adds;
-          line = subst (λ (u : List ℕ). IsOutcome id_of tells (input_at job.path) job.head (HasFailed job) u l.job.date old.history new.history l.outcome) opened.origin told;
+          line = subst (λ (u : List ℕ). IsOutcome id_of (input_of of_jobs job) u l.job.date old.history new.history l.outcome) opened.origin told;
         }
 
     abbrev pub loaded_jobs : List Job → List (OneLoad S) → List LoadedJob
@@ -206,10 +206,10 @@ module _ {S : Type 0} (id_of : Kind → List ℕ → List ℕ) (tells source_tel
     loaded_jobs (job ∷ jobs) (l ∷ loads) = loaded_job job l ∷ loaded_jobs jobs loads
 
     abbrev pub Open : List Job → List (OneLoad S) → Type 0
-    Open jobs loads = AreOpenedJobs tells source_tells left faults path_of input_at entry middle jobs (map (λ l. l.job) loads)
+    Open jobs loads = AreOpenedJobs sources opened_by jobs (map (λ l. l.job) loads)
 
-    pub each_job : (jobs : List Job) (loads : List (OneLoad S)) (old new : Kept D) → Open jobs loads → AreGivenBack faults path_of middle after (map (λ l. l.after) loads)
-        → AllLoads loads old new → AreJobLoads id_of tells input_at entry after (loaded_jobs jobs loads) old.history new.history
+    pub each_job : (jobs : List Job) (loads : List (OneLoad S)) (old new : Kept D) → Open jobs loads → AreGivenBack sources opened_by.failures_now after (map (λ l. l.after) loads)
+        → AllLoads loads old new → AreJobLoads id_of of_jobs (loaded_jobs jobs loads) old.history new.history
     each_job [] [] old new opened back are = ap (λ (k : Kept D). k.history) are
     each_job [] (l ∷ loads) old new opened back are = absurd opened
     each_job (job ∷ jobs) [] old new opened back are = absurd opened

@@ -28,3 +28,4 @@ pub mod LoadStatuses
 pub mod Naming
 pub mod Leaving
 pub mod Orders
+pub mod Does

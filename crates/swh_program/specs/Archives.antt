@@ -1,10 +1,7 @@
 -- The files of an archive's folder.
 use Rattle.std.specs.Prelude.{◌≡◌, ◌≢◌, ◌⊎◌, ◌<◌, ℕ, List}
 use Rattle.swh_outside.specs.Files.{Files, files_of}
-
--- what a depot holds
-abbrev pub Folders : Type 0
-Folders = List ℕ → Files
+use Rattle.swh_program.specs.Seen.{Folders}
 
 -- the archive in a folder: file 0 is the ledger, file 1 the store
 abbrev pub archive_at : Folders → List ℕ → Files

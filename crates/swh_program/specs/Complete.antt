@@ -15,7 +15,7 @@ use Rattle.swh_model.specs.Judge.{FilePasses}
 use Rattle.swh_model.specs.Meaning.{Made, Making, IsMeaning}
 use Rattle.swh_model.specs.Step.{May, replay, snapshot_name}
 use Rattle.swh_loader.specs.Leaving.{AddsVisit, next_visit}
-use Rattle.swh_program.specs.Jobs.{FileAt}
+use Rattle.swh_program.specs.Seen.{FileAt}
 use Rattle.swh_program.specs.Inputs.{loader}
 use Rattle.swh_program.specs.Opening.{IsArchive}
 use Rattle.swh_program.specs.Run.{IsQuiet}

@@ -22,7 +22,6 @@ pub use files::{ArchiveFiles, close_files, open_files};
 pub use identify_command::identify;
 pub use init_command::init;
 pub use job_reading::read_jobs;
-pub use load_command::load;
 pub use opening::{close_archive, open_archive};
-pub use outside::Outside;
+pub use outside::{Outside, Shown};
 pub use top::run;
