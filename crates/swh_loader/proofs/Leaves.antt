@@ -1,11 +1,11 @@
 -- What a load of a job leaves, from its steps.
-use Rattle.std.proofs.Common.{◌≡◌, ℕ, None, Result, Ok, Err, Option, List, [], ◌∷◌, ◌++◌, refl, sym, ap, ◌∙◌, subst, append_assoc}
+use Rattle.std.proofs.Common.{◌≡◌, inr, ℕ, None, Result, Ok, Err, Option, List, [], ◌∷◌, ◌++◌, refl, sym, ap, ◌∙◌, subst, append_assoc}
 use Rattle.std.proofs.lemmas.List.{append-nil, append_cancel_left}
 use Rattle.std.specs.Prelude.{IfOk}
 use Rattle.std.specs.List.{AllByRecursion}
 use Rattle.swh_base.specs.declared.kind.Kind.{Kind}
 use Rattle.swh_base.specs.declared.entry.Entry.{Entry}
-use Rattle.swh_outside.specs.Disk.{File}
+use Rattle.swh_outside.specs.Views.{Disks, Sources}
 use Rattle.swh_model.specs.declared.event.Event.{Event}
 use Rattle.swh_model.specs.Archive.{Bodies}
 use Rattle.swh_model.specs.Meaning.{IsMeaning}
@@ -16,12 +16,17 @@ use Rattle.swh_fastload.specs.Whole.{IsWhole}
 use Rattle.swh_loader.specs.declared.end.BadInput.TheVariants.{Stream, Collision, Read}
 use Rattle.swh_loader.specs.declared.end.End.{End}
 use Rattle.swh_loader.specs.declared.end.End.TheVariants.{Full, NotFound, Failed}
-use Rattle.swh_loader.specs.Adding.{opening, IsEvent, AreAmong, IsOwn, Adds}
+use Rattle.swh_loader.specs.Adding.{Attempt, opening, IsEvent, AreAmong, IsOwn, Adds}
 use Rattle.swh_loader.specs.Calls.{MakesCallsOf, MakesCalls}
 use Rattle.swh_loader.specs.Ending.{MeansObjects, IsMadeBy, AreMadeBy, IsSentEnd, IsEndOf}
-use Rattle.swh_loader.specs.Leaving.{next_visit, AreOfVisit, AddsVisit, MakesVisitCalls}
+use Rattle.swh_loader.specs.Leaving.{next_visit, AreOfVisit, AddsVisit, MakesVisitCalls, Stops}
+use Rattle.swh_loader.specs.Steps.{IsOpened}
+use Rattle.swh_loader.specs.Stopping.{StopsFor}
+use Rattle.swh_loader.specs.Visiting.{IsOpen}
+use Rattle.swh_loader.specs.declared.fault.LoadWhy.{LoadWhy}
 use Rattle.swh_loader.proofs.CallLaws.{of_as, calls_at, of_further}
 use Rattle.swh_loader.proofs.Closes.{whole_good}
+use Rattle.swh_loader.proofs.Further.{stops_further}
 use Rattle.swh_loader.proofs.Limiting.{all-append}
 
 -- the objects that were made are meant
@@ -33,47 +38,65 @@ made_by id head text objects snapshot m [] h = tt
 made_by id head text objects snapshot m (e ∷ entries) h = (record { objects = objects; snapshot = snapshot; means = m; among = h.0 }, made_by id head text objects snapshot m entries h.1)
 
 -- a batch of some of them is made by the input
-pub among_made : {N : Type 0} (id : Kind → List ℕ → List ℕ) (head : Option (List ℕ)) (tells : Type 0) (text : List ℕ) (made : Objects N) → IsWhole id made → (tells → IsMeaning id head text (making_of made)) → (entries : List Entry) → AreAmong made.objects.items entries → AreMadeBy id head tells text entries
-among_made id head tells text made w m entries h t = made_by id head text made.objects.items made.snapshot (means_made id head text made w (m t)) entries h
+pub among_made : {N S : Type 0} (id : Kind → List ℕ → List ℕ) (head : Option (List ℕ)) (sources : Sources S) (s : S) (made : Objects N) → IsWhole id made → (sources.tells → IsMeaning id head (sources.left s) (making_of made)) → (entries : List Entry) → AreAmong made.objects.items entries → AreMadeBy id head sources s entries
+among_made id head sources s made w m entries h t = made_by id head (sources.left s) made.objects.items made.snapshot (means_made id head (sources.left s) made w (m t)) entries h
 
 -- the end of a visit whose input was sent
-pub sent_end : {N E : Type 0} (id : Kind → List ℕ → List ℕ) (head : Option (List ℕ)) (tells : Type 0) (text : List ℕ) (before now : ℕ) (bodies : Bodies) (made : Objects N) (r : Result End E) → (tells → MeansObjects id head text made.objects.items made.snapshot) → IfOk r (λ x. IsSentEnd bodies made x) → IfOk r (λ x. IsEndOf id head tells text before now bodies x)
-sent_end id head tells text before now bodies made (Ok (Full snapshot)) m h = λ t. record {
+pub sent_end : {N S E : Type 0} (id : Kind → List ℕ → List ℕ) (head : Option (List ℕ)) (sources : Sources S) (bodies : Bodies) (s now : S) (made : Objects N) (r : Result End E)
+    → (sources.tells → MeansObjects id head (sources.left s) made.objects.items made.snapshot) → IfOk r (IsSentEnd bodies made) → IfOk r (IsEndOf id head sources bodies s now)
+sent_end id head sources bodies s now made (Ok (Full snapshot)) m h = λ t. record {
   objects = made.objects.items;
-  means = subst (MeansObjects id head text made.objects.items) (sym h.0) (m t);
+  means = subst (MeansObjects id head (sources.left s) made.objects.items) (sym h.0) (m t);
   held = h.1;
 }
-sent_end id head tells text before now bodies made (Ok NotFound) m h = h
-sent_end id head tells text before now bodies made (Ok (Failed (Stream at why))) m h = absurd h
-sent_end id head tells text before now bodies made (Ok (Failed (Collision name))) m h = λ t. record { objects = made.objects.items; snapshot = made.snapshot; means = m t; collision = h }
-sent_end id head tells text before now bodies made (Ok (Failed Read)) m h = absurd h
-sent_end id head tells text before now bodies made (Err e) m h = tt
+sent_end id head sources bodies s now made (Ok NotFound) m h = h
+sent_end id head sources bodies s now made (Ok (Failed (Stream at why))) m h = absurd h
+sent_end id head sources bodies s now made (Ok (Failed (Collision name))) m h = λ t. record { objects = made.objects.items; snapshot = made.snapshot; means = m t; collision = h }
+sent_end id head sources bodies s now made (Ok (Failed Read)) m h = absurd h
+sent_end id head sources bodies s now made (Err e) m h = tt
 
 -- a visit that was opened, and its own events
-pub visit_added : {D : Type 0} (faults : D → ℕ) (A : List Entry → Type 0) (by : ℕ) (origin : List ℕ) (date number : ℕ) (old mid new : Kept D) → mid.history ≡ old.history ++ opening by origin date ∷ [] → number ≡ next_visit old.history origin → Adds faults (IsOwn A by origin number) mid new → AddsVisit A by origin date old.history new.history
-visit_added faults A by origin date number old mid new opened is a = record {
-  more = opening by origin date ∷ a.more;
-  behind = a.behind ∙ ap (λ (t : List Event). t ++ a.more) opened ∙ append_assoc old.history (opening by origin date ∷ []) a.more;
-  are = (refl, subst (λ (n : ℕ). AllByRecursion (IsOwn A by origin n) a.more) is a.each);
+pub visit_added : {D : Type 0} (faults : D → ℕ) (A : List Entry → Type 0) (a : Attempt) (number : ℕ) (old mid new : Kept D) → IsOpened a old mid number → Adds faults (IsOwn A a number) mid new → AddsVisit A a old.history new.history
+visit_added faults A a number old mid new o adds = record {
+  more = opening a ∷ adds.more;
+  behind = adds.behind ∙ ap (λ (t : List Event). t ++ adds.more) o.opened ∙ append_assoc old.history (opening a ∷ []) adds.more;
+  are = (refl, subst (λ (n : ℕ). AllByRecursion (IsOwn A a n) adds.more) o.next adds.each);
 }
 
--- the calls of a visit that was not opened
-pub unopened_calls : {D : Type 0} (id : Kind → List ℕ → List ℕ) (file : D → File) (A : List Entry → Type 0) (by : ℕ) (origin : List ℕ) (date : ℕ) (old new : Kept D) → new.history ≡ old.history → MakesCalls id file (IsEvent (opening by origin date)) old new → MakesVisitCalls id file A by origin date old new
-unopened_calls id file A by origin date old new same calls more behind =
+-- a visit that was not opened
+pub unopened_added : (A : List Entry → Type 0) (a : Attempt) (h h' : List Event) → h' ≡ h → AddsVisit A a h h'
+unopened_added A a h h' same = record { more = []; behind = same ∙ sym (append-nil h); are = tt }
+
+-- and its calls
+pub unopened_calls : {D : Type 0} (id : Kind → List ℕ → List ℕ) (disks : Disks D) (A : List Entry → Type 0) (a : Attempt) (old new : Kept D) → new.history ≡ old.history → MakesCalls id disks.file (IsEvent (opening a)) old new → MakesVisitCalls id disks A a old new
+unopened_calls id disks A a old new same calls more behind =
     let none = same ∙ sym (append-nil old.history) in
-    subst (λ (t : List Event). MakesCallsOf id file (λ e. AreOfVisit A by origin date (next_visit old.history origin) (t ++ e ∷ [])) t old new)
+    let next = next_visit old.history a.origin in
+    subst (λ (t : List Event). MakesCallsOf id disks.file (λ e. AreOfVisit A a next (t ++ e ∷ [])) t old new)
     (append_cancel_left old.history [] more (sym none ∙ behind))
-    (of_as id file (IsEvent (opening by origin date)) (λ e. AreOfVisit A by origin date (next_visit old.history origin) (e ∷ [])) [] old new (λ e is. (is, tt)) (calls_at id file (IsEvent (opening by origin date)) old new [] none calls))
+    (of_as id disks.file (IsEvent (opening a)) (λ e. AreOfVisit A a next (e ∷ [])) [] old new (λ e is. (is, tt)) (calls_at id disks.file (IsEvent (opening a)) old new [] none calls))
 
 -- and of one that was, with its own events
-pub visit_calls : {D : Type 0} (id : Kind → List ℕ → List ℕ) (faults : D → ℕ) (file : D → File) (A : List Entry → Type 0) (by : ℕ) (origin : List ℕ) (date number : ℕ) (old mid new : Kept D) → old.wounded ≡ None → mid.wounded ≡ None → mid.history ≡ old.history ++ opening by origin date ∷ [] → number ≡ next_visit old.history origin
-    → Adds faults (IsOwn A by origin number) mid new → MakesCalls id file (IsEvent (opening by origin date)) old mid → MakesCalls id file (IsOwn A by origin number) mid new → MakesVisitCalls id file A by origin date old new
+pub visit_calls : {D : Type 0} (id : Kind → List ℕ → List ℕ) (disks : Disks D) (A : List Entry → Type 0) (a : Attempt) (number : ℕ) (old mid new : Kept D) → IsOpened a old mid number → mid.wounded ≡ None
+    → Adds disks.faults (IsOwn A a number) mid new → MakesCalls id disks.file (IsEvent (opening a)) old mid → MakesCalls id disks.file (IsOwn A a number) mid new → MakesVisitCalls id disks A a old new
 unfolding visit_added
-visit_calls id faults file A by origin date number old mid new begun going opened is a first rest more behind =
-    let added = visit_added faults A by origin date number old mid new opened is a in
-    let next = next_visit old.history origin in
-    subst (λ (t : List Event). MakesCallsOf id file (λ e. AreOfVisit A by origin date next (t ++ e ∷ [])) t old new)
+visit_calls id disks A a number old mid new o going adds first rest more behind =
+    let added = visit_added disks.faults A a number old mid new o adds in
+    let next = next_visit old.history a.origin in
+    subst (λ (t : List Event). MakesCallsOf id disks.file (λ e. AreOfVisit A a next (t ++ e ∷ [])) t old new)
     (append_cancel_left old.history added.more more (sym added.behind ∙ behind))
-    (of_further id file (IsEvent (opening by origin date)) (IsOwn A by origin number) (λ e. AreOfVisit A by origin date next (opening by origin date ∷ (a.more ++ e ∷ []))) (opening by origin date ∷ []) a.more old mid new
-    (λ e own. (refl, all-append (IsOwn A by origin next) a.more (e ∷ []) added.are.1 (subst (λ (n : ℕ). IsOwn A by origin n e) is own, tt)))
-    begun going opened (calls_at id file (IsEvent (opening by origin date)) old mid (opening by origin date ∷ []) opened first) (calls_at id file (IsOwn A by origin number) mid new a.more a.behind rest))
+    (of_further id disks.file (IsEvent (opening a)) (IsOwn A a number) (λ e. AreOfVisit A a next (opening a ∷ (adds.more ++ e ∷ []))) (opening a ∷ []) adds.more old mid new
+    (λ e own. (refl, all-append (IsOwn A a next) adds.more (e ∷ []) added.are.1 (subst (λ (n : ℕ). IsOwn A a n e) o.next own, tt)))
+    o.before_it going o.opened (calls_at id disks.file (IsEvent (opening a)) old mid (opening a ∷ []) o.opened first) (calls_at id disks.file (IsOwn A a number) mid new adds.more adds.behind rest))
+
+-- why it stopped
+pub visit_stops : {D : Type 0} (id : Kind → List ℕ → List ℕ) (disks : Disks D) (A : List Entry → Type 0) (a : Attempt) (number : ℕ) (old mid new : Kept D) (why : LoadWhy) → IsOpened a old mid number → mid.wounded ≡ None
+    → Adds disks.faults (IsEvent (opening a)) old mid → Adds disks.faults (IsOwn A a number) mid new → IsOpen new.history a number → StopsFor id disks.faults (IsOwn A a number) mid new why
+    → Stops id disks A a old new (record { visit = number; why = why })
+visit_stops id disks A a number old mid new why o going first adds still stops = inr (record {
+  visit = o.next;
+  more = adds.more;
+  opened = adds.behind ∙ ap (λ (t : List Event). t ++ adds.more) o.opened ∙ append_assoc old.history (opening a ∷ []) adds.more;
+  unended = still;
+  stops = stops_further id disks.faults (IsOwn A a number) (IsEvent (opening a)) old mid new why o.before_it going first stops;
+})

@@ -9,4 +9,5 @@ pub mod Opens
 pub mod Owns
 pub mod Refusals
 pub mod Sends
+pub mod Stepping
 pub mod Steps

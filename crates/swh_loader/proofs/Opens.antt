@@ -1,7 +1,6 @@
 -- What a refusal leaves of the visits.
-use Rattle.std.proofs.Common.{◌≡◌, ℕ, Result, Ok, Err, List, [], ◌++◌, sym, ap, subst}
+use Rattle.std.proofs.Common.{◌≡◌, ℕ, List, [], ◌++◌, sym, ap, subst}
 use Rattle.std.proofs.lemmas.List.{append-nil}
-use Rattle.std.specs.Prelude.{OnErr}
 use Rattle.swh_model.specs.declared.event.Event.{Event}
 use Rattle.swh_model.specs.declared.event.EventKind.{EventKind}
 use Rattle.swh_keeper.specs.Kept.{Kept, Refuses}
@@ -24,11 +23,6 @@ refused_same {D} old new by wish refusal.DiskFault h = h.history
 refused_same {D} old new by wish (refusal.Memory stands) h = ap (λ (k : Kept D). k.history) h.1
 
 -- so each visit is as it was
-pub visits_same : {D : Type 0} (old new : Kept D) (by : ℕ) → new.history ≡ old.history → SameVisits old new by
-visits_same old new by same origin number date statuses v =
-    subst (λ (h : List Event). IsVisit h origin number date by (statuses ++ [])) (sym same) (subst (IsVisit old.history origin number date by) (sym (append-nil statuses)) v)
-
--- what holds whatever is answered
-pub on_err : {T E : Type 0} (r : Result T E) (P : Type 0) → P → OnErr r P
-on_err (Ok t) P p = tt
-on_err (Err e) P p = p
+pub visits_same : {D : Type 0} (old new : Kept D) → new.history ≡ old.history → SameVisits old new
+visits_same old new same o number statuses v =
+    subst (λ (h : List Event). IsVisit h o number (statuses ++ [])) (sym same) (subst (IsVisit old.history o number) (sym (append-nil statuses)) v)

@@ -53,9 +53,9 @@ goes_further a b c h k = record {
   within = λ n body e. k.within n body (h.within n body e);
 }
 
-pub visits_further : {D : Type 0} (a b c : Kept D) (by : ℕ) → SameVisits a b by → SameVisits b c by → SameVisits a c by
-visits_further a b c by h k origin number date statuses v =
-    subst (IsVisit c.history origin number date by) (append-nil (statuses ++ [])) (k origin number date (statuses ++ []) (h origin number date statuses v))
+pub visits_further : {D : Type 0} (a b c : Kept D) → SameVisits a b → SameVisits b c → SameVisits a c
+visits_further a b c h k o number statuses v =
+    subst (IsVisit c.history o number) (append-nil (statuses ++ [])) (k o number (statuses ++ []) (h o number statuses v))
 
 -- no entry that waits has the name
 pub no_room : (n : Name) (held : Bodies) → held ≡ finite.empty → body_of held n ≡ None

@@ -19,6 +19,7 @@ use Rattle.swh_model.specs.Grows.{IsWithin}
 use Rattle.swh_model.proofs.Maps.{visits-put, within-added}
 use Rattle.swh_model.proofs.Verdicts.{fresh-new}
 use Rattle.swh_keeper.specs.Kept.{Kept, Applies}
+use Rattle.swh_loader.specs.Adding.{Attempt, attempt}
 use Rattle.swh_loader.specs.Visiting.{visit_with, IsVisit, GoesOn, IsMarked}
 
 -- a history with one event more
@@ -29,6 +30,10 @@ after_all-push a (x ∷ h) e = after_all-push (after a x) h e
 -- what the archive is once a wish was carried out
 pub applied : (h : List Event) (by : ℕ) (wish : EventKind) (h' : List Event) (outcome : Outcome) → Applies h by wish h' outcome → replay h' ≡ after (replay h) (record { by = by; what = event_of (replay h) wish })
 applied h by wish h' outcome a = ap replay a.added_behind ∙ after_all-push empty_archive h a.event ∙ ap (after (replay h)) a.verdict.1
+
+-- the event that a wish was carried out as
+pub added_event : (h : List Event) (by : ℕ) (wish : EventKind) (h' : List Event) (outcome : Outcome) → Applies h by wish h' outcome → h' ≡ h ++ record { by = by; what = event_of (replay h) wish } ∷ []
+added_event h by wish h' outcome a = a.added_behind ∙ ap (λ (e : Event). h ++ e ∷ []) a.verdict.1
 
 get-last : (vs : List Visit) (v : Visit) → slice_get (vs ++ v ∷ []) (length vs) ≡ Some v
 get-last [] v = refl
@@ -46,30 +51,35 @@ opened_number : (o : Outcome) (m n event visit : ℕ) → o ≡ Opened m n → o
 opened_number o m n event visit e f = let both : Opened m n ≡ Opened event visit = sym e ∙ f in cc
 
 -- a visit that was opened
-pub opened_visit : (h : List Event) (by : ℕ) (origin : List ℕ) (date : ℕ) (h' : List Event) (outcome : Outcome) (event visit : ℕ) → Applies h by (Open origin Fast date) h' outcome → outcome ≡ Opened event visit → IsVisit h' origin visit date by ((Created, None) ∷ [])
+pub opened_visit : (h : List Event) (by : ℕ) (origin : List ℕ) (date : ℕ) (h' : List Event) (outcome : Outcome) (event visit : ℕ) → Applies h by (Open origin Fast date) h' outcome → outcome ≡ Opened event visit
+    → (visit ≡ length (visits_of (replay h).origins origin) + 1) × IsVisit h' (attempt by origin date) visit ((Created, None) ∷ [])
 opened_visit h by origin date h' outcome event visit a o =
     let visits = visits_of (replay h).origins origin in
     let n : visit ≡ length visits + 1 = opened_number outcome (length h + 1) (length visits + 1) event visit a.verdict.2 o in
     let first = first_of (length visits + 1) date Fast by in
     let all : visits_of (replay h').origins origin ≡ visits ++ first ∷ [] = ap (λ (x : Archive). visits_of x.origins origin) (applied h by (Open origin Fast date) h' outcome a) ∙ visits-put (replay h).origins origin (visits ++ first ∷ []) in
-    let at : visit_at (visits ++ first ∷ []) (length visits + 1) ≡ Some first = ap (slice_get (visits ++ first ∷ [])) (one_less (length visits)) ∙ get-last visits first in record {
-      positive = omega (arith, n);
-      there = ap (λ (vs : List Visit). visit_at vs visit) all ∙ ap (visit_at (visits ++ first ∷ [])) n ∙ at ∙ ap (λ (k : ℕ). Some (visit_with k date by ((Created, None) ∷ []))) (sym n);
-    }
+    let at : visit_at (visits ++ first ∷ []) (length visits + 1) ≡ Some first = ap (slice_get (visits ++ first ∷ [])) (one_less (length visits)) ∙ get-last visits first in (
+      n,
+      record {
+        positive = omega (arith, n);
+        there = ap (λ (vs : List Visit). visit_at vs visit) all ∙ ap (visit_at (visits ++ first ∷ [])) n ∙ at ∙ ap (λ (k : ℕ). Some (visit_with (attempt by origin date) k ((Created, None) ∷ []))) (sym n);
+      },
+    )
 
-pub marked_visit : (h : List Event) (by : ℕ) (origin : List ℕ) (number : ℕ) (status : Status) (snapshot : Option (List ℕ)) (h' : List Event) (outcome : Outcome) → Applies h by (Mark origin number status snapshot) h' outcome → IsMarked h h' origin number by ((status, snapshot) ∷ [])
-marked_visit h by origin number status snapshot h' outcome a date statuses v =
-    let visits = visits_of (replay h).origins origin in
-    let all : visits_of (replay h').origins origin ≡ marked_at visits (number - 1) status snapshot = ap (λ (x : Archive). visits_of x.origins origin) (applied h by (Mark origin number status snapshot) h' outcome a) ∙ visits-put (replay h).origins origin (marked_at visits (number - 1) status snapshot) in record {
+pub marked_visit : (h : List Event) (o : Attempt) (number : ℕ) (status : Status) (snapshot : Option (List ℕ)) (h' : List Event) (outcome : Outcome) → Applies h o.by (Mark o.origin number status snapshot) h' outcome → IsMarked h h' o number ((status, snapshot) ∷ [])
+marked_visit h o number status snapshot h' outcome a statuses v =
+    let visits = visits_of (replay h).origins o.origin in
+    let all : visits_of (replay h').origins o.origin ≡ marked_at visits (number - 1) status snapshot =
+    ap (λ (x : Archive). visits_of x.origins o.origin) (applied h o.by (Mark o.origin number status snapshot) h' outcome a) ∙ visits-put (replay h).origins o.origin (marked_at visits (number - 1) status snapshot) in record {
       positive = v.positive;
-      there = ap (λ (vs : List Visit). visit_at vs number) all ∙ get-marked_self visits (number - 1) (visit_with number date by statuses) status snapshot v.there;
+      there = ap (λ (vs : List Visit). visit_at vs number) all ∙ get-marked_self visits (number - 1) (visit_with o number statuses) status snapshot v.there;
     }
 
 -- a batch says nothing of visits
-pub batch_visit : (h : List Event) (by : ℕ) (entries : List Entry) (h' : List Event) (outcome : Outcome) → Applies h by (Batch entries) h' outcome → (origin : List ℕ) (number : ℕ) → IsMarked h h' origin number by []
-batch_visit h by entries h' outcome a origin number date statuses v =
-    let all = ap (λ (x : Archive). visits_of x.origins origin) (applied h by (Batch entries) h' outcome a) in
-    subst (IsVisit h' origin number date by) (sym (append-nil statuses)) (record { positive = v.positive; there = ap (λ (vs : List Visit). visit_at vs number) all ∙ v.there })
+pub batch_visit : (h : List Event) (by : ℕ) (entries : List Entry) (h' : List Event) (outcome : Outcome) → Applies h by (Batch entries) h' outcome → (o : Attempt) (number : ℕ) → IsMarked h h' o number []
+batch_visit h by entries h' outcome a o number statuses v =
+    let all = ap (λ (x : Archive). visits_of x.origins o.origin) (applied h by (Batch entries) h' outcome a) in
+    subst (IsVisit h' o number) (sym (append-nil statuses)) (record { positive = v.positive; there = ap (λ (vs : List Visit). visit_at vs number) all ∙ v.there })
 
 -- what was held is held
 within_after : (h : List Event) (by : ℕ) (wish : EventKind) → IsWithin (replay h).bodies (after (replay h) (record { by = by; what = event_of (replay h) wish })).bodies

@@ -9,13 +9,24 @@ use Rattle.swh_model.specs.declared.event.EventKind.{EventKind}
 use Rattle.swh_model.specs.declared.event.EventKind.TheVariants.{Batch, Open, Mark}
 use Rattle.swh_keeper.specs.Kept.{Kept}
 
--- the opening of a visit of this origin
-abbrev pub opening : ℕ → List ℕ → ℕ → Event
-opening by origin date = record { by = by; what = Open origin Fast date }
+-- who loads which origin, and when
+pub record Attempt : Type 0 where
+  pub by : ℕ
+  pub origin : List ℕ
+  pub date : ℕ
 
-abbrev pub marking : ℕ → List ℕ → ℕ → Status → Option (List ℕ) → Event
-marking by origin number status snapshot = record { by = by; what = Mark origin number status snapshot }
+abbrev pub attempt : ℕ → List ℕ → ℕ → Attempt
+attempt by origin date = record { by = by; origin = origin; date = date }
 
+-- the opening of its visit
+abbrev pub opening : Attempt → Event
+opening a = record { by = a.by; what = Open a.origin Fast a.date }
+
+-- a mark of its visit with this number
+abbrev pub marking : Attempt → ℕ → Status → Option (List ℕ) → Event
+marking a number status snapshot = record { by = a.by; what = Mark a.origin number status snapshot }
+
+-- a batch of these
 abbrev pub adding : ℕ → List Entry → Event
 adding by entries = record { by = by; what = Batch entries }
 
@@ -49,9 +60,9 @@ IsOwnKind IsAllowed origin number (Open other kind date) = ⊥
 IsOwnKind IsAllowed origin number (Mark other visit status snapshot) = (other ≡ origin) × (visit ≡ number)
 
 -- The event is a load's own, by the one who opened the visit.
-pub record IsOwn (IsAllowed : List Entry → Type 0) (by : ℕ) (origin : List ℕ) (number : ℕ) (e : Event) : Type 0 where
-  pub by_one : e.by ≡ by
-  pub kind : IsOwnKind IsAllowed origin number e.what
+pub record IsOwn (IsAllowed : List Entry → Type 0) (a : Attempt) (number : ℕ) (e : Event) : Type 0 where
+  pub by_one : e.by ≡ a.by
+  pub kind : IsOwnKind IsAllowed a.origin number e.what
 
 -- Events like these were added behind, and no count of faults fell.
 pub record Adds {D : Type 0} (faults : D → ℕ) (IsAdded : Event → Type 0) (old new : Kept D) : Type 0 where

@@ -6,6 +6,7 @@ use Rattle.swh_base.specs.declared.name.Name.{Name}
 use Rattle.swh_base.specs.declared.entry.Entry.{Entry}
 use Rattle.swh_base.specs.declared.visit.Status.TheVariants.{Ongoing, Full as FullStatus, NotFound as NotFoundStatus, Failed as FailedStatus}
 use Rattle.swh_outside.specs.Faults.{Rose}
+use Rattle.swh_outside.specs.Views.{Sources}
 use Rattle.swh_model.specs.Archive.{Bodies}
 use Rattle.swh_model.specs.Step.{Statuses, IsGoodAndNamed}
 use Rattle.swh_model.specs.Meaning.{IsMeaning, IsLeftOut}
@@ -38,9 +39,9 @@ pub record IsMadeBy (id : Kind → List ℕ → List ℕ) (head : Option (List �
   pub means : MeansObjects id head text objects snapshot
   pub among : Contains objects e
 
--- The input makes each of these, where it tells what it is.
-abbrev pub AreMadeBy : (Kind → List ℕ → List ℕ) → Option (List ℕ) → Type 0 → List ℕ → List Entry → Type 0
-AreMadeBy id head tells text entries = tells → AllByRecursion (IsMadeBy id head text) entries
+-- The source makes each of these, where it tells what it is.
+abbrev pub AreMadeBy : {S : Type 0} → (Kind → List ℕ → List ℕ) → Option (List ℕ) → Sources S → S → List Entry → Type 0
+AreMadeBy id head sources s entries = sources.tells → AllByRecursion (IsMadeBy id head (sources.left s)) entries
 
 -- All of the input is held.
 pub record IsFull (id : Kind → List ℕ → List ℕ) (head : Option (List ℕ)) (text : List ℕ) (bodies : Bodies) (snapshot : List ℕ) : Type 0 where
@@ -69,24 +70,25 @@ IsSentEnd bodies made (Failed (Stream at why)) = ⊥
 IsSentEnd bodies made (Failed (Collision name)) = IsCollision bodies made.objects.items name
 IsSentEnd bodies made (Failed Read) = ⊥
 
--- Why the input is bad; the count of faults of a source that failed rose.
-abbrev pub IsBad : (Kind → List ℕ → List ℕ) → Option (List ℕ) → Type 0 → List ℕ → ℕ → ℕ → Bodies → BadInput → Type 0
-IsBad id head tells text before now bodies (Stream at why) = (at ≡ 0) × (why ≡ LeftOut) × (tells → IsLeftOut id head text)
-IsBad id head tells text before now bodies (Collision name) = tells → Collided id head text bodies name
-IsBad id head tells text before now bodies Read = Rose before now
+module _ {S : Type 0} (id : Kind → List ℕ → List ℕ) (head : Option (List ℕ)) (sources : Sources S) (bodies : Bodies) where
+  -- Why a source is bad, as it was and as it is now; the count of faults of one that failed rose.
+  abbrev pub IsBad : S → S → BadInput → Type 0
+  IsBad s now (Stream at why) = (at ≡ 0) × (why ≡ LeftOut) × (sources.tells → IsLeftOut id head (sources.left s))
+  IsBad s now (Collision name) = sources.tells → Collided id head (sources.left s) bodies name
+  IsBad s now Read = Rose (sources.faults s) (sources.faults now)
 
--- What the end says of an input that is found.
-abbrev pub IsEndOf : (Kind → List ℕ → List ℕ) → Option (List ℕ) → Type 0 → List ℕ → ℕ → ℕ → Bodies → End → Type 0
-IsEndOf id head tells text before now bodies (Full snapshot) = tells → IsFull id head text bodies snapshot
-IsEndOf id head tells text before now bodies NotFound = ⊥
-IsEndOf id head tells text before now bodies (Failed bad) = IsBad id head tells text before now bodies bad
+  -- What the end says of an input that is found.
+  abbrev pub IsEndOf : S → S → End → Type 0
+  IsEndOf s now (Full snapshot) = sources.tells → IsFull id head (sources.left s) bodies snapshot
+  IsEndOf s now NotFound = ⊥
+  IsEndOf s now (Failed bad) = IsBad s now bad
 
--- What the end says of an input as it was opened.
-abbrev pub IsJobEnd : {S : Type 0} → (Kind → List ℕ → List ℕ) → Option (List ℕ) → Type 0 → (S → List ℕ) → (S → ℕ) → Bodies → Opened S → Opened S → End → Type 0
-IsJobEnd id head tells left faults bodies (Found s) (Found now) end = IsEndOf id head tells (left s) (faults s) (faults now) bodies end
-IsJobEnd id head tells left faults bodies (Found s) Missing end = ⊥
-IsJobEnd id head tells left faults bodies (Found s) Unopened end = ⊥
-IsJobEnd id head tells left faults bodies (Found s) NoRoom end = ⊥
-IsJobEnd id head tells left faults bodies Missing now end = end ≡ NotFound
-IsJobEnd id head tells left faults bodies Unopened now end = end ≡ Failed Read
-IsJobEnd id head tells left faults bodies NoRoom now end = ⊥
+  -- What the end says of an input as it was opened.
+  abbrev pub IsJobEnd : Opened S → Opened S → End → Type 0
+  IsJobEnd (Found s) (Found now) end = IsEndOf s now end
+  IsJobEnd (Found s) Missing end = ⊥
+  IsJobEnd (Found s) Unopened end = ⊥
+  IsJobEnd (Found s) NoRoom end = ⊥
+  IsJobEnd Missing now end = end ≡ NotFound
+  IsJobEnd Unopened now end = end ≡ Failed Read
+  IsJobEnd NoRoom now end = ⊥

@@ -5,5 +5,6 @@ pub mod Leaving
 pub mod Reading
 pub mod Report
 pub mod Sending
+pub mod Steps
 pub mod Stopping
 pub mod Visiting

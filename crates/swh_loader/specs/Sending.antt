@@ -10,7 +10,7 @@ use Rattle.swh_model.specs.Limits.{objects_limit, bytes_limit, IsWithinLimits}
 use Rattle.swh_model.specs.Step.{AreNew, IsGoodAndNamed, added, replay}
 use Rattle.swh_model.specs.Grows.{IsWithin}
 use Rattle.swh_keeper.specs.Kept.{Kept}
-use Rattle.swh_loader.specs.Adding.{AreAmong}
+use Rattle.swh_loader.specs.Adding.{Attempt, AreAmong}
 use Rattle.swh_loader.specs.Visiting.{IsMarked}
 use Rattle.swh_loader.specs.declared.pending.Pending.{Pending}
 use Rattle.swh_loader.specs.declared.sending.Standing.{Standing}
@@ -49,14 +49,22 @@ pub record IsWaiting (id : Kind → List ℕ → List ℕ) (bodies : Bodies) (p 
   pub limits : IsWithinLimits p.entries.items
   pub counted : p.bytes ≡ sum_by (λ e. length e.body) p.entries.items
 
+-- There is room for an entry of this name: what waited was sent, or waits still.
+pub record HasMadeRoom {D : Type 0} (id : Kind → List ℕ → List ℕ) (old : Kept D) (p : Pending) (n : Name) (new : Kept D) (q : Pending) : Type 0 where
+  pub room : HasRoom q n
+  pub among : AreAmong p.entries.items q.entries.items
+  pub waiting : IsWaiting id (bodies_of new) q
+  pub to_be : to_be new q ≡ to_be old p
+
 -- Visits are as they were.
-abbrev pub SameVisits : {D : Type 0} → Kept D → Kept D → ℕ → Type 0
-SameVisits old new by = (origin : List ℕ) (number : ℕ) → IsMarked old.history new.history origin number by []
+abbrev pub SameVisits : {D : Type 0} → Kept D → Kept D → Type 0
+SameVisits old new = (a : Attempt) (number : ℕ) → IsMarked old.history new.history a number []
 
 -- what became of an entry
 abbrev pub IsTaken : {D : Type 0} → (Kind → List ℕ → List ℕ) → Kept D → Pending → Entry → Kept D → Taken → Type 0
 IsTaken id old p e new (Waits q) =
-    IsWaiting id (bodies_of new) q × IsWithin (to_be old p) (to_be new q) × (body_of (to_be new q) e.name ≡ Some e.body) × AreAmong (p.entries.items ++ e ∷ []) q.entries.items
+    IsWaiting id (bodies_of new) q × IsWithin (to_be old p) (to_be new q)
+    × (body_of (to_be new q) e.name ≡ Some e.body) × AreAmong (p.entries.items ++ e ∷ []) q.entries.items
 IsTaken id old p e new (Collides name) = (name ≡ e.name) × IsStanding (bodies_of new) e Other
 
 -- An object of these has a name under which another body is held.

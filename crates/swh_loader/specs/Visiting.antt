@@ -7,21 +7,26 @@ use Rattle.swh_model.specs.Archive.{visits_of}
 use Rattle.swh_model.specs.Step.{IsFinal, Statuses, last_status, visit_at, replay}
 use Rattle.swh_model.specs.Grows.{IsWithin}
 use Rattle.swh_keeper.specs.Kept.{Kept}
+use Rattle.swh_loader.specs.Adding.{Attempt, attempt}
+use Rattle.swh_loader.specs.declared.visiting.OpenVisit.{OpenVisit}
+
+-- who opened a visit, of which origin, and when
+abbrev pub attempt_of : OpenVisit → Attempt
+attempt_of visit = attempt visit.by visit.origin.now visit.date
 
 -- a visit of a stream
-abbrev pub visit_with : ℕ → ℕ → ℕ → Statuses → Visit
-visit_with number date by statuses = record { number = number; date = date; kind = Fast; by = by; statuses = statuses }
+abbrev pub visit_with : Attempt → ℕ → Statuses → Visit
+visit_with a number statuses = record { number = number; date = a.date; kind = Fast; by = a.by; statuses = statuses }
 
--- The origin's visit with this number is this one.
-pub record IsVisit (h : List Event) (origin : List ℕ) (number date by : ℕ) (statuses : Statuses) : Type 0 where
+-- The origin's visit with this number was opened so, and has these statuses.
+pub record IsVisit (h : List Event) (a : Attempt) (number : ℕ) (statuses : Statuses) : Type 0 where
   pub positive : 0 < number
-  pub there : visit_at (visits_of (replay h).origins origin) number ≡ Some (visit_with number date by statuses)
+  pub there : visit_at (visits_of (replay h).origins a.origin) number ≡ Some (visit_with a number statuses)
 
--- The visit is there, this one opened it, and it has not ended.
-pub record IsOpen (h : List Event) (origin : List ℕ) (number by : ℕ) : Type 0 where
-  pub date : ℕ
+-- The visit is there, was opened so, and has not ended.
+pub record IsOpen (h : List Event) (a : Attempt) (number : ℕ) : Type 0 where
   pub statuses : Statuses
-  pub visit : IsVisit h origin number date by statuses
+  pub visit : IsVisit h a number statuses
   pub unended : IsFinal (last_status statuses) → ⊥
 
 -- Events were added, and all that was held is.
@@ -31,6 +36,6 @@ pub record GoesOn {D : Type 0} (old new : Kept D) : Type 0 where
   pub unwounded : new.wounded ≡ None
   pub within : IsWithin (replay old.history).bodies (replay new.history).bodies
 
--- What is said of the visit after one more status.
-abbrev pub IsMarked : List Event → List Event → List ℕ → ℕ → ℕ → Statuses → Type 0
-IsMarked h h' origin number by more = (date : ℕ) (statuses : Statuses) → IsVisit h origin number date by statuses → IsVisit h' origin number date by (statuses ++ more)
+-- The visit has these statuses more.
+abbrev pub IsMarked : List Event → List Event → Attempt → ℕ → Statuses → Type 0
+IsMarked h h' a number more = (statuses : Statuses) → IsVisit h a number statuses → IsVisit h' a number (statuses ++ more)

@@ -11,6 +11,7 @@ mod pending;
 mod report;
 mod sending;
 mod stopping;
+mod turn;
 mod visiting;
 
 pub use end::{BadInput, End, Loaded, StreamWhy};
@@ -18,6 +19,7 @@ pub use fault::{LoadFault, LoadWhy};
 pub use job::Job;
 pub use loading::load_one;
 pub use report::{LINE_LIMIT, report_line};
+pub use turn::{Turn, Worker};
 
 #[cfg(test)]
 mod tests;

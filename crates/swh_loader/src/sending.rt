@@ -1,12 +1,9 @@
 // What a load's input adds to what is held.
-ghost use Rattle.std.specs.Prelude.{◌≡◌, ◌≢◌, ◌∷◌, [], Some, None, IfOk, IfErr, OnOk, ℕ};
-ghost use Rattle.swh_model.specs.Step.{added};
-ghost use Rattle.swh_object.specs.Object.{IsObject};
-ghost use Rattle.swh_loader.specs.Adding.{AreAmong, IsBatchOf, IsBatchAmong, Adds};
-ghost use Rattle.swh_loader.specs.Calls.{MakesCalls};
-ghost use Rattle.swh_loader.specs.Stopping.{StopsFor};
-ghost use Rattle.swh_loader.specs.Visiting.{GoesOn};
-ghost use Rattle.swh_loader.specs.Sending.{HasRoom, IsStanding, IsWaiting, IsTaken, SameVisits, AreSent, bodies_of, to_be};
+ghost use Rattle.std.specs.Prelude.{◌≡◌, None, IfOk, OnOk};
+ghost use Rattle.swh_outside.specs.Views.{disks};
+ghost use Rattle.swh_loader.specs.Adding.{IsBatchOf, IsBatchAmong};
+ghost use Rattle.swh_loader.specs.Sending.{IsStanding, IsWaiting, HasMadeRoom, IsTaken, SameVisits, AreSent, bodies_of, to_be};
+ghost use Rattle.swh_loader.specs.Steps.{Leaves};
 
 use crate::fault::LoadWhy;
 use crate::pending::Pending;
@@ -62,11 +59,8 @@ fn flush<N: Namer, D: Disk>(
     requires unwounded { keeper.old.wounded ≡ None }
     requires waiting { IsWaiting N.id_of (bodies_of keeper.old) pending }
     ensures bodies { OnOk result (bodies_of keeper.new ≡ to_be keeper.old pending) }
-    ensures on { OnOk result (GoesOn keeper.old keeper.new) }
-    ensures visits { SameVisits keeper.old keeper.new by }
-    ensures calls { D.tells → MakesCalls N.id_of D.file (IsBatchOf by pending.entries.items) keeper.old keeper.new }
-    ensures adds { Adds D.faults (IsBatchOf by pending.entries.items) keeper.old keeper.new }
-    ensures stops { IfErr result (StopsFor N.id_of D.faults (IsBatchOf by pending.entries.items) keeper.old keeper.new) }
+    ensures visits { SameVisits keeper.old keeper.new }
+    ensures leaves { Leaves N.id_of (disks D.tells D.file D.faults) (IsBatchOf by pending.entries.items) keeper.old keeper.new result }
 {
     if pending.entries.is_empty() {
         return Ok(());
@@ -88,15 +82,9 @@ fn make_room<N: Namer, D: Disk>(
 ) -> Result<Pending, LoadWhy>
     requires unwounded { keeper.old.wounded ≡ None }
     requires waiting { IsWaiting N.id_of (bodies_of keeper.old) pending }
-    ensures room { IfOk result (λ room. HasRoom room name.now) }
-    ensures among { IfOk result (λ room. AreAmong pending.entries.items room.entries.items) }
-    ensures waiting { IfOk result (λ room. IsWaiting N.id_of (bodies_of keeper.new) room) }
-    ensures to_be { IfOk result (λ room. to_be keeper.new room ≡ to_be keeper.old pending) }
-    ensures on { OnOk result (GoesOn keeper.old keeper.new) }
-    ensures visits { SameVisits keeper.old keeper.new by }
-    ensures calls { D.tells → MakesCalls N.id_of D.file (IsBatchOf by pending.entries.items) keeper.old keeper.new }
-    ensures adds { Adds D.faults (IsBatchOf by pending.entries.items) keeper.old keeper.new }
-    ensures stops { IfErr result (StopsFor N.id_of D.faults (IsBatchOf by pending.entries.items) keeper.old keeper.new) }
+    ensures room { IfOk result (HasMadeRoom N.id_of keeper.old pending name.now keeper.new) }
+    ensures visits { SameVisits keeper.old keeper.new }
+    ensures leaves { Leaves N.id_of (disks D.tells D.file D.faults) (IsBatchOf by pending.entries.items) keeper.old keeper.new result }
 {
     if pending.has_room(name) {
         return Ok(pending);
@@ -116,11 +104,8 @@ fn take_in<N: Namer, D: Disk>(
     requires unwounded { keeper.old.wounded ≡ None }
     requires waiting { IsWaiting N.id_of (bodies_of keeper.old) pending }
     ensures taken { IfOk result (λ taken. IsTaken N.id_of keeper.old pending object keeper.new taken) }
-    ensures on { OnOk result (GoesOn keeper.old keeper.new) }
-    ensures visits { SameVisits keeper.old keeper.new by }
-    ensures calls { D.tells → MakesCalls N.id_of D.file (IsBatchOf by pending.entries.items) keeper.old keeper.new }
-    ensures adds { Adds D.faults (IsBatchOf by pending.entries.items) keeper.old keeper.new }
-    ensures stops { IfErr result (StopsFor N.id_of D.faults (IsBatchOf by pending.entries.items) keeper.old keeper.new) }
+    ensures visits { SameVisits keeper.old keeper.new }
+    ensures leaves { Leaves N.id_of (disks D.tells D.file D.faults) (IsBatchOf by pending.entries.items) keeper.old keeper.new result }
 {
     let entry = object.into_entry();
     let mut pending = make_room(alloc, keeper, by, pending, &entry.name)?;
@@ -143,11 +128,8 @@ pub fn send_all<N: Namer, D: Disk>(
 ) -> Result<Option<Name>, LoadWhy>
     requires { keeper.old.wounded ≡ None }
     ensures sent { IfOk result (λ collision. AreSent (bodies_of keeper.new) objects.items collision) }
-    ensures on { OnOk result (GoesOn keeper.old keeper.new) }
-    ensures visits { SameVisits keeper.old keeper.new by }
-    ensures calls { D.tells → MakesCalls N.id_of D.file (IsBatchAmong by objects.items) keeper.old keeper.new }
-    ensures adds { Adds D.faults (IsBatchAmong by objects.items) keeper.old keeper.new }
-    ensures stops { IfErr result (StopsFor N.id_of D.faults (IsBatchAmong by objects.items) keeper.old keeper.new) }
+    ensures visits { SameVisits keeper.old keeper.new }
+    ensures leaves { Leaves N.id_of (disks D.tells D.file D.faults) (IsBatchAmong by objects.items) keeper.old keeper.new result }
 {
     let mut left = VecDeque::from_vec(objects);
     let mut pending = Pending::new(alloc);

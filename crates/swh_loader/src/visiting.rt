@@ -1,12 +1,10 @@
 // The visit of a load: opened, marked and ended.
-ghost use Rattle.std.specs.Prelude.{◌≡◌, ◌≤◌, ◌+◌, ◌++◌, ◌∷◌, [], Some, None, ℕ, length, IfOk, IfErr, OnOk, OnErr};
-ghost use Rattle.swh_base.specs.declared.visit.Status.TheVariants.{Created};
-ghost use Rattle.swh_model.specs.Archive.{visits_of};
+ghost use Rattle.std.specs.Prelude.{◌≡◌, ◌∷◌, [], IfOk, IfErr, OnOk, OnErr};
+ghost use Rattle.swh_outside.specs.Views.{disks};
 ghost use Rattle.swh_model.specs.Step.{replay, MayMark};
-ghost use Rattle.swh_loader.specs.Adding.{opening, marking, IsEvent, Adds};
-ghost use Rattle.swh_loader.specs.Calls.{MakesCalls};
-ghost use Rattle.swh_loader.specs.Stopping.{StopsUnchanged, StopsFor};
-ghost use Rattle.swh_loader.specs.Visiting.{IsVisit, GoesOn, IsMarked};
+ghost use Rattle.swh_loader.specs.Adding.{attempt, opening, marking, IsEvent};
+ghost use Rattle.swh_loader.specs.Steps.{IsOpened, IsUnopened, Leaves};
+ghost use Rattle.swh_loader.specs.Visiting.{IsMarked, attempt_of};
 
 use crate::fault::LoadWhy;
 use crate::stopping::stopped;
@@ -16,6 +14,15 @@ use swh_keeper::Keeper;
 use swh_model::{Outcome, Wish};
 use swh_outside::Disk;
 
+/// A visit that was opened: by whom, of which origin, when, and its number.
+#[derive(Clone, Copy)]
+pub struct OpenVisit<'a> {
+    pub by: u32,
+    pub origin: &'a Url,
+    pub date: u64,
+    pub number: u64,
+}
+
 /// Opens a visit of an origin, and answers its number.
 pub fn open_visit<N: Namer, D: Disk>(
     alloc: Global,
@@ -24,17 +31,9 @@ pub fn open_visit<N: Namer, D: Disk>(
     origin: &Url,
     date: u64,
 ) -> Result<u64, LoadWhy>
-    ensures number { IfOk result (λ visit. visit ≡ length (visits_of (replay keeper.old.history).origins origin.now) + 1) }
-    ensures visit { IfOk result (λ visit. IsVisit keeper.new.history origin.now visit date by ((Created, None) ∷ [])) }
-    ensures on { OnOk result (GoesOn keeper.old keeper.new) }
-    ensures before_it { OnOk result (keeper.old.wounded ≡ None) }
-    ensures calls { D.tells → MakesCalls N.id_of D.file (IsEvent (opening by origin.now date)) keeper.old keeper.new }
-    ensures opened { OnOk result (keeper.new.history ≡ keeper.old.history ++ opening by origin.now date ∷ []) }
-    ensures same { OnErr result (keeper.new.history ≡ keeper.old.history) }
-    ensures wounded { IfErr result (λ stop. (n : ℕ) → keeper.old.wounded ≡ Some n → StopsUnchanged keeper.old keeper.new stop) }
-    ensures stops { IfErr result (StopsFor N.id_of D.faults (IsEvent (opening by origin.now date)) keeper.old keeper.new) }
-    ensures store_later { D.faults keeper.old.store ≤ D.faults keeper.new.store }
-    ensures ledger_later { D.faults keeper.old.ledger ≤ D.faults keeper.new.ledger }
+    ensures opened { IfOk result (IsOpened (attempt by origin.now date) keeper.old keeper.new) }
+    ensures unopened { IfErr result (IsUnopened keeper.old keeper.new) }
+    ensures leaves { Leaves N.id_of (disks D.tells D.file D.faults) (IsEvent (opening (attempt by origin.now date))) keeper.old keeper.new result }
 {
     let Ok(origin) = origin.again(alloc) else {
         return Err(LoadWhy::Memory);
@@ -51,30 +50,25 @@ pub fn open_visit<N: Namer, D: Disk>(
 pub fn mark<N: Namer, D: Disk>(
     alloc: Global,
     keeper: &mut Keeper<N, D>,
-    by: u32,
-    origin: &Url,
-    visit: u64,
+    visit: &OpenVisit,
     status: Status,
     snapshot: Option<[u8; 20]>,
 ) -> Result<(), LoadWhy>
-    requires { MayMark (replay keeper.old.history) by origin.now visit status snapshot }
-    ensures marked { OnOk result (IsMarked keeper.old.history keeper.new.history origin.now visit by ((status, snapshot) ∷ [])) }
+    requires { MayMark (replay keeper.old.history) visit.now.by visit.now.origin.now visit.now.number status snapshot }
+    ensures marked { OnOk result (IsMarked keeper.old.history keeper.new.history (attempt_of visit.now) visit.now.number ((status, snapshot) ∷ [])) }
     ensures same { OnErr result (keeper.new.history ≡ keeper.old.history) }
-    ensures on { OnOk result (GoesOn keeper.old keeper.new) }
-    ensures calls { D.tells → MakesCalls N.id_of D.file (IsEvent (marking by origin.now visit status snapshot)) keeper.old keeper.new }
-    ensures adds { Adds D.faults (IsEvent (marking by origin.now visit status snapshot)) keeper.old keeper.new }
-    ensures stops { IfErr result (StopsFor N.id_of D.faults (IsEvent (marking by origin.now visit status snapshot)) keeper.old keeper.new) }
+    ensures leaves { Leaves N.id_of (disks D.tells D.file D.faults) (IsEvent (marking (attempt_of visit.now) visit.now.number status snapshot)) keeper.old keeper.new result }
 {
-    let Ok(origin) = origin.again(alloc) else {
+    let Ok(origin) = visit.origin.again(alloc) else {
         return Err(LoadWhy::Memory);
     };
     let wish = Wish::Mark {
         origin,
-        visit,
+        visit: visit.number,
         status,
         snapshot,
     };
-    match keeper.apply(alloc, by, wish) {
+    match keeper.apply(alloc, visit.by, wish) {
         Ok(_) => Ok(()),
         Err(refusal) => Err(stopped(refusal)),
     }

@@ -3,7 +3,7 @@ use std::alloc::{AllocError, Global};
 use std::test::Fail;
 use swh_base::{Kind, Name, Namer, Url};
 use swh_keeper::{Keeper, OpenFault};
-use swh_loader::{Job, LoadFault, LoadWhy, Loaded, load_one};
+use swh_loader::{Job, LoadFault, LoadWhy, Loaded, Turn, Worker, load_one};
 use swh_memory::{MemoryDisk, MemorySource, Room};
 use swh_model::{Event, EventKind};
 use swh_outside::{OpenGate, Opened};
@@ -74,7 +74,16 @@ pub fn load<N: Namer>(
         head: None,
     };
     let date = 1_000_000_000;
-    let answer = load_one(alloc, namer, keeper, 1, &mut job, date, &OpenGate, 0, 0);
+    let worker = Worker {
+        by: 1,
+        gate: &OpenGate,
+        number: 0,
+    };
+    let turn = Turn {
+        worker: &worker,
+        job: 0,
+    };
+    let answer = load_one(alloc, namer, keeper, &turn, &mut job, date);
     let Job {
         origin: _origin,
         stream: _stream,

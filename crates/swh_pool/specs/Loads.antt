@@ -2,11 +2,13 @@
 use Rattle.std.specs.Prelude.{◌≡◌, ℕ, ◌≤◌, IfSome, Some, None, Result, Ok, Err, List, [], ◌∷◌, map}
 use Rattle.swh_base.specs.declared.kind.Kind.{Kind}
 use Rattle.swh_base.specs.Text.{IsRef}
+use Rattle.swh_base.specs.declared.entry.Entry.{Entry}
 use Rattle.swh_base.specs.declared.visit.Status.TheVariants.{Created}
-use Rattle.swh_outside.specs.Disk.{File}
+use Rattle.swh_outside.specs.Views.{Disks, Sources}
 use Rattle.swh_keeper.specs.Kept.{Kept}
 use Rattle.swh_loader.specs.declared.end.Loaded.{Loaded}
 use Rattle.swh_loader.specs.declared.fault.LoadFault.{LoadFault}
+use Rattle.swh_loader.specs.Adding.{Attempt, attempt}
 use Rattle.swh_loader.specs.Ending.{IsJobEnd, statuses_of}
 use Rattle.swh_loader.specs.Leaving.{AreAllowed, AddsVisit, MakesVisitCalls, Stops, IsHeldBack, IsSameInput, next_visit}
 use Rattle.swh_loader.specs.Sending.{bodies_of}
@@ -23,34 +25,53 @@ pub record OneLoad (S : Type 0) : Type 0 where
   pub after : DatedJob S
   pub outcome : Result Loaded LoadFault
 
+-- the load of a job
 abbrev pub one_load : {S : Type 0} → DatedJob S → DatedJob S → Result Loaded LoadFault → OneLoad S
 one_load job after outcome = record { job = job; after = after; outcome = outcome }
 
-module _ {S D : Type 0} (id : Kind → List ℕ → List ℕ) (tells : Type 0) (left : S → List ℕ) (source_faults : S → ℕ) (path : S → List ℕ) (disks_tell : Type 0) (file : D → File) (disk_faults : D → ℕ) (by : ℕ) where
+-- what loads are done with: how objects are named, by whom events are, and what the sources and the disks tell
+pub record Loading (S D : Type 0) : Type 1 where
+  pub id : Kind → List ℕ → List ℕ
+  pub by : ℕ
+  pub sources : Sources S
+  pub disks : Disks D
+
+abbrev pub loading : {S D : Type 0} → (Kind → List ℕ → List ℕ) → ℕ → Sources S → Disks D → Loading S D
+loading id by sources disks = record { id = id; by = by; sources = sources; disks = disks }
+
+module _ {S D : Type 0} (given : Loading S D) where
+  -- who loads the job, and when
+  abbrev pub attempt_at : OneLoad S → Attempt
+  attempt_at l = attempt given.by l.job.job.origin l.job.date
+
+  -- The batches of the load hold only what its input makes.
+  abbrev pub AreAllowedAt : OneLoad S → List Entry → Type 0
+  AreAllowedAt l = AreAllowed given.id l.job.job.head given.sources l.job.job.stream
+
   -- The load ended its visit, the next of its origin.
   pub record IsEnded (l : OneLoad S) (old new : Kept D) (loaded : Loaded) : Type 0 where
     pub number : loaded.visit ≡ next_visit old.history l.job.job.origin
-    pub visit : IsVisit new.history l.job.job.origin loaded.visit l.job.date by ((Created, None) ∷ statuses_of loaded.end)
-    pub means : IsJobEnd id l.job.job.head tells left source_faults (bodies_of new) l.job.job.stream l.after.job.stream loaded.end
+    pub visit : IsVisit new.history (attempt_at l) loaded.visit ((Created, None) ∷ statuses_of loaded.end)
+    pub means : IsJobEnd given.id l.job.job.head given.sources (bodies_of new) l.job.job.stream l.after.job.stream loaded.end
     pub on : GoesOn old new
     pub before_it : old.wounded ≡ None
 
   -- What the outcome says.
   abbrev pub IsOutcome : OneLoad S → Kept D → Kept D → Result Loaded LoadFault → Type 0
   IsOutcome l old new (Ok loaded) = IsEnded l old new loaded
-  IsOutcome l old new (Err fault) = Stops id disk_faults (AreAllowed id l.job.job.head tells left l.job.job.stream) by l.job.job.origin l.job.date old new fault
+  IsOutcome l old new (Err fault) = Stops given.id given.disks (AreAllowedAt l) (attempt_at l) old new fault
 
   -- The load of one job, between two states of the archive.
   pub record IsOneLoad (l : OneLoad S) (old new : Kept D) : Type 0 where
-    pub adds : AddsVisit (AreAllowed id l.job.job.head tells left l.job.job.stream) by l.job.job.origin l.job.date old.history new.history
+    pub adds : AddsVisit (AreAllowedAt l) (attempt_at l) old.history new.history
     pub ends : IsOutcome l old new l.outcome
     pub wounded : (n : ℕ) → old.wounded ≡ Some n → IsHeldBack old new l.outcome
-    pub calls : disks_tell → MakesVisitCalls id file (AreAllowed id l.job.job.head tells left l.job.job.stream) by l.job.job.origin l.job.date old new
-    pub store_later : disk_faults old.store ≤ disk_faults new.store
-    pub ledger_later : disk_faults old.ledger ≤ disk_faults new.ledger
+    pub calls : given.disks.tells → MakesVisitCalls given.id given.disks (AreAllowedAt l) (attempt_at l) old new
+    pub store_later : given.disks.faults old.store ≤ given.disks.faults new.store
+    pub ledger_later : given.disks.faults old.ledger ≤ given.disks.faults new.ledger
     pub same_origin : l.after.job.origin ≡ l.job.job.origin
     pub same_head : l.after.job.head ≡ l.job.job.head
-    pub same_input : IsSameInput path source_faults l.job.job.stream l.after.job.stream
+    pub same_input : IsSameInput given.sources l.job.job.stream l.after.job.stream
     pub same_date : l.after.date ≡ l.job.date
 
   -- Each load begins where the one before it ended.

@@ -1,7 +1,8 @@
 // Jobs loaded one after the other.
 ghost use Rattle.std.specs.Prelude.{◌≡◌, ◌↔◌, None, All, IfOk, OnErr, is_some, length};
+ghost use Rattle.swh_outside.specs.Views.{disks, sources};
 ghost use Rattle.swh_pool.specs.Lines.{ended, lines_of};
-ghost use Rattle.swh_pool.specs.Loads.{HasHead, one_load, IsOneLoad, AreLoaded};
+ghost use Rattle.swh_pool.specs.Loads.{HasHead, AreLoaded, loading};
 ghost use Rattle.swh_pool.specs.Stops.{AreStops, HaveNoDiskFault};
 
 use crate::dated::DatedJob;
@@ -9,35 +10,8 @@ use crate::lines::Lines;
 use std::alloc::Global;
 use swh_base::{Bytes, Memory, Namer};
 use swh_keeper::Keeper;
-use swh_loader::{LoadFault, Loaded, load_one};
+use swh_loader::{LoadFault, Loaded, Turn, Worker, load_one};
 use swh_outside::{Disk, Gate, Source};
-
-// Loads a job with its date.
-fn load_dated<N: Namer, D: Disk, S: Source, G: Gate>(
-    alloc: Global,
-    namer: &N,
-    keeper: &mut Keeper<N, D>,
-    by: u32,
-    dated: &mut DatedJob<S>,
-    gate: &G,
-    worker: u32,
-    number: u32,
-) -> Result<Loaded, LoadFault>
-    requires { HasHead dated.old }
-    ensures { IsOneLoad N.id_of S.tells S.left S.faults S.path D.tells D.file D.faults by (one_load dated.old dated.new result) keeper.old keeper.new }
-{
-    load_one(
-        alloc,
-        namer,
-        keeper,
-        by,
-        &mut dated.job,
-        dated.date,
-        gate,
-        worker,
-        number,
-    )
-}
 
 /// How jobs were loaded, and the lines that report it, both in the jobs' order.
 #[derive(Drop)]
@@ -56,15 +30,15 @@ pub fn load_all<N: Namer, D: Disk, S: Source, G: Gate>(
     alloc: Global,
     namer: &N,
     keeper: &mut Keeper<N, D>,
-    by: u32,
+    worker: &Worker<G>,
     jobs: &mut [DatedJob<S>],
-    gate: &G,
-    worker: u32,
 ) -> Result<Report, Memory>
     // A head is a ref.
     requires { All HasHead jobs.old }
     // Each load begins where the one before it ended.
-    ensures loads { IfOk result (λ report. AreLoaded N.id_of S.tells S.left S.faults S.path D.tells D.file D.faults by jobs.old jobs.new keeper.old keeper.new report.outcomes.items) }
+    ensures loads { IfOk result (λ report. AreLoaded
+        (loading N.id_of worker.now.by (sources S.tells S.left S.faults S.path) (disks D.tells D.file D.faults))
+        jobs.old jobs.new keeper.old keeper.new report.outcomes.items) }
     // Once a disk has failed, each job is stopped before its visit.
     ensures stops { IfOk result (λ report. AreStops (is_some keeper.old.wounded) report.outcomes.items) }
     // A disk has failed afterwards exactly where one had before or a load says so.
@@ -80,7 +54,11 @@ pub fn load_all<N: Namer, D: Disk, S: Source, G: Gate>(
     let mut number: u32 = 0;
     'jobs: for dated in jobs.iter_mut() {
         number = number.saturating_add(1);
-        let outcome = load_dated(alloc, namer, keeper, by, dated, gate, worker, number);
+        let turn = Turn {
+            worker: &*worker,
+            job: number,
+        };
+        let outcome = load_one(alloc, namer, keeper, &turn, &mut dated.job, dated.date);
         lines.add(&dated.job.origin, outcome);
         outcomes.push_reserved(outcome);
     }

@@ -6,7 +6,7 @@ use std::alloc::{AllocError, Global};
 use std::test::Fail;
 use swh_base::{Bytes, Sha1Namer, Url};
 use swh_keeper::{Keeper, OpenFault};
-use swh_loader::Job;
+use swh_loader::{Job, Worker};
 use swh_memory::{MemoryDisk, MemorySource, Room};
 use swh_outside::{OpenGate, Opened};
 use swh_pool::{DatedJob, load_all};
@@ -109,7 +109,12 @@ fn lines_of(
 ) -> Result<Bytes, Fail>
     requires { All HasHead jobs.old }
 {
-    let report = load_all(alloc, &Sha1Namer, keeper, 1, jobs, &OpenGate, 1)?;
+    let worker = Worker {
+        by: 1,
+        gate: &OpenGate,
+        number: 1,
+    };
+    let report = load_all(alloc, &Sha1Namer, keeper, &worker, jobs)?;
     Ok(report.text)
 }
 

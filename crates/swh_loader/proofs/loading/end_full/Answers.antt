@@ -1,19 +1,12 @@
-use Rattle.std.proofs.Common.{Some}
-use Rattle.swh_base.specs.declared.visit.Status.TheVariants.{Full}
-use Rattle.swh_loader.specs.Adding.{marking, IsEvent, IsNoBatch, IsOwn}
-use Rattle.swh_loader.proofs.CallLaws.{calls_as}
-use Rattle.swh_loader.proofs.Further.{adds_as}
-use Rattle.swh_loader.proofs.Owns.{own_mark}
+use Rattle.std.proofs.Common.{Err, ap, ◌∙◌}
+use Rattle.std.proofs.lemmas.Result.{err_from_is_err_and}
+use Rattle.swh_outside.specs.Views.{disks}
+use Rattle.swh_loader.specs.Adding.{IsNoBatch}
+use Rattle.swh_loader.specs.Ending.{last_of}
+use Rattle.swh_loader.proofs.Stepping.{visit_err}
 use Rattle.swh_loader.proofs.loading.end_full.Goals as goal
 
-pub returns-in_err-mark-clause-calls : goal.returns-in_err-mark-clause-calls
-returns-in_err-mark-clause-calls g c told = calls_as g.N.Namer.id_of g.D.Disk.file (IsEvent (marking c.args.by c.args.origin.now c.args.visit Full (Some c.args.snapshot))) (IsOwn IsNoBatch c.args.by c.args.origin.now c.args.visit) c.args.keeper.now c.mark.new.keeper (own_mark IsNoBatch c.args.by c.args.origin.now c.args.visit Full (Some c.args.snapshot)) (c.in_err-mark.ensures.calls told)
-
-pub returns-in_err-mark-clause-adds : goal.returns-in_err-mark-clause-adds
-returns-in_err-mark-clause-adds g c = adds_as g.D.Disk.faults (IsEvent (marking c.args.by c.args.origin.now c.args.visit Full (Some c.args.snapshot))) (IsOwn IsNoBatch c.args.by c.args.origin.now c.args.visit) c.args.keeper.now c.mark.new.keeper (own_mark IsNoBatch c.args.by c.args.origin.now c.args.visit Full (Some c.args.snapshot)) c.in_err-mark.ensures.adds
-
-pub returns-clause-calls : goal.returns-clause-calls
-returns-clause-calls g c told = calls_as g.N.Namer.id_of g.D.Disk.file (IsEvent (marking c.args.by c.args.origin.now c.args.visit Full (Some c.args.snapshot))) (IsOwn IsNoBatch c.args.by c.args.origin.now c.args.visit) c.args.keeper.now c.mark.new.keeper (own_mark IsNoBatch c.args.by c.args.origin.now c.args.visit Full (Some c.args.snapshot)) (c.in_ok-mark.ensures.calls told)
-
-pub returns-clause-adds : goal.returns-clause-adds
-returns-clause-adds g c = adds_as g.D.Disk.faults (IsEvent (marking c.args.by c.args.origin.now c.args.visit Full (Some c.args.snapshot))) (IsOwn IsNoBatch c.args.by c.args.origin.now c.args.visit) c.args.keeper.now c.mark.new.keeper (own_mark IsNoBatch c.args.by c.args.origin.now c.args.visit Full (Some c.args.snapshot)) c.in_ok-mark.ensures.adds
+pub returns-in_err-end-clause-leaves : goal.returns-in_err-end-clause-leaves
+returns-in_err-end-clause-leaves g c =
+    let p = err_from_is_err_and c.from_residual.result c.from_residual.ensures.1 in
+    visit_err g.N.Namer.id_of (disks g.D.Disk.tells g.D.Disk.file g.D.Disk.faults) IsNoBatch last_of c.args.visit.now c.args.keeper.now c.end_visit.new.keeper c.in_err-end.field-0.0 c.from_residual.result (p.1 ∙ ap Err p.2) c.in_err-end.ensures.leaves

@@ -1,8 +1,19 @@
+use Rattle.std.proofs.Common.{Err, ap, ◌∙◌}
+use Rattle.std.proofs.lemmas.Result.{err_from_is_err_and}
+use Rattle.swh_outside.specs.Views.{disks}
+use Rattle.swh_loader.specs.Adding.{IsBatchOf}
+use Rattle.swh_loader.specs.declared.sending.Taken.TheVariants.{Waits, Collides}
 use Rattle.swh_loader.proofs.Sends.{taken_held, taken_new}
+use Rattle.swh_loader.proofs.Stepping.{leaves_ok, leaves_err, leaves_memory}
 use Rattle.swh_loader.proofs.sending.take_in.Goals as goal
 
 pub returns-in-Held-clause-taken : goal.returns-in-Held-clause-taken
-returns-in-Held-clause-taken g c = taken_held g.N.Namer.id_of c.args.keeper.now c.make_room.new.keeper c.args.pending c.in_ok-pending.pending c.into_entry-entry.result c.args.object c.into_entry-entry.ensures.entry c.in_ok-pending.ensures.waiting c.in_ok-pending.ensures.to_be c.in_ok-pending.ensures.among c.in-Held.ensures
+returns-in-Held-clause-taken g c =
+    let room = c.in_ok-pending.ensures.room in
+    taken_held g.N.Namer.id_of c.args.keeper.now c.make_room.new.keeper c.args.pending c.in_ok-pending.pending c.into_entry-entry.result c.args.object c.into_entry-entry.ensures.entry room.waiting room.to_be room.among c.in-Held.ensures
 
 pub returns-in_ok-push-in-New-clause-taken : goal.returns-in_ok-push-in-New-clause-taken
-returns-in_ok-push-in-New-clause-taken g c = taken_new g.N.Namer.id_of c.args.keeper.now c.make_room.new.keeper c.args.pending c.in_ok-pending.pending c.push.new.self c.into_entry-entry.result c.args.object c.into_entry-entry.ensures.entry (rw c.into_entry-entry.ensures.entry c.into_entry-entry.ensures.good) c.in_ok-pending.ensures.waiting c.in_ok-pending.ensures.to_be c.in_ok-pending.ensures.among c.in_ok-pending.ensures.room c.in-New.ensures c.in_ok-push-in-New.ensures.entries c.in_ok-push-in-New.ensures.held c.in_ok-push-in-New.ensures.bytes
+returns-in_ok-push-in-New-clause-taken g c =
+    let room = c.in_ok-pending.ensures.room in
+    taken_new g.N.Namer.id_of c.args.keeper.now c.make_room.new.keeper c.args.pending c.in_ok-pending.pending c.push.new.self c.into_entry-entry.result c.args.object c.into_entry-entry.ensures.entry (rw c.into_entry-entry.ensures.entry c.into_entry-entry.ensures.good) room.waiting room.to_be room.among room.room c.in-New.ensures
+    c.in_ok-push-in-New.ensures.entries c.in_ok-push-in-New.ensures.held c.in_ok-push-in-New.ensures.bytes

@@ -1,28 +1,31 @@
 use Rattle.std.proofs.Common.{Err, ap, refl}
+use Rattle.swh_outside.specs.Views.{disks}
 use Rattle.swh_model.specs.declared.event.EventKind.TheVariants.{Mark}
 use Rattle.swh_loader.specs.Adding.{marking, IsEvent}
-use Rattle.swh_loader.proofs.CallLaws.{calls_none, calls_one, calls_refused}
-use Rattle.swh_loader.proofs.Steps.{marked_visit, goes_on}
+use Rattle.swh_loader.specs.Visiting.{attempt_of}
 use Rattle.swh_loader.proofs.Refusals.{mark_may}
+use Rattle.swh_loader.proofs.Stepping.{leaves_same, leaves_applied, leaves_refused}
+use Rattle.swh_loader.proofs.Steps.{marked_visit}
 use Rattle.swh_loader.proofs.visiting.mark.Goals as goal
 
-pub returns-in_default-clause-calls : goal.returns-in_default-clause-calls
-returns-in_default-clause-calls g c told = calls_none g.N.Namer.id_of g.D.Disk.file (IsEvent (marking c.args.by c.args.origin.now c.args.visit c.args.status c.args.snapshot)) c.args.keeper.now c.args.keeper.now refl
+pub returns-in_default-clause-leaves : goal.returns-in_default-clause-leaves
+returns-in_default-clause-leaves g c = leaves_same g.N.Namer.id_of (disks g.D.Disk.tells g.D.Disk.file g.D.Disk.faults) (IsEvent (marking (attempt_of c.args.visit.now) c.args.visit.now.number c.args.status c.args.snapshot)) c.args.keeper.now
 
 pub returns-in-Ok-apply-clause-marked : goal.returns-in-Ok-apply-clause-marked
-returns-in-Ok-apply-clause-marked g c = marked_visit c.args.keeper.now.history c.args.by c.args.origin.now c.args.visit c.args.status c.args.snapshot c.apply.new.self.history c.in-Ok-apply.field-0 (rw c.in-Ok.ensures at c.in-Ok-apply.ensures.ok)
+returns-in-Ok-apply-clause-marked g c = marked_visit c.args.keeper.now.history (attempt_of c.args.visit.now) c.args.visit.now.number c.args.status c.args.snapshot c.apply.new.self.history c.in-Ok-apply.field-0 (rw c.in-Ok.ensures at c.in-Ok-apply.ensures.ok)
 
-pub returns-in-Ok-apply-clause-on : goal.returns-in-Ok-apply-clause-on
-returns-in-Ok-apply-clause-on g c = goes_on c.args.keeper.now c.apply.new.self c.args.by _ c.in-Ok-apply.field-0 c.in-Ok-apply.ensures.ok c.in-Ok-apply.ensures.unwounded.1
-
-pub returns-in-Ok-apply-clause-calls : goal.returns-in-Ok-apply-clause-calls
-returns-in-Ok-apply-clause-calls g c told =
-    calls_one g.N.Namer.id_of g.D.Disk.file (IsEvent (marking c.args.by c.args.origin.now c.args.visit c.args.status c.args.snapshot)) c.args.keeper.now c.apply.new.self c.in-Ok-apply.ensures.unwounded.1 (c.in-Ok-apply.ensures.calls told)
+pub returns-in-Ok-apply-clause-leaves : goal.returns-in-Ok-apply-clause-leaves
+returns-in-Ok-apply-clause-leaves g c =
+    let visit = c.args.visit.now in
+    leaves_applied g.N.Namer.id_of (disks g.D.Disk.tells g.D.Disk.file g.D.Disk.faults) visit.by (Mark visit.origin.now visit.number c.args.status c.args.snapshot) (marking (attempt_of visit) visit.number c.args.status c.args.snapshot) c.in-Ok-apply.field-0 c.args.keeper.now c.apply.new.self tt
+    (rw c.in-Ok.ensures at c.in-Ok-apply.ensures.ok) refl c.in-Ok-apply.ensures.unwounded.1 c.in-Ok-apply.ensures.store_later c.in-Ok-apply.ensures.ledger_later c.in-Ok-apply.ensures.calls
 
 pub stopped-requires : goal.stopped-requires
-stopped-requires g c = mark_may c.args.keeper.now c.apply.new.self c.args.by c.args.origin.now c.args.visit c.args.status c.args.snapshot c.in-Err.refusal c.requires (rw c.in-Ok.ensures at c.in-Err.ensures.err)
+stopped-requires g c = mark_may c.args.keeper.now c.apply.new.self c.args.visit.now.by c.args.visit.now.origin.now c.args.visit.now.number c.args.status c.args.snapshot c.in-Err.refusal c.requires (rw c.in-Ok.ensures at c.in-Err.ensures.err)
 
-pub returns-in-Err-clause-calls : goal.returns-in-Err-clause-calls
-returns-in-Err-clause-calls g c told =
-    calls_refused g.N.Namer.id_of g.D.Disk.file c.args.keeper.now c.apply.new.self c.args.by (Mark c.args.origin.now c.args.visit c.args.status c.args.snapshot) (marking c.args.by c.args.origin.now c.args.visit c.args.status c.args.snapshot) c.in-Err.refusal
-    c.requires refl (rw c.in-Ok.ensures at c.in-Err.ensures.err) (λ e. rw c.in-Ok.ensures at (c.in-Err.ensures.broken told (ap Err e)))
+pub returns-in-Err-clause-leaves : goal.returns-in-Err-clause-leaves
+returns-in-Err-clause-leaves g c =
+    let visit = c.args.visit.now in
+    leaves_refused g.N.Namer.id_of (disks g.D.Disk.tells g.D.Disk.file g.D.Disk.faults) visit.by (Mark visit.origin.now visit.number c.args.status c.args.snapshot) (marking (attempt_of visit) visit.number c.args.status c.args.snapshot) c.in-Err.refusal c.args.keeper.now c.apply.new.self c.stopped.result
+    c.requires refl (λ which number is. is) (rw c.in-Ok.ensures at c.in-Err.ensures.err) c.stopped.ensures c.in-Err.ensures.store_later c.in-Err.ensures.ledger_later (λ e. c.in-Err.ensures.cause (ap Err e))
+    (λ told e. rw c.in-Ok.ensures at (c.in-Err.ensures.broken told (ap Err e)))

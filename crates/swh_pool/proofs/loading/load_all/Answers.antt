@@ -2,10 +2,12 @@ use Rattle.std.proofs.Common.{rules, arith, ◌≡◌, ◌++◌, ◌∷◌, [], 
 use Rattle.std.proofs.lemmas.List.{length-map, map-append}
 use Rattle.std.specs.List.{AllByRecursion}
 use Rattle.std.proofs.lemmas.List.Elements.{recursion_from_All}
-use Rattle.swh_pool.specs.Loads.{HasHead, one_load}
+use Rattle.swh_outside.specs.Views.{disks, sources}
+use Rattle.swh_pool.specs.declared.dated.DatedJob.{DatedJob}
+use Rattle.swh_pool.specs.Loads.{HasHead, IsOneLoad, loading, one_load}
 use Rattle.swh_pool.specs.Stops.{AreStops, HaveNoDiskFault}
 use Rattle.swh_pool.proofs.JobLines.{lines_more, lines_all}
-use Rattle.swh_pool.proofs.Loads.{loads_further}
+use Rattle.swh_pool.proofs.Loads.{outcome_of, loads_further}
 use Rattle.swh_pool.proofs.Stopped.{stops_of, whole_since, whole_still}
 use Rattle.swh_pool.proofs.Walks.{turned, seam_further, walked}
 use Rattle.swh_pool.proofs.loading.load_all.Goals as goal
@@ -34,8 +36,8 @@ add-requires g c =
     let same : length c.jobs.jobs ≡ length c.args.jobs.now = search rules in
     omega (arith, same, c.jobs-test.true, c.jobs.invariant.left)
 
-pub load_dated-outcome-requires-after_bounds : goal.load_dated-outcome-requires-after_bounds
-load_dated-outcome-requires-after_bounds g c κs within =
+pub load_one-outcome-requires-after_bounds : goal.load_one-outcome-requires-after_bounds
+load_one-outcome-requires-after_bounds g c κs within =
     let loads = c.jobs.invariant.loads in
     let below = c.jobs-test.true in
     let same : length c.jobs.jobs ≡ length c.args.jobs.now = search rules in
@@ -47,8 +49,21 @@ pub jobs-preserved : goal.jobs-preserved
 jobs-preserved g c =
     let loads = c.jobs.invariant.loads in
     let job = get_or c.jobs.jobs c.jobs.dated-index c.dated-item.result in
-    let after = c.load_dated-outcome.new.dated in
-    let load = one_load job after c.load_dated-outcome.result in
+    let said = c.load_one-outcome.ensures in
+    let after : DatedJob g.row.S.Denot = record { job = c.load_one-outcome.new.job; date = job.date } in
+    let load = one_load job after c.load_one-outcome.result in
+    let one : IsOneLoad (loading g.N.Namer.id_of c.args.worker.now.by (sources g.S.Source.tells g.S.Source.left g.S.Source.faults g.S.Source.path) (disks g.D.Disk.tells g.D.Disk.file g.D.Disk.faults)) load c.jobs.keeper c.load_one-outcome.new.keeper = record {
+      adds = said.adds;
+      ends = outcome_of (loading g.N.Namer.id_of c.args.worker.now.by (sources g.S.Source.tells g.S.Source.left g.S.Source.faults g.S.Source.path) (disks g.D.Disk.tells g.D.Disk.file g.D.Disk.faults)) load c.jobs.keeper c.load_one-outcome.new.keeper c.load_one-outcome.result said.number said.visit said.end said.on said.before_it said.stops;
+      wounded = said.wounded;
+      calls = said.calls;
+      store_later = said.store_later;
+      ledger_later = said.ledger_later;
+      same_origin = said.same_origin;
+      same_head = said.same_head;
+      same_input = said.same_input;
+      same_date = refl;
+    } in
     let long = c.jobs.invariant.index in
     let same : length c.jobs.jobs ≡ length c.args.jobs.now = search rules in
     let below = c.jobs-test.true in
@@ -60,7 +75,7 @@ jobs-preserved g c =
       now = turn.2 ∙ seam_further (λ x. x.after) loads load turn.0;
       heads = (subst (AllByRecursion HasHead) turn.1 c.jobs.invariant.heads).1;
       outcomes = c.push_reserved.ensures.items ∙ ap (λ l. l ++ load.outcome ∷ []) c.jobs.invariant.outcomes ∙ sym (map-append (λ x. x.outcome) loads (load ∷ []));
-      each = loads_further g.N.Namer.id_of g.S.Source.tells g.S.Source.left g.S.Source.faults g.S.Source.path g.D.Disk.tells g.D.Disk.file g.D.Disk.faults c.args.by loads load c.args.keeper.now c.jobs.keeper c.load_dated-outcome.new.keeper c.jobs.invariant.each c.load_dated-outcome.ensures;
+      each = loads_further (loading g.N.Namer.id_of c.args.worker.now.by (sources g.S.Source.tells g.S.Source.left g.S.Source.faults g.S.Source.path) (disks g.D.Disk.tells g.D.Disk.file g.D.Disk.faults)) loads load c.args.keeper.now c.jobs.keeper c.load_one-outcome.new.keeper c.jobs.invariant.each one;
       index = length-append loads (load ∷ []) ∙ ap (λ n. n + 1) long;
       count = c.push_reserved.ensures.len ∙ ap (λ n. n + 1) c.jobs.invariant.count;
       text = c.add.ensures.text ∙ lines_more loads load c.jobs.lines.text.items c.jobs.invariant.text;
@@ -83,15 +98,15 @@ returns-clause-loads g c =
 
 pub returns-clause-stops : goal.returns-clause-stops
 returns-clause-stops g c =
-    let stops = stops_of g.N.Namer.id_of g.S.Source.tells g.S.Source.left g.S.Source.faults g.S.Source.path g.D.Disk.tells g.D.Disk.file g.D.Disk.faults c.args.by c.jobs.invariant.loads c.args.keeper.now c.jobs.keeper c.jobs.invariant.each in
+    let stops = stops_of (loading g.N.Namer.id_of c.args.worker.now.by (sources g.S.Source.tells g.S.Source.left g.S.Source.faults g.S.Source.path) (disks g.D.Disk.tells g.D.Disk.file g.D.Disk.faults)) c.jobs.invariant.loads c.args.keeper.now c.jobs.keeper c.jobs.invariant.each in
     subst (AreStops _) (sym c.jobs.invariant.outcomes) stops
 
 pub returns-clause-unwounded : goal.returns-clause-unwounded
 returns-clause-unwounded g c = (
   λ whole.
-      let since = whole_since g.N.Namer.id_of g.S.Source.tells g.S.Source.left g.S.Source.faults g.S.Source.path g.D.Disk.tells g.D.Disk.file g.D.Disk.faults c.args.by c.jobs.invariant.loads c.args.keeper.now c.jobs.keeper c.jobs.invariant.each whole in
+      let since = whole_since (loading g.N.Namer.id_of c.args.worker.now.by (sources g.S.Source.tells g.S.Source.left g.S.Source.faults g.S.Source.path) (disks g.D.Disk.tells g.D.Disk.file g.D.Disk.faults)) c.jobs.invariant.loads c.args.keeper.now c.jobs.keeper c.jobs.invariant.each whole in
       (since.0, subst HaveNoDiskFault (sym c.jobs.invariant.outcomes) since.1),
-  λ h. whole_still g.N.Namer.id_of g.S.Source.tells g.S.Source.left g.S.Source.faults g.S.Source.path g.D.Disk.tells g.D.Disk.file g.D.Disk.faults c.args.by c.jobs.invariant.loads c.args.keeper.now c.jobs.keeper c.jobs.invariant.each h.0 (subst HaveNoDiskFault c.jobs.invariant.outcomes h.1),
+  λ h. whole_still (loading g.N.Namer.id_of c.args.worker.now.by (sources g.S.Source.tells g.S.Source.left g.S.Source.faults g.S.Source.path) (disks g.D.Disk.tells g.D.Disk.file g.D.Disk.faults)) c.jobs.invariant.loads c.args.keeper.now c.jobs.keeper c.jobs.invariant.each h.0 (subst HaveNoDiskFault c.jobs.invariant.outcomes h.1),
 )
 
 pub returns-clause-lines : goal.returns-clause-lines

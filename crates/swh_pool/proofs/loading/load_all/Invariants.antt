@@ -1,8 +1,9 @@
 use Rattle.std.proofs.Common.{◌≡◌, ◌+◌, List, ◌++◌, map, length, vec_len, vec_capacity}
 use Rattle.swh_pool.specs.declared.dated.DatedJob.{DatedJob}
 use Rattle.std.specs.List.{AllByRecursion}
+use Rattle.swh_outside.specs.Views.{disks, sources}
 use Rattle.swh_pool.specs.Lines.{lines_of}
-use Rattle.swh_pool.specs.Loads.{HasHead, OneLoad, AreLoads}
+use Rattle.swh_pool.specs.Loads.{HasHead, OneLoad, AreLoads, loading}
 use Rattle.swh_pool.proofs.JobLines.{end_of}
 use Rattle.swh_pool.proofs.loading.load_all.Given as goal
 
@@ -14,7 +15,7 @@ invariant-jobs g l = record {
   now : l.jobs ≡ map (λ x. x.after) loads ++ rest;
   heads : AllByRecursion HasHead rest;
   outcomes : l.outcomes.items ≡ map (λ x. x.outcome) loads;
-  each : AreLoads g.N.Namer.id_of g.S.Source.tells g.S.Source.left g.S.Source.faults g.S.Source.path g.D.Disk.tells g.D.Disk.file g.D.Disk.faults l.by loads l.fn.keeper l.keeper;
+  each : AreLoads (loading g.N.Namer.id_of l.worker.by (sources g.S.Source.tells g.S.Source.left g.S.Source.faults g.S.Source.path) (disks g.D.Disk.tells g.D.Disk.file g.D.Disk.faults)) loads l.fn.keeper l.keeper;
   index : length loads ≡ l.dated-index;
   count : vec_len l.outcomes ≡ l.dated-index;
   text : l.lines.text.items ≡ lines_of (map end_of loads);
