@@ -14,6 +14,7 @@ use Rattle.swh_model.proofs.Growing.{bodies_grow}
 use Rattle.swh_model.proofs.Histories.{fronts}
 use Rattle.swh_fastload.specs.Making.{made_of, made}
 use Rattle.swh_fastload.proofs.Loads.{one_meaning_lem}
+use Rattle.swh_loader.specs.Adding.{attempt}
 use Rattle.swh_loader.specs.Ending.{IsFull}
 use Rattle.swh_loader.proofs.Limiting.{at_element}
 use Rattle.swh_loader.specs.declared.end.End.{End}
@@ -22,7 +23,7 @@ use Rattle.swh_loader.specs.declared.end.Loaded.{Loaded}
 use Rattle.swh_loader.specs.declared.fault.LoadFault.{LoadFault}
 use Rattle.swh_program.specs.Causes.{HasTwoBodies, IsBadInput}
 use Rattle.swh_program.specs.Complete.{HasBody}
-use Rattle.swh_program.specs.Inputs.{Inputs, input_of, IsInputEnd, IsOutcome}
+use Rattle.swh_program.specs.Inputs.{loader, Inputs, input_of, IsInputEnd, IsOutcome}
 use Rattle.swh_program.specs.Lines.{LoadedJob, outcomes, ending_of_end, ending_for, ending_of_all}
 use Rattle.swh_program.specs.Load.{AreJobLoads}
 use Rattle.swh_program.specs.declared.answer.Ending.TheVariants as ending
@@ -64,7 +65,7 @@ module _ (id_of : Kind → List ℕ → List ℕ) (of_jobs : Inputs) (told : of_
   end_not_bad job held within (Failed reason) is e bad = let f : ending.Wanting ≡ ending.Done = e in cc
 
   load_not_bad : (job : Job) (date : ℕ) (h h' : List Event) → IsWithin bodies (replay h').bodies → (outcome : Result Loaded LoadFault)
-      → IsOutcome id_of (input_of of_jobs job) job.url date h h' outcome → ending_for outcome ≡ ending.Done → IsBadInput id_of job.head bodies (of_jobs.at job.path) → ⊥
+      → IsOutcome id_of (input_of of_jobs job) (attempt loader job.url date) h h' outcome → ending_for outcome ≡ ending.Done → IsBadInput id_of job.head bodies (of_jobs.at job.path) → ⊥
   load_not_bad job date h h' within (Ok l) line e bad = end_not_bad job (replay h').bodies within l.end line.end e bad
   load_not_bad job date h h' within (Err f) line e bad = why_undone f.why e
 

@@ -7,12 +7,12 @@ use Rattle.swh_model.specs.declared.event.Event.{Event}
 use Rattle.swh_keeper.specs.Kept.{Kept}
 use Rattle.swh_jobs.specs.Job.{Job}
 use Rattle.swh_loader.specs.Calls.{MakesCallsOf, MakesCalls}
-use Rattle.swh_loader.specs.Leaving.{AreAllowed, AreOfVisit, AddsVisit, IsHeldBack, next_visit}
+use Rattle.swh_loader.specs.Leaving.{AreOfVisit, AddsVisit, IsHeldBack, next_visit}
 use Rattle.swh_loader.specs.declared.end.Loaded.{Loaded}
 use Rattle.swh_loader.specs.declared.fault.LoadFault.{LoadFault}
 use Rattle.swh_loader.proofs.CallLaws.{calls_none, of_as, of_further}
-use Rattle.swh_pool.specs.Loads.{OneLoad}
-use Rattle.swh_program.specs.Inputs.{Inputs}
+use Rattle.swh_pool.specs.Loads.{Loading, loading, attempt_at, AreAllowedAt, OneLoad}
+use Rattle.swh_program.specs.Inputs.{loader, Inputs}
 use Rattle.swh_program.specs.Dated.{IsOpenedJob}
 use Rattle.swh_program.specs.Lines.{LoadedJob}
 use Rattle.swh_program.specs.Load.{IsNextOf}
@@ -29,6 +29,9 @@ by_wound None stopped going = going refl
 
 module _ {S : Type 0} (id_of : Kind → List ℕ → List ℕ) (sources : Sources S) (opened_by : Inputs) (after : List ℕ → ℕ)
     (later : (p : List ℕ) → opened_by.failures p ≤ opened_by.failures_now p) (later_still : (p : List ℕ) → opened_by.failures_now p ≤ after p) {D : Type 0} (disks : Disks D) where
+  abbrev from : Loading S D
+  from = loading id_of loader sources disks
+
   abbrev One : OneLoad S → Kept D → Kept D → Type 0
   One l old new = Loads id_of sources opened_by after later later_still disks l old new
 
@@ -59,9 +62,9 @@ module _ {S : Type 0} (id_of : Kind → List ℕ → List ℕ) (sources : Source
 
   -- what comes next in a load
   next_of : (job : Job) (l : OneLoad S) (more : List LoadedJob) (old new : Kept D) (added : List Event) → IsOpenedJob sources opened_by job l.job → new.history ≡ old.history ++ added
-      → (e : Event) → AreOfVisit (AreAllowed id_of l.job.job.head sources.tells sources.left l.job.job.stream) 1 l.job.job.origin l.job.date (next_visit old.history l.job.job.origin) (added ++ e ∷ []) → Next (job_load job l ∷ more) new.history e
+      → (e : Event) → AreOfVisit (AreAllowedAt from l) (attempt_at from l) (next_visit old.history l.job.job.origin) (added ++ e ∷ []) → Next (job_load job l ∷ more) new.history e
   next_of job l more old new added opened behind e are =
-      let adds : AddsVisit (AreAllowed id_of l.job.job.head sources.tells sources.left l.job.job.stream) 1 l.job.job.origin l.job.date old.history (new.history ++ e ∷ []) =
+      let adds : AddsVisit (AreAllowedAt from l) (attempt_at from l) old.history (new.history ++ e ∷ []) =
       record { more = added ++ e ∷ []; behind = ap (λ (t : List Event). t ++ e ∷ []) behind ∙ append_assoc old.history added (e ∷ []); are = are } in
       record {
         l = job_load job l;

@@ -15,7 +15,7 @@ use Rattle.swh_model.specs.Archive.{Bodies}
 use Rattle.swh_model.specs.Step.{replay}
 use Rattle.swh_keeper.specs.Kept.{Kept}
 use Rattle.swh_jobs.specs.Job.{Job}
-use Rattle.swh_loader.specs.Adding.{opening, IsEvent, IsOwn, IsOwnKind}
+use Rattle.swh_loader.specs.Adding.{Attempt, attempt, opening, IsEvent, IsOwn, IsOwnKind}
 use Rattle.swh_loader.specs.Ending.{IsEndOf, IsJobEnd}
 use Rattle.swh_loader.specs.Leaving.{AreAllowed, AreOfVisit, AddsVisit, Stops, IsSameInput, next_visit}
 use Rattle.swh_loader.specs.Stopping as stopping
@@ -27,9 +27,9 @@ use Rattle.swh_loader.specs.declared.fault.LoadWhy.{LoadWhy}
 use Rattle.swh_loader.specs.declared.fault.LoadWhy.TheVariants as why
 use Rattle.swh_loader.specs.declared.fault.LoadFault.{LoadFault}
 use Rattle.swh_pool.specs.Lines.{ended}
-use Rattle.swh_pool.specs.Loads.{OneLoad, IsOutcome as IsOutcomeOf, IsOneLoad, AreLoads}
+use Rattle.swh_pool.specs.Loads.{Loading, loading, attempt_at, AreAllowedAt, OneLoad, IsOutcome as IsOutcomeOf, IsOneLoad, AreLoads}
 use Rattle.swh_program.specs.Dated.{IsOpenedAt, IsOpenedJob, AreOpenedJobs, IsGivenBack, AreGivenBack}
-use Rattle.swh_program.specs.Inputs.{Inputs, inputs, Input, input_of, HasFailed, IsOfInput, IsInputEnd, StopsFor, StopsVisit, IsOutcome}
+use Rattle.swh_program.specs.Inputs.{loader, Inputs, inputs, Input, input_of, HasFailed, IsOfInput, IsInputEnd, StopsFor, StopsVisit, IsOutcome}
 use Rattle.swh_program.specs.Lines.{LoadedJob, dates, outcomes}
 use Rattle.swh_program.specs.Load.{IsJobLoad, AreJobLoads}
 
@@ -53,36 +53,36 @@ own_kind P Q origin number more (Batch entries) is = (is.0, more entries is.1)
 own_kind P Q origin number more (OpenEvent other kind date) is = is
 own_kind P Q origin number more (Mark other visit status snapshot) is = is
 
-own_events : (P Q : List Entry → Type 0) (by : ℕ) (origin : List ℕ) (number : ℕ) → ((entries : List Entry) → P entries → Q entries) → (es : List Event) → AllByRecursion (IsOwn P by origin number) es → AllByRecursion (IsOwn Q by origin number) es
-own_events P Q by origin number more [] all = tt
-own_events P Q by origin number more (e ∷ es) all = (record { by_one = all.0.by_one; kind = own_kind P Q origin number more e.what all.0.kind }, own_events P Q by origin number more es all.1)
+own_events : (P Q : List Entry → Type 0) (a : Attempt) (number : ℕ) → ((entries : List Entry) → P entries → Q entries) → (es : List Event) → AllByRecursion (IsOwn P a number) es → AllByRecursion (IsOwn Q a number) es
+own_events P Q a number more [] all = tt
+own_events P Q a number more (e ∷ es) all = (record { by_one = all.0.by_one; kind = own_kind P Q a.origin number more e.what all.0.kind }, own_events P Q a number more es all.1)
 
-of_visit : (P Q : List Entry → Type 0) (by : ℕ) (origin : List ℕ) (date number : ℕ) → ((entries : List Entry) → P entries → Q entries) → (es : List Event) → AreOfVisit P by origin date number es → AreOfVisit Q by origin date number es
-of_visit P Q by origin date number more [] are = tt
-of_visit P Q by origin date number more (e ∷ es) are = (are.0, own_events P Q by origin number more es are.1)
+of_visit : (P Q : List Entry → Type 0) (a : Attempt) (number : ℕ) → ((entries : List Entry) → P entries → Q entries) → (es : List Event) → AreOfVisit P a number es → AreOfVisit Q a number es
+of_visit P Q a number more [] are = tt
+of_visit P Q a number more (e ∷ es) are = (are.0, own_events P Q a number more es are.1)
 
-pub adds_visit : (P Q : List Entry → Type 0) (by : ℕ) (origin : List ℕ) (date : ℕ) (h h' : List Event) → ((entries : List Entry) → P entries → Q entries) → AddsVisit P by origin date h h' → AddsVisit Q by origin date h h'
-adds_visit P Q by origin date h h' more adds = record { more = adds.more; behind = adds.behind; are = of_visit P Q by origin date (next_visit h origin) more adds.more adds.are }
+pub adds_visit : (P Q : List Entry → Type 0) (a : Attempt) (h h' : List Event) → ((entries : List Entry) → P entries → Q entries) → AddsVisit P a h h' → AddsVisit Q a h h'
+adds_visit P Q a h h' more adds = record { more = adds.more; behind = adds.behind; are = of_visit P Q a (next_visit h a.origin) more adds.more adds.are }
 
 all_append : {X : Type 0} (P : X → Type 0) (xs ys : List X) → AllByRecursion P xs → AllByRecursion P ys → AllByRecursion P (xs ++ ys)
 all_append P [] ys h k = k
 all_append P (x ∷ xs) ys h k = (h.0, all_append P xs ys h.1 k)
 
 -- one event more of a load
-module _ (P : List Entry → Type 0) (by : ℕ) (origin : List ℕ) (date : ℕ) (h h' : List Event) (e : Event) where
+module _ (P : List Entry → Type 0) (a : Attempt) (h h' : List Event) (e : Event) where
   -- its first
-  pub opened_next : h' ≡ h → IsEvent (opening by origin date) e → AddsVisit P by origin date h (h' ++ e ∷ [])
+  pub opened_next : h' ≡ h → IsEvent (opening a) e → AddsVisit P a h (h' ++ e ∷ [])
   opened_next same is = record { more = e ∷ []; behind = ap (λ (t : List Event). t ++ e ∷ []) same; are = (is, tt) }
 
   longer : (more : List Event) (o : Event) → h' ≡ h ++ [] → h' ≡ h ++ o ∷ more → ⊥
   longer more o none some = let l = sym (length-append h []) ∙ ap length (sym none ∙ some) ∙ length-append h (o ∷ more) in omega (arith, l)
 
-  own_more : (m more : List Event) (o : Event) → h' ≡ h ++ m → h' ≡ h ++ o ∷ more → AreOfVisit P by origin date (next_visit h origin) m → IsOwn P by origin (next_visit h origin) e → AreOfVisit P by origin date (next_visit h origin) (m ++ e ∷ [])
+  own_more : (m more : List Event) (o : Event) → h' ≡ h ++ m → h' ≡ h ++ o ∷ more → AreOfVisit P a (next_visit h a.origin) m → IsOwn P a (next_visit h a.origin) e → AreOfVisit P a (next_visit h a.origin) (m ++ e ∷ [])
   own_more [] more o none some are own = absurd (longer more o none some)
-  own_more (x ∷ m) more o behind some are own = (are.0, all_append (IsOwn P by origin (next_visit h origin)) m (e ∷ []) are.1 (own, tt))
+  own_more (x ∷ m) more o behind some are own = (are.0, all_append (IsOwn P a (next_visit h a.origin)) m (e ∷ []) are.1 (own, tt))
 
   -- a later one
-  pub own_next : (more : List Event) (o : Event) → h' ≡ h ++ o ∷ more → AddsVisit P by origin date h h' → IsOwn P by origin (next_visit h origin) e → AddsVisit P by origin date h (h' ++ e ∷ [])
+  pub own_next : (more : List Event) (o : Event) → h' ≡ h ++ o ∷ more → AddsVisit P a h h' → IsOwn P a (next_visit h a.origin) e → AddsVisit P a h (h' ++ e ∷ [])
   own_next more o opened adds own = record {
     more = adds.more ++ e ∷ [];
     behind = ap (λ (t : List Event). t ++ e ∷ []) adds.behind ∙ append_assoc h adds.more (e ∷ []);
@@ -90,30 +90,30 @@ module _ (P : List Entry → Type 0) (by : ℕ) (origin : List ℕ) (date : ℕ)
   }
 
 -- Why a load stopped.
-module _ {D : Type 0} (id_of : Kind → List ℕ → List ℕ) (input : Input) (faults : D → ℕ) (P : List Entry → Type 0) (url : List ℕ) (date : ℕ) (old new : Kept D)
-    (allowed : (entries : List Entry) → P entries → IsOfInput id_of input entries) (adds : AddsVisit P 1 url date old.history new.history) where
-  stops_for : (tried : Event → Type 0) → ((e : Event) → tried e → AddsVisit P 1 url date old.history (new.history ++ e ∷ [])) → (reason : LoadWhy) → stopping.StopsFor id_of faults tried old new reason
-      → StopsFor id_of input url date old.history new.history reason
+module _ {D : Type 0} (id_of : Kind → List ℕ → List ℕ) (input : Input) (disks : Disks D) (P : List Entry → Type 0) (a : Attempt) (old new : Kept D)
+    (allowed : (entries : List Entry) → P entries → IsOfInput id_of input entries) (adds : AddsVisit P a old.history new.history) where
+  stops_for : (tried : Event → Type 0) → ((e : Event) → tried e → AddsVisit P a old.history (new.history ++ e ∷ [])) → (reason : LoadWhy) → stopping.StopsFor id_of disks.faults tried old new reason
+      → StopsFor id_of input a old.history new.history reason
   stops_for tried next (why.Ended status) stops = stops
   stops_for tried next why.DiskFault stops = tt
   stops_for tried next why.Wounded stops = tt
   stops_for tried next (why.Limit which number) stops = record {
     event = stops.event;
-    next = adds_visit P (IsOfInput id_of input) 1 url date old.history (new.history ++ stops.event ∷ []) allowed (next stops.event stops.tried);
+    next = adds_visit P (IsOfInput id_of input) a old.history (new.history ++ stops.event ∷ []) allowed (next stops.event stops.tried);
     may = stops.may;
     passes = stops.passes;
   }
   stops_for tried next why.Memory stops = tt
 
-  stops_visit : (fault : LoadFault) → Stops id_of faults P 1 url date old new fault → StopsVisit id_of input url date old.history new.history fault
+  stops_visit : (fault : LoadFault) → Stops id_of disks P a old new fault → StopsVisit id_of input a old.history new.history fault
   stops_visit fault (inl once) =
       record {
         visit = inl (once.no_visit, once.same);
-        stops = stops_for (IsEvent (opening 1 url date)) (λ e is. opened_next P 1 url date old.history new.history e once.same is) fault.why once.stops;
+        stops = stops_for (IsEvent (opening a)) (λ e is. opened_next P a old.history new.history e once.same is) fault.why once.stops;
       }
   stops_visit fault (inr later) =
-      let own = λ (e : Event) (is : IsOwn P 1 url fault.visit e). own_next P 1 url date old.history new.history e later.more (opening 1 url date) later.opened adds (subst (λ (n : ℕ). IsOwn P 1 url n e) later.visit is) in
-      record { visit = inr (later.visit, later.more, later.opened); stops = stops_for (IsOwn P 1 url fault.visit) own fault.why later.stops }
+      let own = λ (e : Event) (is : IsOwn P a fault.visit e). own_next P a old.history new.history e later.more (opening a) later.opened adds (subst (λ (n : ℕ). IsOwn P a n e) later.visit is) in
+      record { visit = inr (later.visit, later.more, later.opened); stops = stops_for (IsOwn P a fault.visit) own fault.why later.stops }
 
 -- The inputs of jobs: opened, and given back.
 module _ {S : Type 0} (id_of : Kind → List ℕ → List ℕ) (sources : Sources S) (opened_by : Inputs) (after : List ℕ → ℕ)
@@ -128,7 +128,7 @@ module _ {S : Type 0} (id_of : Kind → List ℕ → List ℕ) (sources : Source
   abbrev pub OfJob : Job → List Entry → Type 0
   OfJob job = IsOfInput id_of (input_of of_jobs job)
 
-  pub allowed : (job : Job) (s : Opened S) → (opened_by.tell → sources.tells) → (opened_by.tell → IfFound s (λ x. opened_by.at job.path ≡ Some (sources.left x))) → (entries : List Entry) → AreAllowed id_of job.head sources.tells sources.left s entries → OfJob job entries
+  pub allowed : (job : Job) (s : Opened S) → (opened_by.tell → sources.tells) → (opened_by.tell → IfFound s (λ x. opened_by.at job.path ≡ Some (sources.left x))) → (entries : List Entry) → AreAllowed id_of job.head sources s entries → OfJob job entries
   allowed job (Found s) told is entries allowed_by = λ t. (sources.left s, is t, allowed_by (told t))
   allowed job Missing told is entries allowed_by = absurd allowed_by
   allowed job Unopened told is entries allowed_by = absurd allowed_by
@@ -139,14 +139,14 @@ module _ {S : Type 0} (id_of : Kind → List ℕ → List ℕ) (sources : Source
   back_at path s at back some = rose_since (opened_by.failures path) (opened_by.failures_now path) (after path) (later path) (subst (λ (p : List ℕ). Rose (opened_by.failures_now p) (after p)) at (back some))
 
   found_end : (job : Job) (bodies : Bodies) (s t : S) → (opened_by.tell → sources.tells) → (opened_by.tell → opened_by.at job.path ≡ Some (sources.left s)) → sources.faults s ≡ 0 → sources.path t ≡ job.path → (0 < sources.faults t → Rose (opened_by.failures_now (sources.path t)) (after (sources.path t)))
-      → (end : End) → IsEndOf id_of job.head sources.tells (sources.left s) (sources.faults s) (sources.faults t) bodies end → IsInputEnd id_of (input_of of_jobs job) bodies end
+      → (end : End) → IsEndOf id_of job.head sources bodies s t end → IsInputEnd id_of (input_of of_jobs job) bodies end
   found_end job bodies s t told is none at back (Full snapshot) ends = λ h. (sources.left s, is h, ends (told h))
   found_end job bodies s t told is none at back NotFound ends = absurd ends
   found_end job bodies s t told is none at back (Failed (Stream place stream_why)) ends = (ends.0, ends.1, λ h. (sources.left s, is h, ends.2 (told h)))
   found_end job bodies s t told is none at back (Failed (Collision name)) ends = λ h. (sources.left s, is h, ends (told h))
   found_end job bodies s t told is none at back (Failed Read) ends = back_at job.path t at back (rose_above (sources.faults s) (sources.faults t) none ends)
 
-  input_end : (job : Job) (bodies : Bodies) (s t : Opened S) → Opens job s → IsSameInput sources.path sources.faults s t → IsGivenBack sources opened_by.failures_now after t → (end : End) → IsJobEnd id_of job.head sources.tells sources.left sources.faults bodies s t end
+  input_end : (job : Job) (bodies : Bodies) (s t : Opened S) → Opens job s → IsSameInput sources s t → IsGivenBack sources opened_by.failures_now after t → (end : End) → IsJobEnd id_of job.head sources bodies s t end
       → IsInputEnd id_of (input_of of_jobs job) bodies end
   input_end job bodies (Found s) (Found t) opened same back end ends = found_end job bodies s t opened.told opened.found opened.quiet (same.0 ∙ opened.at) back end ends
   input_end job bodies (Found s) Missing opened same back end ends = absurd ends
@@ -158,11 +158,15 @@ module _ {S : Type 0} (id_of : Kind → List ℕ → List ℕ) (sources : Source
   input_end job bodies NoRoom t opened same back end ends = absurd ends
 
   module _ {D : Type 0} (disks : Disks D) where
+    -- what the loads are done with
+    abbrev pub given : Loading S D
+    given = loading id_of loader sources disks
+
     abbrev pub Loads : OneLoad S → Kept D → Kept D → Type 0
-    Loads l old new = IsOneLoad id_of sources.tells sources.left sources.faults sources.path disks.tells disks.file disks.faults 1 l old new
+    Loads l old new = IsOneLoad given l old new
 
     abbrev pub AllLoads : List (OneLoad S) → Kept D → Kept D → Type 0
-    AllLoads loads old new = AreLoads id_of sources.tells sources.left sources.faults sources.path disks.tells disks.file disks.faults 1 loads old new
+    AllLoads loads old new = AreLoads given loads old new
 
     -- a job as it was loaded
     abbrev pub loaded_job : Job → OneLoad S → LoadedJob
@@ -170,26 +174,26 @@ module _ {S : Type 0} (id_of : Kind → List ℕ → List ℕ) (sources : Source
 
     -- what the load of an opened job says, with the job's head
     line : (job : Job) (l : OneLoad S) (old new : Kept D) → Opens job l.job.job.stream → l.job.job.head ≡ job.head → IsGivenBack sources opened_by.failures_now after l.after.job.stream
-        → AddsVisit (AreAllowed id_of job.head sources.tells sources.left l.job.job.stream) 1 l.job.job.origin l.job.date old.history new.history → IsSameInput sources.path sources.faults l.job.job.stream l.after.job.stream
-        → (outcome : Result Loaded LoadFault) → IsOutcomeOf id_of sources.tells sources.left sources.faults sources.path disks.tells disks.file disks.faults 1 l old new outcome
-        → IsOutcome id_of (input_of of_jobs job) l.job.job.origin l.job.date old.history new.history outcome
+        → AddsVisit (AreAllowed id_of job.head sources l.job.job.stream) (attempt_at given l) old.history new.history → IsSameInput sources l.job.job.stream l.after.job.stream
+        → (outcome : Result Loaded LoadFault) → IsOutcomeOf given l old new outcome
+        → IsOutcome id_of (input_of of_jobs job) (attempt_at given l) old.history new.history outcome
     line job l old new opened head back adds same (Ok loaded) is =
-        let means = subst (λ (h : Option (List ℕ)). IsJobEnd id_of h sources.tells sources.left sources.faults (replay new.history).bodies l.job.job.stream l.after.job.stream loaded.end) head is.means in
+        let means = subst (λ (h : Option (List ℕ)). IsJobEnd id_of h sources (replay new.history).bodies l.job.job.stream l.after.job.stream loaded.end) head is.means in
         record { number = is.number; visit = is.visit; end = input_end job (replay new.history).bodies l.job.job.stream l.after.job.stream opened same back loaded.end means }
     line job l old new opened head back adds same (Err fault) is =
-        let stops = subst (λ (h : Option (List ℕ)). Stops id_of disks.faults (AreAllowed id_of h sources.tells sources.left l.job.job.stream) 1 l.job.job.origin l.job.date old new fault) head is in
-        stops_visit id_of (input_of of_jobs job) disks.faults (AreAllowed id_of job.head sources.tells sources.left l.job.job.stream) l.job.job.origin l.job.date old new (allowed job l.job.job.stream opened.told opened.found) adds fault stops
+        let stops = subst (λ (h : Option (List ℕ)). Stops id_of disks (AreAllowed id_of h sources l.job.job.stream) (attempt_at given l) old new fault) head is in
+        stops_visit id_of (input_of of_jobs job) disks (AreAllowed id_of job.head sources l.job.job.stream) (attempt_at given l) old new (allowed job l.job.job.stream opened.told opened.found) adds fault stops
 
     -- what it adds, with the job's head
-    pub adds_with : (job : Job) (l : OneLoad S) (before after' : List Event) → l.job.job.head ≡ job.head → AddsVisit (AreAllowed id_of l.job.job.head sources.tells sources.left l.job.job.stream) 1 l.job.job.origin l.job.date before after'
-        → AddsVisit (AreAllowed id_of job.head sources.tells sources.left l.job.job.stream) 1 l.job.job.origin l.job.date before after'
-    adds_with job l before after' head adds = subst (λ (h : Option (List ℕ)). AddsVisit (AreAllowed id_of h sources.tells sources.left l.job.job.stream) 1 l.job.job.origin l.job.date before after') head adds
+    pub adds_with : (job : Job) (l : OneLoad S) (before after' : List Event) → l.job.job.head ≡ job.head → AddsVisit (AreAllowedAt given l) (attempt_at given l) before after'
+        → AddsVisit (AreAllowed id_of job.head sources l.job.job.stream) (attempt_at given l) before after'
+    adds_with job l before after' head adds = subst (λ (h : Option (List ℕ)). AddsVisit (AreAllowed id_of h sources l.job.job.stream) (attempt_at given l) before after') head adds
 
-    pub adds_of : (job : Job) (l : OneLoad S) (before after' : List Event) → IsOpenedJob sources opened_by job l.job → AddsVisit (AreAllowed id_of l.job.job.head sources.tells sources.left l.job.job.stream) 1 l.job.job.origin l.job.date before after'
-        → AddsVisit (OfJob job) 1 job.url l.job.date before after'
+    pub adds_of : (job : Job) (l : OneLoad S) (before after' : List Event) → IsOpenedJob sources opened_by job l.job → AddsVisit (AreAllowedAt given l) (attempt_at given l) before after'
+        → AddsVisit (OfJob job) (attempt loader job.url l.job.date) before after'
     adds_of job l before after' opened adds =
-        subst (λ (u : List ℕ). AddsVisit (OfJob job) 1 u l.job.date before after') opened.origin
-        (adds_visit (AreAllowed id_of job.head sources.tells sources.left l.job.job.stream) (OfJob job) 1 l.job.job.origin l.job.date before after' (allowed job l.job.job.stream opened.input.told opened.input.found) (adds_with job l before after' opened.head adds))
+        subst (λ (u : List ℕ). AddsVisit (OfJob job) (attempt loader u l.job.date) before after') opened.origin
+        (adds_visit (AreAllowed id_of job.head sources l.job.job.stream) (OfJob job) (attempt_at given l) before after' (allowed job l.job.job.stream opened.input.told opened.input.found) (adds_with job l before after' opened.head adds))
 
     pub one_job : (job : Job) (l : OneLoad S) (old new : Kept D) → IsOpenedJob sources opened_by job l.job → IsGivenBack sources opened_by.failures_now after l.after.job.stream → Loads l old new
         → IsJobLoad id_of of_jobs (loaded_job job l) old.history new.history
@@ -197,7 +201,7 @@ module _ {S : Type 0} (id_of : Kind → List ℕ → List ℕ) (sources : Source
         let told = line job l old new opened.input opened.head back (adds_with job l old.history new.history opened.head is.adds) is.same_input l.outcome is.ends in
         record {
           nothing_else = adds_of job l old.history new.history opened is.adds;
-          line = subst (λ (u : List ℕ). IsOutcome id_of (input_of of_jobs job) u l.job.date old.history new.history l.outcome) opened.origin told;
+          line = subst (λ (u : List ℕ). IsOutcome id_of (input_of of_jobs job) (attempt loader u l.job.date) old.history new.history l.outcome) opened.origin told;
         }
 
     abbrev pub loaded_jobs : List Job → List (OneLoad S) → List LoadedJob

@@ -7,10 +7,10 @@ use Rattle.swh_jobs.specs.Job.{Job}
 use Rattle.swh_loader.specs.declared.end.Loaded.{Loaded}
 use Rattle.swh_loader.specs.declared.fault.LoadFault.{LoadFault}
 use Rattle.swh_pool.specs.Lines.{ended, lines_of}
-use Rattle.swh_pool.specs.Loads.{AreLoaded}
+use Rattle.swh_pool.specs.Loads.{loading, AreLoaded}
 use Rattle.swh_pool.specs.Stops.{AreStops, HaveNoDiskFault}
 use Rattle.swh_pool.specs.declared.dated.DatedJob.{DatedJob}
-use Rattle.swh_program.specs.Inputs.{Inputs, inputs}
+use Rattle.swh_program.specs.Inputs.{loader, Inputs, inputs}
 use Rattle.swh_program.specs.Load.{Givens}
 use Rattle.swh_program.specs.Dated.{AreSaid, AreOpenedJobs, AreGivenBack}
 use Rattle.swh_program.specs.Lines.{LoadedJob, dates, outcomes, ending_of_all}
@@ -31,7 +31,7 @@ module _ {S : Type 0} (sources : Sources S) (g : Givens) (middle : List ℕ → 
   abbrev Run : Answer → Type 0
   Run answer = IsKeptRun g disks old new jobs answer
 
-  loaded_run : (ends : List (Result Loaded LoadFault)) (answer : Answer) → AreLoaded g.id_of sources.tells sources.left sources.faults sources.path disks.tells disks.file disks.faults 1 dated now old new ends → AreStops (is_some old.wounded) ends
+  loaded_run : (ends : List (Result Loaded LoadFault)) (answer : Answer) → AreLoaded (loading g.id_of loader sources disks) dated now old new ends → AreStops (is_some old.wounded) ends
       → (new.wounded ≡ None) ↔ ((old.wounded ≡ None) × HaveNoDiskFault ends) → TellsReport now ends answer → Run answer
   loaded_run ends answer are stops wounds told =
       let loads = are.loads in
@@ -49,7 +49,7 @@ module _ {S : Type 0} (sources : Sources S) (g : Givens) (middle : List ℕ → 
         each = each_job g.id_of sources opened_by g.inputs.failures_now later later_still disks jobs loads old new open_jobs given_back are.each;
         stops = subst (AreStops false) as_told stops_are;
         unwounded = (λ none. subst HaveNoDiskFault as_told (wounds.0 none).1, λ no_fault. wounds.1 (unwounded, subst HaveNoDiskFault (sym as_told) no_fault));
-        rose = λ e. raised g.id_of sources disks loads old new are.each (subst (AreStops false) are.ended stops_are) (ap ending_of_all (sym ends_are) ∙ e);
+        rose = λ e. raised (loading g.id_of loader sources disks) loads old new are.each (subst (AreStops false) are.ended stops_are) (ap ending_of_all (sym ends_are) ∙ e);
         calls = λ t. calls_of g.id_of sources opened_by g.inputs.failures_now later later_still disks t jobs loads old new open_jobs are.each unwounded;
       } in
       inl (record {
@@ -60,7 +60,7 @@ module _ {S : Type 0} (sources : Sources S) (g : Givens) (middle : List ℕ → 
         told = told_loads now ends all answer pairs as_told told;
       })
 
-  pub kept_run : {V E : Type 0} (items : V → List (Result Loaded LoadFault)) (text : V → List ℕ) (loaded : Result V E) (answer : Answer) → IfOk loaded (λ v. AreLoaded g.id_of sources.tells sources.left sources.faults sources.path disks.tells disks.file disks.faults 1 dated now old new (items v))
+  pub kept_run : {V E : Type 0} (items : V → List (Result Loaded LoadFault)) (text : V → List ℕ) (loaded : Result V E) (answer : Answer) → IfOk loaded (λ v. AreLoaded (loading g.id_of loader sources disks) dated now old new (items v))
       → IfOk loaded (λ v. AreStops (is_some old.wounded) (items v)) → IfOk loaded (λ v. (new.wounded ≡ None) ↔ ((old.wounded ≡ None) × HaveNoDiskFault (items v))) → IfOk loaded (λ v. text v ≡ lines_of (ended now (items v))) → OnErr loaded (new ≡ old)
       → IfOk loaded (λ v. answer ≡ Told (text v) (ending_of_all (items v))) → OnErr loaded (answer ≡ Memory) → Run answer
   kept_run items text (Ok v) answer are stops wounds lines same told memory = loaded_run (items v) answer are stops wounds (record { text = text v; text_is = lines; tells = told })

@@ -14,6 +14,7 @@ use Rattle.swh_model.specs.Meaning.{Made as MadeObject, Making}
 use Rattle.swh_model.specs.Step.{IsHistory, replay}
 use Rattle.swh_fastload.specs.Making.{made}
 use Rattle.swh_model.proofs.Histories.{fronts}
+use Rattle.swh_loader.specs.Adding.{attempt}
 use Rattle.swh_loader.specs.Leaving.{AddsVisit, next_visit}
 use Rattle.swh_loader.specs.Report.{report_of}
 use Rattle.swh_loader.specs.declared.end.BadInput.TheVariants.{Stream, Collision, Read}
@@ -109,11 +110,11 @@ module _ (id_of : Kind → List ℕ → List ℕ) (of_jobs : Inputs) (told : of_
     of_job entries is = let t = is told in are_made id_of objects job.head t.0 (within t.0 t.1) entries t.2
 
     -- its load's events are those of its text
-    of_load : (date : ℕ) (h h' : List Event) → AddsVisit Allowed loader job.url date h h' → AddsVisit (AreMade id_of objects) loader job.url date h h'
-    of_load date h h' adds = adds_visit Allowed (AreMade id_of objects) loader job.url date h h' of_job adds
+    of_load : (date : ℕ) (h h' : List Event) → AddsVisit Allowed (attempt loader job.url date) h h' → AddsVisit (AreMade id_of objects) (attempt loader job.url date) h h'
+    of_load date h h' adds = adds_visit Allowed (AreMade id_of objects) (attempt loader job.url date) h h' of_job adds
 
-    had_load : (date : ℕ) (h h' : List Event) → IsHistory id_of h' → AddsVisit Allowed loader job.url date h h' → HadBefore h → HadBefore h'
-    had_load date h h' history adds had = had_after id_of objects (replay before).bodies loader job.url date h h' history (of_load date h h' adds) had
+    had_load : (date : ℕ) (h h' : List Event) → IsHistory id_of h' → AddsVisit Allowed (attempt loader job.url date) h h' → HadBefore h → HadBefore h'
+    had_load date h h' history adds had = had_after id_of objects (replay before).bodies (attempt loader job.url date) h h' history (of_load date h h' adds) had
 
     wider : (making : Making) → ((o : MadeObject) → Contains making.objects o → Contains objects o) → HasOneBody id_of (replay before).bodies making.objects
     wider making more = record { one = λ name a b x y. one.one name a b (has_more name a x) (has_more name b y) }
@@ -124,9 +125,9 @@ module _ (id_of : Kind → List ℕ → List ℕ) (of_jobs : Inputs) (told : of_
 
     -- one load of it
     module _ (date : ℕ) (earlier h h' later : List Event) (begins : h ≡ before ++ earlier) (archive : IsArchive id_of new (h' ++ later)) (had : HadBefore h') (next : IsNextAt h job) where
-      made_next : (e : Event) → AddsVisit Allowed loader job.url date h (h' ++ e ∷ []) → AddsVisit (AreMade id_of objects) loader job.url date (before ++ earlier) (h' ++ e ∷ [])
+      made_next : (e : Event) → AddsVisit Allowed (attempt loader job.url date) h (h' ++ e ∷ []) → AddsVisit (AreMade id_of objects) (attempt loader job.url date) (before ++ earlier) (h' ++ e ∷ [])
       made_next e adds =
-          subst (λ (g : List Event). AddsVisit (AreMade id_of objects) loader job.url date g (h' ++ e ∷ [])) begins (of_load date h (h' ++ e ∷ []) adds)
+          subst (λ (g : List Event). AddsVisit (AreMade id_of objects) (attempt loader job.url date) g (h' ++ e ∷ [])) begins (of_load date h (h' ++ e ∷ []) adds)
 
       -- how its visit ends
       end_exact : (end : End) → IsInputEnd id_of (input_of of_jobs job) (replay h').bodies end → IsEnd job end
@@ -147,7 +148,7 @@ module _ (id_of : Kind → List ℕ → List ℕ) (of_jobs : Inputs) (told : of_
       end_exact (Failed Read) is = inr (refl, is)
 
       -- why it stopped
-      stop_done : (reason : LoadWhy) → StopsFor id_of (input_of of_jobs job) job.url date h h' reason
+      stop_done : (reason : LoadWhy) → StopsFor id_of (input_of of_jobs job) (attempt loader job.url date) h h' reason
           → (ending_of_why reason ≡ ending.OutsideDisk → ⊥) → ending_of_why reason ≡ ending.Memory
       stop_done (why.Ended status) stops apart = absurd stops
       stop_done why.DiskFault stops apart = absurd (apart refl)
@@ -156,7 +157,7 @@ module _ (id_of : Kind → List ℕ → List ℕ) (of_jobs : Inputs) (told : of_
           absurd (room.room job date earlier h' later stops.event among archive (made_next stops.event stops.next) stops.may which number stops.passes)
       stop_done why.Memory stops apart = refl
 
-      one_done : (outcome : Result Loaded LoadFault) → IsOutcome id_of (input_of of_jobs job) job.url date h h' outcome
+      one_done : (outcome : Result Loaded LoadFault) → IsOutcome id_of (input_of of_jobs job) (attempt loader job.url date) h h' outcome
           → (ending_for outcome ≡ ending.OutsideDisk → ⊥) → IsOneDone job outcome
       one_done (Ok l) line apart =
           let count : l.visit ≡ next_visit before job.url = line.number ∙ next in
@@ -164,11 +165,11 @@ module _ (id_of : Kind → List ℕ → List ℕ) (of_jobs : Inputs) (told : of_
       one_done (Err f) line apart = inl (stop_done f.why line.stops apart)
 
   -- a load leaves the next visits of the jobs behind it
-  others_next : (P : List Entry → Type 0) (origin : List ℕ) (date : ℕ) (h h' : List Event) → IsHistory id_of h' → AddsVisit P loader origin date h h' → (jobs : List Job)
+  others_next : (P : List Entry → Type 0) (origin : List ℕ) (date : ℕ) (h h' : List Event) → IsHistory id_of h' → AddsVisit P (attempt loader origin date) h h' → (jobs : List Job)
       → (Contains (origins jobs) origin → ⊥) → AllByRecursion (IsNextAt h) jobs → AllByRecursion (IsNextAt h') jobs
   others_next P origin date h h' history adds [] apart next = tt
   others_next P origin date h h' history adds (job ∷ jobs) apart next = (
-    next_stays P loader origin job.url (λ e. apart (subst (λ (u : List ℕ). Contains (job.url ∷ origins jobs) u) e (contains_first job.url (origins jobs)))) id_of date h h' history adds ∙ next.0,
+    next_stays P (attempt loader origin date) job.url (λ e. apart (subst (λ (u : List ℕ). Contains (job.url ∷ origins jobs) u) e (contains_first job.url (origins jobs)))) id_of h h' history adds ∙ next.0,
     others_next P origin date h h' history adds jobs (λ there. apart (contains_more job.url (origins jobs) origin there)) next.1,
   )
 
@@ -200,8 +201,8 @@ module _ (id_of : Kind → List ℕ → List ℕ) (of_jobs : Inputs) (told : of_
       let between = each.0 in
       let rest = all_behind id_of of_jobs loads between after each.2 in
       let here : IsHistory id_of between = (fronts id_of empty_archive between rest.0 (subst (IsHistory id_of) rest.1 history)).0 in
-      let adds = subst (λ (j : Job). AddsVisit (IsOfJob id_of of_jobs j) loader j.url l.date h between) same each.1.nothing_else in
-      let line = subst (λ (j : Job). IsOutcome id_of (input_of of_jobs j) j.url l.date h between l.outcome) same each.1.line in
+      let adds = subst (λ (j : Job). AddsVisit (IsOfJob id_of of_jobs j) (attempt loader j.url l.date) h between) same each.1.nothing_else in
+      let line = subst (λ (j : Job). IsOutcome id_of (input_of of_jobs j) (attempt loader j.url l.date) h between l.outcome) same each.1.line in
       let had_here = had_load job among.0 l.date h between here adds had in
       both_done l loads job jobs same
       (one_done job among.0 l.date earlier h between rest.0 begins (subst (IsArchive id_of new) rest.1 archive) had_here next.0 l.outcome line (first_apart l.outcome (outcomes loads) apart))

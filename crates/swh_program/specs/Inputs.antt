@@ -12,7 +12,7 @@ use Rattle.swh_model.specs.Archive.{Bodies}
 use Rattle.swh_model.specs.Judge.{FilePasses}
 use Rattle.swh_model.specs.Meaning.{IsLeftOut}
 use Rattle.swh_model.specs.Step.{May, replay}
-use Rattle.swh_loader.specs.Adding.{opening}
+use Rattle.swh_loader.specs.Adding.{Attempt, opening}
 use Rattle.swh_loader.specs.Ending.{IsMadeBy, IsFull, Collided, statuses_of}
 use Rattle.swh_loader.specs.Leaving.{AddsVisit, next_visit}
 use Rattle.swh_loader.specs.Visiting.{IsVisit}
@@ -72,25 +72,25 @@ module _ (id_of : Kind → List ℕ → List ℕ) (input : Input) where
   IsOfInput entries = OfText (λ text. AllByRecursion (IsMadeBy id_of input.head text) entries)
 
   -- An event of this load that may happen next would pass a file's end.
-  pub record MeetsEnd (url : List ℕ) (date : ℕ) (before after : List Event) (which : Which) (number : ℕ) : Type 0 where
+  pub record MeetsEnd (a : Attempt) (before after : List Event) (which : Which) (number : ℕ) : Type 0 where
     pub event : Event
-    pub next : AddsVisit IsOfInput loader url date before (after ++ event ∷ [])
+    pub next : AddsVisit IsOfInput a before (after ++ event ∷ [])
     pub may : May id_of (replay after) event
     pub passes : FilePasses after event.what which number
 
   -- Why a load stopped: a disk failed, a file would pass its end, or memory ran out.
-  abbrev pub StopsFor : List ℕ → ℕ → List Event → List Event → LoadWhy → Type 0
-  StopsFor url date before after (why.Ended status) = ⊥
-  StopsFor url date before after why.DiskFault = Unit {0}
-  StopsFor url date before after why.Wounded = Unit {0}
-  StopsFor url date before after (why.Limit which number) = MeetsEnd url date before after which number
-  StopsFor url date before after why.Memory = Unit {0}
+  abbrev pub StopsFor : Attempt → List Event → List Event → LoadWhy → Type 0
+  StopsFor a before after (why.Ended status) = ⊥
+  StopsFor a before after why.DiskFault = Unit {0}
+  StopsFor a before after why.Wounded = Unit {0}
+  StopsFor a before after (why.Limit which number) = MeetsEnd a before after which number
+  StopsFor a before after why.Memory = Unit {0}
 
   -- A load stopped before its visit was opened, with nothing added, or once it was opened.
-  pub record StopsVisit (url : List ℕ) (date : ℕ) (before after : List Event) (fault : LoadFault) : Type 0 where
+  pub record StopsVisit (a : Attempt) (before after : List Event) (fault : LoadFault) : Type 0 where
     pub visit : ((fault.visit ≡ 0) × (after ≡ before))
-        ⊎ ((fault.visit ≡ next_visit before url) × (more : List Event) × (after ≡ before ++ opening loader url date ∷ more))
-    pub stops : StopsFor url date before after fault.why
+        ⊎ ((fault.visit ≡ next_visit before a.origin) × (more : List Event) × (after ≡ before ++ opening a ∷ more))
+    pub stops : StopsFor a before after fault.why
 
   -- How the input makes its visit end.
   abbrev pub IsInputEnd : Bodies → End → Type 0
@@ -101,12 +101,12 @@ module _ (id_of : Kind → List ℕ → List ℕ) (input : Input) where
   IsInputEnd bodies (Failed Read) = input.failed
 
   -- The visit is the next of its origin, and ended as its input has it.
-  pub record EndsVisit (url : List ℕ) (date : ℕ) (before after : List Event) (loaded : Loaded) : Type 0 where
-    pub number : loaded.visit ≡ next_visit before url
-    pub visit : IsVisit after url loaded.visit date loader ((Created, None) ∷ statuses_of loaded.end)
+  pub record EndsVisit (a : Attempt) (before after : List Event) (loaded : Loaded) : Type 0 where
+    pub number : loaded.visit ≡ next_visit before a.origin
+    pub visit : IsVisit after a loaded.visit ((Created, None) ∷ statuses_of loaded.end)
     pub end : IsInputEnd (replay after).bodies loaded.end
 
   -- how the load ended
-  abbrev pub IsOutcome : List ℕ → ℕ → List Event → List Event → Result Loaded LoadFault → Type 0
-  IsOutcome url date before after (Ok loaded) = EndsVisit url date before after loaded
-  IsOutcome url date before after (Err fault) = StopsVisit url date before after fault
+  abbrev pub IsOutcome : Attempt → List Event → List Event → Result Loaded LoadFault → Type 0
+  IsOutcome a before after (Ok loaded) = EndsVisit a before after loaded
+  IsOutcome a before after (Err fault) = StopsVisit a before after fault

@@ -14,6 +14,7 @@ use Rattle.swh_keeper.specs.Kept.{AreStanding, AreInDoubt}
 use Rattle.swh_segment.specs.Making.{barriers}
 use Rattle.swh_jobs.specs.Job.{Job}
 use Rattle.swh_jobs.specs.JobFile.{AreJobs}
+use Rattle.swh_loader.specs.Adding.{Attempt, attempt}
 use Rattle.swh_loader.specs.Calls.{all_calls, BreaksAt}
 use Rattle.swh_loader.specs.Leaving.{AddsVisit}
 use Rattle.swh_loader.specs.declared.end.Loaded.{Loaded}
@@ -42,6 +43,10 @@ pub record LeavesDisks (id_of : Kind → List ℕ → List ℕ) (ledger store : 
   pub standing : HaveNoDiskFault ended → AreStanding ledger store after
   pub doubt : (HaveNoDiskFault ended → ⊥) → AreInDoubt id_of ledger store after
 
+-- who loaded a job, and when
+abbrev pub attempt_of : LoadedJob → Attempt
+attempt_of l = attempt loader l.job.url l.date
+
 -- The loads of jobs with these inputs.
 module _ (id_of : Kind → List ℕ → List ℕ) (of_jobs : Inputs) where
   -- The job's input makes all of these.
@@ -51,8 +56,8 @@ module _ (id_of : Kind → List ℕ → List ℕ) (of_jobs : Inputs) where
   -- One job's load, from a history to the next.
   pub record IsJobLoad (l : LoadedJob) (before after : List Event) : Type 0 where
     -- Nothing else is added than its visit, with what its input makes.
-    pub nothing_else : AddsVisit (IsOfJob l.job) loader l.job.url l.date before after
-    pub line : IsOutcome id_of (input_of of_jobs l.job) l.job.url l.date before after l.outcome
+    pub nothing_else : AddsVisit (IsOfJob l.job) (attempt_of l) before after
+    pub line : IsOutcome id_of (input_of of_jobs l.job) (attempt_of l) before after l.outcome
 
   -- Each load begins where the one before it ended.
   abbrev pub AreJobLoads : List LoadedJob → List Event → List Event → Type 0
@@ -64,7 +69,7 @@ module _ (id_of : Kind → List ℕ → List ℕ) (of_jobs : Inputs) where
     pub l : LoadedJob
     pub among : Contains loads l
     pub between : List Event
-    pub adds : AddsVisit (IsOfJob l.job) loader l.job.url l.date between (after ++ event ∷ [])
+    pub adds : AddsVisit (IsOfJob l.job) (attempt_of l) between (after ++ event ∷ [])
 
   -- A barrier was made on each file, then the device calls of the events, in order; where a disk failed, up to one of
   -- the next event.

@@ -22,6 +22,7 @@ use std::alloc::Global;
 use swh_base::Namer;
 use swh_jobs::JobLine;
 use swh_keeper::Keeper;
+use swh_loader::Worker;
 use swh_outside::{Clock, Depot, Doors, Gate, Origins, Sink, Yard};
 use swh_pool::load_all;
 
@@ -60,15 +61,12 @@ impl<N: Namer, P: Depot, O: Origins, Y: Yard, K: Sink, C: Clock, D: Doors, G: Ga
             Ok(jobs) => jobs,
             Err(answer) => return answer,
         };
-        let loaded = load_all(
-            alloc,
-            &self.namer,
-            keeper,
-            LOADER,
-            jobs.as_mut_slice(),
-            &self.gate,
-            LOADER,
-        );
+        let worker = Worker {
+            by: LOADER,
+            gate: &self.gate,
+            number: LOADER,
+        };
+        let loaded = load_all(alloc, &self.namer, keeper, &worker, jobs.as_mut_slice());
         let answer = tell_loaded(loaded);
         give_all_back(&mut self.origins, jobs);
         answer
