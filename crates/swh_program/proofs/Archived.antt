@@ -7,10 +7,9 @@ use Rattle.swh_model.specs.Coding.{coded_records}
 use Rattle.swh_model.proofs.OneHistory.{one_history}
 use Rattle.swh_model.proofs.Unique.{alike}
 use Rattle.swh_segment.specs.Making.{IsMade, IsNotMade}
-use Rattle.swh_program.specs.Causes.{IsUnusable}
-use Rattle.swh_program.specs.Opening.{IsArchive, IsDamaged, IsOpenRefusal, OpenEnds}
+use Rattle.swh_program.specs.Opening.{IsArchive, IsDamaged, IsUnusable, IsOpenRefusal, OpenEnds}
 use Rattle.swh_program.specs.declared.answer.Answer.{Answer}
-use Rattle.swh_program.specs.declared.answer.Answer.TheVariants.{Made, Told, Words, NoJobFile, BadJob, AlreadyMade, NotMade, Damaged, OutsideDisk, OutsideSource, OutsideClock, Memory}
+use Rattle.swh_program.specs.declared.answer.Answer.TheVariants.{NotMade, Damaged, OutsideDisk, Memory}
 
 pub not_both : (bytes : List ℕ) → IsMade bytes → IsNotMade bytes → ⊥
 not_both bytes made not_made =
@@ -39,11 +38,4 @@ module _ (id_of : Kind → List ℕ → List ℕ) (files : Files) where
   opening_of_archive new h archive Damaged is ends = absurd (usable h archive (inr ends.0))
   opening_of_archive new h archive OutsideDisk is ends = inl refl
   opening_of_archive new h archive Memory is ends = inr refl
-  opening_of_archive new h archive Made is ends = absurd is
-  opening_of_archive new h archive (Told text end) is ends = absurd is
-  opening_of_archive new h archive Words is ends = absurd is
-  opening_of_archive new h archive NoJobFile is ends = absurd is
-  opening_of_archive new h archive (BadJob text) is ends = absurd is
-  opening_of_archive new h archive AlreadyMade is ends = absurd is
-  opening_of_archive new h archive OutsideSource is ends = absurd is
-  opening_of_archive new h archive OutsideClock is ends = absurd is
+  opening_of_archive new h archive _ is ends = absurd is

@@ -14,6 +14,7 @@ use Rattle.swh_model.proofs.Growing.{bodies_grow}
 use Rattle.swh_model.proofs.Histories.{fronts}
 use Rattle.swh_fastload.specs.Making.{made_of, made}
 use Rattle.swh_fastload.proofs.Loads.{one_meaning_lem}
+use Rattle.swh_loader.specs.Adding.{attempt}
 use Rattle.swh_loader.specs.Ending.{IsFull}
 use Rattle.swh_loader.proofs.Limiting.{at_element}
 use Rattle.swh_loader.specs.declared.end.End.{End}
@@ -22,14 +23,13 @@ use Rattle.swh_loader.specs.declared.end.Loaded.{Loaded}
 use Rattle.swh_loader.specs.declared.fault.LoadFault.{LoadFault}
 use Rattle.swh_program.specs.Causes.{HasTwoBodies, IsBadInput}
 use Rattle.swh_program.specs.Complete.{HasBody}
-use Rattle.swh_program.specs.Jobs.{FileAt}
-use Rattle.swh_program.specs.Inputs.{IsInputEnd, IsOutcome}
+use Rattle.swh_program.specs.Inputs.{loader, Inputs, input_of, IsInputEnd, IsOutcome}
 use Rattle.swh_program.specs.Lines.{LoadedJob, outcomes, ending_of_end, ending_for, ending_of_all}
-use Rattle.swh_program.specs.Load.{HasFailed, AreJobLoads}
+use Rattle.swh_program.specs.Load.{AreJobLoads}
 use Rattle.swh_program.specs.declared.answer.Ending.TheVariants as ending
 use Rattle.swh_program.proofs.Elements.{from_map}
 use Rattle.swh_program.proofs.LoadEndings.{both_done, why_undone}
-use Rattle.swh_program.proofs.Loadings.{loads_behind}
+use Rattle.swh_program.proofs.Loads.{all_behind}
 
 -- Nothing is wrong with the input of a full job.
 module _ (id_of : Kind → List ℕ → List ℕ) (bodies held : Bodies) (within : IsWithin bodies held) (head : Option (List ℕ)) (text snapshot : List ℕ) (full : IsFull id_of head text held snapshot) where
@@ -56,16 +56,16 @@ module _ (id_of : Kind → List ℕ → List ℕ) (bodies held : Bodies) (within
       t.apart (let both : Some t.a ≡ Some t.b = sym (has_then t.making t.means two.0 t.a t.has_a) ∙ has_then t.making t.means two.0 t.b t.has_b in cc))
       bad
 
-module _ (id_of : Kind → List ℕ → List ℕ) (tells : Type 0) (told : tells) (input_at : FileAt) (failures failures_now : List ℕ → ℕ) (bodies : Bodies) where
+module _ (id_of : Kind → List ℕ → List ℕ) (of_jobs : Inputs) (told : of_jobs.tell) (bodies : Bodies) where
   -- so a job that is done has no bad input
-  end_not_bad : (job : Job) (held : Bodies) → IsWithin bodies held → (end : End) → IsInputEnd id_of tells (input_at job.path) job.head (HasFailed id_of tells input_at failures failures_now job) held end
-      → ending_of_end end ≡ ending.Done → IsBadInput id_of job.head bodies (input_at job.path) → ⊥
+  end_not_bad : (job : Job) (held : Bodies) → IsWithin bodies held → (end : End) → IsInputEnd id_of (input_of of_jobs job) held end
+      → ending_of_end end ≡ ending.Done → IsBadInput id_of job.head bodies (of_jobs.at job.path) → ⊥
   end_not_bad job held within (Full snapshot) is e bad = let t = is told in not_bad id_of bodies held within job.head t.0 snapshot t.2 (subst (IsBadInput id_of job.head bodies) t.1 bad)
   end_not_bad job held within NotFound is e bad = let f : ending.Wanting ≡ ending.Done = e in cc
   end_not_bad job held within (Failed reason) is e bad = let f : ending.Wanting ≡ ending.Done = e in cc
 
   load_not_bad : (job : Job) (date : ℕ) (h h' : List Event) → IsWithin bodies (replay h').bodies → (outcome : Result Loaded LoadFault)
-      → IsOutcome id_of tells (input_at job.path) job.head (HasFailed id_of tells input_at failures failures_now job) job.url date h h' outcome → ending_for outcome ≡ ending.Done → IsBadInput id_of job.head bodies (input_at job.path) → ⊥
+      → IsOutcome id_of (input_of of_jobs job) (attempt loader job.url date) h h' outcome → ending_for outcome ≡ ending.Done → IsBadInput id_of job.head bodies (of_jobs.at job.path) → ⊥
   load_not_bad job date h h' within (Ok l) line e bad = end_not_bad job (replay h').bodies within l.end line.end e bad
   load_not_bad job date h h' within (Err f) line e bad = why_undone f.why e
 
@@ -75,23 +75,23 @@ module _ (id_of : Kind → List ℕ → List ℕ) (tells : Type 0) (told : tells
       let parts = fronts id_of empty_archive h more history in
       subst (λ (b : Bodies). body_of b n ≡ Some body) (ap (λ a. a.bodies) (sym parts.2)) (bodies_grow id_of (replay h) more parts.1 n body (within n body held))
 
-  pub none_bad : (loads : List LoadedJob) (h after : List Event) → AreJobLoads id_of tells input_at failures failures_now loads h after → IsHistory id_of after → IsWithin bodies (replay h).bodies
-      → ending_of_all (outcomes loads) ≡ ending.Done → AllByRecursion (λ l. IsBadInput id_of l.job.head bodies (input_at l.job.path) → ⊥) loads
+  pub none_bad : (loads : List LoadedJob) (h after : List Event) → AreJobLoads id_of of_jobs loads h after → IsHistory id_of after → IsWithin bodies (replay h).bodies
+      → ending_of_all (outcomes loads) ≡ ending.Done → AllByRecursion (λ l. IsBadInput id_of l.job.head bodies (of_jobs.at l.job.path) → ⊥) loads
   none_bad [] h after each history within e = tt
   none_bad (l ∷ loads) h after each history within e =
       let between = each.0 in
       let adds = each.1.nothing_else in
-      let rest = loads_behind id_of tells input_at failures failures_now loads between after each.2 in
+      let rest = all_behind id_of of_jobs loads between after each.2 in
       let here : IsHistory id_of between = (fronts id_of empty_archive between rest.0 (subst (IsHistory id_of) rest.1 history)).0 in
       let held : IsWithin bodies (replay between).bodies = subst (λ (g : List Event). IsWithin bodies (replay g).bodies) (sym adds.behind) (within_more h adds.more (subst (IsHistory id_of) adds.behind here) within) in
       let done = both_done (ending_for l.outcome) (ending_of_all (outcomes loads)) e in
       (load_not_bad l.job l.date h between held l.outcome each.1.line done.0, none_bad loads between after each.2 history held done.1)
 
   -- of jobs that are all done none has a bad input
-  pub bad_undone : (loads : List LoadedJob) (h after : List Event) → AreJobLoads id_of tells input_at failures failures_now loads h after → IsHistory id_of after → bodies ≡ (replay h).bodies
-      → (job : Job) → Contains (map (λ l. l.job) loads) job → IsBadInput id_of job.head bodies (input_at job.path) → ending_of_all (outcomes loads) ≡ ending.Done → ⊥
+  pub bad_undone : (loads : List LoadedJob) (h after : List Event) → AreJobLoads id_of of_jobs loads h after → IsHistory id_of after → bodies ≡ (replay h).bodies
+      → (job : Job) → Contains (map (λ l. l.job) loads) job → IsBadInput id_of job.head bodies (of_jobs.at job.path) → ending_of_all (outcomes loads) ≡ ending.Done → ⊥
   bad_undone loads h after each history same job among bad e =
       let from = from_map (λ (l : LoadedJob). l.job) loads job among in
-      at_element (λ (l : LoadedJob). IsBadInput id_of l.job.head bodies (input_at l.job.path) → ⊥) loads from.0
+      at_element (λ (l : LoadedJob). IsBadInput id_of l.job.head bodies (of_jobs.at l.job.path) → ⊥) loads from.0
       (none_bad loads h after each history (λ n body held. subst (λ (b : Bodies). body_of b n ≡ Some body) same held) e) from.1
-      (subst (λ (j : Job). IsBadInput id_of j.head bodies (input_at j.path)) (sym from.2) bad)
+      (subst (λ (j : Job). IsBadInput id_of j.head bodies (of_jobs.at j.path)) (sym from.2) bad)

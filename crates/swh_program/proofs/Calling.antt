@@ -2,21 +2,21 @@
 use Rattle.std.proofs.Common.{◌≡◌, ℕ, ◌≤◌, Option, Some, None, Result, Ok, Err, List, [], ◌∷◌, ◌++◌, refl, sym, ap, ◌∙◌, subst, append_assoc, arith}
 use Rattle.std.proofs.lemmas.List.Elements.{Contains-append_right}
 use Rattle.swh_base.specs.declared.kind.Kind.{Kind}
-use Rattle.swh_outside.specs.Disk.{File}
+use Rattle.swh_outside.specs.Views.{Disks, Sources}
 use Rattle.swh_model.specs.declared.event.Event.{Event}
 use Rattle.swh_keeper.specs.Kept.{Kept}
 use Rattle.swh_jobs.specs.Job.{Job}
 use Rattle.swh_loader.specs.Calls.{MakesCallsOf, MakesCalls}
-use Rattle.swh_loader.specs.Leaving.{AreAllowed, AreOfVisit, AddsVisit, IsHeldBack, next_visit}
+use Rattle.swh_loader.specs.Leaving.{AreOfVisit, AddsVisit, IsHeldBack, next_visit}
 use Rattle.swh_loader.specs.declared.end.Loaded.{Loaded}
 use Rattle.swh_loader.specs.declared.fault.LoadFault.{LoadFault}
 use Rattle.swh_loader.proofs.CallLaws.{calls_none, of_as, of_further}
-use Rattle.swh_pool.specs.Loads.{OneLoad}
+use Rattle.swh_pool.specs.Loads.{Loading, loading, attempt_at, AreAllowedAt, OneLoad, AreLoads}
+use Rattle.swh_program.specs.Inputs.{loader, Inputs}
 use Rattle.swh_program.specs.Dated.{IsOpenedJob}
-use Rattle.swh_program.specs.Jobs.{FileAt}
 use Rattle.swh_program.specs.Lines.{LoadedJob}
 use Rattle.swh_program.specs.Load.{IsNextOf}
-use Rattle.swh_program.proofs.Inputs.{adds_of, loaded_job, loaded_jobs, Loads, AllLoads, Open}
+use Rattle.swh_program.proofs.Inputs.{of_jobs, adds_of, loaded_job, loaded_jobs, Open}
 
 -- a load on an archive whose disk had failed leaves it as it was
 as_it_was : {D : Type 0} (old new : Kept D) (o : Result Loaded LoadFault) → IsHeldBack old new o → new ≡ old
@@ -27,25 +27,16 @@ by_wound : {P : Type 0} (w : Option ℕ) → ((n : ℕ) → w ≡ Some n → P) 
 by_wound (Some n) stopped going = stopped n refl
 by_wound None stopped going = going refl
 
-module _ {S : Type 0} (id_of : Kind → List ℕ → List ℕ) (tells source_tells : Type 0) (left : S → List ℕ) (faults : S → ℕ) (path_of : S → List ℕ) (input_at : FileAt) (entry middle after : List ℕ → ℕ)
-    (later : (p : List ℕ) → entry p ≤ middle p) (later_still : (p : List ℕ) → middle p ≤ after p) {D : Type 0} (disks_tell : Type 0) (file : D → File) (disk_faults : D → ℕ) where
-  abbrev One : OneLoad S → Kept D → Kept D → Type 0
-  One l old new = Loads id_of tells source_tells left faults path_of input_at entry middle after later later_still disks_tell file disk_faults l old new
+module _ {S : Type 0} (id_of : Kind → List ℕ → List ℕ) (sources : Sources S) (opened_by : Inputs) (after : List ℕ → ℕ)
+    (later : (p : List ℕ) → opened_by.failures p ≤ opened_by.failures_now p) (later_still : (p : List ℕ) → opened_by.failures_now p ≤ after p) {D : Type 0} (disks : Disks D) where
+  abbrev from : Loading S D
+  from = loading id_of loader sources disks
 
   abbrev All : List (OneLoad S) → Kept D → Kept D → Type 0
-  All loads old new = AllLoads id_of tells source_tells left faults path_of input_at entry middle after later later_still disks_tell file disk_faults loads old new
-
-  abbrev AreOpen : List Job → List (OneLoad S) → Type 0
-  AreOpen jobs loads = Open id_of tells source_tells left faults path_of input_at entry middle after later later_still disks_tell file disk_faults jobs loads
-
-  abbrev job_loads : List Job → List (OneLoad S) → List LoadedJob
-  job_loads jobs loads = loaded_jobs id_of tells source_tells left faults path_of input_at entry middle after later later_still disks_tell file disk_faults jobs loads
-
-  abbrev job_load : Job → OneLoad S → LoadedJob
-  job_load job l = loaded_job id_of tells source_tells left faults path_of input_at entry middle after later later_still disks_tell file disk_faults job l
+  All loads old new = AreLoads from loads old new
 
   abbrev Next : List LoadedJob → List Event → Event → Type 0
-  Next loads h event = IsNextOf id_of tells input_at entry after loads h event
+  Next loads h event = IsNextOf id_of (of_jobs id_of sources opened_by after later later_still) loads h event
 
   -- Once a disk has failed, all is left as it was.
   held_back : (loads : List (OneLoad S)) (old new : Kept D) (n : ℕ) → old.wounded ≡ Some n → All loads old new → new ≡ old
@@ -58,36 +49,36 @@ module _ {S : Type 0} (id_of : Kind → List ℕ → List ℕ) (tells source_tel
   among_more x loads h e next = record { l = next.l; among = Contains-append_right (x ∷ []) loads next.l next.among; between = next.between; adds = next.adds }
 
   -- what comes next in a load
-  next_of : (job : Job) (l : OneLoad S) (more : List LoadedJob) (old new : Kept D) (added : List Event) → IsOpenedJob tells source_tells left faults path_of input_at entry middle job l.job → new.history ≡ old.history ++ added
-      → (e : Event) → AreOfVisit (AreAllowed id_of l.job.job.head source_tells left l.job.job.stream) 1 l.job.job.origin l.job.date (next_visit old.history l.job.job.origin) (added ++ e ∷ []) → Next (job_load job l ∷ more) new.history e
+  next_of : (job : Job) (l : OneLoad S) (more : List LoadedJob) (old new : Kept D) (added : List Event) → IsOpenedJob sources opened_by job l.job → new.history ≡ old.history ++ added
+      → (e : Event) → AreOfVisit (AreAllowedAt from l) (attempt_at from l) (next_visit old.history l.job.job.origin) (added ++ e ∷ []) → Next (loaded_job job l ∷ more) new.history e
   next_of job l more old new added opened behind e are =
-      let adds : AddsVisit (AreAllowed id_of l.job.job.head source_tells left l.job.job.stream) 1 l.job.job.origin l.job.date old.history (new.history ++ e ∷ []) =
+      let adds : AddsVisit (AreAllowedAt from l) (attempt_at from l) old.history (new.history ++ e ∷ []) =
       record { more = added ++ e ∷ []; behind = ap (λ (t : List Event). t ++ e ∷ []) behind ∙ append_assoc old.history added (e ∷ []); are = are } in
       record {
-        l = job_load job l;
+        l = loaded_job job l;
         among = (0, omega arith, refl);
         between = old.history;
-        adds = adds_of id_of tells source_tells left faults path_of input_at entry middle after later later_still disks_tell file disk_faults job l old.history (new.history ++ e ∷ []) opened adds;
+        adds = adds_of id_of sources opened_by after later later_still disks job l old.history (new.history ++ e ∷ []) opened adds;
       }
 
-  pub calls_of : disks_tell → (jobs : List Job) (loads : List (OneLoad S)) (old new : Kept D) → AreOpen jobs loads → All loads old new → old.wounded ≡ None → MakesCalls id_of file (Next (job_loads jobs loads) new.history) old new
-  calls_of t [] [] old new opened are none = calls_none id_of file (Next [] new.history) old new are
+  pub calls_of : disks.tells → (jobs : List Job) (loads : List (OneLoad S)) (old new : Kept D) → Open sources opened_by jobs loads → All loads old new → old.wounded ≡ None → MakesCalls id_of disks.file (Next (loaded_jobs jobs loads) new.history) old new
+  calls_of t [] [] old new opened are none = calls_none id_of disks.file (Next [] new.history) old new are
   calls_of t [] (l ∷ loads) old new opened are none = absurd opened
   calls_of t (job ∷ jobs) [] old new opened are none = absurd opened
   calls_of t (job ∷ jobs) (l ∷ loads) old new opened are none =
       let between = are.0 in
       let first = are.1.adds in
-      let mine = Next (job_load job l ∷ job_loads jobs loads) in
-      let this : MakesCallsOf id_of file _ first.more old between = are.1.calls t first.more first.behind in
-      let stopped : (n : ℕ) → between.wounded ≡ Some n → MakesCalls id_of file (mine new.history) old new = λ n some.
+      let mine = Next (loaded_job job l ∷ loaded_jobs jobs loads) in
+      let this : MakesCallsOf id_of disks.file _ first.more old between = are.1.calls t first.more first.behind in
+      let stopped : (n : ℕ) → between.wounded ≡ Some n → MakesCalls id_of disks.file (mine new.history) old new = λ n some.
       let same : new ≡ between = held_back loads between new n some are.2 in
-      subst (λ (k : Kept D). MakesCalls id_of file (mine k.history) old k) (sym same)
-      (record { more = first.more; behind = first.behind; calls = of_as id_of file _ (mine between.history) first.more old between (next_of job l (job_loads jobs loads) old between first.more opened.0 first.behind) this }) in
-      let going : between.wounded ≡ None → MakesCalls id_of file (mine new.history) old new = λ mid.
+      subst (λ (k : Kept D). MakesCalls id_of disks.file (mine k.history) old k) (sym same)
+      (record { more = first.more; behind = first.behind; calls = of_as id_of disks.file _ (mine between.history) first.more old between (next_of job l (loaded_jobs jobs loads) old between first.more opened.0 first.behind) this }) in
+      let going : between.wounded ≡ None → MakesCalls id_of disks.file (mine new.history) old new = λ mid.
       let rest = calls_of t jobs loads between new opened.1 are.2 mid in
       record {
         more = first.more ++ rest.more;
         behind = rest.behind ∙ ap (λ (h : List Event). h ++ rest.more) first.behind ∙ append_assoc old.history first.more rest.more;
-        calls = of_further id_of file _ (Next (job_loads jobs loads) new.history) (mine new.history) first.more rest.more old between new (among_more (job_load job l) (job_loads jobs loads) new.history) none mid first.behind this rest.calls;
+        calls = of_further id_of disks.file _ (Next (loaded_jobs jobs loads) new.history) (mine new.history) first.more rest.more old between new (among_more (loaded_job job l) (loaded_jobs jobs loads) new.history) none mid first.behind this rest.calls;
       } in
       by_wound between.wounded stopped going

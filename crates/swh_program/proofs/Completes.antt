@@ -9,16 +9,17 @@ use Rattle.swh_outside.specs.Files.{Files}
 use Rattle.swh_model.specs.declared.event.Event.{Event}
 use Rattle.swh_model.specs.Step.{replay}
 use Rattle.swh_model.specs.Answer.{ReplyText}
-use Rattle.swh_program.specs.Answers.{status_of, status_for, printed_by, last_line_of, last_line_for, IsPrinted, IsToldOf}
-use Rattle.swh_program.specs.Ask.{reply_line, AreReplies, AreFound, HasShortReply, TellsReplies, IsAsked, AskEnds}
+use Rattle.swh_program.specs.Seen.{Span, SinkFailed}
+use Rattle.swh_program.specs.Answers.{status_of, status_for, printed_by, last_line_of, last_line_for, IsPrinted}
+use Rattle.swh_program.specs.AskCommand.{reply_line, AreReplies, AreFound, HasShortReply, TellsReplies, IsAsked, AskEnds}
 use Rattle.swh_segment.specs.Making.{IsNotMade}
-use Rattle.swh_program.specs.Init.{InitEnds}
+use Rattle.swh_program.specs.InitCommand.{InitEnds}
 use Rattle.swh_program.specs.Opening.{IsArchive}
-use Rattle.swh_program.specs.Run.{IsQuiet, IsPrintedWith, IsPrintedUnlessFailed, replies_status}
+use Rattle.swh_program.specs.Run.{IsTold, IsPrintedWith, IsPrintedUnlessFailed, replies_status}
 use Rattle.swh_program.specs.declared.answer.Ending.{Ending}
 use Rattle.swh_program.specs.declared.answer.Ending.TheVariants as ending
 use Rattle.swh_program.specs.declared.answer.Answer.{Answer}
-use Rattle.swh_program.specs.declared.answer.Answer.TheVariants.{Made, Told, Words, NoJobFile, BadJob, AlreadyMade, NotMade, Damaged, OutsideDisk, OutsideSource, OutsideClock, Memory}
+use Rattle.swh_program.specs.declared.answer.Answer.TheVariants.{Made, Told, AlreadyMade, NotMade, Damaged, OutsideDisk, Memory}
 use Rattle.swh_program.proofs.Archived.{not_both, usable, one_archive}
 use Rattle.swh_program.proofs.Replies.{same_replies, none_short}
 
@@ -27,22 +28,21 @@ abbrev pub Tells : List ℕ → ℕ → Answer → Type 0
 Tells line expected answer = (status_of answer ≡ 5) ⊎ ((status_of answer ≡ expected) × (printed_by answer ≡ line))
 
 -- and so says the run that printed it
-printed_with : (line : List ℕ) (expected : ℕ) (answer : Answer) (tells : Type 0) (before now : List ℕ) (status : ℕ) → Tells line expected answer → IsPrinted answer tells before now status → IsPrintedWith line expected tells before now status
-printed_with line expected answer tells before now status (inl memory) printed = inl (printed.status_is ∙ memory)
-printed_with line expected answer tells before now status (inr done) printed = inr (printed.status_is ∙ done.0, λ t. printed.printed t ∙ ap (λ (l : List ℕ). before ++ l) done.1)
+module _ (line : List ℕ) (expected : ℕ) (answer : Answer) (s : Span) (status : ℕ) where
+  printed_with : Tells line expected answer → IsPrinted answer s.told.sink s.old.sink.taken s.new.sink.taken status → IsPrintedWith line expected s status
+  printed_with (inl memory) printed = inl (printed.status_is ∙ memory)
+  printed_with (inr done) printed = inr (printed.status_is ∙ done.0, λ t. printed.printed t ∙ ap (λ (l : List ℕ). s.old.sink.taken ++ l) done.1)
 
--- where the sink did not fail
-pub told_with : (line : List ℕ) (expected : ℕ) (answer : Answer) (tells : Type 0) (before now : List ℕ) (faults_before faults_now status : ℕ) → Tells line expected answer → IsQuiet faults_before faults_now
-    → IsToldOf answer tells before now faults_before faults_now status → IsPrintedWith line expected tells before now status
-told_with line expected answer tells before now faults_before faults_now status says no_sink (inl printed) = printed_with line expected answer tells before now status says printed
-told_with line expected answer tells before now faults_before faults_now status says no_sink (inr cut) = absurd (no_sink cut.rose)
+  -- where the sink did not fail
+  pub told_with : Tells line expected answer → (SinkFailed s → ⊥) → IsTold answer s status → IsPrintedWith line expected s status
+  told_with says no_sink (inl printed) = printed_with says printed
+  told_with says no_sink (inr cut) = absurd (no_sink cut.rose)
 
--- the same where a part of the outside may have failed
-pub told_unless : (line : List ℕ) (expected : ℕ) (answer : Answer) (tells : Type 0) (before now : List ℕ) (faults_before faults_now status : ℕ) → (status_of answer ≡ 4) ⊎ Tells line expected answer
-    → IsToldOf answer tells before now faults_before faults_now status → IsPrintedUnlessFailed line expected tells before now status
-told_unless line expected answer tells before now faults_before faults_now status (inl failed) (inl printed) = inl (printed.status_is ∙ failed)
-told_unless line expected answer tells before now faults_before faults_now status (inr says) (inl printed) = inr (printed_with line expected answer tells before now status says printed)
-told_unless line expected answer tells before now faults_before faults_now status says (inr cut) = inl cut.status_is
+  -- the same where a part of the outside may have failed
+  pub told_unless : (status_of answer ≡ 4) ⊎ Tells line expected answer → IsTold answer s status → IsPrintedUnlessFailed line expected s status
+  told_unless (inl failed) (inl printed) = inl (printed.status_is ∙ failed)
+  told_unless (inr says) (inl printed) = inr (printed_with says printed)
+  told_unless says (inr cut) = inl cut.status_is
 
 -- an archive that was not made, with no fault of its disks, was made, or memory ran out
 pub init_done : (old new : Files) (answer : Answer) → InitEnds old new answer → IsNotMade (old 0).seen → (answer ≡ OutsideDisk → ⊥) → Tells (last_line_of Made) 0 answer
@@ -50,14 +50,7 @@ init_done old new Made ends not_made no_disk = inr (refl, refl)
 init_done old new AlreadyMade ends not_made no_disk = absurd (not_both (old 0).seen ends.made not_made)
 init_done old new OutsideDisk ends not_made no_disk = absurd (no_disk refl)
 init_done old new Memory ends not_made no_disk = inl refl
-init_done old new (Told text end) ends not_made no_disk = absurd ends
-init_done old new Words ends not_made no_disk = absurd ends
-init_done old new NoJobFile ends not_made no_disk = absurd ends
-init_done old new (BadJob text) ends not_made no_disk = absurd ends
-init_done old new NotMade ends not_made no_disk = absurd ends
-init_done old new Damaged ends not_made no_disk = absurd ends
-init_done old new OutsideSource ends not_made no_disk = absurd ends
-init_done old new OutsideClock ends not_made no_disk = absurd ends
+init_done old new _ ends not_made no_disk = absurd ends
 
 abbrev status_by : Bool → ℕ
 status_by found = if found then 0 else 1
@@ -99,15 +92,9 @@ module _ (id_of : Kind → List ℕ → List ℕ) (paths : List (List ℕ)) (old
       subst (λ (rs : List ReplyText). TellsReplies rs text end) one told.tells
 
   pub ask_done : (answer : Answer) → AskEnds id_of paths old new answer → (answer ≡ OutsideDisk → ⊥) → Tells (flat_map reply_line replies) (replies_status replies) answer
-  ask_done Made ends no_disk = absurd ends
   ask_done (Told text end) ends no_disk = replies_ending replies text end (asked_replies text end ends)
-  ask_done Words ends no_disk = absurd ends
-  ask_done NoJobFile ends no_disk = absurd ends
-  ask_done (BadJob text) ends no_disk = absurd ends
-  ask_done AlreadyMade ends no_disk = absurd ends
   ask_done NotMade ends no_disk = absurd (usable id_of old h archive (inl ends.0))
   ask_done Damaged ends no_disk = absurd (usable id_of old h archive (inr ends.0))
   ask_done OutsideDisk ends no_disk = absurd (no_disk refl)
-  ask_done OutsideSource ends no_disk = absurd ends
-  ask_done OutsideClock ends no_disk = absurd ends
   ask_done Memory ends no_disk = inl refl
+  ask_done _ ends no_disk = absurd ends

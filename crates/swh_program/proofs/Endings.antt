@@ -1,11 +1,9 @@
 -- How loads end together, and the lines that tell them.
-use Rattle.std.proofs.Common.{◌≡◌, ◌⊎◌, inl, inr, ⊎_elim, ℕ, ◌≤◌, Bool, true, false, Result, Ok, Err, List, [], ◌∷◌, ◌++◌, map, flat_map, refl, sym, ap, ◌∙◌, subst, arith}
+use Rattle.std.proofs.Common.{◌≡◌, ◌⊎◌, inl, inr, ⊎_elim, ℕ, ◌≤◌, false, Result, Ok, Err, List, [], ◌∷◌, map, flat_map, refl, sym, ap, ◌∙◌, subst, arith}
 use Rattle.std.proofs.lemmas.List.Folds.{flat_map-map}
-use Rattle.swh_base.specs.declared.kind.Kind.{Kind}
-use Rattle.swh_outside.specs.Disk.{File}
 use Rattle.swh_segment.specs.Makes.{EitherRose}
 use Rattle.swh_keeper.specs.Kept.{Kept}
-use Rattle.swh_loader.specs.Leaving.{AreAllowed, Stops}
+use Rattle.swh_loader.specs.Leaving.{Stops}
 use Rattle.swh_loader.specs.Report.{report_of}
 use Rattle.swh_loader.specs.declared.end.End.{End}
 use Rattle.swh_loader.specs.declared.end.End.TheVariants.{Full, NotFound, Failed}
@@ -14,7 +12,7 @@ use Rattle.swh_loader.specs.declared.fault.LoadWhy.{LoadWhy}
 use Rattle.swh_loader.specs.declared.fault.LoadWhy.TheVariants as why
 use Rattle.swh_loader.specs.declared.fault.LoadFault.{LoadFault}
 use Rattle.swh_pool.specs.Lines.{ended, lines_of}
-use Rattle.swh_pool.specs.Loads.{OneLoad, IsOutcome, AreLoads}
+use Rattle.swh_pool.specs.Loads.{Loading, attempt_at, AreAllowedAt, OneLoad, IsOutcome, AreLoads}
 use Rattle.swh_pool.specs.Stops.{IsUnwounded, is_disk_fault, AreStops}
 use Rattle.swh_pool.specs.declared.dated.DatedJob.{DatedJob}
 use Rattle.swh_program.specs.Lines.{LoadedJob, outcomes, load_line, ending_of_end, ending_of_why, ending_for, worse, ending_of_all, TellsLoads, TellsLoad}
@@ -43,15 +41,15 @@ no_disk_end NotFound e = let f : ending.Wanting ≡ ending.OutsideDisk = e in cc
 no_disk_end (Failed bad) e = let f : ending.Wanting ≡ ending.OutsideDisk = e in cc
 
 -- Loads of which one tells of a disk: a count rose.
-module _ {S D : Type 0} (id_of : Kind → List ℕ → List ℕ) (source_tells : Type 0) (left : S → List ℕ) (faults : S → ℕ) (path_of : S → List ℕ) (disks_tell : Type 0) (file : D → File) (disk_faults : D → ℕ) where
+module _ {S D : Type 0} (given : Loading S D) where
   abbrev Raised : Kept D → Kept D → Type 0
-  Raised old new = EitherRose (disk_faults old.store) (disk_faults new.store) (disk_faults old.ledger) (disk_faults new.ledger)
+  Raised old new = EitherRose (given.disks.faults old.store) (given.disks.faults new.store) (given.disks.faults old.ledger) (given.disks.faults new.ledger)
 
   abbrev Later : Kept D → Kept D → Type 0
-  Later old new = (disk_faults old.store ≤ disk_faults new.store) × (disk_faults old.ledger ≤ disk_faults new.ledger)
+  Later old new = (given.disks.faults old.store ≤ given.disks.faults new.store) × (given.disks.faults old.ledger ≤ given.disks.faults new.ledger)
 
   abbrev All : List (OneLoad S) → Kept D → Kept D → Type 0
-  All loads old new = AreLoads id_of source_tells left faults path_of disks_tell file disk_faults 1 loads old new
+  All loads old new = AreLoads given loads old new
 
   raised_since : (old between new : Kept D) → Later old between → Raised between new → Raised old new
   raised_since old between new later (inl rose) = inl (omega (arith, later.0, rose))
@@ -63,8 +61,8 @@ module _ {S D : Type 0} (id_of : Kind → List ℕ → List ℕ) (source_tells :
 
   all_later : (loads : List (OneLoad S)) (old new : Kept D) → All loads old new → Later old new
   all_later [] old new are =
-      let store = ap (λ (k : Kept D). disk_faults k.store) are in
-      let ledger = ap (λ (k : Kept D). disk_faults k.ledger) are in
+      let store = ap (λ (k : Kept D). given.disks.faults k.store) are in
+      let ledger = ap (λ (k : Kept D). given.disks.faults k.ledger) are in
       (omega (arith, store), omega (arith, ledger))
   all_later (l ∷ loads) old new are =
       let rest = all_later loads are.0 new are.2 in
@@ -78,7 +76,7 @@ module _ {S D : Type 0} (id_of : Kind → List ℕ → List ℕ) (source_tells :
     from_later : (e : Ending) → (e ≡ ending.OutsideDisk → ⊥) → AreStops false rest → worse e (ending_of_all rest) ≡ ending.OutsideDisk → Raised old new
     from_later e none stops is = ⊎_elim (λ (h : e ≡ ending.OutsideDisk). absurd (none h)) (λ (h : ending_of_all rest ≡ ending.OutsideDisk). raised_since old between new first (later stops h)) (worse_disk e (ending_of_all rest) is)
 
-    by_why : (visit : ℕ) (reason : LoadWhy) → IsUnwounded (Err (record { visit = visit; why = reason })) → Stops id_of disk_faults (AreAllowed id_of l.job.job.head source_tells left l.job.job.stream) 1 l.job.job.origin l.job.date old between (record { visit = visit; why = reason })
+    by_why : (visit : ℕ) (reason : LoadWhy) → IsUnwounded (Err (record { visit = visit; why = reason })) → Stops given.id given.disks (AreAllowedAt given l) (attempt_at given l) old between (record { visit = visit; why = reason })
         → AreStops (is_disk_fault (Err (record { visit = visit; why = reason }))) rest → worse (ending_of_why reason) (ending_of_all rest) ≡ ending.OutsideDisk → Raised old new
     by_why visit (why.Ended status) unwounded stops more is = from_later ending.Wanting (λ e. cc) more is
     by_why visit why.DiskFault unwounded (inl once) more is = raised_until old between new once.stops.rose behind
@@ -87,7 +85,7 @@ module _ {S D : Type 0} (id_of : Kind → List ℕ → List ℕ) (source_tells :
     by_why visit (why.Limit which number) unwounded stops more is = from_later ending.Wanting (λ e. cc) more is
     by_why visit why.Memory unwounded stops more is = from_later ending.Memory (λ e. cc) more is
 
-    by_outcome : (o : Result Loaded LoadFault) → IsUnwounded o → IsOutcome id_of source_tells left faults path_of disks_tell file disk_faults 1 l old between o → AreStops (is_disk_fault o) rest → worse (ending_for o) (ending_of_all rest) ≡ ending.OutsideDisk → Raised old new
+    by_outcome : (o : Result Loaded LoadFault) → IsUnwounded o → IsOutcome given l old between o → AreStops (is_disk_fault o) rest → worse (ending_for o) (ending_of_all rest) ≡ ending.OutsideDisk → Raised old new
     by_outcome (Ok loaded) unwounded ends more is = from_later (ending_of_end loaded.end) (no_disk_end loaded.end) more is
     by_outcome (Err fault) unwounded ends more is = by_why fault.visit fault.why unwounded ends more is
 

@@ -1,16 +1,16 @@
 -- What the ends of `init` mean.
-use Rattle.std.proofs.Common.{◌≡◌, inl, inr, ⊎_elim, ℕ, List, sym, subst, refl}
-use Rattle.swh_program.specs.Answers.{status_of, status_for, IsPrinted, IsCutOff, IsToldOf}
+use Rattle.std.proofs.Common.{◌≡◌, inl, inr, ⊎_elim, ℕ, sym, subst, refl}
+use Rattle.swh_program.specs.Answers.{status_of, status_for}
 use Rattle.swh_program.specs.declared.answer.Ending.{Ending}
 use Rattle.swh_program.specs.declared.answer.Ending.TheVariants as ending
-use Rattle.swh_program.specs.Run.{IsStatus}
+use Rattle.swh_program.specs.Seen.{Span}
+use Rattle.swh_program.specs.Run.{IsStatus, IsTold}
 use Rattle.swh_outside.specs.Disk.{EachImage}
 use Rattle.swh_outside.specs.Files.{Files, EachImages}
 use Rattle.swh_outside.proofs.Numbered.{files_left_whole, files_left_same, files_left_by}
 use Rattle.swh_segment.specs.Making.{IsNotMade, IsNotMadeOrEmpty, making_calls}
 use Rattle.swh_segment.proofs.Crash.{making_moments}
-use Rattle.swh_program.specs.Archives.{Folders, archive_at}
-use Rattle.swh_program.specs.Init.{InitEnds, Inits, IsSafeInit}
+use Rattle.swh_program.specs.InitCommand.{InitEnds, IsSafeInit}
 use Rattle.swh_program.specs.declared.answer.Answer.{Answer}
 use Rattle.swh_program.specs.declared.answer.Answer.TheVariants.{Made, Told, Words, NoJobFile, BadJob, AlreadyMade, NotMade, Damaged, OutsideDisk, OutsideSource, OutsideClock, Memory}
 
@@ -21,27 +21,10 @@ left_by old new OutsideDisk e not_made each =
     let moments = (making_moments old not_made each).moments in
     ⊎_elim (λ same. files_left_same (making_calls (old 0).seen) old new IsNotMadeOrEmpty moments same) (λ breaks. files_left_by (making_calls (old 0).seen) old new IsNotMadeOrEmpty moments breaks) e
 left_by old new Memory e not_made each = files_left_same (making_calls (old 0).seen) old new IsNotMadeOrEmpty (making_moments old not_made each).moments e
-left_by old new (Told text end) e not_made each = absurd e
-left_by old new Words e not_made each = absurd e
-left_by old new NoJobFile e not_made each = absurd e
-left_by old new (BadJob text) e not_made each = absurd e
-left_by old new NotMade e not_made each = absurd e
-left_by old new Damaged e not_made each = absurd e
-left_by old new OutsideSource e not_made each = absurd e
-left_by old new OutsideClock e not_made each = absurd e
+left_by old new _ e not_made each = absurd e
 
 pub safe : (old new : Files) (answer : Answer) → InitEnds old new answer → IsSafeInit old new
 safe old new answer ends = record { moments = making_moments old; left = left_by old new answer ends }
-
--- `init` changes nothing where memory runs out before the words are read
-pub init_unread : (dir : List ℕ) (tells : Type 0) (folders : Folders) (faults : ℕ) → Inits dir tells folders folders faults faults Memory
-init_unread dir tells folders faults = record {
-  one_of = tt;
-  ends = λ told. refl;
-  elsewhere = λ told. record { elsewhere = λ d n apart. refl };
-  crash = λ told. safe (archive_at folders dir) (archive_at folders dir) Memory refl;
-  cause = λ e. let failed : Memory ≡ OutsideDisk = e in cc;
-}
 
 -- an end of the opened files is one of the archive that they are
 pub ends_at : (a b old new : Files) (answer : Answer) → a ≡ old → new ≡ b → InitEnds a b answer → InitEnds old new answer
@@ -69,12 +52,6 @@ answer_status OutsideClock = inr (inr (inr (inr (inl refl))))
 answer_status Memory = inr (inr (inr (inr (inr refl))))
 
 -- the status of a run is its answer's, or that of a failing sink
-pub told_status : (answer : Answer) (tells : Type 0) (before now : List ℕ) (faults_before faults_now status : ℕ) → IsToldOf answer tells before now faults_before faults_now status → IsStatus status
-told_status answer tells before now faults_before faults_now status told =
-    ⊎_elim
-    (λ (printed : IsPrinted answer tells before now status). subst IsStatus (sym printed.status_is) (answer_status answer))
-    (λ (cut : IsCutOff answer tells before now faults_before faults_now status). subst IsStatus (sym cut.status_is) (answer_status OutsideDisk))
-    told
-
-pub inits_at : (a b : List ℕ) (tells : Type 0) (old new : Folders) (faults_before faults_now : ℕ) (answer : Answer) → a ≡ b → Inits a tells old new faults_before faults_now answer → Inits b tells old new faults_before faults_now answer
-inits_at a b tells old new faults_before faults_now answer e inits = subst (λ (d : List ℕ). Inits d tells old new faults_before faults_now answer) e inits
+pub told_status : (answer : Answer) (s : Span) (status : ℕ) → IsTold answer s status → IsStatus status
+told_status answer s status (inl printed) = subst IsStatus (sym printed.status_is) (answer_status answer)
+told_status answer s status (inr cut) = subst IsStatus (sym cut.status_is) (answer_status OutsideDisk)

@@ -14,7 +14,7 @@ use Rattle.swh_model.specs.Step.{IsHistory, after, after_kind, after_all, replay
 use Rattle.swh_model.proofs.Histories.{fronts}
 use Rattle.swh_model.proofs.Maps.{added-all}
 use Rattle.swh_fastload.specs.Making.{made_of, made}
-use Rattle.swh_loader.specs.Adding.{IsOwn, IsOwnKind}
+use Rattle.swh_loader.specs.Adding.{Attempt, IsOwn, IsOwnKind}
 use Rattle.swh_loader.specs.Ending.{MeansObjects, IsMadeBy, Collided}
 use Rattle.swh_loader.specs.Leaving.{AddsVisit, AreOfVisit, next_visit}
 use Rattle.swh_loader.proofs.Limiting.{at_element}
@@ -61,18 +61,18 @@ module _ (id_of : Kind → List ℕ → List ℕ) (objects : List Made) where
     had_kind a by origin number (Open other kind date) own had = had
     had_kind a by origin number (Mark other visit status snapshot) own had = had
 
-    had_own : (by : ℕ) (origin : List ℕ) (number : ℕ) (a : Archive) (es : List Event) → AllByRecursion (IsOwn (AreMade id_of objects) by origin number) es → Had id_of bodies objects a.bodies → Had id_of bodies objects (after_all a es).bodies
-    had_own by origin number a [] own had = had
-    had_own by origin number a (e ∷ es) own had = had_own by origin number (after a e) es own.1 (had_kind a e.by origin number e.what own.0.kind had)
+    had_own : (t : Attempt) (number : ℕ) (a : Archive) (es : List Event) → AllByRecursion (IsOwn (AreMade id_of objects) t number) es → Had id_of bodies objects a.bodies → Had id_of bodies objects (after_all a es).bodies
+    had_own t number a [] own had = had
+    had_own t number a (e ∷ es) own had = had_own t number (after a e) es own.1 (had_kind a e.by t.origin number e.what own.0.kind had)
 
-    had_visit : (by : ℕ) (origin : List ℕ) (date number : ℕ) (a : Archive) (es : List Event) → AreOfVisit (AreMade id_of objects) by origin date number es → Had id_of bodies objects a.bodies → Had id_of bodies objects (after_all a es).bodies
-    had_visit by origin date number a [] are had = had
-    had_visit by origin date number a (e ∷ es) are had =
-        had_own by origin number (after a e) es are.1 (subst (λ (x : Event). Had id_of bodies objects (after a x).bodies) (sym are.0) had)
+    had_visit : (t : Attempt) (number : ℕ) (a : Archive) (es : List Event) → AreOfVisit (AreMade id_of objects) t number es → Had id_of bodies objects a.bodies → Had id_of bodies objects (after_all a es).bodies
+    had_visit t number a [] are had = had
+    had_visit t number a (e ∷ es) are had =
+        had_own t number (after a e) es are.1 (subst (λ (x : Event). Had id_of bodies objects (after a x).bodies) (sym are.0) had)
 
     -- which the archive holds after the load
-    pub had_after : (by : ℕ) (origin : List ℕ) (date : ℕ) (h h' : List Event) → IsHistory id_of h' → AddsVisit (AreMade id_of objects) by origin date h h' → Had id_of bodies objects (replay h).bodies → Had id_of bodies objects (replay h').bodies
-    had_after by origin date h h' history adds had =
+    pub had_after : (t : Attempt) (h h' : List Event) → IsHistory id_of h' → AddsVisit (AreMade id_of objects) t h h' → Had id_of bodies objects (replay h).bodies → Had id_of bodies objects (replay h').bodies
+    had_after t h h' history adds had =
         let parts = fronts id_of empty_archive h adds.more (subst (IsHistory id_of) adds.behind history) in
         let grown : replay h' ≡ after_all (replay h) adds.more = ap replay adds.behind ∙ parts.2 in
-        subst (λ (a : Archive). Had id_of bodies objects a.bodies) (sym grown) (had_visit by origin date (next_visit h origin) (replay h) adds.more adds.are had)
+        subst (λ (a : Archive). Had id_of bodies objects a.bodies) (sym grown) (had_visit t (next_visit h t.origin) (replay h) adds.more adds.are had)

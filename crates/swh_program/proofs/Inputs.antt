@@ -3,7 +3,7 @@ use Rattle.std.proofs.Common.{◌≡◌, inl, inr, ℕ, ◌<◌, ◌≤◌, Opti
 use Rattle.std.specs.List.{AllByRecursion}
 use Rattle.swh_base.specs.declared.kind.Kind.{Kind}
 use Rattle.swh_base.specs.declared.entry.Entry.{Entry}
-use Rattle.swh_outside.specs.Disk.{File}
+use Rattle.swh_outside.specs.Views.{Disks, Sources}
 use Rattle.swh_outside.specs.Faults.{Rose}
 use Rattle.swh_outside.specs.Opened.{IfFound}
 use Rattle.swh_outside.specs.declared.fault.Opened.{Opened}
@@ -15,7 +15,7 @@ use Rattle.swh_model.specs.Archive.{Bodies}
 use Rattle.swh_model.specs.Step.{replay}
 use Rattle.swh_keeper.specs.Kept.{Kept}
 use Rattle.swh_jobs.specs.Job.{Job}
-use Rattle.swh_loader.specs.Adding.{opening, IsEvent, IsOwn, IsOwnKind}
+use Rattle.swh_loader.specs.Adding.{Attempt, attempt, opening, IsEvent, IsOwn, IsOwnKind}
 use Rattle.swh_loader.specs.Ending.{IsEndOf, IsJobEnd}
 use Rattle.swh_loader.specs.Leaving.{AreAllowed, AreOfVisit, AddsVisit, Stops, IsSameInput, next_visit}
 use Rattle.swh_loader.specs.Stopping as stopping
@@ -27,10 +27,9 @@ use Rattle.swh_loader.specs.declared.fault.LoadWhy.{LoadWhy}
 use Rattle.swh_loader.specs.declared.fault.LoadWhy.TheVariants as why
 use Rattle.swh_loader.specs.declared.fault.LoadFault.{LoadFault}
 use Rattle.swh_pool.specs.Lines.{ended}
-use Rattle.swh_pool.specs.Loads.{OneLoad, IsOutcome as IsOutcomeOf, IsOneLoad, AreLoads}
+use Rattle.swh_pool.specs.Loads.{Loading, loading, attempt_at, AreAllowedAt, OneLoad, IsOutcome as IsOutcomeOf, IsOneLoad, AreLoads}
 use Rattle.swh_program.specs.Dated.{IsOpenedAt, IsOpenedJob, AreOpenedJobs, IsGivenBack, AreGivenBack}
-use Rattle.swh_program.specs.Jobs.{FileAt}
-use Rattle.swh_program.specs.Inputs.{IsOfInput, IsInputEnd, StopsFor, StopsVisit, IsOutcome}
+use Rattle.swh_program.specs.Inputs.{loader, Inputs, inputs, Input, input_of, IsOfInput, IsInputEnd, StopsFor, StopsVisit, IsOutcome}
 use Rattle.swh_program.specs.Lines.{LoadedJob, dates, outcomes}
 use Rattle.swh_program.specs.Load.{IsJobLoad, AreJobLoads}
 
@@ -54,36 +53,36 @@ own_kind P Q origin number more (Batch entries) is = (is.0, more entries is.1)
 own_kind P Q origin number more (OpenEvent other kind date) is = is
 own_kind P Q origin number more (Mark other visit status snapshot) is = is
 
-own_events : (P Q : List Entry → Type 0) (by : ℕ) (origin : List ℕ) (number : ℕ) → ((entries : List Entry) → P entries → Q entries) → (es : List Event) → AllByRecursion (IsOwn P by origin number) es → AllByRecursion (IsOwn Q by origin number) es
-own_events P Q by origin number more [] all = tt
-own_events P Q by origin number more (e ∷ es) all = (record { by_one = all.0.by_one; kind = own_kind P Q origin number more e.what all.0.kind }, own_events P Q by origin number more es all.1)
+own_events : (P Q : List Entry → Type 0) (a : Attempt) (number : ℕ) → ((entries : List Entry) → P entries → Q entries) → (es : List Event) → AllByRecursion (IsOwn P a number) es → AllByRecursion (IsOwn Q a number) es
+own_events P Q a number more [] all = tt
+own_events P Q a number more (e ∷ es) all = (record { by_one = all.0.by_one; kind = own_kind P Q a.origin number more e.what all.0.kind }, own_events P Q a number more es all.1)
 
-of_visit : (P Q : List Entry → Type 0) (by : ℕ) (origin : List ℕ) (date number : ℕ) → ((entries : List Entry) → P entries → Q entries) → (es : List Event) → AreOfVisit P by origin date number es → AreOfVisit Q by origin date number es
-of_visit P Q by origin date number more [] are = tt
-of_visit P Q by origin date number more (e ∷ es) are = (are.0, own_events P Q by origin number more es are.1)
+of_visit : (P Q : List Entry → Type 0) (a : Attempt) (number : ℕ) → ((entries : List Entry) → P entries → Q entries) → (es : List Event) → AreOfVisit P a number es → AreOfVisit Q a number es
+of_visit P Q a number more [] are = tt
+of_visit P Q a number more (e ∷ es) are = (are.0, own_events P Q a number more es are.1)
 
-pub adds_visit : (P Q : List Entry → Type 0) (by : ℕ) (origin : List ℕ) (date : ℕ) (h h' : List Event) → ((entries : List Entry) → P entries → Q entries) → AddsVisit P by origin date h h' → AddsVisit Q by origin date h h'
-adds_visit P Q by origin date h h' more adds = record { more = adds.more; behind = adds.behind; are = of_visit P Q by origin date (next_visit h origin) more adds.more adds.are }
+pub adds_visit : (P Q : List Entry → Type 0) (a : Attempt) (h h' : List Event) → ((entries : List Entry) → P entries → Q entries) → AddsVisit P a h h' → AddsVisit Q a h h'
+adds_visit P Q a h h' more adds = record { more = adds.more; behind = adds.behind; are = of_visit P Q a (next_visit h a.origin) more adds.more adds.are }
 
 all_append : {X : Type 0} (P : X → Type 0) (xs ys : List X) → AllByRecursion P xs → AllByRecursion P ys → AllByRecursion P (xs ++ ys)
 all_append P [] ys h k = k
 all_append P (x ∷ xs) ys h k = (h.0, all_append P xs ys h.1 k)
 
 -- one event more of a load
-module _ (P : List Entry → Type 0) (by : ℕ) (origin : List ℕ) (date : ℕ) (h h' : List Event) (e : Event) where
+module _ (P : List Entry → Type 0) (a : Attempt) (h h' : List Event) (e : Event) where
   -- its first
-  pub opened_next : h' ≡ h → IsEvent (opening by origin date) e → AddsVisit P by origin date h (h' ++ e ∷ [])
+  pub opened_next : h' ≡ h → IsEvent (opening a) e → AddsVisit P a h (h' ++ e ∷ [])
   opened_next same is = record { more = e ∷ []; behind = ap (λ (t : List Event). t ++ e ∷ []) same; are = (is, tt) }
 
   longer : (more : List Event) (o : Event) → h' ≡ h ++ [] → h' ≡ h ++ o ∷ more → ⊥
   longer more o none some = let l = sym (length-append h []) ∙ ap length (sym none ∙ some) ∙ length-append h (o ∷ more) in omega (arith, l)
 
-  own_more : (m more : List Event) (o : Event) → h' ≡ h ++ m → h' ≡ h ++ o ∷ more → AreOfVisit P by origin date (next_visit h origin) m → IsOwn P by origin (next_visit h origin) e → AreOfVisit P by origin date (next_visit h origin) (m ++ e ∷ [])
+  own_more : (m more : List Event) (o : Event) → h' ≡ h ++ m → h' ≡ h ++ o ∷ more → AreOfVisit P a (next_visit h a.origin) m → IsOwn P a (next_visit h a.origin) e → AreOfVisit P a (next_visit h a.origin) (m ++ e ∷ [])
   own_more [] more o none some are own = absurd (longer more o none some)
-  own_more (x ∷ m) more o behind some are own = (are.0, all_append (IsOwn P by origin (next_visit h origin)) m (e ∷ []) are.1 (own, tt))
+  own_more (x ∷ m) more o behind some are own = (are.0, all_append (IsOwn P a (next_visit h a.origin)) m (e ∷ []) are.1 (own, tt))
 
   -- a later one
-  pub own_next : (more : List Event) (o : Event) → h' ≡ h ++ o ∷ more → AddsVisit P by origin date h h' → IsOwn P by origin (next_visit h origin) e → AddsVisit P by origin date h (h' ++ e ∷ [])
+  pub own_next : (more : List Event) (o : Event) → h' ≡ h ++ o ∷ more → AddsVisit P a h h' → IsOwn P a (next_visit h a.origin) e → AddsVisit P a h (h' ++ e ∷ [])
   own_next more o opened adds own = record {
     more = adds.more ++ e ∷ [];
     behind = ap (λ (t : List Event). t ++ e ∷ []) adds.behind ∙ append_assoc h adds.more (e ∷ []);
@@ -91,156 +90,153 @@ module _ (P : List Entry → Type 0) (by : ℕ) (origin : List ℕ) (date : ℕ)
   }
 
 -- Why a load stopped.
-module _ {D : Type 0} (id_of : Kind → List ℕ → List ℕ) (tells : Type 0) (found head : Option (List ℕ)) (failed : Type 0) (faults : D → ℕ) (P : List Entry → Type 0) (url : List ℕ) (date : ℕ) (old new : Kept D)
-    (allowed : (entries : List Entry) → P entries → IsOfInput id_of tells found head failed entries) (adds : AddsVisit P 1 url date old.history new.history) where
-  stops_for : (tried : Event → Type 0) → ((e : Event) → tried e → AddsVisit P 1 url date old.history (new.history ++ e ∷ [])) → (reason : LoadWhy) → stopping.StopsFor id_of faults tried old new reason
-      → StopsFor id_of tells found head failed url date old.history new.history reason
+module _ {D : Type 0} (id_of : Kind → List ℕ → List ℕ) (input : Input) (disks : Disks D) (P : List Entry → Type 0) (a : Attempt) (old new : Kept D)
+    (allowed : (entries : List Entry) → P entries → IsOfInput id_of input entries) (adds : AddsVisit P a old.history new.history) where
+  stops_for : (tried : Event → Type 0) → ((e : Event) → tried e → AddsVisit P a old.history (new.history ++ e ∷ [])) → (reason : LoadWhy) → stopping.StopsFor id_of disks.faults tried old new reason
+      → StopsFor id_of input a old.history new.history reason
   stops_for tried next (why.Ended status) stops = stops
   stops_for tried next why.DiskFault stops = tt
   stops_for tried next why.Wounded stops = tt
   stops_for tried next (why.Limit which number) stops = record {
     event = stops.event;
-    next = adds_visit P (IsOfInput id_of tells found head failed) 1 url date old.history (new.history ++ stops.event ∷ []) allowed (next stops.event stops.tried);
+    next = adds_visit P (IsOfInput id_of input) a old.history (new.history ++ stops.event ∷ []) allowed (next stops.event stops.tried);
     may = stops.may;
     passes = stops.passes;
   }
   stops_for tried next why.Memory stops = tt
 
-  stops_visit : (fault : LoadFault) → Stops id_of faults P 1 url date old new fault → StopsVisit id_of tells found head failed url date old.history new.history fault
+  stops_visit : (fault : LoadFault) → Stops id_of disks P a old new fault → StopsVisit id_of input a old.history new.history fault
   stops_visit fault (inl once) =
       record {
         visit = inl (once.no_visit, once.same);
-        stops = stops_for (IsEvent (opening 1 url date)) (λ e is. opened_next P 1 url date old.history new.history e once.same is) fault.why once.stops;
+        stops = stops_for (IsEvent (opening a)) (λ e is. opened_next P a old.history new.history e once.same is) fault.why once.stops;
       }
   stops_visit fault (inr later) =
-      let own = λ (e : Event) (is : IsOwn P 1 url fault.visit e). own_next P 1 url date old.history new.history e later.more (opening 1 url date) later.opened adds (subst (λ (n : ℕ). IsOwn P 1 url n e) later.visit is) in
-      record { visit = inr (later.visit, later.more, later.opened); stops = stops_for (IsOwn P 1 url fault.visit) own fault.why later.stops }
+      let own = λ (e : Event) (is : IsOwn P a fault.visit e). own_next P a old.history new.history e later.more (opening a) later.opened adds (subst (λ (n : ℕ). IsOwn P a n e) later.visit is) in
+      record { visit = inr (later.visit, later.more, later.opened); stops = stops_for (IsOwn P a fault.visit) own fault.why later.stops }
+
+-- a job as it was loaded
+abbrev pub loaded_job : {S : Type 0} → Job → OneLoad S → LoadedJob
+loaded_job job l = record { job = job; date = l.job.date; outcome = l.outcome }
+
+abbrev pub loaded_jobs : {S : Type 0} → List Job → List (OneLoad S) → List LoadedJob
+loaded_jobs [] loads = []
+loaded_jobs (job ∷ jobs) [] = []
+loaded_jobs (job ∷ jobs) (l ∷ loads) = loaded_job job l ∷ loaded_jobs jobs loads
+
+-- Loads of opened jobs.
+module _ {S : Type 0} (sources : Sources S) (opened_by : Inputs) where
+  abbrev pub Open : List Job → List (OneLoad S) → Type 0
+  Open jobs loads = AreOpenedJobs sources opened_by jobs (map (λ l. l.job) loads)
+
+  -- their jobs, dates and outcomes
+  pub same_jobs : (jobs : List Job) (loads : List (OneLoad S)) → Open jobs loads → map (λ l. l.job) (loaded_jobs jobs loads) ≡ jobs
+  same_jobs [] loads opened = refl
+  same_jobs (job ∷ jobs) [] opened = absurd opened
+  same_jobs (job ∷ jobs) (l ∷ loads) opened = ap (λ (more : List Job). job ∷ more) (same_jobs jobs loads opened.1)
+
+  pub same_dates : (jobs : List Job) (loads : List (OneLoad S)) → Open jobs loads → dates (loaded_jobs jobs loads) ≡ map (λ j. j.date) (map (λ l. l.job) loads)
+  same_dates [] [] opened = refl
+  same_dates [] (l ∷ loads) opened = absurd opened
+  same_dates (job ∷ jobs) [] opened = absurd opened
+  same_dates (job ∷ jobs) (l ∷ loads) opened = ap (λ (more : List ℕ). l.job.date ∷ more) (same_dates jobs loads opened.1)
+
+  pub same_outcomes : (jobs : List Job) (loads : List (OneLoad S)) → Open jobs loads → outcomes (loaded_jobs jobs loads) ≡ map (λ l. l.outcome) loads
+  same_outcomes [] [] opened = refl
+  same_outcomes [] (l ∷ loads) opened = absurd opened
+  same_outcomes (job ∷ jobs) [] opened = absurd opened
+  same_outcomes (job ∷ jobs) (l ∷ loads) opened = ap (λ (more : List (Result Loaded LoadFault)). l.outcome ∷ more) (same_outcomes jobs loads opened.1)
+
+  -- their origins beside their outcomes
+  pub same_ended : {D : Type 0} (given : Loading S D) (jobs : List Job) (loads : List (OneLoad S)) (old new : Kept D) → Open jobs loads → AreLoads given loads old new
+      → ended (map (λ l. l.after) loads) (map (λ l. l.outcome) loads) ≡ map url_and_outcome (loaded_jobs jobs loads)
+  same_ended given [] [] old new opened are = refl
+  same_ended given [] (l ∷ loads) old new opened are = absurd opened
+  same_ended given (job ∷ jobs) [] old new opened are = absurd opened
+  same_ended given (job ∷ jobs) (l ∷ loads) old new opened are =
+      let url : l.after.job.origin ≡ job.url = are.1.same_origin ∙ opened.0.origin in
+      let rest = same_ended given jobs loads are.0 new opened.1 are.2 in
+      λ i. (url i, l.outcome) ∷ rest i
 
 -- The inputs of jobs: opened, and given back.
-module _ {S : Type 0} (id_of : Kind → List ℕ → List ℕ) (tells source_tells : Type 0) (left : S → List ℕ) (faults : S → ℕ) (path_of : S → List ℕ) (input_at : FileAt) (entry middle after : List ℕ → ℕ)
-    (later : (p : List ℕ) → entry p ≤ middle p) (later_still : (p : List ℕ) → middle p ≤ after p) where
-  abbrev pub HasFailed : Job → Type 0
-  HasFailed job = Rose (entry job.path) (after job.path)
+module _ {S : Type 0} (id_of : Kind → List ℕ → List ℕ) (sources : Sources S) (opened_by : Inputs) (after : List ℕ → ℕ)
+    (later : (p : List ℕ) → opened_by.failures p ≤ opened_by.failures_now p) (later_still : (p : List ℕ) → opened_by.failures_now p ≤ after p) where
+  -- by the counts before the opening and after the giving back
+  abbrev pub of_jobs : Inputs
+  of_jobs = inputs opened_by.tell opened_by.at opened_by.failures after
 
   abbrev pub Opens : Job → Opened S → Type 0
-  Opens job stream = IsOpenedAt tells source_tells left faults path_of input_at entry middle job.path stream
+  Opens job stream = IsOpenedAt sources opened_by job.path stream
 
   abbrev pub OfJob : Job → List Entry → Type 0
-  OfJob job = IsOfInput id_of tells (input_at job.path) job.head (HasFailed job)
+  OfJob job = IsOfInput id_of (input_of of_jobs job)
 
-  pub allowed : (job : Job) (s : Opened S) → (tells → source_tells) → (tells → IfFound s (λ x. input_at job.path ≡ Some (left x))) → (entries : List Entry) → AreAllowed id_of job.head source_tells left s entries → OfJob job entries
-  allowed job (Found s) told is entries allowed_by = λ t. (left s, is t, allowed_by (told t))
-  allowed job Missing told is entries allowed_by = absurd allowed_by
-  allowed job Unopened told is entries allowed_by = absurd allowed_by
-  allowed job NoRoom told is entries allowed_by = absurd allowed_by
+  pub allowed : (job : Job) (s : Opened S) → (opened_by.tell → sources.tells) → (opened_by.tell → IfFound s (λ x. opened_by.at job.path ≡ Some (sources.left x))) → (entries : List Entry) → AreAllowed id_of job.head sources s entries → OfJob job entries
+  allowed job (Found s) told is entries allowed_by = λ t. (sources.left s, is t, allowed_by (told t))
+  allowed job _ told is entries allowed_by = absurd allowed_by
 
   -- a path's count rose where a source of that path had failed
-  back_at : (path : List ℕ) (s : S) → path_of s ≡ path → (0 < faults s → Rose (middle (path_of s)) (after (path_of s))) → 0 < faults s → Rose (entry path) (after path)
-  back_at path s at back some = rose_since (entry path) (middle path) (after path) (later path) (subst (λ (p : List ℕ). Rose (middle p) (after p)) at (back some))
+  back_at : (path : List ℕ) (s : S) → sources.path s ≡ path → (0 < sources.faults s → Rose (opened_by.failures_now (sources.path s)) (after (sources.path s))) → 0 < sources.faults s → Rose (opened_by.failures path) (after path)
+  back_at path s at back some = rose_since (opened_by.failures path) (opened_by.failures_now path) (after path) (later path) (subst (λ (p : List ℕ). Rose (opened_by.failures_now p) (after p)) at (back some))
 
-  found_end : (job : Job) (bodies : Bodies) (s t : S) → (tells → source_tells) → (tells → input_at job.path ≡ Some (left s)) → faults s ≡ 0 → path_of t ≡ job.path → (0 < faults t → Rose (middle (path_of t)) (after (path_of t)))
-      → (end : End) → IsEndOf id_of job.head source_tells (left s) (faults s) (faults t) bodies end → IsInputEnd id_of tells (input_at job.path) job.head (HasFailed job) bodies end
-  found_end job bodies s t told is none at back (Full snapshot) ends = λ h. (left s, is h, ends (told h))
+  found_end : (job : Job) (bodies : Bodies) (s t : S) → (opened_by.tell → sources.tells) → (opened_by.tell → opened_by.at job.path ≡ Some (sources.left s)) → sources.faults s ≡ 0 → sources.path t ≡ job.path → (0 < sources.faults t → Rose (opened_by.failures_now (sources.path t)) (after (sources.path t)))
+      → (end : End) → IsEndOf id_of job.head sources bodies s t end → IsInputEnd id_of (input_of of_jobs job) bodies end
+  found_end job bodies s t told is none at back (Full snapshot) ends = λ h. (sources.left s, is h, ends (told h))
   found_end job bodies s t told is none at back NotFound ends = absurd ends
-  found_end job bodies s t told is none at back (Failed (Stream place stream_why)) ends = (ends.0, ends.1, λ h. (left s, is h, ends.2 (told h)))
-  found_end job bodies s t told is none at back (Failed (Collision name)) ends = λ h. (left s, is h, ends (told h))
-  found_end job bodies s t told is none at back (Failed Read) ends = back_at job.path t at back (rose_above (faults s) (faults t) none ends)
+  found_end job bodies s t told is none at back (Failed (Stream place stream_why)) ends = (ends.0, ends.1, λ h. (sources.left s, is h, ends.2 (told h)))
+  found_end job bodies s t told is none at back (Failed (Collision name)) ends = λ h. (sources.left s, is h, ends (told h))
+  found_end job bodies s t told is none at back (Failed Read) ends = back_at job.path t at back (rose_above (sources.faults s) (sources.faults t) none ends)
 
-  input_end : (job : Job) (bodies : Bodies) (s t : Opened S) → Opens job s → IsSameInput path_of faults s t → IsGivenBack faults path_of middle after t → (end : End) → IsJobEnd id_of job.head source_tells left faults bodies s t end
-      → IsInputEnd id_of tells (input_at job.path) job.head (HasFailed job) bodies end
+  input_end : (job : Job) (bodies : Bodies) (s t : Opened S) → Opens job s → IsSameInput sources s t → IsGivenBack sources opened_by.failures_now after t → (end : End) → IsJobEnd id_of job.head sources bodies s t end
+      → IsInputEnd id_of (input_of of_jobs job) bodies end
   input_end job bodies (Found s) (Found t) opened same back end ends = found_end job bodies s t opened.told opened.found opened.quiet (same.0 ∙ opened.at) back end ends
-  input_end job bodies (Found s) Missing opened same back end ends = absurd ends
-  input_end job bodies (Found s) Unopened opened same back end ends = absurd ends
-  input_end job bodies (Found s) NoRoom opened same back end ends = absurd ends
-  input_end job bodies Missing t opened same back end ends = subst (IsInputEnd id_of tells (input_at job.path) job.head (HasFailed job) bodies) (sym ends) (λ h. opened.absent h tt)
+  input_end job bodies (Found s) _ opened same back end ends = absurd ends
+  input_end job bodies Missing t opened same back end ends = subst (IsInputEnd id_of (input_of of_jobs job) bodies) (sym ends) (λ h. opened.absent h tt)
   input_end job bodies Unopened t opened same back end ends =
-      subst (IsInputEnd id_of tells (input_at job.path) job.head (HasFailed job) bodies) (sym ends) (rose_until (entry job.path) (middle job.path) (after job.path) (opened.failed tt) (later_still job.path))
+      subst (IsInputEnd id_of (input_of of_jobs job) bodies) (sym ends) (rose_until (opened_by.failures job.path) (opened_by.failures_now job.path) (after job.path) (opened.failed tt) (later_still job.path))
   input_end job bodies NoRoom t opened same back end ends = absurd ends
 
-  module _ {D : Type 0} (disks_tell : Type 0) (file : D → File) (disk_faults : D → ℕ) where
-    abbrev pub Loads : OneLoad S → Kept D → Kept D → Type 0
-    Loads l old new = IsOneLoad id_of source_tells left faults path_of disks_tell file disk_faults 1 l old new
-
-    abbrev pub AllLoads : List (OneLoad S) → Kept D → Kept D → Type 0
-    AllLoads loads old new = AreLoads id_of source_tells left faults path_of disks_tell file disk_faults 1 loads old new
-
-    -- a job as it was loaded
-    abbrev pub loaded_job : Job → OneLoad S → LoadedJob
-    loaded_job job l = record { job = job; date = l.job.date; outcome = l.outcome }
+  module _ {D : Type 0} (disks : Disks D) where
+    -- what the loads are done with
+    abbrev pub given : Loading S D
+    given = loading id_of loader sources disks
 
     -- what the load of an opened job says, with the job's head
-    line : (job : Job) (l : OneLoad S) (old new : Kept D) → Opens job l.job.job.stream → l.job.job.head ≡ job.head → IsGivenBack faults path_of middle after l.after.job.stream
-        → AddsVisit (AreAllowed id_of job.head source_tells left l.job.job.stream) 1 l.job.job.origin l.job.date old.history new.history → IsSameInput path_of faults l.job.job.stream l.after.job.stream
-        → (outcome : Result Loaded LoadFault) → IsOutcomeOf id_of source_tells left faults path_of disks_tell file disk_faults 1 l old new outcome
-        → IsOutcome id_of tells (input_at job.path) job.head (HasFailed job) l.job.job.origin l.job.date old.history new.history outcome
+    line : (job : Job) (l : OneLoad S) (old new : Kept D) → Opens job l.job.job.stream → l.job.job.head ≡ job.head → IsGivenBack sources opened_by.failures_now after l.after.job.stream
+        → AddsVisit (AreAllowed id_of job.head sources l.job.job.stream) (attempt_at given l) old.history new.history → IsSameInput sources l.job.job.stream l.after.job.stream
+        → (outcome : Result Loaded LoadFault) → IsOutcomeOf given l old new outcome
+        → IsOutcome id_of (input_of of_jobs job) (attempt_at given l) old.history new.history outcome
     line job l old new opened head back adds same (Ok loaded) is =
-        let means = subst (λ (h : Option (List ℕ)). IsJobEnd id_of h source_tells left faults (replay new.history).bodies l.job.job.stream l.after.job.stream loaded.end) head is.means in
+        let means = subst (λ (h : Option (List ℕ)). IsJobEnd id_of h sources (replay new.history).bodies l.job.job.stream l.after.job.stream loaded.end) head is.means in
         record { number = is.number; visit = is.visit; end = input_end job (replay new.history).bodies l.job.job.stream l.after.job.stream opened same back loaded.end means }
     line job l old new opened head back adds same (Err fault) is =
-        let stops = subst (λ (h : Option (List ℕ)). Stops id_of disk_faults (AreAllowed id_of h source_tells left l.job.job.stream) 1 l.job.job.origin l.job.date old new fault) head is in
-        stops_visit id_of tells (input_at job.path) job.head (HasFailed job) disk_faults (AreAllowed id_of job.head source_tells left l.job.job.stream) l.job.job.origin l.job.date old new (allowed job l.job.job.stream opened.told opened.found) adds fault stops
+        let stops = subst (λ (h : Option (List ℕ)). Stops id_of disks (AreAllowed id_of h sources l.job.job.stream) (attempt_at given l) old new fault) head is in
+        stops_visit id_of (input_of of_jobs job) disks (AreAllowed id_of job.head sources l.job.job.stream) (attempt_at given l) old new (allowed job l.job.job.stream opened.told opened.found) adds fault stops
 
     -- what it adds, with the job's head
-    pub adds_with : (job : Job) (l : OneLoad S) (before after' : List Event) → l.job.job.head ≡ job.head → AddsVisit (AreAllowed id_of l.job.job.head source_tells left l.job.job.stream) 1 l.job.job.origin l.job.date before after'
-        → AddsVisit (AreAllowed id_of job.head source_tells left l.job.job.stream) 1 l.job.job.origin l.job.date before after'
-    adds_with job l before after' head adds = subst (λ (h : Option (List ℕ)). AddsVisit (AreAllowed id_of h source_tells left l.job.job.stream) 1 l.job.job.origin l.job.date before after') head adds
+    pub adds_with : (job : Job) (l : OneLoad S) (before after' : List Event) → l.job.job.head ≡ job.head → AddsVisit (AreAllowedAt given l) (attempt_at given l) before after'
+        → AddsVisit (AreAllowed id_of job.head sources l.job.job.stream) (attempt_at given l) before after'
+    adds_with job l before after' head adds = subst (λ (h : Option (List ℕ)). AddsVisit (AreAllowed id_of h sources l.job.job.stream) (attempt_at given l) before after') head adds
 
-    pub adds_of : (job : Job) (l : OneLoad S) (before after' : List Event) → IsOpenedJob tells source_tells left faults path_of input_at entry middle job l.job → AddsVisit (AreAllowed id_of l.job.job.head source_tells left l.job.job.stream) 1 l.job.job.origin l.job.date before after'
-        → AddsVisit (OfJob job) 1 job.url l.job.date before after'
+    pub adds_of : (job : Job) (l : OneLoad S) (before after' : List Event) → IsOpenedJob sources opened_by job l.job → AddsVisit (AreAllowedAt given l) (attempt_at given l) before after'
+        → AddsVisit (OfJob job) (attempt loader job.url l.job.date) before after'
     adds_of job l before after' opened adds =
-        subst (λ (u : List ℕ). AddsVisit (OfJob job) 1 u l.job.date before after') opened.origin
-        (adds_visit (AreAllowed id_of job.head source_tells left l.job.job.stream) (OfJob job) 1 l.job.job.origin l.job.date before after' (allowed job l.job.job.stream opened.input.told opened.input.found) (adds_with job l before after' opened.head adds))
+        subst (λ (u : List ℕ). AddsVisit (OfJob job) (attempt loader u l.job.date) before after') opened.origin
+        (adds_visit (AreAllowed id_of job.head sources l.job.job.stream) (OfJob job) (attempt_at given l) before after' (allowed job l.job.job.stream opened.input.told opened.input.found) (adds_with job l before after' opened.head adds))
 
-    pub one_job : (job : Job) (l : OneLoad S) (old new : Kept D) → IsOpenedJob tells source_tells left faults path_of input_at entry middle job l.job → IsGivenBack faults path_of middle after l.after.job.stream → Loads l old new
-        → IsJobLoad id_of tells input_at entry after (loaded_job job l) old.history new.history
+    pub one_job : (job : Job) (l : OneLoad S) (old new : Kept D) → IsOpenedJob sources opened_by job l.job → IsGivenBack sources opened_by.failures_now after l.after.job.stream → IsOneLoad given l old new
+        → IsJobLoad id_of of_jobs (loaded_job job l) old.history new.history
     one_job job l old new opened back is =
         let told = line job l old new opened.input opened.head back (adds_with job l old.history new.history opened.head is.adds) is.same_input l.outcome is.ends in
         record {
           nothing_else = adds_of job l old.history new.history opened is.adds;
-          line = subst (λ (u : List ℕ). IsOutcome id_of tells (input_at job.path) job.head (HasFailed job) u l.job.date old.history new.history l.outcome) opened.origin told;
+          line = subst (λ (u : List ℕ). IsOutcome id_of (input_of of_jobs job) (attempt loader u l.job.date) old.history new.history l.outcome) opened.origin told;
         }
 
-    abbrev pub loaded_jobs : List Job → List (OneLoad S) → List LoadedJob
-    loaded_jobs [] loads = []
-    loaded_jobs (job ∷ jobs) [] = []
-    loaded_jobs (job ∷ jobs) (l ∷ loads) = loaded_job job l ∷ loaded_jobs jobs loads
-
-    abbrev pub Open : List Job → List (OneLoad S) → Type 0
-    Open jobs loads = AreOpenedJobs tells source_tells left faults path_of input_at entry middle jobs (map (λ l. l.job) loads)
-
-    pub each_job : (jobs : List Job) (loads : List (OneLoad S)) (old new : Kept D) → Open jobs loads → AreGivenBack faults path_of middle after (map (λ l. l.after) loads)
-        → AllLoads loads old new → AreJobLoads id_of tells input_at entry after (loaded_jobs jobs loads) old.history new.history
+    pub each_job : (jobs : List Job) (loads : List (OneLoad S)) (old new : Kept D) → Open sources opened_by jobs loads → AreGivenBack sources opened_by.failures_now after (map (λ l. l.after) loads)
+        → AreLoads given loads old new → AreJobLoads id_of of_jobs (loaded_jobs jobs loads) old.history new.history
     each_job [] [] old new opened back are = ap (λ (k : Kept D). k.history) are
     each_job [] (l ∷ loads) old new opened back are = absurd opened
     each_job (job ∷ jobs) [] old new opened back are = absurd opened
     each_job (job ∷ jobs) (l ∷ loads) old new opened back are =
         (are.0.history, one_job job l old are.0 opened.0 back.0 are.1, each_job jobs loads are.0 new opened.1 back.1 are.2)
-
-    -- their jobs, dates and outcomes
-    pub same_jobs : (jobs : List Job) (loads : List (OneLoad S)) → Open jobs loads → map (λ l. l.job) (loaded_jobs jobs loads) ≡ jobs
-    same_jobs [] loads opened = refl
-    same_jobs (job ∷ jobs) [] opened = absurd opened
-    same_jobs (job ∷ jobs) (l ∷ loads) opened = ap (λ (more : List Job). job ∷ more) (same_jobs jobs loads opened.1)
-
-    pub same_dates : (jobs : List Job) (loads : List (OneLoad S)) → Open jobs loads → dates (loaded_jobs jobs loads) ≡ map (λ j. j.date) (map (λ l. l.job) loads)
-    same_dates [] [] opened = refl
-    same_dates [] (l ∷ loads) opened = absurd opened
-    same_dates (job ∷ jobs) [] opened = absurd opened
-    same_dates (job ∷ jobs) (l ∷ loads) opened = ap (λ (more : List ℕ). l.job.date ∷ more) (same_dates jobs loads opened.1)
-
-    pub same_outcomes : (jobs : List Job) (loads : List (OneLoad S)) → Open jobs loads → outcomes (loaded_jobs jobs loads) ≡ map (λ l. l.outcome) loads
-    same_outcomes [] [] opened = refl
-    same_outcomes [] (l ∷ loads) opened = absurd opened
-    same_outcomes (job ∷ jobs) [] opened = absurd opened
-    same_outcomes (job ∷ jobs) (l ∷ loads) opened = ap (λ (more : List (Result Loaded LoadFault)). l.outcome ∷ more) (same_outcomes jobs loads opened.1)
-
-    -- their origins beside their outcomes
-    pub same_ended : (jobs : List Job) (loads : List (OneLoad S)) (old new : Kept D) → Open jobs loads → AllLoads loads old new
-        → ended (map (λ l. l.after) loads) (map (λ l. l.outcome) loads) ≡ map url_and_outcome (loaded_jobs jobs loads)
-    same_ended [] [] old new opened are = refl
-    same_ended [] (l ∷ loads) old new opened are = absurd opened
-    same_ended (job ∷ jobs) [] old new opened are = absurd opened
-    same_ended (job ∷ jobs) (l ∷ loads) old new opened are =
-        let url : l.after.job.origin ≡ job.url = are.1.same_origin ∙ opened.0.origin in
-        let rest = same_ended jobs loads are.0 new opened.1 are.2 in
-        λ i. (url i, l.outcome) ∷ rest i

@@ -7,23 +7,15 @@ use Rattle.swh_fastlex.specs.Whole.{IsFront}
 use Rattle.swh_jobs.specs.Job.{Job}
 use Rattle.swh_jobs.specs.JobFile.{IsJobFile}
 use Rattle.swh_jobs.proofs.Lengths.{longest_lem, front_lem}
-use Rattle.swh_program.specs.Jobs.{FileAt, TellsFault, TellsBadJob, AreJobsAt, IsReadRefusal, IsJobRefusal, IsJobRefused}
+use Rattle.swh_program.specs.Seen.{FileAt}
+use Rattle.swh_program.specs.Jobs.{TellsFault, TellsBadJob, AreJobsAt, IsReadRefusal, IsJobRefusal, IsJobRefused}
 use Rattle.swh_program.specs.declared.answer.Answer.{Answer}
-use Rattle.swh_program.specs.declared.answer.Answer.TheVariants.{Made, Told, Words, NoJobFile, BadJob, AlreadyMade, NotMade, Damaged, OutsideDisk, OutsideSource, OutsideClock, Memory}
+use Rattle.swh_program.specs.declared.answer.Answer.TheVariants.{BadJob, Memory}
 
 pub one_of_read : (bytes : List ℕ) (answer : Answer) → IsReadRefusal bytes answer → IsJobRefusal answer
-one_of_read bytes Made is = absurd is
-one_of_read bytes (Told text end) is = absurd is
-one_of_read bytes Words is = absurd is
-one_of_read bytes NoJobFile is = absurd is
 one_of_read bytes (BadJob text) is = (bytes, is)
-one_of_read bytes AlreadyMade is = absurd is
-one_of_read bytes NotMade is = absurd is
-one_of_read bytes Damaged is = absurd is
-one_of_read bytes OutsideDisk is = absurd is
-one_of_read bytes OutsideSource is = absurd is
-one_of_read bytes OutsideClock is = absurd is
 one_of_read bytes Memory is = tt
+one_of_read bytes _ is = absurd is
 
 -- A front of the file at a path was read, longer than any job file where it is not all of it.
 module _ (file_at : FileAt) (path left now front : List ℕ) (there : file_at path ≡ Some left) (read : IsFront left now 1837056 front) where
@@ -43,18 +35,9 @@ module _ (file_at : FileAt) (path left now front : List ℕ) (there : file_at pa
       (cases_lt 1837056 (length front))
 
   pub refused_at : (answer : Answer) → IsReadRefusal front answer → IsJobRefused file_at path answer
-  refused_at Made is = absurd is
-  refused_at (Told text end) is = absurd is
-  refused_at Words is = absurd is
-  refused_at NoJobFile is = absurd is
   refused_at (BadJob text) is = tells_bad text is
-  refused_at AlreadyMade is = absurd is
-  refused_at NotMade is = absurd is
-  refused_at Damaged is = absurd is
-  refused_at OutsideDisk is = absurd is
-  refused_at OutsideSource is = absurd is
-  refused_at OutsideClock is = absurd is
   refused_at Memory is = tt
+  refused_at _ is = absurd is
 
   -- The reader's answer on the front.
   pub jobs_read : {V : Type 0} (jobs_in : V → List Job) (result : Result V Answer) → IfOk result (λ v. IsJobFile front (jobs_in v)) → IfOk result (λ v. AreJobsAt file_at path (jobs_in v))

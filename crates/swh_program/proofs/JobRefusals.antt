@@ -4,9 +4,10 @@ use Rattle.swh_jobs.specs.Job.{Job}
 use Rattle.swh_jobs.specs.JobFile.{IsJobFile, IsFault}
 use Rattle.swh_jobs.specs.declared.fault.JobWhy.{JobWhy}
 use Rattle.swh_jobs.proofs.Exact.{one_reading_lem, one_fault_lem, no_jobs_lem}
-use Rattle.swh_program.specs.Jobs.{FileAt, AreJobsAt, IsBadAt, TellsBadJob, IsJobRefused, bad_job_line}
+use Rattle.swh_program.specs.Seen.{FileAt}
+use Rattle.swh_program.specs.Jobs.{AreJobsAt, HasNoJobs, IsBadAt, TellsBadJob, IsJobRefused, bad_job_line}
 use Rattle.swh_program.specs.declared.answer.Answer.{Answer}
-use Rattle.swh_program.specs.declared.answer.Answer.TheVariants.{Made, Told, Words, NoJobFile, BadJob, AlreadyMade, NotMade, Damaged, OutsideDisk, OutsideSource, OutsideClock, Memory}
+use Rattle.swh_program.specs.declared.answer.Answer.TheVariants.{NoJobFile, BadJob, OutsideSource, Memory}
 
 module _ (desk_at : FileAt) (path : List ℕ) where
   -- the same bytes stand there
@@ -26,7 +27,7 @@ module _ (desk_at : FileAt) (path : List ℕ) where
   bad_or_absent : (line : ℕ) (why : JobWhy) → IsBadAt desk_at path line why → desk_at path ≡ None → ⊥
   bad_or_absent line why b absent = let both : Some b.bytes ≡ None = sym b.there ∙ absent in cc
 
-  pub jobs_or_none : (jobs : List Job) → AreJobsAt desk_at path jobs → (desk_at path ≡ None) ⊎ ((line : ℕ) × (why : JobWhy) × IsBadAt desk_at path line why) → ⊥
+  pub jobs_or_none : (jobs : List Job) → AreJobsAt desk_at path jobs → HasNoJobs desk_at path → ⊥
   jobs_or_none jobs a (inl absent) = jobs_or_absent jobs a absent
   jobs_or_none jobs a (inr (line, why, bad)) = jobs_or_bad jobs line why a bad
 
@@ -45,14 +46,7 @@ module _ (desk_at : FileAt) (path : List ℕ) where
   refused_by (BadJob text) refused = inr (inl (text, refused, refl))
   refused_by OutsideSource refused = inr (inr (inl refl))
   refused_by Memory refused = inr (inr (inr refl))
-  refused_by Made refused = absurd refused
-  refused_by (Told text end) refused = absurd refused
-  refused_by Words refused = absurd refused
-  refused_by AlreadyMade refused = absurd refused
-  refused_by NotMade refused = absurd refused
-  refused_by Damaged refused = absurd refused
-  refused_by OutsideDisk refused = absurd refused
-  refused_by OutsideClock refused = absurd refused
+  refused_by _ refused = absurd refused
 
   -- jobs are refused for the desk or for memory alone
   pub refusal_of_jobs : (jobs : List Job) → AreJobsAt desk_at path jobs → (answer : Answer) → IsJobRefused desk_at path answer → (answer ≡ OutsideSource) ⊎ (answer ≡ Memory)

@@ -1,18 +1,18 @@
 -- What the loads of opened inputs come to for an archive that is open.
 use Rattle.std.specs.Prelude.{◌↔◌, IfOk, OnErr}
 use Rattle.std.proofs.Common.{◌≡◌, inl, inr, ℕ, ◌≤◌, false, Option, None, is_some, Result, Ok, Err, List, map, sym, ap, ◌∙◌, subst}
-use Rattle.swh_base.specs.declared.kind.Kind.{Kind}
-use Rattle.swh_outside.specs.Disk.{File}
+use Rattle.swh_outside.specs.Views.{Disks, Sources}
 use Rattle.swh_keeper.specs.Kept.{Kept}
 use Rattle.swh_jobs.specs.Job.{Job}
 use Rattle.swh_loader.specs.declared.end.Loaded.{Loaded}
 use Rattle.swh_loader.specs.declared.fault.LoadFault.{LoadFault}
 use Rattle.swh_pool.specs.Lines.{ended, lines_of}
-use Rattle.swh_pool.specs.Loads.{AreLoaded}
+use Rattle.swh_pool.specs.Loads.{loading, AreLoaded}
 use Rattle.swh_pool.specs.Stops.{AreStops, HaveNoDiskFault}
 use Rattle.swh_pool.specs.declared.dated.DatedJob.{DatedJob}
+use Rattle.swh_program.specs.Inputs.{loader, Inputs, inputs}
+use Rattle.swh_program.specs.Load.{Givens}
 use Rattle.swh_program.specs.Dated.{AreSaid, AreOpenedJobs, AreGivenBack}
-use Rattle.swh_program.specs.Jobs.{FileAt}
 use Rattle.swh_program.specs.Lines.{LoadedJob, dates, outcomes, ending_of_all}
 use Rattle.swh_program.specs.Loading.{AreKeptLoads, IsKeptRun}
 use Rattle.swh_program.specs.Telling.{TellsReport}
@@ -22,43 +22,45 @@ use Rattle.swh_program.proofs.Inputs.{loaded_jobs, each_job, same_jobs, same_dat
 use Rattle.swh_program.proofs.Endings.{raised, told_loads}
 use Rattle.swh_program.proofs.Calling.{calls_of}
 
-module _ {S : Type 0} (id_of : Kind → List ℕ → List ℕ) (tells source_tells : Type 0) (left : S → List ℕ) (faults : S → ℕ) (path_of : S → List ℕ) (input_at : FileAt) (entry middle after : List ℕ → ℕ)
-    (later : (p : List ℕ) → entry p ≤ middle p) (later_still : (p : List ℕ) → middle p ≤ after p) {D : Type 0} (disks_tell : Type 0) (file : D → File) (disk_faults : D → ℕ)
-    (time_tells : Type 0) (time : ℕ → ℕ) (jobs : List Job) (dated now : List (DatedJob S)) (old new : Kept D) (unwounded : old.wounded ≡ None)
-    (opened : AreOpenedJobs tells source_tells left faults path_of input_at entry middle jobs dated) (back : AreGivenBack faults path_of middle after now) (said : time_tells → AreSaid time (map (λ j. j.date) dated)) where
-  abbrev Run : Answer → Type 0
-  Run answer = IsKeptRun id_of tells input_at entry after disks_tell file disk_faults time_tells time old new jobs answer
+module _ {S : Type 0} (sources : Sources S) (g : Givens) (middle : List ℕ → ℕ) (later : (p : List ℕ) → g.inputs.failures p ≤ middle p) (later_still : (p : List ℕ) → middle p ≤ g.inputs.failures_now p)
+    {D : Type 0} (disks : Disks D) (jobs : List Job) (dated now : List (DatedJob S)) (old new : Kept D) (unwounded : old.wounded ≡ None)
+    (opened : AreOpenedJobs sources (inputs g.inputs.tell g.inputs.at g.inputs.failures middle) jobs dated) (back : AreGivenBack sources middle g.inputs.failures_now now) (said : g.clock_tells → AreSaid g.time (map (λ j. j.date) dated)) where
+  abbrev opened_by : Inputs
+  opened_by = inputs g.inputs.tell g.inputs.at g.inputs.failures middle
 
-  loaded_run : (ends : List (Result Loaded LoadFault)) (answer : Answer) → AreLoaded id_of source_tells left faults path_of disks_tell file disk_faults 1 dated now old new ends → AreStops (is_some old.wounded) ends
+  abbrev Run : Answer → Type 0
+  Run answer = IsKeptRun g disks old new jobs answer
+
+  loaded_run : (ends : List (Result Loaded LoadFault)) (answer : Answer) → AreLoaded (loading g.id_of loader sources disks) dated now old new ends → AreStops (is_some old.wounded) ends
       → (new.wounded ≡ None) ↔ ((old.wounded ≡ None) × HaveNoDiskFault ends) → TellsReport now ends answer → Run answer
   loaded_run ends answer are stops wounds told =
       let loads = are.loads in
-      let open_jobs = subst (λ (d : List (DatedJob S)). AreOpenedJobs tells source_tells left faults path_of input_at entry middle jobs d) are.jobs opened in
-      let given_back = subst (λ (d : List (DatedJob S)). AreGivenBack faults path_of middle after d) are.after back in
-      let all : List LoadedJob = loaded_jobs id_of tells source_tells left faults path_of input_at entry middle after later later_still disks_tell file disk_faults jobs loads in
-      let ends_are : outcomes all ≡ map (λ l. l.outcome) loads = same_outcomes id_of tells source_tells left faults path_of input_at entry middle after later later_still disks_tell file disk_faults jobs loads open_jobs in
+      let open_jobs = subst (λ (d : List (DatedJob S)). AreOpenedJobs sources opened_by jobs d) are.jobs opened in
+      let given_back = subst (λ (d : List (DatedJob S)). AreGivenBack sources middle g.inputs.failures_now d) are.after back in
+      let all : List LoadedJob = loaded_jobs jobs loads in
+      let ends_are : outcomes all ≡ map (λ l. l.outcome) loads = same_outcomes sources opened_by jobs loads open_jobs in
       let as_told : ends ≡ outcomes all = are.ended ∙ sym ends_are in
       let stops_are : AreStops false ends = subst (λ (w : Option ℕ). AreStops (is_some w) ends) unwounded stops in
       let dates_are : dates all ≡ map (λ j. j.date) dated =
-      same_dates id_of tells source_tells left faults path_of input_at entry middle after later later_still disks_tell file disk_faults jobs loads open_jobs ∙ ap (λ (d : List (DatedJob S)). map (λ j. j.date) d) (sym are.jobs) in
+      same_dates sources opened_by jobs loads open_jobs ∙ ap (λ (d : List (DatedJob S)). map (λ j. j.date) d) (sym are.jobs) in
       let pairs : ended now ends ≡ map url_and_outcome all =
-      (λ i. ended (are.after i) (are.ended i)) ∙ same_ended id_of tells source_tells left faults path_of input_at entry middle after later later_still disks_tell file disk_faults jobs loads old new open_jobs are.each in
-      let load : AreKeptLoads id_of tells input_at entry after disks_tell file disk_faults all old new = record {
-        each = each_job id_of tells source_tells left faults path_of input_at entry middle after later later_still disks_tell file disk_faults jobs loads old new open_jobs given_back are.each;
+      (λ i. ended (are.after i) (are.ended i)) ∙ same_ended sources opened_by (loading g.id_of loader sources disks) jobs loads old new open_jobs are.each in
+      let load : AreKeptLoads g disks all old new = record {
+        each = each_job g.id_of sources opened_by g.inputs.failures_now later later_still disks jobs loads old new open_jobs given_back are.each;
         stops = subst (AreStops false) as_told stops_are;
         unwounded = (λ none. subst HaveNoDiskFault as_told (wounds.0 none).1, λ no_fault. wounds.1 (unwounded, subst HaveNoDiskFault (sym as_told) no_fault));
-        rose = λ e. raised id_of source_tells left faults path_of disks_tell file disk_faults loads old new are.each (subst (AreStops false) are.ended stops_are) (ap ending_of_all (sym ends_are) ∙ e);
-        calls = λ t. calls_of id_of tells source_tells left faults path_of input_at entry middle after later later_still disks_tell file disk_faults t jobs loads old new open_jobs are.each unwounded;
+        rose = λ e. raised (loading g.id_of loader sources disks) loads old new are.each (subst (AreStops false) are.ended stops_are) (ap ending_of_all (sym ends_are) ∙ e);
+        calls = λ t. calls_of g.id_of sources opened_by g.inputs.failures_now later later_still disks t jobs loads old new open_jobs are.each unwounded;
       } in
       inl (record {
         loads = all;
-        jobs_are = same_jobs id_of tells source_tells left faults path_of input_at entry middle after later later_still disks_tell file disk_faults jobs loads open_jobs;
-        said = λ t. subst (AreSaid time) (sym dates_are) (said t);
+        jobs_are = same_jobs sources opened_by jobs loads open_jobs;
+        said = λ t. subst (AreSaid g.time) (sym dates_are) (said t);
         load = load;
         told = told_loads now ends all answer pairs as_told told;
       })
 
-  pub kept_run : {V E : Type 0} (items : V → List (Result Loaded LoadFault)) (text : V → List ℕ) (loaded : Result V E) (answer : Answer) → IfOk loaded (λ v. AreLoaded id_of source_tells left faults path_of disks_tell file disk_faults 1 dated now old new (items v))
+  pub kept_run : {V E : Type 0} (items : V → List (Result Loaded LoadFault)) (text : V → List ℕ) (loaded : Result V E) (answer : Answer) → IfOk loaded (λ v. AreLoaded (loading g.id_of loader sources disks) dated now old new (items v))
       → IfOk loaded (λ v. AreStops (is_some old.wounded) (items v)) → IfOk loaded (λ v. (new.wounded ≡ None) ↔ ((old.wounded ≡ None) × HaveNoDiskFault (items v))) → IfOk loaded (λ v. text v ≡ lines_of (ended now (items v))) → OnErr loaded (new ≡ old)
       → IfOk loaded (λ v. answer ≡ Told (text v) (ending_of_all (items v))) → OnErr loaded (answer ≡ Memory) → Run answer
   kept_run items text (Ok v) answer are stops wounds lines same told memory = loaded_run (items v) answer are stops wounds (record { text = text v; text_is = lines; tells = told })

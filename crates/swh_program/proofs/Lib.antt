@@ -1,4 +1,3 @@
-pub mod Commands
 pub mod Elements
 pub mod Ends
 pub mod Told
@@ -28,3 +27,4 @@ pub mod LoadStatuses
 pub mod Naming
 pub mod Leaving
 pub mod Orders
+pub mod Does

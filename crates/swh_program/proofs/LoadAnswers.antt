@@ -7,22 +7,12 @@ use Rattle.swh_program.specs.Load.{IsOpenedArchive, IsUnloaded}
 use Rattle.swh_program.specs.Opening.{IsOpenRefusal, OpenEnds}
 use Rattle.swh_program.specs.declared.answer.Ending.{Ending}
 use Rattle.swh_program.specs.declared.answer.Answer.{Answer}
-use Rattle.swh_program.specs.declared.answer.Answer.TheVariants.{Made, Told, Words, NoJobFile, BadJob, AlreadyMade, NotMade, Damaged, OutsideDisk, OutsideSource, OutsideClock, Memory}
+use Rattle.swh_program.specs.declared.answer.Answer.TheVariants.{Told, OutsideClock}
 
 -- loads are told by their lines
 pub told_of : (loads : List LoadedJob) (answer : Answer) → TellsLoad loads answer → (text : List ℕ) × (end : Ending) × TellsLoads loads text end × (answer ≡ Told text end)
 told_of loads (Told text end) told = (text, end, told, refl)
-told_of loads Made told = absurd told
-told_of loads Words told = absurd told
-told_of loads NoJobFile told = absurd told
-told_of loads (BadJob text) told = absurd told
-told_of loads AlreadyMade told = absurd told
-told_of loads NotMade told = absurd told
-told_of loads Damaged told = absurd told
-told_of loads OutsideDisk told = absurd told
-told_of loads OutsideSource told = absurd told
-told_of loads OutsideClock told = absurd told
-told_of loads Memory told = absurd told
+told_of loads _ told = absurd told
 
 -- no job is loaded where the clock failed or the archive was not opened
 pub unloaded_cases : (id_of : Kind → List ℕ → List ℕ) (tells : Type 0) (old new : Files) (answer : Answer) → IsUnloaded id_of tells old new answer → (answer ≡ OutsideClock) ⊎ (IsOpenRefusal answer × (tells → OpenEnds id_of old new answer))

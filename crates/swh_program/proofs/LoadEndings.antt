@@ -11,7 +11,8 @@ use Rattle.swh_loader.specs.declared.fault.LoadFault.{LoadFault}
 use Rattle.swh_loader.proofs.Limiting.{at_element}
 use Rattle.swh_pool.specs.Stops.{is_fault, is_disk_fault, HaveNoDiskFault}
 use Rattle.swh_program.specs.Answers.{status_for, last_line_for}
-use Rattle.swh_program.specs.Causes.{ComesTo, IsFullEnd, IsFullLine, IsShortEnd, IsOtherStop, IsShortLine, HasShortLine}
+use Rattle.swh_program.specs.Run.{ComesTo}
+use Rattle.swh_program.specs.Causes.{IsFullEnd, IsFullLine, IsShortEnd, IsOtherStop, IsShortLine, HasShortLine}
 use Rattle.swh_program.specs.Lines.{ending_of_end, ending_of_why, ending_for, ending_of_all, worse}
 use Rattle.swh_program.specs.declared.answer.Ending.{Ending}
 use Rattle.swh_program.specs.declared.answer.Ending.TheVariants as ending

@@ -1,7 +1,6 @@
 -- Loads against which nothing stands are told as their inputs have it, or memory ran out.
 use Rattle.std.proofs.Common.{◌≡◌, ◌⊎◌, inl, inr, ⊎_elim, ℕ, Option, Some, Result, Ok, Err, List, [], ◌∷◌, ◌++◌, map, Contains, refl, sym, ap, ◌∙◌, subst, append_assoc}
 use Rattle.std.specs.List.{AllByRecursion, flat_map}
-use Rattle.std.proofs.lemmas.List.{append-nil}
 use Rattle.swh_base.specs.declared.kind.Kind.{Kind}
 use Rattle.swh_base.specs.declared.entry.Entry.{Entry}
 use Rattle.swh_base.specs.declared.name.Name.{Name}
@@ -14,6 +13,7 @@ use Rattle.swh_model.specs.Meaning.{Made as MadeObject, Making}
 use Rattle.swh_model.specs.Step.{IsHistory, replay}
 use Rattle.swh_fastload.specs.Making.{made}
 use Rattle.swh_model.proofs.Histories.{fronts}
+use Rattle.swh_loader.specs.Adding.{attempt}
 use Rattle.swh_loader.specs.Leaving.{AddsVisit, next_visit}
 use Rattle.swh_loader.specs.Report.{report_of}
 use Rattle.swh_loader.specs.declared.end.BadInput.TheVariants.{Stream, Collision, Read}
@@ -25,10 +25,9 @@ use Rattle.swh_loader.specs.declared.fault.LoadWhy.TheVariants as why
 use Rattle.swh_loader.specs.declared.fault.LoadFault.{LoadFault}
 use Rattle.swh_program.specs.Complete.{AreMade, HasAllMade, HasBody, HasOneBody, HasRoom}
 use Rattle.swh_program.specs.Exact.{line_for, lines_for, ending_of_ends, MeansSnapshot, IsEndFor, IsExactEnd, AreExactEnds}
-use Rattle.swh_program.specs.Jobs.{FileAt}
-use Rattle.swh_program.specs.Inputs.{loader, IsInputEnd, StopsFor, IsOutcome}
+use Rattle.swh_program.specs.Inputs.{Inputs, input_of, loader, IsInputEnd, StopsFor, IsOutcome}
 use Rattle.swh_program.specs.Lines.{LoadedJob, outcomes, load_line, ending_of_end, ending_of_why, ending_for, ending_of_all, worse}
-use Rattle.swh_program.specs.Load.{HasFailed, IsOfJob, AreJobLoads}
+use Rattle.swh_program.specs.Load.{IsOfJob, AreJobLoads}
 use Rattle.swh_program.specs.Opening.{IsArchive}
 use Rattle.swh_program.specs.declared.answer.Ending.{Ending}
 use Rattle.swh_program.specs.declared.answer.Ending.TheVariants as ending
@@ -36,16 +35,8 @@ use Rattle.swh_program.proofs.Elements.{contains_first, contains_more}
 use Rattle.swh_program.proofs.LoadEndings.{first_apart, others_apart}
 use Rattle.swh_program.proofs.Fulls.{Had, MakesWithin, are_made, had_after, none_collides}
 use Rattle.swh_program.proofs.Inputs.{adds_visit}
+use Rattle.swh_program.proofs.Loads.{all_behind}
 use Rattle.swh_program.proofs.OtherOrigins.{next_stays}
-
--- loads only add to the history
-pub loads_behind : (id_of : Kind → List ℕ → List ℕ) (tells : Type 0) (input_at : FileAt) (failures failures_now : List ℕ → ℕ) (loads : List LoadedJob) (h after : List Event)
-    → AreJobLoads id_of tells input_at failures failures_now loads h after → (more : List Event) × (after ≡ h ++ more)
-loads_behind id_of tells input_at failures failures_now [] h after each = ([], each ∙ sym (append-nil h))
-loads_behind id_of tells input_at failures failures_now (l ∷ loads) h after each =
-    let adds = each.1.nothing_else in
-    let rest = loads_behind id_of tells input_at failures failures_now loads each.0 after each.2 in
-    (adds.more ++ rest.0, rest.1 ∙ ap (λ (g : List Event). g ++ rest.0) adds.behind ∙ append_assoc h adds.more rest.0)
 
 -- memory that ran out is told beside visits that ended
 end-worse : (end : End) → worse (ending_of_end end) ending.Memory ≡ ending.Memory
@@ -73,8 +64,8 @@ memory-worse ends =
     ⊎_elim (λ (done : ending_of_ends ends ≡ ending.Done). ap (worse ending.Memory) done) (λ (wanting : ending_of_ends ends ≡ ending.Wanting). ap (worse ending.Memory) wanting) (ends_or ends)
 
 -- Nothing stands against the loads of these jobs but their inputs.
-module _ (id_of : Kind → List ℕ → List ℕ) (tells : Type 0) (told : tells) (input_at : FileAt) (failures failures_now : List ℕ → ℕ) (before : List Event) (all : List Job) (objects : List MadeObject) (new : Files)
-    (has : HasAllMade id_of input_at all objects) (one : HasOneBody id_of (replay before).bodies objects) (room : HasRoom id_of before all objects new) where
+module _ (id_of : Kind → List ℕ → List ℕ) (of_jobs : Inputs) (told : of_jobs.tell) (before : List Event) (all : List Job) (objects : List MadeObject) (new : Files)
+    (has : HasAllMade id_of of_jobs.at all objects) (one : HasOneBody id_of (replay before).bodies objects) (room : HasRoom id_of before all objects new) where
   abbrev HadBefore : List Event → Type 0
   HadBefore h = Had id_of (replay before).bodies objects (replay h).bodies
 
@@ -82,7 +73,7 @@ module _ (id_of : Kind → List ℕ → List ℕ) (tells : Type 0) (told : tells
   IsNextAt h job = next_visit h job.url ≡ next_visit before job.url
 
   abbrev IsEnd : Job → End → Type 0
-  IsEnd job end = IsExactEnd id_of input_at failures failures_now (replay before) job end
+  IsEnd job end = IsExactEnd id_of of_jobs (replay before) job end
 
   -- The job ended so, and its line says it.
   pub record IsTold (job : Job) (outcome : Result Loaded LoadFault) : Type 0 where
@@ -98,7 +89,7 @@ module _ (id_of : Kind → List ℕ → List ℕ) (tells : Type 0) (told : tells
   -- All ended so, and their lines say it.
   pub record AreTold (loads : List LoadedJob) (jobs : List Job) : Type 0 where
     pub ends : List End
-    pub are_ends : AreExactEnds id_of input_at failures failures_now (replay before) jobs ends
+    pub are_ends : AreExactEnds id_of of_jobs (replay before) jobs ends
     pub ending_is : ending_of_all (outcomes loads) ≡ ending_of_ends ends
     pub lines_are : flat_map load_line loads ≡ lines_for (replay before) jobs ends
 
@@ -108,21 +99,21 @@ module _ (id_of : Kind → List ℕ → List ℕ) (tells : Type 0) (told : tells
 
   -- one job
   module _ (job : Job) (among : Contains all job) where
-    within : (text : List ℕ) → input_at job.path ≡ Some text → MakesWithin id_of objects job.head text
+    within : (text : List ℕ) → of_jobs.at job.path ≡ Some text → MakesWithin id_of objects job.head text
     within text there making means = has.has job text making among there means
 
     abbrev Allowed : List Entry → Type 0
-    Allowed entries = IsOfJob id_of tells input_at failures failures_now job entries
+    Allowed entries = IsOfJob id_of of_jobs job entries
 
     of_job : (entries : List Entry) → Allowed entries → AreMade id_of objects entries
     of_job entries is = let t = is told in are_made id_of objects job.head t.0 (within t.0 t.1) entries t.2
 
     -- its load's events are those of its text
-    of_load : (date : ℕ) (h h' : List Event) → AddsVisit Allowed loader job.url date h h' → AddsVisit (AreMade id_of objects) loader job.url date h h'
-    of_load date h h' adds = adds_visit Allowed (AreMade id_of objects) loader job.url date h h' of_job adds
+    of_load : (date : ℕ) (h h' : List Event) → AddsVisit Allowed (attempt loader job.url date) h h' → AddsVisit (AreMade id_of objects) (attempt loader job.url date) h h'
+    of_load date h h' adds = adds_visit Allowed (AreMade id_of objects) (attempt loader job.url date) h h' of_job adds
 
-    had_load : (date : ℕ) (h h' : List Event) → IsHistory id_of h' → AddsVisit Allowed loader job.url date h h' → HadBefore h → HadBefore h'
-    had_load date h h' history adds had = had_after id_of objects (replay before).bodies loader job.url date h h' history (of_load date h h' adds) had
+    had_load : (date : ℕ) (h h' : List Event) → IsHistory id_of h' → AddsVisit Allowed (attempt loader job.url date) h h' → HadBefore h → HadBefore h'
+    had_load date h h' history adds had = had_after id_of objects (replay before).bodies (attempt loader job.url date) h h' history (of_load date h h' adds) had
 
     wider : (making : Making) → ((o : MadeObject) → Contains making.objects o → Contains objects o) → HasOneBody id_of (replay before).bodies making.objects
     wider making more = record { one = λ name a b x y. one.one name a b (has_more name a x) (has_more name b y) }
@@ -133,12 +124,12 @@ module _ (id_of : Kind → List ℕ → List ℕ) (tells : Type 0) (told : tells
 
     -- one load of it
     module _ (date : ℕ) (earlier h h' later : List Event) (begins : h ≡ before ++ earlier) (archive : IsArchive id_of new (h' ++ later)) (had : HadBefore h') (next : IsNextAt h job) where
-      made_next : (e : Event) → AddsVisit Allowed loader job.url date h (h' ++ e ∷ []) → AddsVisit (AreMade id_of objects) loader job.url date (before ++ earlier) (h' ++ e ∷ [])
+      made_next : (e : Event) → AddsVisit Allowed (attempt loader job.url date) h (h' ++ e ∷ []) → AddsVisit (AreMade id_of objects) (attempt loader job.url date) (before ++ earlier) (h' ++ e ∷ [])
       made_next e adds =
-          subst (λ (g : List Event). AddsVisit (AreMade id_of objects) loader job.url date g (h' ++ e ∷ [])) begins (of_load date h (h' ++ e ∷ []) adds)
+          subst (λ (g : List Event). AddsVisit (AreMade id_of objects) (attempt loader job.url date) g (h' ++ e ∷ [])) begins (of_load date h (h' ++ e ∷ []) adds)
 
       -- how its visit ends
-      end_exact : (end : End) → IsInputEnd id_of tells (input_at job.path) job.head (HasFailed id_of tells input_at failures failures_now job) (replay h').bodies end → IsEnd job end
+      end_exact : (end : End) → IsInputEnd id_of (input_of of_jobs job) (replay h').bodies end → IsEnd job end
       end_exact (Full snapshot) is =
           let t = is told in
           let full = t.2 in
@@ -156,7 +147,7 @@ module _ (id_of : Kind → List ℕ → List ℕ) (tells : Type 0) (told : tells
       end_exact (Failed Read) is = inr (refl, is)
 
       -- why it stopped
-      stop_done : (reason : LoadWhy) → StopsFor id_of tells (input_at job.path) job.head (HasFailed id_of tells input_at failures failures_now job) job.url date h h' reason
+      stop_done : (reason : LoadWhy) → StopsFor id_of (input_of of_jobs job) (attempt loader job.url date) h h' reason
           → (ending_of_why reason ≡ ending.OutsideDisk → ⊥) → ending_of_why reason ≡ ending.Memory
       stop_done (why.Ended status) stops apart = absurd stops
       stop_done why.DiskFault stops apart = absurd (apart refl)
@@ -165,7 +156,7 @@ module _ (id_of : Kind → List ℕ → List ℕ) (tells : Type 0) (told : tells
           absurd (room.room job date earlier h' later stops.event among archive (made_next stops.event stops.next) stops.may which number stops.passes)
       stop_done why.Memory stops apart = refl
 
-      one_done : (outcome : Result Loaded LoadFault) → IsOutcome id_of tells (input_at job.path) job.head (HasFailed id_of tells input_at failures failures_now job) job.url date h h' outcome
+      one_done : (outcome : Result Loaded LoadFault) → IsOutcome id_of (input_of of_jobs job) (attempt loader job.url date) h h' outcome
           → (ending_for outcome ≡ ending.OutsideDisk → ⊥) → IsOneDone job outcome
       one_done (Ok l) line apart =
           let count : l.visit ≡ next_visit before job.url = line.number ∙ next in
@@ -173,11 +164,11 @@ module _ (id_of : Kind → List ℕ → List ℕ) (tells : Type 0) (told : tells
       one_done (Err f) line apart = inl (stop_done f.why line.stops apart)
 
   -- a load leaves the next visits of the jobs behind it
-  others_next : (P : List Entry → Type 0) (origin : List ℕ) (date : ℕ) (h h' : List Event) → IsHistory id_of h' → AddsVisit P loader origin date h h' → (jobs : List Job)
+  others_next : (P : List Entry → Type 0) (origin : List ℕ) (date : ℕ) (h h' : List Event) → IsHistory id_of h' → AddsVisit P (attempt loader origin date) h h' → (jobs : List Job)
       → (Contains (origins jobs) origin → ⊥) → AllByRecursion (IsNextAt h) jobs → AllByRecursion (IsNextAt h') jobs
   others_next P origin date h h' history adds [] apart next = tt
   others_next P origin date h h' history adds (job ∷ jobs) apart next = (
-    next_stays P loader origin job.url (λ e. apart (subst (λ (u : List ℕ). Contains (job.url ∷ origins jobs) u) e (contains_first job.url (origins jobs)))) id_of date h h' history adds ∙ next.0,
+    next_stays P (attempt loader origin date) job.url (λ e. apart (subst (λ (u : List ℕ). Contains (job.url ∷ origins jobs) u) e (contains_first job.url (origins jobs)))) id_of h h' history adds ∙ next.0,
     others_next P origin date h h' history adds jobs (λ there. apart (contains_more job.url (origins jobs) origin there)) next.1,
   )
 
@@ -198,7 +189,7 @@ module _ (id_of : Kind → List ℕ → List ℕ) (tells : Type 0) (told : tells
   -- jobs loaded one after the other
   pub all_done : (loads : List LoadedJob) (jobs : List Job) (earlier h after : List Event) → map (λ l. l.job) loads ≡ jobs → AllByRecursion (Contains all) jobs
       → AreDistinct (origins jobs) → AllByRecursion (IsNextAt h) jobs → HadBefore h → h ≡ before ++ earlier
-      → IsHistory id_of after → IsArchive id_of new after → AreJobLoads id_of tells input_at failures failures_now loads h after → (ending_of_all (outcomes loads) ≡ ending.OutsideDisk → ⊥) → AreDone loads jobs
+      → IsHistory id_of after → IsArchive id_of new after → AreJobLoads id_of of_jobs loads h after → (ending_of_all (outcomes loads) ≡ ending.OutsideDisk → ⊥) → AreDone loads jobs
   all_done [] [] earlier h after are among distinct next had begins history archive each apart = inr (record { ends = []; are_ends = tt; ending_is = refl; lines_are = refl })
   all_done [] (job ∷ jobs) earlier h after are among distinct next had begins history archive each apart = let e : [] ≡ job ∷ jobs = are in absurd (cc)
   all_done (l ∷ loads) [] earlier h after are among distinct next had begins history archive each apart = let e : l.job ∷ map (λ k. k.job) loads ≡ [] = are in absurd (cc)
@@ -207,12 +198,12 @@ module _ (id_of : Kind → List ℕ → List ℕ) (tells : Type 0) (told : tells
       let same : l.job ≡ job = cc in
       let others : map (λ k. k.job) loads ≡ jobs = cc in
       let between = each.0 in
-      let rest = loads_behind id_of tells input_at failures failures_now loads between after each.2 in
+      let rest = all_behind id_of of_jobs loads between after each.2 in
       let here : IsHistory id_of between = (fronts id_of empty_archive between rest.0 (subst (IsHistory id_of) rest.1 history)).0 in
-      let adds = subst (λ (j : Job). AddsVisit (IsOfJob id_of tells input_at failures failures_now j) loader j.url l.date h between) same each.1.nothing_else in
-      let line = subst (λ (j : Job). IsOutcome id_of tells (input_at j.path) j.head (HasFailed id_of tells input_at failures failures_now j) j.url l.date h between l.outcome) same each.1.line in
+      let adds = subst (λ (j : Job). AddsVisit (IsOfJob id_of of_jobs j) (attempt loader j.url l.date) h between) same each.1.nothing_else in
+      let line = subst (λ (j : Job). IsOutcome id_of (input_of of_jobs j) (attempt loader j.url l.date) h between l.outcome) same each.1.line in
       let had_here = had_load job among.0 l.date h between here adds had in
       both_done l loads job jobs same
       (one_done job among.0 l.date earlier h between rest.0 begins (subst (IsArchive id_of new) rest.1 archive) had_here next.0 l.outcome line (first_apart l.outcome (outcomes loads) apart))
-      (all_done loads jobs (earlier ++ adds.more) between after others among.1 distinct.1 (others_next (IsOfJob id_of tells input_at failures failures_now job) job.url l.date h between here adds jobs distinct.0 next.1) had_here
+      (all_done loads jobs (earlier ++ adds.more) between after others among.1 distinct.1 (others_next (IsOfJob id_of of_jobs job) job.url l.date h between here adds jobs distinct.0 next.1) had_here
       (adds.behind ∙ ap (λ (g : List Event). g ++ adds.more) begins ∙ append_assoc before earlier adds.more) history archive each.2 (others_apart l.outcome (outcomes loads) apart))

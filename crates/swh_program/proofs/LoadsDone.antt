@@ -1,5 +1,5 @@
 -- A run of `load` against which nothing stands tells each job's line as the input has it, or memory ran out.
-use Rattle.std.proofs.Common.{◌≡◌, ◌⊎◌, inl, inr, ⊎_elim, ℕ, Option, Some, List, [], ◌∷◌, ◌++◌, map, Contains, refl, sym, ap, ◌∙◌, subst}
+use Rattle.std.proofs.Common.{◌≡◌, inl, inr, ⊎_elim, ℕ, Option, Some, List, [], ◌∷◌, ◌++◌, map, Contains, refl, sym, ap, ◌∙◌, subst}
 use Rattle.std.specs.List.{AllByRecursion}
 use Rattle.std.proofs.lemmas.List.{append-nil}
 use Rattle.swh_base.specs.declared.kind.Kind.{Kind}
@@ -16,12 +16,14 @@ use Rattle.swh_loader.proofs.Limiting.{at_element}
 use Rattle.swh_loader.specs.declared.end.BadInput.TheVariants.{Stream, Collision, Read}
 use Rattle.swh_loader.specs.declared.end.End.{End}
 use Rattle.swh_loader.specs.declared.end.End.TheVariants.{Full, NotFound, Failed}
-use Rattle.swh_program.specs.Answers.{status_of, status_for, last_line_for, printed_by}
+use Rattle.swh_program.specs.Seen.{FileAt}
+use Rattle.swh_program.specs.Answers.{TellsDisk, status_of, status_for, last_line_for, printed_by}
 use Rattle.swh_program.specs.Complete.{MeantJob, jobs_of, full_lines, all_made, IsMeant, AreMeant, HasAllMade, HasBody, HasOneBody, HasRoom, AreQuiet}
 use Rattle.swh_program.specs.Exact.{line_for, lines_for, ending_of_ends, MeansCollision, IsEndFor, IsExactEnd, AreExactEnds, IsExact}
-use Rattle.swh_program.specs.Jobs.{FileAt, AreJobsAt}
+use Rattle.swh_program.specs.Jobs.{AreJobsAt}
+use Rattle.swh_program.specs.Inputs.{Inputs}
 use Rattle.swh_program.specs.Lines.{LoadedJob, outcomes, ending_of_end, ending_of_all, worse, TellsLoads}
-use Rattle.swh_program.specs.Load.{TellsDisk, IsLoad, AreLoadedJobs, IsUnloaded, IsLoadedOrNot, LoadEnds}
+use Rattle.swh_program.specs.Load.{Givens, IsLoad, AreLoadedJobs, IsUnloaded, IsLoadedOrNot, LoadEnds}
 use Rattle.swh_program.specs.Opening.{IsArchive, IsOpenRefusal, OpenEnds}
 use Rattle.swh_program.specs.Run.{IsQuiet}
 use Rattle.swh_program.specs.declared.answer.Ending.{Ending}
@@ -41,15 +43,15 @@ no_disk_told : (loads : List LoadedJob) (text : List ℕ) (end : Ending) → Tel
 no_disk_told loads text end tells apart e = apart (tells.end_is ∙ e)
 
 -- a run of `load`
-module _ (id_of : Kind → List ℕ → List ℕ) (inputs_tell : Type 0) (input_at : FileAt) (failures failures_now : List ℕ → ℕ) (desk_at : FileAt) (time_tells : Type 0) (time : ℕ → ℕ) (disks_tell : Type 0) (inputs : inputs_tell) (disks : disks_tell)
-    (path : List ℕ) (before : List Event) (jobs : List Job) (objects : List MadeObject) (old new : Files) (archive : IsArchive id_of old before) (there : AreJobsAt desk_at path jobs)
-    (has : HasAllMade id_of input_at jobs objects) (one : HasOneBody id_of (replay before).bodies objects) (room : HasRoom id_of before jobs objects new) where
+module _ (g : Givens) (desk_at : FileAt) (inputs : g.inputs.tell) (disks : g.disks_tell)
+    (path : List ℕ) (before : List Event) (jobs : List Job) (objects : List MadeObject) (old new : Files) (archive : IsArchive g.id_of old before) (there : AreJobsAt desk_at path jobs)
+    (has : HasAllMade g.id_of g.inputs.at jobs objects) (one : HasOneBody g.id_of (replay before).bodies objects) (room : HasRoom g.id_of before jobs objects new) where
   abbrev Exactly : Answer → Type 0
-  Exactly answer = IsExact id_of input_at failures failures_now (replay before) jobs answer
+  Exactly answer = IsExact g.id_of g.inputs (replay before) jobs answer
 
   -- the lines of loads that are told, or memory ran out
   module _ (loads : List LoadedJob) (text : List ℕ) (end : Ending) (tells : TellsLoads loads text end) where
-    told_lines : AreDone id_of inputs_tell inputs input_at failures failures_now before jobs objects new has one room loads jobs → Exactly (Told text end)
+    told_lines : AreDone g.id_of g.inputs inputs before jobs objects new has one room loads jobs → Exactly (Told text end)
     told_lines (inl memory) = inl (ap status_for (tells.end_is ∙ memory))
     told_lines (inr done) =
         let finished : end ≡ ending_of_ends done.ends = tells.end_is ∙ done.ending_is in
@@ -61,16 +63,16 @@ module _ (id_of : Kind → List ℕ → List ℕ) (inputs_tell : Type 0) (input_
   next_same h same [] = tt
   next_same h same (job ∷ js) = (ap (λ (g : List Event). next_visit g job.url) same, next_same h same js)
 
-  loads_done : (loads : List LoadedJob) → map (λ l. l.job) loads ≡ jobs → IsLoad id_of inputs_tell input_at failures failures_now disks_tell old new loads → (ending_of_all (outcomes loads) ≡ ending.OutsideDisk → ⊥)
-      → AreDone id_of inputs_tell inputs input_at failures failures_now before jobs objects new has one room loads jobs
+  loads_done : (loads : List LoadedJob) → map (λ l. l.job) loads ≡ jobs → IsLoad g old new loads → (ending_of_all (outcomes loads) ≡ ending.OutsideDisk → ⊥)
+      → AreDone g.id_of g.inputs inputs before jobs objects new has one room loads jobs
   loads_done loads are load apart =
-      let same : load.before ≡ before = one_archive id_of old load.before before (load.archive disks) archive in
+      let same : load.before ≡ before = one_archive g.id_of old load.before before (load.archive disks) archive in
       let standing = (load.disks disks).standing (no_disk_faults (outcomes loads) apart) in
-      all_done id_of inputs_tell inputs input_at failures failures_now before jobs objects new has one room loads jobs [] load.before load.after are (each_among jobs) there.are.good.distinct (next_same load.before same jobs)
+      all_done g.id_of g.inputs inputs before jobs objects new has one room loads jobs [] load.before load.after are (each_among jobs) there.are.good.distinct (next_same load.before same jobs)
       (λ n body held. inl (subst (λ (h : List Event). body_of (replay h).bodies n ≡ Some body) same held)) (same ∙ sym (append-nil before)) load.history
       (record { stand = standing.stand; history = load.history }) load.each apart
 
-  loaded_done : (answer : Answer) → AreLoadedJobs id_of inputs_tell input_at failures failures_now time_tells time disks_tell old new jobs answer → (TellsDisk answer → ⊥) → Exactly answer
+  loaded_done : (answer : Answer) → AreLoadedJobs g old new jobs answer → (TellsDisk answer → ⊥) → Exactly answer
   loaded_done answer loaded no_disk =
       let told = told_of loaded.loads answer loaded.told in
       let text = told.0 in
@@ -80,50 +82,50 @@ module _ (id_of : Kind → List ℕ → List ℕ) (inputs_tell : Type 0) (input_
       subst Exactly (sym told.3)
       (told_lines loaded.loads text end tells (loads_done loaded.loads loaded.jobs_are loaded.load (no_disk_told loaded.loads text end tells apart)))
 
-  unloaded_done : (answer : Answer) → IsUnloaded id_of disks_tell old new answer → (TellsDisk answer → ⊥) → (answer ≡ OutsideClock → ⊥) → Exactly answer
+  unloaded_done : (answer : Answer) → IsUnloaded g.id_of g.disks_tell old new answer → (TellsDisk answer → ⊥) → (answer ≡ OutsideClock → ⊥) → Exactly answer
   unloaded_done answer is no_disk no_clock =
       ⊎_elim
       (λ (clock : answer ≡ OutsideClock). absurd (no_clock clock))
-      (λ (refused : IsOpenRefusal answer × (disks_tell → OpenEnds id_of old new answer)).
-      ⊎_elim (λ (disk : answer ≡ OutsideDisk). absurd (no_disk (subst TellsDisk (sym disk) refl))) (λ (memory : answer ≡ Memory). inl (ap status_of memory)) (opening_of_archive id_of old new before archive answer refused.0 (refused.1 disks)))
-      (unloaded_cases id_of disks_tell old new answer is)
+      (λ (refused : IsOpenRefusal answer × (g.disks_tell → OpenEnds g.id_of old new answer)).
+      ⊎_elim (λ (disk : answer ≡ OutsideDisk). absurd (no_disk (subst TellsDisk (sym disk) refl))) (λ (memory : answer ≡ Memory). inl (ap status_of memory)) (opening_of_archive g.id_of old new before archive answer refused.0 (refused.1 disks)))
+      (unloaded_cases g.id_of g.disks_tell old new answer is)
 
-  outcome_done : (answer : Answer) → IsLoadedOrNot id_of inputs_tell input_at failures failures_now time_tells time disks_tell old new jobs answer → (TellsDisk answer → ⊥) → (answer ≡ OutsideClock → ⊥) → Exactly answer
+  outcome_done : (answer : Answer) → IsLoadedOrNot g old new jobs answer → (TellsDisk answer → ⊥) → (answer ≡ OutsideClock → ⊥) → Exactly answer
   outcome_done answer (inl loaded) no_disk no_clock = loaded_done answer loaded no_disk
   outcome_done answer (inr none) no_disk no_clock = unloaded_done answer none no_disk no_clock
 
-  pub load_exact : (answer : Answer) → LoadEnds id_of inputs_tell input_at failures failures_now desk_at time_tells time disks_tell path old new answer → (TellsDisk answer → ⊥) → (answer ≡ OutsideSource → ⊥) → (answer ≡ OutsideClock → ⊥)
+  pub load_exact : (answer : Answer) → LoadEnds g desk_at path old new answer → (TellsDisk answer → ⊥) → (answer ≡ OutsideSource → ⊥) → (answer ≡ OutsideClock → ⊥)
       → Exactly answer
   load_exact answer (inl run) no_disk no_source no_clock =
-      outcome_done answer (subst (λ (js : List Job). IsLoadedOrNot id_of inputs_tell input_at failures failures_now time_tells time disks_tell old new js answer) (one_list desk_at path run.jobs jobs (run.there inputs) there) run.outcome) no_disk no_clock
+      outcome_done answer (subst (λ (js : List Job). IsLoadedOrNot g old new js answer) (one_list desk_at path run.jobs jobs (run.there inputs) there) run.outcome) no_disk no_clock
   load_exact answer (inr none) no_disk no_source no_clock =
       ⊎_elim (λ (source : answer ≡ OutsideSource). absurd (no_source source)) (λ (memory : answer ≡ Memory). inl (ap status_of memory)) (refusal_of_jobs desk_at path jobs there answer (none.refused inputs))
 
 -- Jobs whose inputs are there and mean something.
-module _ (id_of : Kind → List ℕ → List ℕ) (input_at : FileAt) where
-  this_making : (m : MeantJob) → IsMeant id_of input_at m → (text : List ℕ) (making : Making) → input_at m.job.path ≡ Some text → IsMeaning id_of m.job.head text making → making ≡ m.making
+module _ (id_of : Kind → List ℕ → List ℕ) (of_jobs : Inputs) where
+  this_making : (m : MeantJob) → IsMeant id_of of_jobs.at m → (text : List ℕ) (making : Making) → of_jobs.at m.job.path ≡ Some text → IsMeaning id_of m.job.head text making → making ≡ m.making
   this_making m meant text making is means =
       let both : Some text ≡ Some meant.text = sym is ∙ meant.there in
       let same : text ≡ meant.text = cc in
       one_meaning_lem id_of m.job.head meant.text making m.making (subst (λ (t : List ℕ). IsMeaning id_of m.job.head t making) same means) meant.means
 
   -- what they make
-  pub meant_all_made : (meant : List MeantJob) → AreMeant id_of input_at meant → HasAllMade id_of input_at (jobs_of meant) (all_made meant)
+  pub meant_all_made : (meant : List MeantJob) → AreMeant id_of of_jobs.at meant → HasAllMade id_of of_jobs.at (jobs_of meant) (all_made meant)
   meant_all_made meant are = record { has = λ job text making among is means o made. has job text making o is means made (from_map (λ (m : MeantJob). m.job) meant job among) }
     where
-      has : (job : Job) (text : List ℕ) (making : Making) (o : MadeObject) → input_at job.path ≡ Some text → IsMeaning id_of job.head text making → Contains making.objects o
+      has : (job : Job) (text : List ℕ) (making : Making) (o : MadeObject) → of_jobs.at job.path ≡ Some text → IsMeaning id_of job.head text making → Contains making.objects o
           → (m : MeantJob) × Contains meant m × (m.job ≡ job) → Contains (all_made meant) o
       has job text making o is means made from =
           let m = from.0 in
-          let same = this_making m (at_element (IsMeant id_of input_at) meant m are from.1) text making (subst (λ (j : Job). input_at j.path ≡ Some text) (sym from.2) is) (subst (λ (j : Job). IsMeaning id_of j.head text making) (sym from.2) means) in
+          let same = this_making m (at_element (IsMeant id_of of_jobs.at) meant m are from.1) text making (subst (λ (j : Job). of_jobs.at j.path ≡ Some text) (sym from.2) is) (subst (λ (j : Job). IsMeaning id_of j.head text making) (sym from.2) means) in
           flat_contains (λ (k : MeantJob). k.making.objects) meant m o from.1 (subst (λ (k : Making). Contains k.objects o) same made)
 
   -- where none of their paths has failed, and no name has two bodies
-  module _ (failures failures_now : List ℕ → ℕ) (before : List Event) (all : List MeantJob) (one : HasOneBody id_of (replay before).bodies (all_made all)) where
+  module _ (before : List Event) (all : List MeantJob) (one : HasOneBody id_of (replay before).bodies (all_made all)) where
     abbrev bodies : Bodies
     bodies = (replay before).bodies
 
-    module _ (m : MeantJob) (among : Contains all m) (meant : IsMeant id_of input_at m) where
+    module _ (m : MeantJob) (among : Contains all m) (meant : IsMeant id_of of_jobs.at m) where
       has_more : (making : Making) → making ≡ m.making → (name : Name) (body : List ℕ) → HasBody id_of bodies making.objects name body → HasBody id_of bodies (all_made all) name body
       has_more making same name body (inl held) = inl held
       has_more making same name body (inr makes) =
@@ -143,12 +145,12 @@ module _ (id_of : Kind → List ℕ → List ℕ) (input_at : FileAt) where
       end_full (Failed (Collision name)) is = absurd (no_collision name is)
       end_full (Failed Read) is = absurd is
 
-      exact_full : IsQuiet (failures m.job.path) (failures_now m.job.path) → (end : End) → IsExactEnd id_of input_at failures failures_now (replay before) m.job end → end ≡ Full m.making.snapshot
+      exact_full : IsQuiet (of_jobs.failures m.job.path) (of_jobs.failures_now m.job.path) → (end : End) → IsExactEnd id_of of_jobs (replay before) m.job end → end ≡ Full m.making.snapshot
       exact_full quiet end (inl is) = end_full end (subst (λ (f : Option (List ℕ)). IsEndFor id_of m.job.head bodies f end) meant.there is)
       exact_full quiet end (inr read) = absurd (quiet read.1)
 
     -- and its line says it
-    all_full : (ms : List MeantJob) → AllByRecursion (Contains all) ms → AreMeant id_of input_at ms → AreQuiet failures failures_now ms → (ends : List End) → AreExactEnds id_of input_at failures failures_now (replay before) (jobs_of ms) ends
+    all_full : (ms : List MeantJob) → AllByRecursion (Contains all) ms → AreMeant id_of of_jobs.at ms → AreQuiet of_jobs.failures of_jobs.failures_now ms → (ends : List End) → AreExactEnds id_of of_jobs (replay before) (jobs_of ms) ends
         → (ending_of_ends ends ≡ ending.Done) × (lines_for (replay before) (jobs_of ms) ends ≡ full_lines before ms)
     all_full [] among are quiet [] exact = (refl, refl)
     all_full [] among are quiet (end ∷ ends) exact = absurd exact
@@ -158,7 +160,7 @@ module _ (id_of : Kind → List ℕ → List ℕ) (input_at : FileAt) where
         let rest = all_full ms among.1 are.1 quiet.1 ends exact.1 in
         (λ i. worse (ending_of_end (full i)) (rest.0 i), λ i. line_for (replay before) m.job (full i) ++ rest.1 i)
 
-    pub load_done : AreMeant id_of input_at all → AreQuiet failures failures_now all → (answer : Answer) → IsExact id_of input_at failures failures_now (replay before) (jobs_of all) answer → Tells (full_lines before all) 0 answer
+    pub load_done : AreMeant id_of of_jobs.at all → AreQuiet of_jobs.failures of_jobs.failures_now all → (answer : Answer) → IsExact id_of of_jobs (replay before) (jobs_of all) answer → Tells (full_lines before all) 0 answer
     load_done are quiet answer (inl memory) = inl memory
     load_done are quiet answer (inr exact) =
         let full = all_full all (each_among all) are quiet exact.ends exact.are in

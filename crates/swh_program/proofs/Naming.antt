@@ -1,18 +1,20 @@
 -- How `identify` ends, and where nothing stands against it.
-use Rattle.std.proofs.Common.{◌≡◌, ◌≢◌, ◌⊎◌, inl, inr, ℕ, ◌<◌, codes, Option, Some, None, List, refl, sym, ◌∙◌, subst, arith}
+use Rattle.std.proofs.Common.{◌≡◌, ◌≢◌, ◌⊎◌, inl, inr, ℕ, ◌<◌, ◌≤◌, codes, Option, Some, None, List, refl, sym, ◌∙◌, subst, arith}
 use Rattle.std.specs.Prelude.{replicate}
 use Rattle.std.proofs.lemmas.List.{append-nil, length-replicate}
 use Rattle.swh_base.specs.Limits.{body_limit}
 use Rattle.swh_base.specs.declared.kind.Kind.{Kind}
 use Rattle.swh_program.specs.Answers.{status_of}
-use Rattle.swh_program.specs.Causes.{IsExactly}
+use Rattle.swh_program.specs.Run.{IsExactly}
 use Rattle.swh_program.specs.Refusal.{refusal}
-use Rattle.swh_program.specs.Identify.{name_of, name_line, TellsLine, IsBody, IsTooLong, IsRefused, HasNoBody, TellsFile, IsIdentifyAnswer, IdentifyEnds}
+use Rattle.swh_program.specs.IdentifyCommand.{name_of, name_line, TellsLine, IsBody, IsTooLong, IsRefused, HasNoBody, TellsFile, IsIdentifyAnswer, IdentifyEnds}
 use Rattle.swh_program.specs.declared.answer.Ending.{Ending}
 use Rattle.swh_program.specs.declared.answer.Ending.TheVariants as ending
 use Rattle.swh_program.specs.declared.answer.Answer.{Answer}
 use Rattle.swh_program.specs.declared.answer.Answer.TheVariants.{Made, Told, Words, NoJobFile, BadJob, AlreadyMade, NotMade, Damaged, OutsideDisk, OutsideSource, OutsideClock, Memory}
 use Rattle.swh_program.proofs.Completes.{Tells}
+use Rattle.swh_program.proofs.Exacts.{stopped}
+use Rattle.swh_program.proofs.LoadEndings.{told_status}
 
 module _ (id_of : Kind → List ℕ → List ℕ) (kind : Kind) where
   -- a line is told of what stands at the path
@@ -32,18 +34,8 @@ module _ (id_of : Kind → List ℕ → List ℕ) (kind : Kind) where
 
   -- what is told of a file is one of the answers
   pub ends_one : (found : Option (List ℕ)) (answer : Answer) → IdentifyEnds id_of kind found answer → IsIdentifyAnswer id_of kind answer
-  ends_one found Made ends = ends
   ends_one found (Told text end) ends = (found, ends)
-  ends_one found Words ends = ends
-  ends_one found NoJobFile ends = ends
-  ends_one found (BadJob text) ends = ends
-  ends_one found AlreadyMade ends = ends
-  ends_one found NotMade ends = ends
-  ends_one found Damaged ends = ends
-  ends_one found OutsideDisk ends = ends
-  ends_one found OutsideSource ends = ends
-  ends_one found OutsideClock ends = ends
-  ends_one found Memory ends = ends
+  ends_one found _ ends = ends
 
   -- a file above the limit is told of, whatever its bytes
   pub limit_one : (n : ℕ) → body_limit < n → (answer : Answer) → TellsLine (refusal (codes "limit body")) ending.Wanting answer → IsIdentifyAnswer id_of kind answer
@@ -52,39 +44,11 @@ module _ (id_of : Kind → List ℕ → List ℕ) (kind : Kind) where
       ends_one (Some (replicate n 0)) answer (told_file (Some (replicate n 0)) (refusal (codes "limit body")) ending.Wanting answer (inl long) told)
 
   -- it is never refused for words, a job or an archive
-  pub identify_low : (answer : Answer) → IsIdentifyAnswer id_of kind answer → status_of answer ≡ 2 → ⊥
-  identify_low Made is e = is
-  identify_low (Told text ending.Done) is e = omega (arith, e)
-  identify_low (Told text ending.Wanting) is e = omega (arith, e)
-  identify_low (Told text ending.OutsideDisk) is e = omega (arith, e)
-  identify_low (Told text ending.Memory) is e = omega (arith, e)
-  identify_low Words is e = is
-  identify_low NoJobFile is e = is
-  identify_low (BadJob text) is e = is
-  identify_low AlreadyMade is e = is
-  identify_low NotMade is e = is
-  identify_low Damaged is e = is
-  identify_low OutsideDisk is e = is
-  identify_low OutsideSource is e = omega (arith, e)
-  identify_low OutsideClock is e = is
-  identify_low Memory is e = omega (arith, e)
-
-  pub identify_archive : (answer : Answer) → IsIdentifyAnswer id_of kind answer → status_of answer ≡ 3 → ⊥
-  identify_archive Made is e = is
-  identify_archive (Told text ending.Done) is e = omega (arith, e)
-  identify_archive (Told text ending.Wanting) is e = omega (arith, e)
-  identify_archive (Told text ending.OutsideDisk) is e = omega (arith, e)
-  identify_archive (Told text ending.Memory) is e = omega (arith, e)
-  identify_archive Words is e = is
-  identify_archive NoJobFile is e = is
-  identify_archive (BadJob text) is e = is
-  identify_archive AlreadyMade is e = is
-  identify_archive NotMade is e = is
-  identify_archive Damaged is e = is
-  identify_archive OutsideDisk is e = is
-  identify_archive OutsideSource is e = omega (arith, e)
-  identify_archive OutsideClock is e = is
-  identify_archive Memory is e = omega (arith, e)
+  pub identify_statuses : (answer : Answer) → IsIdentifyAnswer id_of kind answer → (status_of answer < 2) ⊎ (4 ≤ status_of answer)
+  identify_statuses (Told text end) is = told_status end
+  identify_statuses OutsideSource is = inr (omega arith)
+  identify_statuses Memory is = inr (omega arith)
+  identify_statuses _ is = absurd is
 
   no_body : (bytes text : List ℕ) → IsTooLong bytes text ⊎ IsRefused kind bytes text → IsBody kind bytes → ⊥
   no_body bytes text (inl long) body = let short = body.short in let more = long.long in omega (arith, short, more)
@@ -100,18 +64,10 @@ module _ (id_of : Kind → List ℕ → List ℕ) (kind : Kind) where
 
   -- 1 exactly where no body of the kind stands at the path
   pub identify_exactly : (found : Option (List ℕ)) (answer : Answer) → IdentifyEnds id_of kind found answer → IsExactly 1 (HasNoBody kind found) (status_of answer)
-  identify_exactly found Made ends = absurd ends
   identify_exactly found (Told text end) ends = told_exactly found text end ends
-  identify_exactly found Words ends = absurd ends
-  identify_exactly found NoJobFile ends = absurd ends
-  identify_exactly found (BadJob text) ends = absurd ends
-  identify_exactly found AlreadyMade ends = absurd ends
-  identify_exactly found NotMade ends = absurd ends
-  identify_exactly found Damaged ends = absurd ends
-  identify_exactly found OutsideDisk ends = absurd ends
-  identify_exactly found OutsideSource ends = record { only = λ e. absurd (omega (arith, e)); there = λ none. inr (inl refl) }
-  identify_exactly found OutsideClock ends = absurd ends
-  identify_exactly found Memory ends = record { only = λ e. absurd (omega (arith, e)); there = λ none. inr (inr refl) }
+  identify_exactly found OutsideSource ends = stopped 1 4 (HasNoBody kind found) (λ e. omega (arith, e)) (inr (inl refl))
+  identify_exactly found Memory ends = stopped 1 5 (HasNoBody kind found) (λ e. omega (arith, e)) (inr (inr refl))
+  identify_exactly found _ ends = absurd ends
 
   -- a body of the kind is named, or memory runs out, where the desk did not fail
   module _ (bytes : List ℕ) (body : IsBody kind bytes) where
@@ -122,18 +78,10 @@ module _ (id_of : Kind → List ℕ → List ℕ) (kind : Kind) where
     told_name text ending.Memory tells = absurd tells
 
     body_named : (answer : Answer) → answer ≢ OutsideSource → IdentifyEnds id_of kind (Some bytes) answer → Tells (name_line (name_of id_of kind bytes)) 0 answer
-    body_named Made no_source ends = absurd ends
     body_named (Told text end) no_source ends = told_name text end ends
-    body_named Words no_source ends = absurd ends
-    body_named NoJobFile no_source ends = absurd ends
-    body_named (BadJob text) no_source ends = absurd ends
-    body_named AlreadyMade no_source ends = absurd ends
-    body_named NotMade no_source ends = absurd ends
-    body_named Damaged no_source ends = absurd ends
-    body_named OutsideDisk no_source ends = absurd ends
     body_named OutsideSource no_source ends = absurd (no_source refl)
-    body_named OutsideClock no_source ends = absurd ends
     body_named Memory no_source ends = inl refl
+    body_named _ no_source ends = absurd ends
 
     pub named : (found : Option (List ℕ)) (answer : Answer) → found ≡ Some bytes → answer ≢ OutsideSource → IdentifyEnds id_of kind found answer → Tells (name_line (name_of id_of kind bytes)) 0 answer
     named found answer is no_source ends = body_named answer no_source (subst (λ (f : Option (List ℕ)). IdentifyEnds id_of kind f answer) is ends)

@@ -4,6 +4,7 @@ use Rattle.std.proofs.Common.{◌≡◌, ℕ, ◌+◌, ◌≤◌, Option, Some, 
 use Rattle.std.specs.List.{AllByRecursion}
 use Rattle.std.proofs.lemmas.List.{append-nil, length-map, map-append}
 use Rattle.swh_base.specs.Text.{IsRef}
+use Rattle.swh_outside.specs.Views.{Sources}
 use Rattle.swh_outside.specs.declared.fault.Opened.{Opened}
 use Rattle.swh_outside.specs.declared.fault.Opened.TheVariants.{Found, NotFound, Failed, Memory}
 use Rattle.swh_jobs.specs.Answers.{job_of, jobs_of}
@@ -11,50 +12,51 @@ use Rattle.swh_jobs.specs.Job.{Job, IsHead, IsJob}
 use Rattle.swh_jobs.specs.declared.job.JobLine.{JobLine}
 use Rattle.swh_pool.specs.Loads.{HasHead}
 use Rattle.swh_pool.specs.declared.dated.DatedJob.{DatedJob}
+use Rattle.swh_program.specs.Inputs.{inputs}
+use Rattle.swh_program.specs.Seen.{FileAt}
 use Rattle.swh_program.specs.Dated.{AreSaid, IsOpenedAt, IsOpenedJob, AreOpenedJobs, IsGivenBack, AreGivenBack}
-use Rattle.swh_program.specs.Jobs.{FileAt}
 use Rattle.swh_program.proofs.Inputs.{rose_since, rose_until}
 
 -- Inputs that were given back.
-module _ {S : Type 0} (faults : S → ℕ) (path_of : S → List ℕ) (before now : List ℕ → ℕ) where
+module _ {S : Type 0} (sources : Sources S) (before now : List ℕ → ℕ) where
   abbrev Back : (List ℕ → ℕ) → Opened S → Type 0
-  Back counts stream = IsGivenBack faults path_of before counts stream
+  Back counts stream = IsGivenBack sources before counts stream
 
   back_until : (later : List ℕ → ℕ) → ((p : List ℕ) → now p ≤ later p) → (stream : Opened S) → Back now stream → Back later stream
-  back_until later rises (Found s) back = λ some. rose_until (before (path_of s)) (now (path_of s)) (later (path_of s)) (back some) (rises (path_of s))
+  back_until later rises (Found s) back = λ some. rose_until (before (sources.path s)) (now (sources.path s)) (later (sources.path s)) (back some) (rises (sources.path s))
   back_until later rises NotFound back = tt
   back_until later rises Failed back = tt
   back_until later rises Memory back = tt
 
-  back_all_until : (later : List ℕ → ℕ) → ((p : List ℕ) → now p ≤ later p) → (jobs : List (DatedJob S)) → AreGivenBack faults path_of before now jobs → AreGivenBack faults path_of before later jobs
+  back_all_until : (later : List ℕ → ℕ) → ((p : List ℕ) → now p ≤ later p) → (jobs : List (DatedJob S)) → AreGivenBack sources before now jobs → AreGivenBack sources before later jobs
   back_all_until later rises [] back = tt
   back_all_until later rises (j ∷ jobs) back = (back_until later rises j.job.stream back.0, back_all_until later rises jobs back.1)
 
-  back_since : (entry : List ℕ → ℕ) → ((p : List ℕ) → entry p ≤ before p) → (stream : Opened S) → Back now stream → IsGivenBack faults path_of entry now stream
-  back_since entry rises (Found s) back = λ some. rose_since (entry (path_of s)) (before (path_of s)) (now (path_of s)) (rises (path_of s)) (back some)
+  back_since : (entry : List ℕ → ℕ) → ((p : List ℕ) → entry p ≤ before p) → (stream : Opened S) → Back now stream → IsGivenBack sources entry now stream
+  back_since entry rises (Found s) back = λ some. rose_since (entry (sources.path s)) (before (sources.path s)) (now (sources.path s)) (rises (sources.path s)) (back some)
   back_since entry rises NotFound back = tt
   back_since entry rises Failed back = tt
   back_since entry rises Memory back = tt
 
 -- Of these jobs some are left, and the others were given back.
-pub record BackSoFar {S : Type 0} (faults : S → ℕ) (path_of : S → List ℕ) (before now : List ℕ → ℕ) (all left : List (DatedJob S)) : Type 0 where
+pub record BackSoFar {S : Type 0} (sources : Sources S) (before now : List ℕ → ℕ) (all left : List (DatedJob S)) : Type 0 where
   pub done : List (DatedJob S)
   pub cut : all ≡ left ++ done
-  pub back : AreGivenBack faults path_of before now done
+  pub back : AreGivenBack sources before now done
 
-pub back_begins : {S : Type 0} (faults : S → ℕ) (path_of : S → List ℕ) (counts : List ℕ → ℕ) (all : List (DatedJob S)) → BackSoFar faults path_of counts counts all all
-back_begins faults path_of counts all = record { done = []; cut = sym (append-nil all); back = tt }
+pub back_begins : {S : Type 0} (sources : Sources S) (counts : List ℕ → ℕ) (all : List (DatedJob S)) → BackSoFar sources counts counts all all
+back_begins sources counts all = record { done = []; cut = sym (append-nil all); back = tt }
 
-pub back_next : {S : Type 0} (faults : S → ℕ) (path_of : S → List ℕ) (entry now later : List ℕ → ℕ) (all left rest : List (DatedJob S)) (j : DatedJob S) → ((p : List ℕ) → entry p ≤ now p) → ((p : List ℕ) → now p ≤ later p)
-    → left ≡ rest ++ j ∷ [] → BackSoFar faults path_of entry now all left → IsGivenBack faults path_of now later j.job.stream → BackSoFar faults path_of entry later all rest
-back_next faults path_of entry now later all left rest j rose rises cut so_far back = record {
+pub back_next : {S : Type 0} (sources : Sources S) (entry now later : List ℕ → ℕ) (all left rest : List (DatedJob S)) (j : DatedJob S) → ((p : List ℕ) → entry p ≤ now p) → ((p : List ℕ) → now p ≤ later p)
+    → left ≡ rest ++ j ∷ [] → BackSoFar sources entry now all left → IsGivenBack sources now later j.job.stream → BackSoFar sources entry later all rest
+back_next sources entry now later all left rest j rose rises cut so_far back = record {
   done = j ∷ so_far.done;
   cut = so_far.cut ∙ ap (λ (l : List (DatedJob _)). l ++ so_far.done) cut ∙ append_assoc rest (j ∷ []) so_far.done;
-  back = (back_since faults path_of now later entry rose j.job.stream back, back_all_until faults path_of entry now later rises so_far.done so_far.back);
+  back = (back_since sources now later entry rose j.job.stream back, back_all_until sources entry now later rises so_far.done so_far.back);
 }
 
-pub back_ends : {S : Type 0} (faults : S → ℕ) (path_of : S → List ℕ) (before now : List ℕ → ℕ) (all left : List (DatedJob S)) → left ≡ [] → BackSoFar faults path_of before now all left → AreGivenBack faults path_of before now all
-back_ends faults path_of before now all left none so_far = subst (λ (l : List (DatedJob _)). AreGivenBack faults path_of before now l) (sym (so_far.cut ∙ ap (λ (l : List (DatedJob _)). l ++ so_far.done) none)) so_far.back
+pub back_ends : {S : Type 0} (sources : Sources S) (before now : List ℕ → ℕ) (all left : List (DatedJob S)) → left ≡ [] → BackSoFar sources before now all left → AreGivenBack sources before now all
+back_ends sources before now all left none so_far = subst (λ (l : List (DatedJob _)). AreGivenBack sources before now l) (sym (so_far.cut ∙ ap (λ (l : List (DatedJob _)). l ++ so_far.done) none)) so_far.back
 
 -- one date more
 pub said_next : (time : ℕ → ℕ) (dates : List ℕ) (date : ℕ) → AreSaid time dates → date ≡ time (length dates) → AreSaid time (dates ++ date ∷ [])
@@ -76,15 +78,15 @@ ref_of (Some head) is = is.is_ref
 ref_of None is = tt
 
 -- Inputs that were opened.
-module _ {S : Type 0} (tells source_tells : Type 0) (left : S → List ℕ) (faults : S → ℕ) (path_of : S → List ℕ) where
+module _ {S : Type 0} (sources : Sources S) (tells : Type 0) where
   abbrev At : FileAt → (List ℕ → ℕ) → (List ℕ → ℕ) → List ℕ → Opened S → Type 0
-  At file_at before now path stream = IsOpenedAt tells source_tells left faults path_of file_at before now path stream
+  At file_at before now path stream = IsOpenedAt sources (inputs tells file_at before now) path stream
 
   abbrev pub OpenedJob : FileAt → (List ℕ → ℕ) → (List ℕ → ℕ) → Job → DatedJob S → Type 0
-  OpenedJob file_at before now job j = IsOpenedJob tells source_tells left faults path_of file_at before now job j
+  OpenedJob file_at before now job j = IsOpenedJob sources (inputs tells file_at before now) job j
 
   abbrev pub OpenedJobs : FileAt → (List ℕ → ℕ) → (List ℕ → ℕ) → List Job → List (DatedJob S) → Type 0
-  OpenedJobs file_at before now jobs opened = AreOpenedJobs tells source_tells left faults path_of file_at before now jobs opened
+  OpenedJobs file_at before now jobs opened = AreOpenedJobs sources (inputs tells file_at before now) jobs opened
 
   -- with other counts around, and files that are the same
   at_within : (files files' : FileAt) (a b c d : List ℕ → ℕ) → (tells → (p : List ℕ) → files' p ≡ files p) → ((p : List ℕ) → a p ≤ b p) → ((p : List ℕ) → c p ≤ d p) → (path : List ℕ) (stream : Opened S) → At files' b c path stream → At files a d path stream

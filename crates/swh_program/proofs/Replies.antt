@@ -12,7 +12,7 @@ use Rattle.std.specs.Str.{bytes_eq}
 use Rattle.swh_model.specs.Archive.{Archive}
 use Rattle.swh_model.specs.Answer.{ReplyText, AsksForVisits, IsReply}
 use Rattle.swh_model.proofs.Entries.{all-append}
-use Rattle.swh_program.specs.Ask.{reply_line, AreReplies, AreFound, HasShortReply, IsEndingOf, TellsArchive}
+use Rattle.swh_program.specs.AskCommand.{reply_line, AreReplies, AreFound, HasShortReply, IsEndingOf, TellsArchive}
 use Rattle.swh_program.specs.declared.answer.Ending.{Ending}
 use Rattle.swh_program.specs.declared.answer.Ending.TheVariants.{Wanting}
 

@@ -1,34 +1,41 @@
--- The status of a run, from its answer.
-use Rattle.std.proofs.Common.{◌≡◌, ◌≢◌, ◌⊎◌, inl, inr, ⊎_elim, ℕ, ◌<◌, List, refl, sym, ◌∙◌, subst, arith}
+-- The status of a run, from its answer, and the part that the answer names.
+use Rattle.std.proofs.Common.{◌≡◌, ◌≢◌, ◌⊎◌, inl, inr, ⊎_elim, ℕ, ◌<◌, ◌≤◌, List, refl, sym, ◌∙◌, subst, arith}
 use Rattle.swh_base.specs.declared.kind.Kind.{Kind}
-use Rattle.swh_outside.specs.Faults.{Rose}
 use Rattle.swh_model.specs.Answer.{ReplyText}
-use Rattle.swh_program.specs.Answers.{status_of, IsPrinted, IsCutOff, IsToldOf}
-use Rattle.swh_program.specs.Ask.{IsAskAnswer, AreFound, HasShortReply, IsEndingOf}
-use Rattle.swh_program.specs.Causes.{ComesTo, IsExactly, NamesFailed}
-use Rattle.swh_program.specs.Identify.{IsIdentifyAnswer}
-use Rattle.swh_program.specs.Init.{IsInitAnswer}
-use Rattle.swh_program.specs.Load.{TellsDisk}
+use Rattle.swh_words.specs.Words.{Wanted, ToInit, ToLoad, ToAsk, ToIdentify}
+use Rattle.swh_program.specs.Seen.{Span, DepotFailed, DeskFailed, ClockFailed, SinkFailed}
+use Rattle.swh_program.specs.Answers.{TellsDisk, status_of, IsPrinted}
+use Rattle.swh_program.specs.AskCommand.{IsAskAnswer, AreFound, HasShortReply, IsEndingOf}
+use Rattle.swh_program.specs.Commands.{Comes}
+use Rattle.swh_program.specs.IdentifyCommand.{IsIdentifyAnswer}
+use Rattle.swh_program.specs.InitCommand.{IsInitAnswer}
+use Rattle.swh_program.specs.Run.{ComesTo, IsExactly, IsTold, NamesFailed}
 use Rattle.swh_program.specs.declared.answer.Ending.{Ending}
 use Rattle.swh_program.specs.declared.answer.Ending.TheVariants as ending
 use Rattle.swh_program.specs.declared.answer.Answer.{Answer}
 use Rattle.swh_program.specs.declared.answer.Answer.TheVariants.{Made, Told, Words, NoJobFile, BadJob, AlreadyMade, NotMade, Damaged, OutsideDisk, OutsideSource, OutsideClock, Memory}
 
 -- what an answer comes to, the run does
-module _ (answer : Answer) (tells : Type 0) (before now : List ℕ) (faults_before faults_now status : ℕ) (told : IsToldOf answer tells before now faults_before faults_now status) where
-  pub run_comes : (expected : ℕ) → ComesTo expected (status_of answer) → ComesTo expected status
-  run_comes expected comes =
-      ⊎_elim (λ (printed : IsPrinted answer tells before now status). subst (ComesTo expected) (sym printed.status_is) comes) (λ (cut : IsCutOff answer tells before now faults_before faults_now status). inr (inl cut.status_is)) told
+module _ (answer : Answer) (s : Span) (status : ℕ) where
+  pub run_comes : (expected : ℕ) → ComesTo expected (status_of answer) → IsTold answer s status → ComesTo expected status
+  run_comes expected comes (inl printed) = subst (ComesTo expected) (sym printed.status_is) comes
+  run_comes expected comes (inr cut) = inr (inl cut.status_is)
 
   -- a sink that did not fail
-  pub uncut : (status ≢ 4) → IsPrinted answer tells before now status
-  uncut apart = ⊎_elim (λ (printed : IsPrinted answer tells before now status). printed) (λ (cut : IsCutOff answer tells before now faults_before faults_now status). absurd (apart cut.status_is)) told
+  pub uncut : status ≢ 4 → IsTold answer s status → IsPrinted answer s.told.sink s.old.sink.taken s.new.sink.taken status
+  uncut apart (inl printed) = printed
+  uncut apart (inr cut) = absurd (apart cut.status_is)
 
-  pub run_exactly : (expected : ℕ) (Cause : Type 0) → expected < 4 → IsExactly expected Cause (status_of answer) → IsExactly expected Cause status
-  run_exactly expected Cause less exact = record {
-    only = λ is. exact.only (sym (uncut (λ four. omega (arith, four, is, less))).status_is ∙ is);
-    there = λ cause. run_comes expected (exact.there cause);
-  }
+  same_status : (expected : ℕ) → expected < 4 → IsTold answer s status → status ≡ expected → status_of answer ≡ expected
+  same_status expected less told is = sym (uncut (λ four. omega (arith, four, is, less)) told).status_is ∙ is
+
+  pub run_exactly : (expected : ℕ) (Cause : Type 0) → expected < 4 → IsExactly expected Cause (status_of answer) → IsTold answer s status → IsExactly expected Cause status
+  run_exactly expected Cause less exact told = record { only = λ is. exact.only (same_status expected less told is); there = λ cause. run_comes expected (exact.there cause) told }
+
+  -- a status below 4 that the answer's lies below or above of
+  pub run_never : (low high : ℕ) → (status_of answer < low) ⊎ (high ≤ status_of answer) → (k : ℕ) → low ≤ k → k < high → k < 4 → IsTold answer s status → status ≢ k
+  run_never low high (inl below) k from until less told is = let e = same_status k less told is in omega (arith, below, from, e)
+  run_never low high (inr above) k from until less told is = let e = same_status k less told is in omega (arith, above, until, e)
 
 -- 4 names a part
 named_part : (answer : Answer) → status_of answer ≡ 4 → TellsDisk answer ⊎ (answer ≡ OutsideSource) ⊎ (answer ≡ OutsideClock)
@@ -49,19 +56,14 @@ named_part OutsideClock is = inr (inr refl)
 named_part Memory is = absurd (omega (arith, is))
 
 -- which has failed, or the sink has
-pub rose_outside : (disk_faults disk_faults_now desk_faults desk_faults_now clock_faults clock_faults_now : ℕ) (answer : Answer) (tells : Type 0) (before now : List ℕ) (faults_before faults_now status : ℕ)
-    → NamesFailed disk_faults disk_faults_now desk_faults desk_faults_now clock_faults clock_faults_now answer → IsToldOf answer tells before now faults_before faults_now status → status ≡ 4
-    → Rose disk_faults disk_faults_now ⊎ Rose desk_faults desk_faults_now ⊎ Rose clock_faults clock_faults_now ⊎ Rose faults_before faults_now
-rose_outside disk_faults disk_faults_now desk_faults desk_faults_now clock_faults clock_faults_now answer tells before now faults_before faults_now status named told is =
-    ⊎_elim
-    (λ (printed : IsPrinted answer tells before now status).
-    ⊎_elim
-    (λ (disk : TellsDisk answer). inl (named.disk disk))
-    (λ (other : (answer ≡ OutsideSource) ⊎ (answer ≡ OutsideClock)).
-    ⊎_elim (λ (source : answer ≡ OutsideSource). inr (inl (named.source source))) (λ (clock : answer ≡ OutsideClock). inr (inr (inl (named.clock clock)))) other)
-    (named_part answer (sym printed.status_is ∙ is)))
-    (λ (cut : IsCutOff answer tells before now faults_before faults_now status). inr (inr (inr cut.rose)))
-    told
+pub rose_outside : (s : Span) (answer : Answer) (status : ℕ) → NamesFailed s answer → IsTold answer s status → status ≡ 4 → DepotFailed s ⊎ DeskFailed s ⊎ ClockFailed s ⊎ SinkFailed s
+rose_outside s answer status named (inr cut) is = inr (inr (inr cut.rose))
+rose_outside s answer status named (inl printed) is = at (named_part answer (sym printed.status_is ∙ is))
+  where
+    at : TellsDisk answer ⊎ (answer ≡ OutsideSource) ⊎ (answer ≡ OutsideClock) → DepotFailed s ⊎ DeskFailed s ⊎ ClockFailed s ⊎ SinkFailed s
+    at (inl disk) = inl (named.disk disk)
+    at (inr (inl source)) = inr (inl (named.source source))
+    at (inr (inr clock)) = inr (inr (inl (named.clock clock)))
 
 -- `init` and `ask` name a disk alone
 init_disk : (answer : Answer) → IsInitAnswer answer → TellsDisk answer → answer ≡ OutsideDisk
@@ -80,42 +82,43 @@ ask_disk : (answer : Answer) → IsAskAnswer answer → TellsDisk answer → ans
 ask_disk (Told text end) is tells = absurd (replies_inside end is.0 is.1.end_is tells)
 ask_disk _ is tells = tells
 
-module _ (disk_faults disk_faults_now desk_faults desk_faults_now clock_faults clock_faults_now : ℕ) where
-  abbrev Named : Answer → Type 0
-  Named answer = NamesFailed disk_faults disk_faults_now desk_faults desk_faults_now clock_faults clock_faults_now answer
+identify_disk : (id_of : Kind → List ℕ → List ℕ) (kind : Kind) (answer : Answer) → IsIdentifyAnswer id_of kind answer → TellsDisk answer → answer ≡ OutsideDisk
+identify_disk id_of kind (Told text ending.Done) is tells = let e : ending.Done ≡ ending.OutsideDisk = tells in cc
+identify_disk id_of kind (Told text ending.Wanting) is tells = let e : ending.Wanting ≡ ending.OutsideDisk = tells in cc
+identify_disk id_of kind (Told text ending.OutsideDisk) is tells = absurd is.1
+identify_disk id_of kind (Told text ending.Memory) is tells = absurd is.1
+identify_disk id_of kind _ is tells = tells
 
-  pub init_names : (answer : Answer) → IsInitAnswer answer → (answer ≡ OutsideDisk → Rose disk_faults disk_faults_now) → Named answer
-  init_names answer is cause = record {
-    disk = λ tells. cause (init_disk answer is tells);
-    source = λ e. absurd (subst IsInitAnswer e is);
-    clock = λ e. absurd (subst IsInitAnswer e is);
-  }
+-- which part the answer of a command names
+pub comes_names : (wanted : Wanted) (s : Span) (answer : Answer) → Comes wanted s answer → NamesFailed s answer
+comes_names (ToInit dir) s answer i = record {
+  disk = λ tells. i.cause (init_disk answer i.one_of tells);
+  source = λ e. absurd (subst IsInitAnswer e i.one_of);
+  clock = λ e. absurd (subst IsInitAnswer e i.one_of);
+}
+comes_names (ToLoad dir jobs) s answer l = record { disk = l.disk_cause; source = l.source_cause; clock = l.clock_cause }
+comes_names (ToAsk dir paths) s answer a = record {
+  disk = λ tells. a.cause (ask_disk answer a.one_of tells);
+  source = λ e. absurd (subst IsAskAnswer e a.one_of);
+  clock = λ e. absurd (subst IsAskAnswer e a.one_of);
+}
+comes_names (ToIdentify kind path) s answer i = record {
+  disk = λ tells. absurd (subst (IsIdentifyAnswer s.id_of kind) (identify_disk s.id_of kind answer i.one_of tells) i.one_of);
+  source = i.cause;
+  clock = λ e. absurd (subst (IsIdentifyAnswer s.id_of kind) e i.one_of);
+}
 
-  pub ask_names : (answer : Answer) → IsAskAnswer answer → (answer ≡ OutsideDisk → Rose disk_faults disk_faults_now) → Named answer
-  ask_names answer is cause = record {
-    disk = λ tells. cause (ask_disk answer is tells);
-    source = λ e. absurd (subst IsAskAnswer e is);
-    clock = λ e. absurd (subst IsAskAnswer e is);
-  }
+-- none is named where there is no command
+pub words_name : (s : Span) → NamesFailed s Words
+words_name s = record {
+  disk = λ e. let f : Words ≡ OutsideDisk = e in cc;
+  source = λ e. let f : Words ≡ OutsideSource = e in cc;
+  clock = λ e. let f : Words ≡ OutsideClock = e in cc;
+}
 
-  module _ (id_of : Kind → List ℕ → List ℕ) (kind : Kind) where
-    identify_disk : (answer : Answer) → IsIdentifyAnswer id_of kind answer → TellsDisk answer → answer ≡ OutsideDisk
-    identify_disk (Told text ending.Done) is tells = let e : ending.Done ≡ ending.OutsideDisk = tells in cc
-    identify_disk (Told text ending.Wanting) is tells = let e : ending.Wanting ≡ ending.OutsideDisk = tells in cc
-    identify_disk (Told text ending.OutsideDisk) is tells = absurd is.1
-    identify_disk (Told text ending.Memory) is tells = absurd is.1
-    identify_disk _ is tells = tells
-
-    pub identify_names : (answer : Answer) → IsIdentifyAnswer id_of kind answer → (answer ≡ OutsideSource → Rose desk_faults desk_faults_now) → Named answer
-    identify_names answer is cause = record {
-      disk = λ tells. absurd (subst (IsIdentifyAnswer id_of kind) (identify_disk answer is tells) is);
-      source = cause;
-      clock = λ e. absurd (subst (IsIdentifyAnswer id_of kind) e is);
-    }
-
-  pub words_name : Named Words
-  words_name = record {
-    disk = λ e. let f : Words ≡ OutsideDisk = e in cc;
-    source = λ e. let f : Words ≡ OutsideSource = e in cc;
-    clock = λ e. let f : Words ≡ OutsideClock = e in cc;
-  }
+pub memory_names : (s : Span) → NamesFailed s Memory
+memory_names s = record {
+  disk = λ e. let f : Memory ≡ OutsideDisk = e in cc;
+  source = λ e. let f : Memory ≡ OutsideSource = e in cc;
+  clock = λ e. let f : Memory ≡ OutsideClock = e in cc;
+}

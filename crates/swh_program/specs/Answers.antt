@@ -40,12 +40,14 @@ told_by _ = []
 abbrev pub printed_by : Answer → List ℕ
 printed_by answer = told_by answer ++ last_line_of answer
 
+-- the status of a run that ends so
 abbrev pub status_for : Ending → ℕ
 status_for ending.Done = 0
 status_for ending.Wanting = 1
 status_for ending.OutsideDisk = 4
 status_for ending.Memory = 5
 
+-- the status of a run that comes to this answer
 abbrev pub status_of : Answer → ℕ
 status_of Made = 0
 status_of (Told text end) = status_for end
@@ -60,16 +62,24 @@ status_of OutsideSource = 4
 status_of OutsideClock = 4
 status_of Memory = 5
 
+-- a disk that failed is told
+abbrev pub TellsDisk : Answer → Type 0
+TellsDisk (Told text end) = end ≡ ending.OutsideDisk
+TellsDisk answer = answer ≡ OutsideDisk
+
 -- All of it was printed.
 pub record IsPrinted (answer : Answer) (tells : Type 0) (before now : List ℕ) (status : ℕ) : Type 0 where
   pub status_is : status ≡ status_of answer
   pub printed : tells → now ≡ before ++ printed_by answer
 
 -- The sink failed, with the first few bytes on it.
-pub record IsCutOff (answer : Answer) (tells : Type 0) (before now : List ℕ) (faults_before faults_now status : ℕ) : Type 0 where
+pub record IsCutOff (answer : Answer) (tells : Type 0) (before now : List ℕ) (faults_before faults_now status : ℕ)
+    : Type 0 where
   pub status_is : status ≡ 4
   pub rose : Rose faults_before faults_now
   pub printed : tells → TakesSome before (printed_by answer) now
 
+-- It was told: all of it was printed, or the sink failed.
 abbrev pub IsToldOf : Answer → Type 0 → List ℕ → List ℕ → ℕ → ℕ → ℕ → Type 0
-IsToldOf answer tells before now faults_before faults_now status = IsPrinted answer tells before now status ⊎ IsCutOff answer tells before now faults_before faults_now status
+IsToldOf answer tells before now faults_before faults_now status =
+    IsPrinted answer tells before now status ⊎ IsCutOff answer tells before now faults_before faults_now status

@@ -13,10 +13,10 @@ use Rattle.swh_model.specs.Answer.{line_of}
 use Rattle.swh_model.specs.Archive.{Bodies, body_of}
 use Rattle.swh_model.specs.Judge.{FilePasses}
 use Rattle.swh_model.specs.Meaning.{Made, Making, IsMeaning}
-use Rattle.swh_model.specs.Step.{May, replay}
-use Rattle.swh_base.specs.Snapshot.{snapshot_name}
+use Rattle.swh_model.specs.Step.{May, replay, snapshot_name}
+use Rattle.swh_loader.specs.Adding.{attempt}
 use Rattle.swh_loader.specs.Leaving.{AddsVisit, next_visit}
-use Rattle.swh_program.specs.Jobs.{FileAt}
+use Rattle.swh_program.specs.Seen.{FileAt}
 use Rattle.swh_program.specs.Inputs.{loader}
 use Rattle.swh_program.specs.Opening.{IsArchive}
 use Rattle.swh_program.specs.Run.{IsQuiet}
@@ -78,7 +78,7 @@ module _ (id_of : Kind → List ℕ → List ℕ) where
   -- make: behind the history that the files stand for afterwards, and behind each front of it.
   pub record HasRoom (before : List Event) (jobs : List Job) (objects : List Made) (files : Files) : Type 0 where
     pub room : (job : Job) (date : ℕ) (earlier after later : List Event) (event : Event) → Contains jobs job → IsArchive id_of files (after ++ later)
-        → AddsVisit (AreMade objects) loader job.url date (before ++ earlier) (after ++ event ∷ []) → May id_of (replay after) event
+        → AddsVisit (AreMade objects) (attempt loader job.url date) (before ++ earlier) (after ++ event ∷ []) → May id_of (replay after) event
         → (which : Which) (number : ℕ) → FilePasses after event.what which number → ⊥
 
 -- None of the jobs' paths has failed.

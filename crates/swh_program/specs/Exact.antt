@@ -3,7 +3,6 @@ use Rattle.std.specs.Prelude.{◌≡◌, ◌≢◌, ◌⊎◌, ℕ, ◌+◌, Opt
 use Rattle.std.specs.List.{AllZip}
 use Rattle.swh_base.specs.declared.kind.Kind.{Kind}
 use Rattle.swh_base.specs.declared.name.Name.{Name}
-use Rattle.swh_outside.specs.Faults.{Rose}
 use Rattle.swh_jobs.specs.Job.{Job}
 use Rattle.swh_model.specs.Archive.{Archive, Bodies, visits_of}
 use Rattle.swh_model.specs.Meaning.{Making, IsMeaning, IsLeftOut}
@@ -12,9 +11,9 @@ use Rattle.swh_loader.specs.declared.end.StreamWhy.TheVariants.{LeftOut}
 use Rattle.swh_loader.specs.declared.end.BadInput.TheVariants.{Stream, Collision, Read}
 use Rattle.swh_loader.specs.declared.end.End.{End}
 use Rattle.swh_loader.specs.declared.end.End.TheVariants.{Full, NotFound, Failed}
+use Rattle.swh_program.specs.Inputs.{Inputs, HasFailed}
 use Rattle.swh_program.specs.Answers.{status_of}
 use Rattle.swh_program.specs.Complete.{HasBody, HasOneBody}
-use Rattle.swh_program.specs.Jobs.{FileAt}
 use Rattle.swh_program.specs.Lines.{ending_of_end, worse}
 use Rattle.swh_program.specs.declared.answer.Ending.{Ending}
 use Rattle.swh_program.specs.declared.answer.Ending.TheVariants as ending
@@ -25,6 +24,7 @@ use Rattle.swh_program.specs.declared.answer.Answer.TheVariants.{Told}
 abbrev pub line_for : Archive → Job → End → List ℕ
 line_for a job end = report_of job.url (Ok (record { visit = length (visits_of a.origins job.url) + 1; end = end }))
 
+-- the lines of visits, in their order
 abbrev pub lines_for : Archive → List Job → List End → List ℕ
 lines_for a [] ends = []
 lines_for a (job ∷ jobs) [] = []
@@ -63,11 +63,12 @@ module _ (id_of : Kind → List ℕ → List ℕ) where
   IsEndFor head bodies (Some text) (Failed (Collision name)) = MeansCollision head bodies text name
   IsEndFor head bodies (Some text) (Failed Read) = ⊥
 
-  module _ (input_at : FileAt) (failures failures_now : List ℕ → ℕ) where
+  module _ (of_jobs : Inputs) where
     -- The job's visit ended as its input has it, or in a read that failed, where its path has failed.
     abbrev pub IsExactEnd : Archive → Job → End → Type 0
-    IsExactEnd a job end = IsEndFor job.head a.bodies (input_at job.path) end ⊎ ((end ≡ Failed Read) × Rose (failures job.path) (failures_now job.path))
+    IsExactEnd a job end = IsEndFor job.head a.bodies (of_jobs.at job.path) end ⊎ ((end ≡ Failed Read) × HasFailed of_jobs job)
 
+    -- the jobs' visits ended so, in their order
     abbrev pub AreExactEnds : Archive → List Job → List End → Type 0
     AreExactEnds a jobs ends = AllZip (IsExactEnd a) jobs ends
 

@@ -5,12 +5,14 @@ use Rattle.swh_base.specs.declared.kind.Kind.{Kind}
 use Rattle.swh_base.specs.declared.entry.Entry.{Entry}
 use Rattle.swh_base.specs.declared.visit.Status.TheVariants.{Created}
 use Rattle.swh_base.specs.declared.visit.Which.{Which}
+use Rattle.swh_outside.specs.Faults.{Rose}
+use Rattle.swh_jobs.specs.Job.{Job}
 use Rattle.swh_model.specs.declared.event.Event.{Event}
 use Rattle.swh_model.specs.Archive.{Bodies}
 use Rattle.swh_model.specs.Judge.{FilePasses}
 use Rattle.swh_model.specs.Meaning.{IsLeftOut}
 use Rattle.swh_model.specs.Step.{May, replay}
-use Rattle.swh_loader.specs.Adding.{opening}
+use Rattle.swh_loader.specs.Adding.{Attempt, opening}
 use Rattle.swh_loader.specs.Ending.{IsMadeBy, IsFull, Collided, statuses_of}
 use Rattle.swh_loader.specs.Leaving.{AddsVisit, next_visit}
 use Rattle.swh_loader.specs.Visiting.{IsVisit}
@@ -22,55 +24,91 @@ use Rattle.swh_loader.specs.declared.end.Loaded.{Loaded}
 use Rattle.swh_loader.specs.declared.fault.LoadWhy.{LoadWhy}
 use Rattle.swh_loader.specs.declared.fault.LoadWhy.TheVariants as why
 use Rattle.swh_loader.specs.declared.fault.LoadFault.{LoadFault}
+use Rattle.swh_program.specs.Seen.{FileAt}
 
 -- who loads the jobs of a run
 abbrev pub loader : ℕ
 loader = 1
 
--- What a load says of its input: what stands at its path, if anything, where that is told; the head that its job names;
--- whether the path has failed.
-module _ (id_of : Kind → List ℕ → List ℕ) (tells : Type 0) (found head : Option (List ℕ)) (failed : Type 0) where
+-- the inputs of jobs: whether they tell what they hold, what stands at each path, and how often each path had failed
+-- before and has failed now
+pub record Inputs : Type 1 where
+  pub tell : Type 0
+  pub at : FileAt
+  pub failures : List ℕ → ℕ
+  pub failures_now : List ℕ → ℕ
+
+-- the same of their parts
+abbrev pub inputs : Type 0 → FileAt → (List ℕ → ℕ) → (List ℕ → ℕ) → Inputs
+inputs tell at failures failures_now = record { tell = tell; at = at; failures = failures; failures_now = failures_now }
+
+-- The path of the job's input has failed.
+abbrev pub HasFailed : Inputs → Job → Type 0
+HasFailed of_jobs job = Rose (of_jobs.failures job.path) (of_jobs.failures_now job.path)
+
+-- one input: whether it tells what it holds, what stands at its path, if anything, the head that its job names, and
+-- whether its path has failed
+pub record Input : Type 1 where
+  pub tells : Type 0
+  pub found : Option (List ℕ)
+  pub head : Option (List ℕ)
+  pub failed : Type 0
+
+-- the input of a job
+abbrev pub input_of : Inputs → Job → Input
+input_of of_jobs job = record {
+  tells = of_jobs.tell;
+  found = of_jobs.at job.path;
+  head = job.head;
+  failed = HasFailed of_jobs job;
+}
+
+-- What a load says of its input.
+module _ (id_of : Kind → List ℕ → List ℕ) (input : Input) where
   -- The input is there, and its text has this.
   abbrev pub OfText : (List ℕ → Type 0) → Type 0
-  OfText P = tells → (text : List ℕ) × (found ≡ Some text) × P text
+  OfText P = input.tells → (text : List ℕ) × (input.found ≡ Some text) × P text
 
   -- The input makes all of these.
   abbrev pub IsOfInput : List Entry → Type 0
-  IsOfInput entries = OfText (λ text. AllByRecursion (IsMadeBy id_of head text) entries)
+  IsOfInput entries = OfText (λ text. AllByRecursion (IsMadeBy id_of input.head text) entries)
 
   -- An event of this load that may happen next would pass a file's end.
-  pub record MeetsEnd (url : List ℕ) (date : ℕ) (before after : List Event) (which : Which) (number : ℕ) : Type 0 where
+  pub record MeetsEnd (a : Attempt) (before after : List Event) (which : Which) (number : ℕ) : Type 0 where
     pub event : Event
-    pub next : AddsVisit IsOfInput loader url date before (after ++ event ∷ [])
+    pub next : AddsVisit IsOfInput a before (after ++ event ∷ [])
     pub may : May id_of (replay after) event
     pub passes : FilePasses after event.what which number
 
   -- Why a load stopped: a disk failed, a file would pass its end, or memory ran out.
-  abbrev pub StopsFor : List ℕ → ℕ → List Event → List Event → LoadWhy → Type 0
-  StopsFor url date before after (why.Ended status) = ⊥
-  StopsFor url date before after why.DiskFault = Unit {0}
-  StopsFor url date before after why.Wounded = Unit {0}
-  StopsFor url date before after (why.Limit which number) = MeetsEnd url date before after which number
-  StopsFor url date before after why.Memory = Unit {0}
+  abbrev pub StopsFor : Attempt → List Event → List Event → LoadWhy → Type 0
+  StopsFor a before after (why.Ended status) = ⊥
+  StopsFor a before after why.DiskFault = Unit {0}
+  StopsFor a before after why.Wounded = Unit {0}
+  StopsFor a before after (why.Limit which number) = MeetsEnd a before after which number
+  StopsFor a before after why.Memory = Unit {0}
 
   -- A load stopped before its visit was opened, with nothing added, or once it was opened.
-  pub record StopsVisit (url : List ℕ) (date : ℕ) (before after : List Event) (fault : LoadFault) : Type 0 where
-    pub visit : ((fault.visit ≡ 0) × (after ≡ before)) ⊎ ((fault.visit ≡ next_visit before url) × (more : List Event) × (after ≡ before ++ opening loader url date ∷ more))
-    pub stops : StopsFor url date before after fault.why
+  pub record StopsVisit (a : Attempt) (before after : List Event) (fault : LoadFault) : Type 0 where
+    pub visit : ((fault.visit ≡ 0) × (after ≡ before))
+        ⊎ ((fault.visit ≡ next_visit before a.origin) × (more : List Event) × (after ≡ before ++ opening a ∷ more))
+    pub stops : StopsFor a before after fault.why
 
+  -- How the input makes its visit end.
   abbrev pub IsInputEnd : Bodies → End → Type 0
-  IsInputEnd bodies (Full snapshot) = OfText (λ text. IsFull id_of head text bodies snapshot)
-  IsInputEnd bodies NotFound = tells → found ≡ None
-  IsInputEnd bodies (Failed (Stream at why)) = (at ≡ 0) × (why ≡ LeftOut) × OfText (IsLeftOut id_of head)
-  IsInputEnd bodies (Failed (Collision name)) = OfText (λ text. Collided id_of head text bodies name)
-  IsInputEnd bodies (Failed Read) = failed
+  IsInputEnd bodies (Full snapshot) = OfText (λ text. IsFull id_of input.head text bodies snapshot)
+  IsInputEnd bodies NotFound = input.tells → input.found ≡ None
+  IsInputEnd bodies (Failed (Stream at why)) = (at ≡ 0) × (why ≡ LeftOut) × OfText (IsLeftOut id_of input.head)
+  IsInputEnd bodies (Failed (Collision name)) = OfText (λ text. Collided id_of input.head text bodies name)
+  IsInputEnd bodies (Failed Read) = input.failed
 
   -- The visit is the next of its origin, and ended as its input has it.
-  pub record EndsVisit (url : List ℕ) (date : ℕ) (before after : List Event) (loaded : Loaded) : Type 0 where
-    pub number : loaded.visit ≡ next_visit before url
-    pub visit : IsVisit after url loaded.visit date loader ((Created, None) ∷ statuses_of loaded.end)
+  pub record EndsVisit (a : Attempt) (before after : List Event) (loaded : Loaded) : Type 0 where
+    pub number : loaded.visit ≡ next_visit before a.origin
+    pub visit : IsVisit after a loaded.visit ((Created, None) ∷ statuses_of loaded.end)
     pub end : IsInputEnd (replay after).bodies loaded.end
 
-  abbrev pub IsOutcome : List ℕ → ℕ → List Event → List Event → Result Loaded LoadFault → Type 0
-  IsOutcome url date before after (Ok loaded) = EndsVisit url date before after loaded
-  IsOutcome url date before after (Err fault) = StopsVisit url date before after fault
+  -- how the load ended
+  abbrev pub IsOutcome : Attempt → List Event → List Event → Result Loaded LoadFault → Type 0
+  IsOutcome a before after (Ok loaded) = EndsVisit a before after loaded
+  IsOutcome a before after (Err fault) = StopsVisit a before after fault

@@ -1,16 +1,13 @@
 -- The jobs that a run is asked to load.
-use Rattle.std.specs.Prelude.{◌≡◌, ◌++◌, ℕ, Option, Some, None, List, codes, decimal}
+use Rattle.std.specs.Prelude.{◌≡◌, ◌⊎◌, ◌++◌, ℕ, Some, None, List, codes, decimal}
 use Rattle.swh_jobs.specs.Job.{Job}
 use Rattle.swh_jobs.specs.JobFile.{IsJobFile, IsFault}
 use Rattle.swh_jobs.specs.declared.fault.JobWhy.{JobWhy}
 use Rattle.swh_jobs.specs.declared.fault.JobWhy.TheVariants.{Form, Origin, Limit}
 use Rattle.swh_program.specs.Refusal.{refusal}
+use Rattle.swh_program.specs.Seen.{FileAt}
 use Rattle.swh_program.specs.declared.answer.Answer.{Answer}
 use Rattle.swh_program.specs.declared.answer.Answer.TheVariants.{NoJobFile, BadJob, OutsideSource, Memory}
-
--- what stands at each path
-abbrev pub FileAt : Type 0
-FileAt = List ℕ → Option (List ℕ)
 
 -- The file at the path is a job file of these jobs.
 pub record AreJobsAt (file_at : FileAt) (path : List ℕ) (jobs : List Job) : Type 0 where
@@ -24,6 +21,15 @@ pub record IsBadAt (file_at : FileAt) (path : List ℕ) (line : ℕ) (why : JobW
   pub there : file_at path ≡ Some bytes
   pub fault : IsFault bytes line why
 
+-- The file at the path is a job file.
+abbrev pub HasJobs : FileAt → List ℕ → Type 0
+HasJobs file_at path = (jobs : List Job) × AreJobsAt file_at path jobs
+
+-- There is no file at the path, or it has a line that breaks.
+abbrev pub HasNoJobs : FileAt → List ℕ → Type 0
+HasNoJobs file_at path = (file_at path ≡ None) ⊎ ((line : ℕ) × (why : JobWhy) × IsBadAt file_at path line why)
+
+-- the word for why a line breaks
 abbrev pub why_word : JobWhy → List ℕ
 why_word Form = codes "form"
 why_word Origin = codes "origin"

@@ -46,6 +46,11 @@ module _ (id_of : Kind → List ℕ → List ℕ) where
     pub made : IsMade (files 0).seen
     pub none : (h : List Event) → IsArchive files h → ⊥
 
+  -- The archive is not made, or damaged.
+  abbrev pub IsUnusable : Files → Type 0
+  IsUnusable files = IsNotMade (files 0).seen ⊎ IsDamaged files
+
+  -- how an opening that is refused leaves the files
   abbrev pub OpenEnds : Files → Files → Answer → Type 0
   OpenEnds old new NotMade = IsNotMade (old 0).seen × IsOnlyOpened old new
   OpenEnds old new Damaged = IsDamaged old × IsOnlyOpened old new

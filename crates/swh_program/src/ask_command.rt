@@ -3,7 +3,7 @@ ghost use Rattle.std.specs.Prelude.{◌≡◌, ◌≢◌, ◌⊎◌, ◌≤◌, 
 ghost use Rattle.swh_outside.specs.Faults.{Rose};
 ghost use Rattle.swh_api.specs.Text.{text_of};
 ghost use Rattle.swh_program.specs.Archives.{archive_at, SameElsewhere};
-ghost use Rattle.swh_program.specs.Ask.{reply_line, TellsArchive, IsToldArchive, IsAskAnswer, AskEnds};
+ghost use Rattle.swh_program.specs.AskCommand.{reply_line, TellsArchive, IsToldArchive, IsAskAnswer, AskEnds};
 ghost use Rattle.swh_keeper.specs.Advance.{archive_of};
 ghost use Rattle.swh_program.specs.declared.answer.Ending.TheVariants.{Wanting};
 ghost use Rattle.swh_program.specs.declared.answer.Answer.TheVariants.{OutsideDisk};
@@ -75,7 +75,8 @@ fn ending_with(ending: Ending, status: u16) -> Ending
 
 // The replies to the paths, in their order.
 fn replies<W: AsStr>(alloc: Global, replayed: &Replayed, paths: &[W]) -> Result<Told, Memory>
-    ensures { IfOk result (λ told. TellsArchive (archive_of replayed.now) (map W.text paths.now) told.text told.ending) }
+    ensures { IfOk result (λ told.
+        TellsArchive (archive_of replayed.now) (map W.text paths.now) told.text told.ending) }
 {
     let shown = Shown { replayed };
     let mut text = Vec::new(alloc);
@@ -110,7 +111,8 @@ pub fn ask<N: Namer, P: Depot, W: AsStr>(
     paths: &[W],
 ) -> Answer
     ensures one_of { IsAskAnswer result }
-    ensures ends { P.tells → AskEnds N.id_of (map W.text paths.now) (archive_at (P.files depot.old) dir.now) (archive_at (P.files depot.new) dir.now) result }
+    ensures ends { P.tells → AskEnds N.id_of (map W.text paths.now) (archive_at (P.files depot.old) dir.now)
+        (archive_at (P.files depot.new) dir.now) result }
     ensures elsewhere { P.tells → SameElsewhere dir.now (P.files depot.old) (P.files depot.new) }
     ensures later { P.faults depot.old ≤ P.faults depot.new }
     ensures cause { result ≡ OutsideDisk → Rose (P.faults depot.old) (P.faults depot.new) }

@@ -15,11 +15,13 @@ pub struct ArchiveFiles<D: Disk> {
 
 /// Opens the ledger, and then the store; where the store fails, the ledger is given back.
 pub fn open_files<P: Depot>(depot: &mut P, dir: &str) -> Result<ArchiveFiles<P::D>, OutFault>
-    ensures given { P.tells → IfOk result (λ files. files_of (P.D.file files.ledger) (P.D.file files.store) ≡ archive_at (P.files depot.old) dir.now) }
+    ensures given { P.tells → IfOk result (λ files. files_of (P.D.file files.ledger) (P.D.file files.store)
+        ≡ archive_at (P.files depot.old) dir.now) }
     ensures disks_tell { P.tells → P.D.tells }
     ensures store_count { IfOk result (λ files. P.D.faults files.store ≡ 0) }
     ensures ledger_count { IfOk result (λ files. P.D.faults files.ledger ≡ 0) }
-    ensures refused { P.tells → OnErr result (archive_at (P.files depot.new) dir.now ≡ archive_at (P.files depot.old) dir.now) }
+    ensures refused { P.tells → OnErr result
+        (archive_at (P.files depot.new) dir.now ≡ archive_at (P.files depot.old) dir.now) }
     ensures others { P.tells → SameElsewhere dir.now (P.files depot.old) (P.files depot.new) }
     ensures store_place { OnOk result (P.has_place depot.new dir.now 1) }
     ensures ledger_place { OnOk result (P.has_place depot.new dir.now 0) }
@@ -39,7 +41,8 @@ pub fn open_files<P: Depot>(depot: &mut P, dir: &str) -> Result<ArchiveFiles<P::
 pub fn close_files<P: Depot>(depot: &mut P, dir: &str, files: ArchiveFiles<P::D>)
     requires store_place { P.has_place depot.old dir.now 1 }
     requires ledger_place { P.has_place depot.old dir.now 0 }
-    ensures taken { P.tells → archive_at (P.files depot.new) dir.now ≡ files_of (P.D.file files.ledger) (P.D.file files.store) }
+    ensures taken { P.tells → archive_at (P.files depot.new) dir.now
+        ≡ files_of (P.D.file files.ledger) (P.D.file files.store) }
     ensures others { P.tells → SameElsewhere dir.now (P.files depot.old) (P.files depot.new) }
     ensures later { P.faults depot.old ≤ P.faults depot.new }
     ensures store_cause { 0 < P.D.faults files.store → Rose (P.faults depot.old) (P.faults depot.new) }

@@ -5,7 +5,7 @@ ghost use Rattle.swh_fastlex.specs.declared.fault.SourceFault.TheVariants.{Faile
 ghost use Rattle.swh_program.specs.Refusal.{refusal};
 ghost use Rattle.swh_base.specs.declared.kind.Kind.TheVariants.{Directory};
 ghost use Rattle.swh_outside.specs.Faults.{Rose};
-ghost use Rattle.swh_program.specs.Identify.{name_of, name_line, bad_line, TellsLine, IsBody, IsIdentifyAnswer, IdentifyEnds};
+ghost use Rattle.swh_program.specs.IdentifyCommand.{name_of, name_line, bad_line, TellsLine, IsBody, IsIdentifyAnswer, IdentifyEnds};
 ghost use Rattle.swh_program.specs.Run.{IsQuiet};
 ghost use Rattle.swh_program.specs.declared.answer.Ending.TheVariants as ending;
 ghost use Rattle.swh_program.specs.declared.answer.Answer.TheVariants.{OutsideSource};
@@ -133,7 +133,8 @@ pub fn identify<N: Namer, O: Origins>(
     ensures cause { result ≡ OutsideSource → Rose (O.faults desk.old) (O.faults desk.new) }
 
     // A body of its kind is named, unless memory runs out, where the desk did not fail.
-    ensures complete { (bytes : List ℕ) → O.tells → O.file_at desk.old path.now ≡ Some bytes → IsBody kind bytes → IsQuiet (O.faults desk.old) (O.faults desk.new)
+    ensures complete { (bytes : List ℕ) → O.tells → O.file_at desk.old path.now ≡ Some bytes → IsBody kind bytes
+        → IsQuiet (O.faults desk.old) (O.faults desk.new)
         → TellsLine (name_line (name_of N.id_of kind bytes)) ending.Done result }
 {
     let mut source = match desk.file(path) {

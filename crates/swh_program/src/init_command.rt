@@ -2,7 +2,7 @@
 ghost use Rattle.std.specs.Prelude.{◌≡◌, ◌≤◌};
 ghost use Rattle.swh_outside.specs.Faults.{Rose};
 ghost use Rattle.swh_program.specs.Archives.{archive_at, SameElsewhere};
-ghost use Rattle.swh_program.specs.Init.{InitEnds, IsInitAnswer};
+ghost use Rattle.swh_program.specs.InitCommand.{InitEnds, IsInitAnswer};
 ghost use Rattle.swh_program.specs.declared.answer.Answer.TheVariants.{OutsideDisk};
 
 use crate::Answer;
@@ -13,7 +13,8 @@ use swh_segment::{MakeFault, make};
 /// Makes an archive in a folder.
 pub fn init<P: Depot>(depot: &mut P, dir: &str) -> Answer
     ensures one_of { IsInitAnswer result }
-    ensures ends { P.tells → InitEnds (archive_at (P.files depot.old) dir.now) (archive_at (P.files depot.new) dir.now) result }
+    ensures ends { P.tells → InitEnds (archive_at (P.files depot.old) dir.now)
+        (archive_at (P.files depot.new) dir.now) result }
     ensures elsewhere { P.tells → SameElsewhere dir.now (P.files depot.old) (P.files depot.new) }
     ensures later { P.faults depot.old ≤ P.faults depot.new }
     ensures cause { result ≡ OutsideDisk → Rose (P.faults depot.old) (P.faults depot.new) }

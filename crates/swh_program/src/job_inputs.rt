@@ -1,8 +1,10 @@
 // The inputs of jobs, opened and given back.
 ghost use Rattle.std.specs.Prelude.{◌≡◌, ◌≤◌, ◌+◌, ℕ, List, IfOk, IfErr, map};
 ghost use Rattle.swh_outside.specs.Faults.{Rose};
+ghost use Rattle.swh_outside.specs.Views.{sources};
 ghost use Rattle.swh_jobs.specs.Answers.{job_of, jobs_of};
 ghost use Rattle.swh_program.specs.Dated.{AreSaid, IsOpenedAt, IsOpenedJob, AreOpenedJobs, IsGivenBack, AreGivenBack};
+ghost use Rattle.swh_program.specs.Inputs.{inputs};
 ghost use Rattle.swh_program.specs.Loading.{IsUnstarted};
 ghost use Rattle.swh_program.specs.declared.answer.Answer.TheVariants.{OutsideClock, Memory as OutOfMemory};
 
@@ -18,7 +20,8 @@ use swh_pool::DatedJob;
 fn give_back<O: Origins>(origins: &mut O, stream: Opened<O::S>)
     ensures later { O.faults origins.old ≤ O.faults origins.new }
     ensures path_later { (p : List ℕ) → O.path_faults origins.old p ≤ O.path_faults origins.new p }
-    ensures back { IsGivenBack O.S.faults O.S.path (O.path_faults origins.old) (O.path_faults origins.new) stream }
+    ensures back { IsGivenBack (sources O.S.tells O.S.left O.S.faults O.S.path) (O.path_faults origins.old)
+        (O.path_faults origins.new) stream }
 {
     match stream {
         Opened::Found(source) => origins.back(source),
@@ -30,7 +33,8 @@ fn give_back<O: Origins>(origins: &mut O, stream: Opened<O::S>)
 pub fn give_all_back<O: Origins>(origins: &mut O, mut jobs: Vec<DatedJob<O::S>>)
     ensures later { O.faults origins.old ≤ O.faults origins.new }
     ensures path_later { (p : List ℕ) → O.path_faults origins.old p ≤ O.path_faults origins.new p }
-    ensures back { AreGivenBack O.S.faults O.S.path (O.path_faults origins.old) (O.path_faults origins.new) jobs.items }
+    ensures back { AreGivenBack (sources O.S.tells O.S.left O.S.faults O.S.path) (O.path_faults origins.old)
+        (O.path_faults origins.new) jobs.items }
 {
     'jobs: while let Some(dated) = jobs.pop() {
         let DatedJob { job, date: _ } = dated;
@@ -46,7 +50,9 @@ pub fn give_all_back<O: Origins>(origins: &mut O, mut jobs: Vec<DatedJob<O::S>>)
 
 // Opens the input at a path.
 fn open_input<O: Origins>(origins: &mut O, path: &str) -> Result<Opened<O::S>, Answer>
-    ensures opened { IfOk result (λ stream. IsOpenedAt O.tells O.S.tells O.S.left O.S.faults O.S.path (O.file_at origins.old) (O.path_faults origins.old) (O.path_faults origins.new) path.now stream) }
+    ensures opened { IfOk result (λ stream. IsOpenedAt (sources O.S.tells O.S.left O.S.faults O.S.path)
+        (inputs O.tells (O.file_at origins.old) (O.path_faults origins.old)
+        (O.path_faults origins.new)) path.now stream) }
     ensures err { IfErr result (λ answer. answer ≡ OutOfMemory) }
     ensures same_files { O.tells → (p : List ℕ) → O.file_at origins.new p ≡ O.file_at origins.old p }
     ensures later { O.faults origins.old ≤ O.faults origins.new }
@@ -64,11 +70,14 @@ fn open_job<O: Origins, C: Clock>(
     clock: &mut C,
     line: JobLine,
 ) -> Result<DatedJob<O::S>, Answer>
-    ensures opened { IfOk result (IsOpenedJob O.tells O.S.tells O.S.left O.S.faults O.S.path (O.file_at origins.old) (O.path_faults origins.old) (O.path_faults origins.new) (job_of line)) }
+    ensures opened { IfOk result (IsOpenedJob (sources O.S.tells O.S.left O.S.faults O.S.path)
+        (inputs O.tells (O.file_at origins.old) (O.path_faults origins.old) (O.path_faults origins.new))
+        (job_of line)) }
     ensures date { C.tells → IfOk result (λ opened. opened.date ≡ C.time clock.old 0) }
     ensures next { C.tells → (k : ℕ) → C.time clock.new k ≡ C.time clock.old (k + 1) }
     ensures err { IfErr result IsUnstarted }
-    ensures clock_cause { IfErr result (λ answer. answer ≡ OutsideClock → Rose (C.faults clock.old) (C.faults clock.new)) }
+    ensures clock_cause { IfErr result (λ answer. answer ≡ OutsideClock
+        → Rose (C.faults clock.old) (C.faults clock.new)) }
     ensures clock_later { C.faults clock.old ≤ C.faults clock.new }
     ensures same_files { O.tells → (p : List ℕ) → O.file_at origins.new p ≡ O.file_at origins.old p }
     ensures later { O.faults origins.old ≤ O.faults origins.new }
@@ -99,10 +108,13 @@ pub fn open_inputs<O: Origins, C: Clock>(
     clock: &mut C,
     lines: Vec<JobLine>,
 ) -> Result<Vec<DatedJob<O::S>>, Answer>
-    ensures opened { IfOk result (λ jobs. AreOpenedJobs O.tells O.S.tells O.S.left O.S.faults O.S.path (O.file_at origins.old) (O.path_faults origins.old) (O.path_faults origins.new) (jobs_of lines.items) jobs.items) }
+    ensures opened { IfOk result (λ jobs. AreOpenedJobs (sources O.S.tells O.S.left O.S.faults O.S.path)
+        (inputs O.tells (O.file_at origins.old) (O.path_faults origins.old) (O.path_faults origins.new))
+        (jobs_of lines.items) jobs.items) }
     ensures said { C.tells → IfOk result (λ jobs. AreSaid (C.time clock.old) (map (λ j. j.date) jobs.items)) }
     ensures err { IfErr result IsUnstarted }
-    ensures clock_cause { IfErr result (λ answer. answer ≡ OutsideClock → Rose (C.faults clock.old) (C.faults clock.new)) }
+    ensures clock_cause { IfErr result (λ answer. answer ≡ OutsideClock
+        → Rose (C.faults clock.old) (C.faults clock.new)) }
     ensures clock_later { C.faults clock.old ≤ C.faults clock.new }
     ensures later { O.faults origins.old ≤ O.faults origins.new }
     ensures path_later { (p : List ℕ) → O.path_faults origins.old p ≤ O.path_faults origins.new p }

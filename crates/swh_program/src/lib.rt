@@ -1,6 +1,7 @@
 //! The program: reads its words, does what they say with the parts of the outside, and prints what came of it.
 //! Stands on all other crates.
-//! `swharc` may rely on: the clauses of `run`, which are the archive theorem for the commands that stand.
+//! `swharc` may rely on: the clauses of `run`, which are the archive theorem for the commands that stand; what each
+//! command does is a record of its own (`Does` in specs/Commands.antt names them).
 #![tactic(auto)]
 
 mod answer;
@@ -22,7 +23,6 @@ pub use files::{ArchiveFiles, close_files, open_files};
 pub use identify_command::identify;
 pub use init_command::init;
 pub use job_reading::read_jobs;
-pub use load_command::load;
 pub use opening::{close_archive, open_archive};
-pub use outside::Outside;
+pub use outside::{Outside, Shown};
 pub use top::run;

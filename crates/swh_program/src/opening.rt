@@ -39,16 +39,20 @@ pub fn open_archive<N: Namer, P: Depot>(
     dir: &str,
 ) -> Result<Keeper<N, P::D>, Answer>
     ensures disks_tell { P.tells → P.D.tells }
-    ensures archive { P.tells → IfOk result (λ keeper. IsArchive N.id_of (archive_at (P.files depot.old) dir.now) keeper.history) }
-    ensures no_other { P.tells → IfOk result (λ keeper. (h : List Event) → IsArchive N.id_of (archive_at (P.files depot.old) dir.now) h → keeper.history ≡ h) }
+    ensures archive { P.tells → IfOk result (λ keeper.
+        IsArchive N.id_of (archive_at (P.files depot.old) dir.now) keeper.history) }
+    ensures no_other { P.tells → IfOk result (λ keeper. (h : List Event)
+        → IsArchive N.id_of (archive_at (P.files depot.old) dir.now) h → keeper.history ≡ h) }
     ensures made { P.tells → OnOk result (IsMade (archive_at (P.files depot.old) dir.now 0).seen) }
-    ensures opened { P.tells → IfOk result (λ keeper. files_of (P.D.file keeper.ledger) (P.D.file keeper.store) ≡ files_done barriers (archive_at (P.files depot.old) dir.now)) }
+    ensures opened { P.tells → IfOk result (λ keeper. files_of (P.D.file keeper.ledger) (P.D.file keeper.store)
+        ≡ files_done barriers (archive_at (P.files depot.old) dir.now)) }
     ensures unwounded { IfOk result (λ keeper. keeper.wounded ≡ None) }
     ensures store_place { OnOk result (P.has_place depot.new dir.now 1) }
     ensures ledger_place { OnOk result (P.has_place depot.new dir.now 0) }
 
     ensures one_of { IfErr result (λ answer. IsOpenRefusal answer) }
-    ensures ends { P.tells → IfErr result (OpenEnds N.id_of (archive_at (P.files depot.old) dir.now) (archive_at (P.files depot.new) dir.now)) }
+    ensures ends { P.tells → IfErr result
+        (OpenEnds N.id_of (archive_at (P.files depot.old) dir.now) (archive_at (P.files depot.new) dir.now)) }
     ensures others { P.tells → SameElsewhere dir.now (P.files depot.old) (P.files depot.new) }
     ensures later { P.faults depot.old ≤ P.faults depot.new }
     ensures cause { IfErr result (λ answer. answer ≡ OutsideDisk → Rose (P.faults depot.old) (P.faults depot.new)) }
@@ -74,7 +78,8 @@ pub fn open_archive<N: Namer, P: Depot>(
 pub fn close_archive<N: Namer, P: Depot>(depot: &mut P, dir: &str, keeper: Keeper<N, P::D>)
     requires store_place { P.has_place depot.old dir.now 1 }
     requires ledger_place { P.has_place depot.old dir.now 0 }
-    ensures taken { P.tells → archive_at (P.files depot.new) dir.now ≡ files_of (P.D.file keeper.ledger) (P.D.file keeper.store) }
+    ensures taken { P.tells → archive_at (P.files depot.new) dir.now
+        ≡ files_of (P.D.file keeper.ledger) (P.D.file keeper.store) }
     ensures kept { IsKept N.id_of P.D.tells P.D.file keeper }
     ensures others { P.tells → SameElsewhere dir.now (P.files depot.old) (P.files depot.new) }
     ensures later { P.faults depot.old ≤ P.faults depot.new }

@@ -3,7 +3,7 @@ use Rattle.std.proofs.lemmas.List.{take_more, map-append}
 use Rattle.swh_api.specs.Text.{text_of}
 use Rattle.swh_keeper.specs.Advance.{archive_of}
 use Rattle.swh_model.specs.Answer.{IsReply}
-use Rattle.swh_program.specs.Ask.{TellsArchive}
+use Rattle.swh_program.specs.AskCommand.{TellsArchive}
 use Rattle.swh_program.proofs.Replies.{told_more}
 use Rattle.swh_program.proofs.ask_command.replies.Goals as goal
 

@@ -1,6 +1,6 @@
 use Rattle.std.proofs.Common.{map, take}
 use Rattle.swh_keeper.specs.Advance.{archive_of}
-use Rattle.swh_program.specs.Ask.{TellsArchive}
+use Rattle.swh_program.specs.AskCommand.{TellsArchive}
 use Rattle.swh_program.proofs.ask_command.replies.Given as goal
 
 abbrev pub invariant-loop-path : goal.invariant-loop-path

@@ -1,4 +1,5 @@
 use Rattle.std.proofs.Common.{◌+◌, length, ap, ◌∙◌, arith}
+use Rattle.swh_outside.specs.Views.{sources}
 use Rattle.swh_program.proofs.Openings.{opened_next, dates_next, times_next}
 use Rattle.swh_program.proofs.job_inputs.open_inputs.Goals as goal
 
@@ -12,7 +13,7 @@ lines-preserved g c =
     let after = g.O.Origins.path_faults c.open_job.new.origins in
     record {
       room = (let r = i.room in let n = c.push_reserved.ensures.len in let k = c.push_reserved.ensures.capacity in let l = ap length c.in-Some.ensures.items in omega (arith, r, n, k, l));
-      so_far = rw items (opened_next g.O.Origins.tells g.O.S.Source.tells g.O.S.Source.left g.O.S.Source.faults g.O.S.Source.path (g.O.Origins.file_at c.args.origins.now) (g.O.Origins.file_at c.lines.origins) before now after
+      so_far = rw items (opened_next (sources g.O.S.Source.tells g.O.S.Source.left g.O.S.Source.faults g.O.S.Source.path) g.O.Origins.tells (g.O.Origins.file_at c.args.origins.now) (g.O.Origins.file_at c.lines.origins) before now after
           c.args.lines.items c.lines.left.items c.pop_front.new.self.items c.in-Some.line c.lines.opened.items c.in-Ok-open_job.job i.same_files i.path_later o.path_later c.in-Some.ensures.items i.so_far o.opened);
       said = λ t. rw items (dates_next (g.C.Clock.time c.args.clock.now) c.lines.opened.items c.in-Ok-open_job.job (i.said t) (o.date t ∙ i.next t 0));
       next = λ t k. rw items (o.next t k ∙ i.next t (k + 1) ∙ times_next (g.C.Clock.time c.args.clock.now) c.lines.opened.items c.in-Ok-open_job.job k);

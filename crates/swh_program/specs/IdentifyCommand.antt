@@ -1,15 +1,16 @@
--- How `identify` ends.
-use Rattle.std.specs.Prelude.{◌≡◌, ◌⊎◌, ℕ, ◌<◌, ◌≤◌, Option, Some, None, IsSomeAnd, List, [], ◌∷◌, ◌++◌, length, codes, decimal}
+-- What `identify` does.
+use Rattle.std.specs.Prelude.{◌≡◌, ◌≢◌, ◌⊎◌, ℕ, ◌<◌, ◌≤◌, Option, Some, None, IsSomeAnd, List, [], ◌∷◌, ◌++◌, length, codes, decimal}
 use Rattle.swh_base.specs.declared.kind.Kind.{Kind}
 use Rattle.swh_base.specs.declared.name.Name.{Name}
 use Rattle.swh_base.specs.Limits.{body_limit}
 use Rattle.swh_base.specs.Manifest.{IsWellFormed}
 use Rattle.swh_object.specs.Object.{IsBadBody}
-use Rattle.swh_outside.specs.Faults.{Rose}
 use Rattle.swh_swhid.specs.Core.{core_text}
+use Rattle.swh_program.specs.Seen.{Span, DeskFailed, SinkFailed}
+use Rattle.swh_program.specs.LeftAlone.{IsOnDesk}
 use Rattle.swh_program.specs.Refusal.{refusal}
-use Rattle.swh_program.specs.Jobs.{FileAt}
-use Rattle.swh_base.specs.Kind.{kind_letters}
+use Rattle.swh_program.specs.Run.{IsExactly, Ends, IsPrintedWith}
+use Rattle.swh_words.specs.Words.{kind_letters}
 use Rattle.swh_program.specs.declared.answer.Ending.{Ending}
 use Rattle.swh_program.specs.declared.answer.Ending.TheVariants as ending
 use Rattle.swh_program.specs.declared.answer.Answer.{Answer}
@@ -87,8 +88,22 @@ module _ (id_of : Kind → List ℕ → List ℕ) (kind : Kind) where
   IdentifyEnds found Memory = Unit {0}
   IdentifyEnds found _ = ⊥
 
-  -- This answer came of `identify`, by what stands at each path of the desk.
-  pub record Identifies (tells : Type 0) (file_at : FileAt) (path : List ℕ) (faults_before faults_now : ℕ) (answer : Answer) : Type 0 where
-    pub one_of : IsIdentifyAnswer answer
-    pub ends : tells → IdentifyEnds (file_at path) answer
-    pub cause : answer ≡ OutsideSource → Rose faults_before faults_now
+-- This answer came of `identify`, by what stands at each path of the desk.
+pub record Identifies (kind : Kind) (path : List ℕ) (s : Span) (answer : Answer) : Type 0 where
+  pub one_of : IsIdentifyAnswer s.id_of kind answer
+  pub ends : s.told.origins → IdentifyEnds s.id_of kind (s.old.desk.file_at path) answer
+  pub cause : answer ≡ OutsideSource → DeskFailed s
+  pub left : IsOnDesk s
+
+-- What a run of `identify` does.
+pub record DoesIdentify (kind : Kind) (path : List ℕ) (s : Span) (status : ℕ) : Type 0 where
+  pub ends : Ends (Identifies kind path s) s status
+  -- It refuses no job, and needs no archive.
+  pub not_refused : status ≢ 2
+  pub no_archive : status ≢ 3
+  -- 1: no body of the kind stands at the path.
+  pub no_body : s.told.origins → IsExactly 1 (HasNoBody kind (s.old.desk.file_at path)) status
+  -- The name of a file that is a body of the kind is printed, unless memory runs out, where no part of the outside
+  -- failed.
+  pub complete : (bytes : List ℕ) → s.told.origins → s.old.desk.file_at path ≡ Some bytes → IsBody kind bytes
+      → (DeskFailed s → ⊥) → (SinkFailed s → ⊥) → IsPrintedWith (name_line (name_of s.id_of kind bytes)) 0 s status

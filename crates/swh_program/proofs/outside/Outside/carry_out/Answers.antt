@@ -1,0 +1,27 @@
+use Rattle.std.proofs.Common.{rules, ◌≡◌, ℕ, List, Bor, sym, ◌∙◌, ap, map, refl}
+use Rattle.swh_words.specs.Commands.{wanted_by}
+use Rattle.swh_words.specs.Words.{ToInit, ToAsk}
+use Rattle.swh_program.proofs.Does.{came}
+use Rattle.swh_program.proofs.Ends.{safe}
+use Rattle.swh_program.proofs.outside.Outside.carry_out.Goals as goal
+
+pub returns-in-Init-clause-comes : goal.returns-in-Init-clause-comes
+returns-in-Init-clause-comes g c =
+    let i = c.init.ensures in
+    came (ToInit c.in-Init.dir.now) _ _ _ (ap wanted_by (sym c.in-Init.is))
+    (record {
+      one_of = i.one_of;
+      ends = i.ends;
+      elsewhere = i.elsewhere;
+      crash = λ told. safe _ _ _ (i.ends told);
+      cause = i.cause;
+      left = record { desk = refl; origins = refl; clock = refl };
+    })
+
+pub returns-in-Ask-clause-comes : goal.returns-in-Ask-clause-comes
+returns-in-Ask-clause-comes g c =
+    let a = c.ask.ensures in
+    let slice : c.as_slice.result.now ≡ c.in-Ask.paths.items = search rules in
+    came (ToAsk c.in-Ask.dir.now (map (λ path. path.now) c.as_slice.result.now)) _ _ _
+    (ap (λ (l : List (Bor (List ℕ))). ToAsk c.in-Ask.dir.now (map (λ path. path.now) l)) slice ∙ ap wanted_by (sym c.in-Ask.is))
+    (record { one_of = a.one_of; ends = a.ends; elsewhere = a.elsewhere; cause = a.cause; left = record { desk = refl; origins = refl; clock = refl } })
