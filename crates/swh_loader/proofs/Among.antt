@@ -3,10 +3,12 @@ use Rattle.std.proofs.Common.{◌≡◌, List, [], ◌∷◌, ◌++◌, Contains
 use Rattle.std.specs.List.{AllByRecursion}
 use Rattle.std.proofs.lemmas.List.Elements.{Contains-append_left, Contains-append_right}
 use Rattle.swh_base.specs.declared.entry.Entry.{Entry}
+use Rattle.swh_model.proofs.Entries.{all-append}
 use Rattle.swh_loader.specs.Adding.{AreAmong}
-use Rattle.swh_loader.proofs.Limiting.{at_element, all-append}
+use Rattle.swh_loader.proofs.Limiting.{at_element}
 
-all_as : {X : Type 0} (P Q : X → Type 0) → ((x : X) → P x → Q x) → (xs : List X) → AllByRecursion P xs → AllByRecursion Q xs
+-- where all that holds of an element holds of it otherwise too
+pub all_as : {X : Type 0} (P Q : X → Type 0) → ((x : X) → P x → Q x) → (xs : List X) → AllByRecursion P xs → AllByRecursion Q xs
 all_as P Q f [] h = tt
 all_as P Q f (x ∷ xs) h = (f x h.0, all_as P Q f xs h.1)
 

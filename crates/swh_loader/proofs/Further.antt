@@ -1,7 +1,6 @@
 -- What a load leaves, step by step.
 use Rattle.std.proofs.Common.{◌≡◌, inl, inr, ℕ, ◌≤◌, None, Result, Ok, Err, List, [], ◌∷◌, ◌++◌, sym, ap, ◌∙◌, arith, append_assoc}
 use Rattle.std.specs.Prelude.{IfErr}
-use Rattle.std.specs.List.{AllByRecursion}
 use Rattle.std.proofs.lemmas.List.{append-nil}
 use Rattle.std.proofs.lemmas.Option.{none-some}
 use Rattle.swh_base.specs.declared.kind.Kind.{Kind}
@@ -12,19 +11,13 @@ use Rattle.swh_model.specs.declared.event.Outcome.{Outcome}
 use Rattle.swh_model.specs.declared.event.EventKind.{EventKind}
 use Rattle.swh_model.specs.Step.{replay}
 use Rattle.swh_model.specs.Judge.{event_of}
+use Rattle.swh_model.proofs.Entries.{all-append}
 use Rattle.swh_keeper.specs.Kept.{Kept, Applies}
 use Rattle.swh_loader.specs.declared.fault.LoadWhy.{LoadWhy}
 use Rattle.swh_loader.specs.declared.fault.LoadWhy.TheVariants as why
 use Rattle.swh_loader.specs.Adding.{IsEvent, Adds}
 use Rattle.swh_loader.specs.Stopping.{StopsFor}
-
-all_as : {X : Type 0} (P Q : X → Type 0) → ((x : X) → P x → Q x) → (xs : List X) → AllByRecursion P xs → AllByRecursion Q xs
-all_as P Q f [] h = tt
-all_as P Q f (x ∷ xs) h = (f x h.0, all_as P Q f xs h.1)
-
-all_append : {X : Type 0} (P : X → Type 0) (xs ys : List X) → AllByRecursion P xs → AllByRecursion P ys → AllByRecursion P (xs ++ ys)
-all_append P [] ys h k = k
-all_append P (x ∷ xs) ys h k = (h.0, all_append P xs ys h.1 k)
+use Rattle.swh_loader.proofs.Among.{all_as}
 
 -- nothing was added
 pub adds_none : {D : Type 0} (faults : D → ℕ) (P : Event → Type 0) (old new : Kept D) → new.history ≡ old.history → faults old.store ≤ faults new.store → faults old.ledger ≤ faults new.ledger → Adds faults P old new
@@ -41,7 +34,7 @@ pub adds_further : {D : Type 0} (faults : D → ℕ) (P : Event → Type 0) (a b
 adds_further faults P a b c h k = record {
   more = h.more ++ k.more;
   behind = k.behind ∙ ap (λ (t : List Event). t ++ k.more) h.behind ∙ append_assoc a.history h.more k.more;
-  each = all_append P h.more k.more h.each k.each;
+  each = all-append P h.more k.more h.each k.each;
   store_later = let x = h.store_later in let y = k.store_later in omega (arith, x, y);
   ledger_later = let x = h.ledger_later in let y = k.ledger_later in omega (arith, x, y);
 }
@@ -68,10 +61,7 @@ stops_further id faults P Q a b c why.Wounded old mid h s = absurd (none-some s.
 stops_further id faults P Q a b c (why.Limit which number) old mid h s = record { before_it = old; unwounded = s.unwounded; event = s.event; tried = s.tried; may = s.may; passes = s.passes }
 stops_further id faults P Q a b c why.Memory old mid h s = s ∙ mid ∙ sym old
 
--- a step's events and its stop, as parts of a load's
-pub step_adds : {D : Type 0} (faults : D → ℕ) (P Q : Event → Type 0) (a b c : Kept D) → ((e : Event) → P e → Q e) → Adds faults Q a b → Adds faults P b c → Adds faults Q a c
-step_adds faults P Q a b c f h k = adds_further faults Q a b c h (adds_as faults P Q b c f k)
-
+-- why a step stops, as a part of a load
 pub step_stops : {D T : Type 0} (id : Kind → List ℕ → List ℕ) (faults : D → ℕ) (P Q : Event → Type 0) (a b c : Kept D) (r : Result T LoadWhy) → ((e : Event) → P e → Q e) → a.wounded ≡ None → b.wounded ≡ None → Adds faults Q a b → IfErr r (StopsFor id faults P b c) → IfErr r (StopsFor id faults Q a c)
 step_stops id faults P Q a b c (Ok t) f old mid h s = tt
 step_stops id faults P Q a b c (Err stop) f old mid h s = stops_further id faults Q Q a b c stop old mid h (stops_as id faults P Q b c stop f s)

@@ -9,6 +9,7 @@ use Rattle.swh_outside.specs.Views.{Disks, Sources}
 use Rattle.swh_model.specs.declared.event.Event.{Event}
 use Rattle.swh_model.specs.Archive.{Bodies}
 use Rattle.swh_model.specs.Meaning.{IsMeaning}
+use Rattle.swh_model.proofs.Entries.{all-append}
 use Rattle.swh_keeper.specs.Kept.{Kept}
 use Rattle.swh_fastload.specs.declared.load.Objects.{Objects}
 use Rattle.swh_fastload.specs.Loaded.{making_of}
@@ -27,7 +28,6 @@ use Rattle.swh_loader.specs.declared.fault.LoadWhy.{LoadWhy}
 use Rattle.swh_loader.proofs.CallLaws.{of_as, calls_at, of_further}
 use Rattle.swh_loader.proofs.Closes.{whole_good}
 use Rattle.swh_loader.proofs.Further.{stops_further}
-use Rattle.swh_loader.proofs.Limiting.{all-append}
 
 -- the objects that were made are meant
 pub means_made : {N : Type 0} (id : Kind → List ℕ → List ℕ) (head : Option (List ℕ)) (text : List ℕ) (made : Objects N) → IsWhole id made → IsMeaning id head text (making_of made) → MeansObjects id head text made.objects.items made.snapshot

@@ -14,6 +14,7 @@ use Rattle.swh_model.specs.Archive.{Bodies, body_of}
 use Rattle.swh_model.specs.Limits.{objects_limit, bytes_limit, bytes_before_last, IsWithinLimits}
 use Rattle.swh_model.specs.Step.{AreNew, added}
 use Rattle.swh_model.specs.Judge.{first_long, BatchPasses, HasBody, Collides}
+use Rattle.swh_model.proofs.Entries.{all-append}
 use Rattle.swh_model.proofs.Maps.{body-put, within-added}
 
 -- what holds of each holds of one of them
@@ -58,15 +59,8 @@ bytes-push : (es : List Entry) (f : Entry) → bytes_before_last (es ++ f ∷ []
 bytes-push [] f = refl
 bytes-push (e ∷ es) f = bytes-more e f es ∙ ap (λ (n : ℕ). length e.body + n) (bytes-push es f) ∙ sym (sum_by-cons (λ (x : Entry). length x.body) e es)
 
-pub all-append : {X : Type 0} (P : X → Type 0) (xs ys : List X) → AllByRecursion P xs → AllByRecursion P ys → AllByRecursion P (xs ++ ys)
-all-append P [] ys h k = k
-all-append P (x ∷ xs) ys h k = (h.0, all-append P xs ys h.1 k)
-
 length-push : (es : List Entry) (e : Entry) → length (es ++ e ∷ []) ≡ length es + 1
 length-push es e = length-append es (e ∷ [])
-
-pub limits_none : (es : List Entry) → es ≡ [] → IsWithinLimits es
-limits_none es e = subst IsWithinLimits (sym e) (record { bodies = tt; objects = omega arith; bytes = omega arith })
 
 -- one entry more
 pub limits_more : (es : List Entry) (e : Entry) (bytes : ℕ) → IsWithinLimits es → bytes ≡ sum_by (λ x. length x.body) es → length es < objects_limit → bytes ≤ bytes_limit → length e.body ≤ body_limit → IsWithinLimits (es ++ e ∷ [])

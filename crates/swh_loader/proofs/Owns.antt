@@ -1,14 +1,17 @@
 -- A load's own events, and its visit while it is open.
-use Rattle.std.proofs.Common.{◌≡◌, ℕ, Option, List, [], ◌∷◌, ◌++◌, refl, sym, subst}
-use Rattle.std.proofs.lemmas.List.{append-nil}
+use Rattle.std.proofs.Common.{◌≡◌, ℕ, Option, None, List, [], ◌∷◌, ◌++◌, refl, sym, subst, arith}
 use Rattle.swh_base.specs.declared.entry.Entry.{Entry}
 use Rattle.swh_base.specs.declared.visit.Status.{Status}
+use Rattle.swh_base.specs.declared.visit.Status.TheVariants.{Created}
 use Rattle.swh_model.specs.declared.event.Event.{Event}
 use Rattle.swh_model.specs.declared.event.EventKind.{EventKind}
 use Rattle.swh_model.specs.declared.event.EventKind.TheVariants.{Batch, Open, Mark}
-use Rattle.swh_model.specs.Step.{IsFinal, FitsStatus, MayMark, Statuses, last_status, replay}
-use Rattle.swh_loader.specs.Adding.{Attempt, marking, IsEvent, AreAmong, IsBatchOf, IsBatchAmong, IsNoBatch, IsOwnKind, IsOwn}
-use Rattle.swh_loader.specs.Visiting.{IsOpen, IsMarked, visit_with}
+use Rattle.swh_model.specs.Step.{FitsStatus, MayMark, replay}
+use Rattle.swh_loader.specs.declared.end.End.{End}
+use Rattle.swh_loader.specs.declared.end.End.TheVariants.{Full, NotFound, Failed}
+use Rattle.swh_loader.specs.Adding.{Attempt, marking, IsEvent, AreAmong, IsBatchOf, IsBatchAmong, IsOwnKind, IsOwn}
+use Rattle.swh_loader.specs.Ending.{before_end, last_of, statuses_of}
+use Rattle.swh_loader.specs.Visiting.{IsVisit, IsOpen, created, ongoing, visit_with}
 
 -- a mark
 pub own_mark : (A : List Entry → Type 0) (a : Attempt) (number : ℕ) (status : Status) (snapshot : Option (List ℕ)) (e : Event) → IsEvent (marking a number status snapshot) e → IsOwn A a number e
@@ -30,29 +33,23 @@ kind_as A B origin number f (Mark other visit status snapshot) h = h
 pub own_as : (A B : List Entry → Type 0) (a : Attempt) (number : ℕ) → ((entries : List Entry) → A entries → B entries) → (e : Event) → IsOwn A a number e → IsOwn B a number e
 own_as A B a number f e h = record { by_one = h.by_one; kind = kind_as A B a.origin number f e.what h.kind }
 
-pub own_any : (A : List Entry → Type 0) (a : Attempt) (number : ℕ) (e : Event) → IsOwn IsNoBatch a number e → IsOwn A a number e
-own_any A a number e h = own_as IsNoBatch A a number (λ entries none. absurd none) e h
+-- a visit that was created, or goes on, is open
+pub created_open : (h : List Event) (a : Attempt) (number : ℕ) → IsVisit h a number created → IsOpen h a number
+created_open h a number v = record { statuses = created; visit = v; unended = λ final. final; few = omega arith }
 
--- the last status of a visit that was marked
-last-push : (ss : Statuses) (status : Status) (snapshot : Option (List ℕ)) → last_status (ss ++ (status, snapshot) ∷ []) ≡ status
-last-push [] status snapshot = refl
-last-push (x ∷ []) status snapshot = refl
-last-push (x ∷ y ∷ ss) status snapshot = last-push (y ∷ ss) status snapshot
+pub ongoing_open : (h : List Event) (a : Attempt) (number : ℕ) → IsVisit h a number ongoing → IsOpen h a number
+ongoing_open h a number v = record { statuses = ongoing; visit = v; unended = λ final. final; few = omega arith }
 
--- a visit that goes on is open
-pub open_marked : (h h' : List Event) (a : Attempt) (number : ℕ) (status : Status) (snapshot : Option (List ℕ)) → (IsFinal status → ⊥) → IsOpen h a number → IsMarked h h' a number ((status, snapshot) ∷ []) → IsOpen h' a number
-open_marked h h' a number status snapshot on o m = record {
-  statuses = o.statuses ++ (status, snapshot) ∷ [];
-  visit = m o.statuses o.visit;
-  unended = λ final. on (subst IsFinal (last-push o.statuses status snapshot) final);
-}
+pub ending_open : (h : List Event) (a : Attempt) (number : ℕ) (end : End) → IsVisit h a number (before_end end) → IsOpen h a number
+ending_open h a number (Full snapshot) v = ongoing_open h a number v
+ending_open h a number NotFound v = created_open h a number v
+ending_open h a number (Failed bad) v = ongoing_open h a number v
 
-pub open_still : (h h' : List Event) (a : Attempt) (number : ℕ) → IsOpen h a number → IsMarked h h' a number [] → IsOpen h' a number
-open_still h h' a number o m = record {
-  statuses = o.statuses ++ [];
-  visit = m o.statuses o.visit;
-  unended = λ final. o.unended (subst (λ (ss : Statuses). IsFinal (last_status ss)) (append-nil o.statuses) final);
-}
+-- its statuses, and then the last
+pub all_statuses : (end : End) → before_end end ++ last_of end ≡ (Created, None) ∷ statuses_of end
+all_statuses (Full snapshot) = refl
+all_statuses NotFound = refl
+all_statuses (Failed bad) = refl
 
 -- what is open may be marked with a status that fits
 pub open_may : (h : List Event) (a : Attempt) (number : ℕ) (status : Status) (snapshot : Option (List ℕ)) → IsOpen h a number → FitsStatus (replay h).bodies status snapshot → MayMark (replay h) a.by a.origin number status snapshot

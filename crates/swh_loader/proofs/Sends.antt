@@ -24,7 +24,7 @@ use Rattle.swh_loader.specs.declared.pending.Pending.{Pending}
 use Rattle.swh_loader.specs.Visiting.{IsVisit, GoesOn}
 use Rattle.swh_loader.specs.declared.sending.Taken.TheVariants.{Waits}
 use Rattle.swh_loader.specs.Adding.{AreAmong}
-use Rattle.swh_loader.specs.Sending.{HasRoom, IsTaken, IsWaiting, AllHeld, SameVisits, bodies_of, to_be, IsCollision}
+use Rattle.swh_loader.specs.Sending.{HasRoom, IsTaken, IsWaiting, AllHeld, SameVisits, bodies_of, to_be}
 use Rattle.swh_loader.proofs.Steps.{applied}
 use Rattle.swh_loader.proofs.Limiting.{limits_more, counted_more}
 use Rattle.swh_loader.proofs.Among.{among_front, among_push}
@@ -113,18 +113,6 @@ took_more a b all left next e t cut w h = record {
   done = t.done ++ e ∷ [];
   cut = t.cut ∙ ap (λ (x : List Entry). t.done ++ x) cut ∙ sym (append_assoc t.done (e ∷ []) next);
   held = all_more a b t.done e w t.held h;
-}
-
-pub collides : (bodies : Bodies) (a : Bodies) (all left next : List Entry) (e : Entry) (name : Name) (body : List ℕ) → Took a all left → left ≡ (e ∷ []) ++ next → name ≡ e.name → body_of bodies e.name ≡ Some body → body ≢ e.body → IsCollision bodies all name
-collides bodies a all left next e name body t cut n held differs = record {
-  front = t.done;
-  entry = e;
-  back = next;
-  among = t.cut ∙ ap (λ (x : List Entry). t.done ++ x) cut;
-  named = n;
-  other = body;
-  held = ap (body_of bodies) n ∙ held;
-  differs = differs;
 }
 
 -- what became of an object that is held

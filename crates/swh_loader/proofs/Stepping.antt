@@ -4,7 +4,6 @@ use Rattle.std.specs.Prelude.{IfOk, IfErr, OnOk, OnErr}
 use Rattle.swh_base.specs.declared.kind.Kind.{Kind}
 use Rattle.swh_base.specs.declared.entry.Entry.{Entry}
 use Rattle.swh_base.specs.declared.visit.Status.{Status}
-use Rattle.swh_base.specs.declared.visit.Status.TheVariants.{Ongoing}
 use Rattle.swh_base.specs.declared.visit.Which.{Which}
 use Rattle.swh_segment.specs.Makes.{EitherRose}
 use Rattle.swh_outside.specs.Views.{Disks}
@@ -12,30 +11,26 @@ use Rattle.swh_model.specs.declared.event.Event.{Event}
 use Rattle.swh_model.specs.declared.event.EventKind.{EventKind}
 use Rattle.swh_model.specs.declared.event.Outcome.{Outcome}
 use Rattle.swh_model.specs.declared.event.No.TheVariants.{Limit}
-use Rattle.swh_model.specs.Archive.{Bodies}
 use Rattle.swh_model.specs.Judge.{FilePasses, IsCause, event_of}
 use Rattle.swh_model.specs.Step.{May, Statuses, replay}
 use Rattle.swh_keeper.specs.Kept.{Kept, Applies, Refuses}
 use Rattle.swh_keeper.specs.Keeping.{IsCarriedOut, IsBrokenOff}
 use Rattle.swh_keeper.specs.declared.fault.Refusal.{Refusal}
 use Rattle.swh_keeper.specs.declared.fault.Refusal.TheVariants.{DiskFault}
-use Rattle.swh_fastload.specs.declared.load.Objects.{Objects}
-use Rattle.swh_loader.specs.declared.end.BadInput.{BadInput}
-use Rattle.swh_loader.specs.declared.end.End.TheVariants.{Full, NotFound, Failed}
 use Rattle.swh_loader.specs.declared.fault.LoadWhy.TheVariants.{Memory}
 use Rattle.swh_loader.specs.declared.end.End.{End}
 use Rattle.swh_loader.specs.declared.fault.LoadWhy.{LoadWhy}
 use Rattle.swh_loader.specs.declared.visiting.OpenVisit.{OpenVisit}
-use Rattle.swh_loader.specs.Adding.{Attempt, marking, AreAmong, IsEvent, IsBatchOf, IsBatchAmong, IsOwn}
+use Rattle.swh_loader.specs.Adding.{Attempt, marking, AreAmong, IsEvent, IsBatchOf, IsBatchAmong, IsNoBatch, IsOwn}
 use Rattle.swh_loader.specs.Calls.{kept_files}
-use Rattle.swh_loader.specs.Ending.{IsSentEnd, last_of, statuses_of}
+use Rattle.swh_loader.specs.Ending.{before_end, last_of, statuses_of}
 use Rattle.swh_loader.specs.Steps.{Leaves, LeavesVisit}
 use Rattle.swh_loader.specs.Stopping.{IsWhyOf, StopsFor}
 use Rattle.swh_loader.specs.Visiting.{IsVisit, IsOpen, GoesOn, IsMarked, attempt_of}
 use Rattle.swh_loader.proofs.CallLaws.{calls_none, calls_one, calls_refused, calls_as, step_calls}
 use Rattle.swh_loader.proofs.Further.{adds_none, adds_one, adds_as, adds_further, stops_as, step_stops}
 use Rattle.swh_loader.proofs.Opens.{refused_same}
-use Rattle.swh_loader.proofs.Owns.{own_mark, own_as, batch_among}
+use Rattle.swh_loader.proofs.Owns.{own_mark, own_batch, own_as, batch_among, all_statuses}
 use Rattle.swh_loader.proofs.Refusals.{stops_at}
 use Rattle.swh_loader.proofs.Sends.{stays, goes_further}
 use Rattle.swh_loader.proofs.Steps.{goes_on}
@@ -43,35 +38,6 @@ use Rattle.swh_loader.proofs.Steps.{goes_on}
 on_further : {D T E : Type 0} (r : Result T E) (a b c : Kept D) → GoesOn a b → OnOk r (GoesOn b c) → OnOk r (GoesOn a c)
 on_further (Ok t) a b c h k = goes_further a b c h k
 on_further (Err e) a b c h k = tt
-
-marked_further : (h h' h'' : List Event) (a : Attempt) (number : ℕ) (more next : Statuses) → IsMarked h h' a number more → IsMarked h' h'' a number next → IsMarked h h'' a number (more ++ next)
-marked_further h h' h'' a number more next first second statuses v =
-    subst (IsVisit h'' a number) (append_assoc statuses more next) (second (statuses ++ more) (first statuses v))
-
--- the marks of an end after some more
-marks_further : (h h' h'' : List Event) (a : Attempt) (number : ℕ) (more : Statuses) (marks all : End → Statuses) (r : Result End LoadWhy) → IsMarked h h' a number more
-    → IfOk r (λ end. more ++ marks end ≡ all end) → IfOk r (λ end. IsMarked h' h'' a number (marks end)) → IfOk r (λ end. IsMarked h h'' a number (all end))
-marks_further h h' h'' a number more marks all (Ok end) first same second = subst (IsMarked h h'' a number) same (marked_further h h' h'' a number more (marks end) first second)
-marks_further h h' h'' a number more marks all (Err why) first same second = tt
-
--- the marks of ends, after the first mark
-pub absent_marks : (r : Result End LoadWhy) → IfOk r (λ x. x ≡ NotFound) → IfOk r (λ x. last_of x ≡ statuses_of x)
-absent_marks (Ok x) is = ap last_of is ∙ sym (ap statuses_of is)
-absent_marks (Err why) is = tt
-
-pub failed_marks : (bad : BadInput) (r : Result End LoadWhy) → IfOk r (λ x. x ≡ Failed bad) → IfOk r (λ x. (Ongoing, None) ∷ last_of x ≡ statuses_of x)
-failed_marks bad (Ok x) is = ap (λ (e : End). (Ongoing, None) ∷ last_of e) is ∙ sym (ap statuses_of is)
-failed_marks bad (Err why) is = tt
-
-pub sent_marks : {N : Type 0} (bodies : Bodies) (made : Objects N) (r : Result End LoadWhy) → IfOk r (IsSentEnd bodies made) → IfOk r (λ x. (Ongoing, None) ∷ last_of x ≡ statuses_of x)
-sent_marks bodies made (Ok (Full snapshot)) s = refl
-sent_marks bodies made (Ok NotFound) s = absurd s
-sent_marks bodies made (Ok (Failed bad)) s = refl
-sent_marks bodies made (Err why) s = tt
-
-pub same_marks : (r : Result End LoadWhy) → IfOk r (λ x. [] ++ last_of x ≡ last_of x)
-same_marks (Ok x) = refl
-same_marks (Err why) = tt
 
 module _ {D : Type 0} (id : Kind → List ℕ → List ℕ) (disks : Disks D) where
   stops_where : {T : Type 0} (P Q : Event → Type 0) (old new : Kept D) (r : Result T LoadWhy) → ((e : Event) → P e → Q e) → IfErr r (StopsFor id disks.faults P old new) → IfErr r (StopsFor id disks.faults Q old new)
@@ -149,80 +115,81 @@ module _ {D : Type 0} (id : Kind → List ℕ → List ℕ) (disks : Disks D) wh
   }
 
   -- where more batches are allowed
-  pub visit_as : (A B : List Entry → Type 0) (marks : End → Statuses) (visit : OpenVisit) (old new : Kept D) (r : Result End LoadWhy) → ((entries : List Entry) → A entries → B entries) → LeavesVisit id disks A marks visit old new r → LeavesVisit id disks B marks visit old new r
-  visit_as A B marks visit old new r f l = record {
+  pub visit_as : (A B : List Entry → Type 0) (visit : OpenVisit) (old new : Kept D) (r : Result End LoadWhy) → ((entries : List Entry) → A entries → B entries) → LeavesVisit id disks A visit old new r → LeavesVisit id disks B visit old new r
+  visit_as A B visit old new r f l = record {
     leaves = leaves_as (IsOwn A (attempt_of visit) visit.number) (IsOwn B (attempt_of visit) visit.number) old new r (own_as A B (attempt_of visit) visit.number f) l.leaves;
-    marked = l.marked;
+    ended = l.ended;
     unended = l.unended;
   }
 
   -- what stops, as the result of what it is a step of
-  pub visit_err : (A : List Entry → Type 0) (marks : End → Statuses) (visit : OpenVisit) (old new : Kept D) (why : LoadWhy) (r : Result End LoadWhy) → r ≡ Err why → LeavesVisit id disks A marks visit old new (Err why) → LeavesVisit id disks A marks visit old new r
-  visit_err A marks visit old new why r is l = subst (LeavesVisit id disks A marks visit old new) (sym is) l
+  pub visit_err : (A : List Entry → Type 0) (visit : OpenVisit) (old new : Kept D) (why : LoadWhy) (r : Result End LoadWhy) → r ≡ Err why → LeavesVisit id disks A visit old new (Err why) → LeavesVisit id disks A visit old new r
+  visit_err A visit old new why r is l = subst (LeavesVisit id disks A visit old new) (sym is) l
 
   -- a step of a visit that stops
-  pub visit_stopped : {T : Type 0} (A : List Entry → Type 0) (marks : End → Statuses) (visit : OpenVisit) (old new : Kept D) (why : LoadWhy) (r : Result End LoadWhy) → r ≡ Err why
-      → Leaves id disks {T = T} (IsOwn A (attempt_of visit) visit.number) old new (Err why) → IsOpen new.history (attempt_of visit) visit.number → LeavesVisit id disks A marks visit old new r
-  visit_stopped {T} A marks visit old new why r is l still = subst (LeavesVisit id disks A marks visit old new) (sym is) (record {
+  visit_stopped : {T : Type 0} (A : List Entry → Type 0) (visit : OpenVisit) (old new : Kept D) (why : LoadWhy) (r : Result End LoadWhy) → r ≡ Err why
+      → Leaves id disks {T = T} (IsOwn A (attempt_of visit) visit.number) old new (Err why) → IsOpen new.history (attempt_of visit) visit.number → LeavesVisit id disks A visit old new r
+  visit_stopped {T} A visit old new why r is l still = visit_err A visit old new why r is (record {
     leaves = leaves_err {T = T} (IsOwn A (attempt_of visit) visit.number) old new why (Err why) refl l;
-    marked = tt;
+    ended = tt;
     unended = still;
   })
 
   -- a step of a visit that does nothing, for want of memory
-  pub visit_same : (A : List Entry → Type 0) (marks : End → Statuses) (visit : OpenVisit) (k : Kept D) → IsOpen k.history (attempt_of visit) visit.number → LeavesVisit id disks A marks visit k k (Err Memory)
-  visit_same A marks visit k still = record { leaves = leaves_same (IsOwn A (attempt_of visit) visit.number) k; marked = tt; unended = still }
+  pub visit_same : (A : List Entry → Type 0) (visit : OpenVisit) (k : Kept D) → IsOpen k.history (attempt_of visit) visit.number → LeavesVisit id disks A visit k k (Err Memory)
+  visit_same A visit k still = record { leaves = leaves_same (IsOwn A (attempt_of visit) visit.number) k; ended = tt; unended = still }
+
+  -- a mark is one of a visit's own events
+  mark_own : {T : Type 0} (A : List Entry → Type 0) (visit : OpenVisit) (status : Status) (snapshot : Option (List ℕ)) (old new : Kept D) (r : Result T LoadWhy)
+      → Leaves id disks (IsEvent (marking (attempt_of visit) visit.number status snapshot)) old new r → Leaves id disks (IsOwn A (attempt_of visit) visit.number) old new r
+  mark_own A visit status snapshot old new r l = leaves_as (IsEvent (marking (attempt_of visit) visit.number status snapshot)) (IsOwn A (attempt_of visit) visit.number) old new r (own_mark A (attempt_of visit) visit.number status snapshot) l
 
   -- a mark, and then memory is wanting
-  pub visit_memory : {T : Type 0} (A : List Entry → Type 0) (marks : End → Statuses) (visit : OpenVisit) (status : Status) (old new : Kept D) (t : T) (r : Result End LoadWhy) → r ≡ Err Memory → old.wounded ≡ None
-      → Leaves id disks {T = T} (IsEvent (marking (attempt_of visit) visit.number status None)) old new (Ok t) → IsOpen new.history (attempt_of visit) visit.number → LeavesVisit id disks A marks visit old new r
-  visit_memory {T} A marks visit status old new t r is begun l still =
-      visit_stopped {T = T} A marks visit old new Memory r is
-      (leaves_memory {T = T} {U = T} (IsOwn A (attempt_of visit) visit.number) old new t (Err Memory) refl begun
-      (leaves_as (IsEvent (marking (attempt_of visit) visit.number status None)) (IsOwn A (attempt_of visit) visit.number) old new (Ok t) (own_mark A (attempt_of visit) visit.number status None) l))
-      still
+  pub visit_memory : {T : Type 0} (A : List Entry → Type 0) (visit : OpenVisit) (status : Status) (old new : Kept D) (t : T) (r : Result End LoadWhy) → r ≡ Err Memory → old.wounded ≡ None
+      → Leaves id disks {T = T} (IsEvent (marking (attempt_of visit) visit.number status None)) old new (Ok t) → IsOpen new.history (attempt_of visit) visit.number → LeavesVisit id disks A visit old new r
+  visit_memory {T} A visit status old new t r is begun l still =
+      visit_stopped {T = T} A visit old new Memory r is
+      (leaves_memory {T = T} {U = T} (IsOwn A (attempt_of visit) visit.number) old new t (Err Memory) refl begun (mark_own A visit status None old new (Ok t) l)) still
 
   -- a mark that is not made
-  pub unmarked : {T : Type 0} (A : List Entry → Type 0) (marks : End → Statuses) (visit : OpenVisit) (status : Status) (snapshot : Option (List ℕ)) (old new : Kept D) (why : LoadWhy) (r : Result End LoadWhy) → r ≡ Err why
-      → Leaves id disks {T = T} (IsEvent (marking (attempt_of visit) visit.number status snapshot)) old new (Err why) → IsOpen old.history (attempt_of visit) visit.number → new.history ≡ old.history → LeavesVisit id disks A marks visit old new r
-  unmarked {T} A marks visit status snapshot old new why r is l still same =
-      visit_stopped {T = T} A marks visit old new why r is
-      (leaves_as (IsEvent (marking (attempt_of visit) visit.number status snapshot)) (IsOwn A (attempt_of visit) visit.number) old new (Err why) (own_mark A (attempt_of visit) visit.number status snapshot) l)
-      (subst (λ (h : List Event). IsOpen h (attempt_of visit) visit.number) (sym same) still)
+  pub unmarked : {T : Type 0} (A : List Entry → Type 0) (visit : OpenVisit) (status : Status) (snapshot : Option (List ℕ)) (old new : Kept D) (why : LoadWhy) (r : Result End LoadWhy) → r ≡ Err why
+      → Leaves id disks {T = T} (IsEvent (marking (attempt_of visit) visit.number status snapshot)) old new (Err why) → IsOpen old.history (attempt_of visit) visit.number → new.history ≡ old.history → LeavesVisit id disks A visit old new r
+  unmarked {T} A visit status snapshot old new why r is l still same =
+      visit_stopped {T = T} A visit old new why r is (mark_own A visit status snapshot old new (Err why) l) (subst (λ (h : List Event). IsOpen h (attempt_of visit) visit.number) (sym same) still)
 
   -- the last mark
-  pub ended : {T : Type 0} (visit : OpenVisit) (status : Status) (snapshot : Option (List ℕ)) (old new : Kept D) (t : T) (end : End) (A : List Entry → Type 0) → last_of end ≡ (status, snapshot) ∷ []
-      → Leaves id disks {T = T} (IsEvent (marking (attempt_of visit) visit.number status snapshot)) old new (Ok t) → IsMarked old.history new.history (attempt_of visit) visit.number ((status, snapshot) ∷ []) → LeavesVisit id disks A last_of visit old new (Ok end)
-  ended {T} visit status snapshot old new t end A last l marked = record {
-    leaves = leaves_ok {T = T} (IsOwn A (attempt_of visit) visit.number) old new t end
-        (leaves_as (IsEvent (marking (attempt_of visit) visit.number status snapshot)) (IsOwn A (attempt_of visit) visit.number) old new (Ok t) (own_mark A (attempt_of visit) visit.number status snapshot) l);
-    marked = subst (IsMarked old.history new.history (attempt_of visit) visit.number) (sym last) marked;
+  pub marked_last : {T : Type 0} (A : List Entry → Type 0) (visit : OpenVisit) (status : Status) (snapshot : Option (List ℕ)) (old new : Kept D) (t : T) (end : End) → IsVisit old.history (attempt_of visit) visit.number (before_end end) → last_of end ≡ (status, snapshot) ∷ []
+      → Leaves id disks {T = T} (IsEvent (marking (attempt_of visit) visit.number status snapshot)) old new (Ok t) → IsMarked old.history new.history (attempt_of visit) visit.number ((status, snapshot) ∷ []) → LeavesVisit id disks A visit old new (Ok end)
+  marked_last {T} A visit status snapshot old new t end v last l marked = record {
+    leaves = leaves_ok {T = T} (IsOwn A (attempt_of visit) visit.number) old new t end (mark_own A visit status snapshot old new (Ok t) l);
+    ended = subst (IsVisit new.history (attempt_of visit) visit.number) (ap (λ (more : Statuses). before_end end ++ more) (sym last) ∙ all_statuses end) (marked (before_end end) v);
     unended = tt;
   }
 
-  -- the same marks in other words
-  pub marks_as : (A : List Entry → Type 0) (marks all : End → Statuses) (visit : OpenVisit) (old new : Kept D) (r : Result End LoadWhy) → IfOk r (λ end. marks end ≡ all end) → LeavesVisit id disks A marks visit old new r → LeavesVisit id disks A all visit old new r
-  marks_as A marks all visit old new (Ok end) same l = record { leaves = l.leaves; marked = subst (IsMarked old.history new.history (attempt_of visit) visit.number) same l.marked; unended = tt }
-  marks_as A marks all visit old new (Err why) same l = record { leaves = l.leaves; marked = tt; unended = l.unended }
-
   -- a step of a visit, and then what ends it
-  pub visit_further : {T : Type 0} (A : List Entry → Type 0) (more : Statuses) (marks all : End → Statuses) (visit : OpenVisit) (a b c : Kept D) (t : T) (r : Result End LoadWhy) → a.wounded ≡ None
-      → Leaves id disks {T = T} (IsOwn A (attempt_of visit) visit.number) a b (Ok t) → IsMarked a.history b.history (attempt_of visit) visit.number more → IfOk r (λ end. more ++ marks end ≡ all end)
-      → LeavesVisit id disks A marks visit b c r → LeavesVisit id disks A all visit a c r
-  visit_further {T} A more marks all visit a b c t r begun first marked same l = record {
-    leaves = leaves_further {T = T} (IsOwn A (attempt_of visit) visit.number) a b c t r begun first l.leaves;
-    marked = marks_further a.history b.history c.history (attempt_of visit) visit.number more marks all r marked same l.marked;
-    unended = l.unended;
-  }
+  visit_further : {T : Type 0} (A : List Entry → Type 0) (visit : OpenVisit) (a b c : Kept D) (t : T) (r : Result End LoadWhy) → a.wounded ≡ None
+      → Leaves id disks {T = T} (IsOwn A (attempt_of visit) visit.number) a b (Ok t) → LeavesVisit id disks A visit b c r → LeavesVisit id disks A visit a c r
+  visit_further {T} A visit a b c t r begun first l = record { leaves = leaves_further {T = T} (IsOwn A (attempt_of visit) visit.number) a b c t r begun first l.leaves; ended = l.ended; unended = l.unended }
 
   -- a mark, and then what ends its visit
-  pub marked_further_on : {T : Type 0} (A : List Entry → Type 0) (status : Status) (marks all : End → Statuses) (visit : OpenVisit) (a b c : Kept D) (t : T) (r : Result End LoadWhy) → a.wounded ≡ None
-      → Leaves id disks {T = T} (IsEvent (marking (attempt_of visit) visit.number status None)) a b (Ok t) → IsMarked a.history b.history (attempt_of visit) visit.number ((status, None) ∷ [])
-      → IfOk r (λ end. (status, None) ∷ marks end ≡ all end) → LeavesVisit id disks A marks visit b c r → LeavesVisit id disks A all visit a c r
-  marked_further_on {T} A status marks all visit a b c t r begun first marked same l =
-      visit_further {T = T} A ((status, None) ∷ []) marks all visit a b c t r begun
-      (leaves_as (IsEvent (marking (attempt_of visit) visit.number status None)) (IsOwn A (attempt_of visit) visit.number) a b (Ok t) (own_mark A (attempt_of visit) visit.number status None) first)
-      marked same l
+  pub marked_further : {T : Type 0} (A B : List Entry → Type 0) (visit : OpenVisit) (status : Status) (a b c : Kept D) (t : T) (r : Result End LoadWhy) → a.wounded ≡ None → ((entries : List Entry) → A entries → B entries)
+      → Leaves id disks {T = T} (IsEvent (marking (attempt_of visit) visit.number status None)) a b (Ok t) → LeavesVisit id disks A visit b c r → LeavesVisit id disks B visit a c r
+  marked_further {T} A B visit status a b c t r begun f first l = visit_further {T = T} B visit a b c t r begun (mark_own B visit status None a b (Ok t) first) (visit_as A B visit b c r f l)
+
+  -- batches of some objects are a visit's own events
+  sent_own : {T : Type 0} (objects : List Entry) (visit : OpenVisit) (old new : Kept D) (r : Result T LoadWhy) → Leaves id disks (IsBatchAmong visit.by objects) old new r → Leaves id disks (IsOwn (AreAmong objects) (attempt_of visit) visit.number) old new r
+  sent_own objects visit old new r l = leaves_as (IsBatchAmong visit.by objects) (IsOwn (AreAmong objects) (attempt_of visit) visit.number) old new r (own_batch (AreAmong objects) (attempt_of visit) visit.number objects (λ entries h. h)) l
+
+  -- objects that were not all sent
+  pub unsent : {T : Type 0} (objects : List Entry) (visit : OpenVisit) (old new : Kept D) (why : LoadWhy) (r : Result End LoadWhy) → r ≡ Err why
+      → Leaves id disks {T = T} (IsBatchAmong visit.by objects) old new (Err why) → IsOpen new.history (attempt_of visit) visit.number → LeavesVisit id disks (AreAmong objects) visit old new r
+  unsent {T} objects visit old new why r is l still = visit_stopped {T = T} (AreAmong objects) visit old new why r is (sent_own objects visit old new (Err why) l) still
+
+  -- objects that were, and then what ends their visit
+  pub sent_ended : {T : Type 0} (objects : List Entry) (visit : OpenVisit) (a b c : Kept D) (t : T) (r : Result End LoadWhy) → a.wounded ≡ None
+      → Leaves id disks {T = T} (IsBatchAmong visit.by objects) a b (Ok t) → LeavesVisit id disks IsNoBatch visit b c r → LeavesVisit id disks (AreAmong objects) visit a c r
+  sent_ended {T} objects visit a b c t r begun first l =
+      visit_further {T = T} (AreAmong objects) visit a b c t r begun (sent_own objects visit a b (Ok t) first) (visit_as IsNoBatch (AreAmong objects) visit b c r (λ entries none. absurd none) l)
 
   -- a batch among a load's objects, after those before it
   pub sent_further : {T : Type 0} (by : ℕ) (objects entries : List Entry) (a b c : Kept D) (r : Result T LoadWhy) → AreAmong objects entries → a.wounded ≡ None

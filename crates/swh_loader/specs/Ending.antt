@@ -20,6 +20,7 @@ use Rattle.swh_loader.specs.declared.end.BadInput.TheVariants.{Stream, Collision
 use Rattle.swh_loader.specs.declared.end.End.{End}
 use Rattle.swh_loader.specs.declared.end.End.TheVariants.{Full, NotFound, Failed}
 use Rattle.swh_loader.specs.Sending.{AllHeld, IsCollision}
+use Rattle.swh_loader.specs.Visiting.{created, ongoing}
 
 -- the statuses of a visit behind its first
 abbrev pub statuses_of : End → Statuses
@@ -55,6 +56,12 @@ pub record Collided (id : Kind → List ℕ → List ℕ) (head : Option (List �
   pub snapshot : List ℕ
   pub means : MeansObjects id head text objects snapshot
   pub collision : IsCollision bodies objects name
+
+-- all of its statuses but the last
+abbrev pub before_end : End → Statuses
+before_end (Full snapshot) = ongoing
+before_end NotFound = created
+before_end (Failed bad) = ongoing
 
 -- the last of them
 abbrev pub last_of : End → Statuses

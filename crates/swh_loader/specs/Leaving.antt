@@ -1,8 +1,9 @@
 -- What a load of a job leaves, whatever it answers.
-use Rattle.std.specs.Prelude.{◌≡◌, ◌⊎◌, ℕ, ◌+◌, ◌≤◌, Result, Ok, Err, Option, List, [], ◌∷◌, ◌++◌, length}
+use Rattle.std.specs.Prelude.{◌≡◌, ◌⊎◌, ℕ, ◌+◌, ◌≤◌, Result, Ok, Err, Option, None, List, [], ◌∷◌, ◌++◌, length}
 use Rattle.std.specs.List.{AllByRecursion}
 use Rattle.swh_base.specs.declared.kind.Kind.{Kind}
 use Rattle.swh_base.specs.declared.entry.Entry.{Entry}
+use Rattle.swh_base.specs.declared.visit.Status.TheVariants.{Created}
 use Rattle.swh_outside.specs.Views.{Disks, Sources}
 use Rattle.swh_outside.specs.declared.fault.Opened.{Opened}
 use Rattle.swh_outside.specs.declared.fault.Opened.TheVariants.{Found, NotFound, Failed, Memory}
@@ -12,11 +13,12 @@ use Rattle.swh_model.specs.Step.{replay}
 use Rattle.swh_keeper.specs.Kept.{Kept}
 use Rattle.swh_loader.specs.declared.end.Loaded.{Loaded}
 use Rattle.swh_loader.specs.declared.fault.LoadFault.{LoadFault}
+use Rattle.swh_loader.specs.declared.job.Job.{Job}
 use Rattle.swh_loader.specs.Adding.{Attempt, opening, IsEvent, IsNoBatch, IsOwn}
 use Rattle.swh_loader.specs.Calls.{MakesCallsOf}
-use Rattle.swh_loader.specs.Ending.{AreMadeBy}
+use Rattle.swh_loader.specs.Ending.{AreMadeBy, statuses_of}
 use Rattle.swh_loader.specs.Stopping.{StopsUnchanged, StopsFor}
-use Rattle.swh_loader.specs.Visiting.{IsOpen}
+use Rattle.swh_loader.specs.Visiting.{IsVisit, IsOpen, GoesOn}
 
 -- The number of an origin's next visit.
 abbrev pub next_visit : List Event → List ℕ → ℕ
@@ -70,6 +72,18 @@ abbrev pub IsHeldBack : {D : Type 0} → Kept D → Kept D → Result Loaded Loa
 IsHeldBack old new (Ok loaded) = ⊥
 IsHeldBack old new (Err fault) = (fault.visit ≡ 0) × StopsUnchanged old new fault.why
 
+-- The load ended its visit, the next of its origin. Nothing that was held is lost, and no disk had failed.
+pub record EndsVisit {D : Type 0} (a : Attempt) (old new : Kept D) (loaded : Loaded) : Type 0 where
+  pub number : loaded.visit ≡ next_visit old.history a.origin
+  pub visit : IsVisit new.history a loaded.visit ((Created, None) ∷ statuses_of loaded.end)
+  pub on : GoesOn old new
+  pub before_it : old.wounded ≡ None
+
+-- No count of faults fell.
+pub record NoCountFell {D : Type 0} (disks : Disks D) (old new : Kept D) : Type 0 where
+  pub store : disks.faults old.store ≤ disks.faults new.store
+  pub ledger : disks.faults old.ledger ≤ disks.faults new.ledger
+
 -- A source's path is the same, and its count of faults did not fall.
 abbrev pub IsSameSource : {S : Type 0} → Sources S → S → S → Type 0
 IsSameSource sources s now = (sources.path now ≡ sources.path s) × (sources.faults s ≤ sources.faults now)
@@ -81,3 +95,9 @@ IsSameInput sources NotFound NotFound = Unit {0}
 IsSameInput sources Failed Failed = Unit {0}
 IsSameInput sources Memory Memory = Unit {0}
 IsSameInput sources _ _ = ⊥
+
+-- The job is as it was but for what was read of its input.
+pub record IsSameJob {S : Type 0} (sources : Sources S) (job now : Job S) : Type 0 where
+  pub origin : now.origin ≡ job.origin
+  pub head : now.head ≡ job.head
+  pub input : IsSameInput sources job.stream now.stream

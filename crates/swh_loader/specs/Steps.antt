@@ -5,21 +5,21 @@ use Rattle.swh_base.specs.declared.entry.Entry.{Entry}
 use Rattle.swh_base.specs.declared.visit.Status.TheVariants.{Created}
 use Rattle.swh_outside.specs.Views.{Disks}
 use Rattle.swh_model.specs.declared.event.Event.{Event}
-use Rattle.swh_model.specs.Step.{Statuses}
 use Rattle.swh_keeper.specs.Kept.{Kept}
 use Rattle.swh_loader.specs.declared.end.End.{End}
 use Rattle.swh_loader.specs.declared.fault.LoadWhy.{LoadWhy}
 use Rattle.swh_loader.specs.declared.visiting.OpenVisit.{OpenVisit}
 use Rattle.swh_loader.specs.Adding.{Attempt, opening, IsOwn, Adds}
 use Rattle.swh_loader.specs.Calls.{MakesCalls}
+use Rattle.swh_loader.specs.Ending.{statuses_of}
 use Rattle.swh_loader.specs.Leaving.{next_visit}
 use Rattle.swh_loader.specs.Stopping.{StopsUnchanged, StopsFor}
-use Rattle.swh_loader.specs.Visiting.{IsVisit, IsOpen, GoesOn, IsMarked, attempt_of}
+use Rattle.swh_loader.specs.Visiting.{IsVisit, IsOpen, GoesOn, attempt_of, created}
 
 -- The visit was opened, as the next of its origin.
 pub record IsOpened {D : Type 0} (a : Attempt) (old new : Kept D) (number : ℕ) : Type 0 where
   pub next : number ≡ next_visit old.history a.origin
-  pub visit : IsVisit new.history a number ((Created, None) ∷ [])
+  pub visit : IsVisit new.history a number created
   pub opened : new.history ≡ old.history ++ opening a ∷ []
   pub before_it : old.wounded ≡ None
 
@@ -36,8 +36,8 @@ module _ {D : Type 0} (id : Kind → List ℕ → List ℕ) (disks : Disks D) wh
     pub calls : disks.tells → MakesCalls id disks.file IsAdded old new
     pub stops : IfErr result (StopsFor id disks.faults IsAdded old new)
 
-  -- The visit's own events were added. It has the statuses of its end more, or the step stopped before its end.
-  pub record LeavesVisit (IsBatch : List Entry → Type 0) (marks : End → Statuses) (visit : OpenVisit) (old new : Kept D) (result : Result End LoadWhy) : Type 0 where
+  -- The visit's own events were added. It has the statuses of its end, or the step stopped before its end.
+  pub record LeavesVisit (IsBatch : List Entry → Type 0) (visit : OpenVisit) (old new : Kept D) (result : Result End LoadWhy) : Type 0 where
     pub leaves : Leaves (IsOwn IsBatch (attempt_of visit) visit.number) old new result
-    pub marked : IfOk result (λ end. IsMarked old.history new.history (attempt_of visit) visit.number (marks end))
+    pub ended : IfOk result (λ end. IsVisit new.history (attempt_of visit) visit.number ((Created, None) ∷ statuses_of end))
     pub unended : OnErr result (IsOpen new.history (attempt_of visit) visit.number)

@@ -1,5 +1,6 @@
 -- What a load knows of its visit, and what stays as it goes on.
-use Rattle.std.specs.Prelude.{◌≡◌, ℕ, ◌<◌, Some, None, List, ◌++◌}
+use Rattle.std.specs.Prelude.{◌≡◌, ℕ, ◌<◌, ◌≤◌, Some, None, List, [], ◌∷◌, ◌++◌, length}
+use Rattle.swh_base.specs.declared.visit.Status.TheVariants.{Created, Ongoing}
 use Rattle.swh_base.specs.declared.visit.VisitKind.TheVariants.{Fast}
 use Rattle.swh_model.specs.declared.event.Event.{Event}
 use Rattle.swh_model.specs.declared.event.Visit.{Visit}
@@ -23,11 +24,19 @@ pub record IsVisit (h : List Event) (a : Attempt) (number : ℕ) (statuses : Sta
   pub positive : 0 < number
   pub there : visit_at (visits_of (replay h).origins a.origin) number ≡ Some (visit_with a number statuses)
 
--- The visit is there, was opened so, and has not ended.
+-- the statuses of a visit that was created, and of one that goes on
+abbrev pub created : Statuses
+created = (Created, None) ∷ []
+
+abbrev pub ongoing : Statuses
+ongoing = (Created, None) ∷ (Ongoing, None) ∷ []
+
+-- The visit is there, was opened so, and has not ended: it has two statuses at most.
 pub record IsOpen (h : List Event) (a : Attempt) (number : ℕ) : Type 0 where
   pub statuses : Statuses
   pub visit : IsVisit h a number statuses
   pub unended : IsFinal (last_status statuses) → ⊥
+  pub few : length statuses ≤ 2
 
 -- Events were added, and all that was held is.
 pub record GoesOn {D : Type 0} (old new : Kept D) : Type 0 where

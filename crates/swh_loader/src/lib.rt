@@ -1,6 +1,6 @@
 //! Loads the input of an origin into an archive, as one visit.
 //! Stands on the keeper and the readers of inputs.
-//! Callers may rely on: how a load ends, that the visit of a load that stopped has no end, and the line that reports it.
+//! Callers may rely on: how a load ends, that a visit whose load stopped has no end, and the line that reports it.
 #![tactic(auto)]
 
 mod end;

@@ -1,8 +1,7 @@
 // One load: an input read, made, sent, and its visit ended.
-ghost use Rattle.std.specs.Prelude.{◌≡◌, ◌≤◌, ◌∷◌, [], Some, None, ℕ, IfOk, IfErr, IfSome, OnOk};
+ghost use Rattle.std.specs.Prelude.{◌≡◌, ◌∷◌, [], Some, None, ℕ, IfOk, IfErr, IfSome};
 ghost use Rattle.std.specs.Option.{option_copied};
 ghost use Rattle.swh_base.specs.Text.{IsRef};
-ghost use Rattle.swh_base.specs.declared.visit.Status.TheVariants.{Created};
 ghost use Rattle.swh_outside.specs.Views.{disks, sources};
 ghost use Rattle.swh_model.specs.Archive.{IsClosed};
 ghost use Rattle.swh_model.specs.Step.{snapshot_name, FitsStatus};
@@ -10,13 +9,15 @@ ghost use Rattle.swh_fastload.specs.Whole.{IsWhole};
 ghost use Rattle.swh_loader.specs.declared.fault.LoadWhy.TheVariants.{Memory as OutOfMemory};
 ghost use Rattle.swh_loader.specs.declared.end.StreamWhy.TheVariants.{LeftOut};
 ghost use Rattle.swh_loader.specs.declared.end.BadInput.TheVariants.{Stream as BadStream, Read as BadRead};
-ghost use Rattle.swh_loader.specs.declared.end.End.TheVariants.{Full as EndFull, NotFound as EndNotFound, Failed as EndFailed};
+ghost use Rattle.swh_loader.specs.declared.end.End.TheVariants.{Full as EndFull, NotFound as EndNotFound};
+ghost use Rattle.swh_loader.specs.declared.end.End.TheVariants.{Failed as EndFailed};
 ghost use Rattle.swh_loader.specs.Adding.{AreAmong, IsNoBatch, attempt};
-ghost use Rattle.swh_loader.specs.Visiting.{IsVisit, IsOpen, GoesOn, attempt_of};
+ghost use Rattle.swh_loader.specs.Visiting.{IsVisit, attempt_of, created, ongoing};
 ghost use Rattle.swh_loader.specs.Sending.{bodies_of};
-ghost use Rattle.swh_loader.specs.Ending.{AreMadeBy, IsSentEnd, IsEndOf, IsJobEnd, last_of, statuses_of};
+ghost use Rattle.swh_loader.specs.Ending.{AreMadeBy, IsSentEnd, IsEndOf, IsJobEnd, before_end, last_of};
 ghost use Rattle.swh_loader.specs.Reading.{IsRead, IsWholeInput};
-ghost use Rattle.swh_loader.specs.Leaving.{AreAllowed, AddsVisit, MakesVisitCalls, Stops, IsHeldBack, IsSameSource, IsSameInput, next_visit};
+ghost use Rattle.swh_loader.specs.Leaving.{AreAllowed, AddsVisit, MakesVisitCalls, EndsVisit, Stops, NoCountFell};
+ghost use Rattle.swh_loader.specs.Leaving.{IsHeldBack, IsSameSource, IsSameInput, IsSameJob};
 ghost use Rattle.swh_loader.specs.Steps.{LeavesVisit};
 
 use crate::end::{BadInput, End, Loaded, StreamWhy};
@@ -70,7 +71,8 @@ fn read_input<N: Namer, S: Source>(
     head: &Option<Bytes>,
 ) -> Result<Input<N>, LoadWhy>
     requires { IfSome head.now IsRef }
-    ensures read { IfOk result (IsRead N.id_of head.now (sources S.tells S.left S.faults S.path) source.old source.new) }
+    ensures read { IfOk result (IsRead N.id_of head.now (sources S.tells S.left S.faults S.path)
+        source.old source.new) }
     ensures whole { IfOk result (IsWholeInput N.id_of) }
     ensures err { IfErr result (λ why. why ≡ OutOfMemory) }
     ensures same { IsSameSource (sources S.tells S.left S.faults S.path) source.old source.new }
@@ -98,11 +100,12 @@ fn end_visit<N: Namer, D: Disk>(
     end: End,
 ) -> Result<End, LoadWhy>
     requires unwounded { keeper.old.wounded ≡ None }
-    requires visit { IsOpen keeper.old.history (attempt_of visit.now) visit.now.number }
+    requires visit { IsVisit keeper.old.history (attempt_of visit.now) visit.now.number (before_end end) }
     requires fits { FitsStatus (bodies_of keeper.old) status snapshot }
     requires last { last_of end ≡ (status, snapshot) ∷ [] }
     ensures end { IfOk result (λ told. told ≡ end) }
-    ensures leaves { LeavesVisit N.id_of (disks D.tells D.file D.faults) IsNoBatch last_of visit.now keeper.old keeper.new result }
+    ensures leaves { LeavesVisit N.id_of (disks D.tells D.file D.faults) IsNoBatch
+        visit.now keeper.old keeper.new result }
 {
     mark(alloc, keeper, visit, status, snapshot)?;
     Ok(end)
@@ -116,9 +119,10 @@ fn end_bad<N: Namer, D: Disk>(
     bad: BadInput,
 ) -> Result<End, LoadWhy>
     requires unwounded { keeper.old.wounded ≡ None }
-    requires visit { IsOpen keeper.old.history (attempt_of visit.now) visit.now.number }
+    requires visit { IsVisit keeper.old.history (attempt_of visit.now) visit.now.number ongoing }
     ensures end { IfOk result (λ end. end ≡ EndFailed bad) }
-    ensures leaves { LeavesVisit N.id_of (disks D.tells D.file D.faults) IsNoBatch last_of visit.now keeper.old keeper.new result }
+    ensures leaves { LeavesVisit N.id_of (disks D.tells D.file D.faults) IsNoBatch
+        visit.now keeper.old keeper.new result }
 {
     let end = End::Failed(bad);
     end_visit(alloc, keeper, visit, Status::Failed, None, end)
@@ -133,10 +137,11 @@ fn end_full<N: Namer, D: Disk, G: Gate>(
     turn: &Turn<G>,
 ) -> Result<End, LoadWhy>
     requires unwounded { keeper.old.wounded ≡ None }
-    requires visit { IsOpen keeper.old.history (attempt_of visit.now) visit.now.number }
+    requires visit { IsVisit keeper.old.history (attempt_of visit.now) visit.now.number ongoing }
     requires closed { IsClosed (bodies_of keeper.old) (snapshot_name snapshot) }
     ensures end { IfOk result (λ end. end ≡ EndFull snapshot) }
-    ensures leaves { LeavesVisit N.id_of (disks D.tells D.file D.faults) IsNoBatch last_of visit.now keeper.old keeper.new result }
+    ensures leaves { LeavesVisit N.id_of (disks D.tells D.file D.faults) IsNoBatch
+        visit.now keeper.old keeper.new result }
 {
     let gate = turn.worker.gate;
     gate.before(turn.worker.number, turn.job);
@@ -155,10 +160,11 @@ fn finish<N: Namer, D: Disk, G: Gate>(
     turn: &Turn<G>,
 ) -> Result<End, LoadWhy>
     requires unwounded { keeper.old.wounded ≡ None }
-    requires visit { IsOpen keeper.old.history (attempt_of visit.now) visit.now.number }
+    requires visit { IsVisit keeper.old.history (attempt_of visit.now) visit.now.number ongoing }
     requires whole { IsWhole N.id_of made }
     ensures end { IfOk result (IsSentEnd (bodies_of keeper.new) made) }
-    ensures leaves { LeavesVisit N.id_of (disks D.tells D.file D.faults) (AreAmong made.objects.items) last_of visit.now keeper.old keeper.new result }
+    ensures leaves { LeavesVisit N.id_of (disks D.tells D.file D.faults) (AreAmong made.objects.items)
+        visit.now keeper.old keeper.new result }
 {
     match send_all(alloc, keeper, visit.by, made.objects)? {
         Some(name) => end_bad(alloc, keeper, visit, BadInput::Collision { name }),
@@ -178,10 +184,12 @@ fn load_found<N: Namer, D: Disk, S: Source, G: Gate>(
 ) -> Result<End, LoadWhy>
     requires unwounded { keeper.old.wounded ≡ None }
     requires head { IfSome head.now IsRef }
-    requires visit { IsOpen keeper.old.history (attempt_of visit.now) visit.now.number }
-    ensures end { IfOk result (IsEndOf N.id_of head.now (sources S.tells S.left S.faults S.path) (bodies_of keeper.new) source.old source.new) }
-    ensures leaves { LeavesVisit N.id_of (disks D.tells D.file D.faults) (AreMadeBy N.id_of head.now (sources S.tells S.left S.faults S.path) source.old)
-        statuses_of visit.now keeper.old keeper.new result }
+    requires visit { IsVisit keeper.old.history (attempt_of visit.now) visit.now.number created }
+    ensures end { IfOk result (IsEndOf N.id_of head.now (sources S.tells S.left S.faults S.path)
+        (bodies_of keeper.new) source.old source.new) }
+    ensures leaves { LeavesVisit N.id_of (disks D.tells D.file D.faults)
+        (AreMadeBy N.id_of head.now (sources S.tells S.left S.faults S.path) source.old)
+        visit.now keeper.old keeper.new result }
     ensures same { IsSameSource (sources S.tells S.left S.faults S.path) source.old source.new }
 {
     mark(alloc, keeper, visit, Status::Ongoing, None)?;
@@ -198,9 +206,10 @@ fn end_absent<N: Namer, D: Disk>(
     visit: &OpenVisit,
 ) -> Result<End, LoadWhy>
     requires unwounded { keeper.old.wounded ≡ None }
-    requires visit { IsOpen keeper.old.history (attempt_of visit.now) visit.now.number }
+    requires visit { IsVisit keeper.old.history (attempt_of visit.now) visit.now.number created }
     ensures end { IfOk result (λ end. end ≡ EndNotFound) }
-    ensures leaves { LeavesVisit N.id_of (disks D.tells D.file D.faults) IsNoBatch statuses_of visit.now keeper.old keeper.new result }
+    ensures leaves { LeavesVisit N.id_of (disks D.tells D.file D.faults) IsNoBatch
+        visit.now keeper.old keeper.new result }
 {
     end_visit(alloc, keeper, visit, Status::NotFound, None, End::NotFound)
 }
@@ -212,9 +221,10 @@ fn end_unread<N: Namer, D: Disk>(
     visit: &OpenVisit,
 ) -> Result<End, LoadWhy>
     requires unwounded { keeper.old.wounded ≡ None }
-    requires visit { IsOpen keeper.old.history (attempt_of visit.now) visit.now.number }
+    requires visit { IsVisit keeper.old.history (attempt_of visit.now) visit.now.number created }
     ensures end { IfOk result (λ end. end ≡ EndFailed BadRead) }
-    ensures leaves { LeavesVisit N.id_of (disks D.tells D.file D.faults) IsNoBatch statuses_of visit.now keeper.old keeper.new result }
+    ensures leaves { LeavesVisit N.id_of (disks D.tells D.file D.faults) IsNoBatch
+        visit.now keeper.old keeper.new result }
 {
     mark(alloc, keeper, visit, Status::Ongoing, None)?;
     end_bad(alloc, keeper, visit, BadInput::Read)
@@ -232,10 +242,12 @@ fn load_opened<N: Namer, D: Disk, S: Source, G: Gate>(
 ) -> Result<End, LoadWhy>
     requires unwounded { keeper.old.wounded ≡ None }
     requires head { IfSome head.now IsRef }
-    requires visit { IsOpen keeper.old.history (attempt_of visit.now) visit.now.number }
-    ensures end { IfOk result (IsJobEnd N.id_of head.now (sources S.tells S.left S.faults S.path) (bodies_of keeper.new) stream.old stream.new) }
-    ensures leaves { LeavesVisit N.id_of (disks D.tells D.file D.faults) (AreAllowed N.id_of head.now (sources S.tells S.left S.faults S.path) stream.old)
-        statuses_of visit.now keeper.old keeper.new result }
+    requires visit { IsVisit keeper.old.history (attempt_of visit.now) visit.now.number created }
+    ensures end { IfOk result (IsJobEnd N.id_of head.now (sources S.tells S.left S.faults S.path)
+        (bodies_of keeper.new) stream.old stream.new) }
+    ensures leaves { LeavesVisit N.id_of (disks D.tells D.file D.faults)
+        (AreAllowed N.id_of head.now (sources S.tells S.left S.faults S.path) stream.old)
+        visit.now keeper.old keeper.new result }
     ensures same { IsSameInput (sources S.tells S.left S.faults S.path) stream.old stream.new }
 {
     match stream {
@@ -257,16 +269,11 @@ pub fn load_one<N: Namer, D: Disk, S: Source, G: Gate>(
 ) -> Result<Loaded, LoadFault>
     // A head is a ref.
     requires { IfSome job.old.head IsRef }
-    // The visit's number is the next of its origin.
-    ensures number { IfOk result (λ loaded. loaded.visit ≡ next_visit keeper.old.history job.old.origin) }
-    // It was created, and its end is the one told.
-    ensures visit { IfOk result (λ loaded. IsVisit keeper.new.history (attempt turn.now.worker.now.by job.old.origin date) loaded.visit ((Created, None) ∷ statuses_of loaded.end)) }
+    // The visit is the next of its origin, and its end is the one told. Nothing that was held is lost.
+    ensures ended { IfOk result (EndsVisit (attempt turn.now.worker.now.by job.old.origin date) keeper.old keeper.new) }
     // The end says what the input means, and what is held.
-    ensures end { IfOk result (λ loaded. IsJobEnd N.id_of job.old.head (sources S.tells S.left S.faults S.path) (bodies_of keeper.new) job.old.stream job.new.stream loaded.end) }
-    // Nothing that was held is lost.
-    ensures on { OnOk result (GoesOn keeper.old keeper.new) }
-    // No disk had failed.
-    ensures before_it { OnOk result (keeper.old.wounded ≡ None) }
+    ensures end { IfOk result (λ loaded. IsJobEnd N.id_of job.old.head (sources S.tells S.left S.faults S.path)
+        (bodies_of keeper.new) job.old.stream job.new.stream loaded.end) }
 
     // Whatever it answers, it adds its visit's events alone, with nothing but what the input makes.
     ensures adds { AddsVisit (AreAllowed N.id_of job.old.head (sources S.tells S.left S.faults S.path) job.old.stream)
@@ -282,11 +289,8 @@ pub fn load_one<N: Namer, D: Disk, S: Source, G: Gate>(
         (AreAllowed N.id_of job.old.head (sources S.tells S.left S.faults S.path) job.old.stream)
         (attempt turn.now.worker.now.by job.old.origin date) keeper.old keeper.new) }
     // The counts of faults, and the job.
-    ensures store_later { D.faults keeper.old.store ≤ D.faults keeper.new.store }
-    ensures ledger_later { D.faults keeper.old.ledger ≤ D.faults keeper.new.ledger }
-    ensures same_origin { job.new.origin ≡ job.old.origin }
-    ensures same_head { job.new.head ≡ job.old.head }
-    ensures same_input { IsSameInput (sources S.tells S.left S.faults S.path) job.old.stream job.new.stream }
+    ensures later { NoCountFell (disks D.tells D.file D.faults) keeper.old keeper.new }
+    ensures same { IsSameJob (sources S.tells S.left S.faults S.path) job.old job.new }
 {
     let by = turn.worker.by;
     let number = match open_visit(alloc, keeper, by, &job.origin, date) {

@@ -2,7 +2,8 @@
 ghost use Rattle.std.specs.Prelude.{◌≡◌, None, IfOk, OnOk};
 ghost use Rattle.swh_outside.specs.Views.{disks};
 ghost use Rattle.swh_loader.specs.Adding.{IsBatchOf, IsBatchAmong};
-ghost use Rattle.swh_loader.specs.Sending.{IsStanding, IsWaiting, HasMadeRoom, IsTaken, SameVisits, AreSent, bodies_of, to_be};
+ghost use Rattle.swh_loader.specs.Sending.{IsStanding, IsWaiting, HasMadeRoom, IsTaken, SameVisits, AreSent};
+ghost use Rattle.swh_loader.specs.Sending.{bodies_of, to_be};
 ghost use Rattle.swh_loader.specs.Steps.{Leaves};
 
 use crate::fault::LoadWhy;
@@ -60,7 +61,8 @@ fn flush<N: Namer, D: Disk>(
     requires waiting { IsWaiting N.id_of (bodies_of keeper.old) pending }
     ensures bodies { OnOk result (bodies_of keeper.new ≡ to_be keeper.old pending) }
     ensures visits { SameVisits keeper.old keeper.new }
-    ensures leaves { Leaves N.id_of (disks D.tells D.file D.faults) (IsBatchOf by pending.entries.items) keeper.old keeper.new result }
+    ensures leaves { Leaves N.id_of (disks D.tells D.file D.faults) (IsBatchOf by pending.entries.items)
+        keeper.old keeper.new result }
 {
     if pending.entries.is_empty() {
         return Ok(());
@@ -84,7 +86,8 @@ fn make_room<N: Namer, D: Disk>(
     requires waiting { IsWaiting N.id_of (bodies_of keeper.old) pending }
     ensures room { IfOk result (HasMadeRoom N.id_of keeper.old pending name.now keeper.new) }
     ensures visits { SameVisits keeper.old keeper.new }
-    ensures leaves { Leaves N.id_of (disks D.tells D.file D.faults) (IsBatchOf by pending.entries.items) keeper.old keeper.new result }
+    ensures leaves { Leaves N.id_of (disks D.tells D.file D.faults) (IsBatchOf by pending.entries.items)
+        keeper.old keeper.new result }
 {
     if pending.has_room(name) {
         return Ok(pending);
@@ -105,7 +108,8 @@ fn take_in<N: Namer, D: Disk>(
     requires waiting { IsWaiting N.id_of (bodies_of keeper.old) pending }
     ensures taken { IfOk result (λ taken. IsTaken N.id_of keeper.old pending object keeper.new taken) }
     ensures visits { SameVisits keeper.old keeper.new }
-    ensures leaves { Leaves N.id_of (disks D.tells D.file D.faults) (IsBatchOf by pending.entries.items) keeper.old keeper.new result }
+    ensures leaves { Leaves N.id_of (disks D.tells D.file D.faults) (IsBatchOf by pending.entries.items)
+        keeper.old keeper.new result }
 {
     let entry = object.into_entry();
     let mut pending = make_room(alloc, keeper, by, pending, &entry.name)?;
@@ -129,7 +133,8 @@ pub fn send_all<N: Namer, D: Disk>(
     requires { keeper.old.wounded ≡ None }
     ensures sent { IfOk result (λ collision. AreSent (bodies_of keeper.new) objects.items collision) }
     ensures visits { SameVisits keeper.old keeper.new }
-    ensures leaves { Leaves N.id_of (disks D.tells D.file D.faults) (IsBatchAmong by objects.items) keeper.old keeper.new result }
+    ensures leaves { Leaves N.id_of (disks D.tells D.file D.faults) (IsBatchAmong by objects.items)
+        keeper.old keeper.new result }
 {
     let mut left = VecDeque::from_vec(objects);
     let mut pending = Pending::new(alloc);

@@ -33,7 +33,8 @@ pub fn open_visit<N: Namer, D: Disk>(
 ) -> Result<u64, LoadWhy>
     ensures opened { IfOk result (IsOpened (attempt by origin.now date) keeper.old keeper.new) }
     ensures unopened { IfErr result (IsUnopened keeper.old keeper.new) }
-    ensures leaves { Leaves N.id_of (disks D.tells D.file D.faults) (IsEvent (opening (attempt by origin.now date))) keeper.old keeper.new result }
+    ensures leaves { Leaves N.id_of (disks D.tells D.file D.faults) (IsEvent (opening (attempt by origin.now date)))
+        keeper.old keeper.new result }
 {
     let Ok(origin) = origin.again(alloc) else {
         return Err(LoadWhy::Memory);
@@ -55,9 +56,11 @@ pub fn mark<N: Namer, D: Disk>(
     snapshot: Option<[u8; 20]>,
 ) -> Result<(), LoadWhy>
     requires { MayMark (replay keeper.old.history) visit.now.by visit.now.origin.now visit.now.number status snapshot }
-    ensures marked { OnOk result (IsMarked keeper.old.history keeper.new.history (attempt_of visit.now) visit.now.number ((status, snapshot) ∷ [])) }
+    ensures marked { OnOk result (IsMarked keeper.old.history keeper.new.history (attempt_of visit.now) visit.now.number
+        ((status, snapshot) ∷ [])) }
     ensures same { OnErr result (keeper.new.history ≡ keeper.old.history) }
-    ensures leaves { Leaves N.id_of (disks D.tells D.file D.faults) (IsEvent (marking (attempt_of visit.now) visit.now.number status snapshot)) keeper.old keeper.new result }
+    ensures leaves { Leaves N.id_of (disks D.tells D.file D.faults)
+        (IsEvent (marking (attempt_of visit.now) visit.now.number status snapshot)) keeper.old keeper.new result }
 {
     let Ok(origin) = visit.origin.again(alloc) else {
         return Err(LoadWhy::Memory);

@@ -1,27 +1,23 @@
 -- Loads one after the other: what one says, and one more behind some.
 use Rattle.std.proofs.Common.{◌≡◌, Result, Ok, Err, List, [], ◌∷◌, ◌++◌, refl, subst}
-use Rattle.std.specs.Prelude.{IfOk, IfErr, OnOk, None}
-use Rattle.swh_base.specs.declared.visit.Status.TheVariants.{Created}
+use Rattle.std.specs.Prelude.{IfOk, IfErr}
 use Rattle.swh_keeper.specs.Kept.{Kept}
 use Rattle.swh_loader.specs.declared.end.Loaded.{Loaded}
 use Rattle.swh_loader.specs.declared.fault.LoadFault.{LoadFault}
-use Rattle.swh_loader.specs.Ending.{IsJobEnd, statuses_of}
-use Rattle.swh_loader.specs.Leaving.{Stops, next_visit}
+use Rattle.swh_loader.specs.Ending.{IsJobEnd}
+use Rattle.swh_loader.specs.Leaving.{EndsVisit, Stops}
 use Rattle.swh_loader.specs.Sending.{bodies_of}
-use Rattle.swh_loader.specs.Visiting.{IsVisit, GoesOn}
 use Rattle.swh_pool.specs.Loads.{OneLoad, Loading, IsOutcome, IsOneLoad, AreLoads, attempt_at, AreAllowedAt}
 
 module _ {S D : Type 0} (given : Loading S D) where
   -- what a load answers says how it ended
   pub outcome_of : (l : OneLoad S) (old new : Kept D) (result : Result Loaded LoadFault)
-      → IfOk result (λ loaded. loaded.visit ≡ next_visit old.history l.job.job.origin)
-      → IfOk result (λ loaded. IsVisit new.history (attempt_at given l) loaded.visit ((Created, None) ∷ statuses_of loaded.end))
+      → IfOk result (EndsVisit (attempt_at given l) old new)
       → IfOk result (λ loaded. IsJobEnd given.id l.job.job.head given.sources (bodies_of new) l.job.job.stream l.after.job.stream loaded.end)
-      → OnOk result (GoesOn old new) → OnOk result (old.wounded ≡ None)
       → IfErr result (Stops given.id given.disks (AreAllowedAt given l) (attempt_at given l) old new)
       → IsOutcome given l old new result
-  outcome_of l old new (Ok loaded) number visit means on before stops = record { number = number; visit = visit; means = means; on = on; before_it = before }
-  outcome_of l old new (Err fault) number visit means on before stops = stops
+  outcome_of l old new (Ok loaded) ended means stops = record { number = ended.number; visit = ended.visit; means = means; on = ended.on; before_it = ended.before_it }
+  outcome_of l old new (Err fault) ended means stops = stops
 
   -- one more load behind some
   pub loads_further : (loads : List (OneLoad S)) (l : OneLoad S) (old mid new : Kept D) → AreLoads given loads old mid → IsOneLoad given l mid new → AreLoads given (loads ++ l ∷ []) old new

@@ -42,7 +42,8 @@ pub fn load_all<N: Namer, D: Disk, S: Source, G: Gate>(
     // Once a disk has failed, each job is stopped before its visit.
     ensures stops { IfOk result (λ report. AreStops (is_some keeper.old.wounded) report.outcomes.items) }
     // A disk has failed afterwards exactly where one had before or a load says so.
-    ensures unwounded { IfOk result (λ report. (keeper.new.wounded ≡ None) ↔ ((keeper.old.wounded ≡ None) × HaveNoDiskFault report.outcomes.items)) }
+    ensures unwounded { IfOk result (λ report. (keeper.new.wounded ≡ None)
+        ↔ ((keeper.old.wounded ≡ None) × HaveNoDiskFault report.outcomes.items)) }
     ensures each { IfOk result (λ report. length report.outcomes.items ≡ length jobs.new) }
     // Each job has its line.
     ensures lines { IfOk result (λ report. report.text ≡ lines_of (ended jobs.new report.outcomes.items)) }

@@ -1,7 +1,5 @@
-use Rattle.std.proofs.Common.{arith, rules, inl, ◌≤◌, ◌∷◌, [], refl, sym, ◌∙◌}
+use Rattle.std.proofs.Common.{inl, refl, sym, ◌∙◌}
 use Rattle.std.proofs.lemmas.Option.{none-some}
-use Rattle.std.specs.Prelude.{None}
-use Rattle.swh_base.specs.declared.visit.Status.TheVariants.{Created}
 use Rattle.swh_outside.specs.Views.{disks, sources}
 use Rattle.swh_loader.specs.Adding.{attempt}
 use Rattle.swh_loader.specs.Leaving.{AreAllowed}
@@ -9,17 +7,13 @@ use Rattle.swh_loader.proofs.Leaves.{visit_added, unopened_added, unopened_calls
 use Rattle.swh_loader.proofs.Sends.{goes_further}
 use Rattle.swh_loader.proofs.loading.load_one.Goals as goal
 
-pub returns-in-Ok-load_opened-clause-number : goal.returns-in-Ok-load_opened-clause-number
-returns-in-Ok-load_opened-clause-number g c = c.in-Ok.ensures.opened.next
-
-pub returns-in-Ok-load_opened-clause-visit : goal.returns-in-Ok-load_opened-clause-visit
-returns-in-Ok-load_opened-clause-visit g c = c.in-Ok-load_opened.ensures.leaves.marked ((Created, None) ∷ []) c.in-Ok.ensures.opened.visit
-
-pub returns-in-Ok-load_opened-clause-on : goal.returns-in-Ok-load_opened-clause-on
-returns-in-Ok-load_opened-clause-on g c = goes_further c.args.keeper.now c.open_visit.new.keeper c.load_opened.new.keeper c.in-Ok.ensures.leaves.on c.in-Ok-load_opened.ensures.leaves.leaves.on
-
-pub returns-in-Ok-load_opened-clause-before_it : goal.returns-in-Ok-load_opened-clause-before_it
-returns-in-Ok-load_opened-clause-before_it g c = c.in-Ok.ensures.opened.before_it
+pub returns-in-Ok-load_opened-clause-ended : goal.returns-in-Ok-load_opened-clause-ended
+returns-in-Ok-load_opened-clause-ended g c = record {
+  number = c.in-Ok.ensures.opened.next;
+  visit = c.in-Ok-load_opened.ensures.leaves.ended;
+  on = goes_further c.args.keeper.now c.open_visit.new.keeper c.load_opened.new.keeper c.in-Ok.ensures.leaves.on c.in-Ok-load_opened.ensures.leaves.leaves.on;
+  before_it = c.in-Ok.ensures.opened.before_it;
+}
 
 pub returns-in-Ok-load_opened-clause-adds : goal.returns-in-Ok-load_opened-clause-adds
 returns-in-Ok-load_opened-clause-adds g c = visit_added g.D.Disk.faults (AreAllowed g.N.Namer.id_of c.args.job.now.head (sources g.S.Source.tells g.S.Source.left g.S.Source.faults g.S.Source.path) c.args.job.now.stream) (attempt c.args.turn.now.worker.now.by c.args.job.now.origin c.args.date) c.in-Ok.number c.args.keeper.now c.open_visit.new.keeper c.load_opened.new.keeper c.in-Ok.ensures.opened c.in-Ok-load_opened.ensures.leaves.leaves.adds
