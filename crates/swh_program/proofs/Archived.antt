@@ -9,7 +9,7 @@ use Rattle.swh_model.proofs.Unique.{alike}
 use Rattle.swh_segment.specs.Making.{IsMade, IsNotMade}
 use Rattle.swh_program.specs.Opening.{IsArchive, IsDamaged, IsUnusable, IsOpenRefusal, OpenEnds}
 use Rattle.swh_program.specs.declared.answer.Answer.{Answer}
-use Rattle.swh_program.specs.declared.answer.Answer.TheVariants.{Made, Told, Words, NoJobFile, BadJob, AlreadyMade, NotMade, Damaged, OutsideDisk, OutsideSource, OutsideClock, Memory}
+use Rattle.swh_program.specs.declared.answer.Answer.TheVariants.{NotMade, Damaged, OutsideDisk, Memory}
 
 pub not_both : (bytes : List ℕ) → IsMade bytes → IsNotMade bytes → ⊥
 not_both bytes made not_made =

@@ -7,7 +7,7 @@ use Rattle.swh_model.specs.Step.{replay}
 use Rattle.swh_program.specs.Opening.{IsArchive, IsOnlyOpened, OpenEnds}
 use Rattle.swh_program.specs.AskCommand.{IsToldArchive, AskEnds}
 use Rattle.swh_program.specs.declared.answer.Answer.{Answer}
-use Rattle.swh_program.specs.declared.answer.Answer.TheVariants.{Made, Told, Words, NoJobFile, BadJob, AlreadyMade, NotMade, Damaged, OutsideDisk, OutsideSource, OutsideClock, Memory}
+use Rattle.swh_program.specs.declared.answer.Answer.TheVariants.{Told, Memory}
 
 module _ (id_of : Kind → List ℕ → List ℕ) (paths : List (List ℕ)) (old new : Files) where
   -- an opening that is refused ends the command

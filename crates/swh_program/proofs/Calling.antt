@@ -11,12 +11,12 @@ use Rattle.swh_loader.specs.Leaving.{AreOfVisit, AddsVisit, IsHeldBack, next_vis
 use Rattle.swh_loader.specs.declared.end.Loaded.{Loaded}
 use Rattle.swh_loader.specs.declared.fault.LoadFault.{LoadFault}
 use Rattle.swh_loader.proofs.CallLaws.{calls_none, of_as, of_further}
-use Rattle.swh_pool.specs.Loads.{Loading, loading, attempt_at, AreAllowedAt, OneLoad}
+use Rattle.swh_pool.specs.Loads.{Loading, loading, attempt_at, AreAllowedAt, OneLoad, AreLoads}
 use Rattle.swh_program.specs.Inputs.{loader, Inputs}
 use Rattle.swh_program.specs.Dated.{IsOpenedJob}
 use Rattle.swh_program.specs.Lines.{LoadedJob}
 use Rattle.swh_program.specs.Load.{IsNextOf}
-use Rattle.swh_program.proofs.Inputs.{of_jobs, adds_of, loaded_job, loaded_jobs, Loads, AllLoads, Open}
+use Rattle.swh_program.proofs.Inputs.{of_jobs, adds_of, loaded_job, loaded_jobs, Open}
 
 -- a load on an archive whose disk had failed leaves it as it was
 as_it_was : {D : Type 0} (old new : Kept D) (o : Result Loaded LoadFault) → IsHeldBack old new o → new ≡ old
@@ -32,25 +32,13 @@ module _ {S : Type 0} (id_of : Kind → List ℕ → List ℕ) (sources : Source
   abbrev from : Loading S D
   from = loading id_of loader sources disks
 
-  abbrev One : OneLoad S → Kept D → Kept D → Type 0
-  One l old new = Loads id_of sources opened_by after later later_still disks l old new
-
   abbrev All : List (OneLoad S) → Kept D → Kept D → Type 0
-  All loads old new = AllLoads id_of sources opened_by after later later_still disks loads old new
-
-  abbrev AreOpen : List Job → List (OneLoad S) → Type 0
-  AreOpen jobs loads = Open id_of sources opened_by after later later_still disks jobs loads
-
-  abbrev job_loads : List Job → List (OneLoad S) → List LoadedJob
-  job_loads jobs loads = loaded_jobs id_of sources opened_by after later later_still disks jobs loads
-
-  abbrev job_load : Job → OneLoad S → LoadedJob
-  job_load job l = loaded_job id_of sources opened_by after later later_still disks job l
+  All loads old new = AreLoads from loads old new
 
   abbrev Next : List LoadedJob → List Event → Event → Type 0
   Next loads h event = IsNextOf id_of (of_jobs id_of sources opened_by after later later_still) loads h event
 
-  -- Once a disk has failed, all is sources.left as it was.
+  -- Once a disk has failed, all is left as it was.
   held_back : (loads : List (OneLoad S)) (old new : Kept D) (n : ℕ) → old.wounded ≡ Some n → All loads old new → new ≡ old
   held_back [] old new n wounded are = are
   held_back (l ∷ loads) old new n wounded are =
@@ -62,35 +50,35 @@ module _ {S : Type 0} (id_of : Kind → List ℕ → List ℕ) (sources : Source
 
   -- what comes next in a load
   next_of : (job : Job) (l : OneLoad S) (more : List LoadedJob) (old new : Kept D) (added : List Event) → IsOpenedJob sources opened_by job l.job → new.history ≡ old.history ++ added
-      → (e : Event) → AreOfVisit (AreAllowedAt from l) (attempt_at from l) (next_visit old.history l.job.job.origin) (added ++ e ∷ []) → Next (job_load job l ∷ more) new.history e
+      → (e : Event) → AreOfVisit (AreAllowedAt from l) (attempt_at from l) (next_visit old.history l.job.job.origin) (added ++ e ∷ []) → Next (loaded_job job l ∷ more) new.history e
   next_of job l more old new added opened behind e are =
       let adds : AddsVisit (AreAllowedAt from l) (attempt_at from l) old.history (new.history ++ e ∷ []) =
       record { more = added ++ e ∷ []; behind = ap (λ (t : List Event). t ++ e ∷ []) behind ∙ append_assoc old.history added (e ∷ []); are = are } in
       record {
-        l = job_load job l;
+        l = loaded_job job l;
         among = (0, omega arith, refl);
         between = old.history;
         adds = adds_of id_of sources opened_by after later later_still disks job l old.history (new.history ++ e ∷ []) opened adds;
       }
 
-  pub calls_of : disks.tells → (jobs : List Job) (loads : List (OneLoad S)) (old new : Kept D) → AreOpen jobs loads → All loads old new → old.wounded ≡ None → MakesCalls id_of disks.file (Next (job_loads jobs loads) new.history) old new
+  pub calls_of : disks.tells → (jobs : List Job) (loads : List (OneLoad S)) (old new : Kept D) → Open sources opened_by jobs loads → All loads old new → old.wounded ≡ None → MakesCalls id_of disks.file (Next (loaded_jobs jobs loads) new.history) old new
   calls_of t [] [] old new opened are none = calls_none id_of disks.file (Next [] new.history) old new are
   calls_of t [] (l ∷ loads) old new opened are none = absurd opened
   calls_of t (job ∷ jobs) [] old new opened are none = absurd opened
   calls_of t (job ∷ jobs) (l ∷ loads) old new opened are none =
       let between = are.0 in
       let first = are.1.adds in
-      let mine = Next (job_load job l ∷ job_loads jobs loads) in
+      let mine = Next (loaded_job job l ∷ loaded_jobs jobs loads) in
       let this : MakesCallsOf id_of disks.file _ first.more old between = are.1.calls t first.more first.behind in
       let stopped : (n : ℕ) → between.wounded ≡ Some n → MakesCalls id_of disks.file (mine new.history) old new = λ n some.
       let same : new ≡ between = held_back loads between new n some are.2 in
       subst (λ (k : Kept D). MakesCalls id_of disks.file (mine k.history) old k) (sym same)
-      (record { more = first.more; behind = first.behind; calls = of_as id_of disks.file _ (mine between.history) first.more old between (next_of job l (job_loads jobs loads) old between first.more opened.0 first.behind) this }) in
+      (record { more = first.more; behind = first.behind; calls = of_as id_of disks.file _ (mine between.history) first.more old between (next_of job l (loaded_jobs jobs loads) old between first.more opened.0 first.behind) this }) in
       let going : between.wounded ≡ None → MakesCalls id_of disks.file (mine new.history) old new = λ mid.
       let rest = calls_of t jobs loads between new opened.1 are.2 mid in
       record {
         more = first.more ++ rest.more;
         behind = rest.behind ∙ ap (λ (h : List Event). h ++ rest.more) first.behind ∙ append_assoc old.history first.more rest.more;
-        calls = of_further id_of disks.file _ (Next (job_loads jobs loads) new.history) (mine new.history) first.more rest.more old between new (among_more (job_load job l) (job_loads jobs loads) new.history) none mid first.behind this rest.calls;
+        calls = of_further id_of disks.file _ (Next (loaded_jobs jobs loads) new.history) (mine new.history) first.more rest.more old between new (among_more (loaded_job job l) (loaded_jobs jobs loads) new.history) none mid first.behind this rest.calls;
       } in
       by_wound between.wounded stopped going

@@ -19,7 +19,7 @@ use Rattle.swh_program.specs.Run.{IsTold, IsPrintedWith, IsPrintedUnlessFailed, 
 use Rattle.swh_program.specs.declared.answer.Ending.{Ending}
 use Rattle.swh_program.specs.declared.answer.Ending.TheVariants as ending
 use Rattle.swh_program.specs.declared.answer.Answer.{Answer}
-use Rattle.swh_program.specs.declared.answer.Answer.TheVariants.{Made, Told, Words, NoJobFile, BadJob, AlreadyMade, NotMade, Damaged, OutsideDisk, OutsideSource, OutsideClock, Memory}
+use Rattle.swh_program.specs.declared.answer.Answer.TheVariants.{Made, Told, AlreadyMade, NotMade, Damaged, OutsideDisk, Memory}
 use Rattle.swh_program.proofs.Archived.{not_both, usable, one_archive}
 use Rattle.swh_program.proofs.Replies.{same_replies, none_short}
 

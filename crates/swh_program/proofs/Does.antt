@@ -1,29 +1,30 @@
 -- What a command does, from the answer that came of it and was told.
-use Rattle.std.proofs.Common.{◌≡◌, refl, ℕ, List, subst, arith, inl, inr, ⊎_elim, sym, ap, ◌∙◌}
+use Rattle.std.proofs.Common.{◌≡◌, refl, ℕ, List, subst, arith, inl, inr}
 use Rattle.std.specs.List.{flat_map}
 use Rattle.swh_base.specs.declared.kind.Kind.{Kind}
 use Rattle.swh_words.specs.Words.{Wanted, ToInit, ToLoad, ToAsk, ToIdentify}
 use Rattle.swh_program.specs.Seen.{Sink, Seen, Told, Same, Span}
-use Rattle.swh_program.specs.Answers.{last_line_of, status_of}
+use Rattle.swh_program.specs.Answers.{last_line_of}
+use Rattle.swh_program.specs.Archives.{SameElsewhere}
 use Rattle.swh_program.specs.AskCommand.{Asks, DoesAsk, HasShortReply, reply_line}
 use Rattle.swh_program.specs.Commands.{Does, Comes}
 use Rattle.swh_program.specs.Complete.{jobs_of, all_made, full_lines}
 use Rattle.swh_program.specs.IdentifyCommand.{Identifies, DoesIdentify, HasNoBody, name_of, name_line}
 use Rattle.swh_program.specs.InitCommand.{Inits, DoesInit}
 use Rattle.swh_program.specs.Jobs.{HasJobs, HasNoJobs, bad_job_line}
-use Rattle.swh_program.specs.LeftAlone.{IsOnDesk, IsBeforeInputs, IsRefusedInOrder}
+use Rattle.swh_program.specs.LeftAlone.{IsOnDepot, IsOnDesk, IsBeforeInputs, IsRefusedInOrder}
 use Rattle.swh_program.specs.LoadCommand.{inputs_of, givens_of, old_archive, new_archive, Loads, DoesLoad}
 use Rattle.swh_program.specs.Opening.{IsUnusable}
-use Rattle.swh_program.specs.Run.{IsTold, RefusesWords, ComesTo, replies_status}
+use Rattle.swh_program.specs.Run.{IsTold, replies_status}
 use Rattle.swh_segment.specs.Making.{IsMade}
 use Rattle.swh_program.specs.declared.answer.Answer.{Answer}
 use Rattle.swh_program.specs.declared.answer.Answer.TheVariants.{Made, NoJobFile, BadJob, NotMade, Damaged, OutsideDisk, OutsideSource, OutsideClock, Memory}
 use Rattle.swh_program.proofs.Completes.{told_with, told_unless, init_done, ask_done}
 use Rattle.swh_program.proofs.Ends.{safe}
-use Rattle.swh_program.proofs.Exacts.{init_job, ask_job, init_wants, init_archive, ask_archive, ask_replies}
+use Rattle.swh_program.proofs.Exacts.{init_statuses, ask_statuses, init_archive, ask_archive, ask_replies}
 use Rattle.swh_program.proofs.LoadStatuses.{load_job, load_bad, load_archive, load_lines, load_input}
 use Rattle.swh_program.proofs.LoadsDone.{load_exact, meant_all_made, load_done}
-use Rattle.swh_program.proofs.Naming.{identify_low, identify_archive, identify_exactly, named}
+use Rattle.swh_program.proofs.Naming.{identify_statuses, identify_exactly, named}
 use Rattle.swh_program.proofs.Orders.{job_first, archive_first, refused_job, refused_archive}
 use Rattle.swh_program.proofs.Statuses.{run_comes, uncut, run_exactly, run_never}
 
@@ -45,18 +46,24 @@ module _ (id_of : Kind → List ℕ → List ℕ) (told : Told) (seen : Seen) (s
   no_clock : Memory ≡ OutsideClock → ⊥
   no_clock e = cc
 
+  same_elsewhere : (dir : List ℕ) → SameElsewhere dir seen.depot.files seen.depot.files
+  same_elsewhere dir = record { elsewhere = λ d n apart. refl }
+
+  on_depot : IsOnDepot nothing
+  on_depot = record { desk = desk; origins = origins; clock = clock }
+
   pub nothing_came : (wanted : Wanted) → Comes wanted nothing Memory
   nothing_came (ToInit dir) = record {
     one_of = tt;
     ends = λ t. refl;
-    elsewhere = λ t. record { elsewhere = λ d n apart. refl };
+    elsewhere = λ t. same_elsewhere dir;
     crash = λ t. safe (old_archive dir nothing) (old_archive dir nothing) Memory refl;
     cause = λ e. absurd (no_disk e);
-    left = record { desk = desk; origins = origins; clock = clock };
+    left = on_depot;
   }
   nothing_came (ToLoad dir jobs) = record {
     ends = inr (record { one_of = tt; refused = λ t. tt; same = λ t. refl });
-    elsewhere = λ t. record { elsewhere = λ d n apart. refl };
+    elsewhere = λ t. same_elsewhere dir;
     disk_cause = λ e. absurd (no_disk e);
     source_cause = λ e. absurd (no_source e);
     clock_cause = λ e. absurd (no_clock e);
@@ -65,9 +72,9 @@ module _ (id_of : Kind → List ℕ → List ℕ) (told : Told) (seen : Seen) (s
   nothing_came (ToAsk dir paths) = record {
     one_of = tt;
     ends = λ t. inl refl;
-    elsewhere = λ t. record { elsewhere = λ d n apart. refl };
+    elsewhere = λ t. same_elsewhere dir;
     cause = λ e. absurd (no_disk e);
-    left = record { desk = desk; origins = origins; clock = clock };
+    left = on_depot;
   }
   nothing_came (ToIdentify kind path) = record {
     one_of = tt;
@@ -97,6 +104,9 @@ with_sink s sink same_sink = record {
 }
 
 module _ (s : Span) (sink : Sink) (same_sink : Type 0) where
+  on_depot_still : IsOnDepot s → IsOnDepot (with_sink s sink same_sink)
+  on_depot_still is = record { desk = is.desk; origins = is.origins; clock = is.clock }
+
   on_desk_still : IsOnDesk s → IsOnDesk (with_sink s sink same_sink)
   on_desk_still is = record { depot = is.depot; origins = is.origins; clock = is.clock }
 
@@ -120,7 +130,7 @@ comes_still (ToInit dir) s sink same_sink answer i = record {
   elsewhere = i.elsewhere;
   crash = i.crash;
   cause = i.cause;
-  left = record { desk = i.left.desk; origins = i.left.origins; clock = i.left.clock };
+  left = on_depot_still s sink same_sink i.left;
 }
 comes_still (ToLoad dir jobs) s sink same_sink answer l = record {
   ends = l.ends;
@@ -135,20 +145,20 @@ comes_still (ToAsk dir paths) s sink same_sink answer a = record {
   ends = a.ends;
   elsewhere = a.elsewhere;
   cause = a.cause;
-  left = record { desk = a.left.desk; origins = a.left.origins; clock = a.left.clock };
+  left = on_depot_still s sink same_sink a.left;
 }
 comes_still (ToIdentify kind path) s sink same_sink answer i = record {
   one_of = i.one_of;
   ends = i.ends;
   cause = i.cause;
-  left = record { depot = i.left.depot; origins = i.left.origins; clock = i.left.clock };
+  left = on_desk_still s sink same_sink i.left;
 }
 
 does_init : (dir : List ℕ) (s : Span) (answer : Answer) (status : ℕ) → IsTold answer s status → Inits dir s answer → DoesInit dir s status
 does_init dir s answer status told i = record {
   ends = record { answer = answer; is_one = i; told = told };
-  not_wanting = run_never answer s status 1 (omega arith) (init_wants answer i.one_of) told;
-  not_refused = run_never answer s status 2 (omega arith) (init_job answer i.one_of) told;
+  not_wanting = run_never answer s status 1 3 (init_statuses answer i.one_of) 1 (omega arith) (omega arith) (omega arith) told;
+  not_refused = run_never answer s status 1 3 (init_statuses answer i.one_of) 2 (omega arith) (omega arith) (omega arith) told;
   made_before = λ t. run_exactly answer s status 3 (IsMade (old_archive dir s 0).seen) (omega arith) (init_archive (old_archive dir s) (new_archive dir s) answer (i.ends t)) told;
   complete = λ t not_made no_disk no_sink.
       told_with (last_line_of Made) 0 answer s status (init_done (old_archive dir s) (new_archive dir s) answer (i.ends t) not_made (λ failed. no_disk (i.cause failed))) no_sink told;
@@ -188,9 +198,9 @@ does_ask dir paths s answer status told a =
     let new = new_archive dir s in
     record {
       ends = record { answer = answer; is_one = a; told = told };
-      not_refused = run_never answer s status 2 (omega arith) (ask_job answer a.one_of) told;
-      unusable = λ t. run_exactly answer s status 3 (IsUnusable s.id_of old) (omega arith) (ask_archive s.id_of paths old new answer a.one_of (a.ends t)) told;
-      short_reply = λ h replies t archive are. run_exactly answer s status 1 (HasShortReply replies) (omega arith) (ask_replies s.id_of paths old new h replies archive are answer (a.ends t)) told;
+      not_refused = run_never answer s status 2 3 (ask_statuses answer a.one_of) 2 (omega arith) (omega arith) (omega arith) told;
+      unusable = λ t. run_exactly answer s status 3 (IsUnusable s.id_of old) (omega arith) (ask_archive s.id_of old new paths answer a.one_of (a.ends t)) told;
+      short_reply = λ h replies t archive are. run_exactly answer s status 1 (HasShortReply replies) (omega arith) (ask_replies s.id_of old new paths h replies archive are answer (a.ends t)) told;
       complete = λ h replies t archive are no_disk no_sink.
           told_with (flat_map reply_line replies) (replies_status replies) answer s status
           (ask_done s.id_of paths old new h replies archive are answer (a.ends t) (λ failed. no_disk (a.cause failed))) no_sink told;
@@ -201,8 +211,8 @@ does_identify kind path s answer status told i =
     let found = s.old.desk.file_at path in
     record {
       ends = record { answer = answer; is_one = i; told = told };
-      not_refused = run_never answer s status 2 (omega arith) (identify_low s.id_of kind answer i.one_of) told;
-      no_archive = run_never answer s status 3 (omega arith) (identify_archive s.id_of kind answer i.one_of) told;
+      not_refused = run_never answer s status 2 4 (identify_statuses s.id_of kind answer i.one_of) 2 (omega arith) (omega arith) (omega arith) told;
+      no_archive = run_never answer s status 2 4 (identify_statuses s.id_of kind answer i.one_of) 3 (omega arith) (omega arith) (omega arith) told;
       no_body = λ t. run_exactly answer s status 1 (HasNoBody kind found) (omega arith) (identify_exactly s.id_of kind found answer (i.ends t)) told;
       complete = λ bytes t there body no_source no_sink.
           told_with (name_line (name_of s.id_of kind bytes)) 0 answer s status

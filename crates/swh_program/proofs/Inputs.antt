@@ -29,7 +29,7 @@ use Rattle.swh_loader.specs.declared.fault.LoadFault.{LoadFault}
 use Rattle.swh_pool.specs.Lines.{ended}
 use Rattle.swh_pool.specs.Loads.{Loading, loading, attempt_at, AreAllowedAt, OneLoad, IsOutcome as IsOutcomeOf, IsOneLoad, AreLoads}
 use Rattle.swh_program.specs.Dated.{IsOpenedAt, IsOpenedJob, AreOpenedJobs, IsGivenBack, AreGivenBack}
-use Rattle.swh_program.specs.Inputs.{loader, Inputs, inputs, Input, input_of, HasFailed, IsOfInput, IsInputEnd, StopsFor, StopsVisit, IsOutcome}
+use Rattle.swh_program.specs.Inputs.{loader, Inputs, inputs, Input, input_of, IsOfInput, IsInputEnd, StopsFor, StopsVisit, IsOutcome}
 use Rattle.swh_program.specs.Lines.{LoadedJob, dates, outcomes}
 use Rattle.swh_program.specs.Load.{IsJobLoad, AreJobLoads}
 
@@ -115,6 +115,49 @@ module _ {D : Type 0} (id_of : Kind → List ℕ → List ℕ) (input : Input) (
       let own = λ (e : Event) (is : IsOwn P a fault.visit e). own_next P a old.history new.history e later.more (opening a) later.opened adds (subst (λ (n : ℕ). IsOwn P a n e) later.visit is) in
       record { visit = inr (later.visit, later.more, later.opened); stops = stops_for (IsOwn P a fault.visit) own fault.why later.stops }
 
+-- a job as it was loaded
+abbrev pub loaded_job : {S : Type 0} → Job → OneLoad S → LoadedJob
+loaded_job job l = record { job = job; date = l.job.date; outcome = l.outcome }
+
+abbrev pub loaded_jobs : {S : Type 0} → List Job → List (OneLoad S) → List LoadedJob
+loaded_jobs [] loads = []
+loaded_jobs (job ∷ jobs) [] = []
+loaded_jobs (job ∷ jobs) (l ∷ loads) = loaded_job job l ∷ loaded_jobs jobs loads
+
+-- Loads of opened jobs.
+module _ {S : Type 0} (sources : Sources S) (opened_by : Inputs) where
+  abbrev pub Open : List Job → List (OneLoad S) → Type 0
+  Open jobs loads = AreOpenedJobs sources opened_by jobs (map (λ l. l.job) loads)
+
+  -- their jobs, dates and outcomes
+  pub same_jobs : (jobs : List Job) (loads : List (OneLoad S)) → Open jobs loads → map (λ l. l.job) (loaded_jobs jobs loads) ≡ jobs
+  same_jobs [] loads opened = refl
+  same_jobs (job ∷ jobs) [] opened = absurd opened
+  same_jobs (job ∷ jobs) (l ∷ loads) opened = ap (λ (more : List Job). job ∷ more) (same_jobs jobs loads opened.1)
+
+  pub same_dates : (jobs : List Job) (loads : List (OneLoad S)) → Open jobs loads → dates (loaded_jobs jobs loads) ≡ map (λ j. j.date) (map (λ l. l.job) loads)
+  same_dates [] [] opened = refl
+  same_dates [] (l ∷ loads) opened = absurd opened
+  same_dates (job ∷ jobs) [] opened = absurd opened
+  same_dates (job ∷ jobs) (l ∷ loads) opened = ap (λ (more : List ℕ). l.job.date ∷ more) (same_dates jobs loads opened.1)
+
+  pub same_outcomes : (jobs : List Job) (loads : List (OneLoad S)) → Open jobs loads → outcomes (loaded_jobs jobs loads) ≡ map (λ l. l.outcome) loads
+  same_outcomes [] [] opened = refl
+  same_outcomes [] (l ∷ loads) opened = absurd opened
+  same_outcomes (job ∷ jobs) [] opened = absurd opened
+  same_outcomes (job ∷ jobs) (l ∷ loads) opened = ap (λ (more : List (Result Loaded LoadFault)). l.outcome ∷ more) (same_outcomes jobs loads opened.1)
+
+  -- their origins beside their outcomes
+  pub same_ended : {D : Type 0} (given : Loading S D) (jobs : List Job) (loads : List (OneLoad S)) (old new : Kept D) → Open jobs loads → AreLoads given loads old new
+      → ended (map (λ l. l.after) loads) (map (λ l. l.outcome) loads) ≡ map url_and_outcome (loaded_jobs jobs loads)
+  same_ended given [] [] old new opened are = refl
+  same_ended given [] (l ∷ loads) old new opened are = absurd opened
+  same_ended given (job ∷ jobs) [] old new opened are = absurd opened
+  same_ended given (job ∷ jobs) (l ∷ loads) old new opened are =
+      let url : l.after.job.origin ≡ job.url = are.1.same_origin ∙ opened.0.origin in
+      let rest = same_ended given jobs loads are.0 new opened.1 are.2 in
+      λ i. (url i, l.outcome) ∷ rest i
+
 -- The inputs of jobs: opened, and given back.
 module _ {S : Type 0} (id_of : Kind → List ℕ → List ℕ) (sources : Sources S) (opened_by : Inputs) (after : List ℕ → ℕ)
     (later : (p : List ℕ) → opened_by.failures p ≤ opened_by.failures_now p) (later_still : (p : List ℕ) → opened_by.failures_now p ≤ after p) where
@@ -130,9 +173,7 @@ module _ {S : Type 0} (id_of : Kind → List ℕ → List ℕ) (sources : Source
 
   pub allowed : (job : Job) (s : Opened S) → (opened_by.tell → sources.tells) → (opened_by.tell → IfFound s (λ x. opened_by.at job.path ≡ Some (sources.left x))) → (entries : List Entry) → AreAllowed id_of job.head sources s entries → OfJob job entries
   allowed job (Found s) told is entries allowed_by = λ t. (sources.left s, is t, allowed_by (told t))
-  allowed job Missing told is entries allowed_by = absurd allowed_by
-  allowed job Unopened told is entries allowed_by = absurd allowed_by
-  allowed job NoRoom told is entries allowed_by = absurd allowed_by
+  allowed job _ told is entries allowed_by = absurd allowed_by
 
   -- a path's count rose where a source of that path had failed
   back_at : (path : List ℕ) (s : S) → sources.path s ≡ path → (0 < sources.faults s → Rose (opened_by.failures_now (sources.path s)) (after (sources.path s))) → 0 < sources.faults s → Rose (opened_by.failures path) (after path)
@@ -149,9 +190,7 @@ module _ {S : Type 0} (id_of : Kind → List ℕ → List ℕ) (sources : Source
   input_end : (job : Job) (bodies : Bodies) (s t : Opened S) → Opens job s → IsSameInput sources s t → IsGivenBack sources opened_by.failures_now after t → (end : End) → IsJobEnd id_of job.head sources bodies s t end
       → IsInputEnd id_of (input_of of_jobs job) bodies end
   input_end job bodies (Found s) (Found t) opened same back end ends = found_end job bodies s t opened.told opened.found opened.quiet (same.0 ∙ opened.at) back end ends
-  input_end job bodies (Found s) Missing opened same back end ends = absurd ends
-  input_end job bodies (Found s) Unopened opened same back end ends = absurd ends
-  input_end job bodies (Found s) NoRoom opened same back end ends = absurd ends
+  input_end job bodies (Found s) _ opened same back end ends = absurd ends
   input_end job bodies Missing t opened same back end ends = subst (IsInputEnd id_of (input_of of_jobs job) bodies) (sym ends) (λ h. opened.absent h tt)
   input_end job bodies Unopened t opened same back end ends =
       subst (IsInputEnd id_of (input_of of_jobs job) bodies) (sym ends) (rose_until (opened_by.failures job.path) (opened_by.failures_now job.path) (after job.path) (opened.failed tt) (later_still job.path))
@@ -161,16 +200,6 @@ module _ {S : Type 0} (id_of : Kind → List ℕ → List ℕ) (sources : Source
     -- what the loads are done with
     abbrev pub given : Loading S D
     given = loading id_of loader sources disks
-
-    abbrev pub Loads : OneLoad S → Kept D → Kept D → Type 0
-    Loads l old new = IsOneLoad given l old new
-
-    abbrev pub AllLoads : List (OneLoad S) → Kept D → Kept D → Type 0
-    AllLoads loads old new = AreLoads given loads old new
-
-    -- a job as it was loaded
-    abbrev pub loaded_job : Job → OneLoad S → LoadedJob
-    loaded_job job l = record { job = job; date = l.job.date; outcome = l.outcome }
 
     -- what the load of an opened job says, with the job's head
     line : (job : Job) (l : OneLoad S) (old new : Kept D) → Opens job l.job.job.stream → l.job.job.head ≡ job.head → IsGivenBack sources opened_by.failures_now after l.after.job.stream
@@ -195,7 +224,7 @@ module _ {S : Type 0} (id_of : Kind → List ℕ → List ℕ) (sources : Source
         subst (λ (u : List ℕ). AddsVisit (OfJob job) (attempt loader u l.job.date) before after') opened.origin
         (adds_visit (AreAllowed id_of job.head sources l.job.job.stream) (OfJob job) (attempt_at given l) before after' (allowed job l.job.job.stream opened.input.told opened.input.found) (adds_with job l before after' opened.head adds))
 
-    pub one_job : (job : Job) (l : OneLoad S) (old new : Kept D) → IsOpenedJob sources opened_by job l.job → IsGivenBack sources opened_by.failures_now after l.after.job.stream → Loads l old new
+    pub one_job : (job : Job) (l : OneLoad S) (old new : Kept D) → IsOpenedJob sources opened_by job l.job → IsGivenBack sources opened_by.failures_now after l.after.job.stream → IsOneLoad given l old new
         → IsJobLoad id_of of_jobs (loaded_job job l) old.history new.history
     one_job job l old new opened back is =
         let told = line job l old new opened.input opened.head back (adds_with job l old.history new.history opened.head is.adds) is.same_input l.outcome is.ends in
@@ -204,47 +233,10 @@ module _ {S : Type 0} (id_of : Kind → List ℕ → List ℕ) (sources : Source
           line = subst (λ (u : List ℕ). IsOutcome id_of (input_of of_jobs job) (attempt loader u l.job.date) old.history new.history l.outcome) opened.origin told;
         }
 
-    abbrev pub loaded_jobs : List Job → List (OneLoad S) → List LoadedJob
-    loaded_jobs [] loads = []
-    loaded_jobs (job ∷ jobs) [] = []
-    loaded_jobs (job ∷ jobs) (l ∷ loads) = loaded_job job l ∷ loaded_jobs jobs loads
-
-    abbrev pub Open : List Job → List (OneLoad S) → Type 0
-    Open jobs loads = AreOpenedJobs sources opened_by jobs (map (λ l. l.job) loads)
-
-    pub each_job : (jobs : List Job) (loads : List (OneLoad S)) (old new : Kept D) → Open jobs loads → AreGivenBack sources opened_by.failures_now after (map (λ l. l.after) loads)
-        → AllLoads loads old new → AreJobLoads id_of of_jobs (loaded_jobs jobs loads) old.history new.history
+    pub each_job : (jobs : List Job) (loads : List (OneLoad S)) (old new : Kept D) → Open sources opened_by jobs loads → AreGivenBack sources opened_by.failures_now after (map (λ l. l.after) loads)
+        → AreLoads given loads old new → AreJobLoads id_of of_jobs (loaded_jobs jobs loads) old.history new.history
     each_job [] [] old new opened back are = ap (λ (k : Kept D). k.history) are
     each_job [] (l ∷ loads) old new opened back are = absurd opened
     each_job (job ∷ jobs) [] old new opened back are = absurd opened
     each_job (job ∷ jobs) (l ∷ loads) old new opened back are =
         (are.0.history, one_job job l old are.0 opened.0 back.0 are.1, each_job jobs loads are.0 new opened.1 back.1 are.2)
-
-    -- their jobs, dates and outcomes
-    pub same_jobs : (jobs : List Job) (loads : List (OneLoad S)) → Open jobs loads → map (λ l. l.job) (loaded_jobs jobs loads) ≡ jobs
-    same_jobs [] loads opened = refl
-    same_jobs (job ∷ jobs) [] opened = absurd opened
-    same_jobs (job ∷ jobs) (l ∷ loads) opened = ap (λ (more : List Job). job ∷ more) (same_jobs jobs loads opened.1)
-
-    pub same_dates : (jobs : List Job) (loads : List (OneLoad S)) → Open jobs loads → dates (loaded_jobs jobs loads) ≡ map (λ j. j.date) (map (λ l. l.job) loads)
-    same_dates [] [] opened = refl
-    same_dates [] (l ∷ loads) opened = absurd opened
-    same_dates (job ∷ jobs) [] opened = absurd opened
-    same_dates (job ∷ jobs) (l ∷ loads) opened = ap (λ (more : List ℕ). l.job.date ∷ more) (same_dates jobs loads opened.1)
-
-    pub same_outcomes : (jobs : List Job) (loads : List (OneLoad S)) → Open jobs loads → outcomes (loaded_jobs jobs loads) ≡ map (λ l. l.outcome) loads
-    same_outcomes [] [] opened = refl
-    same_outcomes [] (l ∷ loads) opened = absurd opened
-    same_outcomes (job ∷ jobs) [] opened = absurd opened
-    same_outcomes (job ∷ jobs) (l ∷ loads) opened = ap (λ (more : List (Result Loaded LoadFault)). l.outcome ∷ more) (same_outcomes jobs loads opened.1)
-
-    -- their origins beside their outcomes
-    pub same_ended : (jobs : List Job) (loads : List (OneLoad S)) (old new : Kept D) → Open jobs loads → AllLoads loads old new
-        → ended (map (λ l. l.after) loads) (map (λ l. l.outcome) loads) ≡ map url_and_outcome (loaded_jobs jobs loads)
-    same_ended [] [] old new opened are = refl
-    same_ended [] (l ∷ loads) old new opened are = absurd opened
-    same_ended (job ∷ jobs) [] old new opened are = absurd opened
-    same_ended (job ∷ jobs) (l ∷ loads) old new opened are =
-        let url : l.after.job.origin ≡ job.url = are.1.same_origin ∙ opened.0.origin in
-        let rest = same_ended jobs loads are.0 new opened.1 are.2 in
-        λ i. (url i, l.outcome) ∷ rest i

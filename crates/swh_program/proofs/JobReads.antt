@@ -10,7 +10,7 @@ use Rattle.swh_jobs.proofs.Lengths.{longest_lem, front_lem}
 use Rattle.swh_program.specs.Seen.{FileAt}
 use Rattle.swh_program.specs.Jobs.{TellsFault, TellsBadJob, AreJobsAt, IsReadRefusal, IsJobRefusal, IsJobRefused}
 use Rattle.swh_program.specs.declared.answer.Answer.{Answer}
-use Rattle.swh_program.specs.declared.answer.Answer.TheVariants.{Made, Told, Words, NoJobFile, BadJob, AlreadyMade, NotMade, Damaged, OutsideDisk, OutsideSource, OutsideClock, Memory}
+use Rattle.swh_program.specs.declared.answer.Answer.TheVariants.{BadJob, Memory}
 
 pub one_of_read : (bytes : List ℕ) (answer : Answer) → IsReadRefusal bytes answer → IsJobRefusal answer
 one_of_read bytes (BadJob text) is = (bytes, is)

@@ -7,7 +7,7 @@ use Rattle.swh_jobs.proofs.Exact.{one_reading_lem, one_fault_lem, no_jobs_lem}
 use Rattle.swh_program.specs.Seen.{FileAt}
 use Rattle.swh_program.specs.Jobs.{AreJobsAt, HasNoJobs, IsBadAt, TellsBadJob, IsJobRefused, bad_job_line}
 use Rattle.swh_program.specs.declared.answer.Answer.{Answer}
-use Rattle.swh_program.specs.declared.answer.Answer.TheVariants.{Made, Told, Words, NoJobFile, BadJob, AlreadyMade, NotMade, Damaged, OutsideDisk, OutsideSource, OutsideClock, Memory}
+use Rattle.swh_program.specs.declared.answer.Answer.TheVariants.{NoJobFile, BadJob, OutsideSource, Memory}
 
 module _ (desk_at : FileAt) (path : List ℕ) where
   -- the same bytes stand there

@@ -37,14 +37,14 @@ module _ {S : Type 0} (sources : Sources S) (g : Givens) (middle : List ℕ → 
       let loads = are.loads in
       let open_jobs = subst (λ (d : List (DatedJob S)). AreOpenedJobs sources opened_by jobs d) are.jobs opened in
       let given_back = subst (λ (d : List (DatedJob S)). AreGivenBack sources middle g.inputs.failures_now d) are.after back in
-      let all : List LoadedJob = loaded_jobs g.id_of sources opened_by g.inputs.failures_now later later_still disks jobs loads in
-      let ends_are : outcomes all ≡ map (λ l. l.outcome) loads = same_outcomes g.id_of sources opened_by g.inputs.failures_now later later_still disks jobs loads open_jobs in
+      let all : List LoadedJob = loaded_jobs jobs loads in
+      let ends_are : outcomes all ≡ map (λ l. l.outcome) loads = same_outcomes sources opened_by jobs loads open_jobs in
       let as_told : ends ≡ outcomes all = are.ended ∙ sym ends_are in
       let stops_are : AreStops false ends = subst (λ (w : Option ℕ). AreStops (is_some w) ends) unwounded stops in
       let dates_are : dates all ≡ map (λ j. j.date) dated =
-      same_dates g.id_of sources opened_by g.inputs.failures_now later later_still disks jobs loads open_jobs ∙ ap (λ (d : List (DatedJob S)). map (λ j. j.date) d) (sym are.jobs) in
+      same_dates sources opened_by jobs loads open_jobs ∙ ap (λ (d : List (DatedJob S)). map (λ j. j.date) d) (sym are.jobs) in
       let pairs : ended now ends ≡ map url_and_outcome all =
-      (λ i. ended (are.after i) (are.ended i)) ∙ same_ended g.id_of sources opened_by g.inputs.failures_now later later_still disks jobs loads old new open_jobs are.each in
+      (λ i. ended (are.after i) (are.ended i)) ∙ same_ended sources opened_by (loading g.id_of loader sources disks) jobs loads old new open_jobs are.each in
       let load : AreKeptLoads g disks all old new = record {
         each = each_job g.id_of sources opened_by g.inputs.failures_now later later_still disks jobs loads old new open_jobs given_back are.each;
         stops = subst (AreStops false) as_told stops_are;
@@ -54,7 +54,7 @@ module _ {S : Type 0} (sources : Sources S) (g : Givens) (middle : List ℕ → 
       } in
       inl (record {
         loads = all;
-        jobs_are = same_jobs g.id_of sources opened_by g.inputs.failures_now later later_still disks jobs loads open_jobs;
+        jobs_are = same_jobs sources opened_by jobs loads open_jobs;
         said = λ t. subst (AreSaid g.time) (sym dates_are) (said t);
         load = load;
         told = told_loads now ends all answer pairs as_told told;

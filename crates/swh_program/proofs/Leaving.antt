@@ -11,7 +11,7 @@ use Rattle.swh_program.specs.Load.{Givens, IsLoadedOrNot}
 use Rattle.swh_program.specs.Loading.{IsKeptRun}
 use Rattle.swh_program.specs.Opening.{IsOpenRefusal, OpenEnds}
 use Rattle.swh_program.specs.declared.answer.Answer.{Answer}
-use Rattle.swh_program.specs.declared.answer.Answer.TheVariants.{Made, Told, Words, NoJobFile, BadJob, AlreadyMade, NotMade, Damaged, OutsideDisk, OutsideSource, OutsideClock, Memory}
+use Rattle.swh_program.specs.declared.answer.Answer.TheVariants.{NoJobFile, BadJob, NotMade, Damaged, OutsideDisk, OutsideSource, OutsideClock, Memory}
 use Rattle.swh_program.proofs.LoadAnswers.{told_of, unloaded_cases}
 
 module _ (s : Span) where

@@ -1,4 +1,3 @@
-pub mod Commands
 pub mod Elements
 pub mod Ends
 pub mod Told

@@ -7,7 +7,7 @@ use Rattle.swh_program.specs.Load.{IsOpenedArchive, IsUnloaded}
 use Rattle.swh_program.specs.Opening.{IsOpenRefusal, OpenEnds}
 use Rattle.swh_program.specs.declared.answer.Ending.{Ending}
 use Rattle.swh_program.specs.declared.answer.Answer.{Answer}
-use Rattle.swh_program.specs.declared.answer.Answer.TheVariants.{Made, Told, Words, NoJobFile, BadJob, AlreadyMade, NotMade, Damaged, OutsideDisk, OutsideSource, OutsideClock, Memory}
+use Rattle.swh_program.specs.declared.answer.Answer.TheVariants.{Told, OutsideClock}
 
 -- loads are told by their lines
 pub told_of : (loads : List LoadedJob) (answer : Answer) → TellsLoad loads answer → (text : List ℕ) × (end : Ending) × TellsLoads loads text end × (answer ≡ Told text end)

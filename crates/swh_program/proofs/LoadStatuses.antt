@@ -1,8 +1,7 @@
 -- Each status of `load` comes exactly of its causes.
-use Rattle.std.proofs.Common.{◌≡◌, ◌⊎◌, inl, inr, ⊎_elim, ℕ, ◌<◌, ◌≤◌, None, List, ◌++◌, Contains, refl, sym, ap, ◌∙◌, subst, arith}
+use Rattle.std.proofs.Common.{◌≡◌, ◌⊎◌, inl, inr, ⊎_elim, ℕ, ◌<◌, ◌≤◌, List, ◌++◌, Contains, refl, sym, ap, ◌∙◌, subst, arith}
 use Rattle.std.specs.List.{AllByRecursion, flat_map}
 use Rattle.std.proofs.lemmas.List.{append-nil}
-use Rattle.swh_base.specs.declared.kind.Kind.{Kind}
 use Rattle.swh_outside.specs.Files.{Files}
 use Rattle.swh_jobs.specs.Job.{Job}
 use Rattle.swh_jobs.specs.declared.fault.JobWhy.{JobWhy}
@@ -20,12 +19,12 @@ use Rattle.swh_program.specs.Opening.{IsArchive, IsUnusable, IsOpenRefusal, Open
 use Rattle.swh_program.specs.declared.answer.Ending.{Ending}
 use Rattle.swh_program.specs.declared.answer.Ending.TheVariants as ending
 use Rattle.swh_program.specs.declared.answer.Answer.{Answer}
-use Rattle.swh_program.specs.declared.answer.Answer.TheVariants.{Made, Told, Words, NoJobFile, BadJob, AlreadyMade, NotMade, Damaged, OutsideDisk, OutsideSource, OutsideClock, Memory}
+use Rattle.swh_program.specs.declared.answer.Answer.TheVariants.{Told, NoJobFile, BadJob, OutsideDisk, OutsideSource, OutsideClock, Memory}
 use Rattle.swh_program.proofs.Archived.{one_archive, usable, opening_of_archive}
 use Rattle.swh_program.proofs.BadInputs.{bad_undone}
 use Rattle.swh_program.proofs.Completes.{Tells}
 use Rattle.swh_program.proofs.LoadEndings.{one_done, one_wanting, told_status, line_alone, undone, all_full, full_all, one_short, short_undone}
-use Rattle.swh_program.proofs.Exacts.{refusal_only, refusal_comes}
+use Rattle.swh_program.proofs.Exacts.{refusal_exactly, refusal_comes}
 use Rattle.swh_program.proofs.JobRefusals.{IsRefusedBy, one_list, jobs_or_none, jobs_or_bad, refused_by, refusal_of_jobs, refusal_of_bad}
 use Rattle.swh_program.proofs.LoadAnswers.{told_of, unloaded_cases}
 
@@ -129,7 +128,7 @@ module _ (g : Givens) (desk_at : FileAt) (path : List ℕ) (old new : Files) whe
   outcome_only disks answer jobs (inr none) e =
       ⊎_elim
       (λ (clock : answer ≡ OutsideClock). let four = ap status_of clock in absurd (omega (arith, four, e)))
-      (λ (refused : IsOpenRefusal answer × (g.disks_tell → OpenEnds g.id_of old new answer)). refusal_only g.id_of old new answer refused.0 (refused.1 disks) e)
+      (λ (refused : IsOpenRefusal answer × (g.disks_tell → OpenEnds g.id_of old new answer)). (refusal_exactly g.id_of old new answer refused.0 (refused.1 disks)).only e)
       (unloaded_cases g.id_of g.disks_tell old new answer none)
 
   outcome_there : g.disks_tell → (answer : Answer) (jobs : List Job) → IsLoadedOrNot g old new jobs answer → IsUnusable g.id_of old → ComesTo 3 (status_of answer)

@@ -1,7 +1,6 @@
 -- Loads against which nothing stands are told as their inputs have it, or memory ran out.
 use Rattle.std.proofs.Common.{◌≡◌, ◌⊎◌, inl, inr, ⊎_elim, ℕ, Option, Some, Result, Ok, Err, List, [], ◌∷◌, ◌++◌, map, Contains, refl, sym, ap, ◌∙◌, subst, append_assoc}
 use Rattle.std.specs.List.{AllByRecursion, flat_map}
-use Rattle.std.proofs.lemmas.List.{append-nil}
 use Rattle.swh_base.specs.declared.kind.Kind.{Kind}
 use Rattle.swh_base.specs.declared.entry.Entry.{Entry}
 use Rattle.swh_base.specs.declared.name.Name.{Name}

@@ -27,7 +27,7 @@ use Rattle.swh_program.specs.Load.{Givens, VisitsStay, LeavesDisks, IsNextOf, Ar
 use Rattle.swh_program.specs.Loading.{IsUnstarted, AreKeptLoads, IsKeptRun}
 use Rattle.swh_program.specs.declared.answer.Ending.TheVariants as ending
 use Rattle.swh_program.specs.declared.answer.Answer.{Answer}
-use Rattle.swh_program.specs.declared.answer.Answer.TheVariants.{Made, Told, Words, NoJobFile, BadJob, AlreadyMade, NotMade, Damaged, OutsideDisk, OutsideSource, OutsideClock, Memory}
+use Rattle.swh_program.specs.declared.answer.Answer.TheVariants.{Told, NotMade, Damaged, OutsideDisk, OutsideClock, Memory}
 use Rattle.swh_program.proofs.Inputs.{rose_since}
 
 -- What was held by a front of a history is held by the whole.
@@ -58,7 +58,6 @@ not_disk : (answer : Answer) → IsUnstarted answer → TellsDisk answer → ⊥
 not_disk answer (inl clock) is = let f : OutsideClock ≡ OutsideDisk = subst TellsDisk clock is in cc
 not_disk answer (inr memory) is = let f : Memory ≡ OutsideDisk = subst TellsDisk memory is in cc
 
--- Loads into an archive that is open, and the files that are given back.
 -- Each load adds after the one before it.
 pub all_behind : (id_of : Kind → List ℕ → List ℕ) (of_jobs : Inputs) (loads : List LoadedJob) (before after : List Event) → AreJobLoads id_of of_jobs loads before after → (more : List Event) × (after ≡ before ++ more)
 all_behind id_of of_jobs [] before after are = ([], are ∙ sym (append-nil before))
@@ -67,6 +66,7 @@ all_behind id_of of_jobs (l ∷ loads) before after are =
     let first = are.1.nothing_else in
     (first.more ++ rest.0, rest.1 ∙ ap (λ (h : List Event). h ++ rest.0) first.behind ∙ append_assoc before first.more rest.0)
 
+-- Loads into an archive that is open, and the files that are given back.
 module _ {D : Type 0} (g : Givens) (disks : Disks D) where
   module _ (was now : Kept D) (old new : Files)
       (archive : g.disks_tell → IsArchive g.id_of old was.history) (kept : IsKept g.id_of disks.tells disks.file now) (told : g.disks_tell → disks.tells)

@@ -1,5 +1,5 @@
 -- How `identify` ends, and where nothing stands against it.
-use Rattle.std.proofs.Common.{◌≡◌, ◌≢◌, ◌⊎◌, inl, inr, ℕ, ◌<◌, codes, Option, Some, None, List, refl, sym, ◌∙◌, subst, arith}
+use Rattle.std.proofs.Common.{◌≡◌, ◌≢◌, ◌⊎◌, inl, inr, ℕ, ◌<◌, ◌≤◌, codes, Option, Some, None, List, refl, sym, ◌∙◌, subst, arith}
 use Rattle.std.specs.Prelude.{replicate}
 use Rattle.std.proofs.lemmas.List.{append-nil, length-replicate}
 use Rattle.swh_base.specs.Limits.{body_limit}
@@ -13,6 +13,8 @@ use Rattle.swh_program.specs.declared.answer.Ending.TheVariants as ending
 use Rattle.swh_program.specs.declared.answer.Answer.{Answer}
 use Rattle.swh_program.specs.declared.answer.Answer.TheVariants.{Made, Told, Words, NoJobFile, BadJob, AlreadyMade, NotMade, Damaged, OutsideDisk, OutsideSource, OutsideClock, Memory}
 use Rattle.swh_program.proofs.Completes.{Tells}
+use Rattle.swh_program.proofs.Exacts.{stopped}
+use Rattle.swh_program.proofs.LoadEndings.{told_status}
 
 module _ (id_of : Kind → List ℕ → List ℕ) (kind : Kind) where
   -- a line is told of what stands at the path
@@ -42,39 +44,11 @@ module _ (id_of : Kind → List ℕ → List ℕ) (kind : Kind) where
       ends_one (Some (replicate n 0)) answer (told_file (Some (replicate n 0)) (refusal (codes "limit body")) ending.Wanting answer (inl long) told)
 
   -- it is never refused for words, a job or an archive
-  pub identify_low : (answer : Answer) → IsIdentifyAnswer id_of kind answer → status_of answer ≡ 2 → ⊥
-  identify_low Made is e = is
-  identify_low (Told text ending.Done) is e = omega (arith, e)
-  identify_low (Told text ending.Wanting) is e = omega (arith, e)
-  identify_low (Told text ending.OutsideDisk) is e = omega (arith, e)
-  identify_low (Told text ending.Memory) is e = omega (arith, e)
-  identify_low Words is e = is
-  identify_low NoJobFile is e = is
-  identify_low (BadJob text) is e = is
-  identify_low AlreadyMade is e = is
-  identify_low NotMade is e = is
-  identify_low Damaged is e = is
-  identify_low OutsideDisk is e = is
-  identify_low OutsideSource is e = omega (arith, e)
-  identify_low OutsideClock is e = is
-  identify_low Memory is e = omega (arith, e)
-
-  pub identify_archive : (answer : Answer) → IsIdentifyAnswer id_of kind answer → status_of answer ≡ 3 → ⊥
-  identify_archive Made is e = is
-  identify_archive (Told text ending.Done) is e = omega (arith, e)
-  identify_archive (Told text ending.Wanting) is e = omega (arith, e)
-  identify_archive (Told text ending.OutsideDisk) is e = omega (arith, e)
-  identify_archive (Told text ending.Memory) is e = omega (arith, e)
-  identify_archive Words is e = is
-  identify_archive NoJobFile is e = is
-  identify_archive (BadJob text) is e = is
-  identify_archive AlreadyMade is e = is
-  identify_archive NotMade is e = is
-  identify_archive Damaged is e = is
-  identify_archive OutsideDisk is e = is
-  identify_archive OutsideSource is e = omega (arith, e)
-  identify_archive OutsideClock is e = is
-  identify_archive Memory is e = omega (arith, e)
+  pub identify_statuses : (answer : Answer) → IsIdentifyAnswer id_of kind answer → (status_of answer < 2) ⊎ (4 ≤ status_of answer)
+  identify_statuses (Told text end) is = told_status end
+  identify_statuses OutsideSource is = inr (omega arith)
+  identify_statuses Memory is = inr (omega arith)
+  identify_statuses _ is = absurd is
 
   no_body : (bytes text : List ℕ) → IsTooLong bytes text ⊎ IsRefused kind bytes text → IsBody kind bytes → ⊥
   no_body bytes text (inl long) body = let short = body.short in let more = long.long in omega (arith, short, more)
@@ -91,8 +65,8 @@ module _ (id_of : Kind → List ℕ → List ℕ) (kind : Kind) where
   -- 1 exactly where no body of the kind stands at the path
   pub identify_exactly : (found : Option (List ℕ)) (answer : Answer) → IdentifyEnds id_of kind found answer → IsExactly 1 (HasNoBody kind found) (status_of answer)
   identify_exactly found (Told text end) ends = told_exactly found text end ends
-  identify_exactly found OutsideSource ends = record { only = λ e. absurd (omega (arith, e)); there = λ none. inr (inl refl) }
-  identify_exactly found Memory ends = record { only = λ e. absurd (omega (arith, e)); there = λ none. inr (inr refl) }
+  identify_exactly found OutsideSource ends = stopped 1 4 (HasNoBody kind found) (λ e. omega (arith, e)) (inr (inl refl))
+  identify_exactly found Memory ends = stopped 1 5 (HasNoBody kind found) (λ e. omega (arith, e)) (inr (inr refl))
   identify_exactly found _ ends = absurd ends
 
   -- a body of the kind is named, or memory runs out, where the desk did not fail

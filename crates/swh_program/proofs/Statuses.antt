@@ -1,5 +1,5 @@
 -- The status of a run, from its answer, and the part that the answer names.
-use Rattle.std.proofs.Common.{◌≡◌, ◌≢◌, ◌⊎◌, inl, inr, ⊎_elim, ℕ, ◌<◌, List, refl, sym, ◌∙◌, subst, arith}
+use Rattle.std.proofs.Common.{◌≡◌, ◌≢◌, ◌⊎◌, inl, inr, ⊎_elim, ℕ, ◌<◌, ◌≤◌, List, refl, sym, ◌∙◌, subst, arith}
 use Rattle.swh_base.specs.declared.kind.Kind.{Kind}
 use Rattle.swh_model.specs.Answer.{ReplyText}
 use Rattle.swh_words.specs.Words.{Wanted, ToInit, ToLoad, ToAsk, ToIdentify}
@@ -32,9 +32,10 @@ module _ (answer : Answer) (s : Span) (status : ℕ) where
   pub run_exactly : (expected : ℕ) (Cause : Type 0) → expected < 4 → IsExactly expected Cause (status_of answer) → IsTold answer s status → IsExactly expected Cause status
   run_exactly expected Cause less exact told = record { only = λ is. exact.only (same_status expected less told is); there = λ cause. run_comes expected (exact.there cause) told }
 
-  -- what an answer never comes to
-  pub run_never : (expected : ℕ) → expected < 4 → (status_of answer ≡ expected → ⊥) → IsTold answer s status → status ≢ expected
-  run_never expected less never told is = never (same_status expected less told is)
+  -- a status below 4 that the answer's lies below or above of
+  pub run_never : (low high : ℕ) → (status_of answer < low) ⊎ (high ≤ status_of answer) → (k : ℕ) → low ≤ k → k < high → k < 4 → IsTold answer s status → status ≢ k
+  run_never low high (inl below) k from until less told is = let e = same_status k less told is in omega (arith, below, from, e)
+  run_never low high (inr above) k from until less told is = let e = same_status k less told is in omega (arith, above, until, e)
 
 -- 4 names a part
 named_part : (answer : Answer) → status_of answer ≡ 4 → TellsDisk answer ⊎ (answer ≡ OutsideSource) ⊎ (answer ≡ OutsideClock)

@@ -20,7 +20,7 @@ use Rattle.swh_loader.specs.Leaving.{AddsVisit}
 use Rattle.swh_loader.specs.declared.end.Loaded.{Loaded}
 use Rattle.swh_loader.specs.declared.fault.LoadFault.{LoadFault}
 use Rattle.swh_pool.specs.Stops.{AreStops, HaveNoDiskFault}
-use Rattle.swh_program.specs.Seen.{FileAt, Folders}
+use Rattle.swh_program.specs.Seen.{FileAt}
 use Rattle.swh_program.specs.Seen.{FileAt}
 use Rattle.swh_program.specs.Dated.{AreSaid}
 use Rattle.swh_program.specs.Jobs.{AreJobsAt, IsJobRefusal, IsJobRefused}

@@ -1,5 +1,4 @@
 use Rattle.swh_program.proofs.Does.{does, comes_still}
-use Rattle.swh_program.proofs.Ends.{told_status}
 use Rattle.swh_program.proofs.top.run.Goals as goal
 
 pub returns-clause-does : goal.returns-clause-does
