@@ -8,6 +8,7 @@ pub mod Limiting
 pub mod Opens
 pub mod Owns
 pub mod Refusals
+pub mod Room
 pub mod Sends
 pub mod Stepping
 pub mod Steps
