@@ -308,6 +308,10 @@ opened_there IsBatch t h =
 same_of_some : (v w : Visit) → Some v ≡ Some w → v ≡ w
 same_of_some v w e = cc
 
+-- A load that added nothing added none of them.
+pub others_none : (IsBatch : List Entry → Type 0) (t : Attempt) (h h' : List Event) → (adds : AddsVisit IsBatch t h h') → h' ≡ h → others adds.more ≡ 0
+others_none IsBatch t h h' adds same = ap others (append_cancel_left h adds.more [] (sym adds.behind ∙ same ∙ sym (append-nil h)))
+
 -- A load adds no more openings and marks than its visit has statuses.
 module _ (id_of : Kind → List ℕ → List ℕ) (IsBatch : List Entry → Type 0) (t : Attempt) (h h' : List Event) (history : IsHistory id_of h') (adds : AddsVisit IsBatch t h h') (statuses : Statuses) (is : IsVisit h' t (next_visit h t.origin) statuses) where
   counted_most : (es : List Event) → AreOfVisit IsBatch t (next_visit h t.origin) es → replay h' ≡ after_all (replay h) es → others es ≤ length statuses
@@ -328,10 +332,6 @@ module _ (id_of : Kind → List ℕ → List ℕ) (IsBatch : List Entry → Type
   others_most =
       let parts = fronts id_of empty_archive h adds.more (subst (IsHistory id_of) adds.behind history) in
       counted_most adds.more adds.are (ap replay adds.behind ∙ parts.2)
-
-  -- of a load that added nothing there is none
-  pub others_none : h' ≡ h → others adds.more ≡ 0
-  others_none same = ap others (append_cancel_left h adds.more [] (sym adds.behind ∙ same ∙ sym (append-nil h)))
 
 -- an ended visit has three statuses at most
 pub ended_most : (end : End) → length ((Created, None) ∷ statuses_of end) ≤ 3

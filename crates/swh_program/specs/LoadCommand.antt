@@ -88,7 +88,7 @@ pub record DoesLoad (dir path : List ℕ) (s : Span) (status : ℕ) : Type 0 whe
   pub exact_lines : (before : List Event) (jobs : List Job) (objects : List Made) → s.told.depot → s.told.origins
       → IsArchive s.id_of (old_archive dir s) before → AreJobsAt s.old.desk.file_at path jobs
       → HasAllMade s.id_of s.old.origins.file_at jobs objects → HasOneBody s.id_of (replay before).bodies objects
-      → HasRoom s.id_of before jobs objects (new_archive dir s)
+      → HasRoom s.id_of before jobs objects
       → (DepotFailed s → ⊥) → (DeskFailed s → ⊥) → (ClockFailed s → ⊥)
       → Ends (IsExact s.id_of (inputs_of s) (replay before) jobs) s status
   -- Jobs whose inputs are there and mean something are loaded in full, unless memory runs out, where no name has two
@@ -96,6 +96,6 @@ pub record DoesLoad (dir path : List ℕ) (s : Span) (status : ℕ) : Type 0 whe
   pub complete : (before : List Event) (meant : List MeantJob) → s.told.depot → s.told.origins
       → IsArchive s.id_of (old_archive dir s) before → AreJobsAt s.old.desk.file_at path (jobs_of meant)
       → AreMeant s.id_of s.old.origins.file_at meant → HasOneBody s.id_of (replay before).bodies (all_made meant)
-      → HasRoom s.id_of before (jobs_of meant) (all_made meant) (new_archive dir s)
+      → HasRoom s.id_of before (jobs_of meant) (all_made meant)
       → (DepotFailed s → ⊥) → (DeskFailed s → ⊥) → AreQuiet s.old.origins.path_faults s.new.origins.path_faults meant
       → (ClockFailed s → ⊥) → (SinkFailed s → ⊥) → IsPrintedWith (full_lines before meant) 0 s status
