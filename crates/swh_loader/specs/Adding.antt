@@ -15,6 +15,7 @@ pub record Attempt : Type 0 where
   pub origin : List ℕ
   pub date : ℕ
 
+-- an attempt of this one, at this origin, on this date
 abbrev pub attempt : ℕ → List ℕ → ℕ → Attempt
 attempt by origin date = record { by = by; origin = origin; date = date }
 
@@ -64,7 +65,7 @@ pub record IsOwn (IsAllowed : List Entry → Type 0) (a : Attempt) (number : ℕ
   pub by_one : e.by ≡ a.by
   pub kind : IsOwnKind IsAllowed a.origin number e.what
 
--- Events like these were added behind, and no count of faults fell.
+-- Events like these were added after the history, and no count of faults fell.
 pub record Adds {D : Type 0} (faults : D → ℕ) (IsAdded : Event → Type 0) (old new : Kept D) : Type 0 where
   pub more : List Event
   pub behind : new.history ≡ old.history ++ more

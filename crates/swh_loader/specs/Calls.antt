@@ -8,7 +8,7 @@ use Rattle.swh_model.specs.Step.{May, replay}
 use Rattle.swh_keeper.specs.Keeping.{calls_for}
 use Rattle.swh_keeper.specs.Kept.{Kept}
 
--- the device calls that add several events behind a history, one after another
+-- the device calls that add several events to a history, one after another
 abbrev pub all_calls : List Event → List Event → List FileCall
 all_calls h [] = []
 all_calls h (e ∷ more) = calls_for h e ++ all_calls (h ++ e ∷ []) more

@@ -22,7 +22,7 @@ use Rattle.swh_loader.specs.declared.end.End.TheVariants.{Full, NotFound, Failed
 use Rattle.swh_loader.specs.Sending.{AllHeld, IsCollision}
 use Rattle.swh_loader.specs.Visiting.{created, ongoing}
 
--- the statuses of a visit behind its first
+-- the statuses of a visit after its first
 abbrev pub statuses_of : End → Statuses
 statuses_of (Full snapshot) = (Ongoing, None) ∷ (FullStatus, Some snapshot) ∷ []
 statuses_of NotFound = (NotFoundStatus, None) ∷ []

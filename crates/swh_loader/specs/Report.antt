@@ -14,6 +14,7 @@ use Rattle.swh_loader.specs.declared.fault.LoadWhy.{LoadWhy}
 use Rattle.swh_loader.specs.declared.fault.LoadWhy.TheVariants.{Ended, DiskFault, Wounded, Limit, Memory}
 use Rattle.swh_loader.specs.declared.fault.LoadFault.{LoadFault}
 
+-- what is wrong with a stream, as a line says it
 abbrev pub why_word : StreamWhy → List ℕ
 why_word Grammar = codes "grammar"
 why_word EndOfInput = codes "end"
@@ -22,21 +23,25 @@ why_word Mark = codes "mark"
 why_word Branch = codes "branch"
 why_word Place = codes "place"
 
+-- why an input makes no snapshot
 abbrev pub bad_detail : BadInput → List ℕ
 bad_detail (Stream at why) = codes "stream " ++ (decimal at ++ 32 ∷ why_word why)
 bad_detail (Collision name) = codes "collision " ++ core_text name
 bad_detail Read = codes "read"
 
+-- how a visit ended
 abbrev pub end_word : End → List ℕ
 end_word (Full snapshot) = codes "full"
 end_word NotFound = codes "not_found"
 end_word (Failed bad) = codes "failed"
 
+-- its snapshot, or why it has none
 abbrev pub end_detail : End → List ℕ
 end_detail (Full snapshot) = core_text (snapshot_name snapshot)
 end_detail NotFound = codes "-"
 end_detail (Failed bad) = bad_detail bad
 
+-- why a load stopped
 abbrev pub fault_detail : LoadWhy → List ℕ
 fault_detail (Ended status) = codes "ended"
 fault_detail DiskFault = codes "disk"

@@ -18,6 +18,7 @@ use Rattle.swh_loader.specs.declared.sending.Standing.TheVariants.{Held, Other, 
 use Rattle.swh_loader.specs.declared.sending.Taken.{Taken}
 use Rattle.swh_loader.specs.declared.sending.Taken.TheVariants.{Waits, Collides}
 
+-- How an entry stands to what is held.
 abbrev pub IsStanding : Bodies → Entry → Standing → Type 0
 IsStanding bodies e Held = body_of bodies e.name ≡ Some e.body
 IsStanding bodies e Other = (body : List ℕ) × (body_of bodies e.name ≡ Some body) × (body ≢ e.body)
@@ -35,7 +36,7 @@ bodies_of k = (replay k.history).bodies
 abbrev pub to_be : {D : Type 0} → Kept D → Pending → Bodies
 to_be k p = added (bodies_of k) p.entries.items
 
--- A batch has room for an entry of this name behind what waits.
+-- A batch has room for an entry of this name after what waits.
 pub record HasRoom (p : Pending) (n : Name) : Type 0 where
   pub few : length p.entries.items < objects_limit
   pub small : p.bytes ≤ bytes_limit

@@ -34,13 +34,13 @@ pub record IsStoppedBefore {D : Type 0} (old new : Kept D) : Type 0 where
   pub wounded : old.wounded ≡ Some first
   pub same : new ≡ old
 
--- A disk failed at the event behind the history.
+-- A disk failed at the event after the history.
 pub record IsFaulted {D : Type 0} (faults : D → ℕ) (old new : Kept D) : Type 0 where
   pub before_it : old.wounded ≡ None
   pub wounded : new.wounded ≡ Some (length new.history + 1)
   pub rose : EitherRose (faults old.store) (faults new.store) (faults old.ledger) (faults new.ledger)
 
--- One of the two files has no room behind the history for an event like these, which may happen next.
+-- One of the two files has no room after the history for an event like these, which may happen next.
 pub record IsFileFull {D : Type 0} (id : Kind → List ℕ → List ℕ) (IsTried : Event → Type 0) (old new : Kept D) (which : Which) (number : ℕ) : Type 0 where
   pub before_it : old.wounded ≡ None
   pub unwounded : new.wounded ≡ None

@@ -24,10 +24,11 @@ pub record IsVisit (h : List Event) (a : Attempt) (number : ℕ) (statuses : Sta
   pub positive : 0 < number
   pub there : visit_at (visits_of (replay h).origins a.origin) number ≡ Some (visit_with a number statuses)
 
--- the statuses of a visit that was created, and of one that goes on
+-- the statuses of a visit that was created
 abbrev pub created : Statuses
 created = (Created, None) ∷ []
 
+-- and of one that goes on
 abbrev pub ongoing : Statuses
 ongoing = (Created, None) ∷ (Ongoing, None) ∷ []
 

@@ -8,6 +8,7 @@ pub record Disks (D : Type 0) : Type 1 where
   pub file : D → File
   pub faults : D → ℕ
 
+-- disks seen by these
 abbrev pub disks : {D : Type 0} → Type 0 → (D → File) → (D → ℕ) → Disks D
 disks tells file faults = record { tells = tells; file = file; faults = faults }
 
@@ -18,5 +19,6 @@ pub record Sources (S : Type 0) : Type 1 where
   pub faults : S → ℕ
   pub path : S → List ℕ
 
+-- sources seen by these
 abbrev pub sources : {S : Type 0} → Type 0 → (S → List ℕ) → (S → ℕ) → (S → List ℕ) → Sources S
 sources tells left faults path = record { tells = tells; left = left; faults = faults; path = path }

@@ -36,6 +36,7 @@ pub record Loading (S D : Type 0) : Type 1 where
   pub sources : Sources S
   pub disks : Disks D
 
+-- loads done with these
 abbrev pub loading : {S D : Type 0} → (Kind → List ℕ → List ℕ) → ℕ → Sources S → Disks D → Loading S D
 loading id by sources disks = record { id = id; by = by; sources = sources; disks = disks }
 

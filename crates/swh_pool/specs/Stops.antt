@@ -16,7 +16,7 @@ abbrev pub IsUnwounded : Result Loaded LoadFault → Type 0
 IsUnwounded (Ok loaded) = Unit {0}
 IsUnwounded (Err fault) = fault.why ≢ Wounded
 
--- whether it stopped since a disk failed
+-- whether a load stopped for this since a disk failed
 abbrev pub is_fault : LoadWhy → Bool
 is_fault (Ended status) = false
 is_fault DiskFault = true
@@ -24,6 +24,7 @@ is_fault Wounded = false
 is_fault (Limit which number) = false
 is_fault Memory = false
 
+-- whether its load stopped since a disk failed
 abbrev pub is_disk_fault : Result Loaded LoadFault → Bool
 is_disk_fault (Ok loaded) = false
 is_disk_fault (Err fault) = is_fault fault.why
