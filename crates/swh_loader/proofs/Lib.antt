@@ -5,6 +5,8 @@ pub mod Ends
 pub mod Further
 pub mod Leaves
 pub mod Limiting
+pub mod Marks
+pub mod Missing
 pub mod Opens
 pub mod Owns
 pub mod Refusals

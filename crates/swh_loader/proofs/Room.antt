@@ -1,150 +1,34 @@
--- What loads add to the two files is within what their inputs make.
-use Rattle.std.proofs.Common.{◌≡◌, ◌≢◌, ℕ, zero, suc, ◌+◌, ◌-◌, ◌*◌, ◌<◌, ◌≤◌, Option, Some, None, List, [], ◌∷◌, ◌++◌, length, get_or, Contains, refl, sym, ap, ◌∙◌, subst, arith, append_assoc, length-append}
+-- What loads add to the two files is within the room for what their inputs make.
+use Rattle.std.proofs.Common.{◌≡◌, ◌≢◌, ℕ, ◌+◌, ◌*◌, ◌≤◌, Option, Some, None, List, [], ◌∷◌, ◌++◌, length, refl, sym, ap, ◌∙◌, subst, arith, append_assoc, length-append}
 use Rattle.std.specs.Prelude.{sum_by}
-use Rattle.std.specs.List.{AllByRecursion, slice_get}
-use Rattle.std.specs.FinMap.{insert}
-use Rattle.std.proofs.lemmas.List.{append-nil, append_cancel_left}
+use Rattle.std.specs.List.{AllByRecursion}
+use Rattle.std.proofs.lemmas.List.{append_cancel_left}
 use Rattle.std.proofs.lemmas.List.Sums.{sum_by-cons}
 use Rattle.swh_base.specs.declared.kind.Kind.{Kind}
 use Rattle.swh_base.specs.declared.name.Name.{Name}
 use Rattle.swh_base.specs.declared.entry.Entry.{Entry}
 use Rattle.swh_base.specs.declared.visit.Status.{Status}
 use Rattle.swh_base.specs.declared.visit.Status.TheVariants.{Created, Ongoing, Full, Partial, NotFound, Failed}
-use Rattle.swh_base.specs.declared.visit.VisitKind.TheVariants.{Fast}
 use Rattle.swh_base.specs.declared.visit.Which.{Which}
 use Rattle.swh_base.specs.declared.visit.Which.TheVariants.{Store, Ledger}
 use Rattle.swh_model.specs.declared.event.Event.{Event}
 use Rattle.swh_model.specs.declared.event.EventKind.{EventKind}
 use Rattle.swh_model.specs.declared.event.EventKind.TheVariants.{Batch, Open, Mark}
-use Rattle.swh_model.specs.declared.event.Visit.{Visit}
-use Rattle.swh_model.specs.Archive.{Archive, Bodies, body_of, empty_archive, visits_of}
-use Rattle.swh_model.specs.Coding.{coded_entry, coded_run, coded_snapshot, run_of, IsCodableEntry, IsCodableKind, AreCodable}
+use Rattle.swh_model.specs.Archive.{Archive, Bodies, body_of, empty_archive}
+use Rattle.swh_model.specs.Coding.{coded_snapshot, run_of, IsCodableEntry, IsCodableKind, AreCodable}
 use Rattle.swh_model.specs.Judge.{FilePasses}
 use Rattle.swh_model.specs.Limits.{file_limit, stored_length, store_length, payload_length, records_length, ledger_length}
 use Rattle.swh_model.specs.Meaning.{Made}
-use Rattle.swh_model.specs.Step.{AreNew, FitsStatus, Statuses, snapshot_name, first_of, opened, marked, marked_at, with_status, IsGoodAndNamed, May, May_kind, MayAll, MayMark, IsHistory, added, after, after_kind, after_all, replay, visit_at}
+use Rattle.swh_model.specs.Step.{FitsStatus, snapshot_name, May, May_kind, MayAll, IsHistory, after, after_kind, after_all, replay}
 use Rattle.swh_model.proofs.Entries.{none-empty}
 use Rattle.swh_model.proofs.Histories.{fronts}
-use Rattle.swh_model.proofs.Maps.{body-put, body_cases, added-all, visits-put}
+use Rattle.swh_model.proofs.Maps.{added-all}
 use Rattle.swh_model.proofs.Visits.{all-map}
-use Rattle.swh_fastload.specs.Making.{made_of}
-use Rattle.swh_loader.specs.Adding.{Attempt, opening, IsOwn, IsOwnKind}
-use Rattle.swh_loader.specs.Ending.{statuses_of}
+use Rattle.swh_loader.specs.Adding.{Attempt, IsOwn, IsOwnKind}
 use Rattle.swh_loader.specs.Leaving.{AddsVisit, AreOfVisit, next_visit}
 use Rattle.swh_loader.specs.Room.{longest_record, batch_record, ledger_growth, stored_object, store_growth}
-use Rattle.swh_loader.specs.Visiting.{IsVisit, visit_with}
-use Rattle.swh_loader.specs.declared.end.End.{End}
-use Rattle.swh_loader.specs.declared.end.End.TheVariants as ending
-use Rattle.swh_loader.proofs.Steps.{get-last, get-marked_self, one_less}
-
--- a size where no body is held, and nothing where one is
-abbrev unless_held : Option (List ℕ) → ℕ → ℕ
-unless_held None size = size
-unless_held (Some body) size = 0
-
-module _ (id_of : Kind → List ℕ → List ℕ) where
-  -- the name of an object that is made
-  abbrev name_of : Made → Name
-  name_of o = record { kind = o.kind; id = id_of o.kind o.body }
-
-  -- The entry is made, under its name.
-  abbrev IsMadeOf : List Made → Entry → Type 0
-  IsMadeOf objects e = Contains objects (made_of e) × (e.name.id ≡ id_of e.name.kind e.body)
-
-  -- What is made and not held yet.
-  module _ (size : Made → ℕ) where
-    -- the sizes of the objects under whose names nothing is held
-    abbrev missing : Bodies → List Made → ℕ
-    missing bodies [] = 0
-    missing bodies (o ∷ os) = unless_held (body_of bodies (name_of o)) (size o) + missing bodies os
-
-    unless_most : (o : Option (List ℕ)) (n : ℕ) → unless_held o n ≤ n
-    unless_most None n = omega arith
-    unless_most (Some body) n = omega arith
-
-    missing-most : (bodies : Bodies) (os : List Made) → missing bodies os ≤ sum_by size os
-    missing-most bodies [] = omega arith
-    missing-most bodies (o ∷ os) =
-        let here = unless_most (body_of bodies (name_of o)) (size o) in
-        let rest = missing-most bodies os in
-        let all = sum_by-cons size o os in
-        omega (arith, here, rest, all)
-
-    -- one body more
-    put_one : (bodies : Bodies) (n : Name) (body : List ℕ) (o : Made) → unless_held (body_of (insert bodies n body) (name_of o)) (size o) ≤ unless_held (body_of bodies (name_of o)) (size o)
-    put_one bodies n body o =
-        body_cases bodies n body (name_of o) (λ b. unless_held b (size o) ≤ unless_held (body_of bodies (name_of o)) (size o)) (λ at. omega arith) (omega arith)
-
-    put_all : (bodies : Bodies) (n : Name) (body : List ℕ) (os : List Made) → missing (insert bodies n body) os ≤ missing bodies os
-    put_all bodies n body [] = omega arith
-    put_all bodies n body (o ∷ os) = let here = put_one bodies n body o in let rest = put_all bodies n body os in omega (arith, here, rest)
-
-    -- it is missing no longer
-    module _ (bodies : Bodies) (e : Entry) (none : body_of bodies e.name ≡ None) (named : e.name.id ≡ id_of e.name.kind e.body) where
-      abbrev now : Bodies
-      now = insert bodies e.name e.body
-
-      same_name : name_of (made_of e) ≡ e.name
-      same_name = ap (λ (id : List ℕ). record { kind = e.name.kind; id = id }) (sym named)
-
-      was_missing : unless_held (body_of bodies (name_of (made_of e))) (size (made_of e)) ≡ size (made_of e)
-      was_missing = ap (λ (n : Name). unless_held (body_of bodies n) (size (made_of e))) same_name ∙ ap (λ (o : Option (List ℕ)). unless_held o (size (made_of e))) none
-
-      is_held : unless_held (body_of now (name_of (made_of e))) (size (made_of e)) ≡ 0
-      is_held = ap (λ (n : Name). unless_held (body_of now n) (size (made_of e))) same_name ∙ ap (λ (o : Option (List ℕ)). unless_held o (size (made_of e))) (body-put bodies e.name e.body)
-
-      first_put : (os : List Made) → size (made_of e) + missing now (made_of e ∷ os) ≤ missing bodies (made_of e ∷ os)
-      first_put os = let a = was_missing in let b = is_held in let rest = put_all bodies e.name e.body os in omega (arith, a, b, rest)
-
-      put_at : (os : List Made) (k : ℕ) → k < length os → get_or os k (made_of e) ≡ made_of e → size (made_of e) + missing now os ≤ missing bodies os
-      put_at [] k less is = absurd (omega (arith, less))
-      put_at (o ∷ os) zero less is = subst (λ (m : Made). size (made_of e) + missing now (m ∷ os) ≤ missing bodies (m ∷ os)) (sym is) (first_put os)
-      put_at (o ∷ os) (suc k) less is =
-          let here = put_one bodies e.name e.body o in
-          let rest = put_at os k (omega (arith, less)) is in
-          omega (arith, here, rest)
-
-    abbrev sizes : List Entry → ℕ
-    sizes [] = 0
-    sizes (e ∷ es) = size (made_of e) + sizes es
-
-    -- entries that are new are missing no longer
-    added_all : (objects : List Made) (bodies : Bodies) (es : List Entry) → AreNew bodies es → AllByRecursion (IsMadeOf objects) es → sizes es + missing (added bodies es) objects ≤ missing bodies objects
-    added_all objects bodies [] new made = omega arith
-    added_all objects bodies (e ∷ es) new made =
-        let place = made.0.0 in
-        let here = put_at bodies e new.0 made.0.1 objects place.0 place.1 place.2 in
-        let rest = added_all objects (insert bodies e.name e.body) es new.1 made.1 in
-        omega (arith, here, rest)
-
-  entry_size : (e : Entry) → e.name.id ≡ id_of e.name.kind e.body → length (coded_entry e) ≡ stored_object id_of (made_of e)
-  unfolding coded_entry
-  entry_size e named = let same = ap length named in omega (arith, same, length-append e.name.id e.body)
-
-  run_size : (objects : List Made) (es : List Entry) → AllByRecursion (IsMadeOf objects) es → length (coded_run es) ≡ sizes (stored_object id_of) es
-  run_size objects [] made = refl
-  run_size objects (e ∷ es) made =
-      let here = entry_size e made.0.1 in
-      let rest = run_size objects es made.1 in
-      omega (arith, here, rest, length-append (coded_entry e) (coded_run es))
-
-  abbrev of_batch : Made → ℕ
-  of_batch o = batch_record
-
-  some_size : (es : List Entry) → es ≢ [] → batch_record ≤ sizes of_batch es
-  some_size [] some = absurd (some refl)
-  some_size (e ∷ es) some = omega arith
-
--- openings and marks
-abbrev other_kind : EventKind → ℕ
-other_kind (Batch entries) = 0
-other_kind (Open origin kind date) = 1
-other_kind (Mark origin visit status snapshot) = 1
-
--- how many of the events are no batches
-abbrev pub others : List Event → ℕ
-others [] = 0
-others (e ∷ es) = other_kind e.what + others es
+use Rattle.swh_loader.proofs.Missing.{IsMadeOf, missing, missing-most, added_all, run_size, of_batch, some_size}
+use Rattle.swh_loader.proofs.Marks.{other_kind, others}
 
 -- The event's record is no longer than the longest: its URL is within its limit, and so is its snapshot.
 abbrev IsShort : EventKind → Type 0
@@ -169,7 +53,7 @@ module _ (id_of : Kind → List ℕ → List ℕ) (objects : List Made) where
   abbrev left_in_store : Bodies → ℕ
   left_in_store bodies = missing id_of (stored_object id_of) bodies objects
 
-  -- One event more takes of the room no more than it has made.
+  -- One event more takes no more room than is left of what is made, and of openings and marks.
   store_step : (a : Archive) (by : ℕ) (what : EventKind) → May_kind id_of a by what → IsBatchMade what → stored_length what + left_in_store (after_kind a by what).bodies ≤ left_in_store a.bodies
   store_step a by (Batch entries) may made =
       let run = run_size id_of objects entries made.1 in
@@ -211,7 +95,7 @@ records-append : (h more : List Event) → records_length (h ++ more) ≡ record
 records-append [] more = omega arith
 records-append (e ∷ h) more = let rest = records-append h more in omega (arith, rest)
 
--- Events that fit their fields are short but for openings and marks of URLs that are longer, which no origin is.
+-- Events that fit their fields are short.
 short_kind : (at : ℕ) (what : EventKind) → IsCodableKind at what → IsShort what
 short_kind at (Batch entries) fits = tt
 short_kind at (Open origin kind date) fits = fits.is_origin.url.short
@@ -225,10 +109,6 @@ all_short at (e ∷ es) fits = (short_kind at e.what fits.0.1, all_short (at + l
 all_behind : {X : Type 0} (P : X → Type 0) (xs ys : List X) → AllByRecursion P (xs ++ ys) → AllByRecursion P ys
 all_behind P [] ys all = all
 all_behind P (x ∷ xs) ys all = all_behind P xs ys all.1
-
-all_front : {X : Type 0} (P : X → Type 0) (xs ys : List X) → AllByRecursion P (xs ++ ys) → AllByRecursion P xs
-all_front P [] ys all = tt
-all_front P (x ∷ xs) ys all = (all.0, all_front P xs ys all.1)
 
 codable_front : (at : ℕ) (h more : List Event) → AreCodable at (h ++ more) → AreCodable at h
 codable_front at [] more fits = tt
@@ -256,88 +136,6 @@ fitting bodies Full (Some id) held fits = let h = fits (snapshot_name id) ([], r
 fitting bodies Partial (Some id) held fits = let twenty = held (snapshot_name id) fits.0 fits.1 in omega (arith, twenty)
 fitting bodies NotFound (Some id) held fits = absurd (let e : Some id ≡ None = fits in cc)
 fitting bodies Failed (Some id) held fits = absurd (let e : Some id ≡ None = fits in cc)
-
--- A visit has one status more for each mark.
-module _ (IsBatch : List Entry → Type 0) (t : Attempt) (number : ℕ) where
-  abbrev VisitAt : Archive → Option Visit
-  VisitAt a = visit_at (visits_of a.origins t.origin) number
-
-  -- The visit is there, with this many statuses.
-  pub record HasStatuses (a : Archive) (count : ℕ) : Type 0 where
-    pub visit : Visit
-    pub there : VisitAt a ≡ Some visit
-    pub counted : length visit.statuses ≡ count
-
-  marked_there : (a : Archive) (origin : List ℕ) (visit count : ℕ) (status : Status) (snapshot : Option (List ℕ)) → origin ≡ t.origin → visit ≡ number → HasStatuses a count
-      → HasStatuses (record a { origins = marked a.origins origin visit status snapshot }) (count + 1)
-  marked_there a origin visit count status snapshot same_origin same_number has =
-      let v = has.visit in
-      let counted = has.counted in
-      let vs = visits_of a.origins t.origin in
-      let put : visits_of (marked a.origins t.origin number status snapshot) t.origin ≡ marked_at vs (number - 1) status snapshot =
-      visits-put a.origins t.origin (marked_at vs (number - 1) status snapshot) in
-      let mine : HasStatuses (record a { origins = marked a.origins t.origin number status snapshot }) (count + 1) = record {
-        visit = with_status v status snapshot;
-        there = ap (λ (ws : List Visit). visit_at ws number) put ∙ get-marked_self vs (number - 1) v status snapshot has.there;
-        counted = omega (arith, counted, length-append v.statuses ((status, snapshot) ∷ []));
-      } in
-      subst (λ (o : List ℕ). HasStatuses (record a { origins = marked a.origins o visit status snapshot }) (count + 1)) (sym same_origin)
-      (subst (λ (k : ℕ). HasStatuses (record a { origins = marked a.origins t.origin k status snapshot }) (count + 1)) (sym same_number) mine)
-
-  own_kind : (a : Archive) (by count : ℕ) (what : EventKind) → IsOwnKind IsBatch t.origin number what → HasStatuses a count → HasStatuses (after_kind a by what) (count + other_kind what)
-  own_kind a by count (Batch entries) own has = let counted = has.counted in record { visit = has.visit; there = has.there; counted = omega (arith, counted) }
-  own_kind a by count (Open origin kind date) own has = absurd own
-  own_kind a by count (Mark origin visit status snapshot) own has = marked_there a origin visit count status snapshot own.0 own.1 has
-
-  own_all : (a : Archive) (count : ℕ) (es : List Event) → AllByRecursion (IsOwn IsBatch t number) es → HasStatuses a count → HasStatuses (after_all a es) (count + others es)
-  own_all a count [] own has = let counted = has.counted in record { visit = has.visit; there = has.there; counted = omega (arith, counted) }
-  own_all a count (e ∷ es) own has =
-      let rest = own_all (after a e) (count + other_kind e.what) es own.1 (own_kind a e.by count e.what own.0.kind has) in
-      let counted = rest.counted in
-      record { visit = rest.visit; there = rest.there; counted = omega (arith, counted) }
-
--- which begins with one, at its opening
-opened_there : (IsBatch : List Entry → Type 0) (t : Attempt) (h : List Event) → HasStatuses IsBatch t (next_visit h t.origin) (after (replay h) (opening t)) 1
-opened_there IsBatch t h =
-    let vs = visits_of (replay h).origins t.origin in
-    let first = first_of (length vs + 1) t.date Fast t.by in
-    let put : visits_of (opened (replay h).origins t.origin t.by Fast t.date) t.origin ≡ vs ++ first ∷ [] = visits-put (replay h).origins t.origin (vs ++ first ∷ []) in
-    let at : visit_at (vs ++ first ∷ []) (length vs + 1) ≡ Some first = ap (slice_get (vs ++ first ∷ [])) (one_less (length vs)) ∙ get-last vs first in
-    record { visit = first; there = ap (λ (ws : List Visit). visit_at ws (length vs + 1)) put ∙ at; counted = refl }
-
-same_of_some : (v w : Visit) → Some v ≡ Some w → v ≡ w
-same_of_some v w e = cc
-
--- A load that added nothing added none of them.
-pub others_none : (IsBatch : List Entry → Type 0) (t : Attempt) (h h' : List Event) → (adds : AddsVisit IsBatch t h h') → h' ≡ h → others adds.more ≡ 0
-others_none IsBatch t h h' adds same = ap others (append_cancel_left h adds.more [] (sym adds.behind ∙ same ∙ sym (append-nil h)))
-
--- A load adds no more openings and marks than its visit has statuses.
-module _ (id_of : Kind → List ℕ → List ℕ) (IsBatch : List Entry → Type 0) (t : Attempt) (h h' : List Event) (history : IsHistory id_of h') (adds : AddsVisit IsBatch t h h') (statuses : Statuses) (is : IsVisit h' t (next_visit h t.origin) statuses) where
-  counted_most : (es : List Event) → AreOfVisit IsBatch t (next_visit h t.origin) es → replay h' ≡ after_all (replay h) es → others es ≤ length statuses
-  counted_most [] are grown = omega arith
-  counted_most (e ∷ es) are grown =
-      let number = next_visit h t.origin in
-      let begun : HasStatuses IsBatch t number (after (replay h) e) 1 = subst (λ (x : Event). HasStatuses IsBatch t number (after (replay h) x) 1) (sym are.0) (opened_there IsBatch t h) in
-      let ends = own_all IsBatch t number (after (replay h) e) 1 es are.1 begun in
-      let there : visit_at (visits_of (after_all (after (replay h) e) es).origins t.origin) number ≡ Some (visit_with t number statuses) =
-      ap (λ (a : Archive). visit_at (visits_of a.origins t.origin) number) (sym grown) ∙ is.there in
-      let same : ends.visit ≡ visit_with t number statuses = same_of_some ends.visit (visit_with t number statuses) (sym ends.there ∙ there) in
-      let counted = ends.counted in
-      let as_said : length ends.visit.statuses ≡ length statuses = ap (λ (v : Visit). length v.statuses) same in
-      let one : other_kind e.what ≡ 1 = ap (λ (x : Event). other_kind x.what) are.0 in
-      omega (arith, counted, as_said, one)
-
-  pub others_most : others adds.more ≤ length statuses
-  others_most =
-      let parts = fronts id_of empty_archive h adds.more (subst (IsHistory id_of) adds.behind history) in
-      counted_most adds.more adds.are (ap replay adds.behind ∙ parts.2)
-
--- an ended visit has three statuses at most
-pub ended_most : (end : End) → length ((Created, None) ∷ statuses_of end) ≤ 3
-ended_most (ending.Full snapshot) = omega arith
-ended_most ending.NotFound = omega arith
-ended_most (ending.Failed bad) = omega arith
 
 module _ (id_of : Kind → List ℕ → List ℕ) (objects : List Made) where
   -- Both files have room behind the history for this many openings and marks, and for all that is made and not held.
@@ -421,7 +219,7 @@ module _ (id_of : Kind → List ℕ → List ℕ) (objects : List Made) where
         (room_behind h adds.more marks marks' (subst (IsHistory id_of) adds.behind history) (made_visit (next_visit h t.origin) adds.more adds.are)
         (all_behind (λ e. IsShort e.what) h adds.more short) enough room)
 
-    -- what its next event is
+    -- so is its next event, which is made too
     short_kind_next : (number : ℕ) (a : Archive) (by : ℕ) (what : EventKind) → length t.origin ≤ 2048 → HasShortNames a.bodies → IsOwnKind AreMadeOf t.origin number what → May_kind id_of a by what → IsShort what
     short_kind_next number a by (Batch entries) url held own may = tt
     short_kind_next number a by (Open origin kind date) url held own may = absurd own

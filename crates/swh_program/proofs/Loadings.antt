@@ -27,7 +27,8 @@ use Rattle.swh_loader.specs.declared.end.Loaded.{Loaded}
 use Rattle.swh_loader.specs.declared.fault.LoadWhy.{LoadWhy}
 use Rattle.swh_loader.specs.declared.fault.LoadWhy.TheVariants as why
 use Rattle.swh_loader.specs.declared.fault.LoadFault.{LoadFault}
-use Rattle.swh_loader.proofs.Room.{others, others_none, others_most, ended_most, HasRoomLeft, room_after, none_meets_end}
+use Rattle.swh_loader.proofs.Marks.{others, others_none, others_most, ended_most}
+use Rattle.swh_loader.proofs.Room.{HasRoomLeft, room_after, none_meets_end}
 use Rattle.swh_program.specs.Complete.{AreMade, HasAllMade, HasBody, HasOneBody}
 use Rattle.swh_program.specs.Exact.{line_for, lines_for, ending_of_ends, MeansSnapshot, IsEndFor, IsExactEnd, AreExactEnds}
 use Rattle.swh_program.specs.Inputs.{Inputs, input_of, loader, IsInputEnd, MeetsEnd, StopsFor, StopsVisit, IsOutcome}

@@ -86,8 +86,8 @@ module _ (id_of : Kind → List ℕ → List ℕ) (input : Input) where
   StopsFor a before after (why.Limit which number) = MeetsEnd a before after which number
   StopsFor a before after why.Memory = Unit {0}
 
-  -- A load stopped before its visit was opened, with nothing added, or once it was opened: the visit is there, and has
-  -- no end.
+  -- A load stopped before its visit was opened, with nothing added, or once it was opened: the visit is there, has not
+  -- ended, and has two statuses at most.
   pub record StopsVisit (a : Attempt) (before after : List Event) (fault : LoadFault) : Type 0 where
     pub visit : ((fault.visit ≡ 0) × (after ≡ before))
         ⊎ ((fault.visit ≡ next_visit before a.origin) × (more : List Event) × (after ≡ before ++ opening a ∷ more)
