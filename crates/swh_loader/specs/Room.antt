@@ -13,8 +13,8 @@ longest_record = 2088
 abbrev pub batch_record : ℕ
 batch_record = 30
 
--- The most bytes that this many loads add to the ledger, whose inputs make these objects: of each load an opening and two
--- marks, and a batch for each object.
+-- The most bytes that this many loads add to the ledger, whose inputs make these objects: of each load an opening and
+-- two marks, and a batch for each object.
 abbrev pub ledger_growth : ℕ → List Made → ℕ
 ledger_growth loads objects = loads * (3 * longest_record) + length objects * batch_record
 
