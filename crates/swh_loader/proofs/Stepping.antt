@@ -1,6 +1,6 @@
 -- What one step of a load leaves, and one step after another.
-use Rattle.std.proofs.Common.{◌≡◌, ℕ, ◌≤◌, Option, Some, None, Result, Ok, Err, List, [], ◌∷◌, ◌++◌, refl, sym, ap, ◌∙◌, subst, arith, append_assoc}
-use Rattle.std.specs.Prelude.{IfOk, IfErr, OnOk, OnErr}
+use Rattle.std.proofs.Common.{◌≡◌, ℕ, ◌≤◌, Option, None, Result, Ok, Err, List, [], ◌∷◌, ◌++◌, refl, sym, ap, ◌∙◌, subst, arith}
+use Rattle.std.specs.Prelude.{IfErr, OnOk}
 use Rattle.swh_base.specs.declared.kind.Kind.{Kind}
 use Rattle.swh_base.specs.declared.entry.Entry.{Entry}
 use Rattle.swh_base.specs.declared.visit.Status.{Status}
@@ -21,9 +21,9 @@ use Rattle.swh_loader.specs.declared.fault.LoadWhy.TheVariants.{Memory}
 use Rattle.swh_loader.specs.declared.end.End.{End}
 use Rattle.swh_loader.specs.declared.fault.LoadWhy.{LoadWhy}
 use Rattle.swh_loader.specs.declared.visiting.OpenVisit.{OpenVisit}
-use Rattle.swh_loader.specs.Adding.{Attempt, marking, AreAmong, IsEvent, IsBatchOf, IsBatchAmong, IsNoBatch, IsOwn}
+use Rattle.swh_loader.specs.Adding.{marking, AreAmong, IsEvent, IsBatchOf, IsBatchAmong, IsNoBatch, IsOwn}
 use Rattle.swh_loader.specs.Calls.{kept_files}
-use Rattle.swh_loader.specs.Ending.{before_end, last_of, statuses_of}
+use Rattle.swh_loader.specs.Ending.{before_end, last_of}
 use Rattle.swh_loader.specs.Steps.{Leaves, LeavesVisit}
 use Rattle.swh_loader.specs.Stopping.{IsWhyOf, StopsFor}
 use Rattle.swh_loader.specs.Visiting.{IsVisit, IsOpen, GoesOn, IsMarked, attempt_of}

@@ -1,4 +1,3 @@
-use Rattle.std.proofs.Common.{sym}
 use Rattle.swh_outside.specs.Views.{sources}
 use Rattle.swh_loader.proofs.Ends.{left_out}
 use Rattle.swh_loader.proofs.loading.read_input.Goals as goal

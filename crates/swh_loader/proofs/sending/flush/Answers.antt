@@ -1,4 +1,4 @@
-use Rattle.std.proofs.Common.{List, Err, refl, sym, ap, ◌∙◌}
+use Rattle.std.proofs.Common.{List, Err, sym, ap, ◌∙◌}
 use Rattle.swh_base.specs.declared.entry.Entry.{Entry}
 use Rattle.swh_outside.specs.Views.{disks}
 use Rattle.swh_model.specs.declared.event.EventKind.TheVariants.{Batch}

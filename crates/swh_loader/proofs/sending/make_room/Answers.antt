@@ -1,6 +1,5 @@
 use Rattle.std.proofs.Common.{rules, Err, refl, ap, ◌∙◌}
 use Rattle.std.proofs.lemmas.Result.{err_from_is_err_and}
-use Rattle.swh_base.specs.declared.entry.Entry.{Entry}
 use Rattle.swh_outside.specs.Views.{disks}
 use Rattle.swh_loader.specs.Adding.{IsBatchOf}
 use Rattle.swh_loader.proofs.Among.{among_all}

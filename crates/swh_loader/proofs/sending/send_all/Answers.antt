@@ -1,4 +1,4 @@
-use Rattle.std.proofs.Common.{rules, Ok, Err, Some, None, refl, ap, ◌∙◌}
+use Rattle.std.proofs.Common.{rules, Err, Some, None, ap, ◌∙◌}
 use Rattle.std.proofs.lemmas.Result.{err_from_is_err_and}
 use Rattle.swh_outside.specs.Views.{disks}
 use Rattle.swh_loader.specs.Adding.{IsBatchOf, IsBatchAmong}

@@ -1,10 +1,4 @@
-use Rattle.std.proofs.Common.{Err, ap, ◌∙◌}
-use Rattle.std.proofs.lemmas.Result.{err_from_is_err_and}
-use Rattle.swh_outside.specs.Views.{disks}
-use Rattle.swh_loader.specs.Adding.{IsBatchOf}
-use Rattle.swh_loader.specs.declared.sending.Taken.TheVariants.{Waits, Collides}
 use Rattle.swh_loader.proofs.Sends.{taken_held, taken_new}
-use Rattle.swh_loader.proofs.Stepping.{leaves_ok, leaves_err, leaves_memory}
 use Rattle.swh_loader.proofs.sending.take_in.Goals as goal
 
 pub returns-in-Held-clause-taken : goal.returns-in-Held-clause-taken

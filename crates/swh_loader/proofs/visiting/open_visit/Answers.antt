@@ -1,4 +1,4 @@
-use Rattle.std.proofs.Common.{rules, Err, ap, refl}
+use Rattle.std.proofs.Common.{Err, ap, refl}
 use Rattle.swh_base.specs.declared.visit.VisitKind.TheVariants.{Fast}
 use Rattle.swh_outside.specs.Views.{disks}
 use Rattle.swh_model.specs.declared.event.EventKind.TheVariants.{Open}
