@@ -5,7 +5,7 @@ use Rattle.swh_base.specs.declared.kind.Kind.{Kind}
 use Rattle.swh_words.specs.Words.{Wanted, ToInit, ToLoad, ToAsk, ToIdentify}
 use Rattle.swh_program.specs.Seen.{Sink, Seen, Told, Same, Span}
 use Rattle.swh_program.specs.Answers.{last_line_of}
-use Rattle.swh_program.specs.Archives.{SameElsewhere}
+use Rattle.swh_program.specs.Archives.{SameElsewhere, old_archive, new_archive}
 use Rattle.swh_program.specs.AskCommand.{Asks, DoesAsk, HasShortReply, reply_line}
 use Rattle.swh_program.specs.Commands.{Does, Comes}
 use Rattle.swh_program.specs.Complete.{jobs_of, all_made, full_lines}
@@ -13,7 +13,7 @@ use Rattle.swh_program.specs.IdentifyCommand.{Identifies, DoesIdentify, HasNoBod
 use Rattle.swh_program.specs.InitCommand.{Inits, DoesInit}
 use Rattle.swh_program.specs.Jobs.{HasJobs, HasNoJobs, bad_job_line}
 use Rattle.swh_program.specs.LeftAlone.{IsOnDepot, IsOnDesk, IsBeforeInputs, IsRefusedInOrder}
-use Rattle.swh_program.specs.LoadCommand.{inputs_of, givens_of, old_archive, new_archive, Loads, DoesLoad}
+use Rattle.swh_program.specs.LoadCommand.{inputs_of, givens_of, Loads, DoesLoad}
 use Rattle.swh_program.specs.Opening.{IsUnusable}
 use Rattle.swh_program.specs.Run.{IsTold, replies_status}
 use Rattle.swh_segment.specs.Making.{IsMade}

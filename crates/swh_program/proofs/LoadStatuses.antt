@@ -11,7 +11,8 @@ use Rattle.swh_program.specs.Seen.{FileAt, Span}
 use Rattle.swh_program.specs.Answers.{status_of, status_for, printed_by, IsPrinted}
 use Rattle.swh_program.specs.Causes.{IsFullLine, HasShortLine, IsBadInput}
 use Rattle.swh_program.specs.Run.{ComesTo, IsExactly}
-use Rattle.swh_program.specs.LoadCommand.{givens_of, old_archive, new_archive, IsByLines}
+use Rattle.swh_program.specs.Archives.{old_archive, new_archive}
+use Rattle.swh_program.specs.LoadCommand.{givens_of, IsByLines}
 use Rattle.swh_program.specs.Jobs.{AreJobsAt, HasJobs, HasNoJobs, IsBadAt, IsJobRefusal, bad_job_line}
 use Rattle.swh_program.specs.Lines.{LoadedJob, outcomes, load_line, ending_of_all, TellsLoads}
 use Rattle.swh_program.specs.Load.{Givens, AreLoadedJobs, IsUnloaded, IsLoadedOrNot, LoadEnds, IsJobsRun, IsNoJobsRun}

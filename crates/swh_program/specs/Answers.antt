@@ -40,12 +40,14 @@ told_by _ = []
 abbrev pub printed_by : Answer → List ℕ
 printed_by answer = told_by answer ++ last_line_of answer
 
+-- the status of a run that ends so
 abbrev pub status_for : Ending → ℕ
 status_for ending.Done = 0
 status_for ending.Wanting = 1
 status_for ending.OutsideDisk = 4
 status_for ending.Memory = 5
 
+-- the status of a run that comes to this answer
 abbrev pub status_of : Answer → ℕ
 status_of Made = 0
 status_of (Told text end) = status_for end

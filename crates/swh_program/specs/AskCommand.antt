@@ -8,7 +8,7 @@ use Rattle.swh_model.specs.Archive.{Archive}
 use Rattle.swh_model.specs.Step.{replay}
 use Rattle.swh_model.specs.Answer.{ReplyText, IsReply}
 use Rattle.swh_program.specs.Seen.{Span, DepotFailed, SinkFailed}
-use Rattle.swh_program.specs.Archives.{archive_at, SameElsewhere}
+use Rattle.swh_program.specs.Archives.{old_archive, new_archive, SameElsewhere}
 use Rattle.swh_program.specs.LeftAlone.{IsOnDepot}
 use Rattle.swh_program.specs.Run.{IsExactly, Ends, IsPrintedWith, replies_status}
 use Rattle.swh_program.specs.Opening.{IsArchive, IsUnusable, IsOnlyOpened, IsOpenRefusal, OpenEnds}
@@ -54,6 +54,7 @@ IsToldArchive a paths (Told text end) = TellsArchive a paths text end
 IsToldArchive a paths Memory = Unit {0}
 IsToldArchive a paths _ = ⊥
 
+-- `ask` has no other answers, whether the depot tells its content or not.
 abbrev pub IsAskAnswer : Answer → Type 0
 IsAskAnswer (Told text end) = (replies : List ReplyText) × TellsReplies replies text end
 IsAskAnswer answer = IsOpenRefusal answer
@@ -66,6 +67,7 @@ module _ (id_of : Kind → List ℕ → List ℕ) where
     pub told : TellsArchive (replay history) paths text end
     pub opened : IsOnlyOpened old new
 
+  -- how `ask` ends, by the files of its folder
   abbrev pub AskEnds : List (List ℕ) → Files → Files → Answer → Type 0
   AskEnds paths old new (Told text end) = IsAsked old new paths text end
   AskEnds paths old new answer = OpenEnds id_of old new answer
@@ -73,7 +75,7 @@ module _ (id_of : Kind → List ℕ → List ℕ) where
 -- This answer came of `ask`; the files of its folder are as it says, and no others changed.
 pub record Asks (dir : List ℕ) (paths : List (List ℕ)) (s : Span) (answer : Answer) : Type 0 where
   pub one_of : IsAskAnswer answer
-  pub ends : s.told.depot → AskEnds s.id_of paths (archive_at s.old.depot.files dir) (archive_at s.new.depot.files dir) answer
+  pub ends : s.told.depot → AskEnds s.id_of paths (old_archive dir s) (new_archive dir s) answer
   pub elsewhere : s.told.depot → SameElsewhere dir s.old.depot.files s.new.depot.files
   pub cause : answer ≡ OutsideDisk → DepotFailed s
   pub left : IsOnDepot s
@@ -84,12 +86,12 @@ pub record DoesAsk (dir : List ℕ) (paths : List (List ℕ)) (s : Span) (status
   -- It refuses no job.
   pub not_refused : status ≢ 2
   -- 3: the archive is not made, or damaged.
-  pub unusable : s.told.depot → IsExactly 3 (IsUnusable s.id_of (archive_at s.old.depot.files dir)) status
+  pub unusable : s.told.depot → IsExactly 3 (IsUnusable s.id_of (old_archive dir s)) status
   -- 1: a reply is not 200.
-  pub short_reply : (h : List Event) (replies : List ReplyText) → s.told.depot → IsArchive s.id_of (archive_at s.old.depot.files dir) h
+  pub short_reply : (h : List Event) (replies : List ReplyText) → s.told.depot → IsArchive s.id_of (old_archive dir s) h
       → AreReplies (replay h) paths replies → IsExactly 1 (HasShortReply replies) status
   -- The replies of the archive to the paths are printed with their status, unless memory runs out, where no part of the
   -- outside failed.
-  pub complete : (h : List Event) (replies : List ReplyText) → s.told.depot → IsArchive s.id_of (archive_at s.old.depot.files dir) h
+  pub complete : (h : List Event) (replies : List ReplyText) → s.told.depot → IsArchive s.id_of (old_archive dir s) h
       → AreReplies (replay h) paths replies → (DepotFailed s → ⊥) → (SinkFailed s → ⊥)
       → IsPrintedWith (flat_map reply_line replies) (replies_status replies) s status

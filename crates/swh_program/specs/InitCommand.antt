@@ -5,7 +5,7 @@ use Rattle.swh_outside.specs.Files.{Files, EachImages, FilesBreaks, files_done}
 use Rattle.swh_segment.specs.Making.{IsMade, IsNotMade, IsNotMadeOrEmpty, IsEmptyArchive, IsCrashSafe, making_calls}
 use Rattle.swh_program.specs.Seen.{Span, DepotFailed, SinkFailed}
 use Rattle.swh_program.specs.Answers.{last_line_of}
-use Rattle.swh_program.specs.Archives.{archive_at, SameElsewhere}
+use Rattle.swh_program.specs.Archives.{old_archive, new_archive, SameElsewhere}
 use Rattle.swh_program.specs.LeftAlone.{IsOnDepot}
 use Rattle.swh_program.specs.Run.{IsExactly, Ends, IsPrintedWith}
 use Rattle.swh_program.specs.declared.answer.Answer.{Answer}
@@ -26,6 +26,7 @@ pub record WasMade (old new : Files) : Type 0 where
 abbrev pub IsCutMaking : Files → Files → Type 0
 IsCutMaking old new = (new ≡ old) ⊎ FilesBreaks (making_calls (old 0).seen) old new
 
+-- how `init` ends, by the files of its folder
 abbrev pub InitEnds : Files → Files → Answer → Type 0
 InitEnds old new Made = IsMaking old new
 InitEnds old new AlreadyMade = WasMade old new
@@ -50,9 +51,9 @@ pub record IsSafeInit (old new : Files) : Type 0 where
 -- This answer came of `init`; the files of its folder, and no others, changed as it says.
 pub record Inits (dir : List ℕ) (s : Span) (answer : Answer) : Type 0 where
   pub one_of : IsInitAnswer answer
-  pub ends : s.told.depot → InitEnds (archive_at s.old.depot.files dir) (archive_at s.new.depot.files dir) answer
+  pub ends : s.told.depot → InitEnds (old_archive dir s) (new_archive dir s) answer
   pub elsewhere : s.told.depot → SameElsewhere dir s.old.depot.files s.new.depot.files
-  pub crash : s.told.depot → IsSafeInit (archive_at s.old.depot.files dir) (archive_at s.new.depot.files dir)
+  pub crash : s.told.depot → IsSafeInit (old_archive dir s) (new_archive dir s)
   pub cause : answer ≡ OutsideDisk → DepotFailed s
   pub left : IsOnDepot s
 
@@ -63,7 +64,7 @@ pub record DoesInit (dir : List ℕ) (s : Span) (status : ℕ) : Type 0 where
   pub not_wanting : status ≢ 1
   pub not_refused : status ≢ 2
   -- 3: the archive was made before.
-  pub made_before : s.told.depot → IsExactly 3 (IsMade (archive_at s.old.depot.files dir 0).seen) status
+  pub made_before : s.told.depot → IsExactly 3 (IsMade (old_archive dir s 0).seen) status
   -- An archive that is not made is made, unless memory runs out, where no part of the outside failed.
-  pub complete : s.told.depot → IsNotMade (archive_at s.old.depot.files dir 0).seen → (DepotFailed s → ⊥) → (SinkFailed s → ⊥)
+  pub complete : s.told.depot → IsNotMade (old_archive dir s 0).seen → (DepotFailed s → ⊥) → (SinkFailed s → ⊥)
       → IsPrintedWith (last_line_of Made) 0 s status

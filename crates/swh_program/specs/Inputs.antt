@@ -38,6 +38,7 @@ pub record Inputs : Type 1 where
   pub failures : List ℕ → ℕ
   pub failures_now : List ℕ → ℕ
 
+-- the same of their parts
 abbrev pub inputs : Type 0 → FileAt → (List ℕ → ℕ) → (List ℕ → ℕ) → Inputs
 inputs tell at failures failures_now = record { tell = tell; at = at; failures = failures; failures_now = failures_now }
 
@@ -53,6 +54,7 @@ pub record Input : Type 1 where
   pub head : Option (List ℕ)
   pub failed : Type 0
 
+-- the input of a job
 abbrev pub input_of : Inputs → Job → Input
 input_of of_jobs job = record {
   tells = of_jobs.tell;

@@ -13,11 +13,13 @@ use Rattle.swh_program.specs.declared.answer.Ending.TheVariants as ending
 use Rattle.swh_program.specs.declared.answer.Answer.{Answer}
 use Rattle.swh_program.specs.declared.answer.Answer.TheVariants.{Told}
 
+-- how a run ends with one job whose visit ended so
 abbrev pub ending_of_end : End → Ending
 ending_of_end (Full snapshot) = ending.Done
 ending_of_end NotFound = ending.Wanting
 ending_of_end (Failed bad) = ending.Wanting
 
+-- how it ends with one whose load stopped for this
 abbrev pub ending_of_why : LoadWhy → Ending
 ending_of_why (why.Ended status) = ending.Wanting
 ending_of_why why.DiskFault = ending.OutsideDisk
@@ -25,6 +27,7 @@ ending_of_why why.Wounded = ending.OutsideDisk
 ending_of_why (why.Limit which number) = ending.Wanting
 ending_of_why why.Memory = ending.Memory
 
+-- how it ends with one job
 abbrev pub ending_for : Result Loaded LoadFault → Ending
 ending_for (Ok loaded) = ending_of_end loaded.end
 ending_for (Err fault) = ending_of_why fault.why
@@ -35,9 +38,11 @@ pub record LoadedJob : Type 0 where
   pub date : ℕ
   pub outcome : Result Loaded LoadFault
 
+-- the dates of loads
 abbrev pub dates : List LoadedJob → List ℕ
 dates loads = map (λ l. l.date) loads
 
+-- how they ended
 abbrev pub outcomes : List LoadedJob → List (Result Loaded LoadFault)
 outcomes loads = map (λ l. l.outcome) loads
 
@@ -48,10 +53,12 @@ worse ending.Wanting b = elim b [ ending.Done ↦ ending.Wanting | ending.Wantin
 worse ending.Memory b = elim b [ ending.Done ↦ ending.Memory | ending.Wanting ↦ ending.Memory | ending.OutsideDisk ↦ ending.OutsideDisk | ending.Memory ↦ ending.Memory ]
 worse ending.OutsideDisk b = ending.OutsideDisk
 
+-- the worst of the endings
 abbrev pub ending_of_all : List (Result Loaded LoadFault) → Ending
 ending_of_all [] = ending.Done
 ending_of_all (o ∷ more) = worse (ending_for o) (ending_of_all more)
 
+-- the line of a load
 abbrev pub load_line : LoadedJob → List ℕ
 load_line l = report_of l.job.url l.outcome
 

@@ -1,7 +1,6 @@
 -- What `load` does.
 use Rattle.std.specs.Prelude.{◌≡◌, ◌⊎◌, ◌<◌, ◌++◌, ℕ, List, Contains, map, flat_map}
 use Rattle.std.specs.List.{AllByRecursion}
-use Rattle.swh_outside.specs.Files.{Files}
 use Rattle.swh_model.specs.declared.event.Event.{Event}
 use Rattle.swh_model.specs.Meaning.{Made}
 use Rattle.swh_model.specs.Step.{replay}
@@ -9,7 +8,7 @@ use Rattle.swh_jobs.specs.Job.{Job}
 use Rattle.swh_jobs.specs.declared.fault.JobWhy.{JobWhy}
 use Rattle.swh_program.specs.Seen.{Span, DepotFailed, DeskFailed, ClockFailed, SinkFailed}
 use Rattle.swh_program.specs.Answers.{TellsDisk}
-use Rattle.swh_program.specs.Archives.{archive_at, SameElsewhere}
+use Rattle.swh_program.specs.Archives.{old_archive, new_archive, SameElsewhere}
 use Rattle.swh_program.specs.Causes.{IsFullLine, HasShortLine, IsBadInput}
 use Rattle.swh_program.specs.Complete.{MeantJob, jobs_of, full_lines, all_made, AreMeant, HasAllMade, HasOneBody, HasRoom, AreQuiet}
 use Rattle.swh_program.specs.Exact.{IsExact}
@@ -36,13 +35,6 @@ givens_of s = record {
   time = s.old.clock.time;
   disks_tell = s.told.depot;
 }
-
--- the archive in a folder at the start of a run, and at its end
-abbrev pub old_archive : List ℕ → Span → Files
-old_archive dir s = archive_at s.old.depot.files dir
-
-abbrev pub new_archive : List ℕ → Span → Files
-new_archive dir s = archive_at s.new.depot.files dir
 
 -- This answer came of `load`; no files but those of its folder changed; a part of the outside that it names failed; and
 -- what comes after a refusal was left alone.

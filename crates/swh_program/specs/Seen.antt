@@ -75,15 +75,18 @@ pub record Span : Type 1 where
   pub new : Seen
   pub same : Same
 
--- A part failed in the run.
+-- The depot, or a disk of it, failed in the run.
 abbrev pub DepotFailed : Span → Type 0
 DepotFailed s = Rose s.old.depot.faults s.new.depot.faults
 
+-- The desk failed.
 abbrev pub DeskFailed : Span → Type 0
 DeskFailed s = Rose s.old.desk.faults s.new.desk.faults
 
+-- The clock failed.
 abbrev pub ClockFailed : Span → Type 0
 ClockFailed s = Rose s.old.clock.faults s.new.clock.faults
 
+-- The sink failed.
 abbrev pub SinkFailed : Span → Type 0
 SinkFailed s = Rose s.old.sink.faults s.new.sink.faults

@@ -63,7 +63,8 @@ fn jobs_of(alloc: Global, bytes: &[u8]) -> Result<Vec<JobLine>, Answer>
     }
 }
 
-// A front of a job file, longer than any is where it is not all of it. No more than a window above that length is taken.
+// A front of a job file, longer than any is where it is not all of it. No more than a window above that length is
+// taken.
 fn read_job_file<S: Source>(alloc: Global, source: &mut S) -> Result<Vec<u8>, SourceFault>
     ensures front { S.tells → IfOk result (λ bytes.
         IsFront (S.left source.old) (S.left source.new) LONGEST bytes.items) }

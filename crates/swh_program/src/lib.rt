@@ -1,6 +1,7 @@
 //! The program: reads its words, does what they say with the parts of the outside, and prints what came of it.
 //! Stands on all other crates.
-//! `swharc` may rely on: the clauses of `run`, which are the archive theorem for the commands that stand.
+//! `swharc` may rely on: the clauses of `run`, which are the archive theorem for the commands that stand; what each
+//! command does is a record of its own (`Does` in specs/Commands.antt names them).
 #![tactic(auto)]
 
 mod answer;

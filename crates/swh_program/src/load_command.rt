@@ -5,10 +5,10 @@ ghost use Rattle.swh_jobs.specs.Answers.{jobs_of};
 ghost use Rattle.swh_jobs.specs.JobFile.{AreJobs};
 ghost use Rattle.swh_program.specs.Seen.{DepotFailed, ClockFailed};
 ghost use Rattle.swh_program.specs.Answers.{TellsDisk};
-ghost use Rattle.swh_program.specs.Archives.{SameElsewhere};
+ghost use Rattle.swh_program.specs.Archives.{SameElsewhere, old_archive, new_archive};
 ghost use Rattle.swh_program.specs.LeftAlone.{KeepsTheRest, IsArchiveRefusal, IsBeforeInputs};
 ghost use Rattle.swh_program.specs.Load.{IsLoadedOrNot};
-ghost use Rattle.swh_program.specs.LoadCommand.{givens_of, old_archive, new_archive, Loads};
+ghost use Rattle.swh_program.specs.LoadCommand.{givens_of, Loads};
 ghost use Rattle.swh_program.specs.Loading.{IsKeptRun};
 ghost use Rattle.swh_program.specs.declared.answer.Answer.TheVariants.{OutsideClock};
 
