@@ -35,16 +35,16 @@ applied h by wish h' outcome a = ap replay a.added_behind ∙ after_all-push emp
 pub added_event : (h : List Event) (by : ℕ) (wish : EventKind) (h' : List Event) (outcome : Outcome) → Applies h by wish h' outcome → h' ≡ h ++ record { by = by; what = event_of (replay h) wish } ∷ []
 added_event h by wish h' outcome a = a.added_behind ∙ ap (λ (e : Event). h ++ e ∷ []) a.verdict.1
 
-get-last : (vs : List Visit) (v : Visit) → slice_get (vs ++ v ∷ []) (length vs) ≡ Some v
+pub get-last : (vs : List Visit) (v : Visit) → slice_get (vs ++ v ∷ []) (length vs) ≡ Some v
 get-last [] v = refl
 get-last (x ∷ vs) v = get-last vs v
 
-get-marked_self : (vs : List Visit) (k : ℕ) (v : Visit) (s : Status) (snapshot : Option (List ℕ)) → slice_get vs k ≡ Some v → slice_get (marked_at vs k s snapshot) k ≡ Some (with_status v s snapshot)
+pub get-marked_self : (vs : List Visit) (k : ℕ) (v : Visit) (s : Status) (snapshot : Option (List ℕ)) → slice_get vs k ≡ Some v → slice_get (marked_at vs k s snapshot) k ≡ Some (with_status v s snapshot)
 get-marked_self [] k v s snapshot e = absurd (let f : None ≡ Some v = e in cc)
 get-marked_self (x ∷ vs) zero v s snapshot e = let same : x ≡ v = cc in ap (λ (y : Visit). Some (with_status y s snapshot)) same
 get-marked_self (x ∷ vs) (suc k) v s snapshot e = get-marked_self vs k v s snapshot e
 
-one_less : (n : ℕ) → n + 1 - 1 ≡ n
+pub one_less : (n : ℕ) → n + 1 - 1 ≡ n
 one_less n = omega arith
 
 opened_number : (o : Outcome) (m n event visit : ℕ) → o ≡ Opened m n → o ≡ Opened event visit → visit ≡ n

@@ -4,6 +4,7 @@ pub mod Ending
 pub mod Leaving
 pub mod Reading
 pub mod Report
+pub mod Room
 pub mod Sending
 pub mod Steps
 pub mod Stopping

@@ -113,7 +113,7 @@ module _ {D : Type 0} (id_of : Kind → List ℕ → List ℕ) (input : Input) (
       }
   stops_visit fault (inr later) =
       let own = λ (e : Event) (is : IsOwn P a fault.visit e). own_next P a old.history new.history e later.more (opening a) later.opened adds (subst (λ (n : ℕ). IsOwn P a n e) later.visit is) in
-      record { visit = inr (later.visit, later.more, later.opened); stops = stops_for (IsOwn P a fault.visit) own fault.why later.stops }
+      record { visit = inr (later.visit, later.more, later.opened, later.unended); stops = stops_for (IsOwn P a fault.visit) own fault.why later.stops }
 
 -- a job as it was loaded
 abbrev pub loaded_job : {S : Type 0} → Job → OneLoad S → LoadedJob

@@ -1,21 +1,25 @@
 -- Loads against which nothing stands are told as their inputs have it, or memory ran out.
-use Rattle.std.proofs.Common.{◌≡◌, ◌⊎◌, inl, inr, ⊎_elim, ℕ, Option, Some, Result, Ok, Err, List, [], ◌∷◌, ◌++◌, map, Contains, refl, sym, ap, ◌∙◌, subst, append_assoc}
+use Rattle.std.proofs.Common.{◌≡◌, ◌⊎◌, inl, inr, ⊎_elim, ℕ, ◌+◌, ◌*◌, ◌≤◌, Option, Some, None, Result, Ok, Err, List, [], ◌∷◌, ◌++◌, length, map, Contains, refl, sym, ap, ◌∙◌, subst, arith}
 use Rattle.std.specs.List.{AllByRecursion, flat_map}
 use Rattle.swh_base.specs.declared.kind.Kind.{Kind}
 use Rattle.swh_base.specs.declared.entry.Entry.{Entry}
 use Rattle.swh_base.specs.declared.name.Name.{Name}
-use Rattle.swh_outside.specs.Files.{Files}
-use Rattle.swh_jobs.specs.Job.{Job}
+use Rattle.swh_base.specs.declared.visit.Status.TheVariants.{Created}
+use Rattle.swh_base.specs.declared.visit.Which.{Which}
+use Rattle.swh_jobs.specs.Job.{Job, IsJob}
 use Rattle.swh_jobs.specs.JobFile.{AreDistinct, origins}
 use Rattle.swh_model.specs.declared.event.Event.{Event}
 use Rattle.swh_model.specs.Archive.{empty_archive}
+use Rattle.swh_model.specs.Coding.{AreCodable}
 use Rattle.swh_model.specs.Meaning.{Made as MadeObject, Making}
-use Rattle.swh_model.specs.Step.{IsHistory, replay}
+use Rattle.swh_model.specs.Step.{Statuses, IsHistory, replay}
 use Rattle.swh_fastload.specs.Making.{made}
 use Rattle.swh_model.proofs.Histories.{fronts}
-use Rattle.swh_loader.specs.Adding.{attempt}
+use Rattle.swh_loader.specs.Adding.{Attempt, attempt, opening}
+use Rattle.swh_loader.specs.Ending.{statuses_of}
 use Rattle.swh_loader.specs.Leaving.{AddsVisit, next_visit}
 use Rattle.swh_loader.specs.Report.{report_of}
+use Rattle.swh_loader.specs.Visiting.{IsVisit, IsOpen}
 use Rattle.swh_loader.specs.declared.end.BadInput.TheVariants.{Stream, Collision, Read}
 use Rattle.swh_loader.specs.declared.end.End.{End}
 use Rattle.swh_loader.specs.declared.end.End.TheVariants.{Full, NotFound, Failed}
@@ -23,12 +27,13 @@ use Rattle.swh_loader.specs.declared.end.Loaded.{Loaded}
 use Rattle.swh_loader.specs.declared.fault.LoadWhy.{LoadWhy}
 use Rattle.swh_loader.specs.declared.fault.LoadWhy.TheVariants as why
 use Rattle.swh_loader.specs.declared.fault.LoadFault.{LoadFault}
-use Rattle.swh_program.specs.Complete.{AreMade, HasAllMade, HasBody, HasOneBody, HasRoom}
+use Rattle.swh_loader.proofs.Marks.{others, others_none, others_most, ended_most}
+use Rattle.swh_loader.proofs.Room.{HasRoomLeft, room_after, none_meets_end}
+use Rattle.swh_program.specs.Complete.{AreMade, HasAllMade, HasBody, HasOneBody}
 use Rattle.swh_program.specs.Exact.{line_for, lines_for, ending_of_ends, MeansSnapshot, IsEndFor, IsExactEnd, AreExactEnds}
-use Rattle.swh_program.specs.Inputs.{Inputs, input_of, loader, IsInputEnd, StopsFor, IsOutcome}
+use Rattle.swh_program.specs.Inputs.{Inputs, input_of, loader, IsInputEnd, MeetsEnd, StopsFor, StopsVisit, IsOutcome}
 use Rattle.swh_program.specs.Lines.{LoadedJob, outcomes, load_line, ending_of_end, ending_of_why, ending_for, ending_of_all, worse}
 use Rattle.swh_program.specs.Load.{IsOfJob, AreJobLoads}
-use Rattle.swh_program.specs.Opening.{IsArchive}
 use Rattle.swh_program.specs.declared.answer.Ending.{Ending}
 use Rattle.swh_program.specs.declared.answer.Ending.TheVariants as ending
 use Rattle.swh_program.proofs.Elements.{contains_first, contains_more}
@@ -64,8 +69,8 @@ memory-worse ends =
     ⊎_elim (λ (done : ending_of_ends ends ≡ ending.Done). ap (worse ending.Memory) done) (λ (wanting : ending_of_ends ends ≡ ending.Wanting). ap (worse ending.Memory) wanting) (ends_or ends)
 
 -- Nothing stands against the loads of these jobs but their inputs.
-module _ (id_of : Kind → List ℕ → List ℕ) (of_jobs : Inputs) (told : of_jobs.tell) (before : List Event) (all : List Job) (objects : List MadeObject) (new : Files)
-    (has : HasAllMade id_of of_jobs.at all objects) (one : HasOneBody id_of (replay before).bodies objects) (room : HasRoom id_of before all objects new) where
+module _ (id_of : Kind → List ℕ → List ℕ) (of_jobs : Inputs) (told : of_jobs.tell) (before : List Event) (all : List Job) (objects : List MadeObject)
+    (has : HasAllMade id_of of_jobs.at all objects) (one : HasOneBody id_of (replay before).bodies objects) where
   abbrev HadBefore : List Event → Type 0
   HadBefore h = Had id_of (replay before).bodies objects (replay h).bodies
 
@@ -123,10 +128,47 @@ module _ (id_of : Kind → List ℕ → List ℕ) (of_jobs : Inputs) (told : of_
         has_more name body (inr makes) = inr (more (record { kind = name.kind; body = body }) makes.0, makes.1)
 
     -- one load of it
-    module _ (date : ℕ) (earlier h h' later : List Event) (begins : h ≡ before ++ earlier) (archive : IsArchive id_of new (h' ++ later)) (had : HadBefore h') (next : IsNextAt h job) where
-      made_next : (e : Event) → AddsVisit Allowed (attempt loader job.url date) h (h' ++ e ∷ []) → AddsVisit (AreMade id_of objects) (attempt loader job.url date) (before ++ earlier) (h' ++ e ∷ [])
-      made_next e adds =
-          subst (λ (g : List Event). AddsVisit (AreMade id_of objects) (attempt loader job.url date) g (h' ++ e ∷ [])) begins (of_load date h (h' ++ e ∷ []) adds)
+    module _ (date : ℕ) (h h' later : List Event) (history : IsHistory id_of h') (fits : AreCodable 0 (h' ++ later)) (adds : AddsVisit Allowed (attempt loader job.url date) h h') (had : HadBefore h') (next : IsNextAt h job)
+        (is_job : IsJob job) where
+      abbrev t : Attempt
+      t = attempt loader job.url date
+
+      made_adds : AddsVisit (AreMade id_of objects) t h h'
+      made_adds = of_load date h h' adds
+
+      -- it added three openings and marks at most, and two where it stopped
+      most_by : (number : ℕ) (statuses : Statuses) → number ≡ next_visit h job.url → IsVisit h' t number statuses → others made_adds.more ≤ length statuses
+      most_by number statuses same visit = others_most id_of (AreMade id_of objects) t h h' history made_adds statuses (subst (λ (n : ℕ). IsVisit h' t n statuses) same visit)
+
+      stopped_most : (fault : LoadFault) → StopsVisit id_of (input_of of_jobs job) t h h' fault → others made_adds.more ≤ 2
+      stopped_most fault stops = ⊎_elim
+          (λ (once : (fault.visit ≡ 0) × (h' ≡ h)). let none = others_none (AreMade id_of objects) t h h' made_adds once.1 in omega (arith, none))
+          (λ (later_on : (fault.visit ≡ next_visit h job.url) × (more : List Event) × (h' ≡ h ++ opening t ∷ more) × IsOpen h' t fault.visit).
+          let open_ = later_on.3 in
+          let most = most_by fault.visit open_.statuses later_on.0 open_.visit in
+          let few = open_.few in
+          omega (arith, most, few))
+          stops.visit
+
+      outcome_most : (outcome : Result Loaded LoadFault) → IsOutcome id_of (input_of of_jobs job) t h h' outcome → others made_adds.more ≤ 3
+      outcome_most (Ok l) line =
+          let most = most_by l.visit ((Created, None) ∷ statuses_of l.end) line.number line.visit in
+          let three = ended_most l.end in
+          omega (arith, most, three)
+      outcome_most (Err f) line = let most = stopped_most f line in omega (arith, most)
+
+      room_left : (outcome : Result Loaded LoadFault) (marks left : ℕ) → IsOutcome id_of (input_of of_jobs job) t h h' outcome → 3 + left ≤ marks → HasRoomLeft id_of objects h marks → HasRoomLeft id_of objects h' left
+      room_left outcome marks left line enough room =
+          let most = outcome_most outcome line in
+          room_after id_of objects t h h' later marks left history fits made_adds (omega (arith, most, enough)) room
+
+      -- so none of its events met a file's end
+      none_met : (fault : LoadFault) (marks : ℕ) (which : Which) (number : ℕ) → StopsVisit id_of (input_of of_jobs job) t h h' fault → 3 ≤ marks → HasRoomLeft id_of objects h marks
+          → MeetsEnd id_of (input_of of_jobs job) t h h' which number → ⊥
+      none_met fault marks which number stops enough room meets =
+          let most = stopped_most fault stops in
+          let room_now = room_after id_of objects t h h' later marks 1 history fits made_adds (omega (arith, most, enough)) room in
+          none_meets_end id_of objects t h h' later meets.event is_job.is_url.short fits meets.may made_adds (of_load date h (h' ++ meets.event ∷ []) meets.next) room_now which number meets.passes
 
       -- how its visit ends
       end_exact : (end : End) → IsInputEnd id_of (input_of of_jobs job) (replay h').bodies end → IsEnd job end
@@ -147,21 +189,20 @@ module _ (id_of : Kind → List ℕ → List ℕ) (of_jobs : Inputs) (told : of_
       end_exact (Failed Read) is = inr (refl, is)
 
       -- why it stopped
-      stop_done : (reason : LoadWhy) → StopsFor id_of (input_of of_jobs job) (attempt loader job.url date) h h' reason
-          → (ending_of_why reason ≡ ending.OutsideDisk → ⊥) → ending_of_why reason ≡ ending.Memory
-      stop_done (why.Ended status) stops apart = absurd stops
-      stop_done why.DiskFault stops apart = absurd (apart refl)
-      stop_done why.Wounded stops apart = absurd (apart refl)
-      stop_done (why.Limit which number) stops apart =
-          absurd (room.room job date earlier h' later stops.event among archive (made_next stops.event stops.next) stops.may which number stops.passes)
-      stop_done why.Memory stops apart = refl
+      stop_done : (fault : LoadFault) (marks : ℕ) → 3 ≤ marks → HasRoomLeft id_of objects h marks → StopsVisit id_of (input_of of_jobs job) t h h' fault
+          → (reason : LoadWhy) → StopsFor id_of (input_of of_jobs job) t h h' reason → (ending_of_why reason ≡ ending.OutsideDisk → ⊥) → ending_of_why reason ≡ ending.Memory
+      stop_done fault marks enough room at (why.Ended status) stops apart = absurd stops
+      stop_done fault marks enough room at why.DiskFault stops apart = absurd (apart refl)
+      stop_done fault marks enough room at why.Wounded stops apart = absurd (apart refl)
+      stop_done fault marks enough room at (why.Limit which number) stops apart = absurd (none_met fault marks which number at enough room stops)
+      stop_done fault marks enough room at why.Memory stops apart = refl
 
-      one_done : (outcome : Result Loaded LoadFault) → IsOutcome id_of (input_of of_jobs job) (attempt loader job.url date) h h' outcome
+      one_done : (outcome : Result Loaded LoadFault) (marks : ℕ) → 3 ≤ marks → HasRoomLeft id_of objects h marks → IsOutcome id_of (input_of of_jobs job) t h h' outcome
           → (ending_for outcome ≡ ending.OutsideDisk → ⊥) → IsOneDone job outcome
-      one_done (Ok l) line apart =
+      one_done (Ok l) marks enough room line apart =
           let count : l.visit ≡ next_visit before job.url = line.number ∙ next in
           inr (record { end = l.end; is_end = end_exact l.end line.end; ending_is = refl; line_is = λ i. report_of job.url (Ok (record { visit = count i; end = l.end })) })
-      one_done (Err f) line apart = inl (stop_done f.why line.stops apart)
+      one_done (Err f) marks enough room line apart = inl (stop_done f marks enough room line f.why line.stops apart)
 
   -- a load leaves the next visits of the jobs behind it
   others_next : (P : List Entry → Type 0) (origin : List ℕ) (date : ℕ) (h h' : List Event) → IsHistory id_of h' → AddsVisit P (attempt loader origin date) h h' → (jobs : List Job)
@@ -187,23 +228,26 @@ module _ (id_of : Kind → List ℕ → List ℕ) (of_jobs : Inputs) (told : of_
       })
 
   -- jobs loaded one after the other
-  pub all_done : (loads : List LoadedJob) (jobs : List Job) (earlier h after : List Event) → map (λ l. l.job) loads ≡ jobs → AllByRecursion (Contains all) jobs
-      → AreDistinct (origins jobs) → AllByRecursion (IsNextAt h) jobs → HadBefore h → h ≡ before ++ earlier
-      → IsHistory id_of after → IsArchive id_of new after → AreJobLoads id_of of_jobs loads h after → (ending_of_all (outcomes loads) ≡ ending.OutsideDisk → ⊥) → AreDone loads jobs
-  all_done [] [] earlier h after are among distinct next had begins history archive each apart = inr (record { ends = []; are_ends = tt; ending_is = refl; lines_are = refl })
-  all_done [] (job ∷ jobs) earlier h after are among distinct next had begins history archive each apart = let e : [] ≡ job ∷ jobs = are in absurd (cc)
-  all_done (l ∷ loads) [] earlier h after are among distinct next had begins history archive each apart = let e : l.job ∷ map (λ k. k.job) loads ≡ [] = are in absurd (cc)
-  all_done (l ∷ loads) (job ∷ jobs) earlier h after are among distinct next had begins history archive each apart =
+  pub all_done : (loads : List LoadedJob) (jobs : List Job) (h after : List Event) → map (λ l. l.job) loads ≡ jobs → AllByRecursion (Contains all) jobs → AllByRecursion IsJob jobs
+      → AreDistinct (origins jobs) → AllByRecursion (IsNextAt h) jobs → HadBefore h → HasRoomLeft id_of objects h (length jobs * 3)
+      → IsHistory id_of after → AreCodable 0 after → AreJobLoads id_of of_jobs loads h after → (ending_of_all (outcomes loads) ≡ ending.OutsideDisk → ⊥) → AreDone loads jobs
+  all_done [] [] h after are among good distinct next had room history fits each apart = inr (record { ends = []; are_ends = tt; ending_is = refl; lines_are = refl })
+  all_done [] (job ∷ jobs) h after are among good distinct next had room history fits each apart = let e : [] ≡ job ∷ jobs = are in absurd (cc)
+  all_done (l ∷ loads) [] h after are among good distinct next had room history fits each apart = let e : l.job ∷ map (λ k. k.job) loads ≡ [] = are in absurd (cc)
+  all_done (l ∷ loads) (job ∷ jobs) h after are among good distinct next had room history fits each apart =
       let both : l.job ∷ map (λ k. k.job) loads ≡ job ∷ jobs = are in
       let same : l.job ≡ job = cc in
-      let others : map (λ k. k.job) loads ≡ jobs = cc in
+      let others_same : map (λ k. k.job) loads ≡ jobs = cc in
       let between = each.0 in
       let rest = all_behind id_of of_jobs loads between after each.2 in
       let here : IsHistory id_of between = (fronts id_of empty_archive between rest.0 (subst (IsHistory id_of) rest.1 history)).0 in
+      let fits_here : AreCodable 0 (between ++ rest.0) = subst (AreCodable 0) rest.1 fits in
       let adds = subst (λ (j : Job). AddsVisit (IsOfJob id_of of_jobs j) (attempt loader j.url l.date) h between) same each.1.nothing_else in
       let line = subst (λ (j : Job). IsOutcome id_of (input_of of_jobs j) (attempt loader j.url l.date) h between l.outcome) same each.1.line in
       let had_here = had_load job among.0 l.date h between here adds had in
+      let marks = length (job ∷ jobs) * 3 in
+      let room_here = room_left job among.0 l.date h between rest.0 here fits_here adds had_here next.0 good.0 l.outcome marks (length jobs * 3) line (omega arith) room in
       both_done l loads job jobs same
-      (one_done job among.0 l.date earlier h between rest.0 begins (subst (IsArchive id_of new) rest.1 archive) had_here next.0 l.outcome line (first_apart l.outcome (outcomes loads) apart))
-      (all_done loads jobs (earlier ++ adds.more) between after others among.1 distinct.1 (others_next (IsOfJob id_of of_jobs job) job.url l.date h between here adds jobs distinct.0 next.1) had_here
-      (adds.behind ∙ ap (λ (g : List Event). g ++ adds.more) begins ∙ append_assoc before earlier adds.more) history archive each.2 (others_apart l.outcome (outcomes loads) apart))
+      (one_done job among.0 l.date h between rest.0 here fits_here adds had_here next.0 good.0 l.outcome marks (omega arith) room line (first_apart l.outcome (outcomes loads) apart))
+      (all_done loads jobs between after others_same among.1 good.1 distinct.1 (others_next (IsOfJob id_of of_jobs job) job.url l.date h between here adds jobs distinct.0 next.1) had_here room_here
+      history fits each.2 (others_apart l.outcome (outcomes loads) apart))

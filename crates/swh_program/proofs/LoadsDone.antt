@@ -1,5 +1,5 @@
 -- A run of `load` against which nothing stands tells each job's line as the input has it, or memory ran out.
-use Rattle.std.proofs.Common.{◌≡◌, inl, inr, ⊎_elim, ℕ, Option, Some, List, [], ◌∷◌, ◌++◌, map, Contains, refl, sym, ap, ◌∙◌, subst}
+use Rattle.std.proofs.Common.{◌≡◌, inl, inr, ⊎_elim, ℕ, ◌*◌, Option, Some, List, [], ◌∷◌, ◌++◌, length, map, Contains, refl, sym, ap, ◌∙◌, subst}
 use Rattle.std.specs.List.{AllByRecursion}
 use Rattle.std.proofs.lemmas.List.{append-nil}
 use Rattle.swh_base.specs.declared.kind.Kind.{Kind}
@@ -13,6 +13,7 @@ use Rattle.swh_model.specs.Step.{replay}
 use Rattle.swh_fastload.proofs.Loads.{one_meaning_lem}
 use Rattle.swh_loader.specs.Leaving.{next_visit}
 use Rattle.swh_loader.proofs.Limiting.{at_element}
+use Rattle.swh_loader.proofs.Room.{HasRoomLeft, room_at_entry}
 use Rattle.swh_loader.specs.declared.end.BadInput.TheVariants.{Stream, Collision, Read}
 use Rattle.swh_loader.specs.declared.end.End.{End}
 use Rattle.swh_loader.specs.declared.end.End.TheVariants.{Full, NotFound, Failed}
@@ -45,13 +46,13 @@ no_disk_told loads text end tells apart e = apart (tells.end_is ∙ e)
 -- a run of `load`
 module _ (g : Givens) (desk_at : FileAt) (inputs : g.inputs.tell) (disks : g.disks_tell)
     (path : List ℕ) (before : List Event) (jobs : List Job) (objects : List MadeObject) (old new : Files) (archive : IsArchive g.id_of old before) (there : AreJobsAt desk_at path jobs)
-    (has : HasAllMade g.id_of g.inputs.at jobs objects) (one : HasOneBody g.id_of (replay before).bodies objects) (room : HasRoom g.id_of before jobs objects new) where
+    (has : HasAllMade g.id_of g.inputs.at jobs objects) (one : HasOneBody g.id_of (replay before).bodies objects) (room : HasRoom g.id_of before jobs objects) where
   abbrev Exactly : Answer → Type 0
   Exactly answer = IsExact g.id_of g.inputs (replay before) jobs answer
 
   -- the lines of loads that are told, or memory ran out
   module _ (loads : List LoadedJob) (text : List ℕ) (end : Ending) (tells : TellsLoads loads text end) where
-    told_lines : AreDone g.id_of g.inputs inputs before jobs objects new has one room loads jobs → Exactly (Told text end)
+    told_lines : AreDone g.id_of g.inputs inputs before jobs objects has one loads jobs → Exactly (Told text end)
     told_lines (inl memory) = inl (ap status_for (tells.end_is ∙ memory))
     told_lines (inr done) =
         let finished : end ≡ ending_of_ends done.ends = tells.end_is ∙ done.ending_is in
@@ -64,13 +65,14 @@ module _ (g : Givens) (desk_at : FileAt) (inputs : g.inputs.tell) (disks : g.dis
   next_same h same (job ∷ js) = (ap (λ (g : List Event). next_visit g job.url) same, next_same h same js)
 
   loads_done : (loads : List LoadedJob) → map (λ l. l.job) loads ≡ jobs → IsLoad g old new loads → (ending_of_all (outcomes loads) ≡ ending.OutsideDisk → ⊥)
-      → AreDone g.id_of g.inputs inputs before jobs objects new has one room loads jobs
+      → AreDone g.id_of g.inputs inputs before jobs objects has one loads jobs
   loads_done loads are load apart =
       let same : load.before ≡ before = one_archive g.id_of old load.before before (load.archive disks) archive in
       let standing = (load.disks disks).standing (no_disk_faults (outcomes loads) apart) in
-      all_done g.id_of g.inputs inputs before jobs objects new has one room loads jobs [] load.before load.after are (each_among jobs) there.are.good.distinct (next_same load.before same jobs)
-      (λ n body held. inl (subst (λ (h : List Event). body_of (replay h).bodies n ≡ Some body) same held)) (same ∙ sym (append-nil before)) load.history
-      (record { stand = standing.stand; history = load.history }) load.each apart
+      all_done g.id_of g.inputs inputs before jobs objects has one loads jobs load.before load.after are (each_among jobs) there.are.good.each there.are.good.distinct (next_same load.before same jobs)
+      (λ n body held. inl (subst (λ (h : List Event). body_of (replay h).bodies n ≡ Some body) same held))
+      (subst (λ (h : List Event). HasRoomLeft g.id_of objects h (length jobs * 3)) (sym same) (room_at_entry g.id_of objects before (length jobs) room.ledger room.store))
+      load.history standing.stand.stands.codable load.each apart
 
   loaded_done : (answer : Answer) → AreLoadedJobs g old new jobs answer → (TellsDisk answer → ⊥) → Exactly answer
   loaded_done answer loaded no_disk =

@@ -1,24 +1,20 @@
 -- When jobs have to be full, and their lines; what their inputs make, and the room that they need.
-use Rattle.std.specs.Prelude.{◌≡◌, ◌⊎◌, ℕ, Some, List, [], ◌∷◌, ◌++◌, Contains, map, flat_map, codes}
+use Rattle.std.specs.Prelude.{◌≡◌, ◌⊎◌, ℕ, ◌+◌, ◌≤◌, Some, List, length, Contains, map, flat_map, codes}
 use Rattle.std.specs.List.{AllByRecursion}
 use Rattle.swh_base.specs.declared.kind.Kind.{Kind}
 use Rattle.swh_base.specs.declared.name.Name.{Name}
 use Rattle.swh_base.specs.declared.entry.Entry.{Entry}
-use Rattle.swh_base.specs.declared.visit.Which.{Which}
-use Rattle.swh_outside.specs.Files.{Files}
 use Rattle.swh_swhid.specs.Core.{core_text}
 use Rattle.swh_jobs.specs.Job.{Job}
 use Rattle.swh_model.specs.declared.event.Event.{Event}
 use Rattle.swh_model.specs.Answer.{line_of}
 use Rattle.swh_model.specs.Archive.{Bodies, body_of}
-use Rattle.swh_model.specs.Judge.{FilePasses}
+use Rattle.swh_model.specs.Limits.{file_limit, store_length, ledger_length}
 use Rattle.swh_model.specs.Meaning.{Made, Making, IsMeaning}
-use Rattle.swh_model.specs.Step.{May, replay, snapshot_name}
-use Rattle.swh_loader.specs.Adding.{attempt}
-use Rattle.swh_loader.specs.Leaving.{AddsVisit, next_visit}
+use Rattle.swh_model.specs.Step.{snapshot_name}
+use Rattle.swh_loader.specs.Leaving.{next_visit}
+use Rattle.swh_loader.specs.Room.{ledger_growth, store_growth}
 use Rattle.swh_program.specs.Seen.{FileAt}
-use Rattle.swh_program.specs.Inputs.{loader}
-use Rattle.swh_program.specs.Opening.{IsArchive}
 use Rattle.swh_program.specs.Run.{IsQuiet}
 
 -- a job and what its input makes
@@ -74,12 +70,11 @@ module _ (id_of : Kind → List ℕ → List ℕ) where
   pub record HasOneBody (bodies : Bodies) (objects : List Made) : Type 0 where
     pub one : (name : Name) (a b : List ℕ) → HasBody bodies objects name a → HasBody bodies objects name b → a ≡ b
 
-  -- There is room for each event that may come next in a load, begun behind the history at entry, of what the inputs
-  -- make: behind the history that the files stand for afterwards, and behind each front of it.
-  pub record HasRoom (before : List Event) (jobs : List Job) (objects : List Made) (files : Files) : Type 0 where
-    pub room : (job : Job) (date : ℕ) (earlier after later : List Event) (event : Event) → Contains jobs job → IsArchive id_of files (after ++ later)
-        → AddsVisit (AreMade objects) (attempt loader job.url date) (before ++ earlier) (after ++ event ∷ []) → May id_of (replay after) event
-        → (which : Which) (number : ℕ) → FilePasses after event.what which number → ⊥
+  -- Behind the history at entry both files have room for the most that loads of these jobs add, whose inputs make these
+  -- objects.
+  pub record HasRoom (before : List Event) (jobs : List Job) (objects : List Made) : Type 0 where
+    pub ledger : ledger_length before + ledger_growth (length jobs) objects ≤ file_limit
+    pub store : store_length before + store_growth id_of objects ≤ file_limit
 
 -- None of the jobs' paths has failed.
 abbrev pub AreQuiet : (List ℕ → ℕ) → (List ℕ → ℕ) → List MeantJob → Type 0

@@ -15,7 +15,7 @@ use Rattle.swh_model.specs.Step.{May, replay}
 use Rattle.swh_loader.specs.Adding.{Attempt, opening}
 use Rattle.swh_loader.specs.Ending.{IsMadeBy, IsFull, Collided, statuses_of}
 use Rattle.swh_loader.specs.Leaving.{AddsVisit, next_visit}
-use Rattle.swh_loader.specs.Visiting.{IsVisit}
+use Rattle.swh_loader.specs.Visiting.{IsVisit, IsOpen}
 use Rattle.swh_loader.specs.declared.end.StreamWhy.TheVariants.{LeftOut}
 use Rattle.swh_loader.specs.declared.end.BadInput.TheVariants.{Stream, Collision, Read}
 use Rattle.swh_loader.specs.declared.end.End.{End}
@@ -88,10 +88,12 @@ module _ (id_of : Kind → List ℕ → List ℕ) (input : Input) where
   StopsFor a before after (why.Limit which number) = MeetsEnd a before after which number
   StopsFor a before after why.Memory = Unit {0}
 
-  -- A load stopped before its visit was opened, with nothing added, or once it was opened.
+  -- A load stopped before its visit was opened, with nothing added, or once it was opened: the visit is there, has not
+  -- ended, and has two statuses at most.
   pub record StopsVisit (a : Attempt) (before after : List Event) (fault : LoadFault) : Type 0 where
     pub visit : ((fault.visit ≡ 0) × (after ≡ before))
-        ⊎ ((fault.visit ≡ next_visit before a.origin) × (more : List Event) × (after ≡ before ++ opening a ∷ more))
+        ⊎ ((fault.visit ≡ next_visit before a.origin) × (more : List Event) × (after ≡ before ++ opening a ∷ more)
+        × IsOpen after a fault.visit)
     pub stops : StopsFor a before after fault.why
 
   -- How the input makes its visit end.

@@ -75,19 +75,19 @@ pub record DoesLoad (dir path : List ℕ) (s : Span) (status : ℕ) : Type 0 whe
       → IsArchive s.id_of (old_archive dir s) before → AreJobsAt s.old.desk.file_at path jobs → Contains jobs job
       → IsBadInput s.id_of job.head (replay before).bodies (s.old.origins.file_at job.path) → ComesTo 1 status
   -- Each job's line is the one that the archive and its input call for, or tells a read that failed, which it does only
-  -- where the job's path has failed; unless memory runs out, where no name has two bodies, the files have room, and
-  -- neither a disk nor the desk nor the clock failed.
+  -- where the job's path has failed; unless memory runs out, where no name has two bodies, the files have room at entry
+  -- for what the inputs make, and neither a disk nor the desk nor the clock failed.
   pub exact_lines : (before : List Event) (jobs : List Job) (objects : List Made) → s.told.depot → s.told.origins
       → IsArchive s.id_of (old_archive dir s) before → AreJobsAt s.old.desk.file_at path jobs
       → HasAllMade s.id_of s.old.origins.file_at jobs objects → HasOneBody s.id_of (replay before).bodies objects
-      → HasRoom s.id_of before jobs objects (new_archive dir s)
+      → HasRoom s.id_of before jobs objects
       → (DepotFailed s → ⊥) → (DeskFailed s → ⊥) → (ClockFailed s → ⊥)
       → Ends (IsExact s.id_of (inputs_of s) (replay before) jobs) s status
   -- Jobs whose inputs are there and mean something are loaded in full, unless memory runs out, where no name has two
-  -- bodies, the files have room, and no part of the outside failed.
+  -- bodies, the files have room at entry for what they make, and no part of the outside failed.
   pub complete : (before : List Event) (meant : List MeantJob) → s.told.depot → s.told.origins
       → IsArchive s.id_of (old_archive dir s) before → AreJobsAt s.old.desk.file_at path (jobs_of meant)
       → AreMeant s.id_of s.old.origins.file_at meant → HasOneBody s.id_of (replay before).bodies (all_made meant)
-      → HasRoom s.id_of before (jobs_of meant) (all_made meant) (new_archive dir s)
+      → HasRoom s.id_of before (jobs_of meant) (all_made meant)
       → (DepotFailed s → ⊥) → (DeskFailed s → ⊥) → AreQuiet s.old.origins.path_faults s.new.origins.path_faults meant
       → (ClockFailed s → ⊥) → (SinkFailed s → ⊥) → IsPrintedWith (full_lines before meant) 0 s status
