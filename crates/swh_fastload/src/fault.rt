@@ -1,3 +1,4 @@
+// Why a stream makes no objects.
 ghost use Rattle.std.specs.Prelude.{◌≡◌};
 ghost use Rattle.swh_fastload.specs.declared.fault.StreamFault.TheVariants.{Memory as OutOfMemory};
 

@@ -1,3 +1,4 @@
+// Laws of the definitions of streams.
 ghost use Rattle.std.specs.Prelude.{◌≡◌, ℕ, List, Option};
 ghost use Rattle.swh_base.specs.declared.kind.Kind.{Kind};
 ghost use Rattle.swh_model.specs.Meaning.{Making, IsMeaning};

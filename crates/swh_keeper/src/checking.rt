@@ -118,14 +118,14 @@ fn check_mark(
     by: u32,
     origin: &Url,
     visit: u64,
-    status: Status,
-    snapshot: Option<[u8; 20]>,
+    mark: (Status, Option<[u8; 20]>),
 ) -> Result<bool, Memory>
     requires { AreClosed bodies.now closed.old }
-    ensures yes { IfOk result (λ yes. IsTrue yes → IsMarked (archive_of bodies.now visits.old) visits.new by origin.now visit status snapshot) }
-    ensures no { IfOk result (λ yes. yes ≡ false → MayMark (archive_of bodies.now visits.old) by origin.now visit status snapshot → ⊥) }
+    ensures yes { IfOk result (λ yes. IsTrue yes → IsMarked (archive_of bodies.now visits.old) visits.new by origin.now visit mark.0 mark.1) }
+    ensures no { IfOk result (λ yes. yes ≡ false → MayMark (archive_of bodies.now visits.old) by origin.now visit mark.0 mark.1 → ⊥) }
     ensures known { IfOk result (λ yes. IsTrue yes → AreClosed bodies.now closed.new) }
 {
+    let (status, snapshot) = mark;
     if !is_origin_markable(visits, origin, by, visit) {
         return Ok(false);
     }
@@ -168,7 +168,7 @@ pub fn check_kind<N: Namer>(
             status,
             snapshot,
         } => {
-            if !check_mark(bodies, closed, visits, by, &origin, visit, status, snapshot)? {
+            if !check_mark(bodies, closed, visits, by, &origin, visit, (status, snapshot))? {
                 return Ok(None);
             }
             Ok(Some(EventKind::Mark {

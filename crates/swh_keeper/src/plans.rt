@@ -145,14 +145,14 @@ pub fn plan_mark(
     by: u32,
     origin: Url,
     visit: u64,
-    status: Status,
-    snapshot: Option<[u8; 20]>,
+    mark: (Status, Option<[u8; 20]>),
 ) -> Result<Planned, PlanFault>
     requires in_files { IsInFiles replayed.now }
-    requires how { IsHow status snapshot }
-    ensures ok { (h : List Event) → IsReplayOf replayed.now h → number ≡ length h + 1 → IfOk result (IsPlanned h by (Mark origin visit status snapshot) replayed.now) }
-    ensures err { (h : List Event) → IsReplayOf replayed.now h → IfErr result (IsRefused h by (Mark origin visit status snapshot)) }
+    requires how { IsHow mark.0 mark.1 }
+    ensures ok { (h : List Event) → IsReplayOf replayed.now h → number ≡ length h + 1 → IfOk result (IsPlanned h by (Mark origin visit mark.0 mark.1) replayed.now) }
+    ensures err { (h : List Event) → IsReplayOf replayed.now h → IfErr result (IsRefused h by (Mark origin visit mark.0 mark.1)) }
 {
+    let (status, snapshot) = mark;
     let refusal = mark_visit_refusal(&replayed.visits, &origin, by, visit);
     origin_is_codable(&origin);
     snapshot_is_codable(&snapshot);
@@ -205,6 +205,6 @@ pub fn plan(
             visit,
             status,
             snapshot,
-        } => plan_mark(alloc, replayed, number, by, origin, visit, status, snapshot),
+        } => plan_mark(alloc, replayed, number, by, origin, visit, (status, snapshot)),
     }
 }

@@ -12,7 +12,8 @@ use Rattle.swh_model.specs.declared.event.EventKind.{EventKind}
 use Rattle.swh_model.specs.declared.event.EventKind.TheVariants.{Batch, Open, Mark}
 use Rattle.swh_model.specs.declared.event.Visit.{Visit}
 use Rattle.swh_model.specs.Archive.{Archive, empty_archive, visits_of}
-use Rattle.swh_model.specs.Step.{Statuses, first_of, opened, marked, marked_at, with_status, IsHistory, after, after_kind, after_all, replay, visit_at}
+use Rattle.swh_model.specs.Step.{first_of, opened, marked, marked_at, with_status, IsHistory, after, after_kind, after_all, replay, visit_at}
+use Rattle.swh_base.specs.Visit.{Statuses}
 use Rattle.swh_model.proofs.Histories.{fronts}
 use Rattle.swh_model.proofs.Maps.{visits-put}
 use Rattle.swh_loader.specs.Adding.{Attempt, opening, IsOwn, IsOwnKind}

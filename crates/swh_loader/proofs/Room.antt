@@ -17,9 +17,11 @@ use Rattle.swh_model.specs.declared.event.EventKind.TheVariants.{Batch, Open, Ma
 use Rattle.swh_model.specs.Archive.{Archive, Bodies, body_of, empty_archive}
 use Rattle.swh_model.specs.Coding.{coded_snapshot, run_of, IsCodableEntry, IsCodableKind, AreCodable}
 use Rattle.swh_model.specs.Judge.{FilePasses}
-use Rattle.swh_model.specs.Limits.{file_limit, stored_length, store_length, payload_length, records_length, ledger_length}
+use Rattle.swh_model.specs.Limits.{stored_length, store_length, payload_length, records_length, ledger_length}
+use Rattle.swh_base.specs.Limits.{file_limit}
 use Rattle.swh_model.specs.Meaning.{Made}
-use Rattle.swh_model.specs.Step.{FitsStatus, snapshot_name, May, May_kind, MayAll, IsHistory, after, after_kind, after_all, replay}
+use Rattle.swh_model.specs.Step.{FitsStatus, May, May_kind, MayAll, IsHistory, after, after_kind, after_all, replay}
+use Rattle.swh_base.specs.Snapshot.{snapshot_name}
 use Rattle.swh_model.proofs.Entries.{none-empty}
 use Rattle.swh_model.proofs.Histories.{fronts}
 use Rattle.swh_model.proofs.Maps.{added-all}

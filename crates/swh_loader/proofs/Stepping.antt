@@ -12,7 +12,8 @@ use Rattle.swh_model.specs.declared.event.EventKind.{EventKind}
 use Rattle.swh_model.specs.declared.event.Outcome.{Outcome}
 use Rattle.swh_model.specs.declared.event.No.TheVariants.{Limit}
 use Rattle.swh_model.specs.Judge.{FilePasses, IsCause, event_of}
-use Rattle.swh_model.specs.Step.{May, Statuses, replay}
+use Rattle.swh_model.specs.Step.{May, replay}
+use Rattle.swh_base.specs.Visit.{Statuses}
 use Rattle.swh_keeper.specs.Kept.{Kept, Applies, Refuses}
 use Rattle.swh_keeper.specs.Keeping.{IsCarriedOut, IsBrokenOff}
 use Rattle.swh_keeper.specs.declared.fault.Refusal.{Refusal}

@@ -82,6 +82,7 @@ abbrev pub coded_records : ℕ → List Event → List ℕ
 coded_records at [] = []
 coded_records at (e ∷ es) = 1 ∷ (coded_record at e ++ coded_records (at + length (run_of e.what)) es)
 
+-- the runs of these events, one after another
 abbrev pub coded_runs : List Event → List ℕ
 coded_runs [] = []
 coded_runs (e ∷ es) = run_of e.what ++ coded_runs es
@@ -120,6 +121,7 @@ pub record IsCodableMark (origin : List ℕ) (visit : ℕ) (status : Status) (sn
   pub is_status : IsMarkStatus status
   pub is_snapshot : IsSnapshotId snapshot
 
+-- What is said of the event fits its record.
 abbrev pub IsCodableKind : ℕ → EventKind → Type 0
 IsCodableKind at (Batch entries) = IsCodableBatch at entries
 IsCodableKind at (Open origin kind date) = IsCodableOpen origin date

@@ -1,3 +1,4 @@
+// What happens to an archive, and what is answered to a wish.
 use swh_base::{Entry, Many, Name, Status, Url, VisitKind, Which};
 
 /// A visit of an origin. Its number is its place, from 1.

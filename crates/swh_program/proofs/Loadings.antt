@@ -12,7 +12,8 @@ use Rattle.swh_model.specs.declared.event.Event.{Event}
 use Rattle.swh_model.specs.Archive.{empty_archive}
 use Rattle.swh_model.specs.Coding.{AreCodable}
 use Rattle.swh_model.specs.Meaning.{Made as MadeObject, Making}
-use Rattle.swh_model.specs.Step.{Statuses, IsHistory, replay}
+use Rattle.swh_model.specs.Step.{IsHistory, replay}
+use Rattle.swh_base.specs.Visit.{Statuses}
 use Rattle.swh_fastload.specs.Making.{made}
 use Rattle.swh_model.proofs.Histories.{fronts}
 use Rattle.swh_loader.specs.Adding.{Attempt, attempt, opening}

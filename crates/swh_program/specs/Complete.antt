@@ -9,9 +9,10 @@ use Rattle.swh_jobs.specs.Job.{Job}
 use Rattle.swh_model.specs.declared.event.Event.{Event}
 use Rattle.swh_model.specs.Answer.{line_of}
 use Rattle.swh_model.specs.Archive.{Bodies, body_of}
-use Rattle.swh_model.specs.Limits.{file_limit, store_length, ledger_length}
+use Rattle.swh_model.specs.Limits.{store_length, ledger_length}
+use Rattle.swh_base.specs.Limits.{file_limit}
 use Rattle.swh_model.specs.Meaning.{Made, Making, IsMeaning}
-use Rattle.swh_model.specs.Step.{snapshot_name}
+use Rattle.swh_base.specs.Snapshot.{snapshot_name}
 use Rattle.swh_loader.specs.Leaving.{next_visit}
 use Rattle.swh_loader.specs.Room.{ledger_growth, store_growth}
 use Rattle.swh_program.specs.Seen.{FileAt}

@@ -10,7 +10,7 @@ use Rattle.swh_program.specs.Seen.{Span, DeskFailed, SinkFailed}
 use Rattle.swh_program.specs.LeftAlone.{IsOnDesk}
 use Rattle.swh_program.specs.Refusal.{refusal}
 use Rattle.swh_program.specs.Run.{IsExactly, Ends, IsPrintedWith}
-use Rattle.swh_words.specs.Words.{kind_letters}
+use Rattle.swh_base.specs.Kind.{kind_letters}
 use Rattle.swh_program.specs.declared.answer.Ending.{Ending}
 use Rattle.swh_program.specs.declared.answer.Ending.TheVariants as ending
 use Rattle.swh_program.specs.declared.answer.Answer.{Answer}

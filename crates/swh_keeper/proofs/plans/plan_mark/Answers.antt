@@ -8,7 +8,7 @@ returns-clause-ok c h is number =
     let may = rw c.in_default.is at c.mark_visit_refusal-refusal.ensures.none in
     let suits = rw c.in_default-no_snapshot.is at c.in_ok-no_snapshot.ensures.none in
     record {
-      verdict = mark_verdict c.args.replayed.now h c.args.by c.args.number c.args.origin c.args.visit c.args.status c.args.snapshot is number (c.in_ok-bytes.ensures.ok h is) may suits;
+      verdict = mark_verdict c.args.replayed.now h c.args.by c.args.number c.args.origin c.args.visit c.args.mark.0 c.args.mark.1 is number (c.in_ok-bytes.ensures.ok h is) may suits;
       run_is = c.new.ensures.items;
       record_is = b.are;
       codable = b.codable;
