@@ -224,7 +224,7 @@ refused_fits bodies status snapshot (NoSnapshot name) (id, is, named, none) fits
     held_not_none bodies (snapshot_name id) (subst (λ (n : Name). body_of bodies n ≡ None) named none) (fits_held bodies status id (subst (FitsStatus bodies status) is fits))
 refused_fits bodies status snapshot (NotClosed parent child) (full, id, is, held, gap) fits =
     let closed = subst (λ (s : Status). FitsStatus bodies s (Some id)) full (subst (FitsStatus bodies status) is fits) in
-    held_not_none bodies child gap.missing (closed child (reaches-next bodies gap.reached.0 (snapshot_name id) parent child gap.reached.1 gap.kid))
+    held_not_none bodies child gap.missing (closed child (reaches-next bodies gap.reached.0 (snapshot_name id) parent child gap.reached.1 gap.is_kid))
 refused_fits bodies status snapshot (Limit w n) is fits = is
 refused_fits bodies status snapshot (NoVisit have) is fits = is
 refused_fits bodies status snapshot (NotYours by) is fits = is

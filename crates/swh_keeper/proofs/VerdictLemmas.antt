@@ -184,7 +184,7 @@ module _ (h : List Event) (by : ℕ) (origin : List ℕ) (number : ℕ) (status 
   mark_snapshot_refused files may (NoSnapshot name) is =
       (is, none_below h by Wanted origin number status snapshot 8 files (λ l. no_visit may.visit may.there) (λ l. not_yours may.visit may.there may.opened) (λ l. not_ended may.visit may.there may.unended) (λ l. absurd (omega (arith, l))) (λ l. absurd (omega (arith, l))))
   mark_snapshot_refused files may (NotClosed parent child) (full, id, s, held, gap) = (
-    (full, id, s, gap.reached, gap.kid, gap.missing),
+    (full, id, s, gap.reached, gap.is_kid, gap.missing),
     none_below h by Wanted origin number status snapshot 9 files (λ l. no_visit may.visit may.there) (λ l. not_yours may.visit may.there may.opened) (λ l. not_ended may.visit may.there may.unended) (λ l. snapshot_there id s held) (λ l. absurd (omega (arith, l))),
   )
   mark_snapshot_refused files may (Limit w n) is = absurd is

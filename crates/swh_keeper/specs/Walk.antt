@@ -41,5 +41,5 @@ pub record GainsReached (bodies : Bodies) (root : Name) (old new : List Name) : 
 -- Of a reached parent this kid is not held.
 pub record IsGap (bodies : Bodies) (root parent child : Name) : Type 0 where
   pub reached : Reaches bodies root parent
-  pub kid : IsKid bodies parent child
+  pub is_kid : IsKid bodies parent child
   pub missing : body_of bodies child ≡ None

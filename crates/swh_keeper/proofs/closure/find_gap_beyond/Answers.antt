@@ -23,7 +23,7 @@ returns-in-Some-2-clause-open c =
     let gap = rw c.in-Some-2.is at c.in_ok-child.ensures.gap in
     record {
       reached = (parent_held c.args.bodies.now c.args.root.now c.in-Some.parent c.args.closed.now c.loop-place.closed c.loop-place.place c.in-Some.ensures c.loop-place.invariant).0;
-      kid = gap.0;
+      is_kid = gap.0;
       missing = gap.1;
     }
 
