@@ -126,7 +126,6 @@ fn check_mark(
     ensures known { IfOk result (λ yes. IsTrue yes → AreClosed bodies.now closed.new) }
 {
     let (status, snapshot) = mark;
-    let (status, snapshot) = mark;
     if !is_origin_markable(visits, origin, by, visit) {
         return Ok(false);
     }

@@ -153,7 +153,6 @@ pub fn plan_mark(
     ensures err { (h : List Event) → IsReplayOf replayed.now h → IfErr result (IsRefused h by (Mark origin visit mark.0 mark.1)) }
 {
     let (status, snapshot) = mark;
-    let (status, snapshot) = mark;
     let refusal = mark_visit_refusal(&replayed.visits, &origin, by, visit);
     origin_is_codable(&origin);
     snapshot_is_codable(&snapshot);

@@ -83,7 +83,6 @@ coded_records at [] = []
 coded_records at (e ∷ es) = 1 ∷ (coded_record at e ++ coded_records (at + length (run_of e.what)) es)
 
 -- the runs of these events, one after another
--- the runs of these events, one after another
 abbrev pub coded_runs : List Event → List ℕ
 coded_runs [] = []
 coded_runs (e ∷ es) = run_of e.what ++ coded_runs es
