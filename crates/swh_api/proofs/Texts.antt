@@ -80,9 +80,6 @@ IsWrittenAs-string s bytes is plain = record {
 
 -- ---- a list of them
 
-abbrev pub text_of_value : Value → List ℕ
-text_of_value v = compact_text (view v)
-
 -- each value is written as the text at its place
 abbrev pub AreWrittenAs : List Value → List (List ℕ) → Type 0
 AreWrittenAs [] [] = Unit {0}

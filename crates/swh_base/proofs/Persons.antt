@@ -32,9 +32,6 @@ pub record PersonParts (name email date : List ℕ) : Type 0 where
   pub email_bytes : AllPass is_person_byte email
   pub is_date : IsDate date
 
-date_of : {text : List ℕ} → IsPerson text → List ℕ
-date_of h = 32 ∷ (h.seconds ++ 32 ∷ h.sign ∷ h.zone)
-
 IsDate-date_of : (text : List ℕ) (h : IsPerson text) → IsDate (32 ∷ (h.seconds ++ 32 ∷ h.sign ∷ h.zone))
 IsDate-date_of text h = record {
   seconds = h.seconds;

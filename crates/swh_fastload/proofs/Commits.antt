@@ -1,5 +1,5 @@
 -- What a commit of files in one folder makes.
-use Rattle.std.proofs.Common.{◌≡◌, ℕ, ◌<◌, ◌≤◌, List, [], ◌∷◌, ◌++◌, length, map, Some, None, refl, sym, ap, ◌∙◌, subst, arith, codes, append_assoc}
+use Rattle.std.proofs.Common.{◌≡◌, ℕ, ◌<◌, ◌≤◌, List, [], ◌∷◌, ◌++◌, length, map, Some, refl, sym, ap, ◌∙◌, subst, arith, codes, append_assoc}
 use Rattle.std.specs.List.{flat_map}
 use Rattle.std.specs.Borrow.{Bor}
 use Rattle.swh_base.specs.declared.kind.Kind.{Kind}
@@ -76,9 +76,6 @@ revision_over id marks c files root_body root body h e b r v over tree f w =
     let same : body ≡ (revision (id Directory (flat_map file_text (tree_of files))) c).body = v ∙ ap (λ (t : List ℕ). (revision t c).body) (r ∙ ap (id Directory) b) in
     let small = within.0 in
     absurd (omega (arith, small, ap length same, over))
-
-pub tree_none : (id : Kind → List ℕ → List ℕ) (marks : List (ℕ × List ℕ)) (c : Commit) → tree_after marks [] c.changes ≡ None → IsCommitLeftOut id marks c
-tree_none id marks c e tree f w = let both : None ≡ Some tree = sym e ∙ f in cc
 
 pub commit_added : (id : Kind → List ℕ → List ℕ) (marks : List (ℕ × List ℕ)) (c : Commit) (files : List (Bor (List ℕ) × List ℕ)) (root_body root body : List ℕ) (old mid new : List Made) (t : Tip)
     → IsFolder (tree_of files) → tree_after marks [] c.changes ≡ Some (tree_of files) → root_body ≡ flat_map file_text (tree_of files) → root ≡ id Directory root_body → body ≡ (revision root c).body

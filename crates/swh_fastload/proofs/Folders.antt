@@ -38,10 +38,6 @@ same_self p = own_reverse (slice_cmp nat_cmp p p) (nat_list_cmp_total.antisymm p
 greater_from_less : (p q : List ℕ) → slice_cmp nat_cmp p q ≡ Less → slice_cmp nat_cmp q p ≡ Greater
 greater_from_less p q e = nat_list_cmp_total.antisymm q p ∙ ap ordering_reverse e
 
-all_map : {X Y : Type 0} (f : X → Y) (P : Y → Type 0) (Q : X → Type 0) → ((x : X) → Q x → P (f x)) → (xs : List X) → AllByRecursion Q xs → AllByRecursion P (map f xs)
-all_map f P Q h [] a = tt
-all_map f P Q h (x ∷ xs) a = (h x a.0, all_map f P Q h xs a.1)
-
 pub ascends : (files : List (Bor (List ℕ) × List ℕ)) → IsStrictlySortedBy (λ a b. slice_cmp nat_cmp a.now b.now) (map (λ f. f.0) files) → Ascends (tree_of files)
 unfolding IsStrictlySortedBy
 ascends [] s = tt

@@ -50,10 +50,6 @@ data_over bytes d r size h e over count content rest k l = let both = data_size 
 pub data_short : (bytes d r : List ℕ) (size : ℕ) → IsNumber d size → bytes ≡ line (codes "data ") d r → length r < size → (count content rest : List ℕ) → IsCount count content → bytes ≡ line (codes "data ") count (content ++ rest) → ⊥
 data_short bytes d r size h e short count content rest k l = let both = data_size bytes d r size h e count content rest k l in let a = both.0 in absurd (omega (arith, a, ap length both.1, length-append content rest, short))
 
--- what is cut off a text after its size
-pub data_from : (bytes d r front back : List ℕ) (size : ℕ) → IsNumber d size → bytes ≡ line (codes "data ") d r → size ≤ body_limit → length front ≡ size → r ≡ front ++ back → (count : List ℕ) × IsCount count front × (bytes ≡ line (codes "data ") count (front ++ back))
-data_from bytes d r front back size h e under size_is cut = (d, record { number = subst (IsNumber d) (sym size_is) h; short = omega (arith, under, size_is) }, e ∙ ap (line (codes "data ") d) cut)
-
 pub behind : (a b : List ℕ) (s c : ℕ) → Contains b c → Contains (a ++ s ∷ b) c
 behind [] b s c h = let l = h.1 in (suc h.0, omega (arith, l), h.2)
 behind (x ∷ a) b s c h = let k = behind a b s c h in let l = k.1 in (suc k.0, omega (arith, l), k.2)
@@ -106,15 +102,6 @@ blob_filled bytes text r d q m none e mark f never blob rest h =
     let after = (after_mark r d q m mark f h.mark (line (codes "data ") h.count (blob.bytes ++ rest)) blob.mark h.is_mark (blob_line bytes text r none e blob rest h).1).1 in
     never h.count blob.bytes rest h.is_count after
 
-pub blob_from : (bytes text r q content rest : List ℕ) (m : ℕ) → bytes ≡ line (codes "blob") text r → text ≡ [] → (digits : List ℕ) × IsMark digits m × (r ≡ line (codes "mark :") digits q) → (count : List ℕ) × IsCount count content × (q ≡ line (codes "data ") count (content ++ rest)) → BeginsBlob bytes (record { mark = m; bytes = content }) rest
-blob_from bytes text r q content rest m e t mark f = record {
-  mark = mark.0;
-  count = f.0;
-  spelled = e ∙ ap (λ (x : List ℕ). line (codes "blob") x r) t ∙ ap (line (codes "blob") []) (mark.2 ∙ ap (line (codes "mark :") mark.0) f.2);
-  is_mark = mark.1;
-  is_count = f.1;
-}
-
 -- the lines of a commit's head
 pub from_data : (bytes : List ℕ) (commit : Commit) (rest : List ℕ) → BeginsCommit bytes commit rest → List ℕ
 from_data bytes commit rest h = line (codes "data ") h.count (commit.message ++ rest)
@@ -126,9 +113,6 @@ from_committer bytes commit rest h = line (codes "committer ") commit.committer 
 pub head_line : (bytes branch r : List ℕ) → (Contains branch 10 → ⊥) → bytes ≡ line (codes "commit ") branch r → (commit : Commit) (rest : List ℕ) → (h : BeginsCommit bytes commit rest) → (branch ≡ commit.branch) × (r ≡ line (codes "mark :") h.mark (from_committer bytes commit rest h))
 unfolding from_data from_committer
 head_line bytes branch r none e commit rest h = one_line (codes "commit ") branch commit.branch r _ none (ref-no_feed commit.branch h.is_ref) (sym e ∙ h.spelled)
-
-pub no_head : (bytes : List ℕ) → ((text rest : List ℕ) → (Contains text 10 → ⊥) → bytes ≡ line (codes "commit ") text rest → ⊥) → BeginsHead bytes → ⊥
-no_head bytes none h = let commit = h.0 in let b = h.2 in none commit.branch _ (ref-no_feed commit.branch b.is_ref) b.spelled
 
 pub head_ref : (bytes branch r : List ℕ) → (Contains branch 10 → ⊥) → bytes ≡ line (codes "commit ") branch r → (IsRef branch → ⊥) → BeginsHead bytes → ⊥
 head_ref bytes branch r none e never h = never (subst IsRef (sym (head_line bytes branch r none e h.0 h.1 h.2).0) h.2.is_ref)

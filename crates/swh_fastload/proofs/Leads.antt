@@ -1,5 +1,5 @@
 -- What a parser has read so far, and what is left.
-use Rattle.std.proofs.Common.{◌≡◌, ◌≢◌, ℕ, ◌<◌, ◌≤◌, ◌^◌, Bool, true, false, ◌==◌, List, [], ◌∷◌, ◌++◌, length, length-append, map, Option, Some, None, refl, sym, ap, ◌∙◌, subst, arith, codes, append_assoc}
+use Rattle.std.proofs.Common.{◌≡◌, ◌≢◌, ℕ, ◌<◌, ◌≤◌, ◌^◌, Bool, true, false, ◌==◌, List, [], ◌∷◌, ◌++◌, length, map, Option, Some, None, refl, sym, ap, ◌∙◌, subst, arith, codes, append_assoc}
 use Rattle.std.proofs.lemmas.Bool.{eq-eqb, eqb-true}
 use Rattle.std.proofs.lemmas.List.{append-nil, map-append}
 use Rattle.swh_model.specs.SmallStream.{Blob, Change, Commit, SmallStream, line, AreFeeds, BeginsBlob, BeginsChange, AreChanges, IsCommit, Reads, Parses}
@@ -10,7 +10,7 @@ use Rattle.swh_fastload.specs.declared.fault.StreamFault.{StreamFault}
 use Rattle.swh_fastload.specs.declared.fault.StreamFault.TheVariants.{LeftOut, Memory}
 use Rattle.swh_fastload.specs.Refusal.{Refuses}
 use Rattle.swh_fastload.specs.Feed.{TakesFeed}
-use Rattle.swh_fastload.specs.View.{blob_view, change_view, with_changes, IsHead, BeginsHead}
+use Rattle.swh_fastload.specs.View.{blob_view, change_view, with_changes, IsHead}
 use Rattle.swh_fastload.proofs.Readings.{change-not_feeds, one_change, one_head, follow_of, follow-taken, taken-follow, after_blob, reads_on, reads_back, at_commit}
 
 -- what a test of a length says
@@ -24,9 +24,6 @@ not_zero b n e f z = let both : true ≡ false = sym (eq-eqb n 0 z) ∙ sym e �
 pub record ChangesLead (text rest : List ℕ) (front : List Change) : Type 0 where
   pub onward : (cs : List Change) → AreChanges rest cs → AreChanges text (front ++ cs)
   pub back : (cs : List Change) → AreChanges text cs → (ds : List Change) × (cs ≡ front ++ ds) × AreChanges rest ds
-
-pub changes_start : (text : List ℕ) → ChangesLead text text []
-changes_start text = record { onward = λ cs h. h; back = λ cs h. (cs, refl, h) }
 
 pub changes_more : (text rest after : List ℕ) (front : List Change) (c : Change) → ChangesLead text rest front → BeginsChange rest c after → ChangesLead text after (front ++ c ∷ [])
 changes_more text rest after front c l b = record {
@@ -42,14 +39,6 @@ changes_more text rest after front c l b = record {
 
 pub changes_pushed : (text rest after : List ℕ) (old new : List HeldChange) (c : HeldChange) → new ≡ old ++ c ∷ [] → ChangesLead text rest (map change_view old) → BeginsChange rest (change_view c) after → ChangesLead text after (map change_view new)
 changes_pushed text rest after old new c e l b = subst (λ (x : List Change). ChangesLead text after x) (sym (ap (map change_view) e ∙ map-append change_view old (c ∷ []))) (changes_more text rest after (map change_view old) (change_view c) l b)
-
-pub change_shorter : (text : List ℕ) (c : Change) (rest : List ℕ) → BeginsChange text c rest → length rest < length text
-change_shorter text c rest h = let e = ap length h.spelled in omega (arith, e, length-append (h.mark ++ 32 ∷ c.name) (10 ∷ rest))
-
-pub blob_shorter : (text : List ℕ) (b : Blob) (rest : List ℕ) → BeginsBlob text b rest → length rest < length text
-blob_shorter text b rest h =
-    let e = ap length h.spelled in
-    omega (arith, e, length-append h.mark (10 ∷ line (codes "data ") h.count (b.bytes ++ rest)), length-append h.count (10 ∷ (b.bytes ++ rest)), length-append b.bytes rest)
 
 -- LFs alone are left
 pub changes_end : (text rest feeds after : List ℕ) (front : List Change) → ChangesLead text rest front → rest ≡ feeds ++ after → AreFeeds feeds → length after ≡ 0 → AreChanges text front
@@ -135,9 +124,6 @@ pub commit_none : (text : List ℕ) (head : Head) (after rest : List ℕ) → Is
 commit_none text head after rest h t none commit k =
     let same = one_head text (with_changes head []) commit after (k.feed ++ k.changes) h k.begins in
     none commit.changes (follow-taken after rest commit.changes t (follow_of text commit after k same.1))
-
-pub head_none : (text : List ℕ) → (BeginsHead text → ⊥) → (commit : Commit) → IsCommit text commit → ⊥
-head_none text none commit k = none (commit, k.feed ++ k.changes, k.begins)
 
 pub same_stream : (s t : SmallStream) → s.blobs ≡ t.blobs → s.commit ≡ t.commit → s ≡ t
 same_stream s t b c = ap (λ (x : List Blob). let v : SmallStream = record { blobs = x; commit = s.commit } in v) b ∙ ap (λ (x : Option Commit). let v : SmallStream = record { blobs = t.blobs; commit = x } in v) c

@@ -163,9 +163,6 @@ knows_more id ms seen new key h fresh updates bytes =
     by_test false e =
         ap (λ (b : Bool). cond b (Some (id Content bytes)) None) (sym (ap (λ (b : Bool). list_any (λ n. same_made n (content bytes)) ms || (b || false)) e ∙ neither (list_any (λ n. same_made n (content bytes)) ms)))
 
-pub knows_none : (id : Kind → List ℕ → List ℕ) → KnowsContents id [] []
-knows_none id bytes = refl
-
 -- ids of marks
 pub ids_more : (marks : List (ℕ × List ℕ)) (mark : ℕ) (id : List ℕ) → AreIds marks → IsId id → AreIds (insert_entry nat_cmp marks mark id)
 ids_more [] mark id h i = (i, tt)

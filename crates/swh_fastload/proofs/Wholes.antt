@@ -9,7 +9,7 @@ use Rattle.std.specs.Cmp.Lexicographic.{slice_cmp}
 use Rattle.std.specs.Borrow.{Bor}
 use Rattle.std.specs.BTreeMap.{insert_entry}
 use Rattle.std.proofs.lemmas.List.{map-append, append-nil}
-use Rattle.std.proofs.lemmas.List.Elements.{All-from_recursion, Contains-append_left, Contains-append_right}
+use Rattle.std.proofs.lemmas.List.Elements.{Contains-append_left, Contains-append_right}
 use Rattle.swh_base.specs.declared.kind.Kind.{Kind}
 use Rattle.swh_base.specs.declared.kind.Kind.TheVariants.{Content, Directory, Revision, Snapshot}
 use Rattle.swh_base.specs.declared.name.Name.{Name}
@@ -40,19 +40,11 @@ all_append : {X : Type 0} (P : X → Type 0) (xs ys : List X) → AllByRecursion
 all_append P [] ys h k = k
 all_append P (x ∷ xs) ys h k = (h.0, all_append P xs ys h.1 k)
 
--- what holds of each name holds of one of them
-pub at_name : (P : Name → Type 0) (ns : List Name) (n : Name) → AllByRecursion P ns → Contains ns n → P n
-at_name P ns n all (k, less, is) = subst P is (All-from_recursion P ns all k n less)
-
 more_names : (names more : List Name) (e : Entry) → HasKidsAmong names e → HasKidsAmong (names ++ more) e
 more_names names more e h = all_as (Contains names) (Contains (names ++ more)) (λ n. Contains-append_left names more n) e.kids h
 
 more_contents : (names more : List Name) (marks : List (ℕ × List ℕ)) → AreContents names marks → AreContents (names ++ more) marks
 more_contents names more marks h = all_as (λ (e : ℕ × List ℕ). Contains names (content_name e.1)) (λ (e : ℕ × List ℕ). Contains (names ++ more) (content_name e.1)) (λ e. Contains-append_left names more (content_name e.1)) marks h
-
--- no objects
-pub whole_none : (id : Kind → List ℕ → List ℕ) (objects : List Entry) → objects ≡ [] → AreWhole id objects
-whole_none id objects e = subst (AreWhole id) (sym e) (record { each = tt; kids = tt })
 
 -- an object more, whose kids are there
 pub gains_one : (id : Kind → List ℕ → List ℕ) (kind : Kind) (body : List ℕ) (old new : List Entry) (own_id : List ℕ) (kids : List Name) → AreWhole id old → IsAppended id kind body old new own_id → AreKids kind body kids → AllByRecursion (Contains (names_of old)) kids → Gains id old new (record { kind = kind; id = own_id })
@@ -73,11 +65,6 @@ gains_one id kind body old new own_id kids w a k among =
       behind = a.appended;
       there = subst (λ (ns : List Name). Contains ns (record { kind = kind; id = own_id })) (sym names) (Contains-append_right (names_of old) more (record { kind = kind; id = own_id }) (0, omega arith, named));
     }
-
--- what was named before is named
-pub named_still : (id : Kind → List ℕ → List ℕ) (old new : List Entry) (name n : Name) → Gains id old new name → Contains (names_of old) n → Contains (names_of new) n
-named_still id old new name n g h =
-    subst (λ (ns : List Name). Contains ns n) (sym (ap names_of g.behind ∙ map-append (λ (e : Entry). e.name) old g.more)) (Contains-append_left (names_of old) (names_of g.more) n h)
 
 pub contents_still : (id : Kind → List ℕ → List ℕ) (old new : List Entry) (name : Name) (marks : List (ℕ × List ℕ)) → Gains id old new name → AreContents (names_of old) marks → AreContents (names_of new) marks
 contents_still id old new name marks g h =

@@ -1,5 +1,5 @@
 -- The set of the origins that were seen.
-use Rattle.std.proofs.Common.{◌≡◌, inl, inr, ⊎_elim, ℕ, Bool, true, false, cond, not, List, [], ◌∷◌, ◌++◌, Contains, refl, sym, ap, ◌∙◌, subst, arith, Ordering}
+use Rattle.std.proofs.Common.{◌≡◌, ⊎_elim, ℕ, Bool, true, false, cond, not, List, [], ◌∷◌, ◌++◌, Contains, refl, sym, ap, ◌∙◌, subst, Ordering}
 use Rattle.std.proofs.lemmas.Bool.{not-false}
 use Rattle.std.proofs.lemmas.Cmp.{nat_list_cmp_total, tied_itself}
 use Rattle.std.proofs.lemmas.List.{map_push}
@@ -61,9 +61,6 @@ known-push keys new jobs key job known same updates url = (there, found)
         (λ (old : Contains (origins jobs) url). ap (λ (b : Bool). cond (is_eq (slice_cmp nat_cmp key.now url)) true b) ((known url).1 old) ∙ either (is_eq (slice_cmp nat_cmp key.now url)))
         (λ (own : job.url ≡ url). ap (λ (b : Bool). cond b true (has keys url)) (same_self key.now url (same ∙ own)))
         (Contains-push_cases (origins jobs) job.url url (subst (λ (xs : List (List ℕ)). Contains xs url) urls h))
-
-pub known-none : AreOrigins [] []
-known-none url = (λ h. absurd (cc), λ h. let l = h.1 in absurd (omega (arith, l)))
 
 -- what is said of an origin that was put into the set
 pub new_origin : (keys : List (Bor (List ℕ))) (jobs : List Job) (key : Bor (List ℕ)) (url : List ℕ) (added : Bool) → AreOrigins keys jobs → key.now ≡ url

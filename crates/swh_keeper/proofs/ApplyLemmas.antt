@@ -12,7 +12,6 @@ use Rattle.swh_model.specs.declared.event.Event.{Event}
 use Rattle.swh_model.specs.declared.event.EventKind.{EventKind}
 use Rattle.swh_model.specs.declared.event.EventKind.TheVariants.{Batch, Open, Mark}
 use Rattle.swh_model.specs.declared.event.Outcome.{Outcome}
-use Rattle.swh_model.specs.declared.event.No.TheVariants.{Limit, NoVisit, NotYours, Ended, NoSnapshot, NotClosed, Collision}
 use Rattle.swh_model.specs.Archive.{Bodies, Origins, visits_of, empty_archive}
 use Rattle.swh_model.specs.Step.{May, May_kind, MayAll, IsGood, IsGoodAndNamed, AreNew, replay}
 use Rattle.swh_model.specs.Judge.{IsVerdict, IsWish}
@@ -20,23 +19,14 @@ use Rattle.swh_model.proofs.Verdicts.{wish_may}
 use Rattle.swh_model.proofs.Visits.{all-map}
 use Rattle.swh_keeper.specs.declared.replayed.Replayed.{Replayed}
 use Rattle.swh_keeper.specs.declared.planning.Planned.{Planned}
-use Rattle.swh_keeper.specs.declared.planning.PlanFault.{PlanFault}
-use Rattle.swh_keeper.specs.declared.planning.PlanFault.TheVariants.{Refused, Memory}
 use Rattle.swh_keeper.specs.Advance.{MayAdvance}
-use Rattle.swh_keeper.specs.Planned.{IsReplayOf, IsInFiles, IsPlan, IsPlanned, IsRefused}
-use Rattle.swh_keeper.specs.Keeping.{AreSettledFor, IsToAdd, HasRoom, WithOrWithout, IsKeeping, run_written, calls_for}
+use Rattle.swh_keeper.specs.Planned.{IsReplayOf, IsInFiles, IsPlanned}
+use Rattle.swh_keeper.specs.Keeping.{AreSettledFor, IsToAdd, WithOrWithout, IsKeeping, run_written, calls_for}
 use Rattle.swh_segment.specs.Events as segment
 use Rattle.swh_model.specs.Coding.{coded_record}
 use Rattle.swh_model.specs.Limits.{store_length, records_length}
 use Rattle.std.proofs.Common.{◌+◌, ◌∙◌}
-use Rattle.swh_keeper.specs.Kept.{Kept, Refuses}
-use Rattle.swh_keeper.specs.Refusal.{refusal_for}
 use Rattle.swh_keeper.proofs.KeptLemmas.{history-push}
-
-pub plan_of_wish : (id_of : Kind → List ℕ → List ℕ) (wish : EventKind) → IsWish id_of wish → IsPlan wish
-plan_of_wish id_of (Batch entries) good = all-map (IsGoodAndNamed id_of) IsGood (λ e g. g.good) entries good
-plan_of_wish id_of (Open origin kind date) good = tt
-plan_of_wish id_of (Mark origin visit status snapshot) how = how
 
 pub may_of_plan : (id_of : Kind → List ℕ → List ℕ) (h : List Event) (by : ℕ) (wish : EventKind) (e : Event) (o : Outcome) → IsWish id_of wish → IsVerdict h by wish (Ok (e, o)) → May id_of (replay h) e
 may_of_plan id_of h by wish e o good verdict = subst (λ (x : Event). May id_of (replay h) x) (sym verdict.1) (wish_may id_of h by wish good verdict.0)
@@ -60,9 +50,6 @@ may_advance id_of r h e is may = may_kind_advance id_of r h e.by e.what is may
 
 pub to_add : (r : Replayed) (h : List Event) (by : ℕ) (wish : EventKind) (p : Planned) → IsReplayOf r h → IsPlanned h by wish r p → IsToAdd r h p.event p.run.items p.bytes.items
 to_add r h by wish p is planned = record { run_is = planned.run_is; bytes_are = planned.record_is; codable = planned.codable; store = is.store }
-
-pub room_for : (r : Replayed) (h : List Event) (by : ℕ) (wish : EventKind) (p : Planned) → IsPlanned h by wish r p → HasRoom r p.run.items p.bytes.items
-room_for r h by wish p planned = record { store_fits = planned.store_fits; ledger_fits = planned.ledger_fits }
 
 -- the keeper once the event was added
 pub keeping-push : (id_of : Kind → List ℕ → List ℕ) (tells : Type 0) (ledger store : File) (r : Replayed) (h h' : List Event) (e : Event) → MayAll id_of empty_archive h → May id_of (replay h) e → h' ≡ h ++ e ∷ []
@@ -89,17 +76,6 @@ keeping-doubt id_of tells ledger store r r' h h' e n history may same fits se le
       settled = λ none told. absurd (let f : Some n ≡ None = none in cc);
       doubt = λ m is told. record { event = e; may = may; each = left told };
     })
-
--- a cause against the plan is what is answered
-pub refuses_for : {D : Type 0} (old new : Kept D) (by : ℕ) (wish : EventKind) (fault : PlanFault) → old.wounded ≡ None → new ≡ old → IsRefused old.history by wish fault → Refuses old by wish new (refusal_for fault)
-refuses_for old new by wish Memory none same is = (refl, same)
-refuses_for old new by wish (Refused (Limit w n)) none same is = record { unwounded = none; verdict = is; same = same }
-refuses_for old new by wish (Refused (NoVisit have)) none same is = record { unwounded = none; verdict = is; same = same }
-refuses_for old new by wish (Refused (NotYours other)) none same is = record { unwounded = none; verdict = is; same = same }
-refuses_for old new by wish (Refused (Ended status)) none same is = record { unwounded = none; verdict = is; same = same }
-refuses_for old new by wish (Refused (NoSnapshot name)) none same is = record { unwounded = none; verdict = is; same = same }
-refuses_for old new by wish (Refused (NotClosed parent child)) none same is = record { unwounded = none; verdict = is; same = same }
-refuses_for old new by wish (Refused (Collision name)) none same is = record { unwounded = none; verdict = is; same = same }
 
 -- the keeper of an archive with no event
 pub keeping-empty : (id_of : Kind → List ℕ → List ℕ) (tells : Type 0) (ledger store : File) (r : Replayed) (h : List Event) → h ≡ [] → r.bodies ≡ finite.empty → r.visits ≡ finite.empty → r.store_end ≡ 0 → r.ledger_end ≡ 8

@@ -161,10 +161,6 @@ map-kept s fs e is = ap (λ (m : Bodies). finite.insert m e.name e.body) is ∙ 
 pub not_true : {A : Type 0} → false ≡ true → A
 not_true e = absurd (cc)
 
-pub first_none : (x y : Option (List ℕ)) → or_else x y ≡ None → x ≡ None
-first_none None y e = refl
-first_none (Some z) y e = absurd (let f : Some z ≡ None = e in cc)
-
 pub item_in : (es : List Entry) (i : ℕ) (e : Entry) → i < length es → e ≡ get_or es i e → Contains es e
 item_in es i e less is = (i, less, sym is)
 

@@ -16,7 +16,7 @@ use Rattle.swh_model.specs.declared.event.EventKind.{EventKind}
 use Rattle.swh_model.specs.declared.event.EventKind.TheVariants.{Batch, Open, Mark}
 use Rattle.swh_model.specs.declared.event.No.{No}
 use Rattle.swh_model.specs.declared.event.No.TheVariants.{Limit, NoVisit, NotYours, Ended, NoSnapshot, NotClosed, Collision}
-use Rattle.swh_model.specs.Archive.{Archive, Bodies, Origins, body_of, visits_of, IsHeld}
+use Rattle.swh_model.specs.Archive.{Archive, Bodies, Origins, body_of, IsHeld}
 use Rattle.swh_model.specs.Limits.{bytes_before_last, IsWithinLimits}
 use Rattle.swh_model.specs.Step.{IsGood, IsGoodAndNamed, AreNew, FitsStatus, MayMark, May, May_kind, added}
 use Rattle.swh_base.specs.Snapshot.{snapshot_name}
@@ -30,7 +30,6 @@ use Rattle.swh_model.proofs.Maps.{within-added}
 use Rattle.swh_model.proofs.Walks.{reaches-next, closed-within}
 use Rattle.swh_keeper.specs.Judged.{IsSnapshotRefusal, SuitsStatus, MayBeMarked}
 use Rattle.swh_keeper.specs.Checked.{archive_of, AreAlikeEntries, IsRemade, CannotBeMade, AreRemade, CannotAllBeMade, AreAdded, MayNotBeAdded, Happens, MayNotHappen}
-use Rattle.swh_keeper.proofs.BatchLemmas.{all_in, item_in}
 
 pub cons_same : {X : Type 0} (x y : X) (xs ys : List X) → x ∷ xs ≡ y ∷ ys → (x ≡ y) × (xs ≡ ys)
 cons_same x y xs ys e = (cc, cc)
@@ -178,9 +177,6 @@ pub held_at : (old new : Bodies) (es : List Entry) (i : ℕ) (e : Entry) → i <
 held_at old new es i e less is held h fresh =
     held_not_none (added old (take i es)) e.name (new-at old es i e less is fresh) (subst (λ (b : Bodies). IsHeld b e.name) h.now held)
 
-pub good_at : (es : List Entry) (i : ℕ) (e : Entry) → i < length es → e ≡ get_or es i e → AllByRecursion IsGood es → IsGood e
-good_at es i e less is good = all_in IsGood es good e (item_in es i e less is)
-
 -- ---- what is known to be closed
 
 pub closed_added : (id_of : Kind → List ℕ → List ℕ) (old new : Bodies) (given es : List Entry) (names : List Name) → AreAdded id_of old new given es → AreClosed old names → AreClosed new names
@@ -188,15 +184,6 @@ closed_added id_of old new given es names are closed n there =
     closed-within old new n (subst (IsWithin old) (sym are.now) (within-added old es are.may.new)) (closed n there)
 
 -- ---- what a status needs
-
-pub fits_how : (bodies : Bodies) (status : Status) (snapshot : Option (List ℕ)) → FitsStatus bodies status snapshot → IsHow status snapshot
-fits_how bodies Created snapshot h = h
-fits_how bodies Ongoing snapshot h = h
-fits_how bodies Full None h = absurd h
-fits_how bodies Full (Some id) h = refl
-fits_how bodies Partial snapshot h = tt
-fits_how bodies NotFound snapshot h = h
-fits_how bodies Failed snapshot h = h
 
 pub fits_suited : (bodies : Bodies) (status : Status) (snapshot : Option (List ℕ)) → IsHow status snapshot → SuitsStatus bodies status snapshot → FitsStatus bodies status snapshot
 fits_suited bodies Created snapshot how suits = how
@@ -232,13 +219,6 @@ refused_fits bodies status snapshot (Ended last) is fits = is
 refused_fits bodies status snapshot (Collision name) is fits = is
 
 -- ---- marks
-
-pub may_marked : (a : Archive) (by : ℕ) (origin : List ℕ) (visit : ℕ) (status : Status) (snapshot : Option (List ℕ)) → MayBeMarked (visits_of a.origins origin) by visit → FitsStatus a.bodies status snapshot → MayMark a by origin visit status snapshot
-may_marked a by origin visit status snapshot may fits =
-    record { visit = may.visit; positive = may.there.0; there = may.there.1; opened = may.opened; unended = may.unended; fits = fits }
-
-pub marked_may : (a : Archive) (by : ℕ) (origin : List ℕ) (visit : ℕ) (status : Status) (snapshot : Option (List ℕ)) → MayMark a by origin visit status snapshot → MayBeMarked (visits_of a.origins origin) by visit
-marked_may a by origin visit status snapshot may = record { visit = may.visit; there = (may.positive, may.there); opened = may.opened; unended = may.unended }
 
 in_list : (vs : List Visit) (k : ℕ) (v : Visit) → slice_get vs k ≡ Some v → k < length vs
 in_list [] k v e = absurd (let f : None ≡ Some v = e in cc)

@@ -8,7 +8,6 @@ use Rattle.swh_model.specs.declared.event.Event.{Event}
 use Rattle.swh_model.specs.declared.event.EventKind.{EventKind}
 use Rattle.swh_model.specs.declared.event.EventKind.TheVariants.{Batch, Mark}
 use Rattle.swh_model.specs.declared.event.Outcome.TheVariants.{Added, Marked}
-use Rattle.swh_model.specs.declared.event.No.{No}
 use Rattle.swh_model.specs.declared.event.No.TheVariants.{Collision}
 use Rattle.swh_model.specs.Archive.{Bodies, Origins, visits_of}
 use Rattle.swh_base.specs.Limits.{objects_limit}
@@ -16,9 +15,9 @@ use Rattle.swh_model.specs.Step.{replay}
 use Rattle.swh_model.specs.Judge.{fresh, event_of, BatchPasses, FilePasses, Collides, IsVerdict}
 use Rattle.swh_model.proofs.Verdicts.{length-fresh, le_unless}
 use Rattle.swh_keeper.specs.declared.replayed.Replayed.{Replayed}
-use Rattle.swh_keeper.specs.Judged.{NonePasses, MayBeMarked, IsVisitRefusal, IsSnapshotRefusal, SuitsStatus}
+use Rattle.swh_keeper.specs.Judged.{NonePasses, MayBeMarked, SuitsStatus}
 use Rattle.swh_keeper.specs.Planned.{IsReplayOf}
-use Rattle.swh_keeper.proofs.VerdictLemmas.{batch_collides, batch_passes, mark_passes, mark_visit_refused, mark_snapshot_refused}
+use Rattle.swh_keeper.proofs.VerdictLemmas.{batch_collides, batch_passes, mark_passes}
 
 -- a batch within its limits has few entries, and what is new of it no more
 pub few_fresh : (bodies : Bodies) (es fs : List Entry) → fs ≡ fresh bodies es → NonePasses (BatchPasses es) → length fs ≤ 4096
@@ -53,13 +52,3 @@ mark_verdict r h by number origin visit status snapshot is number_is files may s
   refl,
   ap (λ (n : ℕ). Marked n) number_is,
 )
-
-pub mark_refused : (r : Replayed) (h : List Event) (by : ℕ) (origin : List ℕ) (visit : ℕ) (status : Status) (snapshot : Option (List ℕ)) (cause : No) → IsReplayOf r h
-    → NonePasses (FilePasses h (Mark origin visit status snapshot)) → IsVisitRefusal (visits_of r.visits origin) by visit cause → IsVerdict h by (Mark origin visit status snapshot) (Err cause)
-mark_refused r h by origin visit status snapshot cause is files why =
-    mark_visit_refused h by origin visit status snapshot files cause (subst (λ (o : Origins). IsVisitRefusal (visits_of o origin) by visit cause) is.visits why)
-
-pub mark_unsnapped : (r : Replayed) (h : List Event) (by : ℕ) (origin : List ℕ) (visit : ℕ) (status : Status) (snapshot : Option (List ℕ)) (cause : No) → IsReplayOf r h
-    → NonePasses (FilePasses h (Mark origin visit status snapshot)) → MayBeMarked (visits_of r.visits origin) by visit → IsSnapshotRefusal r.bodies status snapshot cause → IsVerdict h by (Mark origin visit status snapshot) (Err cause)
-mark_unsnapped r h by origin visit status snapshot cause is files may why =
-    mark_snapshot_refused h by origin visit status snapshot files (subst (λ (o : Origins). MayBeMarked (visits_of o origin) by visit) is.visits may) cause (subst (λ (b : Bodies). IsSnapshotRefusal b status snapshot cause) is.bodies why)

@@ -22,11 +22,3 @@ if_err_all (Err e) P h = h e
 pub if_ok_then : {T E : Type 0} (r : Result T E) (P Q : T → Type 0) → IfOk r P → ((x : T) → P x → Q x) → IfOk r Q
 if_ok_then (Ok x) P Q p f = f x p
 if_ok_then (Err e) P Q p f = tt
-
-pub if_ok_both : {T E : Type 0} (r : Result T E) (P Q R : T → Type 0) → IfOk r P → IfOk r Q → ((x : T) → P x → Q x → R x) → IfOk r R
-if_ok_both (Ok x) P Q R p q f = f x p q
-if_ok_both (Err e) P Q R p q f = tt
-
-pub if_err_then : {T E : Type 0} (r : Result T E) (P Q : E → Type 0) → IfErr r P → ((e : E) → P e → Q e) → IfErr r Q
-if_err_then (Ok x) P Q p f = tt
-if_err_then (Err e) P Q p f = f e p

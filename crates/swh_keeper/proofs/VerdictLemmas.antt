@@ -3,21 +3,20 @@ use Rattle.std.proofs.Common.{◌≡◌, ◌⊎◌, inl, inr, ℕ, zero, suc, �
 use Rattle.std.specs.List.{slice_get}
 use Rattle.swh_base.specs.declared.name.Name.{Name}
 use Rattle.swh_base.specs.declared.entry.Entry.{Entry}
-use Rattle.swh_base.specs.declared.visit.VisitKind.{VisitKind}
 use Rattle.swh_base.specs.declared.visit.Status.{Status}
 use Rattle.swh_base.specs.declared.visit.Which.{Which}
 use Rattle.swh_base.specs.declared.visit.Which.TheVariants.{Body, Objects, Bytes, Store, Ledger, Stream, Line, Path, Ref, Refs}
 use Rattle.swh_model.specs.declared.event.Visit.{Visit}
 use Rattle.swh_model.specs.declared.event.Event.{Event}
 use Rattle.swh_model.specs.declared.event.EventKind.{EventKind}
-use Rattle.swh_model.specs.declared.event.EventKind.TheVariants.{Batch, Open, Mark}
+use Rattle.swh_model.specs.declared.event.EventKind.TheVariants.{Batch, Mark}
 use Rattle.swh_model.specs.declared.event.No.{No}
 use Rattle.swh_model.specs.declared.event.No.TheVariants.{Limit, NoVisit, NotYours, Ended, NoSnapshot, NotClosed, Collision}
 use Rattle.swh_model.specs.Archive.{body_of, visits_of, IsHeld}
 use Rattle.swh_model.specs.Step.{replay}
 use Rattle.swh_base.specs.Snapshot.{snapshot_name}
 use Rattle.swh_base.specs.Visit.{IsFinal, last_status}
-use Rattle.swh_model.specs.Judge.{event_of, BatchPasses, FilePasses, BatchCause, OpenCause, MarkCause, Collides, which_rank, rank, IsVerdict}
+use Rattle.swh_model.specs.Judge.{event_of, BatchPasses, FilePasses, BatchCause, MarkCause, Collides, which_rank, rank, IsVerdict}
 use Rattle.swh_model.proofs.Worked.{none_below}
 use Rattle.swh_model.proofs.Walks.{reaches-next}
 use Rattle.swh_keeper.specs.Judged.{IsFirstOf, NonePasses, IsAt, IsVisitRefusal, MayBeMarked, IsSnapshotRefusal, SuitsStatus}
@@ -39,37 +38,6 @@ batch_low es Body n p = omega arith
 batch_low es Objects n p = omega arith
 batch_low es Bytes n p = omega arith
 batch_low es _ n p = absurd p
-
-files_high : (h : List Event) (event : EventKind) (w : Which) (n : ℕ) → FilePasses h event w n → 3 ≤ which_rank w
-files_high h event Store n p = omega arith
-files_high h event Ledger n p = omega arith
-files_high h event _ n p = absurd p
-
-batch_below : (h : List Event) (es : List Entry) (w : Which) (n : ℕ) → IsFirstOf (BatchPasses es) (w, n) → (other : No) → rank other < which_rank w → BatchCause h es other → ⊥
-batch_below h es w n first (Limit v m) less (inl p) = first.before_it v m less p
-batch_below h es w n first (Limit v m) less (inr q) = let a = batch_low es w n first.passes in let b = files_high h (event_of (replay h) (Batch es)) v m q in omega (arith, a, b, less)
-batch_below h es w n first (Collision name) less is = let s = small w in omega (arith, s, less)
-batch_below h es w n first (NoVisit have) less is = is
-batch_below h es w n first (NotYours by) less is = is
-batch_below h es w n first (Ended status) less is = is
-batch_below h es w n first (NoSnapshot name) less is = is
-batch_below h es w n first (NotClosed parent child) less is = is
-
-pub batch_limited : (h : List Event) (by : ℕ) (es : List Entry) (w : Which) (n : ℕ) → IsFirstOf (BatchPasses es) (w, n) → IsVerdict h by (Batch es) (Err (Limit w n))
-batch_limited h by es w n first = (inl first.passes, batch_below h es w n first)
-
-batch_file_below : (h : List Event) (es : List Entry) (w : Which) (n : ℕ) → NonePasses (BatchPasses es) → IsFirstOf (FilePasses h (event_of (replay h) (Batch es))) (w, n) → (other : No) → rank other < which_rank w → BatchCause h es other → ⊥
-batch_file_below h es w n none first (Limit v m) less (inl p) = none v m p
-batch_file_below h es w n none first (Limit v m) less (inr q) = first.before_it v m less q
-batch_file_below h es w n none first (Collision name) less is = let s = small w in omega (arith, s, less)
-batch_file_below h es w n none first (NoVisit have) less is = is
-batch_file_below h es w n none first (NotYours by) less is = is
-batch_file_below h es w n none first (Ended status) less is = is
-batch_file_below h es w n none first (NoSnapshot name) less is = is
-batch_file_below h es w n none first (NotClosed parent child) less is = is
-
-pub batch_file_limited : (h : List Event) (by : ℕ) (es : List Entry) (w : Which) (n : ℕ) → NonePasses (BatchPasses es) → IsFirstOf (FilePasses h (event_of (replay h) (Batch es))) (w, n) → IsVerdict h by (Batch es) (Err (Limit w n))
-batch_file_limited h by es w n none first = (inr first.passes, batch_file_below h es w n none first)
 
 no_limit : (h : List Event) (es : List Entry) → NonePasses (BatchPasses es) → NonePasses (FilePasses h (event_of (replay h) (Batch es))) → (other : No) → rank other < 10 → BatchCause h es other → ⊥
 no_limit h es none files (Limit v m) less (inl p) = none v m p
@@ -93,27 +61,6 @@ batch_passes h es none files apart (NotYours by) is = is
 batch_passes h es none files apart (Ended status) is = is
 batch_passes h es none files apart (NoSnapshot name) is = is
 batch_passes h es none files apart (NotClosed parent child) is = is
-
-open_below : (h : List Event) (event : EventKind) (w : Which) (n : ℕ) → IsFirstOf (FilePasses h event) (w, n) → (other : No) → rank other < which_rank w → OpenCause h event other → ⊥
-open_below h event w n first (Limit v m) less q = first.before_it v m less q
-open_below h event w n first (NoVisit have) less is = is
-open_below h event w n first (NotYours by) less is = is
-open_below h event w n first (Ended status) less is = is
-open_below h event w n first (NoSnapshot name) less is = is
-open_below h event w n first (NotClosed parent child) less is = is
-open_below h event w n first (Collision name) less is = is
-
-pub open_limited : (h : List Event) (by : ℕ) (origin : List ℕ) (kind : VisitKind) (date : ℕ) (w : Which) (n : ℕ) → IsFirstOf (FilePasses h (Open origin kind date)) (w, n) → IsVerdict h by (Open origin kind date) (Err (Limit w n))
-open_limited h by origin kind date w n first = (first.passes, open_below h (Open origin kind date) w n first)
-
-pub open_passes : (h : List Event) (event : EventKind) → NonePasses (FilePasses h event) → (cause : No) → OpenCause h event cause → ⊥
-open_passes h event files (Limit v m) q = files v m q
-open_passes h event files (NoVisit have) is = is
-open_passes h event files (NotYours by) is = is
-open_passes h event files (Ended status) is = is
-open_passes h event files (NoSnapshot name) is = is
-open_passes h event files (NotClosed parent child) is = is
-open_passes h event files (Collision name) is = is
 
 same_visit : (o : Option Visit) (v w : Visit) → o ≡ Some v → o ≡ Some w → v ≡ w
 same_visit o v w a b = cc

@@ -142,6 +142,3 @@ pub marked-set : (vs : List Visit) (k : ℕ) (v w : Visit) (s : Status) (id : Op
 marked-set [] k v w s id less is new = absurd (omega (arith, less))
 marked-set (x ∷ vs) zero v w s id less is new = ap (λ (y : Visit). y ∷ vs) (new ∙ ap (λ (y : Visit). with_status y s id) is)
 marked-set (x ∷ vs) (suc k) v w s id less is new = ap (λ (l : List Visit). x ∷ l) (marked-set vs k v w s id (omega (arith, less)) is new)
-
-pub status_push : (v w : Visit) (s : Status) (id : Option (List ℕ)) → w ≡ record v { statuses = v.statuses ++ (s, id) ∷ [] } → w ≡ with_status v s id
-status_push v w s id e = e

@@ -3,7 +3,7 @@ use Rattle.std.proofs.Common.{◌≡◌, inl, inr, ℕ, zero, suc, ◌+◌, ◌<
 use Rattle.std.specs.Prelude.{Contains, slice_get}
 use Rattle.std.specs.List.{AllByRecursion}
 use Rattle.std.specs.BTreeSet.{BTreeSet, contains, Updates}
-use Rattle.std.proofs.lemmas.List.{take_more, take_all, append-nil, take-append-le}
+use Rattle.std.proofs.lemmas.List.{take_more, take_all, take-append-le}
 use Rattle.std.proofs.lemmas.List.Elements.{Contains-append_left, Contains-append_cases, Contains-push, Contains-push_cases}
 use Rattle.swh_base.specs.declared.name.Name.{Name}
 use Rattle.swh_base.specs.declared.entry.Entry.{Entry}
@@ -53,9 +53,6 @@ pub may_keep : (l l' : List Name) (x n : Name) → MayGain l l' x → Contains l
 may_keep l l' x n (inl same) h = subst (λ (k : List Name). Contains k n) (sym same) h
 may_keep l l' x n (inr more) h = subst (λ (k : List Name). Contains k n) (sym more) (Contains-append_left l (x ∷ []) n h)
 
-pub gains-none : (bodies : Bodies) (names l : List Name) → GainsHeld bodies names l l
-gains-none bodies names l = record { more = []; behind = sym (append-nil l); held_names = tt }
-
 pub gains-more : (bodies : Bodies) (names old l l' : List Name) (x : Name) → GainsHeld bodies names old l → MayGain l l' x → Contains names x → IsHeld bodies x → GainsHeld bodies names old l'
 gains-more bodies names old l l' x g (inl same) there held = record { more = g.more; behind = same ∙ g.behind; held_names = g.held_names }
 gains-more bodies names old l l' x g (inr more) there held =
@@ -79,16 +76,6 @@ all-more kids l l' i x less is each gain there n h =
 
 none_in : (n : Name) → Contains [] n → ⊥
 none_in n (k, less, is) = absurd (omega (arith, less))
-
-pub none_taken : (kids l : List Name) (n : Name) → Contains (take 0 kids) n → Contains l n
-none_taken kids l n h = absurd (none_in n (subst (λ (k : List Name). Contains k n) (take_none kids) h))
-  where
-    take_none : (xs : List Name) → take 0 xs ≡ []
-    take_none [] = refl
-    take_none (x ∷ xs) = refl
-
-pub all_taken : (kids l : List Name) (i : ℕ) → length kids ≤ i → ((n : Name) → Contains (take i kids) n → Contains l n) → (n : Name) → Contains kids n → Contains l n
-all_taken kids l i past each n h = each n (subst (λ (k : List Name). Contains k n) (sym (take_all i kids past)) h)
 
 pub kid_of : (bodies : Bodies) (p k : Name) (e : Entry) → IsEntryOf bodies p e → Contains e.kids k → IsKid bodies p k
 kid_of bodies p k e is there =
@@ -118,39 +105,6 @@ pub record Walked (bodies : Bodies) (root : Name) (known l : List Name) (place :
   pub place_is : place ≡ length known + done
   pub within : done ≤ length gains.more
   pub followed : (n kid : Name) → Contains (take done gains.more) n → IsKid bodies n kid → Contains l kid
-
-pub walk_fits : (bodies : Bodies) (root : Name) (known l : List Name) (place : ℕ) → Walked bodies root known l place → place ≤ length l
-walk_fits bodies root known l place w =
-    let few = w.within in let is = w.place_is in omega (arith, few, is, ap length w.gains.behind, length-append known w.gains.more)
-
-none_in_front : (n : Name) (xs : List Name) → Contains (take 0 xs) n → ⊥
-none_in_front n [] h = none_in n h
-none_in_front n (x ∷ xs) h = none_in n h
-
-pub walk_begins : (bodies : Bodies) (root : Name) (known l : List Name) (place : ℕ) → IsHeld bodies root → MayGain known l root → Contains l root → place ≡ length known → Walked bodies root known l place
-walk_begins bodies root known l place held (inl same) there is =
-    record {
-      begins = there;
-      gains = record { more = []; behind = same ∙ sym (append-nil known); reached = tt };
-      done = 0;
-      place_is = omega (arith, is);
-      within = omega arith;
-      followed = λ n kid h _. absurd (none_in_front n [] h);
-    }
-walk_begins bodies root known l place held (inr more) there is =
-    record {
-      begins = there;
-      gains = record { more = root ∷ []; behind = more; reached = ((([], refl), held), tt) };
-      done = 0;
-      place_is = omega (arith, is);
-      within = omega arith;
-      followed = λ n kid h _. absurd (none_in_front n (root ∷ []) h);
-    }
-
--- what was met before a kid's parent was looked at
-pub gains-root : (bodies : Bodies) (root : Name) (known l : List Name) → IsHeld bodies root → MayGain known l root → GainsReached bodies root known l
-gains-root bodies root known l held (inl same) = record { more = []; behind = same ∙ sym (append-nil known); reached = tt }
-gains-root bodies root known l held (inr more) = record { more = root ∷ []; behind = more; reached = ((([], refl), held), tt) }
 
 reached_more : (bodies : Bodies) (root p : Name) → Reaches bodies root p → (ms : List Name) → AllByRecursion (IsHeldKid bodies p) ms → AllByRecursion (λ n. Reaches bodies root n × IsHeld bodies n) ms
 reached_more bodies root p reach [] h = tt
@@ -235,9 +189,6 @@ module _ (bodies : Bodies) (root : Name) (known l : List Name) (place : ℕ) (pa
   pub walk-ends : AreClosed bodies l
   walk-ends n h =
       elim (covered known w.gains.more l n w.gains.behind h) [ inl new ↦ more_closed n new | inr old ↦ are n old ]
-
-pub none_known : (bodies : Bodies) (l : List Name) → l ≡ [] → AreClosed bodies l
-none_known bodies l is n h = absurd (none_in n (subst (λ (k : List Name). Contains k n) is h))
 
 -- an element that is there is read with any default
 pub item_is : (xs : List Name) (i : ℕ) (d e : Name) → i < length xs → get_or xs i d ≡ get_or xs i e

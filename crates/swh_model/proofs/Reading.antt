@@ -52,19 +52,6 @@ told_anywhere at (Batch es) h = absurd h
 told_anywhere at (Open origin kind date) h = refl
 told_anywhere at (Mark origin visit status snapshot) h = refl
 
-codable_anywhere : (at : ℕ) (what : EventKind) → IsWhole what → IsCodableKind 0 what → IsCodableKind at what
-codable_anywhere at (Batch es) h c = absurd h
-codable_anywhere at (Open origin kind date) h c = c
-codable_anywhere at (Mark origin visit status snapshot) h c = c
-
-pub whole_codable : (at : ℕ) (what : EventKind) → IsFit (told_of.Whole what) → IsCodableKind at what
-whole_codable at what fit = codable_anywhere at what fit.whole fit.codable
-
-pub whole_runless : (what : EventKind) → IsWhole what → run_of what ≡ []
-whole_runless (Batch es) h = absurd h
-whole_runless (Open origin kind date) h = refl
-whole_runless (Mark origin visit status snapshot) h = refl
-
 said : (at : ℕ) (t : Told) (what : EventKind) → IsFit t → Tells at t what → (told_byte t ≡ event_byte what) × (told_bytes t ≡ told at what)
 said at (told_of.Batch p) (Batch es) fit is = (refl, (λ i. to_be_bytes w64 (is.0 i) ++ (to_be_bytes w64 (is.1 i) ++ to_be_bytes w32 (is.2 i))))
 said at (told_of.Batch p) (Open origin kind date) fit is = absurd is

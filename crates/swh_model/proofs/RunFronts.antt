@@ -17,9 +17,6 @@ pub record IsRunSoFar (bytes : List ℕ) (entries : List Entry) (count : ℕ) (r
   pub codable : AllByRecursion IsCodableEntry entries
   pub are_bare : map bare entries ≡ entries
 
-pub so_far_start : (bytes : List ℕ) → IsRunSoFar bytes [] 0 bytes
-so_far_start bytes = record { spelled = refl; number = refl; codable = tt; are_bare = refl }
-
 all_push : {X : Type 0} (P : X → Type 0) (xs : List X) (y : X) → AllByRecursion P xs → P y → AllByRecursion P (xs ++ y ∷ [])
 all_push P [] y h p = (p, tt)
 all_push P (x ∷ xs) y h p = (h.0, all_push P xs y h.1 p)

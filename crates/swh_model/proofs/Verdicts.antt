@@ -58,9 +58,6 @@ bytes-more : (e : Entry) (es : List Entry) → bytes_before_last (e ∷ es) ≤ 
 bytes-more e [] = omega arith
 bytes-more e (f ∷ es) = omega arith
 
-bytes-first : (e f : Entry) (es : List Entry) → bytes_before_last (e ∷ f ∷ es) ≡ length e.body + bytes_before_last (f ∷ es)
-bytes-first e f es = refl
-
 bytes-fresh : (bodies : Bodies) (es : List Entry) → bytes_before_last (fresh bodies es) ≤ bytes_before_last es
 bytes-fresh bodies [] = omega arith
 bytes-fresh bodies (e ∷ []) =

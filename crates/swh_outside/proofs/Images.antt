@@ -1,5 +1,5 @@
 -- What a crash leaves of a file at rest, and of one with a single write since.
-use Rattle.std.proofs.Common.{◌≡◌, ◌⊎◌, inl, inr, ⊎_elim, ℕ, suc, ◌+◌, ◌-◌, ◌<◌, ◌≤◌, max, List, [], ◌∷◌, ◌++◌, length, get_or, set, take, drop, refl, sym, ◌∙◌, ap, subst, arith, length-append, length-drop, length-set, get_or-set_other, get_or-set_same}
+use Rattle.std.proofs.Common.{◌≡◌, ◌⊎◌, inl, inr, ⊎_elim, ℕ, suc, ◌+◌, ◌-◌, ◌<◌, ◌≤◌, List, [], ◌∷◌, ◌++◌, length, get_or, set, take, drop, refl, sym, ◌∙◌, ap, subst, arith, length-append, length-set, get_or-set_other, get_or-set_same}
 use Rattle.std.proofs.lemmas.List.{ext_get_or, get_or-take, get_or-drop, get_or_append_left, get_or-append_right, length-take-le, set_at}
 use Rattle.std.proofs.lemmas.Bool.{cases_eq, cases_lt}
 use Rattle.swh_outside.specs.Disk.{File, IsImage, IsOutside, Call, Write, Sync, IsAtRest, begun, done, patched, IsBroken}
@@ -57,10 +57,6 @@ pub broken_image : (call : Call) (old new : File) (image : List ℕ) → IsBroke
 broken_image (Write at bytes) old new image broken i = inl (recast (done (Write at bytes) old) (begun (Write at bytes) old) image refl refl refl (broken.images image i))
 broken_image Sync old new image broken i = inr (recast old (begun Sync old) image refl refl refl (broken.images image i))
 
-pub length-patched : (old bytes : List ℕ) (at : ℕ) → at ≤ length old → length (patched old at bytes) ≡ max (length old) (at + length bytes)
-length-patched old bytes at le =
-    omega (arith, length-append (take at old) (bytes ++ drop (at + length bytes) old), length-append bytes (drop (at + length bytes) old), length-take-le at old le, length-drop (at + length bytes) old)
-
 -- bytes beside those that are written stay
 pub beside : (old bytes : List ℕ) (at k : ℕ) → at ≤ length old → (k < at) ⊎ (at + length bytes ≤ k) → get_or (patched old at bytes) k 0 ≡ get_or old k 0
 beside old bytes at k le (inl before) =
@@ -72,16 +68,6 @@ beside old bytes at k le (inr behind) =
     ∙ get_or-append_right bytes (drop (at + length bytes) old) (length bytes) (k - at) 0 refl (omega (arith, behind))
     ∙ get_or-drop (at + length bytes) old (k - at - length bytes) 0
     ∙ ap (λ (n : ℕ). get_or old n 0) there
-
--- what a read gives after a write is an image too
-pub written_image : (file : File) (at : ℕ) (bytes : List ℕ) → at ≤ length file.seen → IsImage file file.seen → IsImage (done (Write at bytes) file) (patched file.seen at bytes)
-written_image file at bytes le i =
-    let size = length-patched file.seen bytes at le in
-    record {
-      stays = λ k h out. beside file.seen bytes at k le out.0 ∙ i.stays k h out.1;
-      no_shorter = omega (arith, i.no_shorter, size);
-      no_longer = omega (arith, i.no_longer, size);
-    }
 
 -- and so is one that has begun, or that a barrier was refused for
 pub begun_image : (call : Call) (file : File) (image : List ℕ) → IsImage file image → IsImage (begun call file) image

@@ -198,18 +198,6 @@ files_left_whole plan old new P each is = subst (λ (f : Files). EachImages f P)
 pub files_left_same : (plan : List FileCall) (old new : Files) (P : Images → Type 0) → EachFilesMoment plan old P → new ≡ old → EachImages new P
 files_left_same plan old new P each is = subst (λ (f : Files). EachImages f P) (sym is) (each.has 0)
 
--- what a run left, however it ended
-pub files_left : {T E : Type 0} (plan : List FileCall) (old new : Files) (P : Images → Type 0) (result : Result T E) → EachFilesMoment plan old P → FilesRuns plan old new result → EachImages new P
-files_left plan old new P (Ok x) each runs = files_left_whole plan old new P each runs.ok
-files_left plan old new P (Err e) each runs = files_left_by plan old new P each runs.err
-
--- the two files of an archive
-pub ledger_of : (ledger store : File) → files_of ledger store 0 ≡ ledger
-ledger_of ledger store = refl
-
-pub store_of : (ledger store : File) → files_of ledger store 1 ≡ store
-store_of ledger store = refl
-
 pub with_ledger : (ledger store now : File) → with_file 0 now (files_of ledger store) ≡ files_of now store
 with_ledger ledger store now = with_file_twice 0 now ledger (with_file 1 store (λ k. absent))
 
@@ -229,10 +217,6 @@ store_done plan ledger store = files_done-on 1 plan (files_of ledger store) ∙ 
 pub ledger_runs : {T E : Type 0} (plan : List Call) (old new store : File) (result : Result T E) → Runs plan old new result → FilesRuns (on 0 plan) (files_of old store) (files_of new store) result
 ledger_runs plan old new store result runs = runs_on 0 plan (files_of old store) (files_of new store) result runs
     (λ k other. with_file_other 0 new (with_file 1 store (λ j. absent)) k other ∙ sym (with_file_other 0 old (with_file 1 store (λ j. absent)) k other))
-
-pub store_runs : {T E : Type 0} (plan : List Call) (old new ledger : File) (result : Result T E) → Runs plan old new result → FilesRuns (on 1 plan) (files_of ledger old) (files_of ledger new) result
-store_runs plan old new ledger result runs = runs_on 1 plan (files_of ledger old) (files_of ledger new) result runs
-    (λ k other. ap (λ (f : File). cond (k == 0) ledger f) (with_file_other 1 new (λ j. absent) k other ∙ sym (with_file_other 1 old (λ j. absent) k other)))
 
 -- calls on the ledger alone that break it, and on the store alone
 pub ledger_breaks : (plan : List Call) (old new store : File) → Breaks plan old new → FilesBreaks (on 0 plan) (files_of old store) (files_of new store)

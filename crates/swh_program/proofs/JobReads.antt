@@ -8,14 +8,9 @@ use Rattle.swh_jobs.specs.Job.{Job}
 use Rattle.swh_jobs.specs.JobFile.{IsJobFile}
 use Rattle.swh_jobs.proofs.Lengths.{longest_lem, front_lem}
 use Rattle.swh_program.specs.Seen.{FileAt}
-use Rattle.swh_program.specs.Jobs.{TellsFault, TellsBadJob, AreJobsAt, IsReadRefusal, IsJobRefusal, IsJobRefused}
+use Rattle.swh_program.specs.Jobs.{TellsFault, TellsBadJob, AreJobsAt, IsReadRefusal, IsJobRefused}
 use Rattle.swh_program.specs.declared.answer.Answer.{Answer}
 use Rattle.swh_program.specs.declared.answer.Answer.TheVariants.{BadJob, Memory}
-
-pub one_of_read : (bytes : List ℕ) (answer : Answer) → IsReadRefusal bytes answer → IsJobRefusal answer
-one_of_read bytes (BadJob text) is = (bytes, is)
-one_of_read bytes Memory is = tt
-one_of_read bytes _ is = absurd is
 
 -- A front of the file at a path was read, longer than any job file where it is not all of it.
 module _ (file_at : FileAt) (path left now front : List ℕ) (there : file_at path ≡ Some left) (read : IsFront left now 1837056 front) where

@@ -1,14 +1,11 @@
 -- What a load that is refused leaves alone.
 use Rattle.std.proofs.Common.{◌≡◌, inl, inr, ⊎_elim, List, sym, subst}
 use Rattle.swh_outside.specs.Files.{Files}
-use Rattle.swh_outside.specs.Views.{Disks}
-use Rattle.swh_keeper.specs.Kept.{Kept}
 use Rattle.swh_jobs.specs.Job.{Job}
 use Rattle.swh_program.specs.Seen.{Span}
 use Rattle.swh_program.specs.Jobs.{IsJobRefusal}
 use Rattle.swh_program.specs.LeftAlone.{IsOnDesk, IsBeforeInputs, IsArchiveRefusal, IsRefusedInOrder}
 use Rattle.swh_program.specs.Load.{Givens, IsLoadedOrNot}
-use Rattle.swh_program.specs.Loading.{IsKeptRun}
 use Rattle.swh_program.specs.Opening.{IsOpenRefusal, OpenEnds}
 use Rattle.swh_program.specs.declared.answer.Answer.{Answer}
 use Rattle.swh_program.specs.declared.answer.Answer.TheVariants.{NoJobFile, BadJob, NotMade, Damaged, OutsideDisk, OutsideSource, OutsideClock, Memory}
@@ -39,9 +36,3 @@ module _ (s : Span) where
         (λ (clock : answer ≡ OutsideClock). subst (IsRefusedInOrder s) (sym clock) tt)
         (λ (refused : IsOpenRefusal answer × (g.disks_tell → OpenEnds g.id_of was now answer)). open_refused answer left refused.0)
         (unloaded_cases g.id_of g.disks_tell was now answer none)
-
--- jobs that an open archive is given are not answered by a refusal of the archive
-pub never_refused : {D : Type 0} (g : Givens) (disks : Disks D) (old new : Kept D) (jobs : List Job) (answer : Answer) → IsKeptRun g disks old new jobs answer → IsArchiveRefusal answer → ⊥
-never_refused g disks old new jobs answer (inl loaded) is = subst IsArchiveRefusal (told_of loaded.loads answer loaded.told).3 is
-never_refused g disks old new jobs answer (inr none) is =
-    ⊎_elim (λ (clock : answer ≡ OutsideClock). subst IsArchiveRefusal clock is) (λ (memory : answer ≡ Memory). subst IsArchiveRefusal memory is) none.0

@@ -1,8 +1,7 @@
 -- What loads into an open archive mean for the files of its folder.
-use Rattle.std.proofs.Common.{◌≡◌, inl, inr, ⊎_elim, ℕ, ◌<◌, ◌≤◌, Option, Some, None, List, [], ◌∷◌, ◌++◌, refl, sym, ap, ◌∙◌, subst, arith, append_assoc}
+use Rattle.std.proofs.Common.{◌≡◌, inl, inr, ⊎_elim, ℕ, ◌<◌, ◌≤◌, Option, Some, None, List, [], ◌∷◌, ◌++◌, refl, sym, ap, ◌∙◌, subst, append_assoc}
 use Rattle.std.proofs.lemmas.List.{append-nil}
 use Rattle.swh_base.specs.declared.kind.Kind.{Kind}
-use Rattle.swh_outside.specs.Faults.{Rose}
 use Rattle.swh_outside.specs.Views.{Disks}
 use Rattle.swh_outside.specs.Files.{Files, files_done}
 use Rattle.swh_outside.proofs.Numbered.{files_done-append}
@@ -28,7 +27,6 @@ use Rattle.swh_program.specs.Loading.{IsUnstarted, AreKeptLoads, IsKeptRun}
 use Rattle.swh_program.specs.declared.answer.Ending.TheVariants as ending
 use Rattle.swh_program.specs.declared.answer.Answer.{Answer}
 use Rattle.swh_program.specs.declared.answer.Answer.TheVariants.{Told, NotMade, Damaged, OutsideDisk, OutsideClock, Memory}
-use Rattle.swh_program.proofs.Inputs.{rose_since}
 
 -- What was held by a front of a history is held by the whole.
 module _ (id_of : Kind → List ℕ → List ℕ) (before more after : List Event) (behind : after ≡ before ++ more) (history : IsHistory id_of after) where
@@ -127,11 +125,6 @@ module _ {D : Type 0} (g : Givens) (disks : Disks D) where
       → IsKeptRun g disks was now jobs answer → TellsDisk answer → EitherRose (disks.faults was.store) (disks.faults now.store) (disks.faults was.ledger) (disks.faults now.ledger)
   run_disk was now jobs answer (inl run) is = run.load.rose (told_disk run.loads answer run.told is)
   run_disk was now jobs answer (inr none) is = absurd (not_disk answer none.0 is)
-
--- the depot's count rose where one of its disks had failed
-pub disk_rose : (a b c d entry middle after : ℕ) → EitherRose a b c d → entry ≤ middle → (0 < b → Rose middle after) → (0 < d → Rose middle after) → Rose entry after
-disk_rose a b c d entry middle after either later store ledger =
-    rose_since entry middle after later (⊎_elim (λ (rose : Rose a b). store (omega (arith, rose))) (λ (rose : Rose c d). ledger (omega (arith, rose))) either)
 
 pub refused_unloaded : (id_of : Kind → List ℕ → List ℕ) (tells : Type 0) (old new : Files) (answer : Answer) → IsOpenRefusal answer → (tells → OpenEnds id_of old new answer) → IsUnloaded id_of tells old new answer
 refused_unloaded id_of tells old new NotMade is ends = (tt, ends)

@@ -44,9 +44,6 @@ pub record BackSoFar {S : Type 0} (sources : Sources S) (before now : List ℕ �
   pub cut : all ≡ left ++ done
   pub back : AreGivenBack sources before now done
 
-pub back_begins : {S : Type 0} (sources : Sources S) (counts : List ℕ → ℕ) (all : List (DatedJob S)) → BackSoFar sources counts counts all all
-back_begins sources counts all = record { done = []; cut = sym (append-nil all); back = tt }
-
 pub back_next : {S : Type 0} (sources : Sources S) (entry now later : List ℕ → ℕ) (all left rest : List (DatedJob S)) (j : DatedJob S) → ((p : List ℕ) → entry p ≤ now p) → ((p : List ℕ) → now p ≤ later p)
     → left ≡ rest ++ j ∷ [] → BackSoFar sources entry now all left → IsGivenBack sources now later j.job.stream → BackSoFar sources entry later all rest
 back_next sources entry now later all left rest j rose rises cut so_far back = record {
@@ -54,9 +51,6 @@ back_next sources entry now later all left rest j rose rises cut so_far back = r
   cut = so_far.cut ∙ ap (λ (l : List (DatedJob _)). l ++ so_far.done) cut ∙ append_assoc rest (j ∷ []) so_far.done;
   back = (back_since sources now later entry rose j.job.stream back, back_all_until sources entry now later rises so_far.done so_far.back);
 }
-
-pub back_ends : {S : Type 0} (sources : Sources S) (before now : List ℕ → ℕ) (all left : List (DatedJob S)) → left ≡ [] → BackSoFar sources before now all left → AreGivenBack sources before now all
-back_ends sources before now all left none so_far = subst (λ (l : List (DatedJob _)). AreGivenBack sources before now l) (sym (so_far.cut ∙ ap (λ (l : List (DatedJob _)). l ++ so_far.done) none)) so_far.back
 
 -- one date more
 pub said_next : (time : ℕ → ℕ) (dates : List ℕ) (date : ℕ) → AreSaid time dates → date ≡ time (length dates) → AreSaid time (dates ++ date ∷ [])

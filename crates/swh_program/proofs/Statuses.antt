@@ -1,9 +1,9 @@
 -- The status of a run, from its answer, and the part that the answer names.
-use Rattle.std.proofs.Common.{◌≡◌, ◌≢◌, ◌⊎◌, inl, inr, ⊎_elim, ℕ, ◌<◌, ◌≤◌, List, refl, sym, ◌∙◌, subst, arith}
+use Rattle.std.proofs.Common.{◌≡◌, ◌≢◌, ◌⊎◌, inl, inr, ⊎_elim, ℕ, ◌<◌, ◌≤◌, List, sym, ◌∙◌, subst, arith}
 use Rattle.swh_base.specs.declared.kind.Kind.{Kind}
 use Rattle.swh_model.specs.Answer.{ReplyText}
 use Rattle.swh_words.specs.Words.{Wanted, ToInit, ToLoad, ToAsk, ToIdentify}
-use Rattle.swh_program.specs.Seen.{Span, DepotFailed, DeskFailed, ClockFailed, SinkFailed}
+use Rattle.swh_program.specs.Seen.{Span}
 use Rattle.swh_program.specs.Answers.{TellsDisk, status_of, IsPrinted}
 use Rattle.swh_program.specs.AskCommand.{IsAskAnswer, AreFound, HasShortReply, IsEndingOf}
 use Rattle.swh_program.specs.Commands.{Comes}
@@ -13,7 +13,7 @@ use Rattle.swh_program.specs.Run.{ComesTo, IsExactly, IsTold, NamesFailed}
 use Rattle.swh_program.specs.declared.answer.Ending.{Ending}
 use Rattle.swh_program.specs.declared.answer.Ending.TheVariants as ending
 use Rattle.swh_program.specs.declared.answer.Answer.{Answer}
-use Rattle.swh_program.specs.declared.answer.Answer.TheVariants.{Made, Told, Words, NoJobFile, BadJob, AlreadyMade, NotMade, Damaged, OutsideDisk, OutsideSource, OutsideClock, Memory}
+use Rattle.swh_program.specs.declared.answer.Answer.TheVariants.{Told, OutsideDisk, Memory}
 
 -- what an answer comes to, the run does
 module _ (answer : Answer) (s : Span) (status : ℕ) where
@@ -36,34 +36,6 @@ module _ (answer : Answer) (s : Span) (status : ℕ) where
   pub run_never : (low high : ℕ) → (status_of answer < low) ⊎ (high ≤ status_of answer) → (k : ℕ) → low ≤ k → k < high → k < 4 → IsTold answer s status → status ≢ k
   run_never low high (inl below) k from until less told is = let e = same_status k less told is in omega (arith, below, from, e)
   run_never low high (inr above) k from until less told is = let e = same_status k less told is in omega (arith, above, until, e)
-
--- 4 names a part
-named_part : (answer : Answer) → status_of answer ≡ 4 → TellsDisk answer ⊎ (answer ≡ OutsideSource) ⊎ (answer ≡ OutsideClock)
-named_part Made is = absurd (omega (arith, is))
-named_part (Told text ending.Done) is = absurd (omega (arith, is))
-named_part (Told text ending.Wanting) is = absurd (omega (arith, is))
-named_part (Told text ending.OutsideDisk) is = inl refl
-named_part (Told text ending.Memory) is = absurd (omega (arith, is))
-named_part Words is = absurd (omega (arith, is))
-named_part NoJobFile is = absurd (omega (arith, is))
-named_part (BadJob text) is = absurd (omega (arith, is))
-named_part AlreadyMade is = absurd (omega (arith, is))
-named_part NotMade is = absurd (omega (arith, is))
-named_part Damaged is = absurd (omega (arith, is))
-named_part OutsideDisk is = inl refl
-named_part OutsideSource is = inr (inl refl)
-named_part OutsideClock is = inr (inr refl)
-named_part Memory is = absurd (omega (arith, is))
-
--- which has failed, or the sink has
-pub rose_outside : (s : Span) (answer : Answer) (status : ℕ) → NamesFailed s answer → IsTold answer s status → status ≡ 4 → DepotFailed s ⊎ DeskFailed s ⊎ ClockFailed s ⊎ SinkFailed s
-rose_outside s answer status named (inr cut) is = inr (inr (inr cut.rose))
-rose_outside s answer status named (inl printed) is = at (named_part answer (sym printed.status_is ∙ is))
-  where
-    at : TellsDisk answer ⊎ (answer ≡ OutsideSource) ⊎ (answer ≡ OutsideClock) → DepotFailed s ⊎ DeskFailed s ⊎ ClockFailed s ⊎ SinkFailed s
-    at (inl disk) = inl (named.disk disk)
-    at (inr (inl source)) = inr (inl (named.source source))
-    at (inr (inr clock)) = inr (inr (inl (named.clock clock)))
 
 -- `init` and `ask` name a disk alone
 init_disk : (answer : Answer) → IsInitAnswer answer → TellsDisk answer → answer ≡ OutsideDisk
@@ -106,19 +78,4 @@ comes_names (ToIdentify kind path) s answer i = record {
   disk = λ tells. absurd (subst (IsIdentifyAnswer s.id_of kind) (identify_disk s.id_of kind answer i.one_of tells) i.one_of);
   source = i.cause;
   clock = λ e. absurd (subst (IsIdentifyAnswer s.id_of kind) e i.one_of);
-}
-
--- none is named where there is no command
-pub words_name : (s : Span) → NamesFailed s Words
-words_name s = record {
-  disk = λ e. let f : Words ≡ OutsideDisk = e in cc;
-  source = λ e. let f : Words ≡ OutsideSource = e in cc;
-  clock = λ e. let f : Words ≡ OutsideClock = e in cc;
-}
-
-pub memory_names : (s : Span) → NamesFailed s Memory
-memory_names s = record {
-  disk = λ e. let f : Memory ≡ OutsideDisk = e in cc;
-  source = λ e. let f : Memory ≡ OutsideSource = e in cc;
-  clock = λ e. let f : Memory ≡ OutsideClock = e in cc;
 }

@@ -34,10 +34,6 @@ sized-too_long bytes digits after n small none e d long content rest short f =
     let size : n ≡ length content = decimal_injective n (length content) small short (sym d ∙ same.0) in
     absurd (omega (arith, ap length same.1, length-append content rest, size))
 
-pub sized-whole : (bytes digits after content rest : List ℕ) (n : ℕ) → bytes ≡ digits ++ 58 ∷ after → digits ≡ decimal n → length content ≡ n → content ++ rest ≡ after → bytes ≡ sized_text content ++ rest
-sized-whole bytes digits after content rest n e d l w =
-    e ∙ ap (λ (t : List ℕ). t ++ 58 ∷ after) (d ∙ ap decimal (sym l)) ∙ ap (λ (t : List ℕ). decimal (length content) ++ 58 ∷ t) (sym w) ∙ sym (sized_then content rest)
-
 -- a branch cut at its space and its NUL
 pub branch_cut : (b : SnapshotBranch) (x : List ℕ) → branch_text b ++ x ≡ target_word b.target ++ 32 ∷ (b.name ++ 0 ∷ (sized_text (target_bytes b.target) ++ x))
 branch_cut b x = branch_then b x ∙ ap (λ (t : List ℕ). target_word b.target ++ 32 ∷ (b.name ++ 0 ∷ t)) (sym (sized_then (target_bytes b.target) x))
