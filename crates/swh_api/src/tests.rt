@@ -1,7 +1,7 @@
 use super::*;
 use std::alloc::{AllocError, Global};
 use std::test::Fail;
-use swh_base::{Many, Memory, Status, VisitKind};
+use swh_base::{Items, Memory, Status, VisitKind};
 use swh_model::Visit;
 
 const EMPTY_SNAPSHOT: [u8; 20] = [
@@ -22,7 +22,7 @@ fn visit(
         date: 1000000000,
         kind,
         by: 7,
-        statuses: Many::from_vec(statuses),
+        statuses: Items::from_vec(statuses),
     })
 }
 

@@ -8,7 +8,7 @@ use Rattle.std.proofs.lemmas.Fmt.{decimal_injective, decimal-digits_of, decimal_
 use Rattle.swh_base.specs.declared.kind.Kind.{Kind}
 use Rattle.swh_base.specs.declared.kind.Kind.TheVariants.{Content, Directory, Revision, Release, Snapshot}
 use Rattle.swh_base.specs.Snapshot.{BranchTarget, ToObject, ToBranch, ToNothing, SnapshotBranch, target_kind_word, target_word, target_bytes, IsTarget, IsBranch, AreBranches, branch_text, snapshot_text, IsSnapshot}
-use Rattle.swh_base.proofs.Items.{items_on, one_items}
+use Rattle.swh_base.proofs.ItemTexts.{items_on, one_items}
 use Rattle.swh_base.proofs.Splits.{first_split, sized_split, absent, not_nil}
 
 kind_word-no_space : (kind : Kind) → Contains (target_kind_word kind) 32 → ⊥

@@ -24,11 +24,11 @@ pub record IsRelease (body : List ℕ) (r : Release) : Type 0 where
   pub one_line : Contains r.tag 10 → ⊥
 
 -- the object alone
-abbrev pub release_kids : Release → List Name
-release_kids r = r.object ∷ []
+abbrev pub release_children : Release → List Name
+release_children r = r.object ∷ []
 
--- These names are the kids of a release's body.
-pub record AreReleaseKids (body : List ℕ) (names : List Name) : Type 0 where
+-- These names are the children of a release's body.
+pub record AreReleaseChildren (body : List ℕ) (names : List Name) : Type 0 where
   pub release : Release
   pub is : IsRelease body release
-  pub kids : names ≡ release_kids release
+  pub kids : names ≡ release_children release

@@ -43,11 +43,11 @@ abbrev pub revision_name : List ℕ → Name
 revision_name id = record { kind = RevisionKind; id = id }
 
 -- the directory, then the parents
-abbrev pub revision_kids : Revision → List Name
-revision_kids r = record { kind = DirectoryKind; id = r.directory } ∷ map revision_name r.parents
+abbrev pub revision_children : Revision → List Name
+revision_children r = record { kind = DirectoryKind; id = r.directory } ∷ map revision_name r.parents
 
--- These names are the kids of a revision's body.
-pub record AreRevisionKids (body : List ℕ) (names : List Name) : Type 0 where
+-- These names are the children of a revision's body.
+pub record AreRevisionChildren (body : List ℕ) (names : List Name) : Type 0 where
   pub revision : Revision
   pub is : IsRevision body revision
-  pub kids : names ≡ revision_kids revision
+  pub kids : names ≡ revision_children revision

@@ -77,12 +77,12 @@ pub record IsSnapshot (body : List ℕ) (branches : List SnapshotBranch) : Type 
 abbrev pub snapshot_name : List ℕ → Name
 snapshot_name id = record { kind = Snapshot; id = id }
 
--- An alias is no kid, and nor is nothing.
-abbrev pub branch_kid : SnapshotBranch → Option Name
-branch_kid b = elim b.target [ ToObject n ↦ Some n | ToBranch name ↦ None | ToNothing ↦ None ]
+-- An alias is no child, and nor is nothing.
+abbrev pub branch_child : SnapshotBranch → Option Name
+branch_child b = elim b.target [ ToObject n ↦ Some n | ToBranch name ↦ None | ToNothing ↦ None ]
 
--- These names are the kids of a snapshot's body, in its order.
-pub record AreSnapshotKids (body : List ℕ) (names : List Name) : Type 0 where
+-- These names are the children of a snapshot's body, in its order.
+pub record AreSnapshotChildren (body : List ℕ) (names : List Name) : Type 0 where
   pub branches : List SnapshotBranch
   pub is : IsSnapshot body branches
-  pub kids : names ≡ filter_map branch_kid branches
+  pub kids : names ≡ filter_map branch_child branches

@@ -1,4 +1,4 @@
-//! Artifacts as they are held: a name, a body and kids.
+//! Artifacts as they are held: a name, a body and children.
 
 use crate::memory::Memory;
 use crate::name::Name;
@@ -17,7 +17,7 @@ pub struct Entry {
 impl Entry {
     ghost use Rattle.std.specs.Prelude.{◌≡◌, IfOk};
 
-    /// An equal entry that shares the body and the kids: no byte is copied. Fails where memory runs out.
+    /// An equal entry that shares the body and the children: no byte is copied. Fails where memory runs out.
     pub fn again(&self) -> Result<Entry, Memory>
         ensures { IfOk result (λ entry. entry ≡ self.now) }
     {

@@ -8,11 +8,11 @@ use crate::name::Name;
 
 /// What holds bodies, and tells which names each of them names.
 pub trait Graph {
-    /// The kids of the body held under a name, and nothing where none is held.
-    ghost kids_of: { Self → Name → Option (List Name) };
+    /// The children of the body held under a name, and nothing where none is held.
+    ghost children_of: { Self → Name → Option (List Name) };
 
     /// None exactly where the name is not held. It takes no memory.
     fn children_of(&self, name: &Name) -> Option<&[Name]>
-        ensures held { IfSome result (λ kids. kids_of self.now name.now ≡ Some kids.now) }
-        ensures not_held { IfNone result (kids_of self.now name.now ≡ None) };
+        ensures held { IfSome result (λ kids. children_of self.now name.now ≡ Some kids.now) }
+        ensures not_held { IfNone result (children_of self.now name.now ≡ None) };
 }

@@ -2,18 +2,18 @@
 ghost use Rattle.std.specs.Prelude.{◌≡◌, ℕ, List, Option};
 ghost use Rattle.swh_base.specs.declared.kind.Kind.{Kind};
 ghost use Rattle.swh_base.specs.declared.name.Name.{Name};
-ghost use Rattle.swh_base.specs.Directory.{Entry, IsDirectory};
-ghost use Rattle.swh_base.specs.Manifest.{AreKids};
+ghost use Rattle.swh_base.specs.Directory.{DirectoryEntry, IsDirectory};
+ghost use Rattle.swh_base.specs.Manifest.{AreChildren};
 ghost use Rattle.swh_base.specs.Reach.{IsClosedIn, AreClosedIn, CertifiesIn, IsAmong, IsWithin};
 
 /// A body is a directory in one way at most.
 pub fn one_listing()
-    ensures { (body : List ℕ) (es fs : List Entry) → IsDirectory body es → IsDirectory body fs → es ≡ fs }
+    ensures { (body : List ℕ) (es fs : List DirectoryEntry) → IsDirectory body es → IsDirectory body fs → es ≡ fs }
 {}
 
-/// A body names one list of kids at most.
-pub fn one_list_of_kids()
-    ensures { (kind : Kind) (body : List ℕ) (ns ms : List Name) → AreKids kind body ns → AreKids kind body ms → ns ≡ ms }
+/// A body names one list of children at most.
+pub fn one_list_of_children()
+    ensures { (kind : Kind) (body : List ℕ) (ns ms : List Name) → AreChildren kind body ns → AreChildren kind body ms → ns ≡ ms }
 {}
 
 /// Where a graph grows, what was closed is closed.
@@ -23,10 +23,10 @@ pub fn growth_keeps_closed()
 
 /// A certificate shows that its root is closed, and each name that it lists.
 pub fn certificates_show_closed()
-    ensures root { (kids_of : Name → Option (List Name)) (closed names : List Name) (root : Name)
-        → AreClosedIn kids_of closed → CertifiesIn kids_of closed names root → IsClosedIn kids_of root }
-    ensures listed { (kids_of : Name → Option (List Name)) (closed names : List Name) (root : Name)
-        → AreClosedIn kids_of closed → CertifiesIn kids_of closed names root → AreClosedIn kids_of names }
+    ensures root { (children_of : Name → Option (List Name)) (closed names : List Name) (root : Name)
+        → AreClosedIn children_of closed → CertifiesIn children_of closed names root → IsClosedIn children_of root }
+    ensures listed { (children_of : Name → Option (List Name)) (closed names : List Name) (root : Name)
+        → AreClosedIn children_of closed → CertifiesIn children_of closed names root → AreClosedIn children_of names }
 {}
 
 /// A certificate stays good where the graph grows and more is known to be closed.

@@ -1,7 +1,7 @@
 //! Names of artifacts by their bytes, the public grammars of their bodies, and the texts and limits that several crates
 //! read and count against.
 //! Stands on `sha1`, `hex`, `itoa`, `percent_encoding` and `swh_pieces`.
-//! Callers may rely on: an id is the namer's value of kind and body; a body names one list of kids.
+//! Callers may rely on: an id is the namer's value of kind and body; a body names one list of children.
 #![tactic(auto)]
 
 mod bytes;
@@ -11,7 +11,7 @@ mod graph;
 mod kind;
 mod laws;
 mod limits;
-mod many;
+mod items;
 mod memory;
 mod name;
 mod namer;
@@ -28,14 +28,14 @@ pub use escaping::escape;
 pub use graph::Graph;
 pub use kind::Kind;
 pub use laws::{
-    certificates_show_closed, growth_keeps_certificates, growth_keeps_closed, one_list_of_kids,
+    certificates_show_closed, growth_keeps_certificates, growth_keeps_closed, one_list_of_children,
     one_listing,
 };
 pub use limits::{
     BODY_LIMIT, BYTES_LIMIT, FILE_LIMIT, LINE_LIMIT, OBJECTS_LIMIT, PATH_LIMIT, REF_LIMIT,
     RUN_LIMIT, TAG_LIMIT, URL_LIMIT,
 };
-pub use many::Many;
+pub use items::Items;
 pub use memory::Memory;
 pub use name::{Name, is_lower_hex_digit};
 pub use namer::{ByteNamer, Namer, Sha1Namer};

@@ -8,10 +8,10 @@ use Rattle.std.proofs.lemmas.Bool.{cases_lt}
 use Rattle.std.proofs.lemmas.Cmp.{nat_list_cmp_total}
 use Rattle.std.proofs.lemmas.List.{get_or_default}
 use Rattle.std.proofs.lemmas.List.Elements.{All-from_recursion}
-use Rattle.swh_base.specs.Directory.{Entry, IsBefore, AreEntries, suffix_of}
+use Rattle.swh_base.specs.Directory.{DirectoryEntry, IsBefore, AreEntries, suffix_of}
 use Rattle.swh_pieces.proofs.Lasts.{less_from}
 use Rattle.swh_dirfmt.specs.declared.entry.SpelledEntry.{SpelledEntry}
-use Rattle.swh_dirfmt.specs.Entries.{entry_of, entries_of, key_of, comes_before}
+use Rattle.swh_dirfmt.specs.Entries.{entry_of, entries_in_body, key_of, comes_before}
 
 not_true : (b : Bool) → (b ≡ true → ⊥) → b ≡ false
 not_true true h = absurd (h refl)
@@ -20,19 +20,19 @@ not_true false h = refl
 never_itself : (k : List ℕ) → slice_cmp nat_cmp k k ≡ Less → ⊥
 never_itself k e = let turned = nat_list_cmp_total.antisymm k k in let both : Less ≡ Greater = rw e at turned in cc
 
-later : (x : SpelledEntry) (xs : List SpelledEntry) → AllByRecursion (λ (other : Entry). IsBefore (entry_of x) other) (entries_of xs) → AllByRecursion (λ (other : SpelledEntry). IsBefore (entry_of x) (entry_of other)) xs
+later : (x : SpelledEntry) (xs : List SpelledEntry) → AllByRecursion (λ (other : DirectoryEntry). IsBefore (entry_of x) other) (entries_in_body xs) → AllByRecursion (λ (other : SpelledEntry). IsBefore (entry_of x) (entry_of other)) xs
 later x [] h = tt
 later x (y ∷ xs) h = (h.0, later x xs h.1)
 
 -- each stands before the later ones
-pub ascend : (xs : List SpelledEntry) → AreEntries (entries_of xs) → (i j : ℕ) (d : SpelledEntry) → i < j → j < length xs → slice_cmp nat_cmp (key_of (get_or xs i d)) (key_of (get_or xs j d)) ≡ Less
+pub ascend : (xs : List SpelledEntry) → AreEntries (entries_in_body xs) → (i j : ℕ) (d : SpelledEntry) → i < j → j < length xs → slice_cmp nat_cmp (key_of (get_or xs i d)) (key_of (get_or xs j d)) ≡ Less
 ascend [] h i j d lt within = absurd (omega arith)
 ascend (x ∷ xs) h i zero d lt within = absurd (omega arith)
 ascend (x ∷ xs) h zero (suc j) d lt within = All-from_recursion (λ (other : SpelledEntry). IsBefore (entry_of x) (entry_of other)) xs (later x xs h.2) j d (omega arith)
 ascend (x ∷ xs) h (suc i) (suc j) d lt within = ascend xs h.3 i j d (omega arith) (omega arith)
 
 -- what stands at an index below one that comes before the key comes before it too
-pub before-from : (xs : List SpelledEntry) (k : List ℕ) (middle : ℕ) (x : SpelledEntry) → AreEntries (entries_of xs) → middle < length xs → comes_before k (get_or xs middle x) ≡ true → AllWithin (λ (e : SpelledEntry). comes_before k e ≡ true) xs 0 (middle + 1)
+pub before-from : (xs : List SpelledEntry) (k : List ℕ) (middle : ℕ) (x : SpelledEntry) → AreEntries (entries_in_body xs) → middle < length xs → comes_before k (get_or xs middle x) ≡ true → AllWithin (λ (e : SpelledEntry). comes_before k e ≡ true) xs 0 (middle + 1)
 before-from xs k middle x h within p i d least lt =
     let found : comes_before k (get_or xs middle d) ≡ true = ap (comes_before k) (get_or_default xs middle d x within) ∙ p in
     elim (cases_lt i middle) [
@@ -41,7 +41,7 @@ before-from xs k middle x h within p i d least lt =
     ]
 
 -- and what stands from one on that does not come before it does not either
-pub others-from : (xs : List SpelledEntry) (k : List ℕ) (middle : ℕ) (x : SpelledEntry) → AreEntries (entries_of xs) → middle < length xs → comes_before k (get_or xs middle x) ≡ false → AllWithin (λ (e : SpelledEntry). comes_before k e ≡ false) xs middle (length xs)
+pub others-from : (xs : List SpelledEntry) (k : List ℕ) (middle : ℕ) (x : SpelledEntry) → AreEntries (entries_in_body xs) → middle < length xs → comes_before k (get_or xs middle x) ≡ false → AllWithin (λ (e : SpelledEntry). comes_before k e ≡ false) xs middle (length xs)
 others-from xs k middle x h within p i d least lt =
     let found : comes_before k (get_or xs middle d) ≡ false = ap (comes_before k) (get_or_default xs middle d x within) ∙ p in
     elim (cases_lt middle i) [
@@ -50,7 +50,7 @@ others-from xs k middle x h within p i d least lt =
     ]
 
 -- the search for an entry's key ends at that entry
-pub place_of : (xs : List SpelledEntry) (k : List ℕ) (place n : ℕ) (d : SpelledEntry) → AreEntries (entries_of xs) → AllWithin (λ (e : SpelledEntry). comes_before k e ≡ true) xs 0 place → AllWithin (λ (e : SpelledEntry). comes_before k e ≡ false) xs place (length xs) → n < length xs → key_of (get_or xs n d) ≡ k → place ≡ n
+pub place_of : (xs : List SpelledEntry) (k : List ℕ) (place n : ℕ) (d : SpelledEntry) → AreEntries (entries_in_body xs) → AllWithin (λ (e : SpelledEntry). comes_before k e ≡ true) xs 0 place → AllWithin (λ (e : SpelledEntry). comes_before k e ≡ false) xs place (length xs) → n < length xs → key_of (get_or xs n d) ≡ k → place ≡ n
 place_of xs k place n d h before others within is =
     elim (cases_lt place n) [
       | inl below ↦
@@ -64,7 +64,7 @@ place_of xs k place n d h before others within is =
     ]
 
 -- where the search finds another name, none has this one in this order
-pub none_so_named : (xs : List SpelledEntry) (name suffix : List ℕ) (place : ℕ) → AreEntries (entries_of xs) → AllWithin (λ (e : SpelledEntry). comes_before (name ++ suffix) e ≡ true) xs 0 place → AllWithin (λ (e : SpelledEntry). comes_before (name ++ suffix) e ≡ false) xs place (length xs) → ((d : SpelledEntry) → place < length xs → (get_or xs place d).name.now ≢ name) → (k : ℕ) (d : SpelledEntry) → k < length xs → suffix_of (get_or xs k d).mode ≡ suffix → (get_or xs k d).name.now ≢ name
+pub none_so_named : (xs : List SpelledEntry) (name suffix : List ℕ) (place : ℕ) → AreEntries (entries_in_body xs) → AllWithin (λ (e : SpelledEntry). comes_before (name ++ suffix) e ≡ true) xs 0 place → AllWithin (λ (e : SpelledEntry). comes_before (name ++ suffix) e ≡ false) xs place (length xs) → ((d : SpelledEntry) → place < length xs → (get_or xs place d).name.now ≢ name) → (k : ℕ) (d : SpelledEntry) → k < length xs → suffix_of (get_or xs k d).mode ≡ suffix → (get_or xs k d).name.now ≢ name
 none_so_named xs name suffix place h before others other k d within s e =
     let is : key_of (get_or xs k d) ≡ name ++ suffix = ap (λ (n : List ℕ). n ++ suffix_of (get_or xs k d).mode) e ∙ ap (λ (t : List ℕ). name ++ t) s in
     let same = place_of xs (name ++ suffix) place k d h before others within is in

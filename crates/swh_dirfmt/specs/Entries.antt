@@ -2,25 +2,25 @@
 use Rattle.std.specs.Prelude.{ℕ, Bool, List, map}
 use Rattle.std.specs.Ordering.{nat_cmp, is_lt}
 use Rattle.std.specs.Cmp.Lexicographic.{slice_cmp}
-use Rattle.swh_base.specs.Directory.{Entry, sort_key}
+use Rattle.swh_base.specs.Directory.{DirectoryEntry, sort_key}
 use Rattle.swh_dirfmt.specs.declared.entry.DirEntry.{DirEntry}
 use Rattle.swh_dirfmt.specs.declared.entry.SpelledEntry.{SpelledEntry}
 
 -- an entry of its own, as the grammar's
-abbrev pub view : DirEntry → Entry
-view e = record { mode = e.mode; name = e.name; id = e.id }
+abbrev pub entry_view : DirEntry → DirectoryEntry
+entry_view e = record { mode = e.mode; name = e.name; id = e.id }
 
 -- entries of their own, as the grammar's
-abbrev pub views : List DirEntry → List Entry
-views es = map view es
+abbrev pub entry_views : List DirEntry → List DirectoryEntry
+entry_views es = map entry_view es
 
 -- an entry that stands in a body, as the grammar's
-abbrev pub entry_of : SpelledEntry → Entry
+abbrev pub entry_of : SpelledEntry → DirectoryEntry
 entry_of e = record { mode = e.mode; name = e.name.now; id = e.id.now }
 
 -- entries that stand in a body, as the grammar's
-abbrev pub entries_of : List SpelledEntry → List Entry
-entries_of es = map entry_of es
+abbrev pub entries_in_body : List SpelledEntry → List DirectoryEntry
+entries_in_body es = map entry_of es
 
 -- what an entry that stands in a body is compared by
 abbrev pub key_of : SpelledEntry → List ℕ

@@ -2,7 +2,7 @@
 
 ghost use Rattle.std.specs.Prelude.{◌≡◌, ℕ, List};
 ghost use Rattle.swh_dirfmt.specs.declared.fault.DirWhy.{DirWhy};
-ghost use Rattle.swh_dirfmt.specs.Fault.{IsFault};
+ghost use Rattle.swh_dirfmt.specs.Fault.{IsDirFault};
 ghost use Rattle.swh_dirfmt.specs.declared.fault.ReadDirFault.TheVariants.{Memory as OutOfMemory};
 
 use std::alloc::AllocFailed;
@@ -57,5 +57,5 @@ impl<T: Drop> From<AllocFailed<T>> for ReadDirFault {
 
 /// A body has one first fault at most, so the place and what is wrong there are determined.
 pub fn one_fault()
-    ensures { (body : List ℕ) (i j : ℕ) (a b : DirWhy) → IsFault body i a → IsFault body j b → (i ≡ j) × (a ≡ b) }
+    ensures { (body : List ℕ) (i j : ℕ) (a b : DirWhy) → IsDirFault body i a → IsDirFault body j b → (i ≡ j) × (a ≡ b) }
 {}

@@ -1,8 +1,8 @@
 //! The entry that bytes begin with, cut off part by part.
 
 ghost use Rattle.std.specs.Prelude.{◌≡◌, ◌≢◌, ◌↔◌, List, [], ◌++◌, ℕ, Contains, IsTrue, IfOk, IfErr, IfSome, IfNone, decimal};
-ghost use Rattle.swh_base.specs.Directory.{Entry, IsMode, IsEntryName, IsEntry, entry_text};
-ghost use Rattle.swh_dirfmt.specs.Fault.{Breaks};
+ghost use Rattle.swh_base.specs.Directory.{DirectoryEntry, IsMode, IsEntryName, IsEntry, entry_text};
+ghost use Rattle.swh_dirfmt.specs.Fault.{EntryBreaks};
 ghost use Rattle.swh_dirfmt.specs.Entries.{entry_of};
 
 use crate::entry::SpelledEntry;
@@ -42,7 +42,7 @@ pub fn front_entry(bytes: &[u8]) -> Result<(SpelledEntry<'_>, &[u8]), DirWhy>
     requires { bytes.now ≢ [] }
     ensures ok { IfOk result (λ x. IsEntry (entry_of x.0) × (bytes.now ≡ entry_text (entry_of x.0) ++ x.1.now)) }
     // Whatever entries stand before it, it breaks by its mode, its name or its id.
-    ensures err { IfErr result (λ why. (before : List Entry) → Breaks before bytes.now why) }
+    ensures err { IfErr result (λ why. (before : List DirectoryEntry) → EntryBreaks before bytes.now why) }
 {
     let Some((digits, rest)) = split_at_byte(bytes, b' ') else {
         return Err(DirWhy::Mode);

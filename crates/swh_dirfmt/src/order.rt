@@ -5,7 +5,7 @@ ghost use Rattle.std.specs.List.{AllWithin};
 ghost use Rattle.std.specs.Ordering.{nat_cmp, is_lt};
 ghost use Rattle.std.specs.Cmp.Lexicographic.{slice_cmp};
 ghost use Rattle.swh_base.specs.Directory.{IsAfter, AreEntries, suffix_of};
-ghost use Rattle.swh_dirfmt.specs.Entries.{entry_of, entries_of, comes_before};
+ghost use Rattle.swh_dirfmt.specs.Entries.{entry_of, entries_in_body, comes_before};
 
 use crate::entry::SpelledEntry;
 
@@ -26,7 +26,7 @@ fn is_before(mode: u32, name: &[u8], next_mode: u32, next_name: &[u8]) -> bool
 
 /// How many of the entries, which ascend, come before this name.
 fn count_before(entries: &[SpelledEntry<'_>], mode: u32, name: &[u8]) -> usize
-    requires { AreEntries (entries_of entries.now) }
+    requires { AreEntries (entries_in_body entries.now) }
     ensures before { AllWithin (λ e. comes_before (name.now ++ suffix_of mode) e ≡ true) entries.now 0 result }
     ensures others { AllWithin (λ e. comes_before (name.now ++ suffix_of mode) e ≡ false) entries.now result (length entries.now) }
 {
@@ -46,7 +46,7 @@ fn count_before(entries: &[SpelledEntry<'_>], mode: u32, name: &[u8]) -> usize
 
 /// Whether one of the entries, which ascend, has this name and is ordered as this mode is.
 fn has_name(entries: &[SpelledEntry<'_>], mode: u32, name: &[u8]) -> bool
-    requires { AreEntries (entries_of entries.now) }
+    requires { AreEntries (entries_in_body entries.now) }
     ensures found { IsTrue result → All (λ e. e.name.now ≢ name.now) entries.now → ⊥ }
     ensures none { (IsTrue result → ⊥) → All (λ e. suffix_of e.mode ≡ suffix_of mode → e.name.now ≢ name.now) entries.now }
 {
@@ -58,7 +58,7 @@ fn has_name(entries: &[SpelledEntry<'_>], mode: u32, name: &[u8]) -> bool
 
 /// Whether no entry has this name, neither as a file nor as a folder. Two searches find it, since the entries ascend.
 pub fn is_fresh(before: &[SpelledEntry<'_>], name: &[u8]) -> bool
-    requires { AreEntries (entries_of before.now) }
+    requires { AreEntries (entries_in_body before.now) }
     ensures { IsTrue result ↔ All (λ other. other.name.now ≢ name.now) before.now }
 {
     let file = has_name(before, 100_644, name);
@@ -68,8 +68,8 @@ pub fn is_fresh(before: &[SpelledEntry<'_>], name: &[u8]) -> bool
 
 /// Whether this entry comes after all of the entries.
 pub fn is_after(before: &[SpelledEntry<'_>], next: &SpelledEntry<'_>) -> bool
-    requires { AreEntries (entries_of before.now) }
-    ensures { IsTrue result ↔ IsAfter (entries_of before.now) (entry_of next.now) }
+    requires { AreEntries (entries_in_body before.now) }
+    ensures { IsTrue result ↔ IsAfter (entries_in_body before.now) (entry_of next.now) }
 {
     match before.last() {
         Some(last) => is_before(last.mode, last.name, next.mode, next.name),

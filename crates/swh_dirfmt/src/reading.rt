@@ -1,10 +1,10 @@
 //! Bodies read into entries.
 
 ghost use Rattle.std.specs.Prelude.{◌≡◌, ◌≢◌, List, [], ◌++◌, IfOk, IfErr};
-ghost use Rattle.swh_base.specs.Directory.{Entry, AreEntries, MayFollow, entry_text, IsDirectory};
-ghost use Rattle.swh_dirfmt.specs.Entries.{views, entry_of, entries_of};
-ghost use Rattle.swh_dirfmt.specs.Fault.{Breaks};
-ghost use Rattle.swh_dirfmt.specs.Reading.{Explains, Gives};
+ghost use Rattle.swh_base.specs.Directory.{DirectoryEntry, AreEntries, MayFollowEntries, entry_text, IsDirectory};
+ghost use Rattle.swh_dirfmt.specs.Entries.{entry_views, entry_of, entries_in_body};
+ghost use Rattle.swh_dirfmt.specs.Fault.{EntryBreaks};
+ghost use Rattle.swh_dirfmt.specs.Reading.{ExplainsDir, GivesEntries};
 
 use crate::entries::Entries;
 use crate::entry::{DirEntry, SpelledEntry};
@@ -20,9 +20,9 @@ fn next_entry<'a>(
     bytes: &'a [u8],
 ) -> Result<(SpelledEntry<'a>, &'a [u8]), DirWhy>
     requires some { bytes.now ≢ [] }
-    requires good { AreEntries (entries_of before.now) }
-    ensures ok { IfOk result (λ x. MayFollow (entries_of before.now) (entry_of x.0) × (bytes.now ≡ entry_text (entry_of x.0) ++ x.1.now)) }
-    ensures err { IfErr result (λ why. Breaks (entries_of before.now) bytes.now why) }
+    requires good { AreEntries (entries_in_body before.now) }
+    ensures ok { IfOk result (λ x. MayFollowEntries (entries_in_body before.now) (entry_of x.0) × (bytes.now ≡ entry_text (entry_of x.0) ++ x.1.now)) }
+    ensures err { IfErr result (λ why. EntryBreaks (entries_in_body before.now) bytes.now why) }
 {
     let (next, rest) = front_entry(bytes)?;
     if !is_fresh(before, next.name) {
@@ -37,8 +37,8 @@ fn next_entry<'a>(
 /// The entries as they stand in a directory's body, in time n log n of their number. No byte of it is copied. Fails
 /// with the first entry that breaks, or where memory runs out.
 pub fn spelled_dir(alloc: Global, body: &[u8]) -> Result<Vec<SpelledEntry<'_>>, ReadDirFault>
-    ensures ok { IfOk result (λ list. IsDirectory body.now (entries_of list.items)) }
-    ensures err { IfErr result (Explains body.now) }
+    ensures ok { IfOk result (λ list. IsDirectory body.now (entries_in_body list.items)) }
+    ensures err { IfErr result (ExplainsDir body.now) }
 {
     let mut list = Vec::new(alloc);
     let mut rest = body;
@@ -55,7 +55,7 @@ pub fn spelled_dir(alloc: Global, body: &[u8]) -> Result<Vec<SpelledEntry<'_>>, 
 }
 
 fn owned(alloc: Global, spelled: &[SpelledEntry<'_>]) -> Result<Vec<DirEntry>, Memory>
-    ensures { IfOk result (λ list. views list.items ≡ entries_of spelled.now) }
+    ensures { IfOk result (λ list. entry_views list.items ≡ entries_in_body spelled.now) }
 {
     let mut list = Vec::new(alloc);
     for entry in spelled {
@@ -70,7 +70,7 @@ fn owned(alloc: Global, spelled: &[SpelledEntry<'_>]) -> Result<Vec<DirEntry>, M
 
 fn read(alloc: Global, body: &[u8]) -> Result<Entries, ReadDirFault>
     ensures ok { IfOk result (λ entries. IsDirectory body.now entries) }
-    ensures err { IfErr result (Explains body.now) }
+    ensures err { IfErr result (ExplainsDir body.now) }
 {
     let spelled = spelled_dir(alloc, body)?;
     let list = owned(alloc, &spelled)?;
@@ -83,9 +83,9 @@ pub fn read_dir(alloc: Global, body: &[u8]) -> Result<Entries, ReadDirFault>
     // What is read is the body's entries.
     ensures ok { IfOk result (λ entries. IsDirectory body.now entries) }
     // What is a directory is read, unless memory runs out.
-    ensures only { (entries : List Entry) → IsDirectory body.now entries → Gives result entries }
+    ensures only { (entries : List DirectoryEntry) → IsDirectory body.now entries → GivesEntries result entries }
     // What is refused has this fault first.
-    ensures err { IfErr result (Explains body.now) }
+    ensures err { IfErr result (ExplainsDir body.now) }
 {
     read(alloc, body)
 }

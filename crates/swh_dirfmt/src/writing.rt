@@ -1,8 +1,8 @@
 //! Entries written as a body.
 
 ghost use Rattle.std.specs.Prelude.{◌≡◌, ◌++◌, ℕ, List, IfOk, OnOk};
-ghost use Rattle.swh_base.specs.Directory.{Entry, entry_text, directory_text, IsDirectory};
-ghost use Rattle.swh_dirfmt.specs.Entries.{view};
+ghost use Rattle.swh_base.specs.Directory.{DirectoryEntry, entry_text, directory_text, IsDirectory};
+ghost use Rattle.swh_dirfmt.specs.Entries.{entry_view};
 
 use crate::entries::Entries;
 use crate::entry::DirEntry;
@@ -11,7 +11,7 @@ use std::alloc::Global;
 use swh_base::Memory;
 
 fn put_entry(out: &mut Vec<u8>, entry: &DirEntry) -> Result<(), Memory>
-    ensures { OnOk result (out.new.items ≡ out.old.items ++ entry_text (view entry.now)) }
+    ensures { OnOk result (out.new.items ≡ out.old.items ++ entry_text (entry_view entry.now)) }
 {
     let mut mode = Buffer::new();
     out.extend_from_slice(mode.format(entry.mode).as_bytes())?;
@@ -37,5 +37,5 @@ pub fn write_dir(alloc: Global, entries: &Entries) -> Result<Vec<u8>, Memory>
 
 /// A list of entries is the list of one body at most.
 pub fn one_spelling()
-    ensures { (a b : List ℕ) (entries : List Entry) → IsDirectory a entries → IsDirectory b entries → a ≡ b }
+    ensures { (a b : List ℕ) (entries : List DirectoryEntry) → IsDirectory a entries → IsDirectory b entries → a ≡ b }
 {}

@@ -2,7 +2,7 @@
 use Rattle.std.specs.Prelude.{◌≡◌, ◌<◌, ◌≤◌, ℕ, List, [], ◌++◌, length}
 
 -- all that was left was taken
-pub record IsWhole (left now bytes : List ℕ) : Type 0 where
+pub record IsAllThatWasLeft (left now bytes : List ℕ) : Type 0 where
   pub bytes_are : bytes ≡ left
   pub at_end : now ≡ []
 

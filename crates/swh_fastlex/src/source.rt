@@ -1,7 +1,7 @@
 // Sources read a window at a time.
 ghost use Rattle.std.specs.Prelude.{◌≡◌, ◌≢◌, ◌+◌, ◌≤◌, ◌<◌, IfOk, IfErr, IsErrOf, length, vec_len};
 ghost use Rattle.swh_outside.specs.Faults.{Rose};
-ghost use Rattle.swh_fastlex.specs.Whole.{IsWhole, IsFront, IsCutAbove, GivesAtMost, TakesMore};
+ghost use Rattle.swh_fastlex.specs.Whole.{IsAllThatWasLeft, IsFront, IsCutAbove, GivesAtMost, TakesMore};
 ghost use Rattle.swh_fastlex.specs.declared.fault.SourceFault.TheVariants.{Failed, Limit};
 
 use crate::fault::SourceFault;
@@ -83,7 +83,7 @@ pub fn read_source<S: Source>(
     source: &mut S,
     limit: usize,
 ) -> Result<Vec<u8>, SourceFault>
-    ensures whole { S.tells → IfOk result (λ bytes. IsWhole (S.left source.old) (S.left source.new) bytes.items) }
+    ensures whole { S.tells → IfOk result (λ bytes. IsAllThatWasLeft (S.left source.old) (S.left source.new) bytes.items) }
     ensures within { IfOk result (λ bytes. length bytes.items ≤ limit) }
     ensures over { S.tells → IsErrOf result Limit → limit < length (S.left source.old) }
     ensures cut { S.tells → IsErrOf result Limit → IsCutAbove (S.left source.old) (S.left source.new) limit (limit + WINDOW) }

@@ -6,9 +6,9 @@ use Rattle.swh_base.specs.declared.kind.Kind.{Kind}
 use Rattle.swh_base.specs.declared.kind.Kind.TheVariants.{Directory, Revision}
 use Rattle.swh_base.specs.Limits.{body_limit}
 use Rattle.swh_base.specs.Name.{IsId}
-use Rattle.swh_base.specs.Directory.{directory_text, kids_of}
+use Rattle.swh_base.specs.Directory.{directory_text, children_of}
 use Rattle.swh_base.specs.Revision.{Revision as RevisionParts, BeginsParent}
-use Rattle.swh_base.specs.Manifest.{AreKids, IsWellFormed}
+use Rattle.swh_base.specs.Manifest.{AreChildren, IsWellFormed}
 use Rattle.swh_model.specs.PathMap.{PathMap, directory_of}
 use Rattle.swh_model.specs.SmallStream.{Commit, line}
 use Rattle.swh_model.specs.Meaning.{Made, directory, revision, branch_to, tip, commit_makes, tree_after, AreWithinLimit}
@@ -22,13 +22,13 @@ Files = List (Bor (List ℕ) × List ℕ)
 
 -- the directory is one
 pub directory_good : (files : List (Bor (List ℕ) × List ℕ)) (body : List ℕ) → IsFolder (tree_of files) → body ≡ flat_map file_text (tree_of files) → IsWellFormed Directory body
-directory_good files body h e = let d = directory_from files body h.each h.ascends e in (kids_of d.0, record { entries = d.0; directory = d.1; kids = refl })
+directory_good files body h e = let d = directory_from files body h.each h.ascends e in (children_of d.0, record { entries = d.0; directory = d.1; kids = refl })
 
 first_byte : List ℕ → ℕ
 first_byte [] = 0
 first_byte (c ∷ cs) = c
 
--- what stands behind the directory's line of a revision without parents
+-- what stands after the directory's line of a revision without parents
 rest_of : Commit → List ℕ
 rest_of c = line (codes "author ") c.committer (line (codes "committer ") c.committer (10 ∷ c.message))
 
@@ -36,15 +36,15 @@ no_parents : (c : Commit) → BeginsParent (rest_of c) → ⊥
 unfolding first_byte rest_of
 no_parents c h = let both : ◌≡◌ {A = ℕ} 97 112 = ap first_byte h.text in absurd (omega arith)
 
--- the revision is one, and its kid is the directory
-pub revision_kid : (root : List ℕ) (c : Commit) (body : List ℕ) → IsId root → body ≡ (revision root c).body → AreKids Revision body (record { kind = Directory; id = root } ∷ [])
+-- the revision is one, and its child is the directory
+pub revision_child : (root : List ℕ) (c : Commit) (body : List ℕ) → IsId root → body ≡ (revision root c).body → AreChildren Revision body (record { kind = Directory; id = root } ∷ [])
 unfolding rest_of
-revision_kid root c body i e =
+revision_child root c body i e =
     let parts : RevisionParts = record { directory = root; parents = []; rest = rest_of c } in
     record { revision = parts; is = record { text = e; directory = i; parents = tt; no_more = no_parents c }; kids = refl }
 
 pub revision_good : (root : List ℕ) (c : Commit) (body : List ℕ) → IsId root → body ≡ (revision root c).body → IsWellFormed Revision body
-revision_good root c body i e = (record { kind = Directory; id = root } ∷ [], revision_kid root c body i e)
+revision_good root c body i e = (record { kind = Directory; id = root } ∷ [], revision_child root c body i e)
 
 -- the directory and the revision
 pub makes-flat : (id : Kind → List ℕ → List ℕ) (c : Commit) (files : List (Bor (List ℕ) × List ℕ)) → IsFolder (tree_of files) → commit_makes id c (tree_of files) ≡ directory (flat_map file_text (tree_of files)) ∷ revision (id Directory (flat_map file_text (tree_of files))) c ∷ []

@@ -16,7 +16,7 @@ same_tail a x y e = (sized_split a a x y refl e).1
 pub one_line : (word a b x y : List ℕ) → (Contains a 10 → ⊥) → (Contains b 10 → ⊥) → line word a x ≡ line word b y → (a ≡ b) × (x ≡ y)
 one_line word a b x y na nb e = first_split 10 a b x y na nb (same_tail word (a ++ 10 ∷ x) (b ++ 10 ∷ y) e)
 
--- bytes that begin with a word, behind which no LF stands, begin with no line of that word
+-- bytes that begin with a word, after which no LF stands, begin with no line of that word
 pub no_line : (bytes word after text rest : List ℕ) → bytes ≡ word ++ after → (Contains after 10 → ⊥) → bytes ≡ line word text rest → ⊥
 no_line bytes word after text rest e none l = none (subst (λ (t : List ℕ). Contains t 10) (sym (same_tail word after (text ++ 10 ∷ rest) (sym e ∙ l))) (in_middle text rest 10))
 

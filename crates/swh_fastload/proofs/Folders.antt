@@ -16,8 +16,8 @@ use Rattle.swh_base.specs.Directory.{IsDirectory}
 use Rattle.swh_model.specs.SmallStream.{IsFileName}
 use Rattle.swh_base.specs.declared.kind.Kind.TheVariants.{Content}
 use Rattle.swh_base.specs.declared.name.Name.{Name}
-use Rattle.swh_base.specs.Directory.{Entry, kids_of, sort_key, entry_text, directory_text, IsEntryName, IsBefore, AreEntries}
-use Rattle.swh_model.specs.PathMap.{Leaf, PathMap, leaf_at, first_component, below, entry_at, insert_by, insert, ordered, entries_of, bodies_of, directory_of, directory_bodies}
+use Rattle.swh_base.specs.Directory.{DirectoryEntry, children_of, sort_key, entry_text, directory_text, IsEntryName, IsBefore, AreEntries}
+use Rattle.swh_model.specs.PathMap.{Leaf, PathMap, leaf_at, first_component, below, entry_at, insert_by, insert, ordered, path_entries, folder_bodies, directory_of, directory_bodies}
 use Rattle.swh_fastload.specs.Tree.{tree_of, file_text, IsFile, Ascends}
 use Rattle.swh_fastload.proofs.Trees.{AreFlat}
 
@@ -74,24 +74,24 @@ finds_all [] a = tt
 finds_all (x ∷ m) a = (ap (λ (b : Bool). cond b (Some x.1) (leaf_at x.0 m)) (ap is_eq (same_self x.0)), finds_more x m m a.0 (finds_all m a.1))
 
 -- the entry of a path that does not go on
-leaf_entry : List ℕ × Leaf → Entry
+leaf_entry : List ℕ × Leaf → DirectoryEntry
 leaf_entry e = record { mode = e.1.mode; name = e.0; id = e.1.id }
 
-entries_each : (id : List ℕ → List ℕ) (depth : ℕ) (m es : PathMap) → AreFlat es → FindsAll m es → map (λ e. entry_at id (first_component e.0) (leaf_at (first_component e.0) m) (entries_of id depth (below (first_component e.0) m))) es ≡ map leaf_entry es
+entries_each : (id : List ℕ → List ℕ) (depth : ℕ) (m es : PathMap) → AreFlat es → FindsAll m es → map (λ e. entry_at id (first_component e.0) (leaf_at (first_component e.0) m) (path_entries id depth (below (first_component e.0) m))) es ≡ map leaf_entry es
 unfolding FindsAll leaf_entry
 entries_each id depth m [] flat h = refl
 entries_each id depth m (e ∷ es) flat h =
-    let first : entry_at id (first_component e.0) (leaf_at (first_component e.0) m) (entries_of id depth (below (first_component e.0) m)) ≡ leaf_entry e =
-    ap (λ (p : List ℕ). entry_at id p (leaf_at p m) (entries_of id depth (below p m))) (first-flat e.0 flat.0) ∙ ap (λ (o : Option Leaf). entry_at id e.0 o (entries_of id depth (below e.0 m))) h.0 in
-    ap (λ (x : Entry). x ∷ map (λ e. entry_at id (first_component e.0) (leaf_at (first_component e.0) m) (entries_of id depth (below (first_component e.0) m))) es) first ∙ ap (λ (t : List Entry). leaf_entry e ∷ t) (entries_each id depth m es flat.1 h.1)
+    let first : entry_at id (first_component e.0) (leaf_at (first_component e.0) m) (path_entries id depth (below (first_component e.0) m)) ≡ leaf_entry e =
+    ap (λ (p : List ℕ). entry_at id p (leaf_at p m) (path_entries id depth (below p m))) (first-flat e.0 flat.0) ∙ ap (λ (o : Option Leaf). entry_at id e.0 o (path_entries id depth (below e.0 m))) h.0 in
+    ap (λ (x : DirectoryEntry). x ∷ map (λ e. entry_at id (first_component e.0) (leaf_at (first_component e.0) m) (path_entries id depth (below (first_component e.0) m))) es) first ∙ ap (λ (t : List DirectoryEntry). leaf_entry e ∷ t) (entries_each id depth m es flat.1 h.1)
 
-pub file_entry : Bor (List ℕ) × List ℕ → Entry
+pub file_entry : Bor (List ℕ) × List ℕ → DirectoryEntry
 file_entry f = record { mode = 100644; name = f.0.now; id = f.1 }
 
 file_entries : (files : List (Bor (List ℕ) × List ℕ)) → map leaf_entry (tree_of files) ≡ map file_entry files
 unfolding leaf_entry file_entry
 file_entries [] = refl
-file_entries (f ∷ files) = ap (λ (t : List Entry). file_entry f ∷ t) (file_entries files)
+file_entries (f ∷ files) = ap (λ (t : List DirectoryEntry). file_entry f ∷ t) (file_entries files)
 
 -- what is compared is the name
 plain_key : (f : Bor (List ℕ) × List ℕ) → sort_key (file_entry f) ≡ f.0.now
@@ -110,7 +110,7 @@ ordered-files (f ∷ (g ∷ files)) a =
     ∙ ap (λ (o : Ordering). insert_by o (file_entry f) (file_entry g) (map file_entry files) (insert (file_entry f) (map file_entry files))) (before_plain f g a.0.0)
 
 -- the directory of such a tree
-pub directory-files : (id : List ℕ → List ℕ) (depth : ℕ) (files : List (Bor (List ℕ) × List ℕ)) → AreFlat (tree_of files) → Ascends (tree_of files) → entries_of id (suc depth) (tree_of files) ≡ map file_entry files
+pub directory-files : (id : List ℕ → List ℕ) (depth : ℕ) (files : List (Bor (List ℕ) × List ℕ)) → AreFlat (tree_of files) → Ascends (tree_of files) → path_entries id (suc depth) (tree_of files) ≡ map file_entry files
 directory-files id depth files flat a =
     ap ordered (entries_each id depth (tree_of files) (tree_of files) flat (finds_all (tree_of files) a) ∙ file_entries files) ∙ ordered-files files a
 
@@ -124,7 +124,7 @@ files_text [] = refl
 files_text (f ∷ files) = ap (λ (t : List ℕ). entry_text (file_entry f) ++ t) (files_text files) ∙ ap (λ (t : List ℕ). t ++ flat_map file_text (tree_of files)) (file_spelled f)
 
 -- there are no folders in it
-no_folders : (id : List ℕ → List ℕ) (depth : ℕ) (m : PathMap) (files : List (Bor (List ℕ) × List ℕ)) → flat_map (λ e. if e.mode == 40000 then bodies_of id depth (below e.name m) else []) (map file_entry files) ≡ []
+no_folders : (id : List ℕ → List ℕ) (depth : ℕ) (m : PathMap) (files : List (Bor (List ℕ) × List ℕ)) → flat_map (λ e. if e.mode == 40000 then folder_bodies id depth (below e.name m) else []) (map file_entry files) ≡ []
 unfolding file_entry
 no_folders id depth m [] = refl
 no_folders id depth m (f ∷ files) = no_folders id depth m files
@@ -134,7 +134,7 @@ bodies-files id files flat a =
     let m = tree_of files in
     let depth = sum_by (λ e. length e.0) m in
     let same = directory-files id depth files flat a in
-    ap (λ (t : List Entry). flat_map (λ e. if e.mode == 40000 then bodies_of id depth (below e.name m) else []) t ++ directory_text t ∷ []) same
+    ap (λ (t : List DirectoryEntry). flat_map (λ e. if e.mode == 40000 then folder_bodies id depth (below e.name m) else []) t ++ directory_text t ∷ []) same
     ∙ ap (λ (t : List (List ℕ)). t ++ directory_text (map file_entry files) ∷ []) (no_folders id depth m files)
     ∙ ap (λ (t : List ℕ). t ∷ []) (files_text files)
 
@@ -163,11 +163,11 @@ pub flat_of_files : (m : PathMap) → AllByRecursion IsFile m → AreFlat m
 flat_of_files [] h = tt
 flat_of_files (e ∷ m) h = (h.0.name.no_slash, flat_of_files m h.1)
 
-pub directory_from : (files : List (Bor (List ℕ) × List ℕ)) (body : List ℕ) → AllByRecursion IsFile (tree_of files) → Ascends (tree_of files) → body ≡ flat_map file_text (tree_of files) → (entries : List Entry) × IsDirectory body entries
+pub directory_from : (files : List (Bor (List ℕ) × List ℕ)) (body : List ℕ) → AllByRecursion IsFile (tree_of files) → Ascends (tree_of files) → body ≡ flat_map file_text (tree_of files) → (entries : List DirectoryEntry) × IsDirectory body entries
 directory_from files body h a e = (map file_entry files, record { text = e ∙ sym (files_text files); good = are_files files h a })
 
--- the kids of the directory: the files' contents
-pub kids-files : (files : List (Bor (List ℕ) × List ℕ)) → kids_of (map file_entry files) ≡ map (λ f. record { kind = Content; id = f.1 }) files
+-- the children of the directory: the files' contents
+pub kids-files : (files : List (Bor (List ℕ) × List ℕ)) → children_of (map file_entry files) ≡ map (λ f. record { kind = Content; id = f.1 }) files
 unfolding file_entry
 kids-files [] = refl
 kids-files (f ∷ files) = ap (λ (t : List Name). record { kind = Content; id = f.1 } ∷ t) (kids-files files)

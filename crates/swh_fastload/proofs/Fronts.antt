@@ -5,7 +5,7 @@ use Rattle.swh_base.proofs.Splits.{first_split}
 use Rattle.swh_base.specs.Limits.{body_limit, line_limit}
 use Rattle.swh_base.specs.Text.{is_digit, IsRef, IsPerson, IsNumber, value_from}
 use Rattle.swh_model.specs.SmallStream.{Blob, Change, Commit, line, IsMark, IsCount, IsFileName, BeginsBlob, BeginsChange, BeginsCommit}
-use Rattle.swh_fastload.specs.View.{BeginsHead}
+use Rattle.swh_fastload.specs.View.{BeginsCommitHead}
 use Rattle.swh_pieces.proofs.Middle.{in_middle}
 use Rattle.swh_fastload.proofs.Cuts.{one_line}
 use Rattle.swh_base.proofs.Lacks.{lacks, nothing_in, not_in_middle, ref-no_feed, person-no_feed}
@@ -38,7 +38,7 @@ no_mark bytes word d r nd e none digits rest n h l = none n (subst (λ (t : List
 pub no_zero : (digits : List ℕ) (m : ℕ) → IsNumber digits m → m ≡ 0 → (n : ℕ) → IsMark digits n → ⊥
 no_zero digits m h z n k = let a = h.value in let b = k.number.value in let p = k.positive in absurd (omega (arith, a, b, p, z))
 
--- the data behind a size
+-- the data after a size
 pub data_size : (bytes d r : List ℕ) (size : ℕ) → IsNumber d size → bytes ≡ line (codes "data ") d r → (count content rest : List ℕ) → IsCount count content → bytes ≡ line (codes "data ") count (content ++ rest) → (size ≡ length content) × (r ≡ content ++ rest)
 data_size bytes d r size h e count content rest k l =
     let both = one_line (codes "data ") d count r (content ++ rest) (number-no_feed d size h) (count-no_feed count content k) (sym e ∙ l) in
@@ -91,7 +91,7 @@ no_blob bytes none blob rest h = none [] (line (codes "mark :") h.mark (line (co
 pub blob_marked : (bytes text r : List ℕ) → (Contains text 10 → ⊥) → bytes ≡ line (codes "blob") text r → ((digits rest : List ℕ) (n : ℕ) → IsMark digits n → r ≡ line (codes "mark :") digits rest → ⊥) → (blob : Blob) (rest : List ℕ) → BeginsBlob bytes blob rest → ⊥
 blob_marked bytes text r none e never blob rest h = never h.mark (line (codes "data ") h.count (blob.bytes ++ rest)) blob.mark h.is_mark (blob_line bytes text r none e blob rest h).1
 
--- what stands behind a mark
+-- what stands after a mark
 pub after_mark : (r d q : List ℕ) (m : ℕ) → IsMark d m → r ≡ line (codes "mark :") d q → (digits rest : List ℕ) (n : ℕ) → IsMark digits n → r ≡ line (codes "mark :") digits rest → (m ≡ n) × (q ≡ rest)
 after_mark r d q m h e digits rest n k l =
     let both = one_line (codes "mark :") d digits q rest (mark-no_feed d m h) (mark-no_feed digits n k) (sym e ∙ l) in
@@ -114,31 +114,31 @@ pub head_line : (bytes branch r : List ℕ) → (Contains branch 10 → ⊥) →
 unfolding from_data from_committer
 head_line bytes branch r none e commit rest h = one_line (codes "commit ") branch commit.branch r _ none (ref-no_feed commit.branch h.is_ref) (sym e ∙ h.spelled)
 
-pub head_ref : (bytes branch r : List ℕ) → (Contains branch 10 → ⊥) → bytes ≡ line (codes "commit ") branch r → (IsRef branch → ⊥) → BeginsHead bytes → ⊥
+pub head_ref : (bytes branch r : List ℕ) → (Contains branch 10 → ⊥) → bytes ≡ line (codes "commit ") branch r → (IsRef branch → ⊥) → BeginsCommitHead bytes → ⊥
 head_ref bytes branch r none e never h = never (subst IsRef (sym (head_line bytes branch r none e h.0 h.1 h.2).0) h.2.is_ref)
 
-pub head_marked : (bytes branch r : List ℕ) → (Contains branch 10 → ⊥) → bytes ≡ line (codes "commit ") branch r → ((digits rest : List ℕ) (n : ℕ) → IsMark digits n → r ≡ line (codes "mark :") digits rest → ⊥) → BeginsHead bytes → ⊥
+pub head_marked : (bytes branch r : List ℕ) → (Contains branch 10 → ⊥) → bytes ≡ line (codes "commit ") branch r → ((digits rest : List ℕ) (n : ℕ) → IsMark digits n → r ≡ line (codes "mark :") digits rest → ⊥) → BeginsCommitHead bytes → ⊥
 head_marked bytes branch r none e never h = let commit = h.0 in never h.2.mark (from_committer bytes h.0 h.1 h.2) commit.mark h.2.is_mark (head_line bytes branch r none e h.0 h.1 h.2).1
 
--- what stands behind the mark of a head
+-- what stands after the mark of a head
 pub behind_mark : (bytes branch r q : List ℕ) (m : ℕ) → (Contains branch 10 → ⊥) → bytes ≡ line (codes "commit ") branch r → (digits : List ℕ) × IsMark digits m × (r ≡ line (codes "mark :") digits q) → (commit : Commit) (rest : List ℕ) → (h : BeginsCommit bytes commit rest) → q ≡ from_committer bytes commit rest h
 behind_mark bytes branch r q m none e mark commit rest h = (after_mark r mark.0 q m mark.1 mark.2 h.mark (from_committer bytes commit rest h) commit.mark h.is_mark (head_line bytes branch r none e commit rest h).1).1
 
-pub head_signed : (bytes branch r q : List ℕ) (m : ℕ) → (Contains branch 10 → ⊥) → bytes ≡ line (codes "commit ") branch r → (digits : List ℕ) × IsMark digits m × (r ≡ line (codes "mark :") digits q) → ((text rest : List ℕ) → (Contains text 10 → ⊥) → q ≡ line (codes "committer ") text rest → ⊥) → BeginsHead bytes → ⊥
+pub head_signed : (bytes branch r q : List ℕ) (m : ℕ) → (Contains branch 10 → ⊥) → bytes ≡ line (codes "commit ") branch r → (digits : List ℕ) × IsMark digits m × (r ≡ line (codes "mark :") digits q) → ((text rest : List ℕ) → (Contains text 10 → ⊥) → q ≡ line (codes "committer ") text rest → ⊥) → BeginsCommitHead bytes → ⊥
 unfolding from_committer
 head_signed bytes branch r q m none e mark never h = let commit = h.0 in never commit.committer (from_data bytes h.0 h.1 h.2) (person-no_feed commit.committer h.2.is_person) (behind_mark bytes branch r q m none e mark h.0 h.1 h.2)
 
--- the committer, and what stands behind it
+-- the committer, and what stands after it
 pub behind_committer : (bytes branch r q committer t : List ℕ) (m : ℕ) → (Contains branch 10 → ⊥) → bytes ≡ line (codes "commit ") branch r → (digits : List ℕ) × IsMark digits m × (r ≡ line (codes "mark :") digits q) → (Contains committer 10 → ⊥) → q ≡ line (codes "committer ") committer t → (commit : Commit) (rest : List ℕ) → (h : BeginsCommit bytes commit rest) → (committer ≡ commit.committer) × (t ≡ from_data bytes commit rest h)
 unfolding from_committer
 behind_committer bytes branch r q committer t m none e mark nc f commit rest h = one_line (codes "committer ") committer commit.committer t (from_data bytes commit rest h) nc (person-no_feed commit.committer h.is_person) (sym f ∙ behind_mark bytes branch r q m none e mark commit rest h)
 
-pub head_person : (bytes branch r q committer t : List ℕ) (m : ℕ) → (Contains branch 10 → ⊥) → bytes ≡ line (codes "commit ") branch r → (digits : List ℕ) × IsMark digits m × (r ≡ line (codes "mark :") digits q) → (Contains committer 10 → ⊥) → q ≡ line (codes "committer ") committer t → (IsPerson committer × (length (codes "committer ") + length committer + 1 ≤ line_limit) → ⊥) → BeginsHead bytes → ⊥
+pub head_person : (bytes branch r q committer t : List ℕ) (m : ℕ) → (Contains branch 10 → ⊥) → bytes ≡ line (codes "commit ") branch r → (digits : List ℕ) × IsMark digits m × (r ≡ line (codes "mark :") digits q) → (Contains committer 10 → ⊥) → q ≡ line (codes "committer ") committer t → (IsPerson committer × (length (codes "committer ") + length committer + 1 ≤ line_limit) → ⊥) → BeginsCommitHead bytes → ⊥
 head_person bytes branch r q committer t m none e mark nc f never h =
     let same = (behind_committer bytes branch r q committer t m none e mark nc f h.0 h.1 h.2).0 in
     never (subst IsPerson (sym same) h.2.is_person, subst (λ (x : List ℕ). length (codes "committer ") + length x + 1 ≤ line_limit) (sym same) h.2.short)
 
-pub head_filled : (bytes branch r q committer t : List ℕ) (m : ℕ) → (Contains branch 10 → ⊥) → bytes ≡ line (codes "commit ") branch r → (digits : List ℕ) × IsMark digits m × (r ≡ line (codes "mark :") digits q) → (Contains committer 10 → ⊥) → q ≡ line (codes "committer ") committer t → ((count content rest : List ℕ) → IsCount count content → t ≡ line (codes "data ") count (content ++ rest) → ⊥) → BeginsHead bytes → ⊥
+pub head_filled : (bytes branch r q committer t : List ℕ) (m : ℕ) → (Contains branch 10 → ⊥) → bytes ≡ line (codes "commit ") branch r → (digits : List ℕ) × IsMark digits m × (r ≡ line (codes "mark :") digits q) → (Contains committer 10 → ⊥) → q ≡ line (codes "committer ") committer t → ((count content rest : List ℕ) → IsCount count content → t ≡ line (codes "data ") count (content ++ rest) → ⊥) → BeginsCommitHead bytes → ⊥
 unfolding from_data
 head_filled bytes branch r q committer t m none e mark nc f never h =
     let commit = h.0 in never h.2.count commit.message h.1 h.2.is_count (behind_committer bytes branch r q committer t m none e mark nc f h.0 h.1 h.2).1

@@ -8,9 +8,9 @@ use Rattle.swh_fastload.specs.declared.stream.Change.{Change as HeldChange}
 use Rattle.swh_fastload.specs.declared.parts.Head.{Head}
 use Rattle.swh_fastload.specs.declared.fault.StreamFault.{StreamFault}
 use Rattle.swh_fastload.specs.declared.fault.StreamFault.TheVariants.{LeftOut, Memory}
-use Rattle.swh_fastload.specs.Refusal.{Refuses}
+use Rattle.swh_fastload.specs.Refusal.{RefusesStream}
 use Rattle.swh_fastload.specs.Feed.{TakesFeed}
-use Rattle.swh_fastload.specs.View.{blob_view, change_view, with_changes, IsHead}
+use Rattle.swh_fastload.specs.View.{blob_view, change_view, with_changes, IsCommitHead}
 use Rattle.swh_fastload.proofs.Readings.{change-not_feeds, one_change, one_head, follow_of, follow-taken, taken-follow, after_blob, reads_on, reads_back, at_commit}
 
 -- what a test of a length says
@@ -105,12 +105,12 @@ blobs_none text rest front l n b s none stream p =
     let at = at_commit rest on.0 stream.commit n b (λ e. s (ap length e)) on.2 in
     none at.0 at.3
 
-pub refuses_then : (P Q : Type 0) (e : StreamFault) → (P → Q) → Refuses P e → Refuses Q e
+pub refuses_then : (P Q : Type 0) (e : StreamFault) → (P → Q) → RefusesStream P e → RefusesStream Q e
 refuses_then P Q LeftOut f h = f h
 refuses_then P Q Memory f h = tt
 
 -- the commit's head, and what its changes are
-pub commit_from : (text : List ℕ) (head : Head) (after rest : List ℕ) (changes : List HeldChange) → IsHead text head after → TakesFeed after rest → AreChanges rest (map change_view changes) → IsCommit text (with_changes head (map change_view changes))
+pub commit_from : (text : List ℕ) (head : Head) (after rest : List ℕ) (changes : List HeldChange) → IsCommitHead text head after → TakesFeed after rest → AreChanges rest (map change_view changes) → IsCommit text (with_changes head (map change_view changes))
 commit_from text head after rest changes h t a =
     let f = taken-follow after rest (map change_view changes) t a in record {
       feed = f.feed;
@@ -120,7 +120,7 @@ commit_from text head after rest changes h t a =
       are_changes = f.are;
     }
 
-pub commit_none : (text : List ℕ) (head : Head) (after rest : List ℕ) → IsHead text head after → TakesFeed after rest → ((cs : List Change) → AreChanges rest cs → ⊥) → (commit : Commit) → IsCommit text commit → ⊥
+pub commit_none : (text : List ℕ) (head : Head) (after rest : List ℕ) → IsCommitHead text head after → TakesFeed after rest → ((cs : List Change) → AreChanges rest cs → ⊥) → (commit : Commit) → IsCommit text commit → ⊥
 commit_none text head after rest h t none commit k =
     let same = one_head text (with_changes head []) commit after (k.feed ++ k.changes) h k.begins in
     none commit.changes (follow-taken after rest commit.changes t (follow_of text commit after k same.1))

@@ -11,9 +11,9 @@ use Rattle.swh_base.specs.Name.{kind_number}
 use Rattle.swh_base.specs.Snapshot.{SnapshotBranch, snapshot_text}
 use Rattle.swh_model.specs.PathMap.{PathMap}
 use Rattle.swh_model.specs.SmallStream.{Blob, Change, Commit, SmallStream, IsFileName, AreChanges, Reads, Parses}
-use Rattle.swh_model.specs.Meaning.{Made, same_made, once, Making, Marks, marks_after, tree_after, content, directory, snapshot, with_head, tip, commit_makes, making, makes, AreWithinLimit, IsMeaning, IsLeftOut}
+use Rattle.swh_model.specs.Meaning.{Made, same_made, once, StreamMeaning, Marks, marks_after, tree_after, content, directory, snapshot, with_head, tip, commit_makes, making, makes, AreWithinLimit, IsMeaning, IsLeftOut}
 use Rattle.swh_fastload.specs.declared.snapshot.Tip.{Tip}
-use Rattle.swh_fastload.specs.Making.{AreShort, branches_of, IsGoodTip, AddsTip, IsTipLeftOut}
+use Rattle.swh_fastload.specs.Making.{AreWithinBodyLimit, tip_branches, IsGoodTip, AddsTip, IsTipLeftOut}
 use Rattle.swh_fastload.proofs.Readings.{one_reading_lem}
 use Rattle.swh_fastload.proofs.Leads.{same_stream}
 use Rattle.swh_fastload.proofs.Onces.{same_is, once_more, with_new}
@@ -104,22 +104,22 @@ once_commit blobs root last body =
 
 -- what was loaded
 pub record IsLoaded (id : Kind → List ℕ → List ℕ) (head : Option (List ℕ)) (blobs : List Blob) (marks : Marks) (commit : Option Commit) (t : Option Tip) (mid new objects : List Made) (body sid : List ℕ) : Type 0 where
-  pub short : AreShort blobs
+  pub short : AreWithinBodyLimit blobs
   pub marks_are : marks ≡ marks_after id [] blobs
   pub contents_are : mid ≡ once (map (λ b. content b.bytes) blobs)
   pub adds : AddsTip id marks commit mid t new
-  pub body_is : body ≡ snapshot_text (with_head head (branches_of t))
+  pub body_is : body ≡ snapshot_text (with_head head (tip_branches t))
   pub small : length body ≤ body_limit
   pub added : objects ≡ new ++ record { kind = Snapshot; body = body } ∷ []
   pub id_is : sid ≡ id Snapshot body
 
-short_contents : (blobs : List Blob) → AreShort blobs → AreWithinLimit (contents blobs)
+short_contents : (blobs : List Blob) → AreWithinBodyLimit blobs → AreWithinLimit (contents blobs)
 unfolding contents
 short_contents [] h = tt
 short_contents (b ∷ blobs) h = (h.0, short_contents blobs h.1)
 
-same_making : (os ps : List Made) (s t : List ℕ) → os ≡ ps → s ≡ t → ◌≡◌ {A = Option Making} (Some (record { objects = os; snapshot = s })) (Some (record { objects = ps; snapshot = t }))
-same_making os ps s t e f = ap (λ (x : List Made). let m : Making = record { objects = x; snapshot = s } in Some m) e ∙ ap (λ (x : List ℕ). let m : Making = record { objects = ps; snapshot = x } in Some m) f
+same_making : (os ps : List Made) (s t : List ℕ) → os ≡ ps → s ≡ t → ◌≡◌ {A = Option StreamMeaning} (Some (record { objects = os; snapshot = s })) (Some (record { objects = ps; snapshot = t }))
+same_making os ps s t e f = ap (λ (x : List Made). let m : StreamMeaning = record { objects = x; snapshot = s } in Some m) e ∙ ap (λ (x : List ℕ). let m : StreamMeaning = record { objects = ps; snapshot = x } in Some m) f
 
 -- and what it means
 pub loaded_makes : (id : Kind → List ℕ → List ℕ) (head : Option (List ℕ)) (blobs : List Blob) (marks : Marks) (commit : Option Commit) (t : Option Tip) (mid new objects : List Made) (body sid : List ℕ) → IsLoaded id head blobs marks commit t mid new objects body sid → makes id head blobs commit ≡ Some (record { objects = objects; snapshot = sid })
@@ -165,7 +165,7 @@ loaded_means id head text stream marks t mid new objects body sid p h = record {
 }
 
 -- what the grammar says of blobs and of the commit
-reads_short : (text : List ℕ) (bs : List Blob) (c : Option Commit) → Reads text bs c → AreShort bs
+reads_short : (text : List ℕ) (bs : List Blob) (c : Option Commit) → Reads text bs c → AreWithinBodyLimit bs
 reads_short text [] c h = tt
 reads_short text (b ∷ bs) c h = (h.5.is_count.short, reads_short h.2 bs c h.6)
 
@@ -178,7 +178,7 @@ reads_good text [] None h = tt
 reads_good text [] (Some c) h = record { branch = h.4.begins.is_ref; names = names_good h.4.changes c.changes h.4.are_changes }
 reads_good text (b ∷ bs) c h = reads_good h.2 bs c h.6
 
-pub parses_short : (text : List ℕ) (stream : SmallStream) → Parses text stream → AreShort stream.blobs
+pub parses_short : (text : List ℕ) (stream : SmallStream) → Parses text stream → AreWithinBodyLimit stream.blobs
 parses_short text stream p = reads_short text stream.blobs stream.commit p.reads
 
 pub parses_good : (text : List ℕ) (stream : SmallStream) → Parses text stream → IsGoodTip stream.commit
@@ -188,16 +188,16 @@ pub same_parse : (text : List ℕ) (s t : SmallStream) → Parses text s → Par
 same_parse text s t h k = let same = one_reading_lem text s.blobs t.blobs s.commit t.commit h.reads k.reads in same_stream s t same.0 same.1
 
 -- a text whose stream makes nothing within the limit
-pub left_out : (id : Kind → List ℕ → List ℕ) (head : Option (List ℕ)) (text : List ℕ) (stream : SmallStream) → Parses text stream → ((m : Making) → makes id head stream.blobs stream.commit ≡ Some m → AreWithinLimit m.objects → ⊥) → IsLeftOut id head text
+pub left_out : (id : Kind → List ℕ → List ℕ) (head : Option (List ℕ)) (text : List ℕ) (stream : SmallStream) → Parses text stream → ((m : StreamMeaning) → makes id head stream.blobs stream.commit ≡ Some m → AreWithinLimit m.objects → ⊥) → IsLeftOut id head text
 left_out id head text stream p none m h =
     let same = same_parse text h.stream stream h.parses p in
     none m (subst (λ (s : SmallStream). makes id head s.blobs s.commit ≡ Some m) same h.makes_it) h.within
 
-same_objects : (m n : Making) → Some m ≡ Some n → m.objects ≡ n.objects
-same_objects m n e = let both : m ≡ n = cc in ap (λ (x : Making). x.objects) both
+same_objects : (m n : StreamMeaning) → Some m ≡ Some n → m.objects ≡ n.objects
+same_objects m n e = let both : m ≡ n = cc in ap (λ (x : StreamMeaning). x.objects) both
 
 -- a commit that is left out
-pub tip_left_out : (id : Kind → List ℕ → List ℕ) (head : Option (List ℕ)) (blobs : List Blob) (marks : Marks) (commit : Option Commit) → marks ≡ marks_after id [] blobs → IsTipLeftOut id marks commit → (m : Making) → makes id head blobs commit ≡ Some m → AreWithinLimit m.objects → ⊥
+pub tip_left_out : (id : Kind → List ℕ → List ℕ) (head : Option (List ℕ)) (blobs : List Blob) (marks : Marks) (commit : Option Commit) → marks ≡ marks_after id [] blobs → IsTipLeftOut id marks commit → (m : StreamMeaning) → makes id head blobs commit ≡ Some m → AreWithinLimit m.objects → ⊥
 tip_left_out id head blobs marks None e h m k w = h
 tip_left_out id head blobs marks (Some c) e h m k w = by_tree (tree_after (marks_after id [] blobs) [] c.changes) refl k
   where
@@ -213,7 +213,7 @@ last_short : (front : List Made) (branches : List SnapshotBranch) (objects : Lis
 last_short front branches objects e w = (all_back (λ (n : Made). length n.body ≤ body_limit) front (snapshot branches ∷ []) (once_back (λ n. length n.body ≤ body_limit) (front ++ snapshot branches ∷ []) (subst AreWithinLimit e w))).0
 
 -- a snapshot above the limit
-pub snapshot_left_out : (id : Kind → List ℕ → List ℕ) (head : Option (List ℕ)) (blobs : List Blob) (marks : Marks) (commit : Option Commit) (t : Option Tip) (mid new : List Made) (body : List ℕ) → marks ≡ marks_after id [] blobs → AddsTip id marks commit mid t new → body ≡ snapshot_text (with_head head (branches_of t)) → body_limit < length body → (m : Making) → makes id head blobs commit ≡ Some m → AreWithinLimit m.objects → ⊥
+pub snapshot_left_out : (id : Kind → List ℕ → List ℕ) (head : Option (List ℕ)) (blobs : List Blob) (marks : Marks) (commit : Option Commit) (t : Option Tip) (mid new : List Made) (body : List ℕ) → marks ≡ marks_after id [] blobs → AddsTip id marks commit mid t new → body ≡ snapshot_text (with_head head (tip_branches t)) → body_limit < length body → (m : StreamMeaning) → makes id head blobs commit ≡ Some m → AreWithinLimit m.objects → ⊥
 snapshot_left_out id head blobs marks None None mid new body e a b over m k w =
     let small = last_short (map (λ b. content b.bytes) blobs) (with_head head []) m.objects (sym (same_objects (making id head (map (λ b. content b.bytes) blobs) []) m k)) w in
     absurd (omega (arith, small, ap length b, over))
@@ -228,7 +228,7 @@ snapshot_left_out id head blobs marks (Some c) (Some t) mid new body e a b over 
     let text : body ≡ snapshot_text branches = b ∙ ap (λ (x : SnapshotBranch). snapshot_text (with_head head (x ∷ []))) a.ends in
     absurd (omega (arith, small, ap length text, over))
 
-pub one_meaning_lem : (id : Kind → List ℕ → List ℕ) (head : Option (List ℕ)) (text : List ℕ) (m n : Making) → IsMeaning id head text m → IsMeaning id head text n → m ≡ n
+pub one_meaning_lem : (id : Kind → List ℕ → List ℕ) (head : Option (List ℕ)) (text : List ℕ) (m n : StreamMeaning) → IsMeaning id head text m → IsMeaning id head text n → m ≡ n
 one_meaning_lem id head text m n h k =
     let same = same_parse text h.stream k.stream h.parses k.parses in
     let both : Some m ≡ Some n = sym h.makes_it ∙ ap (λ (s : SmallStream). makes id head s.blobs s.commit) same ∙ k.makes_it in

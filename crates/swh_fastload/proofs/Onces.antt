@@ -24,7 +24,7 @@ use Rattle.swh_base.specs.Name.{IsByte, IsId, kind_number, name_key-injective}
 use Rattle.swh_base.specs.declared.name.Name.{Name}
 use Rattle.swh_fastload.proofs.Folders.{same_self}
 use Rattle.swh_model.specs.Meaning.{Made, same_made, once, content, marks_after}
-use Rattle.swh_fastload.specs.Making.{with_made, content_id, KnowsContents, AreShort, AreIds}
+use Rattle.swh_fastload.specs.Making.{with_made, content_id, KnowsContents, AreWithinBodyLimit, AreIds}
 
 pub are_bytes : (xs : List ℕ) → ((i : ℕ) → get_or xs i 0 < 256) → AllByRecursion IsByte xs
 are_bytes [] h = tt
@@ -185,7 +185,7 @@ content_known id ms objects seen new key value h fresh v o updates =
     (knows_more id ms seen new key h fresh (λ q. updates q ∙ ap (λ (t : List ℕ). cond (is_at (λ (k : Bor (List ℕ)). slice_cmp nat_cmp key.now k.now) q) (Some t) (lookup (is_at (λ (k : Bor (List ℕ)). slice_cmp nat_cmp q.now k.now)) seen)) v))
 
 -- the blobs that are left, and those that were taken
-pub blob_short : (all : List HeldBlob) (i : ℕ) (d : HeldBlob) → AreShort (map blob_view all) → i < length all → length (get_or all i d).bytes.now ≤ body_limit
+pub blob_short : (all : List HeldBlob) (i : ℕ) (d : HeldBlob) → AreWithinBodyLimit (map blob_view all) → i < length all → length (get_or all i d).bytes.now ≤ body_limit
 blob_short [] i d h l = absurd (omega arith)
 blob_short (b ∷ all) zero d h l = h.0
 blob_short (b ∷ all) (suc i) d h l = blob_short all i d h.1 (omega arith)

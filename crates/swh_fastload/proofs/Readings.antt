@@ -187,7 +187,7 @@ no_feeds text (x ∷ feeds) at n e f = absurd (n (feeds ++ at) (e ∙ ap (λ (k 
 pub blob-no_feed : (text : List ℕ) (b : Blob) (rest more : List ℕ) → BeginsBlob text b rest → text ≡ 10 ∷ more → ⊥
 blob-no_feed text b rest more h e = let k = blob-begins text b rest more 10 h e in absurd (omega (arith, k))
 
--- behind a blob the stream goes on
+-- after a blob the stream goes on
 pub after_blob : (text : List ℕ) (b : Blob) (rest : List ℕ) (bs : List Blob) (c : Option Commit) → BeginsBlob text b rest → Reads text bs c → (ds : List Blob) × (bs ≡ b ∷ ds) × Reads rest ds c
 after_blob text b rest [] None h k = absurd (blob-not_feeds text b rest h k)
 after_blob text b rest [] (Some c) h k =

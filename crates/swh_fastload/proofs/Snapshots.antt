@@ -13,12 +13,12 @@ use Rattle.swh_base.specs.declared.name.Name.{Name}
 use Rattle.swh_base.specs.Text.{is_ref_byte, IsRef}
 use Rattle.swh_base.specs.Name.{IsId}
 use Rattle.swh_base.specs.Revision.{revision_name}
-use Rattle.swh_base.specs.Snapshot.{SnapshotBranch, IsBranch, AreBranches, snapshot_text, branch_kid}
-use Rattle.swh_base.specs.Manifest.{AreKids, IsWellFormed}
+use Rattle.swh_base.specs.Snapshot.{SnapshotBranch, IsBranch, AreBranches, snapshot_text, branch_child}
+use Rattle.swh_base.specs.Manifest.{AreChildren, IsWellFormed}
 use Rattle.swh_model.specs.SmallStream.{Commit}
 use Rattle.swh_model.specs.Meaning.{Made, Marks, branch_to, head_branch, put_branch, with_head}
 use Rattle.swh_fastload.specs.declared.snapshot.Tip.{Tip}
-use Rattle.swh_fastload.specs.Making.{branches_of, IsGoodTip, AddsTip}
+use Rattle.swh_fastload.specs.Making.{tip_branches, IsGoodTip, AddsTip}
 use Rattle.swh_fastload.specs.Whole.{IsTipAmong}
 use Rattle.swh_base.proofs.Lacks.{passes_not}
 
@@ -60,30 +60,30 @@ none_good : (head : Option (List ℕ)) → IfSome head IsRef → AreBranches (wi
 none_good None h = tt
 none_good (Some head) h = (head_good head h, tt, tt)
 
-pub branches_good : (id : Kind → List ℕ → List ℕ) (head : Option (List ℕ)) (marks : Marks) (commit : Option Commit) (t : Option Tip) (mid new : List Made) → IfSome head IsRef → IsGoodTip commit → AddsTip id marks commit mid t new → AreBranches (with_head head (branches_of t))
+pub branches_good : (id : Kind → List ℕ → List ℕ) (head : Option (List ℕ)) (marks : Marks) (commit : Option Commit) (t : Option Tip) (mid new : List Made) → IfSome head IsRef → IsGoodTip commit → AddsTip id marks commit mid t new → AreBranches (with_head head (tip_branches t))
 branches_good id head marks None None mid new h g a = none_good head h
 branches_good id head marks None (Some t) mid new h g a = absurd a
 branches_good id head marks (Some c) None mid new h g a = absurd a
 branches_good id head marks (Some c) (Some t) mid new h g a =
     some_good head t.branch.now t.revision h (subst IsRef (sym (ap (λ (b : SnapshotBranch). b.name) a.ends)) g.branch) a.good
 
--- the snapshot is one, and its kid is the tip's revision
-pub snapshot_kids : (branches : List SnapshotBranch) (body : List ℕ) → AreBranches branches → body ≡ snapshot_text branches → AreKids Snapshot body (filter_map branch_kid branches)
-snapshot_kids branches body good e = record { branches = branches; is = record { text = e; good = good }; kids = refl }
+-- the snapshot is one, and its child is the tip's revision
+pub snapshot_children : (branches : List SnapshotBranch) (body : List ℕ) → AreBranches branches → body ≡ snapshot_text branches → AreChildren Snapshot body (filter_map branch_child branches)
+snapshot_children branches body good e = record { branches = branches; is = record { text = e; good = good }; kids = refl }
 
 pub snapshot_good : (branches : List SnapshotBranch) (body : List ℕ) → AreBranches branches → body ≡ snapshot_text branches → IsWellFormed Snapshot body
-snapshot_good branches body good e = (filter_map branch_kid branches, snapshot_kids branches body good e)
+snapshot_good branches body good e = (filter_map branch_child branches, snapshot_children branches body good e)
 
-kids_put : (names : List Name) (head name id : List ℕ) → Contains names (revision_name id) → AllByRecursion (Contains names) (filter_map branch_kid (put_branch (head_branch head) (branch_to name id ∷ [])))
-kids_put names head name id c = by_order (slice_cmp nat_cmp (codes "HEAD") name)
+children_put : (names : List Name) (head name id : List ℕ) → Contains names (revision_name id) → AllByRecursion (Contains names) (filter_map branch_child (put_branch (head_branch head) (branch_to name id ∷ [])))
+children_put names head name id c = by_order (slice_cmp nat_cmp (codes "HEAD") name)
   where
-    by_order : (o : Ordering) → AllByRecursion (Contains names) (filter_map branch_kid (match_ordering o (head_branch head ∷ branch_to name id ∷ []) (head_branch head ∷ []) (branch_to name id ∷ head_branch head ∷ [])))
+    by_order : (o : Ordering) → AllByRecursion (Contains names) (filter_map branch_child (match_ordering o (head_branch head ∷ branch_to name id ∷ []) (head_branch head ∷ []) (branch_to name id ∷ head_branch head ∷ [])))
     by_order Less = (c, tt)
     by_order Equal = tt
     by_order Greater = (c, tt)
 
-pub kids_among : (names : List Name) (head : Option (List ℕ)) (t : Option Tip) → IsTipAmong names t → AllByRecursion (Contains names) (filter_map branch_kid (with_head head (branches_of t)))
-kids_among names None None among = tt
-kids_among names None (Some t) among = (among, tt)
-kids_among names (Some head) None among = tt
-kids_among names (Some head) (Some t) among = kids_put names head t.branch.now t.revision among
+pub children_among : (names : List Name) (head : Option (List ℕ)) (t : Option Tip) → IsTipAmong names t → AllByRecursion (Contains names) (filter_map branch_child (with_head head (tip_branches t)))
+children_among names None None among = tt
+children_among names None (Some t) among = (among, tt)
+children_among names (Some head) None among = tt
+children_among names (Some head) (Some t) among = children_put names head t.branch.now t.revision among

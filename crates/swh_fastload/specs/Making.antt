@@ -19,12 +19,12 @@ use Rattle.swh_model.specs.SmallStream.{Blob, Commit, IsFileName}
 use Rattle.swh_model.specs.Meaning.{Made, same_made, content, directory, branch_to, tree_after, commit_makes, tip, AreWithinLimit}
 
 -- what an object is
-abbrev pub made_of : Entry → Made
-made_of object = record { kind = object.name.kind; body = object.body }
+abbrev pub made_from : Entry → Made
+made_from object = record { kind = object.name.kind; body = object.body }
 
 -- the kinds and bodies of these objects
 abbrev pub made : List Entry → List Made
-made objects = map made_of objects
+made objects = map made_from objects
 
 -- one more, where it is new
 abbrev pub with_made : List Made → Made → List Made
@@ -39,8 +39,8 @@ abbrev pub KnowsContents : (Kind → List ℕ → List ℕ) → List Made → Li
 KnowsContents id ms seen = (bytes : List ℕ) → lookup (λ k. is_at (λ (q : Bor (List ℕ)). slice_cmp nat_cmp bytes q.now) k) seen ≡ content_id id ms bytes
 
 -- each blob is within the limit
-abbrev pub AreShort : List Blob → Type 0
-AreShort blobs = AllByRecursion (λ b. length b.bytes ≤ body_limit) blobs
+abbrev pub AreWithinBodyLimit : List Blob → Type 0
+AreWithinBodyLimit blobs = AllByRecursion (λ b. length b.bytes ≤ body_limit) blobs
 
 -- each mark's id is one
 abbrev pub AreIds : List (ℕ × List ℕ) → Type 0
@@ -51,9 +51,9 @@ abbrev pub IsCommitLeftOut : (Kind → List ℕ → List ℕ) → List (ℕ × L
 IsCommitLeftOut id marks c = (tree : PathMap) → tree_after marks [] c.changes ≡ Some tree → AreWithinLimit (commit_makes id c tree) → ⊥
 
 -- the branches of a snapshot of this tip
-abbrev pub branches_of : Option Tip → List SnapshotBranch
-branches_of None = []
-branches_of (Some t) = branch_to t.branch.now t.revision ∷ []
+abbrev pub tip_branches : Option Tip → List SnapshotBranch
+tip_branches None = []
+tip_branches (Some t) = branch_to t.branch.now t.revision ∷ []
 
 -- what the grammar says of a commit
 pub record IsGoodCommit (c : Commit) : Type 0 where

@@ -25,9 +25,9 @@ abbrev pub with_changes : Head → List Change → Commit
 with_changes h changes = record { branch = h.branch.now; mark = h.mark; committer = h.committer.now; message = h.message.now; changes = changes }
 
 -- The text is this head of a commit, and the rest.
-abbrev pub IsHead : List ℕ → Head → List ℕ → Type 0
-IsHead text head rest = BeginsCommit text (with_changes head []) rest
+abbrev pub IsCommitHead : List ℕ → Head → List ℕ → Type 0
+IsCommitHead text head rest = BeginsCommit text (with_changes head []) rest
 
 -- The text begins with the head of some commit.
-abbrev pub BeginsHead : List ℕ → Type 0
-BeginsHead text = (commit : Commit) × (rest : List ℕ) × BeginsCommit text commit rest
+abbrev pub BeginsCommitHead : List ℕ → Type 0
+BeginsCommitHead text = (commit : Commit) × (rest : List ℕ) × BeginsCommit text commit rest

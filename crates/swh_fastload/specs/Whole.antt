@@ -17,14 +17,14 @@ names_of objects = map (λ e. e.name) objects
 abbrev pub content_name : List ℕ → Name
 content_name id = record { kind = Content; id = id }
 
--- Each kid of the entry is one of these.
-abbrev pub HasKidsAmong : List Name → Entry → Type 0
-HasKidsAmong names e = AllByRecursion (Contains names) e.kids
+-- Each child of the entry is one of these.
+abbrev pub HasChildrenAmong : List Name → Entry → Type 0
+HasChildrenAmong names e = AllByRecursion (Contains names) e.kids
 
--- Each is an object, and each kid of one is the name of one.
+-- Each is an object, and each child of one is the name of one.
 pub record AreWhole (id : Kind → List ℕ → List ℕ) (objects : List Entry) : Type 0 where
   pub each : AllByRecursion (IsObject id) objects
-  pub kids : AllByRecursion (HasKidsAmong (names_of objects)) objects
+  pub kids : AllByRecursion (HasChildrenAmong (names_of objects)) objects
 
 -- One object more, of this kind, body and id.
 pub record IsAppended (id : Kind → List ℕ → List ℕ) (kind : Kind) (body : List ℕ) (old new : List Entry) (own_id : List ℕ) : Type 0 where
@@ -35,7 +35,7 @@ pub record IsAppended (id : Kind → List ℕ → List ℕ) (kind : Kind) (body 
   pub body_is : object.body ≡ body
   pub appended : new ≡ old ++ object ∷ []
 
--- The objects are whole, with more behind, and one of them has this name.
+-- The objects are whole, with more after, and one of them has this name.
 pub record Gains (id : Kind → List ℕ → List ℕ) (old new : List Entry) (name : Name) : Type 0 where
   pub whole : AreWhole id new
   pub more : List Entry
@@ -51,7 +51,7 @@ abbrev pub IsTipAmong : List Name → Option Tip → Type 0
 IsTipAmong names None = Unit {0}
 IsTipAmong names (Some t) = Contains names (revision_name t.revision)
 
--- All that the snapshot reaches is among the objects, which have all of their kids.
-pub record IsWhole {N : Type 0} (id : Kind → List ℕ → List ℕ) (loaded : Objects N) : Type 0 where
+-- All that the snapshot reaches is among the objects, which have all of their children.
+pub record HasAllThatIsReached {N : Type 0} (id : Kind → List ℕ → List ℕ) (loaded : Objects N) : Type 0 where
   pub objects : AreWhole id loaded.objects.items
   pub snapshot : Contains (names_of loaded.objects.items) (snapshot_name loaded.snapshot)

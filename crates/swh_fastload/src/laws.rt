@@ -1,7 +1,7 @@
 // Laws of the definitions of streams.
 ghost use Rattle.std.specs.Prelude.{◌≡◌, ℕ, List, Option};
 ghost use Rattle.swh_base.specs.declared.kind.Kind.{Kind};
-ghost use Rattle.swh_model.specs.Meaning.{Making, IsMeaning};
+ghost use Rattle.swh_model.specs.Meaning.{StreamMeaning, IsMeaning};
 ghost use Rattle.swh_model.specs.SmallStream.{SmallStream, Parses};
 
 /// A text is one stream of the small grammar at most.
@@ -11,5 +11,5 @@ pub fn one_reading()
 
 /// A text means one thing at most.
 pub fn one_meaning()
-    ensures { (id : Kind → List ℕ → List ℕ) (head : Option (List ℕ)) (text : List ℕ) (m n : Making) → IsMeaning id head text m → IsMeaning id head text n → m ≡ n }
+    ensures { (id : Kind → List ℕ → List ℕ) (head : Option (List ℕ)) (text : List ℕ) (m n : StreamMeaning) → IsMeaning id head text m → IsMeaning id head text n → m ≡ n }
 {}

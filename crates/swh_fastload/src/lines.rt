@@ -5,7 +5,7 @@ ghost use Rattle.swh_model.specs.SmallStream.{line, AreFeeds};
 
 use swh_pieces::{behind, split_at_byte};
 
-/// The text behind the word of a line, and what follows the line.
+/// The text after the word of a line, and what follows the line.
 pub fn take_line<'a>(bytes: &'a [u8], word: &[u8]) -> Option<(&'a [u8], &'a [u8])>
     ensures some { IfSome result (λ x. (Contains x.0.now 10 → ⊥) × (bytes.now ≡ line word.now x.0.now x.1.now)) }
     ensures none { IfNone result ((text rest : List ℕ) → (Contains text 10 → ⊥) → bytes.now ≢ line word.now text rest) }

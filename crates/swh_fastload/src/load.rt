@@ -11,8 +11,8 @@ ghost use Rattle.swh_model.specs.Meaning.{Made, revision, tree_after, commit_mak
 ghost use Rattle.swh_fastload.specs.Making.{made, AreIds, IsCommitLeftOut, IsGoodCommit, IsGoodTip, AddsCommit, AddsTip, IsTipLeftOut};
 ghost use Rattle.swh_fastload.specs.Loaded.{making_of};
 ghost use Rattle.swh_fastload.specs.View.{commit_view};
-ghost use Rattle.swh_fastload.specs.Whole.{names_of, AreWhole, AreContents, IsTipAmong, IsWhole};
-ghost use Rattle.swh_fastload.specs.Refusal.{Refuses};
+ghost use Rattle.swh_fastload.specs.Whole.{names_of, AreWhole, AreContents, IsTipAmong, HasAllThatIsReached};
+ghost use Rattle.swh_fastload.specs.Refusal.{RefusesStream};
 ghost use Rattle.swh_fastload.specs.declared.fault.StreamFault.TheVariants.{Memory as OutOfMemory};
 
 use crate::fault::StreamFault;
@@ -82,7 +82,7 @@ fn add_commit<'a, N: Namer>(
     ensures ok { IfOk result (λ t. AddsCommit N.id_of marks.now.entries (commit_view commit.now) (made objects.old.items) t (made objects.new.items)) }
     ensures whole { OnOk result (AreWhole N.id_of objects.new.items) }
     ensures tip { IfOk result (λ t. Contains (names_of objects.new.items) (revision_name t.revision)) }
-    ensures err { IfErr result (Refuses (IsCommitLeftOut N.id_of marks.now.entries (commit_view commit.now))) }
+    ensures err { IfErr result (RefusesStream (IsCommitLeftOut N.id_of marks.now.entries (commit_view commit.now))) }
 {
     let files = files_of(alloc, marks, &commit.changes)?;
     let body = directory_body(alloc, &files)?;
@@ -110,7 +110,7 @@ fn add_tip<'a, N: Namer>(
     ensures ok { IfOk result (λ tip. AddsTip N.id_of marks.now.entries (option_map commit_view commit.now) (made objects.old.items) tip (made objects.new.items)) }
     ensures whole { OnOk result (AreWhole N.id_of objects.new.items) }
     ensures tip { IfOk result (IsTipAmong (names_of objects.new.items)) }
-    ensures err { IfErr result (Refuses (IsTipLeftOut N.id_of marks.now.entries (option_map commit_view commit.now))) }
+    ensures err { IfErr result (RefusesStream (IsTipLeftOut N.id_of marks.now.entries (option_map commit_view commit.now))) }
 {
     match commit {
         Some(commit) => Ok(Some(add_commit(alloc, namer, marks, commit, objects)?)),
@@ -128,10 +128,10 @@ pub fn load_stream<N: Namer>(
     requires { IfSome (option_copied head) IsRef }
     // What is made is what the text means.
     ensures ok { IfOk result (λ loaded. IsMeaning N.id_of (option_copied head.entry) text.now (making_of loaded)) }
-    // The objects have all of their kids, and the snapshot is one of them.
-    ensures whole { IfOk result (IsWhole N.id_of) }
+    // The objects have all of their children, and the snapshot is one of them.
+    ensures whole { IfOk result (HasAllThatIsReached N.id_of) }
     // What is left out means nothing.
-    ensures err { IfErr result (Refuses (IsLeftOut N.id_of (option_copied head.entry) text.now)) }
+    ensures err { IfErr result (RefusesStream (IsLeftOut N.id_of (option_copied head.entry) text.now)) }
 {
     let stream = parse_stream(alloc, text)?;
     let mut objects = Vec::new(alloc);

@@ -5,10 +5,10 @@ ghost use Rattle.swh_base.specs.Manifest.{IsWellFormed};
 ghost use Rattle.swh_base.specs.Name.{IsId};
 ghost use Rattle.swh_base.specs.declared.kind.Kind.TheVariants.{Content as ContentKind};
 ghost use Rattle.swh_model.specs.Meaning.{Made, content, marks_after, once};
-ghost use Rattle.swh_fastload.specs.Making.{made, with_made, KnowsContents, AreShort, AreIds};
+ghost use Rattle.swh_fastload.specs.Making.{made, with_made, KnowsContents, AreWithinBodyLimit, AreIds};
 ghost use Rattle.swh_fastload.specs.View.{blob_view};
 ghost use Rattle.swh_fastload.specs.Whole.{names_of, content_name, AreWhole, IsAppended, Gains, AreContents};
-ghost use Rattle.swh_fastload.specs.Refusal.{Refuses};
+ghost use Rattle.swh_fastload.specs.Refusal.{RefusesStream};
 ghost use Rattle.swh_fastload.specs.declared.fault.StreamFault.TheVariants.{Memory as OutOfMemory};
 
 use crate::fault::StreamFault;
@@ -36,7 +36,7 @@ pub fn add_object<N: Namer>(
     ensures short { OnOk result (length body.items ≤ body_limit) }
     ensures added { IfOk result (λ _. made objects.new.items ≡ made objects.old.items ++ record { kind = kind; body = body.items } ∷ []) }
     ensures appended { IfOk result (IsAppended N.id_of kind body.items objects.old.items objects.new.items) }
-    ensures err { IfErr result (Refuses (body_limit < length body.items)) }
+    ensures err { IfErr result (RefusesStream (body_limit < length body.items)) }
 {
     let object = match Object::make(alloc, namer, kind, body) {
         Ok(object) => object,
@@ -82,7 +82,7 @@ pub fn add_contents<N: Namer>(
     blobs: &[Blob<'_>],
     objects: &mut Vec<Object<N>>,
 ) -> Result<Marks, StreamFault>
-    requires short { AreShort (map blob_view blobs.now) }
+    requires short { AreWithinBodyLimit (map blob_view blobs.now) }
     requires none { objects.old.items ≡ [] }
     ensures marks { IfOk result (λ marks. marks.entries ≡ marks_after N.id_of [] (map blob_view blobs.now)) }
     ensures ids { IfOk result (λ marks. AreIds marks.entries) }

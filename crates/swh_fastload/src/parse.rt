@@ -2,7 +2,7 @@
 ghost use Rattle.std.specs.Prelude.{◌≡◌, ◌∷◌, ◌⊎◌, ◌≢◌, ◌^◌, ◌<◌, ◌≤◌, ℕ, List, length, map, IfOk, IfErr};
 ghost use Rattle.swh_model.specs.SmallStream.{Change as ChangeValue, Commit as CommitValue, SmallStream as StreamValue, AreChanges, IsCommit, Parses};
 ghost use Rattle.swh_fastload.specs.View.{change_view, commit_view, stream_view};
-ghost use Rattle.swh_fastload.specs.Refusal.{Refuses};
+ghost use Rattle.swh_fastload.specs.Refusal.{RefusesStream};
 ghost use Rattle.swh_fastload.specs.Feed.{TakesFeed};
 
 use crate::fault::StreamFault;
@@ -24,7 +24,7 @@ fn skip_feed(bytes: &[u8]) -> &[u8]
 /// The changes up to the end of a text.
 fn changes_of<'a>(alloc: Global, bytes: &'a [u8]) -> Result<Vec<Change<'a>>, StreamFault>
     ensures ok { IfOk result (λ changes. AreChanges bytes.now (map change_view changes.items)) }
-    ensures err { IfErr result (Refuses ((changes : List ChangeValue) → AreChanges bytes.now changes → ⊥)) }
+    ensures err { IfErr result (RefusesStream ((changes : List ChangeValue) → AreChanges bytes.now changes → ⊥)) }
 {
     let mut changes = Vec::new(alloc);
     let mut rest = bytes;
@@ -41,7 +41,7 @@ fn changes_of<'a>(alloc: Global, bytes: &'a [u8]) -> Result<Vec<Change<'a>>, Str
 /// The commit that a text is, up to its end.
 fn commit_of<'a>(alloc: Global, bytes: &'a [u8]) -> Result<Commit<'a>, StreamFault>
     ensures ok { IfOk result (λ commit. IsCommit bytes.now (commit_view commit)) }
-    ensures err { IfErr result (Refuses ((commit : CommitValue) → IsCommit bytes.now commit → ⊥)) }
+    ensures err { IfErr result (RefusesStream ((commit : CommitValue) → IsCommit bytes.now commit → ⊥)) }
 {
     let Some((head, after)) = take_head(bytes) else {
         return Err(StreamFault::LeftOut);
@@ -61,7 +61,7 @@ pub fn parse_stream<'a>(alloc: Global, text: &'a [u8]) -> Result<SmallStream<'a>
     // What is parsed is what the text says.
     ensures ok { IfOk result (λ stream. Parses text.now (stream_view stream)) }
     // What is left out is no stream of the small grammar.
-    ensures err { IfErr result (Refuses ((stream : StreamValue) → Parses text.now stream → ⊥)) }
+    ensures err { IfErr result (RefusesStream ((stream : StreamValue) → Parses text.now stream → ⊥)) }
 {
     if text.len() > 4_294_967_296 {
         return Err(StreamFault::LeftOut);

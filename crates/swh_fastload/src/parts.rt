@@ -3,7 +3,7 @@ ghost use Rattle.std.specs.Prelude.{◌≡◌, ◌≢◌, ◌++◌, ◌∷◌, �
 ghost use Rattle.swh_base.specs.Limits.{line_limit};
 ghost use Rattle.swh_base.specs.Text.{IsPerson, IsNumber};
 ghost use Rattle.swh_model.specs.SmallStream.{Blob as BlobValue, Change as ChangeValue, line, IsMark, IsCount, BeginsBlob, BeginsChange};
-ghost use Rattle.swh_fastload.specs.View.{blob_view, change_view, IsHead, BeginsHead};
+ghost use Rattle.swh_fastload.specs.View.{blob_view, change_view, IsCommitHead, BeginsCommitHead};
 
 use crate::lines::take_line;
 use crate::stream::{Blob, Change};
@@ -104,8 +104,8 @@ pub struct Head<'a> {
 
 /// A commit in front of a text, up to its changes.
 pub fn take_head(bytes: &[u8]) -> Option<(Head<'_>, &[u8])>
-    ensures some { IfSome result (λ x. IsHead bytes.now x.0 x.1.now) }
-    ensures none { IfNone result (BeginsHead bytes.now → ⊥) }
+    ensures some { IfSome result (λ x. IsCommitHead bytes.now x.0 x.1.now) }
+    ensures none { IfNone result (BeginsCommitHead bytes.now → ⊥) }
 {
     let (branch, rest) = take_line(bytes, b"commit ")?;
     if !is_ref(branch) {

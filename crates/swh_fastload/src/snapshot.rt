@@ -3,8 +3,8 @@ ghost use Rattle.std.specs.Prelude.{◌≡◌, ◌∷◌, [], Some, IfOk, IfErr}
 ghost use Rattle.std.specs.Option.{option_copied};
 ghost use Rattle.swh_base.specs.Snapshot.{AreBranches, snapshot_text};
 ghost use Rattle.swh_model.specs.Meaning.{branch_to, head_branch, put_branch, with_head};
-ghost use Rattle.swh_snpfmt.specs.Branches.{view, views};
-ghost use Rattle.swh_fastload.specs.Making.{branches_of};
+ghost use Rattle.swh_snpfmt.specs.Branches.{branch_view, branch_views};
+ghost use Rattle.swh_fastload.specs.Making.{tip_branches};
 ghost use Rattle.swh_fastload.specs.declared.fault.StreamFault.TheVariants.{Memory as OutOfMemory};
 
 use crate::fault::StreamFault;
@@ -22,7 +22,7 @@ pub struct Tip<'a> {
 
 /// The branch of a tip.
 fn tip_branch(alloc: Global, tip: &Tip<'_>) -> Result<Branch, StreamFault>
-    ensures ok { IfOk result (λ branch. view branch ≡ branch_to tip.now.branch.now tip.now.revision) }
+    ensures ok { IfOk result (λ branch. branch_view branch ≡ branch_to tip.now.branch.now tip.now.revision) }
     ensures err { IfErr result (λ fault. fault ≡ OutOfMemory) }
 {
     let name = Bytes::from_slice(alloc, tip.branch)?;
@@ -35,7 +35,7 @@ fn tip_branch(alloc: Global, tip: &Tip<'_>) -> Result<Branch, StreamFault>
 
 /// The branch `HEAD`, an alias to a head.
 fn head_branch(alloc: Global, head: &[u8]) -> Result<Branch, StreamFault>
-    ensures ok { IfOk result (λ branch. view branch ≡ head_branch head.now) }
+    ensures ok { IfOk result (λ branch. branch_view branch ≡ head_branch head.now) }
     ensures err { IfErr result (λ fault. fault ≡ OutOfMemory) }
 {
     let name = Bytes::from_slice(alloc, b"HEAD")?;
@@ -45,7 +45,7 @@ fn head_branch(alloc: Global, head: &[u8]) -> Result<Branch, StreamFault>
 
 /// Both branches in the order of their names; of one name, the head's alone.
 fn in_order(alloc: Global, head: Branch, tip: Branch) -> Result<Vec<Branch>, StreamFault>
-    ensures ok { IfOk result (λ branches. views branches.items ≡ put_branch (view head) (view tip ∷ [])) }
+    ensures ok { IfOk result (λ branches. branch_views branches.items ≡ put_branch (branch_view head) (branch_view tip ∷ [])) }
     ensures err { IfErr result (λ fault. fault ≡ OutOfMemory) }
 {
     match head.name.as_slice().cmp(tip.name.as_slice()) {
@@ -61,7 +61,7 @@ fn snapshot_branches(
     head: Option<&[u8]>,
     tip: &Option<Tip<'_>>,
 ) -> Result<Vec<Branch>, StreamFault>
-    ensures ok { IfOk result (λ branches. views branches.items ≡ with_head (option_copied head.entry) (branches_of tip.now)) }
+    ensures ok { IfOk result (λ branches. branch_views branches.items ≡ with_head (option_copied head.entry) (tip_branches tip.now)) }
     ensures err { IfErr result (λ fault. fault ≡ OutOfMemory) }
 {
     match (head, tip) {
@@ -80,8 +80,8 @@ pub fn snapshot_body(
     head: Option<&[u8]>,
     tip: &Option<Tip<'_>>,
 ) -> Result<Vec<u8>, StreamFault>
-    requires { AreBranches (with_head (option_copied head) (branches_of tip.now)) }
-    ensures ok { IfOk result (λ body. body.items ≡ snapshot_text (with_head (option_copied head.entry) (branches_of tip.now))) }
+    requires { AreBranches (with_head (option_copied head) (tip_branches tip.now)) }
+    ensures ok { IfOk result (λ body. body.items ≡ snapshot_text (with_head (option_copied head.entry) (tip_branches tip.now))) }
     ensures err { IfErr result (λ fault. fault ≡ OutOfMemory) }
 {
     let branches = snapshot_branches(alloc, head, tip)?;

@@ -6,7 +6,7 @@ ghost use Rattle.swh_model.specs.Meaning.{tree_after};
 ghost use Rattle.swh_fastload.specs.View.{change_view};
 ghost use Rattle.swh_fastload.specs.Making.{AreIds};
 ghost use Rattle.swh_fastload.specs.declared.fault.StreamFault.TheVariants.{Memory as OutOfMemory};
-ghost use Rattle.swh_fastload.specs.Refusal.{Refuses};
+ghost use Rattle.swh_fastload.specs.Refusal.{RefusesStream};
 ghost use Rattle.swh_fastload.specs.Tree.{tree_of, file_text, IsFolder};
 
 use crate::fault::StreamFault;
@@ -30,7 +30,7 @@ pub fn files_of<'a>(
     requires names { AllByRecursion (λ change. IsFileName change.name) (map change_view changes.now) }
     ensures ok { IfOk result (λ files. tree_after marks.now.entries [] (map change_view changes.now) ≡ Some (tree_of files.entries)) }
     ensures folder { IfOk result (λ files. IsFolder (tree_of files.entries)) }
-    ensures err { IfErr result (Refuses (tree_after marks.now.entries [] (map change_view changes.now) ≡ None)) }
+    ensures err { IfErr result (RefusesStream (tree_after marks.now.entries [] (map change_view changes.now) ≡ None)) }
 {
     let mut files = BTreeMap::new(alloc);
     for change in changes {

@@ -6,15 +6,15 @@ use Rattle.httparse.proofs.GrammarLemmas.{ReadsRequest-append}
 use Rattle.swh_base.specs.declared.request.Request.{Request}
 use Rattle.swh_http.specs.declared.ask.Ask.{Ask}
 use Rattle.swh_http.specs.declared.ask.Ask.TheVariants.{Request as Asked, Refused}
-use Rattle.swh_http.specs.Wire.{BeginsHead, BeginsRequest, BeginsRefusal, BeginsSo, AreAsks}
+use Rattle.swh_http.specs.Wire.{BeginsRequestHead, BeginsRequest, BeginsRefusal, BeginsSo, AreAsks}
 
-head-more : (bytes more : List ℕ) (head : RequestHead) (rest : List ℕ) → BeginsHead bytes head rest → BeginsHead (bytes ++ more) head (rest ++ more)
+head-more : (bytes more : List ℕ) (head : RequestHead) (rest : List ℕ) → BeginsRequestHead bytes head rest → BeginsRequestHead (bytes ++ more) head (rest ++ more)
 head-more bytes more head rest begins = record { reads = ReadsRequest-append bytes head rest more begins.reads; short = begins.short }
 
 request-more : (bytes more : List ℕ) (request : Request) (rest : List ℕ) → BeginsRequest bytes request rest
     → BeginsRequest (bytes ++ more) request (rest ++ more)
 request-more bytes more request rest begins =
-    let P : List ℕ → Type 0 = λ x. BeginsHead (bytes ++ more) begins.head x in
+    let P : List ℕ → Type 0 = λ x. BeginsRequestHead (bytes ++ more) begins.head x in
     record {
       head = begins.head;
       begins = subst P (append_assoc request.body rest more) (head-more bytes more begins.head (request.body ++ rest) begins.begins);

@@ -14,7 +14,7 @@ use Rattle.httparse.specs.Grammar.{is_token_byte, is_uri_byte, is_value_byte, Al
 use Rattle.httparse.proofs.GrammarLemmas.{print_request-append, cons-append}
 use Rattle.swh_http.specs.declared.place.Place.{Place}
 use Rattle.swh_http.specs.declared.place.Place.TheVariants.{Blank, BlankEnd, Method, Space, Target, Version, Minor, LineEnd as AtLineEnd, Feed, Line, LastFeed, Name, Value, Whole, Over, Broken}
-use Rattle.swh_http.specs.Place.{advance, advance_all, place_of, version_byte, GoesOn}
+use Rattle.swh_http.specs.Place.{advance, advance_all, place_of, version_byte, MayContinue}
 
 -- ---- what may follow at each place
 

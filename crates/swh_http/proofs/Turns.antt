@@ -12,14 +12,14 @@ use Rattle.swh_http.specs.declared.ask.Ask.{Ask}
 use Rattle.swh_http.specs.declared.ask.Ask.TheVariants.{Request as Asked, Refused}
 use Rattle.swh_http.specs.declared.place.Place.{Place}
 use Rattle.swh_http.specs.declared.place.Place.TheVariants.{Blank, BlankEnd, Method, Space, Target, Version, Minor, LineEnd as AtLineEnd, Feed, Line, LastFeed, Name, Value, Whole, Over, Broken}
-use Rattle.swh_http.specs.Place.{version_byte, advance, advance_all, place_of, GoesOn, IsWithin}
-use Rattle.swh_http.specs.Wire.{head_limit, fields_of, BeginsHead, BeginsRequest, BeginsRefusal, BeginsSo, IsBroken, IsUnfinished, IsWaiting, AreAsks, held_length}
+use Rattle.swh_http.specs.Place.{version_byte, advance, advance_all, place_of, MayContinue, StartsWithin}
+use Rattle.swh_http.specs.Wire.{head_limit, head_fields, BeginsRequestHead, BeginsRequest, BeginsRefusal, BeginsSo, BeginsNoHead, IsUnfinished, AwaitsBytes, AreAsks, held_length}
 use Rattle.swh_http.specs.declared.state.State.{State}
 use Rattle.swh_http.specs.declared.state.State.TheVariants.{Head, Body, Closed}
 use Rattle.swh_http.specs.declared.head.Framed.{Framed}
-use Rattle.swh_http.specs.Field.{IsTaken}
-use Rattle.swh_http.specs.Framed.{Frames, IsRefused}
-use Rattle.swh_http.specs.Turn.{SoFar, GoesAt, IsReady, IsTurn, StaysClosed, held_of, Turns, asks_with}
+use Rattle.swh_http.specs.Field.{AreTakenFields}
+use Rattle.swh_http.specs.Framed.{Frames, IsRefusedHead}
+use Rattle.swh_http.specs.Turn.{SoFar, GoesAt, MayTakeMore, IsTurn, StaysClosed, held_of, Turns, asks_with}
 use Rattle.swh_http.specs.declared.state.Turn.{Turn}
 use Rattle.swh_http.proofs.Follow.{advance_all-append}
 use Rattle.swh_http.proofs.Stand.{HasTarget, Stands, stands}
@@ -30,7 +30,7 @@ use Rattle.swh_http.proofs.Ends.{no-request, never-request, no-target, may-becom
 pub place-push : (bytes : List ℕ) (b : ℕ) (place : Place) → place_of bytes ≡ place → place_of (bytes ++ b ∷ []) ≡ advance bytes place b
 place-push bytes b place is = advance_all-append [] Blank bytes (b ∷ []) ∙ ap (λ (p : Place). advance bytes p b) is
 
-within-of : (p : Place) (t : List ℕ) → Stands p t → IsWithin (length t) p
+within-of : (p : Place) (t : List ℕ) → Stands p t → StartsWithin (length t) p
 within-of (Target from) t h = omega (arith, h.start, ap length h.text, length-append (print_blank h.blank ++ (h.method ++ 32 ∷ [])) h.target)
 within-of Blank t h = tt
 within-of BlankEnd t h = tt
@@ -48,7 +48,7 @@ within-of Whole t h = tt
 within-of Over t h = tt
 within-of Broken t h = tt
 
-pub within : (bytes : List ℕ) (place : Place) → place_of bytes ≡ place → IsWithin (length bytes) place
+pub within : (bytes : List ℕ) (place : Place) → place_of bytes ≡ place → StartsWithin (length bytes) place
 within bytes place is =
     let P : Place → Type 0 = λ p. Stands p bytes in
     within-of place bytes (subst P is (stands bytes))
@@ -62,7 +62,7 @@ choose : (b : Bool) (p q : Place) → NotOver p → NotOver q → NotOver (if b 
 choose true p q hp hq = hp
 choose false p q hp hq = hq
 
-not-over : (p : Place) (t : List ℕ) (b : ℕ) → GoesOn p → NotOver (advance t p b)
+not-over : (p : Place) (t : List ℕ) (b : ℕ) → MayContinue p → NotOver (advance t p b)
 not-over Blank t b goes = choose (b == 10) Blank (if b == 13 then BlankEnd else (if is_token_byte b then Method else Broken)) tt (choose (b == 13) BlankEnd (if is_token_byte b then Method else Broken) tt (choose (is_token_byte b) Method Broken tt tt))
 not-over BlankEnd t b goes = choose (b == 10) Blank Broken tt tt
 not-over Method t b goes = choose (is_token_byte b) Method (if b == 32 then Space else Broken) tt (choose (b == 32) Space Broken tt tt)
@@ -80,7 +80,7 @@ not-over Whole t b goes = absurd goes
 not-over Over t b goes = absurd goes
 not-over Broken t b goes = absurd goes
 
-goes-on : (p : Place) → NotOver p → (p ≡ Whole → ⊥) → (p ≡ Broken → ⊥) → GoesOn p
+goes-on : (p : Place) → NotOver p → (p ≡ Whole → ⊥) → (p ≡ Broken → ⊥) → MayContinue p
 goes-on Whole over whole broken = whole refl
 goes-on Over over whole broken = over
 goes-on Broken over whole broken = broken refl
@@ -112,7 +112,7 @@ goes-more held place after b at room is whole broken =
 
 unfinished : (held : List ℕ) (place : Place) → GoesAt held place → IsUnfinished held
 unfinished held place at =
-    let P : Place → Type 0 = λ p. GoesOn p in
+    let P : Place → Type 0 = λ p. MayContinue p in
     let goes = subst P (sym at.place_is) at.goes in
     record { none = no-request held goes; some = may-become held goes }
 
@@ -156,7 +156,7 @@ refused-broken bytes held rest i text room more is =
 
 -- ---- what waits
 
-pub waits-head : (bytes : List ℕ) (place : Place) → GoesAt bytes place → IsWaiting bytes
+pub waits-head : (bytes : List ℕ) (place : Place) → GoesAt bytes place → AwaitsBytes bytes
 waits-head bytes place at = inl (at.short, unfinished bytes place at)
 
 -- ---- a head and its body
@@ -165,16 +165,16 @@ head-short : (bytes : List ℕ) (h : RequestHead) → ReadsRequest bytes h [] �
 head-short bytes h reads short = omega (arith, short, ap length reads.1, length-append (print_request h) [])
 
 -- more bytes after a head
-begins-head : (bytes more : List ℕ) (h : RequestHead) → ReadsRequest bytes h [] → length bytes ≤ head_limit → BeginsHead (bytes ++ more) h more
+begins-head : (bytes more : List ℕ) (h : RequestHead) → ReadsRequest bytes h [] → length bytes ≤ head_limit → BeginsRequestHead (bytes ++ more) h more
 begins-head bytes more h reads short = record {
   reads = ReadsRequest-append bytes h [] more reads;
   short = head-short bytes h reads short;
 }
 
-pub refused-head : (held bytes head : List ℕ) (k status : ℕ) → head ≡ held ++ take k bytes → length head ≤ head_limit → IsRefused head status
+pub refused-head : (held bytes head : List ℕ) (k status : ℕ) → head ≡ held ++ take k bytes → length head ≤ head_limit → IsRefusedHead head status
     → BeginsRefusal (held ++ bytes) status
 refused-head held bytes head k status text short refused =
-    let P : List ℕ → Type 0 = λ x. BeginsHead x refused.head (drop k bytes) in
+    let P : List ℕ → Type 0 = λ x. BeginsRequestHead x refused.head (drop k bytes) in
     inr (inr (refused.head, drop k bytes, subst P (sym (joined held head bytes k text)) (begins-head head (drop k bytes) refused.head refused.reads short), refused.refused))
 
 pub turn-after : (held bytes head : List ℕ) (k taken : ℕ) (ask : Option Ask) (state : State) → head ≡ held ++ take k bytes → k ≤ length bytes
@@ -198,25 +198,25 @@ no-body head body rest bytes k taken ask state empty after turn =
 
 -- ---- many turns
 
-pub ready-waits : (state : State) (held : List ℕ) → IsReady state → held_of state ≡ Some held → IsWaiting held
+pub ready-waits : (state : State) (held : List ℕ) → MayTakeMore state → held_of state ≡ Some held → AwaitsBytes held
 ready-waits (Head bytes place) held ready is =
-    let P : List ℕ → Type 0 = λ x. IsWaiting x in
+    let P : List ℕ → Type 0 = λ x. AwaitsBytes x in
     let same : bytes.items ≡ held = cc in
     subst P same (waits-head bytes.items place ready)
 ready-waits (Body head framed body) held ready is =
-    let P : List ℕ → Type 0 = λ x. IsWaiting x in
+    let P : List ℕ → Type 0 = λ x. AwaitsBytes x in
     let same : head.items ++ body.items ≡ held = cc in
     subst P same (inr (ready.0.head, body.items, framed.length, begins-head head.items body.items ready.0.head ready.0.reads ready.1, ready.0.taken, ready.2))
 ready-waits Closed held ready is = cc
 
 -- the bytes that wait are a head's and fewer than a body's
-pub ready-few : (state : State) → IsReady state → held_length (held_of state) < head_limit + body_limit
+pub ready-few : (state : State) → MayTakeMore state → held_length (held_of state) < head_limit + body_limit
 ready-few (Head bytes place) ready = omega (arith, ready.short)
 ready-few (Body head framed body) ready =
     omega (arith, ready.1, ready.2, ready.0.taken.short, length-append head.items body.items)
 ready-few Closed ready = omega arith
 
-rests : (held : List ℕ) → IsWaiting held → AreAsks held [] (Some held)
+rests : (held : List ℕ) → AwaitsBytes held → AreAsks held [] (Some held)
 unfolding AreAsks
 rests held waits = (waits, refl)
 
@@ -230,10 +230,10 @@ unfolding AreAsks
 last bytes status refusal = (refusal, refl, refl)
 
 -- all bytes were taken
-pub done : (whole : List ℕ) (asks : List Ask) (state : State) → IsReady state → SoFar whole asks (held_of state) [] → AreAsks whole asks (held_of state)
+pub done : (whole : List ℕ) (asks : List Ask) (state : State) → MayTakeMore state → SoFar whole asks (held_of state) [] → AreAsks whole asks (held_of state)
 done whole asks state ready so = by-held (held_of state) (λ held is. ready-waits state held ready is) so
   where
-    by-held : (left : Option (List ℕ)) → ((held : List ℕ) → left ≡ Some held → IsWaiting held) → SoFar whole asks left [] → AreAsks whole asks left
+    by-held : (left : Option (List ℕ)) → ((held : List ℕ) → left ≡ Some held → AwaitsBytes held) → SoFar whole asks left [] → AreAsks whole asks left
     by-held None waits so = so
     by-held (Some held) waits so =
         let Q : List ℕ → Type 0 = λ x. AreAsks x [] (Some held) in
@@ -265,13 +265,13 @@ so-more whole asks held rest taken (Some (Refused status)) state so turn =
 abbrev pub IsNext : Option (List ℕ) → List ℕ → Turn → Type 0
 IsNext held rest turn = MatchOption held (StaysClosed rest turn) (λ bytes. IsTurn bytes rest turn)
 
-turn-ready : (held rest : List ℕ) (taken : ℕ) (ask : Option Ask) (state : State) → Turns held rest taken ask state → IsReady state
+turn-ready : (held rest : List ℕ) (taken : ℕ) (ask : Option Ask) (state : State) → Turns held rest taken ask state → MayTakeMore state
 turn-ready held rest taken None state turn = turn.1
 turn-ready held rest taken (Some (Asked request)) state turn = turn.2
 turn-ready held rest taken (Some (Refused status)) state turn = turn.2
 
-pub next-ready : (held : Option (List ℕ)) (rest : List ℕ) (turn : Turn) → IsNext held rest turn → IsReady turn.state
-next-ready None rest turn next = let P : State → Type 0 = λ x. IsReady x in subst P (sym next.closed) tt
+pub next-ready : (held : Option (List ℕ)) (rest : List ℕ) (turn : Turn) → IsNext held rest turn → MayTakeMore turn.state
+next-ready None rest turn next = let P : State → Type 0 = λ x. MayTakeMore x in subst P (sym next.closed) tt
 next-ready (Some bytes) rest turn next = turn-ready bytes rest turn.taken turn.ask turn.state next
 
 pub next-so : (whole : List ℕ) (asks more : List Ask) (held : Option (List ℕ)) (rest after : List ℕ) (turn : Turn)

@@ -12,9 +12,9 @@ use Rattle.swh_http.specs.declared.ask.Ask.TheVariants.{Request as Asked, Refuse
 use Rattle.swh_http.specs.declared.place.Place.{Place}
 use Rattle.swh_http.specs.declared.place.Place.TheVariants.{Blank, BlankEnd, Method, Space, Target, Version, Minor, LineEnd as AtLineEnd, Feed, Line, LastFeed, Name, Value, Whole, Over, Broken}
 use Rattle.swh_base.specs.Text.{IsNumber}
-use Rattle.swh_http.specs.Field.{Pair, AreLength, IsTaken, IsRefusedAs, IsMalformed, HasMany, IsEncoded, IsLong, content_lengths, keeps}
-use Rattle.swh_http.specs.Place.{advance_all, place_of, GoesOn}
-use Rattle.swh_http.specs.Wire.{head_limit, fields_of, BeginsHead, BeginsRequest, BeginsRefusal, BeginsSo, IsBroken, IsUnfinished, IsWaiting, AreAsks}
+use Rattle.swh_http.specs.Field.{Pair, AreLength, AreTakenFields, IsRefusedAs, IsMalformed, HasMany, HasTransferEncoding, IsLong, content_lengths, keeps}
+use Rattle.swh_http.specs.Place.{advance_all, place_of, MayContinue}
+use Rattle.swh_http.specs.Wire.{head_limit, head_fields, BeginsRequestHead, BeginsRequest, BeginsRefusal, BeginsSo, BeginsNoHead, IsUnfinished, AwaitsBytes, AreAsks}
 use Rattle.swh_http.proofs.Ends.{may-become, target-goes-on, whole-head}
 use Rattle.swh_http.proofs.Follow.{advance_all-append, broken, over, place_of-head}
 
@@ -38,11 +38,11 @@ same-cut a r b q same long =
 -- ---- a head may go on, or not
 
 -- where more bytes may go on, fewer could
-goes-back : (p : Place) (before bs : List ℕ) → GoesOn (advance_all before p bs) → GoesOn p
+goes-back : (p : Place) (before bs : List ℕ) → MayContinue (advance_all before p bs) → MayContinue p
 goes-back Whole before [] goes = goes
-goes-back Whole before (b ∷ bs) goes = let P : Place → Type 0 = λ p. GoesOn p in subst P (over bs (before ++ b ∷ [])) goes
-goes-back Over before bs goes = let P : Place → Type 0 = λ p. GoesOn p in subst P (over bs before) goes
-goes-back Broken before bs goes = let P : Place → Type 0 = λ p. GoesOn p in subst P (broken bs before) goes
+goes-back Whole before (b ∷ bs) goes = let P : Place → Type 0 = λ p. MayContinue p in subst P (over bs (before ++ b ∷ [])) goes
+goes-back Over before bs goes = let P : Place → Type 0 = λ p. MayContinue p in subst P (over bs before) goes
+goes-back Broken before bs goes = let P : Place → Type 0 = λ p. MayContinue p in subst P (broken bs before) goes
 goes-back Blank before bs goes = tt
 goes-back BlankEnd before bs goes = tt
 goes-back Method before bs goes = tt
@@ -57,13 +57,13 @@ goes-back LastFeed before bs goes = tt
 goes-back Name before bs goes = tt
 goes-back Value before bs goes = tt
 
-front-goes : (front more : List ℕ) → GoesOn (place_of (front ++ more)) → GoesOn (place_of front)
+front-goes : (front more : List ℕ) → MayContinue (place_of (front ++ more)) → MayContinue (place_of front)
 front-goes front more goes =
-    let P : Place → Type 0 = λ p. GoesOn p in
+    let P : Place → Type 0 = λ p. MayContinue p in
     goes-back (place_of front) front more (subst P (advance_all-append [] Blank front more) goes)
 
 -- where more bytes make a whole head, and these are none, the head goes on
-goes-to : (p : Place) (before more : List ℕ) → (p ≡ Whole → ⊥) → advance_all before p more ≡ Whole → GoesOn p
+goes-to : (p : Place) (before more : List ℕ) → (p ≡ Whole → ⊥) → advance_all before p more ≡ Whole → MayContinue p
 goes-to Whole before more none ends = absurd (none refl)
 goes-to Over before more none ends = let e = sym (over more before) ∙ ends in cc
 goes-to Broken before more none ends = let e = sym (broken more before) ∙ ends in cc
@@ -81,7 +81,7 @@ goes-to LastFeed before more none ends = tt
 goes-to Name before more none ends = tt
 goes-to Value before more none ends = tt
 
-unfinished-goes : (bytes : List ℕ) → IsUnfinished bytes → GoesOn (place_of bytes)
+unfinished-goes : (bytes : List ℕ) → IsUnfinished bytes → MayContinue (place_of bytes)
 unfinished-goes bytes so = elim (so.some) [
   | inl ends ↦
       let whole : place_of (bytes ++ ends.0) ≡ Whole = ap place_of ends.2.1 ∙ place_of-head ends.1 ends.2.0 in
@@ -91,7 +91,7 @@ unfinished-goes bytes so = elim (so.some) [
   | inr target ↦ target-goes-on bytes target
 ]
 
-broken-stops : (front : List ℕ) → IsBroken front → GoesOn (place_of front) → ⊥
+broken-stops : (front : List ℕ) → BeginsNoHead front → MayContinue (place_of front) → ⊥
 broken-stops front so goes = elim (may-become front goes) [
   | inl ends ↦ so.never ends.0 ends.1 [] ends.2
   | inr target ↦ so.no_target target
@@ -101,24 +101,24 @@ broken-stops front so goes = elim (may-become front goes) [
 
 -- a head, and a front that begins none
 head-broken : (bytes : List ℕ) (h : RequestHead) (rest front more : List ℕ) → ReadsRequest bytes h rest → bytes ≡ front ++ more
-    → IsBroken front → ⊥
+    → BeginsNoHead front → ⊥
 head-broken bytes h rest front more reads text so = so.never more h rest (reads.0, sym text ∙ reads.1)
 
 -- a head, and a front of the limit that is not whole
-head-open : (bytes : List ℕ) (h : RequestHead) (rest front more : List ℕ) → BeginsHead bytes h rest → bytes ≡ front ++ more
+head-open : (bytes : List ℕ) (h : RequestHead) (rest front more : List ℕ) → BeginsRequestHead bytes h rest → bytes ≡ front ++ more
     → length front ≡ head_limit → IsUnfinished front → ⊥
 head-open bytes h rest front more begins text full so =
     let cut = shorter bytes (print_request h) rest front more begins.reads.1 text (omega (arith, begins.short, full)) in
     so.none h cut.0 (begins.reads.0, cut.1)
 
 -- a front that begins no head, of bytes that may become one
-open-broken : (bytes front more : List ℕ) → bytes ≡ front ++ more → IsUnfinished bytes → IsBroken front → ⊥
+open-broken : (bytes front more : List ℕ) → bytes ≡ front ++ more → IsUnfinished bytes → BeginsNoHead front → ⊥
 open-broken bytes front more text so stops =
-    let P : List ℕ → Type 0 = λ x. GoesOn (place_of x) in
+    let P : List ℕ → Type 0 = λ x. MayContinue (place_of x) in
     broken-stops front stops (front-goes front more (subst P text (unfinished-goes bytes so)))
 
 -- two refusals before the end of a head
-open-broken-fronts : (bytes front more other rest : List ℕ) → BeginsSo bytes front more → IsBroken front → bytes ≡ other ++ rest
+open-broken-fronts : (bytes front more other rest : List ℕ) → BeginsSo bytes front more → BeginsNoHead front → bytes ≡ other ++ rest
     → length other ≡ head_limit → IsUnfinished other → ⊥
 open-broken-fronts bytes front more other rest so stops text full goes =
     let cut = shorter bytes front more other rest so.text text (omega (arith, so.short, full)) in
@@ -134,7 +134,7 @@ lengths-unique [] n m a b = a.none refl ∙ sym (b.none refl)
 lengths-unique (t ∷ ts) n m a b =
     one-length t n m (All-head (λ text. IsNumber text n) t ts a.each) (All-head (λ text. IsNumber text m) t ts b.each)
 
-taken-not-refused : (fs : List Pair) (n status : ℕ) → IsTaken fs n → IsRefusedAs fs status → ⊥
+taken-not-refused : (fs : List Pair) (n status : ℕ) → AreTakenFields fs n → IsRefusedAs fs status → ⊥
 taken-not-refused fs n status taken (inl (is, malformed)) = malformed n taken.lengths
 taken-not-refused fs n status taken (inr (inl (is, formed, many))) = omega (arith, many, taken.few)
 taken-not-refused fs n status taken (inr (inr (inl (is, formed, few, coded)))) = omega (arith, coded, ap length taken.plain)
@@ -163,29 +163,29 @@ one-refusal fs a b (inr (inr (inr (is, formed, few, plain, long)))) (inr (inr (i
 -- ---- a request, a refusal, or what waits
 
 -- along the head that both read
-taken-same : (h k : RequestHead) (n : ℕ) → h ≡ k → IsTaken (fields_of h) n → IsTaken (fields_of k) n
-taken-same h k n same taken = let P : RequestHead → Type 0 = λ x. IsTaken (fields_of x) n in subst P same taken
+taken-same : (h k : RequestHead) (n : ℕ) → h ≡ k → AreTakenFields (head_fields h) n → AreTakenFields (head_fields k) n
+taken-same h k n same taken = let P : RequestHead → Type 0 = λ x. AreTakenFields (head_fields x) n in subst P same taken
 
-refused-same : (h k : RequestHead) (status : ℕ) → h ≡ k → IsRefusedAs (fields_of h) status → IsRefusedAs (fields_of k) status
-refused-same h k status same refused = let P : RequestHead → Type 0 = λ x. IsRefusedAs (fields_of x) status in subst P same refused
+refused-same : (h k : RequestHead) (status : ℕ) → h ≡ k → IsRefusedAs (head_fields h) status → IsRefusedAs (head_fields k) status
+refused-same h k status same refused = let P : RequestHead → Type 0 = λ x. IsRefusedAs (head_fields x) status in subst P same refused
 
-one-head : (bytes : List ℕ) (h k : RequestHead) (r q : List ℕ) → BeginsHead bytes h r → BeginsHead bytes k q → (h ≡ k) × (r ≡ q)
+one-head : (bytes : List ℕ) (h k : RequestHead) (r q : List ℕ) → BeginsRequestHead bytes h r → BeginsRequestHead bytes k q → (h ≡ k) × (r ≡ q)
 one-head bytes h k r q a b = request_unique bytes h k r q a.reads b.reads
 
-one-taken : (h k : RequestHead) (n m : ℕ) → h ≡ k → IsTaken (fields_of h) n → IsTaken (fields_of k) m → n ≡ m
-one-taken h k n m same a b = lengths-unique (content_lengths (fields_of k)) n m (taken-same h k n same a).lengths b.lengths
+one-taken : (h k : RequestHead) (n m : ℕ) → h ≡ k → AreTakenFields (head_fields h) n → AreTakenFields (head_fields k) m → n ≡ m
+one-taken h k n m same a b = lengths-unique (content_lengths (head_fields k)) n m (taken-same h k n same a).lengths b.lengths
 
-waits-no-head : (bytes : List ℕ) (h : RequestHead) (rest : List ℕ) → IsUnfinished bytes → BeginsHead bytes h rest → ⊥
+waits-no-head : (bytes : List ℕ) (h : RequestHead) (rest : List ℕ) → IsUnfinished bytes → BeginsRequestHead bytes h rest → ⊥
 waits-no-head bytes h rest so begins = so.none h rest begins.reads
 
-waits-no-request : (bytes : List ℕ) (request : Request) (rest : List ℕ) → IsWaiting bytes → BeginsRequest bytes request rest → ⊥
+waits-no-request : (bytes : List ℕ) (request : Request) (rest : List ℕ) → AwaitsBytes bytes → BeginsRequest bytes request rest → ⊥
 waits-no-request bytes request rest (inl (short, so)) begins = waits-no-head bytes begins.head (request.body ++ rest) so begins.begins
 waits-no-request bytes request rest (inr (h, body, n, head, taken, less)) begins =
     let same = one-head bytes h begins.head body (request.body ++ rest) head begins.begins in
     let long = one-taken h begins.head n (length request.body) same.0 taken begins.taken in
     omega (arith, less, long, ap length same.1, length-append request.body rest)
 
-waits-no-refusal : (bytes : List ℕ) (status : ℕ) → IsWaiting bytes → BeginsRefusal bytes status → ⊥
+waits-no-refusal : (bytes : List ℕ) (status : ℕ) → AwaitsBytes bytes → BeginsRefusal bytes status → ⊥
 waits-no-refusal bytes status (inl (short, so)) (inl (front, more, is, text, stops)) = open-broken bytes front more text.text so stops
 waits-no-refusal bytes status (inl (short, so)) (inr (inl (front, more, is, text, goes, full, some))) =
     omega (arith, short, full, some, ap length text.text, length-append front more)
@@ -196,7 +196,7 @@ waits-no-refusal bytes status (inr (k, body, n, head, taken, less)) (inr (inl (f
     head-open bytes k body front more head text.text full goes
 waits-no-refusal bytes status (inr (k, body, n, head, taken, less)) (inr (inr (h, rest, begins, refused))) =
     let same = one-head bytes k h body rest head begins in
-    taken-not-refused (fields_of h) n status (taken-same k h n same.0 taken) refused
+    taken-not-refused (head_fields h) n status (taken-same k h n same.0 taken) refused
 
 request-no-refusal : (bytes : List ℕ) (request : Request) (rest : List ℕ) (status : ℕ) → BeginsRequest bytes request rest
     → BeginsRefusal bytes status → ⊥
@@ -206,7 +206,7 @@ request-no-refusal bytes request rest status begins (inr (inl (front, more, is, 
     head-open bytes begins.head (request.body ++ rest) front more begins.begins text.text full goes
 request-no-refusal bytes request rest status begins (inr (inr (h, after, head, refused))) =
     let same = one-head bytes begins.head h (request.body ++ rest) after begins.begins head in
-    taken-not-refused (fields_of h) (length request.body) status (taken-same begins.head h (length request.body) same.0 begins.taken) refused
+    taken-not-refused (head_fields h) (length request.body) status (taken-same begins.head h (length request.body) same.0 begins.taken) refused
 
 refusal-unique : (bytes : List ℕ) (a b : ℕ) → BeginsRefusal bytes a → BeginsRefusal bytes b → a ≡ b
 refusal-unique bytes a b (inl (f, m, is, text, stops)) (inl (g, n, so, other, ends)) = is ∙ sym so
@@ -225,7 +225,7 @@ refusal-unique bytes a b (inr (inr (h, rest, begins, refused))) (inr (inl (g, n,
     absurd (head-open bytes h rest g n begins other.text full goes)
 refusal-unique bytes a b (inr (inr (h, rest, begins, refused))) (inr (inr (k, after, head, other))) =
     let same = one-head bytes h k rest after begins head in
-    one-refusal (fields_of k) a b (refused-same h k a same.0 refused) other
+    one-refusal (head_fields k) a b (refused-same h k a same.0 refused) other
 
 request-unique : (bytes : List ℕ) (a b : Request) (r q : List ℕ) → BeginsRequest bytes a r → BeginsRequest bytes b q → (a ≡ b) × (r ≡ q)
 request-unique bytes a b r q x y =
@@ -234,7 +234,7 @@ request-unique bytes a b r q x y =
     let cut = same-cut a.body r b.body q same.1 long in
     let method : a.method ≡ b.method = x.method ∙ ap (λ (h : RequestHead). h.method) same.0 ∙ sym y.method in
     let path : a.path ≡ b.path = x.path ∙ ap (λ (h : RequestHead). h.target) same.0 ∙ sym y.path in
-    let keep : a.keep ≡ b.keep = x.keep ∙ ap (λ (h : RequestHead). keeps h.minor (fields_of h)) same.0 ∙ sym y.keep in
+    let keep : a.keep ≡ b.keep = x.keep ∙ ap (λ (h : RequestHead). keeps h.minor (head_fields h)) same.0 ∙ sym y.keep in
     (λ i. record { method = method i; path = path i; body = cut.0 i; keep = keep i }, cut.1)
 
 -- ---- all that the bytes ask

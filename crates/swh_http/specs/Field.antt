@@ -63,8 +63,8 @@ IsMalformed fs = (n : ℕ) → AreLength (content_lengths fs) n → ⊥
 abbrev pub HasMany : List Pair → Type 0
 HasMany fs = field_limit < length fs
 
-abbrev pub IsEncoded : List Pair → Type 0
-IsEncoded fs = 0 < length (transfer_codings fs)
+abbrev pub HasTransferEncoding : List Pair → Type 0
+HasTransferEncoding fs = 0 < length (transfer_codings fs)
 
 abbrev pub IsLong : List Pair → Type 0
 IsLong fs = (n : ℕ) × AreLength (content_lengths fs) n × (body_limit < n)
@@ -74,11 +74,11 @@ abbrev pub IsRefusedAs : List Pair → ℕ → Type 0
 IsRefusedAs fs status =
     ((status ≡ 400) × IsMalformed fs)
     ⊎ (((status ≡ 431) × (IsMalformed fs → ⊥) × HasMany fs)
-    ⊎ (((status ≡ 501) × (IsMalformed fs → ⊥) × (HasMany fs → ⊥) × IsEncoded fs)
-    ⊎ ((status ≡ 413) × (IsMalformed fs → ⊥) × (HasMany fs → ⊥) × (IsEncoded fs → ⊥) × IsLong fs)))
+    ⊎ (((status ≡ 501) × (IsMalformed fs → ⊥) × (HasMany fs → ⊥) × HasTransferEncoding fs)
+    ⊎ ((status ≡ 413) × (IsMalformed fs → ⊥) × (HasMany fs → ⊥) × (HasTransferEncoding fs → ⊥) × IsLong fs)))
 
 -- A whole head with these fields is taken, and its body has this length.
-pub record IsTaken (fs : List Pair) (n : ℕ) : Type 0 where
+pub record AreTakenFields (fs : List Pair) (n : ℕ) : Type 0 where
   pub lengths : AreLength (content_lengths fs) n
   pub few : length fs ≤ field_limit
   pub plain : transfer_codings fs ≡ []

@@ -4,8 +4,8 @@ use Rattle.httparse.specs.Grammar.{RequestHead, ReadsRequest}
 use Rattle.httparse.specs.Spans.{IsRequestWithin, IsHeaderWithin, header_bytes, span_bytes, IsWithin}
 use Rattle.httparse.specs.declared.spans.HeaderSpan.{HeaderSpan}
 use Rattle.httparse.specs.declared.spans.RequestSpans.{RequestSpans}
-use Rattle.swh_http.specs.Field.{IsTaken, IsRefusedAs, keeps}
-use Rattle.swh_http.specs.Wire.{fields_of}
+use Rattle.swh_http.specs.Field.{AreTakenFields, IsRefusedAs, keeps}
+use Rattle.swh_http.specs.Wire.{head_fields}
 use Rattle.swh_http.specs.declared.head.Framed.{Framed}
 
 -- The bytes are a head, and nothing follows it.
@@ -16,16 +16,16 @@ IsWholeHead bytes = (head : RequestHead) × ReadsRequest bytes head []
 pub record Frames (bytes : List ℕ) (framed : Framed) : Type 0 where
   pub head : RequestHead
   pub reads : ReadsRequest bytes head []
-  pub taken : IsTaken (fields_of head) framed.length
+  pub taken : AreTakenFields (head_fields head) framed.length
   pub method : framed.method ≡ head.method
   pub path : framed.path ≡ head.target
-  pub keep : framed.keep ≡ keeps head.minor (fields_of head)
+  pub keep : framed.keep ≡ keeps head.minor (head_fields head)
 
 -- The head is refused with this status.
-pub record IsRefused (bytes : List ℕ) (status : ℕ) : Type 0 where
+pub record IsRefusedHead (bytes : List ℕ) (status : ℕ) : Type 0 where
   pub head : RequestHead
   pub reads : ReadsRequest bytes head []
-  pub refused : IsRefusedAs (fields_of head) status
+  pub refused : IsRefusedAs (head_fields head) status
 
 -- The spans cover the parts of a head.
 pub record Found (bytes : List ℕ) (found : RequestSpans) (headers : List HeaderSpan) : Type 0 where
@@ -37,4 +37,4 @@ pub record Found (bytes : List ℕ) (found : RequestSpans) (headers : List Heade
   pub method : span_bytes bytes found.method ≡ head.method
   pub path : span_bytes bytes found.path ≡ head.target
   pub minor : found.version ≡ head.minor
-  pub fields : map (header_bytes bytes) headers ≡ fields_of head
+  pub fields : map (header_bytes bytes) headers ≡ head_fields head

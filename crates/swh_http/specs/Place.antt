@@ -45,13 +45,13 @@ abbrev pub place_of : List ℕ → Place
 place_of bytes = advance_all [] Blank bytes
 
 -- A head that stands here may go on: it is neither whole nor broken.
-abbrev pub GoesOn : Place → Type 0
-GoesOn Whole = ⊥
-GoesOn Over = ⊥
-GoesOn Broken = ⊥
-GoesOn _ = Unit {0}
+abbrev pub MayContinue : Place → Type 0
+MayContinue Whole = ⊥
+MayContinue Over = ⊥
+MayContinue Broken = ⊥
+MayContinue _ = Unit {0}
 
 -- The target's start lies within so many bytes.
-abbrev pub IsWithin : ℕ → Place → Type 0
-IsWithin n (Target from) = from ≤ n
-IsWithin n _ = Unit {0}
+abbrev pub StartsWithin : ℕ → Place → Type 0
+StartsWithin n (Target from) = from ≤ n
+StartsWithin n _ = Unit {0}

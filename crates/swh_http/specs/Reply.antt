@@ -20,7 +20,7 @@ type_line json =
 abbrev pub closing : Bool → List ℕ
 closing keep = if keep then [] else codes "Connection: close\r\n"
 
-unfoldable pub bytes_of : Reply → Bool → List ℕ
-bytes_of reply keep =
+unfoldable pub reply_text : Reply → Bool → List ℕ
+reply_text reply keep =
     status_line reply.status ++ length_line (length reply.body) ++ type_line reply.json ++ closing keep
     ++ codes "\r\n" ++ reply.body

@@ -9,7 +9,7 @@ use Rattle.swh_http.specs.declared.state.Turn.{Turn}
 use Rattle.swh_http.specs.declared.state.HeadEnd.{HeadEnd}
 use Rattle.swh_http.specs.declared.state.HeadEnd.TheVariants.{Waits, Whole, Refused as NoHead}
 use Rattle.swh_http.specs.Framed.{Frames, IsWholeHead}
-use Rattle.swh_http.specs.Place.{place_of, GoesOn}
+use Rattle.swh_http.specs.Place.{place_of, MayContinue}
 use Rattle.swh_http.specs.Wire.{head_limit, AreAsks, BeginsRequest, BeginsRefusal}
 
 -- the bytes that wait for more; none once a refusal was given
@@ -21,15 +21,15 @@ held_of Closed = None
 -- The bytes of a head end at this place, and may go on.
 pub record GoesAt (bytes : List ℕ) (place : Place) : Type 0 where
   pub place_is : place_of bytes ≡ place
-  pub goes : GoesOn place
+  pub goes : MayContinue place
   pub short : length bytes ≤ head_limit
 
 -- A session may go on so.
-abbrev pub IsReady : State → Type 0
-IsReady (Head bytes place) = GoesAt bytes.items place
-IsReady (Body head framed body) =
+abbrev pub MayTakeMore : State → Type 0
+MayTakeMore (Head bytes place) = GoesAt bytes.items place
+MayTakeMore (Body head framed body) =
     Frames head.items framed × (length head.items ≤ head_limit) × (length body.items < framed.length)
-IsReady Closed = Unit {0}
+MayTakeMore Closed = Unit {0}
 
 -- what the bytes of a head and more bytes come to
 abbrev pub IsHeadEnd : List ℕ → List ℕ → HeadEnd → Type 0
@@ -41,11 +41,11 @@ IsHeadEnd bytes rest (NoHead status) = BeginsRefusal (bytes ++ rest) status
 
 -- what held bytes and more bytes come to
 abbrev pub Turns : List ℕ → List ℕ → ℕ → Option Ask → State → Type 0
-Turns held rest taken None state = (taken ≡ length rest) × IsReady state × (held_of state ≡ Some (held ++ rest))
+Turns held rest taken None state = (taken ≡ length rest) × MayTakeMore state × (held_of state ≡ Some (held ++ rest))
 Turns held rest taken (Some (Asked request)) state =
-    (taken ≤ length rest) × BeginsRequest (held ++ rest) request (drop taken rest) × IsReady state × (held_of state ≡ Some [])
+    (taken ≤ length rest) × BeginsRequest (held ++ rest) request (drop taken rest) × MayTakeMore state × (held_of state ≡ Some [])
 Turns held rest taken (Some (Refused status)) state =
-    (taken ≡ length rest) × BeginsRefusal (held ++ rest) status × IsReady state × (held_of state ≡ None)
+    (taken ≡ length rest) × BeginsRefusal (held ++ rest) status × MayTakeMore state × (held_of state ≡ None)
 
 abbrev pub IsTurn : List ℕ → List ℕ → Turn → Type 0
 IsTurn held rest turn = Turns held rest turn.taken turn.ask turn.state

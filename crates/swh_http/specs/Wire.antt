@@ -3,7 +3,7 @@ use Rattle.std.specs.Prelude.{◌≡◌, ◌⊎◌, ℕ, ◌<◌, ◌≤◌, Lis
 use Rattle.httparse.specs.Grammar.{RequestHead, print_request, ReadsRequest, HasNoRequest, NeverHasRequest, MayBecomeRequest, EndsInTarget}
 use Rattle.httparse.specs.Spans.{name_and_value}
 use Rattle.swh_base.specs.declared.request.Request.{Request}
-use Rattle.swh_http.specs.Field.{Pair, IsTaken, IsRefusedAs, keeps}
+use Rattle.swh_http.specs.Field.{Pair, AreTakenFields, IsRefusedAs, keeps}
 use Rattle.swh_http.specs.declared.ask.Ask.{Ask}
 use Rattle.swh_http.specs.declared.ask.Ask.TheVariants.{Request as Asked, Refused}
 
@@ -11,22 +11,22 @@ use Rattle.swh_http.specs.declared.ask.Ask.TheVariants.{Request as Asked, Refuse
 abbrev pub head_limit : ℕ
 head_limit = 16384
 
-abbrev pub fields_of : RequestHead → List Pair
-fields_of head = map name_and_value head.fields
+abbrev pub head_fields : RequestHead → List Pair
+head_fields head = map name_and_value head.fields
 
 -- The bytes begin with a whole head of at most so many bytes.
-pub record BeginsHead (bytes : List ℕ) (head : RequestHead) (rest : List ℕ) : Type 0 where
+pub record BeginsRequestHead (bytes : List ℕ) (head : RequestHead) (rest : List ℕ) : Type 0 where
   pub reads : ReadsRequest bytes head rest
   pub short : length (print_request head) ≤ head_limit
 
 -- The bytes begin with this request: a head, and as many bytes as it says.
 pub record BeginsRequest (bytes : List ℕ) (request : Request) (rest : List ℕ) : Type 0 where
   pub head : RequestHead
-  pub begins : BeginsHead bytes head (request.body ++ rest)
-  pub taken : IsTaken (fields_of head) (length request.body)
+  pub begins : BeginsRequestHead bytes head (request.body ++ rest)
+  pub taken : AreTakenFields (head_fields head) (length request.body)
   pub method : request.method ≡ head.method
   pub path : request.path ≡ head.target
-  pub keep : request.keep ≡ keeps head.minor (fields_of head)
+  pub keep : request.keep ≡ keeps head.minor (head_fields head)
 
 -- The bytes are no whole head yet, and may become one.
 pub record IsUnfinished (bytes : List ℕ) : Type 0 where
@@ -34,7 +34,7 @@ pub record IsUnfinished (bytes : List ℕ) : Type 0 where
   pub some : MayBecomeRequest bytes
 
 -- The bytes begin no head, whatever follows them.
-pub record IsBroken (bytes : List ℕ) : Type 0 where
+pub record BeginsNoHead (bytes : List ℕ) : Type 0 where
   pub never : NeverHasRequest bytes
   pub no_target : EndsInTarget bytes → ⊥
 
@@ -46,21 +46,21 @@ pub record BeginsSo (bytes front rest : List ℕ) : Type 0 where
 -- The bytes begin with what is refused with this status.
 abbrev pub BeginsRefusal : List ℕ → ℕ → Type 0
 BeginsRefusal bytes status =
-    ((front : List ℕ) × (rest : List ℕ) × (status ≡ 400) × BeginsSo bytes front rest × IsBroken front)
+    ((front : List ℕ) × (rest : List ℕ) × (status ≡ 400) × BeginsSo bytes front rest × BeginsNoHead front)
     ⊎ (((front : List ℕ) × (rest : List ℕ) × (status ≡ 431) × BeginsSo bytes front rest × IsUnfinished front
     × (length front ≡ head_limit) × (0 < length rest))
-    ⊎ ((head : RequestHead) × (rest : List ℕ) × BeginsHead bytes head rest × IsRefusedAs (fields_of head) status))
+    ⊎ ((head : RequestHead) × (rest : List ℕ) × BeginsRequestHead bytes head rest × IsRefusedAs (head_fields head) status))
 
 -- The bytes are a head without its end, or a head and a body without its end.
-abbrev pub IsWaiting : List ℕ → Type 0
-IsWaiting bytes =
+abbrev pub AwaitsBytes : List ℕ → Type 0
+AwaitsBytes bytes =
     ((length bytes ≤ head_limit) × IsUnfinished bytes)
-    ⊎ ((head : RequestHead) × (rest : List ℕ) × (n : ℕ) × BeginsHead bytes head rest × IsTaken (fields_of head) n
+    ⊎ ((head : RequestHead) × (rest : List ℕ) × (n : ℕ) × BeginsRequestHead bytes head rest × AreTakenFields (head_fields head) n
     × (length rest < n))
 
 -- What the bytes ask, and the bytes that wait for more; none wait after a refusal.
 unfoldable pub AreAsks : List ℕ → List Ask → Option (List ℕ) → Type 0
-AreAsks bytes [] left = IsWaiting bytes × (left ≡ Some bytes)
+AreAsks bytes [] left = AwaitsBytes bytes × (left ≡ Some bytes)
 AreAsks bytes (Asked request ∷ asks) left =
     (rest : List ℕ) × BeginsRequest bytes request rest × AreAsks rest asks left
 AreAsks bytes (Refused status ∷ asks) left = BeginsRefusal bytes status × (asks ≡ []) × (left ≡ None)

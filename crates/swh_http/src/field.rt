@@ -6,7 +6,7 @@ ghost use Rattle.std.specs.Str.{str_eq_ignore_ascii_case};
 ghost use Rattle.std.specs.List.{list_any, list_all};
 ghost use Rattle.std.specs.Borrow.{Bor};
 ghost use Rattle.swh_base.specs.Text.{IsNumber};
-ghost use Rattle.swh_http.specs.Field.{values, AreLength, is_close, has_close, IsTaken, IsRefusedAs};
+ghost use Rattle.swh_http.specs.Field.{values, AreLength, is_close, has_close, AreTakenFields, IsRefusedAs};
 
 use httparse::spans::HeaderSpan;
 use std::alloc::Global;

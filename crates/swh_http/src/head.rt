@@ -1,8 +1,8 @@
 //! A whole head: what it says of the body, and whether it is taken.
 ghost use Rattle.std.specs.Prelude.{◌≡◌, ◌==◌, ◌&&◌, not, ◌≤◌, ℕ, ◌<◌, ◌*◌, ◌/◌, All, IfOk, IfSome, IfNone, MatchResult, List, length, map, take};
 ghost use Rattle.httparse.specs.Spans.{IsHeaderWithin, IsRequestWithin, header_bytes};
-ghost use Rattle.swh_http.specs.Field.{IsTaken, IsRefusedAs, keeps};
-ghost use Rattle.swh_http.specs.Framed.{Frames, IsRefused, IsWholeHead, Found};
+ghost use Rattle.swh_http.specs.Field.{AreTakenFields, IsRefusedAs, keeps};
+ghost use Rattle.swh_http.specs.Framed.{Frames, IsRefusedHead, IsWholeHead, Found};
 
 use crate::field::{asks_close, common_length, values_of};
 use httparse::Status;
@@ -26,7 +26,7 @@ pub struct Framed {
 // The length of the body, or the status with which the head is refused.
 fn judge(alloc: Global, head: &[u8], headers: &[HeaderSpan]) -> Result<Result<u64, u16>, Memory>
     requires { All (IsHeaderWithin (length head.now)) headers.now }
-    ensures { IfOk result (λ r. MatchResult r (IsTaken (map (header_bytes head.now) headers.now)) (IsRefusedAs (map (header_bytes head.now) headers.now))) }
+    ensures { IfOk result (λ r. MatchResult r (AreTakenFields (map (header_bytes head.now) headers.now)) (IsRefusedAs (map (header_bytes head.now) headers.now))) }
 {
     let lengths = values_of(alloc, head, headers, b"content-length")?;
     let Some(length) = common_length(lengths.as_slice()) else {
@@ -68,7 +68,7 @@ fn frame_of(
     headers: &[HeaderSpan],
 ) -> Result<Result<Framed, u16>, Memory>
     requires found { Found head.now found.now headers.now }
-    ensures { IfOk result (λ r. MatchResult r (Frames head.now) (IsRefused head.now)) }
+    ensures { IfOk result (λ r. MatchResult r (Frames head.now) (IsRefusedHead head.now)) }
 {
     match judge(alloc, head, headers)? {
         Ok(length) => Ok(Ok(Framed {
@@ -84,7 +84,7 @@ fn frame_of(
 /// What a whole head says, or the status with which it is refused.
 pub fn frame(alloc: Global, head: &[u8]) -> Result<Result<Framed, u16>, Memory>
     requires { IsWholeHead head.now }
-    ensures { IfOk result (λ r. MatchResult r (Frames head.now) (IsRefused head.now)) }
+    ensures { IfOk result (λ r. MatchResult r (Frames head.now) (IsRefusedHead head.now)) }
 {
     let mut spans = vec![in alloc; EMPTY_HEADER_SPAN; head.len() / 3]?;
     let headers = spans.as_mut_slice();

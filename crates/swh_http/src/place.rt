@@ -2,7 +2,7 @@
 ghost use Rattle.std.specs.Prelude.{◌≡◌, ◌≤◌, ◌==◌, ◌||◌, [], length, if◌then◌else◌};
 ghost use Rattle.std.specs.Str.{is_utf8};
 ghost use Rattle.httparse.specs.Grammar.{is_token_byte, is_uri_byte, is_value_byte};
-ghost use Rattle.swh_http.specs.Place.{advance as place_after, version_byte, IsWithin};
+ghost use Rattle.swh_http.specs.Place.{advance as place_after, version_byte, StartsWithin};
 
 /// A place in the head's grammar.
 #[derive(Clone, Copy, Debug)]
@@ -198,7 +198,7 @@ fn in_value(byte: u8) -> Place
 
 /// Where this byte leads, after these bytes of the head.
 pub fn advance(before: &[u8], place: Place, byte: u8) -> Place
-    requires { IsWithin (length before.now) place }
+    requires { StartsWithin (length before.now) place }
     ensures { result ≡ place_after before.now place byte }
 {
     match place {

@@ -1,7 +1,7 @@
 //! The bytes of a reply.
 ghost use Rattle.std.specs.Prelude.{◌≡◌, ◌++◌, IfOk, OnOk, decimal};
 ghost use Rattle.http.specs.StatusCode.{IsStatusCode};
-ghost use Rattle.swh_http.specs.Reply.{bytes_of, phrase_of, closing, status_line, length_line, type_line};
+ghost use Rattle.swh_http.specs.Reply.{reply_text, phrase_of, closing, status_line, length_line, type_line};
 
 use http::StatusCode;
 use itoa::Buffer;
@@ -65,7 +65,7 @@ fn closing(keep: bool) -> &'static [u8]
 /// The bytes of a reply, whose status is a number of three digits. A connection that is not kept is said to close.
 pub fn reply_bytes(alloc: Global, reply: &Reply, keep: bool) -> Result<Vec<u8>, Memory>
     requires { IsStatusCode reply.now.status }
-    ensures { IfOk result (λ bytes. bytes.items ≡ bytes_of reply.now keep) }
+    ensures { IfOk result (λ bytes. bytes.items ≡ reply_text reply.now keep) }
 {
     let body = reply.body.as_slice();
     let mut text = Vec::new(alloc);

@@ -19,15 +19,15 @@ impl Model for Session {
 
     ghost Value = { Option (List ℕ) };
 
-    ghost use Rattle.swh_http.specs.Turn.{held_of, IsReady};
+    ghost use Rattle.swh_http.specs.Turn.{held_of, MayTakeMore};
 
     ghost view = { λ s. held_of s.state };
 
-    ghost invariant = { λ s. IsReady s.state };
+    ghost invariant = { λ s. MayTakeMore s.state };
 }
 
 ghost use Rattle.std.specs.Prelude.{◌≡◌, ◌++◌, ℕ, List, [], Some, None, IfOk, OnOk};
-ghost use Rattle.swh_http.specs.Turn.{held_of, IsReady, asks_with};
+ghost use Rattle.swh_http.specs.Turn.{held_of, MayTakeMore, asks_with};
 ghost use Rattle.swh_http.specs.Wire.{AreAsks, held_length};
 
 // One more ask, where there is one.
@@ -43,8 +43,8 @@ fn push_ask(asks: &mut Vec<Ask>, ask: Option<Ask>) -> Result<(), Memory>
 
 // All that the bytes ask, and what waits then.
 fn read(alloc: Global, state: State, piece: &[u8]) -> Result<(Vec<Ask>, State), Memory>
-    requires { IsReady state }
-    ensures ready { IfOk result (λ r. IsReady r.1) }
+    requires { MayTakeMore state }
+    ensures ready { IfOk result (λ r. MayTakeMore r.1) }
     ensures open { IfOk result (λ r. (held : List ℕ) → held_of state ≡ Some held → AreAsks (held ++ piece.now) r.0.items (held_of r.1)) }
     ensures closed { IfOk result (λ r. held_of state ≡ None → (r.0.items ≡ []) × (held_of r.1 ≡ None)) }
 {
@@ -74,7 +74,7 @@ fn waiting_bytes(state: &State) -> u64
 impl Session {
     ghost use Rattle.std.specs.Prelude.{◌≡◌, ◌++◌, ◌+◌, ◌<◌, ℕ, List, [], Some, None, IfOk, OnErr};
     ghost use Rattle.swh_base.specs.Limits.{body_limit};
-    ghost use Rattle.swh_http.specs.Wire.{AreAsks, IsWaiting, head_limit, held_length};
+    ghost use Rattle.swh_http.specs.Wire.{AreAsks, AwaitsBytes, head_limit, held_length};
 
     /// A session that has taken nothing.
     pub fn new(alloc: Global) -> Session
@@ -103,7 +103,7 @@ impl Session {
     /// by doubling, and none is taken for the length that the head says.
     pub fn held(&self) -> u64
         ensures length { result ≡ held_length self.now }
-        ensures waits { (held : List ℕ) → self.now ≡ Some held → IsWaiting held }
+        ensures waits { (held : List ℕ) → self.now ≡ Some held → AwaitsBytes held }
         ensures few { result < head_limit + body_limit }
     {
         waiting_bytes(&self.state)

@@ -2,7 +2,7 @@
 ghost use Rattle.std.specs.Prelude.{◌≡◌, ◌<◌, ◌≤◌, ◌++◌, ◌∷◌, [], length, Some, None, IfOk, MatchOption, List, ℕ, take};
 ghost use Rattle.swh_http.specs.Framed.{Frames, IsWholeHead};
 ghost use Rattle.swh_http.specs.Place.{place_of};
-ghost use Rattle.swh_http.specs.Turn.{GoesAt, IsReady, IsHeadEnd, IsTurn, StaysClosed, held_of};
+ghost use Rattle.swh_http.specs.Turn.{GoesAt, MayTakeMore, IsHeadEnd, IsTurn, StaysClosed, held_of};
 ghost use Rattle.swh_http.specs.Wire.{head_limit};
 
 use crate::ask::Ask;
@@ -127,7 +127,7 @@ fn body_turn(
 
 /// Nothing is held.
 pub fn fresh(alloc: Global) -> State
-    ensures ready { IsReady result }
+    ensures ready { MayTakeMore result }
     ensures empty { held_of result ≡ Some [] }
 {
     State::Head {
@@ -190,7 +190,7 @@ fn head_turn(alloc: Global, bytes: Vec<u8>, place: Place, rest: &[u8]) -> Result
 
 /// What waits takes bytes up to the end of what they ask first.
 pub fn take_turn(alloc: Global, state: State, rest: &[u8]) -> Result<Turn, Memory>
-    requires ready { IsReady state }
+    requires ready { MayTakeMore state }
     requires more { 0 < length rest.now }
     ensures some_taken { IfOk result (λ turn. (0 < turn.taken) × (turn.taken ≤ length rest.now)) }
     ensures turn { IfOk result (λ turn. MatchOption (held_of state) (StaysClosed rest.now turn) (λ held. IsTurn held rest.now turn)) }

@@ -7,7 +7,7 @@ use Rattle.swh_base.specs.Url.{IsUrl, is_url_byte}
 use Rattle.swh_base.proofs.Lacks.{passes_not}
 use Rattle.swh_base.proofs.Splits.{first_split}
 use Rattle.swh_pieces.proofs.Middle.{in_middle}
-use Rattle.swh_jobs.specs.Job.{Job, IsJobPath, IsHead, IsLineOf, head_text, line_text}
+use Rattle.swh_jobs.specs.Job.{Job, IsJobPath, IsHeadText, IsLineOf, head_text, line_text}
 use Rattle.swh_jobs.specs.Reading.{HasFields}
 
 -- a byte in front of the rest is in the text
@@ -75,5 +75,5 @@ module _ (line : List ℕ) (f : Job) (h : HasFields line f) where
   pub no_path_no_job : (IsJobPath f.path → ⊥) → (job : Job) → IsLineOf line job → ⊥
   no_path_no_job bad job k = bad (subst (λ (j : Job). IsJobPath j.path) (one_cut line job f (job_cut line job k) h) k.is_job.is_path)
 
-  pub no_head_no_job : (IfSome f.head IsHead → ⊥) → (job : Job) → IsLineOf line job → ⊥
-  no_head_no_job bad job k = bad (subst (λ (j : Job). IfSome j.head IsHead) (one_cut line job f (job_cut line job k) h) k.is_job.is_head)
+  pub no_head_no_job : (IfSome f.head IsHeadText → ⊥) → (job : Job) → IsLineOf line job → ⊥
+  no_head_no_job bad job k = bad (subst (λ (j : Job). IfSome j.head IsHeadText) (one_cut line job f (job_cut line job k) h) k.is_job.is_head)

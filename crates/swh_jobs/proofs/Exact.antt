@@ -3,10 +3,10 @@ use Rattle.std.proofs.Common.{◌≡◌, ◌≢◌, inl, inr, ⊎_elim, ℕ, ◌
 use Rattle.std.proofs.lemmas.List.{append-nil}
 use Rattle.std.specs.List.{AllByRecursion}
 use Rattle.swh_base.proofs.Splits.{not_nil}
-use Rattle.swh_jobs.specs.Answers.{Explains, SpellsNone}
+use Rattle.swh_jobs.specs.Answers.{ExplainsJobs, SpellsNone}
 use Rattle.swh_jobs.specs.Job.{Job, IsJob, line_text}
-use Rattle.swh_jobs.specs.JobFile.{AreJobs, BeginsJob, Breaks, EndsLine, IsFault, IsJobFile, lines_text, most_jobs}
-use Rattle.swh_jobs.specs.Reading.{ExplainsNext, IsLeft, MayFollow}
+use Rattle.swh_jobs.specs.JobFile.{AreJobs, BeginsJob, LineBreaks, EndsLine, IsJobFileFault, IsJobFile, lines_text, most_jobs}
+use Rattle.swh_jobs.specs.Reading.{ExplainsNext, IsLeft, MayFollowJobs}
 use Rattle.swh_jobs.specs.declared.fault.JobWhy.{JobWhy}
 use Rattle.swh_jobs.specs.declared.fault.JobWhy.TheVariants.{Form, Origin, Limit}
 use Rattle.swh_jobs.specs.declared.fault.JobsFault.{JobsFault}
@@ -58,7 +58,7 @@ unfed (d ∷ rest) (c ∷ line) x e =
     let cut = unfed rest line x after in
     (cut.0, ap (λ (b : ℕ). b ∷ rest) first ∙ ap (λ (l : List ℕ). c ∷ l) cut.1, cut.2)
 
-module _ (why : JobWhy) (before : List Job) (rest : List ℕ) (good : AreJobs before) (more : rest ≢ []) (breaks : Breaks before rest why) (all : List Job) (are : AreJobs all) where
+module _ (why : JobWhy) (before : List Job) (rest : List ℕ) (good : AreJobs before) (more : rest ≢ []) (breaks : LineBreaks before rest why) (all : List Job) (are : AreJobs all) where
   -- lines that break do not go on as the lines of jobs
   no_lines : lines_text before ++ rest ≡ lines_text all → ⊥
   no_lines e = by_more (read_on before all rest good.each are.each e)
@@ -79,14 +79,14 @@ module _ (why : JobWhy) (before : List Job) (rest : List ℕ) (good : AreJobs be
           let cut = unfed rest (line_text m) (lines_text others) r in
           breaks-not_next why before rest breaks (record { job = m; begins = record { is_job = next.is_job; behind = cut.0; text = cut.1; ends = cut.2 }; follows = next })
 
-pub no_jobs_lem : (bytes : List ℕ) (line : ℕ) (why : JobWhy) (jobs : List Job) → IsFault bytes line why → IsJobFile bytes jobs → ⊥
+pub no_jobs_lem : (bytes : List ℕ) (line : ℕ) (why : JobWhy) (jobs : List Job) → IsJobFileFault bytes line why → IsJobFile bytes jobs → ⊥
 no_jobs_lem bytes line why jobs f h =
     ⊎_elim
     (λ (e : bytes ≡ lines_text jobs). no_lines why f.before f.rest f.good f.more f.breaks jobs h.good (sym f.text ∙ e))
     (λ (e : bytes ++ 10 ∷ [] ≡ lines_text jobs). no_unfed_lines why f.before f.rest f.good f.more f.breaks jobs h.good (sym (append_assoc (lines_text f.before) f.rest (10 ∷ [])) ∙ ap (λ (l : List ℕ). l ++ 10 ∷ []) (sym f.text) ∙ e))
     h.text
 
-pub spells_none : (bytes : List ℕ) (fault : JobsFault) → Explains bytes fault → SpellsNone bytes fault
+pub spells_none : (bytes : List ℕ) (fault : JobsFault) → ExplainsJobs bytes fault → SpellsNone bytes fault
 spells_none bytes (Bad line why) f = λ jobs h. no_jobs_lem bytes line why jobs f h
 spells_none bytes Memory f = tt
 
@@ -108,7 +108,7 @@ same_front pre (j ∷ js) (k ∷ ks) r q a b e n m =
     (ap (λ (y : Job). y ∷ js) first ∙ ap (λ (ys : List Job). k ∷ ys) others.0, others.1)
 
 -- bytes break in one way
-same_why : (a b : JobWhy) (before : List Job) (rest : List ℕ) → Breaks before rest a → Breaks before rest b → a ≡ b
+same_why : (a b : JobWhy) (before : List Job) (rest : List ℕ) → LineBreaks before rest a → LineBreaks before rest b → a ≡ b
 same_why Form Form before rest h k = refl
 same_why Form Origin before rest h k = absurd (h.1 k.1.job k.1.begins)
 same_why Form Limit before rest h k = let l = h.0 in absurd (omega (arith, l, k))
@@ -119,8 +119,8 @@ same_why Limit Form before rest h k = let l = k.0 in absurd (omega (arith, l, h)
 same_why Limit Origin before rest h k = let l = k.0 in absurd (omega (arith, l, h))
 same_why Limit Limit before rest h k = refl
 
-pub one_fault_lem : (bytes : List ℕ) (line other : ℕ) (why because : JobWhy) → IsFault bytes line why → IsFault bytes other because → (line ≡ other) × (why ≡ because)
+pub one_fault_lem : (bytes : List ℕ) (line other : ℕ) (why because : JobWhy) → IsJobFileFault bytes line why → IsJobFileFault bytes other because → (line ≡ other) × (why ≡ because)
 one_fault_lem bytes line other why because f g =
     let same = same_front [] f.before g.before f.rest g.rest f.good g.good (sym f.text ∙ g.text) (breaks-not_next why f.before f.rest f.breaks) (breaks-not_next because g.before g.rest g.breaks) in
-    let moved = subst (λ (js : List Job). Breaks js g.rest because) (sym same.0) g.breaks in
-    (f.here ∙ ap (λ (js : List Job). length js + 1) same.0 ∙ sym g.here, same_why why because f.before f.rest f.breaks (subst (λ (t : List ℕ). Breaks f.before t because) (sym same.1) moved))
+    let moved = subst (λ (js : List Job). LineBreaks js g.rest because) (sym same.0) g.breaks in
+    (f.here ∙ ap (λ (js : List Job). length js + 1) same.0 ∙ sym g.here, same_why why because f.before f.rest f.breaks (subst (λ (t : List ℕ). LineBreaks f.before t because) (sym same.1) moved))

@@ -5,8 +5,8 @@ use Rattle.std.proofs.lemmas.List.Elements.{Contains-push_cases}
 use Rattle.std.specs.List.{AllByRecursion}
 use Rattle.swh_base.proofs.DirectoryLemmas.{all-at, all-push}
 use Rattle.swh_jobs.specs.Job.{Job, IsJob, line_text}
-use Rattle.swh_jobs.specs.JobFile.{AreDistinct, AreJobs, BeginsJob, Breaks, most_jobs, origins}
-use Rattle.swh_jobs.specs.Reading.{MayFollow}
+use Rattle.swh_jobs.specs.JobFile.{AreDistinct, AreJobs, BeginsJob, LineBreaks, most_jobs, origins}
+use Rattle.swh_jobs.specs.Reading.{MayFollowJobs}
 use Rattle.swh_jobs.specs.declared.fault.JobWhy.{JobWhy}
 use Rattle.swh_jobs.specs.declared.fault.JobWhy.TheVariants.{Form, Origin, Limit}
 use Rattle.swh_jobs.proofs.Lines.{one_begins}
@@ -33,7 +33,7 @@ distinct-fresh (u ∷ urls) url more h (zero, l, e) = h.0 (there urls)
 distinct-fresh (u ∷ urls) url more h (suc k, l, e) = distinct-fresh urls url more h.1 (k, omega arith, e)
 
 -- the jobs with one more
-pub jobs-push : (before : List Job) (job : Job) → AreJobs before → MayFollow before job → AreJobs (before ++ job ∷ [])
+pub jobs-push : (before : List Job) (job : Job) → AreJobs before → MayFollowJobs before job → AreJobs (before ++ job ∷ [])
 jobs-push before job are h = record {
   each = all-push IsJob before job are.each h.is_job;
   distinct = subst AreDistinct (sym (map_push (λ (j : Job). j.url) before job)) (distinct-push (origins before) job.url are.distinct h.fresh);
@@ -41,7 +41,7 @@ jobs-push before job are h = record {
 }
 
 -- each of the jobs may follow those before it
-pub jobs-next : (before : List Job) (job : Job) (more : List Job) → AreJobs (before ++ job ∷ more) → MayFollow before job
+pub jobs-next : (before : List Job) (job : Job) (more : List Job) → AreJobs (before ++ job ∷ more) → MayFollowJobs before job
 jobs-next before job more are = record {
   room = let few = are.few in omega (arith, few, length-append before (job ∷ more));
   is_job = all-at IsJob before job more are.each;
@@ -52,10 +52,10 @@ jobs-next before job more are = record {
 pub record BeginsNext (before : List Job) (bytes : List ℕ) : Type 0 where
   pub job : Job
   pub begins : BeginsJob bytes job
-  pub follows : MayFollow before job
+  pub follows : MayFollowJobs before job
 
 -- where bytes break they go on with no such job
-pub breaks-not_next : (why : JobWhy) (before : List Job) (bytes : List ℕ) → Breaks before bytes why → BeginsNext before bytes → ⊥
+pub breaks-not_next : (why : JobWhy) (before : List Job) (bytes : List ℕ) → LineBreaks before bytes why → BeginsNext before bytes → ⊥
 breaks-not_next Form before bytes h n = h.1 n.job n.begins
 breaks-not_next Origin before bytes h n = n.follows.fresh (subst (λ (j : Job). Contains (origins before) j.url) (one_begins bytes h.1.job n.job h.1.begins n.begins) h.1.again)
 breaks-not_next Limit before bytes h n = let room = n.follows.room in absurd (omega (arith, room, h))

@@ -2,12 +2,12 @@
 use Rattle.std.proofs.Common.{◌≡◌, ◌≢◌, inl, inr, ⊎_elim, ℕ, ◌+◌, ◌*◌, ◌<◌, ◌≤◌, Option, Some, None, List, [], ◌∷◌, ◌++◌, length, refl, sym, ap, ◌∙◌, arith, append_assoc, length-append}
 use Rattle.std.specs.List.{AllByRecursion}
 use Rattle.std.specs.Prelude.{IfSome}
-use Rattle.swh_jobs.specs.Job.{Job, IsJob, IsHead, head_text, line_text}
-use Rattle.swh_jobs.specs.JobFile.{BeginsJob, Breaks, EndsLine, IsFault, IsJobFile, lines_text, most_jobs}
+use Rattle.swh_jobs.specs.Job.{Job, IsJob, IsHeadText, head_text, line_text}
+use Rattle.swh_jobs.specs.JobFile.{BeginsJob, LineBreaks, EndsLine, IsJobFileFault, IsJobFile, lines_text, most_jobs}
 use Rattle.swh_jobs.specs.declared.fault.JobWhy.{JobWhy}
 use Rattle.swh_jobs.specs.declared.fault.JobWhy.TheVariants.{Form, Origin, Limit}
 
-head_short : (head : Option (List ℕ)) → IfSome head IsHead → length (head_text head) ≤ 1025
+head_short : (head : Option (List ℕ)) → IfSome head IsHeadText → length (head_text head) ≤ 1025
 head_short None h = omega arith
 head_short (Some head) h = let short = h.is_ref.short in omega (arith, short)
 
@@ -67,7 +67,7 @@ module _ (rest more : List ℕ) (long : 7176 < length rest) where
       by_ends (inl none) = let n = ap length h.text in absurd (omega (arith, n, short, long, length-append (line_text job) h.behind, ap length none))
       by_ends (inr (r, some)) = inr (r ++ more, ap (λ (t : List ℕ). t ++ more) some)
 
-breaks_front : (why : JobWhy) (before : List Job) (rest more : List ℕ) → (length before < most_jobs → 7176 < length rest) → Breaks before rest why → Breaks before (rest ++ more) why
+breaks_front : (why : JobWhy) (before : List Job) (rest more : List ℕ) → (length before < most_jobs → 7176 < length rest) → LineBreaks before rest why → LineBreaks before (rest ++ more) why
 breaks_front Form before rest more long h = (h.0, λ job b. h.1 job (begins_front rest more (long h.0) job b))
 breaks_front Origin before rest more long h = (h.0, record { job = h.1.job; begins = begins_whole rest more (long h.0) h.1.job h.1.begins; again = h.1.again })
 breaks_front Limit before rest more long h = h
@@ -76,7 +76,7 @@ append-not_nil : (rest more : List ℕ) → rest ≢ [] → rest ++ more ≢ []
 append-not_nil [] more some e = some refl
 append-not_nil (c ∷ rest) more some e = cc
 
-pub front_lem : (front more : List ℕ) (line : ℕ) (why : JobWhy) → 1837056 < length front → IsFault front line why → IsFault (front ++ more) line why
+pub front_lem : (front more : List ℕ) (line : ℕ) (why : JobWhy) → 1837056 < length front → IsJobFileFault front line why → IsJobFileFault (front ++ more) line why
 front_lem front more line why over f =
     let n = ap length f.text in
     let short = lines_short f.before f.good.each in

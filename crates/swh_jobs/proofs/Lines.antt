@@ -5,13 +5,13 @@ use Rattle.std.specs.List.{AllByRecursion}
 use Rattle.std.specs.Prelude.{IfSome}
 use Rattle.swh_base.proofs.Splits.{first_split, absent, not_nil}
 use Rattle.swh_pieces.proofs.Middle.{in_middle}
-use Rattle.swh_jobs.specs.Job.{Job, IsJob, IsHead, head_text, line_text}
+use Rattle.swh_jobs.specs.Job.{Job, IsJob, IsHeadText, head_text, line_text}
 use Rattle.swh_jobs.specs.JobFile.{BeginsJob, EndsLine, lines_text}
 use Rattle.swh_jobs.specs.Reading.{IsFirstLine, IsLeft}
 use Rattle.swh_base.proofs.Lacks.{not_in_middle, ref-no_feed}
 use Rattle.swh_jobs.proofs.Cuts.{url-no_feed, one_job}
 
-path-no_feed : (path : List ℕ) (head : Option (List ℕ)) → (Contains path 10 → ⊥) → IfSome head IsHead → Contains (path ++ head_text head) 10 → ⊥
+path-no_feed : (path : List ℕ) (head : Option (List ℕ)) → (Contains path 10 → ⊥) → IfSome head IsHeadText → Contains (path ++ head_text head) 10 → ⊥
 path-no_feed path None none h c = none (subst (λ (l : List ℕ). Contains l 10) (append-nil path) c)
 path-no_feed path (Some head) none h c = not_in_middle path head 9 10 none (λ e. absurd (omega arith)) (ref-no_feed head h.is_ref) c
 

@@ -19,7 +19,7 @@ pub record IsJobPath (path : List ℕ) : Type 0 where
   pub utf8 : IsUtf8 path
 
 -- a ref other than `HEAD`, as text
-pub record IsHead (head : List ℕ) : Type 0 where
+pub record IsHeadText (head : List ℕ) : Type 0 where
   pub is_ref : IsRef head
   pub other : head ≢ codes "HEAD"
   pub utf8 : IsUtf8 head
@@ -29,7 +29,7 @@ pub record IsJob (job : Job) : Type 0 where
   pub is_url : IsUrl job.url
   pub utf8 : IsUtf8 job.url
   pub is_path : IsJobPath job.path
-  pub is_head : IfSome job.head IsHead
+  pub is_head : IfSome job.head IsHeadText
 
 -- a TAB and the head, or nothing
 abbrev pub head_text : Option (List ℕ) → List ℕ

@@ -53,17 +53,17 @@ pub record RepeatsOrigin (before : List Job) (bytes : List ℕ) : Type 0 where
   pub again : Contains (origins before) job.url
 
 -- After these jobs' lines the bytes go on with a line that breaks so.
-abbrev pub Breaks : List Job → List ℕ → JobWhy → Type 0
-Breaks before rest Form = (length before < most_jobs) × ((job : Job) → BeginsJob rest job → ⊥)
-Breaks before rest Origin = (length before < most_jobs) × RepeatsOrigin before rest
-Breaks before rest Limit = length before ≡ most_jobs
+abbrev pub LineBreaks : List Job → List ℕ → JobWhy → Type 0
+LineBreaks before rest Form = (length before < most_jobs) × ((job : Job) → BeginsJob rest job → ⊥)
+LineBreaks before rest Origin = (length before < most_jobs) × RepeatsOrigin before rest
+LineBreaks before rest Limit = length before ≡ most_jobs
 
 -- The first line that breaks has this number, and breaks so.
-pub record IsFault (bytes : List ℕ) (line : ℕ) (why : JobWhy) : Type 0 where
+pub record IsJobFileFault (bytes : List ℕ) (line : ℕ) (why : JobWhy) : Type 0 where
   pub before : List Job
   pub rest : List ℕ
   pub good : AreJobs before
   pub text : bytes ≡ lines_text before ++ rest
   pub more : rest ≢ []
   pub here : line ≡ length before + 1
-  pub breaks : Breaks before rest why
+  pub breaks : LineBreaks before rest why

@@ -6,7 +6,7 @@ use Rattle.std.specs.Cmp.Lexicographic.{slice_cmp}
 use Rattle.std.specs.List.{list_any}
 use Rattle.std.specs.Ordering.{nat_cmp}
 use Rattle.swh_jobs.specs.Job.{Job, IsJob, line_text}
-use Rattle.swh_jobs.specs.JobFile.{Breaks, lines_text, most_jobs, origins}
+use Rattle.swh_jobs.specs.JobFile.{LineBreaks, lines_text, most_jobs, origins}
 use Rattle.swh_jobs.specs.declared.fault.JobsFault.{JobsFault}
 use Rattle.swh_jobs.specs.declared.fault.JobsFault.TheVariants.{Bad, Memory}
 
@@ -30,12 +30,12 @@ abbrev pub AreOrigins : List (Bor (List ℕ)) → List Job → Type 0
 AreOrigins keys jobs = (url : List ℕ) → (list_any (is_at (λ (key : Bor (List ℕ)). slice_cmp nat_cmp url key.now)) keys ≡ true) ↔ Contains (origins jobs) url
 
 -- what one more job has to be
-pub record MayFollow (before : List Job) (job : Job) : Type 0 where
+pub record MayFollowJobs (before : List Job) (job : Job) : Type 0 where
   pub room : length before < most_jobs
   pub is_job : IsJob job
   pub fresh : Contains (origins before) job.url → ⊥
 
 -- It is the fault of the line that these bytes begin with, unless memory ran out.
 abbrev pub ExplainsNext : List Job → List ℕ → JobsFault → Type 0
-ExplainsNext before rest (Bad line why) = (line ≡ length before + 1) × Breaks before rest why
+ExplainsNext before rest (Bad line why) = (line ≡ length before + 1) × LineBreaks before rest why
 ExplainsNext before rest Memory = Unit {0}

@@ -2,9 +2,9 @@
 ghost use Rattle.std.specs.Prelude.{◌≡◌, IfOk};
 ghost use Rattle.std.specs.List.{AllByRecursion};
 ghost use Rattle.std.specs.Option.{option_copied};
-ghost use Rattle.swh_jobs.specs.Answers.{job_of, jobs_of};
+ghost use Rattle.swh_jobs.specs.Answers.{job_of, owned_jobs};
 ghost use Rattle.swh_jobs.specs.Job.{IsJob};
-ghost use Rattle.swh_jobs.specs.Spelled.{spelled, all_spelled};
+ghost use Rattle.swh_jobs.specs.Spelled.{spelled_job, all_spelled};
 
 use std::alloc::Global;
 use swh_base::{Bytes, Memory, Url, UrlFault};
@@ -37,8 +37,8 @@ fn owned_head(alloc: Global, head: Option<&[u8]>) -> Result<Option<Bytes>, Memor
 }
 
 fn owned(alloc: Global, job: &SpelledJob<'_>) -> Result<JobLine, Memory>
-    requires { IsJob (spelled job.now) }
-    ensures { IfOk result (λ line. job_of line ≡ spelled job.now) }
+    requires { IsJob (spelled_job job.now) }
+    ensures { IfOk result (λ line. job_of line ≡ spelled_job job.now) }
 {
     let url = match Url::new(alloc, job.url) {
         Ok(url) => url,
@@ -53,7 +53,7 @@ fn owned(alloc: Global, job: &SpelledJob<'_>) -> Result<JobLine, Memory>
 /// The jobs in memory of their own.
 pub fn all_owned(alloc: Global, jobs: &[SpelledJob<'_>]) -> Result<Vec<JobLine>, Memory>
     requires { AllByRecursion IsJob (all_spelled jobs.now) }
-    ensures { IfOk result (λ lines. jobs_of lines.items ≡ all_spelled jobs.now) }
+    ensures { IfOk result (λ lines. owned_jobs lines.items ≡ all_spelled jobs.now) }
 {
     let mut lines = Vec::new(alloc);
     for job in jobs {

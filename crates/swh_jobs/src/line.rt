@@ -2,9 +2,9 @@
 ghost use Rattle.std.specs.Prelude.{◌≡◌, ◌++◌, ◌↔◌, Contains, IsTrue, IfSome, IfNone, IsUtf8};
 ghost use Rattle.std.specs.Option.{option_copied};
 ghost use Rattle.swh_base.specs.Url.{IsUrl};
-ghost use Rattle.swh_jobs.specs.Job.{Job, IsJobPath, IsHead, IsLineOf, head_text};
+ghost use Rattle.swh_jobs.specs.Job.{Job, IsJobPath, IsHeadText, IsLineOf, head_text};
 ghost use Rattle.swh_jobs.specs.Reading.{HasFields};
-ghost use Rattle.swh_jobs.specs.Spelled.{fields_of, spelled};
+ghost use Rattle.swh_jobs.specs.Spelled.{job_of_fields, spelled_job};
 
 use crate::job::SpelledJob;
 use crate::limits::STREAM_PATH_LIMIT;
@@ -30,7 +30,7 @@ fn path_and_head(bytes: &[u8]) -> (&[u8], Option<&[u8]>)
 }
 
 fn cut_line(line: &[u8]) -> Option<Fields<'_>>
-    ensures some { IfSome result (λ fields. HasFields line.now (fields_of fields)) }
+    ensures some { IfSome result (λ fields. HasFields line.now (job_of_fields fields)) }
     ensures none { IfNone result ((job : Job) → HasFields line.now job → ⊥) }
 {
     let Some(rest) = behind(b"fast\t", line) else {
@@ -68,7 +68,7 @@ fn path_text(path: &[u8]) -> Option<&str>
 }
 
 fn is_head(head: &[u8]) -> bool
-    ensures { IsTrue result ↔ IsHead head.now }
+    ensures { IsTrue result ↔ IsHeadText head.now }
 {
     if !is_ref(head) {
         return false;
@@ -81,7 +81,7 @@ fn is_head(head: &[u8]) -> bool
 
 // Whether a line may end with this head, or with none.
 fn may_end(head: Option<&[u8]>) -> bool
-    ensures { IsTrue result ↔ IfSome (option_copied head.entry) IsHead }
+    ensures { IsTrue result ↔ IfSome (option_copied head.entry) IsHeadText }
 {
     match head {
         Some(head) => is_head(head),
@@ -93,7 +93,7 @@ fn may_end(head: Option<&[u8]>) -> bool
 /// where the line spells no job.
 pub fn spelled_line(line: &[u8]) -> Option<SpelledJob<'_>>
     requires { Contains line.now 10 → ⊥ }
-    ensures some { IfSome result (λ job. IsLineOf line.now (spelled job)) }
+    ensures some { IfSome result (λ job. IsLineOf line.now (spelled_job job)) }
     ensures none { IfNone result ((job : Job) → IsLineOf line.now job → ⊥) }
 {
     let Some(fields) = cut_line(line) else {

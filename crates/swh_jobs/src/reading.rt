@@ -1,10 +1,10 @@
 //! Job files read line by line.
 ghost use Rattle.std.specs.Prelude.{◌≡◌, ◌≢◌, ◌≤◌, ◌∷◌, ◌++◌, [], List, IfOk, IfErr};
-ghost use Rattle.swh_jobs.specs.Answers.{jobs_of, SpellsNone, Explains};
+ghost use Rattle.swh_jobs.specs.Answers.{owned_jobs, SpellsNone, ExplainsJobs};
 ghost use Rattle.swh_jobs.specs.Job.{line_text};
 ghost use Rattle.swh_jobs.specs.JobFile.{AreJobs, IsJobFile};
-ghost use Rattle.swh_jobs.specs.Reading.{IsFirstLine, AreOrigins, MayFollow, ExplainsNext};
-ghost use Rattle.swh_jobs.specs.Spelled.{spelled, all_spelled};
+ghost use Rattle.swh_jobs.specs.Reading.{IsFirstLine, AreOrigins, MayFollowJobs, ExplainsNext};
+ghost use Rattle.swh_jobs.specs.Spelled.{spelled_job, all_spelled};
 
 use crate::fault::{JobWhy, JobsFault};
 use crate::job::{JobLine, SpelledJob, all_owned};
@@ -32,9 +32,9 @@ fn next_job<'a>(
 ) -> Result<(SpelledJob<'a>, &'a [u8]), JobsFault>
     requires good { AreJobs (all_spelled before.now) }
     requires known { AreOrigins origins.old.keys (all_spelled before.now) }
-    ensures follows { IfOk result (λ x. MayFollow (all_spelled before.now) (spelled x.0)) }
-    ensures line { IfOk result (λ x. IsFirstLine rest.now (line_text (spelled x.0)) x.1.now) }
-    ensures known { IfOk result (λ x. AreOrigins origins.new.keys (all_spelled before.now ++ spelled x.0 ∷ [])) }
+    ensures follows { IfOk result (λ x. MayFollowJobs (all_spelled before.now) (spelled_job x.0)) }
+    ensures line { IfOk result (λ x. IsFirstLine rest.now (line_text (spelled_job x.0)) x.1.now) }
+    ensures known { IfOk result (λ x. AreOrigins origins.new.keys (all_spelled before.now ++ spelled_job x.0 ∷ [])) }
     ensures err { IfErr result (ExplainsNext (all_spelled before.now) rest.now) }
 {
     let line = before.len() as u64 + 1;
@@ -63,7 +63,7 @@ fn next_job<'a>(
 // The jobs as they stand in a job file. Origins are looked up in a set that strangers cannot make slow.
 fn read_jobs(alloc: Global, bytes: &[u8]) -> Result<Vec<SpelledJob<'_>>, JobsFault>
     ensures ok { IfOk result (λ jobs. IsJobFile bytes.now (all_spelled jobs.items)) }
-    ensures err { IfErr result (Explains bytes.now) }
+    ensures err { IfErr result (ExplainsJobs bytes.now) }
 {
     let mut jobs = Vec::new(alloc);
     let mut origins = BTreeSet::new(alloc);
@@ -80,8 +80,8 @@ fn read_jobs(alloc: Global, bytes: &[u8]) -> Result<Vec<SpelledJob<'_>>, JobsFau
 }
 
 fn read_owned(alloc: Global, bytes: &[u8]) -> Result<Vec<JobLine>, JobsFault>
-    ensures ok { IfOk result (λ jobs. IsJobFile bytes.now (jobs_of jobs.items)) }
-    ensures err { IfErr result (Explains bytes.now) }
+    ensures ok { IfOk result (λ jobs. IsJobFile bytes.now (owned_jobs jobs.items)) }
+    ensures err { IfErr result (ExplainsJobs bytes.now) }
 {
     let jobs = read_jobs(alloc, bytes)?;
     Ok(all_owned(alloc, &jobs)?)
@@ -92,11 +92,11 @@ fn read_owned(alloc: Global, bytes: &[u8]) -> Result<Vec<JobLine>, JobsFault>
 /// breaks, or where memory runs out.
 pub fn parse_jobs(alloc: Global, bytes: &[u8]) -> Result<Vec<JobLine>, JobsFault>
     // What is read is what the bytes spell.
-    ensures ok { IfOk result (λ jobs. IsJobFile bytes.now (jobs_of jobs.items)) }
+    ensures ok { IfOk result (λ jobs. IsJobFile bytes.now (owned_jobs jobs.items)) }
     // What is refused spells no jobs, unless memory ran out,
     ensures none { IfErr result (SpellsNone bytes.now) }
     // and has this fault first.
-    ensures fault { IfErr result (Explains bytes.now) }
+    ensures fault { IfErr result (ExplainsJobs bytes.now) }
 {
     read_owned(alloc, bytes)
 }

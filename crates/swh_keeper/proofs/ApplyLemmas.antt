@@ -13,7 +13,7 @@ use Rattle.swh_model.specs.declared.event.EventKind.{EventKind}
 use Rattle.swh_model.specs.declared.event.EventKind.TheVariants.{Batch, Open, Mark}
 use Rattle.swh_model.specs.declared.event.Outcome.{Outcome}
 use Rattle.swh_model.specs.Archive.{Bodies, Origins, visits_of, empty_archive}
-use Rattle.swh_model.specs.Step.{May, May_kind, MayAll, IsGood, IsGoodAndNamed, AreNew, replay}
+use Rattle.swh_model.specs.Step.{May, May_kind, MayAll, HasItsChildren, HasItsChildrenAndName, AreNew, replay}
 use Rattle.swh_model.specs.Judge.{IsVerdict, IsWish}
 use Rattle.swh_model.proofs.Verdicts.{wish_may}
 use Rattle.swh_model.proofs.Visits.{all-map}
@@ -38,7 +38,7 @@ within (w ∷ vs) (suc k) v is = let m = within vs k v is in omega (arith, m)
 
 may_kind_advance : (id_of : Kind → List ℕ → List ℕ) (r : Replayed) (h : List Event) (by : ℕ) (what : EventKind) → IsReplayOf r h → May_kind id_of (replay h) by what → MayAdvance r what
 may_kind_advance id_of r h by (Batch entries) is may =
-    (all-map (IsGoodAndNamed id_of) IsGood (λ e g. g.good) entries may.good, subst (λ (b : Bodies). AreNew b entries) (sym is.bodies) may.new)
+    (all-map (HasItsChildrenAndName id_of) HasItsChildren (λ e g. g.good) entries may.good, subst (λ (b : Bodies). AreNew b entries) (sym is.bodies) may.new)
 may_kind_advance id_of r h by (Open origin kind date) is may = tt
 may_kind_advance id_of r h by (Mark origin visit status snapshot) is may =
     let at = within (visits_of (replay h).origins origin) (visit - 1) may.visit may.there in

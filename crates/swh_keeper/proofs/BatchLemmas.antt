@@ -11,7 +11,7 @@ use Rattle.swh_base.specs.declared.entry.Entry.{Entry}
 use Rattle.swh_base.specs.Name.{name_cmp, name_cmp_total}
 use Rattle.swh_model.specs.Archive.{Bodies, body_of}
 use Rattle.swh_model.specs.Step.{added, AreNew}
-use Rattle.swh_model.specs.Judge.{fresh, HasBody, Collides}
+use Rattle.swh_model.specs.Judge.{not_held, HasBodyOrAdds, Collides}
 use Rattle.swh_model.proofs.Maps.{within-added, body-put, body_cases}
 use Rattle.swh_model.proofs.Entries.{added-append}
 use Rattle.swh_model.proofs.Verdicts.{fresh-new}
@@ -36,11 +36,11 @@ none-of_empty b q = ap (λ (o : Option (List ℕ)). or_else o (body_of b q)) (sy
 pub either-added : (b : Bodies) (es : List Entry) (q : Name) → either (added finite.empty es) b q ≡ body_of (added b es) q
 either-added b es q = sym (added_either finite.empty b b es (none-of_empty b) q)
 
-pub fresh-append : (b : Bodies) (es fs : List Entry) → fresh b (es ++ fs) ≡ fresh b es ++ fresh (added b (fresh b es)) fs
+pub fresh-append : (b : Bodies) (es fs : List Entry) → not_held b (es ++ fs) ≡ not_held b es ++ not_held (added b (not_held b es)) fs
 fresh-append b [] fs = refl
 fresh-append b (e ∷ es) fs =
-    elim (is_some (body_of b e.name)) as (λ t. cond t (fresh b (es ++ fs)) (e ∷ fresh (finite.insert b e.name e.body) (es ++ fs))
-    ≡ cond t (fresh b es) (e ∷ fresh (finite.insert b e.name e.body) es) ++ fresh (added b (cond t (fresh b es) (e ∷ fresh (finite.insert b e.name e.body) es))) fs) [
+    elim (is_some (body_of b e.name)) as (λ t. cond t (not_held b (es ++ fs)) (e ∷ not_held (finite.insert b e.name e.body) (es ++ fs))
+    ≡ cond t (not_held b es) (e ∷ not_held (finite.insert b e.name e.body) es) ++ not_held (added b (cond t (not_held b es) (e ∷ not_held (finite.insert b e.name e.body) es))) fs) [
       | true ↦ fresh-append b es fs
       | false ↦ ap (λ (l : List Entry). e ∷ l) (fresh-append (finite.insert b e.name e.body) es fs)
     ]
@@ -49,18 +49,18 @@ take-next : (es : List Entry) (i : ℕ) (e : Entry) → i < length es → e ≡ 
 take-next es i e less is = take_more es i e less ∙ ap (λ (x : Entry). take i es ++ x ∷ []) (sym is)
 
 -- one entry more is new
-pub fresh-kept : (b : Bodies) (es fs : List Entry) (i : ℕ) (e : Entry) → i < length es → e ≡ get_or es i e → fs ≡ fresh b (take i es) → body_of (added b fs) e.name ≡ None → fs ++ e ∷ [] ≡ fresh b (take (i + 1) es)
+pub fresh-kept : (b : Bodies) (es fs : List Entry) (i : ℕ) (e : Entry) → i < length es → e ≡ get_or es i e → fs ≡ not_held b (take i es) → body_of (added b fs) e.name ≡ None → fs ++ e ∷ [] ≡ not_held b (take (i + 1) es)
 fresh-kept b es fs i e less is so none =
-    let new : fresh (added b (fresh b (take i es))) (e ∷ []) ≡ e ∷ [] =
+    let new : not_held (added b (not_held b (take i es))) (e ∷ []) ≡ e ∷ [] =
     ap (λ (t : Bool). cond t [] (e ∷ [])) (ap is_some (ap (λ (gs : List Entry). body_of (added b gs) e.name) (sym so) ∙ none)) in
-    ap (λ (gs : List Entry). gs ++ e ∷ []) so ∙ sym (ap (fresh b) (take-next es i e less is) ∙ fresh-append b (take i es) (e ∷ []) ∙ ap (λ (gs : List Entry). fresh b (take i es) ++ gs) new)
+    ap (λ (gs : List Entry). gs ++ e ∷ []) so ∙ sym (ap (not_held b) (take-next es i e less is) ∙ fresh-append b (take i es) (e ∷ []) ∙ ap (λ (gs : List Entry). not_held b (take i es) ++ gs) new)
 
 -- one entry more is held or stands earlier
-pub fresh-passed : (b : Bodies) (es fs : List Entry) (i : ℕ) (e : Entry) → i < length es → e ≡ get_or es i e → fs ≡ fresh b (take i es) → (body_of (added b fs) e.name ≡ None → ⊥) → fs ≡ fresh b (take (i + 1) es)
+pub fresh-passed : (b : Bodies) (es fs : List Entry) (i : ℕ) (e : Entry) → i < length es → e ≡ get_or es i e → fs ≡ not_held b (take i es) → (body_of (added b fs) e.name ≡ None → ⊥) → fs ≡ not_held b (take (i + 1) es)
 fresh-passed b es fs i e less is so some =
-    let old : fresh (added b (fresh b (take i es))) (e ∷ []) ≡ [] =
+    let old : not_held (added b (not_held b (take i es))) (e ∷ []) ≡ [] =
     ap (λ (t : Bool). cond t [] (e ∷ [])) (ap is_some (ap (λ (gs : List Entry). body_of (added b gs) e.name) (sym so)) ∙ some_of (body_of (added b fs) e.name) some) in
-    so ∙ sym (ap (fresh b) (take-next es i e less is) ∙ fresh-append b (take i es) (e ∷ []) ∙ ap (λ (gs : List Entry). fresh b (take i es) ++ gs) old ∙ append_none (fresh b (take i es)))
+    so ∙ sym (ap (not_held b) (take-next es i e less is) ∙ fresh-append b (take i es) (e ∷ []) ∙ ap (λ (gs : List Entry). not_held b (take i es) ++ gs) old ∙ append_none (not_held b (take i es)))
   where
     some_of : (o : Option (List ℕ)) → (o ≡ None → ⊥) → is_some o ≡ true
     some_of None h = absurd (h refl)
@@ -82,28 +82,28 @@ from_entry b (e ∷ es) n x is = elim (from_entry (finite.insert b e.name e.body
     same_some : (y z : List ℕ) → Some y ≡ Some z → y ≡ z
     same_some y z e = cc
 
-pub fresh-inside : (b : Bodies) (es : List Entry) (e : Entry) → Contains (fresh b es) e → Contains es e
+pub fresh-inside : (b : Bodies) (es : List Entry) (e : Entry) → Contains (not_held b es) e → Contains es e
 fresh-inside b [] e h = h
 fresh-inside b (f ∷ es) e h =
-    elim (is_some (body_of b f.name)) as (λ t. Contains (cond t (fresh b es) (f ∷ fresh (finite.insert b f.name f.body) es)) e → Contains (f ∷ es) e) [
+    elim (is_some (body_of b f.name)) as (λ t. Contains (cond t (not_held b es) (f ∷ not_held (finite.insert b f.name f.body) es)) e → Contains (f ∷ es) e) [
       | true ↦ λ k. Contains-append_right (f ∷ []) es e (fresh-inside b es e k)
-      | false ↦ λ k. elim (Contains-append_cases (f ∷ []) (fresh (finite.insert b f.name f.body) es) e k) [
+      | false ↦ λ k. elim (Contains-append_cases (f ∷ []) (not_held (finite.insert b f.name f.body) es) e k) [
         | inl first ↦ Contains-append_left (f ∷ []) es e first
         | inr more ↦ Contains-append_right (f ∷ []) es e (fresh-inside (finite.insert b f.name f.body) es e more)
       ]
     ] h
 
 -- each name of the batch has a body in the end
-pub covered : (b : Bodies) (es : List Entry) (e : Entry) → Contains es e → body_of (added b (fresh b es)) e.name ≡ None → ⊥
+pub covered : (b : Bodies) (es : List Entry) (e : Entry) → Contains es e → body_of (added b (not_held b es)) e.name ≡ None → ⊥
 covered b [] e (k, less, is) none = absurd (omega (arith, less))
 covered b (f ∷ es) e h none =
-    elim (is_some (body_of b f.name)) as (λ t. is_some (body_of b f.name) ≡ t → body_of (added b (cond t (fresh b es) (f ∷ fresh (finite.insert b f.name f.body) es))) e.name ≡ None → ⊥) [
+    elim (is_some (body_of b f.name)) as (λ t. is_some (body_of b f.name) ≡ t → body_of (added b (cond t (not_held b es) (f ∷ not_held (finite.insert b f.name f.body) es))) e.name ≡ None → ⊥) [
       | true ↦ λ t nothing. elim (Contains-append_cases (f ∷ []) es e h) [
-        | inl first ↦ held_on b (fresh b es) f.name (fresh-new b es) t (subst (λ (m : Entry). body_of (added b (fresh b es)) m.name ≡ None) (sym (only f e first)) nothing)
+        | inl first ↦ held_on b (not_held b es) f.name (fresh-new b es) t (subst (λ (m : Entry). body_of (added b (not_held b es)) m.name ≡ None) (sym (only f e first)) nothing)
         | inr more ↦ covered b es e more nothing
       ]
       | false ↦ λ t nothing. elim (Contains-append_cases (f ∷ []) es e h) [
-        | inl first ↦ put_on f (subst (λ (m : Entry). body_of (added (finite.insert b f.name f.body) (fresh (finite.insert b f.name f.body) es)) m.name ≡ None) (sym (only f e first)) nothing)
+        | inl first ↦ put_on f (subst (λ (m : Entry). body_of (added (finite.insert b f.name f.body) (not_held (finite.insert b f.name f.body) es)) m.name ≡ None) (sym (only f e first)) nothing)
         | inr more ↦ covered (finite.insert b f.name f.body) es e more nothing
       ]
     ] refl none
@@ -119,20 +119,20 @@ covered b (f ∷ es) e h none =
           | Some x ↦ λ i s. let later : body_of (added c fs) n ≡ Some x = within-added c fs new n x i in let g : None ≡ Some x = sym nothing ∙ later in absurd (cc)
         ] refl some
 
-    put_on : (g : Entry) → body_of (added (finite.insert b g.name g.body) (fresh (finite.insert b g.name g.body) es)) g.name ≡ None → ⊥
+    put_on : (g : Entry) → body_of (added (finite.insert b g.name g.body) (not_held (finite.insert b g.name g.body) es)) g.name ≡ None → ⊥
     put_on g nothing =
-        let later = within-added (finite.insert b g.name g.body) (fresh (finite.insert b g.name g.body) es) (fresh-new (finite.insert b g.name g.body) es) g.name g.body (body-put b g.name g.body) in
+        let later = within-added (finite.insert b g.name g.body) (not_held (finite.insert b g.name g.body) es) (fresh-new (finite.insert b g.name g.body) es) g.name g.body (body-put b g.name g.body) in
         let g' : None ≡ Some g.body = sym nothing ∙ later in absurd (cc)
 
 -- the last entry that was looked at has another body under its name
-pub collides : (b : Bodies) (es : List Entry) (e : Entry) → Contains es e → (body_of (added b (fresh b es)) e.name ≡ Some e.body → ⊥) → Collides b es e.name
+pub collides : (b : Bodies) (es : List Entry) (e : Entry) → Contains es e → (body_of (added b (not_held b es)) e.name ≡ Some e.body → ⊥) → Collides b es e.name
 collides b es e there other =
-    elim (body_of (added b (fresh b es)) e.name) as (λ o. body_of (added b (fresh b es)) e.name ≡ o → Collides b es e.name) [
+    elim (body_of (added b (not_held b es)) e.name) as (λ o. body_of (added b (not_held b es)) e.name ≡ o → Collides b es e.name) [
       | None ↦ λ none. absurd (covered b es e there none)
       | Some x ↦ λ some. (
         x,
         e.body,
-        elim (from_entry b (fresh b es) e.name x some) [
+        elim (from_entry b (not_held b es) e.name x some) [
           | inl held ↦ inl held
           | inr (f, inside, name, body) ↦ inr (f, fresh-inside b es f inside, name, body)
         ],
@@ -142,14 +142,14 @@ collides b es e there other =
     ] refl
 
 -- where each entry has its body in the end, no name has two
-pub no_collision : (b : Bodies) (es : List Entry) → ((e : Entry) → Contains es e → body_of (added b (fresh b es)) e.name ≡ Some e.body) → (n : Name) → Collides b es n → ⊥
+pub no_collision : (b : Bodies) (es : List Entry) → ((e : Entry) → Contains es e → body_of (added b (not_held b es)) e.name ≡ Some e.body) → (n : Name) → Collides b es n → ⊥
 no_collision b es each n (x, y, hx, hy, apart) =
     let mx = has n x hx in let my = has n y hy in apart (let e : Some x ≡ Some y = sym mx ∙ my in cc)
   where
-    has : (m : Name) (z : List ℕ) → HasBody b es m z → body_of (added b (fresh b es)) m ≡ Some z
-    has m z (inl held) = within-added b (fresh b es) (fresh-new b es) m z held
+    has : (m : Name) (z : List ℕ) → HasBodyOrAdds b es m z → body_of (added b (not_held b es)) m ≡ Some z
+    has m z (inl held) = within-added b (not_held b es) (fresh-new b es) m z held
     has m z (inr (e, inside, name, body)) =
-        subst (λ (k : Name). body_of (added b (fresh b es)) k ≡ Some z) name (each e inside ∙ ap (λ (w : List ℕ). Some w) body)
+        subst (λ (k : Name). body_of (added b (not_held b es)) k ≡ Some z) name (each e inside ∙ ap (λ (w : List ℕ). Some w) body)
 
 -- what either map has is what the one has in the end
 pub either_is : (b s : Bodies) (fs : List Entry) (n : Name) → s ≡ added finite.empty fs → either s b n ≡ body_of (added b fs) n

@@ -8,7 +8,7 @@ use Rattle.swh_base.specs.declared.kind.Kind.{Kind}
 use Rattle.swh_model.specs.declared.event.Event.{Event}
 use Rattle.swh_model.specs.declared.event.EventKind.{EventKind}
 use Rattle.swh_model.specs.declared.event.EventKind.TheVariants.{Batch, Open, Mark}
-use Rattle.swh_model.specs.Coding.{magic, run_of, event_byte, payload_of, framed, coded_records, coded_runs, AreCodable, IsCodable}
+use Rattle.swh_model.specs.Coding.{magic, packed_objects, event_byte, payload_of, framed, coded_records, coded_runs, AreCodable, IsCodable}
 use Rattle.swh_model.specs.Limits.{store_length, stored_length, records_length, payload_length, ledger_length}
 use Rattle.swh_model.specs.Archive.{Archive, empty_archive}
 use Rattle.swh_model.specs.Step.{May, MayAll, after, after_all, replay}
@@ -26,17 +26,17 @@ body-framed k p = refl
 pub records-written : (at : ℕ) (h : List Event) → coded (segment.records (all_written at h)) ≡ coded_records at h
 records-written at [] = refl
 records-written at (e ∷ h) =
-    let more = records-written (at + length (run_of e.what)) h in
+    let more = records-written (at + length (packed_objects e.what)) h in
     λ i. 1 ∷ (body-framed (event_byte e.what) (payload_of at e) i ++ more i)
 
-pub run-written : (what : EventKind) → segment.bytes_of (run_written what) ≡ run_of what
+pub run-written : (what : EventKind) → segment.run_bytes (run_written what) ≡ packed_objects what
 run-written (Batch entries) = refl
 run-written (Open origin kind date) = refl
 run-written (Mark origin visit status snapshot) = refl
 
 pub runs-written : (at : ℕ) (h : List Event) → segment.runs (all_written at h) ≡ coded_runs h
 runs-written at [] = refl
-runs-written at (e ∷ h) = let one = run-written e.what in let more = runs-written (at + length (run_of e.what)) h in λ i. one i ++ more i
+runs-written at (e ∷ h) = let one = run-written e.what in let more = runs-written (at + length (packed_objects e.what)) h in λ i. one i ++ more i
 
 pub stands_from_files : (images : Images) (h : List Event) → AreCodable 0 h → segment.FilesStand images (all_written 0 h) → StandsFor (images 0) (images 1) h
 stands_from_files images h codable s =
@@ -74,19 +74,19 @@ kept_from id_of tells file store ledger r h w k =
 pub all_written-push : (at : ℕ) (h : List Event) (e : Event) → all_written at (h ++ e ∷ []) ≡ all_written at h ++ written (at + length (coded_runs h)) e ∷ []
 all_written-push at [] e = ap (λ (n : ℕ). written n e ∷ []) (let z : at ≡ at + 0 = omega arith in z)
 all_written-push at (f ∷ h) e =
-    let more = all_written-push (at + length (run_of f.what)) h e in
-    let place : at + length (run_of f.what) + length (coded_runs h) ≡ at + length (run_of f.what ++ coded_runs h) = omega (arith, length-append (run_of f.what) (coded_runs h)) in
-    ap (λ (l : List segment.Event). written at f ∷ l) (more ∙ ap (λ (n : ℕ). all_written (at + length (run_of f.what)) h ++ written n e ∷ []) place)
+    let more = all_written-push (at + length (packed_objects f.what)) h e in
+    let place : at + length (packed_objects f.what) + length (coded_runs h) ≡ at + length (packed_objects f.what ++ coded_runs h) = omega (arith, length-append (packed_objects f.what) (coded_runs h)) in
+    ap (λ (l : List segment.Append). written at f ∷ l) (more ∙ ap (λ (n : ℕ). all_written (at + length (packed_objects f.what)) h ++ written n e ∷ []) place)
 
 pub codable-push : (at : ℕ) (h : List Event) (e : Event) → AreCodable at h → IsCodable (at + length (coded_runs h)) e → AreCodable at (h ++ e ∷ [])
 codable-push at [] e all one = (subst (λ (n : ℕ). IsCodable n e) (let z : at + 0 ≡ at = omega arith in z) one, tt)
 codable-push at (f ∷ h) e all one =
-    let place : at + length (run_of f.what ++ coded_runs h) ≡ at + length (run_of f.what) + length (coded_runs h) = omega (arith, length-append (run_of f.what) (coded_runs h)) in
-    (all.0, codable-push (at + length (run_of f.what)) h e all.1 (subst (λ (n : ℕ). IsCodable n e) place one))
+    let place : at + length (packed_objects f.what ++ coded_runs h) ≡ at + length (packed_objects f.what) + length (coded_runs h) = omega (arith, length-append (packed_objects f.what) (coded_runs h)) in
+    (all.0, codable-push (at + length (packed_objects f.what)) h e all.1 (subst (λ (n : ℕ). IsCodable n e) place one))
 
 pub runs-length : (h : List Event) → length (coded_runs h) ≡ store_length h
 runs-length [] = refl
-runs-length (e ∷ h) = let more = runs-length h in omega (arith, more, length-append (run_of e.what) (coded_runs h))
+runs-length (e ∷ h) = let more = runs-length h in omega (arith, more, length-append (packed_objects e.what) (coded_runs h))
 
 pub written-at : (h : List Event) (e : Event) (n : ℕ) → n ≡ store_length h → all_written 0 (h ++ e ∷ []) ≡ all_written 0 h ++ written n e ∷ []
 written-at h e n is =
@@ -137,7 +137,7 @@ pub settled-push : (r : Replayed) (h : List Event) (e : Event) (run bytes : List
     → segment.AreSettled (files_of ledger store) (all_written 0 h ++ written r.store_end e ∷ []) m n → AreSettledFor ledger store (h ++ e ∷ []) m n
 settled-push r h e run bytes ledger store m n t all s =
     record {
-      settled = subst (λ (es : List segment.Event). segment.AreSettled (files_of ledger store) es m n) (sym (written-at h e r.store_end t.store)) s;
+      settled = subst (λ (es : List segment.Append). segment.AreSettled (files_of ledger store) es m n) (sym (written-at h e r.store_end t.store)) s;
       codable = codable-at h e r.store_end t.store all t.codable;
     }
 
@@ -148,7 +148,7 @@ images_left r h e run bytes files t all each =
       has = λ images are. elim (each.has images are) [
         | inl without ↦ inl (stands_from_files images h all without)
         | inr with_it ↦ inr (stands_from_files images (h ++ e ∷ []) (codable-at h e r.store_end t.store all t.codable)
-            (subst (λ (es : List segment.Event). segment.FilesStand images es) (sym (written-at h e r.store_end t.store)) with_it))
+            (subst (λ (es : List segment.Append). segment.FilesStand images es) (sym (written-at h e r.store_end t.store)) with_it))
       ];
     }
 

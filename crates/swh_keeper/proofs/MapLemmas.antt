@@ -16,9 +16,9 @@ use Rattle.swh_base.specs.declared.name.Name.{Name}
 use Rattle.swh_base.specs.declared.entry.Entry.{Entry}
 use Rattle.swh_base.specs.Name.{name_key, name_cmp, name_cmp_total, name_cmp-IsAntisymmetric}
 use Rattle.swh_model.specs.Archive.{Bodies, body_of}
-use Rattle.swh_model.specs.Step.{IsGood, AreNew, added}
+use Rattle.swh_model.specs.Step.{HasItsChildren, AreNew, added}
 use Rattle.swh_model.proofs.Entries.{added-append}
-use Rattle.swh_keeper.specs.Maps.{named_body, bodies_of, IsKeyed, IsEntryOf, IsWithout}
+use Rattle.swh_keeper.specs.Maps.{named_body, bodies_in_map, IsKeyed, IsEntryOf, IsWithout}
 
 abbrev pub keys_cmp : List ℕ → List ℕ → Ordering
 keys_cmp = slice_cmp nat_cmp
@@ -39,18 +39,18 @@ find-mapped n (e ∷ es) h =
     ap (λ (b : Bool). cond b (Some e.1.body) (find name_cmp n (map named_body es))) same
     ∙ elim (at (name_key n) e.0) as (λ b. cond b (Some e.1.body) (find name_cmp n (map named_body es)) ≡ option_map entry_body (cond b (Some e.1) (lookup (at (name_key n)) es))) [ true ↦ refl | false ↦ more ]
 
-pub body_of-lookup : (n : Name) (es : List (List ℕ × Entry)) → All IsKeyed es → body_of (bodies_of es) n ≡ option_map entry_body (lookup (at (name_key n)) es)
+pub body_of-lookup : (n : Name) (es : List (List ℕ × Entry)) → All IsKeyed es → body_of (bodies_in_map es) n ≡ option_map entry_body (lookup (at (name_key n)) es)
 body_of-lookup n es h = get-from_entries name_cmp_total (map named_body es) n ∙ find-mapped n es h
 
 -- the entry that is found is keyed, and under the key
-pub found_keyed : (k : List ℕ) (es : List (List ℕ × Entry)) (e : Entry) → All IsKeyed es → lookup (at k) es ≡ Some e → (at k (name_key e.name) ≡ true) × IsGood e
+pub found_keyed : (k : List ℕ) (es : List (List ℕ × Entry)) (e : Entry) → All IsKeyed es → lookup (at k) es ≡ Some e → (at k (name_key e.name) ≡ true) × HasItsChildren e
 found_keyed k [] e h is = absurd (let f : None ≡ Some e = is in cc)
 found_keyed k (p ∷ es) e h is =
-    elim (at k p.0) as (λ b. at k p.0 ≡ b → cond b (Some p.1) (lookup (at k) es) ≡ Some e → (at k (name_key e.name) ≡ true) × IsGood e) [
+    elim (at k p.0) as (λ b. at k p.0 ≡ b → cond b (Some p.1) (lookup (at k) es) ≡ Some e → (at k (name_key e.name) ≡ true) × HasItsChildren e) [
       | true ↦ λ t same.
           let here : IsKeyed p = All-head IsKeyed p es h in
           let e_is : p.1 ≡ e = cc in
-          subst (λ (x : Entry). (at k (name_key x.name) ≡ true) × IsGood x) e_is (subst (λ (q : List ℕ). at k q ≡ true) here.0 t, here.1)
+          subst (λ (x : Entry). (at k (name_key x.name) ≡ true) × HasItsChildren x) e_is (subst (λ (q : List ℕ). at k q ≡ true) here.0 t, here.1)
       | false ↦ λ t same. found_keyed k es e (All-tail IsKeyed p es h) same
     ] refl is
 
@@ -67,7 +67,7 @@ other_key n m apart =
       | false ↦ λ _. refl
     ] refl
 
-pub found : (n : Name) (key : List ℕ) (es : List (List ℕ × Entry)) (e : Entry) → key ≡ name_key n → All IsKeyed es → lookup (at key) es ≡ Some e → IsEntryOf (bodies_of es) n e
+pub found : (n : Name) (key : List ℕ) (es : List (List ℕ × Entry)) (e : Entry) → key ≡ name_key n → All IsKeyed es → lookup (at key) es ≡ Some e → IsEntryOf (bodies_in_map es) n e
 found n key es e key_is h is =
     let there : lookup (at (name_key n)) es ≡ Some e = subst (λ (k : List ℕ). lookup (at k) es ≡ Some e) key_is is in
     let k = found_keyed (name_key n) es e h there in
@@ -77,7 +77,7 @@ found n key es e key_is h is =
       good = k.1;
     }
 
-pub missing : (n : Name) (key : List ℕ) (es : List (List ℕ × Entry)) → key ≡ name_key n → All IsKeyed es → lookup (at key) es ≡ None → body_of (bodies_of es) n ≡ None
+pub missing : (n : Name) (key : List ℕ) (es : List (List ℕ × Entry)) → key ≡ name_key n → All IsKeyed es → lookup (at key) es ≡ None → body_of (bodies_in_map es) n ≡ None
 missing n key es key_is h is = body_of-lookup n es h ∙ ap (option_map entry_body) (subst (λ (k : List ℕ). lookup (at k) es ≡ None) key_is is)
 
 -- ---- an entry is put in
@@ -94,19 +94,19 @@ keyed-insert key e (p ∷ es) new h =
       | Greater ↦ λ _. All-cons IsKeyed p (insert_entry keys_cmp es key e) (All-head IsKeyed p es h) (keyed-insert key e es new rest)
     ] refl
 
-pub keyed-put : (key : List ℕ) (e : Entry) (es fs : List (List ℕ × Entry)) → key ≡ name_key e.name → IsGood e → All IsKeyed es → fs ≡ insert_entry keys_cmp es key e → All IsKeyed fs
+pub keyed-put : (key : List ℕ) (e : Entry) (es fs : List (List ℕ × Entry)) → key ≡ name_key e.name → HasItsChildren e → All IsKeyed es → fs ≡ insert_entry keys_cmp es key e → All IsKeyed fs
 keyed-put key e es fs key_is good keyed is = subst (All IsKeyed) (sym is) (keyed-insert key e es (key_is, good) keyed)
 
 pub view-put : (m n : BTreeMap (List ℕ) Entry) (key : List ℕ) (e : Entry) → key ≡ name_key e.name → All IsKeyed m.entries → All IsKeyed n.entries → Updates keys_cmp m n key (Some e)
-    → bodies_of n.entries ≡ insert (bodies_of m.entries) e.name e.body
+    → bodies_in_map n.entries ≡ insert (bodies_in_map m.entries) e.name e.body
 view-put m n key e key_is keyed keyed' updates =
-    same_map name_cmp_total name_cmp-IsAntisymmetric (bodies_of n.entries) (insert (bodies_of m.entries) e.name e.body)
+    same_map name_cmp_total name_cmp-IsAntisymmetric (bodies_in_map n.entries) (insert (bodies_in_map m.entries) e.name e.body)
     (λ q.
     body_of-lookup q n.entries keyed' ∙ ap (option_map entry_body) (updates.0 (name_key q))
     ∙ turn (at key (name_key q)) (get keys_cmp m (name_key q))
     ∙ ap (λ (o : Option (List ℕ)). cond (at key (name_key q)) (Some e.body) o) (sym (body_of-lookup q m.entries keyed))
-    ∙ ap (λ (b : Bool). cond b (Some e.body) (body_of (bodies_of m.entries) q)) (ap (λ (k : List ℕ). at k (name_key q)) key_is ∙ (eq_by_cmp_equiv name_cmp_total).symm e.name q)
-    ∙ sym (get-insert name_cmp_total (bodies_of m.entries) e.name e.body q))
+    ∙ ap (λ (b : Bool). cond b (Some e.body) (body_of (bodies_in_map m.entries) q)) (ap (λ (k : List ℕ). at k (name_key q)) key_is ∙ (eq_by_cmp_equiv name_cmp_total).symm e.name q)
+    ∙ sym (get-insert name_cmp_total (bodies_in_map m.entries) e.name e.body q))
   where
     turn : (b : Bool) (o : Option Entry) → option_map entry_body (cond b (Some e) o) ≡ cond b (Some e.body) (option_map entry_body o)
     turn true o = refl
@@ -124,9 +124,9 @@ keyed-remove test (p ∷ es) h =
     ]
 
 pub without : (m n : BTreeMap (List ℕ) Entry) (key : List ℕ) (name : Name) → key ≡ name_key name → All IsKeyed m.entries → All IsKeyed n.entries → Updates keys_cmp m n key None
-    → IsWithout (bodies_of m.entries) (bodies_of n.entries) name
+    → IsWithout (bodies_in_map m.entries) (bodies_in_map n.entries) name
 without m n key name key_is keyed keyed' updates =
-    let each : (q : Name) → body_of (bodies_of n.entries) q ≡ option_map entry_body (cond (at (name_key name) (name_key q)) None (get keys_cmp m (name_key q))) =
+    let each : (q : Name) → body_of (bodies_in_map n.entries) q ≡ option_map entry_body (cond (at (name_key name) (name_key q)) None (get keys_cmp m (name_key q))) =
     λ q. body_of-lookup q n.entries keyed' ∙ ap (option_map entry_body) (updates.0 (name_key q))
     ∙ ap (λ (k : List ℕ). option_map entry_body (cond (at k (name_key q)) None (get keys_cmp m (name_key q)))) key_is in
     record {

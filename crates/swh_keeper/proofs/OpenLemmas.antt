@@ -9,9 +9,9 @@ use Rattle.swh_base.specs.declared.entry.Entry.{Entry}
 use Rattle.swh_model.specs.declared.event.Event.{Event}
 use Rattle.swh_model.specs.declared.event.EventKind.{EventKind}
 use Rattle.swh_model.specs.declared.event.EventKind.TheVariants.{Batch, Open, Mark}
-use Rattle.swh_model.specs.Coding.{magic, run_of, coded_entry, coded_run, coded_record, coded_records, IsCodableKind, IsCodableEntry}
+use Rattle.swh_model.specs.Coding.{magic, packed_objects, coded_entry, coded_run, coded_record, coded_records, IsCodableKind, IsCodableEntry}
 use Rattle.swh_model.specs.Limits.{records_length}
-use Rattle.swh_model.specs.Stands.{StandsFor, bare, bare_kind}
+use Rattle.swh_model.specs.Stands.{StandsFor, without_children, bare_kind}
 use Rattle.swh_model.specs.Step.{IsHistory}
 use Rattle.swh_keeper.specs.declared.replayed.Replayed.{Replayed}
 use Rattle.swh_keeper.specs.Planned.{IsReplayOf, IsInFiles}
@@ -24,8 +24,8 @@ pub records-length : (at : ℕ) (h : List Event) → length (coded_records at h)
 records-length at [] = refl
 records-length at (e ∷ h) =
     let one = record-length at e (coded_record at e ++ 0 ∷ []) refl in
-    let more = records-length (at + length (run_of e.what)) h in
-    omega (arith, one, more, length-append (coded_record at e) (0 ∷ []), length-append (coded_record at e) (coded_records (at + length (run_of e.what)) h))
+    let more = records-length (at + length (packed_objects e.what)) h in
+    omega (arith, one, more, length-append (coded_record at e) (0 ∷ []), length-append (coded_record at e) (coded_records (at + length (packed_objects e.what)) h))
 
 -- files that stand for a history are settled for it once nothing was written since a barrier
 pub settled_from_standing : (ledger store : File) (r : Replayed) (h : List Event) → IsAtRest ledger → IsAtRest store → StandsFor ledger.seen store.seen h → IsReplayOf r h → AreSettledFor ledger store h r.store_end r.ledger_end
@@ -64,29 +64,29 @@ keeping_opened id_of tells ledger store r h history fits is lr sr s =
       doubt = λ n is_some. absurd (let f : None ≡ Some n = is_some in cc);
     }
 
--- kids are not coded
-bare-entry : (e : Entry) → coded_entry (bare e) ≡ coded_entry e
+-- children are not coded
+bare-entry : (e : Entry) → coded_entry (without_children e) ≡ coded_entry e
 unfolding coded_entry
 bare-entry e = refl
 
-bare-run : (es : List Entry) → coded_run (map bare es) ≡ coded_run es
+bare-run : (es : List Entry) → coded_run (map without_children es) ≡ coded_run es
 bare-run [] = refl
 bare-run (e ∷ es) = let one = bare-entry e in let more = bare-run es in λ i. one i ++ more i
 
-pub length-map : (es : List Entry) → length (map bare es) ≡ length es
+pub length-map : (es : List Entry) → length (map without_children es) ≡ length es
 length-map [] = refl
 length-map (e ∷ es) = let m = length-map es in omega (arith, m)
 
-pub bare-run_of : (what : EventKind) → run_of (bare_kind what) ≡ run_of what
+pub bare-run_of : (what : EventKind) → packed_objects (bare_kind what) ≡ packed_objects what
 bare-run_of (Batch entries) = bare-run entries
 bare-run_of (Open origin kind date) = refl
 bare-run_of (Mark origin visit status snapshot) = refl
 
-codable-entries : (es : List Entry) → AllByRecursion IsCodableEntry (map bare es) → AllByRecursion IsCodableEntry es
+codable-entries : (es : List Entry) → AllByRecursion IsCodableEntry (map without_children es) → AllByRecursion IsCodableEntry es
 codable-entries [] h = tt
 codable-entries (e ∷ es) h = (record { id = h.0.id; body = h.0.body }, codable-entries es h.1)
 
-codable-unbare : (es : List Entry) → AllByRecursion IsCodableEntry es → AllByRecursion IsCodableEntry (map bare es)
+codable-unbare : (es : List Entry) → AllByRecursion IsCodableEntry es → AllByRecursion IsCodableEntry (map without_children es)
 codable-unbare [] h = tt
 codable-unbare (e ∷ es) h = (record { id = h.0.id; body = h.0.body }, codable-unbare es h.1)
 

@@ -25,10 +25,10 @@ use Rattle.swh_model.specs.declared.decoding.told.Told.TheVariants as told_of
 use Rattle.swh_model.specs.declared.decoding.ledger.Record.{Record}
 use Rattle.swh_model.specs.declared.decoding.ledger.Next.{Next}
 use Rattle.swh_model.specs.Archive.{Archive, empty_archive}
-use Rattle.swh_model.specs.Coding.{magic, coded_entry, coded_run, run_of, coded_record, coded_records, coded_runs, IsCodableEntry, IsCodableKind, AreCodable}
-use Rattle.swh_model.specs.Decoding.{IsRunOf, IsWhole, IsFit, IsGateOpen, IsBroken, IsNext, Tells}
+use Rattle.swh_model.specs.Coding.{magic, coded_entry, coded_run, packed_objects, coded_record, coded_records, coded_runs, IsCodableEntry, IsCodableKind, AreCodable}
+use Rattle.swh_model.specs.Decoding.{IsRunOf, HasNoRun, IsFit, IsGateOpen, HasBrokenRecord, IsNextRecord, Tells}
 use Rattle.swh_model.specs.Limits.{bytes_before_last, IsWithinLimits, store_length, ledger_length}
-use Rattle.swh_model.specs.Stands.{StandsFrom, StandsFor, bare, bare_kind}
+use Rattle.swh_model.specs.Stands.{StandsFrom, StandsFor, without_children, bare_kind}
 use Rattle.swh_model.specs.Step.{May_kind, May, MayAll, IsHistory, after, after_all, replay}
 use Rattle.swh_model.proofs.Reading.{record_of_told, record_only}
 use Rattle.swh_model.proofs.OneHistory.{one_history}
@@ -39,7 +39,7 @@ use Rattle.swh_keeper.specs.declared.opening.OpenWhy.{OpenWhy}
 use Rattle.swh_keeper.specs.declared.opening.OpenWhy.TheVariants.{Made, NotMade, Damaged, DiskFault, Memory}
 use Rattle.swh_keeper.specs.Checked.{archive_of, MayNotHappen}
 use Rattle.swh_keeper.specs.Opening.{make_why, IsLeftOfMaking, IsLeftFor}
-use Rattle.swh_keeper.specs.Reading.{MayBeRun, HoldsAt, IsNoBatch, IsKindRead, IsLonger, IsTaken, NoneMayHappen, IsReadSoFar, IsNoArchive, HasRuns}
+use Rattle.swh_keeper.specs.Reading.{MayBeRun, HoldsAt, HoldsNoRun, IsKindRead, IsLonger, TakesRecord, NoneMayHappen, IsReadSoFar, IsNoArchive, HasRuns}
 use Rattle.swh_keeper.proofs.CheckLemmas.{one_event}
 use Rattle.swh_keeper.proofs.KeptLemmas.{runs-length, codable-at, store_length-push, replay-push, history-push}
 use Rattle.swh_keeper.proofs.OpenLemmas.{records-length, bare-run_of, length-map, kind_from_bare, kind_to_bare}
@@ -93,7 +93,7 @@ run-short es limits codable =
 run-inside : (es : List Entry) (y store : List ℕ) (at : ℕ) → at ≤ length store → drop at store ≡ coded_run es ++ y → at + length (coded_run es) ≤ length store
 run-inside es y store at inside holds = omega (arith, inside, ap length holds, length-append (coded_run es) y, length-drop at store)
 
-pub no_place : (at size : ℕ) (p : BatchParts) (store : List ℕ) → size ≡ length store → at ≤ size → (MayBeRun p at size → ⊥) → IsNoBatch at p store
+pub no_place : (at size : ℕ) (p : BatchParts) (store : List ℕ) → size ≡ length store → at ≤ size → (MayBeRun p at size → ⊥) → HoldsNoRun at p store
 no_place at size p store is inside not es y limits codable from to number holds =
     let whole = run-inside es y store at (omega (arith, is, inside)) holds in
     let short = run-short es limits codable in
@@ -104,9 +104,9 @@ take-all : (xs : List ℕ) → take (length xs) xs ≡ xs
 take-all [] = refl
 take-all (x ∷ xs) = ap (λ (l : List ℕ). x ∷ l) (take-all xs)
 
--- what comes next behind a place of the ledger
-pub next_is : (ledger : List ℕ) (n : ℕ) (x : Next) → IsNext (take (length ledger - n) (drop n ledger)) x → IsNext (drop n ledger) x
-next_is ledger n x = subst (λ (l : List ℕ). IsNext l x) (ap (λ (k : ℕ). take k (drop n ledger)) (sym (length-drop n ledger)) ∙ take-all (drop n ledger))
+-- what comes next after a place of the ledger
+pub next_is : (ledger : List ℕ) (n : ℕ) (x : Next) → IsNextRecord (take (length ledger - n) (drop n ledger)) x → IsNextRecord (drop n ledger) x
+next_is ledger n x = subst (λ (l : List ℕ). IsNextRecord l x) (ap (λ (k : ℕ). take k (drop n ledger)) (sym (length-drop n ledger)) ∙ take-all (drop n ledger))
 
 -- the buffer holds what stands from the place on
 pub filled_whole : (store out : List ℕ) (at n : ℕ) → IsFilled store at out n → length out ≤ n → n ≤ length out → out ≡ take (length out) (drop at store)
@@ -130,10 +130,10 @@ pub holds_found : (at : ℕ) (p : BatchParts) (store out bytes : List ℕ) (foun
 holds_found at p store out bytes None same is run = tt
 holds_found at p store out bytes (Some es) same is run = holds_batch at p store out es.items is (subst (λ (l : List ℕ). IsRunOf l p.number es.items) same run)
 
--- ---- what was read with kids and without
+-- ---- what was read with children and without
 
-run_alike : (a b : EventKind) → bare_kind a ≡ bare_kind b → run_of a ≡ run_of b
-run_alike a b alike = sym (bare-run_of a) ∙ ap run_of alike ∙ bare-run_of b
+run_alike : (a b : EventKind) → bare_kind a ≡ bare_kind b → packed_objects a ≡ packed_objects b
+run_alike a b alike = sym (bare-run_of a) ∙ ap packed_objects alike ∙ bare-run_of b
 
 batch_same : (es fs : List Entry) → Batch es ≡ Batch fs → es ≡ fs
 batch_same es fs e = cc
@@ -141,25 +141,25 @@ batch_same es fs e = cc
 tells_alike : (at : ℕ) (t : Told) (given what : EventKind) → IsFit t → bare_kind what ≡ bare_kind given → Tells at t given → Tells at t what
 tells_alike at (told_of.Batch p) (Batch fs) (Batch es) fit alike tells =
     let run : length (coded_run es) ≡ length (coded_run fs) = ap length (run_alike (Batch es) (Batch fs) alike) in
-    let entries : map bare es ≡ map bare fs = batch_same (map bare es) (map bare fs) alike in
+    let entries : map without_children es ≡ map without_children fs = batch_same (map without_children es) (map without_children fs) alike in
     let count : length es ≡ length fs = sym (length-map es) ∙ ap (λ (l : List Entry). length l) entries ∙ length-map fs in
     let e = tells.1 in
     (tells.0, omega (arith, e, run), tells.2 ∙ sym count)
-tells_alike at (told_of.Batch p) (Batch fs) (Open o k d) fit alike tells = absurd (let f : Open o k d ≡ Batch (map bare fs) = alike in cc)
-tells_alike at (told_of.Batch p) (Batch fs) (Mark o v s n) fit alike tells = absurd (let f : Mark o v s n ≡ Batch (map bare fs) = alike in cc)
+tells_alike at (told_of.Batch p) (Batch fs) (Open o k d) fit alike tells = absurd (let f : Open o k d ≡ Batch (map without_children fs) = alike in cc)
+tells_alike at (told_of.Batch p) (Batch fs) (Mark o v s n) fit alike tells = absurd (let f : Mark o v s n ≡ Batch (map without_children fs) = alike in cc)
 tells_alike at (told_of.Batch p) (Open o k d) what fit alike tells = absurd tells
 tells_alike at (told_of.Batch p) (Mark o v s n) what fit alike tells = absurd tells
-tells_alike at (told_of.Whole whole) (Batch fs) what fit alike tells = absurd (subst IsWhole tells fit.whole)
-tells_alike at (told_of.Whole whole) (Open o k d) (Batch es) fit alike tells = absurd (let f : Batch (map bare es) ≡ Open o k d = alike in cc)
+tells_alike at (told_of.Whole whole) (Batch fs) what fit alike tells = absurd (subst HasNoRun tells fit.whole)
+tells_alike at (told_of.Whole whole) (Open o k d) (Batch es) fit alike tells = absurd (let f : Batch (map without_children es) ≡ Open o k d = alike in cc)
 tells_alike at (told_of.Whole whole) (Open o k d) (Open p l e) fit alike tells = tells ∙ sym alike
 tells_alike at (told_of.Whole whole) (Open o k d) (Mark p w t m) fit alike tells = tells ∙ sym alike
-tells_alike at (told_of.Whole whole) (Mark o v s n) (Batch es) fit alike tells = absurd (let f : Batch (map bare es) ≡ Mark o v s n = alike in cc)
+tells_alike at (told_of.Whole whole) (Mark o v s n) (Batch es) fit alike tells = absurd (let f : Batch (map without_children es) ≡ Mark o v s n = alike in cc)
 tells_alike at (told_of.Whole whole) (Mark o v s n) (Open p l e) fit alike tells = tells ∙ sym alike
 tells_alike at (told_of.Whole whole) (Mark o v s n) (Mark p w t m) fit alike tells = tells ∙ sym alike
 
--- one record tells of one thing, up to the kids, where the store holds its run
+-- one record tells of one thing, up to the children, where the store holds its run
 same_told : (at : ℕ) (t : Told) (a b : EventKind) (x y store : List ℕ) → IsFit t → IsCodableKind at a → IsCodableKind at b → Tells at t a → Tells at t b
-    → drop at store ≡ run_of a ++ x → drop at store ≡ run_of b ++ y → bare_kind a ≡ bare_kind b
+    → drop at store ≡ packed_objects a ++ x → drop at store ≡ packed_objects b ++ y → bare_kind a ≡ bare_kind b
 same_told at (told_of.Batch p) (Batch es) (Batch fs) x y store fit ca cb ta tb ha hb =
     ap (λ (l : List Entry). Batch l) (same_run es fs x y (sym ta.2 ∙ tb.2) ca.entries_codable cb.entries_codable (sym ha ∙ hb)).0
 same_told at (told_of.Batch p) (Batch es) (Open o k d) x y store fit ca cb ta tb ha hb = absurd tb
@@ -169,14 +169,14 @@ same_told at (told_of.Batch p) (Mark o v s n) b x y store fit ca cb ta tb ha hb 
 same_told at (told_of.Whole whole) a b x y store fit ca cb ta tb ha hb = ap bare_kind (sym ta ∙ tb)
 
 module _ (id_of : Kind → List ℕ → List ℕ) where
-  pub none_happens : (old : Checked) (by size : ℕ) (t : Told) (store : List ℕ) (k : KindRead) → IsFit t → IsKindRead old.replayed.store_end size t k → HoldsAt store old.replayed.store_end (run_of k.what)
+  pub none_happens : (old : Checked) (by size : ℕ) (t : Told) (store : List ℕ) (k : KindRead) → IsFit t → IsKindRead old.replayed.store_end size t k → HoldsAt store old.replayed.store_end (packed_objects k.what)
       → MayNotHappen id_of (archive_of old.replayed.bodies old.replayed.visits) by k.what → NoneMayHappen id_of old by t store
   none_happens old by size t store k fit read here not what y codable tells holds may =
       not what (same_told old.replayed.store_end t what k.what y _ store fit codable read.codable tells read.told holds here) may
 
   pub taken : (tells_store : Type 0) (store : List ℕ) (old mid : Checked) (by size : ℕ) (t : Told) (k : KindRead) → IsFit t → IsKindRead old.replayed.store_end size t k
-      → (tells_store → HoldsAt store old.replayed.store_end (run_of k.what)) → IsLonger id_of old (record { by = by; what = k.what }) mid
-      → IsTaken id_of tells_store store old by t (record mid { replayed = record mid.replayed { store_end = k.end } })
+      → (tells_store → HoldsAt store old.replayed.store_end (packed_objects k.what)) → IsLonger id_of old (record { by = by; what = k.what }) mid
+      → TakesRecord id_of tells_store store old by t (record mid { replayed = record mid.replayed { store_end = k.end } })
   taken tells_store store old mid by size t k fit read holds longer =
       let run = run_alike longer.what k.what longer.happens.alike in
       let at = old.replayed.store_end in
@@ -199,16 +199,16 @@ records-push : (at : ℕ) (g : List Event) (e : Event) (rest : List ℕ) → cod
 records-push at [] e rest =
     ap (λ (l : List ℕ). 1 ∷ (l ++ rest)) (append-nil (coded_record at e)) ∙ ap (λ (n : ℕ). 1 ∷ (coded_record n e ++ rest)) (let z : at ≡ at + 0 = omega arith in z)
 records-push at (f ∷ g) e rest =
-    let next = at + length (run_of f.what) in
-    let place : next + length (coded_runs g) ≡ at + length (run_of f.what ++ coded_runs g) = omega (arith, length-append (run_of f.what) (coded_runs g)) in
+    let next = at + length (packed_objects f.what) in
+    let place : next + length (coded_runs g) ≡ at + length (packed_objects f.what ++ coded_runs g) = omega (arith, length-append (packed_objects f.what) (coded_runs g)) in
     ap (λ (l : List ℕ). 1 ∷ l)
     (append_assoc (coded_record at f) (coded_records next (g ++ e ∷ [])) rest ∙ ap (λ (l : List ℕ). coded_record at f ++ l) (records-push next g e rest)
     ∙ sym (append_assoc (coded_record at f) (coded_records next g) (1 ∷ (coded_record (next + length (coded_runs g)) e ++ rest))))
     ∙ ap (λ (n : ℕ). 1 ∷ ((coded_record at f ++ coded_records next g) ++ 1 ∷ (coded_record n e ++ rest))) place
 
-runs-push : (g : List Event) (e : Event) → coded_runs (g ++ e ∷ []) ≡ coded_runs g ++ run_of e.what
-runs-push [] e = append-nil (run_of e.what)
-runs-push (f ∷ g) e = ap (λ (l : List ℕ). run_of f.what ++ l) (runs-push g e) ∙ sym (append_assoc (run_of f.what) (coded_runs g) (run_of e.what))
+runs-push : (g : List Event) (e : Event) → coded_runs (g ++ e ∷ []) ≡ coded_runs g ++ packed_objects e.what
+runs-push [] e = append-nil (packed_objects e.what)
+runs-push (f ∷ g) e = ap (λ (l : List ℕ). packed_objects f.what ++ l) (runs-push g e) ∙ sym (append_assoc (packed_objects f.what) (coded_runs g) (packed_objects e.what))
 
 -- The history is what is told up to this place of the ledger, and the rest is its replay.
 record AreParts (id_of : Kind → List ℕ → List ℕ) (ledger : List ℕ) (c : Checked) (ledger_end : ℕ) (h : List Event) : Type 0 where
@@ -221,22 +221,22 @@ record AreParts (id_of : Kind → List ℕ → List ℕ) (ledger : List ℕ) (c 
   records : ledger ≡ magic ++ (coded_records 0 h ++ drop ledger_end ledger)
 
 module _ (id_of : Kind → List ℕ → List ℕ) (tells_store : Type 0) (store ledger : List ℕ) (old mid : Checked) (r : Record) where
-  abbrev event_taken : IsTaken id_of tells_store store old r.by r.told mid → Event
+  abbrev event_taken : TakesRecord id_of tells_store store old r.by r.told mid → Event
   event_taken t = record { by = r.by; what = t.what }
 
   abbrev with_end : Checked
   with_end = record mid { replayed = record mid.replayed { ledger_end = length ledger - length r.rest.now } }
 
-  spelled : IsGateOpen (drop old.replayed.ledger_end ledger) r → (t : IsTaken id_of tells_store store old r.by r.told mid)
+  spelled : IsGateOpen (drop old.replayed.ledger_end ledger) r → (t : TakesRecord id_of tells_store store old r.by r.told mid)
       → drop old.replayed.ledger_end ledger ≡ 1 ∷ (coded_record old.replayed.store_end (event_taken t) ++ r.rest.now)
   spelled open_gate t = open_gate.is ∙ ap (λ (l : List ℕ). 1 ∷ l) (record_of_told open_gate.behind r old.replayed.store_end t.what open_gate.record_is t.told)
 
-  pub next_longer : IsReadSoFar id_of ledger old → IsGateOpen (drop old.replayed.ledger_end ledger) r → IsTaken id_of tells_store store old r.by r.told mid → old.replayed.ledger_end < length ledger - length r.rest.now
+  pub next_longer : IsReadSoFar id_of ledger old → IsGateOpen (drop old.replayed.ledger_end ledger) r → TakesRecord id_of tells_store store old r.by r.told mid → old.replayed.ledger_end < length ledger - length r.rest.now
   next_longer so_far open_gate t =
       let i = so_far.inside in
       omega (arith, i, ap length (spelled open_gate t), length-drop old.replayed.ledger_end ledger, length-append (coded_record old.replayed.store_end (event_taken t)) r.rest.now)
 
-  pub next_so_far : IsReadSoFar id_of ledger old → IsGateOpen (drop old.replayed.ledger_end ledger) r → IsTaken id_of tells_store store old r.by r.told mid → IsReadSoFar id_of ledger with_end
+  pub next_so_far : IsReadSoFar id_of ledger old → IsGateOpen (drop old.replayed.ledger_end ledger) r → TakesRecord id_of tells_store store old r.by r.told mid → IsReadSoFar id_of ledger with_end
   next_so_far so_far open_gate t =
       let e = event_taken t in
       let g = old.history.items in
@@ -275,13 +275,13 @@ module _ (id_of : Kind → List ℕ → List ℕ) (tells_store : Type 0) (store 
       same_archive : IsReadSoFar id_of ledger old → archive_of old.replayed.bodies old.replayed.visits ≡ replay old.history.items
       same_archive s i = record { bodies = s.replay.bodies i; origins = s.replay.visits i }
 
-  pub next_runs : HasRuns store old → (t : IsTaken id_of tells_store store old r.by r.told mid) → tells_store → HasRuns store with_end
+  pub next_runs : HasRuns store old → (t : TakesRecord id_of tells_store store old r.by r.told mid) → tells_store → HasRuns store with_end
   next_runs has t told =
       let e = event_taken t in
       let g = old.history.items in
       let runs : store ≡ coded_runs (g ++ e ∷ []) ++ drop mid.replayed.store_end store =
-      has.runs ∙ ap (λ (l : List ℕ). coded_runs g ++ l) (t.holds told) ∙ sym (append_assoc (coded_runs g) (run_of t.what) _)
-      ∙ ap (λ (l : List ℕ). l ++ drop (old.replayed.store_end + length (run_of t.what)) store) (sym (runs-push g e))
+      has.runs ∙ ap (λ (l : List ℕ). coded_runs g ++ l) (t.holds told) ∙ sym (append_assoc (coded_runs g) (packed_objects t.what) _)
+      ∙ ap (λ (l : List ℕ). l ++ drop (old.replayed.store_end + length (packed_objects t.what)) store) (sym (runs-push g e))
       ∙ ap (λ (n : ℕ). coded_runs (g ++ e ∷ []) ++ drop n store) (sym t.store_end) in
       record { runs = subst (λ (h : List Event). store ≡ coded_runs h ++ drop mid.replayed.store_end store) (sym t.history) runs }
 
@@ -301,22 +301,22 @@ continues id_of a at [] records behind store runs rs us codable may h s m =
     record { k = h; is = refl; stands = subst (λ (n : ℕ). StandsFrom n behind runs h) (let z : at ≡ at + 0 = omega arith in z) there; may = m }
 continues id_of a at (e ∷ g) records behind store runs rs us codable may [] s m = absurd (s.closed (same_head s.gate 1 _ _ (sym s.records ∙ rs)))
 continues id_of a at (e ∷ g) records behind store runs rs us codable may (f ∷ h) s m =
-    let next = at + length (run_of e.what) in
-    let after_f = at + length (run_of f.what) in
+    let next = at + length (packed_objects e.what) in
+    let after_f = at + length (packed_objects f.what) in
     let mine = append_assoc (coded_record at e) (coded_records next g) behind in
     let other = append_assoc (coded_record at f) (coded_records after_f h) (s.gate ∷ s.behind) in
-    let mine_run = append_assoc (run_of e.what) (coded_runs g) runs in
-    let other_run = append_assoc (run_of f.what) (coded_runs h) s.beyond in
+    let mine_run = append_assoc (packed_objects e.what) (coded_runs g) runs in
+    let other_run = append_assoc (packed_objects f.what) (coded_runs h) s.beyond in
     let one = same_event at e f (coded_records next g ++ behind) (coded_records after_f h ++ s.gate ∷ s.behind) (coded_runs g ++ runs) (coded_runs h ++ s.beyond) codable.0 s.codable.0
     (sym mine ∙ same_tail 1 1 _ _ (sym rs ∙ s.records) ∙ other) (sym mine_run ∙ sym us ∙ s.runs ∙ other_run) in
     let same : e ≡ f = one_event id_of a e f one.0 may.0 m.0 in
     let there : StandsFrom after_f (coded_records after_f h ++ s.gate ∷ s.behind) (coded_runs h ++ s.beyond) h =
     record { gate = s.gate; closed = s.closed; behind = s.behind; records = refl; beyond = s.beyond; runs = refl; codable = s.codable.1 } in
     let here : StandsFrom next (coded_records next g ++ behind) (coded_runs g ++ runs) h =
-    subst (λ (n : ℕ). StandsFrom n (coded_records next g ++ behind) (coded_runs g ++ runs) h) (ap (λ (x : Event). at + length (run_of x.what)) (sym same))
+    subst (λ (n : ℕ). StandsFrom n (coded_records next g ++ behind) (coded_runs g ++ runs) h) (ap (λ (x : Event). at + length (packed_objects x.what)) (sym same))
     (subst (λ (l : List ℕ). StandsFrom after_f l (coded_runs g ++ runs) h) (sym one.1) (subst (λ (l : List ℕ). StandsFrom after_f (coded_records after_f h ++ s.gate ∷ s.behind) l h) (sym one.2) there)) in
     let more = continues id_of (after a e) next g _ behind _ runs refl refl codable.1 may.1 h here (subst (λ (x : Event). MayAll id_of (after a x) h) (sym same) m.1) in
-    let place : next + length (coded_runs g) ≡ at + length (run_of e.what ++ coded_runs g) = omega (arith, length-append (run_of e.what) (coded_runs g)) in
+    let place : next + length (coded_runs g) ≡ at + length (packed_objects e.what ++ coded_runs g) = omega (arith, length-append (packed_objects e.what) (coded_runs g)) in
     record {
       k = more.k;
       is = λ i. sym same i ∷ more.is i;
@@ -331,7 +331,7 @@ module _ (id_of : Kind → List ℕ → List ℕ) (ledger store : List ℕ) (c :
       let rests = cut magic magic s.rest _ refl (sym s.begins ∙ so_far.records) in
       continues id_of empty_archive 0 c.history.items _ _ store _ refl has.runs so_far.codable so_far.history h (subst (λ (l : List ℕ). StandsFrom 0 l store h) rests.1 s.stands) is
 
-  pub broken : IsBroken (drop c.replayed.ledger_end ledger) → IsNoArchive id_of ledger store
+  pub broken : HasBrokenRecord (drop c.replayed.ledger_end ledger) → IsNoArchive id_of ledger store
   broken none h s is =
       let on = goes_on h s is in
       none _ on.k on.stands.gate on.stands.behind on.stands.closed on.stands.codable on.stands.records
@@ -351,10 +351,10 @@ module _ (id_of : Kind → List ℕ → List ℕ) (ledger store : List ℕ) (c :
       none_from q gate_open not [] f m = f.closed (same_head f.gate 1 _ _ (sym f.records ∙ gate_open.is))
       none_from q gate_open not (e ∷ k) f m =
           let at = c.replayed.store_end in
-          let next = at + length (run_of e.what) in
+          let next = at + length (packed_objects e.what) in
           let told = record_only gate_open.behind q at e (coded_records next k ++ f.gate ∷ f.behind) gate_open.record_is f.codable.0
           (same_tail 1 1 _ _ (sym gate_open.is ∙ f.records) ∙ append_assoc (coded_record at e) (coded_records next k) (f.gate ∷ f.behind)) in
-          not e.what (coded_runs k ++ f.beyond) f.codable.0.1 told.1 (f.runs ∙ append_assoc (run_of e.what) (coded_runs k) f.beyond)
+          not e.what (coded_runs k ++ f.beyond) f.codable.0.1 told.1 (f.runs ∙ append_assoc (packed_objects e.what) (coded_runs k) f.beyond)
           (subst (λ (n : ℕ). May_kind id_of (archive_of c.replayed.bodies c.replayed.visits) n e.what) (sym told.0) m.0)
 
 -- two histories for which the files stand are one

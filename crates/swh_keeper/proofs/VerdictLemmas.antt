@@ -131,7 +131,7 @@ module _ (h : List Event) (by : ℕ) (origin : List ℕ) (number : ℕ) (status 
   mark_snapshot_refused files may (NoSnapshot name) is =
       (is, none_below h by Wanted origin number status snapshot 8 files (λ l. no_visit may.visit may.there) (λ l. not_yours may.visit may.there may.opened) (λ l. not_ended may.visit may.there may.unended) (λ l. absurd (omega (arith, l))) (λ l. absurd (omega (arith, l))))
   mark_snapshot_refused files may (NotClosed parent child) (full, id, s, held, gap) = (
-    (full, id, s, gap.reached, gap.is_kid, gap.missing),
+    (full, id, s, gap.reached, gap.is_child, gap.missing),
     none_below h by Wanted origin number status snapshot 9 files (λ l. no_visit may.visit may.there) (λ l. not_yours may.visit may.there may.opened) (λ l. not_ended may.visit may.there may.unended) (λ l. snapshot_there id s held) (λ l. absurd (omega (arith, l))),
   )
   mark_snapshot_refused files may (Limit w n) is = absurd is
@@ -141,8 +141,8 @@ module _ (h : List Event) (by : ℕ) (origin : List ℕ) (number : ℕ) (status 
   mark_snapshot_refused files may (Collision name) is = absurd is
 
   nothing_open : SuitsStatus (replay h).bodies status snapshot → (parent child : Name) → MarkCause h by Wanted origin number status snapshot (NotClosed parent child) → ⊥
-  nothing_open suits parent child (full, id, s, reach, kid, missing) =
-      let held = suits.closed id s full child (reaches-next (replay h).bodies reach.0 (snapshot_name id) parent child reach.1 kid) in
+  nothing_open suits parent child (full, id, s, reach, is_child, missing) =
+      let held = suits.closed id s full child (reaches-next (replay h).bodies reach.0 (snapshot_name id) parent child reach.1 is_child) in
       let e = held.1 in let f : Some held.0 ≡ None = sym e ∙ missing in absurd (cc)
 
   nothing_missing : SuitsStatus (replay h).bodies status snapshot → (name : Name) → MarkCause h by Wanted origin number status snapshot (NoSnapshot name) → ⊥

@@ -8,17 +8,17 @@ use Rattle.std.proofs.lemmas.List.Elements.{Contains-append_left, Contains-appen
 use Rattle.swh_base.specs.declared.name.Name.{Name}
 use Rattle.swh_base.specs.declared.entry.Entry.{Entry}
 use Rattle.swh_base.specs.Name.{name_key}
-use Rattle.swh_base.specs.Manifest.{AreKids}
-use Rattle.swh_base.proofs.Kids.{one_list}
+use Rattle.swh_base.specs.Manifest.{AreChildren}
+use Rattle.swh_base.proofs.Children.{one_list}
 use Rattle.std.proofs.Common.{length-append}
-use Rattle.swh_model.specs.Archive.{Bodies, IsHeld, IsKid, Reaches, IsClosed}
+use Rattle.swh_model.specs.Archive.{Bodies, IsHeld, IsChild, Reaches, IsClosed}
 use Rattle.swh_model.proofs.Entries.{all-append}
 use Rattle.swh_model.proofs.Walks.{reaches-next}
 use Rattle.swh_model.proofs.Certificates.{certified-closed}
 use Rattle.swh_keeper.specs.Maps.{IsEntryOf}
 use Rattle.swh_model.specs.Certificate.{AreClosed}
 use Rattle.swh_base.specs.Reach.{IsCovered}
-use Rattle.swh_keeper.specs.Walk.{IsSeen, MayGain, IsHeldKid, GainsKids, GainsHeld, GainsReached}
+use Rattle.swh_keeper.specs.Walk.{IsSeen, MayGain, IsHeldChild, GainsChildren, GainsHeld, GainsReached}
 use Rattle.swh_keeper.proofs.MapLemmas.{keys_cmp, at, same_key, key_itself}
 
 pub seen-push : (seen seen' : BTreeSet (List ℕ)) (key : List ℕ) (name : Name) (names names' : List Name) → IsSeen seen names → key ≡ name_key name → names' ≡ names ++ name ∷ [] → Updates keys_cmp seen seen' key true → IsSeen seen' names'
@@ -77,25 +77,25 @@ all-more kids l l' i x less is each gain there n h =
 none_in : (n : Name) → Contains [] n → ⊥
 none_in n (k, less, is) = absurd (omega (arith, less))
 
-pub kid_of : (bodies : Bodies) (p k : Name) (e : Entry) → IsEntryOf bodies p e → Contains e.kids k → IsKid bodies p k
-kid_of bodies p k e is there =
-    record { body = e.body; held = is.held; kids = e.kids; are = subst (λ (n : Name). AreKids n.kind e.body e.kids) is.name is.good.kids; one_of = there }
+pub child_of : (bodies : Bodies) (p k : Name) (e : Entry) → IsEntryOf bodies p e → Contains e.kids k → IsChild bodies p k
+child_of bodies p k e is there =
+    record { body = e.body; held = is.held; kids = e.kids; are = subst (λ (n : Name). AreChildren n.kind e.body e.kids) is.name is.good.kids; one_of = there }
 
 same_body : (a b : List ℕ) → Some a ≡ Some b → a ≡ b
 same_body a b e = cc
 
-pub of_kid : (bodies : Bodies) (p k : Name) (e : Entry) → IsEntryOf bodies p e → IsKid bodies p k → Contains e.kids k
-of_kid bodies p k e is kid =
-    let bodies_same : kid.body ≡ e.body = same_body kid.body e.body (sym kid.held ∙ is.held) in
-    let one : kid.kids ≡ e.kids = one_list p.kind e.body kid.kids e.kids (subst (λ (b : List ℕ). AreKids p.kind b kid.kids) bodies_same kid.are) (subst (λ (n : Name). AreKids n.kind e.body e.kids) is.name is.good.kids) in
-    subst (λ (ks : List Name). Contains ks k) one kid.one_of
+pub of_child : (bodies : Bodies) (p k : Name) (e : Entry) → IsEntryOf bodies p e → IsChild bodies p k → Contains e.kids k
+of_child bodies p k e is child =
+    let bodies_same : child.body ≡ e.body = same_body child.body e.body (sym child.held ∙ is.held) in
+    let one : child.kids ≡ e.kids = one_list p.kind e.body child.kids e.kids (subst (λ (b : List ℕ). AreChildren p.kind b child.kids) bodies_same child.are) (subst (λ (n : Name). AreChildren n.kind e.body e.kids) is.name is.good.kids) in
+    subst (λ (ks : List Name). Contains ks k) one child.one_of
 
-held_kids : (bodies : Bodies) (p : Name) (e : Entry) → IsEntryOf bodies p e → (ms : List Name) → AllByRecursion (λ n. Contains e.kids n × IsHeld bodies n) ms → AllByRecursion (IsHeldKid bodies p) ms
-held_kids bodies p e is [] h = tt
-held_kids bodies p e is (m ∷ ms) h = ((kid_of bodies p m e is h.0.0, h.0.1), held_kids bodies p e is ms h.1)
+held_children : (bodies : Bodies) (p : Name) (e : Entry) → IsEntryOf bodies p e → (ms : List Name) → AllByRecursion (λ n. Contains e.kids n × IsHeld bodies n) ms → AllByRecursion (IsHeldChild bodies p) ms
+held_children bodies p e is [] h = tt
+held_children bodies p e is (m ∷ ms) h = ((child_of bodies p m e is h.0.0, h.0.1), held_children bodies p e is ms h.1)
 
-pub gains_kids : (bodies : Bodies) (p : Name) (e : Entry) (old new : List Name) → IsEntryOf bodies p e → GainsHeld bodies e.kids old new → GainsKids bodies p old new
-gains_kids bodies p e old new is g = record { more = g.more; behind = g.behind; held_kids = held_kids bodies p e is g.more g.held_names }
+pub gains_children : (bodies : Bodies) (p : Name) (e : Entry) (old new : List Name) → IsEntryOf bodies p e → GainsHeld bodies e.kids old new → GainsChildren bodies p old new
+gains_children bodies p e old new is g = record { more = g.more; behind = g.behind; held_children = held_children bodies p e is g.more g.held_names }
 
 -- what a walk has met beyond what is known, as far as it has come
 pub record Walked (bodies : Bodies) (root : Name) (known l : List Name) (place : ℕ) : Type 0 where
@@ -104,9 +104,9 @@ pub record Walked (bodies : Bodies) (root : Name) (known l : List Name) (place :
   pub done : ℕ
   pub place_is : place ≡ length known + done
   pub within : done ≤ length gains.more
-  pub followed : (n kid : Name) → Contains (take done gains.more) n → IsKid bodies n kid → Contains l kid
+  pub followed : (n child : Name) → Contains (take done gains.more) n → IsChild bodies n child → Contains l child
 
-reached_more : (bodies : Bodies) (root p : Name) → Reaches bodies root p → (ms : List Name) → AllByRecursion (IsHeldKid bodies p) ms → AllByRecursion (λ n. Reaches bodies root n × IsHeld bodies n) ms
+reached_more : (bodies : Bodies) (root p : Name) → Reaches bodies root p → (ms : List Name) → AllByRecursion (IsHeldChild bodies p) ms → AllByRecursion (λ n. Reaches bodies root n × IsHeld bodies n) ms
 reached_more bodies root p reach [] h = tt
 reached_more bodies root p reach (m ∷ ms) h = ((reaches-next bodies reach.0 root p m reach.1 h.0.0, h.0.1), reached_more bodies root p reach ms h.1)
 
@@ -115,7 +115,7 @@ at_place P [] i p is h = absurd (let f : None ≡ Some p = is in cc)
 at_place P (x ∷ l) zero p is h = let e : x ≡ p = cc in (omega arith, sym e, subst P e h.0)
 at_place P (x ∷ l) (suc i) p is h = let more = at_place P l i p is h.1 in (let m = more.0 in omega (arith, m), more.1, more.2)
 
--- behind a front the places begin anew
+-- after a front the places begin anew
 behind_front : (front more : List Name) (place done : ℕ) (p : Name) → place ≡ length front + done → slice_get (front ++ more) place ≡ Some p → slice_get more done ≡ Some p
 behind_front [] more place done p e is = let same : place ≡ done = omega (arith, e) in subst (λ (k : ℕ). slice_get more k ≡ Some p) same is
 behind_front (x ∷ front) more zero done p e is = absurd (omega (arith, e))
@@ -128,17 +128,17 @@ module _ (bodies : Bodies) (root p : Name) (known l : List Name) (place : ℕ) (
   pub parent_held : Reaches bodies root p × IsHeld bodies p
   parent_held = (at_place (λ n. Reaches bodies root n × IsHeld bodies n) w.gains.more w.done p there w.gains.reached).2
 
-  joined : (l' : List Name) (g : GainsKids bodies p l l') → l' ≡ known ++ (w.gains.more ++ g.more)
+  joined : (l' : List Name) (g : GainsChildren bodies p l l') → l' ≡ known ++ (w.gains.more ++ g.more)
   joined l' g = g.behind ∙ ap (λ (k : List Name). k ++ g.more) w.gains.behind ∙ append_assoc known w.gains.more g.more
 
-  all_reached : (l' : List Name) (g : GainsKids bodies p l l') → AllByRecursion (λ n. Reaches bodies root n × IsHeld bodies n) (w.gains.more ++ g.more)
-  all_reached l' g = all-append (λ n. Reaches bodies root n × IsHeld bodies n) w.gains.more g.more w.gains.reached (reached_more bodies root p parent_held.0 g.more g.held_kids)
+  all_reached : (l' : List Name) (g : GainsChildren bodies p l l') → AllByRecursion (λ n. Reaches bodies root n × IsHeld bodies n) (w.gains.more ++ g.more)
+  all_reached l' g = all-append (λ n. Reaches bodies root n × IsHeld bodies n) w.gains.more g.more w.gains.reached (reached_more bodies root p parent_held.0 g.more g.held_children)
 
-  pub gains-next : (l' : List Name) → GainsKids bodies p l l' → GainsReached bodies root known l'
+  pub gains-next : (l' : List Name) → GainsChildren bodies p l l' → GainsReached bodies root known l'
   gains-next l' g =
       record { more = w.gains.more ++ g.more; behind = joined l' g; reached = all_reached l' g }
 
-  pub walk-next : (l' : List Name) → GainsKids bodies p l l' → ((kid : Name) → IsKid bodies p kid → Contains l' kid) → Walked bodies root known l' (place + 1)
+  pub walk-next : (l' : List Name) → GainsChildren bodies p l l' → ((child : Name) → IsChild bodies p child → Contains l' child) → Walked bodies root known l' (place + 1)
   walk-next l' g all =
       let a = at_place (λ n. Reaches bodies root n × IsHeld bodies n) w.gains.more w.done p there w.gains.reached in
       let keep : (n : Name) → Contains l n → Contains l' n = λ n h. subst (λ (k : List Name). Contains k n) (sym g.behind) (Contains-append_left l g.more n h) in
@@ -151,10 +151,10 @@ module _ (bodies : Bodies) (root p : Name) (known l : List Name) (place : ℕ) (
         done = w.done + 1;
         place_is = let e = w.place_is in omega (arith, e);
         within = omega (arith, less, length-append w.gains.more g.more);
-        followed = λ n kid h is_kid.
+        followed = λ n child h is_child.
             elim (Contains-push_cases (take w.done w.gains.more) p n (subst (λ (k : List Name). Contains k n) cut h)) [
-              | inl old ↦ keep kid (w.followed n kid old is_kid)
-              | inr same ↦ all kid (subst (λ (m : Name). IsKid bodies m kid) (sym same) is_kid)
+              | inl old ↦ keep child (w.followed n child old is_child)
+              | inr same ↦ all child (subst (λ (m : Name). IsChild bodies m child) (sym same) is_child)
             ];
       }
 
@@ -181,9 +181,9 @@ module _ (bodies : Bodies) (root : Name) (known l : List Name) (place : ℕ) (pa
       (record {
         begins = inl listed;
         held = held_all bodies root w.gains.more w.gains.reached;
-        kids = λ m kid met is_kid.
+        kids = λ m child met is_child.
             let all_done : length w.gains.more ≤ w.done = let is = w.place_is in omega (arith, past, is, ap length w.gains.behind, length-append known w.gains.more) in
-            covered known w.gains.more l kid w.gains.behind (w.followed m kid (subst (λ (k : List Name). Contains k m) (sym (take_all w.done w.gains.more all_done)) met) is_kid);
+            covered known w.gains.more l child w.gains.behind (w.followed m child (subst (λ (k : List Name). Contains k m) (sym (take_all w.done w.gains.more all_done)) met) is_child);
       })
 
   pub walk-ends : AreClosed bodies l

@@ -5,7 +5,7 @@ use Rattle.swh_model.specs.declared.event.Event.{Event}
 use Rattle.swh_model.specs.declared.event.EventKind.{EventKind}
 use Rattle.swh_model.specs.declared.event.EventKind.TheVariants.{Batch, Open, Mark}
 use Rattle.swh_model.specs.Archive.{Archive, visits_of}
-use Rattle.swh_model.specs.Step.{IsGood, AreNew, after}
+use Rattle.swh_model.specs.Step.{HasItsChildren, AreNew, after}
 use Rattle.swh_keeper.specs.declared.replayed.Replayed.{Replayed}
 
 -- the archive that is in memory
@@ -14,7 +14,7 @@ archive_of r = record { bodies = r.bodies; origins = r.visits }
 
 -- What carrying an event out in memory asks of it.
 abbrev pub MayAdvance : Replayed → EventKind → Type 0
-MayAdvance r (Batch entries) = AllByRecursion IsGood entries × AreNew r.bodies entries
+MayAdvance r (Batch entries) = AllByRecursion HasItsChildren entries × AreNew r.bodies entries
 MayAdvance r (Open origin kind date) = Unit {0}
 MayAdvance r (Mark origin visit status snapshot) = (0 < visit) × (visit ≤ length (visits_of r.visits origin))
 

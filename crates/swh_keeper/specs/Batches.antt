@@ -5,7 +5,7 @@ use Rattle.swh_base.specs.declared.name.Name.{Name}
 use Rattle.swh_base.specs.declared.entry.Entry.{Entry}
 use Rattle.swh_model.specs.Archive.{Bodies, body_of}
 use Rattle.swh_model.specs.Step.{added}
-use Rattle.swh_model.specs.Judge.{fresh}
+use Rattle.swh_model.specs.Judge.{not_held}
 use Rattle.swh_keeper.specs.declared.fresh.Split.{Split}
 
 -- the first, or else the second
@@ -19,5 +19,5 @@ either first second n = or_else (body_of first n) (body_of second n)
 
 -- The entries that are not held, each once, and the same as a map.
 pub record IsSplit (bodies : Bodies) (entries : List Entry) (split : Split) : Type 0 where
-  pub entries_are : split.fresh.items ≡ fresh bodies entries
+  pub entries_are : split.fresh.items ≡ not_held bodies entries
   pub map_is : split.added ≡ added finite.empty split.fresh.items

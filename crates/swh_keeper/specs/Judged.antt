@@ -51,7 +51,7 @@ pub record MayBeMarked (visits : List Visit) (by number : ℕ) : Type 0 where
   pub opened : visit.by ≡ by
   pub unended : IsFinal (last_status visit.statuses) → ⊥
 
--- Of the name a kid is reached that is not held.
+-- Of the name a child is reached that is not held.
 abbrev pub IsGapRefusal : Bodies → Name → No → Type 0
 IsGapRefusal bodies name (NotClosed parent child) = IsGap bodies name parent child
 IsGapRefusal bodies name _ = ⊥

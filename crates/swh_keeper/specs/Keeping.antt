@@ -9,13 +9,13 @@ use Rattle.swh_base.specs.declared.kind.Kind.{Kind}
 use Rattle.swh_model.specs.declared.event.Event.{Event}
 use Rattle.swh_model.specs.declared.event.EventKind.{EventKind}
 use Rattle.swh_model.specs.declared.event.EventKind.TheVariants.{Batch, Open, Mark}
-use Rattle.swh_model.specs.Coding.{coded_run, coded_record, run_of, event_byte, payload_of, IsCodable, AreCodable}
+use Rattle.swh_model.specs.Coding.{coded_run, coded_record, packed_objects, event_byte, payload_of, IsCodable, AreCodable}
 use Rattle.swh_model.specs.Limits.{store_length, records_length}
 use Rattle.swh_model.specs.Stands.{StandsFor}
 use Rattle.swh_model.specs.Step.{IsHistory}
 use Rattle.swh_keeper.specs.declared.replayed.Replayed.{Replayed}
 use Rattle.swh_keeper.specs.Planned.{IsReplayOf, IsInFiles}
-use Rattle.swh_keeper.specs.Kept.{AreInDoubt}
+use Rattle.swh_keeper.specs.Kept.{MayHoldOneMore}
 
 -- the run that an event adds to the store, if it adds one
 abbrev pub run_written : EventKind → Option (List ℕ)
@@ -24,13 +24,13 @@ run_written (Open origin kind date) = None
 run_written (Mark origin visit status snapshot) = None
 
 -- an event as the two files have it
-abbrev pub written : ℕ → Event → segment.Event
+abbrev pub written : ℕ → Event → segment.Append
 written at e = record { entry = record { kind = event_byte e.what; payload = payload_of at e }; run = run_written e.what }
 
 -- the events as the two files have them, from this place of the store on
-abbrev pub all_written : ℕ → List Event → List segment.Event
+abbrev pub all_written : ℕ → List Event → List segment.Append
 all_written at [] = []
-all_written at (e ∷ h) = written at e ∷ all_written (at + length (run_of e.what)) h
+all_written at (e ∷ h) = written at e ∷ all_written (at + length (packed_objects e.what)) h
 
 -- The files are settled for the history, and its events fit their fields.
 pub record AreSettledFor (ledger store : File) (h : List Event) (store_end ledger_end : ℕ) : Type 0 where
@@ -43,11 +43,11 @@ pub record IsKeeping (id_of : Kind → List ℕ → List ℕ) (tells : Type 0) (
   pub in_files : IsInFiles r
   pub replayed_is : wounded ≡ None → IsReplayOf r h
   pub settled : wounded ≡ None → tells → AreSettledFor ledger store h r.store_end r.ledger_end
-  pub doubt : (n : ℕ) → wounded ≡ Some n → tells → AreInDoubt id_of ledger store h
+  pub doubt : (n : ℕ) → wounded ≡ Some n → tells → MayHoldOneMore id_of ledger store h
 
 -- The event of a plan, with its bytes and room for them.
 pub record IsToAdd (r : Replayed) (h : List Event) (e : Event) (run bytes : List ℕ) : Type 0 where
-  pub run_is : run ≡ run_of e.what
+  pub run_is : run ≡ packed_objects e.what
   pub bytes_are : bytes ≡ coded_record r.store_end e ++ 0 ∷ []
   pub codable : IsCodable r.store_end e
   pub store : r.store_end ≡ store_length h
@@ -57,15 +57,15 @@ abbrev pub WithOrWithout : List Event → Event → Images → Type 0
 WithOrWithout h e images = StandsFor (images 0) (images 1) h ⊎ StandsFor (images 0) (images 1) (h ++ e ∷ [])
 
 -- Both files have room for these.
-pub record HasRoom (r : Replayed) (run bytes : List ℕ) : Type 0 where
+pub record FilesHaveRoom (r : Replayed) (run bytes : List ℕ) : Type 0 where
   pub store_fits : r.store_end + length run ≤ 2 ^ 62
   pub ledger_fits : r.ledger_end + 1 + length bytes ≤ 2 ^ 62
 
--- The device calls that add an event behind a history.
+-- The device calls that add an event after a history.
 abbrev pub calls_for : List Event → Event → List FileCall
 calls_for h e = segment.event_calls (store_length h) (run_written e.what) (8 + records_length h) (coded_record (store_length h) e ++ 0 ∷ [])
 
--- The event behind the history is the newest, and its calls were made.
+-- The event after the history is the newest, and its calls were made.
 pub record IsCarriedOut (h h' : List Event) (old new : Files) : Type 0 where
   pub event : Event
   pub added_behind : h' ≡ h ++ event ∷ []

@@ -35,8 +35,8 @@ pub record AreStanding (ledger store : File) (h : List Event) : Type 0 where
   pub store_rests : IsAtRest store
   pub stand : StandsFor ledger.seen store.seen h
 
--- One event may have happened behind the history.
-pub record AreInDoubt (id_of : Kind → List ℕ → List ℕ) (ledger store : File) (h : List Event) : Type 0 where
+-- One event may have happened after the history.
+pub record MayHoldOneMore (id_of : Kind → List ℕ → List ℕ) (ledger store : File) (h : List Event) : Type 0 where
   pub event : Event
   pub may : May id_of (replay h) event
   pub each : EachImages (files_of ledger store) (λ images. StandsFor (images 0) (images 1) h ⊎ StandsFor (images 0) (images 1) (h ++ event ∷ []))
@@ -45,7 +45,7 @@ pub record AreInDoubt (id_of : Kind → List ℕ → List ℕ) (ledger store : F
 pub record IsKept {D : Type 0} (id_of : Kind → List ℕ → List ℕ) (tells : Type 0) (file : D → File) (k : Kept D) : Type 0 where
   pub history : IsHistory id_of k.history
   pub standing : k.wounded ≡ None → tells → AreStanding (file k.ledger) (file k.store) k.history
-  pub doubt : (n : ℕ) → k.wounded ≡ Some n → tells → AreInDoubt id_of (file k.ledger) (file k.store) k.history
+  pub doubt : (n : ℕ) → k.wounded ≡ Some n → tells → MayHoldOneMore id_of (file k.ledger) (file k.store) k.history
 
 -- The plan was judged, and its event is the newest.
 pub record Applies (h : List Event) (by : ℕ) (wish : EventKind) (h' : List Event) (outcome : Outcome) : Type 0 where
@@ -66,14 +66,14 @@ pub record IsDiskFaulted {D : Type 0} (old new : Kept D) : Type 0 where
   pub wounded : new.wounded ≡ Some (length old.history + 1)
 
 -- Why a plan was refused, and what is left.
-abbrev pub Refuses : {D : Type 0} → Kept D → ℕ → EventKind → Kept D → Refusal → Type 0
-Refuses old by wish new (refusal.Wounded first) = (old.wounded ≡ Some first) × (new ≡ old)
-Refuses old by wish new (refusal.Limit which number) = IsJudgedAgainst old by wish (Limit which number) new
-Refuses old by wish new (refusal.NoVisit have) = IsJudgedAgainst old by wish (NoVisit have) new
-Refuses old by wish new (refusal.NotYours other) = IsJudgedAgainst old by wish (NotYours other) new
-Refuses old by wish new (refusal.Ended status) = IsJudgedAgainst old by wish (Ended status) new
-Refuses old by wish new (refusal.NoSnapshot name) = IsJudgedAgainst old by wish (NoSnapshot name) new
-Refuses old by wish new (refusal.NotClosed parent child) = IsJudgedAgainst old by wish (NotClosed parent child) new
-Refuses old by wish new (refusal.Collision name) = IsJudgedAgainst old by wish (Collision name) new
-Refuses old by wish new refusal.DiskFault = IsDiskFaulted old new
-Refuses old by wish new (refusal.Memory stands) = (stands ≡ false) × (new ≡ old)
+abbrev pub RefusesPlan : {D : Type 0} → Kept D → ℕ → EventKind → Kept D → Refusal → Type 0
+RefusesPlan old by wish new (refusal.Wounded first) = (old.wounded ≡ Some first) × (new ≡ old)
+RefusesPlan old by wish new (refusal.Limit which number) = IsJudgedAgainst old by wish (Limit which number) new
+RefusesPlan old by wish new (refusal.NoVisit have) = IsJudgedAgainst old by wish (NoVisit have) new
+RefusesPlan old by wish new (refusal.NotYours other) = IsJudgedAgainst old by wish (NotYours other) new
+RefusesPlan old by wish new (refusal.Ended status) = IsJudgedAgainst old by wish (Ended status) new
+RefusesPlan old by wish new (refusal.NoSnapshot name) = IsJudgedAgainst old by wish (NoSnapshot name) new
+RefusesPlan old by wish new (refusal.NotClosed parent child) = IsJudgedAgainst old by wish (NotClosed parent child) new
+RefusesPlan old by wish new (refusal.Collision name) = IsJudgedAgainst old by wish (Collision name) new
+RefusesPlan old by wish new refusal.DiskFault = IsDiskFaulted old new
+RefusesPlan old by wish new (refusal.Memory stands) = (stands ≡ false) × (new ≡ old)

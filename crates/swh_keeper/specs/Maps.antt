@@ -11,7 +11,7 @@ use Rattle.std.specs.Global.{Vec}
 use Rattle.swh_model.specs.contracts.event.Visit as a_visit
 use Rattle.swh_model.specs.declared.event.Visit.{Visit}
 use Rattle.swh_model.specs.Archive.{Bodies, Origins, body_of}
-use Rattle.swh_model.specs.Step.{IsGood}
+use Rattle.swh_model.specs.Step.{HasItsChildren}
 
 -- how maps of bodies are told apart
 abbrev pub bodies_code : Coded Bodies
@@ -22,18 +22,18 @@ abbrev pub named_body : List ℕ × Entry → Name × List ℕ
 named_body p = (p.1.name, p.1.body)
 
 -- the map of the entries in memory
-abbrev pub bodies_of : List (List ℕ × Entry) → Bodies
-bodies_of es = finite.from_entries (map named_body es)
+abbrev pub bodies_in_map : List (List ℕ × Entry) → Bodies
+bodies_in_map es = finite.from_entries (map named_body es)
 
 -- The entry is good, and stands under its name's key.
 abbrev pub IsKeyed : List ℕ × Entry → Type 0
-IsKeyed p = (p.0 ≡ name_key p.1.name) × IsGood p.1
+IsKeyed p = (p.0 ≡ name_key p.1.name) × HasItsChildren p.1
 
 -- The entry is good, has the name, and its body is held.
 pub record IsEntryOf (bodies : Bodies) (n : Name) (e : Entry) : Type 0 where
   pub name : e.name ≡ n
   pub held : body_of bodies n ≡ Some e.body
-  pub good : IsGood e
+  pub good : HasItsChildren e
 
 -- The second map is the first without the name.
 pub record IsWithout (before now : Bodies) (n : Name) : Type 0 where

@@ -9,7 +9,7 @@ use Rattle.swh_model.specs.declared.event.EventKind.TheVariants.{Batch, Open, Ma
 use Rattle.swh_model.specs.declared.decoding.payload.BatchParts.{BatchParts}
 use Rattle.swh_model.specs.declared.decoding.told.Told.{Told}
 use Rattle.swh_model.specs.Certificate.{AreClosed}
-use Rattle.swh_model.specs.Coding.{magic, coded_run, run_of, coded_records, coded_runs, IsCodableEntry, IsCodableKind, AreCodable}
+use Rattle.swh_model.specs.Coding.{magic, coded_run, packed_objects, coded_records, coded_runs, IsCodableEntry, IsCodableKind, AreCodable}
 use Rattle.swh_model.specs.Decoding.{IsGateClosed, Tells}
 use Rattle.swh_model.specs.Limits.{IsWithinLimits}
 use Rattle.swh_base.specs.Limits.{objects_limit, run_limit}
@@ -28,7 +28,7 @@ pub record MayBeRun (p : BatchParts) (at size : ℕ) : Type 0 where
   pub short : p.to - at ≤ run_limit
   pub few : p.number ≤ objects_limit
 
--- These are the objects of the batch, without their kids.
+-- These are the objects of the batch, without their children.
 pub record IsBatchRead (at : ℕ) (p : BatchParts) (es : List Entry) : Type 0 where
   pub begins : p.from ≡ at
   pub ends : p.to ≡ at + length (coded_run es)
@@ -40,29 +40,29 @@ abbrev pub HoldsAt : List ℕ → ℕ → List ℕ → Type 0
 HoldsAt store at bytes = drop at store ≡ bytes ++ drop (at + length bytes) store
 
 -- The store holds no run that the record tells, of a batch within its limits.
-abbrev pub IsNoBatch : ℕ → BatchParts → List ℕ → Type 0
-IsNoBatch at p store = (es : List Entry) (y : List ℕ) → IsWithinLimits es → AllByRecursion IsCodableEntry es → p.from ≡ at → p.to ≡ at + length (coded_run es) → p.number ≡ length es
+abbrev pub HoldsNoRun : ℕ → BatchParts → List ℕ → Type 0
+HoldsNoRun at p store = (es : List Entry) (y : List ℕ) → IsWithinLimits es → AllByRecursion IsCodableEntry es → p.from ≡ at → p.to ≡ at + length (coded_run es) → p.number ≡ length es
     → drop at store ≡ coded_run es ++ y → ⊥
 
 -- A batch is within its limits.
-abbrev pub IsWithin : EventKind → Type 0
-IsWithin (Batch es) = IsWithinLimits es
-IsWithin (Open origin kind date) = Unit {0}
-IsWithin (Mark origin visit status snapshot) = Unit {0}
+abbrev pub IsBatchWithinLimits : EventKind → Type 0
+IsBatchWithinLimits (Batch es) = IsWithinLimits es
+IsBatchWithinLimits (Open origin kind date) = Unit {0}
+IsBatchWithinLimits (Mark origin visit status snapshot) = Unit {0}
 
--- What the record tells, without kids, and where its run ends, in a store of this length.
+-- What the record tells, without children, and where its run ends, in a store of this length.
 pub record IsKindRead (at size : ℕ) (t : Told) (k : KindRead) : Type 0 where
   pub told : Tells at t k.what
   pub codable : IsCodableKind at k.what
-  pub end_is : k.end ≡ at + length (run_of k.what)
+  pub end_is : k.end ≡ at + length (packed_objects k.what)
   pub inside : k.end ≤ size
 
 -- The record tells of nothing whose run the store holds, within its limits.
-abbrev pub IsNoKind : ℕ → Told → List ℕ → Type 0
-IsNoKind at t store = (what : EventKind) (y : List ℕ) → IsWithin what → IsCodableKind at what → Tells at t what → drop at store ≡ run_of what ++ y → ⊥
+abbrev pub TellsOfNothingHeld : ℕ → Told → List ℕ → Type 0
+TellsOfNothingHeld at t store = (what : EventKind) (y : List ℕ) → IsBatchWithinLimits what → IsCodableKind at what → Tells at t what → drop at store ≡ packed_objects what ++ y → ⊥
 
 module _ (id_of : Kind → List ℕ → List ℕ) where
-  -- The event happens to the archive, with the kids of its entries, and is the newest.
+  -- The event happens to the archive, with the children of its entries, and is the newest.
   pub record IsLonger (old : Checked) (given : Event) (new : Checked) : Type 0 where
     pub what : EventKind
     pub happens : Happens id_of (archive_of old.replayed.bodies old.replayed.visits) (archive_of new.replayed.bodies new.replayed.visits) given.by given.what what
@@ -71,23 +71,23 @@ module _ (id_of : Kind → List ℕ → List ℕ) where
     pub ledger_end : new.replayed.ledger_end ≡ old.replayed.ledger_end
     pub closed : AreClosed new.replayed.bodies new.closed
 
-  -- An event of which a record tells happens and is the newest, and the store's end is behind its run.
-  pub record IsTaken (store_told : Type 0) (store : List ℕ) (old : Checked) (by : ℕ) (t : Told) (new : Checked) : Type 0 where
+  -- An event of which a record tells happens and is the newest, and the store's end is after its run.
+  pub record TakesRecord (store_told : Type 0) (store : List ℕ) (old : Checked) (by : ℕ) (t : Told) (new : Checked) : Type 0 where
     pub what : EventKind
     pub told : Tells old.replayed.store_end t what
     pub codable : IsCodableKind old.replayed.store_end what
     pub may : May_kind id_of (archive_of old.replayed.bodies old.replayed.visits) by what
     pub now : archive_of new.replayed.bodies new.replayed.visits ≡ after_kind (archive_of old.replayed.bodies old.replayed.visits) by what
     pub history : new.history.items ≡ old.history.items ++ record { by = by; what = what } ∷ []
-    pub store_end : new.replayed.store_end ≡ old.replayed.store_end + length (run_of what)
+    pub store_end : new.replayed.store_end ≡ old.replayed.store_end + length (packed_objects what)
     pub ledger_end : new.replayed.ledger_end ≡ old.replayed.ledger_end
     pub closed : AreClosed new.replayed.bodies new.closed
-    pub holds : store_told → HoldsAt store old.replayed.store_end (run_of what)
+    pub holds : store_told → HoldsAt store old.replayed.store_end (packed_objects what)
 
   -- Nothing of which the record tells, and whose run the store holds, may happen.
   abbrev pub NoneMayHappen : Checked → ℕ → Told → List ℕ → Type 0
   NoneMayHappen old by t store = (what : EventKind) (y : List ℕ) → IsCodableKind old.replayed.store_end what → Tells old.replayed.store_end t what
-      → drop old.replayed.store_end store ≡ run_of what ++ y → May_kind id_of (archive_of old.replayed.bodies old.replayed.visits) by what → ⊥
+      → drop old.replayed.store_end store ≡ packed_objects what ++ y → May_kind id_of (archive_of old.replayed.bodies old.replayed.visits) by what → ⊥
 
   -- The history is what the ledger's records up to a place tell, and may happen; the rest is its replay, and names that
   -- are closed in it.

@@ -18,6 +18,6 @@ refusal_of (NotClosed parent child) = refusal.NotClosed parent child
 refusal_of (Collision name) = refusal.Collision name
 
 -- the refusal for why there is no plan
-abbrev pub refusal_for : PlanFault → refused.Refusal
-refusal_for (Refused cause) = refusal_of cause
-refusal_for Memory = refusal.Memory false
+abbrev pub plan_refusal : PlanFault → refused.Refusal
+plan_refusal (Refused cause) = refusal_of cause
+plan_refusal Memory = refusal.Memory false

@@ -2,11 +2,11 @@
 ghost use Rattle.std.specs.Prelude.{◌≡◌, ◌+◌, ◌≤◌, ◌<◌, ◌^◌, ◌++◌, ◌∷◌, [], ℕ, List, length, OnOk, OnErr, IfOk, IfErr, IsErrOf};
 ghost use Rattle.swh_outside.specs.Files.{EachImages, FilesBreaks, files_of, files_done};
 ghost use Rattle.swh_segment.specs.Events.{event_calls};
-ghost use Rattle.swh_segment.specs.Makes.{EitherRose};
+ghost use Rattle.swh_segment.specs.Makes.{ADiskFailed};
 ghost use Rattle.swh_model.specs.declared.event.Event.{Event};
 ghost use Rattle.swh_keeper.specs.Advance.{MayAdvance};
 ghost use Rattle.swh_keeper.specs.Planned.{IsReplayOf, IsInFiles};
-ghost use Rattle.swh_keeper.specs.Keeping.{AreSettledFor, IsToAdd, WithOrWithout, HasRoom, run_written};
+ghost use Rattle.swh_keeper.specs.Keeping.{AreSettledFor, IsToAdd, WithOrWithout, FilesHaveRoom, run_written};
 ghost use Rattle.swh_keeper.specs.declared.adding.AddFault.TheVariants.{Disk as DiskFailed, Memory as OutOfMemory};
 
 use crate::advance::advance;
@@ -52,7 +52,7 @@ pub fn add_event<D: Disk>(
     requires replay { IsReplayOf replayed.old history.old.items }
     requires may { MayAdvance replayed.old planned.event.what }
     requires to_add { IsToAdd replayed.old history.old.items planned.event planned.run.items planned.bytes.items }
-    requires room { HasRoom replayed.old planned.run.items planned.bytes.items }
+    requires room { FilesHaveRoom replayed.old planned.run.items planned.bytes.items }
     requires settled { D.tells → AreSettledFor (D.file ledger.old) (D.file store.old) history.old.items replayed.old.store_end replayed.old.ledger_end }
 
     ensures outcome { IfOk result (λ outcome. outcome ≡ planned.outcome) }
@@ -76,7 +76,7 @@ pub fn add_event<D: Disk>(
     ensures left { D.tells → IsErrOf result DiskFailed → EachImages (files_of (D.file ledger.new) (D.file store.new)) (WithOrWithout history.old.items planned.event) }
     ensures store_later { D.faults store.old ≤ D.faults store.new }
     ensures ledger_later { D.faults ledger.old ≤ D.faults ledger.new }
-    ensures cause { IsErrOf result DiskFailed → EitherRose (D.faults store.old) (D.faults store.new) (D.faults ledger.old) (D.faults ledger.new) }
+    ensures cause { IsErrOf result DiskFailed → ADiskFailed (D.faults store.old) (D.faults store.new) (D.faults ledger.old) (D.faults ledger.new) }
 
     // Where no disk failed, both counts are as they were.
     ensures store_quiet { OnOk result (D.faults store.new ≡ D.faults store.old) }

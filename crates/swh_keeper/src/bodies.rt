@@ -15,13 +15,13 @@ pub struct HeldBodies {
 impl Model for HeldBodies {
     ghost use Rattle.std.specs.Prelude.{All};
     ghost use Rattle.swh_model.specs.Archive.{Bodies};
-    ghost use Rattle.swh_keeper.specs.Maps.{bodies_code, bodies_of, IsKeyed};
+    ghost use Rattle.swh_keeper.specs.Maps.{bodies_code, bodies_in_map, IsKeyed};
 
     ghost Value = { Bodies };
 
     ghost coded = { bodies_code };
 
-    ghost view = { λ h. bodies_of h.by_key.entries };
+    ghost view = { λ h. bodies_in_map h.by_key.entries };
 
     ghost invariant = { λ h. All IsKeyed h.by_key.entries };
 }
@@ -31,8 +31,8 @@ ghost use Rattle.std.specs.List.{AllByRecursion};
 ghost use Rattle.std.specs.FinMap as finite;
 ghost use Rattle.swh_base.specs.Name.{name_key};
 ghost use Rattle.swh_model.specs.Archive.{Bodies, body_of};
-ghost use Rattle.swh_model.specs.Step.{IsGood, AreNew, added};
-ghost use Rattle.swh_keeper.specs.Maps.{bodies_of, IsKeyed, IsWithout};
+ghost use Rattle.swh_model.specs.Step.{HasItsChildren, AreNew, added};
+ghost use Rattle.swh_keeper.specs.Maps.{bodies_in_map, IsKeyed, IsWithout};
 
 /// The kind's number, then the id.
 pub fn key_of(name: &Name) -> [u8; 21]
@@ -46,12 +46,12 @@ pub fn key_of(name: &Name) -> [u8; 21]
 
 fn insert_one(by_key: &mut BTreeMap<[u8; 21], Entry>, entry: Entry) -> Result<(), Memory>
     requires keyed { All IsKeyed by_key.old.entries }
-    requires good { IsGood entry }
-    requires absent { body_of (bodies_of by_key.old.entries) entry.name ≡ None }
+    requires good { HasItsChildren entry }
+    requires absent { body_of (bodies_in_map by_key.old.entries) entry.name ≡ None }
     ensures keyed { All IsKeyed by_key.new.entries }
-    ensures ok { OnOk result (bodies_of by_key.new.entries
-        ≡ finite.insert (bodies_of by_key.old.entries) entry.name entry.body) }
-    ensures err { OnErr result (bodies_of by_key.new.entries ≡ bodies_of by_key.old.entries) }
+    ensures ok { OnOk result (bodies_in_map by_key.new.entries
+        ≡ finite.insert (bodies_in_map by_key.old.entries) entry.name entry.body) }
+    ensures err { OnErr result (bodies_in_map by_key.new.entries ≡ bodies_in_map by_key.old.entries) }
 {
     by_key.insert(key_of(&entry.name), entry)?;
     Ok(())
@@ -60,12 +60,12 @@ fn insert_one(by_key: &mut BTreeMap<[u8; 21], Entry>, entry: Entry) -> Result<()
 /// Inserts an equal entry, which shares the body.
 fn insert_again(by_key: &mut BTreeMap<[u8; 21], Entry>, entry: &Entry) -> Result<(), Memory>
     requires keyed { All IsKeyed by_key.old.entries }
-    requires good { IsGood entry.now }
-    requires absent { body_of (bodies_of by_key.old.entries) entry.now.name ≡ None }
+    requires good { HasItsChildren entry.now }
+    requires absent { body_of (bodies_in_map by_key.old.entries) entry.now.name ≡ None }
     ensures keyed { All IsKeyed by_key.new.entries }
-    ensures ok { OnOk result (bodies_of by_key.new.entries
-        ≡ finite.insert (bodies_of by_key.old.entries) entry.now.name entry.now.body) }
-    ensures err { OnErr result (bodies_of by_key.new.entries ≡ bodies_of by_key.old.entries) }
+    ensures ok { OnOk result (bodies_in_map by_key.new.entries
+        ≡ finite.insert (bodies_in_map by_key.old.entries) entry.now.name entry.now.body) }
+    ensures err { OnErr result (bodies_in_map by_key.new.entries ≡ bodies_in_map by_key.old.entries) }
 {
     insert_one(by_key, entry.again()?)
 }
@@ -73,7 +73,7 @@ fn insert_again(by_key: &mut BTreeMap<[u8; 21], Entry>, entry: &Entry) -> Result
 fn remove_one(by_key: &mut BTreeMap<[u8; 21], Entry>, name: &Name)
     requires { All IsKeyed by_key.old.entries }
     ensures keyed { All IsKeyed by_key.new.entries }
-    ensures view { IsWithout (bodies_of by_key.old.entries) (bodies_of by_key.new.entries) name.now }
+    ensures view { IsWithout (bodies_in_map by_key.old.entries) (bodies_in_map by_key.new.entries) name.now }
 {
     by_key.remove(&key_of(name));
 }
@@ -83,7 +83,7 @@ fn remove_all(by_key: &mut BTreeMap<[u8; 21], Entry>, entries: &[Entry])
     requires { All IsKeyed by_key.old.entries }
     ensures keyed { All IsKeyed by_key.new.entries }
     ensures view { (bodies : Bodies) → AreNew bodies entries.now
-        → bodies_of by_key.old.entries ≡ added bodies entries.now → bodies_of by_key.new.entries ≡ bodies }
+        → bodies_in_map by_key.old.entries ≡ added bodies entries.now → bodies_in_map by_key.new.entries ≡ bodies }
 {
     let mut left = entries.len();
     while left > 0 {
@@ -95,11 +95,11 @@ fn remove_all(by_key: &mut BTreeMap<[u8; 21], Entry>, entries: &[Entry])
 /// Inserts entries one after another, and takes them out again where memory runs out.
 fn insert_all(by_key: &mut BTreeMap<[u8; 21], Entry>, entries: &[Entry]) -> Result<(), Memory>
     requires keyed { All IsKeyed by_key.old.entries }
-    requires good { AllByRecursion IsGood entries.now }
-    requires absent { AreNew (bodies_of by_key.old.entries) entries.now }
+    requires good { AllByRecursion HasItsChildren entries.now }
+    requires absent { AreNew (bodies_in_map by_key.old.entries) entries.now }
     ensures keyed { All IsKeyed by_key.new.entries }
-    ensures ok { OnOk result (bodies_of by_key.new.entries ≡ added (bodies_of by_key.old.entries) entries.now) }
-    ensures err { OnErr result (bodies_of by_key.new.entries ≡ bodies_of by_key.old.entries) }
+    ensures ok { OnOk result (bodies_in_map by_key.new.entries ≡ added (bodies_in_map by_key.old.entries) entries.now) }
+    ensures err { OnErr result (bodies_in_map by_key.new.entries ≡ bodies_in_map by_key.old.entries) }
 {
     for (place, entry) in entries.iter().enumerate() {
         if let Err(fault) = insert_again(by_key, entry) {
@@ -140,7 +140,7 @@ impl HeldBodies {
 
     /// Adds an entry that is not held.
     pub fn put(&mut self, entry: Entry) -> Result<(), Memory>
-        requires good { IsGood entry }
+        requires good { HasItsChildren entry }
         requires absent { body_of self.old entry.name ≡ None }
         ensures ok { OnOk result (self.new ≡ finite.insert self.old entry.name entry.body) }
         ensures err { OnErr result (self.new ≡ self.old) }
@@ -150,7 +150,7 @@ impl HeldBodies {
 
     /// Adds entries that are not held, and no two of one name.
     pub fn add(&mut self, entries: &[Entry]) -> Result<(), Memory>
-        requires good { AllByRecursion IsGood entries.now }
+        requires good { AllByRecursion HasItsChildren entries.now }
         requires absent { AreNew self.old entries.now }
         ensures ok { OnOk result (self.new ≡ added self.old entries.now) }
         ensures err { OnErr result (self.new ≡ self.old) }

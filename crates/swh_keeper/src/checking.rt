@@ -3,10 +3,10 @@ ghost use Rattle.std.specs.Prelude.{◌≡◌, ◌↔◌, false, IsTrue, IfOk, I
 ghost use Rattle.std.specs.List.{AllByRecursion};
 ghost use Rattle.swh_model.specs.Archive.{visits_of};
 ghost use Rattle.swh_model.specs.Certificate.{AreClosed};
-ghost use Rattle.swh_model.specs.Step.{IsGood, AreNew, FitsStatus, MayMark, added};
-ghost use Rattle.swh_model.specs.Judge.{IsHow};
+ghost use Rattle.swh_model.specs.Step.{HasItsChildren, AreNew, FitsStatus, MayMark, added};
+ghost use Rattle.swh_model.specs.Judge.{StatusAllows};
 ghost use Rattle.swh_keeper.specs.Judged.{MayBeMarked};
-ghost use Rattle.swh_keeper.specs.Checked.{archive_of, AreAdded, MayNotBeAdded, IsMarked, Happens, MayNotHappen};
+ghost use Rattle.swh_keeper.specs.Checked.{archive_of, AreAdded, MayNotBeAdded, MarksVisit, Happens, MayNotHappen};
 
 use crate::bodies::HeldBodies;
 use crate::judging::{snapshot_refusal, visit_refusal};
@@ -15,7 +15,7 @@ use crate::remaking::remake_all;
 use crate::replayed::Replayed;
 use crate::visits::OriginVisits;
 use std::alloc::Global;
-use swh_base::{Entry, Many, Memory, Namer, Status, Url};
+use swh_base::{Entry, Items, Memory, Namer, Status, Url};
 use swh_model::{Event, EventKind, Visit, are_within_limits};
 
 /// A history, its replay, and names that are known to be closed.
@@ -28,7 +28,7 @@ pub struct Checked {
 
 /// Adds entries one after another, up to one whose name is held.
 fn add_new(bodies: &mut HeldBodies, entries: &[Entry]) -> Result<bool, Memory>
-    requires { AllByRecursion IsGood entries.now }
+    requires { AllByRecursion HasItsChildren entries.now }
     ensures yes { IfOk result (λ yes. IsTrue yes → AreNew bodies.old entries.now × (bodies.new ≡ added bodies.old entries.now)) }
     ensures no { IfOk result (λ yes. yes ≡ false → AreNew bodies.old entries.now → ⊥) }
 {
@@ -81,7 +81,7 @@ fn is_origin_markable(visits: &OriginVisits, origin: &Url, by: u32, number: u64)
 }
 
 fn is_how(status: Status, snapshot: &Option<[u8; 20]>) -> bool
-    ensures { IsTrue result ↔ IsHow status snapshot.now }
+    ensures { IsTrue result ↔ StatusAllows status snapshot.now }
 {
     match status {
         Status::Created => false,
@@ -121,7 +121,7 @@ fn check_mark(
     mark: (Status, Option<[u8; 20]>),
 ) -> Result<bool, Memory>
     requires { AreClosed bodies.now closed.old }
-    ensures yes { IfOk result (λ yes. IsTrue yes → IsMarked (archive_of bodies.now visits.old) visits.new by origin.now visit mark.0 mark.1) }
+    ensures yes { IfOk result (λ yes. IsTrue yes → MarksVisit (archive_of bodies.now visits.old) visits.new by origin.now visit mark.0 mark.1) }
     ensures no { IfOk result (λ yes. yes ≡ false → MayMark (archive_of bodies.now visits.old) by origin.now visit mark.0 mark.1 → ⊥) }
     ensures known { IfOk result (λ yes. IsTrue yes → AreClosed bodies.now closed.new) }
 {
@@ -136,7 +136,7 @@ fn check_mark(
     Ok(true)
 }
 
-/// What happened, with the kids of its entries, where it may happen.
+/// What happened, with the children of its entries, where it may happen.
 pub fn check_kind<N: Namer>(
     alloc: Global,
     namer: &N,
@@ -154,7 +154,7 @@ pub fn check_kind<N: Namer>(
     match given {
         EventKind::Batch(entries) => {
             match check_batch(alloc, namer, bodies, entries.as_slice())? {
-                Some(entries) => Ok(Some(EventKind::Batch(Many::from_vec(entries)))),
+                Some(entries) => Ok(Some(EventKind::Batch(Items::from_vec(entries)))),
                 None => Ok(None),
             }
         }

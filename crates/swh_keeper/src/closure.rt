@@ -2,9 +2,9 @@
 //! that are known to be closed.
 ghost use Rattle.std.specs.Prelude.{◌≡◌, None, IfOk, IfSome, IfNone, Contains};
 ghost use Rattle.swh_base.specs.declared.name.Name.{Name};
-ghost use Rattle.swh_model.specs.Archive.{body_of, IsHeld, IsKid, IsClosed};
+ghost use Rattle.swh_model.specs.Archive.{body_of, IsHeld, IsChild, IsClosed};
 ghost use Rattle.swh_model.specs.Certificate.{AreClosed};
-ghost use Rattle.swh_keeper.specs.Walk.{GainsHeld, GainsKids, GainsReached, IsGap};
+ghost use Rattle.swh_keeper.specs.Walk.{GainsHeld, GainsChildren, GainsReached, IsGap};
 
 use crate::bodies::HeldBodies;
 use crate::listing::Listing;
@@ -19,27 +19,27 @@ fn list_held(
 ) -> Result<Option<Name>, Memory>
     ensures gains { GainsHeld bodies.now kids.now listing.old listing.new }
     ensures gap { IfOk result (λ gap. IfSome gap (λ child. Contains kids.now child × (body_of bodies.now child ≡ None))) }
-    ensures all { IfOk result (λ gap. IfNone gap ((kid : Name) → Contains kids.now kid → Contains listing.new kid)) }
+    ensures all { IfOk result (λ gap. IfNone gap ((child : Name) → Contains kids.now child → Contains listing.new child)) }
 {
-    for kid in kids {
-        if !bodies.has(kid) {
-            return Ok(Some(*kid));
+    for child in kids {
+        if !bodies.has(child) {
+            return Ok(Some(*child));
         }
-        listing.add(*kid)?;
+        listing.add(*child)?;
     }
     Ok(None)
 }
 
-/// Lists the kids of a held parent up to the first that is not held, which is answered.
-fn list_kids(
+/// Lists the children of a held parent up to the first that is not held, which is answered.
+fn list_children(
     bodies: &HeldBodies,
     listing: &mut Listing,
     parent: &Name,
 ) -> Result<Option<Name>, Memory>
     requires { IsHeld bodies.now parent.now }
-    ensures gains { GainsKids bodies.now parent.now listing.old listing.new }
-    ensures gap { IfOk result (λ gap. IfSome gap (λ child. IsKid bodies.now parent.now child × (body_of bodies.now child ≡ None))) }
-    ensures all { IfOk result (λ gap. IfNone gap ((kid : Name) → IsKid bodies.now parent.now kid → Contains listing.new kid)) }
+    ensures gains { GainsChildren bodies.now parent.now listing.old listing.new }
+    ensures gap { IfOk result (λ gap. IfSome gap (λ child. IsChild bodies.now parent.now child × (body_of bodies.now child ≡ None))) }
+    ensures all { IfOk result (λ gap. IfNone gap ((child : Name) → IsChild bodies.now parent.now child → Contains listing.new child)) }
 {
     let Some(entry) = bodies.get(parent) else {
         unreachable!()
@@ -47,7 +47,7 @@ fn list_kids(
     list_held(bodies, listing, entry.kids.as_slice())
 }
 
-/// A kid that is not held of a name that is reached from the root and held, or none where the root is closed. The walk
+/// A child that is not held of a name that is reached from the root and held, or none where the root is closed. The walk
 /// leaves out the names that are known to be closed, and those that it met join them: all of them where the root is
 /// closed, and else the held ones that it had come to.
 pub fn find_gap_beyond(
@@ -68,7 +68,7 @@ pub fn find_gap_beyond(
         let Some(parent) = closed.get(place) else {
             return Ok(None);
         };
-        if let Some(child) = list_kids(bodies, closed, &parent)? {
+        if let Some(child) = list_children(bodies, closed, &parent)? {
             return Ok(Some((parent, child)));
         }
     }
@@ -76,7 +76,7 @@ pub fn find_gap_beyond(
     unreachable!()
 }
 
-/// A kid that is not held of a name that is reached from the root and held, or none where the root is closed.
+/// A child that is not held of a name that is reached from the root and held, or none where the root is closed.
 pub fn find_gap(
     alloc: Global,
     bodies: &HeldBodies,

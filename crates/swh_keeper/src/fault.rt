@@ -21,7 +21,7 @@ pub enum Refusal {
 }
 
 ghost use Rattle.std.specs.Prelude.{◌≡◌};
-ghost use Rattle.swh_keeper.specs.Refusal.{refusal_of, refusal_for};
+ghost use Rattle.swh_keeper.specs.Refusal.{refusal_of, plan_refusal};
 
 fn refused_by(cause: No) -> Refusal
     ensures { result ≡ refusal_of cause }
@@ -39,7 +39,7 @@ fn refused_by(cause: No) -> Refusal
 
 /// The refusal for why there is no plan.
 pub fn refusal_for(fault: PlanFault) -> Refusal
-    ensures { result ≡ refusal_for fault }
+    ensures { result ≡ plan_refusal fault }
 {
     match fault {
         PlanFault::Refused(cause) => refused_by(cause),

@@ -4,8 +4,8 @@ ghost use Rattle.std.specs.List.{AllByRecursion};
 ghost use Rattle.std.specs.FinMap as finite;
 ghost use Rattle.swh_base.specs.declared.name.Name.{Name};
 ghost use Rattle.swh_model.specs.Archive.{body_of};
-ghost use Rattle.swh_model.specs.Step.{IsGood, added};
-ghost use Rattle.swh_model.specs.Judge.{fresh, Collides};
+ghost use Rattle.swh_model.specs.Step.{HasItsChildren, added};
+ghost use Rattle.swh_model.specs.Judge.{not_held, Collides};
 ghost use Rattle.swh_keeper.specs.Batches.{either, IsSplit};
 
 use crate::bodies::HeldBodies;
@@ -26,7 +26,7 @@ fn is_new(bodies: &HeldBodies, added: &HeldBodies, name: &Name) -> bool
 }
 
 fn keep(split: &mut Split, entry: &Entry) -> Result<(), Memory>
-    requires good { IsGood entry.now }
+    requires good { HasItsChildren entry.now }
     requires absent { body_of split.old.added entry.now.name ≡ None }
     ensures fresh { OnOk result (split.new.fresh.items ≡ split.old.fresh.items ++ entry.now ∷ []) }
     ensures added { OnOk result (split.new.added ≡ finite.insert split.old.added entry.now.name entry.now.body) }
@@ -37,7 +37,7 @@ fn keep(split: &mut Split, entry: &Entry) -> Result<(), Memory>
 }
 
 pub fn split_fresh(alloc: Global, bodies: &HeldBodies, entries: &[Entry]) -> Result<Split, Memory>
-    requires { AllByRecursion IsGood entries.now }
+    requires { AllByRecursion HasItsChildren entries.now }
     ensures { IfOk result (IsSplit bodies.now entries.now) }
 {
     let mut split = Split {

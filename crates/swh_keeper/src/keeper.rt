@@ -41,7 +41,7 @@ impl<N: Namer, D: Disk> Model for Keeper<N, D> {
 
 impl<N: Namer, D: Disk> Keeper<N, D> {
     ghost use Rattle.std.specs.Prelude.{◌≡◌, ◌≤◌, None, IfSome, IfNone, MatchOption, MatchResult, OnOk, IfOk, IfErr, IsErrOf, []};
-    ghost use Rattle.swh_segment.specs.Makes.{EitherRose};
+    ghost use Rattle.swh_segment.specs.Makes.{ADiskFailed};
     ghost use Rattle.swh_model.specs.Judge.{IsWish};
     ghost use Rattle.swh_keeper.specs.declared.fault.Refusal.TheVariants.{DiskFault};
     ghost use Rattle.swh_outside.specs.Files.{files_of, files_done};
@@ -53,7 +53,7 @@ impl<N: Namer, D: Disk> Keeper<N, D> {
     ghost use Rattle.swh_model.specs.Step.{replay};
     ghost use Rattle.swh_keeper.specs.Advance.{archive_of};
     ghost use Rattle.swh_keeper.specs.Maps.{IsAll, IsEntryOf};
-    ghost use Rattle.swh_keeper.specs.Kept.{IsKept, Applies, Refuses};
+    ghost use Rattle.swh_keeper.specs.Kept.{IsKept, Applies, RefusesPlan};
     ghost use Rattle.swh_keeper.specs.Keeping.{IsCarriedOut, IsBrokenOff};
 
     /// Makes an archive of no event, unless the ledger is made.
@@ -69,7 +69,7 @@ impl<N: Namer, D: Disk> Keeper<N, D> {
         ensures calls { D.tells → IfOk result (λ keeper. files_of (D.file keeper.ledger) (D.file keeper.store) ≡ files_done (making_calls (D.file ledger).seen) (files_of (D.file ledger) (D.file store))) }
         ensures err { IfErr result (λ fault. IsMakeFault fault.why) }
         ensures made { D.tells → IfErr result (λ fault. fault.why ≡ Made → IsMade (D.file ledger).seen) }
-        ensures cause { IfErr result (λ fault. fault.why ≡ DiskFaulted → EitherRose (D.faults store) (D.faults fault.store) (D.faults ledger) (D.faults fault.ledger)) }
+        ensures cause { IfErr result (λ fault. fault.why ≡ DiskFaulted → ADiskFailed (D.faults store) (D.faults fault.store) (D.faults ledger) (D.faults fault.ledger)) }
 
         // A made archive is as it was, and each disk comes back as the one that it was.
         ensures left { D.tells → IfErr result (λ fault. IsLeftOfMaking fault.why
@@ -127,7 +127,7 @@ impl<N: Namer, D: Disk> Keeper<N, D> {
         ensures why { IfErr result (λ fault. IsOpeningFault fault.why) }
         ensures not_made { D.tells → IfErr result (λ fault. fault.why ≡ NotMade → IsNotMade (D.file ledger).seen) }
         ensures damaged { D.tells → IfErr result (λ fault. fault.why ≡ Damaged → IsDamaged N.id_of (D.file ledger).seen (D.file store).seen) }
-        ensures cause { IfErr result (λ fault. fault.why ≡ DiskFaulted → EitherRose (D.faults store) (D.faults fault.store) (D.faults ledger) (D.faults fault.ledger)) }
+        ensures cause { IfErr result (λ fault. fault.why ≡ DiskFaulted → ADiskFailed (D.faults store) (D.faults fault.store) (D.faults ledger) (D.faults fault.ledger)) }
         ensures left { D.tells → IfErr result (λ fault. IsLeftFor fault.why (files_of (D.file ledger) (D.file store)) (files_of (D.file fault.ledger) (D.file fault.store))) }
 
         ensures store_later { MatchResult result (λ keeper. D.faults store ≤ D.faults keeper.store) (λ fault. D.faults store ≤ D.faults fault.store) }
@@ -218,7 +218,7 @@ impl<N: Namer, D: Disk> Keeper<N, D> {
         requires { IsWish N.id_of wish }
         ensures ok { IfOk result (Applies self.old.history by wish self.new.history) }
         ensures unwounded { OnOk result ((self.old.wounded ≡ None) × (self.new.wounded ≡ None)) }
-        ensures err { IfErr result (Refuses self.old by wish self.new) }
+        ensures err { IfErr result (RefusesPlan self.old by wish self.new) }
 
         // The device calls that it makes: those that add the event, at a fault up to the one that failed.
         ensures calls { D.tells → OnOk result (IsCarriedOut self.old.history self.new.history
@@ -228,7 +228,7 @@ impl<N: Namer, D: Disk> Keeper<N, D> {
 
         ensures store_later { D.faults self.old.store ≤ D.faults self.new.store }
         ensures ledger_later { D.faults self.old.ledger ≤ D.faults self.new.ledger }
-        ensures cause { IsErrOf result DiskFault → EitherRose (D.faults self.old.store) (D.faults self.new.store) (D.faults self.old.ledger) (D.faults self.new.ledger) }
+        ensures cause { IsErrOf result DiskFault → ADiskFailed (D.faults self.old.store) (D.faults self.new.store) (D.faults self.old.ledger) (D.faults self.new.ledger) }
 
         // Where the event is added, both counts are as they were.
         ensures store_quiet { OnOk result (D.faults self.new.store ≡ D.faults self.old.store) }

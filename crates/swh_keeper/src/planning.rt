@@ -3,7 +3,7 @@ use crate::fresh::{Split, find_collision, split_fresh};
 use crate::judging::{limit_of_batch, limit_of_files, snapshot_refusal, visit_refusal};
 use crate::replayed::Replayed;
 use std::alloc::{AllocError, AllocFailed, Global};
-use swh_base::{Entry, Many, Memory, Status, Url, VisitKind};
+use swh_base::{Entry, Items, Memory, Status, Url, VisitKind};
 use swh_model::{
     Event, EventKind, No, Outcome, entries_are_codable, origin_is_codable, record_of_event,
     run_of_entries,

@@ -4,11 +4,11 @@ ghost use Rattle.std.specs.List.{AllByRecursion};
 ghost use Rattle.swh_model.specs.declared.event.Event.{Event};
 ghost use Rattle.swh_model.specs.declared.event.EventKind.TheVariants.{Batch, Open, Mark};
 ghost use Rattle.swh_model.specs.Archive.{visits_of};
-ghost use Rattle.swh_model.specs.Coding.{run_of, coded_record, IsCodable, IsCodableEntry};
-ghost use Rattle.swh_model.specs.Step.{IsGood};
-ghost use Rattle.swh_model.specs.Judge.{IsHow, FilePasses};
+ghost use Rattle.swh_model.specs.Coding.{packed_objects, coded_record, IsCodable, IsCodableEntry};
+ghost use Rattle.swh_model.specs.Step.{HasItsChildren};
+ghost use Rattle.swh_model.specs.Judge.{StatusAllows, FilePasses};
 ghost use Rattle.swh_keeper.specs.Judged.{NonePasses, IsVisitRefusal, MayBeMarked};
-ghost use Rattle.swh_keeper.specs.Planned.{IsReplayOf, IsInFiles, IsPlan, IsPlanned, IsRefused, IsEncoded, IsTooLong};
+ghost use Rattle.swh_keeper.specs.Planned.{IsReplayOf, IsInFiles, IsPlan, IsPlanned, IsRefusedPlan, EncodesEvent, PassesFileEnd};
 
 use crate::fresh::{Split, find_collision, split_fresh};
 use crate::judging::{limit_of_batch, limit_of_files, snapshot_refusal, visit_refusal};
@@ -17,7 +17,7 @@ use crate::planning::{PlanFault, Planned};
 use crate::replayed::Replayed;
 use crate::visits::OriginVisits;
 use std::alloc::Global;
-use swh_base::{Entry, Many, Memory, Status, Url, VisitKind, Which};
+use swh_base::{Entry, Items, Memory, Status, Url, VisitKind, Which};
 use swh_model::{
     Event, EventKind, No, Outcome, Wish, entries_are_codable, origin_is_codable, record_of_event,
     run_of_entries, snapshot_is_codable,
@@ -51,11 +51,11 @@ fn encode(
     run: &[u8],
 ) -> Result<Vec<u8>, PlanFault>
     requires in_files { IsInFiles replayed.now }
-    requires run { run.now ≡ run_of event.now.what }
+    requires run { run.now ≡ packed_objects event.now.what }
     requires codable { IsCodable replayed.now.store_end event.now }
     ensures ok { (h : List Event) → IsReplayOf replayed.now h → IfOk result (λ bytes. NonePasses (FilePasses h event.now.what)) }
-    ensures bytes { IfOk result (IsEncoded replayed.now event.now run.now) }
-    ensures err { (h : List Event) → IsReplayOf replayed.now h → IfErr result (IsTooLong h event.now.what) }
+    ensures bytes { IfOk result (EncodesEvent replayed.now event.now run.now) }
+    ensures err { (h : List Event) → IsReplayOf replayed.now h → IfErr result (PassesFileEnd h event.now.what) }
 {
     let run_length = run.len() as u64;
     let at = replayed.store_end;
@@ -79,7 +79,7 @@ pub fn plan_open(
 ) -> Result<Planned, PlanFault>
     requires { IsInFiles replayed.now }
     ensures ok { (h : List Event) → IsReplayOf replayed.now h → number ≡ length h + 1 → IfOk result (IsPlanned h by (Open origin kind date) replayed.now) }
-    ensures err { (h : List Event) → IsReplayOf replayed.now h → IfErr result (IsRefused h by (Open origin kind date)) }
+    ensures err { (h : List Event) → IsReplayOf replayed.now h → IfErr result (IsRefusedPlan h by (Open origin kind date)) }
 {
     let have = number_of_visits(&replayed.visits, &origin);
     origin_is_codable(&origin);
@@ -108,9 +108,9 @@ pub fn plan_batch(
     entries: &[Entry],
 ) -> Result<Planned, PlanFault>
     requires in_files { IsInFiles replayed.now }
-    requires good { AllByRecursion IsGood entries.now }
+    requires good { AllByRecursion HasItsChildren entries.now }
     ensures ok { (h : List Event) → IsReplayOf replayed.now h → number ≡ length h + 1 → IfOk result (IsPlanned h by (Batch entries.now) replayed.now) }
-    ensures err { (h : List Event) → IsReplayOf replayed.now h → IfErr result (IsRefused h by (Batch entries.now)) }
+    ensures err { (h : List Event) → IsReplayOf replayed.now h → IfErr result (IsRefusedPlan h by (Batch entries.now)) }
 {
     if let Some((which, number)) = limit_of_batch(entries) {
         return Err(PlanFault::Refused(No::Limit { which, number }));
@@ -123,7 +123,7 @@ pub fn plan_batch(
     let run = run_of_entries(alloc, &fresh)?;
     let event = Event {
         by,
-        what: EventKind::Batch(Many::from_vec(fresh)),
+        what: EventKind::Batch(Items::from_vec(fresh)),
     };
     let bytes = encode(alloc, replayed, &event, &run)?;
     if let Some(name) = collision {
@@ -148,9 +148,9 @@ pub fn plan_mark(
     mark: (Status, Option<[u8; 20]>),
 ) -> Result<Planned, PlanFault>
     requires in_files { IsInFiles replayed.now }
-    requires how { IsHow mark.0 mark.1 }
+    requires how { StatusAllows mark.0 mark.1 }
     ensures ok { (h : List Event) → IsReplayOf replayed.now h → number ≡ length h + 1 → IfOk result (IsPlanned h by (Mark origin visit mark.0 mark.1) replayed.now) }
-    ensures err { (h : List Event) → IsReplayOf replayed.now h → IfErr result (IsRefused h by (Mark origin visit mark.0 mark.1)) }
+    ensures err { (h : List Event) → IsReplayOf replayed.now h → IfErr result (IsRefusedPlan h by (Mark origin visit mark.0 mark.1)) }
 {
     let (status, snapshot) = mark;
     let refusal = mark_visit_refusal(&replayed.visits, &origin, by, visit);
@@ -193,7 +193,7 @@ pub fn plan(
     requires in_files { IsInFiles replayed.now }
     requires plan { IsPlan wish }
     ensures ok { (h : List Event) → IsReplayOf replayed.now h → number ≡ length h + 1 → IfOk result (IsPlanned h by wish replayed.now) }
-    ensures err { (h : List Event) → IsReplayOf replayed.now h → IfErr result (IsRefused h by wish) }
+    ensures err { (h : List Event) → IsReplayOf replayed.now h → IfErr result (IsRefusedPlan h by wish) }
 {
     match wish {
         EventKind::Batch(entries) => { plan_batch(alloc, replayed, number, by, entries.as_slice()) }

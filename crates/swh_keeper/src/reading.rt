@@ -1,19 +1,19 @@
 //! The reading of an archive's two files: the ledger record by record, the store run by run, each event checked as it
-//! is read. Of the store nothing is read behind the last run.
+//! is read. Of the store nothing is read after the last run.
 ghost use Rattle.std.specs.Prelude.{◌≡◌, ◌↔◌, ◌+◌, ◌≤◌, ◌<◌, [], IsTrue, false, IfOk, OnOk, IfSome, IfNone, IfErr, IsErrOf, length};
 ghost use Rattle.std.specs.FinMap as finite;
 ghost use Rattle.swh_outside.specs.Files.{files_of, files_done};
 ghost use Rattle.swh_outside.specs.Faults.{Rose};
-ghost use Rattle.swh_segment.specs.Makes.{EitherRose};
+ghost use Rattle.swh_segment.specs.Makes.{ADiskFailed};
 ghost use Rattle.swh_segment.specs.Making.{IsMade, IsNotMade, barriers};
 ghost use Rattle.swh_model.specs.Certificate.{AreClosed};
-ghost use Rattle.swh_model.specs.Coding.{coded_run, run_of};
+ghost use Rattle.swh_model.specs.Coding.{coded_run, packed_objects};
 ghost use Rattle.swh_model.specs.Decoding.{IsFit};
 ghost use Rattle.swh_model.specs.Stands.{StandsFor};
 ghost use Rattle.swh_model.specs.Step.{IsHistory};
 ghost use Rattle.swh_keeper.specs.Checked.{archive_of, MayNotHappen};
 ghost use Rattle.swh_keeper.specs.Planned.{IsReplayOf, IsInFiles};
-ghost use Rattle.swh_keeper.specs.Reading.{MayBeRun, IsBatchRead, HoldsAt, IsNoBatch, IsKindRead, IsNoKind, IsLonger, IsTaken, NoneMayHappen, IsReadSoFar, HasRuns, IsAtEnd, IsNoArchive};
+ghost use Rattle.swh_keeper.specs.Reading.{MayBeRun, IsBatchRead, HoldsAt, HoldsNoRun, IsKindRead, TellsOfNothingHeld, IsLonger, TakesRecord, NoneMayHappen, IsReadSoFar, HasRuns, IsAtEnd, IsNoArchive};
 ghost use Rattle.swh_keeper.specs.Opening.{IsReadFault, IsReadingFault, IsOpeningFault, IsLeftFor, IsDamaged, UnlessDiskFault};
 ghost use Rattle.swh_keeper.specs.declared.opening.OpenWhy.TheVariants.{NotMade, Damaged, DiskFault};
 
@@ -24,14 +24,14 @@ use crate::opening::OpenWhy;
 use crate::replayed::Replayed;
 use crate::visits::OriginVisits;
 use std::alloc::Global;
-use swh_base::{Entry, FILE_LIMIT, Many, Memory, Namer, OBJECTS_LIMIT, RUN_LIMIT};
+use swh_base::{Entry, FILE_LIMIT, Items, Memory, Namer, OBJECTS_LIMIT, RUN_LIMIT};
 use swh_model::{
     BatchParts, Event, EventKind, Next, Record, Told, next_record, read_run, split_magic,
 };
 use swh_outside::Disk;
 use swh_segment::{fill, read_file, settle};
 
-/// What happened, without the kids of its entries, and the place in the store behind its run.
+/// What happened, without the children of its entries, and the place in the store after its run.
 #[derive(Drop)]
 pub struct KindRead {
     pub what: EventKind,
@@ -48,7 +48,7 @@ fn may_be_run(parts: &BatchParts, at: u64, size: u64) -> bool
     parts.to <= size && parts.to - at <= RUN_LIMIT && parts.number as usize <= OBJECTS_LIMIT
 }
 
-// The objects of a batch whose run begins at this place of the store, without their kids. Room is taken only for a run
+// The objects of a batch whose run begins at this place of the store, without their children. Room is taken only for a run
 // that ends within the store, and that a batch within its limits may have.
 fn read_batch<D: Disk>(
     alloc: Global,
@@ -62,7 +62,7 @@ fn read_batch<D: Disk>(
     ensures read { IfOk result (λ found. IfSome found (λ es. IsBatchRead at parts.now es.items)) }
     ensures inside { IfOk result (λ found. IfSome found (λ es. at + length (coded_run es.items) ≤ size)) }
     ensures holds { D.tells → IfOk result (λ found. IfSome found (λ es. HoldsAt (D.file store.old).seen at (coded_run es.items))) }
-    ensures none { D.tells → IfOk result (λ found. IfNone found (IsNoBatch at parts.now (D.file store.old).seen)) }
+    ensures none { D.tells → IfOk result (λ found. IfNone found (HoldsNoRun at parts.now (D.file store.old).seen)) }
     ensures why { IfErr result IsReadFault }
     ensures same { D.tells → D.file store.new ≡ D.file store.old }
     ensures later { D.faults store.old ≤ D.faults store.new }
@@ -93,8 +93,8 @@ fn read_kind<D: Disk>(
     requires inside { at ≤ size }
     requires fit { IsFit told }
     ensures read { IfOk result (λ found. IfSome found (IsKindRead at size told)) }
-    ensures holds { D.tells → IfOk result (λ found. IfSome found (λ read. HoldsAt (D.file store.old).seen at (run_of read.what))) }
-    ensures none { D.tells → IfOk result (λ found. IfNone found (IsNoKind at told (D.file store.old).seen)) }
+    ensures holds { D.tells → IfOk result (λ found. IfSome found (λ read. HoldsAt (D.file store.old).seen at (packed_objects read.what))) }
+    ensures none { D.tells → IfOk result (λ found. IfNone found (TellsOfNothingHeld at told (D.file store.old).seen)) }
     ensures why { IfErr result IsReadFault }
     ensures same { D.tells → D.file store.new ≡ D.file store.old }
     ensures later { D.faults store.old ≤ D.faults store.new }
@@ -108,7 +108,7 @@ fn read_kind<D: Disk>(
             let Some(entries) = read_batch(alloc, store, size, at, &parts)? else {
                 return Ok(None);
             };
-            let what = EventKind::Batch(Many::from_vec(entries));
+            let what = EventKind::Batch(Items::from_vec(entries));
             Ok(Some(KindRead {
                 what,
                 end: parts.to,
@@ -117,7 +117,7 @@ fn read_kind<D: Disk>(
     }
 }
 
-// Lets an event happen that was read, with the kids of its entries, where it may.
+// Lets an event happen that was read, with the children of its entries, where it may.
 fn happen<N: Namer>(
     alloc: Global,
     namer: &N,
@@ -160,7 +160,7 @@ fn take_record<N: Namer, D: Disk>(
     requires inside { checked.old.replayed.store_end ≤ size }
     requires closed { AreClosed checked.old.replayed.bodies checked.old.closed }
     requires fit { IsFit told }
-    ensures taken { IfOk result (λ yes. IsTrue yes → IsTaken N.id_of D.tells (D.file store.old).seen checked.old by told checked.new) }
+    ensures taken { IfOk result (λ yes. IsTrue yes → TakesRecord N.id_of D.tells (D.file store.old).seen checked.old by told checked.new) }
     ensures inside { IfOk result (λ yes. IsTrue yes → checked.new.replayed.store_end ≤ size) }
     ensures none { D.tells → IfOk result (λ yes. yes ≡ false → NoneMayHappen N.id_of checked.old by told (D.file store.old).seen) }
     ensures why { IfErr result IsReadFault }
@@ -333,7 +333,7 @@ pub fn read_archive<N: Namer, D: Disk>(
     ensures left { D.tells → IfErr result (λ why. IsLeftFor why (files_of (D.file ledger.old) (D.file store.old)) (files_of (D.file ledger.new) (D.file store.new))) }
     ensures store_later { D.faults store.old ≤ D.faults store.new }
     ensures ledger_later { D.faults ledger.old ≤ D.faults ledger.new }
-    ensures cause { IsErrOf result DiskFault → EitherRose (D.faults store.old) (D.faults store.new) (D.faults ledger.old) (D.faults ledger.new) }
+    ensures cause { IsErrOf result DiskFault → ADiskFailed (D.faults store.old) (D.faults store.new) (D.faults ledger.old) (D.faults ledger.new) }
 
     // Where no disk failed, both counts are as they were.
     ensures store_quiet { OnOk result (D.faults store.new ≡ D.faults store.old) }

@@ -1,7 +1,7 @@
-//! Entries with the kids that their bodies determine.
+//! Entries with the children that their bodies determine.
 ghost use Rattle.std.specs.Prelude.{◌≡◌, ◌↔◌, ◌≤◌, IsTrue, IfOk, IfSome, IfNone, length};
 ghost use Rattle.swh_base.specs.Limits.{body_limit};
-ghost use Rattle.swh_base.specs.Manifest.{AreKids, IsWellFormed};
+ghost use Rattle.swh_base.specs.Manifest.{AreChildren, IsWellFormed};
 ghost use Rattle.swh_keeper.specs.Checked.{IsRemade, CannotBeMade, AreRemade, CannotAllBeMade};
 
 use std::alloc::Global;
@@ -17,7 +17,7 @@ fn entry_of<N: Namer>(
 ) -> Result<Option<Entry>, Memory>
     ensures parts { IfOk result (λ found. IfSome found (λ e. (e.name.kind ≡ kind) × (e.body ≡ body))) }
     ensures named { IfOk result (λ found. IfSome found (λ e. e.name.id ≡ N.id_of kind body)) }
-    ensures kids { IfOk result (λ found. IfSome found (λ e. AreKids kind body e.kids)) }
+    ensures kids { IfOk result (λ found. IfSome found (λ e. AreChildren kind body e.kids)) }
     ensures none { IfOk result (λ found. IfNone found (length body ≤ body_limit → IsWellFormed kind body → ⊥)) }
 {
     match Object::of_shared(alloc, namer, kind, body) {

@@ -2,9 +2,9 @@
 ghost use Rattle.std.specs.Prelude.{◌≡◌, ◌+◌, ◌≤◌, ◌<◌, ◌^◌, ◌++◌, ◌∷◌, [], ℕ, List, length, OnOk, OnErr};
 ghost use Rattle.swh_outside.specs.Files.{EachImages, FilesRuns, files_of};
 ghost use Rattle.swh_segment.specs.Events.{event_calls};
-ghost use Rattle.swh_segment.specs.Makes.{EitherRose};
+ghost use Rattle.swh_segment.specs.Makes.{ADiskFailed};
 ghost use Rattle.swh_segment.specs.Runs as runs;
-ghost use Rattle.swh_model.specs.Coding.{run_of};
+ghost use Rattle.swh_model.specs.Coding.{packed_objects};
 ghost use Rattle.swh_model.specs.declared.event.Event.{Event};
 ghost use Rattle.swh_keeper.specs.Keeping.{AreSettledFor, IsToAdd, WithOrWithout, run_written};
 
@@ -15,7 +15,7 @@ use swh_segment::{Run, append_event};
 
 /// What the event adds to the store.
 fn run_for<'a>(event: &Event, run: &'a [u8]) -> Run<'a>
-    requires { run.now ≡ run_of event.now.what }
+    requires { run.now ≡ packed_objects event.now.what }
     ensures { runs.run_of result ≡ run_written event.now.what }
 {
     match &event.what {
@@ -45,7 +45,7 @@ pub fn write_event<D: Disk>(
     ensures left { D.tells → OnErr result (EachImages (files_of (D.file ledger.new) (D.file store.new)) (WithOrWithout history.now.items event.now)) }
     ensures store_later { D.faults store.old ≤ D.faults store.new }
     ensures ledger_later { D.faults ledger.old ≤ D.faults ledger.new }
-    ensures cause { OnErr result (EitherRose (D.faults store.old) (D.faults store.new) (D.faults ledger.old) (D.faults ledger.new)) }
+    ensures cause { OnErr result (ADiskFailed (D.faults store.old) (D.faults store.new) (D.faults ledger.old) (D.faults ledger.new)) }
 
     // Where no disk failed, both counts are as they were.
     ensures store_quiet { OnOk result (D.faults store.new ≡ D.faults store.old) }

@@ -10,12 +10,12 @@ use Rattle.swh_model.specs.declared.event.Event.{Event}
 use Rattle.swh_model.specs.declared.event.EventKind.{EventKind}
 use Rattle.swh_model.specs.Judge.{event_of}
 use Rattle.swh_model.specs.Step.{May, replay}
-use Rattle.swh_keeper.specs.Kept.{Kept, Refuses}
+use Rattle.swh_keeper.specs.Kept.{Kept, RefusesPlan}
 use Rattle.swh_keeper.specs.Keeping.{calls_for, IsCarriedOut, IsBrokenOff}
 use Rattle.swh_keeper.specs.declared.fault.Refusal.{Refusal}
 use Rattle.swh_keeper.specs.declared.fault.Refusal.TheVariants as refusal
 use Rattle.swh_loader.specs.Adding.{IsEvent}
-use Rattle.swh_loader.specs.Calls.{all_calls, kept_files, BreaksAt, MakesCallsOf, MakesCalls}
+use Rattle.swh_loader.specs.Calls.{all_calls, kept_files, BreaksAtEvent, MakesCallsOf, MakesCalls}
 
 -- the calls of events, and then of more events
 pub all_calls-append : (h xs ys : List Event) → all_calls h (xs ++ ys) ≡ all_calls h xs ++ all_calls (h ++ xs) ys
@@ -57,14 +57,14 @@ module _ {D : Type 0} (id : Kind → List ℕ → List ℕ) (file : D → File) 
         behind = same ∙ sym (append-nil old.history);
         calls = record {
           made = λ as_before. absurd (none-some n (sym (as_before ∙ before_it) ∙ wounded));
-          broken = λ none m some. subst (λ (t : List Event). BreaksAt id (IsEvent event) t (kept_files file old) (kept_files file new)) (sym same)
+          broken = λ none m some. subst (λ (t : List Event). BreaksAtEvent id (IsEvent event) t (kept_files file old) (kept_files file new)) (sym same)
               (record { event = b.event; next = this; may = subst (May id (replay old.history)) (sym this) may; breaks = b.breaks });
         };
       }
 
   -- an event that was refused
   pub calls_refused : (old new : Kept D) (by : ℕ) (wish : EventKind) (event : Event) (r : Refusal) → May id (replay old.history) event → event ≡ record { by = by; what = event_of (replay old.history) wish }
-      → Refuses old by wish new r → (r ≡ refusal.DiskFault → IsBrokenOff old.history by wish (kept_files file old) (kept_files file new)) → MakesCalls id file (IsEvent event) old new
+      → RefusesPlan old by wish new r → (r ≡ refusal.DiskFault → IsBrokenOff old.history by wish (kept_files file old) (kept_files file new)) → MakesCalls id file (IsEvent event) old new
   calls_refused old new by wish event (refusal.Wounded first) may is h broken = calls_none (IsEvent event) old new h.1
   calls_refused old new by wish event (refusal.Limit which number) may is h broken = calls_none (IsEvent event) old new h.same
   calls_refused old new by wish event refusal.DiskFault may is h broken = calls_broken old new by wish event may is h.before_it h.history _ h.wounded (broken refl)
@@ -76,7 +76,7 @@ module _ {D : Type 0} (id : Kind → List ℕ → List ℕ) (file : D → File) 
   calls_refused old new by wish event (refusal.NotClosed parent child) may is h broken = calls_none (IsEvent event) old new h.same
   calls_refused old new by wish event (refusal.Collision name) may is h broken = calls_none (IsEvent event) old new h.same
 
-  breaks_as : (P Q : Event → Type 0) (h : List Event) (a b new : Files) → ((e : Event) → P e → Q e) → a ≡ b → BreaksAt id P h a new → BreaksAt id Q h b new
+  breaks_as : (P Q : Event → Type 0) (h : List Event) (a b new : Files) → ((e : Event) → P e → Q e) → a ≡ b → BreaksAtEvent id P h a new → BreaksAtEvent id Q h b new
   breaks_as P Q h a b new f same b_at = record {
     event = b_at.event;
     next = f b_at.event b_at.next;

@@ -4,16 +4,16 @@ use Rattle.std.specs.List.{AllByRecursion}
 use Rattle.swh_base.specs.declared.kind.Kind.{Kind}
 use Rattle.swh_base.specs.declared.name.Name.{Name}
 use Rattle.swh_base.specs.declared.entry.Entry.{Entry}
-use Rattle.swh_base.specs.Manifest.{AreKids}
-use Rattle.swh_base.proofs.Kids.{one_list}
-use Rattle.swh_model.specs.Archive.{Bodies, body_of, IsHeld, IsKid, IsClosed}
+use Rattle.swh_base.specs.Manifest.{AreChildren}
+use Rattle.swh_base.proofs.Children.{one_list}
+use Rattle.swh_model.specs.Archive.{Bodies, body_of, IsHeld, IsChild, IsClosed}
 use Rattle.swh_model.specs.Certificate.{Certifies}
-use Rattle.swh_model.specs.Step.{IsGoodAndNamed}
+use Rattle.swh_model.specs.Step.{HasItsChildrenAndName}
 use Rattle.swh_base.specs.Snapshot.{snapshot_name}
 use Rattle.swh_model.proofs.Certificates.{certified-closed}
 use Rattle.swh_object.specs.Object.{IsObject}
 use Rattle.swh_fastload.specs.declared.load.Objects.{Objects}
-use Rattle.swh_fastload.specs.Whole.{names_of, HasKidsAmong, AreWhole, IsWhole}
+use Rattle.swh_fastload.specs.Whole.{names_of, HasChildrenAmong, AreWhole, HasAllThatIsReached}
 use Rattle.swh_loader.specs.Sending.{AllHeld}
 use Rattle.swh_loader.proofs.Limiting.{at_element}
 
@@ -28,23 +28,23 @@ names_held bodies (e ∷ es) h = ((e.body, h.0), names_held bodies es h.1)
 same_body : (o : Option (List ℕ)) (a b : List ℕ) → o ≡ Some a → o ≡ Some b → a ≡ b
 same_body o a b x y = cc
 
-kid_there : (id : Kind → List ℕ → List ℕ) (bodies : Bodies) (names : List Name) (e : Entry) → IsObject id e → HasKidsAmong names e → body_of bodies e.name ≡ Some e.body → (kid : Name) → IsKid bodies e.name kid → Contains names kid
-kid_there id bodies names e o among held kid is =
-    let same : is.kids ≡ e.kids = one_list e.name.kind e.body is.kids e.kids (subst (λ (b : List ℕ). AreKids e.name.kind b is.kids) (same_body (body_of bodies e.name) is.body e.body is.held held) is.are) o.kids in
-    at_element (Contains names) e.kids kid among (subst (λ (ns : List Name). Contains ns kid) same is.one_of)
+child_there : (id : Kind → List ℕ → List ℕ) (bodies : Bodies) (names : List Name) (e : Entry) → IsObject id e → HasChildrenAmong names e → body_of bodies e.name ≡ Some e.body → (child : Name) → IsChild bodies e.name child → Contains names child
+child_there id bodies names e o among held child is =
+    let same : is.kids ≡ e.kids = one_list e.name.kind e.body is.kids e.kids (subst (λ (b : List ℕ). AreChildren e.name.kind b is.kids) (same_body (body_of bodies e.name) is.body e.body is.held held) is.are) o.kids in
+    at_element (Contains names) e.kids child among (subst (λ (ns : List Name). Contains ns child) same is.one_of)
 
-all_kids_there : (id : Kind → List ℕ → List ℕ) (bodies : Bodies) (names : List Name) (es : List Entry) → AllByRecursion (IsObject id) es → AllByRecursion (HasKidsAmong names) es → AllHeld bodies es → AllByRecursion (λ e. (kid : Name) → IsKid bodies e.name kid → Contains names kid) es
-all_kids_there id bodies names [] o among held = tt
-all_kids_there id bodies names (e ∷ es) o among held = (kid_there id bodies names e o.0 among.0 held.0, all_kids_there id bodies names es o.1 among.1 held.1)
+all_children_there : (id : Kind → List ℕ → List ℕ) (bodies : Bodies) (names : List Name) (es : List Entry) → AllByRecursion (IsObject id) es → AllByRecursion (HasChildrenAmong names) es → AllHeld bodies es → AllByRecursion (λ e. (child : Name) → IsChild bodies e.name child → Contains names child) es
+all_children_there id bodies names [] o among held = tt
+all_children_there id bodies names (e ∷ es) o among held = (child_there id bodies names e o.0 among.0 held.0, all_children_there id bodies names es o.1 among.1 held.1)
 
 certifies : (id : Kind → List ℕ → List ℕ) (bodies : Bodies) (es : List Entry) (root : Name) → AreWhole id es → AllHeld bodies es → Contains (names_of es) root → Certifies bodies [] (names_of es) root
 certifies id bodies es root w held there = record {
   begins = inl there;
   held = λ n listed. at_element (IsHeld bodies) (names_of es) n (all_names (IsHeld bodies) es (names_held bodies es held)) listed;
-  kids = λ n kid listed is. inl (at_element (λ (m : Name). (k : Name) → IsKid bodies m k → Contains (names_of es) k) (names_of es) n (all_names (λ (m : Name). (k : Name) → IsKid bodies m k → Contains (names_of es) k) es (all_kids_there id bodies (names_of es) es w.each w.kids held)) listed kid is);
+  kids = λ n child listed is. inl (at_element (λ (m : Name). (k : Name) → IsChild bodies m k → Contains (names_of es) k) (names_of es) n (all_names (λ (m : Name). (k : Name) → IsChild bodies m k → Contains (names_of es) k) es (all_children_there id bodies (names_of es) es w.each w.kids held)) listed child is);
 }
 
-pub whole_closed : {N : Type 0} (id : Kind → List ℕ → List ℕ) (bodies : Bodies) (made : Objects N) → IsWhole id made → AllHeld bodies made.objects.items → IsClosed bodies (snapshot_name made.snapshot)
+pub whole_closed : {N : Type 0} (id : Kind → List ℕ → List ℕ) (bodies : Bodies) (made : Objects N) → HasAllThatIsReached id made → AllHeld bodies made.objects.items → IsClosed bodies (snapshot_name made.snapshot)
 whole_closed id bodies made w held =
     let no_name : (n : Name) → Contains [] n → IsClosed bodies n = λ n c. absurd (no_element n c) in
     certified-closed bodies [] (names_of made.objects.items) (snapshot_name made.snapshot) no_name (certifies id bodies made.objects.items (snapshot_name made.snapshot) w.objects held w.snapshot)
@@ -53,6 +53,6 @@ whole_closed id bodies made w held =
     no_element n (k, less, is) = omega (arith, less)
 
 -- the objects are good and named
-pub whole_good : (id : Kind → List ℕ → List ℕ) (es : List Entry) → AllByRecursion (IsObject id) es → AllByRecursion (IsGoodAndNamed id) es
+pub whole_good : (id : Kind → List ℕ → List ℕ) (es : List Entry) → AllByRecursion (IsObject id) es → AllByRecursion (HasItsChildrenAndName id) es
 whole_good id [] h = tt
 whole_good id (e ∷ es) h = (record { good = record { kids = h.0.kids }; named = h.0.named }, whole_good id es h.1)

@@ -13,11 +13,11 @@ use Rattle.swh_model.proofs.Entries.{all-append}
 use Rattle.swh_keeper.specs.Kept.{Kept}
 use Rattle.swh_fastload.specs.declared.load.Objects.{Objects}
 use Rattle.swh_fastload.specs.Loaded.{making_of}
-use Rattle.swh_fastload.specs.Whole.{IsWhole}
+use Rattle.swh_fastload.specs.Whole.{HasAllThatIsReached}
 use Rattle.swh_loader.specs.declared.end.BadInput.TheVariants.{Stream, Collision, Read}
 use Rattle.swh_loader.specs.declared.end.End.{End}
 use Rattle.swh_loader.specs.declared.end.End.TheVariants.{Full, NotFound, Failed}
-use Rattle.swh_loader.specs.Adding.{Attempt, opening, IsEvent, AreAmong, IsOwn, Adds}
+use Rattle.swh_loader.specs.Adding.{Attempt, open_event, IsEvent, AreAmong, IsOwn, AddsEvents}
 use Rattle.swh_loader.specs.Calls.{MakesCallsOf, MakesCalls}
 use Rattle.swh_loader.specs.Ending.{MeansObjects, IsMadeBy, AreMadeBy, IsSentEnd, IsEndOf}
 use Rattle.swh_loader.specs.Leaving.{next_visit, AreOfVisit, AddsVisit, MakesVisitCalls, Stops}
@@ -30,7 +30,7 @@ use Rattle.swh_loader.proofs.Closes.{whole_good}
 use Rattle.swh_loader.proofs.Further.{stops_further}
 
 -- the objects that were made are meant
-pub means_made : {N : Type 0} (id : Kind → List ℕ → List ℕ) (head : Option (List ℕ)) (text : List ℕ) (made : Objects N) → IsWhole id made → IsMeaning id head text (making_of made) → MeansObjects id head text made.objects.items made.snapshot
+pub means_made : {N : Type 0} (id : Kind → List ℕ → List ℕ) (head : Option (List ℕ)) (text : List ℕ) (made : Objects N) → HasAllThatIsReached id made → IsMeaning id head text (making_of made) → MeansObjects id head text made.objects.items made.snapshot
 means_made id head text made w m = record { meaning = m; good = whole_good id made.objects.items w.objects.each }
 
 made_by : (id : Kind → List ℕ → List ℕ) (head : Option (List ℕ)) (text : List ℕ) (objects : List Entry) (snapshot : List ℕ) → MeansObjects id head text objects snapshot → (entries : List Entry) → AreAmong objects entries → AllByRecursion (IsMadeBy id head text) entries
@@ -38,7 +38,7 @@ made_by id head text objects snapshot m [] h = tt
 made_by id head text objects snapshot m (e ∷ entries) h = (record { objects = objects; snapshot = snapshot; means = m; among = h.0 }, made_by id head text objects snapshot m entries h.1)
 
 -- a batch of some of them is made by the input
-pub among_made : {N S : Type 0} (id : Kind → List ℕ → List ℕ) (head : Option (List ℕ)) (sources : Sources S) (s : S) (made : Objects N) → IsWhole id made → (sources.tells → IsMeaning id head (sources.left s) (making_of made)) → (entries : List Entry) → AreAmong made.objects.items entries → AreMadeBy id head sources s entries
+pub among_made : {N S : Type 0} (id : Kind → List ℕ → List ℕ) (head : Option (List ℕ)) (sources : Sources S) (s : S) (made : Objects N) → HasAllThatIsReached id made → (sources.tells → IsMeaning id head (sources.left s) (making_of made)) → (entries : List Entry) → AreAmong made.objects.items entries → AreMadeBy id head sources s entries
 among_made id head sources s made w m entries h t = made_by id head (sources.left s) made.objects.items made.snapshot (means_made id head (sources.left s) made w (m t)) entries h
 
 -- the end of a visit whose input was sent
@@ -56,10 +56,10 @@ sent_end id head sources bodies s now made (Ok (Failed Read)) m h = absurd h
 sent_end id head sources bodies s now made (Err e) m h = tt
 
 -- a visit that was opened, and its own events
-pub visit_added : {D : Type 0} (faults : D → ℕ) (A : List Entry → Type 0) (a : Attempt) (number : ℕ) (old mid new : Kept D) → IsOpened a old mid number → Adds faults (IsOwn A a number) mid new → AddsVisit A a old.history new.history
+pub visit_added : {D : Type 0} (faults : D → ℕ) (A : List Entry → Type 0) (a : Attempt) (number : ℕ) (old mid new : Kept D) → IsOpened a old mid number → AddsEvents faults (IsOwn A a number) mid new → AddsVisit A a old.history new.history
 visit_added faults A a number old mid new o adds = record {
-  more = opening a ∷ adds.more;
-  behind = adds.behind ∙ ap (λ (t : List Event). t ++ adds.more) o.opened ∙ append_assoc old.history (opening a ∷ []) adds.more;
+  more = open_event a ∷ adds.more;
+  behind = adds.behind ∙ ap (λ (t : List Event). t ++ adds.more) o.opened ∙ append_assoc old.history (open_event a ∷ []) adds.more;
   are = (refl, subst (λ (n : ℕ). AllByRecursion (IsOwn A a n) adds.more) o.next adds.each);
 }
 
@@ -68,35 +68,35 @@ pub unopened_added : (A : List Entry → Type 0) (a : Attempt) (h h' : List Even
 unopened_added A a h h' same = record { more = []; behind = same ∙ sym (append-nil h); are = tt }
 
 -- and its calls
-pub unopened_calls : {D : Type 0} (id : Kind → List ℕ → List ℕ) (disks : Disks D) (A : List Entry → Type 0) (a : Attempt) (old new : Kept D) → new.history ≡ old.history → MakesCalls id disks.file (IsEvent (opening a)) old new → MakesVisitCalls id disks A a old new
+pub unopened_calls : {D : Type 0} (id : Kind → List ℕ → List ℕ) (disks : Disks D) (A : List Entry → Type 0) (a : Attempt) (old new : Kept D) → new.history ≡ old.history → MakesCalls id disks.file (IsEvent (open_event a)) old new → MakesVisitCalls id disks A a old new
 unopened_calls id disks A a old new same calls more behind =
     let none = same ∙ sym (append-nil old.history) in
     let next = next_visit old.history a.origin in
     subst (λ (t : List Event). MakesCallsOf id disks.file (λ e. AreOfVisit A a next (t ++ e ∷ [])) t old new)
     (append_cancel_left old.history [] more (sym none ∙ behind))
-    (of_as id disks.file (IsEvent (opening a)) (λ e. AreOfVisit A a next (e ∷ [])) [] old new (λ e is. (is, tt)) (calls_at id disks.file (IsEvent (opening a)) old new [] none calls))
+    (of_as id disks.file (IsEvent (open_event a)) (λ e. AreOfVisit A a next (e ∷ [])) [] old new (λ e is. (is, tt)) (calls_at id disks.file (IsEvent (open_event a)) old new [] none calls))
 
 -- and of one that was, with its own events
 pub visit_calls : {D : Type 0} (id : Kind → List ℕ → List ℕ) (disks : Disks D) (A : List Entry → Type 0) (a : Attempt) (number : ℕ) (old mid new : Kept D) → IsOpened a old mid number → mid.wounded ≡ None
-    → Adds disks.faults (IsOwn A a number) mid new → MakesCalls id disks.file (IsEvent (opening a)) old mid → MakesCalls id disks.file (IsOwn A a number) mid new → MakesVisitCalls id disks A a old new
+    → AddsEvents disks.faults (IsOwn A a number) mid new → MakesCalls id disks.file (IsEvent (open_event a)) old mid → MakesCalls id disks.file (IsOwn A a number) mid new → MakesVisitCalls id disks A a old new
 unfolding visit_added
 visit_calls id disks A a number old mid new o going adds first rest more behind =
     let added = visit_added disks.faults A a number old mid new o adds in
     let next = next_visit old.history a.origin in
     subst (λ (t : List Event). MakesCallsOf id disks.file (λ e. AreOfVisit A a next (t ++ e ∷ [])) t old new)
     (append_cancel_left old.history added.more more (sym added.behind ∙ behind))
-    (of_further id disks.file (IsEvent (opening a)) (IsOwn A a number) (λ e. AreOfVisit A a next (opening a ∷ (adds.more ++ e ∷ []))) (opening a ∷ []) adds.more old mid new
+    (of_further id disks.file (IsEvent (open_event a)) (IsOwn A a number) (λ e. AreOfVisit A a next (open_event a ∷ (adds.more ++ e ∷ []))) (open_event a ∷ []) adds.more old mid new
     (λ e own. (refl, all-append (IsOwn A a next) adds.more (e ∷ []) added.are.1 (subst (λ (n : ℕ). IsOwn A a n e) o.next own, tt)))
-    o.before_it going o.opened (calls_at id disks.file (IsEvent (opening a)) old mid (opening a ∷ []) o.opened first) (calls_at id disks.file (IsOwn A a number) mid new adds.more adds.behind rest))
+    o.before_it going o.opened (calls_at id disks.file (IsEvent (open_event a)) old mid (open_event a ∷ []) o.opened first) (calls_at id disks.file (IsOwn A a number) mid new adds.more adds.behind rest))
 
 -- why it stopped
 pub visit_stops : {D : Type 0} (id : Kind → List ℕ → List ℕ) (disks : Disks D) (A : List Entry → Type 0) (a : Attempt) (number : ℕ) (old mid new : Kept D) (why : LoadWhy) → IsOpened a old mid number → mid.wounded ≡ None
-    → Adds disks.faults (IsEvent (opening a)) old mid → Adds disks.faults (IsOwn A a number) mid new → IsOpen new.history a number → StopsFor id disks.faults (IsOwn A a number) mid new why
+    → AddsEvents disks.faults (IsEvent (open_event a)) old mid → AddsEvents disks.faults (IsOwn A a number) mid new → IsOpen new.history a number → StopsFor id disks.faults (IsOwn A a number) mid new why
     → Stops id disks A a old new (record { visit = number; why = why })
 visit_stops id disks A a number old mid new why o going first adds still stops = inr (record {
   visit = o.next;
   more = adds.more;
-  opened = adds.behind ∙ ap (λ (t : List Event). t ++ adds.more) o.opened ∙ append_assoc old.history (opening a ∷ []) adds.more;
+  opened = adds.behind ∙ ap (λ (t : List Event). t ++ adds.more) o.opened ∙ append_assoc old.history (open_event a ∷ []) adds.more;
   unended = still;
-  stops = stops_further id disks.faults (IsOwn A a number) (IsEvent (opening a)) old mid new why o.before_it going first stops;
+  stops = stops_further id disks.faults (IsOwn A a number) (IsEvent (open_event a)) old mid new why o.before_it going first stops;
 })

@@ -13,7 +13,7 @@ use Rattle.swh_base.specs.Limits.{body_limit, objects_limit, bytes_limit}
 use Rattle.swh_model.specs.Archive.{Bodies, body_of}
 use Rattle.swh_model.specs.Limits.{bytes_before_last, IsWithinLimits}
 use Rattle.swh_model.specs.Step.{AreNew, added}
-use Rattle.swh_model.specs.Judge.{first_long, BatchPasses, HasBody, Collides}
+use Rattle.swh_model.specs.Judge.{first_long, BatchPasses, HasBodyOrAdds, Collides}
 use Rattle.swh_model.proofs.Entries.{all-append}
 use Rattle.swh_model.proofs.Maps.{body-put, within-added}
 
@@ -26,7 +26,7 @@ put_all : (bodies : Bodies) (es : List Entry) → AreNew bodies es → AllByRecu
 put_all bodies [] new = tt
 put_all bodies (e ∷ es) new = (within-added (finite.insert bodies e.name e.body) es new.1 e.name e.body (body-put bodies e.name e.body), put_all (finite.insert bodies e.name e.body) es new.1)
 
-had_body : (bodies : Bodies) (es : List Entry) (n : Name) (body : List ℕ) → AreNew bodies es → HasBody bodies es n body → body_of (added bodies es) n ≡ Some body
+had_body : (bodies : Bodies) (es : List Entry) (n : Name) (body : List ℕ) → AreNew bodies es → HasBodyOrAdds bodies es n body → body_of (added bodies es) n ≡ Some body
 had_body bodies es n body new (inl held) = within-added bodies es new n body held
 had_body bodies es n body new (inr (e, among, named, is)) =
     subst (λ (m : Name). body_of (added bodies es) m ≡ Some body) named (at_element (λ (x : Entry). body_of (added bodies es) x.name ≡ Some x.body) es e (put_all bodies es new) among ∙ ap (λ (b : List ℕ). Some b) is)

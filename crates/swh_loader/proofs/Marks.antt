@@ -16,7 +16,7 @@ use Rattle.swh_model.specs.Step.{first_of, opened, marked, marked_at, with_statu
 use Rattle.swh_base.specs.Visit.{Statuses}
 use Rattle.swh_model.proofs.Histories.{fronts}
 use Rattle.swh_model.proofs.Maps.{visits-put}
-use Rattle.swh_loader.specs.Adding.{Attempt, opening, IsOwn, IsOwnKind}
+use Rattle.swh_loader.specs.Adding.{Attempt, open_event, IsOwn, IsOwnKind}
 use Rattle.swh_loader.specs.Ending.{statuses_of}
 use Rattle.swh_loader.specs.Leaving.{AddsVisit, AreOfVisit, next_visit}
 use Rattle.swh_loader.specs.Visiting.{IsVisit, visit_with}
@@ -74,8 +74,8 @@ module _ (IsBatch : List Entry → Type 0) (t : Attempt) (number : ℕ) where
       let counted = rest.counted in
       record { visit = rest.visit; there = rest.there; counted = omega (arith, counted) }
 
--- which begins with one, at its opening
-opened_there : (IsBatch : List Entry → Type 0) (t : Attempt) (h : List Event) → HasStatuses IsBatch t (next_visit h t.origin) (after (replay h) (opening t)) 1
+-- which begins with one, at its open_event
+opened_there : (IsBatch : List Entry → Type 0) (t : Attempt) (h : List Event) → HasStatuses IsBatch t (next_visit h t.origin) (after (replay h) (open_event t)) 1
 opened_there IsBatch t h =
     let vs = visits_of (replay h).origins t.origin in
     let first = first_of (length vs + 1) t.date Fast t.by in
@@ -83,7 +83,7 @@ opened_there IsBatch t h =
     let at : visit_at (vs ++ first ∷ []) (length vs + 1) ≡ Some first = ap (slice_get (vs ++ first ∷ [])) (one_less (length vs)) ∙ get-last vs first in
     record { visit = first; there = ap (λ (ws : List Visit). visit_at ws (length vs + 1)) put ∙ at; counted = refl }
 
--- A load that added nothing made no opening and no mark.
+-- A load that added nothing made no open_event and no mark.
 pub others_none : (IsBatch : List Entry → Type 0) (t : Attempt) (h h' : List Event) → (adds : AddsVisit IsBatch t h h') → h' ≡ h → others adds.more ≡ 0
 others_none IsBatch t h h' adds same = ap others (append_cancel_left h adds.more [] (sym adds.behind ∙ same ∙ sym (append-nil h)))
 

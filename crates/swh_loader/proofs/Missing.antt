@@ -12,7 +12,7 @@ use Rattle.swh_model.specs.Coding.{coded_entry, coded_run}
 use Rattle.swh_model.specs.Meaning.{Made}
 use Rattle.swh_model.specs.Step.{AreNew, added}
 use Rattle.swh_model.proofs.Maps.{body-put, body_cases}
-use Rattle.swh_fastload.specs.Making.{made_of}
+use Rattle.swh_fastload.specs.Making.{made_from}
 use Rattle.swh_loader.specs.Room.{batch_record, stored_object}
 
 -- a size where no body is held, and nothing where one is
@@ -27,7 +27,7 @@ module _ (id_of : Kind → List ℕ → List ℕ) where
 
   -- The entry is made, under its name.
   abbrev pub IsMadeOf : List Made → Entry → Type 0
-  IsMadeOf objects e = Contains objects (made_of e) × (e.name.id ≡ id_of e.name.kind e.body)
+  IsMadeOf objects e = Contains objects (made_from e) × (e.name.id ≡ id_of e.name.kind e.body)
 
   -- What is made and not held yet, by a size of each object.
   module _ (size : Made → ℕ) where
@@ -62,21 +62,21 @@ module _ (id_of : Kind → List ℕ → List ℕ) where
       abbrev now : Bodies
       now = insert bodies e.name e.body
 
-      same_name : name_of (made_of e) ≡ e.name
+      same_name : name_of (made_from e) ≡ e.name
       same_name = ap (λ (id : List ℕ). record { kind = e.name.kind; id = id }) (sym named)
 
-      was_missing : unless_held (body_of bodies (name_of (made_of e))) (size (made_of e)) ≡ size (made_of e)
-      was_missing = ap (λ (n : Name). unless_held (body_of bodies n) (size (made_of e))) same_name ∙ ap (λ (o : Option (List ℕ)). unless_held o (size (made_of e))) none
+      was_missing : unless_held (body_of bodies (name_of (made_from e))) (size (made_from e)) ≡ size (made_from e)
+      was_missing = ap (λ (n : Name). unless_held (body_of bodies n) (size (made_from e))) same_name ∙ ap (λ (o : Option (List ℕ)). unless_held o (size (made_from e))) none
 
-      is_held : unless_held (body_of now (name_of (made_of e))) (size (made_of e)) ≡ 0
-      is_held = ap (λ (n : Name). unless_held (body_of now n) (size (made_of e))) same_name ∙ ap (λ (o : Option (List ℕ)). unless_held o (size (made_of e))) (body-put bodies e.name e.body)
+      is_held : unless_held (body_of now (name_of (made_from e))) (size (made_from e)) ≡ 0
+      is_held = ap (λ (n : Name). unless_held (body_of now n) (size (made_from e))) same_name ∙ ap (λ (o : Option (List ℕ)). unless_held o (size (made_from e))) (body-put bodies e.name e.body)
 
-      first_put : (os : List Made) → size (made_of e) + missing now (made_of e ∷ os) ≤ missing bodies (made_of e ∷ os)
+      first_put : (os : List Made) → size (made_from e) + missing now (made_from e ∷ os) ≤ missing bodies (made_from e ∷ os)
       first_put os = let a = was_missing in let b = is_held in let rest = put_all bodies e.name e.body os in omega (arith, a, b, rest)
 
-      put_at : (os : List Made) (k : ℕ) → k < length os → get_or os k (made_of e) ≡ made_of e → size (made_of e) + missing now os ≤ missing bodies os
+      put_at : (os : List Made) (k : ℕ) → k < length os → get_or os k (made_from e) ≡ made_from e → size (made_from e) + missing now os ≤ missing bodies os
       put_at [] k less is = absurd (omega (arith, less))
-      put_at (o ∷ os) zero less is = subst (λ (m : Made). size (made_of e) + missing now (m ∷ os) ≤ missing bodies (m ∷ os)) (sym is) (first_put os)
+      put_at (o ∷ os) zero less is = subst (λ (m : Made). size (made_from e) + missing now (m ∷ os) ≤ missing bodies (m ∷ os)) (sym is) (first_put os)
       put_at (o ∷ os) (suc k) less is =
           let here = put_one bodies e.name e.body o in
           let rest = put_at os k (omega (arith, less)) is in
@@ -84,7 +84,7 @@ module _ (id_of : Kind → List ℕ → List ℕ) where
 
     abbrev pub sizes : List Entry → ℕ
     sizes [] = 0
-    sizes (e ∷ es) = size (made_of e) + sizes es
+    sizes (e ∷ es) = size (made_from e) + sizes es
 
     -- entries that are new are missing no longer
     pub added_all : (objects : List Made) (bodies : Bodies) (es : List Entry) → AreNew bodies es → AllByRecursion (IsMadeOf objects) es → sizes es + missing (added bodies es) objects ≤ missing bodies objects
@@ -95,7 +95,7 @@ module _ (id_of : Kind → List ℕ → List ℕ) where
         let rest = added_all objects (insert bodies e.name e.body) es new.1 made.1 in
         omega (arith, here, rest)
 
-  entry_size : (e : Entry) → e.name.id ≡ id_of e.name.kind e.body → length (coded_entry e) ≡ stored_object id_of (made_of e)
+  entry_size : (e : Entry) → e.name.id ≡ id_of e.name.kind e.body → length (coded_entry e) ≡ stored_object id_of (made_from e)
   unfolding coded_entry
   entry_size e named = let same = ap length named in omega (arith, same, length-append e.name.id e.body)
 

@@ -9,12 +9,12 @@ use Rattle.swh_model.specs.declared.event.EventKind.TheVariants.{Batch, Open, Ma
 use Rattle.swh_model.specs.Step.{FitsStatus, MayMark, replay}
 use Rattle.swh_loader.specs.declared.end.End.{End}
 use Rattle.swh_loader.specs.declared.end.End.TheVariants.{Full, NotFound, Failed}
-use Rattle.swh_loader.specs.Adding.{Attempt, marking, IsEvent, AreAmong, IsBatchOf, IsBatchAmong, IsOwnKind, IsOwn}
+use Rattle.swh_loader.specs.Adding.{Attempt, mark_event, IsEvent, AreAmong, IsBatchOf, IsBatchAmong, IsOwnKind, IsOwn}
 use Rattle.swh_loader.specs.Ending.{before_end, last_of, statuses_of}
 use Rattle.swh_loader.specs.Visiting.{IsVisit, IsOpen, created, ongoing, visit_with}
 
 -- a mark
-pub own_mark : (A : List Entry → Type 0) (a : Attempt) (number : ℕ) (status : Status) (snapshot : Option (List ℕ)) (e : Event) → IsEvent (marking a number status snapshot) e → IsOwn A a number e
+pub own_mark : (A : List Entry → Type 0) (a : Attempt) (number : ℕ) (status : Status) (snapshot : Option (List ℕ)) (e : Event) → IsEvent (mark_event a number status snapshot) e → IsOwn A a number e
 own_mark A a number status snapshot e is = subst (IsOwn A a number) (sym is) (record { by_one = refl; kind = (refl, refl) })
 
 -- a batch of some objects

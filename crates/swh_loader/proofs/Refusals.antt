@@ -8,7 +8,7 @@ use Rattle.swh_base.specs.declared.entry.Entry.{Entry}
 use Rattle.swh_base.specs.declared.visit.Status.{Status}
 use Rattle.swh_base.specs.declared.visit.Status.TheVariants.{Created, Ongoing, Full, Partial, NotFound, Failed}
 use Rattle.swh_base.specs.declared.visit.Which.{Which}
-use Rattle.swh_segment.specs.Makes.{EitherRose}
+use Rattle.swh_segment.specs.Makes.{ADiskFailed}
 use Rattle.swh_model.specs.declared.event.Visit.{Visit}
 use Rattle.swh_model.specs.declared.event.Event.{Event}
 use Rattle.swh_model.specs.declared.event.EventKind.{EventKind}
@@ -21,7 +21,7 @@ use Rattle.swh_base.specs.Snapshot.{snapshot_name}
 use Rattle.swh_base.specs.Visit.{IsFinal, last_status}
 use Rattle.swh_model.specs.Judge.{FilePasses, MarkCause, IsCause}
 use Rattle.swh_model.proofs.Walks.{reaches-next}
-use Rattle.swh_keeper.specs.Kept.{Kept, Refuses}
+use Rattle.swh_keeper.specs.Kept.{Kept, RefusesPlan}
 use Rattle.swh_keeper.specs.declared.fault.Refusal.{Refusal}
 use Rattle.swh_keeper.specs.declared.fault.Refusal.TheVariants as refusal
 use Rattle.swh_loader.specs.declared.fault.LoadWhy.{LoadWhy}
@@ -31,8 +31,8 @@ use Rattle.swh_loader.proofs.Limiting.{none_collides, none_passes}
 use Rattle.swh_loader.proofs.Sends.{fresh-same}
 
 -- why a load stops at a refusal that it may meet
-pub stops_at : {D : Type 0} (id : Kind → List ℕ → List ℕ) (faults : D → ℕ) (old new : Kept D) (by : ℕ) (wish : EventKind) (event : Event) (r : Refusal) (stop : LoadWhy) → May id (replay old.history) event → ((which : Which) (number : ℕ) → IsCause old.history by wish (Limit which number) → FilePasses old.history event.what which number) → Refuses old by wish new r → IsWhyOf r stop
-    → (r ≡ refusal.DiskFault → EitherRose (faults old.store) (faults new.store) (faults old.ledger) (faults new.ledger)) → StopsFor id faults (IsEvent event) old new stop
+pub stops_at : {D : Type 0} (id : Kind → List ℕ → List ℕ) (faults : D → ℕ) (old new : Kept D) (by : ℕ) (wish : EventKind) (event : Event) (r : Refusal) (stop : LoadWhy) → May id (replay old.history) event → ((which : Which) (number : ℕ) → IsCause old.history by wish (Limit which number) → FilePasses old.history event.what which number) → RefusesPlan old by wish new r → IsWhyOf r stop
+    → (r ≡ refusal.DiskFault → ADiskFailed (faults old.store) (faults new.store) (faults old.ledger) (faults new.ledger)) → StopsFor id faults (IsEvent event) old new stop
 stops_at {D} id faults old new by wish event (refusal.Wounded first) stop may full h e rose = subst (StopsFor id faults (IsEvent event) old new) (sym e) (record { first = first; wounded = h.0; same = h.1 })
 stops_at {D} id faults old new by wish event (refusal.Limit which number) stop may full h e rose =
     subst (StopsFor id faults (IsEvent event) old new) (sym e) (record {
@@ -58,7 +58,7 @@ stops_at {D} id faults old new by wish event (refusal.NotClosed parent child) st
 stops_at {D} id faults old new by wish event (refusal.Collision name) stop may full h e rose = absurd e
 
 -- a refusal where a disk had failed before
-pub held_back : {D : Type 0} (old new : Kept D) (by : ℕ) (wish : EventKind) (r : Refusal) (stop : LoadWhy) → Refuses old by wish new r → IsWhyOf r stop → (n : ℕ) → old.wounded ≡ Some n → StopsUnchanged old new stop
+pub held_back : {D : Type 0} (old new : Kept D) (by : ℕ) (wish : EventKind) (r : Refusal) (stop : LoadWhy) → RefusesPlan old by wish new r → IsWhyOf r stop → (n : ℕ) → old.wounded ≡ Some n → StopsUnchanged old new stop
 held_back old new by wish (refusal.Wounded first) stop h e n some = record { same = h.1; cause = inl e }
 held_back old new by wish (refusal.Limit which number) stop h e n some = absurd (none-some n (sym h.unwounded ∙ some))
 held_back old new by wish refusal.DiskFault stop h e n some = absurd (none-some n (sym h.before_it ∙ some))
@@ -71,7 +71,7 @@ held_back old new by wish (refusal.NotClosed parent child) stop h e n some = abs
 held_back old new by wish (refusal.Collision name) stop h e n some = absurd e
 
 -- a batch that is new and within the limits
-pub batch_may : {D : Type 0} (old new : Kept D) (by : ℕ) (entries : List Entry) (r : Refusal) → AreNew (replay old.history).bodies entries → Refuses old by (Batch entries) new r → MayStop r
+pub batch_may : {D : Type 0} (old new : Kept D) (by : ℕ) (entries : List Entry) (r : Refusal) → AreNew (replay old.history).bodies entries → RefusesPlan old by (Batch entries) new r → MayStop r
 batch_may old new by entries (refusal.Wounded first) apart h = tt
 batch_may old new by entries (refusal.Limit which number) apart h = tt
 batch_may old new by entries refusal.DiskFault apart h = tt
@@ -130,12 +130,12 @@ module _ (h : List Event) (by : ℕ) (origin : List ℕ) (number : ℕ) (status 
   snapshot_there name (id, s, is, none) = held_not_none Held (snapshot_name id) (fits_held Held status id (subst (FitsStatus Held status) s may.fits)) (ap (body_of Held) (sym is) ∙ none)
 
   closed_there : (parent child : Name) → MarkCause h by Wanted origin number status snapshot (NotClosed parent child) → ⊥
-  closed_there parent child (full, id, s, reach, kid, missing) =
+  closed_there parent child (full, id, s, reach, is_child, missing) =
       let closed : IsClosed Held (snapshot_name id) = subst (λ (t : Status). FitsStatus Held t (Some id)) full (subst (FitsStatus Held status) s may.fits) in
-      held_not_none Held child (closed child (reaches-next Held reach.0 (snapshot_name id) parent child reach.1 kid)) missing
+      held_not_none Held child (closed child (reaches-next Held reach.0 (snapshot_name id) parent child reach.1 is_child)) missing
 
 -- a mark that may be
-pub mark_may : {D : Type 0} (old new : Kept D) (by : ℕ) (origin : List ℕ) (number : ℕ) (status : Status) (snapshot : Option (List ℕ)) (r : Refusal) → MayMark (replay old.history) by origin number status snapshot → Refuses old by (Mark origin number status snapshot) new r → MayStop r
+pub mark_may : {D : Type 0} (old new : Kept D) (by : ℕ) (origin : List ℕ) (number : ℕ) (status : Status) (snapshot : Option (List ℕ)) (r : Refusal) → MayMark (replay old.history) by origin number status snapshot → RefusesPlan old by (Mark origin number status snapshot) new r → MayStop r
 mark_may old new by origin number status snapshot (refusal.Wounded first) may h = tt
 mark_may old new by origin number status snapshot (refusal.Limit which counted) may h = tt
 mark_may old new by origin number status snapshot refusal.DiskFault may h = tt

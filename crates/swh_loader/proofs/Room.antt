@@ -15,7 +15,7 @@ use Rattle.swh_model.specs.declared.event.Event.{Event}
 use Rattle.swh_model.specs.declared.event.EventKind.{EventKind}
 use Rattle.swh_model.specs.declared.event.EventKind.TheVariants.{Batch, Open, Mark}
 use Rattle.swh_model.specs.Archive.{Archive, Bodies, body_of, empty_archive}
-use Rattle.swh_model.specs.Coding.{coded_snapshot, run_of, IsCodableEntry, IsCodableKind, AreCodable}
+use Rattle.swh_model.specs.Coding.{coded_snapshot, packed_objects, IsCodableEntry, IsCodableKind, AreCodable}
 use Rattle.swh_model.specs.Judge.{FilePasses}
 use Rattle.swh_model.specs.Limits.{stored_length, store_length, payload_length, records_length, ledger_length}
 use Rattle.swh_base.specs.Limits.{file_limit}
@@ -106,7 +106,7 @@ short_kind at (Mark origin visit status (Some id)) fits = let twenty = fits.is_s
 
 all_short : (at : ℕ) (es : List Event) → AreCodable at es → AllByRecursion (λ e. IsShort e.what) es
 all_short at [] fits = tt
-all_short at (e ∷ es) fits = (short_kind at e.what fits.0.1, all_short (at + length (run_of e.what)) es fits.1)
+all_short at (e ∷ es) fits = (short_kind at e.what fits.0.1, all_short (at + length (packed_objects e.what)) es fits.1)
 
 all_behind : {X : Type 0} (P : X → Type 0) (xs ys : List X) → AllByRecursion P (xs ++ ys) → AllByRecursion P ys
 all_behind P [] ys all = all
@@ -114,7 +114,7 @@ all_behind P (x ∷ xs) ys all = all_behind P xs ys all.1
 
 codable_front : (at : ℕ) (h more : List Event) → AreCodable at (h ++ more) → AreCodable at h
 codable_front at [] more fits = tt
-codable_front at (e ∷ h) more fits = (fits.0, codable_front (at + length (run_of e.what)) h more fits.1)
+codable_front at (e ∷ h) more fits = (fits.0, codable_front (at + length (packed_objects e.what)) h more fits.1)
 
 -- All names that are held after such events have twenty bytes.
 names_kind : (at : ℕ) (a : Archive) (by : ℕ) (what : EventKind) → IsCodableKind at what → HasShortNames a.bodies → HasShortNames (after_kind a by what).bodies
@@ -124,7 +124,7 @@ names_kind at a by (Mark origin visit status snapshot) fits held = held
 
 names_all : (at : ℕ) (a : Archive) (es : List Event) → AreCodable at es → HasShortNames a.bodies → HasShortNames (after_all a es).bodies
 names_all at a [] fits held = held
-names_all at a (e ∷ es) fits held = names_all (at + length (run_of e.what)) (after a e) es fits.1 (names_kind at a e.by e.what fits.0.1 held)
+names_all at a (e ∷ es) fits held = names_all (at + length (packed_objects e.what)) (after a e) es fits.1 (names_kind at a e.by e.what fits.0.1 held)
 
 short_names : (h : List Event) → AreCodable 0 h → HasShortNames (replay h).bodies
 short_names h fits = names_all 0 empty_archive h fits (λ n body is. absurd (let e : None ≡ Some body = sym (none-empty n) ∙ is in cc))
@@ -140,7 +140,7 @@ fitting bodies NotFound (Some id) held fits = absurd (let e : Some id ≡ None =
 fitting bodies Failed (Some id) held fits = absurd (let e : Some id ≡ None = fits in cc)
 
 module _ (id_of : Kind → List ℕ → List ℕ) (objects : List Made) where
-  -- Both files have room behind the history for this many openings and marks, and for all that is made and not held.
+  -- Both files have room after the history for this many openings and marks, and for all that is made and not held.
   pub record HasRoomLeft (h : List Event) (marks : ℕ) : Type 0 where
     pub ledger : ledger_length h + (marks * longest_record + left_in_ledger id_of objects (replay h).bodies) ≤ file_limit
     pub store : store_length h + left_in_store id_of objects (replay h).bodies ≤ file_limit
@@ -157,7 +157,7 @@ module _ (id_of : Kind → List ℕ → List ℕ) (objects : List Made) where
       let bodies = missing-most id_of (stored_object id_of) (replay h).bodies objects in
       record { ledger = omega (arith, ledger, records, all); store = omega (arith, store, bodies) }
 
-  -- and still have it behind events that are made and short
+  -- and still have it after events that are made and short
   room_behind : (h more : List Event) (marks marks' : ℕ) → IsHistory id_of (h ++ more) → AllByRecursion (λ e. IsBatchMade id_of objects e.what) more → AllByRecursion (λ e. IsShort e.what) more
       → others more + marks' ≤ marks → HasRoomLeft h marks → HasRoomLeft (h ++ more) marks'
   room_behind h more marks marks' history made short enough room =

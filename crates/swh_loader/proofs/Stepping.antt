@@ -5,7 +5,7 @@ use Rattle.swh_base.specs.declared.kind.Kind.{Kind}
 use Rattle.swh_base.specs.declared.entry.Entry.{Entry}
 use Rattle.swh_base.specs.declared.visit.Status.{Status}
 use Rattle.swh_base.specs.declared.visit.Which.{Which}
-use Rattle.swh_segment.specs.Makes.{EitherRose}
+use Rattle.swh_segment.specs.Makes.{ADiskFailed}
 use Rattle.swh_outside.specs.Views.{Disks}
 use Rattle.swh_model.specs.declared.event.Event.{Event}
 use Rattle.swh_model.specs.declared.event.EventKind.{EventKind}
@@ -14,7 +14,7 @@ use Rattle.swh_model.specs.declared.event.No.TheVariants.{Limit}
 use Rattle.swh_model.specs.Judge.{FilePasses, IsCause, event_of}
 use Rattle.swh_model.specs.Step.{May, replay}
 use Rattle.swh_base.specs.Visit.{Statuses}
-use Rattle.swh_keeper.specs.Kept.{Kept, Applies, Refuses}
+use Rattle.swh_keeper.specs.Kept.{Kept, Applies, RefusesPlan}
 use Rattle.swh_keeper.specs.Keeping.{IsCarriedOut, IsBrokenOff}
 use Rattle.swh_keeper.specs.declared.fault.Refusal.{Refusal}
 use Rattle.swh_keeper.specs.declared.fault.Refusal.TheVariants.{DiskFault}
@@ -22,12 +22,12 @@ use Rattle.swh_loader.specs.declared.fault.LoadWhy.TheVariants.{Memory}
 use Rattle.swh_loader.specs.declared.end.End.{End}
 use Rattle.swh_loader.specs.declared.fault.LoadWhy.{LoadWhy}
 use Rattle.swh_loader.specs.declared.visiting.OpenVisit.{OpenVisit}
-use Rattle.swh_loader.specs.Adding.{marking, AreAmong, IsEvent, IsBatchOf, IsBatchAmong, IsNoBatch, IsOwn}
+use Rattle.swh_loader.specs.Adding.{mark_event, AreAmong, IsEvent, IsBatchOf, IsBatchAmong, AllowsNoBatch, IsOwn}
 use Rattle.swh_loader.specs.Calls.{kept_files}
 use Rattle.swh_loader.specs.Ending.{before_end, last_of}
 use Rattle.swh_loader.specs.Steps.{Leaves, LeavesVisit}
 use Rattle.swh_loader.specs.Stopping.{IsWhyOf, StopsFor}
-use Rattle.swh_loader.specs.Visiting.{IsVisit, IsOpen, GoesOn, IsMarked, attempt_of}
+use Rattle.swh_loader.specs.Visiting.{IsVisit, IsOpen, KeepsAll, GainsStatuses, attempt_of}
 use Rattle.swh_loader.proofs.CallLaws.{calls_none, calls_one, calls_refused, calls_as, step_calls}
 use Rattle.swh_loader.proofs.Further.{adds_none, adds_one, adds_as, adds_further, stops_as, step_stops}
 use Rattle.swh_loader.proofs.Opens.{refused_same}
@@ -36,7 +36,7 @@ use Rattle.swh_loader.proofs.Refusals.{stops_at}
 use Rattle.swh_loader.proofs.Sends.{stays, goes_further}
 use Rattle.swh_loader.proofs.Steps.{goes_on}
 
-on_further : {D T E : Type 0} (r : Result T E) (a b c : Kept D) → GoesOn a b → OnOk r (GoesOn b c) → OnOk r (GoesOn a c)
+on_further : {D T E : Type 0} (r : Result T E) (a b c : Kept D) → KeepsAll a b → OnOk r (KeepsAll b c) → OnOk r (KeepsAll a c)
 on_further (Ok t) a b c h k = goes_further a b c h k
 on_further (Err e) a b c h k = tt
 
@@ -88,8 +88,8 @@ module _ {D : Type 0} (id : Kind → List ℕ → List ℕ) (disks : Disks D) wh
 
   -- and one that was refused
   pub leaves_refused : {T : Type 0} (by : ℕ) (wish : EventKind) (event : Event) (refusal : Refusal) (old new : Kept D) (why : LoadWhy) → May id (replay old.history) event → event ≡ record { by = by; what = event_of (replay old.history) wish }
-      → ((which : Which) (number : ℕ) → IsCause old.history by wish (Limit which number) → FilePasses old.history event.what which number) → Refuses old by wish new refusal → IsWhyOf refusal why
-      → disks.faults old.store ≤ disks.faults new.store → disks.faults old.ledger ≤ disks.faults new.ledger → (refusal ≡ DiskFault → EitherRose (disks.faults old.store) (disks.faults new.store) (disks.faults old.ledger) (disks.faults new.ledger))
+      → ((which : Which) (number : ℕ) → IsCause old.history by wish (Limit which number) → FilePasses old.history event.what which number) → RefusesPlan old by wish new refusal → IsWhyOf refusal why
+      → disks.faults old.store ≤ disks.faults new.store → disks.faults old.ledger ≤ disks.faults new.ledger → (refusal ≡ DiskFault → ADiskFailed (disks.faults old.store) (disks.faults new.store) (disks.faults old.ledger) (disks.faults new.ledger))
       → (disks.tells → refusal ≡ DiskFault → IsBrokenOff old.history by wish (kept_files disks.file old) (kept_files disks.file new)) → Leaves id disks {T = T} (IsEvent event) old new (Err why)
   leaves_refused by wish event refusal old new why may is full refuses whys store ledger rose broken = record {
     on = tt;
@@ -142,25 +142,25 @@ module _ {D : Type 0} (id : Kind → List ℕ → List ℕ) (disks : Disks D) wh
 
   -- a mark is one of a visit's own events
   mark_own : {T : Type 0} (A : List Entry → Type 0) (visit : OpenVisit) (status : Status) (snapshot : Option (List ℕ)) (old new : Kept D) (r : Result T LoadWhy)
-      → Leaves id disks (IsEvent (marking (attempt_of visit) visit.number status snapshot)) old new r → Leaves id disks (IsOwn A (attempt_of visit) visit.number) old new r
-  mark_own A visit status snapshot old new r l = leaves_as (IsEvent (marking (attempt_of visit) visit.number status snapshot)) (IsOwn A (attempt_of visit) visit.number) old new r (own_mark A (attempt_of visit) visit.number status snapshot) l
+      → Leaves id disks (IsEvent (mark_event (attempt_of visit) visit.number status snapshot)) old new r → Leaves id disks (IsOwn A (attempt_of visit) visit.number) old new r
+  mark_own A visit status snapshot old new r l = leaves_as (IsEvent (mark_event (attempt_of visit) visit.number status snapshot)) (IsOwn A (attempt_of visit) visit.number) old new r (own_mark A (attempt_of visit) visit.number status snapshot) l
 
   -- a mark, and then memory is wanting
   pub visit_memory : {T : Type 0} (A : List Entry → Type 0) (visit : OpenVisit) (status : Status) (old new : Kept D) (t : T) (r : Result End LoadWhy) → r ≡ Err Memory → old.wounded ≡ None
-      → Leaves id disks {T = T} (IsEvent (marking (attempt_of visit) visit.number status None)) old new (Ok t) → IsOpen new.history (attempt_of visit) visit.number → LeavesVisit id disks A visit old new r
+      → Leaves id disks {T = T} (IsEvent (mark_event (attempt_of visit) visit.number status None)) old new (Ok t) → IsOpen new.history (attempt_of visit) visit.number → LeavesVisit id disks A visit old new r
   visit_memory {T} A visit status old new t r is begun l still =
       visit_stopped {T = T} A visit old new Memory r is
       (leaves_memory {T = T} {U = T} (IsOwn A (attempt_of visit) visit.number) old new t (Err Memory) refl begun (mark_own A visit status None old new (Ok t) l)) still
 
   -- a mark that is not made
   pub unmarked : {T : Type 0} (A : List Entry → Type 0) (visit : OpenVisit) (status : Status) (snapshot : Option (List ℕ)) (old new : Kept D) (why : LoadWhy) (r : Result End LoadWhy) → r ≡ Err why
-      → Leaves id disks {T = T} (IsEvent (marking (attempt_of visit) visit.number status snapshot)) old new (Err why) → IsOpen old.history (attempt_of visit) visit.number → new.history ≡ old.history → LeavesVisit id disks A visit old new r
+      → Leaves id disks {T = T} (IsEvent (mark_event (attempt_of visit) visit.number status snapshot)) old new (Err why) → IsOpen old.history (attempt_of visit) visit.number → new.history ≡ old.history → LeavesVisit id disks A visit old new r
   unmarked {T} A visit status snapshot old new why r is l still same =
       visit_stopped {T = T} A visit old new why r is (mark_own A visit status snapshot old new (Err why) l) (subst (λ (h : List Event). IsOpen h (attempt_of visit) visit.number) (sym same) still)
 
   -- the last mark
   pub marked_last : {T : Type 0} (A : List Entry → Type 0) (visit : OpenVisit) (status : Status) (snapshot : Option (List ℕ)) (old new : Kept D) (t : T) (end : End) → IsVisit old.history (attempt_of visit) visit.number (before_end end) → last_of end ≡ (status, snapshot) ∷ []
-      → Leaves id disks {T = T} (IsEvent (marking (attempt_of visit) visit.number status snapshot)) old new (Ok t) → IsMarked old.history new.history (attempt_of visit) visit.number ((status, snapshot) ∷ []) → LeavesVisit id disks A visit old new (Ok end)
+      → Leaves id disks {T = T} (IsEvent (mark_event (attempt_of visit) visit.number status snapshot)) old new (Ok t) → GainsStatuses old.history new.history (attempt_of visit) visit.number ((status, snapshot) ∷ []) → LeavesVisit id disks A visit old new (Ok end)
   marked_last {T} A visit status snapshot old new t end v last l marked = record {
     leaves = leaves_ok {T = T} (IsOwn A (attempt_of visit) visit.number) old new t end (mark_own A visit status snapshot old new (Ok t) l);
     ended = subst (IsVisit new.history (attempt_of visit) visit.number) (ap (λ (more : Statuses). before_end end ++ more) (sym last) ∙ all_statuses end) (marked (before_end end) v);
@@ -174,7 +174,7 @@ module _ {D : Type 0} (id : Kind → List ℕ → List ℕ) (disks : Disks D) wh
 
   -- a mark, and then what ends its visit
   pub marked_further : {T : Type 0} (A B : List Entry → Type 0) (visit : OpenVisit) (status : Status) (a b c : Kept D) (t : T) (r : Result End LoadWhy) → a.wounded ≡ None → ((entries : List Entry) → A entries → B entries)
-      → Leaves id disks {T = T} (IsEvent (marking (attempt_of visit) visit.number status None)) a b (Ok t) → LeavesVisit id disks A visit b c r → LeavesVisit id disks B visit a c r
+      → Leaves id disks {T = T} (IsEvent (mark_event (attempt_of visit) visit.number status None)) a b (Ok t) → LeavesVisit id disks A visit b c r → LeavesVisit id disks B visit a c r
   marked_further {T} A B visit status a b c t r begun f first l = visit_further {T = T} B visit a b c t r begun (mark_own B visit status None a b (Ok t) first) (visit_as A B visit b c r f l)
 
   -- batches of some objects are a visit's own events
@@ -188,9 +188,9 @@ module _ {D : Type 0} (id : Kind → List ℕ → List ℕ) (disks : Disks D) wh
 
   -- objects that were, and then what ends their visit
   pub sent_ended : {T : Type 0} (objects : List Entry) (visit : OpenVisit) (a b c : Kept D) (t : T) (r : Result End LoadWhy) → a.wounded ≡ None
-      → Leaves id disks {T = T} (IsBatchAmong visit.by objects) a b (Ok t) → LeavesVisit id disks IsNoBatch visit b c r → LeavesVisit id disks (AreAmong objects) visit a c r
+      → Leaves id disks {T = T} (IsBatchAmong visit.by objects) a b (Ok t) → LeavesVisit id disks AllowsNoBatch visit b c r → LeavesVisit id disks (AreAmong objects) visit a c r
   sent_ended {T} objects visit a b c t r begun first l =
-      visit_further {T = T} (AreAmong objects) visit a b c t r begun (sent_own objects visit a b (Ok t) first) (visit_as IsNoBatch (AreAmong objects) visit b c r (λ entries none. absurd none) l)
+      visit_further {T = T} (AreAmong objects) visit a b c t r begun (sent_own objects visit a b (Ok t) first) (visit_as AllowsNoBatch (AreAmong objects) visit b c r (λ entries none. absurd none) l)
 
   -- a batch among a load's objects, after those before it
   pub sent_further : {T : Type 0} (by : ℕ) (objects entries : List Entry) (a b c : Kept D) (r : Result T LoadWhy) → AreAmong objects entries → a.wounded ≡ None

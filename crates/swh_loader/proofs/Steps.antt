@@ -14,13 +14,13 @@ use Rattle.swh_model.specs.declared.event.Outcome.{Outcome}
 use Rattle.swh_model.specs.declared.event.Outcome.TheVariants.{Opened}
 use Rattle.swh_model.specs.Archive.{Archive, visits_of, empty_archive}
 use Rattle.swh_model.specs.Step.{visit_at, with_status, marked_at, first_of, after, after_all, replay}
-use Rattle.swh_model.specs.Judge.{event_of, fresh}
+use Rattle.swh_model.specs.Judge.{event_of, not_held}
 use Rattle.swh_model.specs.Grows.{IsWithin}
 use Rattle.swh_model.proofs.Maps.{visits-put, within-added}
 use Rattle.swh_model.proofs.Verdicts.{fresh-new}
 use Rattle.swh_keeper.specs.Kept.{Kept, Applies}
 use Rattle.swh_loader.specs.Adding.{Attempt, attempt}
-use Rattle.swh_loader.specs.Visiting.{visit_with, IsVisit, GoesOn, IsMarked}
+use Rattle.swh_loader.specs.Visiting.{visit_with, IsVisit, KeepsAll, GainsStatuses}
 
 -- a history with one event more
 after_all-push : (a : Archive) (h : List Event) (e : Event) → after_all a (h ++ e ∷ []) ≡ after (after_all a h) e
@@ -66,7 +66,7 @@ opened_visit h by origin date h' outcome event visit a o =
       },
     )
 
-pub marked_visit : (h : List Event) (o : Attempt) (number : ℕ) (status : Status) (snapshot : Option (List ℕ)) (h' : List Event) (outcome : Outcome) → Applies h o.by (Mark o.origin number status snapshot) h' outcome → IsMarked h h' o number ((status, snapshot) ∷ [])
+pub marked_visit : (h : List Event) (o : Attempt) (number : ℕ) (status : Status) (snapshot : Option (List ℕ)) (h' : List Event) (outcome : Outcome) → Applies h o.by (Mark o.origin number status snapshot) h' outcome → GainsStatuses h h' o number ((status, snapshot) ∷ [])
 marked_visit h o number status snapshot h' outcome a statuses v =
     let visits = visits_of (replay h).origins o.origin in
     let all : visits_of (replay h').origins o.origin ≡ marked_at visits (number - 1) status snapshot =
@@ -76,18 +76,18 @@ marked_visit h o number status snapshot h' outcome a statuses v =
     }
 
 -- a batch says nothing of visits
-pub batch_visit : (h : List Event) (by : ℕ) (entries : List Entry) (h' : List Event) (outcome : Outcome) → Applies h by (Batch entries) h' outcome → (o : Attempt) (number : ℕ) → IsMarked h h' o number []
+pub batch_visit : (h : List Event) (by : ℕ) (entries : List Entry) (h' : List Event) (outcome : Outcome) → Applies h by (Batch entries) h' outcome → (o : Attempt) (number : ℕ) → GainsStatuses h h' o number []
 batch_visit h by entries h' outcome a o number statuses v =
     let all = ap (λ (x : Archive). visits_of x.origins o.origin) (applied h by (Batch entries) h' outcome a) in
     subst (IsVisit h' o number) (sym (append-nil statuses)) (record { positive = v.positive; there = ap (λ (vs : List Visit). visit_at vs number) all ∙ v.there })
 
 -- what was held is held
 within_after : (h : List Event) (by : ℕ) (wish : EventKind) → IsWithin (replay h).bodies (after (replay h) (record { by = by; what = event_of (replay h) wish })).bodies
-within_after h by (Batch entries) = within-added (replay h).bodies (fresh (replay h).bodies entries) (fresh-new (replay h).bodies entries)
+within_after h by (Batch entries) = within-added (replay h).bodies (not_held (replay h).bodies entries) (fresh-new (replay h).bodies entries)
 within_after h by (Open origin kind date) = λ n body e. e
 within_after h by (Mark origin number status snapshot) = λ n body e. e
 
-pub goes_on : {D : Type 0} (old new : Kept D) (by : ℕ) (wish : EventKind) (outcome : Outcome) → Applies old.history by wish new.history outcome → new.wounded ≡ None → GoesOn old new
+pub goes_on : {D : Type 0} (old new : Kept D) (by : ℕ) (wish : EventKind) (outcome : Outcome) → Applies old.history by wish new.history outcome → new.wounded ≡ None → KeepsAll old new
 goes_on old new by wish outcome a w = record {
   more = a.event ∷ [];
   added = a.added_behind;

@@ -19,17 +19,17 @@ pub record Attempt : Type 0 where
 abbrev pub attempt : ℕ → List ℕ → ℕ → Attempt
 attempt by origin date = record { by = by; origin = origin; date = date }
 
--- the opening of its visit
-abbrev pub opening : Attempt → Event
-opening a = record { by = a.by; what = Open a.origin Fast a.date }
+-- the open_event of its visit
+abbrev pub open_event : Attempt → Event
+open_event a = record { by = a.by; what = Open a.origin Fast a.date }
 
 -- a mark of its visit with this number
-abbrev pub marking : Attempt → ℕ → Status → Option (List ℕ) → Event
-marking a number status snapshot = record { by = a.by; what = Mark a.origin number status snapshot }
+abbrev pub mark_event : Attempt → ℕ → Status → Option (List ℕ) → Event
+mark_event a number status snapshot = record { by = a.by; what = Mark a.origin number status snapshot }
 
 -- a batch of these
-abbrev pub adding : ℕ → List Entry → Event
-adding by entries = record { by = by; what = Batch entries }
+abbrev pub batch_event : ℕ → List Entry → Event
+batch_event by entries = record { by = by; what = Batch entries }
 
 -- The event is this one.
 abbrev pub IsEvent : Event → Event → Type 0
@@ -41,7 +41,7 @@ AreAmong objects entries = AllByRecursion (Contains objects) entries
 
 -- The event is a batch of these, and there are some.
 pub record IsBatchOf (by : ℕ) (entries : List Entry) (e : Event) : Type 0 where
-  pub is : e ≡ adding by entries
+  pub is : e ≡ batch_event by entries
   pub some : entries ≢ []
 
 -- The event is a batch of some of these objects.
@@ -51,8 +51,8 @@ pub record IsBatchAmong (by : ℕ) (objects : List Entry) (e : Event) : Type 0 w
   pub among : AreAmong objects entries
 
 -- No batch is allowed.
-abbrev pub IsNoBatch : List Entry → Type 0
-IsNoBatch entries = ⊥
+abbrev pub AllowsNoBatch : List Entry → Type 0
+AllowsNoBatch entries = ⊥
 
 -- The event marks this visit, or adds a batch that is allowed and not empty.
 abbrev pub IsOwnKind : (List Entry → Type 0) → List ℕ → ℕ → EventKind → Type 0
@@ -66,7 +66,7 @@ pub record IsOwn (IsAllowed : List Entry → Type 0) (a : Attempt) (number : ℕ
   pub kind : IsOwnKind IsAllowed a.origin number e.what
 
 -- Events like these were added after the history, and no count of faults fell.
-pub record Adds {D : Type 0} (faults : D → ℕ) (IsAdded : Event → Type 0) (old new : Kept D) : Type 0 where
+pub record AddsEvents {D : Type 0} (faults : D → ℕ) (IsAdded : Event → Type 0) (old new : Kept D) : Type 0 where
   pub more : List Event
   pub behind : new.history ≡ old.history ++ more
   pub each : AllByRecursion IsAdded more

@@ -18,7 +18,7 @@ abbrev pub kept_files : {D : Type 0} → (D → File) → Kept D → Files
 kept_files file k = files_of (file k.ledger) (file k.store)
 
 -- The calls of an event like these, which may happen next, were made up to one that failed.
-pub record BreaksAt (id : Kind → List ℕ → List ℕ) (IsNext : Event → Type 0) (h : List Event) (old new : Files) : Type 0 where
+pub record BreaksAtEvent (id : Kind → List ℕ → List ℕ) (IsNext : Event → Type 0) (h : List Event) (old new : Files) : Type 0 where
   pub event : Event
   pub next : IsNext event
   pub may : May id (replay h) event
@@ -29,7 +29,7 @@ pub record BreaksAt (id : Kind → List ℕ → List ℕ) (IsNext : Event → Ty
 pub record MakesCallsOf {D : Type 0} (id : Kind → List ℕ → List ℕ) (file : D → File) (IsNext : Event → Type 0) (more : List Event) (old new : Kept D) : Type 0 where
   pub made : new.wounded ≡ old.wounded → kept_files file new ≡ files_done (all_calls old.history more) (kept_files file old)
   pub broken : old.wounded ≡ None → (n : ℕ) → new.wounded ≡ Some n
-      → BreaksAt id IsNext new.history (files_done (all_calls old.history more) (kept_files file old)) (kept_files file new)
+      → BreaksAtEvent id IsNext new.history (files_done (all_calls old.history more) (kept_files file old)) (kept_files file new)
 
 -- The calls of the events that were added were made.
 pub record MakesCalls {D : Type 0} (id : Kind → List ℕ → List ℕ) (file : D → File) (IsNext : Event → Type 0) (old new : Kept D) : Type 0 where

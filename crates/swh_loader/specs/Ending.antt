@@ -8,7 +8,7 @@ use Rattle.swh_base.specs.declared.visit.Status.TheVariants.{Ongoing, Full as Fu
 use Rattle.swh_outside.specs.Faults.{Rose}
 use Rattle.swh_outside.specs.Views.{Sources}
 use Rattle.swh_model.specs.Archive.{Bodies}
-use Rattle.swh_model.specs.Step.{IsGoodAndNamed}
+use Rattle.swh_model.specs.Step.{HasItsChildrenAndName}
 use Rattle.swh_base.specs.Visit.{Statuses}
 use Rattle.swh_model.specs.Meaning.{IsMeaning, IsLeftOut}
 use Rattle.swh_outside.specs.declared.fault.Opened.{Opened}
@@ -29,10 +29,10 @@ statuses_of (Full snapshot) = (Ongoing, None) ∷ (FullStatus, Some snapshot) �
 statuses_of NotFound = (NotFoundStatus, None) ∷ []
 statuses_of (Failed bad) = (Ongoing, None) ∷ (FailedStatus, None) ∷ []
 
--- With this head, or none, the input means these objects, each under its name and with its kids, and this snapshot.
+-- With this head, or none, the input means these objects, each under its name and with its children, and this snapshot.
 pub record MeansObjects (id : Kind → List ℕ → List ℕ) (head : Option (List ℕ)) (text : List ℕ) (objects : List Entry) (snapshot : List ℕ) : Type 0 where
   pub meaning : IsMeaning id head text (record { objects = made objects; snapshot = snapshot })
-  pub good : AllByRecursion (IsGoodAndNamed id) objects
+  pub good : AllByRecursion (HasItsChildrenAndName id) objects
 
 -- The input makes this object.
 pub record IsMadeBy (id : Kind → List ℕ → List ℕ) (head : Option (List ℕ)) (text : List ℕ) (e : Entry) : Type 0 where

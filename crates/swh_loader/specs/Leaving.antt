@@ -14,11 +14,11 @@ use Rattle.swh_keeper.specs.Kept.{Kept}
 use Rattle.swh_loader.specs.declared.end.Loaded.{Loaded}
 use Rattle.swh_loader.specs.declared.fault.LoadFault.{LoadFault}
 use Rattle.swh_loader.specs.declared.job.Job.{Job}
-use Rattle.swh_loader.specs.Adding.{Attempt, opening, IsEvent, IsNoBatch, IsOwn}
+use Rattle.swh_loader.specs.Adding.{Attempt, open_event, IsEvent, AllowsNoBatch, IsOwn}
 use Rattle.swh_loader.specs.Calls.{MakesCallsOf}
 use Rattle.swh_loader.specs.Ending.{AreMadeBy, statuses_of}
 use Rattle.swh_loader.specs.Stopping.{StopsUnchanged, StopsFor}
-use Rattle.swh_loader.specs.Visiting.{IsVisit, IsOpen, GoesOn}
+use Rattle.swh_loader.specs.Visiting.{IsVisit, IsOpen, KeepsAll}
 
 -- The number of an origin's next visit.
 abbrev pub next_visit : List Event → List ℕ → ℕ
@@ -27,14 +27,14 @@ next_visit h origin = length (visits_of (replay h).origins origin) + 1
 -- The batches of a load hold only what its input makes; without an input there are none.
 abbrev pub AreAllowed : {S : Type 0} → (Kind → List ℕ → List ℕ) → Option (List ℕ) → Sources S → Opened S → List Entry → Type 0
 AreAllowed id head sources (Found s) entries = AreMadeBy id head sources s entries
-AreAllowed id head sources NotFound entries = IsNoBatch entries
-AreAllowed id head sources Failed entries = IsNoBatch entries
-AreAllowed id head sources Memory entries = IsNoBatch entries
+AreAllowed id head sources NotFound entries = AllowsNoBatch entries
+AreAllowed id head sources Failed entries = AllowsNoBatch entries
+AreAllowed id head sources Memory entries = AllowsNoBatch entries
 
--- The events of one load: none, or its visit's opening and then its own.
+-- The events of one load: none, or its visit's open_event and then its own.
 abbrev pub AreOfVisit : (List Entry → Type 0) → Attempt → ℕ → List Event → Type 0
 AreOfVisit IsBatch a number [] = Unit {0}
-AreOfVisit IsBatch a number (e ∷ es) = IsEvent (opening a) e × AllByRecursion (IsOwn IsBatch a number) es
+AreOfVisit IsBatch a number (e ∷ es) = IsEvent (open_event a) e × AllByRecursion (IsOwn IsBatch a number) es
 
 -- One load's events were added.
 pub record AddsVisit (IsBatch : List Entry → Type 0) (a : Attempt) (h h' : List Event) : Type 0 where
@@ -53,13 +53,13 @@ module _ {D : Type 0} (id : Kind → List ℕ → List ℕ) (disks : Disks D) wh
   pub record StopsAtOnce (a : Attempt) (old new : Kept D) (fault : LoadFault) : Type 0 where
     pub no_visit : fault.visit ≡ 0
     pub same : new.history ≡ old.history
-    pub stops : StopsFor id disks.faults (IsEvent (opening a)) old new fault.why
+    pub stops : StopsFor id disks.faults (IsEvent (open_event a)) old new fault.why
 
   -- It stopped once its visit was opened. The visit is there, and it has no end.
   pub record StopsLater (IsBatch : List Entry → Type 0) (a : Attempt) (old new : Kept D) (fault : LoadFault) : Type 0 where
     pub visit : fault.visit ≡ next_visit old.history a.origin
     pub more : List Event
-    pub opened : new.history ≡ old.history ++ opening a ∷ more
+    pub opened : new.history ≡ old.history ++ open_event a ∷ more
     pub unended : IsOpen new.history a fault.visit
     pub stops : StopsFor id disks.faults (IsOwn IsBatch a fault.visit) old new fault.why
 
@@ -76,7 +76,7 @@ IsHeldBack old new (Err fault) = (fault.visit ≡ 0) × StopsUnchanged old new f
 pub record EndsVisit {D : Type 0} (a : Attempt) (old new : Kept D) (loaded : Loaded) : Type 0 where
   pub number : loaded.visit ≡ next_visit old.history a.origin
   pub visit : IsVisit new.history a loaded.visit ((Created, None) ∷ statuses_of loaded.end)
-  pub on : GoesOn old new
+  pub on : KeepsAll old new
   pub before_it : old.wounded ≡ None
 
 -- No count of faults fell.

@@ -5,7 +5,7 @@ use Rattle.swh_outside.specs.Faults.{Rose}
 use Rattle.swh_outside.specs.Views.{Sources}
 use Rattle.swh_model.specs.Meaning.{IsMeaning, IsLeftOut}
 use Rattle.swh_fastload.specs.Loaded.{making_of}
-use Rattle.swh_fastload.specs.Whole.{IsWhole}
+use Rattle.swh_fastload.specs.Whole.{HasAllThatIsReached}
 use Rattle.swh_loader.specs.declared.end.StreamWhy.TheVariants.{LeftOut}
 use Rattle.swh_loader.specs.declared.end.BadInput.{BadInput}
 use Rattle.swh_loader.specs.declared.end.BadInput.TheVariants.{Stream, Collision, Read}
@@ -24,7 +24,7 @@ module _ {S : Type 0} (id : Kind → List ℕ → List ℕ) (head : Option (List
   IsRead (Made objects) = sources.tells → IsMeaning id head (sources.left s) (making_of objects)
   IsRead (Bad bad) = Broke bad
 
--- What was made has all of its kids.
+-- What was made has all of its children.
 abbrev pub IsWholeInput : {N : Type 0} → (Kind → List ℕ → List ℕ) → Input N → Type 0
-IsWholeInput id (Made objects) = IsWhole id objects
+IsWholeInput id (Made objects) = HasAllThatIsReached id objects
 IsWholeInput id (Bad bad) = Unit {0}

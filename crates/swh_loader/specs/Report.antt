@@ -15,17 +15,17 @@ use Rattle.swh_loader.specs.declared.fault.LoadWhy.TheVariants.{Ended, DiskFault
 use Rattle.swh_loader.specs.declared.fault.LoadFault.{LoadFault}
 
 -- what is wrong with a stream, as a line says it
-abbrev pub why_word : StreamWhy → List ℕ
-why_word Grammar = codes "grammar"
-why_word EndOfInput = codes "end"
-why_word LeftOut = codes "left-out"
-why_word Mark = codes "mark"
-why_word Branch = codes "branch"
-why_word Place = codes "place"
+abbrev pub stream_why_word : StreamWhy → List ℕ
+stream_why_word Grammar = codes "grammar"
+stream_why_word EndOfInput = codes "end"
+stream_why_word LeftOut = codes "left-out"
+stream_why_word Mark = codes "mark"
+stream_why_word Branch = codes "branch"
+stream_why_word Place = codes "place"
 
 -- why an input makes no snapshot
 abbrev pub bad_detail : BadInput → List ℕ
-bad_detail (Stream at why) = codes "stream " ++ (decimal at ++ 32 ∷ why_word why)
+bad_detail (Stream at why) = codes "stream " ++ (decimal at ++ 32 ∷ stream_why_word why)
 bad_detail (Collision name) = codes "collision " ++ core_text name
 bad_detail Read = codes "read"
 
@@ -55,5 +55,5 @@ report_of url (Ok loaded) = line_of url loaded.visit (end_word loaded.end) (end_
 report_of url (Err fault) = line_of url fault.visit (codes "stopped") (fault_detail fault.why)
 
 -- the most bytes of a line
-abbrev pub line_limit : ℕ
-line_limit = 2141
+abbrev pub report_line_limit : ℕ
+report_line_limit = 2141

@@ -8,11 +8,11 @@ use Rattle.swh_base.specs.declared.entry.Entry.{Entry}
 use Rattle.swh_model.specs.Archive.{Bodies, body_of}
 use Rattle.swh_model.specs.Limits.{IsWithinLimits}
 use Rattle.swh_base.specs.Limits.{objects_limit, bytes_limit}
-use Rattle.swh_model.specs.Step.{AreNew, IsGoodAndNamed, added, replay}
+use Rattle.swh_model.specs.Step.{AreNew, HasItsChildrenAndName, added, replay}
 use Rattle.swh_model.specs.Grows.{IsWithin}
 use Rattle.swh_keeper.specs.Kept.{Kept}
 use Rattle.swh_loader.specs.Adding.{Attempt, AreAmong}
-use Rattle.swh_loader.specs.Visiting.{IsMarked}
+use Rattle.swh_loader.specs.Visiting.{GainsStatuses}
 use Rattle.swh_loader.specs.declared.pending.Pending.{Pending}
 use Rattle.swh_loader.specs.declared.sending.Standing.{Standing}
 use Rattle.swh_loader.specs.declared.sending.Standing.TheVariants.{Held, Other, New}
@@ -30,44 +30,44 @@ abbrev pub AllHeld : Bodies → List Entry → Type 0
 AllHeld bodies entries = AllByRecursion (λ e. body_of bodies e.name ≡ Some e.body) entries
 
 -- the bodies that an archive holds
-abbrev pub bodies_of : {D : Type 0} → Kept D → Bodies
-bodies_of k = (replay k.history).bodies
+abbrev pub held_bodies : {D : Type 0} → Kept D → Bodies
+held_bodies k = (replay k.history).bodies
 
 -- what is held once what waits was added
 abbrev pub to_be : {D : Type 0} → Kept D → Pending → Bodies
-to_be k p = added (bodies_of k) p.entries.items
+to_be k p = added (held_bodies k) p.entries.items
 
 -- A batch has room for an entry of this name after what waits.
-pub record HasRoom (p : Pending) (n : Name) : Type 0 where
+pub record BatchHasRoom (p : Pending) (n : Name) : Type 0 where
   pub few : length p.entries.items < objects_limit
   pub small : p.bytes ≤ bytes_limit
   pub absent : body_of p.held n ≡ None
 
 -- What waits is new, good and named, and a batch within the limits.
-pub record IsWaiting (id : Kind → List ℕ → List ℕ) (bodies : Bodies) (p : Pending) : Type 0 where
+pub record IsPendingBatch (id : Kind → List ℕ → List ℕ) (bodies : Bodies) (p : Pending) : Type 0 where
   pub held : p.held ≡ added finite.empty p.entries.items
   pub new : AreNew bodies p.entries.items
-  pub good : AllByRecursion (IsGoodAndNamed id) p.entries.items
+  pub good : AllByRecursion (HasItsChildrenAndName id) p.entries.items
   pub limits : IsWithinLimits p.entries.items
   pub counted : p.bytes ≡ sum_by (λ e. length e.body) p.entries.items
 
 -- There is room for an entry of this name: what waited was sent, or waits still.
 pub record HasMadeRoom {D : Type 0} (id : Kind → List ℕ → List ℕ) (old : Kept D) (p : Pending) (n : Name) (new : Kept D) (q : Pending) : Type 0 where
-  pub room : HasRoom q n
+  pub room : BatchHasRoom q n
   pub among : AreAmong p.entries.items q.entries.items
-  pub waiting : IsWaiting id (bodies_of new) q
+  pub waiting : IsPendingBatch id (held_bodies new) q
   pub to_be : to_be new q ≡ to_be old p
 
 -- Visits are as they were.
 abbrev pub SameVisits : {D : Type 0} → Kept D → Kept D → Type 0
-SameVisits old new = (a : Attempt) (number : ℕ) → IsMarked old.history new.history a number []
+SameVisits old new = (a : Attempt) (number : ℕ) → GainsStatuses old.history new.history a number []
 
 -- what became of an entry
-abbrev pub IsTaken : {D : Type 0} → (Kind → List ℕ → List ℕ) → Kept D → Pending → Entry → Kept D → Taken → Type 0
-IsTaken id old p e new (Waits q) =
-    IsWaiting id (bodies_of new) q × IsWithin (to_be old p) (to_be new q)
+abbrev pub TakesEntry : {D : Type 0} → (Kind → List ℕ → List ℕ) → Kept D → Pending → Entry → Kept D → Taken → Type 0
+TakesEntry id old p e new (Waits q) =
+    IsPendingBatch id (held_bodies new) q × IsWithin (to_be old p) (to_be new q)
     × (body_of (to_be new q) e.name ≡ Some e.body) × AreAmong (p.entries.items ++ e ∷ []) q.entries.items
-IsTaken id old p e new (Collides name) = (name ≡ e.name) × IsStanding (bodies_of new) e Other
+TakesEntry id old p e new (Collides name) = (name ≡ e.name) × IsStanding (held_bodies new) e Other
 
 -- An object of these has a name under which another body is held.
 pub record IsCollision (bodies : Bodies) (objects : List Entry) (name : Name) : Type 0 where

@@ -9,18 +9,18 @@ use Rattle.swh_keeper.specs.Kept.{Kept}
 use Rattle.swh_loader.specs.declared.end.End.{End}
 use Rattle.swh_loader.specs.declared.fault.LoadWhy.{LoadWhy}
 use Rattle.swh_loader.specs.declared.visiting.OpenVisit.{OpenVisit}
-use Rattle.swh_loader.specs.Adding.{Attempt, opening, IsOwn, Adds}
+use Rattle.swh_loader.specs.Adding.{Attempt, open_event, IsOwn, AddsEvents}
 use Rattle.swh_loader.specs.Calls.{MakesCalls}
 use Rattle.swh_loader.specs.Ending.{statuses_of}
 use Rattle.swh_loader.specs.Leaving.{next_visit}
 use Rattle.swh_loader.specs.Stopping.{StopsUnchanged, StopsFor}
-use Rattle.swh_loader.specs.Visiting.{IsVisit, IsOpen, GoesOn, attempt_of, created}
+use Rattle.swh_loader.specs.Visiting.{IsVisit, IsOpen, KeepsAll, attempt_of, created}
 
 -- The visit was opened, as the next of its origin.
 pub record IsOpened {D : Type 0} (a : Attempt) (old new : Kept D) (number : ℕ) : Type 0 where
   pub next : number ≡ next_visit old.history a.origin
   pub visit : IsVisit new.history a number created
-  pub opened : new.history ≡ old.history ++ opening a ∷ []
+  pub opened : new.history ≡ old.history ++ open_event a ∷ []
   pub before_it : old.wounded ≡ None
 
 -- No visit was opened, and nothing is changed where a disk had failed before.
@@ -31,8 +31,8 @@ pub record IsUnopened {D : Type 0} (old new : Kept D) (stop : LoadWhy) : Type 0 
 module _ {D : Type 0} (id : Kind → List ℕ → List ℕ) (disks : Disks D) where
   -- Events like these were added, with their device calls. All that was held is, or the step says why it stopped.
   pub record Leaves {T : Type 0} (IsAdded : Event → Type 0) (old new : Kept D) (result : Result T LoadWhy) : Type 0 where
-    pub on : OnOk result (GoesOn old new)
-    pub adds : Adds disks.faults IsAdded old new
+    pub on : OnOk result (KeepsAll old new)
+    pub adds : AddsEvents disks.faults IsAdded old new
     pub calls : disks.tells → MakesCalls id disks.file IsAdded old new
     pub stops : IfErr result (StopsFor id disks.faults IsAdded old new)
 

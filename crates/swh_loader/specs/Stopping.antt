@@ -2,7 +2,7 @@
 use Rattle.std.specs.Prelude.{◌≡◌, ◌⊎◌, ℕ, ◌+◌, Some, None, List, length}
 use Rattle.swh_base.specs.declared.kind.Kind.{Kind}
 use Rattle.swh_base.specs.declared.visit.Which.{Which}
-use Rattle.swh_segment.specs.Makes.{EitherRose}
+use Rattle.swh_segment.specs.Makes.{ADiskFailed}
 use Rattle.swh_model.specs.declared.event.Event.{Event}
 use Rattle.swh_model.specs.Judge.{FilePasses}
 use Rattle.swh_model.specs.Step.{May, replay}
@@ -38,7 +38,7 @@ pub record IsStoppedBefore {D : Type 0} (old new : Kept D) : Type 0 where
 pub record IsFaulted {D : Type 0} (faults : D → ℕ) (old new : Kept D) : Type 0 where
   pub before_it : old.wounded ≡ None
   pub wounded : new.wounded ≡ Some (length new.history + 1)
-  pub rose : EitherRose (faults old.store) (faults new.store) (faults old.ledger) (faults new.ledger)
+  pub rose : ADiskFailed (faults old.store) (faults new.store) (faults old.ledger) (faults new.ledger)
 
 -- One of the two files has no room after the history for an event like these, which may happen next.
 pub record IsFileFull {D : Type 0} (id : Kind → List ℕ → List ℕ) (IsTried : Event → Type 0) (old new : Kept D) (which : Which) (number : ℕ) : Type 0 where

@@ -41,12 +41,12 @@ pub record IsOpen (h : List Event) (a : Attempt) (number : ℕ) : Type 0 where
   pub few : length statuses ≤ 2
 
 -- Events were added, and all that was held is.
-pub record GoesOn {D : Type 0} (old new : Kept D) : Type 0 where
+pub record KeepsAll {D : Type 0} (old new : Kept D) : Type 0 where
   pub more : List Event
   pub added : new.history ≡ old.history ++ more
   pub unwounded : new.wounded ≡ None
   pub within : IsWithin (replay old.history).bodies (replay new.history).bodies
 
 -- The visit has these statuses more.
-abbrev pub IsMarked : List Event → List Event → Attempt → ℕ → Statuses → Type 0
-IsMarked h h' a number more = (statuses : Statuses) → IsVisit h a number statuses → IsVisit h' a number (statuses ++ more)
+abbrev pub GainsStatuses : List Event → List Event → Attempt → ℕ → Statuses → Type 0
+GainsStatuses h h' a number more = (statuses : Statuses) → IsVisit h a number statuses → IsVisit h' a number (statuses ++ more)

@@ -18,7 +18,7 @@ pub use end::{BadInput, End, Loaded, StreamWhy};
 pub use fault::{LoadFault, LoadWhy};
 pub use job::Job;
 pub use loading::load_one;
-pub use report::{LINE_LIMIT, report_line};
+pub use report::{REPORT_LIMIT, report_line};
 pub use turn::{Turn, Worker};
 
 #[cfg(test)]

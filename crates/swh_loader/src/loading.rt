@@ -6,15 +6,15 @@ ghost use Rattle.swh_outside.specs.Views.{disks, sources};
 ghost use Rattle.swh_model.specs.Archive.{IsClosed};
 ghost use Rattle.swh_model.specs.Step.{FitsStatus};
 ghost use Rattle.swh_base.specs.Snapshot.{snapshot_name};
-ghost use Rattle.swh_fastload.specs.Whole.{IsWhole};
+ghost use Rattle.swh_fastload.specs.Whole.{HasAllThatIsReached};
 ghost use Rattle.swh_loader.specs.declared.fault.LoadWhy.TheVariants.{Memory as OutOfMemory};
 ghost use Rattle.swh_loader.specs.declared.end.StreamWhy.TheVariants.{LeftOut};
 ghost use Rattle.swh_loader.specs.declared.end.BadInput.TheVariants.{Stream as BadStream, Read as BadRead};
 ghost use Rattle.swh_loader.specs.declared.end.End.TheVariants.{Full as EndFull, NotFound as EndNotFound};
 ghost use Rattle.swh_loader.specs.declared.end.End.TheVariants.{Failed as EndFailed};
-ghost use Rattle.swh_loader.specs.Adding.{AreAmong, IsNoBatch, attempt};
+ghost use Rattle.swh_loader.specs.Adding.{AreAmong, AllowsNoBatch, attempt};
 ghost use Rattle.swh_loader.specs.Visiting.{IsVisit, attempt_of, created, ongoing};
-ghost use Rattle.swh_loader.specs.Sending.{bodies_of};
+ghost use Rattle.swh_loader.specs.Sending.{held_bodies};
 ghost use Rattle.swh_loader.specs.Ending.{AreMadeBy, IsSentEnd, IsEndOf, IsJobEnd, before_end, last_of};
 ghost use Rattle.swh_loader.specs.Reading.{IsRead, IsWholeInput};
 ghost use Rattle.swh_loader.specs.Leaving.{AreAllowed, AddsVisit, MakesVisitCalls, EndsVisit, Stops, NoCountFell};
@@ -102,10 +102,10 @@ fn end_visit<N: Namer, D: Disk>(
 ) -> Result<End, LoadWhy>
     requires unwounded { keeper.old.wounded ≡ None }
     requires visit { IsVisit keeper.old.history (attempt_of visit.now) visit.now.number (before_end end) }
-    requires fits { FitsStatus (bodies_of keeper.old) status snapshot }
+    requires fits { FitsStatus (held_bodies keeper.old) status snapshot }
     requires last { last_of end ≡ (status, snapshot) ∷ [] }
     ensures end { IfOk result (λ told. told ≡ end) }
-    ensures leaves { LeavesVisit N.id_of (disks D.tells D.file D.faults) IsNoBatch
+    ensures leaves { LeavesVisit N.id_of (disks D.tells D.file D.faults) AllowsNoBatch
         visit.now keeper.old keeper.new result }
 {
     mark(alloc, keeper, visit, status, snapshot)?;
@@ -122,7 +122,7 @@ fn end_bad<N: Namer, D: Disk>(
     requires unwounded { keeper.old.wounded ≡ None }
     requires visit { IsVisit keeper.old.history (attempt_of visit.now) visit.now.number ongoing }
     ensures end { IfOk result (λ end. end ≡ EndFailed bad) }
-    ensures leaves { LeavesVisit N.id_of (disks D.tells D.file D.faults) IsNoBatch
+    ensures leaves { LeavesVisit N.id_of (disks D.tells D.file D.faults) AllowsNoBatch
         visit.now keeper.old keeper.new result }
 {
     let end = End::Failed(bad);
@@ -139,9 +139,9 @@ fn end_full<N: Namer, D: Disk, G: Gate>(
 ) -> Result<End, LoadWhy>
     requires unwounded { keeper.old.wounded ≡ None }
     requires visit { IsVisit keeper.old.history (attempt_of visit.now) visit.now.number ongoing }
-    requires closed { IsClosed (bodies_of keeper.old) (snapshot_name snapshot) }
+    requires closed { IsClosed (held_bodies keeper.old) (snapshot_name snapshot) }
     ensures end { IfOk result (λ end. end ≡ EndFull snapshot) }
-    ensures leaves { LeavesVisit N.id_of (disks D.tells D.file D.faults) IsNoBatch
+    ensures leaves { LeavesVisit N.id_of (disks D.tells D.file D.faults) AllowsNoBatch
         visit.now keeper.old keeper.new result }
 {
     let gate = turn.worker.gate;
@@ -162,8 +162,8 @@ fn finish<N: Namer, D: Disk, G: Gate>(
 ) -> Result<End, LoadWhy>
     requires unwounded { keeper.old.wounded ≡ None }
     requires visit { IsVisit keeper.old.history (attempt_of visit.now) visit.now.number ongoing }
-    requires whole { IsWhole N.id_of made }
-    ensures end { IfOk result (IsSentEnd (bodies_of keeper.new) made) }
+    requires whole { HasAllThatIsReached N.id_of made }
+    ensures end { IfOk result (IsSentEnd (held_bodies keeper.new) made) }
     ensures leaves { LeavesVisit N.id_of (disks D.tells D.file D.faults) (AreAmong made.objects.items)
         visit.now keeper.old keeper.new result }
 {
@@ -187,7 +187,7 @@ fn load_found<N: Namer, D: Disk, S: Source, G: Gate>(
     requires head { IfSome head.now IsRef }
     requires visit { IsVisit keeper.old.history (attempt_of visit.now) visit.now.number created }
     ensures end { IfOk result (IsEndOf N.id_of head.now (sources S.tells S.left S.faults S.path)
-        (bodies_of keeper.new) source.old source.new) }
+        (held_bodies keeper.new) source.old source.new) }
     ensures leaves { LeavesVisit N.id_of (disks D.tells D.file D.faults)
         (AreMadeBy N.id_of head.now (sources S.tells S.left S.faults S.path) source.old)
         visit.now keeper.old keeper.new result }
@@ -209,7 +209,7 @@ fn end_absent<N: Namer, D: Disk>(
     requires unwounded { keeper.old.wounded ≡ None }
     requires visit { IsVisit keeper.old.history (attempt_of visit.now) visit.now.number created }
     ensures end { IfOk result (λ end. end ≡ EndNotFound) }
-    ensures leaves { LeavesVisit N.id_of (disks D.tells D.file D.faults) IsNoBatch
+    ensures leaves { LeavesVisit N.id_of (disks D.tells D.file D.faults) AllowsNoBatch
         visit.now keeper.old keeper.new result }
 {
     end_visit(alloc, keeper, visit, Status::NotFound, None, End::NotFound)
@@ -224,7 +224,7 @@ fn end_unread<N: Namer, D: Disk>(
     requires unwounded { keeper.old.wounded ≡ None }
     requires visit { IsVisit keeper.old.history (attempt_of visit.now) visit.now.number created }
     ensures end { IfOk result (λ end. end ≡ EndFailed BadRead) }
-    ensures leaves { LeavesVisit N.id_of (disks D.tells D.file D.faults) IsNoBatch
+    ensures leaves { LeavesVisit N.id_of (disks D.tells D.file D.faults) AllowsNoBatch
         visit.now keeper.old keeper.new result }
 {
     mark(alloc, keeper, visit, Status::Ongoing, None)?;
@@ -245,7 +245,7 @@ fn load_opened<N: Namer, D: Disk, S: Source, G: Gate>(
     requires head { IfSome head.now IsRef }
     requires visit { IsVisit keeper.old.history (attempt_of visit.now) visit.now.number created }
     ensures end { IfOk result (IsJobEnd N.id_of head.now (sources S.tells S.left S.faults S.path)
-        (bodies_of keeper.new) stream.old stream.new) }
+        (held_bodies keeper.new) stream.old stream.new) }
     ensures leaves { LeavesVisit N.id_of (disks D.tells D.file D.faults)
         (AreAllowed N.id_of head.now (sources S.tells S.left S.faults S.path) stream.old)
         visit.now keeper.old keeper.new result }
@@ -274,7 +274,7 @@ pub fn load_one<N: Namer, D: Disk, S: Source, G: Gate>(
     ensures ended { IfOk result (EndsVisit (attempt turn.now.worker.now.by job.old.origin date) keeper.old keeper.new) }
     // The end says what the input means, and what is held.
     ensures end { IfOk result (λ loaded. IsJobEnd N.id_of job.old.head (sources S.tells S.left S.faults S.path)
-        (bodies_of keeper.new) job.old.stream job.new.stream loaded.end) }
+        (held_bodies keeper.new) job.old.stream job.new.stream loaded.end) }
 
     // Whatever it answers, it adds its visit's events alone, with nothing but what the input makes.
     ensures adds { AddsVisit (AreAllowed N.id_of job.old.head (sources S.tells S.left S.faults S.path) job.old.stream)

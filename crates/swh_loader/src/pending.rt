@@ -15,8 +15,8 @@ impl Pending {
     ghost use Rattle.std.specs.Prelude.{◌≡◌, ◌≤◌, ◌+◌, ◌++◌, ◌∷◌, ◌↔◌, [], length, OnOk, IsTrue};
     ghost use Rattle.std.specs.FinMap as finite;
     ghost use Rattle.swh_base.specs.Limits.{body_limit};
-    ghost use Rattle.swh_model.specs.Step.{IsGood};
-    ghost use Rattle.swh_loader.specs.Sending.{HasRoom};
+    ghost use Rattle.swh_model.specs.Step.{HasItsChildren};
+    ghost use Rattle.swh_loader.specs.Sending.{BatchHasRoom};
 
     pub fn new(alloc: Global) -> Pending
         ensures entries { result.entries.items ≡ [] }
@@ -32,16 +32,16 @@ impl Pending {
 
     /// Says whether an entry of this name may join.
     pub fn has_room(&self, name: &Name) -> bool
-        ensures { IsTrue result ↔ HasRoom self.now name.now }
+        ensures { IsTrue result ↔ BatchHasRoom self.now name.now }
     {
         self.entries.len() < OBJECTS_LIMIT && self.bytes <= BYTES_LIMIT && !self.held.has(name)
     }
 
     /// Lets an entry join.
     pub fn push(&mut self, entry: Entry) -> Result<(), Memory>
-        requires good { IsGood entry }
+        requires good { HasItsChildren entry }
         requires short { length entry.body ≤ body_limit }
-        requires room { HasRoom self.old entry.name }
+        requires room { BatchHasRoom self.old entry.name }
         ensures entries { OnOk result (self.new.entries.items ≡ self.old.entries.items ++ entry ∷ []) }
         ensures held { OnOk result (self.new.held ≡ finite.insert self.old.held entry.name entry.body) }
         ensures bytes { OnOk result (self.new.bytes ≡ self.old.bytes + length entry.body) }

@@ -1,7 +1,7 @@
 // The line that reports a job.
 ghost use Rattle.std.specs.Prelude.{◌≡◌, ◌+◌, ◌≤◌, ◌++◌, ◌∷◌, [], length, vec_capacity, decimal};
 ghost use Rattle.swh_swhid.specs.Core.{core_text};
-ghost use Rattle.swh_loader.specs.Report.{why_word, bad_detail, end_word, end_detail, fault_detail, report_of};
+ghost use Rattle.swh_loader.specs.Report.{stream_why_word, bad_detail, end_word, end_detail, fault_detail, report_of};
 
 use crate::end::{BadInput, End, Loaded, StreamWhy};
 use crate::fault::{LoadFault, LoadWhy};
@@ -11,10 +11,10 @@ use swh_swhid::core_text;
 
 /// The most bytes of a line: a URL of 2,048, a number of 20, a status of 9 and a detail of 60, with a TAB after each of
 /// the first three and an LF at the end.
-pub const LINE_LIMIT: usize = 2_141;
+pub const REPORT_LIMIT: usize = 2_141;
 
 fn word_of_why(why: StreamWhy) -> &'static [u8]
-    ensures is { result.now ≡ why_word why }
+    ensures is { result.now ≡ stream_why_word why }
     ensures short { length result.now ≤ 8 }
 {
     match why {
@@ -143,9 +143,9 @@ fn put_front(out: &mut Vec<u8>, url: &Url, visit: u64, status: &[u8])
 /// Adds the line that reports how the load of an origin ended: its URL, the visit, the status and a detail, with TABs
 /// between and an LF at the end.
 pub fn report_line(out: &mut Vec<u8>, url: &Url, ended: Result<Loaded, LoadFault>)
-    requires { length out.old.items + LINE_LIMIT ≤ vec_capacity out.old }
+    requires { length out.old.items + REPORT_LIMIT ≤ vec_capacity out.old }
     ensures line { out.new.items ≡ out.old.items ++ report_of url.now ended }
-    ensures short { length out.new.items ≤ length out.old.items + LINE_LIMIT }
+    ensures short { length out.new.items ≤ length out.old.items + REPORT_LIMIT }
     ensures capacity { vec_capacity out.old ≤ vec_capacity out.new }
 {
     match ended {

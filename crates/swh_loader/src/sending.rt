@@ -2,8 +2,8 @@
 ghost use Rattle.std.specs.Prelude.{◌≡◌, None, IfOk, OnOk};
 ghost use Rattle.swh_outside.specs.Views.{disks};
 ghost use Rattle.swh_loader.specs.Adding.{IsBatchOf, IsBatchAmong};
-ghost use Rattle.swh_loader.specs.Sending.{IsStanding, IsWaiting, HasMadeRoom, IsTaken, SameVisits, AreSent};
-ghost use Rattle.swh_loader.specs.Sending.{bodies_of, to_be};
+ghost use Rattle.swh_loader.specs.Sending.{IsStanding, IsPendingBatch, HasMadeRoom, TakesEntry, SameVisits, AreSent};
+ghost use Rattle.swh_loader.specs.Sending.{held_bodies, to_be};
 ghost use Rattle.swh_loader.specs.Steps.{Leaves};
 
 use crate::fault::LoadWhy;
@@ -11,7 +11,7 @@ use crate::pending::Pending;
 use crate::stopping::stopped;
 use std::alloc::Global;
 use std::collections::VecDeque;
-use swh_base::{Entry, Many, Name, Namer};
+use swh_base::{Entry, Items, Name, Namer};
 use swh_keeper::Keeper;
 use swh_model::Wish;
 use swh_object::Object;
@@ -38,7 +38,7 @@ pub enum Taken {
 
 fn standing_of<N: Namer, D: Disk>(keeper: &Keeper<N, D>, entry: &Entry) -> Standing
     requires { keeper.now.wounded ≡ None }
-    ensures { IsStanding (bodies_of keeper.now) entry.now result }
+    ensures { IsStanding (held_bodies keeper.now) entry.now result }
 {
     let Some(held) = keeper.get(&entry.name) else {
         return Standing::New;
@@ -58,8 +58,8 @@ fn flush<N: Namer, D: Disk>(
     pending: Pending,
 ) -> Result<(), LoadWhy>
     requires unwounded { keeper.old.wounded ≡ None }
-    requires waiting { IsWaiting N.id_of (bodies_of keeper.old) pending }
-    ensures bodies { OnOk result (bodies_of keeper.new ≡ to_be keeper.old pending) }
+    requires waiting { IsPendingBatch N.id_of (held_bodies keeper.old) pending }
+    ensures bodies { OnOk result (held_bodies keeper.new ≡ to_be keeper.old pending) }
     ensures visits { SameVisits keeper.old keeper.new }
     ensures leaves { Leaves N.id_of (disks D.tells D.file D.faults) (IsBatchOf by pending.entries.items)
         keeper.old keeper.new result }
@@ -67,7 +67,7 @@ fn flush<N: Namer, D: Disk>(
     if pending.entries.is_empty() {
         return Ok(());
     }
-    let wish = Wish::Batch(Many::from_vec(pending.entries));
+    let wish = Wish::Batch(Items::from_vec(pending.entries));
     match keeper.apply(alloc, by, wish) {
         Ok(_) => Ok(()),
         Err(refusal) => Err(stopped(refusal)),
@@ -83,7 +83,7 @@ fn make_room<N: Namer, D: Disk>(
     name: &Name,
 ) -> Result<Pending, LoadWhy>
     requires unwounded { keeper.old.wounded ≡ None }
-    requires waiting { IsWaiting N.id_of (bodies_of keeper.old) pending }
+    requires waiting { IsPendingBatch N.id_of (held_bodies keeper.old) pending }
     ensures room { IfOk result (HasMadeRoom N.id_of keeper.old pending name.now keeper.new) }
     ensures visits { SameVisits keeper.old keeper.new }
     ensures leaves { Leaves N.id_of (disks D.tells D.file D.faults) (IsBatchOf by pending.entries.items)
@@ -105,8 +105,8 @@ fn take_in<N: Namer, D: Disk>(
     object: Object<N>,
 ) -> Result<Taken, LoadWhy>
     requires unwounded { keeper.old.wounded ≡ None }
-    requires waiting { IsWaiting N.id_of (bodies_of keeper.old) pending }
-    ensures taken { IfOk result (λ taken. IsTaken N.id_of keeper.old pending object keeper.new taken) }
+    requires waiting { IsPendingBatch N.id_of (held_bodies keeper.old) pending }
+    ensures taken { IfOk result (λ taken. TakesEntry N.id_of keeper.old pending object keeper.new taken) }
     ensures visits { SameVisits keeper.old keeper.new }
     ensures leaves { Leaves N.id_of (disks D.tells D.file D.faults) (IsBatchOf by pending.entries.items)
         keeper.old keeper.new result }
@@ -131,7 +131,7 @@ pub fn send_all<N: Namer, D: Disk>(
     objects: Vec<Object<N>>,
 ) -> Result<Option<Name>, LoadWhy>
     requires { keeper.old.wounded ≡ None }
-    ensures sent { IfOk result (λ collision. AreSent (bodies_of keeper.new) objects.items collision) }
+    ensures sent { IfOk result (λ collision. AreSent (held_bodies keeper.new) objects.items collision) }
     ensures visits { SameVisits keeper.old keeper.new }
     ensures leaves { Leaves N.id_of (disks D.tells D.file D.faults) (IsBatchAmong by objects.items)
         keeper.old keeper.new result }

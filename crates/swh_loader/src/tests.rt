@@ -1,5 +1,5 @@
 // Lines that report loads.
-use crate::{BadInput, End, LINE_LIMIT, LoadFault, LoadWhy, Loaded, StreamWhy, report_line};
+use crate::{BadInput, End, REPORT_LIMIT, LoadFault, LoadWhy, Loaded, StreamWhy, report_line};
 use std::alloc::{AllocError, Global};
 use std::test::Fail;
 use swh_base::{Kind, Name, Url};
@@ -9,7 +9,7 @@ fn line_of(
     url: &Url,
     ended: Result<Loaded, LoadFault>,
 ) -> Result<Vec<u8>, AllocError> {
-    let mut line = Vec::with_capacity(alloc, LINE_LIMIT)?;
+    let mut line = Vec::with_capacity(alloc, REPORT_LIMIT)?;
     report_line(&mut line, url, ended);
     Ok(line)
 }

@@ -2,9 +2,9 @@
 ghost use Rattle.std.specs.Prelude.{◌≡◌, ◌∷◌, [], IfOk, IfErr, OnOk, OnErr};
 ghost use Rattle.swh_outside.specs.Views.{disks};
 ghost use Rattle.swh_model.specs.Step.{replay, MayMark};
-ghost use Rattle.swh_loader.specs.Adding.{attempt, opening, marking, IsEvent};
+ghost use Rattle.swh_loader.specs.Adding.{attempt, open_event, mark_event, IsEvent};
 ghost use Rattle.swh_loader.specs.Steps.{IsOpened, IsUnopened, Leaves};
-ghost use Rattle.swh_loader.specs.Visiting.{IsMarked, attempt_of};
+ghost use Rattle.swh_loader.specs.Visiting.{GainsStatuses, attempt_of};
 
 use crate::fault::LoadWhy;
 use crate::stopping::stopped;
@@ -33,7 +33,7 @@ pub fn open_visit<N: Namer, D: Disk>(
 ) -> Result<u64, LoadWhy>
     ensures opened { IfOk result (IsOpened (attempt by origin.now date) keeper.old keeper.new) }
     ensures unopened { IfErr result (IsUnopened keeper.old keeper.new) }
-    ensures leaves { Leaves N.id_of (disks D.tells D.file D.faults) (IsEvent (opening (attempt by origin.now date)))
+    ensures leaves { Leaves N.id_of (disks D.tells D.file D.faults) (IsEvent (open_event (attempt by origin.now date)))
         keeper.old keeper.new result }
 {
     let Ok(origin) = origin.again(alloc) else {
@@ -56,11 +56,11 @@ pub fn mark<N: Namer, D: Disk>(
     snapshot: Option<[u8; 20]>,
 ) -> Result<(), LoadWhy>
     requires { MayMark (replay keeper.old.history) visit.now.by visit.now.origin.now visit.now.number status snapshot }
-    ensures marked { OnOk result (IsMarked keeper.old.history keeper.new.history (attempt_of visit.now) visit.now.number
+    ensures marked { OnOk result (GainsStatuses keeper.old.history keeper.new.history (attempt_of visit.now) visit.now.number
         ((status, snapshot) ∷ [])) }
     ensures same { OnErr result (keeper.new.history ≡ keeper.old.history) }
     ensures leaves { Leaves N.id_of (disks D.tells D.file D.faults)
-        (IsEvent (marking (attempt_of visit.now) visit.now.number status snapshot)) keeper.old keeper.new result }
+        (IsEvent (mark_event (attempt_of visit.now) visit.now.number status snapshot)) keeper.old keeper.new result }
 {
     let Ok(origin) = visit.origin.again(alloc) else {
         return Err(LoadWhy::Memory);

@@ -3,7 +3,7 @@ use Rattle.std.specs.Prelude.{ℕ, Bool, ◌+◌, ◌++◌, ◌&&◌, ◌||◌, 
 use Rattle.swh_outside.specs.Disk.{File, Call, begun}
 use Rattle.swh_memory_disk.specs.Kept.{kept_file}
 use Rattle.swh_memory_disk.specs.Record.{calls_in}
-use Rattle.swh_memory_failures.specs.Tally.{Tally, fresh, is_next_listed}
+use Rattle.swh_memory_failures.specs.Tally.{Tally, fresh_tally, is_next_listed}
 use Rattle.swh_memory_disk.specs.declared.record.MemoryRecord.{MemoryRecord}
 use Rattle.swh_memory_disk.specs.declared.record.Room.{Room}
 use Rattle.swh_memory_disk.specs.declared.disk.MemoryDisk.{MemoryDisk}
@@ -44,7 +44,7 @@ notes_of disk = record { room = disk.room; calls = disk.calls.items; tally = dis
 
 -- those of a disk of this room, no call of which was made or is to fail
 abbrev pub new_notes : Room → DiskNotes
-new_notes room = record { room = room; calls = []; tally = fresh [] }
+new_notes room = record { room = room; calls = []; tally = fresh_tally [] }
 
 -- the same, with no failure so far
 abbrev pub reopened : DiskNotes → DiskNotes

@@ -23,14 +23,14 @@ impl MemoryDepot {
     ghost use Rattle.swh_outside.specs.Files.{absent};
     ghost use Rattle.swh_memory_disk.specs.Memory.{memory_file, notes_of, new_notes};
     ghost use Rattle.swh_memory_disk.specs.InPlace.{is_at, has_place, memory_files, memory_notes, depot_room, depot_tally, depot_faults, SameNotesButAt};
-    ghost use Rattle.swh_memory_failures.specs.Tally.{fresh};
+    ghost use Rattle.swh_memory_failures.specs.Tally.{fresh_tally};
 
     /// A depot with no files, which makes disks of this room. Its openings with the listed numbers, from 0, will fail.
     pub fn new(alloc: Global, room: Room, failing: Vec<u64>) -> Self
         ensures empty { (dir : List ℕ) (file : ℕ) → memory_files result dir file ≡ absent }
         ensures notes { (dir : List ℕ) (file : ℕ) → memory_notes result dir file ≡ new_notes room }
         ensures room { depot_room result ≡ room }
-        ensures failing { depot_tally result ≡ fresh failing.items }
+        ensures failing { depot_tally result ≡ fresh_tally failing.items }
         ensures no_fault { depot_faults result ≡ 0 }
     {
         MemoryDepot {

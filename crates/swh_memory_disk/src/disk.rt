@@ -34,13 +34,13 @@ pub struct MemoryDisk {
 }
 
 impl MemoryDisk {
-    ghost use Rattle.swh_outside.specs.Disk.{IsBroken, Write, begun};
+    ghost use Rattle.swh_outside.specs.Disk.{IsFailedCall, Write, begun};
     ghost use Rattle.swh_outside.specs.Faults.{HasCause};
     ghost use Rattle.swh_outside.specs.Files.{absent};
     ghost use Rattle.swh_memory_disk.specs.Memory.{memory_file, disk_room, disk_calls, disk_tally, disk_faults, resting, notes_of, new_notes};
     ghost use Rattle.swh_memory_disk.specs.Memory.{has_call_room, has_write_room, is_call_to_fail, is_write_to_fail, with_calls, begun_within};
     ghost use Rattle.swh_memory_disk.specs.Record.{call_of, size_of, noted};
-    ghost use Rattle.swh_memory_failures.specs.Tally.{fresh, tallied};
+    ghost use Rattle.swh_memory_failures.specs.Tally.{fresh_tally, tallied};
     ghost use Rattle.swh_memory_disk.specs.declared.record.MemoryCall.TheVariants.{Written};
     ghost use Rattle.std.specs.Prelude.{◌+◌, ◌⊎◌, true, OnOk, OnErr, is_err, if◌then◌else◌};
 
@@ -54,7 +54,7 @@ impl MemoryDisk {
         ensures file { IfOk result (λ disk. memory_file disk ≡ resting bytes.now) }
         ensures room { IfOk result (λ disk. disk_room disk ≡ room) }
         ensures calls { IfOk result (λ disk. disk_calls disk ≡ []) }
-        ensures failing { IfOk result (λ disk. disk_tally disk ≡ fresh failing.items) }
+        ensures failing { IfOk result (λ disk. disk_tally disk ≡ fresh_tally failing.items) }
         ensures no_fault { IfOk result (λ disk. disk_faults disk ≡ 0) }
     {
         let longer = room.bytes.max(bytes.len());
@@ -75,7 +75,7 @@ impl MemoryDisk {
         ensures file { IfOk result (λ disk. memory_file disk ≡ absent) }
         ensures room { IfOk result (λ disk. disk_room disk ≡ room) }
         ensures calls { IfOk result (λ disk. disk_calls disk ≡ []) }
-        ensures failing { IfOk result (λ disk. disk_tally disk ≡ fresh []) }
+        ensures failing { IfOk result (λ disk. disk_tally disk ≡ fresh_tally []) }
         ensures no_fault { IfOk result (λ disk. disk_faults disk ≡ 0) }
     {
         MemoryDisk::new(alloc, &[], room, Vec::new(alloc))
@@ -209,7 +209,7 @@ impl MemoryDisk {
             (Written at (length bytes.now)) (is_err result) }
         ensures same_room { disk_room self.new ≡ disk_room self.old }
         ensures ok { OnOk result (memory_file self.new ≡ begun (Write at bytes.now) (memory_file self.old)) }
-        ensures err { OnErr result (IsBroken (Write at bytes.now) (memory_file self.old) (memory_file self.new)) }
+        ensures err { OnErr result (IsFailedCall (Write at bytes.now) (memory_file self.old) (memory_file self.new)) }
         ensures left { OnErr result (memory_file self.new
             ≡ begun_within (has_write_room self.old at (length bytes.now)) (Write at bytes.now)
             (memory_file self.old)) }

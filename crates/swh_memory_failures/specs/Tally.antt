@@ -9,8 +9,8 @@ pub record Tally : Type 0 where
   pub faults : ℕ
 
 -- the calls of these numbers are to fail, and there was none so far
-abbrev pub fresh : List ℕ → Tally
-fresh failing = record { failing = failing; calls = 0; faults = 0 }
+abbrev pub fresh_tally : List ℕ → Tally
+fresh_tally failing = record { failing = failing; calls = 0; faults = 0 }
 
 -- the next call is to fail
 abbrev pub is_next_listed : Tally → Bool

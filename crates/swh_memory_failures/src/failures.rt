@@ -23,11 +23,11 @@ impl Model for Failures {
 }
 
 impl Failures {
-    ghost use Rattle.swh_memory_failures.specs.Tally.{fresh, is_next_listed, called, refused};
+    ghost use Rattle.swh_memory_failures.specs.Tally.{fresh_tally, is_next_listed, called, refused};
 
     /// The calls of these numbers will fail.
     pub fn at(failing: Vec<u64>) -> Self
-        ensures { result ≡ fresh failing.items }
+        ensures { result ≡ fresh_tally failing.items }
     {
         Failures {
             failing,

@@ -3,7 +3,7 @@ use Rattle.std.specs.Prelude.{ℕ, Bool, List, Option, Some, None, string_bytes}
 use Rattle.std.specs.Str.{bytes_eq}
 use Rattle.swh_outside.specs.Firsts.{first_or}
 use Rattle.swh_outside.specs.Counts.{count_at, is_counted}
-use Rattle.swh_memory_failures.specs.Tally.{Tally, fresh}
+use Rattle.swh_memory_failures.specs.Tally.{Tally, fresh_tally}
 use Rattle.swh_memory_input.specs.declared.input.Input.{Input}
 use Rattle.swh_memory_input.specs.declared.origins.MemoryOrigins.{MemoryOrigins}
 
@@ -12,20 +12,20 @@ abbrev pub is_for : List ℕ → Input → Bool
 is_for path input = bytes_eq (string_bytes input.path) path
 
 -- its bytes, for an input that is there
-abbrev pub bytes_of : Input → Option (List ℕ)
-bytes_of input = Some input.bytes.items
+abbrev pub input_bytes : Input → Option (List ℕ)
+input_bytes input = Some input.bytes.items
 
 -- the bytes of the first input at a path
 abbrev pub input_at : List Input → List ℕ → Option (List ℕ)
-input_at inputs path = first_or (is_for path) bytes_of None inputs
+input_at inputs path = first_or (is_for path) input_bytes None inputs
 
 -- the greatest piece of the first input's source at a path, and which of its calls fail
-abbrev pub made_of : Input → Option (ℕ × Tally)
-made_of input = Some (input.piece, fresh input.failing.items)
+abbrev pub input_making : Input → Option (ℕ × Tally)
+input_making input = Some (input.piece, fresh_tally input.failing.items)
 
 -- the same at a path, where an input stands
 abbrev pub made_at : List Input → List ℕ → Option (ℕ × Tally)
-made_at inputs path = first_or (is_for path) made_of None inputs
+made_at inputs path = first_or (is_for path) input_making None inputs
 
 -- the inputs that it was made with
 abbrev pub origin_inputs : MemoryOrigins → List Input

@@ -13,12 +13,12 @@ pub struct MemoryClock {
 
 impl MemoryClock {
     ghost use Rattle.swh_memory_input.specs.Parts.{clock_time, clock_tally, clock_faults};
-    ghost use Rattle.swh_memory_failures.specs.Tally.{fresh};
+    ghost use Rattle.swh_memory_failures.specs.Tally.{fresh_tally};
 
     /// A clock that says this many seconds since 1970. Its calls with the listed numbers, from 0, will fail.
     pub fn new(time: u64, failing: Vec<u64>) -> Self
         ensures says { (k : ℕ) → clock_time result k ≡ time }
-        ensures failing { clock_tally result ≡ fresh failing.items }
+        ensures failing { clock_tally result ≡ fresh_tally failing.items }
         ensures no_fault { clock_faults result ≡ 0 }
     {
         MemoryClock {

@@ -13,11 +13,11 @@ pub struct MemoryDoors {
 }
 
 impl MemoryDoors {
-    ghost use Rattle.swh_memory_failures.specs.Tally.{fresh};
+    ghost use Rattle.swh_memory_failures.specs.Tally.{fresh_tally};
     ghost use Rattle.swh_memory_input.specs.Failing.{doors_faults, doors_tally};
 
     pub fn new(alloc: Global) -> Self
-        ensures failing { doors_tally result ≡ fresh [] }
+        ensures failing { doors_tally result ≡ fresh_tally [] }
         ensures no_fault { doors_faults result ≡ 0 }
     {
         MemoryDoors {

@@ -14,13 +14,13 @@ pub struct MemoryFolder {
 }
 
 impl MemoryFolder {
-    ghost use Rattle.swh_memory_failures.specs.Tally.{fresh};
+    ghost use Rattle.swh_memory_failures.specs.Tally.{fresh_tally};
     ghost use Rattle.swh_memory_input.specs.Failing.{folder_path, folder_faults, folder_tally};
 
     /// A folder opened at a path.
     pub fn new(alloc: Global, path: String) -> Self
         ensures path { folder_path result ≡ string_bytes path }
-        ensures failing { folder_tally result ≡ fresh [] }
+        ensures failing { folder_tally result ≡ fresh_tally [] }
         ensures no_fault { folder_faults result ≡ 0 }
     {
         MemoryFolder {

@@ -12,11 +12,11 @@ pub struct MemoryLink {
 }
 
 impl MemoryLink {
-    ghost use Rattle.swh_memory_failures.specs.Tally.{fresh};
+    ghost use Rattle.swh_memory_failures.specs.Tally.{fresh_tally};
     ghost use Rattle.swh_memory_input.specs.Failing.{link_faults, link_tally};
 
     pub fn new(alloc: Global) -> Self
-        ensures failing { link_tally result ≡ fresh [] }
+        ensures failing { link_tally result ≡ fresh_tally [] }
         ensures no_fault { link_faults result ≡ 0 }
     {
         MemoryLink {

@@ -21,14 +21,14 @@ pub struct MemoryOrigins {
 impl MemoryOrigins {
     ghost use Rattle.swh_outside.specs.Faults.{one_more};
     ghost use Rattle.swh_memory_input.specs.Outside.{origin_files, origin_inputs, origin_tally, origin_faults, origin_path_faults, has_origin_place};
-    ghost use Rattle.swh_memory_failures.specs.Tally.{fresh, refused};
+    ghost use Rattle.swh_memory_failures.specs.Tally.{fresh_tally, refused};
 
     /// Origins with these inputs. Of two at one path the first counts. Openings with the listed numbers, from 0, will
     /// fail.
     pub fn new(alloc: Global, inputs: Vec<Input>, failing: Vec<u64>) -> Self
         ensures files { (path : List ℕ) → origin_files result path ≡ input_at inputs.items path }
         ensures inputs { origin_inputs result ≡ inputs.items }
-        ensures failing { origin_tally result ≡ fresh failing.items }
+        ensures failing { origin_tally result ≡ fresh_tally failing.items }
         ensures no_fault { origin_faults result ≡ 0 }
         ensures no_path_fault { (path : List ℕ) → origin_path_faults result path ≡ 0 }
     {

@@ -16,14 +16,14 @@ pub struct MemorySink {
 
 impl MemorySink {
     ghost use Rattle.swh_memory_input.specs.Parts.{sink_bytes, sink_room, sink_tally, sink_faults};
-    ghost use Rattle.swh_memory_failures.specs.Tally.{fresh};
+    ghost use Rattle.swh_memory_failures.specs.Tally.{fresh_tally};
 
     /// An empty sink with room for this many bytes. Its calls with the listed numbers, from 0, will fail, with the
     /// first half of their bytes taken.
     pub fn new(alloc: Global, room: usize, failing: Vec<u64>) -> Result<Self, AllocError>
         ensures empty { IfOk result (λ sink. sink_bytes sink ≡ []) }
         ensures room { IfOk result (λ sink. sink_room sink ≡ room) }
-        ensures failing { IfOk result (λ sink. sink_tally sink ≡ fresh failing.items) }
+        ensures failing { IfOk result (λ sink. sink_tally sink ≡ fresh_tally failing.items) }
         ensures no_fault { IfOk result (λ sink. sink_faults sink ≡ 0) }
     {
         Ok(MemorySink {

@@ -18,7 +18,7 @@ pub struct MemorySource {
 
 impl MemorySource {
     ghost use Rattle.swh_memory_input.specs.Inputs.{source_left, source_given, source_ended, source_path, source_piece, source_tally, source_faults};
-    ghost use Rattle.swh_memory_failures.specs.Tally.{fresh};
+    ghost use Rattle.swh_memory_failures.specs.Tally.{fresh_tally};
 
     /// A source of these bytes, opened at a path. A call gives a piece of them at most, and one byte where the piece
     /// is 0. Its calls with the listed numbers, from 0, will fail.
@@ -28,7 +28,7 @@ impl MemorySource {
         ensures not_ended { source_ended result ≡ false }
         ensures path { source_path result ≡ string_bytes path }
         ensures piece { source_piece result ≡ piece }
-        ensures failing { source_tally result ≡ fresh failing.items }
+        ensures failing { source_tally result ≡ fresh_tally failing.items }
         ensures no_fault { source_faults result ≡ 0 }
     {
         MemorySource {

@@ -12,11 +12,11 @@ pub struct MemoryYard {
 }
 
 impl MemoryYard {
-    ghost use Rattle.swh_memory_failures.specs.Tally.{fresh};
+    ghost use Rattle.swh_memory_failures.specs.Tally.{fresh_tally};
     ghost use Rattle.swh_memory_input.specs.Failing.{yard_faults, yard_tally};
 
     pub fn new(alloc: Global) -> Self
-        ensures failing { yard_tally result ≡ fresh [] }
+        ensures failing { yard_tally result ≡ fresh_tally [] }
         ensures no_fault { yard_faults result ≡ 0 }
     {
         MemoryYard {

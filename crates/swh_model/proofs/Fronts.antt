@@ -65,7 +65,7 @@ module _ (bytes : List ℕ) (e : Entry) (x : List ℕ) (codable : IsCodableEntry
       let length_is : length last ≡ length (e.body ++ x) = ap length ids.1 in
       omega (arith, length_is, short, both.0, length-append e.body x)
 
--- a front of some bytes and what is behind it
+-- a front of some bytes and what is after it
 pub front_and_back : (n : ℕ) (bytes front rest : List ℕ) → front ≡ take n bytes → rest ≡ drop n bytes → length rest + n ≡ length bytes → (bytes ≡ front ++ rest) × (length front ≡ n)
 front_and_back n bytes front rest is_front is_rest size = (
   sym (take-append-drop n bytes) ∙ ap (λ (l : List ℕ). l ++ drop n bytes) (sym is_front) ∙ ap (λ (l : List ℕ). front ++ l) (sym is_rest),

@@ -1,48 +1,48 @@
--- Histories that are the same up to the kids are the same, since a body has one list of kids.
+-- Histories that are the same up to the children are the same, since a body has one list of children.
 use Rattle.std.proofs.Common.{◌≡◌, ℕ, List, [], ◌∷◌, map, refl, ap, subst}
 use Rattle.std.specs.List.{AllByRecursion}
 use Rattle.swh_base.specs.declared.kind.Kind.{Kind}
 use Rattle.swh_base.specs.declared.name.Name.{Name}
 use Rattle.swh_base.specs.declared.entry.Entry.{Entry}
-use Rattle.swh_base.specs.Manifest.{AreKids}
-use Rattle.swh_base.proofs.Kids.{one_list}
+use Rattle.swh_base.specs.Manifest.{AreChildren}
+use Rattle.swh_base.proofs.Children.{one_list}
 use Rattle.swh_model.specs.declared.event.Event.{Event}
 use Rattle.swh_model.specs.declared.event.EventKind.{EventKind}
 use Rattle.swh_model.specs.declared.event.EventKind.TheVariants.{Batch, Open, Mark}
 use Rattle.swh_model.specs.Archive.{Archive, empty_archive}
-use Rattle.swh_model.specs.Stands.{bare, bare_kind, bare_event, AreAlike}
-use Rattle.swh_model.specs.Step.{IsGoodAndNamed, May_kind, MayAll, IsHistory, after}
+use Rattle.swh_model.specs.Stands.{without_children, bare_kind, bare_event, AreAlike}
+use Rattle.swh_model.specs.Step.{HasItsChildrenAndName, May_kind, MayAll, IsHistory, after}
 
 module _ (id_of : Kind → List ℕ → List ℕ) where
-  one_entry : (e f : Entry) → bare e ≡ bare f → IsGoodAndNamed id_of e → IsGoodAndNamed id_of f → e ≡ f
+  one_entry : (e f : Entry) → without_children e ≡ without_children f → HasItsChildrenAndName id_of e → HasItsChildrenAndName id_of f → e ≡ f
   one_entry e f alike he hf =
       let names : e.name ≡ f.name = ap (λ (x : Entry). x.name) alike in
       let bodies : e.body ≡ f.body = ap (λ (x : Entry). x.body) alike in
-      let kids_of_e : AreKids f.name.kind f.body e.kids = subst (λ (n : Name). AreKids n.kind f.body e.kids) names (subst (λ (b : List ℕ). AreKids e.name.kind b e.kids) bodies he.good.kids) in
-      let kids = one_list f.name.kind f.body e.kids f.kids kids_of_e hf.good.kids in
+      let children_of_e : AreChildren f.name.kind f.body e.kids = subst (λ (n : Name). AreChildren n.kind f.body e.kids) names (subst (λ (b : List ℕ). AreChildren e.name.kind b e.kids) bodies he.good.kids) in
+      let kids = one_list f.name.kind f.body e.kids f.kids children_of_e hf.good.kids in
       λ i. record { name = names i; body = bodies i; kids = kids i }
 
-  one_batch : (es fs : List Entry) → map bare es ≡ map bare fs → AllByRecursion (IsGoodAndNamed id_of) es → AllByRecursion (IsGoodAndNamed id_of) fs → es ≡ fs
+  one_batch : (es fs : List Entry) → map without_children es ≡ map without_children fs → AllByRecursion (HasItsChildrenAndName id_of) es → AllByRecursion (HasItsChildrenAndName id_of) fs → es ≡ fs
   one_batch [] [] alike he hf = refl
-  one_batch [] (f ∷ fs) alike he hf = let e : [] ≡ bare f ∷ map bare fs = alike in absurd (cc)
-  one_batch (e ∷ es) [] alike he hf = let f : bare e ≡ bare e = refl in let g : bare e ∷ map bare es ≡ [] = alike in absurd (cc)
+  one_batch [] (f ∷ fs) alike he hf = let e : [] ≡ without_children f ∷ map without_children fs = alike in absurd (cc)
+  one_batch (e ∷ es) [] alike he hf = let f : without_children e ≡ without_children e = refl in let g : without_children e ∷ map without_children es ≡ [] = alike in absurd (cc)
   one_batch (e ∷ es) (f ∷ fs) alike he hf =
-      let heads : bare e ≡ bare f = cc in
-      let tails : map bare es ≡ map bare fs = cc in
+      let heads : without_children e ≡ without_children f = cc in
+      let tails : map without_children es ≡ map without_children fs = cc in
       let one = one_entry e f heads he.0 hf.0 in
       let more = one_batch es fs tails he.1 hf.1 in
       λ i. one i ∷ more i
 
   one_kind : (a : Archive) (by : ℕ) (x y : EventKind) → bare_kind x ≡ bare_kind y → May_kind id_of a by x → May_kind id_of a by y → x ≡ y
   one_kind a by (Batch es) (Batch fs) alike hx hy =
-      let entries : map bare es ≡ map bare fs = cc in
+      let entries : map without_children es ≡ map without_children fs = cc in
       let one = one_batch es fs entries hx.good hy.good in λ i. Batch (one i)
-  one_kind a by (Batch es) (Open o k d) alike hx hy = let e : Batch (map bare es) ≡ Open o k d = alike in absurd (cc)
-  one_kind a by (Batch es) (Mark o v s t) alike hx hy = let e : Batch (map bare es) ≡ Mark o v s t = alike in absurd (cc)
-  one_kind a by (Open o k d) (Batch fs) alike hx hy = let e : Open o k d ≡ Batch (map bare fs) = alike in absurd (cc)
+  one_kind a by (Batch es) (Open o k d) alike hx hy = let e : Batch (map without_children es) ≡ Open o k d = alike in absurd (cc)
+  one_kind a by (Batch es) (Mark o v s t) alike hx hy = let e : Batch (map without_children es) ≡ Mark o v s t = alike in absurd (cc)
+  one_kind a by (Open o k d) (Batch fs) alike hx hy = let e : Open o k d ≡ Batch (map without_children fs) = alike in absurd (cc)
   one_kind a by (Open o k d) (Open p l e) alike hx hy = alike
   one_kind a by (Open o k d) (Mark p v s t) alike hx hy = let e : Open o k d ≡ Mark p v s t = alike in absurd (cc)
-  one_kind a by (Mark o v s t) (Batch fs) alike hx hy = let e : Mark o v s t ≡ Batch (map bare fs) = alike in absurd (cc)
+  one_kind a by (Mark o v s t) (Batch fs) alike hx hy = let e : Mark o v s t ≡ Batch (map without_children fs) = alike in absurd (cc)
   one_kind a by (Mark o v s t) (Open p k d) alike hx hy = let e : Mark o v s t ≡ Open p k d = alike in absurd (cc)
   one_kind a by (Mark o v s t) (Mark p w r u) alike hx hy = alike
 

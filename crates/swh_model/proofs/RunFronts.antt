@@ -4,7 +4,7 @@ use Rattle.std.specs.List.{AllByRecursion}
 use Rattle.std.proofs.lemmas.List.{append-nil}
 use Rattle.swh_base.specs.declared.entry.Entry.{Entry}
 use Rattle.swh_model.specs.Coding.{coded_entry, coded_run, IsCodableEntry}
-use Rattle.swh_model.specs.Stands.{bare}
+use Rattle.swh_model.specs.Stands.{without_children}
 use Rattle.swh_model.specs.Decoding.{IsEntryFront, IsEntryOfParts, IsRunOf, IsNoRun}
 use Rattle.swh_model.specs.declared.decoding.entry.EntryParts.{EntryParts}
 use Rattle.swh_model.proofs.Unique.{same_run, entry_then}
@@ -15,17 +15,17 @@ pub record IsRunSoFar (bytes : List ℕ) (entries : List Entry) (count : ℕ) (r
   pub spelled : bytes ≡ coded_run entries ++ rest
   pub number : length entries ≡ count
   pub codable : AllByRecursion IsCodableEntry entries
-  pub are_bare : map bare entries ≡ entries
+  pub are_bare : map without_children entries ≡ entries
 
 all_push : {X : Type 0} (P : X → Type 0) (xs : List X) (y : X) → AllByRecursion P xs → P y → AllByRecursion P (xs ++ y ∷ [])
 all_push P [] y h p = (p, tt)
 all_push P (x ∷ xs) y h p = (h.0, all_push P xs y h.1 p)
 
-bare_push : (es : List Entry) (e : Entry) → map bare es ≡ es → bare e ≡ e → map bare (es ++ e ∷ []) ≡ es ++ e ∷ []
+bare_push : (es : List Entry) (e : Entry) → map without_children es ≡ es → without_children e ≡ e → map without_children (es ++ e ∷ []) ≡ es ++ e ∷ []
 bare_push [] e h b = (λ i. b i ∷ [])
 bare_push (f ∷ es) e h b =
-    let head : bare f ≡ f = cc in
-    let tail : map bare es ≡ es = cc in
+    let head : without_children f ≡ f = cc in
+    let tail : map without_children es ≡ es = cc in
     let more = bare_push es e tail b in
     (λ i. head i ∷ more i)
 
@@ -42,7 +42,7 @@ so_far_next bytes rest entries count p e so_far front is = record {
       ∙ ap (λ (l : List ℕ). l ++ p.rest.now) (ap (λ (l : List ℕ). coded_run entries ++ l) (sym (append-nil (coded_entry e))) ∙ sym (coded_run-append entries (e ∷ [])));
   number = length-append entries (e ∷ []) ∙ ap (λ (n : ℕ). n + 1) so_far.number;
   codable = all_push IsCodableEntry entries e so_far.codable (codable_parts rest p e front is);
-  are_bare = bare_push entries e so_far.are_bare (ap bare is.is ∙ sym is.is);
+  are_bare = bare_push entries e so_far.are_bare (ap without_children is.is ∙ sym is.is);
 }
 
 -- a longer list is one of this length, an entry and more
@@ -74,7 +74,7 @@ no_run bytes rest entries count number so_far less none es size codable is =
     let both = same_run entries c.front rest (coded_entry c.entry ++ coded_run c.more) (so_far.number ∙ sym c.size) so_far.codable parts.0 (sym so_far.spelled ∙ behind) in
     none c.entry (coded_run c.more) parts.1 both.1
 
--- where bytes are left behind as many objects, the bytes are no run of them
+-- where bytes are left after as many objects, the bytes are no run of them
 pub no_rest : (bytes rest : List ℕ) (entries : List Entry) (number : ℕ) → IsRunSoFar bytes entries number rest → (length rest ≡ 0 → ⊥) → IsNoRun bytes number
 no_rest bytes rest entries number so_far some es size codable is =
     let both = same_run entries es rest [] (so_far.number ∙ sym size) so_far.codable codable (sym so_far.spelled ∙ is ∙ sym (append-nil (coded_run es))) in

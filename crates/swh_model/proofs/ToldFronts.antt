@@ -13,7 +13,7 @@ no_batch payload none at (Batch es) codable byte is = none at (at + length (code
 no_batch payload none at (Open origin kind date) codable byte is = absurd (omega (arith, byte))
 no_batch payload none at (Mark origin visit status snapshot) codable byte is = absurd (omega (arith, byte))
 
--- where the bytes behind the snapshot are no origin, no mark is told of
+-- where the bytes after the snapshot are no origin, no mark is told of
 pub no_mark_origin : (payload : List ℕ) (p : MarkParts) → IsMarkTold payload p → (IsOrigin p.origin.now → ⊥) → IsNotTold 84 payload
 no_mark_origin payload p told none at (Batch es) codable byte is = absurd (omega (arith, byte))
 no_mark_origin payload p told none at (Open origin kind date) codable byte is = absurd (omega (arith, byte))

@@ -16,13 +16,13 @@ use Rattle.swh_model.specs.declared.event.EventKind.{EventKind}
 use Rattle.swh_model.specs.declared.event.EventKind.TheVariants.{Batch, Open, Mark}
 use Rattle.swh_model.specs.declared.event.No.{No}
 use Rattle.swh_model.specs.declared.event.No.TheVariants.{Limit, NoVisit, NotYours, Ended, NoSnapshot, NotClosed}
-use Rattle.swh_model.specs.Archive.{Bodies, body_of, IsHeld, visits_of, IsKid, IsWalk, Reaches}
+use Rattle.swh_model.specs.Archive.{Bodies, body_of, IsHeld, visits_of, IsChild, IsWalk, Reaches}
 use Rattle.swh_base.specs.Limits.{body_limit, objects_limit, bytes_limit}
 use Rattle.swh_model.specs.Limits.{bytes_before_last}
-use Rattle.swh_model.specs.Step.{replay, IsGoodAndNamed, AreNew, FitsStatus, May_kind, MayMark, MayAdd}
+use Rattle.swh_model.specs.Step.{replay, HasItsChildrenAndName, AreNew, FitsStatus, May_kind, MayMark, MayAdd}
 use Rattle.swh_base.specs.Snapshot.{snapshot_name}
 use Rattle.swh_base.specs.Visit.{last_status}
-use Rattle.swh_model.specs.Judge.{fresh, event_of, first_long, IsThere, IsCause, IsWish, IsHow, MarkCause, BatchCause}
+use Rattle.swh_model.specs.Judge.{not_held, event_of, first_long, IsThere, IsCause, IsWish, StatusAllows, MarkCause, BatchCause}
 use Rattle.swh_model.proofs.Walks.{reaches-next}
 
 -- what is held or not
@@ -37,19 +37,19 @@ none_of : (o : Option (List ℕ)) → is_some o ≡ false → o ≡ None
 none_of None e = refl
 none_of (Some x) e = absurd (let f : true ≡ false = e in cc)
 
--- the fresh entries are some of the entries
-fresh-all : (P : Entry → Type 0) (bodies : Bodies) (es : List Entry) → AllByRecursion P es → AllByRecursion P (fresh bodies es)
+-- the not_held entries are some of the entries
+fresh-all : (P : Entry → Type 0) (bodies : Bodies) (es : List Entry) → AllByRecursion P es → AllByRecursion P (not_held bodies es)
 fresh-all P bodies [] h = tt
 fresh-all P bodies (e ∷ es) h =
-    elim (is_some (body_of bodies e.name)) as (λ t. AllByRecursion P (cond t (fresh bodies es) (e ∷ fresh (insert bodies e.name e.body) es))) [
+    elim (is_some (body_of bodies e.name)) as (λ t. AllByRecursion P (cond t (not_held bodies es) (e ∷ not_held (insert bodies e.name e.body) es))) [
       | true ↦ fresh-all P bodies es h.1
       | false ↦ (h.0, fresh-all P (insert bodies e.name e.body) es h.1)
     ]
 
-pub length-fresh : (bodies : Bodies) (es : List Entry) → length (fresh bodies es) ≤ length es
+pub length-fresh : (bodies : Bodies) (es : List Entry) → length (not_held bodies es) ≤ length es
 length-fresh bodies [] = omega arith
 length-fresh bodies (e ∷ es) =
-    elim (is_some (body_of bodies e.name)) as (λ t. length (cond t (fresh bodies es) (e ∷ fresh (insert bodies e.name e.body) es)) ≤ length (e ∷ es)) [
+    elim (is_some (body_of bodies e.name)) as (λ t. length (cond t (not_held bodies es) (e ∷ not_held (insert bodies e.name e.body) es)) ≤ length (e ∷ es)) [
       | true ↦ let h = length-fresh bodies es in omega (arith, h)
       | false ↦ let h = length-fresh (insert bodies e.name e.body) es in omega (arith, h)
     ]
@@ -58,22 +58,22 @@ bytes-more : (e : Entry) (es : List Entry) → bytes_before_last (e ∷ es) ≤ 
 bytes-more e [] = omega arith
 bytes-more e (f ∷ es) = omega arith
 
-bytes-fresh : (bodies : Bodies) (es : List Entry) → bytes_before_last (fresh bodies es) ≤ bytes_before_last es
+bytes-fresh : (bodies : Bodies) (es : List Entry) → bytes_before_last (not_held bodies es) ≤ bytes_before_last es
 bytes-fresh bodies [] = omega arith
 bytes-fresh bodies (e ∷ []) =
     elim (is_some (body_of bodies e.name)) as (λ t. bytes_before_last (cond t [] (e ∷ [])) ≤ 0) [ true ↦ omega arith | false ↦ omega arith ]
 bytes-fresh bodies (e ∷ f ∷ es) =
-    elim (is_some (body_of bodies e.name)) as (λ t. bytes_before_last (cond t (fresh bodies (f ∷ es)) (e ∷ fresh (insert bodies e.name e.body) (f ∷ es))) ≤ length e.body + bytes_before_last (f ∷ es)) [
+    elim (is_some (body_of bodies e.name)) as (λ t. bytes_before_last (cond t (not_held bodies (f ∷ es)) (e ∷ not_held (insert bodies e.name e.body) (f ∷ es))) ≤ length e.body + bytes_before_last (f ∷ es)) [
       | true ↦ let h = bytes-fresh bodies (f ∷ es) in omega (arith, h)
       | false ↦
           let h = bytes-fresh (insert bodies e.name e.body) (f ∷ es) in
-          let m = bytes-more e (fresh (insert bodies e.name e.body) (f ∷ es)) in omega (arith, h, m)
+          let m = bytes-more e (not_held (insert bodies e.name e.body) (f ∷ es)) in omega (arith, h, m)
     ]
 
-pub fresh-new : (bodies : Bodies) (es : List Entry) → AreNew bodies (fresh bodies es)
+pub fresh-new : (bodies : Bodies) (es : List Entry) → AreNew bodies (not_held bodies es)
 fresh-new bodies [] = tt
 fresh-new bodies (e ∷ es) =
-    elim (is_some (body_of bodies e.name)) as (λ t. is_some (body_of bodies e.name) ≡ t → AreNew bodies (cond t (fresh bodies es) (e ∷ fresh (insert bodies e.name e.body) es))) [
+    elim (is_some (body_of bodies e.name)) as (λ t. is_some (body_of bodies e.name) ≡ t → AreNew bodies (cond t (not_held bodies es) (e ∷ not_held (insert bodies e.name e.body) es))) [
       | true ↦ λ is. fresh-new bodies es
       | false ↦ λ is. (none_of (body_of bodies e.name) is, fresh-new (insert bodies e.name e.body) es)
     ] refl
@@ -106,20 +106,20 @@ visit_within [] k h = absurd (omega (arith, h))
 visit_within (v ∷ vs) zero h = (v, refl)
 visit_within (v ∷ vs) (suc k) h = visit_within vs k (omega (arith, h))
 
--- where each kid of what is reached is held, so is all that is reached
-closed_unless : (bodies : Bodies) (root : Name) → ((parent child : Name) → Reaches bodies root parent → IsKid bodies parent child → body_of bodies child ≡ None → ⊥)
+-- where each child of what is reached is held, so is all that is reached
+closed_unless : (bodies : Bodies) (root : Name) → ((parent child : Name) → Reaches bodies root parent → IsChild bodies parent child → body_of bodies child ≡ None → ⊥)
     → (names : List Name) (from n : Name) → Reaches bodies root from → IsHeld bodies from → IsWalk bodies from names n → IsHeld bodies n
 closed_unless bodies root each [] from n reach held walk = subst (IsHeld bodies) walk held
 closed_unless bodies root each (next ∷ names) from n reach held walk =
     closed_unless bodies root each names next n (reaches-next bodies reach.0 root from next reach.1 walk.0)
     (held_unless bodies next (λ none. each from next reach walk.0 none)) walk.1
 
-batch_may : (id_of : Kind → List ℕ → List ℕ) (h : List Event) (by : ℕ) (entries : List Entry) → AllByRecursion (IsGoodAndNamed id_of) entries
-    → ((cause : No) → BatchCause h entries cause → ⊥) → MayAdd id_of (replay h).bodies (fresh (replay h).bodies entries)
+batch_may : (id_of : Kind → List ℕ → List ℕ) (h : List Event) (by : ℕ) (entries : List Entry) → AllByRecursion (HasItsChildrenAndName id_of) entries
+    → ((cause : No) → BatchCause h entries cause → ⊥) → MayAdd id_of (replay h).bodies (not_held (replay h).bodies entries)
 batch_may id_of h by entries good none =
     let bodies = (replay h).bodies in
     record {
-      good = fresh-all (IsGoodAndNamed id_of) bodies entries good;
+      good = fresh-all (HasItsChildrenAndName id_of) bodies entries good;
       limits = record {
         bodies = fresh-all _ bodies entries (short_unless entries (λ n long. none (Limit Body n) (inl long)));
         objects = let few = le_unless (length entries) objects_limit (λ many. none (Limit Objects (length entries)) (inl (refl, many))) in let l = length-fresh bodies entries in omega (arith, few, l);
@@ -128,9 +128,9 @@ batch_may id_of h by entries good none =
       new = fresh-new bodies entries;
     }
 
-fits_unless : (bodies : Bodies) (status : Status) (snapshot : Option (List ℕ)) → IsHow status snapshot
+fits_unless : (bodies : Bodies) (status : Status) (snapshot : Option (List ℕ)) → StatusAllows status snapshot
     → ((id : List ℕ) → snapshot ≡ Some id → body_of bodies (snapshot_name id) ≡ None → ⊥)
-    → ((id : List ℕ) (parent child : Name) → status ≡ Full → snapshot ≡ Some id → Reaches bodies (snapshot_name id) parent → IsKid bodies parent child → body_of bodies child ≡ None → ⊥)
+    → ((id : List ℕ) (parent child : Name) → status ≡ Full → snapshot ≡ Some id → Reaches bodies (snapshot_name id) parent → IsChild bodies parent child → body_of bodies child ≡ None → ⊥)
     → FitsStatus bodies status snapshot
 fits_unless bodies Created snapshot how held each = absurd how
 fits_unless bodies Ongoing snapshot how held each = how
@@ -142,7 +142,7 @@ fits_unless bodies Partial (Some id) how held each = held_unless bodies (snapsho
 fits_unless bodies NotFound snapshot how held each = how
 fits_unless bodies Failed snapshot how held each = how
 
-mark_may : (h : List Event) (by : ℕ) (event : EventKind) (origin : List ℕ) (number : ℕ) (status : Status) (snapshot : Option (List ℕ)) → IsHow status snapshot
+mark_may : (h : List Event) (by : ℕ) (event : EventKind) (origin : List ℕ) (number : ℕ) (status : Status) (snapshot : Option (List ℕ)) → StatusAllows status snapshot
     → ((cause : No) → MarkCause h by event origin number status snapshot cause → ⊥) → MayMark (replay h) by origin number status snapshot
 mark_may h by event origin number status snapshot how none =
     let vs = visits_of (replay h).origins origin in
@@ -158,7 +158,7 @@ mark_may h by event origin number status snapshot how none =
       unended = λ final. none (Ended (last_status found.0.statuses)) (found.0, there, refl, final);
       fits = fits_unless (replay h).bodies status snapshot how
           (λ id is missing. none (NoSnapshot (snapshot_name id)) (id, is, refl, missing))
-          (λ id parent child full is reach kid missing. none (NotClosed parent child) (full, id, is, reach, kid, missing));
+          (λ id parent child full is reach is_child missing. none (NotClosed parent child) (full, id, is, reach, is_child, missing));
     }
 
 pub wish_may : (id_of : Kind → List ℕ → List ℕ) (h : List Event) (by : ℕ) (wish : EventKind) → IsWish id_of wish → ((cause : No) → IsCause h by wish cause → ⊥)

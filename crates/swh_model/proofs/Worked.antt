@@ -18,7 +18,7 @@ use Rattle.swh_model.specs.declared.event.EventKind.TheVariants.{Mark}
 use Rattle.swh_model.specs.declared.event.Outcome.TheVariants.{Opened, Marked}
 use Rattle.swh_model.specs.declared.event.No.{No}
 use Rattle.swh_model.specs.declared.event.No.TheVariants.{Limit, NoVisit, NotYours, Ended, NoSnapshot, NotClosed, Collision}
-use Rattle.swh_model.specs.Archive.{Archive, Bodies, body_of, visits_of, IsKid}
+use Rattle.swh_model.specs.Archive.{Archive, Bodies, body_of, visits_of, IsChild}
 use Rattle.swh_model.specs.Limits.{store_length, stored_length, ledger_length, payload_length}
 use Rattle.swh_model.specs.Step.{visit_at, replay, with_status, marked_at}
 use Rattle.swh_base.specs.Visit.{IsFinal, last_status}
@@ -26,7 +26,7 @@ use Rattle.swh_model.specs.Judge.{FilePasses, IsThere, MarkCause, OpenCause, IsV
 use Rattle.swh_base.specs.Snapshot.{target_bytes, snapshot_name}
 use Rattle.swh_base.specs.declared.entry.Entry.{Entry}
 use Rattle.swh_model.specs.Coding.{coded_entry}
-use Rattle.swh_model.specs.Row.{url, opening, opened_once, failed_once, with_snapshot, snapshot_of_it, revision, branch_to_it, snapshot_body}
+use Rattle.swh_model.specs.WorkedExample.{url, opening, opened_once, failed_once, with_snapshot, snapshot_of_it, revision, branch_to_it, snapshot_body}
 use Rattle.swh_model.proofs.Maps.{visits-put, body-put, body_cases}
 use Rattle.swh_model.proofs.Sounds.{none-opened}
 use Rattle.swh_model.proofs.Entries.{none-empty}
@@ -161,8 +161,8 @@ has_no_nul : Contains (codes "b") 0 → ⊥
 has_no_nul (zero, less, is) = absurd (omega (arith, is))
 has_no_nul (suc k, less, is) = absurd (omega (arith, less))
 
-revision_is_kid : (id : List ℕ) → IsKid (replay (with_snapshot id)).bodies (snapshot_name id) revision
-revision_is_kid id =
+revision_is_child : (id : List ℕ) → IsChild (replay (with_snapshot id)).bodies (snapshot_name id) revision
+revision_is_child id =
     record {
       body = snapshot_body;
       held = body-put empty (snapshot_name id) snapshot_body;
@@ -203,7 +203,7 @@ pub snapshot_is_not_closed : (id : List ℕ) → length id ≡ 20
     → IsVerdict (with_snapshot id) 1 (Mark url 1 Full (Some id)) (Err (NotClosed (snapshot_name id) revision))
 snapshot_is_not_closed id twenty =
     let mark : EventKind = Mark url 1 Full (Some id) in (
-      (refl, id, refl, ([], refl), revision_is_kid id, revision_is_missing id),
+      (refl, id, refl, ([], refl), revision_is_child id, revision_is_missing id),
       none_below (with_snapshot id) 1 mark url 1 Full (Some id) 9 (short (with_snapshot id) mark (few_bytes id twenty) (let t = twenty in omega (arith, t, length-append id url)))
           (λ l. has_first (with_snapshot id) 1 mark url Full (Some id) first_visit opened_visits)
           (λ l. is_mine (with_snapshot id) 1 mark url Full (Some id) first_visit opened_visits refl)

@@ -8,7 +8,7 @@ use Rattle.swh_base.specs.Visit.{visit_kind_word, status_word, last_mark}
 use Rattle.swh_model.specs.declared.event.Visit.{Visit}
 use Rattle.swh_model.specs.Archive.{Archive, visits_of}
 
--- a quote and a backslash stand behind a backslash in a JSON string
+-- a quote and a backslash stand after a backslash in a JSON string
 abbrev pub json_byte : ℕ → List ℕ
 json_byte c = if c == 34 || c == 92 then 92 ∷ c ∷ [] else c ∷ []
 

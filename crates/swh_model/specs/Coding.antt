@@ -23,16 +23,16 @@ magic = 83 ∷ 87 ∷ 72 ∷ 65 ∷ 82 ∷ 67 ∷ 49 ∷ 10 ∷ []
 unfoldable pub coded_entry : Entry → List ℕ
 coded_entry e = kind_number e.name.kind ∷ (to_be_bytes w64 (length e.body) ++ (e.name.id ++ e.body))
 
--- the objects of a batch, one behind another
+-- the objects of a batch, one after another
 abbrev pub coded_run : List Entry → List ℕ
 coded_run [] = []
 coded_run (e ∷ es) = coded_entry e ++ coded_run es
 
 -- what an event adds to the store
-abbrev pub run_of : EventKind → List ℕ
-run_of (Batch entries) = coded_run entries
-run_of (Open origin kind date) = []
-run_of (Mark origin visit status snapshot) = []
+abbrev pub packed_objects : EventKind → List ℕ
+packed_objects (Batch entries) = coded_run entries
+packed_objects (Open origin kind date) = []
+packed_objects (Mark origin visit status snapshot) = []
 
 -- `B`, `O` and `T`
 abbrev pub event_byte : EventKind → ℕ
@@ -59,15 +59,15 @@ coded_snapshot None = 0 ∷ []
 coded_snapshot (Some id) = 1 ∷ id
 
 -- what is said of an event whose run begins at this place of the store
-abbrev pub told : ℕ → EventKind → List ℕ
+abbrev pub event_payload : ℕ → EventKind → List ℕ
 -- where the run begins and ends, and the number of its objects
-told at (Batch entries) = to_be_bytes w64 at ++ (to_be_bytes w64 (at + length (coded_run entries)) ++ to_be_bytes w32 (length entries))
-told at (Open origin kind date) = visit_kind_number kind ∷ (to_be_bytes w64 date ++ origin)
-told at (Mark origin visit status snapshot) = status_number status ∷ (to_be_bytes w64 visit ++ (coded_snapshot snapshot ++ origin))
+event_payload at (Batch entries) = to_be_bytes w64 at ++ (to_be_bytes w64 (at + length (coded_run entries)) ++ to_be_bytes w32 (length entries))
+event_payload at (Open origin kind date) = visit_kind_number kind ∷ (to_be_bytes w64 date ++ origin)
+event_payload at (Mark origin visit status snapshot) = status_number status ∷ (to_be_bytes w64 visit ++ (coded_snapshot snapshot ++ origin))
 
 -- who, and what is said of the event
 abbrev pub payload_of : ℕ → Event → List ℕ
-payload_of at e = to_be_bytes w32 e.by ++ told at e.what
+payload_of at e = to_be_bytes w32 e.by ++ event_payload at e.what
 
 -- a kind, the payload's length and the payload
 unfoldable pub framed : ℕ → List ℕ → List ℕ
@@ -77,15 +77,15 @@ framed kind payload = kind ∷ (to_be_bytes w32 (length payload) ++ payload)
 abbrev pub coded_record : ℕ → Event → List ℕ
 coded_record at e = framed (event_byte e.what) (payload_of at e)
 
--- the records of these events, each behind an open gate; a run begins where the last one ends
+-- the records of these events, each after an open gate; a run begins where the last one ends
 abbrev pub coded_records : ℕ → List Event → List ℕ
 coded_records at [] = []
-coded_records at (e ∷ es) = 1 ∷ (coded_record at e ++ coded_records (at + length (run_of e.what)) es)
+coded_records at (e ∷ es) = 1 ∷ (coded_record at e ++ coded_records (at + length (packed_objects e.what)) es)
 
 -- the runs of these events, one after another
 abbrev pub coded_runs : List Event → List ℕ
 coded_runs [] = []
-coded_runs (e ∷ es) = run_of e.what ++ coded_runs es
+coded_runs (e ∷ es) = packed_objects e.what ++ coded_runs es
 
 -- An origin's bytes are a URL, which is text.
 pub record IsOrigin (origin : List ℕ) : Type 0 where
@@ -134,4 +134,4 @@ IsCodable at e = (e.by < 2 ^ 32) × IsCodableKind at e.what
 -- All parts of these events fit their fields.
 abbrev pub AreCodable : ℕ → List Event → Type 0
 AreCodable at [] = Unit {0}
-AreCodable at (e ∷ es) = IsCodable at e × AreCodable (at + length (run_of e.what)) es
+AreCodable at (e ∷ es) = IsCodable at e × AreCodable (at + length (packed_objects e.what)) es

@@ -7,8 +7,8 @@ use Rattle.swh_base.specs.declared.entry.Entry.{Entry}
 use Rattle.swh_model.specs.declared.event.Event.{Event}
 use Rattle.swh_model.specs.declared.event.EventKind.{EventKind}
 use Rattle.swh_model.specs.declared.event.EventKind.TheVariants.{Batch, Open, Mark}
-use Rattle.swh_model.specs.Coding.{coded_run, event_byte, visit_kind_number, status_number, coded_snapshot, told, framed, coded_record, coded_records, IsCodableEntry, IsMarkStatus, IsSnapshotId, IsCodableKind, IsCodable, AreCodable}
-use Rattle.swh_model.specs.Stands.{bare, bare_kind}
+use Rattle.swh_model.specs.Coding.{coded_run, event_byte, visit_kind_number, status_number, coded_snapshot, event_payload, framed, coded_record, coded_records, IsCodableEntry, IsMarkStatus, IsSnapshotId, IsCodableKind, IsCodable, AreCodable}
+use Rattle.swh_model.specs.Stands.{without_children, bare_kind}
 use Rattle.swh_model.specs.declared.decoding.record.RecordParts.{RecordParts}
 use Rattle.swh_model.specs.declared.decoding.payload.BatchParts.{BatchParts}
 use Rattle.swh_model.specs.declared.decoding.payload.OpenParts.{OpenParts}
@@ -20,66 +20,66 @@ use Rattle.swh_model.specs.declared.decoding.ledger.Record.{Record}
 use Rattle.swh_model.specs.declared.decoding.ledger.Next.{Next}
 use Rattle.swh_model.specs.declared.decoding.ledger.Next.TheVariants as next
 
--- The bytes are an object and what is behind it.
+-- The bytes are an object and what is after it.
 pub record IsEntryFront (bytes : List ℕ) (p : EntryParts) : Type 0 where
   pub spelled : bytes ≡ kind_number p.kind ∷ (to_be_bytes w64 (length p.body.now) ++ (p.id ++ (p.body.now ++ p.rest.now)))
   pub twenty : length p.id ≡ 20
   pub short : length p.body.now < 2 ^ 64
 
--- The entry of an object, without its kids.
+-- The entry of an object, without its children.
 pub record IsEntryOfParts (p : EntryParts) (e : Entry) : Type 0 where
   pub is : e ≡ record { name = record { kind = p.kind; id = p.id }; body = p.body.now; kids = [] }
 
--- The bytes are the run of these objects, without their kids, and there are as many of them.
+-- The bytes are the run of these objects, without their children, and there are as many of them.
 pub record IsRunOf (bytes : List ℕ) (number : ℕ) (es : List Entry) : Type 0 where
   pub spelled : bytes ≡ coded_run es
   pub count : length es ≡ number
   pub codable : AllByRecursion IsCodableEntry es
-  pub are_bare : map bare es ≡ es
+  pub are_bare : map without_children es ≡ es
 
 -- The bytes are the run of no list of this number of objects.
 abbrev pub IsNoRun : List ℕ → ℕ → Type 0
 IsNoRun bytes number = (es : List Entry) → length es ≡ number → AllByRecursion IsCodableEntry es → bytes ≡ coded_run es → ⊥
 
 -- The bytes are what a batch's payload tells.
-pub record IsBatchTold (told : List ℕ) (p : BatchParts) : Type 0 where
-  pub spelled : told ≡ to_be_bytes w64 p.from ++ (to_be_bytes w64 p.to ++ to_be_bytes w32 p.number)
+pub record IsBatchTold (event_payload : List ℕ) (p : BatchParts) : Type 0 where
+  pub spelled : event_payload ≡ to_be_bytes w64 p.from ++ (to_be_bytes w64 p.to ++ to_be_bytes w32 p.number)
   pub from_fits : p.from < 2 ^ 64
   pub to_fits : p.to < 2 ^ 64
   pub number_fits : p.number < 2 ^ 32
 
 -- The bytes are what the payload of an opening tells.
-pub record IsOpenTold (told : List ℕ) (p : OpenParts) : Type 0 where
-  pub spelled : told ≡ visit_kind_number p.kind ∷ (to_be_bytes w64 p.date ++ p.origin.now)
+pub record IsOpenTold (event_payload : List ℕ) (p : OpenParts) : Type 0 where
+  pub spelled : event_payload ≡ visit_kind_number p.kind ∷ (to_be_bytes w64 p.date ++ p.origin.now)
   pub date_fits : p.date < 2 ^ 64
 
 -- The bytes are what the payload of a mark tells.
-pub record IsMarkTold (told : List ℕ) (p : MarkParts) : Type 0 where
-  pub spelled : told ≡ status_number p.status ∷ (to_be_bytes w64 p.visit ++ (coded_snapshot p.snapshot ++ p.origin.now))
+pub record IsMarkTold (event_payload : List ℕ) (p : MarkParts) : Type 0 where
+  pub spelled : event_payload ≡ status_number p.status ∷ (to_be_bytes w64 p.visit ++ (coded_snapshot p.snapshot ++ p.origin.now))
   pub visit_fits : p.visit < 2 ^ 64
   pub status_is : IsMarkStatus p.status
   pub id : IsSnapshotId p.snapshot
 
--- The bytes are a record and what is behind it.
+-- The bytes are a record and what is after it.
 pub record IsRecordFront (bytes : List ℕ) (p : RecordParts) : Type 0 where
   pub spelled : bytes ≡ framed p.kind p.payload.now ++ p.rest.now
   pub short : length p.payload.now < 2 ^ 32
 
 -- It tells all that happened, wherever its run would begin: it is no batch.
-abbrev pub IsWhole : EventKind → Type 0
-IsWhole (Batch entries) = ⊥
-IsWhole (Open origin kind date) = Unit {0}
-IsWhole (Mark origin visit status snapshot) = Unit {0}
+abbrev pub HasNoRun : EventKind → Type 0
+HasNoRun (Batch entries) = ⊥
+HasNoRun (Open origin kind date) = Unit {0}
+HasNoRun (Mark origin visit status snapshot) = Unit {0}
 
 -- a record's kind
 abbrev pub told_byte : Told → ℕ
 told_byte (told_of.Batch p) = 66
 told_byte (told_of.Whole what) = event_byte what
 
--- a record's payload behind who wrote it
+-- a record's payload after who wrote it
 abbrev pub told_bytes : Told → List ℕ
 told_bytes (told_of.Batch p) = to_be_bytes w64 p.from ++ (to_be_bytes w64 p.to ++ to_be_bytes w32 p.number)
-told_bytes (told_of.Whole what) = told 0 what
+told_bytes (told_of.Whole what) = event_payload 0 what
 
 -- A batch's numbers are all that is known of it.
 pub record IsFitBatch (p : BatchParts) : Type 0 where
@@ -88,7 +88,7 @@ pub record IsFitBatch (p : BatchParts) : Type 0 where
   pub number_fits : p.number < 2 ^ 32
 
 pub record IsFitWhole (what : EventKind) : Type 0 where
-  pub whole : IsWhole what
+  pub whole : HasNoRun what
   pub codable : IsCodableKind 0 what
   pub is_bare : bare_kind what ≡ what
 
@@ -97,17 +97,17 @@ abbrev pub IsFit : Told → Type 0
 IsFit (told_of.Batch p) = IsFitBatch p
 IsFit (told_of.Whole what) = IsFitWhole what
 
--- A record of this kind, with this payload behind who wrote it, tells this.
-pub record IsTold (kind : ℕ) (payload : List ℕ) (t : Told) : Type 0 where
+-- A record of this kind, with this payload after who wrote it, tells this.
+pub record TellsEvent (kind : ℕ) (payload : List ℕ) (t : Told) : Type 0 where
   pub byte : kind ≡ told_byte t
   pub spelled : payload ≡ told_bytes t
   pub fit : IsFit t
 
 -- It tells of no event, wherever a run begins.
 abbrev pub IsNotTold : ℕ → List ℕ → Type 0
-IsNotTold kind payload = (at : ℕ) (what : EventKind) → IsCodableKind at what → kind ≡ event_byte what → payload ≡ told at what → ⊥
+IsNotTold kind payload = (at : ℕ) (what : EventKind) → IsCodableKind at what → kind ≡ event_byte what → payload ≡ event_payload at what → ⊥
 
--- The bytes are a record, by this one, that tells this, and what is behind it.
+-- The bytes are a record, by this one, that tells this, and what is after it.
 pub record IsRecordOf (bytes : List ℕ) (r : Record) : Type 0 where
   pub spelled : bytes ≡ framed (told_byte r.told) (to_be_bytes w32 r.by ++ told_bytes r.told) ++ r.rest.now
   pub by_fits : r.by < 2 ^ 32
@@ -131,19 +131,19 @@ pub record IsGateClosed (records : List ℕ) : Type 0 where
   pub is : records ≡ gate ∷ behind
   pub closed : gate ≢ 1
 
--- An open gate is at the front of the bytes, and the record behind it.
+-- An open gate is at the front of the bytes, and the record after it.
 pub record IsGateOpen (records : List ℕ) (r : Record) : Type 0 where
   pub behind : List ℕ
   pub is : records ≡ 1 ∷ behind
   pub record_is : IsRecordOf behind r
 
--- No gate is at the front of the bytes, or an open one and no event's record behind it: they are the records of no
+-- No gate is at the front of the bytes, or an open one and no event's record after it: they are the records of no
 -- events.
-abbrev pub IsBroken : List ℕ → Type 0
-IsBroken records = (at : ℕ) (h : List Event) (gate : ℕ) (behind : List ℕ) → gate ≢ 1 → AreCodable at h → records ≡ coded_records at h ++ gate ∷ behind → ⊥
+abbrev pub HasBrokenRecord : List ℕ → Type 0
+HasBrokenRecord records = (at : ℕ) (h : List Event) (gate : ℕ) (behind : List ℕ) → gate ≢ 1 → AreCodable at h → records ≡ coded_records at h ++ gate ∷ behind → ⊥
 
 -- What comes next of a ledger's records.
-abbrev pub IsNext : List ℕ → Next → Type 0
-IsNext records next.End = IsGateClosed records
-IsNext records (next.Record r) = IsGateOpen records r
-IsNext records next.Broken = IsBroken records
+abbrev pub IsNextRecord : List ℕ → Next → Type 0
+IsNextRecord records next.End = IsGateClosed records
+IsNextRecord records (next.Record r) = IsGateOpen records r
+IsNextRecord records next.Broken = HasBrokenRecord records

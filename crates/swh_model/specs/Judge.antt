@@ -18,21 +18,21 @@ use Rattle.swh_model.specs.declared.event.Outcome.{Outcome}
 use Rattle.swh_model.specs.declared.event.Outcome.TheVariants.{Added, Opened, Marked}
 use Rattle.swh_model.specs.declared.event.No.{No}
 use Rattle.swh_model.specs.declared.event.No.TheVariants.{Limit, NoVisit, NotYours, Ended, NoSnapshot, NotClosed, Collision}
-use Rattle.swh_model.specs.Archive.{Archive, Bodies, body_of, visits_of, IsKid, Reaches}
+use Rattle.swh_model.specs.Archive.{Archive, Bodies, body_of, visits_of, IsChild, Reaches}
 use Rattle.swh_base.specs.Limits.{body_limit, objects_limit, bytes_limit, file_limit}
 use Rattle.swh_model.specs.Limits.{bytes_before_last, stored_length, store_length, payload_length, ledger_length}
-use Rattle.swh_model.specs.Step.{visit_at, replay, IsGoodAndNamed}
+use Rattle.swh_model.specs.Step.{visit_at, replay, HasItsChildrenAndName}
 use Rattle.swh_base.specs.Snapshot.{snapshot_name}
 use Rattle.swh_base.specs.Visit.{IsFinal, last_status}
 
 -- the entries that are not held, each once, in order
-abbrev pub fresh : Bodies → List Entry → List Entry
-fresh bodies [] = []
-fresh bodies (e ∷ es) = if is_some (body_of bodies e.name) then fresh bodies es else e ∷ fresh (map.insert bodies e.name e.body) es
+abbrev pub not_held : Bodies → List Entry → List Entry
+not_held bodies [] = []
+not_held bodies (e ∷ es) = if is_some (body_of bodies e.name) then not_held bodies es else e ∷ not_held (map.insert bodies e.name e.body) es
 
 -- what an event has of a wish
 abbrev pub event_of : Archive → EventKind → EventKind
-event_of a (Batch entries) = Batch (fresh a.bodies entries)
+event_of a (Batch entries) = Batch (not_held a.bodies entries)
 event_of a (Open origin kind date) = Open origin kind date
 event_of a (Mark origin visit status snapshot) = Mark origin visit status snapshot
 
@@ -48,19 +48,19 @@ BatchPasses entries Objects number = (number ≡ length entries) × (objects_lim
 BatchPasses entries Bytes number = (number ≡ bytes_before_last entries) × (bytes_limit < number)
 BatchPasses entries _ number = ⊥
 
--- This is where a file would end with the event, which is behind its limit.
+-- This is where a file would end with the event, which is past its limit.
 abbrev pub FilePasses : List Event → EventKind → Which → ℕ → Type 0
 FilePasses history event Store number = (number ≡ store_length history + stored_length event) × (file_limit < number)
 FilePasses history event Ledger number = (number ≡ (ledger_length history + 6) + payload_length event) × (file_limit < number)
 FilePasses history event _ number = ⊥
 
 -- A body that is held under the name, or stands in the batch under it.
-abbrev pub HasBody : Bodies → List Entry → Name → List ℕ → Type 0
-HasBody bodies entries n body = (body_of bodies n ≡ Some body) ⊎ ((e : Entry) × Contains entries e × (e.name ≡ n) × (e.body ≡ body))
+abbrev pub HasBodyOrAdds : Bodies → List Entry → Name → List ℕ → Type 0
+HasBodyOrAdds bodies entries n body = (body_of bodies n ≡ Some body) ⊎ ((e : Entry) × Contains entries e × (e.name ≡ n) × (e.body ≡ body))
 
 -- The name would have two bodies.
 abbrev pub Collides : Bodies → List Entry → Name → Type 0
-Collides bodies entries n = (a b : List ℕ) × HasBody bodies entries n a × HasBody bodies entries n b × (a ≢ b)
+Collides bodies entries n = (a b : List ℕ) × HasBodyOrAdds bodies entries n a × HasBodyOrAdds bodies entries n b × (a ≢ b)
 
 -- The visit with this number, which is there.
 abbrev pub IsThere : Archive → List ℕ → ℕ → Visit → Type 0
@@ -95,7 +95,7 @@ MarkCause h by event origin number status snapshot (NoSnapshot name) =
 -- of a full visit's snapshot a name is reached that is not held
 MarkCause h by event origin number status snapshot (NotClosed parent child) =
     (status ≡ Full) × (id : List ℕ) × (snapshot ≡ Some id) × Reaches (replay h).bodies (snapshot_name id) parent
-    × IsKid (replay h).bodies parent child × (body_of (replay h).bodies child ≡ None)
+    × IsChild (replay h).bodies parent child × (body_of (replay h).bodies child ≡ None)
 MarkCause h by event origin number status snapshot (Collision name) = ⊥
 
 -- A cause against the wish.
@@ -125,7 +125,7 @@ rank (Collision name) = 10
 
 -- what comes of the wish where nothing stands against it
 abbrev pub outcome_of : List Event → EventKind → Outcome
-outcome_of h (Batch entries) = Added (length h + 1) (length (fresh (replay h).bodies entries))
+outcome_of h (Batch entries) = Added (length h + 1) (length (not_held (replay h).bodies entries))
 outcome_of h (Open origin kind date) = Opened (length h + 1) (length (visits_of (replay h).origins origin) + 1)
 outcome_of h (Mark origin number status snapshot) = Marked (length h + 1)
 
@@ -136,19 +136,19 @@ IsVerdict h by wish (Ok given) =
 IsVerdict h by wish (Err cause) = IsCause h by wish cause × ((other : No) → rank other < rank cause → IsCause h by wish other → ⊥)
 
 -- The status and the snapshot are those that a visit may be marked with.
-abbrev pub IsHow : Status → Option (List ℕ) → Type 0
-IsHow Created snapshot = ⊥
-IsHow Ongoing snapshot = snapshot ≡ None
-IsHow Full snapshot = is_some snapshot ≡ true
-IsHow Partial snapshot = Unit {0}
-IsHow NotFound snapshot = snapshot ≡ None
-IsHow Failed snapshot = snapshot ≡ None
+abbrev pub StatusAllows : Status → Option (List ℕ) → Type 0
+StatusAllows Created snapshot = ⊥
+StatusAllows Ongoing snapshot = snapshot ≡ None
+StatusAllows Full snapshot = is_some snapshot ≡ true
+StatusAllows Partial snapshot = Unit {0}
+StatusAllows NotFound snapshot = snapshot ≡ None
+StatusAllows Failed snapshot = snapshot ≡ None
 
 -- What judging asks of a wish: its entries are good and named, its status and snapshot fit.
 abbrev pub IsWish : (Kind → List ℕ → List ℕ) → EventKind → Type 0
-IsWish id_of (Batch entries) = AllByRecursion (IsGoodAndNamed id_of) entries
+IsWish id_of (Batch entries) = AllByRecursion (HasItsChildrenAndName id_of) entries
 IsWish id_of (Open origin kind date) = Unit {0}
-IsWish id_of (Mark origin number status snapshot) = IsHow status snapshot
+IsWish id_of (Mark origin number status snapshot) = StatusAllows status snapshot
 
 -- no name at all
 abbrev pub unnamed : Name
@@ -167,9 +167,9 @@ AgreeOnVerdict (Ok a) (Err f) = ⊥
 AgreeOnVerdict (Err e) (Ok b) = ⊥
 AgreeOnVerdict (Err e) (Err f) = without_names e ≡ without_names f
 
--- Of the snapshot that the wish names this parent is reached, and its kid is not held.
+-- Of the snapshot that the wish names this parent is reached, and its child is not held.
 abbrev pub IsOpenAt : List Event → EventKind → Name → Name → Type 0
 IsOpenAt h (Batch entries) parent child = ⊥
 IsOpenAt h (Open origin kind date) parent child = ⊥
 IsOpenAt h (Mark origin number status snapshot) parent child =
-    (id : List ℕ) × (snapshot ≡ Some id) × Reaches (replay h).bodies (snapshot_name id) parent × IsKid (replay h).bodies parent child × (body_of (replay h).bodies child ≡ None)
+    (id : List ℕ) × (snapshot ≡ Some id) × Reaches (replay h).bodies (snapshot_name id) parent × IsChild (replay h).bodies parent child × (body_of (replay h).bodies child ≡ None)

@@ -5,7 +5,7 @@ pub mod Sound
 pub mod Grows
 pub mod Judge
 pub mod Certificate
-pub mod Row
+pub mod WorkedExample
 pub mod Coding
 pub mod Decoding
 pub mod Stands

@@ -5,7 +5,7 @@ use Rattle.swh_base.specs.declared.entry.Entry.{Entry}
 use Rattle.swh_base.specs.Limits.{body_limit, bytes_limit, objects_limit}
 use Rattle.swh_model.specs.declared.event.Event.{Event}
 use Rattle.swh_model.specs.declared.event.EventKind.{EventKind}
-use Rattle.swh_model.specs.Coding.{told, run_of}
+use Rattle.swh_model.specs.Coding.{event_payload, packed_objects}
 
 -- the bytes of all bodies but the last one's
 abbrev pub bytes_before_last : List Entry → ℕ
@@ -21,18 +21,18 @@ pub record IsWithinLimits (entries : List Entry) : Type 0 where
 
 -- who, and what is said of the event, wherever its run begins
 abbrev pub payload_length : EventKind → ℕ
-payload_length what = 4 + length (told 0 what)
+payload_length what = 4 + length (event_payload 0 what)
 
 -- the bytes that an event adds to the store
 abbrev pub stored_length : EventKind → ℕ
-stored_length what = length (run_of what)
+stored_length what = length (packed_objects what)
 
 -- where the runs of a history end in the store
 abbrev pub store_length : List Event → ℕ
 store_length [] = 0
 store_length (e ∷ es) = stored_length e.what + store_length es
 
--- each record with its kind, its length and the gate behind it
+-- each record with its kind, its length and the gate after it
 abbrev pub records_length : List Event → ℕ
 records_length [] = 0
 records_length (e ∷ es) = (6 + payload_length e.what) + records_length es

@@ -32,7 +32,7 @@ once [] = []
 once (m ∷ ms) = m ∷ filter (λ n. not (same_made m n)) (once ms)
 
 -- what an input makes, and its snapshot's id
-pub record Making : Type 0 where
+pub record StreamMeaning : Type 0 where
   pub objects : List Made
   pub snapshot : List ℕ
 
@@ -95,11 +95,11 @@ commit_makes id c tree = map directory (directory_bodies (id Directory) tree) ++
 abbrev pub tip : (Kind → List ℕ → List ℕ) → Commit → PathMap → SnapshotBranch
 tip id c tree = branch_to c.branch (id Revision (revision (id Directory (directory_text (directory_of (id Directory) tree))) c).body)
 
-abbrev pub making : (Kind → List ℕ → List ℕ) → Option (List ℕ) → List Made → List SnapshotBranch → Making
+abbrev pub making : (Kind → List ℕ → List ℕ) → Option (List ℕ) → List Made → List SnapshotBranch → StreamMeaning
 making id head objects branches = record { objects = once (objects ++ snapshot (with_head head branches) ∷ []); snapshot = id Snapshot (snapshot_text (with_head head branches)) }
 
 -- the fold over blobs and commit
-abbrev pub makes : (Kind → List ℕ → List ℕ) → Option (List ℕ) → List Blob → Option Commit → Option Making
+abbrev pub makes : (Kind → List ℕ → List ℕ) → Option (List ℕ) → List Blob → Option Commit → Option StreamMeaning
 makes id head blobs None = Some (making id head (map (λ b. content b.bytes) blobs) [])
 makes id head blobs (Some c) = option_and_then (λ tree. Some (making id head (map (λ b. content b.bytes) blobs ++ commit_makes id c tree) (tip id c tree ∷ []))) (tree_after (marks_after id [] blobs) [] c.changes)
 
@@ -108,7 +108,7 @@ abbrev pub AreWithinLimit : List Made → Type 0
 AreWithinLimit objects = AllByRecursion (λ m. length m.body ≤ body_limit) objects
 
 -- Where this head is named, or none, the text means this, by a namer's ids.
-pub record IsMeaning (id : Kind → List ℕ → List ℕ) (head : Option (List ℕ)) (text : List ℕ) (making : Making) : Type 0 where
+pub record IsMeaning (id : Kind → List ℕ → List ℕ) (head : Option (List ℕ)) (text : List ℕ) (making : StreamMeaning) : Type 0 where
   pub stream : SmallStream
   pub parses : Parses text stream
   pub makes_it : makes id head stream.blobs stream.commit ≡ Some making
@@ -116,4 +116,4 @@ pub record IsMeaning (id : Kind → List ℕ → List ℕ) (head : Option (List 
 
 -- The text means nothing.
 abbrev pub IsLeftOut : (Kind → List ℕ → List ℕ) → Option (List ℕ) → List ℕ → Type 0
-IsLeftOut id head text = (making : Making) → IsMeaning id head text making → ⊥
+IsLeftOut id head text = (making : StreamMeaning) → IsMeaning id head text making → ⊥

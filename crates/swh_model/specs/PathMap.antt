@@ -7,7 +7,7 @@ use Rattle.std.specs.declared.cmp.Ordering.TheVariants.{Less, Equal, Greater}
 use Rattle.std.specs.Cmp.Lexicographic.{slice_cmp}
 use Rattle.std.specs.List.{flat_map, starts_with}
 use Rattle.std.specs.BTreeMap.{insert_entry}
-use Rattle.swh_base.specs.Directory.{Entry, sort_key, directory_text}
+use Rattle.swh_base.specs.Directory.{DirectoryEntry, sort_key, directory_text}
 
 -- what stands at a path: a mode's digits as a number, and the id of a content, or of a revision of another project
 pub record Leaf : Type 0 where
@@ -57,44 +57,44 @@ abbrev pub below : List ℕ → PathMap → PathMap
 below name m = map (λ e. (drop (length name + 1) e.0, e.1)) (filter (λ e. is_under name e.0) m)
 
 -- what stands at the name, or the folder of these entries
-abbrev pub entry_at : (List ℕ → List ℕ) → List ℕ → Option Leaf → List Entry → Entry
+abbrev pub entry_at : (List ℕ → List ℕ) → List ℕ → Option Leaf → List DirectoryEntry → DirectoryEntry
 entry_at id name (Some leaf) entries = record { mode = leaf.mode; name = name; id = leaf.id }
 entry_at id name None entries = record { mode = 40000; name = name; id = id (directory_text entries) }
 
-abbrev pub insert_by : Ordering → Entry → Entry → List Entry → List Entry → List Entry
+abbrev pub insert_by : Ordering → DirectoryEntry → DirectoryEntry → List DirectoryEntry → List DirectoryEntry → List DirectoryEntry
 insert_by Less e f es more = e ∷ f ∷ es
 insert_by Equal e f es more = f ∷ es
 insert_by Greater e f es more = f ∷ more
 
 -- into the order of directories, each entry once
-abbrev pub insert : Entry → List Entry → List Entry
+abbrev pub insert : DirectoryEntry → List DirectoryEntry → List DirectoryEntry
 insert e [] = e ∷ []
 insert e (f ∷ es) = insert_by (slice_cmp nat_cmp (sort_key e) (sort_key f)) e f es (insert e es)
 
-abbrev pub ordered : List Entry → List Entry
+abbrev pub ordered : List DirectoryEntry → List DirectoryEntry
 ordered [] = []
 ordered (e ∷ es) = insert e (ordered es)
 
 -- The entries of a map's directory, for paths of at most this many components: one for each first component, a folder
 -- where paths go on. `id` gives a directory body's id.
-abbrev pub entries_of : (List ℕ → List ℕ) → ℕ → PathMap → List Entry
-entries_of id zero m = []
-entries_of id (suc depth) m = ordered (map (λ e. entry_at id (first_component e.0) (leaf_at (first_component e.0) m) (entries_of id depth (below (first_component e.0) m))) m)
+abbrev pub path_entries : (List ℕ → List ℕ) → ℕ → PathMap → List DirectoryEntry
+path_entries id zero m = []
+path_entries id (suc depth) m = ordered (map (λ e. entry_at id (first_component e.0) (leaf_at (first_component e.0) m) (path_entries id depth (below (first_component e.0) m))) m)
 
--- The bodies of a map's directory and of all folders in it, each behind those of its own folders.
-abbrev pub bodies_of : (List ℕ → List ℕ) → ℕ → PathMap → List (List ℕ)
-bodies_of id zero m = []
-bodies_of id (suc depth) m =
-    flat_map (λ e. if e.mode == 40000 then bodies_of id depth (below e.name m) else []) (entries_of id (suc depth) m)
-    ++ directory_text (entries_of id (suc depth) m) ∷ []
+-- The bodies of a map's directory and of all folders in it, each after those of its own folders.
+abbrev pub folder_bodies : (List ℕ → List ℕ) → ℕ → PathMap → List (List ℕ)
+folder_bodies id zero m = []
+folder_bodies id (suc depth) m =
+    flat_map (λ e. if e.mode == 40000 then folder_bodies id depth (below e.name m) else []) (path_entries id (suc depth) m)
+    ++ directory_text (path_entries id (suc depth) m) ∷ []
 
 -- no path has more components than this
 abbrev pub depth_of : PathMap → ℕ
 depth_of m = suc (sum_by (λ e. length e.0) m)
 
-abbrev pub directory_of : (List ℕ → List ℕ) → PathMap → List Entry
-directory_of id m = entries_of id (depth_of m) m
+abbrev pub directory_of : (List ℕ → List ℕ) → PathMap → List DirectoryEntry
+directory_of id m = path_entries id (depth_of m) m
 
 -- what a map's directory is made of, its own body last
 abbrev pub directory_bodies : (List ℕ → List ℕ) → PathMap → List (List ℕ)
-directory_bodies id m = bodies_of id (depth_of m) m
+directory_bodies id m = folder_bodies id (depth_of m) m

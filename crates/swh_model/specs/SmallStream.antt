@@ -66,7 +66,7 @@ AreFeeds text = AllByRecursion (λ c. c ≡ 10) text
 abbrev pub IsFeed : List ℕ → Type 0
 IsFeed text = (text ≡ []) ⊎ (text ≡ 10 ∷ [])
 
--- The text is a blob and what follows it. The LF that may stand behind the data is among the LFs that follow.
+-- The text is a blob and what follows it. The LF that may stand after the data is among the LFs that follow.
 pub record BeginsBlob (text : List ℕ) (blob : Blob) (rest : List ℕ) : Type 0 where
   pub mark : List ℕ
   pub count : List ℕ
@@ -81,7 +81,7 @@ pub record BeginsChange (text : List ℕ) (change : Change) (rest : List ℕ) : 
   pub is_mark : IsMark mark change.mark
   pub is_name : IsFileName change.name
 
--- Changes up to the end of the text, and LFs behind them.
+-- Changes up to the end of the text, and LFs after them.
 abbrev pub AreChanges : List ℕ → List Change → Type 0
 AreChanges text [] = AreFeeds text
 AreChanges text (c ∷ cs) = (rest : List ℕ) × BeginsChange text c rest × AreChanges rest cs
@@ -97,7 +97,7 @@ pub record BeginsCommit (text : List ℕ) (commit : Commit) (rest : List ℕ) : 
   pub short : length (codes "committer ") + length commit.committer + 1 ≤ line_limit
   pub is_count : IsCount count commit.message
 
--- A commit up to the end of the text, and LFs behind it.
+-- A commit up to the end of the text, and LFs after it.
 pub record IsCommit (text : List ℕ) (commit : Commit) : Type 0 where
   pub feed : List ℕ
   pub changes : List ℕ

@@ -1,5 +1,5 @@
--- The files stand for a history: the ledger has the magic, then each event's record behind an open gate, and then a
--- closed gate with anything behind it; the store begins with the batches' runs.
+-- The files stand for a history: the ledger has the magic, then each event's record after an open gate, and then a
+-- closed gate with anything after it; the store begins with the batches' runs.
 use Rattle.std.specs.Prelude.{◌≡◌, ◌≢◌, ℕ, List, [], ◌∷◌, ◌++◌, map}
 use Rattle.swh_base.specs.declared.entry.Entry.{Entry}
 use Rattle.swh_model.specs.declared.event.Event.{Event}
@@ -23,19 +23,19 @@ pub record StandsFor (ledger store : List ℕ) (h : List Event) : Type 0 where
   pub begins : ledger ≡ magic ++ rest
   pub stands : StandsFrom 0 rest store h
 
--- an entry without its kids, which its body determines
-abbrev pub bare : Entry → Entry
-bare e = record e { kids = [] }
+-- an entry without its children, which its body determines
+abbrev pub without_children : Entry → Entry
+without_children e = record e { kids = [] }
 
--- what happened, its entries without their kids
+-- what happened, its entries without their children
 abbrev pub bare_kind : EventKind → EventKind
-bare_kind (Batch entries) = Batch (map bare entries)
+bare_kind (Batch entries) = Batch (map without_children entries)
 bare_kind (Open origin kind date) = Open origin kind date
 bare_kind (Mark origin visit status snapshot) = Mark origin visit status snapshot
 
 abbrev pub bare_event : Event → Event
 bare_event e = record e { what = bare_kind e.what }
 
--- The histories are the same up to the kids, which bodies determine.
+-- The histories are the same up to the children, which bodies determine.
 abbrev pub AreAlike : List Event → List Event → Type 0
 AreAlike g h = map bare_event g ≡ map bare_event h

@@ -1,7 +1,7 @@
 //! Writes events and entries as they stand in the files of an archive.
 ghost use Rattle.std.specs.Prelude.{◌≡◌, ◌+◌, ◌≤◌, ◌<◌, ◌^◌, ◌++◌, ◌∷◌, [], length, IfOk, OnOk};
 ghost use Rattle.swh_base.specs.Name.{kind_number};
-ghost use Rattle.swh_model.specs.Coding.{visit_kind_number, status_number, coded_snapshot, coded_entry, coded_run, run_of, event_byte, told, payload_of, framed, coded_record, IsCodableKind, IsCodable};
+ghost use Rattle.swh_model.specs.Coding.{visit_kind_number, status_number, coded_snapshot, coded_entry, coded_run, packed_objects, event_byte, event_payload, payload_of, framed, coded_record, IsCodableKind, IsCodable};
 ghost use Rattle.std.specs.Int.{w32, w64, to_be_bytes};
 ghost use Rattle.std.specs.List.{AllByRecursion};
 ghost use Rattle.swh_model.specs.Coding.{IsCodableEntry, IsOrigin, IsSnapshotId};
@@ -69,7 +69,7 @@ fn push_entry(bytes: &mut Vec<u8>, entry: &Entry) -> Result<(), Memory>
     Ok(())
 }
 
-/// The run of a batch: its objects, one behind another; `Memory` where there is none.
+/// The run of a batch: its objects, one after another; `Memory` where there is none.
 pub fn run_of_entries(alloc: Global, entries: &[Entry]) -> Result<Vec<u8>, Memory>
     ensures { IfOk result (λ bytes. bytes.items ≡ coded_run entries.now) }
 {
@@ -90,7 +90,7 @@ fn push_batch(bytes: &mut Vec<u8>, at: u64, end: u64, number: u32) -> Result<(),
 }
 
 fn push_open(bytes: &mut Vec<u8>, origin: &Url, kind: VisitKind, date: u64) -> Result<(), Memory>
-    ensures { OnOk result (bytes.new.items ≡ bytes.old.items ++ told 0 (Open origin.now kind date)) }
+    ensures { OnOk result (bytes.new.items ≡ bytes.old.items ++ event_payload 0 (Open origin.now kind date)) }
 {
     bytes.push(visit_kind_byte(kind))?;
     bytes.extend_from_slice(&date.to_be_bytes())?;
@@ -121,7 +121,7 @@ fn push_mark(
     status: Status,
     snapshot: &Option<[u8; 20]>,
 ) -> Result<(), Memory>
-    ensures { OnOk result (bytes.new.items ≡ bytes.old.items ++ told 0 (Mark origin.now visit status snapshot.now)) }
+    ensures { OnOk result (bytes.new.items ≡ bytes.old.items ++ event_payload 0 (Mark origin.now visit status snapshot.now)) }
 {
     bytes.push(status_byte(status))?;
     bytes.extend_from_slice(&visit.to_be_bytes())?;
@@ -131,9 +131,9 @@ fn push_mark(
 }
 
 fn push_told(bytes: &mut Vec<u8>, at: u64, end: u64, what: &EventKind) -> Result<(), Memory>
-    requires run { end ≡ at + length (run_of what.now) }
+    requires run { end ≡ at + length (packed_objects what.now) }
     requires number { IsCodableKind at what.now }
-    ensures { OnOk result (bytes.new.items ≡ bytes.old.items ++ told at what.now) }
+    ensures { OnOk result (bytes.new.items ≡ bytes.old.items ++ event_payload at what.now) }
 {
     match what {
         EventKind::Batch(entries) => { push_batch(bytes, at, end, entries.as_slice().len() as u32) }
@@ -148,7 +148,7 @@ fn push_told(bytes: &mut Vec<u8>, at: u64, end: u64, what: &EventKind) -> Result
 }
 
 fn payload(alloc: Global, at: u64, end: u64, event: &Event) -> Result<Vec<u8>, Memory>
-    requires run { end ≡ at + length (run_of event.now.what) }
+    requires run { end ≡ at + length (packed_objects event.now.what) }
     requires number { IsCodableKind at event.now.what }
     ensures { IfOk result (λ bytes. bytes.items ≡ payload_of at event.now) }
 {
@@ -174,7 +174,7 @@ fn frame(alloc: Global, kind: u8, payload: &[u8]) -> Result<Vec<u8>, Memory>
 /// The record of an event with the next gate, which is closed. A batch's run begins at `at` and ends at `end`, in bytes
 /// from the store's beginning. `Memory` where there is none.
 pub fn record_of_event(alloc: Global, at: u64, end: u64, event: &Event) -> Result<Vec<u8>, Memory>
-    requires run { end ≡ at + length (run_of event.now.what) }
+    requires run { end ≡ at + length (packed_objects event.now.what) }
     requires codable { IsCodable at event.now }
     ensures { IfOk result (λ bytes. bytes.items ≡ coded_record at event.now ++ 0 ∷ []) }
 {

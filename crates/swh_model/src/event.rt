@@ -1,5 +1,5 @@
 // What happens to an archive, and what is answered to a wish.
-use swh_base::{Entry, Many, Name, Status, Url, VisitKind, Which};
+use swh_base::{Entry, Items, Name, Status, Url, VisitKind, Which};
 
 /// A visit of an origin. Its number is its place, from 1.
 #[derive(Drop)]
@@ -8,7 +8,7 @@ pub struct Visit {
     pub date: u64,
     pub kind: VisitKind,
     pub by: u32,
-    pub statuses: Many<(Status, Option<[u8; 20]>)>,
+    pub statuses: Items<(Status, Option<[u8; 20]>)>,
 }
 
 /// One thing that happened, and who did it.
@@ -20,7 +20,7 @@ pub struct Event {
 
 #[derive(Drop)]
 pub enum EventKind {
-    Batch(Many<Entry>),
+    Batch(Items<Entry>),
     Open {
         origin: Url,
         kind: VisitKind,

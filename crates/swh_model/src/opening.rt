@@ -4,7 +4,7 @@ ghost use Rattle.swh_model.specs.Step.{first_of};
 
 use crate::event::Visit;
 use std::alloc::Global;
-use swh_base::{Many, Memory, Status, VisitKind};
+use swh_base::{Items, Memory, Status, VisitKind};
 
 /// A visit that was just opened; `Memory` where there is none.
 pub fn created(
@@ -16,7 +16,7 @@ pub fn created(
 ) -> Result<Visit, Memory>
     ensures { IfOk result (λ v. v ≡ first_of number date kind by) }
 {
-    let mut statuses = Many::from_vec(Vec::new(alloc));
+    let mut statuses = Items::from_vec(Vec::new(alloc));
     statuses.push((Status::Created, None))?;
     Ok(Visit {
         number,

@@ -7,7 +7,7 @@ use Rattle.swh_dirfmt.proofs.Exact as directory
 use Rattle.swh_snpfmt.proofs.Exact as snapshot
 use Rattle.swh_object.specs.declared.fault.ObjectFault.{ObjectFault}
 use Rattle.swh_object.specs.declared.fault.ObjectFault.TheVariants.{Memory, TooLong, BadBody}
-use Rattle.swh_object.specs.Object.{IsBadBody, ExplainsBad, IsMade}
+use Rattle.swh_object.specs.Object.{IsBadBody, ExplainsBad, MakesObject}
 
 not_bad : (kind : Kind) (body : List ℕ) (at : ℕ) → IsBadBody kind body at → IsWellFormed kind body → ⊥
 not_bad Content body at h well = h
@@ -16,7 +16,7 @@ not_bad Revision body at fault well = fault.broken well
 not_bad Release body at fault well = fault.broken well
 not_bad Snapshot body at fault (names, kids) = snapshot.no_fault body kids.branches at kids.is fault
 
-pub made_unless : (kind : Kind) (body : List ℕ) (fault : ObjectFault) → ExplainsBad kind body fault → IsWellFormed kind body → IsMade (Err fault)
+pub made_unless : (kind : Kind) (body : List ℕ) (fault : ObjectFault) → ExplainsBad kind body fault → IsWellFormed kind body → MakesObject (Err fault)
 made_unless kind body Memory h well = tt
 made_unless kind body (TooLong len) h well = h
 made_unless kind body (BadBody at) h well = not_bad kind body at h well

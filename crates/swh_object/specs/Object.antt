@@ -5,9 +5,9 @@ use Rattle.swh_base.specs.declared.kind.Kind.TheVariants.{Content, Directory, Re
 use Rattle.swh_base.specs.declared.name.Name.{Name}
 use Rattle.swh_base.specs.declared.entry.Entry.{Entry}
 use Rattle.swh_base.specs.Limits.{body_limit}
-use Rattle.swh_base.specs.Directory.{kid_of}
-use Rattle.swh_base.specs.Snapshot.{branch_kid}
-use Rattle.swh_base.specs.Manifest.{AreKids}
+use Rattle.swh_base.specs.Directory.{child_of}
+use Rattle.swh_base.specs.Snapshot.{branch_child}
+use Rattle.swh_base.specs.Manifest.{AreChildren}
 use Rattle.swh_dirfmt.specs.declared.entry.SpelledEntry.{SpelledEntry}
 use Rattle.swh_dirfmt.specs.declared.fault.DirWhy.{DirWhy}
 use Rattle.swh_dirfmt.specs.Entries as entries
@@ -19,27 +19,27 @@ use Rattle.swh_snpfmt.specs.Fault as snapshot
 use Rattle.swh_object.specs.declared.fault.ObjectFault.{ObjectFault}
 use Rattle.swh_object.specs.declared.fault.ObjectFault.TheVariants.{Memory, TooLong, BadBody}
 
--- The body is one of its kind and within the limit, the kids are those of the body, and the id is the namer's.
+-- The body is one of its kind and within the limit, the children are those of the body, and the id is the namer's.
 pub record IsObject (id_of : Kind → List ℕ → List ℕ) (e : Entry) : Type 0 where
-  pub kids : AreKids e.name.kind e.body e.kids
+  pub kids : AreChildren e.name.kind e.body e.kids
   pub named : e.name.id ≡ id_of e.name.kind e.body
   pub short : length e.body ≤ body_limit
 
--- the kid of an entry that stands in a directory's body
-abbrev pub directory_kid : SpelledEntry → Option Name
-directory_kid e = kid_of (entries.entry_of e)
+-- the child of an entry that stands in a directory's body
+abbrev pub directory_child : SpelledEntry → Option Name
+directory_child e = child_of (entries.entry_of e)
 
--- the kid of a branch that stands in a snapshot's body
-abbrev pub snapshot_kid : SpelledBranch → Option Name
-snapshot_kid b = branch_kid (branches.branch_of b)
+-- the child of a branch that stands in a snapshot's body
+abbrev pub snapshot_child : SpelledBranch → Option Name
+snapshot_child b = branch_child (branches.branch_of b)
 
 -- The reader of this kind refuses the body at this place.
 abbrev pub IsBadBody : Kind → List ℕ → ℕ → Type 0
 IsBadBody Content body at = ⊥
-IsBadBody Directory body at = (why : DirWhy) × directory.IsFault body at why
-IsBadBody Revision body at = revision.IsFault Revision body at
-IsBadBody Release body at = revision.IsFault Release body at
-IsBadBody Snapshot body at = snapshot.IsFault body at
+IsBadBody Directory body at = (why : DirWhy) × directory.IsDirFault body at why
+IsBadBody Revision body at = revision.IsRevFault Revision body at
+IsBadBody Release body at = revision.IsRevFault Release body at
+IsBadBody Snapshot body at = snapshot.IsSnpFault body at
 
 -- It is what the reader says, unless memory ran out.
 abbrev pub ExplainsBad : Kind → List ℕ → ObjectFault → Type 0
@@ -48,14 +48,14 @@ ExplainsBad kind body (TooLong len) = ⊥
 ExplainsBad kind body (BadBody at) = IsBadBody kind body at
 
 -- It is the length above the limit, or else what the reader says, unless memory ran out.
-abbrev pub Explains : Kind → List ℕ → ObjectFault → Type 0
-Explains kind body Memory = Unit {0}
-Explains kind body (TooLong len) = (len ≡ length body) × (body_limit < len)
-Explains kind body (BadBody at) = (length body ≤ body_limit) × IsBadBody kind body at
+abbrev pub ExplainsObject : Kind → List ℕ → ObjectFault → Type 0
+ExplainsObject kind body Memory = Unit {0}
+ExplainsObject kind body (TooLong len) = (len ≡ length body) × (body_limit < len)
+ExplainsObject kind body (BadBody at) = (length body ≤ body_limit) × IsBadBody kind body at
 
 -- There is an object, unless memory ran out.
-abbrev pub IsMade : Result Entry ObjectFault → Type 0
-IsMade (Ok e) = Unit {0}
-IsMade (Err Memory) = Unit {0}
-IsMade (Err (TooLong len)) = ⊥
-IsMade (Err (BadBody at)) = ⊥
+abbrev pub MakesObject : Result Entry ObjectFault → Type 0
+MakesObject (Ok e) = Unit {0}
+MakesObject (Err Memory) = Unit {0}
+MakesObject (Err (TooLong len)) = ⊥
+MakesObject (Err (BadBody at)) = ⊥

@@ -6,7 +6,7 @@
 #![tactic(auto)]
 
 mod fault;
-mod kids;
+mod children;
 mod object;
 
 pub use fault::ObjectFault;

@@ -1,7 +1,7 @@
 //! Objects, and how one is made of a body.
 
 use crate::fault::ObjectFault;
-use crate::kids::kids_of;
+use crate::children::children_of;
 use std::alloc::Global;
 use std::marker::{Model, PhantomData};
 use swh_base::{BODY_LIMIT, Entry, Kind, Name, Namer, Shared};
@@ -27,8 +27,8 @@ impl<N: Namer> Model for Object<N> {
 impl<N: Namer> Object<N> {
     ghost use Rattle.std.specs.Prelude.{◌≡◌, ◌≤◌, length, IfOk, IfErr, OnOk};
     ghost use Rattle.swh_base.specs.Limits.{body_limit};
-    ghost use Rattle.swh_base.specs.Manifest.{AreKids, IsWellFormed};
-    ghost use Rattle.swh_object.specs.Object.{IsObject, IsMade, Explains};
+    ghost use Rattle.swh_base.specs.Manifest.{AreChildren, IsWellFormed};
+    ghost use Rattle.swh_object.specs.Object.{IsObject, MakesObject, ExplainsObject};
 
     /// The object of this kind (git objects; SWHID v1.2, core identifiers) and body. The body is not copied. `TooLong`
     /// tells its length in bytes where that is above 67,108,864; `BadBody` the place, in bytes from 0, at which the
@@ -41,14 +41,14 @@ impl<N: Namer> Object<N> {
     ) -> Result<Object<N>, ObjectFault>
         ensures entry { IfOk result (λ o. (o.name.kind ≡ kind) × (o.body ≡ body.items)) }
         ensures named { IfOk result (λ o. o.name.id ≡ N.id_of kind body.items) }
-        ensures kids { IfOk result (λ o. AreKids kind body.items o.kids) }
+        ensures kids { IfOk result (λ o. AreChildren kind body.items o.kids) }
         ensures short { OnOk result (length body.items ≤ body_limit) }
 
         // A body above the limit is refused by its length, and else one that its kind's reader refuses by the reader's place.
-        ensures err { IfErr result (Explains kind body.items) }
+        ensures err { IfErr result (ExplainsObject kind body.items) }
 
         // Any other makes an object, unless memory runs out.
-        ensures only { length body.items ≤ body_limit → IsWellFormed kind body.items → IsMade result }
+        ensures only { length body.items ≤ body_limit → IsWellFormed kind body.items → MakesObject result }
     {
         Object::of_shared(alloc, namer, kind, Shared::from_vec(body)?)
     }
@@ -62,16 +62,16 @@ impl<N: Namer> Object<N> {
     ) -> Result<Object<N>, ObjectFault>
         ensures entry { IfOk result (λ o. (o.name.kind ≡ kind) × (o.body ≡ body)) }
         ensures named { IfOk result (λ o. o.name.id ≡ N.id_of kind body) }
-        ensures kids { IfOk result (λ o. AreKids kind body o.kids) }
+        ensures kids { IfOk result (λ o. AreChildren kind body o.kids) }
         ensures short { OnOk result (length body ≤ body_limit) }
-        ensures err { IfErr result (Explains kind body) }
-        ensures only { length body ≤ body_limit → IsWellFormed kind body → IsMade result }
+        ensures err { IfErr result (ExplainsObject kind body) }
+        ensures only { length body ≤ body_limit → IsWellFormed kind body → MakesObject result }
     {
         let len = body.as_slice().len() as u64;
         if len > BODY_LIMIT {
             return Err(ObjectFault::TooLong { len });
         }
-        let kids = kids_of(alloc, kind, body.as_slice())?;
+        let kids = children_of(alloc, kind, body.as_slice())?;
         let id = namer.id(kind, body.as_slice());
         let entry = Entry {
             name: Name { kind, id },

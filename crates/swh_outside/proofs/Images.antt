@@ -2,7 +2,7 @@
 use Rattle.std.proofs.Common.{◌≡◌, ◌⊎◌, inl, inr, ⊎_elim, ℕ, suc, ◌+◌, ◌-◌, ◌<◌, ◌≤◌, List, [], ◌∷◌, ◌++◌, length, get_or, set, take, drop, refl, sym, ◌∙◌, ap, subst, arith, length-append, length-set, get_or-set_other, get_or-set_same}
 use Rattle.std.proofs.lemmas.List.{ext_get_or, get_or-take, get_or-drop, get_or_append_left, get_or-append_right, length-take-le, set_at}
 use Rattle.std.proofs.lemmas.Bool.{cases_eq, cases_lt}
-use Rattle.swh_outside.specs.Disk.{File, IsImage, IsOutside, Call, Write, Sync, IsAtRest, begun, done, patched, IsBroken}
+use Rattle.swh_outside.specs.Disk.{File, IsImage, IsOutside, Call, Write, Sync, IsAtRest, begun, done, patched, IsFailedCall}
 
 -- what a crash leaves depends on these three alone
 pub recast : (m n : File) (image : List ℕ) → n.base ≡ m.base → n.ranges ≡ m.ranges → n.longest ≡ m.longest → IsImage n image → IsImage m image
@@ -53,7 +53,7 @@ pub at_rest_done : (file : File) → IsAtRest (done Sync file)
 at_rest_done file = record { base = refl; ranges = refl; longest = refl }
 
 -- a call that failed leaves no more than one that succeeded, or than before it
-pub broken_image : (call : Call) (old new : File) (image : List ℕ) → IsBroken call old new → IsImage new image → IsImage (done call old) image ⊎ IsImage old image
+pub broken_image : (call : Call) (old new : File) (image : List ℕ) → IsFailedCall call old new → IsImage new image → IsImage (done call old) image ⊎ IsImage old image
 broken_image (Write at bytes) old new image broken i = inl (recast (done (Write at bytes) old) (begun (Write at bytes) old) image refl refl refl (broken.images image i))
 broken_image Sync old new image broken i = inr (recast old (begun Sync old) image refl refl refl (broken.images image i))
 

@@ -6,7 +6,7 @@ use Rattle.std.proofs.lemmas.Bool.{cases_eq, cases_lt, ne_eqb}
 use Rattle.std.proofs.lemmas.Bool.Decides.{eqb_tells}
 use Rattle.std.proofs.lemmas.List.{take_at, take-append-le, map-append, append-nil}
 use Rattle.std.proofs.lemmas.Result.{IfOk-from_err, MatchResult-from_err}
-use Rattle.swh_outside.specs.Disk.{File, Call, IsImage, IsBroken, Breaks, Runs, done, all_done}
+use Rattle.swh_outside.specs.Disk.{File, Call, IsImage, IsFailedCall, Breaks, Runs, done, all_done}
 use Rattle.swh_outside.specs.Files.{Files, FileCall, on, with_file, absent, files_of, file_done, files_done, IsFileBroken, FilesBreaks, FilesRuns, Images, AreImages, EachImages, EachFilesMoment}
 use Rattle.swh_outside.proofs.Images.{broken_image}
 
@@ -91,7 +91,7 @@ breaks_on n plan old new breaks others =
       after = on n breaks.after;
       is = ap (on n) breaks.is ∙ map-append (λ (call : Call). (n, call)) breaks.before (breaks.call ∷ breaks.after);
       broken = record {
-        broken = subst (λ (f : File). IsBroken breaks.call f (new n)) (sym (ap (λ (f : Files). f n) there ∙ with_file_here n (all_done breaks.before (old n)) old)) breaks.broken;
+        broken = subst (λ (f : File). IsFailedCall breaks.call f (new n)) (sym (ap (λ (f : Files). f n) there ∙ with_file_here n (all_done breaks.before (old n)) old)) breaks.broken;
         others = λ k other. others k other ∙ sym (ap (λ (f : Files). f k) there ∙ with_file_other n (all_done breaks.before (old n)) old k other);
       };
     }

@@ -3,7 +3,7 @@ use Rattle.std.proofs.Common.{◌≡◌, inl, inr, ⊎_elim, ℕ, List, [], ◌�
 use Rattle.std.specs.Prelude.{⊤}
 use Rattle.std.proofs.lemmas.Result.{IfOk-from_err, MatchResult-from_err}
 use Rattle.std.proofs.lemmas.List.{take_at}
-use Rattle.swh_outside.specs.Disk.{File, IsImage, EachImage, Call, Write, Sync, begun, done, all_done, IsBroken, Breaks, Runs, EachMoment}
+use Rattle.swh_outside.specs.Disk.{File, IsImage, EachImage, Call, Write, Sync, begun, done, all_done, IsFailedCall, Breaks, Runs, EachMoment}
 use Rattle.swh_outside.proofs.Images.{broken_image, begun_image, recast}
 
 pub all_done-append : (plan more : List Call) (file : File) → all_done (plan ++ more) file ≡ all_done more (all_done plan file)
@@ -27,7 +27,7 @@ goes_on plan more old mid new done_so_far breaks = record {
   call = breaks.call;
   after = breaks.after;
   is = ap (λ (l : List Call). plan ++ l) breaks.is ∙ sym (append_assoc plan breaks.before (breaks.call ∷ breaks.after));
-  broken = subst (λ (f : File). IsBroken breaks.call f new) (ap (all_done breaks.before) done_so_far ∙ sym (all_done-append plan breaks.before old)) breaks.broken;
+  broken = subst (λ (f : File). IsFailedCall breaks.call f new) (ap (all_done breaks.before) done_so_far ∙ sym (all_done-append plan breaks.before old)) breaks.broken;
 }
 
 -- a file that a run left in the middle of its plan has what each moment of it has
@@ -57,19 +57,19 @@ pub on_err : {T E : Type 0} (P : Type 0) (result : Result T E) → IsErr result 
 on_err P result is_err p = MatchResult-from_err result (λ _. ⊤) (λ _. P) is_err (λ _. p)
 
 -- a lone call that failed
-pub fails : (call : Call) (old new : File) → IsBroken call old new → Breaks (call ∷ []) old new
+pub fails : (call : Call) (old new : File) → IsFailedCall call old new → Breaks (call ∷ []) old new
 fails call old new broken = record { before = []; call = call; after = []; is = refl; broken = broken }
 
 -- it may not have begun
-pub not_begun : (call : Call) (old new : File) → IsImage old old.seen → new ≡ old → IsBroken call old new
-not_begun call old new i same = subst (λ (f : File). IsBroken call old f) (sym same)
+pub not_begun : (call : Call) (old new : File) → IsImage old old.seen → new ≡ old → IsFailedCall call old new
+not_begun call old new i same = subst (λ (f : File). IsFailedCall call old f) (sym same)
     (record { images = λ image j. begun_image call old image j; calls = inl refl; seen = i; no_shorter = omega arith })
 
 -- or have begun, with nothing to be read of it
-pub just_begun : (call : Call) (old new : File) → IsImage old old.seen → new ≡ begun call old → IsBroken call old new
-just_begun (Write at bytes) old new i same = subst (λ (f : File). IsBroken (Write at bytes) old f) (sym same)
+pub just_begun : (call : Call) (old new : File) → IsImage old old.seen → new ≡ begun call old → IsFailedCall call old new
+just_begun (Write at bytes) old new i same = subst (λ (f : File). IsFailedCall (Write at bytes) old f) (sym same)
     (record { images = λ image j. j; calls = inr refl; seen = recast _ _ _ refl refl refl (begun_image (Write at bytes) old old.seen i); no_shorter = omega arith })
-just_begun Sync old new i same = subst (λ (f : File). IsBroken Sync old f) (sym same)
+just_begun Sync old new i same = subst (λ (f : File). IsFailedCall Sync old f) (sym same)
     (record { images = λ image j. j; calls = inr refl; seen = recast _ _ _ refl refl refl (begun_image Sync old old.seen i); no_shorter = omega arith })
 
 -- one run after another

@@ -1,6 +1,6 @@
 -- Files by their numbers, and calls on any of them in one order.
 use Rattle.std.specs.Prelude.{◌≡◌, ◌≢◌, ◌==◌, ℕ, cond, List, [], ◌∷◌, ◌++◌, take, map, Result, OnOk, OnErr}
-use Rattle.swh_outside.specs.Disk.{File, Call, IsImage, IsBroken, done}
+use Rattle.swh_outside.specs.Disk.{File, Call, IsImage, IsFailedCall, done}
 
 -- files by their numbers
 abbrev pub Files : Type 0
@@ -37,7 +37,7 @@ files_done (call ∷ calls) files = files_done calls (file_done call files)
 
 -- a call that failed breaks its file and leaves all others
 pub record IsFileBroken (call : FileCall) (old new : Files) : Type 0 where
-  pub broken : IsBroken call.1 (old call.0) (new call.0)
+  pub broken : IsFailedCall call.1 (old call.0) (new call.0)
   pub others : (k : ℕ) → k ≢ call.0 → new k ≡ old k
 
 -- the first calls of a plan were made, and the last of them failed

@@ -1,4 +1,4 @@
--- Loads one after the other: what one says, and one more behind some.
+-- Loads one after the other: what one says, and one more after some.
 use Rattle.std.proofs.Common.{◌≡◌, Result, Ok, Err, List, [], ◌∷◌, ◌++◌, refl, subst}
 use Rattle.std.specs.Prelude.{IfOk, IfErr}
 use Rattle.swh_keeper.specs.Kept.{Kept}
@@ -6,20 +6,20 @@ use Rattle.swh_loader.specs.declared.end.Loaded.{Loaded}
 use Rattle.swh_loader.specs.declared.fault.LoadFault.{LoadFault}
 use Rattle.swh_loader.specs.Ending.{IsJobEnd}
 use Rattle.swh_loader.specs.Leaving.{EndsVisit, Stops}
-use Rattle.swh_loader.specs.Sending.{bodies_of}
-use Rattle.swh_pool.specs.Loads.{OneLoad, Loading, IsOutcome, IsOneLoad, AreLoads, attempt_at, AreAllowedAt}
+use Rattle.swh_loader.specs.Sending.{held_bodies}
+use Rattle.swh_pool.specs.Loads.{OneLoad, Loading, IsLoadOutcome, IsOneLoad, AreLoads, attempt_at, AreAllowedAt}
 
 module _ {S D : Type 0} (given : Loading S D) where
   -- what a load answers says how it ended
   pub outcome_of : (l : OneLoad S) (old new : Kept D) (result : Result Loaded LoadFault)
       → IfOk result (EndsVisit (attempt_at given l) old new)
-      → IfOk result (λ loaded. IsJobEnd given.id l.job.job.head given.sources (bodies_of new) l.job.job.stream l.after.job.stream loaded.end)
+      → IfOk result (λ loaded. IsJobEnd given.id l.job.job.head given.sources (held_bodies new) l.job.job.stream l.after.job.stream loaded.end)
       → IfErr result (Stops given.id given.disks (AreAllowedAt given l) (attempt_at given l) old new)
-      → IsOutcome given l old new result
+      → IsLoadOutcome given l old new result
   outcome_of l old new (Ok loaded) ended means stops = record { number = ended.number; visit = ended.visit; means = means; on = ended.on; before_it = ended.before_it }
   outcome_of l old new (Err fault) ended means stops = stops
 
-  -- one more load behind some
+  -- one more load after some
   pub loads_further : (loads : List (OneLoad S)) (l : OneLoad S) (old mid new : Kept D) → AreLoads given loads old mid → IsOneLoad given l mid new → AreLoads given (loads ++ l ∷ []) old new
   loads_further [] l old mid new is one = (new, subst (λ (k : Kept D). IsOneLoad given l k new) is one, refl)
   loads_further (first ∷ loads) l old mid new h one = (h.0, h.1, loads_further loads l h.0 mid new h.2 one)

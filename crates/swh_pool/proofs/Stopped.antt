@@ -8,7 +8,7 @@ use Rattle.swh_loader.specs.declared.fault.LoadWhy.{LoadWhy}
 use Rattle.swh_loader.specs.declared.fault.LoadWhy.TheVariants.{Ended, DiskFault, Wounded, Limit, Memory}
 use Rattle.swh_loader.specs.Stopping.{StopsFor}
 use Rattle.swh_loader.specs.Leaving.{IsHeldBack}
-use Rattle.swh_pool.specs.Loads.{OneLoad, Loading, IsOutcome, IsOneLoad, AreLoads}
+use Rattle.swh_pool.specs.Loads.{OneLoad, Loading, IsLoadOutcome, IsOneLoad, AreLoads}
 use Rattle.swh_pool.specs.Stops.{IsStoppedAtOnce, IsUnwounded, is_fault, is_disk_fault, AreStops, HaveNoDiskFault}
 
 some_none : (n : ℕ) → Some n ≡ None → ⊥
@@ -32,7 +32,7 @@ module _ {S D : Type 0} (given : Loading S D) where
   stopped_whole IsTried old new (Limit which number) whole stops = (λ e. let f : Limit which number ≡ Wounded = e in cc, ap is_some stops.unwounded)
   stopped_whole IsTried old new Memory whole stops = (λ e. let f : Memory ≡ Wounded = e in cc, ap is_some (stops ∙ whole))
 
-  outcome_whole : (l : OneLoad S) (old new : Kept D) (outcome : Result Loaded LoadFault) → old.wounded ≡ None → IsOutcome given l old new outcome
+  outcome_whole : (l : OneLoad S) (old new : Kept D) (outcome : Result Loaded LoadFault) → old.wounded ≡ None → IsLoadOutcome given l old new outcome
       → IsUnwounded outcome × (is_some new.wounded ≡ is_disk_fault outcome)
   outcome_whole l old new (Ok loaded) whole ends = (tt, ap is_some ends.on.unwounded)
   outcome_whole l old new (Err fault) whole (inl at_once) = stopped_whole _ old new fault.why whole at_once.stops

@@ -3,7 +3,7 @@ use Rattle.std.proofs.Common.{◌≡◌, ℕ, ◌<◌, ◌≤◌, List, [], ◌�
 use Rattle.std.proofs.lemmas.List.{map-append, length-map}
 use Rattle.std.proofs.Math.Seq.{get_or-append_seam, set-append_seam}
 
--- the item at a place, what is behind it, and the list with another item there
+-- the item at a place, what is after it, and the list with another item there
 pub turned : {T : Type 0} (items front rest : List T) (i : ℕ) (d y : T) → items ≡ front ++ rest → length front ≡ i → i < length items
     → (behind : List T) × (rest ≡ get_or items i d ∷ behind) × (set items i y ≡ front ++ y ∷ behind)
 turned items front [] i d y cut long below = let all = ap length cut ∙ length-append front [] in absurd (omega (arith, all, long, below))

@@ -11,8 +11,8 @@ use Rattle.swh_loader.specs.declared.fault.LoadFault.{LoadFault}
 use Rattle.swh_loader.specs.Adding.{Attempt, attempt}
 use Rattle.swh_loader.specs.Ending.{IsJobEnd, statuses_of}
 use Rattle.swh_loader.specs.Leaving.{AreAllowed, AddsVisit, MakesVisitCalls, Stops, IsHeldBack, IsSameInput, next_visit}
-use Rattle.swh_loader.specs.Sending.{bodies_of}
-use Rattle.swh_loader.specs.Visiting.{IsVisit, GoesOn}
+use Rattle.swh_loader.specs.Sending.{held_bodies}
+use Rattle.swh_loader.specs.Visiting.{IsVisit, KeepsAll}
 use Rattle.swh_pool.specs.declared.dated.DatedJob.{DatedJob}
 
 -- The job's head is a ref, where it names one.
@@ -53,19 +53,19 @@ module _ {S D : Type 0} (given : Loading S D) where
   pub record IsEnded (l : OneLoad S) (old new : Kept D) (loaded : Loaded) : Type 0 where
     pub number : loaded.visit ≡ next_visit old.history l.job.job.origin
     pub visit : IsVisit new.history (attempt_at l) loaded.visit ((Created, None) ∷ statuses_of loaded.end)
-    pub means : IsJobEnd given.id l.job.job.head given.sources (bodies_of new) l.job.job.stream l.after.job.stream loaded.end
-    pub on : GoesOn old new
+    pub means : IsJobEnd given.id l.job.job.head given.sources (held_bodies new) l.job.job.stream l.after.job.stream loaded.end
+    pub on : KeepsAll old new
     pub before_it : old.wounded ≡ None
 
   -- What the outcome says.
-  abbrev pub IsOutcome : OneLoad S → Kept D → Kept D → Result Loaded LoadFault → Type 0
-  IsOutcome l old new (Ok loaded) = IsEnded l old new loaded
-  IsOutcome l old new (Err fault) = Stops given.id given.disks (AreAllowedAt l) (attempt_at l) old new fault
+  abbrev pub IsLoadOutcome : OneLoad S → Kept D → Kept D → Result Loaded LoadFault → Type 0
+  IsLoadOutcome l old new (Ok loaded) = IsEnded l old new loaded
+  IsLoadOutcome l old new (Err fault) = Stops given.id given.disks (AreAllowedAt l) (attempt_at l) old new fault
 
   -- The load of one job, between two states of the archive.
   pub record IsOneLoad (l : OneLoad S) (old new : Kept D) : Type 0 where
     pub adds : AddsVisit (AreAllowedAt l) (attempt_at l) old.history new.history
-    pub ends : IsOutcome l old new l.outcome
+    pub ends : IsLoadOutcome l old new l.outcome
     pub wounded : (n : ℕ) → old.wounded ≡ Some n → IsHeldBack old new l.outcome
     pub calls : given.disks.tells → MakesVisitCalls given.id given.disks (AreAllowedAt l) (attempt_at l) old new
     pub store_later : given.disks.faults old.store ≤ given.disks.faults new.store

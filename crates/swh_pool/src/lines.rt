@@ -1,17 +1,17 @@
 // The lines that report jobs.
 ghost use Rattle.std.specs.Prelude.{◌≡◌, ◌+◌, ◌*◌, ◌<◌, ◌≤◌, ◌++◌, [], IfOk, length, vec_capacity};
-ghost use Rattle.swh_loader.specs.Report.{report_of, line_limit};
+ghost use Rattle.swh_loader.specs.Report.{report_of, report_line_limit};
 
 use std::alloc::Global;
 use swh_base::{Bytes, Memory, Url};
-use swh_loader::{LINE_LIMIT, LoadFault, Loaded, report_line};
+use swh_loader::{REPORT_LIMIT, LoadFault, Loaded, report_line};
 
 /// The lines of jobs so far, with room for those of the jobs that are left.
 #[derive(Drop)]
 pub struct Lines {
     pub text: Vec<u8>,
     pub left: usize,
-    ghost room: { length text.items + left * line_limit ≤ vec_capacity text },
+    ghost room: { length text.items + left * report_line_limit ≤ vec_capacity text },
 }
 
 impl Lines {
@@ -20,7 +20,7 @@ impl Lines {
         ensures text { IfOk result (λ lines. lines.text.items ≡ []) }
         ensures left { IfOk result (λ lines. lines.left ≡ jobs) }
     {
-        let Some(room) = jobs.checked_mul(LINE_LIMIT) else {
+        let Some(room) = jobs.checked_mul(REPORT_LIMIT) else {
             return Err(Memory);
         };
         let text = Vec::with_capacity(alloc, room)?;

@@ -7,7 +7,7 @@ use Rattle.swh_model.specs.Coding.{coded_records}
 use Rattle.swh_model.proofs.OneHistory.{one_history}
 use Rattle.swh_model.proofs.Unique.{alike}
 use Rattle.swh_segment.specs.Making.{IsMade, IsNotMade}
-use Rattle.swh_program.specs.Opening.{IsArchive, IsDamaged, IsUnusable, IsOpenRefusal, OpenEnds}
+use Rattle.swh_program.specs.Opening.{IsArchive, IsDamagedArchive, IsUnusable, IsOpenRefusal, OpenEnds}
 use Rattle.swh_program.specs.declared.answer.Answer.{Answer}
 use Rattle.swh_program.specs.declared.answer.Answer.TheVariants.{NotMade, Damaged, OutsideDisk, Memory}
 
@@ -30,7 +30,7 @@ module _ (id_of : Kind → List ℕ → List ℕ) (files : Files) where
   -- and not one that cannot be used
   pub usable : (h : List Event) → IsArchive id_of files h → IsUnusable id_of files → ⊥
   usable h archive unusable =
-      ⊎_elim (λ not_made. not_both (files 0).seen (made_archive h archive) not_made) (λ (damaged : IsDamaged id_of files). damaged.none h archive) unusable
+      ⊎_elim (λ not_made. not_both (files 0).seen (made_archive h archive) not_made) (λ (damaged : IsDamagedArchive id_of files). damaged.none h archive) unusable
 
   -- its opening is refused for a disk or for memory alone
   pub opening_of_archive : (new : Files) (h : List Event) → IsArchive id_of files h → (answer : Answer) → IsOpenRefusal answer → OpenEnds id_of files new answer → (answer ≡ OutsideDisk) ⊎ (answer ≡ Memory)

@@ -8,11 +8,11 @@ use Rattle.swh_jobs.specs.Job.{Job}
 use Rattle.swh_model.specs.declared.event.Event.{Event}
 use Rattle.swh_model.specs.Archive.{Bodies, empty_archive, body_of}
 use Rattle.swh_model.specs.Grows.{IsWithin}
-use Rattle.swh_model.specs.Meaning.{Made as MadeObject, Making, IsMeaning, IsLeftOut}
-use Rattle.swh_model.specs.Step.{IsHistory, IsGoodAndNamed, replay}
+use Rattle.swh_model.specs.Meaning.{Made as MadeObject, StreamMeaning, IsMeaning, IsLeftOut}
+use Rattle.swh_model.specs.Step.{IsHistory, HasItsChildrenAndName, replay}
 use Rattle.swh_model.proofs.Growing.{bodies_grow}
 use Rattle.swh_model.proofs.Histories.{fronts}
-use Rattle.swh_fastload.specs.Making.{made_of, made}
+use Rattle.swh_fastload.specs.Making.{made_from, made}
 use Rattle.swh_fastload.proofs.Loads.{one_meaning_lem}
 use Rattle.swh_loader.specs.Adding.{attempt}
 use Rattle.swh_loader.specs.Ending.{IsFull}
@@ -22,8 +22,8 @@ use Rattle.swh_loader.specs.declared.end.End.TheVariants.{Full, NotFound, Failed
 use Rattle.swh_loader.specs.declared.end.Loaded.{Loaded}
 use Rattle.swh_loader.specs.declared.fault.LoadFault.{LoadFault}
 use Rattle.swh_program.specs.Causes.{HasTwoBodies, IsBadInput}
-use Rattle.swh_program.specs.Complete.{HasBody}
-use Rattle.swh_program.specs.Inputs.{loader, Inputs, input_of, IsInputEnd, IsOutcome}
+use Rattle.swh_program.specs.Complete.{HasBodyOrMakes}
+use Rattle.swh_program.specs.Inputs.{loader, Inputs, input_of, IsInputEnd, IsJobOutcome}
 use Rattle.swh_program.specs.Lines.{LoadedJob, outcomes, ending_of_end, ending_for, ending_of_all}
 use Rattle.swh_program.specs.Load.{AreJobLoads}
 use Rattle.swh_program.specs.declared.answer.Ending.TheVariants as ending
@@ -33,16 +33,16 @@ use Rattle.swh_program.proofs.Loads.{all_behind}
 
 -- Nothing is wrong with the input of a full job.
 module _ (id_of : Kind → List ℕ → List ℕ) (bodies held : Bodies) (within : IsWithin bodies held) (head : Option (List ℕ)) (text snapshot : List ℕ) (full : IsFull id_of head text held snapshot) where
-  has_then : (making : Making) → IsMeaning id_of head text making → (name : Name) (body : List ℕ) → HasBody id_of bodies making.objects name body → body_of held name ≡ Some body
+  has_then : (making : StreamMeaning) → IsMeaning id_of head text making → (name : Name) (body : List ℕ) → HasBodyOrMakes id_of bodies making.objects name body → body_of held name ≡ Some body
   has_then making means name body (inl there) = within name body there
   has_then making means name body (inr makes) =
       let same : making ≡ record { objects = made full.objects; snapshot = snapshot } = one_meaning_lem id_of head text making (record { objects = made full.objects; snapshot = snapshot }) means full.means.meaning in
       let object : MadeObject = record { kind = name.kind; body = body } in
-      let from = from_map made_of full.objects object (subst (λ (k : Making). Contains k.objects object) same makes.0) in
+      let from = from_map made_from full.objects object (subst (λ (k : StreamMeaning). Contains k.objects object) same makes.0) in
       let entry = from.0 in
       let kinds : entry.name.kind ≡ name.kind = ap (λ (m : MadeObject). m.kind) from.2 in
       let texts : entry.body ≡ body = ap (λ (m : MadeObject). m.body) from.2 in
-      let named = (at_element (IsGoodAndNamed id_of) full.objects entry full.means.good from.1).named in
+      let named = (at_element (HasItsChildrenAndName id_of) full.objects entry full.means.good from.1).named in
       let ids : entry.name.id ≡ name.id = named ∙ (λ i. id_of (kinds i) (texts i)) ∙ sym makes.1 in
       let names : entry.name ≡ name = λ i. record { kind = kinds i; id = ids i } in
       subst (λ (n : Name). body_of held n ≡ Some body) names (at_element (λ (e : Entry). body_of held e.name ≡ Some e.body) full.objects entry full.held from.1 ∙ ap (λ (b : List ℕ). Some b) texts)
@@ -65,11 +65,11 @@ module _ (id_of : Kind → List ℕ → List ℕ) (of_jobs : Inputs) (told : of_
   end_not_bad job held within (Failed reason) is e bad = let f : ending.Wanting ≡ ending.Done = e in cc
 
   load_not_bad : (job : Job) (date : ℕ) (h h' : List Event) → IsWithin bodies (replay h').bodies → (outcome : Result Loaded LoadFault)
-      → IsOutcome id_of (input_of of_jobs job) (attempt loader job.url date) h h' outcome → ending_for outcome ≡ ending.Done → IsBadInput id_of job.head bodies (of_jobs.at job.path) → ⊥
+      → IsJobOutcome id_of (input_of of_jobs job) (attempt loader job.url date) h h' outcome → ending_for outcome ≡ ending.Done → IsBadInput id_of job.head bodies (of_jobs.at job.path) → ⊥
   load_not_bad job date h h' within (Ok l) line e bad = end_not_bad job (replay h').bodies within l.end line.end e bad
   load_not_bad job date h h' within (Err f) line e bad = why_undone f.why e
 
-  -- what is held at entry is held behind each load
+  -- what is held at entry is held after each load
   within_more : (h more : List Event) → IsHistory id_of (h ++ more) → IsWithin bodies (replay h).bodies → IsWithin bodies (replay (h ++ more)).bodies
   within_more h more history within n body held =
       let parts = fronts id_of empty_archive h more history in

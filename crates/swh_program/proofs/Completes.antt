@@ -11,7 +11,7 @@ use Rattle.swh_model.specs.Step.{replay}
 use Rattle.swh_model.specs.Answer.{ReplyText}
 use Rattle.swh_program.specs.Seen.{Span, SinkFailed}
 use Rattle.swh_program.specs.Answers.{status_of, status_for, printed_by, last_line_of, last_line_for, IsPrinted}
-use Rattle.swh_program.specs.AskCommand.{reply_line, AreReplies, AreFound, HasShortReply, TellsReplies, IsAsked, AskEnds}
+use Rattle.swh_program.specs.AskCommand.{reply_line, AreReplies, AreFound, HasShortReply, TellsReplies, RepliesToPaths, AskEnds}
 use Rattle.swh_segment.specs.Making.{IsNotMade}
 use Rattle.swh_program.specs.InitCommand.{InitEnds}
 use Rattle.swh_program.specs.Opening.{IsArchive}
@@ -84,7 +84,7 @@ replies_ending replies text end tells = ⊎_elim
 
 module _ (id_of : Kind → List ℕ → List ℕ) (paths : List (List ℕ)) (old new : Files) (h : List Event) (replies : List ReplyText) (archive : IsArchive id_of old h) (are_replies : AreReplies (replay h) paths replies) where
   -- the replies of the archive are told
-  pub asked_replies : (text : List ℕ) (end : Ending) → IsAsked id_of old new paths text end → TellsReplies replies text end
+  pub asked_replies : (text : List ℕ) (end : Ending) → RepliesToPaths id_of old new paths text end → TellsReplies replies text end
   asked_replies text end asked =
       let same = one_archive id_of old asked.history h asked.archive archive in
       let told = asked.told in

@@ -8,8 +8,8 @@ use Rattle.swh_program.specs.Answers.{last_line_of}
 use Rattle.swh_program.specs.Archives.{SameElsewhere, old_archive, new_archive}
 use Rattle.swh_program.specs.AskCommand.{Asks, DoesAsk, HasShortReply, reply_line}
 use Rattle.swh_program.specs.Commands.{Does, Comes}
-use Rattle.swh_program.specs.Complete.{jobs_of, all_made, full_lines}
-use Rattle.swh_program.specs.IdentifyCommand.{Identifies, DoesIdentify, HasNoBody, name_of, name_line}
+use Rattle.swh_program.specs.Complete.{jobs_of_meant, all_made, full_lines}
+use Rattle.swh_program.specs.IdentifyCommand.{Identifies, DoesIdentify, HasNoBody, name_of_bytes, name_line}
 use Rattle.swh_program.specs.InitCommand.{Inits, DoesInit}
 use Rattle.swh_program.specs.Jobs.{HasJobs, HasNoJobs, bad_job_line}
 use Rattle.swh_program.specs.LeftAlone.{IsOnDepot, IsOnDesk, IsBeforeInputs, IsRefusedInOrder}
@@ -187,7 +187,7 @@ does_load dir path s answer status told l =
         told = told;
       };
       complete = λ before meant disks inputs archive there are one room no_disk no_desk quiet no_clock no_sink.
-          let exact = load_exact g desk_at inputs disks path before (jobs_of meant) (all_made meant) old new archive there (meant_all_made s.id_of (inputs_of s) meant are) one room answer l.ends
+          let exact = load_exact g desk_at inputs disks path before (jobs_of_meant meant) (all_made meant) old new archive there (meant_all_made s.id_of (inputs_of s) meant are) one room answer l.ends
           (λ failed. no_disk (l.disk_cause failed)) (λ failed. no_desk (l.source_cause failed)) (λ failed. no_clock (l.clock_cause failed)) in
           told_with (full_lines before meant) 0 answer s status (load_done s.id_of (inputs_of s) before meant one are quiet answer exact) no_sink told;
     }
@@ -215,7 +215,7 @@ does_identify kind path s answer status told i =
       no_archive = run_never answer s status 2 4 (identify_statuses s.id_of kind answer i.one_of) 3 (omega arith) (omega arith) (omega arith) told;
       no_body = λ t. run_exactly answer s status 1 (HasNoBody kind found) (omega arith) (identify_exactly s.id_of kind found answer (i.ends t)) told;
       complete = λ bytes t there body no_source no_sink.
-          told_with (name_line (name_of s.id_of kind bytes)) 0 answer s status
+          told_with (name_line (name_of_bytes s.id_of kind bytes)) 0 answer s status
           (named s.id_of kind bytes body found answer there (λ failed. no_source (i.cause failed)) (i.ends t)) no_sink told;
     }
 

@@ -1,7 +1,7 @@
 -- How loads end together, and the lines that tell them.
 use Rattle.std.proofs.Common.{◌≡◌, ◌⊎◌, inl, inr, ⊎_elim, ℕ, ◌≤◌, false, Result, Ok, Err, List, [], ◌∷◌, map, flat_map, refl, sym, ap, ◌∙◌, subst, arith}
 use Rattle.std.proofs.lemmas.List.Folds.{flat_map-map}
-use Rattle.swh_segment.specs.Makes.{EitherRose}
+use Rattle.swh_segment.specs.Makes.{ADiskFailed}
 use Rattle.swh_keeper.specs.Kept.{Kept}
 use Rattle.swh_loader.specs.Leaving.{Stops}
 use Rattle.swh_loader.specs.Report.{report_of}
@@ -12,7 +12,7 @@ use Rattle.swh_loader.specs.declared.fault.LoadWhy.{LoadWhy}
 use Rattle.swh_loader.specs.declared.fault.LoadWhy.TheVariants as why
 use Rattle.swh_loader.specs.declared.fault.LoadFault.{LoadFault}
 use Rattle.swh_pool.specs.Lines.{ended, lines_of}
-use Rattle.swh_pool.specs.Loads.{Loading, attempt_at, AreAllowedAt, OneLoad, IsOutcome, AreLoads}
+use Rattle.swh_pool.specs.Loads.{Loading, attempt_at, AreAllowedAt, OneLoad, IsLoadOutcome, AreLoads}
 use Rattle.swh_pool.specs.Stops.{IsUnwounded, is_disk_fault, AreStops}
 use Rattle.swh_pool.specs.declared.dated.DatedJob.{DatedJob}
 use Rattle.swh_program.specs.Lines.{LoadedJob, outcomes, load_line, ending_of_end, ending_of_why, ending_for, worse, ending_of_all, TellsLoads, TellsLoad}
@@ -43,7 +43,7 @@ no_disk_end (Failed bad) e = let f : ending.Wanting ≡ ending.OutsideDisk = e i
 -- Loads of which one tells of a disk: a count rose.
 module _ {S D : Type 0} (given : Loading S D) where
   abbrev Raised : Kept D → Kept D → Type 0
-  Raised old new = EitherRose (given.disks.faults old.store) (given.disks.faults new.store) (given.disks.faults old.ledger) (given.disks.faults new.ledger)
+  Raised old new = ADiskFailed (given.disks.faults old.store) (given.disks.faults new.store) (given.disks.faults old.ledger) (given.disks.faults new.ledger)
 
   abbrev Later : Kept D → Kept D → Type 0
   Later old new = (given.disks.faults old.store ≤ given.disks.faults new.store) × (given.disks.faults old.ledger ≤ given.disks.faults new.ledger)
@@ -70,7 +70,7 @@ module _ {S D : Type 0} (given : Loading S D) where
       let ledger = are.1.ledger_later in
       (omega (arith, store, rest.0), omega (arith, ledger, rest.1))
 
-  -- the first load, by how it ended, and those behind it
+  -- the first load, by how it ended, and those after it
   module _ (l : OneLoad S) (rest : List (Result Loaded LoadFault)) (old between new : Kept D) (first : Later old between) (behind : Later between new)
       (later : AreStops false rest → ending_of_all rest ≡ ending.OutsideDisk → Raised between new) where
     from_later : (e : Ending) → (e ≡ ending.OutsideDisk → ⊥) → AreStops false rest → worse e (ending_of_all rest) ≡ ending.OutsideDisk → Raised old new
@@ -85,7 +85,7 @@ module _ {S D : Type 0} (given : Loading S D) where
     by_why visit (why.Limit which number) unwounded stops more is = from_later ending.Wanting (λ e. cc) more is
     by_why visit why.Memory unwounded stops more is = from_later ending.Memory (λ e. cc) more is
 
-    by_outcome : (o : Result Loaded LoadFault) → IsUnwounded o → IsOutcome given l old between o → AreStops (is_disk_fault o) rest → worse (ending_for o) (ending_of_all rest) ≡ ending.OutsideDisk → Raised old new
+    by_outcome : (o : Result Loaded LoadFault) → IsUnwounded o → IsLoadOutcome given l old between o → AreStops (is_disk_fault o) rest → worse (ending_for o) (ending_of_all rest) ≡ ending.OutsideDisk → Raised old new
     by_outcome (Ok loaded) unwounded ends more is = from_later (ending_of_end loaded.end) (no_disk_end loaded.end) more is
     by_outcome (Err fault) unwounded ends more is = by_why fault.visit fault.why unwounded ends more is
 

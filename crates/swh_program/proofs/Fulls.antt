@@ -9,32 +9,32 @@ use Rattle.swh_model.specs.declared.event.Event.{Event}
 use Rattle.swh_model.specs.declared.event.EventKind.{EventKind}
 use Rattle.swh_model.specs.declared.event.EventKind.TheVariants.{Batch, Open, Mark}
 use Rattle.swh_model.specs.Archive.{Archive, Bodies, empty_archive, body_of}
-use Rattle.swh_model.specs.Meaning.{Made, Making, IsMeaning}
-use Rattle.swh_model.specs.Step.{IsHistory, after, after_kind, after_all, replay, IsGoodAndNamed}
+use Rattle.swh_model.specs.Meaning.{Made, StreamMeaning, IsMeaning}
+use Rattle.swh_model.specs.Step.{IsHistory, after, after_kind, after_all, replay, HasItsChildrenAndName}
 use Rattle.swh_model.proofs.Histories.{fronts}
 use Rattle.swh_model.proofs.Maps.{added-all}
-use Rattle.swh_fastload.specs.Making.{made_of, made}
+use Rattle.swh_fastload.specs.Making.{made_from, made}
 use Rattle.swh_loader.specs.Adding.{Attempt, IsOwn, IsOwnKind}
 use Rattle.swh_loader.specs.Ending.{MeansObjects, IsMadeBy, Collided}
 use Rattle.swh_loader.specs.Leaving.{AddsVisit, AreOfVisit, next_visit}
 use Rattle.swh_loader.proofs.Limiting.{at_element}
-use Rattle.swh_program.specs.Complete.{AreMade, MakesBody, HasBody, HasOneBody}
+use Rattle.swh_program.specs.Complete.{AreMade, MakesBody, HasBodyOrMakes, HasOneBody}
 use Rattle.swh_program.proofs.Elements.{contains_first, map_contains}
 
 -- Whatever is held now was held before, or is made.
 abbrev pub Had : (Kind → List ℕ → List ℕ) → Bodies → List Made → Bodies → Type 0
-Had id_of bodies objects now = (n : Name) (body : List ℕ) → body_of now n ≡ Some body → HasBody id_of bodies objects n body
+Had id_of bodies objects now = (n : Name) (body : List ℕ) → body_of now n ≡ Some body → HasBodyOrMakes id_of bodies objects n body
 
 module _ (id_of : Kind → List ℕ → List ℕ) (objects : List Made) where
   -- All that the text means, with this head or none, is among the objects.
   abbrev pub MakesWithin : Option (List ℕ) → List ℕ → Type 0
-  MakesWithin head text = (making : Making) → IsMeaning id_of head text making → (o : Made) → Contains making.objects o → Contains objects o
+  MakesWithin head text = (making : StreamMeaning) → IsMeaning id_of head text making → (o : Made) → Contains making.objects o → Contains objects o
 
   module _ (head : Option (List ℕ)) (text : List ℕ) (within : MakesWithin head text) where
     makes_body : (es : List Entry) (snapshot : List ℕ) → MeansObjects id_of head text es snapshot → (e : Entry) → Contains es e → MakesBody id_of objects e.name e.body
     makes_body es snapshot m e among = (
-      within (record { objects = made es; snapshot = snapshot }) m.meaning (made_of e) (map_contains made_of es e among),
-      (at_element (IsGoodAndNamed id_of) es e m.good among).named,
+      within (record { objects = made es; snapshot = snapshot }) m.meaning (made_from e) (map_contains made_from es e among),
+      (at_element (HasItsChildrenAndName id_of) es e m.good among).named,
     )
 
     -- a batch of what the text makes
@@ -52,12 +52,12 @@ module _ (id_of : Kind → List ℕ → List ℕ) (objects : List Made) where
 
   -- what is held stays held, or was made
   module _ (bodies : Bodies) where
-    makes_all : (entries : List Entry) → AreMade id_of objects entries → AllByRecursion (λ e. HasBody id_of bodies objects e.name e.body) entries
+    makes_all : (entries : List Entry) → AreMade id_of objects entries → AllByRecursion (λ e. HasBodyOrMakes id_of bodies objects e.name e.body) entries
     makes_all [] all = tt
     makes_all (e ∷ entries) all = (inr all.0, makes_all entries all.1)
 
     had_kind : (a : Archive) (by : ℕ) (origin : List ℕ) (number : ℕ) (what : EventKind) → IsOwnKind (AreMade id_of objects) origin number what → Had id_of bodies objects a.bodies → Had id_of bodies objects (after_kind a by what).bodies
-    had_kind a by origin number (Batch entries) own had = added-all (HasBody id_of bodies objects) a.bodies entries had (makes_all entries own.1)
+    had_kind a by origin number (Batch entries) own had = added-all (HasBodyOrMakes id_of bodies objects) a.bodies entries had (makes_all entries own.1)
     had_kind a by origin number (Open other kind date) own had = had
     had_kind a by origin number (Mark other visit status snapshot) own had = had
 

@@ -15,7 +15,7 @@ use Rattle.swh_model.specs.Archive.{Bodies}
 use Rattle.swh_model.specs.Step.{replay}
 use Rattle.swh_keeper.specs.Kept.{Kept}
 use Rattle.swh_jobs.specs.Job.{Job}
-use Rattle.swh_loader.specs.Adding.{Attempt, attempt, opening, IsEvent, IsOwn, IsOwnKind}
+use Rattle.swh_loader.specs.Adding.{Attempt, attempt, open_event, IsEvent, IsOwn, IsOwnKind}
 use Rattle.swh_loader.specs.Ending.{IsEndOf, IsJobEnd}
 use Rattle.swh_loader.specs.Leaving.{AreAllowed, AreOfVisit, AddsVisit, Stops, IsSameInput, next_visit}
 use Rattle.swh_loader.specs.Stopping as stopping
@@ -27,9 +27,9 @@ use Rattle.swh_loader.specs.declared.fault.LoadWhy.{LoadWhy}
 use Rattle.swh_loader.specs.declared.fault.LoadWhy.TheVariants as why
 use Rattle.swh_loader.specs.declared.fault.LoadFault.{LoadFault}
 use Rattle.swh_pool.specs.Lines.{ended}
-use Rattle.swh_pool.specs.Loads.{Loading, loading, attempt_at, AreAllowedAt, OneLoad, IsOutcome as IsOutcomeOf, IsOneLoad, AreLoads}
+use Rattle.swh_pool.specs.Loads.{Loading, loading, attempt_at, AreAllowedAt, OneLoad, IsLoadOutcome as IsOutcomeOf, IsOneLoad, AreLoads}
 use Rattle.swh_program.specs.Dated.{IsOpenedAt, IsOpenedJob, AreOpenedJobs, IsGivenBack, AreGivenBack}
-use Rattle.swh_program.specs.Inputs.{loader, Inputs, inputs, Input, input_of, IsOfInput, IsInputEnd, StopsFor, StopsVisit, IsOutcome}
+use Rattle.swh_program.specs.Inputs.{loader, Inputs, inputs, Input, input_of, IsOfInput, IsInputEnd, StopsJobFor, StopsVisit, IsJobOutcome}
 use Rattle.swh_program.specs.Lines.{LoadedJob, dates, outcomes}
 use Rattle.swh_program.specs.Load.{IsJobLoad, AreJobLoads}
 
@@ -71,7 +71,7 @@ all_append P (x ∷ xs) ys h k = (h.0, all_append P xs ys h.1 k)
 -- one event more of a load
 module _ (P : List Entry → Type 0) (a : Attempt) (h h' : List Event) (e : Event) where
   -- its first
-  pub opened_next : h' ≡ h → IsEvent (opening a) e → AddsVisit P a h (h' ++ e ∷ [])
+  pub opened_next : h' ≡ h → IsEvent (open_event a) e → AddsVisit P a h (h' ++ e ∷ [])
   opened_next same is = record { more = e ∷ []; behind = ap (λ (t : List Event). t ++ e ∷ []) same; are = (is, tt) }
 
   longer : (more : List Event) (o : Event) → h' ≡ h ++ [] → h' ≡ h ++ o ∷ more → ⊥
@@ -93,7 +93,7 @@ module _ (P : List Entry → Type 0) (a : Attempt) (h h' : List Event) (e : Even
 module _ {D : Type 0} (id_of : Kind → List ℕ → List ℕ) (input : Input) (disks : Disks D) (P : List Entry → Type 0) (a : Attempt) (old new : Kept D)
     (allowed : (entries : List Entry) → P entries → IsOfInput id_of input entries) (adds : AddsVisit P a old.history new.history) where
   stops_for : (tried : Event → Type 0) → ((e : Event) → tried e → AddsVisit P a old.history (new.history ++ e ∷ [])) → (reason : LoadWhy) → stopping.StopsFor id_of disks.faults tried old new reason
-      → StopsFor id_of input a old.history new.history reason
+      → StopsJobFor id_of input a old.history new.history reason
   stops_for tried next (why.Ended status) stops = stops
   stops_for tried next why.DiskFault stops = tt
   stops_for tried next why.Wounded stops = tt
@@ -109,10 +109,10 @@ module _ {D : Type 0} (id_of : Kind → List ℕ → List ℕ) (input : Input) (
   stops_visit fault (inl once) =
       record {
         visit = inl (once.no_visit, once.same);
-        stops = stops_for (IsEvent (opening a)) (λ e is. opened_next P a old.history new.history e once.same is) fault.why once.stops;
+        stops = stops_for (IsEvent (open_event a)) (λ e is. opened_next P a old.history new.history e once.same is) fault.why once.stops;
       }
   stops_visit fault (inr later) =
-      let own = λ (e : Event) (is : IsOwn P a fault.visit e). own_next P a old.history new.history e later.more (opening a) later.opened adds (subst (λ (n : ℕ). IsOwn P a n e) later.visit is) in
+      let own = λ (e : Event) (is : IsOwn P a fault.visit e). own_next P a old.history new.history e later.more (open_event a) later.opened adds (subst (λ (n : ℕ). IsOwn P a n e) later.visit is) in
       record { visit = inr (later.visit, later.more, later.opened, later.unended); stops = stops_for (IsOwn P a fault.visit) own fault.why later.stops }
 
 -- a job as it was loaded
@@ -161,7 +161,7 @@ module _ {S : Type 0} (sources : Sources S) (opened_by : Inputs) where
 -- The inputs of jobs: opened, and given back.
 module _ {S : Type 0} (id_of : Kind → List ℕ → List ℕ) (sources : Sources S) (opened_by : Inputs) (after : List ℕ → ℕ)
     (later : (p : List ℕ) → opened_by.failures p ≤ opened_by.failures_now p) (later_still : (p : List ℕ) → opened_by.failures_now p ≤ after p) where
-  -- by the counts before the opening and after the giving back
+  -- by the counts before the open_event and after the giving back
   abbrev pub of_jobs : Inputs
   of_jobs = inputs opened_by.tell opened_by.at opened_by.failures after
 
@@ -205,7 +205,7 @@ module _ {S : Type 0} (id_of : Kind → List ℕ → List ℕ) (sources : Source
     line : (job : Job) (l : OneLoad S) (old new : Kept D) → Opens job l.job.job.stream → l.job.job.head ≡ job.head → IsGivenBack sources opened_by.failures_now after l.after.job.stream
         → AddsVisit (AreAllowed id_of job.head sources l.job.job.stream) (attempt_at given l) old.history new.history → IsSameInput sources l.job.job.stream l.after.job.stream
         → (outcome : Result Loaded LoadFault) → IsOutcomeOf given l old new outcome
-        → IsOutcome id_of (input_of of_jobs job) (attempt_at given l) old.history new.history outcome
+        → IsJobOutcome id_of (input_of of_jobs job) (attempt_at given l) old.history new.history outcome
     line job l old new opened head back adds same (Ok loaded) is =
         let means = subst (λ (h : Option (List ℕ)). IsJobEnd id_of h sources (replay new.history).bodies l.job.job.stream l.after.job.stream loaded.end) head is.means in
         record { number = is.number; visit = is.visit; end = input_end job (replay new.history).bodies l.job.job.stream l.after.job.stream opened same back loaded.end means }
@@ -230,7 +230,7 @@ module _ {S : Type 0} (id_of : Kind → List ℕ → List ℕ) (sources : Source
         let told = line job l old new opened.input opened.head back (adds_with job l old.history new.history opened.head is.adds) is.same_input l.outcome is.ends in
         record {
           nothing_else = adds_of job l old.history new.history opened is.adds;
-          line = subst (λ (u : List ℕ). IsOutcome id_of (input_of of_jobs job) (attempt loader u l.job.date) old.history new.history l.outcome) opened.origin told;
+          line = subst (λ (u : List ℕ). IsJobOutcome id_of (input_of of_jobs job) (attempt loader u l.job.date) old.history new.history l.outcome) opened.origin told;
         }
 
     pub each_job : (jobs : List Job) (loads : List (OneLoad S)) (old new : Kept D) → Open sources opened_by jobs loads → AreGivenBack sources opened_by.failures_now after (map (λ l. l.after) loads)

@@ -1,7 +1,7 @@
 -- What stands at the path of a job file: one list of jobs, or one first line that breaks.
 use Rattle.std.proofs.Common.{◌≡◌, ◌⊎◌, inl, inr, ℕ, Some, None, List, refl, sym, ap, ◌∙◌, subst}
 use Rattle.swh_jobs.specs.Job.{Job}
-use Rattle.swh_jobs.specs.JobFile.{IsJobFile, IsFault}
+use Rattle.swh_jobs.specs.JobFile.{IsJobFile, IsJobFileFault}
 use Rattle.swh_jobs.specs.declared.fault.JobWhy.{JobWhy}
 use Rattle.swh_jobs.proofs.Exact.{one_reading_lem, one_fault_lem, no_jobs_lem}
 use Rattle.swh_program.specs.Seen.{FileAt}
@@ -34,7 +34,7 @@ module _ (desk_at : FileAt) (path : List ℕ) where
   -- the text that tells a first line that breaks
   bad_text : (line : ℕ) (why : JobWhy) (text : List ℕ) → IsBadAt desk_at path line why → TellsBadJob desk_at path text → text ≡ bad_job_line line why
   bad_text line why text b told =
-      let one = one_fault_lem b.bytes told.line line told.why why (subst (λ (t : List ℕ). IsFault t told.line told.why) (same_bytes told.bad.bytes b.bytes told.bad.there b.there) told.bad.fault) b.fault in
+      let one = one_fault_lem b.bytes told.line line told.why why (subst (λ (t : List ℕ). IsJobFileFault t told.line told.why) (same_bytes told.bad.bytes b.bytes told.bad.there b.there) told.bad.fault) b.fault in
       told.text_is ∙ ap (λ (n : ℕ). bad_job_line n told.why) one.0 ∙ ap (bad_job_line line) one.1
 
   -- why a job file is refused, by the answer

@@ -96,7 +96,7 @@ told_status ending.Wanting = inl (omega arith)
 told_status ending.OutsideDisk = inr (omega arith)
 told_status ending.Memory = inr (omega arith)
 
--- the line ends with nothing behind it
+-- the line ends with nothing after it
 pub line_alone : (text : List ℕ) (end : Ending) → status_for end < 2 → text ++ last_line_for end ≡ text
 line_alone text ending.Done less = append-nil text
 line_alone text ending.Wanting less = append-nil text

@@ -11,12 +11,12 @@ use Rattle.swh_jobs.specs.JobFile.{AreDistinct, origins}
 use Rattle.swh_model.specs.declared.event.Event.{Event}
 use Rattle.swh_model.specs.Archive.{empty_archive}
 use Rattle.swh_model.specs.Coding.{AreCodable}
-use Rattle.swh_model.specs.Meaning.{Made as MadeObject, Making}
+use Rattle.swh_model.specs.Meaning.{Made as MadeObject, StreamMeaning}
 use Rattle.swh_model.specs.Step.{IsHistory, replay}
 use Rattle.swh_base.specs.Visit.{Statuses}
 use Rattle.swh_fastload.specs.Making.{made}
 use Rattle.swh_model.proofs.Histories.{fronts}
-use Rattle.swh_loader.specs.Adding.{Attempt, attempt, opening}
+use Rattle.swh_loader.specs.Adding.{Attempt, attempt, open_event}
 use Rattle.swh_loader.specs.Ending.{statuses_of}
 use Rattle.swh_loader.specs.Leaving.{AddsVisit, next_visit}
 use Rattle.swh_loader.specs.Report.{report_of}
@@ -30,9 +30,9 @@ use Rattle.swh_loader.specs.declared.fault.LoadWhy.TheVariants as why
 use Rattle.swh_loader.specs.declared.fault.LoadFault.{LoadFault}
 use Rattle.swh_loader.proofs.Marks.{others, others_none, others_most, ended_most}
 use Rattle.swh_loader.proofs.Room.{HasRoomLeft, room_after, none_meets_end}
-use Rattle.swh_program.specs.Complete.{AreMade, HasAllMade, HasBody, HasOneBody}
+use Rattle.swh_program.specs.Complete.{AreMade, HasAllMade, HasBodyOrMakes, HasOneBody}
 use Rattle.swh_program.specs.Exact.{line_for, lines_for, ending_of_ends, MeansSnapshot, IsEndFor, IsExactEnd, AreExactEnds}
-use Rattle.swh_program.specs.Inputs.{Inputs, input_of, loader, IsInputEnd, MeetsEnd, StopsFor, StopsVisit, IsOutcome}
+use Rattle.swh_program.specs.Inputs.{Inputs, input_of, loader, IsInputEnd, MeetsEnd, StopsJobFor, StopsVisit, IsJobOutcome}
 use Rattle.swh_program.specs.Lines.{LoadedJob, outcomes, load_line, ending_of_end, ending_of_why, ending_for, ending_of_all, worse}
 use Rattle.swh_program.specs.Load.{IsOfJob, AreJobLoads}
 use Rattle.swh_program.specs.declared.answer.Ending.{Ending}
@@ -121,10 +121,10 @@ module _ (id_of : Kind → List ℕ → List ℕ) (of_jobs : Inputs) (told : of_
     had_load : (date : ℕ) (h h' : List Event) → IsHistory id_of h' → AddsVisit Allowed (attempt loader job.url date) h h' → HadBefore h → HadBefore h'
     had_load date h h' history adds had = had_after id_of objects (replay before).bodies (attempt loader job.url date) h h' history (of_load date h h' adds) had
 
-    wider : (making : Making) → ((o : MadeObject) → Contains making.objects o → Contains objects o) → HasOneBody id_of (replay before).bodies making.objects
+    wider : (making : StreamMeaning) → ((o : MadeObject) → Contains making.objects o → Contains objects o) → HasOneBody id_of (replay before).bodies making.objects
     wider making more = record { one = λ name a b x y. one.one name a b (has_more name a x) (has_more name b y) }
       where
-        has_more : (name : Name) (body : List ℕ) → HasBody id_of (replay before).bodies making.objects name body → HasBody id_of (replay before).bodies objects name body
+        has_more : (name : Name) (body : List ℕ) → HasBodyOrMakes id_of (replay before).bodies making.objects name body → HasBodyOrMakes id_of (replay before).bodies objects name body
         has_more name body (inl held) = inl held
         has_more name body (inr makes) = inr (more (record { kind = name.kind; body = body }) makes.0, makes.1)
 
@@ -144,21 +144,21 @@ module _ (id_of : Kind → List ℕ → List ℕ) (of_jobs : Inputs) (told : of_
       stopped_most : (fault : LoadFault) → StopsVisit id_of (input_of of_jobs job) t h h' fault → others made_adds.more ≤ 2
       stopped_most fault stops = ⊎_elim
           (λ (once : (fault.visit ≡ 0) × (h' ≡ h)). let none = others_none (AreMade id_of objects) t h h' made_adds once.1 in omega (arith, none))
-          (λ (later_on : (fault.visit ≡ next_visit h job.url) × (more : List Event) × (h' ≡ h ++ opening t ∷ more) × IsOpen h' t fault.visit).
+          (λ (later_on : (fault.visit ≡ next_visit h job.url) × (more : List Event) × (h' ≡ h ++ open_event t ∷ more) × IsOpen h' t fault.visit).
           let open_ = later_on.3 in
           let most = most_by fault.visit open_.statuses later_on.0 open_.visit in
           let few = open_.few in
           omega (arith, most, few))
           stops.visit
 
-      outcome_most : (outcome : Result Loaded LoadFault) → IsOutcome id_of (input_of of_jobs job) t h h' outcome → others made_adds.more ≤ 3
+      outcome_most : (outcome : Result Loaded LoadFault) → IsJobOutcome id_of (input_of of_jobs job) t h h' outcome → others made_adds.more ≤ 3
       outcome_most (Ok l) line =
           let most = most_by l.visit ((Created, None) ∷ statuses_of l.end) line.number line.visit in
           let three = ended_most l.end in
           omega (arith, most, three)
       outcome_most (Err f) line = let most = stopped_most f line in omega (arith, most)
 
-      room_left : (outcome : Result Loaded LoadFault) (marks left : ℕ) → IsOutcome id_of (input_of of_jobs job) t h h' outcome → 3 + left ≤ marks → HasRoomLeft id_of objects h marks → HasRoomLeft id_of objects h' left
+      room_left : (outcome : Result Loaded LoadFault) (marks left : ℕ) → IsJobOutcome id_of (input_of of_jobs job) t h h' outcome → 3 + left ≤ marks → HasRoomLeft id_of objects h marks → HasRoomLeft id_of objects h' left
       room_left outcome marks left line enough room =
           let most = outcome_most outcome line in
           room_after id_of objects t h h' later marks left history fits made_adds (omega (arith, most, enough)) room
@@ -176,7 +176,7 @@ module _ (id_of : Kind → List ℕ → List ℕ) (of_jobs : Inputs) (told : of_
       end_exact (Full snapshot) is =
           let t = is told in
           let full = t.2 in
-          let making : Making = record { objects = made full.objects; snapshot = snapshot } in
+          let making : StreamMeaning = record { objects = made full.objects; snapshot = snapshot } in
           let means : MeansSnapshot id_of job.head (replay before).bodies t.0 snapshot =
           record { making = making; means = full.means.meaning; one = wider making (within t.0 t.1 making full.means.meaning); snapshot_is = refl } in
           inl (subst (λ (found : Option (List ℕ)). IsEndFor id_of job.head (replay before).bodies found (Full snapshot)) (sym t.1) means)
@@ -191,21 +191,21 @@ module _ (id_of : Kind → List ℕ → List ℕ) (of_jobs : Inputs) (told : of_
 
       -- why it stopped
       stop_done : (fault : LoadFault) (marks : ℕ) → 3 ≤ marks → HasRoomLeft id_of objects h marks → StopsVisit id_of (input_of of_jobs job) t h h' fault
-          → (reason : LoadWhy) → StopsFor id_of (input_of of_jobs job) t h h' reason → (ending_of_why reason ≡ ending.OutsideDisk → ⊥) → ending_of_why reason ≡ ending.Memory
+          → (reason : LoadWhy) → StopsJobFor id_of (input_of of_jobs job) t h h' reason → (ending_of_why reason ≡ ending.OutsideDisk → ⊥) → ending_of_why reason ≡ ending.Memory
       stop_done fault marks enough room at (why.Ended status) stops apart = absurd stops
       stop_done fault marks enough room at why.DiskFault stops apart = absurd (apart refl)
       stop_done fault marks enough room at why.Wounded stops apart = absurd (apart refl)
       stop_done fault marks enough room at (why.Limit which number) stops apart = absurd (none_met fault marks which number at enough room stops)
       stop_done fault marks enough room at why.Memory stops apart = refl
 
-      one_done : (outcome : Result Loaded LoadFault) (marks : ℕ) → 3 ≤ marks → HasRoomLeft id_of objects h marks → IsOutcome id_of (input_of of_jobs job) t h h' outcome
+      one_done : (outcome : Result Loaded LoadFault) (marks : ℕ) → 3 ≤ marks → HasRoomLeft id_of objects h marks → IsJobOutcome id_of (input_of of_jobs job) t h h' outcome
           → (ending_for outcome ≡ ending.OutsideDisk → ⊥) → IsOneDone job outcome
       one_done (Ok l) marks enough room line apart =
           let count : l.visit ≡ next_visit before job.url = line.number ∙ next in
           inr (record { end = l.end; is_end = end_exact l.end line.end; ending_is = refl; line_is = λ i. report_of job.url (Ok (record { visit = count i; end = l.end })) })
       one_done (Err f) marks enough room line apart = inl (stop_done f marks enough room line f.why line.stops apart)
 
-  -- a load leaves the next visits of the jobs behind it
+  -- a load leaves the next visits of the jobs after it
   others_next : (P : List Entry → Type 0) (origin : List ℕ) (date : ℕ) (h h' : List Event) → IsHistory id_of h' → AddsVisit P (attempt loader origin date) h h' → (jobs : List Job)
       → (Contains (origins jobs) origin → ⊥) → AllByRecursion (IsNextAt h) jobs → AllByRecursion (IsNextAt h') jobs
   others_next P origin date h h' history adds [] apart next = tt
@@ -244,7 +244,7 @@ module _ (id_of : Kind → List ℕ → List ℕ) (of_jobs : Inputs) (told : of_
       let here : IsHistory id_of between = (fronts id_of empty_archive between rest.0 (subst (IsHistory id_of) rest.1 history)).0 in
       let fits_here : AreCodable 0 (between ++ rest.0) = subst (AreCodable 0) rest.1 fits in
       let adds = subst (λ (j : Job). AddsVisit (IsOfJob id_of of_jobs j) (attempt loader j.url l.date) h between) same each.1.nothing_else in
-      let line = subst (λ (j : Job). IsOutcome id_of (input_of of_jobs j) (attempt loader j.url l.date) h between l.outcome) same each.1.line in
+      let line = subst (λ (j : Job). IsJobOutcome id_of (input_of of_jobs j) (attempt loader j.url l.date) h between l.outcome) same each.1.line in
       let had_here = had_load job among.0 l.date h between here adds had in
       let marks = length (job ∷ jobs) * 3 in
       let room_here = room_left job among.0 l.date h between rest.0 here fits_here adds had_here next.0 good.0 l.outcome marks (length jobs * 3) line (omega arith) room in

@@ -5,7 +5,7 @@ use Rattle.swh_base.specs.declared.kind.Kind.{Kind}
 use Rattle.swh_outside.specs.Views.{Disks}
 use Rattle.swh_outside.specs.Files.{Files, files_done}
 use Rattle.swh_outside.proofs.Numbered.{files_done-append}
-use Rattle.swh_segment.specs.Makes.{EitherRose}
+use Rattle.swh_segment.specs.Makes.{ADiskFailed}
 use Rattle.swh_segment.specs.Making.{barriers}
 use Rattle.swh_model.specs.declared.event.Event.{Event}
 use Rattle.swh_model.specs.Archive.{Archive, empty_archive, visits_of}
@@ -14,9 +14,9 @@ use Rattle.swh_model.specs.Step.{IsHistory, MayAll, after_all, replay, visit_at}
 use Rattle.swh_model.proofs.Growing.{bodies_grow, visits_grow}
 use Rattle.swh_model.proofs.Histories.{fronts}
 use Rattle.swh_model.proofs.Sounds.{all-sound, empty-sound}
-use Rattle.swh_keeper.specs.Kept.{Kept, IsKept, AreStanding, AreInDoubt}
+use Rattle.swh_keeper.specs.Kept.{Kept, IsKept, AreStanding, MayHoldOneMore}
 use Rattle.swh_jobs.specs.Job.{Job}
-use Rattle.swh_loader.specs.Calls.{all_calls, kept_files, BreaksAt, MakesCalls}
+use Rattle.swh_loader.specs.Calls.{all_calls, kept_files, BreaksAtEvent, MakesCalls}
 use Rattle.swh_pool.specs.Stops.{HaveNoDiskFault}
 use Rattle.swh_program.specs.Answers.{TellsDisk}
 use Rattle.swh_program.specs.Inputs.{Inputs}
@@ -75,7 +75,7 @@ module _ {D : Type 0} (g : Givens) (disks : Disks D) where
     leaves_disks : (loads : List LoadedJob) → (now.wounded ≡ None → HaveNoDiskFault (outcomes loads)) → (HaveNoDiskFault (outcomes loads) → now.wounded ≡ None) → g.disks_tell → LeavesDisks g.id_of (new 0) (new 1) now.history (outcomes loads)
     leaves_disks loads none_of none t = record {
       standing = λ no_fault. subst (λ (f : Files). AreStanding (f 0) (f 1) now.history) (sym (taken t)) (kept.standing (none no_fault) (told t));
-      doubt = λ fault. subst (λ (f : Files). AreInDoubt g.id_of (f 0) (f 1) now.history) (sym (taken t))
+      doubt = λ fault. subst (λ (f : Files). MayHoldOneMore g.id_of (f 0) (f 1) now.history) (sym (taken t))
           (let w = wounded_by now.wounded (λ e. fault (none_of e)) in kept.doubt w.0 w.1 (told t));
     }
 
@@ -90,8 +90,8 @@ module _ {D : Type 0} (g : Givens) (disks : Disks D) where
           made = λ no_fault. taken t ∙ calls.calls.made (none no_fault ∙ sym unwounded) ∙ plan;
           broken = λ fault.
               let w = wounded_by now.wounded (λ e. fault (none_of e)) in
-              subst (λ (f : Files). BreaksAt g.id_of (Next loads) now.history (files_done (barriers ++ all_calls was.history calls.more) old) f) (sym (taken t))
-              (subst (λ (f : Files). BreaksAt g.id_of (Next loads) now.history f (kept_files disks.file now)) plan (calls.calls.broken unwounded w.0 w.1));
+              subst (λ (f : Files). BreaksAtEvent g.id_of (Next loads) now.history (files_done (barriers ++ all_calls was.history calls.more) old) f) (sym (taken t))
+              (subst (λ (f : Files). BreaksAtEvent g.id_of (Next loads) now.history f (kept_files disks.file now)) plan (calls.calls.broken unwounded w.0 w.1));
         }
 
     loaded_files : (loads : List LoadedJob) → AreKeptLoads g disks loads was now → IsLoad g old new loads
@@ -122,7 +122,7 @@ module _ {D : Type 0} (g : Givens) (disks : Disks D) where
     run_files jobs answer (inr none) = inr (unstarted answer none.0 (λ t. taken t ∙ ap (kept_files disks.file) none.1 ∙ opened t))
 
   pub run_disk : (was now : Kept D) (jobs : List Job) (answer : Answer)
-      → IsKeptRun g disks was now jobs answer → TellsDisk answer → EitherRose (disks.faults was.store) (disks.faults now.store) (disks.faults was.ledger) (disks.faults now.ledger)
+      → IsKeptRun g disks was now jobs answer → TellsDisk answer → ADiskFailed (disks.faults was.store) (disks.faults now.store) (disks.faults was.ledger) (disks.faults now.ledger)
   run_disk was now jobs answer (inl run) is = run.load.rose (told_disk run.loads answer run.told is)
   run_disk was now jobs answer (inr none) is = absurd (not_disk answer none.0 is)
 

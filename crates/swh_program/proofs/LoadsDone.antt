@@ -8,7 +8,7 @@ use Rattle.swh_outside.specs.Files.{Files}
 use Rattle.swh_jobs.specs.Job.{Job}
 use Rattle.swh_model.specs.declared.event.Event.{Event}
 use Rattle.swh_model.specs.Archive.{Bodies, body_of}
-use Rattle.swh_model.specs.Meaning.{Made as MadeObject, Making, IsMeaning}
+use Rattle.swh_model.specs.Meaning.{Made as MadeObject, StreamMeaning, IsMeaning}
 use Rattle.swh_model.specs.Step.{replay}
 use Rattle.swh_fastload.proofs.Loads.{one_meaning_lem}
 use Rattle.swh_loader.specs.Leaving.{next_visit}
@@ -19,7 +19,7 @@ use Rattle.swh_loader.specs.declared.end.End.{End}
 use Rattle.swh_loader.specs.declared.end.End.TheVariants.{Full, NotFound, Failed}
 use Rattle.swh_program.specs.Seen.{FileAt}
 use Rattle.swh_program.specs.Answers.{TellsDisk, status_of, status_for, last_line_for, printed_by}
-use Rattle.swh_program.specs.Complete.{MeantJob, jobs_of, full_lines, all_made, IsMeant, AreMeant, HasAllMade, HasBody, HasOneBody, HasRoom, AreQuiet}
+use Rattle.swh_program.specs.Complete.{MeantJob, jobs_of_meant, full_lines, all_made, IsMeant, AreMeant, HasAllMade, HasBodyOrMakes, HasOneBody, HasRoomForLoads, AreQuiet}
 use Rattle.swh_program.specs.Exact.{line_for, lines_for, ending_of_ends, MeansCollision, IsEndFor, IsExactEnd, AreExactEnds, IsExact}
 use Rattle.swh_program.specs.Jobs.{AreJobsAt}
 use Rattle.swh_program.specs.Inputs.{Inputs}
@@ -46,7 +46,7 @@ no_disk_told loads text end tells apart e = apart (tells.end_is ∙ e)
 -- a run of `load`
 module _ (g : Givens) (desk_at : FileAt) (inputs : g.inputs.tell) (disks : g.disks_tell)
     (path : List ℕ) (before : List Event) (jobs : List Job) (objects : List MadeObject) (old new : Files) (archive : IsArchive g.id_of old before) (there : AreJobsAt desk_at path jobs)
-    (has : HasAllMade g.id_of g.inputs.at jobs objects) (one : HasOneBody g.id_of (replay before).bodies objects) (room : HasRoom g.id_of before jobs objects) where
+    (has : HasAllMade g.id_of g.inputs.at jobs objects) (one : HasOneBody g.id_of (replay before).bodies objects) (room : HasRoomForLoads g.id_of before jobs objects) where
   abbrev Exactly : Answer → Type 0
   Exactly answer = IsExact g.id_of g.inputs (replay before) jobs answer
 
@@ -59,7 +59,7 @@ module _ (g : Givens) (desk_at : FileAt) (inputs : g.inputs.tell) (disks : g.dis
         let lines : text ≡ lines_for (replay before) jobs done.ends = tells.text_is ∙ done.lines_are in
         inr (record { ends = done.ends; are = done.are_ends; is = λ i. Told (lines i) (finished i) })
 
-  -- behind the history at entry
+  -- after the history at entry
   next_same : (h : List Event) → h ≡ before → (js : List Job) → AllByRecursion (λ job. next_visit h job.url ≡ next_visit before job.url) js
   next_same h same [] = tt
   next_same h same (job ∷ js) = (ap (λ (g : List Event). next_visit g job.url) same, next_same h same js)
@@ -105,22 +105,22 @@ module _ (g : Givens) (desk_at : FileAt) (inputs : g.inputs.tell) (disks : g.dis
 
 -- Jobs whose inputs are there and mean something.
 module _ (id_of : Kind → List ℕ → List ℕ) (of_jobs : Inputs) where
-  this_making : (m : MeantJob) → IsMeant id_of of_jobs.at m → (text : List ℕ) (making : Making) → of_jobs.at m.job.path ≡ Some text → IsMeaning id_of m.job.head text making → making ≡ m.making
+  this_making : (m : MeantJob) → IsMeant id_of of_jobs.at m → (text : List ℕ) (making : StreamMeaning) → of_jobs.at m.job.path ≡ Some text → IsMeaning id_of m.job.head text making → making ≡ m.making
   this_making m meant text making is means =
       let both : Some text ≡ Some meant.text = sym is ∙ meant.there in
       let same : text ≡ meant.text = cc in
       one_meaning_lem id_of m.job.head meant.text making m.making (subst (λ (t : List ℕ). IsMeaning id_of m.job.head t making) same means) meant.means
 
   -- what they make
-  pub meant_all_made : (meant : List MeantJob) → AreMeant id_of of_jobs.at meant → HasAllMade id_of of_jobs.at (jobs_of meant) (all_made meant)
+  pub meant_all_made : (meant : List MeantJob) → AreMeant id_of of_jobs.at meant → HasAllMade id_of of_jobs.at (jobs_of_meant meant) (all_made meant)
   meant_all_made meant are = record { has = λ job text making among is means o made. has job text making o is means made (from_map (λ (m : MeantJob). m.job) meant job among) }
     where
-      has : (job : Job) (text : List ℕ) (making : Making) (o : MadeObject) → of_jobs.at job.path ≡ Some text → IsMeaning id_of job.head text making → Contains making.objects o
+      has : (job : Job) (text : List ℕ) (making : StreamMeaning) (o : MadeObject) → of_jobs.at job.path ≡ Some text → IsMeaning id_of job.head text making → Contains making.objects o
           → (m : MeantJob) × Contains meant m × (m.job ≡ job) → Contains (all_made meant) o
       has job text making o is means made from =
           let m = from.0 in
           let same = this_making m (at_element (IsMeant id_of of_jobs.at) meant m are from.1) text making (subst (λ (j : Job). of_jobs.at j.path ≡ Some text) (sym from.2) is) (subst (λ (j : Job). IsMeaning id_of j.head text making) (sym from.2) means) in
-          flat_contains (λ (k : MeantJob). k.making.objects) meant m o from.1 (subst (λ (k : Making). Contains k.objects o) same made)
+          flat_contains (λ (k : MeantJob). k.making.objects) meant m o from.1 (subst (λ (k : StreamMeaning). Contains k.objects o) same made)
 
   -- where none of their paths has failed, and no name has two bodies
   module _ (before : List Event) (all : List MeantJob) (one : HasOneBody id_of (replay before).bodies (all_made all)) where
@@ -128,11 +128,11 @@ module _ (id_of : Kind → List ℕ → List ℕ) (of_jobs : Inputs) where
     bodies = (replay before).bodies
 
     module _ (m : MeantJob) (among : Contains all m) (meant : IsMeant id_of of_jobs.at m) where
-      has_more : (making : Making) → making ≡ m.making → (name : Name) (body : List ℕ) → HasBody id_of bodies making.objects name body → HasBody id_of bodies (all_made all) name body
+      has_more : (making : StreamMeaning) → making ≡ m.making → (name : Name) (body : List ℕ) → HasBodyOrMakes id_of bodies making.objects name body → HasBodyOrMakes id_of bodies (all_made all) name body
       has_more making same name body (inl held) = inl held
       has_more making same name body (inr makes) =
           let object : MadeObject = record { kind = name.kind; body = body } in
-          inr (flat_contains (λ (k : MeantJob). k.making.objects) all m object among (subst (λ (k : Making). Contains k.objects object) same makes.0), makes.1)
+          inr (flat_contains (λ (k : MeantJob). k.making.objects) all m object among (subst (λ (k : StreamMeaning). Contains k.objects object) same makes.0), makes.1)
 
       no_collision : (name : Name) → MeansCollision id_of m.job.head bodies meant.text name → ⊥
       no_collision name c =
@@ -141,7 +141,7 @@ module _ (id_of : Kind → List ℕ → List ℕ) (of_jobs : Inputs) where
 
       -- each is full
       end_full : (end : End) → IsEndFor id_of m.job.head bodies (Some meant.text) end → end ≡ Full m.making.snapshot
-      end_full (Full snapshot) is = ap Full (is.snapshot_is ∙ ap (λ (k : Making). k.snapshot) (one_meaning_lem id_of m.job.head meant.text is.making m.making is.means meant.means))
+      end_full (Full snapshot) is = ap Full (is.snapshot_is ∙ ap (λ (k : StreamMeaning). k.snapshot) (one_meaning_lem id_of m.job.head meant.text is.making m.making is.means meant.means))
       end_full NotFound is = absurd is
       end_full (Failed (Stream at why)) is = absurd (is.2 m.making meant.means)
       end_full (Failed (Collision name)) is = absurd (no_collision name is)
@@ -152,8 +152,8 @@ module _ (id_of : Kind → List ℕ → List ℕ) (of_jobs : Inputs) where
       exact_full quiet end (inr read) = absurd (quiet read.1)
 
     -- and its line says it
-    all_full : (ms : List MeantJob) → AllByRecursion (Contains all) ms → AreMeant id_of of_jobs.at ms → AreQuiet of_jobs.failures of_jobs.failures_now ms → (ends : List End) → AreExactEnds id_of of_jobs (replay before) (jobs_of ms) ends
-        → (ending_of_ends ends ≡ ending.Done) × (lines_for (replay before) (jobs_of ms) ends ≡ full_lines before ms)
+    all_full : (ms : List MeantJob) → AllByRecursion (Contains all) ms → AreMeant id_of of_jobs.at ms → AreQuiet of_jobs.failures of_jobs.failures_now ms → (ends : List End) → AreExactEnds id_of of_jobs (replay before) (jobs_of_meant ms) ends
+        → (ending_of_ends ends ≡ ending.Done) × (lines_for (replay before) (jobs_of_meant ms) ends ≡ full_lines before ms)
     all_full [] among are quiet [] exact = (refl, refl)
     all_full [] among are quiet (end ∷ ends) exact = absurd exact
     all_full (m ∷ ms) among are quiet [] exact = absurd exact
@@ -162,7 +162,7 @@ module _ (id_of : Kind → List ℕ → List ℕ) (of_jobs : Inputs) where
         let rest = all_full ms among.1 are.1 quiet.1 ends exact.1 in
         (λ i. worse (ending_of_end (full i)) (rest.0 i), λ i. line_for (replay before) m.job (full i) ++ rest.1 i)
 
-    pub load_done : AreMeant id_of of_jobs.at all → AreQuiet of_jobs.failures of_jobs.failures_now all → (answer : Answer) → IsExact id_of of_jobs (replay before) (jobs_of all) answer → Tells (full_lines before all) 0 answer
+    pub load_done : AreMeant id_of of_jobs.at all → AreQuiet of_jobs.failures of_jobs.failures_now all → (answer : Answer) → IsExact id_of of_jobs (replay before) (jobs_of_meant all) answer → Tells (full_lines before all) 0 answer
     load_done are quiet answer (inl memory) = inl memory
     load_done are quiet answer (inr exact) =
         let full = all_full all (each_among all) are quiet exact.ends exact.are in

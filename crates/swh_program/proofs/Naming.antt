@@ -7,7 +7,7 @@ use Rattle.swh_base.specs.declared.kind.Kind.{Kind}
 use Rattle.swh_program.specs.Answers.{status_of}
 use Rattle.swh_program.specs.Run.{IsExactly}
 use Rattle.swh_program.specs.Refusal.{refusal}
-use Rattle.swh_program.specs.IdentifyCommand.{name_of, name_line, TellsLine, IsBody, IsTooLong, IsRefused, HasNoBody, TellsFile, IsIdentifyAnswer, IdentifyEnds}
+use Rattle.swh_program.specs.IdentifyCommand.{name_of_bytes, name_line, TellsLine, IsBody, IsAboveBodyLimit, RefusesBytes, HasNoBody, TellsFile, IsIdentifyAnswer, IdentifyEnds}
 use Rattle.swh_program.specs.declared.answer.Ending.{Ending}
 use Rattle.swh_program.specs.declared.answer.Ending.TheVariants as ending
 use Rattle.swh_program.specs.declared.answer.Answer.{Answer}
@@ -40,7 +40,7 @@ module _ (id_of : Kind → List ℕ → List ℕ) (kind : Kind) where
   -- a file above the limit is told of, whatever its bytes
   pub limit_one : (n : ℕ) → body_limit < n → (answer : Answer) → TellsLine (refusal (codes "limit body")) ending.Wanting answer → IsIdentifyAnswer id_of kind answer
   limit_one n more answer told =
-      let long : IsTooLong (replicate n 0) (refusal (codes "limit body")) = record { long = subst (λ (m : ℕ). body_limit < m) (sym (length-replicate n 0)) more; text_is = refl } in
+      let long : IsAboveBodyLimit (replicate n 0) (refusal (codes "limit body")) = record { long = subst (λ (m : ℕ). body_limit < m) (sym (length-replicate n 0)) more; text_is = refl } in
       ends_one (Some (replicate n 0)) answer (told_file (Some (replicate n 0)) (refusal (codes "limit body")) ending.Wanting answer (inl long) told)
 
   -- it is never refused for words, a job or an archive
@@ -50,7 +50,7 @@ module _ (id_of : Kind → List ℕ → List ℕ) (kind : Kind) where
   identify_statuses Memory is = inr (omega arith)
   identify_statuses _ is = absurd is
 
-  no_body : (bytes text : List ℕ) → IsTooLong bytes text ⊎ IsRefused kind bytes text → IsBody kind bytes → ⊥
+  no_body : (bytes text : List ℕ) → IsAboveBodyLimit bytes text ⊎ RefusesBytes kind bytes text → IsBody kind bytes → ⊥
   no_body bytes text (inl long) body = let short = body.short in let more = long.long in omega (arith, short, more)
   no_body bytes text (inr refused) body = refused.unformed body.formed
 
@@ -71,17 +71,17 @@ module _ (id_of : Kind → List ℕ → List ℕ) (kind : Kind) where
 
   -- a body of the kind is named, or memory runs out, where the desk did not fail
   module _ (bytes : List ℕ) (body : IsBody kind bytes) where
-    told_name : (text : List ℕ) (end : Ending) → TellsFile id_of kind (Some bytes) end text → Tells (name_line (name_of id_of kind bytes)) 0 (Told text end)
+    told_name : (text : List ℕ) (end : Ending) → TellsFile id_of kind (Some bytes) end text → Tells (name_line (name_of_bytes id_of kind bytes)) 0 (Told text end)
     told_name text ending.Done tells = inr (refl, append-nil text ∙ tells.text_is)
     told_name text ending.Wanting tells = absurd (no_body bytes text tells body)
     told_name text ending.OutsideDisk tells = absurd tells
     told_name text ending.Memory tells = absurd tells
 
-    body_named : (answer : Answer) → answer ≢ OutsideSource → IdentifyEnds id_of kind (Some bytes) answer → Tells (name_line (name_of id_of kind bytes)) 0 answer
+    body_named : (answer : Answer) → answer ≢ OutsideSource → IdentifyEnds id_of kind (Some bytes) answer → Tells (name_line (name_of_bytes id_of kind bytes)) 0 answer
     body_named (Told text end) no_source ends = told_name text end ends
     body_named OutsideSource no_source ends = absurd (no_source refl)
     body_named Memory no_source ends = inl refl
     body_named _ no_source ends = absurd ends
 
-    pub named : (found : Option (List ℕ)) (answer : Answer) → found ≡ Some bytes → answer ≢ OutsideSource → IdentifyEnds id_of kind found answer → Tells (name_line (name_of id_of kind bytes)) 0 answer
+    pub named : (found : Option (List ℕ)) (answer : Answer) → found ≡ Some bytes → answer ≢ OutsideSource → IdentifyEnds id_of kind found answer → Tells (name_line (name_of_bytes id_of kind bytes)) 0 answer
     named found answer is no_source ends = body_named answer no_source (subst (λ (f : Option (List ℕ)). IdentifyEnds id_of kind f answer) is ends)

@@ -10,7 +10,7 @@ use Rattle.swh_segment.specs.Making.{IsMade, IsNotMade, barriers}
 use Rattle.swh_keeper.specs.Opening.{IsOpeningFault, IsLeftFor, IsTheHistory, IsDamaged as IsDamagedIn}
 use Rattle.swh_keeper.specs.declared.opening.OpenWhy.{OpenWhy}
 use Rattle.swh_keeper.specs.declared.opening.OpenWhy.TheVariants.{Made, NotMade, Damaged, DiskFault, Memory}
-use Rattle.swh_program.specs.Opening.{IsArchive, IsOnlyOpened, OpenEnds, refusal_for}
+use Rattle.swh_program.specs.Opening.{IsArchive, IsOnlyOpened, OpenEnds, opening_refusal}
 
 module _ (id_of : Kind → List ℕ → List ℕ) (ledger store : File) (old : Files) (given : files_of ledger store ≡ old) where
   ledger_seen : ledger.seen ≡ (old 0).seen
@@ -43,7 +43,7 @@ module _ (id_of : Kind → List ℕ → List ℕ) (ledger store : File) (old : F
 
   pub refused_here : (why : OpenWhy) (new taken : Files) → taken ≡ new → IsOpeningFault why → (why ≡ NotMade → IsNotMade ledger.seen)
       → (why ≡ Damaged → IsDamagedIn id_of ledger.seen store.seen)
-      → IsLeftFor why (files_of ledger store) new → OpenEnds id_of old taken (refusal_for why)
+      → IsLeftFor why (files_of ledger store) new → OpenEnds id_of old taken (opening_refusal why)
   refused_here Made new taken e fault not_made damaged left = absurd fault
   refused_here NotMade new taken e fault not_made damaged left = (subst IsNotMade ledger_seen (not_made refl), opened_here taken (e ∙ left))
   refused_here Damaged new taken e fault not_made damaged left =

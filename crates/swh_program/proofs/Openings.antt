@@ -7,8 +7,8 @@ use Rattle.swh_base.specs.Text.{IsRef}
 use Rattle.swh_outside.specs.Views.{Sources}
 use Rattle.swh_outside.specs.declared.fault.Opened.{Opened}
 use Rattle.swh_outside.specs.declared.fault.Opened.TheVariants.{Found, NotFound, Failed, Memory}
-use Rattle.swh_jobs.specs.Answers.{job_of, jobs_of}
-use Rattle.swh_jobs.specs.Job.{Job, IsHead, IsJob}
+use Rattle.swh_jobs.specs.Answers.{job_of, owned_jobs}
+use Rattle.swh_jobs.specs.Job.{Job, IsHeadText, IsJob}
 use Rattle.swh_jobs.specs.declared.job.JobLine.{JobLine}
 use Rattle.swh_pool.specs.Loads.{HasHead}
 use Rattle.swh_pool.specs.declared.dated.DatedJob.{DatedJob}
@@ -67,7 +67,7 @@ dates_next {S} time opened o said is =
 pub times_next : {S : Type 0} (time : ℕ → ℕ) (opened : List (DatedJob S)) (o : DatedJob S) (k : ℕ) → time ((k + 1) + length opened) ≡ time (k + length (opened ++ o ∷ []))
 times_next time opened o k = ap time (let n = length-append opened (o ∷ []) in omega (arith, n))
 
-ref_of : (head : Option (List ℕ)) → IfSome head IsHead → IfSome head IsRef
+ref_of : (head : Option (List ℕ)) → IfSome head IsHeadText → IfSome head IsRef
 ref_of (Some head) is = is.is_ref
 ref_of None is = tt
 
@@ -118,7 +118,7 @@ module _ {S : Type 0} (sources : Sources S) (tells : Type 0) where
   pub record OpenedSoFar (files : FileAt) (before now : List ℕ → ℕ) (lines rest : List JobLine) (opened : List (DatedJob S)) : Type 0 where
     pub done : List JobLine
     pub cut : lines ≡ done ++ rest
-    pub are : OpenedJobs files before now (jobs_of done) opened
+    pub are : OpenedJobs files before now (owned_jobs done) opened
 
   pub opened_begins : (files : FileAt) (counts : List ℕ → ℕ) (lines : List JobLine) → OpenedSoFar files counts counts lines lines []
   opened_begins files counts lines = record { done = []; cut = refl; are = tt }
@@ -129,9 +129,9 @@ module _ {S : Type 0} (sources : Sources S) (tells : Type 0) where
     done = so_far.done ++ line ∷ [];
     cut = so_far.cut ∙ ap (λ (l : List JobLine). so_far.done ++ l) cut ∙ sym (append_assoc so_far.done (line ∷ []) rest');
     are = subst (λ (jobs : List Job). OpenedJobs files a c jobs (opened ++ o ∷ [])) (sym (map-append job_of so_far.done (line ∷ [])))
-        (jobs_more files a c (jobs_of so_far.done) opened (job_of line) o (jobs_within files a b c late (jobs_of so_far.done) opened so_far.are) (job_within files files' a b c c same early (λ p. omega arith) (job_of line) o is));
+        (jobs_more files a c (owned_jobs so_far.done) opened (job_of line) o (jobs_within files a b c late (owned_jobs so_far.done) opened so_far.are) (job_within files files' a b c c same early (λ p. omega arith) (job_of line) o is));
   }
 
-  pub opened_ends : (files : FileAt) (before now : List ℕ → ℕ) (lines rest : List JobLine) (opened : List (DatedJob S)) → rest ≡ [] → OpenedSoFar files before now lines rest opened → OpenedJobs files before now (jobs_of lines) opened
+  pub opened_ends : (files : FileAt) (before now : List ℕ → ℕ) (lines rest : List JobLine) (opened : List (DatedJob S)) → rest ≡ [] → OpenedSoFar files before now lines rest opened → OpenedJobs files before now (owned_jobs lines) opened
   opened_ends files before now lines rest opened none so_far =
-      subst (λ (l : List JobLine). OpenedJobs files before now (jobs_of l) opened) (sym (so_far.cut ∙ ap (λ (l : List JobLine). so_far.done ++ l) none ∙ append-nil so_far.done)) so_far.are
+      subst (λ (l : List JobLine). OpenedJobs files before now (owned_jobs l) opened) (sym (so_far.cut ∙ ap (λ (l : List JobLine). so_far.done ++ l) none ∙ append-nil so_far.done)) so_far.are

@@ -11,14 +11,14 @@ use Rattle.swh_model.specs.Archive.{Archive, empty_archive, visits_of}
 use Rattle.swh_model.specs.Step.{IsHistory, after, after_kind, after_all, replay}
 use Rattle.swh_model.proofs.Histories.{fronts}
 use Rattle.swh_model.proofs.Maps.{visits_cases}
-use Rattle.swh_loader.specs.Adding.{Attempt, opening, IsOwn, IsOwnKind}
+use Rattle.swh_loader.specs.Adding.{Attempt, open_event, IsOwn, IsOwnKind}
 use Rattle.swh_loader.specs.Leaving.{AddsVisit, AreOfVisit, next_visit}
 
 module _ (IsBatch : List Entry → Type 0) (t : Attempt) (url : List ℕ) (apart : url ≡ t.origin → ⊥) where
   abbrev Stay : Archive → Archive → Type 0
   Stay a b = visits_of b.origins url ≡ visits_of a.origins url
 
-  stay_open : (a : Archive) → Stay a (after a (opening t))
+  stay_open : (a : Archive) → Stay a (after a (open_event t))
   stay_open a = visits_cases a.origins t.origin _ url (λ (vs : List Visit). vs ≡ visits_of a.origins url) (λ at. absurd (apart at)) refl
 
   stay_kind : (a : Archive) (who number : ℕ) (what : EventKind) → IsOwnKind IsBatch t.origin number what → Stay a (after_kind a who what)

@@ -8,7 +8,7 @@ use Rattle.swh_program.specs.declared.answer.Ending.TheVariants as ending
 use Rattle.swh_program.specs.declared.answer.Answer.{Answer}
 use Rattle.swh_program.specs.declared.answer.Answer.TheVariants.{Made, Told, Words, NoJobFile, BadJob, AlreadyMade, NotMade, Damaged, OutsideDisk, OutsideSource, OutsideClock, Memory}
 
--- what is printed behind lines or replies
+-- what is printed after lines or replies
 abbrev pub last_line_for : Ending → List ℕ
 last_line_for ending.Done = []
 last_line_for ending.Wanting = []

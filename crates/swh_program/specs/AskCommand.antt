@@ -61,7 +61,7 @@ IsAskAnswer answer = IsOpenRefusal answer
 
 module _ (id_of : Kind → List ℕ → List ℕ) where
   -- The replies are those of the replay of the history for which the files stand, and nothing is written.
-  pub record IsAsked (old new : Files) (paths : List (List ℕ)) (text : List ℕ) (end : Ending) : Type 0 where
+  pub record RepliesToPaths (old new : Files) (paths : List (List ℕ)) (text : List ℕ) (end : Ending) : Type 0 where
     pub history : List Event
     pub archive : IsArchive id_of old history
     pub told : TellsArchive (replay history) paths text end
@@ -69,7 +69,7 @@ module _ (id_of : Kind → List ℕ → List ℕ) where
 
   -- how `ask` ends, by the files of its folder
   abbrev pub AskEnds : List (List ℕ) → Files → Files → Answer → Type 0
-  AskEnds paths old new (Told text end) = IsAsked old new paths text end
+  AskEnds paths old new (Told text end) = RepliesToPaths old new paths text end
   AskEnds paths old new answer = OpenEnds id_of old new answer
 
 -- This answer came of `ask`; the files of its folder are as it says, and no others changed.

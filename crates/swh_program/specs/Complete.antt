@@ -11,7 +11,7 @@ use Rattle.swh_model.specs.Answer.{line_of}
 use Rattle.swh_model.specs.Archive.{Bodies, body_of}
 use Rattle.swh_model.specs.Limits.{store_length, ledger_length}
 use Rattle.swh_base.specs.Limits.{file_limit}
-use Rattle.swh_model.specs.Meaning.{Made, Making, IsMeaning}
+use Rattle.swh_model.specs.Meaning.{Made, StreamMeaning, IsMeaning}
 use Rattle.swh_base.specs.Snapshot.{snapshot_name}
 use Rattle.swh_loader.specs.Leaving.{next_visit}
 use Rattle.swh_loader.specs.Room.{ledger_growth, store_growth}
@@ -21,11 +21,11 @@ use Rattle.swh_program.specs.Run.{IsQuiet}
 -- a job and what its input makes
 pub record MeantJob : Type 0 where
   pub job : Job
-  pub making : Making
+  pub making : StreamMeaning
 
 -- the jobs, without what their inputs make
-abbrev pub jobs_of : List MeantJob → List Job
-jobs_of meant = map (λ m. m.job) meant
+abbrev pub jobs_of_meant : List MeantJob → List Job
+jobs_of_meant meant = map (λ m. m.job) meant
 
 -- the line of a full job: its origin's next visit, and the snapshot that its input makes
 abbrev pub full_line : List Event → MeantJob → List ℕ
@@ -55,8 +55,8 @@ module _ (id_of : Kind → List ℕ → List ℕ) where
   MakesBody objects name body = Contains objects (record { kind = name.kind; body = body }) × (name.id ≡ id_of name.kind body)
 
   -- The body is held under this name, or it is made.
-  abbrev pub HasBody : Bodies → List Made → Name → List ℕ → Type 0
-  HasBody bodies objects name body = (body_of bodies name ≡ Some body) ⊎ MakesBody objects name body
+  abbrev pub HasBodyOrMakes : Bodies → List Made → Name → List ℕ → Type 0
+  HasBodyOrMakes bodies objects name body = (body_of bodies name ≡ Some body) ⊎ MakesBody objects name body
 
   -- Each of these is among the objects that are made, under its name.
   abbrev pub AreMade : List Made → List Entry → Type 0
@@ -64,16 +64,16 @@ module _ (id_of : Kind → List ℕ → List ℕ) where
 
   -- All that the inputs of these jobs make is among these objects.
   pub record HasAllMade (input_at : FileAt) (jobs : List Job) (objects : List Made) : Type 0 where
-    pub has : (job : Job) (text : List ℕ) (making : Making) → Contains jobs job → input_at job.path ≡ Some text → IsMeaning id_of job.head text making
+    pub has : (job : Job) (text : List ℕ) (making : StreamMeaning) → Contains jobs job → input_at job.path ≡ Some text → IsMeaning id_of job.head text making
         → (o : Made) → Contains making.objects o → Contains objects o
 
   -- No name has two bodies among those that are held and those that are made.
   pub record HasOneBody (bodies : Bodies) (objects : List Made) : Type 0 where
-    pub one : (name : Name) (a b : List ℕ) → HasBody bodies objects name a → HasBody bodies objects name b → a ≡ b
+    pub one : (name : Name) (a b : List ℕ) → HasBodyOrMakes bodies objects name a → HasBodyOrMakes bodies objects name b → a ≡ b
 
-  -- Behind the history at entry both files have room for the most that loads of these jobs add, whose inputs make these
+  -- After the history at entry both files have room for the most that loads of these jobs add, whose inputs make these
   -- objects.
-  pub record HasRoom (before : List Event) (jobs : List Job) (objects : List Made) : Type 0 where
+  pub record HasRoomForLoads (before : List Event) (jobs : List Job) (objects : List Made) : Type 0 where
     pub ledger : ledger_length before + ledger_growth (length jobs) objects ≤ file_limit
     pub store : store_length before + store_growth id_of objects ≤ file_limit
 

@@ -5,7 +5,7 @@ use Rattle.swh_base.specs.declared.kind.Kind.{Kind}
 use Rattle.swh_base.specs.declared.name.Name.{Name}
 use Rattle.swh_jobs.specs.Job.{Job}
 use Rattle.swh_model.specs.Archive.{Archive, Bodies, visits_of}
-use Rattle.swh_model.specs.Meaning.{Making, IsMeaning, IsLeftOut}
+use Rattle.swh_model.specs.Meaning.{StreamMeaning, IsMeaning, IsLeftOut}
 use Rattle.swh_loader.specs.Report.{report_of}
 use Rattle.swh_loader.specs.declared.end.StreamWhy.TheVariants.{LeftOut}
 use Rattle.swh_loader.specs.declared.end.BadInput.TheVariants.{Stream, Collision, Read}
@@ -13,7 +13,7 @@ use Rattle.swh_loader.specs.declared.end.End.{End}
 use Rattle.swh_loader.specs.declared.end.End.TheVariants.{Full, NotFound, Failed}
 use Rattle.swh_program.specs.Inputs.{Inputs, HasFailed}
 use Rattle.swh_program.specs.Answers.{status_of}
-use Rattle.swh_program.specs.Complete.{HasBody, HasOneBody}
+use Rattle.swh_program.specs.Complete.{HasBodyOrMakes, HasOneBody}
 use Rattle.swh_program.specs.Lines.{ending_of_end, worse}
 use Rattle.swh_program.specs.declared.answer.Ending.{Ending}
 use Rattle.swh_program.specs.declared.answer.Ending.TheVariants as ending
@@ -39,19 +39,19 @@ module _ (id_of : Kind → List ℕ → List ℕ) where
   -- With this head or none, the input means this snapshot, and no name has two bodies among what is held and what it
   -- makes.
   pub record MeansSnapshot (head : Option (List ℕ)) (bodies : Bodies) (text snapshot : List ℕ) : Type 0 where
-    pub making : Making
+    pub making : StreamMeaning
     pub means : IsMeaning id_of head text making
     pub one : HasOneBody id_of bodies making.objects
     pub snapshot_is : snapshot ≡ making.snapshot
 
   -- With this head or none, the input would put a second body under this name.
   pub record MeansCollision (head : Option (List ℕ)) (bodies : Bodies) (text : List ℕ) (name : Name) : Type 0 where
-    pub making : Making
+    pub making : StreamMeaning
     pub means : IsMeaning id_of head text making
     pub a : List ℕ
     pub b : List ℕ
-    pub has_a : HasBody id_of bodies making.objects name a
-    pub has_b : HasBody id_of bodies making.objects name b
+    pub has_a : HasBodyOrMakes id_of bodies making.objects name a
+    pub has_b : HasBodyOrMakes id_of bodies making.objects name b
     pub apart : a ≢ b
 
   -- The end of a visit that loads what stands at a path, with this head or none, where these bodies are held.

@@ -17,8 +17,8 @@ use Rattle.swh_program.specs.declared.answer.Answer.{Answer}
 use Rattle.swh_program.specs.declared.answer.Answer.TheVariants.{Told, OutsideSource, Memory}
 
 -- the name of bytes as a body of this kind
-abbrev pub name_of : (Kind → List ℕ → List ℕ) → Kind → List ℕ → Name
-name_of id_of kind bytes = record { kind = kind; id = id_of kind bytes }
+abbrev pub name_of_bytes : (Kind → List ℕ → List ℕ) → Kind → List ℕ → Name
+name_of_bytes id_of kind bytes = record { kind = kind; id = id_of kind bytes }
 
 -- a name as it is printed: its core identifier
 abbrev pub name_line : Name → List ℕ
@@ -40,12 +40,12 @@ pub record IsBody (kind : Kind) (bytes : List ℕ) : Type 0 where
   pub formed : IsWellFormed kind bytes
 
 -- The text is the name of these bytes, which are a body of the kind.
-pub record IsNamed (id_of : Kind → List ℕ → List ℕ) (kind : Kind) (bytes text : List ℕ) : Type 0 where
+pub record TellsName (id_of : Kind → List ℕ → List ℕ) (kind : Kind) (bytes text : List ℕ) : Type 0 where
   pub body : IsBody kind bytes
-  pub text_is : text ≡ name_line (name_of id_of kind bytes)
+  pub text_is : text ≡ name_line (name_of_bytes id_of kind bytes)
 
 -- The text refuses these bytes, which are no body of the kind, at the place that its reader names.
-pub record IsRefused (kind : Kind) (bytes text : List ℕ) : Type 0 where
+pub record RefusesBytes (kind : Kind) (bytes text : List ℕ) : Type 0 where
   pub short : length bytes ≤ body_limit
   pub unformed : IsWellFormed kind bytes → ⊥
   pub at : ℕ
@@ -53,14 +53,14 @@ pub record IsRefused (kind : Kind) (bytes text : List ℕ) : Type 0 where
   pub text_is : text ≡ bad_line kind at
 
 -- The bytes are more than a body may have.
-pub record IsTooLong (bytes text : List ℕ) : Type 0 where
+pub record IsAboveBodyLimit (bytes text : List ℕ) : Type 0 where
   pub long : body_limit < length bytes
   pub text_is : text ≡ refusal (codes "limit body")
 
 -- The text says why no body of the kind stands at a path.
 abbrev pub IsRefusedFile : Kind → Option (List ℕ) → List ℕ → Type 0
 IsRefusedFile kind None text = text ≡ refusal (codes "not found")
-IsRefusedFile kind (Some bytes) text = IsTooLong bytes text ⊎ IsRefused kind bytes text
+IsRefusedFile kind (Some bytes) text = IsAboveBodyLimit bytes text ⊎ RefusesBytes kind bytes text
 
 -- No body of the kind stands at a path.
 abbrev pub HasNoBody : Kind → Option (List ℕ) → Type 0
@@ -70,7 +70,7 @@ HasNoBody kind (Some bytes) = IsBody kind bytes → ⊥
 module _ (id_of : Kind → List ℕ → List ℕ) (kind : Kind) where
   -- What is told of what stands at a path: a name, or why there is none.
   abbrev pub TellsFile : Option (List ℕ) → Ending → List ℕ → Type 0
-  TellsFile found ending.Done text = IsSomeAnd found (λ bytes. IsNamed id_of kind bytes text)
+  TellsFile found ending.Done text = IsSomeAnd found (λ bytes. TellsName id_of kind bytes text)
   TellsFile found ending.Wanting text = IsRefusedFile kind found text
   TellsFile found _ text = ⊥
 
@@ -106,4 +106,4 @@ pub record DoesIdentify (kind : Kind) (path : List ℕ) (s : Span) (status : ℕ
   -- The name of a file that is a body of the kind is printed, unless memory runs out, where no part of the outside
   -- failed.
   pub complete : (bytes : List ℕ) → s.told.origins → s.old.desk.file_at path ≡ Some bytes → IsBody kind bytes
-      → (DeskFailed s → ⊥) → (SinkFailed s → ⊥) → IsPrintedWith (name_line (name_of s.id_of kind bytes)) 0 s status
+      → (DeskFailed s → ⊥) → (SinkFailed s → ⊥) → IsPrintedWith (name_line (name_of_bytes s.id_of kind bytes)) 0 s status

@@ -12,7 +12,7 @@ use Rattle.swh_model.specs.Archive.{Bodies}
 use Rattle.swh_model.specs.Judge.{FilePasses}
 use Rattle.swh_model.specs.Meaning.{IsLeftOut}
 use Rattle.swh_model.specs.Step.{May, replay}
-use Rattle.swh_loader.specs.Adding.{Attempt, opening}
+use Rattle.swh_loader.specs.Adding.{Attempt, open_event}
 use Rattle.swh_loader.specs.Ending.{IsMadeBy, IsFull, Collided, statuses_of}
 use Rattle.swh_loader.specs.Leaving.{AddsVisit, next_visit}
 use Rattle.swh_loader.specs.Visiting.{IsVisit, IsOpen}
@@ -81,20 +81,20 @@ module _ (id_of : Kind → List ℕ → List ℕ) (input : Input) where
     pub passes : FilePasses after event.what which number
 
   -- Why a load stopped: a disk failed, a file would pass its end, or memory ran out.
-  abbrev pub StopsFor : Attempt → List Event → List Event → LoadWhy → Type 0
-  StopsFor a before after (why.Ended status) = ⊥
-  StopsFor a before after why.DiskFault = Unit {0}
-  StopsFor a before after why.Wounded = Unit {0}
-  StopsFor a before after (why.Limit which number) = MeetsEnd a before after which number
-  StopsFor a before after why.Memory = Unit {0}
+  abbrev pub StopsJobFor : Attempt → List Event → List Event → LoadWhy → Type 0
+  StopsJobFor a before after (why.Ended status) = ⊥
+  StopsJobFor a before after why.DiskFault = Unit {0}
+  StopsJobFor a before after why.Wounded = Unit {0}
+  StopsJobFor a before after (why.Limit which number) = MeetsEnd a before after which number
+  StopsJobFor a before after why.Memory = Unit {0}
 
   -- A load stopped before its visit was opened, with nothing added, or once it was opened: the visit is there, has not
   -- ended, and has two statuses at most.
   pub record StopsVisit (a : Attempt) (before after : List Event) (fault : LoadFault) : Type 0 where
     pub visit : ((fault.visit ≡ 0) × (after ≡ before))
-        ⊎ ((fault.visit ≡ next_visit before a.origin) × (more : List Event) × (after ≡ before ++ opening a ∷ more)
+        ⊎ ((fault.visit ≡ next_visit before a.origin) × (more : List Event) × (after ≡ before ++ open_event a ∷ more)
         × IsOpen after a fault.visit)
-    pub stops : StopsFor a before after fault.why
+    pub stops : StopsJobFor a before after fault.why
 
   -- How the input makes its visit end.
   abbrev pub IsInputEnd : Bodies → End → Type 0
@@ -105,12 +105,12 @@ module _ (id_of : Kind → List ℕ → List ℕ) (input : Input) where
   IsInputEnd bodies (Failed Read) = input.failed
 
   -- The visit is the next of its origin, and ended as its input has it.
-  pub record EndsVisit (a : Attempt) (before after : List Event) (loaded : Loaded) : Type 0 where
+  pub record EndsJobVisit (a : Attempt) (before after : List Event) (loaded : Loaded) : Type 0 where
     pub number : loaded.visit ≡ next_visit before a.origin
     pub visit : IsVisit after a loaded.visit ((Created, None) ∷ statuses_of loaded.end)
     pub end : IsInputEnd (replay after).bodies loaded.end
 
   -- how the load ended
-  abbrev pub IsOutcome : Attempt → List Event → List Event → Result Loaded LoadFault → Type 0
-  IsOutcome a before after (Ok loaded) = EndsVisit a before after loaded
-  IsOutcome a before after (Err fault) = StopsVisit a before after fault
+  abbrev pub IsJobOutcome : Attempt → List Event → List Event → Result Loaded LoadFault → Type 0
+  IsJobOutcome a before after (Ok loaded) = EndsJobVisit a before after loaded
+  IsJobOutcome a before after (Err fault) = StopsVisit a before after fault

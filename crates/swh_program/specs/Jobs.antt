@@ -1,7 +1,7 @@
 -- The jobs that a run is asked to load.
 use Rattle.std.specs.Prelude.{◌≡◌, ◌⊎◌, ◌++◌, ℕ, Some, None, List, codes, decimal}
 use Rattle.swh_jobs.specs.Job.{Job}
-use Rattle.swh_jobs.specs.JobFile.{IsJobFile, IsFault}
+use Rattle.swh_jobs.specs.JobFile.{IsJobFile, IsJobFileFault}
 use Rattle.swh_jobs.specs.declared.fault.JobWhy.{JobWhy}
 use Rattle.swh_jobs.specs.declared.fault.JobWhy.TheVariants.{Form, Origin, Limit}
 use Rattle.swh_program.specs.Refusal.{refusal}
@@ -19,7 +19,7 @@ pub record AreJobsAt (file_at : FileAt) (path : List ℕ) (jobs : List Job) : Ty
 pub record IsBadAt (file_at : FileAt) (path : List ℕ) (line : ℕ) (why : JobWhy) : Type 0 where
   pub bytes : List ℕ
   pub there : file_at path ≡ Some bytes
-  pub fault : IsFault bytes line why
+  pub fault : IsJobFileFault bytes line why
 
 -- The file at the path is a job file.
 abbrev pub HasJobs : FileAt → List ℕ → Type 0
@@ -30,20 +30,20 @@ abbrev pub HasNoJobs : FileAt → List ℕ → Type 0
 HasNoJobs file_at path = (file_at path ≡ None) ⊎ ((line : ℕ) × (why : JobWhy) × IsBadAt file_at path line why)
 
 -- the word for why a line breaks
-abbrev pub why_word : JobWhy → List ℕ
-why_word Form = codes "form"
-why_word Origin = codes "origin"
-why_word Limit = codes "limit"
+abbrev pub job_why_word : JobWhy → List ℕ
+job_why_word Form = codes "form"
+job_why_word Origin = codes "origin"
+job_why_word Limit = codes "limit"
 
 -- what is printed of the first line that breaks
 abbrev pub bad_job_line : ℕ → JobWhy → List ℕ
-bad_job_line line why = refusal (codes "job line " ++ (decimal line ++ (codes ": " ++ why_word why)))
+bad_job_line line why = refusal (codes "job line " ++ (decimal line ++ (codes ": " ++ job_why_word why)))
 
 -- The text tells the first line of these bytes that breaks.
 pub record TellsFault (bytes text : List ℕ) : Type 0 where
   pub line : ℕ
   pub why : JobWhy
-  pub fault : IsFault bytes line why
+  pub fault : IsJobFileFault bytes line why
   pub text_is : text ≡ bad_job_line line why
 
 -- The text tells the first line of the file at the path that breaks.

@@ -10,12 +10,12 @@ use Rattle.swh_model.specs.Archive.{visits_of}
 use Rattle.swh_model.specs.Grows.{IsWithin, IsLaterVisit}
 use Rattle.swh_model.specs.Sound.{IsSound}
 use Rattle.swh_model.specs.Step.{IsHistory, visit_at, replay}
-use Rattle.swh_keeper.specs.Kept.{AreStanding, AreInDoubt}
+use Rattle.swh_keeper.specs.Kept.{AreStanding, MayHoldOneMore}
 use Rattle.swh_segment.specs.Making.{barriers}
 use Rattle.swh_jobs.specs.Job.{Job}
 use Rattle.swh_jobs.specs.JobFile.{AreJobs}
 use Rattle.swh_loader.specs.Adding.{Attempt, attempt}
-use Rattle.swh_loader.specs.Calls.{all_calls, BreaksAt}
+use Rattle.swh_loader.specs.Calls.{all_calls, BreaksAtEvent}
 use Rattle.swh_loader.specs.Leaving.{AddsVisit}
 use Rattle.swh_loader.specs.declared.end.Loaded.{Loaded}
 use Rattle.swh_loader.specs.declared.fault.LoadFault.{LoadFault}
@@ -27,7 +27,7 @@ use Rattle.swh_program.specs.Jobs.{AreJobsAt, IsJobRefusal, IsJobRefused}
 use Rattle.swh_program.specs.Opening.{IsArchive, IsOnlyOpened, IsOpenRefusal, OpenEnds}
 use Rattle.swh_program.specs.declared.answer.Answer.{Answer}
 use Rattle.swh_program.specs.declared.answer.Answer.TheVariants.{OutsideClock}
-use Rattle.swh_program.specs.Inputs.{loader, Inputs, input_of, IsOfInput, IsOutcome}
+use Rattle.swh_program.specs.Inputs.{loader, Inputs, input_of, IsOfInput, IsJobOutcome}
 use Rattle.swh_program.specs.Lines.{LoadedJob, dates, outcomes, TellsLoad}
 
 -- Each visit that was there stays there.
@@ -41,11 +41,11 @@ VisitsStay before after = (origin : List ℕ) (number : ℕ) (v : Visit)
 pub record LeavesDisks (id_of : Kind → List ℕ → List ℕ) (ledger store : File) (after : List Event)
     (ended : List (Result Loaded LoadFault)) : Type 0 where
   pub standing : HaveNoDiskFault ended → AreStanding ledger store after
-  pub doubt : (HaveNoDiskFault ended → ⊥) → AreInDoubt id_of ledger store after
+  pub doubt : (HaveNoDiskFault ended → ⊥) → MayHoldOneMore id_of ledger store after
 
 -- who loaded a job, and when
-abbrev pub attempt_of : LoadedJob → Attempt
-attempt_of l = attempt loader l.job.url l.date
+abbrev pub attempt_for : LoadedJob → Attempt
+attempt_for l = attempt loader l.job.url l.date
 
 -- The loads of jobs with these inputs.
 module _ (id_of : Kind → List ℕ → List ℕ) (of_jobs : Inputs) where
@@ -56,20 +56,20 @@ module _ (id_of : Kind → List ℕ → List ℕ) (of_jobs : Inputs) where
   -- One job's load, from a history to the next.
   pub record IsJobLoad (l : LoadedJob) (before after : List Event) : Type 0 where
     -- Nothing else is added than its visit, with what its input makes.
-    pub nothing_else : AddsVisit (IsOfJob l.job) (attempt_of l) before after
-    pub line : IsOutcome id_of (input_of of_jobs l.job) (attempt_of l) before after l.outcome
+    pub nothing_else : AddsVisit (IsOfJob l.job) (attempt_for l) before after
+    pub line : IsJobOutcome id_of (input_of of_jobs l.job) (attempt_for l) before after l.outcome
 
   -- Each load begins where the one before it ended.
   abbrev pub AreJobLoads : List LoadedJob → List Event → List Event → Type 0
   AreJobLoads [] before after = after ≡ before
   AreJobLoads (l ∷ loads) before after = (between : List Event) × IsJobLoad l before between × AreJobLoads loads between after
 
-  -- Behind this history the event belongs to the load of one of these jobs.
+  -- After this history the event belongs to the load of one of these jobs.
   pub record IsNextOf (loads : List LoadedJob) (after : List Event) (event : Event) : Type 0 where
     pub l : LoadedJob
     pub among : Contains loads l
     pub between : List Event
-    pub adds : AddsVisit (IsOfJob l.job) (attempt_of l) between (after ++ event ∷ [])
+    pub adds : AddsVisit (IsOfJob l.job) (attempt_for l) between (after ++ event ∷ [])
 
   -- A barrier was made on each file, then the device calls of the events, in order; where a disk failed, up to one of
   -- the next event.
@@ -78,7 +78,7 @@ module _ (id_of : Kind → List ℕ → List ℕ) (of_jobs : Inputs) where
     pub behind : after ≡ before ++ more
     pub made : HaveNoDiskFault (outcomes loads) → new ≡ files_done (barriers ++ all_calls before more) old
     pub broken : (HaveNoDiskFault (outcomes loads) → ⊥)
-        → BreaksAt id_of (IsNextOf loads after) after (files_done (barriers ++ all_calls before more) old) new
+        → BreaksAtEvent id_of (IsNextOf loads after) after (files_done (barriers ++ all_calls before more) old) new
 
 -- The files stood for a history, and nothing was done but a barrier on each.
 pub record IsOpenedArchive (id_of : Kind → List ℕ → List ℕ) (old new : Files) : Type 0 where
@@ -102,7 +102,7 @@ pub record Givens : Type 1 where
 module _ (g : Givens) where
   -- Loads of jobs, by the files at entry and at the end.
   pub record IsLoad (old new : Files) (loads : List LoadedJob) : Type 0 where
-    -- the history at entry, and this run's events behind it
+    -- the history at entry, and this run's events after it
     pub before : List Event
     pub after : List Event
     pub archive : g.disks_tell → IsArchive g.id_of old before

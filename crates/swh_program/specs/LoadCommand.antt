@@ -10,7 +10,7 @@ use Rattle.swh_program.specs.Seen.{Span, DepotFailed, DeskFailed, ClockFailed, S
 use Rattle.swh_program.specs.Answers.{TellsDisk}
 use Rattle.swh_program.specs.Archives.{old_archive, new_archive, SameElsewhere}
 use Rattle.swh_program.specs.Causes.{IsFullLine, HasShortLine, IsBadInput}
-use Rattle.swh_program.specs.Complete.{MeantJob, jobs_of, full_lines, all_made, AreMeant, HasAllMade, HasOneBody, HasRoom, AreQuiet}
+use Rattle.swh_program.specs.Complete.{MeantJob, jobs_of_meant, full_lines, all_made, AreMeant, HasAllMade, HasOneBody, HasRoomForLoads, AreQuiet}
 use Rattle.swh_program.specs.Exact.{IsExact}
 use Rattle.swh_program.specs.Inputs.{Inputs, inputs}
 use Rattle.swh_program.specs.Jobs.{HasJobs, HasNoJobs, AreJobsAt, IsBadAt, bad_job_line}
@@ -80,14 +80,14 @@ pub record DoesLoad (dir path : List ℕ) (s : Span) (status : ℕ) : Type 0 whe
   pub exact_lines : (before : List Event) (jobs : List Job) (objects : List Made) → s.told.depot → s.told.origins
       → IsArchive s.id_of (old_archive dir s) before → AreJobsAt s.old.desk.file_at path jobs
       → HasAllMade s.id_of s.old.origins.file_at jobs objects → HasOneBody s.id_of (replay before).bodies objects
-      → HasRoom s.id_of before jobs objects
+      → HasRoomForLoads s.id_of before jobs objects
       → (DepotFailed s → ⊥) → (DeskFailed s → ⊥) → (ClockFailed s → ⊥)
       → Ends (IsExact s.id_of (inputs_of s) (replay before) jobs) s status
   -- Jobs whose inputs are there and mean something are loaded in full, unless memory runs out, where no name has two
   -- bodies, the files have room at entry for what they make, and no part of the outside failed.
   pub complete : (before : List Event) (meant : List MeantJob) → s.told.depot → s.told.origins
-      → IsArchive s.id_of (old_archive dir s) before → AreJobsAt s.old.desk.file_at path (jobs_of meant)
+      → IsArchive s.id_of (old_archive dir s) before → AreJobsAt s.old.desk.file_at path (jobs_of_meant meant)
       → AreMeant s.id_of s.old.origins.file_at meant → HasOneBody s.id_of (replay before).bodies (all_made meant)
-      → HasRoom s.id_of before (jobs_of meant) (all_made meant)
+      → HasRoomForLoads s.id_of before (jobs_of_meant meant) (all_made meant)
       → (DepotFailed s → ⊥) → (DeskFailed s → ⊥) → AreQuiet s.old.origins.path_faults s.new.origins.path_faults meant
       → (ClockFailed s → ⊥) → (SinkFailed s → ⊥) → IsPrintedWith (full_lines before meant) 0 s status

@@ -1,7 +1,7 @@
 -- Loads into an archive that is open.
 use Rattle.std.specs.Prelude.{◌≡◌, ◌⊎◌, ◌↔◌, false, None, List, map}
 use Rattle.swh_outside.specs.Views.{Disks}
-use Rattle.swh_segment.specs.Makes.{EitherRose}
+use Rattle.swh_segment.specs.Makes.{ADiskFailed}
 use Rattle.swh_keeper.specs.Kept.{Kept}
 use Rattle.swh_jobs.specs.Job.{Job}
 use Rattle.swh_loader.specs.Calls.{MakesCalls}
@@ -25,7 +25,7 @@ module _ {D : Type 0} (g : Givens) (disks : Disks D) where
     pub stops : AreStops false (outcomes loads)
     pub unwounded : (new.wounded ≡ None) ↔ HaveNoDiskFault (outcomes loads)
     pub rose : ending_of_all (outcomes loads) ≡ ending.OutsideDisk
-        → EitherRose (disks.faults old.store) (disks.faults new.store) (disks.faults old.ledger) (disks.faults new.ledger)
+        → ADiskFailed (disks.faults old.store) (disks.faults new.store) (disks.faults old.ledger) (disks.faults new.ledger)
     pub calls : disks.tells → MakesCalls g.id_of disks.file (IsNextOf g.id_of g.inputs loads new.history) old new
 
   -- The jobs were loaded, and their lines told.

@@ -20,12 +20,12 @@ abbrev pub IsUntouched : Files → Files → Type 0
 IsUntouched old new = (new ≡ old) ⊎ IsOnlyOpened old new
 
 -- what the keeper's refusal comes to
-abbrev pub refusal_for : OpenWhy → Answer
-refusal_for why.Made = Memory
-refusal_for why.NotMade = NotMade
-refusal_for why.Damaged = Damaged
-refusal_for why.DiskFault = OutsideDisk
-refusal_for why.Memory = Memory
+abbrev pub opening_refusal : OpenWhy → Answer
+opening_refusal why.Made = Memory
+opening_refusal why.NotMade = NotMade
+opening_refusal why.Damaged = Damaged
+opening_refusal why.DiskFault = OutsideDisk
+opening_refusal why.Memory = Memory
 
 -- an opening is refused by one of these
 abbrev pub IsOpenRefusal : Answer → Type 0
@@ -42,18 +42,18 @@ module _ (id_of : Kind → List ℕ → List ℕ) where
     pub history : IsHistory id_of h
 
   -- The ledger is made, but the files stand for no history.
-  pub record IsDamaged (files : Files) : Type 0 where
+  pub record IsDamagedArchive (files : Files) : Type 0 where
     pub made : IsMade (files 0).seen
     pub none : (h : List Event) → IsArchive files h → ⊥
 
   -- The archive is not made, or damaged.
   abbrev pub IsUnusable : Files → Type 0
-  IsUnusable files = IsNotMade (files 0).seen ⊎ IsDamaged files
+  IsUnusable files = IsNotMade (files 0).seen ⊎ IsDamagedArchive files
 
   -- how an opening that is refused leaves the files
   abbrev pub OpenEnds : Files → Files → Answer → Type 0
   OpenEnds old new NotMade = IsNotMade (old 0).seen × IsOnlyOpened old new
-  OpenEnds old new Damaged = IsDamaged old × IsOnlyOpened old new
+  OpenEnds old new Damaged = IsDamagedArchive old × IsOnlyOpened old new
   OpenEnds old new OutsideDisk = IsUntouched old new ⊎ FilesBreaks barriers old new
   OpenEnds old new Memory = IsUntouched old new
   OpenEnds old new _ = ⊥

@@ -2,7 +2,7 @@
 ghost use Rattle.std.specs.Prelude.{◌≡◌, ◌≤◌, ◌+◌, ℕ, List, IfOk, IfErr, map};
 ghost use Rattle.swh_outside.specs.Faults.{Rose};
 ghost use Rattle.swh_outside.specs.Views.{sources};
-ghost use Rattle.swh_jobs.specs.Answers.{job_of, jobs_of};
+ghost use Rattle.swh_jobs.specs.Answers.{job_of, owned_jobs};
 ghost use Rattle.swh_program.specs.Dated.{AreSaid, IsOpenedAt, IsOpenedJob, AreOpenedJobs, IsGivenBack, AreGivenBack};
 ghost use Rattle.swh_program.specs.Inputs.{inputs};
 ghost use Rattle.swh_program.specs.Loading.{IsUnstarted};
@@ -110,7 +110,7 @@ pub fn open_inputs<O: Origins, C: Clock>(
 ) -> Result<Vec<DatedJob<O::S>>, Answer>
     ensures opened { IfOk result (λ jobs. AreOpenedJobs (sources O.S.tells O.S.left O.S.faults O.S.path)
         (inputs O.tells (O.file_at origins.old) (O.path_faults origins.old) (O.path_faults origins.new))
-        (jobs_of lines.items) jobs.items) }
+        (owned_jobs lines.items) jobs.items) }
     ensures said { C.tells → IfOk result (λ jobs. AreSaid (C.time clock.old) (map (λ j. j.date) jobs.items)) }
     ensures err { IfErr result IsUnstarted }
     ensures clock_cause { IfErr result (λ answer. answer ≡ OutsideClock

@@ -3,9 +3,9 @@ ghost use Rattle.std.specs.Prelude.{◌≡◌, ◌≢◌, ◌+◌, ◌≤◌, If
 ghost use Rattle.swh_fastlex.specs.Whole.{IsFront, GivesAtMost};
 ghost use Rattle.swh_fastlex.specs.declared.fault.SourceFault.TheVariants.{Failed, Limit};
 ghost use Rattle.swh_outside.specs.Faults.{Rose};
-ghost use Rattle.swh_jobs.specs.Answers.{jobs_of};
-ghost use Rattle.swh_jobs.specs.JobFile.{AreJobs, IsJobFile, IsFault};
-ghost use Rattle.swh_program.specs.Jobs.{why_word, bad_job_line, AreJobsAt, IsReadRefusal, IsJobRefusal, IsJobRefused};
+ghost use Rattle.swh_jobs.specs.Answers.{owned_jobs};
+ghost use Rattle.swh_jobs.specs.JobFile.{AreJobs, IsJobFile, IsJobFileFault};
+ghost use Rattle.swh_program.specs.Jobs.{job_why_word, bad_job_line, AreJobsAt, IsReadRefusal, IsJobRefusal, IsJobRefused};
 ghost use Rattle.swh_program.specs.declared.answer.Answer.TheVariants.{OutsideSource};
 
 use crate::Answer;
@@ -17,7 +17,7 @@ use swh_jobs::{JobLine, JobWhy, JobsFault, LONGEST, parse_jobs};
 use swh_outside::{Opened, Origins, Source};
 
 fn word_of_why(why: JobWhy) -> &'static [u8]
-    ensures { result.now ≡ why_word why }
+    ensures { result.now ≡ job_why_word why }
 {
     match why {
         JobWhy::Form => b"form".as_slice(),
@@ -42,7 +42,7 @@ fn bad_job_line(alloc: Global, line: u64, why: JobWhy) -> Result<Bytes, Memory>
 
 // The answer that tells the first line of these bytes that breaks.
 fn refuse_line(alloc: Global, bytes: &[u8], line: u64, why: JobWhy) -> Answer
-    requires { IsFault bytes.now line why }
+    requires { IsJobFileFault bytes.now line why }
     ensures { IsReadRefusal bytes.now result }
 {
     match bad_job_line(alloc, line, why) {
@@ -53,7 +53,7 @@ fn refuse_line(alloc: Global, bytes: &[u8], line: u64, why: JobWhy) -> Answer
 
 // The jobs of these bytes.
 fn jobs_of(alloc: Global, bytes: &[u8]) -> Result<Vec<JobLine>, Answer>
-    ensures jobs { IfOk result (λ jobs. IsJobFile bytes.now (jobs_of jobs.items)) }
+    ensures jobs { IfOk result (λ jobs. IsJobFile bytes.now (owned_jobs jobs.items)) }
     ensures refused { IfErr result (λ answer. IsReadRefusal bytes.now answer) }
 {
     match parse_jobs(alloc, bytes) {
@@ -84,8 +84,8 @@ pub fn read_jobs<O: Origins>(
     desk: &mut O,
     path: &str,
 ) -> Result<Vec<JobLine>, Answer>
-    ensures good { IfOk result (λ jobs. AreJobs (jobs_of jobs.items)) }
-    ensures there { O.tells → IfOk result (λ jobs. AreJobsAt (O.file_at desk.old) path.now (jobs_of jobs.items)) }
+    ensures good { IfOk result (λ jobs. AreJobs (owned_jobs jobs.items)) }
+    ensures there { O.tells → IfOk result (λ jobs. AreJobsAt (O.file_at desk.old) path.now (owned_jobs jobs.items)) }
     ensures one_of { IfErr result (λ answer. IsJobRefusal answer) }
     ensures refused { O.tells → IfErr result (λ answer. IsJobRefused (O.file_at desk.old) path.now answer) }
     ensures later { O.faults desk.old ≤ O.faults desk.new }

@@ -1,7 +1,7 @@
 // The command `load`.
 ghost use Rattle.std.specs.Prelude.{◌≡◌, None};
 ghost use Rattle.swh_outside.specs.Views.{disks};
-ghost use Rattle.swh_jobs.specs.Answers.{jobs_of};
+ghost use Rattle.swh_jobs.specs.Answers.{owned_jobs};
 ghost use Rattle.swh_jobs.specs.JobFile.{AreJobs};
 ghost use Rattle.swh_program.specs.Seen.{DepotFailed, ClockFailed};
 ghost use Rattle.swh_program.specs.Answers.{TellsDisk};
@@ -47,10 +47,10 @@ impl<N: Namer, P: Depot, O: Origins, Y: Yard, K: Sink, C: Clock, D: Doors, G: Ga
         lines: Vec<JobLine>,
     ) -> Answer
         requires unwounded { keeper.old.wounded ≡ None }
-        requires good { AreJobs (jobs_of lines.items) }
+        requires good { AreJobs (owned_jobs lines.items) }
         ensures load { IsKeptRun (givens_of (⟦<Self as Shown>⟧.span self.old self.new))
             (disks P.D.tells P.D.file P.D.faults)
-            keeper.old keeper.new (jobs_of lines.items) result }
+            keeper.old keeper.new (owned_jobs lines.items) result }
         ensures clock_cause { result ≡ OutsideClock → ClockFailed (⟦<Self as Shown>⟧.span self.old self.new) }
         ensures same_depot { self.new.depot ≡ self.old.depot }
         ensures same_desk { self.new.desk ≡ self.old.desk }
@@ -74,11 +74,11 @@ impl<N: Namer, P: Depot, O: Origins, Y: Yard, K: Sink, C: Clock, D: Doors, G: Ga
 
     // Loads jobs into the archive in a folder.
     fn load_jobs(&mut self, alloc: Global, dir: &str, lines: Vec<JobLine>) -> Answer
-        requires { AreJobs (jobs_of lines.items) }
+        requires { AreJobs (owned_jobs lines.items) }
         ensures load { IsLoadedOrNot (givens_of (⟦<Self as Shown>⟧.span self.old self.new))
             (old_archive dir.now (⟦<Self as Shown>⟧.span self.old self.new))
             (new_archive dir.now (⟦<Self as Shown>⟧.span self.old self.new))
-            (jobs_of lines.items) result }
+            (owned_jobs lines.items) result }
         ensures elsewhere { P.tells → SameElsewhere dir.now (P.files self.old.depot) (P.files self.new.depot) }
         ensures disk_cause { TellsDisk result → DepotFailed (⟦<Self as Shown>⟧.span self.old self.new) }
         ensures clock_cause { result ≡ OutsideClock → ClockFailed (⟦<Self as Shown>⟧.span self.old self.new) }

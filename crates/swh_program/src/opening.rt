@@ -7,7 +7,7 @@ ghost use Rattle.swh_segment.specs.Making.{IsMade, barriers};
 ghost use Rattle.swh_keeper.specs.Kept.{IsKept};
 ghost use Rattle.swh_program.specs.Archives.{archive_at, SameElsewhere};
 ghost use Rattle.swh_keeper.specs.Opening.{IsOpeningFault};
-ghost use Rattle.swh_program.specs.Opening.{IsArchive, IsOpenRefusal, OpenEnds, refusal_for};
+ghost use Rattle.swh_program.specs.Opening.{IsArchive, IsOpenRefusal, OpenEnds, opening_refusal};
 ghost use Rattle.swh_program.specs.declared.answer.Answer.TheVariants.{OutsideDisk};
 
 use crate::Answer;
@@ -20,7 +20,7 @@ use swh_outside::{Depot, OutFault};
 // What a refusal of the keeper comes to.
 fn refused_by(why: OpenWhy) -> Answer
     requires { IsOpeningFault why }
-    ensures { result ≡ refusal_for why }
+    ensures { result ≡ opening_refusal why }
 {
     match why {
         OpenWhy::Made => unreachable!(),

@@ -8,7 +8,7 @@ use Rattle.std.proofs.lemmas.List.{append-nil, take-append-drop, take_all}
 use Rattle.swh_base.specs.declared.kind.Kind.{Kind}
 use Rattle.swh_base.specs.declared.kind.Kind.TheVariants.{Content, Snapshot, Revision as RevisionKind, Release as ReleaseKind}
 use Rattle.swh_base.specs.Name.{IsId}
-use Rattle.swh_base.specs.Revision.{Revision, id_line, parent_line, BeginsParent, IsRevision, revision_kids}
+use Rattle.swh_base.specs.Revision.{Revision, id_line, parent_line, BeginsParent, IsRevision, revision_children}
 use Rattle.swh_base.specs.Release.{Release, release_text, IsRelease}
 use Rattle.swh_base.specs.Manifest.{IsWellFormed}
 use Rattle.swh_base.proofs.HexLines.{one_line}
@@ -20,11 +20,11 @@ use Rattle.swh_revfmt.specs.declared.fault.ReadRevFault.{ReadRevFault}
 use Rattle.swh_revfmt.specs.declared.fault.ReadRevFault.TheVariants.{Memory as RevMemory, Bad as RevBad}
 use Rattle.swh_revfmt.specs.declared.fault.ReadRelFault.{ReadRelFault}
 use Rattle.swh_revfmt.specs.declared.fault.ReadRelFault.TheVariants.{Memory as RelMemory, Bad as RelBad}
-use Rattle.swh_revfmt.specs.Fault.{IsFault}
+use Rattle.swh_revfmt.specs.Fault.{IsRevFault}
 use Rattle.swh_revfmt.specs.Reading.{revision_of, release_of, NotLine, type_text, IsLinePlace, IsTypePlace, ExplainsRev, ExplainsRel, GivesRev, GivesRel}
 use Rattle.swh_revfmt.proofs.TypePlaces.{type_then, one_type}
 
-pub one_fault_lem : (kind : Kind) (body : List ℕ) (i j : ℕ) → IsFault kind body i → IsFault kind body j → i ≡ j
+pub one_fault_lem : (kind : Kind) (body : List ℕ) (i j : ℕ) → IsRevFault kind body i → IsRevFault kind body j → i ≡ j
 one_fault_lem kind body i j f g =
     elim (cases_lt i j) [
       | inl below ↦ absurd (f.longest j below g.within g.continued)
@@ -41,7 +41,7 @@ no_parent h = let e = h.text in absurd cc
 lone_revision : (body id : List ℕ) → IsId id → body ≡ id_line (codes "tree ") id → IsWellFormed RevisionKind body
 lone_revision body id is e =
     let revision : Revision = record { directory = id; parents = []; rest = [] } in (
-      revision_kids revision,
+      revision_children revision,
       record {
         revision = revision;
         is = record { text = e ∙ sym (append-nil (id_line (codes "tree ") id)); directory = is; parents = tt; no_more = no_parent };
@@ -49,7 +49,7 @@ lone_revision body id is e =
       },
     )
 
-pub revision_fault : (body : List ℕ) (n : ℕ) → NotLine (codes "tree ") body → IsLinePlace (codes "tree ") body n → IsFault RevisionKind body n
+pub revision_fault : (body : List ℕ) (n : ℕ) → NotLine (codes "tree ") body → IsLinePlace (codes "tree ") body n → IsRevFault RevisionKind body n
 revision_fault body n never p = record {
   broken = λ (names, kids). never kids.revision.directory (flat_map parent_line kids.revision.parents ++ kids.revision.rest) kids.is.directory kids.is.text;
   within = p.in_bytes;
@@ -75,7 +75,7 @@ empty-no_feed : Contains {X = ℕ} [] 10 → ⊥
 empty-no_feed h = let l = h.1 in absurd (omega (arith, l))
 
 -- the bytes break in the first line
-pub release_fault : (body : List ℕ) (n : ℕ) → NotLine (codes "object ") body → IsLinePlace (codes "object ") body n → IsFault ReleaseKind body n
+pub release_fault : (body : List ℕ) (n : ℕ) → NotLine (codes "object ") body → IsLinePlace (codes "object ") body n → IsRevFault ReleaseKind body n
 release_fault body n never p =
     let tail : List ℕ = type_text Content ++ ([] ++ 10 ∷ []) in
     record {
@@ -93,7 +93,7 @@ behind_line : (id rest : List ℕ) → IsId id → (body : List ℕ) → body �
 behind_line id rest is body e r h = (one_line (codes "object ") id r.object.id rest (type_text r.object.kind ++ (r.tag ++ 10 ∷ r.rest)) is h.object (sym e ∙ h.text ∙ release_then r)).1
 
 -- the bytes break in the lines of the kind and the tag's word
-pub type_fault : (id rest : List ℕ) (n : ℕ) → IsId id → IsTypePlace rest n → IsFault ReleaseKind (id_line (codes "object ") id ++ rest) (length (id_line (codes "object ") id) + n)
+pub type_fault : (id rest : List ℕ) (n : ℕ) → IsId id → IsTypePlace rest n → IsRevFault ReleaseKind (id_line (codes "object ") id ++ rest) (length (id_line (codes "object ") id) + n)
 type_fault id rest n is p =
     let line : List ℕ = id_line (codes "object ") id in
     let tail : List ℕ = [] ++ 10 ∷ [] in
@@ -120,7 +120,7 @@ type_fault id rest n is p =
     }
 
 -- the tag's line does not end
-pub tag_fault : (body id rest : List ℕ) (kind : Kind) → IsId id → kind ≢ Snapshot → body ≡ id_line (codes "object ") id ++ (type_text kind ++ rest) → (Contains rest 10 → ⊥) → IsFault ReleaseKind body (length body)
+pub tag_fault : (body id rest : List ℕ) (kind : Kind) → IsId id → kind ≢ Snapshot → body ≡ id_line (codes "object ") id ++ (type_text kind ++ rest) → (Contains rest 10 → ⊥) → IsRevFault ReleaseKind body (length body)
 tag_fault body id rest kind is ne e none = record {
   broken = λ (names, kids).
       let r = kids.release in
@@ -138,7 +138,7 @@ tag_fault body id rest kind is ne e none = record {
 pub gives_rev : (body : List ℕ) (r : Result Rev ReadRevFault) → IfOk r (λ rev. IsRevision body (revision_of rev)) → IfErr r (ExplainsRev body) → (revision : Revision) → IsRevision body revision → GivesRev r revision
 gives_rev body (Ok rev) ok err revision h = one_revision body (revision_of rev) revision ok h
 gives_rev body (Err RevMemory) ok err revision h = tt
-gives_rev body (Err (RevBad bad)) ok err revision h = err.broken (revision_kids revision, record { revision = revision; is = h; kids = refl })
+gives_rev body (Err (RevBad bad)) ok err revision h = err.broken (revision_children revision, record { revision = revision; is = h; kids = refl })
 
 pub gives_rel : (body : List ℕ) (r : Result Rel ReadRelFault) → IfOk r (λ rel. IsRelease body (release_of rel)) → IfErr r (ExplainsRel body) → (release : Release) → IsRelease body release → GivesRel r release
 gives_rel body (Ok rel) ok err release h = one_release body (release_of rel) release ok h

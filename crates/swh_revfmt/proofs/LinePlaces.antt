@@ -10,7 +10,7 @@ use Rattle.hex.proofs.HexLemmas.{length-encode_with}
 use Rattle.swh_base.specs.Name.{is_lower_hex_digit, IsIdText, IsId}
 use Rattle.swh_base.specs.Revision.{id_line}
 use Rattle.swh_base.proofs.HexLines.{line_then}
-use Rattle.swh_revfmt.specs.Reading.{NotLine, IsCommonFront, IsDigitsFront, IsLinePlace}
+use Rattle.swh_revfmt.specs.Reading.{NotLine, IsCommonFront, IsIdDigitsFront, IsLinePlace}
 use Rattle.swh_base.proofs.Ids.{Lower-encode_lower, IsId-from_text, spelled_id}
 
 -- a byte of a front is that of the text that goes on from it
@@ -68,13 +68,13 @@ behind_word word bytes n c le =
     sym (take-append-drop n bytes) ∙ ap (λ (t : List ℕ). t ++ drop n bytes) (c.same ∙ take_all n word (omega arith))
 
 -- forty digits of which the first stand there
-some_digits : (digits : List ℕ) (d : ℕ) → IsDigitsFront digits d → IsIdText (take d digits ++ replicate (40 - d) 48)
+some_digits : (digits : List ℕ) (d : ℕ) → IsIdDigitsFront digits d → IsIdText (take d digits ++ replicate (40 - d) 48)
 some_digits digits d f =
     let few = f.few in
     (omega (arith, length-append (take d digits) (replicate (40 - d) 48), length-take-le d digits f.in_bytes, length-replicate {A = ℕ} (40 - d) 48), All-append (λ c. is_lower_hex_digit c ≡ true) (take d digits) (replicate (40 - d) 48) f.digits (All-replicate (λ c. is_lower_hex_digit c ≡ true) (40 - d) 48 refl))
 
 -- the bytes break after the word
-pub place_in_digits : (word digits : List ℕ) (d : ℕ) → IsDigitsFront digits d → NotLine word (word ++ digits) → IsLinePlace word (word ++ digits) (length word + d)
+pub place_in_digits : (word digits : List ℕ) (d : ℕ) → IsIdDigitsFront digits d → NotLine word (word ++ digits) → IsLinePlace word (word ++ digits) (length word + d)
 place_in_digits word digits d f never =
     let zeros : List ℕ = replicate (40 - d) 48 in
     let text = some_digits digits d f in

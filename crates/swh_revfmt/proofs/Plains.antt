@@ -1,7 +1,7 @@
 -- What is no revision, or has another rest, is no plain one.
 use Rattle.std.proofs.Common.{◌≡◌, ℕ, List, [], ◌∷◌, refl, ap, ◌∙◌, subst}
 use Rattle.swh_base.specs.declared.kind.Kind.TheVariants.{Directory, Revision as RevisionKind, Release as ReleaseKind}
-use Rattle.swh_base.specs.Revision.{Revision, IsRevision, revision_kids}
+use Rattle.swh_base.specs.Revision.{Revision, IsRevision, revision_children}
 use Rattle.swh_base.specs.Release.{Release, IsRelease}
 use Rattle.swh_base.specs.Manifest.{IsWellFormed}
 use Rattle.swh_base.proofs.RevisionLemmas.{one_revision, one_release}
@@ -9,7 +9,7 @@ use Rattle.swh_revfmt.specs.Plain.{RevisionRest, IsRevisionRest, PlainRevision, 
 
 pub no_revision : (body : List ℕ) → (IsWellFormed RevisionKind body → ⊥) → (p : PlainRevision) → IsPlainRevision body p → ⊥
 no_revision body never p h =
-    let revision : Revision = record { directory = p.directory; parents = p.parents; rest = h.bytes } in never (revision_kids revision, record { revision = revision; is = h.revision; kids = refl })
+    let revision : Revision = record { directory = p.directory; parents = p.parents; rest = h.bytes } in never (revision_children revision, record { revision = revision; is = h.revision; kids = refl })
 
 pub other_rest : (body : List ℕ) (r : Revision) → IsRevision body r → ((rest : RevisionRest) → IsRevisionRest r.rest rest → ⊥) → (p : PlainRevision) → IsPlainRevision body p → ⊥
 other_rest body r is never p h =

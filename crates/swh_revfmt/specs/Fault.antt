@@ -9,7 +9,7 @@ pub record IsContinued (kind : Kind) (bytes : List ℕ) : Type 0 where
   pub body : IsWellFormed kind (bytes ++ more)
 
 -- The body is none of this kind, and the longest prefix that some body of this kind continues has this length.
-pub record IsFault (kind : Kind) (body : List ℕ) (at : ℕ) : Type 0 where
+pub record IsRevFault (kind : Kind) (body : List ℕ) (at : ℕ) : Type 0 where
   pub broken : IsWellFormed kind body → ⊥
   pub within : at ≤ length body
   pub continued : IsContinued kind (take at body)

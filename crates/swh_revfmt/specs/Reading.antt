@@ -15,7 +15,7 @@ use Rattle.swh_revfmt.specs.declared.fault.ReadRevFault.{ReadRevFault}
 use Rattle.swh_revfmt.specs.declared.fault.ReadRevFault.TheVariants.{Memory as RevMemory, Bad as RevBad}
 use Rattle.swh_revfmt.specs.declared.fault.ReadRelFault.{ReadRelFault}
 use Rattle.swh_revfmt.specs.declared.fault.ReadRelFault.TheVariants.{Memory as RelMemory, Bad as RelBad}
-use Rattle.swh_revfmt.specs.Fault.{IsFault}
+use Rattle.swh_revfmt.specs.Fault.{IsRevFault}
 
 -- the parts of a revision of their own, as the grammar's
 abbrev pub revision_of : Rev → Revision
@@ -49,7 +49,7 @@ pub record IsCommonFront (line bytes : List ℕ) (n : ℕ) : Type 0 where
   pub stops : n < length line → n < length bytes → slice_index bytes n ≢ slice_index line n
 
 -- These many bytes at the front are digits of an id, and no more.
-pub record IsDigitsFront (bytes : List ℕ) (n : ℕ) : Type 0 where
+pub record IsIdDigitsFront (bytes : List ℕ) (n : ℕ) : Type 0 where
   pub few : n ≤ 40
   pub in_bytes : n ≤ length bytes
   pub digits : AllPass is_lower_hex_digit (take n bytes)
@@ -76,12 +76,12 @@ pub record IsTypePlace (bytes : List ℕ) (n : ℕ) : Type 0 where
 -- It is the place where the bytes cease to be those of a revision, unless memory ran out.
 abbrev pub ExplainsRev : List ℕ → ReadRevFault → Type 0
 ExplainsRev body RevMemory = Unit {0}
-ExplainsRev body (RevBad bad) = IsFault RevisionKind body bad.at
+ExplainsRev body (RevBad bad) = IsRevFault RevisionKind body bad.at
 
 -- It is the place where the bytes cease to be those of a release, unless memory ran out.
 abbrev pub ExplainsRel : List ℕ → ReadRelFault → Type 0
 ExplainsRel body RelMemory = Unit {0}
-ExplainsRel body (RelBad bad) = IsFault ReleaseKind body bad.at
+ExplainsRel body (RelBad bad) = IsRevFault ReleaseKind body bad.at
 
 -- It gives these parts, unless memory ran out.
 abbrev pub GivesRev : Result Rev ReadRevFault → Revision → Type 0

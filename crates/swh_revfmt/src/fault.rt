@@ -2,7 +2,7 @@
 
 ghost use Rattle.std.specs.Prelude.{◌≡◌, ℕ, List};
 ghost use Rattle.swh_base.specs.declared.kind.Kind.{Kind};
-ghost use Rattle.swh_revfmt.specs.Fault.{IsFault};
+ghost use Rattle.swh_revfmt.specs.Fault.{IsRevFault};
 ghost use Rattle.swh_revfmt.specs.declared.fault.ReadRevFault.TheVariants.{Memory as RevMemory};
 ghost use Rattle.swh_revfmt.specs.declared.fault.ReadRelFault.TheVariants.{Memory as RelMemory};
 
@@ -57,5 +57,5 @@ impl From<Memory> for ReadRelFault {
 
 /// A body has one fault at most, since the longest prefix that some body continues has one length.
 pub fn one_fault()
-    ensures { (kind : Kind) (body : List ℕ) (i j : ℕ) → IsFault kind body i → IsFault kind body j → i ≡ j }
+    ensures { (kind : Kind) (body : List ℕ) (i j : ℕ) → IsRevFault kind body i → IsRevFault kind body j → i ≡ j }
 {}

@@ -1,6 +1,6 @@
 //! How far bytes go that some line begins with.
 
-ghost use Rattle.swh_revfmt.specs.Reading.{NotLine, IsCommonFront, IsDigitsFront, IsLinePlace};
+ghost use Rattle.swh_revfmt.specs.Reading.{NotLine, IsCommonFront, IsIdDigitsFront, IsLinePlace};
 
 use swh_base::is_lower_hex_digit;
 
@@ -18,7 +18,7 @@ pub fn common_front(line: &[u8], bytes: &[u8]) -> usize
 
 /// How many bytes at the front are digits of an id.
 fn digits_front(bytes: &[u8]) -> usize
-    ensures { IsDigitsFront bytes.now result }
+    ensures { IsIdDigitsFront bytes.now result }
 {
     for (i, byte) in bytes.iter().enumerate() {
         if i == 40 || !is_lower_hex_digit(*byte) {

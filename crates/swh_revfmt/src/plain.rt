@@ -11,13 +11,13 @@ use crate::release::spelled_rel;
 use crate::rest::{release_rest, revision_rest};
 use crate::revision::{SpelledRev, spelled_rev};
 use std::alloc::Global;
-use swh_base::{Bytes, Kind, Many, Memory, Name, TAG_LIMIT, is_ref};
+use swh_base::{Bytes, Kind, Items, Memory, Name, TAG_LIMIT, is_ref};
 
 /// The parts of a plain revision: one whose rest is an author, a committer, perhaps an encoding, and a message.
 #[derive(Drop)]
 pub struct PlainRev {
     pub directory: [u8; 20],
-    pub parents: Many<[u8; 20]>,
+    pub parents: Items<[u8; 20]>,
     /// A person and a date, `name <email> seconds +zone`, byte for byte; the committer likewise.
     pub author: Bytes,
     pub committer: Bytes,

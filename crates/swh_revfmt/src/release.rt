@@ -4,7 +4,7 @@ ghost use Rattle.std.specs.Prelude.{◌≡◌, ◌≢◌, ◌<◌, ◌++◌, ℕ
 ghost use Rattle.swh_base.specs.declared.kind.Kind.{Kind};
 ghost use Rattle.swh_base.specs.declared.kind.Kind.TheVariants.{Snapshot, Release as ReleaseKind};
 ghost use Rattle.swh_base.specs.Release.{Release, release_text, IsRelease};
-ghost use Rattle.swh_revfmt.specs.Fault.{IsFault};
+ghost use Rattle.swh_revfmt.specs.Fault.{IsRevFault};
 ghost use Rattle.swh_revfmt.specs.Reading.{release_of, release_spelled, type_text, IsCommonFront, IsTypePlace, ExplainsRel, GivesRel};
 
 use crate::fault::{BadRel, ReadRelFault};
@@ -89,7 +89,7 @@ fn kind_from(bytes: &[u8]) -> Result<(Kind, &[u8]), usize>
 /// front that some release continues.
 pub fn spelled_rel(body: &[u8]) -> Result<SpelledRel<'_>, BadRel>
     ensures ok { IfOk result (λ rel. IsRelease body.now (release_spelled rel)) }
-    ensures err { IfErr result (λ bad. IsFault ReleaseKind body.now bad.at) }
+    ensures err { IfErr result (λ bad. IsRevFault ReleaseKind body.now bad.at) }
 {
     let Some(line) = line::id_line(b"object ", body) else {
         let at = line_place(b"object ", body) as u64;

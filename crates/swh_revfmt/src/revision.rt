@@ -10,14 +10,14 @@ use crate::fault::{BadRev, ReadRevFault};
 use crate::line;
 use crate::place::line_place;
 use std::alloc::Global;
-use swh_base::{Bytes, Kind, Many, Memory, Name};
+use swh_base::{Bytes, Kind, Items, Memory, Name};
 
 /// The parts of a revision (git objects, commit): the directory's id, the parents' ids, as many as whole parent lines
 /// stand there, and every byte after these lines.
 #[derive(Drop)]
 pub struct Rev {
     pub directory: [u8; 20],
-    pub parents: Many<[u8; 20]>,
+    pub parents: Items<[u8; 20]>,
     pub rest: Bytes,
 }
 
@@ -25,12 +25,12 @@ pub struct Rev {
 #[derive(Drop)]
 pub struct SpelledRev<'a> {
     pub directory: [u8; 20],
-    pub parents: Many<[u8; 20]>,
+    pub parents: Items<[u8; 20]>,
     pub rest: &'a [u8],
 }
 
 /// The parents of the whole parent lines at the front, and what follows these lines.
-fn parents_of(alloc: Global, bytes: &[u8]) -> Result<(Many<[u8; 20]>, &[u8]), Memory>
+fn parents_of(alloc: Global, bytes: &[u8]) -> Result<(Items<[u8; 20]>, &[u8]), Memory>
     ensures parents { IfOk result (λ x. AllByRecursion IsId x.0) }
     ensures text { IfOk result (λ x. bytes.now ≡ flat_map parent_line x.0 ++ x.1.now) }
     ensures all { IfOk result (λ x. BeginsParent x.1.now → ⊥) }
@@ -41,7 +41,7 @@ fn parents_of(alloc: Global, bytes: &[u8]) -> Result<(Many<[u8; 20]>, &[u8]), Me
         parents.push(line.id)?;
         rest = line.rest;
     }
-    Ok((Many::from_vec(parents), rest))
+    Ok((Items::from_vec(parents), rest))
 }
 
 /// The parts of a revision's body, whose rest is not copied. Fails with the length in bytes of the longest front that

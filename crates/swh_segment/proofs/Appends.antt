@@ -25,7 +25,7 @@ module _ (file : File) (rs : List Record) (r : Record) (end : ℕ) (settled : Is
   abbrev rest_after : List ℕ
   rest_after = drop (end + 1 + length bytes) file.seen
 
-  -- the file with the record behind its closed gate, and with the gate open
+  -- the file with the record after its closed gate, and with the gate open
   abbrev staged : List ℕ
   staged = front rs ++ (settled.stands.gate ∷ body r ++ 0 ∷ rest_after)
 
@@ -59,7 +59,7 @@ module _ (file : File) (rs : List Record) (r : Record) (end : ℕ) (settled : Is
       let same = ap length (front-push rs r []) in
       omega (arith, same, settled.end_is, length-append (front (rs ++ r ∷ [])) [], length-append (front rs) (1 ∷ body r ++ []), length-append (body r) [], length-append (body r) (0 ∷ []))
 
-  -- while the record is written behind the closed gate
+  -- while the record is written after the closed gate
   torn_behind : EachImage (done (Write (end + 1) bytes) file) (with_or_without rs r)
   torn_behind = record {
     has = λ image i.

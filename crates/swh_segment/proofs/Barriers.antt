@@ -1,12 +1,12 @@
 -- What a read gives once a barrier was tried.
 use Rattle.std.proofs.Common.{◌≡◌, ℕ, Bool, true, false, cond, ◌==◌, List, [], ◌∷◌, ◌++◌, length, length-append, refl, sym, ap, subst, arith, Result, Ok, Err}
-use Rattle.swh_outside.specs.Disk.{File, Call, Sync, IsImage, IsAtRest, IsBroken, Runs, begun, done, all_done}
+use Rattle.swh_outside.specs.Disk.{File, Call, Sync, IsImage, IsAtRest, IsFailedCall, Runs, begun, done, all_done}
 use Rattle.swh_outside.specs.Files.{AreImages, absent, files_of}
 use Rattle.swh_outside.proofs.Images.{recast, at_rest_done}
 use Rattle.swh_segment.specs.Settled.{AreAtRest, seen_of}
 
-one_call : (before after : List Call) (call : Call) (old new : File) → Sync ∷ [] ≡ before ++ call ∷ after → IsBroken call (all_done before old) new → IsBroken Sync old new
-one_call [] after call old new is broken = let same : Sync ≡ call = cc in subst (λ (c : Call). IsBroken c old new) (sym same) broken
+one_call : (before after : List Call) (call : Call) (old new : File) → Sync ∷ [] ≡ before ++ call ∷ after → IsFailedCall call (all_done before old) new → IsFailedCall Sync old new
+one_call [] after call old new is broken = let same : Sync ≡ call = cc in subst (λ (c : Call). IsFailedCall c old new) (sym same) broken
 one_call (b ∷ before) after call old new is broken = absurd (omega (arith, ap length is, length-append before (call ∷ after)))
 
 -- it is one of the images that a crash before might have left, also where the barrier failed

@@ -6,17 +6,17 @@ use Rattle.swh_outside.specs.Files.{Files, Images, EachFilesMoment, on, files_do
 use Rattle.swh_outside.proofs.Images.{at_rest_image, at_rest_done, front_stays}
 use Rattle.swh_outside.proofs.Numbered.{files_done-on, files_done-append, with_file_here, with_file_other, files_moments_then, moments_on}
 use Rattle.swh_segment.specs.Record.{Record, Stands, IsReady, IsSettled, append_calls}
-use Rattle.swh_segment.specs.Events.{Event, bytes_of, records, runs, FilesStand, with_or_without_event, AreSettled, run_calls, event_calls, IsWritten}
+use Rattle.swh_segment.specs.Events.{Append, run_bytes, records, runs, FilesStand, with_or_without_event, AreSettled, run_calls, event_calls, IsWritten}
 use Rattle.swh_segment.proofs.Appends.{each_moment, appended}
 
-pub records-push : (h : List Event) (e : Event) → records (h ++ e ∷ []) ≡ records h ++ e.entry ∷ []
+pub records-push : (h : List Append) (e : Append) → records (h ++ e ∷ []) ≡ records h ++ e.entry ∷ []
 records-push [] e = refl
 records-push (d ∷ h) e = ap (λ (l : List Record). d.entry ∷ l) (records-push h e)
 
-pub runs-push : (h : List Event) (e : Event) (rest : List ℕ) → runs (h ++ e ∷ []) ++ rest ≡ runs h ++ (bytes_of e.run ++ rest)
-runs-push [] e rest = ap (λ (l : List ℕ). l ++ rest) (append-nil (bytes_of e.run))
+pub runs-push : (h : List Append) (e : Append) (rest : List ℕ) → runs (h ++ e ∷ []) ++ rest ≡ runs h ++ (run_bytes e.run ++ rest)
+runs-push [] e rest = ap (λ (l : List ℕ). l ++ rest) (append-nil (run_bytes e.run))
 runs-push (d ∷ h) e rest =
-    append_assoc (bytes_of d.run) (runs (h ++ e ∷ [])) rest ∙ ap (λ (l : List ℕ). bytes_of d.run ++ l) (runs-push h e rest) ∙ sym (append_assoc (bytes_of d.run) (runs h) (bytes_of e.run ++ rest))
+    append_assoc (run_bytes d.run) (runs (h ++ e ∷ [])) rest ∙ ap (λ (l : List ℕ). run_bytes d.run ++ l) (runs-push h e rest) ∙ sym (append_assoc (run_bytes d.run) (runs h) (run_bytes e.run ++ rest))
 
 -- a file begins with some bytes
 pub record BeginsWith (front file : List ℕ) : Type 0 where
@@ -63,28 +63,28 @@ module _ (store : File) (front rest : List ℕ) (at : ℕ) (rests : IsAtRest sto
   front_of_image (Some (b ∷ run)) (suc (suc zero)) image i = laid (b ∷ run) image i
   front_of_image (Some (b ∷ run)) (suc (suc (suc m))) image i = laid (b ∷ run) image i
 
-  -- and after all of them the run stands behind it, with nothing written since a barrier
+  -- and after all of them the run stands after it, with nothing written since a barrier
   pub run_rests : (run : Option (List ℕ)) → IsAtRest (all_done (run_calls at run) store)
   run_rests None = rests
   run_rests (Some []) = at_rest_done store
   run_rests (Some (b ∷ run)) = at_rest_done (done (Write at (b ∷ run)) store)
 
-  pub run_stands : (run : Option (List ℕ)) → BeginsWith (front ++ bytes_of run) (all_done (run_calls at run) store).seen
+  pub run_stands : (run : Option (List ℕ)) → BeginsWith (front ++ run_bytes run) (all_done (run_calls at run) store).seen
   run_stands None = record { rest = rest; is = begins ∙ ap (λ (l : List ℕ). l ++ rest) (sym (append-nil front)) }
   run_stands (Some []) = record { rest = rest; is = begins ∙ ap (λ (l : List ℕ). l ++ rest) (sym (append-nil front)) }
   run_stands (Some (b ∷ run)) = record { rest = rest_after (b ∷ run); is = written (b ∷ run) ∙ sym (append_assoc front (b ∷ run) (rest_after (b ∷ run))) }
 
-without : (h : List Event) (e : Event) (images : Images) → Stands (images 0) (records h) → BeginsWith (runs h) (images 1) → with_or_without_event h e images
+without : (h : List Append) (e : Append) (images : Images) → Stands (images 0) (records h) → BeginsWith (runs h) (images 1) → with_or_without_event h e images
 without h e images stands begins = inl (record { ledger = stands; rest = begins.rest; store_begins = begins.is })
 
-with : (h : List Event) (e : Event) (images : Images) → Stands (images 0) (records h ++ e.entry ∷ []) → BeginsWith (runs h ++ bytes_of e.run) (images 1) → FilesStand images (h ++ e ∷ [])
+with : (h : List Append) (e : Append) (images : Images) → Stands (images 0) (records h ++ e.entry ∷ []) → BeginsWith (runs h ++ run_bytes e.run) (images 1) → FilesStand images (h ++ e ∷ [])
 with h e images stands begins = record {
   ledger = subst (Stands (images 0)) (sym (records-push h e)) stands;
   rest = begins.rest;
-  store_begins = begins.is ∙ append_assoc (runs h) (bytes_of e.run) begins.rest ∙ sym (runs-push h e begins.rest);
+  store_begins = begins.is ∙ append_assoc (runs h) (run_bytes e.run) begins.rest ∙ sym (runs-push h e begins.rest);
 }
 
-module _ (files : Files) (h : List Event) (e : Event) (store_end end : ℕ) (settled : AreSettled files h store_end end) where
+module _ (files : Files) (h : List Append) (e : Append) (store_end end : ℕ) (settled : AreSettled files h store_end end) where
   abbrev store_plan : List Call
   store_plan = run_calls store_end e.run
 
@@ -100,7 +100,7 @@ module _ (files : Files) (h : List Event) (e : Event) (store_end end : ℕ) (set
   mid_store : mid 1 ≡ all_done store_plan (files 1)
   mid_store = ap (λ (f : Files). f 1) (files_done-on 1 store_plan files) ∙ with_file_here 1 (all_done store_plan (files 1)) files
 
-  -- while the run is written, behind the runs of the history
+  -- while the run is written, after the runs of the history
   first : EachFilesMoment (on 1 store_plan) files (with_or_without_event h e)
   first = moments_on 1 store_plan files (with_or_without_event h e) (λ images others m i.
       let stands : Stands (images 0) (records h) = subst (λ (l : List ℕ). Stands l (records h)) (sym (at_rest_image (files 0) (images 0) settled.ledger.rests (others 0 other))) settled.ledger.stands in
@@ -110,15 +110,15 @@ module _ (files : Files) (h : List Event) (e : Event) (store_end end : ℕ) (set
   mid_settled = subst (λ (f : File). IsSettled f (records h) end) (sym mid_ledger) settled.ledger
 
   -- the store then has the run, and keeps it
-  mid_begins : (image : List ℕ) → IsImage (mid 1) image → BeginsWith (runs h ++ bytes_of e.run) image
+  mid_begins : (image : List ℕ) → IsImage (mid 1) image → BeginsWith (runs h ++ run_bytes e.run) image
   mid_begins image i =
       let i' = subst (λ (f : File). IsImage f image) mid_store i in
       let stands = run_stands (files 1) (runs h) settled.rest store_end settled.store settled.begins settled.store_end_is e.run in
       let rests = run_rests (files 1) (runs h) settled.rest store_end settled.store settled.begins settled.store_end_is e.run in
       record { rest = stands.rest; is = at_rest_image (all_done store_plan (files 1)) image rests i' ∙ stands.is }
 
-  shorter : (image : List ℕ) → BeginsWith (runs h ++ bytes_of e.run) image → BeginsWith (runs h) image
-  shorter image begins = record { rest = bytes_of e.run ++ begins.rest; is = begins.is ∙ append_assoc (runs h) (bytes_of e.run) begins.rest }
+  shorter : (image : List ℕ) → BeginsWith (runs h ++ run_bytes e.run) image → BeginsWith (runs h) image
+  shorter image begins = record { rest = run_bytes e.run ++ begins.rest; is = begins.is ∙ append_assoc (runs h) (run_bytes e.run) begins.rest }
 
   apart : ◌≢◌ {A = ℕ} 1 0
   apart same = absurd (omega (arith, same))
@@ -138,7 +138,7 @@ module _ (files : Files) (h : List Event) (e : Event) (store_end end : ℕ) (set
   event_moments bytes ready = files_moments_then (on 1 store_plan) (on 0 (append_calls end bytes)) files (with_or_without_event h e) first (second bytes ready)
 
   -- and after all of them both files stand for the history with it
-  pub event_settled : (bytes : List ℕ) → IsReady bytes e.entry → AreSettled (files_done (event_calls store_end e.run end bytes) files) (h ++ e ∷ []) (store_end + length (bytes_of e.run)) (end + length bytes)
+  pub event_settled : (bytes : List ℕ) → IsReady bytes e.entry → AreSettled (files_done (event_calls store_end e.run end bytes) files) (h ++ e ∷ []) (store_end + length (run_bytes e.run)) (end + length bytes)
   event_settled bytes ready =
       let plan = append_calls end bytes in
       let there = files_done-append (on 1 store_plan) (on 0 plan) files ∙ files_done-on 0 plan mid in
@@ -151,19 +151,19 @@ module _ (files : Files) (h : List Event) (e : Event) (store_end end : ℕ) (set
         ledger = subst (λ (f : File). IsSettled f (records (h ++ e ∷ [])) (end + length bytes)) (sym ledger_is) (subst (λ (rs : List Record). IsSettled (all_done plan (mid 0)) rs (end + length bytes)) (sym (records-push h e)) new);
         store = subst IsAtRest (sym store_is) rests;
         rest = stands.rest;
-        begins = ap (λ (f : File). f.seen) store_is ∙ stands.is ∙ append_assoc (runs h) (bytes_of e.run) stands.rest ∙ sym (runs-push h e stands.rest);
-        store_end_is = omega (arith, ap length (runs-push h e []), length-append (runs (h ++ e ∷ [])) [], length-append (runs h) (bytes_of e.run ++ []), length-append (bytes_of e.run) [], settled.store_end_is);
+        begins = ap (λ (f : File). f.seen) store_is ∙ stands.is ∙ append_assoc (runs h) (run_bytes e.run) stands.rest ∙ sym (runs-push h e stands.rest);
+        store_end_is = omega (arith, ap length (runs-push h e []), length-append (runs (h ++ e ∷ [])) [], length-append (runs h) (run_bytes e.run ++ []), length-append (run_bytes e.run) [], settled.store_end_is);
       }
 
 -- both laws at what is written
-pub written_moments : (files : Files) (h : List Event) (e : Event) (store_end end : ℕ) (run : Option (List ℕ)) (bytes : List ℕ) → AreSettled files h store_end end → IsWritten run bytes e
+pub written_moments : (files : Files) (h : List Append) (e : Append) (store_end end : ℕ) (run : Option (List ℕ)) (bytes : List ℕ) → AreSettled files h store_end end → IsWritten run bytes e
     → EachFilesMoment (event_calls store_end run end bytes) files (with_or_without_event h e)
 written_moments files h e store_end end run bytes settled written =
     subst (λ (r : Option (List ℕ)). EachFilesMoment (event_calls store_end r end bytes) files (with_or_without_event h e)) (sym written.run_is) (event_moments files h e store_end end settled bytes written.entry)
 
-pub written_settled : (files new : Files) (h : List Event) (e : Event) (store_end end : ℕ) (run : Option (List ℕ)) (bytes : List ℕ) → AreSettled files h store_end end → IsWritten run bytes e
-    → new ≡ files_done (event_calls store_end run end bytes) files → AreSettled new (h ++ e ∷ []) (store_end + length (bytes_of run)) (end + length bytes)
+pub written_settled : (files new : Files) (h : List Append) (e : Append) (store_end end : ℕ) (run : Option (List ℕ)) (bytes : List ℕ) → AreSettled files h store_end end → IsWritten run bytes e
+    → new ≡ files_done (event_calls store_end run end bytes) files → AreSettled new (h ++ e ∷ []) (store_end + length (run_bytes run)) (end + length bytes)
 written_settled files new h e store_end end run bytes settled written is =
-    subst (λ (f : Files). AreSettled f (h ++ e ∷ []) (store_end + length (bytes_of run)) (end + length bytes)) (sym is)
-    (subst (λ (r : Option (List ℕ)). AreSettled (files_done (event_calls store_end r end bytes) files) (h ++ e ∷ []) (store_end + length (bytes_of r)) (end + length bytes)) (sym written.run_is)
+    subst (λ (f : Files). AreSettled f (h ++ e ∷ []) (store_end + length (run_bytes run)) (end + length bytes)) (sym is)
+    (subst (λ (r : Option (List ℕ)). AreSettled (files_done (event_calls store_end r end bytes) files) (h ++ e ∷ []) (store_end + length (run_bytes r)) (end + length bytes)) (sym written.run_is)
     (event_settled files h e store_end end settled bytes written.entry))

@@ -5,37 +5,37 @@ use Rattle.swh_outside.specs.Files.{Files, FileCall, Images, on}
 use Rattle.swh_segment.specs.Record.{Record, Stands, IsReady, IsSettled, append_calls}
 
 -- an event: its record, and its run where it is a batch
-pub record Event : Type 0 where
+pub record Append : Type 0 where
   pub entry : Record
   pub run : Option (List ℕ)
 
 -- the bytes of a run, of which there may be none
-abbrev pub bytes_of : Option (List ℕ) → List ℕ
-bytes_of None = []
-bytes_of (Some bytes) = bytes
+abbrev pub run_bytes : Option (List ℕ) → List ℕ
+run_bytes None = []
+run_bytes (Some bytes) = bytes
 
 -- the records of events
-abbrev pub records : List Event → List Record
+abbrev pub records : List Append → List Record
 records [] = []
 records (e ∷ h) = e.entry ∷ records h
 
 -- the bytes of all their runs
-abbrev pub runs : List Event → List ℕ
+abbrev pub runs : List Append → List ℕ
 runs [] = []
-runs (e ∷ h) = bytes_of e.run ++ runs h
+runs (e ∷ h) = run_bytes e.run ++ runs h
 
 -- Two files stand for a history: the ledger for its records, and the store begins with its runs.
-pub record FilesStand (images : Images) (h : List Event) : Type 0 where
+pub record FilesStand (images : Images) (h : List Append) : Type 0 where
   pub ledger : Stands (images 0) (records h)
   pub rest : List ℕ
   pub store_begins : images 1 ≡ runs h ++ rest
 
 -- What a crash leaves stands for the events, with one more or without.
-abbrev pub with_or_without_event : List Event → Event → Images → Type 0
+abbrev pub with_or_without_event : List Append → Append → Images → Type 0
 with_or_without_event h e images = FilesStand images h ⊎ FilesStand images (h ++ e ∷ [])
 
 -- The two files stand for the history, with nothing written since a barrier, and their ends are there.
-pub record AreSettled (files : Files) (h : List Event) (store_end end : ℕ) : Type 0 where
+pub record AreSettled (files : Files) (h : List Append) (store_end end : ℕ) : Type 0 where
   pub ledger : IsSettled (files 0) (records h) end
   pub store : IsAtRest (files 1)
   pub rest : List ℕ
@@ -48,12 +48,12 @@ run_calls at None = []
 run_calls at (Some []) = Sync ∷ []
 run_calls at (Some (b ∷ bytes)) = Write at (b ∷ bytes) ∷ Sync ∷ []
 
--- The device calls that add an event: its run, then its record behind the closed gate with the next gate, and then
--- its gate, each with a barrier behind it.
+-- The device calls that add an event: its run, then its record after the closed gate with the next gate, and then
+-- its gate, each with a barrier after it.
 abbrev pub event_calls : ℕ → Option (List ℕ) → ℕ → List ℕ → List FileCall
 event_calls store_end run end bytes = on 1 (run_calls store_end run) ++ on 0 (append_calls end bytes)
 
 -- what is written for an event: its run and its record
-pub record IsWritten (run : Option (List ℕ)) (bytes : List ℕ) (e : Event) : Type 0 where
+pub record IsWritten (run : Option (List ℕ)) (bytes : List ℕ) (e : Append) : Type 0 where
   pub run_is : run ≡ e.run
   pub entry : IsReady bytes e.entry

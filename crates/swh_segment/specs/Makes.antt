@@ -13,5 +13,5 @@ pub record Makes (old new : Files) (result : Result (Unit {0}) MakeFault) : Type
   pub failed : IsErrOf result Disk → (new ≡ old) ⊎ FilesBreaks (making_calls (old 0).seen) old new
 
 -- one of the two counts rose
-abbrev pub EitherRose : ℕ → ℕ → ℕ → ℕ → Type 0
-EitherRose store_before store_now ledger_before ledger_now = Rose store_before store_now ⊎ Rose ledger_before ledger_now
+abbrev pub ADiskFailed : ℕ → ℕ → ℕ → ℕ → Type 0
+ADiskFailed store_before store_now ledger_before ledger_now = Rose store_before store_now ⊎ Rose ledger_before ledger_now

@@ -3,9 +3,9 @@ ghost use Rattle.std.specs.Prelude.{◌≡◌, ◌+◌, ◌≤◌, ◌<◌, ◌^
 ghost use Rattle.swh_outside.specs.Disk.{Runs};
 ghost use Rattle.swh_outside.specs.Files.{FilesRuns, EachImages, files_of};
 ghost use Rattle.swh_outside.specs.Faults.{HasCause};
-ghost use Rattle.swh_segment.specs.Makes.{EitherRose};
+ghost use Rattle.swh_segment.specs.Makes.{ADiskFailed};
 ghost use Rattle.swh_segment.specs.Record.{append_calls};
-ghost use Rattle.swh_segment.specs.Events.{Event, AreSettled, IsWritten, bytes_of, run_calls, event_calls, with_or_without_event};
+ghost use Rattle.swh_segment.specs.Events.{Append, AreSettled, IsWritten, run_bytes, run_calls, event_calls, with_or_without_event};
 ghost use Rattle.swh_segment.specs.Runs.{run_of};
 
 use crate::writing::write_synced;
@@ -35,7 +35,7 @@ fn append_run<D: Disk>(store: &mut D, at: u64, run: Run<'_>) -> Result<(), Faile
     write_synced(store, at, bytes)
 }
 
-// The record of an event, behind the closed gate at the ledger's end, and then its gate.
+// The record of an event, after the closed gate at the ledger's end, and then its gate.
 fn append_record<D: Disk>(ledger: &mut D, end: u64, entry: &[u8]) -> Result<(), Failed>
     requires limit { end + 1 < 2 ^ 64 }
     requires place { D.tells → end + 1 ≤ length (D.file ledger.old).seen }
@@ -65,18 +65,18 @@ pub fn append_event<D: Disk>(
     ensures runs { D.tells → FilesRuns (event_calls store_end (run_of run.entry) end entry.now)
         (files_of (D.file ledger.old) (D.file store.old)) (files_of (D.file ledger.new) (D.file store.new)) result }
 
-    ensures appended { D.tells → (h : List Event) (e : Event)
+    ensures appended { D.tells → (h : List Append) (e : Append)
         → AreSettled (files_of (D.file ledger.old) (D.file store.old)) h store_end end
         → IsWritten (run_of run.entry) entry.now e
-        → OnOk result (AreSettled (files_of (D.file ledger.new) (D.file store.new)) (h ++ e ∷ []) (store_end + length (bytes_of (run_of run.entry))) (end + length entry.now)) }
-    ensures left { D.tells → (h : List Event) (e : Event)
+        → OnOk result (AreSettled (files_of (D.file ledger.new) (D.file store.new)) (h ++ e ∷ []) (store_end + length (run_bytes (run_of run.entry))) (end + length entry.now)) }
+    ensures left { D.tells → (h : List Append) (e : Append)
         → AreSettled (files_of (D.file ledger.old) (D.file store.old)) h store_end end
         → IsWritten (run_of run.entry) entry.now e
         → OnErr result (EachImages (files_of (D.file ledger.new) (D.file store.new)) (with_or_without_event h e)) }
 
     ensures store_later { D.faults store.old ≤ D.faults store.new }
     ensures ledger_later { D.faults ledger.old ≤ D.faults ledger.new }
-    ensures cause { OnErr result (EitherRose (D.faults store.old) (D.faults store.new) (D.faults ledger.old) (D.faults ledger.new)) }
+    ensures cause { OnErr result (ADiskFailed (D.faults store.old) (D.faults store.new) (D.faults ledger.old) (D.faults ledger.new)) }
 
     // Where no disk failed, both counts are as they were.
     ensures store_quiet { OnOk result (D.faults store.new ≡ D.faults store.old) }

@@ -4,7 +4,7 @@ ghost use Rattle.swh_outside.specs.Disk.{Runs};
 ghost use Rattle.swh_outside.specs.Files.{files_of};
 ghost use Rattle.swh_outside.specs.Faults.{HasCause};
 ghost use Rattle.swh_segment.specs.Making.{IsMade, IsNotMade, clearing, magic_calls};
-ghost use Rattle.swh_segment.specs.Makes.{Makes, EitherRose};
+ghost use Rattle.swh_segment.specs.Makes.{Makes, ADiskFailed};
 ghost use Rattle.swh_segment.specs.declared.fault.MakeFault.TheVariants.{Made, Disk};
 
 use crate::MakeFault;
@@ -37,7 +37,7 @@ fn lay_magic<D: Disk>(ledger: &mut D, clears: bool) -> Result<(), Failed>
 }
 
 /// Makes an archive of two files: a barrier on both; a first byte that is an `S`, or is not there, is cleared; then the
-/// magic from its second byte on with a closed gate; then the first byte; each with a barrier behind it. A made ledger
+/// magic from its second byte on with a closed gate; then the first byte; each with a barrier after it. A made ledger
 /// is left as it is.
 pub fn make<D: Disk>(store: &mut D, ledger: &mut D) -> Result<(), MakeFault>
     ensures made { D.tells → IsErrOf result Made → IsMade (D.file ledger.old).seen }
@@ -45,7 +45,7 @@ pub fn make<D: Disk>(store: &mut D, ledger: &mut D) -> Result<(), MakeFault>
     ensures calls { D.tells → Makes (files_of (D.file ledger.old) (D.file store.old)) (files_of (D.file ledger.new) (D.file store.new)) result }
     ensures store_later { D.faults store.old ≤ D.faults store.new }
     ensures ledger_later { D.faults ledger.old ≤ D.faults ledger.new }
-    ensures cause { IsErrOf result Disk → EitherRose (D.faults store.old) (D.faults store.new) (D.faults ledger.old) (D.faults ledger.new) }
+    ensures cause { IsErrOf result Disk → ADiskFailed (D.faults store.old) (D.faults store.new) (D.faults ledger.old) (D.faults ledger.new) }
 
     // Where no disk failed, both counts are as they were.
     ensures store_quiet { OnOk result (D.faults store.new ≡ D.faults store.old) }

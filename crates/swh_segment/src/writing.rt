@@ -3,7 +3,7 @@ ghost use Rattle.std.specs.Prelude.{◌≡◌, ◌≤◌, length, OnOk, OnErr};
 ghost use Rattle.swh_outside.specs.Disk.{Runs};
 ghost use Rattle.swh_outside.specs.Files.{FilesRuns, AreImages, files_of};
 ghost use Rattle.swh_outside.specs.Faults.{HasCause};
-ghost use Rattle.swh_segment.specs.Makes.{EitherRose};
+ghost use Rattle.swh_segment.specs.Makes.{ADiskFailed};
 ghost use Rattle.swh_segment.specs.Making.{barriers};
 ghost use Rattle.swh_segment.specs.Settled.{AreAtRest, seen_of};
 ghost use Rattle.swh_segment.specs.Record.{write_calls};
@@ -31,7 +31,7 @@ pub fn settle<D: Disk>(store: &mut D, ledger: &mut D) -> Result<(), Failed>
 
     ensures store_later { D.faults store.old ≤ D.faults store.new }
     ensures ledger_later { D.faults ledger.old ≤ D.faults ledger.new }
-    ensures cause { OnErr result (EitherRose (D.faults store.old) (D.faults store.new) (D.faults ledger.old) (D.faults ledger.new)) }
+    ensures cause { OnErr result (ADiskFailed (D.faults store.old) (D.faults store.new) (D.faults ledger.old) (D.faults ledger.new)) }
 
     // Where no disk failed, both counts are as they were.
     ensures store_quiet { OnOk result (D.faults store.new ≡ D.faults store.old) }

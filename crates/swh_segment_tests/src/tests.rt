@@ -13,7 +13,7 @@ const ROOM: Room = Room {
     calls: 64,
 };
 
-// A record with no payload, and the closed gate behind it.
+// A record with no payload, and the closed gate after it.
 const RECORD: [u8; 6] = [b'O', 0, 0, 0, 0, 0];
 
 fn disk(alloc: Global, bytes: &[u8]) -> Result<MemoryDisk, Fail>

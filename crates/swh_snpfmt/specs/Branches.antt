@@ -15,12 +15,12 @@ target_view (Alias name) = ToBranch name
 target_view Dangling = ToNothing
 
 -- a branch of its own, as the grammar's
-abbrev pub view : Branch → SnapshotBranch
-view b = record { name = b.name; target = target_view b.target }
+abbrev pub branch_view : Branch → SnapshotBranch
+branch_view b = record { name = b.name; target = target_view b.target }
 
 -- branches of their own, as the grammar's
-abbrev pub views : List Branch → List SnapshotBranch
-views bs = map view bs
+abbrev pub branch_views : List Branch → List SnapshotBranch
+branch_views bs = map branch_view bs
 
 -- a target that stands in a body, as the grammar's
 abbrev pub target_spelled : SpelledTarget → BranchTarget
@@ -33,5 +33,5 @@ abbrev pub branch_of : SpelledBranch → SnapshotBranch
 branch_of b = record { name = b.name.now; target = target_spelled b.target }
 
 -- branches that stand in a body, as the grammar's
-abbrev pub branches_of : List SpelledBranch → List SnapshotBranch
-branches_of bs = map branch_of bs
+abbrev pub branches_in_body : List SpelledBranch → List SnapshotBranch
+branches_in_body bs = map branch_of bs

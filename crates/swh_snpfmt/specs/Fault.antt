@@ -4,7 +4,7 @@ use Rattle.std.specs.List.{AllByRecursion}
 use Rattle.swh_base.specs.Snapshot.{SnapshotBranch, IsBranch, AreBranches, BranchIsBefore, branch_text, snapshot_text}
 
 -- what one more branch has to be
-pub record MayFollow (before : List SnapshotBranch) (branch : SnapshotBranch) : Type 0 where
+pub record MayFollowBranches (before : List SnapshotBranch) (branch : SnapshotBranch) : Type 0 where
   pub is_branch : IsBranch branch
   pub after : AllByRecursion (λ other. BranchIsBefore other branch) before
 
@@ -16,18 +16,18 @@ pub record BeginsBranch (bytes : List ℕ) : Type 0 where
   pub text : bytes ≡ branch_text branch ++ rest
 
 -- with a branch that may follow these.
-pub record BeginsNext (before : List SnapshotBranch) (bytes : List ℕ) : Type 0 where
+pub record BeginsNextBranch (before : List SnapshotBranch) (bytes : List ℕ) : Type 0 where
   pub branch : SnapshotBranch
   pub rest : List ℕ
-  pub next : MayFollow before branch
+  pub next : MayFollowBranches before branch
   pub text : bytes ≡ branch_text branch ++ rest
 
 -- The first branch of the body that breaks stands here: what is left is no branch that may follow those before it.
-pub record IsFault (body : List ℕ) (at : ℕ) : Type 0 where
+pub record IsSnpFault (body : List ℕ) (at : ℕ) : Type 0 where
   pub before : List SnapshotBranch
   pub rest : List ℕ
   pub good : AreBranches before
   pub text : body ≡ snapshot_text before ++ rest
   pub here : at ≡ length (snapshot_text before)
   pub some : rest ≢ []
-  pub breaks : BeginsNext before rest → ⊥
+  pub breaks : BeginsNextBranch before rest → ⊥

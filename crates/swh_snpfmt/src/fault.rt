@@ -1,7 +1,7 @@
 //! Why bytes are no snapshot.
 
 ghost use Rattle.std.specs.Prelude.{◌≡◌, ℕ, List};
-ghost use Rattle.swh_snpfmt.specs.Fault.{IsFault};
+ghost use Rattle.swh_snpfmt.specs.Fault.{IsSnpFault};
 ghost use Rattle.swh_snpfmt.specs.declared.fault.ReadSnpFault.TheVariants.{Memory as OutOfMemory};
 
 use std::alloc::AllocFailed;
@@ -40,5 +40,5 @@ impl<T: Drop> From<AllocFailed<T>> for ReadSnpFault {
 
 /// A body has one first fault at most, so its place is determined.
 pub fn one_fault()
-    ensures { (body : List ℕ) (i j : ℕ) → IsFault body i → IsFault body j → i ≡ j }
+    ensures { (body : List ℕ) (i j : ℕ) → IsSnpFault body i → IsSnpFault body j → i ≡ j }
 {}

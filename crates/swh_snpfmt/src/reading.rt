@@ -5,9 +5,9 @@ ghost use Rattle.std.specs.Ordering.{nat_cmp, is_lt};
 ghost use Rattle.std.specs.Cmp.Lexicographic.{slice_cmp};
 ghost use Rattle.std.specs.List.{AllByRecursion};
 ghost use Rattle.swh_base.specs.Snapshot.{SnapshotBranch, AreBranches, BranchIsBefore, branch_text, IsSnapshot};
-ghost use Rattle.swh_snpfmt.specs.Branches.{view, views, branch_of, branches_of};
-ghost use Rattle.swh_snpfmt.specs.Fault.{MayFollow, BeginsNext};
-ghost use Rattle.swh_snpfmt.specs.Reading.{Explains, Gives};
+ghost use Rattle.swh_snpfmt.specs.Branches.{branch_view, branch_views, branch_of, branches_in_body};
+ghost use Rattle.swh_snpfmt.specs.Fault.{MayFollowBranches, BeginsNextBranch};
+ghost use Rattle.swh_snpfmt.specs.Reading.{ExplainsSnp, GivesBranches};
 
 use crate::branch::{Branch, SpelledBranch, SpelledTarget, Target};
 use crate::branches::Branches;
@@ -24,8 +24,8 @@ fn is_before(name: &[u8], next: &[u8]) -> bool
 
 /// Whether this branch comes after all of the branches.
 fn is_after(before: &[SpelledBranch<'_>], next: &SpelledBranch<'_>) -> bool
-    requires { AreBranches (branches_of before.now) }
-    ensures { IsTrue result ↔ AllByRecursion (λ other. BranchIsBefore other (branch_of next.now)) (branches_of before.now) }
+    requires { AreBranches (branches_in_body before.now) }
+    ensures { IsTrue result ↔ AllByRecursion (λ other. BranchIsBefore other (branch_of next.now)) (branches_in_body before.now) }
 {
     match before.last() {
         Some(last) => is_before(last.name, next.name),
@@ -38,9 +38,9 @@ fn next_branch<'a>(
     before: &[SpelledBranch<'_>],
     bytes: &'a [u8],
 ) -> Option<(SpelledBranch<'a>, &'a [u8])>
-    requires { AreBranches (branches_of before.now) }
-    ensures some { IfSome result (λ x. MayFollow (branches_of before.now) (branch_of x.0) × (bytes.now ≡ branch_text (branch_of x.0) ++ x.1.now)) }
-    ensures none { IfNone result (BeginsNext (branches_of before.now) bytes.now → ⊥) }
+    requires { AreBranches (branches_in_body before.now) }
+    ensures some { IfSome result (λ x. MayFollowBranches (branches_in_body before.now) (branch_of x.0) × (bytes.now ≡ branch_text (branch_of x.0) ++ x.1.now)) }
+    ensures none { IfNone result (BeginsNextBranch (branches_in_body before.now) bytes.now → ⊥) }
 {
     let (next, rest) = front_branch(bytes)?;
     if is_after(before, &next) {
@@ -53,8 +53,8 @@ fn next_branch<'a>(
 /// The branches as they stand in a snapshot's body, in linear time. No byte of it is copied. Fails with the place of
 /// the first branch that breaks, or where memory runs out.
 pub fn spelled_snp(alloc: Global, body: &[u8]) -> Result<Vec<SpelledBranch<'_>>, ReadSnpFault>
-    ensures ok { IfOk result (λ list. IsSnapshot body.now (branches_of list.items)) }
-    ensures err { IfErr result (Explains body.now) }
+    ensures ok { IfOk result (λ list. IsSnapshot body.now (branches_in_body list.items)) }
+    ensures err { IfErr result (ExplainsSnp body.now) }
 {
     let mut list = Vec::new(alloc);
     let mut rest = body;
@@ -70,7 +70,7 @@ pub fn spelled_snp(alloc: Global, body: &[u8]) -> Result<Vec<SpelledBranch<'_>>,
 }
 
 fn owned_branch(alloc: Global, spelled: &SpelledBranch<'_>) -> Result<Branch, Memory>
-    ensures { IfOk result (λ branch. view branch ≡ branch_of spelled.now) }
+    ensures { IfOk result (λ branch. branch_view branch ≡ branch_of spelled.now) }
 {
     let name = Bytes::from_slice(alloc, spelled.name)?;
     let target = match spelled.target {
@@ -82,7 +82,7 @@ fn owned_branch(alloc: Global, spelled: &SpelledBranch<'_>) -> Result<Branch, Me
 }
 
 fn owned(alloc: Global, spelled: &[SpelledBranch<'_>]) -> Result<Vec<Branch>, Memory>
-    ensures { IfOk result (λ list. views list.items ≡ branches_of spelled.now) }
+    ensures { IfOk result (λ list. branch_views list.items ≡ branches_in_body spelled.now) }
 {
     let mut list = Vec::new(alloc);
     for branch in spelled {
@@ -93,7 +93,7 @@ fn owned(alloc: Global, spelled: &[SpelledBranch<'_>]) -> Result<Vec<Branch>, Me
 
 fn read(alloc: Global, body: &[u8]) -> Result<Branches, ReadSnpFault>
     ensures ok { IfOk result (λ branches. IsSnapshot body.now branches) }
-    ensures err { IfErr result (Explains body.now) }
+    ensures err { IfErr result (ExplainsSnp body.now) }
 {
     let spelled = spelled_snp(alloc, body)?;
     let list = owned(alloc, &spelled)?;
@@ -106,9 +106,9 @@ pub fn read_snp(alloc: Global, body: &[u8]) -> Result<Branches, ReadSnpFault>
     // What is read is the body's branches.
     ensures ok { IfOk result (λ branches. IsSnapshot body.now branches) }
     // What is a snapshot is read, unless memory runs out.
-    ensures only { (branches : List SnapshotBranch) → IsSnapshot body.now branches → Gives result branches }
+    ensures only { (branches : List SnapshotBranch) → IsSnapshot body.now branches → GivesBranches result branches }
     // Of what is refused this is the first branch that breaks.
-    ensures err { IfErr result (Explains body.now) }
+    ensures err { IfErr result (ExplainsSnp body.now) }
 {
     read(alloc, body)
 }

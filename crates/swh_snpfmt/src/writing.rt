@@ -2,7 +2,7 @@
 
 ghost use Rattle.std.specs.Prelude.{◌≡◌, ◌++◌, ℕ, List, IfOk, OnOk};
 ghost use Rattle.swh_base.specs.Snapshot.{SnapshotBranch, branch_text, IsSnapshot};
-ghost use Rattle.swh_snpfmt.specs.Branches.{view};
+ghost use Rattle.swh_snpfmt.specs.Branches.{branch_view};
 
 use crate::branch::Branch;
 use crate::branches::Branches;
@@ -12,7 +12,7 @@ use std::alloc::Global;
 use swh_base::Memory;
 
 fn put_branch(out: &mut Vec<u8>, branch: &Branch) -> Result<(), Memory>
-    ensures { OnOk result (out.new.items ≡ out.old.items ++ branch_text (view branch.now)) }
+    ensures { OnOk result (out.new.items ≡ out.old.items ++ branch_text (branch_view branch.now)) }
 {
     let target = bytes_of(&branch.target);
     let mut length = Buffer::new();

@@ -6,7 +6,7 @@ use Rattle.swh_swhid.specs.declared.swhid.Swhid.{Swhid}
 use Rattle.swh_swhid.specs.declared.swhid.Key.{Key}
 use Rattle.swh_swhid.specs.declared.swhid.Key.TheVariants.{Origin, Visit, Anchor, Path, Lines, Bytes}
 use Rattle.swh_swhid.specs.Front.{BreaksAt, common}
-use Rattle.swh_swhid.specs.Qualifier.{key_word, is_free, IsValueText, Says, Adds, IsNext}
+use Rattle.swh_swhid.specs.Qualifier.{key_word, is_free, IsValueText, Says, AddsQualifier, MayComeNext}
 use Rattle.swh_swhid.specs.Reading.{along_key}
 use Rattle.swh_swhid.proofs.Fronts.{common-le, chosen_breaks, breaks_after}
 use Rattle.swh_swhid.proofs.Cores.{any_core, word_first}
@@ -90,7 +90,7 @@ far_enough s key piece n far free =
     (omega (arith, le, is), omega (arith, bound, other))
 
 pub key_breaks : (s : Swhid) (piece : List ℕ) (any : Key) (o v a p l b : ℕ) → is_free s any ≡ true → o ≡ along_key s Origin piece → v ≡ along_key s Visit piece → a ≡ along_key s Anchor piece → p ≡ along_key s Path piece → l ≡ along_key s Lines piece → b ≡ along_key s Bytes piece
-    → o ≢ 7 → v ≢ 6 → a ≢ 7 → p ≢ 5 → l ≢ 6 → b ≢ 6 → BreaksAt (IsNext s) piece (max (max (max (max (max o v) a) p) l) b)
+    → o ≢ 7 → v ≢ 6 → a ≢ 7 → p ≢ 5 → l ≢ 6 → b ≢ 6 → BreaksAt (MayComeNext s) piece (max (max (max (max (max o v) a) p) l) b)
 key_breaks s piece any o v a p l b free eo ev ea ep el eb no_o no_v no_a no_p no_l no_b =
     let n : ℕ = max (max (max (max (max o v) a) p) l) b in
     let P : ℕ → Type 0 = Best s piece in
@@ -111,14 +111,14 @@ key_breaks s piece any o v a p l b free eo ev ea ep el eb no_o no_v no_a no_p no
 key_cut : (s : Swhid) (key : Key) (piece : List ℕ) → along_key s key piece ≡ length (key_word key) → piece ≡ key_word key ++ drop (length (key_word key)) piece
 key_cut s key piece h = word_first (key_word key) piece (free_along s key piece h).1
 
-pub value_breaks : (s : Swhid) (key : Key) (piece : List ℕ) (n : ℕ) → along_key s key piece ≡ length (key_word key) → BreaksAt (IsValueText key) (drop (length (key_word key)) piece) n → BreaksAt (IsNext s) piece (length (key_word key) + n)
+pub value_breaks : (s : Swhid) (key : Key) (piece : List ℕ) (n : ℕ) → along_key s key piece ≡ length (key_word key) → BreaksAt (IsValueText key) (drop (length (key_word key)) piece) n → BreaksAt (MayComeNext s) piece (length (key_word key) + n)
 value_breaks s key piece n h b =
     let free = (free_along s key piece h).0 in
-    let at = breaks_after (IsNext s) (IsValueText key) (key_word key) (drop (length (key_word key)) piece) n
+    let at = breaks_after (MayComeNext s) (IsValueText key) (key_word key) (drop (length (key_word key)) piece) n
     (λ y v. record { key = key; may_stand = free; rest = y; spelled = refl; follows = v })
     (λ y v. let both = one_key key v.key y v.rest v.spelled in subst (IsValueText key) (sym both.1) (subst (λ (k : Key). IsValueText k v.rest) (sym both.0) v.follows))
     b in
-    subst (λ (t : List ℕ). BreaksAt (IsNext s) t (length (key_word key) + n)) (sym (key_cut s key piece h)) at
+    subst (λ (t : List ℕ). BreaksAt (MayComeNext s) t (length (key_word key) + n)) (sym (key_cut s key piece h)) at
 
-pub key_adds : (s t : Swhid) (key : Key) (piece : List ℕ) → along_key s key piece ≡ length (key_word key) → Says key (drop (length (key_word key)) piece) s t → Adds s piece t
+pub key_adds : (s t : Swhid) (key : Key) (piece : List ℕ) → along_key s key piece ≡ length (key_word key) → Says key (drop (length (key_word key)) piece) s t → AddsQualifier s piece t
 key_adds s t key piece h says = record { key = key; free = (free_along s key piece h).0; value = drop (length (key_word key)) piece; spelled = key_cut s key piece h; says = says }

@@ -6,7 +6,7 @@ use Rattle.std.proofs.Math.Nat.{pow-suc, pow-le-pow_right, mul-le-mul_left, mul-
 use Rattle.std.proofs.lemmas.Bool.{cases_lt}
 use Rattle.std.proofs.lemmas.Str.Parse.{IsNumeralModel, numerals_by_fold, digits_value_short}
 use Rattle.std.proofs.lemmas.Fmt.{decimal-digits_value, digits_decimal, digits_value-decimal, length-decimal-le, first_decimal, decimal_nonempty, decimal_digit}
-use Rattle.swh_swhid.specs.Number.{number_limit, IsNumber, HasNumber, IsDigit, read_on, GoesOn, MayFollow}
+use Rattle.swh_swhid.specs.Number.{number_limit, IsNumberText, HasNumber, IsDigit, read_on, BeginsNumber, MayTakeDigit}
 
 abbrev pub AreDigits : List ℕ → Type 0
 AreDigits ds = AllByRecursion IsDigit ds
@@ -101,7 +101,7 @@ text_number n small =
     )
 
 -- the number that digits of at least this value are
-pub is_number : (least : ℕ) (ds : List ℕ) → AreNumber ds → least ≤ read_on 0 ds → IsNumber least ds (read_on 0 ds)
+pub is_number : (least : ℕ) (ds : List ℕ) → AreNumber ds → least ≤ read_on 0 ds → IsNumberText least ds (read_on 0 ds)
 is_number least ds h low = record { low = low; small = value-small ds h.are_digits h.few; spelled = number_text ds h }
 
 -- the digits of a number's text
@@ -127,7 +127,7 @@ only_zero_at least [] c (a ∷ x) h low none e = let one = h.no_zero e in absurd
 only_zero_at least [] c [] h low none e = omega (arith, low, e)
 
 -- Digits that begin a number of at least `least` and a byte more: the byte may follow.
-pub follows : (least value : ℕ) (ds : List ℕ) (c : ℕ) (x : List ℕ) → GoesOn least ds value → AreNumber (ds ++ c ∷ x) → least ≤ read_on 0 (ds ++ c ∷ x) → MayFollow least value (length ds) c
+pub follows : (least value : ℕ) (ds : List ℕ) (c : ℕ) (x : List ℕ) → BeginsNumber least ds value → AreNumber (ds ++ c ∷ x) → least ≤ read_on 0 (ds ++ c ∷ x) → MayTakeDigit least value (length ds) c
 follows least value ds c x g h low =
     let behind = digits-behind ds (c ∷ x) h.are_digits in
     let digit = behind.0 in
@@ -165,14 +165,14 @@ pub record Completes (least : ℕ) (ds : List ℕ) : Type 0 where
 has_number : (least : ℕ) (ds : List ℕ) → AreNumber ds → least ≤ read_on 0 ds → HasNumber least ds
 has_number least ds h low = record { number = read_on 0 ds; is = is_number least ds h low }
 
-complete_zero : (least : ℕ) (d : ℕ) (ds : List ℕ) → GoesOn least (d ∷ ds) 0 → Completes least (d ∷ ds)
+complete_zero : (least : ℕ) (d : ℕ) (ds : List ℕ) → BeginsNumber least (d ∷ ds) 0 → Completes least (d ∷ ds)
 complete_zero least d ds g =
     let head = zero_head d ds g.are_digits.0 (sym g.is) in
     let whole : AreNumber (d ∷ ds) = record { are_digits = g.are_digits; some = omega arith; few = g.few; no_zero = g.no_zero } in
     let none = g.only_zero head in
     record { more = []; number = subst (HasNumber least) (sym (append-nil (d ∷ ds))) (has_number least (d ∷ ds) whole (omega (arith, none))) }
 
-complete_above : (least value : ℕ) (d : ℕ) (ds : List ℕ) → 0 < value → GoesOn least (d ∷ ds) value → Completes least (d ∷ ds)
+complete_above : (least value : ℕ) (d : ℕ) (ds : List ℕ) → 0 < value → BeginsNumber least (d ∷ ds) value → Completes least (d ∷ ds)
 complete_above least value d ds above g =
     let k : ℕ = 18 - length (d ∷ ds) in
     let few = g.few in
@@ -189,13 +189,13 @@ complete_above least value d ds above g =
     let enough = g.enough in
     record { more = nines k; number = has_number least ((d ∷ ds) ++ nines k) whole (omega (arith, on, top, enough)) }
 
-pub completes : (least value : ℕ) (ds : List ℕ) → least < number_limit → GoesOn least ds value → Completes least ds
+pub completes : (least value : ℕ) (ds : List ℕ) → least < number_limit → BeginsNumber least ds value → Completes least ds
 completes least value [] small g = record { more = decimal least; number = record { number = least; is = record { low = omega arith; small = small; spelled = refl } } }
 completes least zero (d ∷ ds) small g = complete_zero least d ds g
 completes least (suc value) (d ∷ ds) small g = complete_above least (suc value) d ds (omega arith) g
 
 -- one digit more
-pub goes_on-more : (least value : ℕ) (ds : List ℕ) (c : ℕ) → GoesOn least ds value → MayFollow least value (length ds) c → GoesOn least (ds ++ c ∷ []) (value * 10 + (c - 48))
+pub goes_on-more : (least value : ℕ) (ds : List ℕ) (c : ℕ) → BeginsNumber least ds value → MayTakeDigit least value (length ds) c → BeginsNumber least (ds ++ c ∷ []) (value * 10 + (c - 48))
 goes_on-more least value [] c g m =
     let is = g.is in
     record {
@@ -219,7 +219,7 @@ goes_on-more least value (d ∷ ds) c g m =
       enough = subst (λ (k : ℕ). least < (value * 10 + (c - 48) + 1) * 10 ^ k) (sym left) m.enough;
     }
 
-pub goes_on-none : (least : ℕ) → least < number_limit → GoesOn least [] 0
+pub goes_on-none : (least : ℕ) → least < number_limit → BeginsNumber least [] 0
 goes_on-none least small = record {
   are_digits = tt;
   few = omega arith;
@@ -229,7 +229,7 @@ goes_on-none least small = record {
   enough = omega (arith, small);
 }
 
-pub goes_on-small : (least value : ℕ) (ds : List ℕ) → GoesOn least ds value → value < 10 ^ length ds
+pub goes_on-small : (least value : ℕ) (ds : List ℕ) → BeginsNumber least ds value → value < 10 ^ length ds
 goes_on-small least value ds g = let is = g.is in let high = read_on-high 0 ds g.are_digits in omega (arith, is, high)
 
 -- the place value of the digits that are left

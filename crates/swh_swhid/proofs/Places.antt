@@ -13,8 +13,8 @@ use Rattle.swh_swhid.specs.declared.swhid.Key.TheVariants.{Origin, Visit, Anchor
 use Rattle.swh_swhid.specs.declared.swhid.Swhid.{Swhid}
 use Rattle.swh_swhid.specs.Front.{BreaksAt}
 use Rattle.swh_swhid.specs.Core.{lead, kind_word, core_text, IsCore, HasCore}
-use Rattle.swh_swhid.specs.Qualifier.{is_free, IsValueText, Says, Adds, IsNext, AddAll, pieces_text, bare, IsSwhid, HasSwhid}
-use Rattle.swh_swhid.specs.Reading.{is_whole, IsClosed, Tail, IsPlace}
+use Rattle.swh_swhid.specs.Qualifier.{is_free, IsValueText, Says, AddsQualifier, MayComeNext, AddAll, pieces_text, unqualified, IsSwhid, HasSwhid}
+use Rattle.swh_swhid.specs.Reading.{is_whole, IsPieceEnd, Tail, IsPlace}
 use Rattle.swh_swhid.proofs.Fronts.{breaks_after}
 use Rattle.swh_swhid.proofs.KindWords.{length-kind_word}
 use Rattle.swh_swhid.proofs.Cores.{core-injective}
@@ -27,7 +27,7 @@ length-core_text n h =
     let id = h.0 in
     length-append lead (kind_word n.kind ++ encode_lower n.id) ∙ omega (arith, length-append (kind_word n.kind) (encode_lower n.id), length-kind_word n.kind, length-encode_with lower_digits n.id, id)
 
-pub closed-pieces : (pieces : List (List ℕ)) → IsClosed (pieces_text pieces)
+pub closed-pieces : (pieces : List (List ℕ)) → IsPieceEnd (pieces_text pieces)
 closed-pieces [] = tt
 closed-pieces (p ∷ pieces) = refl
 
@@ -38,14 +38,14 @@ one_core n m x y hn hm e =
     (core-injective n m hn hm both.0, both.1)
 
 -- the place after the core identifier
-pub first_place : (text : List ℕ) (n : ℕ) (name : Name) → n ≤ length text → IsClosed (drop n text) → IsCore Text (take n text) name → IsPlace text n (bare name)
+pub first_place : (text : List ℕ) (n : ℕ) (name : Name) → n ≤ length text → IsPieceEnd (drop n text) → IsCore Text (take n text) name → IsPlace text n (unqualified name)
 first_place text n name within closed core = record {
   within = within;
   closed = closed;
   to = λ y t hy tail. record { name = name; pieces = tail.pieces; named = core.named; spelled = ap (λ (x : List ℕ). x ++ y) core.spelled ∙ ap (λ (x : List ℕ). core_text name ++ x) tail.spelled; adds = tail.adds };
   from = λ y t hy h.
       let both = one_core name h.name y (pieces_text h.pieces) core.named h.named (ap (λ (x : List ℕ). x ++ y) (sym core.spelled) ∙ h.spelled) in
-      record { pieces = h.pieces; spelled = both.1; adds = subst (λ (m : Name). AddAll h.pieces (bare m) t) (sym both.0) h.adds };
+      record { pieces = h.pieces; spelled = both.1; adds = subst (λ (m : Name). AddAll h.pieces (unqualified m) t) (sym both.0) h.adds };
 }
 
 -- where a text's core identifier breaks, so does the text
@@ -59,9 +59,9 @@ core_begins text h = record {
 }
 
 core_whole : (text : List ℕ) → HasCore Text text → HasSwhid text
-core_whole text h = record { swhid = bare h.name; is = record { name = h.name; pieces = []; named = h.core.named; spelled = h.core.spelled ∙ sym (append-nil (core_text h.name)); adds = refl } }
+core_whole text h = record { swhid = unqualified h.name; is = record { name = h.name; pieces = []; named = h.core.named; spelled = h.core.spelled ∙ sym (append-nil (core_text h.name)); adds = refl } }
 
-pub core_breaks : (text : List ℕ) (e n : ℕ) → is_whole (take e text) ≡ true → IsClosed (drop e text) → BreaksAt (HasCore Text) (take e text) n → BreaksAt HasSwhid text n
+pub core_breaks : (text : List ℕ) (e n : ℕ) → is_whole (take e text) ≡ true → IsPieceEnd (drop e text) → BreaksAt (HasCore Text) (take e text) n → BreaksAt HasSwhid text n
 core_breaks text e n whole closed b =
     subst (λ (t : List ℕ). BreaksAt HasSwhid t n) (take-append-drop e text)
     (piece_breaks (HasCore Text) HasSwhid (take e text) (drop e text) n (λ q h. whole-core Text q h) core_begins core_whole whole closed b)
@@ -77,7 +77,7 @@ record First (s : Swhid) (y : List ℕ) (t : Swhid) : Type 0 where
   pieces : List (List ℕ)
   middle : Swhid
   cut : y ≡ piece ++ pieces_text pieces
-  adds : Adds s piece middle
+  adds : AddsQualifier s piece middle
   rest : AddAll pieces middle t
 
 first_of : (s : Swhid) (y : List ℕ) (t : Swhid) (pieces : List (List ℕ)) → 59 ∷ y ≡ pieces_text pieces → AddAll pieces s t → First s y t
@@ -108,7 +108,7 @@ becomes Path text s h = record { after = record s { path = Some (percent_decode 
 becomes Lines text s h = record { after = record s { lines = Some (h.first, h.more) }; says = record { first = h.first; more = h.more; range = h.range; spelled = h.spelled; becomes = refl } }
 becomes Bytes text s h = record { after = record s { bytes = Some (h.first, h.more) }; says = record { first = h.first; more = h.more; range = h.range; spelled = h.spelled; becomes = refl } }
 
-next_begins : (s : Swhid) (y : List ℕ) → HasTail s y → Begins (IsNext s) y
+next_begins : (s : Swhid) (y : List ℕ) → HasTail s y → Begins (MayComeNext s) y
 next_begins s y h =
     let f = first_of_tail s y h.swhid h.tail in
     record {
@@ -119,24 +119,24 @@ next_begins s y h =
       closed = closed-pieces f.pieces;
     }
 
-next_whole : (s : Swhid) (y : List ℕ) → IsNext s y → HasTail s y
+next_whole : (s : Swhid) (y : List ℕ) → MayComeNext s y → HasTail s y
 next_whole s y h =
     let b = becomes h.key h.rest s h.follows in
     record { swhid = b.after; tail = record { pieces = y ∷ []; spelled = ap (λ (t : List ℕ). 59 ∷ t) (sym (append-nil y)); adds = (b.after, record { key = h.key; free = h.may_stand; value = h.rest; spelled = h.spelled; says = b.says }, refl) } }
 
 -- the text up to a place and the `;` there
-semicolon_at : (text : List ℕ) (at : ℕ) → at < length text → IsClosed (drop at text) → drop at text ≡ 59 ∷ drop (at + 1) text
+semicolon_at : (text : List ℕ) (at : ℕ) → at < length text → IsPieceEnd (drop at text) → drop at text ≡ 59 ∷ drop (at + 1) text
 semicolon_at text at within closed =
     let cut = drop-cons text at 0 within in
-    let is : get_or text at 0 ≡ 59 = subst IsClosed cut closed in
+    let is : get_or text at 0 ≡ 59 = subst IsPieceEnd cut closed in
     let next : suc at ≡ at + 1 = omega arith in
     cut ∙ ap (λ (c : ℕ). c ∷ drop (suc at) text) is ∙ ap (λ (i : ℕ). 59 ∷ drop i text) next
 
-pub next_breaks : (text : List ℕ) (at e n : ℕ) (s : Swhid) → IsPlace text at s → at < length text → is_whole (take e (drop (at + 1) text)) ≡ true → IsClosed (drop e (drop (at + 1) text)) → BreaksAt (IsNext s) (take e (drop (at + 1) text)) n → BreaksAt HasSwhid text (at + 1 + n)
+pub next_breaks : (text : List ℕ) (at e n : ℕ) (s : Swhid) → IsPlace text at s → at < length text → is_whole (take e (drop (at + 1) text)) ≡ true → IsPieceEnd (drop e (drop (at + 1) text)) → BreaksAt (MayComeNext s) (take e (drop (at + 1) text)) n → BreaksAt HasSwhid text (at + 1 + n)
 next_breaks text at e n s place within whole closed b =
     let rest : List ℕ = drop (at + 1) text in
     let f : List ℕ = take at text ++ 59 ∷ [] in
-    let inner : BreaksAt (HasTail s) rest n = subst (λ (t : List ℕ). BreaksAt (HasTail s) t n) (take-append-drop e rest) (piece_breaks (IsNext s) (HasTail s) (take e rest) (drop e rest) n (whole-next s) (next_begins s) (next_whole s) whole closed b) in
+    let inner : BreaksAt (HasTail s) rest n = subst (λ (t : List ℕ). BreaksAt (HasTail s) t n) (take-append-drop e rest) (piece_breaks (MayComeNext s) (HasTail s) (take e rest) (drop e rest) n (whole-next s) (next_begins s) (next_whole s) whole closed b) in
     let joined : (y : List ℕ) → f ++ y ≡ take at text ++ 59 ∷ y = λ y. append_assoc (take at text) (59 ∷ []) y in
     let outer = breaks_after HasSwhid (HasTail s) f rest n
     (λ y h. record { swhid = h.swhid; is = subst (λ (t : List ℕ). IsSwhid t h.swhid) (sym (joined y)) (place.to (59 ∷ y) h.swhid refl h.tail) })
@@ -159,17 +159,17 @@ one_saying Bytes text s t u h k =
     let both = one_range 0 h.first k.first h.more k.more h.range k.range (sym h.spelled ∙ k.spelled) in
     h.becomes ∙ ap (λ (n : ℕ). record s { bytes = Some (n, h.more) }) both.0 ∙ ap (λ (m : Option ℕ). record s { bytes = Some (k.first, m) }) both.1 ∙ sym k.becomes
 
-pub one_adding : (s t u : Swhid) (piece : List ℕ) → Adds s piece t → Adds s piece u → t ≡ u
+pub one_adding : (s t u : Swhid) (piece : List ℕ) → AddsQualifier s piece t → AddsQualifier s piece u → t ≡ u
 one_adding s t u piece h k =
     let both = one_key h.key k.key h.value k.value (sym h.spelled ∙ k.spelled) in
     let says : Says h.key h.value s u = subst (λ (v : List ℕ). Says h.key v s u) (sym both.1) (subst (λ (j : Key). Says j k.value s u) (sym both.0) k.says) in
     one_saying h.key h.value s t u h.says says
 
-pub whole_of_adds : (s t : Swhid) (piece : List ℕ) → Adds s piece t → is_whole piece ≡ true
+pub whole_of_adds : (s t : Swhid) (piece : List ℕ) → AddsQualifier s piece t → is_whole piece ≡ true
 whole_of_adds s t piece h = whole-next s piece (record { key = h.key; may_stand = h.free; rest = h.value; spelled = h.spelled; follows = value_text h.key h.value s t h.says })
 
 -- the place after one more qualifier
-pub next_place : (text : List ℕ) (at e : ℕ) (s m : Swhid) → IsPlace text at s → at < length text → e ≤ length (drop (at + 1) text) → is_whole (take e (drop (at + 1) text)) ≡ true → IsClosed (drop e (drop (at + 1) text)) → Adds s (take e (drop (at + 1) text)) m → IsPlace text (at + 1 + e) m
+pub next_place : (text : List ℕ) (at e : ℕ) (s m : Swhid) → IsPlace text at s → at < length text → e ≤ length (drop (at + 1) text) → is_whole (take e (drop (at + 1) text)) ≡ true → IsPieceEnd (drop e (drop (at + 1) text)) → AddsQualifier s (take e (drop (at + 1) text)) m → IsPlace text (at + 1 + e) m
 next_place text at e s m place within fits whole closed adds =
     let rest : List ℕ = drop (at + 1) text in
     let p : List ℕ = take e rest in
@@ -182,12 +182,12 @@ next_place text at e s m place within fits whole closed adds =
     let joined : (y : List ℕ) → take (at + 1 + e) text ++ y ≡ take at text ++ 59 ∷ (p ++ y) = λ y. ap (λ (t : List ℕ). t ++ y) fronts.0 ∙ append_assoc (take at text) (59 ∷ p) y in
     record {
       within = long;
-      closed = subst IsClosed behind closed;
+      closed = subst IsPieceEnd behind closed;
       to = λ y t hy tail. subst (λ (x : List ℕ). IsSwhid x t) (sym (joined y)) (place.to (59 ∷ (p ++ y)) t refl (record { pieces = p ∷ tail.pieces; spelled = ap (λ (x : List ℕ). 59 ∷ (p ++ x)) tail.spelled; adds = (m, adds, tail.adds) }));
       from = λ y t hy h.
           let f = first_of_tail s (p ++ y) t (place.from (59 ∷ (p ++ y)) t refl (subst (λ (x : List ℕ). IsSwhid x t) (joined y) h)) in
           let both = same_piece p f.piece y (pieces_text f.pieces) whole (whole_of_adds s f.middle f.piece f.adds) hy (closed-pieces f.pieces) f.cut in
-          let same : f.middle ≡ m = one_adding s f.middle m f.piece f.adds (subst (λ (x : List ℕ). Adds s x m) both.0 adds) in
+          let same : f.middle ≡ m = one_adding s f.middle m f.piece f.adds (subst (λ (x : List ℕ). AddsQualifier s x m) both.0 adds) in
           record { pieces = f.pieces; spelled = both.1; adds = subst (λ (x : Swhid). AddAll f.pieces x t) same f.rest };
     }
 
@@ -207,7 +207,7 @@ full_breaks text at s place within none =
       here = sym (length-take-le at text place.within);
       more = [];
       goes_on = record { swhid = s; is = place.to [] s tt (record { pieces = []; spelled = refl; adds = refl }) };
-      stops = λ b tail x e h. let is : b ≡ 59 = subst IsClosed e place.closed in never x (subst (λ (c : ℕ). HasSwhid (take at text ++ c ∷ x)) is h);
+      stops = λ b tail x e h. let is : b ≡ 59 = subst IsPieceEnd e place.closed in never x (subst (λ (c : ℕ). HasSwhid (take at text ++ c ∷ x)) is h);
       refused = λ h. never (drop (at + 1) text) (subst HasSwhid (sym (take-append-drop at text) ∙ ap (λ (t : List ℕ). take at text ++ t) semi) h);
     }
 

@@ -7,12 +7,12 @@ use Rattle.std.proofs.Math.ListN.{drop_of_length-le}
 use Rattle.std.proofs.lemmas.Fmt.{decimal_injective}
 use Rattle.swh_base.proofs.Splits.{first_split}
 use Rattle.swh_swhid.specs.Front.{BreaksAt}
-use Rattle.swh_swhid.specs.Number.{number_limit, IsNumber, HasNumber, IsRange, HasRange, range_text, read_on, GoesOn, MayFollow, IsDigitsFront}
+use Rattle.swh_swhid.specs.Number.{number_limit, IsNumberText, HasNumber, IsRange, HasRange, range_text, read_on, BeginsNumber, MayTakeDigit, IsNumberFront}
 use Rattle.swh_swhid.proofs.Fronts.{breaks_after}
 use Rattle.swh_swhid.proofs.Numerals.{AreDigits, AreNumber, number_text, text_number, is_number, number_digits, follows, completes, value-small, zero_head}
 
 -- digits that begin a number and are some are one themselves
-goes_on-number : (least value : ℕ) (ds : List ℕ) → GoesOn least ds value → 0 < length ds → AreNumber ds
+goes_on-number : (least value : ℕ) (ds : List ℕ) → BeginsNumber least ds value → 0 < length ds → AreNumber ds
 goes_on-number least value ds g some = record { are_digits = g.are_digits; some = some; few = g.few; no_zero = g.no_zero }
 
 -- the byte at a place
@@ -27,14 +27,14 @@ at_byte : (text : List ℕ) (n : ℕ) → n < length text → text ≡ take n te
 at_byte text n within = sym (take-append-drop n text) ∙ ap (λ (t : List ℕ). take n text ++ t) (drop-cons text n 0 within)
 
 -- no number goes on from the longest digits
-no_number : (least : ℕ) (text : List ℕ) (value n b : ℕ) (x : List ℕ) → IsDigitsFront least text value n → n < length text → get_or text n 0 ≡ b → HasNumber least (take n text ++ b ∷ x) → ⊥
+no_number : (least : ℕ) (text : List ℕ) (value n b : ℕ) (x : List ℕ) → IsNumberFront least text value n → n < length text → get_or text n 0 ≡ b → HasNumber least (take n text ++ b ∷ x) → ⊥
 no_number least text value n b x f within at h =
     let digits = number_digits least (take n text ++ b ∷ x) h in
     let len = length-take-le n text f.within in
     let may = follows least value (take n text) b x f.goes_on digits.0 digits.1 in
-    f.stops within (subst (λ (c : ℕ). MayFollow least value n c) (sym at) (subst (λ (k : ℕ). MayFollow least value k b) len may))
+    f.stops within (subst (λ (c : ℕ). MayTakeDigit least value n c) (sym at) (subst (λ (k : ℕ). MayTakeDigit least value k b) len may))
 
-pub number_breaks : (least : ℕ) (text : List ℕ) (value n : ℕ) → least < number_limit → IsDigitsFront least text value n → (n ≡ length text → HasNumber least text → ⊥) → BreaksAt (HasNumber least) text n
+pub number_breaks : (least : ℕ) (text : List ℕ) (value n : ℕ) → least < number_limit → IsNumberFront least text value n → (n ≡ length text → HasNumber least text → ⊥) → BreaksAt (HasNumber least) text n
 number_breaks least text value n small f whole =
     let rest = completes least value (take n text) small f.goes_on in
     record {
@@ -59,19 +59,19 @@ front_whole : (text : List ℕ) (n : ℕ) → n ≡ length text → take n text 
 front_whole text n e = take_all n text (omega arith)
 
 -- whole digits below the least are no number of at least it
-pub number_low : (least : ℕ) (text : List ℕ) (value n : ℕ) → IsDigitsFront least text value n → n ≡ length text → value < least → HasNumber least text → ⊥
+pub number_low : (least : ℕ) (text : List ℕ) (value n : ℕ) → IsNumberFront least text value n → n ≡ length text → value < least → HasNumber least text → ⊥
 number_low least text value n f e low h =
     let enough = (number_digits least text h).1 in
     let is : value ≡ read_on 0 text = f.goes_on.is ∙ ap (read_on 0) (front_whole text n e) in
     omega arith
 
 -- whole digits are a number
-pub number_read : (least : ℕ) (text : List ℕ) (value n : ℕ) → IsDigitsFront least text value n → n ≡ length text → 0 < n → least ≤ value → IsNumber least text value
+pub number_read : (least : ℕ) (text : List ℕ) (value n : ℕ) → IsNumberFront least text value n → n ≡ length text → 0 < n → least ≤ value → IsNumberText least text value
 number_read least text value n f e some low =
     let whole = front_whole text n e in
     let is : value ≡ read_on 0 text = f.goes_on.is ∙ ap (read_on 0) whole in
     let number : AreNumber text = subst AreNumber whole (goes_on-number least value (take n text) f.goes_on (omega (arith, length-take-le n text f.within))) in
-    subst (IsNumber least text) (sym is) (is_number least text number (omega arith))
+    subst (IsNumberText least text) (sym is) (is_number least text number (omega arith))
 
 digit-no_dash : (ds : List ℕ) → AreDigits ds → Contains ds 45 → ⊥
 digit-no_dash [] h k = let l = k.1 in omega (arith, l)
@@ -120,7 +120,7 @@ no_dash_first first x y small e =
     let digits = (text_number first small).0 in
     head_digit (decimal first) x y digits.are_digits digits.some e
 
-no_range : (least : ℕ) (text : List ℕ) (value n b : ℕ) (x : List ℕ) → IsDigitsFront least text value n → n < length text → get_or text n 0 ≡ b → (b ≡ 45 → n ≡ 0) → HasRange least (take n text ++ b ∷ x) → ⊥
+no_range : (least : ℕ) (text : List ℕ) (value n b : ℕ) (x : List ℕ) → IsNumberFront least text value n → n < length text → get_or text n 0 ≡ b → (b ≡ 45 → n ≡ 0) → HasRange least (take n text ++ b ∷ x) → ⊥
 no_range least text value n b x f within at dash h =
     elim h.more as (λ m. IsRange least h.first m → take n text ++ b ∷ x ≡ range_text h.first m → ⊥) [
       | None ↦ λ r e. no_number least text value n b x f within at (subst (HasNumber least) (sym e) (range_first least h.first None r))
@@ -139,7 +139,7 @@ no_empty_range least text e h =
     omega arith
 
 -- Where no number may go on, and no `-` follows one, a range breaks.
-pub range_breaks : (least : ℕ) (text : List ℕ) (value n : ℕ) → least < number_limit → IsDigitsFront least text value n → (get_or text n 0 ≡ 45 → n ≡ 0) → (n ≡ length text → n ≡ 0) → BreaksAt (HasRange least) text n
+pub range_breaks : (least : ℕ) (text : List ℕ) (value n : ℕ) → least < number_limit → IsNumberFront least text value n → (get_or text n 0 ≡ 45 → n ≡ 0) → (n ≡ length text → n ≡ 0) → BreaksAt (HasRange least) text n
 range_breaks least text value n small f dash whole =
     let rest = completes least value (take n text) small f.goes_on in
     record {
@@ -157,7 +157,7 @@ range_breaks least text value n small f dash whole =
     }
 
 -- some digits that begin a number of at least 0 or 1 are one
-first_low : (least value : ℕ) (ds : List ℕ) → least ≤ 1 → GoesOn least ds value → 0 < length ds → least ≤ value
+first_low : (least value : ℕ) (ds : List ℕ) → least ≤ 1 → BeginsNumber least ds value → 0 < length ds → least ≤ value
 first_low least zero (d ∷ ds) low g some = let none = g.only_zero (zero_head d ds g.are_digits.0 (sym g.is)) in omega (arith, none)
 first_low least (suc value) (d ∷ ds) low g some = omega arith
 first_low least value [] low g some = absurd (omega arith)
@@ -183,16 +183,16 @@ range_out least value y small h =
     ] h.range h.spelled
 
 -- the text up to a `-`
-dash_cut : (least : ℕ) (text : List ℕ) (value n : ℕ) → IsDigitsFront least text value n → 0 < n → n < length text → get_or text n 0 ≡ 45 → text ≡ decimal value ++ 45 ∷ drop (suc n) text
+dash_cut : (least : ℕ) (text : List ℕ) (value n : ℕ) → IsNumberFront least text value n → 0 < n → n < length text → get_or text n 0 ≡ 45 → text ≡ decimal value ++ 45 ∷ drop (suc n) text
 dash_cut least text value n f some within dash =
     let number = goes_on-number least value (take n text) f.goes_on (omega (arith, length-take-le n text f.within)) in
     let spelled : take n text ≡ decimal value = number_text (take n text) number ∙ ap decimal (sym f.goes_on.is) in
     at_byte text n within ∙ ap (λ (c : ℕ). take n text ++ c ∷ drop (suc n) text) dash ∙ ap (λ (t : List ℕ). t ++ 45 ∷ drop (suc n) text) spelled
 
-pub value_small : (least value : ℕ) (ds : List ℕ) → GoesOn least ds value → value < number_limit
+pub value_small : (least value : ℕ) (ds : List ℕ) → BeginsNumber least ds value → value < number_limit
 value_small least value ds g = let is = g.is in let small = value-small ds g.are_digits g.few in omega (arith, is, small)
 
-pub second_breaks : (least : ℕ) (text : List ℕ) (value n k : ℕ) → least ≤ 1 → IsDigitsFront least text value n → 0 < n → n < length text → get_or text n 0 ≡ 45 → BreaksAt (HasNumber value) (drop (n + 1) text) k → BreaksAt (HasRange least) text (n + 1 + k)
+pub second_breaks : (least : ℕ) (text : List ℕ) (value n k : ℕ) → least ≤ 1 → IsNumberFront least text value n → 0 < n → n < length text → get_or text n 0 ≡ 45 → BreaksAt (HasNumber value) (drop (n + 1) text) k → BreaksAt (HasRange least) text (n + 1 + k)
 second_breaks least text value n k one f some within dash b =
     let len = length-take-le n text f.within in
     let low = first_low least value (take n text) one f.goes_on (omega (arith, len)) in
@@ -209,7 +209,7 @@ second_breaks least text value n k one f some within dash b =
     (subst (λ (t : List ℕ). BreaksAt (HasNumber value) t k) (sym behind) b) in
     subst (λ (t : List ℕ). BreaksAt (HasRange least) t (n + 1 + k)) (append_assoc (decimal value) (45 ∷ []) (drop (suc n) text) ∙ sym cut) (subst (λ (i : ℕ). BreaksAt (HasRange least) ((decimal value ++ 45 ∷ []) ++ drop (suc n) text) (i + k)) size at)
 
-pub second_read : (least : ℕ) (text : List ℕ) (value n last : ℕ) → least ≤ 1 → IsDigitsFront least text value n → 0 < n → n < length text → get_or text n 0 ≡ 45 → IsNumber value (drop (n + 1) text) last → IsRange least value (Some last) × (text ≡ range_text value (Some last))
+pub second_read : (least : ℕ) (text : List ℕ) (value n last : ℕ) → least ≤ 1 → IsNumberFront least text value n → 0 < n → n < length text → get_or text n 0 ≡ 45 → IsNumberText value (drop (n + 1) text) last → IsRange least value (Some last) × (text ≡ range_text value (Some last))
 second_read least text value n last one f some within dash h =
     let len = length-take-le n text f.within in
     let low = first_low least value (take n text) one f.goes_on (omega (arith, len)) in
@@ -217,7 +217,7 @@ second_read least text value n last one f some within dash h =
     let behind : drop (suc n) text ≡ drop (n + 1) text = ap (λ (i : ℕ). drop i text) next in
     (record { low = low; small = value_small least value (take n text) f.goes_on; last = (h.low, h.small) }, dash_cut least text value n f some within dash ∙ ap (λ (t : List ℕ). decimal value ++ 45 ∷ t) (behind ∙ h.spelled))
 
-pub first_read : (least : ℕ) (text : List ℕ) (value n : ℕ) → least ≤ 1 → IsDigitsFront least text value n → 0 < n → n ≡ length text → IsRange least value None × (text ≡ range_text value None)
+pub first_read : (least : ℕ) (text : List ℕ) (value n : ℕ) → least ≤ 1 → IsNumberFront least text value n → 0 < n → n ≡ length text → IsRange least value None × (text ≡ range_text value None)
 first_read least text value n one f some whole =
     let low = first_low least value (take n text) one f.goes_on (omega (arith, length-take-le n text f.within)) in
     let number = number_read least text value n f whole some low in

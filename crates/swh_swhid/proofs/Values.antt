@@ -11,7 +11,7 @@ use Rattle.swh_swhid.specs.declared.swhid.Key.{Key}
 use Rattle.swh_swhid.specs.declared.swhid.Key.TheVariants.{Origin, Visit, Anchor, Path, Lines, Bytes}
 use Rattle.swh_swhid.specs.declared.swhid.Swhid.{Swhid}
 use Rattle.swh_swhid.specs.Text.{is_text_byte, IsText, IsPathText}
-use Rattle.swh_swhid.specs.Qualifier.{Says, Adds, AddAll, pieces_text, bare, IsSwhid}
+use Rattle.swh_swhid.specs.Qualifier.{Says, AddsQualifier, AddAll, pieces_text, unqualified, IsSwhid}
 use Rattle.swh_swhid.specs.Printed.{printed, AreBytes, BeginsWithSlash, IsValue}
 use Rattle.swh_swhid.proofs.Wholes.{same_piece}
 use Rattle.swh_swhid.proofs.Places.{closed-pieces, one_core, one_adding, whole_of_adds}
@@ -25,14 +25,14 @@ one_tail (p ∷ ps) [] s t u h k e = absurd cc
 one_tail (p ∷ ps) (q ∷ qs) s t u h k e =
     let behind : p ++ pieces_text ps ≡ q ++ pieces_text qs = cc in
     let both = same_piece p q (pieces_text ps) (pieces_text qs) (whole_of_adds s h.0 p h.1) (whole_of_adds s k.0 q k.1) (closed-pieces ps) (closed-pieces qs) behind in
-    let same : h.0 ≡ k.0 = one_adding s h.0 k.0 p h.1 (subst (λ (x : List ℕ). Adds s x k.0) (sym both.0) k.1) in
+    let same : h.0 ≡ k.0 = one_adding s h.0 k.0 p h.1 (subst (λ (x : List ℕ). AddsQualifier s x k.0) (sym both.0) k.1) in
     one_tail ps qs k.0 t u (subst (λ (m : Swhid). AddAll ps m t) same h.2) k.2 both.1
 
 -- a text is a SWHID of one value at most
 pub one_value : (text : List ℕ) (s t : Swhid) → IsSwhid text s → IsSwhid text t → s ≡ t
 one_value text s t h k =
     let both = one_core h.name k.name (pieces_text h.pieces) (pieces_text k.pieces) h.named k.named (sym h.spelled ∙ k.spelled) in
-    one_tail h.pieces k.pieces (bare k.name) s t (subst (λ (n : Name). AddAll h.pieces (bare n) s) both.0 h.adds) k.adds both.1
+    one_tail h.pieces k.pieces (unqualified k.name) s t (subst (λ (n : Name). AddAll h.pieces (unqualified n) s) both.0 h.adds) k.adds both.1
 
 byte_of : (c : ℕ) → is_text_byte c ≡ true → IsByte c
 byte_of c h = grind (arith, nat_tests)
@@ -81,7 +81,7 @@ adds_value (p ∷ pieces) s t h v = adds_value pieces h.0 t h.2 (says_value h.1.
 
 -- what a text spells may be printed
 pub read_value : (text : List ℕ) (s : Swhid) → IsSwhid text s → IsValue s
-read_value text s h = adds_value h.pieces (bare h.name) s h.adds (record { named = h.named; origin = tt; visit = tt; anchor = tt; path = tt; lines = tt; bytes = tt })
+read_value text s h = adds_value h.pieces (unqualified h.name) s h.adds (record { named = h.named; origin = tt; visit = tt; anchor = tt; path = tt; lines = tt; bytes = tt })
 
 -- values with one printed text are one
 pub one_printed : (s t : Swhid) → IsValue s → IsValue t → printed s ≡ printed t → s ≡ t

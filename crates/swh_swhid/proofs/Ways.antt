@@ -10,7 +10,7 @@ use Rattle.swh_swhid.specs.declared.swhid.Key.TheVariants.{Origin, Visit, Anchor
 use Rattle.swh_swhid.specs.declared.swhid.Swhid.{Swhid}
 use Rattle.swh_swhid.specs.Core.{core_text, accepts}
 use Rattle.swh_swhid.specs.Number.{IsRange, range_text}
-use Rattle.swh_swhid.specs.Qualifier.{key_word, Adds, AddAll, pieces_text, bare, IsSwhid}
+use Rattle.swh_swhid.specs.Qualifier.{key_word, AddsQualifier, AddAll, pieces_text, unqualified, IsSwhid}
 use Rattle.swh_base.specs.Escape.{escaped}
 use Rattle.swh_swhid.specs.Printed.{said, said_range, printed, AreBytes, BeginsWithSlash, IsValue}
 use Rattle.swh_swhid.proofs.Escapes.{escaped-back, escaped-origin, escaped-path}
@@ -38,7 +38,7 @@ then s m t x y h k = record {
 none : (s : Swhid) → Way s s []
 none s = record { pieces = []; spelled = refl; adds = refl }
 
-one : (s t : Swhid) (key : Key) (value : List ℕ) → Adds s (key_word key ++ value) t → Way s t (59 ∷ (key_word key ++ value))
+one : (s t : Swhid) (key : Key) (value : List ℕ) → AddsQualifier s (key_word key ++ value) t → Way s t (59 ∷ (key_word key ++ value))
 one s t key value h = record { pieces = (key_word key ++ value) ∷ []; spelled = ap (λ (x : List ℕ). 59 ∷ x) (sym (append-nil (key_word key ++ value))); adds = (t, h, refl) }
 
 abbrev R : Type 0
@@ -47,9 +47,9 @@ R = ℕ × Option ℕ
 abbrev st : Name → Option (List ℕ) → Option Name → Option Name → Option (List ℕ) → Option R → Option R → Swhid
 st c o v a p l b = record { core = c; origin = o; visit = v; anchor = a; path = p; lines = l; bytes = b }
 
-way_origin : (c : Name) (o : Option (List ℕ)) → IfSome o (λ x. (x ≢ []) × AreBytes x) → Way (bare c) (st c o None None None None None) (said Origin (option_map escaped o))
-way_origin c None h = none (bare c)
-way_origin c (Some x) h = one (bare c) (st c (Some x) None None None None None) Origin (escaped x) (record { key = Origin; free = refl; value = escaped x; spelled = refl; says = (escaped-origin x h.0 h.1, ap (λ (y : List ℕ). st c (Some y) None None None None None) (sym (escaped-back x h.1))) })
+way_origin : (c : Name) (o : Option (List ℕ)) → IfSome o (λ x. (x ≢ []) × AreBytes x) → Way (unqualified c) (st c o None None None None None) (said Origin (option_map escaped o))
+way_origin c None h = none (unqualified c)
+way_origin c (Some x) h = one (unqualified c) (st c (Some x) None None None None None) Origin (escaped x) (record { key = Origin; free = refl; value = escaped x; spelled = refl; says = (escaped-origin x h.0 h.1, ap (λ (y : List ℕ). st c (Some y) None None None None None) (sym (escaped-back x h.1))) })
 
 way_visit : (c : Name) (o : Option (List ℕ)) (v : Option Name) → IfSome v (λ n. IsName n × (accepts AsVisit n.kind ≡ true)) → Way (st c o None None None None None) (st c o v None None None None) (said Visit (option_map core_text v))
 way_visit c o None h = none (st c o None None None None None)

@@ -17,8 +17,8 @@ use Rattle.swh_swhid.specs.Front.{BreaksAt}
 use Rattle.swh_swhid.specs.Core.{kind_word, lead, HasCore}
 use Rattle.swh_swhid.specs.Number.{HasRange, IsRange, range_text}
 use Rattle.swh_swhid.specs.Text.{is_text_byte, IsText, IsPathText}
-use Rattle.swh_swhid.specs.Qualifier.{key_word, IsValueText, IsNext}
-use Rattle.swh_swhid.specs.Reading.{is_whole, IsClosed}
+use Rattle.swh_swhid.specs.Qualifier.{key_word, IsValueText, MayComeNext}
+use Rattle.swh_swhid.specs.Reading.{is_whole, IsPieceEnd}
 use Rattle.swh_base.proofs.Ids.{IsIdText-encode}
 use Rattle.swh_swhid.proofs.Numerals.{AreDigits, text_number}
 
@@ -97,14 +97,14 @@ whole-value Path t h = whole-path t h
 whole-value Lines t h = whole-range 1 t h
 whole-value Bytes t h = whole-range 0 t h
 
-pub whole-next : (s : Swhid) (t : List ℕ) → IsNext s t → is_whole t ≡ true
+pub whole-next : (s : Swhid) (t : List ℕ) → MayComeNext s t → is_whole t ≡ true
 whole-next s t h = along t _ h.spelled (whole-append (key_word h.key) h.rest (whole-key h.key) (whole-value h.key h.rest h.follows))
 
-closed_head : (z x : List ℕ) (c : ℕ) → IsClosed z → z ≡ c ∷ x → c ≡ 59
-closed_head z x c h e = subst IsClosed e h
+closed_head : (z x : List ℕ) (c : ℕ) → IsPieceEnd z → z ≡ c ∷ x → c ≡ 59
+closed_head z x c h e = subst IsPieceEnd e h
 
 -- two pieces and what is closed after them
-pub same_piece : (q p z y : List ℕ) → is_whole q ≡ true → is_whole p ≡ true → IsClosed z → IsClosed y → q ++ z ≡ p ++ y → (q ≡ p) × (z ≡ y)
+pub same_piece : (q p z y : List ℕ) → is_whole q ≡ true → is_whole p ≡ true → IsPieceEnd z → IsPieceEnd y → q ++ z ≡ p ++ y → (q ≡ p) × (z ≡ y)
 same_piece [] [] z y hq hp hz hy e = (refl, e)
 same_piece [] (c ∷ p) z y hq hp hz hy e = absurd (semicolon_not c (and_parts (not (c == 59)) (is_whole p) hp).0 (closed_head z (p ++ y) c hz e))
 same_piece (c ∷ q) [] z y hq hp hz hy e = absurd (semicolon_not c (and_parts (not (c == 59)) (is_whole q) hq).0 (closed_head y (q ++ z) c hy (sym e)))
@@ -114,7 +114,7 @@ same_piece (c ∷ q) (d ∷ p) z y hq hp hz hy e =
     let both = same_piece q p z y (and_parts (not (c == 59)) (is_whole q) hq).1 (and_parts (not (d == 59)) (is_whole p) hp).1 hz hy after in
     let fronts = both.0 in (cc, both.1)
 
-longer_piece : (q f z x : List ℕ) (c : ℕ) → is_whole f ≡ true → IsClosed z → (c ≡ 59 → ⊥) → q ++ z ≡ f ++ c ∷ x → (more : List ℕ) × (q ≡ f ++ c ∷ more)
+longer_piece : (q f z x : List ℕ) (c : ℕ) → is_whole f ≡ true → IsPieceEnd z → (c ≡ 59 → ⊥) → q ++ z ≡ f ++ c ∷ x → (more : List ℕ) × (q ≡ f ++ c ∷ more)
 longer_piece [] [] z x c hf hz ne e = absurd (ne (closed_head z x c hz e))
 longer_piece [] (d ∷ f) z x c hf hz ne e = absurd (semicolon_not d (and_parts (not (d == 59)) (is_whole f) hf).0 (closed_head z (f ++ c ∷ x) d hz e))
 longer_piece (d ∷ q) [] z x c hf hz ne e = let same : d ≡ c = cc in (q, cc)
@@ -130,7 +130,7 @@ pub record Begins (L : List ℕ → Type 0) (text : List ℕ) : Type 0 where
   pub rest : List ℕ
   pub cut : text ≡ piece ++ rest
   pub good : L piece
-  pub closed : IsClosed rest
+  pub closed : IsPieceEnd rest
 
 is_semicolon : (b : ℕ) → (b ≡ 59) ⊎ (b ≢ 59)
 is_semicolon b = elim (cases_order b 59) [
@@ -143,12 +143,12 @@ head_whole : (r y tail : List ℕ) (c : ℕ) → is_whole r ≡ true → r ++ y 
 head_whole [] y tail c h e is = refl
 head_whole (d ∷ r) y tail c h e is = let same : d ≡ c = cc in absurd (semicolon_not d (and_parts (not (d == 59)) (is_whole r) h).0 (same ∙ is))
 
-head_other : (r y tail : List ℕ) (c : ℕ) → IsClosed y → r ++ y ≡ c ∷ tail → (c ≡ 59 → ⊥) → (more : List ℕ) × (r ≡ c ∷ more)
+head_other : (r y tail : List ℕ) (c : ℕ) → IsPieceEnd y → r ++ y ≡ c ∷ tail → (c ≡ 59 → ⊥) → (more : List ℕ) × (r ≡ c ∷ more)
 head_other [] y tail c h e ne = absurd (ne (closed_head y tail c h e))
 head_other (d ∷ r) y tail c h e ne = let same : d ≡ c = cc in (r, cc)
 
 -- Where a piece breaks, so does the text that has it in front.
-pub piece_breaks : (L K : List ℕ → Type 0) (p y : List ℕ) (n : ℕ) → ((q : List ℕ) → L q → is_whole q ≡ true) → ((t : List ℕ) → K t → Begins L t) → ((q : List ℕ) → L q → K q) → is_whole p ≡ true → IsClosed y → BreaksAt L p n → BreaksAt K (p ++ y) n
+pub piece_breaks : (L K : List ℕ → Type 0) (p y : List ℕ) (n : ℕ) → ((q : List ℕ) → L q → is_whole q ≡ true) → ((t : List ℕ) → K t → Begins L t) → ((q : List ℕ) → L q → K q) → is_whole p ≡ true → IsPieceEnd y → BreaksAt L p n → BreaksAt K (p ++ y) n
 piece_breaks L K p y n whole out into hp hy b =
     let joined : is_whole (b.front ++ b.rest) ≡ true = ap is_whole (sym b.cut) ∙ hp in
     let hf = whole-front b.front b.rest joined in

@@ -8,7 +8,7 @@ abbrev pub number_limit : ℕ
 number_limit = 10 ^ 18
 
 -- The text spells the number, which is at least the first.
-pub record IsNumber (least : ℕ) (text : List ℕ) (number : ℕ) : Type 0 where
+pub record IsNumberText (least : ℕ) (text : List ℕ) (number : ℕ) : Type 0 where
   pub low : least ≤ number
   pub small : number < number_limit
   pub spelled : text ≡ decimal number
@@ -16,7 +16,7 @@ pub record IsNumber (least : ℕ) (text : List ℕ) (number : ℕ) : Type 0 wher
 -- The text is a number of at least the first.
 pub record HasNumber (least : ℕ) (text : List ℕ) : Type 0 where
   pub number : ℕ
-  pub is : IsNumber least text number
+  pub is : IsNumberText least text number
 
 -- a number, or two with a `-` between them
 abbrev pub range_text : ℕ → Option ℕ → List ℕ
@@ -46,7 +46,7 @@ read_on n [] = n
 read_on n (c ∷ ds) = read_on (n * 10 + (c - 48)) ds
 
 -- Some number of at least the first begins with the digits, whose value this is.
-pub record GoesOn (least : ℕ) (digits : List ℕ) (value : ℕ) : Type 0 where
+pub record BeginsNumber (least : ℕ) (digits : List ℕ) (value : ℕ) : Type 0 where
   pub are_digits : AllByRecursion IsDigit digits
   pub few : length digits ≤ 18
   pub no_zero : slice_index digits 0 ≡ 48 → length digits ≡ 1
@@ -59,14 +59,14 @@ abbrev pub ZerosAllow : ℕ → ℕ → ℕ → ℕ → Type 0
 ZerosAllow least value count c = (0 < count → 0 < value) × (count ≡ 0 → c ≡ 48 → least ≡ 0)
 
 -- One more byte that keeps this so.
-pub record MayFollow (least value count c : ℕ) : Type 0 where
+pub record MayTakeDigit (least value count c : ℕ) : Type 0 where
   pub digit : IsDigit c
   pub room : count < 18
   pub zeros : ZerosAllow least value count c
   pub enough : least < (value * 10 + (c - 48) + 1) * 10 ^ (17 - count)
 
 -- the longest digits at the front of the text that some number of at least the first begins with
-pub record IsDigitsFront (least : ℕ) (text : List ℕ) (value count : ℕ) : Type 0 where
+pub record IsNumberFront (least : ℕ) (text : List ℕ) (value count : ℕ) : Type 0 where
   pub within : count ≤ length text
-  pub goes_on : GoesOn least (take count text) value
-  pub stops : count < length text → MayFollow least value count (slice_index text count) → ⊥
+  pub goes_on : BeginsNumber least (take count text) value
+  pub stops : count < length text → MayTakeDigit least value count (slice_index text count) → ⊥

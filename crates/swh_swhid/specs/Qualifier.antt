@@ -78,7 +78,7 @@ Says Lines text s t = SaysLines text s t
 Says Bytes text s t = SaysBytes text s t
 
 -- The piece is a qualifier that says something new, and with it the first becomes the second.
-pub record Adds (s : Swhid) (piece : List ℕ) (t : Swhid) : Type 0 where
+pub record AddsQualifier (s : Swhid) (piece : List ℕ) (t : Swhid) : Type 0 where
   pub key : Key
   pub free : is_free s key ≡ true
   pub value : List ℕ
@@ -86,21 +86,21 @@ pub record Adds (s : Swhid) (piece : List ℕ) (t : Swhid) : Type 0 where
   pub says : Says key value s t
 
 -- a qualifier that may come next
-abbrev pub IsNext : Swhid → List ℕ → Type 0
-IsNext s = Chosen Key key_word (is_free s) IsValueText
+abbrev pub MayComeNext : Swhid → List ℕ → Type 0
+MayComeNext s = Chosen Key key_word (is_free s) IsValueText
 
 -- The pieces are qualifiers, and with them the first becomes the second.
 abbrev pub AddAll : List (List ℕ) → Swhid → Swhid → Type 0
 AddAll [] s t = s ≡ t
-AddAll (piece ∷ pieces) s t = (m : Swhid) × Adds s piece m × AddAll pieces m t
+AddAll (piece ∷ pieces) s t = (m : Swhid) × AddsQualifier s piece m × AddAll pieces m t
 
 -- each piece after a `;`
 abbrev pub pieces_text : List (List ℕ) → List ℕ
 pieces_text pieces = flat_map (λ piece. 59 ∷ piece) pieces
 
 -- a name without qualifiers
-abbrev pub bare : Name → Swhid
-bare name = record { core = name; origin = None; visit = None; anchor = None; path = None; lines = None; bytes = None }
+abbrev pub unqualified : Name → Swhid
+unqualified name = record { core = name; origin = None; visit = None; anchor = None; path = None; lines = None; bytes = None }
 
 -- The text is a SWHID of this value: a core identifier, and qualifiers in any order, each after a `;`.
 pub record IsSwhid (text : List ℕ) (s : Swhid) : Type 0 where
@@ -108,7 +108,7 @@ pub record IsSwhid (text : List ℕ) (s : Swhid) : Type 0 where
   pub pieces : List (List ℕ)
   pub named : IsName name
   pub spelled : text ≡ core_text name ++ pieces_text pieces
-  pub adds : AddAll pieces (bare name) s
+  pub adds : AddAll pieces (unqualified name) s
 
 -- The text is a SWHID.
 pub record HasSwhid (text : List ℕ) : Type 0 where

@@ -12,9 +12,9 @@ abbrev pub along_key : Swhid → Key → List ℕ → ℕ
 along_key s key piece = if is_free s key then common (key_word key) piece else 0
 
 -- Memory ran out, or the text breaks off there.
-abbrev pub Explains : (List ℕ → Type 0) → List ℕ → SwhidFault → Type 0
-Explains L text Memory = Unit {0}
-Explains L text (BadText at) = BreaksAt L text at
+abbrev pub ExplainsSwhid : (List ℕ → Type 0) → List ℕ → SwhidFault → Type 0
+ExplainsSwhid L text Memory = Unit {0}
+ExplainsSwhid L text (BadText at) = BreaksAt L text at
 
 -- no `;`
 abbrev pub is_whole : List ℕ → Bool
@@ -22,9 +22,9 @@ is_whole [] = true
 is_whole (c ∷ text) = not (c == 59) && is_whole text
 
 -- nothing, or a `;` and what follows it
-abbrev pub IsClosed : List ℕ → Type 0
-IsClosed [] = Unit {0}
-IsClosed (c ∷ text) = c ≡ 59
+abbrev pub IsPieceEnd : List ℕ → Type 0
+IsPieceEnd [] = Unit {0}
+IsPieceEnd (c ∷ text) = c ≡ 59
 
 -- Pieces, each after a `;`, that take the first value to the second.
 pub record Tail (s : Swhid) (text : List ℕ) (t : Swhid) : Type 0 where
@@ -35,12 +35,12 @@ pub record Tail (s : Swhid) (text : List ℕ) (t : Swhid) : Type 0 where
 -- What is read so far is this value: whole pieces go on from here as from it.
 pub record IsPlace (text : List ℕ) (at : ℕ) (s : Swhid) : Type 0 where
   pub within : at ≤ length text
-  pub closed : IsClosed (drop at text)
-  pub to : (y : List ℕ) (t : Swhid) → IsClosed y → Tail s y t → IsSwhid (take at text ++ y) t
-  pub from : (y : List ℕ) (t : Swhid) → IsClosed y → IsSwhid (take at text ++ y) t → Tail s y t
+  pub closed : IsPieceEnd (drop at text)
+  pub to : (y : List ℕ) (t : Swhid) → IsPieceEnd y → Tail s y t → IsSwhid (take at text ++ y) t
+  pub from : (y : List ℕ) (t : Swhid) → IsPieceEnd y → IsSwhid (take at text ++ y) t → Tail s y t
 
 -- It gives this value, unless memory ran out.
-abbrev pub Gives : Result Swhid SwhidFault → Swhid → Type 0
-Gives (Ok found) s = found ≡ s
-Gives (Err Memory) s = Unit {0}
-Gives (Err (BadText at)) s = ⊥
+abbrev pub GivesSwhid : Result Swhid SwhidFault → Swhid → Type 0
+GivesSwhid (Ok found) s = found ≡ s
+GivesSwhid (Err Memory) s = Unit {0}
+GivesSwhid (Err (BadText at)) s = ⊥

@@ -2,7 +2,7 @@
 
 ghost use Rattle.std.specs.Prelude.{◌≡◌, ◌+◌, ◌*◌, ◌<◌, ◌≤◌, ◌^◌, IsTrue, IfOk, IfErr, ◌↔◌};
 ghost use Rattle.swh_swhid.specs.Front.{BreaksAt};
-ghost use Rattle.swh_swhid.specs.Number.{number_limit, IsDigit, IsNumber, HasNumber, IsRange, HasRange, range_text, ZerosAllow, MayFollow, IsDigitsFront};
+ghost use Rattle.swh_swhid.specs.Number.{number_limit, IsDigit, IsNumberText, HasNumber, IsRange, HasRange, range_text, ZerosAllow, MayTakeDigit, IsNumberFront};
 
 use crate::front::behind;
 
@@ -41,7 +41,7 @@ fn reaches(least: u64, value: u64, left: u32) -> bool
 /// Whether the byte may come after these digits, on the way to a number of at least `least`.
 fn may_follow(least: u64, value: u64, count: usize, c: u8) -> bool
     requires { value < 10 ^ count }
-    ensures { IsTrue result ↔ MayFollow least value count c }
+    ensures { IsTrue result ↔ MayTakeDigit least value count c }
 {
     if !is_digit(c) {
         return false;
@@ -58,7 +58,7 @@ fn may_follow(least: u64, value: u64, count: usize, c: u8) -> bool
 /// The longest digits at the front of a text that a number of at least `least` begins with.
 fn digits_front(least: u64, text: &[u8]) -> Digits
     requires { least < number_limit }
-    ensures { IsDigitsFront least text.now result.value result.count }
+    ensures { IsNumberFront least text.now result.value result.count }
 {
     let mut value = 0;
     for (i, c) in text.iter().enumerate() {
@@ -76,7 +76,7 @@ fn digits_front(least: u64, text: &[u8]) -> Digits
 /// The number of at least `least` that the text is, or where it breaks off.
 fn read_number(least: u64, text: &[u8]) -> Result<u64, usize>
     requires { least < number_limit }
-    ensures ok { IfOk result (λ number. IsNumber least text.now number) }
+    ensures ok { IfOk result (λ number. IsNumberText least text.now number) }
     ensures err { IfErr result (λ n. BreaksAt (HasNumber least) text.now n) }
 {
     let digits = digits_front(least, text);

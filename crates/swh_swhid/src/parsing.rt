@@ -3,8 +3,8 @@
 ghost use Rattle.std.specs.Prelude.{◌≡◌, ◌<◌, ◌≤◌, length, take, drop, true, false, IfOk, IfErr, IfSome, IfNone};
 ghost use Rattle.swh_swhid.specs.declared.swhid.Swhid.{Swhid};
 ghost use Rattle.swh_swhid.specs.declared.swhid.Key.{Key};
-ghost use Rattle.swh_swhid.specs.Qualifier.{is_free, bare, IsSwhid, HasSwhid};
-ghost use Rattle.swh_swhid.specs.Reading.{is_whole, IsClosed, IsPlace, Explains, Gives};
+ghost use Rattle.swh_swhid.specs.Qualifier.{is_free, unqualified, IsSwhid, HasSwhid};
+ghost use Rattle.swh_swhid.specs.Reading.{is_whole, IsPieceEnd, IsPlace, ExplainsSwhid, GivesSwhid};
 
 use crate::fault::SwhidFault;
 use crate::front::{behind, front};
@@ -18,7 +18,7 @@ use swh_base::Name;
 fn piece_end(text: &[u8]) -> usize
     ensures within { result ≤ length text.now }
     ensures whole { is_whole (take result text.now) ≡ true }
-    ensures closed { IsClosed (drop result text.now) }
+    ensures closed { IsPieceEnd (drop result text.now) }
 {
     for (i, c) in text.iter().enumerate() {
         if *c == b';' {
@@ -29,7 +29,7 @@ fn piece_end(text: &[u8]) -> usize
 }
 
 fn bare(core: Name) -> Swhid
-    ensures { result ≡ bare core }
+    ensures { result ≡ unqualified core }
 {
     Swhid {
         core,
@@ -69,7 +69,7 @@ fn read_next(alloc: Global, swhid: &mut Swhid, text: &[u8], at: usize) -> Result
     requires place { IsPlace text.now at swhid.old }
     requires within { at < length text.now }
     ensures ok { IfOk result (λ next. (at < next) × IsPlace text.now next swhid.new) }
-    ensures err { IfErr result (Explains HasSwhid text.now) }
+    ensures err { IfErr result (ExplainsSwhid HasSwhid text.now) }
 {
     if free_key(swhid).is_none() {
         return Err(bad(at));
@@ -89,7 +89,7 @@ fn read_next(alloc: Global, swhid: &mut Swhid, text: &[u8], at: usize) -> Result
 /// Reads the text: the value that the text is a SWHID of.
 fn read(alloc: Global, text: &[u8]) -> Result<Swhid, SwhidFault>
     ensures ok { IfOk result (λ swhid. IsPlace text.now (length text.now) swhid) }
-    ensures err { IfErr result (Explains HasSwhid text.now) }
+    ensures err { IfErr result (ExplainsSwhid HasSwhid text.now) }
 {
     let mut at = piece_end(text);
     let mut swhid = match read_core(Place::Text, front(text, at)) {
@@ -116,9 +116,9 @@ pub fn parse(alloc: Global, text: &[u8]) -> Result<Swhid, SwhidFault>
     // What is read is the text's value.
     ensures ok { IfOk result (λ swhid. IsSwhid text.now swhid) }
     // A SWHID's text is read, unless memory runs out.
-    ensures only { (swhid : Swhid) → IsSwhid text.now swhid → Gives result swhid }
+    ensures only { (swhid : Swhid) → IsSwhid text.now swhid → GivesSwhid result swhid }
     // What is refused is no SWHID's text, and breaks off there.
-    ensures err { IfErr result (Explains HasSwhid text.now) }
+    ensures err { IfErr result (ExplainsSwhid HasSwhid text.now) }
 {
     read(alloc, text)
 }

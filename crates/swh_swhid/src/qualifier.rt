@@ -3,8 +3,8 @@
 ghost use Rattle.std.specs.Prelude.{◌≡◌, ◌<◌, ◌+◌, ℕ, List, length, true, IfOk, IfErr, OnOk};
 ghost use Rattle.swh_swhid.specs.declared.swhid.Key.{Key};
 ghost use Rattle.swh_swhid.specs.Front.{BreaksAt, common};
-ghost use Rattle.swh_swhid.specs.Qualifier.{key_word, is_free, IsValueText, Says, Adds, IsNext};
-ghost use Rattle.swh_swhid.specs.Reading.{along_key, Explains};
+ghost use Rattle.swh_swhid.specs.Qualifier.{key_word, is_free, IsValueText, Says, AddsQualifier, MayComeNext};
+ghost use Rattle.swh_swhid.specs.Reading.{along_key, ExplainsSwhid};
 
 use crate::fault::SwhidFault;
 use crate::front::{behind, shared};
@@ -57,7 +57,7 @@ fn along(swhid: &Swhid, key: Key, piece: &[u8]) -> usize
 fn key_of(swhid: &Swhid, piece: &[u8]) -> Result<Key, usize>
     requires { (key : Key) × (is_free swhid.now key ≡ true) }
     ensures ok { IfOk result (λ key. along_key swhid.now key piece.now ≡ length (key_word key)) }
-    ensures err { IfErr result (λ n. BreaksAt (IsNext swhid.now) piece.now n) }
+    ensures err { IfErr result (λ n. BreaksAt (MayComeNext swhid.now) piece.now n) }
 {
     let origin = along(swhid, Key::Origin, piece);
     let visit = along(swhid, Key::Visit, piece);
@@ -98,7 +98,7 @@ pub fn bad(at: usize) -> SwhidFault
 
 fn add_origin(alloc: Global, swhid: &mut Swhid, text: &[u8]) -> Result<(), SwhidFault>
     ensures ok { OnOk result (Says Key.Origin text.now swhid.old swhid.new) }
-    ensures err { IfErr result (Explains (IsValueText Key.Origin) text.now) }
+    ensures err { IfErr result (ExplainsSwhid (IsValueText Key.Origin) text.now) }
 {
     if let Err(at) = read_origin(text) {
         return Err(bad(at));
@@ -109,7 +109,7 @@ fn add_origin(alloc: Global, swhid: &mut Swhid, text: &[u8]) -> Result<(), Swhid
 
 fn add_path(alloc: Global, swhid: &mut Swhid, text: &[u8]) -> Result<(), SwhidFault>
     ensures ok { OnOk result (Says Key.Path text.now swhid.old swhid.new) }
-    ensures err { IfErr result (Explains (IsValueText Key.Path) text.now) }
+    ensures err { IfErr result (ExplainsSwhid (IsValueText Key.Path) text.now) }
 {
     if let Err(at) = read_path(text) {
         return Err(bad(at));
@@ -120,7 +120,7 @@ fn add_path(alloc: Global, swhid: &mut Swhid, text: &[u8]) -> Result<(), SwhidFa
 
 fn add_visit(swhid: &mut Swhid, text: &[u8]) -> Result<(), SwhidFault>
     ensures ok { OnOk result (Says Key.Visit text.now swhid.old swhid.new) }
-    ensures err { IfErr result (Explains (IsValueText Key.Visit) text.now) }
+    ensures err { IfErr result (ExplainsSwhid (IsValueText Key.Visit) text.now) }
 {
     match read_core(Place::Visit, text) {
         Ok(name) => swhid.visit = Some(name),
@@ -131,7 +131,7 @@ fn add_visit(swhid: &mut Swhid, text: &[u8]) -> Result<(), SwhidFault>
 
 fn add_anchor(swhid: &mut Swhid, text: &[u8]) -> Result<(), SwhidFault>
     ensures ok { OnOk result (Says Key.Anchor text.now swhid.old swhid.new) }
-    ensures err { IfErr result (Explains (IsValueText Key.Anchor) text.now) }
+    ensures err { IfErr result (ExplainsSwhid (IsValueText Key.Anchor) text.now) }
 {
     match read_core(Place::Anchor, text) {
         Ok(name) => swhid.anchor = Some(name),
@@ -142,7 +142,7 @@ fn add_anchor(swhid: &mut Swhid, text: &[u8]) -> Result<(), SwhidFault>
 
 fn add_lines(swhid: &mut Swhid, text: &[u8]) -> Result<(), SwhidFault>
     ensures ok { OnOk result (Says Key.Lines text.now swhid.old swhid.new) }
-    ensures err { IfErr result (Explains (IsValueText Key.Lines) text.now) }
+    ensures err { IfErr result (ExplainsSwhid (IsValueText Key.Lines) text.now) }
 {
     match read_range(1, text) {
         Ok(range) => swhid.lines = Some(range),
@@ -153,7 +153,7 @@ fn add_lines(swhid: &mut Swhid, text: &[u8]) -> Result<(), SwhidFault>
 
 fn add_bytes(swhid: &mut Swhid, text: &[u8]) -> Result<(), SwhidFault>
     ensures ok { OnOk result (Says Key.Bytes text.now swhid.old swhid.new) }
-    ensures err { IfErr result (Explains (IsValueText Key.Bytes) text.now) }
+    ensures err { IfErr result (ExplainsSwhid (IsValueText Key.Bytes) text.now) }
 {
     match read_range(0, text) {
         Ok(range) => swhid.bytes = Some(range),
@@ -165,7 +165,7 @@ fn add_bytes(swhid: &mut Swhid, text: &[u8]) -> Result<(), SwhidFault>
 /// Takes what the text says as the key's value.
 fn add_value(alloc: Global, swhid: &mut Swhid, key: Key, text: &[u8]) -> Result<(), SwhidFault>
     ensures ok { OnOk result (Says key text.now swhid.old swhid.new) }
-    ensures err { IfErr result (Explains (IsValueText key) text.now) }
+    ensures err { IfErr result (ExplainsSwhid (IsValueText key) text.now) }
 {
     match key {
         Key::Origin => add_origin(alloc, swhid, text),
@@ -180,8 +180,8 @@ fn add_value(alloc: Global, swhid: &mut Swhid, key: Key, text: &[u8]) -> Result<
 /// Takes what the piece says, which some key is free for.
 pub fn add_qualifier(alloc: Global, swhid: &mut Swhid, piece: &[u8]) -> Result<(), SwhidFault>
     requires { (key : Key) × (is_free swhid.old key ≡ true) }
-    ensures ok { OnOk result (Adds swhid.old piece.now swhid.new) }
-    ensures err { IfErr result (Explains (IsNext swhid.old) piece.now) }
+    ensures ok { OnOk result (AddsQualifier swhid.old piece.now swhid.new) }
+    ensures err { IfErr result (ExplainsSwhid (MayComeNext swhid.old) piece.now) }
 {
     let key = match key_of(swhid, piece) {
         Ok(key) => key,

@@ -5,7 +5,7 @@ use Rattle.clap.specs.Words.{Row, Text, all_of, first_of, subcommand_of}
 use Rattle.swh_base.specs.declared.kind.Kind.{Kind}
 use Rattle.swh_base.specs.declared.kind.Kind.TheVariants.{Content, Directory, Revision, Release, Snapshot}
 use Rattle.swh_words.specs.Definition.{program_app}
-use Rattle.swh_words.specs.Words.{Wanted, ToInit, ToLoad, ToAsk, ToIdentify, IsAsked, IsCommand, IsGiven, IsOffered}
+use Rattle.swh_words.specs.Words.{Wanted, ToInit, ToLoad, ToAsk, ToIdentify, AsksFor, IsCommand, IsGiven, IsOffered}
 use Rattle.swh_base.specs.Kind.{kind_letters}
 use Rattle.swh_words.specs.declared.command.Command.{Command}
 use Rattle.swh_words.specs.declared.command.WordsFault.{WordsFault}
@@ -51,14 +51,14 @@ read-given given (ToIdentify kind path) h =
     (λ i. wanted_from (h.0 i) (first_of (codes "dir") given.1) (first_of (codes "jobs") given.1) (h.1 i) (all_of (codes "path") given.1) (h.2 i))
     ∙ ap (λ k. ToIdentify k path) (kind_from-kind_letters kind)
 
-one_asked : (o : Option (Text × List Row)) (a b : Wanted) → IsSomeAnd o (λ given. IsAsked given a) → IsSomeAnd o (λ given. IsAsked given b) → a ≡ b
+one_asked : (o : Option (Text × List Row)) (a b : Wanted) → IsSomeAnd o (λ given. AsksFor given a) → IsSomeAnd o (λ given. AsksFor given b) → a ≡ b
 one_asked None a b is_a is_b = absurd is_a
 one_asked (Some given) a b is_a is_b = sym (read-given given a is_a.is_given) ∙ read-given given b is_b.is_given
 
 pub one_command : (words : List (List ℕ)) (a b : Wanted) → IsCommand words a → IsCommand words b → a ≡ b
 one_command words a b is_a is_b = one_asked (subcommand_of program_app words) a b is_a.asked is_b.asked
 
-offered_of : (o : Option (Text × List Row)) (wanted : Wanted) → IsSomeAnd o (λ given. IsAsked given wanted) → IsOffered wanted
+offered_of : (o : Option (Text × List Row)) (wanted : Wanted) → IsSomeAnd o (λ given. AsksFor given wanted) → IsOffered wanted
 offered_of None wanted is = absurd is
 offered_of (Some given) wanted is = is.offered
 

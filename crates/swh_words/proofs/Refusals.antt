@@ -8,8 +8,8 @@ use Rattle.clap.specs.Simple.{subcommand_of}
 use Rattle.clap.specs.Words.{App, first_of}
 use Rattle.clap.proofs.OnLiterals.{clap_on_literals}
 use Rattle.swh_words.specs.Definition.{ask_app, identify_app, init_app, load_app, program_app}
-use Rattle.swh_words.specs.Spelling.{IsNoKind, NamesNoKind}
-use Rattle.swh_words.specs.Words.{Wanted, ToInit, ToLoad, ToAsk, ToIdentify, IsAsked, IsCommand}
+use Rattle.swh_words.specs.Spelling.{IsNoFileKind, NamesNoKind}
+use Rattle.swh_words.specs.Words.{Wanted, ToInit, ToLoad, ToAsk, ToIdentify, AsksFor, IsCommand}
 use Rattle.swh_words.proofs.Flags.{HasValuesOnly, is_clean, refused}
 use Rattle.swh_words.proofs.Subcommands.{Enters, ask_rows, built_sub, enters_ask, enters_identify, enters_init, enters_load, fault_in, only_ask, only_identify, only_init, only_load, rows_in}
 use Rattle.swh_words.proofs.Spelling.{IsAskedBy, ask_by, identify_by, init_by, load_by, named_by, taken_by}
@@ -17,7 +17,7 @@ use Rattle.swh_words.proofs.Spelling.{IsAskedBy, ask_by, identify_by, init_by, l
 -- ---- words that are no command
 
 abbrev AsksNothing : Text → App → List Text → Type 0
-AsksNothing name sub values = (wanted : Wanted) → IsAsked (name, rows_in sub true values) wanted → ⊥
+AsksNothing name sub values = (wanted : Wanted) → AsksFor (name, rows_in sub true values) wanted → ⊥
 
 -- where nothing is asked of words that are taken, they name no kind
 abbrev NamesNoKindIfNone : List Text → Type 0
@@ -42,21 +42,21 @@ load_asks = load_by (λ values. AsksNothing (codes "load") load_app values → �
 
 ask_asks : (values : List Text) → fault_in ask_app true values ≡ [] → AsksNothing (codes "ask") ask_app values → ⊥
 ask_asks = ask_by (λ values. AsksNothing (codes "ask") ask_app values → ⊥) (λ dir path more none. none (ToAsk dir (path ∷ more))
-    (subst (λ (rows : List Row). IsAsked (codes "ask", rows) (ToAsk dir (path ∷ more))) (sym (ask_rows dir path more))
+    (subst (λ (rows : List Row). AsksFor (codes "ask", rows) (ToAsk dir (path ∷ more))) (sym (ask_rows dir path more))
     (record { is_given = (refl, refl, refl); offered = omega arith })))
 
 identify_asks : (values : List Text) → fault_in identify_app true values ≡ [] → AsksNothing (codes "identify") identify_app values
-    → IsSomeAnd (first_of (codes "kind") (rows_in identify_app true values)) IsNoKind
+    → IsSomeAnd (first_of (codes "kind") (rows_in identify_app true values)) IsNoFileKind
 unfolding clap_on_literals
 identify_asks = identify_by
-    (λ values. AsksNothing (codes "identify") identify_app values → IsSomeAnd (first_of (codes "kind") (rows_in identify_app true values)) IsNoKind)
+    (λ values. AsksNothing (codes "identify") identify_app values → IsSomeAnd (first_of (codes "kind") (rows_in identify_app true values)) IsNoFileKind)
     (λ letters path none kind file same. none (ToIdentify kind path) (record { is_given = (refl, ap (λ l. Some l) same, refl); offered = file }))
 
 identify_names : (rest : List Text) → fault_of program_app (codes "identify" ∷ rest) ≡ [] → NamesNoKindIfNone (codes "identify" ∷ rest)
 identify_names rest clean none =
     named_by (NamesNoKind (codes "identify" ∷ rest)) (codes "identify") identify_app rest enters_identify only_identify clean
     (λ values given passes are. subst (λ (o : Option (Text × List Row)).
-    IsSomeAnd o (λ given. (given.0 ≡ codes "identify") × IsSomeAnd (first_of (codes "kind") given.1) IsNoKind)) (sym are) (
+    IsSomeAnd o (λ given. (given.0 ≡ codes "identify") × IsSomeAnd (first_of (codes "kind") given.1) IsNoFileKind)) (sym are) (
       refl,
       identify_asks values passes
           (λ wanted asked. none wanted (subst (λ (o : Option (Text × List Row)). IsAskedBy o wanted) (sym are) asked)),
@@ -77,13 +77,13 @@ no_other_name : (name a b : Text) → (length a == length b) ≡ false → name 
 no_other_name name a b differ is_a is_b = true≢false (sym (eq-eqb (length a) (length b) (ap length (sym is_a ∙ is_b))) ∙ differ)
 
 names_no_command : (o : Option (Text × List Row)) (wanted : Wanted)
-    → IsSomeAnd o (λ given. (given.0 ≡ codes "identify") × IsSomeAnd (first_of (codes "kind") given.1) IsNoKind) → IsAskedBy o wanted → ⊥
+    → IsSomeAnd o (λ given. (given.0 ≡ codes "identify") × IsSomeAnd (first_of (codes "kind") given.1) IsNoFileKind) → IsAskedBy o wanted → ⊥
 names_no_command None wanted names asked = absurd names
 names_no_command (Some given) (ToInit dir) names asked = no_other_name given.0 (codes "init") (codes "identify") refl asked.is_given.0 names.0
 names_no_command (Some given) (ToLoad dir jobs) names asked = no_other_name given.0 (codes "load") (codes "identify") refl asked.is_given.0 names.0
 names_no_command (Some given) (ToAsk dir paths) names asked = no_other_name given.0 (codes "ask") (codes "identify") refl asked.is_given.0 names.0
 names_no_command (Some given) (ToIdentify kind path) names asked =
-    subst (λ (o : Option Text). IsSomeAnd o IsNoKind) asked.is_given.1 names.1 kind asked.offered refl
+    subst (λ (o : Option Text). IsSomeAnd o IsNoFileKind) asked.is_given.1 names.1 kind asked.offered refl
 
 pub refused_words : (words : List Text) → ((wanted : Wanted) → IsCommand words wanted → ⊥) ↔ ((fault_of program_app words ≢ []) ⊎ NamesNoKind words)
 refused_words words = (

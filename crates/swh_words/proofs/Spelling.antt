@@ -10,8 +10,8 @@ use Rattle.clap.specs.Words.{App, first_of}
 use Rattle.clap.proofs.OnLiterals.{clap_on_literals}
 use Rattle.swh_words.specs.Definition.{ask_app, identify_app, init_app, load_app, program_app}
 use Rattle.swh_words.proofs.Commands.{kind_from, offered, read, read-given}
-use Rattle.swh_words.specs.Spelling.{is_flag, spelled, spelling_of, values_given}
-use Rattle.swh_words.specs.Words.{Wanted, ToInit, ToLoad, ToAsk, ToIdentify, IsAsked, IsCommand, IsGiven, IsOffered}
+use Rattle.swh_words.specs.Spelling.{is_flag, spelled_command, spelling_of, values_given}
+use Rattle.swh_words.specs.Words.{Wanted, ToInit, ToLoad, ToAsk, ToIdentify, AsksFor, IsCommand, IsGiven, IsOffered}
 use Rattle.swh_base.specs.Kind.{kind_letters}
 use Rattle.swh_words.proofs.Flags.{HasValuesOnly, dashes, first_bad, first_clean, is_clean, refused, value_met, value_passes, word_refused}
 use Rattle.swh_words.proofs.Values.{given_by, some≢none, turned_by}
@@ -37,12 +37,12 @@ values_few (word ∷ more) values given =
 
 command_of : (name : Text) (sub : App) (rest values : List Text) (rows : List Row) (wanted : Wanted) → Enters name sub
     → HasValuesOnly (built_sub sub).rules → values_given rest ≡ Some values → fault_in sub true values ≡ [] → rows_in sub true values ≡ rows
-    → IsAsked (name, rows) wanted → IsCommand (name ∷ rest) wanted
+    → AsksFor (name, rows) wanted → IsCommand (name ∷ rest) wanted
 command_of name sub rest values rows wanted enters only given passes are asked =
     let same = reads sub rest values only given in
     record {
       taken = enters.fault rest ∙ same.fault ∙ passes;
-      asked = subst (λ (o : Option (Text × List Row)). IsSomeAnd o (λ given. IsAsked given wanted))
+      asked = subst (λ (o : Option (Text × List Row)). IsSomeAnd o (λ given. AsksFor given wanted))
           (sym (enters.rows rest ∙ ap (λ (r : List Row). Some (name, r)) (same.rows ∙ are))) asked;
     }
 
@@ -57,7 +57,7 @@ named_as : (rest values : List Text) (name expected : Text) (expected_values : L
 unfolding first_text
 named_as rest values name expected expected_values wanted same = subst (λ (n : Text). IsCommand (n ∷ rest) wanted) (sym (ap first_text same))
 
-spelled_is_command : (wanted : Wanted) (name : Text) (rest values : List Text) → values_given rest ≡ Some values → name ∷ values ≡ spelled wanted
+spelled_is_command : (wanted : Wanted) (name : Text) (rest values : List Text) → values_given rest ≡ Some values → name ∷ values ≡ spelled_command wanted
     → length values < 2 ^ 64 → IsOffered wanted → IsCommand (name ∷ rest) wanted
 unfolding later_texts
 spelled_is_command (ToInit dir) name rest values given same few offered =
@@ -80,13 +80,13 @@ spelled_is_command (ToIdentify kind path) name rest values given same few offere
     (given_as rest values name _ _ given same) (identify_taken (kind_letters kind) path) (identify_rows (kind_letters kind) path)
     (record { is_given = (refl, refl, refl); offered = offered }))
 
-spelling_is_command : (words : List Text) (wanted : Wanted) → length words < 2 ^ 64 → spelling_of words ≡ Some (spelled wanted) → IsOffered wanted
+spelling_is_command : (words : List Text) (wanted : Wanted) → length words < 2 ^ 64 → spelling_of words ≡ Some (spelled_command wanted) → IsOffered wanted
     → IsCommand words wanted
-spelling_is_command [] wanted few spells offered = absurd (some≢none (List Text) (spelled wanted) (sym spells))
+spelling_is_command [] wanted few spells offered = absurd (some≢none (List Text) (spelled_command wanted) (sym spells))
 spelling_is_command (name ∷ rest) wanted few spells offered = go (values_given rest) refl spells
   where
-    go : (o : Option (List Text)) → values_given rest ≡ o → option_map (λ values. name ∷ values) o ≡ Some (spelled wanted) → IsCommand (name ∷ rest) wanted
-    go None given same = absurd (some≢none (List Text) (spelled wanted) (sym same))
+    go : (o : Option (List Text)) → values_given rest ≡ o → option_map (λ values. name ∷ values) o ≡ Some (spelled_command wanted) → IsCommand (name ∷ rest) wanted
+    go None given same = absurd (some≢none (List Text) (spelled_command wanted) (sym same))
     go (Some values) given same =
         let fewer : length values ≤ length rest = values_few rest values given in
         spelled_is_command wanted name rest values given (ap (λ o. unwrap_or o []) same) (omega arith) offered
@@ -125,33 +125,33 @@ identify_by Holds two (kind ∷ path ∷ more ∷ rest) clean = absurd (refused 
 -- ---- words that are a command spell it
 
 -- what is asked of a subcommand's rows is what they are read as
-read_as_wanted : (name : Text) (rows known : List Row) (wanted : Wanted) → rows ≡ known → IsAsked (name, rows) wanted → read (name, known) ≡ wanted
+read_as_wanted : (name : Text) (rows known : List Row) (wanted : Wanted) → rows ≡ known → AsksFor (name, rows) wanted → read (name, known) ≡ wanted
 read_as_wanted name rows known wanted are asked =
     sym (ap (λ (r : List Row). read (name, r)) are) ∙ read-given (name, rows) wanted asked.is_given
 
 -- values that ask a subcommand for something spell it
 abbrev Spells : Text → App → Wanted → List Text → Type 0
-Spells name sub wanted values = IsAsked (name, rows_in sub true values) wanted → name ∷ values ≡ spelled wanted
+Spells name sub wanted values = AsksFor (name, rows_in sub true values) wanted → name ∷ values ≡ spelled_command wanted
 
 init_spells : (wanted : Wanted) (values : List Text) → fault_in init_app true values ≡ [] → Spells (codes "init") init_app wanted values
 init_spells wanted = init_by (Spells (codes "init") init_app wanted)
-    (λ dir asked. ap spelled (read_as_wanted (codes "init") _ _ wanted (init_rows dir) asked))
+    (λ dir asked. ap spelled_command (read_as_wanted (codes "init") _ _ wanted (init_rows dir) asked))
 
 load_spells : (wanted : Wanted) (values : List Text) → fault_in load_app true values ≡ [] → Spells (codes "load") load_app wanted values
 load_spells wanted = load_by (Spells (codes "load") load_app wanted)
-    (λ dir jobs asked. ap spelled (read_as_wanted (codes "load") _ _ wanted (load_rows dir jobs) asked))
+    (λ dir jobs asked. ap spelled_command (read_as_wanted (codes "load") _ _ wanted (load_rows dir jobs) asked))
 
 ask_spells : (wanted : Wanted) (values : List Text) → fault_in ask_app true values ≡ [] → Spells (codes "ask") ask_app wanted values
 ask_spells wanted = ask_by (Spells (codes "ask") ask_app wanted)
-    (λ dir path more asked. ap spelled (read_as_wanted (codes "ask") _ _ wanted (ask_rows dir path more) asked))
+    (λ dir path more asked. ap spelled_command (read_as_wanted (codes "ask") _ _ wanted (ask_rows dir path more) asked))
 
 -- the letters of what is identified are its kind's
 identify_letters : (rows : List Row) (letters path : Text) (wanted : Wanted) → first_of (codes "kind") rows ≡ Some letters
     → ToIdentify (kind_from letters) path ≡ wanted → IsGiven (codes "identify", rows) wanted
-    → codes "identify" ∷ letters ∷ path ∷ [] ≡ spelled wanted
+    → codes "identify" ∷ letters ∷ path ∷ [] ≡ spelled_command wanted
 identify_letters rows letters path wanted is_first are given =
     let back : IsGiven (codes "identify", rows) (ToIdentify (kind_from letters) path) = subst (IsGiven (codes "identify", rows)) (sym are) given in
-    ap (λ (o : Option Text). codes "identify" ∷ unwrap_or o [] ∷ path ∷ []) (sym is_first ∙ back.1) ∙ ap spelled are
+    ap (λ (o : Option Text). codes "identify" ∷ unwrap_or o [] ∷ path ∷ []) (sym is_first ∙ back.1) ∙ ap spelled_command are
 
 identify_spells : (wanted : Wanted) (values : List Text) → fault_in identify_app true values ≡ []
     → Spells (codes "identify") identify_app wanted values
@@ -248,20 +248,20 @@ named_by G name sub rest enters only clean next =
     (λ values given passes are. next values given passes (enters.rows rest ∙ ap (λ (r : List Row). Some (name, r)) are))
 
 abbrev pub IsAskedBy : Option (Text × List Row) → Wanted → Type 0
-IsAskedBy o wanted = IsSomeAnd o (λ given. IsAsked given wanted)
+IsAskedBy o wanted = IsSomeAnd o (λ given. AsksFor given wanted)
 
 abbrev SpellsWhatItIs : Wanted → List Text → Type 0
-SpellsWhatItIs wanted words = IsAskedBy (subcommand_of program_app words) wanted → spelling_of words ≡ Some (spelled wanted)
+SpellsWhatItIs wanted words = IsAskedBy (subcommand_of program_app words) wanted → spelling_of words ≡ Some (spelled_command wanted)
 
 named_spells : (name : Text) (sub : App) (wanted : Wanted) → Enters name sub → HasValuesOnly (built_sub sub).rules
     → ((values : List Text) → fault_in sub true values ≡ [] → Spells name sub wanted values)
     → (rest : List Text) → fault_of program_app (name ∷ rest) ≡ [] → SpellsWhatItIs wanted (name ∷ rest)
 named_spells name sub wanted enters only spells rest clean asked =
-    named_by (spelling_of (name ∷ rest) ≡ Some (spelled wanted)) name sub rest enters only clean
+    named_by (spelling_of (name ∷ rest) ≡ Some (spelled_command wanted)) name sub rest enters only clean
     (λ values given passes are. ap (option_map (λ vs. name ∷ vs)) given
     ∙ ap (λ l. Some l) (spells values passes (subst (λ (o : Option (Text × List Row)). IsAskedBy o wanted) are asked)))
 
-command_is_spelled : (words : List Text) (wanted : Wanted) → IsCommand words wanted → spelling_of words ≡ Some (spelled wanted)
+command_is_spelled : (words : List Text) (wanted : Wanted) → IsCommand words wanted → spelling_of words ≡ Some (spelled_command wanted)
 command_is_spelled words wanted is = taken_by (SpellsWhatItIs wanted)
     (named_spells (codes "init") init_app wanted enters_init only_init (init_spells wanted))
     (named_spells (codes "load") load_app wanted enters_load only_load (load_spells wanted))
@@ -269,8 +269,8 @@ command_is_spelled words wanted is = taken_by (SpellsWhatItIs wanted)
     (named_spells (codes "identify") identify_app wanted enters_identify only_identify (identify_spells wanted)) words is.taken is.asked
 
 pub spelled_words : (words : List Text) (wanted : Wanted) → length words < 2 ^ 64
-    → IsCommand words wanted ↔ ((spelling_of words ≡ Some (spelled wanted)) × IsOffered wanted)
+    → IsCommand words wanted ↔ ((spelling_of words ≡ Some (spelled_command wanted)) × IsOffered wanted)
 spelled_words words wanted few = (
   λ is. (command_is_spelled words wanted is, offered words wanted is),
-  λ (h : (spelling_of words ≡ Some (spelled wanted)) × IsOffered wanted). spelling_is_command words wanted few h.0 h.1,
+  λ (h : (spelling_of words ≡ Some (spelled_command wanted)) × IsOffered wanted). spelling_is_command words wanted few h.0 h.1,
 )

@@ -1,4 +1,4 @@
--- How a command is spelled.
+-- How a command is spelled_command.
 use Rattle.std.specs.Prelude.{◌≡◌, ◌≢◌, ◌==◌, ◌&&◌, ℕ, Bool, true, false, List, [], ◌∷◌, Option, Some, None, IsSomeAnd, option_map, if◌then◌else◌, codes, chars}
 use Rattle.std.specs.Str.{bytes_eq}
 use Rattle.clap.specs.Words.{first_of, subcommand_of}
@@ -9,11 +9,11 @@ use Rattle.swh_words.specs.Words.{Wanted, ToInit, ToLoad, ToAsk, ToIdentify}
 use Rattle.swh_base.specs.Kind.{kind_letters}
 
 -- the subcommand and the values that ask for this
-abbrev pub spelled : Wanted → List (List ℕ)
-spelled (ToInit dir) = codes "init" ∷ dir ∷ []
-spelled (ToLoad dir jobs) = codes "load" ∷ dir ∷ jobs ∷ []
-spelled (ToAsk dir paths) = codes "ask" ∷ dir ∷ paths
-spelled (ToIdentify kind path) = codes "identify" ∷ kind_letters kind ∷ path ∷ []
+abbrev pub spelled_command : Wanted → List (List ℕ)
+spelled_command (ToInit dir) = codes "init" ∷ dir ∷ []
+spelled_command (ToLoad dir jobs) = codes "load" ∷ dir ∷ jobs ∷ []
+spelled_command (ToAsk dir paths) = codes "ask" ∷ dir ∷ paths
+spelled_command (ToIdentify kind path) = codes "identify" ∷ kind_letters kind ∷ path ∷ []
 
 -- one character or more
 abbrev pub is_nonempty : List ℕ → Bool
@@ -40,10 +40,10 @@ spelling_of [] = None
 spelling_of (name ∷ rest) = option_map (λ values. name ∷ values) (values_given rest)
 
 -- the letters of no kind whose bodies are files
-abbrev pub IsNoKind : List ℕ → Type 0
-IsNoKind letters = (kind : Kind) → kind ≢ Directory → letters ≢ kind_letters kind
+abbrev pub IsNoFileKind : List ℕ → Type 0
+IsNoFileKind letters = (kind : Kind) → kind ≢ Directory → letters ≢ kind_letters kind
 
 -- `identify`, of no kind
 abbrev pub NamesNoKind : List (List ℕ) → Type 0
 NamesNoKind words =
-    IsSomeAnd (subcommand_of program_app words) (λ given. (given.0 ≡ codes "identify") × IsSomeAnd (first_of (codes "kind") given.1) IsNoKind)
+    IsSomeAnd (subcommand_of program_app words) (λ given. (given.0 ≡ codes "identify") × IsSomeAnd (first_of (codes "kind") given.1) IsNoFileKind)

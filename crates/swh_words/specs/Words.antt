@@ -35,11 +35,11 @@ IsOffered (ToAsk dir paths) = 0 < length paths
 IsOffered (ToIdentify kind path) = kind ≢ Directory
 
 -- A subcommand's name and clap's values for it ask for this, which is offered.
-pub record IsAsked (given : Text × List Row) (wanted : Wanted) : Type 0 where
+pub record AsksFor (given : Text × List Row) (wanted : Wanted) : Type 0 where
   pub is_given : IsGiven given wanted
   pub offered : IsOffered wanted
 
 -- Clap takes the words by the program's definition, and what it gives for them asks for this.
 pub record IsCommand (words : List (List ℕ)) (wanted : Wanted) : Type 0 where
   pub taken : fault_of program_app words ≡ []
-  pub asked : IsSomeAnd (subcommand_of program_app words) (λ given. IsAsked given wanted)
+  pub asked : IsSomeAnd (subcommand_of program_app words) (λ given. AsksFor given wanted)

@@ -2,7 +2,7 @@
 ghost use Rattle.std.specs.Prelude.{◌≡◌, ◌≢◌, ◌<◌, ◌↔◌, ◌⊎◌, ◌^◌, ℕ, List, [], Some, length};
 ghost use Rattle.clap.specs.Words.{fault_of};
 ghost use Rattle.swh_words.specs.Definition.{program_app};
-ghost use Rattle.swh_words.specs.Spelling.{NamesNoKind, spelled, spelling_of};
+ghost use Rattle.swh_words.specs.Spelling.{NamesNoKind, spelled_command, spelling_of};
 ghost use Rattle.swh_words.specs.Words.{Wanted, IsCommand, IsOffered};
 
 /// Words are one command at most.
@@ -12,7 +12,7 @@ pub fn one_command()
 
 /// Fewer than 2^64 words are a command exactly where they spell it and it is offered.
 pub fn spelled_words()
-    ensures { (words : List (List ℕ)) (wanted : Wanted) → length words < 2 ^ 64 → IsCommand words wanted ↔ ((spelling_of words ≡ Some (spelled wanted)) × IsOffered wanted) }
+    ensures { (words : List (List ℕ)) (wanted : Wanted) → length words < 2 ^ 64 → IsCommand words wanted ↔ ((spelling_of words ≡ Some (spelled_command wanted)) × IsOffered wanted) }
 {}
 
 /// Words are no command exactly where clap's definition of the program refuses them, or they name no kind whose bodies are files.

@@ -3,7 +3,7 @@ ghost use Rattle.std.specs.Prelude.{◌≡◌, ◌≢◌, List, [], IfSome, IfOk
 ghost use Rattle.clap.specs.Words.{all_of, first_of, found_of, rows_of, subcommand_rows_of};
 ghost use Rattle.swh_base.specs.declared.kind.Kind.{Kind};
 ghost use Rattle.swh_base.specs.declared.kind.Kind.TheVariants.{Directory};
-ghost use Rattle.swh_words.specs.Words.{Wanted, IsCommand, IsAsked};
+ghost use Rattle.swh_words.specs.Words.{Wanted, IsCommand, AsksFor};
 ghost use Rattle.swh_base.specs.Kind.{kind_letters};
 ghost use Rattle.swh_words.specs.Commands.{Answers, wanted_by};
 ghost use Rattle.swh_words.specs.declared.command.WordsFault.TheVariants.{Words};
@@ -55,7 +55,7 @@ fn values_of<'a>(
 }
 
 fn init_of<'a>(values: &ArgMatches<'a>) -> Result<Command<'a>, WordsFault>
-    ensures { Answers (IsAsked (codes "init", rows_of (found_of values.now))) result }
+    ensures { Answers (AsksFor (codes "init", rows_of (found_of values.now))) result }
 {
     let Some(dir) = value_of(values, "dir") else {
         return Err(WordsFault::Words);
@@ -64,7 +64,7 @@ fn init_of<'a>(values: &ArgMatches<'a>) -> Result<Command<'a>, WordsFault>
 }
 
 fn load_of<'a>(values: &ArgMatches<'a>) -> Result<Command<'a>, WordsFault>
-    ensures { Answers (IsAsked (codes "load", rows_of (found_of values.now))) result }
+    ensures { Answers (AsksFor (codes "load", rows_of (found_of values.now))) result }
 {
     let Some(dir) = value_of(values, "dir") else {
         return Err(WordsFault::Words);
@@ -76,7 +76,7 @@ fn load_of<'a>(values: &ArgMatches<'a>) -> Result<Command<'a>, WordsFault>
 }
 
 fn ask_of<'a>(alloc: Global, values: &ArgMatches<'a>) -> Result<Command<'a>, WordsFault>
-    ensures { Answers (IsAsked (codes "ask", rows_of (found_of values.now))) result }
+    ensures { Answers (AsksFor (codes "ask", rows_of (found_of values.now))) result }
 {
     let Some(dir) = value_of(values, "dir") else {
         return Err(WordsFault::Words);
@@ -91,7 +91,7 @@ fn ask_of<'a>(alloc: Global, values: &ArgMatches<'a>) -> Result<Command<'a>, Wor
 }
 
 fn identify_of<'a>(values: &ArgMatches<'a>) -> Result<Command<'a>, WordsFault>
-    ensures { Answers (IsAsked (codes "identify", rows_of (found_of values.now))) result }
+    ensures { Answers (AsksFor (codes "identify", rows_of (found_of values.now))) result }
 {
     let Some(letters) = value_of(values, "kind") else {
         return Err(WordsFault::Words);
@@ -111,7 +111,7 @@ fn command_of<'a>(
     name: &str,
     values: &ArgMatches<'a>,
 ) -> Result<Command<'a>, WordsFault>
-    ensures { Answers (IsAsked (name.now, rows_of (found_of values.now))) result }
+    ensures { Answers (AsksFor (name.now, rows_of (found_of values.now))) result }
 {
     if name == "init" {
         init_of(values)
@@ -128,7 +128,7 @@ fn command_of<'a>(
 
 // The command of what clap gives.
 fn command_given<'a>(alloc: Global, matches: &ArgMatches<'a>) -> Result<Command<'a>, WordsFault>
-    ensures { Answers (λ wanted. IsSomeAnd (subcommand_rows_of matches.now) (λ given. IsAsked given wanted)) result }
+    ensures { Answers (λ wanted. IsSomeAnd (subcommand_rows_of matches.now) (λ given. AsksFor given wanted)) result }
 {
     match matches.subcommand() {
         Some((name, values)) => command_of(alloc, name, values),

@@ -10,7 +10,7 @@ ghost use Rattle.swh_model.specs.Decoding.{IsEntryFront};
 use crate::decoding::number::{split_bytes, split_eight};
 use swh_base::Kind;
 
-/// An object as it stands in the store, and what is behind it.
+/// An object as it stands in the store, and what is after it.
 #[derive(Clone, Copy)]
 pub struct EntryParts<'a> {
     pub kind: Kind,

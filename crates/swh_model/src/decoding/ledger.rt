@@ -1,7 +1,7 @@
 // The ledger, record by record.
 ghost use Rattle.std.specs.Prelude.{◌≡◌, ◌++◌, IfOk, IfSome, IfNone, List, ℕ};
 ghost use Rattle.swh_model.specs.Coding.{magic};
-ghost use Rattle.swh_model.specs.Decoding.{IsRecordOf, HasNoRecord, IsNext};
+ghost use Rattle.swh_model.specs.Decoding.{IsRecordOf, HasNoRecord, IsNextRecord};
 
 use crate::decoding::number::split_four;
 use crate::decoding::record::split_record;
@@ -9,7 +9,7 @@ use crate::decoding::told::{Told, read_told};
 use std::alloc::Global;
 use swh_base::Memory;
 
-/// A record: who wrote it, what it tells, and what is behind it.
+/// A record: who wrote it, what it tells, and what is after it.
 #[derive(Drop)]
 pub struct Record<'a> {
     pub by: u32,
@@ -22,9 +22,9 @@ pub struct Record<'a> {
 pub enum Next<'a> {
     /// A closed gate, with which the records end.
     End,
-    /// A record behind an open gate.
+    /// A record after an open gate.
     Record(Record<'a>),
-    /// No gate, or an open one and no record behind it.
+    /// No gate, or an open one and no record after it.
     Broken,
 }
 
@@ -34,7 +34,7 @@ const MAGIC: [u8; 8] = *b"SWHARC1\n";
 // The gate of a record that stands.
 const OPEN: u8 = 1;
 
-/// What is behind the magic.
+/// What is after the magic.
 pub fn split_magic(ledger: &[u8]) -> Option<&[u8]>
     ensures some { IfSome result (λ rest. ledger.now ≡ magic ++ rest.now) }
     ensures none { IfNone result ((rest : List ℕ) → ledger.now ≡ magic ++ rest → ⊥) }
@@ -71,7 +71,7 @@ fn read_record(alloc: Global, bytes: &[u8]) -> Result<Option<Record<'_>>, Memory
 
 /// What comes next of a ledger's records, from a gate on; `Memory` where there is none for an origin.
 pub fn next_record(alloc: Global, records: &[u8]) -> Result<Next<'_>, Memory>
-    ensures { IfOk result (IsNext records.now) }
+    ensures { IfOk result (IsNextRecord records.now) }
 {
     let Some((gate, behind)) = records.split_first() else {
         return Ok(Next::Broken);

@@ -34,7 +34,7 @@ pub struct MarkParts<'a> {
     pub origin: &'a [u8],
 }
 
-/// What a batch's payload tells behind who wrote it.
+/// What a batch's payload tells after who wrote it.
 pub fn split_batch(told: &[u8]) -> Option<BatchParts>
     ensures some { IfSome result (IsBatchTold told.now) }
     ensures none { IfNone result ((from to number : ℕ) → told.now ≡ to_be_bytes w64 from ++ (to_be_bytes w64 to ++ to_be_bytes w32 number) → ⊥) }
@@ -66,7 +66,7 @@ fn visit_kind_of(number: u8) -> Option<VisitKind>
     }
 }
 
-/// What the payload of an opening tells behind who wrote it.
+/// What the payload of an opening tells after who wrote it.
 pub fn split_open(told: &[u8]) -> Option<OpenParts<'_>>
     ensures some { IfSome result (IsOpenTold told.now) }
     ensures none { IfNone result ((kind : AnyVisitKind) (date : ℕ) (origin : List ℕ) → told.now ≡ visit_kind_number kind ∷ (to_be_bytes w64 date ++ origin) → ⊥) }
@@ -97,7 +97,7 @@ fn status_of(number: u8) -> Option<Status>
     }
 }
 
-// A snapshot's id or none, and what is behind it.
+// A snapshot's id or none, and what is after it.
 fn split_snapshot(bytes: &[u8]) -> Option<(Option<[u8; 20]>, &[u8])>
     ensures some { IfSome result (λ x. bytes.now ≡ coded_snapshot x.0 ++ x.1.now) }
     ensures id { IfSome result (λ x. IsSnapshotId x.0) }
@@ -118,7 +118,7 @@ fn split_snapshot(bytes: &[u8]) -> Option<(Option<[u8; 20]>, &[u8])>
     }
 }
 
-/// What the payload of a mark tells behind who wrote it.
+/// What the payload of a mark tells after who wrote it.
 pub fn split_mark(told: &[u8]) -> Option<MarkParts<'_>>
     ensures some { IfSome result (IsMarkTold told.now) }
     ensures none { IfNone result ((status : AnyStatus) (visit : ℕ) (snapshot : Option (List ℕ)) (origin : List ℕ) → IsMarkStatus status → IsSnapshotId snapshot

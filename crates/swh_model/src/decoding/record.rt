@@ -6,7 +6,7 @@ ghost use Rattle.swh_model.specs.Decoding.{IsRecordFront};
 use crate::decoding::number::{split_bytes, split_four};
 use swh_base::is_url;
 
-/// A record behind its gate, and what is behind it.
+/// A record after its gate, and what is after it.
 #[derive(Clone, Copy)]
 pub struct RecordParts<'a> {
     pub kind: u8,

@@ -1,4 +1,4 @@
-// The run of a batch: objects, one behind another.
+// The run of a batch: objects, one after another.
 ghost use Rattle.std.specs.Prelude.{IfOk, IfSome, IfNone};
 ghost use Rattle.swh_model.specs.Decoding.{IsEntryOfParts, IsRunOf, IsNoRun};
 
@@ -6,7 +6,7 @@ use crate::decoding::entry::{EntryParts, split_entry};
 use std::alloc::Global;
 use swh_base::{Entry, Memory, Name, Shared};
 
-// The object without its kids.
+// The object without its children.
 fn entry_of(alloc: Global, parts: &EntryParts<'_>) -> Result<Entry, Memory>
     ensures { IfOk result (IsEntryOfParts parts.now) }
 {
@@ -21,7 +21,7 @@ fn entry_of(alloc: Global, parts: &EntryParts<'_>) -> Result<Entry, Memory>
 }
 
 /// The objects of a run, which has this number of them and nothing else. Each body is copied once, into its shared
-/// place, and the kids are left out; none where the bytes are no such run. `Memory` where there is none.
+/// place, and the children are left out; none where the bytes are no such run. `Memory` where there is none.
 pub fn read_run(alloc: Global, bytes: &[u8], number: u32) -> Result<Option<Vec<Entry>>, Memory>
     ensures some { IfOk result (λ found. IfSome found (λ es. IsRunOf bytes.now number es.items)) }
     ensures none { IfOk result (λ found. IfNone found (IsNoRun bytes.now number)) }
@@ -48,7 +48,7 @@ mod tests {
     use std::test::Fail;
     use swh_base::Kind;
 
-    // The content `hi` with an id of twenty sevens, and one byte behind it.
+    // The content `hi` with an id of twenty sevens, and one byte after it.
     const STORE: [u8; 32] = [
         1, 0, 0, 0, 0, 0, 0, 0, 2, 7, 7, 7, 7, 7, 7, 7, 7, 7, 7, 7, 7, 7, 7, 7, 7, 7, 7, 7, 7,
         b'h', b'i', 9,

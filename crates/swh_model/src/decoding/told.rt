@@ -1,7 +1,7 @@
 // What a record's payload tells.
 ghost use Rattle.std.specs.Prelude.{◌≡◌, IfOk, IfSome, IfNone};
 ghost use Rattle.swh_model.specs.Coding.{IsOrigin};
-ghost use Rattle.swh_model.specs.Decoding.{IsTold, IsNotTold};
+ghost use Rattle.swh_model.specs.Decoding.{TellsEvent, IsNotTold};
 
 use crate::decoding::payload::{BatchParts, split_batch, split_mark, split_open};
 use crate::decoding::record::origin_of;
@@ -34,7 +34,7 @@ fn read_origin(alloc: Global, bytes: &[u8]) -> Result<Option<Url>, Memory>
 }
 
 fn read_open(alloc: Global, payload: &[u8]) -> Result<Option<Told>, Memory>
-    ensures some { IfOk result (λ found. IfSome found (IsTold 79 payload.now)) }
+    ensures some { IfOk result (λ found. IfSome found (TellsEvent 79 payload.now)) }
     ensures none { IfOk result (λ found. IfNone found (IsNotTold 79 payload.now)) }
 {
     let Some(parts) = split_open(payload) else {
@@ -51,7 +51,7 @@ fn read_open(alloc: Global, payload: &[u8]) -> Result<Option<Told>, Memory>
 }
 
 fn read_mark(alloc: Global, payload: &[u8]) -> Result<Option<Told>, Memory>
-    ensures some { IfOk result (λ found. IfSome found (IsTold 84 payload.now)) }
+    ensures some { IfOk result (λ found. IfSome found (TellsEvent 84 payload.now)) }
     ensures none { IfOk result (λ found. IfNone found (IsNotTold 84 payload.now)) }
 {
     let Some(parts) = split_mark(payload) else {
@@ -69,7 +69,7 @@ fn read_mark(alloc: Global, payload: &[u8]) -> Result<Option<Told>, Memory>
 }
 
 fn read_batch(payload: &[u8]) -> Option<Told>
-    ensures some { IfSome result (IsTold 66 payload.now) }
+    ensures some { IfSome result (TellsEvent 66 payload.now) }
     ensures none { IfNone result (IsNotTold 66 payload.now) }
 {
     match split_batch(payload) {
@@ -78,9 +78,9 @@ fn read_batch(payload: &[u8]) -> Option<Told>
     }
 }
 
-/// What a record of this kind tells, by its payload behind who wrote it.
+/// What a record of this kind tells, by its payload after who wrote it.
 pub fn read_told(alloc: Global, kind: u8, payload: &[u8]) -> Result<Option<Told>, Memory>
-    ensures some { IfOk result (λ found. IfSome found (IsTold kind payload.now)) }
+    ensures some { IfOk result (λ found. IfSome found (TellsEvent kind payload.now)) }
     ensures none { IfOk result (λ found. IfNone found (IsNotTold kind payload.now)) }
 {
     match kind {

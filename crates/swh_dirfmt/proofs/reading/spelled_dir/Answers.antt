@@ -1,6 +1,6 @@
 use Rattle.std.proofs.Common.{ap, length, arith, length-append}
 use Rattle.swh_base.specs.Directory.{directory_text}
-use Rattle.swh_dirfmt.specs.Entries.{entries_of}
+use Rattle.swh_dirfmt.specs.Entries.{entries_in_body}
 use Rattle.swh_dirfmt.proofs.Follows.{read_more}
 use Rattle.swh_dirfmt.proofs.reading.spelled_dir.Goals as goal
 
@@ -15,10 +15,10 @@ returns-in-Err-clause-err c =
     let breaks = rw c.deref.ensures.value at c.in-Err.ensures.err in
     let text = c.loop-rest.invariant.text in
     record {
-      before = entries_of c.loop-rest.list.items;
+      before = entries_in_body c.loop-rest.list.items;
       rest = c.loop-rest.rest.now;
       good = c.loop-rest.invariant.good;
       text = text;
-      here = omega (arith, ap length text, length-append (directory_text (entries_of c.loop-rest.list.items)) c.loop-rest.rest.now);
+      here = omega (arith, ap length text, length-append (directory_text (entries_in_body c.loop-rest.list.items)) c.loop-rest.rest.now);
       breaks = breaks;
     }

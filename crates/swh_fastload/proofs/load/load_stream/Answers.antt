@@ -2,7 +2,7 @@ use Rattle.std.proofs.Common.{map}
 use Rattle.std.specs.Option.{option_map, option_copied}
 use Rattle.std.proofs.lemmas.Result.{err_from_is_err_and}
 use Rattle.swh_fastload.specs.View.{blob_view, commit_view, stream_view}
-use Rattle.swh_fastload.specs.Making.{made, branches_of}
+use Rattle.swh_fastload.specs.Making.{made, tip_branches}
 use Rattle.swh_fastload.proofs.Leads.{refuses_then}
 use Rattle.swh_fastload.proofs.Loads.{parses_short, parses_good, left_out, tip_left_out, snapshot_left_out, loaded_means}
 use Rattle.swh_model.specs.Meaning.{with_head}
@@ -29,7 +29,7 @@ snapshot_body-requires g c = branches_good g.N.Namer.id_of (option_copied c.args
     c.requires (parses_good c.args.text.now (stream_view c.in_ok-stream.stream) c.in_ok-stream.ensures.ok) c.in_ok-tip.ensures.ok
 
 pub add_object-requires-after_bounds : goal.add_object-requires-after_bounds
-add_object-requires-after_bounds g c κs within = snapshot_good (with_head (option_copied c.args.head) (branches_of c.in_ok-tip.tip)) c.in_ok-body.body.items
+add_object-requires-after_bounds g c κs within = snapshot_good (with_head (option_copied c.args.head) (tip_branches c.in_ok-tip.tip)) c.in_ok-body.body.items
     (branches_good g.N.Namer.id_of (option_copied c.args.head) c.in_ok-marks.marks.entries (option_map commit_view c.in_ok-stream.stream.commit) c.in_ok-tip.tip (made c.add_contents.new.objects.items) (made c.add_tip.new.objects.items)
     c.requires (parses_good c.args.text.now (stream_view c.in_ok-stream.stream) c.in_ok-stream.ensures.ok) c.in_ok-tip.ensures.ok) c.in_ok-body.ensures.ok
 

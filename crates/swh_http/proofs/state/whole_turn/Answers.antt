@@ -1,5 +1,5 @@
 use Rattle.std.proofs.Common.{◌≡◌, ℕ, List, subst, sym, refl}
-use Rattle.swh_http.specs.Framed.{IsRefused}
+use Rattle.swh_http.specs.Framed.{IsRefusedHead}
 use Rattle.swh_http.proofs.Turns.{no-body, refused-head, turn-after}
 use Rattle.swh_http.proofs.state.whole_turn.Goals as goal
 
@@ -11,7 +11,7 @@ returns-in_ok-turn-in-Ok-clause-turn c = λ held text.
 
 pub returns-in-Err-clause-turn : goal.returns-in-Err-clause-turn
 returns-in-Err-clause-turn c = λ held text.
-    let P : List ℕ → Type 0 = λ x. IsRefused x c.in-Err.status in
+    let P : List ℕ → Type 0 = λ x. IsRefusedHead x c.in-Err.status in
     let refused = subst P c.as_slice.ensures.value (rw c.in-Err.is at c.in_ok-framed.ensures) in
     rw (c.refusal.ensures.ask, c.refusal.ensures.state)
     (c.refusal.ensures.taken, refused-head held c.args.bytes.now c.args.head.items c.args.taken c.in-Err.status text c.requires.short refused, tt, refl)

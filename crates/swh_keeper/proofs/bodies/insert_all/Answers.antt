@@ -2,7 +2,7 @@ use Rattle.std.proofs.Common.{◌≡◌, None, sym, subst, ap, ◌∙◌}
 use Rattle.std.specs.FinMap.{insert}
 use Rattle.swh_model.specs.Archive.{Bodies, body_of}
 use Rattle.swh_model.proofs.Entries.{new-at}
-use Rattle.swh_keeper.specs.Maps.{bodies_of}
+use Rattle.swh_keeper.specs.Maps.{bodies_in_map}
 use Rattle.swh_keeper.proofs.MapLemmas.{added-more, new-front}
 use Rattle.swh_keeper.proofs.bodies.insert_all.Goals as goal
 
@@ -10,11 +10,11 @@ pub insert_again-requires-clause-absent : goal.insert_again-requires-clause-abse
 insert_again-requires-clause-absent c =
     let e = c.index-entries-place.result in
     subst (λ (b : Bodies). body_of b e.name ≡ None) (sym c.loop-place.invariant.view)
-    (new-at (bodies_of c.args.by_key.now.entries) c.args.entries.now c.loop-place.place e c.loop-place-test.true c.index-entries-place.is c.requires.absent)
+    (new-at (bodies_in_map c.args.by_key.now.entries) c.args.entries.now c.loop-place.place e c.loop-place-test.true c.index-entries-place.is c.requires.absent)
 
 pub returns-in-Err-clause-err : goal.returns-in-Err-clause-err
 returns-in-Err-clause-err c =
-    c.remove_all.ensures.view (bodies_of c.args.by_key.now.entries) (new-front (bodies_of c.args.by_key.now.entries) c.args.entries.now c.loop-place.place c.requires.absent)
+    c.remove_all.ensures.view (bodies_in_map c.args.by_key.now.entries) (new-front (bodies_in_map c.args.by_key.now.entries) c.args.entries.now c.loop-place.place c.requires.absent)
     (c.in-Err.ensures.err ∙ c.loop-place.invariant.view)
 
 pub loop-place-preserved : goal.loop-place-preserved
@@ -23,5 +23,5 @@ loop-place-preserved c =
     record {
       keyed = c.insert_again.ensures.keyed;
       view = c.in_default.ensures.ok ∙ ap (λ (b : Bodies). insert b e.name e.body) c.loop-place.invariant.view
-          ∙ sym (added-more (bodies_of c.args.by_key.now.entries) c.args.entries.now c.loop-place.place e c.loop-place-test.true c.index-entries-place.is);
+          ∙ sym (added-more (bodies_in_map c.args.by_key.now.entries) c.args.entries.now c.loop-place.place e c.loop-place-test.true c.index-entries-place.is);
     }

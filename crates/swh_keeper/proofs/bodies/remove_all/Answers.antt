@@ -2,7 +2,7 @@ use Rattle.std.proofs.Common.{◌≡◌, ℕ, ◌+◌, ◌-◌, ◌<◌, length,
 use Rattle.swh_base.specs.declared.entry.Entry.{Entry}
 use Rattle.swh_model.specs.Step.{added}
 use Rattle.swh_model.proofs.Entries.{new-at}
-use Rattle.swh_keeper.specs.Maps.{bodies_of, IsWithout}
+use Rattle.swh_keeper.specs.Maps.{bodies_in_map, IsWithout}
 use Rattle.swh_keeper.proofs.MapLemmas.{put_back, added-more}
 use Rattle.swh_keeper.proofs.bodies.remove_all.Goals as goal
 
@@ -17,8 +17,8 @@ loop-left-preserved c =
       keyed = c.remove_one.ensures.keyed;
       within = omega (arith, within);
       view = λ bodies new is.
-          put_back (added bodies (take (c.loop-left.left - 1) c.args.entries.now)) (bodies_of c.loop-left.by_key.entries) (bodies_of c.remove_one.new.by_key.entries) e.name e.body
+          put_back (added bodies (take (c.loop-left.left - 1) c.args.entries.now)) (bodies_in_map c.loop-left.by_key.entries) (bodies_in_map c.remove_one.new.by_key.entries) e.name e.body
           (new-at bodies c.args.entries.now (c.loop-left.left - 1) e less c.index-entries-left.is new)
           (c.loop-left.invariant.view bodies new is ∙ ap (λ (n : ℕ). added bodies (take n c.args.entries.now)) before_ ∙ added-more bodies c.args.entries.now (c.loop-left.left - 1) e less c.index-entries-left.is)
-          (subst (λ (x : Entry). IsWithout (bodies_of c.loop-left.by_key.entries) (bodies_of c.remove_one.new.by_key.entries) x.name) (sym c.index-entries-left.is) c.remove_one.ensures.view);
+          (subst (λ (x : Entry). IsWithout (bodies_in_map c.loop-left.by_key.entries) (bodies_in_map c.remove_one.new.by_key.entries) x.name) (sym c.index-entries-left.is) c.remove_one.ensures.view);
     }

@@ -1,7 +1,7 @@
 use Rattle.std.proofs.Common.{rules, ◌≡◌, true, false, List, refl, sym, subst}
 use Rattle.std.specs.List.{AllByRecursion}
 use Rattle.swh_base.specs.declared.entry.Entry.{Entry}
-use Rattle.swh_model.specs.Step.{IsGood, AreNew, added}
+use Rattle.swh_model.specs.Step.{HasItsChildren, AreNew, added}
 use Rattle.swh_keeper.proofs.CheckLemmas.{all_good, over_limits, not_new, batch_added}
 use Rattle.swh_keeper.proofs.checking.check_batch.Goals as goal
 
@@ -12,7 +12,7 @@ returns-then-not-are_within_limits-clause-none g c =
 pub add_new-requires : goal.add_new-requires
 add_new-requires g c =
     let made = rw c.in-Some.is at c.in_ok-entries.ensures.some in
-    subst (AllByRecursion IsGood) (sym c.deref.ensures.value) (all_good g.N.Namer.id_of c.in-Some.entries.items made.good)
+    subst (AllByRecursion HasItsChildren) (sym c.deref.ensures.value) (all_good g.N.Namer.id_of c.in-Some.entries.items made.good)
 
 pub returns-then-not-branch-clause-none : goal.returns-then-not-branch-clause-none
 returns-then-not-branch-clause-none g c =

@@ -4,8 +4,8 @@ use Rattle.swh_base.specs.declared.name.Name.{Name}
 use Rattle.swh_keeper.specs.Walk.{GainsHeld}
 use Rattle.swh_keeper.proofs.closure.list_held.Given as goal
 
-abbrev pub invariant-loop-kid : goal.invariant-loop-kid
-invariant-loop-kid l = record {
+abbrev pub invariant-loop-child : goal.invariant-loop-child
+invariant-loop-child l = record {
   gains : GainsHeld l.bodies l.kids l.initial.listing l.listing;
-  all : (n : Name) → Contains (take l.kid-index l.kids) n → Contains l.listing n;
+  all : (n : Name) → Contains (take l.child-index l.kids) n → Contains l.listing n;
 }

@@ -1,7 +1,7 @@
 use Rattle.std.proofs.Common.{Err, ap, ◌∙◌}
 use Rattle.std.proofs.lemmas.Result.{err_from_is_err_and}
 use Rattle.swh_outside.specs.Views.{disks}
-use Rattle.swh_loader.specs.Sending.{bodies_of}
+use Rattle.swh_loader.specs.Sending.{held_bodies}
 use Rattle.swh_loader.specs.Visiting.{attempt_of, ongoing}
 use Rattle.swh_loader.proofs.Closes.{whole_closed}
 use Rattle.swh_loader.proofs.Ends.{sent_all, full_sent}
@@ -22,7 +22,7 @@ pub end_full-requires-clause-visit : goal.end_full-requires-clause-visit
 end_full-requires-clause-visit g c κs within = c.in_ok-name.ensures.visits (attempt_of c.args.visit.now) c.args.visit.now.number ongoing c.requires.visit
 
 pub end_full-requires-clause-closed : goal.end_full-requires-clause-closed
-end_full-requires-clause-closed g c κs within = whole_closed g.N.Namer.id_of (bodies_of c.send_all.new.keeper) c.args.made c.requires.whole (sent_all _ _ _ c.in-None.is c.in_ok-name.ensures.sent)
+end_full-requires-clause-closed g c κs within = whole_closed g.N.Namer.id_of (held_bodies c.send_all.new.keeper) c.args.made c.requires.whole (sent_all _ _ _ c.in-None.is c.in_ok-name.ensures.sent)
 
 pub returns-in-Some-clause-leaves : goal.returns-in-Some-clause-leaves
 returns-in-Some-clause-leaves g c =

@@ -2,9 +2,9 @@ use Rattle.std.proofs.Common.{None, Err, ap, ◌∙◌}
 use Rattle.std.proofs.lemmas.Result.{err_from_is_err_and}
 use Rattle.swh_base.specs.declared.visit.Status.TheVariants.{Ongoing}
 use Rattle.swh_outside.specs.Views.{disks, sources}
-use Rattle.swh_loader.specs.Adding.{AreAmong, IsNoBatch}
+use Rattle.swh_loader.specs.Adding.{AreAmong, AllowsNoBatch}
 use Rattle.swh_loader.specs.Ending.{AreMadeBy}
-use Rattle.swh_loader.specs.Sending.{bodies_of}
+use Rattle.swh_loader.specs.Sending.{held_bodies}
 use Rattle.swh_loader.specs.Visiting.{attempt_of, created}
 use Rattle.swh_loader.proofs.Leaves.{means_made, among_made, sent_end}
 use Rattle.swh_loader.proofs.Owns.{created_open, ongoing_open}
@@ -37,7 +37,7 @@ pub returns-in-Made-clause-end : goal.returns-in-Made-clause-end
 returns-in-Made-clause-end g c =
     let read = rw c.in-Made.is at c.in_ok-made.ensures.read in
     let whole = rw c.in-Made.is at c.in_ok-made.ensures.whole in
-    sent_end g.N.Namer.id_of c.args.head.now (sources g.S.Source.tells g.S.Source.left g.S.Source.faults g.S.Source.path) (bodies_of c.finish.new.keeper) c.args.source.now c.read_input.new.source c.in-Made.made c.finish.result
+    sent_end g.N.Namer.id_of c.args.head.now (sources g.S.Source.tells g.S.Source.left g.S.Source.faults g.S.Source.path) (held_bodies c.finish.new.keeper) c.args.source.now c.read_input.new.source c.in-Made.made c.finish.result
     (λ t. means_made g.N.Namer.id_of c.args.head.now (g.S.Source.left c.args.source.now) c.in-Made.made whole (read t)) c.finish.ensures.end
 
 pub returns-in-Made-clause-leaves : goal.returns-in-Made-clause-leaves
@@ -49,5 +49,5 @@ returns-in-Made-clause-leaves g c =
 
 pub returns-in-Bad-clause-leaves : goal.returns-in-Bad-clause-leaves
 returns-in-Bad-clause-leaves g c =
-    marked_further g.N.Namer.id_of (disks g.D.Disk.tells g.D.Disk.file g.D.Disk.faults) IsNoBatch (AreMadeBy g.N.Namer.id_of c.args.head.now (sources g.S.Source.tells g.S.Source.left g.S.Source.faults g.S.Source.path) c.args.source.now) c.args.visit.now Ongoing c.args.keeper.now c.mark.new.keeper c.end_bad.new.keeper tt c.end_bad.result c.requires.unwounded
+    marked_further g.N.Namer.id_of (disks g.D.Disk.tells g.D.Disk.file g.D.Disk.faults) AllowsNoBatch (AreMadeBy g.N.Namer.id_of c.args.head.now (sources g.S.Source.tells g.S.Source.left g.S.Source.faults g.S.Source.path) c.args.source.now) c.args.visit.now Ongoing c.args.keeper.now c.mark.new.keeper c.end_bad.new.keeper tt c.end_bad.result c.requires.unwounded
     (λ entries none. absurd none) c.in_ok-mark.ensures.leaves c.end_bad.ensures.leaves

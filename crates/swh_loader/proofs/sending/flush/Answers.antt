@@ -3,7 +3,7 @@ use Rattle.swh_base.specs.declared.entry.Entry.{Entry}
 use Rattle.swh_outside.specs.Views.{disks}
 use Rattle.swh_model.specs.declared.event.EventKind.TheVariants.{Batch}
 use Rattle.swh_model.specs.Step.{replay}
-use Rattle.swh_loader.specs.Adding.{adding, IsEvent, IsBatchOf}
+use Rattle.swh_loader.specs.Adding.{batch_event, IsEvent, IsBatchOf}
 use Rattle.swh_loader.proofs.Opens.{refused_same, visits_same}
 use Rattle.swh_loader.proofs.Refusals.{batch_may, batch_full}
 use Rattle.swh_loader.proofs.Sends.{not_empty, fresh-same, batch_bodies}
@@ -24,9 +24,9 @@ pub returns-in-Ok-clause-leaves : goal.returns-in-Ok-clause-leaves
 returns-in-Ok-clause-leaves g c =
     let entries = c.args.pending.entries.items in
     let some = not_empty c.args.pending.entries (sym c.is_empty.ensures ∙ c.if-is_empty.false) in
-    leaves_as g.N.Namer.id_of (disks g.D.Disk.tells g.D.Disk.file g.D.Disk.faults) (IsEvent (adding c.args.by entries)) (IsBatchOf c.args.by entries) c.args.keeper.now c.apply.new.self _ (λ e is. record { is = is; some = some })
-    (leaves_applied g.N.Namer.id_of (disks g.D.Disk.tells g.D.Disk.file g.D.Disk.faults) c.args.by (Batch entries) (adding c.args.by entries) c.in-Ok.field-0 c.args.keeper.now c.apply.new.self tt (rw c.from_vec.ensures at c.in-Ok.ensures.ok)
-    (ap (λ (es : List Entry). adding c.args.by es) (sym (fresh-same (replay c.args.keeper.now.history).bodies entries c.requires.waiting.new)))
+    leaves_as g.N.Namer.id_of (disks g.D.Disk.tells g.D.Disk.file g.D.Disk.faults) (IsEvent (batch_event c.args.by entries)) (IsBatchOf c.args.by entries) c.args.keeper.now c.apply.new.self _ (λ e is. record { is = is; some = some })
+    (leaves_applied g.N.Namer.id_of (disks g.D.Disk.tells g.D.Disk.file g.D.Disk.faults) c.args.by (Batch entries) (batch_event c.args.by entries) c.in-Ok.field-0 c.args.keeper.now c.apply.new.self tt (rw c.from_vec.ensures at c.in-Ok.ensures.ok)
+    (ap (λ (es : List Entry). batch_event c.args.by es) (sym (fresh-same (replay c.args.keeper.now.history).bodies entries c.requires.waiting.new)))
     c.in-Ok.ensures.unwounded.1 c.in-Ok.ensures.store_later c.in-Ok.ensures.ledger_later c.in-Ok.ensures.calls)
 
 pub stopped-requires : goal.stopped-requires
@@ -37,9 +37,9 @@ returns-clause-leaves g c =
     let entries = c.args.pending.entries.items in
     let w = c.requires.waiting in
     let some = not_empty c.args.pending.entries (sym c.is_empty.ensures ∙ c.if-is_empty.false) in
-    leaves_as g.N.Namer.id_of (disks g.D.Disk.tells g.D.Disk.file g.D.Disk.faults) (IsEvent (adding c.args.by entries)) (IsBatchOf c.args.by entries) c.args.keeper.now c.apply.new.self _ (λ e is. record { is = is; some = some })
-    (leaves_refused g.N.Namer.id_of (disks g.D.Disk.tells g.D.Disk.file g.D.Disk.faults) c.args.by (Batch entries) (adding c.args.by entries) c.in-Err.refusal c.args.keeper.now c.apply.new.self c.stopped.result
-    (record { good = w.good; limits = w.limits; new = w.new }) (ap (λ (es : List Entry). adding c.args.by es) (sym (fresh-same (replay c.args.keeper.now.history).bodies entries w.new)))
+    leaves_as g.N.Namer.id_of (disks g.D.Disk.tells g.D.Disk.file g.D.Disk.faults) (IsEvent (batch_event c.args.by entries)) (IsBatchOf c.args.by entries) c.args.keeper.now c.apply.new.self _ (λ e is. record { is = is; some = some })
+    (leaves_refused g.N.Namer.id_of (disks g.D.Disk.tells g.D.Disk.file g.D.Disk.faults) c.args.by (Batch entries) (batch_event c.args.by entries) c.in-Err.refusal c.args.keeper.now c.apply.new.self c.stopped.result
+    (record { good = w.good; limits = w.limits; new = w.new }) (ap (λ (es : List Entry). batch_event c.args.by es) (sym (fresh-same (replay c.args.keeper.now.history).bodies entries w.new)))
     (λ which number is. batch_full c.args.keeper.now.history c.args.by entries which number w.new w.limits is)
     (rw c.from_vec.ensures at c.in-Err.ensures.err) c.stopped.ensures c.in-Err.ensures.store_later c.in-Err.ensures.ledger_later (λ e. c.in-Err.ensures.cause (ap Err e))
     (λ told e. rw c.from_vec.ensures at (c.in-Err.ensures.broken told (ap Err e))))

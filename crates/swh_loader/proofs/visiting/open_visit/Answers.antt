@@ -2,7 +2,7 @@ use Rattle.std.proofs.Common.{Err, ap, refl}
 use Rattle.swh_base.specs.declared.visit.VisitKind.TheVariants.{Fast}
 use Rattle.swh_outside.specs.Views.{disks}
 use Rattle.swh_model.specs.declared.event.EventKind.TheVariants.{Open}
-use Rattle.swh_loader.specs.Adding.{attempt, opening, IsEvent}
+use Rattle.swh_loader.specs.Adding.{attempt, open_event, IsEvent}
 use Rattle.swh_loader.proofs.Opens.{refused_same}
 use Rattle.swh_loader.proofs.Refusals.{held_back}
 use Rattle.swh_loader.proofs.Stepping.{leaves_same, leaves_applied, leaves_refused}
@@ -10,7 +10,7 @@ use Rattle.swh_loader.proofs.Steps.{added_event, opened_visit}
 use Rattle.swh_loader.proofs.visiting.open_visit.Goals as goal
 
 pub returns-in_default-clause-leaves : goal.returns-in_default-clause-leaves
-returns-in_default-clause-leaves g c = leaves_same g.N.Namer.id_of (disks g.D.Disk.tells g.D.Disk.file g.D.Disk.faults) (IsEvent (opening (attempt c.args.by c.args.origin.now c.args.date))) c.args.keeper.now
+returns-in_default-clause-leaves g c = leaves_same g.N.Namer.id_of (disks g.D.Disk.tells g.D.Disk.file g.D.Disk.faults) (IsEvent (open_event (attempt c.args.by c.args.origin.now c.args.date))) c.args.keeper.now
 
 pub returns-in-Ok-Opened-clause-opened : goal.returns-in-Ok-Opened-clause-opened
 returns-in-Ok-Opened-clause-opened g c =
@@ -24,7 +24,7 @@ returns-in-Ok-Opened-clause-opened g c =
 
 pub returns-in-Ok-Opened-clause-leaves : goal.returns-in-Ok-Opened-clause-leaves
 returns-in-Ok-Opened-clause-leaves g c =
-    leaves_applied g.N.Namer.id_of (disks g.D.Disk.tells g.D.Disk.file g.D.Disk.faults) c.args.by (Open c.args.origin.now Fast c.args.date) (opening (attempt c.args.by c.args.origin.now c.args.date)) c.in-Ok-Opened.field-0 c.args.keeper.now c.apply.new.self c.in-Ok-Opened.visit
+    leaves_applied g.N.Namer.id_of (disks g.D.Disk.tells g.D.Disk.file g.D.Disk.faults) c.args.by (Open c.args.origin.now Fast c.args.date) (open_event (attempt c.args.by c.args.origin.now c.args.date)) c.in-Ok-Opened.field-0 c.args.keeper.now c.apply.new.self c.in-Ok-Opened.visit
     (rw c.in-Ok.ensures at c.in-Ok-Opened.ensures.ok) refl c.in-Ok-Opened.ensures.unwounded.1 c.in-Ok-Opened.ensures.store_later c.in-Ok-Opened.ensures.ledger_later c.in-Ok-Opened.ensures.calls
 
 pub returns-in-Err-clause-unopened : goal.returns-in-Err-clause-unopened
@@ -36,6 +36,6 @@ returns-in-Err-clause-unopened g c =
 
 pub returns-in-Err-clause-leaves : goal.returns-in-Err-clause-leaves
 returns-in-Err-clause-leaves g c =
-    leaves_refused g.N.Namer.id_of (disks g.D.Disk.tells g.D.Disk.file g.D.Disk.faults) c.args.by (Open c.args.origin.now Fast c.args.date) (opening (attempt c.args.by c.args.origin.now c.args.date)) c.in-Err.refusal c.args.keeper.now c.apply.new.self c.stopped.result
+    leaves_refused g.N.Namer.id_of (disks g.D.Disk.tells g.D.Disk.file g.D.Disk.faults) c.args.by (Open c.args.origin.now Fast c.args.date) (open_event (attempt c.args.by c.args.origin.now c.args.date)) c.in-Err.refusal c.args.keeper.now c.apply.new.self c.stopped.result
     tt refl (λ which number is. is) (rw c.in-Ok.ensures at c.in-Err.ensures.err) c.stopped.ensures c.in-Err.ensures.store_later c.in-Err.ensures.ledger_later (λ e. c.in-Err.ensures.cause (ap Err e))
     (λ told e. rw c.in-Ok.ensures at (c.in-Err.ensures.broken told (ap Err e)))

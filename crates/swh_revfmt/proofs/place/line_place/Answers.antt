@@ -1,6 +1,6 @@
 use Rattle.std.proofs.Common.{◌≡◌, ◌+◌, ◌++◌, List, ℕ, length, drop, sym, subst, arith}
 use Rattle.std.proofs.lemmas.List.{take_rest}
-use Rattle.swh_revfmt.specs.Reading.{NotLine, IsLinePlace, IsDigitsFront}
+use Rattle.swh_revfmt.specs.Reading.{NotLine, IsLinePlace, IsIdDigitsFront}
 use Rattle.swh_revfmt.proofs.LinePlaces.{place_in_word, place_in_digits, behind_word}
 use Rattle.swh_revfmt.proofs.place.line_place.Goals as goal
 
@@ -13,7 +13,7 @@ returns c =
     let word = c.args.word.now in
     let whole = behind_word word c.args.bytes.now common c.common_front-common.ensures c.if-common-word.false in
     let size : length word ≡ common = let most = c.common_front-common.ensures.in_line in omega arith in
-    let digits : IsDigitsFront (drop common c.args.bytes.now) c.digits_front.result = subst (λ (t : List ℕ). IsDigitsFront t c.digits_front.result) (take_rest c.args.bytes.now common) c.digits_front.ensures in
+    let digits : IsIdDigitsFront (drop common c.args.bytes.now) c.digits_front.result = subst (λ (t : List ℕ). IsIdDigitsFront t c.digits_front.result) (take_rest c.args.bytes.now common) c.digits_front.ensures in
     let place = place_in_digits word (drop common c.args.bytes.now) c.digits_front.result digits (subst (NotLine word) whole c.requires) in
     subst (λ (bytes : List ℕ). IsLinePlace word bytes (common + c.digits_front.result)) (sym whole)
     (subst (λ (n : ℕ). IsLinePlace word (word ++ drop common c.args.bytes.now) (n + c.digits_front.result)) size place)

@@ -1,7 +1,7 @@
 use Rattle.std.proofs.Common.{◌≡◌, ◌+◌, ◌-◌, ◌++◌, ℕ, List, length, codes, sym, ap, ◌∙◌, subst, arith, length-append}
 use Rattle.swh_base.specs.declared.kind.Kind.TheVariants.{Release}
 use Rattle.swh_base.specs.Revision.{id_line}
-use Rattle.swh_revfmt.specs.Fault.{IsFault}
+use Rattle.swh_revfmt.specs.Fault.{IsRevFault}
 use Rattle.swh_revfmt.specs.Reading.{type_text}
 use Rattle.swh_revfmt.proofs.Faults.{release_fault, type_fault, tag_fault}
 use Rattle.swh_revfmt.proofs.release.spelled_rel.Goals as goal
@@ -15,7 +15,7 @@ returns-in-Err-clause-err c =
     let front : List ℕ = id_line (codes "object ") c.in-Some.line.id in
     let size : length front + c.in-Err.place ≡ length c.args.body.now - length c.in-Some.line.rest.now + c.in-Err.place = omega (arith, ap length line.1, length-append front c.in-Some.line.rest.now) in
     let fault = type_fault c.in-Some.line.id c.in-Some.line.rest.now c.in-Err.place line.0 c.in-Err.ensures.err in
-    subst (λ (n : ℕ). IsFault Release c.args.body.now n) size (subst (λ (body : List ℕ). IsFault Release body (length front + c.in-Err.place)) (sym line.1) fault)
+    subst (λ (n : ℕ). IsRevFault Release c.args.body.now n) size (subst (λ (body : List ℕ). IsRevFault Release body (length front + c.in-Err.place)) (sym line.1) fault)
 
 pub returns-in_default-split_at_byte-clause-err : goal.returns-in_default-split_at_byte-clause-err
 returns-in_default-split_at_byte-clause-err c =

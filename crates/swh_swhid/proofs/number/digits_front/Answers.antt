@@ -1,6 +1,6 @@
 use Rattle.std.proofs.Common.{◌<◌, ◌+◌, ◌-◌, ◌*◌, ◌^◌, ℕ, List, take, get_or, subst, sym, arith}
 use Rattle.std.proofs.lemmas.List.{length-take-le, take_more}
-use Rattle.swh_swhid.specs.Number.{GoesOn, MayFollow}
+use Rattle.swh_swhid.specs.Number.{BeginsNumber, MayTakeDigit}
 use Rattle.swh_swhid.proofs.Numerals.{goes_on-small, goes_on-more, goes_on-none, ten-small}
 use Rattle.swh_swhid.proofs.number.digits_front.Goals as goal
 
@@ -28,6 +28,6 @@ overflow_add-value c =
 pub loop-i-preserved : goal.loop-i-preserved
 loop-i-preserved c =
     let len = length-take-le c.loop-i.i c.args.text.now (omega arith) in
-    let may = subst (λ (k : ℕ). MayFollow c.args.least c.loop-i.value k (get_or c.args.text.now c.loop-i.i 0)) (sym len) (c.may_follow.ensures.0 c.if-not-may_follow.false) in
+    let may = subst (λ (k : ℕ). MayTakeDigit c.args.least c.loop-i.value k (get_or c.args.text.now c.loop-i.i 0)) (sym len) (c.may_follow.ensures.0 c.if-not-may_follow.false) in
     let more = goes_on-more c.args.least c.loop-i.value (take c.loop-i.i c.args.text.now) (get_or c.args.text.now c.loop-i.i 0) c.loop-i.invariant may in
-    rw c.from.ensures (subst (λ (t : List ℕ). GoesOn c.args.least t (c.loop-i.value * 10 + (get_or c.args.text.now c.loop-i.i 0 - 48))) (sym (take_more c.args.text.now c.loop-i.i 0 (omega arith))) more)
+    rw c.from.ensures (subst (λ (t : List ℕ). BeginsNumber c.args.least t (c.loop-i.value * 10 + (get_or c.args.text.now c.loop-i.i 0 - 48))) (sym (take_more c.args.text.now c.loop-i.i 0 (omega arith))) more)

@@ -2,7 +2,7 @@ use Rattle.std.proofs.Common.{◌≡◌, ◌∙◌, ap, sym, subst, map, List, O
 use Rattle.std.specs.Prelude.{IsSomeAnd}
 use Rattle.clap.specs.Words.{Row, Text, is_simple, subcommand_of, subcommand_rows_of}
 use Rattle.swh_words.specs.Definition.{program_app}
-use Rattle.swh_words.specs.Words.{IsAsked}
+use Rattle.swh_words.specs.Words.{AsksFor}
 use Rattle.swh_words.proofs.Commands.{none_of_answer}
 use Rattle.swh_words.proofs.Definitions.{program_is_simple}
 use Rattle.swh_words.proofs.reading.parse_words.Goals as goal
@@ -13,4 +13,4 @@ returns-in-Ok-clause-err c =
     let app_is = c.in_ok-program.ensures.app_is in
     let rows : subcommand_rows_of c.in-Ok.matches ≡ subcommand_of program_app texts =
     (c.in-Ok.ensures.matches (ap is_simple app_is ∙ program_is_simple)).1 ∙ ap (λ app. subcommand_of app texts) app_is in
-    none_of_answer c.command_given.result _ _ (λ wanted is. subst (λ (o : Option (Text × List Row)). IsSomeAnd o (λ given. IsAsked given wanted)) (sym rows) is.asked) c.command_given.ensures
+    none_of_answer c.command_given.result _ _ (λ wanted is. subst (λ (o : Option (Text × List Row)). IsSomeAnd o (λ given. AsksFor given wanted)) (sym rows) is.asked) c.command_given.ensures

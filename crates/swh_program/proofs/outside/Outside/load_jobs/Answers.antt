@@ -1,6 +1,6 @@
 use Rattle.std.proofs.Common.{inr}
 use Rattle.swh_outside.specs.Views.{disks}
-use Rattle.swh_jobs.specs.Answers.{jobs_of}
+use Rattle.swh_jobs.specs.Answers.{owned_jobs}
 use Rattle.swh_program.specs.Archives.{archive_at}
 use Rattle.swh_program.proofs.Loads.{run_files, refused_unloaded}
 use Rattle.swh_program.proofs.outside.Outside.load_jobs.Goals as goal
@@ -14,4 +14,4 @@ pub returns-clause-load : goal.returns-clause-load
 returns-clause-load g c =
     run_files _ (disks g.P.D.Disk.tells g.P.D.Disk.file g.P.D.Disk.faults) c.in-Ok.keeper c.load_lines-answer.new.keeper _ _
     c.in-Ok.ensures.archive c.close_archive.ensures.kept c.in-Ok.ensures.disks_tell c.in-Ok.ensures.opened c.close_archive.ensures.taken c.in-Ok.ensures.unwounded
-    (jobs_of c.args.lines.items) c.load_lines-answer.result c.load_lines-answer.ensures.load
+    (owned_jobs c.args.lines.items) c.load_lines-answer.result c.load_lines-answer.ensures.load

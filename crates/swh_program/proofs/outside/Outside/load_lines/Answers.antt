@@ -3,7 +3,7 @@ use Rattle.std.proofs.lemmas.List.{append-nil, drop_all, take_all}
 use Rattle.std.specs.List.{All}
 use Rattle.std.proofs.lemmas.List.Elements.{All-from_recursion}
 use Rattle.swh_outside.specs.Views.{disks, sources}
-use Rattle.swh_jobs.specs.Answers.{jobs_of}
+use Rattle.swh_jobs.specs.Answers.{owned_jobs}
 use Rattle.swh_pool.specs.Loads.{HasHead}
 use Rattle.swh_program.specs.Dated.{AreGivenBack}
 use Rattle.swh_program.proofs.KeptRuns.{kept_run}
@@ -18,7 +18,7 @@ written_back {X} xs ys n a b =
 pub load_all-loaded-requires-after_bounds : goal.load_all-loaded-requires-after_bounds
 load_all-loaded-requires-after_bounds g c = λ lifetimes bounds.
     let refs = refs_of (sources g.O.S.Source.tells g.O.S.Source.left g.O.S.Source.faults g.O.S.Source.path) g.O.Origins.tells (g.O.Origins.file_at c.args.self.now.origins) (g.O.Origins.path_faults c.args.self.now.origins)
-    (g.O.Origins.path_faults c.open_inputs.new.origins) (jobs_of c.args.lines.items) c.in-Ok.jobs.items c.requires.good.each c.in-Ok.ensures.opened in
+    (g.O.Origins.path_faults c.open_inputs.new.origins) (owned_jobs c.args.lines.items) c.in-Ok.jobs.items c.requires.good.each c.in-Ok.ensures.opened in
     subst (All HasHead) (sym c.as_mut_slice.ensures.value) (All-from_recursion HasHead c.in-Ok.jobs.items refs)
 
 pub returns-clause-load : goal.returns-clause-load
@@ -31,5 +31,5 @@ returns-clause-load g c =
     let from = sources g.O.S.Source.tells g.O.S.Source.left g.O.S.Source.faults g.O.S.Source.path in
     let back = subst (AreGivenBack from (g.O.Origins.path_faults c.open_inputs.new.origins) (g.O.Origins.path_faults c.give_all_back.new.origins)) same c.give_all_back.ensures.back in
     kept_run from _ (g.O.Origins.path_faults c.open_inputs.new.origins) o.path_later c.give_all_back.ensures.path_later
-    (disks g.P.D.Disk.tells g.P.D.Disk.file g.P.D.Disk.faults) (jobs_of c.args.lines.items) c.in-Ok.jobs.items c.load_all-loaded.new.jobs c.args.keeper.now c.load_all-loaded.new.keeper c.requires.unwounded
+    (disks g.P.D.Disk.tells g.P.D.Disk.file g.P.D.Disk.faults) (owned_jobs c.args.lines.items) c.in-Ok.jobs.items c.load_all-loaded.new.jobs c.args.keeper.now c.load_all-loaded.new.keeper c.requires.unwounded
     o.opened back o.said (λ v. v.outcomes.items) (λ v. v.text) c.load_all-loaded.result c.tell_loaded-answer.result l.loads l.stops l.unwounded l.lines l.same_keeper c.tell_loaded-answer.ensures.told c.tell_loaded-answer.ensures.memory

@@ -1,7 +1,0 @@
-use Rattle.std.proofs.Common.{◌≡◌, take}
-use Rattle.std.specs.List.{filter_map}
-use Rattle.swh_object.specs.Object.{snapshot_kid}
-use Rattle.swh_object.proofs.kids.kids_of_branches.Given as goal
-
-abbrev pub invariant-loop-branch : goal.invariant-loop-branch
-invariant-loop-branch l = l.kids.items ≡ filter_map snapshot_kid (take l.branch-index l.branches)
