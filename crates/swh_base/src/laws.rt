@@ -13,7 +13,8 @@ pub fn one_listing()
 
 /// A body names one list of children at most.
 pub fn one_list_of_children()
-    ensures { (kind : Kind) (body : List ℕ) (ns ms : List Name) → AreChildren kind body ns → AreChildren kind body ms → ns ≡ ms }
+    ensures { (kind : Kind) (body : List ℕ) (ns ms : List Name) → AreChildren kind body ns → AreChildren kind body ms
+        → ns ≡ ms }
 {}
 
 /// Where a graph grows, what was closed is closed.

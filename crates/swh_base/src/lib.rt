@@ -8,10 +8,10 @@ mod bytes;
 mod entry;
 mod escaping;
 mod graph;
+mod items;
 mod kind;
 mod laws;
 mod limits;
-mod items;
 mod memory;
 mod name;
 mod namer;
@@ -26,6 +26,7 @@ pub use bytes::Bytes;
 pub use entry::Entry;
 pub use escaping::escape;
 pub use graph::Graph;
+pub use items::Items;
 pub use kind::Kind;
 pub use laws::{
     certificates_show_closed, growth_keeps_certificates, growth_keeps_closed, one_list_of_children,
@@ -35,7 +36,6 @@ pub use limits::{
     BODY_LIMIT, BYTES_LIMIT, FILE_LIMIT, LINE_LIMIT, OBJECTS_LIMIT, PATH_LIMIT, REF_LIMIT,
     RUN_LIMIT, TAG_LIMIT, URL_LIMIT,
 };
-pub use items::Items;
 pub use memory::Memory;
 pub use name::{Name, is_lower_hex_digit};
 pub use namer::{ByteNamer, Namer, Sha1Namer};

@@ -3,7 +3,17 @@
 
 ghost use Rattle.std.specs.Prelude.{◌≡◌, ◌↔◌, IsTrue};
 ghost use Rattle.std.specs.List.{AllPass};
-ghost use Rattle.swh_base.specs.Text.{is_digit, is_ref_byte, is_person_byte, IsRef, IsPerson, IsNamed, IsSeconds, IsZone, IsDate};
+ghost use Rattle.swh_base.specs.Text.{
+  is_digit,
+  is_ref_byte,
+  is_person_byte,
+  IsRef,
+  IsPerson,
+  IsNamed,
+  IsSeconds,
+  IsZone,
+  IsDate,
+};
 
 use crate::limits::REF_LIMIT;
 use swh_pieces::{behind, split_at_byte};

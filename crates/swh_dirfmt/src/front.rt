@@ -1,6 +1,21 @@
 //! The entry that bytes begin with, cut off part by part.
 
-ghost use Rattle.std.specs.Prelude.{◌≡◌, ◌≢◌, ◌↔◌, List, [], ◌++◌, ℕ, Contains, IsTrue, IfOk, IfErr, IfSome, IfNone, decimal};
+ghost use Rattle.std.specs.Prelude.{
+  ◌≡◌,
+  ◌≢◌,
+  ◌↔◌,
+  List,
+  [],
+  ◌++◌,
+  ℕ,
+  Contains,
+  IsTrue,
+  IfOk,
+  IfErr,
+  IfSome,
+  IfNone,
+  decimal,
+};
 ghost use Rattle.swh_base.specs.Directory.{DirectoryEntry, IsMode, IsEntryName, IsEntry, entry_text};
 ghost use Rattle.swh_dirfmt.specs.Fault.{EntryBreaks};
 ghost use Rattle.swh_dirfmt.specs.Entries.{entry_of};

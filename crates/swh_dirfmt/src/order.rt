@@ -28,7 +28,8 @@ fn is_before(mode: u32, name: &[u8], next_mode: u32, next_name: &[u8]) -> bool
 fn count_before(entries: &[SpelledEntry<'_>], mode: u32, name: &[u8]) -> usize
     requires { AreEntries (entries_in_body entries.now) }
     ensures before { AllWithin (λ e. comes_before (name.now ++ suffix_of mode) e ≡ true) entries.now 0 result }
-    ensures others { AllWithin (λ e. comes_before (name.now ++ suffix_of mode) e ≡ false) entries.now result (length entries.now) }
+    ensures others { AllWithin (λ e. comes_before (name.now ++ suffix_of mode) e ≡ false) entries.now result
+        (length entries.now) }
 {
     let mut low = 0;
     let mut high = entries.len();
@@ -48,7 +49,8 @@ fn count_before(entries: &[SpelledEntry<'_>], mode: u32, name: &[u8]) -> usize
 fn has_name(entries: &[SpelledEntry<'_>], mode: u32, name: &[u8]) -> bool
     requires { AreEntries (entries_in_body entries.now) }
     ensures found { IsTrue result → All (λ e. e.name.now ≢ name.now) entries.now → ⊥ }
-    ensures none { (IsTrue result → ⊥) → All (λ e. suffix_of e.mode ≡ suffix_of mode → e.name.now ≢ name.now) entries.now }
+    ensures none { (IsTrue result → ⊥) → All (λ e. suffix_of e.mode ≡ suffix_of mode
+        → e.name.now ≢ name.now) entries.now }
 {
     match entries.get(count_before(entries, mode, name)) {
         Some(entry) => entry.name == name,

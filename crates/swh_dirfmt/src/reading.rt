@@ -21,7 +21,8 @@ fn next_entry<'a>(
 ) -> Result<(SpelledEntry<'a>, &'a [u8]), DirWhy>
     requires some { bytes.now ≢ [] }
     requires good { AreEntries (entries_in_body before.now) }
-    ensures ok { IfOk result (λ x. MayFollowEntries (entries_in_body before.now) (entry_of x.0) × (bytes.now ≡ entry_text (entry_of x.0) ++ x.1.now)) }
+    ensures ok { IfOk result (λ x. MayFollowEntries (entries_in_body before.now) (entry_of x.0)
+        × (bytes.now ≡ entry_text (entry_of x.0) ++ x.1.now)) }
     ensures err { IfErr result (λ why. EntryBreaks (entries_in_body before.now) bytes.now why) }
 {
     let (next, rest) = front_entry(bytes)?;

@@ -83,10 +83,12 @@ pub fn read_source<S: Source>(
     source: &mut S,
     limit: usize,
 ) -> Result<Vec<u8>, SourceFault>
-    ensures whole { S.tells → IfOk result (λ bytes. IsAllThatWasLeft (S.left source.old) (S.left source.new) bytes.items) }
+    ensures whole { S.tells → IfOk result (λ bytes. IsAllThatWasLeft (S.left source.old)
+        (S.left source.new) bytes.items) }
     ensures within { IfOk result (λ bytes. length bytes.items ≤ limit) }
     ensures over { S.tells → IsErrOf result Limit → limit < length (S.left source.old) }
-    ensures cut { S.tells → IsErrOf result Limit → IsCutAbove (S.left source.old) (S.left source.new) limit (limit + WINDOW) }
+    ensures cut { S.tells → IsErrOf result Limit → IsCutAbove (S.left source.old) (S.left source.new) limit
+        (limit + WINDOW) }
     ensures given { S.tells → GivesAtMost (S.given source.old) (S.given source.new) (limit + WINDOW) }
 
     ensures same_path { S.path source.new ≡ S.path source.old }

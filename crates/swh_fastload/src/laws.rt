@@ -11,5 +11,6 @@ pub fn one_reading()
 
 /// A text means one thing at most.
 pub fn one_meaning()
-    ensures { (id : Kind → List ℕ → List ℕ) (head : Option (List ℕ)) (text : List ℕ) (m n : StreamMeaning) → IsMeaning id head text m → IsMeaning id head text n → m ≡ n }
+    ensures { (id : Kind → List ℕ → List ℕ) (head : Option (List ℕ)) (text : List ℕ) (m n : StreamMeaning)
+        → IsMeaning id head text m → IsMeaning id head text n → m ≡ n }
 {}

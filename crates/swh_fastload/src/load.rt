@@ -1,14 +1,56 @@
 //! What a stream means, made.
-ghost use Rattle.std.specs.Prelude.{◌≡◌, ◌≤◌, ◌<◌, ◌++◌, ◌∷◌, [], ℕ, List, Option, Some, None, length, map, Contains, IfOk, IfErr, OnOk, IfSome, codes};
+ghost use Rattle.std.specs.Prelude.{
+  ◌≡◌,
+  ◌≤◌,
+  ◌<◌,
+  ◌++◌,
+  ◌∷◌,
+  [],
+  ℕ,
+  List,
+  Option,
+  Some,
+  None,
+  length,
+  map,
+  Contains,
+  IfOk,
+  IfErr,
+  OnOk,
+  IfSome,
+  codes,
+};
 ghost use Rattle.std.specs.Option.{option_map, option_copied};
 ghost use Rattle.swh_base.specs.Limits.{body_limit};
 ghost use Rattle.swh_base.specs.Name.{IsId};
-ghost use Rattle.swh_base.specs.declared.kind.Kind.TheVariants.{Directory as DirectoryKind, Revision as RevisionKind, Snapshot as SnapshotKind};
+ghost use Rattle.swh_base.specs.declared.kind.Kind.TheVariants.{
+  Directory as DirectoryKind,
+  Revision as RevisionKind,
+  Snapshot as SnapshotKind,
+};
 ghost use Rattle.swh_base.specs.Revision.{revision_name};
 ghost use Rattle.swh_base.specs.Text.{IsRef};
 ghost use Rattle.swh_model.specs.SmallStream.{Change as ChangeValue, IsFileName};
-ghost use Rattle.swh_model.specs.Meaning.{Made, revision, tree_after, commit_makes, tip, AreWithinLimit, IsMeaning, IsLeftOut};
-ghost use Rattle.swh_fastload.specs.Making.{made, AreIds, IsCommitLeftOut, IsGoodCommit, IsGoodTip, AddsCommit, AddsTip, IsTipLeftOut};
+ghost use Rattle.swh_model.specs.Meaning.{
+  Made,
+  revision,
+  tree_after,
+  commit_makes,
+  tip,
+  AreWithinLimit,
+  IsMeaning,
+  IsLeftOut,
+};
+ghost use Rattle.swh_fastload.specs.Making.{
+  made,
+  AreIds,
+  IsCommitLeftOut,
+  IsGoodCommit,
+  IsGoodTip,
+  AddsCommit,
+  AddsTip,
+  IsTipLeftOut,
+};
 ghost use Rattle.swh_fastload.specs.Loaded.{making_of};
 ghost use Rattle.swh_fastload.specs.View.{commit_view};
 ghost use Rattle.swh_fastload.specs.Whole.{names_of, AreWhole, AreContents, IsTipAmong, HasAllThatIsReached};
@@ -79,7 +121,8 @@ fn add_commit<'a, N: Namer>(
     requires good { IsGoodCommit (commit_view commit.now) }
     requires whole { AreWhole N.id_of objects.old.items }
     requires contents { AreContents (names_of objects.old.items) marks.now.entries }
-    ensures ok { IfOk result (λ t. AddsCommit N.id_of marks.now.entries (commit_view commit.now) (made objects.old.items) t (made objects.new.items)) }
+    ensures ok { IfOk result (λ t. AddsCommit N.id_of marks.now.entries (commit_view commit.now)
+        (made objects.old.items) t (made objects.new.items)) }
     ensures whole { OnOk result (AreWhole N.id_of objects.new.items) }
     ensures tip { IfOk result (λ t. Contains (names_of objects.new.items) (revision_name t.revision)) }
     ensures err { IfErr result (RefusesStream (IsCommitLeftOut N.id_of marks.now.entries (commit_view commit.now))) }
@@ -107,10 +150,12 @@ fn add_tip<'a, N: Namer>(
     requires good { IsGoodTip (option_map commit_view commit.now) }
     requires whole { AreWhole N.id_of objects.old.items }
     requires contents { AreContents (names_of objects.old.items) marks.now.entries }
-    ensures ok { IfOk result (λ tip. AddsTip N.id_of marks.now.entries (option_map commit_view commit.now) (made objects.old.items) tip (made objects.new.items)) }
+    ensures ok { IfOk result (λ tip. AddsTip N.id_of marks.now.entries (option_map commit_view commit.now)
+        (made objects.old.items) tip (made objects.new.items)) }
     ensures whole { OnOk result (AreWhole N.id_of objects.new.items) }
     ensures tip { IfOk result (IsTipAmong (names_of objects.new.items)) }
-    ensures err { IfErr result (RefusesStream (IsTipLeftOut N.id_of marks.now.entries (option_map commit_view commit.now))) }
+    ensures err { IfErr result (RefusesStream (IsTipLeftOut N.id_of marks.now.entries
+        (option_map commit_view commit.now))) }
 {
     match commit {
         Some(commit) => Ok(Some(add_commit(alloc, namer, marks, commit, objects)?)),

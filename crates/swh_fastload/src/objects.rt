@@ -34,7 +34,8 @@ pub fn add_object<N: Namer>(
     requires { IsWellFormed kind body.items }
     ensures id { IfOk result (λ id. (id ≡ N.id_of kind body.items) × IsId id) }
     ensures short { OnOk result (length body.items ≤ body_limit) }
-    ensures added { IfOk result (λ _. made objects.new.items ≡ made objects.old.items ++ record { kind = kind; body = body.items } ∷ []) }
+    ensures added { IfOk result (λ _. made objects.new.items ≡ made objects.old.items
+        ++ record { kind = kind; body = body.items } ∷ []) }
     ensures appended { IfOk result (IsAppended N.id_of kind body.items objects.old.items objects.new.items) }
     ensures err { IfErr result (RefusesStream (body_limit < length body.items)) }
 {
@@ -86,7 +87,8 @@ pub fn add_contents<N: Namer>(
     requires none { objects.old.items ≡ [] }
     ensures marks { IfOk result (λ marks. marks.entries ≡ marks_after N.id_of [] (map blob_view blobs.now)) }
     ensures ids { IfOk result (λ marks. AreIds marks.entries) }
-    ensures added { IfOk result (λ _. made objects.new.items ≡ once (map (λ b. content b.bytes) (map blob_view blobs.now))) }
+    ensures added { IfOk result (λ _. made objects.new.items ≡ once
+        (map (λ b. content b.bytes) (map blob_view blobs.now))) }
     ensures whole { OnOk result (AreWhole N.id_of objects.new.items) }
     ensures contents { IfOk result (λ marks. AreContents (names_of objects.new.items) marks.entries) }
     ensures err { IfErr result (λ fault. fault ≡ OutOfMemory) }

@@ -1,6 +1,13 @@
 //! The parser of the small grammar.
 ghost use Rattle.std.specs.Prelude.{◌≡◌, ◌∷◌, ◌⊎◌, ◌≢◌, ◌^◌, ◌<◌, ◌≤◌, ℕ, List, length, map, IfOk, IfErr};
-ghost use Rattle.swh_model.specs.SmallStream.{Change as ChangeValue, Commit as CommitValue, SmallStream as StreamValue, AreChanges, IsCommit, Parses};
+ghost use Rattle.swh_model.specs.SmallStream.{
+  Change as ChangeValue,
+  Commit as CommitValue,
+  SmallStream as StreamValue,
+  AreChanges,
+  IsCommit,
+  Parses,
+};
 ghost use Rattle.swh_fastload.specs.View.{change_view, commit_view, stream_view};
 ghost use Rattle.swh_fastload.specs.Refusal.{RefusesStream};
 ghost use Rattle.swh_fastload.specs.Feed.{TakesFeed};

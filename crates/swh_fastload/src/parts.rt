@@ -2,7 +2,15 @@
 ghost use Rattle.std.specs.Prelude.{◌≡◌, ◌≢◌, ◌++◌, ◌∷◌, ◌+◌, ◌≤◌, ◌↔◌, ℕ, List, length, IfSome, IfNone, IsTrue, codes};
 ghost use Rattle.swh_base.specs.Limits.{line_limit};
 ghost use Rattle.swh_base.specs.Text.{IsPerson, IsNumber};
-ghost use Rattle.swh_model.specs.SmallStream.{Blob as BlobValue, Change as ChangeValue, line, IsMark, IsCount, BeginsBlob, BeginsChange};
+ghost use Rattle.swh_model.specs.SmallStream.{
+  Blob as BlobValue,
+  Change as ChangeValue,
+  line,
+  IsMark,
+  IsCount,
+  BeginsBlob,
+  BeginsChange,
+};
 ghost use Rattle.swh_fastload.specs.View.{blob_view, change_view, IsCommitHead, BeginsCommitHead};
 
 use crate::lines::take_line;
@@ -13,8 +21,10 @@ use swh_pieces::split_at_byte;
 
 /// The number of bytes of the data that a line opens.
 fn take_size(bytes: &[u8]) -> Option<(u64, &[u8])>
-    ensures some { IfSome result (λ x. (digits : List ℕ) × IsNumber digits x.0 × (bytes.now ≡ line (codes "data ") digits x.1.now)) }
-    ensures none { IfNone result ((digits rest : List ℕ) (n : ℕ) → IsNumber digits n → bytes.now ≢ line (codes "data ") digits rest) }
+    ensures some { IfSome result (λ x. (digits : List ℕ) × IsNumber digits x.0
+        × (bytes.now ≡ line (codes "data ") digits x.1.now)) }
+    ensures none { IfNone result ((digits rest : List ℕ) (n : ℕ) → IsNumber digits n
+        → bytes.now ≢ line (codes "data ") digits rest) }
 {
     let (digits, rest) = take_line(bytes, b"data ")?;
     let number = number_of(digits)?;
@@ -35,8 +45,10 @@ fn mark_of(digits: &[u8]) -> Option<u64>
 
 /// The mark on a line of its own.
 fn take_mark(bytes: &[u8]) -> Option<(u64, &[u8])>
-    ensures some { IfSome result (λ x. (digits : List ℕ) × IsMark digits x.0 × (bytes.now ≡ line (codes "mark :") digits x.1.now)) }
-    ensures none { IfNone result ((digits rest : List ℕ) (n : ℕ) → IsMark digits n → bytes.now ≢ line (codes "mark :") digits rest) }
+    ensures some { IfSome result (λ x. (digits : List ℕ) × IsMark digits x.0
+        × (bytes.now ≡ line (codes "mark :") digits x.1.now)) }
+    ensures none { IfNone result ((digits rest : List ℕ) (n : ℕ) → IsMark digits n
+        → bytes.now ≢ line (codes "mark :") digits rest) }
 {
     let (digits, rest) = take_line(bytes, b"mark :")?;
     let mark = mark_of(digits)?;
@@ -45,8 +57,10 @@ fn take_mark(bytes: &[u8]) -> Option<(u64, &[u8])>
 
 /// Data within the limit of a body.
 fn take_data(bytes: &[u8]) -> Option<(&[u8], &[u8])>
-    ensures some { IfSome result (λ x. (count : List ℕ) × IsCount count x.0.now × (bytes.now ≡ line (codes "data ") count (x.0.now ++ x.1.now))) }
-    ensures none { IfNone result ((count content rest : List ℕ) → IsCount count content → bytes.now ≢ line (codes "data ") count (content ++ rest)) }
+    ensures some { IfSome result (λ x. (count : List ℕ) × IsCount count x.0.now
+        × (bytes.now ≡ line (codes "data ") count (x.0.now ++ x.1.now))) }
+    ensures none { IfNone result ((count content rest : List ℕ) → IsCount count content
+        → bytes.now ≢ line (codes "data ") count (content ++ rest)) }
 {
     let (size, rest) = take_size(bytes)?;
     if size > BODY_LIMIT {
@@ -88,7 +102,8 @@ pub fn take_change(bytes: &[u8]) -> Option<(Change<'_>, &[u8])>
 
 /// Whether a person on a committer's line is one, within the limit of a line.
 fn is_committer(person: &[u8]) -> bool
-    ensures { IsTrue result ↔ (IsPerson person.now × (length (codes "committer ") + length person.now + 1 ≤ line_limit)) }
+    ensures { IsTrue result ↔ (IsPerson person.now × (length (codes "committer ") + length person.now + 1
+        ≤ line_limit)) }
 {
     person.len() <= LINE_LIMIT - 11 && is_person(person)
 }

@@ -45,7 +45,8 @@ fn head_branch(alloc: Global, head: &[u8]) -> Result<Branch, StreamFault>
 
 /// Both branches in the order of their names; of one name, the head's alone.
 fn in_order(alloc: Global, head: Branch, tip: Branch) -> Result<Vec<Branch>, StreamFault>
-    ensures ok { IfOk result (λ branches. branch_views branches.items ≡ put_branch (branch_view head) (branch_view tip ∷ [])) }
+    ensures ok { IfOk result (λ branches. branch_views branches.items
+        ≡ put_branch (branch_view head) (branch_view tip ∷ [])) }
     ensures err { IfErr result (λ fault. fault ≡ OutOfMemory) }
 {
     match head.name.as_slice().cmp(tip.name.as_slice()) {
@@ -61,7 +62,8 @@ fn snapshot_branches(
     head: Option<&[u8]>,
     tip: &Option<Tip<'_>>,
 ) -> Result<Vec<Branch>, StreamFault>
-    ensures ok { IfOk result (λ branches. branch_views branches.items ≡ with_head (option_copied head.entry) (tip_branches tip.now)) }
+    ensures ok { IfOk result (λ branches. branch_views branches.items
+        ≡ with_head (option_copied head.entry) (tip_branches tip.now)) }
     ensures err { IfErr result (λ fault. fault ≡ OutOfMemory) }
 {
     match (head, tip) {
@@ -81,7 +83,8 @@ pub fn snapshot_body(
     tip: &Option<Tip<'_>>,
 ) -> Result<Vec<u8>, StreamFault>
     requires { AreBranches (with_head (option_copied head) (tip_branches tip.now)) }
-    ensures ok { IfOk result (λ body. body.items ≡ snapshot_text (with_head (option_copied head.entry) (tip_branches tip.now))) }
+    ensures ok { IfOk result (λ body. body.items ≡ snapshot_text
+        (with_head (option_copied head.entry) (tip_branches tip.now))) }
     ensures err { IfErr result (λ fault. fault ≡ OutOfMemory) }
 {
     let branches = snapshot_branches(alloc, head, tip)?;

@@ -28,7 +28,8 @@ pub fn files_of<'a>(
 ) -> Result<Files<'a>, StreamFault>
     requires ids { AreIds marks.now.entries }
     requires names { AllByRecursion (λ change. IsFileName change.name) (map change_view changes.now) }
-    ensures ok { IfOk result (λ files. tree_after marks.now.entries [] (map change_view changes.now) ≡ Some (tree_of files.entries)) }
+    ensures ok { IfOk result (λ files. tree_after marks.now.entries [] (map change_view changes.now)
+        ≡ Some (tree_of files.entries)) }
     ensures folder { IfOk result (λ files. IsFolder (tree_of files.entries)) }
     ensures err { IfErr result (RefusesStream (tree_after marks.now.entries [] (map change_view changes.now) ≡ None)) }
 {

@@ -1,5 +1,22 @@
 //! The fields of a head.
-ghost use Rattle.std.specs.Prelude.{◌≡◌, ◌↔◌, IsTrue, ℕ, true, ◌++◌, ◌∷◌, [], OnOk, IfOk, IfSome, IfNone, All, List, map, length};
+ghost use Rattle.std.specs.Prelude.{
+  ◌≡◌,
+  ◌↔◌,
+  IsTrue,
+  ℕ,
+  true,
+  ◌++◌,
+  ◌∷◌,
+  [],
+  OnOk,
+  IfOk,
+  IfSome,
+  IfNone,
+  All,
+  List,
+  map,
+  length,
+};
 ghost use Rattle.httparse.specs.Grammar.{is_ows, skip_ows};
 ghost use Rattle.httparse.specs.Spans.{IsHeaderWithin, header_bytes};
 ghost use Rattle.std.specs.Str.{str_eq_ignore_ascii_case};
@@ -27,7 +44,9 @@ fn push_named<'a>(
     name: &[u8],
 ) -> Result<(), Memory>
     requires { IsHeaderWithin (length head.now) header.now }
-    ensures { OnOk result (map (λ (v : Bor (List ℕ)). v.now) found.new.items ≡ map (λ (v : Bor (List ℕ)). v.now) found.old.items ++ values name.now (header_bytes head.now header.now ∷ [])) }
+    ensures { OnOk result (map (λ (v : Bor (List ℕ)). v.now) found.new.items
+        ≡ map (λ (v : Bor (List ℕ)). v.now) found.old.items ++ values name.now
+        (header_bytes head.now header.now ∷ [])) }
 {
     if is_same_word(header.name.of(head), name) {
         found.push(header.value.of(head))?;
@@ -43,7 +62,8 @@ pub fn values_of<'a>(
     name: &[u8],
 ) -> Result<Vec<&'a [u8]>, Memory>
     requires { All (IsHeaderWithin (length head.now)) headers.now }
-    ensures { IfOk result (λ found. map (λ (v : Bor (List ℕ)). v.now) found.items ≡ values name.now (map (header_bytes head.now) headers.now)) }
+    ensures { IfOk result (λ found. map (λ (v : Bor (List ℕ)). v.now) found.items
+        ≡ values name.now (map (header_bytes head.now) headers.now)) }
 {
     let mut found = Vec::new(alloc);
     for header in headers {

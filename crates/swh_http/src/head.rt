@@ -1,5 +1,24 @@
 //! A whole head: what it says of the body, and whether it is taken.
-ghost use Rattle.std.specs.Prelude.{◌≡◌, ◌==◌, ◌&&◌, not, ◌≤◌, ℕ, ◌<◌, ◌*◌, ◌/◌, All, IfOk, IfSome, IfNone, MatchResult, List, length, map, take};
+ghost use Rattle.std.specs.Prelude.{
+  ◌≡◌,
+  ◌==◌,
+  ◌&&◌,
+  not,
+  ◌≤◌,
+  ℕ,
+  ◌<◌,
+  ◌*◌,
+  ◌/◌,
+  All,
+  IfOk,
+  IfSome,
+  IfNone,
+  MatchResult,
+  List,
+  length,
+  map,
+  take,
+};
 ghost use Rattle.httparse.specs.Spans.{IsHeaderWithin, IsRequestWithin, header_bytes};
 ghost use Rattle.swh_http.specs.Field.{AreTakenFields, IsRefusedAs, keeps};
 ghost use Rattle.swh_http.specs.Framed.{Frames, IsRefusedHead, IsWholeHead, Found};
@@ -26,7 +45,8 @@ pub struct Framed {
 // The length of the body, or the status with which the head is refused.
 fn judge(alloc: Global, head: &[u8], headers: &[HeaderSpan]) -> Result<Result<u64, u16>, Memory>
     requires { All (IsHeaderWithin (length head.now)) headers.now }
-    ensures { IfOk result (λ r. MatchResult r (AreTakenFields (map (header_bytes head.now) headers.now)) (IsRefusedAs (map (header_bytes head.now) headers.now))) }
+    ensures { IfOk result (λ r. MatchResult r (AreTakenFields (map (header_bytes head.now) headers.now))
+        (IsRefusedAs (map (header_bytes head.now) headers.now))) }
 {
     let lengths = values_of(alloc, head, headers, b"content-length")?;
     let Some(length) = common_length(lengths.as_slice()) else {

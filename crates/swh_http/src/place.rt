@@ -122,7 +122,8 @@ fn after_version(index: u8, byte: u8) -> Place
 
 // At the start of a line: what a LF, a CR and a byte of a token lead to.
 fn at_start(byte: u8, feed: Place, end: Place, token: Place) -> Place
-    ensures { result ≡ (if byte == 10 then feed else (if byte == 13 then end else (if is_token_byte byte then token else Place.Broken))) }
+    ensures { result ≡ (if byte == 10 then feed else (if byte == 13 then end else
+        (if is_token_byte byte then token else Place.Broken))) }
 {
     if byte == b'\n' {
         feed

@@ -45,7 +45,8 @@ fn push_ask(asks: &mut Vec<Ask>, ask: Option<Ask>) -> Result<(), Memory>
 fn read(alloc: Global, state: State, piece: &[u8]) -> Result<(Vec<Ask>, State), Memory>
     requires { MayTakeMore state }
     ensures ready { IfOk result (λ r. MayTakeMore r.1) }
-    ensures open { IfOk result (λ r. (held : List ℕ) → held_of state ≡ Some held → AreAsks (held ++ piece.now) r.0.items (held_of r.1)) }
+    ensures open { IfOk result (λ r. (held : List ℕ) → held_of state ≡ Some held
+        → AreAsks (held ++ piece.now) r.0.items (held_of r.1)) }
     ensures closed { IfOk result (λ r. held_of state ≡ None → (r.0.items ≡ []) × (held_of r.1 ≡ None)) }
 {
     let mut asks = Vec::new(alloc);
@@ -88,7 +89,8 @@ impl Session {
 
     /// What the bytes held and these ask, in order; the rest of them waits. After want of memory nothing more is taken.
     pub fn feed(&mut self, piece: &[u8]) -> Result<Vec<Ask>, Memory>
-        ensures open { IfOk result (λ asks. (held : List ℕ) → self.old ≡ Some held → AreAsks (held ++ piece.now) asks.items self.new) }
+        ensures open { IfOk result (λ asks. (held : List ℕ) → self.old ≡ Some held
+            → AreAsks (held ++ piece.now) asks.items self.new) }
         ensures closed { IfOk result (λ asks. self.old ≡ None → (asks.items ≡ []) × (self.new ≡ None)) }
         ensures err { OnErr result (self.new ≡ None) }
     {

@@ -51,7 +51,8 @@ enum HeadEnd {
 // One byte more of a head.
 fn next_place(held: &mut Vec<u8>, place: Place, byte: u8) -> Result<Place, Memory>
     requires { place_of held.old.items ≡ place }
-    ensures { IfOk result (λ after. (held.new.items ≡ held.old.items ++ byte ∷ []) × (place_of held.new.items ≡ after)) }
+    ensures { IfOk result (λ after. (held.new.items ≡ held.old.items ++ byte ∷ [])
+        × (place_of held.new.items ≡ after)) }
 {
     let after = advance(held.as_slice(), place, byte);
     held.push(byte)?;
@@ -155,7 +156,8 @@ fn whole_turn(alloc: Global, bytes: &[u8], head: Vec<u8>, taken: usize) -> Resul
     requires whole { IsWholeHead head.items }
     requires short { length head.items ≤ head_limit }
     ensures some_taken { IfOk result (λ turn. (0 < turn.taken) × (turn.taken ≤ length bytes.now)) }
-    ensures turn { IfOk result (λ turn. (held : List ℕ) → head.items ≡ held ++ take taken bytes.now → IsTurn held bytes.now turn) }
+    ensures turn { IfOk result (λ turn. (held : List ℕ) → head.items ≡ held ++ take taken bytes.now
+        → IsTurn held bytes.now turn) }
 {
     match frame(alloc, head.as_slice())? {
         Ok(framed) => {
@@ -193,7 +195,8 @@ pub fn take_turn(alloc: Global, state: State, rest: &[u8]) -> Result<Turn, Memor
     requires ready { MayTakeMore state }
     requires more { 0 < length rest.now }
     ensures some_taken { IfOk result (λ turn. (0 < turn.taken) × (turn.taken ≤ length rest.now)) }
-    ensures turn { IfOk result (λ turn. MatchOption (held_of state) (StaysClosed rest.now turn) (λ held. IsTurn held rest.now turn)) }
+    ensures turn { IfOk result (λ turn. MatchOption (held_of state) (StaysClosed rest.now turn)
+        (λ held. IsTurn held rest.now turn)) }
 {
     match state {
         State::Head { bytes, place } => head_turn(alloc, bytes, place, rest),

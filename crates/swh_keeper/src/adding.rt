@@ -1,5 +1,22 @@
 //! A planned event: carried out in memory, then on both disks.
-ghost use Rattle.std.specs.Prelude.{◌≡◌, ◌+◌, ◌≤◌, ◌<◌, ◌^◌, ◌++◌, ◌∷◌, [], ℕ, List, length, OnOk, OnErr, IfOk, IfErr, IsErrOf};
+ghost use Rattle.std.specs.Prelude.{
+  ◌≡◌,
+  ◌+◌,
+  ◌≤◌,
+  ◌<◌,
+  ◌^◌,
+  ◌++◌,
+  ◌∷◌,
+  [],
+  ℕ,
+  List,
+  length,
+  OnOk,
+  OnErr,
+  IfOk,
+  IfErr,
+  IsErrOf,
+};
 ghost use Rattle.swh_outside.specs.Files.{EachImages, FilesBreaks, files_of, files_done};
 ghost use Rattle.swh_segment.specs.Events.{event_calls};
 ghost use Rattle.swh_segment.specs.Makes.{ADiskFailed};
@@ -53,18 +70,24 @@ pub fn add_event<D: Disk>(
     requires may { MayAdvance replayed.old planned.event.what }
     requires to_add { IsToAdd replayed.old history.old.items planned.event planned.run.items planned.bytes.items }
     requires room { FilesHaveRoom replayed.old planned.run.items planned.bytes.items }
-    requires settled { D.tells → AreSettledFor (D.file ledger.old) (D.file store.old) history.old.items replayed.old.store_end replayed.old.ledger_end }
+    requires settled { D.tells → AreSettledFor (D.file ledger.old)
+        (D.file store.old) history.old.items replayed.old.store_end replayed.old.ledger_end }
 
     ensures outcome { IfOk result (λ outcome. outcome ≡ planned.outcome) }
     ensures history { OnOk result (history.new.items ≡ history.old.items ++ planned.event ∷ []) }
     ensures replay { OnOk result (IsReplayOf replayed.new (history.old.items ++ planned.event ∷ [])) }
     ensures in_files { OnOk result (IsInFiles replayed.new) }
-    ensures settled { D.tells → OnOk result (AreSettledFor (D.file ledger.new) (D.file store.new) (history.old.items ++ planned.event ∷ []) replayed.new.store_end replayed.new.ledger_end) }
+    ensures settled { D.tells → OnOk result (AreSettledFor (D.file ledger.new) (D.file store.new)
+        (history.old.items ++ planned.event ∷ []) replayed.new.store_end replayed.new.ledger_end) }
 
     // The device calls that it makes.
     ensures calls { D.tells → OnOk result (files_of (D.file ledger.new) (D.file store.new)
-        ≡ files_done (event_calls replayed.old.store_end (run_written planned.event.what) replayed.old.ledger_end planned.bytes.items) (files_of (D.file ledger.old) (D.file store.old))) }
-    ensures broken { D.tells → IsErrOf result DiskFailed → FilesBreaks (event_calls replayed.old.store_end (run_written planned.event.what) replayed.old.ledger_end planned.bytes.items)
+        ≡ files_done (event_calls replayed.old.store_end
+        (run_written planned.event.what) replayed.old.ledger_end planned.bytes.items) (files_of (D.file ledger.old)
+        (D.file store.old))) }
+    ensures broken { D.tells → IsErrOf result DiskFailed → FilesBreaks
+        (event_calls replayed.old.store_end
+        (run_written planned.event.what) replayed.old.ledger_end planned.bytes.items)
         (files_of (D.file ledger.old) (D.file store.old)) (files_of (D.file ledger.new) (D.file store.new)) }
 
     ensures same_history { OnErr result (history.new.items ≡ history.old.items) }
@@ -73,10 +96,12 @@ pub fn add_event<D: Disk>(
     ensures same_replay { IsErrOf result OutOfMemory → replayed.new ≡ replayed.old }
     ensures same_store { IsErrOf result OutOfMemory → store.new ≡ store.old }
     ensures same_ledger { IsErrOf result OutOfMemory → ledger.new ≡ ledger.old }
-    ensures left { D.tells → IsErrOf result DiskFailed → EachImages (files_of (D.file ledger.new) (D.file store.new)) (WithOrWithout history.old.items planned.event) }
+    ensures left { D.tells → IsErrOf result DiskFailed → EachImages (files_of (D.file ledger.new) (D.file store.new))
+        (WithOrWithout history.old.items planned.event) }
     ensures store_later { D.faults store.old ≤ D.faults store.new }
     ensures ledger_later { D.faults ledger.old ≤ D.faults ledger.new }
-    ensures cause { IsErrOf result DiskFailed → ADiskFailed (D.faults store.old) (D.faults store.new) (D.faults ledger.old) (D.faults ledger.new) }
+    ensures cause { IsErrOf result DiskFailed → ADiskFailed (D.faults store.old) (D.faults store.new)
+        (D.faults ledger.old) (D.faults ledger.new) }
 
     // Where no disk failed, both counts are as they were.
     ensures store_quiet { OnOk result (D.faults store.new ≡ D.faults store.old) }

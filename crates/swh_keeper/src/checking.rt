@@ -29,7 +29,8 @@ pub struct Checked {
 /// Adds entries one after another, up to one whose name is held.
 fn add_new(bodies: &mut HeldBodies, entries: &[Entry]) -> Result<bool, Memory>
     requires { AllByRecursion HasItsChildren entries.now }
-    ensures yes { IfOk result (λ yes. IsTrue yes → AreNew bodies.old entries.now × (bodies.new ≡ added bodies.old entries.now)) }
+    ensures yes { IfOk result (λ yes. IsTrue yes → AreNew bodies.old entries.now
+        × (bodies.new ≡ added bodies.old entries.now)) }
     ensures no { IfOk result (λ yes. yes ≡ false → AreNew bodies.old entries.now → ⊥) }
 {
     for entry in entries {
@@ -47,7 +48,8 @@ fn check_batch<N: Namer>(
     bodies: &mut HeldBodies,
     given: &[Entry],
 ) -> Result<Option<Vec<Entry>>, Memory>
-    ensures some { IfOk result (λ found. IfSome found (λ es. AreAdded N.id_of bodies.old bodies.new given.now es.items)) }
+    ensures some { IfOk result (λ found.
+        IfSome found (λ es. AreAdded N.id_of bodies.old bodies.new given.now es.items)) }
     ensures none { IfOk result (λ found. IfNone found (MayNotBeAdded N.id_of bodies.old given.now)) }
 {
     if !are_within_limits(given) {
@@ -121,8 +123,10 @@ fn check_mark(
     mark: (Status, Option<[u8; 20]>),
 ) -> Result<bool, Memory>
     requires { AreClosed bodies.now closed.old }
-    ensures yes { IfOk result (λ yes. IsTrue yes → MarksVisit (archive_of bodies.now visits.old) visits.new by origin.now visit mark.0 mark.1) }
-    ensures no { IfOk result (λ yes. yes ≡ false → MayMark (archive_of bodies.now visits.old) by origin.now visit mark.0 mark.1 → ⊥) }
+    ensures yes { IfOk result (λ yes. IsTrue yes → MarksVisit
+        (archive_of bodies.now visits.old) visits.new by origin.now visit mark.0 mark.1) }
+    ensures no { IfOk result (λ yes. yes ≡ false
+        → MayMark (archive_of bodies.now visits.old) by origin.now visit mark.0 mark.1 → ⊥) }
     ensures known { IfOk result (λ yes. IsTrue yes → AreClosed bodies.now closed.new) }
 {
     let (status, snapshot) = mark;
@@ -147,8 +151,10 @@ pub fn check_kind<N: Namer>(
     given: EventKind,
 ) -> Result<Option<EventKind>, Memory>
     requires { AreClosed bodies.old closed.old }
-    ensures some { IfOk result (λ found. IfSome found (Happens N.id_of (archive_of bodies.old visits.old) (archive_of bodies.new visits.new) by given)) }
-    ensures none { IfOk result (λ found. IfNone found (MayNotHappen N.id_of (archive_of bodies.old visits.old) by given)) }
+    ensures some { IfOk result (λ found. IfSome found (Happens N.id_of (archive_of bodies.old visits.old)
+        (archive_of bodies.new visits.new) by given)) }
+    ensures none { IfOk result (λ found. IfNone found (MayNotHappen N.id_of
+        (archive_of bodies.old visits.old) by given)) }
     ensures known { IfOk result (λ found. IfSome found (λ _. AreClosed bodies.new closed.new)) }
 {
     match given {
@@ -168,7 +174,15 @@ pub fn check_kind<N: Namer>(
             status,
             snapshot,
         } => {
-            if !check_mark(bodies, closed, visits, by, &origin, visit, (status, snapshot))? {
+            if !check_mark(
+                bodies,
+                closed,
+                visits,
+                by,
+                &origin,
+                visit,
+                (status, snapshot),
+            )? {
                 return Ok(None);
             }
             Ok(Some(EventKind::Mark {

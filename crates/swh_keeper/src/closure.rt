@@ -18,8 +18,10 @@ fn list_held(
     kids: &[Name],
 ) -> Result<Option<Name>, Memory>
     ensures gains { GainsHeld bodies.now kids.now listing.old listing.new }
-    ensures gap { IfOk result (λ gap. IfSome gap (λ child. Contains kids.now child × (body_of bodies.now child ≡ None))) }
-    ensures all { IfOk result (λ gap. IfNone gap ((child : Name) → Contains kids.now child → Contains listing.new child)) }
+    ensures gap { IfOk result (λ gap. IfSome gap (λ child. Contains kids.now child
+        × (body_of bodies.now child ≡ None))) }
+    ensures all { IfOk result (λ gap. IfNone gap ((child : Name) → Contains kids.now child
+        → Contains listing.new child)) }
 {
     for child in kids {
         if !bodies.has(child) {
@@ -38,8 +40,10 @@ fn list_children(
 ) -> Result<Option<Name>, Memory>
     requires { IsHeld bodies.now parent.now }
     ensures gains { GainsChildren bodies.now parent.now listing.old listing.new }
-    ensures gap { IfOk result (λ gap. IfSome gap (λ child. IsChild bodies.now parent.now child × (body_of bodies.now child ≡ None))) }
-    ensures all { IfOk result (λ gap. IfNone gap ((child : Name) → IsChild bodies.now parent.now child → Contains listing.new child)) }
+    ensures gap { IfOk result (λ gap. IfSome gap (λ child. IsChild bodies.now parent.now child
+        × (body_of bodies.now child ≡ None))) }
+    ensures all { IfOk result (λ gap. IfNone gap ((child : Name) → IsChild bodies.now parent.now child
+        → Contains listing.new child)) }
 {
     let Some(entry) = bodies.get(parent) else {
         unreachable!()

@@ -8,7 +8,16 @@ ghost use Rattle.swh_model.specs.Archive.{IsHeld, IsClosed};
 ghost use Rattle.swh_model.specs.Certificate.{AreClosed};
 ghost use Rattle.swh_model.specs.Limits.{bytes_before_last};
 ghost use Rattle.swh_model.specs.Judge.{first_long, BatchPasses, FilePasses};
-ghost use Rattle.swh_keeper.specs.Judged.{IsFirstOf, NonePasses, AreLengths, IsVisitRefusal, MayBeMarked, IsGapRefusal, IsSnapshotRefusal, SuitsStatus};
+ghost use Rattle.swh_keeper.specs.Judged.{
+  IsFirstOf,
+  NonePasses,
+  AreLengths,
+  IsVisitRefusal,
+  MayBeMarked,
+  IsGapRefusal,
+  IsSnapshotRefusal,
+  SuitsStatus,
+};
 
 use crate::bodies::HeldBodies;
 use crate::closure::find_gap_beyond;
@@ -74,8 +83,10 @@ pub fn limit_of_files(
 ) -> Option<(Which, u64)>
     requires store_fits { store_end + run < 2 ^ 64 }
     requires ledger_fits { end + 1 + record_length < 2 ^ 64 }
-    ensures some { (h : List Event) (event : EventKind) → AreLengths h event store_end run end record_length → IfSome result (IsFirstOf (FilePasses h event)) }
-    ensures none { (h : List Event) (event : EventKind) → AreLengths h event store_end run end record_length → IfNone result (NonePasses (FilePasses h event)) }
+    ensures some { (h : List Event) (event : EventKind) → AreLengths h event store_end run end record_length
+        → IfSome result (IsFirstOf (FilePasses h event)) }
+    ensures none { (h : List Event) (event : EventKind) → AreLengths h event store_end run end record_length
+        → IfNone result (NonePasses (FilePasses h event)) }
     ensures store_fits { IfNone result (store_end + run ≤ 2 ^ 62) }
     ensures ledger_fits { IfNone result (end + 1 + record_length ≤ 2 ^ 62) }
 {

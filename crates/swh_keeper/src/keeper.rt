@@ -36,19 +36,46 @@ impl<N: Namer, D: Disk> Model for Keeper<N, D> {
 
     ghost view = { λ k. record { store = k.store; ledger = k.ledger; history = k.history.items; wounded = k.wounded } };
 
-    ghost invariant = { λ k. IsKeeping N.id_of D.tells (D.file k.ledger) (D.file k.store) k.replayed k.history.items k.wounded };
+    ghost invariant = { λ k. IsKeeping N.id_of D.tells (D.file k.ledger)
+        (D.file k.store) k.replayed k.history.items k.wounded };
 }
 
 impl<N: Namer, D: Disk> Keeper<N, D> {
-    ghost use Rattle.std.specs.Prelude.{◌≡◌, ◌≤◌, None, IfSome, IfNone, MatchOption, MatchResult, OnOk, IfOk, IfErr, IsErrOf, []};
+    ghost use Rattle.std.specs.Prelude.{
+      ◌≡◌,
+      ◌≤◌,
+      None,
+      IfSome,
+      IfNone,
+      MatchOption,
+      MatchResult,
+      OnOk,
+      IfOk,
+      IfErr,
+      IsErrOf,
+      [],
+    };
     ghost use Rattle.swh_segment.specs.Makes.{ADiskFailed};
     ghost use Rattle.swh_model.specs.Judge.{IsWish};
     ghost use Rattle.swh_keeper.specs.declared.fault.Refusal.TheVariants.{DiskFault};
     ghost use Rattle.swh_outside.specs.Files.{files_of, files_done};
     ghost use Rattle.swh_segment.specs.Making.{IsMade, IsNotMade, barriers, making_calls};
     ghost use Rattle.swh_model.specs.Stands.{StandsFor};
-    ghost use Rattle.swh_keeper.specs.Opening.{IsMakeFault, IsOpeningFault, IsLeftOfMaking, IsLeftFor, IsTheHistory, IsDamaged, UnlessDiskFault};
-    ghost use Rattle.swh_keeper.specs.declared.opening.OpenWhy.TheVariants.{Made, NotMade, Damaged, DiskFault as DiskFaulted};
+    ghost use Rattle.swh_keeper.specs.Opening.{
+      IsMakeFault,
+      IsOpeningFault,
+      IsLeftOfMaking,
+      IsLeftFor,
+      IsTheHistory,
+      IsDamaged,
+      UnlessDiskFault,
+    };
+    ghost use Rattle.swh_keeper.specs.declared.opening.OpenWhy.TheVariants.{
+      Made,
+      NotMade,
+      Damaged,
+      DiskFault as DiskFaulted,
+    };
     ghost use Rattle.swh_model.specs.Archive.{body_of, visits_of};
     ghost use Rattle.swh_model.specs.Step.{replay};
     ghost use Rattle.swh_keeper.specs.Advance.{archive_of};
@@ -66,10 +93,12 @@ impl<N: Namer, D: Disk> Keeper<N, D> {
         ensures empty { IfOk result (λ keeper. keeper.history ≡ []) }
         ensures unwounded { IfOk result (λ keeper. keeper.wounded ≡ None) }
         ensures not_made { D.tells → OnOk result (IsNotMade (D.file ledger).seen) }
-        ensures calls { D.tells → IfOk result (λ keeper. files_of (D.file keeper.ledger) (D.file keeper.store) ≡ files_done (making_calls (D.file ledger).seen) (files_of (D.file ledger) (D.file store))) }
+        ensures calls { D.tells → IfOk result (λ keeper. files_of (D.file keeper.ledger) (D.file keeper.store)
+            ≡ files_done (making_calls (D.file ledger).seen) (files_of (D.file ledger) (D.file store))) }
         ensures err { IfErr result (λ fault. IsMakeFault fault.why) }
         ensures made { D.tells → IfErr result (λ fault. fault.why ≡ Made → IsMade (D.file ledger).seen) }
-        ensures cause { IfErr result (λ fault. fault.why ≡ DiskFaulted → ADiskFailed (D.faults store) (D.faults fault.store) (D.faults ledger) (D.faults fault.ledger)) }
+        ensures cause { IfErr result (λ fault. fault.why ≡ DiskFaulted
+            → ADiskFailed (D.faults store) (D.faults fault.store) (D.faults ledger) (D.faults fault.ledger)) }
 
         // A made archive is as it was, and each disk comes back as the one that it was.
         ensures left { D.tells → IfErr result (λ fault. IsLeftOfMaking fault.why
@@ -116,22 +145,30 @@ impl<N: Namer, D: Disk> Keeper<N, D> {
         mut ledger: D,
     ) -> Result<Keeper<N, D>, OpenFault<D>>
         // Its history is the one for which the files stand.
-        ensures stand { D.tells → IfOk result (λ keeper. StandsFor (D.file ledger).seen (D.file store).seen keeper.history) }
-        ensures history { D.tells → IfOk result (λ keeper. IsTheHistory N.id_of (D.file ledger).seen (D.file store).seen keeper.history) }
+        ensures stand { D.tells → IfOk result (λ keeper. StandsFor (D.file ledger).seen
+            (D.file store).seen keeper.history) }
+        ensures history { D.tells → IfOk result (λ keeper. IsTheHistory N.id_of (D.file ledger).seen
+            (D.file store).seen keeper.history) }
         ensures unwounded { IfOk result (λ keeper. keeper.wounded ≡ None) }
         ensures made { D.tells → OnOk result (IsMade (D.file ledger).seen) }
 
         // Nothing but a barrier on each file was done.
-        ensures calls { D.tells → IfOk result (λ keeper. files_of (D.file keeper.ledger) (D.file keeper.store) ≡ files_done barriers (files_of (D.file ledger) (D.file store))) }
+        ensures calls { D.tells → IfOk result (λ keeper. files_of (D.file keeper.ledger) (D.file keeper.store)
+            ≡ files_done barriers (files_of (D.file ledger) (D.file store))) }
 
         ensures why { IfErr result (λ fault. IsOpeningFault fault.why) }
         ensures not_made { D.tells → IfErr result (λ fault. fault.why ≡ NotMade → IsNotMade (D.file ledger).seen) }
-        ensures damaged { D.tells → IfErr result (λ fault. fault.why ≡ Damaged → IsDamaged N.id_of (D.file ledger).seen (D.file store).seen) }
-        ensures cause { IfErr result (λ fault. fault.why ≡ DiskFaulted → ADiskFailed (D.faults store) (D.faults fault.store) (D.faults ledger) (D.faults fault.ledger)) }
-        ensures left { D.tells → IfErr result (λ fault. IsLeftFor fault.why (files_of (D.file ledger) (D.file store)) (files_of (D.file fault.ledger) (D.file fault.store))) }
+        ensures damaged { D.tells → IfErr result (λ fault. fault.why ≡ Damaged
+            → IsDamaged N.id_of (D.file ledger).seen (D.file store).seen) }
+        ensures cause { IfErr result (λ fault. fault.why ≡ DiskFaulted
+            → ADiskFailed (D.faults store) (D.faults fault.store) (D.faults ledger) (D.faults fault.ledger)) }
+        ensures left { D.tells → IfErr result (λ fault. IsLeftFor fault.why (files_of (D.file ledger) (D.file store))
+            (files_of (D.file fault.ledger) (D.file fault.store))) }
 
-        ensures store_later { MatchResult result (λ keeper. D.faults store ≤ D.faults keeper.store) (λ fault. D.faults store ≤ D.faults fault.store) }
-        ensures ledger_later { MatchResult result (λ keeper. D.faults ledger ≤ D.faults keeper.ledger) (λ fault. D.faults ledger ≤ D.faults fault.ledger) }
+        ensures store_later { MatchResult result (λ keeper. D.faults store ≤ D.faults keeper.store)
+            (λ fault. D.faults store ≤ D.faults fault.store) }
+        ensures ledger_later { MatchResult result (λ keeper. D.faults ledger ≤ D.faults keeper.ledger)
+            (λ fault. D.faults ledger ≤ D.faults fault.ledger) }
 
         // Where no disk failed, both counts are as they were.
         ensures store_quiet { MatchResult result (λ keeper. D.faults keeper.store ≡ D.faults store)
@@ -176,15 +213,19 @@ impl<N: Namer, D: Disk> Keeper<N, D> {
 
     /// The entry that is held under a name, unless the keeper is wounded.
     pub fn get(&self, name: &Name) -> Option<&Entry>
-        ensures some { self.now.wounded ≡ None → IfSome result (λ entry. IsEntryOf (replay self.now.history).bodies name.now entry.now) }
-        ensures none { self.now.wounded ≡ None → IfNone result (body_of (replay self.now.history).bodies name.now ≡ None) }
+        ensures some { self.now.wounded ≡ None → IfSome result
+            (λ entry. IsEntryOf (replay self.now.history).bodies name.now entry.now) }
+        ensures none { self.now.wounded ≡ None → IfNone result
+            (body_of (replay self.now.history).bodies name.now ≡ None) }
     {
         self.replayed.bodies.get(name)
     }
 
     /// The visits of an origin, one or more, where it was opened, unless the keeper is wounded.
     pub fn visits(&self, origin: &[u8]) -> Option<&[Visit]>
-        ensures { self.now.wounded ≡ None → MatchOption result (visits_of (replay self.now.history).origins origin.now ≡ []) (IsAll (visits_of (replay self.now.history).origins origin.now)) }
+        ensures { self.now.wounded ≡ None → MatchOption result
+            (visits_of (replay self.now.history).origins origin.now ≡ [])
+            (IsAll (visits_of (replay self.now.history).origins origin.now)) }
     {
         self.replayed.visits.get(origin)
     }
@@ -222,13 +263,16 @@ impl<N: Namer, D: Disk> Keeper<N, D> {
 
         // The device calls that it makes: those that add the event, at a fault up to the one that failed.
         ensures calls { D.tells → OnOk result (IsCarriedOut self.old.history self.new.history
-            (files_of (D.file self.old.ledger) (D.file self.old.store)) (files_of (D.file self.new.ledger) (D.file self.new.store))) }
+            (files_of (D.file self.old.ledger) (D.file self.old.store))
+            (files_of (D.file self.new.ledger) (D.file self.new.store))) }
         ensures broken { D.tells → IsErrOf result DiskFault → IsBrokenOff self.old.history by wish
-            (files_of (D.file self.old.ledger) (D.file self.old.store)) (files_of (D.file self.new.ledger) (D.file self.new.store)) }
+            (files_of (D.file self.old.ledger) (D.file self.old.store))
+            (files_of (D.file self.new.ledger) (D.file self.new.store)) }
 
         ensures store_later { D.faults self.old.store ≤ D.faults self.new.store }
         ensures ledger_later { D.faults self.old.ledger ≤ D.faults self.new.ledger }
-        ensures cause { IsErrOf result DiskFault → ADiskFailed (D.faults self.old.store) (D.faults self.new.store) (D.faults self.old.ledger) (D.faults self.new.ledger) }
+        ensures cause { IsErrOf result DiskFault → ADiskFailed (D.faults self.old.store) (D.faults self.new.store)
+            (D.faults self.old.ledger) (D.faults self.new.ledger) }
 
         // Where the event is added, both counts are as they were.
         ensures store_quiet { OnOk result (D.faults self.new.store ≡ D.faults self.old.store) }

@@ -26,7 +26,20 @@ impl Model for Listing {
 }
 
 impl Listing {
-    ghost use Rattle.std.specs.Prelude.{◌≡◌, ◌<◌, ◌≤◌, ◌^◌, [], Contains, MatchOption, OnOk, OnErr, length, slice_get, Some};
+    ghost use Rattle.std.specs.Prelude.{
+      ◌≡◌,
+      ◌<◌,
+      ◌≤◌,
+      ◌^◌,
+      [],
+      Contains,
+      MatchOption,
+      OnOk,
+      OnErr,
+      length,
+      slice_get,
+      Some,
+    };
     ghost use Rattle.swh_keeper.specs.Walk.{MayGain};
 
     pub fn new(alloc: Global) -> Listing

@@ -8,7 +8,15 @@ ghost use Rattle.swh_model.specs.Coding.{packed_objects, coded_record, IsCodable
 ghost use Rattle.swh_model.specs.Step.{HasItsChildren};
 ghost use Rattle.swh_model.specs.Judge.{StatusAllows, FilePasses};
 ghost use Rattle.swh_keeper.specs.Judged.{NonePasses, IsVisitRefusal, MayBeMarked};
-ghost use Rattle.swh_keeper.specs.Planned.{IsReplayOf, IsInFiles, IsPlan, IsPlanned, IsRefusedPlan, EncodesEvent, PassesFileEnd};
+ghost use Rattle.swh_keeper.specs.Planned.{
+  IsReplayOf,
+  IsInFiles,
+  IsPlan,
+  IsPlanned,
+  IsRefusedPlan,
+  EncodesEvent,
+  PassesFileEnd,
+};
 
 use crate::fresh::{Split, find_collision, split_fresh};
 use crate::judging::{limit_of_batch, limit_of_files, snapshot_refusal, visit_refusal};
@@ -53,7 +61,8 @@ fn encode(
     requires in_files { IsInFiles replayed.now }
     requires run { run.now ≡ packed_objects event.now.what }
     requires codable { IsCodable replayed.now.store_end event.now }
-    ensures ok { (h : List Event) → IsReplayOf replayed.now h → IfOk result (λ bytes. NonePasses (FilePasses h event.now.what)) }
+    ensures ok { (h : List Event) → IsReplayOf replayed.now h
+        → IfOk result (λ bytes. NonePasses (FilePasses h event.now.what)) }
     ensures bytes { IfOk result (EncodesEvent replayed.now event.now run.now) }
     ensures err { (h : List Event) → IsReplayOf replayed.now h → IfErr result (PassesFileEnd h event.now.what) }
 {
@@ -78,8 +87,10 @@ pub fn plan_open(
     date: u64,
 ) -> Result<Planned, PlanFault>
     requires { IsInFiles replayed.now }
-    ensures ok { (h : List Event) → IsReplayOf replayed.now h → number ≡ length h + 1 → IfOk result (IsPlanned h by (Open origin kind date) replayed.now) }
-    ensures err { (h : List Event) → IsReplayOf replayed.now h → IfErr result (IsRefusedPlan h by (Open origin kind date)) }
+    ensures ok { (h : List Event) → IsReplayOf replayed.now h → number ≡ length h + 1
+        → IfOk result (IsPlanned h by (Open origin kind date) replayed.now) }
+    ensures err { (h : List Event) → IsReplayOf replayed.now h
+        → IfErr result (IsRefusedPlan h by (Open origin kind date)) }
 {
     let have = number_of_visits(&replayed.visits, &origin);
     origin_is_codable(&origin);
@@ -109,7 +120,8 @@ pub fn plan_batch(
 ) -> Result<Planned, PlanFault>
     requires in_files { IsInFiles replayed.now }
     requires good { AllByRecursion HasItsChildren entries.now }
-    ensures ok { (h : List Event) → IsReplayOf replayed.now h → number ≡ length h + 1 → IfOk result (IsPlanned h by (Batch entries.now) replayed.now) }
+    ensures ok { (h : List Event) → IsReplayOf replayed.now h → number ≡ length h + 1
+        → IfOk result (IsPlanned h by (Batch entries.now) replayed.now) }
     ensures err { (h : List Event) → IsReplayOf replayed.now h → IfErr result (IsRefusedPlan h by (Batch entries.now)) }
 {
     if let Some((which, number)) = limit_of_batch(entries) {
@@ -149,8 +161,10 @@ pub fn plan_mark(
 ) -> Result<Planned, PlanFault>
     requires in_files { IsInFiles replayed.now }
     requires how { StatusAllows mark.0 mark.1 }
-    ensures ok { (h : List Event) → IsReplayOf replayed.now h → number ≡ length h + 1 → IfOk result (IsPlanned h by (Mark origin visit mark.0 mark.1) replayed.now) }
-    ensures err { (h : List Event) → IsReplayOf replayed.now h → IfErr result (IsRefusedPlan h by (Mark origin visit mark.0 mark.1)) }
+    ensures ok { (h : List Event) → IsReplayOf replayed.now h → number ≡ length h + 1
+        → IfOk result (IsPlanned h by (Mark origin visit mark.0 mark.1) replayed.now) }
+    ensures err { (h : List Event) → IsReplayOf replayed.now h
+        → IfErr result (IsRefusedPlan h by (Mark origin visit mark.0 mark.1)) }
 {
     let (status, snapshot) = mark;
     let refusal = mark_visit_refusal(&replayed.visits, &origin, by, visit);
@@ -192,7 +206,8 @@ pub fn plan(
 ) -> Result<Planned, PlanFault>
     requires in_files { IsInFiles replayed.now }
     requires plan { IsPlan wish }
-    ensures ok { (h : List Event) → IsReplayOf replayed.now h → number ≡ length h + 1 → IfOk result (IsPlanned h by wish replayed.now) }
+    ensures ok { (h : List Event) → IsReplayOf replayed.now h → number ≡ length h + 1
+        → IfOk result (IsPlanned h by wish replayed.now) }
     ensures err { (h : List Event) → IsReplayOf replayed.now h → IfErr result (IsRefusedPlan h by wish) }
 {
     match wish {
@@ -205,6 +220,14 @@ pub fn plan(
             visit,
             status,
             snapshot,
-        } => plan_mark(alloc, replayed, number, by, origin, visit, (status, snapshot)),
+        } => plan_mark(
+            alloc,
+            replayed,
+            number,
+            by,
+            origin,
+            visit,
+            (status, snapshot),
+        ),
     }
 }

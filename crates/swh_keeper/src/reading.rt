@@ -1,6 +1,22 @@
 //! The reading of an archive's two files: the ledger record by record, the store run by run, each event checked as it
 //! is read. Of the store nothing is read after the last run.
-ghost use Rattle.std.specs.Prelude.{◌≡◌, ◌↔◌, ◌+◌, ◌≤◌, ◌<◌, [], IsTrue, false, IfOk, OnOk, IfSome, IfNone, IfErr, IsErrOf, length};
+ghost use Rattle.std.specs.Prelude.{
+  ◌≡◌,
+  ◌↔◌,
+  ◌+◌,
+  ◌≤◌,
+  ◌<◌,
+  [],
+  IsTrue,
+  false,
+  IfOk,
+  OnOk,
+  IfSome,
+  IfNone,
+  IfErr,
+  IsErrOf,
+  length,
+};
 ghost use Rattle.std.specs.FinMap as finite;
 ghost use Rattle.swh_outside.specs.Files.{files_of, files_done};
 ghost use Rattle.swh_outside.specs.Faults.{Rose};
@@ -13,8 +29,29 @@ ghost use Rattle.swh_model.specs.Stands.{StandsFor};
 ghost use Rattle.swh_model.specs.Step.{IsHistory};
 ghost use Rattle.swh_keeper.specs.Checked.{archive_of, MayNotHappen};
 ghost use Rattle.swh_keeper.specs.Planned.{IsReplayOf, IsInFiles};
-ghost use Rattle.swh_keeper.specs.Reading.{MayBeRun, IsBatchRead, HoldsAt, HoldsNoRun, IsKindRead, TellsOfNothingHeld, IsLonger, TakesRecord, NoneMayHappen, IsReadSoFar, HasRuns, IsAtEnd, IsNoArchive};
-ghost use Rattle.swh_keeper.specs.Opening.{IsReadFault, IsReadingFault, IsOpeningFault, IsLeftFor, IsDamaged, UnlessDiskFault};
+ghost use Rattle.swh_keeper.specs.Reading.{
+  MayBeRun,
+  IsBatchRead,
+  HoldsAt,
+  HoldsNoRun,
+  IsKindRead,
+  TellsOfNothingHeld,
+  IsLonger,
+  TakesRecord,
+  NoneMayHappen,
+  IsReadSoFar,
+  HasRuns,
+  IsAtEnd,
+  IsNoArchive,
+};
+ghost use Rattle.swh_keeper.specs.Opening.{
+  IsReadFault,
+  IsReadingFault,
+  IsOpeningFault,
+  IsLeftFor,
+  IsDamaged,
+  UnlessDiskFault,
+};
 ghost use Rattle.swh_keeper.specs.declared.opening.OpenWhy.TheVariants.{NotMade, Damaged, DiskFault};
 
 use crate::bodies::HeldBodies;
@@ -61,7 +98,8 @@ fn read_batch<D: Disk>(
     requires inside { at ≤ size }
     ensures read { IfOk result (λ found. IfSome found (λ es. IsBatchRead at parts.now es.items)) }
     ensures inside { IfOk result (λ found. IfSome found (λ es. at + length (coded_run es.items) ≤ size)) }
-    ensures holds { D.tells → IfOk result (λ found. IfSome found (λ es. HoldsAt (D.file store.old).seen at (coded_run es.items))) }
+    ensures holds { D.tells → IfOk result (λ found. IfSome found
+        (λ es. HoldsAt (D.file store.old).seen at (coded_run es.items))) }
     ensures none { D.tells → IfOk result (λ found. IfNone found (HoldsNoRun at parts.now (D.file store.old).seen)) }
     ensures why { IfErr result IsReadFault }
     ensures same { D.tells → D.file store.new ≡ D.file store.old }
@@ -93,7 +131,8 @@ fn read_kind<D: Disk>(
     requires inside { at ≤ size }
     requires fit { IsFit told }
     ensures read { IfOk result (λ found. IfSome found (IsKindRead at size told)) }
-    ensures holds { D.tells → IfOk result (λ found. IfSome found (λ read. HoldsAt (D.file store.old).seen at (packed_objects read.what))) }
+    ensures holds { D.tells → IfOk result (λ found. IfSome found
+        (λ read. HoldsAt (D.file store.old).seen at (packed_objects read.what))) }
     ensures none { D.tells → IfOk result (λ found. IfNone found (TellsOfNothingHeld at told (D.file store.old).seen)) }
     ensures why { IfErr result IsReadFault }
     ensures same { D.tells → D.file store.new ≡ D.file store.old }
@@ -126,7 +165,8 @@ fn happen<N: Namer>(
 ) -> Result<bool, Memory>
     requires { AreClosed checked.old.replayed.bodies checked.old.closed }
     ensures yes { IfOk result (λ yes. IsTrue yes → IsLonger N.id_of checked.old event checked.new) }
-    ensures no { IfOk result (λ yes. yes ≡ false → MayNotHappen N.id_of (archive_of checked.old.replayed.bodies checked.old.replayed.visits) event.by event.what) }
+    ensures no { IfOk result (λ yes. yes ≡ false → MayNotHappen N.id_of
+        (archive_of checked.old.replayed.bodies checked.old.replayed.visits) event.by event.what) }
 {
     let Event { by, what } = event;
     let replayed = &mut checked.replayed;
@@ -160,9 +200,11 @@ fn take_record<N: Namer, D: Disk>(
     requires inside { checked.old.replayed.store_end ≤ size }
     requires closed { AreClosed checked.old.replayed.bodies checked.old.closed }
     requires fit { IsFit told }
-    ensures taken { IfOk result (λ yes. IsTrue yes → TakesRecord N.id_of D.tells (D.file store.old).seen checked.old by told checked.new) }
+    ensures taken { IfOk result (λ yes. IsTrue yes → TakesRecord N.id_of D.tells
+        (D.file store.old).seen checked.old by told checked.new) }
     ensures inside { IfOk result (λ yes. IsTrue yes → checked.new.replayed.store_end ≤ size) }
-    ensures none { D.tells → IfOk result (λ yes. yes ≡ false → NoneMayHappen N.id_of checked.old by told (D.file store.old).seen) }
+    ensures none { D.tells → IfOk result (λ yes. yes ≡ false → NoneMayHappen N.id_of checked.old by told
+        (D.file store.old).seen) }
     ensures why { IfErr result IsReadFault }
     ensures same { D.tells → D.file store.new ≡ D.file store.old }
     ensures later { D.faults store.old ≤ D.faults store.new }
@@ -198,7 +240,8 @@ fn read_next<N: Namer, D: Disk>(
     ensures so_far { OnOk result (IsReadSoFar N.id_of ledger.now checked.new) }
     ensures runs { D.tells → OnOk result (HasRuns (D.file store.old).seen checked.new) }
     ensures inside { OnOk result (checked.new.replayed.store_end ≤ size) }
-    ensures longer { IfOk result (λ more. IsTrue more → checked.old.replayed.ledger_end < checked.new.replayed.ledger_end) }
+    ensures longer { IfOk result (λ more. IsTrue more → checked.old.replayed.ledger_end
+        < checked.new.replayed.ledger_end) }
     ensures end { IfOk result (λ more. more ≡ false → IsAtEnd ledger.now checked.new) }
     ensures damaged { D.tells → IsErrOf result Damaged → IsNoArchive N.id_of ledger.now (D.file store.old).seen }
     ensures why { IfErr result IsReadingFault }
@@ -292,7 +335,8 @@ fn read_store<N: Namer, D: Disk>(
     ensures history { IfOk result (λ checked. IsHistory N.id_of checked.history.items) }
     ensures replay { IfOk result (λ checked. IsReplayOf checked.replayed checked.history.items) }
     ensures in_files { IfOk result (λ checked. IsInFiles checked.replayed) }
-    ensures stand { D.tells → IfOk result (λ checked. StandsFor ledger.now (D.file store.old).seen checked.history.items) }
+    ensures stand { D.tells → IfOk result (λ checked. StandsFor ledger.now
+        (D.file store.old).seen checked.history.items) }
     ensures made { OnOk result (IsMade ledger.now) }
     ensures why { IfErr result IsOpeningFault }
     ensures not_made { IsErrOf result NotMade → IsNotMade ledger.now }
@@ -324,16 +368,21 @@ pub fn read_archive<N: Namer, D: Disk>(
     ensures history { IfOk result (λ checked. IsHistory N.id_of checked.history.items) }
     ensures replay { IfOk result (λ checked. IsReplayOf checked.replayed checked.history.items) }
     ensures in_files { IfOk result (λ checked. IsInFiles checked.replayed) }
-    ensures stand { D.tells → IfOk result (λ checked. StandsFor (D.file ledger.old).seen (D.file store.old).seen checked.history.items) }
+    ensures stand { D.tells → IfOk result (λ checked. StandsFor (D.file ledger.old).seen
+        (D.file store.old).seen checked.history.items) }
     ensures made { D.tells → OnOk result (IsMade (D.file ledger.old).seen) }
-    ensures calls { D.tells → OnOk result (files_of (D.file ledger.new) (D.file store.new) ≡ files_done barriers (files_of (D.file ledger.old) (D.file store.old))) }
+    ensures calls { D.tells → OnOk result (files_of (D.file ledger.new) (D.file store.new)
+        ≡ files_done barriers (files_of (D.file ledger.old) (D.file store.old))) }
     ensures why { IfErr result IsOpeningFault }
     ensures not_made { D.tells → IsErrOf result NotMade → IsNotMade (D.file ledger.old).seen }
-    ensures damaged { D.tells → IsErrOf result Damaged → IsDamaged N.id_of (D.file ledger.old).seen (D.file store.old).seen }
-    ensures left { D.tells → IfErr result (λ why. IsLeftFor why (files_of (D.file ledger.old) (D.file store.old)) (files_of (D.file ledger.new) (D.file store.new))) }
+    ensures damaged { D.tells → IsErrOf result Damaged → IsDamaged N.id_of (D.file ledger.old).seen
+        (D.file store.old).seen }
+    ensures left { D.tells → IfErr result (λ why. IsLeftFor why (files_of (D.file ledger.old) (D.file store.old))
+        (files_of (D.file ledger.new) (D.file store.new))) }
     ensures store_later { D.faults store.old ≤ D.faults store.new }
     ensures ledger_later { D.faults ledger.old ≤ D.faults ledger.new }
-    ensures cause { IsErrOf result DiskFault → ADiskFailed (D.faults store.old) (D.faults store.new) (D.faults ledger.old) (D.faults ledger.new) }
+    ensures cause { IsErrOf result DiskFault → ADiskFailed (D.faults store.old) (D.faults store.new)
+        (D.faults ledger.old) (D.faults ledger.new) }
 
     // Where no disk failed, both counts are as they were.
     ensures store_quiet { OnOk result (D.faults store.new ≡ D.faults store.old) }

@@ -35,7 +35,8 @@ fn push_opened(
     kind: VisitKind,
     date: u64,
 ) -> Result<(), Memory>
-    ensures ok { OnOk result (visits.new.items ≡ visits.old.items ++ first_of (length visits.old.items + 1) date kind by ∷ []) }
+    ensures ok { OnOk result (visits.new.items ≡ visits.old.items ++ first_of (length visits.old.items + 1) date kind by
+        ∷ []) }
     ensures err { OnErr result (visits.new.items ≡ visits.old.items) }
 {
     let number = visits.len() as u64 + 1;

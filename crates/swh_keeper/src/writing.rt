@@ -36,16 +36,22 @@ pub fn write_event<D: Disk>(
 ) -> Result<(), Failed>
     requires limit { replayed.now.ledger_end + 1 < 2 ^ 64 }
     requires to_add { IsToAdd replayed.now history.now.items event.now run.now bytes.now }
-    requires settled { D.tells → AreSettledFor (D.file ledger.old) (D.file store.old) history.now.items replayed.now.store_end replayed.now.ledger_end }
+    requires settled { D.tells → AreSettledFor (D.file ledger.old)
+        (D.file store.old) history.now.items replayed.now.store_end replayed.now.ledger_end }
     // The device calls that it makes, in order, on either file.
-    ensures calls { D.tells → FilesRuns (event_calls replayed.now.store_end (run_written event.now.what) replayed.now.ledger_end bytes.now)
+    ensures calls { D.tells → FilesRuns (event_calls replayed.now.store_end
+        (run_written event.now.what) replayed.now.ledger_end bytes.now)
         (files_of (D.file ledger.old) (D.file store.old)) (files_of (D.file ledger.new) (D.file store.new)) result }
 
-    ensures ok { D.tells → OnOk result (AreSettledFor (D.file ledger.new) (D.file store.new) (history.now.items ++ event.now ∷ []) (replayed.now.store_end + length run.now) (replayed.now.ledger_end + length bytes.now)) }
-    ensures left { D.tells → OnErr result (EachImages (files_of (D.file ledger.new) (D.file store.new)) (WithOrWithout history.now.items event.now)) }
+    ensures ok { D.tells → OnOk result (AreSettledFor (D.file ledger.new) (D.file store.new)
+        (history.now.items ++ event.now ∷ []) (replayed.now.store_end + length run.now)
+        (replayed.now.ledger_end + length bytes.now)) }
+    ensures left { D.tells → OnErr result (EachImages (files_of (D.file ledger.new) (D.file store.new))
+        (WithOrWithout history.now.items event.now)) }
     ensures store_later { D.faults store.old ≤ D.faults store.new }
     ensures ledger_later { D.faults ledger.old ≤ D.faults ledger.new }
-    ensures cause { OnErr result (ADiskFailed (D.faults store.old) (D.faults store.new) (D.faults ledger.old) (D.faults ledger.new)) }
+    ensures cause { OnErr result (ADiskFailed (D.faults store.old) (D.faults store.new) (D.faults ledger.old)
+        (D.faults ledger.new)) }
 
     // Where no disk failed, both counts are as they were.
     ensures store_quiet { OnOk result (D.faults store.new ≡ D.faults store.old) }

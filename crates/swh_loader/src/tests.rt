@@ -1,5 +1,5 @@
 // Lines that report loads.
-use crate::{BadInput, End, REPORT_LIMIT, LoadFault, LoadWhy, Loaded, StreamWhy, report_line};
+use crate::{BadInput, End, LoadFault, LoadWhy, Loaded, REPORT_LIMIT, StreamWhy, report_line};
 use std::alloc::{AllocError, Global};
 use std::test::Fail;
 use swh_base::{Kind, Name, Url};

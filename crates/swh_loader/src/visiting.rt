@@ -56,7 +56,8 @@ pub fn mark<N: Namer, D: Disk>(
     snapshot: Option<[u8; 20]>,
 ) -> Result<(), LoadWhy>
     requires { MayMark (replay keeper.old.history) visit.now.by visit.now.origin.now visit.now.number status snapshot }
-    ensures marked { OnOk result (GainsStatuses keeper.old.history keeper.new.history (attempt_of visit.now) visit.now.number
+    ensures marked { OnOk result (GainsStatuses keeper.old.history keeper.new.history
+        (attempt_of visit.now) visit.now.number
         ((status, snapshot) ∷ [])) }
     ensures same { OnErr result (keeper.new.history ≡ keeper.old.history) }
     ensures leaves { Leaves N.id_of (disks D.tells D.file D.faults)

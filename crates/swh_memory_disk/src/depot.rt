@@ -22,7 +22,16 @@ impl MemoryDepot {
     ghost use Rattle.swh_outside.specs.Depot.{SameButAt};
     ghost use Rattle.swh_outside.specs.Files.{absent};
     ghost use Rattle.swh_memory_disk.specs.Memory.{memory_file, notes_of, new_notes};
-    ghost use Rattle.swh_memory_disk.specs.InPlace.{is_at, has_place, memory_files, memory_notes, depot_room, depot_tally, depot_faults, SameNotesButAt};
+    ghost use Rattle.swh_memory_disk.specs.InPlace.{
+      is_at,
+      has_place,
+      memory_files,
+      memory_notes,
+      depot_room,
+      depot_tally,
+      depot_faults,
+      SameNotesButAt,
+    };
     ghost use Rattle.swh_memory_failures.specs.Tally.{fresh_tally};
 
     /// A depot with no files, which makes disks of this room. Its openings with the listed numbers, from 0, will fail.
@@ -104,7 +113,16 @@ impl Depot for MemoryDepot {
     ghost use Rattle.swh_outside.specs.Files.{absent};
     ghost use Rattle.swh_outside.specs.declared.fault.OutFault.TheVariants.{Failed};
     ghost use Rattle.swh_memory_failures.specs.Answers.{has_failed, with_given_back};
-    ghost use Rattle.swh_memory_disk.specs.InPlace.{memory_files, memory_notes, has_place, depot_room, depot_tally, depot_faults, is_open_to_fail, SameNotesButAt};
+    ghost use Rattle.swh_memory_disk.specs.InPlace.{
+      memory_files,
+      memory_notes,
+      has_place,
+      depot_room,
+      depot_tally,
+      depot_faults,
+      is_open_to_fail,
+      SameNotesButAt,
+    };
     ghost use Rattle.swh_memory_disk.specs.Memory.{memory_file, disk_faults, notes_of, reopened};
     ghost use Rattle.swh_memory_failures.specs.Tally.{tallied};
 

@@ -37,8 +37,24 @@ impl MemoryDisk {
     ghost use Rattle.swh_outside.specs.Disk.{IsFailedCall, Write, begun};
     ghost use Rattle.swh_outside.specs.Faults.{HasCause};
     ghost use Rattle.swh_outside.specs.Files.{absent};
-    ghost use Rattle.swh_memory_disk.specs.Memory.{memory_file, disk_room, disk_calls, disk_tally, disk_faults, resting, notes_of, new_notes};
-    ghost use Rattle.swh_memory_disk.specs.Memory.{has_call_room, has_write_room, is_call_to_fail, is_write_to_fail, with_calls, begun_within};
+    ghost use Rattle.swh_memory_disk.specs.Memory.{
+      memory_file,
+      disk_room,
+      disk_calls,
+      disk_tally,
+      disk_faults,
+      resting,
+      notes_of,
+      new_notes,
+    };
+    ghost use Rattle.swh_memory_disk.specs.Memory.{
+      has_call_room,
+      has_write_room,
+      is_call_to_fail,
+      is_write_to_fail,
+      with_calls,
+      begun_within,
+    };
     ghost use Rattle.swh_memory_disk.specs.Record.{call_of, size_of, noted};
     ghost use Rattle.swh_memory_failures.specs.Tally.{fresh_tally, tallied};
     ghost use Rattle.swh_memory_disk.specs.declared.record.MemoryCall.TheVariants.{Written};
@@ -169,12 +185,15 @@ impl MemoryDisk {
         requires { size_of call ≡ 0 }
         ensures fails { is_err result ≡ is_call_to_fail self.old }
         ensures counted { disk_tally self.new ≡ tallied (is_err result) (disk_tally self.old) }
-        ensures noted { disk_calls self.new ≡ noted (has_call_room self.old) (disk_calls self.old) call (is_err result) }
+        ensures noted { disk_calls self.new ≡ noted (has_call_room self.old) (disk_calls self.old) call
+            (is_err result) }
         ensures same_room { disk_room self.new ≡ disk_room self.old }
         ensures ok { OnOk result (memory_file self.new ≡ with_calls (call_of call []) (memory_file self.old)) }
-        ensures err { OnErr result ((memory_file self.new ≡ memory_file self.old) ⊎ (memory_file self.new ≡ with_calls (call_of call []) (memory_file self.old))) }
+        ensures err { OnErr result ((memory_file self.new ≡ memory_file self.old)
+            ⊎ (memory_file self.new ≡ with_calls (call_of call []) (memory_file self.old))) }
         ensures left { OnErr result (memory_file self.new
-            ≡ if has_call_room self.old then with_calls (call_of call []) (memory_file self.old) else memory_file self.old) }
+            ≡ if has_call_room self.old then with_calls (call_of call [])
+            (memory_file self.old) else memory_file self.old) }
         ensures cause { HasCause (disk_faults self.old) (disk_faults self.new) result }
     {
         let fails = self.failures.next_fails();
@@ -205,7 +224,8 @@ impl MemoryDisk {
         requires { at ≤ length (memory_file self.old).seen }
         ensures fails { is_err result ≡ is_write_to_fail self.old at (length bytes.now) }
         ensures counted { disk_tally self.new ≡ tallied (is_err result) (disk_tally self.old) }
-        ensures noted { disk_calls self.new ≡ noted (has_write_room self.old at (length bytes.now)) (disk_calls self.old)
+        ensures noted { disk_calls self.new ≡ noted (has_write_room self.old at (length bytes.now))
+            (disk_calls self.old)
             (Written at (length bytes.now)) (is_err result) }
         ensures same_room { disk_room self.new ≡ disk_room self.old }
         ensures ok { OnOk result (memory_file self.new ≡ begun (Write at bytes.now) (memory_file self.old)) }
@@ -251,7 +271,13 @@ impl Disk for MemoryDisk {
     ghost use Rattle.swh_outside.specs.Disk.{IsReadAt, Runs, Sync, Write};
     ghost use Rattle.swh_outside.specs.Faults.{HasCause};
     ghost use Rattle.swh_memory_disk.specs.Memory.{memory_file, disk_room, disk_calls, disk_tally, disk_faults};
-    ghost use Rattle.swh_memory_disk.specs.Memory.{has_call_room, has_write_room, is_call_to_fail, is_write_to_fail, begun_within};
+    ghost use Rattle.swh_memory_disk.specs.Memory.{
+      has_call_room,
+      has_write_room,
+      is_call_to_fail,
+      is_write_to_fail,
+      begun_within,
+    };
     ghost use Rattle.swh_memory_disk.specs.Record.{noted};
     ghost use Rattle.swh_memory_failures.specs.Tally.{tallied};
     ghost use Rattle.swh_memory_disk.specs.declared.record.MemoryCall.TheVariants.{Length, Read, Written, Synced};
@@ -273,7 +299,8 @@ impl Disk for MemoryDisk {
 
         ensures fails { is_err result ≡ is_call_to_fail self.old }
         ensures counted { disk_tally self.new ≡ tallied (is_err result) (disk_tally self.old) }
-        ensures noted { disk_calls self.new ≡ noted (has_call_room self.old) (disk_calls self.old) Length (is_err result) }
+        ensures noted { disk_calls self.new ≡ noted (has_call_room self.old) (disk_calls self.old) Length
+            (is_err result) }
         ensures same_room { disk_room self.new ≡ disk_room self.old }
     {
         let Ok(()) = self.begin(MemoryCall::Length) else {
@@ -291,7 +318,8 @@ impl Disk for MemoryDisk {
         ensures whole { IfOk result (λ n. n ≡ min (length out.old) (length (memory_file self.old).seen - at)) }
         ensures fails { is_err result ≡ is_call_to_fail self.old }
         ensures counted { disk_tally self.new ≡ tallied (is_err result) (disk_tally self.old) }
-        ensures noted { disk_calls self.new ≡ noted (has_call_room self.old) (disk_calls self.old) (Read at (length out.old)) (is_err result) }
+        ensures noted { disk_calls self.new ≡ noted (has_call_room self.old) (disk_calls self.old)
+            (Read at (length out.old)) (is_err result) }
         ensures same_room { disk_room self.new ≡ disk_room self.old }
         ensures rest { IfOk result (λ n. drop n out.new ≡ drop n out.old) }
         ensures untouched { OnErr result (out.new ≡ out.old) }
@@ -320,7 +348,8 @@ impl Disk for MemoryDisk {
 
         ensures fails { is_err result ≡ is_write_to_fail self.old at (length bytes.now) }
         ensures counted { disk_tally self.new ≡ tallied (is_err result) (disk_tally self.old) }
-        ensures noted { disk_calls self.new ≡ noted (has_write_room self.old at (length bytes.now)) (disk_calls self.old)
+        ensures noted { disk_calls self.new ≡ noted (has_write_room self.old at (length bytes.now))
+            (disk_calls self.old)
             (Written at (length bytes.now)) (is_err result) }
         ensures same_room { disk_room self.new ≡ disk_room self.old }
     {
@@ -340,7 +369,8 @@ impl Disk for MemoryDisk {
 
         ensures fails { is_err result ≡ is_call_to_fail self.old }
         ensures counted { disk_tally self.new ≡ tallied (is_err result) (disk_tally self.old) }
-        ensures noted { disk_calls self.new ≡ noted (has_call_room self.old) (disk_calls self.old) Synced (is_err result) }
+        ensures noted { disk_calls self.new ≡ noted (has_call_room self.old) (disk_calls self.old) Synced
+            (is_err result) }
         ensures same_room { disk_room self.new ≡ disk_room self.old }
     {
         let Ok(()) = self.begin(MemoryCall::Synced) else {

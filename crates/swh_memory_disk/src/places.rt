@@ -51,7 +51,8 @@ pub fn swap_disk(
     ensures notes_taken { (room : Room) → notes_in room places.new dir.now file ≡ notes_of disk }
     ensures other_notes { (room : Room)
         → SameNotesButAt dir.now file (notes_in room places.old) (notes_in room places.new) }
-    ensures positions { (d : List ℕ) (n : ℕ) → position_or_len (is_at d n) places.new ≡ position_or_len (is_at d n) places.old }
+    ensures positions { (d : List ℕ) (n : ℕ) → position_or_len (is_at d n) places.new
+        ≡ position_or_len (is_at d n) places.old }
 {
     mem::replace(&mut places[i].disk, disk)
 }
@@ -71,7 +72,8 @@ pub fn add_place(
     ensures same { (d : List ℕ) (n : ℕ) → files_in places.new.items d n ≡ files_in places.old.items d n }
     ensures same_notes { (room : Room) → notes_of disk ≡ new_notes room → (d : List ℕ) (n : ℕ)
         → notes_in room places.new.items d n ≡ notes_in room places.old.items d n }
-    ensures kept { (d : List ℕ) (n : ℕ) → position_or_len (is_at d n) places.old.items < length places.old.items → position_or_len (is_at d n) places.new.items < length places.new.items }
+    ensures kept { (d : List ℕ) (n : ℕ) → position_or_len (is_at d n) places.old.items < length places.old.items
+        → position_or_len (is_at d n) places.new.items < length places.new.items }
 {
     let name = String::from_str(alloc, dir)?;
     places.push(Place {

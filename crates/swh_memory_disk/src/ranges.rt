@@ -1,5 +1,21 @@
 // Bytes, and ranges in them.
-ghost use Rattle.std.specs.Prelude.{◌≡◌, ◌≤◌, ◌<◌, ◌+◌, ◌⊎◌, ◌↔◌, ℕ, [], List, length, reverse, slice_index, vec_capacity, IsTrue, IfOk};
+ghost use Rattle.std.specs.Prelude.{
+  ◌≡◌,
+  ◌≤◌,
+  ◌<◌,
+  ◌+◌,
+  ◌⊎◌,
+  ◌↔◌,
+  ℕ,
+  [],
+  List,
+  length,
+  reverse,
+  slice_index,
+  vec_capacity,
+  IsTrue,
+  IfOk,
+};
 ghost use Rattle.swh_outside.specs.Disk.{IsOutside, patched};
 
 use std::alloc::{AllocError, Global};
@@ -59,7 +75,8 @@ pub fn settle(base: &mut Vec<u8>, bytes: &[u8], ranges: &mut Vec<(usize, usize)>
 // Copies the bytes of a range, as far as they stand.
 fn copy_range(base: &mut [u8], bytes: &[u8], at: usize, count: usize)
     requires { length base.old ≡ length bytes.now }
-    ensures inside { (k : ℕ) → k < length bytes.now → at ≤ k → k < at + count → slice_index base.new k ≡ slice_index bytes.now k }
+    ensures inside { (k : ℕ) → k < length bytes.now → at ≤ k → k < at + count
+        → slice_index base.new k ≡ slice_index bytes.now k }
     ensures outside { (k : ℕ) → (k < at) ⊎ (at + count ≤ k) → slice_index base.new k ≡ slice_index base.old k }
 {
     let from = at.min(bytes.len());

@@ -19,7 +19,8 @@ impl Model for Failures {
 
     ghost Value = { Tally };
 
-    ghost view = { λ failures. record { failing = failures.failing.items; calls = failures.calls; faults = failures.faults } };
+    ghost view = { λ failures.
+        record { failing = failures.failing.items; calls = failures.calls; faults = failures.faults } };
 }
 
 impl Failures {

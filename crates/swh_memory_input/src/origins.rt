@@ -2,7 +2,15 @@
 ghost use Rattle.std.specs.Prelude.{◌≡◌, ◌≢◌, ◌<◌, ◌≤◌, [], false, List, ℕ, None, Some, length, IfOk, string_bytes};
 ghost use Rattle.std.specs.List.{position_or_len};
 ghost use Rattle.swh_memory_input.specs.Outside.{is_for, input_at, made_at};
-ghost use Rattle.swh_memory_input.specs.Inputs.{source_left, source_given, source_ended, source_path, source_piece, source_tally, source_faults};
+ghost use Rattle.swh_memory_input.specs.Inputs.{
+  source_left,
+  source_given,
+  source_ended,
+  source_path,
+  source_piece,
+  source_tally,
+  source_faults,
+};
 
 use crate::{Input, MemoryFolder, MemorySource};
 use std::alloc::{AllocError, Global};
@@ -20,7 +28,14 @@ pub struct MemoryOrigins {
 
 impl MemoryOrigins {
     ghost use Rattle.swh_outside.specs.Faults.{one_more};
-    ghost use Rattle.swh_memory_input.specs.Outside.{origin_files, origin_inputs, origin_tally, origin_faults, origin_path_faults, has_origin_place};
+    ghost use Rattle.swh_memory_input.specs.Outside.{
+      origin_files,
+      origin_inputs,
+      origin_tally,
+      origin_faults,
+      origin_path_faults,
+      has_origin_place,
+    };
     ghost use Rattle.swh_memory_failures.specs.Tally.{fresh_tally, refused};
 
     /// Origins with these inputs. Of two at one path the first counts. Openings with the listed numbers, from 0, will
@@ -62,8 +77,10 @@ impl MemoryOrigins {
         ensures later { origin_faults self.old ≤ origin_faults self.new }
         ensures path_later { (p : List ℕ) → origin_path_faults self.old p ≤ origin_path_faults self.new p }
         ensures path_rose { origin_path_faults self.new path.now ≡ one_more (origin_path_faults self.old path.now) }
-        ensures other_paths { has_origin_place self.old path.now → (p : List ℕ) → p ≢ path.now → origin_path_faults self.new p ≡ origin_path_faults self.old p }
-        ensures other_places { (p : List ℕ) → p ≢ path.now → has_origin_place self.old p → origin_path_faults self.new p ≡ origin_path_faults self.old p }
+        ensures other_paths { has_origin_place self.old path.now → (p : List ℕ) → p ≢ path.now
+            → origin_path_faults self.new p ≡ origin_path_faults self.old p }
+        ensures other_places { (p : List ℕ) → p ≢ path.now → has_origin_place self.old p
+            → origin_path_faults self.new p ≡ origin_path_faults self.old p }
         ensures places { (p : List ℕ) → has_origin_place self.old p → has_origin_place self.new p }
     {
         let _ = self.failures.refuse();
@@ -76,7 +93,14 @@ impl Origins for MemoryOrigins {
     ghost use Rattle.swh_outside.specs.Opened.{IfFound, IsNotFound, IsFailed, UnlessFailed, UnlessMemory};
     ghost use Rattle.swh_memory_failures.specs.Answers.{opening_failed, with_given_back};
     ghost use Rattle.swh_memory_input.specs.Failing.{folder_path, folder_faults};
-    ghost use Rattle.swh_memory_input.specs.Outside.{origin_files, origin_inputs, origin_tally, origin_faults, origin_path_faults, has_origin_place};
+    ghost use Rattle.swh_memory_input.specs.Outside.{
+      origin_files,
+      origin_inputs,
+      origin_tally,
+      origin_faults,
+      origin_path_faults,
+      has_origin_place,
+    };
     ghost use Rattle.swh_memory_failures.specs.Tally.{is_next_listed, tallied};
 
     type S = MemorySource;
@@ -100,7 +124,8 @@ impl Origins for MemoryOrigins {
         ensures absent { IsNotFound result → origin_files self.old path.now ≡ None }
         ensures source_path { IfFound result (λ source. source_path source ≡ path.now) }
         ensures no_fault { IfFound result (λ source. source_faults source ≡ 0) }
-        ensures made { IfFound result (λ source. made_at (origin_inputs self.old) path.now ≡ Some (source_piece source, source_tally source)) }
+        ensures made { IfFound result (λ source. made_at (origin_inputs self.old) path.now
+            ≡ Some (source_piece source, source_tally source)) }
         ensures nothing_given { IfFound result (λ source. source_given source ≡ []) }
         ensures not_ended { IfFound result (λ source. source_ended source ≡ false) }
 
@@ -108,12 +133,15 @@ impl Origins for MemoryOrigins {
         ensures later { origin_faults self.old ≤ origin_faults self.new }
         ensures path_later { (p : List ℕ) → origin_path_faults self.old p ≤ origin_path_faults self.new p }
         ensures cause { IsFailed result → Rose (origin_faults self.old) (origin_faults self.new) }
-        ensures path_cause { IsFailed result → Rose (origin_path_faults self.old path.now) (origin_path_faults self.new path.now) }
+        ensures path_cause { IsFailed result → Rose (origin_path_faults self.old path.now)
+            (origin_path_faults self.new path.now) }
         ensures path_counted { IsFailed result
             → origin_path_faults self.new path.now ≡ one_more (origin_path_faults self.old path.now) }
         ensures quiet { UnlessFailed result (origin_faults self.new ≡ origin_faults self.old) }
-        ensures path_quiet { UnlessFailed result (origin_path_faults self.new path.now ≡ origin_path_faults self.old path.now) }
-        ensures other_paths { (p : List ℕ) → p ≢ path.now → origin_path_faults self.new p ≡ origin_path_faults self.old p }
+        ensures path_quiet { UnlessFailed result (origin_path_faults self.new path.now
+            ≡ origin_path_faults self.old path.now) }
+        ensures other_paths { (p : List ℕ) → p ≢ path.now → origin_path_faults self.new p
+            ≡ origin_path_faults self.old p }
         ensures place { UnlessMemory result (has_origin_place self.new path.now) }
         ensures places { (p : List ℕ) → has_origin_place self.old p → has_origin_place self.new p }
 
@@ -148,12 +176,15 @@ impl Origins for MemoryOrigins {
         ensures later { origin_faults self.old ≤ origin_faults self.new }
         ensures path_later { (p : List ℕ) → origin_path_faults self.old p ≤ origin_path_faults self.new p }
         ensures cause { IsFailed result → Rose (origin_faults self.old) (origin_faults self.new) }
-        ensures path_cause { IsFailed result → Rose (origin_path_faults self.old path.now) (origin_path_faults self.new path.now) }
+        ensures path_cause { IsFailed result → Rose (origin_path_faults self.old path.now)
+            (origin_path_faults self.new path.now) }
         ensures path_counted { IsFailed result
             → origin_path_faults self.new path.now ≡ one_more (origin_path_faults self.old path.now) }
         ensures quiet { UnlessFailed result (origin_faults self.new ≡ origin_faults self.old) }
-        ensures path_quiet { UnlessFailed result (origin_path_faults self.new path.now ≡ origin_path_faults self.old path.now) }
-        ensures other_paths { (p : List ℕ) → p ≢ path.now → origin_path_faults self.new p ≡ origin_path_faults self.old p }
+        ensures path_quiet { UnlessFailed result (origin_path_faults self.new path.now
+            ≡ origin_path_faults self.old path.now) }
+        ensures other_paths { (p : List ℕ) → p ≢ path.now → origin_path_faults self.new p
+            ≡ origin_path_faults self.old p }
         ensures place { UnlessMemory result (has_origin_place self.new path.now) }
         ensures places { (p : List ℕ) → has_origin_place self.old p → has_origin_place self.new p }
     {
@@ -243,7 +274,8 @@ fn open_input(
     ensures given { IfOk result (λ source. input_at inputs.now path.now ≡ Some (source_left source)) }
     ensures path { IfOk result (λ source. source_path source ≡ path.now) }
     ensures no_fault { IfOk result (λ source. source_faults source ≡ 0) }
-    ensures made { IfOk result (λ source. made_at inputs.now path.now ≡ Some (source_piece source, source_tally source)) }
+    ensures made { IfOk result (λ source. made_at inputs.now path.now
+        ≡ Some (source_piece source, source_tally source)) }
     ensures nothing_given { IfOk result (λ source. source_given source ≡ []) }
     ensures not_ended { IfOk result (λ source. source_ended source ≡ false) }
 {

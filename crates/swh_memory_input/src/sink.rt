@@ -52,7 +52,14 @@ impl Sink for MemorySink {
     ghost use Rattle.std.specs.Prelude.{◌++◌, take, is_err};
     ghost use Rattle.swh_outside.specs.Faults.{HasCause};
     ghost use Rattle.swh_outside.specs.Sink.{IsPut};
-    ghost use Rattle.swh_memory_input.specs.Parts.{sink_bytes, sink_room, sink_tally, sink_faults, is_put_to_fail, taken_count};
+    ghost use Rattle.swh_memory_input.specs.Parts.{
+      sink_bytes,
+      sink_room,
+      sink_tally,
+      sink_faults,
+      is_put_to_fail,
+      taken_count,
+    };
     ghost use Rattle.swh_memory_failures.specs.Tally.{tallied};
 
     ghost tells = { Unit {0} };
@@ -65,7 +72,8 @@ impl Sink for MemorySink {
         ensures bytes { IsPut (sink_bytes self.old) bytes.now (sink_bytes self.new) result }
         ensures cause { HasCause (sink_faults self.old) (sink_faults self.new) result }
 
-        ensures taken { sink_bytes self.new ≡ sink_bytes self.old ++ take (taken_count self.old (length bytes.now)) bytes.now }
+        ensures taken { sink_bytes self.new ≡ sink_bytes self.old ++ take
+            (taken_count self.old (length bytes.now)) bytes.now }
         ensures fails { is_err result ≡ is_put_to_fail self.old (length bytes.now) }
         ensures counted { sink_tally self.new ≡ tallied (is_err result) (sink_tally self.old) }
         ensures room { sink_room self.new ≡ sink_room self.old }

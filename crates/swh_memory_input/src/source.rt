@@ -17,7 +17,15 @@ pub struct MemorySource {
 }
 
 impl MemorySource {
-    ghost use Rattle.swh_memory_input.specs.Inputs.{source_left, source_given, source_ended, source_path, source_piece, source_tally, source_faults};
+    ghost use Rattle.swh_memory_input.specs.Inputs.{
+      source_left,
+      source_given,
+      source_ended,
+      source_path,
+      source_piece,
+      source_tally,
+      source_faults,
+    };
     ghost use Rattle.swh_memory_failures.specs.Tally.{fresh_tally};
 
     /// A source of these bytes, opened at a path. A call gives a piece of them at most, and one byte where the piece
@@ -60,7 +68,15 @@ impl Source for MemorySource {
     ghost use Rattle.std.specs.Prelude.{◌<◌, IfOk, OnErr, drop, is_err, min, max};
     ghost use Rattle.swh_outside.specs.Faults.{HasCause};
     ghost use Rattle.swh_outside.specs.Source.{IsGot, IsHeard};
-    ghost use Rattle.swh_memory_input.specs.Inputs.{source_left, source_given, source_ended, source_path, source_piece, source_tally, source_faults};
+    ghost use Rattle.swh_memory_input.specs.Inputs.{
+      source_left,
+      source_given,
+      source_ended,
+      source_path,
+      source_piece,
+      source_tally,
+      source_faults,
+    };
     ghost use Rattle.swh_memory_failures.specs.Tally.{is_next_listed, tallied};
 
     ghost tells = { Unit {0} };
@@ -80,11 +96,13 @@ impl Source for MemorySource {
         ensures bound { IfOk result (λ n. n ≤ length out.new) }
         ensures bytes { IfOk result (λ n. IsGot (source_left self.old) n out.new (source_left self.new)) }
         ensures loses { OnErr result (source_left self.new ≡ source_left self.old) }
-        ensures heard { IsHeard (source_given self.old) (source_ended self.old) out.new (source_given self.new) (source_ended self.new) result }
+        ensures heard { IsHeard (source_given self.old) (source_ended self.old) out.new (source_given self.new)
+            (source_ended self.new) result }
         ensures same_path { source_path self.new ≡ source_path self.old }
         ensures cause { HasCause (source_faults self.old) (source_faults self.new) result }
 
-        ensures piece { IfOk result (λ n. n ≡ min (min (length out.old) (max (source_piece self.old) 1)) (length (source_left self.old))) }
+        ensures piece { IfOk result (λ n. n ≡ min (min (length out.old) (max (source_piece self.old) 1))
+            (length (source_left self.old))) }
         ensures same_piece { source_piece self.new ≡ source_piece self.old }
         ensures rest { IfOk result (λ n. drop n out.new ≡ drop n out.old) }
         ensures untouched { OnErr result (out.new ≡ out.old) }

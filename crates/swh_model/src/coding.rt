@@ -1,7 +1,21 @@
 //! Writes events and entries as they stand in the files of an archive.
 ghost use Rattle.std.specs.Prelude.{◌≡◌, ◌+◌, ◌≤◌, ◌<◌, ◌^◌, ◌++◌, ◌∷◌, [], length, IfOk, OnOk};
 ghost use Rattle.swh_base.specs.Name.{kind_number};
-ghost use Rattle.swh_model.specs.Coding.{visit_kind_number, status_number, coded_snapshot, coded_entry, coded_run, packed_objects, event_byte, event_payload, payload_of, framed, coded_record, IsCodableKind, IsCodable};
+ghost use Rattle.swh_model.specs.Coding.{
+  visit_kind_number,
+  status_number,
+  coded_snapshot,
+  coded_entry,
+  coded_run,
+  packed_objects,
+  event_byte,
+  event_payload,
+  payload_of,
+  framed,
+  coded_record,
+  IsCodableKind,
+  IsCodable,
+};
 ghost use Rattle.std.specs.Int.{w32, w64, to_be_bytes};
 ghost use Rattle.std.specs.List.{AllByRecursion};
 ghost use Rattle.swh_model.specs.Coding.{IsCodableEntry, IsOrigin, IsSnapshotId};
@@ -81,7 +95,8 @@ pub fn run_of_entries(alloc: Global, entries: &[Entry]) -> Result<Vec<u8>, Memor
 }
 
 fn push_batch(bytes: &mut Vec<u8>, at: u64, end: u64, number: u32) -> Result<(), Memory>
-    ensures { OnOk result (bytes.new.items ≡ bytes.old.items ++ (to_be_bytes w64 at ++ (to_be_bytes w64 end ++ to_be_bytes w32 number))) }
+    ensures { OnOk result (bytes.new.items ≡ bytes.old.items ++ (to_be_bytes w64 at
+        ++ (to_be_bytes w64 end ++ to_be_bytes w32 number))) }
 {
     bytes.extend_from_slice(&at.to_be_bytes())?;
     bytes.extend_from_slice(&end.to_be_bytes())?;
@@ -121,7 +136,8 @@ fn push_mark(
     status: Status,
     snapshot: &Option<[u8; 20]>,
 ) -> Result<(), Memory>
-    ensures { OnOk result (bytes.new.items ≡ bytes.old.items ++ event_payload 0 (Mark origin.now visit status snapshot.now)) }
+    ensures { OnOk result (bytes.new.items ≡ bytes.old.items ++ event_payload 0
+        (Mark origin.now visit status snapshot.now)) }
 {
     bytes.push(status_byte(status))?;
     bytes.extend_from_slice(&visit.to_be_bytes())?;

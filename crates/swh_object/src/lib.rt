@@ -5,8 +5,8 @@
 //! namer's.
 #![tactic(auto)]
 
-mod fault;
 mod children;
+mod fault;
 mod object;
 
 pub use fault::ObjectFault;

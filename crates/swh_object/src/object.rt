@@ -1,7 +1,7 @@
 //! Objects, and how one is made of a body.
 
-use crate::fault::ObjectFault;
 use crate::children::children_of;
+use crate::fault::ObjectFault;
 use std::alloc::Global;
 use std::marker::{Model, PhantomData};
 use swh_base::{BODY_LIMIT, Entry, Kind, Name, Namer, Shared};

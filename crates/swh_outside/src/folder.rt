@@ -44,7 +44,8 @@ pub trait Folder: Send {
     /// The entries of a folder, in any order. It fails where no folder stands there, and where a name is not UTF-8, is
     /// empty, `.` or `..`, holds `/` or NUL, or stands twice.
     fn list(&mut self, alloc: Global, dir: &str) -> Result<Vec<Item>, OutFault>
-        ensures entries { tells → IfOk result (λ items. entries_at (holds self.old) dir.now ≡ Some (map listed items.items)) }
+        ensures entries { tells → IfOk result (λ items. entries_at (holds self.old) dir.now
+            ≡ Some (map listed items.items)) }
         ensures names { IfOk result (λ items. AreNames (map (λ item. string_bytes item.name) items.items)) }
         ensures same { tells → holds self.new ≡ holds self.old }
         ensures same_path { opened_at self.new ≡ opened_at self.old }

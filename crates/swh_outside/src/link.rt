@@ -13,5 +13,6 @@ pub trait Link: Source + Sink {
     /// A `get` leaves what was put, and a `put` what is left and was heard.
     ghost puts_stay: { (link : Self) → Self.Source.put_so_far link ≡ Self.Sink.taken link };
 
-    ghost gets_stay: { (link : Self) → Self.Sink.heard link ≡ record { left = Self.Source.left link; given = Self.Source.given link; ended = Self.Source.ended link } };
+    ghost gets_stay: { (link : Self)
+        → Self.Sink.heard link ≡ record { left = Self.Source.left link; given = Self.Source.given link; ended = Self.Source.ended link } };
 }

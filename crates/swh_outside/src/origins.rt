@@ -87,11 +87,13 @@ pub trait Origins: Send {
         ensures later { faults self.old ≤ faults self.new }
         ensures path_later { (p : List ℕ) → path_faults self.old p ≤ path_faults self.new p }
         ensures cause { 0 < Self.S.faults source → Rose (faults self.old) (faults self.new) }
-        ensures path_cause { 0 < Self.S.faults source → Rose (path_faults self.old (Self.S.path source)) (path_faults self.new (Self.S.path source)) }
+        ensures path_cause { 0 < Self.S.faults source → Rose (path_faults self.old (Self.S.path source))
+            (path_faults self.new (Self.S.path source)) }
 
         ensures quiet { Self.S.faults source ≡ 0 → faults self.new ≡ faults self.old }
         ensures path_quiet { Self.S.faults source ≡ 0 → (p : List ℕ) → path_faults self.new p ≡ path_faults self.old p }
-        ensures other_paths { (p : List ℕ) → p ≢ Self.S.path source → has_place self.old p → path_faults self.new p ≡ path_faults self.old p }
+        ensures other_paths { (p : List ℕ) → p ≢ Self.S.path source → has_place self.old p
+            → path_faults self.new p ≡ path_faults self.old p }
         ensures places { (p : List ℕ) → has_place self.old p → has_place self.new p };
 
     /// Takes a folder back. Where it has failed, the count rises, and that of its path;
@@ -102,10 +104,12 @@ pub trait Origins: Send {
         ensures later { faults self.old ≤ faults self.new }
         ensures path_later { (p : List ℕ) → path_faults self.old p ≤ path_faults self.new p }
         ensures cause { 0 < Self.F.faults folder → Rose (faults self.old) (faults self.new) }
-        ensures path_cause { 0 < Self.F.faults folder → Rose (path_faults self.old (Self.F.opened_at folder)) (path_faults self.new (Self.F.opened_at folder)) }
+        ensures path_cause { 0 < Self.F.faults folder → Rose (path_faults self.old (Self.F.opened_at folder))
+            (path_faults self.new (Self.F.opened_at folder)) }
 
         ensures quiet { Self.F.faults folder ≡ 0 → faults self.new ≡ faults self.old }
         ensures path_quiet { Self.F.faults folder ≡ 0 → (p : List ℕ) → path_faults self.new p ≡ path_faults self.old p }
-        ensures other_paths { (p : List ℕ) → p ≢ Self.F.opened_at folder → has_place self.old p → path_faults self.new p ≡ path_faults self.old p }
+        ensures other_paths { (p : List ℕ) → p ≢ Self.F.opened_at folder → has_place self.old p
+            → path_faults self.new p ≡ path_faults self.old p }
         ensures places { (p : List ℕ) → has_place self.old p → has_place self.new p };
 }

@@ -57,8 +57,10 @@ impl PathCounts {
     pub fn raise(&mut self, path: &str)
         ensures rose { count_at self.new path.now ≡ one_more (count_at self.old path.now) }
         ensures later { (p : List ℕ) → count_at self.old p ≤ count_at self.new p }
-        ensures other_paths { is_counted self.old path.now → (p : List ℕ) → p ≢ path.now → count_at self.new p ≡ count_at self.old p }
-        ensures other_places { (p : List ℕ) → p ≢ path.now → is_counted self.old p → count_at self.new p ≡ count_at self.old p }
+        ensures other_paths { is_counted self.old path.now → (p : List ℕ) → p ≢ path.now
+            → count_at self.new p ≡ count_at self.old p }
+        ensures other_places { (p : List ℕ) → p ≢ path.now → is_counted self.old p
+            → count_at self.new p ≡ count_at self.old p }
         ensures places { (p : List ℕ) → is_counted self.old p → is_counted self.new p }
     {
         let i = find_count(&self.counts, path);
@@ -122,7 +124,8 @@ fn raise_count(counts: &mut [PathCount], i: usize, path: &str)
     requires inside { i < length counts.old }
     ensures rose { (others : ℕ) → count_in counts.new others path.now ≡ one_more (count_in counts.old others path.now) }
     ensures later { (others : ℕ) (p : List ℕ) → count_in counts.old others p ≤ count_in counts.new others p }
-    ensures other_paths { (others : ℕ) (p : List ℕ) → p ≢ path.now → count_in counts.new others p ≡ count_in counts.old others p }
+    ensures other_paths { (others : ℕ) (p : List ℕ) → p ≢ path.now
+        → count_in counts.new others p ≡ count_in counts.old others p }
     ensures positions { (p : List ℕ) → position_or_len (is_of p) counts.new ≡ position_or_len (is_of p) counts.old }
 {
     let count = &mut counts[i];

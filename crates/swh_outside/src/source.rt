@@ -35,7 +35,8 @@ pub trait Source: Send {
         ensures bound { IfOk result (λ n. n ≤ length out.new) }
         ensures bytes { tells → IfOk result (λ n. IsGot (left self.old) n out.new (left self.new)) }
         ensures fails { tells → OnErr result (LosesSome (left self.old) (left self.new)) }
-        ensures heard { tells → IsHeard (given self.old) (ended self.old) out.new (given self.new) (ended self.new) result }
+        ensures heard { tells → IsHeard (given self.old) (ended self.old) out.new (given self.new)
+            (ended self.new) result }
 
         // What it leaves as it was.
         ensures same_path { path self.new ≡ path self.old }

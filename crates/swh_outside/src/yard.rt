@@ -17,7 +17,8 @@ pub trait Yard: Sink {
 
     /// Begins an empty file. It fails where the path exists.
     fn file(&mut self, path: &str) -> Result<(), OutFault>
-        ensures made { Self.tells → OnOk result (Self.begun self.new ≡ Self.begun self.old ++ FileAt path.now (length (Self.taken self.old)) ∷ []) }
+        ensures made { Self.tells → OnOk result (Self.begun self.new
+            ≡ Self.begun self.old ++ FileAt path.now (length (Self.taken self.old)) ∷ []) }
         ensures refused { Self.tells → OnErr result (Self.begun self.new ≡ Self.begun self.old) }
         ensures exists { Self.tells → IsBegunAt path.now (Self.begun self.old) → IsErr result }
         ensures same_taken { Self.tells → Self.taken self.new ≡ Self.taken self.old }

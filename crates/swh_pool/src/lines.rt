@@ -4,7 +4,7 @@ ghost use Rattle.swh_loader.specs.Report.{report_of, report_line_limit};
 
 use std::alloc::Global;
 use swh_base::{Bytes, Memory, Url};
-use swh_loader::{REPORT_LIMIT, LoadFault, Loaded, report_line};
+use swh_loader::{LoadFault, Loaded, REPORT_LIMIT, report_line};
 
 /// The lines of jobs so far, with room for those of the jobs that are left.
 #[derive(Drop)]

@@ -5,7 +5,15 @@ ghost use Rattle.swh_fastlex.specs.declared.fault.SourceFault.TheVariants.{Faile
 ghost use Rattle.swh_program.specs.Refusal.{refusal};
 ghost use Rattle.swh_base.specs.declared.kind.Kind.TheVariants.{Directory};
 ghost use Rattle.swh_outside.specs.Faults.{Rose};
-ghost use Rattle.swh_program.specs.IdentifyCommand.{name_of_bytes, name_line, bad_line, TellsLine, IsBody, IsIdentifyAnswer, IdentifyEnds};
+ghost use Rattle.swh_program.specs.IdentifyCommand.{
+  name_of_bytes,
+  name_line,
+  bad_line,
+  TellsLine,
+  IsBody,
+  IsIdentifyAnswer,
+  IdentifyEnds,
+};
 ghost use Rattle.swh_program.specs.Run.{IsQuiet};
 ghost use Rattle.swh_program.specs.declared.answer.Ending.TheVariants as ending;
 ghost use Rattle.swh_program.specs.declared.answer.Answer.TheVariants.{OutsideSource};
@@ -106,7 +114,8 @@ fn name_bytes<N: Namer>(alloc: Global, namer: &N, kind: Kind, bytes: Vec<u8>) ->
 
 // The bytes of a source that may be a body. No more than one byte above the limit is taken.
 fn read_body<S: Source>(alloc: Global, source: &mut S) -> Result<Vec<u8>, SourceFault>
-    ensures whole { S.tells → IfOk result (λ bytes. IsAllThatWasLeft (S.left source.old) (S.left source.new) bytes.items) }
+    ensures whole { S.tells → IfOk result (λ bytes. IsAllThatWasLeft (S.left source.old)
+        (S.left source.new) bytes.items) }
     ensures within { IfOk result (λ bytes. length bytes.items ≤ BODY_LIMIT) }
     ensures over { S.tells → IsErrOf result Limit → BODY_LIMIT < length (S.left source.old) }
     ensures given { S.tells → GivesAtMost (S.given source.old) (S.given source.new) (BODY_LIMIT + 1) }

@@ -5,7 +5,14 @@ ghost use Rattle.swh_fastlex.specs.declared.fault.SourceFault.TheVariants.{Faile
 ghost use Rattle.swh_outside.specs.Faults.{Rose};
 ghost use Rattle.swh_jobs.specs.Answers.{owned_jobs};
 ghost use Rattle.swh_jobs.specs.JobFile.{AreJobs, IsJobFile, IsJobFileFault};
-ghost use Rattle.swh_program.specs.Jobs.{job_why_word, bad_job_line, AreJobsAt, IsReadRefusal, IsJobRefusal, IsJobRefused};
+ghost use Rattle.swh_program.specs.Jobs.{
+  job_why_word,
+  bad_job_line,
+  AreJobsAt,
+  IsReadRefusal,
+  IsJobRefusal,
+  IsJobRefused,
+};
 ghost use Rattle.swh_program.specs.declared.answer.Answer.TheVariants.{OutsideSource};
 
 use crate::Answer;

@@ -65,8 +65,10 @@ impl<R: Files<File = File> + Drop> RealOrigins<R> {
         ensures rose { Rose self.old.0 self.new.0 }
         ensures path_later { (p : List ℕ) → count_at self.old.1 p ≤ count_at self.new.1 p }
         ensures path_rose { count_at self.new.1 path.now ≡ one_more (count_at self.old.1 path.now) }
-        ensures other_paths { is_counted self.old.1 path.now → (p : List ℕ) → p ≢ path.now → count_at self.new.1 p ≡ count_at self.old.1 p }
-        ensures other_places { (p : List ℕ) → p ≢ path.now → is_counted self.old.1 p → count_at self.new.1 p ≡ count_at self.old.1 p }
+        ensures other_paths { is_counted self.old.1 path.now → (p : List ℕ) → p ≢ path.now
+            → count_at self.new.1 p ≡ count_at self.old.1 p }
+        ensures other_places { (p : List ℕ) → p ≢ path.now → is_counted self.old.1 p
+            → count_at self.new.1 p ≡ count_at self.old.1 p }
         ensures places { (p : List ℕ) → is_counted self.old.1 p → is_counted self.new.1 p }
     {
         let _ = self.count.refuse();

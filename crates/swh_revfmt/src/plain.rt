@@ -11,7 +11,7 @@ use crate::release::spelled_rel;
 use crate::rest::{release_rest, revision_rest};
 use crate::revision::{SpelledRev, spelled_rev};
 use std::alloc::Global;
-use swh_base::{Bytes, Kind, Items, Memory, Name, TAG_LIMIT, is_ref};
+use swh_base::{Bytes, Items, Kind, Memory, Name, TAG_LIMIT, is_ref};
 
 /// The parts of a plain revision: one whose rest is an author, a committer, perhaps an encoding, and a message.
 #[derive(Drop)]

@@ -5,7 +5,15 @@ ghost use Rattle.swh_base.specs.declared.kind.Kind.{Kind};
 ghost use Rattle.swh_base.specs.declared.kind.Kind.TheVariants.{Snapshot, Release as ReleaseKind};
 ghost use Rattle.swh_base.specs.Release.{Release, release_text, IsRelease};
 ghost use Rattle.swh_revfmt.specs.Fault.{IsRevFault};
-ghost use Rattle.swh_revfmt.specs.Reading.{release_of, release_spelled, type_text, IsCommonFront, IsTypePlace, ExplainsRel, GivesRel};
+ghost use Rattle.swh_revfmt.specs.Reading.{
+  release_of,
+  release_spelled,
+  type_text,
+  IsCommonFront,
+  IsTypePlace,
+  ExplainsRel,
+  GivesRel,
+};
 
 use crate::fault::{BadRel, ReadRelFault};
 use crate::line;

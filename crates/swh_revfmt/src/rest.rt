@@ -2,7 +2,16 @@
 
 ghost use Rattle.std.specs.Prelude.{◌≡◌, ℕ, ◌<◌, ◌^◌, length, List, Option, ◌∷◌, ◌++◌, Contains, codes, IfSome, IfNone};
 ghost use Rattle.std.specs.Option.{option_copied};
-ghost use Rattle.swh_revfmt.specs.Plain.{text_line, optional_line, IsPersonLine, IsEncoding, RevisionRest, IsRevisionRest, ReleaseRest, IsReleaseRest};
+ghost use Rattle.swh_revfmt.specs.Plain.{
+  text_line,
+  optional_line,
+  IsPersonLine,
+  IsEncoding,
+  RevisionRest,
+  IsRevisionRest,
+  ReleaseRest,
+  IsReleaseRest,
+};
 ghost use Rattle.swh_revfmt.specs.PlainReading.{rev_rest, rel_rest};
 
 use swh_base::{LINE_LIMIT, is_person};
@@ -17,8 +26,10 @@ struct TextLine<'a> {
 
 /// A line of this word.
 fn text_line<'a>(word: &[u8], bytes: &'a [u8]) -> Option<TextLine<'a>>
-    ensures some { IfSome result (λ line. (Contains line.text.now 10 → ⊥) × (bytes.now ≡ text_line word.now line.text.now ++ line.rest.now)) }
-    ensures none { IfNone result ((text rest : List ℕ) → (Contains text 10 → ⊥) → bytes.now ≡ text_line word.now text ++ rest → ⊥) }
+    ensures some { IfSome result (λ line. (Contains line.text.now 10 → ⊥)
+        × (bytes.now ≡ text_line word.now line.text.now ++ line.rest.now)) }
+    ensures none { IfNone result ((text rest : List ℕ) → (Contains text 10 → ⊥)
+        → bytes.now ≡ text_line word.now text ++ rest → ⊥) }
 {
     let Some(rest) = behind(word, bytes) else {
         return None;
@@ -32,8 +43,10 @@ fn text_line<'a>(word: &[u8], bytes: &'a [u8]) -> Option<TextLine<'a>>
 /// A line of this word and a person.
 fn person_line<'a>(word: &[u8], bytes: &'a [u8]) -> Option<TextLine<'a>>
     requires { length word.now < 2 ^ 32 }
-    ensures some { IfSome result (λ line. IsPersonLine word.now line.text.now × (bytes.now ≡ text_line word.now line.text.now ++ line.rest.now)) }
-    ensures none { IfNone result ((text rest : List ℕ) → IsPersonLine word.now text → bytes.now ≡ text_line word.now text ++ rest → ⊥) }
+    ensures some { IfSome result (λ line. IsPersonLine word.now line.text.now
+        × (bytes.now ≡ text_line word.now line.text.now ++ line.rest.now)) }
+    ensures none { IfNone result ((text rest : List ℕ) → IsPersonLine word.now text
+        → bytes.now ≡ text_line word.now text ++ rest → ⊥) }
 {
     let Some(line) = text_line(word, bytes) else {
         return None;
@@ -49,8 +62,10 @@ fn person_line<'a>(word: &[u8], bytes: &'a [u8]) -> Option<TextLine<'a>>
 
 /// A line that names an encoding.
 fn encoding_line(bytes: &[u8]) -> Option<TextLine<'_>>
-    ensures some { IfSome result (λ line. IsEncoding line.text.now × (bytes.now ≡ text_line (codes "encoding ") line.text.now ++ line.rest.now)) }
-    ensures none { IfNone result ((text rest : List ℕ) → IsEncoding text → bytes.now ≡ text_line (codes "encoding ") text ++ rest → ⊥) }
+    ensures some { IfSome result (λ line. IsEncoding line.text.now
+        × (bytes.now ≡ text_line (codes "encoding ") line.text.now ++ line.rest.now)) }
+    ensures none { IfNone result ((text rest : List ℕ) → IsEncoding text
+        → bytes.now ≡ text_line (codes "encoding ") text ++ rest → ⊥) }
 {
     let Some(line) = text_line(b"encoding ", bytes) else {
         return None;
@@ -76,8 +91,10 @@ struct Tail<'a> {
 
 /// An optional line that names an encoding, an empty line, and a message.
 fn encoding_tail(bytes: &[u8]) -> Option<Tail<'_>>
-    ensures some { IfSome result (λ tail. IfSome (option_copied tail.text) IsEncoding × (bytes.now ≡ optional_line (codes "encoding ") (option_copied tail.text) ++ 10 ∷ tail.message.now)) }
-    ensures none { IfNone result ((text : Option (List ℕ)) (message : List ℕ) → IfSome text IsEncoding → bytes.now ≡ optional_line (codes "encoding ") text ++ 10 ∷ message → ⊥) }
+    ensures some { IfSome result (λ tail. IfSome (option_copied tail.text) IsEncoding
+        × (bytes.now ≡ optional_line (codes "encoding ") (option_copied tail.text) ++ 10 ∷ tail.message.now)) }
+    ensures none { IfNone result ((text : Option (List ℕ)) (message : List ℕ) → IfSome text IsEncoding
+        → bytes.now ≡ optional_line (codes "encoding ") text ++ 10 ∷ message → ⊥) }
 {
     if let Some(message) = behind(b"\n", bytes) {
         return Some(Tail {
@@ -99,8 +116,11 @@ fn encoding_tail(bytes: &[u8]) -> Option<Tail<'_>>
 
 /// An optional line of a tagger, an empty line, and a message.
 fn tagger_tail(bytes: &[u8]) -> Option<Tail<'_>>
-    ensures some { IfSome result (λ tail. IfSome (option_copied tail.text) (λ text. IsPersonLine (codes "tagger ") text) × (bytes.now ≡ optional_line (codes "tagger ") (option_copied tail.text) ++ 10 ∷ tail.message.now)) }
-    ensures none { IfNone result ((text : Option (List ℕ)) (message : List ℕ) → IfSome text (λ text. IsPersonLine (codes "tagger ") text) → bytes.now ≡ optional_line (codes "tagger ") text ++ 10 ∷ message → ⊥) }
+    ensures some { IfSome result (λ tail. IfSome (option_copied tail.text) (λ text. IsPersonLine (codes "tagger ") text)
+        × (bytes.now ≡ optional_line (codes "tagger ") (option_copied tail.text) ++ 10 ∷ tail.message.now)) }
+    ensures none { IfNone result ((text : Option (List ℕ)) (message : List ℕ)
+        → IfSome text (λ text. IsPersonLine (codes "tagger ") text)
+        → bytes.now ≡ optional_line (codes "tagger ") text ++ 10 ∷ message → ⊥) }
 {
     if let Some(message) = behind(b"\n", bytes) {
         return Some(Tail {

@@ -10,7 +10,7 @@ use crate::fault::{BadRev, ReadRevFault};
 use crate::line;
 use crate::place::line_place;
 use std::alloc::Global;
-use swh_base::{Bytes, Kind, Items, Memory, Name};
+use swh_base::{Bytes, Items, Kind, Memory, Name};
 
 /// The parts of a revision (git objects, commit): the directory's id, the parents' ids, as many as whole parent lines
 /// stand there, and every byte after these lines.

@@ -5,7 +5,15 @@ ghost use Rattle.swh_outside.specs.Files.{FilesRuns, EachImages, files_of};
 ghost use Rattle.swh_outside.specs.Faults.{HasCause};
 ghost use Rattle.swh_segment.specs.Makes.{ADiskFailed};
 ghost use Rattle.swh_segment.specs.Record.{append_calls};
-ghost use Rattle.swh_segment.specs.Events.{Append, AreSettled, IsWritten, run_bytes, run_calls, event_calls, with_or_without_event};
+ghost use Rattle.swh_segment.specs.Events.{
+  Append,
+  AreSettled,
+  IsWritten,
+  run_bytes,
+  run_calls,
+  event_calls,
+  with_or_without_event,
+};
 ghost use Rattle.swh_segment.specs.Runs.{run_of};
 
 use crate::writing::write_synced;
@@ -68,7 +76,8 @@ pub fn append_event<D: Disk>(
     ensures appended { D.tells → (h : List Append) (e : Append)
         → AreSettled (files_of (D.file ledger.old) (D.file store.old)) h store_end end
         → IsWritten (run_of run.entry) entry.now e
-        → OnOk result (AreSettled (files_of (D.file ledger.new) (D.file store.new)) (h ++ e ∷ []) (store_end + length (run_bytes (run_of run.entry))) (end + length entry.now)) }
+        → OnOk result (AreSettled (files_of (D.file ledger.new) (D.file store.new)) (h ++ e ∷ [])
+        (store_end + length (run_bytes (run_of run.entry))) (end + length entry.now)) }
     ensures left { D.tells → (h : List Append) (e : Append)
         → AreSettled (files_of (D.file ledger.old) (D.file store.old)) h store_end end
         → IsWritten (run_of run.entry) entry.now e
@@ -76,7 +85,8 @@ pub fn append_event<D: Disk>(
 
     ensures store_later { D.faults store.old ≤ D.faults store.new }
     ensures ledger_later { D.faults ledger.old ≤ D.faults ledger.new }
-    ensures cause { OnErr result (ADiskFailed (D.faults store.old) (D.faults store.new) (D.faults ledger.old) (D.faults ledger.new)) }
+    ensures cause { OnErr result (ADiskFailed (D.faults store.old) (D.faults store.new) (D.faults ledger.old)
+        (D.faults ledger.new)) }
 
     // Where no disk failed, both counts are as they were.
     ensures store_quiet { OnOk result (D.faults store.new ≡ D.faults store.old) }

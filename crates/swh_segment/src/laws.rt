@@ -8,7 +8,8 @@ ghost use Rattle.swh_segment.specs.Events.{Append, AreSettled, run_bytes, event_
 
 /// After all calls of the making both files stand for no record, with nothing written since a barrier.
 pub fn made_is_empty()
-    ensures { (files : Files) → IsNotMade (files 0).seen → IsEmptyArchive (files_done (making_calls (files 0).seen) files) }
+    ensures { (files : Files) → IsNotMade (files 0).seen → IsEmptyArchive
+        (files_done (making_calls (files 0).seen) files) }
 {}
 
 /// A crash at any call of the making leaves an archive that is not made, or is made with no record.
@@ -18,17 +19,21 @@ pub fn making_survives_crashes()
 
 /// After all calls of an event both files stand for the history with it, with nothing written since a barrier.
 pub fn event_is_added()
-    ensures { (files : Files) (h : List Append) (e : Append) (store_end end : ℕ) (bytes : List ℕ) → AreSettled files h store_end end → IsReady bytes e.entry
-        → AreSettled (files_done (event_calls store_end e.run end bytes) files) (h ++ e ∷ []) (store_end + length (run_bytes e.run)) (end + length bytes) }
+    ensures { (files : Files) (h : List Append) (e : Append) (store_end end : ℕ) (bytes : List ℕ)
+        → AreSettled files h store_end end → IsReady bytes e.entry
+        → AreSettled (files_done (event_calls store_end e.run end bytes) files) (h ++ e ∷ [])
+        (store_end + length (run_bytes e.run)) (end + length bytes) }
 {}
 
 /// A crash at any call of an event leaves files that stand for the history with the event or without.
 pub fn event_survives_crashes()
-    ensures { (files : Files) (h : List Append) (e : Append) (store_end end : ℕ) (bytes : List ℕ) → AreSettled files h store_end end → IsReady bytes e.entry
+    ensures { (files : Files) (h : List Append) (e : Append) (store_end end : ℕ) (bytes : List ℕ)
+        → AreSettled files h store_end end → IsReady bytes e.entry
         → EachFilesMoment (event_calls store_end e.run end bytes) files (with_or_without_event h e) }
 {}
 
 /// A ledger stands for one list of records at most.
 pub fn ledger_stands_once()
-    ensures { (ledger : List ℕ) (rs ss : List Record) → HaveCodableLengths rs → HaveCodableLengths ss → Stands ledger rs → Stands ledger ss → rs ≡ ss }
+    ensures { (ledger : List ℕ) (rs ss : List Record) → HaveCodableLengths rs → HaveCodableLengths ss → Stands ledger rs
+        → Stands ledger ss → rs ≡ ss }
 {}

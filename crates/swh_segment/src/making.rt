@@ -42,10 +42,12 @@ fn lay_magic<D: Disk>(ledger: &mut D, clears: bool) -> Result<(), Failed>
 pub fn make<D: Disk>(store: &mut D, ledger: &mut D) -> Result<(), MakeFault>
     ensures made { D.tells → IsErrOf result Made → IsMade (D.file ledger.old).seen }
     ensures not_made { D.tells → OnOk result (IsNotMade (D.file ledger.old).seen) }
-    ensures calls { D.tells → Makes (files_of (D.file ledger.old) (D.file store.old)) (files_of (D.file ledger.new) (D.file store.new)) result }
+    ensures calls { D.tells → Makes (files_of (D.file ledger.old) (D.file store.old))
+        (files_of (D.file ledger.new) (D.file store.new)) result }
     ensures store_later { D.faults store.old ≤ D.faults store.new }
     ensures ledger_later { D.faults ledger.old ≤ D.faults ledger.new }
-    ensures cause { IsErrOf result Disk → ADiskFailed (D.faults store.old) (D.faults store.new) (D.faults ledger.old) (D.faults ledger.new) }
+    ensures cause { IsErrOf result Disk → ADiskFailed (D.faults store.old) (D.faults store.new) (D.faults ledger.old)
+        (D.faults ledger.new) }
 
     // Where no disk failed, both counts are as they were.
     ensures store_quiet { OnOk result (D.faults store.new ≡ D.faults store.old) }

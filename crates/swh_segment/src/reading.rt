@@ -2,7 +2,10 @@
 ghost use Rattle.std.specs.Prelude.{◌≡◌, ◌+◌, ◌≤◌, ◌<◌, ◌^◌, length, IfOk, OnOk, IsErrOf};
 ghost use Rattle.swh_outside.specs.Faults.{HasCause, Rose};
 ghost use Rattle.swh_segment.specs.Reading.{IsFilled};
-ghost use Rattle.swh_segment.specs.declared.reading.ReadFileFault.TheVariants.{Disk as DiskFailed, Memory as OutOfMemory};
+ghost use Rattle.swh_segment.specs.declared.reading.ReadFileFault.TheVariants.{
+  Disk as DiskFailed,
+  Memory as OutOfMemory,
+};
 
 use std::alloc::{AllocError, Global};
 use swh_outside::{Disk, Failed};

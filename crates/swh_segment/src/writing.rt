@@ -23,15 +23,18 @@ pub fn write_synced<D: Disk>(disk: &mut D, at: u64, bytes: &[u8]) -> Result<(), 
 
 /// A barrier on both files, with which the making and each opening begin.
 pub fn settle<D: Disk>(store: &mut D, ledger: &mut D) -> Result<(), Failed>
-    ensures runs { D.tells → FilesRuns barriers (files_of (D.file ledger.old) (D.file store.old)) (files_of (D.file ledger.new) (D.file store.new)) result }
+    ensures runs { D.tells → FilesRuns barriers (files_of (D.file ledger.old) (D.file store.old))
+        (files_of (D.file ledger.new) (D.file store.new)) result }
 
     // What a read then gives is one of the images that a crash before the call might have left, also where it fails.
-    ensures seen { D.tells → AreImages (files_of (D.file ledger.old) (D.file store.old)) (seen_of (files_of (D.file ledger.new) (D.file store.new))) }
+    ensures seen { D.tells → AreImages (files_of (D.file ledger.old) (D.file store.old))
+        (seen_of (files_of (D.file ledger.new) (D.file store.new))) }
     ensures rests { D.tells → OnOk result (AreAtRest (files_of (D.file ledger.new) (D.file store.new))) }
 
     ensures store_later { D.faults store.old ≤ D.faults store.new }
     ensures ledger_later { D.faults ledger.old ≤ D.faults ledger.new }
-    ensures cause { OnErr result (ADiskFailed (D.faults store.old) (D.faults store.new) (D.faults ledger.old) (D.faults ledger.new)) }
+    ensures cause { OnErr result (ADiskFailed (D.faults store.old) (D.faults store.new) (D.faults ledger.old)
+        (D.faults ledger.new)) }
 
     // Where no disk failed, both counts are as they were.
     ensures store_quiet { OnOk result (D.faults store.new ≡ D.faults store.old) }

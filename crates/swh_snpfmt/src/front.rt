@@ -14,7 +14,8 @@ use swh_pieces::split_at_byte;
 /// The bytes after a length and a colon, as many as the length says, and what follows them.
 fn sized(bytes: &[u8]) -> Option<(&[u8], &[u8])>
     ensures some { IfSome result (λ x. (bytes.now ≡ sized_text x.0.now ++ x.1.now) × (length x.0.now < 2 ^ 64)) }
-    ensures none { IfNone result ((content rest : List ℕ) → length content < 2 ^ 64 → bytes.now ≡ sized_text content ++ rest → ⊥) }
+    ensures none { IfNone result ((content rest : List ℕ) → length content < 2 ^ 64
+        → bytes.now ≡ sized_text content ++ rest → ⊥) }
 {
     let Some((digits, rest)) = split_at_byte(bytes, b':') else {
         return None;
@@ -30,7 +31,8 @@ fn sized(bytes: &[u8]) -> Option<(&[u8], &[u8])>
 
 /// The branch at the front of these bytes, and the bytes after it.
 pub fn front_branch(bytes: &[u8]) -> Option<(SpelledBranch<'_>, &[u8])>
-    ensures some { IfSome result (λ x. IsBranch (branch_of x.0) × (bytes.now ≡ branch_text (branch_of x.0) ++ x.1.now)) }
+    ensures some { IfSome result (λ x. IsBranch (branch_of x.0)
+        × (bytes.now ≡ branch_text (branch_of x.0) ++ x.1.now)) }
     ensures none { IfNone result (BeginsBranch bytes.now → ⊥) }
 {
     let Some((word, rest)) = split_at_byte(bytes, b' ') else {

@@ -25,7 +25,8 @@ fn is_before(name: &[u8], next: &[u8]) -> bool
 /// Whether this branch comes after all of the branches.
 fn is_after(before: &[SpelledBranch<'_>], next: &SpelledBranch<'_>) -> bool
     requires { AreBranches (branches_in_body before.now) }
-    ensures { IsTrue result ↔ AllByRecursion (λ other. BranchIsBefore other (branch_of next.now)) (branches_in_body before.now) }
+    ensures { IsTrue result ↔ AllByRecursion (λ other. BranchIsBefore other (branch_of next.now))
+        (branches_in_body before.now) }
 {
     match before.last() {
         Some(last) => is_before(last.name, next.name),
@@ -39,7 +40,8 @@ fn next_branch<'a>(
     bytes: &'a [u8],
 ) -> Option<(SpelledBranch<'a>, &'a [u8])>
     requires { AreBranches (branches_in_body before.now) }
-    ensures some { IfSome result (λ x. MayFollowBranches (branches_in_body before.now) (branch_of x.0) × (bytes.now ≡ branch_text (branch_of x.0) ++ x.1.now)) }
+    ensures some { IfSome result (λ x. MayFollowBranches (branches_in_body before.now) (branch_of x.0)
+        × (bytes.now ≡ branch_text (branch_of x.0) ++ x.1.now)) }
     ensures none { IfNone result (BeginsNextBranch (branches_in_body before.now) bytes.now → ⊥) }
 {
     let (next, rest) = front_branch(bytes)?;

@@ -2,7 +2,16 @@
 
 ghost use Rattle.std.specs.Prelude.{◌≡◌, ◌≢◌, [], length, IfSome, IfNone};
 ghost use Rattle.swh_base.specs.declared.kind.Kind.{Kind};
-ghost use Rattle.swh_base.specs.Snapshot.{BranchTarget, ToObject, ToBranch, ToNothing, IsTarget, target_kind_word, target_word, target_bytes};
+ghost use Rattle.swh_base.specs.Snapshot.{
+  BranchTarget,
+  ToObject,
+  ToBranch,
+  ToNothing,
+  IsTarget,
+  target_kind_word,
+  target_word,
+  target_bytes,
+};
 ghost use Rattle.swh_snpfmt.specs.Branches.{target_view, target_spelled};
 
 use crate::branch::{SpelledTarget, Target};
@@ -50,7 +59,8 @@ fn nothing_from<'a>(bytes: &[u8]) -> Option<SpelledTarget<'a>>
 }
 
 fn object_from(kind: Kind, bytes: &[u8]) -> Option<SpelledTarget<'_>>
-    ensures some { IfSome result (λ x. (target_spelled x ≡ ToObject (record { kind = kind; id = bytes.now })) × (length bytes.now ≡ 20)) }
+    ensures some { IfSome result (λ x. (target_spelled x ≡ ToObject (record { kind = kind; id = bytes.now }))
+        × (length bytes.now ≡ 20)) }
     ensures none { IfNone result (length bytes.now ≢ 20) }
 {
     if bytes.len() != 20 {
@@ -62,8 +72,10 @@ fn object_from(kind: Kind, bytes: &[u8]) -> Option<SpelledTarget<'_>>
 
 /// The target that this word and these bytes stand for.
 pub fn target_from<'a>(word: &[u8], bytes: &'a [u8]) -> Option<SpelledTarget<'a>>
-    ensures some { IfSome result (λ x. let target = target_spelled x in IsTarget target × (word.now ≡ target_word target) × (bytes.now ≡ target_bytes target)) }
-    ensures none { IfNone result ((target : BranchTarget) → IsTarget target → word.now ≡ target_word target → bytes.now ≡ target_bytes target → ⊥) }
+    ensures some { IfSome result (λ x. let target = target_spelled x in IsTarget target
+        × (word.now ≡ target_word target) × (bytes.now ≡ target_bytes target)) }
+    ensures none { IfNone result ((target : BranchTarget) → IsTarget target → word.now ≡ target_word target
+        → bytes.now ≡ target_bytes target → ⊥) }
 {
     if word == b"alias".as_slice() {
         return alias_from(bytes);

@@ -1,6 +1,19 @@
 //! Core identifiers: `swh:1:`, three letters for the kind, a colon and the id.
 
-ghost use Rattle.std.specs.Prelude.{◌≡◌, ◌≤◌, ◌++◌, ℕ, ◌==◌, if◌then◌else◌, true, length, replicate, IfOk, IfErr, IfSome};
+ghost use Rattle.std.specs.Prelude.{
+  ◌≡◌,
+  ◌≤◌,
+  ◌++◌,
+  ℕ,
+  ◌==◌,
+  if◌then◌else◌,
+  true,
+  length,
+  replicate,
+  IfOk,
+  IfErr,
+  IfSome,
+};
 ghost use Rattle.std.specs.List.{AllPass};
 ghost use Rattle.hex.specs.Hex.{encode_lower};
 ghost use Rattle.swh_base.specs.Name.{IsName, IsIdText};

@@ -2,7 +2,18 @@
 
 ghost use Rattle.std.specs.Prelude.{◌≡◌, ◌+◌, ◌*◌, ◌<◌, ◌≤◌, ◌^◌, IsTrue, IfOk, IfErr, ◌↔◌};
 ghost use Rattle.swh_swhid.specs.Front.{BreaksAt};
-ghost use Rattle.swh_swhid.specs.Number.{number_limit, IsDigit, IsNumberText, HasNumber, IsRange, HasRange, range_text, ZerosAllow, MayTakeDigit, IsNumberFront};
+ghost use Rattle.swh_swhid.specs.Number.{
+  number_limit,
+  IsDigit,
+  IsNumberText,
+  HasNumber,
+  IsRange,
+  HasRange,
+  range_text,
+  ZerosAllow,
+  MayTakeDigit,
+  IsNumberFront,
+};
 
 use crate::front::behind;
 

@@ -1,7 +1,17 @@
 //! The program's definition for clap.
 ghost use Rattle.std.specs.Prelude.{◌≡◌, IfOk, false};
 ghost use Rattle.clap.specs.Words.{rule_of};
-ghost use Rattle.swh_words.specs.Definition.{IsDefinedAs, one_word, some_words, init_app, load_app, ask_app, identify_app, bare_app, program_app};
+ghost use Rattle.swh_words.specs.Definition.{
+  IsDefinedAs,
+  one_word,
+  some_words,
+  init_app,
+  load_app,
+  ask_app,
+  identify_app,
+  bare_app,
+  program_app,
+};
 ghost use Rattle.clap.specs.Words.{new_app};
 ghost use Rattle.std.specs.Prelude.{codes};
 

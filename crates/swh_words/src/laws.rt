@@ -12,10 +12,12 @@ pub fn one_command()
 
 /// Fewer than 2^64 words are a command exactly where they spell it and it is offered.
 pub fn spelled_words()
-    ensures { (words : List (List ℕ)) (wanted : Wanted) → length words < 2 ^ 64 → IsCommand words wanted ↔ ((spelling_of words ≡ Some (spelled_command wanted)) × IsOffered wanted) }
+    ensures { (words : List (List ℕ)) (wanted : Wanted) → length words < 2 ^ 64
+        → IsCommand words wanted ↔ ((spelling_of words ≡ Some (spelled_command wanted)) × IsOffered wanted) }
 {}
 
 /// Words are no command exactly where clap's definition of the program refuses them, or they name no kind whose bodies are files.
 pub fn refused_words()
-    ensures { (words : List (List ℕ)) → ((wanted : Wanted) → IsCommand words wanted → ⊥) ↔ ((fault_of program_app words ≢ []) ⊎ NamesNoKind words) }
+    ensures { (words : List (List ℕ)) → ((wanted : Wanted) → IsCommand words wanted → ⊥) ↔
+        ((fault_of program_app words ≢ []) ⊎ NamesNoKind words) }
 {}

@@ -1,5 +1,19 @@
 //! Which command words are.
-ghost use Rattle.std.specs.Prelude.{◌≡◌, ◌≢◌, List, [], IfSome, IfOk, IfErr, IsSomeAnd, None, map, codes, option_map, string_bytes};
+ghost use Rattle.std.specs.Prelude.{
+  ◌≡◌,
+  ◌≢◌,
+  List,
+  [],
+  IfSome,
+  IfOk,
+  IfErr,
+  IsSomeAnd,
+  None,
+  map,
+  codes,
+  option_map,
+  string_bytes,
+};
 ghost use Rattle.clap.specs.Words.{all_of, first_of, found_of, rows_of, subcommand_rows_of};
 ghost use Rattle.swh_base.specs.declared.kind.Kind.{Kind};
 ghost use Rattle.swh_base.specs.declared.kind.Kind.TheVariants.{Directory};
@@ -46,7 +60,8 @@ fn values_of<'a>(
     values: &ArgMatches<'a>,
     name: &str,
 ) -> Result<Option<Vec<&'a str>>, AllocError>
-    ensures { IfOk result (λ found. option_map (λ v. map (λ value. value.now) v.items) found ≡ all_of name.now (rows_of (found_of values.now))) }
+    ensures { IfOk result (λ found. option_map (λ v. map (λ value. value.now) v.items) found
+        ≡ all_of name.now (rows_of (found_of values.now))) }
 {
     match values.get_strs(name) {
         Some(texts) => Ok(Some(texts.to_vec(alloc)?)),
@@ -140,7 +155,8 @@ fn command_given<'a>(alloc: Global, matches: &ArgMatches<'a>) -> Result<Command<
 /// `Words` where the words are no command, or where memory runs out.
 pub fn parse_words<'a>(alloc: Global, words: &'a [String]) -> Result<Command<'a>, WordsFault>
     ensures ok { IfOk result (λ command. IsCommand (map string_bytes words.now) (wanted_by command)) }
-    ensures err { IfErr result (λ fault. fault ≡ Words → (wanted : Wanted) → IsCommand (map string_bytes words.now) wanted → ⊥) }
+    ensures err { IfErr result (λ fault. fault ≡ Words → (wanted : Wanted)
+        → IsCommand (map string_bytes words.now) wanted → ⊥) }
 {
     let program = program(alloc)?;
     match program.try_get_matches_from(words) {

@@ -37,7 +37,8 @@ pub struct MarkParts<'a> {
 /// What a batch's payload tells after who wrote it.
 pub fn split_batch(told: &[u8]) -> Option<BatchParts>
     ensures some { IfSome result (IsBatchTold told.now) }
-    ensures none { IfNone result ((from to number : ℕ) → told.now ≡ to_be_bytes w64 from ++ (to_be_bytes w64 to ++ to_be_bytes w32 number) → ⊥) }
+    ensures none { IfNone result ((from to number : ℕ) → told.now
+        ≡ to_be_bytes w64 from ++ (to_be_bytes w64 to ++ to_be_bytes w32 number) → ⊥) }
 {
     let Some((from, rest)) = split_eight(told) else {
         return None;
@@ -69,7 +70,8 @@ fn visit_kind_of(number: u8) -> Option<VisitKind>
 /// What the payload of an opening tells after who wrote it.
 pub fn split_open(told: &[u8]) -> Option<OpenParts<'_>>
     ensures some { IfSome result (IsOpenTold told.now) }
-    ensures none { IfNone result ((kind : AnyVisitKind) (date : ℕ) (origin : List ℕ) → told.now ≡ visit_kind_number kind ∷ (to_be_bytes w64 date ++ origin) → ⊥) }
+    ensures none { IfNone result ((kind : AnyVisitKind) (date : ℕ) (origin : List ℕ)
+        → told.now ≡ visit_kind_number kind ∷ (to_be_bytes w64 date ++ origin) → ⊥) }
 {
     let Some((number, rest)) = told.split_first() else {
         return None;
@@ -101,7 +103,8 @@ fn status_of(number: u8) -> Option<Status>
 fn split_snapshot(bytes: &[u8]) -> Option<(Option<[u8; 20]>, &[u8])>
     ensures some { IfSome result (λ x. bytes.now ≡ coded_snapshot x.0 ++ x.1.now) }
     ensures id { IfSome result (λ x. IsSnapshotId x.0) }
-    ensures none { IfNone result ((snapshot : Option (List ℕ)) (x : List ℕ) → IsSnapshotId snapshot → bytes.now ≡ coded_snapshot snapshot ++ x → ⊥) }
+    ensures none { IfNone result ((snapshot : Option (List ℕ)) (x : List ℕ) → IsSnapshotId snapshot
+        → bytes.now ≡ coded_snapshot snapshot ++ x → ⊥) }
 {
     let Some((number, rest)) = bytes.split_first() else {
         return None;
@@ -121,7 +124,8 @@ fn split_snapshot(bytes: &[u8]) -> Option<(Option<[u8; 20]>, &[u8])>
 /// What the payload of a mark tells after who wrote it.
 pub fn split_mark(told: &[u8]) -> Option<MarkParts<'_>>
     ensures some { IfSome result (IsMarkTold told.now) }
-    ensures none { IfNone result ((status : AnyStatus) (visit : ℕ) (snapshot : Option (List ℕ)) (origin : List ℕ) → IsMarkStatus status → IsSnapshotId snapshot
+    ensures none { IfNone result ((status : AnyStatus) (visit : ℕ) (snapshot : Option (List ℕ)) (origin : List ℕ)
+        → IsMarkStatus status → IsSnapshotId snapshot
         → told.now ≡ status_number status ∷ (to_be_bytes w64 visit ++ (coded_snapshot snapshot ++ origin)) → ⊥) }
 {
     let Some((number, rest)) = told.split_first() else {

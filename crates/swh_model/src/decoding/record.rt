@@ -17,7 +17,8 @@ pub struct RecordParts<'a> {
 /// The record at the front of bytes.
 pub fn split_record(bytes: &[u8]) -> Option<RecordParts<'_>>
     ensures some { IfSome result (IsRecordFront bytes.now) }
-    ensures none { IfNone result ((kind : ℕ) (payload x : List ℕ) → length payload < 2 ^ 32 → bytes.now ≡ framed kind payload ++ x → ⊥) }
+    ensures none { IfNone result ((kind : ℕ) (payload x : List ℕ) → length payload < 2 ^ 32
+        → bytes.now ≡ framed kind payload ++ x → ⊥) }
 {
     let Some((kind, rest)) = bytes.split_first() else {
         return None;
