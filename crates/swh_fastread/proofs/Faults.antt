@@ -10,7 +10,7 @@ use Rattle.swh_fastread.specs.Row.{Row, row_text, text_of, IsData, Opens, IsRow,
 use Rattle.swh_fastread.proofs.Kept.{kept, not_whole, not_begun, out_not_kept, out_counts}
 use Rattle.swh_fastread.proofs.Rows.{goes_on, in_tail}
 
-append_nil : {X : Type 0} (a : List X) → a ++ [] ≡ a
+pub append_nil : {X : Type 0} (a : List X) → a ++ [] ≡ a
 append_nil [] = refl
 append_nil {X} (c ∷ a) = ap (λ (t : List X). c ∷ t) (append_nil a)
 
@@ -19,11 +19,11 @@ text_of-append [] qs = refl
 text_of-append (r ∷ rs) qs = ap (λ (t : List ℕ). row_text r ++ t) (text_of-append rs qs) ∙ sym (append_assoc (row_text r) (text_of rs) (text_of qs))
 
 -- a row in front of a text, cut after its line
-row_cut : (r : Row) (m : List Row) (x : List ℕ) → text_of (r ∷ m) ++ x ≡ r.line ++ 10 ∷ (r.raw ++ (text_of m ++ x))
+pub row_cut : (r : Row) (m : List Row) (x : List ℕ) → text_of (r ∷ m) ++ x ≡ r.line ++ 10 ∷ (r.raw ++ (text_of m ++ x))
 row_cut r m x = append_assoc (row_text r) (text_of m) x ∙ append_assoc r.line (10 ∷ r.raw) (text_of m ++ x)
 
 -- a line and the row that the same text begins with
-row_line : (r : Row) (m : List Row) (line rest x : List ℕ) → (Contains line 10 → ⊥) → AreRows (r ∷ m) x → line ++ 10 ∷ rest ≡ text_of (r ∷ m) ++ x → r.line ≡ line
+pub row_line : (r : Row) (m : List Row) (line rest x : List ℕ) → (Contains line 10 → ⊥) → AreRows (r ∷ m) x → line ++ 10 ∷ rest ≡ text_of (r ∷ m) ++ x → r.line ≡ line
 row_line r m line rest x n a e = sym (first_split 10 line r.line rest (r.raw ++ (text_of m ++ x)) n a.0.one_line (e ∙ row_cut r m x)).0
 
 -- no stream goes on past the line of a fault

@@ -18,3 +18,9 @@ pub fn no_fault()
     ensures { (at : ℕ) (p : Bool) (text : List ℕ) (cs before : List Said) (place : ℕ) (why : Why)
         → IsStream at p text cs → IsFault at p text before place why → ⊥ }
 {}
+
+/// A text is a stream of one list of commands at most.
+pub fn one_reading()
+    ensures { (at : ℕ) (p : Bool) (text : List ℕ) (cs ds : List Said) → IsStream at p text cs → IsStream at p text ds
+        → cs ≡ ds }
+{}

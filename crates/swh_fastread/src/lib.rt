@@ -9,4 +9,4 @@ mod laws;
 
 pub use command::{At, Change, Command, Commitish, Dataref, Start};
 pub use fault::StreamWhy;
-pub use laws::{no_fault, one_fault};
+pub use laws::{no_fault, one_fault, one_reading};
