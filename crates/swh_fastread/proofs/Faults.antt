@@ -1,12 +1,12 @@
 -- A stream has no fault, and a text has one fault at most.
-use Rattle.std.proofs.Common.{rules, ◌≡◌, ◌≢◌, ℕ, zero, suc, ◌+◌, ◌<◌, ◌≤◌, ◌⊎◌, inl, inr, Bool, true, false, List, [], ◌∷◌, ◌++◌, length, Contains, refl, sym, ap, ◌∙◌, subst, arith, append_assoc, codes}
+use Rattle.std.proofs.Common.{◌≡◌, ℕ, ◌+◌, ◌⊎◌, inl, inr, Bool, true, false, List, [], ◌∷◌, ◌++◌, length, Contains, refl, sym, ap, ◌∙◌, subst, arith, append_assoc, codes}
 use Rattle.swh_base.proofs.Splits.{first_split, absent, not_nil}
 use Rattle.swh_fastread.specs.declared.command.Command.{Command}
 use Rattle.swh_fastread.specs.declared.fault.StreamWhy.{StreamWhy}
 use Rattle.swh_fastread.specs.declared.fault.StreamWhy.TheVariants.{Grammar, End, LeftOut, Mark, Branch, Place}
-use Rattle.swh_fastread.specs.Fault.{BeginsStream, BeginsRows, is_left_out, IsLineFault, IsEndFault, IsFault}
+use Rattle.swh_fastread.specs.Fault.{BeginsRows, is_left_out, IsLineFault, IsEndFault, IsFault}
 use Rattle.swh_fastread.specs.Grammar.{IsWhole, IsStream}
-use Rattle.swh_fastread.specs.Row.{Row, row_text, text_of, IsData, Opens, IsRow, AreRows, is_comment}
+use Rattle.swh_fastread.specs.Row.{Row, row_text, text_of, Opens, IsRow, AreRows, is_comment}
 use Rattle.swh_fastread.proofs.Kept.{kept, not_whole, not_begun, out_not_kept, out_counts}
 use Rattle.swh_fastread.proofs.Rows.{goes_on, in_tail}
 

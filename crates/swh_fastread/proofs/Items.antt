@@ -1,19 +1,12 @@
 -- Where items end, and that the rows of an item say one item.
-use Rattle.std.proofs.Common.{rules, ◌≡◌, ◌≢◌, ℕ, zero, suc, ◌+◌, ◌<◌, ◌≤◌, ◌⊎◌, inl, inr, Bool, true, false, not, ◌&&◌, nat_eq, if◌then◌else◌, List, [], ◌∷◌, ◌++◌, length, Contains, refl, sym, ap, ◌∙◌, subst, arith, append_assoc, codes, Option, Some, None}
-use Rattle.std.specs.List.{AllByRecursion, list_any, starts_with}
+use Rattle.std.proofs.Common.{◌≡◌, ℕ, inl, inr, Bool, true, false, nat_eq, List, [], ◌∷◌, ◌++◌, refl, sym, ap, ◌∙◌, codes, Option, Some, None}
+use Rattle.std.specs.List.{starts_with}
 use Rattle.swh_fastread.specs.declared.command.At.{At}
 use Rattle.swh_fastread.specs.declared.command.Commitish.{Commitish}
-use Rattle.swh_fastread.specs.declared.command.Start.{Start}
-use Rattle.swh_fastread.specs.declared.command.Start.TheVariants.{Absent, NoTip, Of}
-use Rattle.swh_fastread.specs.declared.command.Dataref.{Dataref}
-use Rattle.swh_fastread.specs.declared.command.Dataref.TheVariants.{Mark, Inline, Hex}
 use Rattle.swh_fastread.specs.declared.command.Change.{Change}
 use Rattle.swh_fastread.specs.declared.command.Change.TheVariants.{Set, Delete, Copy, Move, Clear}
-use Rattle.swh_fastread.specs.declared.command.Command.{Command}
-use Rattle.swh_fastread.specs.declared.command.Command.TheVariants.{Blob, Commit, Tag, Reset}
-use Rattle.swh_fastread.specs.Grammar.{◌▹◌, ◌▸◌, optional, many, line_at, line, placed_line, nothing, anything, contents, mark, oid, blob, brings, change_word, SaysChange, change_brings, change, from, commit, tag, target, reset, zeros, start_of, IsCommand, Item, IsItem}
-use Rattle.swh_fastread.specs.Grammar.Item.{Says, Promise, Nothing}
-use Rattle.swh_fastread.specs.Row.{Row, IsData, Placed}
+use Rattle.swh_fastread.specs.Grammar.{◌▹◌, ◌▸◌, optional, many, line_at, line, placed_line, nothing, anything, contents, mark, oid, blob, change_word, change, from, commit, tag}
+use Rattle.swh_fastread.specs.Row.{Placed}
 use Rattle.swh_fastread.specs.Word.{IsMark, NamesRef, NamesTag, NamesPerson, NamesEncoding, NamesCommit}
 use Rattle.swh_fastread.proofs.Words.{one_mark, one_commit}
 use Rattle.swh_fastread.proofs.Parts.{One, Single, begins, Begins, one_then, one_optional, one_skip, one_many, line_one, placed_one, contents_one, changes_one}

@@ -1,9 +1,6 @@
 -- No line of an item is left out, and none is `done`.
-use Rattle.std.proofs.Common.{rules, ◌≡◌, ◌≢◌, ℕ, zero, suc, ◌+◌, ◌<◌, ◌≤◌, ◌⊎◌, inl, inr, Bool, true, false, not, ◌&&◌, nat_eq, if◌then◌else◌, List, [], ◌∷◌, ◌++◌, length, Contains, refl, sym, ap, ◌∙◌, subst, arith, append_assoc, codes, Option, Some, None}
+use Rattle.std.proofs.Common.{◌≡◌, ℕ, ◌+◌, inl, inr, Bool, true, false, not, ◌&&◌, nat_eq, if◌then◌else◌, List, [], ◌∷◌, ◌++◌, length, refl, sym, ◌∙◌, subst, arith, append_assoc, codes, Some, None}
 use Rattle.std.specs.List.{AllByRecursion, starts_with}
-use Rattle.swh_fastread.specs.declared.command.At.{At}
-use Rattle.swh_fastread.specs.declared.command.Commitish.{Commitish}
-use Rattle.swh_fastread.specs.declared.command.Start.{Start}
 use Rattle.swh_fastread.specs.declared.command.Start.TheVariants.{Absent, NoTip, Of}
 use Rattle.swh_fastread.specs.declared.command.Dataref.{Dataref}
 use Rattle.swh_fastread.specs.declared.command.Dataref.TheVariants.{Mark, Inline, Hex}
@@ -12,9 +9,9 @@ use Rattle.swh_fastread.specs.declared.command.Change.TheVariants.{Set, Delete, 
 use Rattle.swh_fastread.specs.declared.command.Command.{Command}
 use Rattle.swh_fastread.specs.declared.command.Command.TheVariants.{Blob, Commit, Tag, Reset}
 use Rattle.swh_fastread.specs.Fault.{BeginsRows, is_left_out}
-use Rattle.swh_fastread.specs.Grammar.{◌▹◌, ◌▸◌, optional, many, line_at, line, placed_line, nothing, anything, contents, mark, oid, blob, SetsTo, brings, change_word, SaysChange, change_brings, change, from, commit, tag, target, reset, zeros, IsCommand, Item, IsItem, IsWhole}
+use Rattle.swh_fastread.specs.Grammar.{◌▹◌, ◌▸◌, optional, many, line, placed_line, nothing, anything, contents, mark, oid, blob, SetsTo, brings, change_word, SaysChange, change_brings, change, from, commit, tag, target, IsCommand, IsItem, IsWhole}
 use Rattle.swh_fastread.specs.Grammar.Item.{Says, Promise, Nothing}
-use Rattle.swh_fastread.specs.Row.{Row, row_text, text_of, IsData, Placed, placed, is_comment}
+use Rattle.swh_fastread.specs.Row.{Row, row_text, IsData, Placed, placed, is_comment}
 use Rattle.swh_fastread.specs.Word.{IsMark, NamesRef, NamesTag, NamesPerson, NamesEncoding, NamesCommit, IsMode}
 
 abbrev pub kept : List ℕ → Bool

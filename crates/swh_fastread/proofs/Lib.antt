@@ -5,3 +5,4 @@ pub mod Words
 pub mod Parts
 pub mod Items
 pub mod Streams
+pub mod Examples

@@ -1,11 +1,8 @@
 -- The rows of an item say one item.
-use Rattle.std.proofs.Common.{rules, ◌≡◌, ◌≢◌, ℕ, zero, suc, ◌+◌, ◌<◌, ◌≤◌, ◌⊎◌, inl, inr, Bool, true, false, not, ◌&&◌, nat_eq, if◌then◌else◌, List, [], ◌∷◌, ◌++◌, length, Contains, refl, sym, ap, ◌∙◌, subst, arith, append_assoc, codes, Option, Some, None}
+use Rattle.std.proofs.Common.{◌≡◌, ℕ, Bool, true, false, nat_eq, List, [], ◌∷◌, ◌++◌, Contains, refl, sym, ap, ◌∙◌, subst, arith, append_assoc, codes, Option, Some, None}
 use Rattle.std.specs.List.{starts_with}
 use Rattle.swh_base.proofs.Splits.{first_split, sized_split, absent}
 use Rattle.swh_fastread.specs.declared.command.At.{At}
-use Rattle.swh_fastread.specs.declared.command.Commitish.{Commitish}
-use Rattle.swh_fastread.specs.declared.command.Start.{Start}
-use Rattle.swh_fastread.specs.declared.command.Start.TheVariants.{Absent, NoTip, Of}
 use Rattle.swh_fastread.specs.declared.command.Dataref.{Dataref}
 use Rattle.swh_fastread.specs.declared.command.Dataref.TheVariants.{Mark, Inline, Hex}
 use Rattle.swh_fastread.specs.declared.command.Change.{Change}

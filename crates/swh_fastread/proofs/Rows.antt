@@ -1,9 +1,9 @@
 -- A text has one division into rows.
-use Rattle.std.proofs.Common.{rules, ◌≡◌, ◌≢◌, ℕ, zero, suc, ◌+◌, ◌<◌, ◌≤◌, ◌⊎◌, inl, inr, Bool, true, false, List, [], ◌∷◌, ◌++◌, length, Contains, refl, sym, ap, ◌∙◌, subst, arith, append_assoc, codes}
-use Rattle.std.specs.List.{AllByRecursion, AllPass}
-use Rattle.swh_base.proofs.Splits.{first_split, sized_split, absent}
+use Rattle.std.proofs.Common.{◌≡◌, ℕ, zero, suc, ◌⊎◌, inl, inr, true, List, [], ◌∷◌, ◌++◌, length, Contains, refl, sym, ap, ◌∙◌, subst, arith, append_assoc, codes}
+use Rattle.std.specs.List.{AllByRecursion}
+use Rattle.swh_base.proofs.Splits.{first_split, sized_split}
 use Rattle.swh_base.specs.Text.{IsNumber, value_from, is_digit}
-use Rattle.swh_fastread.specs.Row.{Row, row_text, text_of, begins_with, IsFeed, IsCounted, IsDelimited, IsOther, lines_text, IsData, Opens, IsRow, AreRows}
+use Rattle.swh_fastread.specs.Row.{Row, row_text, text_of, begins_with, IsFeed, IsOther, lines_text, IsData, Opens, IsRow, AreRows}
 
 pub same_tail : (a x y : List ℕ) → a ++ x ≡ a ++ y → x ≡ y
 same_tail a x y e = (sized_split a a x y refl e).1

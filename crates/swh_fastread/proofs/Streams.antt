@@ -1,7 +1,7 @@
 -- A text is a stream of one list of commands at most.
-use Rattle.std.proofs.Common.{rules, ◌≡◌, ◌≢◌, ℕ, zero, suc, ◌+◌, ◌<◌, ◌≤◌, ◌⊎◌, inl, inr, Bool, true, false, not, ◌&&◌, nat_eq, if◌then◌else◌, List, [], ◌∷◌, ◌++◌, length, Contains, refl, sym, ap, ◌∙◌, subst, arith, append_assoc, codes, Option, Some, None}
+use Rattle.std.proofs.Common.{◌≡◌, ℕ, inl, inr, Bool, true, false, nat_eq, if◌then◌else◌, List, [], ◌∷◌, ◌++◌, refl, sym, ap, ◌∙◌, subst, arith, codes, Option, Some, None}
 use Rattle.std.specs.List.{AllByRecursion, list_any, starts_with}
-use Rattle.swh_base.proofs.Splits.{first_split, absent, not_nil}
+use Rattle.swh_base.proofs.Splits.{absent, not_nil}
 use Rattle.swh_fastread.specs.declared.command.At.{At}
 use Rattle.swh_fastread.specs.declared.command.Commitish.{Commitish}
 use Rattle.swh_fastread.specs.declared.command.Start.{Start}
@@ -12,15 +12,15 @@ use Rattle.swh_fastread.specs.declared.command.Change.{Change}
 use Rattle.swh_fastread.specs.declared.command.Change.TheVariants.{Set, Delete, Copy, Move, Clear}
 use Rattle.swh_fastread.specs.declared.command.Command.{Command}
 use Rattle.swh_fastread.specs.declared.command.Command.TheVariants.{Blob, Commit, Tag, Reset}
-use Rattle.swh_fastread.specs.Grammar.{◌▹◌, ◌▸◌, optional, many, line_at, line, placed_line, nothing, anything, contents, mark, oid, blob, brings, change_word, SaysChange, change_brings, change, from, commit, tag, target, reset, zeros, start_of, IsCommand, Item, IsItem, commands_of, IsWhole, IsStream}
+use Rattle.swh_fastread.specs.Grammar.{◌▹◌, ◌▸◌, optional, many, line_at, line, placed_line, nothing, anything, contents, mark, oid, brings, change_word, change_brings, change, from, target, reset, start_of, Item, IsItem, commands_of, IsWhole, IsStream}
 use Rattle.swh_fastread.specs.Grammar.Item.{Says, Promise, Nothing}
-use Rattle.swh_fastread.specs.Row.{Row, row_text, text_of, AreRows, IsData, Placed, placed, is_comment}
+use Rattle.swh_fastread.specs.Row.{Row, text_of, AreRows, IsData, Placed, placed, is_comment}
 use Rattle.swh_fastread.specs.Word.{IsMark, NamesRef, NamesTag, NamesPerson, NamesEncoding, NamesCommit}
 use Rattle.swh_fastread.proofs.Words.{one_commit}
 use Rattle.swh_fastread.proofs.Rows.{goes_on, same_tail}
 use Rattle.swh_fastread.proofs.Kept.{kept, not_whole}
 use Rattle.swh_fastread.proofs.Faults.{append_nil, row_cut, row_line}
-use Rattle.swh_fastread.proofs.Parts.{One, Single, one_then, line_one, placed_one, same_at, cons_cut}
+use Rattle.swh_fastread.proofs.Parts.{One, one_then, line_one, placed_one, cons_cut}
 use Rattle.swh_fastread.proofs.Items.{line_single, ref_one, blob_one, tag_one, commit_one}
 
 line_of : (p q : Placed) → p ∷ [] ≡ q ∷ [] → p.row.line ≡ q.row.line
@@ -262,10 +262,10 @@ items_stop : (rows : List Placed) (is : List Item) → many IsItem rows is → S
 items_stop rows [] h = subst Stops (sym h) tt
 items_stop rows (i ∷ is) h = let s = shape h.0 i h.3 in subst Stops (sym (h.2 ∙ ap (λ (t : List Placed). t ++ h.1) s.rows_are)) s.starts
 
-some_item : (a b : List Placed) (i : Item) → IsItem a i → [] ≡ a ++ b → ⊥
+pub some_item : (a b : List Placed) (i : Item) → IsItem a i → [] ≡ a ++ b → ⊥
 some_item a b i h e = let s = shape a i h in let n : [] ≡ s.first ∷ (s.others ++ b) = e ∙ ap (λ (t : List Placed). t ++ b) s.rows_are in absurd cc
 
-one_items : (rows : List Placed) (is js : List Item) → many IsItem rows is → many IsItem rows js → is ≡ js
+pub one_items : (rows : List Placed) (is js : List Item) → many IsItem rows is → many IsItem rows js → is ≡ js
 one_items rows [] [] h k = refl
 one_items rows [] (j ∷ js) h k = absurd (some_item k.0 k.1 j k.3 (sym h ∙ k.2))
 one_items rows (i ∷ is) [] h k = absurd (some_item h.0 h.1 i h.3 (sym k ∙ h.2))

@@ -1,17 +1,16 @@
 -- A text says one mark, commit-ish, mode, id or path at most.
-use Rattle.std.proofs.Common.{rules, ◌≡◌, ◌≢◌, ℕ, zero, suc, ◌+◌, ◌*◌, ◌<◌, ◌≤◌, ◌==◌, if◌then◌else◌, ◌⊎◌, inl, inr, Bool, true, false, List, [], ◌∷◌, ◌++◌, map, length, length-append, Contains, refl, sym, ap, ◌∙◌, subst, arith, append_assoc, codes}
+use Rattle.std.proofs.Common.{◌≡◌, ℕ, zero, suc, ◌+◌, ◌*◌, ◌<◌, ◌==◌, if◌then◌else◌, ◌⊎◌, inl, inr, Bool, true, false, List, [], ◌∷◌, ◌++◌, map, length, length-append, Contains, refl, sym, ap, ◌∙◌, subst, arith, append_assoc, codes}
 use Rattle.std.specs.List.{AllByRecursion, AllPass, flat_map}
-use Rattle.hex.specs.Hex.{encode_lower}
 use Rattle.swh_base.proofs.HexLines.{hex-injective, length-hex}
 use Rattle.swh_base.proofs.Splits.{first_split, sized_split, absent}
 use Rattle.swh_base.specs.Text.{IsNumber, IsRef, value_from, is_digit, is_ref_byte}
 use Rattle.swh_fastread.specs.declared.command.Commitish.{Commitish}
 use Rattle.swh_fastread.specs.declared.command.Commitish.TheVariants.{Mark, Branch}
-use Rattle.swh_fastread.specs.Path.{Piece, piece_text, piece_byte, MeansByte, IsPiece, IsQuoted, Writes, SpellsPath, SpellsSource}
+use Rattle.swh_fastread.specs.Path.{Piece, piece_text, piece_byte, MeansByte, IsPiece, Writes, SpellsPath, SpellsSource}
 use Rattle.swh_fastread.specs.Path.Piece.{Plain, Escaped, Octal}
 use Rattle.swh_fastread.specs.Row.{begins_with}
 use Rattle.swh_fastread.specs.Word.{IsMark, NamesCommit, IsMode, SpellsId}
-use Rattle.swh_fastread.proofs.Rows.{same_tail, in_tail}
+use Rattle.swh_fastread.proofs.Rows.{in_tail}
 
 -- the first byte, the second, and all but the first
 abbrev first : List ℕ → ℕ

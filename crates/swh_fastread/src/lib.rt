@@ -6,7 +6,9 @@
 mod command;
 mod fault;
 mod laws;
+mod worked;
 
 pub use command::{At, Change, Command, Commitish, Dataref, Start};
 pub use fault::StreamWhy;
 pub use laws::{no_fault, one_fault, one_reading};
+pub use worked::{data_before_line, octal_path, promise_not_kept};

@@ -1,0 +1,22 @@
+//! Worked examples of the grammar, as laws.
+ghost use Rattle.std.specs.Prelude.{◌≡◌, ◌∷◌, [], ◌++◌, false, codes};
+ghost use Rattle.swh_fastread.specs.declared.fault.StreamWhy.TheVariants.{End as AtEnd};
+ghost use Rattle.swh_fastread.specs.Fault.{IsFault};
+ghost use Rattle.swh_fastread.specs.Path.{SpellsPath};
+ghost use Rattle.swh_fastread.specs.Row.{Row, IsData};
+
+/// A line may follow data at once: the bytes are these three, and the line is not among them.
+pub fn data_before_line()
+    ensures { let row : Row = record { line = codes "data 3"; raw = codes "abc" } in IsData row (codes "abc") (codes "from :1\n") }
+{}
+
+/// A stream that promises `done` and ends is faulty at its end, 13 bytes on.
+pub fn promise_not_kept()
+    ensures { IsFault 0 false (codes "feature done\n") [] 13 AtEnd }
+{}
+
+/// Octal digits between quotes are the bytes that they name, and the same bytes spell the same path without quotes.
+pub fn octal_path()
+    ensures quoted { SpellsPath (codes "\"caf\\303\\251\"") (codes "caf" ++ 195 ∷ 169 ∷ []) }
+    ensures plain { SpellsPath (codes "caf" ++ 195 ∷ 169 ∷ []) (codes "caf" ++ 195 ∷ 169 ∷ []) }
+{}
