@@ -1,13 +1,14 @@
 -- Worked examples of the grammar.
-use Rattle.std.proofs.Common.{◌≡◌, ◌≢◌, ℕ, zero, suc, inl, inr, Bool, true, false, List, [], ◌∷◌, ◌++◌, refl, sym, ap, ◌∙◌, subst, arith, append_assoc, codes}
+use Rattle.std.proofs.Common.{None, ◌≡◌, ◌≢◌, ℕ, zero, suc, inl, inr, Bool, true, false, List, [], ◌∷◌, ◌++◌, refl, sym, ap, ◌∙◌, subst, arith, append_assoc, codes}
 use Rattle.std.specs.List.{AllPass, list_any}
 use Rattle.swh_base.proofs.Splits.{absent, not_nil}
 use Rattle.swh_base.specs.Text.{is_digit}
 use Rattle.swh_fastread.specs.declared.command.Command.{Command}
+use Rattle.swh_fastread.specs.declared.command.Command.TheVariants.{Blob}
 use Rattle.swh_fastread.specs.declared.fault.StreamWhy.TheVariants.{End}
 use Rattle.swh_fastread.specs.Fault.{BeginsRows, IsUnfinished, IsFault}
-use Rattle.swh_fastread.specs.Grammar.{line_at, Item, IsItem, is_promise, many, Ends, IsStream}
-use Rattle.swh_fastread.specs.Grammar.Item.{Promise}
+use Rattle.swh_fastread.specs.Grammar.{Parses, line_at, Item, IsItem, is_promise, many, Ends, IsStream}
+use Rattle.swh_fastread.specs.Grammar.Item.{Promise, Says}
 use Rattle.swh_fastread.specs.Path.{IsComponent, IsPath, SpellsPath}
 use Rattle.swh_fastread.specs.Path.Piece.{Plain, Octal}
 use Rattle.swh_fastread.specs.Row.{Row, row_text, text_of, IsData, Opens, IsRow, Placed, placed}
@@ -130,4 +131,39 @@ promised = record {
   cut = not_row;
   inside = inl (λ h. let l = h.1 in absurd (omega (arith, l)));
   none = no_stream;
+}
+
+two_digits : AllPass is_digit (codes "2")
+two_digits zero d l = refl
+two_digits (suc k) d l = absurd (omega (arith, l))
+
+blob_closed : Opens (codes "blob") → ⊥
+blob_closed (raw, bytes, after, inl d) = let n : 98 ≡ 100 = ap first d.line in omega (arith, n)
+blob_closed (raw, bytes, after, inr d) = let n : 98 ≡ 100 = ap first d.line in omega (arith, n)
+
+comment_closed : Opens (codes "#c") → ⊥
+comment_closed (raw, bytes, after, inl d) = let n : 35 ≡ 100 = ap first d.line in omega (arith, n)
+comment_closed (raw, bytes, after, inr d) = let n : 35 ≡ 100 = ap first d.line in omega (arith, n)
+
+abbrev ab_row : Row
+ab_row = record { line = codes "data 2"; raw = codes "ab" }
+
+ab_data : IsData ab_row (codes "ab") []
+ab_data = inl (record { text = codes "2"; feed = []; line = refl; number = record { some = omega arith; short = omega arith; digits = two_digits; value = refl }; raw = refl; is_feed = inr (refl, refl) })
+
+abbrev ab_at : Placed
+ab_at = record { at = 8; row = ab_row }
+
+pub blob_alone : Parses (codes "blob\n#c\ndata 2\nab") (Blob None (codes "ab") ∷ [])
+blob_alone = record {
+  rows = record { line = codes "blob"; raw = [] } ∷ record { line = codes "#c"; raw = [] } ∷ ab_row ∷ [];
+  ending = [];
+  spelled = refl;
+  whole = record {
+    items = Says (Blob None (codes "ab")) ∷ [];
+    good = (record { one_line = absent 10 (codes "blob") refl; after = inr (blob_closed, refl) }, (record { one_line = absent 10 (codes "#c") refl; after = inr (comment_closed, refl) }, (record { one_line = absent 10 (codes "data 2") refl; after = inl (codes "ab", ab_data) }, tt)));
+    said = (line_at 0 (codes "blob") ∷ ab_at ∷ [], [], refl, (tt, (line_at 0 (codes "blob") ∷ [], ab_at ∷ [], refl, (0, [], refl, refl), ([], ab_at ∷ [], refl, refl, (None, ([], ab_at ∷ [], refl, refl, (ab_at, [], refl, ab_data)))))), refl);
+    ends = inl (refl, refl);
+    these = refl;
+  };
 }

@@ -14,7 +14,7 @@ pub append_nil : {X : Type 0} (a : List X) → a ++ [] ≡ a
 append_nil [] = refl
 append_nil {X} (c ∷ a) = ap (λ (t : List X). c ∷ t) (append_nil a)
 
-text_of-append : (rs qs : List Row) → text_of (rs ++ qs) ≡ text_of rs ++ text_of qs
+pub text_of-append : (rs qs : List Row) → text_of (rs ++ qs) ≡ text_of rs ++ text_of qs
 text_of-append [] qs = refl
 text_of-append (r ∷ rs) qs = ap (λ (t : List ℕ). row_text r ++ t) (text_of-append rs qs) ∙ sym (append_assoc (row_text r) (text_of rs) (text_of qs))
 

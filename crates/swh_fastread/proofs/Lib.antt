@@ -6,3 +6,4 @@ pub mod Parts
 pub mod Items
 pub mod Streams
 pub mod Examples
+pub mod Before

@@ -44,12 +44,12 @@ reset_one : One reset
 reset_one = one_then (line (codes "reset ") NamesRef) target (line_single (codes "reset ") NamesRef) (line_one (codes "reset ") NamesRef ref_one) target_one
 
 -- what an item's first line begins with
-abbrev tag_of_line : List ℕ → ℕ
+abbrev pub tag_of_line : List ℕ → ℕ
 tag_of_line line =
     if starts_with nat_eq line (codes "blob") then 1 else if starts_with nat_eq line (codes "commit ") then 2 else if starts_with nat_eq line (codes "tag ") then 3
     else if starts_with nat_eq line (codes "reset ") then 4 else if starts_with nat_eq line (codes "feature done") then 5 else 6
 
-abbrev tag_of : Item → ℕ
+abbrev pub tag_of : Item → ℕ
 tag_of (Says (Blob m bytes)) = 1
 tag_of (Says (Commit branch m author committer encoding message parent merges changes)) = 2
 tag_of (Says (Tag branch m aim tagger message)) = 3
@@ -58,15 +58,15 @@ tag_of Promise = 5
 tag_of Nothing = 6
 
 -- lines that go on with an item
-abbrev inner_words : List (List ℕ)
+abbrev pub inner_words : List (List ℕ)
 inner_words =
     codes "mark :" ∷ codes "original-oid " ∷ codes "author " ∷ codes "committer " ∷ codes "encoding " ∷ codes "data " ∷ codes "from " ∷ codes "merge "
     ∷ codes "M " ∷ codes "D " ∷ codes "C " ∷ codes "R " ∷ codes "deleteall" ∷ codes "tagger " ∷ []
 
-abbrev is_inner : List ℕ → Bool
+abbrev pub is_inner : List ℕ → Bool
 is_inner line = list_any (λ word. starts_with nat_eq line word) inner_words
 
-abbrev AllInner : List Placed → Type 0
+abbrev pub AllInner : List Placed → Type 0
 AllInner rows = AllByRecursion (λ (p : Placed). is_inner p.row.line ≡ true) rows
 
 abbrev Inner : {X : Type 0} → (List Placed → X → Type 0) → Type 0
@@ -133,13 +133,13 @@ target_inner rows NoTip h = subst AllInner (sym h.2) (refl, tt)
 target_inner rows (Of a) h = subst AllInner (sym h.1) (refl, tt)
 
 -- a first line, and lines that go on with the item
-record Shape (rows : List Placed) (n : ℕ) : Type 0 where
-  first : Placed
-  others : List Placed
-  rows_are : rows ≡ first ∷ others
-  starts : is_inner first.row.line ≡ false
-  kind : tag_of_line first.row.line ≡ n
-  inner : AllInner others
+pub record Shape (rows : List Placed) (n : ℕ) : Type 0 where
+  pub first : Placed
+  pub others : List Placed
+  pub rows_are : rows ≡ first ∷ others
+  pub starts : is_inner first.row.line ≡ false
+  pub kind : tag_of_line first.row.line ≡ n
+  pub inner : AllInner others
 
 shape_then : {X Y : Type 0} (n : ℕ) (front : List ℕ) (Tells : List ℕ → X → Type 0) (M : List Placed → Y → Type 0) → ((t : List ℕ) → is_inner (front ++ t) ≡ false) → ((t : List ℕ) → tag_of_line (front ++ t) ≡ n) → Inner M → (rows : List Placed) (v : X × Y) → (line front Tells ▹ M) rows v → Shape rows n
 shape_then n front Tells M s t m rows v h = record {
@@ -180,7 +180,7 @@ tag_tail =
 blob_tail : Inner (optional mark ▹ optional oid ▸ contents)
 blob_tail = then_inner (optional mark) (optional oid ▸ contents) mark_inner (skip_inner (optional oid) contents oid_inner contents_inner)
 
-shape : (rows : List Placed) (i : Item) → IsItem rows i → Shape rows (tag_of i)
+pub shape : (rows : List Placed) (i : Item) → IsItem rows i → Shape rows (tag_of i)
 shape rows (Says (Blob m bytes)) h = shape_then 1 (codes "blob") nothing (optional mark ▹ optional oid ▸ contents) (λ t. refl) (λ t. refl) blob_tail rows (h.0, (m, bytes)) h.1
 shape rows (Says (Commit branch m author committer encoding message parent merges changes)) h =
     shape_then 2 (codes "commit ") NamesRef (optional mark ▹ optional oid ▸ optional (line (codes "author ") NamesPerson) ▹ line (codes "committer ") NamesPerson ▹ optional (line (codes "encoding ") NamesEncoding) ▹ contents ▹ optional from ▹ many (placed_line (codes "merge ") NamesCommit) ▹ many change)
@@ -201,7 +201,7 @@ same_tag rows i j h k =
 abbrev commit_value : List ℕ × (Option ℕ × (Option (List ℕ) × (List ℕ × (Option (List ℕ) × (List ℕ × (Option (At Commitish) × (List (At Commitish) × List (At Change)))))))) → Item
 commit_value v = Says (Commit v.0 v.1.0 v.1.1.0 v.1.1.1.0 v.1.1.1.1.0 v.1.1.1.1.1.0 (start_of v.1.1.1.1.1.1.0) v.1.1.1.1.1.1.1.0 v.1.1.1.1.1.1.1.1)
 
-item_one : One IsItem
+pub item_one : One IsItem
 item_one rows (Says (Blob m bytes)) (Says (Blob m' bytes')) h k = ap (λ (v : Option ℕ × List ℕ). Says (Blob v.0 v.1)) (blob_one rows (m, bytes) (m', bytes') h k)
 item_one rows (Says (Blob m bytes)) (Says (Commit b' m' a' c' e' g' p' s' z')) h k = let n : 1 ≡ 2 = same_tag rows (Says (Blob m bytes)) (Says (Commit b' m' a' c' e' g' p' s' z')) h k in absurd (omega (arith, n))
 item_one rows (Says (Blob m bytes)) (Says (Tag b' m' a' t' g')) h k = let n : 1 ≡ 3 = same_tag rows (Says (Blob m bytes)) (Says (Tag b' m' a' t' g')) h k in absurd (omega (arith, n))
@@ -240,14 +240,14 @@ item_one rows Nothing Promise h k = let n : 6 ≡ 5 = same_tag rows Nothing Prom
 item_one rows Nothing Nothing h k = refl
 
 -- What follows does not go on with an item.
-abbrev Stops : List Placed → Type 0
+abbrev pub Stops : List Placed → Type 0
 Stops [] = Unit {0}
 Stops (p ∷ rows) = is_inner p.row.line ≡ false
 
 apart : (x p : Placed) → x ≡ p → is_inner x.row.line ≡ false → is_inner p.row.line ≡ true → ⊥
 apart x p e f t = let d : true ≡ false = sym t ∙ ap (λ (y : Placed). is_inner y.row.line) (sym e) ∙ f in absurd cc
 
-span : (a b r q : List Placed) → AllInner a → AllInner b → Stops r → Stops q → a ++ r ≡ b ++ q → (a ≡ b) × (r ≡ q)
+pub span : (a b r q : List Placed) → AllInner a → AllInner b → Stops r → Stops q → a ++ r ≡ b ++ q → (a ≡ b) × (r ≡ q)
 span [] [] r q h k sr sq e = (refl, e)
 span [] (p ∷ b) [] q h k sr sq e = absurd cc
 span [] (p ∷ b) (x ∷ r) q h k sr sq e = absurd (apart x p (cons_cut x p r (b ++ q) e).0 sr k.0)
@@ -258,7 +258,7 @@ span (p ∷ a) (x ∷ b) r q h k sr sq e =
     let more = span a b r q h.1 k.1 sr sq cut.1 in
     (ap (λ (t : Placed). t ∷ a) cut.0 ∙ ap (λ (t : List Placed). x ∷ t) more.0, more.1)
 
-items_stop : (rows : List Placed) (is : List Item) → many IsItem rows is → Stops rows
+pub items_stop : (rows : List Placed) (is : List Item) → many IsItem rows is → Stops rows
 items_stop rows [] h = subst Stops (sym h) tt
 items_stop rows (i ∷ is) h = let s = shape h.0 i h.3 in subst Stops (sym (h.2 ∙ ap (λ (t : List Placed). t ++ h.1) s.rows_are)) s.starts
 

@@ -6,11 +6,11 @@ ghost use Rattle.swh_fastread.specs.declared.fault.StreamWhy.{StreamWhy as Why};
 ghost use Rattle.swh_fastread.specs.Fault.{IsFault};
 ghost use Rattle.swh_fastread.specs.Grammar.{IsStream};
 
-/// A text has one first fault at most, at one place.
+/// A text has one first fault at most, at one place, with one list of whole commands before it.
 pub fn one_fault()
     ensures { (at : ℕ) (p : Bool) (text : List ℕ) (cs ds : List Said) (place other : ℕ) (why because : Why)
         → IsFault at p text cs place why → IsFault at p text ds other because
-        → (place ≡ other) × (why ≡ because) }
+        → (cs ≡ ds) × (place ≡ other) × (why ≡ because) }
 {}
 
 /// A text that is a stream has no fault.

@@ -1,13 +1,21 @@
 //! Worked examples of the grammar, as laws.
-ghost use Rattle.std.specs.Prelude.{◌≡◌, ◌∷◌, [], ◌++◌, false, codes};
+ghost use Rattle.std.specs.Prelude.{◌≡◌, ◌∷◌, [], ◌++◌, None, false, codes};
 ghost use Rattle.swh_fastread.specs.declared.fault.StreamWhy.TheVariants.{End as AtEnd};
+ghost use Rattle.swh_fastread.specs.declared.command.Command.TheVariants.{Blob as IsBlob};
 ghost use Rattle.swh_fastread.specs.Fault.{IsFault};
+ghost use Rattle.swh_fastread.specs.Grammar.{Parses};
 ghost use Rattle.swh_fastread.specs.Path.{SpellsPath};
 ghost use Rattle.swh_fastread.specs.Row.{Row, IsData};
 
 /// A line may follow data at once: the bytes are these three, and the line is not among them.
 pub fn data_before_line()
-    ensures { let row : Row = record { line = codes "data 3"; raw = codes "abc" } in IsData row (codes "abc") (codes "from :1\n") }
+    ensures { let row : Row = record { line = codes "data 3"; raw = codes "abc" } in
+        IsData row (codes "abc") (codes "from :1\n") }
+{}
+
+/// A stream of one blob without a mark, whose data end the input.
+pub fn one_blob()
+    ensures { Parses (codes "blob\n#c\ndata 2\nab") (IsBlob None (codes "ab") ∷ []) }
 {}
 
 /// A stream that promises `done` and ends is faulty at its end, 13 bytes on.
