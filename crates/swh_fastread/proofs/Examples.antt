@@ -5,7 +5,7 @@ use Rattle.swh_base.proofs.Splits.{absent, not_nil}
 use Rattle.swh_base.specs.Text.{is_digit}
 use Rattle.swh_fastread.specs.declared.command.Command.{Command}
 use Rattle.swh_fastread.specs.declared.command.Command.TheVariants.{Blob}
-use Rattle.swh_fastread.specs.declared.fault.StreamWhy.TheVariants.{End}
+use Rattle.swh_fastread.specs.declared.fault.StreamWhy.TheVariants.{End, LeftOut}
 use Rattle.swh_fastread.specs.Fault.{BeginsRows, IsUnfinished, IsFault}
 use Rattle.swh_fastread.specs.Grammar.{Parses, line_at, Item, IsItem, is_promise, many, Ends, IsStream}
 use Rattle.swh_fastread.specs.Grammar.Item.{Promise, Says}
@@ -166,4 +166,27 @@ blob_alone = record {
     ends = inl (refl, refl);
     these = refl;
   };
+}
+
+pub left_out : IsFault 0 false (codes "ls x\n") [] 0 LeftOut
+left_out = record {
+  rows = [];
+  line = codes "ls x";
+  rest = [];
+  one_line = absent 10 (codes "ls x") refl;
+  before = record {
+    spelled = refl;
+    good = tt;
+    may = record { more = []; ending = []; commands = []; whole = record { items = []; good = tt; said = refl; ends = inl (refl, refl); these = refl } };
+    whole = [];
+    part = [];
+    items = [];
+    cut = refl;
+    said = refl;
+    unfinished = unfinished;
+    these = refl;
+  };
+  here = refl;
+  out = refl;
+  dead = λ e. absurd cc;
 }

@@ -1,4 +1,4 @@
--- The rows of an item say one item.
+-- A part of the grammar says one thing of the same rows, where no later part begins with its word.
 use Rattle.std.proofs.Common.{◌≡◌, ℕ, Bool, true, false, nat_eq, List, [], ◌∷◌, ◌++◌, Contains, refl, sym, ap, ◌∙◌, subst, arith, append_assoc, codes, Option, Some, None}
 use Rattle.std.specs.List.{starts_with}
 use Rattle.swh_base.proofs.Splits.{first_split, sized_split, absent}

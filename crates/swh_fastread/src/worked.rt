@@ -1,6 +1,6 @@
 //! Worked examples of the grammar, as laws.
 ghost use Rattle.std.specs.Prelude.{◌≡◌, ◌∷◌, [], ◌++◌, None, false, codes};
-ghost use Rattle.swh_fastread.specs.declared.fault.StreamWhy.TheVariants.{End as AtEnd};
+ghost use Rattle.swh_fastread.specs.declared.fault.StreamWhy.TheVariants.{End as AtEnd, LeftOut as IsLeftOut};
 ghost use Rattle.swh_fastread.specs.declared.command.Command.TheVariants.{Blob as IsBlob};
 ghost use Rattle.swh_fastread.specs.Fault.{IsFault};
 ghost use Rattle.swh_fastread.specs.Grammar.{Parses};
@@ -21,6 +21,11 @@ pub fn one_blob()
 /// A stream that promises `done` and ends is faulty at its end, 13 bytes on.
 pub fn promise_not_kept()
     ensures { IsFault 0 false (codes "feature done\n") [] 13 AtEnd }
+{}
+
+/// A first line that is left out is the fault, at its first byte.
+pub fn left_out_line()
+    ensures { IsFault 0 false (codes "ls x\n") [] 0 IsLeftOut }
 {}
 
 /// Octal digits between quotes are the bytes that they name, and the same bytes spell the same path without quotes.
