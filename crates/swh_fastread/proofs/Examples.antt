@@ -1,20 +1,21 @@
 -- Worked examples of the grammar.
-use Rattle.std.proofs.Common.{None, ◌≡◌, ◌≢◌, ℕ, zero, suc, inl, inr, Bool, true, false, List, [], ◌∷◌, ◌++◌, refl, sym, ap, ◌∙◌, subst, arith, append_assoc, codes}
+use Rattle.std.proofs.Common.{◌+◌, length, if◌then◌else◌, None, ◌≡◌, ◌≢◌, ℕ, zero, suc, inl, inr, Bool, true, false, List, [], ◌∷◌, ◌++◌, refl, sym, ap, ◌∙◌, subst, arith, append_assoc, codes}
 use Rattle.std.specs.List.{AllPass, list_any}
 use Rattle.swh_base.proofs.Splits.{absent, not_nil}
 use Rattle.swh_base.specs.Text.{is_digit}
 use Rattle.swh_fastread.specs.declared.command.Command.{Command}
-use Rattle.swh_fastread.specs.declared.command.Command.TheVariants.{Blob}
-use Rattle.swh_fastread.specs.declared.fault.StreamWhy.TheVariants.{End, LeftOut}
+use Rattle.swh_fastread.specs.declared.command.Command.TheVariants.{Blob, Commit, Tag, Reset}
+use Rattle.swh_fastread.specs.declared.fault.StreamWhy.TheVariants.{End, Grammar, LeftOut}
 use Rattle.swh_fastread.specs.Fault.{BeginsRows, IsUnfinished, IsFault}
 use Rattle.swh_fastread.specs.Grammar.{Parses, line_at, Item, IsItem, is_promise, many, Ends, IsStream}
-use Rattle.swh_fastread.specs.Grammar.Item.{Promise, Says}
+use Rattle.swh_fastread.specs.Grammar.Item.{Promise, Says, Nothing}
 use Rattle.swh_fastread.specs.Path.{IsComponent, IsPath, SpellsPath}
 use Rattle.swh_fastread.specs.Path.Piece.{Plain, Octal}
-use Rattle.swh_fastread.specs.Row.{Row, row_text, text_of, IsData, Opens, IsRow, Placed, placed}
+use Rattle.swh_fastread.specs.Row.{Row, row_text, text_of, IsData, Opens, IsRow, AreRows, Placed, placed, is_comment}
 use Rattle.swh_fastread.proofs.Rows.{goes_on}
-use Rattle.swh_fastread.proofs.Faults.{row_cut}
-use Rattle.swh_fastread.proofs.Streams.{one_items, some_item}
+use Rattle.swh_fastread.proofs.Faults.{row_cut, row_line}
+use Rattle.swh_fastread.proofs.Parts.{cons_cut}
+use Rattle.swh_fastread.proofs.Streams.{one_items, some_item, shape, tag_of, tag_of_line}
 
 abbrev first : List ℕ → ℕ
 first [] = 0
@@ -189,4 +190,64 @@ left_out = record {
   here = refl;
   out = refl;
   dead = λ e. absurd cc;
+}
+
+-- an item of this tag says nothing
+says_nothing : (i : Item) → 6 ≡ tag_of i → i ≡ Nothing
+says_nothing (Says (Blob m bytes)) e = absurd (omega (arith, e))
+says_nothing (Says (Commit b m a c f g p s z)) e = absurd (omega (arith, e))
+says_nothing (Says (Tag b m a t g)) e = absurd (omega (arith, e))
+says_nothing (Says (Reset b p)) e = absurd (omega (arith, e))
+says_nothing Promise e = absurd (omega (arith, e))
+says_nothing Nothing e = refl
+
+no_nothing : (p : Placed) (rows : List Placed) → p.row.line ≡ codes "foo" → IsItem (p ∷ rows) Nothing → ⊥
+no_nothing p rows e (inl h) = let n : 102 ≡ 0 = ap first (sym e ∙ ap (λ (x : Placed). x.row.line) (cons_cut p (line_at h.0 h.1) rows [] h.2).0 ∙ h.3) in omega (arith, n)
+no_nothing p rows e (inr (inl h)) = let n : 102 ≡ 99 = ap first (sym e ∙ ap (λ (x : Placed). x.row.line) (cons_cut p (line_at h.0 (codes "checkpoint" ++ h.1)) rows [] h.2).0) in omega (arith, n)
+no_nothing p rows e (inr (inr h)) = let n : 102 ≡ 112 = ap first (sym e ∙ ap (λ (x : Placed). x.row.line) (cons_cut p (line_at h.0 (codes "progress " ++ h.1)) rows [] h.2).0) in omega (arith, n)
+
+no_items : (p : Placed) (rows : List Placed) (is : List Item) → p.row.line ≡ codes "foo" → many IsItem (p ∷ rows) is → ⊥
+no_items p rows [] e h = cc
+no_items p rows (i ∷ is) e h =
+    let s = shape h.0 i h.3 in
+    let cut = cons_cut p s.first rows (s.others ++ h.1) (h.2 ∙ ap (λ (r : List Placed). r ++ h.1) s.rows_are) in
+    let tag : 6 ≡ tag_of i = ap tag_of_line (sym e) ∙ ap (λ (x : Placed). tag_of_line x.row.line) cut.0 ∙ s.kind in
+    let item : IsItem (s.first ∷ s.others) Nothing = subst (λ (j : Item). IsItem (s.first ∷ s.others) j) (says_nothing i tag) (subst (λ (r : List Placed). IsItem r i) s.rows_are h.3) in
+    no_nothing s.first s.others (ap (λ (x : Placed). x.row.line) (sym cut.0) ∙ e) item
+
+counted : (r : Row) (m : List Row) (is : List Item) → r.line ≡ codes "foo" → (b : Bool) → b ≡ false → many IsItem (if b then placed (0 + length (row_text r)) m else record { at = 0; row = r } ∷ placed (0 + length (row_text r)) m) is → ⊥
+counted r m is line true n h = absurd cc
+counted r m is line false n h = no_items (record { at = 0; row = r }) (placed (0 + length (row_text r)) m) is line h
+
+no_such : (more : List ℕ) (cs : List Command) → IsStream 0 false (codes "foo\n" ++ more) cs → ⊥
+no_such more cs s = by_rows s.rows s.whole.items s.spelled s.whole.good s.whole.said s.whole.ends
+  where
+    by_rows : (rows : List Row) (is : List Item) → codes "foo\n" ++ more ≡ text_of rows ++ s.ending → AreRows rows s.ending → many IsItem (placed 0 rows) is → {b : Bool} → Ends b s.ending → ⊥
+    by_rows [] is e g h (inl n) = let d : 102 ≡ 0 = ap first (e ∙ n.0) in omega (arith, d)
+    by_rows [] is e g h (inr n) = let d : 102 ≡ 100 = ap first (e ∙ n.1) in omega (arith, d)
+    by_rows (r ∷ m) is e g h n =
+        let line = row_line r m (codes "foo") more s.ending (absent 10 (codes "foo") refl) g e in
+        counted r m is line (is_comment r.line) (ap is_comment line) h
+
+pub unknown : (rest : List ℕ) → IsFault 0 false (codes "foo\n" ++ rest) [] 0 Grammar
+unknown rest = record {
+  rows = [];
+  line = codes "foo";
+  rest = rest;
+  one_line = absent 10 (codes "foo") refl;
+  before = record {
+    spelled = refl;
+    good = tt;
+    may = record { more = []; ending = []; commands = []; whole = record { items = []; good = tt; said = refl; ends = inl (refl, refl); these = refl } };
+    whole = [];
+    part = [];
+    items = [];
+    cut = refl;
+    said = refl;
+    unfinished = unfinished;
+    these = refl;
+  };
+  here = refl;
+  out = refl;
+  dead = λ e h. no_such h.0 h.1 h.2;
 }

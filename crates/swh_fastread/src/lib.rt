@@ -11,4 +11,6 @@ mod worked;
 pub use command::{At, Change, Command, Commitish, Dataref, Start};
 pub use fault::StreamWhy;
 pub use laws::{no_fault, one_fault, one_reading};
-pub use worked::{data_before_line, left_out_line, octal_path, one_blob, promise_not_kept};
+pub use worked::{
+    data_before_line, left_out_line, octal_path, one_blob, promise_not_kept, unknown_line,
+};
