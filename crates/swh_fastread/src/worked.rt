@@ -1,6 +1,6 @@
 //! Worked examples of the grammar, as laws.
 ghost use Rattle.std.specs.Prelude.{◌≡◌, ℕ, List, ◌∷◌, [], ◌++◌, None, false, codes};
-ghost use Rattle.swh_fastread.specs.declared.fault.StreamWhy.TheVariants.{End as AtEnd, Grammar as IsNone, LeftOut as IsLeftOut};
+ghost use Rattle.swh_fastread.specs.declared.fault.StreamWhy.TheVariants.{End, Grammar, LeftOut};
 ghost use Rattle.swh_fastread.specs.declared.command.Command.TheVariants.{Blob as IsBlob};
 ghost use Rattle.swh_fastread.specs.Fault.{IsFault};
 ghost use Rattle.swh_fastread.specs.Grammar.{Parses};
@@ -20,17 +20,17 @@ pub fn one_blob()
 
 /// A stream that promises `done` and ends is faulty at its end, 13 bytes on.
 pub fn promise_not_kept()
-    ensures { IsFault 0 false (codes "feature done\n") [] 13 AtEnd }
+    ensures { IsFault 0 false (codes "feature done\n") [] 13 End }
 {}
 
 /// A first line that is left out is the fault, at its first byte.
 pub fn left_out_line()
-    ensures { IsFault 0 false (codes "ls x\n") [] 0 IsLeftOut }
+    ensures { IsFault 0 false (codes "ls x\n") [] 0 LeftOut }
 {}
 
 /// A first line with which no stream begins is the fault, at its first byte, whatever follows.
 pub fn unknown_line()
-    ensures { (rest : List ℕ) → IsFault 0 false (codes "foo\n" ++ rest) [] 0 IsNone }
+    ensures { (rest : List ℕ) → IsFault 0 false (codes "foo\n" ++ rest) [] 0 Grammar }
 {}
 
 /// Octal digits between quotes are the bytes that they name, and the same bytes spell the same path without quotes.
