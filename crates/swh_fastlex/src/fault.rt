@@ -1,4 +1,4 @@
-// Why a source is not read whole.
+// Why a source is not read whole, and why a line or data are not read.
 use std::alloc::AllocError;
 use swh_outside::Failed;
 
@@ -31,5 +31,39 @@ impl From<Failed> for SourceFault {
 
     fn from(_e: Failed) -> SourceFault {
         SourceFault::Failed
+    }
+}
+
+/// Why a line or data are not given.
+#[derive(Clone, Copy, Debug, PartialEq, Eq)]
+pub enum LineFault {
+    /// The source failed, and its count of faults rose.
+    Failed,
+    /// The input ends inside the line or the data.
+    End,
+    /// The line, or the data, are longer than they may be.
+    Limit,
+    Memory,
+}
+
+impl From<AllocError> for LineFault {
+    ghost use Rattle.std.specs.Prelude.{◌≡◌};
+    ghost use Rattle.swh_fastlex.specs.declared.fault.LineFault.TheVariants.{Memory};
+
+    ghost from_gives = { λ _ e. e ≡ Memory };
+
+    fn from(_e: AllocError) -> LineFault {
+        LineFault::Memory
+    }
+}
+
+impl From<Failed> for LineFault {
+    ghost use Rattle.std.specs.Prelude.{◌≡◌};
+    ghost use Rattle.swh_fastlex.specs.declared.fault.LineFault.TheVariants.{Failed};
+
+    ghost from_gives = { λ _ e. e ≡ Failed };
+
+    fn from(_e: Failed) -> LineFault {
+        LineFault::Failed
     }
 }
