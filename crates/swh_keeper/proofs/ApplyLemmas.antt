@@ -17,10 +17,10 @@ use Rattle.swh_model.specs.Step.{May, May_kind, MayAll, HasItsChildren, HasItsCh
 use Rattle.swh_model.specs.Judge.{IsVerdict, IsWish}
 use Rattle.swh_model.proofs.Verdicts.{wish_may}
 use Rattle.swh_model.proofs.Visits.{all-map}
-use Rattle.swh_keeper.specs.declared.replayed.Replayed.{Replayed}
-use Rattle.swh_keeper.specs.declared.planning.Planned.{Planned}
+use Rattle.swh_plan.specs.declared.replayed.Replayed.{Replayed}
+use Rattle.swh_plan.specs.declared.planning.Planned.{Planned}
 use Rattle.swh_keeper.specs.Advance.{MayAdvance}
-use Rattle.swh_keeper.specs.Planned.{IsReplayOf, IsInFiles, IsPlanned}
+use Rattle.swh_plan.specs.Planned.{IsReplayOf, IsInFiles, IsPlanned}
 use Rattle.swh_keeper.specs.Keeping.{AreSettledFor, IsToAdd, WithOrWithout, IsKeeping, run_written, calls_for}
 use Rattle.swh_segment.specs.Events as segment
 use Rattle.swh_model.specs.Coding.{coded_record}

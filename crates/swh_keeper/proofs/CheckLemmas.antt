@@ -28,7 +28,7 @@ use Rattle.swh_model.specs.Certificate.{AreClosed}
 use Rattle.swh_model.specs.Grows.{IsWithin}
 use Rattle.swh_model.proofs.Maps.{within-added}
 use Rattle.swh_model.proofs.Walks.{reaches-next, closed-within}
-use Rattle.swh_keeper.specs.Judged.{IsSnapshotRefusal, SuitsStatus, MayBeMarked}
+use Rattle.swh_plan.specs.Judged.{IsSnapshotRefusal, SuitsStatus, MayBeMarked}
 use Rattle.swh_keeper.specs.Checked.{archive_of, AreAlikeEntries, IsRemade, CannotBeMade, AreRemade, CannotAllBeMade, AreAdded, MayNotBeAdded, Happens, MayNotHappen}
 
 pub cons_same : {X : Type 0} (x y : X) (xs ys : List X) → x ∷ xs ≡ y ∷ ys → (x ≡ y) × (xs ≡ ys)

@@ -12,10 +12,10 @@ use Rattle.swh_model.specs.Coding.{magic, packed_objects, event_byte, payload_of
 use Rattle.swh_model.specs.Limits.{store_length, stored_length, records_length, payload_length, ledger_length}
 use Rattle.swh_model.specs.Archive.{Archive, empty_archive}
 use Rattle.swh_model.specs.Step.{May, MayAll, after, after_all, replay}
-use Rattle.swh_keeper.specs.Planned.{IsReplayOf}
+use Rattle.swh_plan.specs.Planned.{IsReplayOf}
 use Rattle.swh_keeper.specs.Advance.{archive_of, Advances}
 use Rattle.swh_model.specs.Stands.{StandsFor}
-use Rattle.swh_keeper.specs.declared.replayed.Replayed.{Replayed}
+use Rattle.swh_plan.specs.declared.replayed.Replayed.{Replayed}
 use Rattle.swh_keeper.specs.Keeping.{run_written, written, all_written, AreSettledFor, IsKeeping, IsToAdd, WithOrWithout}
 use Rattle.swh_keeper.specs.Kept.{AreStanding, IsKept}
 

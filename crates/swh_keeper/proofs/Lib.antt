@@ -1,11 +1,3 @@
-pub mod MapLemmas
-pub mod VisitLemmas
-pub mod Results
-pub mod WalkLemmas
-pub mod BatchLemmas
-pub mod VerdictLemmas
-pub mod EncodeLemmas
-pub mod PlanLemmas
 pub mod CheckLemmas
 pub mod KeptLemmas
 pub mod ApplyLemmas

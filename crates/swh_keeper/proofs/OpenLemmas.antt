@@ -13,11 +13,11 @@ use Rattle.swh_model.specs.Coding.{magic, packed_objects, coded_entry, coded_run
 use Rattle.swh_model.specs.Limits.{records_length}
 use Rattle.swh_model.specs.Stands.{StandsFor, without_children, bare_kind}
 use Rattle.swh_model.specs.Step.{IsHistory}
-use Rattle.swh_keeper.specs.declared.replayed.Replayed.{Replayed}
-use Rattle.swh_keeper.specs.Planned.{IsReplayOf, IsInFiles}
+use Rattle.swh_plan.specs.declared.replayed.Replayed.{Replayed}
+use Rattle.swh_plan.specs.Planned.{IsReplayOf, IsInFiles}
 use Rattle.swh_keeper.specs.Keeping.{all_written, AreSettledFor, IsKeeping}
 use Rattle.swh_keeper.proofs.KeptLemmas.{records-written, runs-written, runs-length}
-use Rattle.swh_keeper.proofs.EncodeLemmas.{record-length}
+use Rattle.swh_plan.proofs.EncodeLemmas.{record-length}
 
 -- the records of a history are as long as the limits say
 pub records-length : (at : ℕ) (h : List Event) → length (coded_records at h) ≡ records_length h

@@ -6,7 +6,7 @@ use Rattle.swh_model.specs.declared.event.EventKind.{EventKind}
 use Rattle.swh_model.specs.declared.event.EventKind.TheVariants.{Batch, Open, Mark}
 use Rattle.swh_model.specs.Archive.{Archive, visits_of}
 use Rattle.swh_model.specs.Step.{HasItsChildren, AreNew, after}
-use Rattle.swh_keeper.specs.declared.replayed.Replayed.{Replayed}
+use Rattle.swh_plan.specs.declared.replayed.Replayed.{Replayed}
 
 -- the archive that is in memory
 abbrev pub archive_of : Replayed → Archive

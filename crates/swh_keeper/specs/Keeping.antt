@@ -13,8 +13,8 @@ use Rattle.swh_model.specs.Coding.{coded_run, coded_record, packed_objects, even
 use Rattle.swh_model.specs.Limits.{store_length, records_length}
 use Rattle.swh_model.specs.Stands.{StandsFor}
 use Rattle.swh_model.specs.Step.{IsHistory}
-use Rattle.swh_keeper.specs.declared.replayed.Replayed.{Replayed}
-use Rattle.swh_keeper.specs.Planned.{IsReplayOf, IsInFiles}
+use Rattle.swh_plan.specs.declared.replayed.Replayed.{Replayed}
+use Rattle.swh_plan.specs.Planned.{IsReplayOf, IsInFiles}
 use Rattle.swh_keeper.specs.Kept.{MayHoldOneMore}
 
 -- the run that an event adds to the store, if it adds one

@@ -1,8 +1,3 @@
-pub mod Maps
-pub mod Walk
-pub mod Batches
-pub mod Judged
-pub mod Planned
 pub mod Checked
 pub mod Advance
 pub mod Refusal

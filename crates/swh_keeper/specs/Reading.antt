@@ -18,7 +18,7 @@ use Rattle.swh_model.specs.Step.{May_kind, IsHistory, after_kind}
 use Rattle.swh_keeper.specs.declared.checking.Checked.{Checked}
 use Rattle.swh_keeper.specs.declared.reading.KindRead.{KindRead}
 use Rattle.swh_keeper.specs.Checked.{archive_of, Happens}
-use Rattle.swh_keeper.specs.Planned.{IsReplayOf}
+use Rattle.swh_plan.specs.Planned.{IsReplayOf}
 
 -- A run that begins at this place may be that of a batch within its limits, in a store of this length.
 pub record MayBeRun (p : BatchParts) (at size : ℕ) : Type 0 where

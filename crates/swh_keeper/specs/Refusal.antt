@@ -2,8 +2,8 @@
 use Rattle.std.specs.Prelude.{false}
 use Rattle.swh_model.specs.declared.event.No.{No}
 use Rattle.swh_model.specs.declared.event.No.TheVariants.{Limit, NoVisit, NotYours, Ended, NoSnapshot, NotClosed, Collision}
-use Rattle.swh_keeper.specs.declared.planning.PlanFault.{PlanFault}
-use Rattle.swh_keeper.specs.declared.planning.PlanFault.TheVariants.{Refused, Memory}
+use Rattle.swh_plan.specs.declared.planning.PlanFault.{PlanFault}
+use Rattle.swh_plan.specs.declared.planning.PlanFault.TheVariants.{Refused, Memory}
 use Rattle.swh_keeper.specs.declared.fault.Refusal as refused
 use Rattle.swh_keeper.specs.declared.fault.Refusal.TheVariants as refusal
 

@@ -1,39 +1,21 @@
 //! A planned event: carried out in memory, then on both disks.
-ghost use Rattle.std.specs.Prelude.{
-  ◌≡◌,
-  ◌+◌,
-  ◌≤◌,
-  ◌<◌,
-  ◌^◌,
-  ◌++◌,
-  ◌∷◌,
-  [],
-  ℕ,
-  List,
-  length,
-  OnOk,
-  OnErr,
-  IfOk,
-  IfErr,
-  IsErrOf,
-};
+ghost use Rattle.std.specs.Prelude.{◌≡◌, ◌+◌, ◌≤◌, ◌++◌, ◌∷◌, [], OnOk, OnErr, IfOk, IsErrOf};
 ghost use Rattle.swh_outside.specs.Files.{EachImages, FilesBreaks, files_of, files_done};
 ghost use Rattle.swh_segment.specs.Events.{event_calls};
 ghost use Rattle.swh_segment.specs.Makes.{ADiskFailed};
 ghost use Rattle.swh_model.specs.declared.event.Event.{Event};
 ghost use Rattle.swh_keeper.specs.Advance.{MayAdvance};
-ghost use Rattle.swh_keeper.specs.Planned.{IsReplayOf, IsInFiles};
+ghost use Rattle.swh_plan.specs.Planned.{IsReplayOf, IsInFiles};
 ghost use Rattle.swh_keeper.specs.Keeping.{AreSettledFor, IsToAdd, WithOrWithout, FilesHaveRoom, run_written};
 ghost use Rattle.swh_keeper.specs.declared.adding.AddFault.TheVariants.{Disk as DiskFailed, Memory as OutOfMemory};
 
 use crate::advance::advance;
-use crate::planning::Planned;
-use crate::replayed::Replayed;
 use crate::writing::write_event;
 use std::alloc::{AllocError, Global};
 use swh_base::Memory;
 use swh_model::{Event, Outcome};
 use swh_outside::Disk;
+use swh_plan::{Planned, Replayed};
 
 #[derive(Clone, Copy, Debug, PartialEq, Eq)]
 pub enum AddFault {

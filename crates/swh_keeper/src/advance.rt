@@ -1,11 +1,11 @@
 //! What an event changes in memory.
-ghost use Rattle.std.specs.Prelude.{◌≡◌, OnOk, OnErr};
+ghost use Rattle.std.specs.Prelude.{OnOk, OnErr};
 ghost use Rattle.swh_keeper.specs.Advance.{MayAdvance, Advances, IsSameReplayed};
 
-use crate::replayed::Replayed;
 use std::alloc::Global;
 use swh_base::Memory;
 use swh_model::{Event, EventKind};
+use swh_plan::Replayed;
 
 /// Carries an event out on the maps. The files' ends stay as they are.
 pub fn advance(alloc: Global, replayed: &mut Replayed, event: &Event) -> Result<(), Memory>

@@ -5,18 +5,15 @@ ghost use Rattle.swh_model.specs.Archive.{visits_of};
 ghost use Rattle.swh_model.specs.Certificate.{AreClosed};
 ghost use Rattle.swh_model.specs.Step.{HasItsChildren, AreNew, FitsStatus, MayMark, added};
 ghost use Rattle.swh_model.specs.Judge.{StatusAllows};
-ghost use Rattle.swh_keeper.specs.Judged.{MayBeMarked};
+ghost use Rattle.swh_plan.specs.Judged.{MayBeMarked};
 ghost use Rattle.swh_keeper.specs.Checked.{archive_of, AreAdded, MayNotBeAdded, MarksVisit, Happens, MayNotHappen};
 
-use crate::bodies::HeldBodies;
-use crate::judging::{snapshot_refusal, visit_refusal};
-use crate::listing::Listing;
 use crate::remaking::remake_all;
-use crate::replayed::Replayed;
-use crate::visits::OriginVisits;
 use std::alloc::Global;
 use swh_base::{Entry, Items, Memory, Namer, Status, Url};
+use swh_held::{HeldBodies, Listing, OriginVisits};
 use swh_model::{Event, EventKind, Visit, are_within_limits};
+use swh_plan::{Replayed, snapshot_refusal, visit_refusal};
 
 /// A history, its replay, and names that are known to be closed.
 #[derive(Drop)]

@@ -1,7 +1,7 @@
 //! Why a plan is refused.
-use crate::planning::PlanFault;
 use swh_base::{Name, Status, Which};
 use swh_model::No;
+use swh_plan::PlanFault;
 
 /// Why a plan is not carried out, in the order in which the causes are looked for.
 #[derive(Clone, Copy, Debug)]

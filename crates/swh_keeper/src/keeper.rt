@@ -1,18 +1,16 @@
 //! The keeper: judges plans, and adds their events to the two files.
 use crate::adding::{AddFault, add_event};
-use crate::bodies::HeldBodies;
 use crate::checking::Checked;
 use crate::fault::{Refusal, refusal_for};
 use crate::opening::{OpenFault, OpenWhy, why_not_made};
-use crate::plans::plan;
 use crate::reading::read_archive;
-use crate::replayed::Replayed;
-use crate::visits::OriginVisits;
 use std::alloc::Global;
 use std::marker::Model;
 use swh_base::{Entry, Name, Namer};
+use swh_held::{HeldBodies, OriginVisits};
 use swh_model::{Event, Outcome, Visit, Wish};
 use swh_outside::Disk;
+use swh_plan::{Replayed, plan};
 use swh_segment::{made_is_empty, make as make_archive};
 
 /// Keeps an archive. Contracts see its disks, its history, and whether a disk failed.
@@ -79,7 +77,7 @@ impl<N: Namer, D: Disk> Keeper<N, D> {
     ghost use Rattle.swh_model.specs.Archive.{body_of, visits_of};
     ghost use Rattle.swh_model.specs.Step.{replay};
     ghost use Rattle.swh_keeper.specs.Advance.{archive_of};
-    ghost use Rattle.swh_keeper.specs.Maps.{IsAll, IsEntryOf};
+    ghost use Rattle.swh_held.specs.Maps.{IsAll, IsEntryOf};
     ghost use Rattle.swh_keeper.specs.Kept.{IsKept, Applies, RefusesPlan};
     ghost use Rattle.swh_keeper.specs.Keeping.{IsCarriedOut, IsBrokenOff};
 

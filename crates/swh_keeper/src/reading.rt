@@ -28,7 +28,7 @@ ghost use Rattle.swh_model.specs.Decoding.{IsFit};
 ghost use Rattle.swh_model.specs.Stands.{StandsFor};
 ghost use Rattle.swh_model.specs.Step.{IsHistory};
 ghost use Rattle.swh_keeper.specs.Checked.{archive_of, MayNotHappen};
-ghost use Rattle.swh_keeper.specs.Planned.{IsReplayOf, IsInFiles};
+ghost use Rattle.swh_plan.specs.Planned.{IsReplayOf, IsInFiles};
 ghost use Rattle.swh_keeper.specs.Reading.{
   MayBeRun,
   IsBatchRead,
@@ -54,18 +54,16 @@ ghost use Rattle.swh_keeper.specs.Opening.{
 };
 ghost use Rattle.swh_keeper.specs.declared.opening.OpenWhy.TheVariants.{NotMade, Damaged, DiskFault};
 
-use crate::bodies::HeldBodies;
 use crate::checking::{Checked, check_kind};
-use crate::listing::Listing;
 use crate::opening::OpenWhy;
-use crate::replayed::Replayed;
-use crate::visits::OriginVisits;
 use std::alloc::Global;
 use swh_base::{Entry, FILE_LIMIT, Items, Memory, Namer, OBJECTS_LIMIT, RUN_LIMIT};
+use swh_held::{HeldBodies, Listing, OriginVisits};
 use swh_model::{
     BatchParts, Event, EventKind, Next, Record, Told, next_record, read_run, split_magic,
 };
 use swh_outside::Disk;
+use swh_plan::Replayed;
 use swh_segment::{fill, read_file, settle};
 
 /// What happened, without the children of its entries, and the place in the store after its run.

@@ -1,5 +1,5 @@
 //! An event on both disks.
-ghost use Rattle.std.specs.Prelude.{◌≡◌, ◌+◌, ◌≤◌, ◌<◌, ◌^◌, ◌++◌, ◌∷◌, [], ℕ, List, length, OnOk, OnErr};
+ghost use Rattle.std.specs.Prelude.{◌≡◌, ◌+◌, ◌≤◌, ◌<◌, ◌^◌, ◌++◌, ◌∷◌, [], length, OnOk, OnErr};
 ghost use Rattle.swh_outside.specs.Files.{EachImages, FilesRuns, files_of};
 ghost use Rattle.swh_segment.specs.Events.{event_calls};
 ghost use Rattle.swh_segment.specs.Makes.{ADiskFailed};
@@ -8,9 +8,9 @@ ghost use Rattle.swh_model.specs.Coding.{packed_objects};
 ghost use Rattle.swh_model.specs.declared.event.Event.{Event};
 ghost use Rattle.swh_keeper.specs.Keeping.{AreSettledFor, IsToAdd, WithOrWithout, run_written};
 
-use crate::replayed::Replayed;
 use swh_model::{Event, EventKind};
 use swh_outside::{Disk, Failed};
+use swh_plan::Replayed;
 use swh_segment::{Run, append_event};
 
 /// What the event adds to the store.

@@ -1,7 +1,7 @@
 // The entries of a batch that was not sent yet.
 use std::alloc::Global;
 use swh_base::{BYTES_LIMIT, Entry, Memory, Name, OBJECTS_LIMIT};
-use swh_keeper::HeldBodies;
+use swh_held::HeldBodies;
 
 /// Entries that wait, the same by their names, and how many bytes they have.
 #[derive(Drop)]

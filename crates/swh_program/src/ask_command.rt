@@ -15,9 +15,9 @@ use std::alloc::Global;
 use std::convert::AsStr;
 use swh_api::{Look, reply};
 use swh_base::{Bytes, Memory, Namer, Reply};
-use swh_keeper::Replayed;
 use swh_model::Visit;
 use swh_outside::Depot;
+use swh_plan::Replayed;
 
 /// What a keeper shows: the replay of its history.
 #[derive(Drop)]

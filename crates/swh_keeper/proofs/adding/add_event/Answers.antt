@@ -1,6 +1,6 @@
 use Rattle.std.proofs.Common.{◌+◌, length, ap, ◌∙◌, arith}
 use Rattle.swh_keeper.proofs.KeptLemmas.{replay_of-push}
-use Rattle.swh_keeper.proofs.EncodeLemmas.{record-length}
+use Rattle.swh_plan.proofs.EncodeLemmas.{record-length}
 use Rattle.swh_keeper.proofs.adding.add_event.Goals as goal
 
 pub returns-clause-replay : goal.returns-clause-replay

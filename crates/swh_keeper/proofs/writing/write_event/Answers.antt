@@ -3,7 +3,7 @@ use Rattle.swh_outside.specs.Files.{FilesRuns, files_of}
 use Rattle.swh_segment.specs.Runs as runs
 use Rattle.swh_segment.specs.Events as segment
 use Rattle.swh_keeper.specs.Keeping.{written, all_written}
-use Rattle.swh_keeper.proofs.Results.{on_ok, on_err}
+use Rattle.swh_held.proofs.Results.{on_ok, on_err}
 use Rattle.swh_keeper.proofs.KeptLemmas.{ready, settled-push, images_left, run-written}
 use Rattle.swh_keeper.proofs.writing.write_event.Goals as goal
 

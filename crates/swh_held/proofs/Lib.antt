@@ -1,0 +1,4 @@
+pub mod MapLemmas
+pub mod VisitLemmas
+pub mod Results
+pub mod WalkLemmas

@@ -1,0 +1,4 @@
+pub mod BatchLemmas
+pub mod VerdictLemmas
+pub mod EncodeLemmas
+pub mod PlanLemmas

@@ -1,0 +1,25 @@
+use Rattle.std.proofs.Common.{List, sym, ap, ◌∙◌, refl}
+use Rattle.std.specs.FinMap as finite
+use Rattle.swh_base.specs.declared.entry.Entry.{Entry}
+use Rattle.swh_model.specs.Step.{added}
+use Rattle.swh_plan.proofs.BatchLemmas.{either_is, map-kept, not_true, fresh-kept, fresh-passed}
+use Rattle.swh_plan.proofs.fresh.split_fresh.Goals as goal
+
+pub loop-entry-preserved-then-not-is_new : goal.loop-entry-preserved-then-not-is_new
+loop-entry-preserved-then-not-is_new c =
+    let split = c.loop-entry.split in
+    record {
+      entries_are = fresh-passed c.args.bodies.now c.args.entries.now split.fresh.items c.loop-entry.entry-index c.entry-item.result c.loop-entry-test.true c.entry-item.is c.loop-entry.invariant.entries_are
+          (λ none. not_true (c.if-not-is_new.ensures.1 (either_is c.args.bodies.now split.added split.fresh.items c.entry-item.result.name c.loop-entry.invariant.map_is ∙ none)));
+      map_is = c.loop-entry.invariant.map_is;
+    }
+
+pub loop-entry-preserved : goal.loop-entry-preserved
+loop-entry-preserved c =
+    let split = c.loop-entry.split in
+    let none = sym (either_is c.args.bodies.now split.added split.fresh.items c.entry-item.result.name c.loop-entry.invariant.map_is) ∙ c.if-not-is_new.ensures.0 refl in
+    record {
+      entries_are = c.in_ok-keep.ensures.fresh ∙ fresh-kept c.args.bodies.now c.args.entries.now split.fresh.items c.loop-entry.entry-index c.entry-item.result c.loop-entry-test.true c.entry-item.is c.loop-entry.invariant.entries_are none;
+      map_is = c.in_ok-keep.ensures.added ∙ map-kept split.added split.fresh.items c.entry-item.result c.loop-entry.invariant.map_is
+          ∙ ap (λ (es : List Entry). added finite.empty es) (sym c.in_ok-keep.ensures.fresh);
+    }

@@ -1,0 +1,232 @@
+//! Plans, one function a kind.
+ghost use Rattle.std.specs.Prelude.{◌≡◌, ◌+◌, ◌<◌, ◌^◌, [], List, length, IfOk, IfErr, IfSome, IfNone};
+ghost use Rattle.std.specs.List.{AllByRecursion};
+ghost use Rattle.swh_model.specs.declared.event.Event.{Event};
+ghost use Rattle.swh_model.specs.declared.event.EventKind.TheVariants.{Batch, Open, Mark};
+ghost use Rattle.swh_model.specs.Archive.{visits_of};
+ghost use Rattle.swh_model.specs.Coding.{packed_objects, IsCodable};
+ghost use Rattle.swh_model.specs.Step.{HasItsChildren};
+ghost use Rattle.swh_model.specs.Judge.{StatusAllows, FilePasses};
+ghost use Rattle.swh_plan.specs.Judged.{NonePasses, IsVisitRefusal, MayBeMarked};
+ghost use Rattle.swh_plan.specs.Planned.{
+  IsReplayOf,
+  IsInFiles,
+  IsPlan,
+  IsPlanned,
+  IsRefusedPlan,
+  EncodesEvent,
+  PassesFileEnd,
+};
+
+use crate::fresh::{Split, find_collision, split_fresh};
+use crate::judging::{limit_of_batch, limit_of_files, snapshot_refusal, visit_refusal};
+use crate::planning::{PlanFault, Planned};
+use crate::replayed::Replayed;
+use std::alloc::Global;
+use swh_base::{Entry, Items, Status, Url, VisitKind};
+use swh_held::{Listing, OriginVisits};
+use swh_model::{
+    Event, EventKind, No, Outcome, Wish, entries_are_codable, origin_is_codable, record_of_event,
+    run_of_entries, snapshot_is_codable,
+};
+
+fn number_of_visits(visits: &OriginVisits, origin: &Url) -> u64
+    ensures value { result ≡ length (visits_of visits.now origin.now) }
+    ensures small { result < 2 ^ 63 }
+{
+    match visits.get(origin.as_str().as_bytes()) {
+        Some(visits) => visits.len() as u64,
+        None => 0,
+    }
+}
+
+fn mark_visit_refusal(visits: &OriginVisits, origin: &Url, by: u32, visit: u64) -> Option<No>
+    ensures some { IfSome result (IsVisitRefusal (visits_of visits.now origin.now) by visit) }
+    ensures none { IfNone result (MayBeMarked (visits_of visits.now origin.now) by visit) }
+{
+    match visits.get(origin.as_str().as_bytes()) {
+        Some(visits) => visit_refusal(visits, by, visit),
+        None => visit_refusal(&[], by, visit),
+    }
+}
+
+/// The bytes of an event for the ledger, or the file that it would make too long.
+fn encode(
+    alloc: Global,
+    replayed: &Replayed,
+    event: &Event,
+    run: &[u8],
+) -> Result<Vec<u8>, PlanFault>
+    requires in_files { IsInFiles replayed.now }
+    requires run { run.now ≡ packed_objects event.now.what }
+    requires codable { IsCodable replayed.now.store_end event.now }
+    ensures ok { (h : List Event) → IsReplayOf replayed.now h
+        → IfOk result (λ bytes. NonePasses (FilePasses h event.now.what)) }
+    ensures bytes { IfOk result (EncodesEvent replayed.now event.now run.now) }
+    ensures err { (h : List Event) → IsReplayOf replayed.now h → IfErr result (PassesFileEnd h event.now.what) }
+{
+    let run_length = run.len() as u64;
+    let at = replayed.store_end;
+    let bytes = record_of_event(alloc, at, at + run_length, event)?;
+    let length = bytes.as_slice().len() as u64;
+    match limit_of_files(at, run_length, replayed.ledger_end, length) {
+        Some((which, number)) => Err(PlanFault::Refused(No::Limit { which, number })),
+        None => Ok(bytes),
+    }
+}
+
+/// Opens a visit of an origin.
+pub fn plan_open(
+    alloc: Global,
+    replayed: &Replayed,
+    number: u64,
+    by: u32,
+    origin: Url,
+    kind: VisitKind,
+    date: u64,
+) -> Result<Planned, PlanFault>
+    requires { IsInFiles replayed.now }
+    ensures ok { (h : List Event) → IsReplayOf replayed.now h → number ≡ length h + 1
+        → IfOk result (IsPlanned h by (Open origin kind date) replayed.now) }
+    ensures err { (h : List Event) → IsReplayOf replayed.now h
+        → IfErr result (IsRefusedPlan h by (Open origin kind date)) }
+{
+    let have = number_of_visits(&replayed.visits, &origin);
+    origin_is_codable(&origin);
+    let event = Event {
+        by,
+        what: EventKind::Open { origin, kind, date },
+    };
+    let bytes = encode(alloc, replayed, &event, &[])?;
+    Ok(Planned {
+        event,
+        outcome: Outcome::Opened {
+            event: number,
+            visit: have + 1,
+        },
+        run: Vec::new(alloc),
+        bytes,
+    })
+}
+
+/// Adds what is new of a batch.
+pub fn plan_batch(
+    alloc: Global,
+    replayed: &Replayed,
+    number: u64,
+    by: u32,
+    entries: &[Entry],
+) -> Result<Planned, PlanFault>
+    requires in_files { IsInFiles replayed.now }
+    requires good { AllByRecursion HasItsChildren entries.now }
+    ensures ok { (h : List Event) → IsReplayOf replayed.now h → number ≡ length h + 1
+        → IfOk result (IsPlanned h by (Batch entries.now) replayed.now) }
+    ensures err { (h : List Event) → IsReplayOf replayed.now h → IfErr result (IsRefusedPlan h by (Batch entries.now)) }
+{
+    if let Some((which, number)) = limit_of_batch(entries) {
+        return Err(PlanFault::Refused(No::Limit { which, number }));
+    }
+    let split = split_fresh(alloc, &replayed.bodies, entries)?;
+    let collision = find_collision(&replayed.bodies, &split, entries);
+    let Split { fresh, .. } = split;
+    entries_are_codable(&fresh);
+    let new = fresh.as_slice().len() as u32;
+    let run = run_of_entries(alloc, &fresh)?;
+    let event = Event {
+        by,
+        what: EventKind::Batch(Items::from_vec(fresh)),
+    };
+    let bytes = encode(alloc, replayed, &event, &run)?;
+    if let Some(name) = collision {
+        return Err(PlanFault::Refused(No::Collision { name }));
+    }
+    Ok(Planned {
+        event,
+        outcome: Outcome::Added { event: number, new },
+        run,
+        bytes,
+    })
+}
+
+/// Marks a visit. What is reached from the snapshot is walked where nothing else is against the plan.
+pub fn plan_mark(
+    alloc: Global,
+    replayed: &Replayed,
+    number: u64,
+    by: u32,
+    origin: Url,
+    visit: u64,
+    mark: (Status, Option<[u8; 20]>),
+) -> Result<Planned, PlanFault>
+    requires in_files { IsInFiles replayed.now }
+    requires how { StatusAllows mark.0 mark.1 }
+    ensures ok { (h : List Event) → IsReplayOf replayed.now h → number ≡ length h + 1
+        → IfOk result (IsPlanned h by (Mark origin visit mark.0 mark.1) replayed.now) }
+    ensures err { (h : List Event) → IsReplayOf replayed.now h
+        → IfErr result (IsRefusedPlan h by (Mark origin visit mark.0 mark.1)) }
+{
+    let (status, snapshot) = mark;
+    let refusal = mark_visit_refusal(&replayed.visits, &origin, by, visit);
+    origin_is_codable(&origin);
+    snapshot_is_codable(&snapshot);
+    let event = Event {
+        by,
+        what: EventKind::Mark {
+            origin,
+            visit,
+            status,
+            snapshot,
+        },
+    };
+    let bytes = encode(alloc, replayed, &event, &[])?;
+    if let Some(cause) = refusal {
+        return Err(PlanFault::Refused(cause));
+    }
+    let mut closed = Listing::new(alloc);
+    let no_snapshot = snapshot_refusal(&replayed.bodies, &mut closed, status, &snapshot)?;
+    if let Some(cause) = no_snapshot {
+        return Err(PlanFault::Refused(cause));
+    }
+    Ok(Planned {
+        event,
+        outcome: Outcome::Marked { event: number },
+        run: Vec::new(alloc),
+        bytes,
+    })
+}
+
+/// The event of a plan with its bytes, or the first cause against the plan.
+pub fn plan(
+    alloc: Global,
+    replayed: &Replayed,
+    number: u64,
+    by: u32,
+    wish: Wish,
+) -> Result<Planned, PlanFault>
+    requires in_files { IsInFiles replayed.now }
+    requires plan { IsPlan wish }
+    ensures ok { (h : List Event) → IsReplayOf replayed.now h → number ≡ length h + 1
+        → IfOk result (IsPlanned h by wish replayed.now) }
+    ensures err { (h : List Event) → IsReplayOf replayed.now h → IfErr result (IsRefusedPlan h by wish) }
+{
+    match wish {
+        EventKind::Batch(entries) => { plan_batch(alloc, replayed, number, by, entries.as_slice()) }
+        EventKind::Open { origin, kind, date } => {
+            plan_open(alloc, replayed, number, by, origin, kind, date)
+        }
+        EventKind::Mark {
+            origin,
+            visit,
+            status,
+            snapshot,
+        } => plan_mark(
+            alloc,
+            replayed,
+            number,
+            by,
+            origin,
+            visit,
+            (status, snapshot),
+        ),
+    }
+}
