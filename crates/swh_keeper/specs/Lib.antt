@@ -3,5 +3,7 @@ pub mod Advance
 pub mod Refusal
 pub mod Kept
 pub mod Keeping
+pub mod Adding
+pub mod Counts
 pub mod Reading
 pub mod Opening

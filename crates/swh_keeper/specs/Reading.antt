@@ -18,7 +18,7 @@ use Rattle.swh_model.specs.Step.{May_kind, IsHistory, after_kind}
 use Rattle.swh_keeper.specs.declared.checking.Checked.{Checked}
 use Rattle.swh_keeper.specs.declared.reading.KindRead.{KindRead}
 use Rattle.swh_keeper.specs.Checked.{archive_of, Happens}
-use Rattle.swh_plan.specs.Planned.{IsReplayOf}
+use Rattle.swh_plan.specs.Planned.{IsReplayOf, IsInFiles}
 
 -- A run that begins at this place may be that of a batch within its limits, in a store of this length.
 pub record MayBeRun (p : BatchParts) (at size : ℕ) : Type 0 where
@@ -98,6 +98,12 @@ module _ (id_of : Kind → List ℕ → List ℕ) where
     pub records : ledger ≡ magic ++ (coded_records 0 c.history.items ++ drop c.replayed.ledger_end ledger)
     pub inside : c.replayed.ledger_end ≤ length ledger
     pub closed : AreClosed c.replayed.bodies c.closed
+
+  -- The history may happen, and the rest is its replay, with both ends within the files' limits.
+  pub record IsReadWhole (c : Checked) : Type 0 where
+    pub history : IsHistory id_of c.history.items
+    pub replay : IsReplayOf c.replayed c.history.items
+    pub in_files : IsInFiles c.replayed
 
   -- The files stand for no history.
   abbrev pub IsNoArchive : List ℕ → List ℕ → Type 0

@@ -1,11 +1,13 @@
 //! A planned event: carried out in memory, then on both disks.
-ghost use Rattle.std.specs.Prelude.{◌≡◌, ◌+◌, ◌≤◌, ◌++◌, ◌∷◌, [], OnOk, OnErr, IfOk, IsErrOf};
+ghost use Rattle.std.specs.Prelude.{◌≡◌, ◌++◌, ◌∷◌, [], OnOk, OnErr, IfOk, IsErrOf};
 ghost use Rattle.swh_outside.specs.Files.{EachImages, FilesBreaks, files_of, files_done};
 ghost use Rattle.swh_segment.specs.Events.{event_calls};
 ghost use Rattle.swh_segment.specs.Makes.{ADiskFailed};
 ghost use Rattle.swh_model.specs.declared.event.Event.{Event};
 ghost use Rattle.swh_keeper.specs.Advance.{MayAdvance};
-ghost use Rattle.swh_plan.specs.Planned.{IsReplayOf, IsInFiles};
+ghost use Rattle.swh_plan.specs.Planned.{IsReplayOf};
+ghost use Rattle.swh_keeper.specs.Adding.{IsAdded, IsNotAdded};
+ghost use Rattle.swh_keeper.specs.Counts.{AreLater, AreQuiet};
 ghost use Rattle.swh_keeper.specs.Keeping.{AreSettledFor, IsToAdd, WithOrWithout, FilesHaveRoom, run_written};
 ghost use Rattle.swh_keeper.specs.declared.adding.AddFault.TheVariants.{Disk as DiskFailed, Memory as OutOfMemory};
 
@@ -56,9 +58,7 @@ pub fn add_event<D: Disk>(
         (D.file store.old) history.old.items replayed.old.store_end replayed.old.ledger_end }
 
     ensures outcome { IfOk result (λ outcome. outcome ≡ planned.outcome) }
-    ensures history { OnOk result (history.new.items ≡ history.old.items ++ planned.event ∷ []) }
-    ensures replay { OnOk result (IsReplayOf replayed.new (history.old.items ++ planned.event ∷ [])) }
-    ensures in_files { OnOk result (IsInFiles replayed.new) }
+    ensures added { OnOk result (IsAdded history.old.items planned.event history.new.items replayed.new) }
     ensures settled { D.tells → OnOk result (AreSettledFor (D.file ledger.new) (D.file store.new)
         (history.old.items ++ planned.event ∷ []) replayed.new.store_end replayed.new.ledger_end) }
 
@@ -72,22 +72,19 @@ pub fn add_event<D: Disk>(
         (run_written planned.event.what) replayed.old.ledger_end planned.bytes.items)
         (files_of (D.file ledger.old) (D.file store.old)) (files_of (D.file ledger.new) (D.file store.new)) }
 
-    ensures same_history { OnErr result (history.new.items ≡ history.old.items) }
-    ensures same_store_end { OnErr result (replayed.new.store_end ≡ replayed.old.store_end) }
-    ensures same_ledger_end { OnErr result (replayed.new.ledger_end ≡ replayed.old.ledger_end) }
+    ensures not_added { OnErr result (IsNotAdded history.old.items history.new.items replayed.old replayed.new) }
     ensures same_replay { IsErrOf result OutOfMemory → replayed.new ≡ replayed.old }
     ensures same_store { IsErrOf result OutOfMemory → store.new ≡ store.old }
     ensures same_ledger { IsErrOf result OutOfMemory → ledger.new ≡ ledger.old }
     ensures left { D.tells → IsErrOf result DiskFailed → EachImages (files_of (D.file ledger.new) (D.file store.new))
         (WithOrWithout history.old.items planned.event) }
-    ensures store_later { D.faults store.old ≤ D.faults store.new }
-    ensures ledger_later { D.faults ledger.old ≤ D.faults ledger.new }
+    ensures later { AreLater (D.faults store.old) (D.faults store.new) (D.faults ledger.old) (D.faults ledger.new) }
     ensures cause { IsErrOf result DiskFailed → ADiskFailed (D.faults store.old) (D.faults store.new)
         (D.faults ledger.old) (D.faults ledger.new) }
 
     // Where no disk failed, both counts are as they were.
-    ensures store_quiet { OnOk result (D.faults store.new ≡ D.faults store.old) }
-    ensures ledger_quiet { OnOk result (D.faults ledger.new ≡ D.faults ledger.old) }
+    ensures quiet { OnOk result (AreQuiet (D.faults store.old) (D.faults store.new)
+        (D.faults ledger.old) (D.faults ledger.new)) }
 {
     let Planned {
         event,

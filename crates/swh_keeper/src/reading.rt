@@ -26,9 +26,8 @@ ghost use Rattle.swh_model.specs.Certificate.{AreClosed};
 ghost use Rattle.swh_model.specs.Coding.{coded_run, packed_objects};
 ghost use Rattle.swh_model.specs.Decoding.{IsFit};
 ghost use Rattle.swh_model.specs.Stands.{StandsFor};
-ghost use Rattle.swh_model.specs.Step.{IsHistory};
 ghost use Rattle.swh_keeper.specs.Checked.{archive_of, MayNotHappen};
-ghost use Rattle.swh_plan.specs.Planned.{IsReplayOf, IsInFiles};
+ghost use Rattle.swh_keeper.specs.Counts.{AreLater, AreQuiet};
 ghost use Rattle.swh_keeper.specs.Reading.{
   MayBeRun,
   IsBatchRead,
@@ -40,6 +39,7 @@ ghost use Rattle.swh_keeper.specs.Reading.{
   TakesRecord,
   NoneMayHappen,
   IsReadSoFar,
+  IsReadWhole,
   HasRuns,
   IsAtEnd,
   IsNoArchive,
@@ -330,9 +330,7 @@ fn read_store<N: Namer, D: Disk>(
     store: &mut D,
     ledger: &[u8],
 ) -> Result<Checked, OpenWhy>
-    ensures history { IfOk result (λ checked. IsHistory N.id_of checked.history.items) }
-    ensures replay { IfOk result (λ checked. IsReplayOf checked.replayed checked.history.items) }
-    ensures in_files { IfOk result (λ checked. IsInFiles checked.replayed) }
+    ensures whole { IfOk result (IsReadWhole N.id_of) }
     ensures stand { D.tells → IfOk result (λ checked. StandsFor ledger.now
         (D.file store.old).seen checked.history.items) }
     ensures made { OnOk result (IsMade ledger.now) }
@@ -363,9 +361,7 @@ pub fn read_archive<N: Namer, D: Disk>(
     store: &mut D,
     ledger: &mut D,
 ) -> Result<Checked, OpenWhy>
-    ensures history { IfOk result (λ checked. IsHistory N.id_of checked.history.items) }
-    ensures replay { IfOk result (λ checked. IsReplayOf checked.replayed checked.history.items) }
-    ensures in_files { IfOk result (λ checked. IsInFiles checked.replayed) }
+    ensures whole { IfOk result (IsReadWhole N.id_of) }
     ensures stand { D.tells → IfOk result (λ checked. StandsFor (D.file ledger.old).seen
         (D.file store.old).seen checked.history.items) }
     ensures made { D.tells → OnOk result (IsMade (D.file ledger.old).seen) }
@@ -377,16 +373,15 @@ pub fn read_archive<N: Namer, D: Disk>(
         (D.file store.old).seen }
     ensures left { D.tells → IfErr result (λ why. IsLeftFor why (files_of (D.file ledger.old) (D.file store.old))
         (files_of (D.file ledger.new) (D.file store.new))) }
-    ensures store_later { D.faults store.old ≤ D.faults store.new }
-    ensures ledger_later { D.faults ledger.old ≤ D.faults ledger.new }
+    ensures later { AreLater (D.faults store.old) (D.faults store.new) (D.faults ledger.old) (D.faults ledger.new) }
     ensures cause { IsErrOf result DiskFault → ADiskFailed (D.faults store.old) (D.faults store.new)
         (D.faults ledger.old) (D.faults ledger.new) }
 
     // Where no disk failed, both counts are as they were.
-    ensures store_quiet { OnOk result (D.faults store.new ≡ D.faults store.old) }
-    ensures ledger_quiet { OnOk result (D.faults ledger.new ≡ D.faults ledger.old) }
-    ensures store_quiet_fault { IfErr result (λ why. UnlessDiskFault why (D.faults store.new ≡ D.faults store.old)) }
-    ensures ledger_quiet_fault { IfErr result (λ why. UnlessDiskFault why (D.faults ledger.new ≡ D.faults ledger.old)) }
+    ensures quiet { OnOk result (AreQuiet (D.faults store.old) (D.faults store.new)
+        (D.faults ledger.old) (D.faults ledger.new)) }
+    ensures quiet_fault { IfErr result (λ why. UnlessDiskFault why (AreQuiet (D.faults store.old) (D.faults store.new)
+        (D.faults ledger.old) (D.faults ledger.new))) }
 {
     settle(store, ledger)?;
     let bytes = read_file(alloc, ledger)?;

@@ -25,7 +25,7 @@ invariant_of-self g c =
     let added = c.in-Ok-added.ensures in
     rw c.in_default.is
     (keeping-push g.N.Namer.id_of g.D.Disk.tells (g.D.Disk.file c.add_event-added.new.ledger) (g.D.Disk.file c.add_event-added.new.store) c.add_event-added.new.replayed k.history.items c.add_event-added.new.history.items
-    c.in-Ok.planned.event c.self.invariant.history may added.history added.replay added.in_files added.settled)
+    c.in-Ok.planned.event c.self.invariant.history may added.added.history added.added.replay added.added.in_files added.settled)
 
 pub invariant_of-self-in-Disk : goal.invariant_of-self-in-Disk
 invariant_of-self-in-Disk g c =
@@ -34,12 +34,10 @@ invariant_of-self-in-Disk g c =
     let planned = c.in-Ok.ensures.ok k.history.items is (ap (λ (l : List Event). length l + 1) c.as_slice.ensures.value) in
     let may = may_of_plan g.N.Namer.id_of k.history.items c.args.by c.args.wish c.in-Ok.planned.event c.in-Ok.planned.outcome c.requires planned.verdict in
     let failed = c.in-Err-added.is in
-    let e = rw failed at c.add_event-added.ensures.same_history in
-    let se = rw failed at c.add_event-added.ensures.same_store_end in
-    let le = rw failed at c.add_event-added.ensures.same_ledger_end in
+    let same = rw failed at c.add_event-added.ensures.not_added in
     let disk : c.add_event-added.result ≡ Err Disk = failed ∙ ap (λ (x : AddFault). Err x) c.in-Disk.is in
     keeping-doubt g.N.Namer.id_of g.D.Disk.tells (g.D.Disk.file c.add_event-added.new.ledger) (g.D.Disk.file c.add_event-added.new.store) k.replayed c.add_event-added.new.replayed k.history.items c.add_event-added.new.history.items
-    c.in-Ok.planned.event (length c.as_slice.result.now + 1) c.self.invariant.history may e c.self.invariant.in_files se le (λ told. c.add_event-added.ensures.left told disk)
+    c.in-Ok.planned.event (length c.as_slice.result.now + 1) c.self.invariant.history may same.history c.self.invariant.in_files same.store_end same.ledger_end (λ told. c.add_event-added.ensures.left told disk)
 
 pub returns-in-Disk-clause-broken : goal.returns-in-Disk-clause-broken
 returns-in-Disk-clause-broken g c told _ =

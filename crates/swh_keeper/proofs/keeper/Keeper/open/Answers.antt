@@ -8,7 +8,7 @@ pub invariant_of-result : goal.invariant_of-result
 invariant_of-result g c =
     let done = c.in-Ok.ensures in
     let checked = c.in-Ok.checked in
-    keeping_opened g.N.Namer.id_of g.D.Disk.tells (g.D.Disk.file c.read_archive.new.ledger) (g.D.Disk.file c.read_archive.new.store) checked.replayed checked.history.items done.history done.in_files done.replay
+    keeping_opened g.N.Namer.id_of g.D.Disk.tells (g.D.Disk.file c.read_archive.new.ledger) (g.D.Disk.file c.read_archive.new.store) checked.replayed checked.history.items done.whole.history done.whole.in_files done.whole.replay
     (λ told. ledger_rests (g.D.Disk.file c.args.ledger) (g.D.Disk.file c.args.store) _ (g.D.Disk.file c.read_archive.new.store) (done.calls told))
     (λ told. store_rests (g.D.Disk.file c.args.ledger) (g.D.Disk.file c.args.store) (g.D.Disk.file c.read_archive.new.ledger) _ (done.calls told))
     (λ told.
@@ -19,4 +19,4 @@ invariant_of-result g c =
 
 pub returns-in-Ok-clause-history : goal.returns-in-Ok-clause-history
 returns-in-Ok-clause-history g c told h stands is =
-    the_one g.N.Namer.id_of _ _ c.in-Ok.checked.history.items h (c.in-Ok.ensures.stand told) c.in-Ok.ensures.history stands is
+    the_one g.N.Namer.id_of _ _ c.in-Ok.checked.history.items h (c.in-Ok.ensures.stand told) c.in-Ok.ensures.whole.history stands is
