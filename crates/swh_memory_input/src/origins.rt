@@ -1,5 +1,5 @@
 // Origins in memory.
-ghost use Rattle.std.specs.Prelude.{◌≡◌, ◌≢◌, ◌<◌, ◌≤◌, [], false, List, ℕ, None, Some, length, IfOk, string_bytes};
+ghost use Rattle.std.specs.Prelude.{◌≡◌, ◌≢◌, ◌<◌, ◌≤◌, [], false, List, ℕ, None, Some, length, IfOk};
 ghost use Rattle.std.specs.List.{position_or_len};
 ghost use Rattle.swh_memory_input.specs.Outside.{is_for, input_at, made_at};
 ghost use Rattle.swh_memory_input.specs.Inputs.{
@@ -27,7 +27,8 @@ pub struct MemoryOrigins {
 }
 
 impl MemoryOrigins {
-    ghost use Rattle.swh_outside.specs.Faults.{one_more};
+    ghost use Rattle.swh_outside.specs.Faults.{Rose, one_more};
+    ghost use Rattle.swh_memory_failures.specs.Answers.{with_given_back};
     ghost use Rattle.swh_memory_input.specs.Outside.{
       origin_files,
       origin_inputs,
@@ -85,6 +86,28 @@ impl MemoryOrigins {
     {
         let _ = self.failures.refuse();
         self.counts.raise(path);
+    }
+
+    // Counts once, at its path, what is given back, where it has failed.
+    fn take_back(&mut self, faults: u64, path: &str)
+        ensures files { (p : List ℕ) → origin_files self.new p ≡ origin_files self.old p }
+        ensures inputs { origin_inputs self.new ≡ origin_inputs self.old }
+        ensures counted { origin_tally self.new ≡ with_given_back faults (origin_tally self.old) }
+        ensures later { origin_faults self.old ≤ origin_faults self.new }
+        ensures path_later { (p : List ℕ) → origin_path_faults self.old p ≤ origin_path_faults self.new p }
+        ensures cause { 0 < faults → Rose (origin_faults self.old) (origin_faults self.new) }
+        ensures path_counted { 0 < faults
+            → origin_path_faults self.new path.now ≡ one_more (origin_path_faults self.old path.now) }
+        ensures quiet { faults ≡ 0 → origin_faults self.new ≡ origin_faults self.old }
+        ensures path_quiet { faults ≡ 0
+            → (p : List ℕ) → origin_path_faults self.new p ≡ origin_path_faults self.old p }
+        ensures other_paths { (p : List ℕ) → p ≢ path.now → has_origin_place self.old p
+            → origin_path_faults self.new p ≡ origin_path_faults self.old p }
+        ensures places { (p : List ℕ) → has_origin_place self.old p → has_origin_place self.new p }
+    {
+        if faults > 0 {
+            self.refuse(path);
+        }
     }
 }
 
@@ -217,9 +240,7 @@ impl Origins for MemoryOrigins {
             → origin_path_faults self.new p ≡ origin_path_faults self.old p }
         ensures places { (p : List ℕ) → has_origin_place self.old p → has_origin_place self.new p }
     {
-        if source.faults() > 0 {
-            self.refuse(source.path());
-        }
+        self.take_back(source.faults(), source.path());
     }
 
     fn back_folder(&mut self, folder: MemoryFolder)
@@ -243,9 +264,7 @@ impl Origins for MemoryOrigins {
             → origin_path_faults self.new p ≡ origin_path_faults self.old p }
         ensures places { (p : List ℕ) → has_origin_place self.old p → has_origin_place self.new p }
     {
-        if folder.faults() > 0 {
-            self.refuse(folder.path());
-        }
+        self.take_back(folder.faults(), folder.path());
     }
 }
 

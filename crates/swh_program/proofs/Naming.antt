@@ -4,10 +4,10 @@ use Rattle.std.specs.Prelude.{replicate}
 use Rattle.std.proofs.lemmas.List.{append-nil, length-replicate}
 use Rattle.swh_base.specs.Limits.{body_limit}
 use Rattle.swh_base.specs.declared.kind.Kind.{Kind}
-use Rattle.swh_program.specs.Answers.{status_of}
+use Rattle.swh_program.specs.Answers.{status_of, TellsLine}
 use Rattle.swh_program.specs.Run.{IsExactly}
 use Rattle.swh_program.specs.Refusal.{refusal}
-use Rattle.swh_program.specs.IdentifyCommand.{name_of_bytes, name_line, TellsLine, IsBody, IsAboveBodyLimit, RefusesBytes, HasNoBody, TellsFile, IsIdentifyAnswer, IdentifyEnds}
+use Rattle.swh_program.specs.IdentifyCommand.{name_of_bytes, name_line, IsBody, IsAboveBodyLimit, RefusesBytes, HasNoBody, TellsFile, IsIdentifyAnswer, IdentifyEnds}
 use Rattle.swh_program.specs.declared.answer.Ending.{Ending}
 use Rattle.swh_program.specs.declared.answer.Ending.TheVariants as ending
 use Rattle.swh_program.specs.declared.answer.Answer.{Answer}

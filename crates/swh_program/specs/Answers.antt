@@ -62,6 +62,12 @@ status_of OutsideSource = 4
 status_of OutsideClock = 4
 status_of Memory = 5
 
+-- The answer tells this line, or memory for it ran out.
+abbrev pub TellsLine : List ℕ → Ending → Answer → Type 0
+TellsLine line end (Told text e) = (text ≡ line) × (e ≡ end)
+TellsLine line end Memory = Unit {0}
+TellsLine line end _ = ⊥
+
 -- a disk that failed is told
 abbrev pub TellsDisk : Answer → Type 0
 TellsDisk (Told text end) = end ≡ ending.OutsideDisk

@@ -28,12 +28,6 @@ name_line name = core_text name ++ 10 ∷ []
 abbrev pub bad_line : Kind → ℕ → List ℕ
 bad_line kind at = refusal (codes "bad " ++ (kind_letters kind ++ 32 ∷ decimal at))
 
--- The answer tells this line, or memory for it ran out.
-abbrev pub TellsLine : List ℕ → Ending → Answer → Type 0
-TellsLine line end (Told text e) = (text ≡ line) × (e ≡ end)
-TellsLine line end Memory = Unit {0}
-TellsLine line end _ = ⊥
-
 -- The bytes are a body of the kind.
 pub record IsBody (kind : Kind) (bytes : List ℕ) : Type 0 where
   pub short : length bytes ≤ body_limit

@@ -5,11 +5,11 @@ ghost use Rattle.swh_fastlex.specs.declared.fault.SourceFault.TheVariants.{Faile
 ghost use Rattle.swh_program.specs.Refusal.{refusal};
 ghost use Rattle.swh_base.specs.declared.kind.Kind.TheVariants.{Directory};
 ghost use Rattle.swh_outside.specs.Faults.{Rose};
+ghost use Rattle.swh_program.specs.Answers.{TellsLine};
 ghost use Rattle.swh_program.specs.IdentifyCommand.{
   name_of_bytes,
   name_line,
   bad_line,
-  TellsLine,
   IsBody,
   IsIdentifyAnswer,
   IdentifyEnds,
