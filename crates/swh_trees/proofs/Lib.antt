@@ -1,0 +1,9 @@
+pub mod Grafts
+pub mod Steps
+pub mod Arenas
+pub mod Walks
+pub mod Sounds
+pub mod Directories
+pub mod Lookups
+pub mod Canonical
+pub mod Puts
