@@ -1,8 +1,8 @@
 -- Numbered folders keep their meaning as names and folders are added.
-use Rattle.std.proofs.Common.{◌≡◌, ℕ, suc, ◌<◌, ◌≤◌, eqb, Bool, true, false, cond, List, [], ◌∷◌, ◌++◌, length, map, reverse, get_or, Option, Some, None, refl, sym, ap, subst, ◌∙◌, inl, inr, arith}
+use Rattle.std.proofs.Common.{◌≡◌, ℕ, suc, ◌+◌, ◌<◌, ◌≤◌, eqb, Bool, true, false, cond, List, [], ◌∷◌, ◌++◌, length, map, reverse, get_or, Option, Some, None, refl, sym, ap, subst, ◌∙◌, inl, inr, arith}
 use Rattle.std.proofs.Math.Seq.{get_or-append_seam}
 use Rattle.std.proofs.lemmas.Bool.{ne_eqb, eqb-false, eqb-true, cases_lt}
-use Rattle.std.proofs.lemmas.List.{get_or-map, get_or_append_left, map-append, reverse-append, reverse-reverse, length-reverse, length-map}
+use Rattle.std.proofs.lemmas.List.{get_or-map, get_or_append_left, map-append, reverse-append, reverse-reverse, length-reverse, length-map, length-append}
 use Rattle.std.proofs.lemmas.List.Elements.{All-from_recursion}
 use Rattle.std.specs.Prelude.{if◌then◌else◌, ◌==◌, All}
 use Rattle.std.specs.List.{AllByRecursion}
@@ -10,7 +10,9 @@ use Rattle.std.specs.Global.{Vec}
 use Rattle.swh_trees.specs.declared.entry.Entry.{Entry}
 use Rattle.swh_trees.specs.declared.entry.Child.{Child}
 use Rattle.swh_trees.specs.declared.entry.Child.TheVariants.{File as FileChild, Folder as FolderChild}
-use Rattle.swh_trees.specs.Forest.{Forest, IsFolder}
+use Rattle.swh_trees.specs.Forest.{Forest, Stands, IsFolder, forest, inserted, without, put}
+use Rattle.swh_trees.specs.Sound.{IsSound}
+use Rattle.swh_trees.specs.Held.{AreSound}
 use Rattle.swh_trees.specs.Arena.{name_at, stands, stands_of, forest_of, among, IsLower, AreGood, AllGood, texts, layers, tree_at, IsArena, IsIn, Extends}
 
 eqb_self : (n : ℕ) → eqb n n ≡ true
@@ -180,3 +182,33 @@ same-stands_of at at' k (Some c) low h = same-stands at at' k c low h
 pub arena-none : IsArena [] []
 unfolding IsArena
 arena-none = tt
+
+-- ## Sound folders
+
+pub sound-push : (names : List (Vec ℕ)) (nodes : List (Vec Entry)) (v : Vec Entry) → AreSound names nodes → IsSound (forest_of (texts names) (tree_at names nodes) v.items) → AreSound names (nodes ++ v ∷ [])
+sound-push names nodes v sound own i lt = elim (cases_lt i (length nodes)) [
+  | inl below ↦ subst IsSound (sym (tree-push_old names nodes v i below)) (sound i below)
+  | inr top ↦
+      let more : i < length nodes + 1 = simp length-append at lt in
+      let is : i ≡ length nodes = omega arith in
+      rw is (subst IsSound (sym (tree-push_new names nodes v)) own)
+]
+
+pub sound-names : (names names' : List (Vec ℕ)) (nodes : List (Vec Entry)) → IsArena names nodes → Extends names names' → AreSound names nodes → AreSound names' nodes
+sound-names names names' nodes good more sound i lt = subst IsSound (sym (tree-names names names' nodes good more i)) (sound i lt)
+
+pub under-sound : (names : List (Vec ℕ)) (nodes : List (Vec Entry)) (c : Option Child) → AreSound names nodes → IsIn (length nodes) c → IsSound (forest (stands_of (tree_at names nodes) c))
+under-sound names nodes None sound low = tt
+under-sound names nodes (Some (FileChild l)) sound low = tt
+under-sound names nodes (Some (FolderChild j)) sound low = sound j low
+
+-- what the entries of a folder are after one was dropped and one was put
+pub put-added : (names names' : List (Vec ℕ)) (nodes : List (Vec Entry)) (under child : Option Child) (name : List ℕ) (kept out : List Entry) → IsArena names nodes → Extends names names' → IsIn (length nodes) child → AreGood (length names) (length nodes) kept → forest_of (texts names') (tree_at names' nodes) out ≡ inserted name (stands_of (tree_at names' nodes) child) (forest_of (texts names) (tree_at names' nodes) kept) → forest_of (texts names) (tree_at names nodes) kept ≡ without name (forest (stands_of (tree_at names nodes) under)) → forest_of (texts names') (tree_at names' nodes) out ≡ put name (stands_of (tree_at names nodes) child) (forest (stands_of (tree_at names nodes) under))
+put-added names names' nodes under child name kept out arena more low good added cleared =
+    let old = tree_at names nodes in
+    let new = tree_at names' nodes in
+    let n = length nodes in
+    let same = λ (j : ℕ) (lt : j < n). tree-names names names' nodes arena more j in
+    added
+    ∙ ap (λ (x : Stands). inserted name x (forest_of (texts names) new kept)) (same-stands_of new old n child low same)
+    ∙ ap (inserted name (stands_of old child)) (same-forest (texts names) (texts names) new old (length names) n kept good (λ i lt. refl) same ∙ cleared)

@@ -7,3 +7,5 @@ pub mod Directories
 pub mod Lookups
 pub mod Canonical
 pub mod Puts
+pub mod Components
+pub mod EditedRoots

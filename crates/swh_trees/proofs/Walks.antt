@@ -7,7 +7,7 @@ use Rattle.std.specs.Global.{Vec}
 use Rattle.swh_trees.specs.declared.entry.Entry.{Entry}
 use Rattle.swh_trees.specs.declared.entry.Child.{Child}
 use Rattle.swh_trees.specs.Forest.{Stands, put, folder, forest, step, found, graft}
-use Rattle.swh_trees.specs.Arena.{components, IsIn, Grows}
+use Rattle.swh_trees.specs.Arena.{parts_of, IsIn, Grows}
 use Rattle.swh_trees.proofs.Arenas.{lower-more}
 
 pub found-more : (p : List (List ℕ)) (k : ℕ) (y : Stands) → k < length p → found (take (k + 1) p) y ≡ step (get_or p k []) (found (take k p) y)
@@ -23,7 +23,7 @@ graft-more p k x y lt =
     let more = found-more p k y lt in
     rw (more, add-one, drop-cons p k [] lt) refl
 
-pub component-at : (path : List (Bor (List ℕ))) (i : ℕ) (d : Bor (List ℕ)) → i < length path → get_or (components path) i [] ≡ (get_or path i d).now
+pub component-at : (path : List (Bor (List ℕ))) (i : ℕ) (d : Bor (List ℕ)) → i < length path → get_or (parts_of path) i [] ≡ (get_or path i d).now
 component-at path i d lt = get_or-map (λ (b : Bor (List ℕ)). b.now) path i d [] lt
 
 pub in-more : (k k' : ℕ) (c : Option Child) → k ≤ k' → IsIn k c → IsIn k' c
@@ -39,8 +39,8 @@ grows-more n n' n'' o o' o'' g h = record {
 pub grows-none : (n : List (Vec ℕ)) (o : List (Vec Entry)) → Grows n o n o
 grows-none n o = record { longer = omega arith; trees = λ i lt. refl }
 
-pub length-components : (path : List (Bor (List ℕ))) → length (components path) ≡ length path
-length-components path = length-map path (λ (b : Bor (List ℕ)). b.now)
+pub length-parts_of : (path : List (Bor (List ℕ))) → length (parts_of path) ≡ length path
+length-parts_of path = length-map path (λ (b : Bor (List ℕ)). b.now)
 
 pub put-along : (n n' : List ℕ) (x x' y y' : Stands) → n ≡ n' → x ≡ x' → y ≡ y' → folder (put n x (forest y)) ≡ folder (put n' x' (forest y'))
 put-along n n' x x' y y' en ex ey = cc

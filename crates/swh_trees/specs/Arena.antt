@@ -92,8 +92,8 @@ pub record Extends (names names' : List (Vec ℕ)) : Type 0 where
   pub longer : length names ≤ length names'
   pub same_names : (i : ℕ) → i < length names → name_at (texts names') i ≡ name_at (texts names) i
 
-abbrev pub components : List (Bor (List ℕ)) → List (List ℕ)
-components path = map (λ c. c.now) path
+abbrev pub parts_of : List (Bor (List ℕ)) → List (List ℕ)
+parts_of path = map (λ c. c.now) path
 
 -- at each number, what stands at that many components of the path
 pub record AreFronts (at : ℕ → Forest) (n : ℕ) (root : Option Child) (path : List (List ℕ)) (fronts : List (Option Child)) : Type 0 where

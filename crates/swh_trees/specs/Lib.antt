@@ -1,6 +1,8 @@
 pub mod Arena
 pub mod Directory
 pub mod Forest
+pub mod Grove
+pub mod Held
 pub mod Leaf
 pub mod Path
 pub mod PathMap

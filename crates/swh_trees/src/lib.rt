@@ -1,9 +1,13 @@
-//! Trees that share their unchanged folders.
+//! Trees of commits: the changes of a commit (git-fast-import(1)) made to a tree that shares with others the folders that
+//! it does not change.
 #![tactic(auto)]
 
 mod arena;
+mod edits;
 mod entry;
 mod node;
 mod path;
+mod tree;
 
-pub use entry::{Child, Entry, Leaf};
+pub use entry::Leaf;
+pub use tree::Tree;

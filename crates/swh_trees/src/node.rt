@@ -32,6 +32,20 @@ pub fn child_in(names: &[Vec<u8>], entries: &[Entry], name: &[u8]) -> Option<Chi
     None
 }
 
+/// The number of this name, where an entry has it.
+pub fn name_in(names: &[Vec<u8>], entries: &[Entry], name: &[u8]) -> Option<usize>
+    requires { All (λ e. e.name < length names.now) entries.now }
+    ensures { IfSome result (λ n. (n < length names.now) × (name_at (texts names.now) n ≡ name.now)) }
+{
+    for e in entries {
+        let found = is_name(names, e.name, name);
+        if found {
+            return Some(e.name);
+        }
+    }
+    None
+}
+
 /// The entries but that of this name.
 pub fn kept(
     alloc: Global,
@@ -52,7 +66,7 @@ pub fn kept(
     Ok(out)
 }
 
-/// What a name is compared with behind it.
+/// What a name is compared with after its own bytes.
 fn suffix(child: Child) -> &'static [u8]
     ensures { result.now ≡ suffix child }
 {
@@ -62,7 +76,7 @@ fn suffix(child: Child) -> &'static [u8]
     }
 }
 
-/// Whether the first name, with what stands behind it, comes before the second.
+/// Whether the first name, with what it is compared with after it, comes before the second.
 fn is_less(a: &[u8], a_end: &[u8], b: &[u8], b_end: &[u8]) -> bool
     ensures { result ≡ is_before (a.now ++ a_end.now) (b.now ++ b_end.now) }
 {

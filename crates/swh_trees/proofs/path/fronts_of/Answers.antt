@@ -4,19 +4,19 @@ use Rattle.std.proofs.lemmas.Bool.{cases_lt}
 use Rattle.std.proofs.lemmas.List.{length-append, get_or_append_left}
 use Rattle.std.proofs.lemmas.List.Elements.{All-push}
 use Rattle.swh_trees.specs.Forest.{step}
-use Rattle.swh_trees.specs.Arena.{stands_of, tree_at, components, IsIn}
-use Rattle.swh_trees.proofs.Walks.{found-more, component-at, length-components}
+use Rattle.swh_trees.specs.Arena.{stands_of, tree_at, parts_of, IsIn}
+use Rattle.swh_trees.proofs.Walks.{found-more, component-at, length-parts_of}
 use Rattle.swh_trees.proofs.path.fronts_of.Goals as goal
 
 pub loop-name-preserved : goal.loop-name-preserved
 loop-name-preserved c =
-    let comps = components c.args.path.now in
+    let comps = parts_of c.args.path.now in
     let i = c.loop-name.name-index in
     let at = tree_at c.args.names.now c.args.nodes.now in
     let here = stands_of at c.loop-name.here in
     let root = stands_of at c.args.root in
     let lt : i < length c.args.path.now = omega arith in
-    let within : i < length comps = rw (length-components c.args.path.now) lt in
+    let within : i < length comps = rw (length-parts_of c.args.path.now) lt in
     let long = c.loop-name.invariant.as_long in
     record {
       inside = c.step-here.ensures.inside;
