@@ -9,3 +9,6 @@ pub mod Canonical
 pub mod Puts
 pub mod Components
 pub mod EditedRoots
+pub mod Copies
+pub mod Lives
+pub mod Moves

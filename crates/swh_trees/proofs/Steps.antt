@@ -17,11 +17,11 @@ text-at names i v lt is = get_or-map (λ (w : Vec ℕ). w.items) names i v [] lt
 abbrev pub child_of : List (List ℕ) → (ℕ → Forest) → List ℕ → List Entry → Stands
 child_of names at c es = child_at c (forest_of names at es)
 
-beside-here : (n c : List ℕ) (k : Child) (at : ℕ → Forest) (f : Forest) → same n c ≡ true → child_at c (beside n (stands at k) f) ≡ stands at k
+pub beside-here : (n c : List ℕ) (k : Child) (at : ℕ → Forest) (f : Forest) → same n c ≡ true → child_at c (beside n (stands at k) f) ≡ stands at k
 beside-here n c (FileChild l) at f e = rw e refl
 beside-here n c (FolderChild j) at f e = rw e refl
 
-beside-past : (n c : List ℕ) (k : Child) (at : ℕ → Forest) (f : Forest) → same n c ≡ false → child_at c (beside n (stands at k) f) ≡ child_at c f
+pub beside-past : (n c : List ℕ) (k : Child) (at : ℕ → Forest) (f : Forest) → same n c ≡ false → child_at c (beside n (stands at k) f) ≡ child_at c f
 beside-past n c (FileChild l) at f e = rw e refl
 beside-past n c (FolderChild j) at f e = rw e refl
 

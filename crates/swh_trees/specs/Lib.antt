@@ -4,6 +4,8 @@ pub mod Forest
 pub mod Grove
 pub mod Held
 pub mod Leaf
+pub mod Live
+pub mod Moved
 pub mod Path
 pub mod PathMap
 pub mod Sound

@@ -3,8 +3,10 @@
 #![tactic(auto)]
 
 mod arena;
+mod compact;
 mod edits;
 mod entry;
+mod live;
 mod node;
 mod path;
 mod tree;
