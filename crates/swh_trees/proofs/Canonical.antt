@@ -46,7 +46,7 @@ held-after : (p q : List (List ℕ)) (k : Leaf) (m : PathMap) → AllByRecursion
 held-after p q k [] all h = absurd cc
 held-after p q k (e ∷ m) all h = held-case (same_path e.0 q) p q e.0 e.1 k (leaf_at q m) refl all.0 (held-after p q k m all.1) h
 
-own-leaf : (e : List (List ℕ) × Leaf) (m : PathMap) → leaf_at e.0 (e ∷ m) ≡ Some e.1
+pub own-leaf : (e : List (List ℕ) × Leaf) (m : PathMap) → leaf_at e.0 (e ∷ m) ≡ Some e.1
 own-leaf e m = rw (path_self e.0) refl
 
 -- the first path of one is the first of the other

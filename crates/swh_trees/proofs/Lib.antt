@@ -14,3 +14,4 @@ pub mod Lives
 pub mod Moves
 pub mod Listings
 pub mod Workings
+pub mod Parts

@@ -1,5 +1,5 @@
 -- What trees hold: numbered folders, all of them sound, and the ids of the first of them.
-use Rattle.std.specs.Prelude.{◌≡◌, ℕ, ◌<◌, ◌≤◌, List, [], length, slice_index_or, Option, Some, None}
+use Rattle.std.specs.Prelude.{◌≡◌, ℕ, zero, suc, ◌<◌, ◌≤◌, List, [], ◌∷◌, ◌++◌, length, slice_index_or, Option, Some, None}
 use Rattle.std.specs.Global.{Vec}
 use Rattle.swh_base.specs.declared.kind.Kind.{Kind}
 use Rattle.swh_base.specs.Directory.{DirectoryEntry}
@@ -44,6 +44,21 @@ pub record IsHeld (id_of : Kind → List ℕ → List ℕ) (names : List (Vec �
   pub known : AreIds (directory_id id_of) (tree_at names nodes) ids
   pub no_files : IsEmptyFolder (tree_at names nodes) (length ids) empty
 
+-- the values of the first numbers
+abbrev pub first_values : (ℕ → PathMap) → ℕ → List PathMap
+first_values f zero = []
+first_values f (suc n) = first_values f n ++ f n ∷ []
+
 -- what callers see
 abbrev pub grove : List (Vec ℕ) → List (Vec Entry) → List (List ℕ) → Grove
-grove names nodes ids = record { map_at = map_at names nodes; count = length nodes; made = length ids }
+grove names nodes ids = record { folders = first_values (map_at names nodes) (length nodes); made = length ids }
+
+-- the number of a tree after its objects were made: an empty one has none
+abbrev pub kept_number : Option ℕ → ℕ → Option ℕ
+kept_number None number = None
+kept_number (Some n) number = Some number
+
+-- the number of the empty folder after the objects of a tree were made
+abbrev pub kept_empty : Option ℕ → Option ℕ → ℕ → Option ℕ
+kept_empty None empty number = Some number
+kept_empty (Some n) empty number = empty

@@ -5,6 +5,7 @@ pub mod Grove
 pub mod Held
 pub mod Leaf
 pub mod Live
+pub mod Makes
 pub mod Moved
 pub mod Objects
 pub mod Path
