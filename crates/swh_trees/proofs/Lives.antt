@@ -37,9 +37,9 @@ mark-step base old new es i d lt more own m k d' h = elim (cases_lt k i) [
 pub only-step : (base : ℕ) (first old new : List Bool) (es : List Entry) (i : ℕ) (d : Entry) (j : ℕ) → (is_live base new j ≡ true → (is_live base old j ≡ true) ⊎ ((get_or es i d).child ≡ FolderChild j)) → (is_live base old j ≡ true → (is_live base first j ≡ true) ⊎ HasChild es i j) → is_live base new j ≡ true → (is_live base first j ≡ true) ⊎ HasChild es (i + 1) j
 only-step base first old new es i d j one before h = elim (one h) [
   | inl was ↦ elim (before was) [
-      | inl was' ↦ inl was'
-      | inr child ↦ inr (record { place = child.place; other = child.other; within = let lt = child.within in omega arith; child = child.child })
-    ]
+    | inl was' ↦ inl was'
+    | inr child ↦ inr (record { place = child.place; other = child.other; within = let lt = child.within in omega arith; child = child.child })
+  ]
   | inr own ↦ inr (record { place = i; other = d; within = omega arith; child = own })
 ]
 
@@ -134,9 +134,9 @@ child_low i j (FolderChild k) low e = let is : k ≡ j = cc in omega arith
 pub closed-step : (base i : ℕ) (nodes : List (Vec Entry)) (w : Vec Entry) (old new : List Bool) → AreLower nodes → i < length nodes → base ≤ i → AreMarked base new (get_or nodes i w).items (length (get_or nodes i w).items) → ((j : ℕ) → base ≤ j → is_live base old j ≡ true → is_live base new j ≡ true) → ((j : ℕ) → base ≤ j → is_live base new j ≡ true → (is_live base old j ≡ true) ⊎ HasChild (get_or nodes i w).items (length (get_or nodes i w).items) j) → IsClosed base old nodes (i + 1) → IsClosed base new nodes i
 closed-step base i nodes w old new lower lt le own more only closed i' w' from within h = elim (cases_lt i i') [
   | inl above ↦ elim (only i' (omega arith) h) [
-      | inl was ↦ λ k d lt'. marked-more base old new (get_or (get_or nodes i' w').items k d).child more (closed i' w' (omega arith) within was k d lt')
-      | inr child ↦ let low = child_low i i' (get_or (get_or nodes i w).items child.place child.other).child (lower i w child.place child.other lt child.within) child.child in absurd (omega arith)
-    ]
+    | inl was ↦ λ k d lt'. marked-more base old new (get_or (get_or nodes i' w').items k d).child more (closed i' w' (omega arith) within was k d lt')
+    | inr child ↦ let low = child_low i i' (get_or (get_or nodes i w).items child.place child.other).child (lower i w child.place child.other lt child.within) child.child in absurd (omega arith)
+  ]
   | inr top ↦
       let is : i' ≡ i = omega arith in
       let node : get_or nodes i w ≡ get_or nodes i' w' = rw is (get_or_default nodes i w w' lt) in

@@ -139,6 +139,9 @@ below_is n m (Some k) e h = omega arith
 pub is-tree : (f : Folders) (ids : List (List ℕ)) (tree : Tree) → IsTree (grove f.names.items f.nodes.items ids) tree → IsBelow (count_of f) tree.number
 is-tree f ids tree h = below_is _ (count_of f) tree.number (grove-long f ids) h
 
+pub tree-is : (f : Folders) (ids : List (List ℕ)) (tree : Tree) → IsBelow (count_of f) tree.number → IsTree (grove f.names.items f.nodes.items ids) tree
+tree-is f ids tree h = below_is (count_of f) _ tree.number (sym (grove-long f ids)) h
+
 map_is : (f : Folders) (ids : List (List ℕ)) (number : Option ℕ) → IsBelow (count_of f) number → map_of_number (folder_map (grove f.names.items f.nodes.items ids)) number ≡ root_map f number
 map_is f ids None low = refl
 map_is f ids (Some n) low = grove-at f ids n low

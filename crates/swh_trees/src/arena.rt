@@ -5,7 +5,6 @@ ghost use Rattle.std.specs.Global.{Vec};
 ghost use Rattle.swh_trees.specs.Forest.{Forest, step, without, inserted, put, folder, forest};
 ghost use Rattle.swh_trees.specs.Sound.{IsSound, IsSoundHere};
 ghost use Rattle.swh_trees.specs.Arena.{name_at, stands, stands_of, forest_of, texts, tree_at, IsArena, AreGood, IsLower, IsIn, Grows, Extends};
-
 ghost use Rattle.swh_base.specs.Directory.{IsEntryName};
 ghost use Rattle.swh_trees.specs.Held.{AreSound, IsGood};
 
@@ -133,7 +132,7 @@ fn add_some(
         → OnOk result (AreGood (length names.new.items) k out.new.items) }
     ensures forest { (at : ℕ → Forest) → (k : ℕ) → AreGood (length names.old.items) k out.old.items
         → OnOk result (forest_of (texts names.new.items) at out.new.items
-            ≡ inserted name.now (stands_of at child) (forest_of (texts names.old.items) at out.old.items)) }
+        ≡ inserted name.now (stands_of at child) (forest_of (texts names.old.items) at out.old.items)) }
 {
     match child {
         Some(one) => {
@@ -182,7 +181,7 @@ pub fn put(
     ensures sound { IfOk result (λ r. IsSoundHere (stands_of (tree_at names.new.items nodes.new.items) r)) }
     ensures put { IfOk result (λ r. stands_of (tree_at names.new.items nodes.new.items) r
         ≡ folder (put name.now (stands_of (tree_at names.old.items nodes.old.items) child)
-            (forest (stands_of (tree_at names.old.items nodes.old.items) under)))) }
+        (forest (stands_of (tree_at names.old.items nodes.old.items) under)))) }
 {
     let known = known_name(names.as_slice(), nodes.as_slice(), under, name);
     let mut out = cleared(alloc, names.as_slice(), nodes.as_slice(), under, name)?;

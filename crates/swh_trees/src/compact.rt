@@ -130,7 +130,7 @@ pub fn compact(
         × (tree_at names nodes.new.items r ≡ tree_at names nodes.old.items root)) }
     ensures parts { (names : List (Vec ℕ)) → IsGood names nodes.old.items
         → IfOk result (λ r. (m : ℕ) → base ≤ m → m < length nodes.new.items
-            → IsPart (IsFolder (tree_at names nodes.old.items root)) (tree_at names nodes.new.items m)) }
+        → IsPart (IsFolder (tree_at names nodes.old.items root)) (tree_at names nodes.new.items m)) }
 {
     if root < base {
         nodes.truncate(base);

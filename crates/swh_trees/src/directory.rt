@@ -26,12 +26,7 @@ fn mode_and_id(ids: &[[u8; 20]], child: Child) -> (u32, [u8; 20])
 }
 
 /// The entry of a directory for this entry of a folder, where folders have these ids.
-fn listed(
-    alloc: Global,
-    names: &[Vec<u8>],
-    ids: &[[u8; 20]],
-    e: Entry,
-) -> Result<DirEntry, Memory>
+fn listed(alloc: Global, names: &[Vec<u8>], ids: &[[u8; 20]], e: Entry) -> Result<DirEntry, Memory>
     requires name { e.name < length names.now }
     requires child { IsLower (length ids.now) e.child }
     ensures entry { (id : List DirectoryEntry → List ℕ) (at : ℕ → Forest) → AreIds id at ids.now

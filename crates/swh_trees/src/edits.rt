@@ -116,7 +116,7 @@ pub fn copy_path(
     ensures inside { IfOk result (λ o. IfSome o (λ r. IsBelow (length nodes.new.items) r)) }
     ensures map { IfOk result (λ o. IfSome o (λ r. map_of_number (map_at names.new.items nodes.new.items) r
         ≡ copy (components source.now) (components target.now)
-            (map_of_number (map_at names.old.items nodes.old.items) root))) }
+        (map_of_number (map_at names.old.items nodes.old.items) root))) }
 {
     let from = components_of(alloc, source)?;
     let to = components_of(alloc, target)?;
@@ -151,7 +151,7 @@ pub fn rename_path(
     ensures inside { IfOk result (λ o. IfSome o (λ r. IsBelow (length nodes.new.items) r)) }
     ensures map { IfOk result (λ o. IfSome o (λ r. map_of_number (map_at names.new.items nodes.new.items) r
         ≡ rename (components source.now) (components target.now)
-            (map_of_number (map_at names.old.items nodes.old.items) root))) }
+        (map_of_number (map_at names.old.items nodes.old.items) root))) }
 {
     let from = components_of(alloc, source)?;
     let to = components_of(alloc, target)?;

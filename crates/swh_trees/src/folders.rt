@@ -117,7 +117,14 @@ pub fn set_in(
     ensures inside { IfOk result (λ r. IsBelow (count_of folders.new) r) }
     ensures map { IfOk result (λ r. root_map folders.new r ≡ set (components path.now) leaf (root_map folders.old root)) }
 {
-    let there = set_leaf(alloc, &mut folders.names, &mut folders.nodes, root, path, leaf)?;
+    let there = set_leaf(
+        alloc,
+        &mut folders.names,
+        &mut folders.nodes,
+        root,
+        path,
+        leaf,
+    )?;
     settled(alloc, folders, base, there)
 }
 

@@ -22,5 +22,9 @@ mod trees;
 
 pub use entry::Leaf;
 pub use fault::TreeFault;
+pub use path::is_path;
 pub use tree::Tree;
 pub use trees::{Made, Trees};
+
+#[cfg(test)]
+mod tests;

@@ -72,7 +72,7 @@ pub fn live_of(
     ensures closed { IfOk result (λ v. IsClosed base v.items nodes.now base) }
     ensures parts { (names : List (Vec ℕ)) → IsArena names nodes.now → AreSound names nodes.now
         → IfOk result (λ v. AreLiveParts (tree_at names nodes.now) base v.items (length nodes.now)
-            (IsFolder (tree_at names nodes.now root))) }
+        (IsFolder (tree_at names nodes.now root))) }
 {
     let mut live = root_alone(alloc, nodes.len() - base, root - base)?;
     let mut left = nodes.len();

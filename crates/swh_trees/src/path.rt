@@ -1,9 +1,9 @@
 //! What stands at a path, and what something put at a path makes.
 
-ghost use Rattle.std.specs.Prelude.{◌≡◌, length, IfOk};
+ghost use Rattle.std.specs.Prelude.{◌≡◌, ◌↔◌, length, IfOk, IsTrue};
 ghost use Rattle.std.specs.List.{AllByRecursion};
 ghost use Rattle.swh_base.specs.Directory.{IsEntryName};
-ghost use Rattle.swh_trees.specs.Path.{components};
+ghost use Rattle.swh_trees.specs.Path.{components, IsComponent, IsPath};
 ghost use Rattle.swh_trees.specs.Sound.{IsSoundHere};
 ghost use Rattle.swh_trees.specs.Forest.{found, graft};
 ghost use Rattle.swh_trees.specs.Held.{IsGood};
@@ -73,7 +73,7 @@ pub fn graft(
     ensures inside { IfOk result (λ r. IsIn (length nodes.new.items) r) }
     ensures graft { IfOk result (λ r. stands_of (tree_at names.new.items nodes.new.items) r
         ≡ graft (parts_of path.now) (stands_of (tree_at names.old.items nodes.old.items) child)
-            (stands_of (tree_at names.old.items nodes.old.items) root)) }
+        (stands_of (tree_at names.old.items nodes.old.items) root)) }
 {
     let fronts = fronts_of(alloc, names.as_slice(), nodes.as_slice(), root, path)?;
     let mut here = child;
@@ -97,4 +97,31 @@ pub fn components_of(alloc: Global, path: &[u8]) -> Result<Vec<&[u8]>, AllocErro
     }
     parts.push(rest)?;
     Ok(parts)
+}
+
+/// Whether these bytes are a path (git-fast-import(1), filemodify): components with `/` between them, of which none is
+/// empty or has a NUL.
+pub fn is_path(path: &[u8]) -> bool
+    ensures { IsTrue result ↔ IsPath path.now }
+{
+    let mut rest = path;
+    'components: while let Some((component, after)) = split_at_byte(rest, b'/') {
+        if !is_component(component) {
+            return false;
+        }
+        rest = after;
+    }
+    is_component(rest)
+}
+
+fn is_component(name: &[u8]) -> bool
+    ensures { IsTrue result ↔ IsComponent name.now }
+{
+    if name.is_empty() {
+        return false;
+    }
+    match split_at_byte(name, b'\0') {
+        Some(_) => false,
+        None => true,
+    }
 }

@@ -41,7 +41,8 @@ impl<N: Namer> Model for Trees<N> {
     ghost invariant = { λ t. IsHeld N.id_of t.folders.names.items t.folders.nodes.items t.ids.items t.empty };
 }
 
-ghost use Rattle.std.specs.Prelude.{◌≡◌, None, Some, IfNone, IfSome};
+ghost use Rattle.std.specs.Prelude.{◌≡◌, ◌↔◌, None, Some, IsTrue, IfNone, IfSome};
+ghost use Rattle.swh_trees.specs.Grove.{IsBelow};
 ghost use Rattle.swh_trees.specs.Held.{kept_number, kept_empty};
 
 /// The tree, and the number of the empty folder, after the objects were made. The root's folder has this number now.
@@ -60,6 +61,16 @@ fn kept(root: Option<usize>, empty: Option<usize>, number: usize) -> (Tree, Opti
     }
 }
 
+/// Whether the number, if there is one, is below the count.
+fn is_below(number: Option<usize>, count: usize) -> bool
+    ensures { IsTrue result ↔ IsBelow count number }
+{
+    match number {
+        Some(number) => number < count,
+        None => true,
+    }
+}
+
 /// The tree of a root, where there is one.
 fn tree_of(found: Option<Option<usize>>) -> Option<Tree>
     ensures none { IfNone result (found ≡ None) }
@@ -72,7 +83,7 @@ fn tree_of(found: Option<Option<usize>>) -> Option<Tree>
 }
 
 impl<N: Namer> Trees<N> {
-    ghost use Rattle.std.specs.Prelude.{◌≡◌, ◌≢◌, [], IfOk, IfErr, IfSome, IfNone, OnErr};
+    ghost use Rattle.std.specs.Prelude.{◌≡◌, ◌≢◌, ◌↔◌, [], IsTrue, IfOk, IfErr, IfSome, IfNone, OnErr};
     ghost use Rattle.swh_trees.specs.Grove.{map_of, IsTree, Keeps, StandsFor};
     ghost use Rattle.swh_trees.specs.Leaf.{IsLeafMode};
     ghost use Rattle.swh_trees.specs.Makes.{Makes, ExplainsTree};
@@ -89,6 +100,13 @@ impl<N: Namer> Trees<N> {
             ids: Vec::new(alloc),
             empty: None,
         }
+    }
+
+    /// Whether this tree stands here.
+    pub fn has(&self, tree: Tree) -> bool
+        ensures { IsTrue result ↔ IsTree self.now tree }
+    {
+        is_below(tree.number, self.folders.nodes.len())
     }
 
     /// The tree with the leaf at the path, in place of what stood there, under it, and at its proper fronts
@@ -148,14 +166,7 @@ impl<N: Namer> Trees<N> {
             (copy (components source.now) (components target.now) (map_of self.old tree)))) }
     {
         let base = self.ids.len();
-        let found = copy_in(
-            alloc,
-            &mut self.folders,
-            base,
-            tree.number,
-            source,
-            target,
-        )?;
+        let found = copy_in(alloc, &mut self.folders, base, tree.number, source, target)?;
         Ok(tree_of(found))
     }
 
@@ -179,14 +190,7 @@ impl<N: Namer> Trees<N> {
             (rename (components source.now) (components target.now) (map_of self.old tree)))) }
     {
         let base = self.ids.len();
-        let found = rename_in(
-            alloc,
-            &mut self.folders,
-            base,
-            tree.number,
-            source,
-            target,
-        )?;
+        let found = rename_in(alloc, &mut self.folders, base, tree.number, source, target)?;
         Ok(tree_of(found))
     }
 
