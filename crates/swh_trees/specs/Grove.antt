@@ -1,0 +1,41 @@
+-- Trees as their callers see them: the folders by their numbers, each as the map of its paths.
+use Rattle.std.specs.Prelude.{◌≡◌, ℕ, ◌<◌, ◌≤◌, List, [], length, slice_index_or, Option, Some, None}
+use Rattle.swh_trees.specs.declared.tree.Tree.{Tree}
+use Rattle.swh_trees.specs.PathMap.{PathMap}
+
+-- the map of each folder, in the order of their numbers, and of how many folders, the first ones, the objects were made
+pub record Grove : Type 0 where
+  pub folders : List PathMap
+  pub made : ℕ
+
+-- the map of the folder of this number
+abbrev pub folder_map : Grove → ℕ → PathMap
+folder_map g n = slice_index_or g.folders n []
+
+-- the number of no folder, or one below this
+abbrev pub IsBelow : ℕ → Option ℕ → Type 0
+IsBelow n None = Unit {0}
+IsBelow n (Some k) = k < n
+
+-- what a number stands for, and none for the empty map
+abbrev pub map_of_number : (ℕ → PathMap) → Option ℕ → PathMap
+map_of_number map_at None = []
+map_of_number map_at (Some n) = map_at n
+
+-- the tree's map
+abbrev pub map_of : Grove → Tree → PathMap
+map_of g tree = map_of_number (folder_map g) tree.number
+
+-- The tree stands for a map here.
+abbrev pub IsTree : Grove → Tree → Type 0
+IsTree g tree = IsBelow (length g.folders) tree.number
+
+-- No object was made, and the folders whose objects were made stand for the same maps.
+pub record Keeps (old new : Grove) : Type 0 where
+  pub made : new.made ≡ old.made
+  pub maps : (n : ℕ) → n < old.made → folder_map new n ≡ folder_map old n
+
+-- The tree stands for this map.
+pub record StandsFor (g : Grove) (tree : Tree) (m : PathMap) : Type 0 where
+  pub inside : IsTree g tree
+  pub map : map_of g tree ≡ m

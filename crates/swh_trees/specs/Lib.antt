@@ -1,0 +1,14 @@
+pub mod Arena
+pub mod Directory
+pub mod Forest
+pub mod Grove
+pub mod Held
+pub mod Leaf
+pub mod Live
+pub mod Makes
+pub mod Moved
+pub mod Objects
+pub mod Path
+pub mod PathMap
+pub mod Sound
+pub mod Working

@@ -1,0 +1,111 @@
+//! The objects of a tree's new folders.
+
+ghost use Rattle.std.specs.Prelude.{◌≡◌, ◌<◌, ◌≤◌, ◌+◌, ℕ, List, length, Option, IfOk, IfErr, OnOk, OnErr};
+ghost use Rattle.swh_trees.specs.Directory.{directory_id};
+ghost use Rattle.swh_trees.specs.Forest.{Bare, IsFolder, directory};
+ghost use Rattle.swh_trees.specs.Grove.{IsBelow};
+ghost use Rattle.swh_trees.specs.Held.{AreIds, IsEmptyFolder, root_forest};
+ghost use Rattle.swh_trees.specs.Live.{IsPart};
+ghost use Rattle.swh_trees.specs.Objects.{AreDirectoryObjects};
+ghost use Rattle.swh_trees.specs.Working.{AreFolders, count_of, folder_at, StaysBelow, ExplainsPart};
+
+use crate::compact::compact;
+use crate::fault::TreeFault;
+use crate::folders::{Folders, count_from};
+use crate::objects::make_all;
+use std::alloc::{AllocError, Global};
+use swh_base::Namer;
+use swh_object::Object;
+
+/// The number of an empty folder: this one, or else a new one.
+fn empty_folder(
+    alloc: Global,
+    folders: &mut Folders,
+    base: usize,
+    empty: Option<usize>,
+) -> Result<usize, AllocError>
+    requires good { AreFolders folders.old }
+    requires base { base ≤ count_of folders.old }
+    requires empty { IsEmptyFolder (folder_at folders.old) base empty }
+    ensures stays { StaysBelow base folders.old folders.new }
+    ensures inside { IfOk result (λ r. r < count_of folders.new) }
+    ensures bare { IfOk result (λ r. folder_at folders.new r ≡ Bare) }
+{
+    match empty {
+        Some(number) => Ok(number),
+        None => {
+            let number = folders.nodes.len();
+            folders.nodes.push(Vec::new(alloc))?;
+            Ok(number)
+        }
+    }
+}
+
+/// The number of a root's folder. That of an empty tree is the empty folder of this number, or else a new one.
+pub fn root_number(
+    alloc: Global,
+    folders: &mut Folders,
+    base: usize,
+    empty: Option<usize>,
+    root: Option<usize>,
+) -> Result<usize, AllocError>
+    requires good { AreFolders folders.old }
+    requires base { base ≤ count_of folders.old }
+    requires root { IsBelow (count_of folders.old) root }
+    requires empty { IsEmptyFolder (folder_at folders.old) base empty }
+    ensures stays { StaysBelow base folders.old folders.new }
+    ensures inside { IfOk result (λ r. r < count_of folders.new) }
+    ensures same { IfOk result (λ r. folder_at folders.new r ≡ root_forest (folder_at folders.old) root) }
+{
+    match root {
+        Some(number) => Ok(number),
+        None => empty_folder(alloc, folders, base, empty),
+    }
+}
+
+/// The objects of the folders that the root needs and that have none yet, and the root's new number. The other folders
+/// without objects are dropped. After a fault no folder more has an object.
+pub fn make_folders<N: Namer>(
+    alloc: Global,
+    namer: &N,
+    folders: &mut Folders,
+    ids: &mut Vec<[u8; 20]>,
+    root: usize,
+) -> Result<(usize, Vec<Object<N>>), TreeFault>
+    requires good { AreFolders folders.old }
+    requires within { length ids.old.items ≤ count_of folders.old }
+    requires known { AreIds (directory_id N.id_of) (folder_at folders.old) ids.old.items }
+    requires root { root < count_of folders.old }
+    ensures stays { StaysBelow (length ids.old.items) folders.old folders.new }
+    ensures within { length ids.new.items ≤ count_of folders.new }
+    ensures known { AreIds (directory_id N.id_of) (folder_at folders.new) ids.new.items }
+    ensures front { length ids.old.items ≤ length ids.new.items }
+    ensures none_made { OnErr result (ids.new.items ≡ ids.old.items) }
+    ensures all { OnOk result (length ids.new.items ≡ count_of folders.new) }
+    ensures inside { IfOk result (λ r. r.0 < count_of folders.new) }
+    ensures same { IfOk result (λ r. folder_at folders.new r.0 ≡ folder_at folders.old root) }
+    ensures parts { IfOk result (λ r. (n : ℕ) → length ids.old.items ≤ n → n < count_of folders.new
+        → IsPart (IsFolder (folder_at folders.old root)) (folder_at folders.new n)) }
+    ensures each { IfOk result (λ r. length ids.old.items + length r.1.items ≡ count_of folders.new) }
+    ensures objects { IfOk result (λ r. AreDirectoryObjects N.id_of
+        (λ n. directory (directory_id N.id_of) (folder_at folders.new n)) (length ids.old.items) r.1.items) }
+    ensures err { IfErr result (ExplainsPart (directory_id N.id_of) (IsFolder (folder_at folders.old root))) }
+{
+    let base = ids.len();
+    let number = compact(alloc, &mut folders.nodes, base, root)?;
+    let made = make_all(
+        alloc,
+        namer,
+        folders.names.as_slice(),
+        folders.nodes.as_slice(),
+        ids,
+    );
+    count_from(folders, ids.len());
+    match made {
+        Ok(objects) => Ok((number, objects)),
+        Err(fault) => {
+            ids.truncate(base);
+            Err(fault)
+        }
+    }
+}
