@@ -1,0 +1,11 @@
+pub mod Arena
+pub mod Directory
+pub mod Forest
+pub mod Grove
+pub mod Held
+pub mod Leaf
+pub mod Live
+pub mod Moved
+pub mod Path
+pub mod PathMap
+pub mod Sound

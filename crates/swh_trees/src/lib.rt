@@ -1,0 +1,15 @@
+//! Trees of commits: the changes of a commit (git-fast-import(1)) made to a tree that shares with others the folders that
+//! it does not change.
+#![tactic(auto)]
+
+mod arena;
+mod compact;
+mod edits;
+mod entry;
+mod live;
+mod node;
+mod path;
+mod tree;
+
+pub use entry::Leaf;
+pub use tree::Tree;
