@@ -11,8 +11,8 @@ use Rattle.std.proofs.lemmas.Map.Lookups.{exact_bytes}
 use Rattle.swh_trees.specs.declared.entry.Leaf.{Leaf}
 use Rattle.swh_trees.specs.Forest.{Forest, Bare, File, Folder, Stands, Nothing, IsFile, IsFolder, is_before, child_at, put, folder, forest, step, found, graft, deleted, deleted_where, at, flat}
 use Rattle.swh_trees.specs.Sound.{Follows, IsSound}
-use Rattle.swh_base.specs.Directory.{IsEntryName}
 use Rattle.swh_trees.specs.PathMap.{PathMap, same_path, leaf_at, begins, keys, is_path_before, insert_path, cleared, set, delete}
+use Rattle.swh_base.specs.Directory.{IsEntryName}
 use Rattle.swh_trees.proofs.Directories.{under, HavePaths, paths-flat}
 use Rattle.swh_trees.proofs.Lookups.{path_is, path_self, map-at, delete-is}
 use Rattle.swh_trees.proofs.Sounds.{IsPlain, plain-of, before-trans, snoc-is, plain-end, forest-sound, into-sound}

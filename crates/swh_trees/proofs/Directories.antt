@@ -10,10 +10,10 @@ use Rattle.swh_trees.specs.declared.entry.Leaf.{Leaf}
 use Rattle.swh_trees.specs.Forest.{Forest, Bare, File, Folder, Stands, Nothing, IsFile, IsFolder, child_at, is_before, forest, leaf_of, flat, shown, entry_here, directory}
 use Rattle.swh_trees.specs.PathMap.{same, PathMap, same_path, leaf_at, held_by}
 use Rattle.swh_trees.specs.Sound.{Follows, IsLeaf, IsSound}
+use Rattle.swh_trees.specs.Directory.{insert_entry, ordered, first, entry_at, directory_within, depth_of, directory_id, directory_of}
 use Rattle.swh_trees.specs.Leaf.{IsLeafMode}
 use Rattle.swh_base.specs.declared.kind.Kind.{Kind}
 use Rattle.swh_base.specs.Directory.{DirectoryEntry, sort_key}
-use Rattle.swh_trees.specs.Directory.{insert_entry, ordered, first, entry_at, directory_within, depth_of, directory_id, directory_of}
 use Rattle.swh_trees.proofs.Grafts.{same_is, same_self}
 
 -- ## What a folder's paths say of a name
@@ -94,7 +94,7 @@ held-by c (Folder n g f) s = held_folder (same n c) n c g f refl s.3 (held-by c 
 
 -- ## The order
 
-less_is : (o : Ordering) → is_lt o ≡ true → o ≡ Less
+pub less_is : (o : Ordering) → is_lt o ≡ true → o ≡ Less
 less_is Less e = refl
 less_is Equal e = absurd cc
 less_is Greater e = absurd cc
@@ -117,7 +117,7 @@ leaf_mode mode (inr (inr (inl e))) = rw e refl
 leaf_mode mode (inr (inr (inr e))) = rw e refl
 
 -- the key of a file and of a folder
-file-key : (n : List ℕ) (l : Leaf) (x : List ℕ) → IsLeaf l → sort_key (record { mode = l.mode; name = n; id = x }) ≡ n ++ []
+pub file-key : (n : List ℕ) (l : Leaf) (x : List ℕ) → IsLeaf l → sort_key (record { mode = l.mode; name = n; id = x }) ≡ n ++ []
 file-key n l x h = rw (leaf_mode l.mode h.mode) refl
 
 insert-front : (id : List DirectoryEntry → List ℕ) (e : DirectoryEntry) (f : Forest) → IsSound f → Follows (sort_key e) f → insert_entry e (directory id f) ≡ e ∷ directory id f

@@ -8,11 +8,11 @@ use Rattle.swh_trees.specs.declared.entry.Child.{Child}
 use Rattle.swh_trees.specs.declared.entry.Child.TheVariants.{File as FileChild, Folder as FolderChild}
 use Rattle.swh_trees.specs.Arena.{stands, stands_of, tree_at}
 use Rattle.swh_trees.specs.Forest.{Forest, Bare, Stands, Nothing, IsFile, IsFolder, child_at, forest, found, graft, deleted, flat, shown}
+use Rattle.swh_trees.specs.PathMap.{PathMap, set, delete, copy, rename, held}
+use Rattle.swh_trees.specs.Sound.{IsLeaf, IsSound, IsSoundHere}
 use Rattle.swh_trees.specs.Grove.{IsBelow, map_of_number}
 use Rattle.swh_trees.specs.Held.{AreSound, IsGood, map_at, root_forest}
 use Rattle.swh_trees.specs.Path.{components, IsPath}
-use Rattle.swh_trees.specs.PathMap.{PathMap, set, delete, copy, rename, held}
-use Rattle.swh_trees.specs.Sound.{IsLeaf, IsSound, IsSoundHere}
 use Rattle.swh_trees.proofs.Canonical.{delete-here}
 use Rattle.swh_trees.proofs.Components.{path-names, components-some}
 use Rattle.swh_trees.proofs.Puts.{set-here, copy-here, rename-here, held-root, shown-some}

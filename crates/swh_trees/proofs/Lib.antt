@@ -12,3 +12,5 @@ pub mod EditedRoots
 pub mod Copies
 pub mod Lives
 pub mod Moves
+pub mod Listings
+pub mod Workings

@@ -9,9 +9,9 @@ use Rattle.swh_trees.specs.declared.entry.Child.TheVariants.{File as FileChild, 
 use Rattle.swh_trees.specs.declared.entry.Entry.{Entry}
 use Rattle.swh_trees.specs.Arena.{name_at, stands, forest_of, texts, tree_at, IsArena, IsLower}
 use Rattle.swh_trees.specs.Forest.{Forest, Bare, File, Folder, Stands, Nothing, IsFile, IsFolder, beside, child_at, forest, step, found}
-use Rattle.swh_trees.specs.Held.{AreSound}
 use Rattle.swh_trees.specs.PathMap.{same}
 use Rattle.swh_trees.specs.Sound.{IsSound, IsSoundHere}
+use Rattle.swh_trees.specs.Held.{AreSound}
 use Rattle.swh_trees.specs.Live.{is_live, IsMarked, AreMarked, HasChild, AreLower, IsClosed, IsPart, AreLiveParts}
 use Rattle.swh_trees.proofs.Arenas.{tree-node, entries-low}
 use Rattle.swh_trees.proofs.Grafts.{same_is, same_self}

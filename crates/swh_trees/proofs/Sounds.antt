@@ -81,7 +81,7 @@ keys-differ c n Nothing (IsFolder h) p q ne e = plain-end c n p (sym (append-nil
 keys-differ c n Nothing (IsFile l) p q ne e = ne (sym (append-nil c) ∙ e ∙ append-nil n)
 keys-differ c n Nothing Nothing p q ne e = ne (sym (append-nil c) ∙ e ∙ append-nil n)
 
-follows-back : (k j : List ℕ) (f : Forest) → is_before k j ≡ true → Follows j f → Follows k f
+pub follows-back : (k j : List ℕ) (f : Forest) → is_before k j ≡ true → Follows j f → Follows k f
 follows-back k j Bare p h = tt
 follows-back k j (File n l f) p h = before-trans k j (n ++ []) p h
 follows-back k j (Folder n g f) p h = before-trans k j (n ++ 47 ∷ []) p h
@@ -153,11 +153,11 @@ sound_cond : (f f' : Forest) (b b' : Bool) → b' ≡ b → (b' ≡ true → IsS
 sound_cond f f' true b' e h h' = h e
 sound_cond f f' false b' e h h' = h' e
 
-other_file : (n c : List ℕ) (l : Leaf) (f : Forest) (b : Bool) → same n c ≡ b → cond b (IsFile l) (child_at c f) ≡ Nothing → (c ≢ n) × (child_at c f ≡ Nothing)
+pub other_file : (n c : List ℕ) (l : Leaf) (f : Forest) (b : Bool) → same n c ≡ b → cond b (IsFile l) (child_at c f) ≡ Nothing → (c ≢ n) × (child_at c f ≡ Nothing)
 other_file n c l f true e h = absurd cc
 other_file n c l f false e h = (λ is. let t : same n c ≡ true = rw is (same_self n) in absurd cc, h)
 
-other_folder : (n c : List ℕ) (g f : Forest) (b : Bool) → same n c ≡ b → cond b (IsFolder g) (child_at c f) ≡ Nothing → (c ≢ n) × (child_at c f ≡ Nothing)
+pub other_folder : (n c : List ℕ) (g f : Forest) (b : Bool) → same n c ≡ b → cond b (IsFolder g) (child_at c f) ≡ Nothing → (c ≢ n) × (child_at c f ≡ Nothing)
 other_folder n c g f true e h = absurd cc
 other_folder n c g f false e h = (λ is. let t : same n c ≡ true = rw is (same_self n) in absurd cc, h)
 

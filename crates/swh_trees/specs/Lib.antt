@@ -6,6 +6,8 @@ pub mod Held
 pub mod Leaf
 pub mod Live
 pub mod Moved
+pub mod Objects
 pub mod Path
 pub mod PathMap
 pub mod Sound
+pub mod Working

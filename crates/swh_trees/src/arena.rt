@@ -3,10 +3,10 @@
 ghost use Rattle.std.specs.Prelude.{◌≡◌, ◌<◌, ◌≤◌, ℕ, List, length, All, IfOk, IfSome, OnOk, None};
 ghost use Rattle.std.specs.Global.{Vec};
 ghost use Rattle.swh_trees.specs.Forest.{Forest, step, without, inserted, put, folder, forest};
+ghost use Rattle.swh_trees.specs.Sound.{IsSound, IsSoundHere};
 ghost use Rattle.swh_trees.specs.Arena.{name_at, stands, stands_of, forest_of, texts, tree_at, IsArena, AreGood, IsLower, IsIn, Grows, Extends};
 
 ghost use Rattle.swh_base.specs.Directory.{IsEntryName};
-ghost use Rattle.swh_trees.specs.Sound.{IsSound, IsSoundHere};
 ghost use Rattle.swh_trees.specs.Held.{AreSound, IsGood};
 
 use crate::entry::{Child, Entry};

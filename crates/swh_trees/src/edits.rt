@@ -4,11 +4,11 @@ ghost use Rattle.std.specs.Prelude.{◌≡◌, ◌≢◌, ℕ, List, [], length,
 ghost use Rattle.std.specs.Global.{Vec};
 ghost use Rattle.swh_trees.specs.Arena.{stands_of, tree_at, Grows, IsIn};
 ghost use Rattle.swh_trees.specs.Forest.{Forest, forest};
+ghost use Rattle.swh_trees.specs.PathMap.{set, delete, copy, rename, held};
+ghost use Rattle.swh_trees.specs.Sound.{IsLeaf};
 ghost use Rattle.swh_trees.specs.Grove.{IsBelow, map_of_number};
 ghost use Rattle.swh_trees.specs.Held.{IsGood, map_at, root_forest};
 ghost use Rattle.swh_trees.specs.Path.{components, IsPath};
-ghost use Rattle.swh_trees.specs.PathMap.{set, delete, copy, rename, held};
-ghost use Rattle.swh_trees.specs.Sound.{IsLeaf};
 
 use crate::entry::{Child, Entry, Leaf};
 use crate::path::{components_of, find, graft};

@@ -4,12 +4,17 @@
 
 mod arena;
 mod compact;
+mod directory;
 mod edits;
 mod entry;
+mod fault;
+mod folders;
 mod live;
 mod node;
+mod objects;
 mod path;
 mod tree;
 
 pub use entry::Leaf;
+pub use fault::TreeFault;
 pub use tree::Tree;

@@ -5,8 +5,8 @@ ghost use Rattle.std.specs.List.{AllByRecursion};
 ghost use Rattle.swh_base.specs.Directory.{IsEntryName};
 ghost use Rattle.swh_trees.specs.Path.{components};
 ghost use Rattle.swh_trees.specs.Sound.{IsSoundHere};
-ghost use Rattle.swh_trees.specs.Held.{IsGood};
 ghost use Rattle.swh_trees.specs.Forest.{found, graft};
+ghost use Rattle.swh_trees.specs.Held.{IsGood};
 ghost use Rattle.swh_trees.specs.Arena.{stands_of, tree_at, parts_of, IsArena, IsIn, Grows, AreFronts};
 
 use crate::arena::{put, step};

@@ -1,7 +1,7 @@
 use Rattle.std.proofs.Common.{◌≡◌, ◌≤◌, take, drop, length}
 use Rattle.swh_trees.specs.Forest.{found, graft}
-use Rattle.swh_trees.specs.Arena.{stands_of, tree_at, parts_of, IsIn, Grows}
 use Rattle.swh_trees.specs.Sound.{IsSoundHere}
+use Rattle.swh_trees.specs.Arena.{stands_of, tree_at, parts_of, IsIn, Grows}
 use Rattle.swh_trees.specs.Held.{IsGood}
 use Rattle.swh_trees.proofs.path.graft.Given as goal
 
