@@ -1,3 +1,4 @@
+pub mod MappedMaps
 pub mod Bodies
 pub mod Commits
 pub mod Cuts

@@ -4,8 +4,8 @@ use Rattle.swh_base.specs.declared.kind.Kind.TheVariants.{Directory}
 use Rattle.swh_base.specs.declared.name.Name.{Name}
 use Rattle.swh_base.specs.Limits.{line_limit, tag_limit}
 use Rattle.swh_base.specs.Text.{IsRef, IsPerson}
-use Rattle.swh_base.specs.Revision.{IsRevision}
-use Rattle.swh_base.specs.Release.{IsRelease}
+use Rattle.swh_base.specs.Revision.{revision_text, IsRevision}
+use Rattle.swh_base.specs.Release.{release_text, IsRelease}
 
 -- a line of a word and a text
 abbrev pub text_line : List ℕ → List ℕ → List ℕ
@@ -58,14 +58,22 @@ pub record IsPlainRevision (body : List ℕ) (p : PlainRevision) : Type 0 where
   pub revision : IsRevision body (record { directory = p.directory; parents = p.parents; rest = bytes })
   pub rest : IsRevisionRest bytes p.rest
 
+-- the body of a plain revision
+abbrev pub plain_revision_text : PlainRevision → List ℕ
+plain_revision_text p = revision_text (record { directory = p.directory; parents = p.parents; rest = revision_rest p.rest })
+
 -- the rest of a plain release
 pub record ReleaseRest : Type 0 where
   pub tagger : Option (List ℕ)
   pub message : List ℕ
 
+-- the line of a tagger where there is one, an empty line and the message
+abbrev pub release_rest : ReleaseRest → List ℕ
+release_rest r = optional_line (codes "tagger ") r.tagger ++ 10 ∷ r.message
+
 -- The bytes are the rest of a plain release.
 pub record IsReleaseRest (bytes : List ℕ) (r : ReleaseRest) : Type 0 where
-  pub text : bytes ≡ optional_line (codes "tagger ") r.tagger ++ 10 ∷ r.message
+  pub text : bytes ≡ release_rest r
   pub tagger : IfSome r.tagger (λ text. IsPersonLine (codes "tagger ") text)
 
 -- the object's name, the tag's name, and the rest
@@ -73,6 +81,10 @@ pub record PlainRelease : Type 0 where
   pub object : Name
   pub tag : List ℕ
   pub rest : ReleaseRest
+
+-- the body of a plain release
+abbrev pub plain_release_text : PlainRelease → List ℕ
+plain_release_text p = release_text (record { object = p.object; tag = p.tag; rest = release_rest p.rest })
 
 -- A ref that is a tag's name, so that `refs/tags/` and it are a ref.
 pub record IsTagName (tag : List ℕ) : Type 0 where

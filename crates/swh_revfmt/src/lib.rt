@@ -11,11 +11,13 @@ mod plain;
 mod release;
 mod rest;
 mod revision;
+mod writing;
 
 pub use fault::{BadRel, BadRev, ReadRelFault, ReadRevFault, one_fault};
 pub use plain::{PlainRel, PlainRev, plain_rel, plain_rev};
 pub use release::{Rel, SpelledRel, read_rel, spelled_rel, write_rel};
 pub use revision::{Rev, SpelledRev, read_rev, spelled_rev, write_rev};
+pub use writing::{write_plain_rel, write_plain_rev};
 
 #[cfg(test)]
 mod tests;

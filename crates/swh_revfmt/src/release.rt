@@ -1,9 +1,10 @@
 //! Releases: an object, its kind's word, a name, and the rest.
 
-ghost use Rattle.std.specs.Prelude.{◌≡◌, ◌≢◌, ◌<◌, ◌++◌, ℕ, List, length, IfOk, IfErr, MatchResult};
+ghost use Rattle.std.specs.Prelude.{◌≡◌, ◌≢◌, ◌<◌, ◌++◌, ◌∷◌, [], ℕ, List, length, IfOk, IfErr, OnOk, MatchResult, codes};
 ghost use Rattle.swh_base.specs.declared.kind.Kind.{Kind};
 ghost use Rattle.swh_base.specs.declared.kind.Kind.TheVariants.{Snapshot, Release as ReleaseKind};
 ghost use Rattle.swh_base.specs.Release.{Release, release_text, IsRelease};
+ghost use Rattle.swh_base.specs.Revision.{id_line};
 ghost use Rattle.swh_revfmt.specs.Fault.{IsRevFault};
 ghost use Rattle.swh_revfmt.specs.Reading.{
   release_of,
@@ -145,6 +146,19 @@ pub fn read_rel(alloc: Global, body: &[u8]) -> Result<Rel, ReadRelFault>
     read(alloc, body)
 }
 
+/// The lines of an object, its kind and a tag's name.
+pub fn put_release_head(out: &mut Vec<u8>, object: &Name, tag: &[u8]) -> Result<(), Memory>
+    requires { object.now.kind ≢ Snapshot }
+    ensures { OnOk result (out.new.items ≡ out.old.items ++ (id_line (codes "object ") object.now.id
+        ++ (type_text object.now.kind ++ (tag.now ++ 10 ∷ [])))) }
+{
+    put_id_line(out, b"object ", &object.id)?;
+    out.extend_from_slice(type_line(object.kind))?;
+    out.extend_from_slice(tag)?;
+    out.push(b'\n')?;
+    Ok(())
+}
+
 /// The text of these parts. It is the body of a release with these parts where the tag's name has no LF. Fails where
 /// memory runs out.
 pub fn write_rel(alloc: Global, rel: &Rel) -> Result<Vec<u8>, Memory>
@@ -154,10 +168,7 @@ pub fn write_rel(alloc: Global, rel: &Rel) -> Result<Vec<u8>, Memory>
     ensures same { (body : List ℕ) → IsRelease body (release_of rel.now) → IfOk result (λ out. out.items ≡ body) }
 {
     let mut out = Vec::new(alloc);
-    put_id_line(&mut out, b"object ", &rel.object.id)?;
-    out.extend_from_slice(type_line(rel.object.kind))?;
-    out.extend_from_slice(rel.tag.as_slice())?;
-    out.push(b'\n')?;
+    put_release_head(&mut out, &rel.object, rel.tag.as_slice())?;
     out.extend_from_slice(rel.rest.as_slice())?;
     Ok(out)
 }

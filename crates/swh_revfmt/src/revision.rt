@@ -1,6 +1,6 @@
 //! Revisions: a directory, parents, and the rest.
 
-ghost use Rattle.std.specs.Prelude.{◌≡◌, ◌++◌, ℕ, List, IfOk, IfErr, OnOk};
+ghost use Rattle.std.specs.Prelude.{◌≡◌, ◌++◌, ℕ, List, IfOk, IfErr, OnOk, codes};
 ghost use Rattle.std.specs.List.{flat_map, AllByRecursion};
 ghost use Rattle.swh_base.specs.Name.{IsId};
 ghost use Rattle.swh_base.specs.Revision.{Revision, id_line, parent_line, revision_text, BeginsParent, IsRevision};
@@ -108,6 +108,23 @@ pub fn put_id_line(out: &mut Vec<u8>, word: &[u8], id: &[u8; 20]) -> Result<(), 
     Ok(())
 }
 
+/// The lines of a directory and of parents.
+pub fn revision_head(
+    alloc: Global,
+    directory: &[u8; 20],
+    parents: &[[u8; 20]],
+) -> Result<Vec<u8>, Memory>
+    ensures { IfOk result (λ out. out.items ≡ id_line (codes "tree ") directory.now
+        ++ flat_map parent_line parents.now) }
+{
+    let mut out = Vec::new(alloc);
+    put_id_line(&mut out, b"tree ", directory)?;
+    for parent in parents {
+        put_id_line(&mut out, b"parent ", parent)?;
+    }
+    Ok(out)
+}
+
 /// The text of these parts. It is the body of a revision with these parts where the rest does not begin with a parent
 /// line. Fails where memory runs out.
 pub fn write_rev(alloc: Global, rev: &Rev) -> Result<Vec<u8>, Memory>
@@ -115,11 +132,7 @@ pub fn write_rev(alloc: Global, rev: &Rev) -> Result<Vec<u8>, Memory>
     // What was read is written again, byte for byte.
     ensures same { (body : List ℕ) → IsRevision body (revision_of rev.now) → IfOk result (λ out. out.items ≡ body) }
 {
-    let mut out = Vec::new(alloc);
-    put_id_line(&mut out, b"tree ", &rev.directory)?;
-    for parent in rev.parents.as_slice() {
-        put_id_line(&mut out, b"parent ", parent)?;
-    }
+    let mut out = revision_head(alloc, &rev.directory, rev.parents.as_slice())?;
     out.extend_from_slice(rev.rest.as_slice())?;
     Ok(out)
 }

@@ -364,3 +364,23 @@ fn plain_releases(rt: HostRuntime) -> Result<(), Fail> {
     }
     Ok(())
 }
+
+#[test]
+fn plain_revisions_written(rt: HostRuntime) -> Result<(), Fail> {
+    let alloc = rt.alloc();
+    for body in [FIRST, MERGE, LATIN] {
+        let plain = plain_rev(alloc, body)?.ok_or("not plain")?;
+        assert!(rt; write_plain_rev(alloc, &plain)?.as_slice() == body);
+    }
+    Ok(())
+}
+
+#[test]
+fn plain_releases_written(rt: HostRuntime) -> Result<(), Fail> {
+    let alloc = rt.alloc();
+    for body in [TAG, TAG_OF_TAG] {
+        let plain = plain_rel(alloc, body)?.ok_or("not plain")?;
+        assert!(rt; write_plain_rel(alloc, &plain)?.as_slice() == body);
+    }
+    Ok(())
+}
