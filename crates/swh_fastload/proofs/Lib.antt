@@ -1,4 +1,3 @@
-pub mod MappedMaps
 pub mod Bodies
 pub mod Commits
 pub mod Cuts

@@ -1,11 +1,7 @@
-pub mod Aims
-pub mod Commands
 pub mod Feed
 pub mod Loaded
 pub mod Making
 pub mod Refusal
-pub mod Snapshots
-pub mod Tips
 pub mod Tree
 pub mod View
 pub mod Whole

@@ -3,7 +3,6 @@
 //! Callers may rely on: what is parsed is the grammar's one value, and what is loaded is the stream's meaning.
 #![tactic(auto)]
 
-mod aims;
 mod fault;
 mod ids;
 mod laws;
@@ -17,7 +16,6 @@ mod stream;
 mod tree;
 mod words;
 
-pub use aims::{Aims, Target};
 pub use fault::StreamFault;
 pub use laws::{one_meaning, one_reading};
 pub use load::{Objects, load_stream};

@@ -1,10 +1,10 @@
 use Rattle.std.proofs.Common.{◌∙◌, sym, ap, ℕ, List, Option, Some}
 use Rattle.std.specs.Ordering.{nat_cmp}
 use Rattle.swh_trees.specs.declared.tree.Tree.{Tree}
-use Rattle.swh_fastload.specs.Aims.{Aim, AllAims, with_mark}
-use Rattle.swh_fastload.specs.Tips.{aim_of, aims_of}
-use Rattle.swh_fastload.proofs.MappedMaps.{insert-mapped}
-use Rattle.swh_fastload.proofs.aims.Aims.set_mark.Goals as goal
+use Rattle.swh_commands.specs.Aims.{Aim, AllAims, with_mark}
+use Rattle.swh_commands.specs.Tips.{aim_of, aims_of}
+use Rattle.swh_commands.proofs.MappedMaps.{insert-mapped}
+use Rattle.swh_commands.proofs.aims.Aims.set_mark.Goals as goal
 
 pub returns-in_ok-insert-in-Some : goal.returns-in_ok-insert-in-Some
 returns-in_ok-insert-in-Some c =

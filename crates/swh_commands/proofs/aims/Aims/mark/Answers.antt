@@ -2,10 +2,10 @@ use Rattle.std.proofs.Common.{◌∙◌, sym, ap, ℕ}
 use Rattle.std.specs.Option.{option_map}
 use Rattle.std.specs.Ordering.{nat_cmp}
 use Rattle.std.specs.BTreeMap.{is_at}
-use Rattle.swh_fastload.specs.Aims.{mark_at}
-use Rattle.swh_fastload.specs.Tips.{aim_of}
-use Rattle.swh_fastload.proofs.MappedMaps.{lookup-mapped}
-use Rattle.swh_fastload.proofs.aims.Aims.mark.Goals as goal
+use Rattle.swh_commands.specs.Aims.{mark_at}
+use Rattle.swh_commands.specs.Tips.{aim_of}
+use Rattle.swh_commands.proofs.MappedMaps.{lookup-mapped}
+use Rattle.swh_commands.proofs.aims.Aims.mark.Goals as goal
 
 pub returns : goal.returns
 returns c =

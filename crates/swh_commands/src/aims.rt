@@ -1,8 +1,8 @@
 //! What marks and refs lead to while a stream is read (git-fast-import(1), mark, reset and tag).
 ghost use Rattle.std.specs.Prelude.{◌≡◌, OnOk};
 ghost use Rattle.std.specs.Option.{option_map};
-ghost use Rattle.swh_fastload.specs.Aims.{no_aims, mark_at, tip_at, with_mark, with_tip, without_tip, if_commit, if_blob};
-ghost use Rattle.swh_fastload.specs.Tips.{aim_of};
+ghost use Rattle.swh_commands.specs.Aims.{no_aims, mark_at, tip_at, with_mark, with_tip, without_tip, if_commit, if_blob};
+ghost use Rattle.swh_commands.specs.Tips.{aim_of};
 
 use std::alloc::Global;
 use std::collections::BTreeMap;
@@ -25,9 +25,9 @@ pub struct Aims {
 }
 
 impl Model for Aims {
-    ghost use Rattle.swh_fastload.specs.Aims.{AllAims};
+    ghost use Rattle.swh_commands.specs.Aims.{AllAims};
     ghost use Rattle.swh_trees.specs.declared.tree.Tree.{Tree};
-    ghost use Rattle.swh_fastload.specs.Tips.{aims_of};
+    ghost use Rattle.swh_commands.specs.Tips.{aims_of};
 
     ghost Value = { AllAims Tree };
 

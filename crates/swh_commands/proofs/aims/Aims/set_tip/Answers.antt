@@ -3,10 +3,10 @@ use Rattle.std.specs.Global.{Vec}
 use Rattle.std.specs.Ordering.{nat_cmp}
 use Rattle.std.specs.Cmp.Lexicographic.{slice_cmp}
 use Rattle.swh_trees.specs.declared.tree.Tree.{Tree}
-use Rattle.swh_fastload.specs.Aims.{Aim, AllAims, with_tip}
-use Rattle.swh_fastload.specs.Tips.{aim_of, aims_of}
-use Rattle.swh_fastload.proofs.MappedMaps.{insert-mapped}
-use Rattle.swh_fastload.proofs.aims.Aims.set_tip.Goals as goal
+use Rattle.swh_commands.specs.Aims.{Aim, AllAims, with_tip}
+use Rattle.swh_commands.specs.Tips.{aim_of, aims_of}
+use Rattle.swh_commands.proofs.MappedMaps.{insert-mapped}
+use Rattle.swh_commands.proofs.aims.Aims.set_tip.Goals as goal
 
 pub returns : goal.returns
 returns c =

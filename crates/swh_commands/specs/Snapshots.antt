@@ -4,10 +4,11 @@ use Rattle.std.specs.Prelude.{ℕ, not, List, map, filter, Option, codes}
 use Rattle.std.specs.Ordering.{nat_cmp}
 use Rattle.std.specs.BTreeMap.{is_at}
 use Rattle.std.specs.Cmp.Lexicographic.{slice_cmp}
-use Rattle.swh_base.specs.Snapshot.{SnapshotBranch}
+use Rattle.swh_base.specs.declared.kind.Kind.TheVariants.{Snapshot}
+use Rattle.swh_base.specs.Snapshot.{SnapshotBranch, snapshot_text}
 use Rattle.swh_base.specs.Snapshot.BranchTarget.{ToObject}
-use Rattle.swh_model.specs.Meaning.{Made, with_head, snapshot}
-use Rattle.swh_fastload.specs.Aims.{Aim, AllAims}
+use Rattle.swh_model.specs.Meaning.{Made, with_head}
+use Rattle.swh_commands.specs.Aims.{Aim, AllAims}
 
 -- the branch of a tip
 abbrev pub tip_branch : {T : Type 0} → List ℕ × Aim T → SnapshotBranch
@@ -23,4 +24,4 @@ refs_of aims = filter (λ e. not (is_at (slice_cmp nat_cmp (codes "HEAD")) e.0))
 
 -- the snapshot of a head, where one is named, and of the tips
 abbrev pub snapshot_of : {T : Type 0} → Option (List ℕ) → AllAims T → Made
-snapshot_of head aims = snapshot (branches_of head aims)
+snapshot_of head aims = record { kind = Snapshot; body = snapshot_text (branches_of head aims) }

@@ -2,8 +2,8 @@
 use Rattle.std.specs.Prelude.{ℕ, List, map}
 use Rattle.std.specs.Global.{Vec}
 use Rattle.swh_trees.specs.declared.tree.Tree.{Tree}
-use Rattle.swh_fastload.specs.declared.aims.Target.{Target}
-use Rattle.swh_fastload.specs.Aims.{Aim, AllAims}
+use Rattle.swh_commands.specs.declared.aims.Target.{Target}
+use Rattle.swh_commands.specs.Aims.{Aim, AllAims}
 
 -- an object, as a mark leads to it
 abbrev pub aim_of : Target → Aim Tree

@@ -4,10 +4,10 @@ use Rattle.std.specs.Ordering.{nat_cmp}
 use Rattle.std.specs.Cmp.Lexicographic.{slice_cmp}
 use Rattle.std.specs.BTreeMap.{is_at}
 use Rattle.swh_trees.specs.declared.tree.Tree.{Tree}
-use Rattle.swh_fastload.specs.Aims.{Aim, AllAims, without_tip}
-use Rattle.swh_fastload.specs.Tips.{aim_of, aims_of}
-use Rattle.swh_fastload.proofs.MappedMaps.{remove-mapped}
-use Rattle.swh_fastload.proofs.aims.Aims.drop_tip.Goals as goal
+use Rattle.swh_commands.specs.Aims.{Aim, AllAims, without_tip}
+use Rattle.swh_commands.specs.Tips.{aim_of, aims_of}
+use Rattle.swh_commands.proofs.MappedMaps.{remove-mapped}
+use Rattle.swh_commands.proofs.aims.Aims.drop_tip.Goals as goal
 
 pub returns : goal.returns
 returns c =

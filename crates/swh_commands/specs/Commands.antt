@@ -19,7 +19,7 @@ use Rattle.swh_fastread.specs.declared.command.Change.TheVariants.{Set, Delete, 
 use Rattle.swh_fastread.specs.declared.command.Command.{Command}
 use Rattle.swh_fastread.specs.declared.command.Command.TheVariants.{Blob, Commit, Tag, Reset}
 use Rattle.swh_fastread.specs.declared.fault.StreamWhy.TheVariants.{Mark as NoMark, Place as NoPlace}
-use Rattle.swh_fastload.specs.Aims.{Aim, AllAims, Missing, no_aims, mark_at, tip_at, with_mark, with_tip, without_tip, if_commit, if_blob, or_missing, commit_at, object_at}
+use Rattle.swh_commands.specs.Aims.{Aim, AllAims, Missing, no_aims, mark_at, tip_at, with_mark, with_tip, without_tip, if_commit, if_blob, or_missing, commit_at, object_at}
 
 -- an object with a commit's tree as a path map, and all that marks and refs lead to
 abbrev pub Target : Type 0

@@ -1,0 +1,4 @@
+pub mod Aims
+pub mod Commands
+pub mod Snapshots
+pub mod Tips
