@@ -148,7 +148,7 @@ impl<N: Namer> Trees<N> {
     }
 
     /// The tree with what the source holds at the target too (git-fast-import(1), filecopy); none where the source holds
-    /// nothing. The other trees whose objects were not made are given up. Fails where memory runs out.
+    /// nothing, and then the tree stands as before. The other trees whose objects were not made are given up. Fails where memory runs out.
     pub fn copy(
         &mut self,
         alloc: Global,
@@ -161,6 +161,7 @@ impl<N: Namer> Trees<N> {
         requires target { IsPath target.now }
         ensures keeps { Keeps self.old self.new }
         ensures none { IfOk result (λ o. IfNone o (held (components source.now) (map_of self.old tree) ≡ [])) }
+        ensures left { IfOk result (λ o. IfNone o (StandsFor self.new tree (map_of self.old tree))) }
         ensures some { IfOk result (λ o. IfSome o (λ t. held (components source.now) (map_of self.old tree) ≢ [])) }
         ensures map { IfOk result (λ o. IfSome o (λ t. StandsFor self.new t
             (copy (components source.now) (components target.now) (map_of self.old tree)))) }
@@ -171,8 +172,8 @@ impl<N: Namer> Trees<N> {
     }
 
     /// The tree with what the source holds at the target, and no more at the source, which is removed first
-    /// (git-fast-import(1), filerename); none where the source holds nothing. The other trees whose objects were not made
-    /// are given up. Fails where memory runs out.
+    /// (git-fast-import(1), filerename); none where the source holds nothing, and then the tree stands as before. The
+    /// other trees whose objects were not made are given up. Fails where memory runs out.
     pub fn rename(
         &mut self,
         alloc: Global,
@@ -185,6 +186,7 @@ impl<N: Namer> Trees<N> {
         requires target { IsPath target.now }
         ensures keeps { Keeps self.old self.new }
         ensures none { IfOk result (λ o. IfNone o (held (components source.now) (map_of self.old tree) ≡ [])) }
+        ensures left { IfOk result (λ o. IfNone o (StandsFor self.new tree (map_of self.old tree))) }
         ensures some { IfOk result (λ o. IfSome o (λ t. held (components source.now) (map_of self.old tree) ≢ [])) }
         ensures map { IfOk result (λ o. IfSome o (λ t. StandsFor self.new t
             (rename (components source.now) (components target.now) (map_of self.old tree)))) }
