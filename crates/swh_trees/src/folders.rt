@@ -115,7 +115,8 @@ pub fn set_in(
     requires leaf { IsLeaf leaf }
     ensures stays { StaysBelow base folders.old folders.new }
     ensures inside { IfOk result (λ r. IsBelow (count_of folders.new) r) }
-    ensures map { IfOk result (λ r. root_map folders.new r ≡ set (components path.now) leaf (root_map folders.old root)) }
+    ensures map { IfOk result (λ r. root_map folders.new r
+        ≡ set (components path.now) leaf (root_map folders.old root)) }
 {
     let there = set_leaf(
         alloc,
