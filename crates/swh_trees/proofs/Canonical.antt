@@ -1,6 +1,6 @@
 -- A folder's map ascends, and maps that ascend and hold the same are the same list.
 use Rattle.std.proofs.Common.{◌≡◌, ◌≢◌, ℕ, Bool, true, false, not, cond, List, [], ◌∷◌, ◌++◌, Option, Some, None, refl, sym, ap, ◌∙◌, inl, inr, ◌⊎◌}
-use Rattle.std.specs.Prelude.{◌||◌, filter, Result, Ok, Err, IfOk}
+use Rattle.std.specs.Prelude.{filter, Result, Ok, Err, IfOk}
 use Rattle.std.specs.Ordering.{nat_cmp, is_lt, ordering_then}
 use Rattle.std.specs.Cmp.Lexicographic.{slice_cmp}
 use Rattle.std.specs.declared.cmp.Ordering.{Ordering}
@@ -11,7 +11,7 @@ use Rattle.std.proofs.lemmas.Map.Lookups.{exact_bytes}
 use Rattle.swh_trees.specs.declared.entry.Leaf.{Leaf}
 use Rattle.swh_trees.specs.Forest.{Forest, Bare, File, Folder, Stands, Nothing, IsFile, IsFolder, is_before, child_at, put, folder, forest, step, found, graft, deleted, deleted_where, at, flat}
 use Rattle.swh_trees.specs.Sound.{Follows, IsSound}
-use Rattle.swh_trees.specs.PathMap.{PathMap, same_path, leaf_at, begins, keys, is_path_before, insert_path, cleared, set, delete}
+use Rattle.swh_trees.specs.PathMap.{PathMap, same_path, leaf_at, begins, keys, is_path_before, insert_path, delete}
 use Rattle.swh_base.specs.Directory.{IsEntryName}
 use Rattle.swh_trees.proofs.Directories.{under, HavePaths, paths-flat}
 use Rattle.swh_trees.proofs.Lookups.{path_is, path_self, map-at, delete-is}
@@ -37,7 +37,7 @@ never p a =
     let t = (lists_total nat_list_cmp_total).antisymm (keys p) (keys p) in
     let bad : Less ≡ Greater = rw e at t in cc
 
--- what is held stands behind what all come after
+-- what is held stands after what all come after
 held-case : (b : Bool) (p q r : List (List ℕ)) (l k : Leaf) (x : Option Leaf) → same_path r q ≡ b → is_path_before p r ≡ true → (x ≡ Some k → is_path_before p q ≡ true) → cond b (Some l) x ≡ Some k → is_path_before p q ≡ true
 held-case true p q r l k x e first more h = let is = path_is r q e in rw (← is) first
 held-case false p q r l k x e first more h = more h

@@ -1,6 +1,6 @@
 -- The components of a path, cut at its first slash, and the names that they are.
 use Rattle.std.proofs.Common.{rules, tests, ◌≡◌, ◌≢◌, ℕ, suc, zero, ◌==◌, Bool, true, false, cond, List, [], ◌∷◌, ◌++◌, Contains, refl, ap, ◌∙◌, arith}
-use Rattle.std.specs.List.{onto_first, slice_split, AllByRecursion}
+use Rattle.std.specs.List.{onto_first, AllByRecursion}
 use Rattle.std.proofs.lemmas.List.Splits.{slice_split-cons_no}
 use Rattle.swh_base.specs.Directory.{IsEntryName}
 use Rattle.swh_trees.specs.Path.{components, IsComponent, IsPath}

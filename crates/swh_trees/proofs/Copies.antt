@@ -8,7 +8,7 @@ use Rattle.swh_trees.specs.declared.entry.Entry.{Entry}
 use Rattle.swh_trees.specs.Arena.{texts, layers, among, AllGood, tree_at, forest_of, AreGood, IsArena}
 use Rattle.swh_trees.specs.Forest.{Stands, forest}
 use Rattle.swh_trees.specs.Sound.{IsSound}
-use Rattle.swh_trees.specs.Held.{AreSound, IsGood}
+use Rattle.swh_trees.specs.Held.{IsGood}
 use Rattle.swh_trees.specs.Live.{is_live, IsPart}
 use Rattle.swh_trees.specs.Moved.{IsCopied}
 use Rattle.swh_trees.proofs.Arenas.{tree-push_old, tree-push_new, arena-push, among-older, length-layers}

@@ -7,7 +7,7 @@ use Rattle.std.specs.declared.cmp.Ordering.TheVariants.{Less, Equal, Greater}
 use Rattle.std.specs.Prelude.{◌&&◌}
 use Rattle.std.proofs.lemmas.Cmp.{nat_list_cmp_total}
 use Rattle.swh_trees.specs.declared.entry.Leaf.{Leaf}
-use Rattle.swh_trees.specs.Forest.{Forest, Bare, File, Folder, Stands, Nothing, IsFile, IsFolder, child_at, is_before, forest, leaf_of, flat, shown, entry_here, directory}
+use Rattle.swh_trees.specs.Forest.{Forest, Bare, File, Folder, Stands, Nothing, IsFile, IsFolder, child_at, is_before, leaf_of, flat, shown, entry_here, directory}
 use Rattle.swh_trees.specs.PathMap.{same, PathMap, same_path, leaf_at, held_by}
 use Rattle.swh_trees.specs.Sound.{Follows, IsLeaf, IsSound}
 use Rattle.swh_trees.specs.Directory.{insert_entry, ordered, first, entry_at, directory_within, depth_of, directory_id, directory_of}

@@ -1,13 +1,12 @@
 -- What an edit of a root's folder makes of the root's map.
 use Rattle.std.proofs.Common.{◌≡◌, ◌≢◌, ℕ, List, [], ◌∷◌, length, Option, Some, None, refl, sym, ap, subst, ◌∙◌}
-use Rattle.std.specs.List.{AllByRecursion}
 use Rattle.std.specs.Global.{Vec}
 use Rattle.swh_trees.specs.declared.entry.Leaf.{Leaf}
 use Rattle.swh_trees.specs.declared.entry.Entry.{Entry}
 use Rattle.swh_trees.specs.declared.entry.Child.{Child}
 use Rattle.swh_trees.specs.declared.entry.Child.TheVariants.{File as FileChild, Folder as FolderChild}
 use Rattle.swh_trees.specs.Arena.{stands, stands_of, tree_at}
-use Rattle.swh_trees.specs.Forest.{Forest, Bare, Stands, Nothing, IsFile, IsFolder, child_at, forest, found, graft, deleted, flat, shown}
+use Rattle.swh_trees.specs.Forest.{Forest, Stands, Nothing, IsFile, IsFolder, child_at, forest, found, graft, deleted, flat, shown}
 use Rattle.swh_trees.specs.PathMap.{PathMap, set, delete, copy, rename, held}
 use Rattle.swh_trees.specs.Sound.{IsLeaf, IsSound, IsSoundHere}
 use Rattle.swh_trees.specs.Grove.{IsBelow, map_of_number}

@@ -41,7 +41,7 @@ without-same c Bare = refl
 without-same c (File n l f) = drop_same n c (IsFile l) (without c f) (same n c) refl (without-same c f)
 without-same c (Folder n g f) = drop_same n c (IsFolder g) (without c f) (same n c) refl (without-same c f)
 
--- equal at d stay equal behind an entry
+-- equal at d stay equal after an entry
 behind : (n d : List ℕ) (y : Stands) (f f' : Forest) → child_at d f' ≡ child_at d f → child_at d (beside n y f') ≡ child_at d (beside n y f)
 behind n d Nothing f f' h = h
 behind n d (IsFile l) f f' h = ap (cond (same n d) (IsFile l)) h
@@ -64,7 +64,7 @@ behind_folder : (b : Bool) (g : Forest) (old new x : Stands) → cond b (IsFolde
 behind_folder true g old new x h more = absurd (cc)
 behind_folder false g old new x h more = more h
 
--- an entry that does not stand there yet, put before or behind one
+-- an entry that does not stand there yet, put before or after one
 place_same : (n c : List ℕ) (y x : Stands) (f f' : Forest) (b : Bool) → child_at c (beside n y f) ≡ Nothing → (child_at c f ≡ Nothing → child_at c f' ≡ x) → child_at c (cond b (beside c x (beside n y f)) (beside n y f')) ≡ x
 place_same n c y x f f' true h more = beside-same c x (beside n y f) h
 place_same n c Nothing x f f' false h more = more h

@@ -1,19 +1,17 @@
 -- The entries of a folder's directory, and their ids and objects.
-use Rattle.std.proofs.Common.{◌≡◌, ◌≢◌, ◌⊎◌, ℕ, zero, suc, ◌+◌, ◌<◌, ◌≤◌, eqb, Bool, true, false, cond, List, [], ◌∷◌, ◌++◌, length, drop, map, get_or, refl, sym, ap, subst, ◌∙◌, inl, inr, arith, add-one, append_assoc}
+use Rattle.std.proofs.Common.{◌≡◌, ◌≢◌, ℕ, suc, ◌+◌, ◌<◌, ◌≤◌, true, List, [], ◌∷◌, ◌++◌, length, drop, get_or, refl, sym, ap, subst, ◌∙◌, inl, inr, arith, add-one, append_assoc}
 use Rattle.std.proofs.lemmas.Bool.{cases_lt}
 use Rattle.std.proofs.lemmas.List.{get_or_append_left, length-append, append-nil}
 use Rattle.std.proofs.Math.Seq.{get_or-append_seam}
-use Rattle.std.specs.Prelude.{All}
-use Rattle.std.specs.Ordering.{nat_cmp, is_lt}
-use Rattle.std.specs.declared.cmp.Ordering.{Ordering}
-use Rattle.std.specs.declared.cmp.Ordering.TheVariants.{Less, Equal, Greater}
+use Rattle.std.specs.Ordering.{nat_cmp}
+use Rattle.std.specs.declared.cmp.Ordering.TheVariants.{Less}
 use Rattle.std.specs.Cmp.Lexicographic.{slice_cmp}
 use Rattle.std.specs.List.{AllByRecursion}
 use Rattle.swh_base.specs.declared.entry.Entry.{Entry as Object}
 use Rattle.swh_base.specs.declared.kind.Kind.{Kind}
-use Rattle.swh_base.specs.Directory.{IsMode, AreEntries, IsBefore, sort_key}
+use Rattle.swh_base.specs.Directory.{IsMode, AreEntries, sort_key}
 use Rattle.swh_dirfmt.specs.declared.entry.DirEntry.{DirEntry}
-use Rattle.swh_dirfmt.specs.Entries.{entry_view, entry_views}
+use Rattle.swh_dirfmt.specs.Entries.{entry_views}
 use Rattle.swh_trees.specs.Held.{AreIds}
 use Rattle.swh_trees.specs.Leaf.{IsLeafMode}
 use Rattle.swh_trees.specs.declared.fault.TreeFault.{TreeFault}
@@ -27,7 +25,7 @@ use Rattle.std.proofs.Math.Seq.{drop-cons}
 use Rattle.swh_trees.specs.declared.entry.Entry.{Entry}
 use Rattle.swh_trees.specs.declared.entry.Child.{Child}
 use Rattle.swh_trees.specs.declared.entry.Child.TheVariants.{File as FileChild, Folder as FolderChild}
-use Rattle.swh_trees.specs.Forest.{Forest, Bare, File, Folder, Nothing, IsFile, IsFolder, child_at, is_before, beside, directory, entry_here}
+use Rattle.swh_trees.specs.Forest.{Forest, Bare, File, Folder, Nothing, child_at, is_before, beside, directory, entry_here}
 use Rattle.swh_base.specs.Directory.{DirectoryEntry}
 use Rattle.swh_trees.specs.Arena.{name_at, stands, forest_of}
 

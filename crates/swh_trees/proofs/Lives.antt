@@ -1,6 +1,5 @@
 -- Marked folders: what marking one more does, and that the marked ones are parts of the root.
-use Rattle.std.proofs.Common.{◌≡◌, ◌≢◌, ℕ, suc, zero, ◌+◌, ◌-◌, ◌<◌, ◌≤◌, Bool, true, false, cond, List, [], ◌∷◌, ◌++◌, length, take, drop, get_or, refl, sym, ap, subst, ◌∙◌, inl, inr, ◌⊎◌, arith}
-use Rattle.std.proofs.Math.Seq.{get_or-append_seam}
+use Rattle.std.proofs.Common.{◌≡◌, ◌≢◌, ℕ, suc, zero, ◌+◌, ◌-◌, ◌<◌, ◌≤◌, Bool, true, false, List, [], ◌∷◌, ◌++◌, length, take, drop, get_or, refl, sym, ap, subst, ◌∙◌, inl, inr, ◌⊎◌, arith}
 use Rattle.std.proofs.lemmas.Bool.{cases_lt}
 use Rattle.std.proofs.lemmas.List.{get_or_default, drop_all, take_all, append-nil}
 use Rattle.std.specs.Global.{Vec}
@@ -8,7 +7,7 @@ use Rattle.swh_trees.specs.declared.entry.Child.{Child}
 use Rattle.swh_trees.specs.declared.entry.Child.TheVariants.{File as FileChild, Folder as FolderChild}
 use Rattle.swh_trees.specs.declared.entry.Entry.{Entry}
 use Rattle.swh_trees.specs.Arena.{name_at, stands, forest_of, texts, tree_at, IsArena, IsLower}
-use Rattle.swh_trees.specs.Forest.{Forest, Bare, File, Folder, Stands, Nothing, IsFile, IsFolder, beside, child_at, forest, step, found}
+use Rattle.swh_trees.specs.Forest.{Forest, Stands, Nothing, IsFile, IsFolder, beside, child_at, forest, step, found}
 use Rattle.swh_trees.specs.PathMap.{same}
 use Rattle.swh_trees.specs.Sound.{IsSound, IsSoundHere}
 use Rattle.swh_trees.specs.Held.{AreSound}

@@ -2,8 +2,8 @@
 use Rattle.std.proofs.Common.{◌≡◌, ◌≢◌, ℕ, Bool, true, false, not, cond, List, [], ◌∷◌, ◌++◌, Option, Some, None, refl, sym, ap, ◌∙◌}
 use Rattle.std.specs.Prelude.{◌&&◌, ◌||◌, filter}
 use Rattle.swh_trees.specs.declared.entry.Leaf.{Leaf}
-use Rattle.swh_trees.specs.Forest.{Forest, Bare, File, Folder, Stands, Nothing, IsFile, IsFolder, child_at, leaf_of, step, found, graft, deleted, deleted_where, at, flat}
-use Rattle.swh_trees.specs.PathMap.{same, PathMap, same_path, leaf_at, begins, is_path_before, insert_path, cleared, set, delete}
+use Rattle.swh_trees.specs.Forest.{Forest, Bare, File, Folder, Stands, Nothing, IsFile, IsFolder, child_at, leaf_of, step, found, deleted, deleted_where, at, flat}
+use Rattle.swh_trees.specs.PathMap.{same, PathMap, same_path, leaf_at, begins, is_path_before, insert_path, cleared, delete}
 use Rattle.swh_trees.specs.Sound.{IsSound}
 use Rattle.swh_trees.proofs.Grafts.{same_is, same_self, not_same, graft-under, graft-front, graft-aside}
 use Rattle.swh_trees.proofs.Directories.{under, HavePaths, paths-flat}

@@ -7,7 +7,7 @@ use Rattle.swh_trees.specs.declared.entry.Child.TheVariants.{File as FileChild, 
 use Rattle.swh_trees.specs.Forest.{Forest, Bare, File, Folder, Stands, beside}
 use Rattle.swh_trees.specs.Arena.{name_at, stands, forest_of, IsGood, AreGood}
 
--- one folder's entries behind another's
+-- one folder's entries after another's
 join : Forest → Forest → Forest
 join Bare g = g
 join (File n l f) g = File n l (join f g)

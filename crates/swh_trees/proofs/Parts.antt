@@ -18,9 +18,9 @@ use Rattle.swh_trees.specs.declared.folders.Folders.{Folders}
 use Rattle.swh_trees.specs.declared.tree.Tree.{Tree}
 use Rattle.swh_trees.specs.Arena.{name_at, stands, forest_of, texts, tree_at, AreGood, IsLower}
 use Rattle.swh_trees.specs.Directory.{directory_id, directory_of}
-use Rattle.swh_trees.specs.Forest.{Forest, Bare, File, Folder, Stands, Nothing, IsFile, IsFolder, beside, child_at, forest, found, leaf_of, at, flat, shown, directory}
-use Rattle.swh_trees.specs.Grove.{Grove, StandsFor, Keeps, IsTree, IsBelow, folder_map, map_of, map_of_number}
-use Rattle.swh_trees.specs.Held.{AreSound, IsGood, AreIds, IsEmptyFolder, IsHeld, first_values, grove, map_at, root_forest, kept_number, kept_empty}
+use Rattle.swh_trees.specs.Forest.{Forest, Stands, Nothing, IsFile, IsFolder, beside, child_at, forest, found, leaf_of, at, flat, shown, directory}
+use Rattle.swh_trees.specs.Grove.{StandsFor, Keeps, IsTree, IsBelow, folder_map, map_of, map_of_number}
+use Rattle.swh_trees.specs.Held.{AreIds, IsEmptyFolder, IsHeld, first_values, grove, map_at, root_forest, kept_number, kept_empty}
 use Rattle.swh_trees.specs.Live.{IsPart}
 use Rattle.swh_trees.specs.Makes.{IsFolderOf, IsNumbered, Makes, ExplainsTree}
 use Rattle.swh_trees.specs.Objects.{IsDirectoryObject, AreDirectoryObjects}
@@ -281,3 +281,7 @@ some-both (Some n) P Q h k = (h, k)
 pub on-err : {A E P : Type 0} (r : Result A E) → P → OnErr r P
 on-err (Ok x) p = tt
 on-err (Err e) p = p
+
+pub none-both : (found : Option (Option ℕ)) (P Q R : Type 0) → IfNone found P → IfNone found Q → (P → Q → R) → IfNone found R
+none-both None P Q R h k more = more h k
+none-both (Some n) P Q R h k more = tt

@@ -1,17 +1,17 @@
 -- What is put at a path of a folder is put at that path of its map.
-use Rattle.std.proofs.Common.{◌≡◌, ◌≢◌, ℕ, Bool, true, false, not, cond, List, [], ◌∷◌, ◌++◌, Option, Some, None, refl, sym, ap, ◌∙◌}
+use Rattle.std.proofs.Common.{◌≡◌, ◌≢◌, ℕ, Bool, true, false, not, cond, List, [], ◌∷◌, ◌++◌, Some, None, refl, sym, ap, ◌∙◌}
 use Rattle.std.specs.Prelude.{◌&&◌, ◌||◌, filter}
 use Rattle.std.specs.List.{AllByRecursion}
 use Rattle.swh_base.specs.Directory.{IsEntryName}
 use Rattle.swh_trees.specs.declared.entry.Leaf.{Leaf}
-use Rattle.swh_trees.specs.PathMap.{PathMap, same, same_path, begins, leaf_at, is_path_before, insert_path, cleared, set, delete, held_by, held, insert_under, put_held, copy, rename}
-use Rattle.swh_trees.specs.Forest.{Forest, Bare, File, Folder, Stands, Nothing, IsFile, IsFolder, child_at, put, folder, forest, step, found, graft, leaf_of, at, deleted, deleted_where, flat, shown}
+use Rattle.swh_trees.specs.PathMap.{PathMap, same, same_path, begins, leaf_at, is_path_before, insert_path, cleared, set, delete, held, insert_under, put_held, copy, rename}
+use Rattle.swh_trees.specs.Forest.{Forest, Stands, Nothing, IsFile, IsFolder, child_at, put, folder, forest, step, found, graft, leaf_of, at, deleted_where, flat, shown}
 use Rattle.swh_trees.specs.Sound.{IsLeaf, IsSound, IsSoundHere}
 use Rattle.swh_trees.proofs.Grafts.{same_self, graft-under, graft-front, graft-aside}
 use Rattle.swh_trees.proofs.Sounds.{IsPlain, plains-of, forest-sound, child-sound, into-sound}
 use Rattle.swh_trees.proofs.Directories.{held-by, flat-some}
 use Rattle.swh_trees.proofs.Lookups.{Meet, Under, Front, Aside, meet, path_self, map-at, leaf-insert, leaf-cleared, past_first, begins-more, begins-front, begins-aside, found-nothing, found-file, append_none}
-use Rattle.swh_trees.proofs.Canonical.{Ascends, ascends, ArePlain, AreOther, same-map, leaf-forest, not-later, path-other, plain-flat, insert-ascends, filter-ascends, delete-here, deleted-sound}
+use Rattle.swh_trees.proofs.Canonical.{Ascends, ascends, ArePlain, AreOther, same-map, leaf-forest, not-later, path-other, plain-flat, insert-ascends, filter-ascends, delete-here}
 
 -- ## What is held
 

@@ -11,7 +11,7 @@ use Rattle.std.proofs.lemmas.Map.Lookups.{exact_bytes}
 use Rattle.swh_trees.specs.declared.entry.Leaf.{Leaf}
 use Rattle.swh_trees.specs.Forest.{Forest, Bare, File, Folder, Stands, Nothing, IsFile, IsFolder, beside, child_at, without, key, is_before, inserted, put, folder, forest, step, found, graft}
 use Rattle.swh_trees.specs.PathMap.{same}
-use Rattle.swh_trees.specs.Sound.{Follows, IsLeaf, IsSound, IsSoundHere}
+use Rattle.swh_trees.specs.Sound.{Follows, IsSound, IsSoundHere}
 use Rattle.swh_base.specs.Directory.{IsEntryName}
 use Rattle.swh_trees.proofs.Grafts.{same_is, same_self, without-same, without-other, inserted-other}
 
@@ -134,7 +134,7 @@ beside-sound c Nothing f p h fresh fol s = s
 beside-sound c (IsFile l) f p h fresh fol s = (p, h, fresh, fol, s)
 beside-sound c (IsFolder g) f p h fresh fol s = (p, h.0, h.1, fresh, fol, s)
 
--- what is put behind a key stays behind it
+-- what is put after a key stays after it
 beside-follows : (k c : List ℕ) (x : Stands) (f : Forest) → is_before k (key c x) ≡ true → Follows k f → Follows k (beside c x f)
 beside-follows k c Nothing f p h = h
 beside-follows k c (IsFile l) f p h = p

@@ -1,14 +1,15 @@
 -- What stays of folders at work.
-use Rattle.std.proofs.Common.{◌≡◌, ℕ, ◌<◌, ◌≤◌, List, [], ◌∷◌, ◌++◌, length, ap, ◌∙◌, arith}
+use Rattle.std.proofs.Common.{◌≡◌, ℕ, ◌≤◌, List, [], ◌∷◌, ◌++◌, length, Option, Some, None, refl, ap, ◌∙◌, arith}
 use Rattle.std.specs.Global.{Vec}
 use Rattle.swh_trees.specs.declared.entry.Entry.{Entry}
 use Rattle.swh_trees.specs.declared.folders.Folders.{Folders}
 use Rattle.swh_trees.specs.Arena.{tree_at, forest_of, texts, Grows}
-use Rattle.swh_trees.specs.Held.{IsGood}
+use Rattle.swh_trees.specs.Held.{IsGood, map_at}
 use Rattle.swh_trees.specs.Working.{AreFolders, count_of, StaysBelow}
+use Rattle.swh_trees.specs.Grove.{IsBelow, map_of_number}
 use Rattle.swh_trees.proofs.Arenas.{arena-none, arena-push, sound-push, tree-push_old, tree-push_new}
 use Rattle.std.proofs.lemmas.List.{length-append}
-use Rattle.swh_trees.specs.Forest.{Bare}
+use Rattle.swh_trees.specs.Forest.{Bare, flat}
 
 pub good-none : IsGood [] []
 good-none = record { arena = arena-none; sound = λ i lt. absurd (omega arith) }
@@ -36,3 +37,11 @@ stays-pushed base old new v le good none names nodes = record {
 
 pub tree-pushed : (names : List (Vec ℕ)) (nodes : List (Vec Entry)) (v : Vec Entry) → v.items ≡ [] → tree_at names (nodes ++ v ∷ []) (length nodes) ≡ Bare
 tree-pushed names nodes v none = tree-push_new names nodes v ∙ ap (forest_of (texts names) (tree_at names nodes)) none
+
+pub below-grown : (names names' : List (Vec ℕ)) (nodes nodes' : List (Vec Entry)) (root : Option ℕ) → IsBelow (length nodes) root → Grows names nodes names' nodes' → IsBelow (length nodes') root
+below-grown names names' nodes nodes' None low grows = tt
+below-grown names names' nodes nodes' (Some n) low grows = let more = grows.longer in omega arith
+
+pub map-grown : (names names' : List (Vec ℕ)) (nodes nodes' : List (Vec Entry)) (root : Option ℕ) → IsBelow (length nodes) root → Grows names nodes names' nodes' → map_of_number (map_at names' nodes') root ≡ map_of_number (map_at names nodes) root
+map-grown names names' nodes nodes' None low grows = refl
+map-grown names names' nodes nodes' (Some n) low grows = ap flat (grows.trees n low)

@@ -1,5 +1,5 @@
 -- Folders in order, with distinct names, and none of them empty but the root.
-use Rattle.std.specs.Prelude.{◌≡◌, ◌≢◌, ◌⊎◌, ℕ, true, List, [], ◌∷◌, ◌++◌, length}
+use Rattle.std.specs.Prelude.{◌≡◌, ◌≢◌, ℕ, true, List, [], ◌∷◌, ◌++◌, length}
 use Rattle.swh_base.specs.Directory.{IsEntryName}
 use Rattle.swh_trees.specs.declared.entry.Leaf.{Leaf}
 use Rattle.swh_trees.specs.Leaf.{IsLeafMode}

@@ -1,6 +1,5 @@
 -- Folders at work, of which those below a base stay.
 use Rattle.std.specs.Prelude.{◌≡◌, ℕ, ◌<◌, ◌≤◌, List, length, Option}
-use Rattle.swh_base.specs.declared.kind.Kind.{Kind}
 use Rattle.swh_base.specs.Directory.{DirectoryEntry, directory_text}
 use Rattle.swh_base.specs.Limits.{body_limit}
 use Rattle.swh_trees.specs.declared.fault.TreeFault.{TreeFault}

@@ -4,7 +4,20 @@ ghost use Rattle.std.specs.Prelude.{◌≡◌, ◌<◌, ◌≤◌, ℕ, List, le
 ghost use Rattle.std.specs.Global.{Vec};
 ghost use Rattle.swh_trees.specs.Forest.{Forest, step, without, inserted, put, folder, forest};
 ghost use Rattle.swh_trees.specs.Sound.{IsSound, IsSoundHere};
-ghost use Rattle.swh_trees.specs.Arena.{name_at, stands, stands_of, forest_of, texts, tree_at, IsArena, AreGood, IsLower, IsIn, Grows, Extends};
+ghost use Rattle.swh_trees.specs.Arena.{
+  name_at,
+  stands,
+  stands_of,
+  forest_of,
+  texts,
+  tree_at,
+  IsArena,
+  AreGood,
+  IsLower,
+  IsIn,
+  Grows,
+  Extends,
+};
 ghost use Rattle.swh_base.specs.Directory.{IsEntryName};
 ghost use Rattle.swh_trees.specs.Held.{AreSound, IsGood};
 
@@ -15,8 +28,11 @@ use std::alloc::{AllocError, Global};
 /// The entries of the folder that stands here; none where no folder does.
 fn entries_of(nodes: &[Vec<Entry>], under: Option<Child>) -> &[Entry]
     requires { IsIn (length nodes.now) under }
-    ensures good { (names : List (Vec ℕ)) → IsArena names nodes.now → AreGood (length names) (length nodes.now) result.now }
-    ensures forest { (names : List (Vec ℕ)) → IsArena names nodes.now → forest_of (texts names) (tree_at names nodes.now) result.now ≡ forest (stands_of (tree_at names nodes.now) under) }
+    ensures good { (names : List (Vec ℕ)) → IsArena names nodes.now
+        → AreGood (length names) (length nodes.now) result.now }
+    ensures forest { (names : List (Vec ℕ)) → IsArena names nodes.now
+        → forest_of (texts names) (tree_at names nodes.now) result.now
+        ≡ forest (stands_of (tree_at names nodes.now) under) }
 {
     match under {
         Some(child) => match child {
@@ -37,7 +53,8 @@ pub fn step(
     requires good { IsArena names.now nodes.now }
     requires under { IsIn (length nodes.now) under }
     ensures inside { IsIn (length nodes.now) result }
-    ensures child { stands_of (tree_at names.now nodes.now) result ≡ step name.now (stands_of (tree_at names.now nodes.now) under) }
+    ensures child { stands_of (tree_at names.now nodes.now) result
+        ≡ step name.now (stands_of (tree_at names.now nodes.now) under) }
 {
     child_in(names, entries_of(nodes, under), name)
 }
@@ -53,7 +70,8 @@ fn cleared(
     requires good { IsArena names.now nodes.now }
     requires under { IsIn (length nodes.now) under }
     ensures good { IfOk result (λ v. AreGood (length names.now) (length nodes.now) v.items) }
-    ensures forest { IfOk result (λ v. forest_of (texts names.now) (tree_at names.now nodes.now) v.items ≡ without name.now (forest (stands_of (tree_at names.now nodes.now) under))) }
+    ensures forest { IfOk result (λ v. forest_of (texts names.now) (tree_at names.now nodes.now) v.items
+        ≡ without name.now (forest (stands_of (tree_at names.now nodes.now) under))) }
 {
     let out = kept(alloc, names, entries_of(nodes, under), name)?;
     Ok(out)
@@ -105,7 +123,8 @@ fn add(
     ensures good { (k : ℕ) → AreGood (length names.now) k out.old.items → IsLower k child
         → OnOk result (AreGood (length names.now) k out.new.items) }
     ensures forest { (at : ℕ → Forest) → OnOk result (forest_of (texts names.now) at out.new.items
-        ≡ inserted (name_at (texts names.now) number) (stands at child) (forest_of (texts names.now) at out.old.items)) }
+        ≡ inserted (name_at (texts names.now) number) (stands at child)
+        (forest_of (texts names.now) at out.old.items)) }
 {
     let e = Entry {
         name: number,
@@ -146,12 +165,15 @@ fn add_some(
 
 /// The folder of these entries, if there are any.
 fn seal(nodes: &mut Vec<Vec<Entry>>, out: Vec<Entry>) -> Result<Option<Child>, AllocError>
-    ensures arena { (names : List (Vec ℕ)) → IsArena names nodes.old.items → AreGood (length names) (length nodes.old.items) out.items → IsArena names nodes.new.items }
+    ensures arena { (names : List (Vec ℕ)) → IsArena names nodes.old.items
+        → AreGood (length names) (length nodes.old.items) out.items → IsArena names nodes.new.items }
     ensures grows { (names : List (Vec ℕ)) → Grows names nodes.old.items names nodes.new.items }
     ensures inside { IfOk result (λ r. IsIn (length nodes.new.items) r) }
     ensures sound { (names : List (Vec ℕ)) → AreSound names nodes.old.items
         → IsSound (forest_of (texts names) (tree_at names nodes.old.items) out.items) → AreSound names nodes.new.items }
-    ensures folder { (names : List (Vec ℕ)) → IfOk result (λ r. stands_of (tree_at names nodes.new.items) r ≡ folder (forest_of (texts names) (tree_at names nodes.old.items) out.items)) }
+    ensures folder { (names : List (Vec ℕ))
+        → IfOk result (λ r. stands_of (tree_at names nodes.new.items) r
+        ≡ folder (forest_of (texts names) (tree_at names nodes.old.items) out.items)) }
 {
     if out.is_empty() {
         return Ok(None);

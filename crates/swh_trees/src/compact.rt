@@ -1,6 +1,21 @@
 //! Folders that a root still needs, moved together.
 
-ghost use Rattle.std.specs.Prelude.{◌≡◌, ◌<◌, ◌≤◌, ◌+◌, ◌++◌, ℕ, List, Bool, true, length, take, slice_index_or, IfOk, OnOk};
+ghost use Rattle.std.specs.Prelude.{
+  ◌≡◌,
+  ◌<◌,
+  ◌≤◌,
+  ◌+◌,
+  ◌++◌,
+  ℕ,
+  List,
+  Bool,
+  true,
+  length,
+  take,
+  slice_index_or,
+  IfOk,
+  OnOk,
+};
 ghost use Rattle.std.specs.Global.{Vec};
 ghost use Rattle.swh_trees.specs.declared.entry.Entry.{Entry};
 ghost use Rattle.swh_trees.specs.Forest.{Forest, Stands, IsFolder};
@@ -100,8 +115,10 @@ fn move_all(
     requires as_long { base + length live.now ≡ length nodes.now }
     requires lower { AreLower nodes.now }
     ensures next { IfOk result (λ r. length r.1.items ≡ length live.now) }
-    ensures copied { (names : List (Vec ℕ)) (x : Stands) → IsArena names nodes.now → IsClosed base live.now nodes.now base
-        → ((i : ℕ) → base ≤ i → i < length nodes.now → is_live base live.now i ≡ true → IsPart x (tree_at names nodes.now i))
+    ensures copied { (names : List (Vec ℕ)) (x : Stands) → IsArena names nodes.now
+        → IsClosed base live.now nodes.now base
+        → ((i : ℕ) → base ≤ i → i < length nodes.now → is_live base live.now i ≡ true
+        → IsPart x (tree_at names nodes.now i))
         → IfOk result (λ r. IsCopied names nodes.now base live.now x r.0.items r.1.items) }
 {
     let mut moved = Vec::new(alloc);
@@ -126,7 +143,8 @@ pub fn compact(
     ensures stay { (names : List (Vec ℕ)) (j : ℕ) → IsArena names nodes.old.items → j < base
         → tree_at names nodes.new.items j ≡ tree_at names nodes.old.items j }
     ensures long { base ≤ length nodes.new.items }
-    ensures same { (names : List (Vec ℕ)) → IsGood names nodes.old.items → IfOk result (λ r. (r < length nodes.new.items)
+    ensures same { (names : List (Vec ℕ)) → IsGood names nodes.old.items
+        → IfOk result (λ r. (r < length nodes.new.items)
         × (tree_at names nodes.new.items r ≡ tree_at names nodes.old.items root)) }
     ensures parts { (names : List (Vec ℕ)) → IsGood names nodes.old.items
         → IfOk result (λ r. (m : ℕ) → base ≤ m → m < length nodes.new.items

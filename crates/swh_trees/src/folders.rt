@@ -115,7 +115,8 @@ pub fn set_in(
     requires leaf { IsLeaf leaf }
     ensures stays { StaysBelow base folders.old folders.new }
     ensures inside { IfOk result (λ r. IsBelow (count_of folders.new) r) }
-    ensures map { IfOk result (λ r. root_map folders.new r ≡ set (components path.now) leaf (root_map folders.old root)) }
+    ensures map { IfOk result (λ r. root_map folders.new r
+        ≡ set (components path.now) leaf (root_map folders.old root)) }
 {
     let there = set_leaf(
         alloc,
@@ -164,6 +165,8 @@ pub fn copy_in(
     requires target { IsPath target.now }
     ensures stays { StaysBelow base folders.old folders.new }
     ensures none { IfOk result (λ o. IfNone o (held (components source.now) (root_map folders.old root) ≡ [])) }
+    ensures left { IfOk result (λ o. IfNone o (IsBelow (count_of folders.new) root)) }
+    ensures same { IfOk result (λ o. IfNone o (root_map folders.new root ≡ root_map folders.old root)) }
     ensures some { IfOk result (λ o. IfSome o (λ r. held (components source.now) (root_map folders.old root) ≢ [])) }
     ensures inside { IfOk result (λ o. IfSome o (λ r. IsBelow (count_of folders.new) r)) }
     ensures map { IfOk result (λ o. IfSome o (λ r. root_map folders.new r
@@ -193,6 +196,8 @@ pub fn rename_in(
     requires target { IsPath target.now }
     ensures stays { StaysBelow base folders.old folders.new }
     ensures none { IfOk result (λ o. IfNone o (held (components source.now) (root_map folders.old root) ≡ [])) }
+    ensures left { IfOk result (λ o. IfNone o (IsBelow (count_of folders.new) root)) }
+    ensures same { IfOk result (λ o. IfNone o (root_map folders.new root ≡ root_map folders.old root)) }
     ensures some { IfOk result (λ o. IfSome o (λ r. held (components source.now) (root_map folders.old root) ≢ [])) }
     ensures inside { IfOk result (λ o. IfSome o (λ r. IsBelow (count_of folders.new) r)) }
     ensures map { IfOk result (λ o. IfSome o (λ r. root_map folders.new r

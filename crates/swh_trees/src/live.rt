@@ -57,7 +57,8 @@ fn root_alone(alloc: Global, count: usize, root: usize) -> Result<Vec<bool>, All
     Ok(live)
 }
 
-/// Which folders from the base on the root needs. A folder's own folders have lower numbers, so one walk down finds them.
+/// Which folders from the base on the root needs. A folder's own folders have lower numbers, so one walk down finds
+/// them.
 pub fn live_of(
     alloc: Global,
     nodes: &[Vec<Entry>],

@@ -4,7 +4,18 @@ ghost use Rattle.std.specs.Prelude.{◌≡◌, ◌<◌, ◌≤◌, ◌++◌, ℕ
 ghost use Rattle.std.specs.List.{insert};
 ghost use Rattle.swh_trees.specs.Forest.{Forest, child_at, is_before};
 ghost use Rattle.swh_trees.specs.PathMap.{same};
-ghost use Rattle.swh_trees.specs.Arena.{name_at, stands_of, forest_of, entries_without, entries_with, entry_key, suffix, texts, AreGood, IsIn};
+ghost use Rattle.swh_trees.specs.Arena.{
+  name_at,
+  stands_of,
+  forest_of,
+  entries_without,
+  entries_with,
+  entry_key,
+  suffix,
+  texts,
+  AreGood,
+  IsIn,
+};
 
 use crate::entry::{Child, Entry};
 use std::alloc::{AllocError, Global};
@@ -21,7 +32,8 @@ fn is_name(names: &[Vec<u8>], number: usize, name: &[u8]) -> bool
 pub fn child_in(names: &[Vec<u8>], entries: &[Entry], name: &[u8]) -> Option<Child>
     requires { All (λ e. e.name < length names.now) entries.now }
     ensures inside { (n k : ℕ) → AreGood n k entries.now → IsIn k result }
-    ensures child { (at : ℕ → Forest) → stands_of at result ≡ child_at name.now (forest_of (texts names.now) at entries.now) }
+    ensures child { (at : ℕ → Forest) → stands_of at result
+        ≡ child_at name.now (forest_of (texts names.now) at entries.now) }
 {
     for e in entries {
         let found = is_name(names, e.name, name);

@@ -8,7 +8,14 @@ ghost use Rattle.swh_trees.specs.Arena.{tree_at};
 ghost use Rattle.swh_trees.specs.Directory.{directory_id};
 ghost use Rattle.swh_trees.specs.Forest.{directory, IsFolder};
 ghost use Rattle.swh_trees.specs.Held.{IsGood, AreIds};
-ghost use Rattle.swh_trees.specs.Objects.{IsDirectoryObject, AreDirectoryObjects, AddsObject, ExplainsEntries, ExplainsAmong, GoesOn};
+ghost use Rattle.swh_trees.specs.Objects.{
+  IsDirectoryObject,
+  AreDirectoryObjects,
+  AddsObject,
+  ExplainsEntries,
+  ExplainsAmong,
+  GoesOn,
+};
 
 use crate::directory::listing;
 use crate::entry::{Entry, whole_id};
@@ -68,8 +75,8 @@ fn make_one<N: Namer>(
     Ok(())
 }
 
-/// Makes the objects of the folders that have none, in the order of their numbers, and keeps their ids. After a fault the
-/// ids of some of them are kept.
+/// Makes the objects of the folders that have none, in the order of their numbers, and keeps their ids. After a fault
+/// the ids of some of them are kept.
 pub fn make_all<N: Namer>(
     alloc: Global,
     namer: &N,

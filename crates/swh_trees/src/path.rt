@@ -24,7 +24,8 @@ pub fn find(
     requires good { IsArena names.now nodes.now }
     requires root { IsIn (length nodes.now) root }
     ensures inside { IsIn (length nodes.now) result }
-    ensures found { stands_of (tree_at names.now nodes.now) result ≡ found (parts_of path.now) (stands_of (tree_at names.now nodes.now) root) }
+    ensures found { stands_of (tree_at names.now nodes.now) result
+        ≡ found (parts_of path.now) (stands_of (tree_at names.now nodes.now) root) }
 {
     let mut here = root;
     for name in path {
@@ -43,7 +44,8 @@ fn fronts_of(
 ) -> Result<Vec<Option<Child>>, AllocError>
     requires good { IsArena names.now nodes.now }
     requires root { IsIn (length nodes.now) root }
-    ensures { IfOk result (λ v. AreFronts (tree_at names.now nodes.now) (length nodes.now) root (parts_of path.now) v.items) }
+    ensures { IfOk result (λ v. AreFronts (tree_at names.now nodes.now) (length nodes.now) root
+        (parts_of path.now) v.items) }
 {
     let mut fronts = Vec::new(alloc);
     let mut here = root;

@@ -129,7 +129,8 @@ fn is_id(id: [u8; 20], hex: &[u8]) -> bool {
     Name::from_hex(Kind::Directory, hex) == Some(name)
 }
 
-/// Whether the changes of an empty tree give a root of this id, with so many new objects of which the root's is the last.
+/// Whether the changes of an empty tree give a root of this id, with so many new objects, of which the root's is the
+/// last.
 fn gives(alloc: Global, changes: &[Change], id: &[u8], count: usize) -> Result<bool, Memory> {
     let mut trees = Trees::new(alloc, Sha1Namer);
     let Some(tree) = after(&mut trees, alloc, Tree::empty(), changes)? else {

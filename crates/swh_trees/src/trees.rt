@@ -147,8 +147,9 @@ impl<N: Namer> Trees<N> {
         Ok(Tree { number })
     }
 
-    /// The tree with what the source holds at the target too (git-fast-import(1), filecopy); none where the source holds
-    /// nothing. The other trees whose objects were not made are given up. Fails where memory runs out.
+    /// The tree with what the source holds at the target too (git-fast-import(1), filecopy); none where the source
+    /// holds nothing, and then the tree stands as before. The other trees whose objects were not made are given up.
+    /// Fails where memory runs out.
     pub fn copy(
         &mut self,
         alloc: Global,
@@ -161,6 +162,7 @@ impl<N: Namer> Trees<N> {
         requires target { IsPath target.now }
         ensures keeps { Keeps self.old self.new }
         ensures none { IfOk result (λ o. IfNone o (held (components source.now) (map_of self.old tree) ≡ [])) }
+        ensures left { IfOk result (λ o. IfNone o (StandsFor self.new tree (map_of self.old tree))) }
         ensures some { IfOk result (λ o. IfSome o (λ t. held (components source.now) (map_of self.old tree) ≢ [])) }
         ensures map { IfOk result (λ o. IfSome o (λ t. StandsFor self.new t
             (copy (components source.now) (components target.now) (map_of self.old tree)))) }
@@ -171,8 +173,8 @@ impl<N: Namer> Trees<N> {
     }
 
     /// The tree with what the source holds at the target, and no more at the source, which is removed first
-    /// (git-fast-import(1), filerename); none where the source holds nothing. The other trees whose objects were not made
-    /// are given up. Fails where memory runs out.
+    /// (git-fast-import(1), filerename); none where the source holds nothing, and then the tree stands as before. The
+    /// other trees whose objects were not made are given up. Fails where memory runs out.
     pub fn rename(
         &mut self,
         alloc: Global,
@@ -185,6 +187,7 @@ impl<N: Namer> Trees<N> {
         requires target { IsPath target.now }
         ensures keeps { Keeps self.old self.new }
         ensures none { IfOk result (λ o. IfNone o (held (components source.now) (map_of self.old tree) ≡ [])) }
+        ensures left { IfOk result (λ o. IfNone o (StandsFor self.new tree (map_of self.old tree))) }
         ensures some { IfOk result (λ o. IfSome o (λ t. held (components source.now) (map_of self.old tree) ≢ [])) }
         ensures map { IfOk result (λ o. IfSome o (λ t. StandsFor self.new t
             (rename (components source.now) (components target.now) (map_of self.old tree)))) }
@@ -194,12 +197,13 @@ impl<N: Namer> Trees<N> {
         Ok(tree_of(found))
     }
 
-    /// Makes the objects of the tree's directories that have none yet (git objects, tree). The other trees whose objects
-    /// were not made are given up. Fails where memory runs out or the body of a directory is above the limit, and then
-    /// no object was made.
+    /// Makes the objects of the tree's directories that have none yet (git objects, tree). The other trees whose
+    /// objects were not made are given up. Fails where memory runs out or the body of a directory is above the limit,
+    /// and then no object was made.
     pub fn make(&mut self, alloc: Global, tree: Tree) -> Result<Made<N>, TreeFault>
         requires { IsTree self.old tree }
-        ensures makes { IfOk result (λ m. Makes N.id_of self.old self.new (map_of self.old tree) m.tree m.id m.objects.items) }
+        ensures makes { IfOk result (λ m. Makes N.id_of self.old self.new (map_of self.old tree) m.tree m.id
+            m.objects.items) }
         ensures keeps { OnErr result (Keeps self.old self.new) }
         ensures err { IfErr result (ExplainsTree N.id_of (map_of self.old tree)) }
     {

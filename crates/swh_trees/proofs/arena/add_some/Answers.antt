@@ -1,6 +1,5 @@
-use Rattle.std.proofs.Common.{◌≡◌, ◌<◌, ◌≤◌, sym, ap, refl, ◌∙◌, List, ℕ, length, arith}
-use Rattle.std.specs.Prelude.{All}
-use Rattle.swh_trees.specs.Arena.{texts, stands, forest_of, name_at}
+use Rattle.std.proofs.Common.{◌≤◌, sym, ap, refl, ◌∙◌, List, ℕ, length, arith}
+use Rattle.swh_trees.specs.Arena.{texts, stands, forest_of}
 use Rattle.swh_trees.specs.Forest.{inserted}
 use Rattle.swh_trees.proofs.Arenas.{good-more, same-forest}
 use Rattle.swh_trees.proofs.Steps.{inserted-nothing}

@@ -1,6 +1,5 @@
-use Rattle.std.proofs.Common.{rules, ◌≡◌, ◌<◌, ◌∙◌, length, arith}
+use Rattle.std.proofs.Common.{rules, ◌≡◌, ◌∙◌, length, arith}
 use Rattle.std.proofs.lemmas.List.{length-append}
-use Rattle.swh_trees.specs.Arena.{texts, name_at}
 use Rattle.swh_trees.proofs.Steps.{extends-push, name-push}
 use Rattle.swh_trees.proofs.arena.numbered.Goals as goal
 

@@ -1,8 +1,8 @@
-use Rattle.std.proofs.Common.{◌≡◌, ◌<◌, ap, refl, sym, subst, ◌∙◌, ℕ, length, arith, Result, Ok, Err}
+use Rattle.std.proofs.Common.{ap, sym, subst, ◌∙◌, length, arith, Result, Ok, Err}
 use Rattle.std.specs.Prelude.{IfOk}
 use Rattle.swh_trees.specs.Forest.{put, folder, forest}
 use Rattle.swh_trees.specs.Sound.{IsSound, IsSoundHere}
-use Rattle.swh_trees.specs.Arena.{texts, stands_of, forest_of, tree_at}
+use Rattle.swh_trees.specs.Arena.{stands_of, tree_at}
 use Rattle.swh_trees.proofs.Arenas.{tree-names, arena-names, sound-names, under-sound, put-added}
 use Rattle.swh_trees.proofs.Sounds.{put-sound, folder-sound}
 use Rattle.swh_trees.proofs.arena.put.Goals as goal

@@ -1,10 +1,10 @@
-use Rattle.std.proofs.Common.{◌≡◌, ◌+◌, ◌-◌, ◌<◌, ◌≤◌, ◌++◌, ℕ, List, Bool, length, take, get_or, true, sym, ap, subst, ◌∙◌, arith}
+use Rattle.std.proofs.Common.{◌≡◌, ◌+◌, ◌-◌, ◌<◌, ◌≤◌, ◌++◌, List, length, take, get_or, true, ap, ◌∙◌, arith}
 use Rattle.std.proofs.lemmas.List.{length-append, length-take, get_or_default}
 use Rattle.std.specs.Global.{Vec}
 use Rattle.swh_trees.specs.declared.entry.Entry.{Entry}
 use Rattle.swh_trees.specs.Forest.{IsFolder}
 use Rattle.swh_trees.specs.Arena.{tree_at}
-use Rattle.swh_trees.specs.Live.{is_live, IsPart}
+use Rattle.swh_trees.specs.Live.{is_live}
 use Rattle.swh_trees.proofs.Copies.{good-take, tree-take, tree-take-append, copied-good}
 use Rattle.swh_trees.proofs.compact.compact.Goals as goal
 

@@ -1,11 +1,7 @@
-use Rattle.std.proofs.Common.{◌≡◌, ◌≢◌, ◌≤◌, ◌<◌, ℕ, length, sym, ap, subst, refl, ◌∙◌, arith, Some, None}
-use Rattle.swh_trees.specs.Arena.{stands, stands_of, tree_at, parts_of, IsIn}
-use Rattle.swh_trees.specs.Forest.{Stands, Nothing, IsFile, forest, found, graft}
-use Rattle.swh_trees.specs.Sound.{IsSoundHere}
-use Rattle.swh_trees.specs.Held.{map_at}
-use Rattle.swh_trees.specs.Path.{components}
+use Rattle.std.proofs.Common.{length, sym, ◌∙◌}
+use Rattle.swh_trees.specs.Arena.{stands_of, tree_at}
 use Rattle.swh_trees.proofs.Components.{path-names}
-use Rattle.swh_trees.proofs.EditedRoots.{from-root, to-root, here-sound, found-path, set-done, delete-done, deleted-none, held-none, held-some, copy-done, rename-done, some-stands}
+use Rattle.swh_trees.proofs.EditedRoots.{from-root, to-root, here-sound, delete-done, deleted-none, some-stands}
 use Rattle.swh_trees.proofs.edits.delete_path.Goals as goal
 
 pub find-requires-clause-root : goal.find-requires-clause-root

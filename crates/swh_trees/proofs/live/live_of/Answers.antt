@@ -1,9 +1,9 @@
-use Rattle.std.proofs.Common.{rules, ◌≡◌, ◌⊎◌, ◌+◌, ◌-◌, ◌<◌, ◌≤◌, ◌++◌, ℕ, List, length, take, drop, get_or, true, false, sym, subst, ap, ◌∙◌, arith}
+use Rattle.std.proofs.Common.{rules, ◌≡◌, ◌⊎◌, ◌+◌, ◌-◌, ◌<◌, ◌≤◌, ◌++◌, ℕ, length, take, drop, true, false, sym, subst, ◌∙◌, arith}
 use Rattle.std.proofs.lemmas.List.{get_or_default}
 use Rattle.std.specs.Global.{Vec}
 use Rattle.swh_trees.specs.declared.entry.Entry.{Entry}
 use Rattle.swh_trees.specs.Live.{is_live, AreMarked, HasChild, IsClosed}
-use Rattle.swh_trees.proofs.Lives.{parts-first, parts-step, closed-step, closed-skip, written-back}
+use Rattle.swh_trees.proofs.Lives.{parts-step, closed-step, written-back}
 use Rattle.swh_trees.proofs.live.live_of.Goals as goal
 
 pub down-preserved-then-index : goal.down-preserved-then-index

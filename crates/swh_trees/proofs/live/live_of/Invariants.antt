@@ -1,4 +1,4 @@
-use Rattle.std.proofs.Common.{◌≡◌, ◌+◌, ◌-◌, ◌≤◌, ℕ, List, length, true}
+use Rattle.std.proofs.Common.{◌≡◌, ◌+◌, ◌≤◌, ℕ, List, length, true}
 use Rattle.std.specs.Global.{Vec}
 use Rattle.swh_trees.specs.Arena.{tree_at, IsArena}
 use Rattle.swh_trees.specs.Forest.{IsFolder}

@@ -1,4 +1,4 @@
-use Rattle.std.proofs.Common.{◌≡◌, ◌<◌, ◌≤◌, ◌+◌, ℕ, length, ◌∙◌, inl, inr, arith}
+use Rattle.std.proofs.Common.{◌∙◌, arith}
 use Rattle.swh_trees.proofs.Lives.{mark-step, only-step}
 use Rattle.swh_trees.proofs.live.mark_all.Goals as goal
 

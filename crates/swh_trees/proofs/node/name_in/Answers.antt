@@ -1,4 +1,4 @@
-use Rattle.std.proofs.Common.{rules, ◌<◌, sym, ◌∙◌, length}
+use Rattle.std.proofs.Common.{rules, sym, ◌∙◌}
 use Rattle.swh_trees.proofs.Grafts.{same_is}
 use Rattle.swh_trees.specs.Arena.{texts, name_at}
 use Rattle.swh_trees.proofs.node.name_in.Goals as goal

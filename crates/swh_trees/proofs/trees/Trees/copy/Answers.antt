@@ -1,13 +1,12 @@
-use Rattle.std.proofs.Common.{rules, ◌≡◌, ◌≢◌, [], ℕ, List, length, Option, sym, ap, refl, subst, ◌∙◌, ◌≤◌, arith}
+use Rattle.std.proofs.Common.{rules, ◌≡◌, ◌≢◌, [], ℕ, length, Option, sym, ap, refl, subst, ◌∙◌}
 use Rattle.std.specs.Prelude.{IfNone, IfSome}
-use Rattle.swh_trees.specs.declared.entry.Leaf.{Leaf}
 use Rattle.swh_trees.specs.declared.tree.Tree.{Tree}
 use Rattle.swh_trees.specs.Grove.{Grove, IsTree, IsBelow, Keeps, StandsFor, map_of}
 use Rattle.swh_trees.specs.Held.{grove}
 use Rattle.swh_trees.specs.Path.{components}
-use Rattle.swh_trees.specs.PathMap.{PathMap, set, delete, copy, rename, held}
+use Rattle.swh_trees.specs.PathMap.{PathMap, copy, held}
 use Rattle.swh_trees.specs.Working.{StaysBelow, root_map, count_of}
-use Rattle.swh_trees.proofs.Parts.{is-tree, map-is, stands-for, keeps-stays, none-mapped, some-mapped, some-both}
+use Rattle.swh_trees.proofs.Parts.{is-tree, map-is, stands-for, keeps-stays, none-mapped, none-both, some-mapped, some-both}
 use Rattle.swh_trees.proofs.trees.Trees.copy.Goals as goal
 
 pub copy_in-requires-clause-root : goal.copy_in-requires-clause-root
@@ -63,3 +62,13 @@ returns-clause-map g c =
     some-mapped c.in_ok-found.found c.tree_of.result (λ (r : Option ℕ). P r × R r) (λ (u : Tree). StandsFor (grove b.names.items b.nodes.items ids) u (copy s t (map_of c.args.self.now c.args.tree))) c.tree_of.ensures.some
     (some-both c.in_ok-found.found P R c.in_ok-found.ensures.inside c.in_ok-found.ensures.map)
     (λ u h. stands-for b ids u (copy s t (map_of c.args.self.now c.args.tree)) h.0 (h.1 ∙ ap (copy s t) before))
+
+pub returns-clause-left : goal.returns-clause-left
+returns-clause-left g c =
+    let a = c.self.inside.folders in
+    let ids = c.self.inside.ids.items in
+    let b = c.copy_in.new.folders in
+    let low = is-tree a ids c.args.tree (subst (λ (v : Grove). IsTree v c.args.tree) (sym c.self.view_is) c.requires.tree) in
+    let before : root_map a c.args.tree.number ≡ map_of c.args.self.now c.args.tree = sym (map-is a ids c.args.tree low) ∙ ap (λ (v : Grove). map_of v c.args.tree) c.self.view_is in
+    none-mapped c.in_ok-found.found c.tree_of.result (StandsFor (grove b.names.items b.nodes.items ids) c.args.tree (map_of c.args.self.now c.args.tree)) c.tree_of.ensures.none
+    (none-both c.in_ok-found.found (IsBelow (count_of b) c.args.tree.number) (root_map b c.args.tree.number ≡ root_map a c.args.tree.number) (StandsFor (grove b.names.items b.nodes.items ids) c.args.tree (map_of c.args.self.now c.args.tree)) c.in_ok-found.ensures.left c.in_ok-found.ensures.same (λ i m. stands-for b ids c.args.tree (map_of c.args.self.now c.args.tree) i (m ∙ before)))

@@ -1,12 +1,10 @@
-use Rattle.std.proofs.Common.{rules, ◌≡◌, ◌≢◌, [], ℕ, List, length, Option, sym, ap, refl, subst, ◌∙◌, ◌≤◌, arith}
-use Rattle.swh_trees.specs.declared.entry.Leaf.{Leaf}
-use Rattle.swh_trees.specs.declared.tree.Tree.{Tree}
-use Rattle.swh_trees.specs.Grove.{Grove, IsTree, IsBelow, Keeps, StandsFor, map_of}
+use Rattle.std.proofs.Common.{rules, ◌≡◌, ℕ, length, sym, ap, refl, subst, ◌∙◌}
+use Rattle.swh_trees.specs.Grove.{Grove, IsTree, Keeps, map_of}
 use Rattle.swh_trees.specs.Held.{grove}
 use Rattle.swh_trees.specs.Path.{components}
-use Rattle.swh_trees.specs.PathMap.{PathMap, set, delete, copy, rename, held}
-use Rattle.swh_trees.specs.Working.{StaysBelow, root_map, count_of}
-use Rattle.swh_trees.proofs.Parts.{is-tree, map-is, stands-for, keeps-stays, none-mapped, some-mapped, some-both}
+use Rattle.swh_trees.specs.PathMap.{delete}
+use Rattle.swh_trees.specs.Working.{StaysBelow, root_map}
+use Rattle.swh_trees.proofs.Parts.{is-tree, map-is, stands-for, keeps-stays}
 use Rattle.swh_trees.proofs.trees.Trees.delete.Goals as goal
 
 pub delete_in-requires-clause-root : goal.delete_in-requires-clause-root

@@ -1,10 +1,7 @@
-use Rattle.std.proofs.Common.{rules, ◌≡◌, ◌≢◌, [], ℕ, List, length, Option, sym, ap, refl, subst, ◌∙◌, ◌≤◌, arith}
-use Rattle.swh_trees.specs.declared.entry.Leaf.{Leaf}
-use Rattle.swh_trees.specs.declared.tree.Tree.{Tree}
-use Rattle.swh_trees.specs.Grove.{Grove, IsTree, IsBelow, Keeps, StandsFor, map_of}
+use Rattle.std.proofs.Common.{rules, ◌≡◌, [], ℕ, length, sym, ap, refl, subst, ◌∙◌, arith}
+use Rattle.swh_trees.specs.Grove.{Grove, IsTree, Keeps, map_of}
 use Rattle.swh_trees.specs.Held.{grove}
-use Rattle.swh_trees.specs.Path.{components}
-use Rattle.swh_trees.specs.PathMap.{PathMap, set, delete, copy, rename, held}
+use Rattle.swh_trees.specs.PathMap.{PathMap}
 use Rattle.swh_trees.specs.Working.{StaysBelow, root_map, folder_at}
 use Rattle.std.proofs.lemmas.List.{get_or_default}
 use Rattle.std.proofs.lemmas.Result.{err_from_is_err_and}

@@ -1,12 +1,11 @@
-use Rattle.std.proofs.Common.{rules, ◌≡◌, ◌≢◌, [], ℕ, List, length, Option, sym, ap, refl, subst, ◌∙◌, ◌≤◌, arith}
+use Rattle.std.proofs.Common.{rules, ◌≡◌, ℕ, List, length, sym, ap, refl, subst, ◌∙◌}
 use Rattle.swh_trees.specs.declared.entry.Leaf.{Leaf}
-use Rattle.swh_trees.specs.declared.tree.Tree.{Tree}
-use Rattle.swh_trees.specs.Grove.{Grove, IsTree, IsBelow, Keeps, StandsFor, map_of}
+use Rattle.swh_trees.specs.Grove.{Grove, IsTree, Keeps, map_of}
 use Rattle.swh_trees.specs.Held.{grove}
 use Rattle.swh_trees.specs.Path.{components}
-use Rattle.swh_trees.specs.PathMap.{PathMap, set, delete, copy, rename, held}
-use Rattle.swh_trees.specs.Working.{StaysBelow, root_map, count_of}
-use Rattle.swh_trees.proofs.Parts.{is-tree, map-is, stands-for, keeps-stays, none-mapped, some-mapped, some-both}
+use Rattle.swh_trees.specs.PathMap.{set}
+use Rattle.swh_trees.specs.Working.{StaysBelow, root_map}
+use Rattle.swh_trees.proofs.Parts.{is-tree, map-is, stands-for, keeps-stays}
 use Rattle.swh_trees.proofs.trees.Trees.set.Goals as goal
 
 pub set_in-requires-clause-root : goal.set_in-requires-clause-root
