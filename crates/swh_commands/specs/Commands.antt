@@ -6,7 +6,7 @@ use Rattle.swh_base.specs.declared.kind.Kind.TheVariants.{Content, Directory, Re
 use Rattle.swh_base.specs.Directory.{directory_text}
 use Rattle.swh_revfmt.specs.Plain.{RevisionRest, plain_revision_text, plain_release_text}
 use Rattle.swh_model.specs.Meaning.{Made, content, directory}
-use Rattle.swh_trees.specs.Path.{components}
+use Rattle.swh_fastlex.specs.Path.{components}
 use Rattle.swh_trees.specs.PathMap.{PathMap, HasFolder, held, set, delete, copy, rename}
 use Rattle.swh_trees.specs.Directory.{directory_of}
 use Rattle.swh_fastread.specs.declared.command.At.{At}

@@ -3,7 +3,7 @@ use Rattle.std.proofs.Common.{rules, tests, ◌≡◌, ◌≢◌, ℕ, suc, zero
 use Rattle.std.specs.List.{onto_first, AllByRecursion}
 use Rattle.std.proofs.lemmas.List.Splits.{slice_split-cons_no}
 use Rattle.swh_base.specs.Directory.{IsEntryName}
-use Rattle.swh_trees.specs.Path.{components, IsComponent, IsPath}
+use Rattle.swh_fastlex.specs.Path.{components, IsComponent, IsPath}
 
 apart : (c s : ℕ) → (c ≡ s → ⊥) → (c == s) ≡ false
 apart c s n = search (rules, tests)

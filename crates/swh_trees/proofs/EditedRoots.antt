@@ -11,7 +11,7 @@ use Rattle.swh_trees.specs.PathMap.{PathMap, set, delete, copy, rename, held}
 use Rattle.swh_trees.specs.Sound.{IsLeaf, IsSound, IsSoundHere}
 use Rattle.swh_trees.specs.Grove.{IsBelow, map_of_number}
 use Rattle.swh_trees.specs.Held.{AreSound, IsGood, map_at, root_forest}
-use Rattle.swh_trees.specs.Path.{components, IsPath}
+use Rattle.swh_fastlex.specs.Path.{components, IsPath}
 use Rattle.swh_trees.proofs.Canonical.{delete-here}
 use Rattle.swh_trees.proofs.Components.{path-names, components-some}
 use Rattle.swh_trees.proofs.Puts.{set-here, copy-here, rename-here, held-root, shown-some}

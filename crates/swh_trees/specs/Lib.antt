@@ -8,7 +8,6 @@ pub mod Live
 pub mod Makes
 pub mod Moved
 pub mod Objects
-pub mod Path
 pub mod PathMap
 pub mod Sound
 pub mod Working

@@ -8,7 +8,7 @@ ghost use Rattle.swh_trees.specs.PathMap.{set, delete, copy, rename, held};
 ghost use Rattle.swh_trees.specs.Sound.{IsLeaf};
 ghost use Rattle.swh_trees.specs.Grove.{IsBelow, map_of_number};
 ghost use Rattle.swh_trees.specs.Held.{IsGood, map_at, root_forest};
-ghost use Rattle.swh_trees.specs.Path.{components, IsPath};
+ghost use Rattle.swh_fastlex.specs.Path.{components, IsPath};
 
 use crate::entry::{Child, Entry, Leaf};
 use crate::path::{components_of, find, graft};

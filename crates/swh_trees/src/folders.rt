@@ -2,7 +2,7 @@
 
 ghost use Rattle.std.specs.Prelude.{◌≡◌, ◌≢◌, ◌≤◌, [], IfOk, IfSome, IfNone};
 ghost use Rattle.swh_trees.specs.Grove.{IsBelow};
-ghost use Rattle.swh_trees.specs.Path.{components, IsPath};
+ghost use Rattle.swh_fastlex.specs.Path.{components, IsPath};
 ghost use Rattle.swh_trees.specs.PathMap.{set, delete, copy, rename, held};
 ghost use Rattle.swh_trees.specs.Sound.{IsLeaf};
 ghost use Rattle.swh_trees.specs.Working.{AreFolders, count_of, root_map, StaysBelow};

@@ -1,9 +1,9 @@
 //! What stands at a path, and what something put at a path makes.
 
-ghost use Rattle.std.specs.Prelude.{◌≡◌, ◌↔◌, length, IfOk, IsTrue};
+ghost use Rattle.std.specs.Prelude.{◌≡◌, length, IfOk};
 ghost use Rattle.std.specs.List.{AllByRecursion};
 ghost use Rattle.swh_base.specs.Directory.{IsEntryName};
-ghost use Rattle.swh_trees.specs.Path.{components, IsComponent, IsPath};
+ghost use Rattle.swh_fastlex.specs.Path.{components};
 ghost use Rattle.swh_trees.specs.Sound.{IsSoundHere};
 ghost use Rattle.swh_trees.specs.Forest.{found, graft};
 ghost use Rattle.swh_trees.specs.Held.{IsGood};
@@ -99,31 +99,4 @@ pub fn components_of(alloc: Global, path: &[u8]) -> Result<Vec<&[u8]>, AllocErro
     }
     parts.push(rest)?;
     Ok(parts)
-}
-
-/// Whether these bytes are a path (git-fast-import(1), filemodify): components with `/` between them, of which none is
-/// empty or has a NUL.
-pub fn is_path(path: &[u8]) -> bool
-    ensures { IsTrue result ↔ IsPath path.now }
-{
-    let mut rest = path;
-    'components: while let Some((component, after)) = split_at_byte(rest, b'/') {
-        if !is_component(component) {
-            return false;
-        }
-        rest = after;
-    }
-    is_component(rest)
-}
-
-fn is_component(name: &[u8]) -> bool
-    ensures { IsTrue result ↔ IsComponent name.now }
-{
-    if name.is_empty() {
-        return false;
-    }
-    match split_at_byte(name, b'\0') {
-        Some(_) => false,
-        None => true,
-    }
 }

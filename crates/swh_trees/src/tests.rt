@@ -2,6 +2,7 @@ use super::*;
 use std::alloc::Global;
 use std::test::Fail;
 use swh_base::{Kind, Memory, Name, Sha1Namer};
+use swh_fastlex::is_path;
 
 /// A change of a tree.
 #[derive(Clone, Copy)]
@@ -379,14 +380,4 @@ fn modes(rt: HostRuntime) -> Result<(), Fail> {
     let id = b"159277b294b32420dac8faf19c5e6d34adc2f4c2";
     assert!(rt; gives(rt.alloc(), &changes, id, 2)?);
     Ok(())
-}
-
-#[test]
-fn paths(rt: HostRuntime) {
-    assert!(rt; is_path(b"a/b c"));
-    assert!(rt; !is_path(b""));
-    assert!(rt; !is_path(b"/a"));
-    assert!(rt; !is_path(b"a//b"));
-    assert!(rt; !is_path(b"a/"));
-    assert!(rt; !is_path(b"a/\0"));
 }

@@ -87,7 +87,7 @@ impl<N: Namer> Trees<N> {
     ghost use Rattle.swh_trees.specs.Grove.{map_of, IsTree, Keeps, StandsFor};
     ghost use Rattle.swh_trees.specs.Leaf.{IsLeafMode};
     ghost use Rattle.swh_trees.specs.Makes.{Makes, ExplainsTree};
-    ghost use Rattle.swh_trees.specs.Path.{components, IsPath};
+    ghost use Rattle.swh_fastlex.specs.Path.{components, IsPath};
     ghost use Rattle.swh_trees.specs.PathMap.{set, delete, copy, rename, held};
 
     /// No tree but the empty one.

@@ -2,7 +2,7 @@ use Rattle.std.proofs.Common.{length, sym, ap, subst, ◌∙◌}
 use Rattle.swh_trees.specs.Arena.{stands_of, tree_at}
 use Rattle.swh_trees.specs.Forest.{Stands, graft}
 use Rattle.swh_trees.specs.Sound.{IsSoundHere}
-use Rattle.swh_trees.specs.Path.{components}
+use Rattle.swh_fastlex.specs.Path.{components}
 use Rattle.swh_trees.proofs.Components.{path-names}
 use Rattle.swh_trees.proofs.EditedRoots.{from-root, to-root, here-sound, found-path, held-none, held-some, copy-done, some-stands}
 use Rattle.swh_trees.proofs.edits.copy_path.Goals as goal

@@ -2,7 +2,7 @@ use Rattle.std.proofs.Common.{length, sym, ap, subst, ◌∙◌, Some}
 use Rattle.swh_trees.specs.Arena.{stands_of, tree_at, IsIn}
 use Rattle.swh_trees.specs.Forest.{Stands, found, graft}
 use Rattle.swh_trees.specs.Sound.{IsSoundHere}
-use Rattle.swh_trees.specs.Path.{components}
+use Rattle.swh_fastlex.specs.Path.{components}
 use Rattle.swh_trees.proofs.Arenas.{same-stands_of}
 use Rattle.swh_trees.proofs.Components.{path-names}
 use Rattle.swh_trees.proofs.EditedRoots.{from-root, to-root, here-sound, found-path, held-none, held-some, rename-done, some-stands}

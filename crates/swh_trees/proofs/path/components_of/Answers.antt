@@ -2,7 +2,7 @@ use Rattle.std.proofs.Common.{◌++◌, ◌∷◌, [], ℕ, List, sym, ap, ◌�
 use Rattle.std.specs.Borrow.{Bor}
 use Rattle.std.proofs.lemmas.List.{map_push, append_assoc}
 use Rattle.swh_trees.specs.Arena.{parts_of}
-use Rattle.swh_trees.specs.Path.{components}
+use Rattle.swh_fastlex.specs.Path.{components}
 use Rattle.swh_trees.proofs.Components.{components_none, components_cut}
 use Rattle.swh_trees.proofs.path.components_of.Goals as goal
 

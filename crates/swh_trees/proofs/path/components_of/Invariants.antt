@@ -1,6 +1,6 @@
 use Rattle.std.proofs.Common.{◌≡◌, ◌++◌, length}
 use Rattle.swh_trees.specs.Arena.{parts_of}
-use Rattle.swh_trees.specs.Path.{components}
+use Rattle.swh_fastlex.specs.Path.{components}
 use Rattle.swh_trees.proofs.path.components_of.Given as goal
 
 abbrev pub invariant-parts : goal.invariant-parts

@@ -1,6 +1,6 @@
 use Rattle.std.proofs.Common.{rules, sym, subst}
 use Rattle.std.specs.List.{AllByRecursion}
-use Rattle.swh_trees.specs.Path.{IsComponent}
+use Rattle.swh_fastlex.specs.Path.{IsComponent}
 use Rattle.swh_trees.proofs.Components.{components_none, components_cut}
 use Rattle.swh_trees.proofs.path.is_path.Goals as goal
 

@@ -1,6 +1,6 @@
 use Rattle.std.proofs.Common.{length}
 use Rattle.std.specs.List.{AllByRecursion}
-use Rattle.swh_trees.specs.Path.{IsComponent, components}
+use Rattle.swh_fastlex.specs.Path.{IsComponent, components}
 use Rattle.swh_trees.proofs.path.is_path.Given as goal
 
 -- the path's components are ones exactly where those of what is left are
