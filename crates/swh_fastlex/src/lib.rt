@@ -21,7 +21,7 @@ pub use counted::next_data;
 pub use fault::{LineFault, SourceFault};
 pub use feed::next_feed;
 pub use laws::one_spelled_path;
-pub use line::next_line;
+pub use line::{move_front, next_line};
 pub use path::is_path;
 pub use reserved::read_source_reserved;
 pub use source::{WINDOW, read_front, read_source};

@@ -7,3 +7,9 @@ pub mod Items
 pub mod Streams
 pub mod Examples
 pub mod Before
+pub mod Joins
+pub mod Onward
+pub mod Broken
+pub mod Remains
+pub mod Places
+pub mod HeldLines

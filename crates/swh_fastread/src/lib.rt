@@ -3,12 +3,17 @@
 //! Callers may rely on: a text is one list of commands at most, has one fault at most, and not both.
 #![tactic(auto)]
 
+mod ahead;
 mod command;
+mod fail;
 mod fault;
+mod hold;
 mod laws;
+mod row_source;
 mod worked;
 
 pub use command::{At, Change, Command, Commitish, Dataref, Start};
+pub use fail::{Outside, ReadFail};
 pub use fault::StreamWhy;
 pub use laws::{no_fault, one_fault, one_reading};
 pub use worked::{

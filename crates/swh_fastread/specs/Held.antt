@@ -1,0 +1,37 @@
+-- The bytes that a reader of rows holds: a line with its LF, or the beginning of one.
+use Rattle.std.specs.Prelude.{◌≡◌, ◌⊎◌, ℕ, ◌+◌, ◌<◌, ◌≤◌, ◌^◌, false, List, [], ◌∷◌, ◌++◌, Contains, length}
+use Rattle.swh_base.specs.Limits.{line_limit}
+use Rattle.swh_fastlex.specs.Line.{Held, unread, IsLine}
+use Rattle.swh_fastread.specs.declared.row_source.TheConstants.{STREAM_LIMIT}
+use Rattle.swh_fastread.specs.declared.ahead.Ahead.{Ahead}
+use Rattle.swh_fastread.specs.Places.{Place}
+use Rattle.swh_fastread.specs.Row.{is_comment}
+use Rattle.swh_fastread.specs.declared.ahead.Ahead.TheVariants.{Line, End, Long, Over}
+
+-- a line with its LF, or bytes without one
+abbrev pub IsHeld : List ℕ → Type 0
+IsHeld held = IsLine held ⊎ (Contains held 10 → ⊥)
+
+-- What is held comes before what the window holds; where it is the beginning of a line, and not as long as a line may be,
+-- nothing follows it.
+pub record Holds (tells : Type 0) (at : ℕ) (held : List ℕ) (window : Held) (left : List ℕ) : Type 0 where
+  pub shape : IsHeld held
+  pub short : length held ≤ line_limit
+  pub counted : window.place ≡ at + length held
+  pub within : window.place ≤ 2 ^ 33
+  pub at_end : tells → 0 < length held → length held < line_limit → (Contains held 10 → ⊥) → unread window left ≡ []
+
+-- what the held bytes are
+abbrev pub IsAhead : ℕ → List ℕ → Ahead → Type 0
+IsAhead at held Line = IsLine held × (at + length held ≤ STREAM_LIMIT)
+IsAhead at held End = (Contains held 10 → ⊥) × (length held < line_limit) × (at + length held ≤ STREAM_LIMIT)
+IsAhead at held Long = (Contains held 10 → ⊥) × (length held ≡ line_limit) × (at + length held ≤ STREAM_LIMIT)
+IsAhead at held Over = STREAM_LIMIT < at + length held
+
+-- Nothing follows the held beginning of a line that is not as long as a line may be.
+abbrev pub EndsHeld : Place → Type 0
+EndsHeld place = length place.held < line_limit → (Contains place.held 10 → ⊥) → place.rest ≡ []
+
+-- The line that is held is not skipped.
+abbrev pub HeldCounts : List ℕ → Type 0
+HeldCounts held = (line : List ℕ) → held ≡ line ++ 10 ∷ [] → is_comment line ≡ false
