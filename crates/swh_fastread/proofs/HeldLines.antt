@@ -24,7 +24,7 @@ line_feeds line l = subst (λ (t : List ℕ). Contains t 10) (sym l.text) (in_mi
 abbrev pub taken : Place → Place
 taken b = record { at = b.at + length b.held; held = []; rest = b.rest; faults = b.faults; path = b.path }
 
--- a held line's front is the line
+-- The held line has no LF before its end.
 pub front_of : (held line : List ℕ) → held ≡ line ++ 10 ∷ [] → IsLine held → Contains line 10 → ⊥
 front_of held line e l =
     let both : l.front ++ 10 ∷ [] ≡ line ++ 10 ∷ [] = sym l.text ∙ e in

@@ -13,3 +13,4 @@ pub mod Broken
 pub mod Remains
 pub mod Places
 pub mod HeldLines
+pub mod CountedData

@@ -42,7 +42,7 @@ first_byte [] = 0
 first_byte (c ∷ cs) = c
 
 -- no number begins with `<`
-no_angle : (text word : List ℕ) (n : ℕ) → IsNumber text n → text ≡ 60 ∷ word → ⊥
+pub no_angle : (text word : List ℕ) (n : ℕ) → IsNumber text n → text ≡ 60 ∷ word → ⊥
 no_angle [] word n h e = cc
 no_angle (c ∷ text) word n h e =
     let c_is : c ≡ 60 = cc in

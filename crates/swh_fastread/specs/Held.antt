@@ -1,11 +1,11 @@
 -- The bytes that a reader of rows holds: a line with its LF, or the beginning of one.
-use Rattle.std.specs.Prelude.{◌≡◌, ◌⊎◌, ℕ, ◌+◌, ◌<◌, ◌≤◌, ◌^◌, false, List, [], ◌∷◌, ◌++◌, Contains, length}
+use Rattle.std.specs.Prelude.{◌≡◌, ◌⊎◌, ℕ, ◌+◌, ◌<◌, ◌≤◌, ◌^◌, Bool, true, false, List, [], ◌∷◌, ◌++◌, Contains, length}
 use Rattle.swh_base.specs.Limits.{line_limit}
 use Rattle.swh_fastlex.specs.Line.{Held, unread, IsLine}
 use Rattle.swh_fastread.specs.declared.row_source.TheConstants.{STREAM_LIMIT}
 use Rattle.swh_fastread.specs.declared.ahead.Ahead.{Ahead}
 use Rattle.swh_fastread.specs.Places.{Place}
-use Rattle.swh_fastread.specs.Row.{is_comment}
+use Rattle.swh_fastread.specs.Row.{begins_with, is_comment}
 use Rattle.swh_fastread.specs.declared.ahead.Ahead.TheVariants.{Line, End, Long, Over}
 
 -- a line with its LF, or bytes without one
@@ -35,3 +35,13 @@ EndsHeld place = length place.held < line_limit → (Contains place.held 10 → 
 -- The line that is held is not skipped.
 abbrev pub HeldCounts : List ℕ → Type 0
 HeldCounts held = (line : List ℕ) → held ≡ line ++ 10 ∷ [] → is_comment line ≡ false
+
+-- Fewer bytes were left than were wanted. All of them are passed.
+pub record IsShort (count : ℕ) (old new : Place) : Type 0 where
+  pub short : length old.rest < count
+  pub here : new.at ≡ old.at + length old.rest
+
+-- An LF was next and is passed, or none was next.
+abbrev pub IsFed : Place → Place → Bool → Type 0
+IsFed old new true = (old.rest ≡ 10 ∷ new.rest) × (new.at ≡ old.at + 1)
+IsFed old new false = (new.rest ≡ old.rest) × (begins_with 10 old.rest ≡ false) × (new.at ≡ old.at)

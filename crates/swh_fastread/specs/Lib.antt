@@ -1,3 +1,4 @@
+pub mod Explains
 pub mod Fault
 pub mod Grammar
 pub mod Held

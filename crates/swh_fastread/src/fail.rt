@@ -72,6 +72,17 @@ impl From<Outside> for ReadFail {
     }
 }
 
+impl From<Failed> for ReadFail {
+    ghost use Rattle.std.specs.Prelude.{◌≡◌};
+    ghost use Rattle.swh_fastread.specs.declared.fail.ReadFail.TheVariants.{ReadFault};
+
+    ghost from_gives = { λ _ e. e ≡ ReadFault };
+
+    fn from(_e: Failed) -> ReadFail {
+        ReadFail::ReadFault
+    }
+}
+
 impl From<AllocError> for ReadFail {
     ghost use Rattle.std.specs.Prelude.{◌≡◌};
     ghost use Rattle.swh_fastread.specs.declared.fail.ReadFail.TheVariants.{Memory};

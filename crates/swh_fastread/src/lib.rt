@@ -5,6 +5,7 @@
 
 mod ahead;
 mod command;
+mod data;
 mod fail;
 mod fault;
 mod hold;

@@ -1,10 +1,12 @@
 //! Rows of a stream, read from a source: lines that are looked at before they are taken.
-ghost use Rattle.std.specs.Prelude.{◌≡◌, ◌≤◌, ◌<◌, ◌+◌, ◌^◌, ◌++◌, ◌∷◌, [], false, length, MatchBool, IfOk, IfErr, IsErrOf};
-ghost use Rattle.swh_outside.specs.Faults.{Rose};
+ghost use Rattle.std.specs.Prelude.{◌≡◌, ◌≢◌, ◌≤◌, ◌<◌, ◌+◌, ◌^◌, ◌++◌, ◌∷◌, [], false, length, IfOk, IfErr, IsErrOf};
+ghost use Rattle.swh_base.specs.Limits.{body_limit};
+ghost use Rattle.swh_outside.specs.Faults.{Rose, HasCause};
 ghost use Rattle.swh_fastlex.specs.Line.{IsLine};
-ghost use Rattle.swh_fastread.specs.declared.ahead.Ahead.TheVariants.{Line, End};
+ghost use Rattle.swh_fastread.specs.declared.ahead.Ahead.TheVariants.{Line, End as AtEnd};
+ghost use Rattle.swh_fastlex.specs.declared.fault.LineFault.TheVariants.{Failed as LineFailed, End, Limit};
 ghost use Rattle.swh_fastread.specs.declared.fail.Outside.TheVariants.{Failed};
-ghost use Rattle.swh_fastread.specs.Held.{IsAhead, EndsHeld, HeldCounts};
+ghost use Rattle.swh_fastread.specs.Held.{IsAhead, EndsHeld, HeldCounts, IsShort, IsFed};
 ghost use Rattle.swh_fastread.specs.Places.{left, Took};
 ghost use Rattle.swh_fastread.specs.Row.{is_comment};
 
@@ -13,7 +15,7 @@ use crate::fail::Outside;
 use crate::hold::hold_line;
 use std::alloc::Global;
 use std::marker::Model;
-use swh_fastlex::Window;
+use swh_fastlex::{LineFault, Window, next_data, next_feed};
 use swh_outside::Source;
 
 /// The bytes of a stream.
@@ -129,7 +131,7 @@ impl<S: Source> Rows<S> {
         ensures ahead { IfOk result (IsAhead self.new.at self.new.held) }
         ensures kept { S.tells → IfOk result (λ _. left self.new ≡ left self.old) }
         ensures same_place { IfOk result (λ _. self.new.at ≡ self.old.at) }
-        ensures end { S.tells → IfOk result (λ ahead. ahead ≡ End → self.new.rest ≡ []) }
+        ensures end { S.tells → IfOk result (λ ahead. ahead ≡ AtEnd → self.new.rest ≡ []) }
         ensures onward { self.old.at ≤ self.new.at }
         ensures within { self.new.at ≤ 2 ^ 33 }
 
@@ -152,7 +154,7 @@ impl<S: Source> Rows<S> {
         ensures ahead { IfOk result (IsAhead self.new.at self.new.held) }
         ensures counts { IfOk result (λ ahead. ahead ≡ Line → HeldCounts self.new.held) }
         ensures took { S.tells → IfOk result (λ _. Took self.old self.new []) }
-        ensures end { S.tells → IfOk result (λ ahead. ahead ≡ End → self.new.rest ≡ []) }
+        ensures end { S.tells → IfOk result (λ ahead. ahead ≡ AtEnd → self.new.rest ≡ []) }
         ensures onward { self.old.at ≤ self.new.at }
         ensures within { self.new.at ≤ 2 ^ 33 }
 
@@ -170,5 +172,48 @@ impl<S: Source> Rows<S> {
             }
             self.take();
         }
+    }
+
+    /// The next bytes, so many of them.
+    ///
+    /// # Errors
+    ///
+    /// The input ends before, or as `next_data` fails.
+    pub fn bytes(&mut self, count: u64) -> Result<Vec<u8>, LineFault>
+        requires empty { self.old.held ≡ [] }
+        requires start { self.old.at ≤ STREAM_LIMIT }
+        requires fits { count ≤ body_limit }
+        ensures count { IfOk result (λ bytes. length bytes.items ≡ count) }
+        ensures taken { S.tells → IfOk result (λ bytes. self.old.rest ≡ bytes.items ++ self.new.rest) }
+        ensures counted { S.tells → IfOk result (λ _. self.new.at ≡ self.old.at + count) }
+        ensures end { S.tells → IsErrOf result End → IsShort count self.old self.new }
+        ensures not_limit { IfErr result (λ fault. fault ≢ Limit) }
+        ensures held { self.new.held ≡ [] }
+        ensures onward { IfOk result (λ _. self.old.at ≤ self.new.at) }
+        ensures within { self.new.at ≤ self.old.at + count }
+
+        ensures same_path { self.new.path ≡ self.old.path }
+        ensures later { self.old.faults ≤ self.new.faults }
+        ensures cause { IsErrOf result LineFailed → Rose self.old.faults self.new.faults }
+    {
+        let bytes = next_data(self.alloc, &mut self.window, &mut self.source, count);
+        self.at = self.window.place();
+        bytes
+    }
+
+    /// Takes an LF where one is next.
+    pub fn feed(&mut self) -> Result<bool, swh_outside::Failed>
+        requires empty { self.old.held ≡ [] }
+        requires start { self.old.at ≤ STREAM_LIMIT + body_limit }
+        ensures feed { S.tells → IfOk result (IsFed self.old self.new) }
+        ensures held { self.new.held ≡ [] }
+        ensures onward { IfOk result (λ _. self.old.at ≤ self.new.at) }
+
+        ensures same_path { self.new.path ≡ self.old.path }
+        ensures cause { HasCause self.old.faults self.new.faults result }
+    {
+        let fed = next_feed(&mut self.window, &mut self.source);
+        self.at = self.window.place();
+        fed
     }
 }

@@ -1,0 +1,107 @@
+-- Why a reader gives no command, or no part of one.
+use Rattle.std.specs.Prelude.{◌≡◌, ◌⊎◌, ℕ, ◌+◌, ◌<◌, Bool, true, false, List, [], ◌∷◌, ◌++◌, length, Contains, codes}
+use Rattle.swh_base.specs.Limits.{body_limit, line_limit}
+use Rattle.swh_base.specs.Text.{IsNumber}
+use Rattle.swh_base.specs.declared.visit.Which.{Which}
+use Rattle.swh_base.specs.declared.visit.Which.TheVariants.{Body, Objects, Bytes, Store, Ledger, Stream, Line, Path, Ref, Refs}
+use Rattle.swh_fastlex.specs.Line.{IsLine}
+use Rattle.swh_fastlex.specs.declared.fault.LineFault.{LineFault}
+use Rattle.swh_fastlex.specs.declared.fault.LineFault.TheVariants.{Failed, End as Ends, Limit as Limits, Memory as NoRoom}
+use Rattle.swh_fastread.specs.declared.fail.ReadFail.{ReadFail}
+use Rattle.swh_fastread.specs.declared.fail.ReadFail.TheVariants.{BadStream, ReadFault, Limit, Memory}
+use Rattle.swh_fastread.specs.declared.fault.StreamWhy.TheVariants.{Grammar, End, LeftOut, Mark, Branch, Place as Spot}
+use Rattle.swh_fastread.specs.declared.row_source.TheConstants.{STREAM_LIMIT}
+use Rattle.swh_fastread.specs.Fault.{IsFault}
+use Rattle.swh_fastread.specs.Grammar.{contents}
+use Rattle.swh_fastread.specs.Places.{Place, left, Took, FirstLine, LineRefused, LineLacks, DataLacks, Position}
+use Rattle.swh_fastread.specs.Row.{Row, row_text, IsData, Placed}
+
+-- the bytes that are read at once: a line, the beginning of one, or a row of data
+abbrev pub IsStretch : List ℕ → Type 0
+IsStretch front = IsLine front ⊎ ((Contains front 10 → ⊥) ⊎ ((row : Row) × (bytes : List ℕ) × (next : List ℕ) × (front ≡ row_text row) × IsData row bytes next))
+
+-- The bytes that come next end after the last that a stream may have.
+pub record PassesStream (place : Place) (number : ℕ) : Type 0 where
+  pub front : List ℕ
+  pub rest : List ℕ
+  pub cut : left place ≡ front ++ rest
+  pub stretch : IsStretch front
+  pub over : STREAM_LIMIT < place.at + length front
+  pub count : number ≡ STREAM_LIMIT + 1
+
+-- The next bytes, as many as a line may have, have no LF.
+pub record PassesLine (place : Place) (number : ℕ) : Type 0 where
+  pub front : List ℕ
+  pub rest : List ℕ
+  pub cut : left place ≡ front ++ rest
+  pub no_feed : Contains front 10 → ⊥
+  pub long : length front ≡ line_limit
+  pub count : number ≡ line_limit + 1
+
+-- The next line opens more data than a body may have.
+pub record PassesBody (place : Place) (number : ℕ) : Type 0 where
+  pub text : List ℕ
+  pub first : FirstLine (left place) (codes "data " ++ text)
+  pub writes : IsNumber text number
+  pub over : body_limit < number
+
+-- A limit is passed here.
+abbrev pub Passes : Place → Which → ℕ → Type 0
+Passes place Body number = PassesBody place number
+Passes place Objects number = ⊥
+Passes place Bytes number = ⊥
+Passes place Store number = ⊥
+Passes place Ledger number = ⊥
+Passes place Stream number = PassesStream place number
+Passes place Line number = PassesLine place number
+Passes place Path number = ⊥
+Passes place Ref number = ⊥
+Passes place Refs number = ⊥
+
+-- A limit is passed after some rows.
+pub record PassesAfter (old : Place) (which : Which) (number : ℕ) : Type 0 where
+  pub before : Place
+  pub rows : List Placed
+  pub took : Took old before rows
+  pub passes : Passes before which number
+
+-- why the part does not come next
+abbrev pub PartFails : {X : Type 0} → (List Placed → X → Type 0) → Place → ReadFail → Type 0
+PartFails L old (BadStream at Grammar) = LineRefused L old at false
+PartFails L old (BadStream at End) = LineLacks old at
+PartFails L old (BadStream at LeftOut) = LineRefused L old at true
+PartFails L old (BadStream at Mark) = ⊥
+PartFails L old (BadStream at Branch) = ⊥
+PartFails L old (BadStream at Spot) = ⊥
+PartFails L old ReadFault = Unit {0}
+PartFails L old (Limit which number) = PassesAfter old which number
+PartFails L old Memory = Unit {0}
+
+-- why data do not come next, or are cut off
+abbrev pub DataFails : Place → ReadFail → Type 0
+DataFails old (BadStream at Grammar) = LineRefused contents old at false
+DataFails old (BadStream at End) = LineLacks old at ⊎ DataLacks old at
+DataFails old (BadStream at LeftOut) = LineRefused contents old at true
+DataFails old (BadStream at Mark) = ⊥
+DataFails old (BadStream at Branch) = ⊥
+DataFails old (BadStream at Spot) = ⊥
+DataFails old ReadFault = Unit {0}
+DataFails old (Limit which number) = PassesAfter old which number
+DataFails old Memory = Unit {0}
+
+-- why no command comes next, with no whole command before
+abbrev pub Explains : Place → Bool → ReadFail → Type 0
+Explains old promised (BadStream at why) = IsFault old.at promised (left old) [] at why
+Explains old promised ReadFault = Unit {0}
+Explains old promised (Limit which number) = PassesAfter old which number
+Explains old promised Memory = Unit {0}
+
+abbrev pub data_fail : LineFault → ℕ → ReadFail
+data_fail Failed at = ReadFault
+data_fail Ends at = BadStream at End
+data_fail Limits at = Limit Body at
+data_fail NoRoom at = Memory
+
+-- The line that is held opens so many bytes of data.
+abbrev pub OpensCounted : Place → ℕ → Type 0
+OpensCounted place count = (text : List ℕ) × (place.held ≡ (codes "data " ++ text) ++ 10 ∷ []) × IsNumber text count

@@ -1,0 +1,69 @@
+// Data of a stream (git-fast-import(1), data).
+ghost use Rattle.std.specs.Prelude.{◌≡◌, ◌≤◌, ◌+◌, [], IfOk, IfErr, IsErrOf, length};
+ghost use Rattle.swh_base.specs.Limits.{body_limit};
+ghost use Rattle.swh_fastlex.specs.Line.{IsLine};
+ghost use Rattle.swh_fastlex.specs.declared.fault.LineFault.TheVariants.{Limit};
+ghost use Rattle.swh_outside.specs.Faults.{Rose};
+ghost use Rattle.swh_fastread.specs.declared.fail.ReadFail.TheVariants.{ReadFault as SourceFailed};
+ghost use Rattle.swh_fastread.specs.Explains.{DataFails, OpensCounted, data_fail};
+ghost use Rattle.swh_fastread.specs.Grammar.{contents};
+ghost use Rattle.swh_fastread.specs.Places.{Part};
+
+use crate::fail::ReadFail;
+use crate::fault::StreamWhy;
+use crate::row_source::{Rows, STREAM_LIMIT};
+use swh_base::{BODY_LIMIT, Bytes, Which};
+use swh_fastlex::LineFault;
+use swh_outside::Source;
+
+/// Why data that are counted are not given; they end at this place.
+fn data_fail(fault: LineFault, at: u64) -> ReadFail
+    ensures { result ≡ data_fail fault at }
+{
+    match fault {
+        LineFault::Failed => ReadFail::ReadFault,
+        LineFault::End => ReadFail::BadStream {
+            at,
+            why: StreamWhy::End,
+        },
+        LineFault::Limit => ReadFail::Limit {
+            which: Which::Body,
+            number: at,
+        },
+        LineFault::Memory => ReadFail::Memory,
+    }
+}
+
+/// The data that the held line opens: so many bytes, with an LF directly after them.
+pub fn counted_data<S: Source>(rows: &mut Rows<S>, count: u64) -> Result<Bytes, ReadFail>
+    requires line { IsLine rows.old.held }
+    requires opens { OpensCounted rows.old count }
+    requires start { rows.old.at + length rows.old.held ≤ STREAM_LIMIT }
+    ensures data { S.tells → IfOk result (λ bytes. Part contents rows.old rows.new bytes) }
+    ensures fails { S.tells → IfErr result (DataFails rows.old) }
+    ensures onward { IfOk result (λ _. rows.old.at ≤ rows.new.at) }
+
+    ensures same_path { rows.new.path ≡ rows.old.path }
+    ensures later { rows.old.faults ≤ rows.new.faults }
+    ensures cause { IsErrOf result SourceFailed → Rose rows.old.faults rows.new.faults }
+{
+    if count > BODY_LIMIT {
+        return Err(ReadFail::Limit {
+            which: Which::Body,
+            number: count,
+        });
+    }
+    rows.take();
+    let bytes = match rows.bytes(count) {
+        Ok(bytes) => bytes,
+        Err(fault) => return Err(data_fail(fault, rows.at())),
+    };
+    rows.feed()?;
+    if rows.at() > STREAM_LIMIT {
+        return Err(ReadFail::Limit {
+            which: Which::Stream,
+            number: STREAM_LIMIT + 1,
+        });
+    }
+    Ok(Bytes::from_vec(bytes))
+}
