@@ -41,6 +41,7 @@ pub fn next_data<S: Source>(
     requires { window.old.place ≤ 2 ^ 63 }
     ensures count { IfOk result (λ bytes. length bytes.items ≡ wanted) }
     ensures within { IfOk result (λ _. wanted ≤ body_limit) }
+    ensures counted { IfOk result (λ _. window.new.place ≡ window.old.place + wanted) }
     ensures taken { S.tells → IfOk result (λ bytes. Takes window.old window.new (S.left source.old)
         (S.left source.new) bytes.items) }
     ensures end { S.tells → IsErrOf result End → IsCutData wanted window.old window.new (S.left source.old)

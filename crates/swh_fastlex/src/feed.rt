@@ -1,5 +1,5 @@
 // The LF that may follow data, read through a window.
-ghost use Rattle.std.specs.Prelude.{◌≤◌, ◌+◌, ◌^◌, IfOk, IfErr, ◌≡◌};
+ghost use Rattle.std.specs.Prelude.{◌≡◌, ◌≤◌, ◌+◌, ◌^◌, if◌then◌else◌, IfOk, IfErr};
 ghost use Rattle.swh_outside.specs.Faults.{HasCause};
 ghost use Rattle.swh_outside.specs.Source.{LosesSome};
 ghost use Rattle.swh_fastlex.specs.Line.{unread, TakesFeed};
@@ -16,6 +16,7 @@ use swh_pieces::behind;
 pub fn next_feed<S: Source>(window: &mut Window, source: &mut S) -> Result<bool, Failed>
     requires { window.old.place ≤ 2 ^ 63 }
     ensures feed { S.tells → IfOk result (TakesFeed window.old window.new (S.left source.old) (S.left source.new)) }
+    ensures counted { IfOk result (λ taken. window.new.place ≡ window.old.place + (if taken then 1 else 0)) }
     ensures loses { S.tells → IfErr result (λ _. LosesSome (unread window.old (S.left source.old))
         (unread window.new (S.left source.new))) }
     ensures place { window.new.place ≤ window.old.place + 1 }

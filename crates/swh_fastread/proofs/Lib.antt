@@ -7,3 +7,7 @@ pub mod Items
 pub mod Streams
 pub mod Examples
 pub mod Before
+pub mod SetFronts
+pub mod ChangeLines
+pub mod RefRuns
+pub mod Promises

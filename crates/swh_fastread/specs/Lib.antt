@@ -1,5 +1,6 @@
 pub mod Fault
 pub mod Grammar
-pub mod Path
+pub mod Limit
+pub mod Reading
 pub mod Row
 pub mod Word
