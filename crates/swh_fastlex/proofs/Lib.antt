@@ -1,3 +1,5 @@
 pub mod Components
+pub mod DelimitedLines
 pub mod Pieces
+pub mod Runs
 pub mod Windows

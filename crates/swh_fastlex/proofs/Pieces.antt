@@ -3,8 +3,8 @@ use Rattle.std.proofs.Common.{◌≡◌, ◌≢◌, ◌⊎◌, ℕ, zero, suc, �
 use Rattle.std.specs.List.{flat_map, AllByRecursion}
 use Rattle.swh_pieces.proofs.Middle.{in_middle}
 use Rattle.swh_base.proofs.Splits.{first_split}
-use Rattle.swh_fastlex.specs.Path.{Piece, Itself, Letter, Octal, piece_text, piece_byte, IsPiece, letter_byte, closed_text, IsQuoted, IsPlain, SpellsPath}
-use Rattle.swh_fastlex.specs.Spelling.{BeginsWithPiece, BeginsWithOctal, IsRestOfQuoted, ReadsPieces}
+use Rattle.swh_fastlex.specs.Path.{Piece, Itself, Letter, Octal, piece_text, piece_byte, IsPiece, letter_byte, closed_text, IsQuoted, IsPlain, Spells, SpellsPath}
+use Rattle.swh_fastlex.specs.Spelling.{BeginsWithPiece, BeginsWithOctal, ReadsPieces}
 
 digit_is_no_letter : (a : ℕ) → a ≤ 3 → letter_byte (48 + a) ≡ None
 digit_is_no_letter zero l = refl
@@ -15,6 +15,10 @@ digit_is_no_letter (suc (suc (suc (suc a)))) l = absurd (omega arith)
 
 digit_or_letter : (a l c : ℕ) → a ≤ 3 → l ≡ 48 + a → letter_byte l ≡ Some c → ⊥
 digit_or_letter a l c le e h = let none = digit_is_no_letter a le in let there : letter_byte (48 + a) ≡ Some c = subst (λ (x : ℕ). letter_byte x ≡ Some c) e h in cc
+
+-- no piece begins the text
+abbrev pub NoPiece : List ℕ → Type 0
+NoPiece text = (piece : Piece) (more : List ℕ) → IsPiece piece → text ≡ piece_text piece ++ more → ⊥
 
 -- a text begins with one piece at most
 pub one_piece : (p q : Piece) (x y : List ℕ) → IsPiece p → IsPiece q → piece_text p ++ x ≡ piece_text q ++ y → (p ≡ q) × (x ≡ y)
@@ -62,14 +66,15 @@ one_quoting (p ∷ ps) (q ∷ qs) x y h k e =
     let others = one_quoting ps qs x y h.1 k.1 firsts.1 in
     let a = firsts.0 in let b = others.0 in (cc, others.1)
 
--- What begins with no piece, and not as a quoted path ends, is not the rest of one.
-pub breaks_quoting : (before ps : List Piece) (bad x : List ℕ) → AllByRecursion IsPiece before → AllByRecursion IsPiece ps → ((p : Piece) (rest : List ℕ) → IsPiece p → bad ≡ piece_text p ++ rest → ⊥) → (bad ≡ 34 ∷ x → ⊥) → flat_map piece_text before ++ bad ≡ closed_text ps ++ x → ⊥
-breaks_quoting [] [] bad x h k none end e = end e
-breaks_quoting [] (p ∷ ps) bad x h k none end e = none p (closed_text ps ++ x) k.0 (e ∙ regroup p ps x)
-breaks_quoting (q ∷ qs) [] bad x h k none end e = no_quote_piece q (flat_map piece_text qs ++ bad) x h.0 (sym (append_assoc (piece_text q) (flat_map piece_text qs) bad) ∙ e)
-breaks_quoting (q ∷ qs) (p ∷ ps) bad x h k none end e =
-    let firsts = one_piece q p (flat_map piece_text qs ++ bad) (closed_text ps ++ x) h.0 k.0 (sym (append_assoc (piece_text q) (flat_map piece_text qs) bad) ∙ e ∙ regroup p ps x) in
-    breaks_quoting qs ps bad x h.1 k.1 none end firsts.1
+-- Two lists of pieces begin one text, and no piece follows either: they are the same.
+pub same_pieces : (ps qs : List Piece) (x y : List ℕ) → AllByRecursion IsPiece ps → AllByRecursion IsPiece qs → NoPiece x → NoPiece y → flat_map piece_text ps ++ x ≡ flat_map piece_text qs ++ y → (ps ≡ qs) × (x ≡ y)
+same_pieces [] [] x y h k nx ny e = (refl, e)
+same_pieces [] (q ∷ qs) x y h k nx ny e = absurd (nx q (flat_map piece_text qs ++ y) k.0 (e ∙ append_assoc (piece_text q) (flat_map piece_text qs) y))
+same_pieces (p ∷ ps) [] x y h k nx ny e = absurd (ny p (flat_map piece_text ps ++ x) h.0 (sym e ∙ append_assoc (piece_text p) (flat_map piece_text ps) x))
+same_pieces (p ∷ ps) (q ∷ qs) x y h k nx ny e =
+    let firsts = one_piece p q (flat_map piece_text ps ++ x) (flat_map piece_text qs ++ y) h.0 k.0 (sym (append_assoc (piece_text p) (flat_map piece_text ps) x) ∙ e ∙ append_assoc (piece_text q) (flat_map piece_text qs) y) in
+    let others = same_pieces ps qs x y h.1 k.1 nx ny firsts.1 in
+    let a = firsts.0 in let b = others.0 in (cc, others.1)
 
 pub dropped : (a b : List ℕ) (n : ℕ) → n ≡ length a → drop n (a ++ b) ≡ b
 dropped [] b zero e = refl
@@ -145,71 +150,15 @@ reads_more text rest path byte n after longer r b cut push = record {
   means = push ∙ ap (λ (t : List ℕ). t ++ byte ∷ []) r.means ∙ ap (λ (c : ℕ). map piece_byte r.pieces ++ c ∷ []) b.spells ∙ sym (map_more r.pieces b.piece);
 }
 
-left_over : (a b : List ℕ) (n : ℕ) (text : List ℕ) → text ≡ a ++ b → n ≡ length text - length b → drop n text ≡ b
+pub left_over : (a b : List ℕ) (n : ℕ) (text : List ℕ) → text ≡ a ++ b → n ≡ length text - length b → drop n text ≡ b
 left_over a b n text e c = ap (drop n) e ∙ dropped a b n (omega (arith, c, ap length e, length-append a b))
 
--- the pieces so far, the quote and the byte after it
-pub quoted_whole : (text rest path after : List ℕ) (stop n : ℕ) → ReadsPieces text rest path → rest ≡ 34 ∷ stop ∷ after → n ≡ length text - length after → IsRestOfQuoted text path (stop ∷ drop n text)
-quoted_whole text rest path after stop n r cut count =
-    let whole : text ≡ closed_text r.pieces ++ stop ∷ after = r.cut ∙ ap (λ (t : List ℕ). flat_map piece_text r.pieces ++ t) cut ∙ sym (append_assoc (flat_map piece_text r.pieces) (34 ∷ []) (stop ∷ after)) in
-    let apart : text ≡ (closed_text r.pieces ++ stop ∷ []) ++ after = whole ∙ sym (append_assoc (closed_text r.pieces) (stop ∷ []) after) in
-    let left = left_over (closed_text r.pieces ++ stop ∷ []) after n text apart count in
-    record { pieces = r.pieces; are = r.are; cut = whole ∙ ap (λ (t : List ℕ). closed_text r.pieces ++ stop ∷ t) (sym left); means = r.means }
-
-pub quoted_never : (text rest path : List ℕ) (stop : ℕ) → ReadsPieces text rest path → ((p : Piece) (more : List ℕ) → IsPiece p → rest ≡ piece_text p ++ more → ⊥) → ((more : List ℕ) → rest ≡ 34 ∷ stop ∷ more → ⊥) → (other more : List ℕ) → IsRestOfQuoted text other (stop ∷ more) → ⊥
-quoted_never text rest path stop r none end other more h = breaks_quoting r.pieces h.pieces rest (stop ∷ more) r.are h.are none (end more) (sym r.cut ∙ h.cut)
-
--- a quote and the rest of a quoted path spell it
-pub spells_quoted : (stop : ℕ) (text quoted path rest : List ℕ) → text ≡ 34 ∷ quoted → IsRestOfQuoted quoted path (stop ∷ rest) → SpellsPath stop text path rest
-spells_quoted stop text quoted path rest e h = record {
-  spelling = 34 ∷ closed_text h.pieces;
-  cut = e ∙ ap (λ (t : List ℕ). 34 ∷ t) h.cut;
-  form = inl (record { pieces = h.pieces; are = h.are; spelled = refl; means = h.means });
-}
-
-dropped_one_more : (text quoted : List ℕ) (n : ℕ) → text ≡ 34 ∷ quoted → drop (n + 1) text ≡ drop n quoted
-dropped_one_more text quoted n e = ap (drop (n + 1)) e ∙ ap (λ (m : ℕ). drop m (34 ∷ quoted)) (add-one n)
-
--- the same, with what is left told by a count of bytes
-pub path_whole : (stop : ℕ) (text quoted path : List ℕ) (n : ℕ) → text ≡ 34 ∷ quoted → IsRestOfQuoted quoted path (stop ∷ drop n quoted) → SpellsPath stop text path (drop (n + 1) text)
-path_whole stop text quoted path n e h = subst (SpellsPath stop text path) (sym (dropped_one_more text quoted n e)) (spells_quoted stop text quoted path (drop n quoted) e h)
-
-quoted_rest : (stop : ℕ) (text quoted path rest spelling : List ℕ) → text ≡ 34 ∷ quoted → text ≡ spelling ++ stop ∷ rest → IsQuoted spelling path → IsRestOfQuoted quoted path (stop ∷ rest)
-quoted_rest stop text quoted path rest spelling e cut q =
-    let both : 34 ∷ quoted ≡ 34 ∷ (closed_text q.pieces ++ stop ∷ rest) = sym e ∙ cut ∙ ap (λ (t : List ℕ). t ++ stop ∷ rest) q.spelled in
-    record { pieces = q.pieces; are = q.are; cut = cc; means = q.means }
-
-plain_no_quote : (stop : ℕ) (spelling path rest quoted : List ℕ) → stop ≢ 34 → IsPlain stop spelling path → spelling ++ stop ∷ rest ≡ 34 ∷ quoted → ⊥
+pub plain_no_quote : (stop : ℕ) (spelling path rest quoted : List ℕ) → stop ≢ 34 → IsPlain stop spelling path → spelling ++ stop ∷ rest ≡ 34 ∷ quoted → ⊥
 plain_no_quote stop [] path rest quoted n p e = n (cc)
 plain_no_quote stop (c ∷ spelling) path rest quoted n p e = let first : c ≡ 34 = cc in p.no_quote spelling (ap (λ (x : ℕ). x ∷ spelling) first)
 
--- a spelling that begins with a quote is quoted
-pub rest_from_spells : (stop : ℕ) (text quoted path rest : List ℕ) → stop ≢ 34 → text ≡ 34 ∷ quoted → SpellsPath stop text path rest → IsRestOfQuoted quoted path (stop ∷ rest)
-rest_from_spells stop text quoted path rest n e h =
-    elim h.form [
-      | inl q ↦ quoted_rest stop text quoted path rest h.spelling e h.cut q
-      | inr p ↦ absurd (plain_no_quote stop h.spelling path rest quoted n p (sym h.cut ∙ e))
-    ]
-
--- a text without the byte that ends a path spells none
-pub spells_stop : (stop : ℕ) (text path rest : List ℕ) → (Contains text stop → ⊥) → SpellsPath stop text path rest → ⊥
-spells_stop stop text path rest none h = none (subst (λ (t : List ℕ). Contains t stop) (sym h.cut) (in_middle h.spelling rest stop))
-
-front_quote : (spelling more text rest : List ℕ) (stop : ℕ) → text ≡ spelling ++ stop ∷ more → spelling ≡ 34 ∷ rest → text ≡ 34 ∷ (rest ++ stop ∷ more)
-front_quote spelling more text rest stop cut e = cut ∙ ap (λ (t : List ℕ). t ++ stop ∷ more) e
-
--- what stands before the first `stop` spells itself
-pub spells_plain : (stop : ℕ) (text spelling more path : List ℕ) (n : ℕ) → ((rest : List ℕ) → text ≡ 34 ∷ rest → ⊥) → (Contains spelling stop → ⊥) → text ≡ spelling ++ stop ∷ more → path ≡ spelling → n ≡ length spelling + 1 → SpellsPath stop text path (drop n text)
-spells_plain stop text spelling more path n plain none cut same count =
-    let apart : text ≡ (spelling ++ stop ∷ []) ++ more = cut ∙ sym (append_assoc spelling (stop ∷ []) more) in
-    let left = ap (drop n) apart ∙ dropped (spelling ++ stop ∷ []) more n (omega (arith, count, length-append spelling (stop ∷ []))) in
-    record {
-      spelling = spelling;
-      cut = cut ∙ ap (λ (t : List ℕ). spelling ++ stop ∷ t) (sym left);
-      form = inr (record { same = same; no_stop = none; no_quote = λ rest e. plain (rest ++ stop ∷ more) (front_quote spelling more text rest stop cut e) });
-    }
-
-one_form : (stop : ℕ) (s t p q x y : List ℕ) → stop ≢ 34 → s ++ stop ∷ x ≡ t ++ stop ∷ y → ((IsQuoted s p) ⊎ (IsPlain stop s p)) → ((IsQuoted t q) ⊎ (IsPlain stop t q)) → (p ≡ q) × (x ≡ y)
+-- two spellings, plain or quoted, each with the byte `stop` after it
+pub one_form : (stop : ℕ) (s t p q x y : List ℕ) → stop ≢ 34 → s ++ stop ∷ x ≡ t ++ stop ∷ y → Spells stop s p → Spells stop t q → (p ≡ q) × (x ≡ y)
 one_form stop s t p q x y n e (inl a) (inl b) =
     let both : 34 ∷ (closed_text a.pieces ++ stop ∷ x) ≡ 34 ∷ (closed_text b.pieces ++ stop ∷ y) = sym (ap (λ (z : List ℕ). z ++ stop ∷ x) a.spelled) ∙ e ∙ ap (λ (z : List ℕ). z ++ stop ∷ y) b.spelled in
     let same = one_quoting a.pieces b.pieces (stop ∷ x) (stop ∷ y) a.are b.are (cc) in

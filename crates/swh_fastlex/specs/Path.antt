@@ -1,5 +1,5 @@
 -- Paths in a stream (git-fast-import(1), filemodify): what a path has to be, and how a text spells one.
-use Rattle.std.specs.Prelude.{◌≡◌, ◌≢◌, ◌⊎◌, ◌==◌, ◌≤◌, ◌+◌, ◌*◌, ℕ, if◌then◌else◌, Option, Some, None, List, [], ◌∷◌, ◌++◌, length, map, Contains, codes}
+use Rattle.std.specs.Prelude.{◌≡◌, ◌≢◌, ◌⊎◌, ◌==◌, ◌<◌, ◌≤◌, ◌+◌, ◌*◌, ℕ, if◌then◌else◌, Option, Some, None, List, [], ◌∷◌, ◌++◌, length, map, Contains, codes}
 use Rattle.std.specs.List.{flat_map, slice_split, AllByRecursion}
 use Rattle.swh_base.specs.Limits.{path_limit}
 
@@ -14,10 +14,9 @@ pub record IsComponent (name : List ℕ) : Type 0 where
 abbrev pub components : List ℕ → List (List ℕ)
 components path = slice_split (λ c. c == 47) path
 
--- at most 65,535 bytes, and each component is one
-pub record IsPath (path : List ℕ) : Type 0 where
-  pub short : length path ≤ path_limit
-  pub each : AllByRecursion IsComponent (components path)
+-- Each component is one. A path of any length is a path; that one is too long is said apart.
+abbrev pub IsPath : List ℕ → Type 0
+IsPath path = AllByRecursion IsComponent (components path)
 
 -- the byte that a letter after a backslash spells: `\a`, `\b`, `\f`, `\n`, `\r`, `\t`, `\v`, `\\` and `\"`
 abbrev pub letter_byte : ℕ → Option ℕ
@@ -73,8 +72,47 @@ pub record IsPlain (stop : ℕ) (spelling path : List ℕ) : Type 0 where
   pub no_stop : Contains spelling stop → ⊥
   pub no_quote : (rest : List ℕ) → spelling ≡ 34 ∷ rest → ⊥
 
+-- The spelling is the path, in quotes or as it is.
+abbrev pub Spells : ℕ → List ℕ → List ℕ → Type 0
+Spells stop spelling path = IsQuoted spelling path ⊎ IsPlain stop spelling path
+
 -- The text begins with a spelling of the path, quoted or plain, then comes the byte `stop`, and then the rest.
 pub record SpellsPath (stop : ℕ) (text path rest : List ℕ) : Type 0 where
   pub spelling : List ℕ
   pub cut : text ≡ spelling ++ stop ∷ rest
-  pub form : (IsQuoted spelling path) ⊎ (IsPlain stop spelling path)
+  pub form : Spells stop spelling path
+
+-- The text, which an LF ends, is a path.
+abbrev pub NamesPath : List ℕ → List ℕ → Type 0
+NamesPath text path = IsPath path × Spells 10 text path
+
+-- The text begins with a path, which the byte `stop` ends, and then comes the rest.
+abbrev pub NamesPathBefore : ℕ → List ℕ → List ℕ → List ℕ → Type 0
+NamesPathBefore stop text path rest = IsPath path × SpellsPath stop text path rest
+
+-- A quote and the pieces after it spell these bytes, and no further piece follows.
+pub record RunsQuoted (text path rest : List ℕ) : Type 0 where
+  pub pieces : List Piece
+  pub are : AllByRecursion IsPiece pieces
+  pub cut : text ≡ 34 ∷ (flat_map piece_text pieces ++ rest)
+  pub means : path ≡ map piece_byte pieces
+  pub ends : (piece : Piece) (more : List ℕ) → IsPiece piece → rest ≡ piece_text piece ++ more → ⊥
+
+-- The text begins with no quote, and these are its bytes up to the first `stop` or to its end.
+pub record RunsPlain (stop : ℕ) (text path rest : List ℕ) : Type 0 where
+  pub cut : text ≡ path ++ rest
+  pub no_stop : Contains path stop → ⊥
+  pub no_quote : (more : List ℕ) → text ≡ 34 ∷ more → ⊥
+  pub ends : (rest ≡ []) ⊎ ((more : List ℕ) × (rest ≡ stop ∷ more))
+
+-- the bytes that the front of a text spells, as far as a path may go, and what comes after them
+abbrev pub RunsPath : ℕ → List ℕ → List ℕ → List ℕ → Type 0
+RunsPath stop text path rest = RunsQuoted text path rest ⊎ RunsPlain stop text path rest
+
+-- The front of the text spells more bytes than a path may have: so many.
+pub record PassesPath (stop : ℕ) (text : List ℕ) (number : ℕ) : Type 0 where
+  pub path : List ℕ
+  pub rest : List ℕ
+  pub runs : RunsPath stop text path rest
+  pub count : number ≡ length path
+  pub above : path_limit < number

@@ -67,3 +67,44 @@ impl From<Failed> for LineFault {
         LineFault::Failed
     }
 }
+
+/// Why data up to a delimiter are not given.
+#[derive(Clone, Copy, Debug, PartialEq, Eq)]
+pub enum DataFault {
+    /// The source failed, and its count of faults rose.
+    Failed,
+    /// The input ends inside the data.
+    End,
+    /// A line is longer than it may be.
+    Line,
+    /// The data are longer than they may be.
+    Body,
+    Memory,
+}
+
+impl From<AllocError> for DataFault {
+    ghost use Rattle.std.specs.Prelude.{◌≡◌};
+    ghost use Rattle.swh_fastlex.specs.declared.fault.DataFault.TheVariants.{Memory};
+
+    ghost from_gives = { λ _ e. e ≡ Memory };
+
+    fn from(_e: AllocError) -> DataFault {
+        DataFault::Memory
+    }
+}
+
+impl From<LineFault> for DataFault {
+    ghost use Rattle.std.specs.Prelude.{◌≡◌};
+    ghost use Rattle.swh_fastlex.specs.Delimited.{data_fault};
+
+    ghost from_gives = { λ fault e. e ≡ data_fault fault };
+
+    fn from(fault: LineFault) -> DataFault {
+        match fault {
+            LineFault::Failed => DataFault::Failed,
+            LineFault::End => DataFault::End,
+            LineFault::Limit => DataFault::Line,
+            LineFault::Memory => DataFault::Memory,
+        }
+    }
+}

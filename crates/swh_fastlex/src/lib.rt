@@ -7,26 +7,29 @@
 #![tactic(auto)]
 
 mod counted;
+mod delimited;
 mod fault;
 mod feed;
 mod laws;
 mod line;
 mod path;
+mod paths;
 mod reserved;
 mod source;
 mod spelling;
 mod window;
+mod word;
 
 pub use counted::next_data;
-pub use fault::{LineFault, SourceFault};
+pub use delimited::next_delimited;
+pub use fault::{DataFault, LineFault, SourceFault};
 pub use feed::next_feed;
 pub use laws::one_spelled_path;
 pub use line::{move_front, next_line};
 pub use path::is_path;
+pub use paths::{PathBefore, path_before, path_word};
 pub use reserved::read_source_reserved;
 pub use source::{WINDOW, read_front, read_source};
-pub use spelling::{SpelledPath, path_before};
+pub use spelling::{PathRun, path_run};
 pub use window::Window;
-
-#[cfg(test)]
-mod tests;
+pub use word::Word;

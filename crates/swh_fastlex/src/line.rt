@@ -51,6 +51,8 @@ pub fn next_line<S: Source>(
     requires { window.old.place ≤ 2 ^ 63 }
     ensures line { IfOk result (λ found. IfSome found (λ line. IsLine line.items)) }
     ensures within { IfOk result (λ found. IfSome found (λ line. length line.items ≤ line_limit)) }
+    ensures counted { IfOk result (λ found. IfSome found (λ line. window.new.place
+        ≡ window.old.place + length line.items)) }
     ensures taken { S.tells → IfOk result (λ found. IfSome found (λ line. Takes window.old window.new
         (S.left source.old) (S.left source.new) line.items)) }
     ensures none { S.tells → IfOk result (λ found. IfNone found (IsAtEnd window.old window.new

@@ -2,7 +2,6 @@
 ghost use Rattle.std.specs.Prelude.{◌↔◌, IsTrue};
 ghost use Rattle.swh_fastlex.specs.Path.{IsComponent, IsPath};
 
-use swh_base::PATH_LIMIT;
 use swh_pieces::split_at_byte;
 
 /// Whether this may be a component of a path: it is not empty, is neither `.` nor `..`, and has no NUL.
@@ -24,14 +23,11 @@ fn is_component(name: &[u8]) -> bool
     }
 }
 
-/// Whether these bytes are a path: 65,535 of them at most, with components that are not empty, are neither `.` nor
-/// `..`, and have no NUL.
+/// Whether these bytes are a path of any length: its components are not empty, are neither `.` nor `..`, and have no
+/// NUL.
 pub fn is_path(path: &[u8]) -> bool
     ensures { IsTrue result ↔ IsPath path.now }
 {
-    if path.len() > PATH_LIMIT {
-        return false;
-    }
     let mut rest = path;
     'components: while let Some((component, after)) = split_at_byte(rest, b'/') {
         if !is_component(component) {

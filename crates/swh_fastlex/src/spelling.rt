@@ -1,17 +1,19 @@
-// Paths as a stream spells them (git-fast-import(1), filemodify): quoted, or as they are.
-ghost use Rattle.std.specs.Prelude.{◌≡◌, ◌≢◌, ◌+◌, ◌≤◌, ℕ, List, ◌∷◌, ◌++◌, IfOk, IfSome, IfNone, length, drop};
-ghost use Rattle.swh_fastlex.specs.Path.{letter_byte, Piece, IsPiece, piece_text, SpellsPath};
-ghost use Rattle.swh_fastlex.specs.Spelling.{BeginsWithPiece, BeginsWithOctal, NeverOctal, IsRestOfQuoted};
+// The bytes that a text spells as a path (git-fast-import(1), filemodify): quoted, or as they are.
+ghost use Rattle.std.specs.Prelude.{◌≡◌, ◌≢◌, ◌+◌, ◌≤◌, ℕ, List, ◌∷◌, ◌++◌, IfOk, IfSome, IfNone, MatchBool, true, length, drop};
+ghost use Rattle.swh_fastlex.specs.Path.{letter_byte, Piece, IsPiece, piece_text, RunsQuoted, RunsPlain};
+ghost use Rattle.swh_fastlex.specs.Spelling.{BeginsWithPiece, BeginsWithOctal, NeverOctal, IsBefore};
 
 use std::alloc::{AllocError, Global};
-use swh_pieces::{behind, split_at_byte};
+use swh_pieces::behind;
 
-/// A path that was read from a text.
+/// The bytes that the front of a text spells, as far as a path may go.
 #[derive(Drop)]
-pub struct SpelledPath {
+pub struct PathRun {
     pub path: Vec<u8>,
-    /// How many bytes of the text spell it, with the byte that ends it.
+    /// How many bytes of the text spell them, with the quote before them.
     pub length: usize,
+    /// Whether the text begins with a quote.
+    pub quoted: bool,
 }
 
 /// The byte that a letter after a backslash spells.
@@ -89,67 +91,56 @@ fn first_piece(text: &[u8]) -> Option<(u8, usize)>
     }
 }
 
-/// A quoted path, from the byte after its first quote, and the byte `stop` after its last quote.
-fn quoted_before(alloc: Global, text: &[u8], stop: u8) -> Result<Option<SpelledPath>, AllocError>
-    ensures some { IfOk result (λ found. IfSome found (λ x. IsRestOfQuoted text.now x.path.items
-        (stop ∷ drop x.length text.now))) }
-    ensures within { IfOk result (λ found. IfSome found (λ x. x.length ≤ length text.now)) }
-    ensures none { IfOk result (λ found. IfNone found ((path rest : List ℕ)
-        → IsRestOfQuoted text.now path (stop ∷ rest) → ⊥)) }
+/// The bytes that the pieces after a quote spell.
+fn quoted_run(alloc: Global, text: &[u8], pieces: &[u8]) -> Result<PathRun, AllocError>
+    requires { text.now ≡ 34 ∷ pieces.now }
+    ensures runs { IfOk result (λ run. RunsQuoted text.now run.path.items (drop run.length text.now)) }
+    ensures within { IfOk result (λ run. run.length ≤ length text.now) }
+    ensures quoted { IfOk result (λ run. run.quoted ≡ true) }
 {
     let mut path = Vec::new(alloc);
-    let mut rest = text;
+    let mut rest = pieces;
     'pieces: while let Some((byte, length)) = first_piece(rest) {
         path.push(byte)?;
         rest = &rest[length..];
     }
-    let closing = [b'"', stop];
-    let Some(after) = behind(&closing, rest) else {
-        return Ok(None);
-    };
-    let length = text.len() - after.len();
-    Ok(Some(SpelledPath { path, length }))
+    Ok(PathRun {
+        path,
+        length: text.len() - rest.len(),
+        quoted: true,
+    })
 }
 
-/// A plain path and the byte `stop` after it.
-fn plain_before(alloc: Global, text: &[u8], stop: u8) -> Result<Option<SpelledPath>, AllocError>
-    requires plain { (rest : List ℕ) → text.now ≡ 34 ∷ rest → ⊥ }
-    requires no_quote { stop ≢ 34 }
-    ensures some { IfOk result (λ found. IfSome found (λ x. SpellsPath stop text.now x.path.items
-        (drop x.length text.now))) }
-    ensures within { IfOk result (λ found. IfSome found (λ x. x.length ≤ length text.now)) }
-    ensures none { IfOk result (λ found. IfNone found ((path rest : List ℕ) → SpellsPath stop text.now path rest → ⊥)) }
+/// How many bytes stand before the first `stop`, or before the end.
+fn bytes_before(text: &[u8], stop: u8) -> usize
+    ensures { IsBefore stop text.now result }
 {
-    let Some((spelling, _)) = split_at_byte(text, stop) else {
-        return Ok(None);
-    };
-    let path = Vec::from_slice(alloc, spelling)?;
-    let length = spelling.len() + 1;
-    Ok(Some(SpelledPath { path, length }))
+    match text.iter().position(|byte| *byte == stop) {
+        Some(end) => end,
+        None => text.len(),
+    }
 }
 
-/// The path that the text begins with, up to the byte `stop`: LF, or a space for a source of a copy or a rename. It is
-/// quoted where the text begins with a quote, and else stands as it is up to the first `stop`. What is read is not
-/// tested to be a path (`is_path` does). None where the text begins with no spelling of one.
+/// The bytes that the front of a text spells, as far as a path may go: those of the pieces after a quote, or else the
+/// bytes of the text itself up to the first `stop`. What is read is not tested to be a path (`is_path` does).
 ///
 /// # Errors
 ///
 /// Memory ran out.
-pub fn path_before(alloc: Global, text: &[u8], stop: u8) -> Result<Option<SpelledPath>, AllocError>
-    requires { stop ≢ 34 }
-    ensures some { IfOk result (λ found. IfSome found (λ x. SpellsPath stop text.now x.path.items
-        (drop x.length text.now))) }
-    ensures within { IfOk result (λ found. IfSome found (λ x. x.length ≤ length text.now)) }
-    ensures none { IfOk result (λ found. IfNone found ((path rest : List ℕ) → SpellsPath stop text.now path rest → ⊥)) }
+pub fn path_run(alloc: Global, text: &[u8], stop: u8) -> Result<PathRun, AllocError>
+    ensures runs { IfOk result (λ run. MatchBool run.quoted
+        (RunsQuoted text.now run.path.items (drop run.length text.now))
+        (RunsPlain stop text.now run.path.items (drop run.length text.now))) }
+    ensures within { IfOk result (λ run. run.length ≤ length text.now) }
 {
-    let Some(quoted) = behind(b"\"", text) else {
-        return plain_before(alloc, text, stop);
-    };
-    match quoted_before(alloc, quoted, stop)? {
-        Some(found) => Ok(Some(SpelledPath {
-            path: found.path,
-            length: found.length + 1,
-        })),
-        None => Ok(None),
+    if let Some(pieces) = behind(b"\"", text) {
+        return quoted_run(alloc, text, pieces);
     }
+    let length = bytes_before(text, stop);
+    let path = Vec::from_slice(alloc, &text[..length])?;
+    Ok(PathRun {
+        path,
+        length,
+        quoted: false,
+    })
 }

@@ -1,6 +1,6 @@
 -- Worked examples of the grammar.
 use Rattle.std.proofs.Common.{◌+◌, length, if◌then◌else◌, None, ◌≡◌, ◌≢◌, ℕ, zero, suc, inl, inr, Bool, true, false, List, [], ◌∷◌, ◌++◌, refl, sym, ap, ◌∙◌, subst, arith, append_assoc, codes}
-use Rattle.std.specs.List.{AllPass, list_any}
+use Rattle.std.specs.List.{AllByRecursion, AllPass, list_any}
 use Rattle.swh_base.proofs.Splits.{absent, not_nil}
 use Rattle.swh_base.specs.Text.{is_digit}
 use Rattle.swh_fastread.specs.declared.command.Command.{Command}
@@ -9,8 +9,8 @@ use Rattle.swh_fastread.specs.declared.fault.StreamWhy.TheVariants.{End, Grammar
 use Rattle.swh_fastread.specs.Fault.{BeginsRows, IsUnfinished, IsFault}
 use Rattle.swh_fastread.specs.Grammar.{Parses, line_at, Item, IsItem, is_promise, many, Ends, IsStream}
 use Rattle.swh_fastread.specs.Grammar.Item.{Promise, Says, Nothing}
-use Rattle.swh_fastread.specs.Path.{IsComponent, IsPath, SpellsPath}
-use Rattle.swh_fastread.specs.Path.Piece.{Plain, Octal}
+use Rattle.swh_fastlex.specs.Path.{IsComponent, IsPath, NamesPath, Itself, Octal}
+use Rattle.swh_fastlex.proofs.Components.{components_none}
 use Rattle.swh_fastread.specs.Row.{Row, row_text, text_of, IsData, Opens, IsRow, AreRows, Placed, placed, is_comment}
 use Rattle.swh_fastread.proofs.Rows.{goes_on}
 use Rattle.swh_fastread.proofs.Faults.{row_cut, row_line}
@@ -39,27 +39,26 @@ cafe_component = record {
   some = λ e. let n : 99 ≡ 0 = ap first e in absurd (omega (arith, n));
   not_here = λ e. let n : 99 ≡ 46 = ap first e in absurd (omega (arith, n));
   not_above = λ e. let n : 99 ≡ 46 = ap first e in absurd (omega (arith, n));
-  no_slash = absent 47 cafe refl;
   no_nul = absent 0 cafe refl;
 }
 
 cafe_path : IsPath cafe
-cafe_path = record { first = cafe; others = []; each = (cafe_component, tt); joined = refl }
+cafe_path = subst (AllByRecursion IsComponent) (sym (components_none cafe (absent 47 cafe refl))) (cafe_component, tt)
 
-plain_piece : (c : ℕ) → (c ≡ 34 → ⊥) → (c ≡ 92 → ⊥) → (c ≢ 34) × (c ≢ 92)
-plain_piece c a b = (a, b)
+starts_plain : (rest : List ℕ) → cafe ≡ 34 ∷ rest → ⊥
+starts_plain rest e = let n : 99 ≡ 34 = ap first e in absurd (omega (arith, n))
 
-pub plain : SpellsPath cafe cafe
-plain = (cafe_path, inl (refl, refl))
+pub plain : NamesPath cafe cafe
+plain = (cafe_path, inr (record { same = refl; no_stop = absent 10 cafe refl; no_quote = starts_plain }))
 
-pub quoted : SpellsPath (codes "\"caf\\303\\251\"") cafe
+pub quoted : NamesPath (codes "\"caf\\303\\251\"") cafe
 quoted = (
   cafe_path,
-  inr (record {
-    pieces = Plain 99 ∷ Plain 97 ∷ Plain 102 ∷ Octal 3 0 3 ∷ Octal 2 5 1 ∷ [];
-    are = ((λ e. absurd (omega (arith, e)), λ e. absurd (omega (arith, e))), ((λ e. absurd (omega (arith, e)), λ e. absurd (omega (arith, e))), ((λ e. absurd (omega (arith, e)), λ e. absurd (omega (arith, e))), ((omega arith, omega arith, omega arith), ((omega arith, omega arith, omega arith), tt)))));
+  inl (record {
+    pieces = Itself 99 ∷ Itself 97 ∷ Itself 102 ∷ Octal 3 0 3 ∷ Octal 2 5 1 ∷ [];
+    are = ((λ e. absurd (omega (arith, e)), λ e. absurd (omega (arith, e)), λ e. absurd (omega (arith, e))), ((λ e. absurd (omega (arith, e)), λ e. absurd (omega (arith, e)), λ e. absurd (omega (arith, e))), ((λ e. absurd (omega (arith, e)), λ e. absurd (omega (arith, e)), λ e. absurd (omega (arith, e))), ((omega arith, omega arith, omega arith), ((omega arith, omega arith, omega arith), tt)))));
     spelled = refl;
-    value = refl;
+    means = refl;
   }),
 )
 

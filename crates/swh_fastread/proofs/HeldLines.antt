@@ -12,7 +12,7 @@ use Rattle.swh_fastread.specs.Places.{Place, left, Took, FirstLine, Counts}
 use Rattle.swh_fastread.specs.Row.{Row, row_text, IsData, Opens, IsRow, is_comment}
 use Rattle.swh_fastread.proofs.Joins.{has_first, has_more, plain, took_after, took_comment, took_line, one_first}
 
-in_middle : (a x : List ℕ) → Contains (a ++ 10 ∷ x) 10
+pub in_middle : (a x : List ℕ) → Contains (a ++ 10 ∷ x) 10
 in_middle [] x = has_first 10 x refl
 in_middle (c ∷ a) x = has_more c (a ++ 10 ∷ x) (in_middle a x)
 

@@ -71,9 +71,9 @@ mode_kept text more m (inr (inr (inr (inl h)))) = subst (λ (t : List ℕ). kept
 mode_kept text more m (inr (inr (inr (inr h)))) = subst (λ (t : List ℕ). kept (codes "M " ++ (t ++ more)) ≡ true) (sym h.0) refl
 
 set_kept : (text : List ℕ) (m : ℕ) (what : Dataref) (path : List ℕ) → SetsTo text m what path → kept (codes "M " ++ text) ≡ true
-set_kept text m (Mark x) path h = subst (λ (t : List ℕ). kept (codes "M " ++ t) ≡ true) (sym h.3) (mode_kept h.0 (codes " :" ++ (h.1 ++ 32 ∷ h.2)) m h.4)
-set_kept text m (Inline bytes) path h = subst (λ (t : List ℕ). kept (codes "M " ++ t) ≡ true) (sym h.2) (mode_kept h.0 (codes " inline " ++ h.1) m h.3)
-set_kept text m (Hex id) path h = subst (λ (t : List ℕ). kept (codes "M " ++ t) ≡ true) (sym h.2) refl
+set_kept text m (Mark x) path h = let b = h.1 in subst (λ (t : List ℕ). kept (codes "M " ++ t) ≡ true) (sym b.2) (mode_kept b.0 (codes " :" ++ (b.1 ++ 32 ∷ h.0)) m b.3)
+set_kept text m (Inline bytes) path h = let b = h.1 in subst (λ (t : List ℕ). kept (codes "M " ++ t) ≡ true) (sym b.1) (mode_kept b.0 (codes " inline " ++ h.0) m b.2)
+set_kept text m (Hex id) path h = let b = h.1 in subst (λ (t : List ℕ). kept (codes "M " ++ t) ≡ true) (sym b.1) refl
 
 brings_keeps : (what : Dataref) (rows : List Placed) → brings what rows → AllKept rows
 brings_keeps (Mark x) rows h = subst AllKept (sym h) tt

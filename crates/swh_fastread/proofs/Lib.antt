@@ -14,3 +14,8 @@ pub mod Remains
 pub mod Places
 pub mod HeldLines
 pub mod CountedData
+pub mod SetFronts
+pub mod ChangeLines
+pub mod RefRuns
+pub mod Promises
+pub mod NextLines

@@ -1,18 +1,19 @@
 -- A part of the grammar says one thing of the same rows, where no later part begins with its word.
-use Rattle.std.proofs.Common.{◌≡◌, ℕ, Bool, true, false, nat_eq, List, [], ◌∷◌, ◌++◌, Contains, refl, sym, ap, ◌∙◌, subst, arith, append_assoc, codes, Option, Some, None}
+use Rattle.std.proofs.Common.{◌≡◌, ◌≢◌, ℕ, Bool, true, false, nat_eq, List, [], ◌∷◌, ◌++◌, Contains, refl, sym, ap, ◌∙◌, subst, arith, append_assoc, codes, Option, Some, None}
 use Rattle.std.specs.List.{starts_with}
 use Rattle.swh_base.proofs.Splits.{first_split, sized_split, absent}
+use Rattle.swh_fastlex.specs.Path.{SpellsPath, NamesPath}
+use Rattle.swh_fastlex.proofs.Pieces.{one_spelling}
 use Rattle.swh_fastread.specs.declared.command.At.{At}
 use Rattle.swh_fastread.specs.declared.command.Dataref.{Dataref}
 use Rattle.swh_fastread.specs.declared.command.Dataref.TheVariants.{Mark, Inline, Hex}
 use Rattle.swh_fastread.specs.declared.command.Change.{Change}
 use Rattle.swh_fastread.specs.declared.command.Change.TheVariants.{Set, Delete, Copy, Move, Clear}
-use Rattle.swh_fastread.specs.Grammar.{◌▹◌, ◌▸◌, optional, many, line_at, line, placed_line, contents, SetsTo, brings, IsPair, change_word, SaysChange, change_brings, change}
+use Rattle.swh_fastread.specs.Grammar.{◌▹◌, ◌▸◌, optional, many, line_at, line, placed_line, contents, BeginsSet, SetsTo, brings, IsPair, change_word, SaysChange, change_brings, change}
 use Rattle.swh_fastread.specs.Row.{Placed, IsData}
-use Rattle.swh_fastread.specs.Path.{SpellsPath}
 use Rattle.swh_fastread.specs.Word.{IsMark, IsMode, SpellsId}
 use Rattle.swh_fastread.proofs.Rows.{same_tail, one_contents}
-use Rattle.swh_fastread.proofs.Words.{source_cut, one_path, one_id, mode-no_link, mode-no_space, one_mode, one_mark, number-no_space, same_id_length}
+use Rattle.swh_fastread.proofs.Words.{one_path, one_id, mode-no_link, mode-no_space, one_mode, one_mark, number-no_space, same_id_length}
 
 abbrev first : List ℕ → ℕ
 first [] = 0
@@ -132,41 +133,72 @@ link_plain = absent 32 (codes "160000") refl
 set_same : (m n : ℕ) (v w : Dataref) (p q : List ℕ) → m ≡ n → v ≡ w → p ≡ q → Set m v p ≡ Set n w q
 set_same m n v w p q e f g = ap (λ (k : ℕ). Set k v p) e ∙ ap (λ (d : Dataref). Set n d p) f ∙ ap (λ (t : List ℕ). Set n w t) g
 
-set_cut : (s t : List ℕ) (m n : ℕ) (v w : Dataref) (p q : List ℕ) (a b r z : List Placed) → s ≡ t → SetsTo s m v p → SetsTo t n w q → brings v a → brings w b → a ++ r ≡ b ++ z → SameChange (Set m v p) (Set n w q) a b r z
-set_cut s t m n (Mark x) (Mark y) p q a b r z e h k ha kb f =
-    let modes = first_split 32 h.0 k.0 (58 ∷ (h.1 ++ 32 ∷ h.2)) (58 ∷ (k.1 ++ 32 ∷ k.2)) (mode-no_space h.0 m h.4) (mode-no_space k.0 n k.4) (sym h.3 ∙ e ∙ k.3) in
-    let marks = first_split 32 h.1 k.1 h.2 k.2 (number-no_space h.1 x h.5.number) (number-no_space k.1 y k.5.number) (ap tail modes.1) in
-    let rows = no_rows a b r z ha kb f in
-    (set_same m n (Mark x) (Mark y) p q (one_mode k.0 m n (subst (λ u. IsMode u m) modes.0 h.4) k.4) (ap Mark (one_mark k.1 x y (subst (λ u. IsMark u x) marks.0 h.5) k.5)) (one_path k.2 p q (subst (λ u. SpellsPath u p) marks.1 h.6) k.6), rows.0, rows.1)
-set_cut s t m n (Mark x) (Inline y) p q a b r z e h k ha kb f =
-    let modes = first_split 32 h.0 k.0 (58 ∷ (h.1 ++ 32 ∷ h.2)) (codes "inline " ++ k.1) (mode-no_space h.0 m h.4) (mode-no_space k.0 n k.3) (sym h.3 ∙ e ∙ k.2) in
+-- the same, but for the bytes that follow
+abbrev pub SameRef : Dataref → Dataref → Type 0
+SameRef (Mark x) (Mark y) = x ≡ y
+SameRef (Mark x) (Inline y) = ⊥
+SameRef (Mark x) (Hex y) = ⊥
+SameRef (Inline x) (Mark y) = ⊥
+SameRef (Inline x) (Inline y) = Unit {0}
+SameRef (Inline x) (Hex y) = ⊥
+SameRef (Hex x) (Mark y) = ⊥
+SameRef (Hex x) (Inline y) = ⊥
+SameRef (Hex x) (Hex y) = x ≡ y
+
+-- What stands before a set path says one mode and one thing, and ends at one place.
+pub begins_one : (text : List ℕ) (m n : ℕ) (v w : Dataref) (x y : List ℕ) → BeginsSet text m v x → BeginsSet text n w y → (m ≡ n) × SameRef v w × (x ≡ y)
+begins_one text m n (Mark i) (Mark j) x y h k =
+    let modes = first_split 32 h.0 k.0 (58 ∷ (h.1 ++ 32 ∷ x)) (58 ∷ (k.1 ++ 32 ∷ y)) (mode-no_space h.0 m h.3) (mode-no_space k.0 n k.3) (sym h.2 ∙ k.2) in
+    let marks = first_split 32 h.1 k.1 x y (number-no_space h.1 i h.4.number) (number-no_space k.1 j k.4.number) (ap tail modes.1) in
+    (one_mode k.0 m n (subst (λ u. IsMode u m) modes.0 h.3) k.3, one_mark k.1 i j (subst (λ u. IsMark u i) marks.0 h.4) k.4, marks.1)
+begins_one text m n (Mark i) (Inline j) x y h k =
+    let modes = first_split 32 h.0 k.0 (58 ∷ (h.1 ++ 32 ∷ x)) (codes "inline " ++ y) (mode-no_space h.0 m h.3) (mode-no_space k.0 n k.2) (sym h.2 ∙ k.1) in
     let c : 58 ≡ 105 = ap first modes.1 in absurd (omega (arith, c))
-set_cut s t m n (Inline x) (Mark y) p q a b r z e h k ha kb f =
-    let modes = first_split 32 h.0 k.0 (codes "inline " ++ h.1) (58 ∷ (k.1 ++ 32 ∷ k.2)) (mode-no_space h.0 m h.3) (mode-no_space k.0 n k.4) (sym h.2 ∙ e ∙ k.3) in
+begins_one text m n (Inline i) (Mark j) x y h k =
+    let modes = first_split 32 h.0 k.0 (codes "inline " ++ x) (58 ∷ (k.1 ++ 32 ∷ y)) (mode-no_space h.0 m h.2) (mode-no_space k.0 n k.3) (sym h.1 ∙ k.2) in
     let c : 105 ≡ 58 = ap first modes.1 in absurd (omega (arith, c))
-set_cut s t m n (Mark x) (Hex y) p q a b r z e h k ha kb f =
-    absurd (mode-no_link h.0 m h.4 (first_split 32 h.0 (codes "160000") (58 ∷ (h.1 ++ 32 ∷ h.2)) (k.0 ++ 32 ∷ k.1) (mode-no_space h.0 m h.4) link_plain (sym h.3 ∙ e ∙ k.2)).0)
-set_cut s t m n (Hex x) (Mark y) p q a b r z e h k ha kb f =
-    absurd (mode-no_link k.0 n k.4 (first_split 32 k.0 (codes "160000") (58 ∷ (k.1 ++ 32 ∷ k.2)) (h.0 ++ 32 ∷ h.1) (mode-no_space k.0 n k.4) link_plain (sym k.3 ∙ sym e ∙ h.2)).0)
-set_cut s t m n (Inline x) (Inline y) p q a b r z e h k ha kb f =
-    let modes = first_split 32 h.0 k.0 (codes "inline " ++ h.1) (codes "inline " ++ k.1) (mode-no_space h.0 m h.3) (mode-no_space k.0 n k.3) (sym h.2 ∙ e ∙ k.2) in
-    let paths = same_tail (codes "inline ") h.1 k.1 modes.1 in
+begins_one text m n (Mark i) (Hex j) x y h k =
+    absurd (mode-no_link h.0 m h.3 (first_split 32 h.0 (codes "160000") (58 ∷ (h.1 ++ 32 ∷ x)) (k.0 ++ 32 ∷ y) (mode-no_space h.0 m h.3) link_plain (sym h.2 ∙ k.1)).0)
+begins_one text m n (Hex i) (Mark j) x y h k =
+    absurd (mode-no_link k.0 n k.3 (first_split 32 k.0 (codes "160000") (58 ∷ (k.1 ++ 32 ∷ y)) (h.0 ++ 32 ∷ x) (mode-no_space k.0 n k.3) link_plain (sym k.2 ∙ h.1)).0)
+begins_one text m n (Inline i) (Inline j) x y h k =
+    let modes = first_split 32 h.0 k.0 (codes "inline " ++ x) (codes "inline " ++ y) (mode-no_space h.0 m h.2) (mode-no_space k.0 n k.2) (sym h.1 ∙ k.1) in
+    (one_mode k.0 m n (subst (λ u. IsMode u m) modes.0 h.2) k.2, tt, same_tail (codes "inline ") x y modes.1)
+begins_one text m n (Inline i) (Hex j) x y h k =
+    absurd (mode-no_link h.0 m h.2 (first_split 32 h.0 (codes "160000") (codes "inline " ++ x) (k.0 ++ 32 ∷ y) (mode-no_space h.0 m h.2) link_plain (sym h.1 ∙ k.1)).0)
+begins_one text m n (Hex i) (Inline j) x y h k =
+    absurd (mode-no_link k.0 n k.2 (first_split 32 k.0 (codes "160000") (codes "inline " ++ y) (h.0 ++ 32 ∷ x) (mode-no_space k.0 n k.2) link_plain (sym k.1 ∙ h.1)).0)
+begins_one text m n (Hex i) (Hex j) x y h k =
+    let after = same_tail (codes "160000 ") (h.0 ++ 32 ∷ x) (k.0 ++ 32 ∷ y) (sym h.1 ∙ k.1) in
+    let ids = sized_split h.0 k.0 (32 ∷ x) (32 ∷ y) (same_id_length h.0 k.0 i j h.3 k.3) after in
+    (h.2 ∙ sym k.2, one_id k.0 i j (subst (λ u. SpellsId u i) ids.0 h.3) k.3, ap tail ids.1)
+
+brought : (v w : Dataref) (a b r z : List Placed) → SameRef v w → brings v a → brings w b → a ++ r ≡ b ++ z → (v ≡ w) × (a ≡ b) × (r ≡ z)
+brought (Mark x) (Mark y) a b r z s ha kb f = let rows = no_rows a b r z ha kb f in (ap Mark s, rows.0, rows.1)
+brought (Mark x) (Inline y) a b r z s ha kb f = absurd s
+brought (Mark x) (Hex y) a b r z s ha kb f = absurd s
+brought (Inline x) (Mark y) a b r z s ha kb f = absurd s
+brought (Inline x) (Inline y) a b r z s ha kb f =
     let rows = single_cut contents contents contents_single contents_single a r b z x y ha kb f in
-    (set_same m n (Inline x) (Inline y) p q (one_mode k.0 m n (subst (λ u. IsMode u m) modes.0 h.3) k.3) (ap Inline (contents_one b x y (subst (λ u. contents u x) rows.0 ha) kb)) (one_path k.1 p q (subst (λ u. SpellsPath u p) paths h.4) k.4), rows.0, rows.1)
-set_cut s t m n (Inline x) (Hex y) p q a b r z e h k ha kb f =
-    absurd (mode-no_link h.0 m h.3 (first_split 32 h.0 (codes "160000") (codes "inline " ++ h.1) (k.0 ++ 32 ∷ k.1) (mode-no_space h.0 m h.3) link_plain (sym h.2 ∙ e ∙ k.2)).0)
-set_cut s t m n (Hex x) (Inline y) p q a b r z e h k ha kb f =
-    absurd (mode-no_link k.0 n k.3 (first_split 32 k.0 (codes "160000") (codes "inline " ++ k.1) (h.0 ++ 32 ∷ h.1) (mode-no_space k.0 n k.3) link_plain (sym k.2 ∙ sym e ∙ h.2)).0)
-set_cut s t m n (Hex x) (Hex y) p q a b r z e h k ha kb f =
-    let after = same_tail (codes "160000 ") (h.0 ++ 32 ∷ h.1) (k.0 ++ 32 ∷ k.1) (sym h.2 ∙ e ∙ k.2) in
-    let ids = sized_split h.0 k.0 (32 ∷ h.1) (32 ∷ k.1) (same_id_length h.0 k.0 x y h.4 k.4) after in
-    let rows = no_rows a b r z ha kb f in
-    (set_same m n (Hex x) (Hex y) p q (h.3 ∙ sym k.3) (ap Hex (one_id k.0 x y (subst (λ u. SpellsId u x) ids.0 h.4) k.4)) (one_path k.1 p q (subst (λ u. SpellsPath u p) (ap tail ids.1) h.5) k.5), rows.0, rows.1)
+    (ap Inline (contents_one b x y (subst (λ u. contents u x) rows.0 ha) kb), rows.0, rows.1)
+brought (Inline x) (Hex y) a b r z s ha kb f = absurd s
+brought (Hex x) (Mark y) a b r z s ha kb f = absurd s
+brought (Hex x) (Inline y) a b r z s ha kb f = absurd s
+brought (Hex x) (Hex y) a b r z s ha kb f = let rows = no_rows a b r z ha kb f in (ap Hex s, rows.0, rows.1)
+
+set_cut : (s t : List ℕ) (m n : ℕ) (v w : Dataref) (p q : List ℕ) (a b r z : List Placed) → s ≡ t → SetsTo s m v p → SetsTo t n w q → brings v a → brings w b → a ++ r ≡ b ++ z → SameChange (Set m v p) (Set n w q) a b r z
+set_cut s t m n v w p q a b r z e h k ha kb f =
+    let begun = begins_one t m n v w h.0 k.0 (subst (λ u. BeginsSet u m v h.0) e h.1) k.1 in
+    let same = brought v w a b r z begun.1 ha kb f in
+    (set_same m n v w p q begun.0 same.0 (one_path k.0 p q (subst (λ u. NamesPath u p) begun.2 h.2) k.2), same.1, same.2)
+
+space_is_no_quote : 32 ≡ 34 → ⊥
+space_is_no_quote e = absurd (omega (arith, e))
 
 pair_same : (s t : List ℕ) (a b p q : List ℕ) → s ≡ t → IsPair s a p → IsPair t b q → (a ≡ b) × (p ≡ q)
 pair_same s t a b p q e h k =
-    let cut = source_cut h.0 k.0 h.1 k.1 a b h.3 k.3 (sym h.2 ∙ e ∙ k.2) in
-    (cut.0, one_path k.1 p q (subst (λ u. SpellsPath u p) cut.1 h.4) k.4)
+    let cut = one_spelling 32 t a b h.0 k.0 space_is_no_quote (subst (λ u. SpellsPath 32 u a h.0) e h.1.1) k.1.1 in
+    (cut.0, one_path k.0 p q (subst (λ u. NamesPath u p) cut.1 h.2) k.2)
 
 it_cut : (x y : Change) (s t : List ℕ) (a b r z : List Placed) → change_word x ++ s ≡ change_word y ++ t → SaysChange s x → SaysChange t y → change_brings x a → change_brings y b → a ++ r ≡ b ++ z → SameChange x y a b r z
 it_cut (Set m v p) (Set n w q) s t a b r z e h k ha kb f = set_cut s t m n v w p q a b r z (same_tail (codes "M ") s t e) h k ha kb f
@@ -175,7 +207,7 @@ it_cut (Set m v p) (Copy d q) s t a b r z e h k ha kb f = let n : 77 ≡ 67 = ap
 it_cut (Set m v p) (Move d q) s t a b r z e h k ha kb f = let n : 77 ≡ 82 = ap first e in absurd (omega (arith, n))
 it_cut (Set m v p) Clear s t a b r z e h k ha kb f = let n : 77 ≡ 100 = ap first e in absurd (omega (arith, n))
 it_cut (Delete p) (Set n w q) s t a b r z e h k ha kb f = let n : 68 ≡ 77 = ap first e in absurd (omega (arith, n))
-it_cut (Delete p) (Delete q) s t a b r z e h k ha kb f = let rows = no_rows a b r z ha kb f in (ap Delete (one_path t p q (subst (λ u. SpellsPath u p) (same_tail (codes "D ") s t e) h) k), rows.0, rows.1)
+it_cut (Delete p) (Delete q) s t a b r z e h k ha kb f = let rows = no_rows a b r z ha kb f in (ap Delete (one_path t p q (subst (λ u. NamesPath u p) (same_tail (codes "D ") s t e) h) k), rows.0, rows.1)
 it_cut (Delete p) (Copy d q) s t a b r z e h k ha kb f = let n : 68 ≡ 67 = ap first e in absurd (omega (arith, n))
 it_cut (Delete p) (Move d q) s t a b r z e h k ha kb f = let n : 68 ≡ 82 = ap first e in absurd (omega (arith, n))
 it_cut (Delete p) Clear s t a b r z e h k ha kb f = let n : 68 ≡ 100 = ap first e in absurd (omega (arith, n))

@@ -1,5 +1,5 @@
 -- Why a reader gives no command, or no part of one.
-use Rattle.std.specs.Prelude.{◌≡◌, ◌⊎◌, ℕ, ◌+◌, ◌<◌, Bool, true, false, List, [], ◌∷◌, ◌++◌, length, Contains, codes}
+use Rattle.std.specs.Prelude.{◌≡◌, ◌⊎◌, ℕ, ◌+◌, ◌<◌, Bool, true, false, if◌then◌else◌, List, [], ◌∷◌, ◌++◌, length, Contains, codes}
 use Rattle.swh_base.specs.Limits.{body_limit, line_limit}
 use Rattle.swh_base.specs.Text.{IsNumber}
 use Rattle.swh_base.specs.declared.visit.Which.{Which}
@@ -11,10 +11,10 @@ use Rattle.swh_fastread.specs.declared.fail.ReadFail.{ReadFail}
 use Rattle.swh_fastread.specs.declared.fail.ReadFail.TheVariants.{BadStream, ReadFault, Limit, Memory}
 use Rattle.swh_fastread.specs.declared.fault.StreamWhy.TheVariants.{Grammar, End, LeftOut, Mark, Branch, Place as Spot}
 use Rattle.swh_fastread.specs.declared.row_source.TheConstants.{STREAM_LIMIT}
-use Rattle.swh_fastread.specs.Fault.{IsFault}
+use Rattle.swh_fastread.specs.Fault.{is_left_out, IsFault}
 use Rattle.swh_fastread.specs.Grammar.{contents}
 use Rattle.swh_fastread.specs.Places.{Place, left, Took, FirstLine, LineRefused, LineLacks, DataLacks, Position}
-use Rattle.swh_fastread.specs.Row.{Row, row_text, IsData, Placed}
+use Rattle.swh_fastread.specs.Row.{Row, row_text, IsData, Placed, is_comment}
 
 -- the bytes that are read at once: a line, the beginning of one, or a row of data
 abbrev pub IsStretch : List ℕ → Type 0
@@ -105,3 +105,33 @@ data_fail NoRoom at = Memory
 -- The line that is held opens so many bytes of data.
 abbrev pub OpensCounted : Place → ℕ → Type 0
 OpensCounted place count = (text : List ℕ) × (place.held ≡ (codes "data " ++ text) ++ 10 ∷ []) × IsNumber text count
+
+-- Nothing is wrong with the grammar here: the source failed, memory ran out, or a limit is passed.
+abbrev pub Stops : Place → ReadFail → Type 0
+Stops old (BadStream at why) = ⊥
+Stops old ReadFault = Unit {0}
+Stops old (Limit which number) = PassesAfter old which number
+Stops old Memory = Unit {0}
+
+-- The next line counts, and begins here.
+pub record LineAt (old : Place) (at : ℕ) (out : Bool) : Type 0 where
+  pub line : List ℕ
+  pub first : FirstLine (left old) line
+  pub counts : is_comment line ≡ false
+  pub here : at ≡ old.at
+  pub is_out : is_left_out line ≡ out
+
+-- what is next, told as a fault
+abbrev pub Refusal : Place → ReadFail → Type 0
+Refusal old (BadStream at Grammar) = LineAt old at false
+Refusal old (BadStream at End) = (Contains (left old) 10 → ⊥) × (at ≡ old.at + length (left old))
+Refusal old (BadStream at LeftOut) = LineAt old at true
+Refusal old (BadStream at Mark) = ⊥
+Refusal old (BadStream at Branch) = ⊥
+Refusal old (BadStream at Spot) = ⊥
+Refusal old ReadFault = Unit {0}
+Refusal old (Limit which number) = PassesAfter old which number
+Refusal old Memory = Unit {0}
+
+abbrev pub line_refusal : List ℕ → ℕ → ReadFail
+line_refusal line at = if is_left_out line then BadStream at LeftOut else BadStream at Grammar

@@ -12,6 +12,7 @@
 -- The LF that may end a commit or a reset is an item that says nothing.
 use Rattle.std.specs.Prelude.{◌≡◌, ◌⊎◌, ℕ, Bool, true, false, ◌||◌, List, [], ◌∷◌, ◌++◌, Option, Some, None, codes}
 use Rattle.std.specs.List.{filter_map, list_any}
+use Rattle.swh_fastlex.specs.Path.{NamesPath, NamesPathBefore}
 use Rattle.swh_fastread.specs.declared.command.At.{At}
 use Rattle.swh_fastread.specs.declared.command.Commitish.{Commitish}
 use Rattle.swh_fastread.specs.declared.command.Start.{Start}
@@ -22,7 +23,6 @@ use Rattle.swh_fastread.specs.declared.command.Change.{Change}
 use Rattle.swh_fastread.specs.declared.command.Change.TheVariants.{Set, Delete, Copy, Move, Clear}
 use Rattle.swh_fastread.specs.declared.command.Command.{Command}
 use Rattle.swh_fastread.specs.declared.command.Command.TheVariants.{Blob, Commit, Tag, Reset}
-use Rattle.swh_fastread.specs.Path.{SpellsPath, SpellsSource}
 use Rattle.swh_fastread.specs.Row.{Row, text_of, AreRows, IsData, Placed, placed}
 use Rattle.swh_fastread.specs.Word.{IsMark, NamesRef, NamesTag, NamesPerson, NamesEncoding, NamesCommit, IsMode, SpellsId}
 
@@ -86,11 +86,15 @@ oid = line (codes "original-oid ") anything
 abbrev pub blob : List Placed → Option ℕ × List ℕ → Type 0
 blob = line (codes "blob") nothing ▸ optional mark ▹ optional oid ▸ contents
 
--- what a set path gets, without the bytes that may follow
+-- what stands before the path where one is set: a mode, and what the path gets, without the bytes that may follow
+abbrev pub BeginsSet : List ℕ → ℕ → Dataref → List ℕ → Type 0
+BeginsSet text mode (Mark m) rest = (a : List ℕ) × (b : List ℕ) × (text ≡ a ++ (codes " :" ++ (b ++ 32 ∷ rest))) × IsMode a mode × IsMark b m
+BeginsSet text mode (Inline bytes) rest = (a : List ℕ) × (text ≡ a ++ (codes " inline " ++ rest)) × IsMode a mode
+BeginsSet text mode (Hex id) rest = (b : List ℕ) × (text ≡ codes "160000 " ++ (b ++ 32 ∷ rest)) × (mode ≡ 160000) × SpellsId b id
+
+-- a mode, what the path gets, and the path
 abbrev pub SetsTo : List ℕ → ℕ → Dataref → List ℕ → Type 0
-SetsTo text mode (Mark m) path = (a : List ℕ) × (b : List ℕ) × (c : List ℕ) × (text ≡ a ++ (codes " :" ++ (b ++ 32 ∷ c))) × IsMode a mode × IsMark b m × SpellsPath c path
-SetsTo text mode (Inline bytes) path = (a : List ℕ) × (c : List ℕ) × (text ≡ a ++ (codes " inline " ++ c)) × IsMode a mode × SpellsPath c path
-SetsTo text mode (Hex id) path = (b : List ℕ) × (c : List ℕ) × (text ≡ codes "160000 " ++ (b ++ 32 ∷ c)) × (mode ≡ 160000) × SpellsId b id × SpellsPath c path
+SetsTo text mode what path = (rest : List ℕ) × BeginsSet text mode what rest × NamesPath rest path
 
 -- the bytes that follow the line: those that are inline, else nothing
 abbrev pub brings : Dataref → List Placed → Type 0
@@ -100,7 +104,7 @@ brings (Hex id) rows = rows ≡ []
 
 -- a source, a space, and a path
 abbrev pub IsPair : List ℕ → List ℕ → List ℕ → Type 0
-IsPair text source path = (a : List ℕ) × (b : List ℕ) × (text ≡ a ++ 32 ∷ b) × SpellsSource a source × SpellsPath b path
+IsPair text source path = (rest : List ℕ) × NamesPathBefore 32 text source rest × NamesPath rest path
 
 -- what a change's line begins with
 abbrev pub change_word : Change → List ℕ
@@ -113,7 +117,7 @@ change_word Clear = codes "deleteall"
 -- what stands after that word
 abbrev pub SaysChange : List ℕ → Change → Type 0
 SaysChange text (Set mode what path) = SetsTo text mode what path
-SaysChange text (Delete path) = SpellsPath text path
+SaysChange text (Delete path) = NamesPath text path
 SaysChange text (Copy source path) = IsPair text source path
 SaysChange text (Move source path) = IsPair text source path
 SaysChange text Clear = text ≡ []

@@ -45,3 +45,14 @@ pub record IsShort (count : ℕ) (old new : Place) : Type 0 where
 abbrev pub IsFed : Place → Place → Bool → Type 0
 IsFed old new true = (old.rest ≡ 10 ∷ new.rest) × (new.at ≡ old.at + 1)
 IsFed old new false = (new.rest ≡ old.rest) × (begins_with 10 old.rest ≡ false) × (new.at ≡ old.at)
+
+-- A whole line that counts is held, within the stream's limit.
+pub record IsNext (place : Place) : Type 0 where
+  pub line : IsLine place.held
+  pub counts : HeldCounts place.held
+  pub within : place.at + length place.held ≤ STREAM_LIMIT
+
+-- What is held has no LF, and nothing follows it.
+pub record EndsNext (place : Place) : Type 0 where
+  pub no_feed : Contains place.held 10 → ⊥
+  pub nothing : place.rest ≡ []

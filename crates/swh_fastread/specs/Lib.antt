@@ -2,8 +2,9 @@ pub mod Explains
 pub mod Fault
 pub mod Grammar
 pub mod Held
+pub mod Limit
 pub mod Outside
-pub mod Path
 pub mod Places
+pub mod Reading
 pub mod Row
 pub mod Word

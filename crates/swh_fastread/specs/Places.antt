@@ -1,5 +1,5 @@
 -- What a reader answers, in whole texts: what is to be read before and after.
-use Rattle.std.specs.Prelude.{◌≡◌, ◌⊎◌, ℕ, Bool, true, false, ◌+◌, List, [], ◌∷◌, ◌++◌, Option, Some, None, length, Contains, codes}
+use Rattle.std.specs.Prelude.{◌≡◌, ◌⊎◌, ℕ, Bool, true, false, not, ◌==◌, ◌+◌, List, [], ◌∷◌, ◌++◌, Option, Some, None, length, Contains, codes}
 use Rattle.swh_fastread.specs.declared.command.Command.{Command}
 use Rattle.swh_fastread.specs.declared.fault.StreamWhy.{StreamWhy}
 use Rattle.swh_fastread.specs.Fault.{is_left_out, IsFault}
@@ -58,6 +58,11 @@ abbrev pub OptionalPart : {X : Type 0} → (List Placed → X → Type 0) → Pl
 OptionalPart L old new None = Lacks L old new
 OptionalPart L old new (Some x) = Part L old new x
 
+-- whether the part was read
+abbrev pub FoundPart : (List Placed → Unit {0} → Type 0) → Place → Place → Bool → Type 0
+FoundPart L old new false = Lacks L old new
+FoundPart L old new true = Part L old new tt
+
 -- The part was read as often as it comes next.
 pub record ManyParts {X : Type 0} (L : List Placed → X → Type 0) (old new : Place) (xs : List X) : Type 0 where
   pub rows : List Placed
@@ -112,3 +117,16 @@ pub record LeadsTo (old new : Position) (front : List Command) : Type 0 where
 
 abbrev pub position : Place → Bool → Position
 position place promised = record { at = place.at; promised = promised; left = left place }
+
+-- The line is of this word, and its text says this.
+abbrev pub SaysLine : {X : Type 0} → List ℕ → (List ℕ → X → Type 0) → List ℕ → X → Type 0
+SaysLine word Says line x = (text : List ℕ) × (line ≡ word ++ text) × Says text x
+
+-- The line is not of this word, or its text says nothing.
+abbrev pub NeverLine : {X : Type 0} → List ℕ → (List ℕ → X → Type 0) → List ℕ → Type 0
+NeverLine {X} word Says line = (text : List ℕ) (x : X) → line ≡ word ++ text → Says text x → ⊥
+
+-- whether no line that begins with these bytes opens data
+abbrev pub opens_none : List ℕ → Bool
+opens_none [] = false
+opens_none (c ∷ word) = not (c == 100)

@@ -2,7 +2,7 @@
 
 use crate::fault::StreamWhy;
 use std::alloc::{AllocError, AllocFailed};
-use swh_base::Which;
+use swh_base::{Memory, Which};
 use swh_outside::Failed;
 
 /// Why nothing more is read from outside.
@@ -80,6 +80,17 @@ impl From<Failed> for ReadFail {
 
     fn from(_e: Failed) -> ReadFail {
         ReadFail::ReadFault
+    }
+}
+
+impl From<Memory> for ReadFail {
+    ghost use Rattle.std.specs.Prelude.{◌≡◌};
+    ghost use Rattle.swh_fastread.specs.declared.fail.ReadFail.TheVariants.{Memory};
+
+    ghost from_gives = { λ _ e. e ≡ Memory };
+
+    fn from(_e: Memory) -> ReadFail {
+        ReadFail::Memory
     }
 }
 

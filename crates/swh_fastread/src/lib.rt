@@ -4,19 +4,32 @@
 #![tactic(auto)]
 
 mod ahead;
+mod change_lines;
 mod command;
 mod data;
+mod data_lines;
 mod fail;
 mod fault;
 mod hold;
 mod laws;
+mod left_out;
+mod line_words;
+mod optional;
+mod part_lines;
+mod peek;
 mod row_source;
 mod worked;
 
+pub use change_lines::{ChangeLine, change_line};
 pub use command::{At, Change, Command, Commitish, Dataref, Start};
 pub use fail::{Outside, ReadFail};
+pub use data_lines::{DataLine, data_line};
 pub use fault::StreamWhy;
 pub use laws::{no_fault, one_fault, one_reading};
+pub use left_out::is_left_out;
+pub use line_words::{
+    commit_word, id_of, is_encoding, is_zeros, mark_of, mode_of, ref_word, tag_word,
+};
 pub use worked::{
     data_before_line, left_out_line, octal_path, one_blob, promise_not_kept, unknown_line,
 };

@@ -85,6 +85,19 @@ impl<S: Source> Rows<S> {
         self.at
     }
 
+    /// The place after the bytes that are held.
+    pub fn end(&self) -> u64
+        requires { self.now.at ≤ 2 ^ 33 }
+        ensures { result ≡ self.now.at + length self.now.held }
+    {
+        self.at + self.held.len() as u64
+    }
+
+    /// The allocator of what is read.
+    pub fn alloc(&self) -> Global {
+        self.alloc
+    }
+
     /// What is held, without the LF after it.
     pub fn line(&self) -> &[u8]
         requires { IsLine self.now.held }

@@ -1,10 +1,10 @@
 //! Worked examples of the grammar, as laws.
 ghost use Rattle.std.specs.Prelude.{◌≡◌, ℕ, List, ◌∷◌, [], ◌++◌, None, false, codes};
+ghost use Rattle.swh_fastlex.specs.Path.{NamesPath};
 ghost use Rattle.swh_fastread.specs.declared.fault.StreamWhy.TheVariants.{End, Grammar, LeftOut};
 ghost use Rattle.swh_fastread.specs.declared.command.Command.TheVariants.{Blob as IsBlob};
 ghost use Rattle.swh_fastread.specs.Fault.{IsFault};
 ghost use Rattle.swh_fastread.specs.Grammar.{Parses};
-ghost use Rattle.swh_fastread.specs.Path.{SpellsPath};
 ghost use Rattle.swh_fastread.specs.Row.{Row, IsData};
 
 /// A line may follow data at once: the bytes are these three, and the line is not among them.
@@ -35,6 +35,6 @@ pub fn unknown_line()
 
 /// Octal digits between quotes are the bytes that they name, and the same bytes spell the same path without quotes.
 pub fn octal_path()
-    ensures quoted { SpellsPath (codes "\"caf\\303\\251\"") (codes "caf" ++ 195 ∷ 169 ∷ []) }
-    ensures plain { SpellsPath (codes "caf" ++ 195 ∷ 169 ∷ []) (codes "caf" ++ 195 ∷ 169 ∷ []) }
+    ensures quoted { NamesPath (codes "\"caf\\303\\251\"") (codes "caf" ++ 195 ∷ 169 ∷ []) }
+    ensures plain { NamesPath (codes "caf" ++ 195 ∷ 169 ∷ []) (codes "caf" ++ 195 ∷ 169 ∷ []) }
 {}

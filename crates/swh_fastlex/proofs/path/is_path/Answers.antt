@@ -8,7 +8,7 @@ pub returns-then-not-is_component : goal.returns-then-not-is_component
 returns-then-not-is_component c =
     let cut = c.in-Some.ensures.some in (
       λ t. absurd cc,
-      λ h. let parts = subst (AllByRecursion IsComponent) (components_cut c.components.rest.now c.in-Some.component.now c.in-Some.after.now cut.0 cut.1) (c.components.invariant.goes_on h.each) in
+      λ h. let parts = subst (AllByRecursion IsComponent) (components_cut c.components.rest.now c.in-Some.component.now c.in-Some.after.now cut.0 cut.1) (c.components.invariant.goes_on h) in
           let yes = c.if-not-is_component.ensures.1 parts.0 in let never = c.if-not-is_component.true in cc,
     )
 
@@ -25,6 +25,6 @@ components-preserved c =
 pub returns : goal.returns
 returns c =
     let same = components_none c.components.rest.now c.in_default.ensures.none in (
-      λ t. record { short = search rules; each = c.components.invariant.enough (subst (AllByRecursion IsComponent) (sym same) (c.is_component-2.ensures.0 t, tt)) },
-      λ h. c.is_component-2.ensures.1 (subst (AllByRecursion IsComponent) same (c.components.invariant.goes_on h.each)).0,
+      λ t. c.components.invariant.enough (subst (AllByRecursion IsComponent) (sym same) (c.is_component-2.ensures.0 t, tt)),
+      λ h. c.is_component-2.ensures.1 (subst (AllByRecursion IsComponent) same (c.components.invariant.goes_on h)).0,
     )

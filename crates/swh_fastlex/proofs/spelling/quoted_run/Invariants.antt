@@ -1,10 +1,10 @@
 use Rattle.std.proofs.Common.{length}
 use Rattle.swh_fastlex.specs.Spelling.{ReadsPieces}
-use Rattle.swh_fastlex.proofs.spelling.quoted_before.Given as goal
+use Rattle.swh_fastlex.proofs.spelling.quoted_run.Given as goal
 
--- the text up to what is left is pieces that spell the path so far
+-- the pieces up to what is left spell the path so far
 abbrev pub invariant-pieces : goal.invariant-pieces
-invariant-pieces l = ReadsPieces l.text l.rest l.path.items
+invariant-pieces l = ReadsPieces l.pieces l.rest l.path.items
 
 abbrev pub decreases-pieces : goal.decreases-pieces
 decreases-pieces l = length l.rest

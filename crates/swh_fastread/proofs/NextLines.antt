@@ -1,0 +1,115 @@
+-- A line that comes next, as a part of a command or none.
+use Rattle.std.proofs.Common.{◌≡◌, ℕ, ◌+◌, ◌==◌, inl, inr, Bool, true, false, not, List, [], ◌∷◌, ◌++◌, length, Contains, refl, sym, ap, ◌∙◌, subst, arith, codes, Option, Some, None}
+use Rattle.swh_base.proofs.Splits.{not_nil}
+use Rattle.swh_fastread.specs.declared.command.At.{At}
+use Rattle.swh_fastread.specs.declared.fail.ReadFail.{ReadFail}
+use Rattle.swh_fastread.specs.declared.fail.ReadFail.TheVariants.{BadStream, ReadFault, Limit, Memory}
+use Rattle.swh_fastread.specs.declared.fault.StreamWhy.TheVariants.{Grammar, End, LeftOut, Mark, Branch, Place as Spot}
+use Rattle.swh_fastread.specs.Explains.{PassesAfter, PartFails, DataFails, Stops, LineAt, Refusal}
+use Rattle.swh_fastread.specs.Grammar.{line_at, line, placed_line, contents}
+use Rattle.swh_fastread.specs.Held.{HeldCounts, IsNext, EndsNext}
+use Rattle.swh_fastread.specs.Places.{Place, left, Took, FirstLine, Refuses, Counts, Part, Lacks, LineRefused, NeverLine, opens_none}
+use Rattle.swh_fastread.specs.Row.{Row, row_text, IsData, Opens, AreRows, Placed, placed, is_comment, text_of}
+use Rattle.swh_fastread.proofs.Faults.{append_nil, row_cut}
+use Rattle.swh_fastread.proofs.Parts.{cons_cut}
+use Rattle.swh_fastread.proofs.HeldLines.{taken, front_of, held_first, held_counts, line_taken, in_middle}
+use Rattle.swh_fastread.proofs.Joins.{one_first, placed_row, took_none, took_append}
+
+end_left : (b : Place) → EndsNext b → left b ≡ b.held
+end_left b e = ap (λ (r : List ℕ). b.held ++ r) e.nothing ∙ append_nil b.held
+
+pub end_feeds : (b : Place) → EndsNext b → Contains (left b) 10 → ⊥
+end_feeds b e h = e.no_feed (subst (λ (t : List ℕ). Contains t 10) (end_left b e) h)
+
+no_first : (text line : List ℕ) → (Contains text 10 → ⊥) → FirstLine text line → ⊥
+no_first text line n f = n (subst (λ (t : List ℕ). Contains t 10) (sym f.spelled) (in_middle line f.rest))
+
+-- nothing comes next
+pub lacks_end : {X : Type 0} (L : List Placed → X → Type 0) (a b : Place) → Took a b [] → EndsNext b → Lacks L a b
+lacks_end L a b t e = record { took = t; refused = λ p more x f h. no_first (left b) p.row.line (end_feeds b e) f; counts = λ line f. absurd (no_first (left b) line (end_feeds b e) f) }
+
+next_line : (b : Place) (line : List ℕ) → IsNext b → b.held ≡ line ++ 10 ∷ [] → (other : List ℕ) → FirstLine (left b) other → line ≡ other
+next_line b line n e other f = one_first (left b) line other (held_first b line e n.line) f
+
+-- a line of another word comes next, or one that says nothing
+pub lacks_line : {X : Type 0} (word : List ℕ) (Tells : List ℕ → X → Type 0) (a b : Place) (text : List ℕ) → Took a b [] → IsNext b → b.held ≡ text ++ 10 ∷ [] → NeverLine word Tells text → Lacks (line word Tells) a b
+lacks_line word Tells a b text t n e never = record {
+  took = t;
+  refused = λ p more x f h. never h.1 x (next_line b text n e p.row.line f ∙ ap (λ (q : Placed). q.row.line) (cons_cut p (line_at h.0 (word ++ h.1)) more [] h.2).0) h.3;
+  counts = held_counts b text e n.line n.counts;
+}
+
+pub lacks_placed : {X : Type 0} (word : List ℕ) (Tells : List ℕ → X → Type 0) (a b : Place) (text : List ℕ) → Took a b [] → IsNext b → b.held ≡ text ++ 10 ∷ [] → NeverLine word Tells text → Lacks (placed_line word Tells) a b
+lacks_placed word Tells a b text t n e never = record {
+  took = t;
+  refused = λ p more x f h. never h.0 x.it (next_line b text n e p.row.line f ∙ ap (λ (q : Placed). q.row.line) (cons_cut p (line_at x.at (word ++ h.0)) more [] h.1).0) h.2;
+  counts = held_counts b text e n.line n.counts;
+}
+
+abbrev first : List ℕ → ℕ
+first [] = 0
+first (c ∷ t) = c
+
+opens-first : (text : List ℕ) → Opens text → first text ≡ 100
+opens-first text (raw, bytes, next, inl d) = ap first d.line
+opens-first text (raw, bytes, next, inr d) = ap first d.line
+
+pub closed_word : (word text : List ℕ) → opens_none word ≡ true → Opens (word ++ text) → ⊥
+closed_word [] text e o = absurd cc
+closed_word (c ∷ word) text e o =
+    let f : c ≡ 100 = opens-first (c ∷ (word ++ text)) o in
+    let t : false ≡ true = subst (λ (d : ℕ). not (d == 100) ≡ true) f e in
+    absurd cc
+
+-- the line was taken
+pub part_line : {X : Type 0} (word : List ℕ) (Tells : List ℕ → X → Type 0) (a b : Place) (text said : List ℕ) (x : X) → Took a b [] → IsNext b → b.held ≡ text ++ 10 ∷ [] → opens_none word ≡ true → text ≡ word ++ said → Tells said x → Part (line word Tells) a (taken b) x
+part_line word Tells a b text said x t n e o same h =
+    let f : Opens text → ⊥ = λ k. closed_word word said o (subst Opens same k) in
+    record {
+      rows = line_at b.at text ∷ [];
+      took = line_taken a b text t e n.line n.counts f;
+      says = (b.at, said, ap (λ (z : List ℕ). line_at b.at z ∷ []) same, h);
+    }
+
+pub part_placed : {X : Type 0} (word : List ℕ) (Tells : List ℕ → X → Type 0) (a b : Place) (text said : List ℕ) (x : X) (v : At X) → Took a b [] → IsNext b → b.held ≡ text ++ 10 ∷ [] → opens_none word ≡ true → text ≡ word ++ said → Tells said x → v.at ≡ b.at → v.it ≡ x → Part (placed_line word Tells) a (taken b) v
+part_placed {X} word Tells a b text said x v t n e o same h here it =
+    let f : Opens text → ⊥ = λ k. closed_word word said o (subst Opens same k) in
+    record {
+      rows = line_at b.at text ∷ [];
+      took = line_taken a b text t e n.line n.counts f;
+      says = (said, ap (λ (z : List ℕ). line_at b.at z ∷ []) same ∙ ap (λ (k : ℕ). line_at k (word ++ said) ∷ []) (sym here), subst (λ (z : X). Tells said z) (sym it) h);
+    }
+
+-- No comment is passed over where the first line counts.
+pub same_left : (b c : Place) → Took b c [] → Counts (left b) → (left b ≡ left c) × (c.at ≡ b.at)
+same_left b c t k = by_rows t.rows t.spelled t.good t.those t.here
+  where
+    by_rows : (rows : List Row) → left b ≡ text_of rows ++ left c → AreRows rows (left c) → placed b.at rows ≡ [] → c.at ≡ b.at + length (text_of rows) → (left b ≡ left c) × (c.at ≡ b.at)
+    by_rows [] e g n h = (e, omega (arith, h))
+    by_rows (r ∷ rows) e g n h =
+        let f : is_comment r.line ≡ false = k r.line (record { rest = r.raw ++ (text_of rows ++ left c); spelled = e ∙ row_cut r rows (left c); one_line = g.0.one_line }) in
+        let m = sym (placed_row b.at r rows f) ∙ n in
+        absurd cc
+
+-- what is next refuses a part that it lacks
+pub lacks_fails : {X : Type 0} (L : List Placed → X → Type 0) (a b : Place) (fail : ReadFail) → Lacks L a b → Refusal b fail → PartFails L a fail
+lacks_fails L a b (BadStream at Grammar) l r = record { before = b; line = r.line; took = l.took; first = r.first; counts = r.counts; here = r.here; is_out = r.is_out; refused = l.refused }
+lacks_fails L a b (BadStream at End) l r = record { before = b; took = l.took; no_feed = r.0; here = r.1 }
+lacks_fails L a b (BadStream at LeftOut) l r = record { before = b; line = r.line; took = l.took; first = r.first; counts = r.counts; here = r.here; is_out = r.is_out; refused = l.refused }
+lacks_fails L a b (BadStream at Mark) l r = r
+lacks_fails L a b (BadStream at Branch) l r = r
+lacks_fails L a b (BadStream at Spot) l r = r
+lacks_fails L a b ReadFault l r = tt
+lacks_fails L a b (Limit which number) l r = record { before = r.before; rows = r.rows; took = took_append a b r.before [] r.rows l.took r.took; passes = r.passes }
+lacks_fails L a b Memory l r = tt
+
+pub lacks_data : (a b : Place) (fail : ReadFail) → Lacks contents a b → Refusal b fail → DataFails a fail
+lacks_data a b (BadStream at Grammar) l r = lacks_fails contents a b (BadStream at Grammar) l r
+lacks_data a b (BadStream at End) l r = inl (lacks_fails contents a b (BadStream at End) l r)
+lacks_data a b (BadStream at LeftOut) l r = lacks_fails contents a b (BadStream at LeftOut) l r
+lacks_data a b (BadStream at Mark) l r = r
+lacks_data a b (BadStream at Branch) l r = r
+lacks_data a b (BadStream at Spot) l r = r
+lacks_data a b ReadFault l r = tt
+lacks_data a b (Limit which number) l r = lacks_fails contents a b (Limit which number) l r
+lacks_data a b Memory l r = tt
