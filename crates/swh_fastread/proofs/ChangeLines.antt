@@ -172,7 +172,7 @@ set_no_front text none = (
 abbrev pub IsSourceOf : List ℕ → List ℕ → List ℕ → Type 0
 IsSourceOf text source rest = NamesPathBefore 32 text source rest × ((number : ℕ) → PassesPath 32 text number → ⊥)
 
-space_is_no_quote : 32 ≡ 34 → ⊥
+space_is_no_quote : ◌≢◌ {A = ℕ} 32 34
 space_is_no_quote e = absurd (omega (arith, e))
 
 same_rest : (text s t x y : List ℕ) → NamesPathBefore 32 text s x → NamesPathBefore 32 text t y → x ≡ y

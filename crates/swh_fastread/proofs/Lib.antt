@@ -7,6 +7,11 @@ pub mod Items
 pub mod Streams
 pub mod Examples
 pub mod Before
+pub mod SetFronts
+pub mod ChangeLines
+pub mod RefRuns
+pub mod Promises
+pub mod DataOpened
 pub mod Joins
 pub mod Onward
 pub mod Broken
@@ -14,8 +19,4 @@ pub mod Remains
 pub mod Places
 pub mod HeldLines
 pub mod CountedData
-pub mod SetFronts
-pub mod ChangeLines
-pub mod RefRuns
-pub mod Promises
 pub mod NextLines

@@ -192,7 +192,7 @@ set_cut s t m n v w p q a b r z e h k ha kb f =
     let same = brought v w a b r z begun.1 ha kb f in
     (set_same m n v w p q begun.0 same.0 (one_path k.0 p q (subst (λ u. NamesPath u p) begun.2 h.2) k.2), same.1, same.2)
 
-space_is_no_quote : 32 ≡ 34 → ⊥
+space_is_no_quote : ◌≢◌ {A = ℕ} 32 34
 space_is_no_quote e = absurd (omega (arith, e))
 
 pair_same : (s t : List ℕ) (a b p q : List ℕ) → s ≡ t → IsPair s a p → IsPair t b q → (a ≡ b) × (p ≡ q)

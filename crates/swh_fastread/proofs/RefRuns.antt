@@ -1,5 +1,5 @@
 -- The bytes of a ref that a text begins with, and what they are: a ref, one that is too long, or none.
-use Rattle.std.proofs.Common.{◌≡◌, ◌≢◌, ◌⊎◌, ◌↔◌, IsTrue, ℕ, zero, suc, ◌+◌, ◌-◌, ◌<◌, ◌≤◌, inl, inr, Bool, true, false, List, [], ◌∷◌, ◌++◌, length, take, drop, Contains, refl, sym, ap, ◌∙◌, subst, arith, codes}
+use Rattle.std.proofs.Common.{◌≡◌, ◌≢◌, ◌⊎◌, ◌↔◌, IsTrue, ℕ, zero, suc, ◌+◌, ◌-◌, ◌<◌, ◌≤◌, inl, inr, Bool, true, false, List, [], ◌∷◌, ◌++◌, length, get_or, take, drop, Contains, refl, sym, ap, ◌∙◌, subst, arith, codes}
 use Rattle.std.proofs.lemmas.List.{length-take, take-append-drop}
 use Rattle.std.specs.List.{AllPass}
 use Rattle.swh_base.specs.Limits.{ref_limit}
@@ -14,11 +14,15 @@ use Rattle.swh_fastread.specs.Word.{IsMark, NamesCommit, IsRefUpTo, IsRefRun, En
 use Rattle.swh_fastread.proofs.Rows.{same_tail}
 use Rattle.swh_fastread.proofs.Words.{not_among, no_colon}
 
+abbrev first : List ℕ → ℕ
+first [] = 0
+first (c ∷ cs) = c
+
 told : (c : ℕ) (r b : Bool) → is_ref_byte c ≡ b → (IsTrue r → IsRef (c ∷ [])) → (IsRef (c ∷ []) → IsTrue r) → r ≡ b
 told c true true e up down = refl
 told c false false e up down = refl
 told c true false e up down = let yes : is_ref_byte c ≡ true = (up refl).bytes 0 c (omega arith) in absurd cc
-told c false true e up down = absurd (down (record { some = omega arith; short = omega arith; bytes = one }))
+told c false true e up down = down (record { some = omega arith; short = omega arith; bytes = one })
   where
     one : AllPass is_ref_byte (c ∷ [])
     one zero d l = e
@@ -114,10 +118,6 @@ no_ref_up_to text n limit h (inr l) ref r =
     let same = ref_is_run text n h (subst IsRef (sym r.0) r.1) in omega (arith, same, l)
 
 -- What begins with a colon has no ref in front.
-abbrev first : List ℕ → ℕ
-first [] = 0
-first (c ∷ cs) = c
-
 pub colon_passes_not : (text number : List ℕ) (limit : ℕ) → text ≡ 58 ∷ number → (n : ℕ) → PassesRef limit text n → ⊥
 colon_passes_not text number limit e n p = none p.run (p.bytes) (omega (arith, p.count, p.above)) (sym p.cut ∙ e)
   where
@@ -161,3 +161,34 @@ branch_commit text name n h le some ends e =
         | inr caret ↦ inr (sym whole ∙ ap (λ (t : List ℕ). name ++ t) caret)
       ],
     )
+
+pub weaker : {A B C : Type 0} → A ⊎ (B × C) → A ⊎ C
+weaker (inl a) = inl a
+weaker (inr b) = inr b.1
+
+-- the first byte that no ref has
+pub run_up_to : (text : List ℕ) (n : ℕ) → n < length text → ((k : ℕ) → k < n → is_ref_byte (get_or text k 0) ≡ true) → is_ref_byte (get_or text n 0) ≡ false → IsRefRun text n
+run_up_to text n within all here = record { within = omega arith; bytes = front text n all (omega arith); ends = stops text n within here }
+  where
+    front : (text : List ℕ) (n : ℕ) → ((k : ℕ) → k < n → is_ref_byte (get_or text k 0) ≡ true) → n ≤ length text → AllPass is_ref_byte (take n text)
+    front text zero all l j d m = absurd (omega (arith, m))
+    front [] (suc n) all l j d m = absurd (omega (arith, l))
+    front (c ∷ text) (suc n) all l zero d m = all 0 (omega arith)
+    front (c ∷ text) (suc n) all l (suc j) d m = front text n (λ k h. all (suc k) (omega (arith, h))) (omega arith) j d (omega (arith, m))
+
+    stops : (text : List ℕ) (n : ℕ) → n < length text → is_ref_byte (get_or text n 0) ≡ false → Stops (drop n text)
+    stops [] n within here c more e = absurd (omega (arith, within))
+    stops (d ∷ text) zero within here c more e = let same : d ≡ c = ap first e in subst (λ (x : ℕ). is_ref_byte x ≡ false) same here
+    stops (d ∷ text) (suc n) within here c more e = stops text n (omega (arith, within)) here c more e
+
+pub run_whole : (text : List ℕ) → ((k : ℕ) → k < length text → is_ref_byte (get_or text k 0) ≡ true) → IsRefRun text (length text)
+run_whole text all = record { within = omega arith; bytes = subst (AllPass is_ref_byte) (sym (take_whole text (length text) (omega arith))) (each text all); ends = subst Stops (sym (dropped text)) nothing_stops }
+  where
+    each : (text : List ℕ) → ((k : ℕ) → k < length text → is_ref_byte (get_or text k 0) ≡ true) → AllPass is_ref_byte text
+    each [] all j d m = absurd (omega (arith, m))
+    each (c ∷ text) all zero d m = all 0 (omega arith)
+    each (c ∷ text) all (suc j) d m = each text (λ k h. all (suc k) (omega (arith, h))) j d (omega (arith, m))
+
+    dropped : (text : List ℕ) → drop (length text) text ≡ []
+    dropped [] = refl
+    dropped (c ∷ text) = dropped text

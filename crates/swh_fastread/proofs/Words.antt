@@ -93,7 +93,7 @@ one_id text a b h k = hex-injective a b h.1.1 k.1.1 (sym h.0 ∙ k.0)
 pub same_id_length : (x y a b : List ℕ) → SpellsId x a → SpellsId y b → length x ≡ length y
 same_id_length x y a b h k = ap length h.0 ∙ length-hex a b (h.1.0 ∙ sym k.1.0) ∙ ap length (sym k.0)
 
-feed_is_no_quote : 10 ≡ 34 → ⊥
+feed_is_no_quote : ◌≢◌ {A = ℕ} 10 34
 feed_is_no_quote e = absurd (omega (arith, e))
 
 pub one_path : (text x y : List ℕ) → NamesPath text x → NamesPath text y → x ≡ y

@@ -104,14 +104,10 @@ fn set_front(alloc: Global, text: &[u8]) -> Option<SetFront<'_>>
     let Some(mode) = mode_of(word) else {
         return None;
     };
-    let Some(file) = file_front(alloc, after) else {
+    let Some(FileFront { what, rest }) = file_front(alloc, after) else {
         return None;
     };
-    Some(SetFront {
-        mode,
-        what: file.what,
-        rest: file.rest,
-    })
+    Some(SetFront { mode, what, rest })
 }
 
 /// The line that sets a path.

@@ -1,6 +1,8 @@
 //! The commands of streams, and the grammar that says which bytes are which commands.
-//! Stands on `swh_base` and `hex`.
-//! Callers may rely on: a text is one list of commands at most, has one fault at most, and not both.
+//! Stands on `swh_base`, `swh_pieces`, `swh_outside`, `swh_fastlex` and `hex`.
+//! Callers may rely on: a text is one list of commands at most, has one fault at most, and not both; a line is told to
+//! open data, to say a change or to be left out, and a text to be a word of a line, exactly where the grammar has it, and
+//! one with a ref or a path that is too long is told so first.
 #![tactic(auto)]
 
 mod ahead;
@@ -22,8 +24,8 @@ mod worked;
 
 pub use change_lines::{ChangeLine, change_line};
 pub use command::{At, Change, Command, Commitish, Dataref, Start};
-pub use fail::{Outside, ReadFail};
 pub use data_lines::{DataLine, data_line};
+pub use fail::{Outside, ReadFail};
 pub use fault::StreamWhy;
 pub use laws::{no_fault, one_fault, one_reading};
 pub use left_out::is_left_out;

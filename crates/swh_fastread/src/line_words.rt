@@ -55,8 +55,10 @@ pub fn id_of(text: &[u8]) -> Option<[u8; 20]>
     ensures some { IfSome result (λ id. SpellsId text.now id) }
     ensures none { IfNone result ((id : List ℕ) → SpellsId text.now id → ⊥) }
 {
-    let name = Name::from_hex(Kind::Revision, text)?;
-    Some(name.id)
+    match Name::from_hex(Kind::Revision, text) {
+        Some(name) => Some(name.id),
+        None => None,
+    }
 }
 
 /// Whether the text may be an encoding: it is not empty, and has no NUL.
@@ -90,10 +92,14 @@ fn is_ref_byte(byte: u8) -> bool
 fn ref_run(text: &[u8]) -> usize
     ensures { IsRefRun text.now result }
 {
-    match text.iter().position(|byte| !is_ref_byte(*byte)) {
-        Some(end) => end,
-        None => text.len(),
+    let mut count = 0;
+    'bytes: while count < text.len() {
+        if !is_ref_byte(text[count]) {
+            return count;
+        }
+        count += 1;
     }
+    count
 }
 
 /// The ref that the text is, which has at most so many bytes.

@@ -1,23 +1,15 @@
-use Rattle.std.proofs.Common.{rules, ◌≡◌, ℕ, List, ◌++◌, codes, IfOk, IfSome, IfNone, ◌+◌, ◌-◌, ◌*◌, ◌<◌, ◌≤◌, length, ◌/◌, ◌%◌, Bool, true, false, nat_eq, nat_lt, [], ◌∷◌, slice_index_or, slice_set, bit_and, bit_or, Fits, w8, w32, w64, Bor, MutBor}
-use Rattle.swh_fastlex.specs.Word.{IsWord}
-use Rattle.swh_fastread.specs.declared.command.Dataref.{Dataref as Given}
-use Rattle.swh_fastread.specs.Grammar.{BeginsSet, IsPair}
-use Rattle.swh_fastread.specs.Limit.{PassesPair, PassesPaths}
-use Rattle.swh_fastread.specs.Reading.{BeginsFile, LineSays, IsChangeLine, set_line_of}
+use Rattle.std.proofs.Common.{IfOk, List, ℕ, sym, subst}
+use Rattle.swh_fastread.proofs.ChangeLines.{Reads}
 use Rattle.swh_fastread.proofs.change_lines.change_line.Goals as goal
 
--- src/change_lines.rt:221:9
 pub returns-in-Some : goal.returns-in-Some
-returns-in-Some c = ?
+returns-in-Some c = subst (λ (l : List ℕ). IfOk c.set_line.result (Reads l)) (sym c.in-Some.ensures.some) c.set_line.ensures
 
--- src/change_lines.rt:224:9
 pub returns-in-Some-behind : goal.returns-in-Some-behind
-returns-in-Some-behind c = ?
+returns-in-Some-behind c = subst (λ (l : List ℕ). IfOk c.delete_line.result (Reads l)) (sym c.in-Some-behind.ensures.some) c.delete_line.ensures
 
--- src/change_lines.rt:227:9
 pub returns-in-Some-behind-2 : goal.returns-in-Some-behind-2
-returns-in-Some-behind-2 c = ?
+returns-in-Some-behind-2 c = subst (λ (l : List ℕ). IfOk c.copy_line.result (Reads l)) (sym c.in-Some-behind-2.ensures.some) c.copy_line.ensures
 
--- src/change_lines.rt:230:9
 pub returns-in-Some-behind-3 : goal.returns-in-Some-behind-3
-returns-in-Some-behind-3 c = ?
+returns-in-Some-behind-3 c = subst (λ (l : List ℕ). IfOk c.move_line.result (Reads l)) (sym c.in-Some-behind-3.ensures.some) c.move_line.ensures

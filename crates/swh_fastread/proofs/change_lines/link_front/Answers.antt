@@ -1,15 +1,10 @@
-use Rattle.std.proofs.Common.{rules, ◌≡◌, ℕ, List, ◌++◌, codes, IfOk, IfSome, IfNone, ◌+◌, ◌-◌, ◌*◌, ◌<◌, ◌≤◌, length, ◌/◌, ◌%◌, Bool, true, false, nat_eq, nat_lt, [], ◌∷◌, slice_index_or, slice_set, bit_and, bit_or, Fits, w8, w32, w64, Bor, MutBor}
-use Rattle.swh_fastlex.specs.Word.{IsWord}
-use Rattle.swh_fastread.specs.declared.command.Dataref.{Dataref as Given}
-use Rattle.swh_fastread.specs.Grammar.{BeginsSet, IsPair}
-use Rattle.swh_fastread.specs.Limit.{PassesPair, PassesPaths}
-use Rattle.swh_fastread.specs.Reading.{BeginsFile, LineSays, IsChangeLine, set_line_of}
+use Rattle.swh_fastread.proofs.SetFronts.{no_link_space, no_link_id}
 use Rattle.swh_fastread.proofs.change_lines.link_front.Goals as goal
 
--- src/change_lines.rt:81:9
 pub returns-in_default-clause-none : goal.returns-in_default-clause-none
-returns-in_default-clause-none c = ?
+returns-in_default-clause-none c = no_link_space c.args.text.now c.in_default.ensures.none
 
--- src/change_lines.rt:84:9
 pub returns-in_default-id_of-clause-none : goal.returns-in_default-id_of-clause-none
-returns-in_default-id_of-clause-none c = ?
+returns-in_default-id_of-clause-none c =
+    let cut = c.in-Some.ensures.some in
+    no_link_id c.args.text.now c.in-Some.digits.now c.in-Some.rest.now cut.0 cut.1 c.in_default-id_of.ensures.none

@@ -1,24 +1,20 @@
-use Rattle.std.proofs.Common.{rules, ◌≡◌, ℕ, List, ◌++◌, codes, IfOk, IfSome, IfNone, ◌+◌, ◌-◌, ◌*◌, ◌<◌, ◌≤◌, length, ◌/◌, ◌%◌, Bool, true, false, nat_eq, nat_lt, [], ◌∷◌, slice_index_or, slice_set, bit_and, bit_or, Fits, w8, w32, w64, Bor, MutBor}
-use Rattle.swh_fastlex.specs.Word.{IsWord}
-use Rattle.swh_fastread.specs.declared.command.Dataref.{Dataref as Given}
-use Rattle.swh_fastread.specs.Grammar.{BeginsSet, IsPair}
-use Rattle.swh_fastread.specs.Limit.{PassesPair, PassesPaths}
-use Rattle.swh_fastread.specs.Reading.{BeginsFile, LineSays, IsChangeLine, set_line_of}
+use Rattle.swh_fastread.proofs.SetFronts.{no_front_space, no_front_mode, no_front_file, front_is}
 use Rattle.swh_fastread.proofs.change_lines.set_front.Goals as goal
 
--- src/change_lines.rt:102:9
-pub returns-in_default-split_at_byte-clause-none :
-    goal.returns-in_default-split_at_byte-clause-none
-returns-in_default-split_at_byte-clause-none c = ?
+pub returns-in_default-split_at_byte-clause-none : goal.returns-in_default-split_at_byte-clause-none
+returns-in_default-split_at_byte-clause-none c = no_front_space c.args.text.now c.in_default.ensures.none c.in_default-split_at_byte.ensures.none
 
--- src/change_lines.rt:105:9
 pub returns-in_default-mode_of-clause-none : goal.returns-in_default-mode_of-clause-none
-returns-in_default-mode_of-clause-none c = ?
+returns-in_default-mode_of-clause-none c =
+    let cut = c.in-Some-split_at_byte.ensures.some in
+    no_front_mode c.args.text.now c.in-Some-split_at_byte.word.now c.in-Some-split_at_byte.after.now c.in_default.ensures.none cut.0 cut.1 c.in_default-mode_of.ensures.none
 
--- src/change_lines.rt:108:9
 pub returns-in_default-file_front-clause-none : goal.returns-in_default-file_front-clause-none
-returns-in_default-file_front-clause-none c = ?
+returns-in_default-file_front-clause-none c =
+    let cut = c.in-Some-split_at_byte.ensures.some in
+    no_front_file c.args.text.now c.in-Some-split_at_byte.word.now c.in-Some-split_at_byte.after.now c.in_default.ensures.none cut.0 cut.1 c.in_default-file_front.ensures.none
 
--- src/change_lines.rt:94:1
 pub returns-clause-some : goal.returns-clause-some
-returns-clause-some c = ?
+returns-clause-some c =
+    let cut = c.in-Some-split_at_byte.ensures.some in
+    front_is c.args.text.now c.in-Some-split_at_byte.word.now c.in-Some-split_at_byte.after.now c.in-Some-mode_of.mode _ _ cut.1 c.in-Some-mode_of.ensures.some c.in-Some-file_front.ensures.some

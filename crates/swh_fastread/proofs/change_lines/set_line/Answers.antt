@@ -1,15 +1,13 @@
-use Rattle.std.proofs.Common.{rules, ◌≡◌, ℕ, List, ◌++◌, codes, IfOk, IfSome, IfNone, ◌+◌, ◌-◌, ◌*◌, ◌<◌, ◌≤◌, length, ◌/◌, ◌%◌, Bool, true, false, nat_eq, nat_lt, [], ◌∷◌, slice_index_or, slice_set, bit_and, bit_or, Fits, w8, w32, w64, Bor, MutBor}
-use Rattle.swh_fastlex.specs.Word.{IsWord}
-use Rattle.swh_fastread.specs.declared.command.Dataref.{Dataref as Given}
-use Rattle.swh_fastread.specs.Grammar.{BeginsSet, IsPair}
-use Rattle.swh_fastread.specs.Limit.{PassesPair, PassesPaths}
-use Rattle.swh_fastread.specs.Reading.{BeginsFile, LineSays, IsChangeLine, set_line_of}
+use Rattle.std.proofs.Common.{◌++◌, sym, subst, codes}
+use Rattle.swh_fastread.proofs.ChangeLines.{Reads, set_is, set_no_path}
 use Rattle.swh_fastread.proofs.change_lines.set_line.Goals as goal
 
--- src/change_lines.rt:137:1
 pub returns-in-Is : goal.returns-in-Is
-returns-in-Is c = ?
+returns-in-Is c =
+    let found = rw c.in-Is.is at c.in_ok-path.ensures in
+    subst (Reads (codes "M " ++ c.args.text.now)) (sym c.set_to.ensures) (set_is c.args.text.now c.in-Some.front.mode c.in-Some.front.what c.in-Some.front.rest.now c.in-Is.path c.in-Some.ensures.some found)
 
--- src/change_lines.rt:137:1
 pub returns-in-No : goal.returns-in-No
-returns-in-No c = ?
+returns-in-No c =
+    let found = rw c.in-No.is at c.in_ok-path.ensures in
+    set_no_path c.args.text.now c.in-Some.front.mode c.in-Some.front.what c.in-Some.front.rest.now c.in-Some.ensures.some found

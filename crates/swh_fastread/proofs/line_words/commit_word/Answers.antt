@@ -1,25 +1,32 @@
-use Rattle.std.proofs.Common.{rules, ◌≡◌, ◌↔◌, ◌≤◌, ℕ, List, [], Contains, IsTrue, IfOk, IfSome, IfNone, length, take, ◌+◌, ◌-◌, ◌*◌, ◌<◌, ◌/◌, ◌%◌, Bool, true, false, nat_eq, nat_lt, ◌∷◌, ◌++◌, slice_index_or, slice_set, bit_and, bit_or, Fits, w8, w32, w64, Bor, MutBor}
-use Rattle.std.specs.List.{AllPass}
-use Rattle.swh_base.specs.Limits.{ref_limit, tag_limit}
-use Rattle.swh_base.specs.Text.{is_ref_byte}
-use Rattle.swh_fastlex.specs.Word.{IsWord}
-use Rattle.swh_fastread.specs.Grammar.{zeros}
-use Rattle.swh_fastread.specs.Limit.{PassesRef}
-use Rattle.swh_fastread.specs.Word.{IsMark, IsMode, SpellsId, NamesRef, NamesTag, NamesEncoding, NamesCommit, IsRefRun, IsRefUpTo, EndsCommit}
+use Rattle.std.proofs.Common.{rules, List, ℕ, inl, inr, drop, refl, sym, subst}
+use Rattle.std.proofs.lemmas.List.{take_rest}
+use Rattle.swh_fastread.specs.declared.command.Commitish.TheVariants.{Branch}
+use Rattle.swh_fastread.specs.Word.{NamesCommit, EndsCommit}
+use Rattle.swh_fastread.proofs.RefRuns.{passes, passes_not, no_commit, branch_commit}
 use Rattle.swh_fastread.proofs.line_words.commit_word.Goals as goal
 
--- src/line_words.rt:152:9
 pub returns-then-run-gt-REF_LIMIT : goal.returns-then-run-gt-REF_LIMIT
-returns-then-run-gt-REF_LIMIT c = ?
+returns-then-run-gt-REF_LIMIT c = passes c.args.text.now c.ref_run-run.result _ c.ref_run-run.ensures c.if-run-gt-REF_LIMIT.true
 
--- src/line_words.rt:155:9
 pub returns-then-run-eq0 : goal.returns-then-run-eq0
-returns-then-run-eq0 c = ?
+returns-then-run-eq0 c =
+    let text = c.args.text.now in (
+      no_commit text c.ref_run-run.result c.in_default.ensures.none c.ref_run-run.ensures (inl c.if-run-eq0.true),
+      passes_not text c.ref_run-run.result _ c.ref_run-run.ensures c.if-run-gt-REF_LIMIT.false,
+    )
 
--- src/line_words.rt:158:9
 pub returns-then-not-ends_commit : goal.returns-then-not-ends_commit
-returns-then-not-ends_commit c = ?
+returns-then-not-ends_commit c =
+    let text = c.args.text.now in
+    let not_ended : EndsCommit (drop c.ref_run-run.result text) → ⊥ = λ e. let yes = c.if-not-ends_commit.ensures.1 (subst EndsCommit (sym (take_rest text c.ref_run-run.result)) e) in let never = c.if-not-ends_commit.true in cc in (
+      no_commit text c.ref_run-run.result c.in_default.ensures.none c.ref_run-run.ensures (inr not_ended),
+      passes_not text c.ref_run-run.result _ c.ref_run-run.ensures c.if-run-gt-REF_LIMIT.false,
+    )
 
--- src/line_words.rt:141:1
 pub returns : goal.returns
-returns c = ?
+returns c =
+    let text = c.args.text.now in
+    let ends = subst EndsCommit (take_rest text c.ref_run-run.result) (c.if-not-ends_commit.ensures.0 (search rules)) in (
+      branch_commit text c.from_vec.result c.ref_run-run.result c.ref_run-run.ensures c.if-run-gt-REF_LIMIT.false c.if-run-eq0.false ends (search rules),
+      passes_not text c.ref_run-run.result _ c.ref_run-run.ensures c.if-run-gt-REF_LIMIT.false,
+    )

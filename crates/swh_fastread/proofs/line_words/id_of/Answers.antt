@@ -1,17 +1,12 @@
-use Rattle.std.proofs.Common.{rules, ◌≡◌, ◌↔◌, ◌≤◌, ℕ, List, [], Contains, IsTrue, IfOk, IfSome, IfNone, length, take, ◌+◌, ◌-◌, ◌*◌, ◌<◌, ◌/◌, ◌%◌, Bool, true, false, nat_eq, nat_lt, ◌∷◌, ◌++◌, slice_index_or, slice_set, bit_and, bit_or, Fits, w8, w32, w64, Bor, MutBor}
-use Rattle.std.specs.List.{AllPass}
-use Rattle.swh_base.specs.Limits.{ref_limit, tag_limit}
-use Rattle.swh_base.specs.Text.{is_ref_byte}
-use Rattle.swh_fastlex.specs.Word.{IsWord}
-use Rattle.swh_fastread.specs.Grammar.{zeros}
-use Rattle.swh_fastread.specs.Limit.{PassesRef}
-use Rattle.swh_fastread.specs.Word.{IsMark, IsMode, SpellsId, NamesRef, NamesTag, NamesEncoding, NamesCommit, IsRefRun, IsRefUpTo, EndsCommit}
+use Rattle.std.proofs.Common.{refl, sym, subst}
+use Rattle.swh_base.specs.Name.{IsIdText}
+use Rattle.swh_base.proofs.Ids.{IsId-from_text, IsIdText-encode}
 use Rattle.swh_fastread.proofs.line_words.id_of.Goals as goal
 
--- src/line_words.rt:58:16
-pub returns-in_err-name-clause-none : goal.returns-in_err-name-clause-none
-returns-in_err-name-clause-none c = ?
+pub returns-in-Some-clause-some : goal.returns-in-Some-clause-some
+returns-in-Some-clause-some c =
+    let named = c.in-Some.ensures.some in
+    (named.1, IsId-from_text c.args.text.now c.in-Some.name.id (c.in-Some.ensures.found.0 refl) named.1)
 
--- src/line_words.rt:54:1
-pub returns-clause-some : goal.returns-clause-some
-returns-clause-some c = ?
+pub returns-in-None-clause-none : goal.returns-in-None-clause-none
+returns-in-None-clause-none c = λ id h. let yes = c.in-None.ensures.found.1 (subst IsIdText (sym h.0) (IsIdText-encode id h.1)) in cc

@@ -1,13 +1,10 @@
-use Rattle.std.proofs.Common.{rules, ◌≡◌, ◌↔◌, ◌≤◌, ℕ, List, [], Contains, IsTrue, IfOk, IfSome, IfNone, length, take, ◌+◌, ◌-◌, ◌*◌, ◌<◌, ◌/◌, ◌%◌, Bool, true, false, nat_eq, nat_lt, ◌∷◌, ◌++◌, slice_index_or, slice_set, bit_and, bit_or, Fits, w8, w32, w64, Bor, MutBor}
-use Rattle.std.specs.List.{AllPass}
-use Rattle.swh_base.specs.Limits.{ref_limit, tag_limit}
-use Rattle.swh_base.specs.Text.{is_ref_byte}
-use Rattle.swh_fastlex.specs.Word.{IsWord}
-use Rattle.swh_fastread.specs.Grammar.{zeros}
-use Rattle.swh_fastread.specs.Limit.{PassesRef}
-use Rattle.swh_fastread.specs.Word.{IsMark, IsMode, SpellsId, NamesRef, NamesTag, NamesEncoding, NamesCommit, IsRefRun, IsRefUpTo, EndsCommit}
+use Rattle.std.proofs.Common.{ℕ, List, Contains, sym, subst}
+use Rattle.swh_pieces.proofs.Middle.{in_middle}
 use Rattle.swh_fastread.proofs.line_words.is_encoding.Goals as goal
 
--- src/line_words.rt:63:1
 pub returns-in-Some : goal.returns-in-Some
-returns-in-Some c = ?
+returns-in-Some c =
+    let cut = c.in-Some.ensures.some in (
+      λ t. absurd cc,
+      λ h. absurd (h.2 (subst (λ (t : List ℕ). Contains t 0) (sym cut.1) (in_middle c.in-Some.field-0.0.now c.in-Some.field-0.1.now 0))),
+    )

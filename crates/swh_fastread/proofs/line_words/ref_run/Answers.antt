@@ -1,17 +1,14 @@
-use Rattle.std.proofs.Common.{rules, ◌≡◌, ◌↔◌, ◌≤◌, ℕ, List, [], Contains, IsTrue, IfOk, IfSome, IfNone, length, take, ◌+◌, ◌-◌, ◌*◌, ◌<◌, ◌/◌, ◌%◌, Bool, true, false, nat_eq, nat_lt, ◌∷◌, ◌++◌, slice_index_or, slice_set, bit_and, bit_or, Fits, w8, w32, w64, Bor, MutBor}
-use Rattle.std.specs.List.{AllPass}
-use Rattle.swh_base.specs.Limits.{ref_limit, tag_limit}
+use Rattle.std.proofs.Common.{arith, ◌≡◌, ◌<◌, ℕ, true, length, get_or, subst, sym}
 use Rattle.swh_base.specs.Text.{is_ref_byte}
-use Rattle.swh_fastlex.specs.Word.{IsWord}
-use Rattle.swh_fastread.specs.Grammar.{zeros}
-use Rattle.swh_fastread.specs.Limit.{PassesRef}
-use Rattle.swh_fastread.specs.Word.{IsMark, IsMode, SpellsId, NamesRef, NamesTag, NamesEncoding, NamesCommit, IsRefRun, IsRefUpTo, EndsCommit}
+use Rattle.swh_fastread.specs.Word.{IsRefRun}
+use Rattle.swh_fastread.proofs.RefRuns.{run_up_to, run_whole}
 use Rattle.swh_fastread.proofs.line_words.ref_run.Goals as goal
 
--- src/line_words.rt:90:1
-pub returns-in-Some : goal.returns-in-Some
-returns-in-Some c = ?
+pub returns-then-not-is_ref_byte : goal.returns-then-not-is_ref_byte
+returns-then-not-is_ref_byte c = run_up_to c.args.text.now c.bytes.count c.bytes-test.true c.bytes.invariant.all (sym c.if-not-is_ref_byte.ensures)
 
--- src/line_words.rt:90:1
-pub returns-in-None : goal.returns-in-None
-returns-in-None c = ?
+pub returns : goal.returns
+returns c =
+    let whole : length c.args.text.now ≡ c.bytes.count = omega (arith, c.bytes-test.false, c.bytes.invariant.within) in
+    let all : (k : ℕ) → k < length c.args.text.now → is_ref_byte (get_or c.args.text.now k 0) ≡ true = λ k h. c.bytes.invariant.all k (omega (arith, h, whole)) in
+    subst (IsRefRun c.args.text.now) whole (run_whole c.args.text.now all)

@@ -1,21 +1,21 @@
-use Rattle.std.proofs.Common.{rules, ◌≡◌, ◌↔◌, ◌≤◌, ℕ, List, [], Contains, IsTrue, IfOk, IfSome, IfNone, length, take, ◌+◌, ◌-◌, ◌*◌, ◌<◌, ◌/◌, ◌%◌, Bool, true, false, nat_eq, nat_lt, ◌∷◌, ◌++◌, slice_index_or, slice_set, bit_and, bit_or, Fits, w8, w32, w64, Bor, MutBor}
-use Rattle.std.specs.List.{AllPass}
-use Rattle.swh_base.specs.Limits.{ref_limit, tag_limit}
-use Rattle.swh_base.specs.Text.{is_ref_byte}
-use Rattle.swh_fastlex.specs.Word.{IsWord}
-use Rattle.swh_fastread.specs.Grammar.{zeros}
-use Rattle.swh_fastread.specs.Limit.{PassesRef}
-use Rattle.swh_fastread.specs.Word.{IsMark, IsMode, SpellsId, NamesRef, NamesTag, NamesEncoding, NamesCommit, IsRefRun, IsRefUpTo, EndsCommit}
+use Rattle.std.proofs.Common.{rules, ◌≡◌, ◌⊎◌, ◌<◌, ℕ, inl, inr, length, sym, subst}
+use Rattle.swh_fastread.specs.Word.{IsRefUpTo}
+use Rattle.swh_fastread.proofs.RefRuns.{passes, passes_not, no_ref_up_to, is_ref_up_to, weaker}
 use Rattle.swh_fastread.proofs.line_words.ref_up_to.Goals as goal
 
--- src/line_words.rt:106:9
 pub returns-then-run-limit : goal.returns-then-run-limit
-returns-then-run-limit c = ?
+returns-then-run-limit c = passes c.args.text.now c.ref_run-run.result c.args.limit c.ref_run-run.ensures c.if-run-limit.true
 
--- src/line_words.rt:109:9
 pub returns-then-run-eq0 : goal.returns-then-run-eq0
-returns-then-run-eq0 c = ?
+returns-then-run-eq0 c = (
+  no_ref_up_to c.args.text.now c.ref_run-run.result c.args.limit c.ref_run-run.ensures (weaker c.then-run-eq0.either),
+  passes_not c.args.text.now c.ref_run-run.result c.args.limit c.ref_run-run.ensures c.if-run-limit.false,
+)
 
--- src/line_words.rt:100:1
 pub returns : goal.returns
-returns c = ?
+returns c =
+    let text = c.args.text.now in
+    let same : c.from_vec.result ≡ text = search rules in (
+      subst (IsRefUpTo c.args.limit text) (sym same) (is_ref_up_to text c.ref_run-run.result c.args.limit c.requires c.ref_run-run.ensures c.if-run-limit.false c.if-run-eq0.false (search rules)),
+      passes_not text c.ref_run-run.result c.args.limit c.ref_run-run.ensures c.if-run-limit.false,
+    )
