@@ -20,3 +20,4 @@ pub mod Places
 pub mod HeldLines
 pub mod CountedData
 pub mod NextLines
+pub mod LongRefs

@@ -1,19 +1,22 @@
 -- A line that comes next, as a part of a command or none.
-use Rattle.std.proofs.Common.{◌≡◌, ℕ, ◌+◌, ◌==◌, inl, inr, Bool, true, false, not, List, [], ◌∷◌, ◌++◌, length, Contains, refl, sym, ap, ◌∙◌, subst, arith, codes, Option, Some, None}
+use Rattle.std.proofs.Common.{◌≡◌, ℕ, ◌+◌, ◌<◌, ◌==◌, inl, inr, Bool, true, false, not, if◌then◌else◌, List, [], ◌∷◌, ◌++◌, length, Contains, refl, sym, ap, ◌∙◌, subst, arith, codes, Option, Some, None}
 use Rattle.swh_base.proofs.Splits.{not_nil}
 use Rattle.swh_fastread.specs.declared.command.At.{At}
 use Rattle.swh_fastread.specs.declared.fail.ReadFail.{ReadFail}
 use Rattle.swh_fastread.specs.declared.fail.ReadFail.TheVariants.{BadStream, ReadFault, Limit, Memory}
 use Rattle.swh_fastread.specs.declared.fault.StreamWhy.TheVariants.{Grammar, End, LeftOut, Mark, Branch, Place as Spot}
-use Rattle.swh_fastread.specs.Explains.{PassesAfter, PartFails, DataFails, Stops, LineAt, Refusal}
+use Rattle.swh_fastread.specs.Explains.{PassesAfter, PartFails, DataFails, Stops, LineAt, Refusal, line_refusal}
+use Rattle.swh_base.specs.declared.visit.Which.TheVariants.{Stream}
+use Rattle.swh_fastread.specs.declared.row_source.TheConstants.{STREAM_LIMIT}
+use Rattle.swh_fastread.specs.Fault.{is_left_out}
 use Rattle.swh_fastread.specs.Grammar.{line_at, line, placed_line, contents}
-use Rattle.swh_fastread.specs.Held.{HeldCounts, IsNext, EndsNext}
+use Rattle.swh_fastread.specs.Held.{IsHeld, HeldCounts, IsNext, EndsNext}
 use Rattle.swh_fastread.specs.Places.{Place, left, Took, FirstLine, Refuses, Counts, Part, Lacks, LineRefused, NeverLine, opens_none}
 use Rattle.swh_fastread.specs.Row.{Row, row_text, IsData, Opens, AreRows, Placed, placed, is_comment, text_of}
 use Rattle.swh_fastread.proofs.Faults.{append_nil, row_cut}
 use Rattle.swh_fastread.proofs.Parts.{cons_cut}
 use Rattle.swh_fastread.proofs.HeldLines.{taken, front_of, held_first, held_counts, line_taken, in_middle}
-use Rattle.swh_fastread.proofs.Joins.{one_first, placed_row, took_none, took_append}
+use Rattle.swh_fastread.proofs.Joins.{one_first, placed_row, took_none, took_append, took_size}
 
 end_left : (b : Place) → EndsNext b → left b ≡ b.held
 end_left b e = ap (λ (r : List ℕ). b.held ++ r) e.nothing ∙ append_nil b.held
@@ -113,3 +116,38 @@ lacks_data a b (BadStream at Spot) l r = r
 lacks_data a b ReadFault l r = tt
 lacks_data a b (Limit which number) l r = lacks_fails contents a b (Limit which number) l r
 lacks_data a b Memory l r = tt
+
+pub over_passes : (a b : Place) → Took a b [] → STREAM_LIMIT < b.at + length b.held → IsHeld b.held → PassesAfter a Stream (STREAM_LIMIT + 1)
+over_passes a b t over shape = record { before = b; rows = []; took = t; passes = record { front = b.held; rest = b.rest; cut = refl; stretch = elim shape [ inl l ↦ inl l | inr n ↦ inr (inl n) ]; over = over; count = refl } }
+
+-- a line that is refused
+pub refused_line : (a b : Place) (line : List ℕ) (fail : ReadFail) → Took a b [] → Counts (left a) → IsNext b → b.held ≡ line ++ 10 ∷ [] → fail ≡ line_refusal line b.at → Refusal a fail
+refused_line a b line fail t k n e f = subst (Refusal a) (sym f) (by_out (is_left_out line) refl)
+  where
+    here : (left a ≡ left b) × (b.at ≡ a.at)
+    here = same_left a b t k
+
+    first : FirstLine (left a) line
+    first = subst (λ (z : List ℕ). FirstLine z line) (sym here.0) (held_first b line e n.line)
+
+    by_out : (o : Bool) → is_left_out line ≡ o → Refusal a (if o then BadStream b.at LeftOut else BadStream b.at Grammar)
+    by_out true o = record { line = line; first = first; counts = n.counts line e; here = here.1; is_out = o }
+    by_out false o = record { line = line; first = first; counts = n.counts line e; here = here.1; is_out = o }
+
+pub refused_end : (a b : Place) (at : ℕ) → Took a b [] → Counts (left a) → EndsNext b → at ≡ b.at + length b.held → (Contains (left a) 10 → ⊥) × (at ≡ a.at + length (left a))
+refused_end a b at t k e f =
+    let same = (same_left a b t k).0 in
+    (λ h. end_feeds b e (subst (λ (z : List ℕ). Contains z 10) same h), omega (arith, f, ap length (end_left b e), took_size a b [] t))
+
+pub stops_refusal : (a : Place) (fail : ReadFail) → Stops a fail → Refusal a fail
+stops_refusal a (BadStream at why) s = absurd s
+stops_refusal a ReadFault s = tt
+stops_refusal a (Limit which number) s = s
+stops_refusal a Memory s = tt
+
+pub no_read_fault : (line : List ℕ) (at : ℕ) → line_refusal line at ≡ ReadFault → ⊥
+no_read_fault line at e = by_out (is_left_out line) e
+  where
+    by_out : (o : Bool) → (if o then BadStream at LeftOut else BadStream at Grammar) ≡ ReadFault → ⊥
+    by_out true f = cc
+    by_out false f = cc

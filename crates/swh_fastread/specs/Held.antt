@@ -1,7 +1,11 @@
 -- The bytes that a reader of rows holds: a line with its LF, or the beginning of one.
 use Rattle.std.specs.Prelude.{◌≡◌, ◌⊎◌, ℕ, ◌+◌, ◌<◌, ◌≤◌, ◌^◌, Bool, true, false, List, [], ◌∷◌, ◌++◌, Contains, length}
 use Rattle.swh_base.specs.Limits.{line_limit}
+use Rattle.swh_fastlex.specs.Delimited.{AreLines}
 use Rattle.swh_fastlex.specs.Line.{Held, unread, IsLine}
+use Rattle.swh_fastlex.specs.declared.fault.DataFault.{DataFault}
+use Rattle.swh_fastlex.specs.declared.fault.DataFault.TheVariants.{Failed, Body, Memory}
+use Rattle.swh_fastlex.specs.declared.fault.DataFault.TheVariants as Data
 use Rattle.swh_fastread.specs.declared.row_source.TheConstants.{STREAM_LIMIT}
 use Rattle.swh_fastread.specs.declared.ahead.Ahead.{Ahead}
 use Rattle.swh_fastread.specs.Places.{Place}
@@ -26,7 +30,7 @@ abbrev pub IsAhead : ℕ → List ℕ → Ahead → Type 0
 IsAhead at held Line = IsLine held × (at + length held ≤ STREAM_LIMIT)
 IsAhead at held End = (Contains held 10 → ⊥) × (length held < line_limit) × (at + length held ≤ STREAM_LIMIT)
 IsAhead at held Long = (Contains held 10 → ⊥) × (length held ≡ line_limit) × (at + length held ≤ STREAM_LIMIT)
-IsAhead at held Over = STREAM_LIMIT < at + length held
+IsAhead at held Over = (STREAM_LIMIT < at + length held) × IsHeld held
 
 -- Nothing follows the held beginning of a line that is not as long as a line may be.
 abbrev pub EndsHeld : Place → Type 0
@@ -56,3 +60,41 @@ pub record IsNext (place : Place) : Type 0 where
 pub record EndsNext (place : Place) : Type 0 where
   pub no_feed : Contains place.held 10 → ⊥
   pub nothing : place.rest ≡ []
+
+-- These lines are passed, and the line of the word after them.
+pub record TakesLines (old new : Place) (word bytes : List ℕ) : Type 0 where
+  pub cut : old.rest ≡ (bytes ++ (word ++ 10 ∷ [])) ++ new.rest
+  pub here : new.at ≡ old.at + length (bytes ++ (word ++ 10 ∷ []))
+
+-- The lines end before the line of the word: what is left is lines, and a front of one more. All of it is passed.
+pub record CutsLines (old new : Place) (word : List ℕ) : Type 0 where
+  pub bytes : List ℕ
+  pub front : List ℕ
+  pub lines : AreLines word bytes
+  pub all : old.rest ≡ bytes ++ front
+  pub no_feed : Contains front 10 → ⊥
+  pub here : new.at ≡ old.at + length old.rest
+
+-- Lines are passed, and of the next as many bytes as a line may have, with no LF.
+pub record LongLine (old new : Place) (word : List ℕ) : Type 0 where
+  pub bytes : List ℕ
+  pub front : List ℕ
+  pub lines : AreLines word bytes
+  pub no_feed : Contains front 10 → ⊥
+  pub long : length front ≡ line_limit
+  pub cut : old.rest ≡ (bytes ++ front) ++ new.rest
+
+-- Lines are passed that have more bytes than they may.
+pub record ManyLines (old new : Place) (word : List ℕ) (limit : ℕ) : Type 0 where
+  pub bytes : List ℕ
+  pub lines : AreLines word bytes
+  pub above : limit < length bytes
+  pub cut : old.rest ≡ bytes ++ new.rest
+
+-- why the lines are not given
+abbrev pub LinesFail : Place → Place → List ℕ → ℕ → DataFault → Type 0
+LinesFail old new word limit Failed = Unit {0}
+LinesFail old new word limit Data.End = CutsLines old new word
+LinesFail old new word limit Data.Line = LongLine old new word
+LinesFail old new word limit Body = ManyLines old new word limit
+LinesFail old new word limit Memory = Unit {0}

@@ -14,6 +14,7 @@ use crate::peek::{peek, refusal};
 use crate::row_source::Rows;
 use swh_base::Bytes;
 use swh_outside::Source;
+use swh_pieces::behind;
 
 /// The mark, where a line `mark` comes next.
 pub fn optional_mark<S: Source>(rows: &mut Rows<S>) -> Result<Option<u64>, ReadFail>
@@ -48,9 +49,9 @@ pub fn skip_oid<S: Source>(rows: &mut Rows<S>) -> Result<bool, ReadFail>
     if !peek(rows)? {
         return Ok(false);
     }
-    if !rows.line().starts_with(b"original-oid ") {
+    let Some(_) = behind(b"original-oid ", rows.line()) else {
         return Ok(false);
-    }
+    };
     rows.take();
     Ok(true)
 }

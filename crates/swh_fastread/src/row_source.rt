@@ -1,12 +1,14 @@
 //! Rows of a stream, read from a source: lines that are looked at before they are taken.
 ghost use Rattle.std.specs.Prelude.{◌≡◌, ◌≢◌, ◌≤◌, ◌<◌, ◌+◌, ◌^◌, ◌++◌, ◌∷◌, [], false, length, IfOk, IfErr, IsErrOf};
-ghost use Rattle.swh_base.specs.Limits.{body_limit};
+ghost use Rattle.swh_base.specs.Limits.{body_limit, line_limit};
 ghost use Rattle.swh_outside.specs.Faults.{Rose, HasCause};
 ghost use Rattle.swh_fastlex.specs.Line.{IsLine};
+ghost use Rattle.swh_fastlex.specs.Delimited.{AreLines};
+ghost use Rattle.swh_fastlex.specs.declared.fault.DataFault.TheVariants.{Failed as DataFailed};
 ghost use Rattle.swh_fastread.specs.declared.ahead.Ahead.TheVariants.{Line, End as AtEnd};
 ghost use Rattle.swh_fastlex.specs.declared.fault.LineFault.TheVariants.{Failed as LineFailed, End, Limit};
 ghost use Rattle.swh_fastread.specs.declared.fail.Outside.TheVariants.{Failed};
-ghost use Rattle.swh_fastread.specs.Held.{IsAhead, EndsHeld, HeldCounts, IsShort, IsFed};
+ghost use Rattle.swh_fastread.specs.Held.{IsAhead, EndsHeld, HeldCounts, IsShort, IsFed, TakesLines, LinesFail};
 ghost use Rattle.swh_fastread.specs.Places.{left, Took};
 ghost use Rattle.swh_fastread.specs.Row.{is_comment};
 
@@ -15,7 +17,7 @@ use crate::fail::Outside;
 use crate::hold::hold_line;
 use std::alloc::Global;
 use std::marker::Model;
-use swh_fastlex::{LineFault, Window, next_data, next_feed};
+use swh_fastlex::{DataFault, LineFault, Window, next_data, next_delimited, next_feed};
 use swh_outside::Source;
 
 /// The bytes of a stream.
@@ -210,6 +212,33 @@ impl<S: Source> Rows<S> {
         ensures cause { IsErrOf result LineFailed → Rose self.old.faults self.new.faults }
     {
         let bytes = next_data(self.alloc, &mut self.window, &mut self.source, count);
+        self.at = self.window.place();
+        bytes
+    }
+
+    /// The lines before the line that is just this word, which is passed too; `limit` is the most of their bytes.
+    ///
+    /// # Errors
+    ///
+    /// As `next_delimited` fails.
+    pub fn delimited(&mut self, word: &[u8], limit: usize) -> Result<Vec<u8>, DataFault>
+        requires empty { self.old.held ≡ [] }
+        requires start { self.old.at ≤ STREAM_LIMIT }
+        requires fits { limit ≤ body_limit }
+        requires short { length word.now ≤ line_limit }
+        ensures lines { IfOk result (λ bytes. AreLines word.now bytes.items) }
+        ensures within { IfOk result (λ bytes. length bytes.items ≤ limit) }
+        ensures taken { S.tells → IfOk result (λ bytes. TakesLines self.old self.new word.now bytes.items) }
+        ensures fails { S.tells → IfErr result (LinesFail self.old self.new word.now limit) }
+        ensures held { self.new.held ≡ [] }
+        ensures onward { IfOk result (λ _. self.old.at ≤ self.new.at) }
+        ensures most { self.new.at ≤ self.old.at + (limit + line_limit + 1) }
+
+        ensures same_path { self.new.path ≡ self.old.path }
+        ensures later { self.old.faults ≤ self.new.faults }
+        ensures cause { IsErrOf result DataFailed → Rose self.old.faults self.new.faults }
+    {
+        let bytes = next_delimited(self.alloc, &mut self.window, &mut self.source, word, limit);
         self.at = self.window.place();
         bytes
     }
