@@ -19,7 +19,7 @@ use Rattle.swh_fastread.proofs.Joins.{took_none, took_row}
 use Rattle.swh_fastread.proofs.Rows.{same_tail, no_angle}
 
 pub body_passes : (a : Place) (count : ℕ) → OpensCounted a count → IsLine a.held → body_limit < count → PassesAfter a Body count
-body_passes a count o l over = record { before = a; rows = []; took = took_none a; passes = record { text = o.0; first = held_first a (codes "data " ++ o.0) o.1 l; writes = o.2; over = over } }
+body_passes a count o l over = record { before = a; rows = []; took = took_none a; passes = (over, inl (o.0, held_first a (codes "data " ++ o.0) o.1 l, o.2)) }
 
 padded : (text : List ℕ) (n : ℕ) (bytes : List ℕ) → IsNumber text n → length bytes ≡ n → IsData (record { line = codes "data " ++ text; raw = bytes }) bytes (codes "done\n")
 padded text n bytes number size = inl (record { text = text; feed = []; line = refl; number = subst (IsNumber text) (sym size) number; raw = sym (append-nil bytes); is_feed = inr (refl, refl) })

@@ -21,3 +21,6 @@ pub mod HeldLines
 pub mod CountedData
 pub mod NextLines
 pub mod LongRefs
+pub mod DelimitedData
+pub mod Begun
+pub mod Blobs

@@ -1,5 +1,5 @@
 -- A line that comes next, as a part of a command or none.
-use Rattle.std.proofs.Common.{◌≡◌, ℕ, ◌+◌, ◌<◌, ◌==◌, inl, inr, Bool, true, false, not, if◌then◌else◌, List, [], ◌∷◌, ◌++◌, length, Contains, refl, sym, ap, ◌∙◌, subst, arith, codes, Option, Some, None}
+use Rattle.std.proofs.Common.{◌≡◌, ℕ, ◌+◌, ◌<◌, ◌==◌, inl, inr, Bool, true, false, not, if◌then◌else◌, List, [], ◌∷◌, ◌++◌, length, Contains, refl, sym, ap, ◌∙◌, subst, arith, codes, Option, Some, None, Result, Ok, Err, IfOk, IfErr}
 use Rattle.swh_base.proofs.Splits.{not_nil}
 use Rattle.swh_fastread.specs.declared.command.At.{At}
 use Rattle.swh_fastread.specs.declared.fail.ReadFail.{ReadFail}
@@ -151,3 +151,37 @@ no_read_fault line at e = by_out (is_left_out line) e
     by_out : (o : Bool) → (if o then BadStream at LeftOut else BadStream at Grammar) ≡ ReadFault → ⊥
     by_out true f = cc
     by_out false f = cc
+
+-- a line that opens no data
+pub lacks_contents : (a b : Place) (text : List ℕ) → Took a b [] → IsNext b → b.held ≡ text ++ 10 ∷ [] → (Opens text → ⊥) → Lacks contents a b
+lacks_contents a b text t n e closed = record {
+  took = t;
+  refused = λ p more bytes f h.
+      let same : p.row.line ≡ h.0.row.line = ap (λ (q : Placed). q.row.line) (cons_cut p h.0 more [] h.2).0 in
+      let row : Row = h.0.row in
+      closed (subst Opens (sym (next_line b text n e p.row.line f ∙ same)) (row.raw, bytes, h.1, h.3));
+  counts = held_counts b text e n.line n.counts;
+}
+
+pub part_before : {X : Type 0} (L : List Placed → X → Type 0) (a b c : Place) (x : X) → Took a b [] → Part L b c x → Part L a c x
+part_before L a b c x t p = record { rows = p.rows; took = took_append a b c [] p.rows t p.took; says = p.says }
+
+pub fails_before : (a b : Place) (fail : ReadFail) → Took a b [] → DataFails b fail → DataFails a fail
+fails_before a b (BadStream at Grammar) t r = record { before = r.before; line = r.line; took = took_append a b r.before [] [] t r.took; first = r.first; counts = r.counts; here = r.here; is_out = r.is_out; refused = r.refused }
+fails_before a b (BadStream at LeftOut) t r = record { before = r.before; line = r.line; took = took_append a b r.before [] [] t r.took; first = r.first; counts = r.counts; here = r.here; is_out = r.is_out; refused = r.refused }
+fails_before a b (BadStream at End) t (inl r) = inl (record { before = r.before; took = took_append a b r.before [] [] t r.took; no_feed = r.no_feed; here = r.here })
+fails_before a b (BadStream at End) t (inr r) = inr (record { before = r.before; line = r.line; next = r.next; more = r.more; bytes = r.bytes; took = took_append a b r.before [] [] t r.took; spelled = r.spelled; one_line = r.one_line; cut = r.cut; filled = r.filled; here = r.here })
+fails_before a b (BadStream at Mark) t r = r
+fails_before a b (BadStream at Branch) t r = r
+fails_before a b (BadStream at Spot) t r = r
+fails_before a b ReadFault t r = tt
+fails_before a b (Limit which number) t r = record { before = r.before; rows = r.rows; took = took_append a b r.before [] r.rows t r.took; passes = r.passes }
+fails_before a b Memory t r = tt
+
+pub ok_before : (a b c : Place) (r : Result (List ℕ) ReadFail) → Took a b [] → IfOk r (λ bytes. Part contents b c bytes) → IfOk r (λ bytes. Part contents a c bytes)
+ok_before a b c (Ok bytes) t p = part_before contents a b c bytes t p
+ok_before a b c (Err fail) t p = tt
+
+pub err_before : (a b : Place) (r : Result (List ℕ) ReadFail) → Took a b [] → IfErr r (DataFails b) → IfErr r (DataFails a)
+err_before a b (Ok bytes) t p = tt
+err_before a b (Err fail) t p = fails_before a b fail t p

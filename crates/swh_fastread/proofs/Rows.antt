@@ -3,7 +3,8 @@ use Rattle.std.proofs.Common.{◌≡◌, ℕ, zero, suc, ◌⊎◌, inl, inr, tr
 use Rattle.std.specs.List.{AllByRecursion}
 use Rattle.swh_base.proofs.Splits.{first_split, sized_split}
 use Rattle.swh_base.specs.Text.{IsNumber, value_from, is_digit}
-use Rattle.swh_fastread.specs.Row.{Row, row_text, text_of, begins_with, IsFeed, IsOther, lines_text, IsData, Opens, IsRow, AreRows}
+use Rattle.swh_fastlex.specs.Delimited.{IsOther, lines_text}
+use Rattle.swh_fastread.specs.Row.{Row, row_text, text_of, begins_with, IsFeed, IsData, Opens, IsRow, AreRows}
 
 pub same_tail : (a x y : List ℕ) → a ++ x ≡ a ++ y → x ≡ y
 same_tail a x y e = (sized_split a a x y refl e).1

@@ -1,10 +1,13 @@
 -- Why a reader gives no command, or no part of one.
-use Rattle.std.specs.Prelude.{◌≡◌, ◌⊎◌, ℕ, ◌+◌, ◌<◌, Bool, true, false, if◌then◌else◌, List, [], ◌∷◌, ◌++◌, length, Contains, codes}
+use Rattle.std.specs.Prelude.{◌≡◌, ◌≢◌, ◌⊎◌, ℕ, ◌+◌, ◌<◌, Bool, true, false, if◌then◌else◌, List, [], ◌∷◌, ◌++◌, length, Contains, codes}
 use Rattle.swh_base.specs.Limits.{body_limit, line_limit}
 use Rattle.swh_base.specs.Text.{IsNumber}
 use Rattle.swh_base.specs.declared.visit.Which.{Which}
 use Rattle.swh_base.specs.declared.visit.Which.TheVariants.{Body, Objects, Bytes, Store, Ledger, Stream, Line, Path, Ref, Refs}
+use Rattle.swh_fastlex.specs.Delimited.{AreLines}
 use Rattle.swh_fastlex.specs.Line.{IsLine}
+use Rattle.swh_fastlex.specs.declared.fault.DataFault.{DataFault}
+use Rattle.swh_fastlex.specs.declared.fault.DataFault.TheVariants as Data
 use Rattle.swh_fastlex.specs.declared.fault.LineFault.{LineFault}
 use Rattle.swh_fastlex.specs.declared.fault.LineFault.TheVariants.{Failed, End as Ends, Limit as Limits, Memory as NoRoom}
 use Rattle.swh_fastread.specs.declared.fail.ReadFail.{ReadFail}
@@ -29,21 +32,30 @@ pub record PassesStream (place : Place) (number : ℕ) : Type 0 where
   pub over : STREAM_LIMIT < place.at + length front
   pub count : number ≡ STREAM_LIMIT + 1
 
--- The next bytes, as many as a line may have, have no LF.
-pub record PassesLine (place : Place) (number : ℕ) : Type 0 where
+-- The bytes begin with as many as a line may have, and no LF is among them.
+pub record IsLong (text : List ℕ) : Type 0 where
   pub front : List ℕ
   pub rest : List ℕ
-  pub cut : left place ≡ front ++ rest
+  pub cut : text ≡ front ++ rest
   pub no_feed : Contains front 10 → ⊥
   pub long : length front ≡ line_limit
-  pub count : number ≡ line_limit + 1
 
--- The next line opens more data than a body may have.
-pub record PassesBody (place : Place) (number : ℕ) : Type 0 where
-  pub text : List ℕ
-  pub first : FirstLine (left place) (codes "data " ++ text)
-  pub writes : IsNumber text number
-  pub over : body_limit < number
+-- The next line opens data up to a word, which begin with these lines.
+pub record OpensLines (place : Place) (bytes rest : List ℕ) : Type 0 where
+  pub word : List ℕ
+  pub first : FirstLine (left place) (codes "data <<" ++ word)
+  pub lines : AreLines word bytes
+  pub cut : first.rest ≡ bytes ++ rest
+
+-- The next line is too long, or it opens data in which a line is.
+abbrev pub PassesLine : Place → ℕ → Type 0
+PassesLine place number = (number ≡ line_limit + 1) × (IsLong (left place) ⊎ ((bytes : List ℕ) × (rest : List ℕ) × OpensLines place bytes rest × IsLong rest))
+
+-- The next line opens more data than a body may have, by their number or by their lines.
+abbrev pub PassesBody : Place → ℕ → Type 0
+PassesBody place number =
+    (body_limit < number) × (((text : List ℕ) × FirstLine (left place) (codes "data " ++ text) × IsNumber text number)
+    ⊎ ((bytes : List ℕ) × (rest : List ℕ) × OpensLines place bytes rest × (body_limit < length bytes) × (number ≡ body_limit + 1)))
 
 -- A limit is passed here.
 abbrev pub Passes : Place → Which → ℕ → Type 0
@@ -101,6 +113,19 @@ data_fail Failed at = ReadFault
 data_fail Ends at = BadStream at End
 data_fail Limits at = Limit Body at
 data_fail NoRoom at = Memory
+
+abbrev pub lines_fail : DataFault → ℕ → ReadFail
+lines_fail Data.Failed at = ReadFault
+lines_fail Data.End at = BadStream at End
+lines_fail Data.Line at = Limit Line (line_limit + 1)
+lines_fail Data.Body at = Limit Body (body_limit + 1)
+lines_fail Data.Memory at = Memory
+
+-- The line that is held opens data up to this word.
+pub record OpensDelimited (place : Place) (word : List ℕ) : Type 0 where
+  pub line : place.held ≡ (codes "data <<" ++ word) ++ 10 ∷ []
+  pub not_empty : word ≢ []
+  pub one_line : Contains word 10 → ⊥
 
 -- The line that is held opens so many bytes of data.
 abbrev pub OpensCounted : Place → ℕ → Type 0

@@ -27,7 +27,7 @@ pub record Holds (tells : Type 0) (at : ℕ) (held : List ℕ) (window : Held) (
 
 -- what the held bytes are
 abbrev pub IsAhead : ℕ → List ℕ → Ahead → Type 0
-IsAhead at held Line = IsLine held × (at + length held ≤ STREAM_LIMIT)
+IsAhead at held Line = IsLine held × (at + length held ≤ STREAM_LIMIT) × (length held ≤ line_limit)
 IsAhead at held End = (Contains held 10 → ⊥) × (length held < line_limit) × (at + length held ≤ STREAM_LIMIT)
 IsAhead at held Long = (Contains held 10 → ⊥) × (length held ≡ line_limit) × (at + length held ≤ STREAM_LIMIT)
 IsAhead at held Over = (STREAM_LIMIT < at + length held) × IsHeld held
@@ -55,6 +55,7 @@ pub record IsNext (place : Place) : Type 0 where
   pub line : IsLine place.held
   pub counts : HeldCounts place.held
   pub within : place.at + length place.held ≤ STREAM_LIMIT
+  pub short : length place.held ≤ line_limit
 
 -- What is held has no LF, and nothing follows it.
 pub record EndsNext (place : Place) : Type 0 where

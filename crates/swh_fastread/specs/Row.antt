@@ -3,6 +3,7 @@
 use Rattle.std.specs.Prelude.{◌≡◌, ◌≢◌, ◌⊎◌, ℕ, Bool, false, ◌==◌, nat_eq, if◌then◌else◌, ◌+◌, List, [], ◌∷◌, ◌++◌, length, Contains, codes}
 use Rattle.std.specs.List.{AllByRecursion, flat_map, starts_with}
 use Rattle.swh_base.specs.Text.{IsNumber}
+use Rattle.swh_fastlex.specs.Delimited.{IsOther, lines_text}
 
 -- a line without its LF, and what stands after the LF
 pub record Row : Type 0 where
@@ -34,15 +35,6 @@ pub record IsCounted (row : Row) (bytes next : List ℕ) : Type 0 where
   pub number : IsNumber text (length bytes)
   pub raw : row.raw ≡ bytes ++ feed
   pub is_feed : IsFeed feed next
-
--- A line that is not the delimiter's.
-abbrev pub IsOther : List ℕ → List ℕ → Type 0
-IsOther word line = (Contains line 10 → ⊥) × (line ≢ word)
-
--- each line with its LF
-abbrev pub lines_text : List (List ℕ) → List ℕ
-lines_text [] = []
-lines_text (line ∷ lines) = line ++ 10 ∷ lines_text lines
 
 -- a delimiter, and the lines before the line that is just the delimiter
 pub record IsDelimited (row : Row) (bytes next : List ℕ) : Type 0 where

@@ -6,6 +6,7 @@
 #![tactic(auto)]
 
 mod ahead;
+mod blob;
 mod change_lines;
 mod command;
 mod data;

@@ -246,7 +246,7 @@ impl<S: Source> Rows<S> {
     /// Takes an LF where one is next.
     pub fn feed(&mut self) -> Result<bool, swh_outside::Failed>
         requires empty { self.old.held ≡ [] }
-        requires start { self.old.at ≤ STREAM_LIMIT + body_limit }
+        requires start { self.old.at < 2 ^ 33 }
         ensures feed { S.tells → IfOk result (IsFed self.old self.new) }
         ensures held { self.new.held ≡ [] }
         ensures onward { IfOk result (λ _. self.old.at ≤ self.new.at) }
