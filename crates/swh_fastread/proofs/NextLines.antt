@@ -185,3 +185,7 @@ ok_before a b c (Err fail) t p = tt
 pub err_before : (a b : Place) (r : Result (List ℕ) ReadFail) → Took a b [] → IfErr r (DataFails b) → IfErr r (DataFails a)
 err_before a b (Ok bytes) t p = tt
 err_before a b (Err fail) t p = fails_before a b fail t p
+
+-- The held line, of a word that opens no data, was taken.
+pub took_held : (a b : Place) (word text : List ℕ) → IsNext a → a.held ≡ (word ++ text) ++ 10 ∷ [] → opens_none word ≡ true → b ≡ taken a → Took a b (line_at a.at (word ++ text) ∷ [])
+took_held a b word text n e o same = subst (λ (p : Place). Took a p (line_at a.at (word ++ text) ∷ [])) (sym same) (line_taken a a (word ++ text) (took_none a) e n.line n.counts (closed_word word text o))
