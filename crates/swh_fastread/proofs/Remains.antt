@@ -17,23 +17,16 @@ Next text [] = Unit {0}
 Next text (p ∷ rows) = MayCount text p.row.line
 
 -- After this part, and before this text, an item goes on with what M allows.
-pub record Remains {X : Type 0} (part : List Placed) (text : List ℕ) (M : List Placed → X → Type 0) (f : X → Item) : Type 0 where
-  pub forth : (more : List Placed) (x : X) → M more x → IsItem (part ++ more) (f x)
-  pub back : (more : List Placed) (i : Item) → Next text more → IsItem (part ++ more) i → (x : X) × M more x
+pub record Remains {V X : Type 0} (R : List Placed → V → Type 0) (part : List Placed) (text : List ℕ) (M : List Placed → X → Type 0) (f : X → V) : Type 0 where
+  pub forth : (more : List Placed) (x : X) → M more x → R (part ++ more) (f x)
+  pub back : (more : List Placed) (i : V) → Next text more → R (part ++ more) i → (x : X) × M more x
 
 -- the same where the part was read
-pub record Within {X : Type 0} (old now : Place) (M : List Placed → X → Type 0) (f : X → Item) : Type 0 where
+pub record Within {V X : Type 0} (R : List Placed → V → Type 0) (old now : Place) (M : List Placed → X → Type 0) (f : X → V) : Type 0 where
   pub part : List Placed
   pub some : part ≡ [] → ⊥
   pub took : Took old now part
-  pub remains : Remains part (left now) M f
-
--- a whole item was read, with which no other goes on
-pub record Whole (old new : Place) (i : Item) : Type 0 where
-  pub part : List Placed
-  pub took : Took old new part
-  pub is_item : IsItem part i
-  pub ended : Ended part (left new)
+  pub remains : Remains R part (left now) M f
 
 -- a part of the grammar that begins a text in one way, and has rows
 pub record Solid {X : Type 0} (L : List Placed → X → Type 0) : Type 0 where
@@ -85,8 +78,8 @@ all_next : (text other : List ℕ) → ((line : List ℕ) → MayCount other lin
 all_next text other h [] n = tt
 all_next text other h (p ∷ more) n = h p.row.line n
 
-pub skip_comments : {X : Type 0} (a b c : Place) (M : List Placed → X → Type 0) (f : X → Item) → Within a b M f → Took b c [] → Within a c M f
-skip_comments a b c M f w t = record {
+pub skip_comments : {V X : Type 0} (R : List Placed → V → Type 0) (a b c : Place) (M : List Placed → X → Type 0) (f : X → V) → Within R a b M f → Took b c [] → Within R a c M f
+skip_comments R a b c M f w t = record {
   part = w.part;
   some = w.some;
   took = took_before a b c w.part w.took t;
@@ -94,16 +87,16 @@ skip_comments a b c M f w t = record {
 }
 
 -- a first part was read
-pub step_then : {X Y : Type 0} (a b c : Place) (L : List Placed → X → Type 0) (N : List Placed → Y → Type 0) (f : X × Y → Item) (x : X) → Solid L → Within a b (L ▹ N) f → Part L b c x → Within a c N (λ y. f (x, y))
-step_then {X} {Y} a b c L N f x s w p = record {
+pub step_then : {V X Y : Type 0} (R : List Placed → V → Type 0) (a b c : Place) (L : List Placed → X → Type 0) (N : List Placed → Y → Type 0) (f : X × Y → V) (x : X) → Solid L → Within R a b (L ▹ N) f → Part L b c x → Within R a c N (λ y. f (x, y))
+step_then {V} {X} {Y} R a b c L N f x s w p = record {
   part = w.part ++ p.rows;
   some = some_append w.part p.rows w.some;
   took = took_append a b c w.part p.rows w.took p.took;
   remains = record {
-    forth = λ more y h. subst (λ (r : List Placed). IsItem r (f (x, y))) (sym (append_assoc w.part p.rows more)) (w.remains.forth (p.rows ++ more) (x, y) (p.rows, more, refl, p.says, h));
+    forth = λ more y h. subst (λ (r : List Placed). R r (f (x, y))) (sym (append_assoc w.part p.rows more)) (w.remains.forth (p.rows ++ more) (x, y) (p.rows, more, refl, p.says, h));
     back = λ more i n h.
         let none : p.rows ≡ [] → ⊥ = λ e. s.some x (subst (λ (r : List Placed). L r x) e p.says) in
-        let r = w.remains.back (p.rows ++ more) i (took_next b c p.rows p.took none more) (subst (λ (t : List Placed). IsItem t i) (append_assoc w.part p.rows more) h) in
+        let r = w.remains.back (p.rows ++ more) i (took_next b c p.rows p.took none more) (subst (λ (t : List Placed). R t i) (append_assoc w.part p.rows more) h) in
         let k = r.1 in
         let cut = s.cuts p.rows more k.0 k.1 x r.0.0 p.says k.3 k.2 in
         (r.0.1, subst (λ (t : List Placed). N t r.0.1) (sym cut.1) k.4);
@@ -117,9 +110,9 @@ lacks_next b c L l (p ∷ rows) more x some h (inl f) = l.refused p rows x f h
 lacks_next b c L l (p ∷ rows) more x some h (inr f) = let t = f.2 in let u = l.counts f.0 f.1 in let d : true ≡ false = sym t ∙ u in absurd cc
 
 -- a part was read or is lacking
-pub step_optional : {X Y : Type 0} (a b c : Place) (L : List Placed → X → Type 0) (N : List Placed → Y → Type 0) (f : Option X × Y → Item) (v : Option X) → Solid L → Clash L N → Within a b (optional L ▹ N) f → OptionalPart L b c v → Within a c N (λ y. f (v, y))
-step_optional {X} {Y} a b c L N f None s d w p =
-    let u = skip_comments a b c (optional L ▹ N) f w p.took in
+pub step_optional : {V X Y : Type 0} (R : List Placed → V → Type 0) (a b c : Place) (L : List Placed → X → Type 0) (N : List Placed → Y → Type 0) (f : Option X × Y → V) (v : Option X) → Solid L → Clash L N → Within R a b (optional L ▹ N) f → OptionalPart L b c v → Within R a c N (λ y. f (v, y))
+step_optional {V} {X} {Y} R a b c L N f None s d w p =
+    let u = skip_comments R a b c (optional L ▹ N) f w p.took in
     record {
       part = u.part;
       some = u.some;
@@ -133,15 +126,15 @@ step_optional {X} {Y} a b c L N f None s d w p =
     none : (more : List Placed) → Next (left c) more → (o : Option X) (y : Y) → (optional L ▹ N) more (o, y) → (z : Y) × N more z
     none more n None y h = (y, subst (λ (t : List Placed). N t y) (sym (h.2 ∙ ap (λ (t : List Placed). t ++ h.1) h.3)) h.4)
     none more n (Some x) y h = absurd (lacks_next b c L p h.0 h.1 x s.some h.3 (subst (Next (left c)) h.2 n))
-step_optional {X} {Y} a b c L N f (Some x) s d w p = record {
+step_optional {V} {X} {Y} R a b c L N f (Some x) s d w p = record {
   part = w.part ++ p.rows;
   some = some_append w.part p.rows w.some;
   took = took_append a b c w.part p.rows w.took p.took;
   remains = record {
-    forth = λ more y h. subst (λ (r : List Placed). IsItem r (f (Some x, y))) (sym (append_assoc w.part p.rows more)) (w.remains.forth (p.rows ++ more) (Some x, y) (p.rows, more, refl, p.says, h));
+    forth = λ more y h. subst (λ (r : List Placed). R r (f (Some x, y))) (sym (append_assoc w.part p.rows more)) (w.remains.forth (p.rows ++ more) (Some x, y) (p.rows, more, refl, p.says, h));
     back = λ more i n h.
         let none : p.rows ≡ [] → ⊥ = λ e. s.some x (subst (λ (r : List Placed). L r x) e p.says) in
-        let r = w.remains.back (p.rows ++ more) i (took_next b c p.rows p.took none more) (subst (λ (t : List Placed). IsItem t i) (append_assoc w.part p.rows more) h) in
+        let r = w.remains.back (p.rows ++ more) i (took_next b c p.rows p.took none more) (subst (λ (t : List Placed). R t i) (append_assoc w.part p.rows more) h) in
         found more r.0.0 r.0.1 r.1;
   };
 }
@@ -150,8 +143,8 @@ step_optional {X} {Y} a b c L N f (Some x) s d w p = record {
     found more None y h = absurd (d p.rows more x y p.says (subst (λ (t : List Placed). N t y) (sym (h.2 ∙ ap (λ (t : List Placed). t ++ h.1) h.3)) h.4))
     found more (Some z) y h = let cut = s.cuts p.rows more h.0 h.1 x z p.says h.3 h.2 in (y, subst (λ (t : List Placed). N t y) (sym cut.1) h.4)
 
-pub step_skip : {X Y : Type 0} (a b : Place) (L : List Placed → X → Type 0) (N : List Placed → Y → Type 0) (f : Y → Item) → Within a b (L ▸ N) f → Within a b (L ▹ N) (λ v. f v.1)
-step_skip {X} {Y} a b L N f w = record {
+pub step_skip : {V X Y : Type 0} (R : List Placed → V → Type 0) (a b : Place) (L : List Placed → X → Type 0) (N : List Placed → Y → Type 0) (f : Y → V) → Within R a b (L ▸ N) f → Within R a b (L ▹ N) (λ v. f v.1)
+step_skip {V} {X} {Y} R a b L N f w = record {
   part = w.part; some = w.some; took = w.took;
   remains = record {
     forth = λ more v h. w.remains.forth more v.1 (v.0, h);
@@ -179,23 +172,23 @@ any_next b c [] more t n = all_next (left b) (left c) (skipped_next b c t) more 
 any_next b c (p ∷ rows) more t n = took_next b c (p ∷ rows) t (λ e. absurd cc) more
 
 -- some more of a part that may come any number of times
-pub step_some : {X Y : Type 0} (a b c : Place) (L : List Placed → X → Type 0) (N : List Placed → Y → Type 0) (f : List X × Y → Item) (rows : List Placed) (xs : List X) → Solid L → Clash L N → Within a b (many L ▹ N) f → Took b c rows → many L rows xs → Within a c (many L ▹ N) (λ v. f (xs ++ v.0, v.1))
-step_some {X} {Y} a b c L N f rows xs s d w t h = record {
+pub step_some : {V X Y : Type 0} (R : List Placed → V → Type 0) (a b c : Place) (L : List Placed → X → Type 0) (N : List Placed → Y → Type 0) (f : List X × Y → V) (rows : List Placed) (xs : List X) → Solid L → Clash L N → Within R a b (many L ▹ N) f → Took b c rows → many L rows xs → Within R a c (many L ▹ N) (λ v. f (xs ++ v.0, v.1))
+step_some {V} {X} {Y} R a b c L N f rows xs s d w t h = record {
   part = w.part ++ rows;
   some = some_append w.part rows w.some;
   took = took_append a b c w.part rows w.took t;
   remains = record {
-    forth = λ more v k. subst (λ (r : List Placed). IsItem r (f (xs ++ v.0, v.1))) (sym (append_assoc w.part rows more)) (w.remains.forth (rows ++ more) (xs ++ v.0, v.1) (rows ++ k.0, k.1, ap (λ (r : List Placed). rows ++ r) k.2 ∙ sym (append_assoc rows k.0 k.1), many_append L rows k.0 xs v.0 h k.3, k.4));
+    forth = λ more v k. subst (λ (r : List Placed). R r (f (xs ++ v.0, v.1))) (sym (append_assoc w.part rows more)) (w.remains.forth (rows ++ more) (xs ++ v.0, v.1) (rows ++ k.0, k.1, ap (λ (r : List Placed). rows ++ r) k.2 ∙ sym (append_assoc rows k.0 k.1), many_append L rows k.0 xs v.0 h k.3, k.4));
     back = λ more i n k.
-        let r = w.remains.back (rows ++ more) i (any_next b c rows more t n) (subst (λ (z : List Placed). IsItem z i) (append_assoc w.part rows more) k) in
+        let r = w.remains.back (rows ++ more) i (any_next b c rows more t n) (subst (λ (z : List Placed). R z i) (append_assoc w.part rows more) k) in
         let e = many_cut L N s d rows more xs r.0.0 r.0.1 h r.1 in
         ((e.0, r.0.1), e.1);
   };
 }
 
 -- no more of it comes
-pub step_stop : {X Y : Type 0} (a b : Place) (L : List Placed → X → Type 0) (N : List Placed → Y → Type 0) (f : List X × Y → Item) → Solid L → Within a b (many L ▹ N) f → Refuses L (left b) → Counts (left b) → Within a b N (λ y. f ([], y))
-step_stop {X} {Y} a b L N f s w refused counts = record {
+pub step_stop : {V X Y : Type 0} (R : List Placed → V → Type 0) (a b : Place) (L : List Placed → X → Type 0) (N : List Placed → Y → Type 0) (f : List X × Y → V) → Solid L → Within R a b (many L ▹ N) f → Refuses L (left b) → Counts (left b) → Within R a b N (λ y. f ([], y))
+step_stop {V} {X} {Y} R a b L N f s w refused counts = record {
   part = w.part; some = w.some; took = w.took;
   remains = record {
     forth = λ more y h. w.remains.forth more ([], y) ([], more, refl, refl, h);
@@ -212,25 +205,25 @@ step_stop {X} {Y} a b L N f s w refused counts = record {
     stop more n [] y h = (y, subst (λ (t : List Placed). N t y) (sym (h.2 ∙ ap (λ (t : List Placed). t ++ h.1) h.3)) h.4)
     stop more n (x ∷ xs) y h = absurd (first h.3.0 x h.3.3 (h.3.1 ++ h.1) (subst (Next (left b)) (h.2 ∙ ap (λ (t : List Placed). t ++ h.1) h.3.2 ∙ append_assoc h.3.0 h.3.1 h.1) n))
 
-same_value : {X : Type 0} (a b : Place) (M : List Placed → X → Type 0) (f g : X → Item) → ((x : X) → f x ≡ g x) → Within a b M f → Within a b M g
-same_value {X} a b M f g e w = record {
+same_value : {V X : Type 0} (R : List Placed → V → Type 0) (a b : Place) (M : List Placed → X → Type 0) (f g : X → V) → ((x : X) → f x ≡ g x) → Within R a b M f → Within R a b M g
+same_value {V} {X} R a b M f g e w = record {
   part = w.part; some = w.some; took = w.took;
-  remains = record { forth = λ more x h. subst (λ (i : Item). IsItem (w.part ++ more) i) (e x) (w.remains.forth more x h); back = w.remains.back };
+  remains = record { forth = λ more x h. subst (λ (i : V). R (w.part ++ more) i) (e x) (w.remains.forth more x h); back = w.remains.back };
 }
 
 -- as often as it came
-pub step_many : {X Y : Type 0} (a b c : Place) (L : List Placed → X → Type 0) (N : List Placed → Y → Type 0) (f : List X × Y → Item) (xs : List X) → Solid L → Clash L N → Within a b (many L ▹ N) f → ManyParts L b c xs → Within a c N (λ y. f (xs, y))
-step_many {X} {Y} a b c L N f xs s d w p =
-    let g : List X × Y → Item = λ v. f (xs ++ v.0, v.1) in
-    let more : Within a c (many L ▹ N) g = step_some a b c L N f p.rows xs s d w p.took p.says in
-    same_value a c N (λ y. f (xs ++ [], y)) (λ y. f (xs, y)) (λ y. ap (λ (zs : List X). f (zs, y)) (append_nil xs)) (step_stop a c L N g s more p.refused p.counts)
+pub step_many : {V X Y : Type 0} (R : List Placed → V → Type 0) (a b c : Place) (L : List Placed → X → Type 0) (N : List Placed → Y → Type 0) (f : List X × Y → V) (xs : List X) → Solid L → Clash L N → Within R a b (many L ▹ N) f → ManyParts L b c xs → Within R a c N (λ y. f (xs, y))
+step_many {V} {X} {Y} R a b c L N f xs s d w p =
+    let g : List X × Y → V = λ v. f (xs ++ v.0, v.1) in
+    let more : Within R a c (many L ▹ N) g = step_some R a b c L N f p.rows xs s d w p.took p.says in
+    same_value R a c N (λ y. f (xs ++ [], y)) (λ y. f (xs, y)) (λ y. ap (λ (zs : List X). f (zs, y)) (append_nil xs)) (step_stop R a c L N g s more p.refused p.counts)
 
 -- no more rows
 abbrev pub no_more : List Placed → Unit {0} → Type 0
 no_more rows x = rows ≡ []
 
-pub closing : {X : Type 0} (a b : Place) (M : List Placed → X → Type 0) (f : X → Item) → Within a b M f → Within a b (M ▹ no_more) (λ v. f v.0)
-closing {X} a b M f w = record {
+pub closing : {V X : Type 0} (R : List Placed → V → Type 0) (a b : Place) (M : List Placed → X → Type 0) (f : X → V) → Within R a b M f → Within R a b (M ▹ no_more) (λ v. f v.0)
+closing {V} {X} R a b M f w = record {
   part = w.part; some = w.some; took = w.took;
   remains = record {
     forth = λ more v h. w.remains.forth more v.0 (subst (λ (r : List Placed). M r v.0) (sym (h.2 ∙ ap (λ (r : List Placed). h.0 ++ r) h.4 ∙ append_nil h.0)) h.3);
@@ -238,8 +231,15 @@ closing {X} a b M f w = record {
   };
 }
 
+-- a whole item was read, with which no other goes on
+pub record Whole (old new : Place) (i : Item) : Type 0 where
+  pub part : List Placed
+  pub took : Took old new part
+  pub is_item : IsItem part i
+  pub ended : Ended part (left new)
+
 -- The item is whole where no more rows remain.
-pub whole : (a b : Place) (f : Unit {0} → Item) → Within a b no_more f → Whole a b (f tt)
+pub whole : (a b : Place) (f : Unit {0} → Item) → Within IsItem a b no_more f → Whole a b (f tt)
 whole a b f w = record {
   part = w.part;
   took = w.took;
@@ -260,17 +260,17 @@ pub record Wants {X : Type 0} (M : List Placed → X → Type 0) : Type 0 where
   pub none : (x : X) → M [] x → ⊥
   pub complete : (n : ℕ) → Completes M n
 
-pub unfinished : {X : Type 0} (a b : Place) (M : List Placed → X → Type 0) (f : X → Item) (w : Within a b M f) → Wants M → Unfinished w.part
+pub unfinished : {X : Type 0} (a b : Place) (M : List Placed → X → Type 0) (f : X → Item) (w : Within IsItem a b M f) → Wants M → Unfinished w.part
 unfinished a b M f w o = record {
   complete = λ n. let c = o.complete n in record { more = c.rows; item = f c.x; is_item = w.remains.forth (placed n c.rows) c.x c.says; good = c.good; no_feed = c.no_feed };
   none = λ i h. let r = w.remains.back [] i tt (subst (λ (z : List Placed). IsItem z i) (sym (append_nil w.part)) h) in o.none r.0 r.1;
 }
 
 -- a line that the part does not begin with
-pub break_line : {X Z : Type 0} (a b : Place) (p : Bool) (M : List Placed → X → Type 0) (L : List Placed → Z → Type 0) (f : X → Item) (at : ℕ) (out : Bool) → Within a b M f → Wants M → ((text : List ℕ) → Refuses L text → Refuses M text) → LineRefused L b at out → IsLineFault a.at p (left a) [] at out
+pub break_line : {X Z : Type 0} (a b : Place) (p : Bool) (M : List Placed → X → Type 0) (L : List Placed → Z → Type 0) (f : X → Item) (at : ℕ) (out : Bool) → Within IsItem a b M f → Wants M → ((text : List ℕ) → Refuses L text → Refuses M text) → LineRefused L b at out → IsLineFault a.at p (left a) [] at out
 break_line a b p M L f at out w o refuses r =
     let c = r.before in
-    let u = skip_comments a b c M f w r.took in
+    let u = skip_comments IsItem a b c M f w r.took in
     let first = r.first in
     let dead : Dead u.part r.line = λ q more j e h.
         let line : FirstLine (left c) q.row.line = subst (FirstLine (left c)) (sym e) first in
@@ -280,10 +280,10 @@ break_line a b p M L f at out w o refuses r =
     (line_fault a c p u.part r.line first.rest out u.took first.spelled first.one_line r.counts r.is_out (unfinished a c M f u o) (λ e. absurd (u.some e)) dead)
 
 -- no line
-pub break_end : {X : Type 0} (a b : Place) (p : Bool) (M : List Placed → X → Type 0) (f : X → Item) (at : ℕ) → Within a b M f → Wants M → LineLacks b at → IsEndFault a.at p (left a) [] at
+pub break_end : {X : Type 0} (a b : Place) (p : Bool) (M : List Placed → X → Type 0) (f : X → Item) (at : ℕ) → Within IsItem a b M f → Wants M → LineLacks b at → IsEndFault a.at p (left a) [] at
 break_end a b p M f at w o r =
     let c = r.before in
-    let u = skip_comments a b c M f w r.took in
+    let u = skip_comments IsItem a b c M f w r.took in
     subst (IsEndFault a.at p (left a) []) (sym r.here) (end_fault a c p u.part u.took (unfinished a c M f u o) (no_row (left c) r.no_feed) (inl r.no_feed) (λ e. absurd (u.some e)))
 
 data_counts : (row : Row) (bytes next : List ℕ) → IsData row bytes next → is_comment row.line ≡ false
@@ -291,10 +291,10 @@ data_counts row bytes next (inl d) = ap is_comment d.line
 data_counts row bytes next (inr d) = ap is_comment d.line
 
 -- data that are cut off
-pub break_data : {X : Type 0} (a b : Place) (p : Bool) (M : List Placed → X → Type 0) (f : X → Item) (at : ℕ) → Within a b M f → Wants M → ((q : Placed) (bytes next : List ℕ) → IsData q.row bytes next → (x : X) × M (q ∷ []) x) → DataLacks b at → IsEndFault a.at p (left a) [] at
+pub break_data : {X : Type 0} (a b : Place) (p : Bool) (M : List Placed → X → Type 0) (f : X → Item) (at : ℕ) → Within IsItem a b M f → Wants M → ((q : Placed) (bytes next : List ℕ) → IsData q.row bytes next → (x : X) × M (q ∷ []) x) → DataLacks b at → IsEndFault a.at p (left a) [] at
 break_data a b p M f at w o ends r =
     let c = r.before in
-    let u = skip_comments a b c M f w r.took in
+    let u = skip_comments IsItem a b c M f w r.took in
     let row : Row = record { line = r.line; raw = r.next ++ r.more } in
     let q : Placed = record { at = c.at; row = row } in
     let m = ends q r.bytes (codes "done\n") r.filled in
