@@ -112,7 +112,7 @@ lines_lack a c word at o l s e =
       here = omega (arith, e, here, length-append a.held a.rest);
     }
 
-opens_lines : (a : Place) (word bytes rest : List ℕ) → OpensDelimited a word → IsLine a.held → AreLines word bytes → a.rest ≡ bytes ++ rest → OpensLines a bytes rest
+opens_lines : (a : Place) (word bytes rest : List ℕ) → OpensDelimited a word → IsLine a.held → AreLines word bytes → a.rest ≡ bytes ++ rest → OpensLines (left a) bytes rest
 opens_lines a word bytes rest o l lines e = record { word = word; first = record { rest = a.rest; spelled = held_text a (line_of word) o.line; one_line = front_of a.held (line_of word) o.line l }; lines = lines; cut = e }
 
 pub delimited_fails : (a c : Place) (word : List ℕ) (fault : DataFault) (at : ℕ) → OpensDelimited a word → IsLine a.held → LinesFail (taken a) c word body_limit fault → at ≡ c.at → DataFails a (lines_fail fault at)

@@ -24,3 +24,4 @@ pub mod LongRefs
 pub mod DelimitedData
 pub mod Begun
 pub mod Blobs
+pub mod Tags

@@ -8,7 +8,7 @@ use Rattle.swh_fastread.specs.declared.fault.StreamWhy.TheVariants.{Grammar, End
 use Rattle.swh_fastread.specs.Fault.{BeginsStream, BeginsRows, Reaches, IsLineFault, IsEndFault, IsFault}
 use Rattle.swh_fastread.specs.Grammar.{many, Item, IsItem, is_promise, commands_of, Ends, IsWhole, IsStream}
 use Rattle.swh_fastread.specs.Grammar.Item.{Says, Promise, Nothing}
-use Rattle.swh_fastread.specs.Places.{Place, left, Took, FirstLine, Position, LeadsTo, position}
+use Rattle.swh_fastread.specs.Places.{Place, left, Took, FirstLine, MayCount, Position, LeadsTo, position}
 use Rattle.swh_fastread.specs.Row.{Row, row_text, text_of, AreRows, Placed, placed, is_comment}
 use Rattle.swh_fastread.proofs.Faults.{append_nil, text_of-append, row_cut, row_line}
 use Rattle.swh_fastread.proofs.Kept.{kept, AllKept, row_kept, item_keeps}
@@ -28,10 +28,6 @@ stops_inside at rows qs r m x ending b e g a k (inr n) =
     let t : kept r.line ≡ true = row_kept at qs r m (subst (λ (z : List Row). AllKept (placed at z)) e k) (ap is_comment same) in
     let u : true ≡ false = sym t ∙ ap kept same in
     absurd cc
-
--- The first line of the text that counts may be this one: it is the first, or the first does not count.
-abbrev pub MayCount : List ℕ → List ℕ → Type 0
-MayCount text line = FirstLine text line ⊎ ((first : List ℕ) × FirstLine text first × (is_comment first ≡ true))
 
 pub rows_first : (n : ℕ) (rs : List Row) (ending : List ℕ) → AreRows rs ending → (q : Placed) (m : List Placed) → placed n rs ≡ q ∷ m → MayCount (text_of rs ++ ending) q.row.line
 rows_first n [] ending a q m e = absurd cc

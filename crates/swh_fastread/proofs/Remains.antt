@@ -3,12 +3,12 @@
 use Rattle.std.proofs.Common.{◌≡◌, ℕ, ◌+◌, ◌⊎◌, inl, inr, Bool, true, false, if◌then◌else◌, List, [], ◌∷◌, ◌++◌, length, Contains, refl, sym, ap, ◌∙◌, subst, arith, append_assoc, codes, Option, Some, None}
 use Rattle.swh_fastread.specs.Fault.{is_left_out, IsLineFault, IsEndFault}
 use Rattle.swh_fastread.specs.Grammar.{◌▹◌, ◌▸◌, optional, many, Item, IsItem}
-use Rattle.swh_fastread.specs.Places.{Place, left, Took, FirstLine, Refuses, Counts, Part, Lacks, OptionalPart, ManyParts, LineRefused, LineLacks, DataLacks}
+use Rattle.swh_fastread.specs.Places.{Place, left, Took, FirstLine, Refuses, Counts, Part, Lacks, OptionalPart, ManyParts, LineRefused, LineLacks, DataLacks, MayCount}
 use Rattle.swh_fastread.specs.Row.{Row, row_text, text_of, begins_with, IsData, IsRow, AreRows, Placed, placed, is_comment}
 use Rattle.swh_fastread.proofs.Faults.{append_nil, row_cut}
 use Rattle.swh_fastread.proofs.Parts.{Single, Begins, begins, cons_cut, single_cut}
 use Rattle.swh_fastread.proofs.Joins.{took_append, took_before, took_after}
-use Rattle.swh_fastread.proofs.Onward.{MayCount, rows_first, Ended}
+use Rattle.swh_fastread.proofs.Onward.{rows_first, Ended}
 use Rattle.swh_fastread.proofs.Broken.{Completion, Unfinished, Dead, line_fault, end_fault, no_row, filled_stream}
 
 -- The rows begin with the line that is next, if there are any.
@@ -51,12 +51,12 @@ word_clash word L N s l n rows more x y h k =
     let d : true ≡ false = sym u ∙ v in
     absurd cc
 
-some_append : (a b : List Placed) → (a ≡ [] → ⊥) → a ++ b ≡ [] → ⊥
+pub some_append : (a b : List Placed) → (a ≡ [] → ⊥) → a ++ b ≡ [] → ⊥
 some_append [] b n e = n refl
 some_append (p ∷ a) b n e = cc
 
 -- what was read is what was next
-took_next : (a b : Place) (rows : List Placed) → Took a b rows → (rows ≡ [] → ⊥) → (more : List Placed) → Next (left a) (rows ++ more)
+pub took_next : (a b : Place) (rows : List Placed) → Took a b rows → (rows ≡ [] → ⊥) → (more : List Placed) → Next (left a) (rows ++ more)
 took_next a b [] t n more = absurd (n refl)
 took_next a b (p ∷ rows) t n more = subst (λ (x : List ℕ). MayCount x p.row.line) (sym t.spelled) (rows_first a.at t.rows (left b) t.good p rows t.those)
 
@@ -104,7 +104,7 @@ step_then {V} {X} {Y} R a b c L N f x s w p = record {
 }
 
 -- what was lacking is not next
-lacks_next : {X : Type 0} (b c : Place) (L : List Placed → X → Type 0) (l : Lacks L b c) (rows more : List Placed) (x : X) → ((y : X) → L [] y → ⊥) → L rows x → Next (left c) (rows ++ more) → ⊥
+pub lacks_next : {X : Type 0} (b c : Place) (L : List Placed → X → Type 0) (l : Lacks L b c) (rows more : List Placed) (x : X) → ((y : X) → L [] y → ⊥) → L rows x → Next (left c) (rows ++ more) → ⊥
 lacks_next b c L l [] more x some h n = some x h
 lacks_next b c L l (p ∷ rows) more x some h (inl f) = l.refused p rows x f h
 lacks_next b c L l (p ∷ rows) more x some h (inr f) = let t = f.2 in let u = l.counts f.0 f.1 in let d : true ≡ false = sym t ∙ u in absurd cc
@@ -153,7 +153,7 @@ step_skip {V} {X} {Y} R a b L N f w = record {
 }
 
 -- a part that was read as often as it came is the front of what a longer list of them says
-many_cut : {X Y : Type 0} (L : List Placed → X → Type 0) (N : List Placed → Y → Type 0) → Solid L → Clash L N → (rows more : List Placed) (xs zs : List X) (y : Y) → many L rows xs → (many L ▹ N) (rows ++ more) (zs, y) → (ys : List X) × (many L ▹ N) more (ys, y)
+pub many_cut : {X Y : Type 0} (L : List Placed → X → Type 0) (N : List Placed → Y → Type 0) → Solid L → Clash L N → (rows more : List Placed) (xs zs : List X) (y : Y) → many L rows xs → (many L ▹ N) (rows ++ more) (zs, y) → (ys : List X) × (many L ▹ N) more (ys, y)
 many_cut L N s d rows more [] zs y h k = (zs, (k.0, k.1, ap (λ (t : List Placed). t ++ more) (sym h) ∙ k.2, k.3, k.4))
 many_cut L N s d rows more (x ∷ xs) [] y h k =
     let whole : rows ++ more ≡ h.0 ++ (h.1 ++ more) = ap (λ (t : List Placed). t ++ more) h.2 ∙ append_assoc h.0 h.1 more in
@@ -163,11 +163,11 @@ many_cut L N s d rows more (x ∷ xs) (z ∷ zs) y h k =
     let cut = s.cuts h.0 (h.1 ++ more) k.3.0 (k.3.1 ++ k.1) x z h.3 k.3.3 whole in
     many_cut L N s d h.1 more xs zs y h.4 (k.3.1, k.1, cut.1, k.3.4, k.4)
 
-many_append : {X : Type 0} (L : List Placed → X → Type 0) (a b : List Placed) (xs ys : List X) → many L a xs → many L b ys → many L (a ++ b) (xs ++ ys)
+pub many_append : {X : Type 0} (L : List Placed → X → Type 0) (a b : List Placed) (xs ys : List X) → many L a xs → many L b ys → many L (a ++ b) (xs ++ ys)
 many_append {X} L a b [] ys h k = subst (λ (r : List Placed). many L r ys) (ap (λ (r : List Placed). r ++ b) (sym h)) k
 many_append L a b (x ∷ xs) ys h k = (h.0, h.1 ++ b, ap (λ (r : List Placed). r ++ b) h.2 ∙ append_assoc h.0 h.1 b, h.3, many_append L h.1 b xs ys h.4 k)
 
-any_next : (b c : Place) (rows more : List Placed) → Took b c rows → Next (left c) more → Next (left b) (rows ++ more)
+pub any_next : (b c : Place) (rows more : List Placed) → Took b c rows → Next (left c) more → Next (left b) (rows ++ more)
 any_next b c [] more t n = all_next (left b) (left c) (skipped_next b c t) more n
 any_next b c (p ∷ rows) more t n = took_next b c (p ∷ rows) t (λ e. absurd cc) more
 
@@ -286,7 +286,7 @@ break_end a b p M f at w o r =
     let u = skip_comments IsItem a b c M f w r.took in
     subst (IsEndFault a.at p (left a) []) (sym r.here) (end_fault a c p u.part u.took (unfinished a c M f u o) (no_row (left c) r.no_feed) (inl r.no_feed) (λ e. absurd (u.some e)))
 
-data_counts : (row : Row) (bytes next : List ℕ) → IsData row bytes next → is_comment row.line ≡ false
+pub data_counts : (row : Row) (bytes next : List ℕ) → IsData row bytes next → is_comment row.line ≡ false
 data_counts row bytes next (inl d) = ap is_comment d.line
 data_counts row bytes next (inr d) = ap is_comment d.line
 

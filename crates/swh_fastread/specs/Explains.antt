@@ -10,13 +10,16 @@ use Rattle.swh_fastlex.specs.declared.fault.DataFault.{DataFault}
 use Rattle.swh_fastlex.specs.declared.fault.DataFault.TheVariants as Data
 use Rattle.swh_fastlex.specs.declared.fault.LineFault.{LineFault}
 use Rattle.swh_fastlex.specs.declared.fault.LineFault.TheVariants.{Failed, End as Ends, Limit as Limits, Memory as NoRoom}
+use Rattle.swh_fastread.specs.declared.command.Command.{Command}
 use Rattle.swh_fastread.specs.declared.fail.ReadFail.{ReadFail}
 use Rattle.swh_fastread.specs.declared.fail.ReadFail.TheVariants.{BadStream, ReadFault, Limit, Memory}
+use Rattle.swh_fastread.specs.declared.fault.StreamWhy.{StreamWhy}
 use Rattle.swh_fastread.specs.declared.fault.StreamWhy.TheVariants.{Grammar, End, LeftOut, Mark, Branch, Place as Spot}
 use Rattle.swh_fastread.specs.declared.row_source.TheConstants.{STREAM_LIMIT}
 use Rattle.swh_fastread.specs.Fault.{is_left_out, IsFault}
-use Rattle.swh_fastread.specs.Grammar.{contents}
-use Rattle.swh_fastread.specs.Places.{Place, left, Took, FirstLine, LineRefused, LineLacks, DataLacks, Position}
+use Rattle.swh_fastread.specs.Grammar.{contents, IsStream}
+use Rattle.swh_fastread.specs.Limit.{PassesRefs, PassesPaths}
+use Rattle.swh_fastread.specs.Places.{Place, left, Took, FirstLine, LineRefused, LineLacks, DataLacks, Position, position, MayCount}
 use Rattle.swh_fastread.specs.Row.{Row, row_text, IsData, Placed, is_comment}
 
 -- the bytes that are read at once: a line, the beginning of one, or a row of data
@@ -24,12 +27,12 @@ abbrev pub IsStretch : List ℕ → Type 0
 IsStretch front = IsLine front ⊎ ((Contains front 10 → ⊥) ⊎ ((row : Row) × (bytes : List ℕ) × (next : List ℕ) × (front ≡ row_text row) × IsData row bytes next))
 
 -- The bytes that come next end after the last that a stream may have.
-pub record PassesStream (place : Place) (number : ℕ) : Type 0 where
+pub record PassesStream (at : ℕ) (text : List ℕ) (number : ℕ) : Type 0 where
   pub front : List ℕ
   pub rest : List ℕ
-  pub cut : left place ≡ front ++ rest
+  pub cut : text ≡ front ++ rest
   pub stretch : IsStretch front
-  pub over : STREAM_LIMIT < place.at + length front
+  pub over : STREAM_LIMIT < at + length front
   pub count : number ≡ STREAM_LIMIT + 1
 
 -- The bytes begin with as many as a line may have, and no LF is among them.
@@ -41,41 +44,45 @@ pub record IsLong (text : List ℕ) : Type 0 where
   pub long : length front ≡ line_limit
 
 -- The next line opens data up to a word, which begin with these lines.
-pub record OpensLines (place : Place) (bytes rest : List ℕ) : Type 0 where
+pub record OpensLines (text bytes rest : List ℕ) : Type 0 where
   pub word : List ℕ
-  pub first : FirstLine (left place) (codes "data <<" ++ word)
+  pub first : FirstLine text (codes "data <<" ++ word)
   pub lines : AreLines word bytes
   pub cut : first.rest ≡ bytes ++ rest
 
 -- The next line is too long, or it opens data in which a line is.
-abbrev pub PassesLine : Place → ℕ → Type 0
-PassesLine place number = (number ≡ line_limit + 1) × (IsLong (left place) ⊎ ((bytes : List ℕ) × (rest : List ℕ) × OpensLines place bytes rest × IsLong rest))
+abbrev pub PassesLine : List ℕ → ℕ → Type 0
+PassesLine text number = (number ≡ line_limit + 1) × (IsLong text ⊎ ((bytes : List ℕ) × (rest : List ℕ) × OpensLines text bytes rest × IsLong rest))
 
 -- The next line opens more data than a body may have, by their number or by their lines.
-abbrev pub PassesBody : Place → ℕ → Type 0
-PassesBody place number =
-    (body_limit < number) × (((text : List ℕ) × FirstLine (left place) (codes "data " ++ text) × IsNumber text number)
-    ⊎ ((bytes : List ℕ) × (rest : List ℕ) × OpensLines place bytes rest × (body_limit < length bytes) × (number ≡ body_limit + 1)))
+abbrev pub PassesBody : List ℕ → ℕ → Type 0
+PassesBody text number =
+    (body_limit < number) × (((digits : List ℕ) × FirstLine text (codes "data " ++ digits) × IsNumber digits number)
+    ⊎ ((bytes : List ℕ) × (rest : List ℕ) × OpensLines text bytes rest × (body_limit < length bytes) × (number ≡ body_limit + 1)))
 
--- A limit is passed here.
-abbrev pub Passes : Place → Which → ℕ → Type 0
-Passes place Body number = PassesBody place number
-Passes place Objects number = ⊥
-Passes place Bytes number = ⊥
-Passes place Store number = ⊥
-Passes place Ledger number = ⊥
-Passes place Stream number = PassesStream place number
-Passes place Line number = PassesLine place number
-Passes place Path number = ⊥
-Passes place Ref number = ⊥
-Passes place Refs number = ⊥
+-- The first line of the text passes a limit of the words in it.
+abbrev pub PassesWord : (List ℕ → ℕ → Type 0) → List ℕ → ℕ → Type 0
+PassesWord Over text number = (line : List ℕ) × FirstLine text line × (is_comment line ≡ false) × Over line number
+
+-- A limit is passed by what comes first in the text, which begins at this place of the stream.
+abbrev pub Passes : ℕ → List ℕ → Which → ℕ → Type 0
+Passes at text Body number = PassesBody text number
+Passes at text Objects number = ⊥
+Passes at text Bytes number = ⊥
+Passes at text Store number = ⊥
+Passes at text Ledger number = ⊥
+Passes at text Stream number = PassesStream at text number
+Passes at text Line number = PassesLine text number
+Passes at text Path number = PassesWord PassesPaths text number
+Passes at text Ref number = PassesWord PassesRefs text number
+Passes at text Refs number = ⊥
 
 -- A limit is passed after some rows.
 pub record PassesAfter (old : Place) (which : Which) (number : ℕ) : Type 0 where
   pub before : Place
   pub rows : List Placed
   pub took : Took old before rows
-  pub passes : Passes before which number
+  pub passes : Passes before.at (left before) which number
 
 -- why the part does not come next
 abbrev pub PartFails : {X : Type 0} → (List Placed → X → Type 0) → Place → ReadFail → Type 0
@@ -160,3 +167,21 @@ Refusal old Memory = Unit {0}
 
 abbrev pub line_refusal : List ℕ → ℕ → ReadFail
 line_refusal line at = if is_left_out line then BadStream at LeftOut else BadStream at Grammar
+
+-- No limit is passed by what comes first.
+abbrev pub IsClear : Position → Type 0
+IsClear p = (which : Which) (number : ℕ) → Passes p.at p.left which number → ⊥
+
+-- From the old position on the stream is this command and what it is from the new one on, with the same faults where no
+-- limit is passed first.
+pub record Gives (old new : Position) (command : Command) : Type 0 where
+  pub total : old.at + length old.left ≡ new.at + length new.left
+  pub streams : (cs : List Command) → IsStream new.at new.promised new.left cs → IsStream old.at old.promised old.left (command ∷ cs)
+  pub faults : IsClear new → (cs : List Command) (place : ℕ) (why : StreamWhy) → IsFault new.at new.promised new.left cs place why → IsFault old.at old.promised old.left (command ∷ cs) place why
+
+-- The part was read as far as it goes; or as far as no limit is passed.
+pub record Reads {X : Type 0} (L : List Placed → X → Type 0) (old new : Place) (x : X) : Type 0 where
+  pub rows : List Placed
+  pub took : Took old new rows
+  pub says : L rows x
+  pub closed : IsClear (position new false) → (p : Placed) (more : List Placed) (y : X) → MayCount (left new) p.row.line → L (rows ++ p ∷ more) y → ⊥

@@ -130,3 +130,7 @@ NeverLine {X} word Says line = (text : List ℕ) (x : X) → line ≡ word ++ te
 abbrev pub opens_none : List ℕ → Bool
 opens_none [] = false
 opens_none (c ∷ word) = not (c == 100)
+
+-- The first line of the text that counts may be this one: it is the first, or the first does not count.
+abbrev pub MayCount : List ℕ → List ℕ → Type 0
+MayCount text line = FirstLine text line ⊎ ((first : List ℕ) × FirstLine text first × (is_comment first ≡ true))

@@ -21,6 +21,7 @@ mod optional;
 mod part_lines;
 mod peek;
 mod row_source;
+mod tag;
 mod worked;
 
 pub use change_lines::{ChangeLine, change_line};

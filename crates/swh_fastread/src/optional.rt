@@ -80,3 +80,60 @@ pub fn optional_person<S: Source>(
     rows.take();
     Ok(Some(person))
 }
+
+/// The encoding, where a line `encoding` comes next.
+pub fn optional_encoding<S: Source>(rows: &mut Rows<S>) -> Result<Option<Bytes>, ReadFail>
+    ensures part { S.tells → IfOk result (OptionalPart (line (codes "encoding ") NamesEncoding) rows.old rows.new) }
+    ensures fails { S.tells → IfErr result (Stops rows.old) }
+    ensures onward { rows.old.at ≤ rows.new.at }
+
+    ensures same_path { rows.new.path ≡ rows.old.path }
+    ensures later { rows.old.faults ≤ rows.new.faults }
+    ensures cause { IsErrOf result SourceFailed → Rose rows.old.faults rows.new.faults }
+{
+    if !peek(rows)? {
+        return Ok(None);
+    }
+    let Some(text) = encoding_line(rows.line()) else {
+        return Ok(None);
+    };
+    let encoding = Bytes::from_slice(rows.alloc(), text)?;
+    rows.take();
+    Ok(Some(encoding))
+}
+
+/// The person of the line of this word that comes next.
+pub fn person<S: Source>(rows: &mut Rows<S>, word: &[u8]) -> Result<Bytes, ReadFail>
+    requires closed { opens_none word.now ≡ true }
+    ensures part { S.tells → IfOk result (Part (line word.now NamesPerson) rows.old rows.new) }
+    ensures fails { S.tells → IfErr result (PartFails (line word.now NamesPerson) rows.old) }
+
+    ensures same_path { rows.new.path ≡ rows.old.path }
+    ensures later { rows.old.faults ≤ rows.new.faults }
+    ensures cause { IsErrOf result SourceFailed → Rose rows.old.faults rows.new.faults }
+{
+    match optional_person(rows, word)? {
+        Some(person) => Ok(person),
+        None => Err(refusal(rows)),
+    }
+}
+
+/// The commit that the line `from` that comes next names.
+pub fn named_commit<S: Source>(rows: &mut Rows<S>) -> Result<At<Commitish>, ReadFail>
+    ensures part { S.tells → IfOk result (Part from rows.old rows.new) }
+    ensures fails { S.tells → IfErr result (PartFails from rows.old) }
+
+    ensures same_path { rows.new.path ≡ rows.old.path }
+    ensures later { rows.old.faults ≤ rows.new.faults }
+    ensures cause { IsErrOf result SourceFailed → Rose rows.old.faults rows.new.faults }
+{
+    if !peek(rows)? {
+        return Err(refusal(rows));
+    }
+    let Some(commit) = commit_line(rows.alloc(), b"from ", rows.line())? else {
+        return Err(refusal(rows));
+    };
+    let at = rows.at();
+    rows.take();
+    Ok(At { at, it: commit })
+}
