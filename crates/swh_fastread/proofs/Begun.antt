@@ -25,13 +25,13 @@ use Rattle.swh_fastread.proofs.Rows.{same_tail}
 use Rattle.swh_fastread.proofs.Streams.{shape, tag_of, tag_of_line}
 
 -- what a first line begins
-kind : (q : Placed) (more : List Placed) (i : Item) (line : List ℕ) → q.row.line ≡ line → IsItem (q ∷ more) i → tag_of_line line ≡ tag_of i
+pub kind : (q : Placed) (more : List Placed) (i : Item) (line : List ℕ) → q.row.line ≡ line → IsItem (q ∷ more) i → tag_of_line line ≡ tag_of i
 kind q more i line e h =
     let s = shape (q ∷ more) i h in
     ap tag_of_line (sym e) ∙ ap (λ (x : Placed). tag_of_line x.row.line) (cons_cut q s.first more s.others s.rows_are).0 ∙ s.kind
 
 -- what follows a first part of one row
-after_single : {X Y : Type 0} (L : List Placed → X → Type 0) (N : List Placed → Y → Type 0) → Single L → (q : Placed) (more : List Placed) (v : X × Y) → (L ▹ N) (q ∷ more) v → N more v.1
+pub after_single : {X Y : Type 0} (L : List Placed → X → Type 0) (N : List Placed → Y → Type 0) → Single L → (q : Placed) (more : List Placed) (v : X × Y) → (L ▹ N) (q ∷ more) v → N more v.1
 after_single {X} {Y} L N s q more v h =
     let p = s h.0 v.0 h.3 in
     subst (λ (r : List Placed). N r v.1) (sym (cons_cut q p.0 more h.1 (h.2 ∙ ap (λ (r : List Placed). r ++ h.1) p.1)).1) h.4

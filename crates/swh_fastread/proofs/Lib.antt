@@ -25,3 +25,4 @@ pub mod DelimitedData
 pub mod Begun
 pub mod Blobs
 pub mod Tags
+pub mod Resets

@@ -1,17 +1,18 @@
 -- A line that comes next, as a part of a command or none.
 use Rattle.std.proofs.Common.{◌≡◌, ℕ, ◌+◌, ◌<◌, ◌==◌, inl, inr, Bool, true, false, not, if◌then◌else◌, List, [], ◌∷◌, ◌++◌, length, Contains, refl, sym, ap, ◌∙◌, subst, arith, codes, Option, Some, None, Result, Ok, Err, IfOk, IfErr}
 use Rattle.swh_base.proofs.Splits.{not_nil}
+use Rattle.swh_base.specs.Limits.{line_limit}
 use Rattle.swh_fastread.specs.declared.command.At.{At}
 use Rattle.swh_fastread.specs.declared.fail.ReadFail.{ReadFail}
 use Rattle.swh_fastread.specs.declared.fail.ReadFail.TheVariants.{BadStream, ReadFault, Limit, Memory}
 use Rattle.swh_fastread.specs.declared.fault.StreamWhy.TheVariants.{Grammar, End, LeftOut, Mark, Branch, Place as Spot}
-use Rattle.swh_fastread.specs.Explains.{PassesAfter, PartFails, DataFails, Stops, LineAt, Refusal, line_refusal}
-use Rattle.swh_base.specs.declared.visit.Which.TheVariants.{Stream}
+use Rattle.swh_fastread.specs.Explains.{PassesAfter, PartFails, DataFails, Stops, Refusal, line_refusal, Passes, IsClear, EndsWhole}
+use Rattle.swh_base.specs.declared.visit.Which.TheVariants.{Line, Stream}
 use Rattle.swh_fastread.specs.declared.row_source.TheConstants.{STREAM_LIMIT}
 use Rattle.swh_fastread.specs.Fault.{is_left_out}
 use Rattle.swh_fastread.specs.Grammar.{line_at, line, placed_line, contents}
 use Rattle.swh_fastread.specs.Held.{IsHeld, HeldCounts, IsNext, EndsNext}
-use Rattle.swh_fastread.specs.Places.{Place, left, Took, FirstLine, Refuses, Counts, Part, Lacks, LineRefused, NeverLine, opens_none}
+use Rattle.swh_fastread.specs.Places.{Place, left, Took, FirstLine, Refuses, Counts, Part, Lacks, NeverLine, opens_none, position}
 use Rattle.swh_fastread.specs.Row.{Row, row_text, IsData, Opens, AreRows, Placed, placed, is_comment, text_of}
 use Rattle.swh_fastread.proofs.Faults.{append_nil, row_cut}
 use Rattle.swh_fastread.proofs.Parts.{cons_cut}
@@ -31,21 +32,21 @@ no_first text line n f = n (subst (λ (t : List ℕ). Contains t 10) (sym f.spel
 pub lacks_end : {X : Type 0} (L : List Placed → X → Type 0) (a b : Place) → Took a b [] → EndsNext b → Lacks L a b
 lacks_end L a b t e = record { took = t; refused = λ p more x f h. no_first (left b) p.row.line (end_feeds b e) f; counts = λ line f. absurd (no_first (left b) line (end_feeds b e) f) }
 
-next_line : (b : Place) (line : List ℕ) → IsNext b → b.held ≡ line ++ 10 ∷ [] → (other : List ℕ) → FirstLine (left b) other → line ≡ other
-next_line b line n e other f = one_first (left b) line other (held_first b line e n.line) f
+pub same_next : (b : Place) (line : List ℕ) → IsNext b → b.held ≡ line ++ 10 ∷ [] → (other : List ℕ) → FirstLine (left b) other → line ≡ other
+same_next b line n e other f = one_first (left b) line other (held_first b line e n.line) f
 
 -- a line of another word comes next, or one that says nothing
 pub lacks_line : {X : Type 0} (word : List ℕ) (Tells : List ℕ → X → Type 0) (a b : Place) (text : List ℕ) → Took a b [] → IsNext b → b.held ≡ text ++ 10 ∷ [] → NeverLine word Tells text → Lacks (line word Tells) a b
 lacks_line word Tells a b text t n e never = record {
   took = t;
-  refused = λ p more x f h. never h.1 x (next_line b text n e p.row.line f ∙ ap (λ (q : Placed). q.row.line) (cons_cut p (line_at h.0 (word ++ h.1)) more [] h.2).0) h.3;
+  refused = λ p more x f h. never h.1 x (same_next b text n e p.row.line f ∙ ap (λ (q : Placed). q.row.line) (cons_cut p (line_at h.0 (word ++ h.1)) more [] h.2).0) h.3;
   counts = held_counts b text e n.line n.counts;
 }
 
 pub lacks_placed : {X : Type 0} (word : List ℕ) (Tells : List ℕ → X → Type 0) (a b : Place) (text : List ℕ) → Took a b [] → IsNext b → b.held ≡ text ++ 10 ∷ [] → NeverLine word Tells text → Lacks (placed_line word Tells) a b
 lacks_placed word Tells a b text t n e never = record {
   took = t;
-  refused = λ p more x f h. never h.0 x.it (next_line b text n e p.row.line f ∙ ap (λ (q : Placed). q.row.line) (cons_cut p (line_at x.at (word ++ h.0)) more [] h.1).0) h.2;
+  refused = λ p more x f h. never h.0 x.it (same_next b text n e p.row.line f ∙ ap (λ (q : Placed). q.row.line) (cons_cut p (line_at x.at (word ++ h.0)) more [] h.1).0) h.2;
   counts = held_counts b text e n.line n.counts;
 }
 
@@ -159,7 +160,7 @@ lacks_contents a b text t n e closed = record {
   refused = λ p more bytes f h.
       let same : p.row.line ≡ h.0.row.line = ap (λ (q : Placed). q.row.line) (cons_cut p h.0 more [] h.2).0 in
       let row : Row = h.0.row in
-      closed (subst Opens (sym (next_line b text n e p.row.line f ∙ same)) (row.raw, bytes, h.1, h.3));
+      closed (subst Opens (sym (same_next b text n e p.row.line f ∙ same)) (row.raw, bytes, h.1, h.3));
   counts = held_counts b text e n.line n.counts;
 }
 
@@ -189,3 +190,14 @@ err_before a b (Err fail) t p = fails_before a b fail t p
 -- The held line, of a word that opens no data, was taken.
 pub took_held : (a b : Place) (word text : List ℕ) → IsNext a → a.held ≡ (word ++ text) ++ 10 ∷ [] → opens_none word ≡ true → b ≡ taken a → Took a b (line_at a.at (word ++ text) ∷ [])
 took_held a b word text n e o same = subst (λ (p : Place). Took a p (line_at a.at (word ++ text) ∷ [])) (sym same) (line_taken a a (word ++ text) (took_none a) e n.line n.counts (closed_word word text o))
+
+pub long_here : (b : Place) → (Contains b.held 10 → ⊥) → length b.held ≡ line_limit → Passes b.at (left b) Line (line_limit + 1)
+long_here b n e = (refl, inl (record { front = b.held; rest = b.rest; cut = refl; no_feed = n; long = e }))
+
+pub over_here : (b : Place) → STREAM_LIMIT < b.at + length b.held → IsHeld b.held → Passes b.at (left b) Stream (STREAM_LIMIT + 1)
+over_here b over shape = record { front = b.held; rest = b.rest; cut = refl; stretch = elim shape [ inl l ↦ inl l | inr n ↦ inr (inl n) ]; over = over; count = refl }
+
+-- where no limit is passed, what ends a whole command lacks each part
+pub clear_lacks : {X : Type 0} (L : List Placed → X → Type 0) (a b : Place) → Took a b [] → EndsWhole b → IsClear (position b false) → Lacks L a b
+clear_lacks L a b t (inl e) k = lacks_end L a b t e
+clear_lacks L a b t (inr p) k = absurd (k p.0 p.1 p.2)

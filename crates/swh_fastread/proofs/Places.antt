@@ -136,17 +136,17 @@ completes_optional L N n c = record { rows = c.rows; x = (None, c.x); says = ([]
 completes_skip : {X Y : Type 0} (L : List Placed → X → Type 0) (N : List Placed → Y → Type 0) (n : ℕ) → Completes (L ▹ N) n → Completes (L ▸ N) n
 completes_skip L N n c = record { rows = c.rows; x = c.x.1; says = (c.x.0, c.says); good = c.good; no_feed = c.no_feed }
 
-abbrev zero_row : Row
+abbrev pub zero_row : Row
 zero_row = record { line = codes "data 0"; raw = [] }
 
 zero_digit : AllPass is_digit (codes "0")
 zero_digit zero d l = refl
 zero_digit (suc k) d l = absurd (omega (arith, l))
 
-zero_data : IsData zero_row [] (codes "done\n")
+pub zero_data : IsData zero_row [] (codes "done\n")
 zero_data = inl (record { text = codes "0"; feed = []; line = refl; number = record { some = omega arith; short = omega arith; digits = zero_digit; value = refl }; raw = refl; is_feed = inr (refl, refl) })
 
-zero_is_row : IsRow zero_row (codes "done\n")
+pub zero_is_row : IsRow zero_row (codes "done\n")
 zero_is_row = record { one_line = absent 10 (codes "data 0") refl; after = inl ([], zero_data) }
 
 completes_contents : (n : ℕ) → Completes contents n

@@ -18,6 +18,7 @@ use Rattle.swh_fastread.specs.declared.fault.StreamWhy.TheVariants.{Grammar, End
 use Rattle.swh_fastread.specs.declared.row_source.TheConstants.{STREAM_LIMIT}
 use Rattle.swh_fastread.specs.Fault.{is_left_out, IsFault}
 use Rattle.swh_fastread.specs.Grammar.{contents, IsStream}
+use Rattle.swh_fastread.specs.Held.{EndsNext}
 use Rattle.swh_fastread.specs.Limit.{PassesRefs, PassesPaths}
 use Rattle.swh_fastread.specs.Places.{Place, left, Took, FirstLine, LineRefused, LineLacks, DataLacks, Position, position, MayCount}
 use Rattle.swh_fastread.specs.Row.{Row, row_text, IsData, Placed, is_comment}
@@ -185,3 +186,7 @@ pub record Reads {X : Type 0} (L : List Placed → X → Type 0) (old new : Plac
   pub took : Took old new rows
   pub says : L rows x
   pub closed : IsClear (position new false) → (p : Placed) (more : List Placed) (y : X) → MayCount (left new) p.row.line → L (rows ++ p ∷ more) y → ⊥
+
+-- Nothing comes next, or what does passes a limit.
+abbrev pub EndsWhole : Place → Type 0
+EndsWhole place = EndsNext place ⊎ ((which : Which) × (number : ℕ) × Passes place.at (left place) which number)

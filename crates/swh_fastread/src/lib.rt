@@ -20,8 +20,10 @@ mod line_words;
 mod optional;
 mod part_lines;
 mod peek;
+mod reset;
 mod row_source;
 mod tag;
+mod whole;
 mod worked;
 
 pub use change_lines::{ChangeLine, change_line};
