@@ -1,5 +1,5 @@
 -- Lines before a delimiter: one more of them, and what is to be read after it.
-use Rattle.std.proofs.Common.{◌≡◌, ℕ, ◌+◌, List, [], ◌∷◌, ◌++◌, length, Contains, refl, sym, ap, ◌∙◌, arith, append_assoc, length-append}
+use Rattle.std.proofs.Common.{◌≡◌, ℕ, ◌+◌, List, [], ◌∷◌, ◌++◌, length, refl, sym, ap, ◌∙◌, arith, append_assoc, length-append}
 use Rattle.std.specs.List.{AllByRecursion}
 use Rattle.swh_base.proofs.Splits.{sized_split}
 use Rattle.swh_fastlex.specs.Delimited.{IsOther, lines_text, AreLines}

@@ -1,9 +1,8 @@
 -- Pieces of a quoted path: a text begins with one at most, and with one list of them up to the quote.
-use Rattle.std.proofs.Common.{◌≡◌, ◌≢◌, ◌⊎◌, ℕ, zero, suc, ◌+◌, ◌-◌, ◌*◌, ◌≤◌, inl, inr, Some, None, List, [], ◌∷◌, ◌++◌, length, get_or, drop, map, Contains, refl, sym, ap, ◌∙◌, subst, arith, append_assoc, length-append, add-one}
+use Rattle.std.proofs.Common.{◌≡◌, ◌≢◌, ℕ, zero, suc, ◌+◌, ◌-◌, ◌*◌, ◌≤◌, inl, inr, Some, None, List, [], ◌∷◌, ◌++◌, length, get_or, drop, map, refl, sym, ap, ◌∙◌, subst, arith, append_assoc, length-append}
 use Rattle.std.specs.List.{flat_map, AllByRecursion}
-use Rattle.swh_pieces.proofs.Middle.{in_middle}
 use Rattle.swh_base.proofs.Splits.{first_split}
-use Rattle.swh_fastlex.specs.Path.{Piece, Itself, Letter, Octal, piece_text, piece_byte, IsPiece, letter_byte, closed_text, IsQuoted, IsPlain, Spells, SpellsPath}
+use Rattle.swh_fastlex.specs.Path.{Piece, Itself, Letter, Octal, piece_text, piece_byte, IsPiece, letter_byte, closed_text, IsPlain, Spells, SpellsPath}
 use Rattle.swh_fastlex.specs.Spelling.{BeginsWithPiece, BeginsWithOctal, ReadsPieces}
 
 digit_is_no_letter : (a : ℕ) → a ≤ 3 → letter_byte (48 + a) ≡ None

@@ -2,8 +2,9 @@
 //! Stands on `swh_base`, `swh_pieces` and `swh_outside`.
 //! Callers may rely on: what is read whole is all that was left; a front is cut only above its limit; no more than a
 //! window above the limit is taken, and no more than one byte by the reader that reserves; a fault says which limit or
-//! count; the path that a text begins with is the one that it spells, and there is none where it spells none; each
-//! line is the next in the stream, in whatever pieces the source gives it, and each end of reading is told by its case.
+//! count; a path is the one that its text spells, none where it spells none, and told to be too long before either; each
+//! line, and the data after one, are the next in the stream, in whatever pieces the source gives them, and each end of
+//! reading is told by its case.
 #![tactic(auto)]
 
 mod counted;
@@ -30,6 +31,10 @@ pub use path::is_path;
 pub use paths::{PathBefore, path_before, path_word};
 pub use reserved::read_source_reserved;
 pub use source::{WINDOW, read_front, read_source};
-pub use spelling::{PathRun, path_run};
 pub use window::Window;
 pub use word::Word;
+
+#[cfg(test)]
+mod line_tests;
+#[cfg(test)]
+mod tests;

@@ -1,11 +1,10 @@
 -- Lines of changes: what a line of each word says, and when it passes the limit of paths.
-use Rattle.std.proofs.Common.{◌≡◌, ◌≢◌, ℕ, ◌+◌, ◌-◌, inl, inr, false, List, [], ◌∷◌, ◌++◌, length, drop, refl, sym, ap, ◌∙◌, subst, arith, append_assoc, codes}
-use Rattle.swh_base.proofs.Splits.{first_split}
-use Rattle.swh_fastlex.specs.Path.{NamesPath, NamesPathBefore, SpellsPath, PassesPath}
+use Rattle.std.proofs.Common.{◌≡◌, ◌≢◌, ℕ, ◌-◌, inl, inr, List, [], ◌∷◌, ◌++◌, length, drop, refl, sym, ap, ◌∙◌, subst, arith, append_assoc, codes}
+use Rattle.swh_fastlex.specs.Path.{NamesPath, NamesPathBefore, PassesPath}
 use Rattle.swh_fastlex.specs.declared.paths.PathBefore.{PathBefore}
 use Rattle.swh_fastlex.proofs.Pieces.{left_over, one_spelling}
 use Rattle.swh_fastread.specs.declared.change_lines.ChangeLine.{ChangeLine}
-use Rattle.swh_fastread.specs.declared.change_lines.ChangeLine.TheVariants.{Whole, Inline, Over, No}
+use Rattle.swh_fastread.specs.declared.change_lines.ChangeLine.TheVariants.{Whole, Over, No}
 use Rattle.swh_fastread.specs.declared.change_lines.Pair.{Pair}
 use Rattle.swh_fastread.specs.declared.command.Change.{Change}
 use Rattle.swh_fastread.specs.declared.command.Change.TheVariants.{Set, Delete, Copy, Move, Clear}
@@ -13,8 +12,7 @@ use Rattle.swh_fastread.specs.declared.command.Dataref.{Dataref}
 use Rattle.swh_fastread.specs.declared.command.Dataref.TheVariants as Of
 use Rattle.swh_fastread.specs.Grammar.{BeginsSet, SetsTo, IsPair}
 use Rattle.swh_fastread.specs.Limit.{PassesSet, PassesPair, PassesPaths}
-use Rattle.swh_fastread.specs.Reading.{LineSays, IsChangeLine, BeginsFile, set_line_of}
-use Rattle.swh_fastread.specs.Word.{IsMode, SpellsId}
+use Rattle.swh_fastread.specs.Reading.{LineSays, IsChangeLine, set_line_of}
 use Rattle.swh_fastread.proofs.Parts.{begins_one}
 use Rattle.swh_fastread.proofs.Rows.{same_tail}
 

@@ -1,5 +1,5 @@
 -- Data that a line opens.
-use Rattle.std.proofs.Common.{◌≡◌, ℕ, inl, inr, List, ◌∷◌, ◌++◌, length, Contains, sym, ap, ◌∙◌, subst, codes}
+use Rattle.std.proofs.Common.{◌≡◌, ℕ, inl, inr, List, ◌∷◌, ◌++◌, length, Contains, sym, ◌∙◌, subst, codes}
 use Rattle.swh_pieces.proofs.Middle.{in_middle}
 use Rattle.swh_fastread.specs.Row.{Opens}
 use Rattle.swh_fastread.proofs.Rows.{same_tail, no_angle}

@@ -1,5 +1,5 @@
 -- Worked examples of the grammar.
-use Rattle.std.proofs.Common.{◌+◌, length, if◌then◌else◌, None, ◌≡◌, ◌≢◌, ℕ, zero, suc, inl, inr, Bool, true, false, List, [], ◌∷◌, ◌++◌, refl, sym, ap, ◌∙◌, subst, arith, append_assoc, codes}
+use Rattle.std.proofs.Common.{◌+◌, length, if◌then◌else◌, None, ◌≡◌, ℕ, zero, suc, inl, inr, Bool, true, false, List, [], ◌∷◌, ◌++◌, refl, sym, ap, ◌∙◌, subst, arith, append_assoc, codes}
 use Rattle.std.specs.List.{AllByRecursion, AllPass, list_any}
 use Rattle.swh_base.proofs.Splits.{absent, not_nil}
 use Rattle.swh_base.specs.Text.{is_digit}

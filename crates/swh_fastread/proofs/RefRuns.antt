@@ -1,17 +1,13 @@
 -- The bytes of a ref that a text begins with, and what they are: a ref, one that is too long, or none.
-use Rattle.std.proofs.Common.{◌≡◌, ◌≢◌, ◌⊎◌, ◌↔◌, IsTrue, ℕ, zero, suc, ◌+◌, ◌-◌, ◌<◌, ◌≤◌, inl, inr, Bool, true, false, List, [], ◌∷◌, ◌++◌, length, get_or, take, drop, Contains, refl, sym, ap, ◌∙◌, subst, arith, codes}
+use Rattle.std.proofs.Common.{◌≡◌, ◌≢◌, ◌⊎◌, ◌↔◌, IsTrue, ℕ, zero, suc, ◌<◌, ◌≤◌, inl, inr, Bool, true, false, List, [], ◌∷◌, ◌++◌, length, get_or, take, drop, refl, sym, ap, ◌∙◌, subst, arith, codes}
 use Rattle.std.proofs.lemmas.List.{length-take, take-append-drop}
 use Rattle.std.specs.List.{AllPass}
 use Rattle.swh_base.specs.Limits.{ref_limit}
 use Rattle.swh_base.specs.Text.{IsRef, is_ref_byte}
-use Rattle.swh_fastlex.specs.declared.word.Word.{Word}
-use Rattle.swh_fastlex.specs.declared.word.Word.TheVariants.{Is, Over, No}
-use Rattle.swh_fastlex.specs.Word.{IsWord}
 use Rattle.swh_fastread.specs.declared.command.Commitish.{Commitish}
 use Rattle.swh_fastread.specs.declared.command.Commitish.TheVariants.{Mark, Branch}
 use Rattle.swh_fastread.specs.Limit.{PassesRef}
 use Rattle.swh_fastread.specs.Word.{IsMark, NamesCommit, IsRefUpTo, IsRefRun, EndsCommit}
-use Rattle.swh_fastread.proofs.Rows.{same_tail}
 use Rattle.swh_fastread.proofs.Words.{not_among, no_colon}
 
 abbrev first : List ℕ → ℕ

@@ -1,5 +1,5 @@
 -- What stands before a path that is set.
-use Rattle.std.proofs.Common.{◌≡◌, ℕ, inl, inr, List, [], ◌∷◌, ◌++◌, Contains, refl, sym, ap, ◌∙◌, subst, arith, codes}
+use Rattle.std.proofs.Common.{◌≡◌, ℕ, List, [], ◌∷◌, ◌++◌, Contains, refl, sym, ap, ◌∙◌, subst, arith, codes}
 use Rattle.std.specs.List.{AllPass}
 use Rattle.swh_pieces.proofs.Middle.{in_middle}
 use Rattle.swh_base.proofs.Ids.{IsIdText-encode}

@@ -1,8 +1,8 @@
 -- A text says one mark, commit-ish, mode, id or path at most.
-use Rattle.std.proofs.Common.{◌≡◌, ◌≢◌, ℕ, zero, suc, ◌+◌, ◌*◌, ◌<◌, ◌==◌, if◌then◌else◌, ◌⊎◌, inl, inr, Bool, true, false, List, [], ◌∷◌, ◌++◌, map, length, length-append, Contains, refl, sym, ap, ◌∙◌, subst, arith, append_assoc, codes}
-use Rattle.std.specs.List.{AllByRecursion, AllPass, flat_map}
+use Rattle.std.proofs.Common.{◌≡◌, ◌≢◌, ℕ, zero, suc, ◌==◌, if◌then◌else◌, inl, inr, Bool, true, false, List, [], ◌∷◌, ◌++◌, length, length-append, Contains, refl, sym, ap, ◌∙◌, subst, arith, codes}
+use Rattle.std.specs.List.{AllPass}
 use Rattle.swh_base.proofs.HexLines.{hex-injective, length-hex}
-use Rattle.swh_base.proofs.Splits.{first_split, sized_split, absent}
+use Rattle.swh_base.proofs.Splits.{sized_split, absent}
 use Rattle.swh_fastlex.specs.Path.{NamesPath}
 use Rattle.swh_fastlex.proofs.Pieces.{one_form}
 use Rattle.swh_base.specs.Text.{IsNumber, IsRef, value_from, is_digit, is_ref_byte}

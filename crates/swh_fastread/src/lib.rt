@@ -39,3 +39,6 @@ pub use line_words::{
 pub use worked::{
     data_before_line, left_out_line, octal_path, one_blob, promise_not_kept, unknown_line,
 };
+
+#[cfg(test)]
+mod tests;

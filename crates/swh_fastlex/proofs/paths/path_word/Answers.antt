@@ -1,4 +1,4 @@
-use Rattle.std.proofs.Common.{rules, arith, ◌≤◌, ◌∙◌, List, ℕ, length, drop, sym, subst}
+use Rattle.std.proofs.Common.{rules, ◌≤◌, ◌∙◌, List, ℕ, length, drop, sym, subst}
 use Rattle.std.proofs.lemmas.List.{take_rest}
 use Rattle.swh_base.specs.Limits.{path_limit}
 use Rattle.swh_fastlex.specs.Path.{IsPath, Spells}

@@ -1,7 +1,6 @@
-use Rattle.std.proofs.Common.{rules, arith, refl}
+use Rattle.std.proofs.Common.{rules, arith}
 use Rattle.std.proofs.lemmas.Grind.{common_steps}
 use Rattle.swh_fastlex.proofs.Pieces.{reads_more}
-use Rattle.swh_fastlex.proofs.Runs.{runs_quoted}
 use Rattle.swh_fastlex.proofs.spelling.quoted_run.Goals as goal
 
 pub pieces-preserved : goal.pieces-preserved

@@ -1,7 +1,6 @@
-use Rattle.std.proofs.Common.{rules, List, ℕ, inl, inr, drop, refl, sym, subst}
+use Rattle.std.proofs.Common.{rules, inl, inr, drop, sym, subst}
 use Rattle.std.proofs.lemmas.List.{take_rest}
-use Rattle.swh_fastread.specs.declared.command.Commitish.TheVariants.{Branch}
-use Rattle.swh_fastread.specs.Word.{NamesCommit, EndsCommit}
+use Rattle.swh_fastread.specs.Word.{EndsCommit}
 use Rattle.swh_fastread.proofs.RefRuns.{passes, passes_not, no_commit, branch_commit}
 use Rattle.swh_fastread.proofs.line_words.commit_word.Goals as goal
 

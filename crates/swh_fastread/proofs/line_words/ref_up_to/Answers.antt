@@ -1,4 +1,4 @@
-use Rattle.std.proofs.Common.{rules, ◌≡◌, ◌⊎◌, ◌<◌, ℕ, inl, inr, length, sym, subst}
+use Rattle.std.proofs.Common.{rules, ◌≡◌, sym, subst}
 use Rattle.swh_fastread.specs.Word.{IsRefUpTo}
 use Rattle.swh_fastread.proofs.RefRuns.{passes, passes_not, no_ref_up_to, is_ref_up_to, weaker}
 use Rattle.swh_fastread.proofs.line_words.ref_up_to.Goals as goal
