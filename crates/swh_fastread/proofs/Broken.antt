@@ -59,8 +59,16 @@ begins_rows at p rows x good u =
 
 pub reached : (at : ℕ) (p : Bool) (text : List ℕ) (rows : List Row) (rest : List ℕ) → text ≡ text_of rows ++ rest → AreRows rows rest → Unfinished (placed at rows) → Reaches at p text rows rest []
 reached at p text rows rest e good u = record {
-  spelled = e; good = good; may = begins_rows at p rows rest good u; whole = []; part = placed at rows; items = []; cut = refl; said = refl;
-  unfinished = is_unfinished (placed at rows) u; these = refl;
+  spelled = e;
+  good = good;
+  may = begins_rows at p rows rest good u;
+  whole = [];
+  part = placed at rows;
+  items = [];
+  cut = refl;
+  said = refl;
+  unfinished = is_unfinished (placed at rows) u;
+  these = refl;
 }
 
 both_nil : (a b : List Placed) → a ++ b ≡ [] → (a ≡ []) × (b ≡ [])
@@ -117,7 +125,10 @@ line_fault a b p part line rest out t e one counts o u no_end dead =
     let good : AreRows t.rows (line ++ 10 ∷ rest) = subst (AreRows t.rows) e t.good in
     let v : Unfinished (placed a.at t.rows) = subst Unfinished (sym t.those) u in
     record {
-      rows = t.rows; line = line; rest = rest; one_line = one;
+      rows = t.rows;
+      line = line;
+      rest = rest;
+      one_line = one;
       before = reached a.at p (left a) t.rows (line ++ 10 ∷ rest) (t.spelled ∙ ap (λ (z : List ℕ). text_of t.rows ++ z) e) good v;
       here = t.here;
       out = o;
@@ -147,7 +158,8 @@ no_false false b e f = cc
 
 pub end_fault : (a b : Place) (p : Bool) (part : List Placed) → Took a b part → Unfinished part → ((row : Row) (next : List ℕ) → left b ≡ row_text row ++ next → IsRow row next → ⊥) → (Contains (left b) 10 → ⊥) ⊎ BeginsStream a.at p (left a) → (part ≡ [] → left b ≡ [] → p ≡ true) → IsEndFault a.at p (left a) [] (b.at + length (left b))
 end_fault a b p part t u cut inside promised = record {
-  rows = t.rows; rest = left b;
+  rows = t.rows;
+  rest = left b;
   before = reached a.at p (left a) t.rows (left b) t.spelled t.good v;
   here = sym (took_size a b part t);
   cut = cut;
@@ -195,8 +207,7 @@ filled_stream a b p part line next more bytes t e one counts d i h =
     placed-append a.at t.rows (row ∷ []) ∙ ap (λ (z : List Placed). z ++ placed n (row ∷ [])) t.those ∙ ap (λ (k : ℕ). part ++ placed k (row ∷ [])) (sym t.here) ∙ ap (λ (z : List Placed). part ++ z) (placed_row b.at row [] counts) in
     let text : left a ++ (more ++ codes "done\n") ≡ text_of t.rows ++ (line ++ 10 ∷ ((next ++ more) ++ codes "done\n")) =
     ap (λ (z : List ℕ). z ++ (more ++ codes "done\n")) (t.spelled ∙ ap (λ (z : List ℕ). text_of t.rows ++ z) e) ∙ append_assoc (text_of t.rows) (line ++ 10 ∷ next) (more ++ codes "done\n")
-    ∙ ap (λ (z : List ℕ). text_of t.rows ++ z) (append_assoc line (10 ∷ next) (more ++ codes "done\n") ∙ ap (λ (z : List ℕ). line ++ 10 ∷ z) (sym (append_assoc next more (codes "done\n")))) in
-    (
+    ∙ ap (λ (z : List ℕ). text_of t.rows ++ z) (append_assoc line (10 ∷ next) (more ++ codes "done\n") ∙ ap (λ (z : List ℕ). line ++ 10 ∷ z) (sym (append_assoc next more (codes "done\n")))) in (
       more ++ codes "done\n",
       commands_of (i ∷ []),
       record {

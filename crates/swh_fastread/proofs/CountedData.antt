@@ -53,7 +53,11 @@ data_lacks a c count at o l s e =
     let line : List ℕ = codes "data " ++ o.0 in
     let no_feed = front_of a.held line o.1 l in
     record {
-      before = a; line = line; next = a.rest; more = fill; bytes = a.rest ++ fill;
+      before = a;
+      line = line;
+      next = a.rest;
+      more = fill;
+      bytes = a.rest ++ fill;
       took = took_none a;
       spelled = held_text a line o.1;
       one_line = no_feed;

@@ -84,7 +84,7 @@ fills word bytes front some one l f = elim (is_or_not front word) [
     more = 10 ∷ [];
     bytes = bytes;
     filled = subst (λ (r : List ℕ). IsData (record { line = line_of word; raw = r }) bytes (codes "done\n")) (ap (λ (t : List ℕ). bytes ++ (t ++ 10 ∷ [])) (sym e) ∙ sym (append_assoc bytes front (10 ∷ [])))
-    (lines_data word bytes [] (codes "done\n") some one l (inr (refl, refl)));
+        (lines_data word bytes [] (codes "done\n") some one l (inr (refl, refl)));
   }
   | inr n ↦
       let longer : AreLines word (bytes ++ (front ++ 10 ∷ [])) = record { lines = l.lines ++ front ∷ []; each = lines_push word l.lines front l.each (f, n); value = ap (λ (t : List ℕ). t ++ (front ++ 10 ∷ [])) l.value ∙ sym (text_push l.lines front) } in
@@ -92,8 +92,8 @@ fills word bytes front some one l f = elim (is_or_not front word) [
         more = 10 ∷ (word ++ 10 ∷ []);
         bytes = bytes ++ (front ++ 10 ∷ []);
         filled = subst (λ (r : List ℕ). IsData (record { line = line_of word; raw = r }) (bytes ++ (front ++ 10 ∷ [])) (codes "done\n"))
-        (append_assoc bytes (front ++ 10 ∷ []) (word ++ 10 ∷ []) ∙ ap (λ (t : List ℕ). bytes ++ t) (append_assoc front (10 ∷ []) (word ++ 10 ∷ [])) ∙ sym (append_assoc bytes front (10 ∷ (word ++ 10 ∷ []))))
-        (lines_data word (bytes ++ (front ++ 10 ∷ [])) [] (codes "done\n") some one longer (inr (refl, refl)));
+            (append_assoc bytes (front ++ 10 ∷ []) (word ++ 10 ∷ []) ∙ ap (λ (t : List ℕ). bytes ++ t) (append_assoc front (10 ∷ []) (word ++ 10 ∷ [])) ∙ sym (append_assoc bytes front (10 ∷ (word ++ 10 ∷ []))))
+            (lines_data word (bytes ++ (front ++ 10 ∷ [])) [] (codes "done\n") some one longer (inr (refl, refl)));
       }
 ]
 
@@ -103,7 +103,11 @@ lines_lack a c word at o l s e =
     let no_feed = front_of a.held (line_of word) o.line l in
     let here = s.here in
     record {
-      before = a; line = line_of word; next = s.bytes ++ s.front; more = fill.more; bytes = fill.bytes;
+      before = a;
+      line = line_of word;
+      next = s.bytes ++ s.front;
+      more = fill.more;
+      bytes = fill.bytes;
       took = took_none a;
       spelled = held_text a (line_of word) o.line ∙ ap (λ (t : List ℕ). line_of word ++ 10 ∷ t) s.all;
       one_line = no_feed;
@@ -119,11 +123,15 @@ pub delimited_fails : (a c : Place) (word : List ℕ) (fault : DataFault) (at : 
 delimited_fails a c word Data.Failed at o l s e = tt
 delimited_fails a c word Data.End at o l s e = inr (lines_lack a c word at o l s e)
 delimited_fails a c word Data.Line at o l s e = record {
-  before = a; rows = []; took = took_none a;
+  before = a;
+  rows = [];
+  took = took_none a;
   passes = (refl, inr (s.bytes, s.front ++ c.rest, opens_lines a word s.bytes (s.front ++ c.rest) o l s.lines (s.cut ∙ append_assoc s.bytes s.front c.rest), record { front = s.front; rest = c.rest; cut = refl; no_feed = s.no_feed; long = s.long }));
 }
 delimited_fails a c word Data.Body at o l s e = record {
-  before = a; rows = []; took = took_none a;
+  before = a;
+  rows = [];
+  took = took_none a;
   passes = (omega arith, inr (s.bytes, c.rest, opens_lines a word s.bytes c.rest o l s.lines s.cut, s.above, refl));
 }
 delimited_fails a c word Data.Memory at o l s e = tt

@@ -63,10 +63,13 @@ data-next r bytes x y h (inl d) = inl (record { text = d.text; feed = d.feed; li
 data-next r bytes x y h (inr d) = inr (record { word = d.word; lines = d.lines; feed = d.feed; line = d.line; not_empty = d.not_empty; one_line = d.one_line; each = d.each; value = d.value; raw = d.raw; is_feed = feed-next d.feed x y h d.is_feed })
 
 row-next : (r : Row) (x y : List ℕ) → Allows x y → IsRow r x → IsRow r y
-row-next r x y h i = record { one_line = i.one_line; after = elim i.after [
-  | inl d ↦ inl (d.0, data-next r d.0 x y h d.1)
-  | inr d ↦ inr d
-] }
+row-next r x y h i = record {
+  one_line = i.one_line;
+  after = elim i.after [
+    | inl d ↦ inl (d.0, data-next r d.0 x y h d.1)
+    | inr d ↦ inr d
+  ];
+}
 
 -- only the byte after rows counts
 pub rows-next : (rows : List Row) (x y : List ℕ) → Allows x y → AreRows rows x → AreRows rows y

@@ -99,7 +99,9 @@ strip at p rows x i cs good h ended s =
         record {
           others = commands_of r.0;
           stream = record {
-            rows = more; ending = s.ending; spelled = t;
+            rows = more;
+            ending = s.ending;
+            spelled = t;
             whole = record { items = r.0; good = a; said = r.2; ends = subst (λ (b : Bool). Ends b s.ending) (or_assoc p (is_promise i) (list_any is_promise r.0)) ends; these = refl };
           };
           these = s.whole.these ∙ ap commands_of r.1 ∙ sym (cons-commands i r.0 (commands_of r.0) refl);
@@ -174,7 +176,10 @@ ended-next part a x y h q more j m k = h q more j (back m) k
 
 pub line_more : (at : ℕ) (p : Bool) (text x : List ℕ) (i : Item) (cs : List Command) (place : ℕ) (out : Bool) (s : Spelled at text x i) → IsLineFault (at + length (text_of s.rows)) (p || is_promise i) x cs place out → IsLineFault at p text (commands_of (i ∷ []) ++ cs) place out
 line_more at p text x i cs place out s f = record {
-  rows = s.rows ++ f.rows; line = f.line; rest = f.rest; one_line = f.one_line;
+  rows = s.rows ++ f.rows;
+  line = f.line;
+  rest = f.rest;
+  one_line = f.one_line;
   before = reaches_more at p text x f.rows (f.line ++ 10 ∷ f.rest) i cs s f.before;
   here = let h = f.here in omega (arith, h, ap length (text_of-append s.rows f.rows), length-append (text_of s.rows) (text_of f.rows));
   out = f.out;
@@ -211,7 +216,8 @@ inside_more at p text (c ∷ x) rest front i rows e good h f (inr b) =
 
 pub end_more : (at : ℕ) (p : Bool) (text x : List ℕ) (i : Item) (cs : List Command) (place : ℕ) (s : Spelled at text x i) → IsEndFault (at + length (text_of s.rows)) (p || is_promise i) x cs place → IsEndFault at p text (commands_of (i ∷ []) ++ cs) place
 end_more at p text x i cs place s f = record {
-  rows = s.rows ++ f.rows; rest = f.rest;
+  rows = s.rows ++ f.rows;
+  rest = f.rest;
   before = reaches_more at p text x f.rows f.rest i cs s f.before;
   here = let h = f.here in omega (arith, h, ap length s.text_is, length-append (text_of s.rows) x);
   cut = f.cut;

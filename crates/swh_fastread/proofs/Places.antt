@@ -176,9 +176,20 @@ no_bytes f k d l = absurd (omega (arith, l))
 
 some_person : IsPerson (codes "<> 0 +0000")
 some_person = record {
-  name = None; email = []; seconds = codes "0"; sign = 43; zone = codes "0000"; spelled = refl;
-  name_bytes = no_bytes _; email_bytes = no_bytes _; some_seconds = omega arith; few_seconds = omega arith; seconds_digits = zero_digit;
-  is_sign = inl refl; four = refl; zone_digits = four_digits;
+  name = None;
+  email = [];
+  seconds = codes "0";
+  sign = 43;
+  zone = codes "0000";
+  spelled = refl;
+  name_bytes = no_bytes _;
+  email_bytes = no_bytes _;
+  some_seconds = omega arith;
+  few_seconds = omega arith;
+  seconds_digits = zero_digit;
+  is_sign = inl refl;
+  four = refl;
+  zone_digits = four_digits;
 }
 
 abbrev first : List ℕ → ℕ
@@ -195,7 +206,8 @@ completes_committer n =
     let row : Row = plain (codes "committer <> 0 +0000") in
     let c = completes_optional encoding from_data (n + length (row_text row)) (completes_data after_data (None, ([], [])) nothing_after (n + length (row_text row))) in
     record {
-      rows = row ∷ c.rows; x = (codes "<> 0 +0000", c.x);
+      rows = row ∷ c.rows;
+      x = (codes "<> 0 +0000", c.x);
       says = (line_at n (codes "committer <> 0 +0000") ∷ [], placed (n + length (row_text row)) c.rows, refl, (n, codes "<> 0 +0000", refl, (refl, some_person)), c.says);
       good = (plain_row (codes "committer <> 0 +0000") (codes "data 0\ndone\n") (absent 10 (codes "committer <> 0 +0000") refl) committer_closed, c.good);
       no_feed = refl;
@@ -225,7 +237,8 @@ completes_from n =
     let m : ℕ = n + length (row_text row) in
     let c = completes_skip (optional oid) tag_rest m (completes_optional oid tag_rest m (completes_optional tagger contents m (completes_contents m))) in
     record {
-      rows = row ∷ c.rows; x = (record { at = n; it = Mark 1 }, c.x);
+      rows = row ∷ c.rows;
+      x = (record { at = n; it = Mark 1 }, c.x);
       says = (line_at n (codes "from :1") ∷ [], placed m c.rows, refl, (codes ":1", refl, some_commit), c.says);
       good = (plain_row (codes "from :1") (codes "data 0\ndone\n") (absent 10 (codes "from :1") refl) from_closed, c.good);
       no_feed = refl;

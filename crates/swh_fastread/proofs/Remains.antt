@@ -145,7 +145,9 @@ step_optional {V} {X} {Y} R a b c L N f (Some x) s d w p = record {
 
 pub step_skip : {V X Y : Type 0} (R : List Placed → V → Type 0) (a b : Place) (L : List Placed → X → Type 0) (N : List Placed → Y → Type 0) (f : Y → V) → Within R a b (L ▸ N) f → Within R a b (L ▹ N) (λ v. f v.1)
 step_skip {V} {X} {Y} R a b L N f w = record {
-  part = w.part; some = w.some; took = w.took;
+  part = w.part;
+  some = w.some;
+  took = w.took;
   remains = record {
     forth = λ more v h. w.remains.forth more v.1 (v.0, h);
     back = λ more i n h. let r = w.remains.back more i n h in ((r.1.0, r.0), r.1.1);
@@ -189,7 +191,9 @@ step_some {V} {X} {Y} R a b c L N f rows xs s d w t h = record {
 -- no more of it comes
 pub step_stop : {V X Y : Type 0} (R : List Placed → V → Type 0) (a b : Place) (L : List Placed → X → Type 0) (N : List Placed → Y → Type 0) (f : List X × Y → V) → Solid L → Within R a b (many L ▹ N) f → Refuses L (left b) → Counts (left b) → Within R a b N (λ y. f ([], y))
 step_stop {V} {X} {Y} R a b L N f s w refused counts = record {
-  part = w.part; some = w.some; took = w.took;
+  part = w.part;
+  some = w.some;
+  took = w.took;
   remains = record {
     forth = λ more y h. w.remains.forth more ([], y) ([], more, refl, refl, h);
     back = λ more i n h. let r = w.remains.back more i n h in stop more n r.0.0 r.0.1 r.1;
@@ -207,7 +211,9 @@ step_stop {V} {X} {Y} R a b L N f s w refused counts = record {
 
 same_value : {V X : Type 0} (R : List Placed → V → Type 0) (a b : Place) (M : List Placed → X → Type 0) (f g : X → V) → ((x : X) → f x ≡ g x) → Within R a b M f → Within R a b M g
 same_value {V} {X} R a b M f g e w = record {
-  part = w.part; some = w.some; took = w.took;
+  part = w.part;
+  some = w.some;
+  took = w.took;
   remains = record { forth = λ more x h. subst (λ (i : V). R (w.part ++ more) i) (e x) (w.remains.forth more x h); back = w.remains.back };
 }
 
@@ -224,7 +230,9 @@ no_more rows x = rows ≡ []
 
 pub closing : {V X : Type 0} (R : List Placed → V → Type 0) (a b : Place) (M : List Placed → X → Type 0) (f : X → V) → Within R a b M f → Within R a b (M ▹ no_more) (λ v. f v.0)
 closing {V} {X} R a b M f w = record {
-  part = w.part; some = w.some; took = w.took;
+  part = w.part;
+  some = w.some;
+  took = w.took;
   remains = record {
     forth = λ more v h. w.remains.forth more v.0 (subst (λ (r : List Placed). M r v.0) (sym (h.2 ∙ ap (λ (r : List Placed). h.0 ++ r) h.4 ∙ append_nil h.0)) h.3);
     back = λ more i n h. let r = w.remains.back more i n h in ((r.0, tt), (more, [], sym (append_nil more), r.1, refl));
@@ -273,9 +281,9 @@ break_line a b p M L f at out w o refuses r =
     let u = skip_comments IsItem a b c M f w r.took in
     let first = r.first in
     let dead : Dead u.part r.line = λ q more j e h.
-        let line : FirstLine (left c) q.row.line = subst (FirstLine (left c)) (sym e) first in
-        let m = u.remains.back (q ∷ more) j (inl line) h in
-        refuses (left c) r.refused q more m.0 line m.1 in
+    let line : FirstLine (left c) q.row.line = subst (FirstLine (left c)) (sym e) first in
+    let m = u.remains.back (q ∷ more) j (inl line) h in
+    refuses (left c) r.refused q more m.0 line m.1 in
     subst (λ (n : ℕ). IsLineFault a.at p (left a) [] n out) (sym r.here)
     (line_fault a c p u.part r.line first.rest out u.took first.spelled first.one_line r.counts r.is_out (unfinished a c M f u o) (λ e. absurd (u.some e)) dead)
 

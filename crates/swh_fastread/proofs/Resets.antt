@@ -38,8 +38,8 @@ gives a b c L f x command e w r p =
       streams = λ cs s. prepend a.at p (left a) t.rows (left c) (Says command) cs t.spelled t.good whole (subst (λ (b : Bool). IsStream (a.at + length (text_of t.rows)) b (left c) cs) (sym (or-false p)) (subst (λ (n : ℕ). IsStream n p (left c) cs) here s));
       faults = λ clear cs place why f.
           let ended : Ended part (left c) = λ q more j m h.
-              let v = w.remains.back (r.rows ++ q ∷ more) j (any_next b c r.rows (q ∷ more) r.took m) (subst (λ (z : List Placed). IsItem z j) (append_assoc w.part r.rows (q ∷ more)) h) in
-              r.closed clear q more v.0 m v.1 in
+          let v = w.remains.back (r.rows ++ q ∷ more) j (any_next b c r.rows (q ∷ more) r.took m) (subst (λ (z : List Placed). IsItem z j) (append_assoc w.part r.rows (q ∷ more)) h) in
+          r.closed clear q more v.0 m v.1 in
           let s : Spelled a.at (left a) (left c) (Says command) = record { rows = t.rows; text_is = t.spelled; good = t.good; said = whole; ended = subst (λ (z : List Placed). Ended z (left c)) (sym t.those) ended } in
           fault_more a.at p (left a) (left c) (Says command) cs place why s (subst (λ (b : Bool). IsFault (a.at + length (text_of t.rows)) b (left c) cs place why) (sym (or-false p)) (subst (λ (n : ℕ). IsFault n p (left c) cs place why) here f));
     }
@@ -84,7 +84,9 @@ target_line q more (Of a) h n = (n h.0 (ap (λ (x : Placed). x.row.line) (cons_c
 -- what comes next is no target
 pub absent_end : (a b : Place) → Took a b [] → EndsWhole b → Reads target a b Absent
 absent_end a b t e = record {
-  rows = []; took = t; says = refl;
+  rows = [];
+  took = t;
+  says = refl;
   closed = λ clear q more s m h.
       let l = clear_lacks target a b t e clear in
       elim m [
@@ -95,7 +97,9 @@ absent_end a b t e = record {
 
 pub absent_line : (a b : Place) (text : List ℕ) → Took a b [] → IsNext b → b.held ≡ text ++ 10 ∷ [] → NeverTarget text → Reads target a b Absent
 absent_line a b text t n e never = record {
-  rows = []; took = t; says = refl;
+  rows = [];
+  took = t;
+  says = refl;
   closed = λ clear q more s m h. elim m [
     | inl f ↦ target_line q more s h (subst NeverTarget (same_next b text n e q.row.line f) never)
     | inr f ↦ let u = held_counts b text e n.line n.counts f.0 f.1 in let v = f.2 in let d : true ≡ false = sym v ∙ u in absurd cc

@@ -43,11 +43,7 @@ pub fn encoding_line(line: &[u8]) -> Option<&[u8]>
 /// # Errors
 ///
 /// Memory ran out.
-pub fn commit_line(
-    alloc: Global,
-    word: &[u8],
-    line: &[u8],
-) -> Result<Option<Commitish>, AllocError>
+pub fn commit_line(alloc: Global, word: &[u8], line: &[u8]) -> Result<Option<Commitish>, AllocError>
     ensures some { IfOk result (λ found. IfSome found (SaysLine word.now NamesCommit line.now)) }
     ensures none { IfOk result (λ found. IfNone found (NeverLine word.now NamesCommit line.now)) }
 {
