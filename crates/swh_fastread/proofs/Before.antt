@@ -11,19 +11,19 @@ use Rattle.swh_fastread.proofs.Parts.{cons_cut}
 use Rattle.swh_fastread.proofs.Rows.{goes_on}
 use Rattle.swh_fastread.proofs.Streams.{Stops, shape, span, items_stop, item_one}
 
-stops_append : (a b : List Placed) → Stops a → Stops b → Stops (a ++ b)
+pub stops_append : (a b : List Placed) → Stops a → Stops b → Stops (a ++ b)
 stops_append [] b h k = k
 stops_append (p ∷ a) b h k = h
 
 -- an item that is cut off begins with a line of its own
-part_stop : (part : List Placed) → IsUnfinished part → Stops part
+pub part_stop : (part : List Placed) → IsUnfinished part → Stops part
 part_stop [] u = tt
 part_stop (p ∷ part) u =
     let s = shape ((p ∷ part) ++ u.more) u.item u.begins in
     subst (λ (x : Placed). Stops (x ∷ part)) (sym (cons_cut p s.first (part ++ u.more) s.others s.rows_are).0) s.starts
 
 -- what is cut off holds no whole item
-no_item_first : (part front others : List Placed) (i : Item) → IsUnfinished part → IsItem front i → Stops others → part ≡ front ++ others → ⊥
+pub no_item_first : (part front others : List Placed) (i : Item) → IsUnfinished part → IsItem front i → Stops others → part ≡ front ++ others → ⊥
 no_item_first part front [] i u h st e = u.none i (subst (λ r. IsItem r i) (sym (e ∙ append_nil front)) h)
 no_item_first part front (p ∷ others) i u h st e =
     let s = shape front i h in

@@ -14,26 +14,26 @@ use Rattle.swh_fastread.proofs.Parts.{One, Single, begins, Begins, one_then, one
 pub line_single : {X : Type 0} (front : List ℕ) (Tells : List ℕ → X → Type 0) → Single (line front Tells)
 line_single front Tells rows x h = (line_at h.0 (front ++ h.1), h.2)
 
-placed_single : {X : Type 0} (front : List ℕ) (Tells : List ℕ → X → Type 0) → Single (placed_line front Tells)
+pub placed_single : {X : Type 0} (front : List ℕ) (Tells : List ℕ → X → Type 0) → Single (placed_line front Tells)
 placed_single front Tells rows a h = (line_at a.at (front ++ h.0), h.1)
 
-contents_single : Single contents
+pub contents_single : Single contents
 contents_single rows x h = (h.0, h.2)
 
-line_begins : {X : Type 0} (word front : List ℕ) (b : Bool) (Tells : List ℕ → X → Type 0) → ((text : List ℕ) → starts_with nat_eq (front ++ text) word ≡ b) → Begins word b (line front Tells)
+pub line_begins : {X : Type 0} (word front : List ℕ) (b : Bool) (Tells : List ℕ → X → Type 0) → ((text : List ℕ) → starts_with nat_eq (front ++ text) word ≡ b) → Begins word b (line front Tells)
 line_begins word front b Tells e rows x h = ap (begins word) h.2 ∙ e h.1
 
-placed_begins : {X : Type 0} (word front : List ℕ) (b : Bool) (Tells : List ℕ → X → Type 0) → ((text : List ℕ) → starts_with nat_eq (front ++ text) word ≡ b) → Begins word b (placed_line front Tells)
+pub placed_begins : {X : Type 0} (word front : List ℕ) (b : Bool) (Tells : List ℕ → X → Type 0) → ((text : List ℕ) → starts_with nat_eq (front ++ text) word ≡ b) → Begins word b (placed_line front Tells)
 placed_begins word front b Tells e rows x h = ap (begins word) h.1 ∙ e h.0
 
-contents_begins : (word : List ℕ) → ((text : List ℕ) → starts_with nat_eq (codes "data " ++ text) word ≡ false) → Begins word false contents
+pub contents_begins : (word : List ℕ) → ((text : List ℕ) → starts_with nat_eq (codes "data " ++ text) word ≡ false) → Begins word false contents
 contents_begins word e rows x h = ap (begins word) h.2 ∙ elim h.3 [
   | inl d ↦ ap (λ (t : List ℕ). starts_with nat_eq t word) d.line ∙ e d.text
   | inr d ↦ ap (λ (t : List ℕ). starts_with nat_eq t word) d.line ∙ e (codes "<<" ++ d.word)
 ]
 
 -- rows begin with what their first part begins with
-single_begins : {X Y : Type 0} (word : List ℕ) (b : Bool) (L : List Placed → X → Type 0) (M : List Placed → Y → Type 0) → Single L → Begins word b L → Begins word b (L ▹ M)
+pub single_begins : {X Y : Type 0} (word : List ℕ) (b : Bool) (L : List Placed → X → Type 0) (M : List Placed → Y → Type 0) → Single L → Begins word b L → Begins word b (L ▹ M)
 single_begins word b L M s l rows v h =
     let p = s h.0 v.0 h.3 in
     ap (begins word) h.2 ∙ ap (λ (r : List Placed). begins word (r ++ h.1)) p.1 ∙ (ap (begins word) (sym p.1) ∙ l h.0 v.0 h.3)
@@ -42,24 +42,24 @@ none_begin : (word : List ℕ) (a b : List Placed) → begins word a ≡ false �
 none_begin word [] b e f = f
 none_begin word (p ∷ a) b e f = e
 
-optional_begins : {X Y : Type 0} (word : List ℕ) (L : List Placed → X → Type 0) (M : List Placed → Y → Type 0) → Begins word false L → Begins word false M → Begins word false (optional L ▹ M)
+pub optional_begins : {X Y : Type 0} (word : List ℕ) (L : List Placed → X → Type 0) (M : List Placed → Y → Type 0) → Begins word false L → Begins word false M → Begins word false (optional L ▹ M)
 optional_begins {X} word L M l m rows v h = ap (begins word) h.2 ∙ none_begin word h.0 h.1 (part v.0 h.0 h.3) (m h.1 v.1 h.4)
   where
     part : (x : Option X) (f : List Placed) → optional L f x → begins word f ≡ false
     part None f k = ap (begins word) k
     part (Some x) f k = l f x k
 
-many_begins : {X : Type 0} (word : List ℕ) (L : List Placed → X → Type 0) → Begins word false L → Begins word false (many L)
+pub many_begins : {X : Type 0} (word : List ℕ) (L : List Placed → X → Type 0) → Begins word false L → Begins word false (many L)
 many_begins word L l rows [] h = ap (begins word) h
 many_begins word L l rows (x ∷ xs) h = ap (begins word) h.2 ∙ none_begin word h.0 h.1 (l h.0 x h.3) (many_begins word L l h.1 xs h.4)
 
-both_begin : {X Y : Type 0} (word : List ℕ) (L : List Placed → X → Type 0) (M : List Placed → Y → Type 0) → Begins word false L → Begins word false M → Begins word false (L ▹ M)
+pub both_begin : {X Y : Type 0} (word : List ℕ) (L : List Placed → X → Type 0) (M : List Placed → Y → Type 0) → Begins word false L → Begins word false M → Begins word false (L ▹ M)
 both_begin word L M l m rows v h = ap (begins word) h.2 ∙ none_begin word h.0 h.1 (l h.0 v.0 h.3) (m h.1 v.1 h.4)
 
-skip_begins : {X Y : Type 0} (word : List ℕ) (b : Bool) (L : List Placed → X → Type 0) (M : List Placed → Y → Type 0) → Begins word b (L ▹ M) → Begins word b (L ▸ M)
+pub skip_begins : {X Y : Type 0} (word : List ℕ) (b : Bool) (L : List Placed → X → Type 0) (M : List Placed → Y → Type 0) → Begins word b (L ▹ M) → Begins word b (L ▸ M)
 skip_begins word b L M l rows y h = l rows (h.0, y) h.1
 
-change_begins : (word : List ℕ) → ((text : List ℕ) → starts_with nat_eq (codes "M " ++ text) word ≡ false) → ((text : List ℕ) → starts_with nat_eq (codes "D " ++ text) word ≡ false) → ((text : List ℕ) → starts_with nat_eq (codes "C " ++ text) word ≡ false) → ((text : List ℕ) → starts_with nat_eq (codes "R " ++ text) word ≡ false) → ((text : List ℕ) → starts_with nat_eq (codes "deleteall" ++ text) word ≡ false) → Begins word false change
+pub change_begins : (word : List ℕ) → ((text : List ℕ) → starts_with nat_eq (codes "M " ++ text) word ≡ false) → ((text : List ℕ) → starts_with nat_eq (codes "D " ++ text) word ≡ false) → ((text : List ℕ) → starts_with nat_eq (codes "C " ++ text) word ≡ false) → ((text : List ℕ) → starts_with nat_eq (codes "R " ++ text) word ≡ false) → ((text : List ℕ) → starts_with nat_eq (codes "deleteall" ++ text) word ≡ false) → Begins word false change
 change_begins word m d c r a rows x h = ap (begins word) h.2 ∙ which x.it h.0
   where
     which : (c : Change) (text : List ℕ) → starts_with nat_eq (change_word c ++ text) word ≡ false
@@ -84,28 +84,28 @@ encoding_one text x y h k = sym h.0 ∙ k.0
 unit_one : (P : List ℕ → Unit {0} → Type 0) (text : List ℕ) (x y : Unit {0}) → P text x → P text y → x ≡ y
 unit_one P text x y h k = refl
 
-mark_one : One mark
+pub mark_one : One mark
 mark_one = line_one (codes "mark :") IsMark one_mark
 
-oid_one : One oid
+pub oid_one : One oid
 oid_one = line_one (codes "original-oid ") anything (unit_one anything)
 
 from_one : One from
 from_one = placed_one (codes "from ") NamesCommit one_commit
 
-abbrev author : List Placed → List ℕ → Type 0
+abbrev pub author : List Placed → List ℕ → Type 0
 author = line (codes "author ") NamesPerson
 
-abbrev committer : List Placed → List ℕ → Type 0
+abbrev pub committer : List Placed → List ℕ → Type 0
 committer = line (codes "committer ") NamesPerson
 
-abbrev encoding : List Placed → List ℕ → Type 0
+abbrev pub encoding : List Placed → List ℕ → Type 0
 encoding = line (codes "encoding ") NamesEncoding
 
-abbrev tagger : List Placed → List ℕ → Type 0
+abbrev pub tagger : List Placed → List ℕ → Type 0
 tagger = line (codes "tagger ") NamesPerson
 
-abbrev merge : List Placed → At Commitish → Type 0
+abbrev pub merge : List Placed → At Commitish → Type 0
 merge = placed_line (codes "merge ") NamesCommit
 
 pub blob_one : One blob
@@ -126,7 +126,7 @@ tag_one =
     let l4 : One (optional mark ▹ from ▹ optional oid ▸ optional tagger ▹ contents) = one_optional (codes "mark :") mark (from ▹ optional oid ▸ optional tagger ▹ contents) (line_single (codes "mark :") IsMark) (line_begins (codes "mark :") (codes "mark :") true IsMark (λ t. refl)) n3 mark_one l3 in
     one_then (line (codes "tag ") NamesTag) (optional mark ▹ from ▹ optional oid ▸ optional tagger ▹ contents) (line_single (codes "tag ") NamesTag) (line_one (codes "tag ") NamesTag tag_name_one) l4
 
-abbrev after_data : List Placed → Option (At Commitish) × (List (At Commitish) × List (At Change)) → Type 0
+abbrev pub after_data : List Placed → Option (At Commitish) × (List (At Commitish) × List (At Change)) → Type 0
 after_data = optional from ▹ many merge ▹ many change
 
 after_one : One after_data

@@ -37,7 +37,7 @@ optional_keeps : {X : Type 0} (L : List Placed → X → Type 0) → Keeps L →
 optional_keeps L l rows None h = subst AllKept (sym h) tt
 optional_keeps L l rows (Some x) h = l rows x h
 
-many_keeps : {X : Type 0} (L : List Placed → X → Type 0) → Keeps L → Keeps (many L)
+pub many_keeps : {X : Type 0} (L : List Placed → X → Type 0) → Keeps L → Keeps (many L)
 many_keeps L l rows [] h = subst AllKept (sym h) tt
 many_keeps L l rows (x ∷ xs) h = subst AllKept (sym h.2) (all_append h.0 h.1 (l h.0 x h.3) (many_keeps L l h.1 xs h.4))
 
@@ -146,7 +146,7 @@ over : (b : Bool) (p : Placed) (rest : List Placed) → AllKept (if b then rest 
 over true p rest h e = absurd cc
 over false p rest h e = h.0
 
-row_kept : (at : ℕ) (rs : List Row) (r : Row) (more : List Row) → AllKept (placed at (rs ++ r ∷ more)) → is_comment r.line ≡ false → kept r.line ≡ true
+pub row_kept : (at : ℕ) (rs : List Row) (r : Row) (more : List Row) → AllKept (placed at (rs ++ r ∷ more)) → is_comment r.line ≡ false → kept r.line ≡ true
 row_kept at [] r more h e = over (is_comment r.line) (record { at = at; row = r }) (placed (at + length (row_text r)) more) h e
 row_kept at (q ∷ rs) r more h e = row_kept (at + length (row_text q)) rs r more (under (is_comment q.line) (record { at = at; row = q }) (placed (at + length (row_text q)) (rs ++ r ∷ more)) h) e
 

@@ -12,3 +12,17 @@ pub mod ChangeLines
 pub mod RefRuns
 pub mod Promises
 pub mod DataOpened
+pub mod Joins
+pub mod Onward
+pub mod Broken
+pub mod Remains
+pub mod Places
+pub mod HeldLines
+pub mod CountedData
+pub mod NextLines
+pub mod LongRefs
+pub mod DelimitedData
+pub mod Begun
+pub mod Blobs
+pub mod Tags
+pub mod Resets

@@ -50,7 +50,7 @@ pub cons_cut : (p q : Placed) (a b : List Placed) → p ∷ a ≡ q ∷ b → (p
 cons_cut p q a b e = (cc, ap tail e)
 
 -- two first rows and what follows each
-single_cut : {X Y : Type 0} (L : List Placed → X → Type 0) (M : List Placed → Y → Type 0) → Single L → Single M → (f b g c : List Placed) (x : X) (y : Y) → L f x → M g y → f ++ b ≡ g ++ c → (f ≡ g) × (b ≡ c)
+pub single_cut : {X Y : Type 0} (L : List Placed → X → Type 0) (M : List Placed → Y → Type 0) → Single L → Single M → (f b g c : List Placed) (x : X) (y : Y) → L f x → M g y → f ++ b ≡ g ++ c → (f ≡ g) × (b ≡ c)
 single_cut L M s t f b g c x y h k e =
     let p = s f x h in
     let q = t g y k in
@@ -235,7 +235,7 @@ change_cut a b r z x y h k e =
     let same = it_cut x.it y.it h.0 k.0 h.1 k.1 r z (ap (λ (t : Placed). t.row.line) cut.0) h.3 k.3 h.4 k.4 cut.1 in
     (h.2 ∙ ap (λ (t : Placed). t ∷ h.1) cut.0 ∙ ap (λ (t : List Placed). q ∷ t) same.1 ∙ sym k.2, same_at x y (ap (λ (t : Placed). t.at) cut.0) same.0, same.2)
 
-some_change : (a b : List Placed) (x : At Change) → change a x → [] ≡ a ++ b → ⊥
+pub some_change : (a b : List Placed) (x : At Change) → change a x → [] ≡ a ++ b → ⊥
 some_change a b x h e = let n : [] ≡ line_at x.at (change_word x.it ++ h.0) ∷ (h.1 ++ b) = e ∙ ap (λ (t : List Placed). t ++ b) h.2 in absurd cc
 
 pub changes_one : One (many change)

@@ -1,6 +1,10 @@
+pub mod Explains
 pub mod Fault
 pub mod Grammar
+pub mod Held
 pub mod Limit
+pub mod Outside
+pub mod Places
 pub mod Reading
 pub mod Row
 pub mod Word

@@ -5,18 +5,31 @@
 //! one with a ref or a path that is too long is told so first.
 #![tactic(auto)]
 
+mod ahead;
+mod blob;
 mod change_lines;
 mod command;
+mod data;
 mod data_lines;
+mod fail;
 mod fault;
+mod hold;
 mod laws;
 mod left_out;
 mod line_words;
+mod optional;
+mod part_lines;
+mod peek;
+mod reset;
+mod row_source;
+mod tag;
+mod whole;
 mod worked;
 
 pub use change_lines::{ChangeLine, change_line};
 pub use command::{At, Change, Command, Commitish, Dataref, Start};
 pub use data_lines::{DataLine, data_line};
+pub use fail::{Outside, ReadFail};
 pub use fault::StreamWhy;
 pub use laws::{no_fault, one_fault, one_reading};
 pub use left_out::is_left_out;

@@ -1,0 +1,120 @@
+-- Data whose bytes are counted.
+use Rattle.std.proofs.Common.{◌≡◌, ◌≢◌, ℕ, ◌+◌, ◌-◌, ◌<◌, inl, inr, Bool, true, false, List, [], ◌∷◌, ◌++◌, length, length-append, replicate, Contains, refl, sym, ap, ◌∙◌, subst, arith, append_assoc, codes}
+use Rattle.std.proofs.lemmas.List.{append-nil, length-replicate}
+use Rattle.swh_base.proofs.Splits.{first_split}
+use Rattle.swh_base.specs.Limits.{body_limit}
+use Rattle.swh_base.specs.Text.{IsNumber, value_from}
+use Rattle.swh_base.specs.declared.visit.Which.TheVariants.{Body, Stream}
+use Rattle.swh_fastlex.specs.Line.{IsLine}
+use Rattle.swh_fastlex.specs.declared.fault.LineFault.{LineFault}
+use Rattle.swh_fastlex.specs.declared.fault.LineFault.TheVariants.{Failed, End as Ends, Limit as Limits, Memory as NoRoom}
+use Rattle.swh_fastread.specs.declared.row_source.TheConstants.{STREAM_LIMIT}
+use Rattle.swh_fastread.specs.Explains.{PassesAfter, DataFails, data_fail, OpensCounted}
+use Rattle.swh_fastread.specs.Grammar.{contents}
+use Rattle.swh_fastread.specs.Held.{IsShort, IsFed}
+use Rattle.swh_fastread.specs.Places.{Place, left, Part, DataLacks}
+use Rattle.swh_fastread.specs.Row.{Row, row_text, begins_with, IsFeed, IsData, Opens, IsRow}
+use Rattle.swh_fastread.proofs.HeldLines.{taken, front_of, held_text, held_first, data_counts}
+use Rattle.swh_fastread.proofs.Joins.{took_none, took_row}
+use Rattle.swh_fastread.proofs.Rows.{same_tail, no_angle}
+
+pub body_passes : (a : Place) (count : ℕ) → OpensCounted a count → IsLine a.held → body_limit < count → PassesAfter a Body count
+body_passes a count o l over = record { before = a; rows = []; took = took_none a; passes = (over, inl (o.0, held_first a (codes "data " ++ o.0) o.1 l, o.2)) }
+
+padded : (text : List ℕ) (n : ℕ) (bytes : List ℕ) → IsNumber text n → length bytes ≡ n → IsData (record { line = codes "data " ++ text; raw = bytes }) bytes (codes "done\n")
+padded text n bytes number size = inl (record { text = text; feed = []; line = refl; number = subst (IsNumber text) (sym size) number; raw = sym (append-nil bytes); is_feed = inr (refl, refl) })
+
+plain_data : (text : List ℕ) (n : ℕ) → IsNumber text n → Opens (codes "data " ++ text)
+plain_data text n number = (replicate n 0, replicate n 0, codes "done\n", padded text n (replicate n 0) number (length-replicate n 0))
+
+-- data that lack bytes are no row
+short_row : (text : List ℕ) (count : ℕ) (rest : List ℕ) → (Contains (codes "data " ++ text) 10 → ⊥) → IsNumber text count → length rest < count → (row : Row) (next : List ℕ) → (codes "data " ++ text) ++ 10 ∷ rest ≡ row_text row ++ next → IsRow row next → ⊥
+short_row text count rest no_feed number short row next e h =
+    let line : List ℕ = codes "data " ++ text in
+    let cut = first_split 10 line row.line rest (row.raw ++ next) no_feed h.one_line (e ∙ append_assoc row.line (10 ∷ row.raw) next) in
+    elim h.after [
+      | inl d ↦ by_data d.0 d.1 cut.0 cut.1
+      | inr o ↦ o.0 (subst Opens cut.0 (plain_data text count number))
+    ]
+  where
+    by_data : (bytes : List ℕ) → IsData row bytes next → codes "data " ++ text ≡ row.line → rest ≡ row.raw ++ next → ⊥
+    by_data bytes (inl d) l r =
+        let texts : text ≡ d.text = same_tail (codes "data ") text d.text (l ∙ d.line) in
+        let n = number.value in let m = d.number.value in let v = ap (value_from 0) texts in
+        omega (arith, n, m, v, short, ap length r, length-append row.raw next, ap length d.raw, length-append bytes d.feed)
+    by_data bytes (inr d) l r = no_angle text (60 ∷ d.word) count number (same_tail (codes "data ") text (codes "<<" ++ d.word) (l ∙ d.line))
+
+data_lacks : (a c : Place) (count at : ℕ) → OpensCounted a count → IsLine a.held → IsShort count (taken a) c → at ≡ c.at → DataLacks a at
+data_lacks a c count at o l s e =
+    let short = s.short in
+    let here = s.here in
+    let fill : List ℕ = replicate (count - length a.rest) 0 in
+    let size : length (a.rest ++ fill) ≡ count = omega (arith, length-append a.rest fill, length-replicate {A = ℕ} (count - length a.rest) 0, short) in
+    let line : List ℕ = codes "data " ++ o.0 in
+    let no_feed = front_of a.held line o.1 l in
+    record {
+      before = a;
+      line = line;
+      next = a.rest;
+      more = fill;
+      bytes = a.rest ++ fill;
+      took = took_none a;
+      spelled = held_text a line o.1;
+      one_line = no_feed;
+      cut = λ row other f h. short_row o.0 count a.rest no_feed o.2 short row other (sym (held_text a line o.1) ∙ f) h;
+      filled = padded o.0 count (a.rest ++ fill) o.2 size;
+      here = omega (arith, e, here, length-append a.held a.rest);
+    }
+
+pub counted_fails : (a c : Place) (fault : LineFault) (count at : ℕ) → OpensCounted a count → IsLine a.held → fault ≢ Limits → (fault ≡ Ends → IsShort count (taken a) c) → at ≡ c.at → DataFails a (data_fail fault at)
+counted_fails a c Failed count at o l n s e = tt
+counted_fails a c Ends count at o l n s e = inr (data_lacks a c count at o l (s refl) e)
+counted_fails a c Limits count at o l n s e = absurd (n refl)
+counted_fails a c NoRoom count at o l n s e = tt
+
+-- a row of data, and the places before and after it
+pub record DataRow (a d : Place) (bytes : List ℕ) : Type 0 where
+  pub row : Row
+  pub data_is : IsData row bytes (left d)
+  pub text : left a ≡ row_text row ++ left d
+  pub one_line : Contains row.line 10 → ⊥
+  pub here : d.at ≡ a.at + length (row_text row)
+
+pub part_of : (a d : Place) (bytes : List ℕ) → DataRow a d bytes → Part contents a d bytes
+part_of a d bytes r = record {
+  rows = record { at = a.at; row = r.row } ∷ [];
+  took = took_row a d r.row r.text (record { one_line = r.one_line; after = inl (bytes, r.data_is) }) (data_counts r.row bytes (left d) r.data_is) r.here;
+  says = (record { at = a.at; row = r.row }, left d, refl, r.data_is);
+}
+
+pub stream_passes : (a d : Place) (bytes : List ℕ) (at : ℕ) → DataRow a d bytes → at ≡ d.at → STREAM_LIMIT < at → PassesAfter a Stream (STREAM_LIMIT + 1)
+stream_passes a d bytes at r e over =
+    let here = r.here in
+    record { before = a; rows = []; took = took_none a; passes = record { front = row_text r.row; rest = left d; cut = r.text; stretch = inr (inr (r.row, bytes, left d, refl, r.data_is)); over = omega (arith, here, e, over); count = refl } }
+
+pub counted_row : (a c d : Place) (bytes : List ℕ) (count : ℕ) (fed : Bool) → OpensCounted a count → IsLine a.held → length bytes ≡ count → a.rest ≡ bytes ++ c.rest → c.at ≡ (taken a).at + count → IsFed c d fed → d.held ≡ [] → DataRow a d bytes
+counted_row a c d bytes count true o l size text at f none =
+    let line : List ℕ = codes "data " ++ o.0 in
+    let now : left d ≡ d.rest = ap (λ (h : List ℕ). h ++ d.rest) none in
+    let next : a.rest ≡ (bytes ++ 10 ∷ []) ++ left d = text ∙ ap (λ (t : List ℕ). bytes ++ t) (f.0 ∙ ap (λ (t : List ℕ). 10 ∷ t) (sym now)) ∙ sym (append_assoc bytes (10 ∷ []) (left d)) in
+    let there = f.1 in
+    record {
+      row = record { line = line; raw = bytes ++ 10 ∷ [] };
+      data_is = inl (record { text = o.0; feed = 10 ∷ []; line = refl; number = subst (IsNumber o.0) (sym size) o.2; raw = refl; is_feed = inl refl });
+      text = held_text a line o.1 ∙ ap (λ (t : List ℕ). line ++ 10 ∷ t) next ∙ sym (append_assoc line (10 ∷ (bytes ++ 10 ∷ [])) (left d));
+      one_line = front_of a.held line o.1 l;
+      here = omega (arith, at, there, size, ap length o.1, length-append line (10 ∷ []), length-append line (10 ∷ (bytes ++ 10 ∷ [])), length-append bytes (10 ∷ []));
+    }
+counted_row a c d bytes count false o l size text at f none =
+    let line : List ℕ = codes "data " ++ o.0 in
+    let now : left d ≡ d.rest = ap (λ (h : List ℕ). h ++ d.rest) none in
+    let same : c.rest ≡ left d = sym f.0 ∙ sym now in
+    let next : a.rest ≡ bytes ++ left d = text ∙ ap (λ (t : List ℕ). bytes ++ t) same in
+    let there = f.2 in
+    record {
+      row = record { line = line; raw = bytes };
+      data_is = inl (record { text = o.0; feed = []; line = refl; number = subst (IsNumber o.0) (sym size) o.2; raw = sym (append-nil bytes); is_feed = inr (refl, ap (begins_with 10) (sym same) ∙ f.1) });
+      text = held_text a line o.1 ∙ ap (λ (t : List ℕ). line ++ 10 ∷ t) next ∙ sym (append_assoc line (10 ∷ bytes) (left d));
+      one_line = front_of a.held line o.1 l;
+      here = omega (arith, at, there, size, ap length o.1, length-append line (10 ∷ []), length-append line (10 ∷ bytes));
+    }

@@ -1,0 +1,14 @@
+use Rattle.std.proofs.Common.{rules, inl, inr, refl, ◌∷◌, []}
+use Rattle.swh_base.specs.declared.visit.Which.TheVariants.{Line, Stream}
+use Rattle.swh_fastread.proofs.NextLines.{long_here, over_here}
+use Rattle.swh_fastread.proofs.whole.next_line.Goals as goal
+
+pub returns-in-Long-clause-end : goal.returns-in-Long-clause-end
+returns-in-Long-clause-end g c = λ told same.
+    let ahead = rw c.in-Long.is at c.in_ok-look.ensures.ahead in
+    inr (Line, _, long_here c.look.new.self ahead.0 ahead.1)
+
+pub returns-in-Over-clause-end : goal.returns-in-Over-clause-end
+returns-in-Over-clause-end g c = λ told same.
+    let ahead = rw c.in-Over.is at c.in_ok-look.ensures.ahead in
+    inr (Stream, _, over_here c.look.new.self ahead.0 ahead.1)

@@ -1,0 +1,63 @@
+// Resets of a stream (git-fast-import(1), reset).
+ghost use Rattle.std.specs.Prelude.{◌≡◌, ◌≤◌, ◌++◌, ◌∷◌, [], Bool, codes, IfOk, IfErr, IsErrOf};
+ghost use Rattle.swh_outside.specs.Faults.{Rose};
+ghost use Rattle.swh_fastread.specs.declared.fail.Outside.TheVariants.{Failed};
+ghost use Rattle.swh_fastread.specs.Explains.{Gives, Reads};
+ghost use Rattle.swh_fastread.specs.Grammar.{target};
+ghost use Rattle.swh_fastread.specs.Held.{IsNext};
+ghost use Rattle.swh_fastread.specs.Places.{position};
+ghost use Rattle.swh_fastread.specs.Word.{NamesRef};
+
+use crate::command::{At, Command, Start};
+use crate::fail::Outside;
+use crate::line_words::{commit_word, is_zeros};
+use crate::row_source::Rows;
+use crate::whole::next_line;
+use swh_base::Bytes;
+use swh_fastlex::Word;
+use swh_outside::Source;
+use swh_pieces::behind;
+
+/// Where a reset leads: the commit that a line `from` names, where one comes next, or no tip where it names forty zeros.
+fn reset_target<S: Source>(rows: &mut Rows<S>) -> Result<Start, Outside>
+    ensures target { S.tells → IfOk result (Reads target rows.old rows.new) }
+
+    ensures same_path { rows.new.path ≡ rows.old.path }
+    ensures later { rows.old.faults ≤ rows.new.faults }
+    ensures cause { IsErrOf result Failed → Rose rows.old.faults rows.new.faults }
+{
+    if !next_line(rows)? {
+        return Ok(Start::Absent);
+    }
+    let Some(text) = behind(b"from ", rows.line()) else {
+        return Ok(Start::Absent);
+    };
+    if is_zeros(text) {
+        rows.take();
+        return Ok(Start::NoTip);
+    }
+    let commit = match commit_word(rows.alloc(), text)? {
+        Word::Is(commit) => commit,
+        Word::Over(_) => return Ok(Start::Absent),
+        Word::No => return Ok(Start::Absent),
+    };
+    let at = rows.at();
+    rows.take();
+    Ok(Start::Of(At { at, it: commit }))
+}
+
+/// The reset of this ref that the held line begins.
+pub fn read_reset<S: Source>(rows: &mut Rows<S>, branch: Bytes) -> Result<Command, Outside>
+    requires next { IsNext rows.old }
+    requires line { rows.old.held ≡ (codes "reset " ++ branch) ++ 10 ∷ [] }
+    requires name { NamesRef branch branch }
+    ensures command { S.tells → IfOk result (λ c. (p : Bool) → Gives (position rows.old p) (position rows.new p) c) }
+
+    ensures same_path { rows.new.path ≡ rows.old.path }
+    ensures later { rows.old.faults ≤ rows.new.faults }
+    ensures cause { IsErrOf result Failed → Rose rows.old.faults rows.new.faults }
+{
+    rows.take();
+    let parent = reset_target(rows)?;
+    Ok(Command::Reset { branch, parent })
+}
