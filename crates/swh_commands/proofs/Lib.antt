@@ -1,1 +1,3 @@
+pub mod ChangesMade
 pub mod MappedMaps
+pub mod Seens

@@ -77,6 +77,10 @@ module _ {T : Type 0} where
   object_at aims at (Mark mark) = or_missing (mark_at mark aims) at NoMark
   object_at aims at (Branch ref) = or_missing (if_commit (tip_at ref aims)) at NoBranch
 
+  -- the blob that a change names by its mark
+  abbrev pub blob_at : AllAims T → ℕ → ℕ → Result (Aim T) Missing
+  blob_at aims at mark = or_missing (if_blob (mark_at mark aims)) at NoMark
+
 -- an object with another form of its tree
 abbrev pub aim_with : {T U : Type 0} → (T → U) → Aim T → Aim U
 aim_with f aim = record { name = aim.name; tree = f aim.tree }

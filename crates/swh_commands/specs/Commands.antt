@@ -13,13 +13,14 @@ use Rattle.swh_fastread.specs.declared.command.At.{At}
 use Rattle.swh_fastread.specs.declared.command.Commitish.{Commitish}
 use Rattle.swh_fastread.specs.declared.command.Start.{Start}
 use Rattle.swh_fastread.specs.declared.command.Start.TheVariants.{Absent, NoTip, Of}
+use Rattle.swh_fastread.specs.declared.command.Dataref.{Dataref}
 use Rattle.swh_fastread.specs.declared.command.Dataref.TheVariants.{Mark, Inline, Hex}
 use Rattle.swh_fastread.specs.declared.command.Change.{Change}
 use Rattle.swh_fastread.specs.declared.command.Change.TheVariants.{Set, Delete, Copy, Move, Clear}
 use Rattle.swh_fastread.specs.declared.command.Command.{Command}
 use Rattle.swh_fastread.specs.declared.command.Command.TheVariants.{Blob, Commit, Tag, Reset}
-use Rattle.swh_fastread.specs.declared.fault.StreamWhy.TheVariants.{Mark as NoMark, Place as NoPlace}
-use Rattle.swh_commands.specs.Aims.{Aim, AllAims, Missing, no_aims, mark_at, tip_at, with_mark, with_tip, without_tip, if_commit, if_blob, or_missing, commit_at, object_at}
+use Rattle.swh_fastread.specs.declared.fault.StreamWhy.TheVariants.{Place as NoPlace}
+use Rattle.swh_commands.specs.Aims.{Aim, AllAims, Missing, no_aims, tip_at, with_mark, with_tip, without_tip, if_commit, commit_at, object_at, blob_at}
 
 -- an object with a commit's tree as a path map, and all that marks and refs lead to
 abbrev pub Target : Type 0
@@ -33,10 +34,6 @@ infixl 10 ◌>>=◌
 abbrev pub ◌>>=◌ : {X Y : Type 0} → Result X Missing → (X → Result Y Missing) → Result Y Missing
 (Ok x) >>= f = f x
 (Err missing) >>= f = Err missing
-
--- the blob that a change names by its mark
-abbrev pub blob_at : Targets → ℕ → ℕ → Result Target Missing
-blob_at aims at mark = or_missing (if_blob (mark_at mark aims)) at NoMark
 
 -- a tree, and the contents that were made for it
 pub record Changed : Type 0 where
@@ -66,18 +63,22 @@ abbrev pub no_making : Making
 no_making = record { aims = no_aims; objects = []; trees = [] }
 
 module _ (id : Kind → List ℕ → List ℕ) where
+  -- what a file is set to, in the line at this place: its id, and the content that is made for it
+  abbrev pub set_to : {T : Type 0} → AllAims T → ℕ → Dataref → Result (List ℕ × List Made) Missing
+  set_to aims at (Mark mark) = blob_at aims at mark >>= λ aim. Ok (aim.name.id, [])
+  set_to aims at (Inline bytes) = Ok (id Content bytes, content bytes ∷ [])
+  set_to aims at (Hex i) = Ok (i, [])
+
   -- a change, whose line is at this place
-  abbrev pub changed : Targets → ℕ → Change → Changed → Result Changed Missing
-  changed aims at (Set mode (Mark mark) path) c = blob_at aims at mark >>= λ aim. Ok (put c path mode aim.name.id [])
-  changed aims at (Set mode (Inline bytes) path) c = Ok (put c path mode (id Content bytes) (content bytes ∷ []))
-  changed aims at (Set mode (Hex i) path) c = Ok (put c path mode i [])
+  abbrev pub changed : {T : Type 0} → AllAims T → ℕ → Change → Changed → Result Changed Missing
+  changed aims at (Set mode what path) c = set_to aims at what >>= λ s. Ok (put c path mode s.0 s.1)
   changed aims at (Delete path) c = Ok (turned c (delete (components path) c.tree) [])
   changed aims at (Copy source path) c = if_there source c at (copy (components source) (components path) c.tree)
   changed aims at (Move source path) c = if_there source c at (rename (components source) (components path) c.tree)
   changed aims at Clear c = Ok (turned c [] [])
 
   -- changes, one after another
-  abbrev pub all_changed : Targets → List (At Change) → Changed → Result Changed Missing
+  abbrev pub all_changed : {T : Type 0} → AllAims T → List (At Change) → Changed → Result Changed Missing
   all_changed aims [] c = Ok c
   all_changed aims (a ∷ more) c = changed aims a.at a.it c >>= λ d. all_changed aims more d
 
