@@ -13,6 +13,7 @@ mod data;
 mod data_lines;
 mod fail;
 mod fault;
+mod front;
 mod hold;
 mod laws;
 mod left_out;
