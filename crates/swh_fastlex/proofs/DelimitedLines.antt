@@ -1,8 +1,9 @@
 -- Lines before a delimiter: one more of them, and what is to be read after it.
-use Rattle.std.proofs.Common.{◌≡◌, ℕ, ◌+◌, List, [], ◌∷◌, ◌++◌, length, refl, sym, ap, ◌∙◌, arith, append_assoc, length-append}
+use Rattle.std.proofs.Common.{◌≡◌, ℕ, ◌+◌, ◌≤◌, List, [], ◌∷◌, ◌++◌, length, refl, sym, ap, ◌∙◌, arith, append_assoc, length-append}
 use Rattle.std.specs.List.{AllByRecursion}
 use Rattle.swh_base.proofs.Splits.{sized_split}
-use Rattle.swh_fastlex.specs.Delimited.{IsOther, lines_text, AreLines}
+use Rattle.swh_base.specs.Limits.{line_limit}
+use Rattle.swh_fastlex.specs.Delimited.{IsOther, IsShortLine, lines_text, AreLines}
 use Rattle.swh_fastlex.specs.Line.{Held, unread, Takes, IsLine}
 
 -- what follows one front of two equal texts is the same
@@ -13,14 +14,15 @@ lines_more : (ls : List (List ℕ)) (m : List ℕ) → lines_text (ls ++ m ∷ [
 lines_more [] m = refl
 lines_more (l ∷ ls) m = ap (λ (t : List ℕ). l ++ 10 ∷ t) (lines_more ls m) ∙ sym (append_assoc l (10 ∷ lines_text ls) (m ++ 10 ∷ []))
 
-each_more : (word : List ℕ) (ls : List (List ℕ)) (m : List ℕ) → AllByRecursion (IsOther word) ls → IsOther word m → AllByRecursion (IsOther word) (ls ++ m ∷ [])
-each_more word [] m h k = (k, tt)
-each_more word (l ∷ ls) m h k = (h.0, each_more word ls m h.1 k)
+all_more : {A : Type 0} (P : A → Type 0) (ls : List A) (m : A) → AllByRecursion P ls → P m → AllByRecursion P (ls ++ m ∷ [])
+all_more P [] m h k = (k, tt)
+all_more P (l ∷ ls) m h k = (h.0, all_more P ls m h.1 k)
 
-pub one_more_line : (word bytes line longer : List ℕ) → AreLines word bytes → IsLine line → (line ≡ word ++ 10 ∷ [] → ⊥) → longer ≡ bytes ++ line → AreLines word longer
-one_more_line word bytes line longer h l other e = record {
+pub one_more_line : (word bytes line longer : List ℕ) → AreLines word bytes → IsLine line → length line ≤ line_limit → (line ≡ word ++ 10 ∷ [] → ⊥) → longer ≡ bytes ++ line → AreLines word longer
+one_more_line word bytes line longer h l short other e = record {
   lines = h.lines ++ l.front ∷ [];
-  each = each_more word h.lines l.front h.each (l.no_feed, λ same. other (l.text ∙ ap (λ (t : List ℕ). t ++ 10 ∷ []) same));
+  each = all_more (IsOther word) h.lines l.front h.each (l.no_feed, λ same. other (l.text ∙ ap (λ (t : List ℕ). t ++ 10 ∷ []) same));
+  fit = all_more IsShortLine h.lines l.front h.fit (let size = ap length l.text in omega (arith, short, size, length-append l.front (10 ∷ [])));
   value = e ∙ ap (λ (t : List ℕ). t ++ line) h.value ∙ ap (λ (t : List ℕ). lines_text h.lines ++ t) l.text ∙ sym (lines_more h.lines l.front);
 }
 

@@ -17,21 +17,27 @@ abbrev pub lines_text : List (List ℕ) → List ℕ
 lines_text [] = []
 lines_text (line ∷ lines) = line ++ 10 ∷ lines_text lines
 
--- The data are lines, none of which is the delimiter's.
+-- a line that is no longer than a line may be, with its LF
+abbrev pub IsShortLine : List ℕ → Type 0
+IsShortLine line = length line < line_limit
+
+-- The data are lines within the limit of lines, none of which is the delimiter's.
 pub record AreLines (word bytes : List ℕ) : Type 0 where
   pub lines : List (List ℕ)
   pub each : AllByRecursion (IsOther word) lines
+  pub fit : AllByRecursion IsShortLine lines
   pub value : bytes ≡ lines_text lines
 
 -- What was to be read is lines that are not the delimiter's, and the front of one more, without its LF and shorter than
--- the limit of lines; the front may be empty. All of it is read.
-pub record IsCutDelimited (word : List ℕ) (before now : Held) (left left_now : List ℕ) : Type 0 where
+-- the limit of lines; the front may be empty. All of it is read, and the lines are no longer than the data may be.
+pub record IsCutDelimited (word : List ℕ) (limit : ℕ) (before now : Held) (left left_now : List ℕ) : Type 0 where
   pub bytes : List ℕ
   pub front : List ℕ
   pub lines : AreLines word bytes
   pub all : unread before left ≡ bytes ++ front
   pub no_feed : Contains front 10 → ⊥
   pub short : length front < line_limit
+  pub within : length bytes ≤ limit
   pub nothing_now : unread now left_now ≡ []
   pub counted : now.place ≡ before.place + (length bytes + length front)
 
@@ -58,7 +64,7 @@ pub record PassesBody (word : List ℕ) (limit : ℕ) (before now : Held) (left 
 -- why no data are given
 abbrev pub IsDataFault : List ℕ → ℕ → Held → Held → List ℕ → List ℕ → DataFault → Type 0
 IsDataFault word limit before now left left_now Failed = Unit {0}
-IsDataFault word limit before now left left_now End = IsCutDelimited word before now left left_now
+IsDataFault word limit before now left left_now End = IsCutDelimited word limit before now left left_now
 IsDataFault word limit before now left left_now Line = HasLongLine word before now left left_now
 IsDataFault word limit before now left left_now Body = PassesBody word limit before now left left_now
 IsDataFault word limit before now left left_now Memory = Unit {0}

@@ -26,7 +26,7 @@ pub use delimited::next_delimited;
 pub use fault::{DataFault, LineFault, SourceFault};
 pub use feed::next_feed;
 pub use laws::one_spelled_path;
-pub use line::next_line;
+pub use line::{move_front, next_line};
 pub use path::is_path;
 pub use paths::{PathBefore, path_before, path_word};
 pub use reserved::read_source_reserved;

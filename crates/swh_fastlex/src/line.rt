@@ -14,7 +14,7 @@ use swh_outside::Source;
 
 /// Moves what is held up to and with its first LF, or as much of it as there is room for, to the end of the line, and
 /// answers whether there was an LF.
-fn move_front(window: &mut Window, line: &mut Vec<u8>, room: usize) -> Result<bool, AllocError>
+pub fn move_front(window: &mut Window, line: &mut Vec<u8>, room: usize) -> Result<bool, AllocError>
     requires some { 0 < room }
     requires fits { window.old.place + room < 2 ^ 64 }
     ensures moved { IfOk result (MovesFront window.old window.new line.old.items line.new.items room) }

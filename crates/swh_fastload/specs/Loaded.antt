@@ -1,6 +1,6 @@
 -- Loaded objects without where they lie in memory.
 use Rattle.swh_model.specs.Meaning.{StreamMeaning}
-use Rattle.swh_fastload.specs.declared.load.Objects.{Objects}
+use Rattle.swh_fastload.specs.declared.objects.Objects.{Objects}
 use Rattle.swh_fastload.specs.Making.{made}
 
 -- what was made of an input, and the id of its snapshot

@@ -1,16 +1,24 @@
-// Laws of the definitions of streams.
+//! Laws of what inputs mean.
 ghost use Rattle.std.specs.Prelude.{◌≡◌, ℕ, List, Option};
 ghost use Rattle.swh_base.specs.declared.kind.Kind.{Kind};
-ghost use Rattle.swh_model.specs.Meaning.{StreamMeaning, IsMeaning};
-ghost use Rattle.swh_model.specs.SmallStream.{SmallStream, Parses};
+ghost use Rattle.swh_model.specs.Meaning.{StreamMeaning};
+ghost use Rattle.swh_fastload.specs.Input.{IsSameMaking, Means, Breaks, MayBreak};
+ghost use Rattle.swh_fastload.specs.declared.bad.BadStream.{BadStream};
 
-/// A text is one stream of the small grammar at most.
-pub fn one_reading()
-    ensures { (text : List ℕ) (s t : SmallStream) → Parses text s → Parses text t → s ≡ t }
+/// What an input means has one set of objects and one snapshot.
+pub fn same_making()
+    ensures { (id : Kind → List ℕ → List ℕ) (head : Option (List ℕ)) (text : List ℕ) (m n : StreamMeaning)
+        → Means id head text m → Means id head text n → IsSameMaking m n }
 {}
 
-/// A text means one thing at most.
-pub fn one_meaning()
-    ensures { (id : Kind → List ℕ → List ℕ) (head : Option (List ℕ)) (text : List ℕ) (m n : StreamMeaning)
-        → IsMeaning id head text m → IsMeaning id head text n → m ≡ n }
+/// An input that means something does not break.
+pub fn never_both()
+    ensures { (id : Kind → List ℕ → List ℕ) (head : Option (List ℕ)) (text : List ℕ) (m : StreamMeaning)
+        (bad : BadStream) → Means id head text m → Breaks id head text bad → ⊥ }
+{}
+
+/// An input breaks only in the ways in which one may.
+pub fn ways_to_break()
+    ensures { (id : Kind → List ℕ → List ℕ) (head : Option (List ℕ)) (text : List ℕ) (bad : BadStream)
+        → Breaks id head text bad → MayBreak bad }
 {}

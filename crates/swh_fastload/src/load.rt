@@ -1,188 +1,175 @@
-//! What a stream means, made.
-ghost use Rattle.std.specs.Prelude.{
-  ◌≡◌,
-  ◌≤◌,
-  ◌<◌,
-  ◌++◌,
-  ◌∷◌,
-  [],
-  ℕ,
-  List,
-  Option,
-  Some,
-  None,
-  length,
-  map,
-  Contains,
-  IfOk,
-  IfErr,
-  OnOk,
-  IfSome,
-  codes,
-};
-ghost use Rattle.std.specs.Option.{option_map, option_copied};
-ghost use Rattle.swh_base.specs.Limits.{body_limit};
-ghost use Rattle.swh_base.specs.Name.{IsId};
-ghost use Rattle.swh_base.specs.declared.kind.Kind.TheVariants.{
-  Directory as DirectoryKind,
-  Revision as RevisionKind,
-  Snapshot as SnapshotKind,
-};
-ghost use Rattle.swh_base.specs.Revision.{revision_name};
-ghost use Rattle.swh_base.specs.Text.{IsRef};
-ghost use Rattle.swh_model.specs.SmallStream.{Change as ChangeValue, IsFileName};
-ghost use Rattle.swh_model.specs.Meaning.{
-  Made,
-  revision,
-  tree_after,
-  commit_makes,
-  tip,
-  AreWithinLimit,
-  IsMeaning,
-  IsLeftOut,
-};
-ghost use Rattle.swh_fastload.specs.Making.{
-  made,
-  AreIds,
-  IsCommitLeftOut,
-  IsGoodCommit,
-  IsGoodTip,
-  AddsCommit,
-  AddsTip,
-  IsTipLeftOut,
-};
-ghost use Rattle.swh_fastload.specs.Loaded.{making_of};
-ghost use Rattle.swh_fastload.specs.View.{commit_view};
-ghost use Rattle.swh_fastload.specs.Whole.{names_of, AreWhole, AreContents, IsTipAmong, HasAllThatIsReached};
-ghost use Rattle.swh_fastload.specs.Refusal.{RefusesStream};
-ghost use Rattle.swh_fastload.specs.declared.fault.StreamFault.TheVariants.{Memory as OutOfMemory};
+//! A loader of commands: it makes their objects, and at the end a snapshot.
+ghost use Rattle.std.specs.Prelude.{◌≡◌, Contains, Ok, Err, IfOk, IfErr};
+ghost use Rattle.std.specs.List.{AllByRecursion};
+ghost use Rattle.swh_fastload.specs.Aims.{no_aims};
+ghost use Rattle.swh_fastload.specs.Commands.{step};
+ghost use Rattle.swh_fastload.specs.Feeding.{Loading, IsGivable, ExplainsFeed};
+ghost use Rattle.std.specs.Option.{option_copied};
+ghost use Rattle.swh_fastload.specs.Ending.{IsHead, EndsWith, ExplainsEnd};
+ghost use Rattle.swh_fastload.specs.Loads.{no_loading, FeedsTo, Refuses, Repeats};
+ghost use Rattle.swh_fastload.specs.Parting.{stock_of};
+ghost use Rattle.swh_fastload.specs.Stock.{loading_of, names_of_made, IsStocked, Leads};
 
-use crate::fault::StreamFault;
-use crate::objects::{add_contents, add_object};
-use crate::parse::parse_stream;
-use crate::snapshot::{Tip, snapshot_body};
-use crate::stream::Commit;
-use crate::tree::{Marks, directory_body, files_of};
+use crate::aims::Aims;
+use crate::commit::{Commit, CommitText, feed_commit};
+use crate::ending::end_parts;
+use crate::feed_fault::FeedFault;
+use crate::feeding::{feed_blob, feed_reset, feed_tag};
+use crate::parts::Parts;
+use crate::seen::Seen;
 use std::alloc::Global;
-use swh_base::{Kind, Name, Namer};
+use std::marker::Model;
+use swh_base::Namer;
+use swh_fastgrammar::Command;
 use swh_object::Object;
+use swh_trees::Trees;
 
-/// What an input makes: the objects in the order of making, the snapshot among them, and the snapshot's id.
+/// A loader of the commands of one stream. Contracts see what marks and tips lead to and the objects that were given, or
+/// the refusal that ended the load.
 #[derive(Drop)]
-pub struct Objects<N: Namer> {
-    pub objects: Vec<Object<N>>,
-    pub snapshot: [u8; 20],
+pub struct FastLoad<N: Namer> {
+    parts: Parts<N>,
+    refusal: Option<FeedFault>,
 }
 
-/// A line of a word and a text.
-fn push_line(body: &mut Vec<u8>, word: &[u8], text: &[u8]) -> Result<(), StreamFault>
-    ensures ok { IfOk result (λ _. body.new.items ≡ body.old.items ++ (word.now ++ (text.now ++ 10 ∷ []))) }
-    ensures err { IfErr result (λ fault. fault ≡ OutOfMemory) }
-{
-    body.extend_from_slice(word)?;
-    body.extend_from_slice(text)?;
-    body.push(b'\n')?;
-    Ok(())
+impl<N: Namer> Model for FastLoad<N> {
+    ghost use Rattle.std.specs.Prelude.{Result};
+    ghost use Rattle.swh_fastload.specs.Feeding.{Loading, state_of};
+    ghost use Rattle.swh_fastload.specs.declared.feed_fault.FeedFault.{FeedFault};
+
+    ghost Value = { Result Loading FeedFault };
+
+    ghost use Rattle.swh_fastload.specs.Parting.{stock_of};
+    ghost use Rattle.swh_fastload.specs.Stock.{loading_of};
+    ghost use Rattle.swh_fastload.specs.Loads.{IsStockedUnless};
+
+    ghost view = { λ f. state_of f.refusal (loading_of (stock_of f.parts)) };
+
+    ghost invariant = { λ f. IsStockedUnless N.id_of f.refusal (stock_of f.parts) };
 }
 
-/// The body of the revision of a directory without parents, whose author is the committer.
-fn revision_body(
+/// What a command makes.
+fn feed_command<N: Namer>(
     alloc: Global,
-    root: &[u8; 20],
-    commit: &Commit<'_>,
-) -> Result<Vec<u8>, StreamFault>
-    ensures ok { IfOk result (λ body. body.items ≡ (revision root.now (commit_view commit.now)).body) }
-    ensures err { IfErr result (λ fault. fault ≡ OutOfMemory) }
+    parts: &mut Parts<N>,
+    command: Command,
+) -> Result<Vec<Object<N>>, FeedFault>
+    requires stocked { IsStocked N.id_of (stock_of parts.old) }
+    requires command { IsGivable command }
+    ensures ok { IfOk result (λ os. Leads N.id_of (stock_of parts.old) command (stock_of parts.new) os.items) }
+    ensures err { IfErr result (ExplainsFeed N.id_of (step N.id_of (loading_of (stock_of parts.old)).aims command)) }
 {
-    let mut hex = [0; 40];
-    let name = Name {
-        kind: Kind::Directory,
-        id: *root,
-    };
-    name.hex(&mut hex);
-    let mut body = Vec::new(alloc);
-    push_line(&mut body, b"tree ", &hex)?;
-    push_line(&mut body, b"author ", commit.committer)?;
-    push_line(&mut body, b"committer ", commit.committer)?;
-    body.push(b'\n')?;
-    body.extend_from_slice(commit.message)?;
-    Ok(body)
-}
-
-/// Adds the directory and the revision of a commit, and answers its tip.
-fn add_commit<'a, N: Namer>(
-    alloc: Global,
-    namer: &N,
-    marks: &Marks,
-    commit: &Commit<'a>,
-    objects: &mut Vec<Object<N>>,
-) -> Result<Tip<'a>, StreamFault>
-    requires ids { AreIds marks.now.entries }
-    requires good { IsGoodCommit (commit_view commit.now) }
-    requires whole { AreWhole N.id_of objects.old.items }
-    requires contents { AreContents (names_of objects.old.items) marks.now.entries }
-    ensures ok { IfOk result (λ t. AddsCommit N.id_of marks.now.entries (commit_view commit.now)
-        (made objects.old.items) t (made objects.new.items)) }
-    ensures whole { OnOk result (AreWhole N.id_of objects.new.items) }
-    ensures tip { IfOk result (λ t. Contains (names_of objects.new.items) (revision_name t.revision)) }
-    ensures err { IfErr result (RefusesStream (IsCommitLeftOut N.id_of marks.now.entries (commit_view commit.now))) }
-{
-    let files = files_of(alloc, marks, &commit.changes)?;
-    let body = directory_body(alloc, &files)?;
-    let root = add_object(alloc, namer, Kind::Directory, body, objects)?;
-    let body = revision_body(alloc, &root, commit)?;
-    let revision = add_object(alloc, namer, Kind::Revision, body, objects)?;
-    Ok(Tip {
-        branch: commit.branch,
-        revision,
-    })
-}
-
-/// Adds the commit of a stream, where it has one, and answers its tip.
-fn add_tip<'a, N: Namer>(
-    alloc: Global,
-    namer: &N,
-    marks: &Marks,
-    commit: &Option<Commit<'a>>,
-    objects: &mut Vec<Object<N>>,
-) -> Result<Option<Tip<'a>>, StreamFault>
-    requires ids { AreIds marks.now.entries }
-    requires good { IsGoodTip (option_map commit_view commit.now) }
-    requires whole { AreWhole N.id_of objects.old.items }
-    requires contents { AreContents (names_of objects.old.items) marks.now.entries }
-    ensures ok { IfOk result (λ tip. AddsTip N.id_of marks.now.entries (option_map commit_view commit.now)
-        (made objects.old.items) tip (made objects.new.items)) }
-    ensures whole { OnOk result (AreWhole N.id_of objects.new.items) }
-    ensures tip { IfOk result (IsTipAmong (names_of objects.new.items)) }
-    ensures err { IfErr result (RefusesStream (IsTipLeftOut N.id_of marks.now.entries
-        (option_map commit_view commit.now))) }
-{
-    match commit {
-        Some(commit) => Ok(Some(add_commit(alloc, namer, marks, commit, objects)?)),
-        None => Ok(None),
+    match command {
+        Command::Blob { mark, bytes } => feed_blob(alloc, parts, mark, bytes.as_slice()),
+        Command::Commit {
+            branch,
+            mark,
+            author,
+            committer,
+            encoding,
+            message,
+            parent,
+            merges,
+            changes,
+        } => {
+            let text = CommitText {
+                author,
+                committer,
+                encoding,
+                message,
+            };
+            let commit = Commit {
+                branch,
+                mark,
+                parent,
+                merges,
+                changes,
+            };
+            feed_commit(alloc, parts, &commit, text)
+        }
+        Command::Tag {
+            branch,
+            mark,
+            target,
+            tagger,
+            message,
+        } => feed_tag(
+            alloc,
+            parts,
+            branch.as_slice(),
+            mark,
+            &target,
+            tagger,
+            message,
+        ),
+        Command::Reset { branch, parent } => {
+            feed_reset(alloc, parts, branch.as_slice(), &parent)?;
+            Ok(Vec::new(alloc))
+        }
     }
 }
 
-/// The objects that a stream makes, where this head is named, or none.
-pub fn load_stream<N: Namer>(
-    alloc: Global,
-    namer: &N,
-    head: Option<&[u8]>,
-    text: &[u8],
-) -> Result<Objects<N>, StreamFault>
-    requires { IfSome (option_copied head) IsRef }
-    // What is made is what the text means.
-    ensures ok { IfOk result (λ loaded. IsMeaning N.id_of (option_copied head.entry) text.now (making_of loaded)) }
-    // The objects have all of their children, and the snapshot is one of them.
-    ensures whole { IfOk result (HasAllThatIsReached N.id_of) }
-    // What is left out means nothing.
-    ensures err { IfErr result (RefusesStream (IsLeftOut N.id_of (option_copied head.entry) text.now)) }
-{
-    let stream = parse_stream(alloc, text)?;
-    let mut objects = Vec::new(alloc);
-    let marks = add_contents(alloc, namer, &stream.blobs, &mut objects)?;
-    let tip = add_tip(alloc, namer, &marks, &stream.commit, &mut objects)?;
-    let body = snapshot_body(alloc, head, &tip)?;
-    let snapshot = add_object(alloc, namer, Kind::Snapshot, body, &mut objects)?;
-    Ok(Objects { objects, snapshot })
+impl<N: Namer> FastLoad<N> {
+    /// Nothing is set, and nothing was given.
+    pub fn new(alloc: Global, namer: N) -> FastLoad<N>
+        ensures { result ≡ Ok no_loading }
+    {
+        let parts = Parts {
+            namer,
+            trees: Trees::new(alloc, namer),
+            aims: Aims::new(alloc),
+            seen: Seen::new(alloc),
+        };
+        FastLoad {
+            parts,
+            refusal: None,
+        }
+    }
+
+    /// The objects that the command makes and that were not made before, each after all that it names. `BadStream` tells
+    /// the place of the first line that names a mark, a ref or a path that is not there; `Limit` the bytes of a body that
+    /// is above the limit. After a refusal each command is refused the same way.
+    pub fn feed(&mut self, alloc: Global, command: Command) -> Result<Vec<Object<N>>, FeedFault>
+        requires { IsGivable command }
+        ensures ok { (l : Loading) → self.old ≡ Ok l → IfOk result (λ os. FeedsTo N.id_of l command self.new os.items) }
+        ensures err { (l : Loading) → self.old ≡ Ok l
+            → IfErr result (Refuses (ExplainsFeed N.id_of (step N.id_of l.aims command)) self.new) }
+        ensures same { Repeats self.old result self.new }
+    {
+        if let Some(fault) = self.refusal {
+            return Err(fault);
+        }
+        match feed_command(alloc, &mut self.parts, command) {
+            Ok(objects) => Ok(objects),
+            Err(fault) => {
+                self.refusal = Some(fault);
+                Err(fault)
+            }
+        }
+    }
+
+    /// The snapshot of the tips: a branch for each ref with a tip and, where a head is named, `HEAD` as an alias to it.
+    /// `Limit` tells the number of refs with a tip, but for `HEAD`, where those are more than 65,536, and else the bytes
+    /// of the snapshot where its body is above the limit. The load may go on afterwards; after a refusal it is refused
+    /// the same way again.
+    pub fn finish(&mut self, alloc: Global, head: Option<&[u8]>) -> Result<Object<N>, FeedFault>
+        requires { IsHead (option_copied head) }
+        ensures ok { (l : Loading) → self.old ≡ Ok l → IfOk result (EndsWith (option_copied head.entry) l self.new) }
+        ensures kids { (l : Loading) → self.old ≡ Ok l
+            → IfOk result (λ o. AllByRecursion (Contains (names_of_made N.id_of l.given)) o.kids) }
+        ensures err { (l : Loading) → self.old ≡ Ok l
+            → IfErr result (Refuses (ExplainsEnd (option_copied head.entry) l.aims) self.new) }
+        ensures same { Repeats self.old result self.new }
+    {
+        if let Some(fault) = self.refusal {
+            return Err(fault);
+        }
+        match end_parts(alloc, &self.parts, head) {
+            Ok(object) => Ok(object),
+            Err(fault) => {
+                self.refusal = Some(fault);
+                Err(fault)
+            }
+        }
+    }
 }

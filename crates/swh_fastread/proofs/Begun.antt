@@ -1,34 +1,29 @@
 -- The first line of a command, and why a command that is begun is not read on.
 use Rattle.std.proofs.Common.{◌≡◌, ℕ, ◌+◌, inl, inr, Bool, true, false, List, [], ◌∷◌, ◌++◌, length, Contains, refl, sym, ap, ◌∙◌, subst, arith, codes, Option, Some, None}
-use Rattle.swh_fastread.specs.declared.command.At.{At}
-use Rattle.swh_fastread.specs.declared.command.Commitish.{Commitish}
-use Rattle.swh_fastread.specs.declared.command.Change.{Change}
-use Rattle.swh_fastread.specs.declared.command.Command.{Command}
-use Rattle.swh_fastread.specs.declared.command.Command.TheVariants.{Blob, Commit, Tag, Reset}
+use Rattle.swh_fastgrammar.specs.declared.command.At.{At}
+use Rattle.swh_fastgrammar.specs.declared.command.Commitish.{Commitish}
+use Rattle.swh_fastgrammar.specs.declared.command.Change.{Change}
+use Rattle.swh_fastgrammar.specs.declared.command.Command.{Command}
+use Rattle.swh_fastgrammar.specs.declared.command.Command.TheVariants.{Blob, Commit, Tag, Reset}
 use Rattle.swh_fastread.specs.declared.fail.ReadFail.{ReadFail}
 use Rattle.swh_fastread.specs.declared.fail.ReadFail.TheVariants.{BadStream, ReadFault, Limit, Memory}
-use Rattle.swh_fastread.specs.declared.fault.StreamWhy.TheVariants.{Grammar, End, LeftOut, Mark, Branch, Place as Spot}
+use Rattle.swh_fastgrammar.specs.declared.fault.StreamWhy.TheVariants.{Grammar, End, LeftOut, Mark, Branch, Place as Spot}
 use Rattle.swh_fastread.specs.Explains.{PartFails, DataFails, Stops, Explains}
-use Rattle.swh_fastread.specs.Grammar.{◌▹◌, ◌▸◌, optional, many, line_at, line, nothing, contents, mark, oid, start_of, Item, IsItem}
-use Rattle.swh_fastread.specs.Grammar.Item.{Says, Promise, Nothing}
+use Rattle.swh_fastgrammar.specs.Grammar.{◌▹◌, ◌▸◌, optional, many, line_at, line, nothing, contents, mark, oid, start_of, Item, IsItem}
+use Rattle.swh_fastgrammar.specs.Grammar.Item.{Says, Promise, Nothing}
+use Rattle.swh_fastread.specs.Outcome.{Starts, Ended}
 use Rattle.swh_fastread.specs.Places.{Place, left, Took, Refuses, LeadsTo, position}
-use Rattle.swh_fastread.specs.Row.{IsData, Placed}
-use Rattle.swh_fastread.specs.Word.{NamesRef, NamesTag}
-use Rattle.swh_fastread.proofs.Items.{author}
+use Rattle.swh_fastgrammar.specs.Row.{IsData, Placed}
+use Rattle.swh_fastgrammar.specs.Word.{NamesRef, NamesTag}
+use Rattle.swh_fastgrammar.proofs.Items.{author}
 use Rattle.swh_fastread.proofs.Joins.{took_append, or-false}
 use Rattle.swh_fastread.proofs.Onward.{leads_item}
-use Rattle.swh_fastread.proofs.Parts.{Single, cons_cut}
-use Rattle.swh_fastread.proofs.Items.{line_single}
+use Rattle.swh_fastgrammar.proofs.Parts.{Single, cons_cut}
+use Rattle.swh_fastgrammar.proofs.Items.{line_single}
 use Rattle.swh_fastread.proofs.Places.{from_committer, from_from, contents_solid, refuses_then}
-use Rattle.swh_fastread.proofs.Remains.{Within, Whole, Solid, Wants, break_line, break_end, break_data}
-use Rattle.swh_fastread.proofs.Rows.{same_tail}
-use Rattle.swh_fastread.proofs.Streams.{shape, tag_of, tag_of_line}
-
--- what a first line begins
-pub kind : (q : Placed) (more : List Placed) (i : Item) (line : List ℕ) → q.row.line ≡ line → IsItem (q ∷ more) i → tag_of_line line ≡ tag_of i
-kind q more i line e h =
-    let s = shape (q ∷ more) i h in
-    ap tag_of_line (sym e) ∙ ap (λ (x : Placed). tag_of_line x.row.line) (cons_cut q s.first more s.others s.rows_are).0 ∙ s.kind
+use Rattle.swh_fastread.proofs.Remains.{Within, Whole, Solid, Wants, break_line, break_end, break_data, break_limit, break_over}
+use Rattle.swh_fastgrammar.proofs.Rows.{same_tail}
+use Rattle.swh_fastlines.proofs.ItemLines.{kind}
 
 -- what follows a first part of one row
 pub after_single : {X Y : Type 0} (L : List Placed → X → Type 0) (N : List Placed → Y → Type 0) → Single L → (q : Placed) (more : List Placed) (v : X × Y) → (L ▹ N) (q ∷ more) v → N more v.1
@@ -120,12 +115,25 @@ commit_begun a b at name t r = record {
 pub whole_leads : (a b : Place) (c : Command) → Whole a b (Says c) → (p : Bool) → LeadsTo (position a p) (position b p) (c ∷ [])
 whole_leads a b c w p = subst (λ (t : Bool). LeadsTo (position a p) (position b t) (c ∷ [])) (or-false p) (leads_item a b p w.part (Says c) w.took w.is_item w.ended)
 
+-- A whole command starts the text.
+pub whole_starts : (a b : Place) (c : Command) → Whole a b (Says c) → (p : Bool) → Starts (position a p) (position b p) (Says c)
+whole_starts a b c w p = record {
+  rows = w.took.rows;
+  spelled = w.took.spelled;
+  good = w.took.good;
+  fit = w.took.fit;
+  said = subst (λ (z : List Placed). IsItem z (Says c)) (sym w.took.those) w.is_item;
+  here = w.took.here;
+  promised = sym (or-false p);
+  ended = λ fits. subst (λ (z : List Placed). Ended z (left b)) (sym w.took.those) w.ended;
+}
+
 -- what stops the reading of a command that is begun
-pub stops_explain : (a b : Place) (part : List Placed) (fail : ReadFail) → Took a b part → Stops b fail → (p : Bool) → Explains a p fail
-stops_explain a b part (BadStream at why) t s p = absurd s
-stops_explain a b part ReadFault t s p = tt
-stops_explain a b part (Limit which number) t s p = record { before = s.before; rows = part ++ s.rows; took = took_append a b s.before part s.rows t s.took; passes = s.passes }
-stops_explain a b part Memory t s p = tt
+pub stops_explain : {X : Type 0} (a b : Place) (M : List Placed → X → Type 0) (f : X → Item) (fail : ReadFail) → Within IsItem a b M f → Wants M → Stops b fail → (p : Bool) → Explains a p fail
+stops_explain a b M f (BadStream at why) w o s p = absurd s
+stops_explain a b M f ReadFault w o s p = tt
+stops_explain a b M f (Limit which number) w o s p = break_limit a b p M f which number w o s
+stops_explain a b M f Memory w o s p = tt
 
 pub part_explains : {X Z : Type 0} (a b : Place) (M : List Placed → X → Type 0) (L : List Placed → Z → Type 0) (f : X → Item) (fail : ReadFail) → Within IsItem a b M f → Wants M → ((text : List ℕ) → Refuses L text → Refuses M text) → PartFails L b fail → (p : Bool) → Explains a p fail
 part_explains a b M L f (BadStream at Grammar) w o r d p = break_line a b p M L f at false w o r d
@@ -135,7 +143,7 @@ part_explains a b M L f (BadStream at Mark) w o r d p = absurd d
 part_explains a b M L f (BadStream at Branch) w o r d p = absurd d
 part_explains a b M L f (BadStream at Spot) w o r d p = absurd d
 part_explains a b M L f ReadFault w o r d p = tt
-part_explains a b M L f (Limit which number) w o r d p = stops_explain a b w.part (Limit which number) w.took d p
+part_explains a b M L f (Limit which number) w o r d p = break_limit a b p M f which number w o d
 part_explains a b M L f Memory w o r d p = tt
 
 pub data_explains : {X : Type 0} (a b : Place) (M : List Placed → X → Type 0) (f : X → Item) (fail : ReadFail) → Within IsItem a b M f → Wants M → ((text : List ℕ) → Refuses contents text → Refuses M text) → ((q : Placed) (bytes next : List ℕ) → IsData q.row bytes next → (x : X) × M (q ∷ []) x) → DataFails b fail → (p : Bool) → Explains a p fail
@@ -147,7 +155,8 @@ data_explains a b M f (BadStream at Mark) w o r m d p = absurd d
 data_explains a b M f (BadStream at Branch) w o r m d p = absurd d
 data_explains a b M f (BadStream at Spot) w o r m d p = absurd d
 data_explains a b M f ReadFault w o r m d p = tt
-data_explains a b M f (Limit which number) w o r m d p = stops_explain a b w.part (Limit which number) w.took d p
+data_explains a b M f (Limit which number) w o r m (inl d) p = break_limit a b p M f which number w o d
+data_explains a b M f (Limit which number) w o r m (inr d) p = break_over a b p M f which number w o m d
 data_explains a b M f Memory w o r m d p = tt
 
 pub data_end : (q : Placed) (bytes next : List ℕ) → IsData q.row bytes next → (x : List ℕ) × contents (q ∷ []) x

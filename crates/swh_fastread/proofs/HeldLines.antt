@@ -1,15 +1,21 @@
 -- The bytes that are held, and lines that are taken.
-use Rattle.std.proofs.Common.{◌≡◌, ℕ, zero, suc, ◌+◌, ◌<◌, inl, inr, Bool, true, false, nat_eq, List, [], ◌∷◌, ◌++◌, length, length-append, Contains, refl, sym, ap, ◌∙◌, subst, arith, append_assoc, codes}
-use Rattle.std.specs.List.{starts_with}
-use Rattle.swh_base.proofs.Splits.{first_split, sized_split}
+use Rattle.std.proofs.Common.{◌≡◌, ℕ, ◌+◌, ◌<◌, ◌≤◌, inl, inr, true, false, List, [], ◌∷◌, ◌++◌, length, length-append, Contains, refl, sym, ap, ◌∙◌, subst, arith, append_assoc, Result, Ok, Err, IfErr}
+use Rattle.swh_base.proofs.Splits.{sized_split}
 use Rattle.swh_base.specs.Limits.{line_limit}
-use Rattle.swh_fastlex.specs.Line.{IsLine}
+use Rattle.swh_fastlex.specs.Line.{Held, unread, IsLine}
+use Rattle.swh_fastlex.specs.Delimited.{IsDataFault}
+use Rattle.swh_fastlex.specs.declared.fault.DataFault.{DataFault}
+use Rattle.swh_fastlex.specs.declared.fault.DataFault.TheVariants as Data
 use Rattle.swh_fastread.specs.declared.ahead.Ahead.{Ahead}
-use Rattle.swh_fastread.specs.declared.ahead.Ahead.TheVariants.{Line, End, Long, Over}
-use Rattle.swh_fastread.specs.Grammar.{line_at}
-use Rattle.swh_fastread.specs.Held.{IsAhead, HeldCounts}
+use Rattle.swh_fastread.specs.declared.ahead.Ahead.TheVariants.{End}
+use Rattle.swh_fastgrammar.specs.Grammar.{line_at}
+use Rattle.swh_fastread.specs.Held.{EndsNext, HeldCounts, IsAhead, IsNext, LinesFail}
+use Rattle.swh_fastread.specs.Within.{LineFits, Fits}
+use Rattle.swh_fastread.specs.declared.row_source.TheConstants.{STREAM_LIMIT}
+use Rattle.swh_fastgrammar.proofs.Faults.{append_nil}
+use Rattle.swh_fastread.proofs.Fitting.{WordsFit, line_fits, front_fits, closed_fits}
 use Rattle.swh_fastread.specs.Places.{Place, left, Took, FirstLine, Counts}
-use Rattle.swh_fastread.specs.Row.{Row, row_text, IsData, Opens, IsRow, is_comment}
+use Rattle.swh_fastgrammar.specs.Row.{Row, IsData, Opens, is_comment}
 use Rattle.swh_fastread.proofs.Joins.{has_first, has_more, plain, took_after, took_comment, took_line, one_first}
 
 pub in_middle : (a x : List ℕ) → Contains (a ++ 10 ∷ x) 10
@@ -34,7 +40,7 @@ front_of held line e l =
 pub held_text : (b : Place) (line : List ℕ) → b.held ≡ line ++ 10 ∷ [] → left b ≡ line ++ 10 ∷ b.rest
 held_text b line e = ap (λ (t : List ℕ). t ++ b.rest) e ∙ append_assoc line (10 ∷ []) b.rest
 
-pub held_first : (b : Place) (line : List ℕ) → b.held ≡ line ++ 10 ∷ [] → IsLine b.held → FirstLine (left b) line
+abbrev pub held_first : (b : Place) (line : List ℕ) → b.held ≡ line ++ 10 ∷ [] → IsLine b.held → FirstLine (left b) line
 held_first b line e l = record { rest = b.rest; spelled = held_text b line e; one_line = front_of b.held line e l }
 
 pub held_counts : (b : Place) (line : List ℕ) → b.held ≡ line ++ 10 ∷ [] → IsLine b.held → HeldCounts b.held → Counts (left b)
@@ -51,16 +57,50 @@ comment_closed line e o =
     let t : true ≡ false = sym e ∙ f in
     absurd cc
 
-pub skipped : (a b : Place) (line : List ℕ) → left b ≡ left a → b.at ≡ a.at → b.held ≡ line ++ 10 ∷ [] → IsLine b.held → is_comment line ≡ true → Took a (taken b) []
-skipped a b line same here e l t =
+-- The held line passes no limit, where none of its words does.
+held_fits : (b : Place) (line : List ℕ) → b.held ≡ line ++ 10 ∷ [] → IsLine b.held → b.at + length b.held ≤ STREAM_LIMIT → length b.held ≤ line_limit → WordsFit line → LineFits b.at (left b)
+held_fits b line e l within short words =
+    let size = ap length e ∙ length-append line (10 ∷ []) in
+    subst (LineFits b.at) (sym (held_text b line e)) (line_fits b.at line b.rest (front_of b.held line e l) (omega (arith, size, within)) (omega (arith, size, short)) words)
+
+pub next_fits : (b : Place) (line : List ℕ) → IsNext b → b.held ≡ line ++ 10 ∷ [] → LineFits b.at (left b)
+next_fits b line n e = held_fits b line e n.line n.within n.short (λ counts. n.fits line e)
+
+-- What is held and is no line passes no limit.
+pub ending_fits : (b : Place) → EndsNext b → LineFits b.at (left b)
+ending_fits b e =
+    let same : left b ≡ b.held = ap (λ (r : List ℕ). b.held ++ r) e.nothing ∙ append_nil b.held in
+    subst (LineFits b.at) (sym same) (front_fits b.at b.held e.no_feed e.within e.short)
+
+pub skipped : (a b : Place) (line : List ℕ) → left b ≡ left a → b.at ≡ a.at → b.held ≡ line ++ 10 ∷ [] → IsLine b.held → b.at + length b.held ≤ STREAM_LIMIT → length b.held ≤ line_limit → is_comment line ≡ true → Took a (taken b) []
+skipped a b line same here e l within short t =
+    let fits : LineFits b.at (left b) = held_fits b line e l within short (λ counts. let d : true ≡ false = sym t ∙ counts in absurd cc) in
+    let inside = closed_fits b.at (left b) line (held_first b line e l) (comment_closed line t) in
+    let all : Fits b.at (left b) = record { line = fits; inside = inside } in
     took_comment a (taken b) (plain line) (sym same ∙ held_text b line e ∙ sym (append_assoc line (10 ∷ []) b.rest)) (record { one_line = front_of b.held line e l; after = inr (comment_closed line t, refl) }) t
-    (omega (arith, here, ap length e))
+    (subst (λ (n : ℕ). Fits n (left a)) here (subst (Fits b.at) same all)) (omega (arith, here, ap length e))
 
 -- a line that counts was taken
-pub line_taken : (a b : Place) (line : List ℕ) → Took a b [] → b.held ≡ line ++ 10 ∷ [] → IsLine b.held → HeldCounts b.held → (Opens line → ⊥) → Took a (taken b) (line_at b.at line ∷ [])
-line_taken a b line t e l h o =
-    took_after a b (taken b) (line_at b.at line ∷ []) t (took_line b (taken b) line (held_text b line e) (front_of b.held line e l) o (h line e) (omega (arith, ap length e, length-append line (10 ∷ []))))
+pub line_taken : (a b : Place) (line : List ℕ) → Took a b [] → b.held ≡ line ++ 10 ∷ [] → IsNext b → (Opens line → ⊥) → Took a (taken b) (line_at b.at line ∷ [])
+line_taken a b line t e n o =
+    took_after a b (taken b) (line_at b.at line ∷ []) t (took_line b (taken b) line (held_text b line e) (front_of b.held line e n.line) o (n.counts line e) (next_fits b line n e) (omega (arith, ap length e, length-append line (10 ∷ []))))
 
 -- the end is met where what is held is no line
 pub end_met : (at : ℕ) (held rest : List ℕ) (a : Ahead) → IsAhead at held a → (length held < line_limit → (Contains held 10 → ⊥) → rest ≡ []) → a ≡ End → rest ≡ []
 end_met at held rest a h e same = let k = subst (IsAhead at held) same h in e k.1 k.0
+
+-- why lines are not given, as the places before and after
+pub lines_fault : (old new : Place) (word : List ℕ) (limit : ℕ) (before now : Held) (u v : List ℕ) (fault : DataFault) → old.rest ≡ unread before u → new.rest ≡ unread now v → before.place ≡ old.at → now.place ≡ new.at → IsDataFault word limit before now u v fault → LinesFail old new word limit fault
+lines_fault old new word limit before now u v Data.Failed e f m n d = tt
+lines_fault old new word limit before now u v Data.End e f m n d =
+    let counted = d.counted in
+    record { bytes = d.bytes; front = d.front; lines = d.lines; within = d.within; short = d.short; all = e ∙ d.all; no_feed = d.no_feed; here = omega (arith, m, n, counted, ap length (e ∙ d.all), length-append d.bytes d.front) }
+lines_fault old new word limit before now u v Data.Line e f m n d =
+    record { bytes = d.bytes; front = d.front; lines = d.lines; no_feed = d.no_feed; long = d.long; cut = e ∙ d.taken.cut ∙ ap (λ (t : List ℕ). (d.bytes ++ d.front) ++ t) (sym f) }
+lines_fault old new word limit before now u v Data.Body e f m n d =
+    record { bytes = d.bytes ++ d.last; lines = d.lines; above = d.above; cut = e ∙ d.taken.cut ∙ ap (λ (t : List ℕ). (d.bytes ++ d.last) ++ t) (sym f) }
+lines_fault old new word limit before now u v Data.Memory e f m n d = tt
+
+pub lines_faults : {X : Type 0} (r : Result X DataFault) (old new : Place) (word : List ℕ) (limit : ℕ) (before now : Held) (u v : List ℕ) → old.rest ≡ unread before u → new.rest ≡ unread now v → before.place ≡ old.at → now.place ≡ new.at → IfErr r (IsDataFault word limit before now u v) → IfErr r (LinesFail old new word limit)
+lines_faults {X} (Ok x) old new word limit before now u v e f m n d = tt
+lines_faults {X} (Err fault) old new word limit before now u v e f m n d = lines_fault old new word limit before now u v fault e f m n d

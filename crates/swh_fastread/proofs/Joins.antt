@@ -1,11 +1,13 @@
 -- Rows after rows, and what was read after what was read.
-use Rattle.std.proofs.Common.{◌≡◌, ℕ, zero, suc, ◌+◌, ◌⊎◌, inl, inr, Bool, true, false, ◌||◌, if◌then◌else◌, List, [], ◌∷◌, ◌++◌, length, length-append, Contains, refl, sym, ap, ◌∙◌, subst, arith, append_assoc, codes}
+use Rattle.std.proofs.Common.{◌≡◌, ℕ, suc, ◌+◌, ◌⊎◌, inl, inr, Bool, true, false, ◌||◌, if◌then◌else◌, List, [], ◌∷◌, ◌++◌, length, length-append, Contains, refl, sym, ap, ◌∙◌, subst, arith, append_assoc}
 use Rattle.swh_base.proofs.Splits.{first_split}
-use Rattle.swh_fastread.specs.Grammar.{line_at}
+use Rattle.swh_fastgrammar.specs.Grammar.{line_at}
 use Rattle.swh_fastread.specs.Places.{Place, left, Took, FirstLine}
-use Rattle.swh_fastread.specs.Row.{Row, row_text, text_of, begins_with, IsFeed, IsData, Opens, IsRow, AreRows, Placed, placed, is_comment}
-use Rattle.swh_fastread.proofs.Faults.{append_nil, text_of-append, row_cut}
-use Rattle.swh_fastread.proofs.Parts.{cons_cut}
+use Rattle.swh_fastread.specs.Within.{LineFits, Fits, AllFit}
+use Rattle.swh_fastread.proofs.Fitting.{closed_fits}
+use Rattle.swh_fastgrammar.specs.Row.{Row, row_text, text_of, begins_with, IsFeed, IsData, Opens, IsRow, AreRows, Placed, placed, is_comment}
+use Rattle.swh_fastgrammar.proofs.Faults.{append_nil, text_of-append}
+use Rattle.swh_fastgrammar.proofs.Parts.{cons_cut}
 
 abbrev pub plain : List ℕ → Row
 plain line = record { line = line; raw = [] }
@@ -76,8 +78,14 @@ pub rows-next : (rows : List Row) (x y : List ℕ) → Allows x y → AreRows ro
 rows-next [] x y h a = tt
 rows-next (r ∷ rows) x y h a = (row-next r (text_of rows ++ x) (text_of rows ++ y) (allows-append (text_of rows) x y h) a.0, rows-next rows x y h a.1)
 
+pub fit-append : (at : ℕ) (rs qs : List Row) (x : List ℕ) → AllFit at rs (text_of qs ++ x) → AllFit (at + length (text_of rs)) qs x → AllFit at (rs ++ qs) x
+fit-append at [] qs x hr hq = subst (λ (n : ℕ). AllFit n qs x) (omega arith) hq
+fit-append at (r ∷ rs) qs x hr hq =
+    let sizes : at + length (text_of (r ∷ rs)) ≡ at + length (row_text r) + length (text_of rs) = omega (arith, length-append (row_text r) (text_of rs)) in
+    (subst (Fits at) (joined (r ∷ rs) qs x) hr.0, fit-append (at + length (row_text r)) rs qs x hr.1 (subst (λ (n : ℕ). AllFit n qs x) sizes hq))
+
 pub took_none : (a : Place) → Took a a []
-took_none a = record { rows = []; spelled = refl; good = tt; those = refl; here = omega arith }
+took_none a = record { rows = []; spelled = refl; good = tt; fit = tt; those = refl; here = omega arith }
 
 pub took_append : (a b c : Place) (p q : List Placed) → Took a b p → Took b c q → Took a c (p ++ q)
 took_append a b c p q s t =
@@ -89,6 +97,7 @@ took_append a b c p q s t =
       rows = s.rows ++ t.rows;
       spelled = s.spelled ∙ ap (λ (x : List ℕ). text_of s.rows ++ x) t.spelled ∙ joined s.rows t.rows (left c);
       good = rows-append s.rows t.rows (left c) (subst (AreRows s.rows) t.spelled s.good) t.good;
+      fit = fit-append a.at s.rows t.rows (left c) (subst (AllFit a.at s.rows) t.spelled s.fit) (subst (λ (k : ℕ). AllFit k t.rows (left c)) s.here t.fit);
       those = placed-append a.at s.rows t.rows ∙ ap (λ (x : List Placed). x ++ placed n t.rows) s.those ∙ ap (λ (x : List Placed). p ++ x) back;
       here = omega (arith, first, second, ap length (text_of-append s.rows t.rows), length-append (text_of s.rows) (text_of t.rows));
     }
@@ -117,20 +126,22 @@ placed_row n r rs e = keep_row (is_comment r.line) (record { at = n; row = r }) 
 one_text : (r : Row) → text_of (r ∷ []) ≡ row_text r
 one_text r = append_nil (row_text r)
 
-pub took_row : (a b : Place) (r : Row) → left a ≡ row_text r ++ left b → IsRow r (left b) → is_comment r.line ≡ false → b.at ≡ a.at + length (row_text r) → Took a b (record { at = a.at; row = r } ∷ [])
-took_row a b r e i c h = record {
+pub took_row : (a b : Place) (r : Row) → left a ≡ row_text r ++ left b → IsRow r (left b) → is_comment r.line ≡ false → Fits a.at (left a) → b.at ≡ a.at + length (row_text r) → Took a b (record { at = a.at; row = r } ∷ [])
+took_row a b r e i c k h = record {
   rows = r ∷ [];
   spelled = e ∙ ap (λ (x : List ℕ). x ++ left b) (sym (one_text r));
   good = (i, tt);
+  fit = (subst (Fits a.at) (e ∙ ap (λ (x : List ℕ). x ++ left b) (sym (one_text r))) k, tt);
   those = placed_row a.at r [] c;
   here = h ∙ ap (λ (x : List ℕ). a.at + length x) (sym (one_text r));
 }
 
-pub took_comment : (a b : Place) (r : Row) → left a ≡ row_text r ++ left b → IsRow r (left b) → is_comment r.line ≡ true → b.at ≡ a.at + length (row_text r) → Took a b []
-took_comment a b r e i c h = record {
+pub took_comment : (a b : Place) (r : Row) → left a ≡ row_text r ++ left b → IsRow r (left b) → is_comment r.line ≡ true → Fits a.at (left a) → b.at ≡ a.at + length (row_text r) → Took a b []
+took_comment a b r e i c k h = record {
   rows = r ∷ [];
   spelled = e ∙ ap (λ (x : List ℕ). x ++ left b) (sym (one_text r));
   good = (i, tt);
+  fit = (subst (Fits a.at) (e ∙ ap (λ (x : List ℕ). x ++ left b) (sym (one_text r))) k, tt);
   those = drop_row (is_comment r.line) (record { at = a.at; row = r }) [] c;
   here = h ∙ ap (λ (x : List ℕ). a.at + length x) (sym (one_text r));
 }
@@ -139,9 +150,9 @@ pub plain_row : (line next : List ℕ) → (Contains line 10 → ⊥) → (Opens
 plain_row line next n o = record { one_line = n; after = inr (o, refl) }
 
 -- a line that opens no data
-pub took_line : (a b : Place) (line : List ℕ) → left a ≡ line ++ 10 ∷ left b → (Contains line 10 → ⊥) → (Opens line → ⊥) → is_comment line ≡ false → b.at ≡ a.at + length line + 1 → Took a b (line_at a.at line ∷ [])
-took_line a b line e n o c h =
-    took_row a b (plain line) (e ∙ sym (append_assoc line (10 ∷ []) (left b))) (plain_row line (left b) n o) c (omega (arith, h, length-append line (10 ∷ [])))
+pub took_line : (a b : Place) (line : List ℕ) → left a ≡ line ++ 10 ∷ left b → (Contains line 10 → ⊥) → (Opens line → ⊥) → is_comment line ≡ false → LineFits a.at (left a) → b.at ≡ a.at + length line + 1 → Took a b (line_at a.at line ∷ [])
+took_line a b line e n o c k h =
+    took_row a b (plain line) (e ∙ sym (append_assoc line (10 ∷ []) (left b))) (plain_row line (left b) n o) c (record { line = k; inside = closed_fits a.at (left a) line (record { rest = left b; spelled = e; one_line = n }) o }) (omega (arith, h, length-append line (10 ∷ [])))
 
 pub one_first : (text l m : List ℕ) → FirstLine text l → FirstLine text m → l ≡ m
 one_first text l m f g = (first_split 10 l m f.rest g.rest f.one_line g.one_line (sym f.spelled ∙ g.spelled)).0

@@ -1,22 +1,25 @@
 -- A line that comes next, as a part of a command or none.
-use Rattle.std.proofs.Common.{◌≡◌, ℕ, ◌+◌, ◌<◌, ◌==◌, inl, inr, Bool, true, false, not, if◌then◌else◌, List, [], ◌∷◌, ◌++◌, length, Contains, refl, sym, ap, ◌∙◌, subst, arith, codes, Option, Some, None, Result, Ok, Err, IfOk, IfErr}
-use Rattle.swh_base.proofs.Splits.{not_nil}
+use Rattle.std.proofs.Common.{◌≡◌, ℕ, ◌+◌, ◌<◌, ◌==◌, inl, inr, Bool, true, false, not, if◌then◌else◌, List, [], ◌∷◌, ◌++◌, length, Contains, refl, sym, ap, ◌∙◌, subst, arith, Result, Ok, Err, IfOk, IfErr}
 use Rattle.swh_base.specs.Limits.{line_limit}
-use Rattle.swh_fastread.specs.declared.command.At.{At}
+use Rattle.swh_fastgrammar.specs.declared.command.At.{At}
 use Rattle.swh_fastread.specs.declared.fail.ReadFail.{ReadFail}
 use Rattle.swh_fastread.specs.declared.fail.ReadFail.TheVariants.{BadStream, ReadFault, Limit, Memory}
-use Rattle.swh_fastread.specs.declared.fault.StreamWhy.TheVariants.{Grammar, End, LeftOut, Mark, Branch, Place as Spot}
-use Rattle.swh_fastread.specs.Explains.{PassesAfter, PartFails, DataFails, Stops, Refusal, line_refusal, Passes, IsClear, EndsWhole}
-use Rattle.swh_base.specs.declared.visit.Which.TheVariants.{Line, Stream}
+use Rattle.swh_fastgrammar.specs.declared.fault.StreamWhy.TheVariants.{Grammar, End, LeftOut, Mark, Branch, Place as Spot}
+use Rattle.swh_fastread.specs.Explains.{PassesAfter, PartFails, DataFails, Stops, Refusal, line_refusal, IsClear, EndsWhole}
+use Rattle.swh_fastread.specs.Within.{LinePasses, LineFits, PassesWord}
+use Rattle.swh_base.specs.declared.visit.Which.{Which}
+use Rattle.swh_base.specs.declared.visit.Which.TheVariants.{Body, Objects, Bytes, Store, Ledger, Stream, Line, Path, Ref, Refs}
+use Rattle.swh_fastlex.specs.Line.{IsLine}
+use Rattle.swh_fastlines.specs.Limit.{PassesWords}
 use Rattle.swh_fastread.specs.declared.row_source.TheConstants.{STREAM_LIMIT}
-use Rattle.swh_fastread.specs.Fault.{is_left_out}
-use Rattle.swh_fastread.specs.Grammar.{line_at, line, placed_line, contents}
+use Rattle.swh_fastgrammar.specs.Fault.{is_left_out}
+use Rattle.swh_fastgrammar.specs.Grammar.{line_at, line, placed_line, contents}
 use Rattle.swh_fastread.specs.Held.{IsHeld, HeldCounts, IsNext, EndsNext}
-use Rattle.swh_fastread.specs.Places.{Place, left, Took, FirstLine, Refuses, Counts, Part, Lacks, NeverLine, opens_none, position}
-use Rattle.swh_fastread.specs.Row.{Row, row_text, IsData, Opens, AreRows, Placed, placed, is_comment, text_of}
-use Rattle.swh_fastread.proofs.Faults.{append_nil, row_cut}
-use Rattle.swh_fastread.proofs.Parts.{cons_cut}
-use Rattle.swh_fastread.proofs.HeldLines.{taken, front_of, held_first, held_counts, line_taken, in_middle}
+use Rattle.swh_fastread.specs.Places.{Place, left, Took, FirstLine, Counts, Part, Lacks, NeverLine, opens_none, position}
+use Rattle.swh_fastgrammar.specs.Row.{Row, Opens, AreRows, Placed, placed, is_comment, text_of}
+use Rattle.swh_fastgrammar.proofs.Faults.{append_nil, row_cut}
+use Rattle.swh_fastgrammar.proofs.Parts.{cons_cut}
+use Rattle.swh_fastread.proofs.HeldLines.{taken, held_first, held_counts, line_taken, in_middle, next_fits, ending_fits}
 use Rattle.swh_fastread.proofs.Joins.{one_first, placed_row, took_none, took_append, took_size}
 
 end_left : (b : Place) → EndsNext b → left b ≡ b.held
@@ -71,7 +74,7 @@ part_line word Tells a b text said x t n e o same h =
     let f : Opens text → ⊥ = λ k. closed_word word said o (subst Opens same k) in
     record {
       rows = line_at b.at text ∷ [];
-      took = line_taken a b text t e n.line n.counts f;
+      took = line_taken a b text t e n f;
       says = (b.at, said, ap (λ (z : List ℕ). line_at b.at z ∷ []) same, h);
     }
 
@@ -80,7 +83,7 @@ part_placed {X} word Tells a b text said x v t n e o same h here it =
     let f : Opens text → ⊥ = λ k. closed_word word said o (subst Opens same k) in
     record {
       rows = line_at b.at text ∷ [];
-      took = line_taken a b text t e n.line n.counts f;
+      took = line_taken a b text t e n f;
       says = (said, ap (λ (z : List ℕ). line_at b.at z ∷ []) same ∙ ap (λ (k : ℕ). line_at k (word ++ said) ∷ []) (sym here), subst (λ (z : X). Tells said z) (sym it) h);
     }
 
@@ -97,14 +100,14 @@ same_left b c t k = by_rows t.rows t.spelled t.good t.those t.here
 
 -- what is next refuses a part that it lacks
 pub lacks_fails : {X : Type 0} (L : List Placed → X → Type 0) (a b : Place) (fail : ReadFail) → Lacks L a b → Refusal b fail → PartFails L a fail
-lacks_fails L a b (BadStream at Grammar) l r = record { before = b; line = r.line; took = l.took; first = r.first; counts = r.counts; here = r.here; is_out = r.is_out; refused = l.refused }
-lacks_fails L a b (BadStream at End) l r = record { before = b; took = l.took; no_feed = r.0; here = r.1 }
-lacks_fails L a b (BadStream at LeftOut) l r = record { before = b; line = r.line; took = l.took; first = r.first; counts = r.counts; here = r.here; is_out = r.is_out; refused = l.refused }
+lacks_fails L a b (BadStream at Grammar) l r = record { before = b; line = r.line; took = l.took; first = r.first; counts = r.counts; here = r.here; is_out = r.is_out; fits = r.fits; refused = l.refused }
+lacks_fails L a b (BadStream at End) l r = record { before = b; took = l.took; fits = r.2; no_feed = r.0; here = r.1 }
+lacks_fails L a b (BadStream at LeftOut) l r = record { before = b; line = r.line; took = l.took; first = r.first; counts = r.counts; here = r.here; is_out = r.is_out; fits = r.fits; refused = l.refused }
 lacks_fails L a b (BadStream at Mark) l r = r
 lacks_fails L a b (BadStream at Branch) l r = r
 lacks_fails L a b (BadStream at Spot) l r = r
 lacks_fails L a b ReadFault l r = tt
-lacks_fails L a b (Limit which number) l r = record { before = r.before; rows = r.rows; took = took_append a b r.before [] r.rows l.took r.took; passes = r.passes }
+lacks_fails L a b (Limit which number) l r = record { before = r.before; took = took_append a b r.before [] [] l.took r.took; passes = r.passes }
 lacks_fails L a b Memory l r = tt
 
 pub lacks_data : (a b : Place) (fail : ReadFail) → Lacks contents a b → Refusal b fail → DataFails a fail
@@ -115,11 +118,14 @@ lacks_data a b (BadStream at Mark) l r = r
 lacks_data a b (BadStream at Branch) l r = r
 lacks_data a b (BadStream at Spot) l r = r
 lacks_data a b ReadFault l r = tt
-lacks_data a b (Limit which number) l r = lacks_fails contents a b (Limit which number) l r
+lacks_data a b (Limit which number) l r = inl (lacks_fails contents a b (Limit which number) l r)
 lacks_data a b Memory l r = tt
 
+pub over_here : (b : Place) → STREAM_LIMIT < b.at + length b.held → IsHeld b.held → LinePasses b.at (left b) Stream (STREAM_LIMIT + 1)
+over_here b over shape = record { front = b.held; rest = b.rest; cut = refl; stretch = shape; over = over; count = refl }
+
 pub over_passes : (a b : Place) → Took a b [] → STREAM_LIMIT < b.at + length b.held → IsHeld b.held → PassesAfter a Stream (STREAM_LIMIT + 1)
-over_passes a b t over shape = record { before = b; rows = []; took = t; passes = record { front = b.held; rest = b.rest; cut = refl; stretch = elim shape [ inl l ↦ inl l | inr n ↦ inr (inl n) ]; over = over; count = refl } }
+over_passes a b t over shape = record { before = b; took = t; passes = over_here b over shape }
 
 -- a line that is refused
 pub refused_line : (a b : Place) (line : List ℕ) (fail : ReadFail) → Took a b [] → Counts (left a) → IsNext b → b.held ≡ line ++ 10 ∷ [] → fail ≡ line_refusal line b.at → Refusal a fail
@@ -131,14 +137,21 @@ refused_line a b line fail t k n e f = subst (Refusal a) (sym f) (by_out (is_lef
     first : FirstLine (left a) line
     first = subst (λ (z : List ℕ). FirstLine z line) (sym here.0) (held_first b line e n.line)
 
-    by_out : (o : Bool) → is_left_out line ≡ o → Refusal a (if o then BadStream b.at LeftOut else BadStream b.at Grammar)
-    by_out true o = record { line = line; first = first; counts = n.counts line e; here = here.1; is_out = o }
-    by_out false o = record { line = line; first = first; counts = n.counts line e; here = here.1; is_out = o }
+    fits : LineFits a.at (left a)
+    fits = subst (λ (k : ℕ). LineFits k (left a)) here.1 (subst (LineFits b.at) (sym here.0) (next_fits b line n e))
 
-pub refused_end : (a b : Place) (at : ℕ) → Took a b [] → Counts (left a) → EndsNext b → at ≡ b.at + length b.held → (Contains (left a) 10 → ⊥) × (at ≡ a.at + length (left a))
+    by_out : (o : Bool) → is_left_out line ≡ o → Refusal a (if o then BadStream b.at LeftOut else BadStream b.at Grammar)
+    by_out true o = record { line = line; first = first; counts = n.counts line e; here = here.1; is_out = o; fits = fits }
+    by_out false o = record { line = line; first = first; counts = n.counts line e; here = here.1; is_out = o; fits = fits }
+
+pub refused_end : (a b : Place) (at : ℕ) → Took a b [] → Counts (left a) → EndsNext b → at ≡ b.at + length b.held → (Contains (left a) 10 → ⊥) × (at ≡ a.at + length (left a)) × LineFits a.at (left a)
 refused_end a b at t k e f =
-    let same = (same_left a b t k).0 in
-    (λ h. end_feeds b e (subst (λ (z : List ℕ). Contains z 10) same h), omega (arith, f, ap length (end_left b e), took_size a b [] t))
+    let both = same_left a b t k in
+    let same = both.0 in (
+      λ h. end_feeds b e (subst (λ (z : List ℕ). Contains z 10) same h),
+      omega (arith, f, ap length (end_left b e), took_size a b [] t),
+      subst (λ (n : ℕ). LineFits n (left a)) both.1 (subst (LineFits b.at) (sym same) (ending_fits b e)),
+    )
 
 pub stops_refusal : (a : Place) (fail : ReadFail) → Stops a fail → Refusal a fail
 stops_refusal a (BadStream at why) s = absurd s
@@ -168,15 +181,16 @@ pub part_before : {X : Type 0} (L : List Placed → X → Type 0) (a b c : Place
 part_before L a b c x t p = record { rows = p.rows; took = took_append a b c [] p.rows t p.took; says = p.says }
 
 pub fails_before : (a b : Place) (fail : ReadFail) → Took a b [] → DataFails b fail → DataFails a fail
-fails_before a b (BadStream at Grammar) t r = record { before = r.before; line = r.line; took = took_append a b r.before [] [] t r.took; first = r.first; counts = r.counts; here = r.here; is_out = r.is_out; refused = r.refused }
-fails_before a b (BadStream at LeftOut) t r = record { before = r.before; line = r.line; took = took_append a b r.before [] [] t r.took; first = r.first; counts = r.counts; here = r.here; is_out = r.is_out; refused = r.refused }
-fails_before a b (BadStream at End) t (inl r) = inl (record { before = r.before; took = took_append a b r.before [] [] t r.took; no_feed = r.no_feed; here = r.here })
-fails_before a b (BadStream at End) t (inr r) = inr (record { before = r.before; line = r.line; next = r.next; more = r.more; bytes = r.bytes; took = took_append a b r.before [] [] t r.took; spelled = r.spelled; one_line = r.one_line; cut = r.cut; filled = r.filled; here = r.here })
+fails_before a b (BadStream at Grammar) t r = record { before = r.before; line = r.line; took = took_append a b r.before [] [] t r.took; first = r.first; counts = r.counts; here = r.here; is_out = r.is_out; fits = r.fits; refused = r.refused }
+fails_before a b (BadStream at LeftOut) t r = record { before = r.before; line = r.line; took = took_append a b r.before [] [] t r.took; first = r.first; counts = r.counts; here = r.here; is_out = r.is_out; fits = r.fits; refused = r.refused }
+fails_before a b (BadStream at End) t (inl r) = inl (record { before = r.before; took = took_append a b r.before [] [] t r.took; fits = r.fits; no_feed = r.no_feed; here = r.here })
+fails_before a b (BadStream at End) t (inr r) = inr (record { before = r.before; line = r.line; next = r.next; more = r.more; bytes = r.bytes; took = took_append a b r.before [] [] t r.took; spelled = r.spelled; one_line = r.one_line; fits = r.fits; cut = r.cut; filled = r.filled; here = r.here })
 fails_before a b (BadStream at Mark) t r = r
 fails_before a b (BadStream at Branch) t r = r
 fails_before a b (BadStream at Spot) t r = r
 fails_before a b ReadFault t r = tt
-fails_before a b (Limit which number) t r = record { before = r.before; rows = r.rows; took = took_append a b r.before [] r.rows t r.took; passes = r.passes }
+fails_before a b (Limit which number) t (inl r) = inl (record { before = r.before; took = took_append a b r.before [] [] t r.took; passes = r.passes })
+fails_before a b (Limit which number) t (inr r) = inr (record { before = r.before; line = r.line; took = took_append a b r.before [] [] t r.took; first = r.first; opens = r.opens; passes = r.passes })
 fails_before a b Memory t r = tt
 
 pub ok_before : (a b c : Place) (r : Result (List ℕ) ReadFail) → Took a b [] → IfOk r (λ bytes. Part contents b c bytes) → IfOk r (λ bytes. Part contents a c bytes)
@@ -189,15 +203,34 @@ err_before a b (Err fail) t p = fails_before a b fail t p
 
 -- The held line, of a word that opens no data, was taken.
 pub took_held : (a b : Place) (word text : List ℕ) → IsNext a → a.held ≡ (word ++ text) ++ 10 ∷ [] → opens_none word ≡ true → b ≡ taken a → Took a b (line_at a.at (word ++ text) ∷ [])
-took_held a b word text n e o same = subst (λ (p : Place). Took a p (line_at a.at (word ++ text) ∷ [])) (sym same) (line_taken a a (word ++ text) (took_none a) e n.line n.counts (closed_word word text o))
+took_held a b word text n e o same = subst (λ (p : Place). Took a p (line_at a.at (word ++ text) ∷ [])) (sym same) (line_taken a a (word ++ text) (took_none a) e n (closed_word word text o))
 
-pub long_here : (b : Place) → (Contains b.held 10 → ⊥) → length b.held ≡ line_limit → Passes b.at (left b) Line (line_limit + 1)
-long_here b n e = (refl, inl (record { front = b.held; rest = b.rest; cut = refl; no_feed = n; long = e }))
-
-pub over_here : (b : Place) → STREAM_LIMIT < b.at + length b.held → IsHeld b.held → Passes b.at (left b) Stream (STREAM_LIMIT + 1)
-over_here b over shape = record { front = b.held; rest = b.rest; cut = refl; stretch = elim shape [ inl l ↦ inl l | inr n ↦ inr (inl n) ]; over = over; count = refl }
+pub long_here : (b : Place) → (Contains b.held 10 → ⊥) → length b.held ≡ line_limit → LinePasses b.at (left b) Line (line_limit + 1)
+long_here b n e = (refl, record { front = b.held; rest = b.rest; cut = refl; no_feed = n; long = e })
 
 -- where no limit is passed, what ends a whole command lacks each part
 pub clear_lacks : {X : Type 0} (L : List Placed → X → Type 0) (a b : Place) → Took a b [] → EndsWhole b → IsClear (position b false) → Lacks L a b
 clear_lacks L a b t (inl e) k = lacks_end L a b t e
 clear_lacks L a b t (inr p) k = absurd (k p.0 p.1 p.2)
+
+-- A word of the held line passes a limit.
+pub word_here : (b : Place) (line : List ℕ) (which : Which) (number : ℕ) → b.held ≡ line ++ 10 ∷ [] → IsLine b.held → HeldCounts b.held → PassesWords line which number → LinePasses b.at (left b) which number
+word_here b line which number e l c p = by_which which p
+  where
+    word : (w : Which) → PassesWords line w number → PassesWord (left b) w number
+    word w h = record { line = line; first = held_first b line e l; counts = c line e; passes = h }
+
+    by_which : (w : Which) → PassesWords line w number → LinePasses b.at (left b) w number
+    by_which Body h = word Body h
+    by_which Objects h = h
+    by_which Bytes h = h
+    by_which Store h = h
+    by_which Ledger h = h
+    by_which Stream h = absurd h
+    by_which Line h = absurd h
+    by_which Path h = word Path h
+    by_which Ref h = word Ref h
+    by_which Refs h = h
+
+pub word_passes : (a b : Place) (line : List ℕ) (which : Which) (number : ℕ) → Took a b [] → b.held ≡ line ++ 10 ∷ [] → IsLine b.held → HeldCounts b.held → PassesWords line which number → PassesAfter a which number
+word_passes a b line which number t e l c p = record { before = b; took = t; passes = word_here b line which number e l c p }

@@ -2,19 +2,20 @@
 use Rattle.std.proofs.Common.{◌≡◌, ℕ, ◌+◌, ◌⊎◌, inl, inr, Bool, true, false, ◌||◌, if◌then◌else◌, List, [], ◌∷◌, ◌++◌, length, length-append, Contains, refl, sym, ap, ◌∙◌, subst, arith, append_assoc, codes}
 use Rattle.std.specs.List.{list_any}
 use Rattle.swh_base.proofs.Splits.{absent, not_nil}
-use Rattle.swh_fastread.specs.declared.command.Command.{Command}
-use Rattle.swh_fastread.specs.declared.fault.StreamWhy.{StreamWhy}
-use Rattle.swh_fastread.specs.declared.fault.StreamWhy.TheVariants.{Grammar, End, LeftOut, Mark, Branch, Place as Spot}
-use Rattle.swh_fastread.specs.Fault.{BeginsStream, BeginsRows, Reaches, IsLineFault, IsEndFault, IsFault}
-use Rattle.swh_fastread.specs.Grammar.{many, Item, IsItem, is_promise, commands_of, Ends, IsWhole, IsStream}
-use Rattle.swh_fastread.specs.Grammar.Item.{Says, Promise, Nothing}
+use Rattle.swh_fastgrammar.specs.declared.command.Command.{Command}
+use Rattle.swh_fastgrammar.specs.declared.fault.StreamWhy.{StreamWhy}
+use Rattle.swh_fastgrammar.specs.declared.fault.StreamWhy.TheVariants.{Grammar, End, LeftOut, Mark, Branch, Place as Spot}
+use Rattle.swh_fastgrammar.specs.Fault.{BeginsStream, BeginsRows, Reaches, IsLineFault, IsEndFault, IsFault}
+use Rattle.swh_fastgrammar.specs.Grammar.{many, Item, IsItem, is_promise, commands_of, Ends, IsWhole, IsStream}
+use Rattle.swh_fastgrammar.specs.Grammar.Item.{Says, Promise, Nothing}
+use Rattle.swh_fastread.specs.Outcome.{Ended}
 use Rattle.swh_fastread.specs.Places.{Place, left, Took, FirstLine, MayCount, Position, LeadsTo, position}
-use Rattle.swh_fastread.specs.Row.{Row, row_text, text_of, AreRows, Placed, placed, is_comment}
-use Rattle.swh_fastread.proofs.Faults.{append_nil, text_of-append, row_cut, row_line}
-use Rattle.swh_fastread.proofs.Kept.{kept, AllKept, row_kept, item_keeps}
-use Rattle.swh_fastread.proofs.Parts.{cons_cut}
-use Rattle.swh_fastread.proofs.Rows.{goes_on}
-use Rattle.swh_fastread.proofs.Streams.{is_inner, AllInner, shape, Stops, items_stop, some_item, item_one}
+use Rattle.swh_fastgrammar.specs.Row.{Row, row_text, text_of, AreRows, Placed, placed, is_comment}
+use Rattle.swh_fastgrammar.proofs.Faults.{append_nil, text_of-append, row_cut, row_line}
+use Rattle.swh_fastgrammar.proofs.Kept.{kept, AllKept, row_kept, item_keeps}
+use Rattle.swh_fastgrammar.proofs.Parts.{cons_cut}
+use Rattle.swh_fastgrammar.proofs.Rows.{goes_on}
+use Rattle.swh_fastgrammar.proofs.Streams.{is_inner, AllInner, shape, Stops, items_stop, some_item, item_one}
 use Rattle.swh_fastread.proofs.Joins.{or_assoc, placed-append, rows-append, joined, rows-next, allows-line, same_first, fronts}
 
 pub one_item : (rows : List Placed) (i : Item) → IsItem rows i → many IsItem rows (i ∷ [])
@@ -41,10 +42,6 @@ rows_first n (r ∷ rs) ending a q m e = decide (is_comment r.line) refl e
     decide false f g =
         let same = (cons_cut (record { at = n; row = r }) q (placed (n + length (row_text r)) rs) m g).0 in
         inl (subst (λ (x : Placed). FirstLine (text_of (r ∷ rs) ++ ending) x.row.line) same first)
-
--- No item goes on from these rows with what is next.
-abbrev pub Ended : List Placed → List ℕ → Type 0
-Ended part text = (q : Placed) (more : List Placed) (j : Item) → MayCount text q.row.line → IsItem (part ++ q ∷ more) j → ⊥
 
 inner_at : (a : List Placed) (p : Placed) (b : List Placed) → AllInner (a ++ p ∷ b) → is_inner p.row.line ≡ true
 inner_at [] p b h = h.0
@@ -124,7 +121,7 @@ whole_more at p rows more ending i cs good h w = record {
   these = cons-commands i w.items cs w.these;
 }
 
-pub prepend : (at : ℕ) (p : Bool) (text : List ℕ) (rows : List Row) (x : List ℕ) (i : Item) (cs : List Command) → text ≡ text_of rows ++ x → AreRows rows x → IsItem (placed at rows) i → IsStream (at + length (text_of rows)) (p || is_promise i) x cs → IsStream at p text (commands_of (i ∷ []) ++ cs)
+abbrev pub prepend : (at : ℕ) (p : Bool) (text : List ℕ) (rows : List Row) (x : List ℕ) (i : Item) (cs : List Command) → text ≡ text_of rows ++ x → AreRows rows x → IsItem (placed at rows) i → IsStream (at + length (text_of rows)) (p || is_promise i) x cs → IsStream at p text (commands_of (i ∷ []) ++ cs)
 prepend at p text rows x i cs e good h t = record {
   rows = rows ++ t.rows;
   ending = t.ending;
@@ -152,35 +149,35 @@ may_more at p rows (r ∷ more) x rest i good e h b =
       whole = subst (λ (z : List Row). IsWhole at p z b.ending (commands_of (i ∷ []) ++ b.commands)) (sym (append_assoc rows (r ∷ more) b.more)) (whole_more at p rows all b.ending i b.commands next h b.whole);
     }
 
-pub reaches_more : (at : ℕ) (p : Bool) (text x : List ℕ) (rows : List Row) (rest : List ℕ) (i : Item) (cs : List Command) (s : Spelled at text x i) → Reaches (at + length (text_of s.rows)) (p || is_promise i) x rows rest cs → Reaches at p text (s.rows ++ rows) rest (commands_of (i ∷ []) ++ cs)
-reaches_more at p text x rows rest i cs s b = record {
-  spelled = s.text_is ∙ ap (λ (z : List ℕ). text_of s.rows ++ z) b.spelled ∙ joined s.rows rows rest;
-  good = rows-append s.rows rows rest (subst (AreRows s.rows) b.spelled s.good) b.good;
-  may = may_more at p s.rows rows x rest i s.good b.spelled s.said b.may;
-  whole = placed at s.rows ++ b.whole;
+pub reaches_more : (at : ℕ) (p : Bool) (text x : List ℕ) (front rows : List Row) (rest : List ℕ) (i : Item) (cs : List Command) → text ≡ text_of front ++ x → AreRows front x → IsItem (placed at front) i → Reaches (at + length (text_of front)) (p || is_promise i) x rows rest cs → Reaches at p text (front ++ rows) rest (commands_of (i ∷ []) ++ cs)
+reaches_more at p text x front rows rest i cs e good h b = record {
+  spelled = e ∙ ap (λ (z : List ℕ). text_of front ++ z) b.spelled ∙ joined front rows rest;
+  good = rows-append front rows rest (subst (AreRows front) b.spelled good) b.good;
+  may = may_more at p front rows x rest i good b.spelled h b.may;
+  whole = placed at front ++ b.whole;
   part = b.part;
   items = i ∷ b.items;
-  cut = placed-append at s.rows rows ∙ ap (λ (z : List Placed). placed at s.rows ++ z) b.cut ∙ sym (append_assoc (placed at s.rows) b.whole b.part);
-  said = (placed at s.rows, b.whole, refl, s.said, b.said);
+  cut = placed-append at front rows ∙ ap (λ (z : List Placed). placed at front ++ z) b.cut ∙ sym (append_assoc (placed at front) b.whole b.part);
+  said = (placed at front, b.whole, refl, h, b.said);
   unfinished = b.unfinished;
   these = cons-commands i b.items cs b.these;
 }
 
 -- what is next does not change where only what follows an LF does
-ended-next : (part : List Placed) (a x y : List ℕ) → Ended part (a ++ 10 ∷ x) → Ended part (a ++ 10 ∷ y)
+pub ended-next : (part : List Placed) (a x y : List ℕ) → Ended part (a ++ 10 ∷ x) → Ended part (a ++ 10 ∷ y)
 ended-next part a x y h q more j m k = h q more j (back m) k
   where
     back : MayCount (a ++ 10 ∷ y) q.row.line → MayCount (a ++ 10 ∷ x) q.row.line
     back (inl f) = inl (same_first a y x q.row.line f)
     back (inr f) = inr (f.0, same_first a y x f.0 f.1, f.2)
 
-pub line_more : (at : ℕ) (p : Bool) (text x : List ℕ) (i : Item) (cs : List Command) (place : ℕ) (out : Bool) (s : Spelled at text x i) → IsLineFault (at + length (text_of s.rows)) (p || is_promise i) x cs place out → IsLineFault at p text (commands_of (i ∷ []) ++ cs) place out
+abbrev pub line_more : (at : ℕ) (p : Bool) (text x : List ℕ) (i : Item) (cs : List Command) (place : ℕ) (out : Bool) (s : Spelled at text x i) → IsLineFault (at + length (text_of s.rows)) (p || is_promise i) x cs place out → IsLineFault at p text (commands_of (i ∷ []) ++ cs) place out
 line_more at p text x i cs place out s f = record {
   rows = s.rows ++ f.rows;
   line = f.line;
   rest = f.rest;
   one_line = f.one_line;
-  before = reaches_more at p text x f.rows (f.line ++ 10 ∷ f.rest) i cs s f.before;
+  before = reaches_more at p text x s.rows f.rows (f.line ++ 10 ∷ f.rest) i cs s.text_is s.good s.said f.before;
   here = let h = f.here in omega (arith, h, ap length (text_of-append s.rows f.rows), length-append (text_of s.rows) (text_of f.rows));
   out = f.out;
   dead = λ o g.
@@ -204,7 +201,7 @@ no_bytes (c ∷ a) b e = absurd cc
 nothing_in : Contains {X = ℕ} [] 10 → ⊥
 nothing_in h = let l = h.1 in absurd (omega (arith, l))
 
-inside_more : (at : ℕ) (p : Bool) (text x rest : List ℕ) (front : List ℕ) (i : Item) (rows : List Row) → text ≡ text_of rows ++ x → AreRows rows x → IsItem (placed at rows) i → x ≡ front ++ rest → (Contains rest 10 → ⊥) ⊎ BeginsStream (at + length (text_of rows)) (p || is_promise i) x → (Contains rest 10 → ⊥) ⊎ BeginsStream at p text
+pub inside_more : (at : ℕ) (p : Bool) (text x rest : List ℕ) (front : List ℕ) (i : Item) (rows : List Row) → text ≡ text_of rows ++ x → AreRows rows x → IsItem (placed at rows) i → x ≡ front ++ rest → (Contains rest 10 → ⊥) ⊎ BeginsStream (at + length (text_of rows)) (p || is_promise i) x → (Contains rest 10 → ⊥) ⊎ BeginsStream at p text
 inside_more at p text x rest front i rows e good h f (inl n) = inl n
 inside_more at p text [] rest front i rows e good h f (inr b) = inl (subst (λ (t : List ℕ). Contains t 10 → ⊥) (sym (no_bytes front rest f)) nothing_in)
 inside_more at p text (c ∷ x) rest front i rows e good h f (inr b) =
@@ -214,11 +211,11 @@ inside_more at p text (c ∷ x) rest front i rows e good h f (inr b) =
       prepend at p (text ++ b.0) rows ((c ∷ x) ++ b.0) i b.1 (ap (λ (t : List ℕ). t ++ b.0) e ∙ append_assoc (text_of rows) (c ∷ x) b.0) (rows-next rows (c ∷ x) ((c ∷ x) ++ b.0) (λ k. k) good) h b.2,
     )
 
-pub end_more : (at : ℕ) (p : Bool) (text x : List ℕ) (i : Item) (cs : List Command) (place : ℕ) (s : Spelled at text x i) → IsEndFault (at + length (text_of s.rows)) (p || is_promise i) x cs place → IsEndFault at p text (commands_of (i ∷ []) ++ cs) place
+abbrev pub end_more : (at : ℕ) (p : Bool) (text x : List ℕ) (i : Item) (cs : List Command) (place : ℕ) (s : Spelled at text x i) → IsEndFault (at + length (text_of s.rows)) (p || is_promise i) x cs place → IsEndFault at p text (commands_of (i ∷ []) ++ cs) place
 end_more at p text x i cs place s f = record {
   rows = s.rows ++ f.rows;
   rest = f.rest;
-  before = reaches_more at p text x f.rows f.rest i cs s f.before;
+  before = reaches_more at p text x s.rows f.rows f.rest i cs s.text_is s.good s.said f.before;
   here = let h = f.here in omega (arith, h, ap length s.text_is, length-append (text_of s.rows) x);
   cut = f.cut;
   inside = inside_more at p text x f.rest (text_of f.rows) i s.rows s.text_is s.good s.said f.before.spelled f.inside;

@@ -1,19 +1,18 @@
 -- The parts of commands: none begins as the next does, and what each wants still.
-use Rattle.std.proofs.Common.{◌≡◌, ℕ, zero, suc, ◌+◌, inl, inr, Bool, true, false, nat_eq, List, [], ◌∷◌, ◌++◌, length, Contains, refl, sym, ap, ◌∙◌, subst, arith, codes, Option, Some, None}
+use Rattle.std.proofs.Common.{◌≡◌, ℕ, zero, suc, ◌+◌, inl, inr, Bool, true, false, nat_eq, List, [], ◌∷◌, ◌++◌, length, refl, ap, subst, arith, codes, Option, None}
 use Rattle.std.specs.List.{AllPass, starts_with}
 use Rattle.swh_base.proofs.Splits.{absent}
-use Rattle.swh_base.specs.Text.{is_digit, IsNumber, IsPerson}
-use Rattle.swh_fastread.specs.declared.command.At.{At}
-use Rattle.swh_fastread.specs.declared.command.Change.{Change}
-use Rattle.swh_fastread.specs.declared.command.Commitish.{Commitish}
-use Rattle.swh_fastread.specs.declared.command.Commitish.TheVariants.{Mark}
-use Rattle.swh_fastread.specs.Grammar.{◌▹◌, ◌▸◌, optional, many, line_at, line, placed_line, anything, contents, mark, oid, from, change}
+use Rattle.swh_base.specs.Text.{is_digit, IsPerson}
+use Rattle.swh_fastgrammar.specs.declared.command.At.{At}
+use Rattle.swh_fastgrammar.specs.declared.command.Change.{Change}
+use Rattle.swh_fastgrammar.specs.declared.command.Commitish.{Commitish}
+use Rattle.swh_fastgrammar.specs.declared.command.Commitish.TheVariants.{Mark}
+use Rattle.swh_fastgrammar.specs.Grammar.{◌▹◌, ◌▸◌, optional, many, line_at, line, placed_line, anything, contents, mark, oid, from, change}
 use Rattle.swh_fastread.specs.Places.{FirstLine, Refuses}
-use Rattle.swh_fastread.specs.Row.{Row, row_text, IsData, Opens, IsRow, AreRows, Placed, placed}
-use Rattle.swh_fastread.specs.Word.{IsMark, NamesPerson, NamesEncoding, NamesCommit}
-use Rattle.swh_fastread.proofs.Faults.{append_nil}
-use Rattle.swh_fastread.proofs.Items.{line_single, placed_single, contents_single, line_begins, placed_begins, contents_begins, single_begins, optional_begins, skip_begins, both_begin, many_begins, change_begins, author, committer, encoding, tagger, merge, after_data}
-use Rattle.swh_fastread.proofs.Parts.{Begins, cons_cut, change_cut, some_change}
+use Rattle.swh_fastgrammar.specs.Row.{Row, row_text, IsData, Opens, IsRow, Placed, placed}
+use Rattle.swh_fastgrammar.specs.Word.{IsMark, NamesPerson, NamesEncoding, NamesCommit}
+use Rattle.swh_fastgrammar.proofs.Items.{line_single, placed_single, contents_single, line_begins, placed_begins, contents_begins, single_begins, optional_begins, skip_begins, both_begin, many_begins, change_begins, author, committer, encoding, tagger, merge, after_data}
+use Rattle.swh_fastgrammar.proofs.Parts.{Begins, cons_cut, change_cut, some_change}
 use Rattle.swh_fastread.proofs.Joins.{plain, plain_row}
 use Rattle.swh_fastread.proofs.Remains.{Solid, single_solid, Clash, word_clash, no_more, Completes, Wants}
 
@@ -123,7 +122,7 @@ refuses_then {X} {Y} L N s text r p more v f h = by_front h.0 h.2 h.3
     by_front [] e k = s.some v.0 k
     by_front (q ∷ front) e k = r q front v.0 (subst (λ (x : Placed). FirstLine text x.row.line) (cons_cut p q more (front ++ h.1) e).0 f) k
 
-none_then : {X Y : Type 0} (L : List Placed → X → Type 0) (N : List Placed → Y → Type 0) → Solid L → (v : X × Y) → (L ▹ N) [] v → ⊥
+pub none_then : {X Y : Type 0} (L : List Placed → X → Type 0) (N : List Placed → Y → Type 0) → Solid L → (v : X × Y) → (L ▹ N) [] v → ⊥
 none_then {X} {Y} L N s v h = by_front h.0 h.2 h.3
   where
     by_front : (front : List Placed) → [] ≡ front ++ h.1 → L front v.0 → ⊥
@@ -152,7 +151,7 @@ zero_is_row = record { one_line = absent 10 (codes "data 0") refl; after = inl (
 completes_contents : (n : ℕ) → Completes contents n
 completes_contents n = record { rows = zero_row ∷ []; x = []; says = (record { at = n; row = zero_row }, codes "done\n", refl, zero_data); good = (zero_is_row, tt); no_feed = refl }
 
-completes_data : {Y : Type 0} (N : List Placed → Y → Type 0) (y : Y) → N [] y → (n : ℕ) → Completes (contents ▹ N) n
+pub completes_data : {Y : Type 0} (N : List Placed → Y → Type 0) (y : Y) → N [] y → (n : ℕ) → Completes (contents ▹ N) n
 completes_data N y h n = record { rows = zero_row ∷ []; x = ([], y); says = (record { at = n; row = zero_row } ∷ [], [], refl, (record { at = n; row = zero_row }, codes "done\n", refl, zero_data), h); good = (zero_is_row, tt); no_feed = refl }
 
 pub wants_contents : Wants contents

@@ -1,15 +1,19 @@
 -- What the grammar of an item goes on with after rows of it. The place inside an item is the part of the grammar that
 -- remains there, and how its value makes the item.
-use Rattle.std.proofs.Common.{◌≡◌, ℕ, ◌+◌, ◌⊎◌, inl, inr, Bool, true, false, if◌then◌else◌, List, [], ◌∷◌, ◌++◌, length, Contains, refl, sym, ap, ◌∙◌, subst, arith, append_assoc, codes, Option, Some, None}
-use Rattle.swh_fastread.specs.Fault.{is_left_out, IsLineFault, IsEndFault}
-use Rattle.swh_fastread.specs.Grammar.{◌▹◌, ◌▸◌, optional, many, Item, IsItem}
+use Rattle.std.proofs.Common.{◌≡◌, ℕ, ◌+◌, inl, inr, Bool, true, false, if◌then◌else◌, List, [], ◌∷◌, ◌++◌, length, refl, sym, ap, ◌∙◌, subst, append_assoc, codes, Option, Some, None}
+use Rattle.swh_base.specs.declared.visit.Which.{Which}
+use Rattle.swh_fastread.specs.Explains.{PassesAfter, DataPassesAfter}
+use Rattle.swh_fastread.specs.Outcome.{IsLineFaultWithin, IsEndFaultWithin, PassesFirst, Ended}
+use Rattle.swh_fastgrammar.specs.Grammar.{◌▹◌, ◌▸◌, optional, many, Item, IsItem}
+pub use Rattle.swh_fastread.specs.Steps.{Whole}
 use Rattle.swh_fastread.specs.Places.{Place, left, Took, FirstLine, Refuses, Counts, Part, Lacks, OptionalPart, ManyParts, LineRefused, LineLacks, DataLacks, MayCount}
-use Rattle.swh_fastread.specs.Row.{Row, row_text, text_of, begins_with, IsData, IsRow, AreRows, Placed, placed, is_comment}
-use Rattle.swh_fastread.proofs.Faults.{append_nil, row_cut}
-use Rattle.swh_fastread.proofs.Parts.{Single, Begins, begins, cons_cut, single_cut}
-use Rattle.swh_fastread.proofs.Joins.{took_append, took_before, took_after}
-use Rattle.swh_fastread.proofs.Onward.{rows_first, Ended}
-use Rattle.swh_fastread.proofs.Broken.{Completion, Unfinished, Dead, line_fault, end_fault, no_row, filled_stream}
+use Rattle.swh_fastgrammar.specs.Row.{Row, row_text, text_of, begins_with, IsFeed, IsData, AreRows, Placed, placed, is_comment}
+use Rattle.swh_fastgrammar.proofs.Faults.{append_nil, row_cut}
+use Rattle.swh_fastgrammar.proofs.Parts.{Single, Begins, begins, single_cut}
+use Rattle.swh_fastread.proofs.Joins.{took_append, took_before}
+use Rattle.swh_fastread.proofs.Onward.{rows_first}
+use Rattle.swh_fastread.proofs.Fitting.{endless_fits}
+use Rattle.swh_fastread.proofs.Broken.{Unfinished, Dead, line_within, end_within, limit_first, no_row, filled_stream, data_may_come, both_nil}
 
 -- The rows begin with the line that is next, if there are any.
 abbrev pub Next : List ℕ → List Placed → Type 0
@@ -239,13 +243,6 @@ closing {V} {X} R a b M f w = record {
   };
 }
 
--- a whole item was read, with which no other goes on
-pub record Whole (old new : Place) (i : Item) : Type 0 where
-  pub part : List Placed
-  pub took : Took old new part
-  pub is_item : IsItem part i
-  pub ended : Ended part (left new)
-
 -- The item is whole where no more rows remain.
 pub whole : (a b : Place) (f : Unit {0} → Item) → Within IsItem a b no_more f → Whole a b (f tt)
 whole a b f w = record {
@@ -275,7 +272,7 @@ unfinished a b M f w o = record {
 }
 
 -- a line that the part does not begin with
-pub break_line : {X Z : Type 0} (a b : Place) (p : Bool) (M : List Placed → X → Type 0) (L : List Placed → Z → Type 0) (f : X → Item) (at : ℕ) (out : Bool) → Within IsItem a b M f → Wants M → ((text : List ℕ) → Refuses L text → Refuses M text) → LineRefused L b at out → IsLineFault a.at p (left a) [] at out
+pub break_line : {X Z : Type 0} (a b : Place) (p : Bool) (M : List Placed → X → Type 0) (L : List Placed → Z → Type 0) (f : X → Item) (at : ℕ) (out : Bool) → Within IsItem a b M f → Wants M → ((text : List ℕ) → Refuses L text → Refuses M text) → LineRefused L b at out → IsLineFaultWithin a.at p (left a) [] at out
 break_line a b p M L f at out w o refuses r =
     let c = r.before in
     let u = skip_comments IsItem a b c M f w r.took in
@@ -284,22 +281,22 @@ break_line a b p M L f at out w o refuses r =
     let line : FirstLine (left c) q.row.line = subst (FirstLine (left c)) (sym e) first in
     let m = u.remains.back (q ∷ more) j (inl line) h in
     refuses (left c) r.refused q more m.0 line m.1 in
-    subst (λ (n : ℕ). IsLineFault a.at p (left a) [] n out) (sym r.here)
-    (line_fault a c p u.part r.line first.rest out u.took first.spelled first.one_line r.counts r.is_out (unfinished a c M f u o) (λ e. absurd (u.some e)) dead)
+    subst (λ (n : ℕ). IsLineFaultWithin a.at p (left a) [] n out) (sym r.here)
+    (line_within a c p u.part r.line first.rest out u.took first.spelled first.one_line r.counts r.is_out (unfinished a c M f u o) (λ e. absurd (u.some e)) dead r.fits)
 
 -- no line
-pub break_end : {X : Type 0} (a b : Place) (p : Bool) (M : List Placed → X → Type 0) (f : X → Item) (at : ℕ) → Within IsItem a b M f → Wants M → LineLacks b at → IsEndFault a.at p (left a) [] at
+pub break_end : {X : Type 0} (a b : Place) (p : Bool) (M : List Placed → X → Type 0) (f : X → Item) (at : ℕ) → Within IsItem a b M f → Wants M → LineLacks b at → IsEndFaultWithin a.at p (left a) [] at
 break_end a b p M f at w o r =
     let c = r.before in
     let u = skip_comments IsItem a b c M f w r.took in
-    subst (IsEndFault a.at p (left a) []) (sym r.here) (end_fault a c p u.part u.took (unfinished a c M f u o) (no_row (left c) r.no_feed) (inl r.no_feed) (λ e. absurd (u.some e)))
+    subst (IsEndFaultWithin a.at p (left a) []) (sym r.here) (end_within a c p u.part u.took (unfinished a c M f u o) (no_row (left c) r.no_feed) (inl r.no_feed) (λ e. absurd (u.some e)) (record { line = r.fits; inside = endless_fits c.at (left c) r.no_feed }))
 
 pub data_counts : (row : Row) (bytes next : List ℕ) → IsData row bytes next → is_comment row.line ≡ false
 data_counts row bytes next (inl d) = ap is_comment d.line
 data_counts row bytes next (inr d) = ap is_comment d.line
 
 -- data that are cut off
-pub break_data : {X : Type 0} (a b : Place) (p : Bool) (M : List Placed → X → Type 0) (f : X → Item) (at : ℕ) → Within IsItem a b M f → Wants M → ((q : Placed) (bytes next : List ℕ) → IsData q.row bytes next → (x : X) × M (q ∷ []) x) → DataLacks b at → IsEndFault a.at p (left a) [] at
+pub break_data : {X : Type 0} (a b : Place) (p : Bool) (M : List Placed → X → Type 0) (f : X → Item) (at : ℕ) → Within IsItem a b M f → Wants M → ((q : Placed) (bytes next : List ℕ) → IsData q.row bytes next → (x : X) × M (q ∷ []) x) → DataLacks b at → IsEndFaultWithin a.at p (left a) [] at
 break_data a b p M f at w o ends r =
     let c = r.before in
     let u = skip_comments IsItem a b c M f w r.took in
@@ -307,5 +304,50 @@ break_data a b p M f at w o ends r =
     let q : Placed = record { at = c.at; row = row } in
     let m = ends q r.bytes (codes "done\n") r.filled in
     let counts : is_comment r.line ≡ false = data_counts row r.bytes (codes "done\n") r.filled in
-    subst (IsEndFault a.at p (left a) []) (sym r.here)
-    (end_fault a c p u.part u.took (unfinished a c M f u o) r.cut (inr (filled_stream a c p u.part r.line r.next r.more r.bytes u.took r.spelled r.one_line counts r.filled (f m.0) (u.remains.forth (q ∷ []) m.0 m.1))) (λ e. absurd (u.some e)))
+    subst (IsEndFaultWithin a.at p (left a) []) (sym r.here)
+    (end_within a c p u.part u.took (unfinished a c M f u o) r.cut (inr (filled_stream a c p u.part r.line r.next r.more r.bytes u.took r.spelled r.one_line counts r.filled (f m.0) (u.remains.forth (q ∷ []) m.0 m.1))) (λ e. absurd (u.some e)) r.fits)
+
+-- a line that passes a limit
+pub break_limit : {X : Type 0} (a b : Place) (p : Bool) (M : List Placed → X → Type 0) (f : X → Item) (which : Which) (number : ℕ) → Within IsItem a b M f → Wants M → PassesAfter b which number → PassesFirst a.at p (left a) [] which number
+break_limit a b p M f which number w o r =
+    let c = r.before in
+    let u = skip_comments IsItem a b c M f w r.took in
+    limit_first a c p u.part which number u.took (unfinished a c M f u o) (inl r.passes)
+
+-- an LF directly after data is theirs wherever they end
+to_done : (row : Row) (bytes next : List ℕ) → IsData row bytes next → IsData row bytes (codes "done\n")
+to_done row bytes next (inl d) = inl (record { text = d.text; feed = d.feed; line = d.line; number = d.number; raw = d.raw; is_feed = done d.feed d.is_feed })
+  where
+    done : (feed : List ℕ) → IsFeed feed next → IsFeed feed (codes "done\n")
+    done feed (inl e) = inl e
+    done feed (inr e) = inr (e.0, refl)
+to_done row bytes next (inr d) = inr (record { word = d.word; lines = d.lines; feed = d.feed; line = d.line; not_empty = d.not_empty; one_line = d.one_line; each = d.each; value = d.value; raw = d.raw; is_feed = done d.feed d.is_feed })
+  where
+    done : (feed : List ℕ) → IsFeed feed next → IsFeed feed (codes "done\n")
+    done feed (inl e) = inl e
+    done feed (inr e) = inr (e.0, refl)
+
+-- data that pass a limit
+pub break_over : {X : Type 0} (a b : Place) (p : Bool) (M : List Placed → X → Type 0) (f : X → Item) (which : Which) (number : ℕ) → Within IsItem a b M f → Wants M → ((q : Placed) (bytes next : List ℕ) → IsData q.row bytes next → (x : X) × M (q ∷ []) x) → DataPassesAfter b which number → PassesFirst a.at p (left a) [] which number
+break_over a b p M f which number w o ends r =
+    let c = r.before in
+    let u = skip_comments IsItem a b c M f w r.took in
+    let row : Row = record { line = r.line; raw = r.opens.0 } in
+    let filled = to_done row r.opens.1 r.opens.2 r.opens.3 in
+    let q : Placed = record { at = c.at; row = row } in
+    let m = ends q r.opens.1 (codes "done\n") filled in
+    let may = data_may_come a c p u.part r.line r.opens.0 r.opens.1 u.took r.first (data_counts row r.opens.1 (codes "done\n") filled) filled (f m.0) (u.remains.forth (q ∷ []) m.0 m.1) in
+    limit_first a c p u.part which number u.took (unfinished a c M f u o) (inr (r.passes, may))
+
+-- What may come before what is wanted leaves it wanted.
+pub wants_optional : {X Y : Type 0} (L : List Placed → X → Type 0) (N : List Placed → Y → Type 0) → Wants N → Wants (optional L ▹ N)
+wants_optional {X} {Y} L N o = record {
+  none = λ v h. o.none v.1 (subst (λ (r : List Placed). N r v.1) (both_nil h.0 h.1 (sym h.2)).1 h.4);
+  complete = λ n. let c = o.complete n in record { rows = c.rows; x = (None, c.x); says = ([], placed n c.rows, refl, refl, c.says); good = c.good; no_feed = c.no_feed };
+}
+
+pub wants_skip : {X Y : Type 0} (L : List Placed → X → Type 0) (N : List Placed → Y → Type 0) → Wants N → Wants (optional L ▸ N)
+wants_skip {X} {Y} L N o = record {
+  none = λ y h. o.none y (subst (λ (r : List Placed). N r y) (both_nil h.1.0 h.1.1 (sym h.1.2)).1 h.1.4);
+  complete = λ n. let c = o.complete n in record { rows = c.rows; x = c.x; says = (None, ([], placed n c.rows, refl, refl, c.says)); good = c.good; no_feed = c.no_feed };
+}

@@ -1,51 +1,30 @@
 -- Resets.
 use Rattle.std.proofs.Common.{◌≡◌, ◌≢◌, ℕ, ◌+◌, inl, inr, Bool, true, false, List, [], ◌∷◌, ◌++◌, length, refl, sym, ap, ◌∙◌, subst, arith, codes, append_assoc, IsTrue}
-use Rattle.swh_fastread.specs.declared.command.At.{At}
-use Rattle.swh_fastread.specs.declared.command.Commitish.{Commitish}
-use Rattle.swh_fastread.specs.declared.command.Start.{Start}
-use Rattle.swh_fastread.specs.declared.command.Start.TheVariants.{Absent, NoTip, Of}
-use Rattle.swh_fastread.specs.declared.command.Command.{Command}
-use Rattle.swh_fastread.specs.declared.command.Command.TheVariants.{Blob, Commit, Tag, Reset}
-use Rattle.swh_fastread.specs.Fault.{IsFault}
-use Rattle.swh_fastread.specs.Explains.{IsClear, Gives, Reads, EndsWhole}
-use Rattle.swh_fastread.specs.Grammar.{line_at, line, target, zeros, Item, IsItem, IsStream}
-use Rattle.swh_fastread.specs.Grammar.Item.{Says, Promise, Nothing}
+use Rattle.swh_fastgrammar.specs.declared.command.At.{At}
+use Rattle.swh_fastgrammar.specs.declared.command.Commitish.{Commitish}
+use Rattle.swh_fastgrammar.specs.declared.command.Start.{Start}
+use Rattle.swh_fastgrammar.specs.declared.command.Start.TheVariants.{Absent, NoTip, Of}
+use Rattle.swh_fastgrammar.specs.declared.command.Command.{Command}
+use Rattle.swh_fastgrammar.specs.declared.command.Command.TheVariants.{Blob, Commit, Tag, Reset}
+use Rattle.swh_fastgrammar.specs.Fault.{IsFault}
+use Rattle.swh_fastread.specs.Explains.{IsClear, Reads, EndsWhole}
+use Rattle.swh_fastgrammar.specs.Grammar.{line_at, line, target, zeros, Item, IsItem, IsCommand}
+use Rattle.swh_fastgrammar.specs.Grammar.Item.{Says, Promise, Nothing}
 use Rattle.swh_fastread.specs.Held.{IsNext}
 use Rattle.swh_fastread.specs.Places.{Place, left, Took, FirstLine, MayCount, Lacks, LeadsTo, position}
-use Rattle.swh_fastread.specs.Row.{text_of, Opens, Placed, placed}
-use Rattle.swh_fastread.specs.Word.{NamesRef, NamesCommit}
-use Rattle.swh_fastread.proofs.Begun.{kind, after_single}
-use Rattle.swh_fastread.proofs.Faults.{append_nil}
+use Rattle.swh_fastgrammar.specs.Row.{text_of, Opens, Placed, placed}
+use Rattle.swh_fastgrammar.specs.Word.{NamesRef, NamesCommit}
+use Rattle.swh_fastlines.proofs.ItemLines.{kind}
+use Rattle.swh_fastread.proofs.Begun.{after_single}
+use Rattle.swh_fastgrammar.proofs.Faults.{append_nil}
 use Rattle.swh_fastread.proofs.HeldLines.{taken, held_counts, line_taken}
-use Rattle.swh_fastread.proofs.Items.{line_single}
+use Rattle.swh_fastgrammar.proofs.Items.{line_single}
 use Rattle.swh_fastread.proofs.Joins.{took_append, took_size, or-false}
 use Rattle.swh_fastread.proofs.NextLines.{same_next, clear_lacks, closed_word}
-use Rattle.swh_fastread.proofs.Onward.{Ended, Spelled, prepend, fault_more}
-use Rattle.swh_fastread.proofs.Parts.{cons_cut}
-use Rattle.swh_fastread.proofs.Remains.{Within, any_next}
-use Rattle.swh_fastread.proofs.Rows.{same_tail}
-
--- An item was read as far as it goes.
-pub gives : {X : Type 0} (a b c : Place) (L : List Placed → X → Type 0) (f : X → Item) (x : X) (command : Command) → f x ≡ Says command → Within IsItem a b L f → Reads L b c x → (p : Bool) → Gives (position a p) (position c p) command
-gives a b c L f x command e w r p =
-    let part : List Placed = w.part ++ r.rows in
-    let t = took_append a b c w.part r.rows w.took r.took in
-    let item : IsItem part (Says command) = subst (λ (i : Item). IsItem part i) e (w.remains.forth r.rows x r.says) in
-    let whole : IsItem (placed a.at t.rows) (Says command) = subst (λ (z : List Placed). IsItem z (Says command)) (sym t.those) item in
-    let here = t.here in
-    record {
-      total = took_size a c part t;
-      streams = λ cs s. prepend a.at p (left a) t.rows (left c) (Says command) cs t.spelled t.good whole (subst (λ (b : Bool). IsStream (a.at + length (text_of t.rows)) b (left c) cs) (sym (or-false p)) (subst (λ (n : ℕ). IsStream n p (left c) cs) here s));
-      faults = λ clear cs place why f.
-          let ended : Ended part (left c) = λ q more j m h.
-          let v = w.remains.back (r.rows ++ q ∷ more) j (any_next b c r.rows (q ∷ more) r.took m) (subst (λ (z : List Placed). IsItem z j) (append_assoc w.part r.rows (q ∷ more)) h) in
-          r.closed clear q more v.0 m v.1 in
-          let s : Spelled a.at (left a) (left c) (Says command) = record { rows = t.rows; text_is = t.spelled; good = t.good; said = whole; ended = subst (λ (z : List Placed). Ended z (left c)) (sym t.those) ended } in
-          fault_more a.at p (left a) (left c) (Says command) cs place why s (subst (λ (b : Bool). IsFault (a.at + length (text_of t.rows)) b (left c) cs place why) (sym (or-false p)) (subst (λ (n : ℕ). IsFault n p (left c) cs place why) here f));
-    }
-
-pub leads_give : (a b : Place) (c : Command) (p : Bool) → LeadsTo (position a p) (position b p) (c ∷ []) → Gives (position a p) (position b p) c
-leads_give a b c p l = record { total = l.total; streams = λ cs s. l.streams cs s; faults = λ clear cs place why f. l.faults cs place why f }
+use Rattle.swh_fastgrammar.proofs.Parts.{cons_cut}
+use Rattle.swh_fastread.proofs.Commands.{reads_last}
+use Rattle.swh_fastread.proofs.Remains.{Within}
+use Rattle.swh_fastgrammar.proofs.Rows.{same_tail}
 
 reset_back : (q : Placed) (more : List Placed) (i : Item) (name : List ℕ) → q.row.line ≡ codes "reset " ++ name → IsItem (q ∷ more) i → (s : Start) × target more s
 reset_back q more (Says (Reset b s)) name e h = (s, after_single (line (codes "reset ") NamesRef) target (line_single (codes "reset ") NamesRef) q more (b, s) h)
@@ -69,8 +48,8 @@ reset_begun a b at name t r = record {
   };
 }
 
-pub reset_gives : (a b c : Place) (at : ℕ) (name : List ℕ) (s : Start) → Took a b (line_at at (codes "reset " ++ name) ∷ []) → NamesRef name name → Reads target b c s → (p : Bool) → Gives (position a p) (position c p) (Reset name s)
-reset_gives a b c at name s t n r = gives a b c target (reset_item name) s (Reset name s) refl (reset_begun a b at name t n) r
+pub reset_reads : (a b c : Place) (at : ℕ) (name : List ℕ) (s : Start) → Took a b (line_at at (codes "reset " ++ name) ∷ []) → NamesRef name name → Reads target b c s → Reads IsCommand a c (Reset name s)
+reset_reads a b c at name s t n r = reads_last a b c target (reset_item name) s (Reset name s) refl (reset_begun a b at name t n) r
 
 -- a line that is no target
 abbrev pub NeverTarget : List ℕ → Type 0
@@ -113,7 +92,7 @@ one_row q p more (Of a) h = let e = (cons_cut q (line_at a.at (codes "from " ++ 
 
 from_taken : (a b : Place) (text said : List ℕ) → Took a b [] → IsNext b → b.held ≡ text ++ 10 ∷ [] → text ≡ codes "from " ++ said → Took a (taken b) (line_at b.at (codes "from " ++ said) ∷ [])
 from_taken a b text said t n e same =
-    subst (λ (x : List ℕ). Took a (taken b) (line_at b.at x ∷ [])) same (line_taken a b text t e n.line n.counts (λ o. closed_word (codes "from ") said refl (subst Opens same o)))
+    subst (λ (x : List ℕ). Took a (taken b) (line_at b.at x ∷ [])) same (line_taken a b text t e n (λ o. closed_word (codes "from ") said refl (subst Opens same o)))
 
 pub no_tip : (a b : Place) (text said : List ℕ) → Took a b [] → IsNext b → b.held ≡ text ++ 10 ∷ [] → text ≡ codes "from " ++ said → said ≡ zeros → Reads target a (taken b) NoTip
 no_tip a b text said t n e same z = record {

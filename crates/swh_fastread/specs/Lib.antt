@@ -1,10 +1,9 @@
 pub mod Explains
-pub mod Fault
-pub mod Grammar
 pub mod Held
-pub mod Limit
 pub mod Outside
 pub mod Places
-pub mod Reading
-pub mod Row
-pub mod Word
+pub mod Within
+pub mod Outcome
+pub mod Tail
+pub mod Steps
+pub mod Standing

@@ -1,10 +1,12 @@
 -- What a reader answers, in whole texts: what is to be read before and after.
 use Rattle.std.specs.Prelude.{◌≡◌, ◌⊎◌, ℕ, Bool, true, false, not, ◌==◌, ◌+◌, List, [], ◌∷◌, ◌++◌, Option, Some, None, length, Contains, codes}
-use Rattle.swh_fastread.specs.declared.command.Command.{Command}
-use Rattle.swh_fastread.specs.declared.fault.StreamWhy.{StreamWhy}
-use Rattle.swh_fastread.specs.Fault.{is_left_out, IsFault}
-use Rattle.swh_fastread.specs.Grammar.{many, IsStream}
-use Rattle.swh_fastread.specs.Row.{Row, row_text, text_of, IsData, IsRow, AreRows, Placed, placed, is_comment}
+use Rattle.swh_fastgrammar.specs.declared.command.Command.{Command}
+use Rattle.swh_fastgrammar.specs.declared.fault.StreamWhy.{StreamWhy}
+use Rattle.swh_fastgrammar.specs.Fault.{is_left_out, IsFault}
+use Rattle.swh_fastgrammar.specs.Grammar.{many, IsStream}
+use Rattle.swh_fastgrammar.specs.Row.{Row, row_text, text_of, IsData, IsRow, AreRows, Placed, placed, is_comment}
+use Rattle.swh_fastread.specs.Within.{LineFits, Fits, AllFit}
+pub use Rattle.swh_fastread.specs.Within.{FirstLine}
 
 -- Where a reader of rows stands: the place of the first byte that is to be read, the bytes that it holds, what follows them
 -- in its source, how often that failed, and where it was opened.
@@ -19,19 +21,14 @@ pub record Place : Type 0 where
 abbrev pub left : Place → List ℕ
 left place = place.held ++ place.rest
 
--- These rows were read, and the comments before, between and after them.
+-- These rows were read, and the comments before, between and after them; none passes a limit.
 pub record Took (old new : Place) (part : List Placed) : Type 0 where
   pub rows : List Row
   pub spelled : left old ≡ text_of rows ++ left new
   pub good : AreRows rows (left new)
+  pub fit : AllFit old.at rows (left new)
   pub those : placed old.at rows ≡ part
   pub here : new.at ≡ old.at + length (text_of rows)
-
--- The text begins with this line, without its LF.
-pub record FirstLine (text line : List ℕ) : Type 0 where
-  pub rest : List ℕ
-  pub spelled : text ≡ line ++ 10 ∷ rest
-  pub one_line : Contains line 10 → ⊥
 
 -- The text's first line does not begin this part.
 abbrev pub Refuses : {X : Type 0} → (List Placed → X → Type 0) → List ℕ → Type 0
@@ -71,7 +68,7 @@ pub record ManyParts {X : Type 0} (L : List Placed → X → Type 0) (old new : 
   pub refused : Refuses L (left new)
   pub counts : Counts (left new)
 
--- A line comes next that does not begin the part.
+-- A line within the limits comes next that does not begin the part.
 pub record LineRefused {X : Type 0} (L : List Placed → X → Type 0) (old : Place) (at : ℕ) (out : Bool) : Type 0 where
   pub before : Place
   pub line : List ℕ
@@ -80,16 +77,18 @@ pub record LineRefused {X : Type 0} (L : List Placed → X → Type 0) (old : Pl
   pub counts : is_comment line ≡ false
   pub here : at ≡ before.at
   pub is_out : is_left_out line ≡ out
+  pub fits : LineFits before.at (left before)
   pub refused : Refuses L (left before)
 
--- No whole line comes next.
+-- No whole line comes next, and no limit is passed.
 pub record LineLacks (old : Place) (at : ℕ) : Type 0 where
   pub before : Place
   pub took : Took old before []
+  pub fits : LineFits before.at (left before)
   pub no_feed : Contains (left before) 10 → ⊥
   pub here : at ≡ before.at + length (left before)
 
--- The line opens data that are cut off: what follows it is no row, and is one with some more bytes.
+-- The line opens data that are cut off, within the limits: what follows it is no row, and is one with some more bytes.
 pub record DataLacks (old : Place) (at : ℕ) : Type 0 where
   pub before : Place
   pub line : List ℕ
@@ -99,6 +98,7 @@ pub record DataLacks (old : Place) (at : ℕ) : Type 0 where
   pub took : Took old before []
   pub spelled : left before ≡ line ++ 10 ∷ next
   pub one_line : Contains line 10 → ⊥
+  pub fits : Fits before.at (left before)
   pub cut : (row : Row) (other : List ℕ) → left before ≡ row_text row ++ other → IsRow row other → ⊥
   pub filled : let row : Row = record { line = line; raw = next ++ more } in IsData row bytes (codes "done\n")
   pub here : at ≡ before.at + length (left before)

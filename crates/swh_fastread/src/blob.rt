@@ -1,24 +1,27 @@
 // Blobs of a stream (git-fast-import(1), blob).
-ghost use Rattle.std.specs.Prelude.{◌≡◌, ◌≤◌, ◌++◌, ◌∷◌, [], Bool, codes, IfOk, IfErr, IsErrOf};
+ghost use Rattle.std.specs.Prelude.{◌≡◌, ◌≤◌, ◌++◌, ◌∷◌, [], Bool, codes, IfOk, IfErr, IsErrOf, ◌<◌};
 ghost use Rattle.swh_outside.specs.Faults.{Rose};
 ghost use Rattle.swh_fastread.specs.declared.fail.ReadFail.TheVariants.{ReadFault as SourceFailed};
-ghost use Rattle.swh_fastread.specs.Explains.{Explains};
+ghost use Rattle.swh_fastread.specs.Explains.{Explains, Reads};
+ghost use Rattle.swh_fastgrammar.specs.Givable.{IsGivable};
+ghost use Rattle.swh_fastgrammar.specs.Grammar.{IsCommand};
 ghost use Rattle.swh_fastread.specs.Held.{IsNext};
-ghost use Rattle.swh_fastread.specs.Places.{LeadsTo, position};
 
-use crate::command::Command;
 use crate::data::data;
 use crate::fail::ReadFail;
 use crate::optional::{optional_mark, skip_oid};
 use crate::row_source::Rows;
+use swh_fastgrammar::Command;
 use swh_outside::Source;
 
 /// The blob that the held line begins.
 pub fn read_blob<S: Source>(rows: &mut Rows<S>) -> Result<Command, ReadFail>
     requires next { IsNext rows.old }
     requires line { rows.old.held ≡ codes "blob" ++ 10 ∷ [] }
-    ensures command { S.tells → IfOk result (λ c. (p : Bool) → LeadsTo (position rows.old p) (position rows.new p) (c ∷ [])) }
+    ensures givable { IfOk result IsGivable }
+    ensures command { S.tells → IfOk result (Reads IsCommand rows.old rows.new) }
     ensures fails { S.tells → IfErr result (λ fail. (p : Bool) → Explains rows.old p fail) }
+    ensures onward { IfOk result (λ _. rows.old.at < rows.new.at) }
 
     ensures same_path { rows.new.path ≡ rows.old.path }
     ensures later { rows.old.faults ≤ rows.new.faults }

@@ -1,21 +1,37 @@
 // Data of a stream (git-fast-import(1), data).
-ghost use Rattle.std.specs.Prelude.{◌≡◌, ◌≤◌, ◌+◌, [], IfOk, IfErr, IsErrOf, length};
-ghost use Rattle.swh_base.specs.Limits.{line_limit};
-ghost use Rattle.swh_fastlex.specs.Line.{IsLine};
+ghost use Rattle.std.specs.Prelude.{◌≡◌, ◌≤◌, [], IfOk, IfErr, IsErrOf, length};
+ghost use Rattle.swh_base.specs.Limits.{body_limit, line_limit};
 ghost use Rattle.swh_outside.specs.Faults.{Rose};
 ghost use Rattle.swh_fastread.specs.declared.fail.ReadFail.TheVariants.{ReadFault as SourceFailed};
-ghost use Rattle.swh_fastread.specs.Explains.{DataFails, OpensCounted, OpensDelimited, data_fail, lines_fail};
-ghost use Rattle.swh_fastread.specs.Grammar.{contents};
+ghost use Rattle.swh_fastread.specs.Explains.{DataFails, OpensCounted, OpensDelimited, cut_fail, data_fail, lines_fail};
+ghost use Rattle.swh_fastgrammar.specs.Grammar.{contents};
+ghost use Rattle.swh_fastread.specs.Held.{IsNext};
 ghost use Rattle.swh_fastread.specs.Places.{Part};
 
-use crate::data_lines::{DataLine, data_line};
 use crate::fail::ReadFail;
-use crate::fault::StreamWhy;
 use crate::peek::{peek, refusal};
 use crate::row_source::{Rows, STREAM_LIMIT};
 use swh_base::{BODY_LIMIT, Bytes, LINE_LIMIT, Which};
+use swh_fastgrammar::StreamWhy;
 use swh_fastlex::{DataFault, LineFault};
+use swh_fastlines::{DataLine, data_line};
 use swh_outside::Source;
+
+/// Why data are not given that the input's end cuts off, at this place.
+fn cut_fail(at: u64) -> ReadFail
+    ensures { result ≡ cut_fail at }
+{
+    if at > STREAM_LIMIT {
+        return ReadFail::Limit {
+            which: Which::Stream,
+            number: STREAM_LIMIT + 1,
+        };
+    }
+    ReadFail::BadStream {
+        at,
+        why: StreamWhy::End,
+    }
+}
 
 /// Why data that are counted are not given; they end at this place.
 fn data_fail(fault: LineFault, at: u64) -> ReadFail
@@ -23,10 +39,7 @@ fn data_fail(fault: LineFault, at: u64) -> ReadFail
 {
     match fault {
         LineFault::Failed => ReadFail::ReadFault,
-        LineFault::End => ReadFail::BadStream {
-            at,
-            why: StreamWhy::End,
-        },
+        LineFault::End => cut_fail(at),
         LineFault::Limit => ReadFail::Limit {
             which: Which::Body,
             number: at,
@@ -37,9 +50,9 @@ fn data_fail(fault: LineFault, at: u64) -> ReadFail
 
 /// The data that the held line opens: so many bytes, with an LF directly after them.
 pub fn counted_data<S: Source>(rows: &mut Rows<S>, count: u64) -> Result<Bytes, ReadFail>
-    requires line { IsLine rows.old.held }
+    requires next { IsNext rows.old }
     requires opens { OpensCounted rows.old count }
-    requires start { rows.old.at + length rows.old.held ≤ STREAM_LIMIT }
+    requires fits { count ≤ body_limit }
     ensures data { S.tells → IfOk result (λ bytes. Part contents rows.old rows.new bytes) }
     ensures fails { S.tells → IfErr result (DataFails rows.old) }
     ensures onward { IfOk result (λ _. rows.old.at ≤ rows.new.at) }
@@ -48,12 +61,6 @@ pub fn counted_data<S: Source>(rows: &mut Rows<S>, count: u64) -> Result<Bytes, 
     ensures later { rows.old.faults ≤ rows.new.faults }
     ensures cause { IsErrOf result SourceFailed → Rose rows.old.faults rows.new.faults }
 {
-    if count > BODY_LIMIT {
-        return Err(ReadFail::Limit {
-            which: Which::Body,
-            number: count,
-        });
-    }
     rows.take();
     let bytes = match rows.bytes(count) {
         Ok(bytes) => bytes,
@@ -75,10 +82,7 @@ fn lines_fail(fault: DataFault, at: u64) -> ReadFail
 {
     match fault {
         DataFault::Failed => ReadFail::ReadFault,
-        DataFault::End => ReadFail::BadStream {
-            at,
-            why: StreamWhy::End,
-        },
+        DataFault::End => cut_fail(at),
         DataFault::Line => ReadFail::Limit {
             which: Which::Line,
             number: LINE_LIMIT as u64 + 1,
@@ -93,10 +97,9 @@ fn lines_fail(fault: DataFault, at: u64) -> ReadFail
 
 /// The data that the held line opens: the lines before the line that is just the word, with an LF directly after it.
 fn delimited_data<S: Source>(rows: &mut Rows<S>, word: &[u8]) -> Result<Bytes, ReadFail>
-    requires line { IsLine rows.old.held }
+    requires next { IsNext rows.old }
     requires opens { OpensDelimited rows.old word.now }
     requires short { length word.now ≤ line_limit }
-    requires start { rows.old.at + length rows.old.held ≤ STREAM_LIMIT }
     ensures data { S.tells → IfOk result (λ bytes. Part contents rows.old rows.new bytes) }
     ensures fails { S.tells → IfErr result (DataFails rows.old) }
     ensures onward { IfOk result (λ _. rows.old.at ≤ rows.new.at) }

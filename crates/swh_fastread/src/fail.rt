@@ -1,8 +1,8 @@
 //! Why a stream is not read on.
 
-use crate::fault::StreamWhy;
 use std::alloc::{AllocError, AllocFailed};
 use swh_base::{Memory, Which};
+use swh_fastgrammar::StreamWhy;
 use swh_outside::Failed;
 
 /// Why nothing more is read from outside.

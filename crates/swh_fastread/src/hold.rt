@@ -7,9 +7,8 @@ ghost use Rattle.swh_fastread.specs.Held.{IsHeld};
 ghost use Rattle.swh_fastread.specs.declared.fail.Outside.TheVariants.{Failed};
 
 use crate::fail::Outside;
-use crate::front::move_front;
 use swh_base::LINE_LIMIT;
-use swh_fastlex::Window;
+use swh_fastlex::{Window, move_front};
 use swh_outside::Source;
 
 /// Moves the next line with its LF into `line`, which is empty: at most 1,048,576 bytes of it, and what there is where

@@ -1,45 +1,35 @@
-//! The commands of streams, and the grammar that says which bytes are which commands.
-//! Stands on `swh_base`, `swh_pieces`, `swh_outside`, `swh_fastlex` and `hex`.
-//! Callers may rely on: a text is one list of commands at most, has one fault at most, and not both; a line is told to
-//! open data, to say a change or to be left out, and a text to be a word of a line, exactly where the grammar has it, and
-//! one with a ref or a path that is too long is told so first.
+//! The reader of streams: rows over a window of the source, and the commands that they are (git-fast-import(1), input
+//! format).
+//! Stands on `swh_base`, `swh_pieces`, `swh_outside`, `swh_fastlex`, `swh_fastgrammar` and `swh_fastlines`.
+//! Callers may rely on: a command is read exactly where the grammar has it, the first fault is told at its place, and the
+//! first limit before it; a text is a stream within the limits, has a fault, or passes a limit, and no two of these.
 #![tactic(auto)]
 
 mod ahead;
 mod blob;
-mod change_lines;
-mod command;
+mod changes;
+mod commit;
 mod data;
-mod data_lines;
 mod fail;
-mod fault;
-mod front;
 mod hold;
+mod items;
 mod laws;
-mod left_out;
-mod line_words;
+mod lent;
 mod optional;
 mod part_lines;
 mod peek;
+mod reader;
 mod reset;
 mod row_source;
 mod tag;
+mod tail;
 mod whole;
-mod worked;
 
-pub use change_lines::{ChangeLine, change_line};
-pub use command::{At, Change, Command, Commitish, Dataref, Start};
-pub use data_lines::{DataLine, data_line};
 pub use fail::{Outside, ReadFail};
-pub use fault::StreamWhy;
-pub use laws::{no_fault, one_fault, one_reading};
-pub use left_out::is_left_out;
-pub use line_words::{
-    commit_word, id_of, is_encoding, is_zeros, mark_of, mode_of, ref_word, tag_word,
-};
-pub use worked::{
-    data_before_line, left_out_line, octal_path, one_blob, promise_not_kept, unknown_line,
-};
+pub use laws::{one_kind, one_outcome, starts_go_on};
+pub use lent::Lent;
+pub use reader::{Ending, Reader};
+pub use swh_fastgrammar::{At, Change, Command, Commitish, Dataref, Start, StreamWhy};
 
 #[cfg(test)]
-mod tests;
+mod limit_tests;

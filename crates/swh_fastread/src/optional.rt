@@ -3,16 +3,16 @@ ghost use Rattle.std.specs.Prelude.{◌≡◌, ◌≤◌, true, codes, IfOk, IfE
 ghost use Rattle.swh_outside.specs.Faults.{Rose};
 ghost use Rattle.swh_fastread.specs.declared.fail.ReadFail.TheVariants.{ReadFault as SourceFailed};
 ghost use Rattle.swh_fastread.specs.Explains.{Stops, PartFails};
-ghost use Rattle.swh_fastread.specs.Grammar.{line, mark, oid, from};
+ghost use Rattle.swh_fastgrammar.specs.Grammar.{line, mark, oid, from};
 ghost use Rattle.swh_fastread.specs.Places.{Part, OptionalPart, FoundPart, opens_none};
-ghost use Rattle.swh_fastread.specs.Word.{NamesPerson, NamesEncoding};
+ghost use Rattle.swh_fastgrammar.specs.Word.{NamesPerson, NamesEncoding};
 
-use crate::command::{At, Commitish};
 use crate::fail::ReadFail;
 use crate::part_lines::{commit_line, encoding_line, mark_line, person_line};
 use crate::peek::{peek, refusal};
 use crate::row_source::Rows;
 use swh_base::Bytes;
+use swh_fastgrammar::{At, Commitish};
 use swh_outside::Source;
 use swh_pieces::behind;
 
@@ -107,6 +107,7 @@ pub fn person<S: Source>(rows: &mut Rows<S>, word: &[u8]) -> Result<Bytes, ReadF
     requires closed { opens_none word.now ≡ true }
     ensures part { S.tells → IfOk result (Part (line word.now NamesPerson) rows.old rows.new) }
     ensures fails { S.tells → IfErr result (PartFails (line word.now NamesPerson) rows.old) }
+    ensures onward { IfOk result (λ _. rows.old.at ≤ rows.new.at) }
 
     ensures same_path { rows.new.path ≡ rows.old.path }
     ensures later { rows.old.faults ≤ rows.new.faults }
@@ -122,6 +123,7 @@ pub fn person<S: Source>(rows: &mut Rows<S>, word: &[u8]) -> Result<Bytes, ReadF
 pub fn named_commit<S: Source>(rows: &mut Rows<S>) -> Result<At<Commitish>, ReadFail>
     ensures part { S.tells → IfOk result (Part from rows.old rows.new) }
     ensures fails { S.tells → IfErr result (PartFails from rows.old) }
+    ensures onward { IfOk result (λ _. rows.old.at ≤ rows.new.at) }
 
     ensures same_path { rows.new.path ≡ rows.old.path }
     ensures later { rows.old.faults ≤ rows.new.faults }

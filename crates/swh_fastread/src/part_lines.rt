@@ -2,13 +2,13 @@
 ghost use Rattle.std.specs.Prelude.{◌≡◌, true, codes, IfOk, IfSome, IfNone};
 ghost use Rattle.swh_base.specs.Text.{IsPerson};
 ghost use Rattle.swh_fastread.specs.Places.{SaysLine, NeverLine};
-ghost use Rattle.swh_fastread.specs.Word.{IsMark, NamesPerson, NamesEncoding, NamesCommit};
+ghost use Rattle.swh_fastgrammar.specs.Word.{IsMark, NamesPerson, NamesEncoding, NamesCommit};
 
-use crate::command::Commitish;
-use crate::line_words::{commit_word, is_encoding, mark_of};
 use std::alloc::{AllocError, Global};
 use swh_base::is_person;
+use swh_fastgrammar::Commitish;
 use swh_fastlex::Word;
+use swh_fastlines::{commit_word, is_encoding, mark_of};
 use swh_pieces::behind;
 
 /// The mark that a line `mark` gives.

@@ -9,17 +9,17 @@ ghost use Rattle.swh_fastread.specs.Places.{left, Took, Counts};
 
 use crate::ahead::Ahead;
 use crate::fail::ReadFail;
-use crate::fault::StreamWhy;
-use crate::left_out::is_left_out;
 use crate::row_source::{Rows, STREAM_LIMIT};
 use swh_base::{LINE_LIMIT, Which};
+use swh_fastgrammar::StreamWhy;
+use swh_fastlines::{is_left_out, word_limit};
 use swh_outside::Source;
 
 /// Passes over comments and holds the next line; answers whether there is one.
 ///
 /// # Errors
 ///
-/// The next line passes the limit of lines, or that of the stream.
+/// The next line passes the limit of lines, that of the stream, or that of a word in it.
 pub fn peek<S: Source>(rows: &mut Rows<S>) -> Result<bool, ReadFail>
     ensures line { IfOk result (λ some. some ≡ true → IsNext rows.new) }
     ensures took { S.tells → IfOk result (λ _. Took rows.old rows.new []) }
@@ -33,7 +33,10 @@ pub fn peek<S: Source>(rows: &mut Rows<S>) -> Result<bool, ReadFail>
     ensures cause { IsErrOf result SourceFailed → Rose rows.old.faults rows.new.faults }
 {
     match rows.look()? {
-        Ahead::Line => Ok(true),
+        Ahead::Line => match word_limit(rows.alloc(), rows.line())? {
+            Some((which, number)) => Err(ReadFail::Limit { which, number }),
+            None => Ok(true),
+        },
         Ahead::End => Ok(false),
         Ahead::Long => Err(ReadFail::Limit {
             which: Which::Line,
@@ -47,7 +50,7 @@ pub fn peek<S: Source>(rows: &mut Rows<S>) -> Result<bool, ReadFail>
 }
 
 /// Why a line at this place, which no part of a command is, is refused.
-fn refused_line(line: &[u8], at: u64) -> ReadFail
+pub fn refused_line(line: &[u8], at: u64) -> ReadFail
     ensures { result ≡ line_refusal line.now at }
 {
     let why = if is_left_out(line) {

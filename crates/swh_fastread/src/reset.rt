@@ -1,26 +1,27 @@
 // Resets of a stream (git-fast-import(1), reset).
-ghost use Rattle.std.specs.Prelude.{◌≡◌, ◌≤◌, ◌++◌, ◌∷◌, [], Bool, codes, IfOk, IfErr, IsErrOf};
+ghost use Rattle.std.specs.Prelude.{◌≡◌, ◌≤◌, ◌++◌, ◌∷◌, [], codes, IfOk, IfErr, IsErrOf, ◌<◌};
 ghost use Rattle.swh_outside.specs.Faults.{Rose};
 ghost use Rattle.swh_fastread.specs.declared.fail.Outside.TheVariants.{Failed};
-ghost use Rattle.swh_fastread.specs.Explains.{Gives, Reads};
-ghost use Rattle.swh_fastread.specs.Grammar.{target};
+ghost use Rattle.swh_fastread.specs.Explains.{Reads};
+ghost use Rattle.swh_fastgrammar.specs.Givable.{IsGivable};
+ghost use Rattle.swh_fastgrammar.specs.Grammar.{target, IsCommand};
 ghost use Rattle.swh_fastread.specs.Held.{IsNext};
-ghost use Rattle.swh_fastread.specs.Places.{position};
-ghost use Rattle.swh_fastread.specs.Word.{NamesRef};
+ghost use Rattle.swh_fastgrammar.specs.Word.{NamesRef};
 
-use crate::command::{At, Command, Start};
 use crate::fail::Outside;
-use crate::line_words::{commit_word, is_zeros};
 use crate::row_source::Rows;
 use crate::whole::next_line;
 use swh_base::Bytes;
+use swh_fastgrammar::{At, Command, Start};
 use swh_fastlex::Word;
+use swh_fastlines::{commit_word, is_zeros};
 use swh_outside::Source;
 use swh_pieces::behind;
 
 /// Where a reset leads: the commit that a line `from` names, where one comes next, or no tip where it names forty zeros.
 fn reset_target<S: Source>(rows: &mut Rows<S>) -> Result<Start, Outside>
     ensures target { S.tells → IfOk result (Reads target rows.old rows.new) }
+    ensures onward { IfOk result (λ _. rows.old.at ≤ rows.new.at) }
 
     ensures same_path { rows.new.path ≡ rows.old.path }
     ensures later { rows.old.faults ≤ rows.new.faults }
@@ -51,7 +52,9 @@ pub fn read_reset<S: Source>(rows: &mut Rows<S>, branch: Bytes) -> Result<Comman
     requires next { IsNext rows.old }
     requires line { rows.old.held ≡ (codes "reset " ++ branch) ++ 10 ∷ [] }
     requires name { NamesRef branch branch }
-    ensures command { S.tells → IfOk result (λ c. (p : Bool) → Gives (position rows.old p) (position rows.new p) c) }
+    ensures givable { IfOk result IsGivable }
+    ensures command { S.tells → IfOk result (Reads IsCommand rows.old rows.new) }
+    ensures onward { IfOk result (λ _. rows.old.at < rows.new.at) }
 
     ensures same_path { rows.new.path ≡ rows.old.path }
     ensures later { rows.old.faults ≤ rows.new.faults }

@@ -10,7 +10,7 @@ ghost use Rattle.swh_fastlex.specs.declared.fault.LineFault.TheVariants.{Failed 
 ghost use Rattle.swh_fastread.specs.declared.fail.Outside.TheVariants.{Failed};
 ghost use Rattle.swh_fastread.specs.Held.{IsAhead, EndsHeld, HeldCounts, IsShort, IsFed, TakesLines, LinesFail};
 ghost use Rattle.swh_fastread.specs.Places.{left, Took};
-ghost use Rattle.swh_fastread.specs.Row.{is_comment};
+ghost use Rattle.swh_fastgrammar.specs.Row.{is_comment};
 
 use crate::ahead::{Ahead, ahead_of};
 use crate::fail::Outside;
@@ -83,6 +83,14 @@ impl<S: Source> Rows<S> {
     /// The place of the first byte that was not taken.
     pub fn at(&self) -> u64
         ensures { result ≡ self.now.at }
+    {
+        self.at
+    }
+
+    /// The same, which is never far behind the end that a stream may have.
+    pub fn place(&self) -> u64
+        ensures at { result ≡ self.now.at }
+        ensures within { result ≤ 2 ^ 33 }
     {
         self.at
     }

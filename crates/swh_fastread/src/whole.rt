@@ -9,6 +9,7 @@ ghost use Rattle.swh_fastread.specs.Explains.{EndsWhole};
 use crate::ahead::Ahead;
 use crate::fail::Outside;
 use crate::row_source::Rows;
+use swh_fastlines::word_limit;
 use swh_outside::Source;
 
 /// Passes over comments and holds the next line; answers whether there is one within the limits. A limit that is passed
@@ -25,7 +26,10 @@ pub fn next_line<S: Source>(rows: &mut Rows<S>) -> Result<bool, Outside>
     ensures cause { IsErrOf result Failed → Rose rows.old.faults rows.new.faults }
 {
     match rows.look()? {
-        Ahead::Line => Ok(true),
+        Ahead::Line => match word_limit(rows.alloc(), rows.line())? {
+            Some(_) => Ok(false),
+            None => Ok(true),
+        },
         Ahead::End => Ok(false),
         Ahead::Long => Ok(false),
         Ahead::Over => Ok(false),

@@ -8,13 +8,13 @@ use Rattle.swh_base.specs.declared.entry.Entry.{Entry}
 use Rattle.swh_outside.specs.Views.{Disks, Sources}
 use Rattle.swh_model.specs.declared.event.Event.{Event}
 use Rattle.swh_model.specs.Archive.{Bodies}
-use Rattle.swh_model.specs.Meaning.{IsMeaning}
 use Rattle.swh_model.proofs.Entries.{all-append}
 use Rattle.swh_keeper.specs.Kept.{Kept}
-use Rattle.swh_fastload.specs.declared.load.Objects.{Objects}
+use Rattle.swh_fastload.specs.Input.{Means}
+use Rattle.swh_fastload.specs.declared.objects.Objects.{Objects}
 use Rattle.swh_fastload.specs.Loaded.{making_of}
 use Rattle.swh_fastload.specs.Whole.{HasAllThatIsReached}
-use Rattle.swh_loader.specs.declared.end.BadInput.TheVariants.{Stream, Collision, Read}
+use Rattle.swh_loader.specs.declared.end.BadInput.TheVariants.{Broken, Collision, Read}
 use Rattle.swh_loader.specs.declared.end.End.{End}
 use Rattle.swh_loader.specs.declared.end.End.TheVariants.{Full, NotFound, Failed}
 use Rattle.swh_loader.specs.Adding.{Attempt, open_event, IsEvent, AreAmong, IsOwn, AddsEvents}
@@ -30,7 +30,7 @@ use Rattle.swh_loader.proofs.Closes.{whole_good}
 use Rattle.swh_loader.proofs.Further.{stops_further}
 
 -- the objects that were made are meant
-pub means_made : {N : Type 0} (id : Kind → List ℕ → List ℕ) (head : Option (List ℕ)) (text : List ℕ) (made : Objects N) → HasAllThatIsReached id made → IsMeaning id head text (making_of made) → MeansObjects id head text made.objects.items made.snapshot
+pub means_made : {N : Type 0} (id : Kind → List ℕ → List ℕ) (head : Option (List ℕ)) (text : List ℕ) (made : Objects N) → HasAllThatIsReached id made → Means id head text (making_of made) → MeansObjects id head text made.objects.items made.snapshot
 means_made id head text made w m = record { meaning = m; good = whole_good id made.objects.items w.objects.each }
 
 made_by : (id : Kind → List ℕ → List ℕ) (head : Option (List ℕ)) (text : List ℕ) (objects : List Entry) (snapshot : List ℕ) → MeansObjects id head text objects snapshot → (entries : List Entry) → AreAmong objects entries → AllByRecursion (IsMadeBy id head text) entries
@@ -38,7 +38,7 @@ made_by id head text objects snapshot m [] h = tt
 made_by id head text objects snapshot m (e ∷ entries) h = (record { objects = objects; snapshot = snapshot; means = m; among = h.0 }, made_by id head text objects snapshot m entries h.1)
 
 -- a batch of some of them is made by the input
-pub among_made : {N S : Type 0} (id : Kind → List ℕ → List ℕ) (head : Option (List ℕ)) (sources : Sources S) (s : S) (made : Objects N) → HasAllThatIsReached id made → (sources.tells → IsMeaning id head (sources.left s) (making_of made)) → (entries : List Entry) → AreAmong made.objects.items entries → AreMadeBy id head sources s entries
+pub among_made : {N S : Type 0} (id : Kind → List ℕ → List ℕ) (head : Option (List ℕ)) (sources : Sources S) (s : S) (made : Objects N) → HasAllThatIsReached id made → (sources.tells → Means id head (sources.left s) (making_of made)) → (entries : List Entry) → AreAmong made.objects.items entries → AreMadeBy id head sources s entries
 among_made id head sources s made w m entries h t = made_by id head (sources.left s) made.objects.items made.snapshot (means_made id head (sources.left s) made w (m t)) entries h
 
 -- the end of a visit whose input was sent
@@ -50,7 +50,7 @@ sent_end id head sources bodies s now made (Ok (Full snapshot)) m h = λ t. reco
   held = h.1;
 }
 sent_end id head sources bodies s now made (Ok NotFound) m h = h
-sent_end id head sources bodies s now made (Ok (Failed (Stream at why))) m h = absurd h
+sent_end id head sources bodies s now made (Ok (Failed (Broken bad))) m h = absurd h
 sent_end id head sources bodies s now made (Ok (Failed (Collision name))) m h = λ t. record { objects = made.objects.items; snapshot = made.snapshot; means = m t; collision = h }
 sent_end id head sources bodies s now made (Ok (Failed Read)) m h = absurd h
 sent_end id head sources bodies s now made (Err e) m h = tt

@@ -10,14 +10,14 @@ use Rattle.swh_outside.specs.Views.{Sources}
 use Rattle.swh_model.specs.Archive.{Bodies}
 use Rattle.swh_model.specs.Step.{HasItsChildrenAndName}
 use Rattle.swh_base.specs.Visit.{Statuses}
-use Rattle.swh_model.specs.Meaning.{IsMeaning, IsLeftOut}
 use Rattle.swh_outside.specs.declared.fault.Opened.{Opened}
 use Rattle.swh_outside.specs.declared.fault.Opened.TheVariants.{Found, NotFound as Missing, Failed as Unopened, Memory as NoRoom}
+use Rattle.swh_fastload.specs.Input.{Means}
 use Rattle.swh_fastload.specs.Making.{made}
-use Rattle.swh_fastload.specs.declared.load.Objects.{Objects}
-use Rattle.swh_loader.specs.declared.end.StreamWhy.TheVariants.{LeftOut}
+use Rattle.swh_fastload.specs.Sourced.{BreaksLeft}
+use Rattle.swh_fastload.specs.declared.objects.Objects.{Objects}
 use Rattle.swh_loader.specs.declared.end.BadInput.{BadInput}
-use Rattle.swh_loader.specs.declared.end.BadInput.TheVariants.{Stream, Collision, Read}
+use Rattle.swh_loader.specs.declared.end.BadInput.TheVariants.{Broken, Collision, Read}
 use Rattle.swh_loader.specs.declared.end.End.{End}
 use Rattle.swh_loader.specs.declared.end.End.TheVariants.{Full, NotFound, Failed}
 use Rattle.swh_loader.specs.Sending.{AllHeld, IsCollision}
@@ -31,7 +31,7 @@ statuses_of (Failed bad) = (Ongoing, None) ∷ (FailedStatus, None) ∷ []
 
 -- With this head, or none, the input means these objects, each under its name and with its children, and this snapshot.
 pub record MeansObjects (id : Kind → List ℕ → List ℕ) (head : Option (List ℕ)) (text : List ℕ) (objects : List Entry) (snapshot : List ℕ) : Type 0 where
-  pub meaning : IsMeaning id head text (record { objects = made objects; snapshot = snapshot })
+  pub meaning : Means id head text (record { objects = made objects; snapshot = snapshot })
   pub good : AllByRecursion (HasItsChildrenAndName id) objects
 
 -- The input makes this object.
@@ -74,14 +74,14 @@ last_of (Failed bad) = (FailedStatus, None) ∷ []
 abbrev pub IsSentEnd : {N : Type 0} → Bodies → Objects N → End → Type 0
 IsSentEnd bodies made (Full snapshot) = (snapshot ≡ made.snapshot) × AllHeld bodies made.objects.items
 IsSentEnd bodies made NotFound = ⊥
-IsSentEnd bodies made (Failed (Stream at why)) = ⊥
+IsSentEnd bodies made (Failed (Broken bad)) = ⊥
 IsSentEnd bodies made (Failed (Collision name)) = IsCollision bodies made.objects.items name
 IsSentEnd bodies made (Failed Read) = ⊥
 
 module _ {S : Type 0} (id : Kind → List ℕ → List ℕ) (head : Option (List ℕ)) (sources : Sources S) (bodies : Bodies) where
   -- Why a source is bad, as it was and as it is now; the count of faults of one that failed rose.
   abbrev pub IsBad : S → S → BadInput → Type 0
-  IsBad s now (Stream at why) = (at ≡ 0) × (why ≡ LeftOut) × (sources.tells → IsLeftOut id head (sources.left s))
+  IsBad s now (Broken bad) = BreaksLeft id head sources s bad
   IsBad s now (Collision name) = sources.tells → Collided id head (sources.left s) bodies name
   IsBad s now Read = Rose (sources.faults s) (sources.faults now)
 

@@ -2,11 +2,15 @@
 use Rattle.std.specs.Prelude.{ℕ, Result, Ok, Err, List, ◌∷◌, ◌++◌, decimal, codes}
 use Rattle.swh_swhid.specs.Core.{core_text}
 use Rattle.swh_base.specs.Snapshot.{snapshot_name}
+use Rattle.swh_base.specs.declared.visit.Which.{Which}
+use Rattle.swh_base.specs.declared.visit.Which.TheVariants as which
 use Rattle.swh_model.specs.Answer.{line_of}
-use Rattle.swh_loader.specs.declared.end.StreamWhy.{StreamWhy}
-use Rattle.swh_loader.specs.declared.end.StreamWhy.TheVariants.{Grammar, End as EndOfInput, LeftOut, Mark, Branch, Place}
+use Rattle.swh_fastgrammar.specs.declared.fault.StreamWhy.{StreamWhy}
+use Rattle.swh_fastgrammar.specs.declared.fault.StreamWhy.TheVariants.{Grammar, End as EndOfInput, LeftOut, Mark, Branch, Place}
+use Rattle.swh_fastload.specs.declared.bad.BadStream.{BadStream}
+use Rattle.swh_fastload.specs.declared.bad.BadStream.TheVariants.{Stream, Limit as PastLimit}
 use Rattle.swh_loader.specs.declared.end.BadInput.{BadInput}
-use Rattle.swh_loader.specs.declared.end.BadInput.TheVariants.{Stream, Collision, Read}
+use Rattle.swh_loader.specs.declared.end.BadInput.TheVariants.{Broken, Collision, Read}
 use Rattle.swh_loader.specs.declared.end.End.{End}
 use Rattle.swh_loader.specs.declared.end.End.TheVariants.{Full, NotFound, Failed}
 use Rattle.swh_loader.specs.declared.end.Loaded.{Loaded}
@@ -23,9 +27,27 @@ stream_why_word Mark = codes "mark"
 stream_why_word Branch = codes "branch"
 stream_why_word Place = codes "place"
 
+-- what a limit is on, as a line says it
+abbrev pub which_word : Which → List ℕ
+which_word which.Body = codes "body"
+which_word which.Objects = codes "objects"
+which_word which.Bytes = codes "bytes"
+which_word which.Store = codes "store"
+which_word which.Ledger = codes "ledger"
+which_word which.Stream = codes "stream"
+which_word which.Line = codes "line"
+which_word which.Path = codes "path"
+which_word which.Ref = codes "ref"
+which_word which.Refs = codes "refs"
+
+-- why a stream is bad
+abbrev pub stream_detail : BadStream → List ℕ
+stream_detail (Stream at why) = codes "stream " ++ (decimal at ++ 32 ∷ stream_why_word why)
+stream_detail (PastLimit limit number) = codes "limit " ++ which_word limit
+
 -- why an input makes no snapshot
 abbrev pub bad_detail : BadInput → List ℕ
-bad_detail (Stream at why) = codes "stream " ++ (decimal at ++ 32 ∷ stream_why_word why)
+bad_detail (Broken bad) = stream_detail bad
 bad_detail (Collision name) = codes "collision " ++ core_text name
 bad_detail Read = codes "read"
 

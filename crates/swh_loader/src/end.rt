@@ -1,22 +1,12 @@
 // How a visit ends.
 use swh_base::Name;
-
-/// What is wrong with a stream, or what it names that is not there.
-#[derive(Clone, Copy, Debug, PartialEq, Eq)]
-pub enum StreamWhy {
-    Grammar,
-    End,
-    LeftOut,
-    Mark,
-    Branch,
-    Place,
-}
+use swh_fastload::BadStream;
 
 /// Why an input makes no snapshot.
 #[derive(Clone, Copy, Debug, PartialEq, Eq)]
 pub enum BadInput {
-    /// The stream breaks at this byte.
-    Stream { at: u64, why: StreamWhy },
+    /// It is no stream, or passes a limit.
+    Broken(BadStream),
     /// An object of the input bears the name of another body.
     Collision { name: Name },
     /// The input does not open, or fails while it is read.

@@ -14,11 +14,12 @@ mod stopping;
 mod turn;
 mod visiting;
 
-pub use end::{BadInput, End, Loaded, StreamWhy};
+pub use end::{BadInput, End, Loaded};
 pub use fault::{LoadFault, LoadWhy};
 pub use job::Job;
 pub use loading::load_one;
 pub use report::{REPORT_LIMIT, report_line};
+pub use swh_fastload::{BadStream, StreamWhy};
 pub use turn::{Turn, Worker};
 
 #[cfg(test)]

@@ -8,8 +8,7 @@ ghost use Rattle.swh_model.specs.Step.{FitsStatus};
 ghost use Rattle.swh_base.specs.Snapshot.{snapshot_name};
 ghost use Rattle.swh_fastload.specs.Whole.{HasAllThatIsReached};
 ghost use Rattle.swh_loader.specs.declared.fault.LoadWhy.TheVariants.{Memory as OutOfMemory};
-ghost use Rattle.swh_loader.specs.declared.end.StreamWhy.TheVariants.{LeftOut};
-ghost use Rattle.swh_loader.specs.declared.end.BadInput.TheVariants.{Stream as BadStream, Read as BadRead};
+ghost use Rattle.swh_loader.specs.declared.end.BadInput.TheVariants.{Read as BadRead};
 ghost use Rattle.swh_loader.specs.declared.end.End.TheVariants.{Full as EndFull, NotFound as EndNotFound};
 ghost use Rattle.swh_loader.specs.declared.end.End.TheVariants.{Failed as EndFailed};
 ghost use Rattle.swh_loader.specs.Adding.{AreAmong, AllowsNoBatch, attempt};
@@ -21,7 +20,7 @@ ghost use Rattle.swh_loader.specs.Leaving.{AreAllowed, AddsVisit, MakesVisitCall
 ghost use Rattle.swh_loader.specs.Leaving.{IsHeldBack, IsSameSource, IsSameInput, IsSameJob};
 ghost use Rattle.swh_loader.specs.Steps.{LeavesVisit};
 
-use crate::end::{BadInput, End, Loaded, StreamWhy};
+use crate::end::{BadInput, End, Loaded};
 use crate::fault::{LoadFault, LoadWhy};
 use crate::job::Job;
 use crate::sending::send_all;
@@ -29,29 +28,15 @@ use crate::turn::Turn;
 use crate::visiting::{OpenVisit, mark, open_visit};
 use std::alloc::Global;
 use swh_base::{Bytes, Namer, Status};
-use swh_fastlex::{SourceFault, read_source};
-use swh_fastload::{Objects, StreamFault, load_stream};
+use swh_fastload::{InputFault, Objects, load_source};
 use swh_keeper::Keeper;
 use swh_outside::{Disk, Gate, Opened, Source};
-
-/// The most bytes of a stream.
-const STREAM_LIMIT: usize = 4_294_967_296;
 
 /// What an input gives.
 #[derive(Drop)]
 pub enum Input<N: Namer> {
     Made(Objects<N>),
     Bad(BadInput),
-}
-
-/// A stream that is left out, of which no place is told.
-fn left_out() -> BadInput
-    ensures { result ≡ BadStream 0 LeftOut }
-{
-    BadInput::Stream {
-        at: 0,
-        why: StreamWhy::LeftOut,
-    }
 }
 
 /// The bytes of a head, where one is named.
@@ -78,16 +63,11 @@ fn read_input<N: Namer, S: Source>(
     ensures err { IfErr result (λ why. why ≡ OutOfMemory) }
     ensures same { IsSameSource (sources S.tells S.left S.faults S.path) source.old source.new }
 {
-    let text = match read_source(alloc, source, STREAM_LIMIT) {
-        Ok(text) => text,
-        Err(SourceFault::Failed) => return Ok(Input::Bad(BadInput::Read)),
-        Err(SourceFault::Limit) => return Ok(Input::Bad(left_out())),
-        Err(SourceFault::Memory) => return Err(LoadWhy::Memory),
-    };
-    match load_stream(alloc, namer, head_of(head), &text) {
+    match load_source(alloc, namer, head_of(head), source) {
         Ok(objects) => Ok(Input::Made(objects)),
-        Err(StreamFault::LeftOut) => Ok(Input::Bad(left_out())),
-        Err(StreamFault::Memory) => Err(LoadWhy::Memory),
+        Err(InputFault::Bad(bad)) => Ok(Input::Bad(BadInput::Broken(bad))),
+        Err(InputFault::ReadFault) => Ok(Input::Bad(BadInput::Read)),
+        Err(InputFault::Memory) => Err(LoadWhy::Memory),
     }
 }
 

@@ -1,12 +1,14 @@
 // The line that reports a job.
 ghost use Rattle.std.specs.Prelude.{◌≡◌, ◌+◌, ◌≤◌, ◌++◌, ◌∷◌, [], length, vec_capacity, decimal};
 ghost use Rattle.swh_swhid.specs.Core.{core_text};
-ghost use Rattle.swh_loader.specs.Report.{stream_why_word, bad_detail, end_word, end_detail, fault_detail, report_of};
+ghost use Rattle.swh_loader.specs.Report.{stream_why_word, which_word, stream_detail, bad_detail};
+ghost use Rattle.swh_loader.specs.Report.{end_word, end_detail, fault_detail, report_of};
 
-use crate::end::{BadInput, End, Loaded, StreamWhy};
+use crate::end::{BadInput, End, Loaded};
 use crate::fault::{LoadFault, LoadWhy};
 use itoa::Buffer;
-use swh_base::{Kind, Name, Url};
+use swh_base::{Kind, Name, Url, Which};
+use swh_fastload::{BadStream, StreamWhy};
 use swh_swhid::core_text;
 
 /// The most bytes of a line: a URL of 2,048, a number of 20, a status of 9 and a detail of 60, with a TAB after each of
@@ -24,6 +26,24 @@ fn word_of_why(why: StreamWhy) -> &'static [u8]
         StreamWhy::Mark => b"mark".as_slice(),
         StreamWhy::Branch => b"branch".as_slice(),
         StreamWhy::Place => b"place".as_slice(),
+    }
+}
+
+fn word_of_which(which: Which) -> &'static [u8]
+    ensures is { result.now ≡ which_word which }
+    ensures short { length result.now ≤ 7 }
+{
+    match which {
+        Which::Body => b"body".as_slice(),
+        Which::Objects => b"objects".as_slice(),
+        Which::Bytes => b"bytes".as_slice(),
+        Which::Store => b"store".as_slice(),
+        Which::Ledger => b"ledger".as_slice(),
+        Which::Stream => b"stream".as_slice(),
+        Which::Line => b"line".as_slice(),
+        Which::Path => b"path".as_slice(),
+        Which::Ref => b"ref".as_slice(),
+        Which::Refs => b"refs".as_slice(),
     }
 }
 
@@ -84,6 +104,26 @@ fn put_core(out: &mut Vec<u8>, name: &Name)
     put(out, &text);
 }
 
+fn put_bad_stream(out: &mut Vec<u8>, bad: BadStream)
+    requires { length out.old.items + 60 ≤ vec_capacity out.old }
+    ensures items { out.new.items ≡ out.old.items ++ stream_detail bad }
+    ensures short { length out.new.items ≤ length out.old.items + 60 }
+    ensures capacity { vec_capacity out.old ≤ vec_capacity out.new }
+{
+    match bad {
+        BadStream::Stream { at, why } => {
+            put(out, b"stream ");
+            put_number(out, at);
+            put(out, b" ");
+            put(out, word_of_why(why));
+        }
+        BadStream::Limit { which, number: _ } => {
+            put(out, b"limit ");
+            put(out, word_of_which(which));
+        }
+    }
+}
+
 fn put_bad(out: &mut Vec<u8>, bad: BadInput)
     requires { length out.old.items + 60 ≤ vec_capacity out.old }
     ensures items { out.new.items ≡ out.old.items ++ bad_detail bad }
@@ -91,12 +131,7 @@ fn put_bad(out: &mut Vec<u8>, bad: BadInput)
     ensures capacity { vec_capacity out.old ≤ vec_capacity out.new }
 {
     match bad {
-        BadInput::Stream { at, why } => {
-            put(out, b"stream ");
-            put_number(out, at);
-            put(out, b" ");
-            put(out, word_of_why(why));
-        }
+        BadInput::Broken(bad) => put_bad_stream(out, bad),
         BadInput::Collision { name } => {
             put(out, b"collision ");
             put_core(out, &name);

@@ -1,8 +1,10 @@
 // Lines that report loads.
-use crate::{BadInput, End, LoadFault, LoadWhy, Loaded, REPORT_LIMIT, StreamWhy, report_line};
+use crate::{
+    BadInput, BadStream, End, LoadFault, LoadWhy, Loaded, REPORT_LIMIT, StreamWhy, report_line,
+};
 use std::alloc::{AllocError, Global};
 use std::test::Fail;
-use swh_base::{Kind, Name, Url};
+use swh_base::{Kind, Name, Url, Which};
 
 fn line_of(
     alloc: Global,
@@ -43,14 +45,25 @@ fn worked_lines(rt: HostRuntime) -> Result<(), Fail> {
     );
     let cut = Loaded {
         visit: 1,
-        end: End::Failed(BadInput::Stream {
+        end: End::Failed(BadInput::Broken(BadStream::Stream {
             at: 13,
             why: StreamWhy::End,
-        }),
+        })),
     };
     assert_eq!(rt;
         line_of(alloc, &url, Ok(cut))?.as_slice(),
         b"https://e.org/p\t1\tfailed\tstream 13 end\n".as_slice()
+    );
+    let long = Loaded {
+        visit: 1,
+        end: End::Failed(BadInput::Broken(BadStream::Limit {
+            which: Which::Line,
+            number: 1_048_577,
+        })),
+    };
+    assert_eq!(rt;
+        line_of(alloc, &url, Ok(long))?.as_slice(),
+        b"https://e.org/p\t1\tfailed\tlimit line\n".as_slice()
     );
     let stopped = LoadFault {
         visit: 0,

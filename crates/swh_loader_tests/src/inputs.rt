@@ -5,7 +5,7 @@ use swh_base::{ByteNamer, Kind, Name, Sha1Namer};
 use swh_fixtures::{
     CONTENT, DIRECTORY, EMPTY_SNAPSHOT, REVISION, SNAPSHOT, STREAM, URL, found, made_archive,
 };
-use swh_loader::{BadInput, End, LoadFault, LoadWhy, Loaded, StreamWhy};
+use swh_loader::{BadInput, BadStream, End, LoadFault, LoadWhy, Loaded, StreamWhy};
 use swh_outside::Opened;
 
 #[test]
@@ -58,13 +58,13 @@ fn bad_inputs_fail(rt: HostRuntime) -> Result<(), Fail> {
     let alloc = rt.alloc();
     let feature = found(alloc, b"feature done\n", &[])?;
     let broken = found(alloc, STREAM, &[1])?;
-    let left_out = BadInput::Stream {
-        at: 0,
-        why: StreamWhy::LeftOut,
-    };
+    let cut = BadInput::Broken(BadStream::Stream {
+        at: 13,
+        why: StreamWhy::End,
+    });
     let mut keeper = made_archive(alloc, Sha1Namer, &[], &[])?;
     let answer = load(alloc, &Sha1Namer, &mut keeper, URL, feature);
-    let end = End::Failed(left_out);
+    let end = End::Failed(cut);
     assert_eq!(rt; answer, Ok(Loaded { visit: 1, end }));
     let answer = load(alloc, &Sha1Namer, &mut keeper, URL, broken);
     let end = End::Failed(BadInput::Read);

@@ -10,6 +10,4 @@ pub mod Coding
 pub mod Decoding
 pub mod Stands
 pub mod Answer
-pub mod PathMap
-pub mod SmallStream
 pub mod Meaning

@@ -106,6 +106,14 @@ impl<N: Namer> Object<N> {
         self.entry.kids.as_slice()
     }
 
+    /// The entry of the object.
+    pub fn entry(&self) -> &Entry
+        ensures entry { result.now ≡ self.now }
+        ensures good { IsObject N.id_of self.now }
+    {
+        &self.entry
+    }
+
     /// The entry of the object. Its body and its children are not copied.
     pub fn into_entry(self) -> Entry
         ensures entry { result ≡ self }

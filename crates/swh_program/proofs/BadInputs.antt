@@ -8,12 +8,13 @@ use Rattle.swh_jobs.specs.Job.{Job}
 use Rattle.swh_model.specs.declared.event.Event.{Event}
 use Rattle.swh_model.specs.Archive.{Bodies, empty_archive, body_of}
 use Rattle.swh_model.specs.Grows.{IsWithin}
-use Rattle.swh_model.specs.Meaning.{Made as MadeObject, StreamMeaning, IsMeaning, IsLeftOut}
+use Rattle.swh_model.specs.Meaning.{Made as MadeObject, StreamMeaning}
 use Rattle.swh_model.specs.Step.{IsHistory, HasItsChildrenAndName, replay}
 use Rattle.swh_model.proofs.Growing.{bodies_grow}
 use Rattle.swh_model.proofs.Histories.{fronts}
+use Rattle.swh_fastload.specs.Input.{Means}
 use Rattle.swh_fastload.specs.Making.{made_from, made}
-use Rattle.swh_fastload.proofs.Loads.{one_meaning_lem}
+use Rattle.swh_fastload.proofs.InputLaws.{one_making, unbroken}
 use Rattle.swh_loader.specs.Adding.{attempt}
 use Rattle.swh_loader.specs.Ending.{IsFull}
 use Rattle.swh_loader.proofs.Limiting.{at_element}
@@ -21,7 +22,7 @@ use Rattle.swh_loader.specs.declared.end.End.{End}
 use Rattle.swh_loader.specs.declared.end.End.TheVariants.{Full, NotFound, Failed}
 use Rattle.swh_loader.specs.declared.end.Loaded.{Loaded}
 use Rattle.swh_loader.specs.declared.fault.LoadFault.{LoadFault}
-use Rattle.swh_program.specs.Causes.{HasTwoBodies, IsBadInput}
+use Rattle.swh_program.specs.Causes.{HasTwoBodies, IsBroken, IsBadInput}
 use Rattle.swh_program.specs.Complete.{HasBodyOrMakes}
 use Rattle.swh_program.specs.Inputs.{loader, Inputs, input_of, IsInputEnd, IsJobOutcome}
 use Rattle.swh_program.specs.Lines.{LoadedJob, outcomes, ending_of_end, ending_for, ending_of_all}
@@ -33,12 +34,16 @@ use Rattle.swh_program.proofs.Loads.{all_behind}
 
 -- Nothing is wrong with the input of a full job.
 module _ (id_of : Kind → List ℕ → List ℕ) (bodies held : Bodies) (within : IsWithin bodies held) (head : Option (List ℕ)) (text snapshot : List ℕ) (full : IsFull id_of head text held snapshot) where
-  has_then : (making : StreamMeaning) → IsMeaning id_of head text making → (name : Name) (body : List ℕ) → HasBodyOrMakes id_of bodies making.objects name body → body_of held name ≡ Some body
+  -- what it means, in the order in which it was made
+  abbrev full_making : StreamMeaning
+  full_making = record { objects = made full.objects; snapshot = snapshot }
+
+  has_then : (making : StreamMeaning) → Means id_of head text making → (name : Name) (body : List ℕ) → HasBodyOrMakes id_of bodies making.objects name body → body_of held name ≡ Some body
   has_then making means name body (inl there) = within name body there
   has_then making means name body (inr makes) =
-      let same : making ≡ record { objects = made full.objects; snapshot = snapshot } = one_meaning_lem id_of head text making (record { objects = made full.objects; snapshot = snapshot }) means full.means.meaning in
+      let same = one_making id_of head text making full_making means full.means.meaning in
       let object : MadeObject = record { kind = name.kind; body = body } in
-      let from = from_map made_from full.objects object (subst (λ (k : StreamMeaning). Contains k.objects object) same makes.0) in
+      let from = from_map made_from full.objects object ((same.objects object).0 makes.0) in
       let entry = from.0 in
       let kinds : entry.name.kind ≡ name.kind = ap (λ (m : MadeObject). m.kind) from.2 in
       let texts : entry.body ≡ body = ap (λ (m : MadeObject). m.body) from.2 in
@@ -50,7 +55,7 @@ module _ (id_of : Kind → List ℕ → List ℕ) (bodies held : Bodies) (within
   not_bad : IsBadInput id_of head bodies (Some text) → ⊥
   not_bad bad =
       ⊎_elim
-      (λ (left : IsLeftOut id_of head text). left (record { objects = made full.objects; snapshot = snapshot }) full.means.meaning)
+      (λ (broken : IsBroken id_of head text). unbroken id_of head text full_making broken.0 full.means.meaning broken.1)
       (λ (two : HasTwoBodies id_of head bodies text).
       let t = two.1 in
       t.apart (let both : Some t.a ≡ Some t.b = sym (has_then t.making t.means two.0 t.a t.has_a) ∙ has_then t.making t.means two.0 t.b t.has_b in cc))

@@ -9,10 +9,11 @@ use Rattle.swh_model.specs.declared.event.Event.{Event}
 use Rattle.swh_model.specs.declared.event.EventKind.{EventKind}
 use Rattle.swh_model.specs.declared.event.EventKind.TheVariants.{Batch, Open, Mark}
 use Rattle.swh_model.specs.Archive.{Archive, Bodies, empty_archive, body_of}
-use Rattle.swh_model.specs.Meaning.{Made, StreamMeaning, IsMeaning}
+use Rattle.swh_model.specs.Meaning.{Made, StreamMeaning}
 use Rattle.swh_model.specs.Step.{IsHistory, after, after_kind, after_all, replay, HasItsChildrenAndName}
 use Rattle.swh_model.proofs.Histories.{fronts}
 use Rattle.swh_model.proofs.Maps.{added-all}
+use Rattle.swh_fastload.specs.Input.{Means}
 use Rattle.swh_fastload.specs.Making.{made_from, made}
 use Rattle.swh_loader.specs.Adding.{Attempt, IsOwn, IsOwnKind}
 use Rattle.swh_loader.specs.Ending.{MeansObjects, IsMadeBy, Collided}
@@ -28,7 +29,7 @@ Had id_of bodies objects now = (n : Name) (body : List ℕ) → body_of now n �
 module _ (id_of : Kind → List ℕ → List ℕ) (objects : List Made) where
   -- All that the text means, with this head or none, is among the objects.
   abbrev pub MakesWithin : Option (List ℕ) → List ℕ → Type 0
-  MakesWithin head text = (making : StreamMeaning) → IsMeaning id_of head text making → (o : Made) → Contains making.objects o → Contains objects o
+  MakesWithin head text = (making : StreamMeaning) → Means id_of head text making → (o : Made) → Contains making.objects o → Contains objects o
 
   module _ (head : Option (List ℕ)) (text : List ℕ) (within : MakesWithin head text) where
     makes_body : (es : List Entry) (snapshot : List ℕ) → MeansObjects id_of head text es snapshot → (e : Entry) → Contains es e → MakesBody id_of objects e.name e.body

@@ -19,7 +19,7 @@ use Rattle.swh_loader.specs.Adding.{Attempt, attempt, open_event, IsEvent, IsOwn
 use Rattle.swh_loader.specs.Ending.{IsEndOf, IsJobEnd}
 use Rattle.swh_loader.specs.Leaving.{AreAllowed, AreOfVisit, AddsVisit, Stops, IsSameInput, next_visit}
 use Rattle.swh_loader.specs.Stopping as stopping
-use Rattle.swh_loader.specs.declared.end.BadInput.TheVariants.{Stream, Collision, Read}
+use Rattle.swh_loader.specs.declared.end.BadInput.TheVariants.{Broken, Collision, Read}
 use Rattle.swh_loader.specs.declared.end.End.{End}
 use Rattle.swh_loader.specs.declared.end.End.TheVariants.{Full, NotFound, Failed}
 use Rattle.swh_loader.specs.declared.end.Loaded.{Loaded}
@@ -183,7 +183,7 @@ module _ {S : Type 0} (id_of : Kind → List ℕ → List ℕ) (sources : Source
       → (end : End) → IsEndOf id_of job.head sources bodies s t end → IsInputEnd id_of (input_of of_jobs job) bodies end
   found_end job bodies s t told is none at back (Full snapshot) ends = λ h. (sources.left s, is h, ends (told h))
   found_end job bodies s t told is none at back NotFound ends = absurd ends
-  found_end job bodies s t told is none at back (Failed (Stream place stream_why)) ends = (ends.0, ends.1, λ h. (sources.left s, is h, ends.2 (told h)))
+  found_end job bodies s t told is none at back (Failed (Broken bad)) ends = (ends.may, λ h. (sources.left s, is h, ends.breaks (told h)))
   found_end job bodies s t told is none at back (Failed (Collision name)) ends = λ h. (sources.left s, is h, ends (told h))
   found_end job bodies s t told is none at back (Failed Read) ends = back_at job.path t at back (rose_above (sources.faults s) (sources.faults t) none ends)
 

@@ -21,7 +21,7 @@ use Rattle.swh_loader.specs.Ending.{statuses_of}
 use Rattle.swh_loader.specs.Leaving.{AddsVisit, next_visit}
 use Rattle.swh_loader.specs.Report.{report_of}
 use Rattle.swh_loader.specs.Visiting.{IsVisit, IsOpen}
-use Rattle.swh_loader.specs.declared.end.BadInput.TheVariants.{Stream, Collision, Read}
+use Rattle.swh_loader.specs.declared.end.BadInput.TheVariants.{Broken, Collision, Read}
 use Rattle.swh_loader.specs.declared.end.End.{End}
 use Rattle.swh_loader.specs.declared.end.End.TheVariants.{Full, NotFound, Failed}
 use Rattle.swh_loader.specs.declared.end.Loaded.{Loaded}
@@ -181,9 +181,9 @@ module _ (id_of : Kind → List ℕ → List ℕ) (of_jobs : Inputs) (told : of_
           record { making = making; means = full.means.meaning; one = wider making (within t.0 t.1 making full.means.meaning); snapshot_is = refl } in
           inl (subst (λ (found : Option (List ℕ)). IsEndFor id_of job.head (replay before).bodies found (Full snapshot)) (sym t.1) means)
       end_exact NotFound is = inl (subst (λ (found : Option (List ℕ)). IsEndFor id_of job.head (replay before).bodies found NotFound) (sym (is told)) refl)
-      end_exact (Failed (Stream at reason)) is =
-          let t = is.2 told in
-          inl (subst (λ (found : Option (List ℕ)). IsEndFor id_of job.head (replay before).bodies found (Failed (Stream at reason))) (sym t.1) (is.0, is.1, t.2))
+      end_exact (Failed (Broken bad)) is =
+          let t = is.1 told in
+          inl (subst (λ (found : Option (List ℕ)). IsEndFor id_of job.head (replay before).bodies found (Failed (Broken bad))) (sym t.1) t.2)
       end_exact (Failed (Collision name)) is =
           let t = is told in
           absurd (none_collides id_of objects job.head t.0 (within t.0 t.1) (replay before).bodies (replay h').bodies name had one t.2)

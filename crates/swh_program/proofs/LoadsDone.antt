@@ -8,13 +8,14 @@ use Rattle.swh_outside.specs.Files.{Files}
 use Rattle.swh_jobs.specs.Job.{Job}
 use Rattle.swh_model.specs.declared.event.Event.{Event}
 use Rattle.swh_model.specs.Archive.{Bodies, body_of}
-use Rattle.swh_model.specs.Meaning.{Made as MadeObject, StreamMeaning, IsMeaning}
+use Rattle.swh_model.specs.Meaning.{Made as MadeObject, StreamMeaning}
 use Rattle.swh_model.specs.Step.{replay}
-use Rattle.swh_fastload.proofs.Loads.{one_meaning_lem}
+use Rattle.swh_fastload.specs.Input.{IsSameMaking, Means}
+use Rattle.swh_fastload.proofs.InputLaws.{one_making, unbroken}
 use Rattle.swh_loader.specs.Leaving.{next_visit}
 use Rattle.swh_loader.proofs.Limiting.{at_element}
 use Rattle.swh_loader.proofs.Room.{HasRoomLeft, room_at_entry}
-use Rattle.swh_loader.specs.declared.end.BadInput.TheVariants.{Stream, Collision, Read}
+use Rattle.swh_loader.specs.declared.end.BadInput.TheVariants.{Broken, Collision, Read}
 use Rattle.swh_loader.specs.declared.end.End.{End}
 use Rattle.swh_loader.specs.declared.end.End.TheVariants.{Full, NotFound, Failed}
 use Rattle.swh_program.specs.Seen.{FileAt}
@@ -105,22 +106,22 @@ module _ (g : Givens) (desk_at : FileAt) (inputs : g.inputs.tell) (disks : g.dis
 
 -- Jobs whose inputs are there and mean something.
 module _ (id_of : Kind → List ℕ → List ℕ) (of_jobs : Inputs) where
-  this_making : (m : MeantJob) → IsMeant id_of of_jobs.at m → (text : List ℕ) (making : StreamMeaning) → of_jobs.at m.job.path ≡ Some text → IsMeaning id_of m.job.head text making → making ≡ m.making
+  this_making : (m : MeantJob) → IsMeant id_of of_jobs.at m → (text : List ℕ) (making : StreamMeaning) → of_jobs.at m.job.path ≡ Some text → Means id_of m.job.head text making → IsSameMaking making m.making
   this_making m meant text making is means =
       let both : Some text ≡ Some meant.text = sym is ∙ meant.there in
       let same : text ≡ meant.text = cc in
-      one_meaning_lem id_of m.job.head meant.text making m.making (subst (λ (t : List ℕ). IsMeaning id_of m.job.head t making) same means) meant.means
+      one_making id_of m.job.head meant.text making m.making (subst (λ (t : List ℕ). Means id_of m.job.head t making) same means) meant.means
 
   -- what they make
   pub meant_all_made : (meant : List MeantJob) → AreMeant id_of of_jobs.at meant → HasAllMade id_of of_jobs.at (jobs_of_meant meant) (all_made meant)
   meant_all_made meant are = record { has = λ job text making among is means o made. has job text making o is means made (from_map (λ (m : MeantJob). m.job) meant job among) }
     where
-      has : (job : Job) (text : List ℕ) (making : StreamMeaning) (o : MadeObject) → of_jobs.at job.path ≡ Some text → IsMeaning id_of job.head text making → Contains making.objects o
+      has : (job : Job) (text : List ℕ) (making : StreamMeaning) (o : MadeObject) → of_jobs.at job.path ≡ Some text → Means id_of job.head text making → Contains making.objects o
           → (m : MeantJob) × Contains meant m × (m.job ≡ job) → Contains (all_made meant) o
       has job text making o is means made from =
           let m = from.0 in
-          let same = this_making m (at_element (IsMeant id_of of_jobs.at) meant m are from.1) text making (subst (λ (j : Job). of_jobs.at j.path ≡ Some text) (sym from.2) is) (subst (λ (j : Job). IsMeaning id_of j.head text making) (sym from.2) means) in
-          flat_contains (λ (k : MeantJob). k.making.objects) meant m o from.1 (subst (λ (k : StreamMeaning). Contains k.objects o) same made)
+          let same = this_making m (at_element (IsMeant id_of of_jobs.at) meant m are from.1) text making (subst (λ (j : Job). of_jobs.at j.path ≡ Some text) (sym from.2) is) (subst (λ (j : Job). Means id_of j.head text making) (sym from.2) means) in
+          flat_contains (λ (k : MeantJob). k.making.objects) meant m o from.1 ((same.objects o).0 made)
 
   -- where none of their paths has failed, and no name has two bodies
   module _ (before : List Event) (all : List MeantJob) (one : HasOneBody id_of (replay before).bodies (all_made all)) where
@@ -128,22 +129,22 @@ module _ (id_of : Kind → List ℕ → List ℕ) (of_jobs : Inputs) where
     bodies = (replay before).bodies
 
     module _ (m : MeantJob) (among : Contains all m) (meant : IsMeant id_of of_jobs.at m) where
-      has_more : (making : StreamMeaning) → making ≡ m.making → (name : Name) (body : List ℕ) → HasBodyOrMakes id_of bodies making.objects name body → HasBodyOrMakes id_of bodies (all_made all) name body
+      has_more : (making : StreamMeaning) → IsSameMaking making m.making → (name : Name) (body : List ℕ) → HasBodyOrMakes id_of bodies making.objects name body → HasBodyOrMakes id_of bodies (all_made all) name body
       has_more making same name body (inl held) = inl held
       has_more making same name body (inr makes) =
           let object : MadeObject = record { kind = name.kind; body = body } in
-          inr (flat_contains (λ (k : MeantJob). k.making.objects) all m object among (subst (λ (k : StreamMeaning). Contains k.objects object) same makes.0), makes.1)
+          inr (flat_contains (λ (k : MeantJob). k.making.objects) all m object among ((same.objects object).0 makes.0), makes.1)
 
       no_collision : (name : Name) → MeansCollision id_of m.job.head bodies meant.text name → ⊥
       no_collision name c =
-          let same : c.making ≡ m.making = one_meaning_lem id_of m.job.head meant.text c.making m.making c.means meant.means in
+          let same = one_making id_of m.job.head meant.text c.making m.making c.means meant.means in
           c.apart (one.one name c.a c.b (has_more c.making same name c.a c.has_a) (has_more c.making same name c.b c.has_b))
 
       -- each is full
       end_full : (end : End) → IsEndFor id_of m.job.head bodies (Some meant.text) end → end ≡ Full m.making.snapshot
-      end_full (Full snapshot) is = ap Full (is.snapshot_is ∙ ap (λ (k : StreamMeaning). k.snapshot) (one_meaning_lem id_of m.job.head meant.text is.making m.making is.means meant.means))
+      end_full (Full snapshot) is = ap Full (is.snapshot_is ∙ (one_making id_of m.job.head meant.text is.making m.making is.means meant.means).snapshot)
       end_full NotFound is = absurd is
-      end_full (Failed (Stream at why)) is = absurd (is.2 m.making meant.means)
+      end_full (Failed (Broken bad)) is = absurd (unbroken id_of m.job.head meant.text m.making bad meant.means is)
       end_full (Failed (Collision name)) is = absurd (no_collision name is)
       end_full (Failed Read) is = absurd is
 

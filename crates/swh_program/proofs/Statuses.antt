@@ -13,7 +13,7 @@ use Rattle.swh_program.specs.Run.{ComesTo, IsExactly, IsTold, NamesFailed}
 use Rattle.swh_program.specs.declared.answer.Ending.{Ending}
 use Rattle.swh_program.specs.declared.answer.Ending.TheVariants as ending
 use Rattle.swh_program.specs.declared.answer.Answer.{Answer}
-use Rattle.swh_program.specs.declared.answer.Answer.TheVariants.{Told, OutsideDisk, Memory}
+use Rattle.swh_program.specs.declared.answer.Answer.TheVariants.{Told, OutsideDisk}
 
 -- what an answer comes to, the run does
 module _ (answer : Answer) (s : Span) (status : ℕ) where

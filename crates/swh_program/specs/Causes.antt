@@ -3,7 +3,8 @@ use Rattle.std.specs.Prelude.{◌⊎◌, ℕ, Option, Some, None, Result, Ok, Er
 use Rattle.swh_base.specs.declared.kind.Kind.{Kind}
 use Rattle.swh_base.specs.declared.name.Name.{Name}
 use Rattle.swh_model.specs.Archive.{Bodies}
-use Rattle.swh_model.specs.Meaning.{IsLeftOut}
+use Rattle.swh_fastload.specs.Input.{Breaks}
+use Rattle.swh_fastload.specs.declared.bad.BadStream.{BadStream}
 use Rattle.swh_loader.specs.declared.end.End.{End}
 use Rattle.swh_loader.specs.declared.end.End.TheVariants.{Full, NotFound, Failed}
 use Rattle.swh_loader.specs.declared.end.Loaded.{Loaded}
@@ -52,7 +53,11 @@ pub record HasShortLine (ended : List (Result Loaded LoadFault)) : Type 0 where
 abbrev pub HasTwoBodies : (Kind → List ℕ → List ℕ) → Option (List ℕ) → Bodies → List ℕ → Type 0
 HasTwoBodies id_of head bodies text = (name : Name) × MeansCollision id_of head bodies text name
 
--- The input is not there, means nothing with this head or none, or would put a second body under some name.
+-- The input breaks in some way, with this head or none.
+abbrev pub IsBroken : (Kind → List ℕ → List ℕ) → Option (List ℕ) → List ℕ → Type 0
+IsBroken id_of head text = (bad : BadStream) × Breaks id_of head text bad
+
+-- The input is not there, breaks with this head or none, or would put a second body under some name.
 abbrev pub IsBadInput : (Kind → List ℕ → List ℕ) → Option (List ℕ) → Bodies → Option (List ℕ) → Type 0
 IsBadInput id_of head bodies None = Unit {0}
-IsBadInput id_of head bodies (Some text) = IsLeftOut id_of head text ⊎ HasTwoBodies id_of head bodies text
+IsBadInput id_of head bodies (Some text) = IsBroken id_of head text ⊎ HasTwoBodies id_of head bodies text

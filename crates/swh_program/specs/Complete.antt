@@ -11,8 +11,9 @@ use Rattle.swh_model.specs.Answer.{line_of}
 use Rattle.swh_model.specs.Archive.{Bodies, body_of}
 use Rattle.swh_model.specs.Limits.{store_length, ledger_length}
 use Rattle.swh_base.specs.Limits.{file_limit}
-use Rattle.swh_model.specs.Meaning.{Made, StreamMeaning, IsMeaning}
+use Rattle.swh_model.specs.Meaning.{Made, StreamMeaning}
 use Rattle.swh_base.specs.Snapshot.{snapshot_name}
+use Rattle.swh_fastload.specs.Input.{Means}
 use Rattle.swh_loader.specs.Leaving.{next_visit}
 use Rattle.swh_loader.specs.Room.{ledger_growth, store_growth}
 use Rattle.swh_program.specs.Seen.{FileAt}
@@ -44,7 +45,7 @@ module _ (id_of : Kind → List ℕ → List ℕ) where
   pub record IsMeant (input_at : FileAt) (m : MeantJob) : Type 0 where
     pub text : List ℕ
     pub there : input_at m.job.path ≡ Some text
-    pub means : IsMeaning id_of m.job.head text m.making
+    pub means : Means id_of m.job.head text m.making
 
   -- The inputs of these jobs are there, and mean this.
   abbrev pub AreMeant : FileAt → List MeantJob → Type 0
@@ -64,7 +65,7 @@ module _ (id_of : Kind → List ℕ → List ℕ) where
 
   -- All that the inputs of these jobs make is among these objects.
   pub record HasAllMade (input_at : FileAt) (jobs : List Job) (objects : List Made) : Type 0 where
-    pub has : (job : Job) (text : List ℕ) (making : StreamMeaning) → Contains jobs job → input_at job.path ≡ Some text → IsMeaning id_of job.head text making
+    pub has : (job : Job) (text : List ℕ) (making : StreamMeaning) → Contains jobs job → input_at job.path ≡ Some text → Means id_of job.head text making
         → (o : Made) → Contains making.objects o → Contains objects o
 
   -- No name has two bodies among those that are held and those that are made.

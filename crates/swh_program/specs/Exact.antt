@@ -5,10 +5,10 @@ use Rattle.swh_base.specs.declared.kind.Kind.{Kind}
 use Rattle.swh_base.specs.declared.name.Name.{Name}
 use Rattle.swh_jobs.specs.Job.{Job}
 use Rattle.swh_model.specs.Archive.{Archive, Bodies, visits_of}
-use Rattle.swh_model.specs.Meaning.{StreamMeaning, IsMeaning, IsLeftOut}
+use Rattle.swh_model.specs.Meaning.{StreamMeaning}
+use Rattle.swh_fastload.specs.Input.{Means, Breaks}
 use Rattle.swh_loader.specs.Report.{report_of}
-use Rattle.swh_loader.specs.declared.end.StreamWhy.TheVariants.{LeftOut}
-use Rattle.swh_loader.specs.declared.end.BadInput.TheVariants.{Stream, Collision, Read}
+use Rattle.swh_loader.specs.declared.end.BadInput.TheVariants.{Broken, Collision, Read}
 use Rattle.swh_loader.specs.declared.end.End.{End}
 use Rattle.swh_loader.specs.declared.end.End.TheVariants.{Full, NotFound, Failed}
 use Rattle.swh_program.specs.Inputs.{Inputs, HasFailed}
@@ -40,14 +40,14 @@ module _ (id_of : Kind → List ℕ → List ℕ) where
   -- makes.
   pub record MeansSnapshot (head : Option (List ℕ)) (bodies : Bodies) (text snapshot : List ℕ) : Type 0 where
     pub making : StreamMeaning
-    pub means : IsMeaning id_of head text making
+    pub means : Means id_of head text making
     pub one : HasOneBody id_of bodies making.objects
     pub snapshot_is : snapshot ≡ making.snapshot
 
   -- With this head or none, the input would put a second body under this name.
   pub record MeansCollision (head : Option (List ℕ)) (bodies : Bodies) (text : List ℕ) (name : Name) : Type 0 where
     pub making : StreamMeaning
-    pub means : IsMeaning id_of head text making
+    pub means : Means id_of head text making
     pub a : List ℕ
     pub b : List ℕ
     pub has_a : HasBodyOrMakes id_of bodies making.objects name a
@@ -59,7 +59,7 @@ module _ (id_of : Kind → List ℕ → List ℕ) where
   IsEndFor head bodies None end = end ≡ NotFound
   IsEndFor head bodies (Some text) (Full snapshot) = MeansSnapshot head bodies text snapshot
   IsEndFor head bodies (Some text) NotFound = ⊥
-  IsEndFor head bodies (Some text) (Failed (Stream at why)) = (at ≡ 0) × (why ≡ LeftOut) × IsLeftOut id_of head text
+  IsEndFor head bodies (Some text) (Failed (Broken bad)) = Breaks id_of head text bad
   IsEndFor head bodies (Some text) (Failed (Collision name)) = MeansCollision head bodies text name
   IsEndFor head bodies (Some text) (Failed Read) = ⊥
 

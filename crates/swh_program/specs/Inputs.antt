@@ -10,14 +10,13 @@ use Rattle.swh_jobs.specs.Job.{Job}
 use Rattle.swh_model.specs.declared.event.Event.{Event}
 use Rattle.swh_model.specs.Archive.{Bodies}
 use Rattle.swh_model.specs.Judge.{FilePasses}
-use Rattle.swh_model.specs.Meaning.{IsLeftOut}
 use Rattle.swh_model.specs.Step.{May, replay}
+use Rattle.swh_fastload.specs.Input.{Breaks, MayBreak}
 use Rattle.swh_loader.specs.Adding.{Attempt, open_event}
 use Rattle.swh_loader.specs.Ending.{IsMadeBy, IsFull, Collided, statuses_of}
 use Rattle.swh_loader.specs.Leaving.{AddsVisit, next_visit}
 use Rattle.swh_loader.specs.Visiting.{IsVisit, IsOpen}
-use Rattle.swh_loader.specs.declared.end.StreamWhy.TheVariants.{LeftOut}
-use Rattle.swh_loader.specs.declared.end.BadInput.TheVariants.{Stream, Collision, Read}
+use Rattle.swh_loader.specs.declared.end.BadInput.TheVariants.{Broken, Collision, Read}
 use Rattle.swh_loader.specs.declared.end.End.{End}
 use Rattle.swh_loader.specs.declared.end.End.TheVariants.{Full, NotFound, Failed}
 use Rattle.swh_loader.specs.declared.end.Loaded.{Loaded}
@@ -100,7 +99,7 @@ module _ (id_of : Kind → List ℕ → List ℕ) (input : Input) where
   abbrev pub IsInputEnd : Bodies → End → Type 0
   IsInputEnd bodies (Full snapshot) = OfText (λ text. IsFull id_of input.head text bodies snapshot)
   IsInputEnd bodies NotFound = input.tells → input.found ≡ None
-  IsInputEnd bodies (Failed (Stream at why)) = (at ≡ 0) × (why ≡ LeftOut) × OfText (IsLeftOut id_of input.head)
+  IsInputEnd bodies (Failed (Broken bad)) = MayBreak bad × OfText (λ text. Breaks id_of input.head text bad)
   IsInputEnd bodies (Failed (Collision name)) = OfText (λ text. Collided id_of input.head text bodies name)
   IsInputEnd bodies (Failed Read) = input.failed
 

@@ -105,7 +105,7 @@ fn inputs_that_make_no_snapshot(rt: HostRuntime) -> Result<(), Fail> {
         input: Some(b"feature done\n"),
         ..with_jobs(JOB)
     };
-    let line = b"https://e.org/p\t1\tfailed\tstream 0 left-out\n";
+    let line = b"https://e.org/p\t1\tfailed\tstream 13 end\n";
     assert!(rt; loads(alloc, &feature, 1, line)?);
     let absent = Setting {
         input: None,

@@ -11,13 +11,14 @@ returns-in_err-line-clause-loses g c = λ told.
 pub returns-then-len-limit-clause-fault : goal.returns-then-len-limit-clause-fault
 returns-then-len-limit-clause-fault g c = λ told.
     let line = rw c.in-Some.is at c.in_ok-line.ensures.line in
+    let short = rw c.in-Some.is at c.in_ok-line.ensures.within in
     let took = c.in_ok-line.ensures.taken told in
     let taken = rw c.in-Some.is at took in
     let other : c.in-Some.line.items ≡ c.args.word.now ++ 10 ∷ [] → ⊥ = λ e. let yes = c.if-is_word_line.ensures.1 (c.as_slice.ensures.value ∙ e) in let no = c.if-is_word_line.false in cc in
     record {
       bytes = c.lines.bytes.items;
       last = c.in-Some.line.items;
-      lines = one_more_line c.args.word.now c.lines.bytes.items c.in-Some.line.items _ c.lines.invariant.lines line other refl;
+      lines = one_more_line c.args.word.now c.lines.bytes.items c.in-Some.line.items _ c.lines.invariant.lines line short other refl;
       line = line;
       within = c.lines.invariant.within;
       above = omega (arith, c.if-len-limit.true, c.len.ensures, c.len-in-lines.ensures, c.lines.invariant.within, length-append c.lines.bytes.items c.in-Some.line.items);
@@ -43,12 +44,13 @@ returns-in_err-extend_from_slice-clause-loses g c = λ told.
 pub lines-preserved : goal.lines-preserved
 lines-preserved g c =
     let line = rw c.in-Some.is at c.in_ok-line.ensures.line in
+    let short = rw c.in-Some.is at c.in_ok-line.ensures.within in
     let counted = rw c.in-Some.is at c.in_ok-line.ensures.counted in
     let other : c.in-Some.line.items ≡ c.args.word.now ++ 10 ∷ [] → ⊥ = λ e. let yes = c.if-is_word_line.ensures.1 (c.as_slice.ensures.value ∙ e) in let no = c.if-is_word_line.false in cc in
     let joined : c.extend_from_slice.new.self.items ≡ c.lines.bytes.items ++ c.in-Some.line.items = search rules in
     let long = ap length joined ∙ length-append c.lines.bytes.items c.in-Some.line.items in
     record {
-      lines = one_more_line c.args.word.now c.lines.bytes.items c.in-Some.line.items _ c.lines.invariant.lines line other joined;
+      lines = one_more_line c.args.word.now c.lines.bytes.items c.in-Some.line.items _ c.lines.invariant.lines line short other joined;
       text = λ told. let took = c.in_ok-line.ensures.taken told in
           let taken = rw c.in-Some.is at took in
           read_on (unread c.args.window.now (g.S.Source.left c.args.source.now)) c.lines.bytes.items c.in-Some.line.items (unread c.lines.window (g.S.Source.left c.lines.source)) (unread c.next_line.new.window (g.S.Source.left c.next_line.new.source)) (c.lines.invariant.text told) taken.cut

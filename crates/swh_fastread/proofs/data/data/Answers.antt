@@ -1,5 +1,7 @@
-use Rattle.std.proofs.Common.{rules, arith, ◌≡◌, length, length-append, ap, List, [], ◌∷◌, ℕ}
-use Rattle.swh_fastread.specs.Grammar.{contents}
+use Rattle.std.proofs.Common.{rules, arith, ◌≡◌, ◌<◌, length, length-append, ap, [], ◌∷◌}
+use Rattle.swh_base.specs.Limits.{body_limit}
+use Rattle.swh_base.specs.declared.visit.Which.TheVariants.{Body}
+use Rattle.swh_fastgrammar.specs.Grammar.{contents}
 use Rattle.swh_fastread.proofs.NextLines.{lacks_end, lacks_contents, lacks_data, ok_before, err_before}
 use Rattle.swh_fastread.proofs.data.data.Goals as goal
 
@@ -33,3 +35,10 @@ returns-in-No-clause-fails g c = λ told.
     let none = c.in-No.ensures in
     let l = lacks_contents c.args.rows.now c.peek.new.rows c.line.result.now (c.in_ok-peek.ensures.took told) (c.in_ok-peek.ensures.line c.if-not-branch.false) c.line.ensures none in
     lacks_data c.args.rows.now c.peek.new.rows c.refusal-in-No.result l (c.refusal-in-No.ensures.refusal told l.counts)
+
+pub counted_data-requires-clause-fits : goal.counted_data-requires-clause-fits
+counted_data-requires-clause-fits g c κs within =
+    let next = c.in_ok-peek.ensures.line c.if-not-branch.false in
+    let opens = c.in-Counted.ensures in
+    let fits : body_limit < c.in-Counted.count → ⊥ = λ above. next.fits c.line.result.now c.line.ensures Body c.in-Counted.count (opens.0, opens.1, opens.2, above) in
+    omega (arith, fits)

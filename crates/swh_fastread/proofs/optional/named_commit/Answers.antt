@@ -1,9 +1,9 @@
-use Rattle.std.proofs.Common.{codes, refl, true, sym, subst}
-use Rattle.swh_fastread.specs.declared.command.At.{At}
-use Rattle.swh_fastread.specs.declared.command.Commitish.{Commitish}
-use Rattle.swh_fastread.specs.Grammar.{from}
+use Rattle.std.proofs.Common.{codes, refl, sym, subst}
+use Rattle.swh_fastgrammar.specs.declared.command.At.{At}
+use Rattle.swh_fastgrammar.specs.declared.command.Commitish.{Commitish}
+use Rattle.swh_fastgrammar.specs.Grammar.{from}
 use Rattle.swh_fastread.specs.Places.{Place, Part}
-use Rattle.swh_fastread.specs.Word.{NamesCommit}
+use Rattle.swh_fastgrammar.specs.Word.{NamesCommit}
 use Rattle.swh_fastread.proofs.NextLines.{lacks_end, lacks_placed, lacks_fails, part_placed}
 use Rattle.swh_fastread.proofs.optional.named_commit.Goals as goal
 

@@ -1,7 +1,7 @@
-use Rattle.std.proofs.Common.{rules, codes, refl, true, ◌≡◌, subst, sym}
-use Rattle.swh_fastread.specs.Grammar.{line}
+use Rattle.std.proofs.Common.{rules, subst, sym}
+use Rattle.swh_fastgrammar.specs.Grammar.{line}
 use Rattle.swh_fastread.specs.Places.{Place, Part}
-use Rattle.swh_fastread.specs.Word.{IsMark, NamesPerson}
+use Rattle.swh_fastgrammar.specs.Word.{NamesPerson}
 use Rattle.swh_fastread.proofs.NextLines.{lacks_end, lacks_line, part_line}
 use Rattle.swh_fastread.proofs.optional.optional_person.Goals as goal
 

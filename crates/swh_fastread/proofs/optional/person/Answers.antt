@@ -1,5 +1,5 @@
-use Rattle.swh_fastread.specs.Grammar.{line}
-use Rattle.swh_fastread.specs.Word.{NamesPerson}
+use Rattle.swh_fastgrammar.specs.Grammar.{line}
+use Rattle.swh_fastgrammar.specs.Word.{NamesPerson}
 use Rattle.swh_fastread.proofs.NextLines.{lacks_fails}
 use Rattle.swh_fastread.proofs.optional.person.Goals as goal
 

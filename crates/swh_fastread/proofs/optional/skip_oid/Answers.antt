@@ -1,5 +1,5 @@
-use Rattle.std.proofs.Common.{rules, codes, refl, true, ◌≡◌, subst, sym}
-use Rattle.swh_fastread.specs.Grammar.{anything, oid}
+use Rattle.std.proofs.Common.{rules, codes, refl, subst, sym}
+use Rattle.swh_fastgrammar.specs.Grammar.{anything, oid}
 use Rattle.swh_fastread.specs.Places.{Place, Part}
 use Rattle.swh_fastread.proofs.NextLines.{lacks_end, lacks_line, part_line}
 use Rattle.swh_fastread.proofs.optional.skip_oid.Goals as goal

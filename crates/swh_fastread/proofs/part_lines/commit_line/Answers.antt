@@ -1,8 +1,7 @@
-use Rattle.std.proofs.Common.{rules, List, ℕ, ◌≡◌, ◌++◌, sym, ◌∙◌, subst}
-use Rattle.swh_fastread.specs.declared.command.Commitish.{Commitish}
-use Rattle.swh_fastread.specs.Word.{NamesCommit}
-use Rattle.swh_fastread.proofs.LongRefs.{long_names_none}
-use Rattle.swh_fastread.proofs.Rows.{same_tail}
+use Rattle.std.proofs.Common.{rules, List, ℕ, ◌≡◌, sym, ◌∙◌, subst}
+use Rattle.swh_fastgrammar.specs.Word.{NamesCommit}
+use Rattle.swh_fastlines.proofs.LongRefs.{long_names_none}
+use Rattle.swh_fastgrammar.proofs.Rows.{same_tail}
 use Rattle.swh_fastread.proofs.part_lines.commit_line.Goals as goal
 
 pub returns-in-Over-clause-none : goal.returns-in-Over-clause-none

@@ -1,6 +1,6 @@
-use Rattle.std.proofs.Common.{rules, List, ℕ, ◌≡◌, ◌++◌, true, false, sym, ◌∙◌, subst}
+use Rattle.std.proofs.Common.{rules, ◌≡◌, sym, ◌∙◌, subst}
 use Rattle.swh_base.specs.Text.{IsPerson}
-use Rattle.swh_fastread.proofs.Rows.{same_tail}
+use Rattle.swh_fastgrammar.proofs.Rows.{same_tail}
 use Rattle.swh_fastread.proofs.part_lines.person_line.Goals as goal
 
 pub returns-else-is_person-clause-none : goal.returns-else-is_person-clause-none

@@ -1,4 +1,4 @@
-use Rattle.std.proofs.Common.{false, sym, ap, ◌∙◌, ℕ}
+use Rattle.std.proofs.Common.{sym, ap, ◌∙◌, ℕ}
 use Rattle.swh_fastread.specs.Explains.{line_refusal}
 use Rattle.swh_fastread.proofs.NextLines.{refused_line, refused_end, no_read_fault}
 use Rattle.swh_fastread.proofs.peek.refusal.Goals as goal

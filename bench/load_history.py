@@ -1,0 +1,214 @@
+#!/usr/bin/env python3
+"""Times the load of whole histories beside `git fast-import` and `sha1sum` of the same stream, in one run.
+
+    python3 bench/load_history.py [PROGRAM]
+
+Four repositories are made with git and written out by `git fast-export --all`: one of 300 MB in three commits, from the
+files of this machine; one of 200 MB in one blob of 60 MB and many small ones; and two of 5,000 and 10,000 commits, each of two
+changes, over 3,000 files in 300 folders. Each stream is loaded into a new archive, imported into a new repository, and
+summed.
+
+The large one may take at most an eighth of the time of fast-import, and at most 2.5 times that of `sha1sum`; the history
+of 5,000 commits at most the time of fast-import; the longer one at most 2.4 times that of the shorter. Above the peak of
+a load of an empty stream, a load may hold 1.3 times the bodies that are made, 400 bytes an object, and one window. The
+program is the built one, outside the gate.
+"""
+import os
+import random
+import shutil
+import subprocess
+import sys
+import tempfile
+import time
+
+from program import find_program
+
+LARGE_BYTES = 300 << 20
+LARGE_COMMITS = 3
+BLOB_BYTES = 60 << 20
+SMALL_BYTES = 140 << 20
+COMMITS = (5_000, 10_000)
+FILES, FOLDERS = 3_000, 300
+CHANGES = 2
+ROUNDS = 3
+LEAST_OF_IMPORT = 8
+LEAST_OF_SUM = 0.4
+MOST_OF_HISTORY = 2.4
+TIMES_BODIES = 1.3
+BYTES_AN_OBJECT = 400
+WINDOW = 1_114_112
+PERSON = b"A <a@e.org> %d +0000"
+ROOTS = ("/usr/lib", "/usr/share", "/usr/bin", "/opt")
+
+
+def git(folder, *words, **options):
+    return subprocess.run(["git", "-C", folder, *words], check=True, stdout=subprocess.PIPE, **options).stdout
+
+
+def repository(folder):
+    subprocess.run(["git", "init", "--quiet", "--bare", folder], check=True)
+    return folder
+
+
+def machine_files(bytes_wanted):
+    """Files of this machine, by their contents, until there are this many bytes."""
+    total = 0
+    for root in ROOTS:
+        for folder, folders, names in os.walk(root):
+            folders.sort()
+            for name in sorted(names):
+                path = os.path.join(folder, name)
+                if os.path.islink(path) or not os.path.isfile(path) or os.path.getsize(path) > 16 << 20:
+                    continue
+                with open(path, "rb") as file:
+                    body = file.read()
+                total += len(body)
+                yield path[1:].encode(), body
+                if total >= bytes_wanted:
+                    return
+
+
+def quoted(path):
+    return b'"' + b"".join(b"\\%03o" % byte if byte in b'"\\\n' or byte > 126 or byte < 32 else bytes((byte,))
+                           for byte in path) + b'"'
+
+
+def commit(number, changes):
+    """A commit of these changes, each a path and a body."""
+    person = PERSON % (1_000_000_000 + number)
+    message = b"change %d\n" % number
+    parts = [b"commit refs/heads/main\nauthor %s\ncommitter %s\ndata %d\n%s" % (person, person, len(message), message)]
+    for path, body in changes:
+        parts.append(b"M 100644 inline %s\ndata %d\n%s\n" % (quoted(path), len(body), body))
+    return b"".join(parts) + b"\n"
+
+
+def large_commits():
+    files = list(machine_files(LARGE_BYTES))
+    size = -(-len(files) // LARGE_COMMITS)
+    for number in range(LARGE_COMMITS):
+        yield commit(number, files[number * size:(number + 1) * size])
+
+
+def blob_commits():
+    noise = random.Random(1)
+    yield commit(0, [(b"large", noise.randbytes(BLOB_BYTES))])
+    small = 4_096
+    yield commit(1, [(b"small/%d/%d" % (n % 100, n), noise.randbytes(small)) for n in range(SMALL_BYTES // small)])
+
+
+def history_commits(count):
+    """The first commit has all files, and each other one changes some."""
+    noise = random.Random(2)
+
+    def path(number):
+        return b"folder%03d/file%04d" % (number % FOLDERS, number)
+
+    yield commit(0, [(path(number), b"file %d\n" % number) for number in range(FILES)])
+    for number in range(1, count):
+        yield commit(number, [(path(changed), b"file %d of %d\n" % (changed, number))
+                              for changed in noise.sample(range(FILES), CHANGES)])
+
+
+def make_stream(folder, name, commits):
+    """A repository of these commits, made and written out by git; the path of its stream, the bodies and the objects."""
+    bare = repository(os.path.join(folder, name + ".git"))
+    feeding = subprocess.Popen(["git", "-C", bare, "fast-import", "--quiet"], stdin=subprocess.PIPE)
+    for text in commits:
+        feeding.stdin.write(text)
+    feeding.stdin.close()
+    if feeding.wait():
+        sys.exit("git made no repository")
+    stream = os.path.join(folder, name)
+    with open(stream, "wb") as file:
+        subprocess.run(["git", "-C", bare, "fast-export", "--all"], check=True, stdout=file)
+    sizes = git(bare, "cat-file", "--batch-all-objects", "--batch-check=%(objectsize)").split()
+    return stream, sum(map(int, sizes)), len(sizes)
+
+
+# A process takes over the peak of the one that starts it, so that one is small.
+LAUNCHER = """
+import resource, subprocess, sys, time
+begun = time.monotonic()
+said = subprocess.run(sys.argv[1:], stdout=subprocess.PIPE, stderr=subprocess.STDOUT).stdout
+print(time.monotonic() - begun, resource.getrusage(resource.RUSAGE_CHILDREN).ru_maxrss)
+sys.stdout.flush()
+sys.stdout.buffer.write(said)
+"""
+
+
+def load(program, folder, stream):
+    """The seconds that a load into a new archive took, and the most bytes that it held."""
+    archive = os.path.join(folder, "archive")
+    shutil.rmtree(archive, ignore_errors=True)
+    subprocess.run([program, "init", archive], check=True, stdout=subprocess.DEVNULL)
+    jobs = os.path.join(folder, "jobs")
+    with open(jobs, "w") as file:
+        file.write("fast\thttps://e.org/p\t%s\trefs/heads/main\n" % stream)
+    command = [sys.executable, "-S", "-c", LAUNCHER, program, "load", archive, jobs]
+    first, line = subprocess.run(command, check=True, stdout=subprocess.PIPE).stdout.split(b"\n", 1)
+    if b"\tfull\t" not in line:
+        sys.exit("%s is not full: %r" % (stream, line[:200]))
+    took, kilobytes = first.split()
+    return float(took), int(kilobytes) * 1024
+
+
+def time_import(folder, stream):
+    bare = os.path.join(folder, "new.git")
+    shutil.rmtree(bare, ignore_errors=True)
+    repository(bare)
+    begun = time.monotonic()
+    with open(stream, "rb") as given:
+        subprocess.run(["git", "-C", bare, "fast-import", "--quiet"], check=True, stdin=given)
+    return time.monotonic() - begun
+
+
+def time_sum(stream):
+    begun = time.monotonic()
+    subprocess.run(["sha1sum", stream], check=True, stdout=subprocess.DEVNULL)
+    return time.monotonic() - begun
+
+
+def measure(program, folder, name, commits, empty):
+    """The best of some rounds, in turn: seconds of load, import and sum; and whether the memory is within its bound."""
+    stream, bodies, objects = make_stream(folder, name, commits)
+    rounds = [(load(program, folder, stream), time_import(folder, stream), time_sum(stream)) for _ in range(ROUNDS)]
+    took = min(round[0][0] for round in rounds)
+    imported = min(round[1] for round in rounds)
+    summed = min(round[2] for round in rounds)
+    peak = min(round[0][1] for round in rounds) - empty
+    most = TIMES_BODIES * bodies + BYTES_AN_OBJECT * objects + WINDOW
+    print("%-8s %9d bytes: swharc %7.3f s, git fast-import %7.3f s (%.2f times), sha1sum %7.3f s (%.2f of its rate); "
+          "%d bodies of %d bytes, peak %d of %d bytes"
+          % (name, os.path.getsize(stream), took, imported, imported / took, summed, summed / took, objects, bodies, peak, most))
+    sys.stdout.flush()
+    return took, imported, summed, peak <= most
+
+
+def told(what, good):
+    print("%s: %s" % (what, "yes" if good else "NO"))
+    return good
+
+
+def main():
+    program = find_program()
+    with tempfile.TemporaryDirectory() as folder:
+        nothing = os.path.join(folder, "nothing")
+        open(nothing, "w").close()
+        _, empty = load(program, folder, nothing)
+        large = measure(program, folder, "large", large_commits(), empty)
+        blob = measure(program, folder, "blob", blob_commits(), empty)
+        shorter, longer = (measure(program, folder, "history%d" % count, history_commits(count), empty) for count in COMMITS)
+    good = [
+        told("the large one is at least %d times as fast as git fast-import" % LEAST_OF_IMPORT, LEAST_OF_IMPORT * large[0] <= large[1]),
+        told("the large one has at least %.1f of sha1sum's rate" % LEAST_OF_SUM, LEAST_OF_SUM * large[0] <= large[2]),
+        told("the history is no slower than git fast-import", shorter[0] <= shorter[1]),
+        told("twice the history takes at most %.1f times as long (%.2f)" % (MOST_OF_HISTORY, longer[0] / shorter[0]),
+             longer[0] <= MOST_OF_HISTORY * shorter[0]),
+        told("the memory is within its bound", all(one[3] for one in (large, blob, shorter, longer))),
+    ]
+    sys.exit(0 if all(good) else 1)
+
+
+if __name__ == "__main__":
+    main()

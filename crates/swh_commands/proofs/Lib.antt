@@ -1,3 +1,0 @@
-pub mod ChangesMade
-pub mod MappedMaps
-pub mod Seens

@@ -1,0 +1,5 @@
+pub mod Fault
+pub mod Grammar
+pub mod Row
+pub mod Word
+pub mod Givable

@@ -1,0 +1,144 @@
+-- What an input means of which all commands were carried out.
+use Rattle.std.proofs.Common.{◌≡◌, ◌⊎◌, ◌↔◌, ℕ, ◌<◌, ◌≤◌, inl, inr, false, List, [], ◌∷◌, ◌++◌, Option, Contains, length, refl, sym, ap, ◌∙◌, subst, arith}
+use Rattle.std.specs.Prelude.{Result, Ok, Err, IfOk, IfErr}
+use Rattle.std.specs.List.{AllByRecursion}
+use Rattle.std.proofs.lemmas.List.{map-append, append-nil}
+use Rattle.std.proofs.lemmas.List.Elements.{Contains-append_left, Contains-append_right, Contains-append_cases}
+use Rattle.swh_outside.specs.Faults.{Rose}
+use Rattle.swh_outside.specs.Views.{Sources}
+use Rattle.swh_base.specs.Limits.{body_limit}
+use Rattle.swh_base.specs.declared.kind.Kind.{Kind}
+use Rattle.swh_base.specs.declared.kind.Kind.TheVariants.{Snapshot}
+use Rattle.swh_base.specs.declared.name.Name.{Name}
+use Rattle.swh_base.specs.declared.entry.Entry.{Entry}
+use Rattle.swh_base.specs.declared.visit.Which.TheVariants.{Body, Refs}
+use Rattle.swh_base.specs.Snapshot.{snapshot_name}
+use Rattle.swh_model.specs.Meaning.{Made, StreamMeaning}
+use Rattle.swh_object.specs.Object.{IsObject}
+use Rattle.swh_fastgrammar.specs.declared.command.Command.{Command}
+use Rattle.swh_fastread.specs.Outcome.{IsStreamWithin}
+use Rattle.swh_fastread.proofs.Outcomes.{stream_carries, carries_with}
+use Rattle.swh_fastload.specs.declared.feed_fault.FeedFault.{FeedFault}
+use Rattle.swh_fastload.specs.declared.feed_fault.FeedFault.TheVariants.{BadStream as BadFeed, Limit as PassesBody, Memory as FeedMemory}
+use Rattle.swh_fastload.specs.declared.objects.Objects.{Objects}
+use Rattle.swh_fastload.specs.Commands.{Making, Makes}
+use Rattle.swh_fastload.specs.Ending.{refs_limit, EndsParts, ExplainsEnd}
+use Rattle.swh_fastload.specs.Feeding.{Loading}
+use Rattle.swh_fastload.specs.Input.{beginning, AreCarriedOut, EndsWithin, IsMeant, MeansStream, PassesEnd, EndsAbove, Means, Breaks, MayBreak}
+use Rattle.swh_fastload.specs.Loaded.{making_of}
+use Rattle.swh_fastload.specs.Making.{made_from, made}
+use Rattle.swh_fastload.specs.declared.bad.BadStream.{BadStream}
+use Rattle.swh_fastload.specs.declared.bad.InputFault.{InputFault}
+use Rattle.swh_fastload.specs.declared.bad.InputFault.TheVariants.{Bad, ReadFault, Memory}
+use Rattle.swh_fastload.specs.Reading.{feed_fault, HasRead, FailsSo, BreaksSo, IsQuiet}
+use Rattle.swh_fastload.specs.Sourced.{MeansLeft, ExplainsSource}
+use Rattle.swh_fastload.specs.Snapshots.{refs_of, snapshot_of}
+use Rattle.swh_fastload.specs.Stock.{names_of_made}
+use Rattle.swh_fastload.specs.Whole.{names_of, AreWhole, HasAllThatIsReached}
+use Rattle.swh_fastload.proofs.Elements.{first_or_later, first_is, none_is}
+use Rattle.swh_fastload.proofs.Progresses.{same_names, whole_one, carried}
+
+module _ (id : Kind → List ℕ → List ℕ) (head : Option (List ℕ)) where
+  whole_stream : (text : List ℕ) (state : Result Loading FeedFault) (es : List Entry) (h : HasRead id text state es) → IsStreamWithin 0 false text h.come.loaded.commands
+  whole_stream text state es h =
+      let l = h.come.loaded in
+      subst (IsStreamWithin 0 false text) (append-nil l.commands) (carries_with (λ n cs. IsStreamWithin n.at n.promised n.left cs) stream_carries (beginning text) h.rest l.commands [] l.starts h.ends)
+
+  -- the snapshot among the objects
+  snapshot_of_object : (making : Making) (o : Entry) → made_from o ≡ snapshot_of head making.aims → IsObject id o → o.name.id ≡ id Snapshot (snapshot_of head making.aims).body
+  snapshot_of_object making o e object = object.named ∙ ap (λ (m : Made). id m.kind m.body) e
+
+  members : (l : Loading) (making : Making) (es : List Entry) (o : Entry) → ((m : Made) → Contains (made es) m → Makes id making m) → ((m : Made) → Makes id making m → Contains (made es) m) → made_from o ≡ snapshot_of head making.aims → (m : Made) → Contains (made (es ++ o ∷ [])) m ↔ (Makes id making m ⊎ (m ≡ snapshot_of head making.aims))
+  members l making es o sound full e m =
+      let both : made (es ++ o ∷ []) ≡ made es ++ made_from o ∷ [] = map-append made_from es (o ∷ []) in (
+        λ c. forth (Contains-append_cases (made es) (made_from o ∷ []) m (subst (λ (ms : List Made). Contains ms m) both c)),
+        λ c. subst (λ (ms : List Made). Contains ms m) (sym both) (back c),
+      )
+    where
+      forth : Contains (made es) m ⊎ Contains (made_from o ∷ []) m → Makes id making m ⊎ (m ≡ snapshot_of head making.aims)
+      forth (inl c) = inl (sound m c)
+      forth (inr c) = elim (first_or_later (made_from o) [] m c) [ | inl f ↦ inr (sym f ∙ e) | inr n ↦ absurd (none_is m n) ]
+
+      back : Makes id making m ⊎ (m ≡ snapshot_of head making.aims) → Contains (made es ++ made_from o ∷ []) m
+      back (inl k) = Contains-append_left (made es) (made_from o ∷ []) m (full m k)
+      back (inr k) = Contains-append_right (made es) (made_from o ∷ []) m (subst (λ (x : Made). Contains (made_from o ∷ []) x) (e ∙ sym k) (first_is (made_from o) []))
+
+  -- All was carried out, and the snapshot is this object.
+  means_stream : {N : Type 0} (text : List ℕ) (state : Result Loading FeedFault) (es : List Entry) (h : HasRead id text state es) (o : Entry) (loaded : Objects N) → EndsParts head h.come.loading o → IsObject id o → loaded.objects.items ≡ es ++ o ∷ [] → loaded.snapshot ≡ o.name.id → MeansStream id head text (making_of loaded)
+  means_stream text state es h o loaded ends object items named =
+      let l = h.come.loaded in
+      let snapshot : made_from o ≡ snapshot_of head l.making.aims = ends.snapshot ∙ ap (snapshot_of head) l.stands.aims in
+      let few : length (refs_of l.making.aims) ≤ refs_limit = subst (λ a. length (refs_of a) ≤ refs_limit) l.stands.aims ends.few in
+      let short : length (snapshot_of head l.making.aims).body ≤ body_limit = subst (λ (m : Made). length m.body ≤ body_limit) snapshot object.short in
+      let in_given : (m : Made) → Contains (made es) m → Makes id l.making m = λ m c. l.stands.sound m (subst (λ (ms : List Made). Contains ms m) (sym l.stands.given) c) in
+      let given : (m : Made) → Makes id l.making m → Contains (made es) m = λ m c. subst (λ (ms : List Made). Contains ms m) l.stands.given (l.stands.full m c) in
+      let objects : (m : Made) → Contains (made loaded.objects.items) m ↔ (Makes id l.making m ⊎ (m ≡ snapshot_of head l.making.aims)) = subst (λ (xs : List Entry). (m : Made) → Contains (made xs) m ↔ (Makes id l.making m ⊎ (m ≡ snapshot_of head l.making.aims))) (sym items) (members h.come.loading l.making es o in_given given snapshot) in
+      record {
+        commands = l.commands;
+        making = l.making;
+        stream = whole_stream text state es h;
+        carried = carried id text h.rest h.come.loading es l;
+        within = record { refs = few; body = short };
+        meant = record { objects = objects; snapshot = named ∙ snapshot_of_object l.making o snapshot object };
+      }
+
+  pub means : {N : Type 0} (text : List ℕ) (state : Result Loading FeedFault) (es : List Entry) (h : HasRead id text state es) (o : Entry) (loaded : Objects N) → EndsParts head h.come.loading o → IsObject id o → loaded.objects.items ≡ es ++ o ∷ [] → loaded.snapshot ≡ o.name.id → Means id head text (making_of loaded)
+  unfolding Means
+  means text state es h o loaded ends object items named = means_stream text state es h o loaded ends object items named
+
+  -- The objects have all of their children.
+  pub reaches_all : {N : Type 0} (l : Loading) (es : List Entry) (o : Entry) (loaded : Objects N) → l.given ≡ made es → AreWhole id es → EndsParts head l o → IsObject id o → AllByRecursion (Contains (names_of_made id l.given)) o.kids → loaded.objects.items ≡ es ++ o ∷ [] → loaded.snapshot ≡ o.name.id → HasAllThatIsReached id loaded
+  reaches_all l es o loaded given whole ends object kids items named =
+      let among : AllByRecursion (Contains (names_of es)) o.kids = subst (λ (ns : List Name). AllByRecursion (Contains ns) o.kids) (ap (names_of_made id) given ∙ same_names id es whole.each) kids in
+      let all : AreWhole id (es ++ o ∷ []) = whole_one id es o whole object among in
+      let kind : o.name.kind ≡ Snapshot = ap (λ (m : Made). m.kind) ends.snapshot in
+      let name : o.name ≡ snapshot_name loaded.snapshot = ap (λ (k : Kind). let n : Name = record { kind = k; id = o.name.id } in n) kind ∙ ap (λ (i : List ℕ). let n : Name = record { kind = Snapshot; id = i } in n) (sym named) in
+      let there : Contains (names_of (es ++ o ∷ [])) o.name = subst (λ (ns : List Name). Contains ns o.name) (sym (map-append (λ (e : Entry). e.name) es (o ∷ []))) (Contains-append_right (names_of es) (o.name ∷ []) o.name (first_is o.name [])) in
+      record {
+        objects = subst (AreWhole id) (sym items) all;
+        snapshot = subst (λ (xs : List Entry). Contains (names_of xs) (snapshot_name loaded.snapshot)) (sym items) (subst (Contains (names_of (es ++ o ∷ []))) name there);
+      }
+
+  -- The snapshot passes a limit.
+  pub end_breaks : (text : List ℕ) (state : Result Loading FeedFault) (es : List Entry) (h : HasRead id text state es) (fault : FeedFault) → ExplainsEnd head h.come.loading.aims fault → BreaksSo id head text (feed_fault fault)
+  unfolding Breaks
+  end_breaks text state es h (BadFeed at why) e = absurd e
+  end_breaks text state es h (PassesBody which number) e =
+      let l = h.come.loaded in
+      inr (inr (record {
+        commands = l.commands;
+        making = l.making;
+        stream = whole_stream text state es h;
+        carried = carried id text h.rest h.come.loading es l;
+        above = subst (λ a. (((which ≡ Refs) × (number ≡ length (refs_of a)) × (refs_limit < number)) ⊎ ((which ≡ Body) × (number ≡ length (snapshot_of head a).body) × (body_limit < number)))) l.stands.aims (elim e [ | inl r ↦ inl r | inr b ↦ inr (b.0, b.2, b.3) ]);
+      }))
+  end_breaks text state es h FeedMemory e = tt
+
+pub quiet : (fault : FeedFault) → IsQuiet (feed_fault fault)
+quiet (BadFeed at why) = tt
+quiet (PassesBody which number) = tt
+quiet FeedMemory = tt
+
+module _ {S : Type 0} (id : Kind → List ℕ → List ℕ) (head : Option (List ℕ)) (sources : Sources S) (s now : S) (text : List ℕ) (same : text ≡ sources.left s) where
+  -- why a source gives no objects whose stream is not carried out
+  pub fails_source : (old new : ℕ) (fault : InputFault) → old ≡ sources.faults s → new ≡ sources.faults now → FailsSo id sources.tells text old new fault → ExplainsSource id head sources s now fault
+  unfolding MayBreak
+  fails_source old new (Bad bad) a b f = record { may = tt; breaks = λ told. subst (λ (t : List ℕ). Breaks id head t bad) same (f told head) }
+  fails_source old new ReadFault a b f = subst (λ (n : ℕ). Rose n (sources.faults now)) a (subst (Rose old) b f)
+  fails_source old new Memory a b f = tt
+
+  -- why one gives none whose stream was carried out
+  pub ends_source : {N : Type 0} (r : Result (Objects N) InputFault) → (sources.tells → IfErr r (BreaksSo id head text)) → IfErr r IsQuiet → IfErr r (ExplainsSource id head sources s now)
+  unfolding MayBreak
+  ends_source (Ok loaded) f q = tt
+  ends_source (Err (Bad bad)) f q = record { may = tt; breaks = λ told. subst (λ (t : List ℕ). Breaks id head t bad) same (f told) }
+  ends_source (Err ReadFault) f q = absurd q
+  ends_source (Err Memory) f q = tt
+
+  pub means_source : {N : Type 0} (r : Result (Objects N) InputFault) → (sources.tells → IfOk r (λ (loaded : Objects N). Means id head text (making_of loaded))) → IfOk r (λ (loaded : Objects N). MeansLeft id head sources s (making_of loaded))
+  means_source (Ok loaded) f = λ told. subst (λ (t : List ℕ). Means id head t (making_of loaded)) same (f told)
+  means_source (Err fault) f = tt
+
+-- the same of an equal text and equal counts
+pub fails_moved : {X : Type 0} (id : Kind → List ℕ → List ℕ) (tells : Type 0) (text other : List ℕ) (a b m n : ℕ) (r : Result X InputFault) → text ≡ other → a ≡ b → m ≡ n → IfErr r (FailsSo id tells text a m) → IfErr r (FailsSo id tells other b n)
+fails_moved id tells text other a b m n r t e f h = subst (λ (x : List ℕ). IfErr r (FailsSo id tells x b n)) t (subst (λ (k : ℕ). IfErr r (FailsSo id tells text k n)) e (subst (λ (k : ℕ). IfErr r (FailsSo id tells text a k)) f h))

@@ -1,0 +1,8 @@
+use Rattle.std.proofs.Common.{◌≡◌, sym, ap, subst, List, ℕ, Result}
+use Rattle.swh_fastread.specs.Places.{Place, left}
+use Rattle.swh_fastload.proofs.Meanings.{fails_moved}
+use Rattle.swh_fastload.proofs.input.read_source.Goals as goal
+
+pub returns-clause-fails : goal.returns-clause-fails
+returns-clause-fails g c =
+    fails_moved g.N.Namer.id_of g.S.Source.tells (left c.new-reader.result.place) _ c.new-reader.result.place.faults _ c.load_commands.new.reader.place.faults _ c.load_commands.result (ap left c.new-reader.ensures.place) (ap (λ (p : Place). p.faults) c.new-reader.ensures.place) (sym c.close.ensures.faults) c.load_commands.ensures.fails

@@ -1,0 +1,70 @@
+-- What becomes of a stream that is read and fed, command by command.
+use Rattle.std.specs.Prelude.{◌≡◌, ◌≤◌, ℕ, Option, List, [], Result, Ok, Err}
+use Rattle.swh_base.specs.declared.kind.Kind.{Kind}
+use Rattle.swh_base.specs.declared.entry.Entry.{Entry}
+use Rattle.swh_outside.specs.Faults.{Rose}
+use Rattle.swh_fastread.specs.declared.fail.ReadFail.{ReadFail}
+use Rattle.swh_fastread.specs.declared.fail.ReadFail.TheVariants.{BadStream as BadRead, ReadFault as SourceFailed, Limit as PassesLimit, Memory as ReadMemory}
+use Rattle.swh_fastread.specs.Outcome.{IsStreamWithin}
+use Rattle.swh_fastread.specs.Places.{Position}
+use Rattle.swh_fastload.specs.declared.bad.BadStream.{BadStream}
+use Rattle.swh_fastload.specs.declared.bad.BadStream.TheVariants.{Stream, Limit}
+use Rattle.swh_fastload.specs.declared.bad.InputFault.{InputFault}
+use Rattle.swh_fastload.specs.declared.bad.InputFault.TheVariants.{Bad, ReadFault, Memory}
+use Rattle.swh_fastload.specs.declared.feed_fault.FeedFault.{FeedFault}
+use Rattle.swh_fastload.specs.declared.feed_fault.FeedFault.TheVariants.{BadStream as BadFeed, Limit as PassesBody, Memory as FeedMemory}
+use Rattle.swh_fastload.specs.Feeding.{Loading}
+use Rattle.swh_fastload.specs.Input.{Breaks}
+use Rattle.swh_fastload.specs.Making.{made}
+use Rattle.swh_fastload.specs.Progress.{HasLoaded}
+use Rattle.swh_fastload.specs.Whole.{AreWhole}
+
+-- why an input is refused whose stream is not read on
+abbrev pub read_fault : ReadFail → InputFault
+read_fault (BadRead at why) = Bad (Stream at why)
+read_fault SourceFailed = ReadFault
+read_fault (PassesLimit which number) = Bad (Limit which number)
+read_fault ReadMemory = Memory
+
+-- why one is refused of which a command is not carried out
+abbrev pub feed_fault : FeedFault → InputFault
+feed_fault (BadFeed at why) = Bad (Stream at why)
+feed_fault (PassesBody which number) = Bad (Limit which number)
+feed_fault FeedMemory = Memory
+
+-- These objects were given, with all of their children.
+pub record HasGiven (id : Kind → List ℕ → List ℕ) (state : Result Loading FeedFault) (objects : List Entry) : Type 0 where
+  pub loading : Loading
+  pub is : state ≡ Ok loading
+  pub given : loading.given ≡ made objects
+  pub whole : AreWhole id objects
+
+-- The text up to this position was carried out, and these are its objects.
+pub record HasCome (id : Kind → List ℕ → List ℕ) (text : List ℕ) (rest : Position) (state : Result Loading FeedFault) (objects : List Entry) : Type 0 where
+  pub loading : Loading
+  pub is : state ≡ Ok loading
+  pub loaded : HasLoaded id text rest loading objects
+
+-- The whole text was carried out, and these are its objects.
+pub record HasRead (id : Kind → List ℕ → List ℕ) (text : List ℕ) (state : Result Loading FeedFault) (objects : List Entry) : Type 0 where
+  pub rest : Position
+  pub come : HasCome id text rest state objects
+  pub ends : IsStreamWithin rest.at rest.promised rest.left []
+
+-- Why a text is not carried out, which a source tells or not; its count of faults before and after.
+abbrev pub FailsSo : (Kind → List ℕ → List ℕ) → Type 0 → List ℕ → ℕ → ℕ → InputFault → Type 0
+FailsSo id tells text old new (Bad bad) = tells → (head : Option (List ℕ)) → Breaks id head text bad
+FailsSo id tells text old new ReadFault = Rose old new
+FailsSo id tells text old new Memory = Unit {0}
+
+-- Why a text that was carried out makes no objects.
+abbrev pub BreaksSo : (Kind → List ℕ → List ℕ) → Option (List ℕ) → List ℕ → InputFault → Type 0
+BreaksSo id head text (Bad bad) = Breaks id head text bad
+BreaksSo id head text ReadFault = ⊥
+BreaksSo id head text Memory = Unit {0}
+
+-- No source failed.
+abbrev pub IsQuiet : InputFault → Type 0
+IsQuiet (Bad bad) = Unit {0}
+IsQuiet ReadFault = ⊥
+IsQuiet Memory = Unit {0}

@@ -1,5 +1,0 @@
-use Rattle.swh_fastread.proofs.Examples.{left_out}
-use Rattle.swh_fastread.proofs.worked.left_out_line.Goals as goal
-
-pub returns : goal.returns
-returns c = left_out

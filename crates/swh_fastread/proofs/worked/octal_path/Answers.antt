@@ -1,8 +1,0 @@
-use Rattle.swh_fastread.proofs.Examples.{quoted, plain}
-use Rattle.swh_fastread.proofs.worked.octal_path.Goals as goal
-
-pub returns-clause-quoted : goal.returns-clause-quoted
-returns-clause-quoted c = quoted
-
-pub returns-clause-plain : goal.returns-clause-plain
-returns-clause-plain c = plain

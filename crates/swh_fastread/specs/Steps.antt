@@ -1,0 +1,60 @@
+-- What stands at a command's place, and what was passed on the way to it.
+use Rattle.std.specs.Prelude.{◌<◌, ◌≤◌, Bool, List, [], Option, Some, None}
+use Rattle.swh_fastgrammar.specs.declared.command.Command.{Command as Said}
+use Rattle.swh_fastgrammar.specs.Givable.{IsGivable}
+use Rattle.swh_fastgrammar.specs.Grammar.{Item, IsItem, IsCommand}
+use Rattle.swh_fastgrammar.specs.Grammar.Item.{Promise as Promises, Nothing as Silent}
+use Rattle.swh_fastgrammar.specs.Row.{Placed}
+use Rattle.swh_fastread.specs.declared.items.Step.{Step}
+use Rattle.swh_fastread.specs.declared.items.Step.TheVariants.{Command, Promise, Nothing, End}
+use Rattle.swh_fastread.specs.declared.row_source.TheConstants.{STREAM_LIMIT}
+use Rattle.swh_fastread.specs.Explains.{Reads}
+use Rattle.swh_fastread.specs.Outcome.{IsStreamWithin, Ended, StartsWith}
+use Rattle.swh_fastread.specs.Places.{Place, left, Took, position}
+
+-- The item was read, and no next line goes on with it.
+pub record Whole (old new : Place) (i : Item) : Type 0 where
+  pub part : List Placed
+  pub took : Took old new part
+  pub is_item : IsItem part i
+  pub ended : Ended part (left new)
+
+-- Items that are no commands were passed; whether `done` was promised before them and after.
+abbrev pub Passed : Place → Place → Bool → Bool → Type 0
+Passed old new before after = StartsWith (position old before) (position new after) []
+
+-- The command was read behind what was passed.
+pub record FindsCommand (old new : Place) (before after : Bool) (command : Said) : Type 0 where
+  pub first : Place
+  pub passed : Passed old first before after
+  pub reads : Reads IsCommand first new command
+
+-- From here on the stream has no commands.
+abbrev pub EndsHere : Place → Bool → Type 0
+EndsHere old promised = IsStreamWithin old.at promised (left old) []
+
+-- what stands here
+abbrev pub FindsStep : Place → Place → Bool → Step → Type 0
+FindsStep old new promised (Command c) = Reads IsCommand old new c
+FindsStep old new promised Promise = Whole old new Promises
+FindsStep old new promised Nothing = Whole old new Silent
+FindsStep old new promised End = EndsHere old promised
+
+-- the next command, or none
+abbrev pub FindsNext : Place → Place → Bool → Bool → Option Said → Type 0
+FindsNext old new before after None = EndsHere old before
+FindsNext old new before after (Some c) = FindsCommand old new before after c
+
+-- Rows were taken.
+abbrev pub Moves : Place → Place → Step → Type 0
+Moves old new (Command c) = old.at < new.at
+Moves old new Promise = (old.at < new.at) × (new.at ≤ STREAM_LIMIT)
+Moves old new Nothing = (old.at < new.at) × (new.at ≤ STREAM_LIMIT)
+Moves old new End = Unit {0}
+
+-- the command, where there is one, is one that the grammar can give
+abbrev pub StepGivable : Step → Type 0
+StepGivable (Command c) = IsGivable c
+StepGivable Promise = Unit {0}
+StepGivable Nothing = Unit {0}
+StepGivable End = Unit {0}

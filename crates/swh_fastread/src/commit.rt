@@ -1,0 +1,53 @@
+// Commits of a stream (git-fast-import(1), commit).
+ghost use Rattle.std.specs.Prelude.{◌≡◌, ◌≤◌, ◌++◌, ◌∷◌, [], Bool, codes, IfOk, IfErr, IsErrOf, ◌<◌};
+ghost use Rattle.swh_outside.specs.Faults.{Rose};
+ghost use Rattle.swh_fastread.specs.declared.fail.ReadFail.TheVariants.{ReadFault as SourceFailed};
+ghost use Rattle.swh_fastread.specs.Explains.{Explains, Reads};
+ghost use Rattle.swh_fastgrammar.specs.Givable.{IsGivable};
+ghost use Rattle.swh_fastgrammar.specs.Grammar.{IsCommand};
+ghost use Rattle.swh_fastread.specs.Held.{IsNext};
+ghost use Rattle.swh_fastgrammar.specs.Word.{NamesRef};
+
+use crate::data::data;
+use crate::fail::ReadFail;
+use crate::optional::{optional_encoding, optional_mark, optional_person, person, skip_oid};
+use crate::row_source::Rows;
+use crate::tail::read_tail;
+use swh_base::Bytes;
+use swh_fastgrammar::Command;
+use swh_outside::Source;
+
+/// The commit to this ref that the held line begins. It is whole after its data, and after each whole change.
+pub fn read_commit<S: Source>(rows: &mut Rows<S>, branch: Bytes) -> Result<Command, ReadFail>
+    requires next { IsNext rows.old }
+    requires line { rows.old.held ≡ (codes "commit " ++ branch) ++ 10 ∷ [] }
+    requires name { NamesRef branch branch }
+    ensures givable { IfOk result IsGivable }
+    ensures command { S.tells → IfOk result (Reads IsCommand rows.old rows.new) }
+    ensures fails { S.tells → IfErr result (λ fail. (p : Bool) → Explains rows.old p fail) }
+    ensures onward { IfOk result (λ _. rows.old.at < rows.new.at) }
+
+    ensures same_path { rows.new.path ≡ rows.old.path }
+    ensures later { rows.old.faults ≤ rows.new.faults }
+    ensures cause { IsErrOf result SourceFailed → Rose rows.old.faults rows.new.faults }
+{
+    rows.take();
+    let mark = optional_mark(rows)?;
+    skip_oid(rows)?;
+    let author = optional_person(rows, b"author ")?;
+    let committer = person(rows, b"committer ")?;
+    let encoding = optional_encoding(rows)?;
+    let message = data(rows)?;
+    let tail = read_tail(rows)?;
+    Ok(Command::Commit {
+        branch,
+        mark,
+        author,
+        committer,
+        encoding,
+        message,
+        parent: tail.parent,
+        merges: tail.merges,
+        changes: tail.changes,
+    })
+}
