@@ -16,10 +16,10 @@ use Rattle.swh_fastgrammar.specs.declared.command.Change.TheVariants.{Set, Delet
 use Rattle.swh_fastgrammar.specs.declared.command.Dataref.{Dataref}
 use Rattle.swh_fastgrammar.specs.declared.command.Dataref.TheVariants.{Mark, Inline, Hex}
 use Rattle.swh_fastgrammar.specs.declared.fault.StreamWhy.TheVariants.{Place as NoPlace}
-use Rattle.swh_fastload.specs.Aims.{Aim, AllAims, Missing, blob_at}
-use Rattle.swh_fastload.specs.Changes.{IsGivableChange}
-use Rattle.swh_fastload.specs.Commands.{Changed, turned, put, if_there, set_to, changed, all_changed, ◌>>=◌}
-use Rattle.swh_fastload.specs.Stock.{AreFilesAmong, IsFree}
+use Rattle.swh_fastmeaning.specs.Aims.{Aim, AllAims, Missing, blob_at}
+use Rattle.swh_fastmeaning.specs.Changes.{IsGivableChange}
+use Rattle.swh_fastmeaning.specs.Commands.{Changed, turned, put, if_there, set_to, changed, all_changed, ◌>>=◌}
+use Rattle.swh_fastmeaning.specs.Stock.{AreFilesAmong, IsFree}
 use Rattle.swh_fastload.proofs.ChangedFiles.{AreBlobsAmong, AreContentsAmong, one_files}
 use Rattle.swh_fastload.proofs.FreePaths.{set_free, delete_free, copy_free, rename_free, none_free}
 

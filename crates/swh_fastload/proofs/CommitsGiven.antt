@@ -22,15 +22,15 @@ use Rattle.swh_trees.specs.Makes.{Makes, IsFolderOf, IsNumbered}
 use Rattle.swh_trees.specs.Objects.{AreDirectoryObjects, IsDirectoryObject}
 use Rattle.swh_trees.specs.PathMap.{PathMap, HasFolder, held, held_by}
 use Rattle.swh_trees.specs.Directory.{directory_id, directory_of}
-use Rattle.swh_fastload.specs.Making.{made_from, made}
-use Rattle.swh_fastload.specs.Aims.{Aim, AllAims, with_mark, with_tip, aim_with, aims_with}
-use Rattle.swh_fastload.specs.Commands.{Changed, IsDirectoryIn, revision_parts, root_of}
-use Rattle.swh_fastload.specs.Feeding.{name_of}
-use Rattle.swh_fastload.specs.Seen.{object_of}
-use Rattle.swh_fastload.specs.Stock.{names_of_made, HaveIds, IsReady, AreReady, IsGivenGrove, folder_made, IsLeafAmong, IsFileAmong, AreFilesAmong, IsFree}
-use Rattle.swh_fastload.proofs.Elements.{contains_map, from_map, all_as, all_from, each_is, first_is, later_is, none_is, first_or_later}
-use Rattle.swh_fastload.proofs.Givens.{AreAlso, more_names, ready_append}
-use Rattle.swh_fastload.proofs.Tags.{named_id}
+use Rattle.swh_fastmeaning.specs.Making.{made_from, made}
+use Rattle.swh_fastmeaning.specs.Aims.{Aim, AllAims, with_mark, with_tip, aim_with, aims_with}
+use Rattle.swh_fastmeaning.specs.Commands.{Changed, IsDirectoryIn, revision_parts, root_of}
+use Rattle.swh_fastmeaning.specs.Feeding.{name_of}
+use Rattle.swh_fastmeaning.specs.Seen.{object_of}
+use Rattle.swh_fastmeaning.specs.Stock.{names_of_made, HaveIds, IsReady, AreReady, IsGivenGrove, folder_made, IsLeafAmong, IsFileAmong, AreFilesAmong, IsFree}
+use Rattle.swh_fastmeaning.proofs.Elements.{contains_map, from_map, all_as, all_from, each_is, first_is, later_is, none_is, first_or_later}
+use Rattle.swh_fastmeaning.proofs.Givens.{AreAlso, more_names, ready_append}
+use Rattle.swh_fastmeaning.proofs.Tags.{named_id}
 use Rattle.swh_fastload.proofs.FreePaths.{held_free}
 use Rattle.swh_fastload.proofs.ChangedFiles.{held_files}
 use Rattle.swh_fastload.proofs.DirectoryKids.{directory_name, AreFoldersAmong, directory_kids}

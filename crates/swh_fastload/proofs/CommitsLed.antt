@@ -20,29 +20,29 @@ use Rattle.swh_trees.specs.declared.tree.Tree.{Tree}
 use Rattle.swh_trees.specs.Grove.{Grove, IsBelow, folder_map, map_of, map_of_number}
 use Rattle.swh_trees.specs.Makes.{IsNumbered}
 use Rattle.swh_trees.specs.PathMap.{PathMap, HasFolder, held}
-use Rattle.swh_fastload.specs.Making.{made_from, made}
-use Rattle.swh_fastload.specs.Whole.{content_name}
-use Rattle.swh_fastload.specs.Aims.{Aim, AllAims, Missing, blob_at, with_mark, with_tip, aim_with, aims_with}
-use Rattle.swh_fastload.specs.Changes.{IsGivableChange, changed_of}
-use Rattle.swh_fastload.specs.Commands.{Changed, Making, Makes, IsDirectoryIn, Targets, revision, revision_parts, committed, step, first_parent, starting_tree, aim_of, ◌>>=◌}
+use Rattle.swh_fastmeaning.specs.Making.{made_from, made}
+use Rattle.swh_fastmeaning.specs.Whole.{content_name}
+use Rattle.swh_fastmeaning.specs.Aims.{Aim, AllAims, Missing, blob_at, with_mark, with_tip, aim_with, aims_with}
+use Rattle.swh_fastmeaning.specs.Changes.{IsGivableChange, changed_of}
+use Rattle.swh_fastmeaning.specs.Commands.{Changed, Making, Makes, IsDirectoryIn, Targets, revision, revision_parts, committed, step, first_parent, starting_tree, aim_of, ◌>>=◌}
 use Rattle.swh_fastload.specs.Committing.{HasParents, MakesTree, IsPrepared, GivesCommit, command_of, commit_made, rest_of}
-use Rattle.swh_fastload.specs.Feeding.{ExplainsFeed, name_of}
-use Rattle.swh_fastload.specs.Parting.{ExplainsBody}
-use Rattle.swh_fastload.specs.Seen.{object_of}
-use Rattle.swh_fastload.specs.Stock.{Stock, stock, loading_of, names_of_made, HaveIds, IsAimAmong, AreAimsAmong, IsGivenGrove, IsStocked, IsReady, AreReady, Gives, Leads, folder_made, IsFileAmong, AreFilesAmong, IsFree}
+use Rattle.swh_fastmeaning.specs.Feeding.{ExplainsFeed, name_of}
+use Rattle.swh_fastmeaning.specs.Parting.{ExplainsBody}
+use Rattle.swh_fastmeaning.specs.Seen.{object_of}
+use Rattle.swh_fastmeaning.specs.Stock.{Stock, stock, loading_of, names_of_made, HaveIds, IsAimAmong, AreAimsAmong, IsGivenGrove, IsStocked, IsReady, AreReady, Gives, Leads, folder_made, IsFileAmong, AreFilesAmong, IsFree}
 use Rattle.swh_fastload.specs.declared.commit.Commit.{Commit}
 use Rattle.swh_fastload.specs.declared.commit.CommitText.{CommitText}
 use Rattle.swh_fastload.specs.declared.commit.Prepared.{Prepared}
-use Rattle.swh_fastload.specs.declared.feed_fault.FeedFault.{FeedFault}
-use Rattle.swh_fastload.proofs.Elements.{contains_map, all_as, first_is, first_or_later, none_is}
-use Rattle.swh_fastload.proofs.Givens.{AreAlso, more_names, ready_append}
-use Rattle.swh_fastload.proofs.AimForms.{with_mark-map, with_tip-map, aims_same, aims_more, marked_among, tipped_among, blob_among}
+use Rattle.swh_fastmeaning.specs.declared.feed_fault.FeedFault.{FeedFault}
+use Rattle.swh_fastmeaning.proofs.Elements.{contains_map, all_as, first_is, first_or_later, none_is}
+use Rattle.swh_fastmeaning.proofs.Givens.{AreAlso, more_names, ready_append}
+use Rattle.swh_fastmeaning.proofs.AimForms.{with_mark-map, with_tip-map, aims_same, aims_more, marked_among, tipped_among, blob_among}
 use Rattle.swh_fastload.proofs.ParentsFound.{first_among, parents_among}
 use Rattle.swh_fastload.proofs.FreePaths.{held_free, none_free}
 use Rattle.swh_fastload.proofs.ChangedFiles.{AreBlobsAmong, AreContentsAmong, held_files}
 use Rattle.swh_fastload.proofs.ChangedAll.{Ends, all_ends}
-use Rattle.swh_fastload.proofs.Tags.{named_id}
-use Rattle.swh_fastload.proofs.Leadings.{files_more, gives_also, explains_long}
+use Rattle.swh_fastmeaning.proofs.Tags.{named_id}
+use Rattle.swh_fastmeaning.proofs.Leadings.{files_more, gives_also, explains_long}
 use Rattle.swh_fastload.proofs.CommitsMade.{step_is}
 use Rattle.swh_fastload.proofs.CommitsGiven.{revision_good, revision_ready, contents_ready, directories_ready, directory_there, directory_from}
 

@@ -14,22 +14,22 @@ use Rattle.swh_trees.specs.Grove.{Grove, Keeps, StandsFor, IsTree, map_of}
 use Rattle.swh_trees.specs.Makes.{Makes, ExplainsTree}
 use Rattle.swh_trees.specs.PathMap.{PathMap, held}
 use Rattle.swh_trees.specs.Directory.{directory_of}
-use Rattle.swh_fastload.specs.Making.{made}
+use Rattle.swh_fastmeaning.specs.Making.{made}
 use Rattle.swh_fastgrammar.specs.declared.command.At.{At}
 use Rattle.swh_fastgrammar.specs.declared.command.Change.{Change}
-use Rattle.swh_fastload.specs.Aims.{Aim, AllAims, Missing, aim_with, aims_with}
-use Rattle.swh_fastload.specs.Changes.{IsChangedTo, ExplainsChange, changed_of}
-use Rattle.swh_fastload.specs.Commands.{Changed, IsDirectoryIn, Targets, Making, Makes as MakesObject, committed, revision, commit_parts, step, first_parent, commits_at, parents_of, starting_tree, all_changed, ◌>>=◌}
+use Rattle.swh_fastmeaning.specs.Aims.{Aim, AllAims, Missing, aim_with, aims_with}
+use Rattle.swh_fastmeaning.specs.Changes.{IsChangedTo, ExplainsChange, changed_of}
+use Rattle.swh_fastmeaning.specs.Commands.{Changed, IsDirectoryIn, Targets, Making, Makes as MakesObject, committed, revision, commit_parts, step, first_parent, commits_at, parents_of, starting_tree, all_changed, ◌>>=◌}
 use Rattle.swh_fastload.specs.Committing.{HasParents, MakesTree, IsOverIn, ExplainsOver, ExplainsTreeMade, command_of, rest_of}
-use Rattle.swh_fastload.specs.Feeding.{ExplainsFeed, IsTooLong}
-use Rattle.swh_fastload.specs.Missings.{ExplainsMissing}
-use Rattle.swh_fastload.specs.Tips.{aim_of}
-use Rattle.swh_fastload.specs.declared.aims.Target.{Target}
+use Rattle.swh_fastmeaning.specs.Feeding.{ExplainsFeed, IsTooLong}
+use Rattle.swh_fastmeaning.specs.Missings.{ExplainsMissing}
+use Rattle.swh_fastmeaning.specs.Tips.{aim_of}
+use Rattle.swh_fastmeaning.specs.declared.aims.Target.{Target}
 use Rattle.swh_fastload.specs.declared.commit.Commit.{Commit}
 use Rattle.swh_fastload.specs.declared.commit.CommitText.{CommitText}
-use Rattle.swh_fastload.specs.declared.feed_fault.FeedFault.{FeedFault}
-use Rattle.swh_fastload.specs.declared.feed_fault.FeedFault.TheVariants.{BadStream, Limit, Memory}
-use Rattle.swh_fastload.proofs.AimForms.{ok_map, all_changed-map}
+use Rattle.swh_fastmeaning.specs.declared.feed_fault.FeedFault.{FeedFault}
+use Rattle.swh_fastmeaning.specs.declared.feed_fault.FeedFault.TheVariants.{BadStream, Limit, Memory}
+use Rattle.swh_fastmeaning.proofs.AimForms.{ok_map, all_changed-map}
 use Rattle.swh_fastload.proofs.ParentsFound.{first_parent-map, commits_at-map, parents_of-map}
 
 module _ (id : Kind → List ℕ → List ℕ) where

@@ -8,8 +8,8 @@ use Rattle.swh_fastlex.specs.Path.{components}
 use Rattle.swh_trees.specs.PathMap.{PathMap, same, same_path, leaf_at, begins, is_path_before, insert_path, cleared, set, delete, rest_beside, held_by, held, insert_under, put_held, copy, rename, HasFolder}
 use Rattle.swh_trees.proofs.Grafts.{same_is, same_self}
 use Rattle.swh_trees.proofs.Lookups.{path_is, begins-more, begins-own}
-use Rattle.swh_fastload.specs.Stock.{IsFree}
-use Rattle.swh_fastload.proofs.Elements.{first_or_later, first_is, later_is, none_is}
+use Rattle.swh_fastmeaning.specs.Stock.{IsFree}
+use Rattle.swh_fastmeaning.proofs.Elements.{first_or_later, first_is, later_is, none_is}
 
 abbrev File : Type 0
 File = List (List ℕ) × Leaf

@@ -9,14 +9,14 @@ use Rattle.swh_model.specs.Meaning.{Made, StreamMeaning}
 use Rattle.swh_fastgrammar.specs.declared.command.Command.{Command}
 use Rattle.swh_fastgrammar.proofs.Faults.{no_fault}
 use Rattle.swh_fastgrammar.proofs.Streams.{one_reading}
-use Rattle.swh_fastread.specs.Outcome.{IsStreamWithin}
+use Rattle.swh_fastrows.specs.Outcome.{IsStreamWithin}
 use Rattle.swh_fastread.proofs.Afterwards.{stream_after_start}
 use Rattle.swh_fastread.proofs.Outcomes.{same_fault, stream_or_limit}
 use Rattle.swh_fastload.specs.declared.bad.BadStream.{BadStream}
 use Rattle.swh_fastload.specs.declared.bad.BadStream.TheVariants.{Stream, Limit}
-use Rattle.swh_fastload.specs.Aims.{Missing}
-use Rattle.swh_fastload.specs.Commands.{◌>>=◌, Making, Makes, Targets, no_making, step, steps, then}
-use Rattle.swh_fastload.specs.Feeding.{IsTooLong}
+use Rattle.swh_fastmeaning.specs.Aims.{Missing}
+use Rattle.swh_fastmeaning.specs.Commands.{◌>>=◌, Making, Makes, Targets, no_making, step, steps, then}
+use Rattle.swh_fastmeaning.specs.Feeding.{IsTooLong}
 use Rattle.swh_fastload.specs.Input.{IsSameMaking, beginning, EndsWithin, IsMeant, MeansStream, StopsAt, PassesEnd, EndsAbove, Means, Breaks, MayBreak}
 
 module _ (id : Kind → List ℕ → List ℕ) where

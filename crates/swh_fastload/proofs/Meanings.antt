@@ -16,26 +16,26 @@ use Rattle.swh_base.specs.Snapshot.{snapshot_name}
 use Rattle.swh_model.specs.Meaning.{Made, StreamMeaning}
 use Rattle.swh_object.specs.Object.{IsObject}
 use Rattle.swh_fastgrammar.specs.declared.command.Command.{Command}
-use Rattle.swh_fastread.specs.Outcome.{IsStreamWithin}
+use Rattle.swh_fastrows.specs.Outcome.{IsStreamWithin}
 use Rattle.swh_fastread.proofs.Outcomes.{stream_carries, carries_with}
-use Rattle.swh_fastload.specs.declared.feed_fault.FeedFault.{FeedFault}
-use Rattle.swh_fastload.specs.declared.feed_fault.FeedFault.TheVariants.{BadStream as BadFeed, Limit as PassesBody, Memory as FeedMemory}
-use Rattle.swh_fastload.specs.declared.objects.Objects.{Objects}
-use Rattle.swh_fastload.specs.Commands.{Making, Makes}
-use Rattle.swh_fastload.specs.Ending.{refs_limit, EndsParts, ExplainsEnd}
-use Rattle.swh_fastload.specs.Feeding.{Loading}
+use Rattle.swh_fastmeaning.specs.declared.feed_fault.FeedFault.{FeedFault}
+use Rattle.swh_fastmeaning.specs.declared.feed_fault.FeedFault.TheVariants.{BadStream as BadFeed, Limit as PassesBody, Memory as FeedMemory}
+use Rattle.swh_fastmeaning.specs.declared.objects.Objects.{Objects}
+use Rattle.swh_fastmeaning.specs.Commands.{Making, Makes}
+use Rattle.swh_fastmeaning.specs.Ending.{refs_limit, EndsParts, ExplainsEnd}
+use Rattle.swh_fastmeaning.specs.Feeding.{Loading}
 use Rattle.swh_fastload.specs.Input.{beginning, AreCarriedOut, EndsWithin, IsMeant, MeansStream, PassesEnd, EndsAbove, Means, Breaks, MayBreak}
 use Rattle.swh_fastload.specs.Loaded.{making_of}
-use Rattle.swh_fastload.specs.Making.{made_from, made}
+use Rattle.swh_fastmeaning.specs.Making.{made_from, made}
 use Rattle.swh_fastload.specs.declared.bad.BadStream.{BadStream}
 use Rattle.swh_fastload.specs.declared.bad.InputFault.{InputFault}
 use Rattle.swh_fastload.specs.declared.bad.InputFault.TheVariants.{Bad, ReadFault, Memory}
 use Rattle.swh_fastload.specs.Reading.{feed_fault, HasRead, FailsSo, BreaksSo, IsQuiet}
 use Rattle.swh_fastload.specs.Sourced.{MeansLeft, ExplainsSource}
-use Rattle.swh_fastload.specs.Snapshots.{refs_of, snapshot_of}
-use Rattle.swh_fastload.specs.Stock.{names_of_made}
-use Rattle.swh_fastload.specs.Whole.{names_of, AreWhole, HasAllThatIsReached}
-use Rattle.swh_fastload.proofs.Elements.{first_or_later, first_is, none_is}
+use Rattle.swh_fastmeaning.specs.Snapshots.{refs_of, snapshot_of}
+use Rattle.swh_fastmeaning.specs.Stock.{names_of_made}
+use Rattle.swh_fastmeaning.specs.Whole.{names_of, AreWhole, HasAllThatIsReached}
+use Rattle.swh_fastmeaning.proofs.Elements.{first_or_later, first_is, none_is}
 use Rattle.swh_fastload.proofs.Progresses.{same_names, whole_one, carried}
 
 module _ (id : Kind → List ℕ → List ℕ) (head : Option (List ℕ)) where

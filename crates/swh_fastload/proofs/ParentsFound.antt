@@ -15,15 +15,15 @@ use Rattle.swh_fastgrammar.specs.declared.command.At.{At}
 use Rattle.swh_fastgrammar.specs.declared.command.Commitish.{Commitish}
 use Rattle.swh_fastgrammar.specs.declared.command.Start.{Start}
 use Rattle.swh_fastgrammar.specs.declared.command.Start.TheVariants.{Absent, NoTip, Of}
-use Rattle.swh_fastload.specs.Aims.{Aim, AllAims, Missing, if_commit, tip_at, commit_at, aim_with, aims_with}
-use Rattle.swh_fastload.specs.Changes.{ExplainsChange}
-use Rattle.swh_fastload.specs.Commands.{first_parent, commits_at, parents_of, ◌>>=◌}
+use Rattle.swh_fastmeaning.specs.Aims.{Aim, AllAims, Missing, if_commit, tip_at, commit_at, aim_with, aims_with}
+use Rattle.swh_fastmeaning.specs.Changes.{ExplainsChange}
+use Rattle.swh_fastmeaning.specs.Commands.{first_parent, commits_at, parents_of, ◌>>=◌}
 use Rattle.swh_fastload.specs.Committing.{HasParents}
-use Rattle.swh_fastload.specs.Missings.{ExplainsMissing}
-use Rattle.swh_fastload.specs.Stock.{names_of_made, HaveIds, IsAimAmong, AreAimsAmong}
-use Rattle.swh_fastload.specs.declared.feed_fault.FeedFault.{FeedFault}
-use Rattle.swh_fastload.specs.declared.feed_fault.FeedFault.TheVariants.{BadStream, Limit, Memory}
-use Rattle.swh_fastload.proofs.AimForms.{ok_map, commit_tip-map, commit_at-map, commit_tip_among, commit_among}
+use Rattle.swh_fastmeaning.specs.Missings.{ExplainsMissing}
+use Rattle.swh_fastmeaning.specs.Stock.{names_of_made, HaveIds, IsAimAmong, AreAimsAmong}
+use Rattle.swh_fastmeaning.specs.declared.feed_fault.FeedFault.{FeedFault}
+use Rattle.swh_fastmeaning.specs.declared.feed_fault.FeedFault.TheVariants.{BadStream, Limit, Memory}
+use Rattle.swh_fastmeaning.proofs.AimForms.{ok_map, commit_tip-map, commit_at-map, commit_tip_among, commit_among}
 
 -- the first of the commits that lines name, and what is left of the lines
 pub record HasFirst {T : Type 0} (aims : AllAims T) (first : Option (Aim T)) (merges : List (At Commitish)) (i : ℕ) (ids : List (List ℕ)) : Type 0 where

@@ -12,16 +12,16 @@ use Rattle.swh_object.specs.Object.{IsObject}
 use Rattle.swh_model.specs.Meaning.{Made}
 use Rattle.swh_model.proofs.Entries.{all-append}
 use Rattle.swh_fastgrammar.specs.declared.command.Command.{Command}
-use Rattle.swh_fastload.specs.Making.{made_from, made}
-use Rattle.swh_fastload.specs.Whole.{names_of, HasChildrenAmong, AreWhole}
-use Rattle.swh_fastread.specs.Outcome.{StartsWith}
-use Rattle.swh_fastread.specs.Places.{Position}
-use Rattle.swh_fastload.specs.Aims.{Missing}
-use Rattle.swh_fastload.specs.Commands.{◌>>=◌, Making, Makes, no_making, step, steps, then}
-use Rattle.swh_fastload.specs.Feeding.{Loading, name_of, AreNew, Feeds}
+use Rattle.swh_fastmeaning.specs.Making.{made_from, made}
+use Rattle.swh_fastmeaning.specs.Whole.{names_of, HasChildrenAmong, AreWhole}
+use Rattle.swh_fastrows.specs.Outcome.{StartsWith}
+use Rattle.swh_fastrows.specs.Places.{Position}
+use Rattle.swh_fastmeaning.specs.Aims.{Missing}
+use Rattle.swh_fastmeaning.specs.Commands.{◌>>=◌, Making, Makes, no_making, step, steps, then}
+use Rattle.swh_fastmeaning.specs.Feeding.{Loading, name_of, AreNew, Feeds}
 use Rattle.swh_fastload.specs.Input.{beginning, AreCarriedOut}
 use Rattle.swh_fastload.specs.Progress.{StandsFor, HasLoaded}
-use Rattle.swh_fastload.proofs.Elements.{all_as, each_is, from_map}
+use Rattle.swh_fastmeaning.proofs.Elements.{all_as, each_is, from_map}
 use Rattle.swh_fastload.proofs.InputLaws.{steps_append, then_keeps, then_makes}
 use Rattle.swh_fastread.proofs.Outcomes.{starts_join}
 

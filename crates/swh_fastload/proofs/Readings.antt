@@ -9,28 +9,28 @@ use Rattle.swh_base.specs.declared.visit.Which.{Which}
 use Rattle.swh_model.specs.Meaning.{Made}
 use Rattle.swh_fastgrammar.specs.declared.command.Command.{Command}
 use Rattle.swh_fastgrammar.specs.declared.fault.StreamWhy.{StreamWhy}
-use Rattle.swh_fastread.specs.declared.fail.ReadFail.{ReadFail}
-use Rattle.swh_fastread.specs.declared.fail.ReadFail.TheVariants.{BadStream as BadRead, ReadFault as SourceFailed, Limit as PassesLimit, Memory as ReadMemory}
+use Rattle.swh_fastrows.specs.declared.fail.ReadFail.{ReadFail}
+use Rattle.swh_fastrows.specs.declared.fail.ReadFail.TheVariants.{BadStream as BadRead, ReadFault as SourceFailed, Limit as PassesLimit, Memory as ReadMemory}
 use Rattle.swh_fastread.specs.declared.reader.Ending.{Ending}
 use Rattle.swh_fastread.specs.declared.reader.Ending.TheVariants.{Open, Refused}
-use Rattle.swh_fastread.specs.Explains.{Explains}
-use Rattle.swh_fastread.specs.Outcome.{IsStreamWithin, IsFaultWithin, PassesFirst, StartsWith}
-use Rattle.swh_fastread.specs.Places.{Place, Position, left, position}
+use Rattle.swh_fastrows.specs.Explains.{Explains}
+use Rattle.swh_fastrows.specs.Outcome.{IsStreamWithin, IsFaultWithin, PassesFirst, StartsWith}
+use Rattle.swh_fastrows.specs.Places.{Place, Position, left, position}
 use Rattle.swh_fastread.specs.Standing.{Standing, LeadsOn, Answers, ending_of}
 use Rattle.swh_fastread.proofs.Outcomes.{fault_carries, limit_carries, carries_with, starts_join}
 use Rattle.swh_fastload.specs.declared.bad.BadStream.TheVariants.{Stream, Limit}
-use Rattle.swh_fastload.specs.declared.feed_fault.FeedFault.{FeedFault}
-use Rattle.swh_fastload.specs.declared.feed_fault.FeedFault.TheVariants.{BadStream as BadFeed, Limit as PassesBody, Memory as FeedMemory}
-use Rattle.swh_fastload.specs.Aims.{Missing}
-use Rattle.swh_fastload.specs.Commands.{Making, no_making, Makes, step}
-use Rattle.swh_fastload.specs.Feeding.{Loading, AreNew, IsTooLong, ExplainsFeed}
+use Rattle.swh_fastmeaning.specs.declared.feed_fault.FeedFault.{FeedFault}
+use Rattle.swh_fastmeaning.specs.declared.feed_fault.FeedFault.TheVariants.{BadStream as BadFeed, Limit as PassesBody, Memory as FeedMemory}
+use Rattle.swh_fastmeaning.specs.Aims.{Missing}
+use Rattle.swh_fastmeaning.specs.Commands.{Making, no_making, Makes, step}
+use Rattle.swh_fastmeaning.specs.Feeding.{Loading, AreNew, IsTooLong, ExplainsFeed}
 use Rattle.swh_fastload.specs.Input.{beginning, BreaksAt, PassesAt, StopsAt, Breaks}
 use Rattle.swh_fastload.specs.Loads.{no_loading, FeedsTo}
-use Rattle.swh_fastload.specs.Making.{made_from, made}
+use Rattle.swh_fastmeaning.specs.Making.{made_from, made}
 use Rattle.swh_fastload.specs.Progress.{StandsFor, HasLoaded}
 use Rattle.swh_fastload.specs.Reading.{read_fault, feed_fault, HasGiven, HasCome, FailsSo}
-use Rattle.swh_fastload.specs.Whole.{AreWhole}
-use Rattle.swh_fastload.proofs.Elements.{none_is}
+use Rattle.swh_fastmeaning.specs.Whole.{AreWhole}
+use Rattle.swh_fastmeaning.proofs.Elements.{none_is}
 use Rattle.swh_fastload.proofs.Progresses.{whole_more, loaded_more, carried}
 
 -- Where a count rose since later, it rose since earlier.

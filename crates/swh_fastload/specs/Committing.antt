@@ -12,22 +12,22 @@ use Rattle.swh_model.specs.Meaning.{Made}
 use Rattle.swh_trees.specs.declared.tree.Tree.{Tree}
 use Rattle.swh_trees.specs.Grove.{Grove, Keeps, map_of}
 use Rattle.swh_trees.specs.Makes.{Makes}
-use Rattle.swh_fastload.specs.Making.{made}
+use Rattle.swh_fastmeaning.specs.Making.{made}
 use Rattle.swh_fastgrammar.specs.declared.command.At.{At}
 use Rattle.swh_fastgrammar.specs.declared.command.Commitish.{Commitish}
 use Rattle.swh_fastgrammar.specs.declared.command.Command.{Command}
 use Rattle.swh_fastgrammar.specs.declared.command.Command.TheVariants.{Commit as CommitCommand}
-use Rattle.swh_fastload.specs.Aims.{Aim, AllAims, Missing, aim_with}
-use Rattle.swh_fastload.specs.Changes.{IsOver, changed_of}
-use Rattle.swh_fastload.specs.Commands.{Changed, IsDirectoryIn, first_parent, commits_at, parents_of, starting_tree, all_changed}
-use Rattle.swh_fastload.specs.Feeding.{name_of}
-use Rattle.swh_fastload.specs.Stock.{Gives}
-use Rattle.swh_fastload.specs.Seen.{object_of}
+use Rattle.swh_fastmeaning.specs.Aims.{Aim, AllAims, Missing, aim_with}
+use Rattle.swh_fastmeaning.specs.Changes.{IsOver, changed_of}
+use Rattle.swh_fastmeaning.specs.Commands.{Changed, IsDirectoryIn, first_parent, commits_at, parents_of, starting_tree, all_changed}
+use Rattle.swh_fastmeaning.specs.Feeding.{name_of}
+use Rattle.swh_fastmeaning.specs.Stock.{Gives}
+use Rattle.swh_fastmeaning.specs.Seen.{object_of}
 use Rattle.swh_fastload.specs.declared.commit.Commit.{Commit}
 use Rattle.swh_fastload.specs.declared.commit.Prepared.{Prepared}
 use Rattle.swh_fastload.specs.declared.commit.CommitText.{CommitText}
-use Rattle.swh_fastload.specs.declared.feed_fault.FeedFault.{FeedFault}
-use Rattle.swh_fastload.specs.declared.feed_fault.FeedFault.TheVariants.{BadStream, Limit, Memory}
+use Rattle.swh_fastmeaning.specs.declared.feed_fault.FeedFault.{FeedFault}
+use Rattle.swh_fastmeaning.specs.declared.feed_fault.FeedFault.TheVariants.{BadStream, Limit, Memory}
 
 -- the rest of the plain revision of a commit
 abbrev pub rest_of : CommitText → RevisionRest

@@ -10,15 +10,15 @@ use Rattle.swh_base.specs.declared.visit.Which.TheVariants.{Body, Refs}
 use Rattle.swh_model.specs.Meaning.{Made, StreamMeaning}
 use Rattle.swh_fastgrammar.specs.declared.command.Command.{Command}
 use Rattle.swh_fastgrammar.specs.declared.fault.StreamWhy.{StreamWhy}
-use Rattle.swh_fastread.specs.Outcome.{IsStreamWithin, IsFaultWithin, PassesFirst, StartsWith}
-use Rattle.swh_fastread.specs.Places.{Position}
+use Rattle.swh_fastrows.specs.Outcome.{IsStreamWithin, IsFaultWithin, PassesFirst, StartsWith}
+use Rattle.swh_fastrows.specs.Places.{Position}
 use Rattle.swh_fastload.specs.declared.bad.BadStream.{BadStream}
 use Rattle.swh_fastload.specs.declared.bad.BadStream.TheVariants.{Stream, Limit}
-use Rattle.swh_fastload.specs.Aims.{Missing}
-use Rattle.swh_fastload.specs.Commands.{Making, Makes, no_making, step, steps}
-use Rattle.swh_fastload.specs.Ending.{refs_limit}
-use Rattle.swh_fastload.specs.Feeding.{IsTooLong}
-use Rattle.swh_fastload.specs.Snapshots.{refs_of, snapshot_of}
+use Rattle.swh_fastmeaning.specs.Aims.{Missing}
+use Rattle.swh_fastmeaning.specs.Commands.{Making, Makes, no_making, step, steps}
+use Rattle.swh_fastmeaning.specs.Ending.{refs_limit}
+use Rattle.swh_fastmeaning.specs.Feeding.{IsTooLong}
+use Rattle.swh_fastmeaning.specs.Snapshots.{refs_of, snapshot_of}
 
 -- The two have the same objects, in whatever order, and the same snapshot.
 pub record IsSameMaking (m n : StreamMeaning) : Type 0 where

@@ -3,10 +3,10 @@ use Rattle.std.specs.Prelude.{◌≡◌, ℕ, List, [], Option, Some, None, Resu
 use Rattle.swh_base.specs.declared.kind.Kind.{Kind}
 use Rattle.swh_base.specs.declared.entry.Entry.{Entry}
 use Rattle.swh_fastgrammar.specs.declared.command.Command.{Command}
-use Rattle.swh_fastload.specs.Aims.{no_aims}
-use Rattle.swh_fastload.specs.Feeding.{Loading, Feeds}
-use Rattle.swh_fastload.specs.Stock.{Stock, IsStocked}
-use Rattle.swh_fastload.specs.declared.feed_fault.FeedFault.{FeedFault}
+use Rattle.swh_fastmeaning.specs.Aims.{no_aims}
+use Rattle.swh_fastmeaning.specs.Feeding.{Loading, Feeds}
+use Rattle.swh_fastmeaning.specs.Stock.{Stock, IsStocked}
+use Rattle.swh_fastmeaning.specs.declared.feed_fault.FeedFault.{FeedFault}
 
 -- nothing is set, and nothing was given
 abbrev pub no_loading : Loading

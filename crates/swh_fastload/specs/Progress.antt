@@ -4,12 +4,12 @@ use Rattle.swh_base.specs.declared.kind.Kind.{Kind}
 use Rattle.swh_base.specs.declared.entry.Entry.{Entry}
 use Rattle.swh_model.specs.Meaning.{Made}
 use Rattle.swh_fastgrammar.specs.declared.command.Command.{Command}
-use Rattle.swh_fastload.specs.Making.{made}
-use Rattle.swh_fastload.specs.Whole.{AreWhole}
-use Rattle.swh_fastread.specs.Outcome.{StartsWith}
-use Rattle.swh_fastread.specs.Places.{Position}
-use Rattle.swh_fastload.specs.Commands.{Making, Makes, no_making, steps}
-use Rattle.swh_fastload.specs.Feeding.{Loading}
+use Rattle.swh_fastmeaning.specs.Making.{made}
+use Rattle.swh_fastmeaning.specs.Whole.{AreWhole}
+use Rattle.swh_fastrows.specs.Outcome.{StartsWith}
+use Rattle.swh_fastrows.specs.Places.{Position}
+use Rattle.swh_fastmeaning.specs.Commands.{Making, Makes, no_making, steps}
+use Rattle.swh_fastmeaning.specs.Feeding.{Loading}
 use Rattle.swh_fastload.specs.Input.{beginning}
 
 -- What is known after some commands, and the objects that were given for them, as what the commands make.

@@ -3,21 +3,21 @@ use Rattle.std.specs.Prelude.{◌≡◌, ◌≤◌, ℕ, Option, List, [], Resul
 use Rattle.swh_base.specs.declared.kind.Kind.{Kind}
 use Rattle.swh_base.specs.declared.entry.Entry.{Entry}
 use Rattle.swh_outside.specs.Faults.{Rose}
-use Rattle.swh_fastread.specs.declared.fail.ReadFail.{ReadFail}
-use Rattle.swh_fastread.specs.declared.fail.ReadFail.TheVariants.{BadStream as BadRead, ReadFault as SourceFailed, Limit as PassesLimit, Memory as ReadMemory}
-use Rattle.swh_fastread.specs.Outcome.{IsStreamWithin}
-use Rattle.swh_fastread.specs.Places.{Position}
+use Rattle.swh_fastrows.specs.declared.fail.ReadFail.{ReadFail}
+use Rattle.swh_fastrows.specs.declared.fail.ReadFail.TheVariants.{BadStream as BadRead, ReadFault as SourceFailed, Limit as PassesLimit, Memory as ReadMemory}
+use Rattle.swh_fastrows.specs.Outcome.{IsStreamWithin}
+use Rattle.swh_fastrows.specs.Places.{Position}
 use Rattle.swh_fastload.specs.declared.bad.BadStream.{BadStream}
 use Rattle.swh_fastload.specs.declared.bad.BadStream.TheVariants.{Stream, Limit}
 use Rattle.swh_fastload.specs.declared.bad.InputFault.{InputFault}
 use Rattle.swh_fastload.specs.declared.bad.InputFault.TheVariants.{Bad, ReadFault, Memory}
-use Rattle.swh_fastload.specs.declared.feed_fault.FeedFault.{FeedFault}
-use Rattle.swh_fastload.specs.declared.feed_fault.FeedFault.TheVariants.{BadStream as BadFeed, Limit as PassesBody, Memory as FeedMemory}
-use Rattle.swh_fastload.specs.Feeding.{Loading}
+use Rattle.swh_fastmeaning.specs.declared.feed_fault.FeedFault.{FeedFault}
+use Rattle.swh_fastmeaning.specs.declared.feed_fault.FeedFault.TheVariants.{BadStream as BadFeed, Limit as PassesBody, Memory as FeedMemory}
+use Rattle.swh_fastmeaning.specs.Feeding.{Loading}
 use Rattle.swh_fastload.specs.Input.{Breaks}
-use Rattle.swh_fastload.specs.Making.{made}
+use Rattle.swh_fastmeaning.specs.Making.{made}
 use Rattle.swh_fastload.specs.Progress.{HasLoaded}
-use Rattle.swh_fastload.specs.Whole.{AreWhole}
+use Rattle.swh_fastmeaning.specs.Whole.{AreWhole}
 
 -- why an input is refused whose stream is not read on
 abbrev pub read_fault : ReadFail → InputFault

@@ -8,11 +8,11 @@ ghost use Rattle.swh_revfmt.specs.Plain.{plain_revision_text};
 ghost use Rattle.swh_model.specs.Meaning.{Made as MadeObject};
 ghost use Rattle.swh_base.specs.Text.{IsRef};
 ghost use Rattle.swh_trees.specs.Grove.{Grove, map_of, IsTree, StandsFor};
-ghost use Rattle.swh_fastload.specs.Making.{made_from, made};
-ghost use Rattle.swh_fastload.specs.Changes.{HoldsContents, IsGivableChange, IsOver, changed_of};
-ghost use Rattle.swh_fastload.specs.Commands.{step, first_parent, all_changed, revision_parts};
-ghost use Rattle.swh_fastload.specs.Aims.{Aim, aims_with};
-ghost use Rattle.swh_fastload.specs.Feeding.{ExplainsFeed};
+ghost use Rattle.swh_fastmeaning.specs.Making.{made_from, made};
+ghost use Rattle.swh_fastmeaning.specs.Changes.{HoldsContents, IsGivableChange, IsOver, changed_of};
+ghost use Rattle.swh_fastmeaning.specs.Commands.{step, first_parent, all_changed, revision_parts};
+ghost use Rattle.swh_fastmeaning.specs.Aims.{Aim, aims_with};
+ghost use Rattle.swh_fastmeaning.specs.Feeding.{ExplainsFeed};
 ghost use Rattle.swh_fastload.specs.Committing.{
   rest_of,
   command_of,
@@ -23,21 +23,15 @@ ghost use Rattle.swh_fastload.specs.Committing.{
   GivesCommit,
   ExplainsOver,
 };
-ghost use Rattle.swh_fastload.specs.Seen.{object_of};
-ghost use Rattle.swh_fastload.specs.Stock.{HaveIds, AreReady, IsStocked, Leads, loading_of};
-ghost use Rattle.swh_fastload.specs.Parting.{ExplainsBody, stock_of};
+ghost use Rattle.swh_fastmeaning.specs.Seen.{object_of};
+ghost use Rattle.swh_fastmeaning.specs.Stock.{HaveIds, AreReady, IsStocked, Leads, loading_of};
+ghost use Rattle.swh_fastmeaning.specs.Parting.{ExplainsBody, stock_of};
 
-use crate::aims::{Aims, Target};
-use crate::changes::changed_tree;
-use crate::contents::Contents;
-use crate::feed_fault::FeedFault;
-use crate::giving::{give_all, make_object, whole_id};
 use crate::parents::{first_parent, parent_ids};
-use crate::parts::Parts;
-use crate::seen::Seen;
 use std::alloc::Global;
 use swh_base::{Bytes, Items, Kind, Memory, Name, Namer, Which};
 use swh_fastgrammar::{At, Change, Commitish, Start};
+use swh_fastmeaning::{Aims, Contents, FeedFault, Parts, Seen, Target, changed_tree, give_all, make_object, whole_id};
 use swh_object::Object;
 use swh_revfmt::{PlainRev, write_plain_rev};
 use swh_trees::{Made, Tree, TreeFault, Trees};

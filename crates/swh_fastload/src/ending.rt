@@ -5,19 +5,15 @@ ghost use Rattle.std.specs.Option.{option_copied};
 ghost use Rattle.swh_base.specs.Snapshot.{IsBranch, AreBranches};
 ghost use Rattle.swh_object.specs.Object.{IsObject};
 ghost use Rattle.swh_model.specs.Meaning.{with_head};
-ghost use Rattle.swh_fastload.specs.Making.{made_from};
-ghost use Rattle.swh_fastload.specs.Ending.{IsHead, EndsParts, ExplainsEnd, refs_limit};
-ghost use Rattle.swh_fastload.specs.Parting.{stock_of};
-ghost use Rattle.swh_fastload.specs.Stock.{loading_of, names_of_made, IsStocked};
-ghost use Rattle.swh_fastload.specs.Snapshots.{tip_branch, refs_of, snapshot_of};
+ghost use Rattle.swh_fastmeaning.specs.Making.{made_from};
+ghost use Rattle.swh_fastmeaning.specs.Ending.{IsHead, EndsParts, ExplainsEnd, refs_limit};
+ghost use Rattle.swh_fastmeaning.specs.Parting.{stock_of};
+ghost use Rattle.swh_fastmeaning.specs.Stock.{loading_of, names_of_made, IsStocked};
+ghost use Rattle.swh_fastmeaning.specs.Snapshots.{tip_branch, refs_of, snapshot_of};
 
-use crate::aims::Aims;
-use crate::feed_fault::FeedFault;
-use crate::giving::make_object;
-use crate::parts::Parts;
-use crate::sides::{REFS_LIMIT, Sides, head_branch_of, joined};
 use std::alloc::Global;
 use swh_base::{Kind, Namer, Which};
+use swh_fastmeaning::{Aims, FeedFault, Parts, REFS_LIMIT, Sides, head_branch_of, joined, make_object};
 use swh_object::Object;
 use swh_snpfmt::{Branches, write_snp};
 

@@ -8,17 +8,15 @@ ghost use Rattle.swh_fastgrammar.specs.declared.command.Command.TheVariants.{
   Reset as ResetCommand,
   Tag as TagCommand,
 };
-ghost use Rattle.swh_fastload.specs.Commands.{step, release_parts};
-ghost use Rattle.swh_fastload.specs.Feeding.{ExplainsFeed};
-ghost use Rattle.swh_fastload.specs.Stock.{loading_of, IsStocked, Leads};
-ghost use Rattle.swh_fastload.specs.Parting.{stock_of};
+ghost use Rattle.swh_fastmeaning.specs.Commands.{step, release_parts};
+ghost use Rattle.swh_fastmeaning.specs.Feeding.{ExplainsFeed};
+ghost use Rattle.swh_fastmeaning.specs.Stock.{loading_of, IsStocked, Leads};
+ghost use Rattle.swh_fastmeaning.specs.Parting.{stock_of};
 
-use crate::feed_fault::FeedFault;
-use crate::giving::give_own;
-use crate::parts::Parts;
 use std::alloc::Global;
 use swh_base::{Bytes, Kind, Memory, Name, Namer};
 use swh_fastgrammar::{At, Commitish, Start};
+use swh_fastmeaning::{FeedFault, Parts, give_own};
 use swh_object::Object;
 use swh_revfmt::{PlainRel, write_plain_rel};
 

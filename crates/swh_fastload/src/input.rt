@@ -3,22 +3,21 @@ ghost use Rattle.std.specs.Prelude.{◌≡◌, ◌≤◌, ℕ, List, false, Ok, 
 ghost use Rattle.std.specs.Option.{option_copied};
 ghost use Rattle.swh_base.specs.Text.{IsRef};
 ghost use Rattle.swh_outside.specs.Views.{sources};
-ghost use Rattle.swh_fastread.specs.Places.{left};
+ghost use Rattle.swh_fastrows.specs.Places.{left};
 ghost use Rattle.swh_fastread.specs.declared.reader.Ending.TheVariants.{Open};
 ghost use Rattle.swh_fastload.specs.Loaded.{making_of};
 ghost use Rattle.swh_fastload.specs.Loads.{no_loading};
 ghost use Rattle.swh_fastload.specs.Reading.{read_fault, feed_fault, HasGiven, HasRead, FailsSo, BreaksSo, IsQuiet};
 ghost use Rattle.swh_fastload.specs.Input.{Means};
 ghost use Rattle.swh_fastload.specs.Sourced.{MeansLeft, ExplainsSource};
-ghost use Rattle.swh_fastload.specs.Whole.{HasAllThatIsReached};
+ghost use Rattle.swh_fastmeaning.specs.Whole.{HasAllThatIsReached};
 
 use crate::bad::{BadStream, InputFault};
-use crate::feed_fault::FeedFault;
 use crate::load::FastLoad;
-use crate::objects::Objects;
 use std::alloc::{AllocError, Global};
 use swh_base::Namer;
 use swh_fastlex::Window;
+use swh_fastmeaning::{FeedFault, Objects};
 use swh_fastread::{Lent, ReadFail, Reader};
 use swh_object::Object;
 use swh_outside::Source;

@@ -1,26 +1,23 @@
 //! A loader of commands: it makes their objects, and at the end a snapshot.
 ghost use Rattle.std.specs.Prelude.{◌≡◌, Contains, Ok, Err, IfOk, IfErr};
 ghost use Rattle.std.specs.List.{AllByRecursion};
-ghost use Rattle.swh_fastload.specs.Aims.{no_aims};
-ghost use Rattle.swh_fastload.specs.Commands.{step};
-ghost use Rattle.swh_fastload.specs.Feeding.{Loading, IsGivable, ExplainsFeed};
+ghost use Rattle.swh_fastmeaning.specs.Aims.{no_aims};
+ghost use Rattle.swh_fastmeaning.specs.Commands.{step};
+ghost use Rattle.swh_fastmeaning.specs.Feeding.{Loading, IsGivable, ExplainsFeed};
 ghost use Rattle.std.specs.Option.{option_copied};
-ghost use Rattle.swh_fastload.specs.Ending.{IsHead, EndsWith, ExplainsEnd};
+ghost use Rattle.swh_fastmeaning.specs.Ending.{IsHead, EndsWith, ExplainsEnd};
 ghost use Rattle.swh_fastload.specs.Loads.{no_loading, FeedsTo, Refuses, Repeats};
-ghost use Rattle.swh_fastload.specs.Parting.{stock_of};
-ghost use Rattle.swh_fastload.specs.Stock.{loading_of, names_of_made, IsStocked, Leads};
+ghost use Rattle.swh_fastmeaning.specs.Parting.{stock_of};
+ghost use Rattle.swh_fastmeaning.specs.Stock.{loading_of, names_of_made, IsStocked, Leads};
 
-use crate::aims::Aims;
 use crate::commit::{Commit, CommitText, feed_commit};
 use crate::ending::end_parts;
-use crate::feed_fault::FeedFault;
 use crate::feeding::{feed_blob, feed_reset, feed_tag};
-use crate::parts::Parts;
-use crate::seen::Seen;
 use std::alloc::Global;
 use std::marker::Model;
 use swh_base::Namer;
 use swh_fastgrammar::Command;
+use swh_fastmeaning::{Aims, FeedFault, Parts, Seen};
 use swh_object::Object;
 use swh_trees::Trees;
 
@@ -34,13 +31,13 @@ pub struct FastLoad<N: Namer> {
 
 impl<N: Namer> Model for FastLoad<N> {
     ghost use Rattle.std.specs.Prelude.{Result};
-    ghost use Rattle.swh_fastload.specs.Feeding.{Loading, state_of};
-    ghost use Rattle.swh_fastload.specs.declared.feed_fault.FeedFault.{FeedFault};
+    ghost use Rattle.swh_fastmeaning.specs.Feeding.{Loading, state_of};
+    ghost use Rattle.swh_fastmeaning.specs.declared.feed_fault.FeedFault.{FeedFault};
 
     ghost Value = { Result Loading FeedFault };
 
-    ghost use Rattle.swh_fastload.specs.Parting.{stock_of};
-    ghost use Rattle.swh_fastload.specs.Stock.{loading_of};
+    ghost use Rattle.swh_fastmeaning.specs.Parting.{stock_of};
+    ghost use Rattle.swh_fastmeaning.specs.Stock.{loading_of};
     ghost use Rattle.swh_fastload.specs.Loads.{IsStockedUnless};
 
     ghost view = { λ f. state_of f.refusal (loading_of (stock_of f.parts)) };

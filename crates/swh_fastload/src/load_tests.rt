@@ -1,7 +1,7 @@
 // The ids are those that git gives: `git hash-object`, `git mktree` and `git commit-tree`.
 ghost use Rattle.std.specs.Prelude.{IfOk};
 ghost use Rattle.std.specs.List.{AllByRecursion};
-ghost use Rattle.swh_fastload.specs.Changes.{IsGivableChange};
+ghost use Rattle.swh_fastmeaning.specs.Changes.{IsGivableChange};
 
 use super::*;
 use std::alloc::Global;

@@ -1,17 +1,16 @@
 //! The parents of a commit (git-fast-import(1), from and merge).
 ghost use Rattle.std.specs.Prelude.{◌≡◌, [], Ok, IfOk, IfErr};
 ghost use Rattle.std.specs.Option.{option_map};
-ghost use Rattle.swh_fastload.specs.Changes.{ExplainsChange};
-ghost use Rattle.swh_fastload.specs.Commands.{first_parent, commits_at, parents_of};
+ghost use Rattle.swh_fastmeaning.specs.Changes.{ExplainsChange};
+ghost use Rattle.swh_fastmeaning.specs.Commands.{first_parent, commits_at, parents_of};
 ghost use Rattle.swh_fastload.specs.Committing.{HasParents};
-ghost use Rattle.swh_fastload.specs.Missings.{ExplainsMissing};
-ghost use Rattle.swh_fastload.specs.Tips.{aim_of};
+ghost use Rattle.swh_fastmeaning.specs.Missings.{ExplainsMissing};
+ghost use Rattle.swh_fastmeaning.specs.Tips.{aim_of};
 
-use crate::aims::{Aims, Target, commit_of};
-use crate::feed_fault::FeedFault;
 use std::alloc::Global;
 use swh_base::Memory;
 use swh_fastgrammar::{At, Commitish, Start};
+use swh_fastmeaning::{Aims, FeedFault, Target, commit_of};
 
 /// The first parent of a commit, where it has one: what its line `from` names, or else the commit that is the tip of its
 /// ref.

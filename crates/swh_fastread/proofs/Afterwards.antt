@@ -13,10 +13,10 @@ use Rattle.swh_fastgrammar.proofs.Parts.{cons_cut}
 use Rattle.swh_fastgrammar.proofs.Rows.{goes_on}
 use Rattle.swh_fastgrammar.proofs.Splits.{split_items, item_on}
 use Rattle.swh_fastgrammar.proofs.Streams.{is_inner, Stops}
-use Rattle.swh_fastread.specs.Outcome.{IsStreamWithin, Ended, Starts, StartsAll, StartsWith}
-use Rattle.swh_fastread.specs.Places.{FirstLine, MayCount, Position}
-use Rattle.swh_fastread.specs.Within.{LineFits, AllFit}
-use Rattle.swh_fastread.proofs.Joins.{placed-append}
+use Rattle.swh_fastrows.specs.Outcome.{IsStreamWithin, Ended, Starts, StartsAll, StartsWith}
+use Rattle.swh_fastrows.specs.Places.{FirstLine, MayCount, Position}
+use Rattle.swh_fastrows.specs.Within.{LineFits, AllFit}
+use Rattle.swh_fastrows.proofs.Joins.{placed-append}
 
 -- Of rows that fit, those that follow some do.
 pub fit_after : (at : ℕ) (rs ms : List Row) (next : List ℕ) → AllFit at (rs ++ ms) next → AllFit (at + length (text_of rs)) ms next

@@ -5,19 +5,18 @@ use Rattle.swh_fastgrammar.specs.declared.command.Commitish.{Commitish}
 use Rattle.swh_fastgrammar.specs.declared.command.Change.{Change}
 use Rattle.swh_fastgrammar.specs.declared.command.Command.{Command}
 use Rattle.swh_fastgrammar.specs.declared.command.Command.TheVariants.{Blob, Commit, Tag, Reset}
-use Rattle.swh_fastread.specs.declared.fail.ReadFail.{ReadFail}
-use Rattle.swh_fastread.specs.declared.fail.ReadFail.TheVariants.{BadStream, ReadFault, Limit, Memory}
+use Rattle.swh_fastrows.specs.declared.fail.ReadFail.{ReadFail}
+use Rattle.swh_fastrows.specs.declared.fail.ReadFail.TheVariants.{BadStream, ReadFault, Limit, Memory}
 use Rattle.swh_fastgrammar.specs.declared.fault.StreamWhy.TheVariants.{Grammar, End, LeftOut, Mark, Branch, Place as Spot}
-use Rattle.swh_fastread.specs.Explains.{PartFails, DataFails, Stops, Explains}
+use Rattle.swh_fastrows.specs.Explains.{PartFails, DataFails, Stops, Explains}
 use Rattle.swh_fastgrammar.specs.Grammar.{◌▹◌, ◌▸◌, optional, many, line_at, line, nothing, contents, mark, oid, start_of, Item, IsItem}
 use Rattle.swh_fastgrammar.specs.Grammar.Item.{Says, Promise, Nothing}
-use Rattle.swh_fastread.specs.Outcome.{Starts, Ended}
-use Rattle.swh_fastread.specs.Places.{Place, left, Took, Refuses, LeadsTo, position}
+use Rattle.swh_fastrows.specs.Outcome.{Starts, Ended}
+use Rattle.swh_fastrows.specs.Places.{Place, left, Took, Refuses, position}
 use Rattle.swh_fastgrammar.specs.Row.{IsData, Placed}
 use Rattle.swh_fastgrammar.specs.Word.{NamesRef, NamesTag}
 use Rattle.swh_fastgrammar.proofs.Items.{author}
-use Rattle.swh_fastread.proofs.Joins.{took_append, or-false}
-use Rattle.swh_fastread.proofs.Onward.{leads_item}
+use Rattle.swh_fastrows.proofs.Joins.{took_append, or-false}
 use Rattle.swh_fastgrammar.proofs.Parts.{Single, cons_cut}
 use Rattle.swh_fastgrammar.proofs.Items.{line_single}
 use Rattle.swh_fastread.proofs.Places.{from_committer, from_from, contents_solid, refuses_then}
@@ -111,9 +110,6 @@ commit_begun a b at name t r = record {
     back = λ more i n h. commit_back (line_at at (codes "commit " ++ name)) more i name refl h;
   };
 }
-
-pub whole_leads : (a b : Place) (c : Command) → Whole a b (Says c) → (p : Bool) → LeadsTo (position a p) (position b p) (c ∷ [])
-whole_leads a b c w p = subst (λ (t : Bool). LeadsTo (position a p) (position b t) (c ∷ [])) (or-false p) (leads_item a b p w.part (Says c) w.took w.is_item w.ended)
 
 -- A whole command starts the text.
 pub whole_starts : (a b : Place) (c : Command) → Whole a b (Says c) → (p : Bool) → Starts (position a p) (position b p) (Says c)

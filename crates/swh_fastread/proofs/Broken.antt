@@ -6,9 +6,9 @@ use Rattle.swh_fastgrammar.specs.declared.command.Command.{Command}
 use Rattle.swh_fastgrammar.specs.Fault.{BeginsStream, BeginsRows, is_left_out, IsUnfinished, Reaches, IsLineFault, IsEndFault}
 use Rattle.swh_fastgrammar.specs.Grammar.{many, Item, IsItem, is_promise, commands_of, IsStream}
 use Rattle.swh_base.specs.declared.visit.Which.{Which}
-use Rattle.swh_fastread.specs.Outcome.{IsLineFaultWithin, IsEndFaultWithin, DataMayCome, PassesFirst}
-use Rattle.swh_fastread.specs.Places.{Place, left, Took}
-use Rattle.swh_fastread.specs.Within.{FirstLine, LinePasses, DataPasses, LineFits, Fits, AllFit}
+use Rattle.swh_fastrows.specs.Outcome.{IsLineFaultWithin, IsEndFaultWithin, DataMayCome, PassesFirst}
+use Rattle.swh_fastrows.specs.Places.{Place, left, Took}
+use Rattle.swh_fastrows.specs.Within.{FirstLine, LinePasses, DataPasses, LineFits, Fits, AllFit}
 use Rattle.swh_fastgrammar.specs.Row.{Row, row_text, text_of, begins_with, IsData, Opens, IsRow, AreRows, Placed, placed, is_comment}
 use Rattle.swh_fastgrammar.proofs.Before.{no_item_first}
 use Rattle.swh_fastgrammar.proofs.Faults.{append_nil, row_cut}
@@ -16,7 +16,7 @@ use Rattle.swh_fastgrammar.proofs.Kept.{AllKept, item_keeps}
 use Rattle.swh_fastgrammar.proofs.Parts.{cons_cut}
 use Rattle.swh_fastgrammar.proofs.Rows.{goes_on}
 use Rattle.swh_fastgrammar.proofs.Streams.{Stops, items_stop}
-use Rattle.swh_fastread.proofs.Joins.{plain, plain_row, placed-append, placed_row, rows-append, joined, rows-next, allows-line, fronts, has_first, has_more, took_size}
+use Rattle.swh_fastrows.proofs.Joins.{plain, plain_row, placed-append, placed_row, rows-append, joined, rows-next, allows-line, fronts, has_first, has_more, took_size}
 use Rattle.swh_fastread.proofs.Onward.{one_item, stops_inside}
 
 -- rows that go on from a part, and make an item with it

@@ -8,10 +8,10 @@ use Rattle.swh_fastgrammar.proofs.Faults.{append_nil}
 use Rattle.swh_fastgrammar.proofs.Parts.{cons_cut}
 use Rattle.swh_fastgrammar.proofs.Rows.{goes_on}
 use Rattle.swh_fastgrammar.proofs.Streams.{some_item}
-use Rattle.swh_fastread.specs.Explains.{IsClear, Reads}
-use Rattle.swh_fastread.specs.Outcome.{Ended, Starts}
-use Rattle.swh_fastread.specs.Places.{Place, left, Took, MayCount, position}
-use Rattle.swh_fastread.proofs.Joins.{took_append, or-false}
+use Rattle.swh_fastrows.specs.Explains.{IsClear, Reads}
+use Rattle.swh_fastrows.specs.Outcome.{Ended, Starts}
+use Rattle.swh_fastrows.specs.Places.{Place, left, Took, MayCount, position}
+use Rattle.swh_fastrows.proofs.Joins.{took_append, or-false}
 use Rattle.swh_fastread.proofs.Remains.{Within, Whole, any_next}
 
 -- What was read between two places is one thing.

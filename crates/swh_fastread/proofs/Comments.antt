@@ -11,14 +11,14 @@ use Rattle.swh_fastgrammar.proofs.Faults.{text_of-append}
 use Rattle.swh_fastgrammar.proofs.Kept.{AllKept}
 use Rattle.swh_fastgrammar.proofs.Rows.{goes_on}
 use Rattle.swh_base.specs.declared.visit.Which.{Which}
-use Rattle.swh_fastread.specs.declared.fail.ReadFail.{ReadFail}
-use Rattle.swh_fastread.specs.declared.fail.ReadFail.TheVariants.{BadStream, ReadFault, Limit, Memory}
-use Rattle.swh_fastread.specs.Explains.{Explains}
-use Rattle.swh_fastread.specs.Outcome.{IsStreamWithin, IsLineFaultWithin, IsEndFaultWithin, IsFaultWithin, DataMayCome, PassesFirst}
-use Rattle.swh_fastread.specs.Places.{Place, left, Took}
-use Rattle.swh_fastread.specs.Within.{LinePasses, DataPasses, LineFits, Fits, AllFit}
-use Rattle.swh_fastread.proofs.HeldLines.{data_counts}
-use Rattle.swh_fastread.proofs.Joins.{placed-append, rows-append, fit-append, joined}
+use Rattle.swh_fastrows.specs.declared.fail.ReadFail.{ReadFail}
+use Rattle.swh_fastrows.specs.declared.fail.ReadFail.TheVariants.{BadStream, ReadFault, Limit, Memory}
+use Rattle.swh_fastrows.specs.Explains.{Explains}
+use Rattle.swh_fastrows.specs.Outcome.{IsStreamWithin, IsLineFaultWithin, IsEndFaultWithin, IsFaultWithin, DataMayCome, PassesFirst}
+use Rattle.swh_fastrows.specs.Places.{Place, left, Took}
+use Rattle.swh_fastrows.specs.Within.{LinePasses, DataPasses, LineFits, Fits, AllFit}
+use Rattle.swh_fastrows.proofs.HeldLines.{data_counts}
+use Rattle.swh_fastrows.proofs.Joins.{placed-append, rows-append, fit-append, joined}
 use Rattle.swh_fastread.proofs.Onward.{stops_inside}
 use Rattle.swh_fastread.proofs.Outcomes.{sizes}
 

@@ -18,15 +18,15 @@ use Rattle.swh_fastgrammar.proofs.Parts.{cons_cut, begins_one}
 use Rattle.swh_fastgrammar.proofs.Rows.{goes_on, same_tail}
 use Rattle.swh_fastlines.specs.Reading.{LineSays}
 use Rattle.swh_fastgrammar.specs.declared.fault.StreamWhy.{StreamWhy}
-use Rattle.swh_fastread.specs.declared.fail.ReadFail.{ReadFail}
-use Rattle.swh_fastread.specs.declared.fail.ReadFail.TheVariants.{BadStream, ReadFault, Limit, Memory}
-use Rattle.swh_fastread.specs.Explains.{PartFails, DataFails, Explains, IsClear, Reads, Stops}
-use Rattle.swh_fastread.specs.Places.{Place, left, Took, Part, OptionalPart, FoundPart, FirstLine, MayCount, Refuses, position}
+use Rattle.swh_fastrows.specs.declared.fail.ReadFail.{ReadFail}
+use Rattle.swh_fastrows.specs.declared.fail.ReadFail.TheVariants.{BadStream, ReadFault, Limit, Memory}
+use Rattle.swh_fastrows.specs.Explains.{PartFails, DataFails, Explains, IsClear, Reads, Stops}
+use Rattle.swh_fastrows.specs.Places.{Place, left, Took, Part, OptionalPart, FoundPart, FirstLine, MayCount, Refuses, position}
 use Rattle.swh_fastread.specs.Tail.{IsOutside, IsSure, Stopped, ReadsFrom, ReadsSome, ReadsAll, ReadsTail, ReadsStart, LacksInline, ChangeFails, ChangesFail, LacksChange, TailFails}
 use Rattle.swh_fastread.proofs.Begun.{commit_item, commit_begun, commit_after, stops_explain, part_explains, data_explains}
 use Rattle.swh_fastread.proofs.Blobs.{found, found_part}
 use Rattle.swh_fastread.proofs.Commands.{reads_whole}
-use Rattle.swh_fastread.proofs.Joins.{took_append, took_before}
+use Rattle.swh_fastrows.proofs.Joins.{took_append, took_before}
 use Rattle.swh_fastread.proofs.Places.{mark_solid, oid_solid, author_solid, committer_solid, encoding_solid, commit_mark, commit_oid, commit_author, commit_encoding, from_committer, from_data, wants_committer, wants_data, from_solid, merge_solid, change_solid, contents_solid, commit_from, commit_merge, end_clash, refuses_then, none_then, completes_data}
 use Rattle.swh_fastread.proofs.Remains.{wants_optional, wants_skip, Within, Whole, Next, some_append, Wants, step_then, step_optional, step_skip, step_many, step_some, closing, whole, no_more, took_next}
 

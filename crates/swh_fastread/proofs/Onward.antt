@@ -8,15 +8,15 @@ use Rattle.swh_fastgrammar.specs.declared.fault.StreamWhy.TheVariants.{Grammar, 
 use Rattle.swh_fastgrammar.specs.Fault.{BeginsStream, BeginsRows, Reaches, IsLineFault, IsEndFault, IsFault}
 use Rattle.swh_fastgrammar.specs.Grammar.{many, Item, IsItem, is_promise, commands_of, Ends, IsWhole, IsStream}
 use Rattle.swh_fastgrammar.specs.Grammar.Item.{Says, Promise, Nothing}
-use Rattle.swh_fastread.specs.Outcome.{Ended}
-use Rattle.swh_fastread.specs.Places.{Place, left, Took, FirstLine, MayCount, Position, LeadsTo, position}
+use Rattle.swh_fastrows.specs.Outcome.{Ended}
+use Rattle.swh_fastrows.specs.Places.{Place, left, Took, FirstLine, MayCount}
 use Rattle.swh_fastgrammar.specs.Row.{Row, row_text, text_of, AreRows, Placed, placed, is_comment}
 use Rattle.swh_fastgrammar.proofs.Faults.{append_nil, text_of-append, row_cut, row_line}
 use Rattle.swh_fastgrammar.proofs.Kept.{kept, AllKept, row_kept, item_keeps}
 use Rattle.swh_fastgrammar.proofs.Parts.{cons_cut}
 use Rattle.swh_fastgrammar.proofs.Rows.{goes_on}
 use Rattle.swh_fastgrammar.proofs.Streams.{is_inner, AllInner, shape, Stops, items_stop, some_item, item_one}
-use Rattle.swh_fastread.proofs.Joins.{or_assoc, placed-append, rows-append, joined, rows-next, allows-line, same_first, fronts}
+use Rattle.swh_fastrows.proofs.Joins.{or_assoc, placed-append, rows-append, joined, rows-next, allows-line, same_first, fronts}
 
 pub one_item : (rows : List Placed) (i : Item) → IsItem rows i → many IsItem rows (i ∷ [])
 one_item rows i h = (rows, [], sym (append_nil rows), h, refl)
@@ -229,22 +229,3 @@ fault_more at p text x i cs place LeftOut s f = line_more at p text x i cs place
 fault_more at p text x i cs place Mark s f = f
 fault_more at p text x i cs place Branch s f = f
 fault_more at p text x i cs place Spot s f = f
-
--- An item in front leads on.
-pub leads_item : (a b : Place) (p : Bool) (part : List Placed) (i : Item) → Took a b part → IsItem part i → Ended part (left b) → LeadsTo (position a p) (position b (p || is_promise i)) (commands_of (i ∷ []))
-leads_item a b p part i t h e =
-    let item : IsItem (placed a.at t.rows) i = subst (λ (z : List Placed). IsItem z i) (sym t.those) h in
-    let s : Spelled a.at (left a) (left b) i = record { rows = t.rows; text_is = t.spelled; good = t.good; said = item; ended = subst (λ (z : List Placed). Ended z (left b)) (sym t.those) e } in
-    let here = t.here in
-    record {
-      total = omega (arith, here, ap length t.spelled, length-append (text_of t.rows) (left b));
-      streams = λ cs x. prepend a.at p (left a) t.rows (left b) i cs t.spelled t.good item (subst (λ (n : ℕ). IsStream n (p || is_promise i) (left b) cs) here x);
-      faults = λ cs place why x. fault_more a.at p (left a) (left b) i cs place why s (subst (λ (n : ℕ). IsFault n (p || is_promise i) (left b) cs place why) here x);
-    }
-
-pub leads_none : (a b c : Position) (ys : List Command) → LeadsTo a b [] → LeadsTo b c ys → LeadsTo a c ys
-leads_none a b c ys f g = record {
-  total = let x = f.total in let y = g.total in omega (arith, x, y);
-  streams = λ cs t. f.streams (ys ++ cs) (g.streams cs t);
-  faults = λ cs place why t. f.faults (ys ++ cs) place why (g.faults cs place why t);
-}

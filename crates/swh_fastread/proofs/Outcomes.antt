@@ -13,12 +13,12 @@ use Rattle.swh_fastgrammar.proofs.Before.{same_reach}
 use Rattle.swh_fastgrammar.proofs.Faults.{append_nil, text_of-append, row_cut, row_line, passed}
 use Rattle.swh_fastgrammar.proofs.Kept.{kept, not_begun}
 use Rattle.swh_fastgrammar.proofs.Rows.{goes_on}
-use Rattle.swh_fastread.specs.Outcome.{IsStreamWithin, IsLineFaultWithin, IsEndFaultWithin, IsFaultWithin, DataMayCome, PassesFirst, Ended, Starts, StartsAll, StartsWith}
-use Rattle.swh_fastread.specs.Places.{Position}
-use Rattle.swh_fastread.specs.Within.{FirstLine, LinePasses, DataPasses, LineFits, Fits, AllFit}
+use Rattle.swh_fastrows.specs.Outcome.{IsStreamWithin, IsLineFaultWithin, IsEndFaultWithin, IsFaultWithin, DataMayCome, PassesFirst, Ended, Starts, StartsAll, StartsWith}
+use Rattle.swh_fastrows.specs.Places.{Position}
+use Rattle.swh_fastrows.specs.Within.{FirstLine, LinePasses, DataPasses, LineFits, Fits, AllFit}
 use Rattle.swh_fastread.proofs.Broken.{done_closed}
-use Rattle.swh_fastread.proofs.Fitting.{one_line, closed_fits, endless_fits}
-use Rattle.swh_fastread.proofs.Joins.{fit-append, rows-next, allows-line}
+use Rattle.swh_fastrows.proofs.Fitting.{one_line, closed_fits, endless_fits}
+use Rattle.swh_fastrows.proofs.Joins.{fit-append, rows-next, allows-line}
 use Rattle.swh_fastread.proofs.Onward.{Spelled, prepend, line_more, end_more, reaches_more}
 
 pub sizes : (at : ℕ) (rs qs : List Row) → at + length (text_of rs) + length (text_of qs) ≡ at + length (text_of (rs ++ qs))

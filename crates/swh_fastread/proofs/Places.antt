@@ -8,12 +8,12 @@ use Rattle.swh_fastgrammar.specs.declared.command.Change.{Change}
 use Rattle.swh_fastgrammar.specs.declared.command.Commitish.{Commitish}
 use Rattle.swh_fastgrammar.specs.declared.command.Commitish.TheVariants.{Mark}
 use Rattle.swh_fastgrammar.specs.Grammar.{◌▹◌, ◌▸◌, optional, many, line_at, line, placed_line, anything, contents, mark, oid, from, change}
-use Rattle.swh_fastread.specs.Places.{FirstLine, Refuses}
+use Rattle.swh_fastrows.specs.Places.{FirstLine, Refuses}
 use Rattle.swh_fastgrammar.specs.Row.{Row, row_text, IsData, Opens, IsRow, Placed, placed}
 use Rattle.swh_fastgrammar.specs.Word.{IsMark, NamesPerson, NamesEncoding, NamesCommit}
 use Rattle.swh_fastgrammar.proofs.Items.{line_single, placed_single, contents_single, line_begins, placed_begins, contents_begins, single_begins, optional_begins, skip_begins, both_begin, many_begins, change_begins, author, committer, encoding, tagger, merge, after_data}
 use Rattle.swh_fastgrammar.proofs.Parts.{Begins, cons_cut, change_cut, some_change}
-use Rattle.swh_fastread.proofs.Joins.{plain, plain_row}
+use Rattle.swh_fastrows.proofs.Joins.{plain, plain_row}
 use Rattle.swh_fastread.proofs.Remains.{Solid, single_solid, Clash, word_clash, no_more, Completes, Wants}
 
 pub mark_solid : Solid mark

@@ -11,16 +11,16 @@ use Rattle.swh_fastgrammar.proofs.Parts.{cons_cut, begins_one}
 use Rattle.swh_fastgrammar.proofs.Rows.{same_tail}
 use Rattle.swh_fastlines.specs.Limit.{PassesPaths}
 use Rattle.swh_fastlines.specs.Reading.{LineSays, is_inline}
-use Rattle.swh_fastread.specs.declared.fail.Outside.{Outside}
-use Rattle.swh_fastread.specs.declared.fail.Outside.TheVariants.{Failed, Memory}
-use Rattle.swh_fastread.specs.Outside.{fail_of}
-use Rattle.swh_fastread.specs.Explains.{IsClear, EndsWhole}
-use Rattle.swh_fastread.specs.Held.{IsNext}
-use Rattle.swh_fastread.specs.Places.{Place, left, Took, FirstLine, Part, NeverLine, position}
+use Rattle.swh_fastrows.specs.declared.fail.Outside.{Outside}
+use Rattle.swh_fastrows.specs.declared.fail.Outside.TheVariants.{Failed, Memory}
+use Rattle.swh_fastrows.specs.Outside.{fail_of}
+use Rattle.swh_fastrows.specs.Explains.{IsClear, EndsWhole}
+use Rattle.swh_fastrows.specs.Held.{IsNext}
+use Rattle.swh_fastrows.specs.Places.{Place, left, Took, FirstLine, Part, NeverLine, position}
 use Rattle.swh_fastread.specs.Tail.{IsOutside, IsSure, Stopped, FindsChange, ReadsSome, ReadsAll}
-use Rattle.swh_fastread.proofs.HeldLines.{taken, held_first, held_counts, line_taken}
-use Rattle.swh_fastread.proofs.Joins.{took_none, took_append, took_before}
-use Rattle.swh_fastread.proofs.NextLines.{same_next, closed_word, clear_lacks, lacks_placed}
+use Rattle.swh_fastrows.proofs.HeldLines.{taken, held_first, held_counts, line_taken}
+use Rattle.swh_fastrows.proofs.Joins.{took_none, took_append, took_before}
+use Rattle.swh_fastrows.proofs.NextLines.{same_next, closed_word, clear_lacks, lacks_placed}
 use Rattle.swh_fastread.proofs.Remains.{many_append}
 
 abbrev second : List ℕ → ℕ

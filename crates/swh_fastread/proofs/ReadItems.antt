@@ -15,22 +15,22 @@ use Rattle.swh_fastgrammar.proofs.Streams.{tag_of, some_item}
 use Rattle.swh_fastlines.specs.ItemLine.{SaysNothing, BeginsNone}
 use Rattle.swh_fastlines.specs.Limit.{PassesRefs}
 use Rattle.swh_fastlines.proofs.ItemLines.{kind}
-use Rattle.swh_fastread.specs.declared.fail.ReadFail.{ReadFail}
-use Rattle.swh_fastread.specs.declared.fail.ReadFail.TheVariants.{BadStream, ReadFault, Limit, Memory}
+use Rattle.swh_fastrows.specs.declared.fail.ReadFail.{ReadFail}
+use Rattle.swh_fastrows.specs.declared.fail.ReadFail.TheVariants.{BadStream, ReadFault, Limit, Memory}
 use Rattle.swh_fastread.specs.declared.items.Step.{Step}
 use Rattle.swh_fastread.specs.declared.items.Step.TheVariants.{Command, Promise, Nothing, End}
-use Rattle.swh_fastread.specs.Explains.{Explains, Reads, Stops, line_refusal}
-use Rattle.swh_fastread.specs.Held.{IsNext, EndsNext}
-use Rattle.swh_fastread.specs.Outcome.{IsStreamWithin, IsLineFaultWithin, IsEndFaultWithin, IsFaultWithin, PassesFirst, Ended, Starts}
-use Rattle.swh_fastread.specs.Places.{Place, left, Took, position}
+use Rattle.swh_fastrows.specs.Explains.{Explains, Reads, Stops, line_refusal}
+use Rattle.swh_fastrows.specs.Held.{IsNext, EndsNext}
+use Rattle.swh_fastrows.specs.Outcome.{IsStreamWithin, IsLineFaultWithin, IsEndFaultWithin, IsFaultWithin, PassesFirst, Ended, Starts}
+use Rattle.swh_fastrows.specs.Places.{Place, left, Took, position}
 use Rattle.swh_fastread.specs.Steps.{Whole, Passed, FindsCommand, EndsHere, FindsStep}
-use Rattle.swh_fastread.specs.Within.{LineFits, Fits}
+use Rattle.swh_fastrows.specs.Within.{LineFits, Fits}
 use Rattle.swh_fastread.proofs.Broken.{Unfinished, line_within, end_within, limit_first, no_row}
 use Rattle.swh_fastread.proofs.Comments.{comments_end, comments_explain}
-use Rattle.swh_fastread.proofs.Fitting.{endless_fits}
-use Rattle.swh_fastread.proofs.HeldLines.{taken, front_of, held_text, held_first, line_taken, next_fits, ending_fits}
-use Rattle.swh_fastread.proofs.Joins.{plain, plain_row, or-true, or-false, took_none, took_after}
-use Rattle.swh_fastread.proofs.NextLines.{closed_word, end_feeds}
+use Rattle.swh_fastrows.proofs.Fitting.{endless_fits}
+use Rattle.swh_fastrows.proofs.HeldLines.{taken, front_of, held_text, held_first, line_taken, next_fits, ending_fits}
+use Rattle.swh_fastrows.proofs.Joins.{plain, plain_row, or-true, or-false, took_none, took_after}
+use Rattle.swh_fastrows.proofs.NextLines.{closed_word, end_feeds}
 use Rattle.swh_fastread.proofs.Outcomes.{stream_carries, fault_carries, limit_carries, carries_with, starts_join}
 
 pub passed_none : (a : Place) (p : Bool) → Passed a a p p

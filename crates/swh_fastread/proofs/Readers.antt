@@ -2,9 +2,9 @@
 use Rattle.std.proofs.Common.{Bool, [], ◌∷◌, refl, Option, Some, None, Result, Ok, Err, IfOk}
 use Rattle.swh_fastgrammar.specs.declared.command.Command.{Command}
 use Rattle.swh_fastgrammar.specs.Grammar.Item.{Says}
-use Rattle.swh_fastread.specs.declared.fail.ReadFail.{ReadFail}
-use Rattle.swh_fastread.specs.Outcome.{StartsWith}
-use Rattle.swh_fastread.specs.Places.{Place, position}
+use Rattle.swh_fastrows.specs.declared.fail.ReadFail.{ReadFail}
+use Rattle.swh_fastrows.specs.Outcome.{StartsWith}
+use Rattle.swh_fastrows.specs.Places.{Place, position}
 use Rattle.swh_fastread.specs.Standing.{Standing, Answers}
 use Rattle.swh_fastread.specs.Steps.{FindsCommand, FindsNext}
 use Rattle.swh_fastread.proofs.Commands.{command_starts}

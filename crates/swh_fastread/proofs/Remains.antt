@@ -2,17 +2,17 @@
 -- remains there, and how its value makes the item.
 use Rattle.std.proofs.Common.{◌≡◌, ℕ, ◌+◌, inl, inr, Bool, true, false, if◌then◌else◌, List, [], ◌∷◌, ◌++◌, length, refl, sym, ap, ◌∙◌, subst, append_assoc, codes, Option, Some, None}
 use Rattle.swh_base.specs.declared.visit.Which.{Which}
-use Rattle.swh_fastread.specs.Explains.{PassesAfter, DataPassesAfter}
-use Rattle.swh_fastread.specs.Outcome.{IsLineFaultWithin, IsEndFaultWithin, PassesFirst, Ended}
+use Rattle.swh_fastrows.specs.Explains.{PassesAfter, DataPassesAfter}
+use Rattle.swh_fastrows.specs.Outcome.{IsLineFaultWithin, IsEndFaultWithin, PassesFirst, Ended}
 use Rattle.swh_fastgrammar.specs.Grammar.{◌▹◌, ◌▸◌, optional, many, Item, IsItem}
 pub use Rattle.swh_fastread.specs.Steps.{Whole}
-use Rattle.swh_fastread.specs.Places.{Place, left, Took, FirstLine, Refuses, Counts, Part, Lacks, OptionalPart, ManyParts, LineRefused, LineLacks, DataLacks, MayCount}
+use Rattle.swh_fastrows.specs.Places.{Place, left, Took, FirstLine, Refuses, Counts, Part, Lacks, OptionalPart, ManyParts, LineRefused, LineLacks, DataLacks, MayCount}
 use Rattle.swh_fastgrammar.specs.Row.{Row, row_text, text_of, begins_with, IsFeed, IsData, AreRows, Placed, placed, is_comment}
 use Rattle.swh_fastgrammar.proofs.Faults.{append_nil, row_cut}
 use Rattle.swh_fastgrammar.proofs.Parts.{Single, Begins, begins, single_cut}
-use Rattle.swh_fastread.proofs.Joins.{took_append, took_before}
+use Rattle.swh_fastrows.proofs.Joins.{took_append, took_before}
 use Rattle.swh_fastread.proofs.Onward.{rows_first}
-use Rattle.swh_fastread.proofs.Fitting.{endless_fits}
+use Rattle.swh_fastrows.proofs.Fitting.{endless_fits}
 use Rattle.swh_fastread.proofs.Broken.{Unfinished, Dead, line_within, end_within, limit_first, no_row, filled_stream, data_may_come, both_nil}
 
 -- The rows begin with the line that is next, if there are any.

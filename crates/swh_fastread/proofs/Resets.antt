@@ -7,20 +7,20 @@ use Rattle.swh_fastgrammar.specs.declared.command.Start.TheVariants.{Absent, NoT
 use Rattle.swh_fastgrammar.specs.declared.command.Command.{Command}
 use Rattle.swh_fastgrammar.specs.declared.command.Command.TheVariants.{Blob, Commit, Tag, Reset}
 use Rattle.swh_fastgrammar.specs.Fault.{IsFault}
-use Rattle.swh_fastread.specs.Explains.{IsClear, Reads, EndsWhole}
+use Rattle.swh_fastrows.specs.Explains.{IsClear, Reads, EndsWhole}
 use Rattle.swh_fastgrammar.specs.Grammar.{line_at, line, target, zeros, Item, IsItem, IsCommand}
 use Rattle.swh_fastgrammar.specs.Grammar.Item.{Says, Promise, Nothing}
-use Rattle.swh_fastread.specs.Held.{IsNext}
-use Rattle.swh_fastread.specs.Places.{Place, left, Took, FirstLine, MayCount, Lacks, LeadsTo, position}
+use Rattle.swh_fastrows.specs.Held.{IsNext}
+use Rattle.swh_fastrows.specs.Places.{Place, left, Took, FirstLine, MayCount, Lacks}
 use Rattle.swh_fastgrammar.specs.Row.{text_of, Opens, Placed, placed}
 use Rattle.swh_fastgrammar.specs.Word.{NamesRef, NamesCommit}
 use Rattle.swh_fastlines.proofs.ItemLines.{kind}
 use Rattle.swh_fastread.proofs.Begun.{after_single}
 use Rattle.swh_fastgrammar.proofs.Faults.{append_nil}
-use Rattle.swh_fastread.proofs.HeldLines.{taken, held_counts, line_taken}
+use Rattle.swh_fastrows.proofs.HeldLines.{taken, held_counts, line_taken}
 use Rattle.swh_fastgrammar.proofs.Items.{line_single}
-use Rattle.swh_fastread.proofs.Joins.{took_append, took_size, or-false}
-use Rattle.swh_fastread.proofs.NextLines.{same_next, clear_lacks, closed_word}
+use Rattle.swh_fastrows.proofs.Joins.{took_append, took_size, or-false}
+use Rattle.swh_fastrows.proofs.NextLines.{same_next, clear_lacks, closed_word}
 use Rattle.swh_fastgrammar.proofs.Parts.{cons_cut}
 use Rattle.swh_fastread.proofs.Commands.{reads_last}
 use Rattle.swh_fastread.proofs.Remains.{Within}

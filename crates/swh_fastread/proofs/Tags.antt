@@ -3,10 +3,10 @@ use Rattle.std.proofs.Common.{ℕ, Bool, List, [], ◌∷◌, ◌++◌, codes, O
 use Rattle.swh_fastgrammar.specs.declared.command.At.{At}
 use Rattle.swh_fastgrammar.specs.declared.command.Commitish.{Commitish}
 use Rattle.swh_fastgrammar.specs.declared.command.Command.TheVariants.{Tag}
-use Rattle.swh_fastread.specs.declared.fail.ReadFail.{ReadFail}
-use Rattle.swh_fastread.specs.Explains.{PartFails, DataFails, Explains, Reads, Stops}
+use Rattle.swh_fastrows.specs.declared.fail.ReadFail.{ReadFail}
+use Rattle.swh_fastrows.specs.Explains.{PartFails, DataFails, Explains, Reads, Stops}
 use Rattle.swh_fastgrammar.specs.Grammar.{◌▸◌, optional, line_at, contents, mark, oid, from, IsItem, IsCommand}
-use Rattle.swh_fastread.specs.Places.{Place, Took, Part, OptionalPart, FoundPart}
+use Rattle.swh_fastrows.specs.Places.{Place, Took, Part, OptionalPart, FoundPart}
 use Rattle.swh_fastgrammar.specs.Word.{NamesTag}
 use Rattle.swh_fastread.proofs.Begun.{tag_item, tag_begun, tag_after, stops_explain, part_explains, data_explains, data_end}
 use Rattle.swh_fastread.proofs.Blobs.{found, found_part}

@@ -1,9 +1,3 @@
-pub mod Explains
-pub mod Held
-pub mod Outside
-pub mod Places
-pub mod Within
-pub mod Outcome
 pub mod Tail
 pub mod Steps
 pub mod Standing

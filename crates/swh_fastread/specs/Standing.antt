@@ -3,11 +3,11 @@ use Rattle.std.specs.Prelude.{◌≡◌, Bool, List, [], ◌∷◌, Option, Some
 use Rattle.swh_fastgrammar.specs.declared.command.Command.{Command}
 use Rattle.swh_fastgrammar.specs.Grammar.{IsCommand}
 use Rattle.swh_fastgrammar.specs.Row.{Placed}
-use Rattle.swh_fastread.specs.declared.fail.ReadFail.{ReadFail}
+use Rattle.swh_fastrows.specs.declared.fail.ReadFail.{ReadFail}
 use Rattle.swh_fastread.specs.declared.reader.Ending.{Ending}
 use Rattle.swh_fastread.specs.declared.reader.Ending.TheVariants.{Open, AtEnd, Refused}
-use Rattle.swh_fastread.specs.Outcome.{StartsWith}
-use Rattle.swh_fastread.specs.Places.{Place, position}
+use Rattle.swh_fastrows.specs.Outcome.{StartsWith}
+use Rattle.swh_fastrows.specs.Places.{Place, position}
 use Rattle.swh_fastread.specs.Steps.{EndsHere}
 
 -- the place in the stream, whether `done` was promised, and how it ended

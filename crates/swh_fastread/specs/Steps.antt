@@ -7,10 +7,10 @@ use Rattle.swh_fastgrammar.specs.Grammar.Item.{Promise as Promises, Nothing as S
 use Rattle.swh_fastgrammar.specs.Row.{Placed}
 use Rattle.swh_fastread.specs.declared.items.Step.{Step}
 use Rattle.swh_fastread.specs.declared.items.Step.TheVariants.{Command, Promise, Nothing, End}
-use Rattle.swh_fastread.specs.declared.row_source.TheConstants.{STREAM_LIMIT}
-use Rattle.swh_fastread.specs.Explains.{Reads}
-use Rattle.swh_fastread.specs.Outcome.{IsStreamWithin, Ended, StartsWith}
-use Rattle.swh_fastread.specs.Places.{Place, left, Took, position}
+use Rattle.swh_fastrows.specs.declared.row_source.TheConstants.{STREAM_LIMIT}
+use Rattle.swh_fastrows.specs.Explains.{Reads}
+use Rattle.swh_fastrows.specs.Outcome.{IsStreamWithin, Ended, StartsWith}
+use Rattle.swh_fastrows.specs.Places.{Place, left, Took, position}
 
 -- The item was read, and no next line goes on with it.
 pub record Whole (old new : Place) (i : Item) : Type 0 where

@@ -11,10 +11,10 @@ use Rattle.swh_fastgrammar.specs.Grammar.{line_at, placed_line, from, many, chan
 use Rattle.swh_fastgrammar.specs.Row.{Placed}
 use Rattle.swh_fastgrammar.specs.Word.{NamesCommit}
 use Rattle.swh_fastlines.specs.Reading.{LineSays}
-use Rattle.swh_fastread.specs.declared.fail.ReadFail.{ReadFail}
-use Rattle.swh_fastread.specs.declared.fail.ReadFail.TheVariants.{BadStream, ReadFault, Limit, Memory}
-use Rattle.swh_fastread.specs.Explains.{DataFails, IsClear}
-use Rattle.swh_fastread.specs.Places.{Place, left, Took, Refuses, Counts, Part, position}
+use Rattle.swh_fastrows.specs.declared.fail.ReadFail.{ReadFail}
+use Rattle.swh_fastrows.specs.declared.fail.ReadFail.TheVariants.{BadStream, ReadFault, Limit, Memory}
+use Rattle.swh_fastrows.specs.Explains.{DataFails, IsClear}
+use Rattle.swh_fastrows.specs.Places.{Place, left, Took, Refuses, Counts, Part, position}
 
 -- It is known what comes next: a line is held, or no limit is passed.
 abbrev pub IsSure : Place → Bool → Type 0

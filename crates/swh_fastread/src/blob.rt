@@ -1,17 +1,14 @@
 // Blobs of a stream (git-fast-import(1), blob).
 ghost use Rattle.std.specs.Prelude.{◌≡◌, ◌≤◌, ◌++◌, ◌∷◌, [], Bool, codes, IfOk, IfErr, IsErrOf, ◌<◌};
 ghost use Rattle.swh_outside.specs.Faults.{Rose};
-ghost use Rattle.swh_fastread.specs.declared.fail.ReadFail.TheVariants.{ReadFault as SourceFailed};
-ghost use Rattle.swh_fastread.specs.Explains.{Explains, Reads};
+ghost use Rattle.swh_fastrows.specs.declared.fail.ReadFail.TheVariants.{ReadFault as SourceFailed};
+ghost use Rattle.swh_fastrows.specs.Explains.{Explains, Reads};
 ghost use Rattle.swh_fastgrammar.specs.Givable.{IsGivable};
 ghost use Rattle.swh_fastgrammar.specs.Grammar.{IsCommand};
-ghost use Rattle.swh_fastread.specs.Held.{IsNext};
+ghost use Rattle.swh_fastrows.specs.Held.{IsNext};
 
-use crate::data::data;
-use crate::fail::ReadFail;
-use crate::optional::{optional_mark, skip_oid};
-use crate::row_source::Rows;
 use swh_fastgrammar::Command;
+use swh_fastrows::{ReadFail, Rows, data, optional_mark, skip_oid};
 use swh_outside::Source;
 
 /// The blob that the held line begins.

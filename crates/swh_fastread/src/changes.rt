@@ -1,20 +1,17 @@
 // Changes of a commit (git-fast-import(1), filemodify, filedelete, filecopy, filerename, filedeleteall).
 ghost use Rattle.std.specs.Prelude.{◌≡◌, ◌≤◌, ◌<◌, true, false, IfOk, IfErr, IfSome, IsErrOf};
 ghost use Rattle.swh_outside.specs.Faults.{Rose};
-ghost use Rattle.swh_fastread.specs.declared.fail.ReadFail.TheVariants.{ReadFault as SourceFailed};
-ghost use Rattle.swh_fastread.specs.Explains.{EndsWhole};
+ghost use Rattle.swh_fastrows.specs.declared.fail.ReadFail.TheVariants.{ReadFault as SourceFailed};
+ghost use Rattle.swh_fastrows.specs.Explains.{EndsWhole};
 ghost use Rattle.swh_fastgrammar.specs.Givable.{IsGivableChange, AreGivable};
 ghost use Rattle.swh_fastgrammar.specs.Grammar.{change};
-ghost use Rattle.swh_fastread.specs.Held.{IsNext};
+ghost use Rattle.swh_fastrows.specs.Held.{IsNext};
 ghost use Rattle.swh_fastread.specs.Tail.{FindsChange, ChangeFails, ChangesFail, ReadsAll};
 
-use crate::data::data;
-use crate::fail::ReadFail;
-use crate::row_source::Rows;
-use crate::whole::next_line;
 use swh_base::Items;
 use swh_fastgrammar::{At, Change, Dataref};
 use swh_fastlines::{ChangeLine, change_line};
+use swh_fastrows::{ReadFail, Rows, data, next_line};
 use swh_outside::Source;
 
 /// The change that the held line is, with the data that follow it where they are inline.

@@ -1,20 +1,17 @@
 // Commits of a stream (git-fast-import(1), commit).
 ghost use Rattle.std.specs.Prelude.{◌≡◌, ◌≤◌, ◌++◌, ◌∷◌, [], Bool, codes, IfOk, IfErr, IsErrOf, ◌<◌};
 ghost use Rattle.swh_outside.specs.Faults.{Rose};
-ghost use Rattle.swh_fastread.specs.declared.fail.ReadFail.TheVariants.{ReadFault as SourceFailed};
-ghost use Rattle.swh_fastread.specs.Explains.{Explains, Reads};
+ghost use Rattle.swh_fastrows.specs.declared.fail.ReadFail.TheVariants.{ReadFault as SourceFailed};
+ghost use Rattle.swh_fastrows.specs.Explains.{Explains, Reads};
 ghost use Rattle.swh_fastgrammar.specs.Givable.{IsGivable};
 ghost use Rattle.swh_fastgrammar.specs.Grammar.{IsCommand};
-ghost use Rattle.swh_fastread.specs.Held.{IsNext};
+ghost use Rattle.swh_fastrows.specs.Held.{IsNext};
 ghost use Rattle.swh_fastgrammar.specs.Word.{NamesRef};
 
-use crate::data::data;
-use crate::fail::ReadFail;
-use crate::optional::{optional_encoding, optional_mark, optional_person, person, skip_oid};
-use crate::row_source::Rows;
 use crate::tail::read_tail;
 use swh_base::Bytes;
 use swh_fastgrammar::Command;
+use swh_fastrows::{ReadFail, Rows, data, optional_encoding, optional_mark, optional_person, person, skip_oid};
 use swh_outside::Source;
 
 /// The commit to this ref that the held line begins. It is whole after its data, and after each whole change.

@@ -2,21 +2,19 @@
 ghost use Rattle.std.specs.Prelude.{◌≡◌, ◌≤◌, ◌^◌, false, Bool, IfOk, IfErr, IfSome, IsErrOf, ◌<◌};
 ghost use Rattle.swh_outside.specs.Faults.{Rose};
 ghost use Rattle.swh_fastgrammar.specs.Givable.{IsGivable};
-ghost use Rattle.swh_fastread.specs.declared.fail.ReadFail.TheVariants.{ReadFault as SourceFailed};
-ghost use Rattle.swh_fastread.specs.Explains.{Explains};
-ghost use Rattle.swh_fastread.specs.Held.{IsNext, EndsNext};
+ghost use Rattle.swh_fastrows.specs.declared.fail.ReadFail.TheVariants.{ReadFault as SourceFailed};
+ghost use Rattle.swh_fastrows.specs.Explains.{Explains};
+ghost use Rattle.swh_fastrows.specs.Held.{IsNext, EndsNext};
 ghost use Rattle.swh_fastread.specs.Steps.{FindsStep, FindsNext, Moves, StepGivable};
 
 use crate::blob::read_blob;
 use crate::commit::read_commit;
-use crate::fail::ReadFail;
-use crate::peek::{peek, refused_line};
 use crate::reset::read_reset;
-use crate::row_source::Rows;
 use crate::tag::read_tag;
 use swh_base::Which;
 use swh_fastgrammar::{Command, StreamWhy};
 use swh_fastlines::{ItemLine, item_line};
+use swh_fastrows::{ReadFail, Rows, peek, refused_line};
 use swh_outside::Source;
 
 /// What stands at a command's place.

@@ -4,8 +4,8 @@ ghost use Rattle.std.specs.Prelude.{◌≡◌, ◌++◌, ℕ, Bool, List};
 ghost use Rattle.swh_base.specs.declared.visit.Which.{Which as Limit};
 ghost use Rattle.swh_fastgrammar.specs.declared.command.Command.{Command as Said};
 ghost use Rattle.swh_fastgrammar.specs.declared.fault.StreamWhy.{StreamWhy as Why};
-ghost use Rattle.swh_fastread.specs.Outcome.{IsStreamWithin, IsFaultWithin, PassesFirst, StartsWith};
-ghost use Rattle.swh_fastread.specs.Places.{Position};
+ghost use Rattle.swh_fastrows.specs.Outcome.{IsStreamWithin, IsFaultWithin, PassesFirst, StartsWith};
+ghost use Rattle.swh_fastrows.specs.Places.{Position};
 
 /// A text that starts with whole commands is these, and what it is from where they end.
 pub fn starts_go_on()

@@ -2,19 +2,18 @@
 ghost use Rattle.std.specs.Prelude.{◌≡◌, ◌≤◌, ◌⊎◌, [], false, IfOk, IfErr, IfSome, IsErrOf, ◌<◌, ◌^◌};
 ghost use Rattle.swh_outside.specs.Faults.{Rose};
 ghost use Rattle.swh_fastgrammar.specs.Givable.{IsGivable};
-ghost use Rattle.swh_fastread.specs.declared.fail.ReadFail.TheVariants.{ReadFault as SourceFailed};
+ghost use Rattle.swh_fastrows.specs.declared.fail.ReadFail.TheVariants.{ReadFault as SourceFailed};
 ghost use Rattle.swh_fastread.specs.declared.reader.Ending.TheVariants.{Open as IsOpen, Refused as IsRefused};
-ghost use Rattle.swh_fastread.specs.Explains.{Explains};
+ghost use Rattle.swh_fastrows.specs.Explains.{Explains};
 ghost use Rattle.swh_fastread.specs.Standing.{Answers, Repeats, ending_of};
 ghost use Rattle.swh_fastread.specs.Steps.{FindsNext};
 
-use crate::fail::ReadFail;
 use crate::items::{Next, read_next};
-use crate::row_source::Rows;
 use std::alloc::Global;
 use std::marker::Model;
 use swh_fastgrammar::Command;
 use swh_fastlex::Window;
+use swh_fastrows::{ReadFail, Rows};
 use swh_outside::Source;
 
 /// How a reader ended.

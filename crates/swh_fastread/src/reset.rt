@@ -1,20 +1,18 @@
 // Resets of a stream (git-fast-import(1), reset).
 ghost use Rattle.std.specs.Prelude.{◌≡◌, ◌≤◌, ◌++◌, ◌∷◌, [], codes, IfOk, IfErr, IsErrOf, ◌<◌};
 ghost use Rattle.swh_outside.specs.Faults.{Rose};
-ghost use Rattle.swh_fastread.specs.declared.fail.Outside.TheVariants.{Failed};
-ghost use Rattle.swh_fastread.specs.Explains.{Reads};
+ghost use Rattle.swh_fastrows.specs.declared.fail.Outside.TheVariants.{Failed};
+ghost use Rattle.swh_fastrows.specs.Explains.{Reads};
 ghost use Rattle.swh_fastgrammar.specs.Givable.{IsGivable};
 ghost use Rattle.swh_fastgrammar.specs.Grammar.{target, IsCommand};
-ghost use Rattle.swh_fastread.specs.Held.{IsNext};
+ghost use Rattle.swh_fastrows.specs.Held.{IsNext};
 ghost use Rattle.swh_fastgrammar.specs.Word.{NamesRef};
 
-use crate::fail::Outside;
-use crate::row_source::Rows;
-use crate::whole::next_line;
 use swh_base::Bytes;
 use swh_fastgrammar::{At, Command, Start};
 use swh_fastlex::Word;
 use swh_fastlines::{commit_word, is_zeros};
+use swh_fastrows::{Outside, Rows, next_line};
 use swh_outside::Source;
 use swh_pieces::behind;
 

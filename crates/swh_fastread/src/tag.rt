@@ -1,19 +1,16 @@
 // Tags of a stream (git-fast-import(1), tag).
 ghost use Rattle.std.specs.Prelude.{◌≡◌, ◌≤◌, ◌++◌, ◌∷◌, [], Bool, codes, IfOk, IfErr, IsErrOf, ◌<◌};
 ghost use Rattle.swh_outside.specs.Faults.{Rose};
-ghost use Rattle.swh_fastread.specs.declared.fail.ReadFail.TheVariants.{ReadFault as SourceFailed};
-ghost use Rattle.swh_fastread.specs.Explains.{Explains, Reads};
+ghost use Rattle.swh_fastrows.specs.declared.fail.ReadFail.TheVariants.{ReadFault as SourceFailed};
+ghost use Rattle.swh_fastrows.specs.Explains.{Explains, Reads};
 ghost use Rattle.swh_fastgrammar.specs.Givable.{IsGivable};
 ghost use Rattle.swh_fastgrammar.specs.Grammar.{IsCommand};
-ghost use Rattle.swh_fastread.specs.Held.{IsNext};
+ghost use Rattle.swh_fastrows.specs.Held.{IsNext};
 ghost use Rattle.swh_fastgrammar.specs.Word.{NamesTag};
 
-use crate::data::data;
-use crate::fail::ReadFail;
-use crate::optional::{named_commit, optional_mark, optional_person, skip_oid};
-use crate::row_source::Rows;
 use swh_base::Bytes;
 use swh_fastgrammar::Command;
+use swh_fastrows::{ReadFail, Rows, data, named_commit, optional_mark, optional_person, skip_oid};
 use swh_outside::Source;
 
 /// The tag of this name that the held line begins.

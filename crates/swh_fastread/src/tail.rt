@@ -1,22 +1,19 @@
 // What may follow a commit's data (git-fast-import(1), from, merge).
 ghost use Rattle.std.specs.Prelude.{◌≡◌, ◌≤◌, true, false, codes, IfOk, IfErr, IsErrOf};
 ghost use Rattle.swh_outside.specs.Faults.{Rose};
-ghost use Rattle.swh_fastread.specs.declared.fail.Outside.TheVariants.{Failed};
-ghost use Rattle.swh_fastread.specs.declared.fail.ReadFail.TheVariants.{ReadFault as SourceFailed};
-ghost use Rattle.swh_fastread.specs.Explains.{EndsWhole};
+ghost use Rattle.swh_fastrows.specs.declared.fail.Outside.TheVariants.{Failed};
+ghost use Rattle.swh_fastrows.specs.declared.fail.ReadFail.TheVariants.{ReadFault as SourceFailed};
+ghost use Rattle.swh_fastrows.specs.Explains.{EndsWhole};
 ghost use Rattle.swh_fastgrammar.specs.Givable.{AreGivable};
 ghost use Rattle.swh_fastgrammar.specs.Grammar.{placed_line, start_of};
 ghost use Rattle.swh_fastgrammar.specs.Word.{NamesCommit};
-ghost use Rattle.swh_fastread.specs.Held.{IsNext};
+ghost use Rattle.swh_fastrows.specs.Held.{IsNext};
 ghost use Rattle.swh_fastread.specs.Tail.{ReadsFrom, ReadsAll, ReadsStart, TailFails};
 
 use crate::changes::read_changes;
-use crate::fail::{Outside, ReadFail};
-use crate::part_lines::commit_line;
-use crate::row_source::Rows;
-use crate::whole::next_line;
 use swh_base::Items;
 use swh_fastgrammar::{At, Change, Commitish, Start};
+use swh_fastrows::{Outside, ReadFail, Rows, commit_line, next_line};
 use swh_outside::Source;
 
 /// The parent that a line `from` names, if one came, and whether a line is held then.

@@ -12,8 +12,8 @@ use Rattle.swh_model.specs.Step.{HasItsChildrenAndName}
 use Rattle.swh_base.specs.Snapshot.{snapshot_name}
 use Rattle.swh_model.proofs.Certificates.{certified-closed}
 use Rattle.swh_object.specs.Object.{IsObject}
-use Rattle.swh_fastload.specs.declared.objects.Objects.{Objects}
-use Rattle.swh_fastload.specs.Whole.{names_of, HasChildrenAmong, AreWhole, HasAllThatIsReached}
+use Rattle.swh_fastmeaning.specs.declared.objects.Objects.{Objects}
+use Rattle.swh_fastmeaning.specs.Whole.{names_of, HasChildrenAmong, AreWhole, HasAllThatIsReached}
 use Rattle.swh_loader.specs.Sending.{AllHeld}
 use Rattle.swh_loader.proofs.Limiting.{at_element}
 

@@ -6,7 +6,7 @@ ghost use Rattle.swh_outside.specs.Views.{disks, sources};
 ghost use Rattle.swh_model.specs.Archive.{IsClosed};
 ghost use Rattle.swh_model.specs.Step.{FitsStatus};
 ghost use Rattle.swh_base.specs.Snapshot.{snapshot_name};
-ghost use Rattle.swh_fastload.specs.Whole.{HasAllThatIsReached};
+ghost use Rattle.swh_fastmeaning.specs.Whole.{HasAllThatIsReached};
 ghost use Rattle.swh_loader.specs.declared.fault.LoadWhy.TheVariants.{Memory as OutOfMemory};
 ghost use Rattle.swh_loader.specs.declared.end.BadInput.TheVariants.{Read as BadRead};
 ghost use Rattle.swh_loader.specs.declared.end.End.TheVariants.{Full as EndFull, NotFound as EndNotFound};

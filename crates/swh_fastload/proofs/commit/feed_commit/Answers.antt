@@ -5,10 +5,10 @@ use Rattle.swh_base.specs.Name.{IsId}
 use Rattle.swh_base.specs.Manifest.{IsWellFormed}
 use Rattle.swh_revfmt.specs.Plain.{plain_revision_text}
 use Rattle.swh_trees.specs.Grove.{IsBelow}
-use Rattle.swh_fastload.specs.Commands.{revision_parts}
+use Rattle.swh_fastmeaning.specs.Commands.{revision_parts}
 use Rattle.swh_fastload.specs.Committing.{GivesCommit, commit_made, rest_of}
-use Rattle.swh_fastload.specs.Parting.{stock_of, ExplainsBody}
-use Rattle.swh_fastload.specs.Stock.{AreReady}
+use Rattle.swh_fastmeaning.specs.Parting.{stock_of, ExplainsBody}
+use Rattle.swh_fastmeaning.specs.Stock.{AreReady}
 use Rattle.swh_fastload.proofs.ParentsFound.{first_among}
 use Rattle.swh_fastload.proofs.CommitsLed.{body_good, all_ready, commit_refused, commit_leads}
 use Rattle.swh_fastload.proofs.commit.feed_commit.Goals as goal

@@ -1,7 +1,7 @@
 use Rattle.std.proofs.lemmas.Result.{err_from_is_err_and}
 use Rattle.std.proofs.Common.{Ok, sym, ap, ◌∙◌}
 use Rattle.std.specs.Option.{option_map}
-use Rattle.swh_fastload.specs.Tips.{aim_of}
+use Rattle.swh_fastmeaning.specs.Tips.{aim_of}
 use Rattle.swh_trees.specs.Grove.{map_of}
 use Rattle.swh_fastload.proofs.CommitsMade.{first_missing, merge_missing, tree_refused, starts_at, start_is_tree, ok_is}
 use Rattle.swh_fastload.proofs.commit.prepare.Goals as goal

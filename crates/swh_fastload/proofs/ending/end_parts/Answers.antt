@@ -1,10 +1,10 @@
 use Rattle.std.proofs.Common.{◌≡◌, ◌≤◌, ℕ, length, map, sym, ◌∙◌, subst}
 use Rattle.std.specs.Option.{option_copied}
 use Rattle.swh_trees.specs.Grove.{map_of}
-use Rattle.swh_fastload.specs.Aims.{aims_with}
-use Rattle.swh_fastload.specs.Ending.{ExplainsEnd}
-use Rattle.swh_fastload.proofs.ChangesMade.{if_err}
-use Rattle.swh_fastload.proofs.HeadSides.{tips_good, end_same, ends_parts, kids_given}
+use Rattle.swh_fastmeaning.specs.Aims.{aims_with}
+use Rattle.swh_fastmeaning.specs.Ending.{ExplainsEnd}
+use Rattle.swh_fastmeaning.proofs.ChangesMade.{if_err}
+use Rattle.swh_fastmeaning.proofs.HeadSides.{tips_good, end_same, ends_parts, kids_given}
 use Rattle.swh_fastload.proofs.ending.end_parts.Goals as goal
 
 pub make_snapshot-requires-clause-branches : goal.make_snapshot-requires-clause-branches

@@ -1,16 +1,16 @@
 use Rattle.std.proofs.Common.{◌≡◌, ◌≤◌, inl, List, map, length, refl, sym, ap, ◌∙◌, subst, arith}
 use Rattle.std.specs.Option.{option_copied}
 use Rattle.swh_base.specs.Snapshot.{AreBranches, snapshot_text}
-use Rattle.swh_fastload.specs.Making.{made_from}
-use Rattle.swh_fastload.proofs.SnapshotKids.{snapshot_good}
+use Rattle.swh_fastmeaning.specs.Making.{made_from}
+use Rattle.swh_fastmeaning.proofs.SnapshotKids.{snapshot_good}
 use Rattle.swh_model.specs.Meaning.{with_head}
-use Rattle.swh_fastload.specs.Snapshots.{tip_branch, refs_of, snapshot_of}
-use Rattle.swh_fastload.specs.Ending.{ExplainsEnd, refs_limit}
-use Rattle.swh_fastload.specs.Parting.{ExplainsBody}
-use Rattle.swh_fastload.specs.Seen.{object_of}
+use Rattle.swh_fastmeaning.specs.Snapshots.{tip_branch, refs_of, snapshot_of}
+use Rattle.swh_fastmeaning.specs.Ending.{ExplainsEnd, refs_limit}
+use Rattle.swh_fastmeaning.specs.Parting.{ExplainsBody}
+use Rattle.swh_fastmeaning.specs.Seen.{object_of}
 use Rattle.swh_base.specs.declared.kind.Kind.TheVariants.{Snapshot}
-use Rattle.swh_fastload.proofs.ChangesMade.{if_ok, if_err}
-use Rattle.swh_fastload.proofs.HeadSides.{joined_is, branches_good, count_is, end_refused}
+use Rattle.swh_fastmeaning.proofs.ChangesMade.{if_ok, if_err}
+use Rattle.swh_fastmeaning.proofs.HeadSides.{joined_is, branches_good, count_is, end_refused}
 use Rattle.swh_fastload.proofs.ending.make_snapshot.Goals as goal
 
 pub returns-then-number-gt-REFS_LIMIT-clause-err : goal.returns-then-number-gt-REFS_LIMIT-clause-err

@@ -1,11 +1,11 @@
 use Rattle.std.proofs.Common.{List, ℕ, ap, sym, ◌∙◌, subst}
 use Rattle.std.proofs.lemmas.Result.{err_from_is_err_and}
 use Rattle.swh_base.specs.declared.kind.Kind.TheVariants.{Content}
-use Rattle.swh_fastload.specs.Seen.{object_of}
-use Rattle.swh_fastload.specs.Stock.{GivesOwn}
-use Rattle.swh_fastload.specs.Tips.{aim_of}
-use Rattle.swh_fastload.specs.Parting.{stock_of, ExplainsBody}
-use Rattle.swh_fastload.proofs.Leadings.{blob_leads, blob_refused}
+use Rattle.swh_fastmeaning.specs.Seen.{object_of}
+use Rattle.swh_fastmeaning.specs.Stock.{GivesOwn}
+use Rattle.swh_fastmeaning.specs.Tips.{aim_of}
+use Rattle.swh_fastmeaning.specs.Parting.{stock_of, ExplainsBody}
+use Rattle.swh_fastmeaning.proofs.Leadings.{blob_leads, blob_refused}
 use Rattle.swh_fastload.proofs.feeding.feed_blob.Goals as goal
 
 pub returns-in_err-target-clause-err : goal.returns-in_err-target-clause-err

@@ -1,7 +1,7 @@
 use Rattle.std.proofs.lemmas.Result.{err_from_is_err_and}
-use Rattle.swh_fastload.specs.Tips.{aim_of}
-use Rattle.swh_fastload.specs.Parting.{stock_of}
-use Rattle.swh_fastload.proofs.Leadings.{reset_absent, reset_to, reset_refused}
+use Rattle.swh_fastmeaning.specs.Tips.{aim_of}
+use Rattle.swh_fastmeaning.specs.Parting.{stock_of}
+use Rattle.swh_fastmeaning.proofs.Leadings.{reset_absent, reset_to, reset_refused}
 use Rattle.swh_fastload.proofs.feeding.feed_reset.Goals as goal
 
 pub returns-in_err-target-in-Of-clause-err : goal.returns-in_err-target-in-Of-clause-err

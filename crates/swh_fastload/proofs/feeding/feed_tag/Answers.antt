@@ -2,13 +2,13 @@ use Rattle.std.proofs.Common.{List, ℕ, ap, sym, ◌∙◌, subst}
 use Rattle.std.proofs.lemmas.Result.{err_from_is_err_and}
 use Rattle.swh_base.specs.declared.kind.Kind.TheVariants.{Release}
 use Rattle.swh_base.specs.Manifest.{IsWellFormed}
-use Rattle.swh_fastload.specs.Commands.{release_parts}
-use Rattle.swh_fastload.specs.Seen.{object_of}
-use Rattle.swh_fastload.specs.Stock.{GivesOwn, IsReady}
-use Rattle.swh_fastload.specs.Tips.{aim_of}
-use Rattle.swh_fastload.specs.Parting.{stock_of, ExplainsBody}
-use Rattle.swh_fastload.proofs.AimForms.{object_among}
-use Rattle.swh_fastload.proofs.Tags.{named_id, release_good, release_ready, tag_missing, tag_refused, tag_leads}
+use Rattle.swh_fastmeaning.specs.Commands.{release_parts}
+use Rattle.swh_fastmeaning.specs.Seen.{object_of}
+use Rattle.swh_fastmeaning.specs.Stock.{GivesOwn, IsReady}
+use Rattle.swh_fastmeaning.specs.Tips.{aim_of}
+use Rattle.swh_fastmeaning.specs.Parting.{stock_of, ExplainsBody}
+use Rattle.swh_fastmeaning.proofs.AimForms.{object_among}
+use Rattle.swh_fastmeaning.proofs.Tags.{named_id, release_good, release_ready, tag_missing, tag_refused, tag_leads}
 use Rattle.swh_fastload.proofs.feeding.feed_tag.Goals as goal
 
 pub returns-in_err-found-clause-err : goal.returns-in_err-found-clause-err

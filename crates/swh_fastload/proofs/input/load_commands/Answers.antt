@@ -1,7 +1,7 @@
 use Rattle.std.proofs.Common.{◌≡◌, ◌≤◌, arith, inl, inr, refl, sym, ap, ◌∙◌, subst, [], ◌∷◌, Some, None, Ok, Err}
 use Rattle.swh_outside.specs.Faults.{Rose}
-use Rattle.swh_fastread.specs.declared.fail.ReadFail.TheVariants.{ReadFault as SourceFailed}
-use Rattle.swh_fastread.specs.Places.{left, position}
+use Rattle.swh_fastrows.specs.declared.fail.ReadFail.TheVariants.{ReadFault as SourceFailed}
+use Rattle.swh_fastrows.specs.Places.{left, position}
 use Rattle.swh_fastload.specs.Reading.{FailsSo}
 use Rattle.swh_fastload.proofs.Readings.{nothing_given, nothing_come, given_more, come_more, read_fails, feed_fails, rose_since, led, still_open}
 use Rattle.swh_fastload.proofs.input.load_commands.Goals as goal

@@ -1,5 +1,5 @@
 use Rattle.std.proofs.Common.{◌≡◌, ◌≤◌, ◌^◌, ◌-◌}
-use Rattle.swh_fastread.specs.Places.{left, position}
+use Rattle.swh_fastrows.specs.Places.{left, position}
 use Rattle.swh_fastread.specs.declared.reader.Ending.TheVariants.{Open}
 use Rattle.swh_fastload.specs.Reading.{HasGiven, HasCome}
 use Rattle.swh_fastload.proofs.input.load_commands.Given as goal

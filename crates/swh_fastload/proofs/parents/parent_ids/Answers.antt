@@ -1,7 +1,7 @@
 use Rattle.std.proofs.Common.{arith}
 use Rattle.std.proofs.lemmas.Result.{err_from_is_err_and}
 use Rattle.std.specs.Option.{option_map}
-use Rattle.swh_fastload.specs.Tips.{aim_of}
+use Rattle.swh_fastmeaning.specs.Tips.{aim_of}
 use Rattle.swh_fastload.proofs.ParentsFound.{no_first, one_found, one_missing, all_found}
 use Rattle.swh_fastload.proofs.parents.parent_ids.Goals as goal
 

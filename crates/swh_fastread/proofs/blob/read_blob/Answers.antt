@@ -1,6 +1,6 @@
 use Rattle.std.proofs.Common.{codes, refl, []}
 use Rattle.std.proofs.lemmas.Result.{err_from_is_err_and}
-use Rattle.swh_fastread.proofs.NextLines.{took_held}
+use Rattle.swh_fastrows.proofs.NextLines.{took_held}
 use Rattle.swh_fastread.proofs.Blobs.{mark_fails, oid_fails, blob_reads, blob_fails}
 use Rattle.swh_fastread.proofs.blob.read_blob.Goals as goal
 

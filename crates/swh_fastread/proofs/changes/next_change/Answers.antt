@@ -6,9 +6,9 @@ use Rattle.swh_fastgrammar.specs.declared.command.Change.TheVariants.{Set}
 use Rattle.swh_fastgrammar.specs.declared.command.Dataref.TheVariants.{Inline}
 use Rattle.swh_fastgrammar.specs.Grammar.{contents, change}
 use Rattle.swh_fastgrammar.proofs.Givable.{change_givable}
-use Rattle.swh_fastread.specs.Explains.{DataFails}
-use Rattle.swh_fastread.specs.Places.{Place, Part}
-use Rattle.swh_fastread.proofs.HeldLines.{taken}
+use Rattle.swh_fastrows.specs.Explains.{DataFails}
+use Rattle.swh_fastrows.specs.Places.{Place, Part}
+use Rattle.swh_fastrows.proofs.HeldLines.{taken}
 use Rattle.swh_fastread.proofs.ReadChanges.{change_taken, whole_change, inline_change, stopped_change, clear_path}
 use Rattle.swh_fastread.proofs.changes.next_change.Goals as goal
 

@@ -1,8 +1,8 @@
 use Rattle.std.proofs.Common.{◌≡◌, ◌≤◌, ◌^◌, ◌-◌, true, false}
 use Rattle.swh_fastgrammar.specs.Givable.{AreGivable}
 use Rattle.swh_fastgrammar.specs.Grammar.{change}
-use Rattle.swh_fastread.specs.Explains.{EndsWhole}
-use Rattle.swh_fastread.specs.Held.{IsNext}
+use Rattle.swh_fastrows.specs.Explains.{EndsWhole}
+use Rattle.swh_fastrows.specs.Held.{IsNext}
 use Rattle.swh_fastread.specs.Tail.{ReadsSome}
 use Rattle.swh_fastread.proofs.changes.read_changes.Given as goal
 

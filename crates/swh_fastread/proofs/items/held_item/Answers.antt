@@ -1,11 +1,11 @@
 use Rattle.std.proofs.Common.{codes, refl, [], ◌∷◌, ◌++◌, ◌≡◌, sym, ap, ◌∙◌, subst, List, ℕ, Bool, true}
 use Rattle.std.proofs.lemmas.Result.{err_from_is_err_and}
-use Rattle.swh_fastread.specs.declared.fail.ReadFail.TheVariants.{ReadFault as SourceFailed}
-use Rattle.swh_fastread.specs.Explains.{line_refusal}
-use Rattle.swh_fastread.specs.Places.{Place}
+use Rattle.swh_fastrows.specs.declared.fail.ReadFail.TheVariants.{ReadFault as SourceFailed}
+use Rattle.swh_fastrows.specs.Explains.{line_refusal}
+use Rattle.swh_fastrows.specs.Places.{Place}
 use Rattle.swh_fastgrammar.specs.Grammar.Item.{Promise as Promises, Nothing as Silent}
 use Rattle.swh_fastread.specs.Steps.{Whole}
-use Rattle.swh_fastread.proofs.NextLines.{no_read_fault}
+use Rattle.swh_fastrows.proofs.NextLines.{no_read_fault}
 use Rattle.swh_fastread.proofs.ReadItems.{same_line, same_fail, promise_taken, silent_taken, done_ends, ref_passes, line_explains}
 use Rattle.swh_fastread.proofs.items.held_item.Goals as goal
 

@@ -1,7 +1,7 @@
 use Rattle.std.proofs.Common.{List}
 use Rattle.swh_fastgrammar.specs.declared.command.Command.{Command}
-use Rattle.swh_fastread.specs.Outcome.{IsStreamWithin, IsFaultWithin, PassesFirst}
-use Rattle.swh_fastread.specs.Places.{Position}
+use Rattle.swh_fastrows.specs.Outcome.{IsStreamWithin, IsFaultWithin, PassesFirst}
+use Rattle.swh_fastrows.specs.Places.{Position}
 use Rattle.swh_fastread.proofs.Outcomes.{carries_with, stream_carries, fault_carries, limit_carries, starts_join}
 use Rattle.swh_fastread.proofs.laws.starts_go_on.Goals as goal
 

@@ -1,5 +1,5 @@
 use Rattle.std.proofs.Common.{codes, refl}
-use Rattle.swh_fastread.proofs.NextLines.{took_held}
+use Rattle.swh_fastrows.proofs.NextLines.{took_held}
 use Rattle.swh_fastread.proofs.Resets.{reset_reads}
 use Rattle.swh_fastread.proofs.reset.read_reset.Goals as goal
 

@@ -2,9 +2,9 @@ use Rattle.std.proofs.Common.{sym, subst}
 use Rattle.swh_fastgrammar.specs.declared.command.At.{At}
 use Rattle.swh_fastgrammar.specs.declared.command.Commitish.{Commitish}
 use Rattle.swh_fastgrammar.specs.declared.command.Start.TheVariants.{NoTip, Of}
-use Rattle.swh_fastread.specs.Explains.{Reads}
+use Rattle.swh_fastrows.specs.Explains.{Reads}
 use Rattle.swh_fastgrammar.specs.Grammar.{target}
-use Rattle.swh_fastread.specs.Places.{Place}
+use Rattle.swh_fastrows.specs.Places.{Place}
 use Rattle.swh_fastlines.proofs.LongRefs.{long_names_none}
 use Rattle.swh_fastread.proofs.Resets.{absent_end, absent_line, no_tip, some_tip, never_target, not_so, so}
 use Rattle.swh_fastread.proofs.reset.reset_target.Goals as goal

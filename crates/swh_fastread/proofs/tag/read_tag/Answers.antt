@@ -1,6 +1,6 @@
 use Rattle.std.proofs.Common.{codes, refl}
 use Rattle.std.proofs.lemmas.Result.{err_from_is_err_and}
-use Rattle.swh_fastread.proofs.NextLines.{took_held}
+use Rattle.swh_fastrows.proofs.NextLines.{took_held}
 use Rattle.swh_fastread.proofs.Tags.{mark_fails, oid_fails, tagger_fails, marked, aimed, named, tagged, tag_reads, aim_fails, tag_fails}
 use Rattle.swh_fastread.proofs.tag.read_tag.Goals as goal
 

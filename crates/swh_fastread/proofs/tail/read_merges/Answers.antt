@@ -4,10 +4,10 @@ use Rattle.swh_fastgrammar.specs.Word.{NamesCommit}
 use Rattle.swh_fastgrammar.specs.declared.command.At.{At}
 use Rattle.swh_fastgrammar.specs.declared.command.Commitish.{Commitish}
 use Rattle.swh_fastgrammar.proofs.Items.{merge}
-use Rattle.swh_fastread.specs.Places.{Place, Part}
+use Rattle.swh_fastrows.specs.Places.{Place, Part}
 use Rattle.swh_fastread.specs.Tail.{ReadsSome}
-use Rattle.swh_fastread.proofs.Joins.{took_none}
-use Rattle.swh_fastread.proofs.NextLines.{part_placed}
+use Rattle.swh_fastrows.proofs.Joins.{took_none}
+use Rattle.swh_fastrows.proofs.NextLines.{part_placed}
 use Rattle.swh_fastread.proofs.ReadChanges.{some_more, all_end, all_line, stopped_placed, not_both}
 use Rattle.swh_fastread.proofs.tail.read_merges.Goals as goal
 

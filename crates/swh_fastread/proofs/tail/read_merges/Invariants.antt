@@ -1,8 +1,8 @@
 use Rattle.std.proofs.Common.{◌≡◌, ◌≤◌, ◌^◌, ◌-◌, true, false, codes}
 use Rattle.swh_fastgrammar.specs.Grammar.{placed_line}
 use Rattle.swh_fastgrammar.specs.Word.{NamesCommit}
-use Rattle.swh_fastread.specs.Explains.{EndsWhole}
-use Rattle.swh_fastread.specs.Held.{IsNext}
+use Rattle.swh_fastrows.specs.Explains.{EndsWhole}
+use Rattle.swh_fastrows.specs.Held.{IsNext}
 use Rattle.swh_fastread.specs.Tail.{ReadsSome}
 use Rattle.swh_fastread.proofs.tail.read_merges.Given as goal
 

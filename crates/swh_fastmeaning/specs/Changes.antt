@@ -1,0 +1,56 @@
+-- The changes of a commit as code makes them: its tree among trees, and the contents that are made for it.
+use Rattle.std.specs.Prelude.{◌≡◌, ◌≢◌, ℕ, ◌<◌, ◌++◌, Contains, List, length, Option, Some, None, Result, Ok, Err}
+use Rattle.swh_base.specs.Limits.{body_limit}
+use Rattle.swh_base.specs.Name.{IsId}
+use Rattle.swh_base.specs.declared.entry.Entry.{Entry}
+use Rattle.swh_model.specs.Meaning.{Made}
+use Rattle.swh_trees.specs.declared.tree.Tree.{Tree}
+use Rattle.swh_trees.specs.Grove.{Grove, StandsFor}
+use Rattle.swh_trees.specs.Leaf.{IsLeafMode}
+use Rattle.swh_fastlex.specs.Path.{IsPath}
+use Rattle.swh_trees.specs.PathMap.{PathMap}
+use Rattle.swh_fastgrammar.specs.declared.command.Dataref.{Dataref}
+use Rattle.swh_fastgrammar.specs.declared.command.Dataref.TheVariants.{Mark, Inline, Hex}
+use Rattle.swh_fastgrammar.specs.declared.command.Change.{Change}
+use Rattle.swh_fastgrammar.specs.declared.command.Change.TheVariants.{Set, Delete, Copy, Move, Clear}
+pub use Rattle.swh_fastgrammar.specs.Givable.{FitsMode, IsGivableChange}
+use Rattle.swh_fastmeaning.specs.Aims.{Missing}
+use Rattle.swh_fastmeaning.specs.Commands.{Changed}
+use Rattle.swh_fastmeaning.specs.Making.{made}
+use Rattle.swh_fastmeaning.specs.declared.feed_fault.FeedFault.{FeedFault}
+use Rattle.swh_fastmeaning.specs.declared.feed_fault.FeedFault.TheVariants.{BadStream, Limit, Memory}
+
+-- One of these objects has a body of this many bytes, above the limit.
+pub record IsOver (objects : List Made) (number : ℕ) : Type 0 where
+  pub object : Made
+  pub among : Contains objects object
+  pub long : number ≡ length object.body
+  pub above : body_limit < number
+
+-- These contents were made, or one of them is above the limit.
+abbrev pub HoldsContents : List Made → List Entry → Option ℕ → Type 0
+HoldsContents contents objects None = made objects ≡ contents
+HoldsContents contents objects (Some number) = IsOver contents number
+
+-- The tree stands for what this makes, and its contents are held.
+pub record IsChangedTo (found : Result Changed Missing) (grove : Grove) (tree : Tree) (objects : List Entry) (over : Option ℕ) : Type 0 where
+  pub changed : Changed
+  pub is : found ≡ Ok changed
+  pub stands : StandsFor grove tree changed.tree
+  pub holds : HoldsContents changed.contents objects over
+
+-- It is what is missing, unless memory ran out.
+abbrev pub ExplainsChange : {X : Type 0} → Result X Missing → FeedFault → Type 0
+ExplainsChange found (BadStream at why) = found ≡ Err (record { at = at; why = why })
+ExplainsChange found (Limit which number) = ⊥
+ExplainsChange found Memory = Unit {0}
+
+-- a tree and contents
+abbrev pub changed_of : PathMap → List Made → Changed
+changed_of tree contents = record { tree = tree; contents = contents }
+
+-- This is the id, and the contents with what is made for it are held.
+pub record IsSetTo (found : Result (List ℕ × List Made) Missing) (id : List ℕ) (contents : List Made) (objects : List Entry) (over : Option ℕ) : Type 0 where
+  pub more : List Made
+  pub is : found ≡ Ok (id, more)
+  pub holds : HoldsContents (contents ++ more) objects over

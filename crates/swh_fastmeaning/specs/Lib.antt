@@ -1,0 +1,13 @@
+pub mod Aims
+pub mod Changes
+pub mod Commands
+pub mod Ending
+pub mod Feeding
+pub mod Missings
+pub mod Parting
+pub mod Seen
+pub mod Snapshots
+pub mod Stock
+pub mod Tips
+pub mod Making
+pub mod Whole

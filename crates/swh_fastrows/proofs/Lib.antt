@@ -1,0 +1,6 @@
+pub mod Joins
+pub mod HeldLines
+pub mod CountedData
+pub mod NextLines
+pub mod DelimitedData
+pub mod Fitting

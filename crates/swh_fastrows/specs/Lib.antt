@@ -1,0 +1,6 @@
+pub mod Explains
+pub mod Held
+pub mod Outside
+pub mod Places
+pub mod Within
+pub mod Outcome
