@@ -1,5 +1,5 @@
 -- Where the items of a stream are cut in two, and where a line goes on with an item.
-use Rattle.std.proofs.Common.{◌≡◌, ℕ, Bool, true, false, List, [], ◌∷◌, ◌++◌, refl, sym, ap, ◌∙◌, subst, append_assoc}
+use Rattle.std.proofs.Common.{◌≡◌, true, false, List, [], ◌∷◌, ◌++◌, refl, sym, ap, ◌∙◌, subst, append_assoc}
 use Rattle.swh_fastgrammar.specs.Grammar.{many, Item, IsItem}
 use Rattle.swh_fastgrammar.specs.Row.{Placed}
 use Rattle.swh_fastgrammar.proofs.Before.{stops_append}

@@ -1,12 +1,10 @@
 -- Lines with which no item begins.
-use Rattle.std.proofs.Common.{◌≡◌, ◌⊎◌, ℕ, inl, inr, true, false, List, [], ◌∷◌, ◌++◌, refl, sym, ap, ◌∙◌, subst, arith, codes, Contains}
-use Rattle.swh_base.specs.Limits.{ref_limit, tag_limit}
+use Rattle.std.proofs.Common.{◌≡◌, ℕ, inl, inr, List, [], ◌∷◌, ◌++◌, sym, ap, ◌∙◌, subst, arith, codes}
 use Rattle.swh_fastgrammar.specs.declared.command.Command.TheVariants.{Blob, Commit, Tag, Reset}
 use Rattle.swh_fastgrammar.specs.Grammar.{line_at, Item, IsItem}
 use Rattle.swh_fastgrammar.specs.Grammar.Item.{Says, Promise, Nothing}
 use Rattle.swh_fastgrammar.specs.Row.{Placed}
 use Rattle.swh_fastgrammar.specs.Word.{NamesRef, NamesTag}
-use Rattle.swh_fastgrammar.proofs.Faults.{append_nil}
 use Rattle.swh_fastgrammar.proofs.Parts.{cons_cut}
 use Rattle.swh_fastgrammar.proofs.Rows.{same_tail}
 use Rattle.swh_fastgrammar.proofs.Streams.{shape, tag_of, tag_of_line}

@@ -1,5 +1,5 @@
 -- A ref that is too long names no commit.
-use Rattle.std.proofs.Common.{◌≡◌, ℕ, inl, inr, false, List, [], ◌∷◌, ◌++◌, length, refl, sym, ap, ◌∙◌, subst, arith, codes}
+use Rattle.std.proofs.Common.{◌≡◌, ℕ, inl, inr, false, List, [], refl, sym, ◌∙◌, subst, arith, codes}
 use Rattle.swh_base.specs.Limits.{ref_limit}
 use Rattle.swh_base.specs.Text.{is_ref_byte}
 use Rattle.swh_fastgrammar.specs.declared.command.Commitish.{Commitish}

@@ -1,17 +1,15 @@
 -- Limits of the words in a line: one word at most has a ref behind it, and a long path wants a long line.
-use Rattle.std.proofs.Common.{◌≡◌, ℕ, zero, suc, ◌+◌, ◌<◌, ◌≤◌, ◌==◌, if◌then◌else◌, inl, inr, List, [], ◌∷◌, ◌++◌, length, length-append, map, Contains, refl, sym, ap, ◌∙◌, subst, arith, codes}
+use Rattle.std.proofs.Common.{◌≡◌, ℕ, zero, suc, ◌<◌, ◌≤◌, ◌==◌, if◌then◌else◌, inl, inr, List, [], ◌∷◌, ◌++◌, length, length-append, map, Contains, refl, sym, ap, ◌∙◌, subst, arith, codes}
 use Rattle.std.specs.List.{flat_map}
-use Rattle.swh_base.specs.Limits.{body_limit, path_limit, ref_limit, tag_limit}
-use Rattle.swh_base.specs.Text.{IsNumber, value_from}
+use Rattle.swh_base.specs.Limits.{path_limit, ref_limit, tag_limit}
 use Rattle.swh_base.specs.declared.visit.Which.{Which}
 use Rattle.swh_base.specs.declared.visit.Which.TheVariants.{Body, Objects, Bytes, Store, Ledger, Stream, Line, Path, Ref, Refs}
 use Rattle.swh_fastlex.specs.Path.{Piece, piece_text, piece_byte, RunsPath, PassesPath}
 use Rattle.swh_fastlex.specs.Path.Piece.{Itself, Letter, Octal}
 use Rattle.swh_fastgrammar.specs.declared.command.Dataref.TheVariants.{Mark, Inline, Hex}
-use Rattle.swh_fastgrammar.specs.Grammar.{BeginsSet}
 use Rattle.swh_fastgrammar.specs.Word.{IsRefRun}
 use Rattle.swh_fastgrammar.proofs.Rows.{same_tail}
-use Rattle.swh_fastlines.specs.Limit.{PassesRef, ref_words, PassesRefs, PassesSet, PassesPair, PassesPaths, PassesCount, PassesWords}
+use Rattle.swh_fastlines.specs.Limit.{ref_words, PassesRefs, PassesSet, PassesPair, PassesPaths, PassesCount, PassesWords}
 use Rattle.swh_fastlines.proofs.RefRuns.{passes, passes_not}
 
 -- what holds of each word and its limit

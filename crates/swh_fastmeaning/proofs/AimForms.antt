@@ -1,5 +1,5 @@
 -- Marks and tips with their trees in another form, and what they lead to.
-use Rattle.std.proofs.Common.{◌≡◌, ◌≢◌, ℕ, ◌<◌, ◌≤◌, Bool, true, false, cond, Option, Some, None, Result, Ok, Err, List, [], ◌∷◌, ◌++◌, map, Contains, refl, sym, ap, ◌∙◌, subst, arith}
+use Rattle.std.proofs.Common.{◌≡◌, ℕ, ◌≤◌, Bool, true, false, cond, Option, Some, None, Result, Ok, Err, List, [], ◌∷◌, map, refl, sym, ap, ◌∙◌, subst, arith}
 use Rattle.std.specs.List.{AllByRecursion}
 use Rattle.std.specs.Option.{option_map}
 use Rattle.std.specs.Ordering.{nat_cmp, match_ordering}
@@ -10,7 +10,6 @@ use Rattle.std.specs.Map.{lookup, remove_entry}
 use Rattle.std.specs.BTreeMap.{insert_entry, is_at}
 use Rattle.swh_base.specs.declared.kind.Kind.{Kind}
 use Rattle.swh_base.specs.declared.kind.Kind.TheVariants.{Content, Directory, Revision, Release, Snapshot}
-use Rattle.swh_base.specs.declared.name.Name.{Name}
 use Rattle.swh_base.specs.Text.{IsRef}
 use Rattle.swh_model.specs.Meaning.{Made}
 use Rattle.swh_trees.specs.declared.tree.Tree.{Tree}
@@ -26,7 +25,7 @@ use Rattle.swh_fastgrammar.specs.declared.fault.StreamWhy.{StreamWhy}
 use Rattle.swh_fastgrammar.specs.declared.fault.StreamWhy.TheVariants.{Mark as NoMark, Branch as NoBranch}
 use Rattle.swh_fastmeaning.specs.Aims.{Aim, AllAims, Missing, or_missing, mark_at, tip_at, with_mark, with_tip, without_tip, if_commit, if_blob, commit_at, object_at, blob_at, aim_with, aims_with}
 use Rattle.swh_fastmeaning.specs.Commands.{Changed, set_to, changed, all_changed, put, ◌>>=◌}
-use Rattle.swh_fastmeaning.specs.Stock.{names_of_made, IsAimAmong, IsTipAmong, AreAimsAmong}
+use Rattle.swh_fastmeaning.specs.Stock.{IsAimAmong, IsTipAmong, AreAimsAmong}
 use Rattle.swh_fastmeaning.proofs.MappedMaps.{lookup-mapped, remove-mapped, insert-mapped}
 use Rattle.swh_fastmeaning.proofs.Elements.{all_as}
 use Rattle.swh_fastmeaning.proofs.Givens.{AreAlso, more_names}

@@ -1,13 +1,12 @@
 -- Objects that are given out where they are new.
-use Rattle.std.proofs.Common.{◌≡◌, ◌⊎◌, inl, inr, ℕ, zero, suc, ◌+◌, ◌<◌, List, [], ◌∷◌, ◌++◌, length, take, map, get_or, Contains, refl, sym, ap, ◌∙◌, subst, arith, append_assoc}
+use Rattle.std.proofs.Common.{◌≡◌, ◌⊎◌, inl, inr, ℕ, zero, suc, ◌<◌, List, [], ◌∷◌, ◌++◌, length, take, get_or, Contains, sym, ap, ◌∙◌, subst, arith, append_assoc}
 use Rattle.std.specs.List.{AllByRecursion}
 use Rattle.std.proofs.lemmas.List.{map-append, append-nil, length-map, length_push, take_more, get_or-map, take-map}
-use Rattle.std.proofs.lemmas.List.Elements.{Contains-append_left, Contains-append_right, Contains-append_cases, Contains-push, Contains-push_cases}
+use Rattle.std.proofs.lemmas.List.Elements.{Contains-append_left, Contains-append_cases, Contains-push, Contains-push_cases}
 use Rattle.swh_base.specs.declared.kind.Kind.{Kind}
 use Rattle.swh_base.specs.declared.name.Name.{Name}
 use Rattle.swh_base.specs.declared.entry.Entry.{Entry}
 use Rattle.swh_base.specs.Name.{IsId}
-use Rattle.swh_base.specs.Manifest.{AreChildren}
 use Rattle.swh_object.specs.Object.{IsObject}
 use Rattle.swh_model.specs.Meaning.{Made}
 use Rattle.swh_fastmeaning.specs.Making.{made_from, made}
@@ -16,7 +15,7 @@ use Rattle.swh_fastmeaning.specs.Seen.{Adds}
 use Rattle.swh_fastmeaning.specs.Stock.{names_of_made, HaveIds, IsReady, AreReady, Gives}
 use Rattle.swh_fastmeaning.specs.declared.seen.Novelty.{Novelty}
 use Rattle.swh_fastmeaning.specs.declared.seen.Novelty.TheVariants.{New, Known}
-use Rattle.swh_fastmeaning.proofs.Elements.{contains_map, from_map, all_as, all_push, all_from}
+use Rattle.swh_fastmeaning.proofs.Elements.{contains_map, from_map, all_as, all_push}
 
 -- Each of the first is one of the others.
 abbrev pub AreAlso : List Made → List Made → Type 0

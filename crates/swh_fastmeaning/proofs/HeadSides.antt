@@ -1,7 +1,7 @@
 -- Branches on both sides of `HEAD`.
-use Rattle.std.proofs.Common.{◌≡◌, ◌≢◌, ◌⊎◌, inl, inr, ℕ, ◌+◌, ◌<◌, ◌≤◌, Bool, true, false, not, cond, Option, Some, None, IfSome, Result, Ok, Err, IfOk, List, [], ◌∷◌, ◌++◌, length, map, codes, Contains, refl, sym, ap, ◌∙◌, subst, arith, append_assoc}
+use Rattle.std.proofs.Common.{◌≡◌, ◌≢◌, ◌⊎◌, inl, inr, ℕ, ◌+◌, ◌≤◌, Bool, true, false, not, cond, Option, Some, None, Result, Ok, Err, IfOk, List, [], ◌∷◌, ◌++◌, length, map, codes, Contains, refl, sym, ap, ◌∙◌, subst, arith, append_assoc}
 use Rattle.std.specs.Prelude.{filter}
-use Rattle.std.specs.List.{AllByRecursion, AllPass}
+use Rattle.std.specs.List.{AllByRecursion}
 use Rattle.std.specs.Ordering.{nat_cmp, is_lt, is_eq, match_ordering, ordering_reverse}
 use Rattle.std.specs.declared.cmp.Ordering.{Ordering}
 use Rattle.std.specs.declared.cmp.Ordering.TheVariants.{Less, Equal, Greater}
@@ -10,8 +10,6 @@ use Rattle.std.specs.BTreeMap.{is_at}
 use Rattle.std.specs.Option.{option_map}
 use Rattle.std.proofs.lemmas.List.{map-append, append-nil, length-map}
 use Rattle.swh_base.specs.declared.kind.Kind.{Kind}
-use Rattle.swh_base.specs.declared.name.Name.{Name}
-use Rattle.swh_base.specs.Name.{IsId}
 use Rattle.swh_base.specs.Text.{IsRef, is_ref_byte}
 use Rattle.swh_base.specs.Snapshot.{SnapshotBranch, IsBranch, BranchIsBefore, AreBranches}
 use Rattle.swh_base.specs.Snapshot.BranchTarget.{ToObject}
@@ -27,7 +25,7 @@ use Rattle.swh_snpfmt.specs.Branches.{branch_view, branch_views, target_view}
 use Rattle.std.specs.Global.{Vec}
 use Rattle.swh_trees.specs.declared.tree.Tree.{Tree}
 use Rattle.swh_fastmeaning.specs.Aims.{Aim, AllAims, aim_with, aims_with}
-use Rattle.swh_fastmeaning.specs.Snapshots.{tip_branch, branches_of, refs_of, snapshot_of}
+use Rattle.swh_fastmeaning.specs.Snapshots.{tip_branch, refs_of, snapshot_of}
 use Rattle.swh_fastmeaning.specs.Tips.{tip_of}
 use Rattle.swh_fastmeaning.specs.declared.aims.Target.{Target}
 use Rattle.std.specs.List.Sorted.{IsStrictlySortedBy}

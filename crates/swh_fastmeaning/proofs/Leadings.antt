@@ -1,14 +1,12 @@
 -- What a command leads to, from the objects that are given for it.
-use Rattle.std.proofs.Common.{◌≡◌, ◌≢◌, ◌⊎◌, inl, inr, ℕ, ◌<◌, ◌≤◌, Option, Some, None, Result, Ok, Err, IfErr, IfOk, List, [], ◌∷◌, ◌++◌, length, map, Contains, refl, sym, ap, ◌∙◌, subst, arith}
-use Rattle.std.specs.List.{AllByRecursion}
+use Rattle.std.proofs.Common.{◌≡◌, ◌≢◌, ◌⊎◌, inl, inr, ℕ, Option, Some, None, Result, Ok, Err, IfErr, List, [], ◌∷◌, Contains, refl, sym, ap, ◌∙◌, subst, arith}
 use Rattle.std.proofs.lemmas.List.{append-nil}
 use Rattle.std.proofs.lemmas.List.Elements.{Contains-append_left}
 use Rattle.swh_base.specs.declared.kind.Kind.{Kind}
-use Rattle.swh_base.specs.declared.kind.Kind.TheVariants.{Content, Snapshot}
+use Rattle.swh_base.specs.declared.kind.Kind.TheVariants.{Snapshot}
 use Rattle.swh_base.specs.declared.name.Name.{Name}
 use Rattle.swh_base.specs.declared.entry.Entry.{Entry}
 use Rattle.swh_base.specs.Text.{IsRef}
-use Rattle.swh_object.specs.Object.{IsObject}
 use Rattle.swh_model.specs.Meaning.{Made, content}
 use Rattle.swh_trees.specs.declared.tree.Tree.{Tree}
 use Rattle.swh_trees.specs.Grove.{Grove, IsBelow, StandsFor, folder_map, map_of}
@@ -16,22 +14,21 @@ use Rattle.swh_trees.specs.declared.entry.Leaf.{Leaf}
 use Rattle.swh_trees.specs.PathMap.{PathMap}
 use Rattle.swh_fastmeaning.specs.Making.{made_from, made}
 use Rattle.swh_fastgrammar.specs.declared.command.Command.{Command}
-use Rattle.swh_fastgrammar.specs.declared.command.Command.TheVariants.{Blob, Reset, Tag}
+use Rattle.swh_fastgrammar.specs.declared.command.Command.TheVariants.{Blob, Reset}
 use Rattle.swh_fastgrammar.specs.declared.command.At.{At}
 use Rattle.swh_fastgrammar.specs.declared.command.Commitish.{Commitish}
 use Rattle.swh_fastgrammar.specs.declared.command.Start.{Start}
 use Rattle.swh_fastgrammar.specs.declared.command.Start.TheVariants.{Absent, NoTip, Of}
 use Rattle.swh_fastmeaning.specs.Aims.{Aim, AllAims, Missing, with_mark, with_tip, without_tip, commit_at, aim_with, aims_with}
 use Rattle.swh_fastmeaning.specs.Commands.{Making, Makes, Targets, step, marked, only, aim_of, ◌>>=◌}
-use Rattle.swh_fastmeaning.specs.Feeding.{Loading, Feeds, ExplainsFeed, IsTooLong, name_of}
+use Rattle.swh_fastmeaning.specs.Feeding.{ExplainsFeed, name_of}
 use Rattle.swh_fastmeaning.specs.Missings.{ExplainsMissing}
-use Rattle.swh_fastmeaning.specs.Seen.{object_of}
 use Rattle.swh_fastmeaning.specs.Parting.{ExplainsBody}
-use Rattle.swh_fastmeaning.specs.Stock.{Stock, stock, loading_of, names_of_made, HaveIds, IsAimAmong, AreAimsAmong, IsGivenGrove, IsStocked, IsReady, AreReady, Gives, GivesOwn, Leads, AreFilesAmong, IsFileAmong, IsLeafAmong}
+use Rattle.swh_fastmeaning.specs.Stock.{Stock, stock, loading_of, names_of_made, IsAimAmong, AreAimsAmong, IsGivenGrove, IsStocked, Gives, GivesOwn, Leads, IsFileAmong}
 use Rattle.swh_fastmeaning.specs.declared.feed_fault.FeedFault.{FeedFault}
 use Rattle.swh_fastmeaning.specs.declared.feed_fault.FeedFault.TheVariants.{BadStream, Limit, Memory}
 use Rattle.swh_fastmeaning.proofs.Elements.{contains_map, all_as, first_is}
-use Rattle.swh_fastmeaning.proofs.Givens.{AreAlso, more_names, gives_none}
+use Rattle.swh_fastmeaning.proofs.Givens.{AreAlso, more_names}
 use Rattle.swh_fastmeaning.proofs.AimForms.{ok_map, with_mark-map, with_tip-map, without_tip-map, commit_at-map, aims_more, marked_among, tipped_among, untipped_among, commit_among}
 
 -- a grove without folders

@@ -1,5 +1,5 @@
 -- Tags: their refs, and the releases that they make.
-use Rattle.std.proofs.Common.{◌≡◌, ◌≢◌, inl, ℕ, zero, suc, ◌+◌, ◌<◌, ◌≤◌, Bool, true, false, ◌&&◌, Option, Result, Ok, Err, List, [], ◌∷◌, ◌++◌, length, codes, get_or, Contains, refl, sym, ap, ◌∙◌, subst, arith}
+use Rattle.std.proofs.Common.{◌≡◌, ◌≢◌, inl, ℕ, zero, suc, Bool, true, false, ◌&&◌, Option, Result, Ok, List, [], ◌∷◌, ◌++◌, codes, Contains, refl, sym, ap, ◌∙◌, subst, arith}
 use Rattle.std.specs.List.{AllPass, AllByRecursion}
 use Rattle.swh_base.specs.declared.kind.Kind.{Kind}
 use Rattle.swh_base.specs.declared.kind.Kind.TheVariants.{Release, Snapshot}
@@ -15,7 +15,7 @@ use Rattle.swh_model.specs.Meaning.{Made}
 use Rattle.swh_trees.specs.declared.tree.Tree.{Tree}
 use Rattle.swh_trees.specs.Grove.{map_of}
 use Rattle.swh_trees.specs.PathMap.{PathMap}
-use Rattle.swh_fastmeaning.specs.Making.{made_from, made}
+use Rattle.swh_fastmeaning.specs.Making.{made_from}
 use Rattle.swh_fastgrammar.specs.declared.command.Command.TheVariants.{Tag}
 use Rattle.swh_fastgrammar.specs.declared.command.At.{At}
 use Rattle.swh_fastgrammar.specs.declared.command.Commitish.{Commitish}
@@ -25,10 +25,10 @@ use Rattle.swh_fastmeaning.specs.Feeding.{ExplainsFeed, name_of}
 use Rattle.swh_fastmeaning.specs.Missings.{ExplainsMissing}
 use Rattle.swh_fastmeaning.specs.Parting.{ExplainsBody}
 use Rattle.swh_fastmeaning.specs.Seen.{object_of}
-use Rattle.swh_fastmeaning.specs.Stock.{Stock, stock, loading_of, names_of_made, HaveIds, IsAimAmong, AreAimsAmong, IsStocked, IsReady, Gives, GivesOwn, Leads}
+use Rattle.swh_fastmeaning.specs.Stock.{Stock, stock, loading_of, names_of_made, HaveIds, AreAimsAmong, IsStocked, IsReady, GivesOwn, Leads}
 use Rattle.swh_fastmeaning.specs.declared.feed_fault.FeedFault.{FeedFault}
 use Rattle.swh_fastmeaning.proofs.Elements.{from_map, all_as, first_is}
-use Rattle.swh_fastmeaning.proofs.AimForms.{ok_map, with_mark-map, with_tip-map, object_at-map, aims_more, marked_among, tipped_among, object_among}
+use Rattle.swh_fastmeaning.proofs.AimForms.{ok_map, with_mark-map, with_tip-map, object_at-map, aims_more, marked_among, tipped_among}
 use Rattle.swh_fastmeaning.proofs.Leadings.{gives_also, stocked_more, own_aim, own_form, own_only, explains_long, explains_missing}
 
 passes_more : (test : ℕ → Bool) (b : ℕ) (bs : List ℕ) → test b ≡ true → AllPass test bs → AllPass test (b ∷ bs)

@@ -1,18 +1,11 @@
 -- The changes of a commit as code makes them: its tree among trees, and the contents that are made for it.
-use Rattle.std.specs.Prelude.{◌≡◌, ◌≢◌, ℕ, ◌<◌, ◌++◌, Contains, List, length, Option, Some, None, Result, Ok, Err}
+use Rattle.std.specs.Prelude.{◌≡◌, ℕ, ◌<◌, ◌++◌, Contains, List, length, Option, Some, None, Result, Ok, Err}
 use Rattle.swh_base.specs.Limits.{body_limit}
-use Rattle.swh_base.specs.Name.{IsId}
 use Rattle.swh_base.specs.declared.entry.Entry.{Entry}
 use Rattle.swh_model.specs.Meaning.{Made}
 use Rattle.swh_trees.specs.declared.tree.Tree.{Tree}
 use Rattle.swh_trees.specs.Grove.{Grove, StandsFor}
-use Rattle.swh_trees.specs.Leaf.{IsLeafMode}
-use Rattle.swh_fastlex.specs.Path.{IsPath}
 use Rattle.swh_trees.specs.PathMap.{PathMap}
-use Rattle.swh_fastgrammar.specs.declared.command.Dataref.{Dataref}
-use Rattle.swh_fastgrammar.specs.declared.command.Dataref.TheVariants.{Mark, Inline, Hex}
-use Rattle.swh_fastgrammar.specs.declared.command.Change.{Change}
-use Rattle.swh_fastgrammar.specs.declared.command.Change.TheVariants.{Set, Delete, Copy, Move, Clear}
 pub use Rattle.swh_fastgrammar.specs.Givable.{FitsMode, IsGivableChange}
 use Rattle.swh_fastmeaning.specs.Aims.{Missing}
 use Rattle.swh_fastmeaning.specs.Commands.{Changed}

@@ -19,7 +19,6 @@ use Rattle.swh_trees.specs.Directory.{directory_of}
 use Rattle.swh_fastmeaning.specs.Making.{made_from, made}
 use Rattle.swh_fastmeaning.specs.Whole.{content_name}
 use Rattle.swh_fastmeaning.specs.Aims.{Aim, AllAims, aims_with}
-use Rattle.swh_fastmeaning.specs.Commands.{Making}
 use Rattle.swh_fastmeaning.specs.Feeding.{Loading, name_of, AreNew, Feeds}
 use Rattle.swh_fastgrammar.specs.declared.command.Command.{Command}
 

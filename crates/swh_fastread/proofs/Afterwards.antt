@@ -87,7 +87,9 @@ after_rows old new item cs s w more e t good =
     let q = old.promised || is_promise item in
     let promise : old.promised || list_any is_promise w.stream.whole.items ≡ q || list_any is_promise cut.0 = ap (λ (xs : List Item). old.promised || list_any is_promise xs) cut.1 ∙ sym (or_assoc old.promised (is_promise item) (list_any is_promise cut.0)) in
     let inner : IsStream n q new.left (commands_of cut.0) = record {
-      rows = more; ending = ending; spelled = t;
+      rows = more;
+      ending = ending;
+      spelled = t;
       whole = record { items = cut.0; good = good; said = cut.2; ends = subst (λ (b : Bool). Ends b ending) promise w.stream.whole.ends; these = refl };
     } in
     let within : IsStreamWithin n q new.left (commands_of cut.0) = record { stream = inner; fit = fit; end_fits = end } in

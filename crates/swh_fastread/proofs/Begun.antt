@@ -1,5 +1,5 @@
 -- The first line of a command, and why a command that is begun is not read on.
-use Rattle.std.proofs.Common.{◌≡◌, ℕ, ◌+◌, inl, inr, Bool, true, false, List, [], ◌∷◌, ◌++◌, length, Contains, refl, sym, ap, ◌∙◌, subst, arith, codes, Option, Some, None}
+use Rattle.std.proofs.Common.{◌≡◌, ℕ, inl, inr, Bool, true, false, List, [], ◌∷◌, ◌++◌, refl, sym, ap, ◌∙◌, subst, arith, codes, Option}
 use Rattle.swh_fastgrammar.specs.declared.command.At.{At}
 use Rattle.swh_fastgrammar.specs.declared.command.Commitish.{Commitish}
 use Rattle.swh_fastgrammar.specs.declared.command.Change.{Change}
@@ -9,19 +9,18 @@ use Rattle.swh_fastrows.specs.declared.fail.ReadFail.{ReadFail}
 use Rattle.swh_fastrows.specs.declared.fail.ReadFail.TheVariants.{BadStream, ReadFault, Limit, Memory}
 use Rattle.swh_fastgrammar.specs.declared.fault.StreamWhy.TheVariants.{Grammar, End, LeftOut, Mark, Branch, Place as Spot}
 use Rattle.swh_fastrows.specs.Explains.{PartFails, DataFails, Stops, Explains}
-use Rattle.swh_fastgrammar.specs.Grammar.{◌▹◌, ◌▸◌, optional, many, line_at, line, nothing, contents, mark, oid, start_of, Item, IsItem}
+use Rattle.swh_fastgrammar.specs.Grammar.{◌▹◌, ◌▸◌, optional, line_at, line, nothing, contents, mark, oid, start_of, Item, IsItem}
 use Rattle.swh_fastgrammar.specs.Grammar.Item.{Says, Promise, Nothing}
 use Rattle.swh_fastrows.specs.Outcome.{Starts, Ended}
 use Rattle.swh_fastrows.specs.Places.{Place, left, Took, Refuses, position}
 use Rattle.swh_fastgrammar.specs.Row.{IsData, Placed}
 use Rattle.swh_fastgrammar.specs.Word.{NamesRef, NamesTag}
 use Rattle.swh_fastgrammar.proofs.Items.{author}
-use Rattle.swh_fastrows.proofs.Joins.{took_append, or-false}
+use Rattle.swh_fastrows.proofs.Joins.{or-false}
 use Rattle.swh_fastgrammar.proofs.Parts.{Single, cons_cut}
 use Rattle.swh_fastgrammar.proofs.Items.{line_single}
-use Rattle.swh_fastread.proofs.Places.{from_committer, from_from, contents_solid, refuses_then}
-use Rattle.swh_fastread.proofs.Remains.{Within, Whole, Solid, Wants, break_line, break_end, break_data, break_limit, break_over}
-use Rattle.swh_fastgrammar.proofs.Rows.{same_tail}
+use Rattle.swh_fastread.proofs.Places.{from_committer, from_from}
+use Rattle.swh_fastread.proofs.Remains.{Within, Whole, Wants, break_line, break_end, break_data, break_limit, break_over}
 use Rattle.swh_fastlines.proofs.ItemLines.{kind}
 
 -- what follows a first part of one row

@@ -1,14 +1,14 @@
 -- Blobs.
-use Rattle.std.proofs.Common.{◌≡◌, ℕ, Bool, true, false, List, [], ◌∷◌, ◌++◌, refl, codes, Option, Some, None}
+use Rattle.std.proofs.Common.{ℕ, Bool, true, false, List, [], ◌∷◌, codes, Option, Some, None}
 use Rattle.swh_fastgrammar.specs.declared.command.Command.TheVariants.{Blob}
 use Rattle.swh_fastrows.specs.declared.fail.ReadFail.{ReadFail}
 use Rattle.swh_fastrows.specs.Explains.{DataFails, Explains, Reads, Stops}
-use Rattle.swh_fastgrammar.specs.Grammar.{◌▹◌, ◌▸◌, optional, line_at, contents, mark, oid, IsItem, IsCommand}
+use Rattle.swh_fastgrammar.specs.Grammar.{◌▸◌, optional, line_at, contents, mark, oid, IsItem, IsCommand}
 use Rattle.swh_fastrows.specs.Places.{Place, Took, Part, OptionalPart, FoundPart}
 use Rattle.swh_fastread.proofs.Begun.{blob_rest, blob_item, blob_begun, stops_explain, data_explains, data_end}
 use Rattle.swh_fastread.proofs.Commands.{reads_item}
-use Rattle.swh_fastread.proofs.Places.{mark_solid, oid_solid, contents_solid, blob_mark, blob_oid, end_clash, wants_contents}
-use Rattle.swh_fastread.proofs.Remains.{wants_optional, wants_skip, Within, Whole, step_then, step_optional, step_skip, closing, whole, no_more}
+use Rattle.swh_fastread.proofs.Places.{mark_solid, oid_solid, contents_solid, blob_mark, blob_oid, wants_contents}
+use Rattle.swh_fastread.proofs.Remains.{wants_optional, wants_skip, Within, step_then, step_optional, step_skip, closing, whole, no_more}
 
 -- whether a part was found, as what it says
 abbrev pub found : Bool → Option (Unit {0})

@@ -1,16 +1,16 @@
 -- Commands that were read as far as they go.
-use Rattle.std.proofs.Common.{◌≡◌, ℕ, ◌+◌, inl, inr, Bool, false, List, [], ◌∷◌, ◌++◌, length, length-append, refl, sym, ap, ◌∙◌, subst, arith, append_assoc, codes}
+use Rattle.std.proofs.Common.{◌≡◌, inl, inr, Bool, false, List, [], ◌∷◌, ◌++◌, length, length-append, refl, sym, ap, ◌∙◌, subst, arith, append_assoc}
 use Rattle.swh_fastgrammar.specs.declared.command.Command.{Command}
 use Rattle.swh_fastgrammar.specs.Grammar.{Item, IsItem, IsCommand}
 use Rattle.swh_fastgrammar.specs.Grammar.Item.{Says, Promise, Nothing}
-use Rattle.swh_fastgrammar.specs.Row.{Row, text_of, AreRows, Placed, placed}
+use Rattle.swh_fastgrammar.specs.Row.{Row, text_of, Placed, placed}
 use Rattle.swh_fastgrammar.proofs.Faults.{append_nil}
 use Rattle.swh_fastgrammar.proofs.Parts.{cons_cut}
 use Rattle.swh_fastgrammar.proofs.Rows.{goes_on}
 use Rattle.swh_fastgrammar.proofs.Streams.{some_item}
 use Rattle.swh_fastrows.specs.Explains.{IsClear, Reads}
 use Rattle.swh_fastrows.specs.Outcome.{Ended, Starts}
-use Rattle.swh_fastrows.specs.Places.{Place, left, Took, MayCount, position}
+use Rattle.swh_fastrows.specs.Places.{Place, left, Took, position}
 use Rattle.swh_fastrows.proofs.Joins.{took_append, or-false}
 use Rattle.swh_fastread.proofs.Remains.{Within, Whole, any_next}
 

@@ -1,11 +1,11 @@
 -- Comments before what a reader comes to.
-use Rattle.std.proofs.Common.{◌≡◌, ℕ, ◌+◌, ◌⊎◌, inl, inr, Bool, true, false, ◌||◌, if◌then◌else◌, List, [], ◌∷◌, ◌++◌, length, length-append, Contains, refl, sym, ap, ◌∙◌, subst, arith, append_assoc, codes}
+use Rattle.std.proofs.Common.{◌≡◌, ℕ, ◌+◌, ◌⊎◌, inl, inr, Bool, true, false, ◌||◌, if◌then◌else◌, List, [], ◌∷◌, ◌++◌, length, length-append, Contains, refl, sym, ap, ◌∙◌, subst, arith, append_assoc}
 use Rattle.std.specs.List.{list_any}
 use Rattle.swh_fastgrammar.specs.declared.command.Command.{Command}
 use Rattle.swh_fastgrammar.specs.declared.fault.StreamWhy.{StreamWhy}
 use Rattle.swh_fastgrammar.specs.declared.fault.StreamWhy.TheVariants.{Grammar, End, LeftOut, Mark, Branch, Place as Spot}
-use Rattle.swh_fastgrammar.specs.Fault.{BeginsStream, BeginsRows, Reaches, IsLineFault, IsEndFault, IsFault}
-use Rattle.swh_fastgrammar.specs.Grammar.{many, Item, IsItem, is_promise, IsWhole, IsStream}
+use Rattle.swh_fastgrammar.specs.Fault.{BeginsStream, BeginsRows, Reaches, IsLineFault, IsEndFault}
+use Rattle.swh_fastgrammar.specs.Grammar.{many, IsItem, is_promise, IsWhole, IsStream}
 use Rattle.swh_fastgrammar.specs.Row.{Row, row_text, text_of, IsRow, AreRows, Placed, placed, is_comment}
 use Rattle.swh_fastgrammar.proofs.Faults.{text_of-append}
 use Rattle.swh_fastgrammar.proofs.Kept.{AllKept}

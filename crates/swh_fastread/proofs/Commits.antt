@@ -1,5 +1,5 @@
 -- Commits.
-use Rattle.std.proofs.Common.{◌≡◌, ℕ, ◌+◌, inl, inr, Bool, true, false, List, [], ◌∷◌, ◌++◌, length, length-append, refl, sym, ap, ◌∙◌, subst, arith, append_assoc, codes, Option, Some, None}
+use Rattle.std.proofs.Common.{◌≡◌, ℕ, inl, inr, Bool, true, false, List, [], ◌∷◌, ◌++◌, refl, sym, ap, ◌∙◌, subst, arith, append_assoc, codes, Option, Some, None}
 use Rattle.swh_fastgrammar.specs.declared.command.At.{At}
 use Rattle.swh_fastgrammar.specs.declared.command.Change.{Change}
 use Rattle.swh_fastgrammar.specs.declared.command.Change.TheVariants.{Set, Delete, Copy, Move, Clear}
@@ -9,24 +9,23 @@ use Rattle.swh_fastgrammar.specs.declared.command.Dataref.TheVariants.{Mark, Inl
 use Rattle.swh_fastgrammar.specs.declared.command.Command.TheVariants.{Commit}
 use Rattle.swh_fastgrammar.specs.declared.command.Start.{Start}
 use Rattle.swh_fastgrammar.specs.Grammar.{◌▹◌, ◌▸◌, optional, line_at, contents, mark, oid, from, many, change, change_word, change_brings, BeginsSet, SaysChange, Item, IsItem, IsCommand}
-use Rattle.swh_fastgrammar.specs.Grammar.Item.{Says, Promise, Nothing}
-use Rattle.swh_fastgrammar.specs.Row.{Row, text_of, AreRows, IsData, Placed, placed}
-use Rattle.swh_fastgrammar.proofs.Faults.{append_nil, text_of-append}
+use Rattle.swh_fastgrammar.specs.Grammar.Item.{Says}
+use Rattle.swh_fastgrammar.specs.Row.{Placed}
+use Rattle.swh_fastgrammar.proofs.Faults.{append_nil}
 use Rattle.swh_fastgrammar.specs.Word.{NamesRef}
 use Rattle.swh_fastgrammar.proofs.Items.{author, committer, encoding, merge, after_data}
 use Rattle.swh_fastgrammar.proofs.Parts.{cons_cut, begins_one}
-use Rattle.swh_fastgrammar.proofs.Rows.{goes_on, same_tail}
+use Rattle.swh_fastgrammar.proofs.Rows.{same_tail}
 use Rattle.swh_fastlines.specs.Reading.{LineSays}
-use Rattle.swh_fastgrammar.specs.declared.fault.StreamWhy.{StreamWhy}
 use Rattle.swh_fastrows.specs.declared.fail.ReadFail.{ReadFail}
 use Rattle.swh_fastrows.specs.declared.fail.ReadFail.TheVariants.{BadStream, ReadFault, Limit, Memory}
 use Rattle.swh_fastrows.specs.Explains.{PartFails, DataFails, Explains, IsClear, Reads, Stops}
-use Rattle.swh_fastrows.specs.Places.{Place, left, Took, Part, OptionalPart, FoundPart, FirstLine, MayCount, Refuses, position}
-use Rattle.swh_fastread.specs.Tail.{IsOutside, IsSure, Stopped, ReadsFrom, ReadsSome, ReadsAll, ReadsTail, ReadsStart, LacksInline, ChangeFails, ChangesFail, LacksChange, TailFails}
+use Rattle.swh_fastrows.specs.Places.{Place, left, Took, Part, OptionalPart, FoundPart, position}
+use Rattle.swh_fastread.specs.Tail.{IsOutside, IsSure, ReadsFrom, ReadsSome, ReadsAll, ReadsTail, ReadsStart, ChangeFails, TailFails}
 use Rattle.swh_fastread.proofs.Begun.{commit_item, commit_begun, commit_after, stops_explain, part_explains, data_explains}
 use Rattle.swh_fastread.proofs.Blobs.{found, found_part}
 use Rattle.swh_fastread.proofs.Commands.{reads_whole}
-use Rattle.swh_fastrows.proofs.Joins.{took_append, took_before}
+use Rattle.swh_fastrows.proofs.Joins.{took_append}
 use Rattle.swh_fastread.proofs.Places.{mark_solid, oid_solid, author_solid, committer_solid, encoding_solid, commit_mark, commit_oid, commit_author, commit_encoding, from_committer, from_data, wants_committer, wants_data, from_solid, merge_solid, change_solid, contents_solid, commit_from, commit_merge, end_clash, refuses_then, none_then, completes_data}
 use Rattle.swh_fastread.proofs.Remains.{wants_optional, wants_skip, Within, Whole, Next, some_append, Wants, step_then, step_optional, step_skip, step_many, step_some, closing, whole, no_more, took_next}
 

@@ -9,7 +9,7 @@ use Rattle.swh_fastgrammar.specs.Fault.{BeginsStream, BeginsRows, Reaches, IsLin
 use Rattle.swh_fastgrammar.specs.Grammar.{many, Item, IsItem, is_promise, commands_of, Ends, IsWhole, IsStream}
 use Rattle.swh_fastgrammar.specs.Grammar.Item.{Says, Promise, Nothing}
 use Rattle.swh_fastrows.specs.Outcome.{Ended}
-use Rattle.swh_fastrows.specs.Places.{Place, left, Took, FirstLine, MayCount}
+use Rattle.swh_fastrows.specs.Places.{FirstLine, MayCount}
 use Rattle.swh_fastgrammar.specs.Row.{Row, row_text, text_of, AreRows, Placed, placed, is_comment}
 use Rattle.swh_fastgrammar.proofs.Faults.{append_nil, text_of-append, row_cut, row_line}
 use Rattle.swh_fastgrammar.proofs.Kept.{kept, AllKept, row_kept, item_keeps}

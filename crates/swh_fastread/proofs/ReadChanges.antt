@@ -1,14 +1,13 @@
 -- Changes of a commit.
-use Rattle.std.proofs.Common.{◌≡◌, ℕ, ◌+◌, inl, inr, Bool, true, false, List, [], ◌∷◌, ◌++◌, length, length-append, refl, sym, ap, ◌∙◌, subst, arith, append_assoc, codes, Option, Some, None}
+use Rattle.std.proofs.Common.{◌≡◌, ℕ, inl, inr, Bool, true, false, List, [], ◌∷◌, ◌++◌, refl, sym, ap, ◌∙◌, subst, arith, codes, None}
 use Rattle.swh_fastgrammar.specs.declared.command.At.{At}
 use Rattle.swh_fastgrammar.specs.declared.command.Change.{Change}
 use Rattle.swh_fastgrammar.specs.declared.command.Change.TheVariants.{Set, Delete, Copy, Move, Clear}
 use Rattle.swh_fastgrammar.specs.declared.command.Dataref.TheVariants.{Mark, Inline, Hex}
 use Rattle.swh_base.specs.declared.visit.Which.TheVariants.{Path}
-use Rattle.swh_fastgrammar.specs.Grammar.{◌▹◌, line_at, contents, placed_line, many, change, change_word, change_brings, SaysChange}
-use Rattle.swh_fastgrammar.specs.Row.{Opens, Placed, is_comment}
-use Rattle.swh_fastgrammar.proofs.Parts.{cons_cut, begins_one}
-use Rattle.swh_fastgrammar.proofs.Rows.{same_tail}
+use Rattle.swh_fastgrammar.specs.Grammar.{line_at, contents, placed_line, change, change_word, change_brings, SaysChange}
+use Rattle.swh_fastgrammar.specs.Row.{Opens, Placed}
+use Rattle.swh_fastgrammar.proofs.Parts.{cons_cut}
 use Rattle.swh_fastlines.specs.Limit.{PassesPaths}
 use Rattle.swh_fastlines.specs.Reading.{LineSays, is_inline}
 use Rattle.swh_fastrows.specs.declared.fail.Outside.{Outside}
@@ -16,7 +15,7 @@ use Rattle.swh_fastrows.specs.declared.fail.Outside.TheVariants.{Failed, Memory}
 use Rattle.swh_fastrows.specs.Outside.{fail_of}
 use Rattle.swh_fastrows.specs.Explains.{IsClear, EndsWhole}
 use Rattle.swh_fastrows.specs.Held.{IsNext}
-use Rattle.swh_fastrows.specs.Places.{Place, left, Took, FirstLine, Part, NeverLine, position}
+use Rattle.swh_fastrows.specs.Places.{Place, Took, Part, NeverLine, position}
 use Rattle.swh_fastread.specs.Tail.{IsOutside, IsSure, Stopped, FindsChange, ReadsSome, ReadsAll}
 use Rattle.swh_fastrows.proofs.HeldLines.{taken, held_first, held_counts, line_taken}
 use Rattle.swh_fastrows.proofs.Joins.{took_none, took_append, took_before}

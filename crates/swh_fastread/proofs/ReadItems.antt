@@ -1,10 +1,10 @@
 -- Items at a command's place.
-use Rattle.std.proofs.Common.{◌≡◌, ℕ, ◌+◌, ◌<◌, ◌≤◌, ◌⊎◌, inl, inr, Bool, true, false, ◌||◌, if◌then◌else◌, List, [], ◌∷◌, ◌++◌, length, length-append, Contains, refl, sym, ap, ◌∙◌, subst, arith, append_assoc, codes, Result, Ok, Err, IfOk, IfErr}
+use Rattle.std.proofs.Common.{◌≡◌, ℕ, ◌+◌, ◌≤◌, inl, inr, Bool, true, false, ◌||◌, if◌then◌else◌, List, [], ◌∷◌, ◌++◌, length, length-append, Contains, refl, sym, ap, ◌∙◌, subst, arith, codes, Result, Ok, Err, IfOk, IfErr}
 use Rattle.swh_base.proofs.Splits.{absent, sized_split}
 use Rattle.swh_base.specs.declared.visit.Which.TheVariants.{Ref}
 use Rattle.swh_fastgrammar.specs.declared.command.Command.{Command as Said}
 use Rattle.swh_fastgrammar.specs.declared.command.Command.TheVariants.{Blob, Commit, Tag, Reset}
-use Rattle.swh_fastgrammar.specs.declared.fault.StreamWhy.TheVariants.{Grammar, End as Ends, LeftOut, Mark, Branch, Place as Spot}
+use Rattle.swh_fastgrammar.specs.declared.fault.StreamWhy.TheVariants.{Grammar, LeftOut}
 use Rattle.swh_fastgrammar.specs.Fault.{is_left_out}
 use Rattle.swh_fastgrammar.specs.Grammar.{line_at, Item, IsItem, IsCommand, is_promise, commands_of}
 use Rattle.swh_fastgrammar.specs.Grammar.Item.{Says, Promise as Promises, Nothing as Silent}

@@ -3,7 +3,7 @@
 use Rattle.std.proofs.Common.{◌≡◌, ℕ, ◌+◌, inl, inr, Bool, true, false, if◌then◌else◌, List, [], ◌∷◌, ◌++◌, length, refl, sym, ap, ◌∙◌, subst, append_assoc, codes, Option, Some, None}
 use Rattle.swh_base.specs.declared.visit.Which.{Which}
 use Rattle.swh_fastrows.specs.Explains.{PassesAfter, DataPassesAfter}
-use Rattle.swh_fastrows.specs.Outcome.{IsLineFaultWithin, IsEndFaultWithin, PassesFirst, Ended}
+use Rattle.swh_fastrows.specs.Outcome.{IsLineFaultWithin, IsEndFaultWithin, PassesFirst}
 use Rattle.swh_fastgrammar.specs.Grammar.{◌▹◌, ◌▸◌, optional, many, Item, IsItem}
 pub use Rattle.swh_fastread.specs.Steps.{Whole}
 use Rattle.swh_fastrows.specs.Places.{Place, left, Took, FirstLine, Refuses, Counts, Part, Lacks, OptionalPart, ManyParts, LineRefused, LineLacks, DataLacks, MayCount}

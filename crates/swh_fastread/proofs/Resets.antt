@@ -1,25 +1,21 @@
 -- Resets.
-use Rattle.std.proofs.Common.{◌≡◌, ◌≢◌, ℕ, ◌+◌, inl, inr, Bool, true, false, List, [], ◌∷◌, ◌++◌, length, refl, sym, ap, ◌∙◌, subst, arith, codes, append_assoc, IsTrue}
+use Rattle.std.proofs.Common.{◌≡◌, ℕ, inl, inr, Bool, true, false, List, [], ◌∷◌, ◌++◌, refl, sym, ap, ◌∙◌, subst, arith, codes, IsTrue}
 use Rattle.swh_fastgrammar.specs.declared.command.At.{At}
 use Rattle.swh_fastgrammar.specs.declared.command.Commitish.{Commitish}
 use Rattle.swh_fastgrammar.specs.declared.command.Start.{Start}
 use Rattle.swh_fastgrammar.specs.declared.command.Start.TheVariants.{Absent, NoTip, Of}
-use Rattle.swh_fastgrammar.specs.declared.command.Command.{Command}
 use Rattle.swh_fastgrammar.specs.declared.command.Command.TheVariants.{Blob, Commit, Tag, Reset}
-use Rattle.swh_fastgrammar.specs.Fault.{IsFault}
-use Rattle.swh_fastrows.specs.Explains.{IsClear, Reads, EndsWhole}
+use Rattle.swh_fastrows.specs.Explains.{Reads, EndsWhole}
 use Rattle.swh_fastgrammar.specs.Grammar.{line_at, line, target, zeros, Item, IsItem, IsCommand}
 use Rattle.swh_fastgrammar.specs.Grammar.Item.{Says, Promise, Nothing}
 use Rattle.swh_fastrows.specs.Held.{IsNext}
-use Rattle.swh_fastrows.specs.Places.{Place, left, Took, FirstLine, MayCount, Lacks}
-use Rattle.swh_fastgrammar.specs.Row.{text_of, Opens, Placed, placed}
+use Rattle.swh_fastrows.specs.Places.{Place, Took}
+use Rattle.swh_fastgrammar.specs.Row.{Opens, Placed}
 use Rattle.swh_fastgrammar.specs.Word.{NamesRef, NamesCommit}
 use Rattle.swh_fastlines.proofs.ItemLines.{kind}
 use Rattle.swh_fastread.proofs.Begun.{after_single}
-use Rattle.swh_fastgrammar.proofs.Faults.{append_nil}
 use Rattle.swh_fastrows.proofs.HeldLines.{taken, held_counts, line_taken}
 use Rattle.swh_fastgrammar.proofs.Items.{line_single}
-use Rattle.swh_fastrows.proofs.Joins.{took_append, took_size, or-false}
 use Rattle.swh_fastrows.proofs.NextLines.{same_next, clear_lacks, closed_word}
 use Rattle.swh_fastgrammar.proofs.Parts.{cons_cut}
 use Rattle.swh_fastread.proofs.Commands.{reads_last}

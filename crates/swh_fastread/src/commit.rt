@@ -11,7 +11,9 @@ ghost use Rattle.swh_fastgrammar.specs.Word.{NamesRef};
 use crate::tail::read_tail;
 use swh_base::Bytes;
 use swh_fastgrammar::Command;
-use swh_fastrows::{ReadFail, Rows, data, optional_encoding, optional_mark, optional_person, person, skip_oid};
+use swh_fastrows::{
+    ReadFail, Rows, data, optional_encoding, optional_mark, optional_person, person, skip_oid,
+};
 use swh_outside::Source;
 
 /// The commit to this ref that the held line begins. It is whole after its data, and after each whole change.

@@ -17,7 +17,9 @@ mod whole;
 
 pub use data_rows::data;
 pub use fail::{Outside, ReadFail};
-pub use optional::{named_commit, optional_encoding, optional_mark, optional_person, person, skip_oid};
+pub use optional::{
+    named_commit, optional_encoding, optional_mark, optional_person, person, skip_oid,
+};
 pub use part_lines::commit_line;
 pub use refusing::{peek, refused_line};
 pub use row_source::Rows;

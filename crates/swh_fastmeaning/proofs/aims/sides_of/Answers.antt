@@ -1,4 +1,4 @@
-use Rattle.std.proofs.Common.{◌≡◌, ◌∙◌, refl, [], ◌∷◌, ◌++◌}
+use Rattle.std.proofs.Common.{◌∙◌, refl, [], ◌∷◌, ◌++◌}
 use Rattle.swh_snpfmt.specs.declared.branch.Branch.{Branch}
 use Rattle.swh_snpfmt.specs.declared.branch.Target.TheVariants.{Object}
 use Rattle.swh_snpfmt.specs.Branches.{branch_view}

@@ -1,4 +1,4 @@
-use Rattle.std.proofs.Common.{List, ℕ, ap, sym, subst, rules}
+use Rattle.std.proofs.Common.{sym, subst, rules}
 use Rattle.swh_fastlex.specs.Path.{IsPath}
 use Rattle.swh_trees.specs.Grove.{map_of}
 use Rattle.swh_fastmeaning.specs.Changes.{IsGivableChange, ExplainsChange, changed_of}

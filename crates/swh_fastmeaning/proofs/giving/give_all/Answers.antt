@@ -1,8 +1,6 @@
-use Rattle.std.proofs.Common.{ℕ, length, take, arith, ◌∙◌}
+use Rattle.std.proofs.Common.{◌∙◌}
 use Rattle.std.proofs.lemmas.Iterator.Consumers.{YieldsList-turn}
 use Rattle.std.proofs.lemmas.Iterator.Adapters.{YieldsList-from_vec}
-use Rattle.std.proofs.lemmas.List.{length_push}
-use Rattle.swh_fastmeaning.specs.Making.{made}
 use Rattle.swh_fastmeaning.proofs.Givens.{next_ready, next_given}
 use Rattle.swh_fastmeaning.proofs.giving.give_all.Goals as goal
 

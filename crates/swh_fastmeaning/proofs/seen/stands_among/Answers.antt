@@ -1,5 +1,5 @@
-use Rattle.std.proofs.Common.{◌≡◌, ℕ, Some, map, slice_get, get_or, List, ap, ◌∙◌, arith}
-use borrow.Author.Count.{below_none, below_more}
+use Rattle.std.proofs.Common.{map, slice_get, ap, ◌∙◌, arith}
+use borrow.Author.Count.{below_more}
 use Rattle.swh_fastmeaning.specs.Seen.{kept_made}
 use Rattle.swh_fastmeaning.proofs.Seens.{contains_at, number_at, not_true}
 use Rattle.swh_fastmeaning.proofs.seen.stands_among.Goals as goal

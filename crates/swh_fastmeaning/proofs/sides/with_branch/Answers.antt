@@ -1,4 +1,4 @@
-use Rattle.std.proofs.Common.{◌≡◌, codes}
+use Rattle.std.proofs.Common.{◌≡◌}
 use Rattle.std.specs.declared.cmp.Ordering.TheVariants.{Less, Equal, Greater}
 use Rattle.swh_snpfmt.specs.Branches.{branch_view}
 use Rattle.swh_fastmeaning.specs.Ending.{head_to}

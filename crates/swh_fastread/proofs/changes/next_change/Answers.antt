@@ -1,4 +1,4 @@
-use Rattle.std.proofs.Common.{inl, inr, [], refl, sym, subst}
+use Rattle.std.proofs.Common.{inr, [], refl, sym, subst}
 use Rattle.std.proofs.lemmas.Result.{err_from_is_err_and}
 use Rattle.swh_fastgrammar.specs.declared.command.At.{At}
 use Rattle.swh_fastgrammar.specs.declared.command.Change.{Change}

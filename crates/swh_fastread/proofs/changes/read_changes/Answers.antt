@@ -1,8 +1,6 @@
-use Rattle.std.proofs.Common.{◌≡◌, arith, inl, refl, sym, ap, ◌∙◌, subst, List, [], ◌∷◌, ◌++◌}
+use Rattle.std.proofs.Common.{◌≡◌, arith, inl, sym, ◌∙◌, subst, [], ◌∷◌, ◌++◌}
 use Rattle.std.proofs.lemmas.Result.{err_from_is_err_and}
 use Rattle.swh_fastgrammar.specs.Grammar.{change}
-use Rattle.swh_fastgrammar.specs.declared.command.At.{At}
-use Rattle.swh_fastgrammar.specs.declared.command.Change.{Change}
 use Rattle.swh_fastgrammar.specs.Givable.{AreGivable}
 use Rattle.swh_fastgrammar.proofs.Givable.{givable_more}
 use Rattle.swh_fastread.specs.Tail.{ReadsSome}

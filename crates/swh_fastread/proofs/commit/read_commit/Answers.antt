@@ -1,4 +1,4 @@
-use Rattle.std.proofs.Common.{codes, refl, [], ◌∷◌}
+use Rattle.std.proofs.Common.{codes, refl}
 use Rattle.std.proofs.lemmas.Result.{err_from_is_err_and}
 use Rattle.swh_fastrows.proofs.NextLines.{took_held}
 use Rattle.swh_fastread.proofs.Commits.{mark_fails, oid_fails, author_fails, encoding_fails, marked, named, authored, committed, encoded, at_tail, tail_item, committer_fails, message_fails, tail_explains, commit_whole}

@@ -1,4 +1,4 @@
-use Rattle.std.proofs.Common.{codes, refl, [], ◌∷◌, ◌++◌, ◌≡◌, sym, ap, ◌∙◌, subst, List, ℕ, Bool, true}
+use Rattle.std.proofs.Common.{refl, ◌≡◌, sym, ap, ◌∙◌, subst, List, ℕ}
 use Rattle.std.proofs.lemmas.Result.{err_from_is_err_and}
 use Rattle.swh_fastrows.specs.declared.fail.ReadFail.TheVariants.{ReadFault as SourceFailed}
 use Rattle.swh_fastrows.specs.Explains.{line_refusal}

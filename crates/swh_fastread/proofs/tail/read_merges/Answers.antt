@@ -1,5 +1,4 @@
-use Rattle.std.proofs.Common.{◌≡◌, arith, refl, sym, ap, ◌∙◌, subst, List, [], ◌∷◌, ◌++◌, codes}
-use Rattle.swh_fastgrammar.specs.Grammar.{placed_line}
+use Rattle.std.proofs.Common.{◌≡◌, arith, refl, sym, ap, ◌∙◌, subst, [], ◌∷◌, ◌++◌, codes}
 use Rattle.swh_fastgrammar.specs.Word.{NamesCommit}
 use Rattle.swh_fastgrammar.specs.declared.command.At.{At}
 use Rattle.swh_fastgrammar.specs.declared.command.Commitish.{Commitish}

@@ -1,10 +1,9 @@
-use Rattle.std.proofs.Common.{codes, refl, true, sym, subst}
+use Rattle.std.proofs.Common.{codes, refl, sym, subst}
 use Rattle.swh_fastgrammar.specs.declared.command.At.{At}
 use Rattle.swh_fastgrammar.specs.declared.command.Commitish.{Commitish}
 use Rattle.swh_fastgrammar.specs.Grammar.{from}
 use Rattle.swh_fastgrammar.specs.Word.{NamesCommit}
 use Rattle.swh_fastrows.specs.Places.{Place, Part}
-use Rattle.swh_fastrows.proofs.HeldLines.{taken}
 use Rattle.swh_fastrows.proofs.NextLines.{part_placed}
 use Rattle.swh_fastread.proofs.ReadChanges.{stopped_end, stopped_placed, part_after}
 use Rattle.swh_fastread.proofs.tail.read_parent.Goals as goal

@@ -1,4 +1,4 @@
-use Rattle.std.proofs.Common.{◌≡◌, inr, true, sym, subst, Bool}
+use Rattle.std.proofs.Common.{◌≡◌, inr, true, subst, Bool}
 use Rattle.std.proofs.lemmas.Result.{err_from_is_err_and}
 use Rattle.swh_fastgrammar.proofs.Items.{merge}
 use Rattle.swh_fastread.specs.Tail.{ReadsFrom, ReadsAll}
