@@ -54,11 +54,3 @@ item_on rows more p i (j ∷ js) h t k =
     let on = span_on s.others u.others more k.1 p s.inner t (items_stop k.1 js k.4) cut.1 in
     let front : k.0 ≡ rows ++ (p ∷ on.0) = u.rows_are ∙ ap (λ (y : Placed). y ∷ u.others) (sym cut.0) ∙ ap (λ (ys : List Placed). s.first ∷ ys) on.1 ∙ ap (λ (ys : List Placed). ys ++ (p ∷ on.0)) (sym s.rows_are) in
     record { more = on.0; item = j; said = subst (λ (r : List Placed). IsItem r j) front k.3 }
-
--- Items of rows that go on with the rows of items and an inner line: the last of these goes on with it.
-pub last_on : (before rows more : List Placed) (p : Placed) (is js : List Item) (i : Item) → many IsItem before is → IsItem rows i → is_inner p.row.line ≡ true → many IsItem (before ++ (rows ++ (p ∷ more))) js → GoesOn rows p
-last_on before rows more p is js i b h t k =
-    let s = shape rows i h in
-    let st : Stops (rows ++ (p ∷ more)) = subst (λ (r : List Placed). Stops (r ++ (p ∷ more))) (sym s.rows_are) s.starts in
-    let cut = split_items before (rows ++ (p ∷ more)) is js b st k in
-    item_on rows more p i cut.0 h t cut.2

@@ -13,28 +13,6 @@ append_nil : (a : List ℕ) → a ++ [] ≡ a
 append_nil [] = refl
 append_nil (c ∷ a) = ap (λ (t : List ℕ). c ∷ t) (append_nil a)
 
--- after the last piece
-pub runs_quoted : (text after rest path : List ℕ) (n : ℕ) → text ≡ 34 ∷ after → ReadsPieces after rest path → NoPiece rest → n ≡ length text - length rest → RunsQuoted text path (drop n text)
-runs_quoted text after rest path n e r ends count =
-    let whole : text ≡ 34 ∷ (flat_map piece_text r.pieces ++ rest) = e ∙ ap (λ (t : List ℕ). 34 ∷ t) r.cut in
-    let left : drop n text ≡ rest = left_over (34 ∷ flat_map piece_text r.pieces) rest n text whole count in
-    record {
-      pieces = r.pieces;
-      are = r.are;
-      cut = whole ∙ ap (λ (t : List ℕ). 34 ∷ (flat_map piece_text r.pieces ++ t)) (sym left);
-      means = r.means;
-      ends = subst NoPiece (sym left) ends;
-    }
-
--- before the first `stop`
-pub runs_plain : (stop : ℕ) (text path : List ℕ) (n : ℕ) → ((more : List ℕ) → text ≡ 34 ∷ more → ⊥) → IsBefore stop text n → path ≡ take n text → RunsPlain stop text path (drop n text)
-runs_plain stop text path n plain b e = record {
-  cut = sym (take-append-drop n text) ∙ ap (λ (t : List ℕ). t ++ drop n text) (sym e);
-  no_stop = subst (λ (t : List ℕ). Contains t stop → ⊥) (sym e) b.none;
-  no_quote = plain;
-  ends = b.ends;
-}
-
 one_plain : (stop : ℕ) (p q x y : List ℕ) → (Contains p stop → ⊥) → (Contains q stop → ⊥) → p ++ x ≡ q ++ y → ((x ≡ []) ⊎ ((more : List ℕ) × (x ≡ stop ∷ more))) → ((y ≡ []) ⊎ ((more : List ℕ) × (y ≡ stop ∷ more))) → (p ≡ q) × (x ≡ y)
 one_plain stop p q x y np nq e (inl a) (inl b) =
     (sym (append_nil p) ∙ ap (λ (t : List ℕ). p ++ t) (sym a) ∙ e ∙ ap (λ (t : List ℕ). q ++ t) b ∙ append_nil q, a ∙ sym b)

@@ -55,17 +55,9 @@ lost_more all line now later e h = record { count = length line + h.count; is = 
 pub lost_line : (all line now : List ℕ) → all ≡ line ++ now → LosesSome all now
 lost_line all line now e = record { count = length line; is = sym (ap (drop (length line)) e ∙ dropped line now (length line) refl) }
 
-pub not_nil-length : (xs : List ℕ) → xs ≢ [] → 0 < length xs
-not_nil-length [] h = absurd (h refl)
-not_nil-length (x ∷ xs) h = omega arith
-
 pub nil_length : (xs : List ℕ) → length xs ≡ 0 → xs ≡ []
 nil_length [] h = refl
 nil_length (x ∷ xs) h = absurd (omega arith)
-
--- what a source gave is what it had left, up to what it has left now
-pub got_all : (left out now : List ℕ) (n : ℕ) → IsGot left n out now → take n out ++ now ≡ left
-got_all left out now n g = ap (λ (t : List ℕ). t ++ now) g.bytes ∙ ap (λ (t : List ℕ). take n left ++ t) g.now_left ∙ take-append-drop n left
 
 -- a window holds something exactly where it ends past its start
 pub held_some : (b : List ℕ) (s e : ℕ) (t : Bool) → (t ≡ true → s < e) → (t ≡ false → e ≤ s) → s ≤ e → e ≤ length b → MatchBool t (take (e - s) (drop s b) ≢ []) (take (e - s) (drop s b) ≡ [])

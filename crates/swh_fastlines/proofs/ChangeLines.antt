@@ -120,9 +120,6 @@ IsPathOf text path = NamesPath text path × ((number : ℕ) → PassesPath 10 te
 pub delete_is : (text path : List ℕ) → IsPathOf text path → Reads (codes "D " ++ text) (Whole (Delete path))
 delete_is text path h = ((text, refl, h.0), refl, λ n p. h.1 n (passed_delete text n p))
 
-pub delete_over : (text : List ℕ) (n : ℕ) → PassesPath 10 text n → Reads (codes "D " ++ text) (Over n)
-delete_over text n p = inl (text, refl, p)
-
 delete_none : (text : List ℕ) → ((path : List ℕ) → NamesPath text path → ⊥) → (c : Change) → SaysDelete text c → ⊥
 delete_none text none (Set m w p) h = h
 delete_none text none (Delete p) h = none p h
@@ -144,9 +141,6 @@ set_is text m (Of.Mark x) rest path b h = ((text, refl, (rest, b, h.0)), refl, s
 set_is text m (Of.Inline x) rest path b h = (λ bytes. (text, refl, (rest, b, h.0)), set_passes_not text m (Of.Inline x) rest b h.1)
 set_is text m (Of.Hex x) rest path b h = ((text, refl, (rest, b, h.0)), refl, set_passes_not text m (Of.Hex x) rest b h.1)
 
-pub set_over : (text : List ℕ) (m : ℕ) (w : Dataref) (rest : List ℕ) (n : ℕ) → BeginsSet text m w rest → PassesPath 10 rest n → Reads (codes "M " ++ text) (Over n)
-set_over text m w rest n b p = inr (inl (text, refl, (m, w, rest, b, p)))
-
 set_none : (text : List ℕ) → ((m : ℕ) (w : Dataref) (path : List ℕ) → SetsTo text m w path → ⊥) → (c : Change) → SaysSet text c → ⊥
 set_none text none (Set m w p) h = none m w p h
 set_none text none (Delete p) h = h
@@ -158,12 +152,6 @@ pub set_no_path : (text : List ℕ) (m : ℕ) (w : Dataref) (rest : List ℕ) �
 set_no_path text m w rest b h = (
   λ c says. set_none text (λ n v p t. h.0 p (subst (λ (u : List ℕ). NamesPath u p) (sym (begins_one text m n w v rest t.0 b t.1).2) t.2)) c (said_set text c says),
   set_passes_not text m w rest b h.1,
-)
-
-pub set_no_front : (text : List ℕ) → ((m : ℕ) (w : Dataref) (rest : List ℕ) → BeginsSet text m w rest → ⊥) → Reads (codes "M " ++ text) No
-set_no_front text none = (
-  λ c says. set_none text (λ m w p t. none m w t.0 t.1) c (said_set text c says),
-  λ n h. let p = passed_set text n h in none p.0 p.1 p.2 p.3,
 )
 
 -- the source is named, is not too long, and this follows it
@@ -206,9 +194,6 @@ pair_no_long_source text none n (inr (s, rest, names, p)) = no_source text none 
 pub copy_is : (text source path : List ℕ) → IsPair text source path → ((n : ℕ) → PassesPair text n → ⊥) → Reads (codes "C " ++ text) (Whole (Copy source path))
 copy_is text source path h none = ((text, refl, h), refl, λ n p. none n (passed_copy text n p))
 
-pub copy_over : (text : List ℕ) (n : ℕ) → PassesPair text n → Reads (codes "C " ++ text) (Over n)
-copy_over text n p = inr (inr (text, inl refl, p))
-
 -- No pair is said, and no path is too long.
 abbrev pub NoPair : List ℕ → Type 0
 NoPair text = ((x : Pair) → IsPair text x.source x.path → ⊥) × ((number : ℕ) → PassesPair text number → ⊥)
@@ -226,9 +211,6 @@ copy_no text none = (λ c says. copy_none text none c (said_copy text c says), �
 pub move_is : (text source path : List ℕ) → IsPair text source path → ((n : ℕ) → PassesPair text n → ⊥) → Reads (codes "R " ++ text) (Whole (Move source path))
 move_is text source path h none = ((text, refl, h), refl, λ n p. none n (passed_move text n p))
 
-pub move_over : (text : List ℕ) (n : ℕ) → PassesPair text n → Reads (codes "R " ++ text) (Over n)
-move_over text n p = inr (inr (text, inr refl, p))
-
 move_none : (text : List ℕ) → NoPair text → (c : Change) → SaysMove text c → ⊥
 move_none text none (Set m w p) h = h
 move_none text none (Delete p) h = h
@@ -239,31 +221,6 @@ move_none text none Clear h = h
 pub move_no : (text : List ℕ) → NoPair text → Reads (codes "R " ++ text) No
 move_no text none = (λ c says. move_none text none c (said_move text c says), λ n p. none.1 n (passed_move text n p))
 
-clear_passes_not : (n : ℕ) → PassesPaths (codes "deleteall") n → ⊥
-clear_passes_not n (inl h) = let d : 100 ≡ 68 = ap first h.1 in absurd (omega (arith, d))
-clear_passes_not n (inr (inl h)) = let d : 100 ≡ 77 = ap first h.1 in absurd (omega (arith, d))
-clear_passes_not n (inr (inr (t, inl e, p))) = let d : 100 ≡ 67 = ap first e in absurd (omega (arith, d))
-clear_passes_not n (inr (inr (t, inr e, p))) = let d : 100 ≡ 82 = ap first e in absurd (omega (arith, d))
-
-pub clear_is : (line : List ℕ) → line ≡ codes "deleteall" → Reads line (Whole Clear)
-clear_is line e = subst (λ (l : List ℕ). Reads l (Whole Clear)) (sym e) (([], refl, refl), refl, clear_passes_not)
-
 -- a line of another word
 abbrev pub Lacks : List ℕ → List ℕ → Type 0
 Lacks word line = (rest : List ℕ) → line ≡ word ++ rest → ⊥
-
-pub other_line : (line : List ℕ) → (line ≡ codes "deleteall" → ⊥) → Lacks (codes "M ") line → Lacks (codes "D ") line → Lacks (codes "C ") line → Lacks (codes "R ") line → Reads line No
-other_line line clear set delete copy move = (says, passes)
-  where
-    says : (c : Change) → LineSays line c → ⊥
-    says (Set m w p) h = set h.0 h.1
-    says (Delete p) h = delete h.0 h.1
-    says (Copy s p) h = copy h.0 h.1
-    says (Move s p) h = move h.0 h.1
-    says Clear h = clear (h.1 ∙ ap (λ (t : List ℕ). codes "deleteall" ++ t) h.2)
-
-    passes : (n : ℕ) → PassesPaths line n → ⊥
-    passes n (inl h) = delete h.0 h.1
-    passes n (inr (inl h)) = set h.0 h.1
-    passes n (inr (inr (t, inl e, p))) = copy t e
-    passes n (inr (inr (t, inr e, p))) = move t e

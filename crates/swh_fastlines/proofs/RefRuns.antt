@@ -121,14 +121,6 @@ colon_passes_not text number limit e n p = none p.run (p.bytes) (omega (arith, p
     none [] all some f = omega (arith, some)
     none (c ∷ run) all some f = not_among is_ref_byte 58 (c ∷ run) refl all (0, omega arith, ap first f)
 
-pub marks_commit : (text number : List ℕ) (m : ℕ) → text ≡ codes ":" ++ number → IsMark number m → NamesCommit text (Mark m)
-marks_commit text number m e h = (number, e, h)
-
-pub no_mark_commit : (text number : List ℕ) → text ≡ codes ":" ++ number → ((m : ℕ) → IsMark number m → ⊥) → (c : Commitish) → NamesCommit text c → ⊥
-no_mark_commit text number e none (Mark m) h = none m (subst (λ (t : List ℕ). IsMark t m) (ap tail (sym h.1 ∙ e)) h.2)
-no_mark_commit text number e none (Branch ref) (r, inl h) = no_colon ref number [] r (append_nil ref ∙ sym h ∙ e)
-no_mark_commit text number e none (Branch ref) (r, inr h) = no_colon ref number (codes "^0") r (sym h ∙ e)
-
 caret_stops : Stops (codes "^0")
 caret_stops c more e = let same : c ≡ 94 = ap first (sym e) in subst (λ (x : ℕ). is_ref_byte x ≡ false) (sym same) refl
 

@@ -29,11 +29,6 @@ Lacks word text = (rest : List ℕ) → text ≡ word ++ rest → ⊥
 abbrev pub NoFile : List ℕ → Type 0
 NoFile text = (what : Dataref) (rest : List ℕ) → BeginsFile text what rest → ⊥
 
-pub no_file_word : (text : List ℕ) → Lacks (codes "inline ") text → Lacks (codes ":") text → NoFile text
-no_file_word text inline colon (Mark m) rest h = colon _ h.1
-no_file_word text inline colon (Inline bytes) rest h = inline rest h
-no_file_word text inline colon (Hex id) rest h = h
-
 pub no_file_space : (text marked : List ℕ) → text ≡ codes ":" ++ marked → (Contains marked 32 → ⊥) → NoFile text
 no_file_space text marked e none (Mark m) rest h =
     let same : marked ≡ h.0 ++ 32 ∷ rest = same_tail (codes ":") marked (h.0 ++ 32 ∷ rest) (sym e ∙ h.1) in
@@ -47,9 +42,6 @@ no_file_mark text marked number after e plain cut none (Mark m) rest h =
     none m (subst (λ (t : List ℕ). IsMark t m) same.0 h.2)
 no_file_mark text marked number after e plain cut none (Inline bytes) rest h = let n : 58 ≡ 105 = ap first (sym e ∙ h) in absurd (omega (arith, n))
 no_file_mark text marked number after e plain cut none (Hex id) rest h = h
-
-pub file_mark : (text marked number rest : List ℕ) (m : ℕ) → text ≡ codes ":" ++ marked → marked ≡ number ++ 32 ∷ rest → IsMark number m → BeginsFile text (Mark m) rest
-file_mark text marked number rest m e cut h = (number, e ∙ ap (λ (t : List ℕ). codes ":" ++ t) cut, h)
 
 -- nothing before a path that is set
 abbrev pub NoFront : List ℕ → Type 0
@@ -76,9 +68,6 @@ id-no_space digits id h k = not_among is_lower_hex_digit 32 digits refl (subst (
 pub no_link_id : (text word after : List ℕ) → (Contains word 32 → ⊥) → text ≡ word ++ 32 ∷ after → ((id : List ℕ) → SpellsId word id → ⊥) → NoFront (codes "160000 " ++ text)
 no_link_id text word after plain cut none =
     no_link text (λ id digits rest e h. none id (subst (λ (t : List ℕ). SpellsId t id) (first_split 32 digits word rest after (id-no_space digits id h) plain (sym e ∙ cut)).0 h))
-
-pub link_is : (text digits rest id : List ℕ) → text ≡ digits ++ 32 ∷ rest → SpellsId digits id → BeginsSet (codes "160000 " ++ text) 160000 (Hex id) rest
-link_is text digits rest id cut h = (digits, ap (λ (t : List ℕ). codes "160000 " ++ t) cut, refl, h)
 
 pub no_front_space : (text : List ℕ) → Lacks (codes "160000 ") text → (Contains text 32 → ⊥) → NoFront text
 no_front_space text link none mode (Mark m) rest h = none (subst (λ (t : List ℕ). Contains t 32) (sym h.2) (in_middle h.0 _ 32))

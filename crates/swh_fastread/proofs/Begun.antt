@@ -110,19 +110,6 @@ commit_begun a b at name t r = record {
   };
 }
 
--- A whole command starts the text.
-pub whole_starts : (a b : Place) (c : Command) → Whole a b (Says c) → (p : Bool) → Starts (position a p) (position b p) (Says c)
-whole_starts a b c w p = record {
-  rows = w.took.rows;
-  spelled = w.took.spelled;
-  good = w.took.good;
-  fit = w.took.fit;
-  said = subst (λ (z : List Placed). IsItem z (Says c)) (sym w.took.those) w.is_item;
-  here = w.took.here;
-  promised = sym (or-false p);
-  ended = λ fits. subst (λ (z : List Placed). Ended z (left b)) (sym w.took.those) w.ended;
-}
-
 -- what stops the reading of a command that is begun
 pub stops_explain : {X : Type 0} (a b : Place) (M : List Placed → X → Type 0) (f : X → Item) (fail : ReadFail) → Within IsItem a b M f → Wants M → Stops b fail → (p : Bool) → Explains a p fail
 stops_explain a b M f (BadStream at why) w o s p = absurd s

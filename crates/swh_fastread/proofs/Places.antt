@@ -53,12 +53,6 @@ line_clash word Tells N e n = word_clash word (line word Tells) N (line_single w
 placed_clash : {X Y : Type 0} (word : List ℕ) (Tells : List ℕ → X → Type 0) (N : List Placed → Y → Type 0) → ((t : List ℕ) → starts_with nat_eq (word ++ t) word ≡ true) → Begins word false N → Clash (placed_line word Tells) N
 placed_clash word Tells N e n = word_clash word (placed_line word Tells) N (placed_single word Tells) (placed_begins word word true Tells e) n
 
-abbrev pub mark_word : List ℕ
-mark_word = codes "mark :"
-
-abbrev pub oid_word : List ℕ
-oid_word = codes "original-oid "
-
 -- blobs
 pub blob_oid : Clash oid contents
 blob_oid = line_clash (codes "original-oid ") anything contents (λ t. refl) (contents_begins (codes "original-oid ") (λ t. refl))

@@ -33,9 +33,6 @@ use Rattle.swh_fastrows.proofs.Joins.{plain, plain_row, or-true, or-false, took_
 use Rattle.swh_fastrows.proofs.NextLines.{closed_word, end_feeds}
 use Rattle.swh_fastread.proofs.Outcomes.{stream_carries, fault_carries, limit_carries, carries_with, starts_join}
 
-pub passed_none : (a : Place) (p : Bool) → Passed a a p p
-passed_none a p = record { items = []; starts = refl; these = refl }
-
 -- a failure after what was passed
 pub explains_passed : (a b : Place) (p q : Bool) (fail : ReadFail) → Passed a b p q → Explains b q fail → Explains a p fail
 explains_passed a b p q (BadStream at why) f e = carries_with (λ n cs. IsFaultWithin n.at n.promised n.left cs at why) (fault_carries at why) (position a p) (position b q) [] [] f e

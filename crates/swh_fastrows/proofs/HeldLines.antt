@@ -85,10 +85,6 @@ pub line_taken : (a b : Place) (line : List ℕ) → Took a b [] → b.held ≡ 
 line_taken a b line t e n o =
     took_after a b (taken b) (line_at b.at line ∷ []) t (took_line b (taken b) line (held_text b line e) (front_of b.held line e n.line) o (n.counts line e) (next_fits b line n e) (omega (arith, ap length e, length-append line (10 ∷ []))))
 
--- the end is met where what is held is no line
-pub end_met : (at : ℕ) (held rest : List ℕ) (a : Ahead) → IsAhead at held a → (length held < line_limit → (Contains held 10 → ⊥) → rest ≡ []) → a ≡ End → rest ≡ []
-end_met at held rest a h e same = let k = subst (IsAhead at held) same h in e k.1 k.0
-
 -- why lines are not given, as the places before and after
 pub lines_fault : (old new : Place) (word : List ℕ) (limit : ℕ) (before now : Held) (u v : List ℕ) (fault : DataFault) → old.rest ≡ unread before u → new.rest ≡ unread now v → before.place ≡ old.at → now.place ≡ new.at → IsDataFault word limit before now u v fault → LinesFail old new word limit fault
 lines_fault old new word limit before now u v Data.Failed e f m n d = tt

@@ -153,12 +153,6 @@ refused_end a b at t k e f =
       subst (λ (n : ℕ). LineFits n (left a)) both.1 (subst (LineFits b.at) (sym same) (ending_fits b e)),
     )
 
-pub stops_refusal : (a : Place) (fail : ReadFail) → Stops a fail → Refusal a fail
-stops_refusal a (BadStream at why) s = absurd s
-stops_refusal a ReadFault s = tt
-stops_refusal a (Limit which number) s = s
-stops_refusal a Memory s = tt
-
 pub no_read_fault : (line : List ℕ) (at : ℕ) → line_refusal line at ≡ ReadFault → ⊥
 no_read_fault line at e = by_out (is_left_out line) e
   where
