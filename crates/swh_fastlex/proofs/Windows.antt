@@ -3,7 +3,7 @@ use Rattle.std.proofs.Common.{Result, Ok, Err, IfErr}
 use Rattle.std.specs.Prelude.{min}
 use Rattle.std.proofs.Common.{◌≡◌, ◌≢◌, ℕ, zero, suc, ◌+◌, ◌-◌, ◌<◌, ◌≤◌, ◌⊎◌, Bool, true, false, MatchBool, inl, inr, List, [], ◌∷◌, ◌++◌, length, get_or, take, drop, Contains, refl, sym, ap, ◌∙◌, arith, append_assoc, length-append}
 use Rattle.std.proofs.lemmas.List.{length-take, drop-take, drop-drop, length-drop, take_more, take-append-drop, take-take}
-use Rattle.swh_outside.specs.Source.{IsGot, LosesSome}
+use Rattle.swh_outside.specs.Source.{LosesSome}
 use Rattle.swh_fastlex.specs.Line.{Held, unread, IsLine, MovesFront, MovesBytes, StaysUnread}
 use Rattle.swh_fastlex.proofs.Pieces.{dropped}
 

@@ -4,7 +4,7 @@ use Rattle.swh_fastlex.specs.Path.{NamesPath, NamesPathBefore, PassesPath}
 use Rattle.swh_fastlex.specs.declared.paths.PathBefore.{PathBefore}
 use Rattle.swh_fastlex.proofs.Pieces.{left_over, one_spelling}
 use Rattle.swh_fastlines.specs.declared.change_lines.ChangeLine.{ChangeLine}
-use Rattle.swh_fastlines.specs.declared.change_lines.ChangeLine.TheVariants.{Whole, Over, No}
+use Rattle.swh_fastlines.specs.declared.change_lines.ChangeLine.TheVariants.{Whole, No}
 use Rattle.swh_fastlines.specs.declared.change_lines.Pair.{Pair}
 use Rattle.swh_fastgrammar.specs.declared.command.Change.{Change}
 use Rattle.swh_fastgrammar.specs.declared.command.Change.TheVariants.{Set, Delete, Copy, Move, Clear}

@@ -1,14 +1,9 @@
 -- Lines with which no item begins.
-use Rattle.std.proofs.Common.{◌≡◌, ℕ, inl, inr, List, [], ◌∷◌, ◌++◌, sym, ap, ◌∙◌, subst, arith, codes}
-use Rattle.swh_fastgrammar.specs.declared.command.Command.TheVariants.{Blob, Commit, Tag, Reset}
+use Rattle.std.proofs.Common.{◌≡◌, ℕ, List, [], ◌∷◌, ◌++◌, sym, ap, ◌∙◌}
 use Rattle.swh_fastgrammar.specs.Grammar.{line_at, Item, IsItem}
-use Rattle.swh_fastgrammar.specs.Grammar.Item.{Says, Promise, Nothing}
 use Rattle.swh_fastgrammar.specs.Row.{Placed}
-use Rattle.swh_fastgrammar.specs.Word.{NamesRef, NamesTag}
 use Rattle.swh_fastgrammar.proofs.Parts.{cons_cut}
-use Rattle.swh_fastgrammar.proofs.Rows.{same_tail}
 use Rattle.swh_fastgrammar.proofs.Streams.{shape, tag_of, tag_of_line}
-use Rattle.swh_fastlines.specs.ItemLine.{SaysNothing, BeginsNone}
 
 -- what a first line begins
 pub kind : (q : Placed) (more : List Placed) (i : Item) (line : List ℕ) → q.row.line ≡ line → IsItem (q ∷ more) i → tag_of_line line ≡ tag_of i

@@ -7,8 +7,8 @@ use Rattle.swh_base.specs.Text.{IsRef, is_ref_byte}
 use Rattle.swh_fastgrammar.specs.declared.command.Commitish.{Commitish}
 use Rattle.swh_fastgrammar.specs.declared.command.Commitish.TheVariants.{Mark, Branch}
 use Rattle.swh_fastlines.specs.Limit.{PassesRef}
-use Rattle.swh_fastgrammar.specs.Word.{IsMark, NamesCommit, IsRefUpTo, IsRefRun, EndsCommit}
-use Rattle.swh_fastgrammar.proofs.Words.{not_among, no_colon}
+use Rattle.swh_fastgrammar.specs.Word.{NamesCommit, IsRefUpTo, IsRefRun, EndsCommit}
+use Rattle.swh_fastgrammar.proofs.Words.{not_among}
 
 abbrev first : List ℕ → ℕ
 first [] = 0

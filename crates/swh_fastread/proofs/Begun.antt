@@ -3,7 +3,6 @@ use Rattle.std.proofs.Common.{◌≡◌, ℕ, inl, inr, Bool, true, false, List,
 use Rattle.swh_fastgrammar.specs.declared.command.At.{At}
 use Rattle.swh_fastgrammar.specs.declared.command.Commitish.{Commitish}
 use Rattle.swh_fastgrammar.specs.declared.command.Change.{Change}
-use Rattle.swh_fastgrammar.specs.declared.command.Command.{Command}
 use Rattle.swh_fastgrammar.specs.declared.command.Command.TheVariants.{Blob, Commit, Tag, Reset}
 use Rattle.swh_fastrows.specs.declared.fail.ReadFail.{ReadFail}
 use Rattle.swh_fastrows.specs.declared.fail.ReadFail.TheVariants.{BadStream, ReadFault, Limit, Memory}
@@ -11,16 +10,14 @@ use Rattle.swh_fastgrammar.specs.declared.fault.StreamWhy.TheVariants.{Grammar, 
 use Rattle.swh_fastrows.specs.Explains.{PartFails, DataFails, Stops, Explains}
 use Rattle.swh_fastgrammar.specs.Grammar.{◌▹◌, ◌▸◌, optional, line_at, line, nothing, contents, mark, oid, start_of, Item, IsItem}
 use Rattle.swh_fastgrammar.specs.Grammar.Item.{Says, Promise, Nothing}
-use Rattle.swh_fastrows.specs.Outcome.{Starts, Ended}
-use Rattle.swh_fastrows.specs.Places.{Place, left, Took, Refuses, position}
+use Rattle.swh_fastrows.specs.Places.{Place, Took, Refuses}
 use Rattle.swh_fastgrammar.specs.Row.{IsData, Placed}
 use Rattle.swh_fastgrammar.specs.Word.{NamesRef, NamesTag}
 use Rattle.swh_fastgrammar.proofs.Items.{author}
-use Rattle.swh_fastrows.proofs.Joins.{or-false}
 use Rattle.swh_fastgrammar.proofs.Parts.{Single, cons_cut}
 use Rattle.swh_fastgrammar.proofs.Items.{line_single}
 use Rattle.swh_fastread.proofs.Places.{from_committer, from_from}
-use Rattle.swh_fastread.proofs.Remains.{Within, Whole, Wants, break_line, break_end, break_data, break_limit, break_over}
+use Rattle.swh_fastread.proofs.Remains.{Within, Wants, break_line, break_end, break_data, break_limit, break_over}
 use Rattle.swh_fastlines.proofs.ItemLines.{kind}
 
 -- what follows a first part of one row

@@ -1,15 +1,13 @@
 -- The bytes that are held, and lines that are taken.
-use Rattle.std.proofs.Common.{◌≡◌, ℕ, ◌+◌, ◌<◌, ◌≤◌, inl, inr, true, false, List, [], ◌∷◌, ◌++◌, length, length-append, Contains, refl, sym, ap, ◌∙◌, subst, arith, append_assoc, Result, Ok, Err, IfErr}
+use Rattle.std.proofs.Common.{◌≡◌, ℕ, ◌+◌, ◌≤◌, inl, inr, true, false, List, [], ◌∷◌, ◌++◌, length, length-append, Contains, refl, sym, ap, ◌∙◌, subst, arith, append_assoc, Result, Ok, Err, IfErr}
 use Rattle.swh_base.proofs.Splits.{sized_split}
 use Rattle.swh_base.specs.Limits.{line_limit}
 use Rattle.swh_fastlex.specs.Line.{Held, unread, IsLine}
 use Rattle.swh_fastlex.specs.Delimited.{IsDataFault}
 use Rattle.swh_fastlex.specs.declared.fault.DataFault.{DataFault}
 use Rattle.swh_fastlex.specs.declared.fault.DataFault.TheVariants as Data
-use Rattle.swh_fastrows.specs.declared.ahead.Ahead.{Ahead}
-use Rattle.swh_fastrows.specs.declared.ahead.Ahead.TheVariants.{End}
 use Rattle.swh_fastgrammar.specs.Grammar.{line_at}
-use Rattle.swh_fastrows.specs.Held.{EndsNext, HeldCounts, IsAhead, IsNext, LinesFail}
+use Rattle.swh_fastrows.specs.Held.{EndsNext, HeldCounts, IsNext, LinesFail}
 use Rattle.swh_fastrows.specs.Within.{LineFits, Fits}
 use Rattle.swh_fastrows.specs.declared.row_source.TheConstants.{STREAM_LIMIT}
 use Rattle.swh_fastgrammar.proofs.Faults.{append_nil}

@@ -5,7 +5,7 @@ use Rattle.swh_fastgrammar.specs.declared.command.At.{At}
 use Rattle.swh_fastrows.specs.declared.fail.ReadFail.{ReadFail}
 use Rattle.swh_fastrows.specs.declared.fail.ReadFail.TheVariants.{BadStream, ReadFault, Limit, Memory}
 use Rattle.swh_fastgrammar.specs.declared.fault.StreamWhy.TheVariants.{Grammar, End, LeftOut, Mark, Branch, Place as Spot}
-use Rattle.swh_fastrows.specs.Explains.{PassesAfter, PartFails, DataFails, Stops, Refusal, line_refusal, IsClear, EndsWhole}
+use Rattle.swh_fastrows.specs.Explains.{PassesAfter, PartFails, DataFails, Refusal, line_refusal, IsClear, EndsWhole}
 use Rattle.swh_fastrows.specs.Within.{LinePasses, LineFits, PassesWord}
 use Rattle.swh_base.specs.declared.visit.Which.{Which}
 use Rattle.swh_base.specs.declared.visit.Which.TheVariants.{Body, Objects, Bytes, Store, Ledger, Stream, Line, Path, Ref, Refs}
