@@ -6,9 +6,9 @@ use Rattle.swh_base.specs.declared.entry.Entry.{Entry}
 use Rattle.swh_model.specs.Meaning.{Made}
 use Rattle.swh_trees.specs.declared.tree.Tree.{Tree}
 use Rattle.swh_trees.specs.Grove.{Grove, StandsFor}
-use Rattle.swh_trees.specs.Leaf.{IsLeafMode}
+use Rattle.swh_folders.specs.Leaf.{IsLeafMode}
 use Rattle.swh_fastlex.specs.Path.{IsPath}
-use Rattle.swh_trees.specs.PathMap.{PathMap}
+use Rattle.swh_folders.specs.PathMap.{PathMap}
 use Rattle.swh_fastgrammar.specs.declared.command.Dataref.{Dataref}
 use Rattle.swh_fastgrammar.specs.declared.command.Dataref.TheVariants.{Mark, Inline, Hex}
 use Rattle.swh_fastgrammar.specs.declared.command.Change.{Change}
