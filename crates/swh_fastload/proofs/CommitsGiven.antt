@@ -16,11 +16,12 @@ use Rattle.swh_base.proofs.Children.{one_list}
 use Rattle.swh_revfmt.specs.Plain.{RevisionRest, revision_rest, plain_revision_text}
 use Rattle.swh_model.specs.Meaning.{Made, directory}
 use Rattle.swh_trees.specs.declared.tree.Tree.{Tree}
-use Rattle.swh_trees.specs.declared.entry.Leaf.{Leaf}
-use Rattle.swh_trees.specs.Grove.{Grove, IsBelow, Keeps, StandsFor, folder_map, map_of}
+use Rattle.swh_folders.specs.declared.entry.Leaf.{Leaf}
+use Rattle.swh_trees.specs.Grove.{Grove, Keeps, StandsFor, folder_map, map_of}
+use Rattle.swh_folders.specs.Roots.{IsBelow}
 use Rattle.swh_trees.specs.Makes.{Makes, IsFolderOf, IsNumbered}
 use Rattle.swh_trees.specs.Objects.{AreDirectoryObjects, IsDirectoryObject}
-use Rattle.swh_trees.specs.PathMap.{PathMap, HasFolder, held, held_by}
+use Rattle.swh_folders.specs.PathMap.{PathMap, HasFolder, held, held_by}
 use Rattle.swh_trees.specs.Directory.{directory_id, directory_of}
 use Rattle.swh_fastmeaning.specs.Making.{made_from, made}
 use Rattle.swh_fastmeaning.specs.Aims.{Aim, AllAims, with_mark, with_tip, aim_with, aims_with}

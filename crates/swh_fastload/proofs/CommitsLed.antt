@@ -17,9 +17,10 @@ use Rattle.swh_base.specs.Directory.{directory_text}
 use Rattle.swh_trees.specs.Directory.{directory_id, directory_of}
 use Rattle.swh_model.specs.Meaning.{Made, directory}
 use Rattle.swh_trees.specs.declared.tree.Tree.{Tree}
-use Rattle.swh_trees.specs.Grove.{Grove, IsBelow, folder_map, map_of, map_of_number}
+use Rattle.swh_trees.specs.Grove.{Grove, folder_map, map_of}
+use Rattle.swh_folders.specs.Roots.{IsBelow, map_of_number}
 use Rattle.swh_trees.specs.Makes.{IsNumbered}
-use Rattle.swh_trees.specs.PathMap.{PathMap, HasFolder, held}
+use Rattle.swh_folders.specs.PathMap.{PathMap, HasFolder, held}
 use Rattle.swh_fastmeaning.specs.Making.{made_from, made}
 use Rattle.swh_fastmeaning.specs.Whole.{content_name}
 use Rattle.swh_fastmeaning.specs.Aims.{Aim, AllAims, Missing, blob_at, with_mark, with_tip, aim_with, aims_with}

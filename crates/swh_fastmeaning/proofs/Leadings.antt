@@ -9,9 +9,10 @@ use Rattle.swh_base.specs.declared.entry.Entry.{Entry}
 use Rattle.swh_base.specs.Text.{IsRef}
 use Rattle.swh_model.specs.Meaning.{Made, content}
 use Rattle.swh_trees.specs.declared.tree.Tree.{Tree}
-use Rattle.swh_trees.specs.Grove.{Grove, IsBelow, StandsFor, folder_map, map_of}
-use Rattle.swh_trees.specs.declared.entry.Leaf.{Leaf}
-use Rattle.swh_trees.specs.PathMap.{PathMap}
+use Rattle.swh_trees.specs.Grove.{Grove, StandsFor, folder_map, map_of}
+use Rattle.swh_folders.specs.Roots.{IsBelow}
+use Rattle.swh_folders.specs.declared.entry.Leaf.{Leaf}
+use Rattle.swh_folders.specs.PathMap.{PathMap}
 use Rattle.swh_fastmeaning.specs.Making.{made_from, made}
 use Rattle.swh_fastgrammar.specs.declared.command.Command.{Command}
 use Rattle.swh_fastgrammar.specs.declared.command.Command.TheVariants.{Blob, Reset}

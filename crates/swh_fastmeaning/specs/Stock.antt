@@ -11,10 +11,11 @@ use Rattle.swh_base.specs.Directory.{IsEntryName, directory_text}
 use Rattle.swh_base.specs.Manifest.{AreChildren}
 use Rattle.swh_model.specs.Meaning.{Made, directory}
 use Rattle.swh_trees.specs.declared.tree.Tree.{Tree}
-use Rattle.swh_trees.specs.declared.entry.Leaf.{Leaf}
-use Rattle.swh_trees.specs.Grove.{Grove, IsBelow, folder_map, map_of, StandsFor}
-use Rattle.swh_trees.specs.Leaf.{IsLeafMode}
-use Rattle.swh_trees.specs.PathMap.{PathMap, begins}
+use Rattle.swh_folders.specs.declared.entry.Leaf.{Leaf}
+use Rattle.swh_trees.specs.Grove.{Grove, folder_map, map_of, StandsFor}
+use Rattle.swh_folders.specs.Roots.{IsBelow}
+use Rattle.swh_folders.specs.Leaf.{IsLeafMode}
+use Rattle.swh_folders.specs.PathMap.{PathMap, begins}
 use Rattle.swh_trees.specs.Directory.{directory_of}
 use Rattle.swh_fastmeaning.specs.Making.{made_from, made}
 use Rattle.swh_fastmeaning.specs.Whole.{content_name}

@@ -8,32 +8,35 @@ use Rattle.std.specs.Prelude.{IfNone, IfSome, OnErr, Result, Ok, Err}
 use Rattle.swh_base.specs.declared.entry.Entry.{Entry as Object}
 use Rattle.swh_base.specs.declared.kind.Kind.{Kind}
 use Rattle.swh_base.specs.Directory.{DirectoryEntry, directory_text}
-use Rattle.swh_trees.specs.declared.entry.Leaf.{Leaf}
-use Rattle.swh_trees.specs.declared.entry.Entry.{Entry}
-use Rattle.swh_trees.specs.declared.entry.Child.{Child}
-use Rattle.swh_trees.specs.declared.entry.Child.TheVariants.{File as FileChild, Folder as FolderChild}
+use Rattle.swh_folders.specs.declared.entry.Leaf.{Leaf}
+use Rattle.swh_folders.specs.declared.entry.Entry.{Entry}
+use Rattle.swh_folders.specs.declared.entry.Child.{Child}
+use Rattle.swh_folders.specs.declared.entry.Child.TheVariants.{File as FileChild, Folder as FolderChild}
 use Rattle.swh_trees.specs.declared.fault.TreeFault.{TreeFault}
 use Rattle.swh_trees.specs.declared.fault.TreeFault.TheVariants.{Memory, TooLong}
-use Rattle.swh_trees.specs.declared.folders.Folders.{Folders}
+use Rattle.swh_folders.specs.declared.folders.Folders.{Folders}
 use Rattle.swh_trees.specs.declared.tree.Tree.{Tree}
-use Rattle.swh_trees.specs.Arena.{name_at, stands, forest_of, texts, tree_at, AreGood, IsLower}
+use Rattle.swh_folders.specs.Arena.{name_at, stands, forest_of, texts, tree_at, AreGood, IsLower}
 use Rattle.swh_trees.specs.Directory.{directory_id, directory_of}
-use Rattle.swh_trees.specs.Forest.{Forest, Stands, Nothing, IsFile, IsFolder, beside, child_at, forest, found, leaf_of, at, flat, shown, directory}
-use Rattle.swh_trees.specs.Grove.{StandsFor, Keeps, IsTree, IsBelow, folder_map, map_of, map_of_number}
-use Rattle.swh_trees.specs.Held.{AreIds, IsEmptyFolder, IsHeld, first_values, grove, map_at, root_forest, kept_number, kept_empty}
-use Rattle.swh_trees.specs.Live.{IsPart}
+use Rattle.swh_folders.specs.Forest.{Forest, Stands, Nothing, IsFile, IsFolder, beside, child_at, forest, found, leaf_of, at, flat, shown}
+use Rattle.swh_trees.specs.Listing.{directory}
+use Rattle.swh_trees.specs.Grove.{StandsFor, Keeps, IsTree, folder_map, map_of}
+use Rattle.swh_folders.specs.Roots.{IsBelow, map_of_number, map_at, root_forest}
+use Rattle.swh_trees.specs.Held.{AreIds, IsEmptyFolder, IsHeld, first_values, grove, kept_number, kept_empty}
+use Rattle.swh_folders.specs.Live.{IsPart}
 use Rattle.swh_trees.specs.Makes.{IsFolderOf, IsNumbered, Makes, ExplainsTree}
-use Rattle.swh_trees.specs.Objects.{IsDirectoryObject, AreDirectoryObjects}
-use Rattle.swh_trees.specs.PathMap.{PathMap, same, leaf_at, held, HasFolder}
-use Rattle.swh_trees.specs.Sound.{IsSound, IsSoundHere}
-use Rattle.swh_trees.specs.Working.{AreFolders, count_of, folder_at, root_map, StaysBelow, ExplainsPart}
-use Rattle.swh_trees.proofs.Arenas.{tree-node, entries-low}
-use Rattle.swh_trees.proofs.Canonical.{own-leaf}
-use Rattle.swh_trees.proofs.Directories.{HavePaths, paths-flat, flat-some, directory-of}
-use Rattle.swh_trees.proofs.Lives.{part-sound}
-use Rattle.swh_trees.proofs.Lookups.{found-append, found-nothing, found-file, map-at}
-use Rattle.swh_trees.proofs.Puts.{held-root}
-use Rattle.swh_trees.proofs.Sounds.{found-sound, child-sound}
+use Rattle.swh_trees.specs.Objects.{IsDirectoryObject, AreDirectoryObjects, ExplainsPart}
+use Rattle.swh_folders.specs.PathMap.{PathMap, same, leaf_at, held, HasFolder}
+use Rattle.swh_folders.specs.Sound.{IsSound, IsSoundHere}
+use Rattle.swh_folders.specs.Working.{AreFolders, count_of, folder_at, root_map, StaysBelow}
+use Rattle.swh_folders.proofs.Arenas.{tree-node, entries-low}
+use Rattle.swh_folders.proofs.Canonical.{own-leaf}
+use Rattle.swh_folders.proofs.Flats.{HavePaths, paths-flat, flat-some}
+use Rattle.swh_trees.proofs.Directories.{directory-of}
+use Rattle.swh_folders.proofs.Lives.{part-sound}
+use Rattle.swh_folders.proofs.Lookups.{found-append, found-nothing, found-file, map-at}
+use Rattle.swh_folders.proofs.Puts.{held-root}
+use Rattle.swh_folders.proofs.Sounds.{found-sound, child-sound}
 
 -- ## Folders of a folder and of its map
 

@@ -1,7 +1,8 @@
 -- Trees as their callers see them: the folders by their numbers, each as the map of its paths.
-use Rattle.std.specs.Prelude.{◌≡◌, ℕ, ◌<◌, List, [], length, slice_index_or, Option, Some, None}
+use Rattle.std.specs.Prelude.{◌≡◌, ℕ, ◌<◌, List, [], length, slice_index_or}
 use Rattle.swh_trees.specs.declared.tree.Tree.{Tree}
-use Rattle.swh_trees.specs.PathMap.{PathMap}
+use Rattle.swh_folders.specs.PathMap.{PathMap}
+use Rattle.swh_folders.specs.Roots.{IsBelow, map_of_number}
 
 -- the map of each folder, in the order of their numbers, and of how many folders, the first ones, the objects were made
 pub record Grove : Type 0 where
@@ -11,16 +12,6 @@ pub record Grove : Type 0 where
 -- the map of the folder of this number
 abbrev pub folder_map : Grove → ℕ → PathMap
 folder_map g n = slice_index_or g.folders n []
-
--- the number of no folder, or one below this
-abbrev pub IsBelow : ℕ → Option ℕ → Type 0
-IsBelow n None = Unit {0}
-IsBelow n (Some k) = k < n
-
--- what a number stands for, and none for the empty map
-abbrev pub map_of_number : (ℕ → PathMap) → Option ℕ → PathMap
-map_of_number map_at None = []
-map_of_number map_at (Some n) = map_at n
 
 -- the tree's map
 abbrev pub map_of : Grove → Tree → PathMap

@@ -3,31 +3,14 @@ use Rattle.std.specs.Prelude.{◌≡◌, ℕ, zero, suc, ◌<◌, ◌≤◌, Lis
 use Rattle.std.specs.Global.{Vec}
 use Rattle.swh_base.specs.declared.kind.Kind.{Kind}
 use Rattle.swh_base.specs.Directory.{DirectoryEntry}
-use Rattle.swh_trees.specs.declared.entry.Entry.{Entry}
-use Rattle.swh_trees.specs.Arena.{tree_at, IsArena}
+use Rattle.swh_folders.specs.declared.entry.Entry.{Entry}
+use Rattle.swh_folders.specs.Arena.{tree_at}
 use Rattle.swh_trees.specs.Directory.{directory_id}
-use Rattle.swh_trees.specs.Forest.{Forest, Bare, directory, flat}
-use Rattle.swh_trees.specs.PathMap.{PathMap}
-use Rattle.swh_trees.specs.Sound.{IsSound}
+use Rattle.swh_folders.specs.Forest.{Forest, Bare}
+use Rattle.swh_trees.specs.Listing.{directory}
+use Rattle.swh_folders.specs.PathMap.{PathMap}
+use Rattle.swh_folders.specs.Roots.{IsGood, map_at}
 use Rattle.swh_trees.specs.Grove.{Grove}
-
--- each folder is sound
-abbrev pub AreSound : List (Vec ℕ) → List (Vec Entry) → Type 0
-AreSound names nodes = (i : ℕ) → i < length nodes → IsSound (tree_at names nodes i)
-
--- numbered folders, all of them sound
-pub record IsGood (names : List (Vec ℕ)) (nodes : List (Vec Entry)) : Type 0 where
-  pub arena : IsArena names nodes
-  pub sound : AreSound names nodes
-
--- the map of a number
-abbrev pub map_at : List (Vec ℕ) → List (Vec Entry) → ℕ → PathMap
-map_at names nodes n = flat (tree_at names nodes n)
-
--- the folder of a number, and none where there is no number
-abbrev pub root_forest : (ℕ → Forest) → Option ℕ → Forest
-root_forest at None = Bare
-root_forest at (Some n) = at n
 
 -- the ids of the first folders
 abbrev pub AreIds : (List DirectoryEntry → List ℕ) → (ℕ → Forest) → List (List ℕ) → Type 0

@@ -1,13 +1,6 @@
-pub mod Arena
 pub mod Directory
-pub mod Forest
 pub mod Grove
 pub mod Held
-pub mod Leaf
-pub mod Live
+pub mod Listing
 pub mod Makes
-pub mod Moved
 pub mod Objects
-pub mod PathMap
-pub mod Sound
-pub mod Working

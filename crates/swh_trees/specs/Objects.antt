@@ -8,6 +8,9 @@ use Rattle.swh_base.specs.Limits.{body_limit}
 use Rattle.swh_trees.specs.declared.fault.TreeFault.{TreeFault}
 use Rattle.swh_trees.specs.declared.fault.TreeFault.TheVariants.{Memory, TooLong}
 use Rattle.swh_trees.specs.Directory.{directory_id}
+use Rattle.swh_folders.specs.Forest.{Forest, Stands}
+use Rattle.swh_trees.specs.Listing.{directory}
+use Rattle.swh_folders.specs.Live.{IsPart}
 
 -- The object is the directory of these entries.
 pub record IsDirectoryObject (id_of : Kind → List ℕ → List ℕ) (entries : List DirectoryEntry) (o : Object) : Type 0 where
@@ -35,6 +38,11 @@ ExplainsEntries entries (TooLong len) = (len ≡ length (directory_text entries)
 abbrev pub ExplainsAmong : (ℕ → List DirectoryEntry) → ℕ → ℕ → TreeFault → Type 0
 ExplainsAmong entries_at from end Memory = Unit {0}
 ExplainsAmong entries_at from end (TooLong len) = (n : ℕ) × (from ≤ n) × (n < end) × (len ≡ length (directory_text (entries_at n))) × (body_limit < len)
+
+-- The body of a folder that stands here is above the limit, unless memory ran out.
+abbrev pub ExplainsPart : (List DirectoryEntry → List ℕ) → Stands → TreeFault → Type 0
+ExplainsPart id x Memory = Unit {0}
+ExplainsPart id x (TooLong len) = (g : Forest) × IsPart x g × (len ≡ length (directory_text (directory id g))) × (body_limit < len)
 
 -- the second list goes on from the first
 pub record GoesOn (old new : List (List ℕ)) : Type 0 where

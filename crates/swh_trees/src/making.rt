@@ -2,19 +2,19 @@
 
 ghost use Rattle.std.specs.Prelude.{◌≡◌, ◌<◌, ◌≤◌, ◌+◌, ℕ, List, length, Option, IfOk, IfErr, OnOk, OnErr};
 ghost use Rattle.swh_trees.specs.Directory.{directory_id};
-ghost use Rattle.swh_trees.specs.Forest.{Bare, IsFolder, directory};
-ghost use Rattle.swh_trees.specs.Grove.{IsBelow};
-ghost use Rattle.swh_trees.specs.Held.{AreIds, IsEmptyFolder, root_forest};
-ghost use Rattle.swh_trees.specs.Live.{IsPart};
-ghost use Rattle.swh_trees.specs.Objects.{AreDirectoryObjects};
-ghost use Rattle.swh_trees.specs.Working.{AreFolders, count_of, folder_at, StaysBelow, ExplainsPart};
+ghost use Rattle.swh_folders.specs.Forest.{Bare, IsFolder};
+ghost use Rattle.swh_trees.specs.Listing.{directory};
+ghost use Rattle.swh_folders.specs.Roots.{IsBelow, root_forest};
+ghost use Rattle.swh_trees.specs.Held.{AreIds, IsEmptyFolder};
+ghost use Rattle.swh_folders.specs.Live.{IsPart};
+ghost use Rattle.swh_trees.specs.Objects.{AreDirectoryObjects, ExplainsPart};
+ghost use Rattle.swh_folders.specs.Working.{AreFolders, count_of, folder_at, StaysBelow};
 
-use crate::compact::compact;
 use crate::fault::TreeFault;
-use crate::folders::{Folders, count_from};
 use crate::objects::make_all;
 use std::alloc::{AllocError, Global};
 use swh_base::Namer;
+use swh_folders::{Folders, compact, count_from};
 use swh_object::Object;
 
 /// The number of an empty folder: this one, or else a new one.

@@ -4,10 +4,12 @@ ghost use Rattle.std.specs.Prelude.{◌≡◌, ◌<◌, ◌≤◌, ◌+◌, ◌+
 ghost use Rattle.std.specs.Global.{Vec};
 ghost use Rattle.swh_base.specs.Directory.{DirectoryEntry, AreEntries};
 ghost use Rattle.swh_dirfmt.specs.Entries.{entry_views};
-ghost use Rattle.swh_trees.specs.Arena.{tree_at};
+ghost use Rattle.swh_folders.specs.Arena.{tree_at};
 ghost use Rattle.swh_trees.specs.Directory.{directory_id};
-ghost use Rattle.swh_trees.specs.Forest.{directory, IsFolder};
-ghost use Rattle.swh_trees.specs.Held.{IsGood, AreIds};
+ghost use Rattle.swh_trees.specs.Listing.{directory};
+ghost use Rattle.swh_folders.specs.Forest.{IsFolder};
+ghost use Rattle.swh_folders.specs.Roots.{IsGood};
+ghost use Rattle.swh_trees.specs.Held.{AreIds};
 ghost use Rattle.swh_trees.specs.Objects.{
   IsDirectoryObject,
   AreDirectoryObjects,
@@ -18,11 +20,11 @@ ghost use Rattle.swh_trees.specs.Objects.{
 };
 
 use crate::directory::listing;
-use crate::entry::{Entry, whole_id};
 use crate::fault::TreeFault;
 use std::alloc::Global;
 use swh_base::{Kind, Namer};
 use swh_dirfmt::{DirEntry, Entries, write_dir};
+use swh_folders::{Entry, whole_id};
 use swh_object::{Object, ObjectFault};
 
 /// The object of the directory of these entries.

@@ -255,17 +255,6 @@ fn a_folder_copied_into_itself(rt: HostRuntime) -> Result<(), Fail> {
     Ok(())
 }
 
-#[test]
-fn a_source_that_holds_nothing(rt: HostRuntime) -> Result<(), Fail> {
-    let alloc = rt.alloc();
-    let mut trees = Trees::new(alloc, Sha1Namer);
-    let copied = [Change::Set(b"a/x"), Change::Copy(b"a/y", b"b")];
-    assert!(rt; after(&mut trees, alloc, Tree::empty(), &copied)?.is_none());
-    let renamed = [Change::Set(b"a/x"), Change::Rename(b"a/x/y", b"b")];
-    assert!(rt; after(&mut trees, alloc, Tree::empty(), &renamed)?.is_none());
-    Ok(())
-}
-
 /// A commit makes the folders that it changes, and a later one may start from an earlier tree.
 #[test]
 fn folders_shared_by_commits(rt: HostRuntime) -> Result<(), Fail> {

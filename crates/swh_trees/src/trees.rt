@@ -1,13 +1,12 @@
 //! Trees of commits.
 
-use crate::entry::{Leaf, whole_id};
 use crate::fault::TreeFault;
-use crate::folders::{Folders, copy_in, delete_in, rename_in, set_in};
 use crate::making::{make_folders, root_number};
 use crate::tree::Tree;
 use std::alloc::Global;
 use std::marker::Model;
 use swh_base::{Memory, Namer};
+use swh_folders::{Folders, Leaf, copy_in, delete_in, rename_in, set_in, whole_id};
 use swh_object::Object;
 
 /// Trees that share the folders which they have in common, and the ids of the folders whose objects were made, by the
@@ -42,7 +41,7 @@ impl<N: Namer> Model for Trees<N> {
 }
 
 ghost use Rattle.std.specs.Prelude.{◌≡◌, ◌↔◌, None, Some, IsTrue, IfNone, IfSome};
-ghost use Rattle.swh_trees.specs.Grove.{IsBelow};
+ghost use Rattle.swh_folders.specs.Roots.{IsBelow};
 ghost use Rattle.swh_trees.specs.Held.{kept_number, kept_empty};
 
 /// The tree, and the number of the empty folder, after the objects were made. The root's folder has this number now.
@@ -85,10 +84,10 @@ fn tree_of(found: Option<Option<usize>>) -> Option<Tree>
 impl<N: Namer> Trees<N> {
     ghost use Rattle.std.specs.Prelude.{◌≡◌, ◌≢◌, ◌↔◌, [], IsTrue, IfOk, IfErr, IfSome, IfNone, OnErr};
     ghost use Rattle.swh_trees.specs.Grove.{map_of, IsTree, Keeps, StandsFor};
-    ghost use Rattle.swh_trees.specs.Leaf.{IsLeafMode};
+    ghost use Rattle.swh_folders.specs.Leaf.{IsLeafMode};
     ghost use Rattle.swh_trees.specs.Makes.{Makes, ExplainsTree};
     ghost use Rattle.swh_fastlex.specs.Path.{components, IsPath};
-    ghost use Rattle.swh_trees.specs.PathMap.{set, delete, copy, rename, held};
+    ghost use Rattle.swh_folders.specs.PathMap.{set, delete, copy, rename, held};
 
     /// No tree but the empty one.
     pub fn new(alloc: Global, namer: N) -> Trees<N>

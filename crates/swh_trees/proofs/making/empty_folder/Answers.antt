@@ -1,5 +1,5 @@
 use Rattle.std.proofs.Common.{rules, ◌≡◌, length, refl}
-use Rattle.swh_trees.proofs.Workings.{stays-pushed, tree-pushed}
+use Rattle.swh_folders.proofs.Workings.{stays-pushed, tree-pushed}
 use Rattle.swh_trees.proofs.making.empty_folder.Goals as goal
 
 pub returns-in_ok-push-in-None-clause-stays : goal.returns-in_ok-push-in-None-clause-stays

@@ -1,4 +1,4 @@
-use Rattle.swh_trees.proofs.Lives.{arena-lower}
+use Rattle.swh_folders.proofs.Lives.{arena-lower}
 use Rattle.swh_trees.proofs.making.make_folders.Goals as goal
 
 pub compact-requires-clause-lower : goal.compact-requires-clause-lower

@@ -1,7 +1,7 @@
 use Rattle.std.proofs.Common.{◌≡◌, ◌+◌, ◌-◌, ◌≤◌, length}
-use Rattle.swh_trees.specs.Arena.{tree_at}
+use Rattle.swh_folders.specs.Arena.{tree_at}
 use Rattle.swh_trees.specs.Directory.{directory_id}
-use Rattle.swh_trees.specs.Forest.{directory}
+use Rattle.swh_trees.specs.Listing.{directory}
 use Rattle.swh_trees.specs.Held.{AreIds}
 use Rattle.swh_trees.specs.Objects.{AreDirectoryObjects, GoesOn}
 use Rattle.swh_trees.proofs.objects.make_all.Given as goal

@@ -1,11 +1,12 @@
 use Rattle.std.proofs.Common.{rules, ◌≡◌, ◌≢◌, [], ℕ, length, Option, sym, ap, refl, subst, ◌∙◌}
 use Rattle.std.specs.Prelude.{IfNone, IfSome}
 use Rattle.swh_trees.specs.declared.tree.Tree.{Tree}
-use Rattle.swh_trees.specs.Grove.{Grove, IsTree, IsBelow, Keeps, StandsFor, map_of}
+use Rattle.swh_trees.specs.Grove.{Grove, IsTree, Keeps, StandsFor, map_of}
+use Rattle.swh_folders.specs.Roots.{IsBelow}
 use Rattle.swh_trees.specs.Held.{grove}
 use Rattle.swh_fastlex.specs.Path.{components}
-use Rattle.swh_trees.specs.PathMap.{PathMap, copy, held}
-use Rattle.swh_trees.specs.Working.{StaysBelow, root_map, count_of}
+use Rattle.swh_folders.specs.PathMap.{PathMap, copy, held}
+use Rattle.swh_folders.specs.Working.{StaysBelow, root_map, count_of}
 use Rattle.swh_trees.proofs.Parts.{is-tree, map-is, stands-for, keeps-stays, none-mapped, none-both, some-mapped, some-both}
 use Rattle.swh_trees.proofs.trees.Trees.copy.Goals as goal
 

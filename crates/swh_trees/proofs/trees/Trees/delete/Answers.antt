@@ -2,8 +2,8 @@ use Rattle.std.proofs.Common.{rules, ◌≡◌, ℕ, length, sym, ap, refl, subs
 use Rattle.swh_trees.specs.Grove.{Grove, IsTree, Keeps, map_of}
 use Rattle.swh_trees.specs.Held.{grove}
 use Rattle.swh_fastlex.specs.Path.{components}
-use Rattle.swh_trees.specs.PathMap.{delete}
-use Rattle.swh_trees.specs.Working.{StaysBelow, root_map}
+use Rattle.swh_folders.specs.PathMap.{delete}
+use Rattle.swh_folders.specs.Working.{StaysBelow, root_map}
 use Rattle.swh_trees.proofs.Parts.{is-tree, map-is, stands-for, keeps-stays}
 use Rattle.swh_trees.proofs.trees.Trees.delete.Goals as goal
 

@@ -1,5 +1,6 @@
 use Rattle.std.proofs.Common.{rules, ◌≡◌, ℕ, length, sym, subst}
-use Rattle.swh_trees.specs.Grove.{Grove, IsTree, IsBelow}
+use Rattle.swh_trees.specs.Grove.{Grove, IsTree}
+use Rattle.swh_folders.specs.Roots.{IsBelow}
 use Rattle.swh_trees.proofs.Parts.{is-tree, tree-is}
 use Rattle.swh_trees.proofs.trees.Trees.has.Goals as goal
 

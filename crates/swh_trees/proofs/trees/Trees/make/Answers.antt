@@ -1,12 +1,12 @@
 use Rattle.std.proofs.Common.{rules, ◌≡◌, [], ℕ, length, sym, ap, refl, subst, ◌∙◌, arith}
 use Rattle.swh_trees.specs.Grove.{Grove, IsTree, Keeps, map_of}
 use Rattle.swh_trees.specs.Held.{grove}
-use Rattle.swh_trees.specs.PathMap.{PathMap}
-use Rattle.swh_trees.specs.Working.{StaysBelow, root_map, folder_at}
+use Rattle.swh_folders.specs.PathMap.{PathMap}
+use Rattle.swh_folders.specs.Working.{StaysBelow, root_map, folder_at}
 use Rattle.std.proofs.lemmas.List.{get_or_default}
 use Rattle.std.proofs.lemmas.Result.{err_from_is_err_and}
 use Rattle.swh_trees.specs.Makes.{Makes, ExplainsTree}
-use Rattle.swh_trees.proofs.Workings.{stays-on}
+use Rattle.swh_folders.proofs.Workings.{stays-on}
 use Rattle.swh_trees.proofs.Parts.{is-tree, map-is, keeps-stays, on-err, explained, IsMaking, makes-done}
 use Rattle.swh_trees.proofs.trees.Trees.make.Goals as goal
 

@@ -1,10 +1,10 @@
 use Rattle.std.proofs.Common.{rules, ◌≡◌, ℕ, List, length, sym, ap, refl, subst, ◌∙◌}
-use Rattle.swh_trees.specs.declared.entry.Leaf.{Leaf}
+use Rattle.swh_folders.specs.declared.entry.Leaf.{Leaf}
 use Rattle.swh_trees.specs.Grove.{Grove, IsTree, Keeps, map_of}
 use Rattle.swh_trees.specs.Held.{grove}
 use Rattle.swh_fastlex.specs.Path.{components}
-use Rattle.swh_trees.specs.PathMap.{set}
-use Rattle.swh_trees.specs.Working.{StaysBelow, root_map}
+use Rattle.swh_folders.specs.PathMap.{set}
+use Rattle.swh_folders.specs.Working.{StaysBelow, root_map}
 use Rattle.swh_trees.proofs.Parts.{is-tree, map-is, stands-for, keeps-stays}
 use Rattle.swh_trees.proofs.trees.Trees.set.Goals as goal
 

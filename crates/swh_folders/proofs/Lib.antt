@@ -1,0 +1,15 @@
+pub mod Grafts
+pub mod Steps
+pub mod Arenas
+pub mod Walks
+pub mod Sounds
+pub mod Flats
+pub mod Lookups
+pub mod Canonical
+pub mod Puts
+pub mod Components
+pub mod EditedRoots
+pub mod Copies
+pub mod Lives
+pub mod Moves
+pub mod Workings

@@ -1,0 +1,126 @@
+-- One entry more of a folder.
+use Rattle.std.proofs.Common.{◌≡◌, ℕ, ◌<◌, Bool, true, false, cond, List, [], ◌∷◌, ◌++◌, length, drop, ◌+◌, suc, zero, add-one, get_or, refl, sym, ap, ◌∙◌, arith}
+use Rattle.std.proofs.Math.Seq.{drop-cons}
+use Rattle.std.proofs.lemmas.List.{get_or-map, get_or_append_left, length-append}
+use Rattle.std.proofs.Math.Seq.{get_or-append_seam}
+use Rattle.std.specs.Global.{Vec}
+use Rattle.swh_folders.specs.declared.entry.Entry.{Entry}
+use Rattle.swh_folders.specs.declared.entry.Child.{Child}
+use Rattle.swh_folders.specs.declared.entry.Child.TheVariants.{File as FileChild, Folder as FolderChild}
+use Rattle.swh_folders.specs.Forest.{Forest, Bare, File, Folder, Stands, Nothing, IsFolder, beside, child_at, without, key, is_before, inserted, folder}
+use Rattle.swh_folders.specs.PathMap.{same}
+use Rattle.swh_folders.specs.Arena.{name_at, stands, forest_of, has_name, entries_without, suffix, entry_key, entries_with, texts, IsLower, IsGood, AreGood, Extends}
+
+pub text-at : (names : List (Vec ℕ)) (i : ℕ) (v : Vec ℕ) → i < length names → v ≡ get_or names i v → name_at (texts names) i ≡ v.items
+text-at names i v lt is = get_or-map (λ (w : Vec ℕ). w.items) names i v [] lt ∙ ap (λ (w : Vec ℕ). w.items) (sym is)
+
+abbrev pub child_of : List (List ℕ) → (ℕ → Forest) → List ℕ → List Entry → Stands
+child_of names at c es = child_at c (forest_of names at es)
+
+pub beside-here : (n c : List ℕ) (k : Child) (at : ℕ → Forest) (f : Forest) → same n c ≡ true → child_at c (beside n (stands at k) f) ≡ stands at k
+beside-here n c (FileChild l) at f e = rw e refl
+beside-here n c (FolderChild j) at f e = rw e refl
+
+pub beside-past : (n c : List ℕ) (k : Child) (at : ℕ → Forest) (f : Forest) → same n c ≡ false → child_at c (beside n (stands at k) f) ≡ child_at c f
+beside-past n c (FileChild l) at f e = rw e refl
+beside-past n c (FolderChild j) at f e = rw e refl
+
+pub child-here : (names : List (List ℕ)) (c : List ℕ) (es : List Entry) (i : ℕ) (d : Entry) (at : ℕ → Forest) → i < length es → same (name_at names (get_or es i d).name) c ≡ true → child_of names at c (drop i es) ≡ stands at (get_or es i d).child
+child-here names c es i d at lt e = rw (drop-cons es i d lt) (beside-here (name_at names (get_or es i d).name) c (get_or es i d).child at (forest_of names at (drop (suc i) es)) e)
+
+pub child-past : (names : List (List ℕ)) (c : List ℕ) (es : List Entry) (i : ℕ) (d : Entry) (at : ℕ → Forest) → i < length es → same (name_at names (get_or es i d).name) c ≡ false → child_of names at c (drop i es) ≡ child_of names at c (drop (i + 1) es)
+child-past names c es i d at lt e = rw (add-one, drop-cons es i d lt) (beside-past (name_at names (get_or es i d).name) c (get_or es i d).child at (forest_of names at (drop (suc i) es)) e)
+
+pub kept-here : (names : List (List ℕ)) (c : List ℕ) (es : List Entry) (i : ℕ) (d : Entry) → i < length es → same (name_at names (get_or es i d).name) c ≡ true → entries_without names c (drop i es) ≡ entries_without names c (drop (i + 1) es)
+kept-here names c es i d lt e = rw (add-one, drop-cons es i d lt, e) refl
+
+pub kept-past : (names : List (List ℕ)) (c : List ℕ) (es : List Entry) (i : ℕ) (d : Entry) → i < length es → same (name_at names (get_or es i d).name) c ≡ false → entries_without names c (drop i es) ≡ get_or es i d ∷ entries_without names c (drop (i + 1) es)
+kept-past names c es i d lt e = rw (add-one, drop-cons es i d lt, e) refl
+
+pub with-here : (names : List (List ℕ)) (e : Entry) (es : List Entry) (i : ℕ) (d : Entry) → i < length es → is_before (entry_key names e) (entry_key names (get_or es i d)) ≡ true → entries_with names e (drop i es) ≡ e ∷ drop i es
+with-here names e es i d lt b = rw (drop-cons es i d lt, b) refl
+
+pub with-past : (names : List (List ℕ)) (e : Entry) (es : List Entry) (i : ℕ) (d : Entry) → i < length es → is_before (entry_key names e) (entry_key names (get_or es i d)) ≡ false → entries_with names e (drop i es) ≡ get_or es i d ∷ entries_with names e (drop (i + 1) es)
+with-past names e es i d lt b = rw (add-one, drop-cons es i d lt, b) refl
+
+-- what the entries' edits make of the folder
+forest-kept : (names : List (List ℕ)) (c : List ℕ) (at : ℕ → Forest) (n : List ℕ) (k : Child) (es es' : List Entry) (b : Bool) → same n c ≡ b → forest_of names at es' ≡ without c (forest_of names at es) → cond b (forest_of names at es') (beside n (stands at k) (forest_of names at es')) ≡ without c (beside n (stands at k) (forest_of names at es))
+forest-kept names c at n (FileChild l) es es' true e h = rw e h
+forest-kept names c at n (FolderChild j) es es' true e h = rw e h
+forest-kept names c at n (FileChild l) es es' false e h = rw (e, h) refl
+forest-kept names c at n (FolderChild j) es es' false e h = rw (e, h) refl
+
+forest-cond : (names : List (List ℕ)) (at : ℕ → Forest) (b : Bool) (e : Entry) (es es' : List Entry) → forest_of names at (cond b es (e ∷ es')) ≡ cond b (forest_of names at es) (beside (name_at names e.name) (stands at e.child) (forest_of names at es'))
+forest-cond names at true e es es' = refl
+forest-cond names at false e es es' = refl
+
+pub forest-without : (names : List (List ℕ)) (c : List ℕ) (at : ℕ → Forest) (es : List Entry) → forest_of names at (entries_without names c es) ≡ without c (forest_of names at es)
+forest-without names c at [] = refl
+forest-without names c at (e ∷ es) =
+    forest-cond names at (has_name names c e) e (entries_without names c es) (entries_without names c es)
+    ∙ forest-kept names c at (name_at names e.name) e.child es (entries_without names c es) (has_name names c e) refl (forest-without names c at es)
+
+key-suffix : (c : List ℕ) (k : Child) (at : ℕ → Forest) → key c (stands at k) ≡ c ++ suffix k
+key-suffix c (FileChild l) at = refl
+key-suffix c (FolderChild j) at = refl
+
+inserted-past : (c n : List ℕ) (x : Stands) (k : Child) (at : ℕ → Forest) (f : Forest) → inserted c x (beside n (stands at k) f) ≡ cond (is_before (key c x) (n ++ suffix k)) (beside c x (beside n (stands at k) f)) (beside n (stands at k) (inserted c x f))
+inserted-past c n x (FileChild l) at f = refl
+inserted-past c n x (FolderChild j) at f = refl
+
+pub forest-with : (names : List (List ℕ)) (e : Entry) (at : ℕ → Forest) (es : List Entry) → forest_of names at (entries_with names e es) ≡ inserted (name_at names e.name) (stands at e.child) (forest_of names at es)
+forest-with names e at [] = refl
+forest-with names e at (f ∷ es) =
+    forest-cond names at (is_before (entry_key names e) (entry_key names f)) f (e ∷ f ∷ es) (entries_with names e es)
+    ∙ ap (λ (g : Forest). cond (is_before (entry_key names e) (entry_key names f)) (forest_of names at (e ∷ f ∷ es)) (beside (name_at names f.name) (stands at f.child) g)) (forest-with names e at es)
+    ∙ ap (λ (k : List ℕ). cond (is_before k (entry_key names f)) (forest_of names at (e ∷ f ∷ es)) (beside (name_at names f.name) (stands at f.child) (inserted (name_at names e.name) (stands at e.child) (forest_of names at es)))) (sym (key-suffix (name_at names e.name) e.child at))
+    ∙ sym (inserted-past (name_at names e.name) (name_at names f.name) (stands at e.child) f.child at (forest_of names at es))
+
+pub good-at : (n k : ℕ) (es : List Entry) (i : ℕ) (d : Entry) → AreGood n k es → i < length es → IsLower k (get_or es i d).child
+good-at n k [] i d good lt = absurd (omega arith)
+good-at n k (e ∷ es) zero d good lt = good.0.child
+good-at n k (e ∷ es) (suc i) d good lt = good-at n k es i d good.1 (omega arith)
+
+good_cond : (n k : ℕ) (e : Entry) (es es' : List Entry) (b : Bool) → IsGood n k e → AreGood n k es → AreGood n k es' → AreGood n k (cond b es (e ∷ es'))
+good_cond n k e es es' true own h h' = h
+good_cond n k e es es' false own h h' = (own, h')
+
+pub without-good : (names : List (List ℕ)) (c : List ℕ) (n k : ℕ) (es : List Entry) → AreGood n k es → AreGood n k (entries_without names c es)
+without-good names c n k [] good = tt
+without-good names c n k (e ∷ es) good = good_cond n k e (entries_without names c es) (entries_without names c es) (has_name names c e) good.0 (without-good names c n k es good.1) (without-good names c n k es good.1)
+
+pub with-good : (names : List (List ℕ)) (e : Entry) (n k : ℕ) (es : List Entry) → IsGood n k e → AreGood n k es → AreGood n k (entries_with names e es)
+with-good names e n k [] own good = (own, tt)
+with-good names e n k (f ∷ es) own good = good_cond n k f (e ∷ f ∷ es) (entries_with names e es) (is_before (entry_key names e) (entry_key names f)) good.0 (own, good) (with-good names e n k es own good.1)
+
+pub extends-push : (names : List (Vec ℕ)) (v : Vec ℕ) → Extends names (names ++ v ∷ [])
+extends-push names v = record {
+  longer = simp length-append (omega arith);
+  same_names = λ i lt. let more : i < length (names ++ v ∷ []) = simp length-append (omega arith) in
+      get_or-map (λ (w : Vec ℕ). w.items) (names ++ v ∷ []) i v [] more
+      ∙ ap (λ (w : Vec ℕ). w.items) (get_or_append_left names (v ∷ []) v i lt)
+      ∙ sym (get_or-map (λ (w : Vec ℕ). w.items) names i v [] lt);
+}
+
+pub name-push : (names : List (Vec ℕ)) (v : Vec ℕ) → name_at (texts (names ++ v ∷ [])) (length names) ≡ v.items
+name-push names v =
+    let more : length names < length (names ++ v ∷ []) = simp length-append (omega arith) in
+    get_or-map (λ (w : Vec ℕ). w.items) (names ++ v ∷ []) (length names) v [] more
+    ∙ ap (λ (w : Vec ℕ). w.items) (get_or-append_seam names v [] v)
+
+beside_bare : (n : List ℕ) (k : Child) (at : ℕ → Forest) (f : Forest) → folder (beside n (stands at k) f) ≡ IsFolder (beside n (stands at k) f)
+beside_bare n (FileChild l) at f = refl
+beside_bare n (FolderChild j) at f = refl
+
+pub not_bare : (names : List (List ℕ)) (at : ℕ → Forest) (es : List Entry) → 0 < length es → folder (forest_of names at es) ≡ IsFolder (forest_of names at es)
+not_bare names at [] lt = absurd (omega arith)
+not_bare names at (e ∷ es) lt = beside_bare (name_at names e.name) e.child at (forest_of names at es)
+
+cond_one : (b : Bool) (f f' : Forest) → f' ≡ f → cond b f f' ≡ f
+cond_one true f f' h = refl
+cond_one false f f' h = h
+
+pub inserted-nothing : (c : List ℕ) (f : Forest) → inserted c Nothing f ≡ f
+inserted-nothing c Bare = refl
+inserted-nothing c (File n l f) = cond_one (is_before (c ++ []) (n ++ [])) (File n l f) (File n l (inserted c Nothing f)) (ap (File n l) (inserted-nothing c f))
+inserted-nothing c (Folder n g f) = cond_one (is_before (c ++ []) (n ++ 47 ∷ [])) (Folder n g f) (Folder n g (inserted c Nothing f)) (ap (Folder n g) (inserted-nothing c f))

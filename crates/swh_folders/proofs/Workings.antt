@@ -1,0 +1,46 @@
+-- What stays of folders at work.
+use Rattle.std.proofs.Common.{◌≡◌, ℕ, ◌≤◌, List, [], ◌∷◌, ◌++◌, length, Option, Some, None, refl, ap, ◌∙◌, arith}
+use Rattle.std.specs.Global.{Vec}
+use Rattle.swh_folders.specs.declared.entry.Entry.{Entry}
+use Rattle.swh_folders.specs.declared.folders.Folders.{Folders}
+use Rattle.swh_folders.specs.Arena.{tree_at, forest_of, texts, Grows}
+use Rattle.swh_folders.specs.Roots.{IsGood, map_at, IsBelow, map_of_number}
+use Rattle.swh_folders.specs.Working.{AreFolders, count_of, StaysBelow}
+use Rattle.swh_folders.proofs.Arenas.{arena-none, arena-push, sound-push, tree-push_old, tree-push_new}
+use Rattle.std.proofs.lemmas.List.{length-append}
+use Rattle.swh_folders.specs.Forest.{Bare, flat}
+
+pub good-none : IsGood [] []
+good-none = record { arena = arena-none; sound = λ i lt. absurd (omega arith) }
+
+pub stays-grown : (base : ℕ) (old new : Folders) → base ≤ count_of old → AreFolders new → Grows old.names.items old.nodes.items new.names.items new.nodes.items → StaysBelow base old new
+stays-grown base old new le good grows = record {
+  good = good;
+  long = let more = grows.longer in omega arith;
+  stay = λ j lt. grows.trees j (omega arith);
+}
+
+pub stays-on : (base : ℕ) (a b c : Folders) → StaysBelow base a b → StaysBelow base b c → StaysBelow base a c
+stays-on base a b c s t = record { good = t.good; long = t.long; stay = λ j lt. t.stay j lt ∙ s.stay j lt }
+
+-- a folder more, with no entries
+pub stays-pushed : (base : ℕ) (old new : Folders) (v : Vec Entry) → base ≤ count_of old → AreFolders old → v.items ≡ [] → new.names.items ≡ old.names.items → new.nodes.items ≡ old.nodes.items ++ v ∷ [] → StaysBelow base old new
+stays-pushed base old new v le good none names nodes = record {
+  good = rw (names, nodes) (record {
+    arena = arena-push old.names.items old.nodes.items v good.arena (rw none tt);
+    sound = sound-push old.names.items old.nodes.items v good.sound (rw none tt);
+  });
+  long = rw nodes (simp length-append (omega arith));
+  stay = λ j lt. rw (names, nodes) (tree-push_old old.names.items old.nodes.items v j (omega arith));
+}
+
+pub tree-pushed : (names : List (Vec ℕ)) (nodes : List (Vec Entry)) (v : Vec Entry) → v.items ≡ [] → tree_at names (nodes ++ v ∷ []) (length nodes) ≡ Bare
+tree-pushed names nodes v none = tree-push_new names nodes v ∙ ap (forest_of (texts names) (tree_at names nodes)) none
+
+pub below-grown : (names names' : List (Vec ℕ)) (nodes nodes' : List (Vec Entry)) (root : Option ℕ) → IsBelow (length nodes) root → Grows names nodes names' nodes' → IsBelow (length nodes') root
+below-grown names names' nodes nodes' None low grows = tt
+below-grown names names' nodes nodes' (Some n) low grows = let more = grows.longer in omega arith
+
+pub map-grown : (names names' : List (Vec ℕ)) (nodes nodes' : List (Vec Entry)) (root : Option ℕ) → IsBelow (length nodes) root → Grows names nodes names' nodes' → map_of_number (map_at names' nodes') root ≡ map_of_number (map_at names nodes) root
+map-grown names names' nodes nodes' None low grows = refl
+map-grown names names' nodes nodes' (Some n) low grows = ap flat (grows.trees n low)

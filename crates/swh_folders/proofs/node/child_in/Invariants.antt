@@ -1,0 +1,8 @@
+use Rattle.std.proofs.Common.{◌≡◌, ℕ, drop}
+use Rattle.swh_folders.specs.Forest.{Forest}
+use Rattle.swh_folders.specs.Arena.{texts}
+use Rattle.swh_folders.proofs.Steps.{child_of}
+use Rattle.swh_folders.proofs.node.child_in.Given as goal
+
+abbrev pub invariant-loop-e : goal.invariant-loop-e
+invariant-loop-e l = (at : ℕ → Forest) → child_of (texts l.names) at l.name (drop l.e-index l.entries) ≡ child_of (texts l.names) at l.name l.entries

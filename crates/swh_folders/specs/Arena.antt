@@ -1,0 +1,117 @@
+-- Numbered folders as forests.
+use Rattle.std.specs.Prelude.{◌≡◌, ℕ, ◌==◌, ◌<◌, ◌≤◌, ◌++◌, Bool, List, [], ◌∷◌, length, map, reverse, Option, Some, None, if◌then◌else◌, slice_index_or, All, take}
+use Rattle.std.specs.Borrow.{Bor}
+use Rattle.std.specs.List.{AllByRecursion}
+use Rattle.std.specs.Global.{Vec}
+use Rattle.swh_folders.specs.declared.entry.Child.{Child}
+use Rattle.swh_folders.specs.declared.entry.Entry.{Entry}
+use Rattle.swh_folders.specs.declared.entry.Child.TheVariants.{File as FileChild, Folder as FolderChild}
+use Rattle.swh_folders.specs.Forest.{Forest, Bare, Stands, Nothing, IsFile, IsFolder, beside, is_before, found}
+use Rattle.swh_folders.specs.PathMap.{same}
+
+-- the name of this number
+abbrev pub name_at : List (List ℕ) → ℕ → List ℕ
+name_at names i = slice_index_or names i []
+
+-- what a child is, where folders are these
+abbrev pub stands : (ℕ → Forest) → Child → Stands
+stands at (FileChild l) = IsFile l
+stands at (FolderChild j) = IsFolder (at j)
+
+-- what stands where a child may be
+abbrev pub stands_of : (ℕ → Forest) → Option Child → Stands
+stands_of at None = Nothing
+stands_of at (Some c) = stands at c
+
+-- entries as a forest, where folders are these
+abbrev pub forest_of : List (List ℕ) → (ℕ → Forest) → List Entry → Forest
+forest_of names at [] = Bare
+forest_of names at (e ∷ es) = beside (name_at names e.name) (stands at e.child) (forest_of names at es)
+
+-- the folder of a number among these, the newest first: its own folders are among the older ones
+abbrev pub among : List (List ℕ) → List (List Entry) → ℕ → Forest
+among names [] i = Bare
+among names (es ∷ older) i = if i == length older then forest_of names (among names older) es else among names older i
+
+-- A folder has a number below this one.
+abbrev pub IsLower : ℕ → Child → Type 0
+IsLower k (FileChild l) = Unit {0}
+IsLower k (FolderChild j) = j < k
+
+-- The name has a number below the first, and a folder one below the second.
+pub record IsGood (n k : ℕ) (e : Entry) : Type 0 where
+  pub name : e.name < n
+  pub child : IsLower k e.child
+
+-- Each entry is so.
+abbrev pub AreGood : ℕ → ℕ → List Entry → Type 0
+AreGood n k es = AllByRecursion (λ e. IsGood n k e) es
+
+-- Each folder's own folders are older, the newest folder first.
+abbrev pub AllGood : ℕ → List (List Entry) → Type 0
+AllGood n [] = Unit {0}
+AllGood n (es ∷ older) = AreGood n (length older) es × AllGood n older
+
+-- whether the entry has this name
+abbrev pub has_name : List (List ℕ) → List ℕ → Entry → Bool
+has_name names c e = same (name_at names e.name) c
+
+-- without the entry of this name
+abbrev pub entries_without : List (List ℕ) → List ℕ → List Entry → List Entry
+entries_without names c [] = []
+entries_without names c (e ∷ es) = if has_name names c e then entries_without names c es else e ∷ entries_without names c es
+
+-- what a name is compared with after its own bytes
+abbrev pub suffix : Child → List ℕ
+suffix (FileChild l) = []
+suffix (FolderChild j) = 47 ∷ []
+
+-- the bytes by which entries are in order
+abbrev pub entry_key : List (List ℕ) → Entry → List ℕ
+entry_key names e = name_at names e.name ++ suffix e.child
+
+-- in front of the first with a greater key
+abbrev pub entries_with : List (List ℕ) → Entry → List Entry → List Entry
+entries_with names e [] = e ∷ []
+entries_with names e (f ∷ es) = if is_before (entry_key names e) (entry_key names f) then e ∷ f ∷ es else f ∷ entries_with names e es
+
+-- the bytes of names
+abbrev pub texts : List (Vec ℕ) → List (List ℕ)
+texts names = map (λ v. v.items) names
+
+-- the newest first
+abbrev pub layers : List (Vec Entry) → List (List Entry)
+layers nodes = reverse (map (λ v. v.items) nodes)
+
+-- the folder of this number
+unfoldable pub tree_at : List (Vec ℕ) → List (Vec Entry) → ℕ → Forest
+tree_at names nodes i = among (texts names) (layers nodes) i
+
+-- Each folder's own folders are older, and its names are among these.
+unfoldable pub IsArena : List (Vec ℕ) → List (Vec Entry) → Type 0
+IsArena names nodes = AllGood (length names) (layers nodes)
+
+-- A folder that stands there has a number below this one.
+abbrev pub IsIn : ℕ → Option Child → Type 0
+IsIn n None = Unit {0}
+IsIn n (Some c) = IsLower n c
+
+-- numbers mean what they meant
+pub record Grows (names : List (Vec ℕ)) (nodes : List (Vec Entry)) (names' : List (Vec ℕ)) (nodes' : List (Vec Entry)) : Type 0 where
+  pub longer : length nodes ≤ length nodes'
+  pub trees : (i : ℕ) → i < length nodes → tree_at names' nodes' i ≡ tree_at names nodes i
+
+-- names kept, and maybe more
+pub record Extends (names names' : List (Vec ℕ)) : Type 0 where
+  pub longer : length names ≤ length names'
+  pub same_names : (i : ℕ) → i < length names → name_at (texts names') i ≡ name_at (texts names) i
+
+-- the components that are borrowed
+abbrev pub parts_of : List (Bor (List ℕ)) → List (List ℕ)
+parts_of path = map (λ c. c.now) path
+
+-- at each number, what stands at that many components of the path
+pub record AreFronts (at : ℕ → Forest) (n : ℕ) (root : Option Child) (path : List (List ℕ)) (fronts : List (Option Child)) : Type 0 where
+  pub as_long : length fronts ≡ length path
+  pub inside : All (IsIn n) fronts
+  pub found_there : (k : ℕ) → k < length fronts → stands_of at (slice_index_or fronts k None) ≡ found (take k path) (stands_of at root)

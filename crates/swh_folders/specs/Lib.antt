@@ -1,0 +1,9 @@
+pub mod Arena
+pub mod Forest
+pub mod Leaf
+pub mod Live
+pub mod Moved
+pub mod PathMap
+pub mod Roots
+pub mod Sound
+pub mod Working

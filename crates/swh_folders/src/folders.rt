@@ -1,0 +1,211 @@
+//! Folders at work: the changes of a commit made to them, and what is no longer needed dropped now and then.
+
+ghost use Rattle.std.specs.Prelude.{◌≡◌, ◌≢◌, ◌≤◌, [], IfOk, IfSome, IfNone};
+ghost use Rattle.swh_folders.specs.Roots.{IsBelow};
+ghost use Rattle.swh_fastlex.specs.Path.{components, IsPath};
+ghost use Rattle.swh_folders.specs.PathMap.{set, delete, copy, rename, held};
+ghost use Rattle.swh_folders.specs.Sound.{IsLeaf};
+ghost use Rattle.swh_folders.specs.Working.{AreFolders, count_of, root_map, StaysBelow};
+
+use crate::compacting::compact;
+use crate::edits::{copy_path, delete_path, rename_path, set_leaf};
+use crate::entry::{Entry, Leaf};
+use std::alloc::{AllocError, Global};
+
+/// How many entries more than twice those that are needed may stand in folders.
+const SPARE: usize = 65_536;
+
+/// Folders by their numbers, with the names of their entries.
+#[derive(Drop)]
+pub struct Folders {
+    pub names: Vec<Vec<u8>>,
+    pub nodes: Vec<Vec<Entry>>,
+    /// The number of the first folder whose entries are not counted.
+    pub counted: usize,
+    /// How many entries were counted since folders were dropped.
+    pub entries: usize,
+    /// How many there may be before folders are dropped again.
+    pub room: usize,
+}
+
+impl Folders {
+    pub fn new(alloc: Global) -> Folders
+        ensures good { AreFolders result }
+        ensures none { count_of result ≡ 0 }
+    {
+        Folders {
+            names: Vec::new(alloc),
+            nodes: Vec::new(alloc),
+            counted: 0,
+            entries: 0,
+            room: SPARE,
+        }
+    }
+}
+
+/// How many entries the folders from this one on have, at most what a `usize` holds.
+fn entries_from(nodes: &[Vec<Entry>], first: usize) -> usize {
+    let mut sum: usize = 0;
+    for number in first..nodes.len() {
+        sum = sum.saturating_add(nodes[number].len());
+    }
+    sum
+}
+
+/// Whether so many entries stand in folders that those no longer needed are to be dropped.
+fn is_full(folders: &mut Folders) -> bool
+    ensures names { folders.new.names.items ≡ folders.old.names.items }
+    ensures nodes { folders.new.nodes.items ≡ folders.old.nodes.items }
+{
+    let more = entries_from(folders.nodes.as_slice(), folders.counted);
+    folders.counted = folders.nodes.len();
+    folders.entries = folders.entries.saturating_add(more);
+    folders.entries > folders.room
+}
+
+/// Counts anew the entries of the folders from this one on.
+pub fn count_from(folders: &mut Folders, first: usize)
+    ensures names { folders.new.names.items ≡ folders.old.names.items }
+    ensures nodes { folders.new.nodes.items ≡ folders.old.nodes.items }
+{
+    let entries = entries_from(folders.nodes.as_slice(), first);
+    folders.counted = folders.nodes.len();
+    folders.entries = entries;
+    folders.room = entries.saturating_mul(2).saturating_add(SPARE);
+}
+
+/// The root, after folders that it does not need were dropped where there are many of them.
+fn settled(
+    alloc: Global,
+    folders: &mut Folders,
+    base: usize,
+    root: Option<usize>,
+) -> Result<Option<usize>, AllocError>
+    requires good { AreFolders folders.old }
+    requires base { base ≤ count_of folders.old }
+    requires root { IsBelow (count_of folders.old) root }
+    ensures stays { StaysBelow base folders.old folders.new }
+    ensures inside { IfOk result (λ r. IsBelow (count_of folders.new) r) }
+    ensures map { IfOk result (λ r. root_map folders.new r ≡ root_map folders.old root) }
+{
+    if !is_full(folders) {
+        return Ok(root);
+    }
+    let Some(number) = root else {
+        return Ok(None);
+    };
+    let there = compact(alloc, &mut folders.nodes, base, number)?;
+    count_from(folders, base);
+    Ok(Some(there))
+}
+
+/// The tree with the leaf at the path.
+pub fn set_in(
+    alloc: Global,
+    folders: &mut Folders,
+    base: usize,
+    root: Option<usize>,
+    path: &[u8],
+    leaf: Leaf,
+) -> Result<Option<usize>, AllocError>
+    requires good { AreFolders folders.old }
+    requires base { base ≤ count_of folders.old }
+    requires root { IsBelow (count_of folders.old) root }
+    requires path { IsPath path.now }
+    requires leaf { IsLeaf leaf }
+    ensures stays { StaysBelow base folders.old folders.new }
+    ensures inside { IfOk result (λ r. IsBelow (count_of folders.new) r) }
+    ensures map { IfOk result (λ r. root_map folders.new r
+        ≡ set (components path.now) leaf (root_map folders.old root)) }
+{
+    let there = set_leaf(
+        alloc,
+        &mut folders.names,
+        &mut folders.nodes,
+        root,
+        path,
+        leaf,
+    )?;
+    settled(alloc, folders, base, there)
+}
+
+/// The tree without what stands at the path and under it.
+pub fn delete_in(
+    alloc: Global,
+    folders: &mut Folders,
+    base: usize,
+    root: Option<usize>,
+    path: &[u8],
+) -> Result<Option<usize>, AllocError>
+    requires good { AreFolders folders.old }
+    requires base { base ≤ count_of folders.old }
+    requires root { IsBelow (count_of folders.old) root }
+    requires path { IsPath path.now }
+    ensures stays { StaysBelow base folders.old folders.new }
+    ensures inside { IfOk result (λ r. IsBelow (count_of folders.new) r) }
+    ensures map { IfOk result (λ r. root_map folders.new r ≡ delete (components path.now) (root_map folders.old root)) }
+{
+    let there = delete_path(alloc, &mut folders.names, &mut folders.nodes, root, path)?;
+    settled(alloc, folders, base, there)
+}
+
+/// The tree with what the source holds at the target too. None where the source holds nothing.
+pub fn copy_in(
+    alloc: Global,
+    folders: &mut Folders,
+    base: usize,
+    root: Option<usize>,
+    source: &[u8],
+    target: &[u8],
+) -> Result<Option<Option<usize>>, AllocError>
+    requires good { AreFolders folders.old }
+    requires base { base ≤ count_of folders.old }
+    requires root { IsBelow (count_of folders.old) root }
+    requires source { IsPath source.now }
+    requires target { IsPath target.now }
+    ensures stays { StaysBelow base folders.old folders.new }
+    ensures none { IfOk result (λ o. IfNone o (held (components source.now) (root_map folders.old root) ≡ [])) }
+    ensures left { IfOk result (λ o. IfNone o (IsBelow (count_of folders.new) root)) }
+    ensures same { IfOk result (λ o. IfNone o (root_map folders.new root ≡ root_map folders.old root)) }
+    ensures some { IfOk result (λ o. IfSome o (λ r. held (components source.now) (root_map folders.old root) ≢ [])) }
+    ensures inside { IfOk result (λ o. IfSome o (λ r. IsBelow (count_of folders.new) r)) }
+    ensures map { IfOk result (λ o. IfSome o (λ r. root_map folders.new r
+        ≡ copy (components source.now) (components target.now) (root_map folders.old root))) }
+{
+    let (names, nodes) = (&mut folders.names, &mut folders.nodes);
+    let Some(there) = copy_path(alloc, names, nodes, root, source, target)? else {
+        return Ok(None);
+    };
+    Ok(Some(settled(alloc, folders, base, there)?))
+}
+
+/// The tree with what the source holds at the target, and no more at the source, which is removed first. None where the
+/// source holds nothing.
+pub fn rename_in(
+    alloc: Global,
+    folders: &mut Folders,
+    base: usize,
+    root: Option<usize>,
+    source: &[u8],
+    target: &[u8],
+) -> Result<Option<Option<usize>>, AllocError>
+    requires good { AreFolders folders.old }
+    requires base { base ≤ count_of folders.old }
+    requires root { IsBelow (count_of folders.old) root }
+    requires source { IsPath source.now }
+    requires target { IsPath target.now }
+    ensures stays { StaysBelow base folders.old folders.new }
+    ensures none { IfOk result (λ o. IfNone o (held (components source.now) (root_map folders.old root) ≡ [])) }
+    ensures left { IfOk result (λ o. IfNone o (IsBelow (count_of folders.new) root)) }
+    ensures same { IfOk result (λ o. IfNone o (root_map folders.new root ≡ root_map folders.old root)) }
+    ensures some { IfOk result (λ o. IfSome o (λ r. held (components source.now) (root_map folders.old root) ≢ [])) }
+    ensures inside { IfOk result (λ o. IfSome o (λ r. IsBelow (count_of folders.new) r)) }
+    ensures map { IfOk result (λ o. IfSome o (λ r. root_map folders.new r
+        ≡ rename (components source.now) (components target.now) (root_map folders.old root))) }
+{
+    let (names, nodes) = (&mut folders.names, &mut folders.nodes);
+    let Some(there) = rename_path(alloc, names, nodes, root, source, target)? else {
+        return Ok(None);
+    };
+    Ok(Some(settled(alloc, folders, base, there)?))
+}

@@ -1,0 +1,22 @@
+//! Folders by their numbers, which trees share: what the changes of a commit (git-fast-import(1)) make of them, and those
+//! that are no longer needed dropped. None knows of ids that are computed, or of objects.
+//! Stands on `swh_base`, `swh_pieces` and `swh_fastlex`, whose paths they are.
+//! Callers may rely on: a change makes of a root what it makes of a map from paths; the folders below a base stay; after
+//! a drop each folder from the base on is one of the root's.
+#![tactic(auto)]
+
+mod arena;
+mod compacting;
+mod edits;
+mod entry;
+mod folders;
+mod live;
+mod node;
+mod path;
+
+pub use compacting::compact;
+pub use entry::{Child, Entry, Leaf, whole_id};
+pub use folders::{Folders, copy_in, count_from, delete_in, rename_in, set_in};
+
+#[cfg(test)]
+mod tests;

@@ -1,5 +1,0 @@
-use Rattle.swh_trees.proofs.Workings.{good-none}
-use Rattle.swh_trees.proofs.folders.Folders.new.Goals as goal
-
-pub returns-clause-good : goal.returns-clause-good
-returns-clause-good c = rw (c.new.ensures.items, c.new-2.ensures.items) good-none
