@@ -40,6 +40,7 @@ abbrev pub key : List ℕ → Stands → List ℕ
 key c (IsFolder g) = c ++ 47 ∷ []
 key c _ = c ++ []
 
+-- whether the first bytes come before the second
 abbrev pub is_before : List ℕ → List ℕ → Bool
 is_before a b = is_lt (slice_cmp nat_cmp a b)
 
@@ -49,6 +50,7 @@ inserted c x Bare = beside c x Bare
 inserted c x (File n l f) = if is_before (key c x) (n ++ []) then beside c x (File n l f) else File n l (inserted c x f)
 inserted c x (Folder n g f) = if is_before (key c x) (n ++ 47 ∷ []) then beside c x (Folder n g f) else Folder n g (inserted c x f)
 
+-- this in place of what stands under the name
 abbrev pub put : List ℕ → Stands → Forest → Forest
 put c x f = inserted c x (without c f)
 
@@ -57,6 +59,7 @@ abbrev pub folder : Forest → Stands
 folder Bare = Nothing
 folder f = IsFolder f
 
+-- the entries of what stands there
 abbrev pub forest : Stands → Forest
 forest (IsFolder f) = f
 forest _ = Bare
@@ -65,6 +68,7 @@ forest _ = Bare
 abbrev pub step : List ℕ → Stands → Stands
 step c x = child_at c (forest x)
 
+-- what stands at a path
 abbrev pub found : List (List ℕ) → Stands → Stands
 found [] x = x
 found (c ∷ p) x = found p (step c x)
@@ -74,6 +78,7 @@ abbrev pub graft : List (List ℕ) → Stands → Stands → Stands
 graft [] x y = x
 graft (c ∷ p) x y = folder (put c (graft p x (step c y)) (forest y))
 
+-- the leaf that stands there
 abbrev pub leaf_of : Stands → Option Leaf
 leaf_of (IsFile l) = Some l
 leaf_of _ = None
@@ -87,6 +92,7 @@ abbrev pub deleted_where : Stands → List (List ℕ) → Stands → Stands
 deleted_where Nothing p y = y
 deleted_where _ p y = graft p Nothing y
 
+-- without what stands at the path
 abbrev pub deleted : List (List ℕ) → Stands → Stands
 deleted p y = deleted_where (found p y) p y
 

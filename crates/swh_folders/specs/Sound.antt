@@ -16,11 +16,13 @@ Follows k Bare = Unit {0}
 Follows k (File n l f) = is_before k (n ++ []) ≡ true
 Follows k (Folder n g f) = is_before k (n ++ 47 ∷ []) ≡ true
 
+-- Names are names of entries, each stands once and in its order, and no folder is empty.
 abbrev pub IsSound : Forest → Type 0
 IsSound Bare = Unit {0}
 IsSound (File n l f) = IsEntryName n × IsLeaf l × (child_at n f ≡ Nothing) × Follows (n ++ []) f × IsSound f
 IsSound (Folder n g f) = IsEntryName n × (g ≢ Bare) × IsSound g × (child_at n f ≡ Nothing) × Follows (n ++ 47 ∷ []) f × IsSound f
 
+-- What stands there is so.
 abbrev pub IsSoundHere : Stands → Type 0
 IsSoundHere Nothing = Unit {0}
 IsSoundHere (IsFile l) = IsLeaf l

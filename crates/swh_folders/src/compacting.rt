@@ -63,7 +63,7 @@ fn moved_entries(
         → AreMoved at at' base bound live moved.now → AreMarked base live entries.now (length entries.now)
         → IfOk result (λ v. forest_of names at' v.items ≡ forest_of names at entries.now) }
 {
-    let mut out = Vec::new(alloc);
+    let mut out = Vec::with_capacity(alloc, entries.len())?;
     for e in entries {
         out.push(Entry {
             name: e.name,
