@@ -1,0 +1,14 @@
+//! Tests of the loader of sources over streams in memory: faults and their places, streams that git wrote, and streams
+//! by hand, with the ids that git gives.
+//! Stands on `swh_base`, `swh_memory_input`, `swh_object` and `swh_fastload`.
+//! Nothing stands above it.
+#![tactic(auto)]
+
+#[cfg(test)]
+mod faults;
+#[cfg(test)]
+mod streams_by_hand;
+#[cfg(test)]
+mod streams_of_git;
+#[cfg(test)]
+mod world;
