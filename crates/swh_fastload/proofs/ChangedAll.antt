@@ -1,5 +1,5 @@
 -- All changes of a commit: what they bring, and what stands in the tree afterwards.
-use Rattle.std.proofs.Common.{◌≡◌, ◌≢◌, ◌⊎◌, inl, inr, ℕ, Bool, true, false, Result, Ok, Err, List, [], ◌∷◌, ◌++◌, map, Contains, refl, sym, ap, ◌∙◌, subst, arith, append_assoc}
+use Rattle.std.proofs.Common.{◌≡◌, ℕ, Result, Ok, Err, List, [], ◌∷◌, ◌++◌, Contains, refl, sym, ap, ◌∙◌, subst, append_assoc}
 use Rattle.std.specs.List.{AllByRecursion}
 use Rattle.std.proofs.lemmas.List.{append-nil}
 use Rattle.std.proofs.lemmas.List.Elements.{Contains-append_left}
@@ -18,7 +18,7 @@ use Rattle.swh_fastgrammar.specs.declared.command.Dataref.TheVariants.{Mark, Inl
 use Rattle.swh_fastgrammar.specs.declared.fault.StreamWhy.TheVariants.{Place as NoPlace}
 use Rattle.swh_fastmeaning.specs.Aims.{Aim, AllAims, Missing, blob_at}
 use Rattle.swh_fastmeaning.specs.Changes.{IsGivableChange}
-use Rattle.swh_fastmeaning.specs.Commands.{Changed, turned, put, if_there, set_to, changed, all_changed, ◌>>=◌}
+use Rattle.swh_fastmeaning.specs.Commands.{Changed, turned, put, if_there, changed, all_changed, ◌>>=◌}
 use Rattle.swh_fastmeaning.specs.Stock.{AreFilesAmong, IsFree}
 use Rattle.swh_fastload.proofs.ChangedFiles.{AreBlobsAmong, AreContentsAmong, one_files}
 use Rattle.swh_fastload.proofs.FreePaths.{set_free, delete_free, copy_free, rename_free, none_free}

@@ -1,8 +1,8 @@
 -- What stands in the tree of a commit after its changes.
-use Rattle.std.proofs.Common.{◌≡◌, ◌≢◌, ℕ, zero, suc, Bool, true, false, cond, Result, Ok, Err, List, [], ◌∷◌, ◌++◌, map, Contains, refl, sym, ap, ◌∙◌, subst, arith}
+use Rattle.std.proofs.Common.{◌≡◌, ◌≢◌, ℕ, Bool, true, false, cond, Result, Ok, Err, List, [], ◌∷◌, ◌++◌, Contains, refl, sym, ap, subst}
 use Rattle.std.specs.Prelude.{filter}
 use Rattle.std.specs.List.{AllByRecursion}
-use Rattle.std.proofs.lemmas.List.Elements.{Contains-append_left, Contains-append_right}
+use Rattle.std.proofs.lemmas.List.Elements.{Contains-append_right}
 use Rattle.swh_base.specs.declared.kind.Kind.{Kind}
 use Rattle.swh_base.specs.declared.kind.Kind.TheVariants.{Content}
 use Rattle.swh_base.specs.declared.name.Name.{Name}
@@ -12,18 +12,17 @@ use Rattle.swh_model.specs.Meaning.{Made, content}
 use Rattle.swh_model.proofs.Entries.{all-append}
 use Rattle.swh_fastlex.specs.Path.{IsPath, components}
 use Rattle.swh_folders.specs.declared.entry.Leaf.{Leaf}
-use Rattle.swh_folders.specs.PathMap.{PathMap, same, begins, is_path_before, insert_path, cleared, set, delete, rest_beside, held_by, held, insert_under, put_held, copy, rename, HasFolder}
+use Rattle.swh_folders.specs.PathMap.{PathMap, same, is_path_before, insert_path, cleared, set, delete, rest_beside, held_by, held, insert_under, put_held, copy, rename, HasFolder}
 use Rattle.swh_folders.proofs.Components.{path-names, components-some}
 use Rattle.swh_fastmeaning.specs.Whole.{content_name}
-use Rattle.swh_fastgrammar.specs.declared.command.At.{At}
 use Rattle.swh_fastgrammar.specs.declared.command.Change.{Change}
 use Rattle.swh_fastgrammar.specs.declared.command.Change.TheVariants.{Set, Delete, Copy, Move, Clear}
 use Rattle.swh_fastgrammar.specs.declared.command.Dataref.{Dataref}
 use Rattle.swh_fastgrammar.specs.declared.command.Dataref.TheVariants.{Mark, Inline, Hex}
 use Rattle.swh_fastgrammar.specs.declared.fault.StreamWhy.TheVariants.{Place as NoPlace}
 use Rattle.swh_fastmeaning.specs.Aims.{Aim, AllAims, Missing, blob_at}
-use Rattle.swh_fastmeaning.specs.Changes.{FitsMode, IsGivableChange}
-use Rattle.swh_fastmeaning.specs.Commands.{Changed, turned, put, if_there, set_to, changed, all_changed, ◌>>=◌}
+use Rattle.swh_fastmeaning.specs.Changes.{IsGivableChange}
+use Rattle.swh_fastmeaning.specs.Commands.{Changed, turned, put, if_there, changed, ◌>>=◌}
 use Rattle.swh_fastmeaning.specs.Feeding.{name_of}
 use Rattle.swh_fastmeaning.specs.Stock.{IsLeafAmong, IsFileAmong, AreFilesAmong, IsFree}
 use Rattle.swh_fastload.proofs.FreePaths.{folder_paths}

@@ -1,40 +1,31 @@
 -- What a commit leads to: its objects, each after those that it names, and what is held afterwards.
-use Rattle.std.proofs.Common.{◌≡◌, ◌≢◌, ◌⊎◌, inl, inr, ℕ, zero, suc, ◌+◌, ◌<◌, ◌≤◌, Option, Some, None, Result, Ok, Err, List, [], ◌∷◌, ◌++◌, length, map, codes, Contains, refl, sym, ap, ◌∙◌, subst, arith, append_assoc}
+use Rattle.std.proofs.Common.{◌≡◌, ◌⊎◌, inl, inr, ℕ, zero, suc, ◌+◌, ◌<◌, ◌≤◌, List, [], ◌∷◌, ◌++◌, length, map, Contains, refl, sym, ap, ◌∙◌, subst, arith}
 use Rattle.std.specs.List.{AllByRecursion}
-use Rattle.std.proofs.lemmas.List.{append-nil, map-append}
-use Rattle.std.proofs.lemmas.List.Elements.{Contains-append_left, Contains-append_right, Contains-append_cases, Contains-push, Contains-push_cases}
+use Rattle.std.proofs.lemmas.List.Elements.{Contains-append_left, Contains-push}
 use Rattle.swh_base.specs.declared.kind.Kind.{Kind}
-use Rattle.swh_base.specs.declared.kind.Kind.TheVariants.{Content, Directory, Revision, Snapshot}
+use Rattle.swh_base.specs.declared.kind.Kind.TheVariants.{Content, Directory, Revision}
 use Rattle.swh_base.specs.declared.name.Name.{Name}
 use Rattle.swh_base.specs.declared.entry.Entry.{Entry}
 use Rattle.swh_base.specs.Name.{IsId}
-use Rattle.swh_base.specs.Text.{IsRef}
-use Rattle.swh_base.specs.Directory.{directory_text}
 use Rattle.swh_base.specs.Revision.{BeginsParent, revision_name}
 use Rattle.swh_base.specs.Manifest.{AreChildren, IsWellFormed}
 use Rattle.swh_base.proofs.Children.{one_list}
 use Rattle.swh_revfmt.specs.Plain.{RevisionRest, revision_rest, plain_revision_text}
-use Rattle.swh_model.specs.Meaning.{Made, directory}
-use Rattle.swh_trees.specs.declared.tree.Tree.{Tree}
-use Rattle.swh_folders.specs.declared.entry.Leaf.{Leaf}
-use Rattle.swh_trees.specs.Grove.{Grove, Keeps, StandsFor, folder_map, map_of}
-use Rattle.swh_folders.specs.Roots.{IsBelow}
-use Rattle.swh_trees.specs.Makes.{Makes, IsFolderOf, IsNumbered}
+use Rattle.swh_model.specs.Meaning.{Made}
+use Rattle.swh_trees.specs.Grove.{Grove, folder_map}
+use Rattle.swh_trees.specs.Makes.{IsNumbered}
 use Rattle.swh_trees.specs.Objects.{AreDirectoryObjects, IsDirectoryObject}
 use Rattle.swh_folders.specs.PathMap.{PathMap, HasFolder, held, held_by}
 use Rattle.swh_trees.specs.Directory.{directory_id, directory_of}
 use Rattle.swh_fastmeaning.specs.Making.{made_from, made}
-use Rattle.swh_fastmeaning.specs.Aims.{Aim, AllAims, with_mark, with_tip, aim_with, aims_with}
-use Rattle.swh_fastmeaning.specs.Commands.{Changed, IsDirectoryIn, revision_parts, root_of}
+use Rattle.swh_fastmeaning.specs.Commands.{revision_parts}
 use Rattle.swh_fastmeaning.specs.Feeding.{name_of}
 use Rattle.swh_fastmeaning.specs.Seen.{object_of}
-use Rattle.swh_fastmeaning.specs.Stock.{names_of_made, HaveIds, IsReady, AreReady, IsGivenGrove, folder_made, IsLeafAmong, IsFileAmong, AreFilesAmong, IsFree}
-use Rattle.swh_fastmeaning.proofs.Elements.{contains_map, from_map, all_as, all_from, each_is, first_is, later_is, none_is, first_or_later}
-use Rattle.swh_fastmeaning.proofs.Givens.{AreAlso, more_names, ready_append}
+use Rattle.swh_fastmeaning.specs.Stock.{names_of_made, HaveIds, IsReady, AreReady, folder_made, AreFilesAmong}
+use Rattle.swh_fastmeaning.proofs.Elements.{contains_map, all_as, first_is, later_is, none_is, first_or_later}
+use Rattle.swh_fastmeaning.proofs.Givens.{AreAlso}
 use Rattle.swh_fastmeaning.proofs.Tags.{named_id}
-use Rattle.swh_fastload.proofs.FreePaths.{held_free}
-use Rattle.swh_fastload.proofs.ChangedFiles.{held_files}
-use Rattle.swh_fastload.proofs.DirectoryKids.{directory_name, AreFoldersAmong, directory_kids}
+use Rattle.swh_fastload.proofs.DirectoryKids.{directory_name, directory_kids}
 
 last_or_less : (k n : ℕ) → k < suc n → (k ≡ n) ⊎ (k < n)
 last_or_less zero zero l = inl refl

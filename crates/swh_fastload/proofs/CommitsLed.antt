@@ -1,8 +1,7 @@
 -- What a commit leads to, once its tree is made and its objects are given.
-use Rattle.std.proofs.Common.{◌≡◌, ◌≢◌, ◌⊎◌, inl, inr, ℕ, zero, suc, ◌+◌, ◌<◌, ◌≤◌, Option, Some, None, Result, Ok, Err, List, [], ◌∷◌, ◌++◌, length, map, Contains, refl, sym, ap, ◌∙◌, subst, arith, append_assoc}
+use Rattle.std.proofs.Common.{◌≡◌, ◌⊎◌, inl, inr, ℕ, zero, suc, ◌<◌, ◌≤◌, Option, Some, None, Result, Ok, List, [], ◌∷◌, ◌++◌, Contains, refl, sym, ap, ◌∙◌, subst, arith}
 use Rattle.std.specs.List.{AllByRecursion}
 use Rattle.std.specs.Option.{option_map}
-use Rattle.std.proofs.lemmas.List.{append-nil}
 use Rattle.std.proofs.lemmas.List.Elements.{Contains-append_left, Contains-append_right, Contains-append_cases, Contains-push}
 use Rattle.swh_base.specs.declared.kind.Kind.{Kind}
 use Rattle.swh_base.specs.declared.kind.Kind.TheVariants.{Content, Directory, Revision, Snapshot}
@@ -19,18 +18,17 @@ use Rattle.swh_model.specs.Meaning.{Made, directory}
 use Rattle.swh_trees.specs.declared.tree.Tree.{Tree}
 use Rattle.swh_trees.specs.Grove.{Grove, folder_map, map_of}
 use Rattle.swh_folders.specs.Roots.{IsBelow, map_of_number}
-use Rattle.swh_trees.specs.Makes.{IsNumbered}
 use Rattle.swh_folders.specs.PathMap.{PathMap, HasFolder, held}
 use Rattle.swh_fastmeaning.specs.Making.{made_from, made}
 use Rattle.swh_fastmeaning.specs.Whole.{content_name}
-use Rattle.swh_fastmeaning.specs.Aims.{Aim, AllAims, Missing, blob_at, with_mark, with_tip, aim_with, aims_with}
+use Rattle.swh_fastmeaning.specs.Aims.{Aim, AllAims, Missing, with_mark, with_tip, aim_with, aims_with}
 use Rattle.swh_fastmeaning.specs.Changes.{IsGivableChange, changed_of}
-use Rattle.swh_fastmeaning.specs.Commands.{Changed, Making, Makes, IsDirectoryIn, Targets, revision, revision_parts, committed, step, first_parent, starting_tree, aim_of, ◌>>=◌}
-use Rattle.swh_fastload.specs.Committing.{HasParents, MakesTree, IsPrepared, GivesCommit, command_of, commit_made, rest_of}
+use Rattle.swh_fastmeaning.specs.Commands.{Changed, Making, Makes, Targets, revision, revision_parts, committed, step, first_parent, starting_tree, aim_of, ◌>>=◌}
+use Rattle.swh_fastload.specs.Committing.{IsPrepared, command_of, commit_made, rest_of}
 use Rattle.swh_fastmeaning.specs.Feeding.{ExplainsFeed, name_of}
 use Rattle.swh_fastmeaning.specs.Parting.{ExplainsBody}
 use Rattle.swh_fastmeaning.specs.Seen.{object_of}
-use Rattle.swh_fastmeaning.specs.Stock.{Stock, stock, loading_of, names_of_made, HaveIds, IsAimAmong, AreAimsAmong, IsGivenGrove, IsStocked, IsReady, AreReady, Gives, Leads, folder_made, IsFileAmong, AreFilesAmong, IsFree}
+use Rattle.swh_fastmeaning.specs.Stock.{Stock, stock, loading_of, names_of_made, HaveIds, IsAimAmong, AreAimsAmong, IsGivenGrove, IsStocked, AreReady, Gives, Leads, folder_made, IsFileAmong, AreFilesAmong, IsFree}
 use Rattle.swh_fastload.specs.declared.commit.Commit.{Commit}
 use Rattle.swh_fastload.specs.declared.commit.CommitText.{CommitText}
 use Rattle.swh_fastload.specs.declared.commit.Prepared.{Prepared}
@@ -40,7 +38,7 @@ use Rattle.swh_fastmeaning.proofs.Givens.{AreAlso, more_names, ready_append}
 use Rattle.swh_fastmeaning.proofs.AimForms.{with_mark-map, with_tip-map, aims_same, aims_more, marked_among, tipped_among, blob_among}
 use Rattle.swh_fastload.proofs.ParentsFound.{first_among, parents_among}
 use Rattle.swh_fastload.proofs.FreePaths.{held_free, none_free}
-use Rattle.swh_fastload.proofs.ChangedFiles.{AreBlobsAmong, AreContentsAmong, held_files}
+use Rattle.swh_fastload.proofs.ChangedFiles.{AreBlobsAmong, held_files}
 use Rattle.swh_fastload.proofs.ChangedAll.{Ends, all_ends}
 use Rattle.swh_fastmeaning.proofs.Tags.{named_id}
 use Rattle.swh_fastmeaning.proofs.Leadings.{files_more, gives_also, explains_long}

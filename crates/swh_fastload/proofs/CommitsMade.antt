@@ -1,11 +1,10 @@
 -- What is refused of a commit, and its parts in the maps' form.
-use Rattle.std.proofs.Common.{◌≡◌, ◌≢◌, ◌⊎◌, inl, inr, ℕ, ◌<◌, ◌≤◌, Option, Some, None, Result, Ok, Err, IfNone, IfSome, List, [], ◌∷◌, ◌++◌, length, map, Contains, refl, sym, ap, ◌∙◌, subst, arith}
+use Rattle.std.proofs.Common.{◌≡◌, ◌⊎◌, inl, inr, ℕ, Option, Some, None, Result, Ok, IfNone, IfSome, List, [], ◌∷◌, map, Contains, refl, sym, ap, ◌∙◌, subst, arith}
 use Rattle.std.specs.Option.{option_map}
 use Rattle.std.proofs.lemmas.List.Elements.{Contains-append_left}
 use Rattle.swh_base.specs.declared.kind.Kind.{Kind}
 use Rattle.swh_base.specs.declared.entry.Entry.{Entry}
 use Rattle.swh_base.specs.declared.visit.Which.TheVariants.{Body}
-use Rattle.swh_base.specs.Limits.{body_limit}
 use Rattle.swh_base.specs.Directory.{directory_text}
 use Rattle.swh_model.specs.Meaning.{Made, directory}
 use Rattle.swh_trees.specs.declared.tree.Tree.{Tree}
@@ -15,13 +14,11 @@ use Rattle.swh_trees.specs.Makes.{Makes, ExplainsTree}
 use Rattle.swh_folders.specs.PathMap.{PathMap, held}
 use Rattle.swh_trees.specs.Directory.{directory_of}
 use Rattle.swh_fastmeaning.specs.Making.{made}
-use Rattle.swh_fastgrammar.specs.declared.command.At.{At}
-use Rattle.swh_fastgrammar.specs.declared.command.Change.{Change}
 use Rattle.swh_fastmeaning.specs.Aims.{Aim, AllAims, Missing, aim_with, aims_with}
 use Rattle.swh_fastmeaning.specs.Changes.{IsChangedTo, ExplainsChange, changed_of}
-use Rattle.swh_fastmeaning.specs.Commands.{Changed, IsDirectoryIn, Targets, Making, Makes as MakesObject, committed, revision, commit_parts, step, first_parent, commits_at, parents_of, starting_tree, all_changed, ◌>>=◌}
+use Rattle.swh_fastmeaning.specs.Commands.{Changed, IsDirectoryIn, Targets, Making, Makes as MakesObject, committed, revision, step, first_parent, commits_at, parents_of, starting_tree, all_changed, ◌>>=◌}
 use Rattle.swh_fastload.specs.Committing.{HasParents, MakesTree, IsOverIn, ExplainsOver, ExplainsTreeMade, command_of, rest_of}
-use Rattle.swh_fastmeaning.specs.Feeding.{ExplainsFeed, IsTooLong}
+use Rattle.swh_fastmeaning.specs.Feeding.{ExplainsFeed}
 use Rattle.swh_fastmeaning.specs.Missings.{ExplainsMissing}
 use Rattle.swh_fastmeaning.specs.Tips.{aim_of}
 use Rattle.swh_fastmeaning.specs.declared.aims.Target.{Target}

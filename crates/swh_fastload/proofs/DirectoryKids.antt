@@ -1,16 +1,15 @@
 -- The children of the directories of a map.
-use Rattle.std.proofs.Common.{◌≡◌, ◌≢◌, ◌⊎◌, inl, inr, ℕ, zero, suc, ◌+◌, ◌<◌, ◌≤◌, Bool, true, false, cond, Option, Some, None, List, [], ◌∷◌, ◌++◌, length, map, Contains, refl, sym, ap, ◌∙◌, subst, arith}
-use Rattle.std.specs.List.{AllByRecursion, filter_map, cons_option, flat_map}
+use Rattle.std.proofs.Common.{◌≡◌, ◌≢◌, ◌⊎◌, inl, inr, ℕ, zero, suc, ◌+◌, ◌≤◌, Bool, true, false, cond, Option, Some, None, List, [], ◌∷◌, ◌++◌, length, map, Contains, refl, sym, ap, ◌∙◌, subst, arith}
+use Rattle.std.specs.List.{AllByRecursion, cons_option}
 use Rattle.std.specs.Ordering.{nat_cmp}
-use Rattle.std.specs.declared.cmp.Ordering.{Ordering}
 use Rattle.std.specs.declared.cmp.Ordering.TheVariants.{Less, Equal, Greater}
 use Rattle.std.specs.Cmp.Lexicographic.{slice_cmp}
 use Rattle.std.proofs.lemmas.List.{append-nil}
 use Rattle.swh_base.specs.declared.kind.Kind.{Kind}
-use Rattle.swh_base.specs.declared.kind.Kind.TheVariants.{Content, Directory}
+use Rattle.swh_base.specs.declared.kind.Kind.TheVariants.{Directory}
 use Rattle.swh_base.specs.declared.name.Name.{Name}
 use Rattle.swh_base.specs.Name.{IsId}
-use Rattle.swh_base.specs.Directory.{DirectoryEntry, IsEntry, IsEntryName, IsMode, sort_key, entry_text, directory_text, child_of, children_of}
+use Rattle.swh_base.specs.Directory.{DirectoryEntry, IsEntry, IsEntryName, IsMode, sort_key, directory_text, child_of, children_of}
 use Rattle.swh_base.specs.Manifest.{AreChildren}
 use Rattle.swh_base.proofs.DirectoryLemmas.{read_on, entry-not_nil, are-each}
 use Rattle.swh_folders.specs.declared.entry.Leaf.{Leaf}
@@ -21,7 +20,7 @@ use Rattle.swh_folders.proofs.Grafts.{same_is}
 use Rattle.swh_folders.proofs.Lookups.{path_is, path_self}
 use Rattle.swh_fastmeaning.specs.Whole.{content_name}
 use Rattle.swh_fastmeaning.specs.Stock.{IsLeafAmong, IsFileAmong, AreFilesAmong}
-use Rattle.swh_fastmeaning.proofs.Elements.{all_from, all_as, each_is, first_is, later_is, first_or_later}
+use Rattle.swh_fastmeaning.proofs.Elements.{all_as, each_is, first_is, later_is, first_or_later}
 
 -- ## What stands in an ordered listing
 

@@ -1,13 +1,11 @@
 -- Maps in which no path begins another.
-use Rattle.std.proofs.Common.{◌≡◌, ◌≢◌, ◌⊎◌, inl, inr, ℕ, Bool, true, false, not, cond, Option, Some, None, Result, Ok, Err, List, [], ◌∷◌, ◌++◌, Contains, refl, sym, ap, ◌∙◌, subst, arith}
+use Rattle.std.proofs.Common.{◌≡◌, ◌≢◌, ◌⊎◌, inl, inr, ℕ, Bool, true, false, not, cond, Some, List, [], ◌∷◌, ◌++◌, Contains, refl, sym, ap, ◌∙◌, subst}
 use Rattle.std.specs.Prelude.{filter, ◌&&◌, ◌||◌}
 use Rattle.std.proofs.lemmas.List.{append-nil}
-use Rattle.std.proofs.lemmas.List.Elements.{Contains-append_left}
 use Rattle.swh_folders.specs.declared.entry.Leaf.{Leaf}
-use Rattle.swh_fastlex.specs.Path.{components}
 use Rattle.swh_folders.specs.PathMap.{PathMap, same, same_path, leaf_at, begins, is_path_before, insert_path, cleared, set, delete, rest_beside, held_by, held, insert_under, put_held, copy, rename, HasFolder}
 use Rattle.swh_folders.proofs.Grafts.{same_is, same_self}
-use Rattle.swh_folders.proofs.Lookups.{path_is, begins-more, begins-own}
+use Rattle.swh_folders.proofs.Lookups.{path_is, begins-more}
 use Rattle.swh_fastmeaning.specs.Stock.{IsFree}
 use Rattle.swh_fastmeaning.proofs.Elements.{first_or_later, first_is, later_is, none_is}
 

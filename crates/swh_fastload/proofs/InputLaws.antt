@@ -1,5 +1,5 @@
 -- An input means one thing, or breaks, and never both.
-use Rattle.std.proofs.Common.{◌≡◌, ℕ, ◌<◌, ◌≤◌, inl, inr, false, List, [], ◌∷◌, ◌++◌, Option, Contains, length, refl, sym, ap, ◌∙◌, subst, arith, append_assoc}
+use Rattle.std.proofs.Common.{◌≡◌, ℕ, ◌≤◌, inl, inr, false, List, [], ◌∷◌, ◌++◌, Option, length, refl, sym, ap, ◌∙◌, subst, arith, append_assoc}
 use Rattle.std.specs.Prelude.{Result, Ok, Err}
 use Rattle.std.proofs.lemmas.List.Elements.{Contains-append_left, Contains-append_right}
 use Rattle.swh_base.specs.Limits.{body_limit}
@@ -15,7 +15,7 @@ use Rattle.swh_fastread.proofs.Outcomes.{same_fault, stream_or_limit}
 use Rattle.swh_fastload.specs.declared.bad.BadStream.{BadStream}
 use Rattle.swh_fastload.specs.declared.bad.BadStream.TheVariants.{Stream, Limit}
 use Rattle.swh_fastmeaning.specs.Aims.{Missing}
-use Rattle.swh_fastmeaning.specs.Commands.{◌>>=◌, Making, Makes, Targets, no_making, step, steps, then}
+use Rattle.swh_fastmeaning.specs.Commands.{◌>>=◌, Making, Makes, no_making, step, steps, then}
 use Rattle.swh_fastmeaning.specs.Feeding.{IsTooLong}
 use Rattle.swh_fastload.specs.Input.{IsSameMaking, beginning, EndsWithin, IsMeant, MeansStream, StopsAt, PassesEnd, EndsAbove, Means, Breaks, MayBreak}
 

@@ -1,5 +1,5 @@
 -- What an input means of which all commands were carried out.
-use Rattle.std.proofs.Common.{◌≡◌, ◌⊎◌, ◌↔◌, ℕ, ◌<◌, ◌≤◌, inl, inr, false, List, [], ◌∷◌, ◌++◌, Option, Contains, length, refl, sym, ap, ◌∙◌, subst, arith}
+use Rattle.std.proofs.Common.{◌≡◌, ◌⊎◌, ◌↔◌, ℕ, ◌<◌, ◌≤◌, inl, inr, false, List, [], ◌∷◌, ◌++◌, Option, Contains, length, sym, ap, ◌∙◌, subst}
 use Rattle.std.specs.Prelude.{Result, Ok, Err, IfOk, IfErr}
 use Rattle.std.specs.List.{AllByRecursion}
 use Rattle.std.proofs.lemmas.List.{map-append, append-nil}
@@ -13,9 +13,8 @@ use Rattle.swh_base.specs.declared.name.Name.{Name}
 use Rattle.swh_base.specs.declared.entry.Entry.{Entry}
 use Rattle.swh_base.specs.declared.visit.Which.TheVariants.{Body, Refs}
 use Rattle.swh_base.specs.Snapshot.{snapshot_name}
-use Rattle.swh_model.specs.Meaning.{Made, StreamMeaning}
+use Rattle.swh_model.specs.Meaning.{Made}
 use Rattle.swh_object.specs.Object.{IsObject}
-use Rattle.swh_fastgrammar.specs.declared.command.Command.{Command}
 use Rattle.swh_fastrows.specs.Outcome.{IsStreamWithin}
 use Rattle.swh_fastread.proofs.Outcomes.{stream_carries, carries_with}
 use Rattle.swh_fastmeaning.specs.declared.feed_fault.FeedFault.{FeedFault}
@@ -24,10 +23,9 @@ use Rattle.swh_fastmeaning.specs.declared.objects.Objects.{Objects}
 use Rattle.swh_fastmeaning.specs.Commands.{Making, Makes}
 use Rattle.swh_fastmeaning.specs.Ending.{refs_limit, EndsParts, ExplainsEnd}
 use Rattle.swh_fastmeaning.specs.Feeding.{Loading}
-use Rattle.swh_fastload.specs.Input.{beginning, AreCarriedOut, EndsWithin, IsMeant, MeansStream, PassesEnd, EndsAbove, Means, Breaks, MayBreak}
+use Rattle.swh_fastload.specs.Input.{beginning, MeansStream, Means, Breaks, MayBreak}
 use Rattle.swh_fastload.specs.Loaded.{making_of}
 use Rattle.swh_fastmeaning.specs.Making.{made_from, made}
-use Rattle.swh_fastload.specs.declared.bad.BadStream.{BadStream}
 use Rattle.swh_fastload.specs.declared.bad.InputFault.{InputFault}
 use Rattle.swh_fastload.specs.declared.bad.InputFault.TheVariants.{Bad, ReadFault, Memory}
 use Rattle.swh_fastload.specs.Reading.{feed_fault, HasRead, FailsSo, BreaksSo, IsQuiet}
@@ -57,7 +55,7 @@ module _ (id : Kind → List ℕ → List ℕ) (head : Option (List ℕ)) where
     where
       forth : Contains (made es) m ⊎ Contains (made_from o ∷ []) m → Makes id making m ⊎ (m ≡ snapshot_of head making.aims)
       forth (inl c) = inl (sound m c)
-      forth (inr c) = elim (first_or_later (made_from o) [] m c) [ | inl f ↦ inr (sym f ∙ e) | inr n ↦ absurd (none_is m n) ]
+      forth (inr c) = elim (first_or_later (made_from o) [] m c) [ inl f ↦ inr (sym f ∙ e) | inr n ↦ absurd (none_is m n) ]
 
       back : Makes id making m ⊎ (m ≡ snapshot_of head making.aims) → Contains (made es ++ made_from o ∷ []) m
       back (inl k) = Contains-append_left (made es) (made_from o ∷ []) m (full m k)
@@ -110,7 +108,7 @@ module _ (id : Kind → List ℕ → List ℕ) (head : Option (List ℕ)) where
         making = l.making;
         stream = whole_stream text state es h;
         carried = carried id text h.rest h.come.loading es l;
-        above = subst (λ a. (((which ≡ Refs) × (number ≡ length (refs_of a)) × (refs_limit < number)) ⊎ ((which ≡ Body) × (number ≡ length (snapshot_of head a).body) × (body_limit < number)))) l.stands.aims (elim e [ | inl r ↦ inl r | inr b ↦ inr (b.0, b.2, b.3) ]);
+        above = subst (λ a. (((which ≡ Refs) × (number ≡ length (refs_of a)) × (refs_limit < number)) ⊎ ((which ≡ Body) × (number ≡ length (snapshot_of head a).body) × (body_limit < number)))) l.stands.aims (elim e [ inl r ↦ inl r | inr b ↦ inr (b.0, b.2, b.3) ]);
       }))
   end_breaks text state es h FeedMemory e = tt
 

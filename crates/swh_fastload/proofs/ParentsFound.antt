@@ -1,5 +1,5 @@
 -- The parents of a commit, found one after another, and in another form of their trees.
-use Rattle.std.proofs.Common.{◌≡◌, ◌≢◌, ◌⊎◌, inl, inr, ℕ, ◌+◌, ◌<◌, ◌≤◌, Option, Some, None, Result, Ok, Err, List, [], ◌∷◌, ◌++◌, length, map, drop, get_or, Contains, refl, sym, ap, ◌∙◌, subst, arith, append_assoc, add-one}
+use Rattle.std.proofs.Common.{◌≡◌, ℕ, ◌+◌, ◌<◌, ◌≤◌, Option, Some, None, Result, Ok, Err, List, [], ◌∷◌, ◌++◌, length, map, drop, get_or, Contains, refl, sym, ap, ◌∙◌, subst, append_assoc, add-one}
 use Rattle.std.specs.List.{AllByRecursion}
 use Rattle.std.specs.Option.{option_map}
 use Rattle.std.proofs.lemmas.List.{append-nil, map-append, drop_all}
@@ -7,7 +7,6 @@ use Rattle.std.proofs.Math.Seq.{drop-cons}
 use Rattle.swh_base.specs.declared.kind.Kind.{Kind}
 use Rattle.swh_base.specs.declared.kind.Kind.TheVariants.{Revision}
 use Rattle.swh_base.specs.declared.name.Name.{Name}
-use Rattle.swh_base.specs.Name.{IsId}
 use Rattle.swh_base.specs.Revision.{revision_name}
 use Rattle.swh_model.specs.Meaning.{Made}
 use Rattle.swh_trees.specs.declared.tree.Tree.{Tree}
@@ -20,7 +19,7 @@ use Rattle.swh_fastmeaning.specs.Changes.{ExplainsChange}
 use Rattle.swh_fastmeaning.specs.Commands.{first_parent, commits_at, parents_of, ◌>>=◌}
 use Rattle.swh_fastload.specs.Committing.{HasParents}
 use Rattle.swh_fastmeaning.specs.Missings.{ExplainsMissing}
-use Rattle.swh_fastmeaning.specs.Stock.{names_of_made, HaveIds, IsAimAmong, AreAimsAmong}
+use Rattle.swh_fastmeaning.specs.Stock.{names_of_made, IsAimAmong, AreAimsAmong}
 use Rattle.swh_fastmeaning.specs.declared.feed_fault.FeedFault.{FeedFault}
 use Rattle.swh_fastmeaning.specs.declared.feed_fault.FeedFault.TheVariants.{BadStream, Limit, Memory}
 use Rattle.swh_fastmeaning.proofs.AimForms.{ok_map, commit_tip-map, commit_at-map, commit_tip_among, commit_among}

@@ -1,9 +1,9 @@
 -- A load comes on by a command that is read and carried out.
 use Rattle.std.proofs.Common.{◌≡◌, ◌⊎◌, ℕ, ◌≤◌, inl, inr, List, [], ◌∷◌, ◌++◌, map, Contains, length, refl, sym, ap, ◌∙◌, subst, append_assoc}
-use Rattle.std.specs.Prelude.{Result, Ok, Err}
+use Rattle.std.specs.Prelude.{Result, Ok}
 use Rattle.std.specs.List.{AllByRecursion}
 use Rattle.std.proofs.lemmas.List.{map-append, append-nil}
-use Rattle.std.proofs.lemmas.List.Elements.{Contains-append_left, Contains-append_right, Contains-append_cases}
+use Rattle.std.proofs.lemmas.List.Elements.{Contains-append_left, Contains-append_cases}
 use Rattle.swh_base.specs.Limits.{body_limit}
 use Rattle.swh_base.specs.declared.kind.Kind.{Kind}
 use Rattle.swh_base.specs.declared.name.Name.{Name}
@@ -58,8 +58,8 @@ module _ (id : Kind → List ℕ → List ℕ) where
       subst (AreWhole id) (append_assoc es (e ∷ []) more) (whole_more (es ++ e ∷ []) more one rest)
 
   then_cases : (a b : Making) (o : Made) → Makes id (then id a b) o → Makes id a o ⊎ Makes id b o
-  then_cases a b o (inl h) = elim (Contains-append_cases a.objects b.objects o h) [ | inl k ↦ inl (inl k) | inr k ↦ inr (inl k) ]
-  then_cases a b o (inr h) = elim (Contains-append_cases a.trees b.trees h.0 h.1) [ | inl k ↦ inl (inr (h.0, k, h.2)) | inr k ↦ inr (inr (h.0, k, h.2)) ]
+  then_cases a b o (inl h) = elim (Contains-append_cases a.objects b.objects o h) [ inl k ↦ inl (inl k) | inr k ↦ inr (inl k) ]
+  then_cases a b o (inr h) = elim (Contains-append_cases a.trees b.trees h.0 h.1) [ inl k ↦ inl (inr (h.0, k, h.2)) | inr k ↦ inr (inr (h.0, k, h.2)) ]
 
   -- What is given for a command is what it makes, beside what was made.
   pub stands_more : (l new : Loading) (es more : List Entry) (m : Making) (c : Command) (f : Feeds id l c new more) → StandsFor id l es m → StandsFor id new (es ++ more) (then id m f.making)
@@ -100,10 +100,10 @@ module _ (id : Kind → List ℕ → List ℕ) where
   -- No object that stands for what commands make is above the limit.
   pub carried : (text : List ℕ) (rest : Position) (l : Loading) (es : List Entry) (h : HasLoaded id text rest l es) → AreCarriedOut id h.commands h.making
   carried text rest l es h = record {
-      makes = h.makes;
-      short = λ o m.
-      let among : Contains (made es) o = subst (λ (ms : List Made). Contains ms o) h.stands.given (h.stands.full o m) in
-      let from = from_map made_from es o among in
-      let object = each_is (IsObject id) es from.0 h.stands.whole.each from.1 in
-      subst (λ (x : Made). length x.body ≤ body_limit) from.2 object.short;
-    }
+    makes = h.makes;
+    short = λ o m.
+        let among : Contains (made es) o = subst (λ (ms : List Made). Contains ms o) h.stands.given (h.stands.full o m) in
+        let from = from_map made_from es o among in
+        let object = each_is (IsObject id) es from.0 h.stands.whole.each from.1 in
+        subst (λ (x : Made). length x.body ≤ body_limit) from.2 object.short;
+  }

@@ -1,5 +1,5 @@
 -- What becomes of a stream that is read and fed.
-use Rattle.std.proofs.Common.{◌≡◌, ◌⊎◌, ℕ, ◌<◌, ◌≤◌, inl, inr, Bool, false, List, [], ◌∷◌, ◌++◌, Option, Contains, refl, sym, ap, ◌∙◌, subst, arith}
+use Rattle.std.proofs.Common.{◌≡◌, ◌⊎◌, ℕ, ◌≤◌, inl, inr, Bool, false, List, [], ◌∷◌, ◌++◌, Option, Contains, refl, sym, ap, ◌∙◌, subst, arith}
 use Rattle.std.specs.Prelude.{Result, Ok, Err, Some, IfOk}
 use Rattle.std.proofs.lemmas.List.{map-append, append-nil}
 use Rattle.swh_outside.specs.Faults.{Rose}
@@ -14,11 +14,10 @@ use Rattle.swh_fastrows.specs.declared.fail.ReadFail.TheVariants.{BadStream as B
 use Rattle.swh_fastread.specs.declared.reader.Ending.{Ending}
 use Rattle.swh_fastread.specs.declared.reader.Ending.TheVariants.{Open, Refused}
 use Rattle.swh_fastrows.specs.Explains.{Explains}
-use Rattle.swh_fastrows.specs.Outcome.{IsStreamWithin, IsFaultWithin, PassesFirst, StartsWith}
+use Rattle.swh_fastrows.specs.Outcome.{IsFaultWithin, PassesFirst, StartsWith}
 use Rattle.swh_fastrows.specs.Places.{Place, Position, left, position}
 use Rattle.swh_fastread.specs.Standing.{Standing, LeadsOn, Answers, ending_of}
 use Rattle.swh_fastread.proofs.Outcomes.{fault_carries, limit_carries, carries_with, starts_join}
-use Rattle.swh_fastload.specs.declared.bad.BadStream.TheVariants.{Stream, Limit}
 use Rattle.swh_fastmeaning.specs.declared.feed_fault.FeedFault.{FeedFault}
 use Rattle.swh_fastmeaning.specs.declared.feed_fault.FeedFault.TheVariants.{BadStream as BadFeed, Limit as PassesBody, Memory as FeedMemory}
 use Rattle.swh_fastmeaning.specs.Aims.{Missing}

@@ -1,5 +1,5 @@
 -- What becomes of a stream that is read and fed, command by command.
-use Rattle.std.specs.Prelude.{◌≡◌, ◌≤◌, ℕ, Option, List, [], Result, Ok, Err}
+use Rattle.std.specs.Prelude.{◌≡◌, ℕ, Option, List, [], Result, Ok}
 use Rattle.swh_base.specs.declared.kind.Kind.{Kind}
 use Rattle.swh_base.specs.declared.entry.Entry.{Entry}
 use Rattle.swh_outside.specs.Faults.{Rose}
@@ -7,7 +7,6 @@ use Rattle.swh_fastrows.specs.declared.fail.ReadFail.{ReadFail}
 use Rattle.swh_fastrows.specs.declared.fail.ReadFail.TheVariants.{BadStream as BadRead, ReadFault as SourceFailed, Limit as PassesLimit, Memory as ReadMemory}
 use Rattle.swh_fastrows.specs.Outcome.{IsStreamWithin}
 use Rattle.swh_fastrows.specs.Places.{Position}
-use Rattle.swh_fastload.specs.declared.bad.BadStream.{BadStream}
 use Rattle.swh_fastload.specs.declared.bad.BadStream.TheVariants.{Stream, Limit}
 use Rattle.swh_fastload.specs.declared.bad.InputFault.{InputFault}
 use Rattle.swh_fastload.specs.declared.bad.InputFault.TheVariants.{Bad, ReadFault, Memory}

@@ -31,7 +31,9 @@ use crate::parents::{first_parent, parent_ids};
 use std::alloc::Global;
 use swh_base::{Bytes, Items, Kind, Memory, Name, Namer, Which};
 use swh_fastgrammar::{At, Change, Commitish, Start};
-use swh_fastmeaning::{Aims, Contents, FeedFault, Parts, Seen, Target, changed_tree, give_all, make_object, whole_id};
+use swh_fastmeaning::{
+    Aims, Contents, FeedFault, Parts, Seen, Target, changed_tree, give_all, make_object, whole_id,
+};
 use swh_object::Object;
 use swh_revfmt::{PlainRev, write_plain_rev};
 use swh_trees::{Made, Tree, TreeFault, Trees};

@@ -13,7 +13,9 @@ ghost use Rattle.swh_fastmeaning.specs.Snapshots.{tip_branch, refs_of, snapshot_
 
 use std::alloc::Global;
 use swh_base::{Kind, Namer, Which};
-use swh_fastmeaning::{Aims, FeedFault, Parts, REFS_LIMIT, Sides, head_branch_of, joined, make_object};
+use swh_fastmeaning::{
+    Aims, FeedFault, Parts, REFS_LIMIT, Sides, head_branch_of, joined, make_object,
+};
 use swh_object::Object;
 use swh_snpfmt::{Branches, write_snp};
 

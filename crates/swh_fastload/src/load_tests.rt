@@ -7,8 +7,8 @@ use super::*;
 use std::alloc::Global;
 use std::test::Fail;
 use swh_base::{Bytes, Items, Kind, Memory, Name, Sha1Namer, is_ref};
-use swh_fastlex::is_path;
 use swh_fastgrammar::{At, Change, Command, Commitish, Dataref, Start, StreamWhy};
+use swh_fastlex::is_path;
 use swh_object::Object;
 
 type Load = FastLoad<Sha1Namer>;

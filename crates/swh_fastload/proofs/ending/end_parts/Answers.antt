@@ -1,4 +1,3 @@
-use Rattle.std.proofs.Common.{◌≡◌, ◌≤◌, ℕ, length, map, sym, ◌∙◌, subst}
 use Rattle.std.specs.Option.{option_copied}
 use Rattle.swh_trees.specs.Grove.{map_of}
 use Rattle.swh_fastmeaning.specs.Aims.{aims_with}

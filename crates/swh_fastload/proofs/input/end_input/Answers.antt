@@ -24,4 +24,3 @@ returns-in-Ok-push-clause-whole g c =
     let ends = rw c.in-Ok.is at (c.finish.ensures.ok h.loading h.is) in
     let kids = rw c.in-Ok.is at (c.finish.ensures.kids h.loading h.is) in
     reaches_all g.N.Namer.id_of (option_copied c.args.head) {N = g.row.N.Denot} h.loading c.args.objects.items c.in-Ok.snapshot (record { objects = c.push.new.self; snapshot = c.name.result.id }) h.given h.whole ends.ends c.name.ensures.good kids (rw c.in-Ok-push.is at c.push.ensures.items) (ap (λ (n : Name). n.id) c.name.ensures.name)
-

@@ -1,6 +1,4 @@
-use Rattle.std.proofs.Common.{◌≡◌, ◌≤◌, arith, inl, inr, refl, sym, ap, ◌∙◌, subst, [], ◌∷◌, Some, None, Ok, Err}
-use Rattle.swh_outside.specs.Faults.{Rose}
-use Rattle.swh_fastrows.specs.declared.fail.ReadFail.TheVariants.{ReadFault as SourceFailed}
+use Rattle.std.proofs.Common.{arith, refl, sym, ap, ◌∙◌, subst, Ok, Err}
 use Rattle.swh_fastrows.specs.Places.{left, position}
 use Rattle.swh_fastload.specs.Reading.{FailsSo}
 use Rattle.swh_fastload.proofs.Readings.{nothing_given, nothing_come, given_more, come_more, read_fails, feed_fails, rose_since, led, still_open}
@@ -27,10 +25,10 @@ returns-in-Err-feed-clause-fails g c =
     let rest = position c.commands.reader.place c.commands.reader.promised in
     let next = position c.next_command.new.self.place c.next_command.new.self.promised in
     let failed = feed_fails g.N.Namer.id_of g.S.Source.tells text rest next c.commands.load c.commands.objects.items c.in-Ok-Some.command c.args.reader.now.place.faults c.next_command.new.self.place.faults c.in-Err-feed.fault (λ told.
-      let h = c.commands.invariant.come told in
-      let on = led c.commands.reader c.next_command.new.self c.next_command.result c.in-Ok-Some.command (c.in-Ok-Some.is ∙ ap Ok c.in-Ok-Some.field-0-is) (c.next_command.ensures.command told c.commands.invariant.still) in
-      let refused = rw c.in-Err-feed.is at (c.feed.ensures.err h.loading h.is) in
-      (h, on.starts, refused.explained)) in
+    let h = c.commands.invariant.come told in
+    let on = led c.commands.reader c.next_command.new.self c.next_command.result c.in-Ok-Some.command (c.in-Ok-Some.is ∙ ap Ok c.in-Ok-Some.field-0-is) (c.next_command.ensures.command told c.commands.invariant.still) in
+    let refused = rw c.in-Err-feed.is at (c.feed.ensures.err h.loading h.is) in
+    (h, on.starts, refused.explained)) in
     subst (FailsSo g.N.Namer.id_of g.S.Source.tells text c.args.reader.now.place.faults c.next_command.new.self.place.faults) (sym c.feed_fault.ensures) failed
 
 pub commands-preserved : goal.commands-preserved

@@ -2,7 +2,7 @@ use Rattle.std.proofs.Common.{sym, ap, refl}
 use Rattle.std.specs.Option.{option_copied}
 use Rattle.std.proofs.lemmas.Result.{err_from_is_err_and}
 use Rattle.swh_outside.specs.Views.{sources}
-use Rattle.swh_fastload.proofs.Meanings.{fails_source, ends_source, means_source}
+use Rattle.swh_fastload.proofs.Meanings.{fails_source, ends_source}
 use Rattle.swh_fastload.proofs.input.load_source.Goals as goal
 
 pub returns-in_err-objects-clause-err : goal.returns-in_err-objects-clause-err

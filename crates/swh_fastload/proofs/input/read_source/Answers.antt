@@ -1,4 +1,4 @@
-use Rattle.std.proofs.Common.{◌≡◌, sym, ap, subst, List, ℕ, Result}
+use Rattle.std.proofs.Common.{sym, ap}
 use Rattle.swh_fastrows.specs.Places.{Place, left}
 use Rattle.swh_fastload.proofs.Meanings.{fails_moved}
 use Rattle.swh_fastload.proofs.input.read_source.Goals as goal

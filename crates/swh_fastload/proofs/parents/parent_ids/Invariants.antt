@@ -1,7 +1,4 @@
-use Rattle.std.proofs.Common.{◌≡◌, drop, List}
 use Rattle.std.specs.Option.{option_map}
-use Rattle.swh_trees.specs.declared.tree.Tree.{Tree}
-use Rattle.swh_fastmeaning.specs.Aims.{Aim}
 use Rattle.swh_fastmeaning.specs.Tips.{aim_of}
 use Rattle.swh_fastload.proofs.ParentsFound.{HasFirst}
 use Rattle.swh_fastload.proofs.parents.parent_ids.Given as goal
