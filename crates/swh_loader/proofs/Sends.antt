@@ -68,8 +68,21 @@ none_waits id bodies p n w h k = none-added bodies p.entries.items n (none_named
 pub held_waits : (id : Kind → List ℕ → List ℕ) (bodies : Bodies) (p : Pending) (e : Entry) → IsPendingBatch id bodies p → body_of bodies e.name ≡ Some e.body → body_of (added bodies p.entries.items) e.name ≡ Some e.body
 held_waits id bodies p e w h = within-added bodies p.entries.items w.new e.name e.body h
 
+object_good : (id : Kind → List ℕ → List ℕ) (e : Entry) → IsObject id e → HasItsChildrenAndName id e
+object_good id e h = record { good = record { kids = h.kids }; named = h.named }
+
 pub room_none : (p : Pending) (n : Name) → p.entries.items ≡ [] → p.held ≡ finite.empty → p.bytes ≡ 0 → BatchHasRoom p n
 room_none p n e held zero_bytes = record { few = let l = ap length e in omega (arith, l); small = omega (arith, zero_bytes); absent = no_room n p.held held }
+
+-- one more waits
+pub waits_more : (id : Kind → List ℕ → List ℕ) (bodies : Bodies) (p q : Pending) (e : Entry) → IsObject id e → IsPendingBatch id bodies p → BatchHasRoom p e.name → body_of bodies e.name ≡ None → q.entries.items ≡ p.entries.items ++ e ∷ [] → q.held ≡ finite.insert p.held e.name e.body → q.bytes ≡ p.bytes + length e.body → IsPendingBatch id bodies q
+waits_more id bodies p q e o w h k es held bytes = record {
+  held = held ∙ ap (λ (b : Bodies). finite.insert b e.name e.body) w.held ∙ sym (added-append finite.empty p.entries.items (e ∷ [])) ∙ ap (added finite.empty) (sym es);
+  new = subst (AreNew bodies) (sym es) (new-push bodies p.entries.items e w.new (none_waits id bodies p e.name w h.absent k));
+  good = subst (AllByRecursion (HasItsChildrenAndName id)) (sym es) (all-append (HasItsChildrenAndName id) p.entries.items (e ∷ []) w.good (object_good id e o, tt));
+  limits = subst IsWithinLimits (sym es) (limits_more p.entries.items e p.bytes w.limits w.counted h.few h.small o.short);
+  counted = counted_more p.entries.items e p.bytes q.bytes w.counted bytes ∙ ap (sum_by (λ (x : Entry). length x.body)) (sym es);
+}
 
 pub to_be-more : (bodies : Bodies) (p q : Pending) (e : Entry) → q.entries.items ≡ p.entries.items ++ e ∷ [] → added bodies q.entries.items ≡ finite.insert (added bodies p.entries.items) e.name e.body
 to_be-more bodies p q e es = ap (added bodies) es ∙ added-append bodies p.entries.items (e ∷ [])

@@ -125,3 +125,10 @@ module _ {D : Type 0} (g : Givens) (disks : Disks D) where
       → IsKeptRun g disks was now jobs answer → TellsDisk answer → ADiskFailed (disks.faults was.store) (disks.faults now.store) (disks.faults was.ledger) (disks.faults now.ledger)
   run_disk was now jobs answer (inl run) is = run.load.rose (told_disk run.loads answer run.told is)
   run_disk was now jobs answer (inr none) is = absurd (not_disk answer none.0 is)
+
+pub refused_unloaded : (id_of : Kind → List ℕ → List ℕ) (tells : Type 0) (old new : Files) (answer : Answer) → IsOpenRefusal answer → (tells → OpenEnds id_of old new answer) → IsUnloaded id_of tells old new answer
+refused_unloaded id_of tells old new NotMade is ends = (tt, ends)
+refused_unloaded id_of tells old new Damaged is ends = (tt, ends)
+refused_unloaded id_of tells old new OutsideDisk is ends = (tt, ends)
+refused_unloaded id_of tells old new Memory is ends = (tt, ends)
+refused_unloaded id_of tells old new _ is ends = absurd is

@@ -36,3 +36,46 @@ module _ (answer : Answer) (s : Span) (status : ℕ) where
   pub run_never : (low high : ℕ) → (status_of answer < low) ⊎ (high ≤ status_of answer) → (k : ℕ) → low ≤ k → k < high → k < 4 → IsTold answer s status → status ≢ k
   run_never low high (inl below) k from until less told is = let e = same_status k less told is in omega (arith, below, from, e)
   run_never low high (inr above) k from until less told is = let e = same_status k less told is in omega (arith, above, until, e)
+
+-- `init` and `ask` name a disk alone
+init_disk : (answer : Answer) → IsInitAnswer answer → TellsDisk answer → answer ≡ OutsideDisk
+init_disk (Told text end) is tells = absurd is
+init_disk _ is tells = tells
+
+no_end_outside : (end : Ending) → (end ≡ ending.Done) ⊎ (end ≡ ending.Wanting) → end ≡ ending.OutsideDisk → ⊥
+no_end_outside end (inl done) disk = let e : ending.Done ≡ ending.OutsideDisk = sym done ∙ disk in cc
+no_end_outside end (inr wanting) disk = let e : ending.Wanting ≡ ending.OutsideDisk = sym wanting ∙ disk in cc
+
+replies_inside : (end : Ending) (replies : List ReplyText) → IsEndingOf replies end → end ≡ ending.OutsideDisk → ⊥
+replies_inside end replies is disk =
+    ⊎_elim (λ (found : AreFound replies × (end ≡ ending.Done)). no_end_outside end (inl found.1) disk) (λ (short : HasShortReply replies × (end ≡ ending.Wanting)). no_end_outside end (inr short.1) disk) is
+
+ask_disk : (answer : Answer) → IsAskAnswer answer → TellsDisk answer → answer ≡ OutsideDisk
+ask_disk (Told text end) is tells = absurd (replies_inside end is.0 is.1.end_is tells)
+ask_disk _ is tells = tells
+
+identify_disk : (id_of : Kind → List ℕ → List ℕ) (kind : Kind) (answer : Answer) → IsIdentifyAnswer id_of kind answer → TellsDisk answer → answer ≡ OutsideDisk
+identify_disk id_of kind (Told text ending.Done) is tells = let e : ending.Done ≡ ending.OutsideDisk = tells in cc
+identify_disk id_of kind (Told text ending.Wanting) is tells = let e : ending.Wanting ≡ ending.OutsideDisk = tells in cc
+identify_disk id_of kind (Told text ending.OutsideDisk) is tells = absurd is.1
+identify_disk id_of kind (Told text ending.Memory) is tells = absurd is.1
+identify_disk id_of kind _ is tells = tells
+
+-- which part the answer of a command names
+pub comes_names : (wanted : Wanted) (s : Span) (answer : Answer) → Comes wanted s answer → NamesFailed s answer
+comes_names (ToInit dir) s answer i = record {
+  disk = λ tells. i.cause (init_disk answer i.one_of tells);
+  source = λ e. absurd (subst IsInitAnswer e i.one_of);
+  clock = λ e. absurd (subst IsInitAnswer e i.one_of);
+}
+comes_names (ToLoad dir jobs) s answer l = record { disk = l.disk_cause; source = l.source_cause; clock = l.clock_cause }
+comes_names (ToAsk dir paths) s answer a = record {
+  disk = λ tells. a.cause (ask_disk answer a.one_of tells);
+  source = λ e. absurd (subst IsAskAnswer e a.one_of);
+  clock = λ e. absurd (subst IsAskAnswer e a.one_of);
+}
+comes_names (ToIdentify kind path) s answer i = record {
+  disk = λ tells. absurd (subst (IsIdentifyAnswer s.id_of kind) (identify_disk s.id_of kind answer i.one_of tells) i.one_of);
+  source = i.cause;
+  clock = λ e. absurd (subst (IsIdentifyAnswer s.id_of kind) e i.one_of);
+}
