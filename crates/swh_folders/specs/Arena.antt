@@ -9,6 +9,7 @@ use Rattle.swh_folders.specs.declared.entry.Child.TheVariants.{File as FileChild
 use Rattle.swh_folders.specs.Forest.{Forest, Bare, Stands, Nothing, IsFile, IsFolder, beside, is_before, found}
 use Rattle.swh_folders.specs.PathMap.{same}
 
+-- the name of this number
 abbrev pub name_at : List (List ℕ) → ℕ → List ℕ
 name_at names i = slice_index_or names i []
 
@@ -21,6 +22,7 @@ abbrev pub stands_of : (ℕ → Forest) → Option Child → Stands
 stands_of at None = Nothing
 stands_of at (Some c) = stands at c
 
+-- the folder of these entries, where folders are these
 abbrev pub forest_of : List (List ℕ) → (ℕ → Forest) → List Entry → Forest
 forest_of names at [] = Bare
 forest_of names at (e ∷ es) = beside (name_at names e.name) (stands at e.child) (forest_of names at es)
@@ -30,6 +32,7 @@ abbrev pub among : List (List ℕ) → List (List Entry) → ℕ → Forest
 among names [] i = Bare
 among names (es ∷ older) i = if i == length older then forest_of names (among names older) es else among names older i
 
+-- a file, or a folder of a lower number
 abbrev pub IsLower : ℕ → Child → Type 0
 IsLower k (FileChild l) = Unit {0}
 IsLower k (FolderChild j) = j < k
@@ -38,6 +41,7 @@ pub record IsGood (n k : ℕ) (e : Entry) : Type 0 where
   pub name : e.name < n
   pub child : IsLower k e.child
 
+-- of each entry the name is among the first n, and a folder among the first k
 abbrev pub AreGood : ℕ → ℕ → List Entry → Type 0
 AreGood n k es = AllByRecursion (λ e. IsGood n k e) es
 
@@ -65,6 +69,7 @@ abbrev pub entries_with : List (List ℕ) → Entry → List Entry → List Entr
 entries_with names e [] = e ∷ []
 entries_with names e (f ∷ es) = if is_before (entry_key names e) (entry_key names f) then e ∷ f ∷ es else f ∷ entries_with names e es
 
+-- the names themselves
 abbrev pub texts : List (Vec ℕ) → List (List ℕ)
 texts names = map (λ v. v.items) names
 
@@ -72,9 +77,11 @@ texts names = map (λ v. v.items) names
 abbrev pub layers : List (Vec Entry) → List (List Entry)
 layers nodes = reverse (map (λ v. v.items) nodes)
 
+-- the folder of a number
 unfoldable pub tree_at : List (Vec ℕ) → List (Vec Entry) → ℕ → Forest
 tree_at names nodes i = among (texts names) (layers nodes) i
 
+-- each folder's own folders have lower numbers
 unfoldable pub IsArena : List (Vec ℕ) → List (Vec Entry) → Type 0
 IsArena names nodes = AllGood (length names) (layers nodes)
 
