@@ -8,6 +8,9 @@ use Rattle.swh_folders.specs.declared.entry.Child.TheVariants.{File as FileChild
 use Rattle.swh_folders.specs.Arena.{stands, stands_of, tree_at}
 use Rattle.swh_folders.specs.Forest.{Forest, Stands, Nothing, IsFile, IsFolder, child_at, forest, found, graft, deleted, flat, shown}
 use Rattle.swh_folders.specs.PathMap.{PathMap, set, delete, copy, rename, held}
+use Rattle.swh_folders.specs.declared.edits.Transfer.{Transfer}
+use Rattle.swh_folders.specs.declared.edits.Transfer.TheVariants.{Copy, Rename}
+use Rattle.swh_folders.specs.Transfer.{transferred, left_by}
 use Rattle.swh_folders.specs.Sound.{IsLeaf, IsSound, IsSoundHere}
 use Rattle.swh_folders.specs.Roots.{IsBelow, map_of_number, AreSound, IsGood, map_at, root_forest}
 use Rattle.swh_fastlex.specs.Path.{components, IsPath}
@@ -72,14 +75,18 @@ held-none path y m s from none = ap (held (components path)) (sym from) ∙ held
 pub held-some : (path : List ℕ) (y : Stands) (m : PathMap) → IsSound (forest y) → flat (forest y) ≡ m → found (components path) y ≢ Nothing → held (components path) m ≢ []
 held-some path y m s from some e = shown-some (found (components path) y) (found-path path y s) some (sym (held-root (components path) y (components-some path) s) ∙ ap (held (components path)) from ∙ e)
 
-pub copy-done : (source target : List ℕ) (y z : Stands) (m m' : PathMap) → IsPath target → IsSound (forest y) → flat (forest y) ≡ m → m' ≡ flat (forest z) → z ≡ graft (components target) (found (components source) y) y → m' ≡ copy (components source) (components target) m
+copy-done : (source target : List ℕ) (y z : Stands) (m m' : PathMap) → IsPath target → IsSound (forest y) → flat (forest y) ≡ m → m' ≡ flat (forest z) → z ≡ graft (components target) (found (components source) y) y → m' ≡ copy (components source) (components target) m
 copy-done source target y z m m' is_path sound from to is =
     to ∙ ap (λ (x : Stands). flat (forest x)) is
     ∙ copy-here (components source) (components target) y (components-some source) (components-some target) (path-names target is_path) (found-path source y sound) sound
     ∙ ap (copy (components source) (components target)) from
 
-pub rename-done : (source target : List ℕ) (y z : Stands) (m m' : PathMap) → IsPath source → IsPath target → IsSound (forest y) → flat (forest y) ≡ m → m' ≡ flat (forest z) → found (components source) y ≢ Nothing → z ≡ graft (components target) (found (components source) y) (graft (components source) Nothing y) → m' ≡ rename (components source) (components target) m
+rename-done : (source target : List ℕ) (y z : Stands) (m m' : PathMap) → IsPath source → IsPath target → IsSound (forest y) → flat (forest y) ≡ m → m' ≡ flat (forest z) → found (components source) y ≢ Nothing → z ≡ graft (components target) (found (components source) y) (graft (components source) Nothing y) → m' ≡ rename (components source) (components target) m
 rename-done source target y z m m' s_path t_path sound from to some is =
     to ∙ ap (λ (x : Stands). flat (forest x)) is
     ∙ rename-here (components source) (components target) y (components-some source) (components-some target) (path-names source s_path) (path-names target t_path) (found-path source y sound) some sound
     ∙ ap (rename (components source) (components target)) from
+
+pub transfer-done : (way : Transfer) (source target : List ℕ) (y z : Stands) (m m' : PathMap) → IsPath source → IsPath target → IsSound (forest y) → flat (forest y) ≡ m → m' ≡ flat (forest z) → found (components source) y ≢ Nothing → z ≡ graft (components target) (found (components source) y) (left_by way (components source) y) → m' ≡ transferred way (components source) (components target) m
+transfer-done Copy source target y z m m' s_path t_path sound from to some is = copy-done source target y z m m' t_path sound from to is
+transfer-done Rename source target y z m m' s_path t_path sound from to some is = rename-done source target y z m m' s_path t_path sound from to some is

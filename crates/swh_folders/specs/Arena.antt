@@ -23,7 +23,7 @@ abbrev pub stands_of : (ℕ → Forest) → Option Child → Stands
 stands_of at None = Nothing
 stands_of at (Some c) = stands at c
 
--- entries as a forest, where folders are these
+-- the folder of these entries, where folders are these
 abbrev pub forest_of : List (List ℕ) → (ℕ → Forest) → List Entry → Forest
 forest_of names at [] = Bare
 forest_of names at (e ∷ es) = beside (name_at names e.name) (stands at e.child) (forest_of names at es)
@@ -33,7 +33,7 @@ abbrev pub among : List (List ℕ) → List (List Entry) → ℕ → Forest
 among names [] i = Bare
 among names (es ∷ older) i = if i == length older then forest_of names (among names older) es else among names older i
 
--- A folder has a number below this one.
+-- a file, or a folder of a lower number
 abbrev pub IsLower : ℕ → Child → Type 0
 IsLower k (FileChild l) = Unit {0}
 IsLower k (FolderChild j) = j < k
@@ -43,7 +43,7 @@ pub record IsGood (n k : ℕ) (e : Entry) : Type 0 where
   pub name : e.name < n
   pub child : IsLower k e.child
 
--- Each entry is so.
+-- of each entry the name is among the first n, and a folder among the first k
 abbrev pub AreGood : ℕ → ℕ → List Entry → Type 0
 AreGood n k es = AllByRecursion (λ e. IsGood n k e) es
 
@@ -75,7 +75,7 @@ abbrev pub entries_with : List (List ℕ) → Entry → List Entry → List Entr
 entries_with names e [] = e ∷ []
 entries_with names e (f ∷ es) = if is_before (entry_key names e) (entry_key names f) then e ∷ f ∷ es else f ∷ entries_with names e es
 
--- the bytes of names
+-- the names themselves
 abbrev pub texts : List (Vec ℕ) → List (List ℕ)
 texts names = map (λ v. v.items) names
 
@@ -83,11 +83,11 @@ texts names = map (λ v. v.items) names
 abbrev pub layers : List (Vec Entry) → List (List Entry)
 layers nodes = reverse (map (λ v. v.items) nodes)
 
--- the folder of this number
+-- the folder of a number
 unfoldable pub tree_at : List (Vec ℕ) → List (Vec Entry) → ℕ → Forest
 tree_at names nodes i = among (texts names) (layers nodes) i
 
--- Each folder's own folders are older, and its names are among these.
+-- each folder's own folders have lower numbers
 unfoldable pub IsArena : List (Vec ℕ) → List (Vec Entry) → Type 0
 IsArena names nodes = AllGood (length names) (layers nodes)
 

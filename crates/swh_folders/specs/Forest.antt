@@ -5,7 +5,7 @@ use Rattle.std.specs.Cmp.Lexicographic.{slice_cmp}
 use Rattle.swh_folders.specs.declared.entry.Leaf.{Leaf}
 use Rattle.swh_folders.specs.PathMap.{PathMap, same}
 
--- entries of a folder, the first one outermost, each with its name
+-- a folder: its entries in their order, each a file or a folder under its name
 pub data Forest : Type 0 where
   Bare : Forest
   File : List ℕ → Leaf → Forest → Forest

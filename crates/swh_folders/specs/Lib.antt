@@ -6,4 +6,5 @@ pub mod Moved
 pub mod PathMap
 pub mod Roots
 pub mod Sound
+pub mod Transfer
 pub mod Working

@@ -2,16 +2,26 @@
 
 ghost use Rattle.std.specs.Prelude.{◌≡◌, ◌≢◌, ℕ, List, [], length, IfOk, IfSome, IfNone};
 ghost use Rattle.std.specs.Global.{Vec};
-ghost use Rattle.swh_folders.specs.Arena.{stands_of, tree_at, Grows, IsIn};
+ghost use Rattle.std.specs.List.{AllByRecursion};
+ghost use Rattle.swh_folders.specs.Arena.{stands_of, tree_at, parts_of, Grows, IsIn};
 ghost use Rattle.swh_folders.specs.Forest.{Forest, forest};
-ghost use Rattle.swh_folders.specs.PathMap.{set, delete, copy, rename, held};
+ghost use Rattle.swh_folders.specs.PathMap.{set, delete, held};
 ghost use Rattle.swh_folders.specs.Sound.{IsLeaf};
 ghost use Rattle.swh_folders.specs.Roots.{IsBelow, map_of_number, IsGood, map_at, root_forest};
+ghost use Rattle.swh_folders.specs.Transfer.{transferred, left_by};
+ghost use Rattle.swh_base.specs.Directory.{IsEntryName};
 ghost use Rattle.swh_fastlex.specs.Path.{components, IsPath};
 
 use crate::entry::{Child, Entry, Leaf};
 use crate::path::{components_of, find, graft};
 use std::alloc::{AllocError, Global};
+
+/// How a source's holdings come to a target: they stay at the source too, or the source is removed first.
+#[derive(Clone, Copy)]
+pub enum Transfer {
+    Copy,
+    Rename,
+}
 
 /// What stands at a root.
 fn root_of(number: Option<usize>) -> Option<Child>
@@ -93,49 +103,40 @@ pub fn delete_path(
     Ok(number_of(there))
 }
 
-/// The tree with what the source holds at the target too. None where the source holds nothing.
-pub fn copy_path(
+/// What is left of what stands here before a transfer: all of it, or for a rename all but what stands at the source.
+fn left_of(
     alloc: Global,
     names: &mut Vec<Vec<u8>>,
     nodes: &mut Vec<Vec<Entry>>,
-    root: Option<usize>,
-    source: &[u8],
-    target: &[u8],
-) -> Result<Option<Option<usize>>, AllocError>
+    here: Option<Child>,
+    source: &[&[u8]],
+    way: Transfer,
+) -> Result<Option<Child>, AllocError>
     requires good { IsGood names.old.items nodes.old.items }
-    requires root { IsBelow (length nodes.old.items) root }
-    requires source { IsPath source.now }
-    requires target { IsPath target.now }
+    requires here { IsIn (length nodes.old.items) here }
+    requires source { AllByRecursion IsEntryName (parts_of source.now) }
     ensures good { IsGood names.new.items nodes.new.items }
     ensures grows { Grows names.old.items nodes.old.items names.new.items nodes.new.items }
-    ensures none { IfOk result (λ o. IfNone o (held (components source.now)
-        (map_of_number (map_at names.old.items nodes.old.items) root) ≡ [])) }
-    ensures some { IfOk result (λ o. IfSome o (λ r. held (components source.now)
-        (map_of_number (map_at names.old.items nodes.old.items) root) ≢ [])) }
-    ensures inside { IfOk result (λ o. IfSome o (λ r. IsBelow (length nodes.new.items) r)) }
-    ensures map { IfOk result (λ o. IfSome o (λ r. map_of_number (map_at names.new.items nodes.new.items) r
-        ≡ copy (components source.now) (components target.now)
-        (map_of_number (map_at names.old.items nodes.old.items) root))) }
+    ensures inside { IfOk result (λ r. IsIn (length nodes.new.items) r) }
+    ensures left { IfOk result (λ r. stands_of (tree_at names.new.items nodes.new.items) r
+        ≡ left_by way (parts_of source.now) (stands_of (tree_at names.old.items nodes.old.items) here)) }
 {
-    let from = components_of(alloc, source)?;
-    let to = components_of(alloc, target)?;
-    let here = root_of(root);
-    let Some(child) = find(names.as_slice(), nodes.as_slice(), here, from.as_slice()) else {
-        return Ok(None);
-    };
-    let there = graft(alloc, names, nodes, here, to.as_slice(), Some(child))?;
-    Ok(Some(number_of(there)))
+    match way {
+        Transfer::Copy => Ok(here),
+        Transfer::Rename => graft(alloc, names, nodes, here, source, None),
+    }
 }
 
-/// The tree with what the source holds at the target, and no more at the source, which is removed first. None where the
+/// The tree with what the source holds at the target, and at the source too where the transfer is a copy. None where the
 /// source holds nothing.
-pub fn rename_path(
+pub fn transfer_path(
     alloc: Global,
     names: &mut Vec<Vec<u8>>,
     nodes: &mut Vec<Vec<Entry>>,
     root: Option<usize>,
     source: &[u8],
     target: &[u8],
+    way: Transfer,
 ) -> Result<Option<Option<usize>>, AllocError>
     requires good { IsGood names.old.items nodes.old.items }
     requires root { IsBelow (length nodes.old.items) root }
@@ -149,7 +150,7 @@ pub fn rename_path(
         (map_of_number (map_at names.old.items nodes.old.items) root) ≢ [])) }
     ensures inside { IfOk result (λ o. IfSome o (λ r. IsBelow (length nodes.new.items) r)) }
     ensures map { IfOk result (λ o. IfSome o (λ r. map_of_number (map_at names.new.items nodes.new.items) r
-        ≡ rename (components source.now) (components target.now)
+        ≡ transferred way (components source.now) (components target.now)
         (map_of_number (map_at names.old.items nodes.old.items) root))) }
 {
     let from = components_of(alloc, source)?;
@@ -158,7 +159,7 @@ pub fn rename_path(
     let Some(child) = find(names.as_slice(), nodes.as_slice(), here, from.as_slice()) else {
         return Ok(None);
     };
-    let without = graft(alloc, names, nodes, here, from.as_slice(), None)?;
-    let there = graft(alloc, names, nodes, without, to.as_slice(), Some(child))?;
+    let left = left_of(alloc, names, nodes, here, from.as_slice(), way)?;
+    let there = graft(alloc, names, nodes, left, to.as_slice(), Some(child))?;
     Ok(Some(number_of(there)))
 }

@@ -3,12 +3,13 @@
 ghost use Rattle.std.specs.Prelude.{◌≡◌, ◌≢◌, ◌≤◌, [], IfOk, IfSome, IfNone};
 ghost use Rattle.swh_folders.specs.Roots.{IsBelow};
 ghost use Rattle.swh_fastlex.specs.Path.{components, IsPath};
-ghost use Rattle.swh_folders.specs.PathMap.{set, delete, copy, rename, held};
+ghost use Rattle.swh_folders.specs.PathMap.{set, delete, held};
+ghost use Rattle.swh_folders.specs.Transfer.{transferred};
 ghost use Rattle.swh_folders.specs.Sound.{IsLeaf};
 ghost use Rattle.swh_folders.specs.Working.{AreFolders, count_of, root_map, StaysBelow};
 
 use crate::compacting::compact;
-use crate::edits::{copy_path, delete_path, rename_path, set_leaf};
+use crate::edits::{Transfer, delete_path, set_leaf, transfer_path};
 use crate::entry::{Entry, Leaf};
 use std::alloc::{AllocError, Global};
 
@@ -149,45 +150,16 @@ pub fn delete_in(
     settled(alloc, folders, base, there)
 }
 
-/// The tree with what the source holds at the target too. None where the source holds nothing.
-pub fn copy_in(
-    alloc: Global,
-    folders: &mut Folders,
-    base: usize,
-    root: Option<usize>,
-    source: &[u8],
-    target: &[u8],
-) -> Result<Option<Option<usize>>, AllocError>
-    requires good { AreFolders folders.old }
-    requires base { base ≤ count_of folders.old }
-    requires root { IsBelow (count_of folders.old) root }
-    requires source { IsPath source.now }
-    requires target { IsPath target.now }
-    ensures stays { StaysBelow base folders.old folders.new }
-    ensures none { IfOk result (λ o. IfNone o (held (components source.now) (root_map folders.old root) ≡ [])) }
-    ensures left { IfOk result (λ o. IfNone o (IsBelow (count_of folders.new) root)) }
-    ensures same { IfOk result (λ o. IfNone o (root_map folders.new root ≡ root_map folders.old root)) }
-    ensures some { IfOk result (λ o. IfSome o (λ r. held (components source.now) (root_map folders.old root) ≢ [])) }
-    ensures inside { IfOk result (λ o. IfSome o (λ r. IsBelow (count_of folders.new) r)) }
-    ensures map { IfOk result (λ o. IfSome o (λ r. root_map folders.new r
-        ≡ copy (components source.now) (components target.now) (root_map folders.old root))) }
-{
-    let (names, nodes) = (&mut folders.names, &mut folders.nodes);
-    let Some(there) = copy_path(alloc, names, nodes, root, source, target)? else {
-        return Ok(None);
-    };
-    Ok(Some(settled(alloc, folders, base, there)?))
-}
-
-/// The tree with what the source holds at the target, and no more at the source, which is removed first. None where the
+/// The tree with what the source holds at the target, and at the source too where the transfer is a copy. None where the
 /// source holds nothing.
-pub fn rename_in(
+pub fn transfer_in(
     alloc: Global,
     folders: &mut Folders,
     base: usize,
     root: Option<usize>,
     source: &[u8],
     target: &[u8],
+    way: Transfer,
 ) -> Result<Option<Option<usize>>, AllocError>
     requires good { AreFolders folders.old }
     requires base { base ≤ count_of folders.old }
@@ -201,10 +173,10 @@ pub fn rename_in(
     ensures some { IfOk result (λ o. IfSome o (λ r. held (components source.now) (root_map folders.old root) ≢ [])) }
     ensures inside { IfOk result (λ o. IfSome o (λ r. IsBelow (count_of folders.new) r)) }
     ensures map { IfOk result (λ o. IfSome o (λ r. root_map folders.new r
-        ≡ rename (components source.now) (components target.now) (root_map folders.old root))) }
+        ≡ transferred way (components source.now) (components target.now) (root_map folders.old root))) }
 {
     let (names, nodes) = (&mut folders.names, &mut folders.nodes);
-    let Some(there) = rename_path(alloc, names, nodes, root, source, target)? else {
+    let Some(there) = transfer_path(alloc, names, nodes, root, source, target, way)? else {
         return Ok(None);
     };
     Ok(Some(settled(alloc, folders, base, there)?))

@@ -15,8 +15,9 @@ mod node;
 mod path;
 
 pub use compacting::compact;
+pub use edits::Transfer;
 pub use entry::{Child, Entry, Leaf, whole_id};
-pub use folders::{Folders, copy_in, count_from, delete_in, rename_in, set_in};
+pub use folders::{Folders, count_from, delete_in, set_in, transfer_in};
 
 #[cfg(test)]
 mod tests;

@@ -8,12 +8,13 @@ use std::alloc::{AllocError, Global};
 use std::test::Fail;
 use swh_fastlex::is_path;
 
-/// The tree with a plain file at the path, and as before where it is no path.
-fn with(
+/// The tree with a plain file at the path, or with nothing there; as before where it is no path.
+fn edited(
     alloc: Global,
     folders: &mut Folders,
     root: Option<usize>,
     path: &[u8],
+    is_set: bool,
 ) -> Result<Option<usize>, AllocError>
     requires good { AreFolders folders.old }
     requires root { IsBelow (count_of folders.old) root }
@@ -23,38 +24,24 @@ fn with(
     if !is_path(path) {
         return Ok(root);
     }
-    let leaf = Leaf {
-        mode: 100_644,
-        id: whole_id(&[7; 20]),
-    };
-    set_in(alloc, folders, 0, root, path, leaf)
-}
-
-/// The tree without what stands at the path, and as before where it is no path.
-fn without(
-    alloc: Global,
-    folders: &mut Folders,
-    root: Option<usize>,
-    path: &[u8],
-) -> Result<Option<usize>, AllocError>
-    requires good { AreFolders folders.old }
-    requires root { IsBelow (count_of folders.old) root }
-    ensures good { AreFolders folders.new }
-    ensures inside { IfOk result (λ r. IsBelow (count_of folders.new) r) }
-{
-    if !is_path(path) {
-        return Ok(root);
+    if is_set {
+        let leaf = Leaf {
+            mode: 100_644,
+            id: whole_id(&[7; 20]),
+        };
+        set_in(alloc, folders, 0, root, path, leaf)
+    } else {
+        delete_in(alloc, folders, 0, root, path)
     }
-    delete_in(alloc, folders, 0, root, path)
 }
 
-/// The tree after a copy or a rename. None where the source holds nothing or one of them is no path.
+/// The tree after a transfer. None where the source holds nothing or one of them is no path.
 fn moved(
     alloc: Global,
     folders: &mut Folders,
     root: Option<usize>,
     paths: (&[u8], &[u8]),
-    is_copy: bool,
+    way: Transfer,
 ) -> Result<Option<Option<usize>>, AllocError>
     requires good { AreFolders folders.old }
     requires root { IsBelow (count_of folders.old) root }
@@ -64,11 +51,7 @@ fn moved(
     if !is_path(paths.0) || !is_path(paths.1) {
         return Ok(None);
     }
-    if is_copy {
-        copy_in(alloc, folders, 0, root, paths.0, paths.1)
-    } else {
-        rename_in(alloc, folders, 0, root, paths.0, paths.1)
-    }
+    transfer_in(alloc, folders, 0, root, paths.0, paths.1, way)
 }
 
 /// The entries of a root's folder; none where there is no such folder.
@@ -107,9 +90,9 @@ fn folder_in(folders: &Folders, root: Option<usize>, place: usize) -> Option<usi
 fn order_of_names(rt: HostRuntime) -> Result<(), Fail> {
     let alloc = rt.alloc();
     let mut folders = Folders::new(alloc);
-    let root = with(alloc, &mut folders, None, b"a0")?;
-    let root = with(alloc, &mut folders, root, b"a/x")?;
-    let root = with(alloc, &mut folders, root, b"a.b")?;
+    let root = edited(alloc, &mut folders, None, b"a0", true)?;
+    let root = edited(alloc, &mut folders, root, b"a/x", true)?;
+    let root = edited(alloc, &mut folders, root, b"a.b", true)?;
     assert!(rt; is_at(&folders, root, 0, b"a.b"));
     assert!(rt; is_at(&folders, root, 1, b"a"));
     assert!(rt; is_at(&folders, root, 2, b"a0"));
@@ -120,9 +103,9 @@ fn order_of_names(rt: HostRuntime) -> Result<(), Fail> {
 fn a_file_in_the_place_of_its_folder(rt: HostRuntime) -> Result<(), Fail> {
     let alloc = rt.alloc();
     let mut folders = Folders::new(alloc);
-    let root = with(alloc, &mut folders, None, b"x/y")?;
+    let root = edited(alloc, &mut folders, None, b"x/y", true)?;
     assert!(rt; folder_in(&folders, root, 0).is_some());
-    let root = with(alloc, &mut folders, root, b"x")?;
+    let root = edited(alloc, &mut folders, root, b"x", true)?;
     assert!(rt; folder_in(&folders, root, 0).is_none());
     assert_eq!(rt; entries_of(&folders, root).len(), 1);
     Ok(())
@@ -133,8 +116,8 @@ fn a_file_in_the_place_of_its_folder(rt: HostRuntime) -> Result<(), Fail> {
 fn emptied_folders(rt: HostRuntime) -> Result<(), Fail> {
     let alloc = rt.alloc();
     let mut folders = Folders::new(alloc);
-    let root = with(alloc, &mut folders, None, b"x/y/z")?;
-    let root = without(alloc, &mut folders, root, b"x/y/z")?;
+    let root = edited(alloc, &mut folders, None, b"x/y/z", true)?;
+    let root = edited(alloc, &mut folders, root, b"x/y/z", false)?;
     assert!(rt; root.is_none());
     Ok(())
 }
@@ -144,8 +127,8 @@ fn emptied_folders(rt: HostRuntime) -> Result<(), Fail> {
 fn shared_folders(rt: HostRuntime) -> Result<(), Fail> {
     let alloc = rt.alloc();
     let mut folders = Folders::new(alloc);
-    let root = with(alloc, &mut folders, None, b"a/x")?;
-    let Some(both) = moved(alloc, &mut folders, root, (b"a", b"b"), true)? else {
+    let root = edited(alloc, &mut folders, None, b"a/x", true)?;
+    let Some(both) = moved(alloc, &mut folders, root, (b"a", b"b"), Transfer::Copy)? else {
         assert!(rt; false);
         return Ok(());
     };
@@ -158,8 +141,8 @@ fn shared_folders(rt: HostRuntime) -> Result<(), Fail> {
 fn a_folder_moved_under_itself(rt: HostRuntime) -> Result<(), Fail> {
     let alloc = rt.alloc();
     let mut folders = Folders::new(alloc);
-    let root = with(alloc, &mut folders, None, b"a/x")?;
-    let Some(moved) = moved(alloc, &mut folders, root, (b"a", b"a/b"), false)? else {
+    let root = edited(alloc, &mut folders, None, b"a/x", true)?;
+    let Some(moved) = moved(alloc, &mut folders, root, (b"a", b"a/b"), Transfer::Rename)? else {
         assert!(rt; false);
         return Ok(());
     };
@@ -172,8 +155,8 @@ fn a_folder_moved_under_itself(rt: HostRuntime) -> Result<(), Fail> {
 fn a_source_that_holds_nothing(rt: HostRuntime) -> Result<(), Fail> {
     let alloc = rt.alloc();
     let mut folders = Folders::new(alloc);
-    let root = with(alloc, &mut folders, None, b"a/x")?;
-    assert!(rt; moved(alloc, &mut folders, root, (b"a/y", b"b"), true)?.is_none());
+    let root = edited(alloc, &mut folders, None, b"a/x", true)?;
+    assert!(rt; moved(alloc, &mut folders, root, (b"a/y", b"b"), Transfer::Copy)?.is_none());
     Ok(())
 }
 
@@ -181,7 +164,16 @@ fn a_source_that_holds_nothing(rt: HostRuntime) -> Result<(), Fail> {
 fn a_source_below_a_file(rt: HostRuntime) -> Result<(), Fail> {
     let alloc = rt.alloc();
     let mut folders = Folders::new(alloc);
-    let root = with(alloc, &mut folders, None, b"a/x")?;
-    assert!(rt; moved(alloc, &mut folders, root, (b"a/x/y", b"b"), false)?.is_none());
+    let root = edited(alloc, &mut folders, None, b"a/x", true)?;
+    assert!(rt;
+        moved(
+            alloc,
+            &mut folders,
+            root,
+            (b"a/x/y", b"b"),
+            Transfer::Rename
+        )?
+        .is_none()
+    );
     Ok(())
 }

@@ -20,7 +20,7 @@ use Rattle.swh_folders.specs.Arena.{name_at, stands, forest_of, texts, tree_at, 
 use Rattle.swh_trees.specs.Directory.{directory_id, directory_of}
 use Rattle.swh_folders.specs.Forest.{Forest, Stands, Nothing, IsFile, IsFolder, beside, child_at, forest, found, leaf_of, at, flat, shown}
 use Rattle.swh_trees.specs.Listing.{directory}
-use Rattle.swh_trees.specs.Grove.{StandsFor, Keeps, IsTree, folder_map, map_of}
+use Rattle.swh_trees.specs.Grove.{Grove, StandsFor, Keeps, IsTree, folder_map, map_of}
 use Rattle.swh_folders.specs.Roots.{IsBelow, map_of_number, map_at, root_forest}
 use Rattle.swh_trees.specs.Held.{AreIds, IsEmptyFolder, IsHeld, first_values, grove, kept_number, kept_empty}
 use Rattle.swh_folders.specs.Live.{IsPart}
@@ -160,6 +160,21 @@ keeps-stays a b ids ids' le s same = record {
   made = same;
   maps = λ n lt. let long = s.long in grove-at b ids' n (omega arith) ∙ ap flat (s.stay n lt) ∙ sym (grove-at a ids n (omega arith));
 }
+
+-- ## What callers see of folders
+
+pub keeps-seen : (v : Grove) (a b : Folders) (ids : List (List ℕ)) (base : ℕ) → grove a.names.items a.nodes.items ids ≡ v → length ids ≤ count_of a → base ≡ length ids → StaysBelow base a b → Keeps v (grove b.names.items b.nodes.items ids)
+keeps-seen v a b ids base seen le is stays =
+    subst (λ (w : Grove). Keeps w (grove b.names.items b.nodes.items ids)) seen
+    (keeps-stays a b ids ids le (subst (λ (k : ℕ). StaysBelow k a b) is stays) refl)
+
+pub tree-seen : (v : Grove) (a : Folders) (ids : List (List ℕ)) (tree : Tree) → grove a.names.items a.nodes.items ids ≡ v → IsTree v tree → IsBelow (count_of a) tree.number
+tree-seen v a ids tree seen h = is-tree a ids tree (subst (λ (w : Grove). IsTree w tree) (sym seen) h)
+
+pub map-seen : (v : Grove) (a : Folders) (ids : List (List ℕ)) (tree : Tree) → grove a.names.items a.nodes.items ids ≡ v → IsTree v tree → root_map a tree.number ≡ map_of v tree
+map-seen v a ids tree seen h = sym (map-is a ids tree (tree-seen v a ids tree seen h)) ∙ ap (λ (w : Grove). map_of w tree) seen
+
+-- ## Parts and numbers
 
 pub part-number : (f : Folders) → AreFolders f → (p : List (List ℕ)) (i : ℕ) → i < count_of f → (g : Forest) → found p (IsFolder (folder_at f i)) ≡ IsFolder g → (n : ℕ) × (n ≤ i) × (folder_at f n ≡ g)
 part-number f good p i lt g e = number-of f good (first_node f.nodes.items i lt) p i lt g e

@@ -6,7 +6,7 @@ use crate::tree::Tree;
 use std::alloc::Global;
 use std::marker::Model;
 use swh_base::{Memory, Namer};
-use swh_folders::{Folders, Leaf, copy_in, delete_in, rename_in, set_in, whole_id};
+use swh_folders::{Folders, Leaf, Transfer, delete_in, set_in, transfer_in, whole_id};
 use swh_object::Object;
 
 /// Trees that share the folders which they have in common, and the ids of the folders whose objects were made, by the
@@ -88,6 +88,7 @@ impl<N: Namer> Trees<N> {
     ghost use Rattle.swh_trees.specs.Makes.{Makes, ExplainsTree};
     ghost use Rattle.swh_fastlex.specs.Path.{components, IsPath};
     ghost use Rattle.swh_folders.specs.PathMap.{set, delete, copy, rename, held};
+    ghost use Rattle.swh_folders.specs.Transfer.{transferred};
 
     /// No tree but the empty one.
     pub fn new(alloc: Global, namer: N) -> Trees<N>
@@ -166,9 +167,7 @@ impl<N: Namer> Trees<N> {
         ensures map { IfOk result (λ o. IfSome o (λ t. StandsFor self.new t
             (copy (components source.now) (components target.now) (map_of self.old tree)))) }
     {
-        let base = self.ids.len();
-        let found = copy_in(alloc, &mut self.folders, base, tree.number, source, target)?;
-        Ok(tree_of(found))
+        self.transfer(alloc, tree, source, target, Transfer::Copy)
     }
 
     /// The tree with what the source holds at the target, and no more at the source, which is removed first
@@ -191,8 +190,31 @@ impl<N: Namer> Trees<N> {
         ensures map { IfOk result (λ o. IfSome o (λ t. StandsFor self.new t
             (rename (components source.now) (components target.now) (map_of self.old tree)))) }
     {
+        self.transfer(alloc, tree, source, target, Transfer::Rename)
+    }
+
+    /// The tree after a copy or a rename; none where the source holds nothing.
+    fn transfer(
+        &mut self,
+        alloc: Global,
+        tree: Tree,
+        source: &[u8],
+        target: &[u8],
+        way: Transfer,
+    ) -> Result<Option<Tree>, Memory>
+        requires tree { IsTree self.old tree }
+        requires source { IsPath source.now }
+        requires target { IsPath target.now }
+        ensures keeps { Keeps self.old self.new }
+        ensures none { IfOk result (λ o. IfNone o (held (components source.now) (map_of self.old tree) ≡ [])) }
+        ensures left { IfOk result (λ o. IfNone o (StandsFor self.new tree (map_of self.old tree))) }
+        ensures some { IfOk result (λ o. IfSome o (λ t. held (components source.now) (map_of self.old tree) ≢ [])) }
+        ensures map { IfOk result (λ o. IfSome o (λ t. StandsFor self.new t
+            (transferred way (components source.now) (components target.now) (map_of self.old tree)))) }
+    {
         let base = self.ids.len();
-        let found = rename_in(alloc, &mut self.folders, base, tree.number, source, target)?;
+        let (number, folders) = (tree.number, &mut self.folders);
+        let found = transfer_in(alloc, folders, base, number, source, target, way)?;
         Ok(tree_of(found))
     }
 

@@ -3,7 +3,7 @@ use Rattle.std.specs.Borrow.{Bor}
 use Rattle.std.proofs.lemmas.List.{map_push, append_assoc}
 use Rattle.swh_folders.specs.Arena.{parts_of}
 use Rattle.swh_fastlex.specs.Path.{components}
-use Rattle.swh_folders.proofs.Components.{components_none, components_cut}
+use Rattle.swh_fastlex.proofs.Components.{components_none, components_cut}
 use Rattle.swh_folders.proofs.path.components_of.Goals as goal
 
 pub parts-preserved : goal.parts-preserved

@@ -1,7 +1,7 @@
 use Rattle.std.proofs.Common.{rules, ◌≡◌, ℕ, length, sym, subst}
 use Rattle.swh_trees.specs.Grove.{Grove, IsTree}
 use Rattle.swh_folders.specs.Roots.{IsBelow}
-use Rattle.swh_trees.proofs.Parts.{is-tree, tree-is}
+use Rattle.swh_trees.proofs.Parts.{tree-seen, tree-is}
 use Rattle.swh_trees.proofs.trees.Trees.has.Goals as goal
 
 pub returns : goal.returns
@@ -10,5 +10,5 @@ returns g c =
     let ids = c.self.inside.ids.items in
     let n : c.len.result ≡ length c.self.inside.folders.nodes.items = search rules in (
       λ t. subst (λ (v : Grove). IsTree v c.args.tree) c.self.view_is (tree-is f ids c.args.tree (subst (λ (k : ℕ). IsBelow k c.args.tree.number) n (c.is_below.ensures.0 t))),
-      λ h. c.is_below.ensures.1 (subst (λ (k : ℕ). IsBelow k c.args.tree.number) (sym n) (is-tree f ids c.args.tree (subst (λ (v : Grove). IsTree v c.args.tree) (sym c.self.view_is) h))),
+      λ h. c.is_below.ensures.1 (subst (λ (k : ℕ). IsBelow k c.args.tree.number) (sym n) (tree-seen _ f ids c.args.tree c.self.view_is h)),
     )

@@ -1,5 +1,5 @@
-use Rattle.std.proofs.Common.{rules, ◌≡◌, [], ℕ, length, sym, ap, refl, subst, ◌∙◌, arith}
-use Rattle.swh_trees.specs.Grove.{Grove, IsTree, Keeps, map_of}
+use Rattle.std.proofs.Common.{rules, ◌≡◌, [], ℕ, length, ap, refl, subst, ◌∙◌, arith}
+use Rattle.swh_trees.specs.Grove.{Grove, Keeps, map_of}
 use Rattle.swh_trees.specs.Held.{grove}
 use Rattle.swh_folders.specs.PathMap.{PathMap}
 use Rattle.swh_folders.specs.Working.{StaysBelow, root_map, folder_at}
@@ -7,11 +7,11 @@ use Rattle.std.proofs.lemmas.List.{get_or_default}
 use Rattle.std.proofs.lemmas.Result.{err_from_is_err_and}
 use Rattle.swh_trees.specs.Makes.{Makes, ExplainsTree}
 use Rattle.swh_folders.proofs.Workings.{stays-on}
-use Rattle.swh_trees.proofs.Parts.{is-tree, map-is, keeps-stays, on-err, explained, IsMaking, makes-done}
+use Rattle.swh_trees.proofs.Parts.{tree-seen, map-seen, keeps-stays, on-err, explained, IsMaking, makes-done}
 use Rattle.swh_trees.proofs.trees.Trees.make.Goals as goal
 
 pub root_number-requires-clause-root : goal.root_number-requires-clause-root
-root_number-requires-clause-root g c = is-tree c.self.inside.folders c.self.inside.ids.items c.args.tree (subst (λ (v : Grove). IsTree v c.args.tree) (sym c.self.view_is) c.requires)
+root_number-requires-clause-root g c = tree-seen _ c.self.inside.folders c.self.inside.ids.items c.args.tree c.self.view_is c.requires
 
 pub returns-in_err-root-clause-keeps : goal.returns-in_err-root-clause-keeps
 returns-in_err-root-clause-keeps g c =
@@ -38,8 +38,7 @@ returns-in_err-number-clause-err g c =
     let a = c.self.inside.folders in
     let b = c.root_number.new.folders in
     let ids = c.self.inside.ids.items in
-    let low = is-tree a ids c.args.tree (subst (λ (v : Grove). IsTree v c.args.tree) (sym c.self.view_is) c.requires) in
-    let before : root_map a c.args.tree.number ≡ map_of c.args.self.now c.args.tree = sym (map-is a ids c.args.tree low) ∙ ap (λ (v : Grove). map_of v c.args.tree) c.self.view_is in
+    let before : root_map a c.args.tree.number ≡ map_of c.args.self.now c.args.tree = map-seen _ a ids c.args.tree c.self.view_is c.requires in
     let good = c.root_number.ensures.stays.good in
     let p = err_from_is_err_and c.from_residual-in_err-number.result c.from_residual-in_err-number.ensures.1 in
     rw (p.1, p.2) (subst (λ (m : PathMap). ExplainsTree g.N.Namer.id_of m c.in_err-number.field-0.0) before
@@ -53,8 +52,7 @@ returns-clause-makes g c =
     let ids = c.self.inside.ids.items in
     let ids' = c.make_folders.new.ids.items in
     let n : c.len-base.result ≡ length c.self.inside.ids.items = search rules in
-    let low = is-tree a ids c.args.tree (subst (λ (v : Grove). IsTree v c.args.tree) (sym c.self.view_is) c.requires) in
-    let before : root_map a c.args.tree.number ≡ map_of c.args.self.now c.args.tree = sym (map-is a ids c.args.tree low) ∙ ap (λ (v : Grove). map_of v c.args.tree) c.self.view_is in
+    let before : root_map a c.args.tree.number ≡ map_of c.args.self.now c.args.tree = map-seen _ a ids c.args.tree c.self.view_is c.requires in
     let first = subst (λ (k : ℕ). StaysBelow k a b) n c.root_number.ensures.stays in
     let all = c.in_ok-number.ensures.all in
     let inside = c.in_ok-number.ensures.inside in

@@ -1,40 +1,30 @@
-use Rattle.std.proofs.Common.{rules, ◌≡◌, ℕ, List, length, sym, ap, refl, subst, ◌∙◌}
-use Rattle.swh_folders.specs.declared.entry.Leaf.{Leaf}
-use Rattle.swh_trees.specs.Grove.{Grove, IsTree, Keeps, map_of}
-use Rattle.swh_trees.specs.Held.{grove}
+use Rattle.std.proofs.Common.{rules, ◌≡◌, ℕ, List, length, ap, ◌∙◌}
 use Rattle.swh_fastlex.specs.Path.{components}
+use Rattle.swh_folders.specs.declared.entry.Leaf.{Leaf}
 use Rattle.swh_folders.specs.PathMap.{set}
-use Rattle.swh_folders.specs.Working.{StaysBelow, root_map}
-use Rattle.swh_trees.proofs.Parts.{is-tree, map-is, stands-for, keeps-stays}
+use Rattle.swh_folders.specs.Working.{root_map}
+use Rattle.swh_trees.specs.Grove.{map_of}
+use Rattle.swh_trees.proofs.Parts.{keeps-seen, map-seen, stands-for, tree-seen}
 use Rattle.swh_trees.proofs.trees.Trees.set.Goals as goal
 
 pub set_in-requires-clause-root : goal.set_in-requires-clause-root
-set_in-requires-clause-root g c = is-tree c.self.inside.folders c.self.inside.ids.items c.args.tree (subst (λ (v : Grove). IsTree v c.args.tree) (sym c.self.view_is) c.requires.tree)
+set_in-requires-clause-root g c = tree-seen _ c.self.inside.folders c.self.inside.ids.items c.args.tree c.self.view_is c.requires.tree
 
 pub returns-in_err-number-clause-keeps : goal.returns-in_err-number-clause-keeps
 returns-in_err-number-clause-keeps g c =
-    let a = c.self.inside.folders in
-    let b = c.set_in.new.folders in
-    let ids = c.self.inside.ids.items in
     let n : c.len-base.result ≡ length c.self.inside.ids.items = search rules in
-    subst (λ (v : Grove). Keeps v (grove b.names.items b.nodes.items ids)) c.self.view_is
-    (keeps-stays a b ids ids c.self.invariant.within (subst (λ (k : ℕ). StaysBelow k a b) n c.set_in.ensures.stays) refl)
+    keeps-seen _ c.self.inside.folders c.set_in.new.folders c.self.inside.ids.items _ c.self.view_is c.self.invariant.within n c.set_in.ensures.stays
 
 pub returns-clause-keeps : goal.returns-clause-keeps
 returns-clause-keeps g c =
-    let a = c.self.inside.folders in
-    let b = c.set_in.new.folders in
-    let ids = c.self.inside.ids.items in
     let n : c.len-base.result ≡ length c.self.inside.ids.items = search rules in
-    subst (λ (v : Grove). Keeps v (grove b.names.items b.nodes.items ids)) c.self.view_is
-    (keeps-stays a b ids ids c.self.invariant.within (subst (λ (k : ℕ). StaysBelow k a b) n c.set_in.ensures.stays) refl)
+    keeps-seen _ c.self.inside.folders c.set_in.new.folders c.self.inside.ids.items _ c.self.view_is c.self.invariant.within n c.set_in.ensures.stays
 
 pub returns-clause-map : goal.returns-clause-map
 returns-clause-map g c =
     let a = c.self.inside.folders in
     let ids = c.self.inside.ids.items in
-    let low = is-tree a ids c.args.tree (subst (λ (v : Grove). IsTree v c.args.tree) (sym c.self.view_is) c.requires.tree) in
-    let before : root_map a c.args.tree.number ≡ map_of c.args.self.now c.args.tree = sym (map-is a ids c.args.tree low) ∙ ap (λ (v : Grove). map_of v c.args.tree) c.self.view_is in
+    let before : root_map a c.args.tree.number ≡ map_of c.args.self.now c.args.tree = map-seen _ a ids c.args.tree c.self.view_is c.requires.tree in
     let p = components c.args.path.now in
     let whole : record { mode = c.args.leaf.mode; id = c.whole_id.result } ≡ c.args.leaf = ap (λ (i : List ℕ). record { mode = c.args.leaf.mode; id = i }) c.whole_id.ensures.same in
     stands-for c.set_in.new.folders ids _ _ c.in_ok-number.ensures.inside
