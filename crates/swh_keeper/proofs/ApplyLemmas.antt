@@ -1,5 +1,5 @@
 -- A planned event may be added.
-use Rattle.std.proofs.Common.{ap, ◌≡◌, ℕ, zero, suc, ◌-◌, ◌<◌, ◌≤◌, Some, None, Ok, List, [], ◌∷◌, ◌++◌, length, refl, sym, subst, arith}
+use Rattle.std.proofs.Common.{ap, ◌≡◌, ℕ, zero, suc, ◌-◌, ◌<◌, ◌≤◌, Some, None, Ok, List, [], ◌∷◌, ◌++◌, length, refl, sym, subst, arith, ◌+◌, ◌∙◌}
 use Rattle.std.specs.List.{slice_get}
 use Rattle.swh_outside.specs.Disk.{File}
 use Rattle.swh_outside.specs.Files.{EachImages, files_of}
@@ -21,11 +21,10 @@ use Rattle.swh_plan.specs.declared.replayed.Replayed.{Replayed}
 use Rattle.swh_plan.specs.declared.planning.Planned.{Planned}
 use Rattle.swh_keeper.specs.Advance.{MayAdvance}
 use Rattle.swh_plan.specs.Planned.{IsReplayOf, IsInFiles, IsPlanned}
-use Rattle.swh_keeper.specs.Keeping.{AreSettledFor, IsToAdd, WithOrWithout, IsKeeping, run_written, calls_for}
+use Rattle.swh_keeper.specs.Keeping.{AreSettledFor, IsToAdd, WithOrWithout, IsKeeping, calls_for}
+use Rattle.swh_segment.specs.EventRecord.{run_written, coded_record}
 use Rattle.swh_segment.specs.Events as segment
-use Rattle.swh_model.specs.Coding.{coded_record}
 use Rattle.swh_model.specs.Limits.{store_length, records_length}
-use Rattle.std.proofs.Common.{◌+◌, ◌∙◌}
 use Rattle.swh_keeper.proofs.KeptLemmas.{history-push}
 
 pub may_of_plan : (id_of : Kind → List ℕ → List ℕ) (h : List Event) (by : ℕ) (wish : EventKind) (e : Event) (o : Outcome) → IsWish id_of wish → IsVerdict h by wish (Ok (e, o)) → May id_of (replay h) e

@@ -21,7 +21,7 @@ use Rattle.swh_model.specs.Limits.{bytes_before_last, IsWithinLimits}
 use Rattle.swh_model.specs.Step.{HasItsChildren, HasItsChildrenAndName, AreNew, FitsStatus, MayMark, May, May_kind, added}
 use Rattle.swh_base.specs.Snapshot.{snapshot_name}
 use Rattle.swh_model.specs.Judge.{StatusAllows}
-use Rattle.swh_model.specs.Stands.{without_children, bare_kind, bare_event}
+use Rattle.swh_model.specs.Alike.{without_children, bare_kind, bare_event}
 use Rattle.swh_model.proofs.Entries.{held_not_none, none_unless_held, new-push, new-at, added-append, all-append}
 use Rattle.swh_model.proofs.Visits.{all-map}
 use Rattle.swh_model.specs.Certificate.{AreClosed}

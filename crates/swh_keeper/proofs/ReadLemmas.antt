@@ -1,6 +1,6 @@
 -- Two files after a barrier on each, and what is read of them.
-use Rattle.std.proofs.Common.{◌≡◌, ◌≤◌, ◌<◌, ℕ, ◌+◌, ◌-◌, ◌*◌, Option, Some, None, Err, List, [], ◌∷◌, ◌++◌, length, length-append, length-drop, map, take, drop, refl, sym, ap, ◌∙◌, subst, arith, inr, append_assoc}
-use Rattle.std.specs.Prelude.{IfSome}
+use Rattle.std.proofs.Common.{◌≡◌, ◌≤◌, ◌<◌, ℕ, ◌+◌, ◌-◌, ◌*◌, Option, Some, None, Result, Ok, Err, List, [], ◌∷◌, ◌++◌, length, length-append, length-drop, map, take, drop, refl, sym, ap, ◌∙◌, subst, arith, inr, append_assoc}
+use Rattle.std.specs.Prelude.{IfSome, IfOk}
 use Rattle.std.specs.Global.{Vec}
 use Rattle.std.specs.List.{AllByRecursion}
 use Rattle.std.proofs.lemmas.List.{take-append-drop, drop-drop, append-nil}
@@ -19,30 +19,37 @@ use Rattle.swh_base.specs.Limits.{body_limit, run_limit}
 use Rattle.swh_model.specs.declared.event.Event.{Event}
 use Rattle.swh_model.specs.declared.event.EventKind.{EventKind}
 use Rattle.swh_model.specs.declared.event.EventKind.TheVariants.{Batch, Open, Mark}
-use Rattle.swh_model.specs.declared.decoding.payload.BatchParts.{BatchParts}
-use Rattle.swh_model.specs.declared.decoding.told.Told.{Told}
-use Rattle.swh_model.specs.declared.decoding.told.Told.TheVariants as told_of
-use Rattle.swh_model.specs.declared.decoding.ledger.Record.{Record}
-use Rattle.swh_model.specs.declared.decoding.ledger.Next.{Next}
+use Rattle.swh_segment.specs.declared.batch_record.BatchParts.{BatchParts}
+use Rattle.swh_segment.specs.declared.told.Told.{Told}
+use Rattle.swh_segment.specs.declared.told.Told.TheVariants as told_of
+use Rattle.swh_segment.specs.declared.ledger.Record.{Record}
+use Rattle.swh_segment.specs.declared.ledger.Next.{Next}
 use Rattle.swh_model.specs.Archive.{Archive, empty_archive}
-use Rattle.swh_model.specs.Coding.{magic, coded_entry, coded_run, packed_objects, coded_record, coded_records, coded_runs, IsCodableEntry, IsCodableKind, AreCodable}
-use Rattle.swh_model.specs.Decoding.{IsRunOf, HasNoRun, IsFit, IsGateOpen, HasBrokenRecord, IsNextRecord, Tells}
+use Rattle.swh_segment.specs.Record.{magic}
+use Rattle.swh_segment.specs.StoredObject.{coded_entry, coded_run, IsCodableEntry, IsRunOf}
+use Rattle.swh_segment.specs.EventRecord.{packed_objects, coded_record, IsCodableKind, AreCodable}
+use Rattle.swh_segment.specs.Stands.{coded_records, coded_runs, StandsFor}
+use Rattle.swh_segment.specs.Tells.{HasNoRun, IsFit, Tells}
+use Rattle.swh_segment.specs.LedgerReading.{IsGateOpen, HasBrokenRecord, IsNextRecord}
 use Rattle.swh_model.specs.Limits.{bytes_before_last, IsWithinLimits, store_length, ledger_length}
-use Rattle.swh_model.specs.Stands.{StandsFrom, StandsFor, without_children, bare_kind}
+use Rattle.swh_segment.proofs.StandsFrom.{StandsFrom, behind_magic, with_magic}
+use Rattle.swh_model.specs.Alike.{without_children, bare_kind}
 use Rattle.swh_model.specs.Step.{May_kind, May, MayAll, IsHistory, after, after_all, replay}
-use Rattle.swh_model.proofs.Reading.{record_of_told, record_only}
+use Rattle.swh_segment.proofs.RecordReading.{record_of_told, record_only}
 use Rattle.swh_model.proofs.OneHistory.{one_history}
-use Rattle.swh_model.proofs.Unique.{alike, cut, same_head, same_tail, same_run, same_event}
+use Rattle.swh_segment.proofs.Unique.{alike, cut, same_head, same_tail, same_run, same_event}
 use Rattle.swh_keeper.specs.declared.checking.Checked.{Checked}
 use Rattle.swh_keeper.specs.declared.reading.KindRead.{KindRead}
 use Rattle.swh_keeper.specs.declared.opening.OpenWhy.{OpenWhy}
 use Rattle.swh_keeper.specs.declared.opening.OpenWhy.TheVariants.{Made, NotMade, Damaged, DiskFault, Memory}
 use Rattle.swh_keeper.specs.Checked.{archive_of, MayNotHappen}
 use Rattle.swh_keeper.specs.Opening.{make_why, IsLeftOfMaking, IsLeftFor}
-use Rattle.swh_keeper.specs.Reading.{MayBeRun, HoldsAt, HoldsNoRun, IsKindRead, IsLonger, TakesRecord, NoneMayHappen, IsReadSoFar, IsNoArchive, HasRuns}
+use Rattle.swh_keeper.specs.Reading.{MayBeRun, HoldsAt, HoldsNoRun, IsKindRead, IsLonger, TakesRecord, NoneMayHappen, IsReadSoFar, IsNoArchive, HasRuns, IsAtEnd}
 use Rattle.swh_keeper.proofs.CheckLemmas.{one_event}
-use Rattle.swh_keeper.proofs.KeptLemmas.{runs-length, codable-at, store_length-push, replay-push, history-push}
-use Rattle.swh_keeper.proofs.OpenLemmas.{records-length, bare-run_of, length-map, kind_from_bare, kind_to_bare}
+use Rattle.swh_segment.proofs.HistoryFiles.{codable-at}
+use Rattle.swh_segment.proofs.Lengths.{stored-length, store_length-push, records-length, runs-length}
+use Rattle.swh_keeper.proofs.KeptLemmas.{replay-push, history-push}
+use Rattle.swh_segment.proofs.BareEvents.{bare-run_of, length-map, kind_from_bare, kind_to_bare}
 
 -- A barrier was made on each file.
 module _ (ledger store ledger_now store_now : File) (settled : files_of ledger_now store_now ≡ files_done barriers (files_of ledger store)) where
@@ -257,7 +264,7 @@ module _ (id_of : Kind → List ℕ → List ℕ) (tells_store : Type 0) (store 
         history = history-push id_of empty_archive g e so_far.history may;
         bodies = ap (λ (a : Archive). a.bodies) now;
         visits = ap (λ (a : Archive). a.origins) now;
-        store_is = let s = so_far.replay.store in let n = t.store_end in omega (arith, s, n, store_length-push g e);
+        store_is = let s = so_far.replay.store in let n = t.store_end in omega (arith, s, n, stored-length t.what, store_length-push g e);
         ledger_is = omega (arith, size, records-length 0 (g ++ e ∷ []), length-append magic (coded_records 0 (g ++ e ∷ [])));
         codable = codable-at g e at so_far.replay.store so_far.codable (open_gate.record_is.by_fits, t.codable);
         records = whole ∙ ap (λ (l : List ℕ). magic ++ (coded_records 0 (g ++ e ∷ []) ++ l)) left;
@@ -284,6 +291,30 @@ module _ (id_of : Kind → List ℕ → List ℕ) (tells_store : Type 0) (store 
       ∙ ap (λ (l : List ℕ). l ++ drop (old.replayed.store_end + length (packed_objects t.what)) store) (sym (runs-push g e))
       ∙ ap (λ (n : ℕ). coded_runs (g ++ e ∷ []) ++ drop n store) (sym t.store_end) in
       record { runs = subst (λ (h : List Event). store ≡ coded_runs h ++ drop mid.replayed.store_end store) (sym t.history) runs }
+
+-- ---- at the end the files stand for the history
+
+files_stand : (id_of : Kind → List ℕ → List ℕ) (ledger store : List ℕ) (c : Checked) → IsReadSoFar id_of ledger c → HasRuns store c → IsAtEnd ledger c → StandsFor ledger store c.history.items
+files_stand id_of ledger store c so_far has end =
+    with_magic ledger store c.history.items
+    (record {
+      rest = coded_records 0 c.history.items ++ drop c.replayed.ledger_end ledger;
+      begins = so_far.records;
+      stands = record {
+        gate = end.gate;
+        closed = end.closed;
+        behind = end.behind;
+        records = ap (λ (l : List ℕ). coded_records 0 c.history.items ++ l) end.is;
+        beyond = drop c.replayed.store_end store;
+        runs = has.runs;
+        codable = so_far.codable;
+      };
+    })
+
+pub read_stands : (id_of : Kind → List ℕ → List ℕ) (ledger store : List ℕ) (result : Result Checked OpenWhy) → IfOk result (IsReadSoFar id_of ledger) → IfOk result (HasRuns store) → IfOk result (IsAtEnd ledger)
+    → IfOk result (λ c. StandsFor ledger store c.history.items)
+read_stands id_of ledger store (Ok c) so_far has end = files_stand id_of ledger store c so_far has end
+read_stands id_of ledger store (Err why) so_far has end = tt
 
 -- ---- where nothing can follow, the files stand for no history
 
@@ -327,7 +358,8 @@ continues id_of a at (e ∷ g) records behind store runs rs us codable may (f �
 module _ (id_of : Kind → List ℕ → List ℕ) (ledger store : List ℕ) (c : Checked) (so_far : IsReadSoFar id_of ledger c) (has : HasRuns store c) where
   goes_on : (h : List Event) → StandsFor ledger store h → IsHistory id_of h
       → Continues id_of empty_archive 0 c.history.items (drop c.replayed.ledger_end ledger) (drop c.replayed.store_end store) h
-  goes_on h s is =
+  goes_on h whole is =
+      let s = behind_magic ledger store h whole in
       let rests = cut magic magic s.rest _ refl (sym s.begins ∙ so_far.records) in
       continues id_of empty_archive 0 c.history.items _ _ store _ refl has.runs so_far.codable so_far.history h (subst (λ (l : List ℕ). StandsFrom 0 l store h) rests.1 s.stands) is
 

@@ -8,7 +8,7 @@ use Rattle.swh_base.specs.Limits.{body_limit}
 use Rattle.swh_model.specs.declared.event.EventKind.{EventKind}
 use Rattle.swh_model.specs.Archive.{Archive, Bodies, Origins}
 use Rattle.swh_model.specs.Step.{HasItsChildrenAndName, MayAdd, MayMark, May_kind, added, marked, after_kind}
-use Rattle.swh_model.specs.Stands.{without_children, bare_kind}
+use Rattle.swh_model.specs.Alike.{without_children, bare_kind}
 
 -- the archive of these bodies and visits
 abbrev pub archive_of : Bodies → Origins → Archive

@@ -8,29 +8,13 @@ use Rattle.swh_segment.specs.Events as segment
 use Rattle.swh_base.specs.declared.kind.Kind.{Kind}
 use Rattle.swh_model.specs.declared.event.Event.{Event}
 use Rattle.swh_model.specs.declared.event.EventKind.{EventKind}
-use Rattle.swh_model.specs.declared.event.EventKind.TheVariants.{Batch, Open, Mark}
-use Rattle.swh_model.specs.Coding.{coded_run, coded_record, packed_objects, event_byte, payload_of, IsCodable, AreCodable}
+use Rattle.swh_segment.specs.EventRecord.{coded_record, packed_objects, run_written, IsCodable, AreCodable}
 use Rattle.swh_model.specs.Limits.{store_length, records_length}
-use Rattle.swh_model.specs.Stands.{StandsFor}
+use Rattle.swh_segment.specs.Stands.{StandsFor, all_written}
 use Rattle.swh_model.specs.Step.{IsHistory}
 use Rattle.swh_plan.specs.declared.replayed.Replayed.{Replayed}
 use Rattle.swh_plan.specs.Planned.{IsReplayOf, IsInFiles}
 use Rattle.swh_keeper.specs.Kept.{MayHoldOneMore}
-
--- the run that an event adds to the store, if it adds one
-abbrev pub run_written : EventKind → Option (List ℕ)
-run_written (Batch entries) = Some (coded_run entries)
-run_written (Open origin kind date) = None
-run_written (Mark origin visit status snapshot) = None
-
--- an event as the two files have it
-abbrev pub written : ℕ → Event → segment.Append
-written at e = record { entry = record { kind = event_byte e.what; payload = payload_of at e }; run = run_written e.what }
-
--- the events as the two files have them, from this place of the store on
-abbrev pub all_written : ℕ → List Event → List segment.Append
-all_written at [] = []
-all_written at (e ∷ h) = written at e ∷ all_written (at + length (packed_objects e.what)) h
 
 -- The files are settled for the history, and its events fit their fields.
 pub record AreSettledFor (ledger store : File) (h : List Event) (store_end ledger_end : ℕ) : Type 0 where

@@ -8,7 +8,8 @@ ghost use Rattle.swh_keeper.specs.Advance.{MayAdvance};
 ghost use Rattle.swh_plan.specs.Planned.{IsReplayOf};
 ghost use Rattle.swh_keeper.specs.Adding.{IsAdded, IsNotAdded};
 ghost use Rattle.swh_keeper.specs.Counts.{AreLater, AreQuiet};
-ghost use Rattle.swh_keeper.specs.Keeping.{AreSettledFor, IsToAdd, WithOrWithout, FilesHaveRoom, run_written};
+ghost use Rattle.swh_keeper.specs.Keeping.{AreSettledFor, IsToAdd, WithOrWithout, FilesHaveRoom};
+ghost use Rattle.swh_segment.specs.EventRecord.{run_written};
 ghost use Rattle.swh_keeper.specs.declared.adding.AddFault.TheVariants.{Disk as DiskFailed, Memory as OutOfMemory};
 
 use crate::advance::advance;

@@ -4,9 +4,9 @@ ghost use Rattle.swh_outside.specs.Files.{EachImages, FilesRuns, files_of};
 ghost use Rattle.swh_segment.specs.Events.{event_calls};
 ghost use Rattle.swh_segment.specs.Makes.{ADiskFailed};
 ghost use Rattle.swh_segment.specs.Runs as runs;
-ghost use Rattle.swh_model.specs.Coding.{packed_objects};
+ghost use Rattle.swh_segment.specs.EventRecord.{packed_objects, run_written};
 ghost use Rattle.swh_model.specs.declared.event.Event.{Event};
-ghost use Rattle.swh_keeper.specs.Keeping.{AreSettledFor, IsToAdd, WithOrWithout, run_written};
+ghost use Rattle.swh_keeper.specs.Keeping.{AreSettledFor, IsToAdd, WithOrWithout};
 
 use swh_model::{Event, EventKind};
 use swh_outside::{Disk, Failed};

@@ -8,7 +8,7 @@ use Rattle.swh_base.specs.declared.kind.Kind.{Kind}
 use Rattle.swh_base.specs.declared.name.Name.{Name}
 use Rattle.swh_base.specs.declared.entry.Entry.{Entry}
 use Rattle.swh_model.specs.Archive.{Bodies, body_of}
-use Rattle.swh_model.specs.Coding.{coded_entry, coded_run}
+use Rattle.swh_model.specs.Limits.{object_length, run_length}
 use Rattle.swh_model.specs.Meaning.{Made}
 use Rattle.swh_model.specs.Step.{AreNew, added}
 use Rattle.swh_model.proofs.Maps.{body-put, body_cases}
@@ -95,16 +95,15 @@ module _ (id_of : Kind → List ℕ → List ℕ) where
         let rest = added_all objects (insert bodies e.name e.body) es new.1 made.1 in
         omega (arith, here, rest)
 
-  entry_size : (e : Entry) → e.name.id ≡ id_of e.name.kind e.body → length (coded_entry e) ≡ stored_object id_of (made_from e)
-  unfolding coded_entry
-  entry_size e named = let same = ap length named in omega (arith, same, length-append e.name.id e.body)
+  entry_size : (e : Entry) → e.name.id ≡ id_of e.name.kind e.body → object_length e ≡ stored_object id_of (made_from e)
+  entry_size e named = let same = ap length named in omega (arith, same)
 
-  pub run_size : (objects : List Made) (es : List Entry) → AllByRecursion (IsMadeOf objects) es → length (coded_run es) ≡ sizes (stored_object id_of) es
+  pub run_size : (objects : List Made) (es : List Entry) → AllByRecursion (IsMadeOf objects) es → run_length es ≡ sizes (stored_object id_of) es
   run_size objects [] made = refl
   run_size objects (e ∷ es) made =
       let here = entry_size e made.0.1 in
       let rest = run_size objects es made.1 in
-      omega (arith, here, rest, length-append (coded_entry e) (coded_run es))
+      omega (arith, here, rest)
 
   abbrev pub of_batch : Made → ℕ
   of_batch o = batch_record

@@ -15,9 +15,10 @@ use Rattle.swh_model.specs.declared.event.Event.{Event}
 use Rattle.swh_model.specs.declared.event.EventKind.{EventKind}
 use Rattle.swh_model.specs.declared.event.EventKind.TheVariants.{Batch, Open, Mark}
 use Rattle.swh_model.specs.Archive.{Archive, Bodies, body_of, empty_archive}
-use Rattle.swh_model.specs.Coding.{coded_snapshot, packed_objects, IsCodableEntry, IsCodableKind, AreCodable}
+use Rattle.swh_segment.specs.EventRecord.{packed_objects, IsCodableKind, AreCodable}
+use Rattle.swh_segment.specs.StoredObject.{IsCodableEntry}
 use Rattle.swh_model.specs.Judge.{FilePasses}
-use Rattle.swh_model.specs.Limits.{stored_length, store_length, payload_length, records_length, ledger_length}
+use Rattle.swh_model.specs.Limits.{stored_length, store_length, snapshot_length, payload_length, records_length, ledger_length}
 use Rattle.swh_base.specs.Limits.{file_limit}
 use Rattle.swh_model.specs.Meaning.{Made}
 use Rattle.swh_model.specs.Step.{FitsStatus, May, May_kind, MayAll, IsHistory, after, after_kind, after_all, replay}
@@ -36,7 +37,7 @@ use Rattle.swh_loader.proofs.Marks.{other_kind, others}
 abbrev IsShort : EventKind → Type 0
 IsShort (Batch entries) = Unit {0}
 IsShort (Open origin kind date) = length origin ≤ 2048
-IsShort (Mark origin visit status snapshot) = (length origin ≤ 2048) × (length (coded_snapshot snapshot) ≤ 21)
+IsShort (Mark origin visit status snapshot) = (length origin ≤ 2048) × (snapshot_length snapshot ≤ 21)
 
 -- Each held name has twenty bytes.
 abbrev pub HasShortNames : Bodies → Type 0
@@ -71,7 +72,7 @@ module _ (id_of : Kind → List ℕ → List ℕ) (objects : List Made) where
       let less = added_all id_of (of_batch id_of) objects a.bodies entries may.new made.1 in
       omega (arith, one, less)
   ledger_step a by (Open origin kind date) may made short = omega (arith, short)
-  ledger_step a by (Mark origin visit status snapshot) may made short = let u = short.0 in let s = short.1 in omega (arith, u, s, length-append (coded_snapshot snapshot) origin)
+  ledger_step a by (Mark origin visit status snapshot) may made short = let u = short.0 in let s = short.1 in omega (arith, u, s)
 
   -- And so do several.
   store_all : (a : Archive) (es : List Event) → MayAll id_of a es → AllByRecursion (λ e. IsBatchMade e.what) es → store_length es + left_in_store (after_all a es).bodies ≤ left_in_store a.bodies
@@ -130,7 +131,7 @@ short_names : (h : List Event) → AreCodable 0 h → HasShortNames (replay h).b
 short_names h fits = names_all 0 empty_archive h fits (λ n body is. absurd (let e : None ≡ Some body = sym (none-empty n) ∙ is in cc))
 
 -- A snapshot that is held has twenty bytes.
-fitting : (bodies : Bodies) (status : Status) (snapshot : Option (List ℕ)) → HasShortNames bodies → FitsStatus bodies status snapshot → length (coded_snapshot snapshot) ≤ 21
+fitting : (bodies : Bodies) (status : Status) (snapshot : Option (List ℕ)) → HasShortNames bodies → FitsStatus bodies status snapshot → snapshot_length snapshot ≤ 21
 fitting bodies status None held fits = omega arith
 fitting bodies Created (Some id) held fits = absurd fits
 fitting bodies Ongoing (Some id) held fits = absurd (let e : Some id ≡ None = fits in cc)

@@ -10,7 +10,7 @@ use Rattle.swh_model.specs.declared.event.Event.{Event}
 use Rattle.swh_model.specs.declared.event.EventKind.{EventKind}
 use Rattle.swh_model.specs.declared.event.EventKind.TheVariants.{Batch, Open, Mark}
 use Rattle.swh_model.specs.Archive.{Archive, empty_archive}
-use Rattle.swh_model.specs.Stands.{without_children, bare_kind, bare_event, AreAlike}
+use Rattle.swh_model.specs.Alike.{without_children, bare_kind, bare_event, AreAlike}
 use Rattle.swh_model.specs.Step.{HasItsChildrenAndName, May_kind, MayAll, IsHistory, after}
 
 module _ (id_of : Kind → List ℕ → List ℕ) where

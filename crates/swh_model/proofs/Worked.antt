@@ -24,9 +24,7 @@ use Rattle.swh_model.specs.Step.{visit_at, replay, with_status, marked_at}
 use Rattle.swh_base.specs.Visit.{IsFinal, last_status}
 use Rattle.swh_model.specs.Judge.{FilePasses, IsThere, MarkCause, OpenCause, IsVerdict, rank}
 use Rattle.swh_base.specs.Snapshot.{target_bytes, snapshot_name}
-use Rattle.swh_base.specs.declared.entry.Entry.{Entry}
-use Rattle.swh_model.specs.Coding.{coded_entry}
-use Rattle.swh_model.specs.WorkedExample.{url, opening, opened_once, failed_once, with_snapshot, snapshot_of_it, revision, branch_to_it, snapshot_body}
+use Rattle.swh_model.specs.WorkedExample.{url, opening, opened_once, failed_once, with_snapshot, revision, branch_to_it, snapshot_body}
 use Rattle.swh_model.proofs.Maps.{visits-put, body-put, body_cases}
 use Rattle.swh_model.proofs.Sounds.{none-opened}
 use Rattle.swh_model.proofs.Entries.{none-empty}
@@ -187,17 +185,11 @@ snapshot_is_held bodies id body name held is none = let e : body_of bodies name 
 same_id : (a b : List ℕ) → Some a ≡ Some b → a ≡ b
 same_id a b e = cc
 
-entry-length : (e : Entry) → length (coded_entry e) ≡ 9 + (length e.name.id + length e.body)
-unfolding coded_entry
-entry-length e = omega (arith, length-append e.name.id e.body)
-
 few_bytes : (id : List ℕ) → length id ≡ 20 → store_length (with_snapshot id) + stored_length (Mark url 1 Full (Some id)) ≤ 1000
 few_bytes id twenty =
     let digits_of_it : List ℕ = decimal (length (target_bytes branch_to_it.target)) in
     let d : length digits_of_it ≤ 2 = length-decimal-le 2 20 (lit< tt) (lit< tt) (lit< tt) in
-    let whole = entry-length (snapshot_of_it id) in
-    let one = length-append (coded_entry (snapshot_of_it id)) [] in
-    omega (arith, twenty, whole, one, length-append digits_of_it (58 ∷ target_bytes branch_to_it.target ++ []), length-append digits_of_it (58 ∷ target_bytes branch_to_it.target), d, length-append (digits_of_it ++ 58 ∷ target_bytes branch_to_it.target) [])
+    omega (arith, twenty, length-append digits_of_it (58 ∷ target_bytes branch_to_it.target ++ []), length-append digits_of_it (58 ∷ target_bytes branch_to_it.target), d, length-append (digits_of_it ++ 58 ∷ target_bytes branch_to_it.target) [])
 
 pub snapshot_is_not_closed : (id : List ℕ) → length id ≡ 20
     → IsVerdict (with_snapshot id) 1 (Mark url 1 Full (Some id)) (Err (NotClosed (snapshot_name id) revision))

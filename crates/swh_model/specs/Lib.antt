@@ -6,8 +6,6 @@ pub mod Grows
 pub mod Judge
 pub mod Certificate
 pub mod WorkedExample
-pub mod Coding
-pub mod Decoding
-pub mod Stands
+pub mod Alike
 pub mod Answer
 pub mod Meaning

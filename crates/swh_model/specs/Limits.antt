@@ -1,11 +1,11 @@
 -- What is counted, and the lengths that a history gives the two files.
-use Rattle.std.specs.Prelude.{ℕ, ◌+◌, ◌≤◌, List, [], ◌∷◌, length}
+use Rattle.std.specs.Prelude.{ℕ, ◌+◌, ◌≤◌, Option, Some, None, List, [], ◌∷◌, length}
 use Rattle.std.specs.List.{AllByRecursion}
 use Rattle.swh_base.specs.declared.entry.Entry.{Entry}
 use Rattle.swh_base.specs.Limits.{body_limit, bytes_limit, objects_limit}
 use Rattle.swh_model.specs.declared.event.Event.{Event}
 use Rattle.swh_model.specs.declared.event.EventKind.{EventKind}
-use Rattle.swh_model.specs.Coding.{event_payload, packed_objects}
+use Rattle.swh_model.specs.declared.event.EventKind.TheVariants.{Batch, Open, Mark}
 
 -- the bytes of all bodies but the last one's
 abbrev pub bytes_before_last : List Entry → ℕ
@@ -19,13 +19,34 @@ pub record IsWithinLimits (entries : List Entry) : Type 0 where
   pub objects : length entries ≤ objects_limit
   pub bytes : bytes_before_last entries ≤ bytes_limit
 
--- who, and what is said of the event, wherever its run begins
-abbrev pub payload_length : EventKind → ℕ
-payload_length what = 4 + length (event_payload 0 what)
+-- an object in the store: its kind in a byte, its body's length in eight, its id and its body
+abbrev pub object_length : Entry → ℕ
+object_length e = 9 + (length e.name.id + length e.body)
+
+-- the objects of a batch, one after another
+abbrev pub run_length : List Entry → ℕ
+run_length [] = 0
+run_length (e ∷ es) = object_length e + run_length es
 
 -- the bytes that an event adds to the store
 abbrev pub stored_length : EventKind → ℕ
-stored_length what = length (packed_objects what)
+stored_length (Batch entries) = run_length entries
+stored_length (Open origin kind date) = 0
+stored_length (Mark origin visit status snapshot) = 0
+
+-- a byte, and a snapshot's id where there is one
+abbrev pub snapshot_length : Option (List ℕ) → ℕ
+snapshot_length None = 1
+snapshot_length (Some id) = 1 + length id
+
+-- the payload of an event's record: who in four bytes, and what is said of the event
+abbrev pub payload_length : EventKind → ℕ
+-- two places of the store in eight bytes each, and a number in four
+payload_length (Batch entries) = 4 + (8 + 8 + 4)
+-- the kind in a byte, the date in eight, and the origin
+payload_length (Open origin kind date) = 4 + (1 + 8 + length origin)
+-- the status in a byte, the visit's number in eight, the snapshot and the origin
+payload_length (Mark origin visit status snapshot) = 4 + (1 + 8 + (snapshot_length snapshot + length origin))
 
 -- where the runs of a history end in the store
 abbrev pub store_length : List Event → ℕ

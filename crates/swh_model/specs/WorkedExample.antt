@@ -13,6 +13,7 @@ use Rattle.swh_base.specs.Snapshot.{SnapshotBranch, ToObject, snapshot_text}
 abbrev pub url : List ℕ
 url = codes "https://e.org/p"
 
+-- the origin is visited for the first time
 abbrev pub opening : EventKind
 opening = Open url Fast 1000000000
 
@@ -42,9 +43,6 @@ with_snapshot id = opened_once ++ record { by = 1; what = Batch (snapshot_of_it 
 abbrev pub failed_once : List Event
 failed_once = opened_once ++ record { by = 1; what = Mark url 1 Failed None } ∷ []
 
+-- what happened, by this one
 abbrev pub event_by : ℕ → EventKind → Event
 event_by by what = record { by = by; what = what }
-
--- `O`, 28 bytes of payload: by 1, fast, the date, the URL; then a closed gate
-abbrev pub opening_bytes : List ℕ
-opening_bytes = 0x4f ∷ 0 ∷ 0 ∷ 0 ∷ 0x1c ∷ 0 ∷ 0 ∷ 0 ∷ 1 ∷ 1 ∷ 0 ∷ 0 ∷ 0 ∷ 0 ∷ 0x3b ∷ 0x9a ∷ 0xca ∷ 0 ∷ 0x68 ∷ 0x74 ∷ 0x74 ∷ 0x70 ∷ 0x73 ∷ 0x3a ∷ 0x2f ∷ 0x2f ∷ 0x65 ∷ 0x2e ∷ 0x6f ∷ 0x72 ∷ 0x67 ∷ 0x2f ∷ 0x70 ∷ 0 ∷ []

@@ -4,7 +4,7 @@ use Rattle.std.specs.List.{AllByRecursion}
 use Rattle.swh_model.specs.declared.event.Event.{Event}
 use Rattle.swh_model.specs.declared.event.EventKind.{EventKind}
 use Rattle.swh_model.specs.declared.event.EventKind.TheVariants.{Batch, Open, Mark}
-use Rattle.swh_model.specs.Coding.{packed_objects, coded_record, IsCodable}
+use Rattle.swh_segment.specs.EventRecord.{packed_objects, coded_record, IsCodable}
 use Rattle.swh_model.specs.Limits.{store_length, ledger_length}
 use Rattle.swh_model.specs.Step.{HasItsChildren, replay}
 use Rattle.std.specs.Global.{Vec}

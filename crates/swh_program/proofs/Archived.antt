@@ -3,9 +3,10 @@ use Rattle.std.proofs.Common.{◌≡◌, ◌≢◌, ◌⊎◌, inl, inr, ⊎_eli
 use Rattle.swh_base.specs.declared.kind.Kind.{Kind}
 use Rattle.swh_outside.specs.Files.{Files}
 use Rattle.swh_model.specs.declared.event.Event.{Event}
-use Rattle.swh_model.specs.Coding.{coded_records}
+use Rattle.swh_segment.specs.Stands.{coded_records}
 use Rattle.swh_model.proofs.OneHistory.{one_history}
-use Rattle.swh_model.proofs.Unique.{alike}
+use Rattle.swh_segment.proofs.Unique.{alike}
+use Rattle.swh_segment.proofs.StandsFrom.{behind_magic}
 use Rattle.swh_segment.specs.Making.{IsMade, IsNotMade}
 use Rattle.swh_program.specs.Opening.{IsArchive, IsDamagedArchive, IsUnusable, IsOpenRefusal, OpenEnds}
 use Rattle.swh_program.specs.declared.answer.Answer.{Answer}
@@ -19,9 +20,10 @@ module _ (id_of : Kind → List ℕ → List ℕ) (files : Files) where
   -- it is made
   pub made_archive : (h : List Event) → IsArchive id_of files h → IsMade (files 0).seen
   made_archive h a =
-      let s = a.stand.stands in
+      let behind = behind_magic (files 0).seen (files 1).seen h a.stand in
+      let s = behind.stands in
       let long = ap length s.records ∙ length-append (coded_records 0 h) (s.gate ∷ s.behind) in
-      subst IsMade (sym a.stand.begins) (omega (arith, long), refl)
+      subst IsMade (sym behind.begins) (omega (arith, long), refl)
 
   -- of one history
   pub one_archive : (g h : List Event) → IsArchive id_of files g → IsArchive id_of files h → g ≡ h

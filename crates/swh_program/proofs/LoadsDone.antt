@@ -73,7 +73,7 @@ module _ (g : Givens) (desk_at : FileAt) (inputs : g.inputs.tell) (disks : g.dis
       all_done g.id_of g.inputs inputs before jobs objects has one loads jobs load.before load.after are (each_among jobs) there.are.good.each there.are.good.distinct (next_same load.before same jobs)
       (λ n body held. inl (subst (λ (h : List Event). body_of (replay h).bodies n ≡ Some body) same held))
       (subst (λ (h : List Event). HasRoomLeft g.id_of objects h (length jobs * 3)) (sym same) (room_at_entry g.id_of objects before (length jobs) room.ledger room.store))
-      load.history standing.stand.stands.codable load.each apart
+      load.history standing.stand.codable load.each apart
 
   loaded_done : (answer : Answer) → AreLoadedJobs g old new jobs answer → (TellsDisk answer → ⊥) → Exactly answer
   loaded_done answer loaded no_disk =

@@ -75,11 +75,11 @@ module _ (store : File) (front rest : List ℕ) (at : ℕ) (rests : IsAtRest sto
   run_stands (Some (b ∷ run)) = record { rest = rest_after (b ∷ run); is = written (b ∷ run) ∙ sym (append_assoc front (b ∷ run) (rest_after (b ∷ run))) }
 
 without : (h : List Append) (e : Append) (images : Images) → Stands (images 0) (records h) → BeginsWith (runs h) (images 1) → with_or_without_event h e images
-without h e images stands begins = inl (record { ledger = stands; rest = begins.rest; store_begins = begins.is })
+without h e images stands begins = inl (record { ledger_stands = stands; rest = begins.rest; store_begins = begins.is })
 
-with : (h : List Append) (e : Append) (images : Images) → Stands (images 0) (records h ++ e.entry ∷ []) → BeginsWith (runs h ++ run_bytes e.run) (images 1) → FilesStand images (h ++ e ∷ [])
+with : (h : List Append) (e : Append) (images : Images) → Stands (images 0) (records h ++ e.entry ∷ []) → BeginsWith (runs h ++ run_bytes e.run) (images 1) → FilesStand (images 0) (images 1) (h ++ e ∷ [])
 with h e images stands begins = record {
-  ledger = subst (Stands (images 0)) (sym (records-push h e)) stands;
+  ledger_stands = subst (Stands (images 0)) (sym (records-push h e)) stands;
   rest = begins.rest;
   store_begins = begins.is ∙ append_assoc (runs h) (run_bytes e.run) begins.rest ∙ sym (runs-push h e begins.rest);
 }

@@ -25,14 +25,14 @@ runs [] = []
 runs (e ∷ h) = run_bytes e.run ++ runs h
 
 -- Two files stand for a history: the ledger for its records, and the store begins with its runs.
-pub record FilesStand (images : Images) (h : List Append) : Type 0 where
-  pub ledger : Stands (images 0) (records h)
+pub record FilesStand (ledger store : List ℕ) (h : List Append) : Type 0 where
+  pub ledger_stands : Stands ledger (records h)
   pub rest : List ℕ
-  pub store_begins : images 1 ≡ runs h ++ rest
+  pub store_begins : store ≡ runs h ++ rest
 
 -- What a crash leaves stands for the events, with one more or without.
 abbrev pub with_or_without_event : List Append → Append → Images → Type 0
-with_or_without_event h e images = FilesStand images h ⊎ FilesStand images (h ++ e ∷ [])
+with_or_without_event h e images = FilesStand (images 0) (images 1) h ⊎ FilesStand (images 0) (images 1) (h ++ e ∷ [])
 
 -- The two files stand for the history, with nothing written since a barrier, and their ends are there.
 pub record AreSettled (files : Files) (h : List Append) (store_end end : ℕ) : Type 0 where

@@ -1,7 +1,17 @@
+pub mod BatchRecord
+pub mod EventRecord
 pub mod Events
+pub mod LedgerReading
 pub mod Making
 pub mod Makes
+pub mod MarkRecord
+pub mod OpenRecord
+pub mod Origin
 pub mod Reading
 pub mod Record
 pub mod Runs
 pub mod Settled
+pub mod Stands
+pub mod StoredObject
+pub mod Tells
+pub mod WorkedBytes

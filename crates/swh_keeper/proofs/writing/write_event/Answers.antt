@@ -2,9 +2,9 @@ use Rattle.std.proofs.Common.{◌≡◌, ℕ, ◌+◌, ◌++◌, ◌∷◌, [], 
 use Rattle.swh_outside.specs.Files.{FilesRuns, files_of}
 use Rattle.swh_segment.specs.Runs as runs
 use Rattle.swh_segment.specs.Events as segment
-use Rattle.swh_keeper.specs.Keeping.{written, all_written}
+use Rattle.swh_segment.specs.Stands.{written, all_written}
 use Rattle.swh_held.proofs.Results.{on_ok, on_err}
-use Rattle.swh_keeper.proofs.KeptLemmas.{ready, settled-push, images_left, run-written}
+use Rattle.swh_keeper.proofs.KeptLemmas.{ready, settled-push, images_left}
 use Rattle.swh_keeper.proofs.writing.write_event.Goals as goal
 
 pub returns-clause-ok : goal.returns-clause-ok
@@ -14,7 +14,7 @@ returns-clause-ok g c told =
     let e = c.args.event.now in
     let s = c.requires.settled told in
     let run_long : length (segment.run_bytes (runs.run_of c.run_for-run.result)) ≡ length c.args.run.now =
-    ap (λ (o : Option (List ℕ)). length (segment.run_bytes o)) c.run_for-run.ensures ∙ ap length (run-written e.what) ∙ ap length (sym c.requires.to_add.run_is) in
+    ap (λ (o : Option (List ℕ)). length (segment.run_bytes o)) c.run_for-run.ensures ∙ ap length (sym c.requires.to_add.run_is) in
     on_ok c.append_event.result
     (c.append_event.ensures.appended told (all_written 0 h) (written r.store_end e) s.settled (record { run_is = c.run_for-run.ensures; entry = ready r h e c.args.run.now c.args.bytes.now c.requires.to_add }))
     (λ done. settled-push r h e c.args.run.now c.args.bytes.now (g.D.Disk.file c.append_event.new.ledger) (g.D.Disk.file c.append_event.new.store) (r.store_end + length c.args.run.now) (r.ledger_end + length c.args.bytes.now)
