@@ -10,6 +10,7 @@ use Rattle.swh_base.specs.declared.kind.Kind.{Kind}
 use Rattle.swh_model.specs.declared.event.Visit.{Visit}
 use Rattle.swh_model.specs.declared.event.Event.{Event}
 use Rattle.swh_model.specs.declared.event.EventKind.{EventKind}
+use Rattle.swh_model.specs.declared.event.Wish.{Wish}
 use Rattle.swh_model.specs.declared.event.EventKind.TheVariants.{Batch, Open, Mark}
 use Rattle.swh_model.specs.declared.event.Outcome.{Outcome}
 use Rattle.swh_model.specs.Archive.{Bodies, Origins, visits_of, empty_archive}
@@ -27,7 +28,7 @@ use Rattle.swh_segment.specs.Events as segment
 use Rattle.swh_model.specs.Limits.{store_length, records_length}
 use Rattle.swh_keeper.proofs.KeptLemmas.{history-push}
 
-pub may_of_plan : (id_of : Kind → List ℕ → List ℕ) (h : List Event) (by : ℕ) (wish : EventKind) (e : Event) (o : Outcome) → IsWish id_of wish → IsVerdict h by wish (Ok (e, o)) → May id_of (replay h) e
+pub may_of_plan : (id_of : Kind → List ℕ → List ℕ) (h : List Event) (by : ℕ) (wish : Wish) (e : Event) (o : Outcome) → IsWish id_of wish → IsVerdict h by wish (Ok (e, o)) → May id_of (replay h) e
 may_of_plan id_of h by wish e o good verdict = subst (λ (x : Event). May id_of (replay h) x) (sym verdict.1) (wish_may id_of h by wish good verdict.0)
 
 within : (vs : List Visit) (k : ℕ) (v : Visit) → slice_get vs k ≡ Some v → k < length vs
@@ -47,7 +48,7 @@ may_kind_advance id_of r h by (Mark origin visit status snapshot) is may =
 pub may_advance : (id_of : Kind → List ℕ → List ℕ) (r : Replayed) (h : List Event) (e : Event) → IsReplayOf r h → May id_of (replay h) e → MayAdvance r e.what
 may_advance id_of r h e is may = may_kind_advance id_of r h e.by e.what is may
 
-pub to_add : (r : Replayed) (h : List Event) (by : ℕ) (wish : EventKind) (p : Planned) → IsReplayOf r h → IsPlanned h by wish r p → IsToAdd r h p.event p.run.items p.bytes.items
+pub to_add : (r : Replayed) (h : List Event) (by : ℕ) (wish : Wish) (p : Planned) → IsReplayOf r h → IsPlanned h by wish r p → IsToAdd r h p.event p.run.items p.bytes.items
 to_add r h by wish p is planned = record { run_is = planned.run_is; bytes_are = planned.record_is; codable = planned.codable; store = is.store }
 
 -- the keeper once the event was added

@@ -7,7 +7,7 @@ use Rattle.swh_model.specs.Judge.{IsVerdict}
 use Rattle.swh_segment.specs.Events as segment
 use Rattle.swh_base.specs.declared.kind.Kind.{Kind}
 use Rattle.swh_model.specs.declared.event.Event.{Event}
-use Rattle.swh_model.specs.declared.event.EventKind.{EventKind}
+use Rattle.swh_model.specs.declared.event.Wish.{Wish}
 use Rattle.swh_segment.specs.EventRecord.{coded_record, packed_objects, run_written, IsCodable, AreCodable}
 use Rattle.swh_model.specs.Limits.{store_length, records_length}
 use Rattle.swh_segment.specs.Stands.{StandsFor, all_written}
@@ -56,7 +56,7 @@ pub record IsCarriedOut (h h' : List Event) (old new : Files) : Type 0 where
   pub calls : new ≡ files_done (calls_for h event) old
 
 -- The plan's event was judged, and one of its calls failed.
-pub record IsBrokenOff (h : List Event) (by : ℕ) (wish : EventKind) (old new : Files) : Type 0 where
+pub record IsBrokenOff (h : List Event) (by : ℕ) (wish : Wish) (old new : Files) : Type 0 where
   pub event : Event
   pub outcome : Outcome
   pub verdict : IsVerdict h by wish (Ok (event, outcome))

@@ -6,7 +6,7 @@ use Rattle.swh_outside.specs.Files.{EachImages, files_of}
 use Rattle.swh_base.specs.declared.kind.Kind.{Kind}
 use Rattle.swh_model.specs.contracts.event.Event as an_event
 use Rattle.swh_model.specs.declared.event.Event.{Event}
-use Rattle.swh_model.specs.declared.event.EventKind.{EventKind}
+use Rattle.swh_model.specs.declared.event.Wish.{Wish}
 use Rattle.swh_model.specs.declared.event.Outcome.{Outcome}
 use Rattle.swh_model.specs.declared.event.No.{No}
 use Rattle.swh_model.specs.declared.event.No.TheVariants.{Limit, NoVisit, NotYours, Ended, NoSnapshot, NotClosed, Collision}
@@ -48,13 +48,13 @@ pub record IsKept {D : Type 0} (id_of : Kind → List ℕ → List ℕ) (tells :
   pub doubt : (n : ℕ) → k.wounded ≡ Some n → tells → MayHoldOneMore id_of (file k.ledger) (file k.store) k.history
 
 -- The plan was judged, and its event is the newest.
-pub record Applies (h : List Event) (by : ℕ) (wish : EventKind) (h' : List Event) (outcome : Outcome) : Type 0 where
+pub record Applies (h : List Event) (by : ℕ) (wish : Wish) (h' : List Event) (outcome : Outcome) : Type 0 where
   pub event : Event
   pub verdict : IsVerdict h by wish (Ok (event, outcome))
   pub added_behind : h' ≡ h ++ event ∷ []
 
 -- A judged cause leaves all as it was.
-pub record IsJudgedAgainst {D : Type 0} (old : Kept D) (by : ℕ) (wish : EventKind) (cause : No) (new : Kept D) : Type 0 where
+pub record IsJudgedAgainst {D : Type 0} (old : Kept D) (by : ℕ) (wish : Wish) (cause : No) (new : Kept D) : Type 0 where
   pub unwounded : old.wounded ≡ None
   pub verdict : IsVerdict old.history by wish (Err cause)
   pub same : new ≡ old
@@ -66,7 +66,7 @@ pub record IsDiskFaulted {D : Type 0} (old new : Kept D) : Type 0 where
   pub wounded : new.wounded ≡ Some (length old.history + 1)
 
 -- Why a plan was refused, and what is left.
-abbrev pub RefusesPlan : {D : Type 0} → Kept D → ℕ → EventKind → Kept D → Refusal → Type 0
+abbrev pub RefusesPlan : {D : Type 0} → Kept D → ℕ → Wish → Kept D → Refusal → Type 0
 RefusesPlan old by wish new (refusal.Wounded first) = (old.wounded ≡ Some first) × (new ≡ old)
 RefusesPlan old by wish new (refusal.Limit which number) = IsJudgedAgainst old by wish (Limit which number) new
 RefusesPlan old by wish new (refusal.NoVisit have) = IsJudgedAgainst old by wish (NoVisit have) new

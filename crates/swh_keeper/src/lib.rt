@@ -16,3 +16,5 @@ mod writing;
 pub use fault::Refusal;
 pub use keeper::Keeper;
 pub use opening::{OpenFault, OpenWhy};
+pub use swh_base::Which;
+pub use swh_model::Outcome;

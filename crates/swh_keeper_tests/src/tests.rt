@@ -6,8 +6,8 @@ use std::alloc::Global;
 use std::test::Fail;
 use swh_base::{ByteNamer, Status, Url, VisitKind};
 use swh_fixtures::{Archive, ArchiveFault, URL, disk, kept, made_archive};
-use swh_keeper::{Keeper, OpenFault, OpenWhy, Refusal};
-use swh_model::{EventKind, Outcome, Wish};
+use swh_keeper::{Keeper, OpenFault, OpenWhy, Outcome, Refusal};
+use swh_model::Wish;
 
 // The ledger of one opening.
 const LEDGER: [u8; 43] =
@@ -46,7 +46,7 @@ fn url(alloc: Global) -> Result<Url, Fail> {
 fn opening(alloc: Global) -> Result<Wish, Fail>
     ensures { IfOk result (IsWish byte_id) }
 {
-    Ok(EventKind::Open {
+    Ok(Wish::Open {
         origin: url(alloc)?,
         kind: VisitKind::Fast,
         date: 1_000_000_000,
@@ -69,31 +69,31 @@ fn an_opening_stands_in_the_ledger(rt: HostRuntime) -> Result<(), Fail> {
 fn a_visit_is_refused_and_fails(rt: HostRuntime) -> Result<(), Fail> {
     let alloc = rt.alloc();
     let open = opening(alloc)?;
-    let second = EventKind::Mark {
+    let second = Wish::Mark {
         origin: url(alloc)?,
         visit: 2,
         status: Status::Ongoing,
         snapshot: None,
     };
-    let theirs = EventKind::Mark {
+    let theirs = Wish::Mark {
         origin: url(alloc)?,
         visit: 1,
         status: Status::Ongoing,
         snapshot: None,
     };
-    let full = EventKind::Mark {
+    let full = Wish::Mark {
         origin: url(alloc)?,
         visit: 1,
         status: Status::Full,
         snapshot: Some([0; 20]),
     };
-    let failed = EventKind::Mark {
+    let failed = Wish::Mark {
         origin: url(alloc)?,
         visit: 1,
         status: Status::Failed,
         snapshot: None,
     };
-    let late = EventKind::Mark {
+    let late = Wish::Mark {
         origin: url(alloc)?,
         visit: 1,
         status: Status::Ongoing,

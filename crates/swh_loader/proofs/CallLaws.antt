@@ -7,7 +7,7 @@ use Rattle.swh_outside.specs.Disk.{File}
 use Rattle.swh_outside.specs.Files.{Files, FileCall, FilesBreaks, files_done}
 use Rattle.swh_outside.proofs.Numbered.{files_done-append}
 use Rattle.swh_model.specs.declared.event.Event.{Event}
-use Rattle.swh_model.specs.declared.event.EventKind.{EventKind}
+use Rattle.swh_model.specs.declared.event.Wish.{Wish}
 use Rattle.swh_model.specs.Judge.{event_of}
 use Rattle.swh_model.specs.Step.{May, replay}
 use Rattle.swh_keeper.specs.Kept.{Kept, RefusesPlan}
@@ -48,7 +48,7 @@ module _ {D : Type 0} (id : Kind → List ℕ → List ℕ) (file : D → File) 
     };
   }
 
-  calls_broken : (old new : Kept D) (by : ℕ) (wish : EventKind) (event : Event) → May id (replay old.history) event → event ≡ record { by = by; what = event_of (replay old.history) wish }
+  calls_broken : (old new : Kept D) (by : ℕ) (wish : Wish) (event : Event) → May id (replay old.history) event → event ≡ record { by = by; what = event_of (replay old.history) wish }
       → old.wounded ≡ None → new.history ≡ old.history → (n : ℕ) → new.wounded ≡ Some n → IsBrokenOff old.history by wish (kept_files file old) (kept_files file new) → MakesCalls id file (IsEvent event) old new
   calls_broken old new by wish event may is before_it same n wounded b =
       let this : b.event ≡ event = b.verdict.1 ∙ sym is in
@@ -63,7 +63,7 @@ module _ {D : Type 0} (id : Kind → List ℕ → List ℕ) (file : D → File) 
       }
 
   -- an event that was refused
-  pub calls_refused : (old new : Kept D) (by : ℕ) (wish : EventKind) (event : Event) (r : Refusal) → May id (replay old.history) event → event ≡ record { by = by; what = event_of (replay old.history) wish }
+  pub calls_refused : (old new : Kept D) (by : ℕ) (wish : Wish) (event : Event) (r : Refusal) → May id (replay old.history) event → event ≡ record { by = by; what = event_of (replay old.history) wish }
       → RefusesPlan old by wish new r → (r ≡ refusal.DiskFault → IsBrokenOff old.history by wish (kept_files file old) (kept_files file new)) → MakesCalls id file (IsEvent event) old new
   calls_refused old new by wish event (refusal.Wounded first) may is h broken = calls_none (IsEvent event) old new h.1
   calls_refused old new by wish event (refusal.Limit which number) may is h broken = calls_none (IsEvent event) old new h.same

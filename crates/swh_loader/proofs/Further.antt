@@ -8,7 +8,7 @@ use Rattle.swh_outside.specs.Faults.{Rose}
 use Rattle.swh_segment.specs.Makes.{ADiskFailed}
 use Rattle.swh_model.specs.declared.event.Event.{Event}
 use Rattle.swh_model.specs.declared.event.Outcome.{Outcome}
-use Rattle.swh_model.specs.declared.event.EventKind.{EventKind}
+use Rattle.swh_model.specs.declared.event.Wish.{Wish}
 use Rattle.swh_model.specs.Step.{replay}
 use Rattle.swh_model.specs.Judge.{event_of}
 use Rattle.swh_model.proofs.Entries.{all-append}
@@ -24,7 +24,7 @@ pub adds_none : {D : Type 0} (faults : D → ℕ) (P : Event → Type 0) (old ne
 adds_none faults P old new e s l = record { more = []; behind = e ∙ sym (append-nil old.history); each = tt; store_later = s; ledger_later = l }
 
 -- one event was
-pub adds_one : {D : Type 0} (faults : D → ℕ) (old new : Kept D) (by : ℕ) (wish : EventKind) (outcome : Outcome) (event : Event) → Applies old.history by wish new.history outcome → event ≡ record { by = by; what = event_of (replay old.history) wish } → faults old.store ≤ faults new.store → faults old.ledger ≤ faults new.ledger → AddsEvents faults (IsEvent event) old new
+pub adds_one : {D : Type 0} (faults : D → ℕ) (old new : Kept D) (by : ℕ) (wish : Wish) (outcome : Outcome) (event : Event) → Applies old.history by wish new.history outcome → event ≡ record { by = by; what = event_of (replay old.history) wish } → faults old.store ≤ faults new.store → faults old.ledger ≤ faults new.ledger → AddsEvents faults (IsEvent event) old new
 adds_one faults old new by wish outcome event a e s l = record { more = a.event ∷ []; behind = a.added_behind; each = (a.verdict.1 ∙ sym e, tt); store_later = s; ledger_later = l }
 
 pub adds_as : {D : Type 0} (faults : D → ℕ) (P Q : Event → Type 0) (old new : Kept D) → ((e : Event) → P e → Q e) → AddsEvents faults P old new → AddsEvents faults Q old new

@@ -2,7 +2,7 @@
 use Rattle.std.proofs.Common.{◌≡◌, ℕ, List, [], ◌++◌, sym, ap, subst}
 use Rattle.std.proofs.lemmas.List.{append-nil}
 use Rattle.swh_model.specs.declared.event.Event.{Event}
-use Rattle.swh_model.specs.declared.event.EventKind.{EventKind}
+use Rattle.swh_model.specs.declared.event.Wish.{Wish}
 use Rattle.swh_keeper.specs.Kept.{Kept, RefusesPlan}
 use Rattle.swh_keeper.specs.declared.fault.Refusal.{Refusal}
 use Rattle.swh_keeper.specs.declared.fault.Refusal.TheVariants as refusal
@@ -10,7 +10,7 @@ use Rattle.swh_loader.specs.Sending.{SameVisits}
 use Rattle.swh_loader.specs.Visiting.{IsVisit}
 
 -- the history is as it was
-pub refused_same : {D : Type 0} (old new : Kept D) (by : ℕ) (wish : EventKind) (r : Refusal) → RefusesPlan old by wish new r → new.history ≡ old.history
+pub refused_same : {D : Type 0} (old new : Kept D) (by : ℕ) (wish : Wish) (r : Refusal) → RefusesPlan old by wish new r → new.history ≡ old.history
 refused_same {D} old new by wish (refusal.Wounded first) h = ap (λ (k : Kept D). k.history) h.1
 refused_same {D} old new by wish (refusal.Limit which number) h = ap (λ (k : Kept D). k.history) h.same
 refused_same {D} old new by wish (refusal.NoVisit have) h = ap (λ (k : Kept D). k.history) h.same

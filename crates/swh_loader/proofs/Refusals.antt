@@ -12,7 +12,9 @@ use Rattle.swh_segment.specs.Makes.{ADiskFailed}
 use Rattle.swh_model.specs.declared.event.Visit.{Visit}
 use Rattle.swh_model.specs.declared.event.Event.{Event}
 use Rattle.swh_model.specs.declared.event.EventKind.{EventKind}
+use Rattle.swh_model.specs.declared.event.Wish.{Wish}
 use Rattle.swh_model.specs.declared.event.EventKind.TheVariants.{Batch, Mark}
+use Rattle.swh_model.specs.declared.event.Wish.TheVariants as wished
 use Rattle.swh_model.specs.declared.event.No.TheVariants.{Limit, NotYours, Ended, NoSnapshot, NotClosed}
 use Rattle.swh_model.specs.Archive.{Bodies, body_of, visits_of, IsHeld, IsClosed}
 use Rattle.swh_model.specs.Limits.{IsWithinLimits}
@@ -31,7 +33,7 @@ use Rattle.swh_loader.proofs.Limiting.{none_collides, none_passes}
 use Rattle.swh_loader.proofs.Sends.{fresh-same}
 
 -- why a load stops at a refusal that it may meet
-pub stops_at : {D : Type 0} (id : Kind → List ℕ → List ℕ) (faults : D → ℕ) (old new : Kept D) (by : ℕ) (wish : EventKind) (event : Event) (r : Refusal) (stop : LoadWhy) → May id (replay old.history) event → ((which : Which) (number : ℕ) → IsCause old.history by wish (Limit which number) → FilePasses old.history event.what which number) → RefusesPlan old by wish new r → IsWhyOf r stop
+pub stops_at : {D : Type 0} (id : Kind → List ℕ → List ℕ) (faults : D → ℕ) (old new : Kept D) (by : ℕ) (wish : Wish) (event : Event) (r : Refusal) (stop : LoadWhy) → May id (replay old.history) event → ((which : Which) (number : ℕ) → IsCause old.history by wish (Limit which number) → FilePasses old.history event.what which number) → RefusesPlan old by wish new r → IsWhyOf r stop
     → (r ≡ refusal.DiskFault → ADiskFailed (faults old.store) (faults new.store) (faults old.ledger) (faults new.ledger)) → StopsFor id faults (IsEvent event) old new stop
 stops_at {D} id faults old new by wish event (refusal.Wounded first) stop may full h e rose = subst (StopsFor id faults (IsEvent event) old new) (sym e) (record { first = first; wounded = h.0; same = h.1 })
 stops_at {D} id faults old new by wish event (refusal.Limit which number) stop may full h e rose =
@@ -58,7 +60,7 @@ stops_at {D} id faults old new by wish event (refusal.NotClosed parent child) st
 stops_at {D} id faults old new by wish event (refusal.Collision name) stop may full h e rose = absurd e
 
 -- a refusal where a disk had failed before
-pub held_back : {D : Type 0} (old new : Kept D) (by : ℕ) (wish : EventKind) (r : Refusal) (stop : LoadWhy) → RefusesPlan old by wish new r → IsWhyOf r stop → (n : ℕ) → old.wounded ≡ Some n → StopsUnchanged old new stop
+pub held_back : {D : Type 0} (old new : Kept D) (by : ℕ) (wish : Wish) (r : Refusal) (stop : LoadWhy) → RefusesPlan old by wish new r → IsWhyOf r stop → (n : ℕ) → old.wounded ≡ Some n → StopsUnchanged old new stop
 held_back old new by wish (refusal.Wounded first) stop h e n some = record { same = h.1; cause = inl e }
 held_back old new by wish (refusal.Limit which number) stop h e n some = absurd (none-some n (sym h.unwounded ∙ some))
 held_back old new by wish refusal.DiskFault stop h e n some = absurd (none-some n (sym h.before_it ∙ some))
@@ -71,7 +73,7 @@ held_back old new by wish (refusal.NotClosed parent child) stop h e n some = abs
 held_back old new by wish (refusal.Collision name) stop h e n some = absurd e
 
 -- a batch that is new and within the limits
-pub batch_may : {D : Type 0} (old new : Kept D) (by : ℕ) (entries : List Entry) (r : Refusal) → AreNew (replay old.history).bodies entries → RefusesPlan old by (Batch entries) new r → MayStop r
+pub batch_may : {D : Type 0} (old new : Kept D) (by : ℕ) (entries : List Entry) (r : Refusal) → AreNew (replay old.history).bodies entries → RefusesPlan old by (wished.Batch entries) new r → MayStop r
 batch_may old new by entries (refusal.Wounded first) apart h = tt
 batch_may old new by entries (refusal.Limit which number) apart h = tt
 batch_may old new by entries refusal.DiskFault apart h = tt
@@ -84,7 +86,7 @@ batch_may old new by entries (refusal.NotClosed parent child) apart h = h.verdic
 batch_may old new by entries (refusal.Collision name) apart h = none_collides (replay old.history).bodies entries name apart h.verdict.0
 
 -- is refused for a full file alone
-pub batch_full : (h : List Event) (by : ℕ) (entries : List Entry) (which : Which) (number : ℕ) → AreNew (replay h).bodies entries → IsWithinLimits entries → IsCause h by (Batch entries) (Limit which number) → FilePasses h (Batch entries) which number
+pub batch_full : (h : List Event) (by : ℕ) (entries : List Entry) (which : Which) (number : ℕ) → AreNew (replay h).bodies entries → IsWithinLimits entries → IsCause h by (wished.Batch entries) (Limit which number) → FilePasses h (Batch entries) which number
 batch_full h by entries which number apart within (inl passes) = absurd (none_passes entries which number within passes)
 batch_full h by entries which number apart within (inr full) = subst (λ (es : List Entry). FilePasses h (Batch es) which number) (fresh-same (replay h).bodies entries apart) full
 
@@ -135,7 +137,7 @@ module _ (h : List Event) (by : ℕ) (origin : List ℕ) (number : ℕ) (status 
       held_not_none Held child (closed child (reaches-next Held reach.0 (snapshot_name id) parent child reach.1 is_child)) missing
 
 -- a mark that may be
-pub mark_may : {D : Type 0} (old new : Kept D) (by : ℕ) (origin : List ℕ) (number : ℕ) (status : Status) (snapshot : Option (List ℕ)) (r : Refusal) → MayMark (replay old.history) by origin number status snapshot → RefusesPlan old by (Mark origin number status snapshot) new r → MayStop r
+pub mark_may : {D : Type 0} (old new : Kept D) (by : ℕ) (origin : List ℕ) (number : ℕ) (status : Status) (snapshot : Option (List ℕ)) (r : Refusal) → MayMark (replay old.history) by origin number status snapshot → RefusesPlan old by (wished.Mark origin number status snapshot) new r → MayStop r
 mark_may old new by origin number status snapshot (refusal.Wounded first) may h = tt
 mark_may old new by origin number status snapshot (refusal.Limit which counted) may h = tt
 mark_may old new by origin number status snapshot refusal.DiskFault may h = tt

@@ -9,7 +9,7 @@ use Rattle.swh_base.specs.declared.kind.Kind.{Kind}
 use Rattle.swh_base.specs.declared.name.Name.{Name}
 use Rattle.swh_base.specs.declared.entry.Entry.{Entry}
 use Rattle.swh_model.specs.declared.event.Event.{Event}
-use Rattle.swh_model.specs.declared.event.EventKind.TheVariants.{Batch}
+use Rattle.swh_model.specs.declared.event.Wish.TheVariants.{Batch}
 use Rattle.swh_model.specs.declared.event.Outcome.{Outcome}
 use Rattle.swh_model.specs.Archive.{Archive, Bodies, body_of}
 use Rattle.swh_model.specs.Limits.{IsWithinLimits}

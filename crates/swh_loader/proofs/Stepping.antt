@@ -8,7 +8,7 @@ use Rattle.swh_base.specs.declared.visit.Which.{Which}
 use Rattle.swh_segment.specs.Makes.{ADiskFailed}
 use Rattle.swh_outside.specs.Views.{Disks}
 use Rattle.swh_model.specs.declared.event.Event.{Event}
-use Rattle.swh_model.specs.declared.event.EventKind.{EventKind}
+use Rattle.swh_model.specs.declared.event.Wish.{Wish}
 use Rattle.swh_model.specs.declared.event.Outcome.{Outcome}
 use Rattle.swh_model.specs.declared.event.No.TheVariants.{Limit}
 use Rattle.swh_model.specs.Judge.{FilePasses, IsCause, event_of}
@@ -77,7 +77,7 @@ module _ {D : Type 0} (id : Kind → List ℕ → List ℕ) (disks : Disks D) wh
   leaves_memory {T} {U} P old new t r is begun l = subst (Leaves id disks {T = U} P old new) (sym is) (record { on = tt; adds = l.adds; calls = l.calls; stops = l.on.unwounded ∙ sym begun })
 
   -- an event that was added
-  pub leaves_applied : {T : Type 0} (by : ℕ) (wish : EventKind) (event : Event) (outcome : Outcome) (old new : Kept D) (t : T) → Applies old.history by wish new.history outcome → event ≡ record { by = by; what = event_of (replay old.history) wish } → new.wounded ≡ None
+  pub leaves_applied : {T : Type 0} (by : ℕ) (wish : Wish) (event : Event) (outcome : Outcome) (old new : Kept D) (t : T) → Applies old.history by wish new.history outcome → event ≡ record { by = by; what = event_of (replay old.history) wish } → new.wounded ≡ None
       → disks.faults old.store ≤ disks.faults new.store → disks.faults old.ledger ≤ disks.faults new.ledger → (disks.tells → IsCarriedOut old.history new.history (kept_files disks.file old) (kept_files disks.file new)) → Leaves id disks {T = T} (IsEvent event) old new (Ok t)
   leaves_applied by wish event outcome old new t a is unwounded store ledger calls = record {
     on = goes_on old new by wish outcome a unwounded;
@@ -87,7 +87,7 @@ module _ {D : Type 0} (id : Kind → List ℕ → List ℕ) (disks : Disks D) wh
   }
 
   -- and one that was refused
-  pub leaves_refused : {T : Type 0} (by : ℕ) (wish : EventKind) (event : Event) (refusal : Refusal) (old new : Kept D) (why : LoadWhy) → May id (replay old.history) event → event ≡ record { by = by; what = event_of (replay old.history) wish }
+  pub leaves_refused : {T : Type 0} (by : ℕ) (wish : Wish) (event : Event) (refusal : Refusal) (old new : Kept D) (why : LoadWhy) → May id (replay old.history) event → event ≡ record { by = by; what = event_of (replay old.history) wish }
       → ((which : Which) (number : ℕ) → IsCause old.history by wish (Limit which number) → FilePasses old.history event.what which number) → RefusesPlan old by wish new refusal → IsWhyOf refusal why
       → disks.faults old.store ≤ disks.faults new.store → disks.faults old.ledger ≤ disks.faults new.ledger → (refusal ≡ DiskFault → ADiskFailed (disks.faults old.store) (disks.faults new.store) (disks.faults old.ledger) (disks.faults new.ledger))
       → (disks.tells → refusal ≡ DiskFault → IsBrokenOff old.history by wish (kept_files disks.file old) (kept_files disks.file new)) → Leaves id disks {T = T} (IsEvent event) old new (Err why)

@@ -8,8 +8,8 @@ use Rattle.swh_base.specs.declared.visit.Status.TheVariants.{Created}
 use Rattle.swh_base.specs.declared.visit.VisitKind.TheVariants.{Fast}
 use Rattle.swh_model.specs.declared.event.Visit.{Visit}
 use Rattle.swh_model.specs.declared.event.Event.{Event}
-use Rattle.swh_model.specs.declared.event.EventKind.{EventKind}
-use Rattle.swh_model.specs.declared.event.EventKind.TheVariants.{Batch, Open, Mark}
+use Rattle.swh_model.specs.declared.event.Wish.{Wish}
+use Rattle.swh_model.specs.declared.event.Wish.TheVariants.{Batch, Open, Mark}
 use Rattle.swh_model.specs.declared.event.Outcome.{Outcome}
 use Rattle.swh_model.specs.declared.event.Outcome.TheVariants.{Opened}
 use Rattle.swh_model.specs.Archive.{Archive, visits_of, empty_archive}
@@ -28,11 +28,11 @@ after_all-push a [] e = refl
 after_all-push a (x ∷ h) e = after_all-push (after a x) h e
 
 -- what the archive is once a wish was carried out
-pub applied : (h : List Event) (by : ℕ) (wish : EventKind) (h' : List Event) (outcome : Outcome) → Applies h by wish h' outcome → replay h' ≡ after (replay h) (record { by = by; what = event_of (replay h) wish })
+pub applied : (h : List Event) (by : ℕ) (wish : Wish) (h' : List Event) (outcome : Outcome) → Applies h by wish h' outcome → replay h' ≡ after (replay h) (record { by = by; what = event_of (replay h) wish })
 applied h by wish h' outcome a = ap replay a.added_behind ∙ after_all-push empty_archive h a.event ∙ ap (after (replay h)) a.verdict.1
 
 -- the event that a wish was carried out as
-pub added_event : (h : List Event) (by : ℕ) (wish : EventKind) (h' : List Event) (outcome : Outcome) → Applies h by wish h' outcome → h' ≡ h ++ record { by = by; what = event_of (replay h) wish } ∷ []
+pub added_event : (h : List Event) (by : ℕ) (wish : Wish) (h' : List Event) (outcome : Outcome) → Applies h by wish h' outcome → h' ≡ h ++ record { by = by; what = event_of (replay h) wish } ∷ []
 added_event h by wish h' outcome a = a.added_behind ∙ ap (λ (e : Event). h ++ e ∷ []) a.verdict.1
 
 pub get-last : (vs : List Visit) (v : Visit) → slice_get (vs ++ v ∷ []) (length vs) ≡ Some v
@@ -82,12 +82,12 @@ batch_visit h by entries h' outcome a o number statuses v =
     subst (IsVisit h' o number) (sym (append-nil statuses)) (record { positive = v.positive; there = ap (λ (vs : List Visit). visit_at vs number) all ∙ v.there })
 
 -- what was held is held
-within_after : (h : List Event) (by : ℕ) (wish : EventKind) → IsWithin (replay h).bodies (after (replay h) (record { by = by; what = event_of (replay h) wish })).bodies
+within_after : (h : List Event) (by : ℕ) (wish : Wish) → IsWithin (replay h).bodies (after (replay h) (record { by = by; what = event_of (replay h) wish })).bodies
 within_after h by (Batch entries) = within-added (replay h).bodies (not_held (replay h).bodies entries) (fresh-new (replay h).bodies entries)
 within_after h by (Open origin kind date) = λ n body e. e
 within_after h by (Mark origin number status snapshot) = λ n body e. e
 
-pub goes_on : {D : Type 0} (old new : Kept D) (by : ℕ) (wish : EventKind) (outcome : Outcome) → Applies old.history by wish new.history outcome → new.wounded ≡ None → KeepsAll old new
+pub goes_on : {D : Type 0} (old new : Kept D) (by : ℕ) (wish : Wish) (outcome : Outcome) → Applies old.history by wish new.history outcome → new.wounded ≡ None → KeepsAll old new
 goes_on old new by wish outcome a w = record {
   more = a.event ∷ [];
   added = a.added_behind;

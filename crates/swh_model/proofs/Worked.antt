@@ -15,6 +15,7 @@ use Rattle.swh_model.specs.declared.event.Visit.{Visit}
 use Rattle.swh_model.specs.declared.event.Event.{Event}
 use Rattle.swh_model.specs.declared.event.EventKind.{EventKind}
 use Rattle.swh_model.specs.declared.event.EventKind.TheVariants.{Mark}
+use Rattle.swh_model.specs.declared.event.Wish.TheVariants as wished
 use Rattle.swh_model.specs.declared.event.Outcome.TheVariants.{Opened, Marked}
 use Rattle.swh_model.specs.declared.event.No.{No}
 use Rattle.swh_model.specs.declared.event.No.TheVariants.{Limit, NoVisit, NotYours, Ended, NoSnapshot, NotClosed, Collision}
@@ -22,9 +23,9 @@ use Rattle.swh_model.specs.Archive.{Archive, Bodies, body_of, visits_of, IsChild
 use Rattle.swh_model.specs.Limits.{store_length, stored_length, ledger_length, payload_length}
 use Rattle.swh_model.specs.Step.{visit_at, replay, with_status, marked_at}
 use Rattle.swh_base.specs.Visit.{IsFinal, last_status}
-use Rattle.swh_model.specs.Judge.{FilePasses, IsThere, MarkCause, OpenCause, IsVerdict, rank}
+use Rattle.swh_model.specs.Judge.{FilePasses, IsThere, MarkCause, OpenCause, IsVerdict, rank, ComesBefore}
 use Rattle.swh_base.specs.Snapshot.{target_bytes, snapshot_name}
-use Rattle.swh_model.specs.WorkedExample.{url, opening, opened_once, failed_once, with_snapshot, revision, branch_to_it, snapshot_body}
+use Rattle.swh_model.specs.WorkedExample.{url, opening, wish_to_open, opened_once, failed_once, with_snapshot, revision, branch_to_it, snapshot_body}
 use Rattle.swh_model.proofs.Maps.{visits-put, body-put, body_cases}
 use Rattle.swh_model.proofs.Sounds.{none-opened}
 use Rattle.swh_model.proofs.Entries.{none-empty}
@@ -36,15 +37,15 @@ short h event s l Store number p = let a = p.0 in let b = p.1 in omega (arith, a
 short h event s l Ledger number p = let a = p.0 in let b = p.1 in omega (arith, a, b, l)
 short h event s l _ number p = p
 
--- no cause below a rank, from none of each kind
+-- no cause whose variant comes before a place, from none of each kind
 pub none_below : (h : List Event) (by : ℕ) (event : EventKind) (origin : List ℕ) (number : ℕ) (status : Status) (snapshot : Option (List ℕ)) (r : ℕ)
     → ((which : Which) (n : ℕ) → FilePasses h event which n → ⊥)
-    → (5 < r → (have : ℕ) → MarkCause h by event origin number status snapshot (NoVisit have) → ⊥)
-    → (6 < r → (other : ℕ) → MarkCause h by event origin number status snapshot (NotYours other) → ⊥)
-    → (7 < r → (last : Status) → MarkCause h by event origin number status snapshot (Ended last) → ⊥)
-    → (8 < r → (name : Name) → MarkCause h by event origin number status snapshot (NoSnapshot name) → ⊥)
-    → (9 < r → (parent child : Name) → MarkCause h by event origin number status snapshot (NotClosed parent child) → ⊥)
-    → (cause : No) → rank cause < r → MarkCause h by event origin number status snapshot cause → ⊥
+    → (1 < r → (have : ℕ) → MarkCause h by event origin number status snapshot (NoVisit have) → ⊥)
+    → (2 < r → (other : ℕ) → MarkCause h by event origin number status snapshot (NotYours other) → ⊥)
+    → (3 < r → (last : Status) → MarkCause h by event origin number status snapshot (Ended last) → ⊥)
+    → (4 < r → (name : Name) → MarkCause h by event origin number status snapshot (NoSnapshot name) → ⊥)
+    → (5 < r → (parent child : Name) → MarkCause h by event origin number status snapshot (NotClosed parent child) → ⊥)
+    → (cause : No) → (rank cause).0 < r → MarkCause h by event origin number status snapshot cause → ⊥
 none_below h by event origin number status snapshot r a b c d e f (Limit which n) less is = a which n is
 none_below h by event origin number status snapshot r a b c d e f (NoVisit have) less is = b less have is
 none_below h by event origin number status snapshot r a b c d e f (NotYours other) less is = c less other is
@@ -52,6 +53,23 @@ none_below h by event origin number status snapshot r a b c d e f (Ended last) l
 none_below h by event origin number status snapshot r a b c d e f (NoSnapshot name) less is = e less name is
 none_below h by event origin number status snapshot r a b c d e f (NotClosed parent child) less is = f less parent child is
 none_below h by event origin number status snapshot r a b c d e f (Collision name) less is = is
+
+-- before a cause that is no limit come those of an earlier variant
+pub earlier : (other cause : No) → (rank cause).1 ≡ 0 → ComesBefore other cause → (rank other).0 < (rank cause).0
+earlier other cause first (inl less) = less
+earlier other cause first (inr (same, less)) = absurd (omega (arith, less, first))
+
+-- no cause before one that is no limit, from none of each kind before it
+pub none_before : (h : List Event) (by : ℕ) (event : EventKind) (origin : List ℕ) (number : ℕ) (status : Status) (snapshot : Option (List ℕ)) (cause : No) → (rank cause).1 ≡ 0
+    → ((which : Which) (n : ℕ) → FilePasses h event which n → ⊥)
+    → (1 < (rank cause).0 → (have : ℕ) → MarkCause h by event origin number status snapshot (NoVisit have) → ⊥)
+    → (2 < (rank cause).0 → (other : ℕ) → MarkCause h by event origin number status snapshot (NotYours other) → ⊥)
+    → (3 < (rank cause).0 → (last : Status) → MarkCause h by event origin number status snapshot (Ended last) → ⊥)
+    → (4 < (rank cause).0 → (name : Name) → MarkCause h by event origin number status snapshot (NoSnapshot name) → ⊥)
+    → (5 < (rank cause).0 → (parent child : Name) → MarkCause h by event origin number status snapshot (NotClosed parent child) → ⊥)
+    → (other : No) → ComesBefore other cause → MarkCause h by event origin number status snapshot other → ⊥
+none_before h by event origin number status snapshot cause first a b c d e f other before_it is =
+    none_below h by event origin number status snapshot (rank cause).0 a b c d e f other (earlier other cause first before_it) is
 
 abbrev first_visit : Visit
 first_visit = record { number = 1; date = 1000000000; kind = Fast; by = 1; statuses = (Created, None) ∷ [] }
@@ -101,39 +119,39 @@ none_against_opening (NoSnapshot name) is = is
 none_against_opening (NotClosed parent child) is = is
 none_against_opening (Collision name) is = is
 
-pub first_opens : IsVerdict [] 1 opening (Ok (record { by = 1; what = opening }, Opened 1 1))
+pub first_opens : IsVerdict [] 1 wish_to_open (Ok (record { by = 1; what = opening }, Opened 1 1))
 first_opens = (none_against_opening, refl, ap (λ (vs : List Visit). Opened 1 (length vs + 1)) (sym (none-opened url)))
 
-pub second_is_missing : IsVerdict opened_once 1 (Mark url 2 Ongoing None) (Err (NoVisit 1))
+pub second_is_missing : IsVerdict opened_once 1 (wished.Mark url 2 Ongoing None) (Err (NoVisit 1))
 second_is_missing = (
   (ap length (sym opened_visits), inr (lit≤ tt)),
-  none_below opened_once 1 (Mark url 2 Ongoing None) url 2 Ongoing None 5 (short opened_once (Mark url 2 Ongoing None) (lit≤ tt) (lit≤ tt))
+  none_before opened_once 1 (Mark url 2 Ongoing None) url 2 Ongoing None (NoVisit 1) refl (short opened_once (Mark url 2 Ongoing None) (lit≤ tt) (lit≤ tt))
       (λ l. absurd (omega (arith, l))) (λ l. absurd (omega (arith, l))) (λ l. absurd (omega (arith, l))) (λ l. absurd (omega (arith, l))) (λ l. absurd (omega (arith, l))),
 )
 
-pub first_is_not_theirs : IsVerdict opened_once 2 (Mark url 1 Ongoing None) (Err (NotYours 1))
+pub first_is_not_theirs : IsVerdict opened_once 2 (wished.Mark url 1 Ongoing None) (Err (NotYours 1))
 first_is_not_theirs = (
   (first_visit, is_there (replay opened_once) url first_visit opened_visits, refl, λ e. omega (arith, e)),
-  none_below opened_once 2 (Mark url 1 Ongoing None) url 1 Ongoing None 6 (short opened_once (Mark url 1 Ongoing None) (lit≤ tt) (lit≤ tt))
+  none_before opened_once 2 (Mark url 1 Ongoing None) url 1 Ongoing None (NotYours 1) refl (short opened_once (Mark url 1 Ongoing None) (lit≤ tt) (lit≤ tt))
       (λ l. has_first opened_once 2 (Mark url 1 Ongoing None) url Ongoing None first_visit opened_visits)
       (λ l. absurd (omega (arith, l))) (λ l. absurd (omega (arith, l))) (λ l. absurd (omega (arith, l))) (λ l. absurd (omega (arith, l))),
 )
 
-pub no_such_snapshot : (id : List ℕ) → length id ≡ 20 → IsVerdict opened_once 1 (Mark url 1 Full (Some id)) (Err (NoSnapshot (snapshot_name id)))
+pub no_such_snapshot : (id : List ℕ) → length id ≡ 20 → IsVerdict opened_once 1 (wished.Mark url 1 Full (Some id)) (Err (NoSnapshot (snapshot_name id)))
 no_such_snapshot id twenty =
     let mark : EventKind = Mark url 1 Full (Some id) in (
       (id, refl, refl, none-empty (snapshot_name id)),
-      none_below opened_once 1 mark url 1 Full (Some id) 8 (short opened_once mark (lit≤ tt) (let t = twenty in omega (arith, t, length-append id url)))
+      none_before opened_once 1 mark url 1 Full (Some id) (NoSnapshot (snapshot_name id)) refl (short opened_once mark (lit≤ tt) (let t = twenty in omega (arith, t, length-append id url)))
           (λ l. has_first opened_once 1 mark url Full (Some id) first_visit opened_visits)
           (λ l. is_mine opened_once 1 mark url Full (Some id) first_visit opened_visits refl)
           (λ l. has_not_ended opened_once 1 mark url Full (Some id) first_visit opened_visits (λ f. f))
           (λ l. absurd (omega (arith, l))) (λ l. absurd (omega (arith, l))),
     )
 
-pub first_may_fail : IsVerdict opened_once 1 (Mark url 1 Failed None) (Ok (record { by = 1; what = Mark url 1 Failed None }, Marked 2))
+pub first_may_fail : IsVerdict opened_once 1 (wished.Mark url 1 Failed None) (Ok (record { by = 1; what = Mark url 1 Failed None }, Marked 2))
 first_may_fail =
     let mark : EventKind = Mark url 1 Failed None in (
-      λ cause is. none_below opened_once 1 mark url 1 Failed None (suc (rank cause)) (short opened_once mark (lit≤ tt) (lit≤ tt))
+      λ cause is. none_below opened_once 1 mark url 1 Failed None (suc (rank cause).0) (short opened_once mark (lit≤ tt) (lit≤ tt))
           (λ l. has_first opened_once 1 mark url Failed None first_visit opened_visits)
           (λ l. is_mine opened_once 1 mark url Failed None first_visit opened_visits refl)
           (λ l. has_not_ended opened_once 1 mark url Failed None first_visit opened_visits (λ f. f))
@@ -144,12 +162,12 @@ first_may_fail =
       refl,
     )
 
-pub first_has_ended : IsVerdict failed_once 1 (Mark url 1 Ongoing None) (Err (Ended Failed))
+pub first_has_ended : IsVerdict failed_once 1 (wished.Mark url 1 Ongoing None) (Err (Ended Failed))
 first_has_ended =
     let mark : EventKind = Mark url 1 Ongoing None in
     let v : Visit = with_status first_visit Failed None in (
       (v, is_there (replay failed_once) url v failed_visits, refl, tt),
-      none_below failed_once 1 mark url 1 Ongoing None 7 (short failed_once mark (lit≤ tt) (lit≤ tt))
+      none_before failed_once 1 mark url 1 Ongoing None (Ended Failed) refl (short failed_once mark (lit≤ tt) (lit≤ tt))
           (λ l. has_first failed_once 1 mark url Ongoing None v failed_visits)
           (λ l. is_mine failed_once 1 mark url Ongoing None v failed_visits refl)
           (λ l. absurd (omega (arith, l))) (λ l. absurd (omega (arith, l))) (λ l. absurd (omega (arith, l))),
@@ -192,11 +210,11 @@ few_bytes id twenty =
     omega (arith, twenty, length-append digits_of_it (58 ∷ target_bytes branch_to_it.target ++ []), length-append digits_of_it (58 ∷ target_bytes branch_to_it.target), d, length-append (digits_of_it ++ 58 ∷ target_bytes branch_to_it.target) [])
 
 pub snapshot_is_not_closed : (id : List ℕ) → length id ≡ 20
-    → IsVerdict (with_snapshot id) 1 (Mark url 1 Full (Some id)) (Err (NotClosed (snapshot_name id) revision))
+    → IsVerdict (with_snapshot id) 1 (wished.Mark url 1 Full (Some id)) (Err (NotClosed (snapshot_name id) revision))
 snapshot_is_not_closed id twenty =
     let mark : EventKind = Mark url 1 Full (Some id) in (
       (refl, id, refl, ([], refl), revision_is_child id, revision_is_missing id),
-      none_below (with_snapshot id) 1 mark url 1 Full (Some id) 9 (short (with_snapshot id) mark (few_bytes id twenty) (let t = twenty in omega (arith, t, length-append id url)))
+      none_before (with_snapshot id) 1 mark url 1 Full (Some id) (NotClosed (snapshot_name id) revision) refl (short (with_snapshot id) mark (few_bytes id twenty) (let t = twenty in omega (arith, t, length-append id url)))
           (λ l. has_first (with_snapshot id) 1 mark url Full (Some id) first_visit opened_visits)
           (λ l. is_mine (with_snapshot id) 1 mark url Full (Some id) first_visit opened_visits refl)
           (λ l. has_not_ended (with_snapshot id) 1 mark url Full (Some id) first_visit opened_visits (λ f. f))

@@ -12,8 +12,10 @@ use Rattle.swh_base.specs.declared.visit.Which.{Which}
 use Rattle.swh_base.specs.declared.visit.Which.TheVariants.{Body, Objects, Bytes, Store, Ledger}
 use Rattle.swh_model.specs.declared.event.Visit.{Visit}
 use Rattle.swh_model.specs.declared.event.Event.{Event}
+use Rattle.swh_model.specs.declared.event.Wish.{Wish}
+use Rattle.swh_model.specs.declared.event.Wish.TheVariants.{Batch, Open, Mark}
 use Rattle.swh_model.specs.declared.event.EventKind.{EventKind}
-use Rattle.swh_model.specs.declared.event.EventKind.TheVariants.{Batch, Open, Mark}
+use Rattle.swh_model.specs.declared.event.EventKind.TheVariants as happened
 use Rattle.swh_model.specs.declared.event.Outcome.{Outcome}
 use Rattle.swh_model.specs.declared.event.Outcome.TheVariants.{Added, Opened, Marked}
 use Rattle.swh_model.specs.declared.event.No.{No}
@@ -31,10 +33,10 @@ not_held bodies [] = []
 not_held bodies (e ∷ es) = if is_some (body_of bodies e.name) then not_held bodies es else e ∷ not_held (map.insert bodies e.name e.body) es
 
 -- what an event has of a wish
-abbrev pub event_of : Archive → EventKind → EventKind
-event_of a (Batch entries) = Batch (not_held a.bodies entries)
-event_of a (Open origin kind date) = Open origin kind date
-event_of a (Mark origin visit status snapshot) = Mark origin visit status snapshot
+abbrev pub event_of : Archive → Wish → EventKind
+event_of a (Batch entries) = happened.Batch (not_held a.bodies entries)
+event_of a (Open origin kind date) = happened.Open origin kind date
+event_of a (Mark origin visit status snapshot) = happened.Mark origin visit status snapshot
 
 -- the length of the first body above the limit
 abbrev pub first_long : List Entry → Option ℕ
@@ -99,12 +101,12 @@ MarkCause h by event origin number status snapshot (NotClosed parent child) =
 MarkCause h by event origin number status snapshot (Collision name) = ⊥
 
 -- A cause against the wish.
-abbrev pub IsCause : List Event → ℕ → EventKind → No → Type 0
+abbrev pub IsCause : List Event → ℕ → Wish → No → Type 0
 IsCause h by (Batch entries) cause = BatchCause h entries cause
-IsCause h by (Open origin kind date) cause = OpenCause h (Open origin kind date) cause
-IsCause h by (Mark origin number status snapshot) cause = MarkCause h by (Mark origin number status snapshot) origin number status snapshot cause
+IsCause h by (Open origin kind date) cause = OpenCause h (happened.Open origin kind date) cause
+IsCause h by (Mark origin number status snapshot) cause = MarkCause h by (happened.Mark origin number status snapshot) origin number status snapshot cause
 
--- the order in which causes are looked for
+-- the order in which limits are looked for
 abbrev pub which_rank : Which → ℕ
 which_rank Body = 0
 which_rank Objects = 1
@@ -114,26 +116,31 @@ which_rank Ledger = 4
 -- no plan passes another
 which_rank _ = 4
 
-abbrev pub rank : No → ℕ
-rank (Limit which number) = which_rank which
-rank (NoVisit have) = 5
-rank (NotYours by) = 6
-rank (Ended status) = 7
-rank (NoSnapshot name) = 8
-rank (NotClosed parent child) = 9
-rank (Collision name) = 10
+-- the order in which causes are looked for: by their variant, and limits by the limit
+abbrev pub rank : No → ℕ × ℕ
+rank (Limit which number) = (0, which_rank which)
+rank (NoVisit have) = (1, 0)
+rank (NotYours by) = (2, 0)
+rank (Ended status) = (3, 0)
+rank (NoSnapshot name) = (4, 0)
+rank (NotClosed parent child) = (5, 0)
+rank (Collision name) = (6, 0)
+
+-- The first of two causes is looked for before the second.
+abbrev pub ComesBefore : No → No → Type 0
+ComesBefore a b = ((rank a).0 < (rank b).0) ⊎ (((rank a).0 ≡ (rank b).0) × ((rank a).1 < (rank b).1))
 
 -- what comes of the wish where nothing stands against it
-abbrev pub outcome_of : List Event → EventKind → Outcome
+abbrev pub outcome_of : List Event → Wish → Outcome
 outcome_of h (Batch entries) = Added (length h + 1) (length (not_held (replay h).bodies entries))
 outcome_of h (Open origin kind date) = Opened (length h + 1) (length (visits_of (replay h).origins origin) + 1)
 outcome_of h (Mark origin number status snapshot) = Marked (length h + 1)
 
 -- The verdict: the first cause, else the event and what comes of it.
-abbrev pub IsVerdict : List Event → ℕ → EventKind → Result (Event × Outcome) No → Type 0
+abbrev pub IsVerdict : List Event → ℕ → Wish → Result (Event × Outcome) No → Type 0
 IsVerdict h by wish (Ok given) =
     ((cause : No) → IsCause h by wish cause → ⊥) × (given.0 ≡ record { by = by; what = event_of (replay h) wish }) × (given.1 ≡ outcome_of h wish)
-IsVerdict h by wish (Err cause) = IsCause h by wish cause × ((other : No) → rank other < rank cause → IsCause h by wish other → ⊥)
+IsVerdict h by wish (Err cause) = IsCause h by wish cause × ((other : No) → ComesBefore other cause → IsCause h by wish other → ⊥)
 
 -- The status and the snapshot are those that a visit may be marked with.
 abbrev pub StatusAllows : Status → Option (List ℕ) → Type 0
@@ -145,7 +152,7 @@ StatusAllows NotFound snapshot = snapshot ≡ None
 StatusAllows Failed snapshot = snapshot ≡ None
 
 -- What judging asks of a wish: its entries are good and named, its status and snapshot fit.
-abbrev pub IsWish : (Kind → List ℕ → List ℕ) → EventKind → Type 0
+abbrev pub IsWish : (Kind → List ℕ → List ℕ) → Wish → Type 0
 IsWish id_of (Batch entries) = AllByRecursion (HasItsChildrenAndName id_of) entries
 IsWish id_of (Open origin kind date) = Unit {0}
 IsWish id_of (Mark origin number status snapshot) = StatusAllows status snapshot
@@ -168,7 +175,7 @@ AgreeOnVerdict (Err e) (Ok b) = ⊥
 AgreeOnVerdict (Err e) (Err f) = without_names e ≡ without_names f
 
 -- Of the snapshot that the wish names this parent is reached, and its child is not held.
-abbrev pub IsOpenAt : List Event → EventKind → Name → Name → Type 0
+abbrev pub IsOpenAt : List Event → Wish → Name → Name → Type 0
 IsOpenAt h (Batch entries) parent child = ⊥
 IsOpenAt h (Open origin kind date) parent child = ⊥
 IsOpenAt h (Mark origin number status snapshot) parent child =

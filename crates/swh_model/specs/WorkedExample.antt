@@ -8,6 +8,8 @@ use Rattle.swh_base.specs.declared.visit.Status.TheVariants.{Failed}
 use Rattle.swh_model.specs.declared.event.Event.{Event}
 use Rattle.swh_model.specs.declared.event.EventKind.{EventKind}
 use Rattle.swh_model.specs.declared.event.EventKind.TheVariants.{Batch, Open, Mark}
+use Rattle.swh_model.specs.declared.event.Wish.{Wish}
+use Rattle.swh_model.specs.declared.event.Wish.TheVariants as wished
 use Rattle.swh_base.specs.Snapshot.{SnapshotBranch, ToObject, snapshot_text}
 
 abbrev pub url : List ℕ
@@ -16,6 +18,10 @@ url = codes "https://e.org/p"
 -- the origin is visited for the first time
 abbrev pub opening : EventKind
 opening = Open url Fast 1000000000
+
+-- and the wish for it
+abbrev pub wish_to_open : Wish
+wish_to_open = wished.Open url Fast 1000000000
 
 abbrev pub opened_once : List Event
 opened_once = record { by = 1; what = opening } ∷ []

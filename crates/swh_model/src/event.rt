@@ -34,8 +34,22 @@ pub enum EventKind {
     },
 }
 
-/// What somebody wants to happen: what is handed over, where an event has what is new of it.
-pub type Wish = EventKind;
+/// What somebody wants to happen. Of a batch all is handed over, where its event has what is new.
+#[derive(Drop)]
+pub enum Wish {
+    Batch(Items<Entry>),
+    Open {
+        origin: Url,
+        kind: VisitKind,
+        date: u64,
+    },
+    Mark {
+        origin: Url,
+        visit: u64,
+        status: Status,
+        snapshot: Option<[u8; 20]>,
+    },
+}
 
 /// What came of it.
 #[derive(Clone, Copy, Debug)]

@@ -7,6 +7,7 @@ use Rattle.swh_base.specs.declared.visit.Which.TheVariants.{Objects}
 use Rattle.swh_model.specs.declared.event.Event.{Event}
 use Rattle.swh_model.specs.declared.event.EventKind.{EventKind}
 use Rattle.swh_model.specs.declared.event.EventKind.TheVariants.{Batch, Mark}
+use Rattle.swh_model.specs.declared.event.Wish.TheVariants as wished
 use Rattle.swh_model.specs.declared.event.Outcome.TheVariants.{Added, Marked}
 use Rattle.swh_model.specs.declared.event.No.TheVariants.{Collision}
 use Rattle.swh_model.specs.Archive.{Bodies, Origins, visits_of}
@@ -26,12 +27,12 @@ few_fresh bodies es fs is none =
     omega (arith, few, length-fresh bodies es, ap length is)
 
 -- the event of a batch is what is new of it
-pub batch_event : (r : Replayed) (h : List Event) (es fs : List Entry) → IsReplayOf r h → fs ≡ not_held r.bodies es → Batch fs ≡ event_of (replay h) (Batch es)
+pub batch_event : (r : Replayed) (h : List Event) (es fs : List Entry) → IsReplayOf r h → fs ≡ not_held r.bodies es → Batch fs ≡ event_of (replay h) (wished.Batch es)
 batch_event r h es fs is new = ap (λ (l : List Entry). Batch l) (new ∙ ap (λ (b : Bodies). not_held b es) is.bodies)
 
 pub batch_verdict : (r : Replayed) (h : List Event) (by number new : ℕ) (es fs : List Entry) → IsReplayOf r h → number ≡ length h + 1 → fs ≡ not_held r.bodies es → new ≡ length fs
     → NonePasses (BatchPasses es) → NonePasses (FilePasses h (Batch fs)) → ((name : Name) → Collides r.bodies es name → ⊥)
-    → IsVerdict h by (Batch es) (Ok (record { by = by; what = Batch fs }, Added number new))
+    → IsVerdict h by (wished.Batch es) (Ok (record { by = by; what = Batch fs }, Added number new))
 batch_verdict r h by number new es fs is number_is fresh_is new_is none files apart =
     let event = batch_event r h es fs is fresh_is in (
       batch_passes h es none (subst (λ (e : EventKind). NonePasses (FilePasses h e)) event files) (subst (λ (b : Bodies). (name : Name) → Collides b es name → ⊥) is.bodies apart),
@@ -40,13 +41,13 @@ batch_verdict r h by number new es fs is number_is fresh_is new_is none files ap
     )
 
 pub batch_collision : (r : Replayed) (h : List Event) (by : ℕ) (es fs : List Entry) (name : Name) → IsReplayOf r h → fs ≡ not_held r.bodies es → NonePasses (BatchPasses es) → NonePasses (FilePasses h (Batch fs))
-    → Collides r.bodies es name → IsVerdict h by (Batch es) (Err (Collision name))
+    → Collides r.bodies es name → IsVerdict h by (wished.Batch es) (Err (Collision name))
 batch_collision r h by es fs name is fresh_is none files collides =
     batch_collides h by es name none (subst (λ (e : EventKind). NonePasses (FilePasses h e)) (batch_event r h es fs is fresh_is) files) (subst (λ (b : Bodies). Collides b es name) is.bodies collides)
 
 pub mark_verdict : (r : Replayed) (h : List Event) (by number : ℕ) (origin : List ℕ) (visit : ℕ) (status : Status) (snapshot : Option (List ℕ)) → IsReplayOf r h → number ≡ length h + 1
     → NonePasses (FilePasses h (Mark origin visit status snapshot)) → MayBeMarked (visits_of r.visits origin) by visit → SuitsStatus r.bodies status snapshot
-    → IsVerdict h by (Mark origin visit status snapshot) (Ok (record { by = by; what = Mark origin visit status snapshot }, Marked number))
+    → IsVerdict h by (wished.Mark origin visit status snapshot) (Ok (record { by = by; what = Mark origin visit status snapshot }, Marked number))
 mark_verdict r h by number origin visit status snapshot is number_is files may suits = (
   mark_passes h by origin visit status snapshot files (subst (λ (o : Origins). MayBeMarked (visits_of o origin) by visit) is.visits may) (subst (λ (b : Bodies). SuitsStatus b status snapshot) is.bodies suits),
   refl,

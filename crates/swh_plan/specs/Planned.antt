@@ -3,7 +3,8 @@ use Rattle.std.specs.Prelude.{◌≡◌, ℕ, ◌+◌, ◌<◌, ◌≤◌, ◌^�
 use Rattle.std.specs.List.{AllByRecursion}
 use Rattle.swh_model.specs.declared.event.Event.{Event}
 use Rattle.swh_model.specs.declared.event.EventKind.{EventKind}
-use Rattle.swh_model.specs.declared.event.EventKind.TheVariants.{Batch, Open, Mark}
+use Rattle.swh_model.specs.declared.event.Wish.{Wish}
+use Rattle.swh_model.specs.declared.event.Wish.TheVariants.{Batch, Open, Mark}
 use Rattle.swh_segment.specs.EventRecord.{packed_objects, coded_record, IsCodable}
 use Rattle.swh_model.specs.Limits.{store_length, ledger_length}
 use Rattle.swh_model.specs.Step.{HasItsChildren, replay}
@@ -30,13 +31,13 @@ pub record IsInFiles (r : Replayed) : Type 0 where
   pub ledger_fits : r.ledger_end < 2 ^ 62
 
 -- What planning asks of a plan.
-abbrev pub IsPlan : EventKind → Type 0
+abbrev pub IsPlan : Wish → Type 0
 IsPlan (Batch entries) = AllByRecursion HasItsChildren entries
 IsPlan (Open origin kind date) = Unit {0}
 IsPlan (Mark origin visit status snapshot) = StatusAllows status snapshot
 
 -- The plan's event may happen, and these are its bytes for the two files.
-pub record IsPlanned (h : List Event) (by : ℕ) (wish : EventKind) (r : Replayed) (p : Planned) : Type 0 where
+pub record IsPlanned (h : List Event) (by : ℕ) (wish : Wish) (r : Replayed) (p : Planned) : Type 0 where
   pub verdict : IsVerdict h by wish (Ok (p.event, p.outcome))
   pub run_is : p.run.items ≡ packed_objects p.event.what
   pub record_is : p.bytes.items ≡ coded_record r.store_end p.event ++ 0 ∷ []
@@ -45,7 +46,7 @@ pub record IsPlanned (h : List Event) (by : ℕ) (wish : EventKind) (r : Replaye
   pub ledger_fits : r.ledger_end + 1 + length p.bytes.items ≤ 2 ^ 62
 
 -- The first cause against the plan.
-abbrev pub IsRefusedPlan : List Event → ℕ → EventKind → PlanFault → Type 0
+abbrev pub IsRefusedPlan : List Event → ℕ → Wish → PlanFault → Type 0
 IsRefusedPlan h by wish (Refused cause) = IsVerdict h by wish (Err cause)
 IsRefusedPlan h by wish Memory = Unit {0}
 

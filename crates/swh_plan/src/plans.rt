@@ -2,7 +2,7 @@
 ghost use Rattle.std.specs.Prelude.{◌≡◌, ◌+◌, ◌<◌, ◌^◌, [], List, length, IfOk, IfErr, IfSome, IfNone};
 ghost use Rattle.std.specs.List.{AllByRecursion};
 ghost use Rattle.swh_model.specs.declared.event.Event.{Event};
-ghost use Rattle.swh_model.specs.declared.event.EventKind.TheVariants.{Batch, Open, Mark};
+ghost use Rattle.swh_model.specs.declared.event.Wish.TheVariants.{Batch, Open, Mark};
 ghost use Rattle.swh_model.specs.Archive.{visits_of};
 ghost use Rattle.swh_segment.specs.EventRecord.{packed_objects, IsCodable};
 ghost use Rattle.swh_model.specs.Step.{HasItsChildren};
@@ -210,11 +210,11 @@ pub fn plan(
     ensures err { (h : List Event) → IsReplayOf replayed.now h → IfErr result (IsRefusedPlan h by wish) }
 {
     match wish {
-        EventKind::Batch(entries) => { plan_batch(alloc, replayed, number, by, entries.as_slice()) }
-        EventKind::Open { origin, kind, date } => {
+        Wish::Batch(entries) => { plan_batch(alloc, replayed, number, by, entries.as_slice()) }
+        Wish::Open { origin, kind, date } => {
             plan_open(alloc, replayed, number, by, origin, kind, date)
         }
-        EventKind::Mark {
+        Wish::Mark {
             origin,
             visit,
             status,

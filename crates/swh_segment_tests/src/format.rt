@@ -9,8 +9,8 @@ use swh_segment::{
 
 // The content `hi` with an id of twenty sevens, and one byte after it.
 const STORE: [u8; 32] = [
-    1, 0, 0, 0, 0, 0, 0, 0, 2, 7, 7, 7, 7, 7, 7, 7, 7, 7, 7, 7, 7, 7, 7, 7, 7, 7, 7, 7, 7,
-    b'h', b'i', 9,
+    1, 0, 0, 0, 0, 0, 0, 0, 2, 7, 7, 7, 7, 7, 7, 7, 7, 7, 7, 7, 7, 7, 7, 7, 7, 7, 7, 7, 7, b'h',
+    b'i', 9,
 ];
 
 fn content(alloc: Global) -> Result<Entry, Memory> {

@@ -1,7 +1,7 @@
 use Rattle.std.proofs.Common.{List, Err, sym, ap, ◌∙◌}
 use Rattle.swh_base.specs.declared.entry.Entry.{Entry}
 use Rattle.swh_outside.specs.Views.{disks}
-use Rattle.swh_model.specs.declared.event.EventKind.TheVariants.{Batch}
+use Rattle.swh_model.specs.declared.event.Wish.TheVariants.{Batch}
 use Rattle.swh_model.specs.Step.{replay}
 use Rattle.swh_loader.specs.Adding.{batch_event, IsEvent, IsBatchOf}
 use Rattle.swh_loader.proofs.Opens.{refused_same, visits_same}

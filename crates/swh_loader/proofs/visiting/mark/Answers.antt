@@ -1,6 +1,6 @@
 use Rattle.std.proofs.Common.{Err, ap, refl}
 use Rattle.swh_outside.specs.Views.{disks}
-use Rattle.swh_model.specs.declared.event.EventKind.TheVariants.{Mark}
+use Rattle.swh_model.specs.declared.event.Wish.TheVariants.{Mark}
 use Rattle.swh_loader.specs.Adding.{mark_event, IsEvent}
 use Rattle.swh_loader.specs.Visiting.{attempt_of}
 use Rattle.swh_loader.proofs.Refusals.{mark_may}

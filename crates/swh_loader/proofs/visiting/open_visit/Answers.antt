@@ -1,7 +1,7 @@
 use Rattle.std.proofs.Common.{Err, ap, refl}
 use Rattle.swh_base.specs.declared.visit.VisitKind.TheVariants.{Fast}
 use Rattle.swh_outside.specs.Views.{disks}
-use Rattle.swh_model.specs.declared.event.EventKind.TheVariants.{Open}
+use Rattle.swh_model.specs.declared.event.Wish.TheVariants.{Open}
 use Rattle.swh_loader.specs.Adding.{attempt, open_event, IsEvent}
 use Rattle.swh_loader.proofs.Opens.{refused_same}
 use Rattle.swh_loader.proofs.Refusals.{held_back}
