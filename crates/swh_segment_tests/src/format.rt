@@ -1,7 +1,7 @@
 // The format: the worked bytes of an opening and of a run, and what is read of them.
 use std::alloc::Global;
 use std::test::Fail;
-use swh_base::{Entry, Kind, Memory, Name, Shared, Url, VisitKind};
+use swh_base::{Entry, Items, Kind, Memory, Name, Shared, Url, VisitKind};
 use swh_model::{Event, EventKind};
 use swh_segment::{
     Next, Record, Told, next_record, read_run, record_of_event, run_of_entries, split_magic,
@@ -36,6 +36,23 @@ fn an_opening_has_the_worked_bytes(rt: HostRuntime) -> Result<(), Fail> {
     let bytes = record_of_event(alloc, 0, 0, &event)?;
     let worked = b"\x4f\0\0\0\x1c\0\0\0\x01\x01\0\0\0\0\x3b\x9a\xca\0https://e.org/p\0";
     assert_eq!(rt; bytes.as_slice(), worked.as_slice());
+    let copy = record_of_event(alloc, 0, 0, &event.again(alloc)?)?;
+    assert_eq!(rt; copy.as_slice(), worked.as_slice());
+    Ok(())
+}
+
+// The objects of a batch are those of its copy.
+#[test]
+fn a_batch_is_made_again(rt: HostRuntime) -> Result<(), Fail> {
+    let alloc = rt.alloc();
+    let mut entries = Vec::new(alloc);
+    entries.push(content(alloc)?)?;
+    let what = EventKind::Batch(Items::from_vec(entries));
+    let EventKind::Batch(copies) = (Event { by: 1, what }).again(alloc)?.what else {
+        return Err(Fail::from("a batch"));
+    };
+    let bytes = run_of_entries(alloc, copies.as_slice())?;
+    assert_eq!(rt; bytes.as_slice(), &STORE[..31]);
     Ok(())
 }
 
