@@ -4,7 +4,7 @@ use Rattle.std.specs.List.{slice_get}
 use Rattle.swh_outside.specs.Disk.{File}
 use Rattle.swh_outside.specs.Files.{EachImages, files_of}
 use Rattle.std.specs.FinMap as finite
-use Rattle.swh_segment.specs.Record.{IsSettled}
+use Rattle.swh_segment.specs.Settled.{IsSettled}
 use Rattle.swh_segment.specs.Making.{IsEmptyArchive}
 use Rattle.swh_base.specs.declared.kind.Kind.{Kind}
 use Rattle.swh_model.specs.declared.event.Visit.{Visit}
@@ -23,8 +23,8 @@ use Rattle.swh_plan.specs.declared.planning.Planned.{Planned}
 use Rattle.swh_keeper.specs.Advance.{MayAdvance}
 use Rattle.swh_plan.specs.Planned.{IsReplayOf, IsInFiles, IsPlanned}
 use Rattle.swh_keeper.specs.Keeping.{AreSettledFor, IsToAdd, WithOrWithout, IsKeeping, calls_for}
-use Rattle.swh_segment.specs.EventRecord.{run_written, coded_record}
-use Rattle.swh_segment.specs.Events as segment
+use Rattle.swh_format.specs.EventRecord.{run_written, coded_record}
+use Rattle.swh_segment.specs.Calls.{event_calls}
 use Rattle.swh_model.specs.Limits.{store_length, records_length}
 use Rattle.swh_keeper.proofs.KeptLemmas.{history-push}
 
@@ -100,9 +100,9 @@ keeping-empty id_of tells ledger store r h none bodies visits se le empty =
     })
 
 pub calls_are : (r : Replayed) (h : List Event) (e : Event) (bytes : List ℕ) → IsReplayOf r h → bytes ≡ coded_record r.store_end e ++ 0 ∷ []
-    → segment.event_calls r.store_end (run_written e.what) r.ledger_end bytes ≡ calls_for h e
+    → event_calls r.store_end (run_written e.what) r.ledger_end bytes ≡ calls_for h e
 calls_are r h e bytes is bytes_are =
     let s = is.store in
     let l : r.ledger_end ≡ 8 + records_length h = let m = is.ledger in omega (arith, m) in
     let b : bytes ≡ coded_record (store_length h) e ++ 0 ∷ [] = bytes_are ∙ ap (λ (n : ℕ). coded_record n e ++ 0 ∷ []) s in
-    λ i. segment.event_calls (s i) (run_written e.what) (l i) (b i)
+    λ i. event_calls (s i) (run_written e.what) (l i) (b i)

@@ -2,14 +2,15 @@
 use Rattle.std.proofs.Common.{◌≡◌, inl, inr, ℕ, ◌+◌, ◌≤◌, Option, List, [], ◌∷◌, ◌++◌, length, refl, sym, ap, ◌∙◌, subst, arith, length-append}
 use Rattle.swh_outside.specs.Disk.{File}
 use Rattle.swh_outside.specs.Files.{Files, files_of, EachImages}
-use Rattle.swh_segment.specs.Record.{IsReady, front}
-use Rattle.swh_segment.specs.Events as segment
+use Rattle.swh_format.specs.Record.{IsReady, front}
+use Rattle.swh_format.specs.Events as format
+use Rattle.swh_segment.specs.Settled.{AreSettled, with_or_without_event}
 use Rattle.swh_base.specs.declared.kind.Kind.{Kind}
 use Rattle.swh_model.specs.declared.event.Event.{Event}
-use Rattle.swh_segment.specs.EventRecord.{AreCodable}
-use Rattle.swh_segment.specs.Stands.{written, all_written}
-use Rattle.swh_segment.proofs.HistoryFiles.{written-at, codable-at}
-use Rattle.swh_segment.proofs.Lengths.{store_length-push, ledger_length-push}
+use Rattle.swh_format.specs.EventRecord.{AreCodable}
+use Rattle.swh_format.specs.Stands.{written, all_written}
+use Rattle.swh_format.proofs.HistoryFiles.{written-at, codable-at}
+use Rattle.swh_format.proofs.Lengths.{store_length-push, ledger_length-push}
 use Rattle.swh_model.specs.Limits.{stored_length, payload_length}
 use Rattle.swh_model.specs.Archive.{Archive, empty_archive}
 use Rattle.swh_model.specs.Step.{May, MayAll, after, after_all, replay}
@@ -63,30 +64,30 @@ ready r h e run bytes t = record { is = t.bytes_are }
 
 -- after a run of an event's calls the files are settled for the history with it
 pub settled-push : (r : Replayed) (h : List Event) (e : Event) (run bytes : List ℕ) (ledger store : File) (m n : ℕ) → IsToAdd r h e run bytes → AreCodable 0 h
-    → segment.AreSettled (files_of ledger store) (all_written 0 h ++ written r.store_end e ∷ []) m n → AreSettledFor ledger store (h ++ e ∷ []) m n
+    → AreSettled (files_of ledger store) (all_written 0 h ++ written r.store_end e ∷ []) m n → AreSettledFor ledger store (h ++ e ∷ []) m n
 settled-push r h e run bytes ledger store m n t all s =
     record {
-      settled = subst (λ (es : List segment.Append). segment.AreSettled (files_of ledger store) es m n) (sym (written-at h e r.store_end t.store)) s;
+      settled = subst (λ (es : List format.Append). AreSettled (files_of ledger store) es m n) (sym (written-at h e r.store_end t.store)) s;
       codable = codable-at h e r.store_end t.store all t.codable;
     }
 
 pub images_left : (r : Replayed) (h : List Event) (e : Event) (run bytes : List ℕ) (files : Files) → IsToAdd r h e run bytes → AreCodable 0 h
-    → EachImages files (segment.with_or_without_event (all_written 0 h) (written r.store_end e)) → EachImages files (WithOrWithout h e)
+    → EachImages files (with_or_without_event (all_written 0 h) (written r.store_end e)) → EachImages files (WithOrWithout h e)
 images_left r h e run bytes files t all each =
     record {
       has = λ images are. elim (each.has images are) [
         | inl without ↦ inl (record { files = without; codable = all })
         | inr with_it ↦ inr (record {
-          files = subst (λ (es : List segment.Append). segment.FilesStand (images 0) (images 1) es) (sym (written-at h e r.store_end t.store)) with_it;
+          files = subst (λ (es : List format.Append). format.FilesStand (images 0) (images 1) es) (sym (written-at h e r.store_end t.store)) with_it;
           codable = codable-at h e r.store_end t.store all t.codable;
         })
       ];
     }
 
 pub store_place : (ledger store : File) (h : List Event) (m n : ℕ) → AreSettledFor ledger store h m n → m ≤ length store.seen
-store_place ledger store h m n s = let l = s.settled.store_end_is in omega (arith, l, ap length s.settled.begins, length-append (segment.runs (all_written 0 h)) s.settled.rest)
+store_place ledger store h m n s = let l = s.settled.store_end_is in omega (arith, l, ap length s.settled.begins, length-append (format.runs (all_written 0 h)) s.settled.rest)
 
 pub ledger_place : (ledger store : File) (h : List Event) (m n : ℕ) → AreSettledFor ledger store h m n → n + 1 ≤ length ledger.seen
 ledger_place ledger store h m n s =
     let st = s.settled.ledger.stands in let l = s.settled.ledger.end_is in
-    omega (arith, l, ap length st.split, length-append (front (segment.records (all_written 0 h))) (st.gate ∷ st.rest))
+    omega (arith, l, ap length st.split, length-append (front (format.records (all_written 0 h))) (st.gate ∷ st.rest))

@@ -3,13 +3,13 @@ use Rattle.std.proofs.Common.{◌≡◌, ℕ, Some, None, List, length, sym, ap,
 use Rattle.swh_outside.specs.Disk.{File, IsAtRest}
 use Rattle.swh_base.specs.declared.kind.Kind.{Kind}
 use Rattle.swh_model.specs.declared.event.Event.{Event}
-use Rattle.swh_segment.specs.Stands.{StandsFor}
+use Rattle.swh_format.specs.Stands.{StandsFor}
 use Rattle.swh_model.specs.Step.{IsHistory}
 use Rattle.swh_plan.specs.declared.replayed.Replayed.{Replayed}
 use Rattle.swh_plan.specs.Planned.{IsReplayOf, IsInFiles}
 use Rattle.swh_keeper.specs.Keeping.{AreSettledFor, IsKeeping}
-use Rattle.swh_segment.proofs.HistoryFiles.{runs-written}
-use Rattle.swh_segment.proofs.Lengths.{runs-length, ledger-length}
+use Rattle.swh_format.proofs.HistoryFiles.{runs-written}
+use Rattle.swh_format.proofs.Lengths.{runs-length, ledger-length}
 
 -- files that stand for a history are settled for it once nothing was written since a barrier
 pub settled_from_standing : (ledger store : File) (r : Replayed) (h : List Event) → IsAtRest ledger → IsAtRest store → StandsFor ledger.seen store.seen h → IsReplayOf r h → AreSettledFor ledger store h r.store_end r.ledger_end

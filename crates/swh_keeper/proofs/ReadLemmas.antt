@@ -19,25 +19,25 @@ use Rattle.swh_base.specs.Limits.{body_limit, run_limit}
 use Rattle.swh_model.specs.declared.event.Event.{Event}
 use Rattle.swh_model.specs.declared.event.EventKind.{EventKind}
 use Rattle.swh_model.specs.declared.event.EventKind.TheVariants.{Batch, Open, Mark}
-use Rattle.swh_segment.specs.declared.batch_record.BatchParts.{BatchParts}
-use Rattle.swh_segment.specs.declared.told.Told.{Told}
-use Rattle.swh_segment.specs.declared.told.Told.TheVariants as told_of
-use Rattle.swh_segment.specs.declared.ledger.Record.{Record}
-use Rattle.swh_segment.specs.declared.ledger.Next.{Next}
+use Rattle.swh_format.specs.declared.batch_record.BatchParts.{BatchParts}
+use Rattle.swh_format.specs.declared.told.Told.{Told}
+use Rattle.swh_format.specs.declared.told.Told.TheVariants as told_of
+use Rattle.swh_format.specs.declared.ledger.Record.{Record}
+use Rattle.swh_format.specs.declared.ledger.Next.{Next}
 use Rattle.swh_model.specs.Archive.{Archive, empty_archive}
-use Rattle.swh_segment.specs.Record.{magic}
-use Rattle.swh_segment.specs.StoredObject.{coded_entry, coded_run, IsCodableEntry, IsRunOf}
-use Rattle.swh_segment.specs.EventRecord.{packed_objects, coded_record, IsCodableKind, AreCodable}
-use Rattle.swh_segment.specs.Stands.{coded_records, coded_runs, StandsFor}
-use Rattle.swh_segment.specs.Tells.{HasNoRun, IsFit, Tells}
-use Rattle.swh_segment.specs.LedgerReading.{IsGateOpen, HasBrokenRecord, IsNextRecord}
+use Rattle.swh_format.specs.Record.{magic}
+use Rattle.swh_format.specs.StoredObject.{coded_entry, coded_run, IsCodableEntry, IsRunOf}
+use Rattle.swh_format.specs.EventRecord.{packed_objects, coded_record, IsCodableKind, AreCodable}
+use Rattle.swh_format.specs.Stands.{coded_records, coded_runs, StandsFor}
+use Rattle.swh_format.specs.Tells.{HasNoRun, IsFit, Tells}
+use Rattle.swh_format.specs.LedgerReading.{IsGateOpen, HasBrokenRecord, IsNextRecord}
 use Rattle.swh_model.specs.Limits.{bytes_before_last, IsWithinLimits, store_length, ledger_length}
-use Rattle.swh_segment.proofs.StandsFrom.{StandsFrom, behind_magic, with_magic}
+use Rattle.swh_format.proofs.StandsFrom.{StandsFrom, behind_magic, with_magic}
 use Rattle.swh_model.specs.Alike.{without_children, bare_kind}
 use Rattle.swh_model.specs.Step.{May_kind, May, MayAll, IsHistory, after, after_all, replay}
-use Rattle.swh_segment.proofs.RecordReading.{record_of_told, record_only}
+use Rattle.swh_format.proofs.RecordReading.{record_of_told, record_only}
 use Rattle.swh_model.proofs.OneHistory.{one_history}
-use Rattle.swh_segment.proofs.Unique.{alike, cut, same_head, same_tail, same_run, same_event}
+use Rattle.swh_format.proofs.Unique.{alike, cut, same_head, same_tail, same_run, same_event}
 use Rattle.swh_keeper.specs.declared.checking.Checked.{Checked}
 use Rattle.swh_keeper.specs.declared.reading.KindRead.{KindRead}
 use Rattle.swh_keeper.specs.declared.opening.OpenWhy.{OpenWhy}
@@ -46,10 +46,10 @@ use Rattle.swh_keeper.specs.Checked.{archive_of, MayNotHappen}
 use Rattle.swh_keeper.specs.Opening.{make_why, IsLeftOfMaking, IsLeftFor}
 use Rattle.swh_keeper.specs.Reading.{MayBeRun, HoldsAt, HoldsNoRun, IsKindRead, IsLonger, TakesRecord, NoneMayHappen, IsReadSoFar, IsNoArchive, HasRuns, IsAtEnd}
 use Rattle.swh_keeper.proofs.CheckLemmas.{one_event}
-use Rattle.swh_segment.proofs.HistoryFiles.{codable-at}
-use Rattle.swh_segment.proofs.Lengths.{stored-length, store_length-push, records-length, runs-length}
+use Rattle.swh_format.proofs.HistoryFiles.{codable-at}
+use Rattle.swh_format.proofs.Lengths.{stored-length, store_length-push, records-length, runs-length}
 use Rattle.swh_keeper.proofs.KeptLemmas.{replay-push, history-push}
-use Rattle.swh_segment.proofs.BareEvents.{bare-run_of, length-map, kind_from_bare, kind_to_bare}
+use Rattle.swh_format.proofs.BareEvents.{bare-run_of, length-map, kind_from_bare, kind_to_bare}
 
 -- A barrier was made on each file.
 module _ (ledger store ledger_now store_now : File) (settled : files_of ledger_now store_now ≡ files_done barriers (files_of ledger store)) where

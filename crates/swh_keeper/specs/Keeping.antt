@@ -4,13 +4,14 @@ use Rattle.swh_outside.specs.Disk.{File}
 use Rattle.swh_outside.specs.Files.{Files, FileCall, Images, FilesBreaks, files_of, files_done}
 use Rattle.swh_model.specs.declared.event.Outcome.{Outcome}
 use Rattle.swh_model.specs.Judge.{IsVerdict}
-use Rattle.swh_segment.specs.Events as segment
+use Rattle.swh_segment.specs.Settled.{AreSettled}
+use Rattle.swh_segment.specs.Calls.{event_calls}
 use Rattle.swh_base.specs.declared.kind.Kind.{Kind}
 use Rattle.swh_model.specs.declared.event.Event.{Event}
 use Rattle.swh_model.specs.declared.event.Wish.{Wish}
-use Rattle.swh_segment.specs.EventRecord.{coded_record, packed_objects, run_written, IsCodable, AreCodable}
+use Rattle.swh_format.specs.EventRecord.{coded_record, packed_objects, run_written, IsCodable, AreCodable}
 use Rattle.swh_model.specs.Limits.{store_length, records_length}
-use Rattle.swh_segment.specs.Stands.{StandsFor, all_written}
+use Rattle.swh_format.specs.Stands.{StandsFor, all_written}
 use Rattle.swh_model.specs.Step.{IsHistory}
 use Rattle.swh_plan.specs.declared.replayed.Replayed.{Replayed}
 use Rattle.swh_plan.specs.Planned.{IsReplayOf, IsInFiles}
@@ -18,7 +19,7 @@ use Rattle.swh_keeper.specs.Kept.{MayHoldOneMore}
 
 -- The files are settled for the history, and its events fit their fields.
 pub record AreSettledFor (ledger store : File) (h : List Event) (store_end ledger_end : ℕ) : Type 0 where
-  pub settled : segment.AreSettled (files_of ledger store) (all_written 0 h) store_end ledger_end
+  pub settled : AreSettled (files_of ledger store) (all_written 0 h) store_end ledger_end
   pub codable : AreCodable 0 h
 
 -- what holds of the fields of a keeper
@@ -47,7 +48,7 @@ pub record FilesHaveRoom (r : Replayed) (run bytes : List ℕ) : Type 0 where
 
 -- The device calls that add an event after a history.
 abbrev pub calls_for : List Event → Event → List FileCall
-calls_for h e = segment.event_calls (store_length h) (run_written e.what) (8 + records_length h) (coded_record (store_length h) e ++ 0 ∷ [])
+calls_for h e = event_calls (store_length h) (run_written e.what) (8 + records_length h) (coded_record (store_length h) e ++ 0 ∷ [])
 
 -- The event after the history is the newest, and its calls were made.
 pub record IsCarriedOut (h h' : List Event) (old new : Files) : Type 0 where

@@ -10,7 +10,7 @@ use Rattle.swh_model.specs.declared.event.Wish.{Wish}
 use Rattle.swh_model.specs.declared.event.Outcome.{Outcome}
 use Rattle.swh_model.specs.declared.event.No.{No}
 use Rattle.swh_model.specs.declared.event.No.TheVariants.{Limit, NoVisit, NotYours, Ended, NoSnapshot, NotClosed, Collision}
-use Rattle.swh_segment.specs.Stands.{StandsFor}
+use Rattle.swh_format.specs.Stands.{StandsFor}
 use Rattle.swh_model.specs.Step.{May, IsHistory, replay}
 use Rattle.swh_model.specs.Judge.{IsVerdict}
 use Rattle.swh_keeper.specs.declared.fault.Refusal.{Refusal}

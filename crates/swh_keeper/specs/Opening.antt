@@ -8,7 +8,7 @@ use Rattle.swh_segment.specs.declared.reading.ReadFileFault.{ReadFileFault}
 use Rattle.swh_segment.specs.declared.reading.ReadFileFault.TheVariants as read
 use Rattle.swh_base.specs.declared.kind.Kind.{Kind}
 use Rattle.swh_model.specs.declared.event.Event.{Event}
-use Rattle.swh_segment.specs.Stands.{StandsFor}
+use Rattle.swh_format.specs.Stands.{StandsFor}
 use Rattle.swh_model.specs.Step.{IsHistory}
 use Rattle.swh_keeper.specs.declared.opening.OpenWhy.{OpenWhy}
 use Rattle.swh_keeper.specs.declared.opening.OpenWhy.TheVariants.{Made, Damaged, DiskFault, Memory}

@@ -6,15 +6,15 @@ use Rattle.swh_base.specs.declared.entry.Entry.{Entry}
 use Rattle.swh_model.specs.declared.event.Event.{Event}
 use Rattle.swh_model.specs.declared.event.EventKind.{EventKind}
 use Rattle.swh_model.specs.declared.event.EventKind.TheVariants.{Batch, Open, Mark}
-use Rattle.swh_segment.specs.declared.batch_record.BatchParts.{BatchParts}
-use Rattle.swh_segment.specs.declared.told.Told.{Told}
+use Rattle.swh_format.specs.declared.batch_record.BatchParts.{BatchParts}
+use Rattle.swh_format.specs.declared.told.Told.{Told}
 use Rattle.swh_model.specs.Certificate.{AreClosed}
-use Rattle.swh_segment.specs.Record.{magic}
-use Rattle.swh_segment.specs.StoredObject.{coded_run, IsCodableEntry}
-use Rattle.swh_segment.specs.EventRecord.{packed_objects, IsCodableKind, AreCodable}
-use Rattle.swh_segment.specs.Stands.{coded_records, coded_runs, StandsFor}
-use Rattle.swh_segment.specs.LedgerReading.{IsGateClosed}
-use Rattle.swh_segment.specs.Tells.{Tells}
+use Rattle.swh_format.specs.Record.{magic}
+use Rattle.swh_format.specs.StoredObject.{coded_run, IsCodableEntry}
+use Rattle.swh_format.specs.EventRecord.{packed_objects, IsCodableKind, AreCodable}
+use Rattle.swh_format.specs.Stands.{coded_records, coded_runs, StandsFor}
+use Rattle.swh_format.specs.LedgerReading.{IsGateClosed}
+use Rattle.swh_format.specs.Tells.{Tells}
 use Rattle.swh_model.specs.Limits.{IsWithinLimits}
 use Rattle.swh_base.specs.Limits.{objects_limit, run_limit}
 use Rattle.swh_model.specs.Step.{May_kind, IsHistory, after_kind}

@@ -1,7 +1,7 @@
 //! A planned event: carried out in memory, then on both disks.
 ghost use Rattle.std.specs.Prelude.{◌≡◌, ◌++◌, ◌∷◌, [], OnOk, OnErr, IfOk, IsErrOf};
 ghost use Rattle.swh_outside.specs.Files.{EachImages, FilesBreaks, files_of, files_done};
-ghost use Rattle.swh_segment.specs.Events.{event_calls};
+ghost use Rattle.swh_segment.specs.Calls.{event_calls};
 ghost use Rattle.swh_segment.specs.Makes.{ADiskFailed};
 ghost use Rattle.swh_model.specs.declared.event.Event.{Event};
 ghost use Rattle.swh_keeper.specs.Advance.{MayAdvance};
@@ -9,7 +9,7 @@ ghost use Rattle.swh_plan.specs.Planned.{IsReplayOf};
 ghost use Rattle.swh_keeper.specs.Adding.{IsAdded, IsNotAdded};
 ghost use Rattle.swh_keeper.specs.Counts.{AreLater, AreQuiet};
 ghost use Rattle.swh_keeper.specs.Keeping.{AreSettledFor, IsToAdd, WithOrWithout, FilesHaveRoom};
-ghost use Rattle.swh_segment.specs.EventRecord.{run_written};
+ghost use Rattle.swh_format.specs.EventRecord.{run_written};
 ghost use Rattle.swh_keeper.specs.declared.adding.AddFault.TheVariants.{Disk as DiskFailed, Memory as OutOfMemory};
 
 use crate::advance::advance;

@@ -58,7 +58,7 @@ impl<N: Namer, D: Disk> Keeper<N, D> {
     ghost use Rattle.swh_keeper.specs.declared.fault.Refusal.TheVariants.{DiskFault};
     ghost use Rattle.swh_outside.specs.Files.{files_of, files_done};
     ghost use Rattle.swh_segment.specs.Making.{IsMade, IsNotMade, barriers, making_calls};
-    ghost use Rattle.swh_segment.specs.Stands.{StandsFor};
+    ghost use Rattle.swh_format.specs.Stands.{StandsFor};
     ghost use Rattle.swh_keeper.specs.Opening.{
       IsMakeFault,
       IsOpeningFault,

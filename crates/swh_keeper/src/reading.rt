@@ -23,10 +23,10 @@ ghost use Rattle.swh_outside.specs.Faults.{Rose};
 ghost use Rattle.swh_segment.specs.Makes.{ADiskFailed};
 ghost use Rattle.swh_segment.specs.Making.{IsMade, IsNotMade, barriers};
 ghost use Rattle.swh_model.specs.Certificate.{AreClosed};
-ghost use Rattle.swh_segment.specs.StoredObject.{coded_run};
-ghost use Rattle.swh_segment.specs.EventRecord.{packed_objects};
-ghost use Rattle.swh_segment.specs.Tells.{IsFit};
-ghost use Rattle.swh_segment.specs.Stands.{StandsFor};
+ghost use Rattle.swh_format.specs.StoredObject.{coded_run};
+ghost use Rattle.swh_format.specs.EventRecord.{packed_objects};
+ghost use Rattle.swh_format.specs.Tells.{IsFit};
+ghost use Rattle.swh_format.specs.Stands.{StandsFor};
 ghost use Rattle.swh_keeper.specs.Checked.{archive_of, MayNotHappen};
 ghost use Rattle.swh_keeper.specs.Counts.{AreLater, AreQuiet};
 ghost use Rattle.swh_keeper.specs.Reading.{
@@ -59,13 +59,12 @@ use crate::checking::{Checked, check_kind};
 use crate::opening::OpenWhy;
 use std::alloc::Global;
 use swh_base::{Entry, FILE_LIMIT, Items, Memory, Namer, OBJECTS_LIMIT, RUN_LIMIT};
+use swh_format::{BatchParts, Next, Record, Told, next_record, read_run, split_magic};
 use swh_held::{HeldBodies, Listing, OriginVisits};
 use swh_model::{Event, EventKind};
 use swh_outside::Disk;
 use swh_plan::Replayed;
-use swh_segment::{
-    BatchParts, Next, Record, Told, fill, next_record, read_file, read_run, settle, split_magic,
-};
+use swh_segment::{fill, read_file, settle};
 
 /// What happened, without the children of its entries, and the place in the store after its run.
 #[derive(Drop)]

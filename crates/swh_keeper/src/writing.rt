@@ -1,10 +1,10 @@
 //! An event on both disks.
 ghost use Rattle.std.specs.Prelude.{◌≡◌, ◌+◌, ◌≤◌, ◌<◌, ◌^◌, ◌++◌, ◌∷◌, [], length, OnOk, OnErr};
 ghost use Rattle.swh_outside.specs.Files.{EachImages, FilesRuns, files_of};
-ghost use Rattle.swh_segment.specs.Events.{event_calls};
+ghost use Rattle.swh_segment.specs.Calls.{event_calls};
 ghost use Rattle.swh_segment.specs.Makes.{ADiskFailed};
 ghost use Rattle.swh_segment.specs.Runs as runs;
-ghost use Rattle.swh_segment.specs.EventRecord.{packed_objects, run_written};
+ghost use Rattle.swh_format.specs.EventRecord.{packed_objects, run_written};
 ghost use Rattle.swh_model.specs.declared.event.Event.{Event};
 ghost use Rattle.swh_keeper.specs.Keeping.{AreSettledFor, IsToAdd, WithOrWithout};
 

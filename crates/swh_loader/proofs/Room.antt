@@ -15,8 +15,8 @@ use Rattle.swh_model.specs.declared.event.Event.{Event}
 use Rattle.swh_model.specs.declared.event.EventKind.{EventKind}
 use Rattle.swh_model.specs.declared.event.EventKind.TheVariants.{Batch, Open, Mark}
 use Rattle.swh_model.specs.Archive.{Archive, Bodies, body_of, empty_archive}
-use Rattle.swh_segment.specs.EventRecord.{packed_objects, IsCodableKind, AreCodable}
-use Rattle.swh_segment.specs.StoredObject.{IsCodableEntry}
+use Rattle.swh_format.specs.EventRecord.{packed_objects, IsCodableKind, AreCodable}
+use Rattle.swh_format.specs.StoredObject.{IsCodableEntry}
 use Rattle.swh_model.specs.Judge.{FilePasses}
 use Rattle.swh_model.specs.Limits.{stored_length, store_length, snapshot_length, payload_length, records_length, ledger_length}
 use Rattle.swh_base.specs.Limits.{file_limit}

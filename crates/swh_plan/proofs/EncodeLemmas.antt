@@ -1,8 +1,8 @@
 -- How long what is written for an event is.
 use Rattle.std.proofs.Common.{◌≡◌, ℕ, List, [], ◌∷◌, ◌++◌, length, ap, ◌∙◌}
 use Rattle.swh_model.specs.declared.event.Event.{Event}
-use Rattle.swh_segment.specs.EventRecord.{coded_record, packed_objects}
-use Rattle.swh_segment.proofs.Lengths.{stored-length, record-length}
+use Rattle.swh_format.specs.EventRecord.{coded_record, packed_objects}
+use Rattle.swh_format.proofs.Lengths.{stored-length, record-length}
 use Rattle.swh_plan.specs.Judged.{AreLengths}
 use Rattle.swh_plan.specs.Planned.{IsReplayOf}
 use Rattle.swh_plan.specs.declared.replayed.Replayed.{Replayed}

@@ -5,7 +5,7 @@ use Rattle.swh_model.specs.declared.event.Event.{Event}
 use Rattle.swh_model.specs.declared.event.EventKind.{EventKind}
 use Rattle.swh_model.specs.declared.event.Wish.{Wish}
 use Rattle.swh_model.specs.declared.event.Wish.TheVariants.{Batch, Open, Mark}
-use Rattle.swh_segment.specs.EventRecord.{packed_objects, coded_record, IsCodable}
+use Rattle.swh_format.specs.EventRecord.{packed_objects, coded_record, IsCodable}
 use Rattle.swh_model.specs.Limits.{store_length, ledger_length}
 use Rattle.swh_model.specs.Step.{HasItsChildren, replay}
 use Rattle.std.specs.Global.{Vec}

@@ -4,7 +4,7 @@ ghost use Rattle.std.specs.List.{AllByRecursion};
 ghost use Rattle.swh_model.specs.declared.event.Event.{Event};
 ghost use Rattle.swh_model.specs.declared.event.Wish.TheVariants.{Batch, Open, Mark};
 ghost use Rattle.swh_model.specs.Archive.{visits_of};
-ghost use Rattle.swh_segment.specs.EventRecord.{packed_objects, IsCodable};
+ghost use Rattle.swh_format.specs.EventRecord.{packed_objects, IsCodable};
 ghost use Rattle.swh_model.specs.Step.{HasItsChildren};
 ghost use Rattle.swh_model.specs.Judge.{StatusAllows, FilePasses};
 ghost use Rattle.swh_plan.specs.Judged.{NonePasses, IsVisitRefusal, MayBeMarked};
@@ -24,11 +24,11 @@ use crate::planning::{PlanFault, Planned};
 use crate::replayed::Replayed;
 use std::alloc::Global;
 use swh_base::{Entry, Items, Status, Url, VisitKind};
-use swh_held::{Listing, OriginVisits};
-use swh_model::{Event, EventKind, No, Outcome, Wish};
-use swh_segment::{
+use swh_format::{
     entries_are_codable, origin_is_codable, record_of_event, run_of_entries, snapshot_is_codable,
 };
+use swh_held::{Listing, OriginVisits};
+use swh_model::{Event, EventKind, No, Outcome, Wish};
 
 fn number_of_visits(visits: &OriginVisits, origin: &Url) -> u64
     ensures value { result ≡ length (visits_of visits.now origin.now) }

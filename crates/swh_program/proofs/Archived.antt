@@ -3,10 +3,10 @@ use Rattle.std.proofs.Common.{◌≡◌, ◌≢◌, ◌⊎◌, inl, inr, ⊎_eli
 use Rattle.swh_base.specs.declared.kind.Kind.{Kind}
 use Rattle.swh_outside.specs.Files.{Files}
 use Rattle.swh_model.specs.declared.event.Event.{Event}
-use Rattle.swh_segment.specs.Stands.{coded_records}
+use Rattle.swh_format.specs.Stands.{coded_records}
 use Rattle.swh_model.proofs.OneHistory.{one_history}
-use Rattle.swh_segment.proofs.Unique.{alike}
-use Rattle.swh_segment.proofs.StandsFrom.{behind_magic}
+use Rattle.swh_format.proofs.Unique.{alike}
+use Rattle.swh_format.proofs.StandsFrom.{behind_magic}
 use Rattle.swh_segment.specs.Making.{IsMade, IsNotMade}
 use Rattle.swh_program.specs.Opening.{IsArchive, IsDamagedArchive, IsUnusable, IsOpenRefusal, OpenEnds}
 use Rattle.swh_program.specs.declared.answer.Answer.{Answer}

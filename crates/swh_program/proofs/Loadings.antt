@@ -10,7 +10,7 @@ use Rattle.swh_jobs.specs.Job.{Job, IsJob}
 use Rattle.swh_jobs.specs.JobFile.{AreDistinct, origins}
 use Rattle.swh_model.specs.declared.event.Event.{Event}
 use Rattle.swh_model.specs.Archive.{empty_archive}
-use Rattle.swh_segment.specs.EventRecord.{AreCodable}
+use Rattle.swh_format.specs.EventRecord.{AreCodable}
 use Rattle.swh_model.specs.Meaning.{Made as MadeObject, StreamMeaning}
 use Rattle.swh_model.specs.Step.{IsHistory, replay}
 use Rattle.swh_base.specs.Visit.{Statuses}

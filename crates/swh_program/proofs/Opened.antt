@@ -4,7 +4,7 @@ use Rattle.swh_base.specs.declared.kind.Kind.{Kind}
 use Rattle.swh_outside.specs.Disk.{File}
 use Rattle.swh_outside.specs.Files.{Files, FilesBreaks, files_of, files_done}
 use Rattle.swh_model.specs.declared.event.Event.{Event}
-use Rattle.swh_segment.specs.Stands.{StandsFor}
+use Rattle.swh_format.specs.Stands.{StandsFor}
 use Rattle.swh_model.specs.Step.{IsHistory}
 use Rattle.swh_segment.specs.Making.{IsMade, IsNotMade, barriers}
 use Rattle.swh_keeper.specs.Opening.{IsOpeningFault, IsLeftFor, IsTheHistory, IsDamaged as IsDamagedIn}

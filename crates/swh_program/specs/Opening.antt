@@ -3,7 +3,7 @@ use Rattle.std.specs.Prelude.{◌≡◌, ◌⊎◌, ℕ, List}
 use Rattle.swh_base.specs.declared.kind.Kind.{Kind}
 use Rattle.swh_outside.specs.Files.{Files, FilesBreaks, files_done}
 use Rattle.swh_model.specs.declared.event.Event.{Event}
-use Rattle.swh_segment.specs.Stands.{StandsFor}
+use Rattle.swh_format.specs.Stands.{StandsFor}
 use Rattle.swh_model.specs.Step.{IsHistory}
 use Rattle.swh_segment.specs.Making.{IsMade, IsNotMade, barriers}
 use Rattle.swh_keeper.specs.declared.opening.OpenWhy.{OpenWhy}

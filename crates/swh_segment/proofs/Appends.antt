@@ -3,8 +3,10 @@ use Rattle.std.proofs.Common.{◌≡◌, inl, inr, ℕ, zero, suc, ◌+◌, ◌�
 use Rattle.std.proofs.lemmas.List.{take_at, drop_at}
 use Rattle.swh_outside.specs.Disk.{File, EachImage, EachMoment, IsAtRest, Write, Sync, done, all_done, patched}
 use Rattle.swh_outside.proofs.Images.{at_rest_image, at_rest_done, front_stays, one_byte}
-use Rattle.swh_segment.specs.Record.{Record, body, front, with_or_without, append_calls, IsSettled, IsReady}
-use Rattle.swh_segment.proofs.Gates.{front-push, closed_gate, opened_gate, any_gate}
+use Rattle.swh_format.specs.Record.{Record, body, front, with_or_without, IsReady}
+use Rattle.swh_segment.specs.Calls.{append_calls}
+use Rattle.swh_segment.specs.Settled.{IsSettled}
+use Rattle.swh_format.proofs.Gates.{front-push, closed_gate, opened_gate, any_gate}
 
 pub in_file : (file : File) (rs : List Record) (end : ℕ) → IsSettled file rs end → end + 1 ≤ length file.seen
 in_file file rs end settled = omega (arith, settled.end_is, ap length settled.stands.split, length-append (front rs) (settled.stands.gate ∷ settled.stands.rest))

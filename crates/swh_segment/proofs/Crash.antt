@@ -6,7 +6,9 @@ use Rattle.swh_outside.specs.Disk.{File, EachImage, EachMoment, IsAtRest, Call, 
 use Rattle.swh_outside.specs.Files.{Files, EachImages, EachFilesMoment, on, with_file, files_done}
 use Rattle.swh_outside.proofs.Images.{at_rest_image, at_rest_done, front_stays, one_byte}
 use Rattle.swh_outside.proofs.Numbered.{files_done-append, files_done-on, files_moments_then, moments_on}
-use Rattle.swh_segment.specs.Record.{Stands, IsSettled, write_calls}
+use Rattle.swh_format.specs.Record.{Stands}
+use Rattle.swh_segment.specs.Settled.{IsSettled}
+use Rattle.swh_segment.specs.Calls.{write_calls}
 use Rattle.swh_segment.specs.Making.{IsNotMade, needs_clearing, magic_end, magic_calls, barriers, making_calls, IsNotMadeOrEmpty, IsEmptyArchive, IsCrashSafe}
 
 abbrev P : List ℕ → Type 0

@@ -5,8 +5,12 @@ use Rattle.swh_outside.specs.Disk.{File, IsImage, IsAtRest, Call, Write, Sync, d
 use Rattle.swh_outside.specs.Files.{Files, Images, EachFilesMoment, on, files_done}
 use Rattle.swh_outside.proofs.Images.{at_rest_image, at_rest_done, front_stays}
 use Rattle.swh_outside.proofs.Numbered.{files_done-on, files_done-append, with_file_here, with_file_other, files_moments_then, moments_on}
-use Rattle.swh_segment.specs.Record.{Record, Stands, IsReady, IsSettled, append_calls}
-use Rattle.swh_segment.specs.Events.{Append, run_bytes, records, runs, FilesStand, with_or_without_event, AreSettled, run_calls, event_calls, IsWritten}
+use Rattle.swh_format.specs.Record.{Record, Stands, IsReady}
+use Rattle.swh_segment.specs.Settled.{IsSettled}
+use Rattle.swh_segment.specs.Calls.{append_calls}
+use Rattle.swh_format.specs.Events.{Append, run_bytes, records, runs, FilesStand, IsWritten}
+use Rattle.swh_segment.specs.Settled.{with_or_without_event, AreSettled}
+use Rattle.swh_segment.specs.Calls.{run_calls, event_calls}
 use Rattle.swh_segment.proofs.Appends.{each_moment, appended}
 
 pub records-push : (h : List Append) (e : Append) → records (h ++ e ∷ []) ≡ records h ++ e.entry ∷ []

@@ -2,7 +2,9 @@
 use Rattle.std.specs.Prelude.{◌≡◌, ◌≢◌, ◌⊎◌, ◌<◌, ◌≤◌, ◌==◌, ℕ, Bool, true, false, List, [], ◌∷◌, ◌++◌, length, get_or}
 use Rattle.swh_outside.specs.Disk.{Call, Sync, IsAtRest}
 use Rattle.swh_outside.specs.Files.{Files, FileCall, Images, EachFilesMoment, on}
-use Rattle.swh_segment.specs.Record.{Stands, IsSettled, write_calls}
+use Rattle.swh_format.specs.Record.{Stands}
+use Rattle.swh_segment.specs.Settled.{IsSettled}
+use Rattle.swh_segment.specs.Calls.{write_calls}
 
 -- a ledger is made where it has 9 bytes or more, and the first is an S
 abbrev pub IsMade : List ℕ → Type 0

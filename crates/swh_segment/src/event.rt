@@ -4,16 +4,9 @@ ghost use Rattle.swh_outside.specs.Disk.{Runs};
 ghost use Rattle.swh_outside.specs.Files.{FilesRuns, EachImages, files_of};
 ghost use Rattle.swh_outside.specs.Faults.{HasCause};
 ghost use Rattle.swh_segment.specs.Makes.{ADiskFailed};
-ghost use Rattle.swh_segment.specs.Record.{append_calls};
-ghost use Rattle.swh_segment.specs.Events.{
-  Append,
-  AreSettled,
-  IsWritten,
-  run_bytes,
-  run_calls,
-  event_calls,
-  with_or_without_event,
-};
+ghost use Rattle.swh_format.specs.Events.{Append, IsWritten, run_bytes};
+ghost use Rattle.swh_segment.specs.Settled.{AreSettled, with_or_without_event};
+ghost use Rattle.swh_segment.specs.Calls.{append_calls, run_calls, event_calls};
 ghost use Rattle.swh_segment.specs.Runs.{run_of};
 
 use crate::writing::write_synced;

@@ -6,7 +6,7 @@ ghost use Rattle.swh_outside.specs.Faults.{HasCause};
 ghost use Rattle.swh_segment.specs.Makes.{ADiskFailed};
 ghost use Rattle.swh_segment.specs.Making.{barriers};
 ghost use Rattle.swh_segment.specs.Settled.{AreAtRest, seen_of};
-ghost use Rattle.swh_segment.specs.Record.{write_calls};
+ghost use Rattle.swh_segment.specs.Calls.{write_calls};
 
 use swh_outside::{Disk, Failed};
 

@@ -2,10 +2,10 @@
 use std::alloc::Global;
 use std::test::Fail;
 use swh_base::{Entry, Items, Kind, Memory, Name, Shared, Url, VisitKind};
-use swh_model::{Event, EventKind};
-use swh_segment::{
+use swh_format::{
     Next, Record, Told, next_record, read_run, record_of_event, run_of_entries, split_magic,
 };
+use swh_model::{Event, EventKind};
 
 // The content `hi` with an id of twenty sevens, and one byte after it.
 const STORE: [u8; 32] = [

@@ -1,6 +1,6 @@
 use Rattle.std.proofs.Common.{rules, ◌+◌, length, ap, ◌∙◌, arith}
 use Rattle.swh_keeper.proofs.KeptLemmas.{replay_of-push}
-use Rattle.swh_segment.proofs.Lengths.{stored-length, record-length}
+use Rattle.swh_format.proofs.Lengths.{stored-length, record-length}
 use Rattle.swh_keeper.proofs.adding.add_event.Goals as goal
 
 pub returns-clause-added : goal.returns-clause-added

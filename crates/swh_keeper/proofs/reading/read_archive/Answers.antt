@@ -2,7 +2,7 @@ use Rattle.std.proofs.Common.{◌∙◌, ap, subst, List, ℕ}
 use Rattle.swh_outside.specs.Disk.{File}
 use Rattle.swh_outside.specs.Files.{files_of}
 use Rattle.swh_segment.specs.Making.{IsMade, IsNotMade}
-use Rattle.swh_segment.specs.Stands.{StandsFor}
+use Rattle.swh_format.specs.Stands.{StandsFor}
 use Rattle.swh_keeper.specs.Opening.{IsDamaged}
 use Rattle.swh_keeper.specs.declared.checking.Checked.{Checked}
 use Rattle.swh_held.proofs.Results.{if_err_all, if_ok_then, on_ok}

@@ -1,8 +1,10 @@
 use Rattle.std.proofs.Common.{◌≡◌, ℕ, ◌+◌, ◌++◌, ◌∷◌, [], length, Option, List, sym, ap, ◌∙◌, subst}
 use Rattle.swh_outside.specs.Files.{FilesRuns, files_of}
 use Rattle.swh_segment.specs.Runs as runs
-use Rattle.swh_segment.specs.Events as segment
-use Rattle.swh_segment.specs.Stands.{written, all_written}
+use Rattle.swh_format.specs.Events as format
+use Rattle.swh_segment.specs.Settled.{AreSettled}
+use Rattle.swh_segment.specs.Calls.{event_calls}
+use Rattle.swh_format.specs.Stands.{written, all_written}
 use Rattle.swh_held.proofs.Results.{on_ok, on_err}
 use Rattle.swh_keeper.proofs.KeptLemmas.{ready, settled-push, images_left}
 use Rattle.swh_keeper.proofs.writing.write_event.Goals as goal
@@ -13,13 +15,13 @@ returns-clause-ok g c told =
     let h = c.args.history.now.items in
     let e = c.args.event.now in
     let s = c.requires.settled told in
-    let run_long : length (segment.run_bytes (runs.run_of c.run_for-run.result)) ≡ length c.args.run.now =
-    ap (λ (o : Option (List ℕ)). length (segment.run_bytes o)) c.run_for-run.ensures ∙ ap length (sym c.requires.to_add.run_is) in
+    let run_long : length (format.run_bytes (runs.run_of c.run_for-run.result)) ≡ length c.args.run.now =
+    ap (λ (o : Option (List ℕ)). length (format.run_bytes o)) c.run_for-run.ensures ∙ ap length (sym c.requires.to_add.run_is) in
     on_ok c.append_event.result
     (c.append_event.ensures.appended told (all_written 0 h) (written r.store_end e) s.settled (record { run_is = c.run_for-run.ensures; entry = ready r h e c.args.run.now c.args.bytes.now c.requires.to_add }))
     (λ done. settled-push r h e c.args.run.now c.args.bytes.now (g.D.Disk.file c.append_event.new.ledger) (g.D.Disk.file c.append_event.new.store) (r.store_end + length c.args.run.now) (r.ledger_end + length c.args.bytes.now)
     c.requires.to_add s.codable
-    (subst (λ (n : ℕ). segment.AreSettled (files_of (g.D.Disk.file c.append_event.new.ledger) (g.D.Disk.file c.append_event.new.store)) (all_written 0 h ++ written r.store_end e ∷ []) (r.store_end + n) (r.ledger_end + length c.args.bytes.now)) run_long done))
+    (subst (λ (n : ℕ). AreSettled (files_of (g.D.Disk.file c.append_event.new.ledger) (g.D.Disk.file c.append_event.new.store)) (all_written 0 h ++ written r.store_end e ∷ []) (r.store_end + n) (r.ledger_end + length c.args.bytes.now)) run_long done))
 
 pub returns-clause-left : goal.returns-clause-left
 returns-clause-left g c told =
@@ -33,6 +35,6 @@ returns-clause-left g c told =
 
 pub returns-clause-calls : goal.returns-clause-calls
 returns-clause-calls g c told =
-    subst (λ (o : Option (List ℕ)). FilesRuns (segment.event_calls c.args.replayed.now.store_end o c.args.replayed.now.ledger_end c.args.bytes.now)
+    subst (λ (o : Option (List ℕ)). FilesRuns (event_calls c.args.replayed.now.store_end o c.args.replayed.now.ledger_end c.args.bytes.now)
     (files_of (g.D.Disk.file c.args.ledger.now) (g.D.Disk.file c.args.store.now)) (files_of (g.D.Disk.file c.append_event.new.ledger) (g.D.Disk.file c.append_event.new.store)) c.append_event.result)
     c.run_for-run.ensures (c.append_event.ensures.runs told)

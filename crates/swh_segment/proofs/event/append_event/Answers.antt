@@ -3,8 +3,7 @@ use Rattle.swh_outside.specs.Disk.{File}
 use Rattle.swh_outside.specs.Files.{on, files_of}
 use Rattle.swh_outside.proofs.Plans.{on_err}
 use Rattle.swh_outside.proofs.Numbered.{files_stopped, files_stops, files_left_by, files_runs_then, store_breaks, store_done, ledger_runs}
-use Rattle.swh_segment.specs.Record.{append_calls}
-use Rattle.swh_segment.specs.Events.{run_calls}
+use Rattle.swh_segment.specs.Calls.{run_calls, append_calls}
 use Rattle.swh_segment.specs.Runs.{run_of}
 use Rattle.swh_segment.proofs.EventsCrash.{written_moments, written_settled}
 use Rattle.swh_segment.proofs.Outcomes.{ok_then, err_then}

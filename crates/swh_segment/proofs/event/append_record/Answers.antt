@@ -1,6 +1,6 @@
 use Rattle.std.proofs.Common.{◌+◌, ◌∷◌, []}
 use Rattle.swh_outside.proofs.Plans.{stopped, stops, runs_then}
-use Rattle.swh_segment.specs.Record.{write_calls}
+use Rattle.swh_segment.specs.Calls.{write_calls}
 use Rattle.swh_segment.proofs.event.append_record.Goals as goal
 
 pub returns-in_err-write_synced-clause-runs : goal.returns-in_err-write_synced-clause-runs

@@ -1,6 +1,6 @@
 use Rattle.std.proofs.Common.{◌++◌, ◌∷◌, []}
 use Rattle.swh_outside.proofs.Plans.{stopped, stops, goes_on, runs_then}
-use Rattle.swh_segment.specs.Record.{write_calls}
+use Rattle.swh_segment.specs.Calls.{write_calls}
 use Rattle.swh_segment.specs.Making.{clearing, magic_end}
 use Rattle.swh_segment.proofs.making.lay_magic.Goals as goal
 

@@ -1,5 +1,5 @@
 use Rattle.std.proofs.Common.{subst, sym, List, ℕ}
-use Rattle.swh_segment.specs.Stands.{StandsFor}
+use Rattle.swh_format.specs.Stands.{StandsFor}
 use Rattle.swh_keeper.proofs.OpenLemmas.{keeping_opened}
 use Rattle.swh_keeper.proofs.ReadLemmas.{ledger_seen, store_seen, ledger_rests, store_rests, the_one}
 use Rattle.swh_keeper.proofs.keeper.Keeper.open.Goals as goal

@@ -1,0 +1,12 @@
+pub mod BatchRecord
+pub mod EventRecord
+pub mod Events
+pub mod LedgerReading
+pub mod MarkRecord
+pub mod OpenRecord
+pub mod Origin
+pub mod Record
+pub mod Stands
+pub mod StoredObject
+pub mod Tells
+pub mod WorkedBytes

@@ -1,0 +1,138 @@
+//! The record of an event: how it is written, and what a record tells.
+ghost use Rattle.std.specs.Prelude.{◌≡◌, ◌+◌, ◌++◌, ◌∷◌, [], IfOk, IfSome, IfNone, OnOk, length};
+ghost use Rattle.swh_format.specs.Origin.{IsOrigin};
+ghost use Rattle.swh_format.specs.EventRecord.{
+  packed_objects,
+  event_byte,
+  event_payload,
+  payload_of,
+  coded_record,
+  IsCodableKind,
+  IsCodable,
+};
+ghost use Rattle.swh_format.specs.Tells.{TellsEvent, IsNotTold};
+
+use crate::batch_record::{BatchParts, push_batch, split_batch};
+use crate::frame::framed_record;
+use crate::mark_record::{push_mark, split_mark};
+use crate::open_record::{push_open, split_open};
+use crate::origin::read_origin;
+use std::alloc::Global;
+use swh_base::Memory;
+use swh_model::{Event, EventKind};
+
+/// What a record tells.
+#[derive(Drop)]
+pub enum Told {
+    /// Where the run of a batch stands in the store, and how many objects it has.
+    Batch(BatchParts),
+    /// All that happened: a visit was opened or marked.
+    Whole(EventKind),
+}
+
+fn record_byte(what: &EventKind) -> u8
+    ensures { result ≡ event_byte what.now }
+{
+    match what {
+        EventKind::Batch(_) => b'B',
+        EventKind::Open { .. } => b'O',
+        EventKind::Mark { .. } => b'T',
+    }
+}
+
+fn push_told(bytes: &mut Vec<u8>, at: u64, end: u64, what: &EventKind) -> Result<(), Memory>
+    requires run { end ≡ at + length (packed_objects what.now) }
+    requires number { IsCodableKind at what.now }
+    ensures { OnOk result (bytes.new.items ≡ bytes.old.items ++ event_payload at what.now) }
+{
+    match what {
+        EventKind::Batch(entries) => { push_batch(bytes, at, end, entries.as_slice().len() as u32) }
+        EventKind::Open { origin, kind, date } => push_open(bytes, origin, *kind, *date),
+        EventKind::Mark {
+            origin,
+            visit,
+            status,
+            snapshot,
+        } => push_mark(bytes, origin, *visit, *status, snapshot),
+    }
+}
+
+fn payload(alloc: Global, at: u64, end: u64, event: &Event) -> Result<Vec<u8>, Memory>
+    requires run { end ≡ at + length (packed_objects event.now.what) }
+    requires number { IsCodableKind at event.now.what }
+    ensures { IfOk result (λ bytes. bytes.items ≡ payload_of at event.now) }
+{
+    let mut bytes = Vec::new(alloc);
+    bytes.extend_from_slice(&event.by.to_be_bytes())?;
+    push_told(&mut bytes, at, end, &event.what)?;
+    Ok(bytes)
+}
+
+/// The record of an event with the next gate, which is closed. A batch's run begins at `at` and ends at `end`, in bytes
+/// from the store's beginning. `Memory` where there is none.
+pub fn record_of_event(alloc: Global, at: u64, end: u64, event: &Event) -> Result<Vec<u8>, Memory>
+    requires run { end ≡ at + length (packed_objects event.now.what) }
+    requires codable { IsCodable at event.now }
+    ensures { IfOk result (λ bytes. bytes.items ≡ coded_record at event.now ++ 0 ∷ []) }
+{
+    let payload = payload(alloc, at, end, event)?;
+    framed_record(alloc, record_byte(&event.what), &payload)
+}
+
+fn read_open(alloc: Global, payload: &[u8]) -> Result<Option<Told>, Memory>
+    ensures some { IfOk result (λ found. IfSome found (TellsEvent 79 payload.now)) }
+    ensures none { IfOk result (λ found. IfNone found (IsNotTold 79 payload.now)) }
+{
+    let Some(parts) = split_open(payload) else {
+        return Ok(None);
+    };
+    let Some(origin) = read_origin(alloc, parts.origin)? else {
+        return Ok(None);
+    };
+    Ok(Some(Told::Whole(EventKind::Open {
+        origin,
+        kind: parts.kind,
+        date: parts.date,
+    })))
+}
+
+fn read_mark(alloc: Global, payload: &[u8]) -> Result<Option<Told>, Memory>
+    ensures some { IfOk result (λ found. IfSome found (TellsEvent 84 payload.now)) }
+    ensures none { IfOk result (λ found. IfNone found (IsNotTold 84 payload.now)) }
+{
+    let Some(parts) = split_mark(payload) else {
+        return Ok(None);
+    };
+    let Some(origin) = read_origin(alloc, parts.origin)? else {
+        return Ok(None);
+    };
+    Ok(Some(Told::Whole(EventKind::Mark {
+        origin,
+        visit: parts.visit,
+        status: parts.status,
+        snapshot: parts.snapshot,
+    })))
+}
+
+fn read_batch(payload: &[u8]) -> Option<Told>
+    ensures some { IfSome result (TellsEvent 66 payload.now) }
+    ensures none { IfNone result (IsNotTold 66 payload.now) }
+{
+    match split_batch(payload) {
+        Some(parts) => Some(Told::Batch(parts)),
+        None => None,
+    }
+}
+
+/// What a record of this kind tells, by its payload after who wrote it.
+pub fn read_told(alloc: Global, kind: u8, payload: &[u8]) -> Result<Option<Told>, Memory>
+    ensures some { IfOk result (λ found. IfSome found (TellsEvent kind payload.now)) }
+    ensures none { IfOk result (λ found. IfNone found (IsNotTold kind payload.now)) }
+{
+    match kind {
+        b'B' => Ok(read_batch(payload)),
+        b'O' => read_open(alloc, payload),
+        b'T' => read_mark(alloc, payload),
+        _ => Ok(None),
+    }
+}

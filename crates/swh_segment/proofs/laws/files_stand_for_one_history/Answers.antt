@@ -1,5 +1,0 @@
-use Rattle.swh_segment.proofs.Unique.{alike}
-use Rattle.swh_segment.proofs.laws.files_stand_for_one_history.Goals as goal
-
-pub returns : goal.returns
-returns c = alike

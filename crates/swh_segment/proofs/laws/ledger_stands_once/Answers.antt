@@ -1,5 +1,0 @@
-use Rattle.swh_segment.proofs.One.{stands_once}
-use Rattle.swh_segment.proofs.laws.ledger_stands_once.Goals as goal
-
-pub returns : goal.returns
-returns c = stands_once

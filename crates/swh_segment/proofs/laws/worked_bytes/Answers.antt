@@ -1,7 +1,0 @@
-use Rattle.std.proofs.Common.{refl}
-use Rattle.swh_segment.specs.Record.{framed}
-use Rattle.swh_segment.proofs.laws.worked_bytes.Goals as goal
-
-pub returns : goal.returns
-unfolding framed
-returns c = refl
