@@ -20,6 +20,7 @@ from program import find_program
 LARGE = (4, 64 << 20)
 SMALL = (300_000, 20)
 MOST_OBJECTS = 4096
+MOST_BYTES = 8_388_608
 TIMES_BODIES = 1.3
 BYTES_AN_OBJECT = 400
 TAIL = 1 << 40
@@ -37,10 +38,15 @@ def batch_record(begin, end, count):
     return b"\x01B" + struct.pack(">I", len(payload)) + payload
 
 
+def batch_size(size):
+    """How many bodies of this size a batch may have: all but the last have to be within its limit of bytes."""
+    return min(MOST_OBJECTS, MOST_BYTES // size + 1)
+
+
 def write_archive(folder, count, size):
     """An archive of this many contents of this size, in batches that are within the limits."""
     os.mkdir(folder)
-    step = 1 if size > 1 << 20 else MOST_OBJECTS
+    step = batch_size(size)
     end = 0
     with open(os.path.join(folder, "0"), "wb") as ledger, open(os.path.join(folder, "1"), "wb") as store:
         ledger.write(b"SWHARC1\n")
