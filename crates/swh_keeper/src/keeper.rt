@@ -15,6 +15,7 @@ use swh_segment::{made_is_empty, make as make_archive};
 
 /// Keeps an archive. Contracts see its disks, its history, and whether a disk failed.
 pub struct Keeper<N: Namer, D: Disk> {
+    alloc: Global,
     namer: N,
     store: D,
     ledger: D,
@@ -115,6 +116,7 @@ impl<N: Namer, D: Disk> Keeper<N, D> {
         made_is_empty();
         match make_archive(&mut store, &mut ledger) {
             Ok(()) => Ok(Keeper {
+                alloc,
                 namer,
                 store,
                 ledger,
@@ -182,6 +184,7 @@ impl<N: Namer, D: Disk> Keeper<N, D> {
                     closed: _closed,
                 } = checked;
                 Ok(Keeper {
+                    alloc,
                     namer,
                     store,
                     ledger,
@@ -242,6 +245,7 @@ impl<N: Namer, D: Disk> Keeper<N, D> {
         ensures kept { IsKept N.id_of D.tells D.file self }
     {
         let Keeper {
+            alloc: _alloc,
             namer: _namer,
             store,
             ledger,
@@ -253,7 +257,7 @@ impl<N: Namer, D: Disk> Keeper<N, D> {
     }
 
     /// Judges a plan and adds its event.
-    pub fn apply(&mut self, alloc: Global, by: u32, wish: Wish) -> Result<Outcome, Refusal>
+    pub fn apply(&mut self, by: u32, wish: Wish) -> Result<Outcome, Refusal>
         requires { IsWish N.id_of wish }
         ensures ok { IfOk result (Applies self.old.history by wish self.new.history) }
         ensures unwounded { OnOk result ((self.old.wounded ≡ None) × (self.new.wounded ≡ None)) }
@@ -280,12 +284,12 @@ impl<N: Namer, D: Disk> Keeper<N, D> {
             return Err(Refusal::Wounded { first });
         }
         let number = self.history.as_slice().len() as u64 + 1;
-        let planned = match plan(alloc, &self.replayed, number, by, wish) {
+        let planned = match plan(self.alloc, &self.replayed, number, by, wish) {
             Ok(planned) => planned,
             Err(fault) => return Err(refusal_for(fault)),
         };
         let added = add_event(
-            alloc,
+            self.alloc,
             &mut self.store,
             &mut self.ledger,
             &mut self.replayed,
@@ -304,4 +308,12 @@ impl<N: Namer, D: Disk> Keeper<N, D> {
             }
         }
     }
+}
+
+// What another thread may be handed.
+fn is_sent<T: Send>(_value: &T) {}
+
+/// A keeper may be handed to another thread, whatever its namer and its disks are.
+pub fn keeper_is_sent<N: Namer, D: Disk>(keeper: &Keeper<N, D>) {
+    is_sent(keeper)
 }

@@ -14,7 +14,7 @@ mod remaking;
 mod writing;
 
 pub use fault::Refusal;
-pub use keeper::Keeper;
+pub use keeper::{Keeper, keeper_is_sent};
 pub use opening::{OpenFault, OpenWhy};
 pub use swh_base::Which;
 pub use swh_model::Outcome;

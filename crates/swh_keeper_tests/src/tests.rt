@@ -58,7 +58,7 @@ fn an_opening_stands_in_the_ledger(rt: HostRuntime) -> Result<(), Fail> {
     let alloc = rt.alloc();
     let open = opening(alloc)?;
     let mut keeper = made(alloc)?;
-    let opened = keeper.apply(alloc, 1, open);
+    let opened = keeper.apply(1, open);
     assert!(rt; matches!(opened, Ok(Outcome::Opened { event: 1, visit: 1 })));
     let (_store, ledger) = keeper.close();
     assert_eq!(rt; ledger.bytes(), LEDGER.as_slice());
@@ -100,17 +100,17 @@ fn a_visit_is_refused_and_fails(rt: HostRuntime) -> Result<(), Fail> {
         snapshot: None,
     };
     let mut keeper = made(alloc)?;
-    let opened = keeper.apply(alloc, 1, open);
+    let opened = keeper.apply(1, open);
     assert!(rt; matches!(opened, Ok(Outcome::Opened { event: 1, visit: 1 })));
-    let answer = keeper.apply(alloc, 1, second);
+    let answer = keeper.apply(1, second);
     assert!(rt; matches!(answer, Err(Refusal::NoVisit { have: 1 })));
-    let answer = keeper.apply(alloc, 2, theirs);
+    let answer = keeper.apply(2, theirs);
     assert!(rt; matches!(answer, Err(Refusal::NotYours { by: 1 })));
-    let answer = keeper.apply(alloc, 1, full);
+    let answer = keeper.apply(1, full);
     assert!(rt; matches!(answer, Err(Refusal::NoSnapshot { .. })));
-    let answer = keeper.apply(alloc, 1, failed);
+    let answer = keeper.apply(1, failed);
     assert!(rt; matches!(answer, Ok(Outcome::Marked { event: 2 })));
-    let answer = keeper.apply(alloc, 1, late);
+    let answer = keeper.apply(1, late);
     assert!(rt;
         matches!(
             answer,
@@ -129,7 +129,7 @@ fn an_archive_is_opened_again(rt: HostRuntime) -> Result<(), Fail> {
     let alloc = rt.alloc();
     let open = opening(alloc)?;
     let mut keeper = made(alloc)?;
-    let answer = keeper.apply(alloc, 1, open);
+    let answer = keeper.apply(1, open);
     assert!(rt; matches!(answer, Ok(Outcome::Opened { event: 1, visit: 1 })));
     let (store, ledger) = keeper.close();
     let keeper = kept(Keeper::open(alloc, ByteNamer, store, ledger))?;

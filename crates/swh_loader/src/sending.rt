@@ -52,7 +52,6 @@ fn standing_of<N: Namer, D: Disk>(keeper: &Keeper<N, D>, entry: &Entry) -> Stand
 
 /// Sends a batch, where there is something to send.
 fn flush<N: Namer, D: Disk>(
-    alloc: Global,
     keeper: &mut Keeper<N, D>,
     by: u32,
     pending: Pending,
@@ -68,7 +67,7 @@ fn flush<N: Namer, D: Disk>(
         return Ok(());
     }
     let wish = Wish::Batch(Items::from_vec(pending.entries));
-    match keeper.apply(alloc, by, wish) {
+    match keeper.apply(by, wish) {
         Ok(_) => Ok(()),
         Err(refusal) => Err(stopped(refusal)),
     }
@@ -92,7 +91,7 @@ fn make_room<N: Namer, D: Disk>(
     if pending.has_room(name) {
         return Ok(pending);
     }
-    flush(alloc, keeper, by, pending)?;
+    flush(keeper, by, pending)?;
     Ok(Pending::new(alloc))
 }
 
@@ -144,6 +143,6 @@ pub fn send_all<N: Namer, D: Disk>(
             Taken::Collides(name) => return Ok(Some(name)),
         };
     }
-    flush(alloc, keeper, by, pending)?;
+    flush(keeper, by, pending)?;
     Ok(None)
 }

@@ -40,7 +40,7 @@ pub fn open_visit<N: Namer, D: Disk>(
         return Err(LoadWhy::Memory);
     };
     let kind = VisitKind::Fast;
-    match keeper.apply(alloc, by, Wish::Open { origin, kind, date }) {
+    match keeper.apply(by, Wish::Open { origin, kind, date }) {
         Ok(Outcome::Opened { event: _, visit }) => Ok(visit),
         Ok(_) => unreachable!(),
         Err(refusal) => Err(stopped(refusal)),
@@ -72,7 +72,7 @@ pub fn mark<N: Namer, D: Disk>(
         status,
         snapshot,
     };
-    match keeper.apply(alloc, visit.by, wish) {
+    match keeper.apply(visit.by, wish) {
         Ok(_) => Ok(()),
         Err(refusal) => Err(stopped(refusal)),
     }
