@@ -3,3 +3,5 @@ pub mod KeptLemmas
 pub mod ApplyLemmas
 pub mod OpenLemmas
 pub mod ReadLemmas
+pub mod OwnLemmas
+pub mod Standings

@@ -7,3 +7,4 @@ pub mod Adding
 pub mod Counts
 pub mod Reading
 pub mod Opening
+pub mod Own

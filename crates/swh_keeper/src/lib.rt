@@ -9,6 +9,7 @@ mod checking;
 mod fault;
 mod keeper;
 mod opening;
+mod own;
 mod reading;
 mod remaking;
 mod writing;
@@ -16,5 +17,9 @@ mod writing;
 pub use fault::Refusal;
 pub use keeper::{Keeper, keeper_is_sent};
 pub use opening::{OpenFault, OpenWhy};
+pub use own::{
+    events_keep_own, making_keeps_own, opening_keeps_own, own_files_are_not_damaged,
+    unwritten_files_are_own,
+};
 pub use swh_base::Which;
 pub use swh_model::Outcome;

@@ -136,7 +136,7 @@ module _ (files : Files) (not_made : IsNotMade (files 0).seen) where
   abbrev calls : List Call
   calls = magic_calls (needs_clearing (files 0).seen)
 
-  on_ledger : EachFilesMoment (on 0 calls) still IsNotMadeOrEmpty
+  pub on_ledger : EachFilesMoment (on 0 calls) still IsNotMadeOrEmpty
   on_ledger = moments_on 0 calls still IsNotMadeOrEmpty (λ images others m i. ((magic_moments (done Sync (files 0)) (at_rest_done (files 0)) not_made).has m).has (images 0) i)
 
   at_barriers : EachImage (files 0) IsNotMade → EachFilesMoment barriers files IsNotMadeOrEmpty
