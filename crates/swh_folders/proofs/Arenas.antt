@@ -4,16 +4,21 @@ use Rattle.std.proofs.Math.Seq.{get_or-append_seam}
 use Rattle.std.proofs.lemmas.Bool.{ne_eqb, eqb-false, eqb-true, cases_lt}
 use Rattle.std.proofs.lemmas.List.{get_or-map, get_or_append_left, map-append, reverse-append, reverse-reverse, length-reverse, length-map, length-append}
 use Rattle.std.proofs.lemmas.List.Elements.{All-from_recursion}
-use Rattle.std.specs.Prelude.{if◌then◌else◌, ◌==◌, All}
+use Rattle.std.specs.Prelude.{if◌then◌else◌, ◌==◌, All, IfOk, Result, Ok, Err}
 use Rattle.std.specs.List.{AllByRecursion}
 use Rattle.std.specs.Global.{Vec}
 use Rattle.swh_folders.specs.declared.entry.Entry.{Entry}
+use Rattle.swh_folders.specs.Listed.{Listed}
 use Rattle.swh_folders.specs.declared.entry.Child.{Child}
 use Rattle.swh_folders.specs.declared.entry.Child.TheVariants.{File as FileChild, Folder as FolderChild}
 use Rattle.swh_folders.specs.Forest.{Forest, Stands, IsFolder, forest, inserted, without, put}
 use Rattle.swh_folders.specs.Sound.{IsSound}
 use Rattle.swh_folders.specs.Roots.{AreSound}
 use Rattle.swh_folders.specs.Arena.{name_at, stands, stands_of, forest_of, among, IsLower, AreGood, AllGood, texts, layers, tree_at, IsArena, IsIn, Extends}
+
+pub if_ok : {A E : Type 0} {P Q : A → Type 0} (r : Result A E) → ((x : A) → P x → Q x) → IfOk r P → IfOk r Q
+if_ok (Ok x) f h = f x h
+if_ok (Err e) f h = tt
 
 eqb_self : (n : ℕ) → eqb n n ≡ true
 eqb_self n = grind arith
@@ -109,62 +114,62 @@ node-reverse (es ∷ older) i lt =
           rw (own, is) (sym (get_or-append_seam (reverse older) es [] []))
     ])
 
-pub length-layers : (nodes : List (Vec Entry)) → length (layers nodes) ≡ length nodes
-length-layers nodes = length-reverse (map (λ v. v.items) nodes) ∙ length-map nodes (λ (v : Vec Entry). v.items)
+pub length-layers : (nodes : List Listed) → length (layers nodes) ≡ length nodes
+length-layers nodes = length-reverse (map (λ v. v.items) nodes) ∙ length-map nodes (λ (v : Listed). v.items)
 
-pub node-layers : (nodes : List (Vec Entry)) (i : ℕ) (d : Vec Entry) → i < length nodes → node_in (layers nodes) i ≡ (get_or nodes i d).items
+pub node-layers : (nodes : List Listed) (i : ℕ) (d : Listed) → i < length nodes → node_in (layers nodes) i ≡ (get_or nodes i d).items
 node-layers nodes i d lt =
     let len = length-layers nodes in
-    node-reverse (layers nodes) i (omega arith) ∙ ap (λ (x : List (List Entry)). get_or x i []) (reverse-reverse (map (λ (v : Vec Entry). v.items) nodes)) ∙ get_or-map (λ (v : Vec Entry). v.items) nodes i d [] lt
+    node-reverse (layers nodes) i (omega arith) ∙ ap (λ (x : List (List Entry)). get_or x i []) (reverse-reverse (map (λ (v : Listed). v.items) nodes)) ∙ get_or-map (λ (v : Listed). v.items) nodes i d [] lt
 
-pub layers-push : (nodes : List (Vec Entry)) (v : Vec Entry) → layers (nodes ++ v ∷ []) ≡ v.items ∷ layers nodes
-layers-push nodes v = ap reverse (map-append (λ (w : Vec Entry). w.items) nodes (v ∷ [])) ∙ reverse-append (map (λ (w : Vec Entry). w.items) nodes) (v.items ∷ [])
+pub layers-push : (nodes : List Listed) (v : Listed) → layers (nodes ++ v ∷ []) ≡ v.items ∷ layers nodes
+layers-push nodes v = ap reverse (map-append (λ (w : Listed). w.items) nodes (v ∷ [])) ∙ reverse-append (map (λ (w : Listed). w.items) nodes) (v.items ∷ [])
 
 -- the same of what code holds
-pub tree-push_old : (names : List (Vec ℕ)) (nodes : List (Vec Entry)) (v : Vec Entry) (i : ℕ) → i < length nodes → tree_at names (nodes ++ v ∷ []) i ≡ tree_at names nodes i
+pub tree-push_old : (names : List (Vec ℕ)) (nodes : List Listed) (v : Listed) (i : ℕ) → i < length nodes → tree_at names (nodes ++ v ∷ []) i ≡ tree_at names nodes i
 unfolding tree_at
 tree-push_old names nodes v i lt = let len = length-layers nodes in ap (λ (r : List (List Entry)). among (texts names) r i) (layers-push nodes v) ∙ among-older (texts names) v.items (layers nodes) i (omega arith)
 
-pub tree-push_new : (names : List (Vec ℕ)) (nodes : List (Vec Entry)) (v : Vec Entry) → tree_at names (nodes ++ v ∷ []) (length nodes) ≡ forest_of (texts names) (tree_at names nodes) v.items
+pub tree-push_new : (names : List (Vec ℕ)) (nodes : List Listed) (v : Listed) → tree_at names (nodes ++ v ∷ []) (length nodes) ≡ forest_of (texts names) (tree_at names nodes) v.items
 unfolding tree_at
 tree-push_new names nodes v =
     ap (λ (r : List (List Entry)). among (texts names) r (length nodes)) (layers-push nodes v)
     ∙ ap (λ (i : ℕ). among (texts names) (v.items ∷ layers nodes) i) (sym (length-layers nodes))
     ∙ among-newest (texts names) v.items (layers nodes)
 
-pub tree-names : (names names' : List (Vec ℕ)) (nodes : List (Vec Entry)) → IsArena names nodes → Extends names names' → (i : ℕ) → tree_at names' nodes i ≡ tree_at names nodes i
+pub tree-names : (names names' : List (Vec ℕ)) (nodes : List Listed) → IsArena names nodes → Extends names names' → (i : ℕ) → tree_at names' nodes i ≡ tree_at names nodes i
 unfolding tree_at IsArena
 tree-names names names' nodes good more i = among-names (texts names') (texts names) (length names) (layers nodes) good more.same_names i
 
-pub tree-node : (names : List (Vec ℕ)) (nodes : List (Vec Entry)) (i : ℕ) (v : Vec Entry) → IsArena names nodes → i < length nodes → v ≡ get_or nodes i v → tree_at names nodes i ≡ forest_of (texts names) (tree_at names nodes) v.items
+pub tree-node : (names : List (Vec ℕ)) (nodes : List Listed) (i : ℕ) (v : Listed) → IsArena names nodes → i < length nodes → v ≡ get_or nodes i v → tree_at names nodes i ≡ forest_of (texts names) (tree_at names nodes) v.items
 unfolding tree_at IsArena
 tree-node names nodes i v good lt is =
     let len = length-layers nodes in
     among-node (texts names) (length names) (layers nodes) good i (omega arith)
-    ∙ ap (forest_of (texts names) (λ j. among (texts names) (layers nodes) j)) (node-layers nodes i v lt ∙ ap (λ (w : Vec Entry). w.items) (sym is))
+    ∙ ap (forest_of (texts names) (λ j. among (texts names) (layers nodes) j)) (node-layers nodes i v lt ∙ ap (λ (w : Listed). w.items) (sym is))
 
-pub entries-good : (names : List (Vec ℕ)) (nodes : List (Vec Entry)) (i : ℕ) (v : Vec Entry) → IsArena names nodes → i < length nodes → v ≡ get_or nodes i v → AreGood (length names) (length nodes) v.items
+pub entries-good : (names : List (Vec ℕ)) (nodes : List Listed) (i : ℕ) (v : Listed) → IsArena names nodes → i < length nodes → v ≡ get_or nodes i v → AreGood (length names) (length nodes) v.items
 unfolding IsArena
 entries-good names nodes i v good lt is =
     let P : List Entry → Type 0 = λ es. AreGood (length names) (length nodes) es in
     let Q : ℕ → Type 0 = λ k. AreGood (length names) k (node_in (layers nodes) i) in
-    subst P (node-layers nodes i v lt ∙ ap (λ (w : Vec Entry). w.items) (sym is)) (subst Q (length-layers nodes) (node-good (length names) (layers nodes) good i))
+    subst P (node-layers nodes i v lt ∙ ap (λ (w : Listed). w.items) (sym is)) (subst Q (length-layers nodes) (node-good (length names) (layers nodes) good i))
 
-pub entries-low : (names : List (Vec ℕ)) (nodes : List (Vec Entry)) (i : ℕ) (v : Vec Entry) → IsArena names nodes → i < length nodes → v ≡ get_or nodes i v → AreGood (length names) i v.items
+pub entries-low : (names : List (Vec ℕ)) (nodes : List Listed) (i : ℕ) (v : Listed) → IsArena names nodes → i < length nodes → v ≡ get_or nodes i v → AreGood (length names) i v.items
 unfolding IsArena
 entries-low names nodes i v good lt is =
     let P : List Entry → Type 0 = λ es. AreGood (length names) i es in
     let len = length-layers nodes in
-    subst P (node-layers nodes i v lt ∙ ap (λ (w : Vec Entry). w.items) (sym is)) (node-low (length names) (layers nodes) good i (omega arith))
+    subst P (node-layers nodes i v lt ∙ ap (λ (w : Listed). w.items) (sym is)) (node-low (length names) (layers nodes) good i (omega arith))
 
-pub arena-push : (names : List (Vec ℕ)) (nodes : List (Vec Entry)) (v : Vec Entry) → IsArena names nodes → AreGood (length names) (length nodes) v.items → IsArena names (nodes ++ v ∷ [])
+pub arena-push : (names : List (Vec ℕ)) (nodes : List Listed) (v : Listed) → IsArena names nodes → AreGood (length names) (length nodes) v.items → IsArena names (nodes ++ v ∷ [])
 unfolding IsArena
 arena-push names nodes v good own =
     let P : List (List Entry) → Type 0 = λ r. AllGood (length names) r in
     let Q : ℕ → Type 0 = λ k. AreGood (length names) k v.items in
     subst P (sym (layers-push nodes v)) (subst Q (sym (length-layers nodes)) own, good)
 
-pub arena-names : (names names' : List (Vec ℕ)) (nodes : List (Vec Entry)) → IsArena names nodes → Extends names names' → IsArena names' nodes
+pub arena-names : (names names' : List (Vec ℕ)) (nodes : List Listed) → IsArena names nodes → Extends names names' → IsArena names' nodes
 unfolding IsArena
 arena-names names names' nodes good more = all-more (length names) (length names') (layers nodes) more.longer good
 
@@ -185,7 +190,7 @@ arena-none = tt
 
 -- ## Sound folders
 
-pub sound-push : (names : List (Vec ℕ)) (nodes : List (Vec Entry)) (v : Vec Entry) → AreSound names nodes → IsSound (forest_of (texts names) (tree_at names nodes) v.items) → AreSound names (nodes ++ v ∷ [])
+pub sound-push : (names : List (Vec ℕ)) (nodes : List Listed) (v : Listed) → AreSound names nodes → IsSound (forest_of (texts names) (tree_at names nodes) v.items) → AreSound names (nodes ++ v ∷ [])
 sound-push names nodes v sound own i lt = elim (cases_lt i (length nodes)) [
   | inl below ↦ subst IsSound (sym (tree-push_old names nodes v i below)) (sound i below)
   | inr top ↦
@@ -194,16 +199,16 @@ sound-push names nodes v sound own i lt = elim (cases_lt i (length nodes)) [
       rw is (subst IsSound (sym (tree-push_new names nodes v)) own)
 ]
 
-pub sound-names : (names names' : List (Vec ℕ)) (nodes : List (Vec Entry)) → IsArena names nodes → Extends names names' → AreSound names nodes → AreSound names' nodes
+pub sound-names : (names names' : List (Vec ℕ)) (nodes : List Listed) → IsArena names nodes → Extends names names' → AreSound names nodes → AreSound names' nodes
 sound-names names names' nodes good more sound i lt = subst IsSound (sym (tree-names names names' nodes good more i)) (sound i lt)
 
-pub under-sound : (names : List (Vec ℕ)) (nodes : List (Vec Entry)) (c : Option Child) → AreSound names nodes → IsIn (length nodes) c → IsSound (forest (stands_of (tree_at names nodes) c))
+pub under-sound : (names : List (Vec ℕ)) (nodes : List Listed) (c : Option Child) → AreSound names nodes → IsIn (length nodes) c → IsSound (forest (stands_of (tree_at names nodes) c))
 under-sound names nodes None sound low = tt
 under-sound names nodes (Some (FileChild l)) sound low = tt
 under-sound names nodes (Some (FolderChild j)) sound low = sound j low
 
 -- what the entries of a folder are after one was dropped and one was put
-pub put-added : (names names' : List (Vec ℕ)) (nodes : List (Vec Entry)) (under child : Option Child) (name : List ℕ) (kept out : List Entry) → IsArena names nodes → Extends names names' → IsIn (length nodes) child → AreGood (length names) (length nodes) kept → forest_of (texts names') (tree_at names' nodes) out ≡ inserted name (stands_of (tree_at names' nodes) child) (forest_of (texts names) (tree_at names' nodes) kept) → forest_of (texts names) (tree_at names nodes) kept ≡ without name (forest (stands_of (tree_at names nodes) under)) → forest_of (texts names') (tree_at names' nodes) out ≡ put name (stands_of (tree_at names nodes) child) (forest (stands_of (tree_at names nodes) under))
+pub put-added : (names names' : List (Vec ℕ)) (nodes : List Listed) (under child : Option Child) (name : List ℕ) (kept out : List Entry) → IsArena names nodes → Extends names names' → IsIn (length nodes) child → AreGood (length names) (length nodes) kept → forest_of (texts names') (tree_at names' nodes) out ≡ inserted name (stands_of (tree_at names' nodes) child) (forest_of (texts names) (tree_at names' nodes) kept) → forest_of (texts names) (tree_at names nodes) kept ≡ without name (forest (stands_of (tree_at names nodes) under)) → forest_of (texts names') (tree_at names' nodes) out ≡ put name (stands_of (tree_at names nodes) child) (forest (stands_of (tree_at names nodes) under))
 put-added names names' nodes under child name kept out arena more low good added cleared =
     let old = tree_at names nodes in
     let new = tree_at names' nodes in

@@ -5,6 +5,7 @@ use Rattle.std.proofs.lemmas.Bool.{cases_lt}
 use Rattle.std.proofs.lemmas.List.{length-append, length-take, get_or_append_left, map-append, reverse-append, take-append-drop, append-nil}
 use Rattle.std.specs.Global.{Vec}
 use Rattle.swh_folders.specs.declared.entry.Entry.{Entry}
+use Rattle.swh_folders.specs.Listed.{Listed}
 use Rattle.swh_folders.specs.Arena.{texts, layers, among, AllGood, tree_at, forest_of, AreGood, IsArena}
 use Rattle.swh_folders.specs.Forest.{Stands, forest}
 use Rattle.swh_folders.specs.Sound.{IsSound}
@@ -14,19 +15,19 @@ use Rattle.swh_folders.specs.Moved.{IsCopied}
 use Rattle.swh_folders.proofs.Arenas.{tree-push_old, tree-push_new, arena-push, among-older, length-layers}
 use Rattle.swh_folders.proofs.Lives.{part-sound}
 
-long-copy : (nodes fresh : List (Vec Entry)) (base : ℕ) → base ≤ length nodes → length (take base nodes ++ fresh) ≡ base + length fresh
+long-copy : (nodes fresh : List Listed) (base : ℕ) → base ≤ length nodes → length (take base nodes ++ fresh) ≡ base + length fresh
 long-copy nodes fresh base le = simp (length-append, length-take) (omega arith)
 
-pub copied-more : (names : List (Vec ℕ)) (nodes : List (Vec Entry)) (base : ℕ) (live : List Bool) (x : Stands) (fresh : List (Vec Entry)) (moved : List ℕ) (v : Vec Entry) → IsCopied names nodes base live x fresh moved → base ≤ length nodes → AreGood (length names) (base + length fresh) v.items → forest_of (texts names) (tree_at names (take base nodes ++ fresh)) v.items ≡ tree_at names nodes (base + length moved) → IsPart x (tree_at names nodes (base + length moved)) → IsCopied names nodes base live x (fresh ++ v ∷ []) (moved ++ (base + length fresh) ∷ [])
+pub copied-more : (names : List (Vec ℕ)) (nodes : List Listed) (base : ℕ) (live : List Bool) (x : Stands) (fresh : List Listed) (moved : List ℕ) (v : Listed) → IsCopied names nodes base live x fresh moved → base ≤ length nodes → AreGood (length names) (base + length fresh) v.items → forest_of (texts names) (tree_at names (take base nodes ++ fresh)) v.items ≡ tree_at names nodes (base + length moved) → IsPart x (tree_at names nodes (base + length moved)) → IsCopied names nodes base live x (fresh ++ v ∷ []) (moved ++ (base + length fresh) ∷ [])
 copied-more names nodes base live x fresh moved v c within good same part =
     let long = long-copy nodes fresh base within in
     let behind : take base nodes ++ (fresh ++ v ∷ []) ≡ (take base nodes ++ fresh) ++ v ∷ [] = sym (append_assoc (take base nodes) fresh (v ∷ [])) in
     let more : base + length (fresh ++ v ∷ []) ≡ base + length fresh + 1 = simp length-append (omega arith) in
     let P : ℕ → Type 0 = λ k. AreGood (length names) k v.items in
-    let old = λ (j : ℕ) (lt : j < base + length fresh). ap (λ (o : List (Vec Entry)). tree_at names o j) behind ∙ tree-push_old names (take base nodes ++ fresh) v j (omega (arith, long, lt)) in
+    let old = λ (j : ℕ) (lt : j < base + length fresh). ap (λ (o : List Listed). tree_at names o j) behind ∙ tree-push_old names (take base nodes ++ fresh) v j (omega (arith, long, lt)) in
     let bound = c.moves.base_in in
     let new : tree_at names (take base nodes ++ (fresh ++ v ∷ [])) (base + length fresh) ≡ tree_at names nodes (base + length moved) =
-    ap (λ (o : List (Vec Entry)). tree_at names o (base + length fresh)) behind
+    ap (λ (o : List Listed). tree_at names o (base + length fresh)) behind
     ∙ ap (tree_at names ((take base nodes ++ fresh) ++ v ∷ [])) (sym long)
     ∙ tree-push_new names (take base nodes ++ fresh) v ∙ same in
     record {
@@ -60,7 +61,7 @@ copied-more names nodes base live x fresh moved v c within good same part =
       ];
     }
 
-pub copied-skip : (names : List (Vec ℕ)) (nodes : List (Vec Entry)) (base : ℕ) (live : List Bool) (x : Stands) (fresh : List (Vec Entry)) (moved : List ℕ) → is_live base live (base + length moved) ≡ false → IsCopied names nodes base live x fresh moved → IsCopied names nodes base live x fresh (moved ++ 0 ∷ [])
+pub copied-skip : (names : List (Vec ℕ)) (nodes : List Listed) (base : ℕ) (live : List Bool) (x : Stands) (fresh : List Listed) (moved : List ℕ) → is_live base live (base + length moved) ≡ false → IsCopied names nodes base live x fresh moved → IsCopied names nodes base live x fresh (moved ++ 0 ∷ [])
 copied-skip names nodes base live x fresh moved dark c = record {
   arena = c.arena;
   moves = record {
@@ -96,26 +97,26 @@ among-rest : (names : List (List ℕ)) (r s : List (List Entry)) (j : ℕ) → j
 among-rest names [] s j lt = refl
 among-rest names (e ∷ r) s j lt = among-older names e (r ++ s) j (simp length-append (omega arith)) ∙ among-rest names r s j lt
 
-layers-split : (xs ys : List (Vec Entry)) → layers (xs ++ ys) ≡ layers ys ++ layers xs
-layers-split xs ys = ap reverse (map-append (λ (w : Vec Entry). w.items) xs ys) ∙ reverse-append (map (λ (w : Vec Entry). w.items) xs) (map (λ (w : Vec Entry). w.items) ys)
+layers-split : (xs ys : List Listed) → layers (xs ++ ys) ≡ layers ys ++ layers xs
+layers-split xs ys = ap reverse (map-append (λ (w : Listed). w.items) xs ys) ∙ reverse-append (map (λ (w : Listed). w.items) xs) (map (λ (w : Listed). w.items) ys)
 
-layers-take : (base : ℕ) (nodes : List (Vec Entry)) → layers nodes ≡ layers (drop base nodes) ++ layers (take base nodes)
+layers-take : (base : ℕ) (nodes : List Listed) → layers nodes ≡ layers (drop base nodes) ++ layers (take base nodes)
 layers-take base nodes = ap layers (sym (take-append-drop base nodes)) ∙ layers-split (take base nodes) (drop base nodes)
 
-pub arena-take : (names : List (Vec ℕ)) (nodes : List (Vec Entry)) (base : ℕ) → IsArena names nodes → IsArena names (take base nodes)
+pub arena-take : (names : List (Vec ℕ)) (nodes : List Listed) (base : ℕ) → IsArena names nodes → IsArena names (take base nodes)
 unfolding IsArena
 arena-take names nodes base h =
     let P : List (List Entry) → Type 0 = λ r. AllGood (length names) r in
     good-rest (length names) (layers (drop base nodes)) (layers (take base nodes)) (subst P (layers-take base nodes) h)
 
-pub tree-take : (names : List (Vec ℕ)) (nodes : List (Vec Entry)) (base j : ℕ) → base ≤ length nodes → j < base → tree_at names (take base nodes) j ≡ tree_at names nodes j
+pub tree-take : (names : List (Vec ℕ)) (nodes : List Listed) (base j : ℕ) → base ≤ length nodes → j < base → tree_at names (take base nodes) j ≡ tree_at names nodes j
 unfolding tree_at
 tree-take names nodes base j le lt =
     let size = length-layers (take base nodes) in
     let long : length (take base nodes) ≡ base = simp length-take (omega arith) in
     sym (ap (λ (r : List (List Entry)). among (texts names) r j) (layers-take base nodes) ∙ among-rest (texts names) (layers (drop base nodes)) (layers (take base nodes)) j (omega arith))
 
-pub good-take : (names : List (Vec ℕ)) (nodes : List (Vec Entry)) (base : ℕ) → base ≤ length nodes → IsGood names nodes → IsGood names (take base nodes)
+pub good-take : (names : List (Vec ℕ)) (nodes : List Listed) (base : ℕ) → base ≤ length nodes → IsGood names nodes → IsGood names (take base nodes)
 good-take names nodes base le g = record {
   arena = arena-take names nodes base g.arena;
   sound = λ i lt. let long : length (take base nodes) ≡ base = simp length-take (omega arith) in
@@ -123,12 +124,12 @@ good-take names nodes base le g = record {
       subst IsSound (sym (tree-take names nodes base i le within)) (g.sound i (omega arith));
 }
 
-pub copied-none : (names : List (Vec ℕ)) (nodes : List (Vec Entry)) (base : ℕ) (live : List Bool) (x : Stands) → IsArena names nodes → base ≤ length nodes → IsCopied names nodes base live x [] []
+pub copied-none : (names : List (Vec ℕ)) (nodes : List Listed) (base : ℕ) (live : List Bool) (x : Stands) → IsArena names nodes → base ≤ length nodes → IsCopied names nodes base live x [] []
 copied-none names nodes base live x h le = record {
   arena = rw append-nil (arena-take names nodes base h);
   moves = record {
     base_in = omega arith;
-    low = λ j lt. ap (λ (o : List (Vec Entry)). tree_at names o j) (append-nil (take base nodes)) ∙ tree-take names nodes base j le lt;
+    low = λ j lt. ap (λ (o : List Listed). tree_at names o j) (append-nil (take base nodes)) ∙ tree-take names nodes base j le lt;
     high = λ k lt is. absurd (omega arith);
     inside = λ k lt is. absurd (omega arith);
   };
@@ -136,7 +137,7 @@ copied-none names nodes base live x h le = record {
 }
 
 -- the folders that were copied are sound
-pub copied-good : (names : List (Vec ℕ)) (nodes : List (Vec Entry)) (base : ℕ) (live : List Bool) (x : Stands) (fresh : List (Vec Entry)) (moved : List ℕ) → base ≤ length nodes → IsGood names nodes → IsSound (forest x) → IsCopied names nodes base live x fresh moved → IsGood names (take base nodes ++ fresh)
+pub copied-good : (names : List (Vec ℕ)) (nodes : List Listed) (base : ℕ) (live : List Bool) (x : Stands) (fresh : List Listed) (moved : List ℕ) → base ≤ length nodes → IsGood names nodes → IsSound (forest x) → IsCopied names nodes base live x fresh moved → IsGood names (take base nodes ++ fresh)
 copied-good names nodes base live x fresh moved le g s c = record {
   arena = c.arena;
   sound = λ i lt.
@@ -148,7 +149,7 @@ copied-good names nodes base live x fresh moved le g s c = record {
 }
 
 -- the folders below others stay what they are
-pub tree-take-append : (names : List (Vec ℕ)) (low high : List (Vec Entry)) (j : ℕ) → j < length low → tree_at names (low ++ high) j ≡ tree_at names low j
+pub tree-take-append : (names : List (Vec ℕ)) (low high : List Listed) (j : ℕ) → j < length low → tree_at names (low ++ high) j ≡ tree_at names low j
 unfolding tree_at
 tree-take-append names low high j lt =
     let size = length-layers low in

@@ -2,7 +2,7 @@
 use Rattle.std.proofs.Common.{◌≡◌, ◌≢◌, ℕ, List, [], ◌∷◌, length, Option, Some, None, refl, sym, ap, subst, ◌∙◌}
 use Rattle.std.specs.Global.{Vec}
 use Rattle.swh_folders.specs.declared.entry.Leaf.{Leaf}
-use Rattle.swh_folders.specs.declared.entry.Entry.{Entry}
+use Rattle.swh_folders.specs.Listed.{Listed}
 use Rattle.swh_folders.specs.declared.entry.Child.{Child}
 use Rattle.swh_folders.specs.declared.entry.Child.TheVariants.{File as FileChild, Folder as FolderChild}
 use Rattle.swh_folders.specs.Arena.{stands, stands_of, tree_at}
@@ -20,21 +20,21 @@ use Rattle.swh_folders.proofs.Puts.{set-here, copy-here, rename-here, held-root,
 use Rattle.swh_folders.proofs.Sounds.{child-sound, found-sound}
 
 -- the map of a root's number is that of its folder
-root_flat : (names : List (Vec ℕ)) (nodes : List (Vec Entry)) (r : Option ℕ) → map_of_number (map_at names nodes) r ≡ flat (root_forest (tree_at names nodes) r)
+root_flat : (names : List (Vec ℕ)) (nodes : List Listed) (r : Option ℕ) → map_of_number (map_at names nodes) r ≡ flat (root_forest (tree_at names nodes) r)
 root_flat names nodes None = refl
 root_flat names nodes (Some n) = refl
 
-root_sound : (names : List (Vec ℕ)) (nodes : List (Vec Entry)) (r : Option ℕ) → AreSound names nodes → IsBelow (length nodes) r → IsSound (root_forest (tree_at names nodes) r)
+root_sound : (names : List (Vec ℕ)) (nodes : List Listed) (r : Option ℕ) → AreSound names nodes → IsBelow (length nodes) r → IsSound (root_forest (tree_at names nodes) r)
 root_sound names nodes None sound low = tt
 root_sound names nodes (Some n) sound low = sound n low
 
-pub from-root : (names : List (Vec ℕ)) (nodes : List (Vec Entry)) (r : Option ℕ) (here : Option Child) → ((at : ℕ → Forest) → forest (stands_of at here) ≡ root_forest at r) → flat (forest (stands_of (tree_at names nodes) here)) ≡ map_of_number (map_at names nodes) r
+pub from-root : (names : List (Vec ℕ)) (nodes : List Listed) (r : Option ℕ) (here : Option Child) → ((at : ℕ → Forest) → forest (stands_of at here) ≡ root_forest at r) → flat (forest (stands_of (tree_at names nodes) here)) ≡ map_of_number (map_at names nodes) r
 from-root names nodes r here same = ap flat (same (tree_at names nodes)) ∙ sym (root_flat names nodes r)
 
-pub to-root : (names : List (Vec ℕ)) (nodes : List (Vec Entry)) (r : Option ℕ) (there : Option Child) → ((at : ℕ → Forest) → root_forest at r ≡ forest (stands_of at there)) → map_of_number (map_at names nodes) r ≡ flat (forest (stands_of (tree_at names nodes) there))
+pub to-root : (names : List (Vec ℕ)) (nodes : List Listed) (r : Option ℕ) (there : Option Child) → ((at : ℕ → Forest) → root_forest at r ≡ forest (stands_of at there)) → map_of_number (map_at names nodes) r ≡ flat (forest (stands_of (tree_at names nodes) there))
 to-root names nodes r there same = root_flat names nodes r ∙ ap flat (same (tree_at names nodes))
 
-pub here-sound : (names : List (Vec ℕ)) (nodes : List (Vec Entry)) (r : Option ℕ) (here : Option Child) → IsGood names nodes → IsBelow (length nodes) r → ((at : ℕ → Forest) → forest (stands_of at here) ≡ root_forest at r) → IsSound (forest (stands_of (tree_at names nodes) here))
+pub here-sound : (names : List (Vec ℕ)) (nodes : List Listed) (r : Option ℕ) (here : Option Child) → IsGood names nodes → IsBelow (length nodes) r → ((at : ℕ → Forest) → forest (stands_of at here) ≡ root_forest at r) → IsSound (forest (stands_of (tree_at names nodes) here))
 here-sound names nodes r here good low same = subst IsSound (sym (same (tree_at names nodes))) (root_sound names nodes r good.sound low)
 
 pub set-done : (path : List ℕ) (leaf : Leaf) (y z : Stands) (m m' : PathMap) → IsPath path → IsLeaf leaf → IsSound (forest y) → flat (forest y) ≡ m → m' ≡ flat (forest z) → z ≡ graft (components path) (IsFile leaf) y → m' ≡ set (components path) leaf m

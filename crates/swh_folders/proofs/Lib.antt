@@ -12,4 +12,5 @@ pub mod EditedRoots
 pub mod Copies
 pub mod Lives
 pub mod Moves
+pub mod Packings
 pub mod Workings

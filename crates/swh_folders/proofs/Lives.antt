@@ -6,6 +6,7 @@ use Rattle.std.specs.Global.{Vec}
 use Rattle.swh_folders.specs.declared.entry.Child.{Child}
 use Rattle.swh_folders.specs.declared.entry.Child.TheVariants.{File as FileChild, Folder as FolderChild}
 use Rattle.swh_folders.specs.declared.entry.Entry.{Entry}
+use Rattle.swh_folders.specs.Listed.{Listed}
 use Rattle.swh_folders.specs.Arena.{name_at, stands, forest_of, texts, tree_at, IsArena, IsLower}
 use Rattle.swh_folders.specs.Forest.{Forest, Stands, Nothing, IsFile, IsFolder, beside, child_at, forest, step, found}
 use Rattle.swh_folders.specs.PathMap.{same}
@@ -80,10 +81,10 @@ child-of-entry names at (e ∷ es) (suc k) d lt s =
     (child-of-entry names at es k d (omega arith) rest.1)
 
 -- a child of a part is a part
-pub part-child : (names : List (Vec ℕ)) (nodes : List (Vec Entry)) (x : Stands) (i j : ℕ) (w : Vec Entry) → IsArena names nodes → AreSound names nodes → i < length nodes → IsPart x (tree_at names nodes i) → HasChild (get_or nodes i w).items (length (get_or nodes i w).items) j → IsPart x (tree_at names nodes j)
+pub part-child : (names : List (Vec ℕ)) (nodes : List Listed) (x : Stands) (i j : ℕ) (w : Listed) → IsArena names nodes → AreSound names nodes → i < length nodes → IsPart x (tree_at names nodes i) → HasChild (get_or nodes i w).items (length (get_or nodes i w).items) j → IsPart x (tree_at names nodes j)
 part-child names nodes x i j w arena sound lt part h =
     let at = tree_at names nodes in
-    let v : Vec Entry = get_or nodes i w in
+    let v : Listed = get_or nodes i w in
     let es : List Entry = v.items in
     let e : Entry = get_or es h.place h.other in
     let own : v ≡ get_or nodes i v = get_or_default nodes i w v lt in
@@ -96,7 +97,7 @@ part-child names nodes x i j w arena sound lt part h =
       there = found-append part.path (name_at (texts names) e.name ∷ []) x ∙ ap (λ (z : Stands). step (name_at (texts names) e.name) z) part.there ∙ child;
     }
 
-pub arena-lower : (names : List (Vec ℕ)) (nodes : List (Vec Entry)) → IsArena names nodes → AreLower nodes
+pub arena-lower : (names : List (Vec ℕ)) (nodes : List Listed) → IsArena names nodes → AreLower nodes
 arena-lower names nodes arena i w k d lt within = good-at (length names) i (get_or nodes i w).items k d (entries-low names nodes i (get_or nodes i w) arena lt (get_or_default nodes i w (get_or nodes i w) lt)) within
 
 folder_sound : (x : Stands) (g : Forest) → IsSoundHere x → x ≡ IsFolder g → IsSound g
@@ -119,7 +120,7 @@ parts-first at base root n live le only i le' lt h =
     let is : i ≡ root = omega arith in
     record { path = []; there = ap (λ (k : ℕ). IsFolder (at k)) (sym is) }
 
-pub parts-step : (names : List (Vec ℕ)) (nodes : List (Vec Entry)) (base i root : ℕ) (w : Vec Entry) (old new : List Bool) → IsArena names nodes → AreSound names nodes → base ≤ i → i < length nodes → is_live base old i ≡ true → ((j : ℕ) → base ≤ j → is_live base new j ≡ true → (is_live base old j ≡ true) ⊎ HasChild (get_or nodes i w).items (length (get_or nodes i w).items) j) → AreLiveParts (tree_at names nodes) base old (length nodes) (IsFolder (tree_at names nodes root)) → AreLiveParts (tree_at names nodes) base new (length nodes) (IsFolder (tree_at names nodes root))
+pub parts-step : (names : List (Vec ℕ)) (nodes : List Listed) (base i root : ℕ) (w : Listed) (old new : List Bool) → IsArena names nodes → AreSound names nodes → base ≤ i → i < length nodes → is_live base old i ≡ true → ((j : ℕ) → base ≤ j → is_live base new j ≡ true → (is_live base old j ≡ true) ⊎ HasChild (get_or nodes i w).items (length (get_or nodes i w).items) j) → AreLiveParts (tree_at names nodes) base old (length nodes) (IsFolder (tree_at names nodes root)) → AreLiveParts (tree_at names nodes) base new (length nodes) (IsFolder (tree_at names nodes root))
 parts-step names nodes base i root w old new arena sound le lt live only parts j le' lt' h = elim (only j le' h) [
   | inl was ↦ parts j le' lt' was
   | inr child ↦ part-child names nodes (IsFolder (tree_at names nodes root)) i j w arena sound lt (parts i le lt live) child
@@ -130,7 +131,7 @@ child_low i j (FileChild l) low e = absurd cc
 child_low i j (FolderChild k) low e = let is : k ≡ j = cc in omega arith
 
 -- marking a folder's own folders closes it, and reopens none above it
-pub closed-step : (base i : ℕ) (nodes : List (Vec Entry)) (w : Vec Entry) (old new : List Bool) → AreLower nodes → i < length nodes → base ≤ i → AreMarked base new (get_or nodes i w).items (length (get_or nodes i w).items) → ((j : ℕ) → base ≤ j → is_live base old j ≡ true → is_live base new j ≡ true) → ((j : ℕ) → base ≤ j → is_live base new j ≡ true → (is_live base old j ≡ true) ⊎ HasChild (get_or nodes i w).items (length (get_or nodes i w).items) j) → IsClosed base old nodes (i + 1) → IsClosed base new nodes i
+pub closed-step : (base i : ℕ) (nodes : List Listed) (w : Listed) (old new : List Bool) → AreLower nodes → i < length nodes → base ≤ i → AreMarked base new (get_or nodes i w).items (length (get_or nodes i w).items) → ((j : ℕ) → base ≤ j → is_live base old j ≡ true → is_live base new j ≡ true) → ((j : ℕ) → base ≤ j → is_live base new j ≡ true → (is_live base old j ≡ true) ⊎ HasChild (get_or nodes i w).items (length (get_or nodes i w).items) j) → IsClosed base old nodes (i + 1) → IsClosed base new nodes i
 closed-step base i nodes w old new lower lt le own more only closed i' w' from within h = elim (cases_lt i i') [
   | inl above ↦ elim (only i' (omega arith) h) [
     | inl was ↦ λ k d lt'. marked-more base old new (get_or (get_or nodes i' w').items k d).child more (closed i' w' (omega arith) within was k d lt')
@@ -139,10 +140,10 @@ closed-step base i nodes w old new lower lt le own more only closed i' w' from w
   | inr top ↦
       let is : i' ≡ i = omega arith in
       let node : get_or nodes i w ≡ get_or nodes i' w' = rw is (get_or_default nodes i w w' lt) in
-      subst (λ (v : Vec Entry). AreMarked base new v.items (length v.items)) node own
+      subst (λ (v : Listed). AreMarked base new v.items (length v.items)) node own
 ]
 
-pub closed-skip : (base i : ℕ) (nodes : List (Vec Entry)) (live : List Bool) → is_live base live i ≡ false → IsClosed base live nodes (i + 1) → IsClosed base live nodes i
+pub closed-skip : (base i : ℕ) (nodes : List Listed) (live : List Bool) → is_live base live i ≡ false → IsClosed base live nodes (i + 1) → IsClosed base live nodes i
 closed-skip base i nodes live dark closed i' w' from within h = elim (cases_lt i i') [
   | inl above ↦ closed i' w' (omega arith) within h
   | inr top ↦ let is : i' ≡ i = omega arith in let yes : is_live base live i ≡ true = rw (← is) h in absurd cc

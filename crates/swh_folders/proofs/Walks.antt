@@ -4,7 +4,7 @@ use Rattle.std.proofs.Math.Seq.{drop-cons}
 use Rattle.std.proofs.lemmas.List.{get_or-map, length-map}
 use Rattle.std.specs.Borrow.{Bor}
 use Rattle.std.specs.Global.{Vec}
-use Rattle.swh_folders.specs.declared.entry.Entry.{Entry}
+use Rattle.swh_folders.specs.Listed.{Listed}
 use Rattle.swh_folders.specs.declared.entry.Child.{Child}
 use Rattle.swh_folders.specs.Forest.{Stands, put, folder, forest, step, found, graft}
 use Rattle.swh_folders.specs.Arena.{parts_of, IsIn, Grows}
@@ -30,13 +30,13 @@ pub in-more : (k k' : ℕ) (c : Option Child) → k ≤ k' → IsIn k c → IsIn
 in-more k k' None le h = tt
 in-more k k' (Some c) le h = lower-more k k' c le h
 
-pub grows-more : (n n' n'' : List (Vec ℕ)) (o o' o'' : List (Vec Entry)) → Grows n o n' o' → Grows n' o' n'' o'' → Grows n o n'' o''
+pub grows-more : (n n' n'' : List (Vec ℕ)) (o o' o'' : List Listed) → Grows n o n' o' → Grows n' o' n'' o'' → Grows n o n'' o''
 grows-more n n' n'' o o' o'' g h = record {
   longer = let a = g.longer in let b = h.longer in omega arith;
   trees = λ i lt. let a = g.longer in h.trees i (omega arith) ∙ g.trees i lt;
 }
 
-pub grows-none : (n : List (Vec ℕ)) (o : List (Vec Entry)) → Grows n o n o
+pub grows-none : (n : List (Vec ℕ)) (o : List Listed) → Grows n o n o
 grows-none n o = record { longer = omega arith; trees = λ i lt. refl }
 
 pub length-parts_of : (path : List (Bor (List ℕ))) → length (parts_of path) ≡ length path

@@ -1,7 +1,7 @@
 -- What stays of folders at work.
 use Rattle.std.proofs.Common.{◌≡◌, ℕ, ◌≤◌, List, [], ◌∷◌, ◌++◌, length, Option, Some, None, refl, ap, ◌∙◌, arith}
 use Rattle.std.specs.Global.{Vec}
-use Rattle.swh_folders.specs.declared.entry.Entry.{Entry}
+use Rattle.swh_folders.specs.Listed.{Listed}
 use Rattle.swh_folders.specs.declared.folders.Folders.{Folders}
 use Rattle.swh_folders.specs.Arena.{tree_at, forest_of, texts, Grows}
 use Rattle.swh_folders.specs.Roots.{IsGood, map_at, IsBelow, map_of_number}
@@ -24,7 +24,7 @@ pub stays-on : (base : ℕ) (a b c : Folders) → StaysBelow base a b → StaysB
 stays-on base a b c s t = record { good = t.good; long = t.long; stay = λ j lt. t.stay j lt ∙ s.stay j lt }
 
 -- a folder more, with no entries
-pub stays-pushed : (base : ℕ) (old new : Folders) (v : Vec Entry) → base ≤ count_of old → AreFolders old → v.items ≡ [] → new.names.items ≡ old.names.items → new.nodes.items ≡ old.nodes.items ++ v ∷ [] → StaysBelow base old new
+pub stays-pushed : (base : ℕ) (old new : Folders) (v : Listed) → base ≤ count_of old → AreFolders old → v.items ≡ [] → new.names.items ≡ old.names.items → new.nodes.items ≡ old.nodes.items ++ v ∷ [] → StaysBelow base old new
 stays-pushed base old new v le good none names nodes = record {
   good = rw (names, nodes) (record {
     arena = arena-push old.names.items old.nodes.items v good.arena (rw none tt);
@@ -34,13 +34,13 @@ stays-pushed base old new v le good none names nodes = record {
   stay = λ j lt. rw (names, nodes) (tree-push_old old.names.items old.nodes.items v j (omega arith));
 }
 
-pub tree-pushed : (names : List (Vec ℕ)) (nodes : List (Vec Entry)) (v : Vec Entry) → v.items ≡ [] → tree_at names (nodes ++ v ∷ []) (length nodes) ≡ Bare
+pub tree-pushed : (names : List (Vec ℕ)) (nodes : List Listed) (v : Listed) → v.items ≡ [] → tree_at names (nodes ++ v ∷ []) (length nodes) ≡ Bare
 tree-pushed names nodes v none = tree-push_new names nodes v ∙ ap (forest_of (texts names) (tree_at names nodes)) none
 
-pub below-grown : (names names' : List (Vec ℕ)) (nodes nodes' : List (Vec Entry)) (root : Option ℕ) → IsBelow (length nodes) root → Grows names nodes names' nodes' → IsBelow (length nodes') root
+pub below-grown : (names names' : List (Vec ℕ)) (nodes nodes' : List Listed) (root : Option ℕ) → IsBelow (length nodes) root → Grows names nodes names' nodes' → IsBelow (length nodes') root
 below-grown names names' nodes nodes' None low grows = tt
 below-grown names names' nodes nodes' (Some n) low grows = let more = grows.longer in omega arith
 
-pub map-grown : (names names' : List (Vec ℕ)) (nodes nodes' : List (Vec Entry)) (root : Option ℕ) → IsBelow (length nodes) root → Grows names nodes names' nodes' → map_of_number (map_at names' nodes') root ≡ map_of_number (map_at names nodes) root
+pub map-grown : (names names' : List (Vec ℕ)) (nodes nodes' : List Listed) (root : Option ℕ) → IsBelow (length nodes) root → Grows names nodes names' nodes' → map_of_number (map_at names' nodes') root ≡ map_of_number (map_at names nodes) root
 map-grown names names' nodes nodes' None low grows = refl
 map-grown names names' nodes nodes' (Some n) low grows = ap flat (grows.trees n low)

@@ -5,6 +5,7 @@ use Rattle.std.specs.List.{AllByRecursion}
 use Rattle.std.specs.Global.{Vec}
 use Rattle.swh_folders.specs.declared.entry.Child.{Child}
 use Rattle.swh_folders.specs.declared.entry.Entry.{Entry}
+use Rattle.swh_folders.specs.Listed.{Listed}
 use Rattle.swh_folders.specs.declared.entry.Child.TheVariants.{File as FileChild, Folder as FolderChild}
 use Rattle.swh_folders.specs.Forest.{Forest, Bare, Stands, Nothing, IsFile, IsFolder, beside, is_before, found}
 use Rattle.swh_folders.specs.PathMap.{same}
@@ -80,15 +81,15 @@ abbrev pub texts : List (Vec ℕ) → List (List ℕ)
 texts names = map (λ v. v.items) names
 
 -- the newest first
-abbrev pub layers : List (Vec Entry) → List (List Entry)
+abbrev pub layers : List Listed → List (List Entry)
 layers nodes = reverse (map (λ v. v.items) nodes)
 
 -- the folder of a number
-unfoldable pub tree_at : List (Vec ℕ) → List (Vec Entry) → ℕ → Forest
+unfoldable pub tree_at : List (Vec ℕ) → List Listed → ℕ → Forest
 tree_at names nodes i = among (texts names) (layers nodes) i
 
 -- each folder's own folders have lower numbers
-unfoldable pub IsArena : List (Vec ℕ) → List (Vec Entry) → Type 0
+unfoldable pub IsArena : List (Vec ℕ) → List Listed → Type 0
 IsArena names nodes = AllGood (length names) (layers nodes)
 
 -- A folder that stands there has a number below this one.
@@ -97,7 +98,7 @@ IsIn n None = Unit {0}
 IsIn n (Some c) = IsLower n c
 
 -- numbers mean what they meant
-pub record Grows (names : List (Vec ℕ)) (nodes : List (Vec Entry)) (names' : List (Vec ℕ)) (nodes' : List (Vec Entry)) : Type 0 where
+pub record Grows (names : List (Vec ℕ)) (nodes : List Listed) (names' : List (Vec ℕ)) (nodes' : List Listed) : Type 0 where
   pub longer : length nodes ≤ length nodes'
   pub trees : (i : ℕ) → i < length nodes → tree_at names' nodes' i ≡ tree_at names nodes i
 

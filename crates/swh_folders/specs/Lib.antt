@@ -1,8 +1,10 @@
 pub mod Arena
 pub mod Forest
 pub mod Leaf
+pub mod Listed
 pub mod Live
 pub mod Moved
+pub mod Packing
 pub mod PathMap
 pub mod Roots
 pub mod Sound

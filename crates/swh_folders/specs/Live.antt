@@ -1,9 +1,9 @@
 -- Which folders a root still needs: those that are marked.
 use Rattle.std.specs.Prelude.{◌≡◌, ℕ, ◌-◌, ◌<◌, ◌≤◌, Bool, true, false, List, length, slice_index_or}
-use Rattle.std.specs.Global.{Vec}
 use Rattle.swh_folders.specs.declared.entry.Child.{Child}
 use Rattle.swh_folders.specs.declared.entry.Child.TheVariants.{File as FileChild, Folder as FolderChild}
 use Rattle.swh_folders.specs.declared.entry.Entry.{Entry}
+use Rattle.swh_folders.specs.Listed.{Listed}
 use Rattle.swh_folders.specs.Arena.{IsLower}
 use Rattle.swh_folders.specs.Forest.{Forest, Stands, IsFolder, found}
 
@@ -28,12 +28,12 @@ pub record HasChild (es : List Entry) (n j : ℕ) : Type 0 where
   pub child : (slice_index_or es place other).child ≡ FolderChild j
 
 -- The folders that a folder has stand below it.
-abbrev pub AreLower : List (Vec Entry) → Type 0
-AreLower nodes = (i : ℕ) (w : Vec Entry) (k : ℕ) (d : Entry) → i < length nodes → k < length (slice_index_or nodes i w).items → IsLower i (slice_index_or (slice_index_or nodes i w).items k d).child
+abbrev pub AreLower : List Listed → Type 0
+AreLower nodes = (i : ℕ) (w : Listed) (k : ℕ) (d : Entry) → i < length nodes → k < length (slice_index_or nodes i w).items → IsLower i (slice_index_or (slice_index_or nodes i w).items k d).child
 
 -- From this number on the folders of marked folders are marked.
-abbrev pub IsClosed : ℕ → List Bool → List (Vec Entry) → ℕ → Type 0
-IsClosed base live nodes from = (i : ℕ) (w : Vec Entry) → from ≤ i → i < length nodes → is_live base live i ≡ true → AreMarked base live (slice_index_or nodes i w).items (length (slice_index_or nodes i w).items)
+abbrev pub IsClosed : ℕ → List Bool → List Listed → ℕ → Type 0
+IsClosed base live nodes from = (i : ℕ) (w : Listed) → from ≤ i → i < length nodes → is_live base live i ≡ true → AreMarked base live (slice_index_or nodes i w).items (length (slice_index_or nodes i w).items)
 
 -- The folder is one of those of what stands here.
 pub record IsPart (x : Stands) (g : Forest) : Type 0 where

@@ -1,7 +1,7 @@
 -- Folders that were moved.
 use Rattle.std.specs.Prelude.{◌≡◌, ℕ, ◌+◌, ◌<◌, ◌≤◌, ◌++◌, Bool, true, List, length, take, slice_index_or}
 use Rattle.std.specs.Global.{Vec}
-use Rattle.swh_folders.specs.declared.entry.Entry.{Entry}
+use Rattle.swh_folders.specs.Listed.{Listed}
 use Rattle.swh_folders.specs.Arena.{tree_at, IsArena}
 use Rattle.swh_folders.specs.Forest.{Forest, Stands}
 use Rattle.swh_folders.specs.Live.{is_live, IsPart}
@@ -14,7 +14,7 @@ pub record AreMoved (at at' : ℕ → Forest) (base bound : ℕ) (live : List Bo
   pub inside : (k : ℕ) → k < length moved → is_live base live (base + k) ≡ true → slice_index_or moved k 0 < bound
 
 -- Fresh folders, after those below the base, stand for the moved ones, and each is a part of what stands here.
-pub record IsCopied (names : List (Vec ℕ)) (nodes : List (Vec Entry)) (base : ℕ) (live : List Bool) (x : Stands) (fresh : List (Vec Entry)) (moved : List ℕ) : Type 0 where
+pub record IsCopied (names : List (Vec ℕ)) (nodes : List Listed) (base : ℕ) (live : List Bool) (x : Stands) (fresh : List Listed) (moved : List ℕ) : Type 0 where
   pub arena : IsArena names (take base nodes ++ fresh)
   pub moves : AreMoved (tree_at names nodes) (tree_at names (take base nodes ++ fresh)) base (base + length fresh) live moved
   pub parts : (m : ℕ) → base ≤ m → m < base + length fresh → IsPart x (tree_at names (take base nodes ++ fresh) m)

@@ -1,23 +1,23 @@
 -- Numbered folders, all of them sound, and what the number of a root stands for.
 use Rattle.std.specs.Prelude.{ℕ, ◌<◌, List, [], length, Option, Some, None}
 use Rattle.std.specs.Global.{Vec}
-use Rattle.swh_folders.specs.declared.entry.Entry.{Entry}
+use Rattle.swh_folders.specs.Listed.{Listed}
 use Rattle.swh_folders.specs.Arena.{tree_at, IsArena}
 use Rattle.swh_folders.specs.Forest.{Forest, Bare, flat}
 use Rattle.swh_folders.specs.PathMap.{PathMap}
 use Rattle.swh_folders.specs.Sound.{IsSound}
 
 -- each folder is sound
-abbrev pub AreSound : List (Vec ℕ) → List (Vec Entry) → Type 0
+abbrev pub AreSound : List (Vec ℕ) → List Listed → Type 0
 AreSound names nodes = (i : ℕ) → i < length nodes → IsSound (tree_at names nodes i)
 
 -- numbered folders, all of them sound
-pub record IsGood (names : List (Vec ℕ)) (nodes : List (Vec Entry)) : Type 0 where
+pub record IsGood (names : List (Vec ℕ)) (nodes : List Listed) : Type 0 where
   pub arena : IsArena names nodes
   pub sound : AreSound names nodes
 
 -- the map of a number
-abbrev pub map_at : List (Vec ℕ) → List (Vec Entry) → ℕ → PathMap
+abbrev pub map_at : List (Vec ℕ) → List Listed → ℕ → PathMap
 map_at names nodes n = flat (tree_at names nodes n)
 
 -- the folder of a number, and none where there is no number

@@ -23,72 +23,64 @@ ghost use Rattle.swh_folders.specs.Roots.{AreSound, IsGood};
 
 use crate::entry::{Child, Entry};
 use crate::node::{child_in, kept, name_in, place};
+use crate::packing::Packed;
 use std::alloc::{AllocError, Global};
 
 /// The entries of the folder that stands here; none where no folder does.
-fn entries_of(nodes: &[Vec<Entry>], under: Option<Child>) -> &[Entry]
+fn opened(alloc: Global, nodes: &[Packed], under: Option<Child>) -> Result<Vec<Entry>, AllocError>
     requires { IsIn (length nodes.now) under }
     ensures good { (names : List (Vec ℕ)) → IsArena names nodes.now
-        → AreGood (length names) (length nodes.now) result.now }
+        → IfOk result (λ v. AreGood (length names) (length nodes.now) v.items) }
     ensures forest { (names : List (Vec ℕ)) → IsArena names nodes.now
-        → forest_of (texts names) (tree_at names nodes.now) result.now
-        ≡ forest (stands_of (tree_at names nodes.now) under) }
+        → IfOk result (λ v. forest_of (texts names) (tree_at names nodes.now) v.items
+        ≡ forest (stands_of (tree_at names nodes.now) under)) }
 {
     match under {
         Some(child) => match child {
-            Child::Folder(i) => nodes[i].as_slice(),
-            Child::File(_) => &[],
+            Child::Folder(i) => nodes[i].entries(alloc),
+            Child::File(_) => Ok(Vec::new(alloc)),
         },
-        None => &[],
+        None => Ok(Vec::new(alloc)),
     }
 }
 
 /// What stands under this name in what stands here.
-pub fn step(
-    names: &[Vec<u8>],
-    nodes: &[Vec<Entry>],
-    under: Option<Child>,
-    name: &[u8],
-) -> Option<Child>
+pub fn step(names: &[Vec<u8>], nodes: &[Packed], under: Option<Child>, name: &[u8]) -> Option<Child>
     requires good { IsArena names.now nodes.now }
     requires under { IsIn (length nodes.now) under }
     ensures inside { IsIn (length nodes.now) result }
     ensures child { stands_of (tree_at names.now nodes.now) result
         ≡ step name.now (stands_of (tree_at names.now nodes.now) under) }
 {
-    child_in(names, entries_of(nodes, under), name)
+    match under {
+        Some(child) => match child {
+            Child::Folder(i) => child_in(names, &nodes[i], name),
+            Child::File(_) => None,
+        },
+        None => None,
+    }
 }
 
-/// The entries of what stands here, but that of this name.
+/// The number of this name, where an entry of what stands here has it, and the other entries.
 fn cleared(
     alloc: Global,
     names: &[Vec<u8>],
-    nodes: &[Vec<Entry>],
+    nodes: &[Packed],
     under: Option<Child>,
     name: &[u8],
-) -> Result<Vec<Entry>, AllocError>
+) -> Result<(Option<usize>, Vec<Entry>), AllocError>
     requires good { IsArena names.now nodes.now }
     requires under { IsIn (length nodes.now) under }
-    ensures good { IfOk result (λ v. AreGood (length names.now) (length nodes.now) v.items) }
-    ensures forest { IfOk result (λ v. forest_of (texts names.now) (tree_at names.now nodes.now) v.items
+    ensures known { IfOk result (λ r. IfSome r.0
+        (λ n. (n < length names.now) × (name_at (texts names.now) n ≡ name.now))) }
+    ensures good { IfOk result (λ r. AreGood (length names.now) (length nodes.now) r.1.items) }
+    ensures forest { IfOk result (λ r. forest_of (texts names.now) (tree_at names.now nodes.now) r.1.items
         ≡ without name.now (forest (stands_of (tree_at names.now nodes.now) under))) }
 {
-    let out = kept(alloc, names, entries_of(nodes, under), name)?;
-    Ok(out)
-}
-
-/// The number of this name, where an entry of what stands here has it.
-fn known_name(
-    names: &[Vec<u8>],
-    nodes: &[Vec<Entry>],
-    under: Option<Child>,
-    name: &[u8],
-) -> Option<usize>
-    requires good { IsArena names.now nodes.now }
-    requires under { IsIn (length nodes.now) under }
-    ensures { IfSome result (λ n. (n < length names.now) × (name_at (texts names.now) n ≡ name.now)) }
-{
-    name_in(names, entries_of(nodes, under), name)
+    let entries = opened(alloc, nodes, under)?;
+    let known = name_in(names, entries.as_slice(), name);
+    let out = kept(alloc, names, entries.as_slice(), name)?;
+    Ok((known, out))
 }
 
 /// The number of a name: the one that is known, or a new one.
@@ -164,7 +156,11 @@ fn add_some(
 }
 
 /// The folder of these entries, if there are any.
-fn seal(nodes: &mut Vec<Vec<Entry>>, out: Vec<Entry>) -> Result<Option<Child>, AllocError>
+fn seal(
+    alloc: Global,
+    nodes: &mut Vec<Packed>,
+    out: Vec<Entry>,
+) -> Result<Option<Child>, AllocError>
     ensures arena { (names : List (Vec ℕ)) → IsArena names nodes.old.items
         → AreGood (length names) (length nodes.old.items) out.items → IsArena names nodes.new.items }
     ensures grows { (names : List (Vec ℕ)) → Grows names nodes.old.items names nodes.new.items }
@@ -178,8 +174,9 @@ fn seal(nodes: &mut Vec<Vec<Entry>>, out: Vec<Entry>) -> Result<Option<Child>, A
     if out.is_empty() {
         return Ok(None);
     }
+    let packed = Packed::of(alloc, out.as_slice())?;
     let number = nodes.len();
-    nodes.push(out)?;
+    nodes.push(packed)?;
     Ok(Some(Child::Folder(number)))
 }
 
@@ -187,7 +184,7 @@ fn seal(nodes: &mut Vec<Vec<Entry>>, out: Vec<Entry>) -> Result<Option<Child>, A
 pub fn put(
     alloc: Global,
     names: &mut Vec<Vec<u8>>,
-    nodes: &mut Vec<Vec<Entry>>,
+    nodes: &mut Vec<Packed>,
     under: Option<Child>,
     name: &[u8],
     child: Option<Child>,
@@ -205,8 +202,7 @@ pub fn put(
         ≡ folder (put name.now (stands_of (tree_at names.old.items nodes.old.items) child)
         (forest (stands_of (tree_at names.old.items nodes.old.items) under)))) }
 {
-    let known = known_name(names.as_slice(), nodes.as_slice(), under, name);
-    let mut out = cleared(alloc, names.as_slice(), nodes.as_slice(), under, name)?;
+    let (known, mut out) = cleared(alloc, names.as_slice(), nodes.as_slice(), under, name)?;
     add_some(alloc, names, &mut out, known, name, child)?;
-    seal(nodes, out)
+    seal(alloc, nodes, out)
 }

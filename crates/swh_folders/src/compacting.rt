@@ -26,6 +26,7 @@ ghost use Rattle.swh_folders.specs.Moved.{AreMoved, IsCopied};
 
 use crate::entry::{Child, Entry};
 use crate::live::live_of;
+use crate::packing::Packed;
 use std::alloc::{AllocError, Global};
 
 /// Where a child stands now.
@@ -76,11 +77,11 @@ fn moved_entries(
 /// One folder more: moved to the end of the fresh ones, where it is wanted.
 fn move_one(
     alloc: Global,
-    nodes: &[Vec<Entry>],
+    nodes: &[Packed],
     base: usize,
     wanted: bool,
     moved: &mut Vec<usize>,
-    fresh: &mut Vec<Vec<Entry>>,
+    fresh: &mut Vec<Packed>,
 ) -> Result<(), AllocError>
     requires within { base + length moved.old.items < length nodes.now }
     requires room { length fresh.old.items ≤ length moved.old.items }
@@ -98,9 +99,11 @@ fn move_one(
         return Ok(());
     }
     let number = base + moved.len();
-    let entries = moved_entries(alloc, nodes[number].as_slice(), base, moved.as_slice())?;
+    let old = nodes[number].entries(alloc)?;
+    let entries = moved_entries(alloc, old.as_slice(), base, moved.as_slice())?;
+    let packed = Packed::of(alloc, entries.as_slice())?;
     let place = base + fresh.len();
-    fresh.push(entries)?;
+    fresh.push(packed)?;
     moved.push(place)?;
     Ok(())
 }
@@ -108,10 +111,10 @@ fn move_one(
 /// The marked folders from the base on, moved together, and where each of them stands now.
 fn move_all(
     alloc: Global,
-    nodes: &[Vec<Entry>],
+    nodes: &[Packed],
     base: usize,
     live: &[bool],
-) -> Result<(Vec<Vec<Entry>>, Vec<usize>), AllocError>
+) -> Result<(Vec<Packed>, Vec<usize>), AllocError>
     requires as_long { base + length live.now ≡ length nodes.now }
     requires lower { AreLower nodes.now }
     ensures next { IfOk result (λ r. length r.1.items ≡ length live.now) }
@@ -132,7 +135,7 @@ fn move_all(
 /// The folders below the base, and after them those that the root needs, and the root's new number.
 pub fn compact(
     alloc: Global,
-    nodes: &mut Vec<Vec<Entry>>,
+    nodes: &mut Vec<Packed>,
     base: usize,
     root: usize,
 ) -> Result<usize, AllocError>

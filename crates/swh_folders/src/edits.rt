@@ -12,7 +12,8 @@ ghost use Rattle.swh_folders.specs.Transfer.{transferred, left_by};
 ghost use Rattle.swh_base.specs.Directory.{IsEntryName};
 ghost use Rattle.swh_fastlex.specs.Path.{components, IsPath};
 
-use crate::entry::{Child, Entry, Leaf};
+use crate::entry::{Child, Leaf};
+use crate::packing::Packed;
 use crate::path::{components_of, find, graft};
 use std::alloc::{AllocError, Global};
 
@@ -50,7 +51,7 @@ fn number_of(child: Option<Child>) -> Option<usize>
 pub fn set_leaf(
     alloc: Global,
     names: &mut Vec<Vec<u8>>,
-    nodes: &mut Vec<Vec<Entry>>,
+    nodes: &mut Vec<Packed>,
     root: Option<usize>,
     path: &[u8],
     leaf: Leaf,
@@ -81,7 +82,7 @@ pub fn set_leaf(
 pub fn delete_path(
     alloc: Global,
     names: &mut Vec<Vec<u8>>,
-    nodes: &mut Vec<Vec<Entry>>,
+    nodes: &mut Vec<Packed>,
     root: Option<usize>,
     path: &[u8],
 ) -> Result<Option<usize>, AllocError>
@@ -107,7 +108,7 @@ pub fn delete_path(
 fn left_of(
     alloc: Global,
     names: &mut Vec<Vec<u8>>,
-    nodes: &mut Vec<Vec<Entry>>,
+    nodes: &mut Vec<Packed>,
     here: Option<Child>,
     source: &[&[u8]],
     way: Transfer,
@@ -132,7 +133,7 @@ fn left_of(
 pub fn transfer_path(
     alloc: Global,
     names: &mut Vec<Vec<u8>>,
-    nodes: &mut Vec<Vec<Entry>>,
+    nodes: &mut Vec<Packed>,
     root: Option<usize>,
     source: &[u8],
     target: &[u8],

@@ -10,7 +10,8 @@ ghost use Rattle.swh_folders.specs.Working.{AreFolders, count_of, root_map, Stay
 
 use crate::compacting::compact;
 use crate::edits::{Transfer, delete_path, set_leaf, transfer_path};
-use crate::entry::{Entry, Leaf};
+use crate::entry::Leaf;
+use crate::packing::Packed;
 use std::alloc::{AllocError, Global};
 
 /// How many entries more than twice those that are needed may stand in folders.
@@ -20,7 +21,7 @@ const SPARE: usize = 65_536;
 #[derive(Drop)]
 pub struct Folders {
     pub names: Vec<Vec<u8>>,
-    pub nodes: Vec<Vec<Entry>>,
+    pub nodes: Vec<Packed>,
     /// The number of the first folder whose entries are not counted.
     pub counted: usize,
     /// How many entries were counted since folders were dropped.
@@ -45,7 +46,7 @@ impl Folders {
 }
 
 /// How many entries the folders from this one on have, at most what a `usize` holds.
-fn entries_from(nodes: &[Vec<Entry>], first: usize) -> usize {
+fn entries_from(nodes: &[Packed], first: usize) -> usize {
     let mut sum: usize = 0;
     for number in first..nodes.len() {
         sum = sum.saturating_add(nodes[number].len());

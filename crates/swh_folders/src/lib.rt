@@ -12,12 +12,14 @@ mod entry;
 mod folders;
 mod live;
 mod node;
+mod packing;
 mod path;
 
 pub use compacting::compact;
 pub use edits::Transfer;
 pub use entry::{Child, Entry, Leaf, whole_id};
 pub use folders::{Folders, count_from, delete_in, set_in, transfer_in};
+pub use packing::Packed;
 
 #[cfg(test)]
 mod tests;

@@ -10,6 +10,7 @@ ghost use Rattle.swh_folders.specs.Roots.{AreSound};
 ghost use Rattle.swh_folders.specs.Live.{is_live, IsMarked, AreMarked, HasChild, AreLower, IsClosed, AreLiveParts};
 
 use crate::entry::{Child, Entry};
+use crate::packing::Packed;
 use std::alloc::{AllocError, Global};
 
 /// Marks a folder that stands from the base on.
@@ -61,7 +62,7 @@ fn root_alone(alloc: Global, count: usize, root: usize) -> Result<Vec<bool>, All
 /// them.
 pub fn live_of(
     alloc: Global,
-    nodes: &[Vec<Entry>],
+    nodes: &[Packed],
     base: usize,
     root: usize,
 ) -> Result<Vec<bool>, AllocError>
@@ -80,7 +81,8 @@ pub fn live_of(
     'down: while left > base {
         left -= 1;
         if live[left - base] {
-            mark_all(live.as_mut_slice(), base, nodes[left].as_slice());
+            let entries = nodes[left].entries(alloc)?;
+            mark_all(live.as_mut_slice(), base, entries.as_slice());
         }
     }
     Ok(live)

@@ -18,6 +18,7 @@ ghost use Rattle.swh_folders.specs.Arena.{
 };
 
 use crate::entry::{Child, Entry};
+use crate::packing::Packed;
 use std::alloc::{AllocError, Global};
 
 /// Whether the name of this number is this one.
@@ -29,13 +30,14 @@ fn is_name(names: &[Vec<u8>], number: usize, name: &[u8]) -> bool
 }
 
 /// What stands under this name.
-pub fn child_in(names: &[Vec<u8>], entries: &[Entry], name: &[u8]) -> Option<Child>
-    requires { All (λ e. e.name < length names.now) entries.now }
-    ensures inside { (n k : ℕ) → AreGood n k entries.now → IsIn k result }
+pub fn child_in(names: &[Vec<u8>], node: &Packed, name: &[u8]) -> Option<Child>
+    requires { All (λ e. e.name < length names.now) node.now.items }
+    ensures inside { (n k : ℕ) → AreGood n k node.now.items → IsIn k result }
     ensures child { (at : ℕ → Forest) → stands_of at result
-        ≡ child_at name.now (forest_of (texts names.now) at entries.now) }
+        ≡ child_at name.now (forest_of (texts names.now) at node.now.items) }
 {
-    for e in entries {
+    for place in 0..node.len() {
+        let e = node.at(place);
         let found = is_name(names, e.name, name);
         if found {
             return Some(e.child);

@@ -10,14 +10,15 @@ ghost use Rattle.swh_folders.specs.Roots.{IsGood};
 ghost use Rattle.swh_folders.specs.Arena.{stands_of, tree_at, parts_of, IsArena, IsIn, Grows, AreFronts};
 
 use crate::arena::{put, step};
-use crate::entry::{Child, Entry};
+use crate::entry::Child;
+use crate::packing::Packed;
 use std::alloc::{AllocError, Global};
 use swh_pieces::split_at_byte;
 
 /// What stands at this path.
 pub fn find(
     names: &[Vec<u8>],
-    nodes: &[Vec<Entry>],
+    nodes: &[Packed],
     root: Option<Child>,
     path: &[&[u8]],
 ) -> Option<Child>
@@ -38,7 +39,7 @@ pub fn find(
 fn fronts_of(
     alloc: Global,
     names: &[Vec<u8>],
-    nodes: &[Vec<Entry>],
+    nodes: &[Packed],
     root: Option<Child>,
     path: &[&[u8]],
 ) -> Result<Vec<Option<Child>>, AllocError>
@@ -60,7 +61,7 @@ fn fronts_of(
 pub fn graft(
     alloc: Global,
     names: &mut Vec<Vec<u8>>,
-    nodes: &mut Vec<Vec<Entry>>,
+    nodes: &mut Vec<Packed>,
     root: Option<Child>,
     path: &[&[u8]],
     child: Option<Child>,

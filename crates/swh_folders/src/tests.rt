@@ -54,20 +54,30 @@ fn moved(
     transfer_in(alloc, folders, 0, root, paths.0, paths.1, way)
 }
 
-/// The entries of a root's folder; none where there is no such folder.
-fn entries_of(folders: &Folders, root: Option<usize>) -> &[Entry] {
+/// How many entries a root's folder has; none where there is no such folder.
+fn count_in(folders: &Folders, root: Option<usize>) -> usize {
     let Some(number) = root else {
-        return &[];
+        return 0;
     };
     match folders.nodes.get(number) {
-        Some(entries) => entries.as_slice(),
-        None => &[],
+        Some(node) => node.len(),
+        None => 0,
+    }
+}
+
+/// The entry at this place of a root's folder.
+fn entry_in(folders: &Folders, root: Option<usize>, place: usize) -> Option<Entry> {
+    let node = folders.nodes.get(root?)?;
+    if place < node.len() {
+        Some(node.at(place))
+    } else {
+        None
     }
 }
 
 /// Whether the root's folder has this name at this place.
 fn is_at(folders: &Folders, root: Option<usize>, place: usize, name: &[u8]) -> bool {
-    let Some(entry) = entries_of(folders, root).get(place) else {
+    let Some(entry) = entry_in(folders, root, place) else {
         return false;
     };
     match folders.names.get(entry.name) {
@@ -78,7 +88,7 @@ fn is_at(folders: &Folders, root: Option<usize>, place: usize, name: &[u8]) -> b
 
 /// The number of the folder at this place of the root's folder.
 fn folder_in(folders: &Folders, root: Option<usize>, place: usize) -> Option<usize> {
-    let entry = entries_of(folders, root).get(place)?;
+    let entry = entry_in(folders, root, place)?;
     match entry.child {
         Child::Folder(number) => Some(number),
         Child::File(_) => None,
@@ -107,7 +117,7 @@ fn a_file_in_the_place_of_its_folder(rt: HostRuntime) -> Result<(), Fail> {
     assert!(rt; folder_in(&folders, root, 0).is_some());
     let root = edited(alloc, &mut folders, root, b"x", true)?;
     assert!(rt; folder_in(&folders, root, 0).is_none());
-    assert_eq!(rt; entries_of(&folders, root).len(), 1);
+    assert_eq!(rt; count_in(&folders, root), 1);
     Ok(())
 }
 
@@ -147,7 +157,7 @@ fn a_folder_moved_under_itself(rt: HostRuntime) -> Result<(), Fail> {
         return Ok(());
     };
     assert!(rt; is_at(&folders, folder_in(&folders, moved, 0), 0, b"b"));
-    assert_eq!(rt; entries_of(&folders, moved).len(), 1);
+    assert_eq!(rt; count_in(&folders, moved), 1);
     Ok(())
 }
 

@@ -10,6 +10,7 @@ use Rattle.swh_base.specs.declared.kind.Kind.{Kind}
 use Rattle.swh_base.specs.Directory.{DirectoryEntry, directory_text}
 use Rattle.swh_folders.specs.declared.entry.Leaf.{Leaf}
 use Rattle.swh_folders.specs.declared.entry.Entry.{Entry}
+use Rattle.swh_folders.specs.Listed.{Listed}
 use Rattle.swh_folders.specs.declared.entry.Child.{Child}
 use Rattle.swh_folders.specs.declared.entry.Child.TheVariants.{File as FileChild, Folder as FolderChild}
 use Rattle.swh_trees.specs.declared.fault.TreeFault.{TreeFault}
@@ -81,11 +82,11 @@ entry-number names at n k [] c g good e = absurd cc
 entry-number names at n k (x ∷ es) c g good e = entry_case at k (name_at names x.name) x.child (forest_of names at es) c g good.0.child e (entry-number names at n k es c g good.1)
 
 -- a folder in a folder has a lower number
-child-below : (f : Folders) → AreFolders f → (i : ℕ) → i < count_of f → (d : Vec Entry) → (c : List ℕ) (g : Forest) → child_at c (folder_at f i) ≡ IsFolder g → (j : ℕ) × (j < i) × (folder_at f j ≡ g)
+child-below : (f : Folders) → AreFolders f → (i : ℕ) → i < count_of f → (d : Listed) → (c : List ℕ) (g : Forest) → child_at c (folder_at f i) ≡ IsFolder g → (j : ℕ) × (j < i) × (folder_at f j ≡ g)
 child-below f good i lt d c g e =
     let names = f.names.items in
     let nodes = f.nodes.items in
-    let v : Vec Entry = get_or nodes i d in
+    let v : Listed = get_or nodes i d in
     let is : v ≡ get_or nodes i v = get_or_default nodes i d v lt in
     let low = entries-low names nodes i v good.arena lt is in
     let node = tree-node names nodes i v good.arena lt is in
@@ -98,7 +99,7 @@ folder_child (IsFile l) (c ∷ p) g e = let none = found-file c p l in absurd cc
 folder_child (IsFolder h) p g e = (h, refl)
 
 -- each folder of a folder has a number
-number-of : (f : Folders) → AreFolders f → (d : Vec Entry) (p : List (List ℕ)) (i : ℕ) → i < count_of f → (g : Forest) → found p (IsFolder (folder_at f i)) ≡ IsFolder g → (n : ℕ) × (n ≤ i) × (folder_at f n ≡ g)
+number-of : (f : Folders) → AreFolders f → (d : Listed) (p : List (List ℕ)) (i : ℕ) → i < count_of f → (g : Forest) → found p (IsFolder (folder_at f i)) ≡ IsFolder g → (n : ℕ) × (n ≤ i) × (folder_at f n ≡ g)
 number-of f good d [] i lt g e = (i, omega arith, folder-is (folder_at f i) g e)
 number-of f good d (c ∷ p) i lt g e =
     let child = folder_child (child_at c (folder_at f i)) p g e in
@@ -109,7 +110,7 @@ number-of f good d (c ∷ p) i lt g e =
     let le : deep.0 ≤ below.0 = deep.1 in
     (deep.0, omega arith, deep.2)
 
-first_node : (nodes : List (Vec Entry)) (i : ℕ) → i < length nodes → Vec Entry
+first_node : (nodes : List Listed) (i : ℕ) → i < length nodes → Listed
 first_node [] i lt = absurd (omega arith)
 first_node (v ∷ nodes) i lt = v
 

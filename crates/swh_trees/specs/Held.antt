@@ -4,6 +4,7 @@ use Rattle.std.specs.Global.{Vec}
 use Rattle.swh_base.specs.declared.kind.Kind.{Kind}
 use Rattle.swh_base.specs.Directory.{DirectoryEntry}
 use Rattle.swh_folders.specs.declared.entry.Entry.{Entry}
+use Rattle.swh_folders.specs.Listed.{Listed}
 use Rattle.swh_folders.specs.Arena.{tree_at}
 use Rattle.swh_trees.specs.Directory.{directory_id}
 use Rattle.swh_folders.specs.Forest.{Forest, Bare}
@@ -21,7 +22,7 @@ abbrev pub IsEmptyFolder : (ℕ → Forest) → ℕ → Option ℕ → Type 0
 IsEmptyFolder at n None = Unit {0}
 IsEmptyFolder at n (Some k) = (k < n) × (at k ≡ Bare)
 
-pub record IsHeld (id_of : Kind → List ℕ → List ℕ) (names : List (Vec ℕ)) (nodes : List (Vec Entry)) (ids : List (List ℕ)) (empty : Option ℕ) : Type 0 where
+pub record IsHeld (id_of : Kind → List ℕ → List ℕ) (names : List (Vec ℕ)) (nodes : List Listed) (ids : List (List ℕ)) (empty : Option ℕ) : Type 0 where
   pub good : IsGood names nodes
   pub within : length ids ≤ length nodes
   pub known : AreIds (directory_id id_of) (tree_at names nodes) ids
@@ -33,7 +34,7 @@ first_values f zero = []
 first_values f (suc n) = first_values f n ++ f n ∷ []
 
 -- what callers see
-abbrev pub grove : List (Vec ℕ) → List (Vec Entry) → List (List ℕ) → Grove
+abbrev pub grove : List (Vec ℕ) → List Listed → List (List ℕ) → Grove
 grove names nodes ids = record { folders = first_values (map_at names nodes) (length nodes); made = length ids }
 
 -- the number of a tree after its objects were made: an empty one has none

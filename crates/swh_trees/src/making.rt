@@ -14,7 +14,7 @@ use crate::fault::TreeFault;
 use crate::objects::make_all;
 use std::alloc::{AllocError, Global};
 use swh_base::Namer;
-use swh_folders::{Folders, compact, count_from};
+use swh_folders::{Folders, Packed, compact, count_from};
 use swh_object::Object;
 
 /// The number of an empty folder: this one, or else a new one.
@@ -35,7 +35,7 @@ fn empty_folder(
         Some(number) => Ok(number),
         None => {
             let number = folders.nodes.len();
-            folders.nodes.push(Vec::new(alloc))?;
+            folders.nodes.push(Packed::none(alloc))?;
             Ok(number)
         }
     }

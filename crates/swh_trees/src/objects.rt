@@ -24,7 +24,7 @@ use crate::fault::TreeFault;
 use std::alloc::Global;
 use swh_base::{Kind, Namer};
 use swh_dirfmt::{DirEntry, Entries, write_dir};
-use swh_folders::{Entry, whole_id};
+use swh_folders::{Packed, whole_id};
 use swh_object::{Object, ObjectFault};
 
 /// The object of the directory of these entries.
@@ -52,7 +52,7 @@ fn make_one<N: Namer>(
     alloc: Global,
     namer: &N,
     names: &[Vec<u8>],
-    nodes: &[Vec<Entry>],
+    nodes: &[Packed],
     ids: &mut Vec<[u8; 20]>,
     objects: &mut Vec<Object<N>>,
 ) -> Result<(), TreeFault>
@@ -69,7 +69,8 @@ fn make_one<N: Namer>(
     ensures err { IfErr result (ExplainsEntries
         (directory (directory_id N.id_of) (tree_at names.now nodes.now (length ids.old.items)))) }
 {
-    let list = listing(alloc, names, ids.as_slice(), nodes[ids.len()].as_slice())?;
+    let entries = nodes[ids.len()].entries(alloc)?;
+    let list = listing(alloc, names, ids.as_slice(), entries.as_slice())?;
     let object = directory_object(alloc, namer, list)?;
     let name = object.name();
     objects.push(object)?;
@@ -83,7 +84,7 @@ pub fn make_all<N: Namer>(
     alloc: Global,
     namer: &N,
     names: &[Vec<u8>],
-    nodes: &[Vec<Entry>],
+    nodes: &[Packed],
     ids: &mut Vec<[u8; 20]>,
 ) -> Result<Vec<Object<N>>, TreeFault>
     requires good { IsGood names.now nodes.now }

@@ -1,14 +1,20 @@
-use Rattle.std.proofs.Common.{ap, ◌∙◌, length}
+use Rattle.std.proofs.Common.{rules, ◌<◌, sym, ap, ◌∙◌, length}
 use Rattle.swh_folders.specs.Forest.{child_at}
 use Rattle.swh_folders.specs.Arena.{tree_at}
-use Rattle.swh_folders.proofs.Arenas.{names-in_range}
+use Rattle.swh_folders.proofs.Arenas.{tree-node, entries-good, names-in_range}
 use Rattle.swh_folders.proofs.arena.step.Goals as goal
 
 pub child_in-requires : goal.child_in-requires
-child_in-requires c = names-in_range (length c.args.names.now) (length c.args.nodes.now) c.entries_of.result.now (c.entries_of.ensures.good c.args.names.now c.requires.good)
+child_in-requires c =
+    let lt : c.in-Folder.i < length c.args.nodes.now = search rules in
+    names-in_range (length c.args.names.now) (length c.args.nodes.now) c.index-nodes-i.result.items (entries-good c.args.names.now c.args.nodes.now c.in-Folder.i c.index-nodes-i.result c.requires.good lt c.index-nodes-i.is)
 
-pub returns-clause-inside : goal.returns-clause-inside
-returns-clause-inside c = c.child_in.ensures.inside (length c.args.names.now) (length c.args.nodes.now) (c.entries_of.ensures.good c.args.names.now c.requires.good)
+pub returns-in-Folder-clause-inside : goal.returns-in-Folder-clause-inside
+returns-in-Folder-clause-inside c =
+    let lt : c.in-Folder.i < length c.args.nodes.now = search rules in
+    c.child_in.ensures.inside (length c.args.names.now) (length c.args.nodes.now) (entries-good c.args.names.now c.args.nodes.now c.in-Folder.i c.index-nodes-i.result c.requires.good lt c.index-nodes-i.is)
 
-pub returns-clause-child : goal.returns-clause-child
-returns-clause-child c = c.child_in.ensures.child (tree_at c.args.names.now c.args.nodes.now) ∙ ap (child_at c.args.name.now) (c.entries_of.ensures.forest c.args.names.now c.requires.good)
+pub returns-in-Folder-clause-child : goal.returns-in-Folder-clause-child
+returns-in-Folder-clause-child c =
+    let lt : c.in-Folder.i < length c.args.nodes.now = search rules in
+    rw (c.in-Some.is, c.in-Folder.is) (c.child_in.ensures.child (tree_at c.args.names.now c.args.nodes.now) ∙ ap (child_at c.args.name.now) (sym (tree-node c.args.names.now c.args.nodes.now c.in-Folder.i c.index-nodes-i.result c.requires.good lt c.index-nodes-i.is)))

@@ -1,7 +1,6 @@
 use Rattle.std.proofs.Common.{◌≡◌, ◌+◌, ◌-◌, ◌<◌, ◌≤◌, ◌++◌, List, length, take, get_or, true, ap, ◌∙◌, arith}
 use Rattle.std.proofs.lemmas.List.{length-append, length-take, get_or_default}
-use Rattle.std.specs.Global.{Vec}
-use Rattle.swh_folders.specs.declared.entry.Entry.{Entry}
+use Rattle.swh_folders.specs.Listed.{Listed}
 use Rattle.swh_folders.specs.Forest.{IsFolder}
 use Rattle.swh_folders.specs.Arena.{tree_at}
 use Rattle.swh_folders.specs.Live.{is_live}
@@ -77,6 +76,6 @@ returns-clause-parts c = λ names g m le lt.
     let moved = rw (c.as_slice-2.ensures.value, c.as_slice-3.ensures.value) at c.in_ok-fresh.ensures.copied in
     let done = moved names x g.arena closed (parts names g.arena g.sound) in
     let r = c.requires.base in
-    let all : c.append.new.self.items ≡ take c.args.base c.args.nodes.now.items ++ c.in_ok-fresh.fresh.items = c.in_ok-append.ensures.items ∙ ap (λ (o : List (Vec Entry)). o ++ c.in_ok-fresh.fresh.items) c.truncate-2.ensures.items in
+    let all : c.append.new.self.items ≡ take c.args.base c.args.nodes.now.items ++ c.in_ok-fresh.fresh.items = c.in_ok-append.ensures.items ∙ ap (λ (o : List Listed). o ++ c.in_ok-fresh.fresh.items) c.truncate-2.ensures.items in
     let size : length c.append.new.self.items ≡ c.args.base + length c.in_ok-fresh.fresh.items = rw all (simp (length-append, length-take) (omega arith)) in
     rw all (done.parts m le (omega arith))

@@ -1,6 +1,5 @@
 use Rattle.std.proofs.Common.{rules, ◌≡◌, ◌+◌, ◌≤◌, ◌++◌, ℕ, length, take, get_or, true, sym, ap, subst, ◌∙◌, arith}
-use Rattle.std.specs.Global.{Vec}
-use Rattle.swh_folders.specs.declared.entry.Entry.{Entry}
+use Rattle.swh_folders.specs.Listed.{Listed}
 use Rattle.swh_folders.specs.Arena.{texts, tree_at, forest_of, AreGood}
 use Rattle.swh_folders.specs.Live.{AreMarked}
 use Rattle.swh_folders.proofs.Arenas.{tree-node, entries-good}
@@ -22,14 +21,17 @@ returns-clause-copied c = λ names live x arena is closed part copied.
     let place : c.args.base + c.len-2.result ≡ c.args.base + length fresh = let l : c.len-2.result ≡ length c.args.fresh.now.items = search rules in ap (λ (k : ℕ). c.args.base + k) l in
     let within = c.requires.within in
     let own_is : c.index-nodes-number.result ≡ get_or nodes (base + length moved) c.index-nodes-number.result = c.index-nodes-number.is ∙ ap (λ (k : ℕ). get_or nodes (base + k) own) n in
-    let marked : AreMarked base live own.items (length own.items) = subst (λ (u : Vec Entry). AreMarked base live u.items (length u.items)) (sym own_is) (closed (base + length moved) own (omega arith) within (is ∙ yes)) in
-    let marked' : AreMarked base live c.as_slice.result.now (length c.as_slice.result.now) = rw c.as_slice.ensures.value marked in
+    let marked : AreMarked base live own.items (length own.items) = subst (λ (u : Listed). AreMarked base live u.items (length u.items)) (sym own_is) (closed (base + length moved) own (omega arith) within (is ∙ yes)) in
+    let marked' : AreMarked base live c.as_slice.result.now (length c.as_slice.result.now) = rw (c.as_slice.ensures.value, c.in_ok-old.ensures) marked in
     let mv = rw (← c.as_slice-2.ensures.value) at copied.moves in
-    let good' : AreGood (length names) (length nodes) c.as_slice.result.now = rw c.as_slice.ensures.value (entries-good names nodes (base + length moved) own arena within own_is) in
+    let good' : AreGood (length names) (length nodes) c.as_slice.result.now = rw (c.as_slice.ensures.value, c.in_ok-old.ensures) (entries-good names nodes (base + length moved) own arena within own_is) in
     let v-good = c.in_ok-entries.ensures.good at at' bound (length names) (length nodes) live mv marked' good' in
     let v-same = c.in_ok-entries.ensures.same (texts names) at at' bound live mv marked' in
     let tree : forest_of (texts names) at' c.in_ok-entries.entries.items ≡ tree_at names nodes (base + length moved) =
-    v-same ∙ ap (forest_of (texts names) at) c.as_slice.ensures.value ∙ sym (tree-node names nodes (base + length moved) own arena within own_is) in
+    v-same ∙ ap (forest_of (texts names) at) (c.as_slice.ensures.value ∙ c.in_ok-old.ensures) ∙ sym (tree-node names nodes (base + length moved) own arena within own_is) in
+    let same : c.in_ok-packed.packed.items ≡ c.in_ok-entries.entries.items = c.in_ok-packed.ensures ∙ c.as_slice-3.ensures.value in
+    let p-good : AreGood (length names) bound c.in_ok-packed.packed.items = rw same v-good in
+    let p-tree : forest_of (texts names) at' c.in_ok-packed.packed.items ≡ tree_at names nodes (base + length moved) = rw same tree in
     let bounded : c.args.base ≤ length c.args.nodes.now = omega arith in
-    let done = copied-more names nodes base live x fresh moved c.in_ok-entries.entries copied bounded v-good tree (part yes) in
+    let done = copied-more names nodes base live x fresh moved c.in_ok-packed.packed copied bounded p-good p-tree (part yes) in
     rw (c.in_ok-push-2.ensures.items, c.in_ok-push-3.ensures.items, place) done

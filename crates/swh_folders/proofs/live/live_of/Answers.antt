@@ -1,7 +1,6 @@
 use Rattle.std.proofs.Common.{rules, ◌≡◌, ◌⊎◌, ◌+◌, ◌-◌, ◌<◌, ◌≤◌, ◌++◌, ℕ, length, take, drop, true, false, sym, subst, ◌∙◌, arith}
 use Rattle.std.proofs.lemmas.List.{get_or_default}
-use Rattle.std.specs.Global.{Vec}
-use Rattle.swh_folders.specs.declared.entry.Entry.{Entry}
+use Rattle.swh_folders.specs.Listed.{Listed}
 use Rattle.swh_folders.specs.Live.{is_live, AreMarked, HasChild, IsClosed}
 use Rattle.swh_folders.proofs.Lives.{parts-step, closed-step, written-back}
 use Rattle.swh_folders.proofs.live.live_of.Goals as goal
@@ -19,11 +18,11 @@ down-preserved-then-index c =
     let count : c.down.live.len ≡ length c.down.live.items = search rules in
     let back : take c.down.live.len (c.mark_all.new.live ++ drop (length c.mark_all.new.live) c.down.live.items) ≡ c.mark_all.new.live = written-back c.down.live.len c.down.live.items c.mark_all.new.live long count in
     let is = c.index-nodes-left.is in
-    let own = rw c.as_slice.ensures.value at c.mark_all.ensures.marked in
+    let own = rw (c.as_slice.ensures.value, c.in_ok-entries.ensures) at c.mark_all.ensures.marked in
     let more = rw value at c.mark_all.ensures.more in
-    let only = rw (value, c.as_slice.ensures.value) at c.mark_all.ensures.only in
-    let own' = subst (λ (u : Vec Entry). AreMarked base new u.items (length u.items)) is own in
-    let only' = subst (λ (u : Vec Entry). (j : ℕ) → base ≤ j → is_live base new j ≡ true → (is_live base old j ≡ true) ⊎ HasChild u.items (length u.items) j) is only in
+    let only = rw (value, c.as_slice.ensures.value, c.in_ok-entries.ensures) at c.mark_all.ensures.only in
+    let own' = subst (λ (u : Listed). AreMarked base new u.items (length u.items)) is own in
+    let only' = subst (λ (u : Listed). (j : ℕ) → base ≤ j → is_live base new j ≡ true → (is_live base old j ≡ true) ⊎ HasChild u.items (length u.items) j) is only in
     let within : c.down.left - 1 < length c.args.nodes.now = let t = c.down.invariant.top in omega arith in
     let low : c.args.base ≤ c.down.left - 1 = omega arith in
     let inside : c.down.left - 1 - c.args.base < length c.down.live.items = let l = c.down.invariant.as_long in omega arith in

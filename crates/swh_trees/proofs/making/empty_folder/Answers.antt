@@ -3,9 +3,9 @@ use Rattle.swh_folders.proofs.Workings.{stays-pushed, tree-pushed}
 use Rattle.swh_trees.proofs.making.empty_folder.Goals as goal
 
 pub returns-in_ok-push-in-None-clause-stays : goal.returns-in_ok-push-in-None-clause-stays
-returns-in_ok-push-in-None-clause-stays c = stays-pushed c.args.base c.args.folders.now _ c.new.result c.requires.base c.requires.good c.new.ensures.items refl c.in_ok-push-in-None.ensures.items
+returns-in_ok-push-in-None-clause-stays c = stays-pushed c.args.base c.args.folders.now _ c.none.result c.requires.base c.requires.good c.none.ensures refl c.in_ok-push-in-None.ensures.items
 
 pub returns-in_ok-push-in-None-clause-bare : goal.returns-in_ok-push-in-None-clause-bare
 returns-in_ok-push-in-None-clause-bare c =
     let number : c.len-number.result ≡ length c.args.folders.now.nodes.items = search rules in
-    rw (c.in_ok-push-in-None.ensures.items, number) (tree-pushed c.args.folders.now.names.items c.args.folders.now.nodes.items c.new.result c.new.ensures.items)
+    rw (c.in_ok-push-in-None.ensures.items, number) (tree-pushed c.args.folders.now.names.items c.args.folders.now.nodes.items c.none.result c.none.ensures)

@@ -16,7 +16,7 @@ pub listing-requires : goal.listing-requires
 listing-requires g c =
     let n : c.len.result ≡ length c.args.ids.now.items = search rules in
     let within : c.len.result < length c.args.nodes.now = let w = c.requires.within in omega arith in
-    rw (c.as_slice.ensures.value, c.as_slice-2.ensures.value) (subst (λ (k : ℕ). AreGood (length c.args.names.now) k c.index-nodes-len.result.items) n
+    rw (c.as_slice.ensures.value, c.as_slice-2.ensures.value, c.in_ok-entries.ensures) (subst (λ (k : ℕ). AreGood (length c.args.names.now) k c.index-nodes-len.result.items) n
     (entries-low c.args.names.now c.args.nodes.now c.len.result c.index-nodes-len.result c.requires.good.arena within c.index-nodes-len.is))
 
 pub directory_object-requires-after_bounds : goal.directory_object-requires-after_bounds
@@ -27,7 +27,7 @@ directory_object-requires-after_bounds g c κs inside =
     let at = tree_at names nodes in
     let n : c.len.result ≡ length c.args.ids.now.items = search rules in
     let within : c.len.result < length c.args.nodes.now = let w = c.requires.within in omega arith in
-    let same = (rw (c.as_slice.ensures.value, c.as_slice-2.ensures.value) at c.in_ok-list.ensures.same) id at c.requires.known in
+    let same = (rw (c.as_slice.ensures.value, c.as_slice-2.ensures.value, c.in_ok-entries.ensures) at c.in_ok-list.ensures.same) id at c.requires.known in
     let node = tree-node names nodes c.len.result c.index-nodes-len.result c.requires.good.arena within c.index-nodes-len.is in
     listed-entries id (tree_at names nodes c.len.result) c.in_ok-list.list.items (c.requires.good.sound c.len.result within) (recursion_from_All (λ (e : DirEntry). length e.id ≡ 20) c.in_ok-list.list.items c.in_ok-list.ensures.ids) (same ∙ ap (directory id) (sym node))
 
@@ -39,7 +39,7 @@ returns-in_err-object-clause-err g c =
     let at = tree_at names nodes in
     let n : c.len.result ≡ length c.args.ids.now.items = search rules in
     let within : c.len.result < length c.args.nodes.now = let w = c.requires.within in omega arith in
-    let same = (rw (c.as_slice.ensures.value, c.as_slice-2.ensures.value) at c.in_ok-list.ensures.same) id at c.requires.known in
+    let same = (rw (c.as_slice.ensures.value, c.as_slice-2.ensures.value, c.in_ok-entries.ensures) at c.in_ok-list.ensures.same) id at c.requires.known in
     let node = tree-node names nodes c.len.result c.index-nodes-len.result c.requires.good.arena within c.index-nodes-len.is in
     let listed : entry_views c.in_ok-list.list.items ≡ directory id (tree_at names nodes (length c.args.ids.now.items)) = same ∙ ap (directory id) (sym node) ∙ ap (λ (k : ℕ). directory id (at k)) n in
     let p = err_from_is_err_and c.from_residual-in_err-object.result c.from_residual-in_err-object.ensures.1 in
@@ -53,7 +53,7 @@ returns-clause-known g c =
     let at = tree_at names nodes in
     let n : c.len.result ≡ length c.args.ids.now.items = search rules in
     let within : c.len.result < length c.args.nodes.now = let w = c.requires.within in omega arith in
-    let same = (rw (c.as_slice.ensures.value, c.as_slice-2.ensures.value) at c.in_ok-list.ensures.same) id at c.requires.known in
+    let same = (rw (c.as_slice.ensures.value, c.as_slice-2.ensures.value, c.in_ok-entries.ensures) at c.in_ok-list.ensures.same) id at c.requires.known in
     let node = tree-node names nodes c.len.result c.index-nodes-len.result c.requires.good.arena within c.index-nodes-len.is in
     let listed : entry_views c.in_ok-list.list.items ≡ directory id (tree_at names nodes (length c.args.ids.now.items)) = same ∙ ap (directory id) (sym node) ∙ ap (λ (k : ℕ). directory id (at k)) n in
     let own = c.whole_id.ensures.same ∙ ap (λ (m : _). m.id) c.name-name.ensures.name ∙ c.in_ok-object.ensures.object.id ∙ ap id listed in
@@ -67,7 +67,7 @@ returns-clause-object g c =
     let at = tree_at names nodes in
     let n : c.len.result ≡ length c.args.ids.now.items = search rules in
     let within : c.len.result < length c.args.nodes.now = let w = c.requires.within in omega arith in
-    let same = (rw (c.as_slice.ensures.value, c.as_slice-2.ensures.value) at c.in_ok-list.ensures.same) id at c.requires.known in
+    let same = (rw (c.as_slice.ensures.value, c.as_slice-2.ensures.value, c.in_ok-entries.ensures) at c.in_ok-list.ensures.same) id at c.requires.known in
     let node = tree-node names nodes c.len.result c.index-nodes-len.result c.requires.good.arena within c.index-nodes-len.is in
     let listed : entry_views c.in_ok-list.list.items ≡ directory id (tree_at names nodes (length c.args.ids.now.items)) = same ∙ ap (directory id) (sym node) ∙ ap (λ (k : ℕ). directory id (at k)) n in
     record {
