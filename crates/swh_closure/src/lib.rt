@@ -16,3 +16,6 @@ pub use checking::check;
 pub use closed::Closed;
 pub use laws::{gaps_refute_certificates, missing_names_refute_closure};
 pub use walking::{WalkFault, walk};
+
+#[cfg(test)]
+mod tests;
