@@ -1,4 +1,3 @@
 pub mod MapLemmas
 pub mod VisitLemmas
-pub mod Results
 pub mod WalkLemmas

@@ -146,11 +146,6 @@ put_back bodies before now n body none is w =
           ∙ ap (λ (b : Bool). cond b (Some body) (body_of bodies q)) t
     ] refl)
 
--- one more entry was put in
-pub added-more : (bodies : Bodies) (es : List Entry) (k : ℕ) (e : Entry) → k < length es → e ≡ get_or es k e → added bodies (take (k + 1) es) ≡ insert (added bodies (take k es)) e.name e.body
-added-more bodies es k e less is =
-    ap (λ (l : List Entry). added bodies l) (take_more es k e less ∙ ap (λ (x : Entry). take k es ++ x ∷ []) (sym is)) ∙ added-append bodies (take k es) (e ∷ [])
-
 new_before : (bodies : Bodies) (es fs : List Entry) → AreNew bodies (es ++ fs) → AreNew bodies es
 new_before bodies [] fs h = tt
 new_before bodies (e ∷ es) fs h = (h.0, new_before (insert bodies e.name e.body) es fs h.1)

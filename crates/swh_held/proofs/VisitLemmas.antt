@@ -137,8 +137,3 @@ view-same es fs k old w there is same =
               ∙ sym (subst (λ (j : List ℕ). find R j (map with_visits es) ≡ Some old.items) (sym (same_url q k t)) (find-visits k es ∙ ap (option_map visits_items) there))
           | false ↦ λ t. refl
         ] refl
-
-pub marked-set : (vs : List Visit) (k : ℕ) (v w : Visit) (s : Status) (id : Option (List ℕ)) → k < length vs → v ≡ get_or vs k v → w ≡ with_status v s id → set vs k w ≡ marked_at vs k s id
-marked-set [] k v w s id less is new = absurd (omega (arith, less))
-marked-set (x ∷ vs) zero v w s id less is new = ap (λ (y : Visit). y ∷ vs) (new ∙ ap (λ (y : Visit). with_status y s id) is)
-marked-set (x ∷ vs) (suc k) v w s id less is new = ap (λ (l : List Visit). x ∷ l) (marked-set vs k v w s id (omega (arith, less)) is new)

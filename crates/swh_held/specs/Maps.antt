@@ -12,6 +12,7 @@ use Rattle.swh_model.specs.contracts.event.Visit as a_visit
 use Rattle.swh_model.specs.declared.event.Visit.{Visit}
 use Rattle.swh_model.specs.Archive.{Bodies, Origins, body_of}
 use Rattle.swh_model.specs.Step.{HasItsChildren}
+pub use Rattle.swh_model.specs.Walk.{IsEntryOf}
 
 -- how maps of bodies are told apart
 abbrev pub bodies_code : Coded Bodies
@@ -28,12 +29,6 @@ bodies_in_map es = finite.from_entries (map named_body es)
 -- The entry is good, and stands under its name's key.
 abbrev pub IsKeyed : List ℕ × Entry → Type 0
 IsKeyed p = (p.0 ≡ name_key p.1.name) × HasItsChildren p.1
-
--- The entry is good, has the name, and its body is held.
-pub record IsEntryOf (bodies : Bodies) (n : Name) (e : Entry) : Type 0 where
-  pub name : e.name ≡ n
-  pub held : body_of bodies n ≡ Some e.body
-  pub good : HasItsChildren e
 
 -- The second map is the first without the name.
 pub record IsWithout (before now : Bodies) (n : Name) : Type 0 where

@@ -1,45 +1,12 @@
--- What a walk over what is held has met.
-use Rattle.std.specs.Prelude.{◌≡◌, ◌⊎◌, ◌↔◌, ℕ, true, None, List, [], ◌∷◌, ◌++◌, Contains}
-use Rattle.std.specs.List.{AllByRecursion}
+-- What a walk over what is held has met, and which names were seen.
+use Rattle.std.specs.Prelude.{◌≡◌, ◌↔◌, ℕ, true, List, Contains}
 use Rattle.std.specs.BTreeSet.{BTreeSet, contains}
 use Rattle.std.specs.Ordering.{nat_cmp}
 use Rattle.std.specs.Cmp.Lexicographic.{slice_cmp}
 use Rattle.swh_base.specs.declared.name.Name.{Name}
 use Rattle.swh_base.specs.Name.{name_key}
-use Rattle.swh_model.specs.Archive.{Bodies, body_of, IsHeld, IsChild, Reaches}
+pub use Rattle.swh_model.specs.Walk.{MayGain, IsHeldChild, GainsChildren, GainsHeld, GainsReached, IsGap}
 
 -- The set has the keys of the listed names.
 abbrev pub IsSeen : BTreeSet (List ℕ) → List Name → Type 0
 IsSeen seen names = (n : Name) → (contains (slice_cmp nat_cmp) seen (name_key n) ≡ true) ↔ Contains names n
-
--- The list is the same and has the name, or has it at the end.
-abbrev pub MayGain : List Name → List Name → Name → Type 0
-MayGain old new name = (new ≡ old) ⊎ (new ≡ old ++ name ∷ [])
-
--- A child that is held.
-abbrev pub IsHeldChild : Bodies → Name → Name → Type 0
-IsHeldChild bodies parent n = IsChild bodies parent n × IsHeld bodies n
-
--- More names stand after, each a held child of the parent.
-pub record GainsChildren (bodies : Bodies) (parent : Name) (old new : List Name) : Type 0 where
-  pub more : List Name
-  pub behind : new ≡ old ++ more
-  pub held_children : AllByRecursion (IsHeldChild bodies parent) more
-
--- More names stand after, each one of these and held.
-pub record GainsHeld (bodies : Bodies) (names old new : List Name) : Type 0 where
-  pub more : List Name
-  pub behind : new ≡ old ++ more
-  pub held_names : AllByRecursion (λ n. Contains names n × IsHeld bodies n) more
-
--- More names stand after, each reached from the root and held.
-pub record GainsReached (bodies : Bodies) (root : Name) (old new : List Name) : Type 0 where
-  pub more : List Name
-  pub behind : new ≡ old ++ more
-  pub reached : AllByRecursion (λ n. Reaches bodies root n × IsHeld bodies n) more
-
--- Of a reached parent this child is not held.
-pub record IsGap (bodies : Bodies) (root parent child : Name) : Type 0 where
-  pub reached : Reaches bodies root parent
-  pub is_child : IsChild bodies parent child
-  pub missing : body_of bodies child ≡ None

@@ -3,7 +3,7 @@ use std::alloc::Global;
 use std::collections::BTreeMap;
 use std::marker::Model;
 use swh_base::{Memory, Status, VisitKind};
-use swh_model::{Visit, created};
+use swh_model::{Visit, push_opened, push_status};
 
 /// A finite map from origins' bytes to their visits.
 #[derive(Drop)]
@@ -27,38 +27,6 @@ ghost use Rattle.std.specs.FinMap as finite;
 ghost use Rattle.swh_model.specs.Archive.{visits_of};
 ghost use Rattle.swh_model.specs.Step.{opened, marked, marked_at, first_of};
 ghost use Rattle.swh_held.specs.Maps.{IsAll, origins_of};
-
-fn push_opened(
-    alloc: Global,
-    visits: &mut Vec<Visit>,
-    by: u32,
-    kind: VisitKind,
-    date: u64,
-) -> Result<(), Memory>
-    ensures ok { OnOk result (visits.new.items ≡ visits.old.items ++ first_of (length visits.old.items + 1) date kind by
-        ∷ []) }
-    ensures err { OnErr result (visits.new.items ≡ visits.old.items) }
-{
-    let number = visits.len() as u64 + 1;
-    let visit = created(alloc, number, date, kind, by)?;
-    visits.push(visit)?;
-    Ok(())
-}
-
-fn push_status(
-    visits: &mut Vec<Visit>,
-    place: usize,
-    status: Status,
-    snapshot: Option<[u8; 20]>,
-) -> Result<(), Memory>
-    requires { place < length visits.old.items }
-    ensures ok { OnOk result (visits.new.items ≡ marked_at visits.old.items place status snapshot) }
-    ensures err { OnErr result (visits.new.items ≡ visits.old.items) }
-{
-    let visit = &mut visits[place];
-    visit.statuses.push((status, snapshot))?;
-    Ok(())
-}
 
 // The visits, where there are any.
 fn where_any(visits: &[Visit]) -> Option<&[Visit]>

@@ -9,3 +9,7 @@ pub mod WorkedExample
 pub mod Alike
 pub mod Answer
 pub mod Meaning
+pub mod Walk
+pub mod Judged
+pub mod State
+pub mod Happens

@@ -1,17 +1,55 @@
-// Equal events.
+// Equal events, entries and visits.
 ghost use Rattle.std.specs.Prelude.{◌≡◌, IfOk};
 
-use crate::event::{Event, EventKind};
+use crate::event::{Event, EventKind, Visit};
 use std::alloc::Global;
-use swh_base::{Entry, Items, Memory};
+use swh_base::{Entry, Items, Memory, Status};
 
-// Equal entries, which share bodies and children.
-fn entries_again(alloc: Global, entries: &[Entry]) -> Result<Vec<Entry>, Memory>
+/// Equal entries, which share bodies and children.
+pub fn entries_again(alloc: Global, entries: &[Entry]) -> Result<Vec<Entry>, Memory>
     ensures { IfOk result (λ copies. copies.items ≡ entries.now) }
 {
     let mut copies = Vec::new(alloc);
     for entry in entries {
         let copy = entry.again()?;
+        copies.push(copy)?;
+    }
+    Ok(copies)
+}
+
+fn statuses_again(
+    alloc: Global,
+    statuses: &[(Status, Option<[u8; 20]>)],
+) -> Result<Vec<(Status, Option<[u8; 20]>)>, Memory>
+    ensures { IfOk result (λ copies. copies.items ≡ statuses.now) }
+{
+    let mut copies = Vec::new(alloc);
+    for status in statuses {
+        copies.push(*status)?;
+    }
+    Ok(copies)
+}
+
+fn visit_again(alloc: Global, visit: &Visit) -> Result<Visit, Memory>
+    ensures { IfOk result (λ copy. copy ≡ visit.now) }
+{
+    let statuses = statuses_again(alloc, visit.statuses.as_slice())?;
+    Ok(Visit {
+        number: visit.number,
+        date: visit.date,
+        kind: visit.kind,
+        by: visit.by,
+        statuses: Items::from_vec(statuses),
+    })
+}
+
+/// Equal visits.
+pub fn visits_again(alloc: Global, visits: &[Visit]) -> Result<Vec<Visit>, Memory>
+    ensures { IfOk result (λ copies. copies.items ≡ visits.now) }
+{
+    let mut copies = Vec::new(alloc);
+    for visit in visits {
+        let copy = visit_again(alloc, visit)?;
         copies.push(copy)?;
     }
     Ok(copies)

@@ -1,4 +1,3 @@
 pub mod BatchLemmas
-pub mod VerdictLemmas
 pub mod EncodeLemmas
 pub mod PlanLemmas

@@ -18,7 +18,7 @@ use Rattle.swh_model.proofs.Verdicts.{length-fresh, le_unless}
 use Rattle.swh_plan.specs.declared.replayed.Replayed.{Replayed}
 use Rattle.swh_plan.specs.Judged.{NonePasses, MayBeMarked, SuitsStatus}
 use Rattle.swh_plan.specs.Planned.{IsReplayOf}
-use Rattle.swh_plan.proofs.VerdictLemmas.{batch_collides, batch_passes, mark_passes}
+use Rattle.swh_model.proofs.Refusals.{batch_collides, batch_passes, mark_passes}
 
 -- a batch within its limits has few entries, and what is new of it no more
 pub few_fresh : (bodies : Bodies) (es fs : List Entry) → fs ≡ not_held bodies es → NonePasses (BatchPasses es) → length fs ≤ 4096

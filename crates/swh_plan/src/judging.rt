@@ -25,53 +25,6 @@ use swh_base::{
 use swh_held::{HeldBodies, Listing, find_gap_beyond};
 use swh_model::{No, Visit, is_final, last_of};
 
-/// The length of the first body above the limit.
-fn long_body(entries: &[Entry]) -> Option<u64>
-    ensures { result ≡ first_long entries.now }
-{
-    for entry in entries {
-        let size = entry.body.as_slice().len() as u64;
-        if size > BODY_LIMIT {
-            return Some(size);
-        }
-    }
-    None
-}
-
-/// The bytes of all bodies but the last.
-fn before_last(entries: &[Entry]) -> u64
-    requires small { AllByRecursion (λ e. length e.body ≤ body_limit) entries.now }
-    requires few { length entries.now ≤ OBJECTS_LIMIT }
-    ensures { result ≡ bytes_before_last entries.now }
-{
-    let mut before: u64 = 0;
-    let mut last: u64 = 0;
-    for entry in entries {
-        before += last;
-        last = entry.body.as_slice().len() as u64;
-    }
-    before
-}
-
-/// The first limit on a batch that it passes.
-pub fn limit_of_batch(entries: &[Entry]) -> Option<(Which, u64)>
-    ensures some { IfSome result (IsFirstOf (BatchPasses entries.now)) }
-    ensures none { IfNone result (NonePasses (BatchPasses entries.now)) }
-{
-    if let Some(size) = long_body(entries) {
-        return Some((Which::Body, size));
-    }
-    let count = entries.len() as u64;
-    if entries.len() > OBJECTS_LIMIT {
-        return Some((Which::Objects, count));
-    }
-    let bytes = before_last(entries);
-    if bytes > BYTES_LIMIT {
-        return Some((Which::Bytes, bytes));
-    }
-    None
-}
-
 /// The first of both files that an event would make too long.
 pub fn limit_of_files(
     store_end: u64,
@@ -95,26 +48,6 @@ pub fn limit_of_files(
     let ledger = end + 1 + record_length;
     if ledger > FILE_LIMIT {
         return Some((Which::Ledger, ledger));
-    }
-    None
-}
-
-/// The cause against marking a visit by somebody.
-pub fn visit_refusal(visits: &[Visit], by: u32, number: u64) -> Option<No>
-    ensures some { IfSome result (IsVisitRefusal visits.now by number) }
-    ensures none { IfNone result (MayBeMarked visits.now by number) }
-{
-    let have = visits.len() as u64;
-    if number == 0 || number > have {
-        return Some(No::NoVisit { have });
-    }
-    let visit = &visits[(number - 1) as usize];
-    if visit.by != by {
-        return Some(No::NotYours { by: visit.by });
-    }
-    let status = last_of(visit.statuses.as_slice());
-    if is_final(status) {
-        return Some(No::Ended { status });
     }
     None
 }

@@ -1,9 +1,9 @@
 use Rattle.std.proofs.Common.{◌≡◌, None, sym, subst, ap, ◌∙◌}
 use Rattle.std.specs.FinMap.{insert}
 use Rattle.swh_model.specs.Archive.{Bodies, body_of}
-use Rattle.swh_model.proofs.Entries.{new-at}
+use Rattle.swh_model.proofs.Entries.{new-at, added-more}
 use Rattle.swh_held.specs.Maps.{bodies_in_map}
-use Rattle.swh_held.proofs.MapLemmas.{added-more, new-front}
+use Rattle.swh_held.proofs.MapLemmas.{new-front}
 use Rattle.swh_held.proofs.bodies.insert_all.Goals as goal
 
 pub insert_again-requires-clause-absent : goal.insert_again-requires-clause-absent

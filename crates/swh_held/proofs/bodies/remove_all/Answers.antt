@@ -3,7 +3,8 @@ use Rattle.swh_base.specs.declared.entry.Entry.{Entry}
 use Rattle.swh_model.specs.Step.{added}
 use Rattle.swh_model.proofs.Entries.{new-at}
 use Rattle.swh_held.specs.Maps.{bodies_in_map, IsWithout}
-use Rattle.swh_held.proofs.MapLemmas.{put_back, added-more}
+use Rattle.swh_model.proofs.Entries.{added-more}
+use Rattle.swh_held.proofs.MapLemmas.{put_back}
 use Rattle.swh_held.proofs.bodies.remove_all.Goals as goal
 
 pub loop-left-preserved : goal.loop-left-preserved

@@ -1,4 +1,4 @@
-use Rattle.swh_held.proofs.WalkLemmas.{parent_held, gains-next, walk-next, walk-ends}
+use Rattle.swh_model.proofs.ListedWalks.{parent_held, gains-next, walk-next, walk-ends}
 use Rattle.swh_held.proofs.closure.find_gap_beyond.Goals as goal
 
 pub returns-in_default-clause-closed : goal.returns-in_default-clause-closed

@@ -1,4 +1,4 @@
-use Rattle.swh_held.proofs.WalkLemmas.{Walked}
+use Rattle.swh_model.proofs.ListedWalks.{Walked}
 use Rattle.swh_held.proofs.closure.find_gap_beyond.Given as goal
 
 abbrev pub invariant-loop-place : goal.invariant-loop-place

@@ -2,8 +2,8 @@ use Rattle.std.proofs.Common.{List, subst, sym}
 use Rattle.std.specs.Prelude.{Contains}
 use Rattle.swh_base.specs.declared.name.Name.{Name}
 use Rattle.swh_held.specs.Walk.{GainsHeld}
-use Rattle.swh_held.proofs.WalkLemmas.{gains_children, of_child}
-use Rattle.swh_held.proofs.Results.{if_ok_none}
+use Rattle.swh_model.proofs.ListedWalks.{gains_children, of_child}
+use Rattle.swh_model.proofs.Results.{if_ok_none}
 use Rattle.swh_held.proofs.closure.list_children.Goals as goal
 
 pub returns-clause-gains : goal.returns-clause-gains

@@ -1,7 +1,7 @@
 use Rattle.std.proofs.Common.{[], refl, get_or}
 use Rattle.swh_base.specs.declared.kind.Kind.TheVariants.{Content}
 use Rattle.swh_base.specs.declared.name.Name.{Name}
-use Rattle.swh_held.proofs.WalkLemmas.{gains-more, all-more, item_there, item_is}
+use Rattle.swh_model.proofs.ListedWalks.{gains-more, all-more, item_there, item_is}
 use Rattle.swh_held.proofs.closure.list_held.Goals as goal
 
 pub loop-child-preserved : goal.loop-child-preserved

@@ -5,7 +5,7 @@ use Rattle.swh_segment.specs.Making.{IsMade, IsNotMade}
 use Rattle.swh_format.specs.Stands.{StandsFor}
 use Rattle.swh_keeper.specs.Opening.{IsDamaged}
 use Rattle.swh_keeper.specs.declared.checking.Checked.{Checked}
-use Rattle.swh_held.proofs.Results.{if_err_all, if_ok_then, on_ok}
+use Rattle.swh_model.proofs.Results.{if_err_all, if_ok_then, on_ok}
 use Rattle.swh_keeper.proofs.ReadLemmas.{left_settled, ledger_seen, store_seen}
 use Rattle.swh_keeper.proofs.reading.read_archive.Goals as goal
 

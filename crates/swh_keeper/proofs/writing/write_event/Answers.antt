@@ -5,7 +5,7 @@ use Rattle.swh_format.specs.Events as format
 use Rattle.swh_segment.specs.Settled.{AreSettled}
 use Rattle.swh_segment.specs.Calls.{event_calls}
 use Rattle.swh_format.specs.Stands.{written, all_written}
-use Rattle.swh_held.proofs.Results.{on_ok, on_err}
+use Rattle.swh_model.proofs.Results.{on_ok, on_err}
 use Rattle.swh_keeper.proofs.KeptLemmas.{ready, settled-push, images_left}
 use Rattle.swh_keeper.proofs.writing.write_event.Goals as goal
 

@@ -5,7 +5,8 @@ use Rattle.swh_base.specs.declared.entry.Entry.{Entry}
 use Rattle.swh_model.specs.Archive.{body_of}
 use Rattle.swh_model.specs.Step.{added}
 use Rattle.swh_plan.specs.Batches.{either}
-use Rattle.swh_plan.proofs.BatchLemmas.{either_is, not_true, collides, no_collision, item_in, all_in}
+use Rattle.swh_plan.proofs.BatchLemmas.{either_is}
+use Rattle.swh_model.proofs.Batches.{not_true, collides, no_collision, item_in, all_in}
 use Rattle.swh_plan.proofs.fresh.find_collision.Goals as goal
 
 pub returns-then-not-is_bodied-clause-some : goal.returns-then-not-is_bodied-clause-some

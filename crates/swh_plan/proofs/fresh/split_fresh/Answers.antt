@@ -2,7 +2,8 @@ use Rattle.std.proofs.Common.{List, sym, ap, ◌∙◌, refl}
 use Rattle.std.specs.FinMap as finite
 use Rattle.swh_base.specs.declared.entry.Entry.{Entry}
 use Rattle.swh_model.specs.Step.{added}
-use Rattle.swh_plan.proofs.BatchLemmas.{either_is, map-kept, not_true, fresh-kept, fresh-passed}
+use Rattle.swh_plan.proofs.BatchLemmas.{either_is, map-kept}
+use Rattle.swh_model.proofs.Batches.{not_true, fresh-kept, fresh-passed}
 use Rattle.swh_plan.proofs.fresh.split_fresh.Goals as goal
 
 pub loop-entry-preserved-then-not-is_new : goal.loop-entry-preserved-then-not-is_new

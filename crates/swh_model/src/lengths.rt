@@ -1,0 +1,105 @@
+//! The lengths that a history gives the two files, and the first of them that passes its limit.
+ghost use Rattle.std.specs.Prelude.{◌≡◌, ◌+◌, IfOk, IfSome, IfNone};
+ghost use Rattle.swh_model.specs.Limits.{
+  run_length,
+  stored_length,
+  store_length,
+  snapshot_length,
+  payload_length,
+  ledger_length,
+};
+ghost use Rattle.swh_model.specs.Judge.{FilePasses};
+ghost use Rattle.swh_model.specs.Judged.{IsFirstOf, NonePasses};
+
+use crate::event::{Event, EventKind};
+use swh_base::{Entry, FILE_LIMIT, Memory, Which};
+
+/// The sum, or want of memory where it passes 64 bits: no machine holds files of such a length.
+fn plus(a: u64, b: u64) -> Result<u64, Memory>
+    ensures { IfOk result (λ sum. sum ≡ a + b) }
+{
+    a.checked_add(b).ok_or(Memory)
+}
+
+fn length_of_run(entries: &[Entry]) -> Result<u64, Memory>
+    ensures { IfOk result (λ length. length ≡ run_length entries.now) }
+{
+    let mut sum: u64 = 0;
+    for entry in entries {
+        let id = entry.name.id.len() as u64;
+        let body = entry.body.as_slice().len() as u64;
+        sum = plus(sum, 9 + (id + body))?;
+    }
+    Ok(sum)
+}
+
+fn length_in_store(event: &EventKind) -> Result<u64, Memory>
+    ensures { IfOk result (λ length. length ≡ stored_length event.now) }
+{
+    match event {
+        EventKind::Batch(entries) => length_of_run(entries.as_slice()),
+        EventKind::Open { .. } => Ok(0),
+        EventKind::Mark { .. } => Ok(0),
+    }
+}
+
+fn length_of_snapshot(snapshot: &Option<[u8; 20]>) -> u64
+    ensures { result ≡ snapshot_length snapshot.now }
+{
+    match snapshot {
+        Some(id) => 1 + id.len() as u64,
+        None => 1,
+    }
+}
+
+fn length_of_payload(event: &EventKind) -> u64
+    ensures { result ≡ payload_length event.now }
+{
+    match event {
+        EventKind::Batch(_) => 4 + (8 + 8 + 4),
+        EventKind::Open { origin, .. } => 4 + (1 + 8 + origin.as_str().as_bytes().len() as u64),
+        EventKind::Mark {
+            origin, snapshot, ..
+        } => {
+            let origin = origin.as_str().as_bytes().len() as u64;
+            4 + (1 + 8 + (length_of_snapshot(snapshot) + origin))
+        }
+    }
+}
+
+fn length_of_store(history: &[Event]) -> Result<u64, Memory>
+    ensures { IfOk result (λ length. length ≡ store_length history.now) }
+{
+    let mut sum: u64 = 0;
+    for event in history {
+        sum = plus(sum, length_in_store(&event.what)?)?;
+    }
+    Ok(sum)
+}
+
+fn length_of_ledger(history: &[Event]) -> Result<u64, Memory>
+    ensures { IfOk result (λ length. length ≡ ledger_length history.now) }
+{
+    let mut sum: u64 = 9;
+    for event in history {
+        sum = plus(sum, plus(6, length_of_payload(&event.what))?)?;
+    }
+    Ok(sum)
+}
+
+/// The first of both files that the event would make too long.
+pub fn file_limit(history: &[Event], event: &EventKind) -> Result<Option<(Which, u64)>, Memory>
+    ensures some { IfOk result (λ limit. IfSome limit (IsFirstOf (FilePasses history.now event.now))) }
+    ensures none { IfOk result (λ limit. IfNone limit (NonePasses (FilePasses history.now event.now))) }
+{
+    let store = plus(length_of_store(history)?, length_in_store(event)?)?;
+    if store > FILE_LIMIT {
+        return Ok(Some((Which::Store, store)));
+    }
+    let before = plus(length_of_ledger(history)?, 6)?;
+    let ledger = plus(before, length_of_payload(event))?;
+    if ledger > FILE_LIMIT {
+        return Ok(Some((Which::Ledger, ledger)));
+    }
+    Ok(None)
+}
