@@ -5,6 +5,8 @@ use Rattle.swh_base.specs.declared.name.Name.{Name}
 use Rattle.swh_base.specs.declared.entry.Entry.{Entry}
 use Rattle.swh_base.specs.declared.visit.Status.{Status}
 use Rattle.swh_base.specs.declared.visit.Which.{Which}
+use Rattle.swh_base.specs.declared.visit.Which.TheVariants.{Objects}
+use Rattle.swh_base.specs.Limits.{objects_limit}
 use Rattle.swh_model.specs.declared.event.Visit.{Visit}
 use Rattle.swh_model.specs.declared.event.Event.{Event}
 use Rattle.swh_model.specs.declared.event.EventKind.{EventKind}
@@ -13,14 +15,21 @@ use Rattle.swh_model.specs.declared.event.Wish.{Wish}
 use Rattle.swh_model.specs.declared.event.Wish.TheVariants as wished
 use Rattle.swh_model.specs.declared.event.No.{No}
 use Rattle.swh_model.specs.declared.event.No.TheVariants.{Limit, NoVisit, NotYours, Ended, NoSnapshot, NotClosed, Collision}
-use Rattle.swh_model.specs.Archive.{body_of, visits_of, IsHeld}
+use Rattle.swh_model.specs.Archive.{Bodies, body_of, visits_of, IsHeld}
 use Rattle.swh_model.specs.Step.{replay}
 use Rattle.swh_base.specs.Snapshot.{snapshot_name}
 use Rattle.swh_base.specs.Visit.{IsFinal, last_status}
-use Rattle.swh_model.specs.Judge.{event_of, BatchPasses, FilePasses, BatchCause, MarkCause, Collides, which_rank, rank, ComesBefore, IsVerdict}
+use Rattle.swh_model.specs.Judge.{not_held, event_of, BatchPasses, FilePasses, BatchCause, MarkCause, Collides, which_rank, rank, ComesBefore, IsVerdict}
+use Rattle.swh_model.proofs.Verdicts.{length-fresh, le_unless}
 use Rattle.swh_model.proofs.Worked.{none_below, none_before, earlier}
 use Rattle.swh_model.proofs.Walks.{reaches-next}
 use Rattle.swh_model.specs.Judged.{IsFirstOf, NonePasses, IsAt, IsVisitRefusal, MayBeMarked, IsSnapshotRefusal, SuitsStatus}
+
+-- a batch within its limits has few entries, and what is new of it no more
+pub few_fresh : (bodies : Bodies) (es fs : List Entry) → fs ≡ not_held bodies es → NonePasses (BatchPasses es) → length fs ≤ 4096
+few_fresh bodies es fs is none =
+    let few : length es ≤ objects_limit = le_unless (length es) objects_limit (λ many. none Objects (length es) (refl, many)) in
+    omega (arith, few, length-fresh bodies es, ap length is)
 
 -- before a limit come only limits
 a_limit : (other : No) (w : Which) (n : ℕ) → ComesBefore other (Limit w n) → ((rank other).0 ≡ 0) × ((rank other).1 < which_rank w)

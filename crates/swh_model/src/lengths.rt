@@ -1,5 +1,5 @@
 //! The lengths that a history gives the two files, and the first of them that passes its limit.
-ghost use Rattle.std.specs.Prelude.{◌≡◌, ◌+◌, IfOk, IfSome, IfNone};
+ghost use Rattle.std.specs.Prelude.{◌≡◌, ◌+◌, ◌≤◌, IfOk, IfSome, IfNone, length};
 ghost use Rattle.swh_model.specs.Limits.{
   run_length,
   stored_length,
@@ -21,12 +21,20 @@ fn plus(a: u64, b: u64) -> Result<u64, Memory>
     a.checked_add(b).ok_or(Memory)
 }
 
+/// The bytes of an id.
+fn length_of_id(id: [u8; 20]) -> u64
+    ensures value { result ≡ length id }
+    ensures twenty { result ≡ 20 }
+{
+    id.len() as u64
+}
+
 fn length_of_run(entries: &[Entry]) -> Result<u64, Memory>
     ensures { IfOk result (λ length. length ≡ run_length entries.now) }
 {
     let mut sum: u64 = 0;
     for entry in entries {
-        let id = entry.name.id.len() as u64;
+        let id = length_of_id(entry.name.id);
         let body = entry.body.as_slice().len() as u64;
         sum = plus(sum, 9 + (id + body))?;
     }
@@ -44,10 +52,11 @@ fn length_in_store(event: &EventKind) -> Result<u64, Memory>
 }
 
 fn length_of_snapshot(snapshot: &Option<[u8; 20]>) -> u64
-    ensures { result ≡ snapshot_length snapshot.now }
+    ensures value { result ≡ snapshot_length snapshot.now }
+    ensures small { result ≤ 21 }
 {
     match snapshot {
-        Some(id) => 1 + id.len() as u64,
+        Some(id) => 1 + length_of_id(*id),
         None => 1,
     }
 }

@@ -3,7 +3,6 @@ use Rattle.std.proofs.Common.{◌≡◌, ℕ, ◌+◌, ◌≤◌, Option, Ok, Er
 use Rattle.swh_base.specs.declared.name.Name.{Name}
 use Rattle.swh_base.specs.declared.entry.Entry.{Entry}
 use Rattle.swh_base.specs.declared.visit.Status.{Status}
-use Rattle.swh_base.specs.declared.visit.Which.TheVariants.{Objects}
 use Rattle.swh_model.specs.declared.event.Event.{Event}
 use Rattle.swh_model.specs.declared.event.EventKind.{EventKind}
 use Rattle.swh_model.specs.declared.event.EventKind.TheVariants.{Batch, Mark}
@@ -11,20 +10,12 @@ use Rattle.swh_model.specs.declared.event.Wish.TheVariants as wished
 use Rattle.swh_model.specs.declared.event.Outcome.TheVariants.{Added, Marked}
 use Rattle.swh_model.specs.declared.event.No.TheVariants.{Collision}
 use Rattle.swh_model.specs.Archive.{Bodies, Origins, visits_of}
-use Rattle.swh_base.specs.Limits.{objects_limit}
 use Rattle.swh_model.specs.Step.{replay}
 use Rattle.swh_model.specs.Judge.{not_held, event_of, BatchPasses, FilePasses, Collides, IsVerdict}
-use Rattle.swh_model.proofs.Verdicts.{length-fresh, le_unless}
 use Rattle.swh_plan.specs.declared.replayed.Replayed.{Replayed}
 use Rattle.swh_plan.specs.Judged.{NonePasses, MayBeMarked, SuitsStatus}
 use Rattle.swh_plan.specs.Planned.{IsReplayOf}
 use Rattle.swh_model.proofs.Refusals.{batch_collides, batch_passes, mark_passes}
-
--- a batch within its limits has few entries, and what is new of it no more
-pub few_fresh : (bodies : Bodies) (es fs : List Entry) → fs ≡ not_held bodies es → NonePasses (BatchPasses es) → length fs ≤ 4096
-few_fresh bodies es fs is none =
-    let few : length es ≤ objects_limit = le_unless (length es) objects_limit (λ many. none Objects (length es) (refl, many)) in
-    omega (arith, few, length-fresh bodies es, ap length is)
 
 -- the event of a batch is what is new of it
 pub batch_event : (r : Replayed) (h : List Event) (es fs : List Entry) → IsReplayOf r h → fs ≡ not_held r.bodies es → Batch fs ≡ event_of (replay h) (wished.Batch es)

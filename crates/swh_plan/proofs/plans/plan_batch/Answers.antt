@@ -1,7 +1,8 @@
 use Rattle.std.proofs.Common.{◌≡◌, length, sym, ap, ◌∙◌, subst, arith}
 use Rattle.std.specs.List.{AllByRecursion}
 use Rattle.swh_format.specs.StoredObject.{coded_run, IsCodableEntry}
-use Rattle.swh_plan.proofs.PlanLemmas.{few_fresh, batch_verdict, batch_collision}
+use Rattle.swh_model.proofs.Refusals.{few_fresh}
+use Rattle.swh_plan.proofs.PlanLemmas.{batch_verdict, batch_collision}
 use Rattle.swh_plan.proofs.plans.plan_batch.Goals as goal
 
 pub overflow_cast-new : goal.overflow_cast-new
