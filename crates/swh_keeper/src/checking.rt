@@ -12,8 +12,8 @@ use crate::remaking::remake_all;
 use std::alloc::Global;
 use swh_base::{Entry, Items, Memory, Namer, Status, Url};
 use swh_held::{HeldBodies, Listing, OriginVisits};
-use swh_model::{Event, EventKind, Visit, are_within_limits};
-use swh_plan::{Replayed, snapshot_refusal, visit_refusal};
+use swh_model::{Event, EventKind, Visit, are_within_limits, visit_refusal};
+use swh_plan::{Replayed, snapshot_refusal};
 
 /// A history, its replay, and names that are known to be closed.
 #[derive(Drop)]

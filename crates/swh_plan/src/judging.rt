@@ -1,29 +1,22 @@
 //! The causes against a plan, in the order in which they are looked for.
 ghost use Rattle.std.specs.Prelude.{◌≡◌, ◌+◌, ◌≤◌, ◌<◌, ◌^◌, List, IfOk, IfSome, IfNone, length};
-ghost use Rattle.std.specs.List.{AllByRecursion};
-ghost use Rattle.swh_base.specs.Limits.{body_limit};
 ghost use Rattle.swh_model.specs.declared.event.Event.{Event};
 ghost use Rattle.swh_model.specs.declared.event.EventKind.{EventKind};
 ghost use Rattle.swh_model.specs.Archive.{IsHeld, IsClosed};
 ghost use Rattle.swh_model.specs.Certificate.{AreClosed};
-ghost use Rattle.swh_model.specs.Limits.{bytes_before_last};
-ghost use Rattle.swh_model.specs.Judge.{first_long, BatchPasses, FilePasses};
+ghost use Rattle.swh_model.specs.Judge.{FilePasses};
 ghost use Rattle.swh_plan.specs.Judged.{
   IsFirstOf,
   NonePasses,
   AreLengths,
-  IsVisitRefusal,
-  MayBeMarked,
   IsGapRefusal,
   IsSnapshotRefusal,
   SuitsStatus,
 };
 
-use swh_base::{
-    BODY_LIMIT, BYTES_LIMIT, Entry, FILE_LIMIT, Kind, Memory, Name, OBJECTS_LIMIT, Status, Which,
-};
+use swh_base::{FILE_LIMIT, Kind, Memory, Name, Status, Which};
 use swh_held::{HeldBodies, Listing, find_gap_beyond};
-use swh_model::{No, Visit, is_final, last_of};
+use swh_model::No;
 
 /// The first of both files that an event would make too long.
 pub fn limit_of_files(

@@ -10,7 +10,7 @@ mod plans;
 mod replayed;
 
 pub use fresh::{Split, find_collision, split_fresh};
-pub use judging::{limit_of_batch, limit_of_files, snapshot_refusal, visit_refusal};
+pub use judging::{limit_of_files, snapshot_refusal};
 pub use planning::{PlanFault, Planned};
 pub use plans::plan;
 pub use replayed::Replayed;

@@ -19,7 +19,7 @@ ghost use Rattle.swh_plan.specs.Planned.{
 };
 
 use crate::fresh::{Split, find_collision, split_fresh};
-use crate::judging::{limit_of_batch, limit_of_files, snapshot_refusal, visit_refusal};
+use crate::judging::{limit_of_files, snapshot_refusal};
 use crate::planning::{PlanFault, Planned};
 use crate::replayed::Replayed;
 use std::alloc::Global;
@@ -28,7 +28,7 @@ use swh_format::{
     entries_are_codable, origin_is_codable, record_of_event, run_of_entries, snapshot_is_codable,
 };
 use swh_held::{Listing, OriginVisits};
-use swh_model::{Event, EventKind, No, Outcome, Wish};
+use swh_model::{Event, EventKind, No, Outcome, Wish, limit_of_batch, visit_refusal};
 
 fn number_of_visits(visits: &OriginVisits, origin: &Url) -> u64
     ensures value { result ≡ length (visits_of visits.now origin.now) }
