@@ -1,3 +1,5 @@
 pub mod InPlaces
+pub mod PastLaws
+pub mod PastSteps
 pub mod RangeLaws
 pub mod RecordLaws

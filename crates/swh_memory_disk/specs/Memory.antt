@@ -1,8 +1,9 @@
 -- What a disk in memory holds, its room, and what is kept of its calls.
-use Rattle.std.specs.Prelude.{ℕ, Bool, ◌+◌, ◌++◌, ◌&&◌, ◌||◌, not, nat_lt, nat_le, List, [], length, if◌then◌else◌}
+use Rattle.std.specs.Prelude.{◌≡◌, ◌≤◌, ℕ, Bool, ◌+◌, ◌&&◌, ◌||◌, not, nat_lt, nat_le, List, [], length, take, if◌then◌else◌}
 use Rattle.swh_outside.specs.Disk.{File, Call, begun}
-use Rattle.swh_memory_disk.specs.Kept.{kept_file}
+use Rattle.swh_memory_disk.specs.Kept.{kept_file, resting}
 use Rattle.swh_memory_disk.specs.Record.{calls_in}
+use Rattle.swh_memory_disk.specs.Past.{file_after}
 use Rattle.swh_memory_failures.specs.Tally.{Tally, fresh_tally, is_next_listed}
 use Rattle.swh_memory_disk.specs.declared.record.MemoryRecord.{MemoryRecord}
 use Rattle.swh_memory_disk.specs.declared.record.Room.{Room}
@@ -11,10 +12,6 @@ use Rattle.swh_memory_disk.specs.declared.disk.MemoryDisk.{MemoryDisk}
 -- the file that a disk in memory is
 abbrev pub memory_file : MemoryDisk → File
 memory_file disk = kept_file disk.base.items disk.ranges.items disk.longest disk.bytes.items (calls_in disk.calls.items disk.written.items)
-
--- a file with these bytes, all of them on the disk, and no call so far
-abbrev pub resting : List ℕ → File
-resting bytes = record { base = bytes; ranges = []; longest = length bytes; seen = bytes; calls = [] }
 
 -- the room that it was made with
 abbrev pub disk_room : MemoryDisk → Room
@@ -54,6 +51,14 @@ reopened notes = record {
   tally = record { failing = notes.tally.failing; calls = notes.tally.calls; faults = 0 };
 }
 
+-- the file as it was after this number of the calls on record, or after all where there are fewer
+abbrev pub moment_file : MemoryDisk → ℕ → File
+moment_file disk moment = file_after (take moment disk.calls.items) disk.written.items (resting disk.made.items)
+
+-- What the file was after each number of the calls so far is the same.
+pub record KeepsMoments (old new : MemoryDisk) : Type 0 where
+  pub same : (moment : ℕ) → moment ≤ length old.calls.items → moment_file new moment ≡ moment_file old moment
+
 -- one call more is within the room
 abbrev pub has_call_room : MemoryDisk → Bool
 has_call_room disk = nat_lt (length disk.calls.items) disk.room.calls
@@ -73,7 +78,3 @@ is_write_to_fail disk at count = is_next_listed (disk_tally disk) || not (has_wr
 -- the file after a call that failed: it was begun where there was room for it
 abbrev pub begun_within : Bool → Call → File → File
 begun_within has_room call file = if has_room then begun call file else file
-
--- the file after more calls that were begun
-abbrev pub with_calls : List Call → File → File
-with_calls calls file = record { base = file.base; ranges = file.ranges; longest = file.longest; seen = file.seen; calls = file.calls ++ calls }

@@ -19,6 +19,13 @@ call_of (Read at count) bytes = []
 call_of (Written at count) bytes = Write at bytes ∷ []
 call_of Synced bytes = Sync ∷ []
 
+-- it is no write
+abbrev pub IsBare : MemoryCall → Type 0
+IsBare Length = Unit {0}
+IsBare (Read at count) = Unit {0}
+IsBare (Written at count) = ⊥
+IsBare Synced = Unit {0}
+
 -- it changes what a crash may leave
 abbrev pub is_change : MemoryCall → Bool
 is_change Length = false

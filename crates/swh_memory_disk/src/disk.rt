@@ -3,7 +3,9 @@ ghost use Rattle.std.specs.Prelude.{◌≡◌, ◌≤◌, ◌<◌, ◌↔◌, []
 ghost use Rattle.swh_outside.specs.Disk.{IsImage};
 ghost use Rattle.swh_memory_disk.specs.Kept.{kept_file};
 ghost use Rattle.swh_memory_disk.specs.Record.{sizes_of};
+ghost use Rattle.swh_memory_disk.specs.Past.{IsRecorded};
 
+use crate::past::Past;
 use crate::ranges::{filled, is_outside, patch, settle};
 use crate::{MemoryCall, MemoryRecord, Room};
 use std::alloc::{AllocError, Global};
@@ -15,6 +17,7 @@ use swh_outside::{Disk, Failed};
 #[derive(Drop)]
 pub struct MemoryDisk {
     room: Room,
+    made: Vec<u8>,
     bytes: Vec<u8>,
     base: Vec<u8>,
     ranges: Vec<(usize, usize)>,
@@ -31,10 +34,11 @@ pub struct MemoryDisk {
     ghost ranges_room: { room.calls ≤ vec_capacity ranges },
     ghost few_ranges: { vec_len ranges ≤ vec_len calls },
     ghost sizes: { sizes_of calls.items ≡ length written.items },
+    ghost recorded: { IsRecorded made.items calls.items written.items base.items ranges.items longest bytes.items },
 }
 
 impl MemoryDisk {
-    ghost use Rattle.swh_outside.specs.Disk.{IsFailedCall, Write, begun};
+    ghost use Rattle.swh_outside.specs.Disk.{IsFailedCall, Write, begun, done};
     ghost use Rattle.swh_outside.specs.Faults.{HasCause};
     ghost use Rattle.swh_outside.specs.Files.{absent};
     ghost use Rattle.swh_memory_disk.specs.Memory.{
@@ -43,22 +47,24 @@ impl MemoryDisk {
       disk_calls,
       disk_tally,
       disk_faults,
-      resting,
       notes_of,
       new_notes,
+      moment_file,
+      KeepsMoments,
     };
+    ghost use Rattle.swh_memory_disk.specs.Kept.{resting};
+    ghost use Rattle.swh_memory_disk.specs.Past.{left_by, IsNearest};
     ghost use Rattle.swh_memory_disk.specs.Memory.{
       has_call_room,
       has_write_room,
       is_call_to_fail,
       is_write_to_fail,
-      with_calls,
       begun_within,
     };
-    ghost use Rattle.swh_memory_disk.specs.Record.{call_of, size_of, noted};
+    ghost use Rattle.swh_memory_disk.specs.Record.{IsBare, noted};
     ghost use Rattle.swh_memory_failures.specs.Tally.{fresh_tally, tallied};
     ghost use Rattle.swh_memory_disk.specs.declared.record.MemoryCall.TheVariants.{Written};
-    ghost use Rattle.std.specs.Prelude.{◌+◌, ◌⊎◌, true, OnOk, OnErr, is_err, if◌then◌else◌};
+    ghost use Rattle.std.specs.Prelude.{◌+◌, ◌⊎◌, true, false, OnOk, OnErr, is_err, if◌then◌else◌};
 
     /// A disk with these bytes, all of them on it. Its calls with the listed numbers, from 0, will fail.
     pub fn new(
@@ -68,6 +74,7 @@ impl MemoryDisk {
         failing: Vec<u64>,
     ) -> Result<Self, AllocError>
         ensures file { IfOk result (λ disk. memory_file disk ≡ resting bytes.now) }
+        ensures made { IfOk result (λ disk. moment_file disk 0 ≡ resting bytes.now) }
         ensures room { IfOk result (λ disk. disk_room disk ≡ room) }
         ensures calls { IfOk result (λ disk. disk_calls disk ≡ []) }
         ensures failing { IfOk result (λ disk. disk_tally disk ≡ fresh_tally failing.items) }
@@ -76,6 +83,7 @@ impl MemoryDisk {
         let longer = room.bytes.max(bytes.len());
         Ok(MemoryDisk {
             room,
+            made: filled(alloc, bytes.len(), bytes)?,
             bytes: filled(alloc, longer, bytes)?,
             base: filled(alloc, longer, bytes)?,
             ranges: Vec::with_capacity(alloc, room.calls)?,
@@ -105,6 +113,7 @@ impl MemoryDisk {
     {
         MemoryDisk {
             room: Room { bytes: 0, calls: 0 },
+            made: Vec::new(alloc),
             bytes: Vec::new(alloc),
             base: Vec::new(alloc),
             ranges: Vec::new(alloc),
@@ -129,6 +138,7 @@ impl MemoryDisk {
         ensures calls { disk_calls result ≡ disk_calls self }
         ensures failing { disk_tally result ≡ record (disk_tally self) { faults = 0 } }
         ensures no_fault { disk_faults result ≡ 0 }
+        ensures past { KeepsMoments self result }
     {
         self.failures.forget();
         self
@@ -163,6 +173,20 @@ impl MemoryDisk {
         true
     }
 
+    /// An image that a crash may leave after this number of the calls on record (0: as made; all calls, where there are
+    /// fewer): the one nearest to the choice. An image that is chosen comes back as it is.
+    pub fn image(&self, alloc: Global, moment: usize, choice: &[u8]) -> Result<Vec<u8>, AllocError>
+        ensures image { IfOk result (λ image. IsImage (moment_file self.now moment) image.items) }
+        ensures nearest { IfOk result (λ image. IsNearest (moment_file self.now moment) choice.now image.items) }
+        ensures chosen { IsImage (moment_file self.now moment) choice.now
+            → IfOk result (λ image. image.items ≡ choice.now) }
+        ensures now { length (disk_calls self.now) ≤ moment → moment_file self.now moment ≡ memory_file self.now }
+    {
+        let count = moment.min(self.calls.len());
+        let past = Past::after(alloc, &self.made, &self.calls[..count], &self.written)?;
+        past.image_near(alloc, choice)
+    }
+
     // Says whether one more call is within the room.
     fn has_call_room(&self) -> bool
         ensures { result ≡ has_call_room self.now }
@@ -180,20 +204,20 @@ impl MemoryDisk {
             && self.written.len() + bytes.len() <= self.room.bytes
     }
 
-    // Begins a call that carries no bytes; or counts a failure, where it has no room or is to fail.
+    // Makes a call that carries no bytes; or counts a failure, where it has no room or is to fail.
     fn begin(&mut self, call: MemoryCall) -> Result<(), Failed>
-        requires { size_of call ≡ 0 }
+        requires { IsBare call }
         ensures fails { is_err result ≡ is_call_to_fail self.old }
         ensures counted { disk_tally self.new ≡ tallied (is_err result) (disk_tally self.old) }
         ensures noted { disk_calls self.new ≡ noted (has_call_room self.old) (disk_calls self.old) call
             (is_err result) }
         ensures same_room { disk_room self.new ≡ disk_room self.old }
-        ensures ok { OnOk result (memory_file self.new ≡ with_calls (call_of call []) (memory_file self.old)) }
+        ensures ok { OnOk result (memory_file self.new ≡ left_by call false [] (memory_file self.old)) }
         ensures err { OnErr result ((memory_file self.new ≡ memory_file self.old)
-            ⊎ (memory_file self.new ≡ with_calls (call_of call []) (memory_file self.old))) }
+            ⊎ (memory_file self.new ≡ left_by call true [] (memory_file self.old))) }
         ensures left { OnErr result (memory_file self.new
-            ≡ if has_call_room self.old then with_calls (call_of call [])
-            (memory_file self.old) else memory_file self.old) }
+            ≡ if has_call_room self.old then left_by call true [] (memory_file self.old) else memory_file self.old) }
+        ensures past { KeepsMoments self.old self.new }
         ensures cause { HasCause (disk_faults self.old) (disk_faults self.new) result }
     {
         let fails = self.failures.next_fails();
@@ -207,19 +231,28 @@ impl MemoryDisk {
         Ok(())
     }
 
-    // Puts a call that carries no bytes on record.
+    // Puts a call that carries no bytes on record, with what it leaves.
     fn note(&mut self, call: MemoryCall, failed: bool)
         requires room { has_call_room self.old ≡ true }
-        requires size { size_of call ≡ 0 }
-        ensures file { memory_file self.new ≡ with_calls (call_of call []) (memory_file self.old) }
+        requires bare { IsBare call }
+        ensures file { memory_file self.new ≡ left_by call failed [] (memory_file self.old) }
+        ensures past { KeepsMoments self.old self.new }
         ensures noted { disk_calls self.new ≡ noted true (disk_calls self.old) call failed }
         ensures same_room { disk_room self.new ≡ disk_room self.old }
         ensures tally { disk_tally self.new ≡ disk_tally self.old }
     {
         self.calls.push_reserved(MemoryRecord { call, failed });
+        if failed {
+            return;
+        }
+        let MemoryCall::Synced = call else {
+            return;
+        };
+        settle(&mut self.base, &self.bytes, &mut self.ranges);
+        self.longest = self.bytes.len();
     }
 
-    // Begins a write; or counts a failure, where it has no room or is to fail.
+    // Makes a write; or counts a failure, where it has no room or is to fail.
     fn begin_write(&mut self, at: usize, bytes: &[u8]) -> Result<(), Failed>
         requires { at ≤ length (memory_file self.old).seen }
         ensures fails { is_err result ≡ is_write_to_fail self.old at (length bytes.now) }
@@ -228,12 +261,12 @@ impl MemoryDisk {
             (disk_calls self.old)
             (Written at (length bytes.now)) (is_err result) }
         ensures same_room { disk_room self.new ≡ disk_room self.old }
-        ensures ok { OnOk result (memory_file self.new ≡ begun (Write at bytes.now) (memory_file self.old)) }
+        ensures ok { OnOk result (memory_file self.new ≡ done (Write at bytes.now) (memory_file self.old)) }
         ensures err { OnErr result (IsFailedCall (Write at bytes.now) (memory_file self.old) (memory_file self.new)) }
         ensures left { OnErr result (memory_file self.new
             ≡ begun_within (has_write_room self.old at (length bytes.now)) (Write at bytes.now)
             (memory_file self.old)) }
-        ensures fits { OnOk result (at + length bytes.now ≤ (disk_room self.new).bytes) }
+        ensures past { KeepsMoments self.old self.new }
         ensures cause { HasCause (disk_faults self.old) (disk_faults self.new) result }
     {
         let fails = self.failures.next_fails();
@@ -247,15 +280,16 @@ impl MemoryDisk {
         Ok(())
     }
 
-    // Puts a write on record, and its range among those that a crash may tear.
+    // Puts a write on record, with what it leaves.
     fn note_write(&mut self, at: usize, bytes: &[u8], failed: bool)
         requires room { has_write_room self.old at (length bytes.now) ≡ true }
         requires inside { at ≤ length (memory_file self.old).seen }
-        ensures file { memory_file self.new ≡ begun (Write at bytes.now) (memory_file self.old) }
+        ensures file { memory_file self.new
+            ≡ left_by (Written at (length bytes.now)) failed bytes.now (memory_file self.old) }
+        ensures past { KeepsMoments self.old self.new }
         ensures noted { disk_calls self.new ≡ noted true (disk_calls self.old) (Written at (length bytes.now)) failed }
         ensures same_room { disk_room self.new ≡ disk_room self.old }
         ensures tally { disk_tally self.new ≡ disk_tally self.old }
-        ensures fits { at + length bytes.now ≤ (disk_room self.new).bytes }
     {
         let count = bytes.len();
         let _ = self.written.extend_from_slice(bytes);
@@ -263,6 +297,10 @@ impl MemoryDisk {
         self.calls.push_reserved(MemoryRecord { call, failed });
         self.ranges.push_reserved((at, count));
         self.longest = self.longest.max(at + count);
+        if failed {
+            return;
+        }
+        patch(&mut self.bytes, at, bytes);
     }
 }
 
@@ -270,7 +308,14 @@ impl Disk for MemoryDisk {
     ghost use Rattle.std.specs.Prelude.{◌∷◌, ◌-◌, drop, min, is_err, OnErr};
     ghost use Rattle.swh_outside.specs.Disk.{IsReadAt, Runs, Sync, Write};
     ghost use Rattle.swh_outside.specs.Faults.{HasCause};
-    ghost use Rattle.swh_memory_disk.specs.Memory.{memory_file, disk_room, disk_calls, disk_tally, disk_faults};
+    ghost use Rattle.swh_memory_disk.specs.Memory.{
+      memory_file,
+      disk_room,
+      disk_calls,
+      disk_tally,
+      disk_faults,
+      KeepsMoments,
+    };
     ghost use Rattle.swh_memory_disk.specs.Memory.{
       has_call_room,
       has_write_room,
@@ -302,6 +347,7 @@ impl Disk for MemoryDisk {
         ensures noted { disk_calls self.new ≡ noted (has_call_room self.old) (disk_calls self.old) Length
             (is_err result) }
         ensures same_room { disk_room self.new ≡ disk_room self.old }
+        ensures past { KeepsMoments self.old self.new }
     {
         let Ok(()) = self.begin(MemoryCall::Length) else {
             return Err(Failed);
@@ -321,6 +367,7 @@ impl Disk for MemoryDisk {
         ensures noted { disk_calls self.new ≡ noted (has_call_room self.old) (disk_calls self.old)
             (Read at (length out.old)) (is_err result) }
         ensures same_room { disk_room self.new ≡ disk_room self.old }
+        ensures past { KeepsMoments self.old self.new }
         ensures rest { IfOk result (λ n. drop n out.new ≡ drop n out.old) }
         ensures untouched { OnErr result (out.new ≡ out.old) }
     {
@@ -352,12 +399,12 @@ impl Disk for MemoryDisk {
             (disk_calls self.old)
             (Written at (length bytes.now)) (is_err result) }
         ensures same_room { disk_room self.new ≡ disk_room self.old }
+        ensures past { KeepsMoments self.old self.new }
     {
         let at = at as usize;
         let Ok(()) = self.begin_write(at, bytes) else {
             return Err(Failed);
         };
-        patch(&mut self.bytes, at, bytes);
         Ok(())
     }
 
@@ -372,12 +419,11 @@ impl Disk for MemoryDisk {
         ensures noted { disk_calls self.new ≡ noted (has_call_room self.old) (disk_calls self.old) Synced
             (is_err result) }
         ensures same_room { disk_room self.new ≡ disk_room self.old }
+        ensures past { KeepsMoments self.old self.new }
     {
         let Ok(()) = self.begin(MemoryCall::Synced) else {
             return Err(Failed);
         };
-        settle(&mut self.base, &self.bytes, &mut self.ranges);
-        self.longest = self.bytes.len();
         Ok(())
     }
 }

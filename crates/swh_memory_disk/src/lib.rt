@@ -5,6 +5,7 @@
 
 mod depot;
 mod disk;
+mod past;
 mod place;
 mod places;
 mod ranges;

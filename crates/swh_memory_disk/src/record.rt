@@ -24,7 +24,7 @@ pub enum MemoryCall {
 
 impl MemoryCall {
     ghost use Rattle.std.specs.Prelude.{◌≡◌};
-    ghost use Rattle.swh_memory_disk.specs.Record.{is_change};
+    ghost use Rattle.swh_memory_disk.specs.Record.{is_change, size_of};
 
     /// Says whether it is a write or a barrier.
     pub fn is_change(self) -> bool
@@ -33,6 +33,16 @@ impl MemoryCall {
         match self {
             MemoryCall::Length | MemoryCall::Read(..) => false,
             MemoryCall::Written(..) | MemoryCall::Synced => true,
+        }
+    }
+
+    /// How many bytes it carries.
+    pub fn size(self) -> usize
+        ensures { result ≡ size_of self }
+    {
+        match self {
+            MemoryCall::Length | MemoryCall::Read(..) | MemoryCall::Synced => 0,
+            MemoryCall::Written(_at, count) => count,
         }
     }
 }

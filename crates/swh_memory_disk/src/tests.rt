@@ -25,6 +25,44 @@ fn a_write_is_torn_until_a_barrier(rt: HostRuntime) -> Result<(), Fail> {
 }
 
 #[test]
+fn an_image_of_each_moment_is_had(rt: HostRuntime) -> Result<(), Fail> {
+    let alloc = rt.alloc();
+    let room = Room { bytes: 8, calls: 9 };
+    let mut disk = MemoryDisk::new(alloc, &[1, 2, 3], room, [4].to_vec(alloc)?)?;
+    assert!(rt; disk.write_at(1, &[7, 7, 7]).is_ok());
+    assert!(rt; disk.sync().is_ok());
+    assert_eq!(rt; disk.len(), Ok(4));
+    assert!(rt; disk.write_at(0, &[9]).is_ok());
+    assert!(rt; disk.sync().is_err());
+    assert_eq!(rt;
+        disk.image(alloc, 0, &[5])?.as_slice(),
+        [1, 2, 3].as_slice()
+    );
+    assert_eq!(rt;
+        disk.image(alloc, 1, &[5; 6])?.as_slice(),
+        [1, 5, 5, 5].as_slice()
+    );
+    assert_eq!(rt; disk.image(alloc, 1, &[])?.as_slice(), [1, 0, 0].as_slice());
+    assert_eq!(rt;
+        disk.image(alloc, 3, &[5])?.as_slice(),
+        [1, 7, 7, 7].as_slice()
+    );
+    assert_eq!(rt;
+        disk.image(alloc, 4, &[8])?.as_slice(),
+        [8, 7, 7, 7].as_slice()
+    );
+    assert_eq!(rt;
+        disk.image(alloc, 5, &[8])?.as_slice(),
+        [8, 7, 7, 7].as_slice()
+    );
+    assert_eq!(rt;
+        disk.image(alloc, 9, &[1])?.as_slice(),
+        [1, 7, 7, 7].as_slice()
+    );
+    Ok(())
+}
+
+#[test]
 fn each_call_is_on_record(rt: HostRuntime) -> Result<(), Fail> {
     let alloc = rt.alloc();
     let room = Room { bytes: 4, calls: 4 };

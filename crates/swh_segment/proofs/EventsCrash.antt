@@ -6,11 +6,9 @@ use Rattle.swh_outside.specs.Files.{Files, Images, EachFilesMoment, on, files_do
 use Rattle.swh_outside.proofs.Images.{at_rest_image, at_rest_done, front_stays}
 use Rattle.swh_outside.proofs.Numbered.{files_done-on, files_done-append, with_file_here, with_file_other, files_moments_then, moments_on}
 use Rattle.swh_format.specs.Record.{Record, Stands, IsReady}
-use Rattle.swh_segment.specs.Settled.{IsSettled}
-use Rattle.swh_segment.specs.Calls.{append_calls}
 use Rattle.swh_format.specs.Events.{Append, run_bytes, records, runs, FilesStand, IsWritten}
-use Rattle.swh_segment.specs.Settled.{with_or_without_event, AreSettled}
-use Rattle.swh_segment.specs.Calls.{run_calls, event_calls}
+use Rattle.swh_segment.specs.Settled.{IsSettled, BeginsWith, AreSettled, with_or_without_event}
+use Rattle.swh_segment.specs.Calls.{append_calls, run_calls, event_calls}
 use Rattle.swh_segment.proofs.Appends.{each_moment, appended}
 
 pub records-push : (h : List Append) (e : Append) → records (h ++ e ∷ []) ≡ records h ++ e.entry ∷ []
@@ -21,11 +19,6 @@ pub runs-push : (h : List Append) (e : Append) (rest : List ℕ) → runs (h ++ 
 runs-push [] e rest = ap (λ (l : List ℕ). l ++ rest) (append-nil (run_bytes e.run))
 runs-push (d ∷ h) e rest =
     append_assoc (run_bytes d.run) (runs (h ++ e ∷ [])) rest ∙ ap (λ (l : List ℕ). run_bytes d.run ++ l) (runs-push h e rest) ∙ sym (append_assoc (run_bytes d.run) (runs h) (run_bytes e.run ++ rest))
-
--- a file begins with some bytes
-pub record BeginsWith (front file : List ℕ) : Type 0 where
-  pub rest : List ℕ
-  pub is : file ≡ front ++ rest
 
 -- the store, at rest, with some bytes up to a place, and a run that is written there
 module _ (store : File) (front rest : List ℕ) (at : ℕ) (rests : IsAtRest store) (begins : store.seen ≡ front ++ rest) (size : length front ≡ at) where

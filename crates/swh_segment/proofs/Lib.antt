@@ -4,4 +4,5 @@ pub mod Crash
 pub mod Ends
 pub mod EventsCrash
 pub mod Outcomes
+pub mod Owners
 pub mod Pieces

@@ -1,6 +1,7 @@
 pub mod Calls
 pub mod Makes
 pub mod Making
+pub mod OnDisk
 pub mod Reading
 pub mod Runs
 pub mod Settled

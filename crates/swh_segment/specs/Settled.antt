@@ -20,6 +20,17 @@ pub record IsSettled (file : File) (rs : List Record) (end : ℕ) : Type 0 where
   pub stands : Stands file.seen rs
   pub end_is : length (front rs) ≡ end
 
+-- a file begins with some bytes
+pub record BeginsWith (front file : List ℕ) : Type 0 where
+  pub rest : List ℕ
+  pub is : file ≡ front ++ rest
+
+-- the store begins with these runs, with nothing written since a barrier, and their end is there
+pub record AreRunsSettled (file : File) (runs : List ℕ) (end : ℕ) : Type 0 where
+  pub rests : IsAtRest file
+  pub begins : BeginsWith runs file.seen
+  pub end_is : length runs ≡ end
+
 -- The two files stand for the history, with nothing written since a barrier, and their ends are there.
 pub record AreSettled (files : Files) (h : List Append) (store_end end : ℕ) : Type 0 where
   pub ledger : IsSettled (files 0) (records h) end

@@ -21,8 +21,8 @@ pub enum Run<'a> {
     Batch(&'a [u8]),
 }
 
-// The run of an event, on the disk at `Ok`.
-fn append_run<D: Disk>(store: &mut D, at: u64, run: Run<'_>) -> Result<(), Failed>
+/// The run of an event, on the disk at `Ok`.
+pub fn append_run<D: Disk>(store: &mut D, at: u64, run: Run<'_>) -> Result<(), Failed>
     requires { D.tells → at ≤ length (D.file store.old).seen }
     ensures runs { D.tells → Runs (run_calls at (run_of run.entry)) (D.file store.old) (D.file store.new) result }
     ensures cause { HasCause (D.faults store.old) (D.faults store.new) result }
@@ -36,8 +36,8 @@ fn append_run<D: Disk>(store: &mut D, at: u64, run: Run<'_>) -> Result<(), Faile
     write_synced(store, at, bytes)
 }
 
-// The record of an event, after the closed gate at the ledger's end, and then its gate.
-fn append_record<D: Disk>(ledger: &mut D, end: u64, entry: &[u8]) -> Result<(), Failed>
+/// The record of an event, after the closed gate at the ledger's end, and then its gate.
+pub fn append_record<D: Disk>(ledger: &mut D, end: u64, entry: &[u8]) -> Result<(), Failed>
     requires limit { end + 1 < 2 ^ 64 }
     requires place { D.tells → end + 1 ≤ length (D.file ledger.old).seen }
     ensures runs { D.tells → Runs (append_calls end entry.now) (D.file ledger.old) (D.file ledger.new) result }

@@ -1,4 +1,4 @@
-// Why an archive is not made.
+// Why an archive, or a ledger, is not made.
 ghost use Rattle.std.specs.Prelude.{◌≡◌};
 
 use swh_outside::Failed;
@@ -19,4 +19,10 @@ impl From<Failed> for MakeFault {
     fn from(_: Failed) -> Self {
         MakeFault::Disk
     }
+}
+
+/// A disk that comes back from what failed.
+pub struct HandBack<D> {
+    pub disk: D,
+    pub fault: Failed,
 }

@@ -5,16 +5,23 @@
 #![tactic(auto)]
 
 mod beginning;
+mod both;
 mod event;
 mod fault;
 mod laws;
+mod ledger;
 mod making;
 mod reading;
+mod runs;
 mod writing;
 
+pub use both::{Both, BothBack, append_to_both, make_both};
 pub use event::{Run, append_event};
-pub use fault::MakeFault;
+pub use fault::{HandBack, MakeFault};
 pub use laws::{event_is_added, event_survives_crashes, made_is_empty, making_survives_crashes};
+pub use ledger::{Ledger, Ready};
 pub use making::make;
 pub use reading::{ReadFileFault, fill, read_file};
+pub use runs::Runs;
+pub use swh_outside::{Failed as DiskFault, OutFault as RunFault};
 pub use writing::{settle, write_synced};

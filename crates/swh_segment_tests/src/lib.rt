@@ -7,4 +7,6 @@
 #[cfg(test)]
 mod format;
 #[cfg(test)]
+mod owners;
+#[cfg(test)]
 mod tests;
