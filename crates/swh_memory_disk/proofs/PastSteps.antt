@@ -1,11 +1,11 @@
 -- The calls on record made again, one after another, and the image nearest to a choice.
-use Rattle.std.proofs.Common.{◌≡◌, ◌≢◌, ℕ, ◌+◌, ◌-◌, ◌<◌, ◌≤◌, ⊎_elim, min, max, List, [], ◌∷◌, ◌++◌, length, get_or, take, drop, reverse, sym, ◌∙◌, ap, subst, arith, length-drop}
-use Rattle.std.proofs.lemmas.List.{ext_get_or, drop_more, get_or_append_left, get_or-append_right}
+use Rattle.std.proofs.Common.{◌≡◌, ◌≢◌, ℕ, ◌+◌, ◌-◌, ◌<◌, ◌≤◌, ⊎_elim, min, max, List, [], ◌∷◌, ◌++◌, length, get_or, drop, reverse, sym, ◌∙◌, ap, subst, arith}
+use Rattle.std.proofs.lemmas.List.{ext_get_or, get_or_append_left, get_or-append_right}
 use Rattle.std.proofs.lemmas.Bool.{cases_eq}
 use Rattle.swh_outside.specs.Disk.{File, IsImage, IsOutside}
 use Rattle.swh_memory_disk.specs.Kept.{resting}
-use Rattle.swh_memory_disk.specs.Record.{size_of, sizes_of}
-use Rattle.swh_memory_disk.specs.Past.{left_by, file_after, IsNearest, IsByteNear}
+use Rattle.swh_memory_disk.specs.Record.{sizes_of}
+use Rattle.swh_memory_disk.specs.Past.{file_after, IsNearest, IsByteNear}
 use Rattle.swh_memory_disk.specs.Moments.{IsOfFile}
 use Rattle.swh_memory_disk.specs.declared.record.MemoryRecord.{MemoryRecord}
 use Rattle.swh_memory_disk.specs.declared.past.Past.{Past}
@@ -16,29 +16,6 @@ pub record IsSoFar (made : List ℕ) (calls : List MemoryRecord) (written : List
   pub kept : IsOfFile file past
   pub whole : file_after (drop i calls) rest file ≡ file_after calls written (resting made)
   pub room : sizes_of (drop i calls) ≤ length rest
-
--- the calls behind a place are the one there and those behind it
-pub at_turn : (calls : List MemoryRecord) (i : ℕ) (r : MemoryRecord) → i < length calls → r ≡ get_or calls i r → drop i calls ≡ r ∷ drop (i + 1) calls
-at_turn calls i r lt is = drop_more calls i r lt ∙ ap (λ (q : MemoryRecord). q ∷ drop (i + 1) calls) (sym is)
-
-pub so_far_next : (made : List ℕ) (calls : List MemoryRecord) (written : List ℕ) (i : ℕ) (rest : List ℕ) (past past_now : Past) (r : MemoryRecord) (bytes behind : List ℕ) → IsSoFar made calls written i rest past
-    → i < length calls → r ≡ get_or calls i r → bytes ≡ take (size_of r.call) rest → behind ≡ drop (size_of r.call) rest
-    → ((file : File) → IsOfFile file past → IsOfFile (left_by r.call r.failed bytes file) past_now) → IsSoFar made calls written (i + 1) behind past_now
-so_far_next made calls written i rest past past_now r bytes behind so_far lt is front back step =
-    let turn = at_turn calls i r lt is in
-    let size : sizes_of (drop i calls) ≡ size_of r.call + sizes_of (drop (i + 1) calls) = ap sizes_of turn in
-    record {
-      file = left_by r.call r.failed bytes so_far.file;
-      kept = step so_far.file so_far.kept;
-      whole = ap (λ (l : List ℕ). file_after (drop (i + 1) calls) l (left_by r.call r.failed bytes so_far.file)) back
-          ∙ ap (λ (l : List ℕ). file_after (drop (i + 1) calls) (drop (size_of r.call) rest) (left_by r.call r.failed l so_far.file)) front
-          ∙ ap (λ (l : List MemoryRecord). file_after l rest so_far.file) (sym turn) ∙ so_far.whole;
-      room = omega (arith, size, so_far.room, ap length back, length-drop (size_of r.call) rest);
-    }
-
--- what is left is room for the call
-pub call_room : (made : List ℕ) (calls : List MemoryRecord) (written : List ℕ) (i : ℕ) (rest : List ℕ) (past : Past) (r : MemoryRecord) → IsSoFar made calls written i rest past → i < length calls → r ≡ get_or calls i r → size_of r.call ≤ length rest
-call_room made calls written i rest past r so_far lt is = omega (arith, ap sizes_of (at_turn calls i r lt is), so_far.room)
 
 -- an image of such bytes is the nearest
 pub nearest : (file : File) (past : Past) (choice image : List ℕ) → IsOfFile file past → length past.base.items ≤ past.longest → length image ≡ max (length past.base.items) (min past.longest (length choice))

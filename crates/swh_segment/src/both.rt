@@ -28,7 +28,7 @@ ghost use Rattle.swh_segment.specs.Settled.{AreSettled, with_or_without_event};
 ghost use Rattle.swh_segment.specs.Runs.{run_of};
 ghost use Rattle.swh_segment.specs.declared.fault.MakeFault.TheVariants.{Made, Disk as DiskFailed};
 
-use crate::{DiskFault, Ledger, MakeFault, Run, Runs, made_is_empty, make};
+use crate::{DiskFault, Ledger, MakeFault, Run, Runs, make};
 use swh_outside::Disk;
 
 /// An archive's two files, each with its owner.
@@ -138,7 +138,6 @@ pub fn make_both<D: Disk>(mut store: D, mut ledger: D) -> Result<Both<D>, BothBa
     ensures made_store { IfErr result (λ back. back.fault ≡ Made → D.faults back.store ≡ D.faults store) }
     ensures made_ledger { IfErr result (λ back. back.fault ≡ Made → D.faults back.ledger ≡ D.faults ledger) }
 {
-    made_is_empty();
     match make(&mut store, &mut ledger) {
         Ok(()) => Ok(Both {
             store: Runs::at(store, 0),

@@ -1,9 +1,8 @@
-use Rattle.std.proofs.Common.{rules, ◌≡◌, ◌+◌, ◌++◌, ◌∷◌, [], ℕ, length, sym, ◌∙◌, ap, subst}
+use Rattle.std.proofs.Common.{◌+◌, ◌++◌, ◌∷◌, [], ℕ, length, sym, ◌∙◌, ap, subst}
 use Rattle.swh_outside.specs.Disk.{File}
 use Rattle.swh_outside.specs.Files.{on, files_of, files_done}
 use Rattle.swh_outside.proofs.Plans.{on_err}
 use Rattle.swh_outside.proofs.Numbered.{files_stopped, files_stops, files_goes_on, files_done-append, ledger_done, files_left_by, files_runs_then, store_breaks, store_done, ledger_runs, ledger_breaks}
-use Rattle.swh_format.specs.Events.{run_bytes}
 use Rattle.swh_segment.specs.Calls.{run_calls, append_calls}
 use Rattle.swh_segment.specs.Runs.{run_of}
 use Rattle.swh_segment.specs.Settled.{AreSettled}

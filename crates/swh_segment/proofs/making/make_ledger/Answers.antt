@@ -1,7 +1,7 @@
-use Rattle.std.proofs.Common.{rules, ◌≡◌, ◌⊎◌, inr, ◌∷◌, [], Bool, sym, ◌∙◌, ap, subst}
+use Rattle.std.proofs.Common.{inr, ◌∷◌, [], Bool, ◌∙◌, ap, subst}
 use Rattle.swh_outside.specs.Disk.{File, Sync, Breaks, all_done}
 use Rattle.swh_outside.proofs.Plans.{stops, goes_on, on_err}
-use Rattle.swh_segment.specs.Making.{magic_calls, needs_clearing, ledger_making_calls}
+use Rattle.swh_segment.specs.Making.{magic_calls, needs_clearing}
 use Rattle.swh_segment.proofs.Outcomes.{err_then}
 use Rattle.swh_segment.proofs.making.make_ledger.Goals as goal
 

@@ -1,12 +1,12 @@
-use Rattle.std.proofs.Common.{rules, ◌≡◌, ◌+◌, ◌≤◌, ◌++◌, ◌∷◌, [], List, ℕ, length, sym, ◌∙◌, ap, subst, arith}
-use Rattle.swh_outside.specs.Disk.{File, Runs, Breaks, all_done}
+use Rattle.std.proofs.Common.{◌≡◌, ◌+◌, ◌++◌, ◌∷◌, [], ℕ, length, sym, ap, subst, arith}
+use Rattle.swh_outside.specs.Disk.{Runs, Breaks, all_done}
 use Rattle.swh_outside.proofs.Plans.{stopped, left_by, on_err}
 use Rattle.swh_format.specs.Record.{with_or_without}
 use Rattle.swh_segment.specs.Calls.{append_calls}
 use Rattle.swh_segment.specs.OnDisk.{OnDisk}
 use Rattle.swh_segment.specs.Settled.{IsSettled}
 use Rattle.swh_segment.proofs.Appends.{each_moment, appended}
-use Rattle.swh_segment.proofs.Owners.{after_record, broken_longer}
+use Rattle.swh_segment.proofs.Owners.{broken_longer}
 use Rattle.swh_segment.proofs.ledger.Ledger.append_bytes.Goals as goal
 
 pub invariant_of-self : goal.invariant_of-self

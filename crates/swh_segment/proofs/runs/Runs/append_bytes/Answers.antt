@@ -1,10 +1,10 @@
-use Rattle.std.proofs.Common.{rules, ◌≡◌, ◌+◌, ◌≤◌, ◌++◌, List, ℕ, Some, length, sym, ◌∙◌, ap, subst, arith}
-use Rattle.swh_outside.specs.Disk.{File, Runs, Breaks, all_done}
+use Rattle.std.proofs.Common.{◌≡◌, ◌+◌, ◌++◌, ℕ, Some, length, sym, ap, subst, arith}
+use Rattle.swh_outside.specs.Disk.{Runs, Breaks, all_done}
 use Rattle.swh_outside.proofs.Plans.{stopped, left_by, on_err}
 use Rattle.swh_segment.specs.Calls.{run_calls}
 use Rattle.swh_segment.specs.OnDisk.{OnDisk}
 use Rattle.swh_segment.specs.Settled.{BeginsWith, AreRunsSettled}
-use Rattle.swh_segment.proofs.Owners.{after_run, broken_longer, run_moments, run_settled}
+use Rattle.swh_segment.proofs.Owners.{broken_longer, run_moments, run_settled}
 use Rattle.swh_segment.proofs.runs.Runs.append_bytes.Goals as goal
 
 pub invariant_of-self : goal.invariant_of-self
