@@ -38,7 +38,8 @@ fn directory_object<N: Namer>(
     ensures err { IfErr result (ExplainsEntries (entry_views list.items)) }
 {
     let entries = Entries::of(list);
-    let body = write_dir(alloc, &entries)?;
+    let mut body = write_dir(alloc, &entries)?;
+    body.shrink_to_fit();
     match Object::make(alloc, namer, Kind::Directory, body) {
         Ok(object) => Ok(object),
         Err(ObjectFault::TooLong { len }) => Err(TreeFault::TooLong { len }),
