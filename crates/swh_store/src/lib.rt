@@ -1,0 +1,13 @@
+//! The bodies of an archive in memory, by their names, each once.
+//! Stands on `swh_base` and `swh_model`.
+//! Callers may rely on: a store is the finite map of the archive and the graph of its bodies; a batch is added whole, or
+//! it stays as it was, and is refused exactly where a name would have two bodies.
+#![tactic(auto)]
+
+mod adding;
+mod entries;
+mod fault;
+mod store;
+
+pub use fault::StoreFault;
+pub use store::Store;
