@@ -50,9 +50,9 @@ impl<D: Disk> Ledger<D> {
     ghost use Rattle.swh_segment.specs.Making.{IsNotMade, IsNotMadeOrEmptyLedger, ledger_making_calls};
     ghost use Rattle.swh_segment.specs.Settled.{IsSettled};
 
-    /// Makes a ledger with no record: a barrier; a first byte that is an `S`, or is not there, is cleared; then the magic
-    /// from its second byte on with a closed gate; then the first byte; each with a barrier after it. A disk that failed
-    /// comes back.
+    /// Makes a ledger with no record on a disk that has no made one, which it would write over: a barrier; a first byte
+    /// that is an `S`, or is not there, is cleared; then the magic from its second byte on with a closed gate; then the
+    /// first byte; each with a barrier after it. A disk that failed comes back.
     pub fn make(mut disk: D) -> Result<Ledger<D>, HandBack<D>>
         requires { D.tells → IsNotMade (D.file disk).seen }
 
@@ -96,8 +96,8 @@ impl<D: Disk> Ledger<D> {
         Ok(Ready { bytes })
     }
 
-    /// Adds a record, and answers the place of its gate: the record with the next gate, then its gate, each with a barrier
-    /// after it. At `Ok` each crash from then on leaves the record too.
+    /// Adds a record, and answers the place of its gate: the record with the next gate, then its gate, each with a
+    /// barrier after it. At `Ok` each crash from then on leaves the record too.
     pub fn append(&mut self, ready: &Ready) -> Result<u64, DiskFault>
         requires { self.old.end + length ready.now + 1 < 2 ^ 64 }
         ensures gate { IfOk result (λ gate. gate ≡ self.old.end) }

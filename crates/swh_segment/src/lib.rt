@@ -1,7 +1,8 @@
-//! The device calls on the two files of an archive: the making, the adding of an event, and the reading of a whole file.
-//! Stands on `swh_outside` and `swh_format`.
-//! Callers may rely on: each call on the disks is one of a stated plan, cut where a disk fails, and a crash at any call of
-//! it leaves files that stand for the history with the event or without.
+//! The device calls on the two files of an archive: the making, the adding of a record, of a run and of an event, also
+//! by owners of their disks, and the reading of a whole file.
+//! Stands on `swh_base`, `swh_outside` and `swh_format`.
+//! Callers may rely on: each call on the disks is one of a stated plan, cut where a disk fails, and a crash at any call
+//! of it leaves files that stand for the history with the event or without.
 #![tactic(auto)]
 
 mod beginning;

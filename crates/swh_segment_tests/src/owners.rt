@@ -58,8 +58,12 @@ fn a_record_stands_after_a_made_ledger(rt: HostRuntime) -> Result<(), Fail> {
 fn a_disk_that_fails_in_the_making_comes_back(rt: HostRuntime) -> Result<(), Fail> {
     let alloc = rt.alloc();
     let disk = MemoryDisk::new(alloc, b"", ROOM, [1].to_vec(alloc)?)?;
-    let Err(disk) = made(disk) else {
-        return Err(Fail::from("no fault"));
+    let disk = match made(disk) {
+        Ok(ledger) => {
+            let _disk = ledger.close();
+            return Err(Fail::from("no fault"));
+        }
+        Err(disk) => disk,
     };
     assert_eq!(rt; disk.faults(), 1);
     assert_eq!(rt; disk.bytes().len(), 0);
