@@ -29,4 +29,4 @@ pub use origin::{origin_is_codable, origin_of};
 pub use stored_object::{
     EntryParts, entries_are_codable, entry_is_codable, read_run, run_of_entries, split_entry,
 };
-pub use told::{Told, record_of_event};
+pub use told::{Told, read_told, record_of_event};

@@ -1,0 +1,11 @@
+pub mod FieldLemmas
+pub mod FrameLemmas
+pub mod ObjectLemmas
+pub mod BodyLemmas
+pub mod RunLemmas
+pub mod EventLemmas
+pub mod NextLemmas
+pub mod WholeLemmas
+pub mod SoFarLemmas
+pub mod AllLemmas
+pub mod LadderLaws

@@ -1,0 +1,146 @@
+-- Records as far as they are read, and the next one.
+use Rattle.std.proofs.Common.{◌≡◌, ◌⊎◌, ℕ, ◌+◌, ◌-◌, ◌<◌, ◌≤◌, ◌^◌, List, [], ◌∷◌, ◌++◌, length, take, drop, refl, sym, ap, ◌∙◌, subst, inl, inr, arith, length-append, append_assoc}
+use Rattle.std.proofs.lemmas.List.{drop-drop, append-nil}
+use Rattle.std.proofs.Math.Seq.{drop-append_seam}
+use Rattle.std.specs.List.{AllByRecursion}
+use Rattle.swh_base.specs.declared.kind.Kind.{Kind}
+use Rattle.swh_model.specs.declared.event.Event.{Event}
+use Rattle.swh_object.specs.Object.{IsObject}
+use Rattle.swh_format.specs.declared.frame.RecordParts.{RecordParts}
+use Rattle.swh_format.specs.Record.{magic, framed}
+use Rattle.swh_format.specs.EventRecord.{packed_objects, coded_record, IsCodable, AreCodable}
+use Rattle.swh_format.specs.Stands.{coded_records, coded_runs}
+use Rattle.swh_format.proofs.HistoryFiles.{codable-push}
+use Rattle.swh_recovery.specs.declared.harm.Harm.TheVariants.{Short}
+use Rattle.swh_recovery.specs.declared.harm.Found.{Found}
+use Rattle.swh_recovery.specs.declared.record.Record.{Record}
+use Rattle.swh_recovery.specs.declared.reading.Reached.{Reached}
+use Rattle.swh_recovery.specs.Fields.{found_at}
+use Rattle.swh_recovery.specs.LedgerHarm.{RecordBreaks}
+use Rattle.swh_recovery.specs.Harms.{entries_of, Begin, NextBreaks, BreaksAfter}
+use Rattle.swh_recovery.specs.Records.{event_of, events, IsRecordOfEvent, AreRecords, records_of, EventBreaks, IsEventRead, IsReadSoFar, BreaksNext}
+
+records-push : (at : ℕ) (g : List Event) (e : Event) (rest : List ℕ) → coded_records at (g ++ e ∷ []) ++ rest ≡ coded_records at g ++ 1 ∷ (coded_record (at + length (coded_runs g)) e ++ rest)
+records-push at [] e rest =
+    ap (λ (l : List ℕ). 1 ∷ (l ++ rest)) (append-nil (coded_record at e)) ∙ ap (λ (n : ℕ). 1 ∷ (coded_record n e ++ rest)) (let z : at ≡ at + 0 = omega arith in z)
+records-push at (f ∷ g) e rest =
+    let next = at + length (packed_objects f.what) in
+    let place : next + length (coded_runs g) ≡ at + length (packed_objects f.what ++ coded_runs g) = omega (arith, length-append (packed_objects f.what) (coded_runs g)) in
+    ap (λ (l : List ℕ). 1 ∷ l)
+    (append_assoc (coded_record at f) (coded_records next (g ++ e ∷ [])) rest ∙ ap (λ (l : List ℕ). coded_record at f ++ l) (records-push next g e rest)
+    ∙ sym (append_assoc (coded_record at f) (coded_records next g) (1 ∷ (coded_record (next + length (coded_runs g)) e ++ rest))))
+    ∙ ap (λ (n : ℕ). 1 ∷ ((coded_record at f ++ coded_records next g) ++ 1 ∷ (coded_record n e ++ rest))) place
+
+runs-push : (g : List Event) (e : Event) → coded_runs (g ++ e ∷ []) ≡ coded_runs g ++ packed_objects e.what
+runs-push [] e = append-nil (packed_objects e.what)
+runs-push (f ∷ g) e = ap (λ (l : List ℕ). packed_objects f.what ++ l) (runs-push g e) ∙ sym (append_assoc (packed_objects f.what) (coded_runs g) (packed_objects e.what))
+
+events-push : (rs : List Record) (r : Record) → events (rs ++ r ∷ []) ≡ events rs ++ event_of r ∷ []
+events-push [] r = refl
+events-push (s ∷ rs) r = ap (λ (l : List Event). event_of s ∷ l) (events-push rs r)
+
+length-events : (rs : List Record) → length (events rs) ≡ length rs
+length-events [] = refl
+length-events (r ∷ rs) = let m = length-events rs in omega (arith, m)
+
+all_push : {X : Type 0} (P : X → Type 0) (xs : List X) (y : X) → AllByRecursion P xs → P y → AllByRecursion P (xs ++ y ∷ [])
+all_push P [] y h p = (p, tt)
+all_push P (x ∷ xs) y h p = (h.0, all_push P xs y h.1 p)
+
+placed-push : (gate start : ℕ) (rs : List Record) (r : Record) → AreRecords gate start rs → IsRecordOfEvent (gate + length (coded_records start (events rs))) (start + length (coded_runs (events rs))) r → AreRecords gate start (rs ++ r ∷ [])
+placed-push gate start [] r h one =
+    (subst (λ (n : ℕ). IsRecordOfEvent n start r) (let z : gate + 0 ≡ gate = omega arith in z) (subst (λ (n : ℕ). IsRecordOfEvent (gate + 0) n r) (let z : start + 0 ≡ start = omega arith in z) one), tt)
+placed-push gate start (s ∷ rs) r h one =
+    let e = event_of s in
+    let next = start + length (packed_objects e.what) in
+    let gates : gate + length (1 ∷ (coded_record start e ++ coded_records next (events rs))) ≡ gate + (1 + length (coded_record start e)) + length (coded_records next (events rs)) = omega (arith, length-append (coded_record start e) (coded_records next (events rs))) in
+    let places : start + length (packed_objects e.what ++ coded_runs (events rs)) ≡ next + length (coded_runs (events rs)) = omega (arith, length-append (packed_objects e.what) (coded_runs (events rs))) in
+    (h.0, placed-push (gate + (1 + length (coded_record start e))) next rs r h.1
+        (subst (λ (n : ℕ). IsRecordOfEvent n (next + length (coded_runs (events rs))) r) gates (subst (λ (n : ℕ). IsRecordOfEvent (gate + length (1 ∷ (coded_record start e ++ coded_records next (events rs)))) n r) places one)))
+
+-- What is told of a history, up to these places.
+record AreParts (id_of : Kind → List ℕ → List ℕ) (ledger store : List ℕ) (gate end : ℕ) (h : List Event) : Type 0 where
+  gate_is : gate ≡ 8 + length (coded_records 0 h)
+  ledger_begins : ledger ≡ magic ++ (coded_records 0 h ++ drop gate ledger)
+  end_is : end ≡ length (coded_runs h)
+  store_begins : store ≡ coded_runs h ++ drop end store
+  codable : AreCodable 0 h
+  good : AllByRecursion (λ e. AllByRecursion (IsObject id_of) (entries_of e.what)) h
+
+module _ (id_of : Kind → List ℕ → List ℕ) (ledger store : List ℕ) (old : Reached) (so_far : IsReadSoFar id_of ledger store old) where
+  fronts : Begin id_of ledger store (events old.records.items)
+  fronts = record {
+    records = drop old.gate ledger;
+    ledger_begins = so_far.ledger_begins;
+    store_rest = drop old.end store;
+    store_begins = so_far.store_begins;
+    codable = so_far.codable;
+    good = so_far.good;
+  }
+
+  next_breaks : (file : ℕ) (found : Found) → NextBreaks id_of (length old.records.items + 1) old.gate old.end (drop old.gate ledger) store file found → BreaksNext id_of ledger store old file found
+  unfolding fronts
+  next_breaks file found next = (record {
+    fronts = fronts;
+    next =
+        subst (λ (n : ℕ). NextBreaks id_of (n + 1) (8 + length (coded_records 0 (events old.records.items))) (length (coded_runs (events old.records.items))) (drop old.gate ledger) store file found) (sym (length-events old.records.items))
+        (subst (λ (n : ℕ). NextBreaks id_of (length old.records.items + 1) n (length (coded_runs (events old.records.items))) (drop old.gate ledger) store file found) so_far.gate_is
+        (subst (λ (n : ℕ). NextBreaks id_of (length old.records.items + 1) old.gate n (drop old.gate ledger) store file found) so_far.end_is next));
+  }, so_far.placed)
+
+  pub no_gate : (found : Found) → drop old.gate ledger ≡ [] → found ≡ found_at old.gate (Short 0 1) → BreaksNext id_of ledger store old 0 found
+  no_gate found none is = next_breaks 0 found (inl (record { none = none; file_is = refl; found_is = is }))
+
+  pub record_breaks : (behind : List ℕ) (found : Found) → drop old.gate ledger ≡ 1 ∷ behind → RecordBreaks behind (old.gate + 1) found → BreaksNext id_of ledger store old 0 found
+  record_breaks behind found opened breaks = next_breaks 0 found (inr (inl (record { behind = behind; opened = opened; file_is = refl; breaks = breaks })))
+
+  pub event_breaks : (p : RecordParts) (file : ℕ) (found : Found) (number : ℕ) → number ≡ length old.records.items + 1 → drop old.gate ledger ≡ records_of p → EventBreaks id_of number old.gate old.end p store file found → BreaksNext id_of ledger store old file found
+  event_breaks p file found number numbered is breaks =
+      let here : NextBreaks id_of number old.gate old.end (records_of p) store file found = elim breaks [ inl x ↦ inr (inr (inl x)) | inr x ↦ inr (inr (inr x)) ] in
+      next_breaks file found
+      (subst (λ (n : ℕ). NextBreaks id_of n old.gate old.end (drop old.gate ledger) store file found) numbered
+      (subst (λ (l : List ℕ). NextBreaks id_of number old.gate old.end l store file found) (sym is) here))
+
+  module _ (p : RecordParts) (r : Record) (end : ℕ) (is : drop old.gate ledger ≡ records_of p) (read : IsEventRead id_of old.gate old.end p store r end) where
+    parts : AreParts id_of ledger store (length ledger - length p.rest.now) end (events old.records.items ++ event_of r ∷ [])
+    parts =
+        let g = events old.records.items in
+        let e = event_of r in
+        let rest = p.rest.now in
+        let place : old.end ≡ 0 + length (coded_runs g) = let s = so_far.end_is in omega (arith, s) in
+        let whole : ledger ≡ magic ++ (coded_records 0 (g ++ e ∷ []) ++ rest) =
+        so_far.ledger_begins ∙ ap (λ (l : List ℕ). magic ++ (coded_records 0 g ++ l)) (is ∙ ap (λ (l : List ℕ). 1 ∷ (l ++ rest)) read.ledger)
+        ∙ ap (λ (n : ℕ). magic ++ (coded_records 0 g ++ 1 ∷ (coded_record n e ++ rest))) place ∙ ap (λ (l : List ℕ). magic ++ l) (sym (records-push 0 g e rest)) in
+        let front = magic ++ coded_records 0 (g ++ e ∷ []) in
+        let cut_here : ledger ≡ front ++ rest = whole ∙ sym (append_assoc magic (coded_records 0 (g ++ e ∷ [])) rest) in
+        let size : length front ≡ length ledger - length rest = omega (arith, ap length cut_here, length-append front rest) in
+        let left : rest ≡ drop (length ledger - length rest) ledger = sym (drop-append_seam front rest) ∙ ap (drop (length front)) (sym cut_here) ∙ ap (λ (n : ℕ). drop n ledger) size in
+        let runs : length (coded_runs (g ++ e ∷ [])) ≡ length (coded_runs g ++ packed_objects e.what) = ap length (runs-push g e) in
+        record {
+          gate_is = omega (arith, size, length-append magic (coded_records 0 (g ++ e ∷ [])));
+          ledger_begins = whole ∙ ap (λ (l : List ℕ). magic ++ (coded_records 0 (g ++ e ∷ []) ++ l)) left;
+          end_is = let s = so_far.end_is in let n = read.end_is in omega (arith, s, n, runs, length-append (coded_runs g) (packed_objects e.what));
+          store_begins = so_far.store_begins ∙ ap (λ (l : List ℕ). coded_runs g ++ l) read.run ∙ sym (append_assoc (coded_runs g) (packed_objects e.what) (drop end store)) ∙ ap (λ (l : List ℕ). l ++ drop end store) (sym (runs-push g e));
+          codable = codable-push 0 g e so_far.codable (subst (λ (n : ℕ). IsCodable n e) place read.codable);
+          good = all_push (λ e. AllByRecursion (IsObject id_of) (entries_of e.what)) g e so_far.good read.good;
+        }
+
+    pub so_far_next : (new : Reached) → new.gate ≡ length ledger - length p.rest.now → new.end ≡ end → new.records.items ≡ old.records.items ++ r ∷ [] → IsReadSoFar id_of ledger store new
+    so_far_next new gate_is end_is items =
+        let history : events new.records.items ≡ events old.records.items ++ event_of r ∷ [] = ap events items ∙ events-push old.records.items r in
+        let a : AreParts id_of ledger store new.gate new.end (events new.records.items) =
+        subst (λ (h : List Event). AreParts id_of ledger store new.gate new.end h) (sym history)
+        (subst (λ (n : ℕ). AreParts id_of ledger store n new.end (events old.records.items ++ event_of r ∷ [])) (sym gate_is)
+        (subst (λ (n : ℕ). AreParts id_of ledger store (length ledger - length p.rest.now) n (events old.records.items ++ event_of r ∷ [])) (sym end_is) parts)) in
+        let placed : IsRecordOfEvent (8 + length (coded_records 0 (events old.records.items))) (0 + length (coded_runs (events old.records.items))) r =
+        subst (λ (n : ℕ). IsRecordOfEvent n (0 + length (coded_runs (events old.records.items))) r) so_far.gate_is
+        (subst (λ (n : ℕ). IsRecordOfEvent old.gate n r) (let s = so_far.end_is in let z : old.end ≡ 0 + length (coded_runs (events old.records.items)) = omega (arith, s) in z) read.placed) in
+        record {
+          gate_is = a.gate_is;
+          ledger_begins = a.ledger_begins;
+          end_is = a.end_is;
+          store_begins = a.store_begins;
+          codable = a.codable;
+          placed = subst (λ (rs : List Record). AreRecords 8 0 rs) (sym items) (placed-push 8 0 old.records.items r so_far.placed placed);
+          good = a.good;
+        }

@@ -1,0 +1,5 @@
+use Rattle.swh_recovery.proofs.LadderLaws.{record_whole}
+use Rattle.swh_recovery.proofs.laws.an_event_does_not_break.Goals as goal
+
+pub returns : goal.returns
+returns c = record_whole

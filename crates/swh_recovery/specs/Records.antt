@@ -1,0 +1,158 @@
+-- Records that were read, and their events.
+use Rattle.std.specs.Prelude.{◌≡◌, ◌⊎◌, ◌+◌, ◌≤◌, ◌<◌, ◌^◌, ℕ, List, [], ◌∷◌, ◌++◌, length, drop}
+use Rattle.std.specs.List.{AllByRecursion}
+use Rattle.swh_base.specs.declared.kind.Kind.{Kind}
+use Rattle.swh_base.specs.declared.entry.Entry.{Entry}
+use Rattle.swh_model.specs.declared.event.Event.{Event}
+use Rattle.swh_model.specs.declared.event.EventKind.{EventKind}
+use Rattle.swh_model.specs.declared.event.EventKind.TheVariants.{Batch}
+use Rattle.swh_object.specs.Object.{IsObject}
+use Rattle.swh_format.specs.declared.told.Told.{Told}
+use Rattle.swh_format.specs.declared.told.Told.TheVariants as told_of
+use Rattle.swh_format.specs.declared.frame.RecordParts.{RecordParts}
+use Rattle.swh_format.specs.Record.{magic, framed}
+use Rattle.swh_format.specs.LedgerReading.{IsGateClosed}
+use Rattle.swh_recovery.specs.declared.reading.Reached.{Reached}
+use Rattle.swh_format.specs.EventRecord.{event_byte, payload_of, packed_objects, coded_record, IsCodable, AreCodable}
+use Rattle.swh_format.specs.Stands.{coded_records, coded_runs, StandsFor}
+use Rattle.swh_recovery.specs.declared.harm.Harm.{Harm}
+use Rattle.swh_recovery.specs.declared.harm.Harm.TheVariants.{Refused}
+use Rattle.std.specs.Int.{w32, to_be_bytes}
+use Rattle.swh_format.specs.Tells.{TellsEvent}
+use Rattle.swh_recovery.specs.declared.harm.Found.{Found}
+use Rattle.swh_recovery.specs.declared.fault.ReadFault.{ReadFault}
+use Rattle.swh_recovery.specs.declared.fault.ReadFault.TheVariants as read
+use Rattle.swh_recovery.specs.declared.fault.NextFault.{NextFault}
+use Rattle.swh_recovery.specs.declared.fault.NextFault.TheVariants as next
+use Rattle.swh_recovery.specs.declared.frame.RunTold.{RunTold}
+use Rattle.swh_recovery.specs.declared.record.Record.{Record}
+use Rattle.swh_recovery.specs.Fields.{found_at, FieldsHold}
+use Rattle.swh_recovery.specs.Fields as fields
+use Rattle.swh_recovery.specs.declared.field.Choice.TheVariants as choice
+use Rattle.swh_recovery.specs.LedgerHarm.{payload_fields}
+use Rattle.swh_recovery.specs.Harms.{entries_of, StoreBreaks, IsRefused, BreaksAfter, MagicBreaks}
+
+-- what happened: a batch of these objects, or all that is told
+abbrev pub kind_of_told : Told → List Entry → EventKind
+kind_of_told (told_of.Batch p) es = Batch es
+kind_of_told (told_of.Whole what) es = what
+
+-- the event of a record
+abbrev pub event_of : Record → Event
+event_of r = record { by = r.by; what = kind_of_told r.told r.entries.items }
+
+-- the events of records
+abbrev pub events : List Record → List Event
+events [] = []
+events (r ∷ rs) = event_of r ∷ events rs
+
+-- The record's gate stands at this place of the ledger, and all else of it is its event's, whose run begins at this place
+-- of the store.
+pub record IsRecordOfEvent (gate start : ℕ) (r : Record) : Type 0 where
+  pub gate_is : r.gate ≡ gate
+  pub kind_is : r.kind ≡ event_byte (event_of r).what
+  pub payload_is : r.payload.items ≡ payload_of start (event_of r)
+  pub entries_are : r.entries.items ≡ entries_of (event_of r).what
+
+-- Each record is its event's, the gates and the runs one behind another from these places on.
+abbrev pub AreRecords : ℕ → ℕ → List Record → Type 0
+AreRecords gate start [] = Unit {0}
+AreRecords gate start (r ∷ rs) = IsRecordOfEvent gate start r × AreRecords (gate + (1 + length (coded_record start (event_of r)))) (start + length (packed_objects (event_of r).what)) rs
+
+-- a fault in a file of this number
+abbrev pub in_file : ℕ → ReadFault → NextFault
+in_file file read.DiskFailed = next.DiskFailed
+in_file file read.Memory = next.Memory
+in_file file (read.Harmed found) = next.Harmed file found
+
+-- Where the fault is a harm, it has P.
+abbrev pub IfNextHarmed : NextFault → (ℕ → Found → Type 0) → Type 0
+IfNextHarmed next.DiskFailed P = Unit {0}
+IfNextHarmed next.Memory P = Unit {0}
+IfNextHarmed (next.Harmed file found) P = P file found
+
+-- P, unless the disk failed.
+abbrev pub UnlessDiskNext : NextFault → Type 0 → Type 0
+UnlessDiskNext next.DiskFailed P = Unit {0}
+UnlessDiskNext next.Memory P = P
+UnlessDiskNext (next.Harmed file found) P = P
+
+-- the bytes of a record's parts, from its open gate on
+abbrev pub records_of : RecordParts → List ℕ
+records_of p = 1 ∷ (framed p.kind p.payload.now ++ p.rest.now)
+
+-- The parts are a record's, with the fields of its kind.
+pub record IsWholeRecord (p : RecordParts) : Type 0 where
+  pub is_kind : fields.IsAmong p.kind (fields.choices choice.Record)
+  pub short : length p.payload.now < 2 ^ 32
+  pub fields_hold : FieldsHold (payload_fields p.kind) p.payload.now
+
+-- The run is what a batch's payload tells: it begins at this place, has so many objects, and nothing else is told.
+pub record IsToldExactly (start number : ℕ) (t : RunTold) : Type 0 where
+  pub from_is : t.from ≡ start
+  pub to_is : start ≤ t.to
+  pub number_is : t.number ≡ number
+  pub nothing_left : t.left.now ≡ []
+
+module _ (id_of : Kind → List ℕ → List ℕ) where
+  -- The record of these parts was read, with its run, which ends at this place of the store.
+  pub record IsEventRead (gate start : ℕ) (p : RecordParts) (store : List ℕ) (r : Record) (end : ℕ) : Type 0 where
+    pub placed : IsRecordOfEvent gate start r
+    pub codable : IsCodable start (event_of r)
+    pub ledger : framed p.kind p.payload.now ≡ coded_record start (event_of r)
+    pub end_is : end ≡ start + length (packed_objects (event_of r).what)
+    pub run : drop start store ≡ packed_objects (event_of r).what ++ drop end store
+    pub good : AllByRecursion (IsObject id_of) (entries_of (event_of r).what)
+
+  -- The record of these parts, which has its fields, has this harm.
+  abbrev pub EventBreaks : ℕ → ℕ → ℕ → RecordParts → List ℕ → ℕ → Found → Type 0
+  EventBreaks number gate start p store file found = StoreBreaks id_of (records_of p) store file found ⊎ IsRefused id_of number gate start (records_of p) store file found
+
+  -- These are the records for which the two files stand.
+  pub record AreRead (ledger store : List ℕ) (records : List Record) : Type 0 where
+    pub stand : StandsFor ledger store (events records)
+    pub placed : AreRecords 8 0 records
+    pub good : AllByRecursion (λ e. AllByRecursion (IsObject id_of) (entries_of e.what)) (events records)
+
+  -- The first harm of the two files, in the file of this number, at this place, and the records before it.
+  abbrev pub IsHarm : List ℕ → List ℕ → ℕ → ℕ → Harm → List Record → Type 0
+  IsHarm ledger store file at harm before =
+      (MagicBreaks ledger file (found_at at harm) × (before ≡ []))
+      ⊎ (BreaksAfter id_of (events before) ledger store file (found_at at harm) × AreRecords 8 0 before)
+
+-- The record of these parts was read, and it is no batch.
+pub record IsWholeRead (gate : ℕ) (p : RecordParts) (r : Record) : Type 0 where
+  pub gate_is : r.gate ≡ gate
+  pub kind_is : r.kind ≡ p.kind
+  pub payload_is : r.payload.items ≡ p.payload.now
+  pub no_entries : r.entries.items ≡ []
+  pub rest : List ℕ
+  pub who : p.payload.now ≡ to_be_bytes w32 r.by ++ rest
+  pub by_fits : r.by < 2 ^ 32
+  pub tells : TellsEvent p.kind rest r.told
+
+-- The payload of these parts is that of no event, wherever its run would begin, and this is told of the record.
+pub record IsNotTold (gate number : ℕ) (p : RecordParts) (file : ℕ) (found : Found) : Type 0 where
+  pub none : (start : ℕ) (e : Event) → IsCodable start e → p.kind ≡ event_byte e.what → p.payload.now ≡ payload_of start e → ⊥
+  pub file_is : file ≡ 0
+  pub found_is : found ≡ found_at gate (Refused number)
+
+module _ (id_of : Kind → List ℕ → List ℕ) where
+  -- The records are those up to this gate of the ledger, their runs end at this place of the store, and their objects are
+  -- of their kinds and named.
+  pub record IsReadSoFar (ledger store : List ℕ) (r : Reached) : Type 0 where
+    pub gate_is : r.gate ≡ 8 + length (coded_records 0 (events r.records.items))
+    pub ledger_begins : ledger ≡ magic ++ (coded_records 0 (events r.records.items) ++ drop r.gate ledger)
+    pub end_is : r.end ≡ length (coded_runs (events r.records.items))
+    pub store_begins : store ≡ coded_runs (events r.records.items) ++ drop r.end store
+    pub codable : AreCodable 0 (events r.records.items)
+    pub placed : AreRecords 8 0 r.records.items
+    pub good : AllByRecursion (λ e. AllByRecursion (IsObject id_of) (entries_of e.what)) (events r.records.items)
+
+  -- The next record after these has this harm, and these are their events'.
+  abbrev pub BreaksNext : List ℕ → List ℕ → Reached → ℕ → Found → Type 0
+  BreaksNext ledger store r file found = BreaksAfter id_of (events r.records.items) ledger store file found × AreRecords 8 0 r.records.items
+
+-- The gate here is closed.
+abbrev pub IsAtEnd : List ℕ → Reached → Type 0
+IsAtEnd ledger r = IsGateClosed (drop r.gate ledger)

@@ -1,0 +1,207 @@
+//! The reading of both files.
+ghost use Rattle.std.specs.Prelude.{
+  ◌≡◌,
+  ◌≢◌,
+  ◌++◌,
+  ◌≤◌,
+  IfOk,
+  OnOk,
+  IfErr,
+  IsErrOf,
+  List,
+  ℕ,
+  length,
+  drop,
+};
+ghost use Rattle.swh_outside.specs.Faults.{Rose};
+ghost use Rattle.swh_format.specs.Record.{magic};
+ghost use Rattle.swh_segment.specs.Making.{IsMade};
+ghost use Rattle.swh_segment.specs.Makes.{ADiskFailed};
+ghost use Rattle.swh_base.specs.Limits.{file_limit};
+ghost use Rattle.swh_recovery.specs.Harms.{MagicBreaks};
+ghost use Rattle.swh_recovery.specs.Records.{AreRead, IsHarm};
+ghost use Rattle.swh_recovery.specs.Answers.{all_fault, IfDamaged, UnlessDiskFault, AreLater, AreQuiet};
+ghost use Rattle.swh_recovery.specs.declared.archive.ReadAllFault.TheVariants.{DiskFault};
+
+use crate::fault::NextFault;
+use crate::harm::{Found, Harm};
+use crate::reading::{Reached, read_next};
+use crate::record::Record;
+use std::alloc::Global;
+use swh_base::{FILE_LIMIT, Namer};
+use swh_outside::Disk;
+use swh_segment::{ReadFileFault, read_file};
+
+/// Why the records are not read.
+#[derive(Drop)]
+pub enum ReadAllFault {
+    /// A disk failed.
+    DiskFault,
+    /// The first harm, at a place of the file of this number, in bytes from 0, and the whole records before it. File 0 is
+    /// the ledger, 1 the store.
+    Damaged {
+        file: u32,
+        at: u64,
+        harm: Harm,
+        before: Vec<Record>,
+    },
+    /// Memory is wanting, or a file is longer than any archive's.
+    Memory,
+}
+
+// How a ledger begins.
+const MAGIC: [u8; 8] = *b"SWHARC1\n";
+
+fn check_magic(ledger: &[u8]) -> Result<(), Found>
+    requires { 8 ≤ length ledger.now }
+    ensures ok { OnOk result (ledger.now ≡ magic ++ drop 8 ledger.now) }
+    ensures err { IfErr result (MagicBreaks ledger.now 0) }
+{
+    for i in 0..8 {
+        if ledger[i] != MAGIC[i] {
+            let harm = Harm::Magic { found: ledger[i] };
+            return Err(Found {
+                at: i as u64,
+                harm,
+            });
+        }
+    }
+    Ok(())
+}
+
+fn damaged(fault: NextFault, before: Vec<Record>) -> ReadAllFault
+    ensures { result ≡ all_fault fault before }
+{
+    match fault {
+        NextFault::DiskFailed => ReadAllFault::DiskFault,
+        NextFault::Memory => ReadAllFault::Memory,
+        NextFault::Harmed(file, found) => ReadAllFault::Damaged {
+            file,
+            at: found.at,
+            harm: found.harm,
+            before,
+        },
+    }
+}
+
+// The records behind the magic.
+fn read_records<N: Namer, D: Disk>(
+    alloc: Global,
+    namer: &N,
+    store: &mut D,
+    size: u64,
+    ledger: &[u8],
+) -> Result<Vec<Record>, ReadAllFault>
+    requires size { D.tells → size ≡ length (D.file store.old).seen }
+    requires small { size ≤ file_limit }
+    requires ledger_small { length ledger.now ≤ file_limit }
+    requires magic { ledger.now ≡ magic ++ drop 8 ledger.now }
+    ensures ok { D.tells → IfOk result (λ records. AreRead N.id_of ledger.now (D.file store.old).seen records.items) }
+    ensures harm { D.tells → IfErr result (λ fault.
+        IfDamaged fault (IsHarm N.id_of ledger.now (D.file store.old).seen)) }
+    ensures same { D.tells → D.file store.new ≡ D.file store.old }
+    ensures later { D.faults store.old ≤ D.faults store.new }
+    ensures cause { IsErrOf result DiskFault → Rose (D.faults store.old) (D.faults store.new) }
+    ensures quiet { OnOk result (D.faults store.new ≡ D.faults store.old) }
+    ensures quiet_fault { IfErr result (λ fault. UnlessDiskFault fault (D.faults store.new ≡ D.faults store.old)) }
+{
+    let mut reached = Reached {
+        gate: 8,
+        end: 0,
+        records: Vec::new(alloc),
+    };
+    'records: loop {
+        match read_next(alloc, namer, store, size, ledger, &mut reached) {
+            Ok(true) => {}
+            Ok(false) => {
+                let Reached {
+                    gate: _,
+                    end: _,
+                    records,
+                } = reached;
+                return Ok(records);
+            }
+            Err(fault) => {
+                let Reached {
+                    gate: _,
+                    end: _,
+                    records,
+                } = reached;
+                return Err(damaged(fault, records));
+            }
+        }
+    }
+}
+
+// The records of a ledger of these bytes and of the store.
+fn read_both<N: Namer, D: Disk>(
+    alloc: Global,
+    namer: &N,
+    store: &mut D,
+    ledger: &[u8],
+) -> Result<Vec<Record>, ReadAllFault>
+    requires { 8 ≤ length ledger.now }
+    ensures ok { D.tells → IfOk result (λ records. AreRead N.id_of ledger.now (D.file store.old).seen records.items) }
+    ensures harm { D.tells → IfErr result (λ fault.
+        IfDamaged fault (IsHarm N.id_of ledger.now (D.file store.old).seen)) }
+    ensures same { D.tells → D.file store.new ≡ D.file store.old }
+    ensures later { D.faults store.old ≤ D.faults store.new }
+    ensures cause { IsErrOf result DiskFault → Rose (D.faults store.old) (D.faults store.new) }
+    ensures quiet { OnOk result (D.faults store.new ≡ D.faults store.old) }
+    ensures quiet_fault { IfErr result (λ fault. UnlessDiskFault fault (D.faults store.new ≡ D.faults store.old)) }
+{
+    if let Err(found) = check_magic(ledger) {
+        return Err(damaged(NextFault::Harmed(0, found), Vec::new(alloc)));
+    }
+    let Ok(size) = store.len() else {
+        return Err(ReadAllFault::DiskFault);
+    };
+    if size > FILE_LIMIT || ledger.len() as u64 > FILE_LIMIT {
+        return Err(ReadAllFault::Memory);
+    }
+    read_records(alloc, namer, store, size, ledger)
+}
+
+/// The records for which the two files of an archive that is made stand, or the first harm and the records before it.
+/// The ledger is read whole, and of the store the runs alone, object by object.
+pub fn read_all<N: Namer, D: Disk>(
+    alloc: Global,
+    namer: &N,
+    ledger: &mut D,
+    store: &mut D,
+) -> Result<Vec<Record>, ReadAllFault>
+    requires { D.tells → IsMade (D.file ledger.old).seen }
+    ensures ok { D.tells → IfOk result (λ records.
+        AreRead N.id_of (D.file ledger.old).seen (D.file store.old).seen records.items) }
+    ensures damaged { D.tells → IfErr result (λ fault.
+        IfDamaged fault (IsHarm N.id_of (D.file ledger.old).seen (D.file store.old).seen)) }
+
+    // What the files hold stays.
+    ensures same_ledger { D.tells → D.file ledger.new ≡ D.file ledger.old }
+    ensures same_store { D.tells → D.file store.new ≡ D.file store.old }
+
+    // `DiskFault` comes only where a disk failed, and else both counts stay.
+    ensures later { AreLater (D.faults store.old) (D.faults store.new) (D.faults ledger.old) (D.faults ledger.new) }
+    ensures cause { IsErrOf result DiskFault → ADiskFailed (D.faults store.old) (D.faults store.new)
+        (D.faults ledger.old) (D.faults ledger.new) }
+    ensures quiet { OnOk result (AreQuiet (D.faults store.old) (D.faults store.new)
+        (D.faults ledger.old) (D.faults ledger.new)) }
+    ensures quiet_fault { IfErr result (λ fault. UnlessDiskFault fault (AreQuiet (D.faults store.old)
+        (D.faults store.new) (D.faults ledger.old) (D.faults ledger.new))) }
+{
+    let bytes = match read_file(alloc, ledger) {
+        Ok(bytes) => bytes,
+        Err(ReadFileFault::Disk) => return Err(ReadAllFault::DiskFault),
+        Err(ReadFileFault::Memory) => return Err(ReadAllFault::Memory),
+    };
+    let ledger_bytes = bytes.as_slice();
+    if ledger_bytes.len() < 8 {
+        return Err(ReadAllFault::Damaged {
+            file: 0,
+            at: 0,
+            harm: Harm::Short { have: 0, need: 1 },
+            before: Vec::new(alloc),
+        });
+    }
+    read_both(alloc, namer, store, ledger_bytes)
+}

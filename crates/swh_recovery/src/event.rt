@@ -1,0 +1,165 @@
+//! The event of a record that has its fields: its run is read, and what it tells is looked at.
+ghost use Rattle.std.specs.Prelude.{◌≡◌, ◌≢◌, ◌↔◌, ◌≤◌, IsTrue, IfOk, OnOk, IfErr, IsErrOf, length};
+ghost use Rattle.swh_outside.specs.Faults.{Rose};
+ghost use Rattle.swh_base.specs.Limits.{file_limit};
+ghost use Rattle.swh_recovery.specs.Fields.{found_at};
+ghost use Rattle.swh_recovery.specs.Records.{
+  in_file,
+  IfNextHarmed,
+  UnlessDiskNext,
+  IsWholeRecord,
+  IsToldExactly,
+  IsEventRead,
+  EventBreaks,
+  IsWholeRead,
+  IsNotTold,
+};
+ghost use Rattle.swh_recovery.specs.declared.harm.Harm.TheVariants.{Refused};
+ghost use Rattle.swh_recovery.specs.declared.fault.NextFault.TheVariants.{DiskFailed, Harmed};
+
+use crate::fault::{NextFault, ReadFault};
+use crate::frame::{RunTold, run_told};
+use crate::harm::{Found, Harm};
+use crate::record::Record;
+use crate::run::read_run;
+use std::alloc::Global;
+use swh_base::Namer;
+use swh_outside::Disk;
+use swh_format::{BatchParts, RecordParts, Told, read_told, split_four};
+
+// A fault in the store.
+fn in_store(fault: ReadFault) -> NextFault
+    ensures { result ≡ in_file 1 fault }
+{
+    match fault {
+        ReadFault::DiskFailed => NextFault::DiskFailed,
+        ReadFault::Memory => NextFault::Memory,
+        ReadFault::Harmed(found) => NextFault::Harmed(1, found),
+    }
+}
+
+fn refused(gate: u64, event: u64) -> NextFault
+    ensures { result ≡ Harmed 0 (found_at gate (Refused event)) }
+{
+    let harm = Harm::Refused { event };
+    NextFault::Harmed(0, Found { at: gate, harm })
+}
+
+fn is_told_exactly(told: &RunTold<'_>, start: u64, number: usize) -> bool
+    ensures yes { IsTrue result → IsToldExactly start number told.now }
+    ensures no { IsToldExactly start number told.now → IsTrue result }
+{
+    told.from == start
+        && start <= told.to
+        && told.number as usize == number
+        && told.left.is_empty()
+}
+
+// The record of a batch, and where its run ends in the store.
+fn read_batch<N: Namer, D: Disk>(
+    alloc: Global,
+    namer: &N,
+    store: &mut D,
+    size: u64,
+    gate: u64,
+    start: u64,
+    number: u64,
+    parts: &RecordParts<'_>,
+) -> Result<(Record, u64), NextFault>
+    requires size { D.tells → size ≡ length (D.file store.old).seen }
+    requires small { size ≤ file_limit }
+    requires whole { IsWholeRecord parts.now }
+    requires batch { parts.now.kind ≡ 66 }
+    ensures ok { D.tells → IfOk result (λ x.
+        IsEventRead N.id_of gate start parts.now (D.file store.old).seen x.0 x.1) }
+    ensures harm { D.tells → IfErr result (λ fault.
+        IfNextHarmed fault (EventBreaks N.id_of number gate start parts.now (D.file store.old).seen)) }
+    ensures same { D.tells → D.file store.new ≡ D.file store.old }
+    ensures later { D.faults store.old ≤ D.faults store.new }
+    ensures cause { IsErrOf result DiskFailed → Rose (D.faults store.old) (D.faults store.new) }
+    ensures quiet { OnOk result (D.faults store.new ≡ D.faults store.old) }
+    ensures quiet_fault { IfErr result (λ fault. UnlessDiskNext fault (D.faults store.new ≡ D.faults store.old)) }
+{
+    let told = run_told(parts.payload);
+    let entries = match read_run(alloc, namer, store, size, told.from, told.to) {
+        Ok(entries) => entries,
+        Err(fault) => return Err(in_store(fault)),
+    };
+    if !is_told_exactly(&told, start, entries.as_slice().len()) {
+        return Err(refused(gate, number));
+    }
+    let record = Record {
+        gate,
+        kind: parts.kind,
+        payload: parts.payload.to_vec(alloc)?,
+        entries,
+        by: told.by,
+        told: Told::Batch(BatchParts {
+            from: told.from,
+            to: told.to,
+            number: told.number,
+        }),
+    };
+    Ok((record, told.to))
+}
+
+// The record of an opening or a mark.
+fn read_whole(
+    alloc: Global,
+    gate: u64,
+    number: u64,
+    parts: &RecordParts<'_>,
+) -> Result<Record, NextFault>
+    requires whole { IsWholeRecord parts.now }
+    requires other { parts.now.kind ≢ 66 }
+    ensures ok { IfOk result (IsWholeRead gate parts.now) }
+    ensures harm { IfErr result (λ fault. IfNextHarmed fault (IsNotTold gate number parts.now)) }
+    ensures why { IsErrOf result DiskFailed → ⊥ }
+{
+    let (by, rest) = split_four(parts.payload).unwrap();
+    let Some(told) = read_told(alloc, parts.kind, rest)? else {
+        return Err(refused(gate, number));
+    };
+    Ok(Record {
+        gate,
+        kind: parts.kind,
+        payload: parts.payload.to_vec(alloc)?,
+        entries: Vec::new(alloc),
+        by,
+        told,
+    })
+}
+
+/// The record of parts that have their fields, and where its run ends in the store; else its first harm. Its gate stands
+/// at a place of the ledger, its run has to begin at a place of the store, and it is the record of the event of a number.
+pub fn read_event<N: Namer, D: Disk>(
+    alloc: Global,
+    namer: &N,
+    store: &mut D,
+    size: u64,
+    gate: u64,
+    start: u64,
+    number: u64,
+    parts: &RecordParts<'_>,
+) -> Result<(Record, u64), NextFault>
+    requires size { D.tells → size ≡ length (D.file store.old).seen }
+    requires small { size ≤ file_limit }
+    requires whole { IsWholeRecord parts.now }
+    ensures ok { D.tells → IfOk result (λ x.
+        IsEventRead N.id_of gate start parts.now (D.file store.old).seen x.0 x.1) }
+    ensures harm { D.tells → IfErr result (λ fault.
+        IfNextHarmed fault (EventBreaks N.id_of number gate start parts.now (D.file store.old).seen)) }
+    ensures same { D.tells → D.file store.new ≡ D.file store.old }
+    ensures later { D.faults store.old ≤ D.faults store.new }
+    ensures cause { IsErrOf result DiskFailed → Rose (D.faults store.old) (D.faults store.new) }
+    ensures quiet { OnOk result (D.faults store.new ≡ D.faults store.old) }
+    ensures quiet_fault { IfErr result (λ fault. UnlessDiskNext fault (D.faults store.new ≡ D.faults store.old)) }
+{
+    if parts.kind == b'B' {
+        return read_batch(alloc, namer, store, size, gate, start, number, parts);
+    }
+    match read_whole(alloc, gate, number, parts) {
+        Ok(record) => Ok((record, start)),
+        Err(fault) => Err(fault),
+    }
+}

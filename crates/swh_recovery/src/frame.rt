@@ -1,0 +1,105 @@
+//! The records of a ledger: the first harm of one by its own bytes.
+ghost use Rattle.std.specs.Prelude.{◌≡◌, ◌+◌, ◌<◌, ◌^◌, IfOk, IfErr, OnOk, length};
+ghost use Rattle.swh_format.specs.LedgerReading.{IsRecordFront};
+ghost use Rattle.swh_recovery.specs.Fields.{FieldsHold, FieldsBreak};
+ghost use Rattle.swh_recovery.specs.LedgerHarm.{
+  batch_fields,
+  payload_fields,
+  RecordBreaks,
+  IsRecordWithFields,
+  IsFrame,
+  FrameBreaks,
+  IsRunTold,
+};
+
+use crate::field::{Choice, Field, check_fields, take_byte, take_bytes, take_four};
+use crate::harm::Found;
+use swh_format::{RecordParts, split_eight, split_four};
+
+// Who wrote it, where the run begins and ends, and the number of its objects.
+const BATCH: [Field; 4] = [
+    Field::Bytes(4),
+    Field::Bytes(8),
+    Field::Bytes(8),
+    Field::Bytes(4),
+];
+
+// Who wrote it, the visit's kind and the date.
+const OPEN: [Field; 3] = [Field::Bytes(4), Field::Byte(Choice::Visit), Field::Bytes(8)];
+
+// Who wrote it, the status, the visit's number and the snapshot.
+const MARK: [Field; 4] = [
+    Field::Bytes(4),
+    Field::Byte(Choice::Status),
+    Field::Bytes(8),
+    Field::Snapshot,
+];
+
+/// What a batch's payload says of its run: who wrote it, where it begins and ends in the store, in bytes from its
+/// beginning, the number of its objects; and what is left behind that.
+#[derive(Clone, Copy)]
+pub struct RunTold<'a> {
+    pub by: u32,
+    pub from: u64,
+    pub to: u64,
+    pub number: u32,
+    pub left: &'a [u8],
+}
+
+// A record's kind, length and payload.
+fn take_frame(bytes: &[u8], at: u64) -> Result<RecordParts<'_>, Found>
+    requires { at + length bytes.now < 2 ^ 64 }
+    ensures ok { IfOk result (IsFrame bytes.now) }
+    ensures err { IfErr result (FrameBreaks bytes.now at) }
+{
+    let (kind, rest) = take_byte(bytes, Choice::Record, at)?;
+    let (size, rest) = take_four(rest, at + 1)?;
+    let (payload, rest) = take_bytes(rest, size as u64, at + 5)?;
+    Ok(RecordParts {
+        kind,
+        payload,
+        rest,
+    })
+}
+
+fn check_payload(kind: u8, payload: &[u8], at: u64) -> Result<(), Found>
+    requires { at + length payload.now < 2 ^ 64 }
+    ensures ok { OnOk result (FieldsHold (payload_fields kind) payload.now) }
+    ensures err { IfErr result (FieldsBreak (payload_fields kind) payload.now at) }
+{
+    match kind {
+        b'B' => check_fields(&BATCH, payload, at),
+        b'O' => check_fields(&OPEN, payload, at),
+        _ => check_fields(&MARK, payload, at),
+    }
+}
+
+/// The record at the front of bytes that stand from a place on, behind its open gate, with the fields of its kind; else
+/// its first harm.
+pub fn take_record(bytes: &[u8], at: u64) -> Result<RecordParts<'_>, Found>
+    requires { at + length bytes.now < 2 ^ 64 }
+    ensures ok { IfOk result (IsRecordWithFields bytes.now) }
+    ensures err { IfErr result (RecordBreaks bytes.now at) }
+{
+    let parts = take_frame(bytes, at)?;
+    check_payload(parts.kind, parts.payload, at + 5)?;
+    Ok(parts)
+}
+
+/// What a batch's payload says of its run.
+pub fn run_told(payload: &[u8]) -> RunTold<'_>
+    requires { FieldsHold batch_fields payload.now }
+    ensures { IsRunTold payload.now result }
+{
+    let (by, rest) = split_four(payload).unwrap();
+    let (from, rest) = split_eight(rest).unwrap();
+    let (to, rest) = split_eight(rest).unwrap();
+    let (number, left) = split_four(rest).unwrap();
+    RunTold {
+        by,
+        from,
+        to,
+        number,
+        left,
+    }
+}

@@ -1,0 +1,25 @@
+//! The reading of an archive's two files: the records for which they stand, or the first harm with its place and the
+//! records before it.
+//! Stands on `swh_base`, `swh_outside`, `swh_model`, `swh_format`, `swh_segment` and `swh_object`.
+//! Callers may rely on: what is read is the one history for which the files stand, a harm is the first that they have,
+//! and files with a harm stand for no history.
+#![tactic(auto)]
+
+mod fault;
+mod field;
+mod frame;
+
+mod harm;
+mod laws;
+mod object;
+mod archive;
+mod event;
+mod reading;
+mod record;
+mod run;
+
+
+pub use harm::Harm;
+pub use laws::{an_event_does_not_break, records_are_one};
+pub use record::Record;
+pub use archive::{ReadAllFault, read_all};

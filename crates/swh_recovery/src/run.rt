@@ -1,0 +1,58 @@
+//! The run of a batch: its objects, or the first harm of them.
+ghost use Rattle.std.specs.Prelude.{
+  ◌≡◌,
+  ◌+◌,
+  ◌≤◌,
+  IfOk,
+  OnOk,
+  IfErr,
+  IsErrOf,
+  length,
+};
+ghost use Rattle.swh_outside.specs.Faults.{Rose};
+ghost use Rattle.swh_base.specs.Limits.{file_limit};
+ghost use Rattle.swh_recovery.specs.StoreHarm.{HoldsRun, RunBreaks};
+ghost use Rattle.swh_recovery.specs.Reading.{IfHarmed, UnlessDisk};
+ghost use Rattle.swh_recovery.specs.declared.fault.ReadFault.TheVariants.{DiskFailed};
+
+use crate::fault::ReadFault;
+use crate::field::cut;
+use crate::object::read_object;
+use std::alloc::Global;
+use swh_base::{Entry, Namer};
+use swh_outside::Disk;
+
+/// The objects of the run that begins at one place of a store of this length and ends at another; else its first harm.
+/// Room is taken only for bodies that stand there up to the run's end.
+pub fn read_run<N: Namer, D: Disk>(
+    alloc: Global,
+    namer: &N,
+    store: &mut D,
+    size: u64,
+    from: u64,
+    to: u64,
+) -> Result<Vec<Entry>, ReadFault>
+    requires size { D.tells → size ≡ length (D.file store.old).seen }
+    requires small { size ≤ file_limit }
+    ensures ok { D.tells → IfOk result (λ es. HoldsRun N.id_of from to (D.file store.old).seen es.items) }
+    ensures harm { D.tells → IfErr result (λ fault.
+        IfHarmed fault (RunBreaks N.id_of from to (D.file store.old).seen)) }
+    ensures same { D.tells → D.file store.new ≡ D.file store.old }
+    ensures later { D.faults store.old ≤ D.faults store.new }
+    ensures cause { IsErrOf result DiskFailed → Rose (D.faults store.old) (D.faults store.new) }
+    ensures quiet { OnOk result (D.faults store.new ≡ D.faults store.old) }
+    ensures quiet_fault { IfErr result (λ fault. UnlessDisk fault (D.faults store.new ≡ D.faults store.old)) }
+{
+    let end = to.min(size);
+    let mut entries = Vec::new(alloc);
+    let mut place = from;
+    'objects: while place < to {
+        if place >= end {
+            return Err(ReadFault::Harmed(cut(0, 1, place)));
+        }
+        let entry = read_object(alloc, namer, store, place, end - place)?;
+        place += 29 + entry.body.as_slice().len() as u64;
+        entries.push(entry)?;
+    }
+    Ok(entries)
+}
