@@ -10,6 +10,7 @@ use Rattle.swh_model.specs.declared.event.Event.{Event}
 use Rattle.swh_model.specs.declared.event.Wish.{Wish}
 use Rattle.swh_model.specs.Judge.{event_of}
 use Rattle.swh_model.specs.Step.{May, replay}
+use Rattle.swh_segment.specs.EventRecord.{AreCodable}
 use Rattle.swh_keeper.specs.Kept.{Kept, RefusesPlan}
 use Rattle.swh_keeper.specs.Keeping.{calls_for, IsCarriedOut, IsBrokenOff}
 use Rattle.swh_keeper.specs.declared.fault.Refusal.{Refusal}
@@ -49,8 +50,8 @@ module _ {D : Type 0} (id : Kind → List ℕ → List ℕ) (file : D → File) 
   }
 
   calls_broken : (old new : Kept D) (by : ℕ) (wish : Wish) (event : Event) → May id (replay old.history) event → event ≡ record { by = by; what = event_of (replay old.history) wish }
-      → old.wounded ≡ None → new.history ≡ old.history → (n : ℕ) → new.wounded ≡ Some n → IsBrokenOff old.history by wish (kept_files file old) (kept_files file new) → MakesCalls id file (IsEvent event) old new
-  calls_broken old new by wish event may is before_it same n wounded b =
+      → old.wounded ≡ None → new.history ≡ old.history → (n : ℕ) → new.wounded ≡ Some n → IsBrokenOff old.history by wish (kept_files file old) (kept_files file new) → AreCodable 0 (old.history ++ event ∷ []) → MakesCalls id file (IsEvent event) old new
+  calls_broken old new by wish event may is before_it same n wounded b fits =
       let this : b.event ≡ event = b.verdict.1 ∙ sym is in
       record {
         more = [];
@@ -58,29 +59,31 @@ module _ {D : Type 0} (id : Kind → List ℕ → List ℕ) (file : D → File) 
         calls = record {
           made = λ as_before. absurd (none-some n (sym (as_before ∙ before_it) ∙ wounded));
           broken = λ none m some. subst (λ (t : List Event). BreaksAtEvent id (IsEvent event) t (kept_files file old) (kept_files file new)) (sym same)
-              (record { event = b.event; next = this; may = subst (May id (replay old.history)) (sym this) may; breaks = b.breaks });
+              (record { event = b.event; next = this; may = subst (May id (replay old.history)) (sym this) may; codable = subst (λ (e : Event). AreCodable 0 (old.history ++ e ∷ [])) (sym this) fits; breaks = b.breaks });
         };
       }
 
   -- an event that was refused
   pub calls_refused : (old new : Kept D) (by : ℕ) (wish : Wish) (event : Event) (r : Refusal) → May id (replay old.history) event → event ≡ record { by = by; what = event_of (replay old.history) wish }
-      → RefusesPlan old by wish new r → (r ≡ refusal.DiskFault → IsBrokenOff old.history by wish (kept_files file old) (kept_files file new)) → MakesCalls id file (IsEvent event) old new
-  calls_refused old new by wish event (refusal.Wounded first) may is h broken = calls_none (IsEvent event) old new h.1
-  calls_refused old new by wish event (refusal.Limit which number) may is h broken = calls_none (IsEvent event) old new h.same
-  calls_refused old new by wish event refusal.DiskFault may is h broken = calls_broken old new by wish event may is h.before_it h.history _ h.wounded (broken refl)
-  calls_refused old new by wish event (refusal.Memory stands) may is h broken = calls_none (IsEvent event) old new h.1
-  calls_refused old new by wish event (refusal.NoVisit have) may is h broken = calls_none (IsEvent event) old new h.same
-  calls_refused old new by wish event (refusal.NotYours other) may is h broken = calls_none (IsEvent event) old new h.same
-  calls_refused old new by wish event (refusal.Ended status) may is h broken = calls_none (IsEvent event) old new h.same
-  calls_refused old new by wish event (refusal.NoSnapshot name) may is h broken = calls_none (IsEvent event) old new h.same
-  calls_refused old new by wish event (refusal.NotClosed parent child) may is h broken = calls_none (IsEvent event) old new h.same
-  calls_refused old new by wish event (refusal.Collision name) may is h broken = calls_none (IsEvent event) old new h.same
+      → RefusesPlan old by wish new r → (r ≡ refusal.DiskFault → IsBrokenOff old.history by wish (kept_files file old) (kept_files file new))
+      → (r ≡ refusal.DiskFault → old.wounded ≡ None → AreCodable 0 (old.history ++ event ∷ [])) → MakesCalls id file (IsEvent event) old new
+  calls_refused old new by wish event (refusal.Wounded first) may is h broken fits = calls_none (IsEvent event) old new h.1
+  calls_refused old new by wish event (refusal.Limit which number) may is h broken fits = calls_none (IsEvent event) old new h.same
+  calls_refused old new by wish event refusal.DiskFault may is h broken fits = calls_broken old new by wish event may is h.before_it h.history _ h.wounded (broken refl) (fits refl h.before_it)
+  calls_refused old new by wish event (refusal.Memory stands) may is h broken fits = calls_none (IsEvent event) old new h.1
+  calls_refused old new by wish event (refusal.NoVisit have) may is h broken fits = calls_none (IsEvent event) old new h.same
+  calls_refused old new by wish event (refusal.NotYours other) may is h broken fits = calls_none (IsEvent event) old new h.same
+  calls_refused old new by wish event (refusal.Ended status) may is h broken fits = calls_none (IsEvent event) old new h.same
+  calls_refused old new by wish event (refusal.NoSnapshot name) may is h broken fits = calls_none (IsEvent event) old new h.same
+  calls_refused old new by wish event (refusal.NotClosed parent child) may is h broken fits = calls_none (IsEvent event) old new h.same
+  calls_refused old new by wish event (refusal.Collision name) may is h broken fits = calls_none (IsEvent event) old new h.same
 
   breaks_as : (P Q : Event → Type 0) (h : List Event) (a b new : Files) → ((e : Event) → P e → Q e) → a ≡ b → BreaksAtEvent id P h a new → BreaksAtEvent id Q h b new
   breaks_as P Q h a b new f same b_at = record {
     event = b_at.event;
     next = f b_at.event b_at.next;
     may = b_at.may;
+    codable = b_at.codable;
     breaks = subst (λ (files : Files). FilesBreaks (calls_for h b_at.event) files new) same b_at.breaks;
   }
 

@@ -31,6 +31,7 @@ use Rattle.swh_loader.specs.Adding.{Attempt, IsOwn, IsOwnKind}
 use Rattle.swh_loader.specs.Leaving.{AddsVisit, AreOfVisit, next_visit}
 use Rattle.swh_loader.specs.Room.{longest_record, batch_record, ledger_growth, stored_object, store_growth}
 use Rattle.swh_loader.proofs.Missing.{IsMadeOf, missing, missing-most, added_all, run_size, of_batch, some_size}
+use Rattle.swh_loader.proofs.Moments.{codable_front}
 use Rattle.swh_loader.proofs.Marks.{other_kind, others}
 
 -- The event's record is no longer than the longest: its URL is within its limit, and so is its snapshot.
@@ -112,10 +113,6 @@ all_short at (e ∷ es) fits = (short_kind at e.what fits.0.1, all_short (at + l
 all_behind : {X : Type 0} (P : X → Type 0) (xs ys : List X) → AllByRecursion P (xs ++ ys) → AllByRecursion P ys
 all_behind P [] ys all = all
 all_behind P (x ∷ xs) ys all = all_behind P xs ys all.1
-
-codable_front : (at : ℕ) (h more : List Event) → AreCodable at (h ++ more) → AreCodable at h
-codable_front at [] more fits = tt
-codable_front at (e ∷ h) more fits = (fits.0, codable_front (at + length (packed_objects e.what)) h more fits.1)
 
 -- All names that are held after such events have twenty bytes.
 names_kind : (at : ℕ) (a : Archive) (by : ℕ) (what : EventKind) → IsCodableKind at what → HasShortNames a.bodies → HasShortNames (after_kind a by what).bodies

@@ -13,6 +13,7 @@ use Rattle.swh_model.specs.declared.event.Outcome.{Outcome}
 use Rattle.swh_model.specs.declared.event.No.TheVariants.{Limit}
 use Rattle.swh_model.specs.Judge.{FilePasses, IsCause, event_of}
 use Rattle.swh_model.specs.Step.{May, replay}
+use Rattle.swh_segment.specs.EventRecord.{AreCodable}
 use Rattle.swh_base.specs.Visit.{Statuses}
 use Rattle.swh_keeper.specs.Kept.{Kept, Applies, RefusesPlan}
 use Rattle.swh_keeper.specs.Keeping.{IsCarriedOut, IsBrokenOff}
@@ -90,11 +91,11 @@ module _ {D : Type 0} (id : Kind → List ℕ → List ℕ) (disks : Disks D) wh
   pub leaves_refused : {T : Type 0} (by : ℕ) (wish : Wish) (event : Event) (refusal : Refusal) (old new : Kept D) (why : LoadWhy) → May id (replay old.history) event → event ≡ record { by = by; what = event_of (replay old.history) wish }
       → ((which : Which) (number : ℕ) → IsCause old.history by wish (Limit which number) → FilePasses old.history event.what which number) → RefusesPlan old by wish new refusal → IsWhyOf refusal why
       → disks.faults old.store ≤ disks.faults new.store → disks.faults old.ledger ≤ disks.faults new.ledger → (refusal ≡ DiskFault → ADiskFailed (disks.faults old.store) (disks.faults new.store) (disks.faults old.ledger) (disks.faults new.ledger))
-      → (disks.tells → refusal ≡ DiskFault → IsBrokenOff old.history by wish (kept_files disks.file old) (kept_files disks.file new)) → Leaves id disks {T = T} (IsEvent event) old new (Err why)
-  leaves_refused by wish event refusal old new why may is full refuses whys store ledger rose broken = record {
+      → (disks.tells → refusal ≡ DiskFault → IsBrokenOff old.history by wish (kept_files disks.file old) (kept_files disks.file new)) → (disks.tells → refusal ≡ DiskFault → old.wounded ≡ None → AreCodable 0 (old.history ++ event ∷ [])) → Leaves id disks {T = T} (IsEvent event) old new (Err why)
+  leaves_refused by wish event refusal old new why may is full refuses whys store ledger rose broken fits = record {
     on = tt;
     adds = adds_none disks.faults (IsEvent event) old new (refused_same old new by wish refusal refuses) store ledger;
-    calls = λ told. calls_refused id disks.file old new by wish event refusal may is refuses (broken told);
+    calls = λ told. calls_refused id disks.file old new by wish event refusal may is refuses (broken told) (fits told);
     stops = stops_at id disks.faults old new by wish event refusal why may full refuses whys rose;
   }
 

@@ -5,6 +5,7 @@ use Rattle.swh_outside.specs.Disk.{File}
 use Rattle.swh_outside.specs.Files.{Files, FileCall, FilesBreaks, files_of, files_done}
 use Rattle.swh_model.specs.declared.event.Event.{Event}
 use Rattle.swh_model.specs.Step.{May, replay}
+use Rattle.swh_segment.specs.EventRecord.{AreCodable}
 use Rattle.swh_keeper.specs.Keeping.{calls_for}
 use Rattle.swh_keeper.specs.Kept.{Kept}
 
@@ -17,11 +18,12 @@ all_calls h (e ∷ more) = calls_for h e ++ all_calls (h ++ e ∷ []) more
 abbrev pub kept_files : {D : Type 0} → (D → File) → Kept D → Files
 kept_files file k = files_of (file k.ledger) (file k.store)
 
--- The calls of an event like these, which may happen next, were made up to one that failed.
+-- The calls of an event like these, which may happen next and fits its fields, were made up to one that failed.
 pub record BreaksAtEvent (id : Kind → List ℕ → List ℕ) (IsNext : Event → Type 0) (h : List Event) (old new : Files) : Type 0 where
   pub event : Event
   pub next : IsNext event
   pub may : May id (replay h) event
+  pub codable : AreCodable 0 (h ++ event ∷ [])
   pub breaks : FilesBreaks (calls_for h event) old new
 
 -- The calls of these events were made, in order; where a disk failed all of them were, and then those of one event

@@ -16,6 +16,7 @@ use swh_keeper::Keeper;
 use swh_model::Wish;
 use swh_object::Object;
 use swh_outside::Disk;
+use swh_segment::entries_are_codable;
 
 /// How an entry stands to what is held.
 #[derive(Drop)]
@@ -66,6 +67,8 @@ fn flush<N: Namer, D: Disk>(
     if pending.entries.is_empty() {
         return Ok(());
     }
+    entries_are_codable(&pending.entries);
+    let _history = keeper.history();
     let wish = Wish::Batch(Items::from_vec(pending.entries));
     match keeper.apply(by, wish) {
         Ok(_) => Ok(()),

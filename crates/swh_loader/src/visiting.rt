@@ -13,6 +13,7 @@ use swh_base::{Namer, Status, Url, VisitKind};
 use swh_keeper::Keeper;
 use swh_model::{Outcome, Wish};
 use swh_outside::Disk;
+use swh_segment::{origin_is_codable, snapshot_is_codable};
 
 /// A visit that was opened: by whom, of which origin, when, and its number.
 #[derive(Clone, Copy)]
@@ -36,6 +37,8 @@ pub fn open_visit<N: Namer, D: Disk>(
     ensures leaves { Leaves N.id_of (disks D.tells D.file D.faults) (IsEvent (open_event (attempt by origin.now date)))
         keeper.old keeper.new result }
 {
+    origin_is_codable(origin);
+    let _history = keeper.history();
     let Ok(origin) = origin.again(alloc) else {
         return Err(LoadWhy::Memory);
     };
@@ -63,6 +66,9 @@ pub fn mark<N: Namer, D: Disk>(
     ensures leaves { Leaves N.id_of (disks D.tells D.file D.faults)
         (IsEvent (mark_event (attempt_of visit.now) visit.now.number status snapshot)) keeper.old keeper.new result }
 {
+    origin_is_codable(visit.origin);
+    snapshot_is_codable(&snapshot);
+    let _history = keeper.history();
     let Ok(origin) = visit.origin.again(alloc) else {
         return Err(LoadWhy::Memory);
     };

@@ -3,10 +3,11 @@ use Rattle.std.proofs.Common.{◌≡◌, inl, inr, ℕ, Option, Some, None, List
 use Rattle.std.proofs.lemmas.List.{append-nil}
 use Rattle.swh_base.specs.declared.kind.Kind.{Kind}
 use Rattle.swh_outside.specs.Views.{Disks}
-use Rattle.swh_outside.specs.Files.{Files, files_done}
-use Rattle.swh_outside.proofs.Numbered.{files_done-append}
+use Rattle.swh_outside.specs.Files.{Files, AreImages, files_done}
 use Rattle.swh_segment.specs.Makes.{ADiskFailed}
+use Rattle.swh_segment.specs.EventRecord.{AreCodable}
 use Rattle.swh_segment.specs.Making.{barriers}
+use Rattle.swh_segment.specs.Settled.{seen_of}
 use Rattle.swh_model.specs.declared.event.Event.{Event}
 use Rattle.swh_model.specs.Archive.{Archive, empty_archive, visits_of}
 use Rattle.swh_model.specs.Grows.{IsWithin, IsLaterVisit}
@@ -17,6 +18,7 @@ use Rattle.swh_model.proofs.Sounds.{all-sound, empty-sound}
 use Rattle.swh_keeper.specs.Kept.{Kept, IsKept, AreStanding, MayHoldOneMore}
 use Rattle.swh_jobs.specs.Job.{Job}
 use Rattle.swh_loader.specs.Calls.{all_calls, kept_files, BreaksAtEvent, MakesCalls}
+use Rattle.swh_loader.proofs.Moments.{opened_standing, safe_opening, safely_made, safely_broken}
 use Rattle.swh_pool.specs.Stops.{HaveNoDiskFault}
 use Rattle.swh_program.specs.Answers.{TellsDisk}
 use Rattle.swh_program.specs.Inputs.{Inputs}
@@ -68,7 +70,7 @@ all_behind id_of of_jobs (l ∷ loads) before after are =
 module _ {D : Type 0} (g : Givens) (disks : Disks D) where
   module _ (was now : Kept D) (old new : Files)
       (archive : g.disks_tell → IsArchive g.id_of old was.history) (kept : IsKept g.id_of disks.tells disks.file now) (told : g.disks_tell → disks.tells)
-      (opened : g.disks_tell → kept_files disks.file was ≡ files_done barriers old) (taken : g.disks_tell → new ≡ kept_files disks.file now) (unwounded : was.wounded ≡ None) where
+      (sees : g.disks_tell → AreImages old (seen_of old)) (opened : g.disks_tell → kept_files disks.file was ≡ files_done barriers old) (taken : g.disks_tell → new ≡ kept_files disks.file now) (unwounded : was.wounded ≡ None) where
     abbrev Next : List LoadedJob → Event → Type 0
     Next loads event = IsNextOf g.id_of g.inputs loads now.history event
 
@@ -82,16 +84,25 @@ module _ {D : Type 0} (g : Givens) (disks : Disks D) where
     run_calls : (loads : List LoadedJob) → (now.wounded ≡ None → HaveNoDiskFault (outcomes loads)) → (HaveNoDiskFault (outcomes loads) → now.wounded ≡ None) → MakesCalls g.id_of disks.file (Next loads) was now → g.disks_tell
         → MakesRunCalls g.id_of g.inputs loads old new was.history now.history
     run_calls loads none_of none calls t =
-        let plan : files_done (all_calls was.history calls.more) (kept_files disks.file was) ≡ files_done (barriers ++ all_calls was.history calls.more) old =
-        ap (files_done (all_calls was.history calls.more)) (opened t) ∙ sym (files_done-append barriers (all_calls was.history calls.more) old) in
+        let plan = all_calls was.history calls.more in
+        let begun : Files = files_done barriers old in
+        let standing = opened_standing old was.history (archive t).stand in
+        let from : files_done plan (kept_files disks.file was) ≡ files_done plan begun = ap (files_done plan) (opened t) in
         record {
           more = calls.more;
           behind = calls.behind;
-          made = λ no_fault. taken t ∙ calls.calls.made (none no_fault ∙ sym unwounded) ∙ plan;
+          opening = safe_opening old (sees t) was.history (archive t).stand;
+          made = λ no_fault.
+              safely_made calls.more was.history begun new standing
+              (subst (AreCodable 0) calls.behind (kept.standing (none no_fault) (told t)).stand.codable)
+              (taken t ∙ calls.calls.made (none no_fault ∙ sym unwounded) ∙ from);
           broken = λ fault.
               let w = wounded_by now.wounded (λ e. fault (none_of e)) in
-              subst (λ (f : Files). BreaksAtEvent g.id_of (Next loads) now.history (files_done (barriers ++ all_calls was.history calls.more) old) f) (sym (taken t))
-              (subst (λ (f : Files). BreaksAtEvent g.id_of (Next loads) now.history f (kept_files disks.file now)) plan (calls.calls.broken unwounded w.0 w.1));
+              let b : BreaksAtEvent g.id_of (Next loads) (was.history ++ calls.more) (files_done plan begun) new =
+              subst (λ (f : Files). BreaksAtEvent g.id_of (Next loads) (was.history ++ calls.more) (files_done plan begun) f) (sym (taken t))
+              (subst (λ (f : Files). BreaksAtEvent g.id_of (Next loads) (was.history ++ calls.more) f (kept_files disks.file now)) from
+              (subst (λ (h : List Event). BreaksAtEvent g.id_of (Next loads) h (files_done plan (kept_files disks.file was)) (kept_files disks.file now)) calls.behind (calls.calls.broken unwounded w.0 w.1))) in
+              safely_broken g.id_of (Next loads) calls.more was.history begun new standing b;
         }
 
     loaded_files : (loads : List LoadedJob) → AreKeptLoads g disks loads was now → IsLoad g old new loads
@@ -113,7 +124,7 @@ module _ {D : Type 0} (g : Givens) (disks : Disks D) where
 
     unstarted : (answer : Answer) → IsUnstarted answer → (g.disks_tell → IsOnlyOpened old new) → IsUnloaded g.id_of g.disks_tell old new answer
     unstarted answer (inl clock) only =
-        subst (IsUnloaded g.id_of g.disks_tell old new) (sym clock) (λ t. record { history = was.history; archive = archive t; opened = only t })
+        subst (IsUnloaded g.id_of g.disks_tell old new) (sym clock) (λ t. record { history = was.history; archive = archive t; opened = only t; safe = safe_opening old (sees t) was.history (archive t).stand })
     unstarted answer (inr memory) only = subst (IsUnloaded g.id_of g.disks_tell old new) (sym memory) (tt, λ t. inr (only t))
 
     pub run_files : (jobs : List Job) (answer : Answer) → IsKeptRun g disks was now jobs answer

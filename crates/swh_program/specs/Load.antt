@@ -15,12 +15,11 @@ use Rattle.swh_segment.specs.Making.{barriers}
 use Rattle.swh_jobs.specs.Job.{Job}
 use Rattle.swh_jobs.specs.JobFile.{AreJobs}
 use Rattle.swh_loader.specs.Adding.{Attempt, attempt}
-use Rattle.swh_loader.specs.Calls.{all_calls, BreaksAtEvent}
+use Rattle.swh_loader.specs.Moments.{IsSafelyMade, IsSafelyBroken, IsSafeOpening}
 use Rattle.swh_loader.specs.Leaving.{AddsVisit}
 use Rattle.swh_loader.specs.declared.end.Loaded.{Loaded}
 use Rattle.swh_loader.specs.declared.fault.LoadFault.{LoadFault}
 use Rattle.swh_pool.specs.Stops.{AreStops, HaveNoDiskFault}
-use Rattle.swh_program.specs.Seen.{FileAt}
 use Rattle.swh_program.specs.Seen.{FileAt}
 use Rattle.swh_program.specs.Dated.{AreSaid}
 use Rattle.swh_program.specs.Jobs.{AreJobsAt, IsJobRefusal, IsJobRefused}
@@ -72,19 +71,22 @@ module _ (id_of : Kind → List ℕ → List ℕ) (of_jobs : Inputs) where
     pub adds : AddsVisit (IsOfJob l.job) (attempt_for l) between (after ++ event ∷ [])
 
   -- A barrier was made on each file, then the device calls of the events, in order; where a disk failed, up to one of
-  -- the next event.
+  -- the next event. A crash at any of these calls leaves the history at entry with a front of the events, which has all
+  -- that were acknowledged before that call; one after them leaves all of the events, the one in doubt aside.
   pub record MakesRunCalls (loads : List LoadedJob) (old new : Files) (before after : List Event) : Type 0 where
     pub more : List Event
     pub behind : after ≡ before ++ more
-    pub made : HaveNoDiskFault (outcomes loads) → new ≡ files_done (barriers ++ all_calls before more) old
+    pub opening : IsSafeOpening before old
+    pub made : HaveNoDiskFault (outcomes loads) → IsSafelyMade before more (files_done barriers old) new
     pub broken : (HaveNoDiskFault (outcomes loads) → ⊥)
-        → BreaksAtEvent id_of (IsNextOf loads after) after (files_done (barriers ++ all_calls before more) old) new
+        → IsSafelyBroken id_of (IsNextOf loads after) before more (files_done barriers old) new
 
--- The files stood for a history, and nothing was done but a barrier on each.
+-- The files stood for a history, and nothing was done but a barrier on each, which no crash can harm.
 pub record IsOpenedArchive (id_of : Kind → List ℕ → List ℕ) (old new : Files) : Type 0 where
   pub history : List Event
   pub archive : IsArchive id_of old history
   pub opened : IsOnlyOpened old new
+  pub safe : IsSafeOpening history old
 
 -- No job was loaded: the archive is refused, or the clock failed once it was opened, or memory ran out before.
 abbrev pub IsUnloaded : (Kind → List ℕ → List ℕ) → Type 0 → Files → Files → Answer → Type 0

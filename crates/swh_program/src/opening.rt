@@ -1,9 +1,10 @@
 // The archive in a folder, opened and given back.
 ghost use Rattle.std.specs.Prelude.{◌≡◌, ◌≤◌, ◌<◌, List, None, Err, IfOk, IfErr, OnOk, OnErr};
 ghost use Rattle.swh_outside.specs.Faults.{Rose};
-ghost use Rattle.swh_outside.specs.Files.{files_of, files_done};
+ghost use Rattle.swh_outside.specs.Files.{AreImages, files_of, files_done};
 ghost use Rattle.swh_model.specs.declared.event.Event.{Event};
 ghost use Rattle.swh_segment.specs.Making.{IsMade, barriers};
+ghost use Rattle.swh_segment.specs.Settled.{seen_of};
 ghost use Rattle.swh_keeper.specs.Kept.{IsKept};
 ghost use Rattle.swh_program.specs.Archives.{archive_at, SameElsewhere};
 ghost use Rattle.swh_keeper.specs.Opening.{IsOpeningFault};
@@ -15,7 +16,7 @@ use crate::files::{ArchiveFiles, close_files, open_files};
 use std::alloc::Global;
 use swh_base::Namer;
 use swh_keeper::{Keeper, OpenFault, OpenWhy};
-use swh_outside::{Depot, OutFault};
+use swh_outside::{Depot, Disk, OutFault};
 
 // What a refusal of the keeper comes to.
 fn refused_by(why: OpenWhy) -> Answer
@@ -29,6 +30,14 @@ fn refused_by(why: OpenWhy) -> Answer
         OpenWhy::DiskFault => Answer::OutsideDisk,
         OpenWhy::Memory => Answer::Memory,
     }
+}
+
+// What a read gives of two disks is what a crash may leave of them.
+fn see_images<D: Disk>(files: &ArchiveFiles<D>)
+    ensures { D.tells → AreImages (files_of (D.file files.now.ledger) (D.file files.now.store))
+        (seen_of (files_of (D.file files.now.ledger) (D.file files.now.store))) }
+{
+    let _files = files;
 }
 
 /// Opens the archive in a folder. Where it is refused, its files are given back.
@@ -46,6 +55,9 @@ pub fn open_archive<N: Namer, P: Depot>(
     ensures made { P.tells → OnOk result (IsMade (archive_at (P.files depot.old) dir.now 0).seen) }
     ensures opened { P.tells → IfOk result (λ keeper. files_of (P.D.file keeper.ledger) (P.D.file keeper.store)
         ≡ files_done barriers (archive_at (P.files depot.old) dir.now)) }
+    // What a read gave of each file is what a crash might have left of it.
+    ensures sees { P.tells → OnOk result (AreImages (archive_at (P.files depot.old) dir.now)
+        (seen_of (archive_at (P.files depot.old) dir.now))) }
     ensures unwounded { IfOk result (λ keeper. keeper.wounded ≡ None) }
     ensures store_place { OnOk result (P.has_place depot.new dir.now 1) }
     ensures ledger_place { OnOk result (P.has_place depot.new dir.now 0) }
@@ -57,11 +69,13 @@ pub fn open_archive<N: Namer, P: Depot>(
     ensures later { P.faults depot.old ≤ P.faults depot.new }
     ensures cause { IfErr result (λ answer. answer ≡ OutsideDisk → Rose (P.faults depot.old) (P.faults depot.new)) }
 {
-    let ArchiveFiles { store, ledger } = match open_files(depot, dir) {
+    let files = match open_files(depot, dir) {
         Ok(files) => files,
         Err(OutFault::Failed) => return Err(Answer::OutsideDisk),
         Err(OutFault::Memory) => return Err(Answer::Memory),
     };
+    see_images(&files);
+    let ArchiveFiles { store, ledger } = files;
     match Keeper::open(alloc, namer, store, ledger) {
         Ok(keeper) => {
             let _history = keeper.history();

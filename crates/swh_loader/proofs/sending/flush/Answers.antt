@@ -4,6 +4,7 @@ use Rattle.swh_outside.specs.Views.{disks}
 use Rattle.swh_model.specs.declared.event.Wish.TheVariants.{Batch}
 use Rattle.swh_model.specs.Step.{replay}
 use Rattle.swh_loader.specs.Adding.{batch_event, IsEvent, IsBatchOf}
+use Rattle.swh_loader.proofs.Codables.{next_fits, batch_fits}
 use Rattle.swh_loader.proofs.Opens.{refused_same, visits_same}
 use Rattle.swh_loader.proofs.Refusals.{batch_may, batch_full}
 use Rattle.swh_loader.proofs.Sends.{not_empty, fresh-same, batch_bodies}
@@ -42,7 +43,11 @@ returns-clause-leaves g c =
     (record { good = w.good; limits = w.limits; new = w.new }) (ap (λ (es : List Entry). batch_event c.args.by es) (sym (fresh-same (replay c.args.keeper.now.history).bodies entries w.new)))
     (λ which number is. batch_full c.args.keeper.now.history c.args.by entries which number w.new w.limits is)
     (rw c.from_vec.ensures at c.in-Err.ensures.err) c.stopped.ensures c.in-Err.ensures.store_later c.in-Err.ensures.ledger_later (λ e. c.in-Err.ensures.cause (ap Err e))
-    (λ told e. rw c.from_vec.ensures at (c.in-Err.ensures.broken told (ap Err e))))
+    (λ told e. rw c.from_vec.ensures at (c.in-Err.ensures.broken told (ap Err e)))
+    (λ told e none.
+    let verdict = rw c.from_vec.ensures at (c.in-Err.ensures.broken told (ap Err e)).verdict in
+    next_fits g.N.Namer.id_of g.D.Disk.tells g.D.Disk.file c.args.keeper.now (batch_event c.args.by entries) c.history-history.ensures.kept
+    (batch_fits c.args.keeper.now.history c.args.by entries c.ranges.by.fits (rw c.deref.ensures.value at c.entries_are_codable.ensures) w.new w.limits verdict.0) told none))
 
 pub returns-clause-visits : goal.returns-clause-visits
 returns-clause-visits g c =

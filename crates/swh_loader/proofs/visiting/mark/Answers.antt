@@ -3,6 +3,8 @@ use Rattle.swh_outside.specs.Views.{disks}
 use Rattle.swh_model.specs.declared.event.Wish.TheVariants.{Mark}
 use Rattle.swh_loader.specs.Adding.{mark_event, IsEvent}
 use Rattle.swh_loader.specs.Visiting.{attempt_of}
+use Rattle.swh_model.specs.Step.{replay}
+use Rattle.swh_loader.proofs.Codables.{next_fits, marks_status}
 use Rattle.swh_loader.proofs.Refusals.{mark_may}
 use Rattle.swh_loader.proofs.Stepping.{leaves_same, leaves_applied, leaves_refused}
 use Rattle.swh_loader.proofs.Steps.{marked_visit}
@@ -29,3 +31,5 @@ returns-in-Err-clause-leaves g c =
     leaves_refused g.N.Namer.id_of (disks g.D.Disk.tells g.D.Disk.file g.D.Disk.faults) visit.by (Mark visit.origin.now visit.number c.args.status c.args.snapshot) (mark_event (attempt_of visit) visit.number c.args.status c.args.snapshot) c.in-Err.refusal c.args.keeper.now c.apply.new.self c.stopped.result
     c.requires refl (λ which number is. is) (rw c.in-Ok.ensures at c.in-Err.ensures.err) c.stopped.ensures c.in-Err.ensures.store_later c.in-Err.ensures.ledger_later (λ e. c.in-Err.ensures.cause (ap Err e))
     (λ told e. rw c.in-Ok.ensures at (c.in-Err.ensures.broken told (ap Err e)))
+    (λ told e none. next_fits g.N.Namer.id_of g.D.Disk.tells g.D.Disk.file c.args.keeper.now (mark_event (attempt_of visit) visit.number c.args.status c.args.snapshot) c.history-history.ensures.kept
+    (?, record { is_origin = c.origin_is_codable.ensures; visit_fits = ?; is_status = marks_status (replay c.args.keeper.now.history).bodies c.args.status c.args.snapshot c.requires.fits; is_snapshot = c.snapshot_is_codable.ensures }) told none)

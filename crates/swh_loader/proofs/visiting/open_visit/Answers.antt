@@ -3,6 +3,7 @@ use Rattle.swh_base.specs.declared.visit.VisitKind.TheVariants.{Fast}
 use Rattle.swh_outside.specs.Views.{disks}
 use Rattle.swh_model.specs.declared.event.Wish.TheVariants.{Open}
 use Rattle.swh_loader.specs.Adding.{attempt, open_event, IsEvent}
+use Rattle.swh_loader.proofs.Codables.{next_fits}
 use Rattle.swh_loader.proofs.Opens.{refused_same}
 use Rattle.swh_loader.proofs.Refusals.{held_back}
 use Rattle.swh_loader.proofs.Stepping.{leaves_same, leaves_applied, leaves_refused}
@@ -39,3 +40,4 @@ returns-in-Err-clause-leaves g c =
     leaves_refused g.N.Namer.id_of (disks g.D.Disk.tells g.D.Disk.file g.D.Disk.faults) c.args.by (Open c.args.origin.now Fast c.args.date) (open_event (attempt c.args.by c.args.origin.now c.args.date)) c.in-Err.refusal c.args.keeper.now c.apply.new.self c.stopped.result
     tt refl (λ which number is. is) (rw c.in-Ok.ensures at c.in-Err.ensures.err) c.stopped.ensures c.in-Err.ensures.store_later c.in-Err.ensures.ledger_later (λ e. c.in-Err.ensures.cause (ap Err e))
     (λ told e. rw c.in-Ok.ensures at (c.in-Err.ensures.broken told (ap Err e)))
+    (λ told e none. next_fits g.N.Namer.id_of g.D.Disk.tells g.D.Disk.file c.args.keeper.now (open_event (attempt c.args.by c.args.origin.now c.args.date)) c.history-history.ensures.kept (c.ranges.by.fits, record { is_origin = c.origin_is_codable.ensures; date_fits = c.ranges.date.fits }) told none)

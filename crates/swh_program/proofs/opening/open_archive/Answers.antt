@@ -1,4 +1,6 @@
 use Rattle.std.proofs.Common.{sym, subst}
+use Rattle.swh_outside.specs.Files.{Files, AreImages}
+use Rattle.swh_segment.specs.Settled.{seen_of}
 use Rattle.swh_program.specs.Archives.{archive_at}
 use Rattle.swh_program.specs.Opening.{OpenEnds}
 use Rattle.swh_program.specs.declared.answer.Answer.{Answer}
@@ -17,6 +19,10 @@ returns-in-Ok-open-clause-no_other g c told =
 
 pub returns-in-Ok-open-clause-made : goal.returns-in-Ok-open-clause-made
 returns-in-Ok-open-clause-made g c told = made_here g.N.Namer.id_of _ _ _ (c.in-Ok.ensures.given told) (c.in-Ok-open.ensures.made (c.in-Ok.ensures.disks_tell told))
+
+pub returns-in-Ok-open-clause-sees : goal.returns-in-Ok-open-clause-sees
+returns-in-Ok-open-clause-sees g c told =
+    subst (λ (files : Files). AreImages files (seen_of files)) (c.in-Ok.ensures.given told) (c.see_images.ensures (c.in-Ok.ensures.disks_tell told))
 
 pub returns-in-Ok-open-clause-opened : goal.returns-in-Ok-open-clause-opened
 returns-in-Ok-open-clause-opened g c told = opened_here g.N.Namer.id_of _ _ _ (c.in-Ok.ensures.given told) _ (c.in-Ok-open.ensures.calls (c.in-Ok.ensures.disks_tell told))

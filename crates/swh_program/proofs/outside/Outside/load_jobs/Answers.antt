@@ -13,5 +13,5 @@ returns-in-Err-clause-load g c =
 pub returns-clause-load : goal.returns-clause-load
 returns-clause-load g c =
     run_files _ (disks g.P.D.Disk.tells g.P.D.Disk.file g.P.D.Disk.faults) c.in-Ok.keeper c.load_lines-answer.new.keeper _ _
-    c.in-Ok.ensures.archive c.close_archive.ensures.kept c.in-Ok.ensures.disks_tell c.in-Ok.ensures.opened c.close_archive.ensures.taken c.in-Ok.ensures.unwounded
+    c.in-Ok.ensures.archive c.close_archive.ensures.kept c.in-Ok.ensures.disks_tell c.in-Ok.ensures.sees c.in-Ok.ensures.opened c.close_archive.ensures.taken c.in-Ok.ensures.unwounded
     (owned_jobs c.args.lines.items) c.load_lines-answer.result c.load_lines-answer.ensures.load
