@@ -10,7 +10,7 @@ use Rattle.swh_model.specs.declared.event.Event.{Event}
 use Rattle.swh_model.specs.declared.event.Wish.{Wish}
 use Rattle.swh_model.specs.Judge.{event_of}
 use Rattle.swh_model.specs.Step.{May, replay}
-use Rattle.swh_segment.specs.EventRecord.{AreCodable}
+use Rattle.swh_format.specs.EventRecord.{AreCodable}
 use Rattle.swh_keeper.specs.Kept.{Kept, RefusesPlan}
 use Rattle.swh_keeper.specs.Keeping.{calls_for, IsCarriedOut, IsBrokenOff}
 use Rattle.swh_keeper.specs.declared.fault.Refusal.{Refusal}

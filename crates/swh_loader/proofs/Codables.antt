@@ -17,11 +17,11 @@ use Rattle.swh_model.specs.Judge.{IsCause, not_held}
 use Rattle.swh_model.specs.Limits.{IsWithinLimits, store_length, run_length}
 use Rattle.swh_model.specs.Archive.{Bodies}
 use Rattle.swh_model.specs.Step.{AreNew, FitsStatus, replay}
-use Rattle.swh_segment.specs.EventRecord.{IsCodable, AreCodable}
-use Rattle.swh_segment.specs.MarkRecord.{IsMarkStatus}
-use Rattle.swh_segment.specs.StoredObject.{IsCodableEntry}
-use Rattle.swh_segment.proofs.HistoryFiles.{codable-at}
-use Rattle.swh_segment.proofs.Lengths.{run-length}
+use Rattle.swh_format.specs.EventRecord.{IsCodable, AreCodable}
+use Rattle.swh_format.specs.MarkRecord.{IsMarkStatus}
+use Rattle.swh_format.specs.StoredObject.{IsCodableEntry}
+use Rattle.swh_format.proofs.HistoryFiles.{codable-at}
+use Rattle.swh_format.proofs.Lengths.{run-length}
 use Rattle.swh_keeper.specs.Kept.{Kept, IsKept}
 use Rattle.swh_loader.specs.Adding.{batch_event}
 use Rattle.swh_loader.proofs.Sends.{fresh-same}

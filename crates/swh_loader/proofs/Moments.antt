@@ -10,14 +10,14 @@ use Rattle.swh_outside.proofs.Images.{at_rest_image, at_rest_done}
 use Rattle.swh_outside.proofs.Numbered.{files_done-append, files_left_by, take_long, with_file_here, with_file_other}
 use Rattle.swh_model.specs.declared.event.Event.{Event}
 use Rattle.swh_model.specs.Limits.{store_length, records_length}
-use Rattle.swh_segment.specs.Events as segment
-use Rattle.swh_segment.specs.EventRecord.{packed_objects, coded_record, AreCodable}
+use Rattle.swh_format.specs.Events as format
+use Rattle.swh_format.specs.EventRecord.{packed_objects, coded_record, AreCodable}
 use Rattle.swh_segment.specs.Making.{barriers}
-use Rattle.swh_segment.specs.Settled.{AreAtRest, seen_of}
-use Rattle.swh_segment.specs.Stands.{StandsFor, written, all_written}
+use Rattle.swh_segment.specs.Settled.{AreAtRest, AreSettled, seen_of}
+use Rattle.swh_format.specs.Stands.{StandsFor, written, all_written}
 use Rattle.swh_segment.proofs.EventsCrash.{event_moments, event_settled}
-use Rattle.swh_segment.proofs.HistoryFiles.{runs-written, written-at}
-use Rattle.swh_segment.proofs.Lengths.{runs-length, ledger-length}
+use Rattle.swh_format.proofs.HistoryFiles.{runs-written, written-at}
+use Rattle.swh_format.proofs.Lengths.{runs-length, ledger-length}
 use Rattle.swh_keeper.specs.Kept.{AreStanding}
 use Rattle.swh_keeper.specs.Keeping.{WithOrWithout, calls_for}
 use Rattle.swh_loader.specs.Calls.{all_calls, BreaksAtEvent}
@@ -29,7 +29,7 @@ codable_front at (e ∷ h) more fits = (fits.0, codable_front (at + length (pack
 
 -- Files that stand for a history, with nothing written since a barrier.
 module _ (files : Files) (h : List Event) (standing : AreStanding (files 0) (files 1) h) where
-  settled : segment.AreSettled files (all_written 0 h) (store_length h) (8 + records_length h)
+  settled : AreSettled files (all_written 0 h) (store_length h) (8 + records_length h)
   settled = record {
     ledger = record {
       rests = standing.ledger_rests;
@@ -60,7 +60,7 @@ module _ (files : Files) (h : List Event) (standing : AreStanding (files 0) (fil
           has = λ n. record {
             has = λ images are. elim ((each.has n).has images are) [
               | inl without ↦ inl (record { files = without; codable = standing.stand.codable })
-              | inr with_it ↦ inr (record { files = subst (λ (es : List segment.Append). segment.FilesStand (images 0) (images 1) es) (sym (written-at h e (store_length h) refl)) with_it; codable = codable })
+              | inr with_it ↦ inr (record { files = subst (λ (es : List format.Append). format.FilesStand (images 0) (images 1) es) (sym (written-at h e (store_length h) refl)) with_it; codable = codable })
             ];
           };
         }
@@ -74,11 +74,11 @@ module _ (files : Files) (h : List Event) (standing : AreStanding (files 0) (fil
     one_added =
         let new = event_settled files (all_written 0 h) (written (store_length h) e) (store_length h) (8 + records_length h) settled (coded_record (store_length h) e ++ 0 ∷ []) (record { is = refl }) in
         let now = files_done (calls_for h e) files in
-        let stands : segment.FilesStand (now 0).seen (now 1).seen (all_written 0 h ++ written (store_length h) e ∷ []) = record { ledger_stands = new.ledger.stands; rest = new.rest; store_begins = new.begins } in
+        let stands : format.FilesStand (now 0).seen (now 1).seen (all_written 0 h ++ written (store_length h) e ∷ []) = record { ledger_stands = new.ledger.stands; rest = new.rest; store_begins = new.begins } in
         record {
           ledger_rests = new.ledger.rests;
           store_rests = new.store;
-          stand = record { files = subst (λ (es : List segment.Append). segment.FilesStand (now 0).seen (now 1).seen es) (sym (written-at h e (store_length h) refl)) stands; codable = codable };
+          stand = record { files = subst (λ (es : List format.Append). format.FilesStand (now 0).seen (now 1).seen es) (sym (written-at h e (store_length h) refl)) stands; codable = codable };
         }
 
 -- Where the first event's calls are all among the first n, it is acknowledged, and else nothing is.

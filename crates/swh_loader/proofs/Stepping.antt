@@ -13,7 +13,7 @@ use Rattle.swh_model.specs.declared.event.Outcome.{Outcome}
 use Rattle.swh_model.specs.declared.event.No.TheVariants.{Limit}
 use Rattle.swh_model.specs.Judge.{FilePasses, IsCause, event_of}
 use Rattle.swh_model.specs.Step.{May, replay}
-use Rattle.swh_segment.specs.EventRecord.{AreCodable}
+use Rattle.swh_format.specs.EventRecord.{AreCodable}
 use Rattle.swh_base.specs.Visit.{Statuses}
 use Rattle.swh_keeper.specs.Kept.{Kept, Applies, RefusesPlan}
 use Rattle.swh_keeper.specs.Keeping.{IsCarriedOut, IsBrokenOff}

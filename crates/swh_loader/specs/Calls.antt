@@ -5,7 +5,7 @@ use Rattle.swh_outside.specs.Disk.{File}
 use Rattle.swh_outside.specs.Files.{Files, FileCall, FilesBreaks, files_of, files_done}
 use Rattle.swh_model.specs.declared.event.Event.{Event}
 use Rattle.swh_model.specs.Step.{May, replay}
-use Rattle.swh_segment.specs.EventRecord.{AreCodable}
+use Rattle.swh_format.specs.EventRecord.{AreCodable}
 use Rattle.swh_keeper.specs.Keeping.{calls_for}
 use Rattle.swh_keeper.specs.Kept.{Kept}
 

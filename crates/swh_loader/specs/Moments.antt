@@ -5,7 +5,7 @@ use Rattle.swh_outside.specs.Files.{Files, Images, AreImages, EachImages, EachFi
 use Rattle.swh_model.specs.declared.event.Event.{Event}
 use Rattle.swh_segment.specs.Making.{barriers}
 use Rattle.swh_segment.specs.Settled.{AreAtRest}
-use Rattle.swh_segment.specs.Stands.{StandsFor}
+use Rattle.swh_format.specs.Stands.{StandsFor}
 use Rattle.swh_keeper.specs.Keeping.{WithOrWithout, calls_for}
 use Rattle.swh_loader.specs.Calls.{all_calls, BreaksAtEvent}
 

@@ -3,9 +3,9 @@ ghost use Rattle.std.specs.Prelude.{◌≡◌, ◌∷◌, ◌++◌, [], ℕ, Lis
 ghost use Rattle.swh_outside.specs.Files.{Files, FilesBreaks, AreImages, EachImages, files_done};
 ghost use Rattle.swh_model.specs.declared.event.Event.{Event};
 ghost use Rattle.swh_model.specs.WorkedExample.{with_snapshot};
-ghost use Rattle.swh_segment.specs.EventRecord.{AreCodable};
+ghost use Rattle.swh_format.specs.EventRecord.{AreCodable};
 ghost use Rattle.swh_segment.specs.Settled.{seen_of};
-ghost use Rattle.swh_segment.specs.Stands.{StandsFor};
+ghost use Rattle.swh_format.specs.Stands.{StandsFor};
 ghost use Rattle.swh_keeper.specs.Kept.{AreStanding};
 ghost use Rattle.swh_keeper.specs.Keeping.{WithOrWithout, calls_for};
 ghost use Rattle.swh_loader.specs.Calls.{all_calls};

@@ -16,7 +16,7 @@ use swh_keeper::Keeper;
 use swh_model::Wish;
 use swh_object::Object;
 use swh_outside::Disk;
-use swh_segment::entries_are_codable;
+use swh_format::entries_are_codable;
 
 /// How an entry stands to what is held.
 #[derive(Drop)]

@@ -1,5 +1,5 @@
 // The visit of a load: opened, marked and ended.
-ghost use Rattle.std.specs.Prelude.{◌≡◌, ◌∷◌, [], IfOk, IfErr, OnOk, OnErr};
+ghost use Rattle.std.specs.Prelude.{◌≡◌, ◌<◌, ◌^◌, ◌∷◌, [], IfOk, IfErr, OnOk, OnErr};
 ghost use Rattle.swh_outside.specs.Views.{disks};
 ghost use Rattle.swh_model.specs.Step.{replay, MayMark};
 ghost use Rattle.swh_loader.specs.Adding.{attempt, open_event, mark_event, IsEvent};
@@ -13,7 +13,7 @@ use swh_base::{Namer, Status, Url, VisitKind};
 use swh_keeper::Keeper;
 use swh_model::{Outcome, Wish};
 use swh_outside::Disk;
-use swh_segment::{origin_is_codable, snapshot_is_codable};
+use swh_format::{origin_is_codable, snapshot_is_codable};
 
 /// A visit that was opened: by whom, of which origin, when, and its number.
 #[derive(Clone, Copy)]
@@ -50,6 +50,14 @@ pub fn open_visit<N: Namer, D: Disk>(
     }
 }
 
+// What their types say of who opened a visit, and of its number.
+fn numbers_fit(by: u32, number: u64)
+    ensures by { by < 2 ^ 32 }
+    ensures number { number < 2 ^ 64 }
+{
+    let _numbers = (by, number);
+}
+
 /// Adds a status to a visit.
 pub fn mark<N: Namer, D: Disk>(
     alloc: Global,
@@ -68,6 +76,7 @@ pub fn mark<N: Namer, D: Disk>(
 {
     origin_is_codable(visit.origin);
     snapshot_is_codable(&snapshot);
+    numbers_fit(visit.by, visit.number);
     let _history = keeper.history();
     let Ok(origin) = visit.origin.again(alloc) else {
         return Err(LoadWhy::Memory);

@@ -5,7 +5,7 @@ use Rattle.swh_base.specs.declared.kind.Kind.{Kind}
 use Rattle.swh_outside.specs.Views.{Disks}
 use Rattle.swh_outside.specs.Files.{Files, AreImages, files_done}
 use Rattle.swh_segment.specs.Makes.{ADiskFailed}
-use Rattle.swh_segment.specs.EventRecord.{AreCodable}
+use Rattle.swh_format.specs.EventRecord.{AreCodable}
 use Rattle.swh_segment.specs.Making.{barriers}
 use Rattle.swh_segment.specs.Settled.{seen_of}
 use Rattle.swh_model.specs.declared.event.Event.{Event}

@@ -1,5 +1,5 @@
 use Rattle.std.proofs.Common.{refl}
-use Rattle.swh_segment.specs.StoredObject.{coded_entry}
+use Rattle.swh_format.specs.StoredObject.{coded_entry}
 use Rattle.swh_loader.proofs.laws.worked_acknowledgements.Goals as goal
 
 pub returns-clause-three : goal.returns-clause-three

@@ -1,4 +1,6 @@
-use Rattle.std.proofs.Common.{List, Err, sym, ap, ◌∙◌}
+use Rattle.std.proofs.Common.{List, Err, sym, ap, subst, ◌∙◌}
+use Rattle.std.specs.List.{AllByRecursion}
+use Rattle.swh_format.specs.StoredObject.{IsCodableEntry}
 use Rattle.swh_base.specs.declared.entry.Entry.{Entry}
 use Rattle.swh_outside.specs.Views.{disks}
 use Rattle.swh_model.specs.declared.event.Wish.TheVariants.{Batch}
@@ -45,9 +47,9 @@ returns-clause-leaves g c =
     (rw c.from_vec.ensures at c.in-Err.ensures.err) c.stopped.ensures c.in-Err.ensures.store_later c.in-Err.ensures.ledger_later (λ e. c.in-Err.ensures.cause (ap Err e))
     (λ told e. rw c.from_vec.ensures at (c.in-Err.ensures.broken told (ap Err e)))
     (λ told e none.
-    let verdict = rw c.from_vec.ensures at (c.in-Err.ensures.broken told (ap Err e)).verdict in
+    let broken = rw c.from_vec.ensures at (c.in-Err.ensures.broken told (ap Err e)) in
     next_fits g.N.Namer.id_of g.D.Disk.tells g.D.Disk.file c.args.keeper.now (batch_event c.args.by entries) c.history-history.ensures.kept
-    (batch_fits c.args.keeper.now.history c.args.by entries c.ranges.by.fits (rw c.deref.ensures.value at c.entries_are_codable.ensures) w.new w.limits verdict.0) told none))
+    (batch_fits c.args.keeper.now.history c.args.by entries c.ranges.by.fits (subst (AllByRecursion IsCodableEntry) c.deref.ensures.value c.entries_are_codable.ensures) w.new w.limits broken.verdict.0) told none))
 
 pub returns-clause-visits : goal.returns-clause-visits
 returns-clause-visits g c =

@@ -32,4 +32,4 @@ returns-in-Err-clause-leaves g c =
     c.requires refl (λ which number is. is) (rw c.in-Ok.ensures at c.in-Err.ensures.err) c.stopped.ensures c.in-Err.ensures.store_later c.in-Err.ensures.ledger_later (λ e. c.in-Err.ensures.cause (ap Err e))
     (λ told e. rw c.in-Ok.ensures at (c.in-Err.ensures.broken told (ap Err e)))
     (λ told e none. next_fits g.N.Namer.id_of g.D.Disk.tells g.D.Disk.file c.args.keeper.now (mark_event (attempt_of visit) visit.number c.args.status c.args.snapshot) c.history-history.ensures.kept
-    (?, record { is_origin = c.origin_is_codable.ensures; visit_fits = ?; is_status = marks_status (replay c.args.keeper.now.history).bodies c.args.status c.args.snapshot c.requires.fits; is_snapshot = c.snapshot_is_codable.ensures }) told none)
+    (c.numbers_fit.ensures.by, record { is_origin = c.origin_is_codable.ensures; visit_fits = c.numbers_fit.ensures.number; is_status = marks_status (replay c.args.keeper.now.history).bodies c.args.status c.args.snapshot c.requires.fits; is_snapshot = c.snapshot_is_codable.ensures }) told none)
