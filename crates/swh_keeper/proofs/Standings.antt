@@ -1,7 +1,8 @@
 -- Files that stand for a history, with nothing written since a barrier, at the device calls of the next event.
 use Rattle.std.proofs.Common.{◌≡◌, inl, inr, ℕ, ◌+◌, List, [], ◌∷◌, ◌++◌, length, sym, ap, ◌∙◌, subst, refl, arith}
-use Rattle.swh_outside.specs.Files.{Files, EachImages, EachFilesMoment}
+use Rattle.swh_outside.specs.Files.{Files, FilesBreaks, EachImages, EachFilesMoment, files_done}
 use Rattle.swh_outside.proofs.Images.{at_rest_image}
+use Rattle.swh_outside.proofs.Numbered.{files_left_by}
 use Rattle.swh_model.specs.declared.event.Event.{Event}
 use Rattle.swh_model.specs.Limits.{store_length, records_length}
 use Rattle.swh_format.specs.Events as format
@@ -10,7 +11,7 @@ use Rattle.swh_format.specs.Stands.{StandsFor, written, all_written}
 use Rattle.swh_format.proofs.HistoryFiles.{runs-written, written-at}
 use Rattle.swh_format.proofs.Lengths.{runs-length, ledger-length}
 use Rattle.swh_segment.specs.Settled.{AreSettled}
-use Rattle.swh_segment.proofs.EventsCrash.{event_moments}
+use Rattle.swh_segment.proofs.EventsCrash.{event_moments, event_settled}
 use Rattle.swh_keeper.specs.Kept.{AreStanding}
 use Rattle.swh_keeper.specs.Keeping.{WithOrWithout, calls_for}
 
@@ -50,4 +51,20 @@ module _ (files : Files) (h : List Event) (standing : AreStanding (files 0) (fil
               | inr with_it ↦ inr (record { files = subst (λ (es : List format.Append). format.FilesStand (images 0) (images 1) es) (sym (written-at h e (store_length h) refl)) with_it; codable = codable })
             ];
           };
+        }
+
+    -- and where one of them failed
+    pub event_left : (new : Files) → FilesBreaks (calls_for h e) files new → EachImages new (WithOrWithout h e)
+    event_left new breaks = files_left_by (calls_for h e) files new (WithOrWithout h e) one_moments breaks
+
+    -- and after them
+    pub one_added : AreStanding (files_done (calls_for h e) files 0) (files_done (calls_for h e) files 1) (h ++ e ∷ [])
+    one_added =
+        let new = event_settled files (all_written 0 h) (written (store_length h) e) (store_length h) (8 + records_length h) settled (coded_record (store_length h) e ++ 0 ∷ []) (record { is = refl }) in
+        let now = files_done (calls_for h e) files in
+        let stands : format.FilesStand (now 0).seen (now 1).seen (all_written 0 h ++ written (store_length h) e ∷ []) = record { ledger_stands = new.ledger.stands; rest = new.rest; store_begins = new.begins } in
+        record {
+          ledger_rests = new.ledger.rests;
+          store_rests = new.store;
+          stand = record { files = subst (λ (es : List format.Append). format.FilesStand (now 0).seen (now 1).seen es) (sym (written-at h e (store_length h) refl)) stands; codable = codable };
         }

@@ -1,4 +1,4 @@
-use Rattle.swh_loader.proofs.Moments.{event_left}
+use Rattle.swh_keeper.proofs.Standings.{event_left}
 use Rattle.swh_loader.proofs.laws.broken_event_is_in_doubt.Goals as goal
 
 pub returns : goal.returns
