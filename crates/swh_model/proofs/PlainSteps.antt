@@ -1,5 +1,5 @@
 -- What may happen, from the answers of the plain calls.
-use Rattle.std.proofs.Common.{◌≡◌, ◌⊎◌, ℕ, zero, suc, ◌+◌, ◌-◌, ◌<◌, ◌≤◌, true, false, Option, Some, None, List, [], ◌∷◌, ◌++◌, length, take, get_or, refl, sym, ap, ◌∙◌, subst, arith}
+use Rattle.std.proofs.Common.{◌≡◌, ℕ, zero, suc, ◌-◌, ◌<◌, true, false, Option, Some, None, List, [], ◌∷◌, ◌++◌, length, take, get_or, refl, sym, subst, arith}
 use Rattle.std.specs.List.{AllByRecursion}
 use Rattle.std.proofs.lemmas.Option.{slice_get_within}
 use Rattle.swh_base.specs.declared.kind.Kind.{Kind}
@@ -7,22 +7,19 @@ use Rattle.swh_base.specs.declared.name.Name.{Name}
 use Rattle.swh_base.specs.declared.visit.Status.{Status}
 use Rattle.swh_base.specs.declared.visit.Status.TheVariants.{Created, Ongoing, Full, Partial, NotFound, Failed}
 use Rattle.swh_base.specs.Snapshot.{snapshot_name}
-use Rattle.swh_base.specs.Visit.{IsFinal, last_status}
-use Rattle.swh_model.specs.declared.event.Visit.{Visit}
 use Rattle.swh_model.specs.declared.event.Event.{Event}
 use Rattle.swh_model.specs.declared.event.EventKind.{EventKind}
 use Rattle.swh_model.specs.declared.event.EventKind.TheVariants.{Batch, Open, Mark}
 use Rattle.swh_model.specs.declared.event.No.{No}
 use Rattle.swh_model.specs.declared.event.No.TheVariants.{Limit, NoVisit, NotYours, Ended, NoSnapshot, NotClosed, Collision}
 use Rattle.swh_model.specs.Archive.{Archive, Bodies, body_of, IsHeld, visits_of}
-use Rattle.swh_model.specs.Step.{HasItsChildrenAndName, HasItsChildren, FitsStatus, MayMark, May, May_kind, MayAll, after, after_all}
+use Rattle.swh_model.specs.Step.{HasItsChildrenAndName, HasItsChildren, FitsStatus, May, May_kind, MayAll, after, after_all}
 use Rattle.swh_model.specs.Judge.{StatusAllows}
-use Rattle.swh_model.specs.Judged.{IsVisitRefusal, MayBeMarked, IsSnapshotRefusal, SuitsStatus}
+use Rattle.swh_model.specs.Judged.{IsSnapshotRefusal, SuitsStatus}
 use Rattle.swh_model.specs.Happens.{IsGoodEvent, IsGoodKind, IsNamedEvent, IsNamedKind, CanHappen, CanHappenKind, HasItsVisit, HasItsVisitKind}
 use Rattle.swh_model.proofs.Entries.{held_not_none}
 use Rattle.swh_model.proofs.Visits.{all-map}
 use Rattle.swh_model.proofs.Walks.{reaches-next}
-use Rattle.swh_model.proofs.Refusals.{within_list, same_visit}
 
 -- ---- a snapshot beside a status
 
@@ -59,25 +56,6 @@ refused_unfit bodies status snapshot (NoVisit have) is fits = is
 refused_unfit bodies status snapshot (NotYours by) is fits = is
 refused_unfit bodies status snapshot (Ended last) is fits = is
 refused_unfit bodies status snapshot (Collision name) is fits = is
-
--- ---- a mark
-
-module _ (a : Archive) (by : ℕ) (origin : List ℕ) (number : ℕ) (status : Status) (snapshot : Option (List ℕ)) where
-  abbrev Visits : List Visit
-  Visits = visits_of a.origins origin
-
-  pub marked_where : MayBeMarked Visits by number → FitsStatus a.bodies status snapshot → MayMark a by origin number status snapshot
-  marked_where m fits = record { visit = m.visit; positive = m.there.0; there = m.there.1; opened = m.opened; unended = m.unended; fits = fits }
-
-  pub refused_unmarked : (no : No) → IsVisitRefusal Visits by number no → MayMark a by origin number status snapshot → ⊥
-  refused_unmarked (NoVisit have) (l, z) m = within_list Visits number m.visit have (m.positive, m.there) l z
-  refused_unmarked (NotYours other) (v, at, e, apart) m = apart (subst (λ (w : Visit). w.by ≡ by) (same_visit _ m.visit v m.there at.1) m.opened)
-  refused_unmarked (Ended last) (v, at, mine, e, final) m =
-      m.unended (subst (λ (w : Visit). IsFinal (last_status w.statuses)) (same_visit _ v m.visit at.1 m.there) (subst IsFinal e final))
-  refused_unmarked (Limit which counted) is m = is
-  refused_unmarked (NoSnapshot name) is m = is
-  refused_unmarked (NotClosed parent child) is m = is
-  refused_unmarked (Collision name) is m = is
 
 -- ---- an event
 

@@ -59,7 +59,7 @@ batch_passes h es none files apart (Ended status) is = is
 batch_passes h es none files apart (NoSnapshot name) is = is
 batch_passes h es none files apart (NotClosed parent child) is = is
 
-pub same_visit : (o : Option Visit) (v w : Visit) → o ≡ Some v → o ≡ Some w → v ≡ w
+same_visit : (o : Option Visit) (v w : Visit) → o ≡ Some v → o ≡ Some w → v ≡ w
 same_visit o v w a b = cc
 
 same_id : (o : Option (List ℕ)) (v w : List ℕ) → o ≡ Some v → o ≡ Some w → v ≡ w
@@ -70,7 +70,7 @@ none_past [] j y e l = let f : None ≡ Some y = e in cc
 none_past (u ∷ us) zero y e l = omega (arith, l)
 none_past (u ∷ us) (suc j) y e l = none_past us j y e (omega (arith, l))
 
-pub within_list : (vs : List Visit) (n : ℕ) (v : Visit) (have : ℕ) → IsAt vs n v → have ≡ length vs → (n ≡ 0) ⊎ (have < n) → ⊥
+within_list : (vs : List Visit) (n : ℕ) (v : Visit) (have : ℕ) → IsAt vs n v → have ≡ length vs → (n ≡ 0) ⊎ (have < n) → ⊥
 within_list vs n v have at l (inl none) = let p = at.0 in omega (arith, p, none)
 within_list vs n v have at l (inr past) = let p = at.0 in none_past vs (n - 1) v at.1 (omega (arith, p, l, past))
 

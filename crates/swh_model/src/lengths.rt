@@ -68,7 +68,9 @@ fn length_of_payload(event: &EventKind) -> u64
         EventKind::Batch(_) => 4 + (8 + 8 + 4),
         EventKind::Open { origin, .. } => 4 + (1 + 8 + origin.as_str().as_bytes().len() as u64),
         EventKind::Mark {
-            origin, snapshot, ..
+            origin,
+            snapshot,
+            ..
         } => {
             let origin = origin.as_str().as_bytes().len() as u64;
             4 + (1 + 8 + (length_of_snapshot(snapshot) + origin))

@@ -159,7 +159,12 @@ fn mark_in(
 {
     match place_of(origins, origin) {
         Some(place) => {
-            push_status(&mut origins[place].visits, (visit - 1) as usize, status, snapshot)
+            push_status(
+                &mut origins[place].visits,
+                (visit - 1) as usize,
+                status,
+                snapshot,
+            )
         }
         None => unreachable!(),
     }

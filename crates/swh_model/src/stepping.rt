@@ -73,14 +73,7 @@ pub fn may_happen(alloc: Global, state: &State, event: &Event) -> Result<bool, M
             visit,
             status,
             snapshot,
-        } => may_mark(
-            alloc,
-            state,
-            event.by,
-            origin,
-            *visit,
-            (*status, *snapshot),
-        ),
+        } => may_mark(alloc, state, event.by, origin, *visit, (*status, *snapshot)),
     }
 }
 

@@ -22,4 +22,4 @@ loop-entry-preserved c =
     let taken = subst (λ (fs : List Entry). IsHeld (added bodies fs) e.name → false ≡ true) c.as_slice.ensures.value c.if-is_taken.ensures.1 in
     c.in_ok-push.ensures.items ∙ ap (λ (x : Entry). fresh ++ x ∷ []) c.in_ok-again.ensures
     ∙ fresh-kept bodies c.args.entries.now fresh c.loop-entry.entry-index e c.loop-entry-test.true c.entry-item.is c.loop-entry.invariant
-        (none_unless_held (added bodies fresh) e.name (λ held. not_true (taken held)))
+    (none_unless_held (added bodies fresh) e.name (λ held. not_true (taken held)))

@@ -1,7 +1,6 @@
 use Rattle.std.proofs.Common.{◌≡◌, ◌+◌, List, length, ap, ◌∙◌, subst, arith}
 use Rattle.swh_base.specs.declared.name.Name.{Name}
 use Rattle.swh_base.specs.declared.entry.Entry.{Entry}
-use Rattle.swh_model.specs.declared.event.Event.{Event}
 use Rattle.swh_model.specs.declared.event.EventKind.TheVariants.{Batch}
 use Rattle.swh_model.specs.declared.event.Outcome.TheVariants.{Added}
 use Rattle.swh_model.specs.Archive.{Archive}
@@ -23,8 +22,8 @@ returns-clause-ok c =
     let made : c.in_ok-fresh.fresh.items ≡ not_held (replay h).bodies es = c.in_ok-fresh.ensures ∙ ap (λ (a : Archive). not_held a.bodies es) c.requires in
     let event : c.from_vec.result ≡ not_held (replay h).bodies es = c.from_vec.ensures ∙ made in (
       batch_passes h es c.in_default.ensures.none
-      (subst (λ (fs : List Entry). NonePasses (FilePasses h (Batch fs))) event c.in_ok-fit_files.ensures.ok)
-      (subst (λ (a : Archive). (name : Name) → Collides a.bodies es name → ⊥) c.requires c.in_default-collision.ensures.none),
+          (subst (λ (fs : List Entry). NonePasses (FilePasses h (Batch fs))) event c.in_ok-fit_files.ensures.ok)
+          (subst (λ (a : Archive). (name : Name) → Collides a.bodies es name → ⊥) c.requires c.in_default-collision.ensures.none),
       (λ i. record { by = c.args.by; what = Batch (event i) }),
       λ i. Added (length h + 1) (ap length (c.as_slice-2.ensures.value ∙ made) i),
     )

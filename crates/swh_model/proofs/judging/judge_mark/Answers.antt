@@ -1,5 +1,4 @@
-use Rattle.std.proofs.Common.{◌+◌, List, ℕ, length, ap, ◌∙◌, refl, sym, subst}
-use Rattle.swh_model.specs.declared.event.Event.{Event}
+use Rattle.std.proofs.Common.{List, ℕ, ap, ◌∙◌, refl, subst}
 use Rattle.swh_model.specs.declared.event.EventKind.TheVariants.{Mark}
 use Rattle.swh_model.specs.declared.event.Visit.{Visit}
 use Rattle.swh_model.specs.Archive.{Archive, visits_of}

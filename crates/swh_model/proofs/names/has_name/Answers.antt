@@ -1,4 +1,4 @@
-use Rattle.std.proofs.Common.{◌≡◌, ◌∷◌, ◌++◌, [], List, inl, inr, true, false, refl, sym, ◌∙◌, subst, take, get_or}
+use Rattle.std.proofs.Common.{◌≡◌, [], List, inl, inr, true, false, sym, subst, take, get_or}
 use Rattle.std.specs.Prelude.{Contains}
 use Rattle.std.proofs.lemmas.List.{take_all}
 use Rattle.std.proofs.lemmas.List.Elements.{Contains-push_cases}

@@ -1,5 +1,5 @@
 use Rattle.std.proofs.Common.{◌≡◌, ◌+◌, ◌-◌, ◌<◌, ℕ, length, take, ap, ◌∙◌, true, false, refl, arith}
-use Rattle.swh_model.specs.Archive.{Bodies, body_of}
+use Rattle.swh_model.specs.Archive.{body_of}
 use Rattle.swh_model.specs.Step.{added}
 use Rattle.swh_model.proofs.PlainLists.{newest-passed, newest-found}
 use Rattle.swh_model.proofs.state.newest.Goals as goal

@@ -1,5 +1,4 @@
-use Rattle.std.proofs.Common.{◌≡◌, List, true, false, refl, sym, subst, take}
-use Rattle.swh_base.specs.declared.entry.Entry.{Entry}
+use Rattle.std.proofs.Common.{refl, sym, subst, take}
 use Rattle.swh_model.specs.Step.{AreNew, added}
 use Rattle.swh_model.proofs.Entries.{new-at, new-push, held_not_none, none_unless_held}
 use Rattle.swh_model.proofs.Batches.{not_true}
@@ -13,7 +12,7 @@ returns-then-is_taken c =
     let e = c.index-entries-place.result in (
       λ t. not_true t,
       λ new. absurd (held_not_none (added bodies (take c.loop-place.place es)) e.name
-      (new-at bodies es c.loop-place.place e c.loop-place-test.true c.index-entries-place.is new) (c.if-is_taken.ensures.0 refl)),
+          (new-at bodies es c.loop-place.place e c.loop-place-test.true c.index-entries-place.is new) (c.if-is_taken.ensures.0 refl)),
     )
 
 pub loop-place-preserved : goal.loop-place-preserved

@@ -1,9 +1,8 @@
-use Rattle.std.proofs.Common.{[], ◌≡◌, ◌∷◌, ◌++◌, List, refl, arith, subst, sym, ap, ◌∙◌, ◌<◌, length, slice_get, Some, get_or}
-use Rattle.std.specs.Prelude.{Contains}
+use Rattle.std.proofs.Common.{[], ◌∷◌, ◌++◌, List, ap, ◌∙◌}
 use Rattle.swh_base.specs.declared.name.Name.{Name}
 use Rattle.swh_model.specs.Archive.{Bodies}
 use Rattle.swh_model.specs.Certificate.{AreClosed}
-use Rattle.swh_model.proofs.ListedWalks.{parent_held, gains-next, walk-next, walk-ends, walk-begins, none_in}
+use Rattle.swh_model.proofs.ListedWalks.{parent_held, walk-next, walk-ends, walk-begins, none_in}
 use Rattle.swh_model.proofs.walking.find_gap.Goals as goal
 
 none_closed : (bodies : Bodies) → AreClosed bodies []

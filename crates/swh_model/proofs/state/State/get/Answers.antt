@@ -1,4 +1,4 @@
-use Rattle.std.proofs.Common.{◌≡◌, Option, Some, None, List, subst}
+use Rattle.std.proofs.Common.{◌≡◌, Some, None, List, subst}
 use Rattle.std.specs.Prelude.{Contains, IfSome, IfNone}
 use Rattle.std.specs.FinMap.{empty}
 use Rattle.swh_base.specs.declared.entry.Entry.{Entry}
