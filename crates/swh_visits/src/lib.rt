@@ -10,3 +10,6 @@ mod visits;
 
 pub use fault::VisitFault;
 pub use visits::Visits;
+
+#[cfg(test)]
+mod tests;
