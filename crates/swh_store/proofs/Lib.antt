@@ -1,3 +1,4 @@
 pub mod MapLemmas
 pub mod Results
 pub mod AddingLemmas
+pub mod Sizes

@@ -11,3 +11,6 @@ mod store;
 
 pub use fault::StoreFault;
 pub use store::Store;
+
+#[cfg(test)]
+mod tests;

@@ -98,6 +98,13 @@ impl Store {
         insert_all(&mut self.by_key, entries)
     }
 
+    /// How many bodies are held. It takes no memory.
+    pub fn len(&self) -> usize
+        ensures { result ≡ finite.len self.now.bodies }
+    {
+        self.by_key.len()
+    }
+
     /// The graph of a store is that of its bodies.
     pub fn is_graph(&self)
         ensures { IsGraphOf self.now.bodies (children_in self.now) }
