@@ -1,20 +1,15 @@
 -- What is read of both files in the end.
-use Rattle.std.proofs.Common.{◌≡◌, ◌≢◌, ℕ, ◌+◌, ◌<◌, List, [], ◌∷◌, ◌++◌, length, take, drop, get_or, refl, sym, ap, ◌∙◌, subst, inl, inr, arith}
+use Rattle.std.proofs.Common.{◌≡◌, ℕ, List, [], ◌++◌, drop, ap, inl, inr}
 use Rattle.std.specs.Global.{Vec}
 use Rattle.swh_base.specs.declared.kind.Kind.{Kind}
 use Rattle.swh_format.specs.Stands.{coded_records}
 use Rattle.swh_format.proofs.StandsFrom.{with_magic}
-use Rattle.swh_recovery.specs.declared.harm.Harm.{Harm}
-use Rattle.swh_recovery.specs.declared.harm.Found.{Found}
 use Rattle.swh_recovery.specs.declared.fault.NextFault.{NextFault}
 use Rattle.swh_recovery.specs.declared.fault.NextFault.TheVariants as next
 use Rattle.swh_recovery.specs.declared.record.Record.{Record}
 use Rattle.swh_recovery.specs.declared.reading.Reached.{Reached}
-use Rattle.std.specs.List.{AllByRecursion}
-use Rattle.swh_object.specs.Object.{IsObject}
-use Rattle.swh_format.specs.EventRecord.{AreCodable}
-use Rattle.swh_format.specs.Stands.{coded_records, coded_runs}
-use Rattle.swh_recovery.specs.Harms.{MagicBreaks, entries_of}
+use Rattle.swh_format.specs.Stands.{coded_records}
+use Rattle.swh_recovery.specs.Harms.{MagicBreaks}
 use Rattle.swh_recovery.specs.Records.{events, IfNextHarmed, IsReadSoFar, BreaksNext, IsAtEnd, AreRead, IsHarm, AreRecords}
 use Rattle.swh_recovery.specs.Answers.{all_fault, IfDamaged}
 
@@ -47,4 +42,3 @@ pub next_harmed : (id_of : Kind → List ℕ → List ℕ) (ledger store : List 
 next_harmed id_of ledger store next.DiskFailed r h = tt
 next_harmed id_of ledger store next.Memory r h = tt
 next_harmed id_of ledger store (next.Harmed file found) r h = inr h
-

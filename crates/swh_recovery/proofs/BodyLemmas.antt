@@ -1,5 +1,5 @@
 -- An object's body behind its head, and what is wrong with it.
-use Rattle.std.proofs.Common.{◌≡◌, ◌⊎◌, ℕ, ◌+◌, ◌-◌, ◌<◌, ◌≤◌, ◌^◌, List, [], ◌∷◌, ◌++◌, length, take, drop, refl, sym, ap, ◌∙◌, subst, inl, inr, arith, length-append, length-drop, append_assoc}
+use Rattle.std.proofs.Common.{◌≡◌, ℕ, ◌+◌, ◌-◌, ◌≤◌, List, ◌∷◌, ◌++◌, length, take, drop, refl, sym, ap, ◌∙◌, subst, inl, inr, arith, length-append, length-drop, append_assoc}
 use Rattle.std.proofs.lemmas.List.{take-append-drop, take-take, length-take-le, drop-take, drop-drop}
 use Rattle.std.specs.Int.{w64, to_be_bytes}
 use Rattle.swh_base.specs.declared.kind.Kind.{Kind}
@@ -68,14 +68,14 @@ module _ (seen : List ℕ) (at have : ℕ) (h : Head) (head : 29 ≤ have) (insi
     unfolding begins_object
     size_harms found harm =
         elim harm [
-          inl x ↦ inr (inl (record {
+          | inl x ↦ inr (inl (record {
             head = record { kind = h.kind; size = h.size; id = h.id; cut = b.rest; spelled = b.is.spelled; twenty = b.is.twenty; fits = b.is.fits };
             cut = record {
               short = let l = behind_length in let less = x.0 in omega (arith, l, less);
               found_is = x.1 ∙ ap (λ (n : ℕ). found_at (at + 29) (Short n h.size)) (sym behind_length);
             };
           }))
-        | inr x ↦ inr (inr (inl (record {
+          | inr x ↦ inr (inr (inl (record {
             object = begins_object x.0;
             place = body_limit;
             refused = inl ((let s = length-take-le h.size b.rest (let l = behind_length in let le = x.0 in omega (arith, l, le)) in let above = x.1 in omega (arith, s, above)), refl);
@@ -90,8 +90,8 @@ module _ (seen : List ℕ) (at have : ℕ) (h : Head) (head : 29 ≤ have) (insi
         let same : body ≡ take h.size b.rest = is ∙ sym (body_is le) in
         let here = subst (λ (l : List ℕ). BodyHarms id_of h l at found) same harm in
         elim here [
-          inl x ↦ inr (inr (inl (record { object = begins_object le; place = x.0; refused = x.1; found_is = x.2 })))
-        | inr x ↦ inr (inr (inr (record { object = begins_object le; well_formed = x.0; short = x.1; other = x.2; found_is = x.3 })))
+          | inl x ↦ inr (inr (inl (record { object = begins_object le; place = x.0; refused = x.1; found_is = x.2 })))
+          | inr x ↦ inr (inr (inr (record { object = begins_object le; well_formed = x.0; short = x.1; other = x.2; found_is = x.3 })))
         ]
 
     pub begins_with : (body : List ℕ) (e : Entry) → body ≡ window seen (at + 29) h.size → 29 + h.size ≤ have → IsEntryOf id_of h body e → IsCodableEntry e → BeginsWith id_of (window seen at have) e

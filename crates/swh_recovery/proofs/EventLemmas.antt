@@ -1,5 +1,5 @@
 -- The record of a batch, with the run that it names.
-use Rattle.std.proofs.Common.{◌≡◌, ◌⊎◌, ℕ, ◌+◌, ◌-◌, ◌<◌, ◌≤◌, ◌^◌, List, [], ◌∷◌, ◌++◌, length, take, drop, max, refl, sym, ap, ◌∙◌, subst, inl, inr, arith, length-append, append_assoc}
+use Rattle.std.proofs.Common.{◌≡◌, ℕ, ◌+◌, ◌<◌, ◌^◌, List, [], ◌∷◌, ◌++◌, length, drop, refl, sym, ap, ◌∙◌, inl, inr, arith, length-append, append_assoc}
 use Rattle.std.proofs.lemmas.List.{drop-drop, append-nil}
 use Rattle.std.proofs.Math.Seq.{drop-append_seam}
 use Rattle.std.specs.List.{AllByRecursion}
@@ -9,7 +9,6 @@ use Rattle.swh_base.specs.declared.entry.Entry.{Entry}
 use Rattle.swh_model.specs.declared.event.Event.{Event}
 use Rattle.swh_model.specs.declared.event.EventKind.{EventKind}
 use Rattle.swh_model.specs.declared.event.EventKind.TheVariants.{Batch, Open, Mark}
-use Rattle.swh_object.specs.Object.{IsObject}
 use Rattle.swh_format.specs.declared.frame.RecordParts.{RecordParts}
 use Rattle.swh_format.specs.Record.{framed}
 use Rattle.swh_format.specs.BatchRecord.{batch_text}
@@ -23,7 +22,7 @@ use Rattle.swh_recovery.specs.declared.frame.RunTold.{RunTold}
 use Rattle.swh_recovery.specs.Fields.{found_at}
 use Rattle.swh_recovery.specs.LedgerHarm.{BeginsRecord, TellsRun, IsRunTold}
 use Rattle.swh_recovery.specs.StoreHarm.{HoldsRun, RunBreaks}
-use Rattle.swh_recovery.specs.Records.{records_of, IsWholeRecord, IsToldExactly, EventBreaks}
+use Rattle.swh_recovery.specs.Records.{IsWholeRecord, IsToldExactly, EventBreaks}
 
 -- runs of the same bytes have as many objects
 same_count : (es fs : List Entry) (x y : List ℕ) → AllByRecursion IsCodableEntry es → AllByRecursion IsCodableEntry fs → coded_run es ++ x ≡ coded_run fs ++ y → length (coded_run es) ≡ length (coded_run fs) → length es ≡ length fs
@@ -116,11 +115,14 @@ module _ (id_of : Kind → List ℕ → List ℕ) (start : ℕ) (p : RecordParts
           ∙ (let ends = end_of in λ i. batch_text (exact.from_is i) (ends i) (exact.number_is i)))
 
       pub codable_batch : IsCodable start (batch_event t.by es)
-      codable_batch = (told.by_fits, record {
-        entries_codable = holds.run.objects.codable;
-        number = let n = exact.number_is in let f = told.number_fits in omega (arith, n, f);
-        end = let e = end_of in let f = told.to_fits in omega (arith, e, f);
-      })
+      codable_batch = (
+        told.by_fits,
+        record {
+          entries_codable = holds.run.objects.codable;
+          number = let n = exact.number_is in let f = told.number_fits in omega (arith, n, f);
+          end = let e = end_of in let f = told.to_fits in omega (arith, e, f);
+        },
+      )
 
       pub ledger_told : framed p.kind p.payload.now ≡ coded_record start (batch_event t.by es)
       ledger_told = let q = payload_told in λ i. framed (batch i) (q i)

@@ -1,10 +1,9 @@
 -- A record at the front of a ledger's bytes, and its first harm.
-use Rattle.std.proofs.Common.{◌≡◌, ◌⊎◌, ℕ, ◌+◌, ◌<◌, ◌^◌, List, [], ◌∷◌, ◌++◌, length, refl, sym, ap, ◌∙◌, inl, inr, arith, length-append, Result, IfErr}
+use Rattle.std.proofs.Common.{◌≡◌, ℕ, ◌+◌, ◌<◌, ◌^◌, List, [], ◌∷◌, ◌++◌, length, refl, ap, ◌∙◌, inl, inr, arith, length-append, Result, IfErr}
 use Rattle.std.specs.Prelude.{IsErrAnd}
 use Rattle.std.specs.Int.{w32, to_be_bytes}
 use Rattle.std.proofs.lemmas.Result.{err_from_is_err_and}
 use Rattle.swh_format.specs.declared.frame.RecordParts.{RecordParts}
-use Rattle.swh_format.proofs.RecordFronts.{record_joined}
 use Rattle.swh_format.proofs.Unique.{framed_then, four_bytes}
 use Rattle.swh_recovery.specs.declared.field.Choice.TheVariants as choice
 use Rattle.swh_recovery.specs.declared.harm.Found.{Found}

@@ -1,6 +1,6 @@
 -- An object at the front of the store's bytes, and its first harm.
-use Rattle.std.proofs.Common.{◌≡◌, ◌⊎◌, ℕ, ◌+◌, ◌-◌, ◌<◌, ◌≤◌, ◌^◌, List, [], ◌∷◌, ◌++◌, length, take, drop, min, refl, sym, ap, ◌∙◌, subst, inl, inr, arith, length-append, append_assoc}
-use Rattle.std.proofs.lemmas.List.{take-append-drop, take-take, length-take, length-take-le, append-nil, drop-take, drop-drop}
+use Rattle.std.proofs.Common.{◌≡◌, ℕ, ◌+◌, ◌<◌, ◌≤◌, ◌^◌, List, [], ◌∷◌, ◌++◌, length, take, drop, min, refl, sym, ap, ◌∙◌, subst, inl, inr, arith, length-append, append_assoc}
+use Rattle.std.proofs.lemmas.List.{take-append-drop, take-take, length-take, length-take-le, append-nil}
 use Rattle.std.proofs.Math.ListN.{drop_of_length-le}
 use Rattle.std.proofs.Math.Nat.{eq-or-lt_of_le}
 use Rattle.std.specs.Int.{w64, to_be_bytes}
@@ -56,8 +56,8 @@ field_more (field.Bytes n) bytes more at found cut le = absurd (let s = cut.shor
 field_more (field.Byte c) bytes more at found h le = elim h [ inl cut ↦ absurd (let s = cut.short in omega (arith, s, le)) | inr o ↦ inr (other_more c bytes more at found o) ]
 field_more field.Snapshot bytes more at found h le =
     elim h [
-      inl cut ↦ absurd (let s = cut.short in omega (arith, s, le))
-    | inr h ↦ elim h [ inl o ↦ inr (inl (other_more choice.Snapshot bytes more at found o)) | inr i ↦ absurd (let s = i.cut.short in let l : length bytes ≡ length (1 ∷ i.rest) = ap length i.is in omega (arith, s, l, le)) ]
+      | inl cut ↦ absurd (let s = cut.short in omega (arith, s, le))
+      | inr h ↦ elim h [ inl o ↦ inr (inl (other_more choice.Snapshot bytes more at found o)) | inr i ↦ absurd (let s = i.cut.short in let l : length bytes ≡ length (1 ∷ i.rest) = ap length i.is in omega (arith, s, l, le)) ]
     ]
 
 field_long : (f : Field) (front : List ℕ) → IsField f front → length front ≤ width f
@@ -73,9 +73,14 @@ unfolding widths
 breaks_more [] bytes more at found h le = h
 breaks_more (f ∷ fs) bytes more at found h le =
     elim h [
-      inl b ↦ inl (field_more f bytes more at found b (omega (arith, le)))
-    | inr x ↦ inr (x.0, x.1 ++ more, ap (λ (l : List ℕ). l ++ more) x.2 ∙ append_assoc x.0 x.1 more, x.3,
-        breaks_more fs x.1 more (at + length x.0) found x.4 (let w = field_long f x.0 x.3 in let l = ap length x.2 in omega (arith, le, w, l, length-append x.0 x.1)))
+      | inl b ↦ inl (field_more f bytes more at found b (omega (arith, le)))
+      | inr x ↦ inr (
+        x.0,
+        x.1 ++ more,
+        ap (λ (l : List ℕ). l ++ more) x.2 ∙ append_assoc x.0 x.1 more,
+        x.3,
+        breaks_more fs x.1 more (at + length x.0) found x.4 (let w = field_long f x.0 x.3 in let l = ap length x.2 in omega (arith, le, w, l, length-append x.0 x.1)),
+      )
     ]
 
 -- the whole of the bytes that were asked was read
@@ -114,8 +119,8 @@ module _ (seen out : List ℕ) (at n have : ℕ) (filled : IsFilled seen at out 
       let l = length-take-le n out bound in
       let le : n ≤ 29 = omega (arith, a) in
       elim (eq-or-lt_of_le le) [
-        inl e ↦ subst (λ (l : List ℕ). FieldsBreak head_fields l at found) (sym splits) (breaks_more head_fields (take n out) (drop n (window seen at have)) at found b (let w = head-widths in omega (arith, w, l, e)))
-      | inr lt ↦ subst (λ (l : List ℕ). FieldsBreak head_fields l at found) (sym (splits ∙ ap (λ (l : List ℕ). take n out ++ l) (nothing_behind seen at n have (omega (arith, a, lt))) ∙ append-nil (take n out))) b
+        | inl e ↦ subst (λ (l : List ℕ). FieldsBreak head_fields l at found) (sym splits) (breaks_more head_fields (take n out) (drop n (window seen at have)) at found b (let w = head-widths in omega (arith, w, l, e)))
+        | inr lt ↦ subst (λ (l : List ℕ). FieldsBreak head_fields l at found) (sym (splits ∙ ap (λ (l : List ℕ). take n out ++ l) (nothing_behind seen at n have (omega (arith, a, lt))) ∙ append-nil (take n out))) b
       ]
 
 -- a head has 29 bytes

@@ -1,7 +1,6 @@
 -- A run as far as it is read, and its first harm.
-use Rattle.std.proofs.Common.{◌≡◌, ◌⊎◌, ℕ, ◌+◌, ◌-◌, ◌<◌, ◌≤◌, List, [], ◌∷◌, ◌++◌, length, take, drop, min, max, refl, sym, ap, ◌∙◌, subst, inl, inr, arith, length-append, length-drop, append_assoc}
+use Rattle.std.proofs.Common.{◌≡◌, ℕ, ◌+◌, ◌-◌, ◌<◌, ◌≤◌, List, [], ◌∷◌, ◌++◌, length, take, drop, min, max, sym, ap, ◌∙◌, subst, inl, inr, arith, length-append, length-drop, append_assoc}
 use Rattle.std.proofs.lemmas.List.{take-append-drop, drop-drop, append-nil, take_all}
-use Rattle.std.proofs.Math.ListN.{drop_of_length-le}
 use Rattle.std.proofs.Math.Nat.{eq-or-lt_of_le}
 use Rattle.std.proofs.Math.Seq.{drop-append_seam}
 use Rattle.std.specs.List.{AllByRecursion}
@@ -13,8 +12,8 @@ use Rattle.swh_format.proofs.RunAppends.{coded_run-append}
 use Rattle.swh_format.proofs.Lengths.{object-length}
 use Rattle.swh_recovery.specs.declared.harm.Harm.TheVariants.{Short}
 use Rattle.swh_recovery.specs.declared.harm.Found.{Found}
-use Rattle.swh_recovery.specs.Fields.{found_at, FieldsBreak}
-use Rattle.swh_recovery.specs.StoreHarm.{head_fields, ObjectBreaks, AreObjects, BeginsRun, HoldsRun, RunBreaks}
+use Rattle.swh_recovery.specs.Fields.{found_at}
+use Rattle.swh_recovery.specs.StoreHarm.{ObjectBreaks, AreObjects, HoldsRun, RunBreaks}
 use Rattle.swh_recovery.specs.Reading.{window, BeginsWith}
 
 all_push : {X : Type 0} (P : X → Type 0) (xs : List X) (y : X) → AllByRecursion P xs → P y → AllByRecursion P (xs ++ y ∷ [])
@@ -59,10 +58,10 @@ objects_next id_of es e are good codable = record {
 same_window : (seen : List ℕ) (place to : ℕ) → window seen place (to - place) ≡ window seen place (min to (length seen) - place)
 same_window seen place to =
     elim (eq-or-lt_of_le {n = min to (length seen)} {m = to} (omega arith)) [
-      inl e ↦ ap (λ (n : ℕ). take (n - place) (drop place seen)) (sym e)
-    | inr lt ↦
-        let size = length-drop place seen in
-        take_all (to - place) (drop place seen) (omega (arith, size, lt)) ∙ sym (take_all (min to (length seen) - place) (drop place seen) (omega (arith, size, lt)))
+      | inl e ↦ ap (λ (n : ℕ). take (n - place) (drop place seen)) (sym e)
+      | inr lt ↦
+          let size = length-drop place seen in
+          take_all (to - place) (drop place seen) (omega (arith, size, lt)) ∙ sym (take_all (min to (length seen) - place) (drop place seen) (omega (arith, size, lt)))
     ]
 
 module _ (id_of : Kind → List ℕ → List ℕ) (seen : List ℕ) (es : List Entry) (from to place : ℕ) (place_is : place ≡ from + length (coded_run es)) (objects : AreObjects id_of es) (begins : drop from seen ≡ coded_run es ++ drop place seen) where

@@ -1,13 +1,13 @@
 -- Records as far as they are read, and the next one.
-use Rattle.std.proofs.Common.{◌≡◌, ◌⊎◌, ℕ, ◌+◌, ◌-◌, ◌<◌, ◌≤◌, ◌^◌, List, [], ◌∷◌, ◌++◌, length, take, drop, refl, sym, ap, ◌∙◌, subst, inl, inr, arith, length-append, append_assoc}
-use Rattle.std.proofs.lemmas.List.{drop-drop, append-nil}
+use Rattle.std.proofs.Common.{◌≡◌, ℕ, ◌+◌, ◌-◌, List, [], ◌∷◌, ◌++◌, length, drop, refl, sym, ap, ◌∙◌, subst, inl, inr, arith, length-append, append_assoc}
+use Rattle.std.proofs.lemmas.List.{append-nil}
 use Rattle.std.proofs.Math.Seq.{drop-append_seam}
 use Rattle.std.specs.List.{AllByRecursion}
 use Rattle.swh_base.specs.declared.kind.Kind.{Kind}
 use Rattle.swh_model.specs.declared.event.Event.{Event}
 use Rattle.swh_object.specs.Object.{IsObject}
 use Rattle.swh_format.specs.declared.frame.RecordParts.{RecordParts}
-use Rattle.swh_format.specs.Record.{magic, framed}
+use Rattle.swh_format.specs.Record.{magic}
 use Rattle.swh_format.specs.EventRecord.{packed_objects, coded_record, IsCodable, AreCodable}
 use Rattle.swh_format.specs.Stands.{coded_records, coded_runs}
 use Rattle.swh_format.proofs.HistoryFiles.{codable-push}
@@ -17,7 +17,7 @@ use Rattle.swh_recovery.specs.declared.record.Record.{Record}
 use Rattle.swh_recovery.specs.declared.reading.Reached.{Reached}
 use Rattle.swh_recovery.specs.Fields.{found_at}
 use Rattle.swh_recovery.specs.LedgerHarm.{RecordBreaks}
-use Rattle.swh_recovery.specs.Harms.{entries_of, Begin, NextBreaks, BreaksAfter}
+use Rattle.swh_recovery.specs.Harms.{entries_of, Begin, NextBreaks}
 use Rattle.swh_recovery.specs.Records.{event_of, events, IsRecordOfEvent, AreRecords, records_of, EventBreaks, IsEventRead, IsReadSoFar, BreaksNext}
 
 records-push : (at : ℕ) (g : List Event) (e : Event) (rest : List ℕ) → coded_records at (g ++ e ∷ []) ++ rest ≡ coded_records at g ++ 1 ∷ (coded_record (at + length (coded_runs g)) e ++ rest)
@@ -54,9 +54,11 @@ placed-push gate start (s ∷ rs) r h one =
     let e = event_of s in
     let next = start + length (packed_objects e.what) in
     let gates : gate + length (1 ∷ (coded_record start e ++ coded_records next (events rs))) ≡ gate + (1 + length (coded_record start e)) + length (coded_records next (events rs)) = omega (arith, length-append (coded_record start e) (coded_records next (events rs))) in
-    let places : start + length (packed_objects e.what ++ coded_runs (events rs)) ≡ next + length (coded_runs (events rs)) = omega (arith, length-append (packed_objects e.what) (coded_runs (events rs))) in
-    (h.0, placed-push (gate + (1 + length (coded_record start e))) next rs r h.1
-        (subst (λ (n : ℕ). IsRecordOfEvent n (next + length (coded_runs (events rs))) r) gates (subst (λ (n : ℕ). IsRecordOfEvent (gate + length (1 ∷ (coded_record start e ++ coded_records next (events rs)))) n r) places one)))
+    let places : start + length (packed_objects e.what ++ coded_runs (events rs)) ≡ next + length (coded_runs (events rs)) = omega (arith, length-append (packed_objects e.what) (coded_runs (events rs))) in (
+      h.0,
+      placed-push (gate + (1 + length (coded_record start e))) next rs r h.1
+          (subst (λ (n : ℕ). IsRecordOfEvent n (next + length (coded_runs (events rs))) r) gates (subst (λ (n : ℕ). IsRecordOfEvent (gate + length (1 ∷ (coded_record start e ++ coded_records next (events rs)))) n r) places one)),
+    )
 
 -- What is told of a history, up to these places.
 record AreParts (id_of : Kind → List ℕ → List ℕ) (ledger store : List ℕ) (gate end : ℕ) (h : List Event) : Type 0 where
@@ -80,13 +82,16 @@ module _ (id_of : Kind → List ℕ → List ℕ) (ledger store : List ℕ) (old
 
   next_breaks : (file : ℕ) (found : Found) → NextBreaks id_of (length old.records.items + 1) old.gate old.end (drop old.gate ledger) store file found → BreaksNext id_of ledger store old file found
   unfolding fronts
-  next_breaks file found next = (record {
-    fronts = fronts;
-    next =
-        subst (λ (n : ℕ). NextBreaks id_of (n + 1) (8 + length (coded_records 0 (events old.records.items))) (length (coded_runs (events old.records.items))) (drop old.gate ledger) store file found) (sym (length-events old.records.items))
-        (subst (λ (n : ℕ). NextBreaks id_of (length old.records.items + 1) n (length (coded_runs (events old.records.items))) (drop old.gate ledger) store file found) so_far.gate_is
-        (subst (λ (n : ℕ). NextBreaks id_of (length old.records.items + 1) old.gate n (drop old.gate ledger) store file found) so_far.end_is next));
-  }, so_far.placed)
+  next_breaks file found next = (
+    record {
+      fronts = fronts;
+      next =
+          subst (λ (n : ℕ). NextBreaks id_of (n + 1) (8 + length (coded_records 0 (events old.records.items))) (length (coded_runs (events old.records.items))) (drop old.gate ledger) store file found) (sym (length-events old.records.items))
+          (subst (λ (n : ℕ). NextBreaks id_of (length old.records.items + 1) n (length (coded_runs (events old.records.items))) (drop old.gate ledger) store file found) so_far.gate_is
+          (subst (λ (n : ℕ). NextBreaks id_of (length old.records.items + 1) old.gate n (drop old.gate ledger) store file found) so_far.end_is next));
+    },
+    so_far.placed,
+  )
 
   pub no_gate : (found : Found) → drop old.gate ledger ≡ [] → found ≡ found_at old.gate (Short 0 1) → BreaksNext id_of ledger store old 0 found
   no_gate found none is = next_breaks 0 found (inl (record { none = none; file_is = refl; found_is = is }))

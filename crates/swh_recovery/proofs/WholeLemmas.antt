@@ -1,5 +1,5 @@
 -- The record of an opening or a mark.
-use Rattle.std.proofs.Common.{◌≡◌, ◌≢◌, ◌⊎◌, ℕ, ◌+◌, ◌<◌, ◌^◌, List, [], ◌∷◌, ◌++◌, length, drop, refl, sym, ap, ◌∙◌, subst, inl, inr, arith}
+use Rattle.std.proofs.Common.{◌≡◌, ◌≢◌, ℕ, List, [], ◌++◌, length, drop, refl, sym, ap, ◌∙◌, subst, inr, arith}
 use Rattle.std.specs.List.{AllByRecursion}
 use Rattle.std.specs.Int.{w32, to_be_bytes}
 use Rattle.swh_base.specs.declared.kind.Kind.{Kind}
@@ -16,7 +16,7 @@ use Rattle.swh_format.specs.EventRecord.{event_byte, event_payload, packed_objec
 use Rattle.swh_recovery.specs.declared.harm.Found.{Found}
 use Rattle.swh_recovery.specs.declared.record.Record.{Record}
 use Rattle.swh_recovery.specs.Harms.{entries_of}
-use Rattle.swh_recovery.specs.Records.{kind_of_told, event_of, records_of, IsWholeRecord, IsEventRead, EventBreaks, IsWholeRead, IsNotTold}
+use Rattle.swh_recovery.specs.Records.{kind_of_told, event_of, IsWholeRecord, IsEventRead, EventBreaks, IsWholeRead, IsNotTold}
 
 -- What is told wherever a run would begin.
 record ToldWhole (start kind : ℕ) (rest : List ℕ) (what : EventKind) : Type 0 where

@@ -1,5 +1,5 @@
 -- The first harm of an archive's two files, with its place, and the records before it.
-use Rattle.std.specs.Prelude.{◌≡◌, ◌≢◌, ◌⊎◌, ◌+◌, ◌<◌, ℕ, List, [], ◌∷◌, ◌++◌, length, take, drop, get_or, map}
+use Rattle.std.specs.Prelude.{◌≡◌, ◌≢◌, ◌⊎◌, ◌+◌, ◌<◌, ℕ, List, [], ◌∷◌, ◌++◌, length, take, drop, get_or}
 use Rattle.std.specs.List.{AllByRecursion}
 use Rattle.swh_base.specs.declared.kind.Kind.{Kind}
 use Rattle.swh_base.specs.declared.entry.Entry.{Entry}
@@ -10,7 +10,6 @@ use Rattle.swh_object.specs.Object.{IsObject}
 use Rattle.swh_format.specs.Record.{magic}
 use Rattle.swh_format.specs.EventRecord.{event_byte, payload_of, packed_objects, IsCodable, AreCodable}
 use Rattle.swh_format.specs.Stands.{coded_records, coded_runs}
-use Rattle.swh_recovery.specs.declared.harm.Harm.{Harm}
 use Rattle.swh_recovery.specs.declared.harm.Harm.TheVariants.{Magic, Short, Refused}
 use Rattle.swh_recovery.specs.declared.harm.Found.{Found}
 use Rattle.swh_recovery.specs.Fields.{found_at, FieldsHold}

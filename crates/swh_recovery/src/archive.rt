@@ -60,10 +60,7 @@ fn check_magic(ledger: &[u8]) -> Result<(), Found>
     for i in 0..8 {
         if ledger[i] != MAGIC[i] {
             let harm = Harm::Magic { found: ledger[i] };
-            return Err(Found {
-                at: i as u64,
-                harm,
-            });
+            return Err(Found { at: i as u64, harm });
         }
     }
     Ok(())

@@ -49,10 +49,7 @@ fn is_told_exactly(told: &RunTold<'_>, start: u64, number: usize) -> bool
     ensures yes { IsTrue result → IsToldExactly start number told.now }
     ensures no { IsToldExactly start number told.now → IsTrue result }
 {
-    told.from == start
-        && start <= told.to
-        && told.number as usize == number
-        && told.left.is_empty()
+    told.from == start && start <= told.to && told.number as usize == number && told.left.is_empty()
 }
 
 // The record of a batch, and where its run ends in the store.

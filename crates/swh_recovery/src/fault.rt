@@ -5,7 +5,6 @@ ghost use Rattle.swh_recovery.specs.declared.fault.ReadFault.TheVariants.{
   Memory as OutOfMemory,
   Harmed,
 };
-
 ghost use Rattle.swh_recovery.specs.declared.fault.NextFault.TheVariants.{Memory as NoMemory};
 
 use crate::harm::Found;

@@ -5,21 +5,19 @@
 //! and files with a harm stand for no history.
 #![tactic(auto)]
 
+mod archive;
+mod event;
 mod fault;
 mod field;
 mod frame;
-
 mod harm;
 mod laws;
 mod object;
-mod archive;
-mod event;
 mod reading;
 mod record;
 mod run;
 
-
+pub use archive::{ReadAllFault, read_all};
 pub use harm::Harm;
 pub use laws::{an_event_does_not_break, records_are_one};
 pub use record::Record;
-pub use archive::{ReadAllFault, read_all};

@@ -41,12 +41,14 @@ fn expect_harm(
     requires made { slice_index ledger.now 0 ≡ 83 }
 {
     match read(alloc, ledger, store)? {
-        Err(ReadAllFault::Damaged {
-            file: found_file,
-            at: found_at,
-            harm: found,
-            before: records,
-        }) => {
+        Err(
+            ReadAllFault::Damaged {
+                file: found_file,
+                at: found_at,
+                harm: found,
+                before: records,
+            },
+        ) => {
             assert!(rt; found_file == file);
             assert!(rt; found_at == at);
             assert!(rt; found == harm);
@@ -261,7 +263,7 @@ fn no_url(rt: HostRuntime) -> Result<(), Fail> {
     expect_harm(
         &rt,
         rt.alloc(),
-        b"SWHARC1\x0a\x01O\x00\x00\x00\x0f\x00\x00\x00\x01\x01\x00\x00\x00\x00\x00\x00\x00\x01xx\x00",
+        b"SWHARC1\x0a\x01O\x00\x00\x00\x0f\x00\x00\x00\x01\x01\x00\x00\x00\x00\x00\x00\x00\x01a\x01\x00",
         b"",
         0,
         8,
@@ -275,7 +277,7 @@ fn second_refused(rt: HostRuntime) -> Result<(), Fail> {
     expect_harm(
         &rt,
         rt.alloc(),
-        b"SWHARC1\x0a\x01O\x00\x00\x00\x1c\x00\x00\x00\x01\x01\x00\x00\x00\x00;\x9a\xca\x00https://e.org/p\x01O\x00\x00\x00\x0f\x00\x00\x00\x01\x01\x00\x00\x00\x00\x00\x00\x00\x01xx\x00",
+        b"SWHARC1\x0a\x01O\x00\x00\x00\x1c\x00\x00\x00\x01\x01\x00\x00\x00\x00;\x9a\xca\x00https://e.org/p\x01O\x00\x00\x00\x0f\x00\x00\x00\x01\x01\x00\x00\x00\x00\x00\x00\x00\x01a\x01\x00",
         b"",
         0,
         42,

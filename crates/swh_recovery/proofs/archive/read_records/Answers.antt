@@ -1,8 +1,7 @@
-use Rattle.std.proofs.Common.{rules, ◌≡◌, false, ℕ, List, [], sym, ap, ◌∙◌, subst}
-use Rattle.std.specs.Global.{Vec}
+use Rattle.std.proofs.Common.{rules, ◌≡◌, false, sym, subst}
 use Rattle.swh_outside.specs.Disk.{File}
 use Rattle.swh_recovery.specs.declared.archive.ReadAllFault.{ReadAllFault}
-use Rattle.swh_recovery.specs.Records.{IfNextHarmed, IsReadSoFar, BreaksNext, AreRead, IsHarm}
+use Rattle.swh_recovery.specs.Records.{IfNextHarmed, IsReadSoFar, BreaksNext, IsHarm}
 use Rattle.swh_recovery.specs.Answers.{IfDamaged}
 use Rattle.swh_recovery.proofs.AllLemmas.{all_read, next_harmed}
 use Rattle.swh_recovery.proofs.archive.read_records.Goals as goal

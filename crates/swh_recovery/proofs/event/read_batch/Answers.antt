@@ -1,10 +1,7 @@
-use Rattle.std.proofs.Common.{rules, ◌≡◌, ℕ, List, ◌≤◌, true, false, length, refl, sym, ap, ◌∙◌, subst, arith}
-use Rattle.swh_base.specs.declared.entry.Entry.{Entry}
+use Rattle.std.proofs.Common.{rules, ◌≡◌, ℕ, true, false, length, refl, sym, ap, ◌∙◌, subst}
 use Rattle.swh_recovery.specs.declared.harm.Found.{Found}
-use Rattle.swh_recovery.specs.declared.fault.ReadFault.{ReadFault}
 use Rattle.swh_recovery.specs.declared.fault.NextFault.{NextFault}
-use Rattle.swh_recovery.specs.Reading.{IfHarmed}
-use Rattle.swh_recovery.specs.Records.{in_file, IfNextHarmed, IsToldExactly, EventBreaks}
+use Rattle.swh_recovery.specs.Records.{IfNextHarmed, IsToldExactly, EventBreaks}
 use Rattle.swh_recovery.proofs.NextLemmas.{in_file_harmed}
 use Rattle.swh_recovery.proofs.EventLemmas.{run_harm, run_refused, end_of, payload_told, codable_batch, ledger_told, run_told}
 use Rattle.swh_recovery.proofs.event.read_batch.Goals as goal

@@ -1,4 +1,4 @@
-use Rattle.std.proofs.Common.{rules, ◌≡◌, ℕ, ◌+◌, ◌<◌, ◌^◌, ◌∷◌, ◌++◌, length, arith}
+use Rattle.std.proofs.Common.{rules, ◌≡◌, ◌+◌, ◌<◌, ◌^◌, ◌∷◌, ◌++◌, length, arith}
 use Rattle.std.specs.Int.{w32, to_be_bytes}
 use Rattle.swh_format.proofs.RecordFronts.{record_joined}
 use Rattle.swh_recovery.specs.declared.field.Choice.TheVariants as choice

@@ -1,9 +1,9 @@
-use Rattle.std.proofs.Common.{rules, ◌≡◌, ◌≤◌, ℕ, List, take, min, length, arith}
+use Rattle.std.proofs.Common.{◌≡◌, take, min, length, arith}
 use Rattle.std.proofs.lemmas.Grind.{common_steps}
 use Rattle.std.proofs.lemmas.List.{length-take-le}
 use Rattle.swh_recovery.specs.Fields.{FieldsBreak}
 use Rattle.swh_recovery.specs.StoreHarm.{head_fields}
-use Rattle.swh_recovery.specs.Reading.{IfHarmed, window, IsHeadOf}
+use Rattle.swh_recovery.specs.Reading.{IsHeadOf}
 use Rattle.swh_recovery.specs.declared.fault.ReadFault.TheVariants.{Harmed}
 use Rattle.swh_recovery.proofs.FrameLemmas.{exits}
 use Rattle.swh_recovery.proofs.ObjectLemmas.{head_begins, head_breaks, head_long}

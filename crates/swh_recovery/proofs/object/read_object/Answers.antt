@@ -1,7 +1,7 @@
-use Rattle.std.proofs.Common.{rules, ◌≡◌, ◌≤◌, ◌+◌, ℕ, List, ap, ◌∙◌, sym, arith}
+use Rattle.std.proofs.Common.{◌≡◌, ◌+◌, ap, ◌∙◌}
 use Rattle.swh_outside.specs.Disk.{File}
 use Rattle.swh_recovery.specs.declared.harm.Found.{Found}
-use Rattle.swh_recovery.specs.Reading.{IfHarmed, window}
+use Rattle.swh_recovery.specs.Reading.{window}
 use Rattle.swh_recovery.proofs.FrameLemmas.{exits}
 use Rattle.swh_recovery.proofs.BodyLemmas.{harmed_map, size_harms, body_harms, begins_with}
 use Rattle.swh_recovery.proofs.object.read_object.Goals as goal

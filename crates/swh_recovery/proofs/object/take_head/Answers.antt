@@ -1,5 +1,4 @@
-use Rattle.std.proofs.Common.{rules, ◌≡◌, ℕ, ◌+◌, ◌<◌, ◌^◌, List, ◌∷◌, ◌++◌, length, arith, refl, sym}
-use Rattle.std.proofs.lemmas.Grind.{common_steps}
+use Rattle.std.proofs.Common.{rules, ◌≡◌, ◌+◌, ◌<◌, ◌^◌, ◌∷◌, ◌++◌, length, refl}
 use Rattle.std.specs.Int.{w64, to_be_bytes}
 use Rattle.swh_recovery.specs.declared.field.Choice.TheVariants as choice
 use Rattle.swh_recovery.specs.Fields.{choices, IsAmong, IsCut}

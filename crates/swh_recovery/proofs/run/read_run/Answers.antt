@@ -1,4 +1,4 @@
-use Rattle.std.proofs.Common.{rules, ◌≡◌, ◌≤◌, ◌<◌, ◌+◌, ◌-◌, ◌∷◌, ◌++◌, [], ℕ, List, length, min, max, drop, ap, ◌∙◌, sym, subst, arith}
+use Rattle.std.proofs.Common.{rules, ◌≡◌, ◌≤◌, ◌+◌, ◌-◌, ◌∷◌, ◌++◌, [], ℕ, List, length, min, drop, ap, ◌∙◌, sym, subst, arith}
 use Rattle.swh_base.specs.declared.entry.Entry.{Entry}
 use Rattle.swh_outside.specs.Disk.{File}
 use Rattle.swh_format.specs.StoredObject.{coded_run}
@@ -25,9 +25,9 @@ returns-in_err-entry-clause-harm g c told =
     exits _ _ c.in_err-entry.field-0.0 c.from_residual.ensures.1
     (harmed_map c.in_err-entry.field-0.0 _ _
     (λ (x : Found). λ h.
-        run_breaks g.N.Namer.id_of seen c.objects.entries.items c.args.from c.args.to c.objects.place i.place_is i.objects (i.begins told) c.args.size x c.objects-test.true (c.requires.size told)
-        (subst (λ (n : ℕ). ObjectBreaks g.N.Namer.id_of (window seen c.objects.place (n - c.objects.place)) c.objects.place x) c.min-end.ensures
-        (subst (λ (f : File). ObjectBreaks g.N.Namer.id_of (window f.seen c.objects.place (c.min-end.result - c.objects.place)) c.objects.place x) (i.same told) h)))
+    run_breaks g.N.Namer.id_of seen c.objects.entries.items c.args.from c.args.to c.objects.place i.place_is i.objects (i.begins told) c.args.size x c.objects-test.true (c.requires.size told)
+    (subst (λ (n : ℕ). ObjectBreaks g.N.Namer.id_of (window seen c.objects.place (n - c.objects.place)) c.objects.place x) c.min-end.ensures
+    (subst (λ (f : File). ObjectBreaks g.N.Namer.id_of (window f.seen c.objects.place (c.min-end.result - c.objects.place)) c.objects.place x) (i.same told) h)))
     harm)
 
 pub objects-preserved : goal.objects-preserved
