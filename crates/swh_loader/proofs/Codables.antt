@@ -37,9 +37,9 @@ batch_fits h by entries by_fits each apart within no_cause =
     let fresh : run_length (not_held (replay h).bodies entries) ≡ run_length entries = ap run_length (fresh-same (replay h).bodies entries apart) in
     let end = store_length h + run_length (not_held (replay h).bodies entries) in
     let small : end ≤ file_limit = ⊎_elim
-        (λ (past : file_limit < end). absurd (no_cause (Limit Store end) (inr (refl, past))))
-        (λ (within : end ≤ file_limit). within)
-        (cases_lt file_limit end) in
+    (λ (past : file_limit < end). absurd (no_cause (Limit Store end) (inr (refl, past))))
+    (λ (within : end ≤ file_limit). within)
+    (cases_lt file_limit end) in
     let few = within.objects in
     let long = run-length entries in (
       by_fits,

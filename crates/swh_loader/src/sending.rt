@@ -12,11 +12,11 @@ use crate::stopping::stopped;
 use std::alloc::Global;
 use std::collections::VecDeque;
 use swh_base::{Entry, Items, Name, Namer};
+use swh_format::entries_are_codable;
 use swh_keeper::Keeper;
 use swh_model::Wish;
 use swh_object::Object;
 use swh_outside::Disk;
-use swh_format::entries_are_codable;
 
 /// How an entry stands to what is held.
 #[derive(Drop)]

@@ -10,10 +10,10 @@ use crate::fault::LoadWhy;
 use crate::stopping::stopped;
 use std::alloc::Global;
 use swh_base::{Namer, Status, Url, VisitKind};
+use swh_format::{origin_is_codable, snapshot_is_codable};
 use swh_keeper::Keeper;
 use swh_model::{Outcome, Wish};
 use swh_outside::Disk;
-use swh_format::{origin_is_codable, snapshot_is_codable};
 
 /// A visit that was opened: by whom, of which origin, when, and its number.
 #[derive(Clone, Copy)]
