@@ -48,7 +48,7 @@ fn push_child(kids: &mut Vec<Name>, child: Option<Name>) -> Result<(), Memory>
 fn children_of_entries(alloc: Global, entries: &[SpelledEntry<'_>]) -> Result<Vec<Name>, Memory>
     ensures { IfOk result (λ kids. kids.items ≡ filter_map directory_child entries.now) }
 {
-    let mut kids = Vec::new(alloc);
+    let mut kids = Vec::with_capacity(alloc, entries.len())?;
     for entry in entries {
         push_child(&mut kids, child_of_entry(entry))?;
     }
@@ -123,7 +123,7 @@ fn child_of_branch(branch: &SpelledBranch<'_>) -> Option<Name>
 fn children_of_branches(alloc: Global, branches: &[SpelledBranch<'_>]) -> Result<Vec<Name>, Memory>
     ensures { IfOk result (λ kids. kids.items ≡ filter_map snapshot_child branches.now) }
 {
-    let mut kids = Vec::new(alloc);
+    let mut kids = Vec::with_capacity(alloc, branches.len())?;
     for branch in branches {
         push_child(&mut kids, child_of_branch(branch))?;
     }
