@@ -24,8 +24,8 @@ use crate::record::Record;
 use crate::run::read_run;
 use std::alloc::Global;
 use swh_base::Namer;
-use swh_outside::Disk;
 use swh_format::{BatchParts, RecordParts, Told, read_told, split_four};
+use swh_outside::Disk;
 
 // A fault in the store.
 fn in_store(fault: ReadFault) -> NextFault

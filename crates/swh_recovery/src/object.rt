@@ -42,9 +42,9 @@ use crate::field::{Choice, cut, take_byte, take_bytes, take_eight};
 use crate::harm::{Found, Harm};
 use std::alloc::Global;
 use swh_base::{BODY_LIMIT, Entry, Kind, Namer, Shared};
+use swh_format::entry_is_codable;
 use swh_object::{Object, ObjectFault};
 use swh_outside::Disk;
-use swh_format::entry_is_codable;
 use swh_segment::fill;
 
 // What stands of an object before its body: a kind in a byte, the body's length in eight bytes, and the id in twenty.

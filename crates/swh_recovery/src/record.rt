@@ -1,7 +1,7 @@
 //! The records of a ledger, with what their runs hold.
 use swh_base::{Entry, Items};
-use swh_model::{Event, EventKind};
 use swh_format::Told;
+use swh_model::{Event, EventKind};
 
 /// A record with the objects of its run. `gate` is its gate's place in the ledger, in bytes from 0.
 #[derive(Drop)]
