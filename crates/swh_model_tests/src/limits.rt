@@ -1,3 +1,4 @@
+//! The limits of a batch, each exact and one above.
 use crate::told::begun;
 use std::alloc::Global;
 use std::test::Fail;
