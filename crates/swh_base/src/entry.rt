@@ -28,3 +28,11 @@ impl Entry {
         })
     }
 }
+
+// What another thread may be handed.
+fn is_sent<T: Send>(_value: &T) {}
+
+/// An entry may be handed to another thread.
+pub fn entry_is_sent(entry: &Entry) {
+    is_sent(entry)
+}

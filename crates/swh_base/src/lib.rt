@@ -23,7 +23,7 @@ mod url;
 mod visit;
 
 pub use bytes::Bytes;
-pub use entry::Entry;
+pub use entry::{Entry, entry_is_sent};
 pub use escaping::escape;
 pub use graph::Graph;
 pub use items::Items;

@@ -70,3 +70,11 @@ pub enum No {
     NotClosed { parent: Name, child: Name },
     Collision { name: Name },
 }
+
+// What another thread may be handed.
+fn is_sent<T: Send>(_value: &T) {}
+
+/// An event may be handed to another thread.
+pub fn event_is_sent(event: &Event) {
+    is_sent(event)
+}
