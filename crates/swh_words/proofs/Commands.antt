@@ -5,7 +5,7 @@ use Rattle.clap.specs.Words.{Row, Text, all_of, first_of, subcommand_of}
 use Rattle.swh_base.specs.declared.kind.Kind.{Kind}
 use Rattle.swh_base.specs.declared.kind.Kind.TheVariants.{Content, Directory, Revision, Release, Snapshot}
 use Rattle.swh_words.specs.Definition.{program_app}
-use Rattle.swh_words.specs.Words.{Wanted, ToInit, ToLoad, ToAsk, ToIdentify, AsksFor, IsCommand, IsGiven, IsOffered}
+use Rattle.swh_words.specs.Words.{Wanted, ToInit, ToLoad, ToAsk, ToCheck, ToIdentify, AsksFor, IsCommand, IsGiven, IsOffered}
 use Rattle.swh_base.specs.Kind.{kind_letters}
 use Rattle.swh_words.specs.declared.command.Command.{Command}
 use Rattle.swh_words.specs.declared.command.WordsFault.{WordsFault}
@@ -34,6 +34,7 @@ wanted_from name dir jobs kind paths path =
     if length name == 8 then ToIdentify (kind_from (unwrap_or kind [])) (unwrap_or path [])
     else if get_or name 0 0 == 105 then ToInit (unwrap_or dir [])
     else if get_or name 0 0 == 108 then ToLoad (unwrap_or dir []) (unwrap_or jobs [])
+    else if get_or name 0 0 == 99 then ToCheck (unwrap_or dir [])
     else ToAsk (unwrap_or dir []) (unwrap_or paths [])
 
 abbrev pub read : Text × List Row → Wanted
@@ -47,6 +48,8 @@ read-given given (ToLoad dir jobs) h =
     (λ i. wanted_from (h.0 i) (h.1 i) (h.2 i) (first_of (codes "kind") given.1) (all_of (codes "path") given.1) (first_of (codes "path") given.1))
 read-given given (ToAsk dir paths) h =
     (λ i. wanted_from (h.0 i) (h.1 i) (first_of (codes "jobs") given.1) (first_of (codes "kind") given.1) (h.2 i) (first_of (codes "path") given.1))
+read-given given (ToCheck dir) h =
+    (λ i. wanted_from (h.0 i) (h.1 i) (first_of (codes "jobs") given.1) (first_of (codes "kind") given.1) (all_of (codes "path") given.1) (first_of (codes "path") given.1))
 read-given given (ToIdentify kind path) h =
     (λ i. wanted_from (h.0 i) (first_of (codes "dir") given.1) (first_of (codes "jobs") given.1) (h.1 i) (all_of (codes "path") given.1) (h.2 i))
     ∙ ap (λ k. ToIdentify k path) (kind_from-kind_letters kind)

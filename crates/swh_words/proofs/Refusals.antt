@@ -7,12 +7,12 @@ use Rattle.clap.specs.Walk.{Row, Text}
 use Rattle.clap.specs.Simple.{subcommand_of}
 use Rattle.clap.specs.Words.{App, first_of}
 use Rattle.clap.proofs.OnLiterals.{clap_on_literals}
-use Rattle.swh_words.specs.Definition.{ask_app, identify_app, init_app, load_app, program_app}
+use Rattle.swh_words.specs.Definition.{ask_app, check_app, identify_app, init_app, load_app, program_app}
 use Rattle.swh_words.specs.Spelling.{IsNoFileKind, NamesNoKind}
-use Rattle.swh_words.specs.Words.{Wanted, ToInit, ToLoad, ToAsk, ToIdentify, AsksFor, IsCommand}
+use Rattle.swh_words.specs.Words.{Wanted, ToInit, ToLoad, ToAsk, ToCheck, ToIdentify, AsksFor, IsCommand}
 use Rattle.swh_words.proofs.Flags.{HasValuesOnly, is_clean, refused}
-use Rattle.swh_words.proofs.Subcommands.{Enters, ask_rows, built_sub, enters_ask, enters_identify, enters_init, enters_load, fault_in, only_ask, only_identify, only_init, only_load, rows_in}
-use Rattle.swh_words.proofs.Spelling.{IsAskedBy, ask_by, identify_by, init_by, load_by, named_by, taken_by}
+use Rattle.swh_words.proofs.Subcommands.{Enters, ask_rows, built_sub, enters_ask, enters_check, enters_identify, enters_init, enters_load, fault_in, only_ask, only_check, only_identify, only_init, only_load, rows_in}
+use Rattle.swh_words.proofs.Spelling.{IsAskedBy, ask_by, check_by, identify_by, init_by, load_by, named_by, taken_by}
 
 -- ---- words that are no command
 
@@ -45,6 +45,11 @@ ask_asks = ask_by (λ values. AsksNothing (codes "ask") ask_app values → ⊥) 
     (subst (λ (rows : List Row). AsksFor (codes "ask", rows) (ToAsk dir (path ∷ more))) (sym (ask_rows dir path more))
     (record { is_given = (refl, refl, refl); offered = omega arith })))
 
+check_asks : (values : List Text) → fault_in check_app true values ≡ [] → AsksNothing (codes "check") check_app values → ⊥
+unfolding clap_on_literals
+check_asks = check_by (λ values. AsksNothing (codes "check") check_app values → ⊥)
+    (λ dir none. none (ToCheck dir) (record { is_given = (refl, refl); offered = tt }))
+
 identify_asks : (values : List Text) → fault_in identify_app true values ≡ [] → AsksNothing (codes "identify") identify_app values
     → IsSomeAnd (first_of (codes "kind") (rows_in identify_app true values)) IsNoFileKind
 unfolding clap_on_literals
@@ -68,7 +73,8 @@ no_command words none = go (fault_of program_app words) refl
     go : (fault : Kinds) → fault_of program_app words ≡ fault → (fault_of program_app words ≢ []) ⊎ NamesNoKind words
     go [] clean = inr (taken_by NamesNoKindIfNone (named_asks (codes "init") init_app enters_init only_init init_asks)
         (named_asks (codes "load") load_app enters_load only_load load_asks)
-        (named_asks (codes "ask") ask_app enters_ask only_ask ask_asks) identify_names words clean
+        (named_asks (codes "ask") ask_app enters_ask only_ask ask_asks) (named_asks (codes "check") check_app enters_check only_check check_asks)
+        identify_names words clean
         (λ wanted asked. none wanted (record { taken = clean; asked = asked })))
     go (k ∷ rest) bad = inl (refused (fault_of program_app words) (ap is_clean bad))
 
@@ -82,6 +88,7 @@ names_no_command None wanted names asked = absurd names
 names_no_command (Some given) (ToInit dir) names asked = no_other_name given.0 (codes "init") (codes "identify") refl asked.is_given.0 names.0
 names_no_command (Some given) (ToLoad dir jobs) names asked = no_other_name given.0 (codes "load") (codes "identify") refl asked.is_given.0 names.0
 names_no_command (Some given) (ToAsk dir paths) names asked = no_other_name given.0 (codes "ask") (codes "identify") refl asked.is_given.0 names.0
+names_no_command (Some given) (ToCheck dir) names asked = no_other_name given.0 (codes "check") (codes "identify") refl asked.is_given.0 names.0
 names_no_command (Some given) (ToIdentify kind path) names asked =
     subst (λ (o : Option Text). IsSomeAnd o IsNoFileKind) asked.is_given.1 names.1 kind asked.offered refl
 

@@ -8,14 +8,14 @@ use Rattle.clap.specs.Walk.{Row, Text, idle, nothing_held, subcommand_met, walk_
 use Rattle.clap.specs.Simple.{names_of, subcommand_of}
 use Rattle.clap.specs.Words.{App, first_of}
 use Rattle.clap.proofs.OnLiterals.{clap_on_literals}
-use Rattle.swh_words.specs.Definition.{ask_app, identify_app, init_app, load_app, program_app}
+use Rattle.swh_words.specs.Definition.{ask_app, check_app, identify_app, init_app, load_app, program_app}
 use Rattle.swh_words.proofs.Commands.{kind_from, offered, read, read-given}
 use Rattle.swh_words.specs.Spelling.{is_flag, spelled_command, spelling_of, values_given}
-use Rattle.swh_words.specs.Words.{Wanted, ToInit, ToLoad, ToAsk, ToIdentify, AsksFor, IsCommand, IsGiven, IsOffered}
+use Rattle.swh_words.specs.Words.{Wanted, ToInit, ToLoad, ToAsk, ToCheck, ToIdentify, AsksFor, IsCommand, IsGiven, IsOffered}
 use Rattle.swh_base.specs.Kind.{kind_letters}
 use Rattle.swh_words.proofs.Flags.{HasValuesOnly, dashes, first_bad, first_clean, is_clean, refused, value_met, value_passes, word_refused}
 use Rattle.swh_words.proofs.Values.{given_by, some≢none, turned_by}
-use Rattle.swh_words.proofs.Subcommands.{Enters, ask_rows, ask_taken, built_sub, enters_ask, enters_identify, enters_init, enters_load, fault_in, identify_rows, identify_taken, init_rows, init_taken, load_rows, load_taken, only_ask, only_identify, only_init, only_load, program, reads, rows_in, taken_values}
+use Rattle.swh_words.proofs.Subcommands.{Enters, ask_rows, ask_taken, built_sub, check_rows, check_taken, enters_ask, enters_check, enters_identify, enters_init, enters_load, fault_in, identify_rows, identify_taken, init_rows, init_taken, load_rows, load_taken, only_ask, only_check, only_identify, only_init, only_load, program, reads, rows_in, taken_values}
 
 -- ---- words that spell a command are one
 
@@ -74,6 +74,10 @@ spelled_is_command (ToAsk dir (path ∷ more)) name rest values given same few o
     named_as rest values name (codes "ask") (dir ∷ path ∷ more) (ToAsk dir (path ∷ more)) same
     (command_of (codes "ask") ask_app rest (dir ∷ path ∷ more) _ (ToAsk dir (path ∷ more)) enters_ask only_ask (given_as rest values name _ _ given same)
     (ask_taken dir path more (omega arith)) (ask_rows dir path more) (record { is_given = (refl, refl, refl); offered = offered }))
+spelled_is_command (ToCheck dir) name rest values given same few offered =
+    named_as rest values name (codes "check") (dir ∷ []) (ToCheck dir) same
+    (command_of (codes "check") check_app rest (dir ∷ []) _ (ToCheck dir) enters_check only_check (given_as rest values name _ _ given same)
+    (check_taken dir) (check_rows dir) (record { is_given = (refl, refl); offered = offered }))
 spelled_is_command (ToIdentify kind path) name rest values given same few offered =
     named_as rest values name (codes "identify") (kind_letters kind ∷ path ∷ []) (ToIdentify kind path) same
     (command_of (codes "identify") identify_app rest (kind_letters kind ∷ path ∷ []) _ (ToIdentify kind path) enters_identify only_identify
@@ -114,6 +118,12 @@ ask_by Holds some [] clean = absurd (refused (fault_in ask_app true []) refl cle
 ask_by Holds some (dir ∷ []) clean = absurd (refused (fault_in ask_app true (dir ∷ [])) refl clean)
 ask_by Holds some (dir ∷ path ∷ more) clean = some dir path more
 
+pub check_by : (Holds : List Text → Type 0) → ((dir : Text) → Holds (dir ∷ [])) → (values : List Text) → fault_in check_app true values ≡ [] → Holds values
+unfolding clap_on_literals
+check_by Holds one [] clean = absurd (refused (fault_in check_app true []) refl clean)
+check_by Holds one (dir ∷ []) clean = one dir
+check_by Holds one (dir ∷ more ∷ rest) clean = absurd (refused (fault_in check_app true (dir ∷ more ∷ rest)) refl clean)
+
 pub identify_by : (Holds : List Text → Type 0) → ((kind path : Text) → Holds (kind ∷ path ∷ [])) → (values : List Text)
     → fault_in identify_app true values ≡ [] → Holds values
 unfolding clap_on_literals
@@ -145,6 +155,10 @@ ask_spells : (wanted : Wanted) (values : List Text) → fault_in ask_app true va
 ask_spells wanted = ask_by (Spells (codes "ask") ask_app wanted)
     (λ dir path more asked. ap spelled_command (read_as_wanted (codes "ask") _ _ wanted (ask_rows dir path more) asked))
 
+check_spells : (wanted : Wanted) (values : List Text) → fault_in check_app true values ≡ [] → Spells (codes "check") check_app wanted values
+check_spells wanted = check_by (Spells (codes "check") check_app wanted)
+    (λ dir asked. ap spelled_command (read_as_wanted (codes "check") _ _ wanted (check_rows dir) asked))
+
 -- the letters of what is identified are its kind's
 identify_letters : (rows : List Row) (letters path : Text) (wanted : Wanted) → first_of (codes "kind") rows ≡ Some letters
     → ToIdentify (kind_from letters) path ≡ wanted → IsGiven (codes "identify", rows) wanted
@@ -160,11 +174,12 @@ identify_spells wanted = identify_by (Spells (codes "identify") identify_app wan
     (read_as_wanted (codes "identify") _ _ wanted (identify_rows kind path) asked) asked.is_given)
 
 -- a word that names no subcommand is refused
-abbrev name_met : Bool → Bool → Bool → Bool → Option Text
-name_met is_init is_load is_ask is_identify = option_map (λ (s : Text × List Text). s.0)
+abbrev name_met : Bool → Bool → Bool → Bool → Bool → Option Text
+name_met is_init is_load is_ask is_check is_identify = option_map (λ (s : Text × List Text). s.0)
     (if is_init || false then Some (codes "init", [])
     else if is_load || false then Some (codes "load", [])
     else if is_ask || false then Some (codes "ask", [])
+    else if is_check || false then Some (codes "check", [])
     else if is_identify || false then Some (codes "identify", [])
     else None)
 
@@ -189,12 +204,12 @@ other_turn name none no_dashes = go (is_flag name) refl
         (value_passes program.top (names_of program) idle name nothing_held none no_dashes no_flag))
 
 other_name : (name : Text) (rest : List Text) → bytes_eq (codes "init") name ≡ false → bytes_eq (codes "load") name ≡ false
-    → bytes_eq (codes "ask") name ≡ false → bytes_eq (codes "identify") name ≡ false → fault_of program_app (name ∷ rest) ≡ [] → ⊥
+    → bytes_eq (codes "ask") name ≡ false → bytes_eq (codes "check") name ≡ false → bytes_eq (codes "identify") name ≡ false → fault_of program_app (name ∷ rest) ≡ [] → ⊥
 unfolding clap_on_literals
-other_name name rest no_init no_load no_ask no_identify clean = go (bytes_eq name dashes) refl
+other_name name rest no_init no_load no_ask no_check no_identify clean = go (bytes_eq name dashes) refl
   where
     none : subcommand_met (names_of program) idle name ≡ None
-    none = λ i. name_met (no_init i) (no_load i) (no_ask i) (no_identify i)
+    none = λ i. name_met (no_init i) (no_load i) (no_ask i) (no_check i) (no_identify i)
 
     go : (d : Bool) → bytes_eq name dashes ≡ d → ⊥
     go true same = refused (fault_of program_app (name ∷ rest))
@@ -215,19 +230,23 @@ pub taken_by : (Holds : List Text → Type 0)
     → ((rest : List Text) → fault_of program_app (codes "init" ∷ rest) ≡ [] → Holds (codes "init" ∷ rest))
     → ((rest : List Text) → fault_of program_app (codes "load" ∷ rest) ≡ [] → Holds (codes "load" ∷ rest))
     → ((rest : List Text) → fault_of program_app (codes "ask" ∷ rest) ≡ [] → Holds (codes "ask" ∷ rest))
+    → ((rest : List Text) → fault_of program_app (codes "check" ∷ rest) ≡ [] → Holds (codes "check" ∷ rest))
     → ((rest : List Text) → fault_of program_app (codes "identify" ∷ rest) ≡ [] → Holds (codes "identify" ∷ rest))
     → (words : List Text) → fault_of program_app words ≡ [] → Holds words
 unfolding clap_on_literals
-taken_by Holds of_init of_load of_ask of_identify [] clean = absurd (refused (fault_of program_app []) refl clean)
-taken_by Holds of_init of_load of_ask of_identify (name ∷ rest) clean = elim (same_or_not (codes "init") name) [
+taken_by Holds of_init of_load of_ask of_check of_identify [] clean = absurd (refused (fault_of program_app []) refl clean)
+taken_by Holds of_init of_load of_ask of_check of_identify (name ∷ rest) clean = elim (same_or_not (codes "init") name) [
   | inl same ↦ as_name (codes "init") of_init same
   | inr no_init ↦ elim (same_or_not (codes "load") name) [
     | inl same ↦ as_name (codes "load") of_load same
     | inr no_load ↦ elim (same_or_not (codes "ask") name) [
       | inl same ↦ as_name (codes "ask") of_ask same
-      | inr no_ask ↦ elim (same_or_not (codes "identify") name) [
-        | inl same ↦ as_name (codes "identify") of_identify same
-        | inr no_identify ↦ absurd (other_name name rest no_init no_load no_ask no_identify clean)
+      | inr no_ask ↦ elim (same_or_not (codes "check") name) [
+        | inl same ↦ as_name (codes "check") of_check same
+        | inr no_check ↦ elim (same_or_not (codes "identify") name) [
+          | inl same ↦ as_name (codes "identify") of_identify same
+          | inr no_identify ↦ absurd (other_name name rest no_init no_load no_ask no_check no_identify clean)
+        ]
       ]
     ]
   ]
@@ -266,6 +285,7 @@ command_is_spelled words wanted is = taken_by (SpellsWhatItIs wanted)
     (named_spells (codes "init") init_app wanted enters_init only_init (init_spells wanted))
     (named_spells (codes "load") load_app wanted enters_load only_load (load_spells wanted))
     (named_spells (codes "ask") ask_app wanted enters_ask only_ask (ask_spells wanted))
+    (named_spells (codes "check") check_app wanted enters_check only_check (check_spells wanted))
     (named_spells (codes "identify") identify_app wanted enters_identify only_identify (identify_spells wanted)) words is.taken is.asked
 
 pub spelled_words : (words : List Text) (wanted : Wanted) → length words < 2 ^ 64

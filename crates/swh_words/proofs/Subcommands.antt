@@ -13,7 +13,7 @@ use Rattle.clap.specs.Walk.{Held, Names, Row, Rule, Text, Walk, finished, idle, 
 use Rattle.clap.specs.Simple.{Shape, built, built_leaf, entered, inherited, marked_built, names_of, subcommand_of, with_leaf_noted}
 use Rattle.clap.specs.Words.{App}
 use Rattle.clap.proofs.OnLiterals.{clap_on_literals}
-use Rattle.swh_words.specs.Definition.{ask_app, identify_app, init_app, load_app, program_app}
+use Rattle.swh_words.specs.Definition.{ask_app, check_app, identify_app, init_app, load_app, program_app}
 use Rattle.swh_words.specs.Spelling.{values_given}
 use Rattle.swh_words.proofs.Flags.{HasValuesOnly, first_clean, or_else-nil, refused}
 use Rattle.swh_words.proofs.Values.{as_values, flags_refused, stands}
@@ -109,6 +109,13 @@ enters_ask = record {
   rows = λ rest. named_rows (codes "ask") rest refl;
 }
 
+pub enters_check : Enters (codes "check") check_app
+unfolding clap_on_literals
+enters_check = record {
+  fault = λ rest. named_fault (codes "check") rest refl refl ∙ or_else-nil (fault_in check_app false rest);
+  rows = λ rest. named_rows (codes "check") rest refl;
+}
+
 pub enters_identify : Enters (codes "identify") identify_app
 unfolding clap_on_literals
 enters_identify = record {
@@ -150,6 +157,9 @@ only_load = record { no_long = λ name. refl; no_short = λ c. refl; no_trail = 
 pub only_ask : HasValuesOnly (built_sub ask_app).rules
 only_ask = record { no_long = λ name. refl; no_short = λ c. refl; no_trail = (refl, (refl, tt)) }
 
+pub only_check : HasValuesOnly (built_sub check_app).rules
+only_check = record { no_long = λ name. refl; no_short = λ c. refl; no_trail = (refl, tt) }
+
 pub only_identify : HasValuesOnly (built_sub identify_app).rules
 only_identify = record { no_long = λ name. refl; no_short = λ c. refl; no_trail = (refl, (refl, tt)) }
 
@@ -175,6 +185,14 @@ pub load_rows : (dir jobs : Text)
     → rows_in load_app true (dir ∷ jobs ∷ []) ≡ given_row (codes "dir") (dir ∷ []) ∷ given_row (codes "jobs") (jobs ∷ []) ∷ []
 unfolding clap_on_literals
 load_rows dir jobs = refl
+
+pub check_taken : (dir : Text) → fault_in check_app true (dir ∷ []) ≡ []
+unfolding clap_on_literals
+check_taken dir = refl
+
+pub check_rows : (dir : Text) → rows_in check_app true (dir ∷ []) ≡ given_row (codes "dir") (dir ∷ []) ∷ []
+unfolding clap_on_literals
+check_rows dir = refl
 
 pub identify_taken : (kind path : Text) → fault_in identify_app true (kind ∷ path ∷ []) ≡ []
 unfolding clap_on_literals

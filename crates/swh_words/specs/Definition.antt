@@ -25,6 +25,10 @@ load_app = with_rule (with_rule (new_app (codes "load")) (one_word (codes "dir")
 abbrev pub ask_app : App
 ask_app = with_rule (with_rule (new_app (codes "ask")) (one_word (codes "dir"))) (some_words (codes "path"))
 
+-- `check` and a folder
+abbrev pub check_app : App
+check_app = with_rule (new_app (codes "check")) (one_word (codes "dir"))
+
 -- `identify`, a kind and a path
 abbrev pub identify_app : App
 identify_app = with_rule (with_rule (new_app (codes "identify")) (one_word (codes "kind"))) (one_word (codes "path"))
@@ -43,11 +47,12 @@ bare_shape s = record s {
 abbrev pub bare_app : App → App
 bare_app a = record a { top = bare_shape a.top }
 
--- the program: its four subcommands
+-- the program: its five subcommands
 abbrev pub program_app : App
 program_app =
     let bare = bare_app (new_app (codes "swharc")) in
-    with_subcommand (with_subcommand (with_subcommand (with_subcommand bare init_app.top) load_app.top) ask_app.top) identify_app.top
+    with_subcommand (with_subcommand (with_subcommand (with_subcommand (with_subcommand bare init_app.top) load_app.top) ask_app.top) check_app.top)
+    identify_app.top
 
 -- the command has this definition, and no argument that its subcommands share
 pub record IsDefinedAs (app : App) (command : Command) : Type 0 where

@@ -14,6 +14,8 @@ pub data Wanted : Type 0 where
   ToLoad : List ℕ → List ℕ → Wanted
   -- to ask the archive in a folder by paths
   ToAsk : List ℕ → List (List ℕ) → Wanted
+  -- to check the archive in a folder
+  ToCheck : List ℕ → Wanted
   -- to name the bytes of a file as a body of a kind
   ToIdentify : Kind → List ℕ → Wanted
 
@@ -24,6 +26,7 @@ IsGiven given (ToLoad dir jobs) =
     (given.0 ≡ codes "load") × (first_of (codes "dir") given.1 ≡ Some dir) × (first_of (codes "jobs") given.1 ≡ Some jobs)
 IsGiven given (ToAsk dir paths) =
     (given.0 ≡ codes "ask") × (first_of (codes "dir") given.1 ≡ Some dir) × (all_of (codes "path") given.1 ≡ Some paths)
+IsGiven given (ToCheck dir) = (given.0 ≡ codes "check") × (first_of (codes "dir") given.1 ≡ Some dir)
 IsGiven given (ToIdentify kind path) =
     (given.0 ≡ codes "identify") × (first_of (codes "kind") given.1 ≡ Some (kind_letters kind)) × (first_of (codes "path") given.1 ≡ Some path)
 
@@ -32,6 +35,7 @@ abbrev pub IsOffered : Wanted → Type 0
 IsOffered (ToInit dir) = Unit {0}
 IsOffered (ToLoad dir jobs) = Unit {0}
 IsOffered (ToAsk dir paths) = 0 < length paths
+IsOffered (ToCheck dir) = Unit {0}
 IsOffered (ToIdentify kind path) = kind ≢ Directory
 
 -- A subcommand's name and clap's values for it ask for this, which is offered.

@@ -14,6 +14,8 @@ pub enum Command<'a> {
     Load { dir: &'a str, jobs: &'a str },
     /// To ask the archive in a folder by paths, one or more.
     Ask { dir: &'a str, paths: Vec<&'a str> },
+    /// To check the archive in a folder.
+    Check { dir: &'a str },
     /// To name the bytes of a file as a body of a kind, which is no directory.
     Identify { kind: Kind, path: &'a str },
 }

@@ -8,6 +8,7 @@ ghost use Rattle.swh_words.specs.Definition.{
   init_app,
   load_app,
   ask_app,
+  check_app,
   identify_app,
   bare_app,
   program_app,
@@ -56,6 +57,12 @@ fn ask_command<'a>(alloc: Global) -> Result<Command<'a>, AllocError>
         .arg(some_words(alloc, "path"))
 }
 
+fn check_command<'a>(alloc: Global) -> Result<Command<'a>, AllocError>
+    ensures { IfOk result (IsDefinedAs check_app) }
+{
+    Command::new(alloc, "check").arg(one_word(alloc, "dir"))
+}
+
 fn identify_command<'a>(alloc: Global) -> Result<Command<'a>, AllocError>
     ensures { IfOk result (IsDefinedAs identify_app) }
 {
@@ -76,8 +83,8 @@ fn bare_command<'a>(alloc: Global) -> Command<'a>
         .subcommand_required(true)
 }
 
-/// The program's definition for clap: `init`, `load`, `ask` and `identify`, with their words. Fails where memory runs
-/// out.
+/// The program's definition for clap: `init`, `load`, `ask`, `check` and `identify`, with their words. Fails where
+/// memory runs out.
 pub fn program<'a>(alloc: Global) -> Result<Command<'a>, AllocError>
     ensures { IfOk result (IsDefinedAs program_app) }
 {
@@ -85,5 +92,6 @@ pub fn program<'a>(alloc: Global) -> Result<Command<'a>, AllocError>
         .subcommand(init_command(alloc)?)?
         .subcommand(load_command(alloc)?)?
         .subcommand(ask_command(alloc)?)?
+        .subcommand(check_command(alloc)?)?
         .subcommand(identify_command(alloc)?)
 }

@@ -105,6 +105,15 @@ fn ask_of<'a>(alloc: Global, values: &ArgMatches<'a>) -> Result<Command<'a>, Wor
     Ok(Command::Ask { dir, paths })
 }
 
+fn check_of<'a>(values: &ArgMatches<'a>) -> Result<Command<'a>, WordsFault>
+    ensures { Answers (AsksFor (codes "check", rows_of (found_of values.now))) result }
+{
+    let Some(dir) = value_of(values, "dir") else {
+        return Err(WordsFault::Words);
+    };
+    Ok(Command::Check { dir })
+}
+
 fn identify_of<'a>(values: &ArgMatches<'a>) -> Result<Command<'a>, WordsFault>
     ensures { Answers (AsksFor (codes "identify", rows_of (found_of values.now))) result }
 {
@@ -134,6 +143,8 @@ fn command_of<'a>(
         load_of(values)
     } else if name == "ask" {
         ask_of(alloc, values)
+    } else if name == "check" {
+        check_of(values)
     } else if name == "identify" {
         identify_of(values)
     } else {
