@@ -8,6 +8,8 @@ use Rattle.swh_model.proofs.OneHistory.{one_history}
 use Rattle.swh_format.proofs.Unique.{alike}
 use Rattle.swh_format.proofs.StandsFrom.{behind_magic}
 use Rattle.swh_segment.specs.Making.{IsMade, IsNotMade}
+use Rattle.swh_keeper.proofs.DamageLemmas.{is_damaged}
+use Rattle.swh_program.specs.Damage.{IsHarmedAt, TellsHarm}
 use Rattle.swh_program.specs.Opening.{IsArchive, IsDamagedArchive, IsUnusable, IsOpenRefusal, OpenEnds}
 use Rattle.swh_program.specs.declared.answer.Answer.{Answer}
 use Rattle.swh_program.specs.declared.answer.Answer.TheVariants.{NotMade, Damaged, OutsideDisk, Memory}
@@ -29,6 +31,16 @@ module _ (id_of : Kind → List ℕ → List ℕ) (files : Files) where
   pub one_archive : (g h : List Event) → IsArchive id_of files g → IsArchive id_of files h → g ≡ h
   one_archive g h a b = one_history id_of g h (alike (files 0).seen (files 1).seen g h a.stand b.stand) a.history b.history
 
+  -- a harm leaves no history
+  pub no_archive : (file at : ℕ) → IsHarmedAt id_of files file at → IsDamagedArchive id_of files
+  no_archive file at (harm, is) =
+      let d = is_damaged id_of (files 0).seen (files 1).seen file at harm is in
+      record { made = d.made; none = λ h a. d.none h a.stand a.history }
+
+  -- nor does one that is told
+  pub harmed : (text : List ℕ) → TellsHarm id_of files text → IsDamagedArchive id_of files
+  harmed text t = no_archive t.file t.at t.harmed
+
   -- and not one that cannot be used
   pub usable : (h : List Event) → IsArchive id_of files h → IsUnusable id_of files → ⊥
   usable h archive unusable =
@@ -37,7 +49,7 @@ module _ (id_of : Kind → List ℕ → List ℕ) (files : Files) where
   -- its opening is refused for a disk or for memory alone
   pub opening_of_archive : (new : Files) (h : List Event) → IsArchive id_of files h → (answer : Answer) → IsOpenRefusal answer → OpenEnds id_of files new answer → (answer ≡ OutsideDisk) ⊎ (answer ≡ Memory)
   opening_of_archive new h archive NotMade is ends = absurd (usable h archive (inl ends.0))
-  opening_of_archive new h archive Damaged is ends = absurd (usable h archive (inr ends.0))
+  opening_of_archive new h archive (Damaged text) is ends = absurd (usable h archive (inr (harmed text ends.0)))
   opening_of_archive new h archive OutsideDisk is ends = inl refl
   opening_of_archive new h archive Memory is ends = inr refl
   opening_of_archive new h archive _ is ends = absurd is

@@ -20,7 +20,7 @@ use Rattle.swh_program.specs.declared.answer.Ending.{Ending}
 use Rattle.swh_program.specs.declared.answer.Ending.TheVariants as ending
 use Rattle.swh_program.specs.declared.answer.Answer.{Answer}
 use Rattle.swh_program.specs.declared.answer.Answer.TheVariants.{Made, Told, AlreadyMade, NotMade, Damaged, OutsideDisk, Memory}
-use Rattle.swh_program.proofs.Archived.{not_both, usable, one_archive}
+use Rattle.swh_program.proofs.Archived.{not_both, usable, one_archive, harmed}
 use Rattle.swh_program.proofs.Replies.{same_replies, none_short}
 
 -- what an answer says, where it is done or memory ran out
@@ -94,7 +94,7 @@ module _ (id_of : Kind → List ℕ → List ℕ) (paths : List (List ℕ)) (old
   pub ask_done : (answer : Answer) → AskEnds id_of paths old new answer → (answer ≡ OutsideDisk → ⊥) → Tells (flat_map reply_line replies) (replies_status replies) answer
   ask_done (Told text end) ends no_disk = replies_ending replies text end (asked_replies text end ends)
   ask_done NotMade ends no_disk = absurd (usable id_of old h archive (inl ends.0))
-  ask_done Damaged ends no_disk = absurd (usable id_of old h archive (inr ends.0))
+  ask_done (Damaged text) ends no_disk = absurd (usable id_of old h archive (inr (harmed id_of old text ends.0)))
   ask_done OutsideDisk ends no_disk = absurd (no_disk refl)
   ask_done Memory ends no_disk = inl refl
   ask_done _ ends no_disk = absurd ends

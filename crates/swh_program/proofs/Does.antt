@@ -2,13 +2,15 @@
 use Rattle.std.proofs.Common.{◌≡◌, refl, ℕ, List, subst, arith, inl, inr}
 use Rattle.std.specs.List.{flat_map}
 use Rattle.swh_base.specs.declared.kind.Kind.{Kind}
-use Rattle.swh_words.specs.Words.{Wanted, ToInit, ToLoad, ToAsk, ToIdentify}
+use Rattle.swh_words.specs.Words.{Wanted, ToInit, ToLoad, ToAsk, ToCheck, ToIdentify}
 use Rattle.swh_program.specs.Seen.{Sink, Seen, Told, Same, Span}
 use Rattle.swh_program.specs.Answers.{last_line_of}
 use Rattle.swh_program.specs.Archives.{SameElsewhere, old_archive, new_archive}
 use Rattle.swh_program.specs.AskCommand.{Asks, DoesAsk, HasShortReply, reply_line}
+use Rattle.swh_program.specs.CheckCommand.{Checks, DoesCheck}
 use Rattle.swh_program.specs.Commands.{Does, Comes}
 use Rattle.swh_program.specs.Complete.{jobs_of_meant, all_made, full_lines}
+use Rattle.swh_program.specs.Damage.{damaged_line}
 use Rattle.swh_program.specs.IdentifyCommand.{Identifies, DoesIdentify, HasNoBody, name_of_bytes, name_line}
 use Rattle.swh_program.specs.InitCommand.{Inits, DoesInit}
 use Rattle.swh_program.specs.Jobs.{HasJobs, HasNoJobs, bad_job_line}
@@ -16,9 +18,12 @@ use Rattle.swh_program.specs.LeftAlone.{IsOnDepot, IsOnDesk, IsBeforeInputs, IsR
 use Rattle.swh_program.specs.LoadCommand.{inputs_of, givens_of, Loads, DoesLoad}
 use Rattle.swh_program.specs.Opening.{IsUnusable}
 use Rattle.swh_program.specs.Run.{IsTold, replies_status}
+use Rattle.swh_model.specs.Step.{replay}
 use Rattle.swh_segment.specs.Making.{IsMade}
 use Rattle.swh_program.specs.declared.answer.Answer.{Answer}
 use Rattle.swh_program.specs.declared.answer.Answer.TheVariants.{Made, NoJobFile, BadJob, NotMade, Damaged, OutsideDisk, OutsideSource, OutsideClock, Memory}
+use Rattle.swh_program.proofs.Checked.{check_statuses, check_archive, check_done, counts_with}
+use Rattle.swh_program.proofs.Damages.{ask_harm, check_harm, load_harm}
 use Rattle.swh_program.proofs.Completes.{told_with, told_unless, init_done, ask_done}
 use Rattle.swh_program.proofs.Ends.{safe}
 use Rattle.swh_program.proofs.Exacts.{init_statuses, ask_statuses, init_archive, ask_archive, ask_replies}
@@ -76,6 +81,13 @@ module _ (id_of : Kind → List ℕ → List ℕ) (told : Told) (seen : Seen) (s
     cause = λ e. absurd (no_disk e);
     left = on_depot;
   }
+  nothing_came (ToCheck dir) = record {
+    one_of = tt;
+    ends = λ t. inl refl;
+    elsewhere = λ t. same_elsewhere dir;
+    cause = λ e. absurd (no_disk e);
+    left = on_depot;
+  }
   nothing_came (ToIdentify kind path) = record {
     one_of = tt;
     ends = λ t. tt;
@@ -118,7 +130,7 @@ module _ (s : Span) (sink : Sink) (same_sink : Type 0) where
   refused_still (BadJob text) left = on_desk_still left
   refused_still OutsideSource left = on_desk_still left
   refused_still NotMade left = before_still left
-  refused_still Damaged left = before_still left
+  refused_still (Damaged text) left = before_still left
   refused_still OutsideDisk left = before_still left
   refused_still _ left = tt
 
@@ -146,6 +158,13 @@ comes_still (ToAsk dir paths) s sink same_sink answer a = record {
   elsewhere = a.elsewhere;
   cause = a.cause;
   left = on_depot_still s sink same_sink a.left;
+}
+comes_still (ToCheck dir) s sink same_sink answer c = record {
+  one_of = c.one_of;
+  ends = c.ends;
+  elsewhere = c.elsewhere;
+  cause = c.cause;
+  left = on_depot_still s sink same_sink c.left;
 }
 comes_still (ToIdentify kind path) s sink same_sink answer i = record {
   one_of = i.one_of;
@@ -175,6 +194,8 @@ does_load dir path s answer status told l =
       no_job = λ inputs. run_exactly answer s status 2 (HasNoJobs desk_at path) (omega arith) (load_job g desk_at path old new inputs answer l.ends) told;
       bad_line = λ line why inputs bad. told_unless (bad_job_line line why) 2 answer s status (load_bad g desk_at path old new inputs line why bad answer l.ends) told;
       unusable = λ inputs disks. run_exactly answer s status 3 (HasJobs desk_at path × IsUnusable s.id_of old) (omega arith) (load_archive g desk_at path old new inputs disks answer l.ends) told;
+      first_harm = λ file at inputs disks jobs harm.
+          told_unless (damaged_line file at) 3 answer s status (load_harm g old new file at harm disks desk_at path inputs jobs answer l.ends) told;
       job_first = λ inputs cause four. job_first answer s status (refused_job g desk_at path old new inputs cause answer l.ends) l.source_cause told four;
       archive_first = λ inputs disks cause four. archive_first answer s status (refused_archive g desk_at path old new inputs disks cause answer l.ends) l.disk_cause l.source_cause told four;
       by_lines = λ less. load_lines dir path s answer status l.ends (uncut answer s status (λ four. omega (arith, four, less)) told) less;
@@ -200,10 +221,25 @@ does_ask dir paths s answer status told a =
       ends = record { answer = answer; is_one = a; told = told };
       not_refused = run_never answer s status 2 3 (ask_statuses answer a.one_of) 2 (omega arith) (omega arith) (omega arith) told;
       unusable = λ t. run_exactly answer s status 3 (IsUnusable s.id_of old) (omega arith) (ask_archive s.id_of old new paths answer a.one_of (a.ends t)) told;
+      first_harm = λ file at t harm. told_unless (damaged_line file at) 3 answer s status (ask_harm s.id_of old file at harm new paths answer (a.ends t)) told;
       short_reply = λ h replies t archive are. run_exactly answer s status 1 (HasShortReply replies) (omega arith) (ask_replies s.id_of old new paths h replies archive are answer (a.ends t)) told;
       complete = λ h replies t archive are no_disk no_sink.
           told_with (flat_map reply_line replies) (replies_status replies) answer s status
           (ask_done s.id_of paths old new h replies archive are answer (a.ends t) (λ failed. no_disk (a.cause failed))) no_sink told;
+    }
+
+does_check : (dir : List ℕ) (s : Span) (answer : Answer) (status : ℕ) → IsTold answer s status → Checks dir s answer → DoesCheck dir s status
+does_check dir s answer status told c =
+    let old = old_archive dir s in
+    let new = new_archive dir s in
+    record {
+      ends = record { answer = answer; is_one = c; told = told };
+      not_wanting = run_never answer s status 1 3 (check_statuses s.id_of answer c.one_of) 1 (omega arith) (omega arith) (omega arith) told;
+      not_refused = run_never answer s status 1 3 (check_statuses s.id_of answer c.one_of) 2 (omega arith) (omega arith) (omega arith) told;
+      unusable = λ t. run_exactly answer s status 3 (IsUnusable s.id_of old) (omega arith) (check_archive s.id_of old new answer (c.ends t)) told;
+      first_harm = λ file at t harm. told_unless (damaged_line file at) 3 answer s status (check_harm s.id_of old file at harm new answer (c.ends t)) told;
+      complete = λ h t archive no_disk no_sink.
+          counts_with (replay h) answer s status (check_done s.id_of old new h archive answer (c.ends t) (λ failed. no_disk (c.cause failed))) no_sink told;
     }
 
 does_identify : (kind : Kind) (path : List ℕ) (s : Span) (answer : Answer) (status : ℕ) → IsTold answer s status → Identifies kind path s answer → DoesIdentify kind path s status
@@ -223,4 +259,5 @@ pub does : (wanted : Wanted) (s : Span) (answer : Answer) (status : ℕ) → IsT
 does (ToInit dir) s answer status told came = does_init dir s answer status told came
 does (ToLoad dir jobs) s answer status told came = does_load dir jobs s answer status told came
 does (ToAsk dir paths) s answer status told came = does_ask dir paths s answer status told came
+does (ToCheck dir) s answer status told came = does_check dir s answer status told came
 does (ToIdentify kind path) s answer status told came = does_identify kind path s answer status told came

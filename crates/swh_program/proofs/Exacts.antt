@@ -14,7 +14,7 @@ use Rattle.swh_program.specs.Opening.{IsArchive, IsUnusable, IsOpenRefusal, Open
 use Rattle.swh_program.specs.declared.answer.Ending.{Ending}
 use Rattle.swh_program.specs.declared.answer.Answer.{Answer}
 use Rattle.swh_program.specs.declared.answer.Answer.TheVariants.{Made, Told, AlreadyMade, NotMade, Damaged, OutsideDisk, Memory}
-use Rattle.swh_program.proofs.Archived.{not_both, usable}
+use Rattle.swh_program.proofs.Archived.{not_both, usable, harmed}
 use Rattle.swh_program.proofs.Completes.{asked_replies}
 use Rattle.swh_program.proofs.Replies.{none_short}
 
@@ -38,7 +38,7 @@ init_statuses _ is = absurd is
 pub ask_statuses : (answer : Answer) → IsAskAnswer answer → (status_of answer < 2) ⊎ (3 ≤ status_of answer)
 ask_statuses (Told text end) is = inl (replies_below end is.0 is.1.end_is)
 ask_statuses NotMade is = inr (omega arith)
-ask_statuses Damaged is = inr (omega arith)
+ask_statuses (Damaged text) is = inr (omega arith)
 ask_statuses OutsideDisk is = inr (omega arith)
 ask_statuses Memory is = inr (omega arith)
 ask_statuses _ is = absurd is
@@ -55,14 +55,14 @@ module _ (id_of : Kind → List ℕ → List ℕ) (old new : Files) where
   -- 3 of an opening that is refused
   pub refusal_exactly : (answer : Answer) → IsOpenRefusal answer → OpenEnds id_of old new answer → IsExactly 3 (IsUnusable id_of old) (status_of answer)
   refusal_exactly NotMade is ends = record { only = λ e. inl ends.0; there = λ cause. inl refl }
-  refusal_exactly Damaged is ends = record { only = λ e. inr ends.0; there = λ cause. inl refl }
+  refusal_exactly (Damaged text) is ends = record { only = λ e. inr (harmed id_of old text ends.0); there = λ cause. inl refl }
   refusal_exactly OutsideDisk is ends = stopped 3 4 (IsUnusable id_of old) (λ e. omega (arith, e)) (inr (inl refl))
   refusal_exactly Memory is ends = stopped 3 5 (IsUnusable id_of old) (λ e. omega (arith, e)) (inr (inr refl))
   refusal_exactly _ is ends = absurd is
 
   pub refusal_comes : (answer : Answer) → IsOpenRefusal answer → ComesTo 3 (status_of answer)
   refusal_comes NotMade is = inl refl
-  refusal_comes Damaged is = inl refl
+  refusal_comes (Damaged text) is = inl refl
   refusal_comes OutsideDisk is = inr (inl refl)
   refusal_comes Memory is = inr (inr refl)
   refusal_comes _ is = absurd is
@@ -75,7 +75,7 @@ module _ (id_of : Kind → List ℕ → List ℕ) (old new : Files) where
       there = λ cause. absurd (usable id_of old ends.history ends.archive cause);
     }
     ask_archive NotMade is ends = refusal_exactly NotMade is ends
-    ask_archive Damaged is ends = refusal_exactly Damaged is ends
+    ask_archive (Damaged text) is ends = refusal_exactly (Damaged text) is ends
     ask_archive OutsideDisk is ends = refusal_exactly OutsideDisk is ends
     ask_archive Memory is ends = refusal_exactly Memory is ends
     ask_archive _ is ends = absurd is
@@ -90,7 +90,7 @@ module _ (id_of : Kind → List ℕ → List ℕ) (old new : Files) where
       pub ask_replies : (answer : Answer) → AskEnds id_of paths old new answer → IsExactly 1 (HasShortReply replies) (status_of answer)
       ask_replies (Told text end) ends = exact_ending end (asked_replies id_of paths old new h replies archive are_replies text end ends).end_is
       ask_replies NotMade ends = absurd (usable id_of old h archive (inl ends.0))
-      ask_replies Damaged ends = absurd (usable id_of old h archive (inr ends.0))
+      ask_replies (Damaged text) ends = absurd (usable id_of old h archive (inr (harmed id_of old text ends.0)))
       ask_replies OutsideDisk ends = stopped 1 4 (HasShortReply replies) (λ e. omega (arith, e)) (inr (inl refl))
       ask_replies Memory ends = stopped 1 5 (HasShortReply replies) (λ e. omega (arith, e)) (inr (inr refl))
       ask_replies _ ends = absurd ends

@@ -22,7 +22,7 @@ module _ (s : Span) where
 
   open_refused : (answer : Answer) → (IsArchiveRefusal answer → IsBeforeInputs s) → IsOpenRefusal answer → IsRefusedInOrder s answer
   open_refused NotMade left is = left tt
-  open_refused Damaged left is = left tt
+  open_refused (Damaged text) left is = left tt
   open_refused OutsideDisk left is = left tt
   open_refused Memory left is = tt
   open_refused _ left is = absurd is

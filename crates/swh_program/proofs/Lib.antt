@@ -13,6 +13,8 @@ pub mod JobReads
 pub mod Archived
 pub mod Replies
 pub mod Completes
+pub mod Checked
+pub mod Damages
 pub mod LoadEndings
 pub mod Fulls
 pub mod OtherOrigins

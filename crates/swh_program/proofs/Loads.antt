@@ -139,7 +139,7 @@ module _ {D : Type 0} (g : Givens) (disks : Disks D) where
 
 pub refused_unloaded : (id_of : Kind → List ℕ → List ℕ) (tells : Type 0) (old new : Files) (answer : Answer) → IsOpenRefusal answer → (tells → OpenEnds id_of old new answer) → IsUnloaded id_of tells old new answer
 refused_unloaded id_of tells old new NotMade is ends = (tt, ends)
-refused_unloaded id_of tells old new Damaged is ends = (tt, ends)
+refused_unloaded id_of tells old new (Damaged text) is ends = (is, ends)
 refused_unloaded id_of tells old new OutsideDisk is ends = (tt, ends)
 refused_unloaded id_of tells old new Memory is ends = (tt, ends)
 refused_unloaded id_of tells old new _ is ends = absurd is

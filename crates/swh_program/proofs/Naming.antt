@@ -26,7 +26,7 @@ module _ (id_of : Kind → List ℕ → List ℕ) (kind : Kind) where
   told_file found line end (BadJob text) tells told = absurd told
   told_file found line end AlreadyMade tells told = absurd told
   told_file found line end NotMade tells told = absurd told
-  told_file found line end Damaged tells told = absurd told
+  told_file found line end (Damaged text) tells told = absurd told
   told_file found line end OutsideDisk tells told = absurd told
   told_file found line end OutsideSource tells told = absurd told
   told_file found line end OutsideClock tells told = absurd told

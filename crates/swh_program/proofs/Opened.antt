@@ -7,10 +7,14 @@ use Rattle.swh_model.specs.declared.event.Event.{Event}
 use Rattle.swh_format.specs.Stands.{StandsFor}
 use Rattle.swh_model.specs.Step.{IsHistory}
 use Rattle.swh_segment.specs.Making.{IsMade, IsNotMade, barriers}
-use Rattle.swh_keeper.specs.Opening.{IsOpeningFault, IsLeftFor, IsTheHistory, IsDamaged as IsDamagedIn}
+use Rattle.swh_keeper.specs.Opening.{IfDamaged, IsDamagedAt, IsOpeningFault, IsLeftFor, IsTheHistory}
 use Rattle.swh_keeper.specs.declared.opening.OpenWhy.{OpenWhy}
-use Rattle.swh_keeper.specs.declared.opening.OpenWhy.TheVariants.{Made, NotMade, Damaged, DiskFault, Memory}
-use Rattle.swh_program.specs.Opening.{IsArchive, IsOnlyOpened, OpenEnds, opening_refusal}
+use Rattle.swh_keeper.specs.declared.opening.OpenWhy.TheVariants as why
+use Rattle.swh_recovery.specs.declared.harm.Harm.{Harm}
+use Rattle.swh_program.specs.Damage.{damaged_line, TellsDamageLine}
+use Rattle.swh_program.specs.Opening.{IsArchive, IsOnlyOpened, IsRefusalFor, OpenEnds}
+use Rattle.swh_program.specs.declared.answer.Answer.{Answer}
+use Rattle.swh_program.specs.declared.answer.Answer.TheVariants.{Damaged, Memory}
 
 module _ (id_of : Kind → List ℕ → List ℕ) (ledger store : File) (old : Files) (given : files_of ledger store ≡ old) where
   ledger_seen : ledger.seen ≡ (old 0).seen
@@ -41,15 +45,25 @@ module _ (id_of : Kind → List ℕ → List ℕ) (ledger store : File) (old : F
   pub opened_here : (new : Files) → new ≡ files_done barriers (files_of ledger store) → IsOnlyOpened old new
   opened_here new calls = calls ∙ ap (files_done barriers) given
 
-  pub refused_here : (why : OpenWhy) (new taken : Files) → taken ≡ new → IsOpeningFault why → (why ≡ NotMade → IsNotMade ledger.seen)
-      → (why ≡ Damaged → IsDamagedIn id_of ledger.seen store.seen)
-      → IsLeftFor why (files_of ledger store) new → OpenEnds id_of old taken (opening_refusal why)
-  refused_here Made new taken e fault not_made damaged left = absurd fault
-  refused_here NotMade new taken e fault not_made damaged left = (subst IsNotMade ledger_seen (not_made refl), opened_here taken (e ∙ left))
-  refused_here Damaged new taken e fault not_made damaged left =
-      let d = damaged refl in
-      (record { made = made_here d.made; none = λ h a. d.none h (stands_here h a.stand) a.history }, opened_here taken (e ∙ left))
-  refused_here DiskFault new taken e fault not_made damaged (inl breaks) =
-      inr (subst (λ (f : Files). FilesBreaks barriers old f) (sym e) (subst (λ (f : Files). FilesBreaks barriers f new) given breaks))
-  refused_here DiskFault new taken e fault not_made damaged (inr done) = inl (inr (opened_here taken (e ∙ done)))
-  refused_here Memory new taken e fault not_made damaged left = inr (opened_here taken (e ∙ left))
+  -- a harm of what was opened is one of the archive
+  harm_here : (file at : ℕ) (harm : Harm) → IsDamagedAt id_of ledger.seen store.seen file at harm → IsDamagedAt id_of (old 0).seen (old 1).seen file at harm
+  harm_here file at harm d =
+      subst (λ (l : List ℕ). IsDamagedAt id_of l (old 1).seen file at harm) ledger_seen (subst (λ (l : List ℕ). IsDamagedAt id_of ledger.seen l file at harm) store_seen d)
+
+  -- the line of a harm is told, or memory for it ran out
+  harm_told : (file at : ℕ) (harm : Harm) (taken : Files) → IsDamagedAt id_of ledger.seen store.seen file at harm → IsOnlyOpened old taken → (answer : Answer) → TellsDamageLine (damaged_line file at) answer → OpenEnds id_of old taken answer
+  harm_told file at harm taken d opened (Damaged text) told = (record { file = file; at = at; harmed = (harm, harm_here file at harm d); text_is = told }, opened)
+  harm_told file at harm taken d opened Memory told = inr opened
+  harm_told file at harm taken d opened _ told = absurd told
+
+  pub refused_here : (why : OpenWhy) (new taken : Files) → taken ≡ new → IsOpeningFault why → (why ≡ why.NotMade → IsNotMade ledger.seen)
+      → IfDamaged why (IsDamagedAt id_of ledger.seen store.seen)
+      → IsLeftFor why (files_of ledger store) new → (answer : Answer) → IsRefusalFor why answer → OpenEnds id_of old taken answer
+  refused_here why.Made new taken e fault not_made damaged left answer is = absurd fault
+  refused_here why.NotMade new taken e fault not_made damaged left answer is =
+      subst (OpenEnds id_of old taken) (sym is) (subst IsNotMade ledger_seen (not_made refl), opened_here taken (e ∙ left))
+  refused_here (why.Damaged file at harm) new taken e fault not_made damaged left answer is = harm_told file at harm taken damaged (opened_here taken (e ∙ left)) answer is
+  refused_here why.DiskFault new taken e fault not_made damaged (inl breaks) answer is =
+      subst (OpenEnds id_of old taken) (sym is) (inr (subst (λ (f : Files). FilesBreaks barriers old f) (sym e) (subst (λ (f : Files). FilesBreaks barriers f new) given breaks)))
+  refused_here why.DiskFault new taken e fault not_made damaged (inr done) answer is = subst (OpenEnds id_of old taken) (sym is) (inl (inr (opened_here taken (e ∙ done))))
+  refused_here why.Memory new taken e fault not_made damaged left answer is = subst (OpenEnds id_of old taken) (sym is) (inr (opened_here taken (e ∙ left)))

@@ -30,7 +30,7 @@ module _ (answer : Answer) (s : Span) (status : ℕ) where
 opening_disk : (answer : Answer) → IsOpenRefusal answer → status_of answer ≡ 4 → TellsDisk answer
 opening_disk OutsideDisk is four = refl
 opening_disk NotMade is four = absurd (omega (arith, four))
-opening_disk Damaged is four = absurd (omega (arith, four))
+opening_disk (Damaged text) is four = absurd (omega (arith, four))
 opening_disk Memory is four = absurd (omega (arith, four))
 opening_disk _ is four = absurd is
 

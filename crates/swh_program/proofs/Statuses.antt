@@ -2,10 +2,11 @@
 use Rattle.std.proofs.Common.{◌≡◌, ◌≢◌, ◌⊎◌, inl, inr, ⊎_elim, ℕ, ◌<◌, ◌≤◌, List, sym, ◌∙◌, subst, arith}
 use Rattle.swh_base.specs.declared.kind.Kind.{Kind}
 use Rattle.swh_model.specs.Answer.{ReplyText}
-use Rattle.swh_words.specs.Words.{Wanted, ToInit, ToLoad, ToAsk, ToIdentify}
+use Rattle.swh_words.specs.Words.{Wanted, ToInit, ToLoad, ToAsk, ToCheck, ToIdentify}
 use Rattle.swh_program.specs.Seen.{Span}
 use Rattle.swh_program.specs.Answers.{TellsDisk, status_of, IsPrinted}
 use Rattle.swh_program.specs.AskCommand.{IsAskAnswer, AreFound, HasShortReply, IsEndingOf}
+use Rattle.swh_program.specs.CheckCommand.{IsCheckAnswer}
 use Rattle.swh_program.specs.Commands.{Comes}
 use Rattle.swh_program.specs.IdentifyCommand.{IsIdentifyAnswer}
 use Rattle.swh_program.specs.InitCommand.{IsInitAnswer}
@@ -14,6 +15,7 @@ use Rattle.swh_program.specs.declared.answer.Ending.{Ending}
 use Rattle.swh_program.specs.declared.answer.Ending.TheVariants as ending
 use Rattle.swh_program.specs.declared.answer.Answer.{Answer}
 use Rattle.swh_program.specs.declared.answer.Answer.TheVariants.{Told, OutsideDisk}
+use Rattle.swh_program.proofs.Checked.{check_disk}
 
 -- what an answer comes to, the run does
 module _ (answer : Answer) (s : Span) (status : ℕ) where
@@ -73,6 +75,11 @@ comes_names (ToAsk dir paths) s answer a = record {
   disk = λ tells. a.cause (ask_disk answer a.one_of tells);
   source = λ e. absurd (subst IsAskAnswer e a.one_of);
   clock = λ e. absurd (subst IsAskAnswer e a.one_of);
+}
+comes_names (ToCheck dir) s answer c = record {
+  disk = λ tells. c.cause (check_disk s.id_of answer c.one_of tells);
+  source = λ e. absurd (subst (IsCheckAnswer s.id_of) e c.one_of);
+  clock = λ e. absurd (subst (IsCheckAnswer s.id_of) e c.one_of);
 }
 comes_names (ToIdentify kind path) s answer i = record {
   disk = λ tells. absurd (subst (IsIdentifyAnswer s.id_of kind) (identify_disk s.id_of kind answer i.one_of tells) i.one_of);

@@ -24,16 +24,17 @@ last_line_of NoJobFile = refusal (codes "no job file")
 last_line_of (BadJob text) = []
 last_line_of AlreadyMade = refusal (codes "made")
 last_line_of NotMade = refusal (codes "not made")
-last_line_of Damaged = refusal (codes "damaged 0 0")
+last_line_of (Damaged text) = []
 last_line_of OutsideDisk = refusal (codes "outside disk")
 last_line_of OutsideSource = refusal (codes "outside source")
 last_line_of OutsideClock = refusal (codes "outside clock")
 last_line_of Memory = refusal (codes "memory")
 
--- lines or replies
+-- lines, replies, or the line that tells what is bad or damaged
 abbrev pub told_by : Answer → List ℕ
 told_by (Told text end) = text
 told_by (BadJob text) = text
+told_by (Damaged text) = text
 told_by _ = []
 
 -- all bytes that are printed
@@ -56,7 +57,7 @@ status_of NoJobFile = 2
 status_of (BadJob text) = 2
 status_of AlreadyMade = 3
 status_of NotMade = 3
-status_of Damaged = 3
+status_of (Damaged text) = 3
 status_of OutsideDisk = 4
 status_of OutsideSource = 4
 status_of OutsideClock = 4

@@ -9,8 +9,9 @@ use Rattle.swh_model.specs.Step.{replay}
 use Rattle.swh_model.specs.Answer.{ReplyText, IsReply}
 use Rattle.swh_program.specs.Seen.{Span, DepotFailed, SinkFailed}
 use Rattle.swh_program.specs.Archives.{old_archive, new_archive, SameElsewhere}
+use Rattle.swh_program.specs.Damage.{damaged_line, IsHarmedAt}
 use Rattle.swh_program.specs.LeftAlone.{IsOnDepot}
-use Rattle.swh_program.specs.Run.{IsExactly, Ends, IsPrintedWith, replies_status}
+use Rattle.swh_program.specs.Run.{IsExactly, Ends, IsPrintedWith, IsPrintedUnlessFailed, replies_status}
 use Rattle.swh_program.specs.Opening.{IsArchive, IsUnusable, IsOnlyOpened, IsOpenRefusal, OpenEnds}
 use Rattle.swh_program.specs.declared.answer.Ending.{Ending}
 use Rattle.swh_program.specs.declared.answer.Ending.TheVariants.{Done, Wanting}
@@ -85,8 +86,10 @@ pub record DoesAsk (dir : List ℕ) (paths : List (List ℕ)) (s : Span) (status
   pub ends : Ends (Asks dir paths s) s status
   -- It refuses no job.
   pub not_refused : status ≢ 2
-  -- 3: the archive is not made, or damaged.
+  -- 3: the archive is not made, or damaged; and then the first harm is told, with its place.
   pub unusable : s.told.depot → IsExactly 3 (IsUnusable s.id_of (old_archive dir s)) status
+  pub first_harm : (file at : ℕ) → s.told.depot → IsHarmedAt s.id_of (old_archive dir s) file at
+      → IsPrintedUnlessFailed (damaged_line file at) 3 s status
   -- 1: a reply is not 200.
   pub short_reply : (h : List Event) (replies : List ReplyText) → s.told.depot → IsArchive s.id_of (old_archive dir s) h
       → AreReplies (replay h) paths replies → IsExactly 1 (HasShortReply replies) status

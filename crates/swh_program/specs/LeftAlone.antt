@@ -7,7 +7,7 @@ use Rattle.swh_program.specs.declared.answer.Answer.TheVariants.{NoJobFile, BadJ
 -- The archive did not open, for another reason than want of memory.
 abbrev pub IsArchiveRefusal : Answer → Type 0
 IsArchiveRefusal NotMade = Unit {0}
-IsArchiveRefusal Damaged = Unit {0}
+IsArchiveRefusal (Damaged text) = Unit {0}
 IsArchiveRefusal OutsideDisk = Unit {0}
 IsArchiveRefusal _ = ⊥
 
@@ -58,6 +58,6 @@ module _ (s : Span) where
   IsRefusedInOrder (BadJob text) = IsOnDesk
   IsRefusedInOrder OutsideSource = IsOnDesk
   IsRefusedInOrder NotMade = IsBeforeInputs
-  IsRefusedInOrder Damaged = IsBeforeInputs
+  IsRefusedInOrder (Damaged text) = IsBeforeInputs
   IsRefusedInOrder OutsideDisk = IsBeforeInputs
   IsRefusedInOrder _ = Unit {0}

@@ -4,9 +4,11 @@ pub mod Answers
 pub mod Archives
 pub mod Run
 pub mod LeftAlone
+pub mod Damage
 pub mod Opening
 pub mod InitCommand
 pub mod AskCommand
+pub mod CheckCommand
 pub mod IdentifyCommand
 pub mod Jobs
 pub mod Inputs

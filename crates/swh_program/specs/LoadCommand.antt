@@ -14,6 +14,7 @@ use Rattle.swh_program.specs.Complete.{MeantJob, jobs_of_meant, full_lines, all_
 use Rattle.swh_program.specs.Exact.{IsExact}
 use Rattle.swh_program.specs.Inputs.{Inputs, inputs}
 use Rattle.swh_program.specs.Jobs.{HasJobs, HasNoJobs, AreJobsAt, IsBadAt, bad_job_line}
+use Rattle.swh_program.specs.Damage.{damaged_line, IsHarmedAt}
 use Rattle.swh_program.specs.LeftAlone.{IsRefusedInOrder}
 use Rattle.swh_program.specs.Lines.{LoadedJob, outcomes, load_line}
 use Rattle.swh_program.specs.Load.{Givens, IsLoad, LoadEnds}
@@ -62,9 +63,11 @@ pub record DoesLoad (dir path : List ℕ) (s : Span) (status : ℕ) : Type 0 whe
   pub no_job : s.told.origins → IsExactly 2 (HasNoJobs s.old.desk.file_at path) status
   pub bad_line : (line : ℕ) (why : JobWhy) → s.told.origins → IsBadAt s.old.desk.file_at path line why
       → IsPrintedUnlessFailed (bad_job_line line why) 2 s status
-  -- 3: the job file is right, and the archive is not made, or damaged.
+  -- 3: the job file is right, and the archive is not made, or damaged; and then the first harm is told, with its place.
   pub unusable : s.told.origins → s.told.depot
       → IsExactly 3 (HasJobs s.old.desk.file_at path × IsUnusable s.id_of (old_archive dir s)) status
+  pub first_harm : (file at : ℕ) → s.told.origins → s.told.depot → HasJobs s.old.desk.file_at path
+      → IsHarmedAt s.id_of (old_archive dir s) file at → IsPrintedUnlessFailed (damaged_line file at) 3 s status
   -- Of several causes the first is told: the job file's before the archive's, and the archive's before the clock's.
   pub job_first : s.told.origins → HasNoJobs s.old.desk.file_at path → status ≡ 4 → DeskFailed s ⊎ SinkFailed s
   pub archive_first : s.told.origins → s.told.depot → IsUnusable s.id_of (old_archive dir s) → status ≡ 4

@@ -8,6 +8,7 @@ use Rattle.swh_model.specs.Step.{IsHistory}
 use Rattle.swh_segment.specs.Making.{IsMade, IsNotMade, barriers}
 use Rattle.swh_keeper.specs.declared.opening.OpenWhy.{OpenWhy}
 use Rattle.swh_keeper.specs.declared.opening.OpenWhy.TheVariants as why
+use Rattle.swh_program.specs.Damage.{damaged_line, IsDamagedLine, TellsDamageLine, TellsHarm}
 use Rattle.swh_program.specs.declared.answer.Answer.{Answer}
 use Rattle.swh_program.specs.declared.answer.Answer.TheVariants.{NotMade, Damaged, OutsideDisk, Memory}
 
@@ -20,17 +21,17 @@ abbrev pub IsUntouched : Files → Files → Type 0
 IsUntouched old new = (new ≡ old) ⊎ IsOnlyOpened old new
 
 -- what the keeper's refusal comes to
-abbrev pub opening_refusal : OpenWhy → Answer
-opening_refusal why.Made = Memory
-opening_refusal why.NotMade = NotMade
-opening_refusal why.Damaged = Damaged
-opening_refusal why.DiskFault = OutsideDisk
-opening_refusal why.Memory = Memory
+abbrev pub IsRefusalFor : OpenWhy → Answer → Type 0
+IsRefusalFor why.Made answer = ⊥
+IsRefusalFor why.NotMade answer = answer ≡ NotMade
+IsRefusalFor (why.Damaged file at harm) answer = TellsDamageLine (damaged_line file at) answer
+IsRefusalFor why.DiskFault answer = answer ≡ OutsideDisk
+IsRefusalFor why.Memory answer = answer ≡ Memory
 
 -- an opening is refused by one of these
 abbrev pub IsOpenRefusal : Answer → Type 0
 IsOpenRefusal NotMade = Unit {0}
-IsOpenRefusal Damaged = Unit {0}
+IsOpenRefusal (Damaged text) = IsDamagedLine text
 IsOpenRefusal OutsideDisk = Unit {0}
 IsOpenRefusal Memory = Unit {0}
 IsOpenRefusal _ = ⊥
@@ -53,7 +54,7 @@ module _ (id_of : Kind → List ℕ → List ℕ) where
   -- how an opening that is refused leaves the files
   abbrev pub OpenEnds : Files → Files → Answer → Type 0
   OpenEnds old new NotMade = IsNotMade (old 0).seen × IsOnlyOpened old new
-  OpenEnds old new Damaged = IsDamagedArchive old × IsOnlyOpened old new
+  OpenEnds old new (Damaged text) = TellsHarm id_of old text × IsOnlyOpened old new
   OpenEnds old new OutsideDisk = IsUntouched old new ⊎ FilesBreaks barriers old new
   OpenEnds old new Memory = IsUntouched old new
   OpenEnds old new _ = ⊥

@@ -6,6 +6,8 @@
 
 mod answer;
 mod ask_command;
+mod check_command;
+mod damage;
 mod files;
 mod identify_command;
 mod init_command;
@@ -19,6 +21,7 @@ mod top;
 
 pub use answer::{Answer, Ending, tell};
 pub use ask_command::ask;
+pub use check_command::check;
 pub use files::{ArchiveFiles, close_files, open_files};
 pub use identify_command::identify;
 pub use init_command::init;

@@ -8,10 +8,12 @@ ghost use Rattle.swh_segment.specs.Settled.{seen_of};
 ghost use Rattle.swh_keeper.specs.Kept.{IsKept};
 ghost use Rattle.swh_program.specs.Archives.{archive_at, SameElsewhere};
 ghost use Rattle.swh_keeper.specs.Opening.{IsOpeningFault};
-ghost use Rattle.swh_program.specs.Opening.{IsArchive, IsOpenRefusal, OpenEnds, opening_refusal};
+ghost use Rattle.swh_program.specs.Opening.{IsArchive, IsOpenRefusal, IsRefusalFor, OpenEnds};
+ghost use Rattle.swh_keeper.specs.declared.opening.OpenWhy.TheVariants.{DiskFault};
 ghost use Rattle.swh_program.specs.declared.answer.Answer.TheVariants.{OutsideDisk};
 
 use crate::Answer;
+use crate::damage::tell_harm;
 use crate::files::{ArchiveFiles, close_files, open_files};
 use std::alloc::Global;
 use swh_base::Namer;
@@ -19,14 +21,16 @@ use swh_keeper::{Keeper, OpenFault, OpenWhy};
 use swh_outside::{Depot, Disk, OutFault};
 
 // What a refusal of the keeper comes to.
-fn refused_by(why: OpenWhy) -> Answer
+fn refused_by(alloc: Global, why: OpenWhy) -> Answer
     requires { IsOpeningFault why }
-    ensures { result ≡ opening_refusal why }
+    ensures refusal { IsRefusalFor why result }
+    ensures one_of { IsOpenRefusal result }
+    ensures disk { result ≡ OutsideDisk → why ≡ DiskFault }
 {
     match why {
         OpenWhy::Made => unreachable!(),
         OpenWhy::NotMade => Answer::NotMade,
-        OpenWhy::Damaged => Answer::Damaged,
+        OpenWhy::Damaged { file, at, .. } => tell_harm(alloc, file, at),
         OpenWhy::DiskFault => Answer::OutsideDisk,
         OpenWhy::Memory => Answer::Memory,
     }
@@ -83,7 +87,7 @@ pub fn open_archive<N: Namer, P: Depot>(
         }
         Err(OpenFault { why, store, ledger }) => {
             close_files(depot, dir, ArchiveFiles { store, ledger });
-            Err(refused_by(why))
+            Err(refused_by(alloc, why))
         }
     }
 }

@@ -7,7 +7,7 @@ ghost use Rattle.swh_program.specs.LeftAlone.{KeepsTheRest, TouchesNothing};
 ghost use Rattle.swh_program.specs.Run.{IsStatus, IsNoCommand, NamesFailed, RefusesWords, TellsFailures};
 ghost use Rattle.swh_program.specs.declared.answer.Answer.TheVariants.{Words, Memory};
 
-use crate::{Answer, Outside, Shown, ask, identify, init, tell};
+use crate::{Answer, Outside, Shown, ask, check, identify, init, tell};
 use std::alloc::Global;
 use swh_base::Namer;
 use swh_outside::{Clock, Depot, Doors, Gate, Origins, Sink, Yard};
@@ -40,6 +40,7 @@ impl<N: Namer, P: Depot, O: Origins, Y: Yard, K: Sink, C: Clock, D: Doors, G: Ga
                 dir,
                 paths.as_slice(),
             ),
+            Command::Check { dir } => check(alloc, self.namer, &mut self.depot, dir),
             Command::Identify { kind, path } => identify(
                 alloc,
                 &self.namer,

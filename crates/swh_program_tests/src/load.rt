@@ -7,10 +7,10 @@ use std::test::Fail;
 use swh_fixtures::{MADE_LEDGER, STREAM};
 
 // The job of the worked stream.
-const JOB: &[u8] = b"fast\thttps://e.org/p\te\n";
+pub const JOB: &[u8] = b"fast\thttps://e.org/p\te\n";
 
 // The ledger once the stream was loaded into a new archive.
-const LEDGER: &[u8] =
+pub const LEDGER: &[u8] =
     b"SWHARC1\n\x01O\x00\x00\x00\x1c\x00\x00\x00\x01\x01\x00\x00\x00\x00;\x9a\xca\x00https://e.org/p\x01T\
 \x00\x00\x00\x1d\x00\x00\x00\x01\x02\x00\x00\x00\x00\x00\x00\x00\x01\x00https://e.org/p\x01B\x00\x00\
 \x00\x18\x00\x00\x00\x01\x00\x00\x00\x00\x00\x00\x00\x00\x00\x00\x00\x00\x00\x00\x01R\x00\x00\x00\
@@ -18,7 +18,7 @@ const LEDGER: &[u8] =
 \xda\xd6\x0f\xba\xedC\x1c\xa2\x1e\xcd\xecV\xffhttps://e.org/p\x00";
 
 // The store then.
-const STORE: &[u8] =
+pub const STORE: &[u8] =
     b"\x01\x00\x00\x00\x00\x00\x00\x00\n\x83\xba\xaea\x80Ne\xccs\xa7 \x1arRu\x0cv\x06j0version 1\n\x02\x00\
 \x00\x00\x00\x00\x00\x00$\xd82\x9f\xc1\xcc\x93\x87\x80\xff\xdd\x9f\x94\xe0\xd3d\xe0\xeat\xf5y100644 \
 test.txt\x00\x83\xba\xaea\x80Ne\xccs\xa7 \x1arRu\x0cv\x06j0\x03\x00\x00\x00\x00\x00\x00\x00\x80)\\\
@@ -128,7 +128,7 @@ fn archives_that_are_refused(rt: HostRuntime) -> Result<(), Fail> {
         ledger: Some(b"SWHARC2\n\0"),
         ..BARE
     };
-    assert!(rt; tells(alloc, &damaged, ASK, 3, b"swharc: damaged 0 0\n")?);
+    assert!(rt; tells(alloc, &damaged, ASK, 3, b"swharc: damaged 0 6\n")?);
     let failing = Setting {
         depot_fails: Some(0),
         ..BARE

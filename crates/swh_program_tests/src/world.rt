@@ -28,8 +28,10 @@ const ROOM: Room = Room {
 /// with the given number, from 0, fails.
 #[derive(Clone, Copy)]
 pub struct Setting<'a> {
-    /// The ledger in `A`, beside an empty store.
+    /// The ledger in `A`, where it is made.
     pub ledger: Option<&'a [u8]>,
+    /// The store beside it.
+    pub store: &'a [u8],
     pub ledger_fails: Option<u64>,
     pub store_fails: Option<u64>,
     /// An opening of a file.
@@ -47,6 +49,7 @@ pub struct Setting<'a> {
 /// An empty folder, no files, and nothing that fails.
 pub const BARE: Setting<'static> = Setting {
     ledger: None,
+    store: b"",
     ledger_fails: None,
     store_fails: None,
     depot_fails: None,
@@ -106,7 +109,7 @@ fn depot(alloc: Global, setting: &Setting<'_>) -> Result<MemoryDepot, AllocError
     if let Some(bytes) = setting.ledger {
         let ledger = MemoryDisk::new(alloc, bytes, ROOM, failing(alloc, setting.ledger_fails)?)?;
         depot.lay("A", 0, ledger)?;
-        let store = MemoryDisk::new(alloc, &[], ROOM, failing(alloc, setting.store_fails)?)?;
+        let store = MemoryDisk::new(alloc, setting.store, ROOM, failing(alloc, setting.store_fails)?)?;
         depot.lay("A", 1, store)?;
     }
     Ok(depot)

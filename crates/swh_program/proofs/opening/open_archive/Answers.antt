@@ -31,5 +31,4 @@ pub returns-in-Err-clause-ends : goal.returns-in-Err-clause-ends
 returns-in-Err-clause-ends g c told =
     let tells = c.in-Ok.ensures.disks_tell told in
     let e = c.in-Err.ensures in
-    let ends = refused_here g.N.Namer.id_of _ _ _ (c.in-Ok.ensures.given told) _ _ _ (c.close_files.ensures.taken told) e.why (e.not_made tells) (e.damaged tells) (e.left tells) in
-    subst (λ (answer : Answer). OpenEnds g.N.Namer.id_of (archive_at (g.P.Depot.files c.args.depot.now) c.args.dir.now) (archive_at (g.P.Depot.files c.close_files.new.depot) c.args.dir.now) answer) (sym c.refused_by.ensures) ends
+    refused_here g.N.Namer.id_of _ _ _ (c.in-Ok.ensures.given told) _ _ _ (c.close_files.ensures.taken told) e.why (e.not_made tells) (e.damaged tells) (e.left tells) _ c.refused_by.ensures.refusal

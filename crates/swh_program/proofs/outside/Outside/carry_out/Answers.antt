@@ -1,6 +1,6 @@
 use Rattle.std.proofs.Common.{rules, ◌≡◌, ℕ, List, Bor, sym, ◌∙◌, ap, map, refl}
 use Rattle.swh_words.specs.Commands.{wanted_by}
-use Rattle.swh_words.specs.Words.{ToInit, ToAsk}
+use Rattle.swh_words.specs.Words.{ToInit, ToAsk, ToCheck}
 use Rattle.swh_program.proofs.Does.{came}
 use Rattle.swh_program.proofs.Ends.{safe}
 use Rattle.swh_program.proofs.outside.Outside.carry_out.Goals as goal
@@ -17,6 +17,12 @@ returns-in-Init-clause-comes g c =
       cause = i.cause;
       left = record { desk = refl; origins = refl; clock = refl };
     })
+
+pub returns-in-Check-clause-comes : goal.returns-in-Check-clause-comes
+returns-in-Check-clause-comes g c =
+    let k = c.check.ensures in
+    came (ToCheck c.in-Check.dir.now) _ _ _ (ap wanted_by (sym c.in-Check.is))
+    (record { one_of = k.one_of; ends = k.ends; elsewhere = k.elsewhere; cause = k.cause; left = record { desk = refl; origins = refl; clock = refl } })
 
 pub returns-in-Ask-clause-comes : goal.returns-in-Ask-clause-comes
 returns-in-Ask-clause-comes g c =
