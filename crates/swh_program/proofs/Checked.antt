@@ -2,17 +2,15 @@
 use Rattle.std.proofs.Common.{◌≡◌, ◌≢◌, ◌⊎◌, inl, inr, ℕ, ◌<◌, ◌≤◌, List, ◌++◌, refl, sym, ap, ◌∙◌, subst, arith}
 use Rattle.std.proofs.lemmas.List.{append-nil}
 use Rattle.swh_base.specs.declared.kind.Kind.{Kind}
-use Rattle.swh_base.specs.declared.name.Name.{Name}
 use Rattle.swh_outside.specs.Files.{Files}
 use Rattle.swh_model.specs.declared.event.Event.{Event}
 use Rattle.swh_model.specs.Archive.{Archive}
 use Rattle.swh_model.specs.Step.{replay}
-use Rattle.swh_check.specs.Report.{IsReport, IsHarmedBody}
+use Rattle.swh_check.specs.Report.{IsReport}
 use Rattle.swh_check.specs.declared.checking.Report.{Report}
 use Rattle.swh_program.specs.Seen.{Span, SinkFailed}
 use Rattle.swh_program.specs.Answers.{TellsDisk, TellsLine, status_of, status_for, printed_by, last_line_for, IsPrinted}
 use Rattle.swh_program.specs.CheckCommand.{report_line, TellsCounts, IsUndamaged, IsChecked, IsCheckAnswer, CountsArchive, CheckEnds, PrintsCounts}
-use Rattle.swh_program.specs.Damage.{damaged_body_line, TellsDamageLine}
 use Rattle.swh_program.specs.Opening.{IsArchive, IsOnlyOpened, IsUnusable, IsOpenRefusal, OpenEnds}
 use Rattle.swh_program.specs.Run.{IsExactly, IsTold}
 use Rattle.swh_program.specs.declared.answer.Ending.{Ending}
@@ -28,12 +26,6 @@ module _ (id_of : Kind → List ℕ → List ℕ) where
   counted a report counts (Told text end) told = (record { report = report; counts = counts; text_is = told.0 }, told.1)
   counted a report counts Memory told = tt
   counted a report counts _ told = absurd told
-
-  -- the line of a body that reads otherwise tells it
-  pub body_told : (a : Archive) (name : Name) (found : List ℕ) → IsHarmedBody id_of a name found → (answer : Answer) → TellsDamageLine (damaged_body_line name) answer → IsChecked id_of a answer
-  body_told a name found harm (Damaged text) told = record { name = name; found = found; harmed = harm; text_is = told }
-  body_told a name found harm Memory told = tt
-  body_told a name found harm _ told = absurd told
 
   -- what a check comes to is one of the answers
   pub one_checked : (a : Archive) (answer : Answer) → IsChecked id_of a answer → IsCheckAnswer id_of answer

@@ -40,8 +40,8 @@ rose_since a b c le rose = omega (arith, le, rose)
 pub rose_until : (a b c : ℕ) → Rose a b → b ≤ c → Rose a c
 rose_until a b c rose le = omega (arith, rose, le)
 
-pub rose_above : (a b : ℕ) → a ≡ 0 → Rose a b → 0 < b
-rose_above a b none rose = omega (arith, none, rose)
+pub rose_above : (a b : ℕ) → Rose a b → 0 < b
+rose_above a b rose = omega (arith, rose)
 
 -- what the line of a load is made of
 abbrev pub url_and_outcome : LoadedJob → List ℕ × Result Loaded LoadFault
@@ -185,7 +185,7 @@ module _ {S : Type 0} (id_of : Kind → List ℕ → List ℕ) (sources : Source
   found_end job bodies s t told is none at back NotFound ends = absurd ends
   found_end job bodies s t told is none at back (Failed (Broken bad)) ends = (ends.may, λ h. (sources.left s, is h, ends.breaks (told h)))
   found_end job bodies s t told is none at back (Failed (Collision name)) ends = λ h. (sources.left s, is h, ends (told h))
-  found_end job bodies s t told is none at back (Failed Read) ends = back_at job.path t at back (rose_above (sources.faults s) (sources.faults t) none ends)
+  found_end job bodies s t told is none at back (Failed Read) ends = back_at job.path t at back (rose_above (sources.faults s) (sources.faults t) ends)
 
   input_end : (job : Job) (bodies : Bodies) (s t : Opened S) → Opens job s → IsSameInput sources s t → IsGivenBack sources opened_by.failures_now after t → (end : End) → IsJobEnd id_of job.head sources bodies s t end
       → IsInputEnd id_of (input_of of_jobs job) bodies end

@@ -56,9 +56,9 @@ module _ (id_of : Kind → List ℕ → List ℕ) (ledger store : File) (old : F
   harm_told file at harm taken d opened Memory told = inr opened
   harm_told file at harm taken d opened _ told = absurd told
 
-  pub refused_here : (why : OpenWhy) (new taken : Files) → taken ≡ new → IsOpeningFault why → (why ≡ why.NotMade → IsNotMade ledger.seen)
-      → IfDamaged why (IsDamagedAt id_of ledger.seen store.seen)
-      → IsLeftFor why (files_of ledger store) new → (answer : Answer) → IsRefusalFor why answer → OpenEnds id_of old taken answer
+  pub refused_here : (reason : OpenWhy) (new taken : Files) → taken ≡ new → IsOpeningFault reason → (reason ≡ why.NotMade → IsNotMade ledger.seen)
+      → IfDamaged reason (IsDamagedAt id_of ledger.seen store.seen)
+      → IsLeftFor reason (files_of ledger store) new → (answer : Answer) → IsRefusalFor reason answer → OpenEnds id_of old taken answer
   refused_here why.Made new taken e fault not_made damaged left answer is = absurd fault
   refused_here why.NotMade new taken e fault not_made damaged left answer is =
       subst (OpenEnds id_of old taken) (sym is) (subst IsNotMade ledger_seen (not_made refl), opened_here taken (e ∙ left))

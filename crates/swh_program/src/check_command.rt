@@ -55,11 +55,7 @@ fn tell_report(alloc: Global, report: &Report) -> Answer
 }
 
 // Checks an archive that is open, and tells what came of it.
-fn check_open<N: Namer, D: Disk>(
-    alloc: Global,
-    namer: &N,
-    keeper: &mut Keeper<N, D>,
-) -> Answer
+fn check_open<N: Namer, D: Disk>(alloc: Global, namer: &N, keeper: &mut Keeper<N, D>) -> Answer
     requires { keeper.old.wounded ≡ None }
     ensures checked { IsChecked N.id_of (replay keeper.old.history) result }
     ensures undamaged { D.tells → IsUndamaged result }

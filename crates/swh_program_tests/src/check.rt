@@ -31,7 +31,10 @@ https://e.org/p\t2\tfull\tswh:1:snp:5036c2b4a676f9dad60fbaed431ca21ecdec56ff\nob
 #[test]
 fn nothing_is_written(rt: HostRuntime) -> Result<(), Fail> {
     let ended = play(rt.alloc(), &LOADED, &[CHECK])?;
-    assert_eq!(rt; ended.printed.as_slice(), b"objects 4 closed 4 visits 1\n".as_slice());
+    assert_eq!(rt;
+        ended.printed.as_slice(),
+        b"objects 4 closed 4 visits 1\n".as_slice()
+    );
     assert_eq!(rt; ended.ledger.as_slice(), LEDGER);
     assert_eq!(rt; ended.store.as_slice(), STORE);
     assert_eq!(rt; ended.faults, 0);

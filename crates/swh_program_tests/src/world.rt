@@ -109,7 +109,12 @@ fn depot(alloc: Global, setting: &Setting<'_>) -> Result<MemoryDepot, AllocError
     if let Some(bytes) = setting.ledger {
         let ledger = MemoryDisk::new(alloc, bytes, ROOM, failing(alloc, setting.ledger_fails)?)?;
         depot.lay("A", 0, ledger)?;
-        let store = MemoryDisk::new(alloc, setting.store, ROOM, failing(alloc, setting.store_fails)?)?;
+        let store = MemoryDisk::new(
+            alloc,
+            setting.store,
+            ROOM,
+            failing(alloc, setting.store_fails)?,
+        )?;
         depot.lay("A", 1, store)?;
     }
     Ok(depot)

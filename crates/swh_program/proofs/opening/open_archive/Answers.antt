@@ -1,9 +1,6 @@
-use Rattle.std.proofs.Common.{sym, subst}
+use Rattle.std.proofs.Common.{subst}
 use Rattle.swh_outside.specs.Files.{Files, AreImages}
 use Rattle.swh_segment.specs.Settled.{seen_of}
-use Rattle.swh_program.specs.Archives.{archive_at}
-use Rattle.swh_program.specs.Opening.{OpenEnds}
-use Rattle.swh_program.specs.declared.answer.Answer.{Answer}
 use Rattle.swh_program.proofs.Opened.{archive_kept, no_other_archive, made_here, opened_here, refused_here}
 use Rattle.swh_program.proofs.opening.open_archive.Goals as goal
 
