@@ -2,7 +2,6 @@ pub mod CheckLemmas
 pub mod KeptLemmas
 pub mod ApplyLemmas
 pub mod OpenLemmas
-pub mod DamageLemmas
 pub mod ReadLemmas
 pub mod OwnLemmas
 pub mod Standings

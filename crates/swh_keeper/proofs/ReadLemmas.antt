@@ -74,7 +74,7 @@ module _ (ledger store ledger_now store_now : File) (settled : files_of ledger_n
 pub left_settled : (why : OpenWhy) (old new : Files) → new ≡ files_done barriers old → IsLeftFor why old new
 left_settled Made old new settled = settled
 left_settled NotMade old new settled = settled
-left_settled (Damaged file at harm) old new settled = settled
+left_settled Damaged old new settled = settled
 left_settled DiskFault old new settled = inr settled
 left_settled Memory old new settled = settled
 

@@ -12,8 +12,6 @@ use Rattle.swh_format.specs.Stands.{StandsFor}
 use Rattle.swh_model.specs.Step.{IsHistory}
 use Rattle.swh_keeper.specs.declared.opening.OpenWhy.{OpenWhy}
 use Rattle.swh_keeper.specs.declared.opening.OpenWhy.TheVariants.{Made, Damaged, DiskFault, Memory}
-use Rattle.swh_recovery.specs.declared.harm.Harm.{Harm}
-use Rattle.swh_recovery.specs.declared.harm.Harm.TheVariants.{Magic}
 
 -- why an archive is not made, for why its two files are not
 abbrev pub make_why : MakeFault → OpenWhy
@@ -41,15 +39,6 @@ abbrev pub read_why : ReadFileFault → OpenWhy
 read_why read.Disk = DiskFault
 read_why read.Memory = Memory
 
--- damage whose place is not looked for
-abbrev pub somewhere_damaged : OpenWhy
-somewhere_damaged = Damaged 0 0 (Magic 0)
-
--- P of the file, the place and the harm of a damage
-abbrev pub IfDamaged : OpenWhy → (ℕ → ℕ → Harm → Type 0) → Type 0
-IfDamaged (Damaged file at harm) P = P file at harm
-IfDamaged _ P = Unit {0}
-
 -- two files are not read for one of these
 abbrev pub IsReadFault : OpenWhy → Type 0
 IsReadFault DiskFault = Unit {0}
@@ -59,7 +48,7 @@ IsReadFault _ = ⊥
 -- records are not read for one of these
 abbrev pub IsReadingFault : OpenWhy → Type 0
 IsReadingFault DiskFault = Unit {0}
-IsReadingFault (Damaged file at harm) = Damaged file at harm ≡ somewhere_damaged
+IsReadingFault Damaged = Unit {0}
 IsReadingFault Memory = Unit {0}
 IsReadingFault _ = ⊥
 
@@ -71,7 +60,6 @@ UnlessDiskFault _ P = P
 -- an opening ends for one of these
 abbrev pub IsOpeningFault : OpenWhy → Type 0
 IsOpeningFault Made = ⊥
-IsOpeningFault (Damaged file at harm) = Damaged file at harm ≡ somewhere_damaged
 IsOpeningFault _ = Unit {0}
 
 -- A barrier was made on each file; where a disk failed, it may be that one of the two failed.
@@ -88,8 +76,3 @@ module _ (id_of : Kind → List ℕ → List ℕ) where
   pub record IsDamaged (ledger store : List ℕ) : Type 0 where
     pub made : IsMade ledger
     pub none : (h : List Event) → StandsFor ledger store h → IsHistory id_of h → ⊥
-
-  -- The files are damaged, and this is their first harm, and its place.
-  pub record IsDamagedAt (ledger store : List ℕ) (file at : ℕ) (harm : Harm) : Type 0 where
-    pub damaged : IsDamaged ledger store
-    pub somewhere : Damaged file at harm ≡ somewhere_damaged

@@ -1,12 +1,11 @@
 //! Why an archive is not opened or made.
 ghost use Rattle.std.specs.Prelude.{◌≡◌};
-ghost use Rattle.swh_keeper.specs.Opening.{make_why, read_why, somewhere_damaged};
+ghost use Rattle.swh_keeper.specs.Opening.{make_why, read_why};
 ghost use Rattle.swh_keeper.specs.declared.opening.OpenWhy.TheVariants.{DiskFault, Memory as OutOfMemory};
 
 use std::alloc::AllocError;
 use swh_base::Memory;
 use swh_outside::{Disk, Failed};
-use swh_recovery::Harm;
 use swh_segment::{MakeFault, ReadFileFault};
 
 #[derive(Clone, Copy, Debug, PartialEq, Eq)]
@@ -15,9 +14,8 @@ pub enum OpenWhy {
     Made,
     /// It is not made.
     NotMade,
-    /// The two files stand for no history: the file of this number, 0 the ledger and 1 the store, has the first harm, at
-    /// this byte.
-    Damaged { file: u32, at: u64, harm: Harm },
+    /// The two files stand for no history.
+    Damaged,
     /// A disk failed.
     DiskFault,
     Memory,
@@ -28,17 +26,6 @@ pub struct OpenFault<D: Disk> {
     pub why: OpenWhy,
     pub store: D,
     pub ledger: D,
-}
-
-/// The place of a harm is not looked for yet.
-pub fn damaged() -> OpenWhy
-    ensures { result ≡ somewhere_damaged }
-{
-    OpenWhy::Damaged {
-        file: 0,
-        at: 0,
-        harm: Harm::Magic { found: 0 },
-    }
 }
 
 pub fn why_not_made(fault: MakeFault) -> OpenWhy

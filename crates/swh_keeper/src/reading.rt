@@ -51,13 +51,12 @@ ghost use Rattle.swh_keeper.specs.Opening.{
   IsOpeningFault,
   IsLeftFor,
   IsDamaged,
-  somewhere_damaged,
   UnlessDiskFault,
 };
-ghost use Rattle.swh_keeper.specs.declared.opening.OpenWhy.TheVariants.{NotMade, DiskFault};
+ghost use Rattle.swh_keeper.specs.declared.opening.OpenWhy.TheVariants.{NotMade, Damaged, DiskFault};
 
 use crate::checking::{Checked, check_kind};
-use crate::opening::{OpenWhy, damaged};
+use crate::opening::OpenWhy;
 use std::alloc::Global;
 use swh_base::{Entry, FILE_LIMIT, Items, Memory, Namer, OBJECTS_LIMIT, RUN_LIMIT};
 use swh_format::{BatchParts, Next, Record, Told, next_record, read_run, split_magic};
@@ -242,7 +241,7 @@ fn read_next<N: Namer, D: Disk>(
     ensures longer { IfOk result (λ more. IsTrue more → checked.old.replayed.ledger_end
         < checked.new.replayed.ledger_end) }
     ensures end { IfOk result (λ more. more ≡ false → IsAtEnd ledger.now checked.new) }
-    ensures damaged { D.tells → IsErrOf result somewhere_damaged → IsNoArchive N.id_of ledger.now (D.file store.old).seen }
+    ensures damaged { D.tells → IsErrOf result Damaged → IsNoArchive N.id_of ledger.now (D.file store.old).seen }
     ensures why { IfErr result IsReadingFault }
     ensures same { D.tells → D.file store.new ≡ D.file store.old }
     ensures later { D.faults store.old ≤ D.faults store.new }
@@ -253,12 +252,12 @@ fn read_next<N: Namer, D: Disk>(
     let place = checked.replayed.ledger_end as usize;
     let record = match next_record(alloc, &ledger[place..])? {
         Next::End => return Ok(false),
-        Next::Broken => return Err(damaged()),
+        Next::Broken => return Err(OpenWhy::Damaged),
         Next::Record(record) => record,
     };
     let Record { by, told, rest } = record;
     if !take_record(alloc, namer, store, size, checked, by, told)? {
-        return Err(damaged());
+        return Err(OpenWhy::Damaged);
     }
     checked.replayed.ledger_end = (ledger.len() - rest.len()) as u64;
     Ok(true)
@@ -298,7 +297,7 @@ fn read_records<N: Namer, D: Disk>(
     ensures runs { D.tells → IfOk result (HasRuns (D.file store.old).seen) }
     ensures inside { IfOk result (λ checked. checked.replayed.store_end ≤ size) }
     ensures end { IfOk result (IsAtEnd ledger.now) }
-    ensures damaged { D.tells → IsErrOf result somewhere_damaged → IsNoArchive N.id_of ledger.now (D.file store.old).seen }
+    ensures damaged { D.tells → IsErrOf result Damaged → IsNoArchive N.id_of ledger.now (D.file store.old).seen }
     ensures why { IfErr result IsReadingFault }
     ensures same { D.tells → D.file store.new ≡ D.file store.old }
     ensures later { D.faults store.old ≤ D.faults store.new }
@@ -307,7 +306,7 @@ fn read_records<N: Namer, D: Disk>(
     ensures quiet_fault { IfErr result (λ why. UnlessDiskFault why (D.faults store.new ≡ D.faults store.old)) }
 {
     let Some(_records) = split_magic(ledger) else {
-        return Err(damaged());
+        return Err(OpenWhy::Damaged);
     };
     let mut checked = nothing_read(alloc);
     'records: loop {
@@ -337,7 +336,7 @@ fn read_store<N: Namer, D: Disk>(
     ensures made { OnOk result (IsMade ledger.now) }
     ensures why { IfErr result IsOpeningFault }
     ensures not_made { IsErrOf result NotMade → IsNotMade ledger.now }
-    ensures damaged { D.tells → IsErrOf result somewhere_damaged → IsDamaged N.id_of ledger.now (D.file store.old).seen }
+    ensures damaged { D.tells → IsErrOf result Damaged → IsDamaged N.id_of ledger.now (D.file store.old).seen }
     ensures same { D.tells → D.file store.new ≡ D.file store.old }
     ensures later { D.faults store.old ≤ D.faults store.new }
     ensures cause { IsErrOf result DiskFault → Rose (D.faults store.old) (D.faults store.new) }
@@ -370,7 +369,7 @@ pub fn read_archive<N: Namer, D: Disk>(
         ≡ files_done barriers (files_of (D.file ledger.old) (D.file store.old))) }
     ensures why { IfErr result IsOpeningFault }
     ensures not_made { D.tells → IsErrOf result NotMade → IsNotMade (D.file ledger.old).seen }
-    ensures damaged { D.tells → IsErrOf result somewhere_damaged → IsDamaged N.id_of (D.file ledger.old).seen
+    ensures damaged { D.tells → IsErrOf result Damaged → IsDamaged N.id_of (D.file ledger.old).seen
         (D.file store.old).seen }
     ensures left { D.tells → IfErr result (λ why. IsLeftFor why (files_of (D.file ledger.old) (D.file store.old))
         (files_of (D.file ledger.new) (D.file store.new))) }

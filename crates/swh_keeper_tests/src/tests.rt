@@ -169,7 +169,7 @@ fn files_of_no_archive_are_refused(rt: HostRuntime) -> Result<(), Fail> {
         store: _store,
         ledger: _ledger,
     } = fault;
-    assert!(rt; matches!(&why, OpenWhy::Damaged { .. }));
+    assert_eq!(rt; why, OpenWhy::Damaged);
     Ok(())
 }
 
