@@ -10,13 +10,7 @@ ghost use Rattle.swh_recovery.specs.declared.harm.Found.{Found};
 ghost use Rattle.swh_recovery.specs.declared.harm.Harm.{Harm};
 ghost use Rattle.swh_recovery.specs.LedgerHarm.{RecordBreaks};
 ghost use Rattle.swh_recovery.specs.declared.record.Record.{Record};
-ghost use Rattle.swh_recovery.specs.Records.{events, AreRead, IsHarm};
-
-/// Two files stand for the records of one list of events at most, up to the children, which the bodies determine.
-pub fn records_are_one()
-    ensures { (id_of : Kind → List ℕ → List ℕ) (ledger store : List ℕ) (rs ss : List Record)
-        → AreRead id_of ledger store rs → AreRead id_of ledger store ss → AreAlike (events rs) (events ss) }
-{}
+ghost use Rattle.swh_recovery.specs.Records.{events, IsHarm};
 
 /// A record that is an event's does not break by its own bytes, wherever its run begins.
 pub fn an_event_does_not_break()

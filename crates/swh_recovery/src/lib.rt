@@ -19,5 +19,5 @@ mod run;
 
 pub use archive::{ReadAllFault, read_all};
 pub use harm::Harm;
-pub use laws::{an_event_does_not_break, harms_leave_no_history, one_harm, records_are_one};
+pub use laws::{an_event_does_not_break, harms_leave_no_history, one_harm};
 pub use record::Record;
