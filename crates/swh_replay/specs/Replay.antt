@@ -8,13 +8,14 @@ use Rattle.swh_model.specs.declared.event.EventKind.TheVariants.{Batch, Open, Ma
 use Rattle.swh_model.specs.Archive.{Archive, visits_of}
 use Rattle.swh_model.specs.Limits.{store_length, ledger_length}
 use Rattle.swh_model.specs.Step.{HasItsChildren, AreNew, May, IsHistory, after, replay}
+use Rattle.swh_replay.specs.Happened.{archive_in}
 use Rattle.swh_replay.specs.declared.replayed.Replayed.{Replayed}
 use Rattle.swh_replay.specs.declared.replaying.ReplayFault.{ReplayFault}
 use Rattle.swh_replay.specs.declared.replaying.ReplayFault.TheVariants.{Refused, Memory}
 
 -- the archive that is in memory
 abbrev pub archive_of : Replayed → Archive
-archive_of r = record { bodies = r.store.bodies; origins = r.visits }
+archive_of r = archive_in r.store r.visits
 
 -- The maps are the replay of the history, and these are the ends of what the files tell of it: the store's end, and
 -- the place of the ledger's closed gate.

@@ -7,9 +7,14 @@ ghost use Rattle.swh_model.specs.Step.{IsHistory};
 ghost use Rattle.swh_model.specs.Happens.{IsGoodEvent, IsNamedEvent};
 ghost use Rattle.swh_replay.specs.Replay.{IsReplayOf, IsInFiles, IsReplayFault};
 
+use crate::happening::happen;
 use crate::replayed::Replayed;
 use std::alloc::Global;
-use swh_model::Event;
+use swh_base::Memory;
+use swh_closure::Closed;
+use swh_model::{Event, length_of_ledger, length_of_store};
+use swh_store::Store;
+use swh_visits::Visits;
 
 /// Why there is no replay.
 #[derive(Clone, Copy, Debug, PartialEq, Eq)]
@@ -18,6 +23,17 @@ pub enum ReplayFault {
     Refused { event: u64 },
     /// Memory ran out.
     Memory,
+}
+
+impl From<Memory> for ReplayFault {
+    ghost use Rattle.std.specs.Prelude.{◌≡◌};
+    ghost use Rattle.swh_replay.specs.declared.replaying.ReplayFault.TheVariants.{Memory as OutOfMemory};
+
+    ghost from_gives = { λ _ e. e ≡ OutOfMemory };
+
+    fn from(_e: Memory) -> ReplayFault {
+        ReplayFault::Memory
+    }
 }
 
 /// The replay of the events, one after another from the empty archive on. It is asked that their entries are bodies of
@@ -35,7 +51,21 @@ pub fn replay_all(alloc: Global, events: &[Event]) -> Result<Replayed, ReplayFau
     ensures refused { (id_of : Kind → List ℕ → List ℕ) → AllByRecursion (IsNamedEvent id_of) events.now
         → IfErr result (IsReplayFault id_of events.now) }
 {
-    let _replayed = Replayed::new(alloc);
-    let _count = events.len();
-    Err(ReplayFault::Memory)
+    let store_end = length_of_store(events)?;
+    let ledger_end = length_of_ledger(events)? - 1;
+    let mut store = Store::new(alloc);
+    let mut visits = Visits::new(alloc);
+    let mut closed = Closed::new(alloc);
+    for (place, event) in events.iter().enumerate() {
+        if !happen(alloc, &mut store, &mut visits, &mut closed, event)? {
+            let event = place as u64 + 1;
+            return Err(ReplayFault::Refused { event });
+        }
+    }
+    Ok(Replayed {
+        store,
+        visits,
+        store_end,
+        ledger_end,
+    })
 }
