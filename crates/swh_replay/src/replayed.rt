@@ -21,7 +21,7 @@ impl Replayed {
     /// What is in memory before anything happened. It takes no memory.
     pub fn new(alloc: Global) -> Replayed
         ensures replay { IsReplayOf result [] }
-        ensures fits { IsInFiles result }
+        ensures in_files { IsInFiles result }
     {
         Replayed {
             store: Store::new(alloc),

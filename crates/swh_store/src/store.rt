@@ -1,5 +1,5 @@
 //! What is held in memory.
-use crate::adding::add_batch;
+use crate::adding::{Standing, add_batch, standing_of};
 use crate::entries::{insert_all, insert_new, insert_one, key_of};
 use crate::fault::StoreFault;
 use std::alloc::Global;
@@ -38,7 +38,7 @@ impl Store {
     ghost use Rattle.swh_model.specs.Step.{HasItsChildren, AreNew, added};
     ghost use Rattle.swh_model.specs.Judge.{not_held, Collides};
     ghost use Rattle.swh_store.specs.Stored.{IsEntryOf, IsInserted, children_in, empty_store};
-    ghost use Rattle.swh_store.specs.Adding.{IsStoreFault};
+    ghost use Rattle.swh_store.specs.Adding.{IsStanding, IsStoreFault};
 
     pub fn new(alloc: Global) -> Store
         ensures { result ≡ empty_store }
@@ -62,6 +62,13 @@ impl Store {
         ensures { IsTrue result ↔ IsHeld self.now.bodies name.now }
     {
         self.get(name).is_some()
+    }
+
+    /// How an entry stands to what is held. It takes no memory.
+    pub fn standing(&self, entry: &Entry) -> Standing
+        ensures { IsStanding self.now.bodies entry.now result }
+    {
+        standing_of(&self.by_key, entry)
     }
 
     /// Adds a batch, in which entries may be held already, and answers how many were new. Fails with the name that would
