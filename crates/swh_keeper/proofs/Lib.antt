@@ -1,4 +1,3 @@
-pub mod CheckLemmas
 pub mod KeptLemmas
 pub mod ApplyLemmas
 pub mod OpenLemmas

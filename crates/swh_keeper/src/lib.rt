@@ -1,17 +1,13 @@
 //! Keeps an archive: two disks, and the replay of their history in memory.
-//! Stands on `swh_base`, `swh_object`, `swh_outside`, `swh_segment`, `swh_model`, `swh_held` and `swh_plan`.
+//! Stands on `swh_base`, `swh_outside`, `swh_segment`, `swh_model`, `swh_store`, `swh_visits`, `swh_replay` and `swh_plan`.
 //! Callers may rely on: a plan is judged as the model says, and the disks stand for the history unless a disk failed.
 #![tactic(auto)]
 
 mod adding;
-mod advance;
-mod checking;
 mod fault;
 mod keeper;
 mod opening;
 mod own;
-mod reading;
-mod remaking;
 mod writing;
 
 pub use fault::Refusal;
@@ -23,3 +19,4 @@ pub use own::{
 };
 pub use swh_base::Which;
 pub use swh_model::Outcome;
+pub use swh_plan::{How, Plan};
