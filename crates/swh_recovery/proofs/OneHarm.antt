@@ -6,16 +6,19 @@ use Rattle.std.proofs.Math.ListN.{get_or-append}
 use Rattle.std.proofs.lemmas.Bool.{cases_lt}
 use Rattle.std.proofs.Math.Seq.{drop-append_seam}
 use Rattle.std.specs.List.{AllByRecursion}
+use Rattle.std.specs.FinMap.{get-empty}
 use Rattle.std.specs.Int.{w32, w64, to_be_bytes}
 use Rattle.swh_base.specs.declared.kind.Kind.{Kind}
 use Rattle.swh_base.specs.declared.entry.Entry.{Entry}
+use Rattle.swh_base.specs.Name.{name_cmp}
 use Rattle.swh_base.specs.Limits.{body_limit}
 use Rattle.swh_model.specs.declared.event.Event.{Event}
 use Rattle.swh_model.specs.declared.event.EventKind.{EventKind}
 use Rattle.swh_model.specs.declared.event.EventKind.TheVariants.{Batch, Open, Mark}
-use Rattle.swh_model.specs.Alike.{AreAlike, bare_event}
+use Rattle.swh_model.specs.Alike.{without_children, bare_kind, bare_event}
 use Rattle.swh_model.specs.Archive.{Archive, empty_archive}
 use Rattle.swh_model.specs.Step.{HasItsChildrenAndName, May_kind, MayAll, IsHistory, after}
+use Rattle.swh_model.proofs.OneHistory.{one_history}
 use Rattle.swh_object.specs.Object.{IsObject}
 use Rattle.swh_format.specs.Record.{magic}
 use Rattle.swh_format.specs.StoredObject.{coded_run}
@@ -31,7 +34,7 @@ use Rattle.swh_recovery.specs.declared.record.Record.{Record}
 use Rattle.swh_recovery.specs.Fields.{found_at, FieldsHold}
 use Rattle.swh_recovery.specs.LedgerHarm.{batch_fields, payload_fields, BeginsRecord, TellsRun, RecordBreaks}
 use Rattle.swh_recovery.specs.StoreHarm.{RunBreaks}
-use Rattle.swh_recovery.specs.Harms.{entries_of, LedgerBreaks, StoreBreaks, IsRefused, NextBreaks, BreaksAfter, MagicBreaks}
+use Rattle.swh_recovery.specs.Harms.{entries_of, LedgerBreaks, StoreBreaks, IsRefused, NextBreaks, Begin, BreaksAfter, MagicBreaks}
 use Rattle.swh_recovery.specs.Records.{events, IsHarm}
 use Rattle.swh_recovery.proofs.OneField.{one_record, no_record, same_records, event_frame, record_whole}
 use Rattle.swh_recovery.proofs.OneObject.{one_run, no_run, whole_or_broken}
@@ -94,7 +97,7 @@ byte_at at byte ledger rest is =
     ap (λ (n : ℕ). get_or ledger n 0) (let z : at ≡ at + 0 = omega arith in z) ∙ sym (get_or-drop at ledger 0 0) ∙ ap (λ (l : List ℕ). get_or l 0 0) is
 
 -- the magic's bytes are not others
-no_magic_break : (ledger behind : List ℕ) (file : ℕ) (found : Found) → ledger ≡ magic ++ behind → MagicBreaks ledger file found → ⊥
+pub no_magic_break : (ledger behind : List ℕ) (file : ℕ) (found : Found) → ledger ≡ magic ++ behind → MagicBreaks ledger file found → ⊥
 no_magic_break ledger behind file found is b =
     b.other (sym (byte_at b.at b.byte ledger b.rest b.is) ∙ ap (λ (l : List ℕ). get_or l b.at 0) is ∙ get_or-append magic behind 0 b.at b.inside)
 
@@ -116,6 +119,17 @@ one_magic ledger file file' x y a b =
       ]
     ]
 
+-- the first object of the first event
+first_entry : List Event → Entry → Entry
+first_entry [] d = d
+first_entry (e ∷ h) d = first_of e.what
+  where
+    first_of : EventKind → Entry
+    first_of (Batch []) = d
+    first_of (Batch (f ∷ fs)) = f
+    first_of (Open o k t) = d
+    first_of (Mark o v s n) = d
+
 module _ (id_of : Kind → List ℕ → List ℕ) where
   -- These events' objects are of their kinds and named.
   abbrev pub AreGood : List Event → Type 0
@@ -134,6 +148,54 @@ module _ (id_of : Kind → List ℕ → List ℕ) where
   pub history_good : (a : Archive) (h : List Event) → MayAll id_of a h → AreGood h
   history_good a [] may = tt
   history_good a (e ∷ h) may = (kind_good a e.by e.what may.0, history_good (after a e) h may.1)
+
+  -- One object alone is a history, so that its body's children are its own.
+  history_of_one : (e : Entry) → IsObject id_of e → IsHistory id_of (record { by = 0; what = Batch (e ∷ []) } ∷ [])
+  history_of_one e good = (
+    record {
+      good = (record { good = record { kids = good.kids }; named = good.named }, tt);
+      limits = record { bodies = (good.short, tt); objects = omega arith; bytes = omega arith };
+      new = (get-empty name_cmp e.name, tt);
+    },
+    tt,
+  )
+
+  same_object : (e f : Entry) → without_children e ≡ without_children f → IsObject id_of e → IsObject id_of f → e ≡ f
+  unfolding first_entry
+  same_object e f alike he hf =
+      ap (λ (h : List Event). first_entry h e)
+      (one_history id_of (record { by = 0; what = Batch (e ∷ []) } ∷ []) (record { by = 0; what = Batch (f ∷ []) } ∷ []) (λ i. record { by = 0; what = Batch (alike i ∷ []) } ∷ []) (history_of_one e he) (history_of_one f hf))
+
+  same_objects : (es fs : List Entry) → map without_children es ≡ map without_children fs → AllByRecursion (IsObject id_of) es → AllByRecursion (IsObject id_of) fs → es ≡ fs
+  same_objects [] [] alike he hf = refl
+  same_objects [] (f ∷ fs) alike he hf = let e : [] ≡ without_children f ∷ map without_children fs = alike in absurd cc
+  same_objects (e ∷ es) [] alike he hf = let f : without_children e ∷ map without_children es ≡ [] = alike in absurd cc
+  same_objects (e ∷ es) (f ∷ fs) alike he hf =
+      let heads : without_children e ≡ without_children f = cc in
+      let tails : map without_children es ≡ map without_children fs = cc in
+      let one = same_object e f heads he.0 hf.0 in
+      let more = same_objects es fs tails he.1 hf.1 in
+      λ i. one i ∷ more i
+
+  same_what : (a b : EventKind) → bare_kind a ≡ bare_kind b → AllByRecursion (IsObject id_of) (entries_of a) → AllByRecursion (IsObject id_of) (entries_of b) → a ≡ b
+  same_what (Batch es) (Batch fs) alike ha hb =
+      let entries : map without_children es ≡ map without_children fs = cc in
+      let one = same_objects es fs entries ha hb in λ i. Batch (one i)
+  same_what (Batch es) (Open o k d) alike ha hb = let e : Batch (map without_children es) ≡ Open o k d = alike in absurd cc
+  same_what (Batch es) (Mark o v s t) alike ha hb = let e : Batch (map without_children es) ≡ Mark o v s t = alike in absurd cc
+  same_what (Open o k d) (Batch fs) alike ha hb = let e : Open o k d ≡ Batch (map without_children fs) = alike in absurd cc
+  same_what (Open o k d) (Open p l e) alike ha hb = alike
+  same_what (Open o k d) (Mark p v s t) alike ha hb = alike
+  same_what (Mark o v s t) (Batch fs) alike ha hb = let e : Mark o v s t ≡ Batch (map without_children fs) = alike in absurd cc
+  same_what (Mark o v s t) (Open p k d) alike ha hb = alike
+  same_what (Mark o v s t) (Mark p w r u) alike ha hb = alike
+
+  -- events that are the same up to the children, and good, are the same
+  same_event_of : (e f : Event) → bare_event e ≡ bare_event f → AllByRecursion (IsObject id_of) (entries_of e.what) → AllByRecursion (IsObject id_of) (entries_of f.what) → e ≡ f
+  same_event_of e f alike he hf =
+      let who : e.by ≡ f.by = ap (λ (x : Event). x.by) alike in
+      let what = same_what e.what f.what (ap (λ (x : Event). x.what) alike) he hf in
+      λ i. record { by = who i; what = what i }
 
   module _ (store : List ℕ) where
     run_stands : (start by : ℕ) (what : EventKind) (payload y : List ℕ) (t : TellsRun payload) (found : Found) → IsCodable start (record { by = by; what = what }) → event_byte what ≡ 66 → payload ≡ payload_of start (record { by = by; what = what })
@@ -300,6 +362,67 @@ module _ (id_of : Kind → List ℕ → List ℕ) where
         let one = same_event at e f _ _ _ _ ce cf records stored in
         (one.0, one.1, length_behind (packed_objects e.what) (packed_objects f.what) _ _ stored one.2, length_behind (coded_record at e) (coded_record at f) _ _ records one.1)
 
+    -- From a gate of the ledger and a place of the store on the files begin with what they have of these events.
+    pub record BeginsFrom (at : ℕ) (ledger : List ℕ) (h : List Event) : Type 0 where
+      pub records : List ℕ
+      pub begins : ledger ≡ coded_records at h ++ records
+      pub beyond : List ℕ
+      pub runs : drop at store ≡ coded_runs h ++ beyond
+      pub codable : AreCodable at h
+      pub good : AreGood h
+
+    -- These events are a front of those.
+    pub record IsFront (g h : List Event) : Type 0 where
+      pub more : List Event
+      pub is : g ++ more ≡ h
+
+    begins_behind : (at : ℕ) (ledger more : List ℕ) (e : Event) (h : List Event) (b : BeginsFrom at ledger (e ∷ h)) → coded_records (at + length (packed_objects e.what)) h ++ b.records ≡ more → BeginsFrom (at + length (packed_objects e.what)) more h
+    begins_behind at ledger more e h b is = record {
+      records = b.records;
+      begins = sym is;
+      beyond = b.beyond;
+      runs = behind_run at store (packed_objects e.what) (coded_runs h ++ b.beyond) (b.runs ∙ append_assoc (packed_objects e.what) (coded_runs h) b.beyond);
+      codable = b.codable.1;
+      good = b.good.1;
+    }
+
+    front_next : (e f : Event) (g h : List Event) → e ≡ f → IsFront g h → IsFront (e ∷ g) (f ∷ h)
+    front_next e f g h one rest = record { more = rest.more; is = (λ i. one i ∷ rest.is i) }
+
+    -- of two lists of events with which the files begin the shorter is a front of the other
+    pub shorter_is_front : (at : ℕ) (ledger : List ℕ) (g h : List Event) → BeginsFrom at ledger g → BeginsFrom at ledger h → length g ≤ length h → IsFront g h
+    shorter_is_front at ledger [] h a b le = record { more = h; is = refl }
+    shorter_is_front at ledger (e ∷ g) [] a b le = absurd (omega (arith, le))
+    shorter_is_front at ledger (e ∷ g) (f ∷ h) a b le =
+        let one = fronts at ledger a.records b.records a.beyond b.beyond e f g h a.begins b.begins a.runs b.runs a.codable.0 b.codable.0 in
+        let there = at + length (packed_objects f.what) in
+        let more = coded_records there h ++ b.records in
+        let first = subst (λ (m : ℕ). BeginsFrom (at + m) more g) one.2 (begins_behind at ledger more e g a one.1) in
+        front_next e f g h (same_event_of e f one.0 a.good.0 b.good.0) (shorter_is_front there more g h first (begins_behind at ledger more f h b refl) (omega (arith, le)))
+
+    stands_behind : (at : ℕ) (ledger : List ℕ) (f : Event) (h : List Event) (s : StandsFrom at ledger (drop at store) (f ∷ h))
+        → StandsFrom (at + length (packed_objects f.what)) (coded_records (at + length (packed_objects f.what)) h ++ s.gate ∷ s.behind) (drop (at + length (packed_objects f.what)) store) h
+    stands_behind at ledger f h s = record {
+      gate = s.gate;
+      closed = s.closed;
+      behind = s.behind;
+      records = refl;
+      beyond = s.beyond;
+      runs = behind_run at store (packed_objects f.what) (coded_runs h ++ s.beyond) (s.runs ∙ append_assoc (packed_objects f.what) (coded_runs h) s.beyond);
+      codable = s.codable.1;
+    }
+
+    -- and each is a front of the events for which they stand
+    pub front_of_standing : (at : ℕ) (ledger : List ℕ) (g h : List Event) → BeginsFrom at ledger g → StandsFrom at ledger (drop at store) h → AreGood h → IsFront g h
+    front_of_standing at ledger [] h a s good = record { more = h; is = refl }
+    front_of_standing at ledger (e ∷ g) [] a s good = absurd (s.closed (same_head s.gate 1 _ _ (sym s.records ∙ a.begins)))
+    front_of_standing at ledger (e ∷ g) (f ∷ h) a s good =
+        let one = fronts at ledger a.records (s.gate ∷ s.behind) a.beyond s.beyond e f g h a.begins s.records a.runs s.runs a.codable.0 s.codable.0 in
+        let there = at + length (packed_objects f.what) in
+        let more = coded_records there h ++ s.gate ∷ s.behind in
+        let first = subst (λ (m : ℕ). BeginsFrom (at + m) more g) one.2 (begins_behind at ledger more e g a one.1) in
+        front_next e f g h (same_event_of e f one.0 a.good.0 good.0) (front_of_standing there more g h first (stands_behind at ledger f h s) good.1)
+
     -- files that break stand for no events
     pub no_stand : (n at gate : ℕ) (ledger : List ℕ) (h g : List Event) (file : ℕ) (found : Found) → BreaksFrom n at gate ledger h file found → StandsFrom at ledger (drop at store) g → AreGood g → ⊥
     no_stand n at gate ledger [] [] file found b s good = none_at_end (n + 0) (gate + 0) at s.gate ledger s.behind file found s.records s.closed (next_here n at gate ledger file found b)
@@ -310,19 +433,22 @@ module _ (id_of : Kind → List ℕ → List ℕ) where
         let there = at + length (packed_objects f.what) in
         let one = fronts at ledger b.records (s.gate ∷ s.behind) b.beyond s.beyond e f h g b.begins s.records b.runs s.runs b.codable.0 s.codable.0 in
         let more = coded_records there g ++ s.gate ∷ s.behind in
-        let stands : StandsFrom there more (drop there store) g = record {
-          gate = s.gate;
-          closed = s.closed;
-          behind = s.behind;
-          records = refl;
-          beyond = s.beyond;
-          runs = behind_run at store (packed_objects f.what) (coded_runs g ++ s.beyond) (s.runs ∙ append_assoc (packed_objects f.what) (coded_runs g) s.beyond);
-          codable = s.codable.1;
-        } in
+        let stands = stands_behind at ledger f g s in
         no_stand (n + 1) here (gate + (1 + length (coded_record at e))) more h g file found (behind_event n at gate ledger more e h file found b one.1) (subst (λ (m : ℕ). StandsFrom (at + m) more (drop (at + m) store) g) (sym one.2) stands) good.1
 
+    -- nor do they begin with more events
+    pub no_more_events : (n at gate : ℕ) (ledger : List ℕ) (g h : List Event) (file : ℕ) (found : Found) → BreaksFrom n at gate ledger g file found → BeginsFrom at ledger h → length g < length h → ⊥
+    no_more_events n at gate ledger g [] file found b s less = omega (arith, less)
+    no_more_events n at gate ledger [] (f ∷ h) file found b s less = not_here n at gate ledger s.records s.beyond f h file found b s.begins s.runs s.codable.0 s.good.0
+    no_more_events n at gate ledger (e ∷ g) (f ∷ h) file found b s less =
+        let one = fronts at ledger b.records s.records b.beyond s.beyond e f g h b.begins s.begins b.runs s.runs b.codable.0 s.codable.0 in
+        let there = at + length (packed_objects f.what) in
+        let more = coded_records there h ++ s.records in
+        let first = subst (λ (m : ℕ). BreaksFrom (n + 1) (at + m) (gate + (1 + length (coded_record at e))) more g file found) one.2 (behind_event n at gate ledger more e g file found b one.1) in
+        no_more_events (n + 1) there (gate + (1 + length (coded_record at e))) more g h file found first (begins_behind at ledger more f h s refl) (omega (arith, less))
+
     -- and in one way
-    pub one_from : (n at gate : ℕ) (ledger : List ℕ) (g h : List Event) (file file' : ℕ) (x y : Found) → BreaksFrom n at gate ledger g file x → BreaksFrom n at gate ledger h file' y → AreAlike g h × (file ≡ file') × (x ≡ y)
+    pub one_from : (n at gate : ℕ) (ledger : List ℕ) (g h : List Event) (file file' : ℕ) (x y : Found) → BreaksFrom n at gate ledger g file x → BreaksFrom n at gate ledger h file' y → (g ≡ h) × (file ≡ file') × (x ≡ y)
     one_from n at gate ledger [] [] file file' x y a b = let one = one_next (n + 0) (gate + 0) at ledger file file' x y (next_here n at gate ledger file x a) (next_here n at gate ledger file' y b) in (refl, one.0, one.1)
     one_from n at gate ledger [] (f ∷ h) file file' x y a b = absurd (not_here n at gate ledger b.records b.beyond f h file x a b.begins b.runs b.codable.0 b.good.0)
     one_from n at gate ledger (e ∷ g) [] file file' x y a b = absurd (not_here n at gate ledger a.records a.beyond e g file' y b a.begins a.runs a.codable.0 a.good.0)
@@ -334,7 +460,8 @@ module _ (id_of : Kind → List ℕ → List ℕ) where
         let second = behind_event n at gate ledger more f h file' y b refl in
         let moved = subst (λ (m : ℕ). BreaksFrom (n + 1) there (gate + (1 + m)) more g file x) one.3 (subst (λ (m : ℕ). BreaksFrom (n + 1) (at + m) (gate + (1 + length (coded_record at e))) more g file x) one.2 first) in
         let rest = one_from (n + 1) there (gate + (1 + length (coded_record at f))) more g h file file' x y moved second in
-        ((λ i. one.0 i ∷ rest.0 i), rest.1, rest.2)
+        let event = same_event_of e f one.0 a.good.0 b.good.0 in
+        ((λ i. event i ∷ rest.0 i), rest.1, rest.2)
 
   -- what breaks after these events breaks behind the magic
   from_magic : (ledger store rest : List ℕ) (h : List Event) (file : ℕ) (found : Found) → ledger ≡ magic ++ rest → BreaksAfter id_of h ledger store file found → BreaksFrom store 1 0 8 rest h file found
@@ -354,6 +481,16 @@ module _ (id_of : Kind → List ℕ → List ℕ) where
             (subst (λ (m : ℕ). NextBreaks id_of m (8 + length (coded_records 0 h)) (length (coded_runs h)) f.records store file found) number b.next);
       }
 
+  pub begins_from : (ledger store rest : List ℕ) (h : List Event) → ledger ≡ magic ++ rest → Begin id_of ledger store h → BeginsFrom store 0 rest h
+  begins_from ledger store rest h is f = record {
+    records = f.records;
+    begins = (cut magic magic rest (coded_records 0 h ++ f.records) refl (sym is ∙ f.ledger_begins)).1;
+    beyond = f.store_rest;
+    runs = f.store_begins;
+    codable = f.codable;
+    good = f.good;
+  }
+
   -- files with a harm stand for no history
   pub no_history : (ledger store : List ℕ) (file at : ℕ) (harm : Harm) (before : List Record) (h : List Event) → IsHarm id_of ledger store file at harm before → StandsFor ledger store h → IsHistory id_of h → ⊥
   no_history ledger store file at harm before h is stands history =
@@ -363,11 +500,11 @@ module _ (id_of : Kind → List ℕ → List ℕ) where
         | inr b ↦ no_stand store 1 0 8 s.rest (events before) h file (found_at at harm) (from_magic ledger store s.rest (events before) file (found_at at harm) s.begins b.0) s.stands (history_good empty_archive h history)
       ]
 
-  -- Two harms are the same, after the same events up to the children.
+  -- Two harms are the same, after the same events.
   pub record IsSameHarm (file at : ℕ) (harm : Harm) (before : List Record) (file' at' : ℕ) (harm' : Harm) (before' : List Record) : Type 0 where
     pub same_file : file ≡ file'
     pub same_found : found_at at harm ≡ found_at at' harm'
-    pub alike : AreAlike (events before) (events before')
+    pub same_events : events before ≡ events before'
 
   pub same_harm : (ledger store : List ℕ) (file at : ℕ) (harm : Harm) (before : List Record) (file' at' : ℕ) (harm' : Harm) (before' : List Record) → IsHarm id_of ledger store file at harm before → IsHarm id_of ledger store file' at' harm' before'
       → IsSameHarm file at harm before file' at' harm' before'
@@ -377,7 +514,7 @@ module _ (id_of : Kind → List ℕ → List ℕ) where
           | inl b ↦ record {
             same_file = a.0.file_is ∙ sym b.0.file_is;
             same_found = one_magic ledger file file' (found_at at harm) (found_at at' harm') a.0 b.0;
-            alike = ap (λ (rs : List Record). map bare_event (events rs)) (a.1 ∙ sym b.1);
+            same_events = ap events (a.1 ∙ sym b.1);
           }
           | inr b ↦ absurd (no_magic_break ledger (coded_records 0 (events before') ++ b.0.fronts.records) file (found_at at harm) b.0.fronts.ledger_begins a.0)
         ]
@@ -388,6 +525,6 @@ module _ (id_of : Kind → List ℕ → List ℕ) where
               let is = a.0.fronts.ledger_begins in
               let one = one_from store 1 0 8 rest (events before) (events before') file file' (found_at at harm) (found_at at' harm')
               (from_magic ledger store rest (events before) file (found_at at harm) is a.0) (from_magic ledger store rest (events before') file' (found_at at' harm') is b.0) in
-              record { same_file = one.1; same_found = one.2; alike = one.0 })
+              record { same_file = one.1; same_found = one.2; same_events = one.0 })
         ]
       ]

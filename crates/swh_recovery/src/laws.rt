@@ -1,7 +1,6 @@
 //! Laws of what is read.
 ghost use Rattle.std.specs.Prelude.{◌≡◌, ◌++◌, ℕ, List};
 ghost use Rattle.swh_base.specs.declared.kind.Kind.{Kind};
-ghost use Rattle.swh_model.specs.Alike.{AreAlike};
 ghost use Rattle.swh_model.specs.declared.event.Event.{Event};
 ghost use Rattle.swh_model.specs.Step.{IsHistory};
 ghost use Rattle.swh_format.specs.EventRecord.{coded_record, IsCodable};
@@ -25,11 +24,10 @@ pub fn harms_leave_no_history()
         → StandsFor ledger store h → IsHistory id_of h → ⊥ }
 {}
 
-/// Two files have one harm at most, in one file and at one place, after the records of one list of events, up to the
-/// children, which the bodies determine.
+/// Two files have one harm at most, in one file and at one place, after the records of one list of events.
 pub fn one_harm()
     ensures { (id_of : Kind → List ℕ → List ℕ) (ledger store : List ℕ) (file at file' at' : ℕ) (harm harm' : Harm)
         (before before' : List Record) → IsHarm id_of ledger store file at harm before
         → IsHarm id_of ledger store file' at' harm' before'
-        → (file ≡ file') × (at ≡ at') × (harm ≡ harm') × AreAlike (events before) (events before') }
+        → (file ≡ file') × (at ≡ at') × (harm ≡ harm') × (events before ≡ events before') }
 {}
