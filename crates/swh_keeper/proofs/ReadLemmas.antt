@@ -1,5 +1,6 @@
 -- Two files after a barrier on each, and how a making ends.
-use Rattle.std.proofs.Common.{◌≡◌, ℕ, Err, List, refl, sym, ap, subst}
+use Rattle.std.specs.Prelude.{IsErrAnd, IsErrOf, OnOk}
+use Rattle.std.proofs.Common.{◌≡◌, ℕ, Result, Ok, Err, List, refl, sym, ap, ◌∙◌, subst, inr}
 use Rattle.swh_outside.specs.Disk.{File, Sync, IsAtRest, done}
 use Rattle.swh_outside.specs.Files.{Files, files_of, files_done}
 use Rattle.swh_outside.proofs.Images.{at_rest_done}
@@ -14,7 +15,8 @@ use Rattle.swh_model.specs.Step.{IsHistory}
 use Rattle.swh_model.proofs.OneHistory.{one_history}
 use Rattle.swh_format.proofs.Unique.{alike}
 use Rattle.swh_keeper.specs.declared.opening.OpenWhy.{OpenWhy}
-use Rattle.swh_keeper.specs.Opening.{make_why, IsLeftOfMaking}
+use Rattle.swh_keeper.specs.declared.opening.OpenWhy.TheVariants.{Made, NotMade, Damaged, DiskFault, Memory}
+use Rattle.swh_keeper.specs.Opening.{make_why, IsLeftOfMaking, IsLeftFor}
 
 -- A barrier was made on each file.
 module _ (ledger store ledger_now store_now : File) (settled : files_of ledger_now store_now ≡ files_done barriers (files_of ledger store)) where
@@ -35,6 +37,24 @@ module _ (ledger store ledger_now store_now : File) (settled : files_of ledger_n
 
   pub store_rests : IsAtRest store_now
   store_rests = subst IsAtRest (sym store_done) (at_rest_done store)
+
+pub left_settled : (why : OpenWhy) (old new : Files) → new ≡ files_done barriers old → IsLeftFor why old new
+left_settled Made old new settled = settled
+left_settled NotMade old new settled = settled
+left_settled (Damaged file at harm) old new settled = settled
+left_settled DiskFault old new settled = inr settled
+left_settled Memory old new settled = settled
+
+-- why a `?` ends a call is why it failed
+pub why_exits : {T U : Type 0} (r : Result T OpenWhy) (s : Result U OpenWhy) (x y : OpenWhy) → IsErrAnd r (λ e. e ≡ x) → s ≡ Err x → IsErrOf r y → IsErrOf s y
+why_exits (Ok t) s x y h was is = absurd h
+why_exits (Err e) s x y h was is =
+    let same : e ≡ y = cc in
+    was ∙ ap (λ (z : OpenWhy). Err z) (sym h ∙ same)
+
+pub on_any : {T E : Type 0} (r : Result T E) (P : Type 0) → P → OnOk r P
+on_any (Ok t) P h = h
+on_any (Err e) P h = tt
 
 -- two histories for which the files stand are one
 pub the_one : (id_of : Kind → List ℕ → List ℕ) (ledger store : List ℕ) (g h : List Event) → StandsFor ledger store g → IsHistory id_of g → StandsFor ledger store h → IsHistory id_of h → g ≡ h

@@ -11,7 +11,7 @@ use Rattle.swh_model.specs.Step.{IsHistory}
 use Rattle.swh_replay.specs.Replay.{IsReplayOf, IsInFiles}
 use Rattle.swh_keeper.specs.declared.opening.Opened.{Opened}
 use Rattle.swh_keeper.specs.declared.opening.OpenWhy.{OpenWhy}
-use Rattle.swh_keeper.specs.declared.opening.OpenWhy.TheVariants.{Made, DiskFault}
+use Rattle.swh_keeper.specs.declared.opening.OpenWhy.TheVariants.{Made, NotMade, DiskFault}
 
 -- why an archive is not made, for why its two files are not
 abbrev pub make_why : MakeFault → OpenWhy
@@ -43,6 +43,18 @@ UnlessDiskFault _ P = P
 abbrev pub IsOpeningFault : OpenWhy → Type 0
 IsOpeningFault Made = ⊥
 IsOpeningFault _ = Unit {0}
+
+-- the two files are not read for one of these
+abbrev pub IsReadingFault : OpenWhy → Type 0
+IsReadingFault Made = ⊥
+IsReadingFault NotMade = ⊥
+IsReadingFault _ = Unit {0}
+
+-- a made ledger is told from another, or a disk failed
+abbrev pub IsMadeFault : OpenWhy → Type 0
+IsMadeFault NotMade = Unit {0}
+IsMadeFault DiskFault = Unit {0}
+IsMadeFault _ = ⊥
 
 -- A barrier was made on each file; where a disk failed, it may be that one of the two failed.
 abbrev pub IsLeftFor : OpenWhy → Files → Files → Type 0

@@ -65,13 +65,12 @@ impl<N: Namer, D: Disk> Keeper<N, D> {
       IsLeftOfMaking,
       IsLeftFor,
       IsTheHistory,
-      IsDamaged,
       UnlessDiskFault,
     };
+    ghost use Rattle.swh_keeper.specs.Damage.{IfDamagedAt, IsDamagedAt};
     ghost use Rattle.swh_keeper.specs.declared.opening.OpenWhy.TheVariants.{
       Made,
       NotMade,
-      Damaged,
       DiskFault as DiskFaulted,
     };
     ghost use Rattle.swh_model.specs.Archive.{visits_of};
@@ -152,8 +151,8 @@ impl<N: Namer, D: Disk> Keeper<N, D> {
 
         ensures why { IfErr result (λ fault. IsOpeningFault fault.why) }
         ensures not_made { D.tells → IfErr result (λ fault. fault.why ≡ NotMade → IsNotMade (D.file ledger).seen) }
-        ensures damaged { D.tells → IfErr result (λ fault. fault.why ≡ Damaged
-            → IsDamaged N.id_of (D.file ledger).seen (D.file store).seen) }
+        ensures damaged { D.tells → IfErr result (λ fault. IfDamagedAt fault.why
+            (IsDamagedAt N.id_of (D.file ledger).seen (D.file store).seen)) }
         ensures cause { IfErr result (λ fault. fault.why ≡ DiskFaulted
             → ADiskFailed (D.faults store) (D.faults fault.store) (D.faults ledger) (D.faults fault.ledger)) }
         ensures left { D.tells → IfErr result (λ fault. IsLeftFor fault.why (files_of (D.file ledger) (D.file store))

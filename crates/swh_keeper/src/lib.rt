@@ -4,12 +4,15 @@
 #![tactic(auto)]
 
 mod adding;
+mod damage;
 mod fault;
 mod keeper;
 mod opening;
 mod own;
+mod replaying;
 mod writing;
 
+pub use damage::{damaged_files_have_no_history, one_damage};
 pub use fault::Refusal;
 pub use keeper::{Keeper, keeper_is_sent};
 pub use opening::{OpenFault, OpenWhy};
@@ -20,3 +23,4 @@ pub use own::{
 pub use swh_base::Which;
 pub use swh_model::Outcome;
 pub use swh_plan::{How, Plan};
+pub use swh_recovery::Harm;

@@ -464,7 +464,7 @@ module _ (id_of : Kind → List ℕ → List ℕ) where
         ((λ i. event i ∷ rest.0 i), rest.1, rest.2)
 
   -- what breaks after these events breaks behind the magic
-  from_magic : (ledger store rest : List ℕ) (h : List Event) (file : ℕ) (found : Found) → ledger ≡ magic ++ rest → BreaksAfter id_of h ledger store file found → BreaksFrom store 1 0 8 rest h file found
+  pub from_magic : (ledger store rest : List ℕ) (h : List Event) (file : ℕ) (found : Found) → ledger ≡ magic ++ rest → BreaksAfter id_of h ledger store file found → BreaksFrom store 1 0 8 rest h file found
   from_magic ledger store rest h file found is b =
       let f = b.fronts in
       let number : length h + 1 ≡ 1 + length h = omega arith in

@@ -35,7 +35,7 @@ runs-push : (g : List Event) (e : Event) → coded_runs (g ++ e ∷ []) ≡ code
 runs-push [] e = append-nil (packed_objects e.what)
 runs-push (f ∷ g) e = ap (λ (l : List ℕ). packed_objects f.what ++ l) (runs-push g e) ∙ sym (append_assoc (packed_objects f.what) (coded_runs g) (packed_objects e.what))
 
-events-push : (rs : List Record) (r : Record) → events (rs ++ r ∷ []) ≡ events rs ++ event_of r ∷ []
+pub events-push : (rs : List Record) (r : Record) → events (rs ++ r ∷ []) ≡ events rs ++ event_of r ∷ []
 events-push [] r = refl
 events-push (s ∷ rs) r = ap (λ (l : List Event). event_of s ∷ l) (events-push rs r)
 

@@ -20,4 +20,4 @@ mod run;
 pub use archive::{ReadAllFault, read_all};
 pub use harm::Harm;
 pub use laws::{an_event_does_not_break, harms_leave_no_history, one_harm};
-pub use record::Record;
+pub use record::{Record, into_events};
