@@ -7,6 +7,7 @@
 mod certificate;
 mod checking;
 mod closed;
+mod closing;
 mod laws;
 mod met;
 mod walking;
@@ -14,6 +15,7 @@ mod walking;
 pub use certificate::{Cert, Gap};
 pub use checking::check;
 pub use closed::Closed;
+pub use closing::close;
 pub use laws::{gaps_refute_certificates, missing_names_refute_closure};
 pub use walking::{WalkFault, walk};
 

@@ -3,7 +3,6 @@ use Rattle.std.proofs.Common.{ap, ◌≡◌, ℕ, zero, suc, ◌-◌, ◌<◌, �
 use Rattle.std.specs.List.{slice_get}
 use Rattle.swh_outside.specs.Disk.{File}
 use Rattle.swh_outside.specs.Files.{EachImages, files_of}
-use Rattle.std.specs.FinMap as finite
 use Rattle.swh_segment.specs.Settled.{IsSettled}
 use Rattle.swh_segment.specs.Making.{IsEmptyArchive}
 use Rattle.swh_base.specs.declared.kind.Kind.{Kind}
@@ -18,10 +17,10 @@ use Rattle.swh_model.specs.Step.{May, May_kind, MayAll, HasItsChildren, HasItsCh
 use Rattle.swh_model.specs.Judge.{IsVerdict, IsWish}
 use Rattle.swh_model.proofs.Verdicts.{wish_may}
 use Rattle.swh_model.proofs.Visits.{all-map}
-use Rattle.swh_plan.specs.declared.replayed.Replayed.{Replayed}
+use Rattle.swh_replay.specs.declared.replayed.Replayed.{Replayed}
 use Rattle.swh_plan.specs.declared.planning.Planned.{Planned}
-use Rattle.swh_keeper.specs.Advance.{MayAdvance}
-use Rattle.swh_plan.specs.Planned.{IsReplayOf, IsInFiles, IsPlanned}
+use Rattle.swh_replay.specs.Replay.{IsReplayOf, IsInFiles, MayAdvance}
+use Rattle.swh_plan.specs.Planned.{IsPlanned}
 use Rattle.swh_keeper.specs.Keeping.{AreSettledFor, IsToAdd, WithOrWithout, IsKeeping, calls_for}
 use Rattle.swh_format.specs.EventRecord.{run_written, coded_record}
 use Rattle.swh_segment.specs.Calls.{event_calls}
@@ -78,21 +77,21 @@ keeping-doubt id_of tells ledger store r r' h h' e n history may same fits se le
     })
 
 -- the keeper of an archive with no event
-pub keeping-empty : (id_of : Kind → List ℕ → List ℕ) (tells : Type 0) (ledger store : File) (r : Replayed) (h : List Event) → h ≡ [] → r.bodies ≡ finite.empty → r.visits ≡ finite.empty → r.store_end ≡ 0 → r.ledger_end ≡ 8
+pub keeping-empty : (id_of : Kind → List ℕ → List ℕ) (tells : Type 0) (ledger store : File) (r : Replayed) (h : List Event) → h ≡ [] → IsReplayOf r [] → IsInFiles r
     → (tells → IsEmptyArchive (files_of ledger store)) → IsKeeping id_of tells ledger store r h None
-keeping-empty id_of tells ledger store r h none bodies visits se le empty =
+keeping-empty id_of tells ledger store r h none is fits empty =
     subst (λ (l : List Event). IsKeeping id_of tells ledger store r l None) (sym none)
     (record {
       history = tt;
-      in_files = record { store_fits = omega (arith, se); ledger_fits = omega (arith, le) };
-      replayed_is = λ _. record { bodies = bodies; visits = visits; store = se; ledger = omega (arith, le) };
+      in_files = fits;
+      replayed_is = λ _. is;
       settled = λ _ told. let e = empty told in record {
         settled = record {
-          ledger = subst (λ (n : ℕ). IsSettled ledger [] n) (sym le) e.ledger;
+          ledger = subst (λ (n : ℕ). IsSettled ledger [] n) (let l = is.ledger in omega (arith, l)) e.ledger;
           store = e.store;
           rest = store.seen;
           begins = refl;
-          store_end_is = sym se;
+          store_end_is = sym is.store;
         };
         codable = tt;
       };

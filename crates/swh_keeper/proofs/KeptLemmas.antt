@@ -14,9 +14,8 @@ use Rattle.swh_format.proofs.Lengths.{store_length-push, ledger_length-push}
 use Rattle.swh_model.specs.Limits.{stored_length, payload_length}
 use Rattle.swh_model.specs.Archive.{Archive, empty_archive}
 use Rattle.swh_model.specs.Step.{May, MayAll, after, after_all, replay}
-use Rattle.swh_plan.specs.Planned.{IsReplayOf}
-use Rattle.swh_keeper.specs.Advance.{archive_of, Advances}
-use Rattle.swh_plan.specs.declared.replayed.Replayed.{Replayed}
+use Rattle.swh_replay.specs.Replay.{IsReplayOf, archive_of, Advances}
+use Rattle.swh_replay.specs.declared.replayed.Replayed.{Replayed}
 use Rattle.swh_keeper.specs.Keeping.{AreSettledFor, IsKeeping, IsToAdd, WithOrWithout}
 use Rattle.swh_keeper.specs.Kept.{AreStanding, IsKept}
 

@@ -5,8 +5,8 @@ use Rattle.swh_base.specs.declared.kind.Kind.{Kind}
 use Rattle.swh_model.specs.declared.event.Event.{Event}
 use Rattle.swh_format.specs.Stands.{StandsFor}
 use Rattle.swh_model.specs.Step.{IsHistory}
-use Rattle.swh_plan.specs.declared.replayed.Replayed.{Replayed}
-use Rattle.swh_plan.specs.Planned.{IsReplayOf, IsInFiles}
+use Rattle.swh_replay.specs.declared.replayed.Replayed.{Replayed}
+use Rattle.swh_replay.specs.Replay.{IsReplayOf, IsInFiles}
 use Rattle.swh_keeper.specs.Keeping.{AreSettledFor, IsKeeping}
 use Rattle.swh_format.proofs.HistoryFiles.{runs-written}
 use Rattle.swh_format.proofs.Lengths.{runs-length, ledger-length}

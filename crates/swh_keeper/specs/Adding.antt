@@ -1,8 +1,8 @@
 -- What adding an event leaves in memory.
 use Rattle.std.specs.Prelude.{◌≡◌, List, [], ◌∷◌, ◌++◌}
 use Rattle.swh_model.specs.declared.event.Event.{Event}
-use Rattle.swh_plan.specs.declared.replayed.Replayed.{Replayed}
-use Rattle.swh_plan.specs.Planned.{IsReplayOf, IsInFiles}
+use Rattle.swh_replay.specs.declared.replayed.Replayed.{Replayed}
+use Rattle.swh_replay.specs.Replay.{IsReplayOf, IsInFiles}
 
 -- The history ends with the event, and what is in memory is its replay, with both ends within the files' limits.
 pub record IsAdded (h : List Event) (e : Event) (h' : List Event) (r : Replayed) : Type 0 where

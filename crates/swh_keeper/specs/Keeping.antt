@@ -13,8 +13,8 @@ use Rattle.swh_format.specs.EventRecord.{coded_record, packed_objects, run_writt
 use Rattle.swh_model.specs.Limits.{store_length, records_length}
 use Rattle.swh_format.specs.Stands.{StandsFor, all_written}
 use Rattle.swh_model.specs.Step.{IsHistory}
-use Rattle.swh_plan.specs.declared.replayed.Replayed.{Replayed}
-use Rattle.swh_plan.specs.Planned.{IsReplayOf, IsInFiles}
+use Rattle.swh_replay.specs.declared.replayed.Replayed.{Replayed}
+use Rattle.swh_replay.specs.Replay.{IsReplayOf, IsInFiles}
 use Rattle.swh_keeper.specs.Kept.{MayHoldOneMore}
 
 -- The files are settled for the history, and its events fit their fields.

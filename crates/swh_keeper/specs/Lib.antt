@@ -1,10 +1,7 @@
-pub mod Checked
-pub mod Advance
 pub mod Refusal
 pub mod Kept
 pub mod Keeping
 pub mod Adding
-pub mod Counts
-pub mod Reading
 pub mod Opening
 pub mod Own
+pub mod Damage

@@ -4,14 +4,14 @@ use Rattle.swh_outside.specs.Files.{Files, FilesBreaks, files_done}
 use Rattle.swh_segment.specs.Making.{IsMade, barriers, making_calls}
 use Rattle.swh_segment.specs.declared.fault.MakeFault.{MakeFault}
 use Rattle.swh_segment.specs.declared.fault.MakeFault.TheVariants as make
-use Rattle.swh_segment.specs.declared.reading.ReadFileFault.{ReadFileFault}
-use Rattle.swh_segment.specs.declared.reading.ReadFileFault.TheVariants as read
 use Rattle.swh_base.specs.declared.kind.Kind.{Kind}
 use Rattle.swh_model.specs.declared.event.Event.{Event}
 use Rattle.swh_format.specs.Stands.{StandsFor}
 use Rattle.swh_model.specs.Step.{IsHistory}
+use Rattle.swh_replay.specs.Replay.{IsReplayOf, IsInFiles}
+use Rattle.swh_keeper.specs.declared.opening.Opened.{Opened}
 use Rattle.swh_keeper.specs.declared.opening.OpenWhy.{OpenWhy}
-use Rattle.swh_keeper.specs.declared.opening.OpenWhy.TheVariants.{Made, Damaged, DiskFault, Memory}
+use Rattle.swh_keeper.specs.declared.opening.OpenWhy.TheVariants.{Made, NotMade, DiskFault}
 
 -- why an archive is not made, for why its two files are not
 abbrev pub make_why : MakeFault → OpenWhy
@@ -34,24 +34,6 @@ IsLeftOfMaking Made old new = new ≡ old
 IsLeftOfMaking DiskFault old new = IsCutShort old new
 IsLeftOfMaking _ old new = ⊥
 
--- why an archive is not opened, for why a file is not read
-abbrev pub read_why : ReadFileFault → OpenWhy
-read_why read.Disk = DiskFault
-read_why read.Memory = Memory
-
--- two files are not read for one of these
-abbrev pub IsReadFault : OpenWhy → Type 0
-IsReadFault DiskFault = Unit {0}
-IsReadFault Memory = Unit {0}
-IsReadFault _ = ⊥
-
--- records are not read for one of these
-abbrev pub IsReadingFault : OpenWhy → Type 0
-IsReadingFault DiskFault = Unit {0}
-IsReadingFault Damaged = Unit {0}
-IsReadingFault Memory = Unit {0}
-IsReadingFault _ = ⊥
-
 -- P, unless a disk failed
 abbrev pub UnlessDiskFault : OpenWhy → Type 0 → Type 0
 UnlessDiskFault DiskFault P = Unit {0}
@@ -61,6 +43,18 @@ UnlessDiskFault _ P = P
 abbrev pub IsOpeningFault : OpenWhy → Type 0
 IsOpeningFault Made = ⊥
 IsOpeningFault _ = Unit {0}
+
+-- the two files are not read for one of these
+abbrev pub IsReadingFault : OpenWhy → Type 0
+IsReadingFault Made = ⊥
+IsReadingFault NotMade = ⊥
+IsReadingFault _ = Unit {0}
+
+-- a made ledger is told from another, or a disk failed
+abbrev pub IsMadeFault : OpenWhy → Type 0
+IsMadeFault NotMade = Unit {0}
+IsMadeFault DiskFault = Unit {0}
+IsMadeFault _ = ⊥
 
 -- A barrier was made on each file; where a disk failed, it may be that one of the two failed.
 abbrev pub IsLeftFor : OpenWhy → Files → Files → Type 0
@@ -76,3 +70,9 @@ module _ (id_of : Kind → List ℕ → List ℕ) where
   pub record IsDamaged (ledger store : List ℕ) : Type 0 where
     pub made : IsMade ledger
     pub none : (h : List Event) → StandsFor ledger store h → IsHistory id_of h → ⊥
+
+  -- The history may happen, and the rest is its replay, with both ends within the files' limits.
+  pub record IsReadWhole (opened : Opened) : Type 0 where
+    pub history : IsHistory id_of opened.history.items
+    pub replay : IsReplayOf opened.replayed opened.history.items
+    pub in_files : IsInFiles opened.replayed

@@ -4,21 +4,20 @@ ghost use Rattle.swh_outside.specs.Files.{EachImages, FilesBreaks, files_of, fil
 ghost use Rattle.swh_segment.specs.Calls.{event_calls};
 ghost use Rattle.swh_segment.specs.Makes.{ADiskFailed};
 ghost use Rattle.swh_model.specs.declared.event.Event.{Event};
-ghost use Rattle.swh_keeper.specs.Advance.{MayAdvance};
-ghost use Rattle.swh_plan.specs.Planned.{IsReplayOf};
+ghost use Rattle.swh_replay.specs.Replay.{IsReplayOf, MayAdvance};
 ghost use Rattle.swh_keeper.specs.Adding.{IsAdded, IsNotAdded};
-ghost use Rattle.swh_keeper.specs.Counts.{AreLater, AreQuiet};
+ghost use Rattle.swh_segment.specs.Counts.{AreLater, AreQuiet};
 ghost use Rattle.swh_keeper.specs.Keeping.{AreSettledFor, IsToAdd, WithOrWithout, FilesHaveRoom};
 ghost use Rattle.swh_format.specs.EventRecord.{run_written};
 ghost use Rattle.swh_keeper.specs.declared.adding.AddFault.TheVariants.{Disk as DiskFailed, Memory as OutOfMemory};
 
-use crate::advance::advance;
 use crate::writing::write_event;
 use std::alloc::{AllocError, Global};
 use swh_base::Memory;
 use swh_model::{Event, Outcome};
 use swh_outside::Disk;
-use swh_plan::{Planned, Replayed};
+use swh_plan::Planned;
+use swh_replay::{Replayed, advance};
 
 #[derive(Clone, Copy, Debug, PartialEq, Eq)]
 pub enum AddFault {

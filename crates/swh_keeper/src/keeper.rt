@@ -1,17 +1,16 @@
 //! The keeper: judges plans, and adds their events to the two files.
 use crate::adding::{AddFault, add_event};
-use crate::checking::Checked;
 use crate::fault::{Refusal, refusal_for};
-use crate::opening::{OpenFault, OpenWhy, why_not_made};
-use crate::reading::read_archive;
+use crate::opening::{OpenFault, OpenWhy, Opened, open_archive, why_not_made};
 use std::alloc::Global;
 use std::marker::Model;
-use swh_base::{Entry, Name, Namer};
-use swh_held::{HeldBodies, OriginVisits};
-use swh_model::{Event, Outcome, Visit, Wish};
+use swh_base::{Namer, Url};
+use swh_model::{Event, Outcome, Visit};
 use swh_outside::Disk;
-use swh_plan::{Replayed, plan};
+use swh_plan::{Plan, judge_plan};
+use swh_replay::Replayed;
 use swh_segment::{made_is_empty, make as make_archive};
+use swh_store::Store;
 
 /// Keeps an archive. Contracts see its disks, its history, and whether a disk failed.
 pub struct Keeper<N: Namer, D: Disk> {
@@ -55,7 +54,7 @@ impl<N: Namer, D: Disk> Keeper<N, D> {
       [],
     };
     ghost use Rattle.swh_segment.specs.Makes.{ADiskFailed};
-    ghost use Rattle.swh_model.specs.Judge.{IsWish};
+    ghost use Rattle.swh_plan.specs.Plan.{wish_of};
     ghost use Rattle.swh_keeper.specs.declared.fault.Refusal.TheVariants.{DiskFault};
     ghost use Rattle.swh_outside.specs.Files.{files_of, files_done};
     ghost use Rattle.swh_segment.specs.Making.{IsMade, IsNotMade, barriers, making_calls};
@@ -66,19 +65,18 @@ impl<N: Namer, D: Disk> Keeper<N, D> {
       IsLeftOfMaking,
       IsLeftFor,
       IsTheHistory,
-      IsDamaged,
       UnlessDiskFault,
     };
+    ghost use Rattle.swh_keeper.specs.Damage.{IfDamagedAt, IsDamagedAt};
     ghost use Rattle.swh_keeper.specs.declared.opening.OpenWhy.TheVariants.{
       Made,
       NotMade,
-      Damaged,
       DiskFault as DiskFaulted,
     };
-    ghost use Rattle.swh_model.specs.Archive.{body_of, visits_of};
+    ghost use Rattle.swh_model.specs.Archive.{visits_of};
     ghost use Rattle.swh_model.specs.Step.{replay};
-    ghost use Rattle.swh_keeper.specs.Advance.{archive_of};
-    ghost use Rattle.swh_held.specs.Maps.{IsAll, IsEntryOf};
+    ghost use Rattle.swh_replay.specs.Replay.{archive_of};
+    ghost use Rattle.swh_visits.specs.Visits.{IsAll};
     ghost use Rattle.swh_keeper.specs.Kept.{IsKept, Applies, RefusesPlan};
     ghost use Rattle.swh_keeper.specs.Keeping.{IsCarriedOut, IsBrokenOff};
 
@@ -120,12 +118,7 @@ impl<N: Namer, D: Disk> Keeper<N, D> {
                 namer,
                 store,
                 ledger,
-                replayed: Replayed {
-                    bodies: HeldBodies::new(alloc),
-                    visits: OriginVisits::new(alloc),
-                    store_end: 0,
-                    ledger_end: 8,
-                },
+                replayed: Replayed::new(alloc),
                 history: Vec::new(alloc),
                 wounded: None,
             }),
@@ -158,8 +151,8 @@ impl<N: Namer, D: Disk> Keeper<N, D> {
 
         ensures why { IfErr result (λ fault. IsOpeningFault fault.why) }
         ensures not_made { D.tells → IfErr result (λ fault. fault.why ≡ NotMade → IsNotMade (D.file ledger).seen) }
-        ensures damaged { D.tells → IfErr result (λ fault. fault.why ≡ Damaged
-            → IsDamaged N.id_of (D.file ledger).seen (D.file store).seen) }
+        ensures damaged { D.tells → IfErr result (λ fault. IfDamagedAt fault.why
+            (IsDamagedAt N.id_of (D.file ledger).seen (D.file store).seen)) }
         ensures cause { IfErr result (λ fault. fault.why ≡ DiskFaulted
             → ADiskFailed (D.faults store) (D.faults fault.store) (D.faults ledger) (D.faults fault.ledger)) }
         ensures left { D.tells → IfErr result (λ fault. IsLeftFor fault.why (files_of (D.file ledger) (D.file store))
@@ -176,13 +169,9 @@ impl<N: Namer, D: Disk> Keeper<N, D> {
         ensures ledger_quiet { MatchResult result (λ keeper. D.faults keeper.ledger ≡ D.faults ledger)
             (λ fault. UnlessDiskFault fault.why (D.faults fault.ledger ≡ D.faults ledger)) }
     {
-        match read_archive(alloc, &namer, &mut store, &mut ledger) {
-            Ok(checked) => {
-                let Checked {
-                    replayed,
-                    history,
-                    closed: _closed,
-                } = checked;
+        match open_archive(alloc, &namer, &mut store, &mut ledger) {
+            Ok(opened) => {
+                let Opened { replayed, history } = opened;
                 Ok(Keeper {
                     alloc,
                     namer,
@@ -212,23 +201,20 @@ impl<N: Namer, D: Disk> Keeper<N, D> {
         self.wounded
     }
 
-    /// The entry that is held under a name, unless the keeper is wounded.
-    pub fn get(&self, name: &Name) -> Option<&Entry>
-        ensures some { self.now.wounded ≡ None → IfSome result
-            (λ entry. IsEntryOf (replay self.now.history).bodies name.now entry.now) }
-        ensures none { self.now.wounded ≡ None → IfNone result
-            (body_of (replay self.now.history).bodies name.now ≡ None) }
+    /// What is held, unless the keeper is wounded.
+    pub fn store(&self) -> &Store
+        ensures { self.now.wounded ≡ None → result.now.bodies ≡ (replay self.now.history).bodies }
     {
-        self.replayed.bodies.get(name)
+        &self.replayed.store
     }
 
     /// The visits of an origin, one or more, where it was opened, unless the keeper is wounded.
-    pub fn visits(&self, origin: &[u8]) -> Option<&[Visit]>
+    pub fn visits(&self, origin: &Url) -> Option<&[Visit]>
         ensures { self.now.wounded ≡ None → MatchOption result
             (visits_of (replay self.now.history).origins origin.now ≡ [])
             (IsAll (visits_of (replay self.now.history).origins origin.now)) }
     {
-        self.replayed.visits.get(origin)
+        self.replayed.visits.list(origin)
     }
 
     /// What the history makes of an archive, in memory, unless the keeper is wounded.
@@ -257,17 +243,16 @@ impl<N: Namer, D: Disk> Keeper<N, D> {
     }
 
     /// Judges a plan and adds its event.
-    pub fn apply(&mut self, by: u32, wish: Wish) -> Result<Outcome, Refusal>
-        requires { IsWish N.id_of wish }
-        ensures ok { IfOk result (Applies self.old.history by wish self.new.history) }
+    pub fn apply(&mut self, by: u32, plan: Plan<N>) -> Result<Outcome, Refusal>
+        ensures ok { IfOk result (Applies self.old.history by (wish_of plan) self.new.history) }
         ensures unwounded { OnOk result ((self.old.wounded ≡ None) × (self.new.wounded ≡ None)) }
-        ensures err { IfErr result (RefusesPlan self.old by wish self.new) }
+        ensures err { IfErr result (RefusesPlan self.old by (wish_of plan) self.new) }
 
         // The device calls that it makes: those that add the event, at a fault up to the one that failed.
         ensures calls { D.tells → OnOk result (IsCarriedOut self.old.history self.new.history
             (files_of (D.file self.old.ledger) (D.file self.old.store))
             (files_of (D.file self.new.ledger) (D.file self.new.store))) }
-        ensures broken { D.tells → IsErrOf result DiskFault → IsBrokenOff self.old.history by wish
+        ensures broken { D.tells → IsErrOf result DiskFault → IsBrokenOff self.old.history by (wish_of plan)
             (files_of (D.file self.old.ledger) (D.file self.old.store))
             (files_of (D.file self.new.ledger) (D.file self.new.store)) }
 
@@ -284,7 +269,7 @@ impl<N: Namer, D: Disk> Keeper<N, D> {
             return Err(Refusal::Wounded { first });
         }
         let number = self.history.as_slice().len() as u64 + 1;
-        let planned = match plan(self.alloc, &self.replayed, number, by, wish) {
+        let planned = match judge_plan(self.alloc, &self.replayed, number, by, plan) {
             Ok(planned) => planned,
             Err(fault) => return Err(refusal_for(fault)),
         };

@@ -1,19 +1,18 @@
 //! Keeps an archive: two disks, and the replay of their history in memory.
-//! Stands on `swh_base`, `swh_object`, `swh_outside`, `swh_segment`, `swh_model`, `swh_held` and `swh_plan`.
+//! Stands on `swh_base`, `swh_outside`, `swh_segment`, `swh_model`, `swh_store`, `swh_visits`, `swh_replay` and `swh_plan`.
 //! Callers may rely on: a plan is judged as the model says, and the disks stand for the history unless a disk failed.
 #![tactic(auto)]
 
 mod adding;
-mod advance;
-mod checking;
+mod damage;
 mod fault;
 mod keeper;
 mod opening;
 mod own;
-mod reading;
-mod remaking;
+mod replaying;
 mod writing;
 
+pub use damage::{damaged_files_have_no_history, one_damage};
 pub use fault::Refusal;
 pub use keeper::{Keeper, keeper_is_sent};
 pub use opening::{OpenFault, OpenWhy};
@@ -23,3 +22,5 @@ pub use own::{
 };
 pub use swh_base::Which;
 pub use swh_model::Outcome;
+pub use swh_plan::{How, Plan};
+pub use swh_recovery::Harm;

@@ -1,12 +1,35 @@
-//! Why an archive is not opened or made.
-ghost use Rattle.std.specs.Prelude.{◌≡◌};
-ghost use Rattle.swh_keeper.specs.Opening.{make_why, read_why};
-ghost use Rattle.swh_keeper.specs.declared.opening.OpenWhy.TheVariants.{DiskFault, Memory as OutOfMemory};
+//! The opening of an archive's two files, and why an archive is not opened or made.
+ghost use Rattle.std.specs.Prelude.{◌≡◌, ◌≤◌, IfOk, IfErr, OnOk, IsErrOf};
+ghost use Rattle.swh_outside.specs.Faults.{Rose};
+ghost use Rattle.swh_outside.specs.Files.{files_of, files_done};
+ghost use Rattle.swh_segment.specs.Counts.{AreLater, AreQuiet};
+ghost use Rattle.swh_segment.specs.Makes.{ADiskFailed};
+ghost use Rattle.swh_segment.specs.Making.{IsMade, IsNotMade, barriers};
+ghost use Rattle.swh_format.specs.Stands.{StandsFor};
+ghost use Rattle.swh_keeper.specs.Opening.{
+  make_why,
+  IsReadWhole,
+  IsMadeFault,
+  IsReadingFault,
+  IsOpeningFault,
+  IsLeftFor,
+  UnlessDiskFault,
+};
+ghost use Rattle.swh_keeper.specs.Damage.{IfDamagedAt, IsDamagedAt};
+ghost use Rattle.swh_keeper.specs.declared.opening.OpenWhy.TheVariants.{
+  NotMade,
+  DiskFault,
+  Memory as OutOfMemory,
+};
 
-use std::alloc::AllocError;
-use swh_base::Memory;
+use crate::replaying::{harm_behind, replay_records};
+use std::alloc::Global;
+use swh_base::{Memory, Namer};
+use swh_model::Event;
 use swh_outside::{Disk, Failed};
-use swh_segment::{MakeFault, ReadFileFault};
+use swh_recovery::{Harm, ReadAllFault, read_all};
+use swh_replay::Replayed;
+use swh_segment::{MakeFault, read_beginning, settle};
 
 #[derive(Clone, Copy, Debug, PartialEq, Eq)]
 pub enum OpenWhy {
@@ -14,8 +37,9 @@ pub enum OpenWhy {
     Made,
     /// It is not made.
     NotMade,
-    /// The two files stand for no history.
-    Damaged,
+    /// The two files stand for no history. The first harm is in the file of this number, 0 the ledger and 1 the store, at
+    /// this place of it, in bytes from 0.
+    Damaged { file: u32, at: u64, harm: Harm },
     /// A disk failed.
     DiskFault,
     Memory,
@@ -37,22 +61,6 @@ pub fn why_not_made(fault: MakeFault) -> OpenWhy
     }
 }
 
-impl From<Failed> for OpenWhy {
-    ghost from_gives = { λ _ why. why ≡ DiskFault };
-
-    fn from(_: Failed) -> OpenWhy {
-        OpenWhy::DiskFault
-    }
-}
-
-impl From<AllocError> for OpenWhy {
-    ghost from_gives = { λ _ why. why ≡ OutOfMemory };
-
-    fn from(_: AllocError) -> OpenWhy {
-        OpenWhy::Memory
-    }
-}
-
 impl From<Memory> for OpenWhy {
     ghost from_gives = { λ _ why. why ≡ OutOfMemory };
 
@@ -61,13 +69,109 @@ impl From<Memory> for OpenWhy {
     }
 }
 
-impl From<ReadFileFault> for OpenWhy {
-    ghost from_gives = { λ fault why. why ≡ read_why fault };
+impl From<Failed> for OpenWhy {
+    ghost from_gives = { λ _ why. why ≡ DiskFault };
 
-    fn from(fault: ReadFileFault) -> OpenWhy {
-        match fault {
-            ReadFileFault::Disk => OpenWhy::DiskFault,
-            ReadFileFault::Memory => OpenWhy::Memory,
-        }
+    fn from(_: Failed) -> OpenWhy {
+        OpenWhy::DiskFault
     }
+}
+
+/// The history for which two files stand, and its replay.
+#[derive(Drop)]
+pub struct Opened {
+    pub replayed: Replayed,
+    pub history: Vec<Event>,
+}
+
+// Whether the ledger is made.
+fn check_made<D: Disk>(ledger: &mut D) -> Result<(), OpenWhy>
+    ensures made { D.tells → OnOk result (IsMade (D.file ledger.old).seen) }
+    ensures not_made { D.tells → IsErrOf result NotMade → IsNotMade (D.file ledger.old).seen }
+    ensures why { IfErr result IsMadeFault }
+    ensures same { D.tells → D.file ledger.new ≡ D.file ledger.old }
+    ensures later { D.faults ledger.old ≤ D.faults ledger.new }
+    ensures cause { IsErrOf result DiskFault → Rose (D.faults ledger.old) (D.faults ledger.new) }
+    ensures quiet { OnOk result (D.faults ledger.new ≡ D.faults ledger.old) }
+    ensures quiet_fault { IfErr result (λ why. UnlessDiskFault why (D.faults ledger.new ≡ D.faults ledger.old)) }
+{
+    match read_beginning(ledger) {
+        Err(MakeFault::Made) => Ok(()),
+        Err(MakeFault::Disk) => Err(OpenWhy::DiskFault),
+        Ok(_clears) => Err(OpenWhy::NotMade),
+    }
+}
+
+// The history for which the two files of an archive that is made stand, and its replay.
+fn read_archive<N: Namer, D: Disk>(
+    alloc: Global,
+    namer: &N,
+    store: &mut D,
+    ledger: &mut D,
+) -> Result<Opened, OpenWhy>
+    requires { D.tells → IsMade (D.file ledger.old).seen }
+    ensures whole { IfOk result (IsReadWhole N.id_of) }
+    ensures stand { D.tells → IfOk result (λ opened. StandsFor (D.file ledger.old).seen
+        (D.file store.old).seen opened.history.items) }
+    ensures why { IfErr result IsReadingFault }
+    ensures damaged { D.tells → IfErr result (λ why. IfDamagedAt why
+        (IsDamagedAt N.id_of (D.file ledger.old).seen (D.file store.old).seen)) }
+    ensures same_ledger { D.tells → D.file ledger.new ≡ D.file ledger.old }
+    ensures same_store { D.tells → D.file store.new ≡ D.file store.old }
+    ensures later { AreLater (D.faults store.old) (D.faults store.new) (D.faults ledger.old) (D.faults ledger.new) }
+    ensures cause { IsErrOf result DiskFault → ADiskFailed (D.faults store.old) (D.faults store.new)
+        (D.faults ledger.old) (D.faults ledger.new) }
+    ensures quiet { OnOk result (AreQuiet (D.faults store.old) (D.faults store.new)
+        (D.faults ledger.old) (D.faults ledger.new)) }
+    ensures quiet_fault { IfErr result (λ why. UnlessDiskFault why (AreQuiet (D.faults store.old) (D.faults store.new)
+        (D.faults ledger.old) (D.faults ledger.new))) }
+{
+    match read_all(alloc, namer, ledger, store) {
+        Ok(records) => replay_records(alloc, namer, records),
+        Err(ReadAllFault::DiskFault) => Err(OpenWhy::DiskFault),
+        Err(ReadAllFault::Memory) => Err(OpenWhy::Memory),
+        Err(
+            ReadAllFault::Damaged {
+                file,
+                at,
+                harm,
+                before,
+            },
+        ) => Err(harm_behind(alloc, namer, before, file, at, harm)),
+    }
+}
+
+/// A barrier on each file, then the history for which they stand, and its replay. The ledger is read whole, and of the
+/// store the runs alone.
+pub fn open_archive<N: Namer, D: Disk>(
+    alloc: Global,
+    namer: &N,
+    store: &mut D,
+    ledger: &mut D,
+) -> Result<Opened, OpenWhy>
+    ensures whole { IfOk result (IsReadWhole N.id_of) }
+    ensures stand { D.tells → IfOk result (λ opened. StandsFor (D.file ledger.old).seen
+        (D.file store.old).seen opened.history.items) }
+    ensures made { D.tells → OnOk result (IsMade (D.file ledger.old).seen) }
+    ensures calls { D.tells → OnOk result (files_of (D.file ledger.new) (D.file store.new)
+        ≡ files_done barriers (files_of (D.file ledger.old) (D.file store.old))) }
+    ensures why { IfErr result IsOpeningFault }
+    ensures not_made { D.tells → IsErrOf result NotMade → IsNotMade (D.file ledger.old).seen }
+    ensures damaged { D.tells → IfErr result (λ why. IfDamagedAt why
+        (IsDamagedAt N.id_of (D.file ledger.old).seen (D.file store.old).seen)) }
+    ensures left { D.tells → IfErr result (λ why. IsLeftFor why (files_of (D.file ledger.old) (D.file store.old))
+        (files_of (D.file ledger.new) (D.file store.new))) }
+    ensures later { AreLater (D.faults store.old) (D.faults store.new) (D.faults ledger.old) (D.faults ledger.new) }
+    ensures cause { IsErrOf result DiskFault → ADiskFailed (D.faults store.old) (D.faults store.new)
+        (D.faults ledger.old) (D.faults ledger.new) }
+
+    // Where no disk failed, both counts are as they were.
+    ensures quiet { OnOk result (AreQuiet (D.faults store.old) (D.faults store.new)
+        (D.faults ledger.old) (D.faults ledger.new)) }
+    ensures quiet_fault { IfErr result (λ why. UnlessDiskFault why (AreQuiet (D.faults store.old) (D.faults store.new)
+        (D.faults ledger.old) (D.faults ledger.new))) }
+{
+    settle(store, ledger)?;
+    check_made(ledger)?;
+    read_archive(alloc, namer, store, ledger)
 }

@@ -10,7 +10,7 @@ ghost use Rattle.swh_keeper.specs.Keeping.{AreSettledFor, IsToAdd, WithOrWithout
 
 use swh_model::{Event, EventKind};
 use swh_outside::{Disk, Failed};
-use swh_plan::Replayed;
+use swh_replay::Replayed;
 use swh_segment::{Run, append_event};
 
 /// What the event adds to the store.

@@ -9,24 +9,24 @@ use Rattle.swh_base.proofs.Reaches.{reaches-there}
 use Rattle.swh_model.specs.Archive.{Bodies, IsHeld, IsChild, Reaches, IsClosed, IsGraphOf}
 
 module _ (bodies : Bodies) (children_of : Name → Option (List Name)) (is : IsGraphOf bodies children_of) where
-  held-in : (n : Name) → IsHeld bodies n → IsHeldIn children_of n
+  pub held-in : (n : Name) → IsHeld bodies n → IsHeldIn children_of n
   held-in n h = elim (children_of n) as (λ o. children_of n ≡ o → IsHeldIn children_of n) [
     | None ↦ λ e. absurd (let some = sym h.1 ∙ is.missing n e in cc)
     | Some kids ↦ λ e. (kids, e)
   ] refl
 
-  held-out : (n : Name) → IsHeldIn children_of n → IsHeld bodies n
+  pub held-out : (n : Name) → IsHeldIn children_of n → IsHeld bodies n
   held-out n h = let there = is.held n h.0 h.1 in (there.0, there.1)
 
   same_body : (a b : List ℕ) → Some a ≡ Some b → a ≡ b
   same_body a b e = cc
 
-  child-out : (p c : Name) → IsChildIn children_of p c → IsChild bodies p c
+  pub child-out : (p c : Name) → IsChildIn children_of p c → IsChild bodies p c
   child-out p c child =
       let there = is.held p child.kids child.held in
       record { body = there.0; held = there.1; kids = child.kids; are = there.2; one_of = child.one_of }
 
-  child-in : (p c : Name) → IsChild bodies p c → IsChildIn children_of p c
+  pub child-in : (p c : Name) → IsChild bodies p c → IsChildIn children_of p c
   child-in p c child =
       let h = held-in p (child.body, child.held) in
       let there = is.held p h.0 h.1 in

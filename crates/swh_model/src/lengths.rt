@@ -78,7 +78,8 @@ fn length_of_payload(event: &EventKind) -> u64
     }
 }
 
-fn length_of_store(history: &[Event]) -> Result<u64, Memory>
+/// Where the runs of a history end in the store, in bytes. Fails where that passes 64 bits.
+pub fn length_of_store(history: &[Event]) -> Result<u64, Memory>
     ensures { IfOk result (λ length. length ≡ store_length history.now) }
 {
     let mut sum: u64 = 0;
@@ -88,7 +89,8 @@ fn length_of_store(history: &[Event]) -> Result<u64, Memory>
     Ok(sum)
 }
 
-fn length_of_ledger(history: &[Event]) -> Result<u64, Memory>
+/// The length of the ledger of a history, in bytes. Fails where that passes 64 bits.
+pub fn length_of_ledger(history: &[Event]) -> Result<u64, Memory>
     ensures { IfOk result (λ length. length ≡ ledger_length history.now) }
 {
     let mut sum: u64 = 9;

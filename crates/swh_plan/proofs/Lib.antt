@@ -1,3 +1,4 @@
 pub mod BatchLemmas
 pub mod EncodeLemmas
 pub mod PlanLemmas
+pub mod SnapshotLemmas

@@ -20,4 +20,4 @@ either first second n = or_else (body_of first n) (body_of second n)
 -- The entries that are not held, each once, and the same as a map.
 pub record IsSplit (bodies : Bodies) (entries : List Entry) (split : Split) : Type 0 where
   pub entries_are : split.fresh.items ≡ not_held bodies entries
-  pub map_is : split.added ≡ added finite.empty split.fresh.items
+  pub map_is : split.added.bodies ≡ added finite.empty split.fresh.items

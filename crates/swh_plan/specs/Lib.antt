@@ -1,3 +1,3 @@
+pub mod Plan
 pub mod Batches
-pub mod Judged
 pub mod Planned

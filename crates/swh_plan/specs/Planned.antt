@@ -1,40 +1,17 @@
--- What is in memory of a history, and a plan that may be carried out.
+-- A plan that may be carried out, or what stands against it.
 use Rattle.std.specs.Prelude.{◌≡◌, ℕ, ◌+◌, ◌<◌, ◌≤◌, ◌^◌, List, [], ◌∷◌, ◌++◌, length, Ok, Err}
-use Rattle.std.specs.List.{AllByRecursion}
 use Rattle.swh_model.specs.declared.event.Event.{Event}
 use Rattle.swh_model.specs.declared.event.EventKind.{EventKind}
 use Rattle.swh_model.specs.declared.event.Wish.{Wish}
-use Rattle.swh_model.specs.declared.event.Wish.TheVariants.{Batch, Open, Mark}
 use Rattle.swh_format.specs.EventRecord.{packed_objects, coded_record, IsCodable}
-use Rattle.swh_model.specs.Limits.{store_length, ledger_length}
-use Rattle.swh_model.specs.Step.{HasItsChildren, replay}
 use Rattle.std.specs.Global.{Vec}
 use Rattle.swh_model.specs.declared.event.No.TheVariants.{Limit}
-use Rattle.swh_model.specs.Judge.{IsVerdict, StatusAllows, FilePasses}
-use Rattle.swh_plan.specs.Judged.{IsFirstOf}
-use Rattle.swh_plan.specs.declared.replayed.Replayed.{Replayed}
+use Rattle.swh_model.specs.Judge.{IsVerdict, FilePasses}
+use Rattle.swh_model.specs.Judged.{IsFirstOf}
+use Rattle.swh_replay.specs.declared.replayed.Replayed.{Replayed}
 use Rattle.swh_plan.specs.declared.planning.Planned.{Planned}
 use Rattle.swh_plan.specs.declared.planning.PlanFault.{PlanFault}
 use Rattle.swh_plan.specs.declared.planning.PlanFault.TheVariants.{Refused, Memory}
-
--- The maps are the replay of the history, and these are the ends of what the files tell of it: the store's end, and
--- the place of the ledger's closed gate.
-pub record IsReplayOf (r : Replayed) (h : List Event) : Type 0 where
-  pub bodies : r.bodies ≡ (replay h).bodies
-  pub visits : r.visits ≡ (replay h).origins
-  pub store : r.store_end ≡ store_length h
-  pub ledger : r.ledger_end + 1 ≡ ledger_length h
-
--- Both ends are within the files' limits.
-pub record IsInFiles (r : Replayed) : Type 0 where
-  pub store_fits : r.store_end ≤ 2 ^ 62
-  pub ledger_fits : r.ledger_end < 2 ^ 62
-
--- What planning asks of a plan.
-abbrev pub IsPlan : Wish → Type 0
-IsPlan (Batch entries) = AllByRecursion HasItsChildren entries
-IsPlan (Open origin kind date) = Unit {0}
-IsPlan (Mark origin visit status snapshot) = StatusAllows status snapshot
 
 -- The plan's event may happen, and these are its bytes for the two files.
 pub record IsPlanned (h : List Event) (by : ℕ) (wish : Wish) (r : Replayed) (p : Planned) : Type 0 where

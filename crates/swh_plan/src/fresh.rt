@@ -10,42 +10,42 @@ ghost use Rattle.swh_plan.specs.Batches.{either, IsSplit};
 
 use std::alloc::Global;
 use swh_base::{Entry, Memory, Name};
-use swh_held::HeldBodies;
+use swh_store::{Standing, Store};
 
 /// The entries of a batch that are not held, each once, and the same as a map.
 #[derive(Drop)]
 pub struct Split {
     pub fresh: Vec<Entry>,
-    pub added: HeldBodies,
+    pub added: Store,
 }
 
-fn is_new(bodies: &HeldBodies, added: &HeldBodies, name: &Name) -> bool
-    ensures { IsTrue result ↔ (either added.now bodies.now name.now ≡ None) }
+fn is_new(store: &Store, added: &Store, name: &Name) -> bool
+    ensures { IsTrue result ↔ (either added.now.bodies store.now.bodies name.now ≡ None) }
 {
-    !bodies.has(name) && !added.has(name)
+    !store.has(name) && !added.has(name)
 }
 
 fn keep(split: &mut Split, entry: &Entry) -> Result<(), Memory>
     requires good { HasItsChildren entry.now }
-    requires absent { body_of split.old.added entry.now.name ≡ None }
+    requires absent { body_of split.old.added.bodies entry.now.name ≡ None }
     ensures fresh { OnOk result (split.new.fresh.items ≡ split.old.fresh.items ++ entry.now ∷ []) }
-    ensures added { OnOk result (split.new.added ≡ finite.insert split.old.added entry.now.name entry.now.body) }
+    ensures added { OnOk result (split.new.added.bodies ≡ finite.insert split.old.added.bodies entry.now.name entry.now.body) }
 {
     split.fresh.push(entry.again()?)?;
     split.added.put(entry.again()?)?;
     Ok(())
 }
 
-pub fn split_fresh(alloc: Global, bodies: &HeldBodies, entries: &[Entry]) -> Result<Split, Memory>
+pub fn split_fresh(alloc: Global, store: &Store, entries: &[Entry]) -> Result<Split, Memory>
     requires { AllByRecursion HasItsChildren entries.now }
-    ensures { IfOk result (IsSplit bodies.now entries.now) }
+    ensures { IfOk result (IsSplit store.now.bodies entries.now) }
 {
     let mut split = Split {
         fresh: Vec::new(alloc),
-        added: HeldBodies::new(alloc),
+        added: Store::new(alloc),
     };
     for entry in entries {
-        if !is_new(bodies, &split.added, &entry.name) {
+        if !is_new(store, &split.added, &entry.name) {
             continue;
         }
         keep(&mut split, entry)?;
@@ -53,43 +53,24 @@ pub fn split_fresh(alloc: Global, bodies: &HeldBodies, entries: &[Entry]) -> Res
     Ok(split)
 }
 
-fn is_same(a: &[u8], b: &[u8]) -> bool
-    ensures { IsTrue result ↔ (a.now ≡ b.now) }
+fn is_bodied(store: &Store, added: &Store, entry: &Entry) -> bool
+    ensures { IsTrue result ↔ (either added.now.bodies store.now.bodies entry.now.name ≡ Some entry.now.body) }
 {
-    a == b
-}
-
-fn has_body(bodies: &HeldBodies, entry: &Entry) -> Option<bool>
-    ensures some { IfSome result (λ same. IsTrue same ↔ (body_of bodies.now entry.now.name ≡ Some entry.now.body)) }
-    ensures none { IfNone result (body_of bodies.now entry.now.name ≡ None) }
-    ensures held { IfSome result (λ same. body_of bodies.now entry.now.name ≡ None → ⊥) }
-{
-    match bodies.get(&entry.name) {
-        Some(held) => Some(is_same(held.body.as_slice(), entry.body.as_slice())),
-        None => None,
-    }
-}
-
-fn is_bodied(bodies: &HeldBodies, added: &HeldBodies, entry: &Entry) -> bool
-    ensures { IsTrue result ↔ (either added.now bodies.now entry.now.name ≡ Some entry.now.body) }
-{
-    match has_body(added, entry) {
-        Some(same) => same,
-        None => match has_body(bodies, entry) {
-            Some(same) => same,
-            None => false,
-        },
+    match added.standing(entry) {
+        Standing::Known => true,
+        Standing::Other => false,
+        Standing::New => matches!(store.standing(entry), Standing::Known),
     }
 }
 
 /// The name of the first entry whose name would have two bodies.
-pub fn find_collision(bodies: &HeldBodies, split: &Split, entries: &[Entry]) -> Option<Name>
-    requires { IsSplit bodies.now entries.now split.now }
-    ensures some { IfSome result (Collides bodies.now entries.now) }
-    ensures none { IfNone result ((name : Name) → Collides bodies.now entries.now name → ⊥) }
+pub fn find_collision(store: &Store, split: &Split, entries: &[Entry]) -> Option<Name>
+    requires { IsSplit store.now.bodies entries.now split.now }
+    ensures some { IfSome result (Collides store.now.bodies entries.now) }
+    ensures none { IfNone result ((name : Name) → Collides store.now.bodies entries.now name → ⊥) }
 {
     for entry in entries {
-        if !is_bodied(bodies, &split.added, entry) {
+        if !is_bodied(store, &split.added, entry) {
             return Some(entry.name);
         }
     }

@@ -1,50 +1,54 @@
 //! Plans, one function a kind.
-ghost use Rattle.std.specs.Prelude.{◌≡◌, ◌+◌, ◌<◌, ◌^◌, [], List, length, IfOk, IfErr, IfSome, IfNone};
+ghost use Rattle.std.specs.Prelude.{◌≡◌, ◌+◌, ◌<◌, ◌^◌, [], List, length, IfOk, IfErr, IfSome, IfNone, OnOk};
 ghost use Rattle.std.specs.List.{AllByRecursion};
 ghost use Rattle.swh_model.specs.declared.event.Event.{Event};
 ghost use Rattle.swh_model.specs.declared.event.Wish.TheVariants.{Batch, Open, Mark};
 ghost use Rattle.swh_model.specs.Archive.{visits_of};
 ghost use Rattle.swh_format.specs.EventRecord.{packed_objects, IsCodable};
 ghost use Rattle.swh_model.specs.Step.{HasItsChildren};
-ghost use Rattle.swh_model.specs.Judge.{StatusAllows, FilePasses};
-ghost use Rattle.swh_plan.specs.Judged.{NonePasses, IsVisitRefusal, MayBeMarked};
+ghost use Rattle.swh_model.specs.Judge.{FilePasses, IsWish, StatusAllows};
+ghost use Rattle.swh_model.specs.Judged.{NonePasses, IsVisitRefusal, MayBeMarked};
+ghost use Rattle.swh_replay.specs.Replay.{IsReplayOf, IsInFiles};
+ghost use Rattle.swh_plan.specs.Plan.{wish_of, status_of, snapshot_of};
 ghost use Rattle.swh_plan.specs.Planned.{
-  IsReplayOf,
-  IsInFiles,
-  IsPlan,
   IsPlanned,
   IsRefusedPlan,
   EncodesEvent,
   PassesFileEnd,
 };
 
+use crate::entries::entries_of;
 use crate::fresh::{Split, find_collision, split_fresh};
-use crate::judging::{limit_of_files, snapshot_refusal};
+use crate::how::{How, mark_of};
+use crate::lengths::limit_of_files;
 use crate::planning::{PlanFault, Planned};
-use crate::replayed::Replayed;
+use crate::proposal::Plan;
+use crate::snapshots::snapshot_refusal;
 use std::alloc::Global;
-use swh_base::{Entry, Items, Status, Url, VisitKind};
+use swh_base::{Entry, Items, Namer, Url, VisitKind};
 use swh_format::{
     entries_are_codable, origin_is_codable, record_of_event, run_of_entries, snapshot_is_codable,
 };
-use swh_held::{Listing, OriginVisits};
-use swh_model::{Event, EventKind, No, Outcome, Wish, limit_of_batch, visit_refusal};
+use swh_model::{Event, EventKind, No, Outcome, limit_of_batch, visit_refusal};
+use swh_object::Object;
+use swh_replay::Replayed;
+use swh_visits::Visits;
 
-fn number_of_visits(visits: &OriginVisits, origin: &Url) -> u64
+fn number_of_visits(visits: &Visits, origin: &Url) -> u64
     ensures value { result ≡ length (visits_of visits.now origin.now) }
     ensures small { result < 2 ^ 63 }
 {
-    match visits.get(origin.as_str().as_bytes()) {
+    match visits.list(origin) {
         Some(visits) => visits.len() as u64,
         None => 0,
     }
 }
 
-fn mark_visit_refusal(visits: &OriginVisits, origin: &Url, by: u32, visit: u64) -> Option<No>
+fn mark_visit_refusal(visits: &Visits, origin: &Url, by: u32, visit: u64) -> Option<No>
     ensures some { IfSome result (IsVisitRefusal (visits_of visits.now origin.now) by visit) }
     ensures none { IfNone result (MayBeMarked (visits_of visits.now origin.now) by visit) }
 {
-    match visits.get(origin.as_str().as_bytes()) {
+    match visits.list(origin) {
         Some(visits) => visit_refusal(visits, by, visit),
         None => visit_refusal(&[], by, visit),
     }
@@ -76,7 +80,7 @@ fn encode(
 }
 
 /// Opens a visit of an origin.
-pub fn plan_open(
+fn plan_open(
     alloc: Global,
     replayed: &Replayed,
     number: u64,
@@ -109,8 +113,8 @@ pub fn plan_open(
     })
 }
 
-/// Adds what is new of a batch.
-pub fn plan_batch(
+/// Adds what is new of a batch of these.
+fn plan_entries(
     alloc: Global,
     replayed: &Replayed,
     number: u64,
@@ -126,8 +130,8 @@ pub fn plan_batch(
     if let Some((which, number)) = limit_of_batch(entries) {
         return Err(PlanFault::Refused(No::Limit { which, number }));
     }
-    let split = split_fresh(alloc, &replayed.bodies, entries)?;
-    let collision = find_collision(&replayed.bodies, &split, entries);
+    let split = split_fresh(alloc, &replayed.store, entries)?;
+    let collision = find_collision(&replayed.store, &split, entries);
     let Split { fresh, .. } = split;
     entries_are_codable(&fresh);
     let new = fresh.as_slice().len() as u32;
@@ -148,24 +152,42 @@ pub fn plan_batch(
     })
 }
 
-/// Marks a visit. What is reached from the snapshot is walked where nothing else is against the plan.
-pub fn plan_mark(
+/// Adds what is new of a batch.
+fn plan_batch<N: Namer>(
+    alloc: Global,
+    replayed: &Replayed,
+    number: u64,
+    by: u32,
+    objects: Vec<Object<N>>,
+) -> Result<Planned, PlanFault>
+    requires { IsInFiles replayed.now }
+    ensures ok { (h : List Event) → IsReplayOf replayed.now h → number ≡ length h + 1
+        → IfOk result (IsPlanned h by (Batch objects.items) replayed.now) }
+    ensures good { OnOk result (IsWish N.id_of (Batch objects.items)) }
+    ensures err { (h : List Event) → IsReplayOf replayed.now h → IfErr result (IsRefusedPlan h by (Batch objects.items)) }
+{
+    let entries = entries_of(alloc, objects)?;
+    plan_entries(alloc, replayed, number, by, &entries)
+}
+
+/// Marks a visit. What is reached from the snapshot is looked at where nothing else is against the plan.
+fn plan_mark(
     alloc: Global,
     replayed: &Replayed,
     number: u64,
     by: u32,
     origin: Url,
     visit: u64,
-    mark: (Status, Option<[u8; 20]>),
+    how: How,
 ) -> Result<Planned, PlanFault>
-    requires in_files { IsInFiles replayed.now }
-    requires how { StatusAllows mark.0 mark.1 }
+    requires { IsInFiles replayed.now }
     ensures ok { (h : List Event) → IsReplayOf replayed.now h → number ≡ length h + 1
-        → IfOk result (IsPlanned h by (Mark origin visit mark.0 mark.1) replayed.now) }
+        → IfOk result (IsPlanned h by (Mark origin visit (status_of how) (snapshot_of how)) replayed.now) }
+    ensures good { StatusAllows (status_of how) (snapshot_of how) }
     ensures err { (h : List Event) → IsReplayOf replayed.now h
-        → IfErr result (IsRefusedPlan h by (Mark origin visit mark.0 mark.1)) }
+        → IfErr result (IsRefusedPlan h by (Mark origin visit (status_of how) (snapshot_of how))) }
 {
-    let (status, snapshot) = mark;
+    let (status, snapshot) = mark_of(&how);
     let refusal = mark_visit_refusal(&replayed.visits, &origin, by, visit);
     origin_is_codable(&origin);
     snapshot_is_codable(&snapshot);
@@ -182,9 +204,7 @@ pub fn plan_mark(
     if let Some(cause) = refusal {
         return Err(PlanFault::Refused(cause));
     }
-    let mut closed = Listing::new(alloc);
-    let no_snapshot = snapshot_refusal(&replayed.bodies, &mut closed, status, &snapshot)?;
-    if let Some(cause) = no_snapshot {
+    if let Some(cause) = snapshot_refusal(alloc, &replayed.store, &how)? {
         return Err(PlanFault::Refused(cause));
     }
     Ok(Planned {
@@ -196,37 +216,26 @@ pub fn plan_mark(
 }
 
 /// The event of a plan with its bytes, or the first cause against the plan.
-pub fn plan(
+pub fn judge_plan<N: Namer>(
     alloc: Global,
     replayed: &Replayed,
     number: u64,
     by: u32,
-    wish: Wish,
+    plan: Plan<N>,
 ) -> Result<Planned, PlanFault>
-    requires in_files { IsInFiles replayed.now }
-    requires plan { IsPlan wish }
+    requires { IsInFiles replayed.now }
     ensures ok { (h : List Event) → IsReplayOf replayed.now h → number ≡ length h + 1
-        → IfOk result (IsPlanned h by wish replayed.now) }
-    ensures err { (h : List Event) → IsReplayOf replayed.now h → IfErr result (IsRefusedPlan h by wish) }
+        → IfOk result (IsPlanned h by (wish_of plan) replayed.now) }
+    ensures good { OnOk result (IsWish N.id_of (wish_of plan)) }
+    ensures err { (h : List Event) → IsReplayOf replayed.now h → IfErr result (IsRefusedPlan h by (wish_of plan)) }
 {
-    match wish {
-        Wish::Batch(entries) => { plan_batch(alloc, replayed, number, by, entries.as_slice()) }
-        Wish::Open { origin, kind, date } => {
+    match plan {
+        Plan::Batch(objects) => plan_batch(alloc, replayed, number, by, objects),
+        Plan::Open { origin, kind, date } => {
             plan_open(alloc, replayed, number, by, origin, kind, date)
         }
-        Wish::Mark {
-            origin,
-            visit,
-            status,
-            snapshot,
-        } => plan_mark(
-            alloc,
-            replayed,
-            number,
-            by,
-            origin,
-            visit,
-            (status, snapshot),
-        ),
+        Plan::Mark { origin, visit, how } => {
+            plan_mark(alloc, replayed, number, by, origin, visit, how)
+        }
     }
 }

@@ -21,7 +21,7 @@ use Rattle.swh_recovery.specs.declared.harm.Found.{Found}
 use Rattle.swh_recovery.specs.declared.frame.RunTold.{RunTold}
 use Rattle.swh_recovery.specs.Fields.{found_at}
 use Rattle.swh_recovery.specs.LedgerHarm.{BeginsRecord, TellsRun, IsRunTold}
-use Rattle.swh_recovery.specs.StoreHarm.{HoldsRun, RunBreaks}
+use Rattle.swh_recovery.specs.StoreHarm.{IsRun, HoldsRun, RunBreaks}
 use Rattle.swh_recovery.specs.Records.{IsWholeRecord, IsToldExactly, EventBreaks}
 
 -- runs of the same bytes have as many objects
@@ -45,16 +45,16 @@ after_front xs p rest is = is ∙ ap (λ (l : List ℕ). p ++ l) (sym (ap (λ (l
 abbrev pub batch_event : ℕ → List Entry → Event
 batch_event by es = record { by = by; what = Batch es }
 
-module _ (id_of : Kind → List ℕ → List ℕ) (start : ℕ) (p : RecordParts) (whole : IsWholeRecord p) (batch : p.kind ≡ 66) (t : RunTold) (told : IsRunTold p.payload.now t) (store : List ℕ) where
+module _ (id_of : Kind → List ℕ → List ℕ) (start : ℕ) (p : RecordParts) (whole : IsWholeRecord p) (batch : p.kind ≡ 66) (t : RunTold) (told : IsRunTold p.payload.now t) where
   tells_run : TellsRun p.payload.now
   tells_run = record { by = t.by; from = t.from; to = t.to; number = t.number; left = t.left.now; spelled = told.spelled; by_fits = told.by_fits; from_fits = told.from_fits; to_fits = told.to_fits; number_fits = told.number_fits }
 
   frame : BeginsRecord (framed p.kind p.payload.now ++ p.rest.now)
   frame = record { kind = p.kind; payload = p.payload.now; rest = p.rest.now; spelled = refl; is_kind = whole.is_kind; fits = whole.short }
 
-  pub run_harm : (number gate : ℕ) (found : Found) → RunBreaks id_of t.from t.to store found → EventBreaks id_of number gate start p store 1 found
+  pub run_harm : (store : List ℕ) (number gate : ℕ) (found : Found) → RunBreaks id_of t.from t.to store found → EventBreaks id_of number gate start p store 1 found
   unfolding tells_run frame
-  run_harm number gate found breaks = inl (record {
+  run_harm store number gate found breaks = inl (record {
     behind = framed p.kind p.payload.now ++ p.rest.now;
     opened = refl;
     frame = frame;
@@ -76,7 +76,37 @@ module _ (id_of : Kind → List ℕ → List ℕ) (start : ℕ) (p : RecordParts
       let numbers = cut (to_be_bytes w32 t.number) (to_be_bytes w32 (length fs)) left [] refl (ends.1 ∙ sym (append-nil (to_be_bytes w32 (length fs)))) in
       (starts.0, ends.0, same_four t.number (length fs) told.number_fits codable.number numbers.0, numbers.1)
 
-  module _ (es : List Entry) (holds : HoldsRun id_of t.from t.to store es) where
+  module _ (es : List Entry) (run : IsRun id_of t.from t.to es) (exact : IsToldExactly start (length es) t) where
+    pub end_of : t.to ≡ start + length (coded_run es)
+    end_of = let f = exact.from_is in let l = exact.to_is in let e = run.ends in omega (arith, f, l, e)
+
+    pub payload_told : p.payload.now ≡ payload_of start (batch_event t.by es)
+    payload_told =
+        told.spelled
+        ∙ ap (λ (l : List ℕ). to_be_bytes w32 t.by ++ l)
+        (ap (λ (l : List ℕ). batch_text t.from t.to t.number ++ l) exact.nothing_left ∙ append-nil (batch_text t.from t.to t.number)
+        ∙ (let ends = end_of in λ i. batch_text (exact.from_is i) (ends i) (exact.number_is i)))
+
+    pub codable_batch : IsCodable start (batch_event t.by es)
+    codable_batch = (
+      told.by_fits,
+      record {
+        entries_codable = run.objects.codable;
+        number = let n = exact.number_is in let f = told.number_fits in omega (arith, n, f);
+        end = let e = end_of in let f = told.to_fits in omega (arith, e, f);
+      },
+    )
+
+    pub ledger_told : framed p.kind p.payload.now ≡ coded_record start (batch_event t.by es)
+    ledger_told = let q = payload_told in λ i. framed (batch i) (q i)
+
+    pub run_told : (store : List ℕ) → HoldsRun id_of t.from t.to store es → drop start store ≡ coded_run es ++ drop t.to store
+    run_told store holds =
+        let begins : drop start store ≡ coded_run es ++ holds.run.rest = ap (λ (n : ℕ). drop n store) (sym exact.from_is) ∙ holds.run.begins in
+        after_front (drop start store) (coded_run es) holds.run.rest begins
+        ∙ ap (λ (l : List ℕ). coded_run es ++ l) (drop-drop (length (coded_run es)) start store ∙ ap (λ (n : ℕ). drop n store) (sym end_of))
+
+  module _ (store : List ℕ) (es : List Entry) (holds : HoldsRun id_of t.from t.to store es) where
     exactly : (by : ℕ) (what : EventKind) (y : List ℕ) → by < 2 ^ 32 → IsCodableKind start what → p.kind ≡ event_byte what → p.payload.now ≡ to_be_bytes w32 by ++ event_payload start what → drop start store ≡ packed_objects what ++ y → IsToldExactly start (length es) t
     exactly by (Open o k d) y by_fits codable kind_is is run = absurd (omega (arith, kind_is, batch))
     exactly by (Mark o v s n) y by_fits codable kind_is is run = absurd (omega (arith, kind_is, batch))
@@ -102,33 +132,3 @@ module _ (id_of : Kind → List ℕ → List ℕ) (start : ℕ) (p : RecordParts
       file_is = refl;
       found_is = refl;
     })
-
-    module _ (exact : IsToldExactly start (length es) t) where
-      pub end_of : t.to ≡ start + length (coded_run es)
-      end_of = let f = exact.from_is in let l = exact.to_is in let e = holds.ends in omega (arith, f, l, e)
-
-      pub payload_told : p.payload.now ≡ payload_of start (batch_event t.by es)
-      payload_told =
-          told.spelled
-          ∙ ap (λ (l : List ℕ). to_be_bytes w32 t.by ++ l)
-          (ap (λ (l : List ℕ). batch_text t.from t.to t.number ++ l) exact.nothing_left ∙ append-nil (batch_text t.from t.to t.number)
-          ∙ (let ends = end_of in λ i. batch_text (exact.from_is i) (ends i) (exact.number_is i)))
-
-      pub codable_batch : IsCodable start (batch_event t.by es)
-      codable_batch = (
-        told.by_fits,
-        record {
-          entries_codable = holds.run.objects.codable;
-          number = let n = exact.number_is in let f = told.number_fits in omega (arith, n, f);
-          end = let e = end_of in let f = told.to_fits in omega (arith, e, f);
-        },
-      )
-
-      pub ledger_told : framed p.kind p.payload.now ≡ coded_record start (batch_event t.by es)
-      ledger_told = let q = payload_told in λ i. framed (batch i) (q i)
-
-      pub run_told : drop start store ≡ coded_run es ++ drop t.to store
-      run_told =
-          let begins : drop start store ≡ coded_run es ++ holds.run.rest = ap (λ (n : ℕ). drop n store) (sym exact.from_is) ∙ holds.run.begins in
-          after_front (drop start store) (coded_run es) holds.run.rest begins
-          ∙ ap (λ (l : List ℕ). coded_run es ++ l) (drop-drop (length (coded_run es)) start store ∙ ap (λ (n : ℕ). drop n store) (sym end_of))

@@ -22,7 +22,7 @@ use Rattle.swh_recovery.specs.declared.harm.Found.{Found}
 use Rattle.swh_recovery.specs.Fields.{choices, IsAmong, IsField, IsCut, IsOther, FieldBreaks, FieldsHold, FieldsBreak}
 use Rattle.swh_recovery.specs.LedgerHarm.{frame_fields, payload_fields, RecordBreaks}
 
-field_size : (f : Field) (a b x y : List ℕ) → IsField f a → IsField f b → a ++ x ≡ b ++ y → length a ≡ length b
+pub field_size : (f : Field) (a b x y : List ℕ) → IsField f a → IsField f b → a ++ x ≡ b ++ y → length a ≡ length b
 field_size (field.Bytes n) a b x y ha hb e = ha ∙ sym hb
 field_size (field.Byte c) a b x y ha hb e = ap length ha.1 ∙ sym (ap length hb.1)
 field_size field.Snapshot a b x y ha hb e =
@@ -34,13 +34,13 @@ field_size field.Snapshot a b x y ha hb e =
       ]
     ]
 
-no_other : (c : Choice) (bytes rest : List ℕ) (at b : ℕ) (found : Found) → bytes ≡ b ∷ rest → IsAmong b (choices c) → IsOther c bytes at found → ⊥
+pub no_other : (c : Choice) (bytes rest : List ℕ) (at b : ℕ) (found : Found) → bytes ≡ b ∷ rest → IsAmong b (choices c) → IsOther c bytes at found → ⊥
 no_other c bytes rest at b found is among o = o.other (subst (λ (n : ℕ). IsAmong n (choices c)) (same_head b o.byte rest o.rest (sym is ∙ o.is)) among)
 
-no_cut : (bytes rest : List ℕ) (at b : ℕ) (found : Found) → bytes ≡ b ∷ rest → IsCut 1 bytes at found → ⊥
+pub no_cut : (bytes rest : List ℕ) (at b : ℕ) (found : Found) → bytes ≡ b ∷ rest → IsCut 1 bytes at found → ⊥
 no_cut bytes rest at b found is c = let s = c.short in let l : length bytes ≡ length (b ∷ rest) = ap length is in omega (arith, s, l)
 
-no_break : (f : Field) (bytes front rest : List ℕ) (at : ℕ) (found : Found) → bytes ≡ front ++ rest → IsField f front → FieldBreaks f bytes at found → ⊥
+pub no_break : (f : Field) (bytes front rest : List ℕ) (at : ℕ) (found : Found) → bytes ≡ front ++ rest → IsField f front → FieldBreaks f bytes at found → ⊥
 no_break (field.Bytes n) bytes front rest at found is h c = let s = c.short in let l = ap length is in omega (arith, s, l, h, length-append front rest)
 no_break (field.Byte k) bytes front rest at found is h b =
     let begins : bytes ≡ h.0 ∷ rest = is ∙ ap (λ (l : List ℕ). l ++ rest) h.1 in
@@ -73,7 +73,7 @@ not_both (f ∷ fs) bytes at found h b =
           not_both fs x.1 (at + length x.0) found (subst (λ (l : List ℕ). FieldsHold fs l) same.1 h.4) x.4)
     ]
 
-byte_among : (what : EventKind) → IsAmong (event_byte what) (choices choice.Record)
+pub byte_among : (what : EventKind) → IsAmong (event_byte what) (choices choice.Record)
 byte_among (Batch es) = inl refl
 byte_among (Open o k d) = inr (inl refl)
 byte_among (Mark o v s n) = inr (inr (inl refl))
@@ -96,7 +96,7 @@ snapshot_field None h = inl refl
 snapshot_field (Some id) h = inr (id, refl, h)
 
 -- an event's payload has the fields of its kind
-payload_holds : (start by : ℕ) (what : EventKind) → IsCodableKind start what → FieldsHold (payload_fields (event_byte what)) (to_be_bytes w32 by ++ event_payload start what)
+pub payload_holds : (start by : ℕ) (what : EventKind) → IsCodableKind start what → FieldsHold (payload_fields (event_byte what)) (to_be_bytes w32 by ++ event_payload start what)
 payload_holds start by (Batch es) h =
     let end = start + length (coded_run es) in (
       to_be_bytes w32 by,
@@ -149,25 +149,3 @@ payload_holds start by (Mark o v s n) h = (
     ),
   ),
 )
-
--- an event's record does not break by its own bytes
-pub record_whole : (start : ℕ) (e : Event) (behind x : List ℕ) (at : ℕ) (found : Found) → IsCodable start e → behind ≡ coded_record start e ++ x → RecordBreaks behind at found → ⊥
-record_whole start e behind x at found codable is breaks =
-    let payload = payload_of start e in
-    let byte = event_byte e.what in
-    let all : behind ≡ byte ∷ (to_be_bytes w32 (length payload) ++ (payload ++ x)) = is ∙ framed_then byte payload x in
-    elim breaks [
-      | inl b ↦ not_both frame_fields behind at found
-          (byte ∷ [], to_be_bytes w32 (length payload) ++ (payload ++ x), all, (byte, refl, byte_among e.what), (to_be_bytes w32 (length payload), payload ++ x, refl, four_bytes (length payload), tt)) b
-      | inr b ↦ elim b [
-        | inl c ↦
-            (let f = c.frame in
-            let both = cut_four f.size (length payload) f.cut (payload ++ x) f.fits (payload-short start e codable) (same_tail f.kind byte _ _ (sym f.spelled ∙ all)) in
-            let s = c.cut.short in let l = ap length both.1 in let z = both.0 in omega (arith, s, l, z, length-append payload x))
-        | inr p ↦
-            (let f = p.frame in
-            let same = same_frame f.kind byte f.payload payload f.rest x f.fits (payload-short start e codable) (sym f.spelled ∙ is) in
-            let here : FieldsBreak (payload_fields byte) payload (at + 5) found = subst (λ (l : List ℕ). FieldsBreak (payload_fields byte) l (at + 5) found) same.1 (subst (λ (n : ℕ). FieldsBreak (payload_fields n) f.payload (at + 5) found) same.0 p.breaks) in
-            not_both (payload_fields byte) payload (at + 5) found (payload_holds start e.by e.what codable.1) here)
-      ]
-    ]

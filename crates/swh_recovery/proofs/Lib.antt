@@ -9,3 +9,6 @@ pub mod WholeLemmas
 pub mod SoFarLemmas
 pub mod AllLemmas
 pub mod LadderLaws
+pub mod OneField
+pub mod OneObject
+pub mod OneHarm

@@ -17,3 +17,8 @@ pub next_map : (fault : NextFault) (P Q : ℕ → Found → Type 0) → ((k : �
 next_map next.DiskFailed P Q f h = tt
 next_map next.Memory P Q f h = tt
 next_map (next.Harmed k found) P Q f h = f k found h
+
+pub next_always : (fault : NextFault) (P : ℕ → Found → Type 0) → ((k : ℕ) (x : Found) → P k x) → IfNextHarmed fault P
+next_always next.DiskFailed P f = tt
+next_always next.Memory P f = tt
+next_always (next.Harmed k found) P f = f k found

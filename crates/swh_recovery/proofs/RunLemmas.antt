@@ -81,9 +81,3 @@ module _ (id_of : Kind → List ℕ → List ℕ) (seen : List ℕ) (es : List E
       let empty : window seen place (min to size - place) ≡ [] = ap (λ (n : ℕ). window seen place n) none in
       let cut : ObjectBreaks id_of [] place found = inl (inl (inl (record { short = omega arith; found_is = is }))) in
       run_breaks size found less size_is (subst (λ (l : List ℕ). ObjectBreaks id_of l place found) (sym empty) cut)
-
-  pub run_holds : to ≤ place → place ≤ max from to → HoldsRun id_of from to seen es
-  run_holds over under = record {
-    run = record { objects = objects; rest = drop place seen; begins = begins };
-    ends = omega (arith, over, under, place_is);
-  }

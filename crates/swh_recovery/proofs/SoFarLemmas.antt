@@ -18,7 +18,7 @@ use Rattle.swh_recovery.specs.declared.reading.Reached.{Reached}
 use Rattle.swh_recovery.specs.Fields.{found_at}
 use Rattle.swh_recovery.specs.LedgerHarm.{RecordBreaks}
 use Rattle.swh_recovery.specs.Harms.{entries_of, Begin, NextBreaks}
-use Rattle.swh_recovery.specs.Records.{event_of, events, IsRecordOfEvent, AreRecords, records_of, EventBreaks, IsEventRead, IsReadSoFar, BreaksNext}
+use Rattle.swh_recovery.specs.Records.{event_of, events, IsRecordOfEvent, AreRecords, records_of, EventBreaks, IsEventRead, HasRuns, HoldsEvent, IsReadSoFar, BreaksNext}
 
 records-push : (at : ℕ) (g : List Event) (e : Event) (rest : List ℕ) → coded_records at (g ++ e ∷ []) ++ rest ≡ coded_records at g ++ 1 ∷ (coded_record (at + length (coded_runs g)) e ++ rest)
 records-push at [] e rest =
@@ -35,7 +35,7 @@ runs-push : (g : List Event) (e : Event) → coded_runs (g ++ e ∷ []) ≡ code
 runs-push [] e = append-nil (packed_objects e.what)
 runs-push (f ∷ g) e = ap (λ (l : List ℕ). packed_objects f.what ++ l) (runs-push g e) ∙ sym (append_assoc (packed_objects f.what) (coded_runs g) (packed_objects e.what))
 
-events-push : (rs : List Record) (r : Record) → events (rs ++ r ∷ []) ≡ events rs ++ event_of r ∷ []
+pub events-push : (rs : List Record) (r : Record) → events (rs ++ r ∷ []) ≡ events rs ++ event_of r ∷ []
 events-push [] r = refl
 events-push (s ∷ rs) r = ap (λ (l : List Event). event_of s ∷ l) (events-push rs r)
 
@@ -61,21 +61,20 @@ placed-push gate start (s ∷ rs) r h one =
     )
 
 -- What is told of a history, up to these places.
-record AreParts (id_of : Kind → List ℕ → List ℕ) (ledger store : List ℕ) (gate end : ℕ) (h : List Event) : Type 0 where
+record AreParts (id_of : Kind → List ℕ → List ℕ) (ledger : List ℕ) (gate end : ℕ) (h : List Event) : Type 0 where
   gate_is : gate ≡ 8 + length (coded_records 0 h)
   ledger_begins : ledger ≡ magic ++ (coded_records 0 h ++ drop gate ledger)
   end_is : end ≡ length (coded_runs h)
-  store_begins : store ≡ coded_runs h ++ drop end store
   codable : AreCodable 0 h
   good : AllByRecursion (λ e. AllByRecursion (IsObject id_of) (entries_of e.what)) h
 
-module _ (id_of : Kind → List ℕ → List ℕ) (ledger store : List ℕ) (old : Reached) (so_far : IsReadSoFar id_of ledger store old) where
+module _ (id_of : Kind → List ℕ → List ℕ) (ledger store : List ℕ) (old : Reached) (so_far : IsReadSoFar id_of ledger old) (runs : HasRuns store old) where
   fronts : Begin id_of ledger store (events old.records.items)
   fronts = record {
     records = drop old.gate ledger;
     ledger_begins = so_far.ledger_begins;
     store_rest = drop old.end store;
-    store_begins = so_far.store_begins;
+    store_begins = runs.store_begins;
     codable = so_far.codable;
     good = so_far.good;
   }
@@ -106,8 +105,9 @@ module _ (id_of : Kind → List ℕ → List ℕ) (ledger store : List ℕ) (old
       (subst (λ (n : ℕ). NextBreaks id_of n old.gate old.end (drop old.gate ledger) store file found) numbered
       (subst (λ (l : List ℕ). NextBreaks id_of number old.gate old.end l store file found) (sym is) here))
 
-  module _ (p : RecordParts) (r : Record) (end : ℕ) (is : drop old.gate ledger ≡ records_of p) (read : IsEventRead id_of old.gate old.end p store r end) where
-    parts : AreParts id_of ledger store (length ledger - length p.rest.now) end (events old.records.items ++ event_of r ∷ [])
+module _ (id_of : Kind → List ℕ → List ℕ) (ledger : List ℕ) (old : Reached) (so_far : IsReadSoFar id_of ledger old) where
+  module _ (p : RecordParts) (r : Record) (end : ℕ) (is : drop old.gate ledger ≡ records_of p) (read : IsEventRead id_of old.gate old.end p r end) where
+    parts : AreParts id_of ledger (length ledger - length p.rest.now) end (events old.records.items ++ event_of r ∷ [])
     parts =
         let g = events old.records.items in
         let e = event_of r in
@@ -125,18 +125,17 @@ module _ (id_of : Kind → List ℕ → List ℕ) (ledger store : List ℕ) (old
           gate_is = omega (arith, size, length-append magic (coded_records 0 (g ++ e ∷ [])));
           ledger_begins = whole ∙ ap (λ (l : List ℕ). magic ++ (coded_records 0 (g ++ e ∷ []) ++ l)) left;
           end_is = let s = so_far.end_is in let n = read.end_is in omega (arith, s, n, runs, length-append (coded_runs g) (packed_objects e.what));
-          store_begins = so_far.store_begins ∙ ap (λ (l : List ℕ). coded_runs g ++ l) read.run ∙ sym (append_assoc (coded_runs g) (packed_objects e.what) (drop end store)) ∙ ap (λ (l : List ℕ). l ++ drop end store) (sym (runs-push g e));
           codable = codable-push 0 g e so_far.codable (subst (λ (n : ℕ). IsCodable n e) place read.codable);
           good = all_push (λ e. AllByRecursion (IsObject id_of) (entries_of e.what)) g e so_far.good read.good;
         }
 
-    pub so_far_next : (new : Reached) → new.gate ≡ length ledger - length p.rest.now → new.end ≡ end → new.records.items ≡ old.records.items ++ r ∷ [] → IsReadSoFar id_of ledger store new
+    pub so_far_next : (new : Reached) → new.gate ≡ length ledger - length p.rest.now → new.end ≡ end → new.records.items ≡ old.records.items ++ r ∷ [] → IsReadSoFar id_of ledger new
     so_far_next new gate_is end_is items =
         let history : events new.records.items ≡ events old.records.items ++ event_of r ∷ [] = ap events items ∙ events-push old.records.items r in
-        let a : AreParts id_of ledger store new.gate new.end (events new.records.items) =
-        subst (λ (h : List Event). AreParts id_of ledger store new.gate new.end h) (sym history)
-        (subst (λ (n : ℕ). AreParts id_of ledger store n new.end (events old.records.items ++ event_of r ∷ [])) (sym gate_is)
-        (subst (λ (n : ℕ). AreParts id_of ledger store (length ledger - length p.rest.now) n (events old.records.items ++ event_of r ∷ [])) (sym end_is) parts)) in
+        let a : AreParts id_of ledger new.gate new.end (events new.records.items) =
+        subst (λ (h : List Event). AreParts id_of ledger new.gate new.end h) (sym history)
+        (subst (λ (n : ℕ). AreParts id_of ledger n new.end (events old.records.items ++ event_of r ∷ [])) (sym gate_is)
+        (subst (λ (n : ℕ). AreParts id_of ledger (length ledger - length p.rest.now) n (events old.records.items ++ event_of r ∷ [])) (sym end_is) parts)) in
         let placed : IsRecordOfEvent (8 + length (coded_records 0 (events old.records.items))) (0 + length (coded_runs (events old.records.items))) r =
         subst (λ (n : ℕ). IsRecordOfEvent n (0 + length (coded_runs (events old.records.items))) r) so_far.gate_is
         (subst (λ (n : ℕ). IsRecordOfEvent old.gate n r) (let s = so_far.end_is in let z : old.end ≡ 0 + length (coded_runs (events old.records.items)) = omega (arith, s) in z) read.placed) in
@@ -144,8 +143,17 @@ module _ (id_of : Kind → List ℕ → List ℕ) (ledger store : List ℕ) (old
           gate_is = a.gate_is;
           ledger_begins = a.ledger_begins;
           end_is = a.end_is;
-          store_begins = a.store_begins;
           codable = a.codable;
           placed = subst (λ (rs : List Record). AreRecords 8 0 rs) (sym items) (placed-push 8 0 old.records.items r so_far.placed placed);
           good = a.good;
         }
+
+pub runs_next : (store : List ℕ) (old new : Reached) (r : Record) → HasRuns store old → HoldsEvent old.end store r new.end → new.records.items ≡ old.records.items ++ r ∷ [] → HasRuns store new
+runs_next store old new r runs holds items =
+    let g = events old.records.items in
+    let e = event_of r in
+    let history : events new.records.items ≡ g ++ e ∷ [] = ap events items ∙ events-push old.records.items r in
+    record {
+      store_begins = runs.store_begins ∙ ap (λ (l : List ℕ). coded_runs g ++ l) holds.run ∙ sym (append_assoc (coded_runs g) (packed_objects e.what) (drop new.end store)) ∙ ap (λ (l : List ℕ). l ++ drop new.end store) (sym (runs-push g e))
+          ∙ ap (λ (h : List Event). coded_runs h ++ drop new.end store) (sym history);
+    }

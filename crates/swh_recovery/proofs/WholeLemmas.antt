@@ -16,7 +16,7 @@ use Rattle.swh_format.specs.EventRecord.{event_byte, event_payload, packed_objec
 use Rattle.swh_recovery.specs.declared.harm.Found.{Found}
 use Rattle.swh_recovery.specs.declared.record.Record.{Record}
 use Rattle.swh_recovery.specs.Harms.{entries_of}
-use Rattle.swh_recovery.specs.Records.{kind_of_told, event_of, IsWholeRecord, IsEventRead, EventBreaks, IsWholeRead, IsNotTold}
+use Rattle.swh_recovery.specs.Records.{kind_of_told, event_of, IsWholeRecord, IsEventRead, EventBreaks, HoldsEvent, IsWholeRead, IsNotTold}
 
 -- What is told wherever a run would begin.
 record ToldWhole (start kind : ℕ) (rest : List ℕ) (what : EventKind) : Type 0 where
@@ -38,8 +38,8 @@ told_whole start kind rest (told_of.Whole what) es tells other = whole_told star
 all_none : {X : Type 0} (P : X → Type 0) (xs : List X) → xs ≡ [] → AllByRecursion P xs
 all_none P xs is = subst (AllByRecursion P) (sym is) tt
 
-pub whole_read : (id_of : Kind → List ℕ → List ℕ) (gate start : ℕ) (p : RecordParts) (store : List ℕ) (r : Record) → p.kind ≢ 66 → IsWholeRead gate p r → IsEventRead id_of gate start p store r start
-whole_read id_of gate start p store r other w =
+pub whole_read : (id_of : Kind → List ℕ → List ℕ) (gate start : ℕ) (p : RecordParts) (r : Record) → p.kind ≢ 66 → IsWholeRead gate p r → IsEventRead id_of gate start p r start
+whole_read id_of gate start p r other w =
     let f = told_whole start p.kind w.rest r.told r.entries.items w.tells other in
     let payload = w.who ∙ ap (λ (l : List ℕ). to_be_bytes w32 r.by ++ l) f.payload in
     record {
@@ -47,9 +47,13 @@ whole_read id_of gate start p store r other w =
       codable = (w.by_fits, f.codable);
       ledger = (λ i. framed (f.kind_is i) (payload i));
       end_is = let n : length (packed_objects (event_of r).what) ≡ 0 = ap length f.no_run in omega (arith, n);
-      run = ap (λ (l : List ℕ). l ++ drop start store) (sym f.no_run);
       good = all_none (IsObject id_of) (entries_of (event_of r).what) f.no_entries;
     }
+
+pub whole_holds : (gate start : ℕ) (p : RecordParts) (store : List ℕ) (r : Record) → p.kind ≢ 66 → IsWholeRead gate p r → HoldsEvent start store r start
+whole_holds gate start p store r other w =
+    let f = told_whole start p.kind w.rest r.told r.entries.items w.tells other in
+    record { run = ap (λ (l : List ℕ). l ++ drop start store) (sym f.no_run) }
 
 pub whole_refused : (id_of : Kind → List ℕ → List ℕ) (number gate start : ℕ) (p : RecordParts) (store : List ℕ) (file : ℕ) (found : Found) → p.kind ≢ 66 → IsWholeRecord p → IsNotTold gate number p file found → EventBreaks id_of number gate start p store file found
 whole_refused id_of number gate start p store file found other whole n = inr (record {

@@ -3,6 +3,8 @@ use Rattle.std.specs.Prelude.{◌≡◌, ◌⊎◌, ◌+◌, ◌≤◌, ◌<◌,
 use Rattle.std.specs.List.{AllByRecursion}
 use Rattle.swh_base.specs.declared.kind.Kind.{Kind}
 use Rattle.swh_base.specs.declared.entry.Entry.{Entry}
+use Rattle.swh_base.specs.Limits.{file_limit}
+use Rattle.swh_model.specs.Limits.{store_length, ledger_length}
 use Rattle.swh_model.specs.declared.event.Event.{Event}
 use Rattle.swh_model.specs.declared.event.EventKind.{EventKind}
 use Rattle.swh_model.specs.declared.event.EventKind.TheVariants.{Batch}
@@ -95,24 +97,26 @@ pub record IsToldExactly (start number : ℕ) (t : RunTold) : Type 0 where
   pub nothing_left : t.left.now ≡ []
 
 module _ (id_of : Kind → List ℕ → List ℕ) where
-  -- The record of these parts was read, with its run, which ends at this place of the store.
-  pub record IsEventRead (gate start : ℕ) (p : RecordParts) (store : List ℕ) (r : Record) (end : ℕ) : Type 0 where
+  -- The record of these parts was read, with a run that ends at this place of the store.
+  pub record IsEventRead (gate start : ℕ) (p : RecordParts) (r : Record) (end : ℕ) : Type 0 where
     pub placed : IsRecordOfEvent gate start r
     pub codable : IsCodable start (event_of r)
     pub ledger : framed p.kind p.payload.now ≡ coded_record start (event_of r)
     pub end_is : end ≡ start + length (packed_objects (event_of r).what)
-    pub run : drop start store ≡ packed_objects (event_of r).what ++ drop end store
     pub good : AllByRecursion (IsObject id_of) (entries_of (event_of r).what)
 
   -- The record of these parts, which has its fields, has this harm.
   abbrev pub EventBreaks : ℕ → ℕ → ℕ → RecordParts → List ℕ → ℕ → Found → Type 0
   EventBreaks number gate start p store file found = StoreBreaks id_of (records_of p) store file found ⊎ IsRefused id_of number gate start (records_of p) store file found
 
-  -- These are the records for which the two files stand.
-  pub record AreRead (ledger store : List ℕ) (records : List Record) : Type 0 where
-    pub stand : StandsFor ledger store (events records)
+  -- The records are their events', in order; the events fit their fields, their objects are of their kinds and named, and
+  -- both files have room for them.
+  pub record AreWhole (records : List Record) : Type 0 where
     pub placed : AreRecords 8 0 records
+    pub codable : AreCodable 0 (events records)
     pub good : AllByRecursion (λ e. AllByRecursion (IsObject id_of) (entries_of e.what)) (events records)
+    pub store_fits : store_length (events records) ≤ file_limit
+    pub ledger_fits : ledger_length (events records) ≤ file_limit
 
   -- The first harm of the two files, in the file of this number, at this place, and the records before it.
   abbrev pub IsHarm : List ℕ → List ℕ → ℕ → ℕ → Harm → List Record → Type 0
@@ -137,14 +141,21 @@ pub record IsNotTold (gate number : ℕ) (p : RecordParts) (file : ℕ) (found :
   pub file_is : file ≡ 0
   pub found_is : found ≡ found_at gate (Refused number)
 
+-- The store begins with the runs of the records.
+pub record HasRuns (store : List ℕ) (r : Reached) : Type 0 where
+  pub store_begins : store ≡ coded_runs (events r.records.items) ++ drop r.end store
+
+-- The store holds the run of the record's event from this place on, up to the other.
+pub record HoldsEvent (start : ℕ) (store : List ℕ) (r : Record) (end : ℕ) : Type 0 where
+  pub run : drop start store ≡ packed_objects (event_of r).what ++ drop end store
+
 module _ (id_of : Kind → List ℕ → List ℕ) where
-  -- The records are those up to this gate of the ledger, their runs end at this place of the store, and their objects are
+  -- The records are those up to this gate of the ledger, their runs end at this place of a store, and their objects are
   -- of their kinds and named.
-  pub record IsReadSoFar (ledger store : List ℕ) (r : Reached) : Type 0 where
+  pub record IsReadSoFar (ledger : List ℕ) (r : Reached) : Type 0 where
     pub gate_is : r.gate ≡ 8 + length (coded_records 0 (events r.records.items))
     pub ledger_begins : ledger ≡ magic ++ (coded_records 0 (events r.records.items) ++ drop r.gate ledger)
     pub end_is : r.end ≡ length (coded_runs (events r.records.items))
-    pub store_begins : store ≡ coded_runs (events r.records.items) ++ drop r.end store
     pub codable : AreCodable 0 (events r.records.items)
     pub placed : AreRecords 8 0 r.records.items
     pub good : AllByRecursion (λ e. AllByRecursion (IsObject id_of) (entries_of e.what)) (events r.records.items)
@@ -152,6 +163,11 @@ module _ (id_of : Kind → List ℕ → List ℕ) where
   -- The next record after these has this harm, and these are their events'.
   abbrev pub BreaksNext : List ℕ → List ℕ → Reached → ℕ → Found → Type 0
   BreaksNext ledger store r file found = BreaksAfter id_of (events r.records.items) ledger store file found × AreRecords 8 0 r.records.items
+
+-- They reach within a ledger and a store of these lengths.
+pub record IsInside (ledger store : ℕ) (r : Reached) : Type 0 where
+  pub gate_inside : r.gate ≤ ledger
+  pub end_inside : r.end ≤ store
 
 -- The gate here is closed.
 abbrev pub IsAtEnd : List ℕ → Reached → Type 0

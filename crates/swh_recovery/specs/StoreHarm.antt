@@ -82,6 +82,11 @@ module _ (id_of : Kind → List ℕ → List ℕ) where
     pub rest : List ℕ
     pub begins : drop from store ≡ coded_run es ++ rest
 
+  -- These objects are a run from the first place to the second, or none where that is not behind the first.
+  pub record IsRun (from to : ℕ) (es : List Entry) : Type 0 where
+    pub objects : AreObjects es
+    pub ends : from + length (coded_run es) ≡ max from to
+
   -- The run that begins at the first place ends after these objects at the second, or holds none where that is not behind
   -- the first.
   pub record HoldsRun (from to : ℕ) (store : List ℕ) (es : List Entry) : Type 0 where

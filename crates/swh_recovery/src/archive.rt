@@ -4,6 +4,7 @@ ghost use Rattle.std.specs.Prelude.{
   ◌≢◌,
   ◌++◌,
   ◌≤◌,
+  ◌<◌,
   IfOk,
   OnOk,
   IfErr,
@@ -15,11 +16,12 @@ ghost use Rattle.std.specs.Prelude.{
 };
 ghost use Rattle.swh_outside.specs.Faults.{Rose};
 ghost use Rattle.swh_format.specs.Record.{magic};
+ghost use Rattle.swh_format.specs.Stands.{StandsFor};
 ghost use Rattle.swh_segment.specs.Making.{IsMade};
 ghost use Rattle.swh_segment.specs.Makes.{ADiskFailed};
 ghost use Rattle.swh_base.specs.Limits.{file_limit};
 ghost use Rattle.swh_recovery.specs.Harms.{MagicBreaks};
-ghost use Rattle.swh_recovery.specs.Records.{AreRead, IsHarm};
+ghost use Rattle.swh_recovery.specs.Records.{events, AreWhole, IsHarm};
 ghost use Rattle.swh_recovery.specs.Answers.{all_fault, IfDamaged, UnlessDiskFault, AreLater, AreQuiet};
 ghost use Rattle.swh_recovery.specs.declared.archive.ReadAllFault.TheVariants.{DiskFault};
 
@@ -45,7 +47,7 @@ pub enum ReadAllFault {
         harm: Harm,
         before: Vec<Record>,
     },
-    /// Memory is wanting, or a file is longer than any archive's.
+    /// Memory is wanting, or a file is as long as no archive's.
     Memory,
 }
 
@@ -91,9 +93,12 @@ fn read_records<N: Namer, D: Disk>(
 ) -> Result<Vec<Record>, ReadAllFault>
     requires size { D.tells → size ≡ length (D.file store.old).seen }
     requires small { size ≤ file_limit }
-    requires ledger_small { length ledger.now ≤ file_limit }
+    requires ledger_small { length ledger.now < file_limit }
     requires magic { ledger.now ≡ magic ++ drop 8 ledger.now }
-    ensures ok { D.tells → IfOk result (λ records. AreRead N.id_of ledger.now (D.file store.old).seen records.items) }
+    ensures whole { IfOk result (λ records. AreWhole N.id_of records.items) }
+    ensures before { IfErr result (λ fault. IfDamaged fault (λ _ _ _ before. AreWhole N.id_of before)) }
+    ensures ok { D.tells → IfOk result (λ records.
+        StandsFor ledger.now (D.file store.old).seen (events records.items)) }
     ensures harm { D.tells → IfErr result (λ fault.
         IfDamaged fault (IsHarm N.id_of ledger.now (D.file store.old).seen)) }
     ensures same { D.tells → D.file store.new ≡ D.file store.old }
@@ -138,7 +143,10 @@ fn read_both<N: Namer, D: Disk>(
     ledger: &[u8],
 ) -> Result<Vec<Record>, ReadAllFault>
     requires { 8 ≤ length ledger.now }
-    ensures ok { D.tells → IfOk result (λ records. AreRead N.id_of ledger.now (D.file store.old).seen records.items) }
+    ensures whole { IfOk result (λ records. AreWhole N.id_of records.items) }
+    ensures before { IfErr result (λ fault. IfDamaged fault (λ _ _ _ before. AreWhole N.id_of before)) }
+    ensures ok { D.tells → IfOk result (λ records.
+        StandsFor ledger.now (D.file store.old).seen (events records.items)) }
     ensures harm { D.tells → IfErr result (λ fault.
         IfDamaged fault (IsHarm N.id_of ledger.now (D.file store.old).seen)) }
     ensures same { D.tells → D.file store.new ≡ D.file store.old }
@@ -153,7 +161,7 @@ fn read_both<N: Namer, D: Disk>(
     let Ok(size) = store.len() else {
         return Err(ReadAllFault::DiskFault);
     };
-    if size > FILE_LIMIT || ledger.len() as u64 > FILE_LIMIT {
+    if size > FILE_LIMIT || ledger.len() as u64 >= FILE_LIMIT {
         return Err(ReadAllFault::Memory);
     }
     read_records(alloc, namer, store, size, ledger)
@@ -168,8 +176,13 @@ pub fn read_all<N: Namer, D: Disk>(
     store: &mut D,
 ) -> Result<Vec<Record>, ReadAllFault>
     requires { D.tells → IsMade (D.file ledger.old).seen }
+    // On every disk: what is read is a list of whole records, and so is what is before a harm.
+    ensures whole { IfOk result (λ records. AreWhole N.id_of records.items) }
+    ensures before { IfErr result (λ fault. IfDamaged fault (λ _ _ _ before. AreWhole N.id_of before)) }
+
+    // They are those for which the files stand, and what is damaged is the first harm.
     ensures ok { D.tells → IfOk result (λ records.
-        AreRead N.id_of (D.file ledger.old).seen (D.file store.old).seen records.items) }
+        StandsFor (D.file ledger.old).seen (D.file store.old).seen (events records.items)) }
     ensures damaged { D.tells → IfErr result (λ fault.
         IfDamaged fault (IsHarm N.id_of (D.file ledger.old).seen (D.file store.old).seen)) }
 

@@ -10,6 +10,7 @@ ghost use Rattle.swh_recovery.specs.Records.{
   IsWholeRecord,
   IsToldExactly,
   IsEventRead,
+  HoldsEvent,
   EventBreaks,
   IsWholeRead,
   IsNotTold,
@@ -26,6 +27,15 @@ use std::alloc::Global;
 use swh_base::Namer;
 use swh_format::{BatchParts, RecordParts, Told, read_told, split_four};
 use swh_outside::Disk;
+
+/// Where the next record stands: the place of its gate in the ledger, the place in the store where its run has to begin,
+/// and the number of its event, from 1.
+#[derive(Clone, Copy)]
+pub struct NextPlace {
+    pub gate: u64,
+    pub start: u64,
+    pub number: u64,
+}
 
 // A fault in the store.
 fn in_store(fault: ReadFault) -> NextFault
@@ -58,19 +68,19 @@ fn read_batch<N: Namer, D: Disk>(
     namer: &N,
     store: &mut D,
     size: u64,
-    gate: u64,
-    start: u64,
-    number: u64,
+    place: NextPlace,
     parts: &RecordParts<'_>,
 ) -> Result<(Record, u64), NextFault>
     requires size { D.tells → size ≡ length (D.file store.old).seen }
     requires small { size ≤ file_limit }
+    requires inside { place.start ≤ size }
     requires whole { IsWholeRecord parts.now }
     requires batch { parts.now.kind ≡ 66 }
-    ensures ok { D.tells → IfOk result (λ x.
-        IsEventRead N.id_of gate start parts.now (D.file store.old).seen x.0 x.1) }
-    ensures harm { D.tells → IfErr result (λ fault.
-        IfNextHarmed fault (EventBreaks N.id_of number gate start parts.now (D.file store.old).seen)) }
+    ensures read { IfOk result (λ x. IsEventRead N.id_of place.gate place.start parts.now x.0 x.1) }
+    ensures inside { IfOk result (λ x. x.1 ≤ size) }
+    ensures holds { D.tells → IfOk result (λ x. HoldsEvent place.start (D.file store.old).seen x.0 x.1) }
+    ensures harm { D.tells → IfErr result (λ fault. IfNextHarmed fault
+        (EventBreaks N.id_of place.number place.gate place.start parts.now (D.file store.old).seen)) }
     ensures same { D.tells → D.file store.new ≡ D.file store.old }
     ensures later { D.faults store.old ≤ D.faults store.new }
     ensures cause { IsErrOf result DiskFailed → Rose (D.faults store.old) (D.faults store.new) }
@@ -82,11 +92,11 @@ fn read_batch<N: Namer, D: Disk>(
         Ok(entries) => entries,
         Err(fault) => return Err(in_store(fault)),
     };
-    if !is_told_exactly(&told, start, entries.as_slice().len()) {
-        return Err(refused(gate, number));
+    if !is_told_exactly(&told, place.start, entries.as_slice().len()) {
+        return Err(refused(place.gate, place.number));
     }
     let record = Record {
-        gate,
+        gate: place.gate,
         kind: parts.kind,
         payload: parts.payload.to_vec(alloc)?,
         entries,
@@ -127,25 +137,24 @@ fn read_whole(
     })
 }
 
-/// The record of parts that have their fields, and where its run ends in the store; else its first harm. Its gate stands
-/// at a place of the ledger, its run has to begin at a place of the store, and it is the record of the event of a number.
+/// The record of parts that have their fields, and where its run ends in the store; else its first harm.
 pub fn read_event<N: Namer, D: Disk>(
     alloc: Global,
     namer: &N,
     store: &mut D,
     size: u64,
-    gate: u64,
-    start: u64,
-    number: u64,
+    place: NextPlace,
     parts: &RecordParts<'_>,
 ) -> Result<(Record, u64), NextFault>
     requires size { D.tells → size ≡ length (D.file store.old).seen }
     requires small { size ≤ file_limit }
+    requires inside { place.start ≤ size }
     requires whole { IsWholeRecord parts.now }
-    ensures ok { D.tells → IfOk result (λ x.
-        IsEventRead N.id_of gate start parts.now (D.file store.old).seen x.0 x.1) }
-    ensures harm { D.tells → IfErr result (λ fault.
-        IfNextHarmed fault (EventBreaks N.id_of number gate start parts.now (D.file store.old).seen)) }
+    ensures read { IfOk result (λ x. IsEventRead N.id_of place.gate place.start parts.now x.0 x.1) }
+    ensures inside { IfOk result (λ x. x.1 ≤ size) }
+    ensures holds { D.tells → IfOk result (λ x. HoldsEvent place.start (D.file store.old).seen x.0 x.1) }
+    ensures harm { D.tells → IfErr result (λ fault. IfNextHarmed fault
+        (EventBreaks N.id_of place.number place.gate place.start parts.now (D.file store.old).seen)) }
     ensures same { D.tells → D.file store.new ≡ D.file store.old }
     ensures later { D.faults store.old ≤ D.faults store.new }
     ensures cause { IsErrOf result DiskFailed → Rose (D.faults store.old) (D.faults store.new) }
@@ -153,10 +162,10 @@ pub fn read_event<N: Namer, D: Disk>(
     ensures quiet_fault { IfErr result (λ fault. UnlessDiskNext fault (D.faults store.new ≡ D.faults store.old)) }
 {
     if parts.kind == b'B' {
-        return read_batch(alloc, namer, store, size, gate, start, number, parts);
+        return read_batch(alloc, namer, store, size, place, parts);
     }
-    match read_whole(alloc, gate, number, parts) {
-        Ok(record) => Ok((record, start)),
+    match read_whole(alloc, place.gate, place.number, parts) {
+        Ok(record) => Ok((record, place.start)),
         Err(fault) => Err(fault),
     }
 }

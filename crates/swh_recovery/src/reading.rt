@@ -20,13 +20,15 @@ ghost use Rattle.swh_base.specs.Limits.{file_limit};
 ghost use Rattle.swh_recovery.specs.Records.{
   IfNextHarmed,
   UnlessDiskNext,
+  HasRuns,
   IsReadSoFar,
+  IsInside,
   BreaksNext,
   IsAtEnd,
 };
 ghost use Rattle.swh_recovery.specs.declared.fault.NextFault.TheVariants.{DiskFailed};
 
-use crate::event::read_event;
+use crate::event::{NextPlace, read_event};
 use crate::fault::NextFault;
 use crate::field::cut;
 use crate::frame::take_record;
@@ -70,14 +72,17 @@ pub fn read_next<N: Namer, D: Disk>(
     requires size { D.tells → size ≡ length (D.file store.old).seen }
     requires small { size ≤ file_limit }
     requires ledger_small { length ledger.now ≤ file_limit }
-    requires inside { reached.old.gate ≤ length ledger.now }
-    requires so_far { D.tells → IsReadSoFar N.id_of ledger.now (D.file store.old).seen reached.old }
-    ensures so_far { D.tells → OnOk result (IsReadSoFar N.id_of ledger.now (D.file store.old).seen reached.new) }
-    ensures inside { OnOk result (reached.new.gate ≤ length ledger.now) }
+    requires inside { IsInside (length ledger.now) size reached.old }
+    requires so_far { IsReadSoFar N.id_of ledger.now reached.old }
+    requires runs { D.tells → HasRuns (D.file store.old).seen reached.old }
+    ensures so_far { OnOk result (IsReadSoFar N.id_of ledger.now reached.new) }
+    ensures runs { D.tells → OnOk result (HasRuns (D.file store.old).seen reached.new) }
+    ensures inside { OnOk result (IsInside (length ledger.now) size reached.new) }
     ensures longer { IfOk result (λ more. IsTrue more → reached.old.gate < reached.new.gate) }
     ensures end { IfOk result (λ more. more ≡ false → IsAtEnd ledger.now reached.new) }
     ensures harm { D.tells → IfErr result (λ fault.
         IfNextHarmed fault (BreaksNext N.id_of ledger.now (D.file store.old).seen reached.new)) }
+    ensures kept { IfErr result (λ fault. IfNextHarmed fault (λ _ _. reached.new ≡ reached.old)) }
     ensures same { D.tells → D.file store.new ≡ D.file store.old }
     ensures later { D.faults store.old ≤ D.faults store.new }
     ensures cause { IsErrOf result DiskFailed → Rose (D.faults store.old) (D.faults store.new) }
@@ -95,16 +100,12 @@ pub fn read_next<N: Namer, D: Disk>(
         Err(found) => return Err(NextFault::Harmed(0, found)),
     };
     let number = reached.records.as_slice().len() as u64 + 1;
-    let (record, end) = read_event(
-        alloc,
-        namer,
-        store,
-        size,
-        reached.gate,
-        reached.end,
+    let place = NextPlace {
+        gate: reached.gate,
+        start: reached.end,
         number,
-        &parts,
-    )?;
+    };
+    let (record, end) = read_event(alloc, namer, store, size, place, &parts)?;
     reached.records.push(record)?;
     reached.gate = (ledger.len() - parts.rest.len()) as u64;
     reached.end = end;

@@ -1,5 +1,9 @@
 //! The records of a ledger, with what their runs hold.
-use swh_base::{Entry, Items};
+ghost use Rattle.std.specs.Prelude.{◌≡◌, IfOk};
+ghost use Rattle.swh_recovery.specs.Records.{events};
+
+use std::alloc::Global;
+use swh_base::{Entry, Items, Memory};
 use swh_format::Told;
 use swh_model::{Event, EventKind};
 
@@ -40,4 +44,15 @@ impl Record {
         };
         Event { by, what }
     }
+}
+
+/// The events of which records tell, moved out of them. Nothing of an event is copied.
+pub fn into_events(alloc: Global, records: Vec<Record>) -> Result<Vec<Event>, Memory>
+    ensures { IfOk result (λ found. found.items ≡ events records.items) }
+{
+    let mut found = Vec::new(alloc);
+    for record in records {
+        found.push(record.into_event())?;
+    }
+    Ok(found)
 }

@@ -3,6 +3,7 @@ ghost use Rattle.std.specs.Prelude.{
   ◌≡◌,
   ◌+◌,
   ◌≤◌,
+  max,
   IfOk,
   OnOk,
   IfErr,
@@ -11,7 +12,7 @@ ghost use Rattle.std.specs.Prelude.{
 };
 ghost use Rattle.swh_outside.specs.Faults.{Rose};
 ghost use Rattle.swh_base.specs.Limits.{file_limit};
-ghost use Rattle.swh_recovery.specs.StoreHarm.{HoldsRun, RunBreaks};
+ghost use Rattle.swh_recovery.specs.StoreHarm.{IsRun, HoldsRun, RunBreaks};
 ghost use Rattle.swh_recovery.specs.Reading.{IfHarmed, UnlessDisk};
 ghost use Rattle.swh_recovery.specs.declared.fault.ReadFault.TheVariants.{DiskFailed};
 
@@ -34,6 +35,8 @@ pub fn read_run<N: Namer, D: Disk>(
 ) -> Result<Vec<Entry>, ReadFault>
     requires size { D.tells → size ≡ length (D.file store.old).seen }
     requires small { size ≤ file_limit }
+    ensures whole { IfOk result (λ es. IsRun N.id_of from to es.items) }
+    ensures inside { OnOk result (to ≤ max from size) }
     ensures ok { D.tells → IfOk result (λ es. HoldsRun N.id_of from to (D.file store.old).seen es.items) }
     ensures harm { D.tells → IfErr result (λ fault.
         IfHarmed fault (RunBreaks N.id_of from to (D.file store.old).seen)) }

@@ -5,3 +5,4 @@ pub mod OnDisk
 pub mod Reading
 pub mod Runs
 pub mod Settled
+pub mod Counts

@@ -16,6 +16,7 @@ mod reading;
 mod runs;
 mod writing;
 
+pub use beginning::read_beginning;
 pub use both::{Both, BothBack, append_to_both, make_both};
 pub use event::{Run, append_event};
 pub use fault::{HandBack, MakeFault};

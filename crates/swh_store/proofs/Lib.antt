@@ -1,4 +1,3 @@
 pub mod MapLemmas
-pub mod Results
 pub mod AddingLemmas
 pub mod Sizes

@@ -17,7 +17,7 @@ use Rattle.swh_base.specs.declared.entry.Entry.{Entry}
 use Rattle.swh_base.specs.Name.{name_key, name_cmp, name_cmp_total, name_cmp-IsAntisymmetric}
 use Rattle.swh_base.specs.Manifest.{AreChildren}
 use Rattle.swh_base.proofs.Children.{one_list}
-use Rattle.swh_model.specs.Archive.{Bodies, body_of, IsGraphOf}
+use Rattle.swh_model.specs.Archive.{Bodies, body_of, IsHeld, IsGraphOf}
 use Rattle.swh_model.specs.Step.{HasItsChildren, AreNew, added}
 use Rattle.swh_model.proofs.Entries.{added-append}
 use Rattle.swh_store.specs.Entries.{named, in_map, entry_body, entry_kids, bodies_in_map, stored_in, IsKeyed, IsWithout}
@@ -182,6 +182,37 @@ view-put m n key e key_is keyed keyed' updates =
     turn : (b : Bool) (o : Option Entry) → option_map entry_body (cond b (Some e) o) ≡ cond b (Some e.body) (option_map entry_body o)
     turn true o = refl
     turn false o = refl
+
+-- ---- an entry that is held is put back
+
+same_keys : (key k : List ℕ) → at key k ≡ true → key ≡ k
+same_keys key k t = finite.slice_cmp-IsAntisymmetric finite.nat_cmp-IsAntisymmetric key k ((Equal-is (keys_cmp key k)).0 t)
+
+-- the entry that is found under a key is keyed by it
+pub held_keyed : (key : List ℕ) (es : List (List ℕ × Entry)) (held : Entry) → All IsKeyed es → lookup (at key) es ≡ Some held → IsKeyed (key, held)
+held_keyed key es held keyed is =
+    let there = found_keyed key es held keyed is in (same_keys key (name_key held.name) there.0, there.1)
+
+pub keyed-back : (key : List ℕ) (held : Entry) (es fs : List (List ℕ × Entry)) → IsKeyed (key, held) → All IsKeyed es → fs ≡ insert_entry keys_cmp es key held → All IsKeyed fs
+keyed-back key held es fs here keyed is = subst (All IsKeyed) (sym is) (keyed-insert key held es here keyed)
+
+pub held_there : (key : List ℕ) (name : Name) (es : List (List ℕ × Entry)) (held : Entry) → key ≡ name_key name → All IsKeyed es → lookup (at key) es ≡ Some held → IsHeld (bodies_in_map es) name
+held_there key name es held key_is keyed is =
+    (held.body, body_of-lookup name es keyed ∙ ap (option_map entry_body) (subst (λ (k : List ℕ). lookup (at k) es ≡ Some held) key_is is))
+
+pub nothing_there : (key : List ℕ) (name : Name) (es : List (List ℕ × Entry)) → key ≡ name_key name → All IsKeyed es → lookup (at key) es ≡ None → body_of (bodies_in_map es) name ≡ None
+nothing_there key name es key_is keyed is = missing name key es key_is keyed is
+
+pub same-put_back : (m n o : BTreeMap (List ℕ) Entry) (key : List ℕ) (e held : Entry) → All IsKeyed m.entries → All IsKeyed o.entries → get keys_cmp m key ≡ Some held
+    → Updates keys_cmp m n key (Some e) → Updates keys_cmp n o key (Some held) → bodies_in_map o.entries ≡ bodies_in_map m.entries
+same-put_back m n o key e held keyed keyed' was first second =
+    let each : (k : List ℕ) → get keys_cmp o k ≡ get keys_cmp m k =
+    λ k. second.0 k ∙ elim (at key k) as (λ b. at key k ≡ b → cond b (Some held) (get keys_cmp n k) ≡ get keys_cmp m k) [
+      | true ↦ λ t. sym was ∙ ap (λ (q : List ℕ). get keys_cmp m q) (same_keys key k t)
+      | false ↦ λ t. first.0 k ∙ ap (λ (b : Bool). cond b (Some e) (get keys_cmp m k)) t
+    ] refl in
+    same_map name_cmp_total name_cmp-IsAntisymmetric (bodies_in_map o.entries) (bodies_in_map m.entries)
+    (λ q. body_of-lookup q o.entries keyed' ∙ ap (option_map entry_body) (each (name_key q)) ∙ sym (body_of-lookup q m.entries keyed))
 
 -- ---- entries are taken out again
 

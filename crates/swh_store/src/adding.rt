@@ -31,7 +31,8 @@ fn is_same(a: &[u8], b: &[u8]) -> bool
     a == b
 }
 
-fn standing_of(by_key: &BTreeMap<[u8; 21], Entry>, entry: &Entry) -> Standing
+/// The standing of an entry.
+pub fn standing_of(by_key: &BTreeMap<[u8; 21], Entry>, entry: &Entry) -> Standing
     requires { All IsKeyed by_key.now.entries }
     ensures { IsStanding (bodies_in_map by_key.now.entries) entry.now result }
 {

@@ -1,10 +1,11 @@
 //! Entries by their names' keys: a finite map from names to bodies.
-ghost use Rattle.std.specs.Prelude.{◌≡◌, None, All, OnOk, OnErr};
+ghost use Rattle.std.specs.Prelude.{◌≡◌, None, false, All, IsTrue, IfOk, OnOk, OnErr};
 ghost use Rattle.std.specs.List.{AllByRecursion};
 ghost use Rattle.std.specs.FinMap as finite;
 ghost use Rattle.swh_base.specs.Name.{name_key};
-ghost use Rattle.swh_model.specs.Archive.{Bodies, body_of};
+ghost use Rattle.swh_model.specs.Archive.{Bodies, body_of, IsHeld};
 ghost use Rattle.swh_model.specs.Step.{HasItsChildren, AreNew, added};
+ghost use Rattle.swh_store.specs.Stored.{IsInserted};
 ghost use Rattle.swh_store.specs.Entries.{bodies_in_map, IsKeyed, IsWithout};
 
 use std::collections::BTreeMap;
@@ -33,6 +34,29 @@ pub fn insert_one(by_key: &mut BTreeMap<[u8; 21], Entry>, entry: Entry) -> Resul
 {
     by_key.insert(key_of(&entry.name), entry)?;
     Ok(())
+}
+
+/// Inserts an entry, unless its name is held, and says whether it did. It looks once: the entry that is held is put back,
+/// which wants no memory.
+pub fn insert_new(by_key: &mut BTreeMap<[u8; 21], Entry>, entry: Entry) -> Result<bool, Memory>
+    requires keyed { All IsKeyed by_key.old.entries }
+    requires good { HasItsChildren entry }
+    ensures keyed { All IsKeyed by_key.new.entries }
+    ensures yes { IfOk result (λ yes. IsTrue yes → IsInserted (bodies_in_map by_key.old.entries)
+        (bodies_in_map by_key.new.entries) entry) }
+    ensures held { IfOk result (λ yes. yes ≡ false → IsHeld (bodies_in_map by_key.old.entries) entry.name) }
+    ensures same { IfOk result (λ yes. yes ≡ false
+        → bodies_in_map by_key.new.entries ≡ bodies_in_map by_key.old.entries) }
+    ensures err { OnErr result (bodies_in_map by_key.new.entries ≡ bodies_in_map by_key.old.entries) }
+{
+    let key = key_of(&entry.name);
+    match by_key.insert(key, entry)? {
+        None => Ok(true),
+        Some(held) => match by_key.insert(key, held) {
+            Ok(_) => Ok(false),
+            Err(_) => unreachable!(),
+        },
+    }
 }
 
 /// Inserts an equal entry, which shares the body.

@@ -9,6 +9,7 @@ mod entries;
 mod fault;
 mod store;
 
+pub use adding::Standing;
 pub use fault::StoreFault;
 pub use store::Store;
 

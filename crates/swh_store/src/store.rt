@@ -1,6 +1,6 @@
 //! What is held in memory.
-use crate::adding::add_batch;
-use crate::entries::{insert_all, insert_one, key_of};
+use crate::adding::{Standing, add_batch, standing_of};
+use crate::entries::{insert_all, insert_new, insert_one, key_of};
 use crate::fault::StoreFault;
 use std::alloc::Global;
 use std::collections::BTreeMap;
@@ -30,15 +30,15 @@ impl Model for Store {
 }
 
 impl Store {
-    ghost use Rattle.std.specs.Prelude.{◌≡◌, ◌<◌, ◌^◌, ◌↔◌, IsTrue, None, IfOk, IfErr, IfSome, IfNone, OnOk, OnErr, length};
+    ghost use Rattle.std.specs.Prelude.{◌≡◌, ◌<◌, ◌^◌, ◌↔◌, IsTrue, None, false, IfOk, IfErr, IfSome, IfNone, OnOk, OnErr, length};
     ghost use Rattle.std.specs.List.{AllByRecursion};
     ghost use Rattle.std.specs.FinMap as finite;
     ghost use Rattle.swh_base.specs.declared.name.Name.{Name};
     ghost use Rattle.swh_model.specs.Archive.{body_of, IsHeld, IsGraphOf};
     ghost use Rattle.swh_model.specs.Step.{HasItsChildren, AreNew, added};
     ghost use Rattle.swh_model.specs.Judge.{not_held, Collides};
-    ghost use Rattle.swh_store.specs.Stored.{IsEntryOf, children_in, empty_store};
-    ghost use Rattle.swh_store.specs.Adding.{IsStoreFault};
+    ghost use Rattle.swh_store.specs.Stored.{IsEntryOf, IsInserted, children_in, empty_store};
+    ghost use Rattle.swh_store.specs.Adding.{IsStanding, IsStoreFault};
 
     pub fn new(alloc: Global) -> Store
         ensures { result ≡ empty_store }
@@ -64,6 +64,13 @@ impl Store {
         self.get(name).is_some()
     }
 
+    /// How an entry stands to what is held. It takes no memory.
+    pub fn standing(&self, entry: &Entry) -> Standing
+        ensures { IsStanding self.now.bodies entry.now result }
+    {
+        standing_of(&self.by_key, entry)
+    }
+
     /// Adds a batch, in which entries may be held already, and answers how many were new. Fails with the name that would
     /// have two bodies, exactly where there is one, and for want of memory; the store is then as it was.
     pub fn add(&mut self, alloc: Global, entries: &[Entry]) -> Result<u32, StoreFault>
@@ -86,6 +93,17 @@ impl Store {
         ensures err { OnErr result (self.new ≡ self.old) }
     {
         insert_one(&mut self.by_key, entry)
+    }
+
+    /// Adds an entry, unless its name is held, and says whether it did.
+    pub fn put_new(&mut self, entry: Entry) -> Result<bool, Memory>
+        requires { HasItsChildren entry }
+        ensures yes { IfOk result (λ yes. IsTrue yes → IsInserted self.old.bodies self.new.bodies entry) }
+        ensures held { IfOk result (λ yes. yes ≡ false → IsHeld self.old.bodies entry.name) }
+        ensures same { IfOk result (λ yes. yes ≡ false → self.new ≡ self.old) }
+        ensures err { OnErr result (self.new ≡ self.old) }
+    {
+        insert_new(&mut self.by_key, entry)
     }
 
     /// Adds entries that are not held, and no two of one name.

@@ -1,2 +1,1 @@
 pub mod VisitLemmas
-pub mod Results

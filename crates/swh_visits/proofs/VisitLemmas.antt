@@ -1,6 +1,7 @@
 -- The map of visits by origins as the finite map of the archive.
-use Rattle.std.proofs.Common.{◌≡◌, ℕ, zero, suc, ◌<◌, Bool, true, false, cond, Option, Some, None, List, [], ◌∷◌, map, length, get_or, set, unwrap_or, refl, sym, ap, ◌∙◌, subst, arith}
+use Rattle.std.proofs.Common.{◌≡◌, inl, inr, ℕ, ◌-◌, Bool, true, false, cond, Option, Some, None, List, [], ◌∷◌, map, unwrap_or, refl, sym, ap, ◌∙◌, subst, arith}
 use Rattle.std.specs.Prelude.{IsSome}
+use Rattle.std.proofs.lemmas.Option.{slice_get_within}
 use Rattle.std.specs.Option.{option_map}
 use Rattle.std.specs.Global.{Vec}
 use Rattle.std.specs.Map.{lookup, set_value}
@@ -11,11 +12,12 @@ use Rattle.std.specs.Ordering.{eq_by_cmp, is_eq, nat_cmp, match_ordering}
 use Rattle.std.specs.Cmp.Lexicographic.{slice_cmp, nat_list_cmp_total}
 use Rattle.std.specs.FinMap.{find, insert, get-from_entries, get-insert, same_map, IsAntisymmetric}
 use Rattle.std.specs.FinMap as finite
-use Rattle.swh_base.specs.declared.visit.Status.{Status}
 use Rattle.swh_model.specs.declared.event.Visit.{Visit}
 use Rattle.swh_model.specs.Archive.{visits_of}
-use Rattle.swh_model.specs.Step.{with_status, marked_at}
-use Rattle.swh_visits.specs.Visits.{with_visits, origins_of}
+use Rattle.swh_base.specs.Visit.{IsFinal, last_status}
+use Rattle.swh_visits.specs.declared.fault.VisitFault.{VisitFault}
+use Rattle.swh_visits.specs.declared.fault.VisitFault.TheVariants.{NoVisit, NotYours, Ended, Memory}
+use Rattle.swh_visits.specs.Visits.{with_visits, origins_of, MayBeMarked, IsRefusal}
 
 abbrev R : List ℕ → List ℕ → Ordering
 R = slice_cmp nat_cmp
@@ -138,7 +140,18 @@ view-same es fs k old w there is same =
           | false ↦ λ t. refl
         ] refl
 
-pub marked-set : (vs : List Visit) (k : ℕ) (v w : Visit) (s : Status) (id : Option (List ℕ)) → k < length vs → v ≡ get_or vs k v → w ≡ with_status v s id → set vs k w ≡ marked_at vs k s id
-marked-set [] k v w s id less is new = absurd (omega (arith, less))
-marked-set (x ∷ vs) zero v w s id less is new = ap (λ (y : Visit). y ∷ vs) (new ∙ ap (λ (y : Visit). with_status y s id) is)
-marked-set (x ∷ vs) (suc k) v w s id less is new = ap (λ (l : List Visit). x ∷ l) (marked-set vs k v w s id (omega (arith, less)) is new)
+-- ---- what stands against a status
+
+same_of_some : (v w : Visit) → Some v ≡ Some w → v ≡ w
+same_of_some v w e = cc
+
+-- where something stands against a status, the visit may not be marked
+pub refused_unmarked : (vs : List Visit) (by number : ℕ) (fault : VisitFault) → IsRefusal vs by number fault → MayBeMarked vs by number → ⊥
+refused_unmarked vs by number (NoVisit have) (is, inl none) may = let some = may.there.0 in omega (arith, none, some)
+refused_unmarked vs by number (NoVisit have) (is, inr beyond) may =
+    let less = slice_get_within vs (number - 1) may.visit may.there.1 in omega (arith, less, beyond, is)
+refused_unmarked vs by number (NotYours other) (v, there, is, apart) may =
+    apart (ap (λ (w : Visit). w.by) (same_of_some v may.visit (sym there.1 ∙ may.there.1)) ∙ may.opened)
+refused_unmarked vs by number (Ended last) (v, there, own, is, final) may =
+    may.unended (subst (λ (w : Visit). IsFinal (last_status w.statuses)) (same_of_some v may.visit (sym there.1 ∙ may.there.1)) (subst IsFinal is final))
+refused_unmarked vs by number Memory is may = is

@@ -1,5 +1,5 @@
 -- The visits in memory as the finite map of the archive, and what stands against a status.
-use Rattle.std.specs.Prelude.{◌≡◌, ◌≢◌, ◌⊎◌, ℕ, ◌<◌, Some, List, [], length, map}
+use Rattle.std.specs.Prelude.{◌≡◌, ◌≢◌, ◌⊎◌, ℕ, ◌<◌, List, [], length, map}
 use Rattle.std.specs.Borrow.{Bor}
 use Rattle.std.specs.Coded.{Coded, coded_ℕ, coded_list}
 use Rattle.std.specs.FinMap as finite
@@ -8,7 +8,7 @@ use Rattle.swh_base.specs.Visit.{IsFinal, last_status}
 use Rattle.swh_model.specs.contracts.event.Visit as a_visit
 use Rattle.swh_model.specs.declared.event.Visit.{Visit}
 use Rattle.swh_model.specs.Archive.{Origins}
-use Rattle.swh_model.specs.Step.{visit_at}
+pub use Rattle.swh_model.specs.Judged.{IsAt, MayBeMarked}
 use Rattle.swh_visits.specs.declared.fault.VisitFault.{VisitFault}
 use Rattle.swh_visits.specs.declared.fault.VisitFault.TheVariants.{NoVisit, NotYours, Ended, Memory}
 
@@ -28,17 +28,6 @@ origins_of es = finite.from_entries (map with_visits es)
 pub record IsAll (visits : List Visit) (given : Bor (List Visit)) : Type 0 where
   pub same : given.now ≡ visits
   pub some : visits ≢ []
-
--- The visit with this number, which is there.
-abbrev pub IsAt : List Visit → ℕ → Visit → Type 0
-IsAt visits number v = (0 < number) × (visit_at visits number ≡ Some v)
-
--- The visit is there, was opened by this one, and has not ended.
-pub record MayBeMarked (visits : List Visit) (by number : ℕ) : Type 0 where
-  pub visit : Visit
-  pub there : IsAt visits number visit
-  pub opened : visit.by ≡ by
-  pub unended : IsFinal (last_status visit.statuses) → ⊥
 
 -- What stands against a status: the first of what is looked for.
 abbrev pub IsRefusal : List Visit → ℕ → ℕ → VisitFault → Type 0

@@ -6,7 +6,7 @@ ghost use Rattle.swh_visits.specs.Visits.{IsAll, IsVisitFault, IsRefusal, MayBeM
 use crate::fault::VisitFault;
 use std::alloc::Global;
 use swh_base::{Memory, Status, VisitKind};
-use swh_model::{Visit, created, is_final, last_of};
+use swh_model::{Visit, created, is_final, last_of, push_status};
 
 /// Adds a visit that is just opened, and answers its number.
 pub fn push_opened(
@@ -25,22 +25,6 @@ pub fn push_opened(
     let visit = created(alloc, number, date, kind, by)?;
     visits.push(visit)?;
     Ok(number)
-}
-
-/// Adds a status to the visit at a place.
-pub fn push_status(
-    visits: &mut Vec<Visit>,
-    place: usize,
-    status: Status,
-    snapshot: Option<[u8; 20]>,
-) -> Result<(), Memory>
-    requires { place < length visits.old.items }
-    ensures ok { OnOk result (visits.new.items ≡ marked_at visits.old.items place status snapshot) }
-    ensures err { OnErr result (visits.new.items ≡ visits.old.items) }
-{
-    let visit = &mut visits[place];
-    visit.statuses.push((status, snapshot))?;
-    Ok(())
 }
 
 /// Why somebody may add no status to the visit of a number.

@@ -1,11 +1,11 @@
 //! The visits of all origins.
 use crate::fault::VisitFault;
-use crate::list::{add_status, push_opened, push_status, where_any};
+use crate::list::{add_status, push_opened, where_any};
 use std::alloc::Global;
 use std::collections::BTreeMap;
 use std::marker::Model;
 use swh_base::{Memory, Status, Url, VisitKind};
-use swh_model::Visit;
+use swh_model::{Visit, push_status};
 
 /// A finite map from origins' URLs, byte by byte, to their visits, the oldest first. It is ordered: strangers choose
 /// URLs, and no choice makes a look-up longer than the logarithm of their number.
@@ -44,7 +44,14 @@ impl Visits {
     pub fn list(&self, origin: &Url) -> Option<&[Visit]>
         ensures { MatchOption result (visits_of self.now origin.now ≡ []) (IsAll (visits_of self.now origin.now)) }
     {
-        match self.by_origin.get(origin.as_str().as_bytes()) {
+        self.list_of(origin.as_str().as_bytes())
+    }
+
+    /// The same by the bytes of an origin's URL.
+    pub fn list_of(&self, origin: &[u8]) -> Option<&[Visit]>
+        ensures { MatchOption result (visits_of self.now origin.now ≡ []) (IsAll (visits_of self.now origin.now)) }
+    {
+        match self.by_origin.get(origin) {
             Some(visits) => where_any(visits.as_slice()),
             None => None,
         }

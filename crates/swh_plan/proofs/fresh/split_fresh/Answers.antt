@@ -10,17 +10,17 @@ pub loop-entry-preserved-then-not-is_new : goal.loop-entry-preserved-then-not-is
 loop-entry-preserved-then-not-is_new c =
     let split = c.loop-entry.split in
     record {
-      entries_are = fresh-passed c.args.bodies.now c.args.entries.now split.fresh.items c.loop-entry.entry-index c.entry-item.result c.loop-entry-test.true c.entry-item.is c.loop-entry.invariant.entries_are
-          (λ none. not_true (c.if-not-is_new.ensures.1 (either_is c.args.bodies.now split.added split.fresh.items c.entry-item.result.name c.loop-entry.invariant.map_is ∙ none)));
+      entries_are = fresh-passed c.args.store.now.bodies c.args.entries.now split.fresh.items c.loop-entry.entry-index c.entry-item.result c.loop-entry-test.true c.entry-item.is c.loop-entry.invariant.entries_are
+          (λ none. not_true (c.if-not-is_new.ensures.1 (either_is c.args.store.now.bodies split.added.bodies split.fresh.items c.entry-item.result.name c.loop-entry.invariant.map_is ∙ none)));
       map_is = c.loop-entry.invariant.map_is;
     }
 
 pub loop-entry-preserved : goal.loop-entry-preserved
 loop-entry-preserved c =
     let split = c.loop-entry.split in
-    let none = sym (either_is c.args.bodies.now split.added split.fresh.items c.entry-item.result.name c.loop-entry.invariant.map_is) ∙ c.if-not-is_new.ensures.0 refl in
+    let none = sym (either_is c.args.store.now.bodies split.added.bodies split.fresh.items c.entry-item.result.name c.loop-entry.invariant.map_is) ∙ c.if-not-is_new.ensures.0 refl in
     record {
-      entries_are = c.in_ok-keep.ensures.fresh ∙ fresh-kept c.args.bodies.now c.args.entries.now split.fresh.items c.loop-entry.entry-index c.entry-item.result c.loop-entry-test.true c.entry-item.is c.loop-entry.invariant.entries_are none;
-      map_is = c.in_ok-keep.ensures.added ∙ map-kept split.added split.fresh.items c.entry-item.result c.loop-entry.invariant.map_is
+      entries_are = c.in_ok-keep.ensures.fresh ∙ fresh-kept c.args.store.now.bodies c.args.entries.now split.fresh.items c.loop-entry.entry-index c.entry-item.result c.loop-entry-test.true c.entry-item.is c.loop-entry.invariant.entries_are none;
+      map_is = c.in_ok-keep.ensures.added ∙ map-kept split.added.bodies split.fresh.items c.entry-item.result c.loop-entry.invariant.map_is
           ∙ ap (λ (es : List Entry). added finite.empty es) (sym c.in_ok-keep.ensures.fresh);
     }

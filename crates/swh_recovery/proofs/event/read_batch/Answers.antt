@@ -1,4 +1,4 @@
-use Rattle.std.proofs.Common.{rules, ◌≡◌, ℕ, true, false, length, refl, sym, ap, ◌∙◌, subst}
+use Rattle.std.proofs.Common.{rules, ◌≡◌, ℕ, true, false, length, refl, sym, ap, ◌∙◌, subst, arith}
 use Rattle.swh_recovery.specs.declared.harm.Found.{Found}
 use Rattle.swh_recovery.specs.declared.fault.NextFault.{NextFault}
 use Rattle.swh_recovery.specs.Records.{IfNextHarmed, IsToldExactly, EventBreaks}
@@ -10,31 +10,30 @@ pub returns-in-Err-clause-harm : goal.returns-in-Err-clause-harm
 returns-in-Err-clause-harm g c told =
     let seen = (g.D.Disk.file c.args.store.now).seen in
     let t = c.run_told-told.result in
-    let breaks = EventBreaks g.N.Namer.id_of c.args.number c.args.gate c.args.start c.args.parts.now seen in
+    let breaks = EventBreaks g.N.Namer.id_of c.args.place.number c.args.place.gate c.args.place.start c.args.parts.now seen in
     subst (λ (f : NextFault). IfNextHarmed f breaks) (sym c.in_store.ensures)
     (in_file_harmed 1 c.in-Err.fault _ breaks
-    (λ (x : Found). λ h. run_harm g.N.Namer.id_of c.args.start c.args.parts.now c.requires.whole c.requires.batch t c.run_told-told.ensures seen c.args.number c.args.gate x h) (c.in-Err.ensures.harm told))
+    (λ (x : Found). λ h. run_harm g.N.Namer.id_of c.args.place.start c.args.parts.now c.requires.whole c.requires.batch t c.run_told-told.ensures seen c.args.place.number c.args.place.gate x h) (c.in-Err.ensures.harm told))
 
 pub returns-then-not-is_told_exactly-clause-harm : goal.returns-then-not-is_told_exactly-clause-harm
 returns-then-not-is_told_exactly-clause-harm g c told =
     let seen = (g.D.Disk.file c.args.store.now).seen in
     let t = c.run_told-told.result in
-    let breaks = EventBreaks g.N.Namer.id_of c.args.number c.args.gate c.args.start c.args.parts.now seen in
+    let breaks = EventBreaks g.N.Namer.id_of c.args.place.number c.args.place.gate c.args.place.start c.args.parts.now seen in
     let no : c.is_told_exactly.result ≡ false = search rules in
     let size : length c.in-Ok.entries.items ≡ length c.as_slice.result.now = ap length (sym c.as_slice.ensures.value) in
     subst (λ (f : NextFault). IfNextHarmed f breaks) (sym c.refused.ensures)
-    (run_refused g.N.Namer.id_of c.args.start c.args.parts.now c.requires.whole c.requires.batch t c.run_told-told.ensures seen c.in-Ok.entries.items (c.in-Ok.ensures.ok told) c.args.number c.args.gate
-    (λ exact. let yes : c.is_told_exactly.result ≡ true = c.is_told_exactly.ensures.no (subst (λ (n : ℕ). IsToldExactly c.args.start n t) size exact) in cc))
+    (run_refused g.N.Namer.id_of c.args.place.start c.args.parts.now c.requires.whole c.requires.batch t c.run_told-told.ensures seen c.in-Ok.entries.items (c.in-Ok.ensures.ok told) c.args.place.number c.args.place.gate
+    (λ exact. let yes : c.is_told_exactly.result ≡ true = c.is_told_exactly.ensures.no (subst (λ (n : ℕ). IsToldExactly c.args.place.start n t) size exact) in cc))
 
-pub returns-clause-ok : goal.returns-clause-ok
-returns-clause-ok g c told =
-    let seen = (g.D.Disk.file c.args.store.now).seen in
+pub returns-clause-read : goal.returns-clause-read
+returns-clause-read g c =
     let t = c.run_told-told.result in
     let es = c.in-Ok.entries.items in
-    let holds = c.in-Ok.ensures.ok told in
+    let run = c.in-Ok.ensures.whole in
     let size : length c.as_slice.result.now ≡ length c.in-Ok.entries.items = ap length c.as_slice.ensures.value in
     let yes : c.is_told_exactly.result ≡ true = search rules in
-    let exact : IsToldExactly c.args.start (length c.in-Ok.entries.items) c.run_told-told.result = subst (λ (n : ℕ). IsToldExactly c.args.start n c.run_told-told.result) size (c.is_told_exactly.ensures.yes yes) in
+    let exact : IsToldExactly c.args.place.start (length c.in-Ok.entries.items) c.run_told-told.result = subst (λ (n : ℕ). IsToldExactly c.args.place.start n c.run_told-told.result) size (c.is_told_exactly.ensures.yes yes) in
     let items : c.in_ok-to_vec.field-0.items ≡ c.args.parts.now.payload.now = search rules in
     let id_of = g.N.Namer.id_of in
     let p = c.args.parts.now in
@@ -42,12 +41,30 @@ returns-clause-ok g c told =
       placed = record {
         gate_is = refl;
         kind_is = c.requires.batch;
-        payload_is = items ∙ payload_told id_of c.args.start p c.requires.whole c.requires.batch t c.run_told-told.ensures seen es holds exact;
+        payload_is = items ∙ payload_told id_of c.args.place.start p c.requires.whole c.requires.batch t c.run_told-told.ensures es run exact;
         entries_are = refl;
       };
-      codable = codable_batch id_of c.args.start p c.requires.whole c.requires.batch t c.run_told-told.ensures seen es holds exact;
-      ledger = ledger_told id_of c.args.start p c.requires.whole c.requires.batch t c.run_told-told.ensures seen es holds exact;
-      end_is = end_of id_of c.args.start p c.requires.whole c.requires.batch t c.run_told-told.ensures seen es holds exact;
-      run = run_told id_of c.args.start p c.requires.whole c.requires.batch t c.run_told-told.ensures seen es holds exact;
-      good = holds.run.objects.good;
+      codable = codable_batch id_of c.args.place.start p c.requires.whole c.requires.batch t c.run_told-told.ensures es run exact;
+      ledger = ledger_told id_of c.args.place.start p c.requires.whole c.requires.batch t c.run_told-told.ensures es run exact;
+      end_is = end_of id_of c.args.place.start p c.requires.whole c.requires.batch t c.run_told-told.ensures es run exact;
+      good = run.objects.good;
     }
+
+pub returns-clause-inside : goal.returns-clause-inside
+returns-clause-inside g c =
+    let size : length c.as_slice.result.now ≡ length c.in-Ok.entries.items = ap length c.as_slice.ensures.value in
+    let yes : c.is_told_exactly.result ≡ true = search rules in
+    let exact : IsToldExactly c.args.place.start (length c.as_slice.result.now) c.run_told-told.result = c.is_told_exactly.ensures.yes yes in
+    let from_is = exact.from_is in
+    let inside = c.in-Ok.ensures.inside in
+    let start = c.requires.inside in
+    omega (arith, from_is, inside, start)
+
+pub returns-clause-holds : goal.returns-clause-holds
+returns-clause-holds g c told =
+    let t = c.run_told-told.result in
+    let es = c.in-Ok.entries.items in
+    let size : length c.as_slice.result.now ≡ length c.in-Ok.entries.items = ap length c.as_slice.ensures.value in
+    let yes : c.is_told_exactly.result ≡ true = search rules in
+    let exact : IsToldExactly c.args.place.start (length c.in-Ok.entries.items) c.run_told-told.result = subst (λ (n : ℕ). IsToldExactly c.args.place.start n c.run_told-told.result) size (c.is_told_exactly.ensures.yes yes) in
+    record { run = run_told g.N.Namer.id_of c.args.place.start c.args.parts.now c.requires.whole c.requires.batch t c.run_told-told.ensures es c.in-Ok.ensures.whole exact (g.D.Disk.file c.args.store.now).seen (c.in-Ok.ensures.ok told) }

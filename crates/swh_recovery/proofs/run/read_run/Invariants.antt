@@ -1,4 +1,4 @@
-use Rattle.std.proofs.Common.{◌≡◌, ◌+◌, ◌-◌, ◌≤◌, ◌++◌, max, length, drop}
+use Rattle.std.proofs.Common.{◌≡◌, ◌+◌, ◌-◌, ◌≤◌, ◌++◌, max, min, length, drop}
 use Rattle.swh_format.specs.StoredObject.{coded_run}
 use Rattle.swh_recovery.specs.StoreHarm.{AreObjects}
 use Rattle.swh_recovery.proofs.run.read_run.Given as goal
@@ -6,7 +6,7 @@ use Rattle.swh_recovery.proofs.run.read_run.Given as goal
 abbrev pub invariant-objects : goal.invariant-objects
 invariant-objects g l = record {
   place_is : l.place ≡ l.from + length (coded_run l.entries.items);
-  inside : l.place ≤ max l.from l.to;
+  inside : l.place ≤ max l.from (min l.to l.size);
   objects : AreObjects g.N.Namer.id_of l.entries.items;
   begins : g.D.Disk.tells → drop l.from (g.D.Disk.file l.fn.store).seen ≡ coded_run l.entries.items ++ drop l.place (g.D.Disk.file l.fn.store).seen;
   same : g.D.Disk.tells → g.D.Disk.file l.store ≡ g.D.Disk.file l.fn.store;

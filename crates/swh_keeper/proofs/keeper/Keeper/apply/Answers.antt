@@ -6,6 +6,7 @@ use Rattle.swh_keeper.proofs.ApplyLemmas.{may_of_plan, may_advance, keeping-push
 use Rattle.swh_outside.specs.Files.{FileCall, FilesBreaks, files_of}
 use Rattle.swh_keeper.specs.Keeping.{IsBrokenOff}
 use Rattle.swh_keeper.specs.Kept.{Kept}
+use Rattle.swh_plan.specs.Plan.{wish_of}
 use Rattle.swh_keeper.proofs.keeper.Keeper.apply.Goals as goal
 
 pub add_event-added-requires-clause-may : goal.add_event-added-requires-clause-may
@@ -14,14 +15,14 @@ add_event-added-requires-clause-may g c κs within =
     let is = c.self.invariant.replayed_is c.in_default.is in
     let planned = c.in-Ok.ensures.ok k.history.items is (ap (λ (l : List Event). length l + 1) c.as_slice.ensures.value) in
     may_advance g.N.Namer.id_of k.replayed k.history.items c.in-Ok.planned.event is
-    (may_of_plan g.N.Namer.id_of k.history.items c.args.by c.args.wish c.in-Ok.planned.event c.in-Ok.planned.outcome c.requires planned.verdict)
+    (may_of_plan g.N.Namer.id_of k.history.items c.args.by (wish_of c.args.plan) c.in-Ok.planned.event c.in-Ok.planned.outcome c.in-Ok.ensures.good planned.verdict)
 
 pub invariant_of-self : goal.invariant_of-self
 invariant_of-self g c =
     let k = c.self.inside in
     let is = c.self.invariant.replayed_is c.in_default.is in
     let planned = c.in-Ok.ensures.ok k.history.items is (ap (λ (l : List Event). length l + 1) c.as_slice.ensures.value) in
-    let may = may_of_plan g.N.Namer.id_of k.history.items c.args.by c.args.wish c.in-Ok.planned.event c.in-Ok.planned.outcome c.requires planned.verdict in
+    let may = may_of_plan g.N.Namer.id_of k.history.items c.args.by (wish_of c.args.plan) c.in-Ok.planned.event c.in-Ok.planned.outcome c.in-Ok.ensures.good planned.verdict in
     let added = c.in-Ok-added.ensures in
     rw c.in_default.is
     (keeping-push g.N.Namer.id_of g.D.Disk.tells (g.D.Disk.file c.add_event-added.new.ledger) (g.D.Disk.file c.add_event-added.new.store) c.add_event-added.new.replayed k.history.items c.add_event-added.new.history.items
@@ -32,7 +33,7 @@ invariant_of-self-in-Disk g c =
     let k = c.self.inside in
     let is = c.self.invariant.replayed_is c.in_default.is in
     let planned = c.in-Ok.ensures.ok k.history.items is (ap (λ (l : List Event). length l + 1) c.as_slice.ensures.value) in
-    let may = may_of_plan g.N.Namer.id_of k.history.items c.args.by c.args.wish c.in-Ok.planned.event c.in-Ok.planned.outcome c.requires planned.verdict in
+    let may = may_of_plan g.N.Namer.id_of k.history.items c.args.by (wish_of c.args.plan) c.in-Ok.planned.event c.in-Ok.planned.outcome c.in-Ok.ensures.good planned.verdict in
     let failed = c.in-Err-added.is in
     let same = rw failed at c.add_event-added.ensures.not_added in
     let disk : c.add_event-added.result ≡ Err Disk = failed ∙ ap (λ (x : AddFault). Err x) c.in-Disk.is in
@@ -46,7 +47,7 @@ returns-in-Disk-clause-broken g c told _ =
     let planned = c.in-Ok.ensures.ok k.history.items is (ap (λ (l : List Event). length l + 1) c.as_slice.ensures.value) in
     let disk : c.add_event-added.result ≡ Err Disk = c.in-Err-added.is ∙ ap (λ (x : AddFault). Err x) c.in-Disk.is in
     let new = files_of (g.D.Disk.file c.add_event-added.new.ledger) (g.D.Disk.file c.add_event-added.new.store) in
-    subst (λ (v : Kept g.row.D.Denot). IsBrokenOff v.history c.args.by c.args.wish (files_of (g.D.Disk.file v.ledger) (g.D.Disk.file v.store)) new) c.self.view_is
+    subst (λ (v : Kept g.row.D.Denot). IsBrokenOff v.history c.args.by (wish_of c.args.plan) (files_of (g.D.Disk.file v.ledger) (g.D.Disk.file v.store)) new) c.self.view_is
     (record {
       event = c.in-Ok.planned.event;
       outcome = c.in-Ok.planned.outcome;

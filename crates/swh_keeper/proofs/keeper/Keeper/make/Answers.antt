@@ -1,4 +1,4 @@
-use Rattle.std.proofs.Common.{refl, sym, subst}
+use Rattle.std.proofs.Common.{sym, subst}
 use Rattle.swh_outside.specs.Files.{Files, files_of}
 use Rattle.swh_segment.specs.Making.{IsEmptyArchive}
 use Rattle.swh_keeper.proofs.ApplyLemmas.{keeping-empty}
@@ -8,8 +8,8 @@ use Rattle.swh_keeper.proofs.keeper.Keeper.make.Goals as goal
 pub invariant_of-result : goal.invariant_of-result
 invariant_of-result g c =
     let made = c.in-Ok.ensures in
-    keeping-empty g.N.Namer.id_of g.D.Disk.tells (g.D.Disk.file c.make.new.ledger) (g.D.Disk.file c.make.new.store) (record { bodies = c.new.result; visits = c.new-in-Ok.result; store_end = 0; ledger_end = 8 }) c.new-in-Ok-2.result.items
-    c.new-in-Ok-2.ensures.items c.new.ensures c.new-in-Ok.ensures refl refl
+    keeping-empty g.N.Namer.id_of g.D.Disk.tells (g.D.Disk.file c.make.new.ledger) (g.D.Disk.file c.make.new.store) c.new.result c.new-in-Ok.result.items
+    c.new-in-Ok.ensures.items c.new.ensures.replay c.new.ensures.in_files
     (λ told. subst (λ (files : Files). IsEmptyArchive files) (sym (made.calls told).ok)
     (c.made_is_empty.ensures (files_of (g.D.Disk.file c.args.ledger) (g.D.Disk.file c.args.store)) (made.not_made told)))
 

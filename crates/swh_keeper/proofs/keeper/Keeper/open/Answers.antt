@@ -7,16 +7,16 @@ use Rattle.swh_keeper.proofs.keeper.Keeper.open.Goals as goal
 pub invariant_of-result : goal.invariant_of-result
 invariant_of-result g c =
     let done = c.in-Ok.ensures in
-    let checked = c.in-Ok.checked in
-    keeping_opened g.N.Namer.id_of g.D.Disk.tells (g.D.Disk.file c.read_archive.new.ledger) (g.D.Disk.file c.read_archive.new.store) checked.replayed checked.history.items done.whole.history done.whole.in_files done.whole.replay
-    (λ told. ledger_rests (g.D.Disk.file c.args.ledger) (g.D.Disk.file c.args.store) _ (g.D.Disk.file c.read_archive.new.store) (done.calls told))
-    (λ told. store_rests (g.D.Disk.file c.args.ledger) (g.D.Disk.file c.args.store) (g.D.Disk.file c.read_archive.new.ledger) _ (done.calls told))
+    let opened = c.in-Ok.opened in
+    keeping_opened g.N.Namer.id_of g.D.Disk.tells (g.D.Disk.file c.open_archive.new.ledger) (g.D.Disk.file c.open_archive.new.store) opened.replayed opened.history.items done.whole.history done.whole.in_files done.whole.replay
+    (λ told. ledger_rests (g.D.Disk.file c.args.ledger) (g.D.Disk.file c.args.store) _ (g.D.Disk.file c.open_archive.new.store) (done.calls told))
+    (λ told. store_rests (g.D.Disk.file c.args.ledger) (g.D.Disk.file c.args.store) (g.D.Disk.file c.open_archive.new.ledger) _ (done.calls told))
     (λ told.
-    let ledger = ledger_seen (g.D.Disk.file c.args.ledger) (g.D.Disk.file c.args.store) _ (g.D.Disk.file c.read_archive.new.store) (done.calls told) in
-    let store = store_seen (g.D.Disk.file c.args.ledger) (g.D.Disk.file c.args.store) (g.D.Disk.file c.read_archive.new.ledger) _ (done.calls told) in
-    subst (λ (l : List ℕ). StandsFor l (g.D.Disk.file c.read_archive.new.store).seen checked.history.items) (sym ledger)
-    (subst (λ (l : List ℕ). StandsFor (g.D.Disk.file c.args.ledger).seen l checked.history.items) (sym store) (done.stand told)))
+    let ledger = ledger_seen (g.D.Disk.file c.args.ledger) (g.D.Disk.file c.args.store) _ (g.D.Disk.file c.open_archive.new.store) (done.calls told) in
+    let store = store_seen (g.D.Disk.file c.args.ledger) (g.D.Disk.file c.args.store) (g.D.Disk.file c.open_archive.new.ledger) _ (done.calls told) in
+    subst (λ (l : List ℕ). StandsFor l (g.D.Disk.file c.open_archive.new.store).seen opened.history.items) (sym ledger)
+    (subst (λ (l : List ℕ). StandsFor (g.D.Disk.file c.args.ledger).seen l opened.history.items) (sym store) (done.stand told)))
 
 pub returns-in-Ok-clause-history : goal.returns-in-Ok-clause-history
 returns-in-Ok-clause-history g c told h stands is =
-    the_one g.N.Namer.id_of _ _ c.in-Ok.checked.history.items h (c.in-Ok.ensures.stand told) c.in-Ok.ensures.whole.history stands is
+    the_one g.N.Namer.id_of _ _ c.in-Ok.opened.history.items h (c.in-Ok.ensures.stand told) c.in-Ok.ensures.whole.history stands is

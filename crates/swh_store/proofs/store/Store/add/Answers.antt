@@ -1,7 +1,7 @@
 use Rattle.std.proofs.Common.{◌∙◌, sym, subst}
 use Rattle.swh_model.specs.Judge.{Collides}
 use Rattle.swh_store.specs.Stored.{Stored}
-use Rattle.swh_store.proofs.Results.{on_ok, on_err}
+use Rattle.swh_model.proofs.Results.{on_ok, on_err}
 use Rattle.swh_store.proofs.MapLemmas.{same_stored}
 use Rattle.swh_store.proofs.store.Store.add.Goals as goal
 

@@ -1,5 +1,5 @@
 use Rattle.std.proofs.Common.{◌∙◌}
-use Rattle.swh_store.proofs.Results.{on_err}
+use Rattle.swh_model.proofs.Results.{on_err}
 use Rattle.swh_store.proofs.MapLemmas.{same_stored}
 use Rattle.swh_store.proofs.store.Store.put.Goals as goal
 

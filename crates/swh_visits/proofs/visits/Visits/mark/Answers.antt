@@ -5,7 +5,7 @@ use Rattle.swh_model.specs.Step.{marked, marked_at}
 use Rattle.std.specs.FinMap.{insert}
 use Rattle.swh_visits.specs.Visits.{origins_of}
 use Rattle.swh_visits.proofs.VisitLemmas.{visits-found, visits-missing, view-set, view-same}
-use Rattle.swh_visits.proofs.Results.{on_ok, on_err}
+use Rattle.swh_model.proofs.Results.{on_ok, on_err}
 use Rattle.swh_visits.proofs.visits.Visits.mark.Goals as goal
 
 pub push_status-requires : goal.push_status-requires

@@ -9,7 +9,7 @@ use Rattle.std.specs.Global.{Vec}
 use Rattle.std.proofs.Common.{BTreeMap}
 use Rattle.std.specs.BTreeMap.{insert_entry}
 use Rattle.swh_visits.specs.Visits.{origins_of}
-use Rattle.swh_visits.proofs.Results.{on_ok, on_err}
+use Rattle.swh_model.proofs.Results.{on_ok, on_err}
 use Rattle.swh_visits.proofs.visits.Visits.open.Goals as goal
 
 pub returns-in-Some-clause-ok : goal.returns-in-Some-clause-ok

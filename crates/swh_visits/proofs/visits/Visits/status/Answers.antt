@@ -7,7 +7,7 @@ use Rattle.std.specs.Prelude.{IfErr}
 use Rattle.std.proofs.Math.Nat.{eq-zero-or-pos}
 use Rattle.swh_visits.specs.Visits.{origins_of, MayBeMarked, IsVisitFault}
 use Rattle.swh_visits.proofs.VisitLemmas.{visits-found, visits-missing, view-set, view-same}
-use Rattle.swh_visits.proofs.Results.{on_ok, on_err}
+use Rattle.swh_model.proofs.Results.{on_ok, on_err}
 use Rattle.swh_visits.proofs.visits.Visits.status.Goals as goal
 
 pub returns-clause-ok : goal.returns-clause-ok

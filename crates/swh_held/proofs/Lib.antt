@@ -1,3 +1,0 @@
-pub mod MapLemmas
-pub mod VisitLemmas
-pub mod WalkLemmas

@@ -1,0 +1,18 @@
+//! What somebody wants to happen.
+use crate::how::How;
+use swh_base::{Namer, Url, VisitKind};
+use swh_object::Object;
+
+/// Of a batch all is handed over, where its event has what is new.
+#[derive(Drop)]
+pub enum Plan<N: Namer> {
+    Batch(Vec<Object<N>>),
+    Open {
+        origin: Url,
+        kind: VisitKind,
+        /// In seconds since 1970 began.
+        date: u64,
+    },
+    /// A status for the visit of a number, which its origin has.
+    Mark { origin: Url, visit: u64, how: How },
+}
