@@ -4,3 +4,4 @@ pub mod Keeping
 pub mod Adding
 pub mod Opening
 pub mod Own
+pub mod Stored

@@ -8,6 +8,7 @@ mod fault;
 mod keeper;
 mod opening;
 mod own;
+mod stored;
 mod writing;
 
 pub use fault::Refusal;
@@ -17,6 +18,7 @@ pub use own::{
     events_keep_own, making_keeps_own, opening_keeps_own, own_files_are_not_damaged,
     unwritten_files_are_own,
 };
+pub use stored::StoredFault;
 pub use swh_base::Which;
 pub use swh_model::Outcome;
 pub use swh_plan::{How, Plan};
