@@ -2,6 +2,7 @@
 use crate::adding::{AddFault, add_event};
 use crate::fault::{Refusal, refusal_for};
 use crate::opening::{OpenFault, OpenWhy, Opened, open_archive, why_not_made};
+use crate::stored::{StoredFault, read_bytes};
 use std::alloc::Global;
 use std::marker::Model;
 use swh_base::{Namer, Url};
@@ -41,7 +42,11 @@ impl<N: Namer, D: Disk> Model for Keeper<N, D> {
 impl<N: Namer, D: Disk> Keeper<N, D> {
     ghost use Rattle.std.specs.Prelude.{
       ◌≡◌,
+      ◌+◌,
       ◌≤◌,
+      length,
+      take,
+      drop,
       None,
       IfSome,
       IfNone,
@@ -77,6 +82,14 @@ impl<N: Namer, D: Disk> Keeper<N, D> {
     ghost use Rattle.swh_model.specs.Step.{replay};
     ghost use Rattle.swh_replay.specs.Replay.{archive_of};
     ghost use Rattle.swh_visits.specs.Visits.{IsAll};
+    ghost use Rattle.swh_outside.specs.Faults.{Rose};
+    ghost use Rattle.swh_model.specs.Limits.{store_length};
+    ghost use Rattle.swh_format.specs.Stands.{coded_runs};
+    ghost use Rattle.swh_keeper.specs.declared.stored.StoredFault.TheVariants.{
+      DiskFault as StoredDiskFault,
+      Memory as StoredMemory,
+    };
+    ghost use Rattle.swh_keeper.specs.Stored.{IsReadAgain};
     ghost use Rattle.swh_keeper.specs.Kept.{IsKept, Applies, RefusesPlan};
     ghost use Rattle.swh_keeper.specs.Keeping.{IsCarriedOut, IsBrokenOff};
 
@@ -222,6 +235,28 @@ impl<N: Namer, D: Disk> Keeper<N, D> {
         ensures { self.now.wounded ≡ None → archive_of result.now ≡ replay self.now.history }
     {
         &self.replayed
+    }
+
+    /// So many bytes from a place of the store on, within the runs of the history, read again. Where the disks tell, they
+    /// are those of the runs. A disk that gives fewer is read as if zeros followed.
+    pub fn stored_bytes(
+        &mut self,
+        alloc: Global,
+        at: u64,
+        size: usize,
+    ) -> Result<Vec<u8>, StoredFault>
+        requires unwounded { self.old.wounded ≡ None }
+        requires within { at + size ≤ store_length self.old.history }
+        ensures size { IfOk result (λ bytes. length bytes.items ≡ size) }
+        ensures bytes { D.tells → IfOk result (λ bytes. bytes.items
+            ≡ take size (drop at (coded_runs self.old.history))) }
+        ensures same { IsReadAgain D.tells D.file self.old self.new }
+        ensures later { D.faults self.old.store ≤ D.faults self.new.store }
+        ensures cause { IsErrOf result StoredDiskFault → Rose (D.faults self.old.store) (D.faults self.new.store) }
+        ensures quiet { OnOk result (D.faults self.new.store ≡ D.faults self.old.store) }
+        ensures memory_quiet { IsErrOf result StoredMemory → D.faults self.new.store ≡ D.faults self.old.store }
+    {
+        read_bytes(alloc, &mut self.store, at, size)
     }
 
     /// Gives the store and the ledger back.

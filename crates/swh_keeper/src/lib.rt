@@ -10,6 +10,7 @@ mod keeper;
 mod opening;
 mod own;
 mod replaying;
+mod stored;
 mod writing;
 
 pub use damage::{damaged_files_have_no_history, one_damage};
@@ -20,6 +21,7 @@ pub use own::{
     events_keep_own, making_keeps_own, opening_keeps_own, own_files_are_not_damaged,
     unwritten_files_are_own,
 };
+pub use stored::StoredFault;
 pub use swh_base::Which;
 pub use swh_model::Outcome;
 pub use swh_plan::{How, Plan};

@@ -41,7 +41,8 @@ fn length_of_run(entries: &[Entry]) -> Result<u64, Memory>
     Ok(sum)
 }
 
-fn length_in_store(event: &EventKind) -> Result<u64, Memory>
+/// The bytes that an event adds to the store. Fails where that passes 64 bits.
+pub fn length_in_store(event: &EventKind) -> Result<u64, Memory>
     ensures { IfOk result (λ length. length ≡ stored_length event.now) }
 {
     match event {

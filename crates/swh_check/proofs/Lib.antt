@@ -1,0 +1,2 @@
+pub mod FullMarks
+pub mod VisitCounts

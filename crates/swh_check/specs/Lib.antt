@@ -1,0 +1,4 @@
+pub mod Counts
+pub mod Bodies
+pub mod Check
+pub mod Stored
