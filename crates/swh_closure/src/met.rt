@@ -24,7 +24,7 @@ impl Model for Met {
 }
 
 impl Met {
-    ghost use Rattle.std.specs.Prelude.{◌≡◌, ◌<◌, ◌≤◌, ◌^◌, [], Contains, MatchOption, IfOk, OnOk, length, slice_get, Some};
+    ghost use Rattle.std.specs.Prelude.{◌≡◌, ◌↔◌, ◌<◌, ◌≤◌, ◌^◌, [], IsTrue, Contains, MatchOption, IfOk, OnOk, length, slice_get, Some};
     ghost use Rattle.std.specs.List.Sorted.{IsStrictlySortedBy};
     ghost use Rattle.swh_base.specs.Name.{name_cmp};
     ghost use Rattle.swh_closure.specs.Walk.{HaveTheSame, MayGain};
@@ -52,6 +52,13 @@ impl Met {
             Ok(()) => Ok(()),
             Err(_) => unreachable!(),
         }
+    }
+
+    /// Whether a name was met. It takes no memory.
+    pub fn has(&self, name: &Name) -> bool
+        ensures { IsTrue result ↔ Contains self.now name.now }
+    {
+        self.seen.contains(name)
     }
 
     /// How many names there are.

@@ -1,5 +1,5 @@
 //! A walk over all that is reached from a name: breadth first, each name once, and no name that is known to be closed.
-ghost use Rattle.std.specs.Prelude.{◌≡◌, IsTrue, List, None, Some, IfOk, IfErr, IfSome, IfNone, OnOk, Contains};
+ghost use Rattle.std.specs.Prelude.{◌≡◌, ◌↔◌, IsTrue, List, None, Some, IfOk, IfErr, IfSome, IfNone, OnOk, Contains};
 ghost use Rattle.std.specs.List.Sorted.{IsStrictlySortedBy};
 ghost use Rattle.swh_base.specs.declared.name.Name.{Name};
 ghost use Rattle.swh_base.specs.Name.{name_cmp};
@@ -41,6 +41,13 @@ fn is_held<G: Graph>(graph: &G, name: &Name) -> bool
     graph.children_of(name).is_some()
 }
 
+/// Whether a name was met or is known to be closed, so that it need not be looked for.
+fn is_known(closed: &Closed, met: &Met, name: &Name) -> bool
+    ensures { IsTrue result ↔ IsCovered closed.now met.now name.now }
+{
+    met.has(name) || closed.contains(name)
+}
+
 /// Lists these names, but for those that are known to be closed, up to the first that is not held, which is answered.
 fn meet_all<G: Graph>(
     graph: &G,
@@ -55,7 +62,7 @@ fn meet_all<G: Graph>(
         → IsCovered closed.now met.new name)) }
 {
     for name in names {
-        if closed.contains(name) {
+        if is_known(closed, met, name) {
             continue;
         }
         if !is_held(graph, name) {

@@ -8,7 +8,7 @@ use Rattle.swh_model.proofs.OneHistory.{one_history}
 use Rattle.swh_format.proofs.Unique.{alike}
 use Rattle.swh_format.proofs.StandsFrom.{behind_magic}
 use Rattle.swh_segment.specs.Making.{IsMade, IsNotMade}
-use Rattle.swh_keeper.proofs.DamageLemmas.{is_damaged}
+use Rattle.swh_keeper.proofs.DamageLemmas.{damage_is_damaged}
 use Rattle.swh_program.specs.Damage.{IsHarmedAt, TellsHarm}
 use Rattle.swh_program.specs.Opening.{IsArchive, IsDamagedArchive, IsUnusable, IsOpenRefusal, OpenEnds}
 use Rattle.swh_program.specs.declared.answer.Answer.{Answer}
@@ -34,7 +34,7 @@ module _ (id_of : Kind → List ℕ → List ℕ) (files : Files) where
   -- a harm leaves no history
   pub no_archive : (file at : ℕ) → IsHarmedAt id_of files file at → IsDamagedArchive id_of files
   no_archive file at (harm, is) =
-      let d = is_damaged id_of (files 0).seen (files 1).seen file at harm is in
+      let d = damage_is_damaged id_of (files 0).seen (files 1).seen file at harm is in
       record { made = d.made; none = λ h a. d.none h a.stand a.history }
 
   -- nor does one that is told

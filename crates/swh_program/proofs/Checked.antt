@@ -6,8 +6,8 @@ use Rattle.swh_outside.specs.Files.{Files}
 use Rattle.swh_model.specs.declared.event.Event.{Event}
 use Rattle.swh_model.specs.Archive.{Archive}
 use Rattle.swh_model.specs.Step.{replay}
-use Rattle.swh_check.specs.Report.{IsReport}
-use Rattle.swh_check.specs.declared.checking.Report.{Report}
+use Rattle.swh_check.specs.Counts.{IsReport}
+use Rattle.swh_check.specs.declared.report.Report.{Report}
 use Rattle.swh_program.specs.Seen.{Span, SinkFailed}
 use Rattle.swh_program.specs.Answers.{TellsDisk, TellsLine, status_of, status_for, printed_by, last_line_for, IsPrinted}
 use Rattle.swh_program.specs.CheckCommand.{report_line, TellsCounts, IsUndamaged, IsChecked, IsCheckAnswer, CountsArchive, CheckEnds, PrintsCounts}

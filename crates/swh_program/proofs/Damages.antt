@@ -28,8 +28,8 @@ module _ (id_of : Kind → List ℕ → List ℕ) (old : Files) (file at : ℕ) 
   -- there is one first harm
   told_line : (text : List ℕ) → TellsHarm id_of old text → text ≡ damaged_line file at
   told_line text t =
-      let one = one_damage id_of (old 0).seen (old 1).seen t.file t.at t.harmed.0 file at harmed.0 t.harmed.1 harmed.1 in
-      t.text_is ∙ ap₂ damaged_line one.0 one.1
+      let one = one_damage id_of (old 0).seen (old 1).seen t.file t.at file at t.harmed.0 harmed.0 t.harmed.1 harmed.1 in
+      t.text_is ∙ ap₂ damaged_line one.0 one.1.0
 
   module _ (new : Files) where
     pub refusal_harm : (answer : Answer) → OpenEnds id_of old new answer → IsLineOfHarm answer

@@ -7,7 +7,8 @@ use Rattle.swh_model.specs.declared.event.Event.{Event}
 use Rattle.swh_format.specs.Stands.{StandsFor}
 use Rattle.swh_model.specs.Step.{IsHistory}
 use Rattle.swh_segment.specs.Making.{IsMade, IsNotMade, barriers}
-use Rattle.swh_keeper.specs.Opening.{IfDamaged, IsDamagedAt, IsOpeningFault, IsLeftFor, IsTheHistory}
+use Rattle.swh_keeper.specs.Damage.{IfDamagedAt, IsDamagedAt}
+use Rattle.swh_keeper.specs.Opening.{IsOpeningFault, IsLeftFor, IsTheHistory}
 use Rattle.swh_keeper.specs.declared.opening.OpenWhy.{OpenWhy}
 use Rattle.swh_keeper.specs.declared.opening.OpenWhy.TheVariants as why
 use Rattle.swh_recovery.specs.declared.harm.Harm.{Harm}
@@ -57,7 +58,7 @@ module _ (id_of : Kind → List ℕ → List ℕ) (ledger store : File) (old : F
   harm_told file at harm taken d opened _ told = absurd told
 
   pub refused_here : (reason : OpenWhy) (new taken : Files) → taken ≡ new → IsOpeningFault reason → (reason ≡ why.NotMade → IsNotMade ledger.seen)
-      → IfDamaged reason (IsDamagedAt id_of ledger.seen store.seen)
+      → IfDamagedAt reason (IsDamagedAt id_of ledger.seen store.seen)
       → IsLeftFor reason (files_of ledger store) new → (answer : Answer) → IsRefusalFor reason answer → OpenEnds id_of old taken answer
   refused_here why.Made new taken e fault not_made damaged left answer is = absurd fault
   refused_here why.NotMade new taken e fault not_made damaged left answer is =

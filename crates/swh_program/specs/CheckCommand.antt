@@ -5,8 +5,8 @@ use Rattle.swh_outside.specs.Files.{Files}
 use Rattle.swh_model.specs.declared.event.Event.{Event}
 use Rattle.swh_model.specs.Archive.{Archive}
 use Rattle.swh_model.specs.Step.{replay}
-use Rattle.swh_check.specs.Report.{IsReport}
-use Rattle.swh_check.specs.declared.checking.Report.{Report}
+use Rattle.swh_check.specs.Counts.{IsReport}
+use Rattle.swh_check.specs.declared.report.Report.{Report}
 use Rattle.swh_program.specs.Seen.{Span, DepotFailed, SinkFailed}
 use Rattle.swh_program.specs.Archives.{old_archive, new_archive, SameElsewhere}
 use Rattle.swh_program.specs.Damage.{damaged_line, IsDamagedLine, IsHarmedAt, TellsBody}

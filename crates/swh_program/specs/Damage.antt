@@ -6,8 +6,8 @@ use Rattle.swh_swhid.specs.Core.{core_text}
 use Rattle.swh_outside.specs.Files.{Files}
 use Rattle.swh_model.specs.Archive.{Archive}
 use Rattle.swh_recovery.specs.declared.harm.Harm.{Harm}
-use Rattle.swh_keeper.specs.Opening.{IsDamagedAt}
-use Rattle.swh_check.specs.Report.{IsHarmedBody}
+use Rattle.swh_keeper.specs.Damage.{IsDamagedAt}
+use Rattle.swh_check.specs.Bodies.{IsDamage}
 use Rattle.swh_program.specs.Refusal.{refusal}
 use Rattle.swh_program.specs.declared.answer.Answer.{Answer}
 use Rattle.swh_program.specs.declared.answer.Answer.TheVariants.{Damaged, Memory}
@@ -46,5 +46,5 @@ module _ (id_of : Kind → List ℕ → List ℕ) where
   pub record TellsBody (a : Archive) (text : List ℕ) : Type 0 where
     pub name : Name
     pub found : List ℕ
-    pub harmed : IsHarmedBody id_of a name found
+    pub damage : IsDamage id_of a.bodies name found
     pub text_is : text ≡ damaged_body_line name

@@ -4,7 +4,7 @@ ghost use Rattle.swh_outside.specs.Faults.{Rose};
 ghost use Rattle.swh_api.specs.Text.{text_of};
 ghost use Rattle.swh_program.specs.Archives.{archive_at, SameElsewhere};
 ghost use Rattle.swh_program.specs.AskCommand.{reply_line, TellsArchive, IsToldArchive, IsAskAnswer, AskEnds};
-ghost use Rattle.swh_keeper.specs.Advance.{archive_of};
+ghost use Rattle.swh_replay.specs.Replay.{archive_of};
 ghost use Rattle.swh_program.specs.declared.answer.Ending.TheVariants.{Wanting};
 ghost use Rattle.swh_program.specs.declared.answer.Answer.TheVariants.{OutsideDisk};
 
@@ -17,7 +17,7 @@ use swh_api::{Look, reply};
 use swh_base::{Bytes, Memory, Namer, Reply};
 use swh_model::Visit;
 use swh_outside::Depot;
-use swh_plan::Replayed;
+use swh_replay::Replayed;
 
 /// What a keeper shows: the replay of its history.
 #[derive(Drop)]
@@ -26,14 +26,14 @@ struct Shown<'a> {
 }
 
 impl<'a> Look for Shown<'a> {
-    ghost use Rattle.swh_keeper.specs.Advance.{archive_of};
+    ghost use Rattle.swh_replay.specs.Replay.{archive_of};
 
     ghost archive = { λ s. archive_of s.replayed.now };
 
     ghost can_look = { λ _. Unit {0} };
 
     fn visits(&self, origin: &[u8]) -> &[Visit] {
-        match self.replayed.visits.get(origin) {
+        match self.replayed.visits.list_of(origin) {
             Some(visits) => visits,
             None => &[],
         }

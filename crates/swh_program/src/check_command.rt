@@ -2,6 +2,7 @@
 ghost use Rattle.std.specs.Prelude.{◌≡◌, ◌≢◌, ◌≤◌, None, IfOk};
 ghost use Rattle.swh_outside.specs.Faults.{Rose};
 ghost use Rattle.swh_model.specs.Step.{replay};
+ghost use Rattle.swh_keeper.specs.Stored.{IsReadAgain};
 ghost use Rattle.swh_program.specs.Answers.{TellsLine};
 ghost use Rattle.swh_program.specs.Archives.{archive_at, SameElsewhere};
 ghost use Rattle.swh_program.specs.CheckCommand.{
@@ -59,8 +60,7 @@ fn check_open<N: Namer, D: Disk>(alloc: Global, namer: &N, keeper: &mut Keeper<N
     requires { keeper.old.wounded ≡ None }
     ensures checked { IsChecked N.id_of (replay keeper.old.history) result }
     ensures undamaged { D.tells → IsUndamaged result }
-    ensures same_ledger { keeper.new.ledger ≡ keeper.old.ledger }
-    ensures same_store { D.tells → D.file keeper.new.store ≡ D.file keeper.old.store }
+    ensures same { IsReadAgain D.tells D.file keeper.old keeper.new }
     ensures later { D.faults keeper.old.store ≤ D.faults keeper.new.store }
     ensures cause { result ≡ OutsideDisk → Rose (D.faults keeper.old.store) (D.faults keeper.new.store) }
 {

@@ -1,7 +1,7 @@
 use Rattle.std.proofs.Common.{◌≡◌, ◌+◌, List, [], ◌∷◌, ◌++◌, ℕ, map, take, sym, ap, ◌∙◌, subst}
 use Rattle.std.proofs.lemmas.List.{take_more, map-append}
 use Rattle.swh_api.specs.Text.{text_of}
-use Rattle.swh_keeper.specs.Advance.{archive_of}
+use Rattle.swh_replay.specs.Replay.{archive_of}
 use Rattle.swh_model.specs.Answer.{IsReply}
 use Rattle.swh_program.specs.AskCommand.{TellsArchive}
 use Rattle.swh_program.proofs.Replies.{told_more}

@@ -1,5 +1,5 @@
 use Rattle.std.proofs.Common.{map, take}
-use Rattle.swh_keeper.specs.Advance.{archive_of}
+use Rattle.swh_replay.specs.Replay.{archive_of}
 use Rattle.swh_program.specs.AskCommand.{TellsArchive}
 use Rattle.swh_program.proofs.ask_command.replies.Given as goal
 

@@ -16,7 +16,7 @@ returns-clause-one_of g c = one_checked g.N.Namer.id_of _ c.check_open-answer.re
 pub returns-clause-ends : goal.returns-clause-ends
 returns-clause-ends g c told =
     let tells = c.in-Ok.ensures.disks_tell told in
-    let kept = ap₂ files_of (ap g.P.D.Disk.file c.check_open-answer.ensures.same_ledger) (c.check_open-answer.ensures.same_store tells) in
+    let kept = ap₂ files_of (ap g.P.D.Disk.file c.check_open-answer.ensures.same.ledger) (c.check_open-answer.ensures.same.store tells) in
     let opened = c.close_archive.ensures.taken told ∙ kept ∙ c.in-Ok.ensures.opened told in
     checked_ends g.N.Namer.id_of _ _ _ (c.in-Ok.ensures.archive told) opened c.check_open-answer.result c.check_open-answer.ensures.checked (c.check_open-answer.ensures.undamaged tells)
 
