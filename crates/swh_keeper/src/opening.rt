@@ -69,14 +69,6 @@ impl From<Memory> for OpenWhy {
     }
 }
 
-impl From<Failed> for OpenWhy {
-    ghost from_gives = { λ _ why. why ≡ DiskFault };
-
-    fn from(_: Failed) -> OpenWhy {
-        OpenWhy::DiskFault
-    }
-}
-
 impl From<AllocError> for OpenWhy {
     ghost from_gives = { λ _ why. why ≡ OutOfMemory };
 
@@ -85,11 +77,11 @@ impl From<AllocError> for OpenWhy {
     }
 }
 
-impl From<Memory> for OpenWhy {
-    ghost from_gives = { λ _ why. why ≡ OutOfMemory };
+impl From<Failed> for OpenWhy {
+    ghost from_gives = { λ _ why. why ≡ DiskFault };
 
-    fn from(_: Memory) -> OpenWhy {
-        OpenWhy::Memory
+    fn from(_: Failed) -> OpenWhy {
+        OpenWhy::DiskFault
     }
 }
 
