@@ -20,8 +20,8 @@ ghost use Rattle.swh_keeper.specs.declared.opening.OpenWhy.TheVariants.{
   Memory as OutOfMemory,
 };
 
-use std::alloc::Global;
-use swh_base::Namer;
+use std::alloc::{AllocError, Global};
+use swh_base::{Memory, Namer};
 use swh_model::Event;
 use swh_outside::{Disk, Failed};
 use swh_replay::Replayed;
@@ -61,6 +61,22 @@ impl From<Failed> for OpenWhy {
 
     fn from(_: Failed) -> OpenWhy {
         OpenWhy::DiskFault
+    }
+}
+
+impl From<AllocError> for OpenWhy {
+    ghost from_gives = { λ _ why. why ≡ OutOfMemory };
+
+    fn from(_: AllocError) -> OpenWhy {
+        OpenWhy::Memory
+    }
+}
+
+impl From<Memory> for OpenWhy {
+    ghost from_gives = { λ _ why. why ≡ OutOfMemory };
+
+    fn from(_: Memory) -> OpenWhy {
+        OpenWhy::Memory
     }
 }
 
