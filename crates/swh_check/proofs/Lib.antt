@@ -1,2 +1,3 @@
 pub mod FullMarks
 pub mod VisitCounts
+pub mod HeldBodies

@@ -1,38 +1,44 @@
 -- Bodies that were read again, and their ids.
-use Rattle.std.specs.Prelude.{◌≡◌, ◌≢◌, ℕ, ◌+◌, Some, List, [], ◌∷◌, Contains, length, take, drop}
+use Rattle.std.specs.Prelude.{◌≡◌, ◌≢◌, ℕ, ◌+◌, Some, List, [], ◌∷◌, length, take, drop}
+use Rattle.std.specs.List.{AllByRecursion}
 use Rattle.swh_base.specs.declared.kind.Kind.{Kind}
 use Rattle.swh_base.specs.declared.name.Name.{Name}
 use Rattle.swh_base.specs.declared.entry.Entry.{Entry}
+use Rattle.swh_model.specs.declared.event.EventKind.{EventKind}
+use Rattle.swh_model.specs.declared.event.EventKind.TheVariants.{Batch, Open, Mark}
 use Rattle.swh_model.specs.Archive.{Bodies, body_of}
 use Rattle.swh_model.specs.Limits.{object_length}
 use Rattle.swh_check.specs.declared.fault.CheckFault.{CheckFault}
 use Rattle.swh_check.specs.declared.fault.CheckFault.TheVariants.{Damaged, DiskFault, Memory}
 
--- the body of an object that stands in front: what stands behind its kind, its length and its id
+-- the bytes where the body of an object stands in front: behind its kind, its length and its id
 abbrev pub body_in : List ℕ → Entry → List ℕ
 body_in bytes e = take (length e.body) (drop (9 + length e.name.id) bytes)
 
 module _ (id_of : Kind → List ℕ → List ℕ) where
-  -- The bytes have, where the bodies of these objects stand, bodies with their ids.
+  -- Where the bodies of these objects stand the bytes are bodies with their ids.
   abbrev pub HaveTheirIds : List ℕ → List Entry → Type 0
   HaveTheirIds bytes [] = Unit {0}
   HaveTheirIds bytes (e ∷ es) = (id_of e.name.kind (body_in bytes e) ≡ e.name.id) × HaveTheirIds (drop (object_length e) bytes) es
 
-  -- The bytes are as long as the object's body, and have another id, which is this one.
-  pub record IsOther (e : Entry) (name : Name) (found : List ℕ) : Type 0 where
-    pub name_is : name ≡ e.name
-    pub bytes : List ℕ
-    pub long : length bytes ≡ length e.body
-    pub found_is : found ≡ id_of name.kind bytes
-    pub apart : found ≢ name.id
+  -- The same of what an event added.
+  abbrev pub HasItsIds : List ℕ → EventKind → Type 0
+  HasItsIds bytes (Batch entries) = HaveTheirIds bytes entries
+  HasItsIds bytes (Open origin kind date) = Unit {0}
+  HasItsIds bytes (Mark origin visit status snapshot) = Unit {0}
 
-  -- Of one of the objects other bytes were read.
-  abbrev pub IsOtherAmong : List Entry → CheckFault → Type 0
-  IsOtherAmong entries (Damaged name found) = (e : Entry) × Contains entries e × IsOther e name found
-  IsOtherAmong entries DiskFault = ⊥
-  IsOtherAmong entries Memory = ⊥
+  -- The object's body is held under its name, which is its id.
+  pub record IsHeldNamed (bodies : Bodies) (e : Entry) : Type 0 where
+    pub held : body_of bodies e.name ≡ Some e.body
+    pub named : e.name.id ≡ id_of e.name.kind e.body
 
-  -- Bytes as long as the body that is held under the name were read, and have another id, which is this one.
+  -- The same of what an event added.
+  abbrev pub IsHeldKind : Bodies → EventKind → Type 0
+  IsHeldKind bodies (Batch entries) = AllByRecursion (IsHeldNamed bodies) entries
+  IsHeldKind bodies (Open origin kind date) = Unit {0}
+  IsHeldKind bodies (Mark origin visit status snapshot) = Unit {0}
+
+  -- Bytes as long as the body that is held under the name were read for it, and have another id, which is this one.
   pub record IsDamage (bodies : Bodies) (name : Name) (found : List ℕ) : Type 0 where
     pub body : List ℕ
     pub held : body_of bodies name ≡ Some body
@@ -41,7 +47,14 @@ module _ (id_of : Kind → List ℕ → List ℕ) where
     pub found_is : found ≡ id_of name.kind bytes
     pub apart : found ≢ name.id
 
-  -- The object's body is held under its name, which is its id.
-  pub record IsHeldNamed (bodies : Bodies) (e : Entry) : Type 0 where
-    pub held : body_of bodies e.name ≡ Some e.body
-    pub named : e.name.id ≡ id_of e.name.kind e.body
+  -- Which body is damaged and how.
+  abbrev pub IsBodyFault : Bodies → CheckFault → Type 0
+  IsBodyFault bodies (Damaged name found) = IsDamage bodies name found
+  IsBodyFault bodies DiskFault = ⊥
+  IsBodyFault bodies Memory = ⊥
+
+  -- Which body is damaged and how; of a disk that failed and of want of memory it says nothing.
+  abbrev pub IsCheckFault : Bodies → CheckFault → Type 0
+  IsCheckFault bodies (Damaged name found) = IsDamage bodies name found
+  IsCheckFault bodies DiskFault = Unit {0}
+  IsCheckFault bodies Memory = Unit {0}

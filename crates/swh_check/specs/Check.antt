@@ -1,16 +1,7 @@
 -- What a check of all bodies answers.
-use Rattle.std.specs.Prelude.{ℕ, List}
-use Rattle.swh_base.specs.declared.kind.Kind.{Kind}
-use Rattle.swh_model.specs.Archive.{Bodies}
-use Rattle.swh_check.specs.Bodies.{IsDamage}
 use Rattle.swh_check.specs.declared.fault.CheckFault.{CheckFault}
 use Rattle.swh_check.specs.declared.fault.CheckFault.TheVariants.{Damaged, DiskFault, Memory}
-
--- Where a body is damaged, which and how; of a disk that failed and of want of memory it says nothing.
-abbrev pub IsCheckFault : (Kind → List ℕ → List ℕ) → Bodies → CheckFault → Type 0
-IsCheckFault id_of bodies (Damaged name found) = IsDamage id_of bodies name found
-IsCheckFault id_of bodies DiskFault = Unit {0}
-IsCheckFault id_of bodies Memory = Unit {0}
+pub use Rattle.swh_check.specs.Bodies.{IsCheckFault}
 
 -- No body is damaged.
 abbrev pub IsNoDamage : CheckFault → Type 0

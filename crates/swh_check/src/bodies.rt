@@ -1,20 +1,31 @@
 //! The bodies of a run that was read again, against the ids of its objects.
-ghost use Rattle.std.specs.Prelude.{◌≡◌, length, Contains, [], ◌∷◌, IfErr, OnOk, OnErr};
+ghost use Rattle.std.specs.Prelude.{◌≡◌, ◌+◌, length, IfErr, OnOk, OnErr};
 ghost use Rattle.std.specs.List.{AllByRecursion};
-ghost use Rattle.swh_model.specs.Limits.{run_length};
-ghost use Rattle.swh_model.specs.Step.{HasItsChildrenAndName};
+ghost use Rattle.swh_model.specs.Archive.{Bodies};
+ghost use Rattle.swh_model.specs.Limits.{run_length, stored_length};
 ghost use Rattle.swh_format.specs.StoredObject.{coded_run};
-ghost use Rattle.swh_check.specs.Bodies.{HaveTheirIds, IsOtherAmong};
+ghost use Rattle.swh_format.specs.EventRecord.{packed_objects};
+ghost use Rattle.swh_check.specs.Bodies.{HaveTheirIds, HasItsIds, IsHeldNamed, IsHeldKind, IsBodyFault};
 
 use crate::fault::CheckFault;
 use swh_base::{Entry, Namer};
+use swh_model::EventKind;
+
+/// How many bytes stand before the body of an object: its kind in one, its length in eight, and its id.
+fn head_length(id: [u8; 20]) -> usize
+    ensures value { result ≡ 9 + length id }
+    ensures small { result ≡ 29 }
+{
+    9 + id.len()
+}
 
 /// Compares the id of bytes that stand for an object's body with that of its name.
 fn check_body<N: Namer>(namer: &N, entry: &Entry, body: &[u8]) -> Result<(), CheckFault>
     requires { length body.now ≡ length entry.now.body }
     ensures ok { OnOk result (N.id_of entry.now.name.kind body.now ≡ entry.now.name.id) }
     ensures told { entry.now.name.id ≡ N.id_of entry.now.name.kind body.now → OnErr result ⊥ }
-    ensures other { IfErr result (IsOtherAmong N.id_of (entry.now ∷ [])) }
+    ensures damaged { (bodies : Bodies) → IsHeldNamed N.id_of bodies entry.now
+        → IfErr result (IsBodyFault N.id_of bodies) }
 {
     let name = entry.name;
     let found = namer.id(name.kind, body);
@@ -25,21 +36,37 @@ fn check_body<N: Namer>(namer: &N, entry: &Entry, body: &[u8]) -> Result<(), Che
 }
 
 /// Compares the ids of the bodies in a run with those of the objects that stand there, up to the first that differs.
-pub fn check_run<N: Namer>(namer: &N, run: &[u8], entries: &[Entry]) -> Result<(), CheckFault>
+fn check_run<N: Namer>(namer: &N, run: &[u8], entries: &[Entry]) -> Result<(), CheckFault>
     requires { length run.now ≡ run_length entries.now }
     ensures ok { OnOk result (HaveTheirIds N.id_of run.now entries.now) }
-    ensures told { run.now ≡ coded_run entries.now → AllByRecursion (HasItsChildrenAndName N.id_of) entries.now
-        → OnErr result ⊥ }
-    ensures other { IfErr result (IsOtherAmong N.id_of entries.now) }
+    ensures told { (bodies : Bodies) → AllByRecursion (IsHeldNamed N.id_of bodies) entries.now
+        → run.now ≡ coded_run entries.now → OnErr result ⊥ }
+    ensures damaged { (bodies : Bodies) → AllByRecursion (IsHeldNamed N.id_of bodies) entries.now
+        → IfErr result (IsBodyFault N.id_of bodies) }
 {
     let mut rest = run;
     for entry in entries {
-        let id = entry.name.id;
-        let head = 9 + id.len();
-        let size = entry.body.as_slice().len();
-        let (object, more) = rest.split_at(head + size);
-        check_body(namer, entry, &object[head..])?;
+        let (_head, behind) = rest.split_at(head_length(entry.name.id));
+        let (body, more) = behind.split_at(entry.body.as_slice().len());
+        if let Err(fault) = check_body(namer, entry, body) {
+            return Err(fault);
+        }
         rest = more;
     }
     Ok(())
+}
+
+/// Compares the ids of the bodies in the run of an event.
+pub fn check_objects<N: Namer>(namer: &N, run: &[u8], event: &EventKind) -> Result<(), CheckFault>
+    requires { length run.now ≡ stored_length event.now }
+    ensures ok { OnOk result (HasItsIds N.id_of run.now event.now) }
+    ensures told { (bodies : Bodies) → IsHeldKind N.id_of bodies event.now → run.now ≡ packed_objects event.now
+        → OnErr result ⊥ }
+    ensures damaged { (bodies : Bodies) → IsHeldKind N.id_of bodies event.now
+        → IfErr result (IsBodyFault N.id_of bodies) }
+{
+    match event {
+        EventKind::Batch(entries) => check_run(namer, run, entries.as_slice()),
+        EventKind::Open { .. } | EventKind::Mark { .. } => Ok(()),
+    }
 }

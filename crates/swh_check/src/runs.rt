@@ -1,19 +1,18 @@
 //! The runs of a history, read again event by event.
-ghost use Rattle.std.specs.Prelude.{◌≡◌, ◌+◌, ◌<◌, ◌≤◌, [], None, length, take, IfOk, IfErr, OnOk, OnErr, IsErrOf};
+ghost use Rattle.std.specs.Prelude.{◌≡◌, ◌+◌, ◌<◌, ◌≤◌, None, length, take, IfOk, IfErr, OnOk, IsErrOf};
 ghost use Rattle.swh_outside.specs.Faults.{Rose};
-ghost use Rattle.swh_model.specs.Limits.{stored_length, store_length};
+ghost use Rattle.swh_model.specs.Limits.{store_length};
 ghost use Rattle.swh_model.specs.Step.{replay};
-ghost use Rattle.swh_format.specs.EventRecord.{packed_objects};
 ghost use Rattle.swh_keeper.specs.Stored.{IsReadAgain};
 ghost use Rattle.swh_check.specs.Check.{IsCheckFault, IsNoDamage, UnlessDiskFault};
 ghost use Rattle.swh_check.specs.declared.fault.CheckFault.TheVariants.{DiskFault};
 
-use crate::bodies::check_run;
+use crate::bodies::check_objects;
 use crate::fault::CheckFault;
 use std::alloc::Global;
 use swh_base::{Memory, Namer};
 use swh_keeper::Keeper;
-use swh_model::{EventKind, length_in_store};
+use swh_model::length_in_store;
 use swh_outside::Disk;
 
 /// The sum, or want of memory where it passes 64 bits: no machine holds files of such a length.
@@ -48,10 +47,10 @@ fn check_event<N: Namer, D: Disk>(
     let size = length_in_store(&keeper.history()[place].what)?;
     let end = plus(at, size)?;
     let run = keeper.stored_bytes(alloc, at, size as usize)?;
-    if let EventKind::Batch(entries) = &keeper.history()[place].what {
-        check_run(namer, &run, entries.as_slice())?;
+    match check_objects(namer, &run, &keeper.history()[place].what) {
+        Ok(()) => Ok(end),
+        Err(fault) => Err(fault),
     }
-    Ok(end)
 }
 
 /// Reads all runs again, and compares the ids of all bodies, up to the first that differs.

@@ -93,11 +93,11 @@ fn archives_that_are_not_there(rt: HostRuntime) -> Result<(), Fail> {
     Ok(())
 }
 
-/// Opening makes a barrier on the store, asks for its length and reads its run, which is read once more for the check; of
-/// the ledger it is a barrier, the length and a read.
+/// Opening makes a barrier on the store, asks for its length and reads its run, which is read once more for the check; the
+/// ledger has a barrier, and twice its length is asked for and bytes of it are read.
 #[test]
 fn each_device_call_fails_in_turn(rt: HostRuntime) -> Result<(), Fail> {
-    for call in 0..3 {
+    for call in 0..5 {
         let ledger = Setting {
             ledger_fails: Some(call),
             ..LOADED

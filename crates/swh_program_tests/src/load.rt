@@ -175,11 +175,12 @@ fn is_stopped(
     )
 }
 
-/// Opening makes a barrier on each file, and reads its length and its bytes.
+/// Opening makes a barrier on each file; of the ledger it asks for the length and reads the first byte, and then asks for
+/// the length and reads the bytes; of an empty store it asks for the length.
 #[test]
 fn each_device_call_of_opening_fails_in_turn(rt: HostRuntime) -> Result<(), Fail> {
     let told = b"swharc: outside disk\n";
-    for call in 0..3 {
+    for call in 0..5 {
         assert!(rt; is_stopped(rt.alloc(), told, Some(call), None)?);
     }
     for call in 0..2 {
@@ -193,7 +194,7 @@ fn each_device_call_of_opening_fails_in_turn(rt: HostRuntime) -> Result<(), Fail
 #[test]
 fn each_device_call_fails_in_turn(rt: HostRuntime) -> Result<(), Fail> {
     let told = b"\tstopped\tdisk\nswharc: outside disk\n";
-    for call in 3..19 {
+    for call in 5..21 {
         assert!(rt; is_stopped(rt.alloc(), told, Some(call), None)?);
     }
     for call in 2..4 {

@@ -51,12 +51,7 @@ fn name_of(id: [u8; 20]) -> Name
 }
 
 /// Whether all that is reached from a name is held. Where it is, it joins the names that are known to be closed.
-fn is_closed(
-    alloc: Global,
-    store: &Store,
-    closed: &mut Closed,
-    name: Name,
-) -> Result<bool, Memory>
+fn is_closed(alloc: Global, store: &Store, closed: &mut Closed, name: Name) -> Result<bool, Memory>
     requires { AreWhole store.now.bodies closed.old }
     ensures value { IfOk result (λ yes. IsTrue yes ↔ IsClosed store.now.bodies name) }
     ensures whole { OnOk result (AreWhole store.now.bodies closed.new) }

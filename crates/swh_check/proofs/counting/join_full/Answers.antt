@@ -10,8 +10,7 @@ returns-in_ok-_closed-clause-joins c n =
     let graph = children_in c.args.store.now in
     let name = c.in-Some.name in
     let given = c.in-Some.ensures.some in
-    let yes = c.in_ok-_closed.ensures.value.1 (subst (λ (m : Name). IsClosedIn graph m) (sym given.2) (c.requires.closed given.0 given.1)) in
-    (
+    let yes = c.in_ok-_closed.ensures.value.1 (subst (λ (m : Name). IsClosedIn graph m) (sym given.2) (c.requires.closed given.0 given.1)) in (
       λ h. elim (c.close.ensures.only n h) [
         | inl old ↦ inl old
         | inr reached ↦ inr (given.0, given.1, subst (λ (m : Name). ReachesIn graph m n) given.2 reached)
