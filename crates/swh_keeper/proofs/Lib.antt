@@ -4,3 +4,4 @@ pub mod OpenLemmas
 pub mod ReadLemmas
 pub mod OwnLemmas
 pub mod Standings
+pub mod OpenedLemmas
