@@ -6,3 +6,4 @@ pub mod OwnLemmas
 pub mod Standings
 pub mod DamageLemmas
 pub mod StoredLemmas
+pub mod OpenedLemmas
