@@ -5,7 +5,7 @@ ghost use Rattle.swh_keeper.specs.declared.stored.StoredFault.TheVariants.{DiskF
 
 use std::alloc::{AllocError, Global};
 use swh_outside::{Disk, Failed};
-use swh_segment::fill;
+use swh_segment::Runs;
 
 /// Why stored bytes are not given.
 #[derive(Clone, Copy, Debug, PartialEq, Eq)]
@@ -34,21 +34,22 @@ impl From<AllocError> for StoredFault {
 /// So many bytes from a place of the store on. Where the disk gives fewer, the rest are zeros.
 pub fn read_bytes<D: Disk>(
     alloc: Global,
-    store: &mut D,
+    store: &mut Runs<D>,
     at: u64,
     size: usize,
 ) -> Result<Vec<u8>, StoredFault>
     requires { at + size < 2 ^ 64 }
     ensures size { IfOk result (λ bytes. length bytes.items ≡ size) }
-    ensures bytes { D.tells → at + size ≤ length (D.file store.old).seen
-        → IfOk result (λ bytes. bytes.items ≡ take size (drop at (D.file store.old).seen)) }
-    ensures same { D.tells → D.file store.new ≡ D.file store.old }
-    ensures later { D.faults store.old ≤ D.faults store.new }
-    ensures cause { IsErrOf result DiskFault → Rose (D.faults store.old) (D.faults store.new) }
-    ensures quiet { OnOk result (D.faults store.new ≡ D.faults store.old) }
-    ensures memory_quiet { IsErrOf result OutOfMemory → D.faults store.new ≡ D.faults store.old }
+    ensures bytes { D.tells → at + size ≤ length (D.file store.old.disk).seen
+        → IfOk result (λ bytes. bytes.items ≡ take size (drop at (D.file store.old.disk).seen)) }
+    ensures end { store.new.end ≡ store.old.end }
+    ensures same { D.tells → D.file store.new.disk ≡ D.file store.old.disk }
+    ensures later { D.faults store.old.disk ≤ D.faults store.new.disk }
+    ensures cause { IsErrOf result DiskFault → Rose (D.faults store.old.disk) (D.faults store.new.disk) }
+    ensures quiet { OnOk result (D.faults store.new.disk ≡ D.faults store.old.disk) }
+    ensures memory_quiet { IsErrOf result OutOfMemory → D.faults store.new.disk ≡ D.faults store.old.disk }
 {
     let mut bytes = vec![in alloc; 0u8; size]?;
-    fill(store, at, &mut bytes)?;
+    store.fill(at, &mut bytes)?;
     Ok(bytes)
 }

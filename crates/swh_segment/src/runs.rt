@@ -2,12 +2,13 @@
 ghost use Rattle.std.specs.Prelude.{◌≡◌, ◌+◌, ◌≤◌, ◌<◌, ◌^◌, ◌++◌, List, ℕ, Some, length};
 
 use crate::event::append_run;
+use crate::reading::fill;
 use crate::{DiskFault, Run, RunFault};
 use std::alloc::Global;
 use std::marker::Model;
 use swh_base::Entry;
 use swh_format::run_of_entries;
-use swh_outside::Disk;
+use swh_outside::{Disk, Failed};
 
 /// A store that owns its disk. Contracts see the disk, and the place where its last run ends.
 pub struct Runs<D: Disk> {
@@ -34,9 +35,10 @@ impl<D: Disk> Runs<D> {
     ghost use Rattle.swh_outside.specs.Disk.{Runs as IsRun};
     ghost use Rattle.swh_outside.specs.Faults.{HasCause};
     ghost use Rattle.swh_outside.specs.Causes.{HasOutCause};
-    ghost use Rattle.swh_outside.specs.declared.fault.OutFault.TheVariants.{Failed, Memory};
+    ghost use Rattle.swh_outside.specs.declared.fault.OutFault.TheVariants.{Failed as DiskFailed, Memory};
     ghost use Rattle.swh_format.specs.StoredObject.{coded_run};
     ghost use Rattle.swh_segment.specs.Calls.{run_calls};
+    ghost use Rattle.swh_segment.specs.Reading.{IsFilled};
     ghost use Rattle.swh_segment.specs.Settled.{AreRunsSettled, BeginsWith};
 
     /// A store that was read, whose last run ends at this place.
@@ -59,7 +61,7 @@ impl<D: Disk> Runs<D> {
         ensures same { IsErrOf result Memory → self.new ≡ self.old }
         ensures calls { D.tells → OnOk result (D.file self.new.disk
             ≡ all_done (run_calls self.old.end (Some (coded_run entries.now))) (D.file self.old.disk)) }
-        ensures broken { D.tells → IsErrOf result Failed → Breaks
+        ensures broken { D.tells → IsErrOf result DiskFailed → Breaks
             (run_calls self.old.end (Some (coded_run entries.now))) (D.file self.old.disk) (D.file self.new.disk) }
         ensures appended { D.tells → (before : List ℕ) → AreRunsSettled (D.file self.old.disk) before self.old.end
             → OnOk result (AreRunsSettled (D.file self.new.disk) (before ++ coded_run entries.now) self.new.end) }
@@ -95,6 +97,19 @@ impl<D: Disk> Runs<D> {
         append_run(&mut self.disk, from, Run::Batch(run))?;
         self.end = from + run.len() as u64;
         Ok((from, self.end))
+    }
+
+    /// Fills the buffer with what stands from a place on (in bytes from 0), up to the end of the file, and answers how many
+    /// bytes there are. `Failed` where the disk failed.
+    pub fn fill(&mut self, at: u64, out: &mut [u8]) -> Result<usize, Failed>
+        requires { at + length out.old < 2 ^ 64 }
+        ensures bound { IfOk result (λ n. n ≤ length out.new) }
+        ensures filled { D.tells → IfOk result (λ n. IsFilled (D.file self.old.disk).seen at out.new n) }
+        ensures same { D.tells → D.file self.new.disk ≡ D.file self.old.disk }
+        ensures end { self.new.end ≡ self.old.end }
+        ensures cause { HasCause (D.faults self.old.disk) (D.faults self.new.disk) result }
+    {
+        fill(&mut self.disk, at, out)
     }
 
     /// Where its last run ends.
