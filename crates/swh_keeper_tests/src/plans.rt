@@ -66,17 +66,21 @@ fn snapshot_named(id: [u8; 20]) -> Name {
 fn has_collided(first: Answer, second: Answer) -> bool {
     let added = matches!(first, Ok(Outcome::Added { event: 2, new: 1 }));
     match second {
-        Err(Refusal::Collision { name }) => added && name.kind == Kind::Content && name.id[19] == 0xc3,
+        Err(Refusal::Collision { name }) => added
+            && name.kind == Kind::Content
+            && name.id[19] == 0xc3,
         _ => false,
     }
 }
 
 fn is_not_closed(answer: Answer, parent: Name, child: Name) -> bool {
     match answer {
-        Err(Refusal::NotClosed {
-            parent: told,
-            child: missing,
-        }) => told == parent && missing == child,
+        Err(
+            Refusal::NotClosed {
+                parent: told,
+                child: missing,
+            },
+        ) => told == parent && missing == child,
         _ => false,
     }
 }
