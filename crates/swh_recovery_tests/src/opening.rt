@@ -44,12 +44,7 @@ fn expect_damage(
     }
 }
 
-fn expect_events(
-    rt: &impl Abort,
-    alloc: Global,
-    ledger: &[u8],
-    number: usize,
-) -> Result<(), Fail> {
+fn expect_events(rt: &impl Abort, alloc: Global, ledger: &[u8], number: usize) -> Result<(), Fail> {
     match open(alloc, ledger, b"")? {
         Ok(keeper) => {
             let found = keeper.history().len();
