@@ -12,3 +12,4 @@ pub mod LadderLaws
 pub mod OneField
 pub mod OneObject
 pub mod OneHarm
+pub mod PieceLemmas

@@ -6,7 +6,6 @@ use Rattle.std.proofs.Math.Nat.{eq-or-lt_of_le}
 use Rattle.std.specs.Int.{w64, to_be_bytes}
 use Rattle.swh_base.specs.Name.{kind_number}
 use Rattle.swh_format.proofs.Unique.{eight_bytes}
-use Rattle.swh_segment.specs.Reading.{IsFilled}
 use Rattle.swh_recovery.specs.declared.field.Choice.{Choice}
 use Rattle.swh_recovery.specs.declared.field.Choice.TheVariants as choice
 use Rattle.swh_recovery.specs.declared.field.Field.{Field}
@@ -83,25 +82,15 @@ breaks_more (f ∷ fs) bytes more at found h le =
       )
     ]
 
--- the whole of the bytes that were asked was read
-read_whole : (seen out : List ℕ) (at n have : ℕ) → IsFilled seen at out n → n ≤ length out → length out ≡ min have 29 → at + have ≤ length seen → n ≡ min have 29
-read_whole seen out at n have filled bound sized stands = let full = filled.full in let inside = filled.in_file in grind arith
-
-window_splits : (seen out : List ℕ) (at n have : ℕ) → IsFilled seen at out n → n ≤ have → window seen at have ≡ take n out ++ drop n (window seen at have)
-window_splits seen out at n have filled le =
-    sym (take-append-drop n (window seen at have)) ∙ ap (λ (l : List ℕ). l ++ drop n (window seen at have)) (take-take n have (drop at seen) le ∙ sym filled.bytes)
-
 nothing_behind : (seen : List ℕ) (at n have : ℕ) → n ≡ have → drop n (window seen at have) ≡ []
 nothing_behind seen at n have is = drop_of_length-le (window seen at have) (let l = length-take have (drop at seen) in omega (arith, is, l))
 
-module _ (seen out : List ℕ) (at n have : ℕ) (filled : IsFilled seen at out n) (bound : n ≤ length out) (sized : length out ≡ min have 29) (stands : at + have ≤ length seen) where
-  all_read : n ≡ min have 29
-  all_read = read_whole seen out at n have filled bound sized stands
+-- the front of what stands there, as long as a head or as all of it
+module _ (seen front : List ℕ) (at n have : ℕ) (is : front ≡ window seen at n) (size : length front ≡ n) (n_is : n ≡ min have 29) where
+  splits : window seen at have ≡ front ++ drop n (window seen at have)
+  splits = sym (take-append-drop n (window seen at have)) ∙ ap (λ (l : List ℕ). l ++ drop n (window seen at have)) (take-take n have (drop at seen) (omega (arith, n_is)) ∙ sym is)
 
-  splits : window seen at have ≡ take n out ++ drop n (window seen at have)
-  splits = window_splits seen out at n have filled (let a = all_read in omega (arith, a))
-
-  pub head_begins : (h : Head) (rest : List ℕ) → IsHeadOf (take n out) h rest → BeginsWithHead (window seen at have) h
+  pub head_begins : (h : Head) (rest : List ℕ) → IsHeadOf front h rest → BeginsWithHead (window seen at have) h
   head_begins h rest is = record {
     rest = rest ++ drop n (window seen at have);
     is = record {
@@ -113,14 +102,11 @@ module _ (seen out : List ℕ) (at n have : ℕ) (filled : IsFilled seen at out 
     };
   }
 
-  pub head_breaks : (found : Found) → FieldsBreak head_fields (take n out) at found → FieldsBreak head_fields (window seen at have) at found
+  pub head_breaks : (found : Found) → FieldsBreak head_fields front at found → FieldsBreak head_fields (window seen at have) at found
   head_breaks found b =
-      let a = all_read in
-      let l = length-take-le n out bound in
-      let le : n ≤ 29 = omega (arith, a) in
-      elim (eq-or-lt_of_le le) [
-        | inl e ↦ subst (λ (l : List ℕ). FieldsBreak head_fields l at found) (sym splits) (breaks_more head_fields (take n out) (drop n (window seen at have)) at found b (let w = head-widths in omega (arith, w, l, e)))
-        | inr lt ↦ subst (λ (l : List ℕ). FieldsBreak head_fields l at found) (sym (splits ∙ ap (λ (l : List ℕ). take n out ++ l) (nothing_behind seen at n have (omega (arith, a, lt))) ∙ append-nil (take n out))) b
+      elim (eq-or-lt_of_le (let le : n ≤ 29 = omega (arith, n_is) in le)) [
+        | inl e ↦ subst (λ (l : List ℕ). FieldsBreak head_fields l at found) (sym splits) (breaks_more head_fields front (drop n (window seen at have)) at found b (let w = head-widths in omega (arith, w, size, e)))
+        | inr lt ↦ subst (λ (l : List ℕ). FieldsBreak head_fields l at found) (sym (splits ∙ ap (λ (l : List ℕ). front ++ l) (nothing_behind seen at n have (omega (arith, n_is, lt))) ∙ append-nil front)) b
       ]
 
 -- a head has 29 bytes

@@ -5,3 +5,4 @@ pub mod Harms
 pub mod Reading
 pub mod Records
 pub mod Answers
+pub mod Pieces

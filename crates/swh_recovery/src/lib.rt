@@ -13,6 +13,7 @@ mod frame;
 mod harm;
 mod laws;
 mod object;
+mod piece;
 mod reading;
 mod record;
 mod run;

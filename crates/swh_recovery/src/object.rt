@@ -12,7 +12,6 @@ ghost use Rattle.std.specs.Prelude.{
   IfErr,
   IsErrOf,
   length,
-  min,
 };
 ghost use Rattle.swh_outside.specs.Faults.{Rose};
 ghost use Rattle.swh_base.specs.Name.{kind_number};
@@ -32,6 +31,7 @@ ghost use Rattle.swh_recovery.specs.Reading.{
   BeginsWith,
   BodyHarmsAt,
 };
+ghost use Rattle.swh_recovery.specs.Pieces.{IsPieceOf};
 ghost use Rattle.swh_object.specs.Object.{IsObject};
 ghost use Rattle.swh_format.specs.StoredObject.{IsCodableEntry};
 ghost use Rattle.swh_recovery.specs.declared.fault.ReadFault.TheVariants.{DiskFailed, Harmed};
@@ -40,12 +40,12 @@ ghost use Rattle.swh_recovery.specs.declared.harm.Harm.TheVariants.{Body};
 use crate::fault::ReadFault;
 use crate::field::{Choice, cut, take_byte, take_bytes, take_eight};
 use crate::harm::{Found, Harm};
+use crate::piece::{Piece, held, reach, read_behind};
 use std::alloc::Global;
 use swh_base::{BODY_LIMIT, Entry, Kind, Namer, Shared};
 use swh_format::entry_is_codable;
 use swh_object::{Object, ObjectFault};
 use swh_outside::Disk;
-use swh_segment::fill;
 
 // What stands of an object before its body: a kind in a byte, the body's length in eight bytes, and the id in twenty.
 const HEAD: usize = 29;
@@ -142,41 +142,18 @@ fn object_of<N: Namer>(
     Ok(entry)
 }
 
-// As many bytes as are asked, from a place on; fewer where the file ends. Room is taken for as many as are asked.
-fn read_bytes<D: Disk>(
-    alloc: Global,
-    disk: &mut D,
-    at: u64,
-    count: u64,
-) -> Result<Vec<u8>, ReadFault>
-    requires small { count ≤ body_limit }
-    requires inside { at + count < 2 ^ 64 }
-    ensures bytes { D.tells → IfOk result (λ bytes. bytes.items ≡ window (D.file disk.old).seen at count) }
-    ensures count { IfOk result (λ bytes. length bytes.items ≤ count) }
-    ensures why { IfErr result (λ fault. IfHarmed fault (λ _. ⊥)) }
-    ensures same { D.tells → D.file disk.new ≡ D.file disk.old }
-    ensures later { D.faults disk.old ≤ D.faults disk.new }
-    ensures cause { IsErrOf result DiskFailed → Rose (D.faults disk.old) (D.faults disk.new) }
-    ensures quiet { OnOk result (D.faults disk.new ≡ D.faults disk.old) }
-    ensures quiet_fault { IfErr result (λ fault. UnlessDisk fault (D.faults disk.new ≡ D.faults disk.old)) }
-{
-    let mut bytes = vec![in alloc; 0u8; count as usize]?;
-    let count = fill(disk, at, &mut bytes)?;
-    bytes.truncate(count);
-    Ok(bytes)
-}
-
-// The head of the object that stands from a place on, where so many bytes stand up to the end of its run. The buffer
-// has room for a head, or for all of them where they are fewer.
+// The head of the object that stands from a place on, where so many bytes stand up to the end of its run.
 fn read_head<D: Disk>(
+    alloc: Global,
     store: &mut D,
+    piece: &mut Piece,
     at: u64,
     have: u64,
-    buffer: &mut [u8],
 ) -> Result<Head, ReadFault>
     requires inside { at + have < 2 ^ 63 }
-    requires buffer { length buffer.old ≡ min have 29 }
     requires stands { D.tells → at + have ≤ length (D.file store.old).seen }
+    requires piece { D.tells → IsPieceOf (D.file store.old).seen piece.old }
+    ensures piece { D.tells → OnOk result (IsPieceOf (D.file store.old).seen piece.new) }
     ensures ok { D.tells → IfOk result (BeginsWithHead (window (D.file store.old).seen at have)) }
     ensures whole { OnOk result (29 ≤ have) }
     ensures harm { D.tells → IfErr result (λ fault.
@@ -187,15 +164,18 @@ fn read_head<D: Disk>(
     ensures quiet { OnOk result (D.faults store.new ≡ D.faults store.old) }
     ensures quiet_fault { IfErr result (λ fault. UnlessDisk fault (D.faults store.new ≡ D.faults store.old)) }
 {
-    let count = fill(store, at, buffer)?;
-    let (head, _rest) = take_head(&buffer[..count], at)?;
+    let count = have.min(HEAD as u64);
+    reach(alloc, store, piece, at, count, have)?;
+    let (head, _rest) = take_head(held(piece, at, count), at)?;
     Ok(head)
 }
 
-// The body of the object whose head was read from a place on, where so many bytes stand up to the end of its run.
+// The body of the object whose head was read from a place on, where so many bytes stand up to the end of its run. What
+// of it stands in the piece is copied, and the rest is read into its place.
 fn read_body<D: Disk>(
     alloc: Global,
     store: &mut D,
+    piece: &Piece,
     at: u64,
     have: u64,
     size: u64,
@@ -203,6 +183,7 @@ fn read_body<D: Disk>(
     requires inside { at + have < 2 ^ 63 }
     requires head { 29 ≤ have }
     requires stands { D.tells → at + have ≤ length (D.file store.old).seen }
+    requires piece { D.tells → IsPieceOf (D.file store.old).seen piece.now }
     ensures ok { D.tells → IfOk result (λ body. body.items ≡ window (D.file store.old).seen (at + 29) size) }
     ensures whole { OnOk result ((29 + size ≤ have) × (size ≤ body_limit)) }
     ensures count { IfOk result (λ body. length body.items ≤ size) }
@@ -223,20 +204,24 @@ fn read_body<D: Disk>(
     if size > BODY_LIMIT {
         return Err(refused(at, BODY_LIMIT));
     }
-    read_bytes(alloc, store, at + HEAD as u64, size)
+    let place = at + HEAD as u64;
+    read_behind(alloc, store, held(piece, place, size), place, size)
 }
 
 /// The object that stands from a place of the store on, where so many bytes stand up to the end of its run; else its
-/// first harm. Its body is read into its place, and not copied.
+/// first harm. A piece of the store serves as many objects as stand in it; a longer body is read into its place.
 pub fn read_object<N: Namer, D: Disk>(
     alloc: Global,
     namer: &N,
     store: &mut D,
+    piece: &mut Piece,
     at: u64,
     have: u64,
 ) -> Result<Entry, ReadFault>
     requires inside { at + have < 2 ^ 63 }
     requires stands { D.tells → at + have ≤ length (D.file store.old).seen }
+    requires piece { D.tells → IsPieceOf (D.file store.old).seen piece.old }
+    ensures piece { D.tells → OnOk result (IsPieceOf (D.file store.old).seen piece.new) }
     ensures ok { D.tells → IfOk result (BeginsWith N.id_of (window (D.file store.old).seen at have)) }
     ensures good { IfOk result (IsObject N.id_of) }
     ensures codable { IfOk result IsCodableEntry }
@@ -249,10 +234,8 @@ pub fn read_object<N: Namer, D: Disk>(
     ensures quiet { OnOk result (D.faults store.new ≡ D.faults store.old) }
     ensures quiet_fault { IfErr result (λ fault. UnlessDisk fault (D.faults store.new ≡ D.faults store.old)) }
 {
-    let mut buffer = [0u8; HEAD];
-    let asked = have.min(HEAD as u64) as usize;
-    let head = read_head(store, at, have, &mut buffer[..asked])?;
-    let body = read_body(alloc, store, at, have, head.size)?;
+    let head = read_head(alloc, store, piece, at, have)?;
+    let body = read_body(alloc, store, piece, at, have, head.size)?;
     let entry = object_of(alloc, namer, &head, body, at)?;
     entry_is_codable(&entry);
     Ok(entry)

@@ -19,6 +19,7 @@ ghost use Rattle.swh_recovery.specs.declared.fault.ReadFault.TheVariants.{DiskFa
 use crate::fault::ReadFault;
 use crate::field::cut;
 use crate::object::read_object;
+use crate::piece::Piece;
 use std::alloc::Global;
 use swh_base::{Entry, Namer};
 use swh_outside::Disk;
@@ -48,12 +49,16 @@ pub fn read_run<N: Namer, D: Disk>(
 {
     let end = to.min(size);
     let mut entries = Vec::new(alloc);
+    let mut piece = Piece {
+        begin: 0,
+        bytes: Vec::new(alloc),
+    };
     let mut place = from;
     'objects: while place < to {
         if place >= end {
             return Err(ReadFault::Harmed(cut(0, 1, place)));
         }
-        let entry = read_object(alloc, namer, store, place, end - place)?;
+        let entry = read_object(alloc, namer, store, &mut piece, place, end - place)?;
         place += 29 + entry.body.as_slice().len() as u64;
         entries.push(entry)?;
     }

@@ -4,6 +4,7 @@ use Rattle.swh_outside.specs.Disk.{File}
 use Rattle.swh_format.specs.StoredObject.{coded_run}
 use Rattle.swh_recovery.specs.declared.harm.Found.{Found}
 use Rattle.swh_recovery.specs.StoreHarm.{AreObjects, ObjectBreaks}
+use Rattle.swh_recovery.specs.Pieces.{IsPieceOf}
 use Rattle.swh_recovery.specs.Reading.{IfHarmed, window, BeginsWith}
 use Rattle.swh_recovery.proofs.FrameLemmas.{exits}
 use Rattle.swh_recovery.proofs.BodyLemmas.{harmed_map}
@@ -47,6 +48,7 @@ objects-preserved g c =
           let begun = subst (λ (f : File). BeginsWith g.N.Namer.id_of (window f.seen c.objects.place (c.min-end.result - c.objects.place)) e) (i.same told) (c.in_ok-entry.ensures.ok told) in
           begins_next g.N.Namer.id_of seen es e c.args.from c.objects.place (c.min-end.result - c.objects.place) _ (i.begins told) begun next
           ∙ ap (λ (l : List Entry). coded_run l ++ drop (c.objects.place + (29 + length c.as_slice.result.now)) seen) (sym items);
+      piece = λ told. subst (λ (f : File). IsPieceOf f.seen c.read_object.new.piece) (i.same told) (c.in_ok-entry.ensures.piece told);
       same = λ told. c.in_ok-entry.ensures.same told ∙ i.same told;
       quiet = c.in_ok-entry.ensures.quiet ∙ i.quiet;
     }
