@@ -10,7 +10,8 @@ summed.
 
 The large one may take at most an eighth of the time of fast-import, and at most 2.5 times that of `sha1sum`; the history
 of 5,000 commits at most the time of fast-import; the longer one at most 2.4 times that of the shorter. Above the peak of
-a load of an empty stream, a load may hold 1.3 times the bodies that are made, 400 bytes an object, and one window. The
+a load of an empty stream, a load may hold 1.3 times the bodies that are made and their lists of children (21 bytes for
+each entry of a directory), 400 bytes an object, and one window; what it would be without the children is printed too. The
 program is the built one, outside the gate.
 """
 import os
@@ -36,6 +37,7 @@ LEAST_OF_SUM = 0.4
 MOST_OF_HISTORY = 2.4
 TIMES_BODIES = 1.3
 BYTES_AN_OBJECT = 400
+BYTES_A_CHILD = 21
 WINDOW = 1_114_112
 PERSON = b"A <a@e.org> %d +0000"
 ROOTS = ("/usr/lib", "/usr/share", "/usr/bin", "/opt")
@@ -110,8 +112,32 @@ def history_commits(count):
                               for changed in noise.sample(range(FILES), CHANGES)])
 
 
+def entries_of(tree):
+    """How many entries a tree's body has."""
+    count = place = 0
+    while place < len(tree):
+        place = tree.index(0, place) + 21
+        count += 1
+    return count
+
+
+def children_of(bare):
+    """How many entries all directories of a repository have together."""
+    objects = git(bare, "cat-file", "--batch-all-objects", "--batch-check=%(objecttype) %(objectname)").split(b"\n")
+    trees = b"".join(line[5:] + b"\n" for line in objects if line.startswith(b"tree "))
+    given = git(bare, "cat-file", "--batch", input=trees)
+    count = place = 0
+    while place < len(given):
+        end = given.index(b"\n", place)
+        size = int(given[place:end].split()[2])
+        count += entries_of(given[end + 1:end + 1 + size])
+        place = end + 2 + size
+    return count
+
+
 def make_stream(folder, name, commits):
-    """A repository of these commits, made and written out by git; the path of its stream, the bodies and the objects."""
+    """A repository of these commits, made and written out by git; the path of its stream, the bytes of the bodies, the
+    objects, and the entries of the directories."""
     bare = repository(os.path.join(folder, name + ".git"))
     feeding = subprocess.Popen(["git", "-C", bare, "fast-import", "--quiet"], stdin=subprocess.PIPE)
     for text in commits:
@@ -123,7 +149,7 @@ def make_stream(folder, name, commits):
     with open(stream, "wb") as file:
         subprocess.run(["git", "-C", bare, "fast-export", "--all"], check=True, stdout=file)
     sizes = git(bare, "cat-file", "--batch-all-objects", "--batch-check=%(objectsize)").split()
-    return stream, sum(map(int, sizes)), len(sizes)
+    return stream, sum(map(int, sizes)), len(sizes), children_of(bare)
 
 
 # A process takes over the peak of the one that starts it, so that one is small.
@@ -171,16 +197,18 @@ def time_sum(stream):
 
 def measure(program, folder, name, commits, empty):
     """The best of some rounds, in turn: seconds of load, import and sum; and whether the memory is within its bound."""
-    stream, bodies, objects = make_stream(folder, name, commits)
+    stream, bodies, objects, children = make_stream(folder, name, commits)
     rounds = [(load(program, folder, stream), time_import(folder, stream), time_sum(stream)) for _ in range(ROUNDS)]
     took = min(round[0][0] for round in rounds)
     imported = min(round[1] for round in rounds)
     summed = min(round[2] for round in rounds)
     peak = min(round[0][1] for round in rounds) - empty
-    most = TIMES_BODIES * bodies + BYTES_AN_OBJECT * objects + WINDOW
+    without = TIMES_BODIES * bodies + BYTES_AN_OBJECT * objects + WINDOW
+    most = without + TIMES_BODIES * BYTES_A_CHILD * children
     print("%-8s %9d bytes: swharc %7.3f s, git fast-import %7.3f s (%.2f times), sha1sum %7.3f s (%.2f of its rate); "
-          "%d bodies of %d bytes, peak %d of %d bytes"
-          % (name, os.path.getsize(stream), took, imported, imported / took, summed, summed / took, objects, bodies, peak, most))
+          "%d bodies of %d bytes, peak %d of %d bytes (%d without the children)"
+          % (name, os.path.getsize(stream), took, imported, imported / took, summed, summed / took, objects, bodies, peak, most,
+             without))
     sys.stdout.flush()
     return took, imported, summed, peak <= most
 
