@@ -5,3 +5,4 @@ pub mod Adding
 pub mod Opening
 pub mod Own
 pub mod Stored
+pub mod Places

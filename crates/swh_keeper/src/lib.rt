@@ -5,6 +5,7 @@
 
 mod adding;
 mod fault;
+mod finding;
 mod keeper;
 mod opening;
 mod own;
