@@ -1,3 +1,3 @@
 pub mod FullMarks
 pub mod VisitCounts
-pub mod HeldBodies
+pub mod BodyFaults

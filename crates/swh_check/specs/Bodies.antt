@@ -8,12 +8,9 @@ use Rattle.swh_model.specs.declared.event.EventKind.{EventKind}
 use Rattle.swh_model.specs.declared.event.EventKind.TheVariants.{Batch, Open, Mark}
 use Rattle.swh_model.specs.Archive.{Bodies, body_of}
 use Rattle.swh_model.specs.Limits.{object_length}
+pub use Rattle.swh_keeper.specs.Stored.{body_in, IsHeldNamed, IsHeldKind}
 use Rattle.swh_check.specs.declared.fault.CheckFault.{CheckFault}
 use Rattle.swh_check.specs.declared.fault.CheckFault.TheVariants.{Damaged, DiskFault, Memory}
-
--- the bytes where the body of an object stands in front: behind its kind, its length and its id
-abbrev pub body_in : List ℕ → Entry → List ℕ
-body_in bytes e = take (length e.body) (drop (9 + length e.name.id) bytes)
 
 module _ (id_of : Kind → List ℕ → List ℕ) where
   -- Where the bodies of these objects stand the bytes are bodies with their ids.
@@ -26,17 +23,6 @@ module _ (id_of : Kind → List ℕ → List ℕ) where
   HasItsIds bytes (Batch entries) = HaveTheirIds bytes entries
   HasItsIds bytes (Open origin kind date) = Unit {0}
   HasItsIds bytes (Mark origin visit status snapshot) = Unit {0}
-
-  -- The object's body is held under its name, which is its id.
-  pub record IsHeldNamed (bodies : Bodies) (e : Entry) : Type 0 where
-    pub held : body_of bodies e.name ≡ Some e.body
-    pub named : e.name.id ≡ id_of e.name.kind e.body
-
-  -- The same of what an event added.
-  abbrev pub IsHeldKind : Bodies → EventKind → Type 0
-  IsHeldKind bodies (Batch entries) = AllByRecursion (IsHeldNamed bodies) entries
-  IsHeldKind bodies (Open origin kind date) = Unit {0}
-  IsHeldKind bodies (Mark origin visit status snapshot) = Unit {0}
 
   -- Bytes as long as the body that is held under the name were read for it, and have another id, which is this one.
   pub record IsDamage (bodies : Bodies) (name : Name) (found : List ℕ) : Type 0 where

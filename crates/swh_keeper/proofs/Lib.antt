@@ -7,3 +7,4 @@ pub mod Standings
 pub mod DamageLemmas
 pub mod StoredLemmas
 pub mod OpenedLemmas
+pub mod HeldBodies

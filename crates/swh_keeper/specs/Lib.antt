@@ -6,3 +6,4 @@ pub mod Opening
 pub mod Own
 pub mod Damage
 pub mod Stored
+pub mod Places

@@ -1,6 +1,14 @@
--- What reading the store again leaves.
-use Rattle.std.specs.Prelude.{◌≡◌}
+-- What reading the store again leaves, and what it has of bodies.
+use Rattle.std.specs.Prelude.{◌≡◌, ℕ, ◌+◌, Some, List, length, take, drop}
+use Rattle.std.specs.Global.{Vec}
+use Rattle.std.specs.List.{AllByRecursion}
+use Rattle.swh_base.specs.declared.kind.Kind.{Kind}
+use Rattle.swh_base.specs.declared.name.Name.{Name}
+use Rattle.swh_base.specs.declared.entry.Entry.{Entry}
 use Rattle.swh_outside.specs.Disk.{File}
+use Rattle.swh_model.specs.declared.event.EventKind.{EventKind}
+use Rattle.swh_model.specs.declared.event.EventKind.TheVariants.{Batch, Open, Mark}
+use Rattle.swh_model.specs.Archive.{Bodies, body_of}
 use Rattle.swh_keeper.specs.Kept.{Kept}
 
 -- All is as it was, but that the store's disk was read.
@@ -9,3 +17,25 @@ pub record IsReadAgain {D : Type 0} (tells : Type 0) (file : D → File) (old ne
   pub wounded : new.wounded ≡ old.wounded
   pub ledger : new.ledger ≡ old.ledger
   pub store : tells → file new.store ≡ file old.store
+
+-- the bytes where the body of an object stands in front: behind its kind, its length and its id
+abbrev pub body_in : List ℕ → Entry → List ℕ
+body_in bytes e = take (length e.body) (drop (9 + length e.name.id) bytes)
+
+module _ (id_of : Kind → List ℕ → List ℕ) where
+  -- The object's body is held under its name, which is its id.
+  pub record IsHeldNamed (bodies : Bodies) (e : Entry) : Type 0 where
+    pub held : body_of bodies e.name ≡ Some e.body
+    pub named : e.name.id ≡ id_of e.name.kind e.body
+
+  -- The same of what an event added.
+  abbrev pub IsHeldKind : Bodies → EventKind → Type 0
+  IsHeldKind bodies (Batch entries) = AllByRecursion (IsHeldNamed bodies) entries
+  IsHeldKind bodies (Open origin kind date) = Unit {0}
+  IsHeldKind bodies (Mark origin visit status snapshot) = Unit {0}
+
+-- The bytes are as many as the body that is held under the name.
+pub record IsAsLong (bodies : Bodies) (n : Name) (bytes : Vec ℕ) : Type 0 where
+  pub body : List ℕ
+  pub held : body_of bodies n ≡ Some body
+  pub long : length bytes.items ≡ length body

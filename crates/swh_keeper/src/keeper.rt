@@ -2,10 +2,11 @@
 use crate::adding::{AddFault, add_event};
 use crate::fault::{Refusal, refusal_for};
 use crate::opening::{OpenFault, OpenWhy, Opened, open_archive, why_not_made};
+use crate::finding::place_of;
 use crate::stored::{StoredFault, read_bytes};
 use std::alloc::Global;
 use std::marker::Model;
-use swh_base::{Namer, Url};
+use swh_base::{Name, Namer, Url};
 use swh_model::{Event, Outcome, Visit};
 use swh_outside::Disk;
 use swh_plan::{Plan, judge_plan};
@@ -82,7 +83,7 @@ impl<N: Namer, D: Disk> Keeper<N, D> {
       NotMade,
       DiskFault as DiskFaulted,
     };
-    ghost use Rattle.swh_model.specs.Archive.{visits_of};
+    ghost use Rattle.swh_model.specs.Archive.{body_of, visits_of};
     ghost use Rattle.swh_model.specs.Step.{replay};
     ghost use Rattle.swh_replay.specs.Replay.{archive_of};
     ghost use Rattle.swh_visits.specs.Visits.{IsAll};
@@ -93,7 +94,7 @@ impl<N: Namer, D: Disk> Keeper<N, D> {
       DiskFault as StoredDiskFault,
       Memory as StoredMemory,
     };
-    ghost use Rattle.swh_keeper.specs.Stored.{IsReadAgain};
+    ghost use Rattle.swh_keeper.specs.Stored.{IsReadAgain, IsAsLong};
     ghost use Rattle.swh_keeper.specs.Kept.{IsKept, Applies, RefusesPlan};
     ghost use Rattle.swh_keeper.specs.Keeping.{IsCarriedOut, IsBrokenOff};
 
@@ -265,6 +266,27 @@ impl<N: Namer, D: Disk> Keeper<N, D> {
         ensures memory_quiet { IsErrOf result StoredMemory → D.faults self.new.store ≡ D.faults self.old.store }
     {
         read_bytes(alloc, &mut self.store, at, size)
+    }
+
+    /// The bytes at the place of the body that is held under a name, read again from the store; none exactly where none is
+    /// held. Where the disks tell, they are the body. The place is counted from the start of the history.
+    pub fn stored(&mut self, alloc: Global, name: &Name) -> Result<Option<Vec<u8>>, StoredFault>
+        requires { self.old.wounded ≡ None }
+        ensures none { IfOk result (λ found. IfNone found (body_of (replay self.old.history).bodies name.now ≡ None)) }
+        ensures long { IfOk result (λ found. IfSome found (IsAsLong (replay self.old.history).bodies name.now)) }
+        ensures held { D.tells → IfOk result (λ found. IfSome found (λ bytes.
+            body_of (replay self.old.history).bodies name.now ≡ Some bytes.items)) }
+        ensures same { IsReadAgain D.tells D.file self.old self.new }
+        ensures later { D.faults self.old.store ≤ D.faults self.new.store }
+        ensures cause { IsErrOf result StoredDiskFault → Rose (D.faults self.old.store) (D.faults self.new.store) }
+        ensures quiet { OnOk result (D.faults self.new.store ≡ D.faults self.old.store) }
+        ensures memory_quiet { IsErrOf result StoredMemory → D.faults self.new.store ≡ D.faults self.old.store }
+    {
+        let Some(place) = place_of(self.history.as_slice(), name)? else {
+            return Ok(None);
+        };
+        let bytes = read_bytes(alloc, &mut self.store, place.at, place.size)?;
+        Ok(Some(bytes))
     }
 
     /// Gives the store and the ledger back.

@@ -6,6 +6,7 @@
 mod adding;
 mod damage;
 mod fault;
+mod finding;
 mod keeper;
 mod opening;
 mod own;

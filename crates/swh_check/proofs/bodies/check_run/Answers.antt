@@ -4,7 +4,7 @@ use Rattle.swh_model.specs.Limits.{object_length, run_length}
 use Rattle.swh_model.proofs.PlainLists.{all-at}
 use Rattle.swh_format.specs.StoredObject.{coded_run}
 use Rattle.swh_check.specs.Bodies.{body_in, HaveTheirIds, IsHeldNamed}
-use Rattle.swh_check.proofs.HeldBodies.{drop-next, drop-twice, body-coded, more-coded}
+use Rattle.swh_keeper.proofs.HeldBodies.{drop-next, drop-twice, body-coded, more-coded}
 use Rattle.swh_check.proofs.bodies.check_run.Goals as goal
 
 pub returns-in-Err-clause-told : goal.returns-in-Err-clause-told

@@ -7,7 +7,8 @@ use Rattle.swh_model.proofs.PlainLengths.{store-next}
 use Rattle.swh_format.specs.EventRecord.{packed_objects}
 use Rattle.swh_format.specs.Stands.{coded_runs}
 use Rattle.swh_check.specs.Bodies.{IsHeldKind}
-use Rattle.swh_check.proofs.HeldBodies.{held-at, run-there, run-within, same-item, body-fault, no-disk}
+use Rattle.swh_keeper.proofs.HeldBodies.{held-at, run-there, run-within, same-item}
+use Rattle.swh_check.proofs.BodyFaults.{body-fault, no-disk}
 use Rattle.swh_check.proofs.runs.check_event.Goals as goal
 
 pub stored_bytes-requires-clause-within : goal.stored_bytes-requires-clause-within

@@ -1,20 +1,23 @@
 -- The bodies of a history's events, as they are held and as they stand in the store.
-use Rattle.std.proofs.Common.{◌≡◌, Result, Err, ℕ, zero, suc, ◌+◌, ◌-◌, ◌<◌, ◌≤◌, Some, List, [], ◌∷◌, ◌++◌, length, take, drop, get_or, refl, sym, ap, ◌∙◌, subst, arith, length-append, append_assoc}
+use Rattle.std.proofs.Common.{◌≡◌, ℕ, zero, suc, ◌+◌, ◌-◌, ◌<◌, ◌≤◌, Some, None, List, [], ◌∷◌, ◌++◌, length, take, drop, get_or, refl, sym, ap, ◌∙◌, subst, arith, length-append, append_assoc}
 use Rattle.std.proofs.Math.Seq.{drop-cons, drop-append_seam, take-append_seam}
 use Rattle.std.proofs.lemmas.List.{drop-append-le}
 use Rattle.std.specs.List.{AllByRecursion}
 use Rattle.std.specs.Int.{w64, to_be_bytes}
 use Rattle.std.specs.FinMap.{insert}
 use Rattle.swh_base.specs.declared.kind.Kind.{Kind}
+use Rattle.swh_base.specs.declared.name.Name.{Name}
 use Rattle.swh_base.specs.declared.entry.Entry.{Entry}
 use Rattle.swh_base.specs.Name.{kind_number}
 use Rattle.swh_model.specs.declared.event.Event.{Event}
 use Rattle.swh_model.specs.declared.event.EventKind.{EventKind}
 use Rattle.swh_model.specs.declared.event.EventKind.TheVariants.{Batch, Open, Mark}
-use Rattle.swh_model.specs.Archive.{Archive, Bodies}
+use Rattle.swh_model.specs.Archive.{Archive, Bodies, body_of}
 use Rattle.swh_model.specs.Grows.{IsWithin}
 use Rattle.swh_model.specs.Limits.{object_length, run_length, stored_length, store_length}
 use Rattle.swh_model.specs.Step.{HasItsChildrenAndName, AreNew, May_kind, MayAll, added, after, after_kind, after_all}
+use Rattle.swh_model.proofs.Entries.{none-added}
+use Rattle.swh_model.proofs.PlainLists.{all-at}
 use Rattle.swh_model.proofs.Growing.{bodies_grow}
 use Rattle.swh_model.proofs.Maps.{body-put, within-added}
 use Rattle.swh_model.proofs.PlainLengths.{store-next}
@@ -22,10 +25,11 @@ use Rattle.swh_model.proofs.Visits.{all-map}
 use Rattle.swh_format.specs.StoredObject.{coded_entry, coded_run}
 use Rattle.swh_format.specs.EventRecord.{packed_objects}
 use Rattle.swh_format.specs.Stands.{coded_runs}
-use Rattle.swh_format.proofs.Lengths.{object-length, stored-length, runs-length}
-use Rattle.swh_check.specs.Bodies.{body_in, HaveTheirIds, IsHeldNamed, IsHeldKind, IsBodyFault, IsCheckFault}
-use Rattle.swh_check.specs.declared.fault.CheckFault.{CheckFault}
-use Rattle.swh_check.specs.declared.fault.CheckFault.TheVariants.{Damaged, DiskFault, Memory}
+use Rattle.swh_format.proofs.Lengths.{object-length, run-length, stored-length, runs-length}
+use Rattle.swh_keeper.specs.declared.finding.Place.{Place}
+use Rattle.swh_keeper.specs.Stored.{IsHeldNamed, IsHeldKind, body_in}
+use Rattle.swh_keeper.specs.Places.{IsPlaceFor, IsPlaceOf, IsUnnamedKind, AreUnnamed}
+use Rattle.swh_keeper.proofs.StoredLemmas.{part-append}
 
 -- ---- they are held
 
@@ -90,19 +94,6 @@ same-item [] k e f less is as_well = absurd (omega (arith, less))
 same-item (g ∷ h) zero e f less is as_well = is ∙ sym as_well
 same-item (g ∷ h) (suc k) e f less is as_well = same-item h k e f (omega (arith, less)) is as_well
 
--- ---- why a body is damaged
-
-pub body-fault : (id_of : Kind → List ℕ → List ℕ) (bodies : Bodies) (fault : CheckFault) → IsBodyFault id_of bodies fault → IsCheckFault id_of bodies fault
-body-fault id_of bodies (Damaged name found) is = is
-body-fault id_of bodies DiskFault is = absurd is
-body-fault id_of bodies Memory is = absurd is
-
-same_fault : {T : Type 0} (f g : CheckFault) → (let r : Result T CheckFault = Err f in r) ≡ Err g → f ≡ g
-same_fault f g e = cc
-
-pub no-disk : {T : Type 0} (id_of : Kind → List ℕ → List ℕ) (bodies : Bodies) (fault : CheckFault) → IsBodyFault id_of bodies fault → (let r : Result T CheckFault = Err fault in r) ≡ Err DiskFault → ⊥
-no-disk id_of bodies fault is disk = subst (IsBodyFault id_of bodies) (same_fault fault DiskFault disk) is
-
 -- ---- the objects of a run
 
 pub drop-next : (es : List Entry) (k : ℕ) (e : Entry) → k < length es → e ≡ get_or es k e → drop k es ≡ e ∷ drop (k + 1) es
@@ -141,3 +132,81 @@ body-coded e more =
 
 pub more-coded : (e : Entry) (more : List ℕ) → drop (object_length e) (coded_entry e ++ more) ≡ more
 more-coded e more = ap (λ (n : ℕ). drop n (coded_entry e ++ more)) (sym (object-length e)) ∙ drop-append_seam (coded_entry e) more
+
+-- ---- the body of a name among the runs
+
+part-there : (es : List Entry) (k : ℕ) (e : Entry) → k < length es → e ≡ get_or es k e → take (length e.body) (drop (run_length (take k es) + (9 + length e.name.id)) (coded_run es)) ≡ e.body
+part-there [] k e less is = absurd (omega (arith, less))
+part-there (f ∷ es) zero e less is =
+    ap (λ (n : ℕ). take (length e.body) (drop n (coded_entry f ++ coded_run es))) (let z : 0 + (9 + length e.name.id) ≡ 9 + length e.name.id = omega arith in z)
+    ∙ ap (λ (x : Entry). take (length e.body) (drop (9 + length e.name.id) (coded_entry x ++ coded_run es))) (sym is)
+    ∙ body-coded e (coded_run es)
+part-there (f ∷ es) (suc k) e less is =
+    let inner = run_length (take k es) + (9 + length e.name.id) in
+    ap (λ (n : ℕ). take (length e.body) (drop n (coded_entry f ++ coded_run es))) (let z : object_length f + run_length (take k es) + (9 + length e.name.id) ≡ object_length f + inner = omega arith in z)
+    ∙ ap (λ (l : List ℕ). take (length e.body) l) (sym (drop-twice (object_length f) inner (coded_entry f ++ coded_run es)) ∙ ap (λ (l : List ℕ). drop inner l) (more-coded f (coded_run es)))
+    ∙ part-there es k e (omega (arith, less)) is
+
+pub part-within : (es : List Entry) (k : ℕ) (e : Entry) → k < length es → e ≡ get_or es k e → run_length (take k es) + object_length e ≤ run_length es
+part-within [] k e less is = absurd (omega (arith, less))
+part-within (f ∷ es) zero e less is = let same = ap object_length is in omega (arith, same)
+part-within (f ∷ es) (suc k) e less is = let more = part-within es k e (omega (arith, less)) is in omega (arith, more)
+
+runs-split : (h : List Event) (k : ℕ) (e : Event) → k < length h → e ≡ get_or h k e → drop (store_length (take k h)) (coded_runs h) ≡ packed_objects e.what ++ coded_runs (drop (k + 1) h)
+runs-split [] k e less is = absurd (omega (arith, less))
+runs-split (f ∷ h) zero e less is = ap (λ (x : Event). packed_objects x.what ++ coded_runs h) (sym is) ∙ ap (λ (n : ℕ). packed_objects e.what ++ coded_runs (drop n (f ∷ h))) (let z : suc zero ≡ zero + 1 = omega arith in z)
+runs-split (f ∷ h) (suc k) e less is =
+    sym (drop-twice (stored_length f.what) (store_length (take k h)) (packed_objects f.what ++ coded_runs h))
+    ∙ ap (λ (l : List ℕ). drop (store_length (take k h)) l) (ap (λ (n : ℕ). drop n (packed_objects f.what ++ coded_runs h)) (sym (stored-length f.what)) ∙ drop-append_seam (packed_objects f.what) (coded_runs h))
+    ∙ runs-split h k e (omega (arith, less)) is
+    ∙ ap (λ (n : ℕ). packed_objects e.what ++ coded_runs (drop n (f ∷ h))) (let z : suc (k + 1) ≡ suc k + 1 = omega arith in z)
+
+-- the object whose place was found: its body is held under the name, and stands there
+pub record IsFound (bodies : Bodies) (h : List Event) (n : Name) (p : Place) : Type 0 where
+  pub body : List ℕ
+  pub held : body_of bodies n ≡ Some body
+  pub within : p.at + p.size ≤ store_length h
+  pub long : p.size ≡ length body
+  pub bytes : take p.size (drop p.at (coded_runs h)) ≡ body
+
+module _ (id_of : Kind → List ℕ → List ℕ) (bodies : Bodies) (h : List Event) (k : ℕ) (e : Event) (less : k < length h) (is : e ≡ get_or h k e) (n : Name) (p : Place) where
+  found-kind : (what : EventKind) → e.what ≡ what → IsHeldKind id_of bodies what → IsPlaceFor (store_length (take k h)) what n p → IsFound bodies h n p
+  found-kind (Batch es) same held place =
+      let x = place.entry in
+      let start = store_length (take k h) in
+      let inner = run_length (take place.number es) + (9 + length x.name.id) in
+      let run : packed_objects e.what ≡ coded_run es = ap packed_objects same in
+      let long_run : stored_length e.what ≡ run_length es = ap stored_length same in
+      let here = run-within h k e less is in
+      let part = part-within es place.number x place.within place.is in
+      let at = place.at in
+      let size = place.size in
+      let there : inner + length x.body ≤ length (coded_run es) = let l = run-length es in omega (arith, part, l) in
+      record {
+        body = x.body;
+        held = subst (λ (m : Name). body_of bodies m ≡ Some x.body) place.name (all-at (IsHeldNamed id_of bodies) es place.number x held place.within place.is).held;
+        within = omega (arith, here, long_run, part, at, size);
+        long = size;
+        bytes =
+            ap (λ (m : ℕ). take m (drop p.at (coded_runs h))) size
+            ∙ ap (λ (m : ℕ). take (length x.body) (drop m (coded_runs h))) (let z : p.at ≡ start + inner = omega (arith, at) in z)
+            ∙ ap (λ (l : List ℕ). take (length x.body) l) (sym (drop-twice start inner (coded_runs h)) ∙ ap (λ (l : List ℕ). drop inner l) (runs-split h k e less is ∙ ap (λ (l : List ℕ). l ++ coded_runs (drop (k + 1) h)) run))
+            ∙ part-append (coded_run es) (coded_runs (drop (k + 1) h)) inner (length x.body) there
+            ∙ part-there es place.number x place.within place.is;
+      }
+  found-kind (Open origin kind date) same held place = absurd place
+  found-kind (Mark origin visit status snapshot) same held place = absurd place
+
+pub found-at : (id_of : Kind → List ℕ → List ℕ) (a : Archive) (h : List Event) (n : Name) (p : Place) → MayAll id_of a h → IsPlaceOf h n p → IsFound (after_all a h).bodies h n p
+found-at id_of a h n p may place =
+    found-kind id_of (after_all a h).bodies h place.number place.event place.within place.is n p place.event.what refl
+    (held-at id_of a h place.number place.event may place.within place.is) place.place
+
+pub none-at : (a : Archive) (h : List Event) (n : Name) → AreUnnamed n h → body_of a.bodies n ≡ None → body_of (after_all a h).bodies n ≡ None
+none-at a [] n none absent = absent
+none-at a (e ∷ h) n none absent = none-at (after a e) h n none.1 (kind e.what none.0)
+  where
+    kind : (what : EventKind) → IsUnnamedKind n what → body_of (after_kind a e.by what).bodies n ≡ None
+    kind (Batch es) unnamed = none-added a.bodies es n unnamed absent
+    kind (Open origin k date) unnamed = absent
+    kind (Mark origin visit status snapshot) unnamed = absent
