@@ -23,11 +23,11 @@ read_bytes-requires-after_bounds g c κs within =
     let place = c.in-Some.place in
     let same = ap (λ k. k.history) c.self.view_is in
     let there = rw c.in-Some.is at c.in_ok-place.ensures.some in
-    let found = found-at g.N.Namer.id_of empty_archive c.args.self.now.history name place (subst (λ (l : List Event). IsHistory g.N.Namer.id_of l) same c.self.invariant.history)
+    let found = found-at g.N.Namer.id_of empty_archive c.args.self.now.history name place (subst (λ (l : List Event). IsHistory g.N.Namer.id_of l) same c.self.invariant.keeping.history)
     (subst (λ (l : List Event). IsPlaceOf l name place) (c.as_slice.ensures.value ∙ same) there) in
     let inside = found.within in
-    let end = (c.self.invariant.replayed_is (ap (λ k. k.wounded) c.self.view_is ∙ c.requires)).store ∙ ap store_length same in
-    let fits = c.self.invariant.in_files.store_fits in
+    let end = (c.self.invariant.keeping.replayed_is (ap (λ k. k.wounded) c.self.view_is ∙ c.requires)).store ∙ ap store_length same in
+    let fits = c.self.invariant.keeping.in_files.store_fits in
     omega (arith, inside, end, fits)
 
 pub returns-clause-long : goal.returns-clause-long
@@ -36,7 +36,7 @@ returns-clause-long g c =
     let place = c.in-Some.place in
     let same = ap (λ k. k.history) c.self.view_is in
     let there = rw c.in-Some.is at c.in_ok-place.ensures.some in
-    let found = found-at g.N.Namer.id_of empty_archive c.args.self.now.history name place (subst (λ (l : List Event). IsHistory g.N.Namer.id_of l) same c.self.invariant.history)
+    let found = found-at g.N.Namer.id_of empty_archive c.args.self.now.history name place (subst (λ (l : List Event). IsHistory g.N.Namer.id_of l) same c.self.invariant.keeping.history)
     (subst (λ (l : List Event). IsPlaceOf l name place) (c.as_slice.ensures.value ∙ same) there) in
     record { body = found.body; held = found.held; long = c.in_ok-bytes.ensures.size ∙ found.long }
 
@@ -47,11 +47,11 @@ returns-clause-held g c told =
     let inside = c.self.inside in
     let same = ap (λ k. k.history) c.self.view_is in
     let there = rw c.in-Some.is at c.in_ok-place.ensures.some in
-    let found = found-at g.N.Namer.id_of empty_archive c.args.self.now.history name place (subst (λ (l : List Event). IsHistory g.N.Namer.id_of l) same c.self.invariant.history)
+    let found = found-at g.N.Namer.id_of empty_archive c.args.self.now.history name place (subst (λ (l : List Event). IsHistory g.N.Namer.id_of l) same c.self.invariant.keeping.history)
     (subst (λ (l : List Event). IsPlaceOf l name place) (c.as_slice.ensures.value ∙ same) there) in
-    let settled = c.self.invariant.settled (ap (λ k. k.wounded) c.self.view_is ∙ c.requires) told in
+    let settled = c.self.invariant.keeping.settled (ap (λ k. k.wounded) c.self.view_is ∙ c.requires) told in
     let within = subst (λ (h : List Event). place.at + place.size ≤ store_length h) (sym same) found.within in
-    let bytes = c.in_ok-bytes.ensures.bytes told (runs_within (g.D.Disk.file inside.ledger) (g.D.Disk.file inside.store) inside.history.items _ _ place.at place.size settled within)
-    ∙ runs_part (g.D.Disk.file inside.ledger) (g.D.Disk.file inside.store) inside.history.items _ _ place.at place.size settled within
+    let bytes = c.in_ok-bytes.ensures.bytes told (runs_within (g.D.Disk.file inside.ledger.disk) (g.D.Disk.file inside.store.disk) inside.history.items _ _ place.at place.size settled within)
+    ∙ runs_part (g.D.Disk.file inside.ledger.disk) (g.D.Disk.file inside.store.disk) inside.history.items _ _ place.at place.size settled within
     ∙ ap (λ (h : List Event). take place.size (drop place.at (coded_runs h))) same ∙ found.bytes in
     found.held ∙ ap (λ (l : List ℕ). Some l) (sym bytes)
