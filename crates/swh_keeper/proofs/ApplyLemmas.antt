@@ -1,10 +1,9 @@
 -- A planned event may be added.
-use Rattle.std.proofs.Common.{ap, ◌≡◌, ℕ, zero, suc, ◌-◌, ◌<◌, ◌≤◌, Some, None, Ok, List, [], ◌∷◌, ◌++◌, length, refl, sym, subst, arith, ◌+◌, ◌∙◌}
+use Rattle.std.proofs.Common.{ap, ◌≡◌, ℕ, zero, suc, ◌-◌, ◌<◌, ◌≤◌, Some, None, Ok, List, [], ◌∷◌, ◌++◌, length, sym, subst, arith, ◌+◌, ◌∙◌}
 use Rattle.std.specs.List.{slice_get}
 use Rattle.swh_outside.specs.Disk.{File}
 use Rattle.swh_outside.specs.Files.{EachImages, files_of}
-use Rattle.swh_segment.specs.Settled.{IsSettled}
-use Rattle.swh_segment.specs.Making.{IsEmptyArchive}
+use Rattle.swh_segment.specs.Settled.{AreSettled}
 use Rattle.swh_base.specs.declared.kind.Kind.{Kind}
 use Rattle.swh_model.specs.declared.event.Visit.{Visit}
 use Rattle.swh_model.specs.declared.event.Event.{Event}
@@ -21,7 +20,7 @@ use Rattle.swh_replay.specs.declared.replayed.Replayed.{Replayed}
 use Rattle.swh_plan.specs.declared.planning.Planned.{Planned}
 use Rattle.swh_replay.specs.Replay.{IsReplayOf, IsInFiles, MayAdvance}
 use Rattle.swh_plan.specs.Planned.{IsPlanned}
-use Rattle.swh_keeper.specs.Keeping.{AreSettledFor, IsToAdd, WithOrWithout, IsKeeping, calls_for}
+use Rattle.swh_keeper.specs.Keeping.{AreSettledFor, HaveEnds, IsToAdd, WithOrWithout, IsKeeping, calls_for}
 use Rattle.swh_format.specs.EventRecord.{run_written, coded_record}
 use Rattle.swh_segment.specs.Calls.{event_calls}
 use Rattle.swh_model.specs.Limits.{store_length, records_length}
@@ -78,25 +77,20 @@ keeping-doubt id_of tells ledger store r r' h h' e n history may same fits se le
 
 -- the keeper of an archive with no event
 pub keeping-empty : (id_of : Kind → List ℕ → List ℕ) (tells : Type 0) (ledger store : File) (r : Replayed) (h : List Event) → h ≡ [] → IsReplayOf r [] → IsInFiles r
-    → (tells → IsEmptyArchive (files_of ledger store)) → IsKeeping id_of tells ledger store r h None
-keeping-empty id_of tells ledger store r h none is fits empty =
+    → (tells → AreSettled (files_of ledger store) [] r.store_end r.ledger_end) → IsKeeping id_of tells ledger store r h None
+keeping-empty id_of tells ledger store r h none is fits settled =
     subst (λ (l : List Event). IsKeeping id_of tells ledger store r l None) (sym none)
     (record {
       history = tt;
       in_files = fits;
       replayed_is = λ _. is;
-      settled = λ _ told. let e = empty told in record {
-        settled = record {
-          ledger = subst (λ (n : ℕ). IsSettled ledger [] n) (let l = is.ledger in omega (arith, l)) e.ledger;
-          store = e.store;
-          rest = store.seen;
-          begins = refl;
-          store_end_is = sym is.store;
-        };
-        codable = tt;
-      };
+      settled = λ _ told. record { settled = settled told; codable = tt };
       doubt = λ n is_some. absurd (let f : None ≡ Some n = is_some in cc);
     })
+
+-- which are at their beginnings
+pub beginnings : (r : Replayed) (store_end ledger_end : ℕ) → IsReplayOf r [] → store_end ≡ 0 → ledger_end ≡ 8 → HaveEnds store_end ledger_end r
+beginnings r store_end ledger_end is se le = let s = is.store in let l = is.ledger in record { store = omega (arith, s, se); ledger = omega (arith, l, le) }
 
 pub calls_are : (r : Replayed) (h : List Event) (e : Event) (bytes : List ℕ) → IsReplayOf r h → bytes ≡ coded_record r.store_end e ++ 0 ∷ []
     → event_calls r.store_end (run_written e.what) r.ledger_end bytes ≡ calls_for h e

@@ -1,5 +1,6 @@
 -- The two files as records and runs, and as what stands for a history.
-use Rattle.std.proofs.Common.{◌≡◌, inl, inr, ℕ, ◌+◌, ◌≤◌, Option, List, [], ◌∷◌, ◌++◌, length, refl, sym, ap, ◌∙◌, subst, arith, length-append}
+use Rattle.std.specs.Prelude.{OnOk}
+use Rattle.std.proofs.Common.{◌≡◌, inl, inr, ℕ, ◌+◌, ◌≤◌, Option, Result, Ok, Err, List, [], ◌∷◌, ◌++◌, length, refl, sym, ap, ◌∙◌, subst, arith, length-append}
 use Rattle.swh_outside.specs.Disk.{File}
 use Rattle.swh_outside.specs.Files.{Files, files_of, EachImages}
 use Rattle.swh_format.specs.Record.{IsReady, front}
@@ -16,7 +17,8 @@ use Rattle.swh_model.specs.Archive.{Archive, empty_archive}
 use Rattle.swh_model.specs.Step.{May, MayAll, after, after_all, replay}
 use Rattle.swh_replay.specs.Replay.{IsReplayOf, archive_of, Advances}
 use Rattle.swh_replay.specs.declared.replayed.Replayed.{Replayed}
-use Rattle.swh_keeper.specs.Keeping.{AreSettledFor, IsKeeping, IsToAdd, WithOrWithout}
+use Rattle.swh_keeper.specs.Keeping.{AreSettledFor, IsKeeping, IsKeeper, IsToAdd, WithOrWithout}
+use Rattle.swh_segment.specs.OnDisk.{OnDisk}
 use Rattle.swh_keeper.specs.Kept.{AreStanding, IsKept}
 
 pub standing_from_settled : (ledger store : File) (h : List Event) (m n : ℕ) → AreSettledFor ledger store h m n → AreStanding ledger store h
@@ -35,6 +37,11 @@ kept_from id_of tells file store ledger r h w k =
       standing = λ none told. standing_from_settled (file ledger) (file store) h r.store_end r.ledger_end (k.settled none told);
       doubt = k.doubt;
     }
+
+-- a keeper that owns its files, as contracts see it
+pub kept_by_owners : {D : Type 0} (id_of : Kind → List ℕ → List ℕ) (tells : Type 0) (file : D → File) (store ledger : OnDisk D) (r : Replayed) (h : List Event) (w : Option ℕ)
+    → IsKeeper id_of tells file ledger store r h w → IsKept id_of tells file (record { store = store.disk; ledger = ledger.disk; history = h; wounded = w })
+kept_by_owners id_of tells file store ledger r h w k = kept_from id_of tells file store.disk ledger.disk r h w k.keeping
 
 pub replay-push : (a : Archive) (h : List Event) (e : Event) → after_all a (h ++ e ∷ []) ≡ after (after_all a h) e
 replay-push a [] e = refl
@@ -90,3 +97,12 @@ pub ledger_place : (ledger store : File) (h : List Event) (m n : ℕ) → AreSet
 ledger_place ledger store h m n s =
     let st = s.settled.ledger.stands in let l = s.settled.ledger.end_is in
     omega (arith, l, ap length st.split, length-append (front (format.records (all_written 0 h))) (st.gate ∷ st.rest))
+
+-- what follows from three facts of one outcome
+pub on_all_ok : {T E : Type 0} (r : Result T E) {P Q R S : Type 0} → OnOk r P → OnOk r Q → OnOk r R → (P → Q → R → S) → OnOk r S
+on_all_ok (Ok x) p q s f = f p q s
+on_all_ok (Err e) p q s f = tt
+
+-- files that are settled with ends, with equal ends
+pub settled_at : (files : Files) (es : List format.Append) (m n m' n' : ℕ) → m ≡ m' → n ≡ n' → AreSettled files es m n → AreSettled files es m' n'
+settled_at files es m n m' n' a b s = subst (λ (k : ℕ). AreSettled files es k n') a (subst (λ (k : ℕ). AreSettled files es m k) b s)

@@ -5,3 +5,4 @@ pub mod ReadLemmas
 pub mod OwnLemmas
 pub mod Standings
 pub mod DamageLemmas
+pub mod OpenedLemmas

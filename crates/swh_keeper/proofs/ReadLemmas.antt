@@ -1,11 +1,10 @@
 -- Two files after a barrier on each, and how a making ends.
 use Rattle.std.specs.Prelude.{IsErrAnd, IsErrOf, OnOk}
-use Rattle.std.proofs.Common.{◌≡◌, ℕ, Result, Ok, Err, List, refl, sym, ap, ◌∙◌, subst, inr}
+use Rattle.std.proofs.Common.{◌≡◌, ◌⊎◌, ℕ, Result, Ok, Err, List, refl, sym, ap, ◌∙◌, subst, inr}
 use Rattle.swh_outside.specs.Disk.{File, Sync, IsAtRest, done}
-use Rattle.swh_outside.specs.Files.{Files, files_of, files_done}
+use Rattle.swh_outside.specs.Files.{Files, FilesBreaks, files_of, files_done}
 use Rattle.swh_outside.proofs.Images.{at_rest_done}
-use Rattle.swh_segment.specs.Making.{barriers}
-use Rattle.swh_segment.specs.Makes.{Makes}
+use Rattle.swh_segment.specs.Making.{barriers, making_calls}
 use Rattle.swh_segment.specs.declared.fault.MakeFault.{MakeFault}
 use Rattle.swh_segment.specs.declared.fault.MakeFault.TheVariants as make
 use Rattle.swh_base.specs.declared.kind.Kind.{Kind}
@@ -61,9 +60,9 @@ pub the_one : (id_of : Kind → List ℕ → List ℕ) (ledger store : List ℕ)
 the_one id_of ledger store g h sg hg sh hh = one_history id_of g h (alike ledger store g h sg sh) hg hh
 
 -- what is left of a making that ends for a fault
-pub left_of_making : (fault : MakeFault) (why : OpenWhy) (old new : Files) → why ≡ make_why fault → Makes old new (Err fault) → IsLeftOfMaking why old new
-left_of_making fault why old new is makes = subst (λ (w : OpenWhy). IsLeftOfMaking w old new) (sym is) (left fault makes)
+pub left_of_making : (fault : MakeFault) (why : OpenWhy) (old new : Files) → why ≡ make_why fault → (fault ≡ make.Made → new ≡ old) → (fault ≡ make.Disk → (new ≡ old) ⊎ FilesBreaks (making_calls (old 0).seen) old new) → IsLeftOfMaking why old new
+left_of_making fault why old new is same broken = subst (λ (w : OpenWhy). IsLeftOfMaking w old new) (sym is) (left fault same broken)
   where
-    left : (f : MakeFault) → Makes old new (Err f) → IsLeftOfMaking (make_why f) old new
-    left make.Made m = m.made refl
-    left make.Disk m = m.failed refl
+    left : (f : MakeFault) → (f ≡ make.Made → new ≡ old) → (f ≡ make.Disk → (new ≡ old) ⊎ FilesBreaks (making_calls (old 0).seen) old new) → IsLeftOfMaking (make_why f) old new
+    left make.Made m b = m refl
+    left make.Disk m b = b refl

@@ -1,5 +1,5 @@
 -- Files that stand for a history, with nothing written since a barrier, at the device calls of the next event.
-use Rattle.std.proofs.Common.{◌≡◌, inl, inr, ℕ, ◌+◌, List, [], ◌∷◌, ◌++◌, length, sym, ap, ◌∙◌, subst, refl, arith}
+use Rattle.std.proofs.Common.{inl, inr, ℕ, ◌+◌, List, [], ◌∷◌, ◌++◌, length, sym, ap, ◌∙◌, subst, refl, arith}
 use Rattle.swh_outside.specs.Files.{Files, FilesBreaks, EachImages, EachFilesMoment, files_done}
 use Rattle.swh_outside.proofs.Images.{at_rest_image}
 use Rattle.swh_outside.proofs.Numbered.{files_left_by}

@@ -4,6 +4,7 @@ use Rattle.swh_outside.specs.Disk.{File}
 use Rattle.swh_outside.specs.Files.{Files, FileCall, Images, FilesBreaks, files_of, files_done}
 use Rattle.swh_model.specs.declared.event.Outcome.{Outcome}
 use Rattle.swh_model.specs.Judge.{IsVerdict}
+use Rattle.swh_segment.specs.OnDisk.{OnDisk}
 use Rattle.swh_segment.specs.Settled.{AreSettled}
 use Rattle.swh_segment.specs.Calls.{event_calls}
 use Rattle.swh_base.specs.declared.kind.Kind.{Kind}
@@ -29,6 +30,16 @@ pub record IsKeeping (id_of : Kind → List ℕ → List ℕ) (tells : Type 0) (
   pub replayed_is : wounded ≡ None → IsReplayOf r h
   pub settled : wounded ≡ None → tells → AreSettledFor ledger store h r.store_end r.ledger_end
   pub doubt : (n : ℕ) → wounded ≡ Some n → tells → MayHoldOneMore id_of ledger store h
+
+-- The owners of the two files have the ends that are in memory.
+pub record HaveEnds (store_end ledger_end : ℕ) (r : Replayed) : Type 0 where
+  pub store : store_end ≡ r.store_end
+  pub ledger : ledger_end ≡ r.ledger_end
+
+-- The same of a keeper that owns the files, with their ends unless a disk failed.
+pub record IsKeeper {D : Type 0} (id_of : Kind → List ℕ → List ℕ) (tells : Type 0) (file : D → File) (ledger store : OnDisk D) (r : Replayed) (h : List Event) (wounded : Option ℕ) : Type 0 where
+  pub keeping : IsKeeping id_of tells (file ledger.disk) (file store.disk) r h wounded
+  pub ends : wounded ≡ None → HaveEnds store.end ledger.end r
 
 -- The event of a plan, with its bytes and room for them.
 pub record IsToAdd (r : Replayed) (h : List Event) (e : Event) (run bytes : List ℕ) : Type 0 where

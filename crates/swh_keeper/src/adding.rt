@@ -7,7 +7,7 @@ ghost use Rattle.swh_model.specs.declared.event.Event.{Event};
 ghost use Rattle.swh_replay.specs.Replay.{IsReplayOf, MayAdvance};
 ghost use Rattle.swh_keeper.specs.Adding.{IsAdded, IsNotAdded};
 ghost use Rattle.swh_segment.specs.Counts.{AreLater, AreQuiet};
-ghost use Rattle.swh_keeper.specs.Keeping.{AreSettledFor, IsToAdd, WithOrWithout, FilesHaveRoom};
+ghost use Rattle.swh_keeper.specs.Keeping.{AreSettledFor, HaveEnds, IsToAdd, WithOrWithout, FilesHaveRoom};
 ghost use Rattle.swh_format.specs.EventRecord.{run_written};
 ghost use Rattle.swh_keeper.specs.declared.adding.AddFault.TheVariants.{Disk as DiskFailed, Memory as OutOfMemory};
 
@@ -18,6 +18,7 @@ use swh_model::{Event, Outcome};
 use swh_outside::Disk;
 use swh_plan::Planned;
 use swh_replay::{Replayed, advance};
+use swh_segment::{Ledger, Runs};
 
 #[derive(Clone, Copy, Debug, PartialEq, Eq)]
 pub enum AddFault {
@@ -44,8 +45,8 @@ impl From<Memory> for AddFault {
 /// Adds an event. Each growth is made before the first device call.
 pub fn add_event<D: Disk>(
     alloc: Global,
-    store: &mut D,
-    ledger: &mut D,
+    store: &mut Runs<D>,
+    ledger: &mut Ledger<D>,
     replayed: &mut Replayed,
     history: &mut Vec<Event>,
     planned: Planned,
@@ -54,37 +55,40 @@ pub fn add_event<D: Disk>(
     requires may { MayAdvance replayed.old planned.event.what }
     requires to_add { IsToAdd replayed.old history.old.items planned.event planned.run.items planned.bytes.items }
     requires room { FilesHaveRoom replayed.old planned.run.items planned.bytes.items }
-    requires settled { D.tells → AreSettledFor (D.file ledger.old)
-        (D.file store.old) history.old.items replayed.old.store_end replayed.old.ledger_end }
+    requires ends { HaveEnds store.old.end ledger.old.end replayed.old }
+    requires settled { D.tells → AreSettledFor (D.file ledger.old.disk)
+        (D.file store.old.disk) history.old.items replayed.old.store_end replayed.old.ledger_end }
 
     ensures outcome { IfOk result (λ outcome. outcome ≡ planned.outcome) }
     ensures added { OnOk result (IsAdded history.old.items planned.event history.new.items replayed.new) }
-    ensures settled { D.tells → OnOk result (AreSettledFor (D.file ledger.new) (D.file store.new)
+    ensures settled { D.tells → OnOk result (AreSettledFor (D.file ledger.new.disk) (D.file store.new.disk)
         (history.old.items ++ planned.event ∷ []) replayed.new.store_end replayed.new.ledger_end) }
 
+    ensures ends { OnOk result (HaveEnds store.new.end ledger.new.end replayed.new) }
+
     // The device calls that it makes.
-    ensures calls { D.tells → OnOk result (files_of (D.file ledger.new) (D.file store.new)
+    ensures calls { D.tells → OnOk result (files_of (D.file ledger.new.disk) (D.file store.new.disk)
         ≡ files_done (event_calls replayed.old.store_end
-        (run_written planned.event.what) replayed.old.ledger_end planned.bytes.items) (files_of (D.file ledger.old)
-        (D.file store.old))) }
+        (run_written planned.event.what) replayed.old.ledger_end planned.bytes.items) (files_of (D.file ledger.old.disk)
+        (D.file store.old.disk))) }
     ensures broken { D.tells → IsErrOf result DiskFailed → FilesBreaks
         (event_calls replayed.old.store_end
         (run_written planned.event.what) replayed.old.ledger_end planned.bytes.items)
-        (files_of (D.file ledger.old) (D.file store.old)) (files_of (D.file ledger.new) (D.file store.new)) }
+        (files_of (D.file ledger.old.disk) (D.file store.old.disk)) (files_of (D.file ledger.new.disk) (D.file store.new.disk)) }
 
     ensures not_added { OnErr result (IsNotAdded history.old.items history.new.items replayed.old replayed.new) }
     ensures same_replay { IsErrOf result OutOfMemory → replayed.new ≡ replayed.old }
     ensures same_store { IsErrOf result OutOfMemory → store.new ≡ store.old }
     ensures same_ledger { IsErrOf result OutOfMemory → ledger.new ≡ ledger.old }
-    ensures left { D.tells → IsErrOf result DiskFailed → EachImages (files_of (D.file ledger.new) (D.file store.new))
+    ensures left { D.tells → IsErrOf result DiskFailed → EachImages (files_of (D.file ledger.new.disk) (D.file store.new.disk))
         (WithOrWithout history.old.items planned.event) }
-    ensures later { AreLater (D.faults store.old) (D.faults store.new) (D.faults ledger.old) (D.faults ledger.new) }
-    ensures cause { IsErrOf result DiskFailed → ADiskFailed (D.faults store.old) (D.faults store.new)
-        (D.faults ledger.old) (D.faults ledger.new) }
+    ensures later { AreLater (D.faults store.old.disk) (D.faults store.new.disk) (D.faults ledger.old.disk) (D.faults ledger.new.disk) }
+    ensures cause { IsErrOf result DiskFailed → ADiskFailed (D.faults store.old.disk) (D.faults store.new.disk)
+        (D.faults ledger.old.disk) (D.faults ledger.new.disk) }
 
     // Where no disk failed, both counts are as they were.
-    ensures quiet { OnOk result (AreQuiet (D.faults store.old) (D.faults store.new)
-        (D.faults ledger.old) (D.faults ledger.new)) }
+    ensures quiet { OnOk result (AreQuiet (D.faults store.old.disk) (D.faults store.new.disk)
+        (D.faults ledger.old.disk) (D.faults ledger.new.disk)) }
 {
     let Planned {
         event,

@@ -9,15 +9,15 @@ use swh_model::{Event, Outcome, Visit};
 use swh_outside::Disk;
 use swh_plan::{Plan, judge_plan};
 use swh_replay::Replayed;
-use swh_segment::{made_is_empty, make as make_archive};
+use swh_segment::{Both, BothBack, Ledger, Runs, make_both};
 use swh_store::Store;
 
 /// Keeps an archive. Contracts see its disks, its history, and whether a disk failed.
 pub struct Keeper<N: Namer, D: Disk> {
     alloc: Global,
     namer: N,
-    store: D,
-    ledger: D,
+    store: Runs<D>,
+    ledger: Ledger<D>,
     replayed: Replayed,
     history: Vec<Event>,
     wounded: Option<u64>,
@@ -30,12 +30,16 @@ impl<N: Namer, D: Disk> Model for Keeper<N, D> {
 
     ghost coded = { kept_code D.code };
 
-    ghost use Rattle.swh_keeper.specs.Keeping.{IsKeeping};
+    ghost use Rattle.swh_keeper.specs.Keeping.{IsKeeper};
 
-    ghost view = { λ k. record { store = k.store; ledger = k.ledger; history = k.history.items; wounded = k.wounded } };
+    ghost view = { λ k. record {
+      store = k.store.disk;
+      ledger = k.ledger.disk;
+      history = k.history.items;
+      wounded = k.wounded;
+    } };
 
-    ghost invariant = { λ k. IsKeeping N.id_of D.tells (D.file k.ledger)
-        (D.file k.store) k.replayed k.history.items k.wounded };
+    ghost invariant = { λ k. IsKeeper N.id_of D.tells D.file k.ledger k.store k.replayed k.history.items k.wounded };
 }
 
 impl<N: Namer, D: Disk> Keeper<N, D> {
@@ -81,12 +85,7 @@ impl<N: Namer, D: Disk> Keeper<N, D> {
     ghost use Rattle.swh_keeper.specs.Keeping.{IsCarriedOut, IsBrokenOff};
 
     /// Makes an archive of no event, unless the ledger is made.
-    pub fn make(
-        alloc: Global,
-        namer: N,
-        mut store: D,
-        mut ledger: D,
-    ) -> Result<Keeper<N, D>, OpenFault<D>>
+    pub fn make(alloc: Global, namer: N, store: D, ledger: D) -> Result<Keeper<N, D>, OpenFault<D>>
         ensures empty { IfOk result (λ keeper. keeper.history ≡ []) }
         ensures unwounded { IfOk result (λ keeper. keeper.wounded ≡ None) }
         ensures not_made { D.tells → OnOk result (IsNotMade (D.file ledger).seen) }
@@ -111,22 +110,31 @@ impl<N: Namer, D: Disk> Keeper<N, D> {
         ensures ledger_quiet { MatchResult result (λ keeper. D.faults keeper.ledger ≡ D.faults ledger)
             (λ fault. UnlessDiskFault fault.why (D.faults fault.ledger ≡ D.faults ledger)) }
     {
-        made_is_empty();
-        match make_archive(&mut store, &mut ledger) {
-            Ok(()) => Ok(Keeper {
-                alloc,
-                namer,
-                store,
-                ledger,
-                replayed: Replayed::new(alloc),
-                history: Vec::new(alloc),
-                wounded: None,
-            }),
-            Err(fault) => Err(OpenFault {
-                why: why_not_made(fault),
-                store,
-                ledger,
-            }),
+        match make_both(store, ledger) {
+            Ok(both) => {
+                let Both { store, ledger } = both;
+                Ok(Keeper {
+                    alloc,
+                    namer,
+                    store,
+                    ledger,
+                    replayed: Replayed::new(alloc),
+                    history: Vec::new(alloc),
+                    wounded: None,
+                })
+            }
+            Err(back) => {
+                let BothBack {
+                    store,
+                    ledger,
+                    fault,
+                } = back;
+                Err(OpenFault {
+                    why: why_not_made(fault),
+                    store,
+                    ledger,
+                })
+            }
         }
     }
 
@@ -175,8 +183,8 @@ impl<N: Namer, D: Disk> Keeper<N, D> {
                 Ok(Keeper {
                     alloc,
                     namer,
-                    store,
-                    ledger,
+                    store: Runs::at(store, replayed.store_end),
+                    ledger: Ledger::at(ledger, replayed.ledger_end),
                     replayed,
                     history,
                     wounded: None,
@@ -239,7 +247,7 @@ impl<N: Namer, D: Disk> Keeper<N, D> {
             history: _history,
             wounded: _wounded,
         } = self;
-        (store, ledger)
+        (store.close(), ledger.close())
     }
 
     /// Judges a plan and adds its event.

@@ -1,17 +1,17 @@
 //! An event on both disks.
-ghost use Rattle.std.specs.Prelude.{◌≡◌, ◌+◌, ◌≤◌, ◌<◌, ◌^◌, ◌++◌, ◌∷◌, [], length, OnOk, OnErr};
+ghost use Rattle.std.specs.Prelude.{◌≡◌, ◌+◌, ◌≤◌, ◌++◌, ◌∷◌, [], length, OnOk, OnErr};
 ghost use Rattle.swh_outside.specs.Files.{EachImages, FilesRuns, files_of};
 ghost use Rattle.swh_segment.specs.Calls.{event_calls};
 ghost use Rattle.swh_segment.specs.Makes.{ADiskFailed};
 ghost use Rattle.swh_segment.specs.Runs as runs;
 ghost use Rattle.swh_format.specs.EventRecord.{packed_objects, run_written};
 ghost use Rattle.swh_model.specs.declared.event.Event.{Event};
-ghost use Rattle.swh_keeper.specs.Keeping.{AreSettledFor, IsToAdd, WithOrWithout};
+ghost use Rattle.swh_keeper.specs.Keeping.{AreSettledFor, FilesHaveRoom, HaveEnds, IsToAdd, WithOrWithout};
 
 use swh_model::{Event, EventKind};
 use swh_outside::{Disk, Failed};
 use swh_replay::Replayed;
-use swh_segment::{Run, append_event};
+use swh_segment::{Ledger, Run, Runs, append_to_both};
 
 /// What the event adds to the store.
 fn run_for<'a>(event: &Event, run: &'a [u8]) -> Run<'a>
@@ -26,44 +26,41 @@ fn run_for<'a>(event: &Event, run: &'a [u8]) -> Run<'a>
 
 /// Writes an event on both disks.
 pub fn write_event<D: Disk>(
-    store: &mut D,
-    ledger: &mut D,
+    store: &mut Runs<D>,
+    ledger: &mut Ledger<D>,
     replayed: &Replayed,
     event: &Event,
     run: &[u8],
     bytes: &[u8],
     history: &Vec<Event>,
 ) -> Result<(), Failed>
-    requires limit { replayed.now.ledger_end + 1 < 2 ^ 64 }
+    requires room { FilesHaveRoom replayed.now run.now bytes.now }
+    requires ends { HaveEnds store.old.end ledger.old.end replayed.now }
     requires to_add { IsToAdd replayed.now history.now.items event.now run.now bytes.now }
-    requires settled { D.tells → AreSettledFor (D.file ledger.old)
-        (D.file store.old) history.now.items replayed.now.store_end replayed.now.ledger_end }
+    requires settled { D.tells → AreSettledFor (D.file ledger.old.disk)
+        (D.file store.old.disk) history.now.items replayed.now.store_end replayed.now.ledger_end }
     // The device calls that it makes, in order, on either file.
     ensures calls { D.tells → FilesRuns (event_calls replayed.now.store_end
         (run_written event.now.what) replayed.now.ledger_end bytes.now)
-        (files_of (D.file ledger.old) (D.file store.old)) (files_of (D.file ledger.new) (D.file store.new)) result }
+        (files_of (D.file ledger.old.disk) (D.file store.old.disk))
+        (files_of (D.file ledger.new.disk) (D.file store.new.disk)) result }
 
-    ensures ok { D.tells → OnOk result (AreSettledFor (D.file ledger.new) (D.file store.new)
+    ensures ok { D.tells → OnOk result (AreSettledFor (D.file ledger.new.disk) (D.file store.new.disk)
         (history.now.items ++ event.now ∷ []) (replayed.now.store_end + length run.now)
         (replayed.now.ledger_end + length bytes.now)) }
-    ensures left { D.tells → OnErr result (EachImages (files_of (D.file ledger.new) (D.file store.new))
+    ensures store_end { OnOk result (store.new.end ≡ replayed.now.store_end + length run.now) }
+    ensures ledger_end { OnOk result (ledger.new.end ≡ replayed.now.ledger_end + length bytes.now) }
+    ensures left { D.tells → OnErr result (EachImages (files_of (D.file ledger.new.disk) (D.file store.new.disk))
         (WithOrWithout history.now.items event.now)) }
-    ensures store_later { D.faults store.old ≤ D.faults store.new }
-    ensures ledger_later { D.faults ledger.old ≤ D.faults ledger.new }
-    ensures cause { OnErr result (ADiskFailed (D.faults store.old) (D.faults store.new) (D.faults ledger.old)
-        (D.faults ledger.new)) }
+    ensures store_later { D.faults store.old.disk ≤ D.faults store.new.disk }
+    ensures ledger_later { D.faults ledger.old.disk ≤ D.faults ledger.new.disk }
+    ensures cause { OnErr result (ADiskFailed (D.faults store.old.disk) (D.faults store.new.disk)
+        (D.faults ledger.old.disk) (D.faults ledger.new.disk)) }
 
     // Where no disk failed, both counts are as they were.
-    ensures store_quiet { OnOk result (D.faults store.new ≡ D.faults store.old) }
-    ensures ledger_quiet { OnOk result (D.faults ledger.new ≡ D.faults ledger.old) }
+    ensures store_quiet { OnOk result (D.faults store.new.disk ≡ D.faults store.old.disk) }
+    ensures ledger_quiet { OnOk result (D.faults ledger.new.disk ≡ D.faults ledger.old.disk) }
 {
     let run = run_for(event, run);
-    append_event(
-        store,
-        replayed.store_end,
-        run,
-        ledger,
-        replayed.ledger_end,
-        bytes,
-    )
+    append_to_both(store, run, ledger, bytes)
 }

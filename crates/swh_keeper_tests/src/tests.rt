@@ -1,13 +1,8 @@
-ghost use Rattle.std.specs.Prelude.{IfOk};
-ghost use Rattle.swh_base.specs.Namer.{byte_id};
-ghost use Rattle.swh_model.specs.Judge.{IsWish};
-
 use std::alloc::Global;
 use std::test::Fail;
-use swh_base::{ByteNamer, Status, Url, VisitKind};
+use swh_base::{ByteNamer, Url, VisitKind};
 use swh_fixtures::{Archive, ArchiveFault, URL, disk, kept, made_archive};
-use swh_keeper::{Keeper, OpenFault, OpenWhy, Outcome, Refusal};
-use swh_model::Wish;
+use swh_keeper::{Harm, Keeper, OpenFault, OpenWhy, Outcome, Plan};
 
 // The ledger of one opening.
 const LEDGER: [u8; 43] =
@@ -43,10 +38,8 @@ fn url(alloc: Global) -> Result<Url, Fail> {
     }
 }
 
-fn opening(alloc: Global) -> Result<Wish, Fail>
-    ensures { IfOk result (IsWish byte_id) }
-{
-    Ok(Wish::Open {
+fn opening(alloc: Global) -> Result<Plan<ByteNamer>, Fail> {
+    Ok(Plan::Open {
         origin: url(alloc)?,
         kind: VisitKind::Fast,
         date: 1_000_000_000,
@@ -66,75 +59,17 @@ fn an_opening_stands_in_the_ledger(rt: HostRuntime) -> Result<(), Fail> {
 }
 
 #[test]
-fn a_visit_is_refused_and_fails(rt: HostRuntime) -> Result<(), Fail> {
-    let alloc = rt.alloc();
-    let open = opening(alloc)?;
-    let second = Wish::Mark {
-        origin: url(alloc)?,
-        visit: 2,
-        status: Status::Ongoing,
-        snapshot: None,
-    };
-    let theirs = Wish::Mark {
-        origin: url(alloc)?,
-        visit: 1,
-        status: Status::Ongoing,
-        snapshot: None,
-    };
-    let full = Wish::Mark {
-        origin: url(alloc)?,
-        visit: 1,
-        status: Status::Full,
-        snapshot: Some([0; 20]),
-    };
-    let failed = Wish::Mark {
-        origin: url(alloc)?,
-        visit: 1,
-        status: Status::Failed,
-        snapshot: None,
-    };
-    let late = Wish::Mark {
-        origin: url(alloc)?,
-        visit: 1,
-        status: Status::Ongoing,
-        snapshot: None,
-    };
-    let mut keeper = made(alloc)?;
-    let opened = keeper.apply(1, open);
-    assert!(rt; matches!(opened, Ok(Outcome::Opened { event: 1, visit: 1 })));
-    let answer = keeper.apply(1, second);
-    assert!(rt; matches!(answer, Err(Refusal::NoVisit { have: 1 })));
-    let answer = keeper.apply(2, theirs);
-    assert!(rt; matches!(answer, Err(Refusal::NotYours { by: 1 })));
-    let answer = keeper.apply(1, full);
-    assert!(rt; matches!(answer, Err(Refusal::NoSnapshot { .. })));
-    let answer = keeper.apply(1, failed);
-    assert!(rt; matches!(answer, Ok(Outcome::Marked { event: 2 })));
-    let answer = keeper.apply(1, late);
-    assert!(rt;
-        matches!(
-            answer,
-            Err(Refusal::Ended {
-                status: Status::Failed
-            })
-        )
-    );
-    assert_eq!(rt; keeper.history().len(), 2);
-    let (_store, _ledger) = keeper.close();
-    Ok(())
-}
-
-#[test]
 fn an_archive_is_opened_again(rt: HostRuntime) -> Result<(), Fail> {
     let alloc = rt.alloc();
     let open = opening(alloc)?;
+    let origin = url(alloc)?;
     let mut keeper = made(alloc)?;
     let answer = keeper.apply(1, open);
     assert!(rt; matches!(answer, Ok(Outcome::Opened { event: 1, visit: 1 })));
     let (store, ledger) = keeper.close();
     let keeper = kept(Keeper::open(alloc, ByteNamer, store, ledger))?;
     assert_eq!(rt; keeper.history().len(), 1);
-    assert!(rt; keeper.visits(URL.as_bytes()).is_some());
+    assert!(rt; keeper.visits(&origin).is_some());
     let (_store, ledger) = keeper.close();
     assert_eq!(rt; ledger.bytes(), LEDGER.as_slice());
     Ok(())
@@ -169,7 +104,15 @@ fn files_of_no_archive_are_refused(rt: HostRuntime) -> Result<(), Fail> {
         store: _store,
         ledger: _ledger,
     } = fault;
-    assert_eq!(rt; why, OpenWhy::Damaged);
+    let harm = Harm::Magic { found: b'X' };
+    assert_eq!(rt;
+        why,
+        OpenWhy::Damaged {
+            file: 0,
+            at: 1,
+            harm
+        }
+    );
     Ok(())
 }
 

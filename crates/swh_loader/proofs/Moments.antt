@@ -1,19 +1,18 @@
 -- What a crash leaves at the device calls of events that are added one after another.
-use Rattle.std.proofs.Common.{◌≡◌, ◌≢◌, ◌⊎◌, inl, inr, ⊎_elim, ℕ, zero, suc, ◌+◌, ◌-◌, ◌<◌, ◌≤◌, Bool, true, false, List, [], ◌∷◌, ◌++◌, length, take, refl, sym, ap, ◌∙◌, subst, arith, append_assoc, length-append}
-use Rattle.std.specs.Prelude.{nat_le, if◌then◌else◌}
+use Rattle.std.proofs.Common.{◌≡◌, ◌≢◌, inl, inr, ⊎_elim, ℕ, zero, suc, ◌+◌, ◌-◌, ◌<◌, ◌≤◌, Bool, List, [], ◌∷◌, ◌++◌, length, take, refl, sym, ap, ◌∙◌, subst, arith, append_assoc}
+use Rattle.std.specs.Prelude.{if◌then◌else◌}
 use Rattle.std.proofs.lemmas.Bool.{cases_lt, cases_eq, le-leb, lt-leb}
 use Rattle.std.proofs.lemmas.List.{append-nil, take-append-le}
 use Rattle.swh_base.specs.declared.kind.Kind.{Kind}
-use Rattle.swh_outside.specs.Disk.{File, Sync, IsImage, IsAtRest, done}
-use Rattle.swh_outside.specs.Files.{Files, FileCall, FilesBreaks, Images, AreImages, EachImages, EachFilesMoment, file_done, files_done}
+use Rattle.swh_outside.specs.Disk.{File, Sync, IsImage, done}
+use Rattle.swh_outside.specs.Files.{Files, FileCall, Images, AreImages, EachImages, EachFilesMoment, file_done, files_done}
 use Rattle.swh_outside.proofs.Images.{at_rest_image, at_rest_done}
-use Rattle.swh_outside.proofs.Numbered.{files_done-append, files_left_by, take_long, with_file_here, with_file_other}
+use Rattle.swh_outside.proofs.Numbered.{files_done-append, take_long, with_file_here, with_file_other}
 use Rattle.swh_model.specs.declared.event.Event.{Event}
-use Rattle.swh_model.specs.Limits.{store_length, records_length}
-use Rattle.swh_format.specs.EventRecord.{packed_objects, coded_record, AreCodable}
+use Rattle.swh_format.specs.EventRecord.{packed_objects, AreCodable}
 use Rattle.swh_segment.specs.Making.{barriers}
-use Rattle.swh_segment.specs.Settled.{AreAtRest, AreSettled, seen_of}
-use Rattle.swh_format.specs.Stands.{StandsFor, written, all_written}
+use Rattle.swh_segment.specs.Settled.{seen_of}
+use Rattle.swh_format.specs.Stands.{StandsFor}
 use Rattle.swh_keeper.specs.Kept.{AreStanding}
 use Rattle.swh_keeper.specs.Keeping.{WithOrWithout, calls_for}
 use Rattle.swh_keeper.proofs.Standings.{still, one_moments, event_left, one_added}

@@ -61,38 +61,38 @@ visits_further a b c h k o number statuses v =
 pub no_room : (n : Name) (held : Bodies) → held ≡ finite.empty → body_of held n ≡ None
 no_room n held e = ap (λ (b : Bodies). body_of b n) e ∙ none-empty n
 
-pub none_waits : (id : Kind → List ℕ → List ℕ) (bodies : Bodies) (p : Pending) (n : Name) → IsPendingBatch id bodies p → body_of p.held n ≡ None → body_of bodies n ≡ None → body_of (added bodies p.entries.items) n ≡ None
-none_waits id bodies p n w h k = none-added bodies p.entries.items n (none_named finite.empty p.entries.items n (ap (λ (b : Bodies). body_of b n) (sym w.held) ∙ h)) k
+pub none_waits : {N : Type 0} (id : Kind → List ℕ → List ℕ) (bodies : Bodies) (p : Pending N) (n : Name) → IsPendingBatch id bodies p → body_of p.held.bodies n ≡ None → body_of bodies n ≡ None → body_of (added bodies p.objects.items) n ≡ None
+none_waits id bodies p n w h k = none-added bodies p.objects.items n (none_named finite.empty p.objects.items n (ap (λ (b : Bodies). body_of b n) (sym w.held) ∙ h)) k
 
 -- what is held stays held
-pub held_waits : (id : Kind → List ℕ → List ℕ) (bodies : Bodies) (p : Pending) (e : Entry) → IsPendingBatch id bodies p → body_of bodies e.name ≡ Some e.body → body_of (added bodies p.entries.items) e.name ≡ Some e.body
-held_waits id bodies p e w h = within-added bodies p.entries.items w.new e.name e.body h
+pub held_waits : {N : Type 0} (id : Kind → List ℕ → List ℕ) (bodies : Bodies) (p : Pending N) (e : Entry) → IsPendingBatch id bodies p → body_of bodies e.name ≡ Some e.body → body_of (added bodies p.objects.items) e.name ≡ Some e.body
+held_waits id bodies p e w h = within-added bodies p.objects.items w.new e.name e.body h
 
 object_good : (id : Kind → List ℕ → List ℕ) (e : Entry) → IsObject id e → HasItsChildrenAndName id e
 object_good id e h = record { good = record { kids = h.kids }; named = h.named }
 
-pub room_none : (p : Pending) (n : Name) → p.entries.items ≡ [] → p.held ≡ finite.empty → p.bytes ≡ 0 → BatchHasRoom p n
-room_none p n e held zero_bytes = record { few = let l = ap length e in omega (arith, l); small = omega (arith, zero_bytes); absent = no_room n p.held held }
+pub room_none : {N : Type 0} (p : Pending N) (n : Name) → p.objects.items ≡ [] → p.held.bodies ≡ finite.empty → p.bytes ≡ 0 → BatchHasRoom p n
+room_none p n e held zero_bytes = record { few = let l = ap length e in omega (arith, l); small = omega (arith, zero_bytes); absent = no_room n p.held.bodies held }
 
 -- one more waits
-pub waits_more : (id : Kind → List ℕ → List ℕ) (bodies : Bodies) (p q : Pending) (e : Entry) → IsObject id e → IsPendingBatch id bodies p → BatchHasRoom p e.name → body_of bodies e.name ≡ None → q.entries.items ≡ p.entries.items ++ e ∷ [] → q.held ≡ finite.insert p.held e.name e.body → q.bytes ≡ p.bytes + length e.body → IsPendingBatch id bodies q
+pub waits_more : {N : Type 0} (id : Kind → List ℕ → List ℕ) (bodies : Bodies) (p q : Pending N) (e : Entry) → IsObject id e → IsPendingBatch id bodies p → BatchHasRoom p e.name → body_of bodies e.name ≡ None → q.objects.items ≡ p.objects.items ++ e ∷ [] → q.held.bodies ≡ finite.insert p.held.bodies e.name e.body → q.bytes ≡ p.bytes + length e.body → IsPendingBatch id bodies q
 waits_more id bodies p q e o w h k es held bytes = record {
-  held = held ∙ ap (λ (b : Bodies). finite.insert b e.name e.body) w.held ∙ sym (added-append finite.empty p.entries.items (e ∷ [])) ∙ ap (added finite.empty) (sym es);
-  new = subst (AreNew bodies) (sym es) (new-push bodies p.entries.items e w.new (none_waits id bodies p e.name w h.absent k));
-  good = subst (AllByRecursion (HasItsChildrenAndName id)) (sym es) (all-append (HasItsChildrenAndName id) p.entries.items (e ∷ []) w.good (object_good id e o, tt));
-  limits = subst IsWithinLimits (sym es) (limits_more p.entries.items e p.bytes w.limits w.counted h.few h.small o.short);
-  counted = counted_more p.entries.items e p.bytes q.bytes w.counted bytes ∙ ap (sum_by (λ (x : Entry). length x.body)) (sym es);
+  held = held ∙ ap (λ (b : Bodies). finite.insert b e.name e.body) w.held ∙ sym (added-append finite.empty p.objects.items (e ∷ [])) ∙ ap (added finite.empty) (sym es);
+  new = subst (AreNew bodies) (sym es) (new-push bodies p.objects.items e w.new (none_waits id bodies p e.name w h.absent k));
+  good = subst (AllByRecursion (HasItsChildrenAndName id)) (sym es) (all-append (HasItsChildrenAndName id) p.objects.items (e ∷ []) w.good (object_good id e o, tt));
+  limits = subst IsWithinLimits (sym es) (limits_more p.objects.items e p.bytes w.limits w.counted h.few h.small o.short);
+  counted = counted_more p.objects.items e p.bytes q.bytes w.counted bytes ∙ ap (sum_by (λ (x : Entry). length x.body)) (sym es);
 }
 
-pub to_be-more : (bodies : Bodies) (p q : Pending) (e : Entry) → q.entries.items ≡ p.entries.items ++ e ∷ [] → added bodies q.entries.items ≡ finite.insert (added bodies p.entries.items) e.name e.body
-to_be-more bodies p q e es = ap (added bodies) es ∙ added-append bodies p.entries.items (e ∷ [])
+pub to_be-more : {N : Type 0} (bodies : Bodies) (p q : Pending N) (e : Entry) → q.objects.items ≡ p.objects.items ++ e ∷ [] → added bodies q.objects.items ≡ finite.insert (added bodies p.objects.items) e.name e.body
+to_be-more bodies p q e es = ap (added bodies) es ∙ added-append bodies p.objects.items (e ∷ [])
 
-pub within_more : (id : Kind → List ℕ → List ℕ) (bodies : Bodies) (p q : Pending) (e : Entry) → IsPendingBatch id bodies p → body_of p.held e.name ≡ None → body_of bodies e.name ≡ None → q.entries.items ≡ p.entries.items ++ e ∷ [] → IsWithin (added bodies p.entries.items) (added bodies q.entries.items)
+pub within_more : {N : Type 0} (id : Kind → List ℕ → List ℕ) (bodies : Bodies) (p q : Pending N) (e : Entry) → IsPendingBatch id bodies p → body_of p.held.bodies e.name ≡ None → body_of bodies e.name ≡ None → q.objects.items ≡ p.objects.items ++ e ∷ [] → IsWithin (added bodies p.objects.items) (added bodies q.objects.items)
 within_more id bodies p q e w h k es =
-    subst (IsWithin (added bodies p.entries.items)) (sym (to_be-more bodies p q e es)) (within-put (added bodies p.entries.items) e.name e.body (none_waits id bodies p e.name w h k))
+    subst (IsWithin (added bodies p.objects.items)) (sym (to_be-more bodies p q e es)) (within-put (added bodies p.objects.items) e.name e.body (none_waits id bodies p e.name w h k))
 
-pub put_more : (bodies : Bodies) (p q : Pending) (e : Entry) → q.entries.items ≡ p.entries.items ++ e ∷ [] → body_of (added bodies q.entries.items) e.name ≡ Some e.body
-put_more bodies p q e es = ap (λ (b : Bodies). body_of b e.name) (to_be-more bodies p q e es) ∙ body-put (added bodies p.entries.items) e.name e.body
+pub put_more : {N : Type 0} (bodies : Bodies) (p q : Pending N) (e : Entry) → q.objects.items ≡ p.objects.items ++ e ∷ [] → body_of (added bodies q.objects.items) e.name ≡ Some e.body
+put_more bodies p q e es = ap (λ (b : Bodies). body_of b e.name) (to_be-more bodies p q e es) ∙ body-put (added bodies p.objects.items) e.name e.body
 
 -- what is to be held goes on being so
 pub all_within : (a b : Bodies) (es : List Entry) → IsWithin a b → AllHeld a es → AllHeld b es
@@ -116,24 +116,31 @@ took_more a b all left next e t cut w h = record {
 }
 
 -- what became of an object that is held
-pub taken_held : {D : Type 0} (id : Kind → List ℕ → List ℕ) (old new : Kept D) (p q : Pending) (x e : Entry) → x ≡ e → IsPendingBatch id (held_bodies new) q → to_be new q ≡ to_be old p → AreAmong p.entries.items q.entries.items → body_of (held_bodies new) x.name ≡ Some x.body → TakesEntry id old p e new (Waits q)
+pub taken_held : {D N : Type 0} (id : Kind → List ℕ → List ℕ) (old new : Kept D) (p q : Pending N) (x e : Entry) → x ≡ e → IsPendingBatch id (held_bodies new) q → to_be new q ≡ to_be old p → AreAmong p.objects.items q.objects.items → body_of (held_bodies new) x.name ≡ Some x.body → TakesEntry id old p e new (Waits q)
 taken_held id old new p q x e same w b among h = (
   w,
   (λ n body k. ap (λ (t : Bodies). body_of t n) b ∙ k),
   subst (λ (y : Entry). body_of (to_be new q) y.name ≡ Some y.body) same (held_waits id (held_bodies new) q x w h),
-  among_front p.entries.items (e ∷ []) q.entries.items among,
+  among_front p.objects.items (e ∷ []) q.objects.items among,
 )
 
 -- and of one that is new
-pub taken_new : {D : Type 0} (id : Kind → List ℕ → List ℕ) (old new : Kept D) (p q r : Pending) (x e : Entry) → x ≡ e → IsObject id x → IsPendingBatch id (held_bodies new) q → to_be new q ≡ to_be old p → AreAmong p.entries.items q.entries.items → BatchHasRoom q x.name → body_of (held_bodies new) x.name ≡ None → r.entries.items ≡ q.entries.items ++ x ∷ [] → r.held ≡ finite.insert q.held x.name x.body → r.bytes ≡ q.bytes + length x.body
+pub taken_new : {D N : Type 0} (id : Kind → List ℕ → List ℕ) (old new : Kept D) (p q r : Pending N) (x e : Entry) → x ≡ e → IsObject id x → IsPendingBatch id (held_bodies new) q → to_be new q ≡ to_be old p → AreAmong p.objects.items q.objects.items → BatchHasRoom q x.name → body_of (held_bodies new) x.name ≡ None → r.objects.items ≡ q.objects.items ++ x ∷ [] → r.held.bodies ≡ finite.insert q.held.bodies x.name x.body → r.bytes ≡ q.bytes + length x.body
     → TakesEntry id old p e new (Waits r)
 taken_new id old new p q r x e same o w b among room absent es held bytes = (
   waits_more id (held_bodies new) q r x o w room absent es held bytes,
   (λ n body k. within_more id (held_bodies new) q r x w room.absent absent es n body (ap (λ (t : Bodies). body_of t n) b ∙ k)),
   subst (λ (y : Entry). body_of (to_be new r) y.name ≡ Some y.body) same (put_more (held_bodies new) q r x es),
-  subst (AreAmong (p.entries.items ++ e ∷ [])) (sym (es ∙ ap (λ (y : Entry). q.entries.items ++ y ∷ []) same)) (among_push p.entries.items q.entries.items e among),
+  subst (AreAmong (p.objects.items ++ e ∷ [])) (sym (es ∙ ap (λ (y : Entry). q.objects.items ++ y ∷ []) same)) (among_push p.objects.items q.objects.items e among),
 )
 
 -- one object after those before it
-pub took_next : {D : Type 0} (id : Kind → List ℕ → List ℕ) (old new : Kept D) (p q : Pending) (all left next : List Entry) (e : Entry) → Took (to_be old p) all left → left ≡ (e ∷ []) ++ next → TakesEntry id old p e new (Waits q) → Took (to_be new q) all next
+pub took_next : {D N : Type 0} (id : Kind → List ℕ → List ℕ) (old new : Kept D) (p q : Pending N) (all left next : List Entry) (e : Entry) → Took (to_be old p) all left → left ≡ (e ∷ []) ++ next → TakesEntry id old p e new (Waits q) → Took (to_be new q) all next
 took_next id old new p q all left next e t cut h = took_more (to_be old p) (to_be new q) all left next e t cut h.1 h.2
+
+-- what a store says of an object, of what is held
+pub known_here : (bodies held : Bodies) (x e : Entry) → bodies ≡ held → x ≡ e → body_of bodies x.name ≡ Some x.body → body_of held e.name ≡ Some e.body
+known_here bodies held x e same is known = subst (λ (b : Bodies). body_of b e.name ≡ Some e.body) same (subst (λ (y : Entry). body_of bodies y.name ≡ Some y.body) is known)
+
+pub new_here : (bodies held : Bodies) (x e : Entry) → bodies ≡ held → x ≡ e → body_of bodies x.name ≡ None → body_of held e.name ≡ None
+new_here bodies held x e same is new = subst (λ (b : Bodies). body_of b e.name ≡ None) same (subst (λ (y : Entry). body_of bodies y.name ≡ None) is new)

@@ -10,20 +10,13 @@ use Rattle.swh_model.specs.Limits.{IsWithinLimits}
 use Rattle.swh_base.specs.Limits.{objects_limit, bytes_limit}
 use Rattle.swh_model.specs.Step.{AreNew, HasItsChildrenAndName, added, replay}
 use Rattle.swh_model.specs.Grows.{IsWithin}
+use Rattle.swh_store.specs.Adding.{HasOther}
 use Rattle.swh_keeper.specs.Kept.{Kept}
 use Rattle.swh_loader.specs.Adding.{Attempt, AreAmong}
 use Rattle.swh_loader.specs.Visiting.{GainsStatuses}
 use Rattle.swh_loader.specs.declared.pending.Pending.{Pending}
-use Rattle.swh_loader.specs.declared.sending.Standing.{Standing}
-use Rattle.swh_loader.specs.declared.sending.Standing.TheVariants.{Held, Other, New}
 use Rattle.swh_loader.specs.declared.sending.Taken.{Taken}
 use Rattle.swh_loader.specs.declared.sending.Taken.TheVariants.{Waits, Collides}
-
--- How an entry stands to what is held.
-abbrev pub IsStanding : Bodies → Entry → Standing → Type 0
-IsStanding bodies e Held = body_of bodies e.name ≡ Some e.body
-IsStanding bodies e Other = (body : List ℕ) × (body_of bodies e.name ≡ Some body) × (body ≢ e.body)
-IsStanding bodies e New = body_of bodies e.name ≡ None
 
 -- Each of these is held with its body.
 abbrev pub AllHeld : Bodies → List Entry → Type 0
@@ -34,27 +27,27 @@ abbrev pub held_bodies : {D : Type 0} → Kept D → Bodies
 held_bodies k = (replay k.history).bodies
 
 -- what is held once what waits was added
-abbrev pub to_be : {D : Type 0} → Kept D → Pending → Bodies
-to_be k p = added (held_bodies k) p.entries.items
+abbrev pub to_be : {D N : Type 0} → Kept D → Pending N → Bodies
+to_be k p = added (held_bodies k) p.objects.items
 
 -- A batch has room for an entry of this name after what waits.
-pub record BatchHasRoom (p : Pending) (n : Name) : Type 0 where
-  pub few : length p.entries.items < objects_limit
+pub record BatchHasRoom {N : Type 0} (p : Pending N) (n : Name) : Type 0 where
+  pub few : length p.objects.items < objects_limit
   pub small : p.bytes ≤ bytes_limit
-  pub absent : body_of p.held n ≡ None
+  pub absent : body_of p.held.bodies n ≡ None
 
 -- What waits is new, good and named, and a batch within the limits.
-pub record IsPendingBatch (id : Kind → List ℕ → List ℕ) (bodies : Bodies) (p : Pending) : Type 0 where
-  pub held : p.held ≡ added finite.empty p.entries.items
-  pub new : AreNew bodies p.entries.items
-  pub good : AllByRecursion (HasItsChildrenAndName id) p.entries.items
-  pub limits : IsWithinLimits p.entries.items
-  pub counted : p.bytes ≡ sum_by (λ e. length e.body) p.entries.items
+pub record IsPendingBatch {N : Type 0} (id : Kind → List ℕ → List ℕ) (bodies : Bodies) (p : Pending N) : Type 0 where
+  pub held : p.held.bodies ≡ added finite.empty p.objects.items
+  pub new : AreNew bodies p.objects.items
+  pub good : AllByRecursion (HasItsChildrenAndName id) p.objects.items
+  pub limits : IsWithinLimits p.objects.items
+  pub counted : p.bytes ≡ sum_by (λ e. length e.body) p.objects.items
 
 -- There is room for an entry of this name: what waited was sent, or waits still.
-pub record HasMadeRoom {D : Type 0} (id : Kind → List ℕ → List ℕ) (old : Kept D) (p : Pending) (n : Name) (new : Kept D) (q : Pending) : Type 0 where
+pub record HasMadeRoom {D N : Type 0} (id : Kind → List ℕ → List ℕ) (old : Kept D) (p : Pending N) (n : Name) (new : Kept D) (q : Pending N) : Type 0 where
   pub room : BatchHasRoom q n
-  pub among : AreAmong p.entries.items q.entries.items
+  pub among : AreAmong p.objects.items q.objects.items
   pub waiting : IsPendingBatch id (held_bodies new) q
   pub to_be : to_be new q ≡ to_be old p
 
@@ -63,11 +56,11 @@ abbrev pub SameVisits : {D : Type 0} → Kept D → Kept D → Type 0
 SameVisits old new = (a : Attempt) (number : ℕ) → GainsStatuses old.history new.history a number []
 
 -- what became of an entry
-abbrev pub TakesEntry : {D : Type 0} → (Kind → List ℕ → List ℕ) → Kept D → Pending → Entry → Kept D → Taken → Type 0
+abbrev pub TakesEntry : {D N : Type 0} → (Kind → List ℕ → List ℕ) → Kept D → Pending N → Entry → Kept D → Taken N → Type 0
 TakesEntry id old p e new (Waits q) =
     IsPendingBatch id (held_bodies new) q × IsWithin (to_be old p) (to_be new q)
-    × (body_of (to_be new q) e.name ≡ Some e.body) × AreAmong (p.entries.items ++ e ∷ []) q.entries.items
-TakesEntry id old p e new (Collides name) = (name ≡ e.name) × IsStanding (held_bodies new) e Other
+    × (body_of (to_be new q) e.name ≡ Some e.body) × AreAmong (p.objects.items ++ e ∷ []) q.objects.items
+TakesEntry id old p e new (Collides name) = (name ≡ e.name) × HasOther (held_bodies new) e
 
 -- An object of these has a name under which another body is held.
 pub record IsCollision (bodies : Bodies) (objects : List Entry) (name : Name) : Type 0 where

@@ -6,6 +6,7 @@ ghost use Rattle.swh_outside.specs.Views.{disks, sources};
 ghost use Rattle.swh_model.specs.Archive.{IsClosed};
 ghost use Rattle.swh_model.specs.Step.{FitsStatus};
 ghost use Rattle.swh_base.specs.Snapshot.{snapshot_name};
+ghost use Rattle.swh_plan.specs.Plan.{status_of, snapshot_of};
 ghost use Rattle.swh_fastmeaning.specs.Whole.{HasAllThatIsReached};
 ghost use Rattle.swh_loader.specs.declared.fault.LoadWhy.TheVariants.{Memory as OutOfMemory};
 ghost use Rattle.swh_loader.specs.declared.end.BadInput.TheVariants.{Read as BadRead};
@@ -27,9 +28,10 @@ use crate::sending::send_all;
 use crate::turn::Turn;
 use crate::visiting::{OpenVisit, mark, open_visit};
 use std::alloc::Global;
-use swh_base::{Bytes, Namer, Status};
+use swh_base::{Bytes, Kind, Memory, Name, Namer};
+use swh_closure::{Cert, Closed, WalkFault, walk};
 use swh_fastload::{InputFault, Objects, load_source};
-use swh_keeper::Keeper;
+use swh_keeper::{How, Keeper};
 use swh_outside::{Disk, Gate, Opened, Source};
 
 /// What an input gives.
@@ -76,19 +78,18 @@ fn end_visit<N: Namer, D: Disk>(
     alloc: Global,
     keeper: &mut Keeper<N, D>,
     visit: &OpenVisit,
-    status: Status,
-    snapshot: Option<[u8; 20]>,
+    how: How,
     end: End,
 ) -> Result<End, LoadWhy>
     requires unwounded { keeper.old.wounded ≡ None }
     requires visit { IsVisit keeper.old.history (attempt_of visit.now) visit.now.number (before_end end) }
-    requires fits { FitsStatus (held_bodies keeper.old) status snapshot }
-    requires last { last_of end ≡ (status, snapshot) ∷ [] }
+    requires fits { FitsStatus (held_bodies keeper.old) (status_of how) (snapshot_of how) }
+    requires last { last_of end ≡ (status_of how, snapshot_of how) ∷ [] }
     ensures end { IfOk result (λ told. told ≡ end) }
     ensures leaves { LeavesVisit N.id_of (disks D.tells D.file D.faults) AllowsNoBatch
         visit.now keeper.old keeper.new result }
 {
-    mark(alloc, keeper, visit, status, snapshot)?;
+    mark(alloc, keeper, visit, how)?;
     Ok(end)
 }
 
@@ -106,7 +107,30 @@ fn end_bad<N: Namer, D: Disk>(
         visit.now keeper.old keeper.new result }
 {
     let end = End::Failed(bad);
-    end_visit(alloc, keeper, visit, Status::Failed, None, end)
+    end_visit(alloc, keeper, visit, How::Failed, end)
+}
+
+/// A certificate that all that the snapshot reaches is held.
+fn certificate<N: Namer, D: Disk>(
+    alloc: Global,
+    keeper: &Keeper<N, D>,
+    snapshot: [u8; 20],
+) -> Result<Cert, Memory>
+    requires unwounded { keeper.now.wounded ≡ None }
+    requires closed { IsClosed (held_bodies keeper.now) (snapshot_name snapshot) }
+{
+    let root = Name {
+        kind: Kind::Snapshot,
+        id: snapshot,
+    };
+    let store = keeper.store();
+    store.is_graph();
+    let nothing = Closed::new(alloc);
+    match walk(alloc, store, root, &nothing) {
+        Ok(cert) => Ok(cert),
+        Err(WalkFault::Memory) => Err(Memory),
+        Err(WalkFault::Missing { .. }) => unreachable!(),
+    }
 }
 
 /// Ends a visit whose input is all held, on both sides of the gate.
@@ -124,10 +148,11 @@ fn end_full<N: Namer, D: Disk, G: Gate>(
     ensures leaves { LeavesVisit N.id_of (disks D.tells D.file D.faults) AllowsNoBatch
         visit.now keeper.old keeper.new result }
 {
+    let cert = certificate(alloc, keeper, snapshot)?;
     let gate = turn.worker.gate;
     gate.before(turn.worker.number, turn.job);
     let end = End::Full { snapshot };
-    let end = end_visit(alloc, keeper, visit, Status::Full, Some(snapshot), end)?;
+    let end = end_visit(alloc, keeper, visit, How::Full { snapshot, cert }, end)?;
     gate.after(turn.worker.number, turn.job);
     Ok(end)
 }
@@ -173,7 +198,7 @@ fn load_found<N: Namer, D: Disk, S: Source, G: Gate>(
         visit.now keeper.old keeper.new result }
     ensures same { IsSameSource (sources S.tells S.left S.faults S.path) source.old source.new }
 {
-    mark(alloc, keeper, visit, Status::Ongoing, None)?;
+    mark(alloc, keeper, visit, How::Ongoing)?;
     match read_input(alloc, namer, source, head)? {
         Input::Made(made) => finish(alloc, keeper, visit, made, turn),
         Input::Bad(bad) => end_bad(alloc, keeper, visit, bad),
@@ -192,7 +217,7 @@ fn end_absent<N: Namer, D: Disk>(
     ensures leaves { LeavesVisit N.id_of (disks D.tells D.file D.faults) AllowsNoBatch
         visit.now keeper.old keeper.new result }
 {
-    end_visit(alloc, keeper, visit, Status::NotFound, None, End::NotFound)
+    end_visit(alloc, keeper, visit, How::NotFound, End::NotFound)
 }
 
 /// Ends a visit whose input does not open.
@@ -207,7 +232,7 @@ fn end_unread<N: Namer, D: Disk>(
     ensures leaves { LeavesVisit N.id_of (disks D.tells D.file D.faults) AllowsNoBatch
         visit.now keeper.old keeper.new result }
 {
-    mark(alloc, keeper, visit, Status::Ongoing, None)?;
+    mark(alloc, keeper, visit, How::Ongoing)?;
     end_bad(alloc, keeper, visit, BadInput::Read)
 }
 

@@ -1,8 +1,10 @@
 // What a load's input adds to what is held.
 ghost use Rattle.std.specs.Prelude.{◌≡◌, None, IfOk, OnOk};
+ghost use Rattle.std.specs.List.{AllByRecursion};
+ghost use Rattle.swh_format.specs.StoredObject.{IsCodableEntry};
 ghost use Rattle.swh_outside.specs.Views.{disks};
 ghost use Rattle.swh_loader.specs.Adding.{IsBatchOf, IsBatchAmong};
-ghost use Rattle.swh_loader.specs.Sending.{IsStanding, IsPendingBatch, HasMadeRoom, TakesEntry, SameVisits, AreSent};
+ghost use Rattle.swh_loader.specs.Sending.{IsPendingBatch, HasMadeRoom, TakesEntry, SameVisits, AreSent};
 ghost use Rattle.swh_loader.specs.Sending.{held_bodies, to_be};
 ghost use Rattle.swh_loader.specs.Steps.{Leaves};
 
@@ -11,43 +13,28 @@ use crate::pending::Pending;
 use crate::stopping::stopped;
 use std::alloc::Global;
 use std::collections::VecDeque;
-use swh_base::{Entry, Items, Name, Namer};
-use swh_format::entries_are_codable;
-use swh_keeper::Keeper;
-use swh_model::Wish;
+use swh_base::{Name, Namer};
+use swh_format::entry_is_codable;
+use swh_keeper::{Keeper, Plan};
 use swh_object::Object;
 use swh_outside::Disk;
+use swh_store::Standing;
 
-/// How an entry stands to what is held.
+/// What became of an object.
 #[derive(Drop)]
-pub enum Standing {
-    /// Its body is held.
-    Held,
-    /// Another body is held under its name.
-    Other,
-    New,
-}
-
-/// What became of an entry.
-#[derive(Drop)]
-pub enum Taken {
+pub enum Taken<N: Namer> {
     /// It is held, or it waits among these.
-    Waits(Pending),
+    Waits(Pending<N>),
     /// Another body is held under its name.
     Collides(Name),
 }
 
-fn standing_of<N: Namer, D: Disk>(keeper: &Keeper<N, D>, entry: &Entry) -> Standing
-    requires { keeper.now.wounded ≡ None }
-    ensures { IsStanding (held_bodies keeper.now) entry.now result }
+/// What the types of objects say of how their entries are coded.
+fn objects_are_codable<N: Namer>(objects: &[Object<N>])
+    ensures { AllByRecursion IsCodableEntry objects.now }
 {
-    let Some(held) = keeper.get(&entry.name) else {
-        return Standing::New;
-    };
-    if held.body.as_slice() == entry.body.as_slice() {
-        Standing::Held
-    } else {
-        Standing::Other
+    for object in objects {
+        entry_is_codable(object.entry());
     }
 }
 
@@ -55,22 +42,21 @@ fn standing_of<N: Namer, D: Disk>(keeper: &Keeper<N, D>, entry: &Entry) -> Stand
 fn flush<N: Namer, D: Disk>(
     keeper: &mut Keeper<N, D>,
     by: u32,
-    pending: Pending,
+    pending: Pending<N>,
 ) -> Result<(), LoadWhy>
     requires unwounded { keeper.old.wounded ≡ None }
     requires waiting { IsPendingBatch N.id_of (held_bodies keeper.old) pending }
     ensures bodies { OnOk result (held_bodies keeper.new ≡ to_be keeper.old pending) }
     ensures visits { SameVisits keeper.old keeper.new }
-    ensures leaves { Leaves N.id_of (disks D.tells D.file D.faults) (IsBatchOf by pending.entries.items)
+    ensures leaves { Leaves N.id_of (disks D.tells D.file D.faults) (IsBatchOf by pending.objects.items)
         keeper.old keeper.new result }
 {
-    if pending.entries.is_empty() {
+    if pending.objects.is_empty() {
         return Ok(());
     }
-    entries_are_codable(&pending.entries);
+    objects_are_codable(&pending.objects);
     let _history = keeper.history();
-    let wish = Wish::Batch(Items::from_vec(pending.entries));
-    match keeper.apply(by, wish) {
+    match keeper.apply(by, Plan::Batch(pending.objects)) {
         Ok(_) => Ok(()),
         Err(refusal) => Err(stopped(refusal)),
     }
@@ -81,14 +67,14 @@ fn make_room<N: Namer, D: Disk>(
     alloc: Global,
     keeper: &mut Keeper<N, D>,
     by: u32,
-    pending: Pending,
+    pending: Pending<N>,
     name: &Name,
-) -> Result<Pending, LoadWhy>
+) -> Result<Pending<N>, LoadWhy>
     requires unwounded { keeper.old.wounded ≡ None }
     requires waiting { IsPendingBatch N.id_of (held_bodies keeper.old) pending }
     ensures room { IfOk result (HasMadeRoom N.id_of keeper.old pending name.now keeper.new) }
     ensures visits { SameVisits keeper.old keeper.new }
-    ensures leaves { Leaves N.id_of (disks D.tells D.file D.faults) (IsBatchOf by pending.entries.items)
+    ensures leaves { Leaves N.id_of (disks D.tells D.file D.faults) (IsBatchOf by pending.objects.items)
         keeper.old keeper.new result }
 {
     if pending.has_room(name) {
@@ -103,23 +89,23 @@ fn take_in<N: Namer, D: Disk>(
     alloc: Global,
     keeper: &mut Keeper<N, D>,
     by: u32,
-    pending: Pending,
+    pending: Pending<N>,
     object: Object<N>,
-) -> Result<Taken, LoadWhy>
+) -> Result<Taken<N>, LoadWhy>
     requires unwounded { keeper.old.wounded ≡ None }
     requires waiting { IsPendingBatch N.id_of (held_bodies keeper.old) pending }
     ensures taken { IfOk result (λ taken. TakesEntry N.id_of keeper.old pending object keeper.new taken) }
     ensures visits { SameVisits keeper.old keeper.new }
-    ensures leaves { Leaves N.id_of (disks D.tells D.file D.faults) (IsBatchOf by pending.entries.items)
+    ensures leaves { Leaves N.id_of (disks D.tells D.file D.faults) (IsBatchOf by pending.objects.items)
         keeper.old keeper.new result }
 {
-    let entry = object.into_entry();
-    let mut pending = make_room(alloc, keeper, by, pending, &entry.name)?;
-    match standing_of(keeper, &entry) {
-        Standing::Held => Ok(Taken::Waits(pending)),
-        Standing::Other => Ok(Taken::Collides(entry.name)),
+    let name = object.name();
+    let mut pending = make_room(alloc, keeper, by, pending, &name)?;
+    match keeper.store().standing(object.entry()) {
+        Standing::Known => Ok(Taken::Waits(pending)),
+        Standing::Other => Ok(Taken::Collides(name)),
         Standing::New => {
-            pending.push(entry)?;
+            pending.push(object)?;
             Ok(Taken::Waits(pending))
         }
     }

@@ -2,6 +2,7 @@
 ghost use Rattle.std.specs.Prelude.{◌≡◌, ◌<◌, ◌^◌, ◌∷◌, [], IfOk, IfErr, OnOk, OnErr};
 ghost use Rattle.swh_outside.specs.Views.{disks};
 ghost use Rattle.swh_model.specs.Step.{replay, MayMark};
+ghost use Rattle.swh_plan.specs.Plan.{status_of, snapshot_of};
 ghost use Rattle.swh_loader.specs.Adding.{attempt, open_event, mark_event, IsEvent};
 ghost use Rattle.swh_loader.specs.Steps.{IsOpened, IsUnopened, Leaves};
 ghost use Rattle.swh_loader.specs.Visiting.{GainsStatuses, attempt_of};
@@ -9,10 +10,9 @@ ghost use Rattle.swh_loader.specs.Visiting.{GainsStatuses, attempt_of};
 use crate::fault::LoadWhy;
 use crate::stopping::stopped;
 use std::alloc::Global;
-use swh_base::{Namer, Status, Url, VisitKind};
+use swh_base::{Namer, Url, VisitKind};
 use swh_format::{origin_is_codable, snapshot_is_codable};
-use swh_keeper::Keeper;
-use swh_model::{Outcome, Wish};
+use swh_keeper::{How, Keeper, Outcome, Plan};
 use swh_outside::Disk;
 
 /// A visit that was opened: by whom, of which origin, when, and its number.
@@ -43,7 +43,7 @@ pub fn open_visit<N: Namer, D: Disk>(
         return Err(LoadWhy::Memory);
     };
     let kind = VisitKind::Fast;
-    match keeper.apply(by, Wish::Open { origin, kind, date }) {
+    match keeper.apply(by, Plan::Open { origin, kind, date }) {
         Ok(Outcome::Opened { event: _, visit }) => Ok(visit),
         Ok(_) => unreachable!(),
         Err(refusal) => Err(stopped(refusal)),
@@ -63,17 +63,19 @@ pub fn mark<N: Namer, D: Disk>(
     alloc: Global,
     keeper: &mut Keeper<N, D>,
     visit: &OpenVisit,
-    status: Status,
-    snapshot: Option<[u8; 20]>,
+    how: How,
 ) -> Result<(), LoadWhy>
-    requires { MayMark (replay keeper.old.history) visit.now.by visit.now.origin.now visit.now.number status snapshot }
+    requires { MayMark (replay keeper.old.history) visit.now.by visit.now.origin.now visit.now.number
+        (status_of how) (snapshot_of how) }
     ensures marked { OnOk result (GainsStatuses keeper.old.history keeper.new.history
         (attempt_of visit.now) visit.now.number
-        ((status, snapshot) ∷ [])) }
+        ((status_of how, snapshot_of how) ∷ [])) }
     ensures same { OnErr result (keeper.new.history ≡ keeper.old.history) }
     ensures leaves { Leaves N.id_of (disks D.tells D.file D.faults)
-        (IsEvent (mark_event (attempt_of visit.now) visit.now.number status snapshot)) keeper.old keeper.new result }
+        (IsEvent (mark_event (attempt_of visit.now) visit.now.number (status_of how) (snapshot_of how)))
+        keeper.old keeper.new result }
 {
+    let (_status, snapshot) = how.mark();
     origin_is_codable(visit.origin);
     snapshot_is_codable(&snapshot);
     numbers_fit(visit.by, visit.number);
@@ -81,13 +83,12 @@ pub fn mark<N: Namer, D: Disk>(
     let Ok(origin) = visit.origin.again(alloc) else {
         return Err(LoadWhy::Memory);
     };
-    let wish = Wish::Mark {
+    let plan = Plan::Mark {
         origin,
         visit: visit.number,
-        status,
-        snapshot,
+        how,
     };
-    match keeper.apply(visit.by, wish) {
+    match keeper.apply(visit.by, plan) {
         Ok(_) => Ok(()),
         Err(refusal) => Err(stopped(refusal)),
     }

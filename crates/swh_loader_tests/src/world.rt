@@ -47,7 +47,7 @@ pub fn load<N: Namer>(
 
 /// Says whether this body is held.
 pub fn holds<N: Namer>(keeper: &Archive<N>, kind: Kind, id: [u8; 20], body: &[u8]) -> bool {
-    match keeper.get(&Name { kind, id }) {
+    match keeper.store().get(&Name { kind, id }) {
         Some(entry) => entry.body.as_slice() == body,
         None => false,
     }

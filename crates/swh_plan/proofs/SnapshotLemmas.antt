@@ -1,6 +1,5 @@
 -- What walks and certificates over a store say of its bodies.
-use Rattle.std.proofs.Common.{◌≡◌, ℕ, ◌<◌, Option, Some, None, List, [], length, refl, sym, ap, ◌∙◌, subst, arith}
-use Rattle.std.specs.Prelude.{Contains}
+use Rattle.std.proofs.Common.{◌≡◌, ℕ, ◌<◌, Option, Some, List, [], refl, sym, subst, arith}
 use Rattle.swh_base.specs.declared.name.Name.{Name}
 use Rattle.swh_base.specs.declared.visit.Status.TheVariants.{Full}
 use Rattle.swh_base.specs.Reach.{IsClosedIn, AreClosedIn}

@@ -8,10 +8,7 @@ use swh_base::{Entry, Memory, Namer};
 use swh_object::Object;
 
 /// The entries of the objects, in their order: bodies and children are moved.
-pub fn entries_of<N: Namer>(
-    alloc: Global,
-    objects: Vec<Object<N>>,
-) -> Result<Vec<Entry>, Memory>
+pub fn entries_of<N: Namer>(alloc: Global, objects: Vec<Object<N>>) -> Result<Vec<Entry>, Memory>
     ensures same { IfOk result (λ entries. entries.items ≡ objects.items) }
     ensures good { OnOk result (AllByRecursion (HasItsChildrenAndName N.id_of) objects.items) }
 {

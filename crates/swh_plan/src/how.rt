@@ -1,8 +1,4 @@
 //! How a visit goes on, or ends.
-ghost use Rattle.std.specs.Prelude.{◌≡◌};
-ghost use Rattle.swh_model.specs.Judge.{StatusAllows};
-ghost use Rattle.swh_plan.specs.Plan.{status_of, snapshot_of};
-
 use swh_base::Status;
 use swh_closure::Cert;
 
@@ -18,17 +14,23 @@ pub enum How {
     Failed,
 }
 
-/// The status and the snapshot with which a visit is marked.
-pub fn mark_of(how: &How) -> (Status, Option<[u8; 20]>)
-    ensures status { result.0 ≡ status_of how.now }
-    ensures snapshot { result.1 ≡ snapshot_of how.now }
-    ensures fits { StatusAllows (status_of how.now) (snapshot_of how.now) }
-{
-    match how {
-        How::Ongoing => (Status::Ongoing, None),
-        How::Full { snapshot, .. } => (Status::Full, Some(*snapshot)),
-        How::Partial { snapshot } => (Status::Partial, *snapshot),
-        How::NotFound => (Status::NotFound, None),
-        How::Failed => (Status::Failed, None),
+impl How {
+    ghost use Rattle.std.specs.Prelude.{◌≡◌};
+    ghost use Rattle.swh_model.specs.Judge.{StatusAllows};
+    ghost use Rattle.swh_plan.specs.Plan.{status_of, snapshot_of};
+
+    /// The status and the snapshot with which a visit is marked.
+    pub fn mark(&self) -> (Status, Option<[u8; 20]>)
+        ensures status { result.0 ≡ status_of self.now }
+        ensures snapshot { result.1 ≡ snapshot_of self.now }
+        ensures fits { StatusAllows (status_of self.now) (snapshot_of self.now) }
+    {
+        match self {
+            How::Ongoing => (Status::Ongoing, None),
+            How::Full { snapshot, .. } => (Status::Full, Some(*snapshot)),
+            How::Partial { snapshot } => (Status::Partial, *snapshot),
+            How::NotFound => (Status::NotFound, None),
+            How::Failed => (Status::Failed, None),
+        }
     }
 }

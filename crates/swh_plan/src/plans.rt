@@ -19,7 +19,7 @@ ghost use Rattle.swh_plan.specs.Planned.{
 
 use crate::entries::entries_of;
 use crate::fresh::{Split, find_collision, split_fresh};
-use crate::how::{How, mark_of};
+use crate::how::How;
 use crate::lengths::limit_of_files;
 use crate::planning::{PlanFault, Planned};
 use crate::proposal::Plan;
@@ -187,7 +187,7 @@ fn plan_mark(
     ensures err { (h : List Event) → IsReplayOf replayed.now h
         → IfErr result (IsRefusedPlan h by (Mark origin visit (status_of how) (snapshot_of how))) }
 {
-    let (status, snapshot) = mark_of(&how);
+    let (status, snapshot) = how.mark();
     let refusal = mark_visit_refusal(&replayed.visits, &origin, by, visit);
     origin_is_codable(&origin);
     snapshot_is_codable(&snapshot);

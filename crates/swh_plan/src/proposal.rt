@@ -14,5 +14,9 @@ pub enum Plan<N: Namer> {
         date: u64,
     },
     /// A status for the visit of a number, which its origin has.
-    Mark { origin: Url, visit: u64, how: How },
+    Mark {
+        origin: Url,
+        visit: u64,
+        how: How,
+    },
 }

@@ -46,14 +46,18 @@ fn walk_refusal(alloc: Global, store: &Store, name: Name) -> Result<Option<No>, 
     let nothing = Closed::new(alloc);
     match walk(alloc, store, name, &nothing) {
         Ok(_) => Ok(None),
-        Err(WalkFault::Missing {
-            parent: Some(parent),
-            child,
-        }) => Ok(Some(No::NotClosed { parent, child })),
-        Err(WalkFault::Missing {
-            parent: None,
-            child,
-        }) => Ok(Some(No::NoSnapshot { name: child })),
+        Err(
+            WalkFault::Missing {
+                parent: Some(parent),
+                child,
+            },
+        ) => Ok(Some(No::NotClosed { parent, child })),
+        Err(
+            WalkFault::Missing {
+                parent: None,
+                child,
+            },
+        ) => Ok(Some(No::NoSnapshot { name: child })),
         Err(WalkFault::Memory) => Err(Memory),
     }
 }

@@ -31,9 +31,10 @@ pub struct Held {
 
 /// Opens an archive again.
 pub fn open_again(alloc: Global, store: MemoryDisk, ledger: MemoryDisk) -> Result<Held, Fail> {
+    let first = Url::new(alloc, "https://e.org/p")?;
     let keeper = kept(Keeper::open(alloc, Sha1Namer, store, ledger))?;
     let events = keeper.history().len();
-    let visits = match keeper.visits(b"https://e.org/p") {
+    let visits = match keeper.visits(&first) {
         Some(visits) => visits.len(),
         None => 0,
     };

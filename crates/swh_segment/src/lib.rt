@@ -18,7 +18,7 @@ mod writing;
 
 pub use beginning::read_beginning;
 pub use both::{Both, BothBack, append_to_both, make_both};
-pub use event::{Run, append_event};
+pub use event::Run;
 pub use fault::{HandBack, MakeFault};
 pub use laws::{event_is_added, event_survives_crashes, made_is_empty, making_survives_crashes};
 pub use ledger::{Ledger, Ready};

@@ -6,7 +6,7 @@ use std::alloc::Global;
 use std::test::Fail;
 use swh_memory::{MemoryDisk, Room};
 use swh_outside::Failed;
-use swh_segment::{MakeFault, Run, append_event, make, read_file};
+use swh_segment::{Ledger, MakeFault, Run, Runs, append_to_both, make, read_file};
 
 const ROOM: Room = Room {
     bytes: 64,
@@ -56,10 +56,13 @@ fn an_archive_is_made_once(rt: HostRuntime) -> Result<(), Fail> {
 #[test]
 fn an_event_makes_six_calls(rt: HostRuntime) -> Result<(), Fail> {
     let alloc = rt.alloc();
-    let mut store = disk(alloc, b"")?;
-    let mut ledger = disk(alloc, b"SWHARC1\n\0")?;
-    let run = Run::Batch(&[7, 8]);
-    assert!(rt; append_event(&mut store, 0, run, &mut ledger, 8, &RECORD).is_ok());
+    let store = disk(alloc, b"")?;
+    let ledger = disk(alloc, b"SWHARC1\n\0")?;
+    let mut runs = Runs::at(store, 0);
+    let mut records = Ledger::at(ledger, 8);
+    let added = append_to_both(&mut runs, Run::Batch(&[7, 8]), &mut records, &RECORD);
+    let (store, ledger) = (runs.close(), records.close());
+    assert!(rt; added.is_ok());
     assert_eq!(rt; store.bytes(), [7, 8].as_slice());
     assert_eq!(rt; ledger.bytes(), b"SWHARC1\n\x01O\0\0\0\0\0".as_slice());
     assert_eq!(rt; changes(&store), 2);
@@ -67,28 +70,35 @@ fn an_event_makes_six_calls(rt: HostRuntime) -> Result<(), Fail> {
     Ok(())
 }
 
+// How many writes and barriers an event of this run makes on the store and on the ledger.
+fn changes_of(alloc: Global, run: Run<'_>) -> Result<(usize, usize), Fail> {
+    let store = disk(alloc, b"")?;
+    let ledger = disk(alloc, b"SWHARC1\n\0")?;
+    let mut runs = Runs::at(store, 0);
+    let mut records = Ledger::at(ledger, 8);
+    let _added = append_to_both(&mut runs, run, &mut records, &RECORD);
+    let (store, ledger) = (runs.close(), records.close());
+    Ok((changes(&store), changes(&ledger)))
+}
+
 #[test]
 fn an_empty_run_makes_five_and_none_four(rt: HostRuntime) -> Result<(), Fail> {
     let alloc = rt.alloc();
-    let mut store = disk(alloc, b"")?;
-    let mut ledger = disk(alloc, b"SWHARC1\n\0")?;
-    assert!(rt; append_event(&mut store, 0, Run::Batch(&[]), &mut ledger, 8, &RECORD).is_ok());
-    assert_eq!(rt; changes(&store), 1);
-    assert_eq!(rt; changes(&ledger), 4);
-    let mut other = disk(alloc, b"SWHARC1\n\0")?;
-    assert!(rt; append_event(&mut store, 0, Run::None, &mut other, 8, &RECORD).is_ok());
-    assert_eq!(rt; changes(&store), 1);
-    assert_eq!(rt; changes(&other), 4);
+    assert_eq!(rt; changes_of(alloc, Run::Batch(&[]))?, (1, 4));
+    assert_eq!(rt; changes_of(alloc, Run::None)?, (0, 4));
     Ok(())
 }
 
 #[test]
 fn a_gate_that_fails_stays_closed(rt: HostRuntime) -> Result<(), Fail> {
     let alloc = rt.alloc();
-    let mut store = disk(alloc, b"")?;
+    let store = disk(alloc, b"")?;
     let failing = [2].to_vec(alloc)?;
-    let mut ledger = MemoryDisk::new(alloc, b"SWHARC1\n\0", ROOM, failing)?;
-    let added = append_event(&mut store, 0, Run::None, &mut ledger, 8, &RECORD);
+    let ledger = MemoryDisk::new(alloc, b"SWHARC1\n\0", ROOM, failing)?;
+    let mut runs = Runs::at(store, 0);
+    let mut records = Ledger::at(ledger, 8);
+    let added = append_to_both(&mut runs, Run::None, &mut records, &RECORD);
+    let (_store, ledger) = (runs.close(), records.close());
     assert_eq!(rt; added, Err(Failed));
     assert_eq!(rt; ledger.bytes(), b"SWHARC1\n\0O\0\0\0\0\0".as_slice());
     assert!(rt; ledger.is_image(b"SWHARC1\n\0O\0\0\0\0\0"));

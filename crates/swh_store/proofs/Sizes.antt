@@ -1,5 +1,5 @@
 -- How many names a map of entries has.
-use Rattle.std.proofs.Common.{◌≡◌, ℕ, ◌+◌, cond, Bool, Option, Some, None, List, [], ◌∷◌, map, length, refl, sym, ap, ◌∙◌, All, arith}
+use Rattle.std.proofs.Common.{◌≡◌, ℕ, ◌+◌, cond, Bool, Some, None, List, [], ◌∷◌, map, length, refl, sym, ap, ◌∙◌, All, arith}
 use Rattle.std.specs.Prelude.{is_some}
 use Rattle.std.specs.List.{AllByRecursion}
 use Rattle.std.specs.List.Sorted.{IsStrictlySortedBy}

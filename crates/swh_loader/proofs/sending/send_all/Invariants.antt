@@ -11,7 +11,7 @@ invariant-objects g l = record {
   leaves : Leaves g.N.Namer.id_of (disks g.D.Disk.tells g.D.Disk.file g.D.Disk.faults) {T = Unit {0}} (IsBatchAmong l.by l.fn.objects.items) l.fn.keeper l.keeper (Ok tt);
   visits : SameVisits l.fn.keeper l.keeper;
   waiting : IsPendingBatch g.N.Namer.id_of (held_bodies l.keeper) l.pending;
-  among : AreAmong l.fn.objects.items l.pending.entries.items;
+  among : AreAmong l.fn.objects.items l.pending.objects.items;
   took : Took (to_be l.keeper l.pending) l.fn.objects.items l.left.items;
 }
 

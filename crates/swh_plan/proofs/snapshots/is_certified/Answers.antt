@@ -1,5 +1,4 @@
-use Rattle.std.proofs.Common.{rules, ◌≡◌, sym, subst}
-use Rattle.swh_base.specs.declared.name.Name.{Name}
+use Rattle.std.proofs.Common.{rules, ◌≡◌, subst}
 use Rattle.swh_model.specs.Archive.{IsClosed}
 use Rattle.swh_store.specs.Stored.{children_in}
 use Rattle.swh_plan.proofs.SnapshotLemmas.{closed_from_nothing}

@@ -1,9 +1,9 @@
 use Rattle.std.proofs.Common.{subst}
 use Rattle.swh_keeper.specs.Kept.{Kept, IsKept}
-use Rattle.swh_keeper.proofs.KeptLemmas.{kept_from}
+use Rattle.swh_keeper.proofs.KeptLemmas.{kept_by_owners}
 use Rattle.swh_keeper.proofs.keeper.Keeper.history.Goals as goal
 
 pub returns-clause-kept : goal.returns-clause-kept
 returns-clause-kept g c =
     subst (λ (k : Kept g.row.D.Denot). IsKept g.N.Namer.id_of g.D.Disk.tells g.D.Disk.file k) c.self.view_is
-    (kept_from g.N.Namer.id_of g.D.Disk.tells g.D.Disk.file c.self.inside.store c.self.inside.ledger c.self.inside.replayed c.self.inside.history.items c.self.inside.wounded c.self.invariant)
+    (kept_by_owners g.N.Namer.id_of g.D.Disk.tells g.D.Disk.file c.self.inside.store c.self.inside.ledger c.self.inside.replayed c.self.inside.history.items c.self.inside.wounded c.self.invariant)

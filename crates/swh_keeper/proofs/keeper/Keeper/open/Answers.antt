@@ -1,22 +1,42 @@
-use Rattle.std.proofs.Common.{subst, sym, List, ℕ}
-use Rattle.swh_format.specs.Stands.{StandsFor}
-use Rattle.swh_keeper.proofs.OpenLemmas.{keeping_opened}
-use Rattle.swh_keeper.proofs.ReadLemmas.{ledger_seen, store_seen, ledger_rests, store_rests, the_one}
+use Rattle.std.proofs.Common.{◌≡◌, refl, sym, subst}
+use Rattle.swh_outside.specs.Files.{files_of, files_done}
+use Rattle.swh_segment.specs.Making.{barriers}
+use Rattle.swh_keeper.proofs.KeptLemmas.{ledger_place, store_place}
+use Rattle.swh_keeper.proofs.OpenedLemmas.{opened_keeping, owners_keep}
+use Rattle.swh_keeper.proofs.ReadLemmas.{the_one}
 use Rattle.swh_keeper.proofs.keeper.Keeper.open.Goals as goal
+
+pub at-requires-after_bounds : goal.at-requires-after_bounds
+at-requires-after_bounds g c κs within told =
+    let done = c.in-Ok.ensures in
+    let opened = c.in-Ok.opened in
+    let keeping = opened_keeping g.N.Namer.id_of g.D.Disk.tells (g.D.Disk.file c.args.ledger) (g.D.Disk.file c.args.store) (g.D.Disk.file c.open_archive.new.ledger) (g.D.Disk.file c.open_archive.new.store) opened.replayed opened.history.items
+    done.whole.history done.whole.in_files done.whole.replay done.calls done.stand in
+    store_place (g.D.Disk.file c.open_archive.new.ledger) (g.D.Disk.file c.open_archive.new.store) opened.history.items opened.replayed.store_end opened.replayed.ledger_end (keeping.settled refl told)
+
+pub at-requires-in-Ok-after_bounds : goal.at-requires-in-Ok-after_bounds
+at-requires-in-Ok-after_bounds g c κs within told =
+    let done = c.in-Ok.ensures in
+    let opened = c.in-Ok.opened in
+    let keeping = opened_keeping g.N.Namer.id_of g.D.Disk.tells (g.D.Disk.file c.args.ledger) (g.D.Disk.file c.args.store) (g.D.Disk.file c.open_archive.new.ledger) (g.D.Disk.file c.open_archive.new.store) opened.replayed opened.history.items
+    done.whole.history done.whole.in_files done.whole.replay done.calls done.stand in
+    ledger_place (g.D.Disk.file c.open_archive.new.ledger) (g.D.Disk.file c.open_archive.new.store) opened.history.items opened.replayed.store_end opened.replayed.ledger_end (keeping.settled refl told)
 
 pub invariant_of-result : goal.invariant_of-result
 invariant_of-result g c =
     let done = c.in-Ok.ensures in
     let opened = c.in-Ok.opened in
-    keeping_opened g.N.Namer.id_of g.D.Disk.tells (g.D.Disk.file c.open_archive.new.ledger) (g.D.Disk.file c.open_archive.new.store) opened.replayed opened.history.items done.whole.history done.whole.in_files done.whole.replay
-    (λ told. ledger_rests (g.D.Disk.file c.args.ledger) (g.D.Disk.file c.args.store) _ (g.D.Disk.file c.open_archive.new.store) (done.calls told))
-    (λ told. store_rests (g.D.Disk.file c.args.ledger) (g.D.Disk.file c.args.store) (g.D.Disk.file c.open_archive.new.ledger) _ (done.calls told))
-    (λ told.
-    let ledger = ledger_seen (g.D.Disk.file c.args.ledger) (g.D.Disk.file c.args.store) _ (g.D.Disk.file c.open_archive.new.store) (done.calls told) in
-    let store = store_seen (g.D.Disk.file c.args.ledger) (g.D.Disk.file c.args.store) (g.D.Disk.file c.open_archive.new.ledger) _ (done.calls told) in
-    subst (λ (l : List ℕ). StandsFor l (g.D.Disk.file c.open_archive.new.store).seen opened.history.items) (sym ledger)
-    (subst (λ (l : List ℕ). StandsFor (g.D.Disk.file c.args.ledger).seen l opened.history.items) (sym store) (done.stand told)))
+    owners_keep g.N.Namer.id_of g.D.Disk.tells g.D.Disk.file c.at-in-Ok.result c.at.result c.open_archive.new.ledger c.open_archive.new.store opened.replayed opened.history.items
+    c.at-in-Ok.ensures.disk c.at.ensures.disk c.at-in-Ok.ensures.end c.at.ensures.end
+    (opened_keeping g.N.Namer.id_of g.D.Disk.tells (g.D.Disk.file c.args.ledger) (g.D.Disk.file c.args.store) (g.D.Disk.file c.open_archive.new.ledger) (g.D.Disk.file c.open_archive.new.store) opened.replayed opened.history.items
+    done.whole.history done.whole.in_files done.whole.replay done.calls done.stand)
 
 pub returns-in-Ok-clause-history : goal.returns-in-Ok-clause-history
 returns-in-Ok-clause-history g c told h stands is =
     the_one g.N.Namer.id_of _ _ c.in-Ok.opened.history.items h (c.in-Ok.ensures.stand told) c.in-Ok.ensures.whole.history stands is
+
+pub returns-in-Ok-clause-calls : goal.returns-in-Ok-clause-calls
+returns-in-Ok-clause-calls g c told =
+    let done = files_done barriers (files_of (g.D.Disk.file c.args.ledger) (g.D.Disk.file c.args.store)) in
+    subst (λ (d : g.row.D.Denot). files_of (g.D.Disk.file c.at-in-Ok.result.disk) (g.D.Disk.file d) ≡ done) (sym c.at.ensures.disk)
+    (subst (λ (d : g.row.D.Denot). files_of (g.D.Disk.file d) (g.D.Disk.file c.open_archive.new.store) ≡ done) (sym c.at-in-Ok.ensures.disk) (c.in-Ok.ensures.calls told))
