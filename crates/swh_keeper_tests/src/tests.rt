@@ -2,7 +2,7 @@ use std::alloc::Global;
 use std::test::Fail;
 use swh_base::{ByteNamer, Url, VisitKind};
 use swh_fixtures::{Archive, ArchiveFault, URL, disk, kept, made_archive};
-use swh_keeper::{Keeper, OpenFault, OpenWhy, Outcome, Plan};
+use swh_keeper::{Harm, Keeper, OpenFault, OpenWhy, Outcome, Plan};
 
 // The ledger of one opening.
 const LEDGER: [u8; 43] =
@@ -104,7 +104,15 @@ fn files_of_no_archive_are_refused(rt: HostRuntime) -> Result<(), Fail> {
         store: _store,
         ledger: _ledger,
     } = fault;
-    assert_eq!(rt; why, OpenWhy::Damaged);
+    let harm = Harm::Magic { found: b'X' };
+    assert_eq!(rt;
+        why,
+        OpenWhy::Damaged {
+            file: 0,
+            at: 1,
+            harm
+        }
+    );
     Ok(())
 }
 
