@@ -23,7 +23,7 @@ ghost use Rattle.swh_keeper.specs.declared.opening.OpenWhy.TheVariants.{
 };
 
 use crate::replaying::{harm_behind, replay_records};
-use std::alloc::Global;
+use std::alloc::{AllocError, Global};
 use swh_base::{Memory, Namer};
 use swh_model::Event;
 use swh_outside::{Disk, Failed};
@@ -74,6 +74,14 @@ impl From<Failed> for OpenWhy {
 
     fn from(_: Failed) -> OpenWhy {
         OpenWhy::DiskFault
+    }
+}
+
+impl From<AllocError> for OpenWhy {
+    ghost from_gives = { λ _ why. why ≡ OutOfMemory };
+
+    fn from(_: AllocError) -> OpenWhy {
+        OpenWhy::Memory
     }
 }
 
