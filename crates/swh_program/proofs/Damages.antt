@@ -29,7 +29,7 @@ module _ (id_of : Kind → List ℕ → List ℕ) (old : Files) (file at : ℕ) 
   told_line : (text : List ℕ) → TellsHarm id_of old text → text ≡ damaged_line file at
   told_line text t =
       let one = one_damage id_of (old 0).seen (old 1).seen t.file t.at file at t.harmed.0 harmed.0 t.harmed.1 harmed.1 in
-      t.text_is ∙ ap₂ damaged_line one.0 one.1.0
+      t.text_is ∙ ap₂ damaged_line one.0 one.1
 
   module _ (new : Files) where
     pub refusal_harm : (answer : Answer) → OpenEnds id_of old new answer → IsLineOfHarm answer
