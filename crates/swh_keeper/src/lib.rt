@@ -13,6 +13,7 @@ mod stored;
 mod writing;
 
 pub use fault::Refusal;
+pub use finding::head_length;
 pub use keeper::{Keeper, keeper_is_sent};
 pub use opening::{OpenFault, OpenWhy};
 pub use own::{
