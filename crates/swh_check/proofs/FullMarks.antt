@@ -1,5 +1,5 @@
 -- Which snapshots are full, event by event, and that they are closed.
-use Rattle.std.proofs.Common.{◌≡◌, ◌⊎◌, inl, inr, ℕ, zero, suc, ◌+◌, ◌-◌, ◌<◌, Option, Some, None, List, [], ◌∷◌, ◌++◌, length, take, get_or, unwrap_or, refl, sym, ap, ◌∙◌, subst, arith}
+use Rattle.std.proofs.Common.{◌≡◌, ◌⊎◌, inl, inr, ℕ, zero, suc, ◌+◌, ◌-◌, ◌<◌, Option, Some, List, [], ◌∷◌, ◌++◌, length, take, get_or, unwrap_or, refl, sym, ap, subst, arith}
 use Rattle.std.specs.Prelude.{◌↔◌, Contains}
 use Rattle.std.specs.FinMap.{insert, empty, get-empty}
 use Rattle.std.specs.declared.cmp.Ordering.{Ordering}
@@ -15,9 +15,9 @@ use Rattle.swh_model.specs.declared.event.Visit.{Visit}
 use Rattle.swh_model.specs.declared.event.Event.{Event}
 use Rattle.swh_model.specs.declared.event.EventKind.{EventKind}
 use Rattle.swh_model.specs.declared.event.EventKind.TheVariants.{Batch, Open, Mark}
-use Rattle.swh_model.specs.Archive.{Archive, Bodies, Origins, visits_of, IsClosed}
-use Rattle.swh_model.specs.Step.{FitsStatus, May, May_kind, MayAll, first_of, marked_at, after, after_kind, after_all}
-use Rattle.swh_model.proofs.Growing.{bodies_stay, bodies_grow}
+use Rattle.swh_model.specs.Archive.{Archive, Origins, visits_of, IsClosed}
+use Rattle.swh_model.specs.Step.{FitsStatus, May_kind, MayAll, first_of, marked_at, after, after_kind, after_all}
+use Rattle.swh_model.proofs.Growing.{bodies_grow}
 use Rattle.swh_model.proofs.Maps.{visits-put, visits_cases}
 use Rattle.swh_model.proofs.PlainLists.{take-more}
 use Rattle.swh_model.proofs.Walks.{closed-within}

@@ -1,9 +1,8 @@
 -- What a report counts of an archive, and of the history that made it.
-use Rattle.std.specs.Prelude.{◌≡◌, ◌⊎◌, ◌↔◌, ℕ, ◌+◌, Option, Some, List, [], ◌∷◌, Contains, length}
+use Rattle.std.specs.Prelude.{◌≡◌, ◌⊎◌, ◌↔◌, ℕ, ◌+◌, Some, List, [], ◌∷◌, Contains, length}
 use Rattle.std.specs.List.Sorted.{IsStrictlySortedBy}
 use Rattle.std.specs.FinMap as finite
 use Rattle.swh_base.specs.declared.name.Name.{Name}
-use Rattle.swh_base.specs.declared.visit.Status.{Status}
 use Rattle.swh_base.specs.declared.visit.Status.TheVariants.{Full}
 use Rattle.swh_base.specs.Name.{name_cmp}
 use Rattle.swh_base.specs.Snapshot.{snapshot_name}

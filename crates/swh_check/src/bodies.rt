@@ -1,5 +1,5 @@
 //! The bodies of a run that was read again, against the ids of its objects.
-ghost use Rattle.std.specs.Prelude.{◌≡◌, ◌+◌, length, IfErr, OnOk, OnErr};
+ghost use Rattle.std.specs.Prelude.{◌≡◌, length, IfErr, OnOk, OnErr};
 ghost use Rattle.std.specs.List.{AllByRecursion};
 ghost use Rattle.swh_model.specs.Archive.{Bodies};
 ghost use Rattle.swh_model.specs.Limits.{run_length, stored_length};
@@ -9,15 +9,8 @@ ghost use Rattle.swh_check.specs.Bodies.{HaveTheirIds, HasItsIds, IsHeldNamed, I
 
 use crate::fault::CheckFault;
 use swh_base::{Entry, Namer};
+use swh_keeper::head_length;
 use swh_model::EventKind;
-
-/// How many bytes stand before the body of an object: its kind in one, its length in eight, and its id.
-fn head_length(id: [u8; 20]) -> usize
-    ensures value { result ≡ 9 + length id }
-    ensures small { result ≡ 29 }
-{
-    9 + id.len()
-}
 
 /// Compares the id of bytes that stand for an object's body with that of its name.
 fn check_body<N: Namer>(namer: &N, entry: &Entry, body: &[u8]) -> Result<(), CheckFault>

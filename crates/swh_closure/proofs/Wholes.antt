@@ -1,5 +1,5 @@
 -- Names with all that is reached from them: each is closed, and a walk makes more of them.
-use Rattle.std.proofs.Common.{◌≡◌, ◌⊎◌, inl, inr, List, [], ◌∷◌, subst}
+use Rattle.std.proofs.Common.{◌⊎◌, inl, inr, List, [], ◌∷◌, subst}
 use Rattle.std.specs.Prelude.{Contains}
 use Rattle.swh_base.specs.Reach.{Reaches, IsWalk, AreClosed, IsCovered, Certifies, Grows}
 use Rattle.swh_closure.specs.Whole.{IsWhole}

@@ -19,12 +19,12 @@ fn is_same(a: &Name, b: &Name) -> bool
     a == b
 }
 
-/// How many bytes stand before the body of an object: its kind in one, its length in eight, and its id.
-fn head_length(id: [u8; 20]) -> u64
+/// How many bytes stand in the store before the body of an object: its kind in one, its length in eight, and its id.
+pub fn head_length(id: [u8; 20]) -> usize
     ensures value { result ≡ 9 + length id }
     ensures small { result ≡ 29 }
 {
-    9 + id.len() as u64
+    9 + id.len()
 }
 
 /// The place of the body of a name in a run that begins at a place.
@@ -35,7 +35,7 @@ fn place_in(entries: &[Entry], name: &Name, from: u64) -> Option<Place>
 {
     let mut at = from;
     for entry in entries {
-        let body = at + head_length(entry.name.id);
+        let body = at + head_length(entry.name.id) as u64;
         let size = entry.body.as_slice().len();
         if is_same(&entry.name, name) {
             return Some(Place { at: body, size });

@@ -1,8 +1,8 @@
 //! The keeper: judges plans, and adds their events to the two files.
 use crate::adding::{AddFault, add_event};
 use crate::fault::{Refusal, refusal_for};
-use crate::opening::{OpenFault, OpenWhy, Opened, open_archive, why_not_made};
 use crate::finding::place_of;
+use crate::opening::{OpenFault, OpenWhy, Opened, open_archive, why_not_made};
 use crate::stored::{StoredFault, read_bytes};
 use std::alloc::Global;
 use std::marker::Model;

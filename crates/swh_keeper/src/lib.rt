@@ -16,6 +16,7 @@ mod writing;
 
 pub use damage::{damaged_files_have_no_history, one_damage};
 pub use fault::Refusal;
+pub use finding::head_length;
 pub use keeper::{Keeper, keeper_is_sent};
 pub use opening::{OpenFault, OpenWhy};
 pub use own::{

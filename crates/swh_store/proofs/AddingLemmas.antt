@@ -1,19 +1,18 @@
 -- What is new of a batch, as far as a loop has come, and which names would have two bodies.
-use Rattle.std.proofs.Common.{◌≡◌, ◌⊎◌, inl, inr, ℕ, zero, suc, ◌+◌, ◌<◌, ◌≤◌, drop, Bool, true, false, cond, Option, Some, None, List, [], ◌∷◌, ◌++◌, length, take, get_or, refl, sym, ap, ◌∙◌, subst, arith}
+use Rattle.std.proofs.Common.{◌≡◌, inl, inr, ℕ, ◌+◌, ◌<◌, ◌≤◌, drop, true, false, cond, Option, Some, None, List, [], ◌∷◌, length, take, get_or, refl, sym, ap, ◌∙◌, subst, arith}
 use Rattle.std.specs.Prelude.{Contains, is_some}
-use Rattle.std.specs.List.{AllByRecursion}
 use Rattle.std.specs.FinMap as finite
-use Rattle.std.proofs.lemmas.List.{take_more, take_all, take-append-drop}
-use Rattle.std.proofs.lemmas.List.Elements.{Contains-append_left, Contains-append_right, Contains-append_cases, Contains-push_cases}
+use Rattle.std.proofs.lemmas.List.{take_all, take-append-drop}
+use Rattle.std.proofs.lemmas.List.Elements.{Contains-append_left, Contains-push_cases}
 use Rattle.swh_base.specs.declared.name.Name.{Name}
 use Rattle.swh_base.specs.declared.entry.Entry.{Entry}
 use Rattle.swh_model.specs.Archive.{Bodies, body_of}
 use Rattle.swh_model.specs.Step.{added, AreNew}
-use Rattle.swh_model.specs.Judge.{not_held, HasBodyOrAdds, Collides}
-use Rattle.swh_model.proofs.Maps.{within-added, within-put, body-put, body_cases}
+use Rattle.swh_model.specs.Judge.{not_held, Collides}
+use Rattle.swh_model.proofs.Maps.{within-put, body-put}
 use Rattle.swh_model.proofs.Entries.{added-append}
-use Rattle.swh_model.proofs.Batches.{fresh-append, fresh-kept, fresh-passed, from_entry, fresh-inside, no_collision}
-use Rattle.swh_model.proofs.PlainLists.{take-more, all-at}
+use Rattle.swh_model.proofs.Batches.{fresh-kept, fresh-passed, from_entry, fresh-inside, no_collision}
+use Rattle.swh_model.proofs.PlainLists.{take-more}
 use Rattle.swh_model.proofs.Verdicts.{fresh-new}
 use Rattle.swh_store.specs.declared.fault.StoreFault.{StoreFault}
 use Rattle.swh_store.specs.declared.fault.StoreFault.TheVariants.{Collision, Memory}

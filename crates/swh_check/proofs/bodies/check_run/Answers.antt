@@ -1,4 +1,4 @@
-use Rattle.std.proofs.Common.{◌≡◌, ℕ, ◌+◌, List, ◌∷◌, length, take, drop, sym, ap, ◌∙◌, subst, arith, length-drop}
+use Rattle.std.proofs.Common.{◌≡◌, ℕ, ◌+◌, List, length, take, drop, sym, ap, ◌∙◌, subst, arith, length-drop}
 use Rattle.swh_base.specs.declared.entry.Entry.{Entry}
 use Rattle.swh_model.specs.Limits.{object_length, run_length}
 use Rattle.swh_model.proofs.PlainLists.{all-at}

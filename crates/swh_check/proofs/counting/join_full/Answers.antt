@@ -1,4 +1,4 @@
-use Rattle.std.proofs.Common.{◌≡◌, true, inl, inr, Some, sym, subst}
+use Rattle.std.proofs.Common.{◌≡◌, inl, inr, Some, sym, subst}
 use Rattle.swh_base.specs.declared.name.Name.{Name}
 use Rattle.swh_base.specs.Reach.{ReachesIn, IsClosedIn}
 use Rattle.swh_base.specs.Snapshot.{snapshot_name}

@@ -1,7 +1,7 @@
-use Rattle.std.proofs.Common.{◌≡◌, ℕ, ◌+◌, List, take, drop, get_or, sym, ap, ◌∙◌, subst, arith}
+use Rattle.std.proofs.Common.{◌≡◌, ℕ, List, take, drop, get_or, sym, ap, ◌∙◌, subst, arith}
 use Rattle.swh_model.specs.declared.event.Event.{Event}
 use Rattle.swh_model.specs.Archive.{empty_archive}
-use Rattle.swh_model.specs.Limits.{stored_length, store_length}
+use Rattle.swh_model.specs.Limits.{stored_length}
 use Rattle.swh_model.specs.Step.{replay}
 use Rattle.swh_model.proofs.PlainLengths.{store-next}
 use Rattle.swh_format.specs.EventRecord.{packed_objects}

@@ -1,4 +1,4 @@
-use Rattle.std.proofs.Common.{List, ◌⊎◌, take}
+use Rattle.std.proofs.Common.{◌⊎◌, take}
 use Rattle.std.specs.Prelude.{Contains}
 use Rattle.swh_base.specs.declared.name.Name.{Name}
 use Rattle.swh_closure.proofs.closing.join.Given as goal

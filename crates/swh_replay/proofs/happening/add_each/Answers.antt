@@ -1,4 +1,4 @@
-use Rattle.std.proofs.Common.{rules, ◌≡◌, true, false, sym, subst}
+use Rattle.std.proofs.Common.{rules, ◌≡◌, true, false, subst}
 use Rattle.swh_base.specs.declared.entry.Entry.{Entry}
 use Rattle.swh_model.specs.Archive.{IsHeld}
 use Rattle.swh_store.specs.Stored.{IsInserted}

@@ -1,4 +1,3 @@
-use Rattle.std.proofs.Common.{List}
 use Rattle.std.specs.Prelude.{IsTrue, ◌↔◌}
 use Rattle.swh_base.specs.Reach.{IsHeldIn, IsChildIn, IsClosedIn}
 use Rattle.swh_closure.proofs.Wholes.{whole-grows}

@@ -6,7 +6,6 @@ use Rattle.swh_model.specs.Step.{IsHistory, after, replay}
 use Rattle.swh_model.specs.Happens.{IsNamedEvent, CanHappen}
 use Rattle.swh_model.proofs.PlainLists.{take-more, all-at}
 use Rattle.swh_model.proofs.PlainSteps.{can_may, may_can, may-push, after-push}
-use Rattle.swh_replay.specs.Happened.{archive_in}
 use Rattle.swh_replay.proofs.replaying.replay_all.Goals as goal
 
 pub returns-then-not-branch-clause-refused : goal.returns-then-not-branch-clause-refused
