@@ -1,5 +1,5 @@
 -- The first harm of two files is one, and with it they stand for no history.
-use Rattle.std.proofs.Common.{◌≡◌, ℕ, ◌+◌, ◌-◌, ◌<◌, ◌≤◌, List, [], ◌∷◌, ◌++◌, length, take, refl, sym, ap, ◌∙◌, subst, inl, inr, arith, length-append, append_assoc}
+use Rattle.std.proofs.Common.{◌≡◌, ℕ, ◌+◌, ◌-◌, ◌<◌, ◌≤◌, List, [], ◌∷◌, ◌++◌, length, take, sym, ap, ◌∙◌, subst, inl, inr, arith, length-append, append_assoc}
 use Rattle.std.proofs.lemmas.Bool.{cases_lt}
 use Rattle.std.proofs.lemmas.List.{append-nil}
 use Rattle.std.proofs.Math.Seq.{take-append_seam}
@@ -27,7 +27,7 @@ use Rattle.swh_recovery.specs.declared.record.Record.{Record}
 use Rattle.swh_recovery.specs.Fields.{found_at}
 use Rattle.swh_recovery.specs.Harms.{entries_of, Begin}
 use Rattle.swh_recovery.specs.Records.{events, AreWhole, IsHarm}
-use Rattle.swh_recovery.proofs.OneHarm.{history_good, no_magic_break, no_history, same_harm, from_magic, begins_from, front_of_standing, shorter_is_front, no_more_events, IsFront}
+use Rattle.swh_recovery.proofs.OneHarm.{history_good, no_magic_break, no_history, same_harm, from_magic, begins_from, front_of_standing, shorter_is_front, no_more_events}
 use Rattle.swh_replay.specs.Replay.{IsFirstRefused}
 use Rattle.swh_keeper.specs.declared.opening.OpenWhy.{OpenWhy}
 use Rattle.swh_keeper.specs.declared.opening.OpenWhy.TheVariants.{Made, NotMade, Damaged, DiskFault, Memory}

@@ -6,21 +6,20 @@ use Rattle.swh_base.specs.declared.visit.VisitKind.{VisitKind}
 use Rattle.swh_base.specs.declared.visit.VisitKind.TheVariants.{Fast, Dir, Batch as BatchVisit}
 use Rattle.swh_base.specs.declared.visit.Status.{Status}
 use Rattle.swh_base.specs.declared.visit.Status.TheVariants.{Created, Ongoing, Full, Partial, NotFound, Failed}
-use Rattle.swh_model.specs.declared.event.Event.{Event}
 use Rattle.swh_model.specs.declared.event.EventKind.{EventKind}
 use Rattle.swh_model.specs.declared.event.EventKind.TheVariants.{Batch, Open, Mark}
 use Rattle.swh_format.specs.StoredObject.{coded_run}
 use Rattle.swh_format.specs.OpenRecord.{visit_kind_number}
 use Rattle.swh_format.specs.MarkRecord.{status_number, coded_snapshot, IsMarkStatus, IsSnapshotId}
-use Rattle.swh_format.specs.EventRecord.{event_byte, event_payload, payload_of, coded_record, IsCodableKind, IsCodable}
-use Rattle.swh_format.proofs.Unique.{cut, cut_four, four_bytes, eight_bytes, same_head, same_tail, same_frame, framed_then, payload-short}
+use Rattle.swh_format.specs.EventRecord.{event_byte, event_payload, IsCodableKind}
+use Rattle.swh_format.proofs.Unique.{cut, four_bytes, eight_bytes, same_head, same_tail}
 use Rattle.swh_recovery.specs.declared.field.Choice.{Choice}
 use Rattle.swh_recovery.specs.declared.field.Choice.TheVariants as choice
 use Rattle.swh_recovery.specs.declared.field.Field.{Field}
 use Rattle.swh_recovery.specs.declared.field.Field.TheVariants as field
 use Rattle.swh_recovery.specs.declared.harm.Found.{Found}
 use Rattle.swh_recovery.specs.Fields.{choices, IsAmong, IsField, IsCut, IsOther, FieldBreaks, FieldsHold, FieldsBreak}
-use Rattle.swh_recovery.specs.LedgerHarm.{frame_fields, payload_fields, RecordBreaks}
+use Rattle.swh_recovery.specs.LedgerHarm.{payload_fields}
 
 pub field_size : (f : Field) (a b x y : List ℕ) → IsField f a → IsField f b → a ++ x ≡ b ++ y → length a ≡ length b
 field_size (field.Bytes n) a b x y ha hb e = ha ∙ sym hb

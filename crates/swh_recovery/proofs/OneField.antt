@@ -1,7 +1,6 @@
 -- The fields at the front of bytes break in one way at most, and so does a record by its own bytes.
-use Rattle.std.proofs.Common.{◌≡◌, ℕ, ◌+◌, ◌<◌, ◌^◌, List, [], ◌∷◌, ◌++◌, length, refl, sym, ap, ◌∙◌, subst, inl, inr, arith, length-append}
+use Rattle.std.proofs.Common.{◌≡◌, ℕ, ◌+◌, List, [], ◌∷◌, ◌++◌, length, refl, sym, ap, ◌∙◌, subst, inl, inr, arith, length-append}
 use Rattle.std.specs.Int.{w32, to_be_bytes}
-use Rattle.swh_format.specs.Record.{framed}
 use Rattle.swh_model.specs.declared.event.Event.{Event}
 use Rattle.swh_format.specs.EventRecord.{event_byte, payload_of, coded_record, IsCodable}
 use Rattle.swh_format.proofs.Unique.{cut, cut_four, four_bytes, same_head, same_tail, same_frame, framed_then, payload-short}
@@ -11,7 +10,7 @@ use Rattle.swh_recovery.specs.declared.field.Field.{Field}
 use Rattle.swh_recovery.specs.declared.field.Field.TheVariants as field
 use Rattle.swh_recovery.specs.declared.harm.Harm.TheVariants.{Kind, Short}
 use Rattle.swh_recovery.specs.declared.harm.Found.{Found}
-use Rattle.swh_recovery.specs.Fields.{choices, found_at, IsField, IsCut, IsOther, IsIdCut, FieldBreaks, FieldsHold, FieldsBreak}
+use Rattle.swh_recovery.specs.Fields.{found_at, IsCut, IsOther, IsIdCut, FieldBreaks, FieldsHold, FieldsBreak}
 use Rattle.swh_recovery.specs.LedgerHarm.{frame_fields, payload_fields, BeginsFrame, BeginsRecord, RecordBreaks}
 use Rattle.swh_recovery.proofs.LadderLaws.{field_size, no_other, no_cut, no_break, not_both, byte_among, payload_holds}
 

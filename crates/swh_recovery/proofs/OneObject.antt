@@ -1,7 +1,6 @@
 -- An object breaks in one way at most, and so does a run.
-use Rattle.std.proofs.Common.{◌≡◌, ℕ, ◌+◌, ◌-◌, ◌<◌, ◌≤◌, List, [], ◌∷◌, ◌++◌, length, take, drop, max, refl, sym, ap, ◌∙◌, subst, inl, inr, arith, length-append, append_assoc}
+use Rattle.std.proofs.Common.{◌≡◌, ℕ, ◌+◌, ◌-◌, ◌<◌, ◌≤◌, List, [], ◌∷◌, ◌++◌, length, take, drop, refl, sym, ap, ◌∙◌, subst, inl, inr, arith, length-append, append_assoc}
 use Rattle.std.proofs.Math.Seq.{take-append-add}
-use Rattle.std.specs.List.{AllByRecursion}
 use Rattle.std.specs.Int.{w64, to_be_bytes}
 use Rattle.swh_base.specs.declared.kind.Kind.{Kind}
 use Rattle.swh_base.specs.declared.kind.Kind.TheVariants.{Content, Directory, Revision, Release, Snapshot}
@@ -17,13 +16,12 @@ use Rattle.swh_object.specs.Object.{IsObject, IsBadBody}
 use Rattle.swh_object.specs.declared.fault.ObjectFault.TheVariants.{BadBody}
 use Rattle.swh_object.proofs.Refused.{made_unless}
 use Rattle.swh_format.specs.StoredObject.{coded_entry, coded_run, IsCodableEntry}
-use Rattle.swh_format.proofs.Lengths.{object-length}
 use Rattle.swh_format.proofs.Unique.{cut, cut_eight, eight_bytes, same_head, same_tail, same_entry, entry_then, length_behind}
 use Rattle.swh_recovery.specs.declared.field.Choice.TheVariants as choice
 use Rattle.swh_recovery.specs.declared.harm.Harm.TheVariants.{Short, Body, Name}
 use Rattle.swh_recovery.specs.declared.harm.Found.{Found}
-use Rattle.swh_recovery.specs.Fields.{choices, found_at, IsAmong, FieldsHold, FieldsBreak}
-use Rattle.swh_recovery.specs.StoreHarm.{head_fields, BeginsHead, BeginsObject, IsRefusedBody, BodyIsCut, ObjectBreaks, AreObjects, BeginsRun, HoldsRun, RunBreaks}
+use Rattle.swh_recovery.specs.Fields.{choices, found_at, IsAmong, FieldsHold}
+use Rattle.swh_recovery.specs.StoreHarm.{head_fields, BeginsHead, BeginsObject, IsRefusedBody, BodyIsCut, ObjectBreaks, AreObjects, HoldsRun, RunBreaks}
 use Rattle.swh_recovery.proofs.LadderLaws.{not_both}
 use Rattle.swh_recovery.proofs.OneField.{one_fields}
 

@@ -1,5 +1,5 @@
 -- A run as far as it is read, and its first harm.
-use Rattle.std.proofs.Common.{◌≡◌, ℕ, ◌+◌, ◌-◌, ◌<◌, ◌≤◌, List, [], ◌∷◌, ◌++◌, length, take, drop, min, max, sym, ap, ◌∙◌, subst, inl, inr, arith, length-append, length-drop, append_assoc}
+use Rattle.std.proofs.Common.{◌≡◌, ℕ, ◌+◌, ◌-◌, ◌<◌, ◌≤◌, List, [], ◌∷◌, ◌++◌, length, take, drop, min, sym, ap, ◌∙◌, subst, inl, inr, arith, length-append, length-drop, append_assoc}
 use Rattle.std.proofs.lemmas.List.{take-append-drop, drop-drop, append-nil, take_all}
 use Rattle.std.proofs.Math.Nat.{eq-or-lt_of_le}
 use Rattle.std.proofs.Math.Seq.{drop-append_seam}
@@ -13,7 +13,7 @@ use Rattle.swh_format.proofs.Lengths.{object-length}
 use Rattle.swh_recovery.specs.declared.harm.Harm.TheVariants.{Short}
 use Rattle.swh_recovery.specs.declared.harm.Found.{Found}
 use Rattle.swh_recovery.specs.Fields.{found_at}
-use Rattle.swh_recovery.specs.StoreHarm.{ObjectBreaks, AreObjects, HoldsRun, RunBreaks}
+use Rattle.swh_recovery.specs.StoreHarm.{ObjectBreaks, AreObjects, RunBreaks}
 use Rattle.swh_recovery.specs.Reading.{window, BeginsWith}
 
 all_push : {X : Type 0} (P : X → Type 0) (xs : List X) (y : X) → AllByRecursion P xs → P y → AllByRecursion P (xs ++ y ∷ [])

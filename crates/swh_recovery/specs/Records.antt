@@ -16,7 +16,7 @@ use Rattle.swh_format.specs.Record.{magic, framed}
 use Rattle.swh_format.specs.LedgerReading.{IsGateClosed}
 use Rattle.swh_recovery.specs.declared.reading.Reached.{Reached}
 use Rattle.swh_format.specs.EventRecord.{event_byte, payload_of, packed_objects, coded_record, IsCodable, AreCodable}
-use Rattle.swh_format.specs.Stands.{coded_records, coded_runs, StandsFor}
+use Rattle.swh_format.specs.Stands.{coded_records, coded_runs}
 use Rattle.swh_recovery.specs.declared.harm.Harm.{Harm}
 use Rattle.swh_recovery.specs.declared.harm.Harm.TheVariants.{Refused}
 use Rattle.std.specs.Int.{w32, to_be_bytes}

@@ -1,16 +1,12 @@
 use Rattle.std.proofs.Common.{◌≡◌, ◌∙◌, refl, ap, subst, List, ℕ}
 use Rattle.std.proofs.lemmas.Result.{IfErr-weaker}
-use Rattle.swh_base.specs.declared.kind.Kind.{Kind}
 use Rattle.swh_outside.specs.Disk.{File}
-use Rattle.swh_outside.specs.Files.{files_of, files_done}
-use Rattle.swh_segment.specs.Making.{IsMade, IsNotMade, barriers}
+use Rattle.swh_outside.specs.Files.{files_of}
+use Rattle.swh_segment.specs.Making.{IsMade, IsNotMade}
 use Rattle.swh_format.specs.Stands.{StandsFor}
 use Rattle.swh_model.proofs.Results.{if_err_all, if_ok_then}
 use Rattle.swh_keeper.specs.Damage.{IfDamagedAt, IsDamagedAt}
-use Rattle.swh_keeper.specs.declared.opening.OpenWhy.{OpenWhy}
 use Rattle.swh_keeper.specs.declared.opening.OpenWhy.TheVariants.{NotMade}
-use Rattle.swh_keeper.specs.declared.opening.Opened.{Opened}
-use Rattle.swh_keeper.proofs.DamageLemmas.{damaged_map}
 use Rattle.swh_keeper.proofs.ReadLemmas.{left_settled, ledger_seen, store_seen, why_exits, on_any}
 use Rattle.swh_keeper.proofs.opening.open_archive.Goals as goal
 

@@ -3,7 +3,6 @@ use Rattle.std.specs.List.{AllByRecursion}
 use Rattle.swh_model.specs.declared.event.Event.{Event}
 use Rattle.swh_model.specs.Happens.{IsNamedEvent}
 use Rattle.swh_recovery.specs.Records.{events}
-use Rattle.swh_replay.specs.declared.replaying.ReplayFault.TheVariants.{Refused}
 use Rattle.swh_replay.specs.Replay.{IsReplayFault, IsFirstRefused}
 use Rattle.swh_keeper.specs.Damage.{IfDamagedAt, IsRefusedEvent}
 use Rattle.swh_keeper.proofs.DamageLemmas.{events_named, first_some, first_among, refused_at}

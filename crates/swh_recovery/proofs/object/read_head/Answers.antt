@@ -1,4 +1,4 @@
-use Rattle.std.proofs.Common.{rules, ◌≡◌, ℕ, List, length, min, sym, ap, ◌∙◌, subst, arith}
+use Rattle.std.proofs.Common.{rules, ◌≡◌, ℕ, ap, ◌∙◌, arith}
 use Rattle.swh_recovery.specs.StoreHarm.{head_fields}
 use Rattle.swh_recovery.specs.Fields.{FieldsBreak}
 use Rattle.swh_recovery.specs.Reading.{window, IsHeadOf}

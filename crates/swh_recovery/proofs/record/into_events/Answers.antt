@@ -1,4 +1,4 @@
-use Rattle.std.proofs.Common.{rules, ◌≡◌, List, [], ◌∷◌, ◌++◌, sym, ◌∙◌}
+use Rattle.std.proofs.Common.{rules, ◌≡◌, [], ◌∷◌, ◌++◌, sym, ◌∙◌}
 use Rattle.swh_recovery.proofs.SoFarLemmas.{events-push}
 use Rattle.swh_recovery.proofs.record.into_events.Goals as goal
 
