@@ -124,7 +124,10 @@ fn opened_after_a_fault_of_the_store(rt: HostRuntime) -> Result<(), Fail> {
         let store_calls = store.calls().len();
         let ledger_calls = ledger.calls().len();
         let disks = (store, ledger);
-        assert_eq!(rt; after_crash(alloc, &disks, store_calls, ledger_calls)?, (2, 2));
+        assert_eq!(rt;
+            after_crash(alloc, &disks, store_calls, ledger_calls)?,
+            (2, 2)
+        );
         let (store, ledger) = disks;
         assert_eq!(rt; events_of(alloc, store, ledger)?, 2);
     }
