@@ -41,30 +41,36 @@ fn nothing_is_written(rt: HostRuntime) -> Result<(), Fail> {
     Ok(())
 }
 
-// Says whether the archive whose ledger and store have another byte at these places, if any, is told as damaged so.
-fn is_damaged(
-    alloc: Global,
-    ledger_at: Option<usize>,
-    store_at: Option<usize>,
-    printed: &[u8],
-) -> Result<bool, AllocError> {
-    let ledger = changed(alloc, LEDGER, ledger_at)?;
-    let store = changed(alloc, STORE, store_at)?;
-    let setting = Setting {
-        ledger: Some(&ledger),
-        store: &store,
-        ..BARE
-    };
-    tells(alloc, &setting, CHECK, 3, printed)
+// The loaded archive with this ledger.
+fn with_ledger(ledger: &[u8]) -> Setting<'_> {
+    Setting {
+        ledger: Some(ledger),
+        ..LOADED
+    }
+}
+
+// The loaded archive with this store.
+fn with_store(store: &[u8]) -> Setting<'_> {
+    Setting { store, ..LOADED }
+}
+
+// Says whether the archive whose ledger has another byte at this place is told as damaged so.
+fn is_ledger_damaged(alloc: Global, at: usize, printed: &[u8]) -> Result<bool, AllocError> {
+    let ledger = changed(alloc, LEDGER, at)?;
+    tells(alloc, &with_ledger(&ledger), CHECK, 3, printed)
+}
+
+// Says whether the archive whose store has another byte at this place is told as damaged so.
+fn is_store_damaged(alloc: Global, at: usize, printed: &[u8]) -> Result<bool, AllocError> {
+    let store = changed(alloc, STORE, at)?;
+    tells(alloc, &with_store(&store), CHECK, 3, printed)
 }
 
 // The bytes, with a Z at this place.
-fn changed(alloc: Global, bytes: &[u8], at: Option<usize>) -> Result<Vec<u8>, AllocError> {
+fn changed(alloc: Global, bytes: &[u8], at: usize) -> Result<Vec<u8>, AllocError> {
     let mut changed = bytes.to_vec(alloc)?;
-    if let Some(at) = at {
-        if let Some(byte) = changed.as_mut_slice().get_mut(at) {
-            *byte = b'Z';
-        }
+    if let Some(byte) = changed.as_mut_slice().get_mut(at) {
+        *byte = b'Z';
     }
     Ok(changed)
 }
@@ -74,10 +80,10 @@ fn changed(alloc: Global, bytes: &[u8], at: Option<usize>) -> Result<Vec<u8>, Al
 #[test]
 fn damage_is_told_with_its_place(rt: HostRuntime) -> Result<(), Fail> {
     let alloc = rt.alloc();
-    assert!(rt; is_damaged(alloc, Some(7), None, b"swharc: damaged 0 7\n")?);
-    assert!(rt; is_damaged(alloc, Some(9), None, b"swharc: damaged 0 9\n")?);
-    assert!(rt; is_damaged(alloc, None, Some(0), b"swharc: damaged 1 0\n")?);
-    assert!(rt; is_damaged(alloc, None, Some(29), b"swharc: damaged 1 9\n")?);
+    assert!(rt; is_ledger_damaged(alloc, 7, b"swharc: damaged 0 7\n")?);
+    assert!(rt; is_ledger_damaged(alloc, 9, b"swharc: damaged 0 9\n")?);
+    assert!(rt; is_store_damaged(alloc, 0, b"swharc: damaged 1 0\n")?);
+    assert!(rt; is_store_damaged(alloc, 29, b"swharc: damaged 1 9\n")?);
     Ok(())
 }
 
