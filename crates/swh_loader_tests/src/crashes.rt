@@ -39,6 +39,15 @@ fn opposite(alloc: Global, bytes: &[u8]) -> Result<Vec<u8>, Fail> {
     Ok(others)
 }
 
+/// The bytes of a ledger, with this byte as its first gate.
+fn with_gate(alloc: Global, ledger: &[u8], gate: u8) -> Result<Vec<u8>, Fail> {
+    let mut bytes = ledger.to_vec(alloc)?;
+    if let Some(byte) = bytes.as_mut_slice().get_mut(8) {
+        *byte = gate;
+    }
+    Ok(bytes)
+}
+
 /// The number of events that stand where a crash comes after so many calls of each disk: where it leaves what was written,
 /// and where it leaves the opposite of each byte that it may change.
 fn after_crash(
@@ -85,11 +94,10 @@ fn a_crash_at_each_call(rt: HostRuntime) -> Result<(), Fail> {
 fn a_gate_with_any_byte(rt: HostRuntime) -> Result<(), Fail> {
     let alloc = rt.alloc();
     let (_store, ledger) = loaded(alloc, &[], &[])?;
-    let mut choice = ledger.bytes().to_vec(alloc)?;
     for (gate, events) in [(0, 0), (1, 1), (7, 0)] {
-        choice.as_mut_slice()[8] = gate;
+        let choice = with_gate(alloc, ledger.bytes(), gate)?;
         let image = ledger.image(alloc, MAKING + 3, &choice)?;
-        assert_eq!(rt; image[8], gate);
+        assert!(rt; image.get(8).copied() == Some(gate));
         let told = events_of(alloc, disk(alloc, b"", &[])?, disk(alloc, &image, &[])?)?;
         assert_eq!(rt; told, events);
     }
