@@ -37,15 +37,15 @@ impl Changing {
 fn copy_changed(bytes: &[u8], at: u64, out: &mut [u8], place: u64) -> usize
     ensures { result ≤ length out.new }
 {
-    let mut count = 0;
-    while count < out.len() {
-        let here = at.saturating_add(count as u64);
-        if here >= bytes.len() as u64 {
-            return count;
-        }
-        let byte = bytes[here as usize];
-        out[count] = if here == place { byte ^ 1 } else { byte };
-        count += 1;
+    if at >= bytes.len() as u64 {
+        return 0;
+    }
+    let behind = &bytes[at as usize..];
+    let count = behind.len().min(out.len());
+    out[..count].copy_from_slice(&behind[..count]);
+    if place >= at && place - at < count as u64 {
+        let changed = (place - at) as usize;
+        out[changed] = out[changed] ^ 1;
     }
     count
 }
