@@ -297,7 +297,7 @@ impl<N: Namer, D: Disk> Keeper<N, D> {
         ensures quiet { OnOk result (D.faults self.new.store ≡ D.faults self.old.store) }
         ensures memory_quiet { IsErrOf result StoredMemory → D.faults self.new.store ≡ D.faults self.old.store }
     {
-        let Some(place) = place_of(self.history.as_slice(), name)? else {
+        let Some(place) = place_of(self.history.as_slice(), name) else {
             return Ok(None);
         };
         let bytes = read_bytes(alloc, &mut self.store, place.at, place.size)?;
