@@ -1,9 +1,9 @@
 //! Where the body of a name stands in the store: by the lengths of all that stands before it.
-ghost use Rattle.std.specs.Prelude.{◌≡◌, ◌↔◌, ◌+◌, ◌<◌, ◌≤◌, ◌^◌, IsTrue, IfOk, IfSome, IfNone, length};
+ghost use Rattle.std.specs.Prelude.{◌≡◌, ◌↔◌, ◌+◌, ◌<◌, ◌≤◌, ◌^◌, IsTrue, IfSome, IfNone, length};
 ghost use Rattle.swh_model.specs.Limits.{run_length, store_length, stored_length};
 ghost use Rattle.swh_keeper.specs.Places.{IsPlaceIn, IsPlaceFor, IsPlaceOf, IsUnnamed, IsUnnamedKind, AreUnnamed};
 
-use swh_base::{Entry, Memory, Name};
+use swh_base::{Entry, Name};
 use swh_model::{Event, EventKind, length_in_store};
 
 /// Where a body stands: at a place in bytes from 0, and how many bytes it has.
@@ -57,17 +57,20 @@ fn place_for(event: &EventKind, name: &Name, from: u64) -> Option<Place>
 }
 
 /// The place of the body of a name among the runs of a history; none exactly where no batch has the name.
-pub fn place_of(history: &[Event], name: &Name) -> Result<Option<Place>, Memory>
+pub fn place_of(history: &[Event], name: &Name) -> Option<Place>
     requires { store_length history.now < 2 ^ 64 }
-    ensures some { IfOk result (λ found. IfSome found (IsPlaceOf history.now name.now)) }
-    ensures none { IfOk result (λ found. IfNone found (AreUnnamed name.now history.now)) }
+    ensures some { IfSome result (IsPlaceOf history.now name.now) }
+    ensures none { IfNone result (AreUnnamed name.now history.now) }
 {
     let mut at = 0;
     for event in history {
         if let Some(place) = place_for(&event.what, name, at) {
-            return Ok(Some(place));
+            return Some(place);
         }
-        at += length_in_store(&event.what)?;
+        let Ok(length) = length_in_store(&event.what) else {
+            unreachable!()
+        };
+        at += length;
     }
-    Ok(None)
+    None
 }

@@ -78,6 +78,7 @@ impl<N: Namer, D: Disk> Keeper<N, D> {
       UnlessDiskFault,
     };
     ghost use Rattle.swh_keeper.specs.Damage.{IfDamagedAt, IsDamagedAt};
+    ghost use Rattle.swh_keeper.specs.Own.{AreOwn};
     ghost use Rattle.swh_keeper.specs.declared.opening.OpenWhy.TheVariants.{
       Made,
       NotMade,
@@ -113,6 +114,13 @@ impl<N: Namer, D: Disk> Keeper<N, D> {
         // A made archive is as it was, and each disk comes back as the one that it was.
         ensures left { D.tells → IfErr result (λ fault. IsLeftOfMaking fault.why
             (files_of (D.file ledger) (D.file store)) (files_of (D.file fault.ledger) (D.file fault.store))) }
+        ensures spared { D.tells → IsMade (D.file ledger).seen → IfErr result (λ fault.
+            files_of (D.file fault.ledger) (D.file fault.store) ≡ files_of (D.file ledger) (D.file store)) }
+
+        // Of own files it leaves own files.
+        ensures own { D.tells → AreOwn N.id_of (files_of (D.file ledger) (D.file store))
+            → IfErr result (λ fault. AreOwn N.id_of (files_of (D.file fault.ledger) (D.file fault.store))) }
+
         ensures store_later { MatchResult result
             (λ keeper. D.faults store ≤ D.faults keeper.store) (λ fault. D.faults store ≤ D.faults fault.store) }
         ensures ledger_later { MatchResult result
@@ -180,6 +188,12 @@ impl<N: Namer, D: Disk> Keeper<N, D> {
         ensures left { D.tells → IfErr result (λ fault. IsLeftFor fault.why (files_of (D.file ledger) (D.file store))
             (files_of (D.file fault.ledger) (D.file fault.store))) }
 
+        // Own files are never damaged, and are left own.
+        ensures undamaged { D.tells → AreOwn N.id_of (files_of (D.file ledger) (D.file store))
+            → IfErr result (λ fault. IfDamagedAt fault.why (λ file at harm. ⊥)) }
+        ensures own { D.tells → AreOwn N.id_of (files_of (D.file ledger) (D.file store))
+            → IfErr result (λ fault. AreOwn N.id_of (files_of (D.file fault.ledger) (D.file fault.store))) }
+
         ensures store_later { MatchResult result (λ keeper. D.faults store ≤ D.faults keeper.store)
             (λ fault. D.faults store ≤ D.faults fault.store) }
         ensures ledger_later { MatchResult result (λ keeper. D.faults ledger ≤ D.faults keeper.ledger)
@@ -208,10 +222,11 @@ impl<N: Namer, D: Disk> Keeper<N, D> {
         }
     }
 
-    /// The events so far, the newest last, and what holds of the disks.
+    /// The events so far, the newest last, and what holds of the disks, whose files are own whatever was opened.
     pub fn history(&self) -> &[Event]
         ensures value { result.now ≡ self.now.history }
         ensures kept { IsKept N.id_of D.tells D.file self.now }
+        ensures own { D.tells → AreOwn N.id_of (files_of (D.file self.now.ledger) (D.file self.now.store)) }
     {
         self.history.as_slice()
     }
@@ -282,7 +297,7 @@ impl<N: Namer, D: Disk> Keeper<N, D> {
         ensures quiet { OnOk result (D.faults self.new.store ≡ D.faults self.old.store) }
         ensures memory_quiet { IsErrOf result StoredMemory → D.faults self.new.store ≡ D.faults self.old.store }
     {
-        let Some(place) = place_of(self.history.as_slice(), name)? else {
+        let Some(place) = place_of(self.history.as_slice(), name) else {
             return Ok(None);
         };
         let bytes = read_bytes(alloc, &mut self.store, place.at, place.size)?;
@@ -294,6 +309,7 @@ impl<N: Namer, D: Disk> Keeper<N, D> {
         ensures store { result.0 ≡ self.store }
         ensures ledger { result.1 ≡ self.ledger }
         ensures kept { IsKept N.id_of D.tells D.file self }
+        ensures own { D.tells → AreOwn N.id_of (files_of (D.file self.ledger) (D.file self.store)) }
     {
         let Keeper {
             alloc: _alloc,

@@ -4,7 +4,6 @@ ghost use Rattle.swh_outside.specs.Faults.{Rose};
 ghost use Rattle.swh_keeper.specs.declared.stored.StoredFault.TheVariants.{DiskFault, Memory as OutOfMemory};
 
 use std::alloc::{AllocError, Global};
-use swh_base::Memory;
 use swh_outside::{Disk, Failed};
 use swh_segment::Runs;
 
@@ -28,14 +27,6 @@ impl From<AllocError> for StoredFault {
     ghost from_gives = { λ _ fault. fault ≡ OutOfMemory };
 
     fn from(_: AllocError) -> StoredFault {
-        StoredFault::Memory
-    }
-}
-
-impl From<Memory> for StoredFault {
-    ghost from_gives = { λ _ fault. fault ≡ OutOfMemory };
-
-    fn from(_: Memory) -> StoredFault {
         StoredFault::Memory
     }
 }

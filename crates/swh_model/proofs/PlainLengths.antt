@@ -1,5 +1,5 @@
 -- Lengths, as far as a loop has come.
-use Rattle.std.proofs.Common.{◌≡◌, ℕ, ◌+◌, ◌<◌, List, [], ◌∷◌, ◌++◌, length, take, get_or, ap, ◌∙◌, arith}
+use Rattle.std.proofs.Common.{◌≡◌, ℕ, zero, suc, ◌+◌, ◌<◌, ◌≤◌, List, [], ◌∷◌, ◌++◌, length, take, get_or, ap, ◌∙◌, arith}
 use Rattle.swh_base.specs.declared.entry.Entry.{Entry}
 use Rattle.swh_model.specs.declared.event.Event.{Event}
 use Rattle.swh_model.specs.Limits.{object_length, run_length, stored_length, store_length, payload_length, records_length, ledger_length}
@@ -26,3 +26,22 @@ records-push (x ∷ h) e = let l = records-push h e in omega (arith, l)
 pub ledger-next : (h : List Event) (k : ℕ) (e : Event) → k < length h → e ≡ get_or h k e → ledger_length (take (k + 1) h) ≡ ledger_length (take k h) + (6 + payload_length e.what)
 ledger-next h k e less is =
     let l = ap records_length (take-more h k e less is) ∙ records-push (take k h) e in omega (arith, l)
+
+-- each part is within the whole
+pub run-within : (es : List Entry) (k : ℕ) (e : Entry) → k < length es → e ≡ get_or es k e → run_length (take k es) + object_length e ≤ run_length es
+run-within [] k e less is = absurd (omega (arith, less))
+run-within (f ∷ es) zero e less is = let same = ap object_length is in omega (arith, same)
+run-within (f ∷ es) (suc k) e less is = let more = run-within es k e (omega (arith, less)) is in omega (arith, more)
+
+pub store-within : (h : List Event) (k : ℕ) (e : Event) → k < length h → e ≡ get_or h k e → store_length (take k h) + stored_length e.what ≤ store_length h
+store-within [] k e less is = absurd (omega (arith, less))
+store-within (f ∷ h) zero e less is = let same = ap (λ (x : Event). stored_length x.what) is in omega (arith, same)
+store-within (f ∷ h) (suc k) e less is = let more = store-within h k e (omega (arith, less)) is in omega (arith, more)
+
+records-within : (h : List Event) (k : ℕ) (e : Event) → k < length h → e ≡ get_or h k e → records_length (take k h) + (6 + payload_length e.what) ≤ records_length h
+records-within [] k e less is = absurd (omega (arith, less))
+records-within (f ∷ h) zero e less is = let same = ap (λ (x : Event). payload_length x.what) is in omega (arith, same)
+records-within (f ∷ h) (suc k) e less is = let more = records-within h k e (omega (arith, less)) is in omega (arith, more)
+
+pub ledger-within : (h : List Event) (k : ℕ) (e : Event) → k < length h → e ≡ get_or h k e → ledger_length (take k h) + (6 + payload_length e.what) ≤ ledger_length h
+ledger-within h k e less is = let l = records-within h k e less is in omega (arith, l)

@@ -1,5 +1,5 @@
 //! The lengths that a history gives the two files, and the first of them that passes its limit.
-ghost use Rattle.std.specs.Prelude.{◌≡◌, ◌+◌, ◌≤◌, IfOk, IfSome, IfNone, length};
+ghost use Rattle.std.specs.Prelude.{◌≡◌, ◌⊎◌, ◌+◌, ◌≤◌, ◌^◌, IfOk, IfSome, IfNone, OnErr, MatchResult, length};
 ghost use Rattle.swh_model.specs.Limits.{
   run_length,
   stored_length,
@@ -16,7 +16,7 @@ use swh_base::{Entry, FILE_LIMIT, Memory, Which};
 
 /// The sum, or want of memory where it passes 64 bits: no machine holds files of such a length.
 fn plus(a: u64, b: u64) -> Result<u64, Memory>
-    ensures { IfOk result (λ sum. sum ≡ a + b) }
+    ensures { MatchResult result (λ sum. sum ≡ a + b) (λ _. 2 ^ 64 ≤ a + b) }
 {
     a.checked_add(b).ok_or(Memory)
 }
@@ -30,7 +30,7 @@ fn length_of_id(id: [u8; 20]) -> u64
 }
 
 fn length_of_run(entries: &[Entry]) -> Result<u64, Memory>
-    ensures { IfOk result (λ length. length ≡ run_length entries.now) }
+    ensures { MatchResult result (λ length. length ≡ run_length entries.now) (λ _. 2 ^ 64 ≤ run_length entries.now) }
 {
     let mut sum: u64 = 0;
     for entry in entries {
@@ -41,9 +41,9 @@ fn length_of_run(entries: &[Entry]) -> Result<u64, Memory>
     Ok(sum)
 }
 
-/// The bytes that an event adds to the store. Fails where that passes 64 bits.
+/// The bytes that an event adds to the store. Fails just where that passes 64 bits.
 pub fn length_in_store(event: &EventKind) -> Result<u64, Memory>
-    ensures { IfOk result (λ length. length ≡ stored_length event.now) }
+    ensures { MatchResult result (λ length. length ≡ stored_length event.now) (λ _. 2 ^ 64 ≤ stored_length event.now) }
 {
     match event {
         EventKind::Batch(entries) => length_of_run(entries.as_slice()),
@@ -79,9 +79,9 @@ fn length_of_payload(event: &EventKind) -> u64
     }
 }
 
-/// Where the runs of a history end in the store, in bytes. Fails where that passes 64 bits.
+/// Where the runs of a history end in the store, in bytes. Fails just where that passes 64 bits.
 pub fn length_of_store(history: &[Event]) -> Result<u64, Memory>
-    ensures { IfOk result (λ length. length ≡ store_length history.now) }
+    ensures { MatchResult result (λ length. length ≡ store_length history.now) (λ _. 2 ^ 64 ≤ store_length history.now) }
 {
     let mut sum: u64 = 0;
     for event in history {
@@ -90,9 +90,9 @@ pub fn length_of_store(history: &[Event]) -> Result<u64, Memory>
     Ok(sum)
 }
 
-/// The length of the ledger of a history, in bytes. Fails where that passes 64 bits.
+/// The length of the ledger of a history, in bytes. Fails just where that passes 64 bits.
 pub fn length_of_ledger(history: &[Event]) -> Result<u64, Memory>
-    ensures { IfOk result (λ length. length ≡ ledger_length history.now) }
+    ensures { MatchResult result (λ length. length ≡ ledger_length history.now) (λ _. 2 ^ 64 ≤ ledger_length history.now) }
 {
     let mut sum: u64 = 9;
     for event in history {
@@ -101,10 +101,12 @@ pub fn length_of_ledger(history: &[Event]) -> Result<u64, Memory>
     Ok(sum)
 }
 
-/// The first of both files that the event would make too long.
+/// The first of both files that the event would make too long. Fails only where one of their lengths passes 64 bits.
 pub fn file_limit(history: &[Event], event: &EventKind) -> Result<Option<(Which, u64)>, Memory>
     ensures some { IfOk result (λ limit. IfSome limit (IsFirstOf (FilePasses history.now event.now))) }
     ensures none { IfOk result (λ limit. IfNone limit (NonePasses (FilePasses history.now event.now))) }
+    ensures err { OnErr result ((2 ^ 64 ≤ store_length history.now + stored_length event.now)
+        ⊎ (2 ^ 64 ≤ ledger_length history.now + (6 + payload_length event.now))) }
 {
     let store = plus(length_of_store(history)?, length_in_store(event)?)?;
     if store > FILE_LIMIT {

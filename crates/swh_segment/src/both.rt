@@ -117,13 +117,15 @@ pub fn make_both<D: Disk>(mut store: D, mut ledger: D) -> Result<Both<D>, BothBa
     ensures settled { D.tells → IfOk result (λ both. AreSettled (files_of (D.file both.ledger.disk)
         (D.file both.store.disk)) [] both.store.end both.ledger.end) }
 
-    // A made archive is as it was; else the calls are cut where a disk failed.
+    // A made archive is as it was, also where a disk failed; else the calls are cut where one did.
     ensures same { D.tells → IfErr result (λ back. back.fault ≡ Made → files_of (D.file back.ledger) (D.file back.store)
         ≡ files_of (D.file ledger) (D.file store)) }
     ensures broken { D.tells → IfErr result (λ back. back.fault ≡ DiskFailed
         → (files_of (D.file back.ledger) (D.file back.store) ≡ files_of (D.file ledger) (D.file store))
         ⊎ FilesBreaks (making_calls (D.file ledger).seen) (files_of (D.file ledger) (D.file store))
         (files_of (D.file back.ledger) (D.file back.store))) }
+    ensures spared { D.tells → IsMade (D.file ledger).seen → IfErr result (λ back.
+        files_of (D.file back.ledger) (D.file back.store) ≡ files_of (D.file ledger) (D.file store)) }
 
     ensures store_later { MatchResult result (λ both. D.faults store ≤ D.faults both.store.disk)
         (λ back. D.faults store ≤ D.faults back.store) }

@@ -57,6 +57,11 @@ pub fn make<D: Disk>(store: &mut D, ledger: &mut D) -> Result<(), MakeFault>
     ensures not_made { D.tells → OnOk result (IsNotMade (D.file ledger.old).seen) }
     ensures calls { D.tells → Makes (files_of (D.file ledger.old) (D.file store.old))
         (files_of (D.file ledger.new) (D.file store.new)) result }
+
+    // A made archive is as it was, also where a disk failed.
+    ensures spared { D.tells → IsMade (D.file ledger.old).seen
+        → OnErr result (files_of (D.file ledger.new) (D.file store.new) ≡ files_of (D.file ledger.old) (D.file store.old)) }
+
     ensures store_later { D.faults store.old ≤ D.faults store.new }
     ensures ledger_later { D.faults ledger.old ≤ D.faults ledger.new }
     ensures cause { IsErrOf result Disk → ADiskFailed (D.faults store.old) (D.faults store.new) (D.faults ledger.old)

@@ -13,7 +13,9 @@ use Rattle.std.specs.Cmp.Lexicographic.{slice_cmp, nat_list_cmp_total}
 use Rattle.std.specs.FinMap.{find, insert, get-from_entries, get-insert, same_map, IsAntisymmetric}
 use Rattle.std.specs.FinMap as finite
 use Rattle.swh_model.specs.declared.event.Visit.{Visit}
-use Rattle.swh_model.specs.Archive.{visits_of}
+use Rattle.swh_model.specs.Archive.{Origins, visits_of}
+use Rattle.swh_model.specs.Step.{marked, marked_at}
+use Rattle.swh_base.specs.declared.visit.Status.{Status}
 use Rattle.swh_base.specs.Visit.{IsFinal, last_status}
 use Rattle.swh_visits.specs.declared.fault.VisitFault.{VisitFault}
 use Rattle.swh_visits.specs.declared.fault.VisitFault.TheVariants.{NoVisit, NotYours, Ended, Memory}
@@ -139,6 +141,27 @@ view-same es fs k old w there is same =
               ∙ sym (subst (λ (j : List ℕ). find R j (map with_visits es) ≡ Some old.items) (sym (same_url q k t)) (find-visits k es ∙ ap (option_map visits_items) there))
           | false ↦ λ t. refl
         ] refl
+
+-- ---- one origin's visits, in a map that is seen as the archive's, by the bytes of its URL
+
+module _ (seen : Origins) (es : Kept) (url origin : List ℕ) (view_is : origins_of es ≡ seen) (text : url ≡ origin) where
+  same_visits : visits_of (origins_of es) url ≡ visits_of seen origin
+  same_visits = ap (λ (o : Origins). visits_of o url) view_is ∙ ap (visits_of seen) text
+
+  pub visits-there : (v : Vec Visit) → lookup (is_at (at url)) es ≡ Some v → v.items ≡ visits_of seen origin
+  visits-there v is = sym (visits-found url es v is) ∙ same_visits
+
+  pub visits-absent : lookup (is_at (at url)) es ≡ None → visits_of seen origin ≡ []
+  visits-absent is = sym same_visits ∙ visits-missing url es is
+
+  -- once the visit of a number has one more status
+  pub view-marked : (fs : Kept) (old w : Vec Visit) (visit : ℕ) (status : Status) (snapshot : Option (List ℕ)) → lookup (is_at (at url)) es ≡ Some old → fs ≡ set_value (is_at (at url)) es w
+      → w.items ≡ marked_at old.items (visit - 1) status snapshot → origins_of fs ≡ marked seen origin visit status snapshot
+  view-marked fs old w visit status snapshot there is done =
+      view-set es fs url old w there is
+      ∙ ap (λ (vs : List Visit). insert (origins_of es) url vs) (done ∙ ap (λ (vs : List Visit). marked_at vs (visit - 1) status snapshot) (visits-there old there))
+      ∙ ap (λ (o : Origins). insert o url (marked_at (visits_of seen origin) (visit - 1) status snapshot)) view_is
+      ∙ ap (λ (u : List ℕ). insert seen u (marked_at (visits_of seen origin) (visit - 1) status snapshot)) text
 
 -- ---- what stands against a status
 

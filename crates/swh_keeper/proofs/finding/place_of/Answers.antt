@@ -19,9 +19,16 @@ pub overflow_add-at : goal.overflow_add-at
 overflow_add-at c =
     let there = run-within c.args.history.now c.loop-event.event-index c.event-item.result c.loop-event-test.true c.event-item.is in
     let at = c.loop-event.invariant.at in
-    let size = c.in_ok-at.ensures in
+    let size = c.in-Ok.ensures in
     let fits = c.requires in
     omega (arith, there, at, size, fits)
+
+pub unreachable-requires : goal.unreachable-requires
+unreachable-requires c =
+    let there = run-within c.args.history.now c.loop-event.event-index c.event-item.result c.loop-event-test.true c.event-item.is in
+    let beyond = c.in_default-length_in_store.ensures in
+    let fits = c.requires in
+    absurd (omega (arith, there, beyond, fits))
 
 pub loop-event-preserved : goal.loop-event-preserved
 loop-event-preserved c =
@@ -30,7 +37,7 @@ loop-event-preserved c =
     let e = c.event-item.result in
     let next = store-next h i e c.loop-event-test.true c.event-item.is in
     let at = c.loop-event.invariant.at in
-    let size = c.in_ok-at.ensures in
+    let size = c.in-Ok.ensures in
     record {
       at = omega (arith, next, at, size);
       none =

@@ -1,5 +1,7 @@
-use Rattle.std.proofs.Common.{arith}
-use Rattle.swh_model.proofs.PlainLengths.{ledger-next}
+use Rattle.std.proofs.Common.{◌≡◌, ◌≤◌, ◌^◌, ℕ, arith}
+use Rattle.std.proofs.lemmas.Result.{MatchResult-from_err}
+use Rattle.swh_model.specs.Limits.{ledger_length}
+use Rattle.swh_model.proofs.PlainLengths.{ledger-next, ledger-within}
 use Rattle.swh_model.proofs.lengths.length_of_ledger.Goals as goal
 
 pub loop-event-preserved : goal.loop-event-preserved
@@ -8,3 +10,18 @@ loop-event-preserved c =
     let sum = c.in_ok-sum.ensures in let so_far = c.loop-event.invariant in
     let here = c.length_of_payload.ensures in let six = c.in_ok-plus.ensures in
     omega (arith, next, sum, so_far, here, six)
+
+pub returns-in_err-plus : goal.returns-in_err-plus
+returns-in_err-plus c =
+    let within = ledger-within c.args.history.now c.loop-event.event-index c.event-item.result c.loop-event-test.true c.event-item.is in
+    let here = c.length_of_payload.ensures in let six = c.in_err-plus.ensures in
+    let beyond : 2 ^ 64 ≤ ledger_length c.args.history.now = omega (arith, within, here, six) in
+    MatchResult-from_err c.from_residual.result (λ (l : ℕ). l ≡ ledger_length c.args.history.now) (λ _. 2 ^ 64 ≤ ledger_length c.args.history.now) c.from_residual.ensures.0 (λ _. beyond)
+
+pub returns-in_err-sum : goal.returns-in_err-sum
+returns-in_err-sum c =
+    let within = ledger-within c.args.history.now c.loop-event.event-index c.event-item.result c.loop-event-test.true c.event-item.is in
+    let sum = c.in_err-sum.ensures in let so_far = c.loop-event.invariant in
+    let here = c.length_of_payload.ensures in let six = c.in_ok-plus.ensures in
+    let beyond : 2 ^ 64 ≤ ledger_length c.args.history.now = omega (arith, within, sum, so_far, here, six) in
+    MatchResult-from_err c.from_residual-in_err-sum.result (λ (l : ℕ). l ≡ ledger_length c.args.history.now) (λ _. 2 ^ 64 ≤ ledger_length c.args.history.now) c.from_residual-in_err-sum.ensures.0 (λ _. beyond)

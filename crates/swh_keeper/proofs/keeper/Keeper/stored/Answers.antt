@@ -13,7 +13,7 @@ use Rattle.swh_keeper.proofs.keeper.Keeper.stored.Goals as goal
 pub returns-in_default-clause-none : goal.returns-in_default-clause-none
 returns-in_default-clause-none g c =
     let name = c.args.name.now in
-    let none = rw c.in_default.is at c.in_ok-place.ensures.none in
+    let none = c.in_default.ensures.none in
     none-at empty_archive c.args.self.now.history name
     (subst (λ (l : List Event). AreUnnamed name l) (c.as_slice.ensures.value ∙ ap (λ k. k.history) c.self.view_is) none) (none-empty name)
 
@@ -22,7 +22,7 @@ read_bytes-requires-after_bounds g c κs within =
     let name = c.args.name.now in
     let place = c.in-Some.place in
     let same = ap (λ k. k.history) c.self.view_is in
-    let there = rw c.in-Some.is at c.in_ok-place.ensures.some in
+    let there = c.in-Some.ensures.some in
     let found = found-at g.N.Namer.id_of empty_archive c.args.self.now.history name place (subst (λ (l : List Event). IsHistory g.N.Namer.id_of l) same c.self.invariant.keeping.history)
     (subst (λ (l : List Event). IsPlaceOf l name place) (c.as_slice.ensures.value ∙ same) there) in
     let inside = found.within in
@@ -35,7 +35,7 @@ returns-clause-long g c =
     let name = c.args.name.now in
     let place = c.in-Some.place in
     let same = ap (λ k. k.history) c.self.view_is in
-    let there = rw c.in-Some.is at c.in_ok-place.ensures.some in
+    let there = c.in-Some.ensures.some in
     let found = found-at g.N.Namer.id_of empty_archive c.args.self.now.history name place (subst (λ (l : List Event). IsHistory g.N.Namer.id_of l) same c.self.invariant.keeping.history)
     (subst (λ (l : List Event). IsPlaceOf l name place) (c.as_slice.ensures.value ∙ same) there) in
     record { body = found.body; held = found.held; long = c.in_ok-bytes.ensures.size ∙ found.long }
@@ -46,7 +46,7 @@ returns-clause-held g c told =
     let place = c.in-Some.place in
     let inside = c.self.inside in
     let same = ap (λ k. k.history) c.self.view_is in
-    let there = rw c.in-Some.is at c.in_ok-place.ensures.some in
+    let there = c.in-Some.ensures.some in
     let found = found-at g.N.Namer.id_of empty_archive c.args.self.now.history name place (subst (λ (l : List Event). IsHistory g.N.Namer.id_of l) same c.self.invariant.keeping.history)
     (subst (λ (l : List Event). IsPlaceOf l name place) (c.as_slice.ensures.value ∙ same) there) in
     let settled = c.self.invariant.keeping.settled (ap (λ k. k.wounded) c.self.view_is ∙ c.requires) told in
