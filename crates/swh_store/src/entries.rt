@@ -56,6 +56,16 @@ impl Held {
         }
     }
 
+    /// Takes room for so many entries more.
+    pub fn reserve(&mut self, additional: usize) -> Result<(), Memory>
+        requires { IsIndexed self.old }
+        ensures indexed { IsIndexed self.new }
+        ensures same { self.new.entries.items ≡ self.old.entries.items }
+    {
+        self.entries.reserve(additional)?;
+        Ok(())
+    }
+
     /// Adds an entry whose name is not held.
     pub fn push(&mut self, entry: Entry) -> Result<(), Memory>
         requires indexed { IsIndexed self.old }

@@ -83,6 +83,13 @@ impl Store {
         add_batch(&mut self.held, entries)
     }
 
+    /// Takes room for so many entries more, so that those that are held are not moved when these come.
+    pub fn reserve(&mut self, additional: usize) -> Result<(), Memory>
+        ensures { self.new ≡ self.old }
+    {
+        self.held.reserve(additional)
+    }
+
     /// Adds an entry that is not held.
     pub fn put(&mut self, entry: Entry) -> Result<(), Memory>
         requires good { HasItsChildren entry }
