@@ -23,6 +23,7 @@ use Rattle.swh_recovery.specs.Fields.{found_at}
 use Rattle.swh_recovery.specs.LedgerHarm.{BeginsRecord, TellsRun, IsRunTold}
 use Rattle.swh_recovery.specs.StoreHarm.{IsRun, HoldsRun, RunBreaks}
 use Rattle.swh_recovery.specs.Records.{IsWholeRecord, IsToldExactly, EventBreaks}
+use Rattle.swh_recovery.proofs.ToldLemmas.{one_told, told_of_batch}
 
 -- runs of the same bytes have as many objects
 same_count : (es fs : List Entry) (x y : List ℕ) → AllByRecursion IsCodableEntry es → AllByRecursion IsCodableEntry fs → coded_run es ++ x ≡ coded_run fs ++ y → length (coded_run es) ≡ length (coded_run fs) → length es ≡ length fs
@@ -65,16 +66,9 @@ module _ (id_of : Kind → List ℕ → List ℕ) (start : ℕ) (p : RecordParts
   })
 
   told_only : (by : ℕ) (fs : List Entry) → by < 2 ^ 32 → IsCodableKind start (Batch fs) → p.payload.now ≡ to_be_bytes w32 by ++ event_payload start (Batch fs) → (t.from ≡ start) × (t.to ≡ start + length (coded_run fs)) × (t.number ≡ length fs) × (t.left.now ≡ [])
+  unfolding tells_run
   told_only by fs by_fits codable is =
-      let left = t.left.now in
-      let whos = cut_four t.by by _ _ told.by_fits by_fits (sym told.spelled ∙ is) in
-      let joined : to_be_bytes w64 t.from ++ (to_be_bytes w64 t.to ++ (to_be_bytes w32 t.number ++ left)) ≡ batch_text t.from t.to t.number ++ left =
-      sym (append_assoc (to_be_bytes w64 t.from) (to_be_bytes w64 t.to ++ to_be_bytes w32 t.number) left ∙ ap (λ (l : List ℕ). to_be_bytes w64 t.from ++ l) (append_assoc (to_be_bytes w64 t.to) (to_be_bytes w32 t.number) left)) in
-      let place : start < 2 ^ 64 = let e = codable.end in omega (arith, e) in
-      let starts = cut_eight t.from start _ _ told.from_fits place (joined ∙ whos.1) in
-      let ends = cut_eight t.to (start + length (coded_run fs)) _ _ told.to_fits codable.end starts.1 in
-      let numbers = cut (to_be_bytes w32 t.number) (to_be_bytes w32 (length fs)) left [] refl (ends.1 ∙ sym (append-nil (to_be_bytes w32 (length fs)))) in
-      (starts.0, ends.0, same_four t.number (length fs) told.number_fits codable.number numbers.0, numbers.1)
+      one_told p.payload.now (payload_of start (batch_event by fs)) tells_run (told_of_batch start by fs (by_fits, codable)) is
 
   module _ (es : List Entry) (run : IsRun id_of t.from t.to es) (exact : IsToldExactly start (length es) t) where
     pub end_of : t.to ≡ start + length (coded_run es)

@@ -3,6 +3,7 @@ pub mod FrameLemmas
 pub mod ObjectLemmas
 pub mod BodyLemmas
 pub mod RunLemmas
+pub mod ToldLemmas
 pub mod EventLemmas
 pub mod NextLemmas
 pub mod WholeLemmas

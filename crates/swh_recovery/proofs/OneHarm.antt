@@ -36,22 +36,9 @@ use Rattle.swh_recovery.specs.LedgerHarm.{batch_fields, payload_fields, TellsRun
 use Rattle.swh_recovery.specs.StoreHarm.{RunBreaks}
 use Rattle.swh_recovery.specs.Harms.{entries_of, LedgerBreaks, StoreBreaks, IsRefused, NextBreaks, Begin, BreaksAfter, MagicBreaks}
 use Rattle.swh_recovery.specs.Records.{events, IsHarm}
+use Rattle.swh_recovery.proofs.ToldLemmas.{told_joined, one_told, told_of_batch}
 use Rattle.swh_recovery.proofs.OneField.{one_record, no_record, same_records, event_frame, record_whole}
 use Rattle.swh_recovery.proofs.OneObject.{one_run, no_run, whole_or_broken}
-
-told_joined : (payload : List ℕ) (t : TellsRun payload) → payload ≡ to_be_bytes w32 t.by ++ (to_be_bytes w64 t.from ++ (to_be_bytes w64 t.to ++ (to_be_bytes w32 t.number ++ t.left)))
-told_joined payload t =
-    t.spelled
-    ∙ ap (λ (l : List ℕ). to_be_bytes w32 t.by ++ l)
-    (append_assoc (to_be_bytes w64 t.from) (to_be_bytes w64 t.to ++ to_be_bytes w32 t.number) t.left ∙ ap (λ (l : List ℕ). to_be_bytes w64 t.from ++ l) (append_assoc (to_be_bytes w64 t.to) (to_be_bytes w32 t.number) t.left))
-
--- a payload tells of one run
-same_told : (payload payload' : List ℕ) (t : TellsRun payload) (u : TellsRun payload') → payload ≡ payload' → (t.from ≡ u.from) × (t.to ≡ u.to)
-same_told payload payload' t u same =
-    let whos = cut_four t.by u.by _ _ t.by_fits u.by_fits (sym (told_joined payload t) ∙ same ∙ told_joined payload' u) in
-    let starts = cut_eight t.from u.from _ _ t.from_fits u.from_fits whos.1 in
-    let ends = cut_eight t.to u.to _ _ t.to_fits u.to_fits starts.1 in
-    (starts.0, ends.0)
 
 told_holds : (payload : List ℕ) → TellsRun payload → FieldsHold batch_fields payload
 told_holds payload t = (
@@ -70,23 +57,6 @@ told_holds payload t = (
 
 batch_holds : (kind : ℕ) (payload : List ℕ) → kind ≡ 66 → TellsRun payload → FieldsHold (payload_fields kind) payload
 batch_holds kind payload is t = subst (λ (n : ℕ). FieldsHold (payload_fields n) payload) (sym is) (told_holds payload t)
-
--- what is told of a batch's run
-told_of_batch : (start by : ℕ) (es : List Entry) → IsCodable start (record { by = by; what = Batch es }) → TellsRun (payload_of start (record { by = by; what = Batch es }))
-told_of_batch start by es codable =
-    let end = codable.1.end in
-    record {
-      by = by;
-      from = start;
-      to = start + length (coded_run es);
-      number = length es;
-      left = [];
-      spelled = ap (λ (l : List ℕ). to_be_bytes w32 by ++ l) (sym (append-nil (batch_text start (start + length (coded_run es)) (length es))));
-      by_fits = codable.0;
-      from_fits = omega (arith, end);
-      to_fits = end;
-      number_fits = codable.1.number;
-    }
 
 behind_run : (at : ℕ) (store p z : List ℕ) → drop at store ≡ p ++ z → drop (at + length p) store ≡ z
 behind_run at store p z is = sym (drop-drop (length p) at store) ∙ ap (λ (l : List ℕ). drop (length p) l) is ∙ drop-append_seam p z
@@ -200,11 +170,10 @@ module _ (id_of : Kind → List ℕ → List ℕ) where
   module _ (store : List ℕ) where
     run_stands : (start by : ℕ) (what : EventKind) (payload y : List ℕ) (t : TellsRun payload) (found : Found) → IsCodable start (record { by = by; what = what }) → event_byte what ≡ 66 → payload ≡ payload_of start (record { by = by; what = what })
         → AllByRecursion (IsObject id_of) (entries_of what) → drop start store ≡ packed_objects what ++ y → RunBreaks id_of t.from t.to store found → ⊥
-    unfolding told_of_batch
     run_stands start by (Open o k d) payload y t found codable kind_is is good run breaks = omega (arith, kind_is)
     run_stands start by (Mark o v s n) payload y t found codable kind_is is good run breaks = omega (arith, kind_is)
     run_stands start by (Batch es) payload y t found codable kind_is is good run breaks =
-        let same = same_told payload (payload_of start (record { by = by; what = Batch es })) t (told_of_batch start by es codable) is in
+        let same = one_told payload (payload_of start (record { by = by; what = Batch es })) t (told_of_batch start by es codable) is in
         no_run id_of start (start + length (coded_run es)) store y es found (record { good = good; codable = codable.1.entries_codable }) run refl
         (subst (λ (n : ℕ). RunBreaks id_of start n store found) same.1 (subst (λ (n : ℕ). RunBreaks id_of n t.to store found) same.0 breaks))
 
@@ -256,14 +225,14 @@ module _ (id_of : Kind → List ℕ → List ℕ) where
     store_or_refused n gate start records file file' x y a b =
         let same = same_records a.behind b.behind a.frame b.frame (same_tail 1 1 a.behind b.behind (sym a.opened ∙ b.opened)) in
         let named = b.run (sym same.0 ∙ a.batch) in
-        let told = same_told a.frame.payload b.frame.payload a.told named.told same.1 in
+        let told = one_told a.frame.payload b.frame.payload a.told named.told same.1 in
         whole_or_broken id_of named.told.from named.told.to store named.entries x named.run
         (subst (λ (m : ℕ). RunBreaks id_of named.told.from m store x) told.1 (subst (λ (m : ℕ). RunBreaks id_of m a.told.to store x) told.0 a.breaks))
 
     one_store : (records : List ℕ) (file file' : ℕ) (x y : Found) → StoreBreaks id_of records store file x → StoreBreaks id_of records store file' y → x ≡ y
     one_store records file file' x y a b =
         let same = same_records a.behind b.behind a.frame b.frame (same_tail 1 1 a.behind b.behind (sym a.opened ∙ b.opened)) in
-        let told = same_told a.frame.payload b.frame.payload a.told b.told same.1 in
+        let told = one_told a.frame.payload b.frame.payload a.told b.told same.1 in
         one_run id_of b.told.from b.told.to store x y
         (subst (λ (m : ℕ). RunBreaks id_of b.told.from m store x) told.1 (subst (λ (m : ℕ). RunBreaks id_of m a.told.to store x) told.0 a.breaks)) b.breaks
 

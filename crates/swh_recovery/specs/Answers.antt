@@ -1,5 +1,5 @@
 -- What the reader of both files answers.
-use Rattle.std.specs.Prelude.{◌≡◌, ◌≤◌, ℕ, List}
+use Rattle.std.specs.Prelude.{ℕ, List}
 use Rattle.std.specs.Global.{Vec}
 use Rattle.swh_recovery.specs.declared.harm.Harm.{Harm}
 use Rattle.swh_recovery.specs.declared.fault.NextFault.{NextFault}
@@ -25,13 +25,3 @@ abbrev pub UnlessDiskFault : ReadAllFault → Type 0 → Type 0
 UnlessDiskFault DiskFault P = Unit {0}
 UnlessDiskFault (Damaged file at harm before) P = P
 UnlessDiskFault Memory P = P
-
--- Neither count of faults fell.
-pub record AreLater (store store' ledger ledger' : ℕ) : Type 0 where
-  pub store_later : store ≤ store'
-  pub ledger_later : ledger ≤ ledger'
-
--- Both counts of faults are as they were.
-pub record AreQuiet (store store' ledger ledger' : ℕ) : Type 0 where
-  pub store_quiet : store' ≡ store
-  pub ledger_quiet : ledger' ≡ ledger

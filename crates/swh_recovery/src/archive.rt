@@ -19,10 +19,11 @@ ghost use Rattle.swh_format.specs.Record.{magic};
 ghost use Rattle.swh_format.specs.Stands.{StandsFor};
 ghost use Rattle.swh_segment.specs.Making.{IsMade};
 ghost use Rattle.swh_segment.specs.Makes.{ADiskFailed};
+ghost use Rattle.swh_segment.specs.Counts.{AreLater, AreQuiet};
 ghost use Rattle.swh_base.specs.Limits.{file_limit};
 ghost use Rattle.swh_recovery.specs.Harms.{MagicBreaks};
 ghost use Rattle.swh_recovery.specs.Records.{events, AreWhole, IsHarm};
-ghost use Rattle.swh_recovery.specs.Answers.{all_fault, IfDamaged, UnlessDiskFault, AreLater, AreQuiet};
+ghost use Rattle.swh_recovery.specs.Answers.{all_fault, IfDamaged, UnlessDiskFault};
 ghost use Rattle.swh_recovery.specs.declared.archive.ReadAllFault.TheVariants.{DiskFault};
 
 use crate::fault::NextFault;

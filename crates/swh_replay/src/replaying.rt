@@ -12,7 +12,7 @@ use crate::replayed::Replayed;
 use std::alloc::Global;
 use swh_base::Memory;
 use swh_closure::Closed;
-use swh_model::{Event, length_of_ledger, length_of_store};
+use swh_model::{Event, EventKind, length_of_ledger, length_of_store};
 use swh_store::Store;
 use swh_visits::Visits;
 
@@ -36,6 +36,17 @@ impl From<Memory> for ReplayFault {
     }
 }
 
+// How many objects the events have.
+fn count_objects(events: &[Event]) -> usize {
+    let mut count: usize = 0;
+    for event in events {
+        if let EventKind::Batch(entries) = &event.what {
+            count = count.saturating_add(entries.as_slice().len());
+        }
+    }
+    count
+}
+
 /// The replay of the events, one after another from the empty archive on. It is asked that their entries are bodies of
 /// their kinds with their children, and that the files end within their limits; that the names are a namer's is for what
 /// is said of the answer. No body is copied, and no name that is known to be closed is walked again: the time is n log n
@@ -54,6 +65,7 @@ pub fn replay_all(alloc: Global, events: &[Event]) -> Result<Replayed, ReplayFau
     let store_end = length_of_store(events)?;
     let ledger_end = length_of_ledger(events)? - 1;
     let mut store = Store::new(alloc);
+    store.reserve(count_objects(events))?;
     let mut visits = Visits::new(alloc);
     let mut closed = Closed::new(alloc);
     for (place, event) in events.iter().enumerate() {

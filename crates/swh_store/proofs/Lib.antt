@@ -1,3 +1,2 @@
-pub mod MapLemmas
+pub mod IndexLemmas
 pub mod AddingLemmas
-pub mod Sizes

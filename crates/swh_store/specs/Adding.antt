@@ -1,9 +1,9 @@
 -- How an entry stands to what is held, and what comes of it.
-use Rattle.std.specs.Prelude.{◌≡◌, ◌≢◌, ◌⊎◌, ℕ, Some, None, List, [], ◌∷◌, ◌++◌}
-use Rattle.std.specs.FinMap as finite
+use Rattle.std.specs.Prelude.{◌≡◌, ◌≢◌, ◌⊎◌, ℕ, Some, None, List}
 use Rattle.swh_base.specs.declared.entry.Entry.{Entry}
 use Rattle.swh_model.specs.Archive.{Bodies, body_of}
 use Rattle.swh_model.specs.Judge.{Collides}
+use Rattle.swh_store.specs.Entries.{bodies_in, IsPutIn}
 use Rattle.swh_store.specs.declared.adding.Standing.{Standing}
 use Rattle.swh_store.specs.declared.adding.Standing.TheVariants.{New, Known, Other}
 use Rattle.swh_store.specs.declared.fault.StoreFault.{StoreFault}
@@ -19,21 +19,14 @@ IsStanding bodies e New = body_of bodies e.name ≡ None
 IsStanding bodies e Known = body_of bodies e.name ≡ Some e.body
 IsStanding bodies e Other = HasOther bodies e
 
--- The entry was new and is held now, and stands at the end of the new ones.
-pub record IsPutIn (before after : Bodies) (old new : List Entry) (e : Entry) : Type 0 where
-  pub absent : body_of before e.name ≡ None
-  pub bodies : after ≡ finite.insert before e.name e.body
-  pub fresh : new ≡ old ++ e ∷ []
-
 -- The entry was known, and nothing changed.
-pub record IsKnown (before after : Bodies) (old new : List Entry) (e : Entry) : Type 0 where
-  pub there : body_of before e.name ≡ Some e.body
-  pub bodies : after ≡ before
-  pub fresh : new ≡ old
+pub record IsKnown (before now : List Entry) (e : Entry) : Type 0 where
+  pub there : body_of (bodies_in before) e.name ≡ Some e.body
+  pub same : now ≡ before
 
 -- One of both.
-abbrev pub IsTakenUp : Bodies → Bodies → List Entry → List Entry → Entry → Type 0
-IsTakenUp before after old new e = IsPutIn before after old new e ⊎ IsKnown before after old new e
+abbrev pub IsTakenUp : List Entry → List Entry → Entry → Type 0
+IsTakenUp before now e = IsPutIn before now e ⊎ IsKnown before now e
 
 -- Why one entry is refused: it says nothing where memory ran out.
 abbrev pub IsEntryFault : Bodies → Entry → StoreFault → Type 0

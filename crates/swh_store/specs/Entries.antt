@@ -1,40 +1,57 @@
--- Entries in memory as finite maps.
-use Rattle.std.specs.Prelude.{◌≡◌, ◌≢◌, ℕ, None, List, map}
+-- Entries in memory, in the order of their adding, and the place of each by its name's key.
+use Rattle.std.specs.Prelude.{◌≡◌, ◌<◌, ℕ, Option, Some, None, List, [], ◌∷◌, ◌++◌, length, get_or}
+use Rattle.std.specs.declared.cmp.Ordering.{Ordering}
+use Rattle.std.specs.Ordering.{nat_cmp}
+use Rattle.std.specs.Cmp.Lexicographic.{slice_cmp}
+use Rattle.std.specs.BTreeMap.{get}
 use Rattle.std.specs.FinMap as finite
 use Rattle.swh_base.specs.declared.name.Name.{Name}
 use Rattle.swh_base.specs.declared.entry.Entry.{Entry}
-use Rattle.swh_base.specs.Name.{name_key, name_cmp}
+use Rattle.swh_base.specs.Name.{name_key}
 use Rattle.swh_model.specs.Archive.{Bodies, body_of}
-use Rattle.swh_model.specs.Step.{HasItsChildren}
-use Rattle.swh_store.specs.Stored.{Stored}
+use Rattle.swh_model.specs.Step.{AreNew, added}
+use Rattle.swh_store.specs.Stored.{Children, Stored, IsEntryOf}
+use Rattle.swh_store.specs.declared.entries.Held.{Held}
 
--- an entry's name and what f has of it
-abbrev pub named : {X : Type 0} → (Entry → X) → List ℕ × Entry → Name × X
-named f p = (p.1.name, f p.1)
+-- how keys are told apart
+abbrev pub keys_cmp : List ℕ → List ℕ → Ordering
+keys_cmp = slice_cmp nat_cmp
 
--- what f has of each entry, by its name
-abbrev pub in_map : {X : Type 0} → (Entry → X) → List (List ℕ × Entry) → finite.FinMap name_cmp X
-in_map f es = finite.from_entries (map (named f) es)
+-- the bodies of entries, by their names
+abbrev pub bodies_in : List Entry → Bodies
+bodies_in = added finite.empty
 
-abbrev pub entry_body : Entry → List ℕ
-entry_body e = e.body
+-- the children of each name once entries were added
+abbrev pub with_children : Children → List Entry → Children
+with_children children [] = children
+with_children children (e ∷ es) = with_children (finite.insert children e.name e.kids) es
 
-abbrev pub entry_kids : Entry → List Name
-entry_kids e = e.kids
+-- what entries are as a store
+abbrev pub stored_in : List Entry → Stored
+stored_in es = record { bodies = bodies_in es; children = with_children finite.empty es }
 
--- the bodies of the entries in memory
-abbrev pub bodies_in_map : List (List ℕ × Entry) → Bodies
-bodies_in_map = in_map entry_body
+-- At this place stands the entry of this name.
+pub record StandsAt (es : List Entry) (n : Name) (place : ℕ) : Type 0 where
+  pub entry : Entry
+  pub inside : place < length es
+  pub there : entry ≡ get_or es place entry
+  pub is : IsEntryOf (stored_in es) n entry
 
--- what the entries in memory are
-abbrev pub stored_in : List (List ℕ × Entry) → Stored
-stored_in es = record { bodies = bodies_in_map es; children = in_map entry_kids es }
+-- What is found of a name: nothing where no body is held, else the place of its entry.
+abbrev pub IsFound : List Entry → Name → Option ℕ → Type 0
+IsFound es n None = body_of (bodies_in es) n ≡ None
+IsFound es n (Some place) = StandsAt es n place
 
--- The entry is good, and stands under its name's key.
-abbrev pub IsKeyed : List ℕ × Entry → Type 0
-IsKeyed p = (p.0 ≡ name_key p.1.name) × HasItsChildren p.1
+-- No two entries have one name, and each name's key leads to its entry.
+pub record IsIndex (place_at : List ℕ → Option ℕ) (es : List Entry) : Type 0 where
+  pub new : AreNew finite.empty es
+  pub finds : (n : Name) → IsFound es n (place_at (name_key n))
 
--- The second map is the first without the name.
-pub record IsWithout (before now : Bodies) (n : Name) : Type 0 where
-  pub gone : body_of now n ≡ None
-  pub others : (q : Name) → q ≢ n → body_of now q ≡ body_of before q
+-- The places are those of the entries.
+abbrev pub IsIndexed : Held → Type 0
+IsIndexed held = IsIndex (get keys_cmp held.places) held.entries.items
+
+-- The entry was new, and stands at the end now.
+pub record IsPutIn (before now : List Entry) (e : Entry) : Type 0 where
+  pub absent : body_of (bodies_in before) e.name ≡ None
+  pub is_last : now ≡ before ++ e ∷ []

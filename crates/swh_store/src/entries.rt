@@ -1,19 +1,22 @@
-//! Entries by their names' keys: a finite map from names to bodies.
-ghost use Rattle.std.specs.Prelude.{◌≡◌, None, false, All, IsTrue, IfOk, OnOk, OnErr};
-ghost use Rattle.std.specs.List.{AllByRecursion};
-ghost use Rattle.std.specs.FinMap as finite;
-ghost use Rattle.swh_base.specs.Name.{name_key};
-ghost use Rattle.swh_model.specs.Archive.{Bodies, body_of, IsHeld};
-ghost use Rattle.swh_model.specs.Step.{HasItsChildren, AreNew, added};
-ghost use Rattle.swh_store.specs.Stored.{IsInserted};
-ghost use Rattle.swh_store.specs.Entries.{bodies_in_map, IsKeyed, IsWithout};
-
+//! Entries in the order of their adding, and the place of each by its name's key.
+use std::alloc::Global;
 use std::collections::BTreeMap;
 use swh_base::{Entry, Memory, Name};
 use swh_model::kind_byte;
 
+/// Entries of which no two have one name. The map holds their places alone, so that its nodes are small; those that were
+/// added last can be taken out again, which wants no memory.
+#[derive(Drop)]
+pub struct Held {
+    pub places: BTreeMap<[u8; 21], usize>,
+    pub entries: Vec<Entry>,
+}
+
+ghost use Rattle.std.specs.Prelude.{◌≡◌};
+ghost use Rattle.swh_base.specs.Name.{name_key};
+
 /// The kind's number, then the id.
-pub fn key_of(name: &Name) -> [u8; 21]
+fn key_of(name: &Name) -> [u8; 21]
     ensures { result ≡ name_key name.now }
 {
     let mut key = [0; 21];
@@ -22,92 +25,141 @@ pub fn key_of(name: &Name) -> [u8; 21]
     key
 }
 
-/// Inserts an entry whose name is not held.
-pub fn insert_one(by_key: &mut BTreeMap<[u8; 21], Entry>, entry: Entry) -> Result<(), Memory>
-    requires keyed { All IsKeyed by_key.old.entries }
-    requires good { HasItsChildren entry }
-    requires absent { body_of (bodies_in_map by_key.old.entries) entry.name ≡ None }
-    ensures keyed { All IsKeyed by_key.new.entries }
-    ensures ok { OnOk result (bodies_in_map by_key.new.entries
-        ≡ finite.insert (bodies_in_map by_key.old.entries) entry.name entry.body) }
-    ensures err { OnErr result (bodies_in_map by_key.new.entries ≡ bodies_in_map by_key.old.entries) }
-{
-    by_key.insert(key_of(&entry.name), entry)?;
-    Ok(())
-}
+impl Held {
+    ghost use Rattle.std.specs.Prelude.{◌≡◌, ◌-◌, ◌∷◌, ◌++◌, [], None, false, IsTrue, IfOk, IfSome, IfNone, OnOk, OnErr, length, take};
+    ghost use Rattle.std.specs.List.{AllByRecursion};
+    ghost use Rattle.swh_model.specs.Archive.{body_of, IsHeld};
+    ghost use Rattle.swh_model.specs.Step.{HasItsChildren, AreNew};
+    ghost use Rattle.swh_store.specs.Stored.{IsEntryOf};
+    ghost use Rattle.swh_store.specs.Entries.{bodies_in, stored_in, IsIndexed, IsPutIn};
 
-/// Inserts an entry, unless its name is held, and says whether it did. It looks once: the entry that is held is put back,
-/// which wants no memory.
-pub fn insert_new(by_key: &mut BTreeMap<[u8; 21], Entry>, entry: Entry) -> Result<bool, Memory>
-    requires keyed { All IsKeyed by_key.old.entries }
-    requires good { HasItsChildren entry }
-    ensures keyed { All IsKeyed by_key.new.entries }
-    ensures yes { IfOk result (λ yes. IsTrue yes → IsInserted (bodies_in_map by_key.old.entries)
-        (bodies_in_map by_key.new.entries) entry) }
-    ensures held { IfOk result (λ yes. yes ≡ false → IsHeld (bodies_in_map by_key.old.entries) entry.name) }
-    ensures same { IfOk result (λ yes. yes ≡ false
-        → bodies_in_map by_key.new.entries ≡ bodies_in_map by_key.old.entries) }
-    ensures err { OnErr result (bodies_in_map by_key.new.entries ≡ bodies_in_map by_key.old.entries) }
-{
-    let key = key_of(&entry.name);
-    match by_key.insert(key, entry)? {
-        None => Ok(true),
-        Some(held) => match by_key.insert(key, held) {
-            Ok(_) => Ok(false),
-            Err(_) => unreachable!(),
-        },
-    }
-}
-
-/// Inserts an equal entry, which shares the body.
-pub fn insert_again(by_key: &mut BTreeMap<[u8; 21], Entry>, entry: &Entry) -> Result<(), Memory>
-    requires keyed { All IsKeyed by_key.old.entries }
-    requires good { HasItsChildren entry.now }
-    requires absent { body_of (bodies_in_map by_key.old.entries) entry.now.name ≡ None }
-    ensures keyed { All IsKeyed by_key.new.entries }
-    ensures ok { OnOk result (bodies_in_map by_key.new.entries
-        ≡ finite.insert (bodies_in_map by_key.old.entries) entry.now.name entry.now.body) }
-    ensures err { OnErr result (bodies_in_map by_key.new.entries ≡ bodies_in_map by_key.old.entries) }
-{
-    insert_one(by_key, entry.again()?)
-}
-
-fn remove_one(by_key: &mut BTreeMap<[u8; 21], Entry>, name: &Name)
-    requires { All IsKeyed by_key.old.entries }
-    ensures keyed { All IsKeyed by_key.new.entries }
-    ensures view { IsWithout (bodies_in_map by_key.old.entries) (bodies_in_map by_key.new.entries) name.now }
-{
-    by_key.remove(&key_of(name));
-}
-
-/// Takes out entries that were inserted one after another, which wants no memory.
-pub fn remove_all(by_key: &mut BTreeMap<[u8; 21], Entry>, entries: &[Entry])
-    requires { All IsKeyed by_key.old.entries }
-    ensures keyed { All IsKeyed by_key.new.entries }
-    ensures view { (bodies : Bodies) → AreNew bodies entries.now
-        → bodies_in_map by_key.old.entries ≡ added bodies entries.now → bodies_in_map by_key.new.entries ≡ bodies }
-{
-    let mut left = entries.len();
-    while left > 0 {
-        left -= 1;
-        remove_one(by_key, &entries[left].name);
-    }
-}
-
-/// Inserts entries one after another, and takes them out again where memory runs out.
-pub fn insert_all(by_key: &mut BTreeMap<[u8; 21], Entry>, entries: &[Entry]) -> Result<(), Memory>
-    requires keyed { All IsKeyed by_key.old.entries }
-    requires good { AllByRecursion HasItsChildren entries.now }
-    requires absent { AreNew (bodies_in_map by_key.old.entries) entries.now }
-    ensures keyed { All IsKeyed by_key.new.entries }
-    ensures ok { OnOk result (bodies_in_map by_key.new.entries ≡ added (bodies_in_map by_key.old.entries) entries.now) }
-    ensures err { OnErr result (bodies_in_map by_key.new.entries ≡ bodies_in_map by_key.old.entries) }
-{
-    for (place, entry) in entries.iter().enumerate() {
-        if let Err(fault) = insert_again(by_key, entry) {
-            remove_all(by_key, &entries[..place]);
-            return Err(fault);
+    /// No entries. It takes no memory.
+    pub fn new(alloc: Global) -> Held
+        ensures indexed { IsIndexed result }
+        ensures none { result.entries.items ≡ [] }
+    {
+        Held {
+            places: BTreeMap::new(alloc),
+            entries: Vec::new(alloc),
         }
     }
-    Ok(())
+
+    /// The entry of a name.
+    pub fn get(&self, name: &Name) -> Option<&Entry>
+        requires { IsIndexed self.now }
+        ensures some { IfSome result (λ entry. IsEntryOf (stored_in self.now.entries.items) name.now entry.now) }
+        ensures none { IfNone result (body_of (bodies_in self.now.entries.items) name.now ≡ None) }
+    {
+        match self.places.get(&key_of(name)) {
+            Some(place) => Some(&self.entries[*place]),
+            None => None,
+        }
+    }
+
+    /// Takes room for so many entries more.
+    pub fn reserve(&mut self, additional: usize) -> Result<(), Memory>
+        requires { IsIndexed self.old }
+        ensures indexed { IsIndexed self.new }
+        ensures same { self.new.entries.items ≡ self.old.entries.items }
+    {
+        self.entries.reserve(additional)?;
+        Ok(())
+    }
+
+    /// Adds an entry whose name is not held.
+    pub fn push(&mut self, entry: Entry) -> Result<(), Memory>
+        requires indexed { IsIndexed self.old }
+        requires good { HasItsChildren entry }
+        requires absent { body_of (bodies_in self.old.entries.items) entry.name ≡ None }
+        ensures indexed { IsIndexed self.new }
+        ensures ok { OnOk result (self.new.entries.items ≡ self.old.entries.items ++ entry ∷ []) }
+        ensures err { OnErr result (self.new.entries.items ≡ self.old.entries.items) }
+    {
+        self.entries.reserve(1)?;
+        self.places.insert(key_of(&entry.name), self.entries.len())?;
+        self.entries.push_reserved(entry);
+        Ok(())
+    }
+
+    /// Adds an entry, unless its name is held, and says whether it did. It looks once: the place of the entry that is held
+    /// is put back, which wants no memory.
+    pub fn push_new(&mut self, entry: Entry) -> Result<bool, Memory>
+        requires indexed { IsIndexed self.old }
+        requires good { HasItsChildren entry }
+        ensures indexed { IsIndexed self.new }
+        ensures yes { IfOk result (λ yes. IsTrue yes → IsPutIn self.old.entries.items self.new.entries.items entry) }
+        ensures held { IfOk result (λ yes. yes ≡ false → IsHeld (bodies_in self.old.entries.items) entry.name) }
+        ensures same { IfOk result (λ yes. yes ≡ false → self.new.entries.items ≡ self.old.entries.items) }
+        ensures err { OnErr result (self.new.entries.items ≡ self.old.entries.items) }
+    {
+        self.entries.reserve(1)?;
+        let key = key_of(&entry.name);
+        match self.places.insert(key, self.entries.len())? {
+            None => {
+                self.entries.push_reserved(entry);
+                Ok(true)
+            }
+            Some(place) => match self.places.insert(key, place) {
+                Ok(_) => Ok(false),
+                Err(_) => unreachable!(),
+            },
+        }
+    }
+
+    /// Adds entries whose names are not held, one after another, and takes them out again where memory runs out.
+    pub fn push_all(&mut self, entries: &[Entry]) -> Result<(), Memory>
+        requires indexed { IsIndexed self.old }
+        requires good { AllByRecursion HasItsChildren entries.now }
+        requires absent { AreNew (bodies_in self.old.entries.items) entries.now }
+        ensures indexed { IsIndexed self.new }
+        ensures ok { OnOk result (self.new.entries.items ≡ self.old.entries.items ++ entries.now) }
+        ensures err { OnErr result (self.new.entries.items ≡ self.old.entries.items) }
+    {
+        let before = self.entries.len();
+        for entry in entries {
+            if let Err(fault) = push_again(self, entry) {
+                self.cut(before);
+                return Err(fault);
+            }
+        }
+        Ok(())
+    }
+
+    fn pop(&mut self)
+        requires { IsIndexed self.old }
+        ensures indexed { IsIndexed self.new }
+        ensures rest { self.new.entries.items ≡ take (length self.old.entries.items - 1) self.old.entries.items }
+    {
+        if let Some(entry) = self.entries.pop() {
+            self.places.remove(&key_of(&entry.name));
+        }
+    }
+
+    /// Takes the entries behind the first ones out again, which wants no memory.
+    pub fn cut(&mut self, count: usize)
+        requires { IsIndexed self.old }
+        ensures indexed { IsIndexed self.new }
+        ensures rest { self.new.entries.items ≡ take count self.old.entries.items }
+    {
+        while self.entries.len() > count {
+            self.pop();
+        }
+    }
+}
+
+ghost use Rattle.std.specs.Prelude.{◌∷◌, ◌++◌, [], None, OnOk, OnErr};
+ghost use Rattle.swh_model.specs.Archive.{body_of};
+ghost use Rattle.swh_model.specs.Step.{HasItsChildren};
+ghost use Rattle.swh_store.specs.Entries.{bodies_in, IsIndexed};
+
+/// Adds an equal entry, which shares the body.
+pub fn push_again(held: &mut Held, entry: &Entry) -> Result<(), Memory>
+    requires indexed { IsIndexed held.old }
+    requires good { HasItsChildren entry.now }
+    requires absent { body_of (bodies_in held.old.entries.items) entry.now.name ≡ None }
+    ensures indexed { IsIndexed held.new }
+    ensures ok { OnOk result (held.new.entries.items ≡ held.old.entries.items ++ entry.now ∷ []) }
+    ensures err { OnErr result (held.new.entries.items ≡ held.old.entries.items) }
+{
+    held.push(entry.again()?)
 }

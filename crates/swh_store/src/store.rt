@@ -1,32 +1,30 @@
 //! What is held in memory.
 use crate::adding::{Standing, add_batch, standing_of};
-use crate::entries::{insert_all, insert_new, insert_one, key_of};
+use crate::entries::Held;
 use crate::fault::StoreFault;
 use std::alloc::Global;
-use std::collections::BTreeMap;
 use std::marker::Model;
 use swh_base::{Entry, Graph, Memory, Name};
 
 /// A finite map from names to entries, seen as one to bodies and one to children. A body stands in memory once, and is
-/// shared with the entries that are added. It is ordered: strangers choose names, and no choice makes a look-up longer
-/// than the logarithm of their number.
+/// shared with the entries that are added. Its index is ordered: strangers choose names, and no choice makes a look-up
+/// longer than the logarithm of their number.
 #[derive(Drop)]
 pub struct Store {
-    by_key: BTreeMap<[u8; 21], Entry>,
+    held: Held,
 }
 
 impl Model for Store {
-    ghost use Rattle.std.specs.Prelude.{All};
     ghost use Rattle.swh_store.specs.Stored.{Stored, stored_code};
-    ghost use Rattle.swh_store.specs.Entries.{stored_in, IsKeyed};
+    ghost use Rattle.swh_store.specs.Entries.{stored_in, IsIndexed};
 
     ghost Value = { Stored };
 
     ghost coded = { stored_code };
 
-    ghost view = { λ s. stored_in s.by_key.entries };
+    ghost view = { λ s. stored_in s.held.entries.items };
 
-    ghost invariant = { λ s. All IsKeyed s.by_key.entries };
+    ghost invariant = { λ s. IsIndexed s.held };
 }
 
 impl Store {
@@ -44,7 +42,7 @@ impl Store {
         ensures { result ≡ empty_store }
     {
         Store {
-            by_key: BTreeMap::new(alloc),
+            held: Held::new(alloc),
         }
     }
 
@@ -54,7 +52,7 @@ impl Store {
         ensures none { IfNone result (body_of self.now.bodies name.now ≡ None) }
         ensures childless { IfNone result (children_in self.now name.now ≡ None) }
     {
-        self.by_key.get(&key_of(name))
+        self.held.get(name)
     }
 
     /// Says whether a body is held under a name. It takes no memory.
@@ -68,12 +66,12 @@ impl Store {
     pub fn standing(&self, entry: &Entry) -> Standing
         ensures { IsStanding self.now.bodies entry.now result }
     {
-        standing_of(&self.by_key, entry)
+        standing_of(&self.held, entry)
     }
 
     /// Adds a batch, in which entries may be held already, and answers how many were new. Fails with the name that would
     /// have two bodies, exactly where there is one, and for want of memory; the store is then as it was.
-    pub fn add(&mut self, alloc: Global, entries: &[Entry]) -> Result<u32, StoreFault>
+    pub fn add(&mut self, entries: &[Entry]) -> Result<u32, StoreFault>
         requires good { AllByRecursion HasItsChildren entries.now }
         requires few { length entries.now < 2 ^ 32 }
         ensures ok { OnOk result (self.new.bodies ≡ added self.old.bodies (not_held self.old.bodies entries.now)) }
@@ -82,7 +80,14 @@ impl Store {
         ensures fault { IfErr result (IsStoreFault self.old.bodies entries.now) }
         ensures err { OnErr result (self.new ≡ self.old) }
     {
-        add_batch(alloc, &mut self.by_key, entries)
+        add_batch(&mut self.held, entries)
+    }
+
+    /// Takes room for so many entries more, so that those that are held are not moved when these come.
+    pub fn reserve(&mut self, additional: usize) -> Result<(), Memory>
+        ensures { self.new ≡ self.old }
+    {
+        self.held.reserve(additional)
     }
 
     /// Adds an entry that is not held.
@@ -92,7 +97,7 @@ impl Store {
         ensures ok { OnOk result (self.new.bodies ≡ finite.insert self.old.bodies entry.name entry.body) }
         ensures err { OnErr result (self.new ≡ self.old) }
     {
-        insert_one(&mut self.by_key, entry)
+        self.held.push(entry)
     }
 
     /// Adds an entry, unless its name is held, and says whether it did.
@@ -103,7 +108,7 @@ impl Store {
         ensures same { IfOk result (λ yes. yes ≡ false → self.new ≡ self.old) }
         ensures err { OnErr result (self.new ≡ self.old) }
     {
-        insert_new(&mut self.by_key, entry)
+        self.held.push_new(entry)
     }
 
     /// Adds entries that are not held, and no two of one name.
@@ -113,21 +118,21 @@ impl Store {
         ensures ok { OnOk result (self.new.bodies ≡ added self.old.bodies entries.now) }
         ensures err { OnErr result (self.new ≡ self.old) }
     {
-        insert_all(&mut self.by_key, entries)
+        self.held.push_all(entries)
     }
 
     /// How many bodies are held. It takes no memory.
     pub fn len(&self) -> usize
         ensures { result ≡ finite.len self.now.bodies }
     {
-        self.by_key.len()
+        self.held.entries.len()
     }
 
     /// The graph of a store is that of its bodies.
     pub fn is_graph(&self)
         ensures { IsGraphOf self.now.bodies (children_in self.now) }
     {
-        let _count = self.by_key.len();
+        let _count = self.held.entries.len();
     }
 }
 

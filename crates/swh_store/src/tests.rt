@@ -39,14 +39,14 @@ fn counts_what_is_new(rt: HostRuntime) -> Result<(), Fail> {
     let alloc = rt.alloc();
     let mut store = Store::new(alloc);
     assert!(rt; !store.has(&named(0xc3)) && store.children_of(&named(0xc3)).is_none());
-    assert!(rt; store.add(alloc, &[content(alloc, b'a', b'b')?]).ok() == Some(1));
-    assert!(rt; store.add(alloc, &[content(alloc, b'a', b'b')?]).ok() == Some(0));
+    assert!(rt; store.add(&[content(alloc, b'a', b'b')?]).ok() == Some(1));
+    assert!(rt; store.add(&[content(alloc, b'a', b'b')?]).ok() == Some(0));
     let batch = [
         content(alloc, b'c', b'd')?,
         content(alloc, b'a', b'b')?,
         content(alloc, b'c', b'd')?,
     ];
-    assert!(rt; store.add(alloc, &batch).ok() == Some(1));
+    assert!(rt; store.add(&batch).ok() == Some(1));
     assert!(rt; holds(&store, 0xc3, b"ab") && holds(&store, 0xc7, b"cd"));
     assert!(rt; store.has(&named(0xc7)) && !store.has(&named(0xc8)));
     assert!(rt;
@@ -62,9 +62,9 @@ fn refuses_two_bodies_of_a_name(rt: HostRuntime) -> Result<(), Fail> {
     let alloc = rt.alloc();
     let mut store = Store::new(alloc);
     let collision = Some(StoreFault::Collision { name: named(0xc3) });
-    assert!(rt; store.add(alloc, &[content(alloc, b'a', b'b')?]).ok() == Some(1));
+    assert!(rt; store.add(&[content(alloc, b'a', b'b')?]).ok() == Some(1));
     let batch = [content(alloc, b'c', b'd')?, content(alloc, b'b', b'a')?];
-    assert!(rt; store.add(alloc, &batch).err() == collision);
+    assert!(rt; store.add(&batch).err() == collision);
     assert!(rt; holds(&store, 0xc3, b"ab") && !store.has(&named(0xc7)));
     Ok(())
 }
@@ -75,7 +75,7 @@ fn refuses_two_bodies_in_a_batch(rt: HostRuntime) -> Result<(), Fail> {
     let mut store = Store::new(alloc);
     let collision = Some(StoreFault::Collision { name: named(0xc3) });
     let batch = [content(alloc, b'a', b'b')?, content(alloc, b'b', b'a')?];
-    assert!(rt; store.add(alloc, &batch).err() == collision);
+    assert!(rt; store.add(&batch).err() == collision);
     assert!(rt; !store.has(&named(0xc3)));
     Ok(())
 }
