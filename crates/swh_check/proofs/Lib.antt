@@ -1,3 +1,4 @@
 pub mod FullMarks
 pub mod VisitCounts
 pub mod BodyFaults
+pub mod BodyCounts

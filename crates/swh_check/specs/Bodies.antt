@@ -1,12 +1,15 @@
 -- Bodies that were read again, and their ids.
 use Rattle.std.specs.Prelude.{◌≡◌, ◌≢◌, ℕ, Some, List, [], ◌∷◌, length, drop}
+use Rattle.std.specs.List.{AllByRecursion}
 use Rattle.swh_base.specs.declared.kind.Kind.{Kind}
 use Rattle.swh_base.specs.declared.name.Name.{Name}
 use Rattle.swh_base.specs.declared.entry.Entry.{Entry}
+use Rattle.swh_model.specs.declared.event.Event.{Event}
 use Rattle.swh_model.specs.declared.event.EventKind.{EventKind}
 use Rattle.swh_model.specs.declared.event.EventKind.TheVariants.{Batch, Open, Mark}
 use Rattle.swh_model.specs.Archive.{Bodies, body_of}
-use Rattle.swh_model.specs.Limits.{object_length}
+use Rattle.swh_model.specs.Limits.{object_length, stored_length}
+use Rattle.swh_format.specs.EventRecord.{packed_objects}
 pub use Rattle.swh_keeper.specs.Stored.{body_in, IsHeldNamed, IsHeldKind}
 use Rattle.swh_check.specs.declared.fault.CheckFault.{CheckFault}
 use Rattle.swh_check.specs.declared.fault.CheckFault.TheVariants.{Damaged, DiskFault, Memory}
@@ -22,6 +25,18 @@ module _ (id_of : Kind → List ℕ → List ℕ) where
   HasItsIds bytes (Batch entries) = HaveTheirIds bytes entries
   HasItsIds bytes (Open origin kind date) = Unit {0}
   HasItsIds bytes (Mark origin visit status snapshot) = Unit {0}
+
+  -- The run of the event was read again: bytes as long as it, in which each body has its object's id, and which are the
+  -- run where the disks tell.
+  pub record IsCompared (tells : Type 0) (e : Event) : Type 0 where
+    pub run : List ℕ
+    pub long : length run ≡ stored_length e.what
+    pub ids : HasItsIds run e.what
+    pub stored : tells → run ≡ packed_objects e.what
+
+  -- The same of each event.
+  abbrev pub AreCompared : Type 0 → List Event → Type 0
+  AreCompared tells = AllByRecursion (IsCompared tells)
 
   -- Bytes as long as the body that is held under the name were read for it, and have another id, which is this one.
   pub record IsDamage (bodies : Bodies) (name : Name) (found : List ℕ) : Type 0 where

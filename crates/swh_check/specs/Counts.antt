@@ -51,6 +51,16 @@ pub record IsReport (a : Archive) (report : Report) : Type 0 where
 
 -- ---- the same of a history
 
+-- the objects that were added
+abbrev pub bodies_by : EventKind → ℕ
+bodies_by (Batch entries) = length entries
+bodies_by (Open origin kind date) = 0
+bodies_by (Mark origin visit status snapshot) = 0
+
+abbrev pub bodies_in : List Event → ℕ
+bodies_in [] = 0
+bodies_in (e ∷ h) = bodies_by e.what + bodies_in h
+
 -- the visits that were opened
 abbrev pub opened_by : EventKind → ℕ
 opened_by (Batch entries) = 0

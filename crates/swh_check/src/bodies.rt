@@ -1,10 +1,11 @@
 //! The bodies of a run that was read again, against the ids of its objects.
-ghost use Rattle.std.specs.Prelude.{◌≡◌, length, IfErr, OnOk, OnErr};
+ghost use Rattle.std.specs.Prelude.{◌≡◌, length, IfOk, IfErr, OnOk, OnErr};
 ghost use Rattle.std.specs.List.{AllByRecursion};
 ghost use Rattle.swh_model.specs.Archive.{Bodies};
 ghost use Rattle.swh_model.specs.Limits.{run_length, stored_length};
 ghost use Rattle.swh_format.specs.StoredObject.{coded_run};
 ghost use Rattle.swh_format.specs.EventRecord.{packed_objects};
+ghost use Rattle.swh_check.specs.Counts.{bodies_by};
 ghost use Rattle.swh_check.specs.Bodies.{HaveTheirIds, HasItsIds, IsHeldNamed, IsHeldKind, IsBodyFault};
 
 use crate::fault::CheckFault;
@@ -28,16 +29,19 @@ fn check_body<N: Namer>(namer: &N, entry: &Entry, body: &[u8]) -> Result<(), Che
     Err(CheckFault::Damaged { name, found })
 }
 
-/// Compares the ids of the bodies in a run with those of the objects that stand there, up to the first that differs.
-fn check_run<N: Namer>(namer: &N, run: &[u8], entries: &[Entry]) -> Result<(), CheckFault>
+/// Compares the ids of the bodies in a run with those of the objects that stand there, up to the first that differs, and
+/// counts them.
+fn check_run<N: Namer>(namer: &N, run: &[u8], entries: &[Entry]) -> Result<u64, CheckFault>
     requires { length run.now ≡ run_length entries.now }
     ensures ok { OnOk result (HaveTheirIds N.id_of run.now entries.now) }
+    ensures count { IfOk result (λ count. count ≡ length entries.now) }
     ensures told { (bodies : Bodies) → AllByRecursion (IsHeldNamed N.id_of bodies) entries.now
         → run.now ≡ coded_run entries.now → OnErr result ⊥ }
     ensures damaged { (bodies : Bodies) → AllByRecursion (IsHeldNamed N.id_of bodies) entries.now
         → IfErr result (IsBodyFault N.id_of bodies) }
 {
     let mut rest = run;
+    let mut count = 0;
     for entry in entries {
         let (_head, behind) = rest.split_at(head_length(entry.name.id));
         let (body, more) = behind.split_at(entry.body.as_slice().len());
@@ -45,14 +49,16 @@ fn check_run<N: Namer>(namer: &N, run: &[u8], entries: &[Entry]) -> Result<(), C
             return Err(fault);
         }
         rest = more;
+        count += 1;
     }
-    Ok(())
+    Ok(count)
 }
 
-/// Compares the ids of the bodies in the run of an event.
-pub fn check_objects<N: Namer>(namer: &N, run: &[u8], event: &EventKind) -> Result<(), CheckFault>
+/// Compares the ids of the bodies in the run of an event, and counts them.
+pub fn check_objects<N: Namer>(namer: &N, run: &[u8], event: &EventKind) -> Result<u64, CheckFault>
     requires { length run.now ≡ stored_length event.now }
     ensures ok { OnOk result (HasItsIds N.id_of run.now event.now) }
+    ensures count { IfOk result (λ count. count ≡ bodies_by event.now) }
     ensures told { (bodies : Bodies) → IsHeldKind N.id_of bodies event.now → run.now ≡ packed_objects event.now
         → OnErr result ⊥ }
     ensures damaged { (bodies : Bodies) → IsHeldKind N.id_of bodies event.now
@@ -60,6 +66,6 @@ pub fn check_objects<N: Namer>(namer: &N, run: &[u8], event: &EventKind) -> Resu
 {
     match event {
         EventKind::Batch(entries) => check_run(namer, run, entries.as_slice()),
-        EventKind::Open { .. } | EventKind::Mark { .. } => Ok(()),
+        EventKind::Open { .. } | EventKind::Mark { .. } => Ok(0),
     }
 }

@@ -7,7 +7,7 @@ ghost use Rattle.swh_closure.specs.Whole.{IsWholeIn};
 ghost use Rattle.swh_model.specs.Step.{replay};
 ghost use Rattle.swh_model.specs.Happens.{IsSomeHistory};
 ghost use Rattle.swh_store.specs.Stored.{children_in};
-ghost use Rattle.swh_check.specs.Counts.{opened_by, IsFullMark, IsReport};
+ghost use Rattle.swh_check.specs.Counts.{bodies_in, opened_by, IsFullMark, IsReport};
 
 use crate::report::Report;
 use std::alloc::Global;
@@ -63,9 +63,15 @@ fn join_full(
     Ok(())
 }
 
-/// What the replay of a history holds.
-pub fn report_of(alloc: Global, store: &Store, history: &[Event]) -> Result<Report, Memory>
+/// What the replay of a history holds, in which so many objects were counted.
+pub fn report_of(
+    alloc: Global,
+    store: &Store,
+    history: &[Event],
+    objects: u64,
+) -> Result<Report, Memory>
     requires history { IsSomeHistory history.now }
+    requires counted { objects ≡ bodies_in history.now }
     requires replayed { store.now.bodies ≡ (replay history.now).bodies }
     ensures { IfOk result (IsReport (replay history.now)) }
 {
@@ -77,7 +83,7 @@ pub fn report_of(alloc: Global, store: &Store, history: &[Event]) -> Result<Repo
         join_full(alloc, store, &mut closed, &event.what)?;
     }
     Ok(Report {
-        objects: store.len() as u64,
+        objects,
         closed: closed.len() as u64,
         visits,
     })

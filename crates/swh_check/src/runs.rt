@@ -1,11 +1,9 @@
 //! The runs of a history, read again event by event.
-ghost use Rattle.std.specs.Prelude.{◌≡◌, ◌+◌, ◌<◌, ◌≤◌, None, length, take, IfOk, IfErr, OnOk, IsErrOf};
-ghost use Rattle.swh_outside.specs.Faults.{Rose};
-ghost use Rattle.swh_model.specs.Limits.{store_length};
-ghost use Rattle.swh_model.specs.Step.{replay};
-ghost use Rattle.swh_keeper.specs.Stored.{IsReadAgain};
-ghost use Rattle.swh_check.specs.Check.{IsCheckFault, IsNoDamage, UnlessDiskFault};
-ghost use Rattle.swh_check.specs.declared.fault.CheckFault.TheVariants.{DiskFault};
+ghost use Rattle.std.specs.Prelude.{◌≡◌, ◌+◌, ◌<◌, None, length, take, get_or, IfOk, OnOk};
+ghost use Rattle.swh_model.specs.declared.event.Event.{Event};
+ghost use Rattle.swh_check.specs.Bodies.{IsCompared, AreCompared};
+ghost use Rattle.swh_check.specs.Counts.{bodies_in};
+ghost use Rattle.swh_check.specs.Check.{IsFar, Rereads};
 
 use crate::bodies::check_objects;
 use crate::fault::CheckFault;
@@ -15,6 +13,13 @@ use swh_keeper::Keeper;
 use swh_model::length_in_store;
 use swh_outside::Disk;
 
+/// How far a history was compared: where the next run begins, and how many bodies there were.
+#[derive(Clone, Copy)]
+pub struct Far {
+    pub at: u64,
+    pub bodies: u64,
+}
+
 /// The sum, or want of memory where it passes 64 bits: no machine holds files of such a length.
 fn plus(a: u64, b: u64) -> Result<u64, Memory>
     ensures { IfOk result (λ sum. sum ≡ a + b) }
@@ -22,56 +27,48 @@ fn plus(a: u64, b: u64) -> Result<u64, Memory>
     a.checked_add(b).ok_or(Memory)
 }
 
-/// Reads the run of the event at a place of the history again, which begins at a place of the store, and compares the ids
-/// of its bodies. Answers where the run ends.
+/// Reads the run of the event at a place of the history again, and compares the ids of its bodies, once the events in
+/// front of it are compared. Answers how far the history is then compared.
 fn check_event<N: Namer, D: Disk>(
     alloc: Global,
     namer: &N,
     keeper: &mut Keeper<N, D>,
     place: usize,
-    at: u64,
-) -> Result<u64, CheckFault>
+    far: Far,
+) -> Result<Far, CheckFault>
     requires unwounded { keeper.old.wounded ≡ None }
     requires place { place < length keeper.old.history }
-    requires at { at ≡ store_length (take place keeper.old.history) }
-    ensures end { IfOk result (λ end. end ≡ store_length (take (place + 1) keeper.old.history)) }
-    ensures fault { IfErr result (IsCheckFault N.id_of (replay keeper.old.history).bodies) }
-    ensures told { D.tells → IfErr result IsNoDamage }
-    ensures same { IsReadAgain D.tells D.file keeper.old keeper.new }
-    ensures later { D.faults keeper.old.store ≤ D.faults keeper.new.store }
-    ensures cause { IsErrOf result DiskFault → Rose (D.faults keeper.old.store) (D.faults keeper.new.store) }
-    ensures quiet { OnOk result (D.faults keeper.new.store ≡ D.faults keeper.old.store) }
-    ensures quiet_fault { IfErr result (λ fault. UnlessDiskFault fault
-        (D.faults keeper.new.store ≡ D.faults keeper.old.store)) }
+    requires far { IsFar (take place keeper.old.history) far }
+    ensures far { IfOk result (IsFar (take (place + 1) keeper.old.history)) }
+    ensures compared { OnOk result ((e : Event) → e ≡ get_or keeper.old.history place e → IsCompared N.id_of D.tells e) }
+    ensures again { Rereads N.id_of D.tells D.file D.faults keeper.old keeper.new result }
 {
     let size = length_in_store(&keeper.history()[place].what)?;
-    let end = plus(at, size)?;
-    let run = keeper.stored_bytes(alloc, at, size as usize)?;
+    let at = plus(far.at, size)?;
+    let run = keeper.stored_bytes(alloc, far.at, size as usize)?;
     match check_objects(namer, &run, &keeper.history()[place].what) {
-        Ok(()) => Ok(end),
+        Ok(count) => Ok(Far {
+            at,
+            bodies: far.bodies + count,
+        }),
         Err(fault) => Err(fault),
     }
 }
 
-/// Reads all runs again, and compares the ids of all bodies, up to the first that differs.
+/// Reads all runs again, and compares the ids of all bodies, up to the first that differs. Answers how many there were.
 pub fn check_bodies<N: Namer, D: Disk>(
     alloc: Global,
     namer: &N,
     keeper: &mut Keeper<N, D>,
-) -> Result<(), CheckFault>
+) -> Result<u64, CheckFault>
     requires { keeper.old.wounded ≡ None }
-    ensures fault { IfErr result (IsCheckFault N.id_of (replay keeper.old.history).bodies) }
-    ensures told { D.tells → IfErr result IsNoDamage }
-    ensures same { IsReadAgain D.tells D.file keeper.old keeper.new }
-    ensures later { D.faults keeper.old.store ≤ D.faults keeper.new.store }
-    ensures cause { IsErrOf result DiskFault → Rose (D.faults keeper.old.store) (D.faults keeper.new.store) }
-    ensures quiet { OnOk result (D.faults keeper.new.store ≡ D.faults keeper.old.store) }
-    ensures quiet_fault { IfErr result (λ fault. UnlessDiskFault fault
-        (D.faults keeper.new.store ≡ D.faults keeper.old.store)) }
+    ensures count { IfOk result (λ count. count ≡ bodies_in keeper.old.history) }
+    ensures compared { OnOk result (AreCompared N.id_of D.tells keeper.old.history) }
+    ensures again { Rereads N.id_of D.tells D.file D.faults keeper.old keeper.new result }
 {
-    let mut at = 0;
+    let mut far = Far { at: 0, bodies: 0 };
     for place in 0..keeper.history().len() {
-        at = check_event(alloc, namer, keeper, place, at)?;
+        far = check_event(alloc, namer, keeper, place, far)?;
     }
-    Ok(())
+    Ok(far.bodies)
 }

@@ -1,5 +1,5 @@
 -- The derived order of names is the one by kind and then by id.
-use Rattle.std.proofs.Common.{◌≡◌, ◌⊎◌, inl, inr, zero, suc, ◌+◌, ◌-◌, [], ◌∷◌, ◌<◌, ◌≤◌, length, get_or, arith, ℕ, Bool, true, false, cond, List, refl, sym, ap, ◌∙◌, subst, Result, Ok, Err}
+use Rattle.std.proofs.Common.{◌≡◌, ◌⊎◌, ◌||◌, inl, inr, zero, suc, ◌+◌, ◌-◌, [], ◌∷◌, ◌<◌, ◌≤◌, length, get_or, arith, ℕ, Bool, true, false, cond, List, refl, sym, ap, ◌∙◌, subst, Result, Ok, Err}
 use Rattle.std.specs.Prelude.{Contains, is_ok}
 use Rattle.std.specs.List.{list_any, AllWithin}
 use Rattle.std.specs.List.Sorted.{IsStrictlySortedBy, IsBinarySearchResult, IsSearchInRange, IsPartitionPoint, IsSortedWithin}
@@ -102,6 +102,31 @@ module _ (old new : List Name) (name : Name) (updates : (n : Name) → finds new
 
   pub put : (n : Name) → (Contains new n → Contains old n ⊎ (name ≡ n)) × (Contains old n ⊎ (name ≡ n) → Contains new n)
   put n = (gained n, kept n)
+
+-- ---- names are joined
+
+either_of : (a b : Bool) → (a || b) ≡ true → (a ≡ true) ⊎ (b ≡ true)
+either_of true b e = inl refl
+either_of false b e = inr e
+
+or_left : (a b : Bool) → a ≡ true → (a || b) ≡ true
+or_left a b e = ap (λ (x : Bool). x || b) e
+
+or_right : (a b : Bool) → b ≡ true → (a || b) ≡ true
+or_right true b e = refl
+or_right false b e = e
+
+-- the keys are those of both lists
+module _ (old more new : List Name) (union : (n : Name) → finds new n ≡ (finds old n || finds more n)) where
+  pub joined_only : (n : Name) → Contains new n → Contains old n ⊎ Contains more n
+  joined_only n h =
+      elim (either_of (finds old n) (finds more n) (sym (union n) ∙ there new n h)) [ inl t ↦ inl (has old n t) | inr t ↦ inr (has more n t) ]
+
+  pub joined_stays : (n : Name) → Contains old n → Contains new n
+  joined_stays n h = has new n (union n ∙ or_left (finds old n) (finds more n) (there old n h))
+
+  pub joined_all : (n : Name) → Contains more n → Contains new n
+  joined_all n h = has new n (union n ∙ or_right (finds old n) (finds more n) (there more n h))
 
 -- ---- ascending lists
 

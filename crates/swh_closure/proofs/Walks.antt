@@ -1,29 +1,27 @@
--- Lists that grow as names are met, and what they show in the end.
-use Rattle.std.proofs.Common.{◌≡◌, ◌⊎◌, inl, inr, ℕ, zero, suc, ◌+◌, ◌<◌, ◌≤◌, Option, Some, None, List, [], ◌∷◌, ◌++◌, length, take, get_or, sym, ap, ◌∙◌, subst, arith, append_assoc, length-append}
-use Rattle.std.specs.Prelude.{Contains, slice_get}
-use Rattle.std.proofs.lemmas.List.{append-nil, take_more, take_all, take-append-le}
-use Rattle.std.proofs.lemmas.List.Elements.{Contains-append_left, Contains-append_cases, Contains-push, Contains-push_cases}
+-- Names that are met in a walk, and what they show in the end.
+use Rattle.std.proofs.Common.{◌≡◌, ◌⊎◌, inl, inr, ℕ, zero, suc, ◌+◌, ◌<◌, ◌≤◌, Option, Some, List, [], ◌∷◌, ◌++◌, length, take, get_or, refl, sym, ap, ◌∙◌, subst, arith, append_assoc, length-append}
+use Rattle.std.specs.Prelude.{Contains}
+use Rattle.std.proofs.lemmas.List.{append-nil, take_more, take_all}
+use Rattle.std.proofs.lemmas.List.Elements.{Contains-append_left, Contains-append_right, Contains-append_cases, Contains-push, Contains-push_cases}
 use Rattle.swh_base.specs.declared.name.Name.{Name}
 use Rattle.swh_base.specs.Reach.{IsHeldIn, IsChildIn, IsCovered, ReachesIn, CertifiesIn}
 use Rattle.swh_base.proofs.Reaches.{reaches-next}
-use Rattle.swh_closure.specs.Walk.{HaveTheSame, MayGain, Meets}
+use Rattle.swh_closure.specs.declared.met.Turn.{Turn}
+use Rattle.swh_closure.specs.declared.met.Met.{Met}
+use Rattle.swh_closure.specs.Walk.{IsDue, IsTurn, IsNew, Meets}
 
 -- ---- lists
 
-pub none_in : (n : Name) → Contains [] n → ⊥
-none_in n (k, less, is) = absurd (omega (arith, less))
+none_in : {X : Type 0} → (x : X) → Contains [] x → ⊥
+none_in x (k, less, is) = absurd (omega (arith, less))
 
-pub only : (x n : Name) → Contains (x ∷ []) n → x ≡ n
-only x n (zero, less, is) = is
-only x n (suc k, less, is) = absurd (omega (arith, less))
+only : {X : Type 0} → (x y : X) → Contains (x ∷ []) y → x ≡ y
+only x y (zero, less, is) = is
+only x y (suc k, less, is) = absurd (omega (arith, less))
 
-pub item_there : (xs : List Name) (i : ℕ) (x : Name) → i < length xs → x ≡ get_or xs i x → Contains xs x
-item_there xs i x less is = (i, less, sym is)
-
-pub name_there : (xs : List Name) (i : ℕ) (x : Name) → slice_get xs i ≡ Some x → (i < length xs) × (x ≡ get_or xs i x)
-name_there [] i x is = absurd (let f : None ≡ Some x = is in cc)
-name_there (y ∷ xs) zero x is = let e : y ≡ x = cc in (omega arith, sym e)
-name_there (y ∷ xs) (suc i) x is = let more = name_there xs i x is in (let m = more.0 in omega (arith, m), more.1)
+pub no_items : {X : Type 0} → (xs : List X) → length xs ≡ 0 → xs ≡ []
+no_items [] none = refl
+no_items (x ∷ xs) none = absurd (omega (arith, none))
 
 -- what holds of the names in front and of the next holds of one more
 pub each_more : (P : Name → Type 0) (xs : List Name) (i : ℕ) (x : Name) → i < length xs → x ≡ get_or xs i x → ((n : Name) → Contains (take i xs) n → P n) → P x → (n : Name) → Contains (take (i + 1) xs) n → P n
@@ -34,53 +32,9 @@ each_more P xs i x less is each here n h =
 pub each_of_all : (P : Name → Type 0) (xs : List Name) (i : ℕ) → length xs ≤ i → ((n : Name) → Contains (take i xs) n → P n) → (n : Name) → Contains xs n → P n
 each_of_all P xs i all each n h = each n (subst (λ (k : List Name). Contains k n) (sym (take_all i xs all)) h)
 
--- ---- a set beside a list
-
-pub same_pushed : (seen seen' names names' : List Name) (name : Name) → HaveTheSame seen names
-    → ((n : Name) → (Contains seen' n → Contains seen n ⊎ (name ≡ n)) × (Contains seen n ⊎ (name ≡ n) → Contains seen' n))
-    → names' ≡ names ++ name ∷ [] → HaveTheSame seen' names'
-same_pushed seen seen' names names' name same put is n =
-    let back = subst (λ (l : List Name). (Contains seen' n → Contains l n) × (Contains l n → Contains seen' n)) (sym is) in
-    back (
-      λ h. elim ((put n).0 h) [
-        | inl old ↦ Contains-append_left names (name ∷ []) n ((same n).0 old)
-        | inr e ↦ subst (λ (m : Name). Contains (names ++ name ∷ []) m) e (Contains-push names name)
-      ],
-      λ h. (put n).1 (elim (Contains-push_cases names name n h) [ inl old ↦ inl ((same n).1 old) | inr e ↦ inr e ]),
-    )
-
-may_keep : (l l' : List Name) (x n : Name) → MayGain l l' x → Contains l n → Contains l' n
-may_keep l l' x n (inl same) h = subst (λ (k : List Name). Contains k n) (sym same) h
-may_keep l l' x n (inr more) h = subst (λ (k : List Name). Contains k n) (sym more) (Contains-append_left l (x ∷ []) n h)
-
--- what was covered is, once more is listed
-pub covered_keep : (closed l l' : List Name) (x n : Name) → MayGain l l' x → IsCovered closed l n → IsCovered closed l' n
-covered_keep closed l l' x n gain (inl listed) = inl (may_keep l l' x n gain listed)
-covered_keep closed l l' x n gain (inr known) = inr known
-
-covered_same : (closed ns l : List Name) (n : Name) → HaveTheSame ns l → IsCovered closed l n → IsCovered closed ns n
-covered_same closed ns l n same (inl listed) = inl ((same n).1 listed)
-covered_same closed ns l n same (inr known) = inr known
-
 -- ---- a walk
 
 module _ (children_of : Name → Option (List Name)) (closed : List Name) where
-  pub meets_none : (names old : List Name) → Meets children_of closed names old old
-  meets_none names old = record { more = []; behind = sym (append-nil old); each = λ n h. absurd (none_in n h) }
-
-  pub meets_more : (names old l l' : List Name) (x : Name) → Meets children_of closed names old l → MayGain l l' x → Contains names x → IsHeldIn children_of x → (Contains closed x → ⊥)
-      → Meets children_of closed names old l'
-  meets_more names old l l' x m (inl same) there held unknown = record { more = m.more; behind = same ∙ m.behind; each = m.each }
-  meets_more names old l l' x m (inr more) there held unknown =
-      record {
-        more = m.more ++ x ∷ [];
-        behind = more ∙ ap (λ (k : List Name). k ++ x ∷ []) m.behind ∙ append_assoc old m.more (x ∷ []);
-        each = λ n h. elim (Contains-push_cases m.more x n h) [
-          | inl old ↦ m.each n old
-          | inr same ↦ subst (λ (k : Name). Contains names k × IsHeldIn children_of k × (Contains closed k → ⊥)) same (there, held, unknown)
-        ];
-      }
-
   pub child_of : (p child : Name) (kids : List Name) → children_of p ≡ Some kids → Contains kids child → IsChildIn children_of p child
   child_of p child kids is there = record { kids = kids; held = is; one_of = there }
 
@@ -90,27 +44,150 @@ module _ (children_of : Name → Option (List Name)) (closed : List Name) where
   pub of_child : (p child : Name) (kids : List Name) → children_of p ≡ Some kids → IsChildIn children_of p child → Contains kids child
   of_child p child kids is by = subst (λ (ks : List Name). Contains ks child) (same_kids by.kids kids (sym by.held ∙ is)) by.one_of
 
+  -- ---- names that are met
+
+  pub meets_none : (met : Met) → Meets children_of closed [] met met
+  meets_none met = record {
+    stay = λ n h. h;
+    each = λ n h. inl h;
+    all = λ n h. absurd (none_in n h);
+    more = [];
+    behind = sym (append-nil met.turns.items);
+    turns = λ turn h. absurd (none_in turn h);
+    count = omega arith;
+  }
+
+  -- a name that is listed or known to be closed
+  pub meets_known : (met : Met) (name : Name) → IsCovered closed met.names name → Meets children_of closed (name ∷ []) met met
+  meets_known met name known = record {
+    stay = λ n h. h;
+    each = λ n h. inl h;
+    all = λ n h. subst (IsCovered closed met.names) (only name n h) known;
+    more = [];
+    behind = sym (append-nil met.turns.items);
+    turns = λ turn h. absurd (none_in turn h);
+    count = omega arith;
+  }
+
+  due_more : (turns more : List Turn) (n : Name) → IsDue turns n → IsDue (turns ++ more) n
+  due_more turns more n due = record { turn = due.turn; there = Contains-append_left turns more due.turn due.there; named = due.named }
+
+  module _ (old new : Met) (name : Name) (kids : List Name) (unknown : Contains closed name → ⊥) (held : children_of name ≡ Some kids) (count : length new.names ≡ length old.names + 1)
+      (put : (n : Name) → (Contains new.names n → Contains old.names n ⊎ (name ≡ n)) × (Contains old.names n ⊎ (name ≡ n) → Contains new.names n)) where
+    listed : Contains new.names name
+    listed = (put name).1 (inr refl)
+
+    is_new : (children_of name ≡ Some []) ⊎ IsDue new.turns.items name → (n : Name) → Contains new.names n → Contains old.names n ⊎ IsNew children_of closed (name ∷ []) new.turns.items n
+    is_new due n h =
+        elim ((put n).0 h) [
+          | inl was ↦ inl was
+          | inr is ↦ inr (subst (IsNew children_of closed (name ∷ []) new.turns.items) is (record { one_of = (0, omega arith, refl); held = (kids, held); unknown = unknown; due = due }))
+        ]
+
+    -- a name that is added and has no children
+    pub meets_leaf : kids ≡ [] → new.turns.items ≡ old.turns.items → Meets children_of closed (name ∷ []) old new
+    meets_leaf none same = record {
+      stay = λ n h. (put n).1 (inl h);
+      each = is_new (inl (held ∙ ap (λ (ks : List Name). Some ks) none));
+      all = λ n h. inl (subst (Contains new.names) (only name n h) listed);
+      more = [];
+      behind = same ∙ sym (append-nil old.turns.items);
+      turns = λ turn h. absurd (none_in turn h);
+      count = let long = ap length same in omega (arith, long, count);
+    }
+
+    -- a name that is added with its turn
+    pub meets_turn : (turn : Turn) → turn.name ≡ name → turn.kids.now ≡ kids → new.turns.items ≡ old.turns.items ++ turn ∷ [] → Meets children_of closed (name ∷ []) old new
+    meets_turn turn named its_kids pushed = record {
+      stay = λ n h. (put n).1 (inl h);
+      each = is_new (inr (record { turn = turn; there = subst (λ (ts : List Turn). Contains ts turn) (sym pushed) (Contains-push old.turns.items turn); named = named }));
+      all = λ n h. inl (subst (Contains new.names) (only name n h) listed);
+      more = turn ∷ [];
+      behind = pushed;
+      turns = λ t h. subst (IsTurn children_of new.names) (only turn t h)
+          (record { kids = ap children_of named ∙ held ∙ ap (λ (ks : List Name). Some ks) (sym its_kids); listed = subst (Contains new.names) (sym named) listed });
+      count = let long = ap length pushed in omega (arith, long, count, length-append old.turns.items (turn ∷ []));
+    }
+
+  covered_keep : (names names' : List Name) → ((n : Name) → Contains names n → Contains names' n) → (n : Name) → IsCovered closed names n → IsCovered closed names' n
+  covered_keep names names' stay n (inl listed) = inl (stay n listed)
+  covered_keep names names' stay n (inr known) = inr known
+
+  turn_keep : (names names' : List Name) → ((n : Name) → Contains names n → Contains names' n) → (turn : Turn) → IsTurn children_of names turn → IsTurn children_of names' turn
+  turn_keep names names' stay turn is = record { kids = is.kids; listed = stay turn.name is.listed }
+
+  module _ (front : List Name) (name : Name) (old mid new : Met) (first : Meets children_of closed front old mid) (next : Meets children_of closed (name ∷ []) mid new) where
+    earlier : (n : Name) → IsNew children_of closed front mid.turns.items n → IsNew children_of closed (front ++ name ∷ []) new.turns.items n
+    earlier n is = record {
+      one_of = Contains-append_left front (name ∷ []) n is.one_of;
+      held = is.held;
+      unknown = is.unknown;
+      due = elim is.due [
+        | inl leaf ↦ inl leaf
+        | inr due ↦ inr (subst (λ (turns : List Turn). IsDue turns n) (sym next.behind) (due_more mid.turns.items next.more n due))
+      ];
+    }
+
+    later : (n : Name) → IsNew children_of closed (name ∷ []) new.turns.items n → IsNew children_of closed (front ++ name ∷ []) new.turns.items n
+    later n is = record { one_of = Contains-append_right front (name ∷ []) n is.one_of; held = is.held; unknown = is.unknown; due = is.due }
+
+    -- the next name is met after those in front of it
+    pub meets_next : Meets children_of closed (front ++ name ∷ []) old new
+    meets_next = record {
+      stay = λ n h. next.stay n (first.stay n h);
+      each = λ n h. elim (next.each n h) [
+        | inl was ↦ elim (first.each n was) [ inl old ↦ inl old | inr is ↦ inr (earlier n is) ]
+        | inr is ↦ inr (later n is)
+      ];
+      all = λ n h. elim (Contains-push_cases front name n h) [
+        | inl old ↦ covered_keep mid.names new.names next.stay n (first.all n old)
+        | inr is ↦ next.all n (0, omega arith, is)
+      ];
+      more = first.more ++ next.more;
+      behind = next.behind ∙ ap (λ (turns : List Turn). turns ++ next.more) first.behind ∙ append_assoc old.turns.items first.more next.more;
+      turns = λ turn h. elim (Contains-append_cases first.more next.more turn h) [
+        | inl old ↦ turn_keep mid.names new.names next.stay turn (first.turns turn old)
+        | inr is ↦ next.turns turn is
+      ];
+      count = let a = first.count in let b = next.count in omega (arith, a, b);
+    }
+
+  -- ---- a walk
+
   module _ (root : Name) where
     -- what a walk knows of a name that it lists
     abbrev pub IsMet : Name → Type 0
     IsMet n = ReachesIn children_of root n × IsHeldIn children_of n × (Contains closed n → ⊥)
 
-    -- how far a walk has come: the names in front of the place are followed
-    pub record Walked (l : List Name) (place : ℕ) : Type 0 where
-      pub begins : IsCovered closed l root
-      pub met : (n : Name) → Contains l n → IsMet n
-      pub within : place ≤ length l
-      pub followed : (n : Name) → Contains (take place l) n → (child : Name) → IsChildIn children_of n child → IsCovered closed l child
+    -- the children of the name are listed or known to be closed, or it has its turn
+    abbrev IsFollowed : List Name → List Turn → Name → Type 0
+    IsFollowed names turns n = ((child : Name) → IsChildIn children_of n child → IsCovered closed names child) ⊎ IsDue turns n
 
-    pub walk_starts : (l : List Name) → Meets children_of closed (root ∷ []) [] l → IsCovered closed l root → Walked l 0
-    walk_starts l m begins =
+    -- how far a walk has come
+    pub record Walked (names : List Name) (turns : List Turn) (rounds : ℕ) : Type 0 where
+      pub begins : IsCovered closed names root
+      pub met : (n : Name) → Contains names n → IsMet n
+      pub turn : (turn : Turn) → Contains turns turn → IsTurn children_of names turn
+      pub followed : (n : Name) → Contains names n → IsFollowed names turns n
+      pub count : rounds + length turns ≤ length names
+
+    childless : (n : Name) → children_of n ≡ Some [] → (child : Name) → IsChildIn children_of n child → ⊥
+    childless n none child by = none_in child (of_child n child [] none by)
+
+    new_followed : (names asked : List Name) (turns : List Turn) (n : Name) → IsNew children_of closed asked turns n → IsFollowed names turns n
+    new_followed names asked turns n is = elim is.due [ inl leaf ↦ inl (λ child by. absurd (childless n leaf child by)) | inr due ↦ inr due ]
+
+    pub walk_starts : (old new : Met) → old.names ≡ [] → old.turns.items ≡ [] → Meets children_of closed (root ∷ []) old new → Walked new.names new.turns.items 0
+    walk_starts old new no_names no_turns m =
+        let fresh : (n : Name) → Contains new.names n → IsNew children_of closed (root ∷ []) new.turns.items n =
+        λ n h. elim (m.each n h) [ inl was ↦ absurd (none_in n (subst (λ (names : List Name). Contains names n) no_names was)) | inr is ↦ is ] in
+        let turns_are : new.turns.items ≡ m.more = m.behind ∙ ap (λ (turns : List Turn). turns ++ m.more) no_turns in
         record {
-          begins = begins;
-          met = λ n h.
-              let each = m.each n (subst (λ (k : List Name). Contains k n) m.behind h) in
-              (([], only root n each.0), each.1, each.2);
-          within = omega arith;
-          followed = λ n h child is. absurd (none_in n h);
+          begins = m.all root (0, omega arith, refl);
+          met = λ n h. let is = fresh n h in (([], only root n is.one_of), is.held, is.unknown);
+          turn = λ turn h. m.turns turn (subst (λ (turns : List Turn). Contains turns turn) turns_are h);
+          followed = λ n h. new_followed new.names (root ∷ []) new.turns.items n (fresh n h);
+          count = let a = m.count in let b = ap length no_names in let c = ap length no_turns in omega (arith, a, b, c);
         }
 
     -- the root is held where a name is reached and held
@@ -118,45 +195,85 @@ module _ (children_of : Name → Option (List Name)) (closed : List Name) where
     root_held p ([], e) held = subst (IsHeldIn children_of) (sym e) held
     root_held p (next ∷ nodes, walk) held = (walk.0.kids, walk.0.held)
 
-    module _ (l : List Name) (place : ℕ) (p : Name) (is : slice_get l place ≡ Some p) (w : Walked l place) where
-      pub name_met : IsMet p
-      name_met = let there = name_there l place p is in w.met p (item_there l place p there.0 there.1)
+    module _ (names : List Name) (turns rest : List Turn) (rounds : ℕ) (turn : Turn) (is : turns ≡ rest ++ turn ∷ []) (w : Walked names turns rounds) where
+      pub its_turn : IsTurn children_of names turn
+      its_turn = w.turn turn (subst (λ (ts : List Turn). Contains ts turn) (sym is) (Contains-push rest turn))
 
-      module _ (l' kids : List Name) (kids_are : children_of p ≡ Some kids) (m : Meets children_of closed kids l l') where
-        keep : (n : Name) → IsCovered closed l n → IsCovered closed l' n
-        keep n (inl listed) = inl (subst (λ (k : List Name). Contains k n) (sym m.behind) (Contains-append_left l m.more n listed))
-        keep n (inr known) = inr known
+      -- the name whose turn it is is reached and held
+      pub name_met : IsMet turn.name
+      name_met = w.met turn.name its_turn.listed
 
-        met_now : (n : Name) → Contains l' n → IsMet n
+      module _ (old new : Met) (names_are : old.names ≡ names) (turns_are : old.turns.items ≡ rest) (m : Meets children_of closed turn.kids.now old new) where
+        stay : (n : Name) → Contains names n → Contains new.names n
+        stay n h = m.stay n (subst (λ (ns : List Name). Contains ns n) (sym names_are) h)
+
+        behind : new.turns.items ≡ rest ++ m.more
+        behind = m.behind ∙ ap (λ (ts : List Turn). ts ++ m.more) turns_are
+
+        met_now : (n : Name) → Contains new.names n → IsMet n
         met_now n h =
-            elim (Contains-append_cases l m.more n (subst (λ (k : List Name). Contains k n) m.behind h)) [
-              | inl old ↦ w.met n old
+            elim (m.each n h) [
+              | inl was ↦ w.met n (subst (λ (ns : List Name). Contains ns n) names_are was)
               | inr new ↦
-                  let each = m.each n new in
-                  let walk = name_met.0 in
-                  (reaches-next (IsHeldIn children_of) (IsChildIn children_of) walk.0 root p n walk.1 (child_of p n kids kids_are each.0), each.1, each.2)
+                  let walk = name_met.0 in (
+                    reaches-next (IsHeldIn children_of) (IsChildIn children_of) walk.0 root turn.name n walk.1 (child_of turn.name n turn.kids.now its_turn.kids new.one_of),
+                    new.held,
+                    new.unknown,
+                  )
             ]
 
-        pub walk_goes_on : ((child : Name) → IsChildIn children_of p child → IsCovered closed l' child) → Walked l' (place + 1)
-        walk_goes_on all =
-            let there = name_there l place p is in
-            let less : place + 1 ≤ length l = let t = there.0 in omega (arith, t) in
-            let cut : take (place + 1) l' ≡ take (place + 1) l = ap (take (place + 1)) m.behind ∙ take-append-le (place + 1) l m.more less in
-            record {
-              begins = keep root w.begins;
-              met = met_now;
-              within = omega (arith, less, ap length m.behind, length-append l m.more);
-              followed = λ n h.
-                  each_more (λ x. (child : Name) → IsChildIn children_of x child → IsCovered closed l' child) l place p there.0 there.1
-                  (λ x in_front child by. keep child (w.followed x in_front child by)) all n (subst (λ (k : List Name). Contains k n) cut h);
-            }
+        turn_now : (t : Turn) → Contains new.turns.items t → IsTurn children_of new.names t
+        turn_now t h =
+            elim (Contains-append_cases rest m.more t (subst (λ (ts : List Turn). Contains ts t) behind h)) [
+              | inl old ↦ turn_keep names new.names stay t (w.turn t (subst (λ (ts : List Turn). Contains ts t) (sym is) (Contains-append_left rest (turn ∷ []) t old)))
+              | inr new ↦ m.turns t new
+            ]
 
-    -- a list that is followed to its end is a certificate
-    pub walk_ends : (l ns : List Name) (place : ℕ) → length l ≤ place → Walked l place → HaveTheSame ns l → CertifiesIn children_of closed ns root
-    walk_ends l ns place past w same =
+        -- the children of the name whose turn it was are met
+        had_turn : (n : Name) → turn.name ≡ n → (child : Name) → IsChildIn children_of n child → IsCovered closed new.names child
+        had_turn n named child by = m.all child (of_child n child turn.kids.now (ap children_of (sym named) ∙ its_turn.kids) by)
+
+        was_due : (n : Name) → IsDue turns n → IsFollowed new.names new.turns.items n
+        was_due n due =
+            elim (Contains-push_cases rest turn due.turn (subst (λ (ts : List Turn). Contains ts due.turn) is due.there)) [
+              | inl old ↦ inr (subst (λ (ts : List Turn). IsDue ts n) (sym behind) (due_more rest m.more n (record { turn = due.turn; there = old; named = due.named })))
+              | inr now ↦ inl (had_turn n (ap (λ (t : Turn). t.name) now ∙ due.named))
+            ]
+
+        followed_now : (n : Name) → Contains new.names n → IsFollowed new.names new.turns.items n
+        followed_now n h =
+            elim (m.each n h) [
+              | inl was ↦
+                  elim (w.followed n (subst (λ (ns : List Name). Contains ns n) names_are was)) [
+                    | inl all ↦ inl (λ child by. covered_keep names new.names stay child (all child by))
+                    | inr due ↦ was_due n due
+                  ]
+              | inr new' ↦ new_followed new.names turn.kids.now new.turns.items n new'
+            ]
+
+        pub walk_goes_on : Walked new.names new.turns.items (rounds + 1)
+        walk_goes_on = record {
+          begins = covered_keep names new.names stay root w.begins;
+          met = met_now;
+          turn = turn_now;
+          followed = followed_now;
+          count =
+              let a = m.count in
+              let b = w.count in
+              let long = ap length is in
+              let names_long = ap length names_are in
+              let turns_long = ap length turns_are in
+              omega (arith, a, b, long, names_long, turns_long, length-append rest (turn ∷ []));
+        }
+
+    -- where no turn is left the names are a certificate
+    pub walk_ends : (names : List Name) (turns : List Turn) (rounds : ℕ) → turns ≡ [] → Walked names turns rounds → CertifiesIn children_of closed names root
+    walk_ends names turns rounds none w =
         record {
-          begins = covered_same closed ns l root same w.begins;
-          held = λ n h. (w.met n ((same n).0 h)).1;
-          kids = λ n child h by.
-              covered_same closed ns l child same (w.followed n (subst (λ (k : List Name). Contains k n) (sym (take_all place l past)) ((same n).0 h)) child by);
+          begins = w.begins;
+          held = λ n h. (w.met n h).1;
+          kids = λ n child h by. elim (w.followed n h) [
+            | inl all ↦ all child by
+            | inr due ↦ absurd (none_in due.turn (subst (λ (ts : List Turn). Contains ts due.turn) none due.there))
+          ];
         }

@@ -1,18 +1,35 @@
 -- What a walk has met.
-use Rattle.std.specs.Prelude.{◌≡◌, ◌⊎◌, ◌↔◌, Option, List, [], ◌∷◌, ◌++◌, Contains}
+use Rattle.std.specs.Prelude.{◌≡◌, ◌⊎◌, ◌+◌, ◌≤◌, Some, Option, List, [], ◌++◌, Contains, length}
 use Rattle.swh_base.specs.declared.name.Name.{Name}
-use Rattle.swh_base.specs.Reach.{IsHeldIn}
+use Rattle.swh_base.specs.Reach.{IsHeldIn, IsCovered}
+use Rattle.swh_closure.specs.declared.met.Turn.{Turn}
+use Rattle.swh_closure.specs.declared.met.Met.{Met}
 
--- Both have the same names.
-abbrev pub HaveTheSame : List Name → List Name → Type 0
-HaveTheSame names others = (n : Name) → Contains names n ↔ Contains others n
+-- One of the turns is the name's.
+pub record IsDue (turns : List Turn) (n : Name) : Type 0 where
+  pub turn : Turn
+  pub there : Contains turns turn
+  pub named : turn.name ≡ n
 
--- The list is the same and has the name, or has it at the end.
-abbrev pub MayGain : List Name → List Name → Name → Type 0
-MayGain old new name = (new ≡ old) ⊎ (new ≡ old ++ name ∷ [])
+-- The turn has the name's children, and the name is listed.
+pub record IsTurn (children_of : Name → Option (List Name)) (names : List Name) (turn : Turn) : Type 0 where
+  pub kids : children_of turn.name ≡ Some turn.kids.now
+  pub listed : Contains names turn.name
 
--- More names stand after, each one of these, held and not known to be closed.
-pub record Meets (children_of : Name → Option (List Name)) (closed names old new : List Name) : Type 0 where
-  pub more : List Name
-  pub behind : new ≡ old ++ more
-  pub each : (n : Name) → Contains more n → Contains names n × IsHeldIn children_of n × (Contains closed n → ⊥)
+-- The name is one of these and held, it is not known to be closed, and has no children, or has its turn.
+pub record IsNew (children_of : Name → Option (List Name)) (closed names : List Name) (turns : List Turn) (n : Name) : Type 0 where
+  pub one_of : Contains names n
+  pub held : IsHeldIn children_of n
+  pub unknown : Contains closed n → ⊥
+  pub due : (children_of n ≡ Some []) ⊎ IsDue turns n
+
+-- The names were met: each is listed or known to be closed, what is listed anew is one of them, and more turns came, of
+-- what is listed, and no more of them than names.
+pub record Meets (children_of : Name → Option (List Name)) (closed names : List Name) (old new : Met) : Type 0 where
+  pub stay : (n : Name) → Contains old.names n → Contains new.names n
+  pub each : (n : Name) → Contains new.names n → Contains old.names n ⊎ IsNew children_of closed names new.turns.items n
+  pub all : (n : Name) → Contains names n → IsCovered closed new.names n
+  pub more : List Turn
+  pub behind : new.turns.items ≡ old.turns.items ++ more
+  pub turns : (turn : Turn) → Contains more turn → IsTurn children_of new.names turn
+  pub count : length new.turns.items + length old.names ≤ length old.turns.items + length new.names

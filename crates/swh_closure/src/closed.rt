@@ -21,7 +21,7 @@ impl Model for Closed {
 }
 
 impl Closed {
-    ghost use Rattle.std.specs.Prelude.{◌≡◌, ◌+◌, ◌↔◌, ◌⊎◌, [], IsTrue, Contains, IfOk, OnOk, OnErr, length};
+    ghost use Rattle.std.specs.Prelude.{◌≡◌, ◌+◌, ◌^◌, ◌<◌, ◌↔◌, ◌⊎◌, [], false, IsTrue, Contains, IfOk, OnOk, OnErr, length, if◌then◌else◌};
     ghost use Rattle.std.specs.List.Sorted.{IsStrictlySortedBy};
     ghost use Rattle.swh_base.specs.declared.name.Name.{Name};
     ghost use Rattle.swh_base.specs.Name.{name_cmp};
@@ -52,9 +52,33 @@ impl Closed {
         Ok(())
     }
 
+    /// Adds a name, and answers whether it was not there.
+    pub(crate) fn insert(&mut self, name: Name) -> Result<bool, Memory>
+        ensures ok { OnOk result ((n : Name) → Contains self.new n ↔ (Contains self.old n ⊎ (name ≡ n))) }
+        ensures fresh { IfOk result (λ added. IsTrue added → Contains self.old name → ⊥) }
+        ensures same { IfOk result (λ added. added ≡ false → self.new ≡ self.old) }
+        ensures count { IfOk result (λ added. length self.new ≡ length self.old + (if added then 1 else 0)) }
+        ensures err { OnErr result (self.new ≡ self.old) }
+    {
+        let added = self.names.insert(name)?;
+        Ok(added)
+    }
+
+    /// Adds all names of another set. Where memory runs out some of them are added.
+    pub(crate) fn join(&mut self, other: Closed) -> Result<(), Memory>
+        ensures stays { (n : Name) → Contains self.old n → Contains self.new n }
+        ensures only { (n : Name) → Contains self.new n → Contains self.old n ⊎ Contains other n }
+        ensures all { OnOk result ((n : Name) → Contains other n → Contains self.new n) }
+    {
+        let Closed { mut names } = other;
+        self.names.append(&mut names)?;
+        Ok(())
+    }
+
     /// How many names there are.
     pub fn len(&self) -> usize
         ensures value { result ≡ length self.now }
+        ensures small { result < 2 ^ 63 }
         ensures ascending { IsStrictlySortedBy name_cmp self.now }
     {
         self.names.len()

@@ -5,21 +5,9 @@ ghost use Rattle.swh_base.specs.Reach.{ReachesIn, IsClosedIn};
 ghost use Rattle.swh_closure.specs.Whole.{IsWholeIn};
 
 use crate::closed::Closed;
-use crate::walking::{WalkFault, walk};
+use crate::walking::{WalkFault, reached};
 use std::alloc::Global;
 use swh_base::{Graph, Memory, Name};
-
-/// Adds the names that are not there. Where memory runs out some of them are added.
-fn join(closed: &mut Closed, names: &[Name]) -> Result<(), Memory>
-    ensures stays { (n : Name) → Contains closed.old n → Contains closed.new n }
-    ensures only { (n : Name) → Contains closed.new n → Contains closed.old n ⊎ Contains names.now n }
-    ensures all { OnOk result ((n : Name) → Contains names.now n → Contains closed.new n) }
-{
-    for name in names {
-        closed.add(*name)?;
-    }
-    Ok(())
-}
 
 /// Whether all that is reached from the root is held, where the names that are known to be closed have with each name
 /// all that is reached from it. Where the root is closed, what is reached from it joins them. Where memory runs out, some
@@ -39,9 +27,9 @@ pub fn close<G: Graph>(
         → Contains closed.new n) }
     ensures same { IfOk result (λ yes. yes ≡ false → closed.new ≡ closed.old) }
 {
-    match walk(alloc, graph, root, closed) {
-        Ok(cert) => {
-            join(closed, cert.names.as_slice())?;
+    match reached(alloc, graph, root, closed) {
+        Ok(names) => {
+            closed.join(names)?;
             Ok(true)
         }
         Err(WalkFault::Missing { .. }) => Ok(false),

@@ -1,15 +1,15 @@
-//! A walk over all that is reached from a name: breadth first, each name once, and no name that is known to be closed.
-ghost use Rattle.std.specs.Prelude.{◌≡◌, ◌↔◌, IsTrue, List, None, Some, IfOk, IfErr, IfSome, IfNone, OnOk, Contains};
+//! A walk over all that is reached from a name: each name is looked up once, and none that is known to be closed.
+ghost use Rattle.std.specs.Prelude.{◌≡◌, false, IsTrue, [], ◌∷◌, None, IfOk, IfErr, IfSome, IfNone, OnOk, Contains};
 ghost use Rattle.std.specs.List.Sorted.{IsStrictlySortedBy};
 ghost use Rattle.swh_base.specs.declared.name.Name.{Name};
 ghost use Rattle.swh_base.specs.Name.{name_cmp};
-ghost use Rattle.swh_base.specs.Reach.{IsHeldIn, IsChildIn, IsCovered, ReachesIn, IsClosedIn, AreClosedIn, CertifiesIn};
+ghost use Rattle.swh_base.specs.Reach.{ReachesIn, IsClosedIn, AreClosedIn, CertifiesIn};
 ghost use Rattle.swh_closure.specs.Certificate.{IsWalkFault};
 ghost use Rattle.swh_closure.specs.Walk.{Meets};
 
 use crate::certificate::Cert;
 use crate::closed::Closed;
-use crate::met::Met;
+use crate::met::{Met, Turn};
 use std::alloc::Global;
 use swh_base::{Graph, Memory, Name};
 
@@ -34,64 +34,82 @@ impl From<Memory> for WalkFault {
     }
 }
 
-fn is_held<G: Graph>(graph: &G, name: &Name) -> bool
-    ensures yes { IsTrue result → IsHeldIn (G.children_of graph.now) name.now }
-    ensures no { (IsTrue result → ⊥) → G.children_of graph.now name.now ≡ None }
-{
-    graph.children_of(name).is_some()
-}
-
-/// Whether a name was met or is known to be closed, so that it need not be looked for.
-fn is_known(closed: &Closed, met: &Met, name: &Name) -> bool
-    ensures { IsTrue result ↔ IsCovered closed.now met.now name.now }
-{
-    met.has(name) || closed.contains(name)
-}
-
-/// Lists these names, but for those that are known to be closed, up to the first that is not held, which is answered.
-fn meet_all<G: Graph>(
-    graph: &G,
+/// Lists a name, unless it is listed or known to be closed, and answers whether it is any of the three or held. Where it
+/// is not, the walk is at its end, and what is listed is to be let go.
+fn meet<'a, G: Graph>(
+    graph: &'a G,
     closed: &Closed,
-    met: &mut Met,
+    met: &mut Met<'a>,
+    name: Name,
+) -> Result<bool, Memory>
+    ensures yes { IfOk result (λ yes. IsTrue yes → Meets (G.children_of graph.now) closed.now (name ∷ []) met.old met.new) }
+    ensures no { IfOk result (λ yes. yes ≡ false → G.children_of graph.now name ≡ None) }
+{
+    if closed.contains(&name) {
+        return Ok(true);
+    }
+    if !met.names.insert(name)? {
+        return Ok(true);
+    }
+    let Some(kids) = graph.children_of(&name) else {
+        return Ok(false);
+    };
+    if !kids.is_empty() {
+        met.turns.push(Turn { name, kids })?;
+    }
+    Ok(true)
+}
+
+/// Meets these names, up to the first that is missing, which is answered.
+fn meet_all<'a, G: Graph>(
+    graph: &'a G,
+    closed: &Closed,
+    met: &mut Met<'a>,
     names: &[Name],
 ) -> Result<Option<Name>, Memory>
-    ensures meets { Meets (G.children_of graph.now) closed.now names.now met.old met.new }
+    ensures meets { IfOk result (λ missing. IfNone missing (Meets (G.children_of graph.now) closed.now names.now met.old met.new)) }
     ensures missing { IfOk result (λ missing. IfSome missing (λ name. Contains names.now name
         × (G.children_of graph.now name ≡ None))) }
-    ensures all { IfOk result (λ missing. IfNone missing ((name : Name) → Contains names.now name
-        → IsCovered closed.now met.new name)) }
 {
     for name in names {
-        if is_known(closed, met, name) {
-            continue;
-        }
-        if !is_held(graph, name) {
+        if !meet(graph, closed, met, *name)? {
             return Ok(Some(*name));
         }
-        met.add(*name)?;
     }
     Ok(None)
 }
 
-/// The same of the children of a name that is held.
-fn meet_children<G: Graph>(
+/// The names that are reached from the root and not known to be closed, where each of them is held.
+pub fn reached<G: Graph>(
+    alloc: Global,
     graph: &G,
+    root: Name,
     closed: &Closed,
-    met: &mut Met,
-    parent: &Name,
-) -> Result<Option<Name>, Memory>
-    requires { IsHeldIn (G.children_of graph.now) parent.now }
-    ensures meets { (kids : List Name) → G.children_of graph.now parent.now ≡ Some kids
-        → Meets (G.children_of graph.now) closed.now kids met.old met.new }
-    ensures missing { IfOk result (λ missing. IfSome missing (λ child. IsChildIn (G.children_of graph.now) parent.now child
-        × (G.children_of graph.now child ≡ None))) }
-    ensures all { IfOk result (λ missing. IfNone missing ((child : Name)
-        → IsChildIn (G.children_of graph.now) parent.now child → IsCovered closed.now met.new child)) }
+) -> Result<Closed, WalkFault>
+    ensures ok { IfOk result (λ names. CertifiesIn (G.children_of graph.now) closed.now names root) }
+    ensures reached { IfOk result (λ names. (n : Name) → Contains names n
+        → ReachesIn (G.children_of graph.now) root n × (Contains closed.now n → ⊥)) }
+    ensures missing { IfErr result (IsWalkFault (G.children_of graph.now) root) }
 {
-    match graph.children_of(parent) {
-        Some(kids) => meet_all(graph, closed, met, kids),
-        None => unreachable!(),
+    let mut met = Met::new(alloc);
+    if !meet(graph, closed, &mut met, root)? {
+        let parent = None;
+        return Err(WalkFault::Missing {
+            parent,
+            child: root,
+        });
     }
+    for _round in 0..usize::MAX {
+        let Some(turn) = met.turns.pop() else {
+            return Ok(met.names);
+        };
+        if let Some(child) = meet_all(graph, closed, &mut met, turn.kids)? {
+            let parent = Some(turn.name);
+            return Err(WalkFault::Missing { parent, child });
+        }
+    }
+    let _count = met.names.len();
+    unreachable!()
 }
 
 /// A certificate that all that is reached from the root is held; there is one exactly where it is. The walk goes into no
@@ -111,21 +129,6 @@ pub fn walk<G: Graph>(
         → IsClosedIn (G.children_of graph.now) root) }
     ensures missing { IfErr result (IsWalkFault (G.children_of graph.now) root) }
 {
-    let mut met = Met::new(alloc);
-    if let Some(child) = meet_all(graph, closed, &mut met, &[root])? {
-        let parent = None;
-        return Err(WalkFault::Missing { parent, child });
-    }
-    for place in 0..usize::MAX {
-        let Some(name) = met.get(place) else {
-            let names = met.list(alloc)?;
-            return Ok(Cert { root, names });
-        };
-        if let Some(child) = meet_children(graph, closed, &mut met, &name)? {
-            let parent = Some(name);
-            return Err(WalkFault::Missing { parent, child });
-        }
-    }
-    let _count = met.len();
-    unreachable!()
+    let names = reached(alloc, graph, root, closed)?.list(alloc)?;
+    Ok(Cert { root, names })
 }

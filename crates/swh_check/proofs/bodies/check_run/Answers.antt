@@ -47,6 +47,7 @@ loop-entry-preserved g c =
           let so_far = c.loop-entry.invariant.sized ∙ ap run_length cut in
           omega (arith, long, dropped, so_far);
       coded = λ is. more ∙ ap (λ (l : List ℕ). drop (object_length e) l) (c.loop-entry.invariant.coded is ∙ ap coded_run cut) ∙ more-coded e (coded_run (drop (i + 1) es));
+      count = let so_far = c.loop-entry.invariant.count in omega (arith, so_far);
       ids = λ later.
           c.loop-entry.invariant.ids
           (subst (λ (l : List Entry). HaveTheirIds id_of rest l) (sym cut)

@@ -1,6 +1,7 @@
-use Rattle.std.proofs.Common.{◌≡◌, inl, inr, List, take, sym, ap, ◌∙◌, subst, arith}
+use Rattle.std.proofs.Common.{◌≡◌, inl, inr, ℕ, List, take, sym, ap, ◌∙◌, subst, arith}
 use Rattle.std.specs.FinMap as finite
 use Rattle.std.proofs.lemmas.List.{take_all}
+use Rattle.swh_base.specs.Name.{name_cmp}
 use Rattle.swh_base.specs.Snapshot.{snapshot_name}
 use Rattle.swh_model.specs.declared.event.Event.{Event}
 use Rattle.swh_model.specs.Archive.{Bodies, empty_archive, IsGraphOf}
@@ -8,6 +9,7 @@ use Rattle.swh_model.specs.Step.{replay}
 use Rattle.swh_model.proofs.Graphs.{reaches-same, closed-same}
 use Rattle.swh_store.specs.Stored.{children_in}
 use Rattle.swh_check.specs.Counts.{opened_in, IsFullIn}
+use Rattle.swh_check.proofs.BodyCounts.{counted as counted-bodies}
 use Rattle.swh_check.proofs.FullMarks.{full-in, full-next, closed-full, none-full}
 use Rattle.swh_check.proofs.VisitCounts.{counted, none-counted, opened-next, opened_once}
 use Rattle.swh_check.proofs.counting.report_of.Goals as goal
@@ -59,10 +61,10 @@ returns c =
     let all = counted empty_archive h in
     let so_far = c.loop-event.invariant.visits ∙ ap opened_in whole in
     record {
-      objects = c.len.ensures ∙ ap (λ (b : Bodies). finite.len b) c.requires.replayed;
+      objects = let objects = counted-bodies c.requires.history.id_of empty_archive h c.requires.history.is in let none = finite.len-empty name_cmp (List ℕ) in let given = c.requires.counted in omega (arith, objects, none, given);
       visits = omega (arith, all, so_far, none-counted);
       names = c.loop-event.closed;
-      ascending = c.len-2.ensures.ascending;
+      ascending = c.len.ensures.ascending;
       are = λ n.
           let known = c.loop-event.invariant.closed n in (
             λ there.
@@ -78,5 +80,5 @@ returns c =
               (reaches-same a.bodies graph graph_is (snapshot_name is.snapshot) n).0 is.reached,
             ),
           );
-      closed = c.len-2.ensures.value;
+      closed = c.len.ensures.value;
     }
