@@ -75,6 +75,16 @@ module _ (id : Kind → List ℕ → List ℕ) {T : Type 0} (aims : AllAims T) w
     kinds = all-append (λ (m : Made). m.kind ≡ Content) b.more k.more b.kinds k.kinds;
   }
 
+  pub all_brings : (changes : List (At Change)) (c d : Changed) → all_changed id aims changes c ≡ Ok d → Brings c d
+  all_brings [] c d e =
+      let is : c ≡ d = cc in
+      subst (Brings c) is (record { more = []; added = sym (append-nil c.contents); kinds = tt })
+  all_brings (a ∷ more) c d e = by_first (changed id aims a.at a.it c) refl e (λ m q. all_brings more m d q)
+    where
+      by_first : (r : Result Changed Missing) → changed id aims a.at a.it c ≡ r → (r >>= λ m. all_changed id aims more m) ≡ Ok d → ((m : Changed) → all_changed id aims more m ≡ Ok d → Brings m d) → Brings c d
+      by_first (Err x) s q k = absurd cc
+      by_first (Ok m) s q k = let t = turns a.at a.it c m s in brings_more c m d t.brings (k m q)
+
   -- What all changes do to a tree whose files are among these.
   pub record Ends (names : List Name) (c d : Changed) : Type 0 where
     pub brings : Brings c d

@@ -16,8 +16,9 @@ use Rattle.swh_fastload.specs.declared.bad.BadStream.{BadStream}
 use Rattle.swh_fastload.specs.declared.bad.BadStream.TheVariants.{Stream, Limit}
 use Rattle.swh_fastmeaning.specs.Aims.{Missing}
 use Rattle.swh_fastmeaning.specs.Commands.{◌>>=◌, Making, Makes, no_making, step, steps, then}
+use Rattle.swh_fastmeaning.specs.Ending.{PassesEnd}
 use Rattle.swh_fastmeaning.specs.Feeding.{IsTooLong}
-use Rattle.swh_fastload.specs.Input.{IsSameMaking, beginning, EndsWithin, IsMeant, MeansStream, StopsAt, PassesEnd, EndsAbove, Means, Breaks, MayBreak}
+use Rattle.swh_fastload.specs.Input.{IsSameMaking, beginning, EndsWithin, IsMeant, MeansStream, StopsAt, EndsAbove, Means, Breaks, MayBreak}
 
 module _ (id : Kind → List ℕ → List ℕ) where
   -- Commands, and then more of them.
@@ -84,9 +85,9 @@ module _ (id : Kind → List ℕ → List ℕ) where
         let within = subst (EndsWithin id head) same h.within in
         above which number e.making within e.above
       where
-        above : (which : Which) (number : ℕ) (making : Making) → EndsWithin id head making → PassesEnd id head making which number → ⊥
+        above : (which : Which) (number : ℕ) (making : Making) → EndsWithin id head making → PassesEnd head making.aims which number → ⊥
         above which number making w (inl a) = let r = w.refs in let n = a.1 in let b = a.2 in absurd (omega (arith, r, n, b))
-        above which number making w (inr a) = let r = w.body in let n = a.1 in let b = a.2 in absurd (omega (arith, r, n, b))
+        above which number making w (inr a) = let r = w.body in let n = a.2 in let b = a.3 in absurd (omega (arith, r, n, b))
 
     -- two makings of one input
     one_meant : (m n : StreamMeaning) → MeansStream id head text m → MeansStream id head text n → IsSameMaking m n

@@ -7,6 +7,7 @@ pub mod DirectoryKids
 pub mod FreePaths
 pub mod ParentsFound
 pub mod InputLaws
+pub mod MadeKinds
 pub mod Progresses
 pub mod Readings
 pub mod Meanings

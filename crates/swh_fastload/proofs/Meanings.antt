@@ -1,6 +1,6 @@
 -- What an input means of which all commands were carried out.
 use Rattle.std.proofs.Common.{◌≡◌, ◌⊎◌, ◌↔◌, ℕ, ◌<◌, ◌≤◌, inl, inr, false, List, [], ◌∷◌, ◌++◌, Option, Contains, length, sym, ap, ◌∙◌, subst}
-use Rattle.std.specs.Prelude.{Result, Ok, Err, IfOk, IfErr}
+use Rattle.std.specs.Prelude.{◌≢◌, Result, Ok, Err, IfOk, IfErr}
 use Rattle.std.specs.List.{AllByRecursion}
 use Rattle.std.proofs.lemmas.List.{map-append, append-nil}
 use Rattle.std.proofs.lemmas.List.Elements.{Contains-append_left, Contains-append_right, Contains-append_cases}
@@ -11,7 +11,6 @@ use Rattle.swh_base.specs.declared.kind.Kind.{Kind}
 use Rattle.swh_base.specs.declared.kind.Kind.TheVariants.{Snapshot}
 use Rattle.swh_base.specs.declared.name.Name.{Name}
 use Rattle.swh_base.specs.declared.entry.Entry.{Entry}
-use Rattle.swh_base.specs.declared.visit.Which.TheVariants.{Body, Refs}
 use Rattle.swh_base.specs.Snapshot.{snapshot_name}
 use Rattle.swh_model.specs.Meaning.{Made}
 use Rattle.swh_object.specs.Object.{IsObject}
@@ -21,8 +20,8 @@ use Rattle.swh_fastmeaning.specs.declared.feed_fault.FeedFault.{FeedFault}
 use Rattle.swh_fastmeaning.specs.declared.feed_fault.FeedFault.TheVariants.{BadStream as BadFeed, Limit as PassesBody, Memory as FeedMemory}
 use Rattle.swh_fastmeaning.specs.declared.objects.Objects.{Objects}
 use Rattle.swh_fastmeaning.specs.Commands.{Making, Makes}
-use Rattle.swh_fastmeaning.specs.Ending.{refs_limit, EndsParts, ExplainsEnd}
-use Rattle.swh_fastmeaning.specs.Feeding.{Loading}
+use Rattle.swh_fastmeaning.specs.Ending.{refs_limit, EndsParts, PassesEnd, ExplainsEnd}
+use Rattle.swh_fastmeaning.specs.Feeding.{Loading, AreNew}
 use Rattle.swh_fastload.specs.Input.{beginning, MeansStream, Means, Breaks, MayBreak}
 use Rattle.swh_fastload.specs.Loaded.{making_of}
 use Rattle.swh_fastmeaning.specs.Making.{made_from, made}
@@ -33,8 +32,9 @@ use Rattle.swh_fastload.specs.Sourced.{MeansLeft, ExplainsSource}
 use Rattle.swh_fastmeaning.specs.Snapshots.{refs_of, snapshot_of}
 use Rattle.swh_fastmeaning.specs.Stock.{names_of_made}
 use Rattle.swh_fastmeaning.specs.Whole.{names_of, AreWhole, HasAllThatIsReached}
-use Rattle.swh_fastmeaning.proofs.Elements.{first_or_later, first_is, none_is}
-use Rattle.swh_fastload.proofs.Progresses.{same_names, whole_one, carried}
+use Rattle.swh_fastmeaning.proofs.Elements.{first_or_later, first_is, none_is, from_map, each_is}
+use Rattle.swh_fastmeaning.proofs.Givens.{new_push}
+use Rattle.swh_fastload.proofs.Progresses.{same_names, whole_one, new_whole, carried}
 
 module _ (id : Kind → List ℕ → List ℕ) (head : Option (List ℕ)) where
   whole_stream : (text : List ℕ) (state : Result Loading FeedFault) (es : List Entry) (h : HasRead id text state es) → IsStreamWithin 0 false text h.come.loaded.commands
@@ -85,8 +85,9 @@ module _ (id : Kind → List ℕ → List ℕ) (head : Option (List ℕ)) where
   means text state es h o loaded ends object items named = means_stream text state es h o loaded ends object items named
 
   -- The objects have all of their children.
-  pub reaches_all : {N : Type 0} (l : Loading) (es : List Entry) (o : Entry) (loaded : Objects N) → l.given ≡ made es → AreWhole id es → EndsParts head l o → IsObject id o → AllByRecursion (Contains (names_of_made id l.given)) o.kids → loaded.objects.items ≡ es ++ o ∷ [] → loaded.snapshot ≡ o.name.id → HasAllThatIsReached id loaded
-  reaches_all l es o loaded given whole ends object kids items named =
+  pub reaches_all : {N : Type 0} (l : Loading) (es : List Entry) (o : Entry) (loaded : Objects N) → l.given ≡ made es → AreNew id [] es → EndsParts head l o → IsObject id o → AllByRecursion (Contains (names_of_made id l.given)) o.kids → loaded.objects.items ≡ es ++ o ∷ [] → loaded.snapshot ≡ o.name.id → HasAllThatIsReached id loaded
+  reaches_all l es o loaded given fresh ends object kids items named =
+      let whole : AreWhole id es = new_whole id es fresh in
       let among : AllByRecursion (Contains (names_of es)) o.kids = subst (λ (ns : List Name). AllByRecursion (Contains ns) o.kids) (ap (names_of_made id) given ∙ same_names id es whole.each) kids in
       let all : AreWhole id (es ++ o ∷ []) = whole_one id es o whole object among in
       let kind : o.name.kind ≡ Snapshot = ap (λ (m : Made). m.kind) ends.snapshot in
@@ -96,6 +97,16 @@ module _ (id : Kind → List ℕ → List ℕ) (head : Option (List ℕ)) where
         objects = subst (AreWhole id) (sym items) all;
         snapshot = subst (λ (xs : List Entry). Contains (names_of xs) (snapshot_name loaded.snapshot)) (sym items) (subst (Contains (names_of (es ++ o ∷ []))) name there);
       }
+
+  -- The snapshot is new, since none was given.
+  pub ends_new : (l : Loading) (es : List Entry) (o : Entry) → l.given ≡ made es → AreNew id [] es → AllByRecursion (λ e. e.name.kind ≢ Snapshot) es → EndsParts head l o → IsObject id o → AllByRecursion (Contains (names_of_made id l.given)) o.kids → AreNew id [] (es ++ o ∷ [])
+  ends_new l es o given fresh kinds ends object kids =
+      new_push id [] es o fresh unseen object (subst (λ (ms : List Made). AllByRecursion (Contains (names_of_made id ms)) o.kids) given kids)
+    where
+      unseen : Contains (made es) (made_from o) → ⊥
+      unseen c =
+          let from = from_map made_from es (made_from o) c in
+          each_is (λ (e : Entry). e.name.kind ≢ Snapshot) es from.0 kinds from.1 (ap (λ (m : Made). m.kind) (from.2 ∙ ends.snapshot))
 
   -- The snapshot passes a limit.
   pub end_breaks : (text : List ℕ) (state : Result Loading FeedFault) (es : List Entry) (h : HasRead id text state es) (fault : FeedFault) → ExplainsEnd head h.come.loading.aims fault → BreaksSo id head text (feed_fault fault)
@@ -108,7 +119,7 @@ module _ (id : Kind → List ℕ → List ℕ) (head : Option (List ℕ)) where
         making = l.making;
         stream = whole_stream text state es h;
         carried = carried id text h.rest h.come.loading es l;
-        above = subst (λ a. (((which ≡ Refs) × (number ≡ length (refs_of a)) × (refs_limit < number)) ⊎ ((which ≡ Body) × (number ≡ length (snapshot_of head a).body) × (body_limit < number)))) l.stands.aims (elim e [ inl r ↦ inl r | inr b ↦ inr (b.0, b.2, b.3) ]);
+        above = subst (λ a. PassesEnd head a which number) l.stands.aims e;
       }))
   end_breaks text state es h FeedMemory e = tt
 

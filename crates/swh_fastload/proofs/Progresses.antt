@@ -57,6 +57,15 @@ module _ (id : Kind → List ℕ → List ℕ) where
       let rest : AreNew id (made (es ++ e ∷ [])) more = subst (λ (ms : List Made). AreNew id ms more) (sym (map-append made_from es (e ∷ []))) n.3 in
       subst (AreWhole id) (append_assoc es (e ∷ []) more) (whole_more (es ++ e ∷ []) more one rest)
 
+  pub new_whole : (es : List Entry) → AreNew id [] es → AreWhole id es
+  new_whole es n = whole_more [] es (record { each = tt; kids = tt }) n
+
+  -- New objects, and then more of them.
+  pub new_append : (before : List Made) (es more : List Entry) → AreNew id before es → AreNew id (before ++ made es) more → AreNew id before (es ++ more)
+  new_append before [] more h k = subst (λ (ms : List Made). AreNew id ms more) (append-nil before) k
+  new_append before (e ∷ es) more h k =
+      (h.0, h.1, h.2, new_append (before ++ made_from e ∷ []) es more h.3 (subst (λ (ms : List Made). AreNew id ms more) (sym (append_assoc before (made_from e ∷ []) (made es))) k))
+
   then_cases : (a b : Making) (o : Made) → Makes id (then id a b) o → Makes id a o ⊎ Makes id b o
   then_cases a b o (inl h) = elim (Contains-append_cases a.objects b.objects o h) [ inl k ↦ inl (inl k) | inr k ↦ inr (inl k) ]
   then_cases a b o (inr h) = elim (Contains-append_cases a.trees b.trees h.0 h.1) [ inl k ↦ inl (inr (h.0, k, h.2)) | inr k ↦ inr (inr (h.0, k, h.2)) ]

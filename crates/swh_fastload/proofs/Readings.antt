@@ -1,12 +1,15 @@
 -- What becomes of a stream that is read and fed.
 use Rattle.std.proofs.Common.{◌≡◌, ◌⊎◌, ℕ, ◌≤◌, inl, inr, Bool, false, List, [], ◌∷◌, ◌++◌, Option, Contains, refl, sym, ap, ◌∙◌, subst, arith}
-use Rattle.std.specs.Prelude.{Result, Ok, Err, Some, IfOk}
+use Rattle.std.specs.Prelude.{◌≢◌, Result, Ok, Err, Some, IfOk}
+use Rattle.std.specs.List.{AllByRecursion}
 use Rattle.std.proofs.lemmas.List.{map-append, append-nil}
 use Rattle.swh_outside.specs.Faults.{Rose}
 use Rattle.swh_base.specs.declared.kind.Kind.{Kind}
+use Rattle.swh_base.specs.declared.kind.Kind.TheVariants.{Snapshot}
 use Rattle.swh_base.specs.declared.entry.Entry.{Entry}
 use Rattle.swh_base.specs.declared.visit.Which.{Which}
 use Rattle.swh_model.specs.Meaning.{Made}
+use Rattle.swh_model.proofs.Entries.{all-append}
 use Rattle.swh_fastgrammar.specs.declared.command.Command.{Command}
 use Rattle.swh_fastgrammar.specs.declared.fault.StreamWhy.{StreamWhy}
 use Rattle.swh_fastrows.specs.declared.fail.ReadFail.{ReadFail}
@@ -28,9 +31,9 @@ use Rattle.swh_fastload.specs.Loads.{no_loading, FeedsTo}
 use Rattle.swh_fastmeaning.specs.Making.{made_from, made}
 use Rattle.swh_fastload.specs.Progress.{StandsFor, HasLoaded}
 use Rattle.swh_fastload.specs.Reading.{read_fault, feed_fault, HasGiven, HasCome, FailsSo}
-use Rattle.swh_fastmeaning.specs.Whole.{AreWhole}
-use Rattle.swh_fastmeaning.proofs.Elements.{none_is}
-use Rattle.swh_fastload.proofs.Progresses.{whole_more, loaded_more, carried}
+use Rattle.swh_fastmeaning.proofs.Elements.{none_is, all_as}
+use Rattle.swh_fastload.proofs.MadeKinds.{no_snapshot}
+use Rattle.swh_fastload.proofs.Progresses.{new_append, loaded_more, carried}
 
 -- Where a count rose since later, it rose since earlier.
 pub rose_since : (ending : Ending) (a b c : ℕ) → ending ≡ Open → a ≤ b → (ending ≡ Refused SourceFailed) ⊎ Rose b c → Rose a c
@@ -44,7 +47,8 @@ module _ (id : Kind → List ℕ → List ℕ) where
     loading = no_loading;
     is = e;
     given = ap made (sym n);
-    whole = subst (AreWhole id) (sym n) (record { each = tt; kids = tt });
+    fresh = subst (AreNew id []) (sym n) tt;
+    kinds = subst (AllByRecursion (λ (e : Entry). e.name.kind ≢ Snapshot)) (sym n) tt;
   }
 
   none_made : (o : Made) → Makes id no_making o → Contains [] o
@@ -67,12 +71,15 @@ module _ (id : Kind → List ℕ → List ℕ) where
   -- A command more was carried out.
   pub given_more : (state new : Result Loading FeedFault) (es more all : List Entry) (c : Command) (h : HasGiven id state es) → FeedsTo id h.loading c new more → all ≡ es ++ more → HasGiven id new all
   given_more state new es more all c h f e =
+      let more_kinds : AllByRecursion (λ (x : Entry). x.name.kind ≢ Snapshot) more =
+      all_as (λ (x : Entry). Makes id f.feeds.making (made_from x)) (λ (x : Entry). x.name.kind ≢ Snapshot) (λ x m. no_snapshot id h.loading.aims c f.feeds.making (made_from x) f.feeds.is m) more f.feeds.each in
       let given : f.new.given ≡ made (es ++ more) = f.feeds.given ∙ ap (λ (ms : List Made). ms ++ made more) h.given ∙ sym (map-append made_from es more) in
       record {
         loading = f.new;
         is = f.is;
         given = given ∙ ap made (sym e);
-        whole = subst (AreWhole id) (sym e) (whole_more id es more h.whole (subst (λ (ms : List Made). AreNew id ms more) h.given f.feeds.fresh));
+        fresh = subst (AreNew id []) (sym e) (new_append id [] es more h.fresh (subst (λ (ms : List Made). AreNew id ms more) h.given f.feeds.fresh));
+        kinds = subst (AllByRecursion (λ (x : Entry). x.name.kind ≢ Snapshot)) (sym e) (all-append (λ (x : Entry). x.name.kind ≢ Snapshot) es more h.kinds more_kinds);
       }
 
   pub come_more : (text : List ℕ) (rest next : Position) (state new : Result Loading FeedFault) (es more all : List Entry) (c : Command) (h : HasCome id text rest state es) → StartsWith rest next (c ∷ []) → FeedsTo id h.loading c new more → all ≡ es ++ more → HasCome id text next new all

@@ -1,12 +1,12 @@
 -- What an input means, and how it breaks (git-fast-import(1), input format and commands): all that the loader and the
 -- program know of inputs. What is meant are objects, with the snapshot among them, as a set: two makings of one input may
 -- have them in different orders. `id` gives the id of a kind and a body.
-use Rattle.std.specs.Prelude.{◌≡◌, ◌⊎◌, ◌↔◌, ℕ, ◌<◌, ◌≤◌, false, Option, List, [], ◌∷◌, ◌++◌, length, Contains, Result, Ok, Err}
+use Rattle.std.specs.Prelude.{◌≡◌, ◌⊎◌, ◌↔◌, ℕ, ◌≤◌, false, Option, List, [], ◌∷◌, ◌++◌, length, Contains, Result, Ok, Err}
 use Rattle.swh_base.specs.Limits.{body_limit}
 use Rattle.swh_base.specs.declared.kind.Kind.{Kind}
 use Rattle.swh_base.specs.declared.kind.Kind.TheVariants.{Snapshot}
 use Rattle.swh_base.specs.declared.visit.Which.{Which}
-use Rattle.swh_base.specs.declared.visit.Which.TheVariants.{Body, Refs}
+use Rattle.swh_base.specs.declared.visit.Which.TheVariants.{Body}
 use Rattle.swh_model.specs.Meaning.{Made, StreamMeaning}
 use Rattle.swh_fastgrammar.specs.declared.command.Command.{Command}
 use Rattle.swh_fastgrammar.specs.declared.fault.StreamWhy.{StreamWhy}
@@ -16,7 +16,7 @@ use Rattle.swh_fastload.specs.declared.bad.BadStream.{BadStream}
 use Rattle.swh_fastload.specs.declared.bad.BadStream.TheVariants.{Stream, Limit}
 use Rattle.swh_fastmeaning.specs.Aims.{Missing}
 use Rattle.swh_fastmeaning.specs.Commands.{Making, Makes, no_making, step, steps}
-use Rattle.swh_fastmeaning.specs.Ending.{refs_limit}
+use Rattle.swh_fastmeaning.specs.Ending.{refs_limit, PassesEnd}
 use Rattle.swh_fastmeaning.specs.Feeding.{IsTooLong}
 use Rattle.swh_fastmeaning.specs.Snapshots.{refs_of, snapshot_of}
 
@@ -83,19 +83,13 @@ module _ (id : Kind → List ℕ → List ℕ) (head : Option (List ℕ)) where
     pub within : EndsWithin making
     pub meant : IsMeant making meaning
 
-  -- The refs with a tip at the end are this many, or their snapshot has so many bytes: more than there may be.
-  abbrev pub PassesEnd : Making → Which → ℕ → Type 0
-  PassesEnd making which number =
-      ((which ≡ Refs) × (number ≡ length (refs_of making.aims)) × (refs_limit < number))
-      ⊎ ((which ≡ Body) × (number ≡ length (snapshot_of head making.aims).body) × (body_limit < number))
-
   -- The text is a stream whose commands are carried out, and what it ends with passes a limit.
   pub record EndsAbove (text : List ℕ) (which : Which) (number : ℕ) : Type 0 where
     pub commands : List Command
     pub making : Making
     pub stream : IsStreamWithin 0 false text commands
     pub carried : AreCarriedOut id commands making
-    pub above : PassesEnd making which number
+    pub above : PassesEnd head making.aims which number
 
 -- Where this head is named, or none, the input means this, by a namer's ids.
 unfoldable pub Means : (Kind → List ℕ → List ℕ) → Option (List ℕ) → List ℕ → StreamMeaning → Type 0

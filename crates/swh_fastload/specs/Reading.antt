@@ -1,6 +1,8 @@
 -- What becomes of a stream that is read and fed, command by command.
-use Rattle.std.specs.Prelude.{◌≡◌, ℕ, Option, List, [], Result, Ok}
+use Rattle.std.specs.Prelude.{◌≡◌, ◌≢◌, ℕ, Option, List, [], Result, Ok}
+use Rattle.std.specs.List.{AllByRecursion}
 use Rattle.swh_base.specs.declared.kind.Kind.{Kind}
+use Rattle.swh_base.specs.declared.kind.Kind.TheVariants.{Snapshot}
 use Rattle.swh_base.specs.declared.entry.Entry.{Entry}
 use Rattle.swh_outside.specs.Faults.{Rose}
 use Rattle.swh_fastrows.specs.declared.fail.ReadFail.{ReadFail}
@@ -12,11 +14,10 @@ use Rattle.swh_fastload.specs.declared.bad.InputFault.{InputFault}
 use Rattle.swh_fastload.specs.declared.bad.InputFault.TheVariants.{Bad, ReadFault, Memory}
 use Rattle.swh_fastmeaning.specs.declared.feed_fault.FeedFault.{FeedFault}
 use Rattle.swh_fastmeaning.specs.declared.feed_fault.FeedFault.TheVariants.{BadStream as BadFeed, Limit as PassesBody, Memory as FeedMemory}
-use Rattle.swh_fastmeaning.specs.Feeding.{Loading}
+use Rattle.swh_fastmeaning.specs.Feeding.{Loading, AreNew}
 use Rattle.swh_fastload.specs.Input.{Breaks}
 use Rattle.swh_fastmeaning.specs.Making.{made}
 use Rattle.swh_fastload.specs.Progress.{HasLoaded}
-use Rattle.swh_fastmeaning.specs.Whole.{AreWhole}
 
 -- why an input is refused whose stream is not read on
 abbrev pub read_fault : ReadFail → InputFault
@@ -31,12 +32,13 @@ feed_fault (BadFeed at why) = Bad (Stream at why)
 feed_fault (PassesBody which number) = Bad (Limit which number)
 feed_fault FeedMemory = Memory
 
--- These objects were given, with all of their children.
+-- These objects were given, each once and after all that it names, and no snapshot is among them.
 pub record HasGiven (id : Kind → List ℕ → List ℕ) (state : Result Loading FeedFault) (objects : List Entry) : Type 0 where
   pub loading : Loading
   pub is : state ≡ Ok loading
   pub given : loading.given ≡ made objects
-  pub whole : AreWhole id objects
+  pub fresh : AreNew id [] objects
+  pub kinds : AllByRecursion (λ e. e.name.kind ≢ Snapshot) objects
 
 -- The text up to this position was carried out, and these are its objects.
 pub record HasCome (id : Kind → List ℕ → List ℕ) (text : List ℕ) (rest : Position) (state : Result Loading FeedFault) (objects : List Entry) : Type 0 where

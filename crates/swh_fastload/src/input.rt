@@ -1,5 +1,5 @@
 //! An input, read and made (git-fast-import(1), input format and commands).
-ghost use Rattle.std.specs.Prelude.{◌≡◌, ◌≤◌, ℕ, List, false, Ok, Err, IfOk, IfErr, IfSome};
+ghost use Rattle.std.specs.Prelude.{◌≡◌, ◌≤◌, ℕ, List, [], false, Ok, Err, IfOk, IfErr, IfSome};
 ghost use Rattle.std.specs.Option.{option_copied};
 ghost use Rattle.swh_base.specs.Text.{IsRef};
 ghost use Rattle.swh_outside.specs.Views.{sources};
@@ -10,6 +10,7 @@ ghost use Rattle.swh_fastload.specs.Loads.{no_loading};
 ghost use Rattle.swh_fastload.specs.Reading.{read_fault, feed_fault, HasGiven, HasRead, FailsSo, BreaksSo, IsQuiet};
 ghost use Rattle.swh_fastload.specs.Input.{Means};
 ghost use Rattle.swh_fastload.specs.Sourced.{MeansLeft, ExplainsSource};
+ghost use Rattle.swh_fastmeaning.specs.Feeding.{AreNew};
 ghost use Rattle.swh_fastmeaning.specs.Whole.{HasAllThatIsReached};
 
 use crate::bad::{BadStream, InputFault};
@@ -120,6 +121,7 @@ fn end_input<N: Namer>(
     ensures means { (text : List ℕ) → HasRead N.id_of text load.old objects.items
         → IfOk result (λ loaded. Means N.id_of (option_copied head.entry) text (making_of loaded)) }
     ensures whole { IfOk result (HasAllThatIsReached N.id_of) }
+    ensures order { IfOk result (λ loaded. AreNew N.id_of [] loaded.objects.items) }
     ensures breaks { (text : List ℕ) → HasRead N.id_of text load.old objects.items
         → IfErr result (BreaksSo N.id_of (option_copied head.entry) text) }
     ensures quiet { IfErr result IsQuiet }
@@ -152,6 +154,8 @@ pub fn load_source<N: Namer, S: Source>(
         (sources S.tells S.left S.faults S.path) source.old (making_of loaded)) }
     // The objects have all of their children, and the snapshot is one of them.
     ensures whole { IfOk result (HasAllThatIsReached N.id_of) }
+    // Each comes once, and after all that it names.
+    ensures order { IfOk result (λ loaded. AreNew N.id_of [] loaded.objects.items) }
     // An input that is refused breaks so, or the source failed.
     ensures err { IfErr result (ExplainsSource N.id_of (option_copied head.entry)
         (sources S.tells S.left S.faults S.path) source.old source.new) }

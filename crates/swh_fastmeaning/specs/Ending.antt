@@ -6,6 +6,7 @@ use Rattle.std.specs.declared.cmp.Ordering.{Ordering}
 use Rattle.std.specs.declared.cmp.Ordering.TheVariants.{Less, Equal, Greater}
 use Rattle.std.specs.Cmp.Lexicographic.{slice_cmp}
 use Rattle.swh_base.specs.declared.entry.Entry.{Entry}
+use Rattle.swh_base.specs.declared.visit.Which.{Which}
 use Rattle.swh_base.specs.declared.visit.Which.TheVariants.{Body, Refs}
 use Rattle.swh_base.specs.Limits.{body_limit}
 use Rattle.swh_base.specs.Text.{IsRef}
@@ -63,10 +64,14 @@ pub record EndsWith (head : Option (List ℕ)) (l : Loading) (state : Result Loa
   pub ends : EndsParts head l object
   pub stays : state ≡ Ok l
 
+-- So many refs have a tip, more than may; or no more than may, and their snapshot has so many bytes, above the limit.
+abbrev pub PassesEnd : {T : Type 0} → Option (List ℕ) → AllAims T → Which → ℕ → Type 0
+PassesEnd head aims which number =
+    ((which ≡ Refs) × (number ≡ length (refs_of aims)) × (refs_limit < number))
+    ⊎ ((which ≡ Body) × (length (refs_of aims) ≤ refs_limit) × (number ≡ length (snapshot_of head aims).body) × (body_limit < number))
+
 -- There are too many refs with a tip, or else the body is above the limit, unless memory ran out.
 abbrev pub ExplainsEnd : {T : Type 0} → Option (List ℕ) → AllAims T → FeedFault → Type 0
 ExplainsEnd head aims (BadStream at why) = ⊥
-ExplainsEnd head aims (Limit which number) =
-    ((which ≡ Refs) × (number ≡ length (refs_of aims)) × (refs_limit < number))
-    ⊎ ((which ≡ Body) × (length (refs_of aims) ≤ refs_limit) × (number ≡ length (snapshot_of head aims).body) × (body_limit < number))
+ExplainsEnd head aims (Limit which number) = PassesEnd head aims which number
 ExplainsEnd head aims Memory = Unit {0}
