@@ -26,7 +26,8 @@ fn move_bytes(window: &mut Window, bytes: &mut Vec<u8>, room: usize) -> Result<(
     Ok(())
 }
 
-/// The next bytes, as many as are wanted.
+/// The next bytes, as many as are wanted. Their room is taken at once, so that no growth moves what was read; a page that is
+/// never written costs nothing.
 ///
 /// # Errors
 ///
@@ -60,7 +61,7 @@ pub fn next_data<S: Source>(
         return Err(LineFault::Limit);
     }
     let count = wanted as usize;
-    let mut bytes = Vec::new(alloc);
+    let mut bytes = Vec::with_capacity(alloc, count)?;
     'pieces: while bytes.len() < count {
         if !window.fill(source)? {
             return Err(LineFault::End);

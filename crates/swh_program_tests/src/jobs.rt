@@ -66,3 +66,18 @@ fn a_job_names_a_head(rt: HostRuntime) -> Result<(), Fail> {
     assert!(rt; loads(rt.alloc(), &with_jobs(jobs), 0, line)?);
     Ok(())
 }
+
+// The clock is asked once for each job, and all inputs are opened, before the first job is loaded.
+#[test]
+fn the_clock_fails_at_the_second_job(rt: HostRuntime) -> Result<(), Fail> {
+    let jobs = b"fast\thttps://e.org/p\te\nfast\thttps://e.org/a\tnone\n";
+    let failing = Setting {
+        clock_fails: Some(1),
+        ..with_jobs(jobs)
+    };
+    let ended = play(rt.alloc(), &failing, &[INIT, LOAD])?;
+    assert_eq!(rt; ended.statuses.as_slice(), [0, 4].as_slice());
+    assert_eq!(rt; ended.printed.as_slice(), b"made\nswharc: outside clock\n".as_slice());
+    assert_eq!(rt; ended.ledger.as_slice(), MADE_LEDGER.as_slice());
+    Ok(())
+}

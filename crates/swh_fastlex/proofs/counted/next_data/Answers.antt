@@ -5,7 +5,7 @@ use Rattle.swh_fastlex.proofs.counted.next_data.Goals as goal
 
 pub returns-in_err-fill-clause-loses : goal.returns-in_err-fill-clause-loses
 returns-in_err-fill-clause-loses g c = λ told.
-    lost_err c.from_residual.result _ _ (lost_more (unread c.args.window.now (g.S.Source.left c.args.source.now)) c.pieces.bytes.items (unread c.pieces.window (g.S.Source.left c.pieces.source)) (unread c.fill.new.self (g.S.Source.left c.fill.new.source)) (c.pieces.invariant.text told) (c.in_err-fill.ensures.loses told))
+    lost_err c.from_residual-in_err-fill.result _ _ (lost_more (unread c.args.window.now (g.S.Source.left c.args.source.now)) c.pieces.bytes.items (unread c.pieces.window (g.S.Source.left c.pieces.source)) (unread c.fill.new.self (g.S.Source.left c.fill.new.source)) (c.pieces.invariant.text told) (c.in_err-fill.ensures.loses told))
 
 pub returns-in_err-move_bytes-clause-loses : goal.returns-in_err-move_bytes-clause-loses
 returns-in_err-move_bytes-clause-loses g c = λ told.
