@@ -77,7 +77,10 @@ fn the_clock_fails_at_the_second_job(rt: HostRuntime) -> Result<(), Fail> {
     };
     let ended = play(rt.alloc(), &failing, &[INIT, LOAD])?;
     assert_eq!(rt; ended.statuses.as_slice(), [0, 4].as_slice());
-    assert_eq!(rt; ended.printed.as_slice(), b"made\nswharc: outside clock\n".as_slice());
+    assert_eq!(rt;
+        ended.printed.as_slice(),
+        b"made\nswharc: outside clock\n".as_slice()
+    );
     assert_eq!(rt; ended.ledger.as_slice(), MADE_LEDGER);
     Ok(())
 }
