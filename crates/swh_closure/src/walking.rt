@@ -34,8 +34,8 @@ impl From<Memory> for WalkFault {
     }
 }
 
-/// Lists a name, unless it is listed or known to be closed, and answers whether it is any of the three or held. Where it
-/// is not, the walk is at its end, and what is listed is to be let go.
+/// Lists a name that is held, with its turn where it has children, unless it is listed or known to be closed. Answers
+/// false where it is none of the three: the walk is then at its end, and what it met is to be let go.
 fn meet<'a, G: Graph>(
     graph: &'a G,
     closed: &Closed,
@@ -67,7 +67,8 @@ fn meet_all<'a, G: Graph>(
     met: &mut Met<'a>,
     names: &[Name],
 ) -> Result<Option<Name>, Memory>
-    ensures meets { IfOk result (λ missing. IfNone missing (Meets (G.children_of graph.now) closed.now names.now met.old met.new)) }
+    ensures meets { IfOk result (λ missing. IfNone missing
+        (Meets (G.children_of graph.now) closed.now names.now met.old met.new)) }
     ensures missing { IfOk result (λ missing. IfSome missing (λ name. Contains names.now name
         × (G.children_of graph.now name ≡ None))) }
 {
