@@ -3,7 +3,7 @@ use Rattle.std.proofs.Common.{◌≡◌, ℕ, ◌+◌, ◌<◌, ◌^◌, List, [
 use Rattle.std.proofs.lemmas.List.{drop-drop, append-nil}
 use Rattle.std.proofs.Math.Seq.{drop-append_seam}
 use Rattle.std.specs.List.{AllByRecursion}
-use Rattle.std.specs.Int.{w32, w64, to_be_bytes}
+use Rattle.std.specs.Int.{w32, to_be_bytes}
 use Rattle.swh_base.specs.declared.kind.Kind.{Kind}
 use Rattle.swh_base.specs.declared.entry.Entry.{Entry}
 use Rattle.swh_model.specs.declared.event.Event.{Event}
@@ -15,7 +15,7 @@ use Rattle.swh_format.specs.BatchRecord.{batch_text}
 use Rattle.swh_format.specs.StoredObject.{coded_entry, coded_run, IsCodableEntry}
 use Rattle.swh_format.specs.EventRecord.{event_byte, event_payload, payload_of, packed_objects, coded_record, IsCodable, IsCodableKind}
 use Rattle.swh_format.proofs.Lengths.{object-length}
-use Rattle.swh_format.proofs.Unique.{cut, cut_four, cut_eight, same_four, same_entry, length_behind}
+use Rattle.swh_format.proofs.Unique.{same_entry, length_behind}
 use Rattle.swh_recovery.specs.declared.harm.Harm.TheVariants.{Refused}
 use Rattle.swh_recovery.specs.declared.harm.Found.{Found}
 use Rattle.swh_recovery.specs.declared.frame.RunTold.{RunTold}

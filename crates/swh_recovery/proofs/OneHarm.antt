@@ -1,7 +1,7 @@
 -- The two files have one harm at most, and none where they stand for a history.
 use Rattle.std.specs.Prelude.{get_or}
 use Rattle.std.proofs.Common.{◌≡◌, ◌≢◌, ℕ, ◌+◌, ◌<◌, ◌≤◌, List, [], ◌∷◌, ◌++◌, length, drop, map, refl, sym, ap, ◌∙◌, subst, inl, inr, arith, length-append, append_assoc}
-use Rattle.std.proofs.lemmas.List.{drop-drop, append-nil, get_or-drop, get_or-take}
+use Rattle.std.proofs.lemmas.List.{drop-drop, get_or-drop, get_or-take}
 use Rattle.std.proofs.Math.ListN.{get_or-append}
 use Rattle.std.proofs.lemmas.Bool.{cases_lt}
 use Rattle.std.proofs.Math.Seq.{drop-append_seam}
@@ -22,11 +22,10 @@ use Rattle.swh_model.proofs.OneHistory.{one_history}
 use Rattle.swh_object.specs.Object.{IsObject}
 use Rattle.swh_format.specs.Record.{magic}
 use Rattle.swh_format.specs.StoredObject.{coded_run}
-use Rattle.swh_format.specs.BatchRecord.{batch_text}
 use Rattle.swh_format.specs.EventRecord.{event_byte, payload_of, packed_objects, coded_record, IsCodable, AreCodable}
 use Rattle.swh_format.specs.Stands.{coded_records, coded_runs, StandsFor}
 use Rattle.swh_format.proofs.StandsFrom.{StandsFrom, behind_magic}
-use Rattle.swh_format.proofs.Unique.{cut, cut_four, cut_eight, four_bytes, eight_bytes, same_head, same_tail, same_event, length_behind}
+use Rattle.swh_format.proofs.Unique.{cut, four_bytes, eight_bytes, same_head, same_tail, same_event, length_behind}
 use Rattle.swh_recovery.specs.declared.harm.Harm.{Harm}
 use Rattle.swh_recovery.specs.declared.harm.Found.{Found}
 use Rattle.swh_recovery.specs.declared.harm.Harm.TheVariants.{Magic}

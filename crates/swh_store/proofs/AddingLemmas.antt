@@ -7,13 +7,12 @@ use Rattle.std.proofs.lemmas.List.Elements.{Contains-append_left, Contains-push_
 use Rattle.swh_base.specs.declared.name.Name.{Name}
 use Rattle.swh_base.specs.declared.entry.Entry.{Entry}
 use Rattle.swh_model.specs.Archive.{Bodies, body_of}
-use Rattle.swh_model.specs.Step.{added, AreNew}
+use Rattle.swh_model.specs.Step.{added}
 use Rattle.swh_model.specs.Judge.{not_held, Collides}
 use Rattle.swh_model.proofs.Maps.{within-put, body-put}
 use Rattle.swh_model.proofs.Entries.{added-append}
 use Rattle.swh_model.proofs.Batches.{fresh-kept, fresh-passed, from_entry, fresh-inside, no_collision}
 use Rattle.swh_model.proofs.PlainLists.{take-more}
-use Rattle.swh_model.proofs.Verdicts.{fresh-new}
 use Rattle.swh_store.specs.declared.fault.StoreFault.{StoreFault}
 use Rattle.swh_store.specs.declared.fault.StoreFault.TheVariants.{Collision, Memory}
 use Rattle.swh_store.specs.Entries.{bodies_in}

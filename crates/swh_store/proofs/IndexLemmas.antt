@@ -1,5 +1,5 @@
 -- Entries in the order of their adding as finite maps, and the places by which they are found.
-use Rattle.std.proofs.Common.{◌≡◌, ◌≢◌, ℕ, ◌+◌, ◌-◌, ◌<◌, ◌≤◌, Bool, true, false, cond, Option, Some, None, List, [], ◌∷◌, ◌++◌, length, take, drop, get_or, refl, sym, ap, ◌∙◌, subst, arith}
+use Rattle.std.proofs.Common.{◌≡◌, ◌≢◌, ℕ, ◌+◌, ◌-◌, ◌<◌, Bool, true, false, cond, Option, Some, None, List, [], ◌∷◌, ◌++◌, length, get_or, refl, sym, ap, ◌∙◌, subst, arith}
 use Rattle.std.specs.Ordering.{eq_by_cmp, is_eq}
 use Rattle.std.specs.Cmp.{tied_itself, Equal-is}
 use Rattle.std.specs.Cmp.Lexicographic.{nat_list_cmp_total}
@@ -15,8 +15,8 @@ use Rattle.swh_base.specs.Manifest.{AreChildren}
 use Rattle.swh_model.specs.Archive.{Bodies, body_of, IsHeld, IsGraphOf}
 use Rattle.swh_model.specs.Step.{HasItsChildren, AreNew, added}
 use Rattle.swh_model.proofs.Maps.{body-put, body_cases}
-use Rattle.swh_model.proofs.Entries.{NoneNamed, none_named, none-empty, added-append, new-push, new-at}
-use Rattle.swh_store.specs.Stored.{Children, Stored, IsEntryOf, children_in}
+use Rattle.swh_model.proofs.Entries.{NoneNamed, none_named, none-empty, added-append, new-push}
+use Rattle.swh_store.specs.Stored.{Children, IsEntryOf, children_in}
 use Rattle.swh_store.specs.Entries.{keys_cmp, bodies_in, with_children, stored_in, StandsAt, IsFound, IsIndex}
 
 -- whether a key is the queried one

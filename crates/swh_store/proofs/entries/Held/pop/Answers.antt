@@ -1,4 +1,4 @@
-use Rattle.std.proofs.Common.{List, subst, sym}
+use Rattle.std.proofs.Common.{List, subst}
 use Rattle.std.specs.BTreeMap.{get}
 use Rattle.swh_base.specs.declared.entry.Entry.{Entry}
 use Rattle.swh_store.specs.Entries.{keys_cmp, IsIndex}
