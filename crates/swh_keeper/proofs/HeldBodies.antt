@@ -1,7 +1,6 @@
 -- The bodies of a history's events, as they are held and as they stand in the store.
-use Rattle.std.proofs.Common.{◌≡◌, ℕ, zero, suc, ◌+◌, ◌-◌, ◌<◌, ◌≤◌, Some, None, List, [], ◌∷◌, ◌++◌, length, take, drop, get_or, refl, sym, ap, ◌∙◌, subst, arith, length-append, append_assoc}
+use Rattle.std.proofs.Common.{◌≡◌, ℕ, zero, suc, ◌+◌, ◌<◌, ◌≤◌, Some, None, List, [], ◌∷◌, ◌++◌, length, take, drop, get_or, refl, sym, ap, ◌∙◌, subst, arith, length-append, append_assoc}
 use Rattle.std.proofs.Math.Seq.{drop-cons, drop-append_seam, take-append_seam}
-use Rattle.std.proofs.lemmas.List.{drop-append-le}
 use Rattle.std.specs.List.{AllByRecursion}
 use Rattle.std.specs.Int.{w64, to_be_bytes}
 use Rattle.std.specs.FinMap.{insert}
@@ -20,12 +19,12 @@ use Rattle.swh_model.proofs.Entries.{none-added}
 use Rattle.swh_model.proofs.PlainLists.{all-at}
 use Rattle.swh_model.proofs.Growing.{bodies_grow}
 use Rattle.swh_model.proofs.Maps.{body-put, within-added}
-use Rattle.swh_model.proofs.PlainLengths.{store-next}
+use Rattle.swh_model.proofs.PlainLengths as lengths
 use Rattle.swh_model.proofs.Visits.{all-map}
 use Rattle.swh_format.specs.StoredObject.{coded_entry, coded_run}
 use Rattle.swh_format.specs.EventRecord.{packed_objects}
 use Rattle.swh_format.specs.Stands.{coded_runs}
-use Rattle.swh_format.proofs.Lengths.{object-length, run-length, stored-length, runs-length}
+use Rattle.swh_format.proofs.Lengths.{object-length, run-length, stored-length}
 use Rattle.swh_keeper.specs.declared.finding.Place.{Place}
 use Rattle.swh_keeper.specs.Stored.{IsHeldNamed, IsHeldKind, body_in}
 use Rattle.swh_keeper.specs.Places.{IsPlaceFor, IsPlaceOf, IsUnnamedKind, AreUnnamed}
@@ -80,14 +79,8 @@ run-there (f ∷ h) (suc k) e less is =
     skipped : (n : ℕ) → drop (stored_length f.what + n) (packed_objects f.what ++ coded_runs h) ≡ drop n (coded_runs h)
     skipped n = ap (λ (m : ℕ). drop (m + n) (packed_objects f.what ++ coded_runs h)) (sym (stored-length f.what)) ∙ skip (packed_objects f.what) (coded_runs h) n
 
-store-take : (h : List Event) (k : ℕ) → store_length (take k h) ≤ store_length h
-store-take [] zero = omega arith
-store-take [] (suc k) = omega arith
-store-take (e ∷ h) zero = omega arith
-store-take (e ∷ h) (suc k) = let m = store-take h k in omega (arith, m)
-
 pub run-within : (h : List Event) (k : ℕ) (e : Event) → k < length h → e ≡ get_or h k e → store_length (take k h) + stored_length e.what ≤ store_length h
-run-within h k e less is = let n = store-next h k e less is in let m = store-take h (k + 1) in omega (arith, n, m)
+run-within h k e less is = lengths.store-within h k e less is
 
 pub same-item : (h : List Event) (k : ℕ) (e f : Event) → k < length h → e ≡ get_or h k e → f ≡ get_or h k f → e ≡ f
 same-item [] k e f less is as_well = absurd (omega (arith, less))
@@ -147,11 +140,6 @@ part-there (f ∷ es) (suc k) e less is =
     ∙ ap (λ (l : List ℕ). take (length e.body) l) (sym (drop-twice (object_length f) inner (coded_entry f ++ coded_run es)) ∙ ap (λ (l : List ℕ). drop inner l) (more-coded f (coded_run es)))
     ∙ part-there es k e (omega (arith, less)) is
 
-pub part-within : (es : List Entry) (k : ℕ) (e : Entry) → k < length es → e ≡ get_or es k e → run_length (take k es) + object_length e ≤ run_length es
-part-within [] k e less is = absurd (omega (arith, less))
-part-within (f ∷ es) zero e less is = let same = ap object_length is in omega (arith, same)
-part-within (f ∷ es) (suc k) e less is = let more = part-within es k e (omega (arith, less)) is in omega (arith, more)
-
 runs-split : (h : List Event) (k : ℕ) (e : Event) → k < length h → e ≡ get_or h k e → drop (store_length (take k h)) (coded_runs h) ≡ packed_objects e.what ++ coded_runs (drop (k + 1) h)
 runs-split [] k e less is = absurd (omega (arith, less))
 runs-split (f ∷ h) zero e less is = ap (λ (x : Event). packed_objects x.what ++ coded_runs h) (sym is) ∙ ap (λ (n : ℕ). packed_objects e.what ++ coded_runs (drop n (f ∷ h))) (let z : suc zero ≡ zero + 1 = omega arith in z)
@@ -178,7 +166,7 @@ module _ (id_of : Kind → List ℕ → List ℕ) (bodies : Bodies) (h : List Ev
       let run : packed_objects e.what ≡ coded_run es = ap packed_objects same in
       let long_run : stored_length e.what ≡ run_length es = ap stored_length same in
       let here = run-within h k e less is in
-      let part = part-within es place.number x place.within place.is in
+      let part = lengths.run-within es place.number x place.within place.is in
       let at = place.at in
       let size = place.size in
       let there : inner + length x.body ≤ length (coded_run es) = let l = run-length es in omega (arith, part, l) in

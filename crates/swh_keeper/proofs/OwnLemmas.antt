@@ -3,7 +3,7 @@ use Rattle.std.proofs.Common.{◌≡◌, ◌≢◌, ◌⊎◌, inl, inr, ⊎_eli
 use Rattle.std.proofs.lemmas.Bool.{cases_eq, cases_lt}
 use Rattle.swh_base.specs.declared.kind.Kind.{Kind}
 use Rattle.swh_outside.specs.Disk.{File, Sync, IsImage, done}
-use Rattle.swh_outside.specs.Files.{Files, Images, AreImages, EachImages, EachFilesMoment, FilesBreaks, on, with_file, files_of, files_done}
+use Rattle.swh_outside.specs.Files.{Files, Images, AreImages, EachImages, EachFilesMoment, on, with_file, files_of, files_done}
 use Rattle.swh_outside.proofs.Images.{at_rest_image, at_rest_done}
 use Rattle.swh_outside.proofs.Numbered.{files_moments_then, files_left_by, files_left_whole, with_file_here, with_file_other}
 use Rattle.swh_model.specs.declared.event.Event.{Event}

@@ -1,16 +1,14 @@
 use Rattle.std.proofs.Common.{◌≡◌, ◌≢◌, true, false, List, length, sym, ap, subst, arith}
-use Rattle.std.specs.List.{AllByRecursion}
 use Rattle.swh_base.specs.declared.entry.Entry.{Entry}
-use Rattle.swh_model.proofs.PlainLengths.{run-next}
+use Rattle.swh_model.proofs.PlainLengths.{run-next, run-within}
 use Rattle.swh_model.proofs.PlainLists.{take-more}
 use Rattle.swh_model.proofs.Visits.{all-push}
 use Rattle.swh_keeper.specs.Places.{IsUnnamed}
-use Rattle.swh_keeper.proofs.HeldBodies.{part-within}
 use Rattle.swh_keeper.proofs.finding.place_in.Goals as goal
 
 pub overflow_add-body : goal.overflow_add-body
 overflow_add-body c =
-    let there = part-within c.args.entries.now c.loop-entry.entry-index c.entry-item.result c.loop-entry-test.true c.entry-item.is in
+    let there = run-within c.args.entries.now c.loop-entry.entry-index c.entry-item.result c.loop-entry-test.true c.entry-item.is in
     let at = c.loop-entry.invariant.at in
     let head = c.head_length.ensures.value in
     let fits = c.requires in
@@ -18,7 +16,7 @@ overflow_add-body c =
 
 pub overflow_add-at : goal.overflow_add-at
 overflow_add-at c =
-    let there = part-within c.args.entries.now c.loop-entry.entry-index c.entry-item.result c.loop-entry-test.true c.entry-item.is in
+    let there = run-within c.args.entries.now c.loop-entry.entry-index c.entry-item.result c.loop-entry-test.true c.entry-item.is in
     let at = c.loop-entry.invariant.at in
     let head = c.head_length.ensures.value in
     let size = ap length c.as_slice-size.ensures in

@@ -1,23 +1,21 @@
-use Rattle.std.proofs.Common.{◌≡◌, List, take, sym, ap, ◌∙◌, subst, arith}
+use Rattle.std.proofs.Common.{List, take, sym, subst, arith}
 use Rattle.swh_model.specs.declared.event.Event.{Event}
-use Rattle.swh_model.specs.Limits.{stored_length}
-use Rattle.swh_model.proofs.PlainLengths.{store-next}
+use Rattle.swh_model.proofs.PlainLengths.{store-next, store-within}
 use Rattle.swh_model.proofs.PlainLists.{take-more}
 use Rattle.swh_model.proofs.Visits.{all-push}
 use Rattle.swh_keeper.specs.Places.{IsUnnamedKind, AreUnnamed}
-use Rattle.swh_keeper.proofs.HeldBodies.{run-within}
 use Rattle.swh_keeper.proofs.finding.place_of.Goals as goal
 
 pub place_for-requires : goal.place_for-requires
 place_for-requires c =
-    let there = run-within c.args.history.now c.loop-event.event-index c.event-item.result c.loop-event-test.true c.event-item.is in
+    let there = store-within c.args.history.now c.loop-event.event-index c.event-item.result c.loop-event-test.true c.event-item.is in
     let at = c.loop-event.invariant.at in
     let fits = c.requires in
     omega (arith, there, at, fits)
 
 pub overflow_add-at : goal.overflow_add-at
 overflow_add-at c =
-    let there = run-within c.args.history.now c.loop-event.event-index c.event-item.result c.loop-event-test.true c.event-item.is in
+    let there = store-within c.args.history.now c.loop-event.event-index c.event-item.result c.loop-event-test.true c.event-item.is in
     let at = c.loop-event.invariant.at in
     let size = c.in-Ok.ensures in
     let fits = c.requires in
@@ -25,7 +23,7 @@ overflow_add-at c =
 
 pub unreachable-requires : goal.unreachable-requires
 unreachable-requires c =
-    let there = run-within c.args.history.now c.loop-event.event-index c.event-item.result c.loop-event-test.true c.event-item.is in
+    let there = store-within c.args.history.now c.loop-event.event-index c.event-item.result c.loop-event-test.true c.event-item.is in
     let beyond = c.in_default-length_in_store.ensures in
     let fits = c.requires in
     absurd (omega (arith, there, beyond, fits))

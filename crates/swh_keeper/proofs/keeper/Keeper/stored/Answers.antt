@@ -1,4 +1,4 @@
-use Rattle.std.proofs.Common.{◌≡◌, ℕ, ◌+◌, ◌≤◌, Some, List, take, drop, sym, ap, ◌∙◌, subst, arith}
+use Rattle.std.proofs.Common.{ℕ, ◌+◌, ◌≤◌, Some, List, take, drop, sym, ap, ◌∙◌, subst, arith}
 use Rattle.swh_model.specs.declared.event.Event.{Event}
 use Rattle.swh_model.specs.Archive.{empty_archive}
 use Rattle.swh_model.specs.Limits.{store_length}
