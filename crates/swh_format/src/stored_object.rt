@@ -31,7 +31,7 @@ ghost use Rattle.swh_format.specs.StoredObject.{
 use crate::number::{split_bytes, split_eight};
 use std::alloc::Global;
 use swh_base::{Entry, Kind, Memory, Name, Shared};
-use swh_model::{kind_byte, length_of_run};
+use swh_model::kind_byte;
 
 /// An object as it stands in the store, and what is after it.
 #[derive(Clone, Copy)]
@@ -54,12 +54,11 @@ fn push_entry(bytes: &mut Vec<u8>, entry: &Entry) -> Result<(), Memory>
     Ok(())
 }
 
-/// The run of a batch: its objects, one after another; `Memory` where there is none. Its room is taken at once.
+/// The run of a batch: its objects, one after another; `Memory` where there is none.
 pub fn run_of_entries(alloc: Global, entries: &[Entry]) -> Result<Vec<u8>, Memory>
     ensures { IfOk result (λ bytes. bytes.items ≡ coded_run entries.now) }
 {
-    let length = length_of_run(entries)?;
-    let mut bytes = Vec::with_capacity(alloc, length as usize)?;
+    let mut bytes = Vec::new(alloc);
     for entry in entries {
         push_entry(&mut bytes, entry)?;
     }

@@ -29,8 +29,7 @@ fn length_of_id(id: [u8; 20]) -> u64
     id.len() as u64
 }
 
-/// The bytes of a run in the store. Fails where that passes 64 bits.
-pub fn length_of_run(entries: &[Entry]) -> Result<u64, Memory>
+fn length_of_run(entries: &[Entry]) -> Result<u64, Memory>
     ensures { MatchResult result (λ length. length ≡ run_length entries.now) (λ _. 2 ^ 64 ≤ run_length entries.now) }
 {
     let mut sum: u64 = 0;
