@@ -15,8 +15,8 @@ use swh_keeper::Keeper;
 use swh_outside::Disk;
 
 /// Reads every stored body again, in the order of the history, and counts what the archive holds; the objects are counted
-/// as their bodies are compared. It fails with the first body that has another id than its name's, which never comes where
-/// the disks tell, with `DiskFault` only where the store's disk failed, and for want of memory. The runs are read one after
+/// as their bodies are compared. It fails with a body that has another id than its name's, which never comes where the
+/// disks tell, with `DiskFault` only where the store's disk failed, and for want of memory. The runs are read one after
 /// another, each in one piece; the time is n log n in what the archive holds.
 pub fn check_all<N: Namer, D: Disk>(
     alloc: Global,
