@@ -9,7 +9,7 @@ use Rattle.swh_model.specs.Step.{replay}
 use Rattle.swh_keeper.specs.Kept.{Kept}
 use Rattle.swh_keeper.specs.Stored.{IsReadAgain}
 use Rattle.swh_check.specs.Counts.{bodies_in}
-use Rattle.swh_check.specs.declared.runs.Far.{Far}
+use Rattle.swh_check.specs.declared.runs.Progress.{Progress}
 use Rattle.swh_check.specs.declared.fault.CheckFault.{CheckFault}
 use Rattle.swh_check.specs.declared.fault.CheckFault.TheVariants.{Damaged, DiskFault, Memory}
 pub use Rattle.swh_check.specs.Bodies.{IsCheckFault}
@@ -27,9 +27,9 @@ UnlessDiskFault (Damaged name found) P = P
 UnlessDiskFault Memory P = P
 
 -- The events were compared this far.
-pub record IsFar (h : List Event) (far : Far) : Type 0 where
-  pub at : far.at ≡ store_length h
-  pub bodies : far.bodies ≡ bodies_in h
+pub record IsProgress (h : List Event) (done : Progress) : Type 0 where
+  pub at : done.at ≡ store_length h
+  pub bodies : done.bodies ≡ bodies_in h
 
 -- What reading stored bodies again leaves, and why it stops.
 pub record Rereads {D T : Type 0} (id_of : Kind → List ℕ → List ℕ) (tells : Type 0) (file : D → File) (faults : D → ℕ) (old new : Kept D) (result : Result T CheckFault) : Type 0 where

@@ -1,5 +1,5 @@
-//! The bodies of a run that was read again, against the ids of its objects.
-ghost use Rattle.std.specs.Prelude.{◌≡◌, length, IfOk, IfErr, OnOk, OnErr};
+//! The bodies of a run that was read again, against those of its objects.
+ghost use Rattle.std.specs.Prelude.{◌≡◌, ◌↔◌, length, IsTrue, IfOk, IfErr, OnOk, OnErr};
 ghost use Rattle.std.specs.List.{AllByRecursion};
 ghost use Rattle.swh_model.specs.Archive.{Bodies};
 ghost use Rattle.swh_model.specs.Limits.{run_length, stored_length};
@@ -13,14 +13,25 @@ use swh_base::{Entry, Namer};
 use swh_keeper::head_length;
 use swh_model::EventKind;
 
-/// Compares the id of bytes that stand for an object's body with that of its name.
+fn is_same(a: &[u8], b: &[u8]) -> bool
+    ensures { IsTrue result ↔ (a.now ≡ b.now) }
+{
+    a == b
+}
+
+/// Compares bytes that stand for an object's body with it, and where they differ their id with that of its name. The
+/// body in memory has this id, so that bytes which are equal need not be hashed.
 fn check_body<N: Namer>(namer: &N, entry: &Entry, body: &[u8]) -> Result<(), CheckFault>
-    requires { length body.now ≡ length entry.now.body }
+    requires long { length body.now ≡ length entry.now.body }
+    requires named { entry.now.name.id ≡ N.id_of entry.now.name.kind entry.now.body }
     ensures ok { OnOk result (N.id_of entry.now.name.kind body.now ≡ entry.now.name.id) }
     ensures told { entry.now.name.id ≡ N.id_of entry.now.name.kind body.now → OnErr result ⊥ }
     ensures damaged { (bodies : Bodies) → IsHeldNamed N.id_of bodies entry.now
         → IfErr result (IsBodyFault N.id_of bodies) }
 {
+    if is_same(body, entry.body.as_slice()) {
+        return Ok(());
+    }
     let name = entry.name;
     let found = namer.id(name.kind, body);
     if found == name.id {
@@ -29,10 +40,11 @@ fn check_body<N: Namer>(namer: &N, entry: &Entry, body: &[u8]) -> Result<(), Che
     Err(CheckFault::Damaged { name, found })
 }
 
-/// Compares the ids of the bodies in a run with those of the objects that stand there, up to the first that differs, and
-/// counts them.
+/// Compares the bodies in a run with those of the objects that stand there, up to the first of another id, and counts
+/// them.
 fn check_run<N: Namer>(namer: &N, run: &[u8], entries: &[Entry]) -> Result<u64, CheckFault>
-    requires { length run.now ≡ run_length entries.now }
+    requires long { length run.now ≡ run_length entries.now }
+    requires held { (bodies : Bodies) × AllByRecursion (IsHeldNamed N.id_of bodies) entries.now }
     ensures ok { OnOk result (HaveTheirIds N.id_of run.now entries.now) }
     ensures count { IfOk result (λ count. count ≡ length entries.now) }
     ensures told { (bodies : Bodies) → AllByRecursion (IsHeldNamed N.id_of bodies) entries.now
@@ -54,9 +66,10 @@ fn check_run<N: Namer>(namer: &N, run: &[u8], entries: &[Entry]) -> Result<u64, 
     Ok(count)
 }
 
-/// Compares the ids of the bodies in the run of an event, and counts them.
+/// Compares the bodies in the run of an event, and counts them.
 pub fn check_objects<N: Namer>(namer: &N, run: &[u8], event: &EventKind) -> Result<u64, CheckFault>
-    requires { length run.now ≡ stored_length event.now }
+    requires long { length run.now ≡ stored_length event.now }
+    requires held { (bodies : Bodies) × IsHeldKind N.id_of bodies event.now }
     ensures ok { OnOk result (HasItsIds N.id_of run.now event.now) }
     ensures count { IfOk result (λ count. count ≡ bodies_by event.now) }
     ensures told { (bodies : Bodies) → IsHeldKind N.id_of bodies event.now → run.now ≡ packed_objects event.now

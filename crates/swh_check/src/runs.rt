@@ -3,7 +3,7 @@ ghost use Rattle.std.specs.Prelude.{◌≡◌, ◌+◌, ◌<◌, None, length, t
 ghost use Rattle.swh_model.specs.declared.event.Event.{Event};
 ghost use Rattle.swh_check.specs.Bodies.{IsCompared, AreCompared};
 ghost use Rattle.swh_check.specs.Counts.{bodies_in};
-ghost use Rattle.swh_check.specs.Check.{IsFar, Rereads};
+ghost use Rattle.swh_check.specs.Check.{IsProgress, Rereads};
 
 use crate::bodies::check_objects;
 use crate::fault::CheckFault;
@@ -15,7 +15,7 @@ use swh_outside::Disk;
 
 /// How far a history was compared: where the next run begins, and how many bodies there were.
 #[derive(Clone, Copy)]
-pub struct Far {
+pub struct Progress {
     pub at: u64,
     pub bodies: u64,
 }
@@ -27,35 +27,35 @@ fn plus(a: u64, b: u64) -> Result<u64, Memory>
     a.checked_add(b).ok_or(Memory)
 }
 
-/// Reads the run of the event at a place of the history again, and compares the ids of its bodies, once the events in
-/// front of it are compared. Answers how far the history is then compared.
+/// Reads the run of the event at a place of the history again, and compares its bodies, once the events in front of it
+/// are compared. Answers how far the history is then compared.
 fn check_event<N: Namer, D: Disk>(
     alloc: Global,
     namer: &N,
     keeper: &mut Keeper<N, D>,
     place: usize,
-    far: Far,
-) -> Result<Far, CheckFault>
+    done: Progress,
+) -> Result<Progress, CheckFault>
     requires unwounded { keeper.old.wounded ≡ None }
     requires place { place < length keeper.old.history }
-    requires far { IsFar (take place keeper.old.history) far }
-    ensures far { IfOk result (IsFar (take (place + 1) keeper.old.history)) }
+    requires done { IsProgress (take place keeper.old.history) done }
+    ensures done { IfOk result (IsProgress (take (place + 1) keeper.old.history)) }
     ensures compared { OnOk result ((e : Event) → e ≡ get_or keeper.old.history place e → IsCompared N.id_of D.tells e) }
     ensures again { Rereads N.id_of D.tells D.file D.faults keeper.old keeper.new result }
 {
     let size = length_in_store(&keeper.history()[place].what)?;
-    let at = plus(far.at, size)?;
-    let run = keeper.stored_bytes(alloc, far.at, size as usize)?;
+    let at = plus(done.at, size)?;
+    let run = keeper.stored_bytes(alloc, done.at, size as usize)?;
     match check_objects(namer, &run, &keeper.history()[place].what) {
-        Ok(count) => Ok(Far {
+        Ok(count) => Ok(Progress {
             at,
-            bodies: far.bodies + count,
+            bodies: done.bodies + count,
         }),
         Err(fault) => Err(fault),
     }
 }
 
-/// Reads all runs again, and compares the ids of all bodies, up to the first that differs. Answers how many there were.
+/// Reads all runs again, and compares all bodies, up to the first of another id. Answers how many there were.
 pub fn check_bodies<N: Namer, D: Disk>(
     alloc: Global,
     namer: &N,
@@ -66,9 +66,9 @@ pub fn check_bodies<N: Namer, D: Disk>(
     ensures compared { OnOk result (AreCompared N.id_of D.tells keeper.old.history) }
     ensures again { Rereads N.id_of D.tells D.file D.faults keeper.old keeper.new result }
 {
-    let mut far = Far { at: 0, bodies: 0 };
+    let mut done = Progress { at: 0, bodies: 0 };
     for place in 0..keeper.history().len() {
-        far = check_event(alloc, namer, keeper, place, far)?;
+        done = check_event(alloc, namer, keeper, place, done)?;
     }
-    Ok(far.bodies)
+    Ok(done.bodies)
 }

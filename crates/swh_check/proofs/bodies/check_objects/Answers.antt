@@ -7,6 +7,14 @@ use Rattle.swh_format.specs.EventRecord.{packed_objects}
 use Rattle.swh_check.specs.Bodies.{IsHeldNamed, IsHeldKind}
 use Rattle.swh_check.proofs.bodies.check_objects.Goals as goal
 
+pub check_run-requires-clause-held : goal.check_run-requires-clause-held
+check_run-requires-clause-held g c κs long =
+    let id_of = g.N.Namer.id_of in
+    let held = c.requires.held in (
+      held.0,
+      subst (λ (es : List Entry). AllByRecursion (IsHeldNamed id_of held.0) es) (sym c.as_slice.ensures) (subst (λ (k : EventKind). IsHeldKind id_of held.0 k) c.in-Batch.is held.1),
+    )
+
 pub returns-in-Batch-clause-told : goal.returns-in-Batch-clause-told
 returns-in-Batch-clause-told g c bodies held coded =
     let id_of = g.N.Namer.id_of in

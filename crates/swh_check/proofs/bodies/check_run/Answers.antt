@@ -7,6 +7,11 @@ use Rattle.swh_check.specs.Bodies.{body_in, HaveTheirIds, IsHeldNamed}
 use Rattle.swh_keeper.proofs.HeldBodies.{drop-next, drop-twice, body-coded, more-coded}
 use Rattle.swh_check.proofs.bodies.check_run.Goals as goal
 
+pub check_body-requires-clause-named : goal.check_body-requires-clause-named
+check_body-requires-clause-named g c κs long =
+    let held = c.requires.held in
+    (all-at (IsHeldNamed g.N.Namer.id_of held.0) c.args.entries.now c.loop-entry.entry-index c.entry-item.result held.1 c.loop-entry-test.true c.entry-item.is).named
+
 pub returns-in-Err-clause-told : goal.returns-in-Err-clause-told
 returns-in-Err-clause-told g c bodies held coded =
     let id_of = g.N.Namer.id_of in

@@ -19,9 +19,19 @@ stored_bytes-requires-clause-within g c κs within =
     let e = c.index-history-place.result in
     let is = subst (λ (l : List Event). e ≡ get_or l c.args.place e) c.history.ensures.value c.index-history-place.is in
     let there = run-within h c.args.place e c.requires.place is in
-    let at = c.requires.far.at in
+    let at = c.requires.done.at in
     let size = c.in_ok-size.ensures ∙ ap (λ (x : Event). stored_length x.what) (sym c.index-history-place.is) in
     omega (arith, there, at, size)
+
+pub check_objects-requires-clause-held : goal.check_objects-requires-clause-held
+check_objects-requires-clause-held g c κs long =
+    let id_of = g.N.Namer.id_of in
+    let h = c.args.keeper.now.history in
+    let f = c.index-history-place-2.result in
+    let is = subst (λ (l : List Event). f ≡ get_or l c.args.place f) (c.history-2.ensures.value ∙ c.in_ok-run.ensures.same.history) c.index-history-place-2.is in (
+      (replay h).bodies,
+      subst (λ (x : Event). IsHeldKind id_of (replay h).bodies x.what) c.index-history-place-2.is (held-at id_of empty_archive h c.args.place f c.history.ensures.kept.history c.requires.place is),
+    )
 
 pub overflow_add-result : goal.overflow_add-result
 overflow_add-result g c =
@@ -35,13 +45,13 @@ overflow_add-result g c =
     let next_store = store-next h c.args.place e c.requires.place first in
     let next_bodies = bodies-next h c.args.place f c.requires.place is in
     let enough = few (take (c.args.place + 1) h) in
-    let at = c.requires.far.at in
-    let bodies = c.requires.far.bodies in
+    let at = c.requires.done.at in
+    let bodies = c.requires.done.bodies in
     let end = c.in_ok-at.ensures in
     omega (arith, size, count, next_store, next_bodies, enough, at, bodies, end)
 
-pub returns-in-Ok-clause-far : goal.returns-in-Ok-clause-far
-returns-in-Ok-clause-far g c =
+pub returns-in-Ok-clause-done : goal.returns-in-Ok-clause-done
+returns-in-Ok-clause-done g c =
     let h = c.args.keeper.now.history in
     let e = c.index-history-place.result in
     let f = c.index-history-place-2.result in
@@ -50,8 +60,8 @@ returns-in-Ok-clause-far g c =
     let size = c.in_ok-size.ensures ∙ ap (λ (x : Event). stored_length x.what) (sym c.index-history-place.is) in
     let count = c.in-Ok.ensures.count ∙ ap (λ (x : Event). bodies_by x.what) (sym c.index-history-place-2.is) in
     record {
-      at = let next = store-next h c.args.place e c.requires.place first in let at = c.requires.far.at in let end = c.in_ok-at.ensures in omega (arith, next, at, size, end);
-      bodies = let next = bodies-next h c.args.place f c.requires.place is in let bodies = c.requires.far.bodies in omega (arith, next, bodies, count);
+      at = let next = store-next h c.args.place e c.requires.place first in let at = c.requires.done.at in let end = c.in_ok-at.ensures in omega (arith, next, at, size, end);
+      bodies = let next = bodies-next h c.args.place f c.requires.place is in let bodies = c.requires.done.bodies in omega (arith, next, bodies, count);
     }
 
 pub returns-in-Ok-clause-compared : goal.returns-in-Ok-clause-compared
@@ -71,8 +81,8 @@ returns-in-Ok-clause-compared g c event event_is =
       ids = subst (λ (x : Event). HasItsIds id_of c.deref.result.now x.what) (sym c.index-history-place-2.is) c.in-Ok.ensures.ok;
       stored = λ told.
           c.deref.ensures.value ∙ c.in_ok-run.ensures.bytes told
-          ∙ ap (λ (n : ℕ). take n (drop c.args.far.at (coded_runs h))) size
-          ∙ ap (λ (n : ℕ). take (stored_length f.what) (drop n (coded_runs h))) c.requires.far.at
+          ∙ ap (λ (n : ℕ). take n (drop c.args.done.at (coded_runs h))) size
+          ∙ ap (λ (n : ℕ). take (stored_length f.what) (drop n (coded_runs h))) c.requires.done.at
           ∙ run-there h c.args.place f less is;
     }
     )
@@ -93,8 +103,8 @@ returns-clause-again g c =
       told = λ told. absurd (
           c.in-Err.ensures.told (replay h).bodies held (
           c.deref.ensures.value ∙ c.in_ok-run.ensures.bytes told
-          ∙ ap (λ (n : ℕ). take n (drop c.args.far.at (coded_runs h))) size
-          ∙ ap (λ (n : ℕ). take (stored_length f.what) (drop n (coded_runs h))) c.requires.far.at
+          ∙ ap (λ (n : ℕ). take n (drop c.args.done.at (coded_runs h))) size
+          ∙ ap (λ (n : ℕ). take (stored_length f.what) (drop n (coded_runs h))) c.requires.done.at
           ∙ run-there h c.args.place f less is ∙ ap (λ (x : Event). packed_objects x.what) c.index-history-place-2.is
           )
           );
