@@ -10,7 +10,8 @@ use Rattle.swh_check.specs.Counts.{IsReport}
 use Rattle.swh_check.specs.declared.report.Report.{Report}
 use Rattle.swh_program.specs.Seen.{Span, SinkFailed}
 use Rattle.swh_program.specs.Answers.{TellsDisk, TellsLine, status_of, status_for, printed_by, last_line_for, IsPrinted}
-use Rattle.swh_program.specs.CheckCommand.{report_line, TellsCounts, IsUndamaged, IsChecked, IsCheckAnswer, CountsArchive, CheckEnds, PrintsCounts}
+use Rattle.swh_program.specs.CheckCommand.{report_line, TellsCounts, IsChecked, IsCheckAnswer, CountsArchive, CheckEnds, PrintsCounts}
+use Rattle.swh_program.specs.Damage.{IsUndamaged}
 use Rattle.swh_program.specs.Opening.{IsArchive, IsOnlyOpened, IsUnusable, IsOpenRefusal, OpenEnds}
 use Rattle.swh_program.specs.Run.{IsExactly, IsTold}
 use Rattle.swh_program.specs.declared.answer.Ending.{Ending}

@@ -17,6 +17,7 @@ use Rattle.swh_program.specs.Jobs.{HasJobs, HasNoJobs, bad_job_line}
 use Rattle.swh_program.specs.LeftAlone.{IsOnDepot, IsOnDesk, IsBeforeInputs, IsRefusedInOrder}
 use Rattle.swh_program.specs.LoadCommand.{inputs_of, givens_of, Loads, DoesLoad}
 use Rattle.swh_program.specs.Opening.{IsUnusable}
+use Rattle.swh_program.specs.Own.{KeepsOwn}
 use Rattle.swh_program.specs.Run.{IsTold, replies_status}
 use Rattle.swh_model.specs.Step.{replay}
 use Rattle.swh_segment.specs.Making.{IsMade}
@@ -30,6 +31,7 @@ use Rattle.swh_program.proofs.Exacts.{init_statuses, ask_statuses, init_archive,
 use Rattle.swh_program.proofs.LoadStatuses.{load_job, load_bad, load_archive, load_lines, load_input}
 use Rattle.swh_program.proofs.LoadsDone.{load_exact, meant_all_made, load_done}
 use Rattle.swh_program.proofs.Naming.{identify_statuses, identify_exactly, named}
+use Rattle.swh_program.proofs.Owned.{exactly_not_made, exactly_not_made_with, keeps_same, ends_own}
 use Rattle.swh_program.proofs.Orders.{job_first, archive_first, refused_job, refused_archive}
 use Rattle.swh_program.proofs.Statuses.{run_comes, uncut, run_exactly, run_never}
 
@@ -54,6 +56,9 @@ module _ (id_of : Kind → List ℕ → List ℕ) (told : Told) (seen : Seen) (s
   same_elsewhere : (dir : List ℕ) → SameElsewhere dir seen.depot.files seen.depot.files
   same_elsewhere dir = record { elsewhere = λ d n apart. refl }
 
+  nothing_kept : (dir : List ℕ) → KeepsOwn id_of (old_archive dir nothing) (old_archive dir nothing) Memory
+  nothing_kept dir = keeps_same id_of (old_archive dir nothing) (old_archive dir nothing) Memory refl tt (λ opened. opened)
+
   on_depot : IsOnDepot nothing
   on_depot = record { desk = desk; origins = origins; clock = clock }
 
@@ -62,13 +67,16 @@ module _ (id_of : Kind → List ℕ → List ℕ) (told : Told) (seen : Seen) (s
     one_of = tt;
     ends = λ t. refl;
     elsewhere = λ t. same_elsewhere dir;
-    crash = λ t. safe (old_archive dir nothing) (old_archive dir nothing) Memory refl;
+    crash = λ t. safe id_of (old_archive dir nothing) (old_archive dir nothing) Memory refl;
+    spared = λ t made. refl;
+    own = λ t. nothing_kept dir;
     cause = λ e. absurd (no_disk e);
     left = on_depot;
   }
   nothing_came (ToLoad dir jobs) = record {
     ends = inr (record { one_of = tt; refused = λ t. tt; same = λ t. refl });
     elsewhere = λ t. same_elsewhere dir;
+    own = λ t. nothing_kept dir;
     disk_cause = λ e. absurd (no_disk e);
     source_cause = λ e. absurd (no_source e);
     clock_cause = λ e. absurd (no_clock e);
@@ -78,6 +86,7 @@ module _ (id_of : Kind → List ℕ → List ℕ) (told : Told) (seen : Seen) (s
     one_of = tt;
     ends = λ t. inl refl;
     elsewhere = λ t. same_elsewhere dir;
+    own = λ t. nothing_kept dir;
     cause = λ e. absurd (no_disk e);
     left = on_depot;
   }
@@ -85,6 +94,7 @@ module _ (id_of : Kind → List ℕ → List ℕ) (told : Told) (seen : Seen) (s
     one_of = tt;
     ends = λ t. inl refl;
     elsewhere = λ t. same_elsewhere dir;
+    own = λ t. nothing_kept dir;
     cause = λ e. absurd (no_disk e);
     left = on_depot;
   }
@@ -141,12 +151,15 @@ comes_still (ToInit dir) s sink same_sink answer i = record {
   ends = i.ends;
   elsewhere = i.elsewhere;
   crash = i.crash;
+  spared = i.spared;
+  own = i.own;
   cause = i.cause;
   left = on_depot_still s sink same_sink i.left;
 }
 comes_still (ToLoad dir jobs) s sink same_sink answer l = record {
   ends = l.ends;
   elsewhere = l.elsewhere;
+  own = l.own;
   disk_cause = l.disk_cause;
   source_cause = l.source_cause;
   clock_cause = l.clock_cause;
@@ -156,6 +169,7 @@ comes_still (ToAsk dir paths) s sink same_sink answer a = record {
   one_of = a.one_of;
   ends = a.ends;
   elsewhere = a.elsewhere;
+  own = a.own;
   cause = a.cause;
   left = on_depot_still s sink same_sink a.left;
 }
@@ -163,6 +177,7 @@ comes_still (ToCheck dir) s sink same_sink answer c = record {
   one_of = c.one_of;
   ends = c.ends;
   elsewhere = c.elsewhere;
+  own = c.own;
   cause = c.cause;
   left = on_depot_still s sink same_sink c.left;
 }
@@ -179,6 +194,8 @@ does_init dir s answer status told i = record {
   not_wanting = run_never answer s status 1 3 (init_statuses answer i.one_of) 1 (omega arith) (omega arith) (omega arith) told;
   not_refused = run_never answer s status 1 3 (init_statuses answer i.one_of) 2 (omega arith) (omega arith) (omega arith) told;
   made_before = λ t. run_exactly answer s status 3 (IsMade (old_archive dir s 0).seen) (omega arith) (init_archive (old_archive dir s) (new_archive dir s) answer (i.ends t)) told;
+  spared = i.spared;
+  own = λ t. ends_own s.id_of (old_archive dir s) (new_archive dir s) answer s status (i.own t) told;
   complete = λ t not_made no_disk no_sink.
       told_with (last_line_of Made) 0 answer s status (init_done (old_archive dir s) (new_archive dir s) answer (i.ends t) not_made (λ failed. no_disk (i.cause failed))) no_sink told;
 }
@@ -196,6 +213,10 @@ does_load dir path s answer status told l =
       unusable = λ inputs disks. run_exactly answer s status 3 (HasJobs desk_at path × IsUnusable s.id_of old) (omega arith) (load_archive g desk_at path old new inputs disks answer l.ends) told;
       first_harm = λ file at inputs disks jobs harm.
           told_unless (damaged_line file at) 3 answer s status (load_harm g old new file at harm disks desk_at path inputs jobs answer l.ends) told;
+      undamaged = λ inputs disks own.
+          exactly_not_made_with s.id_of (HasJobs desk_at path) old status own
+          (run_exactly answer s status 3 (HasJobs desk_at path × IsUnusable s.id_of old) (omega arith) (load_archive g desk_at path old new inputs disks answer l.ends) told);
+      own = λ disks. ends_own s.id_of old new answer s status (l.own disks) told;
       job_first = λ inputs cause four. job_first answer s status (refused_job g desk_at path old new inputs cause answer l.ends) l.source_cause told four;
       archive_first = λ inputs disks cause four. archive_first answer s status (refused_archive g desk_at path old new inputs disks cause answer l.ends) l.disk_cause l.source_cause told four;
       by_lines = λ less. load_lines dir path s answer status l.ends (uncut answer s status (λ four. omega (arith, four, less)) told) less;
@@ -222,6 +243,9 @@ does_ask dir paths s answer status told a =
       not_refused = run_never answer s status 2 3 (ask_statuses answer a.one_of) 2 (omega arith) (omega arith) (omega arith) told;
       unusable = λ t. run_exactly answer s status 3 (IsUnusable s.id_of old) (omega arith) (ask_archive s.id_of old new paths answer a.one_of (a.ends t)) told;
       first_harm = λ file at t harm. told_unless (damaged_line file at) 3 answer s status (ask_harm s.id_of old file at harm new paths answer (a.ends t)) told;
+      undamaged = λ t own.
+          exactly_not_made s.id_of old status own (run_exactly answer s status 3 (IsUnusable s.id_of old) (omega arith) (ask_archive s.id_of old new paths answer a.one_of (a.ends t)) told);
+      own = λ t. ends_own s.id_of old new answer s status (a.own t) told;
       short_reply = λ h replies t archive are. run_exactly answer s status 1 (HasShortReply replies) (omega arith) (ask_replies s.id_of old new paths h replies archive are answer (a.ends t)) told;
       complete = λ h replies t archive are no_disk no_sink.
           told_with (flat_map reply_line replies) (replies_status replies) answer s status
@@ -238,6 +262,9 @@ does_check dir s answer status told c =
       not_refused = run_never answer s status 1 3 (check_statuses s.id_of answer c.one_of) 2 (omega arith) (omega arith) (omega arith) told;
       unusable = λ t. run_exactly answer s status 3 (IsUnusable s.id_of old) (omega arith) (check_archive s.id_of old new answer (c.ends t)) told;
       first_harm = λ file at t harm. told_unless (damaged_line file at) 3 answer s status (check_harm s.id_of old file at harm new answer (c.ends t)) told;
+      undamaged = λ t own.
+          exactly_not_made s.id_of old status own (run_exactly answer s status 3 (IsUnusable s.id_of old) (omega arith) (check_archive s.id_of old new answer (c.ends t)) told);
+      own = λ t. ends_own s.id_of old new answer s status (c.own t) told;
       complete = λ h t archive no_disk no_sink.
           counts_with (replay h) answer s status (check_done s.id_of old new h archive answer (c.ends t) (λ failed. no_disk (c.cause failed))) no_sink told;
     }

@@ -3,6 +3,7 @@ use Rattle.std.proofs.Common.{◌≡◌, inl, inr, ⊎_elim, List, sym, subst}
 use Rattle.swh_outside.specs.Files.{Files}
 use Rattle.swh_jobs.specs.Job.{Job}
 use Rattle.swh_program.specs.Seen.{Span}
+use Rattle.swh_program.specs.Answers.{TellsDisk}
 use Rattle.swh_program.specs.Jobs.{IsJobRefusal}
 use Rattle.swh_program.specs.LeftAlone.{IsOnDesk, IsBeforeInputs, IsArchiveRefusal, IsRefusedInOrder}
 use Rattle.swh_program.specs.Load.{Givens, IsLoadedOrNot}
@@ -10,6 +11,14 @@ use Rattle.swh_program.specs.Opening.{IsOpenRefusal, OpenEnds}
 use Rattle.swh_program.specs.declared.answer.Answer.{Answer}
 use Rattle.swh_program.specs.declared.answer.Answer.TheVariants.{NoJobFile, BadJob, NotMade, Damaged, OutsideDisk, OutsideSource, OutsideClock, Memory}
 use Rattle.swh_program.proofs.LoadAnswers.{told_of, unloaded_cases}
+
+-- a job file that is refused tells of no disk
+pub no_disk_told : (answer : Answer) → IsJobRefusal answer → TellsDisk answer → ⊥
+no_disk_told NoJobFile is tells = let e : NoJobFile ≡ OutsideDisk = tells in cc
+no_disk_told (BadJob text) is tells = let e : BadJob text ≡ OutsideDisk = tells in cc
+no_disk_told OutsideSource is tells = let e : OutsideSource ≡ OutsideDisk = tells in cc
+no_disk_told Memory is tells = let e : Memory ≡ OutsideDisk = tells in cc
+no_disk_told _ is tells = absurd is
 
 module _ (s : Span) where
   -- a job file that is refused leaves all but the desk

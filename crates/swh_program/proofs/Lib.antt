@@ -8,6 +8,7 @@ pub mod Endings
 pub mod Calling
 pub mod KeptRuns
 pub mod Openings
+pub mod Owned
 pub mod Loads
 pub mod JobReads
 pub mod Archived

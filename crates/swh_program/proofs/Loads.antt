@@ -11,14 +11,16 @@ use Rattle.swh_segment.specs.Settled.{seen_of}
 use Rattle.swh_model.specs.declared.event.Event.{Event}
 use Rattle.swh_model.specs.Archive.{Archive, empty_archive, visits_of}
 use Rattle.swh_model.specs.Grows.{IsWithin, IsLaterVisit}
-use Rattle.swh_model.specs.Step.{IsHistory, MayAll, after_all, replay, visit_at}
+use Rattle.swh_model.specs.Step.{May, IsHistory, MayAll, after_all, replay, visit_at}
 use Rattle.swh_model.proofs.Growing.{bodies_grow, visits_grow}
 use Rattle.swh_model.proofs.Histories.{fronts}
 use Rattle.swh_model.proofs.Sounds.{all-sound, empty-sound}
 use Rattle.swh_keeper.specs.Kept.{Kept, IsKept, AreStanding, MayHoldOneMore}
+use Rattle.swh_keeper.proofs.KeptLemmas.{history-push}
 use Rattle.swh_jobs.specs.Job.{Job}
 use Rattle.swh_loader.specs.Calls.{all_calls, kept_files, BreaksAtEvent, MakesCalls}
-use Rattle.swh_loader.proofs.Moments.{opened_standing, safe_opening, safely_made, safely_broken}
+use Rattle.swh_loader.specs.Moments.{EachFrontMoment, IsSafelyBroken}
+use Rattle.swh_loader.proofs.Moments.{codable_front, all_moments, opened_standing, safe_opening, safely_made, safely_broken}
 use Rattle.swh_pool.specs.Stops.{HaveNoDiskFault}
 use Rattle.swh_program.specs.Answers.{TellsDisk}
 use Rattle.swh_program.specs.Inputs.{Inputs}
@@ -26,9 +28,11 @@ use Rattle.swh_program.specs.Opening.{IsArchive, IsOnlyOpened, IsOpenRefusal, Op
 use Rattle.swh_program.specs.Lines.{LoadedJob, outcomes, ending_of_all, TellsLoad}
 use Rattle.swh_program.specs.Load.{Givens, VisitsStay, LeavesDisks, IsNextOf, AreJobLoads, MakesRunCalls, IsLoad, IsLoadedOrNot, IsUnloaded}
 use Rattle.swh_program.specs.Loading.{IsUnstarted, AreKeptLoads, IsKeptRun}
+use Rattle.swh_program.specs.Damage.{IsUndamaged}
 use Rattle.swh_program.specs.declared.answer.Ending.TheVariants as ending
 use Rattle.swh_program.specs.declared.answer.Answer.{Answer}
 use Rattle.swh_program.specs.declared.answer.Answer.TheVariants.{Told, NotMade, Damaged, OutsideDisk, OutsideClock, Memory}
+use Rattle.swh_program.proofs.Owned.{load_moments}
 
 -- What was held by a front of a history is held by the whole.
 module _ (id_of : Kind → List ℕ → List ℕ) (before more after : List Event) (behind : after ≡ before ++ more) (history : IsHistory id_of after) where
@@ -58,6 +62,15 @@ not_disk : (answer : Answer) → IsUnstarted answer → TellsDisk answer → ⊥
 not_disk answer (inl clock) is = let f : OutsideClock ≡ OutsideDisk = subst TellsDisk clock is in cc
 not_disk answer (inr memory) is = let f : Memory ≡ OutsideDisk = subst TellsDisk memory is in cc
 
+-- lines are no damage, and nor is what stops them all
+undamaged_load : (loads : List LoadedJob) (answer : Answer) → TellsLoad loads answer → IsUndamaged answer
+undamaged_load loads (Damaged text) told = absurd told
+undamaged_load loads _ told = tt
+
+undamaged_start : (answer : Answer) → IsUnstarted answer → IsUndamaged answer
+undamaged_start answer (inl clock) = subst IsUndamaged (sym clock) tt
+undamaged_start answer (inr memory) = subst IsUndamaged (sym memory) tt
+
 -- Each load adds after the one before it.
 pub all_behind : (id_of : Kind → List ℕ → List ℕ) (of_jobs : Inputs) (loads : List LoadedJob) (before after : List Event) → AreJobLoads id_of of_jobs loads before after → (more : List Event) × (after ≡ before ++ more)
 all_behind id_of of_jobs [] before after are = ([], are ∙ sym (append-nil before))
@@ -81,28 +94,58 @@ module _ {D : Type 0} (g : Givens) (disks : Disks D) where
           (let w = wounded_by now.wounded (λ e. fault (none_of e)) in kept.doubt w.0 w.1 (told t));
     }
 
+    -- the calls of this run, by the files between the barriers and the events
+    abbrev Begun : Files
+    Begun = files_done barriers old
+
+    -- its events, once each fits its fields
+    codable_by : (loads : List LoadedJob) (calls : MakesCalls g.id_of disks.file (Next loads) was now) → g.disks_tell → (w : Option ℕ) → now.wounded ≡ w → AreCodable 0 now.history
+    codable_by loads calls t None is = (kept.standing is (told t)).stand.codable
+    codable_by loads calls t (Some n) is = let b = calls.calls.broken unwounded n is in codable_front 0 now.history (b.event ∷ []) b.codable
+
+    run_moments : (loads : List LoadedJob) (calls : MakesCalls g.id_of disks.file (Next loads) was now) → g.disks_tell → EachFrontMoment was.history calls.more Begun
+    run_moments loads calls t =
+        all_moments calls.more was.history Begun (opened_standing old was.history (archive t).stand) (subst (AreCodable 0) calls.behind (codable_by loads calls t now.wounded refl))
+
+    run_history : (more : List Event) → now.history ≡ was.history ++ more → IsHistory g.id_of (was.history ++ more)
+    run_history more behind = subst (IsHistory g.id_of) behind kept.history
+
+    run_broken : (loads : List LoadedJob) → (now.wounded ≡ None → HaveNoDiskFault (outcomes loads)) → (calls : MakesCalls g.id_of disks.file (Next loads) was now) → g.disks_tell → (HaveNoDiskFault (outcomes loads) → ⊥)
+        → IsSafelyBroken g.id_of (Next loads) was.history calls.more Begun new
+    run_broken loads none_of calls t fault =
+        let plan = all_calls was.history calls.more in
+        let from : files_done plan (kept_files disks.file was) ≡ files_done plan Begun = ap (files_done plan) (opened t) in
+        let w = wounded_by now.wounded (λ e. fault (none_of e)) in
+        let b : BreaksAtEvent g.id_of (Next loads) (was.history ++ calls.more) (files_done plan Begun) new =
+        subst (λ (f : Files). BreaksAtEvent g.id_of (Next loads) (was.history ++ calls.more) (files_done plan Begun) f) (sym (taken t))
+        (subst (λ (f : Files). BreaksAtEvent g.id_of (Next loads) (was.history ++ calls.more) f (kept_files disks.file now)) from
+        (subst (λ (h : List Event). BreaksAtEvent g.id_of (Next loads) h (files_done plan (kept_files disks.file was)) (kept_files disks.file now)) calls.behind (calls.calls.broken unwounded w.0 w.1))) in
+        safely_broken g.id_of (Next loads) calls.more was.history Begun new (opened_standing old was.history (archive t).stand) b
+
+    -- with the event at which a disk failed they are a history too
+    broken_history : (more : List Event) → now.history ≡ was.history ++ more → (event : Event) → May g.id_of (replay (was.history ++ more)) event → IsHistory g.id_of (was.history ++ (more ++ event ∷ []))
+    broken_history more behind event may =
+        subst (IsHistory g.id_of) (append_assoc was.history more (event ∷ [])) (history-push g.id_of empty_archive (was.history ++ more) event (run_history more behind) may)
+
     run_calls : (loads : List LoadedJob) → (now.wounded ≡ None → HaveNoDiskFault (outcomes loads)) → (HaveNoDiskFault (outcomes loads) → now.wounded ≡ None) → MakesCalls g.id_of disks.file (Next loads) was now → g.disks_tell
         → MakesRunCalls g.id_of g.inputs loads old new was.history now.history
     run_calls loads none_of none calls t =
         let plan = all_calls was.history calls.more in
-        let begun : Files = files_done barriers old in
         let standing = opened_standing old was.history (archive t).stand in
-        let from : files_done plan (kept_files disks.file was) ≡ files_done plan begun = ap (files_done plan) (opened t) in
+        let from : files_done plan (kept_files disks.file was) ≡ files_done plan Begun = ap (files_done plan) (opened t) in
         record {
           more = calls.more;
           behind = calls.behind;
           opening = safe_opening old (sees t) was.history (archive t).stand;
           made = λ no_fault.
-              safely_made calls.more was.history begun new standing
+              safely_made calls.more was.history Begun new standing
               (subst (AreCodable 0) calls.behind (kept.standing (none no_fault) (told t)).stand.codable)
               (taken t ∙ calls.calls.made (none no_fault ∙ sym unwounded) ∙ from);
-          broken = λ fault.
-              let w = wounded_by now.wounded (λ e. fault (none_of e)) in
-              let b : BreaksAtEvent g.id_of (Next loads) (was.history ++ calls.more) (files_done plan begun) new =
-              subst (λ (f : Files). BreaksAtEvent g.id_of (Next loads) (was.history ++ calls.more) (files_done plan begun) f) (sym (taken t))
-              (subst (λ (f : Files). BreaksAtEvent g.id_of (Next loads) (was.history ++ calls.more) f (kept_files disks.file now)) from
-              (subst (λ (h : List Event). BreaksAtEvent g.id_of (Next loads) h (files_done plan (kept_files disks.file was)) (kept_files disks.file now)) calls.behind (calls.calls.broken unwounded w.0 w.1))) in
-              safely_broken g.id_of (Next loads) calls.more was.history begun new standing b;
+          broken = run_broken loads none_of calls t;
+          usable = λ own. load_moments g.id_of old was.history calls.more own (run_history calls.more calls.behind) (run_moments loads calls t);
+          usable_broken = λ fault own.
+              let b = run_broken loads none_of calls t fault in
+              load_moments g.id_of old was.history (calls.more ++ b.breaks.event ∷ []) own (broken_history calls.more calls.behind b.breaks.event b.breaks.may) b.moments;
         }
 
     loaded_files : (loads : List LoadedJob) → AreKeptLoads g disks loads was now → IsLoad g old new loads
@@ -131,6 +174,11 @@ module _ {D : Type 0} (g : Givens) (disks : Disks D) where
         → IsLoadedOrNot g old new jobs answer
     run_files jobs answer (inl run) = inl (record { loads = run.loads; jobs_are = run.jobs_are; said = run.said; load = loaded_files run.loads run.load; told = run.told })
     run_files jobs answer (inr none) = inr (unstarted answer none.0 (λ t. taken t ∙ ap (kept_files disks.file) none.1 ∙ opened t))
+
+  -- and they are not told of as damaged
+  pub run_undamaged : (was now : Kept D) (jobs : List Job) (answer : Answer) → IsKeptRun g disks was now jobs answer → IsUndamaged answer
+  run_undamaged was now jobs answer (inl run) = undamaged_load run.loads answer run.told
+  run_undamaged was now jobs answer (inr none) = undamaged_start answer none.0
 
   pub run_disk : (was now : Kept D) (jobs : List Job) (answer : Answer)
       → IsKeptRun g disks was now jobs answer → TellsDisk answer → ADiskFailed (disks.faults was.store) (disks.faults now.store) (disks.faults was.ledger) (disks.faults now.ledger)

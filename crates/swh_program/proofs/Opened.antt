@@ -8,12 +8,15 @@ use Rattle.swh_format.specs.Stands.{StandsFor}
 use Rattle.swh_model.specs.Step.{IsHistory}
 use Rattle.swh_segment.specs.Making.{IsMade, IsNotMade, barriers}
 use Rattle.swh_keeper.specs.Damage.{IfDamagedAt, IsDamagedAt}
+use Rattle.swh_keeper.specs.Own.{AreOwn}
 use Rattle.swh_keeper.specs.Opening.{IsOpeningFault, IsLeftFor, IsTheHistory}
 use Rattle.swh_keeper.specs.declared.opening.OpenWhy.{OpenWhy}
 use Rattle.swh_keeper.specs.declared.opening.OpenWhy.TheVariants as why
 use Rattle.swh_recovery.specs.declared.harm.Harm.{Harm}
 use Rattle.swh_program.specs.Damage.{damaged_line, TellsDamageLine}
-use Rattle.swh_program.specs.Opening.{IsArchive, IsOnlyOpened, IsRefusalFor, OpenEnds}
+use Rattle.swh_program.specs.Opening.{IsArchive, IsOnlyOpened, IsOpenRefusal, IsRefusalFor, OpenEnds}
+use Rattle.swh_program.specs.Own.{KeepsOwn}
+use Rattle.swh_program.proofs.Owned.{keeps_refused}
 use Rattle.swh_program.specs.declared.answer.Answer.{Answer}
 use Rattle.swh_program.specs.declared.answer.Answer.TheVariants.{Damaged, Memory}
 
@@ -68,3 +71,10 @@ module _ (id_of : Kind → List ℕ → List ℕ) (ledger store : File) (old : F
       subst (OpenEnds id_of old taken) (sym is) (inr (subst (λ (f : Files). FilesBreaks barriers old f) (sym e) (subst (λ (f : Files). FilesBreaks barriers f new) given breaks)))
   refused_here why.DiskFault new taken e fault not_made damaged (inr done) answer is = subst (OpenEnds id_of old taken) (sym is) (inl (inr (opened_here taken (e ∙ done))))
   refused_here why.Memory new taken e fault not_made damaged left answer is = subst (OpenEnds id_of old taken) (sym is) (inr (opened_here taken (e ∙ left)))
+
+  -- own files are not told of as damaged, and are left own
+  pub refused_own : (reason : OpenWhy) (new taken : Files) → taken ≡ new → (AreOwn id_of (files_of ledger store) → IfDamagedAt reason (λ file at harm. ⊥))
+      → (AreOwn id_of (files_of ledger store) → AreOwn id_of new) → (answer : Answer) → IsRefusalFor reason answer → IsOpenRefusal answer → KeepsOwn id_of old taken answer
+  refused_own reason new taken e undamaged own answer is one_of =
+      let here : AreOwn id_of old → AreOwn id_of (files_of ledger store) = λ was. subst (AreOwn id_of) (sym given) was in
+      keeps_refused id_of old taken reason answer is one_of (λ was. undamaged (here was)) (λ was. subst (AreOwn id_of) (sym e) (own (here was)))

@@ -7,10 +7,13 @@ use Rattle.swh_model.specs.declared.event.Event.{Event}
 use Rattle.swh_model.specs.Archive.{Archive}
 use Rattle.swh_model.specs.Step.{replay}
 use Rattle.swh_model.specs.Answer.{ReplyText, IsReply}
+use Rattle.swh_segment.specs.Making.{IsNotMade}
+use Rattle.swh_keeper.specs.Own.{AreOwn}
 use Rattle.swh_program.specs.Seen.{Span, DepotFailed, SinkFailed}
 use Rattle.swh_program.specs.Archives.{old_archive, new_archive, SameElsewhere}
 use Rattle.swh_program.specs.Damage.{damaged_line, IsHarmedAt}
 use Rattle.swh_program.specs.LeftAlone.{IsOnDepot}
+use Rattle.swh_program.specs.Own.{KeepsOwn, EndsOwn}
 use Rattle.swh_program.specs.Run.{IsExactly, Ends, IsPrintedWith, IsPrintedUnlessFailed, replies_status}
 use Rattle.swh_program.specs.Opening.{IsArchive, IsUnusable, IsOnlyOpened, IsOpenRefusal, OpenEnds}
 use Rattle.swh_program.specs.declared.answer.Ending.{Ending}
@@ -78,6 +81,7 @@ pub record Asks (dir : List ℕ) (paths : List (List ℕ)) (s : Span) (answer : 
   pub one_of : IsAskAnswer answer
   pub ends : s.told.depot → AskEnds s.id_of paths (old_archive dir s) (new_archive dir s) answer
   pub elsewhere : s.told.depot → SameElsewhere dir s.old.depot.files s.new.depot.files
+  pub own : s.told.depot → KeepsOwn s.id_of (old_archive dir s) (new_archive dir s) answer
   pub cause : answer ≡ OutsideDisk → DepotFailed s
   pub left : IsOnDepot s
 
@@ -90,6 +94,9 @@ pub record DoesAsk (dir : List ℕ) (paths : List (List ℕ)) (s : Span) (status
   pub unusable : s.told.depot → IsExactly 3 (IsUnusable s.id_of (old_archive dir s)) status
   pub first_harm : (file at : ℕ) → s.told.depot → IsHarmedAt s.id_of (old_archive dir s) file at
       → IsPrintedUnlessFailed (damaged_line file at) 3 s status
+  -- Own files are never damaged, and stay own.
+  pub undamaged : s.told.depot → AreOwn s.id_of (old_archive dir s) → IsExactly 3 (IsNotMade (old_archive dir s 0).seen) status
+  pub own : s.told.depot → EndsOwn s.id_of (old_archive dir s) (new_archive dir s) status
   -- 1: a reply is not 200.
   pub short_reply : (h : List Event) (replies : List ReplyText) → s.told.depot → IsArchive s.id_of (old_archive dir s) h
       → AreReplies (replay h) paths replies → IsExactly 1 (HasShortReply replies) status

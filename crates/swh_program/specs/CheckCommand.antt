@@ -7,10 +7,13 @@ use Rattle.swh_model.specs.Archive.{Archive}
 use Rattle.swh_model.specs.Step.{replay}
 use Rattle.swh_check.specs.Counts.{IsReport}
 use Rattle.swh_check.specs.declared.report.Report.{Report}
+use Rattle.swh_segment.specs.Making.{IsNotMade}
+use Rattle.swh_keeper.specs.Own.{AreOwn}
 use Rattle.swh_program.specs.Seen.{Span, DepotFailed, SinkFailed}
 use Rattle.swh_program.specs.Archives.{old_archive, new_archive, SameElsewhere}
 use Rattle.swh_program.specs.Damage.{damaged_line, IsDamagedLine, IsHarmedAt, TellsBody}
 use Rattle.swh_program.specs.LeftAlone.{IsOnDepot}
+use Rattle.swh_program.specs.Own.{KeepsOwn, EndsOwn}
 use Rattle.swh_program.specs.Run.{IsExactly, Ends, IsPrintedUnlessFailed}
 use Rattle.swh_program.specs.Opening.{IsArchive, IsUnusable, IsOnlyOpened, IsOpenRefusal, OpenEnds}
 use Rattle.swh_program.specs.declared.answer.Ending.{Ending}
@@ -28,11 +31,6 @@ pub record TellsCounts (a : Archive) (text : List ℕ) : Type 0 where
   pub report : Report
   pub counts : IsReport a report
   pub text_is : text ≡ report_line report
-
--- The answer is another than damage.
-abbrev pub IsUndamaged : Answer → Type 0
-IsUndamaged (Damaged text) = ⊥
-IsUndamaged _ = Unit {0}
 
 module _ (id_of : Kind → List ℕ → List ℕ) where
   -- what the check of an archive that is open comes to
@@ -67,6 +65,7 @@ pub record Checks (dir : List ℕ) (s : Span) (answer : Answer) : Type 0 where
   pub one_of : IsCheckAnswer s.id_of answer
   pub ends : s.told.depot → CheckEnds s.id_of (old_archive dir s) (new_archive dir s) answer
   pub elsewhere : s.told.depot → SameElsewhere dir s.old.depot.files s.new.depot.files
+  pub own : s.told.depot → KeepsOwn s.id_of (old_archive dir s) (new_archive dir s) answer
   pub cause : answer ≡ OutsideDisk → DepotFailed s
   pub left : IsOnDepot s
 
@@ -86,6 +85,9 @@ pub record DoesCheck (dir : List ℕ) (s : Span) (status : ℕ) : Type 0 where
   pub unusable : s.told.depot → IsExactly 3 (IsUnusable s.id_of (old_archive dir s)) status
   pub first_harm : (file at : ℕ) → s.told.depot → IsHarmedAt s.id_of (old_archive dir s) file at
       → IsPrintedUnlessFailed (damaged_line file at) 3 s status
+  -- Own files are never damaged, and stay own.
+  pub undamaged : s.told.depot → AreOwn s.id_of (old_archive dir s) → IsExactly 3 (IsNotMade (old_archive dir s 0).seen) status
+  pub own : s.told.depot → EndsOwn s.id_of (old_archive dir s) (new_archive dir s) status
   -- The counts of the archive are printed with status 0, unless memory runs out, where no part of the outside failed.
   pub complete : (h : List Event) → s.told.depot → IsArchive s.id_of (old_archive dir s) h
       → (DepotFailed s → ⊥) → (SinkFailed s → ⊥) → (status ≡ 5) ⊎ ((status ≡ 0) × PrintsCounts (replay h) s)

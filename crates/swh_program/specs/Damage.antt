@@ -30,6 +30,11 @@ TellsDamageLine line (Damaged text) = text ≡ line
 TellsDamageLine line Memory = Unit {0}
 TellsDamageLine line _ = ⊥
 
+-- The answer is another than damage.
+abbrev pub IsUndamaged : Answer → Type 0
+IsUndamaged (Damaged text) = ⊥
+IsUndamaged _ = Unit {0}
+
 module _ (id_of : Kind → List ℕ → List ℕ) where
   -- The two files stand for no history, and the first harm is at this byte of the file of this number.
   abbrev pub IsHarmedAt : Files → ℕ → ℕ → Type 0

@@ -1,12 +1,15 @@
 -- What `init` does.
 use Rattle.std.specs.Prelude.{◌≡◌, ◌≢◌, ◌⊎◌, ℕ, List}
+use Rattle.swh_base.specs.declared.kind.Kind.{Kind}
 use Rattle.swh_outside.specs.Disk.{EachImage}
-use Rattle.swh_outside.specs.Files.{Files, EachImages, FilesBreaks, files_done}
+use Rattle.swh_outside.specs.Files.{Files, EachImages, EachFilesMoment, FilesBreaks, files_done}
 use Rattle.swh_segment.specs.Making.{IsMade, IsNotMade, IsNotMadeOrEmpty, IsEmptyArchive, IsCrashSafe, making_calls}
+use Rattle.swh_keeper.specs.Own.{AreUsable, AreOwn}
 use Rattle.swh_program.specs.Seen.{Span, DepotFailed, SinkFailed}
 use Rattle.swh_program.specs.Answers.{last_line_of}
 use Rattle.swh_program.specs.Archives.{old_archive, new_archive, SameElsewhere}
 use Rattle.swh_program.specs.LeftAlone.{IsOnDepot}
+use Rattle.swh_program.specs.Own.{KeepsOwn, EndsOwn}
 use Rattle.swh_program.specs.Run.{IsExactly, Ends, IsPrintedWith}
 use Rattle.swh_program.specs.declared.answer.Answer.{Answer}
 use Rattle.swh_program.specs.declared.answer.Answer.TheVariants.{Made, AlreadyMade, OutsideDisk, Memory}
@@ -43,17 +46,21 @@ IsInitAnswer Memory = Unit {0}
 IsInitAnswer _ = ⊥
 
 -- What a crash leaves at each device call of `init`, and after it, is not made, or made and empty, where at entry no
--- image is made.
-pub record IsSafeInit (old new : Files) : Type 0 where
+-- image is made. Of own files it leaves at each call what is not made, or stands for a history.
+pub record IsSafeInit (id_of : Kind → List ℕ → List ℕ) (old new : Files) : Type 0 where
   pub moments : IsNotMade (old 0).seen → EachImage (old 0) IsNotMade → IsCrashSafe old
   pub left : IsNotMade (old 0).seen → EachImage (old 0) IsNotMade → EachImages new IsNotMadeOrEmpty
+  pub own : IsNotMade (old 0).seen → AreOwn id_of old → EachFilesMoment (making_calls (old 0).seen) old (AreUsable id_of)
 
--- This answer came of `init`; the files of its folder, and no others, changed as it says.
+-- This answer came of `init`; the files of its folder, and no others, changed as it says. A made archive is as it was,
+-- also where a disk failed.
 pub record Inits (dir : List ℕ) (s : Span) (answer : Answer) : Type 0 where
   pub one_of : IsInitAnswer answer
   pub ends : s.told.depot → InitEnds (old_archive dir s) (new_archive dir s) answer
   pub elsewhere : s.told.depot → SameElsewhere dir s.old.depot.files s.new.depot.files
-  pub crash : s.told.depot → IsSafeInit (old_archive dir s) (new_archive dir s)
+  pub crash : s.told.depot → IsSafeInit s.id_of (old_archive dir s) (new_archive dir s)
+  pub spared : s.told.depot → IsMade (old_archive dir s 0).seen → new_archive dir s ≡ old_archive dir s
+  pub own : s.told.depot → KeepsOwn s.id_of (old_archive dir s) (new_archive dir s) answer
   pub cause : answer ≡ OutsideDisk → DepotFailed s
   pub left : IsOnDepot s
 
@@ -65,6 +72,9 @@ pub record DoesInit (dir : List ℕ) (s : Span) (status : ℕ) : Type 0 where
   pub not_refused : status ≢ 2
   -- 3: the archive was made before.
   pub made_before : s.told.depot → IsExactly 3 (IsMade (old_archive dir s 0).seen) status
+  -- A made archive is as it was at the end, whatever the status. Own files stay own.
+  pub spared : s.told.depot → IsMade (old_archive dir s 0).seen → new_archive dir s ≡ old_archive dir s
+  pub own : s.told.depot → EndsOwn s.id_of (old_archive dir s) (new_archive dir s) status
   -- An archive that is not made is made, unless memory runs out, where no part of the outside failed.
   pub complete : s.told.depot → IsNotMade (old_archive dir s 0).seen → (DepotFailed s → ⊥) → (SinkFailed s → ⊥)
       → IsPrintedWith (last_line_of Made) 0 s status

@@ -6,6 +6,7 @@ pub mod Run
 pub mod LeftAlone
 pub mod Damage
 pub mod Opening
+pub mod Own
 pub mod InitCommand
 pub mod AskCommand
 pub mod CheckCommand

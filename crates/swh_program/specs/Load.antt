@@ -3,7 +3,7 @@ use Rattle.std.specs.Prelude.{◌≡◌, ◌⊎◌, ℕ, Some, false, Result, Li
 use Rattle.swh_base.specs.declared.kind.Kind.{Kind}
 use Rattle.swh_base.specs.declared.entry.Entry.{Entry}
 use Rattle.swh_outside.specs.Disk.{File}
-use Rattle.swh_outside.specs.Files.{Files, files_done}
+use Rattle.swh_outside.specs.Files.{Files, EachFilesMoment, files_done}
 use Rattle.swh_model.specs.declared.event.Event.{Event}
 use Rattle.swh_model.specs.declared.event.Visit.{Visit}
 use Rattle.swh_model.specs.Archive.{visits_of}
@@ -11,10 +11,12 @@ use Rattle.swh_model.specs.Grows.{IsWithin, IsLaterVisit}
 use Rattle.swh_model.specs.Sound.{IsSound}
 use Rattle.swh_model.specs.Step.{IsHistory, visit_at, replay}
 use Rattle.swh_keeper.specs.Kept.{AreStanding, MayHoldOneMore}
+use Rattle.swh_keeper.specs.Own.{AreUsable, AreOwn}
 use Rattle.swh_segment.specs.Making.{barriers}
 use Rattle.swh_jobs.specs.Job.{Job}
 use Rattle.swh_jobs.specs.JobFile.{AreJobs}
 use Rattle.swh_loader.specs.Adding.{Attempt, attempt}
+use Rattle.swh_loader.specs.Calls.{all_calls}
 use Rattle.swh_loader.specs.Moments.{IsSafelyMade, IsSafelyBroken, IsSafeOpening}
 use Rattle.swh_loader.specs.Leaving.{AddsVisit}
 use Rattle.swh_loader.specs.declared.end.Loaded.{Loaded}
@@ -80,6 +82,10 @@ module _ (id_of : Kind → List ℕ → List ℕ) (of_jobs : Inputs) where
     pub made : HaveNoDiskFault (outcomes loads) → IsSafelyMade before more (files_done barriers old) new
     pub broken : (HaveNoDiskFault (outcomes loads) → ⊥)
         → IsSafelyBroken id_of (IsNextOf loads after) before more (files_done barriers old) new
+    -- Where the files were own at entry, a crash at any of these calls leaves them not made, or standing for a history.
+    pub usable : AreOwn id_of old → EachFilesMoment (barriers ++ all_calls before more) old (AreUsable id_of)
+    pub usable_broken : (fault : HaveNoDiskFault (outcomes loads) → ⊥) → AreOwn id_of old
+        → EachFilesMoment (barriers ++ all_calls before (more ++ (broken fault).breaks.event ∷ [])) old (AreUsable id_of)
 
 -- The files stood for a history, and nothing was done but a barrier on each, which no crash can harm.
 pub record IsOpenedArchive (id_of : Kind → List ℕ → List ℕ) (old new : Files) : Type 0 where

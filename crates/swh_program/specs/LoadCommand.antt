@@ -6,6 +6,8 @@ use Rattle.swh_model.specs.Meaning.{Made}
 use Rattle.swh_model.specs.Step.{replay}
 use Rattle.swh_jobs.specs.Job.{Job}
 use Rattle.swh_jobs.specs.declared.fault.JobWhy.{JobWhy}
+use Rattle.swh_segment.specs.Making.{IsNotMade}
+use Rattle.swh_keeper.specs.Own.{AreOwn}
 use Rattle.swh_program.specs.Seen.{Span, DepotFailed, DeskFailed, ClockFailed, SinkFailed}
 use Rattle.swh_program.specs.Answers.{TellsDisk}
 use Rattle.swh_program.specs.Archives.{old_archive, new_archive, SameElsewhere}
@@ -19,6 +21,7 @@ use Rattle.swh_program.specs.LeftAlone.{IsRefusedInOrder}
 use Rattle.swh_program.specs.Lines.{LoadedJob, outcomes, load_line}
 use Rattle.swh_program.specs.Load.{Givens, IsLoad, LoadEnds}
 use Rattle.swh_program.specs.Opening.{IsArchive, IsUnusable}
+use Rattle.swh_program.specs.Own.{KeepsOwn, EndsOwn}
 use Rattle.swh_program.specs.Run.{ComesTo, IsExactly, Ends, IsPrintedWith, IsPrintedUnlessFailed}
 use Rattle.swh_program.specs.declared.answer.Answer.{Answer}
 use Rattle.swh_program.specs.declared.answer.Answer.TheVariants.{OutsideSource, OutsideClock}
@@ -42,6 +45,7 @@ givens_of s = record {
 pub record Loads (dir path : List ℕ) (s : Span) (answer : Answer) : Type 0 where
   pub ends : LoadEnds (givens_of s) s.old.desk.file_at path (old_archive dir s) (new_archive dir s) answer
   pub elsewhere : s.told.depot → SameElsewhere dir s.old.depot.files s.new.depot.files
+  pub own : s.told.depot → KeepsOwn s.id_of (old_archive dir s) (new_archive dir s) answer
   pub disk_cause : TellsDisk answer → DepotFailed s
   pub source_cause : answer ≡ OutsideSource → DeskFailed s
   pub clock_cause : answer ≡ OutsideClock → ClockFailed s
@@ -68,6 +72,10 @@ pub record DoesLoad (dir path : List ℕ) (s : Span) (status : ℕ) : Type 0 whe
       → IsExactly 3 (HasJobs s.old.desk.file_at path × IsUnusable s.id_of (old_archive dir s)) status
   pub first_harm : (file at : ℕ) → s.told.origins → s.told.depot → HasJobs s.old.desk.file_at path
       → IsHarmedAt s.id_of (old_archive dir s) file at → IsPrintedUnlessFailed (damaged_line file at) 3 s status
+  -- Own files are never damaged, and stay own.
+  pub undamaged : s.told.origins → s.told.depot → AreOwn s.id_of (old_archive dir s)
+      → IsExactly 3 (HasJobs s.old.desk.file_at path × IsNotMade (old_archive dir s 0).seen) status
+  pub own : s.told.depot → EndsOwn s.id_of (old_archive dir s) (new_archive dir s) status
   -- Of several causes the first is told: the job file's before the archive's, and the archive's before the clock's.
   pub job_first : s.told.origins → HasNoJobs s.old.desk.file_at path → status ≡ 4 → DeskFailed s ⊎ SinkFailed s
   pub archive_first : s.told.origins → s.told.depot → IsUnusable s.id_of (old_archive dir s) → status ≡ 4

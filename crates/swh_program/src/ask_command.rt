@@ -4,6 +4,7 @@ ghost use Rattle.swh_outside.specs.Faults.{Rose};
 ghost use Rattle.swh_api.specs.Text.{text_of};
 ghost use Rattle.swh_program.specs.Archives.{archive_at, SameElsewhere};
 ghost use Rattle.swh_program.specs.AskCommand.{reply_line, TellsArchive, IsToldArchive, IsAskAnswer, AskEnds};
+ghost use Rattle.swh_program.specs.Own.{KeepsOwn};
 ghost use Rattle.swh_replay.specs.Replay.{archive_of};
 ghost use Rattle.swh_program.specs.declared.answer.Ending.TheVariants.{Wanting};
 ghost use Rattle.swh_program.specs.declared.answer.Answer.TheVariants.{OutsideDisk};
@@ -112,6 +113,8 @@ pub fn ask<N: Namer, P: Depot, W: AsStr>(
 ) -> Answer
     ensures one_of { IsAskAnswer result }
     ensures ends { P.tells → AskEnds N.id_of (map W.text paths.now) (archive_at (P.files depot.old) dir.now)
+        (archive_at (P.files depot.new) dir.now) result }
+    ensures own { P.tells → KeepsOwn N.id_of (archive_at (P.files depot.old) dir.now)
         (archive_at (P.files depot.new) dir.now) result }
     ensures elsewhere { P.tells → SameElsewhere dir.now (P.files depot.old) (P.files depot.new) }
     ensures later { P.faults depot.old ≤ P.faults depot.new }

@@ -8,10 +8,11 @@ ghost use Rattle.swh_program.specs.Archives.{archive_at, SameElsewhere};
 ghost use Rattle.swh_program.specs.CheckCommand.{
   report_line,
   IsChecked,
-  IsUndamaged,
   IsCheckAnswer,
   CheckEnds,
 };
+ghost use Rattle.swh_program.specs.Damage.{IsUndamaged};
+ghost use Rattle.swh_program.specs.Own.{KeepsOwn};
 ghost use Rattle.swh_program.specs.declared.answer.Ending.TheVariants as ending;
 ghost use Rattle.swh_program.specs.declared.answer.Answer.TheVariants.{OutsideDisk};
 
@@ -76,6 +77,8 @@ fn check_open<N: Namer, D: Disk>(alloc: Global, namer: &N, keeper: &mut Keeper<N
 pub fn check<N: Namer, P: Depot>(alloc: Global, namer: N, depot: &mut P, dir: &str) -> Answer
     ensures one_of { IsCheckAnswer N.id_of result }
     ensures ends { P.tells → CheckEnds N.id_of (archive_at (P.files depot.old) dir.now)
+        (archive_at (P.files depot.new) dir.now) result }
+    ensures own { P.tells → KeepsOwn N.id_of (archive_at (P.files depot.old) dir.now)
         (archive_at (P.files depot.new) dir.now) result }
     ensures elsewhere { P.tells → SameElsewhere dir.now (P.files depot.old) (P.files depot.new) }
     ensures later { P.faults depot.old ≤ P.faults depot.new }

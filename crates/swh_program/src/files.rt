@@ -1,6 +1,7 @@
 // Both files of an archive, opened and given back together.
 ghost use Rattle.std.specs.Prelude.{◌≡◌, ◌≤◌, ◌<◌, IfOk, OnOk, OnErr};
-ghost use Rattle.swh_outside.specs.Files.{files_of};
+ghost use Rattle.swh_outside.specs.Files.{AreImages, files_of};
+ghost use Rattle.swh_segment.specs.Settled.{seen_of};
 ghost use Rattle.swh_outside.specs.Faults.{Rose};
 ghost use Rattle.swh_outside.specs.Causes.{HasOutCause};
 ghost use Rattle.swh_program.specs.Archives.{archive_at, SameElsewhere};
@@ -11,6 +12,14 @@ use swh_outside::{Depot, Disk, OutFault};
 pub struct ArchiveFiles<D: Disk> {
     pub store: D,
     pub ledger: D,
+}
+
+/// What a read gives of both files is what a crash may leave of them.
+pub fn see_images<D: Disk>(files: &ArchiveFiles<D>)
+    ensures { D.tells → AreImages (files_of (D.file files.now.ledger) (D.file files.now.store))
+        (seen_of (files_of (D.file files.now.ledger) (D.file files.now.store))) }
+{
+    let _files = files;
 }
 
 /// Opens the ledger, and then the store; where the store fails, the ledger is given back.

@@ -16,6 +16,7 @@ mod job_reading;
 mod load_command;
 mod opening;
 mod outside;
+mod own;
 mod telling;
 mod top;
 
@@ -28,4 +29,5 @@ pub use init_command::init;
 pub use job_reading::read_jobs;
 pub use opening::{close_archive, open_archive};
 pub use outside::{Outside, Shown};
+pub use own::{own_files_outlast_crashes, usable_images_are_own};
 pub use top::run;

@@ -10,6 +10,7 @@ ghost use Rattle.swh_program.specs.LeftAlone.{KeepsTheRest, IsArchiveRefusal, Is
 ghost use Rattle.swh_program.specs.Load.{IsLoadedOrNot};
 ghost use Rattle.swh_program.specs.LoadCommand.{givens_of, Loads};
 ghost use Rattle.swh_program.specs.Loading.{IsKeptRun};
+ghost use Rattle.swh_program.specs.Own.{KeepsOwn};
 ghost use Rattle.swh_program.specs.declared.answer.Answer.TheVariants.{OutsideClock};
 
 use crate::answer::Answer;
@@ -79,6 +80,8 @@ impl<N: Namer, P: Depot, O: Origins, Y: Yard, K: Sink, C: Clock, D: Doors, G: Ga
             (old_archive dir.now (⟦<Self as Shown>⟧.span self.old self.new))
             (new_archive dir.now (⟦<Self as Shown>⟧.span self.old self.new))
             (owned_jobs lines.items) result }
+        ensures own { P.tells → KeepsOwn N.id_of (old_archive dir.now (⟦<Self as Shown>⟧.span self.old self.new))
+            (new_archive dir.now (⟦<Self as Shown>⟧.span self.old self.new)) result }
         ensures elsewhere { P.tells → SameElsewhere dir.now (P.files self.old.depot) (P.files self.new.depot) }
         ensures disk_cause { TellsDisk result → DepotFailed (⟦<Self as Shown>⟧.span self.old self.new) }
         ensures clock_cause { result ≡ OutsideClock → ClockFailed (⟦<Self as Shown>⟧.span self.old self.new) }

@@ -6,19 +6,21 @@ ghost use Rattle.swh_model.specs.declared.event.Event.{Event};
 ghost use Rattle.swh_segment.specs.Making.{IsMade, barriers};
 ghost use Rattle.swh_segment.specs.Settled.{seen_of};
 ghost use Rattle.swh_keeper.specs.Kept.{IsKept};
+ghost use Rattle.swh_keeper.specs.Own.{AreOwn};
 ghost use Rattle.swh_program.specs.Archives.{archive_at, SameElsewhere};
 ghost use Rattle.swh_keeper.specs.Opening.{IsOpeningFault};
 ghost use Rattle.swh_program.specs.Opening.{IsArchive, IsOpenRefusal, IsRefusalFor, OpenEnds};
+ghost use Rattle.swh_program.specs.Own.{KeepsOwn};
 ghost use Rattle.swh_keeper.specs.declared.opening.OpenWhy.TheVariants.{DiskFault};
 ghost use Rattle.swh_program.specs.declared.answer.Answer.TheVariants.{OutsideDisk};
 
 use crate::Answer;
 use crate::damage::tell_harm;
-use crate::files::{ArchiveFiles, close_files, open_files};
+use crate::files::{ArchiveFiles, close_files, open_files, see_images};
 use std::alloc::Global;
 use swh_base::Namer;
 use swh_keeper::{Keeper, OpenFault, OpenWhy};
-use swh_outside::{Depot, Disk, OutFault};
+use swh_outside::{Depot, OutFault};
 
 // What a refusal of the keeper comes to.
 fn refused_by(alloc: Global, why: OpenWhy) -> Answer
@@ -34,14 +36,6 @@ fn refused_by(alloc: Global, why: OpenWhy) -> Answer
         OpenWhy::DiskFault => Answer::OutsideDisk,
         OpenWhy::Memory => Answer::Memory,
     }
-}
-
-// What a read gives of two disks is what a crash may leave of them.
-fn see_images<D: Disk>(files: &ArchiveFiles<D>)
-    ensures { D.tells → AreImages (files_of (D.file files.now.ledger) (D.file files.now.store))
-        (seen_of (files_of (D.file files.now.ledger) (D.file files.now.store))) }
-{
-    let _files = files;
 }
 
 /// Opens the archive in a folder. Where it is refused, its files are given back.
@@ -69,6 +63,9 @@ pub fn open_archive<N: Namer, P: Depot>(
     ensures one_of { IfErr result (λ answer. IsOpenRefusal answer) }
     ensures ends { P.tells → IfErr result
         (OpenEnds N.id_of (archive_at (P.files depot.old) dir.now) (archive_at (P.files depot.new) dir.now)) }
+    // Own files are not told of as damaged, and are left own.
+    ensures own { P.tells → IfErr result
+        (KeepsOwn N.id_of (archive_at (P.files depot.old) dir.now) (archive_at (P.files depot.new) dir.now)) }
     ensures others { P.tells → SameElsewhere dir.now (P.files depot.old) (P.files depot.new) }
     ensures later { P.faults depot.old ≤ P.faults depot.new }
     ensures cause { IfErr result (λ answer. answer ≡ OutsideDisk → Rose (P.faults depot.old) (P.faults depot.new)) }
@@ -92,13 +89,14 @@ pub fn open_archive<N: Namer, P: Depot>(
     }
 }
 
-/// Gives the files of an archive back. Where one of them has failed, the depot's count rises.
+/// Gives the files of an archive back, which are own. Where one of them has failed, the depot's count rises.
 pub fn close_archive<N: Namer, P: Depot>(depot: &mut P, dir: &str, keeper: Keeper<N, P::D>)
     requires store_place { P.has_place depot.old dir.now 1 }
     requires ledger_place { P.has_place depot.old dir.now 0 }
     ensures taken { P.tells → archive_at (P.files depot.new) dir.now
         ≡ files_of (P.D.file keeper.ledger) (P.D.file keeper.store) }
     ensures kept { IsKept N.id_of P.D.tells P.D.file keeper }
+    ensures own { P.D.tells → P.tells → AreOwn N.id_of (archive_at (P.files depot.new) dir.now) }
     ensures others { P.tells → SameElsewhere dir.now (P.files depot.old) (P.files depot.new) }
     ensures later { P.faults depot.old ≤ P.faults depot.new }
     ensures store_cause { 0 < P.D.faults keeper.store → Rose (P.faults depot.old) (P.faults depot.new) }

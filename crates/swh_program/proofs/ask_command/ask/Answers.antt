@@ -1,6 +1,7 @@
 use Rattle.std.proofs.Common.{◌∙◌, map}
 use Rattle.swh_program.specs.Archives.{archive_at}
 use Rattle.swh_program.proofs.Asked.{refused, replied}
+use Rattle.swh_program.proofs.Owned.{keeps_by_end, told_archive_undamaged}
 use Rattle.swh_program.proofs.ask_command.ask.Goals as goal
 
 pub returns-in-Err-clause-ends : goal.returns-in-Err-clause-ends
@@ -12,3 +13,10 @@ returns-clause-ends g c told =
     let shown = c.replayed.ensures c.in-Ok.ensures.unwounded in
     replied g.N.Namer.id_of (map g.W.AsStr.text c.args.paths.now) (archive_at (g.P.Depot.files c.args.depot.now) c.args.dir.now) (archive_at (g.P.Depot.files c.close_archive.new.depot) c.args.dir.now) _ (c.in-Ok.ensures.archive told) opened _
     (rw shown at c.tell_replies-answer.ensures)
+
+pub returns-in-Err-clause-own : goal.returns-in-Err-clause-own
+returns-in-Err-clause-own g c told = c.in-Err.ensures.own told
+
+pub returns-clause-own : goal.returns-clause-own
+returns-clause-own g c told =
+    keeps_by_end g.N.Namer.id_of _ _ c.tell_replies-answer.result (told_archive_undamaged _ _ _ c.tell_replies-answer.ensures) (c.close_archive.ensures.own (c.in-Ok.ensures.disks_tell told) told)

@@ -1,7 +1,9 @@
-use Rattle.std.proofs.Common.{subst}
+use Rattle.std.proofs.Common.{rules, subst, IsErr}
 use Rattle.swh_outside.specs.Files.{Files, AreImages}
 use Rattle.swh_segment.specs.Settled.{seen_of}
-use Rattle.swh_program.proofs.Opened.{archive_kept, no_other_archive, made_here, opened_here, refused_here}
+use Rattle.swh_program.specs.declared.answer.Answer.TheVariants.{OutsideDisk, Memory}
+use Rattle.swh_program.proofs.Owned.{at_err, keeps_same}
+use Rattle.swh_program.proofs.Opened.{archive_kept, no_other_archive, made_here, opened_here, refused_here, refused_own}
 use Rattle.swh_program.proofs.opening.open_archive.Goals as goal
 
 pub returns-in-Ok-open-clause-archive : goal.returns-in-Ok-open-clause-archive
@@ -29,3 +31,19 @@ returns-in-Err-clause-ends g c told =
     let tells = c.in-Ok.ensures.disks_tell told in
     let e = c.in-Err.ensures in
     refused_here g.N.Namer.id_of _ _ _ (c.in-Ok.ensures.given told) _ _ _ (c.close_files.ensures.taken told) e.why (e.not_made tells) (e.damaged tells) (e.left tells) _ c.refused_by.ensures.refusal
+
+pub returns-in-Err-clause-own : goal.returns-in-Err-clause-own
+returns-in-Err-clause-own g c told =
+    let tells = c.in-Ok.ensures.disks_tell told in
+    let e = c.in-Err.ensures in
+    refused_own g.N.Namer.id_of _ _ _ (c.in-Ok.ensures.given told) _ _ _ (c.close_files.ensures.taken told) (e.undamaged tells) (e.own tells) _ c.refused_by.ensures.refusal c.refused_by.ensures.one_of
+
+pub returns-in-Err-Failed-clause-own : goal.returns-in-Err-Failed-clause-own
+returns-in-Err-Failed-clause-own g c told =
+    let is : IsErr c.open_files.result = search rules in
+    keeps_same g.N.Namer.id_of _ _ OutsideDisk (at_err _ c.open_files.result is (c.open_files.ensures.refused told)) tt (λ opened. opened)
+
+pub returns-in-Err-Memory-clause-own : goal.returns-in-Err-Memory-clause-own
+returns-in-Err-Memory-clause-own g c told =
+    let is : IsErr c.open_files.result = search rules in
+    keeps_same g.N.Namer.id_of _ _ Memory (at_err _ c.open_files.result is (c.open_files.ensures.refused told)) tt (λ opened. opened)

@@ -13,7 +13,9 @@ returns-in-Init-clause-comes g c =
       one_of = i.one_of;
       ends = i.ends;
       elsewhere = i.elsewhere;
-      crash = λ told. safe _ _ _ (i.ends told);
+      crash = λ told. safe g.N.Namer.id_of _ _ _ (i.ends told);
+      spared = i.spared;
+      own = λ told. i.own told g.N.Namer.id_of;
       cause = i.cause;
       left = record { desk = refl; origins = refl; clock = refl };
     })
@@ -22,7 +24,7 @@ pub returns-in-Check-clause-comes : goal.returns-in-Check-clause-comes
 returns-in-Check-clause-comes g c =
     let k = c.check.ensures in
     came (ToCheck c.in-Check.dir.now) _ _ _ (ap wanted_by (sym c.in-Check.is))
-    (record { one_of = k.one_of; ends = k.ends; elsewhere = k.elsewhere; cause = k.cause; left = record { desk = refl; origins = refl; clock = refl } })
+    (record { one_of = k.one_of; ends = k.ends; elsewhere = k.elsewhere; own = k.own; cause = k.cause; left = record { desk = refl; origins = refl; clock = refl } })
 
 pub returns-in-Ask-clause-comes : goal.returns-in-Ask-clause-comes
 returns-in-Ask-clause-comes g c =
@@ -30,4 +32,4 @@ returns-in-Ask-clause-comes g c =
     let slice : c.as_slice.result.now ≡ c.in-Ask.paths.items = search rules in
     came (ToAsk c.in-Ask.dir.now (map (λ path. path.now) c.as_slice.result.now)) _ _ _
     (ap (λ (l : List (Bor (List ℕ))). ToAsk c.in-Ask.dir.now (map (λ path. path.now) l)) slice ∙ ap wanted_by (sym c.in-Ask.is))
-    (record { one_of = a.one_of; ends = a.ends; elsewhere = a.elsewhere; cause = a.cause; left = record { desk = refl; origins = refl; clock = refl } })
+    (record { one_of = a.one_of; ends = a.ends; elsewhere = a.elsewhere; own = a.own; cause = a.cause; left = record { desk = refl; origins = refl; clock = refl } })

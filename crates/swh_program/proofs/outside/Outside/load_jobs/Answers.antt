@@ -2,7 +2,8 @@ use Rattle.std.proofs.Common.{inr}
 use Rattle.swh_outside.specs.Views.{disks}
 use Rattle.swh_jobs.specs.Answers.{owned_jobs}
 use Rattle.swh_program.specs.Archives.{archive_at}
-use Rattle.swh_program.proofs.Loads.{run_files, refused_unloaded}
+use Rattle.swh_program.proofs.Loads.{run_files, run_undamaged, refused_unloaded}
+use Rattle.swh_program.proofs.Owned.{keeps_by_end}
 use Rattle.swh_program.proofs.outside.Outside.load_jobs.Goals as goal
 
 pub returns-in-Err-clause-load : goal.returns-in-Err-clause-load
@@ -15,3 +16,12 @@ returns-clause-load g c =
     run_files _ (disks g.P.D.Disk.tells g.P.D.Disk.file g.P.D.Disk.faults) c.in-Ok.keeper c.load_lines-answer.new.keeper _ _
     c.in-Ok.ensures.archive c.close_archive.ensures.kept c.in-Ok.ensures.disks_tell c.in-Ok.ensures.sees c.in-Ok.ensures.opened c.close_archive.ensures.taken c.in-Ok.ensures.unwounded
     (owned_jobs c.args.lines.items) c.load_lines-answer.result c.load_lines-answer.ensures.load
+
+pub returns-in-Err-clause-own : goal.returns-in-Err-clause-own
+returns-in-Err-clause-own g c told = c.in-Err.ensures.own told
+
+pub returns-clause-own : goal.returns-clause-own
+returns-clause-own g c told =
+    keeps_by_end g.N.Namer.id_of _ _ c.load_lines-answer.result
+    (run_undamaged _ (disks g.P.D.Disk.tells g.P.D.Disk.file g.P.D.Disk.faults) c.in-Ok.keeper c.load_lines-answer.new.keeper (owned_jobs c.args.lines.items) c.load_lines-answer.result c.load_lines-answer.ensures.load)
+    (c.close_archive.ensures.own (c.in-Ok.ensures.disks_tell told) told)

@@ -1,5 +1,5 @@
 use Rattle.swh_segment.proofs.Barriers.{both_images}
-use Rattle.swh_program.proofs.opening.see_images.Goals as goal
+use Rattle.swh_program.proofs.files.see_images.Goals as goal
 
 pub returns : goal.returns
 returns g c told =
