@@ -48,17 +48,17 @@ module _ (id : Kind → List ℕ → List ℕ) where
       on (Err q) more f = absurd cc
 
   -- What the commands after some make, and all together.
-  rest_of : (cs more : List Command) (c : Command) (m n : Making) → steps id no_making cs ≡ Ok m → steps id no_making ((cs ++ c ∷ []) ++ more) ≡ Ok n → steps id m (c ∷ more) ≡ Ok n
+  pub rest_of : (cs more : List Command) (c : Command) (m n : Making) → steps id no_making cs ≡ Ok m → steps id no_making ((cs ++ c ∷ []) ++ more) ≡ Ok n → steps id m (c ∷ more) ≡ Ok n
   rest_of cs more c m n first all =
       ap (λ (r : Result Making Missing). r >>= λ x. steps id x (c ∷ more)) (sym first)
       ∙ sym (steps_append no_making cs (c ∷ more)) ∙ ap (steps id no_making) (sym (append_assoc cs (c ∷ []) more)) ∙ all
 
-  no_error : (m n : Making) (c : Command) (more : List Command) (q : Missing) → step id m.aims c ≡ Err q → steps id m (c ∷ more) ≡ Ok n → ⊥
+  pub no_error : (m n : Making) (c : Command) (more : List Command) (q : Missing) → step id m.aims c ≡ Err q → steps id m (c ∷ more) ≡ Ok n → ⊥
   no_error m n c more q e all =
       let f : Err q ≡ Ok n = ap (λ (r : Result Making Missing). r >>= λ x. steps id (then id m x) more) (sym e) ∙ all in
       absurd cc
 
-  none_too_long : (m n : Making) (c : Command) (more : List Command) (number : ℕ) → IsTooLong id (step id m.aims c) number → steps id m (c ∷ more) ≡ Ok n → ((o : Made) → Makes id n o → length o.body ≤ body_limit) → ⊥
+  pub none_too_long : (m n : Making) (c : Command) (more : List Command) (number : ℕ) → IsTooLong id (step id m.aims c) number → steps id m (c ∷ more) ≡ Ok n → ((o : Made) → Makes id n o → length o.body ≤ body_limit) → ⊥
   none_too_long m n c more number t all short =
       let f : steps id (then id m t.making) more ≡ Ok n = ap (λ (r : Result Making Missing). r >>= λ x. steps id (then id m x) more) (sym t.is) ∙ all in
       let s = short t.object (steps_keep (then id m t.making) n more t.object f (then_makes m t.making t.object t.makes)) in
@@ -73,7 +73,7 @@ module _ (id : Kind → List ℕ → List ℕ) where
         let goes = stream_after_start (beginning text) s.rest (s.commands ++ s.command ∷ []) h.commands s.starts h.stream in
         (goes.commands, rest_of s.commands goes.commands s.command s.making h.making s.carried.makes (subst (λ (cs : List Command). steps id no_making cs ≡ Ok h.making) goes.these h.carried.makes))
 
-    same_made_of : (m n : Making) (cs ds : List Command) → IsStreamWithin 0 false text cs → IsStreamWithin 0 false text ds → steps id no_making cs ≡ Ok m → steps id no_making ds ≡ Ok n → m ≡ n
+    pub same_made_of : (m n : Making) (cs ds : List Command) → IsStreamWithin 0 false text cs → IsStreamWithin 0 false text ds → steps id no_making cs ≡ Ok m → steps id no_making ds ≡ Ok n → m ≡ n
     same_made_of m n cs ds h k f g =
         let same = one_reading 0 false text cs ds h.stream k.stream in
         let both : Ok m ≡ Ok n = sym f ∙ ap (steps id no_making) same ∙ g in

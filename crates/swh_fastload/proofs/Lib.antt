@@ -6,7 +6,9 @@ pub mod CommitsMade
 pub mod DirectoryKids
 pub mod FreePaths
 pub mod ParentsFound
+pub mod Fronts
 pub mod InputLaws
+pub mod BreakLaws
 pub mod MadeKinds
 pub mod Progresses
 pub mod Readings
