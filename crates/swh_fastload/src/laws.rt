@@ -36,9 +36,9 @@ pub fn one_break()
         → ⊥ }
 {}
 
-/// The limits that an input passes first are passed by its text, after the same rows, or by bodies that the same command
-/// makes, or by what the stream ends with, which is one limit with one number; and by no two of these. Which limit of the
-/// text is told, and which body of the command, is left open.
+/// The limits that an input passes first are passed by its text, after the same rows, or by bodies that one command makes,
+/// or by what the stream ends with, which is one limit with one number; and by no two of these. Which limit of the text is
+/// told, and which body of the command, is left open.
 pub fn one_limit()
     ensures text { (id : Kind → List ℕ → List ℕ) (text : List ℕ) (which other : Which) (number count : ℕ)
         (f : PassesAt id text which number) (g : PassesAt id text other count)

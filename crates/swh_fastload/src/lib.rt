@@ -3,8 +3,8 @@
 //! `swh_fastread` and `swh_fastmeaning`, and the types and definitions of `swh_fastgrammar` and `swh_model`.
 //! Callers may rely on: for each command a loader gives exactly the objects that it makes and that were not given before,
 //! each after all that it names, or it tells the place of the first line that names what is not there, or a body above the
-//! limit; at the end it gives the snapshot of the tips; after a refusal it answers the same again. An input means one set of
-//! objects or breaks in one way, and never both.
+//! limit; at the end it gives the snapshot of the tips; after a refusal it answers the same again.
+//! An input means one set of objects or breaks in one way, and never both.
 #![tactic(auto)]
 
 mod bad;
