@@ -1,1 +1,1 @@
-pub mod AddedSoFars
+pub mod Collected

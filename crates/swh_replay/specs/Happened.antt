@@ -1,8 +1,11 @@
--- One event of a replay, and the names that are known to be closed.
-use Rattle.std.specs.Prelude.{◌≡◌, List}
+-- One event of a replay, the entries of events, and the names that are known to be closed.
+use Rattle.std.specs.Prelude.{◌≡◌, List, [], ◌∷◌, ◌++◌}
 use Rattle.swh_base.specs.declared.name.Name.{Name}
+use Rattle.swh_base.specs.declared.entry.Entry.{Entry}
 use Rattle.swh_closure.specs.Whole.{IsWhole}
 use Rattle.swh_model.specs.declared.event.Event.{Event}
+use Rattle.swh_model.specs.declared.event.EventKind.{EventKind}
+use Rattle.swh_model.specs.declared.event.EventKind.TheVariants.{Batch, Open, Mark}
 use Rattle.swh_model.specs.Archive.{Archive, Bodies, Origins, IsHeld, IsChild}
 use Rattle.swh_model.specs.Step.{after}
 use Rattle.swh_model.specs.Happens.{CanHappen}
@@ -11,6 +14,17 @@ use Rattle.swh_store.specs.Stored.{Stored}
 -- the archive of a store and of visits
 abbrev pub archive_in : Stored → Origins → Archive
 archive_in store visits = record { bodies = store.bodies; origins = visits }
+
+-- the entries of a batch, and none of another event
+abbrev pub entries_of : EventKind → List Entry
+entries_of (Batch entries) = entries
+entries_of (Open origin kind date) = []
+entries_of (Mark origin visit status snapshot) = []
+
+-- the entries of all batches, in their order
+abbrev pub all_entries : List Event → List Entry
+all_entries [] = []
+all_entries (e ∷ es) = entries_of e.what ++ all_entries es
 
 -- The event may happen to the first archive, its names aside, and makes the second of it.
 pub record Happened (old : Archive) (e : Event) (new : Archive) : Type 0 where

@@ -1,46 +1,31 @@
 //! One event of a replay: whether it may happen, and where it may, what is in memory after it.
-ghost use Rattle.std.specs.Prelude.{◌≡◌, ◌↔◌, false, IsTrue, IfOk, OnOk};
-ghost use Rattle.std.specs.List.{AllByRecursion};
+ghost use Rattle.std.specs.Prelude.{◌≡◌, ◌↔◌, false, IsTrue, IfOk, OnOk, length, take, drop};
 ghost use Rattle.swh_base.specs.Snapshot.{snapshot_name};
 ghost use Rattle.swh_model.specs.Archive.{visits_of, IsHeld, IsClosed};
 ghost use Rattle.swh_model.specs.Limits.{IsWithinLimits};
 ghost use Rattle.swh_model.specs.Judged.{MayBeMarked};
-ghost use Rattle.swh_model.specs.Step.{HasItsChildren, AreNew, FitsStatus, added, marked};
-ghost use Rattle.swh_model.specs.Happens.{IsGoodEvent, CanHappen};
-ghost use Rattle.swh_replay.specs.Happened.{archive_in, Happened, AreWhole};
+ghost use Rattle.swh_model.specs.Step.{AreNew, FitsStatus, added, marked};
+ghost use Rattle.swh_model.specs.Happens.{CanHappen};
+ghost use Rattle.swh_replay.specs.Happened.{archive_in, entries_of, Happened, AreWhole};
 
 use std::alloc::Global;
 use swh_base::{Entry, Kind, Memory, Name, Status, Url};
 use swh_closure::{Closed, close};
 use swh_model::{Event, EventKind, are_within_limits};
-use swh_store::Store;
+use swh_store::Preloaded;
 use swh_visits::{VisitFault, Visits};
 
-/// Adds entries one after another, up to one whose name is held.
-fn add_each(store: &mut Store, entries: &[Entry]) -> Result<bool, Memory>
-    requires { AllByRecursion HasItsChildren entries.now }
-    ensures yes { IfOk result (λ yes. IsTrue yes → AreNew store.old.bodies entries.now
-        × (store.new.bodies ≡ added store.old.bodies entries.now)) }
-    ensures no { IfOk result (λ yes. yes ≡ false → AreNew store.old.bodies entries.now → ⊥) }
-{
-    for entry in entries {
-        if !store.put_new(entry.again()?)? {
-            return Ok(false);
-        }
-    }
-    Ok(true)
-}
-
-fn add_batch(store: &mut Store, entries: &[Entry]) -> Result<bool, Memory>
-    requires { AllByRecursion HasItsChildren entries.now }
-    ensures yes { IfOk result (λ yes. IsTrue yes → (IsWithinLimits entries.now × AreNew store.old.bodies entries.now)
-        × (store.new.bodies ≡ added store.old.bodies entries.now)) }
-    ensures no { IfOk result (λ yes. yes ≡ false → IsWithinLimits entries.now × AreNew store.old.bodies entries.now → ⊥) }
+/// Shows a batch, whose entries are the next to come, where it may be added.
+fn show_batch(preloaded: &mut Preloaded, entries: &[Entry]) -> bool
+    requires { take (length entries.now) preloaded.old.rest ≡ entries.now }
+    ensures may { IsTrue result ↔ IsWithinLimits entries.now × AreNew preloaded.old.shown.bodies entries.now }
+    ensures bodies { IsTrue result → preloaded.new.shown.bodies ≡ added preloaded.old.shown.bodies entries.now }
+    ensures rest { IsTrue result → preloaded.new.rest ≡ drop (length entries.now) preloaded.old.rest }
 {
     if !are_within_limits(entries) {
-        return Ok(false);
+        return false;
     }
-    add_each(store, entries)
+    preloaded.show(entries.len())
 }
 
 fn name_of(id: [u8; 20]) -> Name
@@ -51,32 +36,37 @@ fn name_of(id: [u8; 20]) -> Name
 }
 
 /// Whether all that is reached from a name is held. Where it is, it joins the names that are known to be closed.
-fn is_closed(alloc: Global, store: &Store, closed: &mut Closed, name: Name) -> Result<bool, Memory>
-    requires { AreWhole store.now.bodies closed.old }
-    ensures value { IfOk result (λ yes. IsTrue yes ↔ IsClosed store.now.bodies name) }
-    ensures whole { OnOk result (AreWhole store.now.bodies closed.new) }
+fn is_closed(
+    alloc: Global,
+    preloaded: &Preloaded,
+    closed: &mut Closed,
+    name: Name,
+) -> Result<bool, Memory>
+    requires { AreWhole preloaded.now.shown.bodies closed.old }
+    ensures value { IfOk result (λ yes. IsTrue yes ↔ IsClosed preloaded.now.shown.bodies name) }
+    ensures whole { OnOk result (AreWhole preloaded.now.shown.bodies closed.new) }
 {
-    store.is_graph();
-    close(alloc, store, name, closed)
+    preloaded.is_graph();
+    close(alloc, preloaded, name, closed)
 }
 
 /// Whether what a status needs is held.
 fn fits_status(
     alloc: Global,
-    store: &Store,
+    preloaded: &Preloaded,
     closed: &mut Closed,
     status: Status,
     snapshot: &Option<[u8; 20]>,
 ) -> Result<bool, Memory>
-    requires { AreWhole store.now.bodies closed.old }
-    ensures fits { IfOk result (λ yes. IsTrue yes ↔ FitsStatus store.now.bodies status snapshot.now) }
-    ensures whole { OnOk result (AreWhole store.now.bodies closed.new) }
+    requires { AreWhole preloaded.now.shown.bodies closed.old }
+    ensures fits { IfOk result (λ yes. IsTrue yes ↔ FitsStatus preloaded.now.shown.bodies status snapshot.now) }
+    ensures whole { OnOk result (AreWhole preloaded.now.shown.bodies closed.new) }
 {
     match (status, snapshot) {
         (Status::Created, _) => Ok(false),
-        (Status::Full, Some(id)) => is_closed(alloc, store, closed, name_of(*id)),
+        (Status::Full, Some(id)) => is_closed(alloc, preloaded, closed, name_of(*id)),
         (Status::Full, None) => Ok(false),
-        (Status::Partial, Some(id)) => Ok(store.has(&name_of(*id))),
+        (Status::Partial, Some(id)) => Ok(preloaded.has(&name_of(*id))),
         (Status::Partial, None) => Ok(true),
         (Status::Ongoing | Status::NotFound | Status::Failed, _) => Ok(snapshot.is_none()),
     }
@@ -102,23 +92,26 @@ fn add_status(
     }
 }
 
-/// Lets an event happen, where it may. Where it may not, or memory runs out, what is in memory is to be let go.
+/// Lets an event happen, where it may. Its entries are the next to come. Where it may not, or memory runs out, what is in
+/// memory is to be let go.
 pub fn happen(
     alloc: Global,
-    store: &mut Store,
+    preloaded: &mut Preloaded,
     visits: &mut Visits,
     closed: &mut Closed,
     event: &Event,
 ) -> Result<bool, Memory>
-    requires good { IsGoodEvent event.now }
-    requires whole { AreWhole store.old.bodies closed.old }
+    requires next { take (length (entries_of event.now.what)) preloaded.old.rest ≡ entries_of event.now.what }
+    requires whole { AreWhole preloaded.old.shown.bodies closed.old }
     ensures yes { IfOk result (λ yes. IsTrue yes
-        → Happened (archive_in store.old visits.old) event.now (archive_in store.new visits.new)) }
-    ensures no { IfOk result (λ yes. yes ≡ false → CanHappen (archive_in store.old visits.old) event.now → ⊥) }
-    ensures whole { IfOk result (λ yes. IsTrue yes → AreWhole store.new.bodies closed.new) }
+        → Happened (archive_in preloaded.old.shown visits.old) event.now (archive_in preloaded.new.shown visits.new)) }
+    ensures no { IfOk result (λ yes. yes ≡ false → CanHappen (archive_in preloaded.old.shown visits.old) event.now → ⊥) }
+    ensures rest { IfOk result (λ yes. IsTrue yes
+        → preloaded.new.rest ≡ drop (length (entries_of event.now.what)) preloaded.old.rest) }
+    ensures whole { IfOk result (λ yes. IsTrue yes → AreWhole preloaded.new.shown.bodies closed.new) }
 {
     match &event.what {
-        EventKind::Batch(entries) => add_batch(store, entries.as_slice()),
+        EventKind::Batch(entries) => Ok(show_batch(preloaded, entries.as_slice())),
         EventKind::Open { origin, kind, date } => {
             visits.open(alloc, origin, *kind, *date, event.by)?;
             Ok(true)
@@ -129,7 +122,7 @@ pub fn happen(
             status,
             snapshot,
         } => {
-            if !fits_status(alloc, store, closed, *status, snapshot)? {
+            if !fits_status(alloc, preloaded, closed, *status, snapshot)? {
                 return Ok(false);
             }
             add_status(visits, event.by, origin, *visit, (*status, *snapshot))

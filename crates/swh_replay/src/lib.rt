@@ -4,6 +4,7 @@
 #![tactic(auto)]
 
 mod advancing;
+mod collecting;
 mod happening;
 mod replayed;
 mod replaying;

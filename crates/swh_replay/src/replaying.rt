@@ -7,13 +7,14 @@ ghost use Rattle.swh_model.specs.Step.{IsHistory};
 ghost use Rattle.swh_model.specs.Happens.{IsGoodEvent, IsNamedEvent};
 ghost use Rattle.swh_replay.specs.Replay.{IsReplayOf, IsInFiles, IsReplayFault};
 
+use crate::collecting::collect_entries;
 use crate::happening::happen;
 use crate::replayed::Replayed;
 use std::alloc::Global;
 use swh_base::Memory;
 use swh_closure::Closed;
-use swh_model::{Event, EventKind, length_of_ledger, length_of_store};
-use swh_store::Store;
+use swh_model::{Event, length_of_ledger, length_of_store};
+use swh_store::Preloaded;
 use swh_visits::Visits;
 
 /// Why there is no replay.
@@ -36,20 +37,10 @@ impl From<Memory> for ReplayFault {
     }
 }
 
-// How many objects the events have.
-fn count_objects(events: &[Event]) -> usize {
-    let mut count: usize = 0;
-    for event in events {
-        if let EventKind::Batch(entries) = &event.what {
-            count = count.saturating_add(entries.as_slice().len());
-        }
-    }
-    count
-}
-
 /// The replay of the events, one after another from the empty archive on. It is asked that their entries are bodies of
 /// their kinds with their children, and that the files end within their limits; that the names are a namer's is for what
-/// is said of the answer. No body is copied, and no name that is known to be closed is walked again: the time is n log n
+/// is said of the answer. All entries are indexed at once, before the first event is judged, and each event over those that
+/// are shown of them by then. No body is copied, and no name that is known to be closed is walked again: the time is n log n
 /// in all entries, children and statuses.
 pub fn replay_all(alloc: Global, events: &[Event]) -> Result<Replayed, ReplayFault>
     requires good { AllByRecursion IsGoodEvent events.now }
@@ -64,18 +55,18 @@ pub fn replay_all(alloc: Global, events: &[Event]) -> Result<Replayed, ReplayFau
 {
     let store_end = length_of_store(events)?;
     let ledger_end = length_of_ledger(events)? - 1;
-    let mut store = Store::new(alloc);
-    store.reserve(count_objects(events))?;
+    let entries = collect_entries(alloc, events)?;
+    let mut preloaded = Preloaded::of(alloc, entries)?;
     let mut visits = Visits::new(alloc);
     let mut closed = Closed::new(alloc);
     for (place, event) in events.iter().enumerate() {
-        if !happen(alloc, &mut store, &mut visits, &mut closed, event)? {
+        if !happen(alloc, &mut preloaded, &mut visits, &mut closed, event)? {
             let event = place as u64 + 1;
             return Err(ReplayFault::Refused { event });
         }
     }
     Ok(Replayed {
-        store,
+        store: preloaded.into_store(),
         visits,
         store_end,
         ledger_end,

@@ -123,6 +123,20 @@ fn a_name_that_is_held_is_refused(rt: HostRuntime) -> Result<(), Fail> {
 }
 
 #[test]
+fn a_name_that_is_held_is_refused_before_what_follows(rt: HostRuntime) -> Result<(), Fail> {
+    let alloc = rt.alloc();
+    let events = [
+        batch(alloc, Kind::Content, b"ab")?,
+        opening(alloc)?,
+        batch(alloc, Kind::Content, b"ab")?,
+        batch(alloc, Kind::Content, b"cd")?,
+        mark(alloc, 2, Status::Ongoing, None)?,
+    ];
+    assert_eq!(rt; refused(alloc, &events)?, 3);
+    Ok(())
+}
+
+#[test]
 fn a_mark_is_refused(rt: HostRuntime) -> Result<(), Fail> {
     let alloc = rt.alloc();
     let unopened = [mark(alloc, 1, Status::Ongoing, None)?];
@@ -165,5 +179,43 @@ fn a_snapshot_that_is_not_closed_is_refused(rt: HostRuntime) -> Result<(), Fail>
         mark(alloc, 1, Status::Full, Some(id))?,
     ];
     assert_eq!(rt; refused(alloc, &full)?, 3);
+    Ok(())
+}
+
+/// A snapshot with the one branch `b` to the content whose id is nineteen zeros and 0xc3, as that of `ab`.
+const SNAPSHOT: &[u8] = b"content b\020:\0\0\0\0\0\0\0\0\0\0\0\0\0\0\0\0\0\0\0\xc3";
+
+#[test]
+fn a_full_mark_before_its_content_is_refused(rt: HostRuntime) -> Result<(), Fail> {
+    let alloc = rt.alloc();
+    // The sum of its bytes: 893 of `content b`, 156 of `20:` and 195 of the id are 1,244, and that is 220 modulo 256.
+    let mut id = [0; 20];
+    id[19] = 220;
+    let before = [
+        opening(alloc)?,
+        batch(alloc, Kind::Snapshot, SNAPSHOT)?,
+        mark(alloc, 1, Status::Full, Some(id))?,
+        batch(alloc, Kind::Content, b"ab")?,
+    ];
+    assert_eq!(rt; refused(alloc, &before)?, 3);
+    let behind = [
+        opening(alloc)?,
+        batch(alloc, Kind::Snapshot, SNAPSHOT)?,
+        batch(alloc, Kind::Content, b"ab")?,
+        mark(alloc, 1, Status::Full, Some(id))?,
+    ];
+    assert_eq!(rt; refused(alloc, &behind)?, 0);
+    Ok(())
+}
+
+#[test]
+fn a_partial_mark_before_its_snapshot_is_refused(rt: HostRuntime) -> Result<(), Fail> {
+    let alloc = rt.alloc();
+    let events = [
+        opening(alloc)?,
+        mark(alloc, 1, Status::Partial, Some([0; 20]))?,
+        batch(alloc, Kind::Snapshot, b"")?,
+    ];
+    assert_eq!(rt; refused(alloc, &events)?, 2);
     Ok(())
 }

@@ -1,5 +1,5 @@
 -- Entries in the order of their adding as finite maps, and the places by which they are found.
-use Rattle.std.proofs.Common.{◌≡◌, ◌≢◌, ℕ, ◌+◌, ◌-◌, ◌<◌, Bool, true, false, cond, Option, Some, None, List, [], ◌∷◌, ◌++◌, length, get_or, refl, sym, ap, ◌∙◌, subst, arith}
+use Rattle.std.proofs.Common.{◌≡◌, ◌≢◌, ℕ, ◌+◌, ◌<◌, Bool, true, false, cond, Option, Some, None, List, [], ◌∷◌, ◌++◌, length, get_or, refl, sym, ap, ◌∙◌, subst, arith}
 use Rattle.std.specs.Ordering.{eq_by_cmp, is_eq}
 use Rattle.std.specs.Cmp.{tied_itself, Equal-is}
 use Rattle.std.specs.Cmp.Lexicographic.{nat_list_cmp_total}
@@ -12,7 +12,7 @@ use Rattle.swh_base.specs.declared.name.Name.{Name}
 use Rattle.swh_base.specs.declared.entry.Entry.{Entry}
 use Rattle.swh_base.specs.Name.{name_key, name_cmp, name_cmp_total, name_cmp-IsAntisymmetric}
 use Rattle.swh_base.specs.Manifest.{AreChildren}
-use Rattle.swh_model.specs.Archive.{Bodies, body_of, IsHeld, IsGraphOf}
+use Rattle.swh_model.specs.Archive.{Bodies, body_of, IsGraphOf}
 use Rattle.swh_model.specs.Step.{HasItsChildren, AreNew, added}
 use Rattle.swh_model.proofs.Maps.{body-put, body_cases}
 use Rattle.swh_model.proofs.Entries.{NoneNamed, none_named, none-empty, added-append, new-push}
@@ -23,10 +23,14 @@ use Rattle.swh_store.specs.Entries.{keys_cmp, bodies_in, with_children, stored_i
 abbrev pub at : List ℕ → List ℕ → Bool
 at q = is_at (keys_cmp q)
 
-same_key : (n m : Name) → at (name_key n) (name_key m) ≡ true → n ≡ m
+pub same_key : (n m : Name) → at (name_key n) (name_key m) ≡ true → n ≡ m
 same_key n m t = name_cmp-IsAntisymmetric n m ((Equal-is (keys_cmp (name_key n) (name_key m))).0 t)
 
-key_itself : (n : Name) → at (name_key n) (name_key n) ≡ true
+-- keys that are not told apart are the same
+pub same_list : (k l : List ℕ) → at k l ≡ true → k ≡ l
+same_list k l t = finite.slice_cmp-IsAntisymmetric finite.nat_cmp-IsAntisymmetric k l ((Equal-is (keys_cmp k l)).0 t)
+
+pub key_itself : (n : Name) → at (name_key n) (name_key n) ≡ true
 key_itself n = ap is_eq (tied_itself nat_list_cmp_total (name_key n))
 
 -- the children put in at their name, and elsewhere what was there
@@ -122,11 +126,11 @@ index-same place_at now_at es same index =
       finds = λ n. subst (IsFound es n) (sym (same (name_key n))) (index.finds n);
     }
 
-new_front : (bodies : Bodies) (es fs : List Entry) → AreNew bodies (es ++ fs) → AreNew bodies es
+pub new_front : (bodies : Bodies) (es fs : List Entry) → AreNew bodies (es ++ fs) → AreNew bodies es
 new_front bodies [] fs h = tt
 new_front bodies (e ∷ es) fs h = (h.0, new_front (finite.insert bodies e.name e.body) es fs h.1)
 
-new-last : (bodies : Bodies) (es : List Entry) (e : Entry) → AreNew bodies (es ++ e ∷ []) → body_of (added bodies es) e.name ≡ None
+pub new-last : (bodies : Bodies) (es : List Entry) (e : Entry) → AreNew bodies (es ++ e ∷ []) → body_of (added bodies es) e.name ≡ None
 new-last bodies [] e h = h.0
 new-last bodies (x ∷ es) e h = new-last (finite.insert bodies x.name x.body) es e h.1
 
@@ -186,22 +190,6 @@ inside place_at es n key place key_is index is =
 
 pub missing : (place_at : List ℕ → Option ℕ) (es : List Entry) (n : Name) (key : List ℕ) → key ≡ name_key n → IsIndex place_at es → place_at key ≡ None → body_of (bodies_in es) n ≡ None
 missing place_at es n key key_is index is = subst (IsFound es n) (ap place_at (sym key_is) ∙ is) (index.finds n)
-
-pub held_there : (place_at : List ℕ → Option ℕ) (es : List Entry) (n : Name) (key : List ℕ) (place : ℕ) → key ≡ name_key n → IsIndex place_at es → place_at key ≡ Some place → IsHeld (bodies_in es) n
-held_there place_at es n key place key_is index is =
-    let s : StandsAt es n place = subst (IsFound es n) (ap place_at (sym key_is) ∙ is) (index.finds n) in (s.entry.body, s.is.held)
-
--- a place that was put back
-pub put_back : (place_at between now_at : List ℕ → Option ℕ) (key : List ℕ) (other : Option ℕ) (place : ℕ) → place_at key ≡ Some place → ((q : List ℕ) → between q ≡ cond (at key q) other (place_at q))
-    → ((q : List ℕ) → now_at q ≡ cond (at key q) (Some place) (between q)) → (q : List ℕ) → now_at q ≡ place_at q
-put_back place_at between now_at key other place was first second q =
-    second q ∙ elim (at key q) as (λ b. at key q ≡ b → cond b (Some place) (between q) ≡ place_at q) [
-      | true ↦ λ t. sym was ∙ ap place_at (same_list key q t)
-      | false ↦ λ t. first q ∙ ap (λ (b : Bool). cond b other (place_at q)) t
-    ] refl
-  where
-    same_list : (k l : List ℕ) → at k l ≡ true → k ≡ l
-    same_list k l t = finite.slice_cmp-IsAntisymmetric finite.nat_cmp-IsAntisymmetric k l ((Equal-is (keys_cmp k l)).0 t)
 
 -- ---- the graph of what is held
 

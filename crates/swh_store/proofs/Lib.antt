@@ -1,2 +1,4 @@
 pub mod IndexLemmas
 pub mod AddingLemmas
+pub mod FirstPlaces
+pub mod Fronts

@@ -1,3 +1,4 @@
 pub mod Stored
 pub mod Entries
 pub mod Adding
+pub mod Front

@@ -1,5 +1,5 @@
 -- What a store holds: two finite maps, of which the second is the graph of the first.
-use Rattle.std.specs.Prelude.{◌≡◌, Option, Some, None, List, refl}
+use Rattle.std.specs.Prelude.{◌≡◌, Option, Some, List, refl}
 use Rattle.std.specs.Coded.{Coded, coded_ℕ, coded_list, code_by, coded×}
 use Rattle.std.specs.FinMap as finite
 use Rattle.swh_base.specs.contracts.name.Name as a_name
@@ -37,8 +37,3 @@ pub record IsEntryOf (s : Stored) (n : Name) (e : Entry) : Type 0 where
   pub held : body_of s.bodies n ≡ Some e.body
   pub kids : children_in s n ≡ Some e.kids
   pub good : HasItsChildren e
-
--- The entry's name was not held, and the second bodies are the first with its body.
-pub record IsInserted (before after : Bodies) (e : Entry) : Type 0 where
-  pub absent : body_of before e.name ≡ None
-  pub bodies : after ≡ finite.insert before e.name e.body

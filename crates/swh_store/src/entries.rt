@@ -16,7 +16,7 @@ ghost use Rattle.std.specs.Prelude.{◌≡◌};
 ghost use Rattle.swh_base.specs.Name.{name_key};
 
 /// The kind's number, then the id.
-fn key_of(name: &Name) -> [u8; 21]
+pub fn key_of(name: &Name) -> [u8; 21]
     ensures { result ≡ name_key name.now }
 {
     let mut key = [0; 21];
@@ -26,12 +26,12 @@ fn key_of(name: &Name) -> [u8; 21]
 }
 
 impl Held {
-    ghost use Rattle.std.specs.Prelude.{◌≡◌, ◌-◌, ◌∷◌, ◌++◌, [], None, false, IsTrue, IfOk, IfSome, IfNone, OnOk, OnErr, length, take};
+    ghost use Rattle.std.specs.Prelude.{◌≡◌, ◌-◌, ◌∷◌, ◌++◌, [], None, IfSome, IfNone, OnOk, OnErr, length, take};
     ghost use Rattle.std.specs.List.{AllByRecursion};
-    ghost use Rattle.swh_model.specs.Archive.{body_of, IsHeld};
+    ghost use Rattle.swh_model.specs.Archive.{body_of};
     ghost use Rattle.swh_model.specs.Step.{HasItsChildren, AreNew};
     ghost use Rattle.swh_store.specs.Stored.{IsEntryOf};
-    ghost use Rattle.swh_store.specs.Entries.{bodies_in, stored_in, IsIndexed, IsPutIn};
+    ghost use Rattle.swh_store.specs.Entries.{bodies_in, stored_in, IsIndexed};
 
     /// No entries. It takes no memory.
     pub fn new(alloc: Global) -> Held
@@ -56,16 +56,6 @@ impl Held {
         }
     }
 
-    /// Takes room for so many entries more.
-    pub fn reserve(&mut self, additional: usize) -> Result<(), Memory>
-        requires { IsIndexed self.old }
-        ensures indexed { IsIndexed self.new }
-        ensures same { self.new.entries.items ≡ self.old.entries.items }
-    {
-        self.entries.reserve(additional)?;
-        Ok(())
-    }
-
     /// Adds an entry whose name is not held.
     pub fn push(&mut self, entry: Entry) -> Result<(), Memory>
         requires indexed { IsIndexed self.old }
@@ -79,31 +69,6 @@ impl Held {
         self.places.insert(key_of(&entry.name), self.entries.len())?;
         self.entries.push_reserved(entry);
         Ok(())
-    }
-
-    /// Adds an entry, unless its name is held, and says whether it did. It looks once: the place of the entry that is held
-    /// is put back, which wants no memory.
-    pub fn push_new(&mut self, entry: Entry) -> Result<bool, Memory>
-        requires indexed { IsIndexed self.old }
-        requires good { HasItsChildren entry }
-        ensures indexed { IsIndexed self.new }
-        ensures yes { IfOk result (λ yes. IsTrue yes → IsPutIn self.old.entries.items self.new.entries.items entry) }
-        ensures held { IfOk result (λ yes. yes ≡ false → IsHeld (bodies_in self.old.entries.items) entry.name) }
-        ensures same { IfOk result (λ yes. yes ≡ false → self.new.entries.items ≡ self.old.entries.items) }
-        ensures err { OnErr result (self.new.entries.items ≡ self.old.entries.items) }
-    {
-        self.entries.reserve(1)?;
-        let key = key_of(&entry.name);
-        match self.places.insert(key, self.entries.len())? {
-            None => {
-                self.entries.push_reserved(entry);
-                Ok(true)
-            }
-            Some(place) => match self.places.insert(key, place) {
-                Ok(_) => Ok(false),
-                Err(_) => unreachable!(),
-            },
-        }
     }
 
     /// Adds entries whose names are not held, one after another, and takes them out again where memory runs out.

@@ -11,7 +11,7 @@ use swh_base::{Entry, Graph, Memory, Name};
 /// longer than the logarithm of their number.
 #[derive(Drop)]
 pub struct Store {
-    held: Held,
+    pub(crate) held: Held,
 }
 
 impl Model for Store {
@@ -28,14 +28,14 @@ impl Model for Store {
 }
 
 impl Store {
-    ghost use Rattle.std.specs.Prelude.{◌≡◌, ◌<◌, ◌^◌, ◌↔◌, IsTrue, None, false, IfOk, IfErr, IfSome, IfNone, OnOk, OnErr, length};
+    ghost use Rattle.std.specs.Prelude.{◌≡◌, ◌<◌, ◌^◌, ◌↔◌, IsTrue, None, IfOk, IfErr, IfSome, IfNone, OnOk, OnErr, length};
     ghost use Rattle.std.specs.List.{AllByRecursion};
     ghost use Rattle.std.specs.FinMap as finite;
     ghost use Rattle.swh_base.specs.declared.name.Name.{Name};
     ghost use Rattle.swh_model.specs.Archive.{body_of, IsHeld, IsGraphOf};
     ghost use Rattle.swh_model.specs.Step.{HasItsChildren, AreNew, added};
     ghost use Rattle.swh_model.specs.Judge.{not_held, Collides};
-    ghost use Rattle.swh_store.specs.Stored.{IsEntryOf, IsInserted, children_in, empty_store};
+    ghost use Rattle.swh_store.specs.Stored.{IsEntryOf, children_in, empty_store};
     ghost use Rattle.swh_store.specs.Adding.{IsStanding, IsStoreFault};
 
     pub fn new(alloc: Global) -> Store
@@ -83,13 +83,6 @@ impl Store {
         add_batch(&mut self.held, entries)
     }
 
-    /// Takes room for so many entries more, so that those that are held are not moved when these come.
-    pub fn reserve(&mut self, additional: usize) -> Result<(), Memory>
-        ensures { self.new ≡ self.old }
-    {
-        self.held.reserve(additional)
-    }
-
     /// Adds an entry that is not held.
     pub fn put(&mut self, entry: Entry) -> Result<(), Memory>
         requires good { HasItsChildren entry }
@@ -98,17 +91,6 @@ impl Store {
         ensures err { OnErr result (self.new ≡ self.old) }
     {
         self.held.push(entry)
-    }
-
-    /// Adds an entry, unless its name is held, and says whether it did.
-    pub fn put_new(&mut self, entry: Entry) -> Result<bool, Memory>
-        requires { HasItsChildren entry }
-        ensures yes { IfOk result (λ yes. IsTrue yes → IsInserted self.old.bodies self.new.bodies entry) }
-        ensures held { IfOk result (λ yes. yes ≡ false → IsHeld self.old.bodies entry.name) }
-        ensures same { IfOk result (λ yes. yes ≡ false → self.new ≡ self.old) }
-        ensures err { OnErr result (self.new ≡ self.old) }
-    {
-        self.held.push_new(entry)
     }
 
     /// Adds entries that are not held, and no two of one name.

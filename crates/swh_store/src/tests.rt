@@ -1,4 +1,5 @@
-ghost use Rattle.std.specs.Prelude.{IfOk};
+ghost use Rattle.std.specs.Prelude.{◌≡◌, IfOk, length};
+ghost use Rattle.std.specs.List.{AllByRecursion};
 ghost use Rattle.swh_model.specs.Step.{HasItsChildren};
 
 use super::*;
@@ -86,5 +87,53 @@ fn takes_what_is_known_to_be_new(rt: HostRuntime) -> Result<(), Fail> {
     let mut none = Store::new(alloc);
     none.add_new(&[])?;
     assert!(rt; !none.has(&named(0xc3)) && none.len() == 0);
+    Ok(())
+}
+
+/// Three contents, of which the last has the name of the first.
+fn with_a_name_twice(alloc: Global) -> Result<Vec<Entry>, Memory>
+    ensures good { IfOk result (λ entries. AllByRecursion HasItsChildren entries.items) }
+    ensures three { IfOk result (λ entries. length entries.items ≡ 3) }
+{
+    Ok(vec![in alloc;
+        content(alloc, b'a', b'b')?,
+        content(alloc, b'c', b'd')?,
+        content(alloc, b'b', b'a')?,
+    ]?)
+}
+
+#[test]
+fn shows_a_batch_after_another(rt: HostRuntime) -> Result<(), Fail> {
+    let alloc = rt.alloc();
+    let entries = vec![in alloc; content(alloc, b'a', b'b')?, content(alloc, b'c', b'd')?]?;
+    let mut preloaded = Preloaded::of(alloc, entries)?;
+    assert!(rt; !preloaded.has(&named(0xc3)));
+    assert!(rt; preloaded.show(1));
+    assert!(rt; preloaded.has(&named(0xc3)) && !preloaded.has(&named(0xc7)));
+    assert!(rt; preloaded.children_of(&named(0xc7)).is_none());
+    assert!(rt; preloaded.show(1));
+    assert!(rt; preloaded.children_of(&named(0xc7)).is_some());
+    let store = preloaded.into_store();
+    assert!(rt; store.len() == 2);
+    assert!(rt; holds(&store, 0xc3, b"ab") && holds(&store, 0xc7, b"cd"));
+    Ok(())
+}
+
+#[test]
+fn shows_no_name_twice_in_a_batch(rt: HostRuntime) -> Result<(), Fail> {
+    let alloc = rt.alloc();
+    let mut preloaded = Preloaded::of(alloc, with_a_name_twice(alloc)?)?;
+    assert!(rt; !preloaded.show(3) && !preloaded.has(&named(0xc3)));
+    Ok(())
+}
+
+#[test]
+fn shows_no_name_of_an_earlier_batch(rt: HostRuntime) -> Result<(), Fail> {
+    let alloc = rt.alloc();
+    let mut preloaded = Preloaded::of(alloc, with_a_name_twice(alloc)?)?;
+    assert!(rt; preloaded.show(2));
+    assert!(rt; !preloaded.show(1));
+    let entry = preloaded.get(&named(0xc3)).ok_or("shown")?;
+    assert!(rt; entry.body.as_slice() == b"ab".as_slice());
     Ok(())
 }

@@ -1,12 +1,18 @@
 use Rattle.std.proofs.Common.{rules, ◌≡◌, ◌+◌, ◌≤◌, true, false, List, [], ◌∷◌, ◌++◌, take, drop, length, sym, ap, ◌∙◌, subst, append_assoc, arith}
 use Rattle.std.proofs.lemmas.List.{take-append-drop, length-take-le}
+use Rattle.std.specs.List.{AllByRecursion}
+use Rattle.swh_base.specs.declared.entry.Entry.{Entry}
 use Rattle.swh_model.specs.declared.event.Event.{Event}
 use Rattle.swh_model.specs.Archive.{Archive, empty_archive}
-use Rattle.swh_model.specs.Step.{IsHistory, after, replay}
+use Rattle.swh_model.specs.Step.{HasItsChildren, IsHistory, after, replay}
 use Rattle.swh_model.specs.Happens.{IsNamedEvent, CanHappen}
 use Rattle.swh_model.proofs.PlainLists.{take-more, all-at}
 use Rattle.swh_model.proofs.PlainSteps.{can_may, may_can, may-push, after-push}
+use Rattle.swh_replay.proofs.Collected.{all_good, come_later}
 use Rattle.swh_replay.proofs.replaying.replay_all.Goals as goal
+
+pub of-requires : goal.of-requires
+of-requires c = subst (λ (es : List Entry). AllByRecursion HasItsChildren es) (sym c.in_ok-entries.ensures) (all_good c.args.events.now c.requires.good)
 
 pub returns-then-not-branch-clause-refused : goal.returns-then-not-branch-clause-refused
 returns-then-not-branch-clause-refused c = λ id_of named.
@@ -40,6 +46,7 @@ loop-place-preserved c =
     record {
       archive_is = here.now ∙ ap (λ (a : Archive). after a e) c.loop-place.invariant.archive_is
           ∙ sym (ap (λ (g : List Event). replay g) more ∙ after-push empty_archive (take i h) e);
+      rest_is = c.in_ok-happen.ensures.rest yes ∙ come_later h i e less c.index-events-place.is c.loop-place.preloaded.rest c.loop-place.invariant.rest_is;
       may = λ id_of named.
           subst (λ (g : List Event). IsHistory id_of g) (sym more)
           (may-push id_of empty_archive (take i h) e (c.loop-place.invariant.may id_of named)
