@@ -87,10 +87,11 @@ impl<R: Files<File = File> + Drop> RealDisk<R> {
     }
 }
 
-// A barrier on a file, which another run may have written. For who only reads it may be one of a file system that takes
-// no writes and knows no barrier: there is nothing to bring to the disk.
+// A barrier on a file, which another run may have written: on its bytes and its length, and not on its times, which no
+// run reads. For who only reads it may be one of a file system that takes no writes and knows no barrier: there is
+// nothing to bring to the disk.
 fn sync_file(file: &File, access: Access) -> io::Result<()> {
-    match (file.sync_all(), access) {
+    match (file.sync_data(), access) {
         (Err(fault), Access::Read) if fault.kind() == ErrorKind::InvalidInput => Ok(()),
         (synced, _) => synced,
     }
