@@ -11,6 +11,3 @@ mod words;
 pub use answer::{Look, not_found, reply};
 pub use path::visits_origin;
 pub use visits::visits_reply;
-
-#[cfg(test)]
-mod tests;

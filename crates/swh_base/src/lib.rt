@@ -45,6 +45,3 @@ pub use shared::Shared;
 pub use text::{are_digits, is_digit, is_person, is_ref};
 pub use url::{Url, UrlFault, is_url};
 pub use visit::{Status, VisitKind, Which};
-
-#[cfg(test)]
-mod tests;

@@ -18,6 +18,3 @@ pub use closed::Closed;
 pub use closing::close;
 pub use laws::{gaps_refute_certificates, missing_names_refute_closure};
 pub use walking::{WalkFault, walk};
-
-#[cfg(test)]
-mod tests;

@@ -17,6 +17,3 @@ pub use entry::{DirEntry, SpelledEntry};
 pub use fault::{BadDir, DirWhy, ReadDirFault, one_fault};
 pub use reading::{read_dir, spelled_dir};
 pub use writing::{one_spelling, write_dir};
-
-#[cfg(test)]
-mod tests;

@@ -33,8 +33,3 @@ pub use reserved::read_source_reserved;
 pub use source::{WINDOW, read_front, read_source};
 pub use window::Window;
 pub use word::Word;
-
-#[cfg(test)]
-mod line_tests;
-#[cfg(test)]
-mod tests;

@@ -20,6 +20,3 @@ pub use limits::word_limit;
 pub use line_words::{
     commit_word, id_of, is_encoding, is_zeros, mark_of, mode_of, ref_word, tag_word,
 };
-
-#[cfg(test)]
-mod tests;

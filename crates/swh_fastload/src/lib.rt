@@ -22,6 +22,3 @@ pub use laws::{never_both, one_break, one_limit, same_making, ways_to_break};
 pub use load::FastLoad;
 pub use swh_fastgrammar::StreamWhy;
 pub use swh_fastmeaning::{Aims, FeedFault, Novelty, Objects, Seen, Target, blob_of, commit_of};
-
-#[cfg(test)]
-mod load_tests;

@@ -27,6 +27,3 @@ pub use objects::Objects;
 pub use parts::Parts;
 pub use seen::{Novelty, Seen};
 pub use sides::{REFS_LIMIT, Sides, head_branch_of, joined};
-
-#[cfg(test)]
-mod tests;

@@ -24,6 +24,3 @@ pub use part_lines::commit_line;
 pub use refusing::{peek, refused_line};
 pub use row_source::Rows;
 pub use whole::next_line;
-
-#[cfg(test)]
-mod limit_tests;

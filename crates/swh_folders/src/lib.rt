@@ -20,6 +20,3 @@ pub use edits::Transfer;
 pub use entry::{Child, Entry, Leaf, whole_id};
 pub use folders::{Folders, count_from, delete_in, set_in, transfer_in};
 pub use packing::Packed;
-
-#[cfg(test)]
-mod tests;

@@ -73,6 +73,3 @@ pub fn job(alloc: Global, seed: u64, i: u64, size: u32) -> Result<Vec<u8>, Alloc
     }
     Ok(text)
 }
-
-#[cfg(test)]
-mod tests;

@@ -16,6 +16,3 @@ pub use ask::Ask;
 pub use laws::{any_pieces, one_answer};
 pub use reply::reply_bytes;
 pub use session::Session;
-
-#[cfg(test)]
-mod tests;

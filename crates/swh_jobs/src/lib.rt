@@ -15,6 +15,3 @@ pub use job::JobLine;
 pub use laws::{fault_of_front, longest, no_jobs, one_fault, one_reading};
 pub use limits::{JOBS_LIMIT, LONGEST, STREAM_PATH_LIMIT};
 pub use reading::parse_jobs;
-
-#[cfg(test)]
-mod tests;

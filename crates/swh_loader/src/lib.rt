@@ -26,6 +26,3 @@ pub use loading::load_one;
 pub use report::{REPORT_LIMIT, report_line};
 pub use swh_fastload::{BadStream, StreamWhy};
 pub use turn::{Turn, Worker};
-
-#[cfg(test)]
-mod tests;

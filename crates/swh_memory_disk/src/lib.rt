@@ -14,6 +14,3 @@ mod record;
 pub use depot::MemoryDepot;
 pub use disk::MemoryDisk;
 pub use record::{MemoryCall, MemoryRecord, Room};
-
-#[cfg(test)]
-mod tests;

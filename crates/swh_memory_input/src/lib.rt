@@ -25,6 +25,3 @@ pub use origins::MemoryOrigins;
 pub use sink::MemorySink;
 pub use source::MemorySource;
 pub use yard::MemoryYard;
-
-#[cfg(test)]
-mod tests;

@@ -11,6 +11,3 @@ mod object;
 
 pub use fault::ObjectFault;
 pub use object::Object;
-
-#[cfg(test)]
-mod tests;

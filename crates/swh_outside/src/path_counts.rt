@@ -140,22 +140,3 @@ fn read_count(counts: &[PathCount], i: usize, path: &str) -> u64
 {
     counts[i].faults
 }
-
-#[cfg(test)]
-mod tests {
-    use super::*;
-    use std::test::Fail;
-
-    #[test]
-    fn each_path_counts_for_itself(rt: HostRuntime) -> Result<(), Fail> {
-        let mut counts = PathCounts::new(rt.alloc());
-        counts.raise("elsewhere");
-        counts.place("a")?;
-        counts.place("b")?;
-        counts.raise("a");
-        assert_eq!(rt; counts.at("a"), 2);
-        assert_eq!(rt; counts.at("b"), 1);
-        assert_eq!(rt; counts.at("elsewhere"), 1);
-        Ok(())
-    }
-}

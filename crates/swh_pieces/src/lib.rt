@@ -22,6 +22,3 @@ pub fn behind<'a>(front: &[u8], bytes: &'a [u8]) -> Option<&'a [u8]>
 {
     bytes.strip_prefix(front)
 }
-
-#[cfg(test)]
-mod tests;

@@ -16,8 +16,6 @@ mod reading;
 mod sink;
 mod size_limit;
 mod source;
-#[cfg(test)]
-mod tests;
 mod yard;
 
 pub use clock::RealClock;

@@ -18,6 +18,3 @@ pub use plain::{PlainRel, PlainRev, plain_rel, plain_rev};
 pub use release::{Rel, SpelledRel, read_rel, spelled_rel, write_rel};
 pub use revision::{Rev, SpelledRev, read_rev, spelled_rev, write_rev};
 pub use writing::{write_plain_rel, write_plain_rev};
-
-#[cfg(test)]
-mod tests;

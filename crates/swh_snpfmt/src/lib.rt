@@ -18,6 +18,3 @@ pub use branches::Branches;
 pub use fault::{BadSnp, ReadSnpFault, one_fault};
 pub use reading::{read_snp, spelled_snp};
 pub use writing::{one_spelling, write_snp};
-
-#[cfg(test)]
-mod tests;

@@ -15,6 +15,3 @@ pub use adding::Standing;
 pub use fault::StoreFault;
 pub use preloaded::Preloaded;
 pub use store::Store;
-
-#[cfg(test)]
-mod tests;

@@ -21,6 +21,3 @@ pub use laws::{one_place, one_printed_text, one_reading, printed_is_read, read_i
 pub use parsing::parse;
 pub use printing::print;
 pub use swhid::Swhid;
-
-#[cfg(test)]
-mod tests;

@@ -16,6 +16,3 @@ pub use fault::TreeFault;
 pub use swh_folders::Leaf;
 pub use tree::Tree;
 pub use trees::{Made, Trees};
-
-#[cfg(test)]
-mod tests;

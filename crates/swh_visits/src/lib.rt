@@ -10,6 +10,3 @@ mod visits;
 
 pub use fault::VisitFault;
 pub use visits::Visits;
-
-#[cfg(test)]
-mod tests;

@@ -13,6 +13,3 @@ mod reading;
 pub use command::{Command, WordsFault};
 pub use laws::{one_command, refused_words, spelled_words};
 pub use reading::parse_words;
-
-#[cfg(test)]
-mod tests;
