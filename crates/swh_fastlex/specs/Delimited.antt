@@ -28,7 +28,7 @@ pub record AreLines (word bytes : List ℕ) : Type 0 where
   pub fit : AllByRecursion IsShortLine lines
   pub value : bytes ≡ lines_text lines
 
--- What was to be read is lines that are not the delimiter's, and the front of one more, without its LF and shorter than
+-- What was to be read is lines that are not the delimiter's, and the front of one more, without its LF and no longer than
 -- the limit of lines; the front may be empty. All of it is read, and the lines are no longer than the data may be.
 pub record IsCutDelimited (word : List ℕ) (limit : ℕ) (before now : Held) (left left_now : List ℕ) : Type 0 where
   pub bytes : List ℕ
@@ -36,13 +36,13 @@ pub record IsCutDelimited (word : List ℕ) (limit : ℕ) (before now : Held) (l
   pub lines : AreLines word bytes
   pub all : unread before left ≡ bytes ++ front
   pub no_feed : Contains front 10 → ⊥
-  pub short : length front < line_limit
+  pub short : length front ≤ line_limit
   pub within : length bytes ≤ limit
   pub nothing_now : unread now left_now ≡ []
   pub counted : now.place ≡ before.place + (length bytes + length front)
 
 -- Lines that are not the delimiter's were read, and of the next the first bytes, as many as a line may have, among which
--- is no LF.
+-- is no LF. More follows.
 pub record HasLongLine (word : List ℕ) (before now : Held) (left left_now : List ℕ) : Type 0 where
   pub bytes : List ℕ
   pub front : List ℕ
@@ -50,6 +50,7 @@ pub record HasLongLine (word : List ℕ) (before now : Held) (left left_now : Li
   pub no_feed : Contains front 10 → ⊥
   pub long : length front ≡ line_limit
   pub taken : Takes before now left left_now (bytes ++ front)
+  pub more : unread now left_now ≢ []
 
 -- Lines that are not the delimiter's were read. With the last of them they are longer than the limit, and without it not.
 pub record PassesBody (word : List ℕ) (limit : ℕ) (before now : Held) (left left_now : List ℕ) : Type 0 where

@@ -31,20 +31,21 @@ pub record IsAtEnd (before now : Held) (left left_now : List ℕ) : Type 0 where
   pub nothing_now : unread now left_now ≡ []
   pub same_place : now.place ≡ before.place
 
--- All that was to be read is the front of a line, shorter than the limit and without its LF. It is read.
+-- All that was to be read is the front of a line, no longer than the limit and without its LF. It is read.
 pub record IsCutLine (limit : ℕ) (before now : Held) (left left_now : List ℕ) : Type 0 where
   pub some : unread before left ≢ []
   pub no_feed : Contains (unread before left) 10 → ⊥
-  pub short : length (unread before left) < limit
+  pub short : length (unread before left) ≤ limit
   pub nothing_now : unread now left_now ≡ []
   pub counted : now.place ≡ before.place + length (unread before left)
 
--- The first bytes that were to be read, as many as the limit, have no LF. They alone are read.
+-- The first bytes that were to be read, as many as the limit, have no LF, and more follows. They alone are read.
 pub record IsLongLine (limit : ℕ) (before now : Held) (left left_now : List ℕ) : Type 0 where
   pub front : List ℕ
   pub no_feed : Contains front 10 → ⊥
   pub long : length front ≡ limit
   pub taken : Takes before now left left_now front
+  pub more : unread now left_now ≢ []
 
 -- There were fewer bytes to be read than were wanted. They are read.
 pub record IsCutData (wanted : ℕ) (before now : Held) (left left_now : List ℕ) : Type 0 where

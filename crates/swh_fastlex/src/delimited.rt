@@ -69,6 +69,7 @@ pub fn next_delimited<S: Source>(
 
     ensures same_path { S.path source.new ≡ S.path source.old }
     ensures later { S.faults source.old ≤ S.faults source.new }
+    ensures quiet { IfOk result (λ _. S.faults source.new ≡ S.faults source.old) }
     ensures cause { IsErrOf result Failed → Rose (S.faults source.old) (S.faults source.new) }
 {
     let mut bytes = Vec::new(alloc);

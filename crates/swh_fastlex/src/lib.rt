@@ -25,7 +25,7 @@ pub use counted::next_data;
 pub use delimited::next_delimited;
 pub use fault::{DataFault, LineFault, SourceFault};
 pub use feed::next_feed;
-pub use laws::one_spelled_path;
+pub use laws::{one_spelled_path, size_of_a_window};
 pub use line::{move_front, next_line};
 pub use path::is_path;
 pub use paths::{PathBefore, path_before, path_word};

@@ -41,8 +41,8 @@ pub fn move_front(window: &mut Window, line: &mut Vec<u8>, room: usize) -> Resul
 ///
 /// # Errors
 ///
-/// `End` where the input ends inside a line, which is then read; `Limit` where the next 1,048,576 bytes have no LF,
-/// and these alone are then read; `Failed` where the source fails, and `Memory`, of which some bytes are lost.
+/// `End` where the input ends inside a line, which is then read; `Limit` where the next 1,048,576 bytes have no LF
+/// and more follows, and these alone are then read; `Failed` where the source fails, and `Memory`, of which some bytes are lost.
 pub fn next_line<S: Source>(
     alloc: Global,
     window: &mut Window,
@@ -67,6 +67,7 @@ pub fn next_line<S: Source>(
 
     ensures same_path { S.path source.new ≡ S.path source.old }
     ensures later { S.faults source.old ≤ S.faults source.new }
+    ensures quiet { IfOk result (λ _. S.faults source.new ≡ S.faults source.old) }
     ensures cause { IsErrOf result Failed → Rose (S.faults source.old) (S.faults source.new) }
 {
     let mut line = Vec::new(alloc);
@@ -83,5 +84,9 @@ pub fn next_line<S: Source>(
             return Ok(Some(line));
         }
     }
-    Err(LineFault::Limit)
+    if window.fill(source)? {
+        Err(LineFault::Limit)
+    } else {
+        Err(LineFault::End)
+    }
 }

@@ -72,6 +72,14 @@ impl Window {
         &self.buffer[self.start..self.end]
     }
 
+    /// How many bytes are held, no more than a window.
+    pub fn count(&self) -> usize
+        ensures count { result ≡ length self.now.bytes }
+        ensures within { result ≤ WINDOW }
+    {
+        self.end - self.start
+    }
+
     /// Gives out the first bytes that are held, so many of them.
     pub fn skip(&mut self, count: usize)
         requires within { count ≤ length self.old.bytes }

@@ -22,6 +22,10 @@ by_word P a b c d e word limit (suc (suc (suc zero)), l, same) = subst (λ (x : 
 by_word P a b c d e word limit (suc (suc (suc (suc zero))), l, same) = subst (λ (x : List ℕ × ℕ). P x.0 x.1) same e
 by_word P a b c d e word limit (suc (suc (suc (suc (suc n)))), l, same) = absurd (omega (arith, l))
 
+-- no word has a lower limit than that of tags
+pub least_limit : (word : List ℕ) (limit : ℕ) → Contains ref_words (word, limit) → tag_limit ≤ limit
+least_limit = by_word (λ word limit. tag_limit ≤ limit) (omega arith) (omega arith) (omega arith) (omega arith) (omega arith)
+
 -- the words and their limits, by the first byte of a line
 abbrev first : List ℕ → ℕ
 first [] = 0

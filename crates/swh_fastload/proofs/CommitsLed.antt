@@ -187,7 +187,7 @@ module _ (id : Kind → List ℕ → List ℕ) (s : Stock) (h : IsStocked id s) 
 
   pub commit_refused : (fault : FeedFault) → ExplainsBody body fault → ExplainsFeed id (step id known (command_of commit text)) fault
   commit_refused fault b =
-      explains_long id (step id known (command_of commit text)) making its_revision fault step_made last_made (subst (λ (m : Made). ExplainsBody m.body fault) same_revision b)
+      explains_long id (step id known (command_of commit text)) making its_revision fault step_made last_made ch.contents [] refl made_ready.makes.short (subst (λ (m : Made). ExplainsBody m.body fault) same_revision b)
 
   -- what is given is made
   is_made : (m : Made) → Contains (commit_made contents directories body) m → Makes id making m

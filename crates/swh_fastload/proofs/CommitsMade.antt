@@ -1,7 +1,8 @@
 -- What is refused of a commit, and its parts in the maps' form.
-use Rattle.std.proofs.Common.{◌≡◌, ◌⊎◌, inl, inr, ℕ, Option, Some, None, Result, Ok, IfNone, IfSome, List, [], ◌∷◌, map, Contains, refl, sym, ap, ◌∙◌, subst, arith}
+use Rattle.std.proofs.Common.{◌≡◌, ◌⊎◌, inl, inr, ℕ, Option, Some, None, Result, Ok, IfNone, IfSome, List, [], ◌∷◌, ◌++◌, map, Contains, refl, sym, ap, ◌∙◌, subst, arith, append_assoc}
+use Rattle.std.proofs.lemmas.List.{append-nil}
 use Rattle.std.specs.Option.{option_map}
-use Rattle.std.proofs.lemmas.List.Elements.{Contains-append_left}
+use Rattle.std.proofs.lemmas.List.Elements.{Contains-append_left, Contains-append_right}
 use Rattle.swh_base.specs.declared.kind.Kind.{Kind}
 use Rattle.swh_base.specs.declared.entry.Entry.{Entry}
 use Rattle.swh_base.specs.declared.visit.Which.TheVariants.{Body}
@@ -15,7 +16,7 @@ use Rattle.swh_folders.specs.PathMap.{PathMap, held}
 use Rattle.swh_trees.specs.Directory.{directory_of}
 use Rattle.swh_fastmeaning.specs.Making.{made}
 use Rattle.swh_fastmeaning.specs.Aims.{Aim, AllAims, Missing, aim_with, aims_with}
-use Rattle.swh_fastmeaning.specs.Changes.{IsChangedTo, ExplainsChange, changed_of}
+use Rattle.swh_fastmeaning.specs.Changes.{AreShort, IsChangedTo, ExplainsChange, changed_of}
 use Rattle.swh_fastmeaning.specs.Commands.{Changed, IsDirectoryIn, Targets, Making, Makes as MakesObject, committed, revision, step, first_parent, commits_at, parents_of, starting_tree, all_changed, ◌>>=◌}
 use Rattle.swh_fastload.specs.Committing.{HasParents, MakesTree, IsOverIn, ExplainsOver, ExplainsTreeMade, command_of, rest_of}
 use Rattle.swh_fastmeaning.specs.Feeding.{ExplainsFeed}
@@ -32,32 +33,37 @@ use Rattle.swh_fastload.proofs.ParentsFound.{first_parent-map, commits_at-map, p
 module _ (id : Kind → List ℕ → List ℕ) where
   pub contents_over : (found : Result Changed Missing) (grove : Grove) (tree : Tree) (objects : List Entry) (over : Option ℕ) (fault : FeedFault) (h : IsChangedTo found grove tree objects over) → ExplainsOver h.changed.contents fault → ExplainsTreeMade id found fault
   contents_over found grove tree objects over (BadStream at why) h e = absurd e
-  contents_over found grove tree objects over (Limit which number) h e = (e.0, record { changed = h.changed; is = h.is; object = e.1.object; among = inl e.1.among; long = e.1.long; above = e.1.above })
+  contents_over found grove tree objects over (Limit which number) h e = (e.0, record { changed = h.changed; is = h.is; object = e.1.object; long = e.1.long; above = e.1.above; before = e.1.before; rest = e.1.object ∷ e.1.after; cut = e.1.cut; short = e.1.short; first = inl (e.1.after, refl) })
   contents_over found grove tree objects over Memory h e = tt
 
-  pub tree_over : (found : Result Changed Missing) (grove : Grove) (tree : Tree) (objects : List Entry) (over : Option ℕ) (len : ℕ) → IsChangedTo found grove tree objects over → ExplainsTree id (map_of grove tree) (TooLong len) → (Body ≡ Body) × IsOverIn id found len
-  tree_over found grove tree objects over len h e =
+  pub tree_over : (found : Result Changed Missing) (grove : Grove) (tree : Tree) (objects : List Entry) (over : Option ℕ) (len : ℕ) (h : IsChangedTo found grove tree objects over) → AreShort h.changed.contents → ExplainsTree id (map_of grove tree) (TooLong len) → (Body ≡ Body) × IsOverIn id found len
+  tree_over found grove tree objects over len h short e =
       let f = subst (λ (m : PathMap). ExplainsTree id m (TooLong len)) h.stands.map e in (
         refl,
         record {
           changed = h.changed;
           is = h.is;
           object = directory (directory_text (directory_of id (held f.0 h.changed.tree)));
-          among = inr (record { path = f.0; folder = f.1; is = refl });
           long = f.2;
           above = f.3;
+          before = h.changed.contents;
+          rest = [];
+          cut = sym (append-nil h.changed.contents);
+          short = short;
+          first = inr (refl, record { path = f.0; folder = f.1; is = refl });
         },
       )
 
   pub tree_made : (found : Result Changed Missing) (old between new : Grove) (here tree : Tree) (root : List ℕ) (objects : List Entry) (over : Option ℕ) (directories contents : List Entry) (h : IsChangedTo found between here objects over)
-      → made contents ≡ h.changed.contents → Keeps old between → Makes id between new (map_of between here) tree root directories → MakesTree id found old new tree root directories contents
-  tree_made found old between new here tree root objects over directories contents h c k m = record {
+      → made contents ≡ h.changed.contents → AreShort h.changed.contents → Keeps old between → Makes id between new (map_of between here) tree root directories → MakesTree id found old new tree root directories contents
+  tree_made found old between new here tree root objects over directories contents h c short k m = record {
     changed = h.changed;
     between = between;
     is = h.is;
     keeps = k;
     makes = subst (λ (t : PathMap). Makes id between new t tree root directories) h.stands.map m;
     holds = c;
+    short = short;
   }
 
   module _ (grove : Grove) (aims : AllAims Tree) (commit : Commit) (text : CommitText) where
@@ -107,9 +113,24 @@ module _ (id : Kind → List ℕ → List ℕ) where
     merge_missing first (Limit which number) f e = absurd e
     merge_missing first Memory f e = tt
 
-    over_made : (ids : List (List ℕ)) (c : Changed) (m : Made) → Contains c.contents m ⊎ IsDirectoryIn id c.tree m → MakesObject id (whole (ids, c)) m
-    over_made ids c m (inl i) = inl (Contains-append_left c.contents (revision id c.tree ids (rest_of text) ∷ []) m i)
-    over_made ids c m (inr d) = inr (c.tree, (0, omega arith, refl), d)
+    abbrev its_revision : List (List ℕ) → Changed → Made
+    its_revision ids c = revision id c.tree ids (rest_of text)
+
+    over_made : (ids : List (List ℕ)) (number : ℕ) (found : Result Changed Missing) (o : IsOverIn id found number) → MakesObject id (whole (ids, o.changed)) o.object
+    over_made ids number found o = by_first o.first
+      where
+        by_first : ((more : List Made) × (o.rest ≡ o.object ∷ more)) ⊎ ((o.rest ≡ []) × IsDirectoryIn id o.changed.tree o.object) → MakesObject id (whole (ids, o.changed)) o.object
+        by_first (inl f) =
+            let among : Contains (o.before ++ o.object ∷ f.0) o.object = Contains-append_right o.before (o.object ∷ f.0) o.object (0, omega arith, refl) in
+            let here : Contains o.changed.contents o.object = subst (λ (ms : List Made). Contains ms o.object) (sym (o.cut ∙ ap (λ (ms : List Made). o.before ++ ms) f.1)) among in
+            inl (Contains-append_left o.changed.contents (its_revision ids o.changed ∷ []) o.object here)
+        by_first (inr d) = inr (o.changed.tree, (0, omega arith, refl), d.1)
+
+    over_first : (ids : List (List ℕ)) (number : ℕ) (found : Result Changed Missing) (o : IsOverIn id found number) → ((more : List Made) × (o.rest ++ its_revision ids o.changed ∷ [] ≡ o.object ∷ more)) ⊎ ((last : Made) × (o.rest ++ its_revision ids o.changed ∷ [] ≡ last ∷ []))
+    over_first ids number found o = elim o.first [
+      | inl f ↦ inl (f.0 ++ its_revision ids o.changed ∷ [], ap (λ (ms : List Made). ms ++ its_revision ids o.changed ∷ []) f.1)
+      | inr d ↦ inr (its_revision ids o.changed, ap (λ (ms : List Made). ms ++ its_revision ids o.changed ∷ []) d.0)
+    ]
 
     pub tree_refused : (first : Option (Aim Tree)) (ids : List (List ℕ)) (start : PathMap) (fault : FeedFault) → first_parent aims commit.branch commit.parent ≡ Ok first → HasParents aims first commit.merges ids → start ≡ starting_tree (option_map form first)
         → ExplainsTreeMade id (all_changed id aims commit.changes (changed_of start [])) fault → ExplainsFeed id its_step fault
@@ -120,9 +141,14 @@ module _ (id : Kind → List ℕ → List ℕ) where
         making = whole (ids, e.1.changed);
         is = step_is first ids start f p s ∙ ap (λ (r : Result Changed Missing). ends (with_changes ids r)) e.1.is;
         object = e.1.object;
-        makes = over_made ids e.1.changed e.1.object e.1.among;
+        makes = over_made ids number (all_changed id aims commit.changes (changed_of start [])) e.1;
         long = e.1.long;
         above = e.1.above;
+        before = e.1.before;
+        rest = e.1.rest ++ its_revision ids e.1.changed ∷ [];
+        cut = ap (λ (ms : List Made). ms ++ its_revision ids e.1.changed ∷ []) e.1.cut ∙ append_assoc e.1.before e.1.rest (its_revision ids e.1.changed ∷ []);
+        short = e.1.short;
+        first = over_first ids number (all_changed id aims commit.changes (changed_of start [])) e.1;
       },
     )
     tree_refused first ids start Memory f p s e = tt

@@ -1,5 +1,5 @@
 -- An input means one thing, or breaks, and never both.
-use Rattle.std.proofs.Common.{◌≡◌, ℕ, ◌≤◌, inl, inr, false, List, [], ◌∷◌, ◌++◌, Option, length, refl, sym, ap, ◌∙◌, subst, arith, append_assoc}
+use Rattle.std.proofs.Common.{◌≡◌, ℕ, ◌+◌, ◌≤◌, inl, inr, false, List, [], ◌∷◌, ◌++◌, Option, length, refl, sym, ap, ◌∙◌, subst, arith, append_assoc}
 use Rattle.std.specs.Prelude.{Result, Ok, Err}
 use Rattle.std.proofs.lemmas.List.Elements.{Contains-append_left, Contains-append_right}
 use Rattle.swh_base.specs.Limits.{body_limit}
@@ -9,6 +9,9 @@ use Rattle.swh_model.specs.Meaning.{Made, StreamMeaning}
 use Rattle.swh_fastgrammar.specs.declared.command.Command.{Command}
 use Rattle.swh_fastgrammar.proofs.Faults.{no_fault}
 use Rattle.swh_fastgrammar.proofs.Streams.{one_reading}
+use Rattle.swh_fastgrammar.specs.Row.{text_of}
+use Rattle.swh_fastrows.specs.Failing.{MayPass}
+use Rattle.swh_fastrows.proofs.Failings.{line_may, inside_may}
 use Rattle.swh_fastrows.specs.Outcome.{IsStreamWithin}
 use Rattle.swh_fastread.proofs.Afterwards.{stream_after_start}
 use Rattle.swh_fastread.proofs.Outcomes.{same_fault, stream_or_limit}
@@ -124,5 +127,14 @@ unbroken id head text m bad h b = not_broken id head text m bad h b
 
 -- the ways in which one breaks
 pub may_break : (id : Kind → List ℕ → List ℕ) (head : Option (List ℕ)) (text : List ℕ) (bad : BadStream) → Breaks id head text bad → MayBreak bad
-unfolding MayBreak
-may_break id head text bad b = tt
+unfolding Breaks MayBreak
+may_break id head text (Stream at why) b = tt
+may_break id head text (Limit which number) (inl p) = inl (elim p.passes.passes [
+  | inl l ↦ line_may (0 + length (text_of p.passes.rows)) p.passes.rest which number l
+  | inr d ↦ inside_may (0 + length (text_of p.passes.rows)) p.passes.rest which number d.0
+])
+may_break id head text (Limit which number) (inr (inl m)) = inl (subst (λ (w : Which). MayPass w number) (sym m.0) m.1.stops.above)
+may_break id head text (Limit which number) (inr (inr e)) = elim e.above [
+  | inl r ↦ inr (r.0, r.2)
+  | inr b ↦ inl (subst (λ (w : Which). MayPass w number) (sym b.0) b.3)
+]

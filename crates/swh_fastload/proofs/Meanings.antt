@@ -19,6 +19,7 @@ use Rattle.swh_fastread.proofs.Outcomes.{stream_carries, carries_with}
 use Rattle.swh_fastmeaning.specs.declared.feed_fault.FeedFault.{FeedFault}
 use Rattle.swh_fastmeaning.specs.declared.feed_fault.FeedFault.TheVariants.{BadStream as BadFeed, Limit as PassesBody, Memory as FeedMemory}
 use Rattle.swh_fastmeaning.specs.declared.objects.Objects.{Objects}
+use Rattle.swh_fastmeaning.specs.Aims.{AllAims}
 use Rattle.swh_fastmeaning.specs.Commands.{Making, Makes}
 use Rattle.swh_fastmeaning.specs.Ending.{refs_limit, EndsParts, PassesEnd, ExplainsEnd}
 use Rattle.swh_fastmeaning.specs.Feeding.{Loading, AreNew}
@@ -34,6 +35,7 @@ use Rattle.swh_fastmeaning.specs.Stock.{names_of_made}
 use Rattle.swh_fastmeaning.specs.Whole.{names_of, AreWhole, HasAllThatIsReached}
 use Rattle.swh_fastmeaning.proofs.Elements.{first_or_later, first_is, none_is, from_map, each_is}
 use Rattle.swh_fastmeaning.proofs.Givens.{new_push}
+use Rattle.swh_fastload.proofs.Readings.{body_may}
 use Rattle.swh_fastload.proofs.Progresses.{same_names, whole_one, new_whole, carried}
 
 module _ (id : Kind → List ℕ → List ℕ) (head : Option (List ℕ)) where
@@ -123,16 +125,18 @@ module _ (id : Kind → List ℕ → List ℕ) (head : Option (List ℕ)) where
       }))
   end_breaks text state es h FeedMemory e = tt
 
-pub quiet : (fault : FeedFault) → IsQuiet (feed_fault fault)
-quiet (BadFeed at why) = tt
-quiet (PassesBody which number) = tt
-quiet FeedMemory = tt
+pub quiet : {T : Type 0} (head : Option (List ℕ)) (aims : AllAims T) (fault : FeedFault) → ExplainsEnd head aims fault → IsQuiet (feed_fault fault)
+unfolding MayBreak
+quiet head aims (BadFeed at why) e = tt
+quiet head aims (PassesBody which number) (inl (refs, is, above)) = inr (refs, above)
+quiet head aims (PassesBody which number) (inr (body, few, is, above)) = inl (body_may which number body above)
+quiet head aims FeedMemory e = tt
 
 module _ {S : Type 0} (id : Kind → List ℕ → List ℕ) (head : Option (List ℕ)) (sources : Sources S) (s now : S) (text : List ℕ) (same : text ≡ sources.left s) where
   -- why a source gives no objects whose stream is not carried out
   pub fails_source : (old new : ℕ) (fault : InputFault) → old ≡ sources.faults s → new ≡ sources.faults now → FailsSo id sources.tells text old new fault → ExplainsSource id head sources s now fault
   unfolding MayBreak
-  fails_source old new (Bad bad) a b f = record { may = tt; breaks = λ told. subst (λ (t : List ℕ). Breaks id head t bad) same (f told head) }
+  fails_source old new (Bad bad) a b f = record { may = f.0; breaks = λ told. subst (λ (t : List ℕ). Breaks id head t bad) same (f.1 told head) }
   fails_source old new ReadFault a b f = subst (λ (n : ℕ). Rose n (sources.faults now)) a (subst (Rose old) b f)
   fails_source old new Memory a b f = tt
 
@@ -140,7 +144,7 @@ module _ {S : Type 0} (id : Kind → List ℕ → List ℕ) (head : Option (List
   pub ends_source : {N : Type 0} (r : Result (Objects N) InputFault) → (sources.tells → IfErr r (BreaksSo id head text)) → IfErr r IsQuiet → IfErr r (ExplainsSource id head sources s now)
   unfolding MayBreak
   ends_source (Ok loaded) f q = tt
-  ends_source (Err (Bad bad)) f q = record { may = tt; breaks = λ told. subst (λ (t : List ℕ). Breaks id head t bad) same (f told) }
+  ends_source (Err (Bad bad)) f q = record { may = q; breaks = λ told. subst (λ (t : List ℕ). Breaks id head t bad) same (f told) }
   ends_source (Err ReadFault) f q = absurd q
   ends_source (Err Memory) f q = tt
 

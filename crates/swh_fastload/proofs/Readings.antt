@@ -1,6 +1,6 @@
 -- What becomes of a stream that is read and fed.
-use Rattle.std.proofs.Common.{◌≡◌, ◌⊎◌, ℕ, ◌≤◌, inl, inr, Bool, false, List, [], ◌∷◌, ◌++◌, Option, Contains, refl, sym, ap, ◌∙◌, subst, arith}
-use Rattle.std.specs.Prelude.{◌≢◌, Result, Ok, Err, Some, IfOk}
+use Rattle.std.proofs.Common.{◌≡◌, ◌⊎◌, ℕ, ◌<◌, ◌≤◌, ◌+◌, inl, inr, Bool, false, List, [], ◌∷◌, ◌++◌, length, length-append, Option, Contains, refl, sym, ap, ◌∙◌, subst, arith, append_assoc}
+use Rattle.std.specs.Prelude.{◌≢◌, Result, Ok, Err, Some, None, IfOk}
 use Rattle.std.specs.List.{AllByRecursion}
 use Rattle.std.proofs.lemmas.List.{map-append, append-nil}
 use Rattle.swh_outside.specs.Faults.{Rose}
@@ -8,6 +8,8 @@ use Rattle.swh_base.specs.declared.kind.Kind.{Kind}
 use Rattle.swh_base.specs.declared.kind.Kind.TheVariants.{Snapshot}
 use Rattle.swh_base.specs.declared.entry.Entry.{Entry}
 use Rattle.swh_base.specs.declared.visit.Which.{Which}
+use Rattle.swh_base.specs.declared.visit.Which.TheVariants.{Body}
+use Rattle.swh_base.specs.Limits.{body_limit}
 use Rattle.swh_model.specs.Meaning.{Made}
 use Rattle.swh_model.proofs.Entries.{all-append}
 use Rattle.swh_fastgrammar.specs.declared.command.Command.{Command}
@@ -18,19 +20,23 @@ use Rattle.swh_fastread.specs.declared.reader.Ending.{Ending}
 use Rattle.swh_fastread.specs.declared.reader.Ending.TheVariants.{Open, Refused}
 use Rattle.swh_fastrows.specs.Explains.{Explains}
 use Rattle.swh_fastrows.specs.Outcome.{IsFaultWithin, PassesFirst, StartsWith}
-use Rattle.swh_fastrows.specs.Places.{Place, Position, left, position}
+use Rattle.swh_fastlex.specs.declared.source.TheConstants.{WINDOW}
+use Rattle.swh_fastrows.specs.Failing.{MayPass, MayFail}
+use Rattle.swh_fastrows.specs.Places.{Place, Position, HoldsFront, left, position}
+use Rattle.swh_fastread.specs.Steps.{IsStreamBefore, EndsHere, done_line}
 use Rattle.swh_fastread.specs.Standing.{Standing, LeadsOn, Answers, ending_of}
-use Rattle.swh_fastread.proofs.Outcomes.{fault_carries, limit_carries, carries_with, starts_join}
+use Rattle.swh_fastread.proofs.Outcomes.{before_carries, fault_carries, limit_carries, carries_with, starts_join}
+use Rattle.swh_fastload.specs.declared.bad.InputFault.{InputFault}
 use Rattle.swh_fastmeaning.specs.declared.feed_fault.FeedFault.{FeedFault}
 use Rattle.swh_fastmeaning.specs.declared.feed_fault.FeedFault.TheVariants.{BadStream as BadFeed, Limit as PassesBody, Memory as FeedMemory}
 use Rattle.swh_fastmeaning.specs.Aims.{Missing}
 use Rattle.swh_fastmeaning.specs.Commands.{Making, no_making, Makes, step}
 use Rattle.swh_fastmeaning.specs.Feeding.{Loading, AreNew, IsTooLong, ExplainsFeed}
-use Rattle.swh_fastload.specs.Input.{beginning, BreaksAt, PassesAt, StopsAt, Breaks}
+use Rattle.swh_fastload.specs.Input.{beginning, BreaksAt, PassesAt, StopsAt, Breaks, MayBreak}
 use Rattle.swh_fastload.specs.Loads.{no_loading, FeedsTo}
 use Rattle.swh_fastmeaning.specs.Making.{made_from, made}
 use Rattle.swh_fastload.specs.Progress.{StandsFor, HasLoaded}
-use Rattle.swh_fastload.specs.Reading.{read_fault, feed_fault, HasGiven, HasCome, FailsSo}
+use Rattle.swh_fastload.specs.Reading.{read_fault, feed_fault, HasGiven, HasCome, HasRead, StopsAtEnd, ReadsUpTo, FailsSo}
 use Rattle.swh_fastmeaning.proofs.Elements.{none_is, all_as}
 use Rattle.swh_fastload.proofs.MadeKinds.{no_snapshot}
 use Rattle.swh_fastload.proofs.Progresses.{new_append, loaded_more, carried}
@@ -40,7 +46,41 @@ pub rose_since : (ending : Ending) (a b c : ℕ) → ending ≡ Open → a ≤ b
 rose_since ending a b c o l (inl e) = let n : Open ≡ Refused SourceFailed = sym o ∙ e in absurd cc
 rose_since ending a b c o l (inr r) = omega (arith, l, r)
 
+-- a body above the limit
+pub body_may : (which : Which) (number : ℕ) → which ≡ Body → body_limit < number → MayPass which number
+body_may which number e above = subst (λ (w : Which). MayPass w number) (sym e) above
+
+-- What is left of a source whose reader was closed.
+pub reads_up_to : (text other : List ℕ) (place : Place) (now : List ℕ) → text ≡ other → StopsAtEnd text place → HoldsFront place.rest now → ReadsUpTo other now
+reads_up_to text other place now same s h = record {
+  commands = s.commands;
+  ending = left place;
+  stream = subst (λ (t : List ℕ). IsStreamBefore 0 false t s.commands (left place)) same s.stream;
+  front = place.held ++ h.front;
+  cut = ap (λ (t : List ℕ). place.held ++ t) h.cut ∙ sym (append_assoc place.held h.front now);
+  within = by_held s.held;
+}
+  where
+    by_held : (left place ≡ []) ⊎ (place.held ≡ done_line) → length (place.held ++ h.front) ≤ length done_line + WINDOW
+    by_held (inl e) = let within = h.within in omega (arith, within, ap length e, length-append place.held place.rest, length-append place.held h.front)
+    by_held (inr e) = let within = h.within in omega (arith, within, ap length e, length-append place.held h.front)
+
+pub ok_reads : {X : Type 0} (r : Result X InputFault) (text other : List ℕ) (place : Place) (now : List ℕ) → text ≡ other → IfOk r (λ _. StopsAtEnd text place) → HoldsFront place.rest now → IfOk r (λ _. ReadsUpTo other now)
+ok_reads (Ok x) text other place now same s h = reads_up_to text other place now same s h
+ok_reads (Err fault) text other place now same s h = tt
+
 module _ (id : Kind → List ℕ → List ℕ) where
+  pub has_read : (text : List ℕ) (old new : Place) (promised : Bool) (state : Result Loading FeedFault) (es : List Entry) → HasCome id text (position old promised) state es → EndsHere old new promised → HasRead id text state es
+  has_read text old new promised state es h e = record { rest = position old promised; come = h; ends = e.stream.stream }
+
+  -- The stream ends where its reader stands.
+  pub stops_at_end : (text : List ℕ) (old new : Place) (promised : Bool) (state : Result Loading FeedFault) (es : List Entry) → HasCome id text (position old promised) state es → EndsHere old new promised → StopsAtEnd text new
+  stops_at_end text old new promised state es h e = record {
+    commands = h.loaded.commands ++ [];
+    stream = carries_with (λ n cs. IsStreamBefore n.at n.promised n.left cs (left new)) (before_carries (left new)) (beginning text) (position old promised) h.loaded.commands [] h.loaded.starts e.stream;
+    held = e.held;
+  }
+
   -- Nothing was read yet.
   pub nothing_given : (state : Result Loading FeedFault) (es : List Entry) → state ≡ Ok no_loading → es ≡ [] → HasGiven id state es
   nothing_given state es e n = record {
@@ -118,18 +158,22 @@ module _ (id : Kind → List ℕ → List ℕ) where
     stops = subst (λ a. P (step id a c)) h.loaded.stands.aims p;
   }
 
-  pub read_fails : (tells : Type 0) (place : Place) (promised : Bool) (text : List ℕ) (state : Result Loading FeedFault) (es : List Entry) (before after : ℕ) (fail : ReadFail) → (tells → HasCome id text (position place promised) state es) → (tells → Explains place promised fail) → (fail ≡ SourceFailed → Rose before after) → FailsSo id tells text before after (read_fault fail)
-  unfolding Breaks
-  read_fails tells place promised text state es before after (BadRead at why) h e r = λ told head. inl (fault_breaks text (position place promised) state es at why (h told) (e told))
-  read_fails tells place promised text state es before after SourceFailed h e r = r refl
-  read_fails tells place promised text state es before after (PassesLimit which number) h e r = λ told head. inl (limit_breaks text (position place promised) state es which number (h told) (e told))
-  read_fails tells place promised text state es before after ReadMemory h e r = tt
+  pub read_fails : (tells : Type 0) (place : Place) (promised : Bool) (text : List ℕ) (state : Result Loading FeedFault) (es : List Entry) (before after : ℕ) (fail : ReadFail) → (tells → HasCome id text (position place promised) state es) → (tells → Explains place promised fail) → (fail ≡ SourceFailed → Rose before after) → MayFail fail → FailsSo id tells text before after (read_fault fail)
+  unfolding Breaks MayBreak
+  read_fails tells place promised text state es before after (BadRead at why) h e r may = (tt, λ told head. inl (fault_breaks text (position place promised) state es at why (h told) (e told)))
+  read_fails tells place promised text state es before after SourceFailed h e r may = r refl
+  read_fails tells place promised text state es before after (PassesLimit which number) h e r may = (inl may, λ told head. inl (limit_breaks text (position place promised) state es which number (h told) (e told)))
+  read_fails tells place promised text state es before after ReadMemory h e r may = tt
 
-  pub feed_fails : (tells : Type 0) (text : List ℕ) (rest next : Position) (state : Result Loading FeedFault) (es : List Entry) (c : Command) (before after : ℕ) (fault : FeedFault) → (tells → (h : HasCome id text rest state es) × StartsWith rest next (c ∷ []) × ExplainsFeed id (step id h.loading.aims c) fault) → FailsSo id tells text before after (feed_fault fault)
-  unfolding Breaks
-  feed_fails tells text rest next state es c before after (BadFeed at why) h = λ told head. let k = h told in inr (stops text rest next state es c (λ found. found ≡ Err (record { at = at; why = why })) k.0 k.1 k.2)
-  feed_fails tells text rest next state es c before after (PassesBody which number) h = λ told head. let k = h told in inr (inl (k.2.0, stops text rest next state es c (λ found. IsTooLong id found number) k.0 k.1 k.2.1))
-  feed_fails tells text rest next state es c before after FeedMemory h = tt
+  pub feed_fails : (tells : Type 0) (text : List ℕ) (rest next : Position) (state : Result Loading FeedFault) (es : List Entry) (c : Command) (before after : ℕ) (fault : FeedFault) → (tells → (h : HasCome id text rest state es) × StartsWith rest next (c ∷ []) × ExplainsFeed id (step id h.loading.aims c) fault) → (found : Result Making Missing) → ExplainsFeed id found fault → FailsSo id tells text before after (feed_fault fault)
+  unfolding Breaks MayBreak
+  feed_fails tells text rest next state es c before after (BadFeed at why) h found may = (tt, λ told head. let k = h told in inr (stops text rest next state es c (λ found. found ≡ Err (record { at = at; why = why })) k.0 k.1 k.2))
+  feed_fails tells text rest next state es c before after (PassesBody which number) h found may = (inl (body_may which number may.0 may.1.above), λ told head. let k = h told in inr (inl (k.2.0, stops text rest next state es c (λ found. IsTooLong id found number) k.0 k.1 k.2.1)))
+  feed_fails tells text rest next state es c before after FeedMemory h found may = tt
+
+-- what a reader answers without one
+pub ended : (old new : Standing) (result : Result (Option Command) ReadFail) → result ≡ Ok None → IfOk result (Answers old new) → EndsHere old.place new.place old.promised
+ended old new result e h = subst (λ (r : Result (Option Command) ReadFail). IfOk r (Answers old new)) e h
 
 -- what a reader answers with a command
 pub led : (old new : Standing) (result : Result (Option Command) ReadFail) (c : Command) → result ≡ Ok (Some c) → IfOk result (Answers old new) → LeadsOn old new c

@@ -1,5 +1,5 @@
 -- How a commit is made, step by step.
-use Rattle.std.specs.Prelude.{◌≡◌, ◌⊎◌, ℕ, ◌<◌, Contains, List, [], ◌∷◌, ◌++◌, length, Option, Result, Ok, Err, unwrap_or}
+use Rattle.std.specs.Prelude.{◌≡◌, ◌⊎◌, ℕ, ◌<◌, List, [], ◌∷◌, ◌++◌, length, Option, Result, Ok, Err, unwrap_or}
 use Rattle.std.specs.Option.{option_map}
 use Rattle.swh_base.specs.declared.kind.Kind.{Kind}
 use Rattle.swh_base.specs.declared.kind.Kind.TheVariants.{Revision}
@@ -18,7 +18,7 @@ use Rattle.swh_fastgrammar.specs.declared.command.Commitish.{Commitish}
 use Rattle.swh_fastgrammar.specs.declared.command.Command.{Command}
 use Rattle.swh_fastgrammar.specs.declared.command.Command.TheVariants.{Commit as CommitCommand}
 use Rattle.swh_fastmeaning.specs.Aims.{Aim, AllAims, Missing, aim_with}
-use Rattle.swh_fastmeaning.specs.Changes.{IsOver, changed_of}
+use Rattle.swh_fastmeaning.specs.Changes.{AreShort, IsOver, changed_of}
 use Rattle.swh_fastmeaning.specs.Commands.{Changed, IsDirectoryIn, first_parent, commits_at, parents_of, starting_tree, all_changed}
 use Rattle.swh_fastmeaning.specs.Feeding.{name_of}
 use Rattle.swh_fastmeaning.specs.Stock.{Gives}
@@ -43,7 +43,7 @@ pub record HasParents {T : Type 0} (aims : AllAims T) (first : Option (Aim T)) (
   pub found : commits_at aims merges ≡ Ok others
   pub are : ids ≡ parents_of first others
 
--- A content has a body above the limit.
+-- The first content above the limit has so many bytes.
 abbrev pub ExplainsOver : List Made → FeedFault → Type 0
 ExplainsOver contents (BadStream at why) = ⊥
 ExplainsOver contents (Limit which number) = (which ≡ Body) × IsOver contents number
@@ -62,15 +62,20 @@ module _ (id : Kind → List ℕ → List ℕ) where
     pub keeps : Keeps old between
     pub makes : Makes id between new changed.tree tree root directories
     pub holds : made contents ≡ changed.contents
+    pub short : AreShort changed.contents
 
-  -- A content or a directory that the changes make has this many bytes, above the limit.
+  -- The first content that the changes make above the limit has this many bytes; or no content is, and a directory has.
   pub record IsOverIn (changes : Result Changed Missing) (number : ℕ) : Type 0 where
     pub changed : Changed
     pub is : changes ≡ Ok changed
     pub object : Made
-    pub among : Contains changed.contents object ⊎ IsDirectoryIn id changed.tree object
     pub long : number ≡ length object.body
     pub above : body_limit < number
+    pub before : List Made
+    pub rest : List Made
+    pub cut : changed.contents ≡ before ++ rest
+    pub short : AreShort before
+    pub first : ((more : List Made) × (rest ≡ object ∷ more)) ⊎ ((rest ≡ []) × IsDirectoryIn id changed.tree object)
 
   -- It is what is missing, or else the length of a content or a directory, unless memory ran out.
   abbrev pub ExplainsTreeMade : Result Changed Missing → FeedFault → Type 0

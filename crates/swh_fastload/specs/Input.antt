@@ -1,15 +1,16 @@
 -- What an input means, and how it breaks (git-fast-import(1), input format and commands): all that the loader and the
 -- program know of inputs. What is meant are objects, with the snapshot among them, as a set: two makings of one input may
 -- have them in different orders. `id` gives the id of a kind and a body.
-use Rattle.std.specs.Prelude.{◌≡◌, ◌⊎◌, ◌↔◌, ℕ, ◌≤◌, false, Option, List, [], ◌∷◌, ◌++◌, length, Contains, Result, Ok, Err}
+use Rattle.std.specs.Prelude.{◌≡◌, ◌⊎◌, ◌↔◌, ℕ, ◌<◌, ◌≤◌, false, Option, List, [], ◌∷◌, ◌++◌, length, Contains, Result, Ok, Err}
 use Rattle.swh_base.specs.Limits.{body_limit}
 use Rattle.swh_base.specs.declared.kind.Kind.{Kind}
 use Rattle.swh_base.specs.declared.kind.Kind.TheVariants.{Snapshot}
 use Rattle.swh_base.specs.declared.visit.Which.{Which}
-use Rattle.swh_base.specs.declared.visit.Which.TheVariants.{Body}
+use Rattle.swh_base.specs.declared.visit.Which.TheVariants.{Body, Refs}
 use Rattle.swh_model.specs.Meaning.{Made, StreamMeaning}
 use Rattle.swh_fastgrammar.specs.declared.command.Command.{Command}
 use Rattle.swh_fastgrammar.specs.declared.fault.StreamWhy.{StreamWhy}
+use Rattle.swh_fastrows.specs.Failing.{MayPass}
 use Rattle.swh_fastrows.specs.Outcome.{IsStreamWithin, IsFaultWithin, PassesFirst, StartsWith}
 use Rattle.swh_fastrows.specs.Places.{Position}
 use Rattle.swh_fastload.specs.declared.bad.BadStream.{BadStream}
@@ -100,6 +101,7 @@ unfoldable pub Breaks : (Kind → List ℕ → List ℕ) → Option (List ℕ) �
 Breaks id head text (Stream at why) = BreaksAt id text at why ⊎ StopsAt id text (λ found. found ≡ Err (record { at = at; why = why }))
 Breaks id head text (Limit which number) = PassesAt id text which number ⊎ (MakesAbove id text which number ⊎ EndsAbove id head text which number)
 
--- An input may break so, whatever it is.
+-- An input may break so, whatever it is: by any fault at any place, by a limit that its text or a body passes, or by refs.
 unfoldable pub MayBreak : BadStream → Type 0
-MayBreak bad = Unit {0}
+MayBreak (Stream at why) = Unit {0}
+MayBreak (Limit which number) = MayPass which number ⊎ ((which ≡ Refs) × (refs_limit < number))

@@ -1,5 +1,5 @@
 -- What becomes of a stream that is read and fed, command by command.
-use Rattle.std.specs.Prelude.{◌≡◌, ◌≢◌, ℕ, Option, List, [], Result, Ok}
+use Rattle.std.specs.Prelude.{◌≡◌, ◌≢◌, ◌⊎◌, ℕ, ◌≤◌, ◌+◌, false, Option, List, [], ◌++◌, length, Result, Ok}
 use Rattle.std.specs.List.{AllByRecursion}
 use Rattle.swh_base.specs.declared.kind.Kind.{Kind}
 use Rattle.swh_base.specs.declared.kind.Kind.TheVariants.{Snapshot}
@@ -8,14 +8,17 @@ use Rattle.swh_outside.specs.Faults.{Rose}
 use Rattle.swh_fastrows.specs.declared.fail.ReadFail.{ReadFail}
 use Rattle.swh_fastrows.specs.declared.fail.ReadFail.TheVariants.{BadStream as BadRead, ReadFault as SourceFailed, Limit as PassesLimit, Memory as ReadMemory}
 use Rattle.swh_fastrows.specs.Outcome.{IsStreamWithin}
-use Rattle.swh_fastrows.specs.Places.{Position}
+use Rattle.swh_fastgrammar.specs.declared.command.Command.{Command}
+use Rattle.swh_fastlex.specs.declared.source.TheConstants.{WINDOW}
+use Rattle.swh_fastrows.specs.Places.{Place, Position, left}
+use Rattle.swh_fastread.specs.Steps.{IsStreamBefore, done_line}
 use Rattle.swh_fastload.specs.declared.bad.BadStream.TheVariants.{Stream, Limit}
 use Rattle.swh_fastload.specs.declared.bad.InputFault.{InputFault}
 use Rattle.swh_fastload.specs.declared.bad.InputFault.TheVariants.{Bad, ReadFault, Memory}
 use Rattle.swh_fastmeaning.specs.declared.feed_fault.FeedFault.{FeedFault}
 use Rattle.swh_fastmeaning.specs.declared.feed_fault.FeedFault.TheVariants.{BadStream as BadFeed, Limit as PassesBody, Memory as FeedMemory}
 use Rattle.swh_fastmeaning.specs.Feeding.{Loading, AreNew}
-use Rattle.swh_fastload.specs.Input.{Breaks}
+use Rattle.swh_fastload.specs.Input.{Breaks, MayBreak}
 use Rattle.swh_fastmeaning.specs.Making.{made}
 use Rattle.swh_fastload.specs.Progress.{HasLoaded}
 
@@ -52,9 +55,25 @@ pub record HasRead (id : Kind → List ℕ → List ℕ) (text : List ℕ) (stat
   pub come : HasCome id text rest state objects
   pub ends : IsStreamWithin rest.at rest.promised rest.left []
 
+-- The text is a stream, and where its reader stands all of it was read, or its line `done` is held.
+pub record StopsAtEnd (text : List ℕ) (place : Place) : Type 0 where
+  pub commands : List Command
+  pub stream : IsStreamBefore 0 false text commands (left place)
+  pub held : (left place ≡ []) ⊎ (place.held ≡ done_line)
+
+-- The text is a stream, of which this is left: of what stands behind its last row no more was taken than the line `done` and
+-- what a window holds.
+pub record ReadsUpTo (text now : List ℕ) : Type 0 where
+  pub commands : List Command
+  pub ending : List ℕ
+  pub stream : IsStreamBefore 0 false text commands ending
+  pub front : List ℕ
+  pub cut : ending ≡ front ++ now
+  pub within : length front ≤ length done_line + WINDOW
+
 -- Why a text is not carried out, which a source tells or not; its count of faults before and after.
 abbrev pub FailsSo : (Kind → List ℕ → List ℕ) → Type 0 → List ℕ → ℕ → ℕ → InputFault → Type 0
-FailsSo id tells text old new (Bad bad) = tells → (head : Option (List ℕ)) → Breaks id head text bad
+FailsSo id tells text old new (Bad bad) = MayBreak bad × (tells → (head : Option (List ℕ)) → Breaks id head text bad)
 FailsSo id tells text old new ReadFault = Rose old new
 FailsSo id tells text old new Memory = Unit {0}
 
@@ -64,8 +83,8 @@ BreaksSo id head text (Bad bad) = Breaks id head text bad
 BreaksSo id head text ReadFault = ⊥
 BreaksSo id head text Memory = Unit {0}
 
--- No source failed.
+-- No source failed, and an input may break so.
 abbrev pub IsQuiet : InputFault → Type 0
-IsQuiet (Bad bad) = Unit {0}
+IsQuiet (Bad bad) = MayBreak bad
 IsQuiet ReadFault = ⊥
 IsQuiet Memory = Unit {0}

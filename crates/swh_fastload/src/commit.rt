@@ -9,7 +9,7 @@ ghost use Rattle.swh_model.specs.Meaning.{Made as MadeObject};
 ghost use Rattle.swh_base.specs.Text.{IsRef};
 ghost use Rattle.swh_trees.specs.Grove.{Grove, map_of, IsTree, StandsFor};
 ghost use Rattle.swh_fastmeaning.specs.Making.{made_from, made};
-ghost use Rattle.swh_fastmeaning.specs.Changes.{HoldsContents, IsGivableChange, IsOver, changed_of};
+ghost use Rattle.swh_fastmeaning.specs.Changes.{AreShort, HoldsContents, IsGivableChange, IsOver, changed_of};
 ghost use Rattle.swh_fastmeaning.specs.Commands.{step, first_parent, all_changed, revision_parts};
 ghost use Rattle.swh_fastmeaning.specs.Aims.{Aim, aims_with};
 ghost use Rattle.swh_fastmeaning.specs.Feeding.{ExplainsFeed};
@@ -67,10 +67,12 @@ pub struct Prepared<N: Namer> {
     pub contents: Vec<Object<N>>,
 }
 
-/// The contents, or the length of one that is above the limit.
+/// The contents, or the length of the first that is above the limit.
 fn within_limit<N: Namer>(contents: Contents<N>) -> Result<Vec<Object<N>>, FeedFault>
     ensures ok { (ms : List MadeObject) → HoldsContents ms contents.objects.items contents.over
         → IfOk result (λ os. made os.items ≡ ms) }
+    ensures short { (ms : List MadeObject) → HoldsContents ms contents.objects.items contents.over
+        → IfOk result (λ _. AreShort ms) }
     ensures err { (ms : List MadeObject) → HoldsContents ms contents.objects.items contents.over
         → IfErr result (ExplainsOver ms) }
 {

@@ -7,7 +7,17 @@ ghost use Rattle.swh_fastrows.specs.Places.{left};
 ghost use Rattle.swh_fastread.specs.declared.reader.Ending.TheVariants.{Open};
 ghost use Rattle.swh_fastload.specs.Loaded.{making_of};
 ghost use Rattle.swh_fastload.specs.Loads.{no_loading};
-ghost use Rattle.swh_fastload.specs.Reading.{read_fault, feed_fault, HasGiven, HasRead, FailsSo, BreaksSo, IsQuiet};
+ghost use Rattle.swh_fastload.specs.Reading.{
+  read_fault,
+  feed_fault,
+  HasGiven,
+  HasRead,
+  StopsAtEnd,
+  ReadsUpTo,
+  FailsSo,
+  BreaksSo,
+  IsQuiet,
+};
 ghost use Rattle.swh_fastload.specs.Input.{Means};
 ghost use Rattle.swh_fastload.specs.Sourced.{MeansLeft, ExplainsSource};
 ghost use Rattle.swh_fastmeaning.specs.Feeding.{AreNew};
@@ -61,8 +71,11 @@ fn load_commands<N: Namer, S: Source>(
     ensures fails { IfErr result (FailsSo N.id_of S.tells (left reader.old.place) reader.old.place.faults
         reader.new.place.faults) }
 
+    ensures stops { S.tells → IfOk result (λ _. StopsAtEnd (left reader.old.place) reader.new.place) }
+
     ensures same_path { reader.new.place.path ≡ reader.old.place.path }
     ensures later { reader.old.place.faults ≤ reader.new.place.faults }
+    ensures quiet { IfOk result (λ _. reader.new.place.faults ≡ reader.old.place.faults) }
 {
     let mut objects = Vec::new(alloc);
     'commands: loop {
@@ -96,6 +109,8 @@ fn read_source<'a, N: Namer, S: Source>(
     ensures same_reference { result.source.ghost_name ≡ source.entry.ghost_name }
     ensures same_path { S.path result.source.now ≡ S.path source.old }
     ensures later { S.faults source.old ≤ S.faults result.source.now }
+    ensures stops { S.tells → IfOk objects.new (λ _. ReadsUpTo (S.left source.old) (S.left result.source.now)) }
+    ensures quiet { IfOk objects.new (λ _. S.faults result.source.now ≡ S.faults source.old) }
 {
     let window = match Window::new(alloc) {
         Ok(window) => window,
@@ -156,6 +171,9 @@ pub fn load_source<N: Namer, S: Source>(
     ensures whole { IfOk result (HasAllThatIsReached N.id_of) }
     // Each comes once, and after all that it names.
     ensures order { IfOk result (λ loaded. AreNew N.id_of [] loaded.objects.items) }
+    // What stands behind the stream is left, but for a window. Where it ends well no read failed.
+    ensures read { S.tells → IfOk result (λ _. ReadsUpTo (S.left source.old) (S.left source.new)) }
+    ensures quiet { IfOk result (λ _. S.faults source.new ≡ S.faults source.old) }
     // An input that is refused breaks so, or the source failed.
     ensures err { IfErr result (ExplainsSource N.id_of (option_copied head.entry)
         (sources S.tells S.left S.faults S.path) source.old source.new) }

@@ -20,7 +20,8 @@ pub fn never_both()
         (bad : BadStream) → Means id head text m → Breaks id head text bad → ⊥ }
 {}
 
-/// An input breaks only in the ways in which one may.
+/// An input breaks only in the ways in which one may: by a fault, or by a limit of bodies, streams, lines, paths, refs or
+/// the number of refs, with a number above it.
 pub fn ways_to_break()
     ensures { (id : Kind → List ℕ → List ℕ) (head : Option (List ℕ)) (text : List ℕ) (bad : BadStream)
         → Breaks id head text bad → MayBreak bad }
@@ -38,7 +39,7 @@ pub fn one_break()
 
 /// The limits that an input passes first are passed by its text, after the same rows, or by bodies that one command makes,
 /// or by what the stream ends with, which is one limit with one number; and by no two of these. Which limit of the text is
-/// told, and which body of the command, is left open.
+/// told, and which of the command's directories, is left open.
 pub fn one_limit()
     ensures text { (id : Kind → List ℕ → List ℕ) (text : List ℕ) (which other : Which) (number count : ℕ)
         (f : PassesAt id text which number) (g : PassesAt id text other count)

@@ -7,6 +7,8 @@
 #[cfg(test)]
 mod faults;
 #[cfg(test)]
+mod first_steps;
+#[cfg(test)]
 mod streams_by_hand;
 #[cfg(test)]
 mod streams_of_git;

@@ -1,5 +1,5 @@
 -- What a command leads to, from the objects that are given for it.
-use Rattle.std.proofs.Common.{◌≡◌, ◌≢◌, ◌⊎◌, inl, inr, ℕ, Option, Some, None, Result, Ok, Err, IfErr, List, [], ◌∷◌, Contains, refl, sym, ap, ◌∙◌, subst, arith}
+use Rattle.std.proofs.Common.{◌≡◌, ◌≢◌, ◌⊎◌, inl, inr, ℕ, Option, Some, None, Result, Ok, Err, IfErr, List, [], ◌∷◌, ◌++◌, Contains, refl, sym, ap, ◌∙◌, subst, arith}
 use Rattle.std.proofs.lemmas.List.{append-nil}
 use Rattle.std.proofs.lemmas.List.Elements.{Contains-append_left}
 use Rattle.swh_base.specs.declared.kind.Kind.{Kind}
@@ -21,6 +21,7 @@ use Rattle.swh_fastgrammar.specs.declared.command.Commitish.{Commitish}
 use Rattle.swh_fastgrammar.specs.declared.command.Start.{Start}
 use Rattle.swh_fastgrammar.specs.declared.command.Start.TheVariants.{Absent, NoTip, Of}
 use Rattle.swh_fastmeaning.specs.Aims.{Aim, AllAims, Missing, with_mark, with_tip, without_tip, commit_at, aim_with, aims_with}
+use Rattle.swh_fastmeaning.specs.Changes.{AreShort}
 use Rattle.swh_fastmeaning.specs.Commands.{Making, Makes, Targets, step, marked, only, aim_of, ◌>>=◌}
 use Rattle.swh_fastmeaning.specs.Feeding.{ExplainsFeed, name_of}
 use Rattle.swh_fastmeaning.specs.Missings.{ExplainsMissing}
@@ -71,10 +72,10 @@ module _ (id : Kind → List ℕ → List ℕ) where
   pub own_form : (grove : Grove) (m : Made) (name : Name) (tree : Tree) → name ≡ name_of id m → StandsFor grove tree [] → aim_with (map_of grove) (record { name = name; tree = tree }) ≡ aim_of id m []
   own_form grove m name tree e s = ap (λ (n : Name). let a : Aim PathMap = record { name = n; tree = map_of grove tree } in a) e ∙ ap (λ (t : PathMap). let a : Aim PathMap = record { name = name_of id m; tree = t } in a) s.map
 
-  pub explains_long : (found : Result Making Missing) (making : Making) (m : Made) (fault : FeedFault) → found ≡ Ok making → Makes id making m → ExplainsBody m.body fault → ExplainsFeed id found fault
-  explains_long found making m (BadStream at why) e h b = absurd b
-  explains_long found making m (Limit which number) e h b = (b.0, record { making = making; is = e; object = m; makes = h; long = b.1; above = b.2 })
-  explains_long found making m Memory e h b = tt
+  pub explains_long : (found : Result Making Missing) (making : Making) (m : Made) (fault : FeedFault) → found ≡ Ok making → Makes id making m → (before more : List Made) → making.objects ≡ before ++ m ∷ more → AreShort before → ExplainsBody m.body fault → ExplainsFeed id found fault
+  explains_long found making m (BadStream at why) e h before more cut short b = absurd b
+  explains_long found making m (Limit which number) e h before more cut short b = (b.0, record { making = making; is = e; object = m; makes = h; long = b.1; above = b.2; before = before; rest = m ∷ more; cut = cut; short = short; first = inl (more, refl) })
+  explains_long found making m Memory e h before more cut short b = tt
 
   -- what is missing first
   pub explains_missing : {X Y : Type 0} (f : X → Y) (r : Result X Missing) (j : Y → Result Making Missing) (fault : FeedFault) → ExplainsMissing r fault → ExplainsFeed id (ok_map f r >>= j) fault
@@ -124,7 +125,7 @@ module _ (id : Kind → List ℕ → List ℕ) where
         }
 
     pub blob_refused : (mark : Option ℕ) (bytes : List ℕ) (fault : FeedFault) → ExplainsBody bytes fault → ExplainsFeed id (step id known (Blob mark bytes)) fault
-    blob_refused mark bytes fault b = explains_long (step id known (Blob mark bytes)) (marked id known mark (content bytes)) (content bytes) fault refl (inl (first_is (content bytes) [])) b
+    blob_refused mark bytes fault b = explains_long (step id known (Blob mark bytes)) (marked id known mark (content bytes)) (content bytes) fault refl (inl (first_is (content bytes) [])) [] [] refl tt b
 
     reset_leads : (command : Command) (after : Targets) (aims : AllAims Tree) → step id known command ≡ Ok (only id after) → aims_with (map_of s.grove) aims ≡ after → AreAimsAmong id s.grove.made s.given aims → Leads id s command (stock s.grove aims s.given) []
     reset_leads command after aims e a among = record {

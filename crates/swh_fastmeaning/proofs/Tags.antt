@@ -95,7 +95,7 @@ module _ (id : Kind → List ℕ → List ℕ) where
     pub tag_refused : (found : Aim Tree) (fault : FeedFault) → object_at s.aims target.at target.it ≡ Ok found → ExplainsBody (its_release (form found)).body fault → ExplainsFeed id its_step fault
     tag_refused found fault e b =
         let m = its_release (form found) in
-        explains_long id its_step (tagged id known mark tag m) m fault (step_is found e) (inl (first_is m [])) b
+        explains_long id its_step (tagged id known mark tag m) m fault (step_is found e) (inl (first_is m [])) [] [] refl tt b
 
     pub tag_leads : (found aim : Aim Tree) (new : List Made) (aims : AllAims Tree) (branch : List ℕ) (objects : List Entry) → IsTagName tag → object_at s.aims target.at target.it ≡ Ok found → GivesOwn id (its_release (form found)) s.given new aim objects
         → branch ≡ codes "refs/tags/" ++ tag → aims ≡ with_tip branch aim (with_mark mark aim s.aims) → Leads id s (Tag tag mark target tagger message) (stock s.grove aims new) objects

@@ -1,5 +1,6 @@
 -- The changes of a commit as code makes them: its tree among trees, and the contents that are made for it.
-use Rattle.std.specs.Prelude.{◌≡◌, ℕ, ◌<◌, ◌++◌, Contains, List, length, Option, Some, None, Result, Ok, Err}
+use Rattle.std.specs.Prelude.{◌≡◌, ℕ, ◌<◌, ◌≤◌, ◌∷◌, ◌++◌, List, length, Option, Some, None, Result, Ok, Err}
+use Rattle.std.specs.List.{AllByRecursion}
 use Rattle.swh_base.specs.Limits.{body_limit}
 use Rattle.swh_base.specs.declared.entry.Entry.{Entry}
 use Rattle.swh_model.specs.Meaning.{Made}
@@ -13,16 +14,23 @@ use Rattle.swh_fastmeaning.specs.Making.{made}
 use Rattle.swh_fastmeaning.specs.declared.feed_fault.FeedFault.{FeedFault}
 use Rattle.swh_fastmeaning.specs.declared.feed_fault.FeedFault.TheVariants.{BadStream, Limit, Memory}
 
--- One of these objects has a body of this many bytes, above the limit.
+-- None of these bodies is above the limit.
+abbrev pub AreShort : List Made → Type 0
+AreShort objects = AllByRecursion (λ m. length m.body ≤ body_limit) objects
+
+-- The first of these objects, in their order, whose body is above the limit has this many bytes.
 pub record IsOver (objects : List Made) (number : ℕ) : Type 0 where
+  pub before : List Made
   pub object : Made
-  pub among : Contains objects object
+  pub after : List Made
+  pub cut : objects ≡ before ++ object ∷ after
+  pub short : AreShort before
   pub long : number ≡ length object.body
   pub above : body_limit < number
 
--- These contents were made, or one of them is above the limit.
+-- These contents were made, or this is the length of the first that is above the limit.
 abbrev pub HoldsContents : List Made → List Entry → Option ℕ → Type 0
-HoldsContents contents objects None = made objects ≡ contents
+HoldsContents contents objects None = (made objects ≡ contents) × AreShort contents
 HoldsContents contents objects (Some number) = IsOver contents number
 
 -- The tree stands for what this makes, and its contents are held.

@@ -1,6 +1,6 @@
 -- What a loader gives for a command (git-fast-import(1), commands): the objects that it makes and that were not made before,
 -- each after all that it names; or why it refuses the command.
-use Rattle.std.specs.Prelude.{◌≡◌, ℕ, ◌<◌, List, [], ◌∷◌, ◌++◌, length, map, Contains, Option, Some, None, Result, Ok, Err}
+use Rattle.std.specs.Prelude.{◌≡◌, ◌⊎◌, ℕ, ◌<◌, List, [], ◌∷◌, ◌++◌, length, map, Contains, Option, Some, None, Result, Ok, Err}
 use Rattle.std.specs.List.{AllByRecursion}
 use Rattle.swh_base.specs.declared.kind.Kind.{Kind}
 use Rattle.swh_base.specs.declared.name.Name.{Name}
@@ -13,6 +13,7 @@ use Rattle.swh_fastgrammar.specs.declared.command.Command.{Command}
 use Rattle.swh_fastmeaning.specs.declared.feed_fault.FeedFault.{FeedFault}
 use Rattle.swh_fastmeaning.specs.declared.feed_fault.FeedFault.TheVariants.{BadStream, Limit, Memory}
 use Rattle.swh_fastmeaning.specs.Aims.{Missing}
+use Rattle.swh_fastmeaning.specs.Changes.{AreShort}
 pub use Rattle.swh_fastgrammar.specs.Givable.{IsGivable}
 use Rattle.swh_fastmeaning.specs.Commands.{Targets, Making, Makes, step}
 use Rattle.swh_fastmeaning.specs.Making.{made_from, made}
@@ -47,7 +48,8 @@ module _ (id : Kind → List ℕ → List ℕ) where
     pub all : (m : Made) → Makes id making m → Contains new.given m
     pub fresh : AreNew old.given objects
 
-  -- One of the bodies that are made has this many bytes, above the limit.
+  -- One of the bodies that are made has this many bytes, above the limit, and is the first such: contents come in the order
+  -- of their lines, then the directories, of which any may be told, and last the revision.
   pub record IsTooLong (found : Result Making Missing) (number : ℕ) : Type 0 where
     pub making : Making
     pub is : found ≡ Ok making
@@ -55,6 +57,11 @@ module _ (id : Kind → List ℕ → List ℕ) where
     pub makes : Makes id making object
     pub long : number ≡ length object.body
     pub above : body_limit < number
+    pub before : List Made
+    pub rest : List Made
+    pub cut : making.objects ≡ before ++ rest
+    pub short : AreShort before
+    pub first : ((more : List Made) × (rest ≡ object ∷ more)) ⊎ ((last : Made) × (rest ≡ last ∷ []))
 
   -- It is what is missing, or else the length of a body, unless memory ran out.
   abbrev pub ExplainsFeed : Result Making Missing → FeedFault → Type 0

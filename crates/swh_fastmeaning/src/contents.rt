@@ -8,8 +8,8 @@ use std::alloc::Global;
 use swh_base::{Kind, Memory, Namer};
 use swh_object::{Object, ObjectFault};
 
-/// Contents in the order of making. Where the body of one is above the limit, its length is kept and no further object is
-/// made.
+/// Contents in the order of making. Where the body of one is above the limit, the length of the first such is kept and no
+/// further object is made.
 #[derive(Drop)]
 pub struct Contents<N: Namer> {
     pub objects: Vec<Object<N>>,

@@ -19,6 +19,7 @@ use Rattle.swh_fastrows.specs.Places.{Place, left, Took}
 use Rattle.swh_fastrows.specs.Within.{LinePasses, DataPasses, LineFits, Fits, AllFit}
 use Rattle.swh_fastrows.proofs.HeldLines.{data_counts}
 use Rattle.swh_fastrows.proofs.Joins.{placed-append, rows-append, fit-append, joined}
+use Rattle.swh_fastread.specs.Steps.{IsStreamBefore}
 use Rattle.swh_fastread.proofs.Onward.{stops_inside}
 use Rattle.swh_fastread.proofs.Outcomes.{sizes}
 
@@ -136,7 +137,7 @@ comment_end at p rows x cs place good n f = record {
 }
 
 -- Comments in front of what is within the limits.
-comment_stream_within : (at : ℕ) (p : Bool) (rows : List Row) (x : List ℕ) (cs : List Command) → AreRows rows x → AllFit at rows x → placed at rows ≡ [] → IsStreamWithin (at + length (text_of rows)) p x cs → IsStreamWithin at p (text_of rows ++ x) cs
+abbrev comment_stream_within : (at : ℕ) (p : Bool) (rows : List Row) (x : List ℕ) (cs : List Command) → AreRows rows x → AllFit at rows x → placed at rows ≡ [] → IsStreamWithin (at + length (text_of rows)) p x cs → IsStreamWithin at p (text_of rows ++ x) cs
 comment_stream_within at p rows x cs good fit n w = record {
   stream = comment_stream at p rows x x cs good n w.stream;
   fit = fit-append at rows w.stream.rows w.stream.ending (subst (AllFit at rows) w.stream.spelled fit) w.fit;
@@ -190,8 +191,11 @@ comment_limit at p rows x cs which number good fit n g = record {
 }
 
 -- Comments in front of the end of a stream.
-pub comments_end : (a b : Place) (p : Bool) → Took a b [] → IsStreamWithin b.at p (left b) [] → IsStreamWithin a.at p (left a) []
-comments_end a b p t w = subst (λ (z : List ℕ). IsStreamWithin a.at p z []) (sym t.spelled) (comment_stream_within a.at p t.rows (left b) [] t.good t.fit t.those (subst (λ (k : ℕ). IsStreamWithin k p (left b) []) t.here w))
+pub comments_end : (a b : Place) (p : Bool) (ending : List ℕ) → Took a b [] → IsStreamBefore b.at p (left b) [] ending → IsStreamBefore a.at p (left a) [] ending
+comments_end a b p ending t w =
+    let v : IsStreamBefore (a.at + length (text_of t.rows)) p (left b) [] ending = subst (λ (k : ℕ). IsStreamBefore k p (left b) [] ending) t.here w in
+    let all : IsStreamBefore a.at p (text_of t.rows ++ left b) [] ending = record { stream = comment_stream_within a.at p t.rows (left b) [] t.good t.fit t.those v.stream; ends = v.ends } in
+    subst (λ (z : List ℕ). IsStreamBefore a.at p z [] ending) (sym t.spelled) all
 
 -- Comments in front of a failure.
 pub comments_explain : (a b : Place) (p : Bool) (fail : ReadFail) → Took a b [] → Explains b p fail → Explains a p fail

@@ -17,6 +17,7 @@ use Rattle.swh_fastrows.specs.Outcome.{IsStreamWithin, IsLineFaultWithin, IsEndF
 use Rattle.swh_fastrows.specs.Places.{Position}
 use Rattle.swh_fastrows.specs.Within.{FirstLine, LinePasses, DataPasses, LineFits, Fits, AllFit}
 use Rattle.swh_fastread.proofs.Broken.{done_closed}
+use Rattle.swh_fastread.specs.Steps.{IsStreamBefore}
 use Rattle.swh_fastrows.proofs.Fitting.{one_line, closed_fits, endless_fits}
 use Rattle.swh_fastrows.proofs.Joins.{fit-append, rows-next, allows-line}
 use Rattle.swh_fastread.proofs.Onward.{Spelled, prepend, line_more, end_more, reaches_more}
@@ -30,7 +31,7 @@ first_fits n [] rest h k = subst (λ (m : ℕ). LineFits m rest) (omega arith) k
 first_fits n (r ∷ rows) rest h k = h.0.line
 
 -- an item's rows in front of what is a stream
-pub stream_more : (at : ℕ) (p : Bool) (text : List ℕ) (rows : List Row) (x : List ℕ) (i : Item) (cs : List Command) → text ≡ text_of rows ++ x → AreRows rows x → AllFit at rows x → IsItem (placed at rows) i → IsStreamWithin (at + length (text_of rows)) (p || is_promise i) x cs → IsStreamWithin at p text (commands_of (i ∷ []) ++ cs)
+abbrev pub stream_more : (at : ℕ) (p : Bool) (text : List ℕ) (rows : List Row) (x : List ℕ) (i : Item) (cs : List Command) → text ≡ text_of rows ++ x → AreRows rows x → AllFit at rows x → IsItem (placed at rows) i → IsStreamWithin (at + length (text_of rows)) (p || is_promise i) x cs → IsStreamWithin at p text (commands_of (i ∷ []) ++ cs)
 stream_more at p text rows x i cs e good fit h w = record {
   stream = prepend at p text rows x i cs e good h w.stream;
   fit = fit-append at rows w.stream.rows w.stream.ending (subst (AllFit at rows) w.stream.spelled fit) w.fit;
@@ -109,6 +110,13 @@ Carries P = (a b : Position) (i : Item) (cs : List Command) → Starts a b i →
 pub stream_carries : Carries (λ b cs. IsStreamWithin b.at b.promised b.left cs)
 stream_carries a b i cs s w =
     stream_more a.at a.promised a.left s.rows b.left i cs s.spelled s.good s.fit s.said (subst (λ (n : ℕ). IsStreamWithin n (a.promised || is_promise i) b.left cs) s.here (subst (λ (q : Bool). IsStreamWithin b.at q b.left cs) s.promised w))
+
+-- the same, with what stands behind the last row
+pub before_carries : (ending : List ℕ) → Carries (λ b cs. IsStreamBefore b.at b.promised b.left cs ending)
+before_carries ending a b i cs s w =
+    let v : IsStreamBefore (a.at + length (text_of s.rows)) (a.promised || is_promise i) b.left cs ending =
+    subst (λ (n : ℕ). IsStreamBefore n (a.promised || is_promise i) b.left cs ending) s.here (subst (λ (q : Bool). IsStreamBefore b.at q b.left cs ending) s.promised w) in
+    record { stream = stream_more a.at a.promised a.left s.rows b.left i cs s.spelled s.good s.fit s.said v.stream; ends = v.ends }
 
 pub fault_carries : (place : ℕ) (why : StreamWhy) → Carries (λ b cs. IsFaultWithin b.at b.promised b.left cs place why)
 fault_carries place why a b i cs s f =

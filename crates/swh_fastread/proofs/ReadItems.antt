@@ -6,7 +6,7 @@ use Rattle.swh_fastgrammar.specs.declared.command.Command.{Command as Said}
 use Rattle.swh_fastgrammar.specs.declared.command.Command.TheVariants.{Blob, Commit, Tag, Reset}
 use Rattle.swh_fastgrammar.specs.declared.fault.StreamWhy.TheVariants.{Grammar, LeftOut}
 use Rattle.swh_fastgrammar.specs.Fault.{is_left_out}
-use Rattle.swh_fastgrammar.specs.Grammar.{line_at, Item, IsItem, IsCommand, is_promise, commands_of}
+use Rattle.swh_fastgrammar.specs.Grammar.{line_at, Item, IsItem, IsCommand, is_promise, commands_of, IsStream}
 use Rattle.swh_fastgrammar.specs.Grammar.Item.{Says, Promise as Promises, Nothing as Silent}
 use Rattle.swh_fastgrammar.specs.Row.{text_of, Opens, Placed}
 use Rattle.swh_fastgrammar.proofs.Faults.{append_nil}
@@ -23,7 +23,7 @@ use Rattle.swh_fastrows.specs.Explains.{Explains, Reads, Stops, line_refusal}
 use Rattle.swh_fastrows.specs.Held.{IsNext, EndsNext}
 use Rattle.swh_fastrows.specs.Outcome.{IsStreamWithin, IsLineFaultWithin, IsEndFaultWithin, IsFaultWithin, PassesFirst, Ended, Starts}
 use Rattle.swh_fastrows.specs.Places.{Place, left, Took, position}
-use Rattle.swh_fastread.specs.Steps.{Whole, Passed, FindsCommand, EndsHere, FindsStep}
+use Rattle.swh_fastread.specs.Steps.{IsStreamBefore, Whole, Passed, FindsCommand, EndsHere, FindsStep}
 use Rattle.swh_fastrows.specs.Within.{LineFits, Fits}
 use Rattle.swh_fastread.proofs.Broken.{Unfinished, line_within, end_within, limit_first, no_row}
 use Rattle.swh_fastread.proofs.Comments.{comments_end, comments_explain}
@@ -31,7 +31,7 @@ use Rattle.swh_fastrows.proofs.Fitting.{endless_fits}
 use Rattle.swh_fastrows.proofs.HeldLines.{taken, front_of, held_text, held_first, line_taken, next_fits, ending_fits}
 use Rattle.swh_fastrows.proofs.Joins.{plain, plain_row, or-true, or-false, took_none, took_after}
 use Rattle.swh_fastrows.proofs.NextLines.{closed_word, end_feeds}
-use Rattle.swh_fastread.proofs.Outcomes.{stream_carries, fault_carries, limit_carries, carries_with, starts_join}
+use Rattle.swh_fastread.proofs.Outcomes.{before_carries, fault_carries, limit_carries, carries_with, starts_join}
 
 -- a failure after what was passed
 pub explains_passed : (a b : Place) (p q : Bool) (fail : ReadFail) → Passed a b p q → Explains b q fail → Explains a p fail
@@ -43,8 +43,11 @@ explains_passed a b p q Memory f e = tt
 pub command_passed : (a b c : Place) (p q : Bool) (command : Said) → Passed a b p q → Reads IsCommand b c command → FindsCommand a c p q command
 command_passed a b c p q command f r = record { first = b; passed = f; reads = r }
 
-pub ends_passed : (a b : Place) (p q : Bool) → Passed a b p q → EndsHere b q → EndsHere a p
-ends_passed a b p q f e = carries_with (λ n cs. IsStreamWithin n.at n.promised n.left cs) stream_carries (position a p) (position b q) [] [] f e
+pub ends_passed : (a b c : Place) (p q : Bool) → Passed a b p q → EndsHere b c q → EndsHere a c p
+ends_passed a b c p q f e = record {
+  stream = carries_with (λ n cs. IsStreamBefore n.at n.promised n.left cs (left c)) (before_carries (left c)) (position a p) (position b q) [] [] f e.stream;
+  held = e.held;
+}
 
 -- An item that was read starts the text.
 item_starts : (a b : Place) (i : Item) → Whole a b i → (p q : Bool) → q ≡ p || is_promise i → Starts (position a p) (position b q) i
@@ -77,7 +80,7 @@ step_passed : (a b c : Place) (p : Bool) (step : Step) → Took a b [] → Finds
 step_passed a b c p (Command command) t r = record { rows = r.rows; took = took_after a b c r.rows t r.took; says = r.says; closed = r.closed }
 step_passed a b c p Promise t f = whole_after a b c Promises t f
 step_passed a b c p Nothing t f = whole_after a b c Silent t f
-step_passed a b c p End t f = comments_end a b p t f
+step_passed a b c p End t f = record { stream = comments_end a b p (left c) t f.stream; held = f.held }
 
 pub ok_passed : (a b c : Place) (p : Bool) (r : Result Step ReadFail) → Took a b [] → IfOk r (FindsStep b c p) → IfOk r (FindsStep a c p)
 ok_passed a b c p (Ok step) t f = step_passed a b c p step t f
@@ -137,29 +140,33 @@ silent_taken a line n e says =
     record { part = row; took = t; is_item = item; ended = silent_ended (line_at a.at line) Silent (omega arith) item (left (taken a)) }
 
 -- the line that ends the stream
-pub done_ends : (a : Place) (line : List ℕ) → IsNext a → a.held ≡ line ++ 10 ∷ [] → line ≡ codes "done" → (p : Bool) → EndsHere a p
-done_ends a line n e same p = record {
-  stream = record {
-    rows = [];
-    ending = left a;
-    spelled = refl;
-    whole = record { items = []; good = tt; said = refl; ends = inr (a.rest, held_text a line e ∙ ap (λ (x : List ℕ). x ++ 10 ∷ a.rest) same); these = refl };
-  };
-  fit = tt;
-  end_fits = let same_at : a.at ≡ a.at + length (text_of []) = omega arith in subst (λ (k : ℕ). LineFits k (left a)) same_at (next_fits a line n e);
-}
+pub done_ends : (a : Place) (line : List ℕ) → IsNext a → a.held ≡ line ++ 10 ∷ [] → line ≡ codes "done" → (p : Bool) → EndsHere a a p
+done_ends a line n e same p =
+    let stream : IsStream a.at p (left a) [] = record {
+      rows = [];
+      ending = left a;
+      spelled = refl;
+      whole = record { items = []; good = tt; said = refl; ends = inr (a.rest, held_text a line e ∙ ap (λ (x : List ℕ). x ++ 10 ∷ a.rest) same); these = refl };
+    } in
+    let same_at : a.at ≡ a.at + length (text_of []) = omega arith in
+    record {
+      stream = record { stream = record { stream = stream; fit = tt; end_fits = subst (λ (k : ℕ). LineFits k (left a)) same_at (next_fits a line n e) }; ends = refl };
+      held = inr (e ∙ ap (λ (x : List ℕ). x ++ 10 ∷ []) same);
+    }
 
 pub empty : (x : List ℕ) → length x ≤ 0 → x ≡ []
 empty [] h = refl
 empty (c ∷ x) h = absurd (omega (arith, h))
 
 -- the end of the input where nothing is held
-pub input_ends : (a : Place) → EndsNext a → left a ≡ [] → EndsHere a false
-input_ends a n e = record {
-  stream = record { rows = []; ending = left a; spelled = refl; whole = record { items = []; good = tt; said = refl; ends = inl (e, refl); these = refl } };
-  fit = tt;
-  end_fits = let same_at : a.at ≡ a.at + length (text_of []) = omega arith in subst (λ (k : ℕ). LineFits k (left a)) same_at (ending_fits a n);
-}
+pub input_ends : (a : Place) → EndsNext a → left a ≡ [] → EndsHere a a false
+input_ends a n e =
+    let stream : IsStream a.at false (left a) [] = record { rows = []; ending = left a; spelled = refl; whole = record { items = []; good = tt; said = refl; ends = inl (e, refl); these = refl } } in
+    let same_at : a.at ≡ a.at + length (text_of []) = omega arith in
+    record {
+      stream = record { stream = record { stream = stream; fit = tt; end_fits = subst (λ (k : ℕ). LineFits k (left a)) same_at (ending_fits a n) }; ends = refl };
+      held = inl e;
+    }
 
 -- No rows are no item, and some rows are one.
 none_unfinished : Unfinished []

@@ -24,7 +24,7 @@ pub record LeadsOn (old new : Standing) (command : Command) : Type 0 where
 
 -- the next command, or none where the stream has none any more
 abbrev pub Answers : Standing → Standing → Option Command → Type 0
-Answers old new None = EndsHere old.place old.promised
+Answers old new None = EndsHere old.place new.place old.promised
 Answers old new (Some command) = LeadsOn old new command
 
 -- how a reader stands after an answer

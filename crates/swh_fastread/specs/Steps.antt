@@ -1,5 +1,5 @@
 -- What stands at a command's place, and what was passed on the way to it.
-use Rattle.std.specs.Prelude.{◌<◌, ◌≤◌, Bool, List, [], Option, Some, None}
+use Rattle.std.specs.Prelude.{◌≡◌, ◌⊎◌, ℕ, ◌<◌, ◌≤◌, Bool, List, [], ◌∷◌, ◌++◌, Option, Some, None, codes}
 use Rattle.swh_fastgrammar.specs.declared.command.Command.{Command as Said}
 use Rattle.swh_fastgrammar.specs.Givable.{IsGivable}
 use Rattle.swh_fastgrammar.specs.Grammar.{Item, IsItem, IsCommand}
@@ -29,20 +29,31 @@ pub record FindsCommand (old new : Place) (before after : Bool) (command : Said)
   pub passed : Passed old first before after
   pub reads : Reads IsCommand first new command
 
--- From here on the stream has no commands.
-abbrev pub EndsHere : Place → Bool → Type 0
-EndsHere old promised = IsStreamWithin old.at promised (left old) []
+-- From this place on the text is a stream of these commands, within the limits, and this stands behind its last row:
+-- nothing, or the line `done` and what follows it.
+pub record IsStreamBefore (at : ℕ) (promised : Bool) (text : List ℕ) (commands : List Said) (ending : List ℕ) : Type 0 where
+  pub stream : IsStreamWithin at promised text commands
+  pub ends : stream.stream.ending ≡ ending
+
+-- the line that ends a stream
+abbrev pub done_line : List ℕ
+done_line = codes "done" ++ 10 ∷ []
+
+-- From here on the stream has no commands. All of it was read; or its line `done` is held, and nothing behind is.
+pub record EndsHere (old new : Place) (promised : Bool) : Type 0 where
+  pub stream : IsStreamBefore old.at promised (left old) [] (left new)
+  pub held : (left new ≡ []) ⊎ (new.held ≡ done_line)
 
 -- what stands here
 abbrev pub FindsStep : Place → Place → Bool → Step → Type 0
 FindsStep old new promised (Command c) = Reads IsCommand old new c
 FindsStep old new promised Promise = Whole old new Promises
 FindsStep old new promised Nothing = Whole old new Silent
-FindsStep old new promised End = EndsHere old promised
+FindsStep old new promised End = EndsHere old new promised
 
 -- the next command, or none
 abbrev pub FindsNext : Place → Place → Bool → Bool → Option Said → Type 0
-FindsNext old new before after None = EndsHere old before
+FindsNext old new before after None = EndsHere old new before
 FindsNext old new before after (Some c) = FindsCommand old new before after c
 
 -- Rows were taken.

@@ -6,6 +6,7 @@ ghost use Rattle.swh_fastrows.specs.Explains.{EndsWhole};
 ghost use Rattle.swh_fastgrammar.specs.Givable.{IsGivableChange, AreGivable};
 ghost use Rattle.swh_fastgrammar.specs.Grammar.{change};
 ghost use Rattle.swh_fastrows.specs.Held.{IsNext};
+ghost use Rattle.swh_fastrows.specs.Failing.{MayFail};
 ghost use Rattle.swh_fastread.specs.Tail.{FindsChange, ChangeFails, ChangesFail, ReadsAll};
 
 use swh_base::Items;
@@ -19,12 +20,14 @@ fn next_change<S: Source>(rows: &mut Rows<S>) -> Result<Option<At<Change>>, Read
     requires next { IsNext rows.old }
     ensures change { S.tells → IfOk result (FindsChange rows.old rows.new) }
     ensures fails { S.tells → IfErr result (ChangeFails rows.old) }
+    ensures may { IfErr result MayFail }
     ensures givable { IfOk result (λ found. IfSome found (λ a. IsGivableChange a.it)) }
     ensures onward { IfOk result (λ found. IfSome found (λ _. rows.old.at < rows.new.at)) }
     ensures never_back { IfOk result (λ _. rows.old.at ≤ rows.new.at) }
 
     ensures same_path { rows.new.path ≡ rows.old.path }
     ensures later { rows.old.faults ≤ rows.new.faults }
+    ensures quiet { IfOk result (λ _. rows.new.faults ≡ rows.old.faults) }
     ensures cause { IsErrOf result SourceFailed → Rose rows.old.faults rows.new.faults }
 {
     let at = rows.at();
@@ -54,6 +57,7 @@ pub fn read_changes<S: Source>(
     requires end { S.tells → next ≡ false → EndsWhole rows.old }
     ensures changes { S.tells → IfOk result (ReadsAll change rows.old rows.new false) }
     ensures fails { S.tells → IfErr result (ChangesFail rows.old) }
+    ensures may { IfErr result MayFail }
     ensures onward { IfOk result (λ _. rows.old.at ≤ rows.new.at) }
     ensures givable { IfOk result AreGivable }
     ensures some { IfErr result (λ _. next ≡ true) }
@@ -61,6 +65,7 @@ pub fn read_changes<S: Source>(
 
     ensures same_path { rows.new.path ≡ rows.old.path }
     ensures later { rows.old.faults ≤ rows.new.faults }
+    ensures quiet { IfOk result (λ _. rows.new.faults ≡ rows.old.faults) }
     ensures cause { IsErrOf result SourceFailed → Rose rows.old.faults rows.new.faults }
 {
     let mut changes = Vec::new(rows.alloc());

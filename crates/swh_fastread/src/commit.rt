@@ -6,6 +6,7 @@ ghost use Rattle.swh_fastrows.specs.Explains.{Explains, Reads};
 ghost use Rattle.swh_fastgrammar.specs.Givable.{IsGivable};
 ghost use Rattle.swh_fastgrammar.specs.Grammar.{IsCommand};
 ghost use Rattle.swh_fastrows.specs.Held.{IsNext};
+ghost use Rattle.swh_fastrows.specs.Failing.{MayFail};
 ghost use Rattle.swh_fastgrammar.specs.Word.{NamesRef};
 
 use crate::tail::read_tail;
@@ -24,10 +25,12 @@ pub fn read_commit<S: Source>(rows: &mut Rows<S>, branch: Bytes) -> Result<Comma
     ensures givable { IfOk result IsGivable }
     ensures command { S.tells → IfOk result (Reads IsCommand rows.old rows.new) }
     ensures fails { S.tells → IfErr result (λ fail. (p : Bool) → Explains rows.old p fail) }
+    ensures may { IfErr result MayFail }
     ensures onward { IfOk result (λ _. rows.old.at < rows.new.at) }
 
     ensures same_path { rows.new.path ≡ rows.old.path }
     ensures later { rows.old.faults ≤ rows.new.faults }
+    ensures quiet { IfOk result (λ _. rows.new.faults ≡ rows.old.faults) }
     ensures cause { IsErrOf result SourceFailed → Rose rows.old.faults rows.new.faults }
 {
     rows.take();

@@ -5,6 +5,7 @@ ghost use Rattle.swh_fastgrammar.specs.Givable.{IsGivable};
 ghost use Rattle.swh_fastrows.specs.declared.fail.ReadFail.TheVariants.{ReadFault as SourceFailed};
 ghost use Rattle.swh_fastrows.specs.Explains.{Explains};
 ghost use Rattle.swh_fastrows.specs.Held.{IsNext, EndsNext};
+ghost use Rattle.swh_fastrows.specs.Failing.{MayFail};
 ghost use Rattle.swh_fastread.specs.Steps.{FindsStep, FindsNext, Moves, StepGivable};
 
 use crate::blob::read_blob;
@@ -41,11 +42,13 @@ fn held_item<S: Source>(rows: &mut Rows<S>) -> Result<Step, ReadFail>
     requires next { IsNext rows.old }
     ensures item { S.tells → IfOk result (λ step. (p : Bool) → FindsStep rows.old rows.new p step) }
     ensures fails { S.tells → IfErr result (λ fail. (p : Bool) → Explains rows.old p fail) }
+    ensures may { IfErr result MayFail }
     ensures givable { IfOk result StepGivable }
     ensures onward { IfOk result (Moves rows.old rows.new) }
 
     ensures same_path { rows.new.path ≡ rows.old.path }
     ensures later { rows.old.faults ≤ rows.new.faults }
+    ensures quiet { IfOk result (λ _. rows.new.faults ≡ rows.old.faults) }
     ensures cause { IsErrOf result SourceFailed → Rose rows.old.faults rows.new.faults }
 {
     match item_line(rows.alloc(), rows.line())? {
@@ -76,6 +79,7 @@ fn end_of_input<S: Source>(rows: &Rows<S>, promised: bool) -> Result<Step, ReadF
     requires end { S.tells → EndsNext rows.now }
     ensures item { S.tells → IfOk result (FindsStep rows.now rows.now promised) }
     ensures fails { S.tells → IfErr result (Explains rows.now promised) }
+    ensures may { IfErr result MayFail }
     ensures givable { IfOk result StepGivable }
     ensures onward { IfOk result (Moves rows.now rows.now) }
     ensures cause { IsErrOf result SourceFailed → ⊥ }
@@ -97,11 +101,13 @@ fn end_of_input<S: Source>(rows: &Rows<S>, promised: bool) -> Result<Step, ReadF
 fn read_item<S: Source>(rows: &mut Rows<S>, promised: bool) -> Result<Step, ReadFail>
     ensures item { S.tells → IfOk result (FindsStep rows.old rows.new promised) }
     ensures fails { S.tells → IfErr result (Explains rows.old promised) }
+    ensures may { IfErr result MayFail }
     ensures givable { IfOk result StepGivable }
     ensures onward { IfOk result (Moves rows.old rows.new) }
 
     ensures same_path { rows.new.path ≡ rows.old.path }
     ensures later { rows.old.faults ≤ rows.new.faults }
+    ensures quiet { IfOk result (λ _. rows.new.faults ≡ rows.old.faults) }
     ensures cause { IsErrOf result SourceFailed → Rose rows.old.faults rows.new.faults }
 {
     if peek(rows)? {
@@ -117,9 +123,11 @@ pub fn read_next<S: Source>(rows: &mut Rows<S>, promised: bool) -> Result<Next, 
     ensures onward { IfOk result (λ n. IfSome n.command (λ _. rows.old.at < rows.new.at)) }
     ensures givable { IfOk result (λ n. IfSome n.command IsGivable) }
     ensures fails { S.tells → IfErr result (Explains rows.old promised) }
+    ensures may { IfErr result MayFail }
 
     ensures same_path { rows.new.path ≡ rows.old.path }
     ensures later { rows.old.faults ≤ rows.new.faults }
+    ensures quiet { IfOk result (λ _. rows.new.faults ≡ rows.old.faults) }
     ensures cause { IsErrOf result SourceFailed → Rose rows.old.faults rows.new.faults }
 {
     let mut wants_done = promised;

@@ -5,6 +5,8 @@ ghost use Rattle.swh_fastgrammar.specs.Givable.{IsGivable};
 ghost use Rattle.swh_fastrows.specs.declared.fail.ReadFail.TheVariants.{ReadFault as SourceFailed};
 ghost use Rattle.swh_fastread.specs.declared.reader.Ending.TheVariants.{Open as IsOpen, Refused as IsRefused};
 ghost use Rattle.swh_fastrows.specs.Explains.{Explains};
+ghost use Rattle.swh_fastrows.specs.Places.{HoldsFront};
+ghost use Rattle.swh_fastrows.specs.Failing.{MayFail};
 ghost use Rattle.swh_fastread.specs.Standing.{Answers, Repeats, ending_of};
 ghost use Rattle.swh_fastread.specs.Steps.{FindsNext};
 
@@ -66,10 +68,12 @@ impl<S: Source> Reader<S> {
         ensures givable { IfOk result (λ found. IfSome found IsGivable) }
         ensures onward { IfOk result (λ found. IfSome found (λ _. self.old.place.at < self.new.place.at)) }
         ensures fails { S.tells → IfErr result (Explains self.old.place self.old.promised) }
+        ensures may { IfErr result MayFail }
         ensures ending { self.new.ending ≡ ending_of result }
 
         ensures same_path { self.new.place.path ≡ self.old.place.path }
         ensures later { self.old.place.faults ≤ self.new.place.faults }
+        ensures quiet { IfOk result (λ _. self.new.place.faults ≡ self.old.place.faults) }
         ensures cause { IsErrOf result SourceFailed → Rose self.old.place.faults self.new.place.faults }
     {
         match read_next(&mut self.rows, self.promised) {
@@ -99,11 +103,13 @@ impl<S: Source> Reader<S> {
         ensures givable { IfOk result (λ found. IfSome found IsGivable) }
         ensures onward { IfOk result (λ found. IfSome found (λ _. self.old.place.at < self.new.place.at)) }
         ensures fails { S.tells → self.old.ending ≡ IsOpen → IfErr result (Explains self.old.place self.old.promised) }
+        ensures may { self.old.ending ≡ IsOpen → IfErr result MayFail }
         ensures ending { self.new.ending ≡ ending_of result }
         ensures again { Repeats self.old.ending self.old self.new result }
 
         ensures same_path { self.new.place.path ≡ self.old.place.path }
         ensures later { self.old.place.faults ≤ self.new.place.faults }
+        ensures quiet { IfOk result (λ _. self.new.place.faults ≡ self.old.place.faults) }
         ensures cause { IsErrOf result SourceFailed → (self.old.ending ≡ IsRefused SourceFailed)
             ⊎ Rose self.old.place.faults self.new.place.faults }
     {
@@ -122,10 +128,11 @@ impl<S: Source> Reader<S> {
         self.rows.place()
     }
 
-    /// The source, which may have given more than was read.
+    /// The source, which may have given more than was read, by a window at most.
     pub fn close(self) -> S
         ensures faults { S.faults result ≡ self.place.faults }
         ensures path { S.path result ≡ self.place.path }
+        ensures left { HoldsFront self.place.rest (S.left result) }
     {
         let Reader { rows, .. } = self;
         rows.back()

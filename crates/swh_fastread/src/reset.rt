@@ -23,6 +23,7 @@ fn reset_target<S: Source>(rows: &mut Rows<S>) -> Result<Start, Outside>
 
     ensures same_path { rows.new.path ≡ rows.old.path }
     ensures later { rows.old.faults ≤ rows.new.faults }
+    ensures quiet { IfOk result (λ _. rows.new.faults ≡ rows.old.faults) }
     ensures cause { IsErrOf result Failed → Rose rows.old.faults rows.new.faults }
 {
     if !next_line(rows)? {
@@ -56,6 +57,7 @@ pub fn read_reset<S: Source>(rows: &mut Rows<S>, branch: Bytes) -> Result<Comman
 
     ensures same_path { rows.new.path ≡ rows.old.path }
     ensures later { rows.old.faults ≤ rows.new.faults }
+    ensures quiet { IfOk result (λ _. rows.new.faults ≡ rows.old.faults) }
     ensures cause { IsErrOf result Failed → Rose rows.old.faults rows.new.faults }
 {
     rows.take();

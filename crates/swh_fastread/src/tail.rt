@@ -8,6 +8,7 @@ ghost use Rattle.swh_fastgrammar.specs.Givable.{AreGivable};
 ghost use Rattle.swh_fastgrammar.specs.Grammar.{placed_line, start_of};
 ghost use Rattle.swh_fastgrammar.specs.Word.{NamesCommit};
 ghost use Rattle.swh_fastrows.specs.Held.{IsNext};
+ghost use Rattle.swh_fastrows.specs.Failing.{MayFail};
 ghost use Rattle.swh_fastread.specs.Tail.{ReadsFrom, ReadsAll, ReadsStart, TailFails};
 
 use crate::changes::read_changes;
@@ -57,6 +58,7 @@ fn read_parent<S: Source>(rows: &mut Rows<S>) -> Result<Parent, Outside>
 
     ensures same_path { rows.new.path ≡ rows.old.path }
     ensures later { rows.old.faults ≤ rows.new.faults }
+    ensures quiet { IfOk result (λ _. rows.new.faults ≡ rows.old.faults) }
     ensures cause { IsErrOf result Failed → Rose rows.old.faults rows.new.faults }
 {
     if !next_line(rows)? {
@@ -94,6 +96,7 @@ fn read_merges<S: Source>(rows: &mut Rows<S>, next: bool) -> Result<Merges, Outs
 
     ensures same_path { rows.new.path ≡ rows.old.path }
     ensures later { rows.old.faults ≤ rows.new.faults }
+    ensures quiet { IfOk result (λ _. rows.new.faults ≡ rows.old.faults) }
     ensures cause { IsErrOf result Failed → Rose rows.old.faults rows.new.faults }
 {
     let mut merges = Vec::new(rows.alloc());
@@ -121,10 +124,12 @@ pub fn read_tail<S: Source>(rows: &mut Rows<S>) -> Result<Tail, ReadFail>
     ensures tail { S.tells → IfOk result (λ t. ReadsStart rows.old rows.new t.parent t.merges t.changes) }
     ensures givable { IfOk result (λ t. AreGivable t.changes) }
     ensures fails { S.tells → IfErr result (TailFails rows.old) }
+    ensures may { IfErr result MayFail }
     ensures onward { IfOk result (λ _. rows.old.at ≤ rows.new.at) }
 
     ensures same_path { rows.new.path ≡ rows.old.path }
     ensures later { rows.old.faults ≤ rows.new.faults }
+    ensures quiet { IfOk result (λ _. rows.new.faults ≡ rows.old.faults) }
     ensures cause { IsErrOf result SourceFailed → Rose rows.old.faults rows.new.faults }
 {
     let parent = read_parent(rows)?;

@@ -1,7 +1,8 @@
 use std::alloc::{AllocError, Global};
+use std::process::Abort;
 use std::test::Fail;
 use swh_base::Which;
-use swh_fastgrammar::{Change, Command, Commitish, Dataref, Start, StreamWhy};
+use swh_fastgrammar::StreamWhy::{self, End, Grammar, LeftOut};
 use swh_fastlex::Window;
 use swh_fastread::{ReadFail, Reader};
 use swh_memory_input::MemorySource;
@@ -9,183 +10,31 @@ use swh_memory_input::MemorySource;
 /// A reader of these bytes, which come in pieces of a size; the calls with these numbers fail.
 fn reader_of(
     alloc: Global,
-    bytes: &[u8],
+    bytes: Vec<u8>,
     piece: usize,
     failing: &[u64],
 ) -> Result<Reader<MemorySource>, AllocError> {
-    let bytes = Vec::from_slice(alloc, bytes)?;
     let failing = Vec::from_slice(alloc, failing)?;
     let source = MemorySource::new(String::new(alloc), bytes, piece, failing);
     let window = Window::new(alloc)?;
     Ok(Reader::new(alloc, window, source))
 }
 
-/// What a reader told before it ended.
-#[derive(Clone, Copy, Debug, PartialEq, Eq)]
-struct Outcome {
-    commands: u64,
-    fail: Option<ReadFail>,
-}
-
-/// What a reader of these bytes tells.
-fn read_all(alloc: Global, bytes: &[u8], piece: usize) -> Result<Outcome, AllocError> {
-    let mut reader = reader_of(alloc, bytes, piece, &[])?;
+/// How many commands are read, no more than 64, and why no more are, where it is not the end of the stream.
+fn read_all(reader: &mut Reader<MemorySource>) -> (u64, Option<ReadFail>) {
     let mut commands: u64 = 0;
     for _ in 0..64 {
         match reader.next_command() {
             Ok(Some(_)) => commands = commands.saturating_add(1),
-            Ok(None) => {
-                return Ok(Outcome {
-                    commands,
-                    fail: None,
-                });
-            }
-            Err(fail) => {
-                return Ok(Outcome {
-                    commands,
-                    fail: Some(fail),
-                });
-            }
+            Ok(None) => return (commands, None),
+            Err(fail) => return (commands, Some(fail)),
         }
     }
-    Ok(Outcome {
-        commands,
-        fail: None,
-    })
+    (commands, None)
 }
 
-fn reads(commands: u64) -> Outcome {
-    Outcome {
-        commands,
-        fail: None,
-    }
-}
-
-fn faulty(commands: u64, at: u64, why: StreamWhy) -> Outcome {
-    Outcome {
-        commands,
-        fail: Some(ReadFail::BadStream { at, why }),
-    }
-}
-
-/// The first command of these bytes.
-fn first_of(alloc: Global, bytes: &[u8]) -> Result<Option<Command>, AllocError> {
-    let mut reader = reader_of(alloc, bytes, 65_536, &[])?;
-    match reader.next_command() {
-        Ok(found) => Ok(found),
-        Err(_) => Ok(None),
-    }
-}
-
-/// Whether a commit starts from this mark, named at this place.
-fn starts_from(parent: &Start, at: u64, mark: u64) -> bool {
-    match parent {
-        Start::Of(from) => match &from.it {
-            Commitish::Mark(named) => from.at == at && *named == mark,
-            Commitish::Branch(_) => false,
-        },
-        Start::Absent => false,
-        Start::NoTip => false,
-    }
-}
-
-/// Whether the command is a commit with this message, which starts from this mark, named at this place.
-fn follows(command: &Command, text: &[u8], at: u64, mark: u64) -> bool {
-    match command {
-        Command::Commit {
-            message,
-            parent,
-            ..
-        } => { message.as_slice() == text && starts_from(parent, at, mark) }
-        Command::Blob { .. } => false,
-        Command::Tag { .. } => false,
-        Command::Reset { .. } => false,
-    }
-}
-
-/// A line may follow data at once, without an LF between.
-#[test]
-fn a_line_directly_after_data(rt: HostRuntime) -> Result<(), Fail> {
-    let bytes = b"commit n\ncommitter A <a> 1 +0000\ndata 3\nabcfrom :2\n";
-    match first_of(rt.alloc(), bytes)? {
-        Some(command) => assert!(rt; follows(&command, b"abc", 43, 2)),
-        None => assert!(rt; false),
-    }
-    Ok(())
-}
-
-/// Whether a change sets this path to these inline bytes.
-fn sets_inline(change: &Change, path: &[u8], bytes: &[u8]) -> bool {
-    match change {
-        Change::Set {
-            mode,
-            what,
-            path: named,
-        } => match what {
-            Dataref::Inline(inline) => *mode == 100_644
-                && named.as_slice() == path
-                && inline.as_slice() == bytes,
-            Dataref::Mark(_) => false,
-            Dataref::Hex(_) => false,
-        },
-        Change::Delete { .. } => false,
-        Change::Copy { .. } => false,
-        Change::Move { .. } => false,
-        Change::Clear => false,
-    }
-}
-
-/// Whether the command is a commit whose one change sets this path to these inline bytes.
-fn sets_alone(command: &Command, path: &[u8], bytes: &[u8]) -> bool {
-    match command {
-        Command::Commit { changes, .. } => match changes.as_slice() {
-            [change] => sets_inline(&change.it, path, bytes),
-            _ => false,
-        },
-        Command::Blob { .. } => false,
-        Command::Tag { .. } => false,
-        Command::Reset { .. } => false,
-    }
-}
-
-/// Octal digits between quotes are the bytes that they name.
-#[test]
-fn a_quoted_path(rt: HostRuntime) -> Result<(), Fail> {
-    let bytes =
-        b"commit n\ncommitter A <a> 1 +0000\ndata 0\nM 644 inline \"caf\\303\\251\"\ndata 1\nx";
-    match first_of(rt.alloc(), bytes)? {
-        Some(command) => assert!(rt; sets_alone(&command, b"caf\xc3\xa9", b"x")),
-        None => assert!(rt; false),
-    }
-    Ok(())
-}
-
-#[test]
-fn a_promise_not_kept(rt: HostRuntime) -> Result<(), Fail> {
-    let alloc = rt.alloc();
-    assert_eq!(rt;
-        read_all(alloc, b"feature done\n", 3)?,
-        faulty(0, 13, StreamWhy::End)
-    );
-    assert_eq!(rt;
-        read_all(alloc, b"feature done\nblob\ndata 0\n", 3)?,
-        faulty(1, 25, StreamWhy::End)
-    );
-    Ok(())
-}
-
-#[test]
-fn nothing_counts_behind_done(rt: HostRuntime) -> Result<(), Fail> {
-    let alloc = rt.alloc();
-    assert_eq!(rt; read_all(alloc, b"done\nfoo\nbar", 3)?, reads(0));
-    assert_eq!(rt; read_all(alloc, b"feature done\ndone\n", 1)?, reads(0));
-    assert_eq!(rt; read_all(alloc, b"done", 1)?, faulty(0, 4, StreamWhy::End));
-    assert_eq!(rt;
-        read_all(alloc, b"done \n", 1)?,
-        faulty(0, 0, StreamWhy::Grammar)
-    );
-    Ok(())
-}
+/// A stream, the size of its pieces, how many commands it has, and its fault with the place.
+type Row = (&'static [u8], usize, u64, Option<(u64, StreamWhy)>);
 
 /// A stream of each command, with each part of it, that promises `done`.
 const WHOLE: &[u8] =
@@ -195,11 +44,77 @@ merge o\ndeleteall\nM 644 :1 a\nM 755 inline b/c\ndata 1\nx\nM 160000 0123456789
 D a\nC b d\nR d \"e\"\ntag t\nmark :3\nfrom :2\noriginal-oid o\ntagger A <a> 1 +0000\ndata 0\n\nreset n\nfrom \
 0000000000000000000000000000000000000000\n\ncheckpoint\ndone\n";
 
+/// A comment before each line of a commit.
+const COMMENTS: &[u8] =
+    b"#\ncommit n\n#a\nmark :1\n##\ncommitter A <a> 1 +0000\n#from :1\n#\ndata 1\nx\n#\nfrom :2\n# \nmerge :3\n#\n\
+M 644 inline a\n#data\ndata 1\ny\n#\nD b\n#";
+
+const ROWS: &[Row] = &[
+    (b"", 3, 0, None),
+    (WHOLE, 1, 4, None),
+    (WHOLE, 2, 4, None),
+    (WHOLE, 3, 4, None),
+    (WHOLE, 65_536, 4, None),
+    (COMMENTS, 2, 1, Some((130, End))),
+    // A line may follow data at once.
+    (
+        b"commit n\ncommitter A <a> 1 +0000\ndata 3\nabcfrom :2\n",
+        9,
+        1,
+        None,
+    ),
+    // A promise that is not kept, and what stands behind `done`.
+    (b"feature done\n", 3, 0, Some((13, End))),
+    (b"feature done\nblob\ndata 0\n", 3, 1, Some((25, End))),
+    (b"done\nfoo\nbar", 3, 0, None),
+    (b"feature done\ndone\n", 1, 0, None),
+    (b"done", 1, 0, Some((4, End))),
+    (b"done \n", 1, 0, Some((0, Grammar))),
+    // Lines that are left out.
+    (b"N inline :1\n", 9, 0, Some((0, LeftOut))),
+    (b"ls x\n", 9, 0, Some((0, LeftOut))),
+    (b"cat-blob :1\n", 9, 0, Some((0, LeftOut))),
+    (b"get-mark :1\n", 9, 0, Some((0, LeftOut))),
+    (b"option git quiet\n", 9, 0, Some((0, LeftOut))),
+    (b"alias\n", 9, 0, Some((0, LeftOut))),
+    (b"gpgsig sha1 openpgp\n", 9, 0, Some((0, LeftOut))),
+    (b"M 040000 x d\n", 9, 0, Some((0, LeftOut))),
+    (b"feature notes\n", 9, 0, Some((0, LeftOut))),
+    // Inside a command, and behind a whole one.
+    (b"blob\nls x\n", 9, 0, Some((5, LeftOut))),
+    (b"blob\nfoo\n", 9, 0, Some((5, Grammar))),
+    (b"reset n\nfrom :0\n", 9, 1, Some((8, Grammar))),
+    (b"tag t\nfrom :1\nD a\n", 9, 0, Some((14, Grammar))),
+    (b"foo", 9, 0, Some((3, End))),
+    // The last parts of a commit have an order.
+    (
+        b"commit n\ncommitter A <a> 1 +0000\ndata 0\nmerge :1\nfrom :2\n",
+        9,
+        1,
+        Some((49, Grammar)),
+    ),
+    (
+        b"commit n\ncommitter A <a> 1 +0000\ndata 0\nD a\nmerge :1\n",
+        9,
+        1,
+        Some((44, Grammar)),
+    ),
+];
+
+fn fault_of(fault: Option<(u64, StreamWhy)>) -> Option<ReadFail> {
+    match fault {
+        Some((at, why)) => Some(ReadFail::BadStream { at, why }),
+        None => None,
+    }
+}
+
 #[test]
-fn each_command_in_pieces(rt: HostRuntime) -> Result<(), Fail> {
+fn streams_and_faults(rt: HostRuntime) -> Result<(), Fail> {
     let alloc = rt.alloc();
-    for piece in [1, 2, 3, 65_536] {
-        assert_eq!(rt; read_all(alloc, WHOLE, piece)?, reads(4));
+    for (number, (bytes, piece, commands, fault)) in ROWS.iter().enumerate() {
+        let mut reader = reader_of(alloc, Vec::from_slice(alloc, bytes)?, *piece, &[])?;
+        let found = read_all(&mut reader);
+        assert_eq!(rt; found, (*commands, fault_of(*fault)), "row {number}");
     }
     Ok(())
 }
@@ -209,120 +124,161 @@ fn each_command_in_pieces(rt: HostRuntime) -> Result<(), Fail> {
 fn each_cut(rt: HostRuntime) -> Result<(), Fail> {
     let alloc = rt.alloc();
     for length in 1..WHOLE.len() {
-        let found = read_all(alloc, &WHOLE[..length], 7)?;
-        let end = Some(ReadFail::BadStream {
-            at: length as u64,
-            why: StreamWhy::End,
-        });
-        assert_eq!(rt; found.fail, end);
+        let mut reader = reader_of(alloc, Vec::from_slice(alloc, &WHOLE[..length])?, 7, &[])?;
+        let (_, fail) = read_all(&mut reader);
+        assert_eq!(rt; fail, fault_of(Some((length as u64, End))), "cut {length}");
     }
     Ok(())
 }
 
-/// A comment before each line of a commit.
-#[test]
-fn comments_between_lines(rt: HostRuntime) -> Result<(), Fail> {
-    let bytes =
-        b"#\ncommit n\n#a\nmark :1\n##\ncommitter A <a> 1 +0000\n#from :1\n#\ndata 1\nx\n#\nfrom :2\n# \nmerge :3\n#\n\
-M 644 inline a\n#data\ndata 1\ny\n#\nD b\n#";
-    let alloc = rt.alloc();
-    assert_eq!(rt; read_all(alloc, bytes, 2)?, faulty(1, 130, StreamWhy::End));
-    Ok(())
+/// A stream's front, how many letters follow it, what stands behind them, how many commands it has, and its failure.
+type Long = (&'static [u8], usize, &'static [u8], u64, Option<ReadFail>);
+
+/// Limits, exact and one above. A limit is told wherever the line stands that passes it; a last line as long as a line may
+/// be passes none.
+const LIMITS: &[Long] = &[
+    (b"reset ", 1_024, b"\n", 1, None),
+    (
+        b"reset ",
+        1_025,
+        b"\n",
+        0,
+        Some(ReadFail::Limit {
+            which: Which::Ref,
+            number: 1_025,
+        }),
+    ),
+    (
+        b"blob\nfrom ",
+        1_025,
+        b"\n",
+        0,
+        Some(ReadFail::Limit {
+            which: Which::Ref,
+            number: 1_025,
+        }),
+    ),
+    (
+        b"data 99999999999\n",
+        0,
+        b"",
+        0,
+        Some(ReadFail::Limit {
+            which: Which::Body,
+            number: 99_999_999_999,
+        }),
+    ),
+    (b"progress ", 1_048_566, b"\n", 0, None),
+    (
+        b"progress ",
+        1_048_567,
+        b"\n",
+        0,
+        Some(ReadFail::Limit {
+            which: Which::Line,
+            number: 1_048_577,
+        }),
+    ),
+    (
+        b"",
+        1_048_576,
+        b"",
+        0,
+        Some(ReadFail::BadStream {
+            at: 1_048_576,
+            why: End,
+        }),
+    ),
+    (
+        b"#",
+        1_048_575,
+        b"",
+        0,
+        Some(ReadFail::BadStream {
+            at: 1_048_576,
+            why: End,
+        }),
+    ),
+    (
+        b"",
+        1_048_577,
+        b"",
+        0,
+        Some(ReadFail::Limit {
+            which: Which::Line,
+            number: 1_048_577,
+        }),
+    ),
+    (
+        b"blob\ndata <<E\n",
+        1_048_576,
+        b"",
+        0,
+        Some(ReadFail::BadStream {
+            at: 1_048_590,
+            why: End,
+        }),
+    ),
+    (
+        b"blob\ndata <<E\n",
+        1_048_576,
+        b"\n",
+        0,
+        Some(ReadFail::Limit {
+            which: Which::Line,
+            number: 1_048_577,
+        }),
+    ),
+];
+
+/// The stream of a row.
+fn long_stream(alloc: Global, row: &Long) -> Result<Vec<u8>, AllocError> {
+    let (front, count, back, _, _) = row;
+    let mut bytes = Vec::from_slice(alloc, front)?;
+    bytes.resize(front.len().saturating_add(*count), b'a')?;
+    bytes.extend_from_slice(back)?;
+    Ok(bytes)
 }
 
 #[test]
-fn each_line_left_out(rt: HostRuntime) -> Result<(), Fail> {
+fn limits(rt: HostRuntime) -> Result<(), Fail> {
     let alloc = rt.alloc();
-    let left_out = faulty(0, 0, StreamWhy::LeftOut);
-    assert_eq!(rt; read_all(alloc, b"N inline :1\n", 9)?, left_out);
-    assert_eq!(rt; read_all(alloc, b"ls x\n", 9)?, left_out);
-    assert_eq!(rt; read_all(alloc, b"cat-blob :1\n", 9)?, left_out);
-    assert_eq!(rt; read_all(alloc, b"get-mark :1\n", 9)?, left_out);
-    assert_eq!(rt; read_all(alloc, b"option git quiet\n", 9)?, left_out);
-    assert_eq!(rt; read_all(alloc, b"alias\n", 9)?, left_out);
-    assert_eq!(rt; read_all(alloc, b"gpgsig sha1 openpgp\n", 9)?, left_out);
-    assert_eq!(rt; read_all(alloc, b"M 040000 x d\n", 9)?, left_out);
-    assert_eq!(rt; read_all(alloc, b"feature notes\n", 9)?, left_out);
+    for (number, row) in LIMITS.iter().enumerate() {
+        let mut reader = reader_of(alloc, long_stream(alloc, row)?, 65_536, &[])?;
+        assert_eq!(rt; read_all(&mut reader), (row.3, row.4), "row {number}");
+    }
     Ok(())
 }
 
-/// A line that is left out inside a command, and one of no command behind a whole one.
-#[test]
-fn faults_inside_and_behind(rt: HostRuntime) -> Result<(), Fail> {
-    let alloc = rt.alloc();
-    assert_eq!(rt;
-        read_all(alloc, b"blob\nls x\n", 9)?,
-        faulty(0, 5, StreamWhy::LeftOut)
-    );
-    assert_eq!(rt;
-        read_all(alloc, b"blob\nfoo\n", 9)?,
-        faulty(0, 5, StreamWhy::Grammar)
-    );
-    assert_eq!(rt;
-        read_all(alloc, b"reset n\nfrom :0\n", 9)?,
-        faulty(1, 8, StreamWhy::Grammar)
-    );
-    assert_eq!(rt;
-        read_all(alloc, b"tag t\nfrom :1\nD a\n", 9)?,
-        faulty(0, 14, StreamWhy::Grammar)
-    );
-    assert_eq!(rt; read_all(alloc, b"foo", 9)?, faulty(0, 3, StreamWhy::End));
-    Ok(())
+/// Checks that the reader answers this now and ever after.
+fn check_still(rt: &impl Abort, reader: &mut Reader<MemorySource>, fail: Option<ReadFail>) {
+    for _ in 0..3 {
+        assert_eq!(rt; read_all(reader), (0, fail));
+    }
 }
 
-/// The order of a commit's last parts.
-#[test]
-fn parts_out_of_order(rt: HostRuntime) -> Result<(), Fail> {
-    let alloc = rt.alloc();
-    let merge_first = b"commit n\ncommitter A <a> 1 +0000\ndata 0\nmerge :1\nfrom :2\n";
-    assert_eq!(rt;
-        read_all(alloc, merge_first, 9)?,
-        faulty(1, 49, StreamWhy::Grammar)
-    );
-    let change_first = b"commit n\ncommitter A <a> 1 +0000\ndata 0\nD a\nmerge :1\n";
-    assert_eq!(rt;
-        read_all(alloc, change_first, 9)?,
-        faulty(1, 44, StreamWhy::Grammar)
-    );
-    Ok(())
-}
+/// A stream, the call that fails, and why no command comes.
+const ENDED: &[(&[u8], &[u64], Option<ReadFail>)] = &[
+    (b"\n", &[], None),
+    (b"blob\ndata 0\n", &[1], Some(ReadFail::ReadFault)),
+    (
+        b"foo\nblob\ndata 0\n",
+        &[],
+        Some(ReadFail::BadStream {
+            at: 0,
+            why: Grammar,
+        }),
+    ),
+];
 
 /// A refused stream stays refused, and so does one whose source failed or that ended.
 #[test]
 fn the_same_ever_after(rt: HostRuntime) -> Result<(), Fail> {
     let alloc = rt.alloc();
-    let mut refused = reader_of(alloc, b"foo\nblob\ndata 0\n", 9, &[])?;
-    let fault = ReadFail::BadStream {
-        at: 0,
-        why: StreamWhy::Grammar,
-    };
-    assert_eq!(rt; refused.next_command().err(), Some(fault));
-    assert_eq!(rt; refused.next_command().err(), Some(fault));
-    let mut failed = reader_of(alloc, b"blob\ndata 0\n", 5, &[1])?;
-    assert_eq!(rt; failed.next_command().err(), Some(ReadFail::ReadFault));
-    assert_eq!(rt; failed.next_command().err(), Some(ReadFail::ReadFault));
-    assert_eq!(rt; failed.close().faults(), 1);
-    Ok(())
-}
-
-/// A ref of 1,024 bytes is one, and a longer one passes the limit by its length.
-#[test]
-fn long_refs(rt: HostRuntime) -> Result<(), Fail> {
-    let alloc = rt.alloc();
-    let mut bytes = Vec::from_slice(alloc, b"reset ")?;
-    for _ in 0..1_024 {
-        bytes.push(b'r')?;
+    for (bytes, failing, fail) in ENDED {
+        let mut reader = reader_of(alloc, Vec::from_slice(alloc, bytes)?, 5, failing)?;
+        check_still(&rt, &mut reader, *fail);
+        assert_eq!(rt; reader.close().faults(), failing.len() as u64);
     }
-    bytes.push(b'\n')?;
-    assert_eq!(rt; read_all(alloc, bytes.as_slice(), 100)?, reads(1));
-    bytes.pop();
-    bytes.push(b'r')?;
-    bytes.push(b'\n')?;
-    let found = read_all(alloc, bytes.as_slice(), 100)?;
-    let over = ReadFail::Limit {
-        which: Which::Ref,
-        number: 1_025,
-    };
-    assert_eq!(rt; found.fail, Some(over));
     Ok(())
 }

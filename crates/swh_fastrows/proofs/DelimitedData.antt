@@ -146,7 +146,7 @@ delimited_fails a c word Data.Line at o n s e = inr (record {
   took = took_none a;
   first = held_first a (line_of word) o.line n.line;
   opens = line_opens word o.not_empty o.one_line;
-  passes = record { bytes = s.bytes; rest = s.front ++ c.rest; opens = opens_lines a word s.bytes (s.front ++ c.rest) o n.line s.lines (s.cut ∙ append_assoc s.bytes s.front c.rest); long = record { front = s.front; rest = c.rest; cut = refl; no_feed = s.no_feed; long = s.long }; count = refl };
+  passes = record { bytes = s.bytes; rest = s.front ++ c.rest; opens = opens_lines a word s.bytes (s.front ++ c.rest) o n.line s.lines (s.cut ∙ append_assoc s.bytes s.front c.rest); long = record { front = s.front; rest = c.rest; cut = refl; no_feed = s.no_feed; long = s.long; more = s.more }; count = refl };
 })
 delimited_fails a c word Data.Body at o n s e = inr (record {
   before = a;

@@ -1,5 +1,5 @@
 -- What comes first in a text and passes no limit: a line, the beginning of one, and data.
-use Rattle.std.proofs.Common.{◌≡◌, ℕ, suc, ◌+◌, ◌<◌, ◌≤◌, inl, inr, false, List, [], ◌∷◌, ◌++◌, length, length-append, Contains, refl, sym, ap, ◌∙◌, subst, arith, append_assoc, codes}
+use Rattle.std.proofs.Common.{◌≡◌, ◌≢◌, ℕ, suc, ◌+◌, ◌<◌, ◌≤◌, inl, inr, false, List, [], ◌∷◌, ◌++◌, length, length-append, Contains, refl, sym, ap, ◌∙◌, subst, arith, append_assoc, codes}
 use Rattle.std.specs.List.{AllByRecursion}
 use Rattle.swh_base.proofs.Splits.{first_split}
 use Rattle.swh_base.specs.Limits.{body_limit, line_limit}
@@ -91,15 +91,19 @@ line_fits at line rest n within short words = fits
 no_first : (text line : List ℕ) → (Contains text 10 → ⊥) → FirstLine text line → ⊥
 no_first text line n f = n (subst (λ (t : List ℕ). Contains t 10) (sym f.spelled) (in_middle line f.rest))
 
+some_bytes : (text : List ℕ) → text ≢ [] → 0 < length text
+some_bytes [] n = absurd (n refl)
+some_bytes (c ∷ text) n = omega arith
+
 -- the beginning of a line, within the limits
-pub front_fits : (at : ℕ) (text : List ℕ) → (Contains text 10 → ⊥) → at + length text ≤ STREAM_LIMIT → length text < line_limit → LineFits at text
+pub front_fits : (at : ℕ) (text : List ℕ) → (Contains text 10 → ⊥) → at + length text ≤ STREAM_LIMIT → length text ≤ line_limit → LineFits at text
 front_fits at text n within short = fits
   where
     over : (number : ℕ) → PassesStream at text number → ⊥
     over number p = let above = p.over in let size = ap length p.cut in omega (arith, above, size, within, length-append p.front p.rest)
 
     long : IsLong text → ⊥
-    long p = let many = p.long in let size = ap length p.cut in omega (arith, many, size, short, length-append p.front p.rest)
+    long p = let many = p.long in let size = ap length p.cut in let more = some_bytes p.rest p.more in omega (arith, many, size, short, more, length-append p.front p.rest)
 
     fits : LineFits at text
     fits Body number p = no_first text p.line n p.first
@@ -169,10 +173,10 @@ counted_fits at text digits n f number within = fits
     fits Ref number p = p
     fits Refs number p = p
 
--- what follows lines and does not go on with one more, within the limit of lines
+-- what follows lines and does not go on with one more, within the limit of lines where more follows it
 pub record Closes (word end : List ℕ) : Type 0 where
   pub other : (line rest : List ℕ) → IsOther word line → end ≡ line ++ 10 ∷ rest → ⊥
-  pub short : (front rest : List ℕ) → (Contains front 10 → ⊥) → end ≡ front ++ rest → length front < line_limit
+  pub short : (front rest : List ℕ) → (Contains front 10 → ⊥) → rest ≢ [] → end ≡ front ++ rest → length front < line_limit
 
 -- some of the lines, and what follows them
 record Among (lines some : List (List ℕ)) (end rest : List ℕ) : Type 0 where
@@ -191,9 +195,9 @@ among word (l ∷ ls) (m ∷ ms) end rest h s k c e =
     let same = ap length cut.0 in
     record { more = a.more; cut = a.cut; fit = a.fit; size = omega (arith, size, same, length-append l (10 ∷ lines_text ls), length-append m (10 ∷ lines_text ms)) }
 
-no_long : (word : List ℕ) (lines : List (List ℕ)) (end front rest : List ℕ) → AllByRecursion IsShortLine lines → Closes word end → (Contains front 10 → ⊥) → lines_text lines ++ end ≡ front ++ rest → length front < line_limit
-no_long word [] end front rest s c n e = c.short front rest n e
-no_long word (l ∷ ls) end front rest s c n e =
+no_long : (word : List ℕ) (lines : List (List ℕ)) (end front rest : List ℕ) → AllByRecursion IsShortLine lines → Closes word end → (Contains front 10 → ⊥) → rest ≢ [] → lines_text lines ++ end ≡ front ++ rest → length front < line_limit
+no_long word [] end front rest s c n more e = c.short front rest n more e
+no_long word (l ∷ ls) end front rest s c n more e =
     let size = front_size front l (lines_text ls ++ end) rest n (sym (append_assoc l (10 ∷ lines_text ls) end) ∙ e) in
     let short = s.0 in
     omega (arith, size, short)
@@ -219,7 +223,7 @@ delimited_fits at text word bytes end f lines e closes short within = fits
     long : (number : ℕ) → LongInside text number → ⊥
     long number p =
         let a = found p.bytes p.rest p.opens in
-        let size = no_long word a.more end p.long.front p.long.rest a.fit closes p.long.no_feed (sym a.cut ∙ p.long.cut) in
+        let size = no_long word a.more end p.long.front p.long.rest a.fit closes p.long.no_feed p.long.more (sym a.cut ∙ p.long.cut) in
         let above = p.long.long in
         omega (arith, size, above)
 
@@ -239,12 +243,12 @@ delimited_fits at text word bytes end f lines e closes short within = fits
 pub word_closes : (word rest : List ℕ) → (Contains word 10 → ⊥) → length word < line_limit → Closes word (word ++ 10 ∷ rest)
 word_closes word rest n short = record {
   other = λ line more o e. o.1 (sym (first_split 10 word line rest more n o.0 e).0);
-  short = λ front more k e. let size = front_size front word rest more k e in omega (arith, size, short);
+  short = λ front more k some e. let size = front_size front word rest more k e in omega (arith, size, short);
 }
 
 -- the input's end does
-pub end_closes : (word front : List ℕ) → (Contains front 10 → ⊥) → length front < line_limit → Closes word front
+pub end_closes : (word front : List ℕ) → (Contains front 10 → ⊥) → length front ≤ line_limit → Closes word front
 end_closes word front n short = record {
   other = λ line more o e. n (subst (λ (t : List ℕ). Contains t 10) (sym e) (in_middle line more));
-  short = λ some more k e. omega (arith, short, ap length e, length-append some more);
+  short = λ some more k others e. let left = some_bytes more others in omega (arith, short, left, ap length e, length-append some more);
 }

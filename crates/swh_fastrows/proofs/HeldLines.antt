@@ -90,7 +90,7 @@ lines_fault old new word limit before now u v Data.End e f m n d =
     let counted = d.counted in
     record { bytes = d.bytes; front = d.front; lines = d.lines; within = d.within; short = d.short; all = e ∙ d.all; no_feed = d.no_feed; here = omega (arith, m, n, counted, ap length (e ∙ d.all), length-append d.bytes d.front) }
 lines_fault old new word limit before now u v Data.Line e f m n d =
-    record { bytes = d.bytes; front = d.front; lines = d.lines; no_feed = d.no_feed; long = d.long; cut = e ∙ d.taken.cut ∙ ap (λ (t : List ℕ). (d.bytes ++ d.front) ++ t) (sym f) }
+    record { bytes = d.bytes; front = d.front; lines = d.lines; no_feed = d.no_feed; long = d.long; cut = e ∙ d.taken.cut ∙ ap (λ (t : List ℕ). (d.bytes ++ d.front) ++ t) (sym f); more = λ none. d.more (sym f ∙ none) }
 lines_fault old new word limit before now u v Data.Body e f m n d =
     record { bytes = d.bytes ++ d.last; lines = d.lines; above = d.above; cut = e ∙ d.taken.cut ∙ ap (λ (t : List ℕ). (d.bytes ++ d.last) ++ t) (sym f) }
 lines_fault old new word limit before now u v Data.Memory e f m n d = tt

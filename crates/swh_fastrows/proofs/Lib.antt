@@ -4,3 +4,4 @@ pub mod CountedData
 pub mod NextLines
 pub mod DelimitedData
 pub mod Fitting
+pub mod Failings

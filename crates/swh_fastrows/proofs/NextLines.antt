@@ -1,5 +1,7 @@
 -- A line that comes next, as a part of a command or none.
-use Rattle.std.proofs.Common.{◌≡◌, ℕ, ◌+◌, ◌<◌, ◌==◌, inl, inr, Bool, true, false, not, if◌then◌else◌, List, [], ◌∷◌, ◌++◌, length, Contains, refl, sym, ap, ◌∙◌, subst, arith, Result, Ok, Err, IfOk, IfErr}
+use Rattle.std.proofs.Common.{◌≡◌, ℕ, ◌+◌, ◌<◌, ◌==◌, inl, inr, Bool, true, false, not, if◌then◌else◌, List, [], ◌∷◌, ◌++◌, length, length-append, take, drop, Contains, refl, sym, ap, ◌∙◌, subst, arith, append_assoc, Result, Ok, Err, IfOk, IfErr}
+use Rattle.std.proofs.lemmas.List.{take-append-drop, length-take-le}
+use Rattle.std.proofs.lemmas.List.Elements.{Contains-append_left}
 use Rattle.swh_base.specs.Limits.{line_limit}
 use Rattle.swh_fastgrammar.specs.declared.command.At.{At}
 use Rattle.swh_fastrows.specs.declared.fail.ReadFail.{ReadFail}
@@ -14,7 +16,7 @@ use Rattle.swh_fastlines.specs.Limit.{PassesWords}
 use Rattle.swh_fastrows.specs.declared.row_source.TheConstants.{STREAM_LIMIT}
 use Rattle.swh_fastgrammar.specs.Fault.{is_left_out}
 use Rattle.swh_fastgrammar.specs.Grammar.{line_at, line, placed_line, contents}
-use Rattle.swh_fastrows.specs.Held.{IsHeld, HeldCounts, IsNext, EndsNext}
+use Rattle.swh_fastrows.specs.Held.{IsHeld, held_limit, HeldCounts, IsNext, EndsNext}
 use Rattle.swh_fastrows.specs.Places.{Place, left, Took, FirstLine, Counts, Part, Lacks, NeverLine, opens_none, position}
 use Rattle.swh_fastgrammar.specs.Row.{Row, Opens, AreRows, Placed, placed, is_comment, text_of}
 use Rattle.swh_fastgrammar.proofs.Faults.{append_nil, row_cut}
@@ -199,8 +201,28 @@ err_before a b (Err fail) t p = fails_before a b fail t p
 pub took_held : (a b : Place) (word text : List ℕ) → IsNext a → a.held ≡ (word ++ text) ++ 10 ∷ [] → opens_none word ≡ true → b ≡ taken a → Took a b (line_at a.at (word ++ text) ∷ [])
 took_held a b word text n e o same = subst (λ (p : Place). Took a p (line_at a.at (word ++ text) ∷ [])) (sym same) (line_taken a a (word ++ text) (took_none a) e n (closed_word word text o))
 
-pub long_here : (b : Place) → (Contains b.held 10 → ⊥) → length b.held ≡ line_limit → LinePasses b.at (left b) Line (line_limit + 1)
-long_here b n e = (refl, record { front = b.held; rest = b.rest; cut = refl; no_feed = n; long = e })
+-- More bytes are held than a line may have.
+pub long_here : (b : Place) → IsHeld b.held → length b.held ≡ held_limit → LinePasses b.at (left b) Line (line_limit + 1)
+long_here b (inl l) e =
+    let size : length b.held ≡ length l.front + 1 = ap length l.text ∙ length-append l.front (10 ∷ []) in
+    (refl, record { front = l.front; rest = 10 ∷ b.rest; cut = ap (λ (t : List ℕ). t ++ b.rest) l.text ∙ append_assoc l.front (10 ∷ []) b.rest; no_feed = l.no_feed; long = omega (arith, e, size); more = λ none. absurd cc })
+long_here b (inr n) e =
+    let front = take line_limit b.held in
+    let more = drop line_limit b.held in
+    let whole : front ++ more ≡ b.held = take-append-drop line_limit b.held in
+    let size : length front ≡ line_limit = length-take-le line_limit b.held (omega (arith, e)) in
+    let sizes = ap length whole in
+    (refl, record {
+      front = front;
+      rest = more ++ b.rest;
+      cut = ap (λ (t : List ℕ). t ++ b.rest) (sym whole) ∙ append_assoc front more b.rest;
+      no_feed = λ h. n (subst (λ (t : List ℕ). Contains t 10) whole (Contains-append_left front more 10 h));
+      long = size;
+      more = λ none. let left = ap length none in omega (arith, e, size, sizes, left, length-append front more, length-append more b.rest);
+    })
+
+pub long_passes : (a b : Place) → Took a b [] → IsHeld b.held → length b.held ≡ held_limit → PassesAfter a Line (line_limit + 1)
+long_passes a b t h e = record { before = b; took = t; passes = long_here b h e }
 
 -- where no limit is passed, what ends a whole command lacks each part
 pub clear_lacks : {X : Type 0} (L : List Placed → X → Type 0) (a b : Place) → Took a b [] → EndsWhole b → IsClear (position b false) → Lacks L a b

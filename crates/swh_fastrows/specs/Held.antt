@@ -1,5 +1,5 @@
 -- The bytes that a reader of rows holds: a line with its LF, or the beginning of one.
-use Rattle.std.specs.Prelude.{◌≡◌, ◌⊎◌, ℕ, ◌+◌, ◌<◌, ◌≤◌, ◌^◌, Bool, true, false, List, [], ◌∷◌, ◌++◌, Contains, length}
+use Rattle.std.specs.Prelude.{◌≡◌, ◌≢◌, ◌⊎◌, ℕ, ◌+◌, ◌<◌, ◌≤◌, ◌^◌, Bool, true, false, List, [], ◌∷◌, ◌++◌, Contains, length}
 use Rattle.swh_base.specs.Limits.{line_limit}
 use Rattle.swh_base.specs.declared.visit.Which.{Which}
 use Rattle.swh_fastlines.specs.Limit.{PassesWords}
@@ -18,25 +18,29 @@ use Rattle.swh_fastrows.specs.declared.ahead.Ahead.TheVariants.{Line, End, Long,
 abbrev pub IsHeld : List ℕ → Type 0
 IsHeld held = IsLine held ⊎ (Contains held 10 → ⊥)
 
--- What is held comes before what the window holds; where it is the beginning of a line, and not as long as a line may be,
+-- As many bytes show that a line is too long.
+abbrev pub held_limit : ℕ
+held_limit = line_limit + 1
+
+-- What is held comes before what the window holds; where it is the beginning of a line, and no longer than a line may be,
 -- nothing follows it.
 pub record Holds (tells : Type 0) (at : ℕ) (held : List ℕ) (window : Held) (left : List ℕ) : Type 0 where
   pub shape : IsHeld held
-  pub short : length held ≤ line_limit
+  pub short : length held ≤ held_limit
   pub counted : window.place ≡ at + length held
   pub within : window.place ≤ 2 ^ 33
-  pub at_end : tells → 0 < length held → length held < line_limit → (Contains held 10 → ⊥) → unread window left ≡ []
+  pub at_end : tells → 0 < length held → length held < held_limit → (Contains held 10 → ⊥) → unread window left ≡ []
 
 -- what the held bytes are
 abbrev pub IsAhead : ℕ → List ℕ → Ahead → Type 0
 IsAhead at held Line = IsLine held × (at + length held ≤ STREAM_LIMIT) × (length held ≤ line_limit)
-IsAhead at held End = (Contains held 10 → ⊥) × (length held < line_limit) × (at + length held ≤ STREAM_LIMIT)
-IsAhead at held Long = (Contains held 10 → ⊥) × (length held ≡ line_limit) × (at + length held ≤ STREAM_LIMIT)
+IsAhead at held End = (Contains held 10 → ⊥) × (length held ≤ line_limit) × (at + length held ≤ STREAM_LIMIT)
+IsAhead at held Long = IsHeld held × (length held ≡ held_limit) × (at + length held ≤ STREAM_LIMIT)
 IsAhead at held Over = (STREAM_LIMIT < at + length held) × IsHeld held
 
--- Nothing follows the held beginning of a line that is not as long as a line may be.
+-- Nothing follows the held beginning of a line that is no longer than a line may be.
 abbrev pub EndsHeld : Place → Type 0
-EndsHeld place = length place.held < line_limit → (Contains place.held 10 → ⊥) → place.rest ≡ []
+EndsHeld place = length place.held < held_limit → (Contains place.held 10 → ⊥) → place.rest ≡ []
 
 -- The line that is held is not skipped.
 abbrev pub HeldCounts : List ℕ → Type 0
@@ -68,7 +72,7 @@ pub record IsNext (place : Place) : Type 0 where
 pub record EndsNext (place : Place) : Type 0 where
   pub no_feed : Contains place.held 10 → ⊥
   pub nothing : place.rest ≡ []
-  pub short : length place.held < line_limit
+  pub short : length place.held ≤ line_limit
   pub within : place.at + length place.held ≤ STREAM_LIMIT
 
 -- These lines are passed, and the line of the word after them.
@@ -83,12 +87,12 @@ pub record CutsLines (old new : Place) (word : List ℕ) (limit : ℕ) : Type 0 
   pub front : List ℕ
   pub lines : AreLines word bytes
   pub within : length bytes ≤ limit
-  pub short : length front < line_limit
+  pub short : length front ≤ line_limit
   pub all : old.rest ≡ bytes ++ front
   pub no_feed : Contains front 10 → ⊥
   pub here : new.at ≡ old.at + length old.rest
 
--- Lines are passed, and of the next as many bytes as a line may have, with no LF.
+-- Lines are passed, and of the next as many bytes as a line may have, with no LF. More follows.
 pub record LongLine (old new : Place) (word : List ℕ) : Type 0 where
   pub bytes : List ℕ
   pub front : List ℕ
@@ -96,6 +100,7 @@ pub record LongLine (old new : Place) (word : List ℕ) : Type 0 where
   pub no_feed : Contains front 10 → ⊥
   pub long : length front ≡ line_limit
   pub cut : old.rest ≡ (bytes ++ front) ++ new.rest
+  pub more : new.rest ≢ []
 
 -- Lines are passed that have more bytes than they may.
 pub record ManyLines (old new : Place) (word : List ℕ) (limit : ℕ) : Type 0 where

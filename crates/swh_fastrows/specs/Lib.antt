@@ -4,3 +4,4 @@ pub mod Outside
 pub mod Places
 pub mod Within
 pub mod Outcome
+pub mod Failing

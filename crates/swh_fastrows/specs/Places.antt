@@ -1,5 +1,6 @@
 -- What a reader answers, in whole texts: what is to be read before and after.
-use Rattle.std.specs.Prelude.{◌≡◌, ◌⊎◌, ℕ, Bool, true, false, not, ◌==◌, ◌+◌, List, [], ◌∷◌, ◌++◌, Option, Some, None, length, Contains, codes}
+use Rattle.std.specs.Prelude.{◌≡◌, ◌⊎◌, ℕ, Bool, true, false, not, ◌==◌, ◌≤◌, ◌+◌, List, [], ◌∷◌, ◌++◌, Option, Some, None, length, Contains, codes}
+use Rattle.swh_fastlex.specs.declared.source.TheConstants.{WINDOW}
 use Rattle.swh_fastgrammar.specs.Fault.{is_left_out}
 use Rattle.swh_fastgrammar.specs.Grammar.{many}
 use Rattle.swh_fastgrammar.specs.Row.{Row, row_text, text_of, IsData, IsRow, AreRows, Placed, placed, is_comment}
@@ -14,6 +15,12 @@ pub record Place : Type 0 where
   pub rest : List ℕ
   pub faults : ℕ
   pub path : List ℕ
+
+-- Of these bytes the first few are not left in the source, no more of them than a window holds.
+pub record HoldsFront (rest now : List ℕ) : Type 0 where
+  pub front : List ℕ
+  pub cut : rest ≡ front ++ now
+  pub within : length front ≤ WINDOW
 
 -- what is to be read
 abbrev pub left : Place → List ℕ

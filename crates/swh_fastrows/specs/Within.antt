@@ -1,6 +1,6 @@
 -- Limits of a stream: which of them what comes first in a text passes, and texts and rows that pass none. A limit that the
 -- next line passes by itself counts wherever the line stands; one that is passed inside data counts where data may come.
-use Rattle.std.specs.Prelude.{◌≡◌, ◌⊎◌, ℕ, ◌+◌, ◌<◌, false, List, [], ◌∷◌, ◌++◌, length, Contains, codes}
+use Rattle.std.specs.Prelude.{◌≡◌, ◌≢◌, ◌⊎◌, ℕ, ◌+◌, ◌<◌, false, List, [], ◌∷◌, ◌++◌, length, Contains, codes}
 use Rattle.swh_base.specs.Limits.{body_limit, line_limit}
 use Rattle.swh_base.specs.declared.visit.Which.{Which}
 use Rattle.swh_base.specs.declared.visit.Which.TheVariants.{Body, Objects, Bytes, Store, Ledger, Stream, Line, Path, Ref, Refs}
@@ -25,13 +25,14 @@ pub record PassesStream (at : ℕ) (text : List ℕ) (number : ℕ) : Type 0 whe
   pub over : STREAM_LIMIT < at + length front
   pub count : number ≡ STREAM_LIMIT + 1
 
--- The bytes begin with as many as a line may have, and no LF is among them.
+-- The bytes begin with as many as a line may have, no LF is among them, and more follows.
 pub record IsLong (text : List ℕ) : Type 0 where
   pub front : List ℕ
   pub rest : List ℕ
   pub cut : text ≡ front ++ rest
   pub no_feed : Contains front 10 → ⊥
   pub long : length front ≡ line_limit
+  pub more : rest ≢ []
 
 -- A word of the next line passes this limit. Comments are not asked.
 pub record PassesWord (text : List ℕ) (which : Which) (number : ℕ) : Type 0 where

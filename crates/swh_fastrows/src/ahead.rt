@@ -1,8 +1,7 @@
 // What the bytes that are held are.
 ghost use Rattle.std.specs.Prelude.{◌≤◌, ◌+◌, ◌^◌, Contains, MatchBool, length};
-ghost use Rattle.swh_base.specs.Limits.{line_limit};
 ghost use Rattle.swh_fastlex.specs.Line.{IsLine};
-ghost use Rattle.swh_fastrows.specs.Held.{IsHeld, IsAhead};
+ghost use Rattle.swh_fastrows.specs.Held.{IsHeld, IsAhead, held_limit};
 
 use crate::row_source::STREAM_LIMIT;
 use swh_base::LINE_LIMIT;
@@ -14,7 +13,7 @@ pub enum Ahead {
     Line,
     /// The end of the input, before an LF.
     End,
-    /// As many bytes as a line may have, without an LF.
+    /// More bytes than a line may have.
     Long,
     /// Bytes that end after the last that a stream may have.
     Over,
@@ -34,19 +33,19 @@ fn ends_line(held: &[u8]) -> bool
 /// What the bytes that are held from this place on are.
 pub fn ahead_of(at: u64, held: &[u8]) -> Ahead
     requires shape { IsHeld held.now }
-    requires short { length held.now ≤ line_limit }
+    requires short { length held.now ≤ held_limit }
     requires fits { at ≤ 2 ^ 34 }
     ensures { IsAhead at held.now result }
 {
     if at + held.len() as u64 > STREAM_LIMIT {
         return Ahead::Over;
     }
-    if ends_line(held) {
-        return Ahead::Line;
+    if held.len() > LINE_LIMIT {
+        return Ahead::Long;
     }
-    if held.len() < LINE_LIMIT {
-        Ahead::End
+    if ends_line(held) {
+        Ahead::Line
     } else {
-        Ahead::Long
+        Ahead::End
     }
 }

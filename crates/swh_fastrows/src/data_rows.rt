@@ -7,6 +7,7 @@ ghost use Rattle.swh_fastrows.specs.Explains.{DataFails, OpensCounted, OpensDeli
 ghost use Rattle.swh_fastgrammar.specs.Grammar.{contents};
 ghost use Rattle.swh_fastrows.specs.Held.{IsNext};
 ghost use Rattle.swh_fastrows.specs.Places.{Part};
+ghost use Rattle.swh_fastrows.specs.Failing.{MayFail};
 
 use crate::fail::ReadFail;
 use crate::refusing::{peek, refusal};
@@ -55,10 +56,12 @@ pub fn counted_data<S: Source>(rows: &mut Rows<S>, count: u64) -> Result<Bytes, 
     requires fits { count ≤ body_limit }
     ensures data { S.tells → IfOk result (λ bytes. Part contents rows.old rows.new bytes) }
     ensures fails { S.tells → IfErr result (DataFails rows.old) }
+    ensures may { IfErr result MayFail }
     ensures onward { IfOk result (λ _. rows.old.at ≤ rows.new.at) }
 
     ensures same_path { rows.new.path ≡ rows.old.path }
     ensures later { rows.old.faults ≤ rows.new.faults }
+    ensures quiet { IfOk result (λ _. rows.new.faults ≡ rows.old.faults) }
     ensures cause { IsErrOf result SourceFailed → Rose rows.old.faults rows.new.faults }
 {
     rows.take();
@@ -102,10 +105,12 @@ fn delimited_data<S: Source>(rows: &mut Rows<S>, word: &[u8]) -> Result<Bytes, R
     requires short { length word.now ≤ line_limit }
     ensures data { S.tells → IfOk result (λ bytes. Part contents rows.old rows.new bytes) }
     ensures fails { S.tells → IfErr result (DataFails rows.old) }
+    ensures may { IfErr result MayFail }
     ensures onward { IfOk result (λ _. rows.old.at ≤ rows.new.at) }
 
     ensures same_path { rows.new.path ≡ rows.old.path }
     ensures later { rows.old.faults ≤ rows.new.faults }
+    ensures quiet { IfOk result (λ _. rows.new.faults ≡ rows.old.faults) }
     ensures cause { IsErrOf result SourceFailed → Rose rows.old.faults rows.new.faults }
 {
     rows.take();
@@ -127,10 +132,12 @@ fn delimited_data<S: Source>(rows: &mut Rows<S>, word: &[u8]) -> Result<Bytes, R
 pub fn data<S: Source>(rows: &mut Rows<S>) -> Result<Bytes, ReadFail>
     ensures data { S.tells → IfOk result (λ bytes. Part contents rows.old rows.new bytes) }
     ensures fails { S.tells → IfErr result (DataFails rows.old) }
+    ensures may { IfErr result MayFail }
     ensures onward { IfOk result (λ _. rows.old.at ≤ rows.new.at) }
 
     ensures same_path { rows.new.path ≡ rows.old.path }
     ensures later { rows.old.faults ≤ rows.new.faults }
+    ensures quiet { IfOk result (λ _. rows.new.faults ≡ rows.old.faults) }
     ensures cause { IsErrOf result SourceFailed → Rose rows.old.faults rows.new.faults }
 {
     if !peek(rows)? {

@@ -1,9 +1,8 @@
 // A line that is held until it is taken.
 ghost use Rattle.std.specs.Prelude.{◌≡◌, ◌≤◌, ◌<◌, ◌+◌, ◌^◌, ◌++◌, [], Contains, IfOk, IsErrOf, length};
 ghost use Rattle.swh_outside.specs.Faults.{Rose};
-ghost use Rattle.swh_base.specs.Limits.{line_limit};
 ghost use Rattle.swh_fastlex.specs.Line.{unread};
-ghost use Rattle.swh_fastrows.specs.Held.{IsHeld};
+ghost use Rattle.swh_fastrows.specs.Held.{IsHeld, held_limit};
 ghost use Rattle.swh_fastrows.specs.declared.fail.Outside.TheVariants.{Failed};
 
 use crate::fail::Outside;
@@ -11,8 +10,11 @@ use swh_base::LINE_LIMIT;
 use swh_fastlex::{Window, move_front};
 use swh_outside::Source;
 
-/// Moves the next line with its LF into `line`, which is empty: at most 1,048,576 bytes of it, and what there is where
-/// the input ends before.
+/// As many bytes show that a line is too long.
+const HELD_LIMIT: usize = LINE_LIMIT + 1;
+
+/// Moves the next line with its LF into `line`, which is empty: at most 1,048,577 bytes of it, one more than a line may
+/// have, and what there is where the input ends before.
 ///
 /// # Errors
 ///
@@ -25,24 +27,25 @@ pub fn hold_line<S: Source>(
     requires empty { line.old.items ≡ [] }
     requires place { window.old.place ≤ 2 ^ 33 }
     ensures shape { IfOk result (λ _. IsHeld line.new.items) }
-    ensures within { IfOk result (λ _. length line.new.items ≤ line_limit) }
+    ensures within { IfOk result (λ _. length line.new.items ≤ held_limit) }
     ensures counted { IfOk result (λ _. window.new.place ≡ window.old.place + length line.new.items) }
     ensures onward { window.old.place ≤ window.new.place }
-    ensures place { window.new.place ≤ window.old.place + line_limit }
+    ensures place { window.new.place ≤ window.old.place + held_limit }
     ensures taken { S.tells → IfOk result (λ _. unread window.old (S.left source.old)
         ≡ line.new.items ++ unread window.new (S.left source.new)) }
-    ensures end { S.tells → IfOk result (λ _. length line.new.items < line_limit
+    ensures end { S.tells → IfOk result (λ _. length line.new.items < held_limit
         → (Contains line.new.items 10 → ⊥) → unread window.new (S.left source.new) ≡ []) }
 
     ensures same_path { S.path source.new ≡ S.path source.old }
     ensures later { S.faults source.old ≤ S.faults source.new }
+    ensures quiet { IfOk result (λ _. S.faults source.new ≡ S.faults source.old) }
     ensures cause { IsErrOf result Failed → Rose (S.faults source.old) (S.faults source.new) }
 {
-    'pieces: while line.len() < LINE_LIMIT {
+    'pieces: while line.len() < HELD_LIMIT {
         if !window.fill(source)? {
             return Ok(());
         }
-        let room = LINE_LIMIT - line.len();
+        let room = HELD_LIMIT - line.len();
         if move_front(window, line, room)? {
             return Ok(());
         }

@@ -9,6 +9,7 @@ mod ahead;
 mod data_rows;
 mod fail;
 mod hold;
+mod laws;
 mod optional;
 mod part_lines;
 mod refusing;
@@ -17,6 +18,7 @@ mod whole;
 
 pub use data_rows::data;
 pub use fail::{Outside, ReadFail};
+pub use laws::limit_of_a_stream;
 pub use optional::{
     named_commit, optional_encoding, optional_mark, optional_person, person, skip_oid,
 };

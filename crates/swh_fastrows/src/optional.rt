@@ -5,6 +5,7 @@ ghost use Rattle.swh_fastrows.specs.declared.fail.ReadFail.TheVariants.{ReadFaul
 ghost use Rattle.swh_fastrows.specs.Explains.{Stops, PartFails};
 ghost use Rattle.swh_fastgrammar.specs.Grammar.{line, mark, oid, from};
 ghost use Rattle.swh_fastrows.specs.Places.{Part, OptionalPart, FoundPart, opens_none};
+ghost use Rattle.swh_fastrows.specs.Failing.{MayFail};
 ghost use Rattle.swh_fastgrammar.specs.Word.{NamesPerson, NamesEncoding};
 
 use crate::fail::ReadFail;
@@ -20,10 +21,12 @@ use swh_pieces::behind;
 pub fn optional_mark<S: Source>(rows: &mut Rows<S>) -> Result<Option<u64>, ReadFail>
     ensures part { S.tells → IfOk result (OptionalPart mark rows.old rows.new) }
     ensures fails { S.tells → IfErr result (Stops rows.old) }
+    ensures may { IfErr result MayFail }
     ensures onward { rows.old.at ≤ rows.new.at }
 
     ensures same_path { rows.new.path ≡ rows.old.path }
     ensures later { rows.old.faults ≤ rows.new.faults }
+    ensures quiet { IfOk result (λ _. rows.new.faults ≡ rows.old.faults) }
     ensures cause { IsErrOf result SourceFailed → Rose rows.old.faults rows.new.faults }
 {
     if !peek(rows)? {
@@ -40,10 +43,12 @@ pub fn optional_mark<S: Source>(rows: &mut Rows<S>) -> Result<Option<u64>, ReadF
 pub fn skip_oid<S: Source>(rows: &mut Rows<S>) -> Result<bool, ReadFail>
     ensures part { S.tells → IfOk result (FoundPart oid rows.old rows.new) }
     ensures fails { S.tells → IfErr result (Stops rows.old) }
+    ensures may { IfErr result MayFail }
     ensures onward { rows.old.at ≤ rows.new.at }
 
     ensures same_path { rows.new.path ≡ rows.old.path }
     ensures later { rows.old.faults ≤ rows.new.faults }
+    ensures quiet { IfOk result (λ _. rows.new.faults ≡ rows.old.faults) }
     ensures cause { IsErrOf result SourceFailed → Rose rows.old.faults rows.new.faults }
 {
     if !peek(rows)? {
@@ -64,10 +69,12 @@ pub fn optional_person<S: Source>(
     requires closed { opens_none word.now ≡ true }
     ensures part { S.tells → IfOk result (OptionalPart (line word.now NamesPerson) rows.old rows.new) }
     ensures fails { S.tells → IfErr result (Stops rows.old) }
+    ensures may { IfErr result MayFail }
     ensures onward { rows.old.at ≤ rows.new.at }
 
     ensures same_path { rows.new.path ≡ rows.old.path }
     ensures later { rows.old.faults ≤ rows.new.faults }
+    ensures quiet { IfOk result (λ _. rows.new.faults ≡ rows.old.faults) }
     ensures cause { IsErrOf result SourceFailed → Rose rows.old.faults rows.new.faults }
 {
     if !peek(rows)? {
@@ -85,10 +92,12 @@ pub fn optional_person<S: Source>(
 pub fn optional_encoding<S: Source>(rows: &mut Rows<S>) -> Result<Option<Bytes>, ReadFail>
     ensures part { S.tells → IfOk result (OptionalPart (line (codes "encoding ") NamesEncoding) rows.old rows.new) }
     ensures fails { S.tells → IfErr result (Stops rows.old) }
+    ensures may { IfErr result MayFail }
     ensures onward { rows.old.at ≤ rows.new.at }
 
     ensures same_path { rows.new.path ≡ rows.old.path }
     ensures later { rows.old.faults ≤ rows.new.faults }
+    ensures quiet { IfOk result (λ _. rows.new.faults ≡ rows.old.faults) }
     ensures cause { IsErrOf result SourceFailed → Rose rows.old.faults rows.new.faults }
 {
     if !peek(rows)? {
@@ -107,10 +116,12 @@ pub fn person<S: Source>(rows: &mut Rows<S>, word: &[u8]) -> Result<Bytes, ReadF
     requires closed { opens_none word.now ≡ true }
     ensures part { S.tells → IfOk result (Part (line word.now NamesPerson) rows.old rows.new) }
     ensures fails { S.tells → IfErr result (PartFails (line word.now NamesPerson) rows.old) }
+    ensures may { IfErr result MayFail }
     ensures onward { IfOk result (λ _. rows.old.at ≤ rows.new.at) }
 
     ensures same_path { rows.new.path ≡ rows.old.path }
     ensures later { rows.old.faults ≤ rows.new.faults }
+    ensures quiet { IfOk result (λ _. rows.new.faults ≡ rows.old.faults) }
     ensures cause { IsErrOf result SourceFailed → Rose rows.old.faults rows.new.faults }
 {
     match optional_person(rows, word)? {
@@ -123,10 +134,12 @@ pub fn person<S: Source>(rows: &mut Rows<S>, word: &[u8]) -> Result<Bytes, ReadF
 pub fn named_commit<S: Source>(rows: &mut Rows<S>) -> Result<At<Commitish>, ReadFail>
     ensures part { S.tells → IfOk result (Part from rows.old rows.new) }
     ensures fails { S.tells → IfErr result (PartFails from rows.old) }
+    ensures may { IfErr result MayFail }
     ensures onward { IfOk result (λ _. rows.old.at ≤ rows.new.at) }
 
     ensures same_path { rows.new.path ≡ rows.old.path }
     ensures later { rows.old.faults ≤ rows.new.faults }
+    ensures quiet { IfOk result (λ _. rows.new.faults ≡ rows.old.faults) }
     ensures cause { IsErrOf result SourceFailed → Rose rows.old.faults rows.new.faults }
 {
     if !peek(rows)? {

@@ -6,6 +6,7 @@ ghost use Rattle.swh_fastrows.specs.declared.fail.ReadFail.TheVariants.{ReadFaul
 ghost use Rattle.swh_fastrows.specs.Explains.{Stops, Refusal, line_refusal};
 ghost use Rattle.swh_fastrows.specs.Held.{IsNext, EndsNext};
 ghost use Rattle.swh_fastrows.specs.Places.{left, Took, Counts};
+ghost use Rattle.swh_fastrows.specs.Failing.{MayFail};
 
 use crate::ahead::Ahead;
 use crate::fail::ReadFail;
@@ -25,11 +26,13 @@ pub fn peek<S: Source>(rows: &mut Rows<S>) -> Result<bool, ReadFail>
     ensures took { S.tells → IfOk result (λ _. Took rows.old rows.new []) }
     ensures end { S.tells → IfOk result (λ some. some ≡ false → EndsNext rows.new) }
     ensures fails { S.tells → IfErr result (Stops rows.old) }
+    ensures may { IfErr result MayFail }
     ensures onward { rows.old.at ≤ rows.new.at }
     ensures within { rows.new.at ≤ 2 ^ 33 }
 
     ensures same_path { rows.new.path ≡ rows.old.path }
     ensures later { rows.old.faults ≤ rows.new.faults }
+    ensures quiet { IfOk result (λ _. rows.new.faults ≡ rows.old.faults) }
     ensures cause { IsErrOf result SourceFailed → Rose rows.old.faults rows.new.faults }
 {
     match rows.look()? {
@@ -64,6 +67,7 @@ pub fn refused_line(line: &[u8], at: u64) -> ReadFail
 /// Why nothing of what comes next is what is wanted.
 pub fn refusal<S: Source>(rows: &mut Rows<S>) -> ReadFail
     ensures refusal { S.tells → Counts (left rows.old) → Refusal rows.old result }
+    ensures may { MayFail result }
 
     ensures same_path { rows.new.path ≡ rows.old.path }
     ensures later { rows.old.faults ≤ rows.new.faults }

@@ -9,7 +9,7 @@ ghost use Rattle.swh_fastrows.specs.declared.ahead.Ahead.TheVariants.{Line, End 
 ghost use Rattle.swh_fastlex.specs.declared.fault.LineFault.TheVariants.{Failed as LineFailed, End, Limit};
 ghost use Rattle.swh_fastrows.specs.declared.fail.Outside.TheVariants.{Failed};
 ghost use Rattle.swh_fastrows.specs.Held.{IsAhead, EndsHeld, HeldCounts, IsShort, IsFed, TakesLines, LinesFail};
-ghost use Rattle.swh_fastrows.specs.Places.{left, Took};
+ghost use Rattle.swh_fastrows.specs.Places.{HoldsFront, left, Took};
 ghost use Rattle.swh_fastgrammar.specs.Row.{is_comment};
 
 use crate::ahead::{Ahead, ahead_of};
@@ -71,11 +71,13 @@ impl<S: Source> Rows<S> {
         }
     }
 
-    /// The source, which may have given more than was taken.
+    /// The source, which may have given more than was taken, by a window at most.
     pub fn back(self) -> S
         ensures faults { S.faults result ≡ self.faults }
         ensures path { S.path result ≡ self.path }
+        ensures left { HoldsFront self.rest (S.left result) }
     {
+        let _count = self.window.count();
         let Rows { source, .. } = self;
         source
     }
@@ -137,6 +139,7 @@ impl<S: Source> Rows<S> {
 
         ensures same_path { self.new.path ≡ self.old.path }
         ensures later { self.old.faults ≤ self.new.faults }
+        ensures quiet { IfOk result (λ _. self.new.faults ≡ self.old.faults) }
         ensures cause { IsErrOf result Failed → Rose self.old.faults self.new.faults }
     {
         match hold_line(&mut self.window, &mut self.source, &mut self.held) {
@@ -160,6 +163,7 @@ impl<S: Source> Rows<S> {
 
         ensures same_path { self.new.path ≡ self.old.path }
         ensures later { self.old.faults ≤ self.new.faults }
+        ensures quiet { IfOk result (λ _. self.new.faults ≡ self.old.faults) }
         ensures cause { IsErrOf result Failed → Rose self.old.faults self.new.faults }
     {
         if !self.held.is_empty() {
@@ -183,6 +187,7 @@ impl<S: Source> Rows<S> {
 
         ensures same_path { self.new.path ≡ self.old.path }
         ensures later { self.old.faults ≤ self.new.faults }
+        ensures quiet { IfOk result (λ _. self.new.faults ≡ self.old.faults) }
         ensures cause { IsErrOf result Failed → Rose self.old.faults self.new.faults }
     {
         'comments: loop {
@@ -217,6 +222,7 @@ impl<S: Source> Rows<S> {
 
         ensures same_path { self.new.path ≡ self.old.path }
         ensures later { self.old.faults ≤ self.new.faults }
+        ensures quiet { IfOk result (λ _. self.new.faults ≡ self.old.faults) }
         ensures cause { IsErrOf result LineFailed → Rose self.old.faults self.new.faults }
     {
         let bytes = next_data(self.alloc, &mut self.window, &mut self.source, count);
@@ -244,6 +250,7 @@ impl<S: Source> Rows<S> {
 
         ensures same_path { self.new.path ≡ self.old.path }
         ensures later { self.old.faults ≤ self.new.faults }
+        ensures quiet { IfOk result (λ _. self.new.faults ≡ self.old.faults) }
         ensures cause { IsErrOf result DataFailed → Rose self.old.faults self.new.faults }
     {
         let bytes = next_delimited(self.alloc, &mut self.window, &mut self.source, word, limit);

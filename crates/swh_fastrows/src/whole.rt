@@ -23,6 +23,7 @@ pub fn next_line<S: Source>(rows: &mut Rows<S>) -> Result<bool, Outside>
 
     ensures same_path { rows.new.path ≡ rows.old.path }
     ensures later { rows.old.faults ≤ rows.new.faults }
+    ensures quiet { IfOk result (λ _. rows.new.faults ≡ rows.old.faults) }
     ensures cause { IsErrOf result Failed → Rose rows.old.faults rows.new.faults }
 {
     match rows.look()? {

@@ -20,5 +20,5 @@ pieces-preserved g c =
       counted = omega (arith, long, moved.counted, c.in_ok-fill.ensures.same_place, c.pieces.invariant.counted);
       within = omega (arith, long, moved.within, c.pieces.invariant.within, c.len-in-pieces.ensures);
       same_path = c.in_ok-fill.ensures.same_path ∙ c.pieces.invariant.same_path;
-      later = omega (arith, c.in_ok-fill.ensures.cause.later, c.pieces.invariant.later);
+      quiet = c.in_ok-fill.ensures.cause.quiet ∙ c.pieces.invariant.quiet;
     }

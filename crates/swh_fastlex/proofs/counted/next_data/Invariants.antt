@@ -9,7 +9,7 @@ invariant-pieces g l = record {
   counted : l.window.place ≡ l.fn.window.place + length l.bytes.items;
   within : length l.bytes.items ≤ l.count;
   same_path : g.S.Source.path l.source ≡ g.S.Source.path l.fn.source;
-  later : g.S.Source.faults l.fn.source ≤ g.S.Source.faults l.source;
+  quiet : g.S.Source.faults l.source ≡ g.S.Source.faults l.fn.source;
 }
 
 abbrev pub decreases-pieces : goal.decreases-pieces

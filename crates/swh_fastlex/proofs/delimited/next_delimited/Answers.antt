@@ -58,5 +58,5 @@ lines-preserved g c =
       counted = omega (arith, counted, long, c.lines.invariant.counted);
       within = omega (arith, long, c.if-len-limit.false, c.len.ensures, c.len-in-lines.ensures, c.lines.invariant.within);
       same_path = c.in_ok-line.ensures.same_path ∙ c.lines.invariant.same_path;
-      later = omega (arith, c.in_ok-line.ensures.later, c.lines.invariant.later);
+      quiet = c.in_ok-line.ensures.quiet ∙ c.lines.invariant.quiet;
     }

@@ -11,7 +11,7 @@ invariant-lines g l = record {
   counted : l.window.place ≡ l.fn.window.place + length l.bytes.items;
   within : length l.bytes.items ≤ l.limit;
   same_path : g.S.Source.path l.source ≡ g.S.Source.path l.fn.source;
-  later : g.S.Source.faults l.fn.source ≤ g.S.Source.faults l.source;
+  quiet : g.S.Source.faults l.source ≡ g.S.Source.faults l.fn.source;
 }
 
 abbrev pub decreases-lines : goal.decreases-lines

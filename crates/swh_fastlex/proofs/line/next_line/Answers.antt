@@ -7,6 +7,10 @@ pub returns-in_err-fill-clause-loses : goal.returns-in_err-fill-clause-loses
 returns-in_err-fill-clause-loses g c = λ told.
     lost_err c.from_residual.result _ _ (lost_more (unread c.args.window.now (g.S.Source.left c.args.source.now)) c.pieces.line.items (unread c.pieces.window (g.S.Source.left c.pieces.source)) (unread c.fill.new.self (g.S.Source.left c.fill.new.source)) (c.pieces.invariant.text told) (c.in_err-fill.ensures.loses told))
 
+pub returns-in_err-fill-2-clause-loses : goal.returns-in_err-fill-2-clause-loses
+returns-in_err-fill-2-clause-loses g c = λ told.
+    lost_err c.from_residual-in_err-fill-2.result _ _ (lost_more (unread c.args.window.now (g.S.Source.left c.args.source.now)) c.pieces.line.items (unread c.pieces.window (g.S.Source.left c.pieces.source)) (unread c.fill-2.new.self (g.S.Source.left c.fill-2.new.source)) (c.pieces.invariant.text told) (c.in_err-fill-2.ensures.loses told))
+
 pub returns-then-not-branch-clause-loses : goal.returns-then-not-branch-clause-loses
 returns-then-not-branch-clause-loses g c = λ told.
     lost_err c.if-is_empty.result _ _ (lost_line (unread c.args.window.now (g.S.Source.left c.args.source.now)) c.pieces.line.items (unread c.fill.new.self (g.S.Source.left c.fill.new.source)) (c.pieces.invariant.text told ∙ ap (λ (t : List ℕ). c.pieces.line.items ++ t) (sym (c.in_ok-fill.ensures.kept told))))
@@ -32,5 +36,5 @@ pieces-preserved g c =
       counted = omega (arith, long, moved.counted, c.in_ok-fill.ensures.same_place, c.pieces.invariant.counted);
       within = omega (arith, long, moved.within, c.pieces.invariant.within, c.len-room.ensures);
       same_path = c.in_ok-fill.ensures.same_path ∙ c.pieces.invariant.same_path;
-      later = omega (arith, c.in_ok-fill.ensures.cause.later, c.pieces.invariant.later);
+      quiet = c.in_ok-fill.ensures.cause.quiet ∙ c.pieces.invariant.quiet;
     }

@@ -14,9 +14,9 @@ returns-in_err-contents-clause-err g c =
 pub returns-in-Ok-clause-ok : goal.returns-in-Ok-clause-ok
 returns-in-Ok-clause-ok g c =
     let h = c.in_ok-tree.ensures.ok in
-    tree_made g.N.Namer.id_of _ c.args.trees.now c.changed_tree.new.trees c.make.new.self c.in_ok-tree.tree _ _ _ _ _ c.in_ok-contents.contents.items h (c.in_ok-contents.ensures.ok h.changed.contents h.holds) c.in_ok-tree.ensures.keeps c.in-Ok.ensures.makes
+    tree_made g.N.Namer.id_of _ c.args.trees.now c.changed_tree.new.trees c.make.new.self c.in_ok-tree.tree _ _ _ _ _ c.in_ok-contents.contents.items h (c.in_ok-contents.ensures.ok h.changed.contents h.holds) (c.in_ok-contents.ensures.short h.changed.contents h.holds) c.in_ok-tree.ensures.keeps c.in-Ok.ensures.makes
 
 pub returns-in-Err-TooLong-clause-err : goal.returns-in-Err-TooLong-clause-err
 returns-in-Err-TooLong-clause-err g c =
     let h = c.in_ok-tree.ensures.ok in
-    tree_over g.N.Namer.id_of _ _ _ _ _ c.in-Err-TooLong.len h (subst (ExplainsTree g.N.Namer.id_of (map_of c.changed_tree.new.trees c.in_ok-tree.tree)) c.in-Err-TooLong.field-0-is c.in-Err-TooLong.ensures.err)
+    tree_over g.N.Namer.id_of _ _ _ _ _ c.in-Err-TooLong.len h (c.in_ok-contents.ensures.short h.changed.contents h.holds) (subst (ExplainsTree g.N.Namer.id_of (map_of c.changed_tree.new.trees c.in_ok-tree.tree)) c.in-Err-TooLong.field-0-is c.in-Err-TooLong.ensures.err)

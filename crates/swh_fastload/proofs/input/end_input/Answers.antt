@@ -12,7 +12,10 @@ returns-in-Err-clause-breaks g c = λ text h.
     subst (BreaksSo g.N.Namer.id_of (option_copied c.args.head) text) (sym c.feed_fault.ensures) (end_breaks g.N.Namer.id_of (option_copied c.args.head) text c.args.load.now c.args.objects.items h c.in-Err.fault refused.explained)
 
 pub returns-in-Err-clause-quiet : goal.returns-in-Err-clause-quiet
-returns-in-Err-clause-quiet g c = subst IsQuiet (sym c.feed_fault.ensures) (quiet c.in-Err.fault)
+returns-in-Err-clause-quiet g c =
+    let h = c.requires.given in
+    let refused = rw c.in-Err.is at (c.finish.ensures.err h.loading h.is) in
+    subst IsQuiet (sym c.feed_fault.ensures) (quiet (option_copied c.args.head) h.loading.aims c.in-Err.fault refused.explained)
 
 pub returns-in-Ok-push-clause-means : goal.returns-in-Ok-push-clause-means
 returns-in-Ok-push-clause-means g c = λ text h.

@@ -11,7 +11,7 @@ invariant-commands g l = record {
   come : g.S.Source.tells → HasCome g.N.Namer.id_of (left l.fn.reader.place) (position l.reader.place l.reader.promised) l.load l.objects.items;
   still : l.reader.ending ≡ Open;
   same_path : l.reader.place.path ≡ l.fn.reader.place.path;
-  later : l.fn.reader.place.faults ≤ l.reader.place.faults;
+  quiet : l.reader.place.faults ≡ l.fn.reader.place.faults;
 }
 
 abbrev pub decreases-commands : goal.decreases-commands

@@ -31,7 +31,7 @@ changes-preserved g c = record {
   none = λ e. absurd (not_both c.changes.more c.changes-test.true (c.changes.invariant.none e).0);
   same_path = c.next_line.ensures.same_path ∙ c.next_change.ensures.same_path ∙ c.changes.invariant.same_path;
   onward = let on = rw c.in-Some.is at c.in_ok-change.ensures.onward in omega (arith, on, c.next_line.ensures.onward, c.changes.invariant.onward);
-  later = omega (arith, c.next_line.ensures.later, c.next_change.ensures.later, c.changes.invariant.later);
+  quiet = c.in_ok-more.ensures.quiet ∙ c.in_ok-change.ensures.quiet ∙ c.changes.invariant.quiet;
 }
 
 pub returns-clause-changes : goal.returns-clause-changes

@@ -16,4 +16,4 @@ returns-clause-item g c = λ told.
     let a = c.args.rows.now in
     let ends = c.requires.end told in
     let nothing = held_left a ends ∙ empty a.held (omega (arith, c.if-at-end.false, c.at.ensures, c.end-2.ensures)) in
-    subst (λ (b : Bool). EndsHere a b) (sym c.if-promised.false) (input_ends a ends nothing)
+    subst (λ (b : Bool). EndsHere a a b) (sym c.if-promised.false) (input_ends a ends nothing)

@@ -8,7 +8,7 @@ invariant-items g l = record {
   passed : g.S.Source.tells → Passed l.fn.rows l.rows l.fn.promised l.wants_done;
   onward : l.fn.rows.at ≤ l.rows.at;
   same_path : l.rows.path ≡ l.fn.rows.path;
-  later : l.fn.rows.faults ≤ l.rows.faults;
+  quiet : l.rows.faults ≡ l.fn.rows.faults;
 }
 
 abbrev pub decreases-items : goal.decreases-items

@@ -15,7 +15,7 @@ invariant-merges g l = record {
   none : l.fn.next ≡ false → (l.more ≡ false) × (l.rows ≡ l.fn.rows);
   onward : l.fn.rows.at ≤ l.rows.at;
   same_path : l.rows.path ≡ l.fn.rows.path;
-  later : l.fn.rows.faults ≤ l.rows.faults;
+  quiet : l.rows.faults ≡ l.fn.rows.faults;
 }
 
 abbrev pub decreases-merges : goal.decreases-merges

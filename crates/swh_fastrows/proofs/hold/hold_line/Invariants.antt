@@ -8,10 +8,10 @@ invariant-pieces g l = record {
   no_feed : Contains l.line.items 10 → ⊥;
   text : g.S.Source.tells → unread l.fn.window (g.S.Source.left l.fn.source) ≡ l.line.items ++ unread l.window (g.S.Source.left l.source);
   counted : l.window.place ≡ l.fn.window.place + length l.line.items;
-  within : length l.line.items ≤ 1048576;
+  within : length l.line.items ≤ 1048577;
   same_path : g.S.Source.path l.source ≡ g.S.Source.path l.fn.source;
-  later : g.S.Source.faults l.fn.source ≤ g.S.Source.faults l.source;
+  quiet : g.S.Source.faults l.source ≡ g.S.Source.faults l.fn.source;
 }
 
 abbrev pub decreases-pieces : goal.decreases-pieces
-decreases-pieces g l = 1048576 - length l.line.items
+decreases-pieces g l = 1048577 - length l.line.items

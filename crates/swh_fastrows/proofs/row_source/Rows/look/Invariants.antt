@@ -8,7 +8,7 @@ invariant-comments g l = record {
   took : g.S.Source.tells → Took l.fn.self l.self [];
   onward : l.fn.self.at ≤ l.self.at;
   same_path : l.self.path ≡ l.fn.self.path;
-  later : l.fn.self.faults ≤ l.self.faults;
+  quiet : l.self.faults ≡ l.fn.self.faults;
 }
 
 abbrev pub decreases-comments : goal.decreases-comments
