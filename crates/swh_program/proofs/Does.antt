@@ -240,7 +240,7 @@ does_ask dir paths s answer status told a =
     let new = new_archive dir s in
     record {
       ends = record { answer = answer; is_one = a; told = told };
-      not_refused = run_never answer s status 2 3 (ask_statuses answer a.one_of) 2 (omega arith) (omega arith) (omega arith) told;
+      not_refused = run_never answer s status 2 3 (ask_statuses s.id_of paths answer a.one_of) 2 (omega arith) (omega arith) (omega arith) told;
       unusable = λ t. run_exactly answer s status 3 (IsUnusable s.id_of old) (omega arith) (ask_archive s.id_of old new paths answer a.one_of (a.ends t)) told;
       first_harm = λ file at t harm. told_unless (damaged_line file at) 3 answer s status (ask_harm s.id_of old file at harm new paths answer (a.ends t)) told;
       undamaged = λ t own.
