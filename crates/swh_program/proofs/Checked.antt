@@ -5,7 +5,7 @@ use Rattle.swh_base.specs.declared.kind.Kind.{Kind}
 use Rattle.swh_outside.specs.Files.{Files}
 use Rattle.swh_model.specs.declared.event.Event.{Event}
 use Rattle.swh_model.specs.Archive.{Archive}
-use Rattle.swh_model.specs.Step.{replay}
+use Rattle.swh_model.specs.Step.{IsHistory, replay}
 use Rattle.swh_check.specs.Counts.{IsReport}
 use Rattle.swh_check.specs.declared.report.Report.{Report}
 use Rattle.swh_program.specs.Seen.{Span, SinkFailed}
@@ -29,12 +29,12 @@ module _ (id_of : Kind → List ℕ → List ℕ) where
   counted a report counts _ told = absurd told
 
   -- what a check comes to is one of the answers
-  pub one_checked : (a : Archive) (answer : Answer) → IsChecked id_of a answer → IsCheckAnswer id_of answer
-  one_checked a (Told text end) is = ((a, is.0), is.1)
-  one_checked a (Damaged text) is = inr (a, is)
-  one_checked a OutsideDisk is = tt
-  one_checked a Memory is = tt
-  one_checked a _ is = absurd is
+  pub one_checked : (history : List Event) → IsHistory id_of history → (answer : Answer) → IsChecked id_of (replay history) answer → IsCheckAnswer id_of answer
+  one_checked history happens (Told text end) is = record { history = history; happens = happens; checked = is }
+  one_checked history happens (Damaged text) is = inr (record { history = history; happens = happens; checked = is })
+  one_checked history happens OutsideDisk is = tt
+  one_checked history happens Memory is = tt
+  one_checked history happens _ is = absurd is
 
   -- and so is an opening that is refused
   pub one_refused : (answer : Answer) → IsOpenRefusal answer → IsCheckAnswer id_of answer
@@ -58,7 +58,7 @@ module _ (id_of : Kind → List ℕ → List ℕ) where
 
   -- which statuses `check` has
   pub check_statuses : (answer : Answer) → IsCheckAnswer id_of answer → (status_of answer < 1) ⊎ (3 ≤ status_of answer)
-  check_statuses (Told text end) is = let done = ap status_for is.1 in inl (omega (arith, done))
+  check_statuses (Told text end) is = let done = ap status_for is.checked.1 in inl (omega (arith, done))
   check_statuses NotMade is = inr (omega arith)
   check_statuses (Damaged text) is = inr (omega arith)
   check_statuses OutsideDisk is = inr (omega arith)
@@ -67,7 +67,7 @@ module _ (id_of : Kind → List ℕ → List ℕ) where
 
   -- it names a disk alone
   pub check_disk : (answer : Answer) → IsCheckAnswer id_of answer → TellsDisk answer → answer ≡ OutsideDisk
-  check_disk (Told text end) is tells = let e : ending.Done ≡ ending.OutsideDisk = sym is.1 ∙ tells in cc
+  check_disk (Told text end) is tells = let e : ending.Done ≡ ending.OutsideDisk = sym is.checked.1 ∙ tells in cc
   check_disk _ is tells = tells
 
   module _ (old new : Files) where

@@ -1,5 +1,5 @@
 -- What a command does, from the answer that came of it and was told.
-use Rattle.std.proofs.Common.{◌≡◌, refl, ℕ, List, subst, arith, inl, inr}
+use Rattle.std.proofs.Common.{◌≡◌, ◌<◌, ◌≤◌, refl, ℕ, List, subst, arith, inl, inr}
 use Rattle.std.specs.List.{flat_map}
 use Rattle.swh_base.specs.declared.kind.Kind.{Kind}
 use Rattle.swh_words.specs.Words.{Wanted, ToInit, ToLoad, ToAsk, ToCheck, ToIdentify}
@@ -28,6 +28,7 @@ use Rattle.swh_program.proofs.Damages.{ask_harm, check_harm, load_harm}
 use Rattle.swh_program.proofs.Completes.{told_with, told_unless, init_done, ask_done}
 use Rattle.swh_program.proofs.Ends.{safe}
 use Rattle.swh_program.proofs.Exacts.{init_statuses, ask_statuses, init_archive, ask_archive, ask_replies}
+use Rattle.swh_program.proofs.LoadFiles.{load_files, refused_files}
 use Rattle.swh_program.proofs.LoadStatuses.{load_job, load_bad, load_archive, load_lines, load_input}
 use Rattle.swh_program.proofs.LoadsDone.{load_exact, meant_all_made, load_done}
 use Rattle.swh_program.proofs.Naming.{identify_statuses, identify_exactly, named}
@@ -219,6 +220,8 @@ does_load dir path s answer status told l =
       own = λ disks. ends_own s.id_of old new answer s status (l.own disks) told;
       job_first = λ inputs cause four. job_first answer s status (refused_job g desk_at path old new inputs cause answer l.ends) l.source_cause told four;
       archive_first = λ inputs disks cause four. archive_first answer s status (refused_archive g desk_at path old new inputs disks cause answer l.ends) l.disk_cause l.source_cause told four;
+      files = λ disks. load_files dir path s answer disks l.ends;
+      refused = λ disks more less. refused_files dir path s answer disks l.ends (subst (λ (k : ℕ). (2 ≤ k) × (k < 4)) (uncut answer s status (λ four. omega (arith, four, less)) told).status_is (more, less));
       by_lines = λ less. load_lines dir path s answer status l.ends (uncut answer s status (λ four. omega (arith, four, less)) told) less;
       bad_input = λ jobs job before disks inputs archive there among bad.
           run_comes answer s status 1 (load_input g desk_at path old new inputs disks before archive jobs job there among bad answer l.ends) told;
@@ -240,7 +243,7 @@ does_ask dir paths s answer status told a =
     let new = new_archive dir s in
     record {
       ends = record { answer = answer; is_one = a; told = told };
-      not_refused = run_never answer s status 2 3 (ask_statuses answer a.one_of) 2 (omega arith) (omega arith) (omega arith) told;
+      not_refused = run_never answer s status 2 3 (ask_statuses s.id_of paths answer a.one_of) 2 (omega arith) (omega arith) (omega arith) told;
       unusable = λ t. run_exactly answer s status 3 (IsUnusable s.id_of old) (omega arith) (ask_archive s.id_of old new paths answer a.one_of (a.ends t)) told;
       first_harm = λ file at t harm. told_unless (damaged_line file at) 3 answer s status (ask_harm s.id_of old file at harm new paths answer (a.ends t)) told;
       undamaged = λ t own.

@@ -35,13 +35,14 @@ init_statuses OutsideDisk is = inr (omega arith)
 init_statuses Memory is = inr (omega arith)
 init_statuses _ is = absurd is
 
-pub ask_statuses : (answer : Answer) → IsAskAnswer answer → (status_of answer < 2) ⊎ (3 ≤ status_of answer)
-ask_statuses (Told text end) is = inl (replies_below end is.0 is.1.end_is)
-ask_statuses NotMade is = inr (omega arith)
-ask_statuses (Damaged text) is = inr (omega arith)
-ask_statuses OutsideDisk is = inr (omega arith)
-ask_statuses Memory is = inr (omega arith)
-ask_statuses _ is = absurd is
+module _ (id_of : Kind → List ℕ → List ℕ) (paths : List (List ℕ)) where
+  pub ask_statuses : (answer : Answer) → IsAskAnswer id_of paths answer → (status_of answer < 2) ⊎ (3 ≤ status_of answer)
+  ask_statuses (Told text end) is = inl (replies_below end is.told.replies is.told.tells.end_is)
+  ask_statuses NotMade is = inr (omega arith)
+  ask_statuses (Damaged text) is = inr (omega arith)
+  ask_statuses OutsideDisk is = inr (omega arith)
+  ask_statuses Memory is = inr (omega arith)
+  ask_statuses _ is = absurd is
 
 -- 3 of `init`
 pub init_archive : (old new : Files) (answer : Answer) → InitEnds old new answer → IsExactly 3 (IsMade (old 0).seen) (status_of answer)
@@ -69,9 +70,9 @@ module _ (id_of : Kind → List ℕ → List ℕ) (old new : Files) where
 
   -- 3 and 1 of `ask`
   module _ (paths : List (List ℕ)) where
-    pub ask_archive : (answer : Answer) → IsAskAnswer answer → AskEnds id_of paths old new answer → IsExactly 3 (IsUnusable id_of old) (status_of answer)
+    pub ask_archive : (answer : Answer) → IsAskAnswer id_of paths answer → AskEnds id_of paths old new answer → IsExactly 3 (IsUnusable id_of old) (status_of answer)
     ask_archive (Told text end) is ends = record {
-      only = λ e. let less = replies_below end is.0 is.1.end_is in absurd (omega (arith, e, less));
+      only = λ e. let less = replies_below end is.told.replies is.told.tells.end_is in absurd (omega (arith, e, less));
       there = λ cause. absurd (usable id_of old ends.history ends.archive cause);
     }
     ask_archive NotMade is ends = refusal_exactly NotMade is ends

@@ -27,6 +27,7 @@ pub mod BadInputs
 pub mod Statuses
 pub mod Exacts
 pub mod LoadStatuses
+pub mod LoadFiles
 pub mod Naming
 pub mod Leaving
 pub mod Orders

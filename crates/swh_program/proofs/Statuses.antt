@@ -52,9 +52,9 @@ replies_inside : (end : Ending) (replies : List ReplyText) → IsEndingOf replie
 replies_inside end replies is disk =
     ⊎_elim (λ (found : AreFound replies × (end ≡ ending.Done)). no_end_outside end (inl found.1) disk) (λ (short : HasShortReply replies × (end ≡ ending.Wanting)). no_end_outside end (inr short.1) disk) is
 
-ask_disk : (answer : Answer) → IsAskAnswer answer → TellsDisk answer → answer ≡ OutsideDisk
-ask_disk (Told text end) is tells = absurd (replies_inside end is.0 is.1.end_is tells)
-ask_disk _ is tells = tells
+ask_disk : (id_of : Kind → List ℕ → List ℕ) (paths : List (List ℕ)) (answer : Answer) → IsAskAnswer id_of paths answer → TellsDisk answer → answer ≡ OutsideDisk
+ask_disk id_of paths (Told text end) is tells = absurd (replies_inside end is.told.replies is.told.tells.end_is tells)
+ask_disk id_of paths _ is tells = tells
 
 identify_disk : (id_of : Kind → List ℕ → List ℕ) (kind : Kind) (answer : Answer) → IsIdentifyAnswer id_of kind answer → TellsDisk answer → answer ≡ OutsideDisk
 identify_disk id_of kind (Told text ending.Done) is tells = let e : ending.Done ≡ ending.OutsideDisk = tells in cc
@@ -72,9 +72,9 @@ comes_names (ToInit dir) s answer i = record {
 }
 comes_names (ToLoad dir jobs) s answer l = record { disk = l.disk_cause; source = l.source_cause; clock = l.clock_cause }
 comes_names (ToAsk dir paths) s answer a = record {
-  disk = λ tells. a.cause (ask_disk answer a.one_of tells);
-  source = λ e. absurd (subst IsAskAnswer e a.one_of);
-  clock = λ e. absurd (subst IsAskAnswer e a.one_of);
+  disk = λ tells. a.cause (ask_disk s.id_of paths answer a.one_of tells);
+  source = λ e. absurd (subst (IsAskAnswer s.id_of paths) e a.one_of);
+  clock = λ e. absurd (subst (IsAskAnswer s.id_of paths) e a.one_of);
 }
 comes_names (ToCheck dir) s answer c = record {
   disk = λ tells. c.cause (check_disk s.id_of answer c.one_of tells);

@@ -5,7 +5,7 @@ use Rattle.swh_base.specs.declared.kind.Kind.{Kind}
 use Rattle.swh_outside.specs.Files.{Files}
 use Rattle.swh_model.specs.declared.event.Event.{Event}
 use Rattle.swh_model.specs.Archive.{Archive}
-use Rattle.swh_model.specs.Step.{replay}
+use Rattle.swh_model.specs.Step.{IsHistory, replay}
 use Rattle.swh_model.specs.Answer.{ReplyText, IsReply}
 use Rattle.swh_segment.specs.Making.{IsNotMade}
 use Rattle.swh_keeper.specs.Own.{AreOwn}
@@ -58,12 +58,18 @@ IsToldArchive a paths (Told text end) = TellsArchive a paths text end
 IsToldArchive a paths Memory = Unit {0}
 IsToldArchive a paths _ = ⊥
 
--- `ask` has no other answers, whether the depot tells its content or not.
-abbrev pub IsAskAnswer : Answer → Type 0
-IsAskAnswer (Told text end) = (replies : List ReplyText) × TellsReplies replies text end
-IsAskAnswer answer = IsOpenRefusal answer
-
 module _ (id_of : Kind → List ℕ → List ℕ) where
+  -- All replies are those of the replay of one history that may happen.
+  pub record RepliesOfHistory (paths : List (List ℕ)) (text : List ℕ) (end : Ending) : Type 0 where
+    pub history : List Event
+    pub happens : IsHistory id_of history
+    pub told : TellsArchive (replay history) paths text end
+
+  -- `ask` has no other answers, whether the depot tells its content or not.
+  abbrev pub IsAskAnswer : List (List ℕ) → Answer → Type 0
+  IsAskAnswer paths (Told text end) = RepliesOfHistory paths text end
+  IsAskAnswer paths answer = IsOpenRefusal answer
+
   -- The replies are those of the replay of the history for which the files stand, and nothing is written.
   pub record RepliesToPaths (old new : Files) (paths : List (List ℕ)) (text : List ℕ) (end : Ending) : Type 0 where
     pub history : List Event
@@ -78,7 +84,7 @@ module _ (id_of : Kind → List ℕ → List ℕ) where
 
 -- This answer came of `ask`; the files of its folder are as it says, and no others changed.
 pub record Asks (dir : List ℕ) (paths : List (List ℕ)) (s : Span) (answer : Answer) : Type 0 where
-  pub one_of : IsAskAnswer answer
+  pub one_of : IsAskAnswer s.id_of paths answer
   pub ends : s.told.depot → AskEnds s.id_of paths (old_archive dir s) (new_archive dir s) answer
   pub elsewhere : s.told.depot → SameElsewhere dir s.old.depot.files s.new.depot.files
   pub own : s.told.depot → KeepsOwn s.id_of (old_archive dir s) (new_archive dir s) answer

@@ -4,7 +4,7 @@ use Rattle.swh_base.specs.declared.kind.Kind.{Kind}
 use Rattle.swh_outside.specs.Files.{Files}
 use Rattle.swh_model.specs.declared.event.Event.{Event}
 use Rattle.swh_model.specs.Archive.{Archive}
-use Rattle.swh_model.specs.Step.{replay}
+use Rattle.swh_model.specs.Step.{IsHistory, replay}
 use Rattle.swh_check.specs.Counts.{IsReport}
 use Rattle.swh_check.specs.declared.report.Report.{Report}
 use Rattle.swh_segment.specs.Making.{IsNotMade}
@@ -41,10 +41,16 @@ module _ (id_of : Kind → List ℕ → List ℕ) where
   IsChecked a Memory = Unit {0}
   IsChecked a _ = ⊥
 
+  -- The check of the replay of a history that may happen comes to this.
+  pub record ChecksHistory (answer : Answer) : Type 0 where
+    pub history : List Event
+    pub happens : IsHistory id_of history
+    pub checked : IsChecked (replay history) answer
+
   -- `check` has no other answers, whether the depot tells its content or not.
   abbrev pub IsCheckAnswer : Answer → Type 0
-  IsCheckAnswer (Told text end) = ((a : Archive) × TellsCounts a text) × (end ≡ Done)
-  IsCheckAnswer (Damaged text) = IsDamagedLine text ⊎ ((a : Archive) × TellsBody id_of a text)
+  IsCheckAnswer (Told text end) = ChecksHistory (Told text end)
+  IsCheckAnswer (Damaged text) = IsDamagedLine text ⊎ ChecksHistory (Damaged text)
   IsCheckAnswer answer = IsOpenRefusal answer
 
   -- The counts are those of the replay of the history for which the files stand, and nothing is written.

@@ -1,5 +1,5 @@
 -- What `load` does.
-use Rattle.std.specs.Prelude.{◌≡◌, ◌⊎◌, ◌<◌, ◌++◌, ℕ, List, Contains, map, flat_map}
+use Rattle.std.specs.Prelude.{◌≡◌, ◌⊎◌, ◌<◌, ◌≤◌, ◌++◌, ℕ, List, Contains, map, flat_map}
 use Rattle.std.specs.List.{AllByRecursion}
 use Rattle.swh_model.specs.declared.event.Event.{Event}
 use Rattle.swh_model.specs.Meaning.{Made}
@@ -20,7 +20,7 @@ use Rattle.swh_program.specs.Damage.{damaged_line, IsHarmedAt}
 use Rattle.swh_program.specs.LeftAlone.{IsRefusedInOrder}
 use Rattle.swh_program.specs.Lines.{LoadedJob, outcomes, load_line}
 use Rattle.swh_program.specs.Load.{Givens, IsLoad, LoadEnds}
-use Rattle.swh_program.specs.Opening.{IsArchive, IsUnusable}
+use Rattle.swh_program.specs.Opening.{IsArchive, IsUnusable, IsAtMostOpened}
 use Rattle.swh_program.specs.Own.{KeepsOwn, EndsOwn}
 use Rattle.swh_program.specs.Run.{ComesTo, IsExactly, Ends, IsPrintedWith, IsPrintedUnlessFailed}
 use Rattle.swh_program.specs.declared.answer.Answer.{Answer}
@@ -60,6 +60,11 @@ pub record IsByLines (dir path : List ℕ) (s : Span) (status : ℕ) : Type 0 wh
   pub full : IsExactly 0 (AllByRecursion IsFullLine (outcomes loads)) status
   pub short : IsExactly 1 (HasShortLine (outcomes loads)) status
 
+-- Some jobs were loaded, one after the other.
+pub record HasLoaded (dir : List ℕ) (s : Span) : Type 0 where
+  pub loads : List LoadedJob
+  pub load : IsLoad (givens_of s) (old_archive dir s) (new_archive dir s) loads
+
 -- What a run of `load` does.
 pub record DoesLoad (dir path : List ℕ) (s : Span) (status : ℕ) : Type 0 where
   pub ends : Ends (Loads dir path s) s status
@@ -80,6 +85,9 @@ pub record DoesLoad (dir path : List ℕ) (s : Span) (status : ℕ) : Type 0 whe
   pub job_first : s.told.origins → HasNoJobs s.old.desk.file_at path → status ≡ 4 → DeskFailed s ⊎ SinkFailed s
   pub archive_first : s.told.origins → s.told.depot → IsUnusable s.id_of (old_archive dir s) → status ≡ 4
       → DepotFailed s ⊎ DeskFailed s ⊎ SinkFailed s
+  -- Jobs were loaded, or nothing was done to the files but barriers, as always with 2 and 3.
+  pub files : s.told.depot → HasLoaded dir s ⊎ IsAtMostOpened (old_archive dir s) (new_archive dir s)
+  pub refused : s.told.depot → 2 ≤ status → status < 4 → IsAtMostOpened (old_archive dir s) (new_archive dir s)
   -- 0 and 1: all lines are full, or a line is neither full nor stopped by a disk or by memory.
   pub by_lines : status < 2 → IsByLines dir path s status
   pub bad_input : (jobs : List Job) (job : Job) (before : List Event) → s.told.depot → s.told.origins

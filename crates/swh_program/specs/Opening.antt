@@ -20,6 +20,10 @@ IsOnlyOpened old new = new ≡ files_done barriers old
 abbrev pub IsUntouched : Files → Files → Type 0
 IsUntouched old new = (new ≡ old) ⊎ IsOnlyOpened old new
 
+-- Nothing was done, or nothing but barriers, the last of which may have failed.
+abbrev pub IsAtMostOpened : Files → Files → Type 0
+IsAtMostOpened old new = IsUntouched old new ⊎ FilesBreaks barriers old new
+
 -- what the keeper's refusal comes to
 abbrev pub IsRefusalFor : OpenWhy → Answer → Type 0
 IsRefusalFor why.Made answer = ⊥
@@ -55,6 +59,6 @@ module _ (id_of : Kind → List ℕ → List ℕ) where
   abbrev pub OpenEnds : Files → Files → Answer → Type 0
   OpenEnds old new NotMade = IsNotMade (old 0).seen × IsOnlyOpened old new
   OpenEnds old new (Damaged text) = TellsHarm id_of old text × IsOnlyOpened old new
-  OpenEnds old new OutsideDisk = IsUntouched old new ⊎ FilesBreaks barriers old new
+  OpenEnds old new OutsideDisk = IsAtMostOpened old new
   OpenEnds old new Memory = IsUntouched old new
   OpenEnds old new _ = ⊥

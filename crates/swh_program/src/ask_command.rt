@@ -111,7 +111,8 @@ pub fn ask<N: Namer, P: Depot, W: AsStr>(
     dir: &str,
     paths: &[W],
 ) -> Answer
-    ensures one_of { IsAskAnswer result }
+    // The replies are those of one history, which is the one for which the files stand where the depot tells them.
+    ensures one_of { IsAskAnswer N.id_of (map W.text paths.now) result }
     ensures ends { P.tells → AskEnds N.id_of (map W.text paths.now) (archive_at (P.files depot.old) dir.now)
         (archive_at (P.files depot.new) dir.now) result }
     ensures own { P.tells → KeepsOwn N.id_of (archive_at (P.files depot.old) dir.now)

@@ -75,6 +75,7 @@ fn check_open<N: Namer, D: Disk>(alloc: Global, namer: &N, keeper: &mut Keeper<N
 
 /// Checks the archive in a folder: each stored body is read again, and what is held is counted.
 pub fn check<N: Namer, P: Depot>(alloc: Global, namer: N, depot: &mut P, dir: &str) -> Answer
+    // The counts are those of a history, which is the one for which the files stand where the depot tells them.
     ensures one_of { IsCheckAnswer N.id_of result }
     ensures ends { P.tells → CheckEnds N.id_of (archive_at (P.files depot.old) dir.now)
         (archive_at (P.files depot.new) dir.now) result }

@@ -3,6 +3,7 @@ ghost use Rattle.std.specs.Prelude.{◌≡◌, ◌≤◌, ◌<◌, List, None, E
 ghost use Rattle.swh_outside.specs.Faults.{Rose};
 ghost use Rattle.swh_outside.specs.Files.{AreImages, files_of, files_done};
 ghost use Rattle.swh_model.specs.declared.event.Event.{Event};
+ghost use Rattle.swh_model.specs.Step.{IsHistory};
 ghost use Rattle.swh_segment.specs.Making.{IsMade, barriers};
 ghost use Rattle.swh_segment.specs.Settled.{seen_of};
 ghost use Rattle.swh_keeper.specs.Kept.{IsKept};
@@ -48,6 +49,8 @@ pub fn open_archive<N: Namer, P: Depot>(
     ensures disks_tell { P.tells → P.D.tells }
     ensures archive { P.tells → IfOk result (λ keeper.
         IsArchive N.id_of (archive_at (P.files depot.old) dir.now) keeper.history) }
+    // Whatever the disks tell, the history may happen.
+    ensures happens { IfOk result (λ keeper. IsHistory N.id_of keeper.history) }
     ensures no_other { P.tells → IfOk result (λ keeper. (h : List Event)
         → IsArchive N.id_of (archive_at (P.files depot.old) dir.now) h → keeper.history ≡ h) }
     ensures made { P.tells → OnOk result (IsMade (archive_at (P.files depot.old) dir.now 0).seen) }

@@ -1,8 +1,16 @@
 use Rattle.std.proofs.Common.{◌∙◌, map}
 use Rattle.swh_program.specs.Archives.{archive_at}
-use Rattle.swh_program.proofs.Asked.{refused, replied}
+use Rattle.swh_program.proofs.Asked.{one_refused, one_replied, refused, replied}
 use Rattle.swh_program.proofs.Owned.{keeps_by_end, told_archive_undamaged}
 use Rattle.swh_program.proofs.ask_command.ask.Goals as goal
+
+pub returns-in-Err-clause-one_of : goal.returns-in-Err-clause-one_of
+returns-in-Err-clause-one_of g c = one_refused g.N.Namer.id_of _ c.in-Err.answer c.in-Err.ensures.one_of
+
+pub returns-clause-one_of : goal.returns-clause-one_of
+returns-clause-one_of g c =
+    let shown = c.replayed.ensures c.in-Ok.ensures.unwounded in
+    one_replied g.N.Namer.id_of (map g.W.AsStr.text c.args.paths.now) _ c.in-Ok.ensures.happens _ (rw shown at c.tell_replies-answer.ensures)
 
 pub returns-in-Err-clause-ends : goal.returns-in-Err-clause-ends
 returns-in-Err-clause-ends g c told = refused g.N.Namer.id_of _ _ _ c.in-Err.answer (c.in-Err.ensures.ends told)

@@ -12,7 +12,7 @@ pub returns-in-Err-clause-ends : goal.returns-in-Err-clause-ends
 returns-in-Err-clause-ends g c told = refused_unchecked g.N.Namer.id_of _ _ c.in-Err.answer (c.in-Err.ensures.ends told)
 
 pub returns-clause-one_of : goal.returns-clause-one_of
-returns-clause-one_of g c = one_checked g.N.Namer.id_of _ c.check_open-answer.result c.check_open-answer.ensures.checked
+returns-clause-one_of g c = one_checked g.N.Namer.id_of _ c.in-Ok.ensures.happens c.check_open-answer.result c.check_open-answer.ensures.checked
 
 pub returns-clause-ends : goal.returns-clause-ends
 returns-clause-ends g c told =
