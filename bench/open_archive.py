@@ -17,10 +17,11 @@ import time
 
 from open_memory import batch_size, content, peak_of_asking, write_archive
 from program import find_program
+from verdict import Verdict
 
 SHAPES = ((100_000, 20), (1_000_000, 20), (16_000, 65_536))
 ROUNDS = 3
-LEAST_OF_CHECK = 4
+MOST_OF_CHECK = 0.25
 MOST_OF_TEN = 12
 TIMES_BODIES = 1.3
 BYTES_AN_OBJECT = 400
@@ -56,7 +57,7 @@ def longest_run(size):
 
 def main():
     program = find_program()
-    good = True
+    verdict = Verdict()
     openings = []
     with tempfile.TemporaryDirectory() as folder:
         empty = peak_of_asking(program, write_archive(os.path.join(folder, "empty"), 0, 20))
@@ -69,14 +70,12 @@ def main():
             check = time_of(["git", "-C", repository, "fsck", "--full", "--no-progress", "--no-dangling"])
             peak = peak_of_asking(program, archive) - empty
             most = TIMES_BODIES * count * size + BYTES_AN_OBJECT * count + longest_run(size)
-            print("%8d contents of %6d bytes: opened in %6.2f s; fsck %7.2f s, %5.1f times; sha1sum %6.2f s, %.2f of its rate;"
-                  " peak %d MB, at most %d"
-                  % (count, size, opening, check, check / opening, sums, sums / opening, peak >> 20, int(most) >> 20))
+            print("%d contents of %d bytes: opened in %.2f s; fsck %.2f s; sha1sum %.2f s" % (count, size, opening, check, sums))
             openings.append(opening)
-            good = good and check / opening >= LEAST_OF_CHECK and peak <= most
-    ratio = openings[1] / openings[0]
-    print("a million takes %.1f times a hundred thousand, at most %d" % (ratio, MOST_OF_TEN))
-    sys.exit(0 if good and ratio <= MOST_OF_TEN else 1)
+            verdict.at_most("opening %d contents, times of git fsck" % count, opening / check, MOST_OF_CHECK)
+            verdict.at_most("its peak, MB", peak / 2**20, most / 2**20)
+    verdict.at_most("opening ten times the contents, times as long", openings[1] / openings[0], MOST_OF_TEN)
+    verdict.end()
 
 
 if __name__ == "__main__":
