@@ -75,7 +75,7 @@ sys.stdout.buffer.write(said)
 
 def peak_of_asking(program, archive):
     """The most bytes that the process held at once."""
-    command = [program, "ask", archive, "/api/1/origin/https%3A%2F%2Fe.org%2Fp/visits/"]
+    command = [program, "ask", archive, "/api/1/origin/https%3A%2F%2Fe.org%2Fnone/visits/"]
     launched = subprocess.run([sys.executable, "-S", "-c", LAUNCHER] + command, check=True, stdout=subprocess.PIPE)
     kilobytes, said = launched.stdout.split(b"\n", 1)
     if not said.startswith(NOT_FOUND):
