@@ -20,14 +20,15 @@ import time
 from open_memory import MOST_BYTES, MOST_OBJECTS, batch_record
 from open_visits import ORIGIN, WORDS, record
 from program import find_program
+from verdict import Verdict
 
 SMALL = (1_000, 1_000, 20)
 LARGE = (16, 1_000, 65_536)
 REVISIONS = 300_000
 DEPTH = 100_000
 ROUNDS = 3
-LEAST_OF_CHECK = 4
-LEAST_OF_SUM = 0.5
+MOST_OF_FSCK = 0.25
+MOST_OF_SUM = 2.0
 PERSON = b"A <a@e.org> 1000000000 +0000"
 CONTENT, DIRECTORY, REVISION, SNAPSHOT = 1, 2, 3, 5
 
@@ -150,7 +151,7 @@ def time_check(program, archive, objects, rounds=ROUNDS):
 
 def main():
     program = find_program()
-    good = True
+    verdict = Verdict()
     with tempfile.TemporaryDirectory() as folder:
         for name, shape in (("small", SMALL), ("large", LARGE)):
             archive = os.path.join(folder, name)
@@ -159,15 +160,15 @@ def main():
             check = time_check(program, archive, objects)
             sums, _ = time_of(["sha1sum", os.path.join(archive, "1")])
             fsck, _ = time_of(["git", "-C", repository, "fsck", "--full", "--no-progress"])
-            print("%8d objects: checked in %6.2f s; fsck %6.2f s, %4.1f times; sha1sum %6.2f s, %.2f of its rate"
-                  % (objects, check, fsck, fsck / check, sums, sums / check))
-            good = good and fsck / check >= LEAST_OF_CHECK
-        good = good and sums / check >= LEAST_OF_SUM
+            print("%d objects: checked in %.2f s; fsck %.2f s; sha1sum %.2f s" % (objects, check, fsck, sums))
+            verdict.at_most("check of the %s archive, times of git fsck" % name, check / fsck, MOST_OF_FSCK)
+        verdict.at_most("check of the large archive, times of sha1sum", check / sums, MOST_OF_SUM)
         for name, write in (("chain of %d revisions" % REVISIONS, write_chain), ("folder %d deep" % DEPTH, write_depth)):
             archive = os.path.join(folder, name)
             objects = write(archive)
-            print("a %s is checked in %.2f s" % (name, time_check(program, archive, objects, 1)))
-    sys.exit(0 if good else 1)
+            took = time_check(program, archive, objects, 1)
+            verdict.as_told("check of a %s, in %.2f s" % (name, took))
+    verdict.end()
 
 
 if __name__ == "__main__":

@@ -17,6 +17,7 @@ import tempfile
 import time
 
 from program import find_program
+from verdict import Verdict
 
 FILES = 70_000
 CHOSEN_BITS = 5
@@ -137,7 +138,7 @@ def time_ask(program, archive):
 def main():
     program = find_program()
     count = int(sys.argv[2]) if len(sys.argv) > 2 else FILES
-    good = True
+    verdict = Verdict()
     with tempfile.TemporaryDirectory() as folder:
         chosen, others = choose(folder, count)
         loads, asks = {}, {}
@@ -148,11 +149,9 @@ def main():
             loads[which] = min(time_load(program, archive, stream) for _ in range(ROUNDS))
             asks[which] = min(time_ask(program, archive) for _ in range(ROUNDS))
         for what, took in (("load", loads), ("open", asks)):
-            ratio = took["chosen"] / took["others"]
-            good = good and ratio <= MOST_TIMES
-            print("%s of %d files: chosen %7.3f s, others %7.3f s, ratio %.2f, at most %.1f"
-                  % (what, count, took["chosen"], took["others"], ratio, MOST_TIMES))
-    sys.exit(0 if good else 1)
+            print("%s of %d files: chosen %.3f s, others %.3f s" % (what, count, took["chosen"], took["others"]))
+            verdict.at_most("%s of chosen names, times the others" % what, took["chosen"] / took["others"], MOST_TIMES)
+    verdict.end()
 
 
 if __name__ == "__main__":

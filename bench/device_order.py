@@ -15,6 +15,7 @@ import sys
 import tempfile
 
 from program import TOP, find_program
+from verdict import Verdict
 
 STREAM = os.path.join(TOP, "examples", "first.fi")
 JOB = "fast\thttps://e.org/p\t%s\n" % STREAM
@@ -152,15 +153,17 @@ def main():
     if shutil.which("strace") is None:
         print("strace is not there (Debian: apt-get install strace)")
         sys.exit(2)
+    verdict = Verdict()
     with tempfile.TemporaryDirectory() as room:
         with open(os.path.join(room, "jobs"), "w") as file:
             file.write(JOB)
         for case in (an_archive, folders_above, a_killed_making, a_lost_store, nothing_there):
             try:
                 case(program, room)
+                verdict.as_told(case.__name__)
             except Wrong as wrong:
-                sys.exit("%s: %s" % (case.__name__, wrong))
-            print("%s: in order" % case.__name__)
+                verdict.as_told(case.__name__, wrong)
+    verdict.end()
 
 
 if __name__ == "__main__":

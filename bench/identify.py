@@ -14,6 +14,7 @@ import tempfile
 import time
 
 from program import find_program
+from verdict import Verdict
 
 FILE_BYTES = 67_108_864
 MOST_TIMES = 2.0
@@ -58,11 +59,11 @@ def main():
             ours.append(took)
             peak = max(peak, held)
             theirs.append(run(["sha1sum", path])[0])
-    ratio = min(ours) / min(theirs)
-    share = peak / FILE_BYTES
-    print("swharc %.3f s, sha1sum %.3f s: ratio %.2f, at most %.1f" % (min(ours), min(theirs), ratio, MOST_TIMES))
-    print("peak %d bytes: %.2f times the file, less than %.1f" % (peak, share, MOST_MEMORY))
-    sys.exit(0 if ratio <= MOST_TIMES and share < MOST_MEMORY else 1)
+    print("swharc %.3f s, sha1sum %.3f s; peak %d bytes" % (min(ours), min(theirs), peak))
+    verdict = Verdict()
+    verdict.at_most("naming a file, times of sha1sum", min(ours) / min(theirs), MOST_TIMES)
+    verdict.below("its peak, times the file", peak / FILE_BYTES, MOST_MEMORY)
+    verdict.end()
 
 
 if __name__ == "__main__":

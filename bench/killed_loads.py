@@ -20,6 +20,7 @@ import time
 import urllib.parse
 
 from program import find_program
+from verdict import Verdict
 
 TIMES = 300
 ORIGINS = ["https://e.org/%d" % number for number in range(8)]
@@ -117,6 +118,7 @@ def main():
     program = find_program()
     times = int(sys.argv[2]) if len(sys.argv) > 2 else TIMES
     noise = random.Random(5)
+    verdict = Verdict()
     with tempfile.TemporaryDirectory() as folder:
         archive = Archive(program, folder, noise)
         whole = max(archive.load() for _ in range(3))
@@ -126,11 +128,13 @@ def main():
                 killed += archive.kill_load(whole)
                 if number % 10 == 9:
                     archive.load()
+            verdict.as_told("%d loads that were to be killed" % times)
         except Wrong as wrong:
-            print("after %d runs: %s" % (number, wrong))
-            sys.exit(1)
+            verdict.as_told("%d loads that were to be killed" % times, "after %d: %s" % (number, wrong))
         unended = sum(visit["status"] not in ENDS for visits in archive.visits.values() for visit in visits)
-    print("%d runs, of which %d were killed; %d visits have no end; nothing was lost" % (times, killed, unended))
+    print("%d were killed; %d visits have no end" % (killed, unended))
+    verdict.at_least("loads that were killed", killed, 1)
+    verdict.end()
 
 
 if __name__ == "__main__":

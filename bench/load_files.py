@@ -14,6 +14,7 @@ import tempfile
 import time
 
 from program import find_program
+from verdict import Verdict
 
 SIZES = (10_000, 100_000)
 FILE_BYTES = 100
@@ -75,9 +76,9 @@ def main():
             git = time_import(folder, stream)
             print("%7d files: swharc %7.3f s (%8.0f files/s), git fast-import %7.3f s (%8.0f files/s)"
                   % (count, best[count], count / best[count], git, count / git))
-    ratio = best[SIZES[1]] / best[SIZES[0]]
-    print("ratio %.1f, at most %d" % (ratio, MOST_TIMES))
-    sys.exit(0 if ratio <= MOST_TIMES else 1)
+    verdict = Verdict()
+    verdict.at_most("ten times the files of one commit, times as long", best[SIZES[1]] / best[SIZES[0]], MOST_TIMES)
+    verdict.end()
 
 
 if __name__ == "__main__":

@@ -23,6 +23,7 @@ import tempfile
 import time
 
 from program import find_program
+from verdict import Verdict
 
 LARGE_BYTES = 300 << 20
 LARGE_COMMITS = 3
@@ -32,8 +33,8 @@ COMMITS = (5_000, 10_000)
 FILES, FOLDERS = 3_000, 300
 CHANGES = 2
 ROUNDS = 3
-LEAST_OF_IMPORT = 8
-LEAST_OF_SUM = 0.4
+MOST_OF_IMPORT = 0.125
+MOST_OF_SUM = 2.5
 MOST_OF_HISTORY = 2.4
 TIMES_BODIES = 1.3
 BYTES_AN_OBJECT = 400
@@ -196,7 +197,7 @@ def time_sum(stream):
 
 
 def measure(program, folder, name, commits, empty):
-    """The best of some rounds, in turn: seconds of load, import and sum; and whether the memory is within its bound."""
+    """The best of some rounds, in turn: seconds of load, import and sum; and the peak of memory and its bound, in MB."""
     stream, bodies, objects, children = make_stream(folder, name, commits)
     rounds = [(load(program, folder, stream), time_import(folder, stream), time_sum(stream)) for _ in range(ROUNDS)]
     took = min(round[0][0] for round in rounds)
@@ -209,13 +210,7 @@ def measure(program, folder, name, commits, empty):
           "%d bodies of %d bytes, peak %d of %d bytes (%d without the children)"
           % (name, os.path.getsize(stream), took, imported, imported / took, summed, summed / took, objects, bodies, peak, most,
              without))
-    sys.stdout.flush()
-    return took, imported, summed, peak <= most
-
-
-def told(what, good):
-    print("%s: %s" % (what, "yes" if good else "NO"))
-    return good
+    return took, imported, summed, peak / 2**20, most / 2**20
 
 
 def main():
@@ -227,15 +222,14 @@ def main():
         large = measure(program, folder, "large", large_commits(), empty)
         blob = measure(program, folder, "blob", blob_commits(), empty)
         shorter, longer = (measure(program, folder, "history%d" % count, history_commits(count), empty) for count in COMMITS)
-    good = [
-        told("the large one is at least %d times as fast as git fast-import" % LEAST_OF_IMPORT, LEAST_OF_IMPORT * large[0] <= large[1]),
-        told("the large one has at least %.1f of sha1sum's rate" % LEAST_OF_SUM, LEAST_OF_SUM * large[0] <= large[2]),
-        told("the history is no slower than git fast-import", shorter[0] <= shorter[1]),
-        told("twice the history takes at most %.1f times as long (%.2f)" % (MOST_OF_HISTORY, longer[0] / shorter[0]),
-             longer[0] <= MOST_OF_HISTORY * shorter[0]),
-        told("the memory is within its bound", all(one[3] for one in (large, blob, shorter, longer))),
-    ]
-    sys.exit(0 if all(good) else 1)
+    verdict = Verdict()
+    verdict.at_most("the large stream, times of git fast-import", large[0] / large[1], MOST_OF_IMPORT)
+    verdict.at_most("the large stream, times of sha1sum", large[0] / large[2], MOST_OF_SUM)
+    verdict.at_most("5,000 commits, times of git fast-import", shorter[0] / shorter[1], 1.0)
+    verdict.at_most("twice the commits, times as long", longer[0] / shorter[0], MOST_OF_HISTORY)
+    for name, one in (("large stream", large), ("blob", blob), ("5,000 commits", shorter), ("10,000 commits", longer)):
+        verdict.at_most("peak of %s, MB" % name, *one[3:])
+    verdict.end()
 
 
 if __name__ == "__main__":

@@ -14,6 +14,7 @@ import tempfile
 import time
 
 from program import find_program
+from verdict import Verdict
 
 SIZES = (32, 256)
 MOST_TIMES = 12
@@ -60,9 +61,9 @@ def main():
             took = min(time_load(program, folder, jobs, count) for _ in range(ROUNDS))
             print("%d jobs: %.3f s, %.2f ms a job" % (count, took, 1000 * took / count))
             shortest.append(took)
-    ratio = shortest[1] / shortest[0]
-    print("%d times the jobs take %.1f times as long, at most %d" % (SIZES[1] // SIZES[0], ratio, MOST_TIMES))
-    sys.exit(0 if ratio <= MOST_TIMES else 1)
+    verdict = Verdict()
+    verdict.at_most("eight times the jobs, times as long", shortest[1] / shortest[0], MOST_TIMES)
+    verdict.end()
 
 
 if __name__ == "__main__":

@@ -9,11 +9,11 @@ the peak of a load of an empty stream, each may hold 64 MB. Beside it stands the
 stream, in the same run. The program is the built one, outside the gate.
 """
 import os
-import sys
 import tempfile
 
 from load_history import load, time_import
 from program import find_program
+from verdict import Verdict
 
 CHANGES = 200_000
 MOST_BYTES = 64 << 20
@@ -48,7 +48,7 @@ def shapes():
 
 def main():
     program = find_program()
-    good = True
+    verdict = Verdict()
     with tempfile.TemporaryDirectory() as folder:
         stream = os.path.join(folder, "stream")
         open(stream, "wb").close()
@@ -57,12 +57,9 @@ def main():
             with open(stream, "wb") as out:
                 out.write(HEAD + b"".join(map(change, range(CHANGES))) + b"\n")
             took, peak = load(program, folder, stream)
-            held = peak - empty
-            print("%-20s swharc %6.2f s, git fast-import %6.2f s; peak %5.1f MB, at most %d MB"
-                  % (name + ":", took, time_import(folder, stream), held / 2**20, MOST_BYTES >> 20))
-            sys.stdout.flush()
-            good = good and held <= MOST_BYTES
-    sys.exit(0 if good else 1)
+            print("%s: swharc %.2f s, git fast-import %.2f s" % (name, took, time_import(folder, stream)))
+            verdict.at_most("%s: peak of 200,000 changes, MB" % name, (peak - empty) / 2**20, MOST_BYTES >> 20)
+    verdict.end()
 
 
 if __name__ == "__main__":

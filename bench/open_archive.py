@@ -3,24 +3,28 @@
 
     python3 bench/open_archive.py [PROGRAM]
 
-Three archives are written as files: of 100,000 and of 1,000,000 contents of 20 bytes, and of 1 GB in 16,000 contents. Each
-is opened by an `ask` for an origin that is not there, and summed; its contents are imported into a new repository, which is
-checked. An opening may take at most a quarter of the time of the check, and that of the million at most 12 times that of
-the hundred thousand. Each time is the best of three. Above the peak of an opening of nothing, an opening may hold 1.3
-times the bodies, 400 bytes an object, and one run. The program is the built one, outside the gate.
+Three archives without visits are written as files: of 100,000 and of 1,000,000 contents of 20 bytes, and of 1 GB in 16,000
+contents; and one with a full visit, which reaches 1,000,000 contents in 1,000 folders. Each is opened by an `ask` for an
+origin that is not there, and summed; its objects are imported into a new repository, which is checked. An opening may take
+at most a quarter of the time of the check, and that of the million at most 12 times that of the hundred thousand. Each time
+is the best of three. Above the peak of an opening of nothing, an opening may hold 1.3 times the bodies, 400 bytes an
+object, and one run. The program is the built one, outside the gate.
 """
 import os
 import subprocess
 import sys
 import tempfile
 import time
+import typing
 
-from open_memory import batch_size, content, peak_of_asking, write_archive
+import check_archive
+from open_memory import MOST_BYTES, batch_size, content, peak_of_asking, write_archive
 from program import find_program
+from verdict import Verdict
 
 SHAPES = ((100_000, 20), (1_000_000, 20), (16_000, 65_536))
 ROUNDS = 3
-LEAST_OF_CHECK = 4
+MOST_OF_CHECK = 0.25
 MOST_OF_TEN = 12
 TIMES_BODIES = 1.3
 BYTES_AN_OBJECT = 400
@@ -54,29 +58,53 @@ def longest_run(size):
     return (29 + size) * batch_size(size)
 
 
+class Case(typing.NamedTuple):
+    """An archive and a repository of the same objects, and how many objects and bytes of bodies they have."""
+
+    what: str
+    archive: str
+    repository: str
+    objects: int
+    bodies: int
+    run: int
+
+
+def contents_case(folder, count, size):
+    archive = write_archive(os.path.join(folder, "A%d" % count), count, size)
+    repository = repository_of(os.path.join(folder, "R%d" % count), count, size)
+    return Case("%d contents" % count, archive, repository, count, count * size, longest_run(size))
+
+
+def visited_case(folder):
+    archive = os.path.join(folder, "visited")
+    objects, revision = check_archive.write_files(archive, check_archive.SMALL)
+    repository = check_archive.repository_of(archive + ".git", check_archive.SMALL, revision)
+    bodies = os.path.getsize(os.path.join(archive, "1")) - 29 * objects
+    return Case("%d visited objects" % objects, archive, repository, objects, bodies, MOST_BYTES)
+
+
+def measure(verdict, program, case, empty):
+    """Judges the opening of a case, and answers its seconds."""
+    opening = time_of([program, "ask", case.archive, "/api/1/origin/https%3A%2F%2Fe.org%2Fnone/visits/"])
+    sums = time_of(["sha1sum", *(os.path.join(case.archive, name) for name in "01")])
+    check = time_of(["git", "-C", case.repository, "fsck", "--full", "--no-progress", "--no-dangling"])
+    peak = peak_of_asking(program, case.archive) - empty
+    most = TIMES_BODIES * case.bodies + BYTES_AN_OBJECT * case.objects + case.run
+    print("%s: opened in %.2f s; fsck %.2f s; sha1sum %.2f s" % (case.what, opening, check, sums))
+    verdict.at_most("opening %s, times of git fsck" % case.what, opening / check, MOST_OF_CHECK)
+    verdict.at_most("its peak, MB", peak / 2**20, most / 2**20)
+    return opening
+
+
 def main():
     program = find_program()
-    good = True
-    openings = []
+    verdict = Verdict()
     with tempfile.TemporaryDirectory() as folder:
         empty = peak_of_asking(program, write_archive(os.path.join(folder, "empty"), 0, 20))
-        for count, size in SHAPES:
-            archive = write_archive(os.path.join(folder, "A%d" % count), count, size)
-            repository = repository_of(os.path.join(folder, "R%d" % count), count, size)
-            files = [os.path.join(archive, name) for name in "01"]
-            opening = time_of([program, "ask", archive, "/api/1/origin/https%3A%2F%2Fe.org%2Fp/visits/"])
-            sums = time_of(["sha1sum", *files])
-            check = time_of(["git", "-C", repository, "fsck", "--full", "--no-progress", "--no-dangling"])
-            peak = peak_of_asking(program, archive) - empty
-            most = TIMES_BODIES * count * size + BYTES_AN_OBJECT * count + longest_run(size)
-            print("%8d contents of %6d bytes: opened in %6.2f s; fsck %7.2f s, %5.1f times; sha1sum %6.2f s, %.2f of its rate;"
-                  " peak %d MB, at most %d"
-                  % (count, size, opening, check, check / opening, sums, sums / opening, peak >> 20, int(most) >> 20))
-            openings.append(opening)
-            good = good and check / opening >= LEAST_OF_CHECK and peak <= most
-    ratio = openings[1] / openings[0]
-    print("a million takes %.1f times a hundred thousand, at most %d" % (ratio, MOST_OF_TEN))
-    sys.exit(0 if good and ratio <= MOST_OF_TEN else 1)
+        openings = [measure(verdict, program, contents_case(folder, *shape), empty) for shape in SHAPES]
+        measure(verdict, program, visited_case(folder), empty)
+    verdict.at_most("opening ten times the contents, times as long", openings[1] / openings[0], MOST_OF_TEN)
+    verdict.end()
 
 
 if __name__ == "__main__":

@@ -6,7 +6,7 @@
 Two archives are written as files: one of four contents of 64 MiB, and one of 300,000 contents of 20 bytes. Each is
 opened by an `ask` for an origin that is not there. Above the peak of an `ask` on an archive of no event, an opening may
 take 1.3 times the bytes of all bodies and 400 bytes an object. Then the store of a small archive is made a terabyte
-long by a hole after its last run, and is opened all the same. The program is the built one, outside the gate.
+long by a hole after its last run, and is opened all the same, with less than 16 MiB. The program is the built one, outside the gate.
 """
 import hashlib
 import os
@@ -16,6 +16,7 @@ import sys
 import tempfile
 
 from program import find_program
+from verdict import Verdict
 
 LARGE = (4, 64 << 20)
 SMALL = (300_000, 20)
@@ -24,6 +25,7 @@ MOST_BYTES = 8_388_608
 TIMES_BODIES = 1.3
 BYTES_AN_OBJECT = 400
 TAIL = 1 << 40
+MOST_OF_SPARSE = 1 << 24
 NOT_FOUND = b"404"
 
 
@@ -73,7 +75,7 @@ sys.stdout.buffer.write(said)
 
 def peak_of_asking(program, archive):
     """The most bytes that the process held at once."""
-    command = [program, "ask", archive, "/api/1/origin/https%3A%2F%2Fe.org%2Fp/visits/"]
+    command = [program, "ask", archive, "/api/1/origin/https%3A%2F%2Fe.org%2Fnone/visits/"]
     launched = subprocess.run([sys.executable, "-S", "-c", LAUNCHER] + command, check=True, stdout=subprocess.PIPE)
     kilobytes, said = launched.stdout.split(b"\n", 1)
     if not said.startswith(NOT_FOUND):
@@ -83,22 +85,21 @@ def peak_of_asking(program, archive):
 
 def main():
     program = find_program()
-    good = True
+    verdict = Verdict()
     with tempfile.TemporaryDirectory() as folder:
         empty = peak_of_asking(program, write_archive(os.path.join(folder, "empty"), 0, 20))
         for name, (count, size) in (("large", LARGE), ("small", SMALL)):
             archive = write_archive(os.path.join(folder, name), count, size)
             peak = peak_of_asking(program, archive) - empty
             most = TIMES_BODIES * count * size + BYTES_AN_OBJECT * count
-            print("%7d contents of %8d bytes: %11d bytes, at most %11d (%.2f times the bodies, %.0f bytes an object)"
-                  % (count, size, peak, most, peak / (count * size), (peak - count * size) / count))
-            good = good and peak <= most
+            print("%d contents of %d bytes: %.2f times the bodies, %.0f bytes an object"
+                  % (count, size, peak / (count * size), (peak - count * size) / count))
+            verdict.at_most("peak of opening %d contents, bytes" % count, peak, int(most))
         sparse = write_archive(os.path.join(folder, "sparse"), 10, 20)
         os.truncate(os.path.join(sparse, "1"), TAIL)
         peak = peak_of_asking(program, sparse) - empty
-        print("a store with a tail of %d bytes is opened: %d bytes" % (TAIL, peak))
-        good = good and peak < 1 << 24
-    sys.exit(0 if good else 1)
+        verdict.below("peak of opening a store with a sparse tail, bytes", peak, MOST_OF_SPARSE)
+    verdict.end()
 
 
 if __name__ == "__main__":

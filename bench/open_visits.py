@@ -17,6 +17,7 @@ import tempfile
 import time
 
 from program import find_program
+from verdict import Verdict
 
 FILES = 10_000
 VISITS = (1, 256)
@@ -95,9 +96,9 @@ def main():
     middle = {visits: statistics.median(took[visits]) for visits in VISITS}
     for visits in VISITS:
         print("%4d visits: %7.3f s" % (visits, middle[visits]))
-    ratio = middle[VISITS[1]] / middle[VISITS[0]]
-    print("ratio %.2f, at most %.1f" % (ratio, MOST_TIMES))
-    sys.exit(0 if ratio <= MOST_TIMES else 1)
+    verdict = Verdict()
+    verdict.at_most("opening with 256 visits, times that with one", middle[VISITS[1]] / middle[VISITS[0]], MOST_TIMES)
+    verdict.end()
 
 
 if __name__ == "__main__":

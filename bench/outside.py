@@ -13,10 +13,10 @@ import resource
 import shutil
 import signal
 import subprocess
-import sys
 import tempfile
 
 from program import TOP, find_program
+from verdict import Verdict
 
 STREAM = os.path.join(TOP, "examples", "first.fi")
 VISITS = "/api/1/origin/https://e.org/p/visits/"
@@ -162,8 +162,7 @@ def full_output(room):
 def interrupted(room):
     """A read that a signal interrupts is tried again."""
     if shutil.which("strace") is None:
-        print("interrupted: left out, strace is not there")
-        return
+        raise Wrong("strace is not there")
     room.archive("A")
     for call in ("read", "pread64"):
         paths = [word for name in ("A/0", "A/1", "jobs", "stream") for word in ("-P", name)]
@@ -173,14 +172,16 @@ def interrupted(room):
 
 def main():
     program = find_program()
+    verdict = Verdict()
     for case in (no_name, not_there, not_a_folder, only_read, at_once, several_makings, size_limit, full_output,
                  interrupted):
         with tempfile.TemporaryDirectory() as folder:
             try:
                 case(Room(program, folder))
+                verdict.as_told(case.__name__)
             except Wrong as wrong:
-                sys.exit("%s: %s" % (case.__name__, wrong))
-        print("%s: as told" % case.__name__)
+                verdict.as_told(case.__name__, wrong)
+    verdict.end()
 
 
 if __name__ == "__main__":

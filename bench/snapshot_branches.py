@@ -16,6 +16,7 @@ import tempfile
 import time
 
 from program import find_program
+from verdict import Verdict
 
 SIZES = (10_000, 100_000)
 MOST_TIMES = 15
@@ -58,9 +59,9 @@ def main():
             write_archive(archive, snapshot_of(count))
             best[count] = min(time_ask(program, archive) for _ in range(ROUNDS))
             print("%7d branches: %7.3f s" % (count, best[count]))
-    ratio = best[SIZES[1]] / best[SIZES[0]]
-    print("ratio %.1f, at most %d" % (ratio, MOST_TIMES))
-    sys.exit(0 if ratio <= MOST_TIMES else 1)
+    verdict = Verdict()
+    verdict.at_most("ten times the branches of a snapshot, times as long", best[SIZES[1]] / best[SIZES[0]], MOST_TIMES)
+    verdict.end()
 
 
 if __name__ == "__main__":
