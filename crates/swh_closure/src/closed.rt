@@ -85,7 +85,7 @@ impl Closed {
     }
 
     /// The names in ascending order, each once.
-    pub(crate) fn list(&self, alloc: Global) -> Result<Vec<Name>, Memory>
+    pub fn list(&self, alloc: Global) -> Result<Vec<Name>, Memory>
         ensures same { IfOk result (λ names. names.items ≡ self.now) }
         ensures ascending { IsStrictlySortedBy name_cmp self.now }
     {
