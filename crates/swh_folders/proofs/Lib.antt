@@ -14,3 +14,7 @@ pub mod Lives
 pub mod Moves
 pub mod Packings
 pub mod Workings
+pub mod Orders
+pub mod Ordering
+pub mod Indexes
+pub mod Options

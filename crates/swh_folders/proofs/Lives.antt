@@ -59,11 +59,11 @@ append-live (x ∷ xs) b (suc j) e = elim (append-live xs b j e) [
 
 -- ## Parts of a root
 
-tail-sound : (n : List ℕ) (k : Child) (at : ℕ → Forest) (f : Forest) → IsSound (beside n (stands at k) f) → (child_at n f ≡ Nothing) × IsSound f
+pub tail-sound : (n : List ℕ) (k : Child) (at : ℕ → Forest) (f : Forest) → IsSound (beside n (stands at k) f) → (child_at n f ≡ Nothing) × IsSound f
 tail-sound n (FileChild l) at f s = (s.2, s.4)
 tail-sound n (FolderChild j) at f s = (s.3, s.5)
 
-some-child : (at : ℕ → Forest) (c : Child) → stands at c ≢ Nothing
+pub some-child : (at : ℕ → Forest) (c : Child) → stands at c ≢ Nothing
 some-child at (FileChild l) e = cc
 some-child at (FolderChild j) e = cc
 
@@ -72,7 +72,7 @@ past_case true n c k k' at f e fresh h = let is = same_is n c e in let none : ch
 past_case false n c k k' at f e fresh h = beside-past n c k at f e ∙ h
 
 -- what stands under an entry's name is the entry's child
-child-of-entry : (names : List (List ℕ)) (at : ℕ → Forest) (es : List Entry) (k : ℕ) (d : Entry) → k < length es → IsSound (forest_of names at es) → child_at (name_at names (get_or es k d).name) (forest_of names at es) ≡ stands at (get_or es k d).child
+pub child-of-entry : (names : List (List ℕ)) (at : ℕ → Forest) (es : List Entry) (k : ℕ) (d : Entry) → k < length es → IsSound (forest_of names at es) → child_at (name_at names (get_or es k d).name) (forest_of names at es) ≡ stands at (get_or es k d).child
 child-of-entry names at [] k d lt s = absurd (omega arith)
 child-of-entry names at (e ∷ es) zero d lt s = beside-here (name_at names e.name) (name_at names e.name) e.child at (forest_of names at es) (same_self (name_at names e.name))
 child-of-entry names at (e ∷ es) (suc k) d lt s =

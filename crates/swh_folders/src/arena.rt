@@ -19,34 +19,18 @@ ghost use Rattle.swh_folders.specs.Arena.{
   Extends,
 };
 ghost use Rattle.swh_base.specs.Directory.{IsEntryName};
+ghost use Rattle.swh_folders.specs.Ordered.{AreOrdered};
 ghost use Rattle.swh_folders.specs.Roots.{AreSound, IsGood};
 
 use crate::entry::{Child, Entry};
-use crate::node::{child_in, kept, name_in, place};
-use crate::packing::Packed;
+use crate::names::Names;
+use crate::node::{child_in, kept, with_entry};
+use crate::packed::Packed;
 use std::alloc::{AllocError, Global};
-
-/// The entries of the folder that stands here; none where no folder does.
-fn opened(alloc: Global, nodes: &[Packed], under: Option<Child>) -> Result<Vec<Entry>, AllocError>
-    requires { IsIn (length nodes.now) under }
-    ensures good { (names : List (Vec ℕ)) → IsArena names nodes.now
-        → IfOk result (λ v. AreGood (length names) (length nodes.now) v.items) }
-    ensures forest { (names : List (Vec ℕ)) → IsArena names nodes.now
-        → IfOk result (λ v. forest_of (texts names) (tree_at names nodes.now) v.items
-        ≡ forest (stands_of (tree_at names nodes.now) under)) }
-{
-    match under {
-        Some(child) => match child {
-            Child::Folder(i) => nodes[i].entries(alloc),
-            Child::File(_) => Ok(Vec::new(alloc)),
-        },
-        None => Ok(Vec::new(alloc)),
-    }
-}
 
 /// What stands under this name in what stands here.
 pub fn step(names: &[Vec<u8>], nodes: &[Packed], under: Option<Child>, name: &[u8]) -> Option<Child>
-    requires good { IsArena names.now nodes.now }
+    requires good { IsGood names.now nodes.now }
     requires under { IsIn (length nodes.now) under }
     ensures inside { IsIn (length nodes.now) result }
     ensures child { stands_of (tree_at names.now nodes.now) result
@@ -61,105 +45,63 @@ pub fn step(names: &[Vec<u8>], nodes: &[Packed], under: Option<Child>, name: &[u
     }
 }
 
-/// The number of this name, where an entry of what stands here has it, and the other entries.
+/// The entries of what stands here, but that of this name; none where no folder stands.
 fn cleared(
     alloc: Global,
     names: &[Vec<u8>],
     nodes: &[Packed],
     under: Option<Child>,
     name: &[u8],
-) -> Result<(Option<usize>, Vec<Entry>), AllocError>
-    requires good { IsArena names.now nodes.now }
+) -> Result<Packed, AllocError>
+    requires good { IsGood names.now nodes.now }
     requires under { IsIn (length nodes.now) under }
-    ensures known { IfOk result (λ r. IfSome r.0
-        (λ n. (n < length names.now) × (name_at (texts names.now) n ≡ name.now))) }
-    ensures good { IfOk result (λ r. AreGood (length names.now) (length nodes.now) r.1.items) }
-    ensures forest { IfOk result (λ r. forest_of (texts names.now) (tree_at names.now nodes.now) r.1.items
+    ensures good { IfOk result (λ p. AreGood (length names.now) (length nodes.now) p.items) }
+    ensures forest { IfOk result (λ p. forest_of (texts names.now) (tree_at names.now nodes.now) p.items
         ≡ without name.now (forest (stands_of (tree_at names.now nodes.now) under))) }
 {
-    let entries = opened(alloc, nodes, under)?;
-    let known = name_in(names, entries.as_slice(), name);
-    let out = kept(alloc, names, entries.as_slice(), name)?;
-    Ok((known, out))
-}
-
-/// The number of a name: the one that is known, or a new one.
-fn numbered(
-    alloc: Global,
-    names: &mut Vec<Vec<u8>>,
-    known: Option<usize>,
-    name: &[u8],
-) -> Result<usize, AllocError>
-    requires { IfSome known (λ n. (n < length names.old.items) × (name_at (texts names.old.items) n ≡ name.now)) }
-    ensures names { Extends names.old.items names.new.items }
-    ensures number { IfOk result (λ n. (n < length names.new.items) × (name_at (texts names.new.items) n ≡ name.now)) }
-{
-    if let Some(number) = known {
-        return Ok(number);
+    match under {
+        Some(child) => match child {
+            Child::Folder(i) => kept(alloc, names, &nodes[i], name),
+            Child::File(_) => Ok(Packed::none(alloc)),
+        },
+        None => Ok(Packed::none(alloc)),
     }
-    let number = names.len();
-    let text = Vec::from_slice(alloc, name)?;
-    names.push(text)?;
-    Ok(number)
 }
 
-/// One entry more, under the name of this number.
-fn add(
-    names: &[Vec<u8>],
-    out: &mut Vec<Entry>,
-    number: usize,
-    child: Child,
-) -> Result<(), AllocError>
-    requires number { number < length names.now }
-    requires others { All (λ f. f.name < length names.now) out.old.items }
-    ensures good { (k : ℕ) → AreGood (length names.now) k out.old.items → IsLower k child
-        → OnOk result (AreGood (length names.now) k out.new.items) }
-    ensures forest { (at : ℕ → Forest) → OnOk result (forest_of (texts names.now) at out.new.items
-        ≡ inserted (name_at (texts names.now) number) (stands at child)
-        (forest_of (texts names.now) at out.old.items)) }
-{
-    let e = Entry {
-        name: number,
-        child,
-    };
-    let at = place(names, out.as_slice(), e);
-    out.insert(at, e)?;
-    Ok(())
-}
-
-/// The child, if there is one, under this name, whose number may be known.
+/// The entries, and the child, if there is one, under this name.
 fn add_some(
     alloc: Global,
-    names: &mut Vec<Vec<u8>>,
-    out: &mut Vec<Entry>,
-    known: Option<usize>,
+    names: &mut Names,
+    out: Packed,
     name: &[u8],
     child: Option<Child>,
-) -> Result<(), AllocError>
-    requires others { All (λ f. f.name < length names.old.items) out.old.items }
-    requires known { IfSome known (λ n. (n < length names.old.items) × (name_at (texts names.old.items) n ≡ name.now)) }
+) -> Result<Packed, AllocError>
+    requires others { All (λ f. f.name < length names.old.items) out.items }
+    requires ordered { AreOrdered (texts names.old.items) out.items }
     ensures names { Extends names.old.items names.new.items }
-    ensures good { (k : ℕ) → AreGood (length names.old.items) k out.old.items → IsIn k child
-        → OnOk result (AreGood (length names.new.items) k out.new.items) }
-    ensures forest { (at : ℕ → Forest) → (k : ℕ) → AreGood (length names.old.items) k out.old.items
-        → OnOk result (forest_of (texts names.new.items) at out.new.items
-        ≡ inserted name.now (stands_of at child) (forest_of (texts names.old.items) at out.old.items)) }
+    ensures good { (k : ℕ) → AreGood (length names.old.items) k out.items → IsIn k child
+        → IfOk result (λ p. AreGood (length names.new.items) k p.items) }
+    ensures forest { (at : ℕ → Forest) (k : ℕ) → AreGood (length names.old.items) k out.items
+        → IfOk result (λ p. forest_of (texts names.new.items) at p.items
+        ≡ inserted name.now (stands_of at child) (forest_of (texts names.old.items) at out.items)) }
 {
     match child {
-        Some(one) => {
-            let number = numbered(alloc, names, known, name)?;
-            add(names.as_slice(), out, number, one)?;
-            Ok(())
+        Some(child) => {
+            let number = names.number(alloc, name)?;
+            let entry = Entry {
+                name: number,
+                child,
+            };
+            with_entry(alloc, names.as_slice(), &out, entry)
         }
-        None => Ok(()),
+        None => Ok(out),
     }
 }
 
 /// The folder of these entries, if there are any.
 fn seal(
-    alloc: Global,
     nodes: &mut Vec<Packed>,
-    out: Vec<Entry>,
+    out: Packed,
 ) -> Result<Option<Child>, AllocError>
     ensures arena { (names : List (Vec ℕ)) → IsArena names nodes.old.items
         → AreGood (length names) (length nodes.old.items) out.items → IsArena names nodes.new.items }
@@ -171,19 +113,18 @@ fn seal(
         → IfOk result (λ r. stands_of (tree_at names nodes.new.items) r
         ≡ folder (forest_of (texts names) (tree_at names nodes.old.items) out.items)) }
 {
-    if out.is_empty() {
+    if out.len() == 0 {
         return Ok(None);
     }
-    let packed = Packed::of(alloc, out.as_slice())?;
     let number = nodes.len();
-    nodes.push(packed)?;
+    nodes.push(out)?;
     Ok(Some(Child::Folder(number)))
 }
 
 /// What stands here, with the child under this name in the place of what stood there.
 pub fn put(
     alloc: Global,
-    names: &mut Vec<Vec<u8>>,
+    names: &mut Names,
     nodes: &mut Vec<Packed>,
     under: Option<Child>,
     name: &[u8],
@@ -202,7 +143,7 @@ pub fn put(
         ≡ folder (put name.now (stands_of (tree_at names.old.items nodes.old.items) child)
         (forest (stands_of (tree_at names.old.items nodes.old.items) under)))) }
 {
-    let (known, mut out) = cleared(alloc, names.as_slice(), nodes.as_slice(), under, name)?;
-    add_some(alloc, names, &mut out, known, name, child)?;
-    seal(alloc, nodes, out)
+    let rest = cleared(alloc, names.as_slice(), nodes.as_slice(), under, name)?;
+    let out = add_some(alloc, names, rest, name, child)?;
+    seal(nodes, out)
 }

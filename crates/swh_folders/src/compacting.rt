@@ -26,7 +26,7 @@ ghost use Rattle.swh_folders.specs.Moved.{AreMoved, IsCopied};
 
 use crate::entry::{Child, Entry};
 use crate::live::live_of;
-use crate::packing::Packed;
+use crate::packed::Packed;
 use std::alloc::{AllocError, Global};
 
 /// Where a child stands now.

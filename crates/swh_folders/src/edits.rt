@@ -13,7 +13,8 @@ ghost use Rattle.swh_base.specs.Directory.{IsEntryName};
 ghost use Rattle.swh_fastlex.specs.Path.{components, IsPath};
 
 use crate::entry::{Child, Leaf};
-use crate::packing::Packed;
+use crate::names::Names;
+use crate::packed::Packed;
 use crate::path::{components_of, find, graft};
 use std::alloc::{AllocError, Global};
 
@@ -50,7 +51,7 @@ fn number_of(child: Option<Child>) -> Option<usize>
 /// The tree with the leaf at the path.
 pub fn set_leaf(
     alloc: Global,
-    names: &mut Vec<Vec<u8>>,
+    names: &mut Names,
     nodes: &mut Vec<Packed>,
     root: Option<usize>,
     path: &[u8],
@@ -81,7 +82,7 @@ pub fn set_leaf(
 /// The tree without what stands at the path and under it.
 pub fn delete_path(
     alloc: Global,
-    names: &mut Vec<Vec<u8>>,
+    names: &mut Names,
     nodes: &mut Vec<Packed>,
     root: Option<usize>,
     path: &[u8],
@@ -107,7 +108,7 @@ pub fn delete_path(
 /// What is left of what stands here before a transfer: all of it, or for a rename all but what stands at the source.
 fn left_of(
     alloc: Global,
-    names: &mut Vec<Vec<u8>>,
+    names: &mut Names,
     nodes: &mut Vec<Packed>,
     here: Option<Child>,
     source: &[&[u8]],
@@ -132,7 +133,7 @@ fn left_of(
 /// source holds nothing.
 pub fn transfer_path(
     alloc: Global,
-    names: &mut Vec<Vec<u8>>,
+    names: &mut Names,
     nodes: &mut Vec<Packed>,
     root: Option<usize>,
     source: &[u8],

@@ -11,7 +11,8 @@ ghost use Rattle.swh_folders.specs.Working.{AreFolders, count_of, root_map, Stay
 use crate::compacting::compact;
 use crate::edits::{Transfer, delete_path, set_leaf, transfer_path};
 use crate::entry::Leaf;
-use crate::packing::Packed;
+use crate::names::Names;
+use crate::packed::Packed;
 use std::alloc::{AllocError, Global};
 
 /// How many entries more than twice those that are needed may stand in folders.
@@ -20,7 +21,7 @@ const SPARE: usize = 65_536;
 /// Folders by their numbers, with the names of their entries.
 #[derive(Drop)]
 pub struct Folders {
-    pub names: Vec<Vec<u8>>,
+    pub names: Names,
     pub nodes: Vec<Packed>,
     /// The number of the first folder whose entries are not counted.
     pub counted: usize,
@@ -36,7 +37,7 @@ impl Folders {
         ensures none { count_of result ≡ 0 }
     {
         Folders {
-            names: Vec::new(alloc),
+            names: Names::new(alloc),
             nodes: Vec::new(alloc),
             counted: 0,
             entries: 0,
@@ -49,7 +50,7 @@ impl Folders {
 fn entries_from(nodes: &[Packed], first: usize) -> usize {
     let mut sum: usize = 0;
     for number in first..nodes.len() {
-        sum = sum.saturating_add(nodes[number].len());
+        sum = sum.saturating_add(nodes[number].cost());
     }
     sum
 }

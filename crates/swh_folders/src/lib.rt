@@ -11,12 +11,16 @@ mod edits;
 mod entry;
 mod folders;
 mod live;
+mod names;
 mod node;
+mod packed;
 mod packing;
 mod path;
+mod spans;
 
 pub use compacting::compact;
 pub use edits::Transfer;
 pub use entry::{Child, Entry, Leaf, whole_id};
 pub use folders::{Folders, count_from, delete_in, set_in, transfer_in};
-pub use packing::Packed;
+pub use names::Names;
+pub use packed::Packed;

@@ -10,7 +10,7 @@ ghost use Rattle.swh_folders.specs.Roots.{AreSound};
 ghost use Rattle.swh_folders.specs.Live.{is_live, IsMarked, AreMarked, HasChild, AreLower, IsClosed, AreLiveParts};
 
 use crate::entry::{Child, Entry};
-use crate::packing::Packed;
+use crate::packed::Packed;
 use std::alloc::{AllocError, Global};
 
 /// Marks a folder that stands from the base on.

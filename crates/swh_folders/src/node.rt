@@ -1,13 +1,16 @@
-//! One folder's entries.
+//! One folder's entries, in the order of git's directories.
 
-ghost use Rattle.std.specs.Prelude.{◌≡◌, ◌<◌, ◌≤◌, ◌++◌, ℕ, List, length, All, IfOk, IfSome, IfNone};
-ghost use Rattle.std.specs.List.{insert};
+ghost use Rattle.std.specs.Prelude.{◌≡◌, ◌<◌, ◌≤◌, ◌+◌, ◌++◌, ℕ, true, false, length, slice_index_or, All, IfOk, IfSome, IfNone};
+ghost use Rattle.swh_folders.specs.declared.entry.Entry.{Entry};
 ghost use Rattle.swh_folders.specs.Forest.{Forest, child_at, is_before};
+ghost use Rattle.swh_folders.specs.Sound.{IsSound};
 ghost use Rattle.swh_folders.specs.PathMap.{same};
+ghost use Rattle.swh_folders.specs.Ordered.{AreOrdered, IsAbove};
 ghost use Rattle.swh_folders.specs.Arena.{
   name_at,
   stands_of,
   forest_of,
+  has_name,
   entries_without,
   entries_with,
   entry_key,
@@ -18,7 +21,7 @@ ghost use Rattle.swh_folders.specs.Arena.{
 };
 
 use crate::entry::{Child, Entry};
-use crate::packing::Packed;
+use crate::packed::Packed;
 use std::alloc::{AllocError, Global};
 
 /// Whether the name of this number is this one.
@@ -27,57 +30,6 @@ fn is_name(names: &[Vec<u8>], number: usize, name: &[u8]) -> bool
     ensures { result ≡ same (name_at (texts names.now) number) name.now }
 {
     names[number].as_slice() == name
-}
-
-/// What stands under this name.
-pub fn child_in(names: &[Vec<u8>], node: &Packed, name: &[u8]) -> Option<Child>
-    requires { All (λ e. e.name < length names.now) node.now.items }
-    ensures inside { (n k : ℕ) → AreGood n k node.now.items → IsIn k result }
-    ensures child { (at : ℕ → Forest) → stands_of at result
-        ≡ child_at name.now (forest_of (texts names.now) at node.now.items) }
-{
-    for place in 0..node.len() {
-        let e = node.at(place);
-        let found = is_name(names, e.name, name);
-        if found {
-            return Some(e.child);
-        }
-    }
-    None
-}
-
-/// The number of this name, where an entry has it.
-pub fn name_in(names: &[Vec<u8>], entries: &[Entry], name: &[u8]) -> Option<usize>
-    requires { All (λ e. e.name < length names.now) entries.now }
-    ensures { IfSome result (λ n. (n < length names.now) × (name_at (texts names.now) n ≡ name.now)) }
-{
-    for e in entries {
-        let found = is_name(names, e.name, name);
-        if found {
-            return Some(e.name);
-        }
-    }
-    None
-}
-
-/// The entries but that of this name.
-pub fn kept(
-    alloc: Global,
-    names: &[Vec<u8>],
-    entries: &[Entry],
-    name: &[u8],
-) -> Result<Vec<Entry>, AllocError>
-    requires { All (λ e. e.name < length names.now) entries.now }
-    ensures { IfOk result (λ v. v.items ≡ entries_without (texts names.now) name.now entries.now) }
-{
-    let mut out = Vec::new(alloc);
-    for e in entries {
-        let dropped = is_name(names, e.name, name);
-        if !dropped {
-            out.push(*e)?;
-        }
-    }
-    Ok(out)
 }
 
 /// What a name is compared with after its own bytes.
@@ -98,32 +50,115 @@ fn is_less(a: &[u8], a_end: &[u8], b: &[u8], b_end: &[u8]) -> bool
     key.cmp(b.iter().chain(b_end)).is_lt()
 }
 
-/// Whether the first entry comes before the second.
-fn comes_before(names: &[Vec<u8>], e: Entry, f: Entry) -> bool
-    requires first { e.name < length names.now }
-    requires second { f.name < length names.now }
-    ensures { result ≡ is_before (entry_key (texts names.now) e) (entry_key (texts names.now) f) }
+/// Whether this name, with what it is compared with after it, comes before the entry.
+fn comes_before(names: &[Vec<u8>], name: &[u8], end: &[u8], f: Entry) -> bool
+    requires { f.name < length names.now }
+    ensures { result ≡ is_before (name.now ++ end.now) (entry_key (texts names.now) f) }
 {
-    is_less(
-        names[e.name].as_slice(),
-        suffix(e.child),
-        names[f.name].as_slice(),
-        suffix(f.child),
-    )
+    is_less(name, end, names[f.name].as_slice(), suffix(f.child))
 }
 
-/// Where the entry is to stand among these.
-pub fn place(names: &[Vec<u8>], entries: &[Entry], e: Entry) -> usize
-    requires entry { e.name < length names.now }
-    requires others { All (λ f. f.name < length names.now) entries.now }
-    ensures within { result ≤ length entries.now }
-    ensures there { insert entries.now result e ≡ entries_with (texts names.now) e entries.now }
+/// The place of the first entry that this name, with what it is compared with after it, comes before.
+fn above(names: &[Vec<u8>], node: &Packed, name: &[u8], end: &[u8]) -> usize
+    requires names { All (λ f. f.name < length names.now) node.now.items }
+    requires ordered { AreOrdered (texts names.now) node.now.items }
+    ensures { IsAbove (texts names.now) (name.now ++ end.now) node.now.items result }
 {
-    for (i, f) in entries.iter().enumerate() {
-        let here = comes_before(names, e, *f);
-        if here {
-            return i;
+    let mut low = 0;
+    let mut high = node.len();
+    'halves: while low < high {
+        let middle = low + (high - low) / 2;
+        let before = comes_before(names, name, end, node.at(middle));
+        if before {
+            high = middle;
+        } else {
+            low = middle + 1;
         }
     }
-    entries.len()
+    low
+}
+
+/// The place before this one, where its entry has this name.
+fn place_before(names: &[Vec<u8>], node: &Packed, place: usize, name: &[u8]) -> Option<usize>
+    requires names { All (λ f. f.name < length names.now) node.now.items }
+    requires within { place ≤ length node.now.items }
+    ensures some { IfSome result (λ k. (k + 1 ≡ place)
+        × ((d : Entry) → has_name (texts names.now) name.now (slice_index_or node.now.items k d) ≡ true)) }
+    ensures none { IfNone result ((k : ℕ) (d : Entry) → k + 1 ≡ place
+        → has_name (texts names.now) name.now (slice_index_or node.now.items k d) ≡ false) }
+{
+    if place == 0 {
+        return None;
+    }
+    let found = is_name(names, node.at(place - 1).name, name);
+    if found {
+        return Some(place - 1);
+    }
+    None
+}
+
+/// The place of the entry of this name: a file's, or else a folder's.
+fn place_of(names: &[Vec<u8>], node: &Packed, name: &[u8]) -> Option<usize>
+    requires names { All (λ f. f.name < length names.now) node.now.items }
+    requires ordered { AreOrdered (texts names.now) node.now.items }
+    ensures within { IfSome result (λ k. k < length node.now.items) }
+    ensures some { IfSome result (λ k. (d : Entry)
+        → has_name (texts names.now) name.now (slice_index_or node.now.items k d) ≡ true) }
+    ensures none { IfNone result (All (λ f. has_name (texts names.now) name.now f ≡ false) node.now.items) }
+{
+    let behind_file = above(names, node, name, b"");
+    if let Some(place) = place_before(names, node, behind_file, name) {
+        return Some(place);
+    }
+    let behind_folder = above(names, node, name, b"/");
+    place_before(names, node, behind_folder, name)
+}
+
+/// What stands under this name.
+pub fn child_in(names: &[Vec<u8>], node: &Packed, name: &[u8]) -> Option<Child>
+    requires names { All (λ e. e.name < length names.now) node.now.items }
+    requires ordered { AreOrdered (texts names.now) node.now.items }
+    ensures inside { (n k : ℕ) → AreGood n k node.now.items → IsIn k result }
+    ensures child { (at : ℕ → Forest) → IsSound (forest_of (texts names.now) at node.now.items)
+        → stands_of at result ≡ child_at name.now (forest_of (texts names.now) at node.now.items) }
+{
+    match place_of(names, node, name) {
+        Some(place) => Some(node.at(place).child),
+        None => None,
+    }
+}
+
+/// The entries but that of this name.
+pub fn kept(
+    alloc: Global,
+    names: &[Vec<u8>],
+    node: &Packed,
+    name: &[u8],
+) -> Result<Packed, AllocError>
+    requires names { All (λ e. e.name < length names.now) node.now.items }
+    requires ordered { AreOrdered (texts names.now) node.now.items }
+    ensures { (at : ℕ → Forest) → IsSound (forest_of (texts names.now) at node.now.items)
+        → IfOk result (λ p. p.items ≡ entries_without (texts names.now) name.now node.now.items) }
+{
+    match place_of(names, node, name) {
+        Some(place) => node.without(alloc, place),
+        None => node.again(alloc),
+    }
+}
+
+/// The entries and one more, at its place.
+pub fn with_entry(
+    alloc: Global,
+    names: &[Vec<u8>],
+    node: &Packed,
+    entry: Entry,
+) -> Result<Packed, AllocError>
+    requires entry { entry.name < length names.now }
+    requires others { All (λ f. f.name < length names.now) node.now.items }
+    requires ordered { AreOrdered (texts names.now) node.now.items }
+    ensures { IfOk result (λ p. p.items ≡ entries_with (texts names.now) entry node.now.items) }
+{
+    let name = names[entry.name].as_slice();
+    let place = above(names, node, name, suffix(entry.child));
+    node.with(alloc, place, entry)
 }

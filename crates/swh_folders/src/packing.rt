@@ -25,12 +25,12 @@ pub struct Slot {
 
 /// The entries of one folder. Contracts see their list.
 #[derive(Drop)]
-pub struct Packed {
+pub struct Flat {
     slots: Vec<Slot>,
     leaves: Vec<Leaf>,
 }
 
-impl Model for Packed {
+impl Model for Flat {
     ghost use Rattle.swh_folders.specs.Listed.{Listed};
 
     ghost Value = { Listed };
@@ -132,22 +132,22 @@ fn files_in(entries: &[Entry]) -> usize
     files
 }
 
-impl Packed {
+impl Flat {
     ghost use Rattle.std.specs.Prelude.{◌≡◌, ◌<◌, [], length, slice_index_or, IfOk};
     ghost use Rattle.swh_folders.specs.declared.entry.Entry.{Entry};
 
     /// No entry.
-    pub fn none(alloc: Global) -> Packed
+    pub fn none(alloc: Global) -> Flat
         ensures { result.items ≡ [] }
     {
-        Packed {
+        Flat {
             slots: Vec::new(alloc),
             leaves: Vec::new(alloc),
         }
     }
 
     /// These entries. Fails where memory runs out, as it has long before there are 2^32 names or folders.
-    pub fn of(alloc: Global, entries: &[Entry]) -> Result<Packed, AllocError>
+    pub fn of(alloc: Global, entries: &[Entry]) -> Result<Flat, AllocError>
         ensures { IfOk result (λ p. p.items ≡ entries.now) }
     {
         let mut slots = Vec::with_capacity(alloc, entries.len())?;
@@ -155,7 +155,7 @@ impl Packed {
         for e in entries {
             pack(*e, &mut slots, &mut leaves)?;
         }
-        Ok(Packed { slots, leaves })
+        Ok(Flat { slots, leaves })
     }
 
     /// How many entries there are.

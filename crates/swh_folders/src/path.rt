@@ -7,11 +7,12 @@ ghost use Rattle.swh_fastlex.specs.Path.{components};
 ghost use Rattle.swh_folders.specs.Sound.{IsSoundHere};
 ghost use Rattle.swh_folders.specs.Forest.{found, graft};
 ghost use Rattle.swh_folders.specs.Roots.{IsGood};
-ghost use Rattle.swh_folders.specs.Arena.{stands_of, tree_at, parts_of, IsArena, IsIn, Grows, AreFronts};
+ghost use Rattle.swh_folders.specs.Arena.{stands_of, tree_at, parts_of, IsIn, Grows, AreFronts};
 
 use crate::arena::{put, step};
 use crate::entry::Child;
-use crate::packing::Packed;
+use crate::names::Names;
+use crate::packed::Packed;
 use std::alloc::{AllocError, Global};
 use swh_pieces::split_at_byte;
 
@@ -22,7 +23,7 @@ pub fn find(
     root: Option<Child>,
     path: &[&[u8]],
 ) -> Option<Child>
-    requires good { IsArena names.now nodes.now }
+    requires good { IsGood names.now nodes.now }
     requires root { IsIn (length nodes.now) root }
     ensures inside { IsIn (length nodes.now) result }
     ensures found { stands_of (tree_at names.now nodes.now) result
@@ -43,7 +44,7 @@ fn fronts_of(
     root: Option<Child>,
     path: &[&[u8]],
 ) -> Result<Vec<Option<Child>>, AllocError>
-    requires good { IsArena names.now nodes.now }
+    requires good { IsGood names.now nodes.now }
     requires root { IsIn (length nodes.now) root }
     ensures { IfOk result (λ v. AreFronts (tree_at names.now nodes.now) (length nodes.now) root
         (parts_of path.now) v.items) }
@@ -60,7 +61,7 @@ fn fronts_of(
 /// The child in the place of all that stands at this path, and of the path's fronts. With no child the path is emptied.
 pub fn graft(
     alloc: Global,
-    names: &mut Vec<Vec<u8>>,
+    names: &mut Names,
     nodes: &mut Vec<Packed>,
     root: Option<Child>,
     path: &[&[u8]],

@@ -1,26 +1,35 @@
-use Rattle.std.proofs.Common.{◌≤◌, sym, ap, refl, ◌∙◌, List, ℕ, length, arith}
-use Rattle.swh_folders.specs.Arena.{texts, stands, forest_of}
+use Rattle.std.proofs.Common.{rules, ◌≡◌, ◌≤◌, sym, ap, subst, refl, ◌∙◌, List, ℕ, length, arith}
+use Rattle.swh_folders.specs.declared.entry.Entry.{Entry}
+use Rattle.swh_folders.specs.Arena.{texts, stands, forest_of, AreGood}
 use Rattle.swh_folders.specs.Forest.{inserted}
-use Rattle.swh_folders.proofs.Arenas.{good-more, same-forest}
-use Rattle.swh_folders.proofs.Steps.{inserted-nothing}
+use Rattle.swh_folders.proofs.Arenas.{if_ok, good-more, same-forest}
+use Rattle.swh_folders.proofs.Steps.{inserted-nothing, with-good, forest-with}
+use Rattle.swh_folders.proofs.Orders.{ordered-more}
 use Rattle.swh_folders.proofs.arena.add_some.Goals as goal
 
+pub with_entry-requires-clause-others : goal.with_entry-requires-clause-others
+with_entry-requires-clause-others c = rw c.as_slice.ensures.value (λ i d lt. let low = c.requires.others i d lt in let more = c.number.ensures.names.longer in omega arith)
+
+pub with_entry-requires-clause-ordered : goal.with_entry-requires-clause-ordered
+with_entry-requires-clause-ordered c = rw c.as_slice.ensures.value (ordered-more c.args.names.now.items c.number.new.self.items c.args.out.items c.number.ensures.names c.requires.others c.requires.ordered)
+
 pub returns-in-None-clause-forest : goal.returns-in-None-clause-forest
-returns-in-None-clause-forest c = λ at k good. rw c.in-None.is (sym (inserted-nothing c.args.name.now (forest_of (texts c.args.names.now.items) at c.args.out.now.items)))
+returns-in-None-clause-forest c = λ at k good. rw c.in-None.is (sym (inserted-nothing c.args.name.now (forest_of (texts c.args.names.now.items) at c.args.out.items)))
 
-pub add-requires-clause-others : goal.add-requires-clause-others
-add-requires-clause-others c = rw c.as_slice.ensures.value (λ i d lt. let low = c.requires.others i d lt in let more = c.numbered.ensures.names.longer in omega arith)
-
-pub returns-in_ok-add-in-Some-clause-good : goal.returns-in_ok-add-in-Some-clause-good
-returns-in_ok-add-in-Some-clause-good c = λ k good low.
-    let new = c.numbered.new.names.items in
-    let more : length c.args.names.now.items ≤ length c.numbered.new.names.items = c.numbered.ensures.names.longer in
-    (rw c.as_slice.ensures.value at c.in_ok-add-in-Some.ensures.good) k (good-more (length c.args.names.now.items) k (length new) k c.args.out.now.items more (omega arith) good) (rw c.in-Some.is at low)
-
-pub returns-in_ok-add-in-Some-clause-forest : goal.returns-in_ok-add-in-Some-clause-forest
-returns-in_ok-add-in-Some-clause-forest c = λ at k good.
-    let new = c.numbered.new.names.items in
+pub returns-in_ok-number-in-Some-clause-good : goal.returns-in_ok-number-in-Some-clause-good
+returns-in_ok-number-in-Some-clause-good c = λ k good low.
     let old = c.args.names.now.items in
-    rw c.in-Some.is ((rw c.as_slice.ensures.value at c.in_ok-add-in-Some.ensures.forest) at
-    ∙ ap (λ (n : List ℕ). inserted n (stands at c.in-Some.one) (forest_of (texts new) at c.args.out.now.items)) c.in_ok-number-in-Some.ensures.number.1
-    ∙ ap (inserted c.args.name.now (stands at c.in-Some.one)) (same-forest (texts new) (texts old) at at (length old) k c.args.out.now.items good c.numbered.ensures.names.same_names (λ j lt. refl)))
+    let new = c.number.new.self.items in
+    let more : length c.args.names.now.items ≤ length c.number.new.self.items = c.number.ensures.names.longer in
+    let e : Entry = record { name = c.in_ok-number-in-Some.number; child = c.in-Some.child } in
+    let whole = good-more (length old) k (length new) k c.args.out.items more (omega arith) good in
+    if_ok c.with_entry.result (λ p is. subst (λ (es : List Entry). AreGood (length new) k es) (sym is) (with-good (texts new) e (length new) k c.args.out.items (record { name = c.in_ok-number-in-Some.ensures.number.0; child = rw c.in-Some.is at low }) whole)) (rw c.as_slice.ensures.value at c.with_entry.ensures)
+
+pub returns-in_ok-number-in-Some-clause-forest : goal.returns-in_ok-number-in-Some-clause-forest
+returns-in_ok-number-in-Some-clause-forest c = λ at k good.
+    let old = c.args.names.now.items in
+    let new = c.number.new.self.items in
+    let e : Entry = record { name = c.in_ok-number-in-Some.number; child = c.in-Some.child } in
+    let tail = ap (λ (n : List ℕ). inserted n (stands at c.in-Some.child) (forest_of (texts new) at c.args.out.items)) c.in_ok-number-in-Some.ensures.number.1
+        ∙ ap (inserted c.args.name.now (stands at c.in-Some.child)) (same-forest (texts new) (texts old) at at (length old) k c.args.out.items good c.number.ensures.names.same_names (λ j lt. refl)) in
+    rw c.in-Some.is (if_ok c.with_entry.result (λ p is. ap (forest_of (texts new) at) is ∙ forest-with (texts new) e at c.args.out.items ∙ tail) (rw c.as_slice.ensures.value at c.with_entry.ensures))

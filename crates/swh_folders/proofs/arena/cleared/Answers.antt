@@ -1,11 +1,39 @@
-use Rattle.std.proofs.Common.{ap, ◌∙◌, length}
+use Rattle.std.proofs.Common.{rules, ◌<◌, List, sym, ap, subst, ◌∙◌, length}
+use Rattle.swh_folders.specs.declared.entry.Entry.{Entry}
 use Rattle.swh_folders.specs.Forest.{without}
-use Rattle.swh_folders.specs.Arena.{tree_at, texts}
+use Rattle.swh_folders.specs.Arena.{tree_at, texts, forest_of, AreGood, entries_without}
+use Rattle.swh_folders.proofs.Arenas.{if_ok, tree-node, entries-good, names-in_range}
 use Rattle.swh_folders.proofs.Steps.{without-good, forest-without}
+use Rattle.swh_folders.proofs.Ordering.{node-sound, node-ordered}
 use Rattle.swh_folders.proofs.arena.cleared.Goals as goal
 
-pub returns-clause-good : goal.returns-clause-good
-returns-clause-good c = rw (c.in_ok-out.ensures, c.as_slice-2.ensures.value) (without-good (texts c.args.names.now) c.args.name.now (length c.args.names.now) (length c.args.nodes.now) c.in_ok-entries.entries.items (c.in_ok-entries.ensures.good c.args.names.now c.requires.good))
+pub kept-requires-clause-names : goal.kept-requires-clause-names
+kept-requires-clause-names c =
+    let lt : c.in-Folder.i < length c.args.nodes.now = search rules in
+    names-in_range (length c.args.names.now) (length c.args.nodes.now) c.index-nodes-i.result.items (entries-good c.args.names.now c.args.nodes.now c.in-Folder.i c.index-nodes-i.result c.requires.good.arena lt c.index-nodes-i.is)
 
-pub returns-clause-forest : goal.returns-clause-forest
-returns-clause-forest c = rw (c.in_ok-out.ensures, c.as_slice-2.ensures.value) (forest-without (texts c.args.names.now) c.args.name.now (tree_at c.args.names.now c.args.nodes.now) c.in_ok-entries.entries.items ∙ ap (without c.args.name.now) (c.in_ok-entries.ensures.forest c.args.names.now c.requires.good))
+pub kept-requires-clause-ordered : goal.kept-requires-clause-ordered
+kept-requires-clause-ordered c =
+    let lt : c.in-Folder.i < length c.args.nodes.now = search rules in
+    node-ordered c.args.names.now c.args.nodes.now c.in-Folder.i c.index-nodes-i.result c.requires.good lt c.index-nodes-i.is
+
+pub returns-in-Folder-clause-good : goal.returns-in-Folder-clause-good
+returns-in-Folder-clause-good c =
+    let names = c.args.names.now in
+    let nodes = c.args.nodes.now in
+    let own = c.index-nodes-i.result in
+    let lt : c.in-Folder.i < length c.args.nodes.now = search rules in
+    let sound = node-sound names nodes c.in-Folder.i own c.requires.good lt c.index-nodes-i.is in
+    let good = entries-good names nodes c.in-Folder.i own c.requires.good.arena lt c.index-nodes-i.is in
+    if_ok c.kept.result (λ p e. subst (λ (es : List Entry). AreGood (length names) (length nodes) es) (sym e) (without-good (texts names) c.args.name.now (length names) (length nodes) own.items good)) (c.kept.ensures (tree_at names nodes) sound)
+
+pub returns-in-Folder-clause-forest : goal.returns-in-Folder-clause-forest
+returns-in-Folder-clause-forest c =
+    let names = c.args.names.now in
+    let nodes = c.args.nodes.now in
+    let own = c.index-nodes-i.result in
+    let at = tree_at names nodes in
+    let lt : c.in-Folder.i < length c.args.nodes.now = search rules in
+    let sound = node-sound names nodes c.in-Folder.i own c.requires.good lt c.index-nodes-i.is in
+    let tree = tree-node names nodes c.in-Folder.i own c.requires.good.arena lt c.index-nodes-i.is in
+    rw (c.in-Some.is, c.in-Folder.is) (if_ok c.kept.result (λ p e. ap (forest_of (texts names) at) e ∙ forest-without (texts names) c.args.name.now at own.items ∙ ap (without c.args.name.now) (sym tree)) (c.kept.ensures at sound))

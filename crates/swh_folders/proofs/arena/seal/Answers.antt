@@ -1,33 +1,26 @@
 use Rattle.std.proofs.Common.{rules, ◌≡◌, ◌<◌, List, sym, ap, subst, ◌∙◌, length, arith}
 use Rattle.std.proofs.lemmas.List.{length-append}
 use Rattle.swh_folders.specs.Forest.{IsFolder}
-use Rattle.swh_folders.specs.declared.entry.Entry.{Entry}
-use Rattle.swh_folders.specs.Sound.{IsSound}
-use Rattle.swh_folders.specs.Arena.{texts, tree_at, forest_of, AreGood}
+use Rattle.swh_folders.specs.Arena.{texts, tree_at}
 use Rattle.swh_folders.proofs.Arenas.{tree-push_old, tree-push_new, arena-push, sound-push}
 use Rattle.swh_folders.proofs.Steps.{not_bare}
 use Rattle.swh_folders.proofs.arena.seal.Goals as goal
 
 pub returns-clause-arena : goal.returns-clause-arena
-returns-clause-arena c = λ names good own.
-    let same : c.in_ok-packed.packed.items ≡ c.args.out.items = c.in_ok-packed.ensures ∙ c.as_slice.ensures.value in
-    rw c.in_ok-push.ensures.items (arena-push names c.args.nodes.now.items c.in_ok-packed.packed good (subst (λ (es : List Entry). AreGood (length names) (length c.args.nodes.now.items) es) (sym same) own))
+returns-clause-arena c = λ names good own. rw c.in_ok-push.ensures.items (arena-push names c.args.nodes.now.items c.args.out good own)
 
 pub returns-clause-grows : goal.returns-clause-grows
 returns-clause-grows c = λ names. rw c.in_ok-push.ensures.items (record {
   longer = simp length-append (omega arith);
-  trees = λ i lt. tree-push_old names c.args.nodes.now.items c.in_ok-packed.packed i lt;
+  trees = λ i lt. tree-push_old names c.args.nodes.now.items c.args.out i lt;
 })
 
 pub returns-clause-folder : goal.returns-clause-folder
 returns-clause-folder c = λ names.
     let at = tree_at names c.args.nodes.now.items in
-    let same : c.in_ok-packed.packed.items ≡ c.args.out.items = c.in_ok-packed.ensures ∙ c.as_slice.ensures.value in
     let n : c.len-number.result ≡ length c.args.nodes.now.items = search rules in
     let some : 0 < length c.args.out.items = search rules in
-    rw (c.in_ok-push.ensures.items, n) (ap IsFolder (tree-push_new names c.args.nodes.now.items c.in_ok-packed.packed ∙ ap (forest_of (texts names) at) same) ∙ sym (not_bare (texts names) at c.args.out.items some))
+    rw (c.in_ok-push.ensures.items, n) (ap IsFolder (tree-push_new names c.args.nodes.now.items c.args.out) ∙ sym (not_bare (texts names) at c.args.out.items some))
 
 pub returns-clause-sound : goal.returns-clause-sound
-returns-clause-sound c = λ names sound own.
-    let same : c.in_ok-packed.packed.items ≡ c.args.out.items = c.in_ok-packed.ensures ∙ c.as_slice.ensures.value in
-    rw c.in_ok-push.ensures.items (sound-push names c.args.nodes.now.items c.in_ok-packed.packed sound (subst (λ (es : List Entry). IsSound (forest_of (texts names) (tree_at names c.args.nodes.now.items) es)) (sym same) own))
+returns-clause-sound c = λ names sound own. rw c.in_ok-push.ensures.items (sound-push names c.args.nodes.now.items c.args.out sound own)

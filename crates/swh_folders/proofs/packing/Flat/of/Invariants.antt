@@ -1,6 +1,6 @@
 use Rattle.std.proofs.Common.{◌≡◌, length, take}
 use Rattle.swh_folders.specs.Packing.{entries_of, ArePlaced}
-use Rattle.swh_folders.proofs.packing.Packed.of.Given as goal
+use Rattle.swh_folders.proofs.packing.Flat.of.Given as goal
 
 abbrev pub invariant-loop-e : goal.invariant-loop-e
 invariant-loop-e l = record {

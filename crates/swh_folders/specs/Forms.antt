@@ -1,0 +1,9 @@
+-- How a folder's entries are kept.
+use Rattle.swh_folders.specs.Listed.{Listed}
+use Rattle.swh_folders.specs.declared.packed.Form.{Form}
+use Rattle.swh_folders.specs.declared.packed.Form.TheVariants.{Flat, Cut}
+
+-- the entries, in either form
+abbrev pub listed_of : Form → Listed
+listed_of (Flat f) = f
+listed_of (Cut s) = s
