@@ -5,6 +5,8 @@ use Rattle.swh_fastrows.specs.Explains.{line_refusal}
 use Rattle.swh_fastrows.specs.Places.{Place}
 use Rattle.swh_fastgrammar.specs.Grammar.Item.{Promise as Promises, Nothing as Silent}
 use Rattle.swh_fastread.specs.Steps.{Whole}
+use Rattle.swh_fastrows.specs.Failing.{MayFail}
+use Rattle.swh_fastrows.proofs.Failings.{refusal_may}
 use Rattle.swh_fastrows.proofs.NextLines.{no_read_fault}
 use Rattle.swh_fastread.proofs.ReadItems.{same_line, same_fail, promise_taken, silent_taken, done_ends, ref_passes, line_explains}
 use Rattle.swh_fastread.proofs.items.held_item.Goals as goal
@@ -58,3 +60,6 @@ returns-in-No-clause-fails g c = λ told p.
 
 pub returns-in-No-clause-cause : goal.returns-in-No-clause-cause
 returns-in-No-clause-cause g c = λ e. absurd (no_read_fault c.line-in-No.result.now c.at.result (sym c.refused_line.ensures ∙ same_fail c.refused_line.result SourceFailed _ refl e))
+
+pub returns-in-No-clause-may : goal.returns-in-No-clause-may
+returns-in-No-clause-may g c = subst MayFail (sym c.refused_line.ensures) (refusal_may c.line-in-No.result.now c.at.result)
