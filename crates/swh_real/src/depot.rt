@@ -3,16 +3,18 @@ ghost use Rattle.std.specs.Prelude.{◌≡◌};
 
 use crate::RealDisk;
 use crate::count::Count;
-use crate::place::{Access, Place};
+use crate::opening::Access;
+use crate::place::Place;
 use std::alloc::{AllocError, Global};
 use std::fs::File;
 use std::marker::Model;
 use std::rt::Files;
 use swh_outside::{Depot, OutFault};
 
-/// Archives' folders in the file system. A file that is absent is made at its first write, and its folder with it. While
-/// file 0 of a folder is open for writing nobody else opens it, here or in another process: that fails. Those who open
-/// it for reading alone do not shut each other out. A contract sees the count of faults.
+/// Archives' folders in the file system. A file that is absent is made at its first write, and its folder with it. A link
+/// in the place of a file, or what is no ordinary file, is not opened: that fails. While file 0 of a folder is open for
+/// writing nobody else opens it, here or in another process: that fails too. Those who open it for reading alone do not
+/// shut each other out. A contract sees the count of faults.
 #[derive(Drop)]
 pub struct RealDepot<R: Files<File = File> + Drop> {
     rt: R,
@@ -31,7 +33,7 @@ impl<R: Files<File = File> + Drop> Model for RealDepot<R> {
 
 impl<R: Files<File = File> + Drop> RealDepot<R> {
     /// Files are opened for reading and writing, and those that may not be written for reading.
-    pub fn new(rt: R, alloc: Global) -> Self
+    pub fn to_write(rt: R, alloc: Global) -> Self
         ensures { result ≡ 0 }
     {
         RealDepot {
@@ -42,7 +44,7 @@ impl<R: Files<File = File> + Drop> RealDepot<R> {
         }
     }
 
-    /// As `new`, but that files which are absent are made, with their folder, when they are opened.
+    /// As `to_write`, but that files which are absent are made, with their folder, when they are opened.
     pub fn to_make(rt: R, alloc: Global) -> Self
         ensures { result ≡ 0 }
     {

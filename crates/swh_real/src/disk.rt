@@ -2,7 +2,9 @@
 ghost use Rattle.std.specs.Prelude.{◌≡◌};
 
 use crate::count::Count;
-use crate::place::{Access, Names, Place};
+use crate::forgetting::forget_cached;
+use crate::opening::Access;
+use crate::place::{Names, Place};
 use crate::reading::read_from;
 use crate::size_limit::check_size_limit;
 use std::fs::File;
@@ -69,6 +71,9 @@ impl<R: Files<File = File> + Drop> RealDisk<R> {
             None => self.place.make(&self.rt)?,
         };
         let written = file.write_all_at(bytes, at);
+        if written.is_err() {
+            forget_cached(&file);
+        }
         self.file = Some(file);
         written
     }
@@ -80,7 +85,10 @@ impl<R: Files<File = File> + Drop> RealDisk<R> {
         let Some(file) = &self.file else {
             return Ok(());
         };
-        sync_file(file, self.access)?;
+        if let Err(fault) = sync_file(file, self.access) {
+            forget_cached(file);
+            return Err(fault);
+        }
         self.place.sync_names(&self.rt, self.names)?;
         self.names = Names::Settled;
         Ok(())

@@ -1,20 +1,11 @@
 // Where a file of an archive stands, and what keeps its name.
+use crate::opening::{Access, lock_file, open_ordinary};
 use std::alloc::{AllocError, Global};
-use std::fs::{File, OpenOptions};
+use std::fs::File;
 use std::io::ErrorKind;
 use std::os::unix::fs::FileExt;
 use std::rt::Files;
 use std::{fs, io};
-
-/// What the files of a depot are opened for.
-#[derive(Clone, Copy)]
-pub enum Access {
-    Read,
-    /// Reading and writing. A file that does not stand is made at its first write.
-    Write,
-    /// Reading and writing. A file that does not stand is made when it is opened.
-    Make,
-}
 
 /// What a barrier on a file owes to its name.
 #[derive(Clone, Copy)]
@@ -55,13 +46,10 @@ impl Place {
         }
     }
 
-    // Opens the file, if it stands. One that may not be written is opened for reading. A ledger is locked for as long
-    // as it is open: against all others by who writes, and against writers by who reads.
+    // Opens the file, if it stands. A ledger is locked for as long as it is open.
     fn find<R: Files<File = File>>(&self, rt: &R, access: Access) -> io::Result<Option<File>> {
-        let file = match open_file(rt, self.path.as_str(), access) {
-            Ok(file) => file,
-            Err(fault) if fault.kind() == ErrorKind::NotFound => return Ok(None),
-            Err(fault) => return Err(fault),
+        let Some(file) = open_ordinary(rt, self.path.as_str(), access)? else {
+            return Ok(None);
         };
         if self.is_ledger {
             lock_file(&file, access)?;
@@ -103,43 +91,10 @@ impl Place {
     }
 }
 
-fn open_file<R: Files<File = File>>(rt: &R, path: &str, access: Access) -> io::Result<File> {
-    match access {
-        Access::Read => File::open(rt, path),
-        Access::Write | Access::Make => match OpenOptions::new()
-            .read(true)
-            .write(true)
-            .open(rt, path)
-        {
-            Err(fault) if may_be_read(fault.kind()) => File::open(rt, path),
-            opened => opened,
-        },
-    }
-}
-
-// The writing alone may be what was refused.
-fn may_be_read(kind: ErrorKind) -> bool {
-    matches!(
-        kind,
-        ErrorKind::PermissionDenied | ErrorKind::ReadOnlyFilesystem
-    )
-}
-
-fn lock_file(file: &File, access: Access) -> io::Result<()> {
-    let locked = match access {
-        Access::Read => file.try_lock_shared(),
-        Access::Write | Access::Make => file.try_lock(),
-    };
-    match locked {
-        Ok(()) => Ok(()),
-        Err(fault) => Err(io::Error::from(fault)),
-    }
-}
-
 // The ledger has all of its beginning, of which the first byte was written last. Where that cannot be seen it is taken
 // for one that is not made, since then more is synced.
 fn is_made<R: Files<File = File>>(rt: &R, ledger: &str) -> bool {
-    let Ok(file) = File::open(rt, ledger) else {
+    let Ok(Some(file)) = open_ordinary(rt, ledger, Access::Read) else {
         return false;
     };
     let mut beginning = [0; 9];
