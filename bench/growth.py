@@ -119,7 +119,7 @@ def tags(stream, count):
 
 
 LOADS = ((flat, 5_000), (backwards, 5_000), (inline, 5_000), (renames, 2_500), (deletes, 2_500), (spread, 10_000),
-         (history, 500), (refs, 5_000), (tags, 2_500))
+         (history, 1_000), (refs, 15_000), (tags, 5_000))
 OPENED = 50_000
 
 
