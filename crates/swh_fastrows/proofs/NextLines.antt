@@ -211,15 +211,17 @@ long_here b (inr n) e =
     let more = drop line_limit b.held in
     let whole : front ++ more ≡ b.held = take-append-drop line_limit b.held in
     let size : length front ≡ line_limit = length-take-le line_limit b.held (omega (arith, e)) in
-    let sizes = ap length whole in
-    (refl, record {
-      front = front;
-      rest = more ++ b.rest;
-      cut = ap (λ (t : List ℕ). t ++ b.rest) (sym whole) ∙ append_assoc front more b.rest;
-      no_feed = λ h. n (subst (λ (t : List ℕ). Contains t 10) whole (Contains-append_left front more 10 h));
-      long = size;
-      more = λ none. let left = ap length none in omega (arith, e, size, sizes, left, length-append front more, length-append more b.rest);
-    })
+    let sizes = ap length whole in (
+      refl,
+      record {
+        front = front;
+        rest = more ++ b.rest;
+        cut = ap (λ (t : List ℕ). t ++ b.rest) (sym whole) ∙ append_assoc front more b.rest;
+        no_feed = λ h. n (subst (λ (t : List ℕ). Contains t 10) whole (Contains-append_left front more 10 h));
+        long = size;
+        more = λ none. let left = ap length none in omega (arith, e, size, sizes, left, length-append front more, length-append more b.rest);
+      },
+    )
 
 pub long_passes : (a b : Place) → Took a b [] → IsHeld b.held → length b.held ≡ held_limit → PassesAfter a Line (line_limit + 1)
 long_passes a b t h e = record { before = b; took = t; passes = long_here b h e }
