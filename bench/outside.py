@@ -1,14 +1,16 @@
 #!/usr/bin/env python3
-"""Tries what the built program makes of the system: folders that are not there, archives that may only be read, several
-runs at once, interrupted reads and a limit on the size of files.
+"""Tries what the built program makes of the system: folders that are not there, archives that may only be read, links in
+the place of files, several runs at once, interrupted reads, writes and barriers that fail, and a limit on the size of files.
 
     python3 bench/outside.py [PROGRAM]
 
-Interrupted reads want `strace` (Debian: apt-get install strace). Run as root, it asks a read-only archive as nobody.
+Interrupted reads, and writes and barriers that fail, want `strace` (Debian: apt-get install strace). Run as root, it asks
+a read-only archive as nobody.
 """
 import contextlib
 import fcntl
 import os
+import re
 import resource
 import shutil
 import signal
@@ -43,9 +45,9 @@ class Room:
         with open(self.path(name), "wb") as file:
             file.write(data)
 
-    def run(self, *words, before=None, prefix=()):
+    def run(self, *words, before=None, prefix=(), timeout=None):
         done = subprocess.run(list(prefix) + [self.program] + list(words), cwd=self.folder, stdout=subprocess.PIPE,
-                              stderr=subprocess.DEVNULL, preexec_fn=before)
+                              stderr=subprocess.DEVNULL, preexec_fn=before, timeout=timeout)
         return done.returncode, done.stdout
 
     def expect(self, status, front, *words, **options):
@@ -106,15 +108,59 @@ def locked(path, how):
 
 
 def at_once(room):
-    """Those who ask go beside each other; who writes goes alone."""
+    """Those who ask or check go beside each other; who writes goes alone."""
     room.archive("A")
     with locked(room.path("A/0"), fcntl.LOCK_SH):
         room.expect(0, b"200 ", "ask", "A", VISITS)
+        room.expect(0, b"objects 4 ", "check", "A")
         room.expect(4, b"swharc: outside disk\n", "load", "A", "jobs")
         room.expect(4, b"swharc: outside disk\n", "init", "A")
     with locked(room.path("A/0"), fcntl.LOCK_EX):
         room.expect(4, b"swharc: outside disk\n", "ask", "A", VISITS)
+        room.expect(4, b"swharc: outside disk\n", "check", "A")
     room.expect(0, b"200 ", "ask", "A", VISITS)
+
+
+def several_readings(room):
+    """Checks beside each other, and an ask beside a check. Where `strace` is there each is held for a second at a barrier."""
+    room.archive("A")
+    slowed = ["strace", "-f", "-o", "/dev/null", "-e", "inject=fdatasync:delay_enter=1000000:when=1"]
+    prefix = slowed if shutil.which("strace") else []
+    wanted = {"check": b"objects 4 closed 4 visits 1\n", "ask": b"200 "}
+    runs = [(word, subprocess.Popen(prefix + [room.program, word, "A"] + more, cwd=room.folder, stdout=subprocess.PIPE))
+            for word, more in (("check", []), ("check", []), ("ask", [VISITS]), ("check", []), ("ask", [VISITS]))]
+    for word, run in runs:
+        printed = run.communicate()[0]
+        if run.returncode != 0 or not printed.startswith(wanted[word]):
+            raise Wrong("%s: status %d, %r" % (word, run.returncode, printed))
+
+
+def not_ordinary(room):
+    """A link in the place of a file, or a pipe, is a disk that fails: nothing is written through it, and nobody waits."""
+    room.archive("A")
+    room.write("other", b"kept")
+    link = {"link": lambda path: os.symlink(room.path("other"), path), "own": lambda path: os.symlink("kept", path),
+            "dangling": lambda path: os.symlink("nowhere", path), "pipe": os.mkfifo, "folder": os.mkdir}
+    runs = (("init", "A"), ("load", "A", "jobs"), ("ask", "A", VISITS), ("check", "A"))
+    for file in ("A/0", "A/1"):
+        path, kept = room.path(file), room.path("A/kept")
+        os.rename(path, kept)
+        with open(kept, "rb") as held:
+            before = held.read()
+        for kind, make in link.items():
+            make(path)
+            for words in runs:
+                room.expect(4, b"swharc: outside disk\n", *words, timeout=60)
+            remove = os.rmdir if kind == "folder" else os.remove
+            remove(path)
+        with open(kept, "rb") as held:
+            if held.read() != before:
+                raise Wrong("%s was written through a link" % file)
+        os.rename(kept, path)
+    with open(room.path("other"), "rb") as held:
+        if held.read() != b"kept" or os.path.exists(room.path("A/nowhere")):
+            raise Wrong("something was written through a link")
+    room.expect(0, b"objects 4 ", "check", "A")
 
 
 def several_makings(room):
@@ -170,11 +216,57 @@ def interrupted(room):
         room.expect(0, b"https://e.org/p\t", "load", "A", "jobs", prefix=prefix)
 
 
+CALL = re.compile(r"^\d+ +(\w+)\((\d+)<([^>]*)>(.*) = (-?\d+)")
+
+
+def calls_of(log):
+    """The calls of a run on files of the archive: the call, the file, what it was given besides, and its number."""
+    with open(log) as lines:
+        found = [CALL.match(line) for line in lines]
+    return [(call.group(1), call.group(3)[-3:], call.group(4), int(call.group(5))) for call in found
+            if call is not None and call.group(3)[-3:] in ("A/0", "A/1")]
+
+
+def forgets(calls):
+    """The one call that fails is followed at once by the advice to forget all of its file, and nothing is written then."""
+    at = next((i for i, call in enumerate(calls) if call[3] < 0), None)
+    if at is None:
+        return False
+    after = calls[at + 1:]
+    advised = after[:1] and after[0][:2] == ("fadvise64", calls[at][1]) and ", 0, 0, POSIX_FADV_DONTNEED" in after[0][2]
+    if not advised or any(call[0] == "pwrite64" for call in after):
+        raise Wrong("after %r: %r" % (calls[at], after))
+    return True
+
+
+def failed_barrier(room):
+    """Of a load each write and each barrier fails in turn: the kernel is told to forget the file, and nothing is written
+    after it. Then the archive opens, and what is read is what the files hold."""
+    if shutil.which("strace") is None:
+        raise Wrong("strace is not there")
+    log = room.path("calls")
+    for call in ("fdatasync", "pwrite64"):
+        for number in range(1, 40):
+            shutil.rmtree(room.path("A"), ignore_errors=True)
+            room.expect(0, b"made\n", "init", "A")
+            prefix = ["strace", "-f", "-y", "-o", log, "-e", "trace=fdatasync,pwrite64,pread64,fadvise64", "-e",
+                      "inject=%s:error=EIO:when=%d" % (call, number)]
+            status, printed = room.run("load", "A", "jobs", prefix=prefix)
+            if not forgets(calls_of(log)):
+                break
+            if status != 4 or not printed.endswith(b"swharc: outside disk\n"):
+                raise Wrong("%s %d: status %d, %r" % (call, number, status, printed))
+            room.expect(0, b"objects ", "check", "A")
+            room.expect(0, b"https://e.org/p\t", "load", "A", "jobs")
+        if not 5 < number < 39:
+            raise Wrong("%s: %d calls" % (call, number))
+
+
 def main():
     program = find_program()
     verdict = Verdict()
-    for case in (no_name, not_there, not_a_folder, only_read, at_once, several_makings, size_limit, full_output,
-                 interrupted):
+    for case in (no_name, not_there, not_a_folder, only_read, at_once, several_readings, not_ordinary, several_makings,
+                 size_limit, full_output, interrupted, failed_barrier):
         with tempfile.TemporaryDirectory() as folder:
             try:
                 case(Room(program, folder))
