@@ -10,4 +10,6 @@ mod faults;
 #[cfg(test)]
 mod inputs;
 #[cfg(test)]
+mod lines;
+#[cfg(test)]
 mod world;

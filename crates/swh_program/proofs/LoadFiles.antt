@@ -12,7 +12,6 @@ use Rattle.swh_program.specs.LoadCommand.{givens_of, HasLoaded}
 use Rattle.swh_program.specs.Opening.{IsAtMostOpened, IsOpenRefusal, OpenEnds}
 use Rattle.swh_program.specs.declared.answer.Answer.{Answer}
 use Rattle.swh_program.specs.declared.answer.Answer.TheVariants.{Told, NotMade, Damaged, OutsideDisk, OutsideClock, Memory}
-use Rattle.swh_program.specs.declared.answer.Ending.{Ending}
 use Rattle.swh_program.proofs.LoadAnswers.{unloaded_cases, unloaded_clock}
 use Rattle.swh_program.proofs.LoadEndings.{told_status}
 

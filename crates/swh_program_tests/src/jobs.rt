@@ -1,86 +1,105 @@
-// Job files of several lines, and of none.
+// Job files: those that are right, up to each limit, and the first line that breaks.
+use crate::pieces::{Piece, spelled};
+use crate::setting::{BARE, Setting};
 use crate::words::{INIT, LOAD};
-use crate::world::{BARE, Setting, play};
+use crate::world::play;
 use std::alloc::{AllocError, Global};
 use std::test::Fail;
-use swh_fixtures::{MADE_LEDGER, STREAM};
+use swh_fixtures::MADE_LEDGER;
 
-// Says whether a load of this job file into a new archive ends with this status, and prints this.
-pub fn loads(
-    alloc: Global,
-    setting: &Setting<'_>,
+// A job file, the status of its load where no input is there, and what is printed.
+#[derive(Clone, Copy)]
+struct JobFile<'a> {
+    lines: &'a [Piece<'a>],
     status: u8,
-    printed: &[u8],
-) -> Result<bool, AllocError> {
-    let ended = play(alloc, setting, &[INIT, LOAD])?;
-    let told = ended.printed.as_slice().strip_prefix(b"made\n") == Some(printed);
-    Ok(ended.statuses.as_slice() == [0, status].as_slice() && told)
+    printed: &'a [Piece<'a>],
 }
 
-/// This job file, and the worked stream.
-pub fn with_jobs(jobs: &[u8]) -> Setting<'_> {
-    Setting {
-        jobs: Some(jobs),
-        input: Some(STREAM),
+const FORM: &[Piece<'static>] = &[Piece::Text(b"swharc: job line 1: form\n")];
+
+const NOT_FOUND: &[Piece<'static>] = &[Piece::Text(b"https://e.org/p\t1\tnot_found\t-\n")];
+
+// 256 lines, URLs of 2,048 bytes, paths of 4,096 and heads of 1,024.
+const FILES: &[JobFile<'static>] = &[
+    JobFile {
+        lines: &[Piece::Rows { count: 256, before: b"fast\thttps://e.org/", fill: 0, after: b"\te\n" }],
+        status: 1,
+        printed: &[Piece::Rows { count: 256, before: b"https://e.org/", fill: 0, after: b"\t1\tnot_found\t-\n" }],
+    },
+    JobFile {
+        lines: &[Piece::Rows { count: 257, before: b"fast\thttps://e.org/", fill: 0, after: b"\te\n" }],
+        status: 2,
+        printed: &[Piece::Text(b"swharc: job line 257: limit\n")],
+    },
+    JobFile {
+        lines: &[Piece::Text(b"fast\t"), Piece::Fill(2_048), Piece::Text(b"\te\n")],
+        status: 1,
+        printed: &[Piece::Fill(2_048), Piece::Text(b"\t1\tnot_found\t-\n")],
+    },
+    JobFile {
+        lines: &[Piece::Text(b"fast\t"), Piece::Fill(2_049), Piece::Text(b"\te\n")],
+        status: 2,
+        printed: FORM,
+    },
+    JobFile {
+        lines: &[Piece::Text(b"fast\thttps://e.org/p\t"), Piece::Fill(4_096)],
+        status: 1,
+        printed: NOT_FOUND,
+    },
+    JobFile {
+        lines: &[Piece::Text(b"fast\thttps://e.org/p\t"), Piece::Fill(4_097)],
+        status: 2,
+        printed: FORM,
+    },
+    JobFile {
+        lines: &[Piece::Text(b"fast\thttps://e.org/p\te\t"), Piece::Fill(1_024)],
+        status: 1,
+        printed: NOT_FOUND,
+    },
+    JobFile {
+        lines: &[Piece::Text(b"fast\thttps://e.org/p\te\t"), Piece::Fill(1_025)],
+        status: 2,
+        printed: FORM,
+    },
+    JobFile {
+        lines: &[Piece::Text(b"fast\thttps://e.org/p\te\tHEAD")],
+        status: 2,
+        printed: FORM,
+    },
+    JobFile { lines: &[Piece::Text(b"fast\te")], status: 2, printed: FORM },
+    JobFile {
+        lines: &[Piece::Text(b"fast\thttps://e.org/p\te\nfast\thttps://e.org/q\n")],
+        status: 2,
+        printed: &[Piece::Text(b"swharc: job line 2: form\n")],
+    },
+    JobFile {
+        lines: &[Piece::Text(b"fast\thttps://e.org/p\te\nfast\thttps://e.org/p\tf\n")],
+        status: 2,
+        printed: &[Piece::Text(b"swharc: job line 2: origin\n")],
+    },
+];
+
+// Says whether the load of a job file ends so, and leaves the archive as it was made where the file is refused.
+fn ends_so(alloc: Global, file: &JobFile<'_>) -> Result<bool, AllocError> {
+    let setting = Setting {
+        jobs: Some(file.lines),
         ..BARE
-    }
-}
-
-// Says whether a job file is refused with this line, and the archive left as it was made.
-fn is_refused(alloc: Global, jobs: &[u8], printed: &[u8]) -> Result<bool, AllocError> {
-    let ended = play(alloc, &with_jobs(jobs), &[INIT, LOAD])?;
-    let told = ended.printed.as_slice().strip_prefix(b"made\n") == Some(printed);
-    let kept = ended.ledger.as_slice() == MADE_LEDGER;
-    Ok(ended.statuses.as_slice() == [0, 2].as_slice() && told && kept)
-}
-
-#[test]
-fn lines_that_break(rt: HostRuntime) -> Result<(), Fail> {
-    let alloc = rt.alloc();
-    let twice = b"fast\thttps://e.org/p\te\nfast\thttps://e.org/p\tf\n";
-    assert!(rt; is_refused(alloc, twice, b"swharc: job line 2: origin\n")?);
-    let short = b"fast\thttps://e.org/p\te\nfast\thttps://e.org/q\n";
-    assert!(rt; is_refused(alloc, short, b"swharc: job line 2: form\n")?);
-    Ok(())
-}
-
-#[test]
-fn two_jobs_in_order(rt: HostRuntime) -> Result<(), Fail> {
-    let jobs = b"fast\thttps://e.org/p\te\nfast\thttps://e.org/a\tnone\n";
-    let lines = b"https://e.org/p\t1\tfull\tswh:1:snp:5036c2b4a676f9dad60fbaed431ca21ecdec56ff\n\
-https://e.org/a\t1\tnot_found\t-\n";
-    assert!(rt; loads(rt.alloc(), &with_jobs(jobs), 1, lines)?);
-    Ok(())
-}
-
-#[test]
-fn no_job(rt: HostRuntime) -> Result<(), Fail> {
-    assert!(rt; loads(rt.alloc(), &with_jobs(b""), 0, b"")?);
-    Ok(())
-}
-
-#[test]
-fn a_job_names_a_head(rt: HostRuntime) -> Result<(), Fail> {
-    let jobs = b"fast\thttps://e.org/p\te\trefs/heads/main";
-    let line = b"https://e.org/p\t1\tfull\tswh:1:snp:6a27147bf068e96885531e22302944aa7bf4c5c8\n";
-    assert!(rt; loads(rt.alloc(), &with_jobs(jobs), 0, line)?);
-    Ok(())
-}
-
-// The clock is asked once for each job, and all inputs are opened, before the first job is loaded.
-#[test]
-fn the_clock_fails_at_the_second_job(rt: HostRuntime) -> Result<(), Fail> {
-    let jobs = b"fast\thttps://e.org/p\te\nfast\thttps://e.org/a\tnone\n";
-    let failing = Setting {
-        clock_fails: Some(1),
-        ..with_jobs(jobs)
     };
-    let ended = play(rt.alloc(), &failing, &[INIT, LOAD])?;
-    assert_eq!(rt; ended.statuses.as_slice(), [0, 4].as_slice());
-    assert_eq!(rt;
-        ended.printed.as_slice(),
-        b"made\nswharc: outside clock\n".as_slice()
-    );
-    assert_eq!(rt; ended.ledger.as_slice(), MADE_LEDGER);
+    let ended = play(alloc, &setting, &[INIT, LOAD])?;
+    let printed = spelled(alloc, file.printed)?;
+    let told = ended.printed.as_slice().strip_prefix(b"made\n");
+    let kept = ended.ledger.as_slice() == MADE_LEDGER;
+    Ok(
+        ended.statuses.as_slice() == [0, file.status].as_slice()
+            && told == Some(printed.as_slice())
+            && kept == (file.status == 2),
+    )
+}
+
+#[test]
+fn each_job_file(rt: HostRuntime) -> Result<(), Fail> {
+    for (number, file) in FILES.iter().enumerate() {
+        assert!(rt; ends_so(rt.alloc(), file)?, "row {number}");
+    }
     Ok(())
 }

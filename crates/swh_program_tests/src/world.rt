@@ -1,16 +1,18 @@
 // A world in memory for the program to run in.
+use crate::pieces::{Piece, spelled};
+use crate::setting::{Case, Setting};
 use std::alloc::{AllocError, Global};
-use swh_base::Sha1Namer;
+use swh_base::{Namer, Sha1Namer};
 use swh_memory::{
     Input, MemoryClock, MemoryDepot, MemoryDisk, MemoryDoors, MemoryOrigins, MemorySink,
     MemoryYard, Room,
 };
-use swh_outside::OpenGate;
+use swh_outside::{Depot, OpenGate};
 use swh_program::{Outside, run};
 
-type World = Outside<
-    Sha1Namer,
-    MemoryDepot,
+type World<N, P> = Outside<
+    N,
+    P,
     MemoryOrigins,
     MemoryYard,
     MemorySink,
@@ -20,46 +22,8 @@ type World = Outside<
 >;
 
 const ROOM: Room = Room {
-    bytes: 4096,
-    calls: 256,
-};
-
-/// What runs begin with: the folder `A` of a depot, the file `J` of the desk, and the input `e`. Of each part the call
-/// with the given number, from 0, fails.
-#[derive(Clone, Copy)]
-pub struct Setting<'a> {
-    /// The ledger in `A`, where it is made.
-    pub ledger: Option<&'a [u8]>,
-    /// The store beside it.
-    pub store: &'a [u8],
-    pub ledger_fails: Option<u64>,
-    pub store_fails: Option<u64>,
-    /// An opening of a file.
-    pub depot_fails: Option<u64>,
-    pub jobs: Option<&'a [u8]>,
-    pub jobs_fail: Option<u64>,
-    /// An opening at the desk where `J` is not there.
-    pub desk_fails: Option<u64>,
-    pub input: Option<&'a [u8]>,
-    pub input_fails: Option<u64>,
-    pub clock_fails: Option<u64>,
-    pub sink_fails: Option<u64>,
-}
-
-/// An empty folder, no files, and nothing that fails.
-pub const BARE: Setting<'static> = Setting {
-    ledger: None,
-    store: b"",
-    ledger_fails: None,
-    store_fails: None,
-    depot_fails: None,
-    jobs: None,
-    jobs_fail: None,
-    desk_fails: None,
-    input: None,
-    input_fails: None,
-    clock_fails: None,
-    sink_fails: None,
+    bytes: 65_536,
+    calls: 4_096,
 };
 
 /// What runs leave.
@@ -83,57 +47,65 @@ fn failing(alloc: Global, number: Option<u64>) -> Result<Vec<u64>, AllocError> {
     Ok(numbers)
 }
 
-// One file at a path, which gives its bytes in pieces of 7; or none.
-fn files(
+// Adds the file at a path, where there is one. Its bytes come in pieces of 7, those of a long file in longer ones.
+fn add_file(
     alloc: Global,
+    files: &mut Vec<Input>,
     path: &str,
-    bytes: Option<&[u8]>,
+    pieces: Option<&[Piece<'_>]>,
     call_fails: Option<u64>,
-    opening_fails: Option<u64>,
-) -> Result<MemoryOrigins, AllocError> {
-    let mut inputs = Vec::new(alloc);
-    if let Some(bytes) = bytes {
-        let input = Input {
-            path: String::from_str(alloc, path)?,
-            bytes: bytes.to_vec(alloc)?,
-            piece: 7,
-            failing: failing(alloc, call_fails)?,
-        };
-        inputs.push(input)?;
-    }
-    Ok(MemoryOrigins::new(alloc, inputs, failing(alloc, opening_fails)?))
+) -> Result<(), AllocError> {
+    let Some(pieces) = pieces else {
+        return Ok(());
+    };
+    let bytes = spelled(alloc, pieces)?;
+    let input = Input {
+        path: String::from_str(alloc, path)?,
+        piece: if bytes.len() < 4_096 { 7 } else { 65_536 },
+        bytes,
+        failing: failing(alloc, call_fails)?,
+    };
+    files.push(input)?;
+    Ok(())
+}
+
+fn desk(alloc: Global, setting: &Setting<'_>) -> Result<MemoryOrigins, AllocError> {
+    let mut files = Vec::new(alloc);
+    add_file(alloc, &mut files, "J", setting.jobs, setting.jobs_fail)?;
+    Ok(MemoryOrigins::new(alloc, files, failing(alloc, setting.desk_fails)?))
+}
+
+fn origins(alloc: Global, setting: &Setting<'_>) -> Result<MemoryOrigins, AllocError> {
+    let mut files = Vec::new(alloc);
+    add_file(alloc, &mut files, "e", setting.input, setting.input_fails)?;
+    add_file(alloc, &mut files, "f", setting.other_input, None)?;
+    Ok(MemoryOrigins::new(alloc, files, failing(alloc, setting.origins_fail)?))
 }
 
 fn depot(alloc: Global, setting: &Setting<'_>) -> Result<MemoryDepot, AllocError> {
     let mut depot = MemoryDepot::new(alloc, ROOM, failing(alloc, setting.depot_fails)?);
     if let Some(bytes) = setting.ledger {
-        let ledger = MemoryDisk::new(alloc, bytes, ROOM, failing(alloc, setting.ledger_fails)?)?;
-        depot.lay("A", 0, ledger)?;
-        let store = MemoryDisk::new(
-            alloc,
-            setting.store,
-            ROOM,
-            failing(alloc, setting.store_fails)?,
-        )?;
-        depot.lay("A", 1, store)?;
+        let ledger = failing(alloc, setting.ledger_fails)?;
+        depot.lay("A", 0, MemoryDisk::new(alloc, bytes, ROOM, ledger)?)?;
+        let store = failing(alloc, setting.store_fails)?;
+        depot.lay("A", 1, MemoryDisk::new(alloc, setting.store, ROOM, store)?)?;
     }
     Ok(depot)
 }
 
-fn world(alloc: Global, setting: &Setting<'_>) -> Result<World, AllocError> {
+fn world<N: Namer + Drop, P: Depot + Drop>(
+    alloc: Global,
+    namer: N,
+    depot: P,
+    setting: &Setting<'_>,
+) -> Result<World<N, P>, AllocError> {
     Ok(Outside {
-        namer: Sha1Namer,
-        depot: depot(alloc, setting)?,
-        desk: files(
-            alloc,
-            "J",
-            setting.jobs,
-            setting.jobs_fail,
-            setting.desk_fails,
-        )?,
-        origins: files(alloc, "e", setting.input, setting.input_fails, None)?,
+        namer,
+        depot,
+        desk: desk(alloc, setting)?,
+        origins: origins(alloc, setting)?,
         yard: MemoryYard::new(alloc),
-        sink: MemorySink::new(alloc, 4096, failing(alloc, setting.sink_fails)?)?,
+        sink: MemorySink::new(alloc, 65_536, failing(alloc, setting.sink_fails)?)?,
         clock: MemoryClock::new(1_000_000_000, failing(alloc, setting.clock_fails)?),
         doors: MemoryDoors::new(alloc),
         gate: OpenGate,
@@ -148,7 +120,11 @@ fn owned(alloc: Global, words: &[&str]) -> Result<Vec<String>, AllocError> {
     Ok(owned)
 }
 
-fn run_all(alloc: Global, world: &mut World, runs: &[&[&str]]) -> Result<Vec<u8>, AllocError> {
+fn run_all<N: Namer, P: Depot>(
+    alloc: Global,
+    world: &mut World<N, P>,
+    runs: &[&[&str]],
+) -> Result<Vec<u8>, AllocError> {
     let mut statuses = Vec::new(alloc);
     for words in runs {
         let words = owned(alloc, words)?;
@@ -157,7 +133,10 @@ fn run_all(alloc: Global, world: &mut World, runs: &[&[&str]]) -> Result<Vec<u8>
     Ok(statuses)
 }
 
-fn what_is_left(alloc: Global, world: &World, statuses: Vec<u8>) -> Result<Ended, AllocError> {
+/// Runs the program on these words, one run after another, where the clock says 1000000000.
+pub fn play(alloc: Global, setting: &Setting<'_>, runs: &[&[&str]]) -> Result<Ended, AllocError> {
+    let mut world = world(alloc, Sha1Namer, depot(alloc, setting)?, setting)?;
+    let statuses = run_all(alloc, &mut world, runs)?;
     Ok(Ended {
         statuses,
         printed: world.sink.bytes().to_vec(alloc)?,
@@ -167,21 +146,29 @@ fn what_is_left(alloc: Global, world: &World, statuses: Vec<u8>) -> Result<Ended
     })
 }
 
-/// Runs the program on these words, one run after another, where the clock says 1000000000.
-pub fn play(alloc: Global, setting: &Setting<'_>, runs: &[&[&str]]) -> Result<Ended, AllocError> {
-    let mut world = world(alloc, setting)?;
-    let statuses = run_all(alloc, &mut world, runs)?;
-    what_is_left(alloc, &world, statuses)
+/// Says whether the runs of a row end as it says, with this namer and these files.
+pub fn is_met_by<N: Namer + Drop, P: Depot + Drop>(
+    alloc: Global,
+    namer: N,
+    depot: P,
+    case: &Case<'_>,
+) -> Result<bool, AllocError> {
+    let mut world = world(alloc, namer, depot, &case.setting)?;
+    let statuses = run_all(alloc, &mut world, case.runs)?;
+    Ok(statuses.as_slice() == case.statuses && world.sink.bytes() == case.printed)
 }
 
-/// Whether one run on these words ends with this status, and prints this.
-pub fn tells(
-    alloc: Global,
-    setting: &Setting<'_>,
-    words: &[&str],
-    status: u8,
-    printed: &[u8],
-) -> Result<bool, AllocError> {
-    let ended = play(alloc, setting, &[words])?;
-    Ok(ended.statuses.as_slice() == [status].as_slice() && ended.printed.as_slice() == printed)
+/// Says whether the runs of a row end as it says, with the namer of the program and files in memory.
+pub fn is_met(alloc: Global, case: &Case<'_>) -> Result<bool, AllocError> {
+    is_met_by(alloc, Sha1Namer, depot(alloc, &case.setting)?, case)
+}
+
+/// The number, from 0, of the first row that is not met.
+pub fn first_unmet(alloc: Global, cases: &[Case<'_>]) -> Result<Option<usize>, AllocError> {
+    for (number, case) in cases.iter().enumerate() {
+        if !is_met(alloc, case)? {
+            return Ok(Some(number));
+        }
+    }
+    Ok(None)
 }

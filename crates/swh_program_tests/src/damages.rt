@@ -1,0 +1,164 @@
+// Damaged archives: each kind of harm, with its place, as every command tells it that opens an archive.
+use crate::plain::{PlainDepot, Spoil};
+use crate::setting::{Case, Setting};
+use crate::words::{ASK, CHECK, INIT, LEDGER, LOAD, LOADING, STORE};
+use crate::world::{is_met_by, play};
+use std::alloc::{AllocError, Global};
+use std::test::Fail;
+use swh_base::Sha1Namer;
+
+// Another byte at a place of the loaded archive: the file, 0 the ledger and 1 the store, the place, the byte, and the line
+// that tells the harm. Of the ledger: its magic; a record's kind and its length; a visit's kind, its origin, a status that
+// no record has, a visit that is not there, and the byte before a snapshot; where a run begins and ends, and how many
+// objects it has; a snapshot that is not held; and an open gate with nothing behind it. Of the store: an object's kind, its
+// length, its id, its body, and a directory that is none.
+const CHANGES: &[(u32, usize, u8, &[u8])] = &[
+    (0, 1, 0x5a, b"swharc: damaged 0 1\n"),
+    (0, 7, 0x0b, b"swharc: damaged 0 7\n"),
+    (0, 9, 0x5a, b"swharc: damaged 0 9\n"),
+    (0, 13, 0xff, b"swharc: damaged 0 14\n"),
+    (0, 13, 0, b"swharc: damaged 0 14\n"),
+    (0, 18, 9, b"swharc: damaged 0 18\n"),
+    (0, 27, 1, b"swharc: damaged 0 8\n"),
+    (0, 52, 1, b"swharc: damaged 0 52\n"),
+    (0, 60, 2, b"swharc: damaged 0 42\n"),
+    (0, 61, 7, b"swharc: damaged 0 61\n"),
+    (0, 94, 1, b"swharc: damaged 1 1\n"),
+    (0, 97, 1, b"swharc: damaged 1 338\n"),
+    (0, 102, 0x51, b"swharc: damaged 1 290\n"),
+    (0, 102, 0x53, b"swharc: damaged 1 338\n"),
+    (0, 106, 3, b"swharc: damaged 0 77\n"),
+    (0, 140, 0, b"swharc: damaged 0 107\n"),
+    (0, 162, 1, b"swharc: damaged 0 163\n"),
+    (1, 0, 0x5a, b"swharc: damaged 1 0\n"),
+    (1, 1, 1, b"swharc: damaged 1 29\n"),
+    (1, 5, 4, b"swharc: damaged 1 29\n"),
+    (1, 9, 0, b"swharc: damaged 1 9\n"),
+    (1, 29, 0x5a, b"swharc: damaged 1 9\n"),
+    (1, 68, 0x5a, b"swharc: damaged 1 68\n"),
+];
+
+// How many bytes of the loaded archive's ledger and store are left, and the line that tells the harm.
+const CUTS: &[(usize, usize, &[u8])] = &[
+    (9, 338, b"swharc: damaged 0 9\n"),
+    (13, 338, b"swharc: damaged 0 10\n"),
+    (20, 338, b"swharc: damaged 0 14\n"),
+    (42, 338, b"swharc: damaged 0 42\n"),
+    (162, 338, b"swharc: damaged 0 162\n"),
+    (163, 0, b"swharc: damaged 1 0\n"),
+    (163, 4, b"swharc: damaged 1 1\n"),
+    (163, 20, b"swharc: damaged 1 9\n"),
+    (163, 33, b"swharc: damaged 1 29\n"),
+];
+
+// Says whether `load`, `ask` and `check` tell this line of an archive, and leave it as it is.
+fn is_told(alloc: Global, ledger: &[u8], store: &[u8], line: &[u8]) -> Result<bool, AllocError> {
+    let setting = Setting {
+        ledger: Some(ledger),
+        store,
+        ..LOADING
+    };
+    let ended = play(alloc, &setting, &[LOAD, ASK, CHECK])?;
+    let mut lines = line.to_vec(alloc)?;
+    lines.extend_from_slice(line)?;
+    lines.extend_from_slice(line)?;
+    Ok(
+        ended.statuses.as_slice() == [3; 3].as_slice()
+            && ended.printed.as_slice() == lines.as_slice()
+            && ended.ledger.as_slice() == ledger
+            && ended.store.as_slice() == store
+            && ended.faults == 0,
+    )
+}
+
+// The bytes, with another at a place.
+fn changed(alloc: Global, bytes: &[u8], at: usize, byte: u8) -> Result<Vec<u8>, AllocError> {
+    let mut changed = bytes.to_vec(alloc)?;
+    if let Some(old) = changed.as_mut_slice().get_mut(at) {
+        *old = byte;
+    }
+    Ok(changed)
+}
+
+// Says whether the change of a row is told.
+fn is_change_told(
+    alloc: Global,
+    (file, at, byte, line): (u32, usize, u8, &[u8]),
+) -> Result<bool, AllocError> {
+    if file == 0 {
+        let ledger = changed(alloc, LEDGER, at, byte)?;
+        is_told(alloc, &ledger, STORE, line)
+    } else {
+        let store = changed(alloc, STORE, at, byte)?;
+        is_told(alloc, LEDGER, &store, line)
+    }
+}
+
+#[test]
+fn a_changed_byte_is_told(rt: HostRuntime) -> Result<(), Fail> {
+    for row in CHANGES {
+        assert!(rt; is_change_told(rt.alloc(), *row)?, "{row:?}");
+    }
+    Ok(())
+}
+
+#[test]
+fn missing_bytes_are_told(rt: HostRuntime) -> Result<(), Fail> {
+    for (ledger, store, line) in CUTS {
+        let (ledger, store) = (&LEDGER[..*ledger], &STORE[..*store]);
+        assert!(rt; is_told(rt.alloc(), ledger, store, line)?);
+    }
+    Ok(())
+}
+
+// Ledgers that spell one record in another way than any that is right: the length of the length, a visit's kind, and the
+// status of a visit that was never opened.
+const LEDGERS: &[(&[u8], &[u8])] = &[
+    (b"SWHARC1\n\x01O\0\0\0\x1c\0\0\0", b"swharc: damaged 0 14\n"),
+    (
+        b"SWHARC1\n\x01O\0\0\0\x1c\0\0\0\x01\x09\0\0\0\0\x3b\x9a\xca\0https://e.org/p\0",
+        b"swharc: damaged 0 18\n",
+    ),
+    (
+        b"SWHARC1\n\x01T\0\0\0\x1d\0\0\0\x01\x06\0\0\0\0\0\0\0\x01\0https://e.org/p\0",
+        b"swharc: damaged 0 8\n",
+    ),
+    (b"SWHARC2\n\0", b"swharc: damaged 0 6\n"),
+];
+
+#[test]
+fn a_ledger_that_is_none_is_told(rt: HostRuntime) -> Result<(), Fail> {
+    for (ledger, line) in LEDGERS {
+        assert!(rt; is_told(rt.alloc(), ledger, b"", line)?);
+    }
+    Ok(())
+}
+
+// Of an archive that opened, `check` tells the name of the body that then reads otherwise: here one bit of it, at the end
+// of the content and at the beginning of the directory.
+#[test]
+fn a_body_that_changes_is_named(rt: HostRuntime) -> Result<(), Fail> {
+    let alloc = rt.alloc();
+    for (place, printed) in [(38, CONTENT_CHANGED), (68, DIRECTORY_CHANGED)] {
+        let spoil = Spoil {
+            place,
+            first_reads: 1,
+        };
+        let case = Case {
+            setting: LOADING,
+            runs: &[INIT, LOAD, CHECK],
+            statuses: &[0, 0, 3],
+            printed,
+        };
+        assert!(rt; is_met_by(alloc, Sha1Namer, PlainDepot::new(alloc, Some(spoil)), &case)?);
+    }
+    Ok(())
+}
+
+const CONTENT_CHANGED: &[u8] =
+    b"made\nhttps://e.org/p\t1\tfull\tswh:1:snp:5036c2b4a676f9dad60fbaed431ca21ecdec56ff\n\
+swharc: damaged swh:1:cnt:83baae61804e65cc73a7201a7252750c76066a30\n";
+
+const DIRECTORY_CHANGED: &[u8] =
+    b"made\nhttps://e.org/p\t1\tfull\tswh:1:snp:5036c2b4a676f9dad60fbaed431ca21ecdec56ff\n\
+swharc: damaged swh:1:dir:d8329fc1cc938780ffdd9f94e0d364e0ea74f579\n";
