@@ -4,9 +4,9 @@
     python3 bench/many_changes.py [PROGRAM]
 
 Three streams are loaded, each of one blob and one commit: one that sets 200,000 paths once, in 10,000 folders of 20 files;
-one that sets 2,000 paths a hundred times each; and one that sets a path and deletes its uppermost folder in turn. Above
-the peak of a load of an empty stream, each may hold 64 MB. Beside it stands the time of `git fast-import` of the same
-stream, in the same run. The program is the built one, outside the gate.
+one that sets 2,000 paths a hundred times each; and one that sets a path and deletes its uppermost folder in turn. Each
+may take a second. Above the peak of a load of an empty stream, each may hold 64 MB. Beside it stands the time of `git
+fast-import` of the same stream, in the same run. The program is the built one, outside the gate.
 """
 import os
 import sys
@@ -17,6 +17,7 @@ from program import find_program
 
 CHANGES = 200_000
 MOST_BYTES = 64 << 20
+MOST_SECONDS = 1.0
 HEAD = b"""blob
 mark :1
 data 2
@@ -61,7 +62,7 @@ def main():
             print("%-20s swharc %6.2f s, git fast-import %6.2f s; peak %5.1f MB, at most %d MB"
                   % (name + ":", took, time_import(folder, stream), held / 2**20, MOST_BYTES >> 20))
             sys.stdout.flush()
-            good = good and held <= MOST_BYTES
+            good = good and held <= MOST_BYTES and took <= MOST_SECONDS
     sys.exit(0 if good else 1)
 
 
