@@ -97,9 +97,9 @@ index-more names entries entries' name text key n index t k last none is = recor
     known i lt = elim (cases_lt i (length names)) [
       | inl l ↦ subst (λ (x : List ℕ). number_of entries' x ≡ Some i) (sym (more.same_names i l)) (old-known i l (is_eq (slice_cmp nat_cmp (name_at (texts names) i) name)) refl)
       | inr l ↦
-        let same : length names ≡ i = omega (arith, long) in
-        let here : number_of entries' name ≡ Some n = looked name ∙ ap (λ (b : Bool). cond b (Some n) (number_of entries name)) (test_self name) in
-        subst (λ (j : ℕ). number_of entries' (name_at (texts (names ++ text ∷ [])) j) ≡ Some j) same (subst (λ (x : List ℕ). number_of entries' x ≡ Some (length names)) (sym own) (here ∙ ap Some last))
+          let same : length names ≡ i = omega (arith, long) in
+          let here : number_of entries' name ≡ Some n = looked name ∙ ap (λ (b : Bool). cond b (Some n) (number_of entries name)) (test_self name) in
+          subst (λ (j : ℕ). number_of entries' (name_at (texts (names ++ text ∷ [])) j) ≡ Some j) same (subst (λ (x : List ℕ). number_of entries' x ≡ Some (length names)) (sym own) (here ∙ ap Some last))
     ]
 
     found : (m : List ℕ) (j : ℕ) → number_of entries' m ≡ Some j → (j < length (names ++ text ∷ [])) × (name_at (texts (names ++ text ∷ [])) j ≡ m)

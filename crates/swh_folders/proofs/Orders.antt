@@ -186,8 +186,8 @@ pub place-is : (names : List (List ℕ)) (key : List ℕ) (es : List Entry) (r k
 place-is names key es r k d o a lt own = elim (cases_lt k r) [
   | inl l ↦ elim (cases_lt (k + 1) r) [
     | inl m ↦ let w = a.within in
-              let next : is_before (entry_key names (get_or es k d)) (entry_key names (get_or es (k + 1) d)) ≡ true = o k (k + 1) d (omega arith) (omega arith) in
-              not_both (is_before key (entry_key names (get_or es (k + 1) d))) (subst (λ (x : List ℕ). is_before x (entry_key names (get_or es (k + 1) d)) ≡ true) own next) (a.low (k + 1) d m)
+        let next : is_before (entry_key names (get_or es k d)) (entry_key names (get_or es (k + 1) d)) ≡ true = o k (k + 1) d (omega arith) (omega arith) in
+        not_both (is_before key (entry_key names (get_or es (k + 1) d))) (subst (λ (x : List ℕ). is_before x (entry_key names (get_or es (k + 1) d)) ≡ true) own next) (a.low (k + 1) d m)
     | inr m ↦ omega arith
   ]
   | inr l ↦ let there : is_before key (entry_key names (get_or es k d)) ≡ true = a.high k d l lt in not_both (is_before key key) (subst (λ (x : List ℕ). is_before key x ≡ true) own there) (before-self key)

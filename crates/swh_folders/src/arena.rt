@@ -99,10 +99,7 @@ fn add_some(
 }
 
 /// The folder of these entries, if there are any.
-fn seal(
-    nodes: &mut Vec<Packed>,
-    out: Packed,
-) -> Result<Option<Child>, AllocError>
+fn seal(nodes: &mut Vec<Packed>, out: Packed) -> Result<Option<Child>, AllocError>
     ensures arena { (names : List (Vec ℕ)) → IsArena names nodes.old.items
         → AreGood (length names) (length nodes.old.items) out.items → IsArena names nodes.new.items }
     ensures grows { (names : List (Vec ℕ)) → Grows names nodes.old.items names nodes.new.items }

@@ -31,5 +31,5 @@ returns-in_ok-number-in-Some-clause-forest c = λ at k good.
     let new = c.number.new.self.items in
     let e : Entry = record { name = c.in_ok-number-in-Some.number; child = c.in-Some.child } in
     let tail = ap (λ (n : List ℕ). inserted n (stands at c.in-Some.child) (forest_of (texts new) at c.args.out.items)) c.in_ok-number-in-Some.ensures.number.1
-        ∙ ap (inserted c.args.name.now (stands at c.in-Some.child)) (same-forest (texts new) (texts old) at at (length old) k c.args.out.items good c.number.ensures.names.same_names (λ j lt. refl)) in
+    ∙ ap (inserted c.args.name.now (stands at c.in-Some.child)) (same-forest (texts new) (texts old) at at (length old) k c.args.out.items good c.number.ensures.names.same_names (λ j lt. refl)) in
     rw c.in-Some.is (if_ok c.with_entry.result (λ p is. ap (forest_of (texts new) at) is ∙ forest-with (texts new) e at c.args.out.items ∙ tail) (rw c.as_slice.ensures.value at c.with_entry.ensures))
