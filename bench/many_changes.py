@@ -4,9 +4,9 @@
     python3 bench/many_changes.py [PROGRAM]
 
 Three streams are loaded, each of one blob and one commit: one that sets 200,000 paths once, in 10,000 folders of 20 files;
-one that sets 2,000 paths a hundred times each; and one that sets a path and deletes its uppermost folder in turn. Above
-the peak of a load of an empty stream, each may hold 64 MB. Beside it stands the time of `git fast-import` of the same
-stream, in the same run. The program is the built one, outside the gate.
+one that sets 2,000 paths a hundred times each; and one that sets a path and deletes its uppermost folder in turn. Each
+may take a second. Above the peak of a load of an empty stream, each may hold 64 MB. Beside it stands the time of `git
+fast-import` of the same stream, in the same run. The program is the built one, outside the gate.
 """
 import os
 import tempfile
@@ -17,6 +17,7 @@ from verdict import Verdict
 
 CHANGES = 200_000
 MOST_BYTES = 64 << 20
+MOST_SECONDS = 1.0
 HEAD = b"""blob
 mark :1
 data 2
@@ -58,6 +59,7 @@ def main():
                 out.write(HEAD + b"".join(map(change, range(CHANGES))) + b"\n")
             took, peak = load(program, folder, stream)
             print("%s: swharc %.2f s, git fast-import %.2f s" % (name, took, time_import(folder, stream)))
+            verdict.at_most("%s: seconds of 200,000 changes" % name, took, MOST_SECONDS)
             verdict.at_most("%s: peak of 200,000 changes, MB" % name, (peak - empty) / 2**20, MOST_BYTES >> 20)
     verdict.end()
 

@@ -2,17 +2,17 @@
 use Rattle.std.proofs.Common.{◌≡◌, ℕ, ◌+◌, ◌<◌, ◌≤◌, Bool, true, false, List, [], ◌∷◌, ◌++◌, length, take, drop, map, reverse, get_or, refl, sym, ap, subst, ◌∙◌, inl, inr, arith, append_assoc}
 use Rattle.std.proofs.Math.Seq.{get_or-append_seam}
 use Rattle.std.proofs.lemmas.Bool.{cases_lt}
-use Rattle.std.proofs.lemmas.List.{length-append, length-take, get_or_append_left, map-append, reverse-append, take-append-drop, append-nil}
+use Rattle.std.proofs.lemmas.List.{length-append, length-take, get_or_append_left, get_or_default, map-append, reverse-append, take-append-drop, append-nil}
 use Rattle.std.specs.Global.{Vec}
 use Rattle.swh_folders.specs.declared.entry.Entry.{Entry}
 use Rattle.swh_folders.specs.Listed.{Listed}
 use Rattle.swh_folders.specs.Arena.{texts, layers, among, AllGood, tree_at, forest_of, AreGood, IsArena}
-use Rattle.swh_folders.specs.Forest.{Stands, forest}
+use Rattle.swh_folders.specs.Forest.{Forest, Stands, forest}
 use Rattle.swh_folders.specs.Sound.{IsSound}
 use Rattle.swh_folders.specs.Roots.{IsGood}
 use Rattle.swh_folders.specs.Live.{is_live, IsPart}
 use Rattle.swh_folders.specs.Moved.{IsCopied}
-use Rattle.swh_folders.proofs.Arenas.{tree-push_old, tree-push_new, arena-push, among-older, length-layers}
+use Rattle.swh_folders.proofs.Arenas.{tree-push_old, tree-push_new, arena-push, among-older, length-layers, tree-node, entries-low, same-forest}
 use Rattle.swh_folders.proofs.Lives.{part-sound}
 
 long-copy : (nodes fresh : List Listed) (base : ℕ) → base ≤ length nodes → length (take base nodes ++ fresh) ≡ base + length fresh
@@ -84,6 +84,51 @@ copied-skip names nodes base live x fresh moved dark c = record {
           let size : k < length moved + 1 = simp length-append at lt in
           let k-is : k ≡ length moved = omega arith in
           let yes : is_live base live (base + length moved) ≡ true = rw (← k-is) is in absurd cc
+    ];
+  };
+  parts = c.parts;
+}
+
+-- what stands below the base with these entries
+pub known-tree : (names : List (Vec ℕ)) (nodes fresh : List Listed) (base place : ℕ) (es : List Entry) (g : Forest) → IsArena names nodes → base ≤ length nodes → place < base → ((j : ℕ) → j < base → tree_at names (take base nodes ++ fresh) j ≡ tree_at names nodes j) → ((w : Listed) → (get_or nodes place w).items ≡ es)
+    → forest_of (texts names) (tree_at names (take base nodes ++ fresh)) es ≡ g → tree_at names nodes place ≡ g
+known-tree names nodes fresh base place es g arena le below low is e =
+    let at = tree_at names nodes in
+    let at' = tree_at names (take base nodes ++ fresh) in
+    let none : Listed = record { items = [] } in
+    let v = get_or nodes place none in
+    let lt : place < length nodes = omega arith in
+    let own : get_or nodes place none ≡ get_or nodes place (get_or nodes place none) = get_or_default nodes place none (get_or nodes place none) lt in
+    let good = entries-low names nodes place v arena lt own in
+    tree-node names nodes place v arena lt own
+    ∙ same-forest (texts names) (texts names) at at' (length names) place v.items good (λ i l. refl) (λ j l. sym (low j (omega arith)))
+    ∙ ap (forest_of (texts names) at') (is none) ∙ e
+
+-- a folder that stands below the base already
+pub copied-known : (names : List (Vec ℕ)) (nodes : List Listed) (base : ℕ) (live : List Bool) (x : Stands) (fresh : List Listed) (moved : List ℕ) (place : ℕ) → place < base → tree_at names nodes place ≡ tree_at names nodes (base + length moved) → IsCopied names nodes base live x fresh moved → IsCopied names nodes base live x fresh (moved ++ place ∷ [])
+copied-known names nodes base live x fresh moved place below same c = record {
+  arena = c.arena;
+  moves = record {
+    base_in = c.moves.base_in;
+    low = c.moves.low;
+    high = λ k lt is. elim (cases_lt k (length moved)) [
+      | inl under ↦
+          let there = get_or_append_left moved (place ∷ []) 0 k under in
+          ap (tree_at names (take base nodes ++ fresh)) there ∙ c.moves.high k under is
+      | inr top ↦
+          let size : k < length moved + 1 = simp length-append at lt in
+          let k-is : k ≡ length moved = omega arith in
+          rw k-is (ap (tree_at names (take base nodes ++ fresh)) (get_or-append_seam moved place [] 0) ∙ c.moves.low place below ∙ same)
+    ];
+    inside = λ k lt is. elim (cases_lt k (length moved)) [
+      | inl under ↦
+          let there = get_or_append_left moved (place ∷ []) 0 k under in
+          let low = c.moves.inside k under is in omega arith
+      | inr top ↦
+          let size : k < length moved + 1 = simp length-append at lt in
+          let k-is : k ≡ length moved = omega arith in
+          let bound = c.moves.base_in in
+          let there = get_or-append_seam moved place [] 0 in rw k-is (omega arith)
     ];
   };
   parts = c.parts;

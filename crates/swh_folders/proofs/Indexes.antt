@@ -119,3 +119,7 @@ index-more names entries entries' name text key n index t k last none is = recor
 pub not-known : (x : Option ℕ) → ((n : ℕ) → x ≡ Some n → ⊥) → x ≡ None
 not-known None h = refl
 not-known (Some n) h = absurd (h n refl)
+
+-- no name stands twice
+pub once-each : (names : List (Vec ℕ)) (entries : List (Vec ℕ × ℕ)) → IsIndex names entries → (i j : ℕ) → i < length names → j < length names → name_at (texts names) i ≡ name_at (texts names) j → i ≡ j
+once-each names entries index i j li lj e = the_some i j (sym (index.known i li) ∙ ap (number_of entries) e ∙ index.known j lj)

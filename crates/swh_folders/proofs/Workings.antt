@@ -1,5 +1,5 @@
 -- What stays of folders at work.
-use Rattle.std.proofs.Common.{◌≡◌, ℕ, ◌≤◌, List, [], ◌∷◌, ◌++◌, length, Option, Some, None, refl, ap, ◌∙◌, arith}
+use Rattle.std.proofs.Common.{◌≡◌, ℕ, ◌≤◌, List, [], ◌∷◌, ◌++◌, length, take, Option, Some, None, refl, ap, ◌∙◌, arith}
 use Rattle.std.specs.Global.{Vec}
 use Rattle.swh_folders.specs.Listed.{Listed}
 use Rattle.swh_folders.specs.declared.folders.Folders.{Folders}
@@ -7,7 +7,8 @@ use Rattle.swh_folders.specs.Arena.{tree_at, forest_of, texts, Grows}
 use Rattle.swh_folders.specs.Roots.{IsGood, map_at, IsBelow, map_of_number}
 use Rattle.swh_folders.specs.Working.{AreFolders, count_of, StaysBelow}
 use Rattle.swh_folders.proofs.Arenas.{arena-none, arena-push, sound-push, tree-push_old, tree-push_new}
-use Rattle.std.proofs.lemmas.List.{length-append}
+use Rattle.std.proofs.lemmas.List.{length-append, length-take}
+use Rattle.swh_folders.proofs.Copies.{good-take, tree-take}
 use Rattle.swh_folders.specs.Forest.{Bare, flat}
 
 pub good-none : IsGood [] []
@@ -32,6 +33,14 @@ stays-pushed base old new v le good none names nodes = record {
   });
   long = rw nodes (simp length-append (omega arith));
   stay = λ j lt. rw (names, nodes) (tree-push_old old.names.items old.nodes.items v j (omega arith));
+}
+
+-- the folders below the base alone
+pub stays-cut : (base : ℕ) (old new : Folders) → base ≤ count_of old → AreFolders old → new.names.items ≡ old.names.items → new.nodes.items ≡ take base old.nodes.items → StaysBelow base old new
+stays-cut base old new le good names nodes = record {
+  good = rw (names, nodes) (good-take old.names.items old.nodes.items base le good);
+  long = rw nodes (simp length-take (omega arith));
+  stay = λ j lt. rw (names, nodes) (tree-take old.names.items old.nodes.items base j le lt);
 }
 
 pub tree-pushed : (names : List (Vec ℕ)) (nodes : List Listed) (v : Listed) → v.items ≡ [] → tree_at names (nodes ++ v ∷ []) (length nodes) ≡ Bare

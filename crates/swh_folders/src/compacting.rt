@@ -25,6 +25,7 @@ ghost use Rattle.swh_folders.specs.Live.{is_live, IsMarked, AreMarked, AreLower,
 ghost use Rattle.swh_folders.specs.Moved.{AreMoved, IsCopied};
 
 use crate::entry::{Child, Entry};
+use crate::known::Known;
 use crate::live::live_of;
 use crate::packed::Packed;
 use std::alloc::{AllocError, Global};
@@ -74,10 +75,11 @@ fn moved_entries(
     Ok(out)
 }
 
-/// One folder more: moved to the end of the fresh ones, where it is wanted.
+/// One folder more: moved to the end of the fresh ones, where it is wanted and none below the base has its entries.
 fn move_one(
     alloc: Global,
     nodes: &[Packed],
+    known: &Known,
     base: usize,
     wanted: bool,
     moved: &mut Vec<usize>,
@@ -101,6 +103,10 @@ fn move_one(
     let number = base + moved.len();
     let old = nodes[number].entries(alloc)?;
     let entries = moved_entries(alloc, old.as_slice(), base, moved.as_slice())?;
+    if let Some(place) = known.find(nodes, base, entries.as_slice()) {
+        moved.push(place)?;
+        return Ok(());
+    }
     let packed = Packed::of(alloc, entries.as_slice())?;
     let place = base + fresh.len();
     fresh.push(packed)?;
@@ -112,6 +118,7 @@ fn move_one(
 fn move_all(
     alloc: Global,
     nodes: &[Packed],
+    known: &Known,
     base: usize,
     live: &[bool],
 ) -> Result<(Vec<Packed>, Vec<usize>), AllocError>
@@ -127,15 +134,16 @@ fn move_all(
     let mut moved = Vec::new(alloc);
     let mut fresh = Vec::new(alloc);
     for wanted in live {
-        move_one(alloc, nodes, base, *wanted, &mut moved, &mut fresh)?;
+        move_one(alloc, nodes, known, base, *wanted, &mut moved, &mut fresh)?;
     }
     Ok((fresh, moved))
 }
 
-/// The folders below the base, and after them those that the root needs, and the root's new number.
+/// The folders below the base, and after them those that the root needs and that are not known, and the root's new number.
 pub fn compact(
     alloc: Global,
     nodes: &mut Vec<Packed>,
+    known: &Known,
     base: usize,
     root: usize,
 ) -> Result<usize, AllocError>
@@ -158,7 +166,7 @@ pub fn compact(
         return Ok(root);
     }
     let live = live_of(alloc, nodes.as_slice(), base, root)?;
-    let (mut fresh, moved) = move_all(alloc, nodes.as_slice(), base, live.as_slice())?;
+    let (mut fresh, moved) = move_all(alloc, nodes.as_slice(), known, base, live.as_slice())?;
     let there = moved[root - base];
     nodes.truncate(base);
     nodes.append(&mut fresh)?;

@@ -1,21 +1,22 @@
 //! Folders at work: the changes of a commit made to them, and what is no longer needed dropped now and then.
 
-ghost use Rattle.std.specs.Prelude.{◌≡◌, ◌≢◌, ◌≤◌, [], IfOk, IfSome, IfNone};
+ghost use Rattle.std.specs.Prelude.{◌≡◌, ◌≢◌, ◌≤◌, ◌+◌, ◌*◌, [], IsFalse, IfOk, IfSome, IfNone};
 ghost use Rattle.swh_folders.specs.Roots.{IsBelow};
 ghost use Rattle.swh_fastlex.specs.Path.{components, IsPath};
 ghost use Rattle.swh_folders.specs.PathMap.{set, delete, held};
 ghost use Rattle.swh_folders.specs.Transfer.{transferred};
 ghost use Rattle.swh_folders.specs.Sound.{IsLeaf};
-ghost use Rattle.swh_folders.specs.Working.{AreFolders, count_of, root_map, StaysBelow};
+ghost use Rattle.swh_folders.specs.Working.{AreFolders, count_of, root_map, StaysBelow, spare, IsBounded};
 
 use crate::compacting::compact;
 use crate::edits::{Transfer, delete_path, set_leaf, transfer_path};
 use crate::entry::Leaf;
+use crate::known::Known;
 use crate::names::Names;
 use crate::packed::Packed;
 use std::alloc::{AllocError, Global};
 
-/// How many entries more than twice those that are needed may stand in folders.
+/// How many entries, and how many folders, more than twice those that are needed may stand.
 const SPARE: usize = 65_536;
 
 /// Folders by their numbers, with the names of their entries.
@@ -23,12 +24,16 @@ const SPARE: usize = 65_536;
 pub struct Folders {
     pub names: Names,
     pub nodes: Vec<Packed>,
+    /// Those whose objects were made.
+    pub known: Known,
     /// The number of the first folder whose entries are not counted.
     pub counted: usize,
     /// How many entries were counted since folders were dropped.
     pub entries: usize,
     /// How many there may be before folders are dropped again.
     pub room: usize,
+    /// How many folders there may be before.
+    pub most: usize,
 }
 
 impl Folders {
@@ -39,9 +44,11 @@ impl Folders {
         Folders {
             names: Names::new(alloc),
             nodes: Vec::new(alloc),
+            known: Known::new(alloc),
             counted: 0,
             entries: 0,
             room: SPARE,
+            most: SPARE,
         }
     }
 }
@@ -59,22 +66,29 @@ fn entries_from(nodes: &[Packed], first: usize) -> usize {
 fn is_full(folders: &mut Folders) -> bool
     ensures names { folders.new.names.items ≡ folders.old.names.items }
     ensures nodes { folders.new.nodes.items ≡ folders.old.nodes.items }
+    ensures most { folders.new.most ≡ folders.old.most }
+    ensures few { IsFalse result → count_of folders.old ≤ folders.old.most }
 {
     let more = entries_from(folders.nodes.as_slice(), folders.counted);
     folders.counted = folders.nodes.len();
     folders.entries = folders.entries.saturating_add(more);
-    folders.entries > folders.room
+    folders.entries > folders.room || folders.nodes.len() > folders.most
 }
 
 /// Counts anew the entries of the folders from this one on.
 pub fn count_from(folders: &mut Folders, first: usize)
     ensures names { folders.new.names.items ≡ folders.old.names.items }
     ensures nodes { folders.new.nodes.items ≡ folders.old.nodes.items }
+    ensures most { first ≤ count_of folders.new → folders.new.most + first ≤ 2 * count_of folders.new + spare }
 {
     let entries = entries_from(folders.nodes.as_slice(), first);
     folders.counted = folders.nodes.len();
     folders.entries = entries;
     folders.room = entries.saturating_mul(2).saturating_add(SPARE);
+    let fresh = folders.nodes.len().saturating_sub(first);
+    folders.most = first
+        .saturating_add(fresh.saturating_mul(2))
+        .saturating_add(SPARE);
 }
 
 /// The root, after folders that it does not need were dropped where there are many of them.
@@ -89,15 +103,18 @@ fn settled(
     requires root { IsBelow (count_of folders.old) root }
     ensures stays { StaysBelow base folders.old folders.new }
     ensures inside { IfOk result (λ r. IsBelow (count_of folders.new) r) }
+    ensures bounded { IfOk result (IsBounded base folders.old folders.new) }
     ensures map { IfOk result (λ r. root_map folders.new r ≡ root_map folders.old root) }
 {
     if !is_full(folders) {
         return Ok(root);
     }
     let Some(number) = root else {
+        folders.nodes.truncate(base);
+        count_from(folders, base);
         return Ok(None);
     };
-    let there = compact(alloc, &mut folders.nodes, base, number)?;
+    let there = compact(alloc, &mut folders.nodes, &folders.known, base, number)?;
     count_from(folders, base);
     Ok(Some(there))
 }
@@ -118,6 +135,7 @@ pub fn set_in(
     requires leaf { IsLeaf leaf }
     ensures stays { StaysBelow base folders.old folders.new }
     ensures inside { IfOk result (λ r. IsBelow (count_of folders.new) r) }
+    ensures bounded { IfOk result (IsBounded base folders.old folders.new) }
     ensures map { IfOk result (λ r. root_map folders.new r
         ≡ set (components path.now) leaf (root_map folders.old root)) }
 {
@@ -146,6 +164,7 @@ pub fn delete_in(
     requires path { IsPath path.now }
     ensures stays { StaysBelow base folders.old folders.new }
     ensures inside { IfOk result (λ r. IsBelow (count_of folders.new) r) }
+    ensures bounded { IfOk result (IsBounded base folders.old folders.new) }
     ensures map { IfOk result (λ r. root_map folders.new r ≡ delete (components path.now) (root_map folders.old root)) }
 {
     let there = delete_path(alloc, &mut folders.names, &mut folders.nodes, root, path)?;
@@ -174,6 +193,7 @@ pub fn transfer_in(
     ensures same { IfOk result (λ o. IfNone o (root_map folders.new root ≡ root_map folders.old root)) }
     ensures some { IfOk result (λ o. IfSome o (λ r. held (components source.now) (root_map folders.old root) ≢ [])) }
     ensures inside { IfOk result (λ o. IfSome o (λ r. IsBelow (count_of folders.new) r)) }
+    ensures bounded { IfOk result (λ o. IfSome o (IsBounded base folders.old folders.new)) }
     ensures map { IfOk result (λ o. IfSome o (λ r. root_map folders.new r
         ≡ transferred way (components source.now) (components target.now) (root_map folders.old root))) }
 {

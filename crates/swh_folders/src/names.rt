@@ -45,10 +45,11 @@ impl Names {
         }
     }
 
-    /// The names in the order of their numbers.
+    /// The names in the order of their numbers. None stands twice.
     pub fn as_slice(&self) -> &[Vec<u8>]
         ensures value { result.now ≡ self.now.items }
-        ensures len { length result.now ≡ length self.now.items }
+        ensures once { (i j : ℕ) → i < length self.now.items → j < length self.now.items
+            → name_at (texts self.now.items) i ≡ name_at (texts self.now.items) j → i ≡ j }
     {
         self.texts.as_slice()
     }

@@ -28,13 +28,7 @@ fn missing<L: Look>(look: &L, name: &Option<Name>) -> Option<Name>
     ensures none { IfNone result (AllByRecursion (IsHeld (L.archive look.now).bodies) (option_to_list name.now)) }
 {
     match name {
-        Some(name) => {
-            if look.has(name) {
-                None
-            } else {
-                Some(*name)
-            }
-        }
+        Some(name) => { if look.has(name) { None } else { Some(*name) } }
         None => None,
     }
 }

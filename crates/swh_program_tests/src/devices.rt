@@ -16,8 +16,14 @@ enum Fails {
 // This setting, with a call that fails.
 fn failing<'a>(setting: Setting<'a>, fails: Fails) -> Setting<'a> {
     match fails {
-        Fails::Ledger(call) => Setting { ledger_fails: Some(call), ..setting },
-        Fails::Store(call) => Setting { store_fails: Some(call), ..setting },
+        Fails::Ledger(call) => Setting {
+            ledger_fails: Some(call),
+            ..setting
+        },
+        Fails::Store(call) => Setting {
+            store_fails: Some(call),
+            ..setting
+        },
     }
 }
 
@@ -46,7 +52,10 @@ const OUTSIDE: &[u8] = b"swharc: outside disk\n";
 /// the end of the magic and the first byte. A later `init` makes the archive, or finds it made.
 #[test]
 fn of_init(rt: HostRuntime) -> Result<(), Fail> {
-    let empty = Setting { ledger: Some(b""), ..BARE };
+    let empty = Setting {
+        ledger: Some(b""),
+        ..BARE
+    };
     for call in 0..9 {
         let setting = failing(empty, Fails::Ledger(call));
         assert!(rt; is_stopped(rt.alloc(), &setting, [INIT, INIT], OUTSIDE, &[0, 3])?);

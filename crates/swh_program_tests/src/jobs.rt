@@ -22,22 +22,45 @@ const NOT_FOUND: &[Piece<'static>] = &[Piece::Text(b"https://e.org/p\t1\tnot_fou
 // 256 lines, URLs of 2,048 bytes, paths of 4,096 and heads of 1,024.
 const FILES: &[JobFile<'static>] = &[
     JobFile {
-        lines: &[Piece::Rows { count: 256, before: b"fast\thttps://e.org/", fill: 0, after: b"\te\n" }],
+        lines: &[Piece::Rows {
+            count: 256,
+            before: b"fast\thttps://e.org/",
+            fill: 0,
+            after: b"\te\n",
+        }],
         status: 1,
-        printed: &[Piece::Rows { count: 256, before: b"https://e.org/", fill: 0, after: b"\t1\tnot_found\t-\n" }],
+        printed: &[Piece::Rows {
+            count: 256,
+            before: b"https://e.org/",
+            fill: 0,
+            after: b"\t1\tnot_found\t-\n",
+        }],
     },
     JobFile {
-        lines: &[Piece::Rows { count: 257, before: b"fast\thttps://e.org/", fill: 0, after: b"\te\n" }],
+        lines: &[Piece::Rows {
+            count: 257,
+            before: b"fast\thttps://e.org/",
+            fill: 0,
+            after: b"\te\n",
+        }],
         status: 2,
         printed: &[Piece::Text(b"swharc: job line 257: limit\n")],
     },
     JobFile {
-        lines: &[Piece::Text(b"fast\t"), Piece::Fill(2_048), Piece::Text(b"\te\n")],
+        lines: &[
+            Piece::Text(b"fast\t"),
+            Piece::Fill(2_048),
+            Piece::Text(b"\te\n"),
+        ],
         status: 1,
         printed: &[Piece::Fill(2_048), Piece::Text(b"\t1\tnot_found\t-\n")],
     },
     JobFile {
-        lines: &[Piece::Text(b"fast\t"), Piece::Fill(2_049), Piece::Text(b"\te\n")],
+        lines: &[
+            Piece::Text(b"fast\t"),
+            Piece::Fill(2_049),
+            Piece::Text(b"\te\n"),
+        ],
         status: 2,
         printed: FORM,
     },
@@ -52,12 +75,18 @@ const FILES: &[JobFile<'static>] = &[
         printed: FORM,
     },
     JobFile {
-        lines: &[Piece::Text(b"fast\thttps://e.org/p\te\t"), Piece::Fill(1_024)],
+        lines: &[
+            Piece::Text(b"fast\thttps://e.org/p\te\t"),
+            Piece::Fill(1_024),
+        ],
         status: 1,
         printed: NOT_FOUND,
     },
     JobFile {
-        lines: &[Piece::Text(b"fast\thttps://e.org/p\te\t"), Piece::Fill(1_025)],
+        lines: &[
+            Piece::Text(b"fast\thttps://e.org/p\te\t"),
+            Piece::Fill(1_025),
+        ],
         status: 2,
         printed: FORM,
     },
@@ -66,7 +95,11 @@ const FILES: &[JobFile<'static>] = &[
         status: 2,
         printed: FORM,
     },
-    JobFile { lines: &[Piece::Text(b"fast\te")], status: 2, printed: FORM },
+    JobFile {
+        lines: &[Piece::Text(b"fast\te")],
+        status: 2,
+        printed: FORM,
+    },
     JobFile {
         lines: &[Piece::Text(b"fast\thttps://e.org/p\te\nfast\thttps://e.org/q\n")],
         status: 2,

@@ -11,26 +11,41 @@ use swh_base::Sha1Namer;
 use swh_fixtures::STREAM;
 
 // A commit without a tree, up to where its changes stand.
-const COMMIT: &[u8] =
-    b"commit refs/heads/m\ncommitter A <a@e.org> 1000000000 +0000\ndata 0\n";
+const COMMIT: &[u8] = b"commit refs/heads/m\ncommitter A <a@e.org> 1000000000 +0000\ndata 0\n";
 
 // Lines of 1,048,576 bytes, paths of 65,535, refs of 1,024, names of tags of 1,014, and 65,536 refs. The ids are git's, of
 // the snapshots that stand on them.
 const LIMITS: &[Load<'static>] = &[
     Load {
-        input: &[Piece::Text(b"#"), Piece::Fill(1_048_574), Piece::Text(b"\n")],
+        input: &[
+            Piece::Text(b"#"),
+            Piece::Fill(1_048_574),
+            Piece::Text(b"\n"),
+        ],
         ends: EMPTY,
     },
     Load {
-        input: &[Piece::Text(b"#"), Piece::Fill(1_048_575), Piece::Text(b"\n")],
+        input: &[
+            Piece::Text(b"#"),
+            Piece::Fill(1_048_575),
+            Piece::Text(b"\n"),
+        ],
         ends: b"failed\tlimit line\n",
     },
     Load {
-        input: &[Piece::Text(b"blob\ndata <<E\n"), Piece::Fill(1_048_575), Piece::Text(b"\nE\n")],
+        input: &[
+            Piece::Text(b"blob\ndata <<E\n"),
+            Piece::Fill(1_048_575),
+            Piece::Text(b"\nE\n"),
+        ],
         ends: EMPTY,
     },
     Load {
-        input: &[Piece::Text(b"blob\ndata <<E\n"), Piece::Fill(1_048_576), Piece::Text(b"\nE\n")],
+        input: &[
+            Piece::Text(b"blob\ndata <<E\n"),
+            Piece::Fill(1_048_576),
+            Piece::Text(b"\nE\n"),
+        ],
         ends: b"failed\tlimit line\n",
     },
     Load {
@@ -52,11 +67,19 @@ const LIMITS: &[Load<'static>] = &[
         ends: b"failed\tlimit path\n",
     },
     Load {
-        input: &[Piece::Text(b"reset "), Piece::Fill(1_024), Piece::Text(b"\n")],
+        input: &[
+            Piece::Text(b"reset "),
+            Piece::Fill(1_024),
+            Piece::Text(b"\n"),
+        ],
         ends: EMPTY,
     },
     Load {
-        input: &[Piece::Text(b"reset "), Piece::Fill(1_025), Piece::Text(b"\n")],
+        input: &[
+            Piece::Text(b"reset "),
+            Piece::Fill(1_025),
+            Piece::Text(b"\n"),
+        ],
         ends: b"failed\tlimit ref\n",
     },
     Load {
@@ -93,7 +116,15 @@ fn is_met_plainly(alloc: Global, case: &Case<'_>) -> Result<bool, AllocError> {
 // With the worked stream's branch these are 65,536 refs.
 const MANY_REFS: Case<'static> = Case {
     setting: Setting {
-        input: Some(&[Piece::Text(STREAM), Piece::Rows { count: 65_535, before: b"reset refs/heads/", fill: 0, after: b"\nfrom :2\n" }]),
+        input: Some(&[
+            Piece::Text(STREAM),
+            Piece::Rows {
+                count: 65_535,
+                before: b"reset refs/heads/",
+                fill: 0,
+                after: b"\nfrom :2\n",
+            },
+        ]),
         ..LOADING
     },
     runs: &[INIT, LOAD, CHECK],
@@ -103,7 +134,15 @@ const MANY_REFS: Case<'static> = Case {
 
 const TOO_MANY_REFS: Case<'static> = Case {
     setting: Setting {
-        input: Some(&[Piece::Text(STREAM), Piece::Rows { count: 65_536, before: b"reset refs/heads/", fill: 0, after: b"\nfrom :2\n" }]),
+        input: Some(&[
+            Piece::Text(STREAM),
+            Piece::Rows {
+                count: 65_536,
+                before: b"reset refs/heads/",
+                fill: 0,
+                after: b"\nfrom :2\n",
+            },
+        ]),
         ..LOADING
     },
     runs: &[INIT, LOAD],
@@ -121,7 +160,12 @@ fn refs(rt: HostRuntime) -> Result<(), Fail> {
 // More than a batch has.
 const MANY_OBJECTS: Case<'static> = Case {
     setting: Setting {
-        input: Some(&[Piece::Rows { count: 5_001, before: b"blob\ndata 6\n", fill: 0, after: b"\n" }]),
+        input: Some(&[Piece::Rows {
+            count: 5_001,
+            before: b"blob\ndata 6\n",
+            fill: 0,
+            after: b"\n",
+        }]),
         ..LOADING
     },
     runs: &[INIT, LOAD, CHECK],
@@ -138,7 +182,10 @@ fn more_objects_than_one_batch_has(rt: HostRuntime) -> Result<(), Fail> {
 // A body has 67,108,864 bytes at most: of a content all bytes are in the stream.
 const LONG_CONTENT: Case<'static> = Case {
     setting: Setting {
-        input: Some(&[Piece::Text(b"blob\ndata 67108864\n"), Piece::Fill(67_108_864)]),
+        input: Some(&[
+            Piece::Text(b"blob\ndata 67108864\n"),
+            Piece::Fill(67_108_864),
+        ]),
         ..LOADING
     },
     runs: &[INIT, LOAD, CHECK],
@@ -148,7 +195,10 @@ const LONG_CONTENT: Case<'static> = Case {
 
 const TOO_LONG_CONTENT: Case<'static> = Case {
     setting: Setting {
-        input: Some(&[Piece::Text(b"blob\ndata 67108865\n"), Piece::Fill(67_108_865)]),
+        input: Some(&[
+            Piece::Text(b"blob\ndata 67108865\n"),
+            Piece::Fill(67_108_865),
+        ]),
         ..LOADING
     },
     runs: &[INIT, LOAD],
@@ -166,7 +216,12 @@ fn a_content(rt: HostRuntime) -> Result<(), Fail> {
 // Of a revision 122 bytes stand before the message.
 const LONG_REVISION: Case<'static> = Case {
     setting: Setting {
-        input: Some(&[Piece::Text(b"commit refs/heads/m\ncommitter A <a@e.org> 1000000000 +0000\ndata 67108742\n"), Piece::Fill(67_108_742)]),
+        input: Some(&[
+            Piece::Text(
+                b"commit refs/heads/m\ncommitter A <a@e.org> 1000000000 +0000\ndata 67108742\n",
+            ),
+            Piece::Fill(67_108_742),
+        ]),
         ..LOADING
     },
     runs: &[INIT, LOAD, CHECK],
@@ -176,7 +231,12 @@ const LONG_REVISION: Case<'static> = Case {
 
 const TOO_LONG_REVISION: Case<'static> = Case {
     setting: Setting {
-        input: Some(&[Piece::Text(b"commit refs/heads/m\ncommitter A <a@e.org> 1000000000 +0000\ndata 67108743\n"), Piece::Fill(67_108_743)]),
+        input: Some(&[
+            Piece::Text(
+                b"commit refs/heads/m\ncommitter A <a@e.org> 1000000000 +0000\ndata 67108743\n",
+            ),
+            Piece::Fill(67_108_743),
+        ]),
         ..LOADING
     },
     runs: &[INIT, LOAD],
@@ -189,7 +249,12 @@ const LONG_LINES: Case<'static> = Case {
     setting: Setting {
         input: Some(&[
             Piece::Text(b"blob\ndata <<E\n"),
-            Piece::Rows { count: 64, before: b"", fill: 1_048_569, after: b"\n" },
+            Piece::Rows {
+                count: 64,
+                before: b"",
+                fill: 1_048_569,
+                after: b"\n",
+            },
             Piece::Text(b"E\n"),
         ]),
         ..LOADING
@@ -204,7 +269,12 @@ const TOO_LONG_LINES: Case<'static> = Case {
     setting: Setting {
         input: Some(&[
             Piece::Text(b"blob\ndata <<E\n"),
-            Piece::Rows { count: 64, before: b"", fill: 1_048_569, after: b"\n" },
+            Piece::Rows {
+                count: 64,
+                before: b"",
+                fill: 1_048_569,
+                after: b"\n",
+            },
             Piece::Text(b"\nE\n"),
         ]),
         ..LOADING
@@ -231,7 +301,11 @@ fn a_revision(rt: HostRuntime) -> Result<(), Fail> {
 // Of a release 103 bytes stand before the message.
 const LONG_RELEASE: Case<'static> = Case {
     setting: Setting {
-        input: Some(&[Piece::Text(STREAM), Piece::Text(b"tag t\nfrom :2\ntagger A <a@e.org> 1000000000 +0000\ndata 67108761\n"), Piece::Fill(67_108_761)]),
+        input: Some(&[
+            Piece::Text(STREAM),
+            Piece::Text(b"tag t\nfrom :2\ntagger A <a@e.org> 1000000000 +0000\ndata 67108761\n"),
+            Piece::Fill(67_108_761),
+        ]),
         ..LOADING
     },
     runs: &[INIT, LOAD, CHECK],
@@ -241,7 +315,11 @@ const LONG_RELEASE: Case<'static> = Case {
 
 const TOO_LONG_RELEASE: Case<'static> = Case {
     setting: Setting {
-        input: Some(&[Piece::Text(STREAM), Piece::Text(b"tag t\nfrom :2\ntagger A <a@e.org> 1000000000 +0000\ndata 67108762\n"), Piece::Fill(67_108_762)]),
+        input: Some(&[
+            Piece::Text(STREAM),
+            Piece::Text(b"tag t\nfrom :2\ntagger A <a@e.org> 1000000000 +0000\ndata 67108762\n"),
+            Piece::Fill(67_108_762),
+        ]),
         ..LOADING
     },
     runs: &[INIT, LOAD],
@@ -259,7 +337,15 @@ fn a_release(rt: HostRuntime) -> Result<(), Fail> {
 // 1,024 entries of 65,536 bytes each, the names with 65,508 of them.
 const LONG_DIRECTORY: Case<'static> = Case {
     setting: Setting {
-        input: Some(&[Piece::Text(COMMIT), Piece::Rows { count: 1_024, before: b"M 100644 inline ", fill: 65_502, after: b"\ndata 0\n" }]),
+        input: Some(&[
+            Piece::Text(COMMIT),
+            Piece::Rows {
+                count: 1_024,
+                before: b"M 100644 inline ",
+                fill: 65_502,
+                after: b"\ndata 0\n",
+            },
+        ]),
         ..LOADING
     },
     runs: &[INIT, LOAD, CHECK],
@@ -269,7 +355,16 @@ const LONG_DIRECTORY: Case<'static> = Case {
 
 const TOO_LONG_DIRECTORY: Case<'static> = Case {
     setting: Setting {
-        input: Some(&[Piece::Text(COMMIT), Piece::Rows { count: 1_024, before: b"M 100644 inline ", fill: 65_502, after: b"\ndata 0\n" }, Piece::Text(b"M 100644 inline y\ndata 0\n")]),
+        input: Some(&[
+            Piece::Text(COMMIT),
+            Piece::Rows {
+                count: 1_024,
+                before: b"M 100644 inline ",
+                fill: 65_502,
+                after: b"\ndata 0\n",
+            },
+            Piece::Text(b"M 100644 inline y\ndata 0\n"),
+        ]),
         ..LOADING
     },
     runs: &[INIT, LOAD],
@@ -287,7 +382,16 @@ fn a_directory(rt: HostRuntime) -> Result<(), Fail> {
 // 65,536 branches of 1,024 bytes each, the names with 991 of them. The worked stream's branch is taken away.
 const LONG_SNAPSHOT: Case<'static> = Case {
     setting: Setting {
-        input: Some(&[Piece::Text(STREAM), Piece::Text(b"reset refs/heads/main\n\n"), Piece::Rows { count: 65_536, before: b"reset ", fill: 985, after: b"\nfrom :2\n" }]),
+        input: Some(&[
+            Piece::Text(STREAM),
+            Piece::Text(b"reset refs/heads/main\n\n"),
+            Piece::Rows {
+                count: 65_536,
+                before: b"reset ",
+                fill: 985,
+                after: b"\nfrom :2\n",
+            },
+        ]),
         ..LOADING
     },
     runs: &[INIT, LOAD, CHECK],
@@ -297,7 +401,19 @@ const LONG_SNAPSHOT: Case<'static> = Case {
 
 const TOO_LONG_SNAPSHOT: Case<'static> = Case {
     setting: Setting {
-        input: Some(&[Piece::Text(STREAM), Piece::Text(b"reset refs/heads/main\n\n"), Piece::Rows { count: 65_535, before: b"reset ", fill: 985, after: b"\nfrom :2\n" }, Piece::Text(b"reset "), Piece::Fill(992), Piece::Text(b"\nfrom :2\n")]),
+        input: Some(&[
+            Piece::Text(STREAM),
+            Piece::Text(b"reset refs/heads/main\n\n"),
+            Piece::Rows {
+                count: 65_535,
+                before: b"reset ",
+                fill: 985,
+                after: b"\nfrom :2\n",
+            },
+            Piece::Text(b"reset "),
+            Piece::Fill(992),
+            Piece::Text(b"\nfrom :2\n"),
+        ]),
         ..LOADING
     },
     runs: &[INIT, LOAD],
@@ -311,4 +427,3 @@ fn a_snapshot(rt: HostRuntime) -> Result<(), Fail> {
     assert!(rt; is_met_plainly(rt.alloc(), &TOO_LONG_SNAPSHOT)?);
     Ok(())
 }
-

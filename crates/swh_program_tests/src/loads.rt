@@ -21,7 +21,11 @@ https://e.org/p\t2\tfull\tswh:1:snp:5036c2b4a676f9dad60fbaed431ca21ecdec56ff\nob
     // The visits of an origin, the last first.
     Case {
         setting: LOADED,
-        runs: &[ASK, LOAD, &["ask", "A", "/", "/api/1/origin/https://e.org/p/visits/"]],
+        runs: &[
+            ASK,
+            LOAD,
+            &["ask", "A", "/", "/api/1/origin/https://e.org/p/visits/"],
+        ],
         statuses: &[0, 0, 1],
         printed: b"200 142\n\
 [{\"date\":1000000000,\"origin\":\"https://e.org/p\",\"snapshot\":\"5036c2b4a676f9dad60fbaed431ca21ecdec56ff\",\
@@ -52,13 +56,19 @@ https://e.org/p\t2\tfull\tswh:1:snp:5036c2b4a676f9dad60fbaed431ca21ecdec56ff\n\
     },
     // No job, and then two in their order, of the second of which nothing is there.
     Case {
-        setting: Setting { jobs: Some(&[]), ..LOADING },
+        setting: Setting {
+            jobs: Some(&[]),
+            ..LOADING
+        },
         runs: &[INIT, LOAD],
         statuses: &[0, 0],
         printed: b"made\n",
     },
     Case {
-        setting: Setting { jobs: Some(TWO_JOBS), ..LOADING },
+        setting: Setting {
+            jobs: Some(TWO_JOBS),
+            ..LOADING
+        },
         runs: &[INIT, LOAD],
         statuses: &[0, 1],
         printed: b"made\nhttps://e.org/p\t1\tfull\tswh:1:snp:5036c2b4a676f9dad60fbaed431ca21ecdec56ff\n\
@@ -66,19 +76,29 @@ https://e.org/a\t1\tnot_found\t-\n",
     },
     // An input that does not open, or breaks while it is read, at its first and at a later call.
     Case {
-        setting: Setting { input: None, origins_fail: Some(0), ..LOADING },
+        setting: Setting {
+            input: None,
+            origins_fail: Some(0),
+            ..LOADING
+        },
         runs: &[INIT, LOAD],
         statuses: &[0, 1],
         printed: b"made\nhttps://e.org/p\t1\tfailed\tread\n",
     },
     Case {
-        setting: Setting { input_fails: Some(0), ..LOADING },
+        setting: Setting {
+            input_fails: Some(0),
+            ..LOADING
+        },
         runs: &[INIT, LOAD],
         statuses: &[0, 1],
         printed: b"made\nhttps://e.org/p\t1\tfailed\tread\n",
     },
     Case {
-        setting: Setting { input_fails: Some(1), ..LOADING },
+        setting: Setting {
+            input_fails: Some(1),
+            ..LOADING
+        },
         runs: &[INIT, LOAD, LOAD],
         statuses: &[0, 1, 1],
         printed: b"made\nhttps://e.org/p\t1\tfailed\tread\nhttps://e.org/p\t2\tfailed\tread\n",

@@ -32,29 +32,45 @@ fn other_words(rt: HostRuntime) -> Result<(), Fail> {
 // SHA-1's. The commit's is git's.
 const NAMES: &[Case<'static>] = &[
     Case {
-        setting: Setting { jobs: Some(&[]), ..BARE },
+        setting: Setting {
+            jobs: Some(&[]),
+            ..BARE
+        },
         runs: &[&["identify", "cnt", "J"], &["identify", "snp", "J"]],
         statuses: &[0, 0],
         printed: b"swh:1:cnt:e69de29bb2d1d6434b8b29ae775ad8c2e48c5391\n\
 swh:1:snp:1a8893e6a86f444e8be8e7bda6cb34fb1735a00e\n",
     },
     Case {
-        setting: Setting { jobs: Some(&[Piece::Text(b"version 1\n")]), ..BARE },
+        setting: Setting {
+            jobs: Some(&[Piece::Text(b"version 1\n")]),
+            ..BARE
+        },
         runs: &[&["identify", "cnt", "J"]],
         statuses: &[0],
         printed: b"swh:1:cnt:83baae61804e65cc73a7201a7252750c76066a30\n",
     },
     Case {
-        setting: Setting { jobs: Some(&[Piece::Text(
-            b"tree d8329fc1cc938780ffdd9f94e0d364e0ea74f579\nauthor A <a@e.org> 1000000000 +0000\n\
+        setting: Setting {
+            jobs: Some(&[Piece::Text(
+                b"tree d8329fc1cc938780ffdd9f94e0d364e0ea74f579\nauthor A <a@e.org> 1000000000 +0000\n\
 committer A <a@e.org> 1000000000 +0000\n\nfirst\n",
-        )]), ..BARE },
-        runs: &[&["identify", "rev", "J"], &["identify", "rel", "J"], &["identify", "snp", "J"]],
+            )]),
+            ..BARE
+        },
+        runs: &[
+            &["identify", "rev", "J"],
+            &["identify", "rel", "J"],
+            &["identify", "snp", "J"],
+        ],
         statuses: &[0, 1, 1],
         printed: b"swh:1:rev:295c0651a95ba32ac5e14f92da0161b122942cac\nswharc: bad rel 0\nswharc: bad snp 0\n",
     },
     Case {
-        setting: Setting { jobs: Some(&[Piece::Text(b"tag\n")]), ..BARE },
+        setting: Setting {
+            jobs: Some(&[Piece::Text(b"tag\n")]),
+            ..BARE
+        },
         runs: &[&["identify", "rel", "J"], &["identify", "rev", "J"]],
         statuses: &[1, 1],
         printed: b"swharc: bad rel 0\nswharc: bad rev 1\n",
@@ -66,13 +82,20 @@ committer A <a@e.org> 1000000000 +0000\n\nfirst\n",
         printed: b"swharc: not found\n",
     },
     Case {
-        setting: Setting { desk_fails: Some(0), ..BARE },
+        setting: Setting {
+            desk_fails: Some(0),
+            ..BARE
+        },
         runs: &[&["identify", "cnt", "J"]],
         statuses: &[4],
         printed: b"swharc: outside source\n",
     },
     Case {
-        setting: Setting { jobs: Some(&[Piece::Text(b"version 1\n")]), jobs_fail: Some(1), ..BARE },
+        setting: Setting {
+            jobs: Some(&[Piece::Text(b"version 1\n")]),
+            jobs_fail: Some(1),
+            ..BARE
+        },
         runs: &[&["identify", "cnt", "J"]],
         statuses: &[4],
         printed: b"swharc: outside source\n",
@@ -88,13 +111,19 @@ fn files_are_named(rt: HostRuntime) -> Result<(), Fail> {
 // A body has 67,108,864 bytes at most.
 const LONG_FILES: &[Case<'static>] = &[
     Case {
-        setting: Setting { jobs: Some(&[Piece::Fill(67_108_864)]), ..BARE },
+        setting: Setting {
+            jobs: Some(&[Piece::Fill(67_108_864)]),
+            ..BARE
+        },
         runs: &[&["identify", "cnt", "J"], &["identify", "rel", "J"]],
         statuses: &[0, 1],
         printed: b"swh:1:cnt:dd7655e34de553c0c754464393ddde84d8e09af5\nswharc: bad rel 0\n",
     },
     Case {
-        setting: Setting { jobs: Some(&[Piece::Fill(67_108_865)]), ..BARE },
+        setting: Setting {
+            jobs: Some(&[Piece::Fill(67_108_865)]),
+            ..BARE
+        },
         runs: &[&["identify", "cnt", "J"], &["identify", "rev", "J"]],
         statuses: &[1, 1],
         printed: b"swharc: limit body\nswharc: limit body\n",
@@ -122,7 +151,10 @@ const REFUSALS: &[Case<'static>] = &[
         printed: b"swharc: not made\nswharc: not made\nswharc: not made\n",
     },
     Case {
-        setting: Setting { ledger: Some(b"SWHARC1\n"), ..LOADING },
+        setting: Setting {
+            ledger: Some(b"SWHARC1\n"),
+            ..LOADING
+        },
         runs: &[LOAD, ASK, CHECK],
         statuses: &[3, 3, 3],
         printed: b"swharc: not made\nswharc: not made\nswharc: not made\n",
@@ -134,49 +166,73 @@ const REFUSALS: &[Case<'static>] = &[
         printed: b"made\nswharc: no job file\n",
     },
     Case {
-        setting: Setting { depot_fails: Some(0), ..BARE },
+        setting: Setting {
+            depot_fails: Some(0),
+            ..BARE
+        },
         runs: &[INIT],
         statuses: &[4],
         printed: b"swharc: outside disk\n",
     },
     Case {
-        setting: Setting { depot_fails: Some(1), ..LOADED },
+        setting: Setting {
+            depot_fails: Some(1),
+            ..LOADED
+        },
         runs: &[ASK],
         statuses: &[4],
         printed: b"swharc: outside disk\n",
     },
     Case {
-        setting: Setting { depot_fails: Some(0), ..LOADED },
+        setting: Setting {
+            depot_fails: Some(0),
+            ..LOADED
+        },
         runs: &[CHECK],
         statuses: &[4],
         printed: b"swharc: outside disk\n",
     },
     Case {
-        setting: Setting { depot_fails: Some(1), ..LOADED },
+        setting: Setting {
+            depot_fails: Some(1),
+            ..LOADED
+        },
         runs: &[LOAD],
         statuses: &[4],
         printed: b"swharc: outside disk\n",
     },
     Case {
-        setting: Setting { desk_fails: Some(0), ..BARE },
+        setting: Setting {
+            desk_fails: Some(0),
+            ..BARE
+        },
         runs: &[LOAD],
         statuses: &[4],
         printed: b"swharc: outside source\n",
     },
     Case {
-        setting: Setting { jobs_fail: Some(0), ..LOADING },
+        setting: Setting {
+            jobs_fail: Some(0),
+            ..LOADING
+        },
         runs: &[LOAD],
         statuses: &[4],
         printed: b"swharc: outside source\n",
     },
     Case {
-        setting: Setting { clock_fails: Some(0), ..LOADED },
+        setting: Setting {
+            clock_fails: Some(0),
+            ..LOADED
+        },
         runs: &[LOAD, CHECK],
         statuses: &[4, 0],
         printed: b"swharc: outside clock\nobjects 4 closed 4 visits 1\n",
     },
     Case {
-        setting: Setting { sink_fails: Some(0), ..BARE },
+        setting: Setting {
+            sink_fails: Some(0),
+            ..BARE
+        },
         runs: &[INIT],
         statuses: &[4],
         printed: b"ma",

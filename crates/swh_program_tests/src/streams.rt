@@ -20,7 +20,10 @@ pub fn ends_so(alloc: Global, load: &Load<'_>) -> Result<bool, AllocError> {
         ..LOADING
     };
     let ended = play(alloc, &setting, &[INIT, LOAD])?;
-    let told = ended.printed.as_slice().strip_prefix(b"made\nhttps://e.org/p\t1\t");
+    let told = ended
+        .printed
+        .as_slice()
+        .strip_prefix(b"made\nhttps://e.org/p\t1\t");
     let status = if load.ends.starts_with(b"full") { 0 } else { 1 };
     Ok(told == Some(load.ends) && ended.statuses.as_slice() == [0, status].as_slice())
 }
@@ -41,8 +44,14 @@ pub const LIMIT_BODY: &[u8] = b"failed\tlimit body\n";
 
 // Where a stream breaks, each way twice, and streams that are whole in some odd way.
 const STREAMS: &[Load<'static>] = &[
-    Load { input: &[Piece::Text(b"")], ends: EMPTY },
-    Load { input: &[Piece::Text(b"feature done\ndone\nls :1 a\n")], ends: EMPTY },
+    Load {
+        input: &[Piece::Text(b"")],
+        ends: EMPTY,
+    },
+    Load {
+        input: &[Piece::Text(b"feature done\ndone\nls :1 a\n")],
+        ends: EMPTY,
+    },
     Load {
         input: &[Piece::Text(b"M 100644 :1 a\n")],
         ends: b"failed\tstream 0 grammar\n",
@@ -99,8 +108,14 @@ const STREAMS: &[Load<'static>] = &[
         )],
         ends: b"failed\tstream 66 place\n",
     },
-    Load { input: &[Piece::Text(b"blob\ndata 999999999999999999\n")], ends: LIMIT_BODY },
-    Load { input: &[Piece::Text(b"blob\ndata 67108865\n")], ends: LIMIT_BODY },
+    Load {
+        input: &[Piece::Text(b"blob\ndata 999999999999999999\n")],
+        ends: LIMIT_BODY,
+    },
+    Load {
+        input: &[Piece::Text(b"blob\ndata 67108865\n")],
+        ends: LIMIT_BODY,
+    },
 ];
 
 #[test]

@@ -104,10 +104,7 @@ const ROWS: &[Row] = &[
     },
     Row {
         title: "a file under itself",
-        changes: &[
-            Change::Set(100_644, 1, b"a"),
-            Change::Copy(b"a", b"a/b"),
-        ],
+        changes: &[Change::Set(100_644, 1, b"a"), Change::Copy(b"a", b"a/b")],
         id: b"c046873eb0a8741fe7a4842297bb773a1fa3198b",
         objects: 2,
     },

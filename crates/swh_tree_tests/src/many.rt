@@ -39,7 +39,11 @@ fn filled(alloc: Global, trees: &mut Trees<Sha1Namer>) -> Result<Option<Tree>, M
 }
 
 /// Without the files of even numbers.
-fn halved(alloc: Global, trees: &mut Trees<Sha1Namer>, start: Tree) -> Result<Option<Tree>, Memory> {
+fn halved(
+    alloc: Global,
+    trees: &mut Trees<Sha1Namer>,
+    start: Tree,
+) -> Result<Option<Tree>, Memory> {
     let mut tree = start;
     for half in 0..500_u32 {
         let number = half * 2;

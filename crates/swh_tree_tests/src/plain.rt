@@ -16,13 +16,7 @@ fn behind<'a>(path: &'a [u8], front: &[u8]) -> Option<&'a [u8]> {
     let rest = path.strip_prefix(front)?;
     match rest.first() {
         None => Some(rest),
-        Some(byte) => {
-            if *byte == b'/' {
-                Some(rest)
-            } else {
-                None
-            }
-        }
+        Some(byte) => { if *byte == b'/' { Some(rest) } else { None } }
     }
 }
 

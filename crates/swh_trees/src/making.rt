@@ -92,7 +92,7 @@ pub fn make_folders<N: Namer>(
     ensures err { IfErr result (ExplainsPart (directory_id N.id_of) (IsFolder (folder_at folders.old root))) }
 {
     let base = ids.len();
-    let number = compact(alloc, &mut folders.nodes, base, root)?;
+    let number = compact(alloc, &mut folders.nodes, &folders.known, base, root)?;
     let made = make_all(
         alloc,
         namer,
@@ -102,7 +102,10 @@ pub fn make_folders<N: Namer>(
     );
     count_from(folders, ids.len());
     match made {
-        Ok(objects) => Ok((number, objects)),
+        Ok(objects) => {
+            folders.known.learn(folders.nodes.as_slice(), base);
+            Ok((number, objects))
+        }
         Err(fault) => {
             ids.truncate(base);
             Err(fault)
