@@ -69,6 +69,16 @@ pub ok_reads : {X : Type 0} (r : Result X InputFault) (text other : List ℕ) (p
 ok_reads (Ok x) text other place now same s h = reads_up_to text other place now same s h
 ok_reads (Err fault) text other place now same s h = tt
 
+-- what holds whatever is made
+pub ok_any : {X E P : Type 0} (r : Result X E) → P → IfOk r (λ _. P)
+ok_any (Ok x) p = p
+ok_any (Err e) p = tt
+
+-- a count that did not rise, as another counts it
+pub ok_quiet : {X E : Type 0} (r : Result X E) (a b m n : ℕ) → IfOk r (λ _. a ≡ b) → m ≡ a → b ≡ n → IfOk r (λ _. m ≡ n)
+ok_quiet (Ok x) a b m n q e f = e ∙ q ∙ f
+ok_quiet (Err fault) a b m n q e f = tt
+
 module _ (id : Kind → List ℕ → List ℕ) where
   pub has_read : (text : List ℕ) (old new : Place) (promised : Bool) (state : Result Loading FeedFault) (es : List Entry) → HasCome id text (position old promised) state es → EndsHere old new promised → HasRead id text state es
   has_read text old new promised state es h e = record { rest = position old promised; come = h; ends = e.stream.stream }

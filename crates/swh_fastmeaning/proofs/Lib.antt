@@ -8,3 +8,4 @@ pub mod MappedMaps
 pub mod Seens
 pub mod Tags
 pub mod SnapshotKids
+pub mod Overs

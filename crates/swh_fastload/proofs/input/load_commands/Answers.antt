@@ -1,5 +1,6 @@
 use Rattle.std.proofs.Common.{arith, refl, sym, ap, ◌∙◌, subst, Ok, Err}
 use Rattle.swh_fastrows.specs.Places.{left, position}
+use Rattle.swh_fastmeaning.specs.Commands.{step}
 use Rattle.swh_fastload.specs.Reading.{FailsSo}
 use Rattle.swh_fastload.proofs.Readings.{nothing_given, nothing_come, given_more, come_more, read_fails, feed_fails, rose_since, has_read, stops_at_end, ended, led, still_open}
 use Rattle.swh_fastload.proofs.input.load_commands.Goals as goal
@@ -28,7 +29,7 @@ returns-in-Err-feed-clause-fails g c =
     let h = c.commands.invariant.come told in
     let on = led c.commands.reader c.next_command.new.self c.next_command.result c.in-Ok-Some.command (c.in-Ok-Some.is ∙ ap Ok c.in-Ok-Some.field-0-is) (c.next_command.ensures.command told c.commands.invariant.still) in
     let refused = rw c.in-Err-feed.is at (c.feed.ensures.err h.loading h.is) in
-    (h, on.starts, refused.explained)) _ (let h = c.commands.invariant.given in let refused = rw c.in-Err-feed.is at (c.feed.ensures.err h.loading h.is) in refused.explained) in
+    (h, on.starts, refused.explained)) (step g.N.Namer.id_of c.commands.invariant.given.loading.aims c.in-Ok-Some.command) (let h = c.commands.invariant.given in let refused = rw c.in-Err-feed.is at (c.feed.ensures.err h.loading h.is) in refused.explained) in
     subst (FailsSo g.N.Namer.id_of g.S.Source.tells text c.args.reader.now.place.faults c.next_command.new.self.place.faults) (sym c.feed_fault.ensures) failed
 
 pub commands-preserved : goal.commands-preserved
