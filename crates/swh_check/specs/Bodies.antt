@@ -1,5 +1,5 @@
 -- Bodies that were read again, and their ids.
-use Rattle.std.specs.Prelude.{◌≡◌, ◌≢◌, ℕ, Some, List, [], ◌∷◌, length, drop}
+use Rattle.std.specs.Prelude.{◌≡◌, ◌≢◌, ◌≤◌, ℕ, Some, List, [], ◌∷◌, length, drop}
 use Rattle.std.specs.List.{AllByRecursion}
 use Rattle.swh_base.specs.declared.kind.Kind.{Kind}
 use Rattle.swh_base.specs.declared.name.Name.{Name}
@@ -26,11 +26,11 @@ module _ (id_of : Kind → List ℕ → List ℕ) where
   HasItsIds bytes (Open origin kind date) = Unit {0}
   HasItsIds bytes (Mark origin visit status snapshot) = Unit {0}
 
-  -- The run of the event was read again: bytes as long as it, in which each body has its object's id, and which are the
+  -- The run of the event was read again: bytes no longer than it, in which each body has its object's id, and which are the
   -- run where the disks tell.
   pub record IsCompared (tells : Type 0) (e : Event) : Type 0 where
     pub run : List ℕ
-    pub long : length run ≡ stored_length e.what
+    pub long : length run ≤ stored_length e.what
     pub ids : HasItsIds run e.what
     pub stored : tells → run ≡ packed_objects e.what
 
@@ -38,12 +38,12 @@ module _ (id_of : Kind → List ℕ → List ℕ) where
   abbrev pub AreCompared : Type 0 → List Event → Type 0
   AreCompared tells = AllByRecursion (IsCompared tells)
 
-  -- Bytes as long as the body that is held under the name were read for it, and have another id, which is this one.
+  -- Bytes no longer than the body that is held under the name were read for it, and have another id, which is this one.
   pub record IsDamage (bodies : Bodies) (name : Name) (found : List ℕ) : Type 0 where
     pub body : List ℕ
     pub held : body_of bodies name ≡ Some body
     pub bytes : List ℕ
-    pub long : length bytes ≡ length body
+    pub long : length bytes ≤ length body
     pub found_is : found ≡ id_of name.kind bytes
     pub apart : found ≢ name.id
 

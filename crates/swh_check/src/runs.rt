@@ -1,5 +1,5 @@
 //! The runs of a history, read again event by event.
-ghost use Rattle.std.specs.Prelude.{◌≡◌, ◌+◌, ◌<◌, None, length, take, get_or, IfOk, OnOk};
+ghost use Rattle.std.specs.Prelude.{◌≡◌, ◌+◌, ◌^◌, ◌<◌, ◌≤◌, None, length, take, get_or, IfOk, OnOk, OnErr};
 ghost use Rattle.swh_model.specs.declared.event.Event.{Event};
 ghost use Rattle.swh_check.specs.Bodies.{IsCompared, AreCompared};
 ghost use Rattle.swh_check.specs.Counts.{bodies_in};
@@ -22,7 +22,8 @@ pub struct Progress {
 
 /// The sum, or want of memory where it passes 64 bits: no machine holds files of such a length.
 fn plus(a: u64, b: u64) -> Result<u64, Memory>
-    ensures { IfOk result (λ sum. sum ≡ a + b) }
+    ensures ok { IfOk result (λ sum. sum ≡ a + b) }
+    ensures err { OnErr result (2 ^ 64 ≤ a + b) }
 {
     a.checked_add(b).ok_or(Memory)
 }

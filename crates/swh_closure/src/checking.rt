@@ -18,7 +18,7 @@ fn is_before(a: &Name, b: &Name) -> bool
 }
 
 fn is_ascending(names: &[Name]) -> bool
-    ensures { IsTrue result → IsAscending names.now }
+    ensures { IsTrue result ↔ IsAscending names.now }
 {
     for place in 1..names.len() {
         if is_before(&names[place], &names[place - 1]) {

@@ -1,5 +1,5 @@
 -- What reading the store again leaves, and what it has of bodies.
-use Rattle.std.specs.Prelude.{◌≡◌, ℕ, ◌+◌, Some, List, length, take, drop}
+use Rattle.std.specs.Prelude.{◌≡◌, ◌≤◌, ℕ, ◌+◌, Some, List, length, take, drop}
 use Rattle.std.specs.Global.{Vec}
 use Rattle.std.specs.List.{AllByRecursion}
 use Rattle.swh_base.specs.declared.kind.Kind.{Kind}
@@ -34,8 +34,8 @@ module _ (id_of : Kind → List ℕ → List ℕ) where
   IsHeldKind bodies (Open origin kind date) = Unit {0}
   IsHeldKind bodies (Mark origin visit status snapshot) = Unit {0}
 
--- The bytes are as many as the body that is held under the name.
-pub record IsAsLong (bodies : Bodies) (n : Name) (bytes : Vec ℕ) : Type 0 where
+-- The bytes are as many at most as the body has that is held under the name.
+pub record IsNoLonger (bodies : Bodies) (n : Name) (bytes : Vec ℕ) : Type 0 where
   pub body : List ℕ
   pub held : body_of bodies n ≡ Some body
-  pub long : length bytes.items ≡ length body
+  pub long : length bytes.items ≤ length body

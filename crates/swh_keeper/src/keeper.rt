@@ -49,9 +49,11 @@ impl<N: Namer, D: Disk> Keeper<N, D> {
       ◌≡◌,
       ◌+◌,
       ◌≤◌,
+      ℕ,
       length,
       take,
       drop,
+      Some,
       None,
       IfSome,
       IfNone,
@@ -65,7 +67,7 @@ impl<N: Namer, D: Disk> Keeper<N, D> {
     };
     ghost use Rattle.swh_segment.specs.Makes.{ADiskFailed};
     ghost use Rattle.swh_plan.specs.Plan.{wish_of};
-    ghost use Rattle.swh_keeper.specs.declared.fault.Refusal.TheVariants.{DiskFault};
+    ghost use Rattle.swh_keeper.specs.declared.fault.Refusal.TheVariants.{DiskFault, Wounded};
     ghost use Rattle.swh_outside.specs.Files.{files_of, files_done};
     ghost use Rattle.swh_segment.specs.Making.{IsMade, IsNotMade, barriers, making_calls};
     ghost use Rattle.swh_format.specs.Stands.{StandsFor};
@@ -95,7 +97,7 @@ impl<N: Namer, D: Disk> Keeper<N, D> {
       DiskFault as StoredDiskFault,
       Memory as StoredMemory,
     };
-    ghost use Rattle.swh_keeper.specs.Stored.{IsReadAgain, IsAsLong};
+    ghost use Rattle.swh_keeper.specs.Stored.{IsReadAgain, IsNoLonger};
     ghost use Rattle.swh_keeper.specs.Kept.{IsKept, Applies, RefusesPlan};
     ghost use Rattle.swh_keeper.specs.Keeping.{IsCarriedOut, IsBrokenOff};
 
@@ -262,7 +264,7 @@ impl<N: Namer, D: Disk> Keeper<N, D> {
     }
 
     /// So many bytes from a place of the store on, within the runs of the history, read again. Where the disks tell, they
-    /// are those of the runs. A disk that gives fewer is read as if zeros followed.
+    /// are those of the runs; of a disk that ends before, those that stand there.
     pub fn stored_bytes(
         &mut self,
         alloc: Global,
@@ -271,7 +273,7 @@ impl<N: Namer, D: Disk> Keeper<N, D> {
     ) -> Result<Vec<u8>, StoredFault>
         requires unwounded { self.old.wounded ≡ None }
         requires within { at + size ≤ store_length self.old.history }
-        ensures size { IfOk result (λ bytes. length bytes.items ≡ size) }
+        ensures size { IfOk result (λ bytes. length bytes.items ≤ size) }
         ensures bytes { D.tells → IfOk result (λ bytes. bytes.items
             ≡ take size (drop at (coded_runs self.old.history))) }
         ensures same { IsReadAgain D.tells D.file self.old self.new }
@@ -284,11 +286,12 @@ impl<N: Namer, D: Disk> Keeper<N, D> {
     }
 
     /// The bytes at the place of the body that is held under a name, read again from the store; none exactly where none is
-    /// held. Where the disks tell, they are the body. The place is counted from the start of the history.
+    /// held. Where the disks tell, they are the body; of a disk that ends before the body does they are those that stand
+    /// there. The place is counted from the start of the history.
     pub fn stored(&mut self, alloc: Global, name: &Name) -> Result<Option<Vec<u8>>, StoredFault>
         requires { self.old.wounded ≡ None }
         ensures none { IfOk result (λ found. IfNone found (body_of (replay self.old.history).bodies name.now ≡ None)) }
-        ensures long { IfOk result (λ found. IfSome found (IsAsLong (replay self.old.history).bodies name.now)) }
+        ensures long { IfOk result (λ found. IfSome found (IsNoLonger (replay self.old.history).bodies name.now)) }
         ensures held { D.tells → IfOk result (λ found. IfSome found (λ bytes.
             body_of (replay self.old.history).bodies name.now ≡ Some bytes.items)) }
         ensures same { IsReadAgain D.tells D.file self.old self.new }
@@ -328,6 +331,9 @@ impl<N: Namer, D: Disk> Keeper<N, D> {
         ensures ok { IfOk result (Applies self.old.history by (wish_of plan) self.new.history) }
         ensures unwounded { OnOk result ((self.old.wounded ≡ None) × (self.new.wounded ≡ None)) }
         ensures err { IfErr result (RefusesPlan self.old by (wish_of plan) self.new) }
+
+        // A keeper whose disk failed answers so, whatever is asked of it and whatever memory there is.
+        ensures wounded { (first : ℕ) → self.old.wounded ≡ Some first → IsErrOf result (Wounded first) }
 
         // The device calls that it makes: those that add the event, at a fault up to the one that failed.
         ensures calls { D.tells → OnOk result (IsCarriedOut self.old.history self.new.history

@@ -31,7 +31,7 @@ impl From<AllocError> for StoredFault {
     }
 }
 
-/// So many bytes from a place of the store on. Where the disk gives fewer, the rest are zeros.
+/// So many bytes from a place of the store on; fewer where the disk ends before.
 pub fn read_bytes<D: Disk>(
     alloc: Global,
     store: &mut Runs<D>,
@@ -39,7 +39,7 @@ pub fn read_bytes<D: Disk>(
     size: usize,
 ) -> Result<Vec<u8>, StoredFault>
     requires { at + size < 2 ^ 64 }
-    ensures size { IfOk result (λ bytes. length bytes.items ≡ size) }
+    ensures size { IfOk result (λ bytes. length bytes.items ≤ size) }
     ensures bytes { D.tells → at + size ≤ length (D.file store.old.disk).seen
         → IfOk result (λ bytes. bytes.items ≡ take size (drop at (D.file store.old.disk).seen)) }
     ensures end { store.new.end ≡ store.old.end }
@@ -50,6 +50,7 @@ pub fn read_bytes<D: Disk>(
     ensures memory_quiet { IsErrOf result OutOfMemory → D.faults store.new.disk ≡ D.faults store.old.disk }
 {
     let mut bytes = vec![in alloc; 0u8; size]?;
-    store.fill(at, &mut bytes)?;
+    let count = store.fill(at, &mut bytes)?;
+    bytes.truncate(count);
     Ok(bytes)
 }

@@ -1,9 +1,70 @@
 //! The limits of a batch, each exact and one above.
-use crate::told::begun;
+use crate::told::{Told, told_of};
+use crate::wished::begun;
 use std::alloc::Global;
 use std::test::Fail;
 use swh_base::{ByteNamer, Entry, Items, Kind, Memory, Name, Shared, Which};
-use swh_model::{JudgeFault, No, Outcome, Wish, judge};
+use swh_model::{Wish, judge};
+
+/// A batch of so many entries of this length, all the same, and behind them one of a byte, or none; and what is told of it
+/// after the empty history.
+struct Case {
+    length: usize,
+    copies: u32,
+    more: bool,
+    told: Told,
+}
+
+const BODIES: &[Case] = &[
+    // A body has 67,108,864 bytes at most.
+    Case {
+        length: 67_108_864,
+        copies: 1,
+        more: false,
+        told: Told::Added(1, 1),
+    },
+    Case {
+        length: 67_108_865,
+        copies: 1,
+        more: false,
+        told: Told::Limit(Which::Body, 67_108_865),
+    },
+];
+
+const BATCHES: &[Case] = &[
+    // A batch has 4,096 objects at most, of which each is new once.
+    Case {
+        length: 1,
+        copies: 4_096,
+        more: false,
+        told: Told::Added(1, 1),
+    },
+    Case {
+        length: 1,
+        copies: 4_097,
+        more: false,
+        told: Told::Limit(Which::Objects, 4_097),
+    },
+    // The last body may pass 8,388,608 bytes.
+    Case {
+        length: 8_388_608,
+        copies: 1,
+        more: true,
+        told: Told::Added(1, 2),
+    },
+    Case {
+        length: 8_388_609,
+        copies: 1,
+        more: true,
+        told: Told::Limit(Which::Bytes, 8_388_609),
+    },
+    Case {
+        length: 8_388_609,
+        copies: 1,
+        more: false,
+        told: Told::Added(1, 1),
+    },
+];
 
 /// An entry of this many zeros.
 fn zeros(alloc: Global, length: usize, number: u8) -> Result<Entry, Memory> {
@@ -21,74 +82,44 @@ fn zeros(alloc: Global, length: usize, number: u8) -> Result<Entry, Memory> {
     })
 }
 
-/// The verdict of the empty history.
-fn judge_first(alloc: Global, entries: Vec<Entry>) -> Result<Outcome, JudgeFault> {
-    let history = begun(alloc, &ByteNamer);
-    let wish = Wish::Batch(Items::from_vec(entries));
-    let (_event, outcome) = judge(alloc, history.as_slice(), 1, &wish)?;
-    Ok(outcome)
-}
-
-/// The limit that is passed, or how many entries are new.
-fn verdict(alloc: Global, entries: Vec<Entry>) -> Result<Result<u32, (Which, u64)>, Fail> {
-    match judge_first(alloc, entries) {
-        Ok(Outcome::Added { new, .. }) => Ok(Ok(new)),
-        Err(JudgeFault::Refused(No::Limit { which, number })) => Ok(Err((which, number))),
-        _ => Err(Fail::from("a limit, or what is added")),
-    }
-}
-
-fn one_of(alloc: Global, length: usize) -> Result<Vec<Entry>, Memory> {
+fn entries_of(alloc: Global, case: &Case) -> Result<Vec<Entry>, Memory> {
+    let entry = zeros(alloc, case.length, 0)?;
     let mut entries = Vec::new(alloc);
-    entries.push(zeros(alloc, length, 0)?)?;
-    Ok(entries)
-}
-
-#[test]
-fn a_body_has_67108864_bytes_at_most(rt: HostRuntime) -> Result<(), Fail> {
-    let alloc = rt.alloc();
-    let given = verdict(alloc, one_of(alloc, 67_108_864)?)?;
-    assert_eq!(rt; given, Ok(1));
-    let given = verdict(alloc, one_of(alloc, 67_108_865)?)?;
-    assert_eq!(rt; given, Err((Which::Body, 67_108_865)));
-    Ok(())
-}
-
-/// As many entries, all the same.
-fn many(alloc: Global, count: u64) -> Result<Vec<Entry>, Memory> {
-    let entry = zeros(alloc, 1, 0)?;
-    let mut entries = Vec::new(alloc);
-    for _number in 0..count {
+    for _copy in 0..case.copies {
         entries.push(entry.again()?)?;
     }
+    if case.more {
+        entries.push(zeros(alloc, 1, 1)?)?;
+    }
     Ok(entries)
 }
 
+fn tell_case(alloc: Global, case: &Case) -> Result<Told, Memory> {
+    let wish = Wish::Batch(Items::from_vec(entries_of(alloc, case)?));
+    let history = begun(alloc, &ByteNamer);
+    match judge(alloc, history.as_slice(), 1, &wish) {
+        Ok((_event, outcome)) => Ok(told_of(Ok(outcome))),
+        Err(fault) => Ok(told_of(Err(fault))),
+    }
+}
+
+fn is_exact(alloc: Global, cases: &[Case]) -> Result<bool, Memory> {
+    for case in cases {
+        if tell_case(alloc, case)? != case.told {
+            return Ok(false);
+        }
+    }
+    Ok(true)
+}
+
 #[test]
-fn a_batch_has_4096_objects_at_most(rt: HostRuntime) -> Result<(), Fail> {
-    let alloc = rt.alloc();
-    let given = verdict(alloc, many(alloc, 4_096)?)?;
-    assert_eq!(rt; given, Ok(1), "each once");
-    let given = verdict(alloc, many(alloc, 4_097)?)?;
-    assert_eq!(rt; given, Err((Which::Objects, 4_097)));
+fn the_limit_of_a_body_is_exact(rt: HostRuntime) -> Result<(), Fail> {
+    assert!(rt; is_exact(rt.alloc(), BODIES)?);
     Ok(())
 }
 
-/// An entry of this length, and one of a byte behind it.
-fn two_of(alloc: Global, length: usize) -> Result<Vec<Entry>, Memory> {
-    let mut entries = one_of(alloc, length)?;
-    entries.push(zeros(alloc, 1, 1)?)?;
-    Ok(entries)
-}
-
 #[test]
-fn the_last_body_may_pass_8388608_bytes(rt: HostRuntime) -> Result<(), Fail> {
-    let alloc = rt.alloc();
-    let given = verdict(alloc, two_of(alloc, 8_388_608)?)?;
-    assert_eq!(rt; given, Ok(2));
-    let given = verdict(alloc, two_of(alloc, 8_388_609)?)?;
-    assert_eq!(rt; given, Err((Which::Bytes, 8_388_609)));
-    let given = verdict(alloc, one_of(alloc, 8_388_609)?)?;
-    assert_eq!(rt; given, Ok(1));
+fn the_limits_of_a_batch_are_exact(rt: HostRuntime) -> Result<(), Fail> {
+    assert!(rt; is_exact(rt.alloc(), BATCHES)?);
     Ok(())
 }

@@ -1,110 +1,47 @@
-//! Histories that are told event by event, and what is wished.
-ghost use Rattle.std.specs.Prelude.{IfOk};
-ghost use Rattle.swh_model.specs.Step.{IsHistory};
-ghost use Rattle.swh_model.specs.Judge.{IsWish, StatusAllows};
+//! What is answered to a wish, as a value that is compared.
+use swh_base::{Name, Status, Which};
+use swh_model::{JudgeFault, No, Outcome};
 
-use std::alloc::Global;
-use std::test::Fail;
-use swh_base::{Items, Kind, Memory, Namer, Status, Url, VisitKind};
-use swh_model::{
-    Event, JudgeFault, Outcome, State, Wish, judge, judged_events_may_happen, replay,
-    steps_extend_histories,
-};
-use swh_object::Object;
-
-/// The history of an archive to which nothing happened.
-pub fn begun<N: Namer>(alloc: Global, _namer: &N) -> Vec<Event>
-    ensures { IsHistory N.id_of result.items }
-{
-    Vec::new(alloc)
+/// The number of the event with what came of it, or the cause against it.
+#[derive(Clone, Copy, Debug, PartialEq, Eq)]
+pub enum Told {
+    Opened(u64, u64),
+    Added(u64, u32),
+    Marked(u64),
+    Limit(Which, u64),
+    NoVisit(u64),
+    NotYours(u32),
+    Ended(Status),
+    NoSnapshot(Name),
+    NotClosed(Name, Name),
+    Collision(Name),
+    Memory,
 }
 
-/// The verdict on a wish, whose event joins the history.
-pub fn tell<N: Namer>(
-    alloc: Global,
-    _namer: &N,
-    history: &mut Vec<Event>,
-    by: u32,
-    wish: &Wish,
-) -> Result<Result<Outcome, JudgeFault>, Memory>
-    requires history { IsHistory N.id_of history.old.items }
-    requires wish { IsWish N.id_of wish.now }
-    ensures { IsHistory N.id_of history.new.items }
-{
-    judged_events_may_happen();
-    steps_extend_histories();
-    match judge(alloc, history.as_slice(), by, wish) {
-        Ok((event, outcome)) => {
-            history.push(event)?;
-            Ok(Ok(outcome))
-        }
-        Err(fault) => Ok(Err(fault)),
+fn told_of_outcome(outcome: Outcome) -> Told {
+    match outcome {
+        Outcome::Opened { event, visit } => Told::Opened(event, visit),
+        Outcome::Added { event, new } => Told::Added(event, new),
+        Outcome::Marked { event } => Told::Marked(event),
     }
 }
 
-/// `https://e.org/p`.
-pub fn url(alloc: Global) -> Result<Url, Fail> {
-    match Url::new(alloc, "https://e.org/p") {
-        Ok(url) => Ok(url),
-        Err(_) => Err(Fail::from("a URL")),
+fn told_of_cause(cause: No) -> Told {
+    match cause {
+        No::Limit { which, number } => Told::Limit(which, number),
+        No::NoVisit { have } => Told::NoVisit(have),
+        No::NotYours { by } => Told::NotYours(by),
+        No::Ended { status } => Told::Ended(status),
+        No::NoSnapshot { name } => Told::NoSnapshot(name),
+        No::NotClosed { parent, child } => Told::NotClosed(parent, child),
+        No::Collision { name } => Told::Collision(name),
     }
 }
 
-pub fn opening<N: Namer>(alloc: Global, _namer: &N) -> Result<Wish, Fail>
-    ensures { IfOk result (IsWish N.id_of) }
-{
-    Ok(Wish::Open {
-        origin: url(alloc)?,
-        kind: VisitKind::Fast,
-        date: 1_000_000_000,
-    })
-}
-
-pub fn mark<N: Namer>(
-    alloc: Global,
-    _namer: &N,
-    visit: u64,
-    status: Status,
-    snapshot: Option<[u8; 20]>,
-) -> Result<Wish, Fail>
-    requires { StatusAllows status snapshot }
-    ensures { IfOk result (IsWish N.id_of) }
-{
-    Ok(Wish::Mark {
-        origin: url(alloc)?,
-        visit,
-        status,
-        snapshot,
-    })
-}
-
-/// A batch of one object.
-pub fn batch<N: Namer>(
-    alloc: Global,
-    namer: &N,
-    kind: Kind,
-    body: &[u8],
-) -> Result<(Wish, [u8; 20]), Fail>
-    ensures { IfOk result (λ made. IsWish N.id_of made.0) }
-{
-    let body = Vec::from_slice(alloc, body)?;
-    let Ok(object) = Object::make(alloc, namer, kind, body) else {
-        return Err(Fail::from("an object"));
-    };
-    let entry = object.into_entry();
-    let id = entry.name.id;
-    let mut entries = Vec::new(alloc);
-    entries.push(entry)?;
-    Ok((Wish::Batch(Items::from_vec(entries)), id))
-}
-
-/// What the history makes, from the start.
-pub fn replayed<N: Namer>(
-    alloc: Global,
-    _namer: &N,
-    history: &Vec<Event>,
-) -> Result<Option<State>, Memory>
-    requires { IsHistory N.id_of history.now.items }
-{
-    replay(alloc, history.as_slice())
+pub fn told_of(answer: Result<Outcome, JudgeFault>) -> Told {
+    match answer {
+        Ok(outcome) => told_of_outcome(outcome),
+        Err(JudgeFault::Refused(cause)) => told_of_cause(cause),
+        Err(JudgeFault::Memory) => Told::Memory,
+    }
 }

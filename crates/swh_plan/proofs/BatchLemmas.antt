@@ -1,5 +1,6 @@
 -- What entries put into a map answer in front of another map.
-use Rattle.std.proofs.Common.{◌≡◌, Bool, true, false, cond, Option, Some, List, [], ◌∷◌, ◌++◌, refl, sym, ap, ◌∙◌, ℕ}
+use Rattle.std.proofs.Common.{◌≡◌, Bool, true, false, cond, Option, Some, List, [], ◌∷◌, ◌++◌, length, take, drop, refl, sym, ap, ◌∙◌, ℕ, arith, length-append}
+use Rattle.std.proofs.lemmas.List.{take-append-drop}
 use Rattle.std.specs.FinMap as finite
 use Rattle.std.specs.Ordering.{eq_by_cmp}
 use Rattle.swh_base.specs.declared.name.Name.{Name}
@@ -7,6 +8,8 @@ use Rattle.swh_base.specs.declared.entry.Entry.{Entry}
 use Rattle.swh_base.specs.Name.{name_cmp, name_cmp_total}
 use Rattle.swh_model.specs.Archive.{Bodies, body_of}
 use Rattle.swh_model.specs.Step.{added}
+use Rattle.swh_model.specs.Judge.{not_held}
+use Rattle.swh_model.proofs.Batches.{fresh-append}
 use Rattle.swh_model.proofs.Entries.{added-append}
 use Rattle.swh_plan.specs.Batches.{or_else, either}
 
@@ -35,3 +38,9 @@ either_is b s fs n is = ap (λ (m : Bodies). either m b n) is ∙ either-added b
 
 pub map-kept : (s : Bodies) (fs : List Entry) (e : Entry) → s ≡ added finite.empty fs → finite.insert s e.name e.body ≡ added finite.empty (fs ++ e ∷ [])
 map-kept s fs e is = ap (λ (m : Bodies). finite.insert m e.name e.body) is ∙ sym (added-append finite.empty fs (e ∷ []))
+
+-- where nothing of a batch is new, nothing of a front of it is
+pub nothing-in-front : (b : Bodies) (es : List Entry) (k : ℕ) → not_held b es ≡ [] → length (not_held b (take k es)) ≡ 0
+nothing-in-front b es k nothing =
+    let all = ap length (sym (fresh-append b (take k es) (drop k es)) ∙ ap (not_held b) (take-append-drop k es) ∙ nothing) in
+    omega (arith, all, length-append (not_held b (take k es)) (not_held (added b (not_held b (take k es))) (drop k es)))

@@ -1,11 +1,11 @@
 //! What is new of a batch, and whether a name would have two bodies.
-ghost use Rattle.std.specs.Prelude.{◌≡◌, ◌↔◌, ◌++◌, ◌∷◌, [], IsTrue, None, Some, IfOk, IfSome, IfNone, OnOk};
+ghost use Rattle.std.specs.Prelude.{◌≡◌, ◌↔◌, ◌++◌, ◌∷◌, [], IsTrue, None, Some, IfOk, IfSome, IfNone, OnOk, OnErr};
 ghost use Rattle.std.specs.List.{AllByRecursion};
 ghost use Rattle.std.specs.FinMap as finite;
 ghost use Rattle.swh_base.specs.declared.name.Name.{Name};
 ghost use Rattle.swh_model.specs.Archive.{body_of};
 ghost use Rattle.swh_model.specs.Step.{HasItsChildren, added};
-ghost use Rattle.swh_model.specs.Judge.{Collides};
+ghost use Rattle.swh_model.specs.Judge.{not_held, Collides};
 ghost use Rattle.swh_plan.specs.Batches.{either, IsSplit};
 
 use std::alloc::Global;
@@ -36,9 +36,11 @@ fn keep(split: &mut Split, entry: &Entry) -> Result<(), Memory>
     Ok(())
 }
 
+/// What is new of a batch. For what is held no room is taken: where nothing is new it is no refusal.
 pub fn split_fresh(alloc: Global, store: &Store, entries: &[Entry]) -> Result<Split, Memory>
     requires { AllByRecursion HasItsChildren entries.now }
-    ensures { IfOk result (IsSplit store.now.bodies entries.now) }
+    ensures ok { IfOk result (IsSplit store.now.bodies entries.now) }
+    ensures held { not_held store.now.bodies entries.now ≡ [] → OnErr result ⊥ }
 {
     let mut split = Split {
         fresh: Vec::new(alloc),

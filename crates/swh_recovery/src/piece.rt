@@ -1,6 +1,7 @@
 //! A piece of the store, read in one call of many bytes, from which small objects are taken.
 ghost use Rattle.std.specs.Prelude.{
   ◌≡◌,
+  ◌↔◌,
   ◌+◌,
   ◌≤◌,
   ◌<◌,
@@ -11,6 +12,7 @@ ghost use Rattle.std.specs.Prelude.{
   IsTrue,
   IfOk,
   OnOk,
+  OnErr,
   IfErr,
   IsErrOf,
   length,
@@ -57,7 +59,7 @@ pub fn held(piece: &Piece, at: u64, count: u64) -> &[u8]
 // Whether the piece has as many bytes from a place on.
 fn reaches(piece: &Piece, at: u64, count: u64) -> bool
     requires { at + count < 2 ^ 64 }
-    ensures { IsTrue result → Reaches piece.now at count }
+    ensures { IsTrue result ↔ Reaches piece.now at count }
 {
     let length = piece.bytes.as_slice().len() as u64;
     piece.begin <= at && count <= length && at - piece.begin <= length - count
@@ -130,6 +132,8 @@ pub fn reach<D: Disk>(
     requires piece { D.tells → IsPieceOf (D.file disk.old).seen piece.old }
     ensures piece { D.tells → OnOk result (IsPieceOf (D.file disk.old).seen piece.new) }
     ensures reaches { D.tells → OnOk result (Reaches piece.new at count) }
+    // A piece that reaches so far is used as it is: the disk is not read.
+    ensures used { Reaches piece.old at count → (OnErr result ⊥) × (piece.new ≡ piece.old) × (disk.new ≡ disk.old) }
     ensures why { IfErr result (λ fault. IfHarmed fault (λ _. ⊥)) }
     ensures same { D.tells → D.file disk.new ≡ D.file disk.old }
     ensures later { D.faults disk.old ≤ D.faults disk.new }

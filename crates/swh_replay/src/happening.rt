@@ -1,7 +1,8 @@
 //! One event of a replay: whether it may happen, and where it may, what is in memory after it.
-ghost use Rattle.std.specs.Prelude.{◌≡◌, ◌↔◌, false, IsTrue, IfOk, OnOk, length, take, drop};
+ghost use Rattle.std.specs.Prelude.{◌≡◌, ◌↔◌, false, IsTrue, Contains, IfOk, OnOk, length, take, drop};
+ghost use Rattle.swh_base.specs.declared.name.Name.{Name};
 ghost use Rattle.swh_base.specs.Snapshot.{snapshot_name};
-ghost use Rattle.swh_model.specs.Archive.{visits_of, IsHeld, IsClosed};
+ghost use Rattle.swh_model.specs.Archive.{visits_of, IsHeld, Reaches, IsClosed};
 ghost use Rattle.swh_model.specs.Limits.{IsWithinLimits};
 ghost use Rattle.swh_model.specs.Judged.{MayBeMarked};
 ghost use Rattle.swh_model.specs.Step.{AreNew, FitsStatus, added, marked};
@@ -35,7 +36,8 @@ fn name_of(id: [u8; 20]) -> Name
     Name { kind, id }
 }
 
-/// Whether all that is reached from a name is held. Where it is, it joins the names that are known to be closed.
+/// Whether all that is reached from a name is held. Where it is, it joins the names that are known to be closed, and of
+/// those none is let go.
 fn is_closed(
     alloc: Global,
     preloaded: &Preloaded,
@@ -45,6 +47,9 @@ fn is_closed(
     requires { AreWhole preloaded.now.shown.bodies closed.old }
     ensures value { IfOk result (λ yes. IsTrue yes ↔ IsClosed preloaded.now.shown.bodies name) }
     ensures whole { OnOk result (AreWhole preloaded.now.shown.bodies closed.new) }
+    ensures stays { (n : Name) → Contains closed.old n → Contains closed.new n }
+    ensures joins { IfOk result (λ yes. IsTrue yes → (n : Name) → Reaches preloaded.now.shown.bodies name n
+        → Contains closed.new n) }
 {
     preloaded.is_graph();
     close(alloc, preloaded, name, closed)

@@ -7,7 +7,8 @@ ghost use Rattle.swh_segment.specs.declared.fault.MakeFault.TheVariants.{Made, D
 use crate::MakeFault;
 use swh_outside::{Disk, Failed};
 
-/// Says whether the first byte of a ledger that is not made has to be cleared before the rest is written.
+/// Says whether the first byte of a ledger that is not made has to be cleared before the rest is written. A disk that
+/// gives nothing of the bytes that it says to have may hold an archive: it counts as made, so that no making writes over it.
 pub fn read_beginning<D: Disk>(ledger: &mut D) -> Result<bool, MakeFault>
     ensures made { D.tells → IsErrOf result Made → IsMade (D.file ledger.old).seen }
     ensures not_made { D.tells → IfOk result (λ clears. IsNotMade (D.file ledger.old).seen) }
@@ -21,14 +22,11 @@ pub fn read_beginning<D: Disk>(ledger: &mut D) -> Result<bool, MakeFault>
     let size = ledger.len()?;
     let mut first = [0; 1];
     let count = ledger.read_at(0, &mut first)?;
-    if count == 0 {
-        return Ok(true);
-    }
-    if first[0] != b'S' {
-        return Ok(false);
-    }
     if size < 9 {
-        return Ok(true);
+        return Ok(count == 0 || first[0] == b'S');
+    }
+    if count > 0 && first[0] != b'S' {
+        return Ok(false);
     }
     Err(MakeFault::Made)
 }

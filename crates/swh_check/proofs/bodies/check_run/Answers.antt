@@ -21,9 +21,9 @@ returns-in-Err-clause-told g c bodies held coded =
     let rest = c.loop-entry.rest.now in
     let less = c.loop-entry-test.true in
     let cut = drop-next es i e less c.entry-item.is in
-    let body : c.split_at-in-loop-entry.result.0.now ≡ body_in rest e =
-    c.split_at-in-loop-entry.ensures.front ∙ ap (λ (n : ℕ). take n c.split_at.result.1.now) (ap length c.as_slice.ensures)
-    ∙ ap (λ (l : List ℕ). take (length e.body) l) (c.split_at.ensures.back ∙ ap (λ (n : ℕ). drop n rest) c.head_length.ensures.value) in
+    let body : c.cut-in-loop-entry.result.0.now ≡ body_in rest e =
+    c.cut-in-loop-entry.ensures.front ∙ ap (λ (n : ℕ). take n c.cut.result.1.now) (ap length c.as_slice.ensures)
+    ∙ ap (λ (l : List ℕ). take (length e.body) l) (c.cut.ensures.back ∙ ap (λ (n : ℕ). drop n rest) c.head_length.ensures.value) in
     let is = body ∙ ap (λ (l : List ℕ). body_in l e) (c.loop-entry.invariant.coded coded ∙ ap coded_run cut) ∙ body-coded e (coded_run (drop (i + 1) es)) in
     c.in-Err.ensures.told ((all-at (IsHeldNamed id_of bodies) es i e held less c.entry-item.is).named ∙ ap (id_of e.name.kind) (sym is))
 
@@ -37,20 +37,21 @@ loop-entry-preserved g c =
     let cut = drop-next es i e c.loop-entry-test.true c.entry-item.is in
     let size = ap length c.as_slice.ensures in
     let head = c.head_length.ensures.value in
-    let body : c.split_at-in-loop-entry.result.0.now ≡ body_in rest e =
-    c.split_at-in-loop-entry.ensures.front ∙ ap (λ (n : ℕ). take n c.split_at.result.1.now) size
-    ∙ ap (λ (l : List ℕ). take (length e.body) l) (c.split_at.ensures.back ∙ ap (λ (n : ℕ). drop n rest) head) in
-    let more : c.split_at-in-loop-entry.result.1.now ≡ drop (object_length e) rest =
-    c.split_at-in-loop-entry.ensures.back ∙ ap (λ (n : ℕ). drop n c.split_at.result.1.now) size
-    ∙ ap (λ (l : List ℕ). drop (length e.body) l) (c.split_at.ensures.back ∙ ap (λ (n : ℕ). drop n rest) head)
+    let body : c.cut-in-loop-entry.result.0.now ≡ body_in rest e =
+    c.cut-in-loop-entry.ensures.front ∙ ap (λ (n : ℕ). take n c.cut.result.1.now) size
+    ∙ ap (λ (l : List ℕ). take (length e.body) l) (c.cut.ensures.back ∙ ap (λ (n : ℕ). drop n rest) head) in
+    let more : c.cut-in-loop-entry.result.1.now ≡ drop (object_length e) rest =
+    c.cut-in-loop-entry.ensures.back ∙ ap (λ (n : ℕ). drop n c.cut.result.1.now) size
+    ∙ ap (λ (l : List ℕ). drop (length e.body) l) (c.cut.ensures.back ∙ ap (λ (n : ℕ). drop n rest) head)
     ∙ drop-twice (9 + length e.name.id) (length e.body) rest
     ∙ ap (λ (n : ℕ). drop n rest) (let z : 9 + length e.name.id + length e.body ≡ object_length e = omega arith in z) in
     record {
       sized =
           let long = ap length more in
           let dropped = length-drop (object_length e) rest in
-          let so_far = c.loop-entry.invariant.sized ∙ ap run_length cut in
-          omega (arith, long, dropped, so_far);
+          let so_far = c.loop-entry.invariant.sized in
+          let all = ap run_length cut in
+          omega (arith, long, dropped, so_far, all);
       coded = λ is. more ∙ ap (λ (l : List ℕ). drop (object_length e) l) (c.loop-entry.invariant.coded is ∙ ap coded_run cut) ∙ more-coded e (coded_run (drop (i + 1) es));
       count = let so_far = c.loop-entry.invariant.count in omega (arith, so_far);
       ids = λ later.

@@ -77,7 +77,7 @@ returns-in-Ok-clause-compared g c event event_is =
     subst (IsCompared id_of g.D.Disk.tells) (same-item h c.args.place f event less is event_is) (
     record {
       run = c.deref.result.now;
-      long = ap length c.deref.ensures.value ∙ c.in_ok-run.ensures.size ∙ size;
+      long = let same = ap length c.deref.ensures.value in let few = c.in_ok-run.ensures.size in omega (arith, same, few, size);
       ids = subst (λ (x : Event). HasItsIds id_of c.deref.result.now x.what) (sym c.index-history-place-2.is) c.in-Ok.ensures.ok;
       stored = λ told.
           c.deref.ensures.value ∙ c.in_ok-run.ensures.bytes told

@@ -1,8 +1,8 @@
-use Rattle.std.proofs.Common.{List, sym, ap, ◌∙◌, refl}
+use Rattle.std.proofs.Common.{List, [], ◌∷◌, ◌+◌, length, sym, ap, ◌∙◌, refl, arith, length-append}
 use Rattle.std.specs.FinMap as finite
 use Rattle.swh_base.specs.declared.entry.Entry.{Entry}
 use Rattle.swh_model.specs.Step.{added}
-use Rattle.swh_plan.proofs.BatchLemmas.{either_is, map-kept}
+use Rattle.swh_plan.proofs.BatchLemmas.{either_is, map-kept, nothing-in-front}
 use Rattle.swh_model.proofs.Batches.{not_true, fresh-kept, fresh-passed}
 use Rattle.swh_plan.proofs.fresh.split_fresh.Goals as goal
 
@@ -24,3 +24,15 @@ loop-entry-preserved c =
       map_is = c.in_ok-keep.ensures.added ∙ map-kept split.added.bodies split.fresh.items c.entry-item.result c.loop-entry.invariant.map_is
           ∙ ap (λ (es : List Entry). added finite.empty es) (sym c.in_ok-keep.ensures.fresh);
     }
+
+pub returns-in_err-keep-clause-held : goal.returns-in_err-keep-clause-held
+returns-in_err-keep-clause-held c nothing =
+    let b = c.args.store.now.bodies in
+    let es = c.args.entries.now in
+    let i = c.loop-entry.entry-index in
+    let e = c.entry-item.result in
+    let split = c.loop-entry.split in
+    let none = sym (either_is b split.added.bodies split.fresh.items e.name c.loop-entry.invariant.map_is) ∙ c.if-not-is_new.ensures.0 refl in
+    let next = ap length (fresh-kept b es split.fresh.items i e c.loop-entry-test.true c.entry-item.is c.loop-entry.invariant.entries_are none) in
+    let empty = nothing-in-front b es (i + 1) nothing in
+    absurd (omega (arith, next, empty, length-append split.fresh.items (e ∷ [])))

@@ -38,7 +38,7 @@ returns-clause-long g c =
     let there = c.in-Some.ensures.some in
     let found = found-at g.N.Namer.id_of empty_archive c.args.self.now.history name place (subst (λ (l : List Event). IsHistory g.N.Namer.id_of l) same c.self.invariant.keeping.history)
     (subst (λ (l : List Event). IsPlaceOf l name place) (c.as_slice.ensures.value ∙ same) there) in
-    record { body = found.body; held = found.held; long = c.in_ok-bytes.ensures.size ∙ found.long }
+    record { body = found.body; held = found.held; long = let few = c.in_ok-bytes.ensures.size in let all = found.long in omega (arith, few, all) }
 
 pub returns-clause-held : goal.returns-clause-held
 returns-clause-held g c told =

@@ -2,7 +2,7 @@ use Rattle.std.proofs.Common.{List, refl, sym, subst, Ok}
 use Rattle.swh_model.specs.declared.event.Event.{Event}
 use Rattle.swh_model.specs.Judge.{IsVerdict}
 use Rattle.swh_model.specs.Step.{IsHistory, after, replay}
-use Rattle.swh_model_tests.proofs.told.tell.Goals as goal
+use Rattle.swh_model_tests.proofs.wished.tell.Goals as goal
 
 pub returns-in_ok-push-in-Ok : goal.returns-in_ok-push-in-Ok
 returns-in_ok-push-in-Ok g c =

@@ -3,7 +3,7 @@ use Rattle.std.specs.List.{AllByRecursion}
 use Rattle.swh_model.specs.Archive.{empty_archive}
 use Rattle.swh_model.specs.Happens.{IsGoodEvent}
 use Rattle.swh_model.proofs.PlainSteps.{history-named, named-good}
-use Rattle.swh_model_tests.proofs.told.replayed.Goals as goal
+use Rattle.swh_model_tests.proofs.replayed.replayed.Goals as goal
 
 pub replay-requires : goal.replay-requires
 replay-requires g c =
