@@ -1,6 +1,7 @@
 //! The runs of a history, read again event by event.
 ghost use Rattle.std.specs.Prelude.{◌≡◌, ◌+◌, ◌^◌, ◌<◌, ◌≤◌, None, length, take, get_or, IfOk, OnOk, OnErr};
 ghost use Rattle.swh_model.specs.declared.event.Event.{Event};
+ghost use Rattle.swh_model.specs.Step.{IsHistory};
 ghost use Rattle.swh_check.specs.Bodies.{IsCompared, AreCompared};
 ghost use Rattle.swh_check.specs.Counts.{bodies_in};
 ghost use Rattle.swh_check.specs.Check.{IsProgress, Rereads};
@@ -63,6 +64,7 @@ pub fn check_bodies<N: Namer, D: Disk>(
     keeper: &mut Keeper<N, D>,
 ) -> Result<u64, CheckFault>
     requires { keeper.old.wounded ≡ None }
+    ensures history { IsHistory N.id_of keeper.old.history }
     ensures count { IfOk result (λ count. count ≡ bodies_in keeper.old.history) }
     ensures compared { OnOk result (AreCompared N.id_of D.tells keeper.old.history) }
     ensures again { Rereads N.id_of D.tells D.file D.faults keeper.old keeper.new result }

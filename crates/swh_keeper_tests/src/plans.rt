@@ -1,15 +1,121 @@
-// What the keeper answers to plans. Ids are nineteen zeros and the sum of the body's bytes.
+//! What the keeper answers to plans, one after another. Ids are nineteen zeros and the sum of the body's bytes.
+use crate::told::{Told, told_of};
 use std::alloc::Global;
 use std::test::Fail;
 use swh_base::{ByteNamer, Kind, Name, Status, Url, VisitKind};
 use swh_closure::Cert;
 use swh_fixtures::{Archive, URL, made_archive};
-use swh_keeper::{How, Outcome, Plan, Refusal};
+use swh_keeper::{How, Plan};
 use swh_object::Object;
 
-type MemoryKeeper = Archive<ByteNamer>;
+/// A visit that is opened, a mark of the visit of a number, or of the first with a snapshot, or a batch of one object. A
+/// full mark has a certificate of another name, which it lists alone.
+pub enum Planned {
+    Open,
+    Ongoing(u64),
+    Failed(u64),
+    Full(Name, Name),
+    Partial(Name),
+    Object(Kind, &'static [u8]),
+}
 
-type Answer = Result<Outcome, Refusal>;
+/// A plan by an actor of a number, and what is told.
+type Row = (u32, Planned, Told);
+
+const ZEROS: Name = Name {
+    kind: Kind::Snapshot,
+    id: [0; 20],
+};
+
+/// A content of `ab`, or of `ba`.
+const CONTENT: Name = Name {
+    kind: Kind::Content,
+    id: *b"\0\0\0\0\0\0\0\0\0\0\0\0\0\0\0\0\0\0\0\xc3",
+};
+
+/// A snapshot with the one branch `b` to the revision whose id is twenty times 0x11. The sum of its bytes: 1,009 of
+/// `revision b`, 156 of `20:` and twenty times 17 are 1,505, and that is 225 modulo 256.
+const OPEN_SNAPSHOT: &[u8] =
+    b"revision b\020:\x11\x11\x11\x11\x11\x11\x11\x11\x11\x11\x11\x11\x11\x11\x11\x11\x11\x11\x11\x11";
+
+const OPEN: Name = Name {
+    kind: Kind::Snapshot,
+    id: *b"\0\0\0\0\0\0\0\0\0\0\0\0\0\0\0\0\0\0\0\xe1",
+};
+
+const MISSING: Name = Name {
+    kind: Kind::Revision,
+    id: [0x11; 20],
+};
+
+/// A snapshot with the one branch `b` to that content. The sum of its bytes: 893 of `content b`, 156 of `20:` and 195 of
+/// the id are 1,244, and that is 220 modulo 256.
+const SNAPSHOT: &[u8] = b"content b\020:\0\0\0\0\0\0\0\0\0\0\0\0\0\0\0\0\0\0\0\xc3";
+
+const CLOSED: Name = Name {
+    kind: Kind::Snapshot,
+    id: *b"\0\0\0\0\0\0\0\0\0\0\0\0\0\0\0\0\0\0\0\xdc",
+};
+
+/// A visit is refused and fails.
+const VISIT: &[Row] = &[
+    (1, Planned::Open, Told::Opened(1, 1)),
+    (1, Planned::Ongoing(2), Told::NoVisit(1)),
+    (2, Planned::Ongoing(1), Told::NotYours(1)),
+    (1, Planned::Failed(1), Told::Marked(2)),
+    (1, Planned::Ongoing(1), Told::Ended(Status::Failed)),
+];
+
+/// A snapshot has to be held.
+const NOT_HELD: &[Row] = &[
+    (1, Planned::Open, Told::Opened(1, 1)),
+    (1, Planned::Full(ZEROS, ZEROS), Told::NoSnapshot(ZEROS)),
+    (1, Planned::Partial(ZEROS), Told::NoSnapshot(ZEROS)),
+];
+
+/// A certificate hides no gap, whether it is of the snapshot or of another root.
+const GAP: &[Row] = &[
+    (1, Planned::Open, Told::Opened(1, 1)),
+    (
+        1,
+        Planned::Object(Kind::Snapshot, OPEN_SNAPSHOT),
+        Told::Added(2, 1),
+    ),
+    (1, Planned::Full(OPEN, OPEN), Told::NotClosed(OPEN, MISSING)),
+    (1, Planned::Full(OPEN, MISSING), Told::NotClosed(OPEN, MISSING)),
+    (1, Planned::Partial(OPEN), Told::Marked(3)),
+];
+
+/// A closed snapshot needs no certificate: it lists the snapshot alone, and not the content.
+const ALONE: &[Row] = &[
+    (1, Planned::Open, Told::Opened(1, 1)),
+    (1, Planned::Object(Kind::Content, b"ab"), Told::Added(2, 1)),
+    (
+        1,
+        Planned::Object(Kind::Snapshot, SNAPSHOT),
+        Told::Added(3, 1),
+    ),
+    (1, Planned::Full(CLOSED, CLOSED), Told::Marked(4)),
+];
+
+/// The same with a certificate of another root.
+const OTHER_ROOT: &[Row] = &[
+    (1, Planned::Open, Told::Opened(1, 1)),
+    (1, Planned::Object(Kind::Content, b"ab"), Told::Added(2, 1)),
+    (
+        1,
+        Planned::Object(Kind::Snapshot, SNAPSHOT),
+        Told::Added(3, 1),
+    ),
+    (1, Planned::Full(CLOSED, CONTENT), Told::Marked(4)),
+];
+
+/// Another body of a name collides, and one that is held is not new.
+const COLLISION: &[Row] = &[
+    (1, Planned::Object(Kind::Content, b"ab"), Told::Added(1, 1)),
+    (1, Planned::Object(Kind::Content, b"ba"), Told::Collision(CONTENT)),
+    (1, Planned::Object(Kind::Content, b"ab"), Told::Added(2, 0)),
+];
 
 fn url(alloc: Global) -> Result<Url, Fail> {
     match Url::new(alloc, URL) {
@@ -18,184 +124,105 @@ fn url(alloc: Global) -> Result<Url, Fail> {
     }
 }
 
-/// An archive in which the first actor opened a visit.
-fn opened(alloc: Global) -> Result<MemoryKeeper, Fail> {
-    let origin = url(alloc)?;
-    let plan = Plan::Open {
-        origin,
-        kind: VisitKind::Fast,
-        date: 1_000_000_000,
-    };
-    let mut keeper = made_archive(alloc, ByteNamer, &[], &[])?;
-    let _opened = keeper.apply(1, plan);
-    Ok(keeper)
-}
-
-/// A mark of the origin's visit of a number.
 fn mark(alloc: Global, visit: u64, how: How) -> Result<Plan<ByteNamer>, Fail> {
     let origin = url(alloc)?;
     Ok(Plan::Mark { origin, visit, how })
 }
 
-/// A full visit's mark, with a certificate that lists its root alone.
-fn full(alloc: Global, snapshot: [u8; 20], root: Name) -> Result<How, Fail> {
+fn full(alloc: Global, snapshot: Name, root: Name) -> Result<How, Fail> {
     let names = Vec::from_slice(alloc, &[root])?;
-    let cert = Cert { root, names };
-    Ok(How::Full { snapshot, cert })
+    Ok(How::Full {
+        snapshot: snapshot.id,
+        cert: Cert { root, names },
+    })
 }
 
-fn object(alloc: Global, kind: Kind, body: &[u8]) -> Result<Object<ByteNamer>, Fail> {
-    match Object::make(alloc, &ByteNamer, kind, body.to_vec(alloc)?) {
-        Ok(object) => Ok(object),
-        Err(_) => Err(Fail::from("an object")),
+fn partial(snapshot: Name) -> How {
+    How::Partial {
+        snapshot: Some(snapshot.id),
     }
 }
 
-fn batch(alloc: Global, object: Object<ByteNamer>) -> Result<Plan<ByteNamer>, Fail> {
+fn batch(alloc: Global, kind: Kind, body: &[u8]) -> Result<Plan<ByteNamer>, Fail> {
+    let Ok(object) = Object::make(alloc, &ByteNamer, kind, body.to_vec(alloc)?) else {
+        return Err(Fail::from("an object"));
+    };
     let mut objects = Vec::with_capacity(alloc, 1)?;
     objects.push(object)?;
     Ok(Plan::Batch(objects))
 }
 
-fn snapshot_named(id: [u8; 20]) -> Name {
-    let kind = Kind::Snapshot;
-    Name { kind, id }
+pub fn opening(alloc: Global) -> Result<Plan<ByteNamer>, Fail> {
+    let origin = url(alloc)?;
+    Ok(Plan::Open {
+        origin,
+        kind: VisitKind::Fast,
+        date: 1_000_000_000,
+    })
 }
 
-/// Says whether a content `ab` and then one `ba` are answered with one more object, and a collision.
-fn has_collided(first: Answer, second: Answer) -> bool {
-    let added = matches!(first, Ok(Outcome::Added { event: 2, new: 1 }));
-    match second {
-        Err(Refusal::Collision { name }) => added
-            && name.kind == Kind::Content
-            && name.id[19] == 0xc3,
-        _ => false,
+fn plan_of(alloc: Global, planned: &Planned) -> Result<Plan<ByteNamer>, Fail> {
+    match planned {
+        Planned::Open => opening(alloc),
+        Planned::Ongoing(visit) => mark(alloc, *visit, How::Ongoing),
+        Planned::Failed(visit) => mark(alloc, *visit, How::Failed),
+        Planned::Full(snapshot, root) => mark(alloc, 1, full(alloc, *snapshot, *root)?),
+        Planned::Partial(snapshot) => mark(alloc, 1, partial(*snapshot)),
+        Planned::Object(kind, body) => batch(alloc, *kind, body),
     }
 }
 
-fn is_not_closed(answer: Answer, parent: Name, child: Name) -> bool {
-    match answer {
-        Err(
-            Refusal::NotClosed {
-                parent: told,
-                child: missing,
-            },
-        ) => told == parent && missing == child,
-        _ => false,
+/// Says whether each plan is answered as its row says.
+fn are_told(alloc: Global, keeper: &mut Archive<ByteNamer>, rows: &[Row]) -> Result<bool, Fail> {
+    for (by, planned, told) in rows {
+        let plan = plan_of(alloc, planned)?;
+        if told_of(keeper.apply(*by, plan)) != *told {
+            return Ok(false);
+        }
     }
+    Ok(true)
+}
+
+/// The same of an archive that is made for them.
+fn are_told_anew(alloc: Global, rows: &[Row]) -> Result<bool, Fail> {
+    let mut keeper = made_archive(alloc, ByteNamer, &[], &[])?;
+    let told = are_told(alloc, &mut keeper, rows);
+    let (_store, _ledger) = keeper.close();
+    told
 }
 
 #[test]
-fn a_visit_is_refused_and_fails(rt: HostRuntime) -> Result<(), Fail> {
+fn each_plan_is_told_its_answer(rt: HostRuntime) -> Result<(), Fail> {
     let alloc = rt.alloc();
-    let second = mark(alloc, 2, How::Ongoing)?;
-    let theirs = mark(alloc, 1, How::Ongoing)?;
-    let failed = mark(alloc, 1, How::Failed)?;
-    let late = mark(alloc, 1, How::Ongoing)?;
-    let mut keeper = opened(alloc)?;
-    let answer = keeper.apply(1, second);
-    let no_visit = matches!(answer, Err(Refusal::NoVisit { have: 1 }));
-    let answer = keeper.apply(2, theirs);
-    let not_yours = matches!(answer, Err(Refusal::NotYours { by: 1 }));
-    let answer = keeper.apply(1, failed);
-    let marked = matches!(answer, Ok(Outcome::Marked { event: 2 }));
-    let answer = keeper.apply(1, late);
-    let ended = matches!(
-        answer,
-        Err(Refusal::Ended {
-            status: Status::Failed
-        })
-    );
-    assert!(rt; no_visit && not_yours && marked && ended);
-    assert_eq!(rt; keeper.history().len(), 2);
-    let (_store, _ledger) = keeper.close();
+    let histories = [VISIT, NOT_HELD, GAP, ALONE, OTHER_ROOT, COLLISION];
+    for (number, rows) in histories.iter().enumerate() {
+        assert!(rt; are_told_anew(alloc, rows)?, "history {number}");
+    }
     Ok(())
 }
 
-#[test]
-fn a_snapshot_has_to_be_held(rt: HostRuntime) -> Result<(), Fail> {
-    let alloc = rt.alloc();
-    let root = snapshot_named([0; 20]);
-    let plan = mark(alloc, 1, full(alloc, [0; 20], root)?)?;
-    let partial = How::Partial {
-        snapshot: Some([0; 20]),
+/// What is told of two openings, where the ledger's call of a number fails; nothing where the making fails.
+fn told_with_fault(alloc: Global, number: u64) -> Result<Option<(Told, Told)>, Fail> {
+    let (first, second) = (opening(alloc)?, opening(alloc)?);
+    let Ok(mut keeper) = made_archive(alloc, ByteNamer, &[number], &[]) else {
+        return Ok(None);
     };
-    let partly = mark(alloc, 1, partial)?;
-    let mut keeper = opened(alloc)?;
-    let answer = keeper.apply(1, plan);
-    let missing = matches!(answer, Err(Refusal::NoSnapshot { name }) if name == root);
-    let answer = keeper.apply(1, partly);
-    let partly_missing = matches!(answer, Err(Refusal::NoSnapshot { name }) if name == root);
-    assert!(rt; missing && partly_missing);
+    let told = (told_of(keeper.apply(1, first)), told_of(keeper.apply(1, second)));
     let (_store, _ledger) = keeper.close();
-    Ok(())
+    Ok(Some(told))
 }
 
 #[test]
-fn a_certificate_hides_no_gap(rt: HostRuntime) -> Result<(), Fail> {
+fn a_keeper_whose_disk_failed_is_wounded(rt: HostRuntime) -> Result<(), Fail> {
     let alloc = rt.alloc();
-    let mut body = *b"revision b\x0020:....................";
-    body[14..].copy_from_slice(&[0x11; 20]);
-    let snapshot = object(alloc, Kind::Snapshot, &body)?;
-    let root = snapshot.name();
-    let revision = Name {
-        kind: Kind::Revision,
-        id: [0x11; 20],
-    };
-    let added = batch(alloc, snapshot)?;
-    let alone = mark(alloc, 1, full(alloc, root.id, root)?)?;
-    let other = mark(alloc, 1, full(alloc, root.id, revision)?)?;
-    let mut keeper = opened(alloc)?;
-    let _added = keeper.apply(1, added);
-    let answer = keeper.apply(1, alone);
-    assert!(rt; is_not_closed(answer, root, revision));
-    let answer = keeper.apply(1, other);
-    assert!(rt; is_not_closed(answer, root, revision));
-    assert_eq!(rt; keeper.history().len(), 2);
-    let (_store, _ledger) = keeper.close();
-    Ok(())
-}
-
-/// What is answered to a full visit of a snapshot of one content, with this certificate's root.
-fn full_of_a_content(alloc: Global, of_snapshot: bool) -> Result<Answer, Fail> {
-    let content = object(alloc, Kind::Content, b"ab")?;
-    let held = content.name();
-    let mut body = *b"content b\x0020:....................";
-    body[13..].copy_from_slice(&held.id);
-    let snapshot = object(alloc, Kind::Snapshot, &body)?;
-    let root = snapshot.name();
-    let listed = if of_snapshot { root } else { held };
-    let first = batch(alloc, content)?;
-    let second = batch(alloc, snapshot)?;
-    let plan = mark(alloc, 1, full(alloc, root.id, listed)?)?;
-    let mut keeper = opened(alloc)?;
-    let _content = keeper.apply(1, first);
-    let _snapshot = keeper.apply(1, second);
-    let answer = keeper.apply(1, plan);
-    let (_store, _ledger) = keeper.close();
-    Ok(answer)
-}
-
-#[test]
-fn a_closed_snapshot_needs_no_certificate(rt: HostRuntime) -> Result<(), Fail> {
-    let alloc = rt.alloc();
-    // It lists the snapshot alone, and not the content; and it is of another root.
-    let alone = full_of_a_content(alloc, true)?;
-    assert!(rt; matches!(alone, Ok(Outcome::Marked { event: 4 })));
-    let other = full_of_a_content(alloc, false)?;
-    assert!(rt; matches!(other, Ok(Outcome::Marked { event: 4 })));
-    Ok(())
-}
-
-#[test]
-fn another_body_of_a_name_collides(rt: HostRuntime) -> Result<(), Fail> {
-    let alloc = rt.alloc();
-    let first = batch(alloc, object(alloc, Kind::Content, b"ab")?)?;
-    let other = batch(alloc, object(alloc, Kind::Content, b"ba")?)?;
-    let mut keeper = opened(alloc)?;
-    let added = keeper.apply(1, first);
-    let collided = keeper.apply(1, other);
-    assert!(rt; has_collided(added, collided));
-    let (_store, _ledger) = keeper.close();
+    let mut wounded = 0;
+    for number in 0..20 {
+        let told = told_with_fault(alloc, number)?;
+        if told == Some((Told::DiskFault, Told::Wounded(1))) {
+            wounded += 1;
+        }
+    }
+    // An opening's record and its gate, each with a barrier.
+    assert_eq!(rt; wounded, 4);
     Ok(())
 }

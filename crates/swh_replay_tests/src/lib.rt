@@ -1,7 +1,17 @@
-//! Tests of the replay in memory: what it holds, where the files end, and the first event that may not happen.
-//! Stands on the replay and on objects.
+//! Tests of what is in memory of an archive: the bodies, the visits, walks and certificates, and the replay of events.
+//! Stands on these and on objects.
 //! Nothing stands above it.
 #![tactic(auto)]
 
 #[cfg(test)]
-mod tests;
+mod graphs;
+#[cfg(test)]
+mod replays;
+#[cfg(test)]
+mod shown;
+#[cfg(test)]
+mod stores;
+#[cfg(test)]
+mod visits;
+#[cfg(test)]
+mod walks;
