@@ -1,24 +1,31 @@
-//! A disk that tells nothing: a read gives the byte at one place changed.
-ghost use Rattle.std.specs.Prelude.{◌≤◌, length};
+//! A disk that tells nothing: what a read gives of it is changed at one place, or ends there.
+ghost use Rattle.std.specs.Prelude.{◌≡◌, ◌≤◌, length};
 ghost use Rattle.swh_outside.specs.Faults.{Rose};
 
 use std::alloc::Global;
 use swh_outside::{Disk, Failed};
 
-/// A disk in memory to which bytes are only added. The lowest bit of the byte at a place is changed in what a read gives.
+/// How a read differs from what was written: the lowest bit of the byte at a place is another, or the bytes end there.
+#[derive(Clone, Copy, Debug, PartialEq, Eq)]
+pub enum Change {
+    Bit(u64),
+    End(u64),
+}
+
+/// A disk in memory to which bytes are only added, and what reads of it change.
 #[derive(Drop)]
 pub struct Changing {
     bytes: Vec<u8>,
-    place: u64,
+    change: Change,
     faults: u64,
 }
 
 impl Changing {
-    /// An empty disk that changes the byte at a place.
-    pub fn at(alloc: Global, place: u64) -> Changing {
+    /// An empty disk.
+    pub fn with(alloc: Global, change: Change) -> Changing {
         Changing {
             bytes: Vec::new(alloc),
-            place,
+            change,
             faults: 0,
         }
     }
@@ -33,8 +40,8 @@ impl Changing {
     }
 }
 
-/// Copies what stands from a place on, as much as there is room for, with the byte at one place changed.
-fn copy_changed(bytes: &[u8], at: u64, out: &mut [u8], place: u64) -> usize
+/// Copies what stands from a place on, as much as there is room for, and says how much.
+fn copy_from(bytes: &[u8], at: u64, out: &mut [u8]) -> usize
     ensures { result ≤ length out.new }
 {
     if at >= bytes.len() as u64 {
@@ -43,11 +50,38 @@ fn copy_changed(bytes: &[u8], at: u64, out: &mut [u8], place: u64) -> usize
     let behind = &bytes[at as usize..];
     let count = behind.len().min(out.len());
     out[..count].copy_from_slice(&behind[..count]);
+    count
+}
+
+/// Changes the bit of the byte at a place, where it is among so many bytes that were read from another on.
+fn change_bit(at: u64, out: &mut [u8], count: usize, place: u64)
+    requires { count ≤ length out.old }
+    ensures { length out.new ≡ length out.old }
+{
     if place >= at && place - at < count as u64 {
         let changed = (place - at) as usize;
         out[changed] = out[changed] ^ 1;
     }
-    count
+}
+
+/// What stands before a place.
+fn front(bytes: &[u8], place: u64) -> &[u8] {
+    let count = (bytes.len() as u64).min(place);
+    &bytes[..count as usize]
+}
+
+/// What a read from a place on gives of these bytes, and how much.
+fn read_changed(bytes: &[u8], at: u64, out: &mut [u8], change: Change) -> usize
+    ensures { result ≤ length out.new }
+{
+    match change {
+        Change::Bit(place) => {
+            let count = copy_from(bytes, at, out);
+            change_bit(at, out, count, place);
+            count
+        }
+        Change::End(place) => copy_from(front(bytes, place), at, out),
+    }
 }
 
 impl Disk for Changing {
@@ -64,7 +98,12 @@ impl Disk for Changing {
     }
 
     fn read_at(&mut self, at: u64, out: &mut [u8]) -> Result<usize, Failed> {
-        Ok(copy_changed(self.bytes.as_slice(), at, out, self.place))
+        Ok(read_changed(
+            self.bytes.as_slice(),
+            at,
+            out,
+            self.change,
+        ))
     }
 
     fn write_at(&mut self, at: u64, bytes: &[u8]) -> Result<(), Failed> {
