@@ -98,12 +98,7 @@ impl Disk for Changing {
     }
 
     fn read_at(&mut self, at: u64, out: &mut [u8]) -> Result<usize, Failed> {
-        Ok(read_changed(
-            self.bytes.as_slice(),
-            at,
-            out,
-            self.change,
-        ))
+        Ok(read_changed(self.bytes.as_slice(), at, out, self.change))
     }
 
     fn write_at(&mut self, at: u64, bytes: &[u8]) -> Result<(), Failed> {

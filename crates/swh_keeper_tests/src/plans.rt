@@ -82,7 +82,11 @@ const GAP: &[Row] = &[
         Told::Added(2, 1),
     ),
     (1, Planned::Full(OPEN, OPEN), Told::NotClosed(OPEN, MISSING)),
-    (1, Planned::Full(OPEN, MISSING), Told::NotClosed(OPEN, MISSING)),
+    (
+        1,
+        Planned::Full(OPEN, MISSING),
+        Told::NotClosed(OPEN, MISSING),
+    ),
     (1, Planned::Partial(OPEN), Told::Marked(3)),
 ];
 
@@ -113,7 +117,11 @@ const OTHER_ROOT: &[Row] = &[
 /// Another body of a name collides, and one that is held is not new.
 const COLLISION: &[Row] = &[
     (1, Planned::Object(Kind::Content, b"ab"), Told::Added(1, 1)),
-    (1, Planned::Object(Kind::Content, b"ba"), Told::Collision(CONTENT)),
+    (
+        1,
+        Planned::Object(Kind::Content, b"ba"),
+        Told::Collision(CONTENT),
+    ),
     (1, Planned::Object(Kind::Content, b"ab"), Told::Added(2, 0)),
 ];
 
@@ -207,7 +215,10 @@ fn told_with_fault(alloc: Global, number: u64) -> Result<Option<(Told, Told)>, F
     let Ok(mut keeper) = made_archive(alloc, ByteNamer, &[number], &[]) else {
         return Ok(None);
     };
-    let told = (told_of(keeper.apply(1, first)), told_of(keeper.apply(1, second)));
+    let told = (
+        told_of(keeper.apply(1, first)),
+        told_of(keeper.apply(1, second)),
+    );
     let (_store, _ledger) = keeper.close();
     Ok(Some(told))
 }

@@ -66,7 +66,10 @@ fn a_store_that_is_not_read_whole_is_lost_to_nothing(rt: HostRuntime) -> Result<
     let alloc = rt.alloc();
     for given in 0..RUN.len() {
         let whole = BATCH.len();
-        assert!(rt; is_spared(alloc, (RUN, given, BATCH, whole))?, "{given} bytes");
+        assert!(rt;
+            is_spared(alloc, (RUN, given, BATCH, whole))?,
+            "{given} bytes"
+        );
     }
     Ok(())
 }

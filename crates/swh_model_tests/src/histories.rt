@@ -110,7 +110,11 @@ const CLOSED_LATER: &[Row] = &[
 /// A partial visit wants the snapshot that it names, and may name none.
 const PARTIAL: &[Row] = &[
     (1, Wished::Open, Told::Opened(1, 1)),
-    (1, Wished::Partial(1, Some([0; 20])), Told::NoSnapshot(ZEROS)),
+    (
+        1,
+        Wished::Partial(1, Some([0; 20])),
+        Told::NoSnapshot(ZEROS),
+    ),
     (1, Wished::Partial(1, None), Told::Marked(2)),
 ];
 

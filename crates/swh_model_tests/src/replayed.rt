@@ -52,6 +52,10 @@ fn a_history_is_replayed(rt: HostRuntime) -> Result<(), Fail> {
     };
     assert!(rt; !state.has(&name));
     name.id[19] = 0xc3;
-    assert!(rt; state.get(&name).is_some_and(|entry| entry.body.as_slice() == b"ab".as_slice()));
+    assert!(rt;
+        state
+            .get(&name)
+            .is_some_and(|entry| entry.body.as_slice() == b"ab".as_slice())
+    );
     Ok(())
 }

@@ -19,11 +19,7 @@ struct Case {
 }
 
 /// How many events an archive of these files has, or why it is not opened.
-pub fn open(
-    alloc: Global,
-    ledger: MemoryDisk,
-    store: MemoryDisk,
-) -> Result<usize, OpenWhy> {
+pub fn open(alloc: Global, ledger: MemoryDisk, store: MemoryDisk) -> Result<usize, OpenWhy> {
     match Keeper::open(alloc, Sha1Namer, store, ledger) {
         Ok(keeper) => {
             let events = keeper.history().len();
@@ -54,10 +50,10 @@ const CASES: &[Case] = &[
         ledger: b"SWHARX1\x0a\x00",
         store: b"",
         opened: Err(OpenWhy::Damaged {
-        file: 0,
-        at: 5,
-        harm: Harm::Magic { found: 0x58 },
-    }),
+            file: 0,
+            at: 5,
+            harm: Harm::Magic { found: 0x58 },
+        }),
     },
     Case {
         title: "not made",
@@ -70,60 +66,60 @@ const CASES: &[Case] = &[
         ledger: b"SWHARC1\x0a\x01O\x00\x00\x00\x1c\x00\x00\x00\x01\x01\x00\x00\x00\x00;\x9a\xca\x00https://e.org/p\x01X",
         store: b"",
         opened: Err(OpenWhy::Damaged {
-        file: 0,
-        at: 43,
-        harm: Harm::Kind { found: 0x58 },
-    }),
+            file: 0,
+            at: 43,
+            harm: Harm::Kind { found: 0x58 },
+        }),
     },
     Case {
         title: "a mark of no visit before a broken record",
         ledger: b"SWHARC1\x0a\x01T\x00\x00\x00\x1d\x00\x00\x00\x01\x02\x00\x00\x00\x00\x00\x00\x00\x01\x00https://e.org/p\x01X",
         store: b"",
         opened: Err(OpenWhy::Damaged {
-        file: 0,
-        at: 8,
-        harm: Harm::Refused { event: 1 },
-    }),
+            file: 0,
+            at: 8,
+            harm: Harm::Refused { event: 1 },
+        }),
     },
     Case {
         title: "a mark by another",
         ledger: b"SWHARC1\x0a\x01O\x00\x00\x00\x1c\x00\x00\x00\x01\x01\x00\x00\x00\x00;\x9a\xca\x00https://e.org/p\x01T\x00\x00\x00\x1d\x00\x00\x00\x02\x02\x00\x00\x00\x00\x00\x00\x00\x01\x00https://e.org/p\x00",
         store: b"",
         opened: Err(OpenWhy::Damaged {
-        file: 0,
-        at: 42,
-        harm: Harm::Refused { event: 2 },
-    }),
+            file: 0,
+            at: 42,
+            harm: Harm::Refused { event: 2 },
+        }),
     },
     Case {
         title: "a full visit of no snapshot that is held",
         ledger: b"SWHARC1\x0a\x01O\x00\x00\x00\x1c\x00\x00\x00\x01\x01\x00\x00\x00\x00;\x9a\xca\x00https://e.org/p\x01T\x00\x00\x00\x31\x00\x00\x00\x01\x03\x00\x00\x00\x00\x00\x00\x00\x01\x01abcdefghijklmnopqrsthttps://e.org/p\x00",
         store: b"",
         opened: Err(OpenWhy::Damaged {
-        file: 0,
-        at: 42,
-        harm: Harm::Refused { event: 2 },
-    }),
+            file: 0,
+            at: 42,
+            harm: Harm::Refused { event: 2 },
+        }),
     },
     Case {
         title: "an object twice in a batch",
         ledger: b"SWHARC1\x0a\x01B\x00\x00\x00\x18\x00\x00\x00\x01\x00\x00\x00\x00\x00\x00\x00\x00\x00\x00\x00\x00\x00\x00\x00\x3e\x00\x00\x00\x02\x00",
         store: b"\x01\x00\x00\x00\x00\x00\x00\x00\x022\xf9\x5c\x0d\x12D\xa7\x8b+\xe1\xba\xb8\xde\x17\x90o\xab\xb2\xc4\xa8hi\x01\x00\x00\x00\x00\x00\x00\x00\x022\xf9\x5c\x0d\x12D\xa7\x8b+\xe1\xba\xb8\xde\x17\x90o\xab\xb2\xc4\xa8hi",
         opened: Err(OpenWhy::Damaged {
-        file: 0,
-        at: 8,
-        harm: Harm::Refused { event: 1 },
-    }),
+            file: 0,
+            at: 8,
+            harm: Harm::Refused { event: 1 },
+        }),
     },
     Case {
         title: "a byte of the store",
         ledger: b"SWHARC1\x0a\x01B\x00\x00\x00\x18\x00\x00\x00\x01\x00\x00\x00\x00\x00\x00\x00\x00\x00\x00\x00\x00\x00\x00\x00\x1f\x00\x00\x00\x01\x00",
         store: b"\x09\x00\x00\x00\x00\x00\x00\x00\x022\xf9\x5c\x0d\x12D\xa7\x8b+\xe1\xba\xb8\xde\x17\x90o\xab\xb2\xc4\xa8hi",
         opened: Err(OpenWhy::Damaged {
-        file: 1,
-        at: 0,
-        harm: Harm::Kind { found: 9 },
-    }),
+            file: 1,
+            at: 0,
+            harm: Harm::Kind { found: 9 },
+        }),
     },
     Case {
         title: "an open gate and closed ones",

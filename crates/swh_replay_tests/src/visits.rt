@@ -60,7 +60,10 @@ fn each_step_is_answered_in_order(rt: HostRuntime) -> Result<(), Fail> {
     let mut visits = Visits::new(alloc);
     let mut number = 0;
     for (place, step) in STEPS.iter().enumerate() {
-        assert!(rt; is_answered(alloc, &mut visits, &url, step, &mut number)?, "step {place}");
+        assert!(rt;
+            is_answered(alloc, &mut visits, &url, step, &mut number)?,
+            "step {place}"
+        );
     }
     Ok(())
 }

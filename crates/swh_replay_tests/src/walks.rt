@@ -67,9 +67,11 @@ fn is_passed(
     listed: &[u32],
 ) -> Result<bool, Fail> {
     let wanted = names(alloc, listed)?;
-    Ok(cert.root == name(0)
-        && cert.names.as_slice() == wanted.as_slice()
-        && check(rows, closed, cert).is_ok())
+    Ok(
+        cert.root == name(0)
+            && cert.names.as_slice() == wanted.as_slice()
+            && check(rows, closed, cert).is_ok(),
+    )
 }
 
 fn is_walked(alloc: Global, row: &Walk) -> Result<bool, Fail> {
@@ -135,17 +137,53 @@ struct List {
 const DIAMOND: &[&[u32]] = &[&[1, 2], &[3], &[3], &[]];
 
 const LISTS: &[List] = &[
-    List { closed: &[], listed: &[], against: Against::Unlisted(None, 0) },
-    List { closed: &[], listed: &[1, 2, 3], against: Against::Unlisted(None, 0) },
-    List { closed: &[], listed: &[0], against: Against::Unlisted(Some(0), 1) },
-    List { closed: &[], listed: &[0, 1, 2], against: Against::Unlisted(Some(1), 3) },
-    List { closed: &[], listed: &[0, 1, 2, 3, 9], against: Against::NotHeld(9) },
-    List { closed: &[], listed: &[0, 1, 2, 3], against: Against::Nothing },
+    List {
+        closed: &[],
+        listed: &[],
+        against: Against::Unlisted(None, 0),
+    },
+    List {
+        closed: &[],
+        listed: &[1, 2, 3],
+        against: Against::Unlisted(None, 0),
+    },
+    List {
+        closed: &[],
+        listed: &[0],
+        against: Against::Unlisted(Some(0), 1),
+    },
+    List {
+        closed: &[],
+        listed: &[0, 1, 2],
+        against: Against::Unlisted(Some(1), 3),
+    },
+    List {
+        closed: &[],
+        listed: &[0, 1, 2, 3, 9],
+        against: Against::NotHeld(9),
+    },
+    List {
+        closed: &[],
+        listed: &[0, 1, 2, 3],
+        against: Against::Nothing,
+    },
     // A list that does not ascend.
-    List { closed: &[], listed: &[3, 1, 0, 2], against: Against::Nothing },
-    List { closed: &[], listed: &[2, 1, 0], against: Against::Unlisted(Some(2), 3) },
+    List {
+        closed: &[],
+        listed: &[3, 1, 0, 2],
+        against: Against::Nothing,
+    },
+    List {
+        closed: &[],
+        listed: &[2, 1, 0],
+        against: Against::Unlisted(Some(2), 3),
+    },
     // A child that is known to be closed.
-    List { closed: &[3], listed: &[0, 1, 2], against: Against::Nothing },
+    List {
+        closed: &[3],
+        listed: &[0, 1, 2],
+        against: Against::Nothing,
+    },
 ];
 
 fn gap_of(against: &Against) -> Option<Gap> {

@@ -5,8 +5,8 @@
 #![tactic(auto)]
 
 #[cfg(test)]
+mod events;
+#[cfg(test)]
 mod format;
 #[cfg(test)]
-mod owners;
-#[cfg(test)]
-mod tests;
+mod making;
