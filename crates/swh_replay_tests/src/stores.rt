@@ -21,7 +21,10 @@ pub fn content(alloc: Global, bytes: [u8; 2]) -> Result<Entry, Memory>
 {
     let body = Shared::from_vec(Vec::from_slice(alloc, &bytes)?)?;
     let kids = Shared::from_vec(Vec::new(alloc))?;
-    let name = named(bytes[0].wrapping_add(bytes[1]));
+    let mut id = [0; 20];
+    id[19] = bytes[0].wrapping_add(bytes[1]);
+    let kind = Kind::Content;
+    let name = Name { kind, id };
     Ok(Entry { name, body, kids })
 }
 
