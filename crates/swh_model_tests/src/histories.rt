@@ -1,9 +1,8 @@
 //! Worked histories: what is told of each wish, one after another.
 use crate::told::Told;
-use crate::wished::{Row, Wished, begun, tell_row};
-use std::alloc::Global;
+use crate::wished::{Row, Wished, history_of};
 use std::test::Fail;
-use swh_base::{ByteNamer, Kind, Name, Namer, Sha1Namer, Status};
+use swh_base::{ByteNamer, Kind, Name, Sha1Namer, Status};
 
 /// A snapshot with the one branch `b` to the revision whose id is twenty times 0x11.
 const OPEN_SNAPSHOT: &[u8] =
@@ -132,23 +131,14 @@ const COLLISION: &[Row] = &[
     ),
 ];
 
-/// Says whether each wish of a history is told what its row says.
-fn is_told<N: Namer>(alloc: Global, namer: &N, rows: &[Row]) -> Result<bool, Fail> {
-    let mut history = begun(alloc, namer);
-    for row in rows {
-        if tell_row(alloc, namer, &mut history, row)? != row.2 {
-            return Ok(false);
-        }
-    }
-    Ok(true)
-}
-
 #[test]
 fn each_wish_is_told_its_verdict(rt: HostRuntime) -> Result<(), Fail> {
     let alloc = rt.alloc();
     for (number, rows) in [VISIT, FULL, CLOSED_LATER, PARTIAL].iter().enumerate() {
-        assert!(rt; is_told(alloc, &Sha1Namer, rows)?, "history {number}");
+        let (_history, is_told) = history_of(alloc, &Sha1Namer, rows)?;
+        assert!(rt; is_told, "history {number}");
     }
-    assert!(rt; is_told(alloc, &ByteNamer, COLLISION)?, "a collision");
+    let (_history, is_told) = history_of(alloc, &ByteNamer, COLLISION)?;
+    assert!(rt; is_told, "a collision");
     Ok(())
 }

@@ -2,7 +2,7 @@
 ghost use Rattle.swh_model.specs.Step.{IsHistory};
 
 use crate::told::Told;
-use crate::wished::{Row, Wished, begun, tell_row, url};
+use crate::wished::{Row, Wished, history_of, url};
 use std::alloc::Global;
 use std::test::Fail;
 use swh_base::{ByteNamer, Kind, Memory, Name, Namer};
@@ -25,10 +25,7 @@ const ROWS: &[Row] = &[
 ];
 
 fn state_of(alloc: Global) -> Result<State, Fail> {
-    let mut history = begun(alloc, &ByteNamer);
-    for row in ROWS {
-        let _told = tell_row(alloc, &ByteNamer, &mut history, row)?;
-    }
+    let (history, _is_told) = history_of(alloc, &ByteNamer, ROWS)?;
     match replayed(alloc, &ByteNamer, &history)? {
         Some(state) => Ok(state),
         None => Err(Fail::from("a history")),

@@ -115,7 +115,7 @@ fn tell<N: Namer>(
 }
 
 /// What is told of a row's wish after a history, which its event joins.
-pub fn tell_row<N: Namer>(
+fn tell_row<N: Namer>(
     alloc: Global,
     namer: &N,
     history: &mut Vec<Event>,
@@ -127,4 +127,22 @@ pub fn tell_row<N: Namer>(
     let (by, wished, _told) = row;
     let wish = wish_of(alloc, namer, wished)?;
     Ok(tell(alloc, namer, history, *by, &wish)?)
+}
+
+/// The history that comes of the rows' wishes, one after another, and whether each was told what its row says.
+pub fn history_of<N: Namer>(
+    alloc: Global,
+    namer: &N,
+    rows: &[Row],
+) -> Result<(Vec<Event>, bool), Fail>
+    ensures { IfOk result (λ made. IsHistory N.id_of made.0.items) }
+{
+    let mut history = begun(alloc, namer);
+    let mut is_told = true;
+    for row in rows {
+        if tell_row(alloc, namer, &mut history, row)? != row.2 {
+            is_told = false;
+        }
+    }
+    Ok((history, is_told))
 }
