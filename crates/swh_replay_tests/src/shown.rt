@@ -1,5 +1,5 @@
 //! The entries of a whole history, of which batch after batch is shown.
-use crate::stores::{contents, holds_just, named};
+use crate::stores::{content, contents, holds_just, named};
 use std::test::Fail;
 use swh_base::Graph;
 use swh_store::Preloaded;
@@ -7,11 +7,12 @@ use swh_store::Preloaded;
 #[test]
 fn a_batch_is_shown_after_another(rt: HostRuntime) -> Result<(), Fail> {
     let alloc = rt.alloc();
-    let entries = contents(alloc, &[*b"ab", *b"cd"])?;
+    let entries = vec![in alloc; content(alloc, *b"ab")?, content(alloc, *b"cd")?]?;
     let mut preloaded = Preloaded::of(alloc, entries)?;
-    let none = !preloaded.has(&named(0xc3));
-    let first = preloaded.show(1) && preloaded.has(&named(0xc3)) && !preloaded.has(&named(0xc7));
-    assert!(rt; none && first && preloaded.children_of(&named(0xc7)).is_none());
+    assert!(rt; !preloaded.has(&named(0xc3)));
+    assert!(rt; preloaded.show(1));
+    assert!(rt; preloaded.has(&named(0xc3)) && !preloaded.has(&named(0xc7)));
+    assert!(rt; preloaded.children_of(&named(0xc7)).is_none());
     assert!(rt; preloaded.show(1));
     assert!(rt; preloaded.children_of(&named(0xc7)).is_some());
     let store = preloaded.into_store();
