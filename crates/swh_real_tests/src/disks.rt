@@ -99,7 +99,8 @@ fn bytes_stand_where_they_were_put(rt: HostRuntime) -> Result<(), Fail> {
             "file {file}"
         );
     }
-    assert_eq!(rt; depot.faults() + readers.faults(), 0);
+    assert_eq!(rt; depot.faults(), 0);
+    assert_eq!(rt; readers.faults(), 0);
     fs::remove_dir_all(&rt, folder.as_str())?;
     Ok(())
 }
