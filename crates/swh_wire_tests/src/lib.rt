@@ -1,0 +1,15 @@
+//! Tests of the wire: what clients sent and what is read of it, and the read API's paths and replies.
+//! Stands on the HTTP session and the read API.
+//! Nothing stands above it.
+#![tactic(auto)]
+
+#[cfg(test)]
+mod api;
+#[cfg(test)]
+mod clients;
+#[cfg(test)]
+mod paths;
+#[cfg(test)]
+mod replies;
+#[cfg(test)]
+mod sessions;
