@@ -1,7 +1,16 @@
 -- The bytes of a reply (RFC 9112, section 4; RFC 9110, sections 8.3 and 8.6).
-use Rattle.std.specs.Prelude.{ℕ, Bool, List, [], ◌∷◌, ◌++◌, length, codes, decimal, unwrap_or, if◌then◌else◌}
+use Rattle.std.specs.Prelude.{◌≢◌, ◌≤◌, ◌<◌, ℕ, Bool, List, [], ◌∷◌, ◌++◌, length, codes, decimal, unwrap_or, if◌then◌else◌}
 use Rattle.http.specs.StatusCode.{reason_phrase}
 use Rattle.swh_base.specs.declared.request.Reply.{Reply}
+
+-- A reply with this status has a body (RFC 9110, sections 6.4.1 and 15): it is no interim one, and none of 204, 205 and 304.
+-- A client reads no body behind any other, so that what is written as one would be taken for the next reply.
+pub record HasBody (status : ℕ) : Type 0 where
+  pub final : 200 ≤ status
+  pub three_digits : status < 1000
+  pub has_content : status ≢ 204
+  pub resets_nothing : status ≢ 205
+  pub is_modified : status ≢ 304
 
 -- the standard phrase of a status, and none where it has none
 abbrev pub phrase_of : ℕ → List ℕ

@@ -1,7 +1,15 @@
 //! The bytes of a reply.
 ghost use Rattle.std.specs.Prelude.{◌≡◌, ◌++◌, IfOk, OnOk, decimal};
 ghost use Rattle.http.specs.StatusCode.{IsStatusCode};
-ghost use Rattle.swh_http.specs.Reply.{reply_text, phrase_of, closing, status_line, length_line, type_line};
+ghost use Rattle.swh_http.specs.Reply.{
+  reply_text,
+  phrase_of,
+  closing,
+  status_line,
+  length_line,
+  type_line,
+  HasBody,
+};
 
 use http::StatusCode;
 use itoa::Buffer;
@@ -62,9 +70,10 @@ fn closing(keep: bool) -> &'static [u8]
     if keep { b"" } else { b"Connection: close\r\n" }
 }
 
-/// The bytes of a reply, whose status is a number of three digits. A connection that is not kept is said to close.
+/// The bytes of a reply, whose status is a number of three digits from 200 on, and neither 204, 205 nor 304: a reply with
+/// one of these has no body. A connection that is not kept is said to close.
 pub fn reply_bytes(alloc: Global, reply: &Reply, keep: bool) -> Result<Vec<u8>, Memory>
-    requires { IsStatusCode reply.now.status }
+    requires { HasBody reply.now.status }
     ensures { IfOk result (λ bytes. bytes.items ≡ reply_text reply.now keep) }
 {
     let body = reply.body.as_slice();
