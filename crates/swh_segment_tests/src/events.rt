@@ -1,4 +1,6 @@
 //! An event on the two files: their bytes, how many writes and barriers it makes, and a call that fails.
+ghost use Rattle.std.specs.Prelude.{◌≡◌};
+
 use std::alloc::{AllocError, Global};
 use std::test::Fail;
 use swh_memory::{MemoryDisk, Room};
@@ -81,6 +83,15 @@ const CASES: &[Case] = &[
     },
 ];
 
+/// Appends a batch with this run, and answers whether it was added.
+fn add_batch(runs: &mut Runs<MemoryDisk>, run: &[u8], records: &mut Ledger<MemoryDisk>) -> bool
+    requires store { runs.old.end ≡ 0 }
+    requires ledger { records.old.end ≡ 8 }
+{
+    let _length = run.len();
+    append_to_both(runs, Run::Batch(run), records, RECORD).is_ok()
+}
+
 /// The disks after an event, the store first, and whether it was added.
 fn after(alloc: Global, case: &Case) -> Result<(MemoryDisk, MemoryDisk, bool), AllocError> {
     let failing = case.failing.to_vec(alloc)?;
@@ -88,11 +99,10 @@ fn after(alloc: Global, case: &Case) -> Result<(MemoryDisk, MemoryDisk, bool), A
     let ledger = MemoryDisk::new(alloc, b"SWHARC1\n\0", ROOM, failing)?;
     let mut runs = Runs::at(store, 0);
     let mut records = Ledger::at(ledger, 8);
-    let run = match case.run {
-        Some(bytes) => Run::Batch(bytes),
-        None => Run::None,
+    let added = match case.run {
+        Some(bytes) => add_batch(&mut runs, bytes, &mut records),
+        None => append_to_both(&mut runs, Run::None, &mut records, RECORD).is_ok(),
     };
-    let added = append_to_both(&mut runs, run, &mut records, RECORD).is_ok();
     Ok((runs.close(), records.close(), added))
 }
 
