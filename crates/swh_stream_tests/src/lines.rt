@@ -30,11 +30,17 @@ const ROWS: &[Row] = &[
     (b"one\ntwo", 2, &[3], (1, 6, Some(LineFault::Failed))),
 ];
 
+/// No text of these tests is as long.
+const FAR: u64 = 1 << 62;
+
 /// The lines of a source, as far as they are read; no more than eight.
 fn read_lines(alloc: Global, mut source: MemorySource) -> Result<Found, AllocError> {
     let mut window = Window::new(alloc)?;
     let mut lines: u32 = 0;
     for _ in 0..8 {
+        if window.place() > FAR {
+            break;
+        }
         match next_line(alloc, &mut window, &mut source) {
             Ok(Some(_)) => lines = lines.saturating_add(1),
             Ok(None) => return Ok((lines, window.place(), None)),
