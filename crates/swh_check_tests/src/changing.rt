@@ -6,7 +6,7 @@ use std::alloc::Global;
 use swh_outside::{Disk, Failed};
 
 /// How a read differs from what was written: the lowest bit of the byte at a place is another, or the bytes end there.
-#[derive(Clone, Copy, Debug, PartialEq, Eq)]
+#[derive(Clone, Copy)]
 pub enum Change {
     Bit(u64),
     End(u64),

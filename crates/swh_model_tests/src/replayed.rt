@@ -5,7 +5,7 @@ use crate::told::Told;
 use crate::wished::{Row, Wished, history_of, url};
 use std::alloc::Global;
 use std::test::Fail;
-use swh_base::{ByteNamer, Kind, Memory, Name, Namer};
+use swh_base::{ByteNamer, Kind, Memory, Name, Namer, Url};
 use swh_model::{Event, State, replay};
 
 fn replayed<N: Namer>(
@@ -32,27 +32,34 @@ fn state_of(alloc: Global) -> Result<State, Fail> {
     }
 }
 
+/// Says whether the origin has the one visit.
+fn has_visit(state: &State, origin: &Url) -> bool {
+    let visits = state.visits(origin);
+    visits.len() == 1
+        && visits[0].number == 1
+        && visits[0].date == 1_000_000_000
+        && visits[0].by == 7
+}
+
+/// Says whether the content is held under its name, and no other.
+fn has_content(state: &State) -> bool {
+    let mut name = Name {
+        kind: Kind::Content,
+        id: [0; 20],
+    };
+    let is_other = state.has(&name);
+    name.id[19] = 0xc3;
+    match state.get(&name) {
+        Some(entry) => !is_other && entry.body.as_slice() == b"ab".as_slice(),
+        None => false,
+    }
+}
+
 #[test]
 fn a_history_is_replayed(rt: HostRuntime) -> Result<(), Fail> {
     let alloc = rt.alloc();
     let origin = url(alloc)?;
     let state = state_of(alloc)?;
-    let visits = state.visits(&origin);
-    assert_eq!(rt; visits.len(), 1);
-    assert_eq!(rt;
-        (visits[0].number, visits[0].date, visits[0].by),
-        (1, 1_000_000_000, 7)
-    );
-    let mut name = Name {
-        kind: Kind::Content,
-        id: [0; 20],
-    };
-    assert!(rt; !state.has(&name));
-    name.id[19] = 0xc3;
-    assert!(rt;
-        state
-            .get(&name)
-            .is_some_and(|entry| entry.body.as_slice() == b"ab".as_slice())
-    );
+    assert!(rt; has_visit(&state, &origin) && has_content(&state));
     Ok(())
 }

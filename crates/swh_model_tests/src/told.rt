@@ -3,7 +3,7 @@ use swh_base::{Name, Status, Which};
 use swh_model::{JudgeFault, No, Outcome};
 
 /// The number of the event with what came of it, or the cause against it.
-#[derive(Clone, Copy, Debug, PartialEq, Eq)]
+#[derive(Clone, Copy, PartialEq, Eq)]
 pub enum Told {
     Opened(u64, u64),
     Added(u64, u32),

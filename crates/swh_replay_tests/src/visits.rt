@@ -2,6 +2,7 @@
 use std::alloc::Global;
 use std::test::Fail;
 use swh_base::{Status, Url, VisitKind};
+use swh_model::Visit;
 use swh_visits::{VisitFault, Visits};
 
 /// A visit that is opened by somebody, or a mark of the visit of a number by somebody with its fault, or none.
@@ -53,19 +54,54 @@ fn is_answered(
     }
 }
 
-#[test]
-fn each_step_is_answered_in_order(rt: HostRuntime) -> Result<(), Fail> {
-    let alloc = rt.alloc();
+/// Says whether each step is answered as it says.
+fn are_answered(alloc: Global) -> Result<bool, Fail> {
     let url = Url::new(alloc, "https://example.org/r")?;
     let mut visits = Visits::new(alloc);
     let mut number = 0;
-    for (place, step) in STEPS.iter().enumerate() {
-        assert!(rt;
-            is_answered(alloc, &mut visits, &url, step, &mut number)?,
-            "step {place}"
-        );
+    for step in STEPS {
+        if !is_answered(alloc, &mut visits, &url, step, &mut number)? {
+            return Ok(false);
+        }
     }
+    Ok(true)
+}
+
+#[test]
+fn each_step_is_answered_in_order(rt: HostRuntime) -> Result<(), Fail> {
+    assert!(rt; are_answered(rt.alloc())?);
     Ok(())
+}
+
+/// Says whether two visits are these: one that is created, and one that is full.
+fn are_two(listed: &[Visit]) -> bool {
+    if listed.len() != 2 {
+        return false;
+    }
+    let (first, second) = (&listed[0], &listed[1]);
+    let created = [(Status::Created, None)];
+    let full = [(Status::Created, None), (Status::Full, Some([5; 20]))];
+    (first.number, first.date, first.by) == (1, 7, 1)
+        && (second.number, second.date, second.by) == (2, 9, 2)
+        && first.kind == VisitKind::Fast
+        && second.kind == VisitKind::Dir
+        && first.statuses.as_slice() == created.as_slice()
+        && second.statuses.as_slice() == full.as_slice()
+}
+
+/// Visits of an origin, of which the second is full.
+fn two_visits(alloc: Global, url: &Url) -> Result<Visits, Fail> {
+    let mut visits = Visits::new(alloc);
+    let first = visits.open(alloc, url, VisitKind::Fast, 7, 1)?;
+    let second = visits.open(alloc, url, VisitKind::Dir, 9, 2)?;
+    let full = visits
+        .status(url, 2, 2, Status::Full, Some([5; 20]))
+        .is_ok();
+    if first == 1 && second == 2 && full {
+        Ok(visits)
+    } else {
+        Err(Fail::from("two visits"))
+    }
 }
 
 #[test]
@@ -73,20 +109,11 @@ fn what_was_opened_is_listed(rt: HostRuntime) -> Result<(), Fail> {
     let alloc = rt.alloc();
     let url = Url::new(alloc, "https://example.org/r")?;
     let other = Url::new(alloc, "https://example.org/R")?;
-    let mut visits = Visits::new(alloc);
-    assert!(rt; visits.list(&url).is_none());
-    assert_eq!(rt; visits.open(alloc, &url, VisitKind::Fast, 7, 1)?, 1);
-    assert_eq!(rt; visits.open(alloc, &url, VisitKind::Dir, 9, 2)?, 2);
-    let full = visits.status(&url, 2, 2, Status::Full, Some([5; 20]));
-    assert!(rt; full.is_ok() && visits.list(&other).is_none());
-    let listed = visits.list(&url).ok_or("listed")?;
-    assert_eq!(rt; listed.len(), 2);
-    let (first, second) = (&listed[0], &listed[1]);
-    assert_eq!(rt; (first.number, first.date, first.by), (1, 7, 1));
-    assert_eq!(rt; (second.number, second.date, second.by), (2, 9, 2));
-    assert!(rt; first.kind == VisitKind::Fast && second.kind == VisitKind::Dir);
-    assert!(rt; first.statuses.as_slice() == [(Status::Created, None)].as_slice());
-    let want = [(Status::Created, None), (Status::Full, Some([5; 20]))];
-    assert!(rt; second.statuses.as_slice() == want.as_slice());
+    let visits = two_visits(alloc, &url)?;
+    let is_listed = match visits.list(&url) {
+        Some(listed) => are_two(listed),
+        None => false,
+    };
+    assert!(rt; is_listed && visits.list(&other).is_none());
     Ok(())
 }
