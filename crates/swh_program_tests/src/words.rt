@@ -16,8 +16,9 @@ pub const CHECK: &[&str] = &["check", "A"];
 pub const JOB: &[Piece<'static>] = &[Piece::Text(b"fast\thttps://e.org/p\te\n")];
 
 /// That job, and one of another origin and the other input.
-pub const TWO_JOBS: &[Piece<'static>] =
-    &[Piece::Text(b"fast\thttps://e.org/p\te\nfast\thttps://e.org/a\tf\n")];
+pub const TWO_JOBS: &[Piece<'static>] = &[Piece::Text(
+    b"fast\thttps://e.org/p\te\nfast\thttps://e.org/a\tf\n",
+)];
 
 /// The first job, and the stream.
 pub const LOADING: Setting<'static> = Setting {
