@@ -2,10 +2,10 @@
 use crate::pieces::Piece;
 use crate::plain::PlainDepot;
 use crate::setting::{Case, Setting};
-use crate::streams::{EMPTY, Load, first_other};
+use crate::streams::{EMPTY, Load, all_end_so};
 use crate::words::{CHECK, INIT, LOAD, LOADING};
 use crate::world::is_met_by;
-use std::alloc::{AllocError, Global};
+use std::alloc::Global;
 use std::test::Fail;
 use swh_base::Sha1Namer;
 use swh_fixtures::STREAM;
@@ -22,7 +22,7 @@ const LIMITS: &[Load<'static>] = &[
             Piece::Fill(1_048_574),
             Piece::Text(b"\n"),
         ],
-        ends: EMPTY,
+        printed: EMPTY,
     },
     Load {
         input: &[
@@ -30,7 +30,7 @@ const LIMITS: &[Load<'static>] = &[
             Piece::Fill(1_048_575),
             Piece::Text(b"\n"),
         ],
-        ends: b"failed\tlimit line\n",
+        printed: b"made\nhttps://e.org/p\t1\tfailed\tlimit line\n",
     },
     Load {
         input: &[
@@ -38,7 +38,7 @@ const LIMITS: &[Load<'static>] = &[
             Piece::Fill(1_048_575),
             Piece::Text(b"\nE\n"),
         ],
-        ends: EMPTY,
+        printed: EMPTY,
     },
     Load {
         input: &[
@@ -46,7 +46,7 @@ const LIMITS: &[Load<'static>] = &[
             Piece::Fill(1_048_576),
             Piece::Text(b"\nE\n"),
         ],
-        ends: b"failed\tlimit line\n",
+        printed: b"made\nhttps://e.org/p\t1\tfailed\tlimit line\n",
     },
     Load {
         input: &[
@@ -55,7 +55,7 @@ const LIMITS: &[Load<'static>] = &[
             Piece::Fill(65_535),
             Piece::Text(b"\ndata 1\nx"),
         ],
-        ends: b"full\tswh:1:snp:5e9d3690893e3167c02bd86027db7b15dfefdabc\n",
+        printed: b"made\nhttps://e.org/p\t1\tfull\tswh:1:snp:5e9d3690893e3167c02bd86027db7b15dfefdabc\n",
     },
     Load {
         input: &[
@@ -64,7 +64,7 @@ const LIMITS: &[Load<'static>] = &[
             Piece::Fill(65_536),
             Piece::Text(b"\ndata 1\nx"),
         ],
-        ends: b"failed\tlimit path\n",
+        printed: b"made\nhttps://e.org/p\t1\tfailed\tlimit path\n",
     },
     Load {
         input: &[
@@ -72,7 +72,7 @@ const LIMITS: &[Load<'static>] = &[
             Piece::Fill(1_024),
             Piece::Text(b"\n"),
         ],
-        ends: EMPTY,
+        printed: EMPTY,
     },
     Load {
         input: &[
@@ -80,7 +80,7 @@ const LIMITS: &[Load<'static>] = &[
             Piece::Fill(1_025),
             Piece::Text(b"\n"),
         ],
-        ends: b"failed\tlimit ref\n",
+        printed: b"made\nhttps://e.org/p\t1\tfailed\tlimit ref\n",
     },
     Load {
         input: &[
@@ -89,7 +89,7 @@ const LIMITS: &[Load<'static>] = &[
             Piece::Fill(1_014),
             Piece::Text(b"\nfrom :2\ntagger A <a@e.org> 1000000000 +0000\ndata 0\n"),
         ],
-        ends: b"full\tswh:1:snp:1fc2a9b5f000fb74dbb5c16d27ccea7d8d6c800a\n",
+        printed: b"made\nhttps://e.org/p\t1\tfull\tswh:1:snp:1fc2a9b5f000fb74dbb5c16d27ccea7d8d6c800a\n",
     },
     Load {
         input: &[
@@ -98,332 +98,327 @@ const LIMITS: &[Load<'static>] = &[
             Piece::Fill(1_015),
             Piece::Text(b"\nfrom :2\ntagger A <a@e.org> 1000000000 +0000\ndata 0\n"),
         ],
-        ends: b"failed\tlimit ref\n",
+        printed: b"made\nhttps://e.org/p\t1\tfailed\tlimit ref\n",
     },
 ];
 
 #[test]
 fn each_limit_of_a_word(rt: HostRuntime) -> Result<(), Fail> {
-    assert_eq!(rt; first_other(rt.alloc(), LIMITS)?, None);
+    all_end_so(rt.alloc(), LIMITS)
+}
+
+// Fails with the name of the first row that is not met, over files that take no more memory than they are long.
+fn all_met_plainly(alloc: Global, cases: &[Case<'_>]) -> Result<(), Fail> {
+    for case in cases {
+        if !is_met_by(alloc, Sha1Namer, PlainDepot::new(alloc, None), case)? {
+            return Err(Fail::new(case.name));
+        }
+    }
     Ok(())
 }
 
-// Says whether a row is met over files that take no more memory than they are long.
-fn is_met_plainly(alloc: Global, case: &Case<'_>) -> Result<bool, AllocError> {
-    is_met_by(alloc, Sha1Namer, PlainDepot::new(alloc, None), case)
-}
-
-// With the worked stream's branch these are 65,536 refs.
-const MANY_REFS: Case<'static> = Case {
-    setting: Setting {
-        input: Some(&[
-            Piece::Text(STREAM),
-            Piece::Rows {
-                count: 65_535,
-                before: b"reset refs/heads/",
+// With the worked stream's branch there are 65,536 refs; and there are more objects than a batch has.
+const NUMBERS: &[Case<'static>] = &[
+    Case {
+        name: "65,536 refs",
+        setting: Setting {
+            input: Some(&[
+                Piece::Text(STREAM),
+                Piece::Rows {
+                    count: 65_535,
+                    before: b"reset refs/heads/",
+                    fill: 0,
+                    after: b"\nfrom :2\n",
+                },
+            ]),
+            ..LOADING
+        },
+        runs: &[INIT, LOAD, CHECK],
+        statuses: &[0, 0, 0],
+        printed: b"made\nhttps://e.org/p\t1\tfull\tswh:1:snp:d85804773b7a1ea665b4de15f610ebff7a4dfdcb\nobjects 4 closed 4 visits 1\n",
+        leaves: None,
+    },
+    Case {
+        name: "65,537 refs",
+        setting: Setting {
+            input: Some(&[
+                Piece::Text(STREAM),
+                Piece::Rows {
+                    count: 65_536,
+                    before: b"reset refs/heads/",
+                    fill: 0,
+                    after: b"\nfrom :2\n",
+                },
+            ]),
+            ..LOADING
+        },
+        runs: &[INIT, LOAD],
+        statuses: &[0, 1],
+        printed: b"made\nhttps://e.org/p\t1\tfailed\tlimit refs\n",
+        leaves: None,
+    },
+    Case {
+        name: "5,001 contents",
+        setting: Setting {
+            input: Some(&[Piece::Rows {
+                count: 5_001,
+                before: b"blob\ndata 6\n",
                 fill: 0,
-                after: b"\nfrom :2\n",
-            },
-        ]),
-        ..LOADING
-    },
-    runs: &[INIT, LOAD, CHECK],
-    statuses: &[0, 0, 0],
-    printed: b"made\nhttps://e.org/p\t1\tfull\tswh:1:snp:d85804773b7a1ea665b4de15f610ebff7a4dfdcb\nobjects 4 closed 4 visits 1\n",
-};
-
-const TOO_MANY_REFS: Case<'static> = Case {
-    setting: Setting {
-        input: Some(&[
-            Piece::Text(STREAM),
-            Piece::Rows {
-                count: 65_536,
-                before: b"reset refs/heads/",
-                fill: 0,
-                after: b"\nfrom :2\n",
-            },
-        ]),
-        ..LOADING
-    },
-    runs: &[INIT, LOAD],
-    statuses: &[0, 1],
-    printed: b"made\nhttps://e.org/p\t1\tfailed\tlimit refs\n",
-};
-
-#[test]
-fn refs(rt: HostRuntime) -> Result<(), Fail> {
-    assert!(rt; is_met_plainly(rt.alloc(), &MANY_REFS)?);
-    assert!(rt; is_met_plainly(rt.alloc(), &TOO_MANY_REFS)?);
-    Ok(())
-}
-
-// More than a batch has.
-const MANY_OBJECTS: Case<'static> = Case {
-    setting: Setting {
-        input: Some(&[Piece::Rows {
-            count: 5_001,
-            before: b"blob\ndata 6\n",
-            fill: 0,
-            after: b"\n",
-        }]),
-        ..LOADING
-    },
-    runs: &[INIT, LOAD, CHECK],
-    statuses: &[0, 0, 0],
-    printed: b"made\nhttps://e.org/p\t1\tfull\tswh:1:snp:1a8893e6a86f444e8be8e7bda6cb34fb1735a00e\nobjects 5002 closed 1 visits 1\n",
-};
-
-#[test]
-fn more_objects_than_one_batch_has(rt: HostRuntime) -> Result<(), Fail> {
-    assert!(rt; is_met_plainly(rt.alloc(), &MANY_OBJECTS)?);
-    Ok(())
-}
-
-// A body has 67,108,864 bytes at most: of a content all bytes are in the stream.
-const LONG_CONTENT: Case<'static> = Case {
-    setting: Setting {
-        input: Some(&[
-            Piece::Text(b"blob\ndata 67108864\n"),
-            Piece::Fill(67_108_864),
-        ]),
-        ..LOADING
-    },
-    runs: &[INIT, LOAD, CHECK],
-    statuses: &[0, 0, 0],
-    printed: b"made\nhttps://e.org/p\t1\tfull\tswh:1:snp:1a8893e6a86f444e8be8e7bda6cb34fb1735a00e\nobjects 2 closed 1 visits 1\n",
-};
-
-const TOO_LONG_CONTENT: Case<'static> = Case {
-    setting: Setting {
-        input: Some(&[
-            Piece::Text(b"blob\ndata 67108865\n"),
-            Piece::Fill(67_108_865),
-        ]),
-        ..LOADING
-    },
-    runs: &[INIT, LOAD],
-    statuses: &[0, 1],
-    printed: b"made\nhttps://e.org/p\t1\tfailed\tlimit body\n",
-};
-
-#[test]
-fn a_content(rt: HostRuntime) -> Result<(), Fail> {
-    assert!(rt; is_met_plainly(rt.alloc(), &LONG_CONTENT)?);
-    assert!(rt; is_met_plainly(rt.alloc(), &TOO_LONG_CONTENT)?);
-    Ok(())
-}
-
-// Of a revision 122 bytes stand before the message.
-const LONG_REVISION: Case<'static> = Case {
-    setting: Setting {
-        input: Some(&[
-            Piece::Text(
-                b"commit refs/heads/m\ncommitter A <a@e.org> 1000000000 +0000\ndata 67108742\n",
-            ),
-            Piece::Fill(67_108_742),
-        ]),
-        ..LOADING
-    },
-    runs: &[INIT, LOAD, CHECK],
-    statuses: &[0, 0, 0],
-    printed: b"made\nhttps://e.org/p\t1\tfull\tswh:1:snp:659ae981f499402519dc4e680a8d4c25a311351b\nobjects 3 closed 3 visits 1\n",
-};
-
-const TOO_LONG_REVISION: Case<'static> = Case {
-    setting: Setting {
-        input: Some(&[
-            Piece::Text(
-                b"commit refs/heads/m\ncommitter A <a@e.org> 1000000000 +0000\ndata 67108743\n",
-            ),
-            Piece::Fill(67_108_743),
-        ]),
-        ..LOADING
-    },
-    runs: &[INIT, LOAD],
-    statuses: &[0, 1],
-    printed: b"made\nhttps://e.org/p\t1\tfailed\tlimit body\n",
-};
-
-// Data up to a word: 64 lines of 1,048,576 bytes each, and one more byte.
-const LONG_LINES: Case<'static> = Case {
-    setting: Setting {
-        input: Some(&[
-            Piece::Text(b"blob\ndata <<E\n"),
-            Piece::Rows {
-                count: 64,
-                before: b"",
-                fill: 1_048_569,
                 after: b"\n",
-            },
-            Piece::Text(b"E\n"),
-        ]),
-        ..LOADING
+            }]),
+            ..LOADING
+        },
+        runs: &[INIT, LOAD, CHECK],
+        statuses: &[0, 0, 0],
+        printed: b"made\nhttps://e.org/p\t1\tfull\tswh:1:snp:1a8893e6a86f444e8be8e7bda6cb34fb1735a00e\nobjects 5002 closed 1 visits 1\n",
+        leaves: None,
     },
-    runs: &[INIT, LOAD, CHECK],
-    statuses: &[0, 0, 0],
-    printed: b"made\nhttps://e.org/p\t1\tfull\tswh:1:snp:1a8893e6a86f444e8be8e7bda6cb34fb1735a00e\n\
-objects 2 closed 1 visits 1\n",
-};
-
-const TOO_LONG_LINES: Case<'static> = Case {
-    setting: Setting {
-        input: Some(&[
-            Piece::Text(b"blob\ndata <<E\n"),
-            Piece::Rows {
-                count: 64,
-                before: b"",
-                fill: 1_048_569,
-                after: b"\n",
-            },
-            Piece::Text(b"\nE\n"),
-        ]),
-        ..LOADING
-    },
-    runs: &[INIT, LOAD],
-    statuses: &[0, 1],
-    printed: b"made\nhttps://e.org/p\t1\tfailed\tlimit body\n",
-};
+];
 
 #[test]
-fn a_content_of_lines(rt: HostRuntime) -> Result<(), Fail> {
-    assert!(rt; is_met_plainly(rt.alloc(), &LONG_LINES)?);
-    assert!(rt; is_met_plainly(rt.alloc(), &TOO_LONG_LINES)?);
-    Ok(())
+fn numbers_of_refs_and_objects(rt: HostRuntime) -> Result<(), Fail> {
+    all_met_plainly(rt.alloc(), NUMBERS)
 }
 
+// A body has 67,108,864 bytes at most. Of a content all of them are in the stream, counted or in lines up to a word.
+const CONTENTS: &[Case<'static>] = &[
+    Case {
+        name: "a content of counted bytes",
+        setting: Setting {
+            input: Some(&[
+                Piece::Text(b"blob\ndata 67108864\n"),
+                Piece::Fill(67_108_864),
+            ]),
+            ..LOADING
+        },
+        runs: &[INIT, LOAD, CHECK],
+        statuses: &[0, 0, 0],
+        printed: b"made\nhttps://e.org/p\t1\tfull\tswh:1:snp:1a8893e6a86f444e8be8e7bda6cb34fb1735a00e\nobjects 2 closed 1 visits 1\n",
+        leaves: None,
+    },
+    Case {
+        name: "one more",
+        setting: Setting {
+            input: Some(&[
+                Piece::Text(b"blob\ndata 67108865\n"),
+                Piece::Fill(67_108_865),
+            ]),
+            ..LOADING
+        },
+        runs: &[INIT, LOAD],
+        statuses: &[0, 1],
+        printed: b"made\nhttps://e.org/p\t1\tfailed\tlimit body\n",
+        leaves: None,
+    },
+    Case {
+        name: "a content of lines",
+        setting: Setting {
+            input: Some(&[
+                Piece::Text(b"blob\ndata <<E\n"),
+                Piece::Rows {
+                    count: 64,
+                    before: b"",
+                    fill: 1_048_569,
+                    after: b"\n",
+                },
+                Piece::Text(b"E\n"),
+            ]),
+            ..LOADING
+        },
+        runs: &[INIT, LOAD, CHECK],
+        statuses: &[0, 0, 0],
+        printed: b"made\nhttps://e.org/p\t1\tfull\tswh:1:snp:1a8893e6a86f444e8be8e7bda6cb34fb1735a00e\nobjects 2 closed 1 visits 1\n",
+        leaves: None,
+    },
+    Case {
+        name: "one line more",
+        setting: Setting {
+            input: Some(&[
+                Piece::Text(b"blob\ndata <<E\n"),
+                Piece::Rows {
+                    count: 64,
+                    before: b"",
+                    fill: 1_048_569,
+                    after: b"\n",
+                },
+                Piece::Text(b"\nE\n"),
+            ]),
+            ..LOADING
+        },
+        runs: &[INIT, LOAD],
+        statuses: &[0, 1],
+        printed: b"made\nhttps://e.org/p\t1\tfailed\tlimit body\n",
+        leaves: None,
+    },
+];
+
 #[test]
-fn a_revision(rt: HostRuntime) -> Result<(), Fail> {
-    assert!(rt; is_met_plainly(rt.alloc(), &LONG_REVISION)?);
-    assert!(rt; is_met_plainly(rt.alloc(), &TOO_LONG_REVISION)?);
-    Ok(())
+fn contents_up_to_the_limit(rt: HostRuntime) -> Result<(), Fail> {
+    all_met_plainly(rt.alloc(), CONTENTS)
 }
 
-// Of a release 103 bytes stand before the message.
-const LONG_RELEASE: Case<'static> = Case {
-    setting: Setting {
-        input: Some(&[
-            Piece::Text(STREAM),
-            Piece::Text(b"tag t\nfrom :2\ntagger A <a@e.org> 1000000000 +0000\ndata 67108761\n"),
-            Piece::Fill(67_108_761),
-        ]),
-        ..LOADING
+// Of a revision 122 bytes stand before the message, of the release 103.
+const MESSAGES: &[Case<'static>] = &[
+    Case {
+        name: "a revision",
+        setting: Setting {
+            input: Some(&[
+                Piece::Text(
+                    b"commit refs/heads/m\ncommitter A <a@e.org> 1000000000 +0000\ndata 67108742\n",
+                ),
+                Piece::Fill(67_108_742),
+            ]),
+            ..LOADING
+        },
+        runs: &[INIT, LOAD, CHECK],
+        statuses: &[0, 0, 0],
+        printed: b"made\nhttps://e.org/p\t1\tfull\tswh:1:snp:659ae981f499402519dc4e680a8d4c25a311351b\nobjects 3 closed 3 visits 1\n",
+        leaves: None,
     },
-    runs: &[INIT, LOAD, CHECK],
-    statuses: &[0, 0, 0],
-    printed: b"made\nhttps://e.org/p\t1\tfull\tswh:1:snp:89b7aa756b918a0a19e6497a03a789010c796849\nobjects 5 closed 5 visits 1\n",
-};
-
-const TOO_LONG_RELEASE: Case<'static> = Case {
-    setting: Setting {
-        input: Some(&[
-            Piece::Text(STREAM),
-            Piece::Text(b"tag t\nfrom :2\ntagger A <a@e.org> 1000000000 +0000\ndata 67108762\n"),
-            Piece::Fill(67_108_762),
-        ]),
-        ..LOADING
+    Case {
+        name: "a revision with one byte more",
+        setting: Setting {
+            input: Some(&[
+                Piece::Text(
+                    b"commit refs/heads/m\ncommitter A <a@e.org> 1000000000 +0000\ndata 67108743\n",
+                ),
+                Piece::Fill(67_108_743),
+            ]),
+            ..LOADING
+        },
+        runs: &[INIT, LOAD],
+        statuses: &[0, 1],
+        printed: b"made\nhttps://e.org/p\t1\tfailed\tlimit body\n",
+        leaves: None,
     },
-    runs: &[INIT, LOAD],
-    statuses: &[0, 1],
-    printed: b"made\nhttps://e.org/p\t1\tfailed\tlimit body\n",
-};
+    Case {
+        name: "a release",
+        setting: Setting {
+            input: Some(&[
+                Piece::Text(STREAM),
+                Piece::Text(
+                    b"tag t\nfrom :2\ntagger A <a@e.org> 1000000000 +0000\ndata 67108761\n",
+                ),
+                Piece::Fill(67_108_761),
+            ]),
+            ..LOADING
+        },
+        runs: &[INIT, LOAD, CHECK],
+        statuses: &[0, 0, 0],
+        printed: b"made\nhttps://e.org/p\t1\tfull\tswh:1:snp:89b7aa756b918a0a19e6497a03a789010c796849\nobjects 5 closed 5 visits 1\n",
+        leaves: None,
+    },
+    Case {
+        name: "a release with one byte more",
+        setting: Setting {
+            input: Some(&[
+                Piece::Text(STREAM),
+                Piece::Text(
+                    b"tag t\nfrom :2\ntagger A <a@e.org> 1000000000 +0000\ndata 67108762\n",
+                ),
+                Piece::Fill(67_108_762),
+            ]),
+            ..LOADING
+        },
+        runs: &[INIT, LOAD],
+        statuses: &[0, 1],
+        printed: b"made\nhttps://e.org/p\t1\tfailed\tlimit body\n",
+        leaves: None,
+    },
+];
 
 #[test]
-fn a_release(rt: HostRuntime) -> Result<(), Fail> {
-    assert!(rt; is_met_plainly(rt.alloc(), &LONG_RELEASE)?);
-    assert!(rt; is_met_plainly(rt.alloc(), &TOO_LONG_RELEASE)?);
-    Ok(())
+fn messages_up_to_the_limit(rt: HostRuntime) -> Result<(), Fail> {
+    all_met_plainly(rt.alloc(), MESSAGES)
 }
 
-// 1,024 entries of 65,536 bytes each, the names with 65,508 of them.
-const LONG_DIRECTORY: Case<'static> = Case {
-    setting: Setting {
-        input: Some(&[
-            Piece::Text(COMMIT),
-            Piece::Rows {
-                count: 1_024,
-                before: b"M 100644 inline ",
-                fill: 65_502,
-                after: b"\ndata 0\n",
-            },
-        ]),
-        ..LOADING
+// 1,024 entries of 65,536 bytes, and 65,536 branches of 1,024; the worked stream's own branch is taken away.
+const LISTS: &[Case<'static>] = &[
+    Case {
+        name: "a directory",
+        setting: Setting {
+            input: Some(&[
+                Piece::Text(COMMIT),
+                Piece::Rows {
+                    count: 1_024,
+                    before: b"M 100644 inline ",
+                    fill: 65_502,
+                    after: b"\ndata 0\n",
+                },
+            ]),
+            ..LOADING
+        },
+        runs: &[INIT, LOAD, CHECK],
+        statuses: &[0, 0, 0],
+        printed: b"made\nhttps://e.org/p\t1\tfull\tswh:1:snp:2349598191fc0dbdfabec418db2fdd6b1a010fe4\nobjects 4 closed 4 visits 1\n",
+        leaves: None,
     },
-    runs: &[INIT, LOAD, CHECK],
-    statuses: &[0, 0, 0],
-    printed: b"made\nhttps://e.org/p\t1\tfull\tswh:1:snp:2349598191fc0dbdfabec418db2fdd6b1a010fe4\nobjects 4 closed 4 visits 1\n",
-};
-
-const TOO_LONG_DIRECTORY: Case<'static> = Case {
-    setting: Setting {
-        input: Some(&[
-            Piece::Text(COMMIT),
-            Piece::Rows {
-                count: 1_024,
-                before: b"M 100644 inline ",
-                fill: 65_502,
-                after: b"\ndata 0\n",
-            },
-            Piece::Text(b"M 100644 inline y\ndata 0\n"),
-        ]),
-        ..LOADING
+    Case {
+        name: "a directory with one entry more",
+        setting: Setting {
+            input: Some(&[
+                Piece::Text(COMMIT),
+                Piece::Rows {
+                    count: 1_024,
+                    before: b"M 100644 inline ",
+                    fill: 65_502,
+                    after: b"\ndata 0\n",
+                },
+                Piece::Text(b"M 100644 inline y\ndata 0\n"),
+            ]),
+            ..LOADING
+        },
+        runs: &[INIT, LOAD],
+        statuses: &[0, 1],
+        printed: b"made\nhttps://e.org/p\t1\tfailed\tlimit body\n",
+        leaves: None,
     },
-    runs: &[INIT, LOAD],
-    statuses: &[0, 1],
-    printed: b"made\nhttps://e.org/p\t1\tfailed\tlimit body\n",
-};
+    Case {
+        name: "a snapshot",
+        setting: Setting {
+            input: Some(&[
+                Piece::Text(STREAM),
+                Piece::Text(b"reset refs/heads/main\n\n"),
+                Piece::Rows {
+                    count: 65_536,
+                    before: b"reset ",
+                    fill: 985,
+                    after: b"\nfrom :2\n",
+                },
+            ]),
+            ..LOADING
+        },
+        runs: &[INIT, LOAD, CHECK],
+        statuses: &[0, 0, 0],
+        printed: b"made\nhttps://e.org/p\t1\tfull\tswh:1:snp:fef7d23ed553afaeeaf7915c44ef8aa13891df7f\nobjects 4 closed 4 visits 1\n",
+        leaves: None,
+    },
+    Case {
+        name: "a snapshot with one byte more",
+        setting: Setting {
+            input: Some(&[
+                Piece::Text(STREAM),
+                Piece::Text(b"reset refs/heads/main\n\n"),
+                Piece::Rows {
+                    count: 65_535,
+                    before: b"reset ",
+                    fill: 985,
+                    after: b"\nfrom :2\n",
+                },
+                Piece::Text(b"reset "),
+                Piece::Fill(992),
+                Piece::Text(b"\nfrom :2\n"),
+            ]),
+            ..LOADING
+        },
+        runs: &[INIT, LOAD],
+        statuses: &[0, 1],
+        printed: b"made\nhttps://e.org/p\t1\tfailed\tlimit body\n",
+        leaves: None,
+    },
+];
 
 #[test]
-fn a_directory(rt: HostRuntime) -> Result<(), Fail> {
-    assert!(rt; is_met_plainly(rt.alloc(), &LONG_DIRECTORY)?);
-    assert!(rt; is_met_plainly(rt.alloc(), &TOO_LONG_DIRECTORY)?);
-    Ok(())
-}
-
-// 65,536 branches of 1,024 bytes each, the names with 991 of them. The worked stream's branch is taken away.
-const LONG_SNAPSHOT: Case<'static> = Case {
-    setting: Setting {
-        input: Some(&[
-            Piece::Text(STREAM),
-            Piece::Text(b"reset refs/heads/main\n\n"),
-            Piece::Rows {
-                count: 65_536,
-                before: b"reset ",
-                fill: 985,
-                after: b"\nfrom :2\n",
-            },
-        ]),
-        ..LOADING
-    },
-    runs: &[INIT, LOAD, CHECK],
-    statuses: &[0, 0, 0],
-    printed: b"made\nhttps://e.org/p\t1\tfull\tswh:1:snp:fef7d23ed553afaeeaf7915c44ef8aa13891df7f\nobjects 4 closed 4 visits 1\n",
-};
-
-const TOO_LONG_SNAPSHOT: Case<'static> = Case {
-    setting: Setting {
-        input: Some(&[
-            Piece::Text(STREAM),
-            Piece::Text(b"reset refs/heads/main\n\n"),
-            Piece::Rows {
-                count: 65_535,
-                before: b"reset ",
-                fill: 985,
-                after: b"\nfrom :2\n",
-            },
-            Piece::Text(b"reset "),
-            Piece::Fill(992),
-            Piece::Text(b"\nfrom :2\n"),
-        ]),
-        ..LOADING
-    },
-    runs: &[INIT, LOAD],
-    statuses: &[0, 1],
-    printed: b"made\nhttps://e.org/p\t1\tfailed\tlimit body\n",
-};
-
-#[test]
-fn a_snapshot(rt: HostRuntime) -> Result<(), Fail> {
-    assert!(rt; is_met_plainly(rt.alloc(), &LONG_SNAPSHOT)?);
-    assert!(rt; is_met_plainly(rt.alloc(), &TOO_LONG_SNAPSHOT)?);
-    Ok(())
+fn lists_up_to_the_limit(rt: HostRuntime) -> Result<(), Fail> {
+    all_met_plainly(rt.alloc(), LISTS)
 }

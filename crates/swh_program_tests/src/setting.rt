@@ -47,8 +47,11 @@ pub const BARE: Setting<'static> = Setting {
 /// A row of a table: the words of runs on a setting, one run after another; their statuses, and all that they print.
 #[derive(Clone, Copy)]
 pub struct Case<'a> {
+    pub name: &'a str,
     pub setting: Setting<'a>,
     pub runs: &'a [&'a [&'a str]],
     pub statuses: &'a [u8],
     pub printed: &'a [u8],
+    /// The ledger and the store then, where they are compared.
+    pub leaves: Option<(&'a [u8], &'a [u8])>,
 }

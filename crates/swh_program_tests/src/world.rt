@@ -1,7 +1,9 @@
-// A world in memory for the program to run in.
+// A world in memory for the program to run in. What can fail borrows what others own: a `?` where much is owned is dear
+// to prove.
 use crate::pieces::{Piece, spelled};
 use crate::setting::{Case, Setting};
 use std::alloc::{AllocError, Global};
+use std::test::Fail;
 use swh_base::{Namer, Sha1Namer};
 use swh_memory::{
     Input, MemoryClock, MemoryDepot, MemoryDisk, MemoryDoors, MemoryOrigins, MemorySink,
@@ -26,28 +28,30 @@ const ROOM: Room = Room {
     calls: 4_096,
 };
 
-/// What runs leave.
-#[derive(Drop)]
-pub struct Ended {
-    /// The status of each run.
-    pub statuses: Vec<u8>,
-    /// All that they printed.
-    pub printed: Vec<u8>,
-    pub ledger: Vec<u8>,
-    pub store: Vec<u8>,
-    /// How often the depot and its disks have failed.
-    pub faults: u64,
-}
-
 fn failing(alloc: Global, number: Option<u64>) -> Result<Vec<u64>, AllocError> {
-    let mut numbers = Vec::new(alloc);
-    if let Some(number) = number {
-        numbers.push(number)?;
+    match number {
+        Some(number) => vec![in alloc; number; 1],
+        None => Ok(Vec::new(alloc)),
     }
-    Ok(numbers)
 }
 
-// Adds the file at a path, where there is one. Its bytes come in pieces of 7, those of a long file in longer ones.
+// The file of these pieces at a path. Its bytes come in pieces of 7, those of a long file in longer ones.
+fn input(
+    alloc: Global,
+    path: &str,
+    pieces: &[Piece<'_>],
+    call_fails: Option<u64>,
+) -> Result<Input, AllocError> {
+    let bytes = spelled(alloc, pieces)?;
+    Ok(Input {
+        piece: if bytes.len() < 4_096 { 7 } else { 65_536 },
+        bytes,
+        path: String::from_str(alloc, path)?,
+        failing: failing(alloc, call_fails)?,
+    })
+}
+
+// Adds the file at a path, where there is one.
 fn add_file(
     alloc: Global,
     files: &mut Vec<Input>,
@@ -55,61 +59,83 @@ fn add_file(
     pieces: Option<&[Piece<'_>]>,
     call_fails: Option<u64>,
 ) -> Result<(), AllocError> {
-    let Some(pieces) = pieces else {
-        return Ok(());
-    };
-    let bytes = spelled(alloc, pieces)?;
-    let input = Input {
-        path: String::from_str(alloc, path)?,
-        piece: if bytes.len() < 4_096 { 7 } else { 65_536 },
-        bytes,
-        failing: failing(alloc, call_fails)?,
-    };
-    files.push(input)?;
+    if let Some(pieces) = pieces {
+        files.push(input(alloc, path, pieces, call_fails)?)?;
+    }
     Ok(())
 }
 
-fn desk(alloc: Global, setting: &Setting<'_>) -> Result<MemoryOrigins, AllocError> {
-    let mut files = Vec::new(alloc);
-    add_file(alloc, &mut files, "J", setting.jobs, setting.jobs_fail)?;
-    Ok(MemoryOrigins::new(alloc, files, failing(alloc, setting.desk_fails)?))
-}
-
-fn origins(alloc: Global, setting: &Setting<'_>) -> Result<MemoryOrigins, AllocError> {
-    let mut files = Vec::new(alloc);
-    add_file(alloc, &mut files, "e", setting.input, setting.input_fails)?;
-    add_file(alloc, &mut files, "f", setting.other_input, None)?;
-    Ok(MemoryOrigins::new(alloc, files, failing(alloc, setting.origins_fail)?))
-}
-
-fn depot(alloc: Global, setting: &Setting<'_>) -> Result<MemoryDepot, AllocError> {
-    let mut depot = MemoryDepot::new(alloc, ROOM, failing(alloc, setting.depot_fails)?);
-    if let Some(bytes) = setting.ledger {
-        let ledger = failing(alloc, setting.ledger_fails)?;
-        depot.lay("A", 0, MemoryDisk::new(alloc, bytes, ROOM, ledger)?)?;
-        let store = failing(alloc, setting.store_fails)?;
-        depot.lay("A", 1, MemoryDisk::new(alloc, setting.store, ROOM, store)?)?;
-    }
-    Ok(depot)
-}
-
-fn world<N: Namer + Drop, P: Depot + Drop>(
+fn add_inputs(
     alloc: Global,
-    namer: N,
-    depot: P,
+    files: &mut Vec<Input>,
     setting: &Setting<'_>,
-) -> Result<World<N, P>, AllocError> {
-    Ok(Outside {
+) -> Result<(), AllocError> {
+    add_file(alloc, files, "e", setting.input, setting.input_fails)?;
+    add_file(alloc, files, "f", setting.other_input, None)
+}
+
+// The parts of a world that take memory, its files aside.
+#[derive(Drop)]
+struct Parts {
+    jobs: Vec<Input>,
+    jobs_failing: Vec<u64>,
+    inputs: Vec<Input>,
+    inputs_failing: Vec<u64>,
+    sink: MemorySink,
+    clock_failing: Vec<u64>,
+}
+
+fn empty_parts(alloc: Global, setting: &Setting<'_>) -> Result<Parts, AllocError> {
+    Ok(Parts {
+        jobs: Vec::new(alloc),
+        jobs_failing: failing(alloc, setting.desk_fails)?,
+        inputs: Vec::new(alloc),
+        inputs_failing: failing(alloc, setting.origins_fail)?,
+        sink: MemorySink::new(alloc, 65_536, failing(alloc, setting.sink_fails)?)?,
+        clock_failing: failing(alloc, setting.clock_fails)?,
+    })
+}
+
+fn fill_parts(alloc: Global, parts: &mut Parts, setting: &Setting<'_>) -> Result<(), AllocError> {
+    add_file(alloc, &mut parts.jobs, "J", setting.jobs, setting.jobs_fail)?;
+    add_inputs(alloc, &mut parts.inputs, setting)
+}
+
+fn world_of<N: Namer, P: Depot>(alloc: Global, namer: N, depot: P, parts: Parts) -> World<N, P> {
+    Outside {
         namer,
         depot,
-        desk: desk(alloc, setting)?,
-        origins: origins(alloc, setting)?,
+        desk: MemoryOrigins::new(alloc, parts.jobs, parts.jobs_failing),
+        origins: MemoryOrigins::new(alloc, parts.inputs, parts.inputs_failing),
         yard: MemoryYard::new(alloc),
-        sink: MemorySink::new(alloc, 65_536, failing(alloc, setting.sink_fails)?)?,
-        clock: MemoryClock::new(1_000_000_000, failing(alloc, setting.clock_fails)?),
+        sink: parts.sink,
+        clock: MemoryClock::new(1_000_000_000, parts.clock_failing),
         doors: MemoryDoors::new(alloc),
         gate: OpenGate,
-    })
+    }
+}
+
+fn lay(
+    alloc: Global,
+    depot: &mut MemoryDepot,
+    file: u32,
+    bytes: &[u8],
+    call_fails: Option<u64>,
+) -> Result<(), AllocError> {
+    let disk = MemoryDisk::new(alloc, bytes, ROOM, failing(alloc, call_fails)?)?;
+    depot.lay("A", file, disk)
+}
+
+fn lay_files(
+    alloc: Global,
+    depot: &mut MemoryDepot,
+    setting: &Setting<'_>,
+) -> Result<(), AllocError> {
+    let Some(ledger) = setting.ledger else {
+        return Ok(());
+    };
+    lay(alloc, depot, 0, ledger, setting.ledger_fails)?;
+    lay(alloc, depot, 1, setting.store, setting.store_fails)
 }
 
 fn owned(alloc: Global, words: &[&str]) -> Result<Vec<String>, AllocError> {
@@ -120,30 +146,28 @@ fn owned(alloc: Global, words: &[&str]) -> Result<Vec<String>, AllocError> {
     Ok(owned)
 }
 
-fn run_all<N: Namer, P: Depot>(
+fn run_once<N: Namer, P: Depot>(
     alloc: Global,
     world: &mut World<N, P>,
-    runs: &[&[&str]],
-) -> Result<Vec<u8>, AllocError> {
-    let mut statuses = Vec::new(alloc);
-    for words in runs {
-        let words = owned(alloc, words)?;
-        statuses.push(run(&(), alloc, &words, world))?;
-    }
-    Ok(statuses)
+    words: &[&str],
+) -> Result<u8, AllocError> {
+    let words = owned(alloc, words)?;
+    Ok(run(&(), alloc, &words, world))
 }
 
-/// Runs the program on these words, one run after another, where the clock says 1000000000.
-pub fn play(alloc: Global, setting: &Setting<'_>, runs: &[&[&str]]) -> Result<Ended, AllocError> {
-    let mut world = world(alloc, Sha1Namer, depot(alloc, setting)?, setting)?;
-    let statuses = run_all(alloc, &mut world, runs)?;
-    Ok(Ended {
-        statuses,
-        printed: world.sink.bytes().to_vec(alloc)?,
-        ledger: world.depot.bytes("A", 0).to_vec(alloc)?,
-        store: world.depot.bytes("A", 1).to_vec(alloc)?,
-        faults: world.depot.faults(),
-    })
+// Says whether the runs of a row have its statuses, and print this.
+fn end_so<N: Namer, P: Depot>(
+    alloc: Global,
+    world: &mut World<N, P>,
+    case: &Case<'_>,
+    printed: &[u8],
+) -> Result<bool, AllocError> {
+    for (words, status) in case.runs.iter().zip(case.statuses) {
+        if run_once(alloc, world, words)? != *status {
+            return Ok(false);
+        }
+    }
+    Ok(case.runs.len() == case.statuses.len() && world.sink.bytes() == printed)
 }
 
 /// Says whether the runs of a row end as it says, with this namer and these files.
@@ -153,22 +177,48 @@ pub fn is_met_by<N: Namer + Drop, P: Depot + Drop>(
     depot: P,
     case: &Case<'_>,
 ) -> Result<bool, AllocError> {
-    let mut world = world(alloc, namer, depot, &case.setting)?;
-    let statuses = run_all(alloc, &mut world, case.runs)?;
-    Ok(statuses.as_slice() == case.statuses && world.sink.bytes() == case.printed)
+    let mut parts = empty_parts(alloc, &case.setting)?;
+    fill_parts(alloc, &mut parts, &case.setting)?;
+    let mut world = world_of(alloc, namer, depot, parts);
+    end_so(alloc, &mut world, case, case.printed)
+}
+
+// The depot of a setting, in which nothing stands yet.
+fn empty_depot(alloc: Global, setting: &Setting<'_>) -> Result<MemoryDepot, AllocError> {
+    Ok(MemoryDepot::new(alloc, ROOM, failing(alloc, setting.depot_fails)?))
+}
+
+// Says whether the files are as a row says.
+fn is_left(depot: &MemoryDepot, case: &Case<'_>) -> bool {
+    match case.leaves {
+        Some((ledger, store)) => depot.bytes("A", 0) == ledger && depot.bytes("A", 1) == store,
+        None => true,
+    }
+}
+
+/// Says whether the runs of a row end as it says, with the namer of the program and files in memory, but print this.
+pub fn is_met_printing(alloc: Global, case: &Case<'_>, printed: &[u8]) -> Result<bool, AllocError> {
+    let mut parts = empty_parts(alloc, &case.setting)?;
+    fill_parts(alloc, &mut parts, &case.setting)?;
+    let mut depot = empty_depot(alloc, &case.setting)?;
+    lay_files(alloc, &mut depot, &case.setting)?;
+    let mut world = world_of(alloc, Sha1Namer, depot, parts);
+    let ends = end_so(alloc, &mut world, case, printed);
+    let left = is_left(&world.depot, case);
+    ends.map(|ends| ends && left)
 }
 
 /// Says whether the runs of a row end as it says, with the namer of the program and files in memory.
 pub fn is_met(alloc: Global, case: &Case<'_>) -> Result<bool, AllocError> {
-    is_met_by(alloc, Sha1Namer, depot(alloc, &case.setting)?, case)
+    is_met_printing(alloc, case, case.printed)
 }
 
-/// The number, from 0, of the first row that is not met.
-pub fn first_unmet(alloc: Global, cases: &[Case<'_>]) -> Result<Option<usize>, AllocError> {
-    for (number, case) in cases.iter().enumerate() {
+/// Fails with the name of the first row that is not met.
+pub fn all_met(alloc: Global, cases: &[Case<'_>]) -> Result<(), Fail> {
+    for case in cases {
         if !is_met(alloc, case)? {
-            return Ok(Some(number));
+            return Err(Fail::new(case.name));
         }
     }
-    Ok(None)
+    Ok(())
 }
