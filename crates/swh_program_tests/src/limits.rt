@@ -350,7 +350,7 @@ const LISTS: &[Case<'static>] = &[
         },
         runs: &[INIT, LOAD, CHECK],
         statuses: &[0, 0, 0],
-        printed: b"made\nhttps://e.org/p\t1\tfull\tswh:1:snp:2349598191fc0dbdfabec418db2fdd6b1a010fe4\nobjects 4 closed 4 visits 1\n",
+        printed: b"made\nhttps://e.org/p\t1\tfull\tswh:1:snp:f1341cd4c7166b055366b87511d12f531bbe88e7\nobjects 4 closed 4 visits 1\n",
         leaves: None,
     },
     Case {
@@ -390,7 +390,7 @@ const LISTS: &[Case<'static>] = &[
         },
         runs: &[INIT, LOAD, CHECK],
         statuses: &[0, 0, 0],
-        printed: b"made\nhttps://e.org/p\t1\tfull\tswh:1:snp:fef7d23ed553afaeeaf7915c44ef8aa13891df7f\nobjects 4 closed 4 visits 1\n",
+        printed: b"made\nhttps://e.org/p\t1\tfull\tswh:1:snp:a196b0c8528c6d0b5774020aebfd9f880895f933\nobjects 4 closed 4 visits 1\n",
         leaves: None,
     },
     Case {

@@ -8,7 +8,7 @@ pub enum Piece<'a> {
     Text(&'a [u8]),
     /// So many times the byte `x`.
     Fill(usize),
-    /// For each number below `count`: what stands before it, so many times the byte `x`, the number in six digits, and
+    /// For each number below `count`: what stands before it, the number in six digits, so many times the byte `x`, and
     /// what stands after it.
     Rows {
         count: usize,
@@ -32,9 +32,9 @@ fn put_row(
 ) -> Result<(), AllocError> {
     let (number, before, count, after) = row;
     out.extend_from_slice(before)?;
-    fill(out, count)?;
     let digits = format!(in alloc; "{number:06}")?;
     out.extend_from_slice(digits.as_bytes())?;
+    fill(out, count)?;
     out.extend_from_slice(after)
 }
 

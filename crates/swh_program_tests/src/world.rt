@@ -24,7 +24,7 @@ type World<N, P> = Outside<
 >;
 
 const ROOM: Room = Room {
-    bytes: 65_536,
+    bytes: 2_097_152,
     calls: 4_096,
 };
 
