@@ -21,7 +21,7 @@ use Rattle.swh_fastread.specs.declared.items.Step.{Step}
 use Rattle.swh_fastread.specs.declared.items.Step.TheVariants.{Command, Promise, Nothing, End}
 use Rattle.swh_fastrows.specs.Explains.{Explains, Reads, Stops, line_refusal}
 use Rattle.swh_fastrows.specs.Held.{IsNext, EndsNext}
-use Rattle.swh_fastrows.specs.Outcome.{IsStreamWithin, IsLineFaultWithin, IsEndFaultWithin, IsFaultWithin, PassesFirst, Ended, Starts}
+use Rattle.swh_fastrows.specs.Outcome.{IsLineFaultWithin, IsEndFaultWithin, IsFaultWithin, PassesFirst, Ended, Starts}
 use Rattle.swh_fastrows.specs.Places.{Place, left, Took, position}
 use Rattle.swh_fastread.specs.Steps.{IsStreamBefore, Whole, Passed, FindsCommand, EndsHere, FindsStep}
 use Rattle.swh_fastrows.specs.Within.{LineFits, Fits}

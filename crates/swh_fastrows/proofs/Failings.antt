@@ -1,6 +1,5 @@
 -- What may be told of a stream.
-use Rattle.std.proofs.Common.{◌≡◌, ◌≢◌, ℕ, ◌+◌, ◌<◌, ◌≤◌, nat_lt, if◌then◌else◌, inl, inr, Bool, true, false, List, refl, sym, ap, ◌∙◌, subst, arith}
-use Rattle.swh_base.specs.Limits.{tag_limit}
+use Rattle.std.proofs.Common.{◌≢◌, ℕ, ◌+◌, nat_lt, if◌then◌else◌, inl, inr, Bool, true, false, List, refl, arith}
 use Rattle.swh_base.specs.declared.visit.Which.{Which}
 use Rattle.swh_base.specs.declared.visit.Which.TheVariants.{Body, Objects, Bytes, Store, Ledger, Stream, Line, Path, Ref, Refs}
 use Rattle.swh_fastlex.specs.declared.fault.DataFault.{DataFault}
@@ -11,7 +10,6 @@ use Rattle.swh_fastgrammar.specs.declared.fault.StreamWhy.TheVariants.{End as En
 use Rattle.swh_fastgrammar.specs.Fault.{is_left_out}
 use Rattle.swh_fastlines.specs.Limit.{PassesWords, PassesRefs}
 use Rattle.swh_fastlines.proofs.WordLimits.{least_limit}
-use Rattle.swh_fastrows.specs.declared.fail.ReadFail.{ReadFail}
 use Rattle.swh_fastrows.specs.declared.fail.ReadFail.TheVariants.{BadStream, Limit as Limits}
 use Rattle.swh_fastrows.specs.declared.row_source.TheConstants.{STREAM_LIMIT}
 use Rattle.swh_fastrows.specs.Explains.{cut_fail, data_fail, lines_fail, line_refusal}

@@ -1,16 +1,15 @@
 -- What the place where bytes end says of them in the words of the grammar.
-use Rattle.std.proofs.Common.{◌≡◌, ◌⊎◌, ℕ, ◌+◌, ◌<◌, ◌≤◌, true, List, [], ◌∷◌, ◌++◌, length, drop, codes, refl, sym, ap, ◌∙◌, arith, append_assoc, subst, All, IsTrue, IsUtf8, inl, inr}
-use Rattle.std.proofs.lemmas.List.{append-nil}
+use Rattle.std.proofs.Common.{◌≡◌, ◌⊎◌, ℕ, ◌+◌, true, List, [], ◌∷◌, ◌++◌, length, drop, codes, refl, sym, ap, ◌∙◌, arith, append_assoc, subst, All, IsTrue, IsUtf8, inl, inr}
 use Rattle.std.proofs.lemmas.List.Elements.{All-nil, All-cons}
 use Rattle.std.proofs.lemmas.Str.{IsUtf8-from_ascii}
 use Rattle.std.proofs.lemmas.Str.Ascii.{IsAscii-cons, IsAscii-nil}
-use Rattle.httparse.specs.Grammar.{is_token_byte, is_uri_byte, AllPass, IsToken, LineEnd, crlf, lf, print_end, print_blank, RequestHead, print_request, ReadsRequest, HasNoRequest, NeverHasRequest, MayBecomeRequest, EndsInTarget}
+use Rattle.httparse.specs.Grammar.{is_token_byte, is_uri_byte, AllPass, IsToken, crlf, print_blank, RequestHead, ReadsRequest, HasNoRequest, NeverHasRequest, MayBecomeRequest, EndsInTarget}
 use Rattle.httparse.proofs.GrammarLemmas.{cons-append}
 use Rattle.swh_http.specs.declared.place.Place.{Place}
 use Rattle.swh_http.specs.declared.place.Place.TheVariants.{Blank, BlankEnd, Method, Space, Target, Version, Minor, LineEnd as AtLineEnd, Feed, Line, LastFeed, Name, Value, Whole, Over, Broken}
-use Rattle.swh_http.specs.Place.{advance, advance_all, place_of, MayContinue}
-use Rattle.swh_http.proofs.Follow.{Leads, advance_all-append, broken, one-on, blank-leads, method-leads, target-starts, target-stays, pass-head, pass-tail, place_of-head, place_of-more}
-use Rattle.swh_http.proofs.Stand.{EndsLine, EndsLineEnd, EndsMinor, EndsVersion, HasTarget, IsWhole, Stands, stands, line-here, end-feed, feed-line, minor-of, name-colon, value-feed, whole-of, token-push, blank-push}
+use Rattle.swh_http.specs.Place.{advance_all, place_of, MayContinue}
+use Rattle.swh_http.proofs.Follow.{advance_all-append, broken, one-on, blank-leads, method-leads, target-starts, target-stays, pass-head, pass-tail, place_of-head, place_of-more}
+use Rattle.swh_http.proofs.Stand.{EndsLineEnd, EndsMinor, EndsVersion, HasTarget, IsWhole, Stands, stands, line-here, end-feed, feed-line, minor-of, name-colon, value-feed, whole-of, blank-push}
 
 -- ---- a head is whole, and no other place has one
 

@@ -1,6 +1,6 @@
 -- The machine follows the grammar: the bytes of a head lead to its end, whatever they are.
-use Rattle.std.proofs.Common.{◌≡◌, ◌≢◌, ℕ, ◌+◌, ◌<◌, ◌≤◌, zero, suc, Bool, true, false, List, [], ◌∷◌, ◌++◌, length, drop, codes, refl, sym, ap, ◌∙◌, arith, append_assoc, IsTrue, IsUtf8, subst, All}
-use Rattle.std.proofs.lemmas.Bool.{eqb-true, ne_eqb}
+use Rattle.std.proofs.Common.{◌≡◌, ℕ, ◌+◌, ◌<◌, ◌≤◌, zero, suc, Bool, true, false, List, [], ◌∷◌, ◌++◌, length, drop, refl, sym, ap, ◌∙◌, arith, append_assoc, IsTrue, IsUtf8, subst, All}
+use Rattle.std.proofs.lemmas.Bool.{ne_eqb}
 use Rattle.std.proofs.lemmas.List.{append-nil}
 use Rattle.std.proofs.lemmas.List.Elements.{All-head, All-tail}
 use Rattle.std.proofs.lemmas.Str.{is_utf8-from_IsUtf8}
@@ -10,8 +10,8 @@ use Rattle.std.proofs.Math.Seq.{append_snoc, drop-append_seam}
 use Rattle.httparse.specs.Grammar.{is_token_byte, is_uri_byte, is_value_byte, AllPass, IsToken, LineEnd, crlf, lf, print_end, print_blank, print_version, Field, IsField, print_field, print_section, RequestHead, IsRequestHead, print_request}
 use Rattle.httparse.proofs.GrammarLemmas.{print_request-append}
 use Rattle.swh_http.specs.declared.place.Place.{Place}
-use Rattle.swh_http.specs.declared.place.Place.TheVariants.{Blank, BlankEnd, Method, Space, Target, Version, Minor, LineEnd as AtLineEnd, Feed, Line, LastFeed, Name, Value, Whole, Over, Broken}
-use Rattle.swh_http.specs.Place.{advance, advance_all, place_of, version_byte}
+use Rattle.swh_http.specs.declared.place.Place.TheVariants.{Blank, Method, Space, Target, Version, Minor, LineEnd as AtLineEnd, Line, Name, Value, Whole, Over, Broken}
+use Rattle.swh_http.specs.Place.{advance, advance_all, place_of}
 
 pub advance_all-append : (before : List ℕ) (p : Place) (xs ys : List ℕ)
     → advance_all before p (xs ++ ys) ≡ advance_all (before ++ xs) (advance_all before p xs) ys

@@ -1,5 +1,5 @@
 -- One turn of what waits, and many.
-use Rattle.std.proofs.Common.{◌≡◌, ◌≢◌, ℕ, ◌+◌, ◌<◌, ◌≤◌, Bool, true, false, List, [], ◌∷◌, ◌++◌, length, take, drop, get_or, refl, sym, ap, ◌∙◌, arith, subst, append_assoc, Option, Some, None, inl, inr}
+use Rattle.std.proofs.Common.{◌≡◌, ℕ, ◌+◌, ◌<◌, ◌≤◌, Bool, true, false, List, [], ◌∷◌, ◌++◌, length, take, drop, get_or, refl, sym, ap, ◌∙◌, arith, subst, append_assoc, Option, Some, None, inl, inr}
 use Rattle.std.specs.Prelude.{MatchOption, if◌then◌else◌, ◌==◌, ◌||◌, nat_lt}
 use Rattle.std.specs.Str.{is_utf8}
 use Rattle.std.proofs.lemmas.List.{append-nil, length-append, take-append-drop, length-drop, take_more, drop-drop}
@@ -13,16 +13,14 @@ use Rattle.swh_http.specs.declared.ask.Ask.TheVariants.{Request as Asked, Refuse
 use Rattle.swh_http.specs.declared.place.Place.{Place}
 use Rattle.swh_http.specs.declared.place.Place.TheVariants.{Blank, BlankEnd, Method, Space, Target, Version, Minor, LineEnd as AtLineEnd, Feed, Line, LastFeed, Name, Value, Whole, Over, Broken}
 use Rattle.swh_http.specs.Place.{version_byte, advance, advance_all, place_of, MayContinue, StartsWithin}
-use Rattle.swh_http.specs.Wire.{head_limit, head_fields, BeginsRequestHead, BeginsRequest, BeginsRefusal, BeginsSo, BeginsNoHead, IsUnfinished, AwaitsBytes, AreAsks, held_length}
+use Rattle.swh_http.specs.Wire.{head_limit, BeginsRequestHead, BeginsRequest, BeginsRefusal, IsUnfinished, AwaitsBytes, AreAsks, held_length}
 use Rattle.swh_http.specs.declared.state.State.{State}
 use Rattle.swh_http.specs.declared.state.State.TheVariants.{Head, Body, Closed}
-use Rattle.swh_http.specs.declared.head.Framed.{Framed}
-use Rattle.swh_http.specs.Field.{AreTakenFields}
-use Rattle.swh_http.specs.Framed.{Frames, IsRefusedHead}
+use Rattle.swh_http.specs.Framed.{IsRefusedHead}
 use Rattle.swh_http.specs.Turn.{SoFar, GoesAt, MayTakeMore, IsTurn, StaysClosed, held_of, Turns, asks_with}
 use Rattle.swh_http.specs.declared.state.Turn.{Turn}
 use Rattle.swh_http.proofs.Follow.{advance_all-append}
-use Rattle.swh_http.proofs.Stand.{HasTarget, Stands, stands}
+use Rattle.swh_http.proofs.Stand.{Stands, stands}
 use Rattle.swh_http.proofs.Ends.{no-request, never-request, no-target, may-become}
 
 -- ---- one byte of a head

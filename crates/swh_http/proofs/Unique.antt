@@ -1,10 +1,10 @@
 -- The bytes of a connection have one answer at most: no two cases of a request, a refusal and what waits hold of the
 -- same bytes, and each case has one value.
-use Rattle.std.proofs.Common.{◌≡◌, ◌⊎◌, ℕ, ◌+◌, ◌<◌, ◌≤◌, List, [], ◌∷◌, ◌++◌, length, take, drop, refl, sym, ap, ◌∙◌, arith, subst, append_assoc, Option, Some, None, inl, inr}
-use Rattle.std.proofs.lemmas.List.{append-nil, append_cancel_left, length-append, take-append-drop, take-append-le}
+use Rattle.std.proofs.Common.{◌≡◌, ℕ, ◌+◌, ◌≤◌, List, [], ◌∷◌, ◌++◌, length, take, drop, refl, sym, ap, ◌∙◌, arith, subst, Option, inl, inr}
+use Rattle.std.proofs.lemmas.List.{append_cancel_left, length-append, take-append-drop, take-append-le}
 use Rattle.std.proofs.lemmas.List.Elements.{All-head}
 use Rattle.std.proofs.Math.Seq.{take-append_seam}
-use Rattle.httparse.specs.Grammar.{RequestHead, print_request, print_blank, ReadsRequest, HasNoRequest, NeverHasRequest, MayBecomeRequest, EndsInTarget}
+use Rattle.httparse.specs.Grammar.{RequestHead, print_request, ReadsRequest}
 use Rattle.httparse.proofs.GrammarLemmas.{request_unique}
 use Rattle.swh_base.specs.declared.request.Request.{Request}
 use Rattle.swh_http.specs.declared.ask.Ask.{Ask}
@@ -12,7 +12,7 @@ use Rattle.swh_http.specs.declared.ask.Ask.TheVariants.{Request as Asked, Refuse
 use Rattle.swh_http.specs.declared.place.Place.{Place}
 use Rattle.swh_http.specs.declared.place.Place.TheVariants.{Blank, BlankEnd, Method, Space, Target, Version, Minor, LineEnd as AtLineEnd, Feed, Line, LastFeed, Name, Value, Whole, Over, Broken}
 use Rattle.swh_base.specs.Text.{IsNumber}
-use Rattle.swh_http.specs.Field.{Pair, AreLength, AreTakenFields, IsRefusedAs, IsMalformed, HasMany, HasTransferEncoding, IsLong, content_lengths, keeps}
+use Rattle.swh_http.specs.Field.{Pair, AreLength, AreTakenFields, IsRefusedAs, content_lengths, keeps}
 use Rattle.swh_http.specs.Place.{advance_all, place_of, MayContinue}
 use Rattle.swh_http.specs.Wire.{head_limit, head_fields, BeginsRequestHead, BeginsRequest, BeginsRefusal, BeginsSo, BeginsNoHead, IsUnfinished, AwaitsBytes, AreAsks}
 use Rattle.swh_http.proofs.Ends.{may-become, target-goes-on, whole-head}

@@ -1,5 +1,5 @@
 -- The bytes of a reply (RFC 9112, section 4; RFC 9110, sections 8.3 and 8.6).
-use Rattle.std.specs.Prelude.{◌≢◌, ◌≤◌, ◌<◌, ℕ, Bool, List, [], ◌∷◌, ◌++◌, length, codes, decimal, unwrap_or, if◌then◌else◌}
+use Rattle.std.specs.Prelude.{◌≢◌, ◌≤◌, ◌<◌, ℕ, Bool, List, [], ◌++◌, length, codes, decimal, unwrap_or, if◌then◌else◌}
 use Rattle.http.specs.StatusCode.{reason_phrase}
 use Rattle.swh_base.specs.declared.request.Reply.{Reply}
 

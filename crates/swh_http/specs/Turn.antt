@@ -1,5 +1,5 @@
 -- What a session holds, and what it does with more bytes.
-use Rattle.std.specs.Prelude.{◌≡◌, ℕ, ◌<◌, ◌≤◌, List, [], ◌∷◌, ◌++◌, length, take, drop, Option, Some, None, MatchOption, Vec}
+use Rattle.std.specs.Prelude.{◌≡◌, ℕ, ◌<◌, ◌≤◌, List, [], ◌∷◌, ◌++◌, length, take, drop, Option, Some, None}
 use Rattle.swh_http.specs.declared.ask.Ask.{Ask}
 use Rattle.swh_http.specs.declared.ask.Ask.TheVariants.{Request as Asked, Refused}
 use Rattle.swh_http.specs.declared.place.Place.{Place}

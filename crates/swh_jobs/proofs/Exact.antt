@@ -1,12 +1,11 @@
 -- Bytes spell one list of jobs, or have one first fault.
-use Rattle.std.proofs.Common.{◌≡◌, ◌≢◌, inl, inr, ⊎_elim, ℕ, ◌+◌, ◌<◌, List, [], ◌∷◌, ◌++◌, length, refl, sym, ap, ◌∙◌, subst, append_assoc, arith}
+use Rattle.std.proofs.Common.{◌≡◌, ◌≢◌, inl, inr, ⊎_elim, ℕ, ◌+◌, List, [], ◌∷◌, ◌++◌, length, refl, sym, ap, ◌∙◌, subst, append_assoc, arith}
 use Rattle.std.proofs.lemmas.List.{append-nil}
 use Rattle.std.specs.List.{AllByRecursion}
 use Rattle.swh_base.proofs.Splits.{not_nil}
 use Rattle.swh_jobs.specs.Answers.{ExplainsJobs, SpellsNone}
 use Rattle.swh_jobs.specs.Job.{Job, IsJob, line_text}
-use Rattle.swh_jobs.specs.JobFile.{AreJobs, BeginsJob, LineBreaks, EndsLine, IsJobFileFault, IsJobFile, lines_text, most_jobs}
-use Rattle.swh_jobs.specs.Reading.{ExplainsNext, IsLeft, MayFollowJobs}
+use Rattle.swh_jobs.specs.JobFile.{AreJobs, LineBreaks, EndsLine, IsJobFileFault, IsJobFile, lines_text}
 use Rattle.swh_jobs.specs.declared.fault.JobWhy.{JobWhy}
 use Rattle.swh_jobs.specs.declared.fault.JobWhy.TheVariants.{Form, Origin, Limit}
 use Rattle.swh_jobs.specs.declared.fault.JobsFault.{JobsFault}

@@ -1,11 +1,10 @@
 -- One job more: what lets it follow.
-use Rattle.std.proofs.Common.{◌≡◌, ◌≢◌, inl, inr, ⊎_elim, ℕ, zero, suc, ◌+◌, ◌<◌, ◌≤◌, List, [], ◌∷◌, ◌++◌, length, map, Contains, refl, sym, ap, ◌∙◌, subst, arith, length-append}
+use Rattle.std.proofs.Common.{◌≡◌, ⊎_elim, ℕ, zero, suc, ◌+◌, List, [], ◌∷◌, ◌++◌, length, map, Contains, sym, subst, arith, length-append}
 use Rattle.std.proofs.lemmas.List.{map-append, map_push}
 use Rattle.std.proofs.lemmas.List.Elements.{Contains-push_cases}
-use Rattle.std.specs.List.{AllByRecursion}
 use Rattle.swh_base.proofs.DirectoryLemmas.{all-at, all-push}
-use Rattle.swh_jobs.specs.Job.{Job, IsJob, line_text}
-use Rattle.swh_jobs.specs.JobFile.{AreDistinct, AreJobs, BeginsJob, LineBreaks, most_jobs, origins}
+use Rattle.swh_jobs.specs.Job.{Job, IsJob}
+use Rattle.swh_jobs.specs.JobFile.{AreDistinct, AreJobs, BeginsJob, LineBreaks, origins}
 use Rattle.swh_jobs.specs.Reading.{MayFollowJobs}
 use Rattle.swh_jobs.specs.declared.fault.JobWhy.{JobWhy}
 use Rattle.swh_jobs.specs.declared.fault.JobWhy.TheVariants.{Form, Origin, Limit}

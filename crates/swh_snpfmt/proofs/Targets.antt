@@ -1,5 +1,5 @@
 -- Which targets a word can stand for.
-use Rattle.std.proofs.Common.{◌≡◌, ◌≢◌, ℕ, List, [], get_or, ◌∙◌}
+use Rattle.std.proofs.Common.{◌≡◌, ℕ, List, get_or}
 use Rattle.swh_base.specs.Snapshot.{BranchTarget, IsTarget, target_word, target_bytes}
 
 -- Of what a word and bytes stand for there is no target.

@@ -1,5 +1,5 @@
-use Rattle.std.proofs.Common.{◌≡◌, ◌+◌, ◌++◌, ℕ, ◌-◌, List, [], ap, arith, zero, suc, refl, append_assoc, append-nil, ◌∙◌, sym}
-use Rattle.swh_gen.specs.Stream.{state_after, commits_from, drawn_commit, commit_text, job_text}
+use Rattle.std.proofs.Common.{◌≡◌, ◌+◌, ◌++◌, ℕ, ◌-◌, [], arith, suc, refl, append_assoc, append-nil}
+use Rattle.swh_gen.specs.Stream.{state_after, commits_from, drawn_commit}
 use Rattle.swh_gen.proofs.job.Goals as goal
 
 -- the commits that are left, the first of them written out

@@ -1,4 +1,4 @@
-use Rattle.std.proofs.Common.{◌≡◌, ◌+◌, ◌++◌, ℕ, List, length, decimal, append_assoc, ◌∙◌, ap}
+use Rattle.std.proofs.Common.{◌≡◌, ◌+◌, ◌++◌, ℕ, List, decimal, append_assoc, ◌∙◌}
 use Rattle.swh_gen.specs.Stream.{data_text}
 use Rattle.swh_gen.proofs.push_data.Goals as goal
 

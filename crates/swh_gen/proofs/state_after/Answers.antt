@@ -1,5 +1,4 @@
-use Rattle.std.proofs.Common.{arith, rules}
-use Rattle.std.proofs.lemmas.Grind.{common_steps}
+use Rattle.std.proofs.Common.{arith}
 use Rattle.std.proofs.Math.Nat.{mod-add-mod}
 use Rattle.swh_gen.specs.Stream.{state_after}
 use Rattle.swh_gen.proofs.state_after.Goals as goal

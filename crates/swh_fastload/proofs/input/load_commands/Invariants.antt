@@ -1,4 +1,4 @@
-use Rattle.std.proofs.Common.{◌≡◌, ◌≤◌, ◌^◌, ◌-◌}
+use Rattle.std.proofs.Common.{◌≡◌, ◌^◌, ◌-◌}
 use Rattle.swh_fastrows.specs.Places.{left, position}
 use Rattle.swh_fastread.specs.declared.reader.Ending.TheVariants.{Open}
 use Rattle.swh_fastload.specs.Reading.{HasGiven, HasCome}

@@ -1,5 +1,4 @@
-use Rattle.std.proofs.Common.{◌≡◌, ◌≤◌, arith, length, []}
-use Rattle.httparse.specs.Outcome.{IfComplete, IsCompleteAnd}
+use Rattle.std.proofs.Common.{◌≤◌, arith, length, []}
 use Rattle.httparse.specs.Spans.{IsRequestAt, IsRequestWithin}
 use Rattle.swh_http.proofs.Heads.{few-fields, within-more}
 use Rattle.swh_http.proofs.head.frame.Goals as goal

@@ -1,4 +1,4 @@
-use Rattle.std.proofs.Common.{◌≡◌, subst, List}
+use Rattle.std.proofs.Common.{subst, List}
 use Rattle.swh_http.specs.Field.{Pair, IsRefusedAs}
 use Rattle.swh_http.proofs.head.frame_of.Goals as goal
 

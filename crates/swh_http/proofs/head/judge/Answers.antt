@@ -1,9 +1,9 @@
-use Rattle.std.proofs.Common.{◌≡◌, ℕ, ◌<◌, ◌≤◌, List, [], length, map, refl, sym, ap, ◌∙◌, arith, subst, inl, inr}
+use Rattle.std.proofs.Common.{ℕ, List, length, map, refl, sym, ap, ◌∙◌, arith, subst, inl, inr}
 use Rattle.std.specs.Borrow.{Bor}
 use Rattle.std.proofs.lemmas.List.{length-map}
 use Rattle.std.proofs.lemmas.Bool.{eqb-true}
 use Rattle.httparse.specs.Spans.{header_bytes}
-use Rattle.swh_http.specs.Field.{AreLength, content_lengths, transfer_codings}
+use Rattle.swh_http.specs.Field.{AreLength}
 use Rattle.swh_http.proofs.Heads.{none-left, no-items}
 use Rattle.swh_http.proofs.head.judge.Goals as goal
 

@@ -1,9 +1,7 @@
-use Rattle.std.proofs.Common.{◌≡◌, ℕ, List, ◌∷◌, ◌++◌, [], ap, sym, ◌∙◌, arith, subst, get_or, length}
+use Rattle.std.proofs.Common.{ℕ, List, ◌∷◌, [], ap, sym, ◌∙◌, arith, subst, get_or, length}
 use Rattle.std.proofs.lemmas.List.{length-append}
-use Rattle.swh_http.specs.declared.place.Place.{Place}
 use Rattle.swh_http.specs.Place.{place_of}
 use Rattle.swh_http.specs.Turn.{GoesAt}
-use Rattle.swh_http.specs.Framed.{IsWholeHead}
 use Rattle.swh_http.proofs.Ends.{whole-head}
 use Rattle.swh_http.proofs.Turns.{goes-more, held-more, refused-broken, refused-long}
 use Rattle.swh_http.proofs.state.read_head.Goals as goal

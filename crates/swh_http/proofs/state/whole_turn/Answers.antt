@@ -1,4 +1,4 @@
-use Rattle.std.proofs.Common.{◌≡◌, ℕ, List, subst, sym, refl}
+use Rattle.std.proofs.Common.{ℕ, List, subst, refl}
 use Rattle.swh_http.specs.Framed.{IsRefusedHead}
 use Rattle.swh_http.proofs.Turns.{no-body, refused-head, turn-after}
 use Rattle.swh_http.proofs.state.whole_turn.Goals as goal

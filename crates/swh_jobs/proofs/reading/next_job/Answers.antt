@@ -1,6 +1,6 @@
-use Rattle.std.proofs.Common.{◌≡◌, ◌+◌, ◌<◌, List, ℕ, ◌++◌, length, sym, ap, ◌∙◌, arith}
+use Rattle.std.proofs.Common.{◌+◌, List, ℕ, ◌++◌, length, ap, ◌∙◌, arith}
 use Rattle.std.proofs.lemmas.List.{length-map}
-use Rattle.swh_jobs.specs.JobFile.{BeginsJob, RepeatsOrigin}
+use Rattle.swh_jobs.specs.JobFile.{BeginsJob}
 use Rattle.swh_jobs.specs.Spelled.{spelled_job, all_spelled}
 use Rattle.swh_jobs.proofs.Lines.{first-ends, first_of}
 use Rattle.swh_jobs.proofs.Origins.{new_origin, old_origin, known-push}
