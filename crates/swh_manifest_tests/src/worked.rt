@@ -21,22 +21,33 @@ struct Child {
 
 // A revision without parents.
 pub const FIRST: &[u8] =
-    b"tree d8329fc1cc938780ffdd9f94e0d364e0ea74f579\nauthor A <a@e.org> 1000000000 +0000\ncommitter A <a@e.org> 1000000000 +0000\n\nfirst\n";
+    b"tree d8329fc1cc938780ffdd9f94e0d364e0ea74f579\nauthor A <a@e.org> 1000000000 +0000\n\
+committer A <a@e.org> 1000000000 +0000\n\nfirst\n";
 
 pub const MERGE: &[u8] =
-    b"tree d8329fc1cc938780ffdd9f94e0d364e0ea74f579\nparent 94dfee1c055489e7b626a9454f7580b2f2e51181\nparent 0c530490cf162c594c24157a0000994e71fc8515\nauthor A <a@e.org> 1000000000 +0000\ncommitter A <a@e.org> 1000000000 +0000\n\nmerge\n";
+    b"tree d8329fc1cc938780ffdd9f94e0d364e0ea74f579\nparent 94dfee1c055489e7b626a9454f7580b2f2e51181\n\
+parent 0c530490cf162c594c24157a0000994e71fc8515\nauthor A <a@e.org> 1000000000 +0000\n\
+committer A <a@e.org> 1000000000 +0000\n\nmerge\n";
 
 // A revision with an encoding and a message in it.
 pub const LATIN: &[u8] =
-    b"tree d8329fc1cc938780ffdd9f94e0d364e0ea74f579\nparent f613210bc69a8fe1693e4e54c06d78cd5b6285b6\nauthor A <a@e.org> 1000000000 +0000\ncommitter A <a@e.org> 1000000000 +0000\nencoding ISO-8859-1\n\ncaf\xe9\n";
+    b"tree d8329fc1cc938780ffdd9f94e0d364e0ea74f579\nparent f613210bc69a8fe1693e4e54c06d78cd5b6285b6\n\
+author A <a@e.org> 1000000000 +0000\ncommitter A <a@e.org> 1000000000 +0000\nencoding ISO-8859-1\n\ncaf\xe9\n";
 
 // A merge with a signature in its headers.
 pub const SIGNED: &[u8] =
-    b"tree d8329fc1cc938780ffdd9f94e0d364e0ea74f579\nparent 94dfee1c055489e7b626a9454f7580b2f2e51181\nparent 0c530490cf162c594c24157a0000994e71fc8515\nauthor A <a@e.org> 1000000000 +0000\ncommitter A <a@e.org> 1000000000 +0000\ngpgsig -----BEGIN PGP SIGNATURE-----\n \n iQEzBAABCAAdFiEE\n =abcd\n -----END PGP SIGNATURE-----\n\nmerge\n";
+    b"tree d8329fc1cc938780ffdd9f94e0d364e0ea74f579\nparent 94dfee1c055489e7b626a9454f7580b2f2e51181\n\
+parent 0c530490cf162c594c24157a0000994e71fc8515\nauthor A <a@e.org> 1000000000 +0000\n\
+committer A <a@e.org> 1000000000 +0000\n\
+gpgsig -----BEGIN PGP SIGNATURE-----\n \n iQEzBAABCAAdFiEE\n =abcd\n -----END PGP SIGNATURE-----\n\nmerge\n";
 
 // A merge of a signed tag, which its headers carry.
 pub const MERGED_TAG: &[u8] =
-    b"tree d8329fc1cc938780ffdd9f94e0d364e0ea74f579\nparent 94dfee1c055489e7b626a9454f7580b2f2e51181\nparent 0c530490cf162c594c24157a0000994e71fc8515\nauthor A <a@e.org> 1000000000 +0000\ncommitter A <a@e.org> 1000000000 +0000\nmergetag object 0c530490cf162c594c24157a0000994e71fc8515\n type commit\n tag v1-signed\n tagger A <a@e.org> 1000000000 +0000\n \n one\n -----BEGIN PGP SIGNATURE-----\n \n iQEzBAABCAAdFiEE\n =abcd\n -----END PGP SIGNATURE-----\n\nmerge\n";
+    b"tree d8329fc1cc938780ffdd9f94e0d364e0ea74f579\nparent 94dfee1c055489e7b626a9454f7580b2f2e51181\n\
+parent 0c530490cf162c594c24157a0000994e71fc8515\nauthor A <a@e.org> 1000000000 +0000\n\
+committer A <a@e.org> 1000000000 +0000\nmergetag object 0c530490cf162c594c24157a0000994e71fc8515\n\
+\x20type commit\n tag v1-signed\n tagger A <a@e.org> 1000000000 +0000\n \n one\n\
+\x20-----BEGIN PGP SIGNATURE-----\n \n iQEzBAABCAAdFiEE\n =abcd\n -----END PGP SIGNATURE-----\n\nmerge\n";
 
 // A tag of a revision.
 pub const TAG: &[u8] =
@@ -48,12 +59,21 @@ pub const TAG_OF_TAG: &[u8] =
 
 // A directory that git wrote: a file, a folder, an executable, a link with a byte from 0x80 in its name, a submodule,
 // and a name that is no UTF-8.
-pub const DIRECTORY: &[u8] =
-    b"100644 a.b\x00\x83\xba\xaea\x80Ne\xccs\xa7 \x1arRu\x0cv\x06j040000 a\x00\xd82\x9f\xc1\xcc\x93\x87\x80\xff\xdd\x9f\x94\xe0\xd3d\xe0\xeat\xf5y100755 a0\x00\xce\x016%\x03\x0b\xa8\xdb\xa9\x06\xf7V\x96\x7f\x9e\x9c\xa3\x94FJ120000 caf\xc3\xa9\x00\xce\x016%\x03\x0b\xa8\xdb\xa9\x06\xf7V\x96\x7f\x9e\x9c\xa3\x94FJ160000 lib\x00\x11\x11\x11\x11\x11\x11\x11\x11\x11\x11\x11\x11\x11\x11\x11\x11\x11\x11\x11\x11100644 \xff\xfe\x00\xce\x016%\x03\x0b\xa8\xdb\xa9\x06\xf7V\x96\x7f\x9e\x9c\xa3\x94FJ";
+pub const DIRECTORY: &[u8] = b"100644 a.b\x00\x83\xba\xaea\x80Ne\xccs\xa7 \x1arRu\x0cv\x06j0\
+40000 a\x00\xd82\x9f\xc1\xcc\x93\x87\x80\xff\xdd\x9f\x94\xe0\xd3d\xe0\xeat\xf5y\
+100755 a0\x00\xce\x016%\x03\x0b\xa8\xdb\xa9\x06\xf7V\x96\x7f\x9e\x9c\xa3\x94FJ\
+120000 caf\xc3\xa9\x00\xce\x016%\x03\x0b\xa8\xdb\xa9\x06\xf7V\x96\x7f\x9e\x9c\xa3\x94FJ\
+160000 lib\x00\x11\x11\x11\x11\x11\x11\x11\x11\x11\x11\x11\x11\x11\x11\x11\x11\x11\x11\x11\x11\
+100644 \xff\xfe\x00\xce\x016%\x03\x0b\xa8\xdb\xa9\x06\xf7V\x96\x7f\x9e\x9c\xa3\x94FJ";
 
 // A branch to each kind of object, an alias and a branch to nothing: the example of Software Heritage's data model.
-pub const SNAPSHOT: &[u8] =
-    b"alias alias\x008:revisioncontent content\x0020:\xfe\x95\xa4fy\xd1(\xff\x16{|U\xdf]\x025lZ\x1a\xe1dangling dangling\x000:directory directory\x0020:\x1b\xd0\xe6_}/\xf1J\xe9\x94\xde\x17\xa1\xe7\xfee\x11\x1d\xca\xd8release release\x0020:pE@O=\x1cT\xe6G<q\xbb\xb7\x16R\x9f\xba\xd4\xbe$revision revision\x0020:\xaa\xfb\x16\xd6\x9f\xd3\x0f\xf5\x8a\xfd\xd6\x906\xa2`G\xf3\xae\xbd\xc6snapshot snapshot\x0020:\x1a\x88\x93\xe6\xa8oDN\x8b\xe8\xe7\xbd\xa6\xcb4\xfb\x175\xa0\x0e";
+pub const SNAPSHOT: &[u8] = b"alias alias\x008:revision\
+content content\x0020:\xfe\x95\xa4fy\xd1(\xff\x16{|U\xdf]\x025lZ\x1a\xe1\
+dangling dangling\x000:\
+directory directory\x0020:\x1b\xd0\xe6_}/\xf1J\xe9\x94\xde\x17\xa1\xe7\xfee\x11\x1d\xca\xd8\
+release release\x0020:pE@O=\x1cT\xe6G<q\xbb\xb7\x16R\x9f\xba\xd4\xbe$\
+revision revision\x0020:\xaa\xfb\x16\xd6\x9f\xd3\x0f\xf5\x8a\xfd\xd6\x906\xa2`G\xf3\xae\xbd\xc6\
+snapshot snapshot\x0020:\x1a\x88\x93\xe6\xa8oDN\x8b\xe8\xe7\xbd\xa6\xcb4\xfb\x175\xa0\x0e";
 
 static WORKED: [Worked; 17] = [
     Worked {

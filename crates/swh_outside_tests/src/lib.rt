@@ -1,11 +1,20 @@
 //! Tests of the outside over memory: counts of faults by path, disks with what a crash leaves of them, depots, inputs, and
 //! disks that fall short.
+//! Stands on the outside and its fakes.
+//! Nothing stands above it.
 #![tactic(auto)]
 
+#[cfg(test)]
 mod depots;
+#[cfg(test)]
 mod disks;
+#[cfg(test)]
 mod images;
+#[cfg(test)]
 mod inputs;
+#[cfg(test)]
 mod others;
+#[cfg(test)]
 mod path_counts;
+#[cfg(test)]
 mod short;

@@ -1,4 +1,5 @@
 // The other parts in memory.
+use std::alloc::Global;
 use std::test::Fail;
 use swh_memory::{
     MemoryClock, MemoryDoors, MemoryFolder, MemoryGate, MemoryLink, MemorySink, MemoryYard,
@@ -11,8 +12,7 @@ fn a_gate_counts_its_calls(rt: HostRuntime) {
     gate.before(1, 1);
     gate.before(2, 1);
     gate.after(1, 1);
-    assert_eq!(rt; gate.count_before(), 2);
-    assert_eq!(rt; gate.count_after(), 1);
+    assert!(rt; gate.count_before() == 2 && gate.count_after() == 1);
 }
 
 // A piece, what the sink answers, and what it has taken then.
@@ -23,55 +23,73 @@ const PIECES: [(&[u8], Result<(), Failed>, &[u8]); 4] = [
     (b"ef", Ok(()), b"abcdef"),
 ];
 
+fn takes_half(sink: &mut MemorySink) -> bool {
+    for (piece, answer, taken) in PIECES {
+        if sink.put(piece) != answer || sink.bytes() != taken {
+            return false;
+        }
+    }
+    sink.faults() == 2
+}
+
 /// The second call is to fail, and takes half; the third has no room, and takes nothing.
 #[test]
 fn a_sink_takes_half_where_it_is_to_fail(rt: HostRuntime) -> Result<(), Fail> {
-    let alloc = rt.alloc();
-    let mut sink = MemorySink::new(alloc, 6, [1].to_vec(alloc)?)?;
-    for (piece, answer, taken) in PIECES {
-        assert_eq!(rt; sink.put(piece), answer);
-        assert_eq!(rt; sink.bytes(), taken);
-    }
-    assert_eq!(rt; sink.faults(), 2);
+    let failing = [1].to_vec(rt.alloc())?;
+    let mut sink = MemorySink::new(rt.alloc(), 6, failing)?;
+    assert!(rt; takes_half(&mut sink));
     Ok(())
+}
+
+fn stands(clock: &mut MemoryClock) -> bool {
+    for now in [Ok(1_000_000_000), Err(Failed), Ok(1_000_000_000)] {
+        if clock.now() != now {
+            return false;
+        }
+    }
+    clock.faults() == 1
 }
 
 #[test]
 fn a_clock_stands(rt: HostRuntime) -> Result<(), Fail> {
-    let alloc = rt.alloc();
-    let mut clock = MemoryClock::new(1_000_000_000, [1].to_vec(alloc)?);
-    for now in [Ok(1_000_000_000), Err(Failed), Ok(1_000_000_000)] {
-        assert_eq!(rt; clock.now(), now);
-    }
-    assert_eq!(rt; clock.faults(), 1);
+    let mut clock = MemoryClock::new(1_000_000_000, [1].to_vec(rt.alloc())?);
+    assert!(rt; stands(&mut clock));
     Ok(())
+}
+
+fn folder_fails(alloc: Global, mut folder: MemoryFolder) -> bool {
+    folder.list(alloc, "").is_err() && folder.read("a").is_err() && folder.faults() == 2
+}
+
+fn yard_fails(mut yard: MemoryYard) -> bool {
+    yard.folder("a") == Err(OutFault::Failed)
+        && yard.file("b") == Err(OutFault::Failed)
+        && yard.put(b"c") == Err(Failed)
+        && yard.faults() == 3
 }
 
 #[test]
 fn folders_and_yards_fail(rt: HostRuntime) -> Result<(), Fail> {
     let alloc = rt.alloc();
-    let mut folder = MemoryFolder::new(alloc, String::from_str(alloc, "in")?);
-    assert!(rt; folder.list(alloc, "").is_err());
-    assert!(rt; folder.read("a").is_err());
-    assert_eq!(rt; folder.faults(), 2);
-    let mut yard = MemoryYard::new(alloc);
-    assert_eq!(rt; yard.folder("a"), Err(OutFault::Failed));
-    assert_eq!(rt; yard.file("b"), Err(OutFault::Failed));
-    assert_eq!(rt; yard.put(b"c"), Err(Failed));
-    assert_eq!(rt; yard.faults(), 3);
+    let folder = MemoryFolder::new(alloc, String::from_str(alloc, "in")?);
+    assert!(rt; folder_fails(alloc, folder));
+    assert!(rt; yard_fails(MemoryYard::new(alloc)));
     Ok(())
+}
+
+fn link_fails(link: &mut MemoryLink) -> bool {
+    link.get(&mut [0]) == Err(Failed) && link.put(b"c") == Err(Failed) && link.faults() == 2
+}
+
+fn doors_fail(mut doors: MemoryDoors, link: MemoryLink) -> bool {
+    let fail = doors.bind("here") == Err(OutFault::Failed) && doors.accept().is_err();
+    doors.back(link);
+    fail && doors.faults() == 2
 }
 
 #[test]
 fn links_and_doors_fail(rt: HostRuntime) {
-    let alloc = rt.alloc();
-    let mut link = MemoryLink::new(alloc);
-    assert_eq!(rt; link.get(&mut [0]), Err(Failed));
-    assert_eq!(rt; link.put(b"c"), Err(Failed));
-    assert_eq!(rt; link.faults(), 2);
-    let mut doors = MemoryDoors::new(alloc);
-    assert_eq!(rt; doors.bind("here"), Err(OutFault::Failed));
-    assert!(rt; doors.accept().is_err());
-    doors.back(link);
-    assert_eq!(rt; doors.faults(), 2);
+    let mut link = MemoryLink::new(rt.alloc());
+    assert!(rt; link_fails(&mut link));
+    assert!(rt; doors_fail(MemoryDoors::new(rt.alloc()), link));
 }

@@ -1,136 +1,183 @@
 // Inputs over files.
-use crate::fresh::fresh_folder;
-use std::alloc::Global;
-use std::fs::{File, Permissions};
-use std::os::unix::fs::{PermissionsExt, symlink};
+use crate::rooms::{Laid, Thing, clear, fresh_room, path_in};
+use std::alloc::AllocError;
+use std::fs::File;
 use std::test::Fail;
-use std::{fs, iter};
 use swh_outside::{Opened, Origins, Source};
 use swh_real::{RealOrigins, RealSource};
 
-// How the opening of an input ends.
-#[derive(Clone, Copy, Debug, PartialEq, Eq)]
-enum How {
-    Found,
-    NotFound,
-    Failed,
-    Memory,
+type HostOrigins = RealOrigins<HostRuntime>;
+
+// What is tried with a path, with how it ends.
+#[derive(Clone, Copy)]
+enum Act {
+    // It is opened, read whole, and given back.
+    Gives(&'static [u8]),
+    // It is opened and given back, or it is not.
+    Opens,
+    IsNotFound,
+    Fails,
+    // The same, as the system opens it for this process.
+    EndsAsTheSystem,
+    // It is opened, a read fails, and it is given back.
+    IsUnread,
+    // It is opened as a folder.
+    FailsAsFolder,
+    // How often it failed, and how often anything did.
+    Faults(u64),
+    AllFaults(u64),
 }
 
-// All that is left of a source, in pieces of 5.
-fn read_whole(alloc: Global, source: &mut RealSource) -> Result<Vec<u8>, Fail> {
-    let mut whole = Vec::new(alloc);
+use Act::*;
+
+// Says whether these bytes are all that is left of a source, in pieces of 5, after which it gives none.
+fn gives(source: &mut RealSource, whole: &[u8]) -> bool {
+    let mut rest = whole;
     for _ in 0..20 {
         let mut piece = [0; 5];
-        match source.get(&mut piece) {
-            Ok(count) => whole.extend_from_slice(&piece[..count])?,
-            Err(_) => return Err(Fail::from("a read")),
+        let Ok(count) = source.get(&mut piece) else {
+            return false;
+        };
+        match rest.split_at_checked(count) {
+            Some((front, behind)) if front == &piece[..count] => rest = behind,
+            _ => return false,
         }
     }
-    Ok(whole)
+    rest.is_empty()
 }
 
-fn read_input(
-    alloc: Global,
-    origins: &mut RealOrigins<HostRuntime>,
-    path: &str,
-) -> Result<Vec<u8>, Fail> {
-    let Opened::Found(mut source) = origins.file(path) else {
-        return Err(Fail::from("an input"));
-    };
-    let whole = read_whole(alloc, &mut source)?;
-    origins.back(source);
-    Ok(whole)
+fn found_does(source: &mut RealSource, act: Act) -> bool {
+    match act {
+        Gives(whole) => gives(source, whole),
+        Opens => true,
+        IsUnread => source.get(&mut [0; 5]).is_err(),
+        _ => false,
+    }
 }
 
-#[test]
-fn inputs_are_read_whole(rt: HostRuntime) -> Result<(), Fail> {
-    let alloc = rt.alloc();
-    let folder = fresh_folder(&rt, alloc, "inputs")?;
-    let mut origins = RealOrigins::new(rt.clone()?, alloc);
-    for (name, bytes) in [
-        ("one", "an input of some bytes"),
-        ("none", ""),
-        ("two", "abcde"),
-    ] {
-        let path = format!(in alloc; "{}/{name}", folder.as_str())?;
-        fs::write(&rt, path.as_str(), bytes)?;
-        for _ in 0..2 {
-            let read = read_input(alloc, &mut origins, path.as_str())?;
-            assert_eq!(rt; read.as_slice(), bytes.as_bytes(), "{name}");
+// Says whether an opening ends so.
+fn ends_so(origins: &mut HostOrigins, path: &str, act: Act) -> bool {
+    match origins.file(path) {
+        Opened::Found(mut source) => {
+            let ends = found_does(&mut source, act);
+            origins.back(source);
+            ends
+        }
+        Opened::NotFound => matches!(act, IsNotFound),
+        Opened::Failed => matches!(act, Fails),
+        Opened::Memory => false,
+    }
+}
+
+fn ends_as_the_system(rt: &HostRuntime, origins: &mut HostOrigins, path: &str) -> bool {
+    if File::open(rt, path).is_ok() {
+        ends_so(origins, path, Opens) && origins.path_faults(path) == 0
+    } else {
+        ends_so(origins, path, Fails) && origins.path_faults(path) == 1
+    }
+}
+
+fn does(rt: &HostRuntime, origins: &mut HostOrigins, path: &str, act: Act) -> bool {
+    match act {
+        EndsAsTheSystem => ends_as_the_system(rt, origins, path),
+        FailsAsFolder => matches!(&origins.folder(path), Opened::Failed),
+        Faults(faults) => origins.path_faults(path) == faults,
+        AllFaults(faults) => origins.faults() == faults,
+        _ => ends_so(origins, path, act),
+    }
+}
+
+// A name in a room, and what is tried with its path.
+type Row = (&'static str, Act);
+
+fn does_in(
+    rt: &HostRuntime,
+    origins: &mut HostOrigins,
+    room: &str,
+    (name, act): Row,
+) -> Result<bool, AllocError> {
+    let path = path_in(rt.alloc(), room, name)?;
+    Ok(does(rt, origins, path.as_str(), act))
+}
+
+// Fails with the number, from 0, of the first row that ends in another way.
+fn all_done(rt: &HostRuntime, room: &str, rows: &[Row]) -> Result<(), Fail> {
+    let mut origins = RealOrigins::new(rt.clone()?, rt.alloc());
+    for (number, row) in rows.iter().enumerate() {
+        if !does_in(rt, &mut origins, room, *row)? {
+            return Err(Fail::new(number));
         }
     }
-    assert_eq!(rt; origins.faults(), 0);
-    fs::remove_dir_all(&rt, folder.as_str())?;
     Ok(())
 }
 
-// How the opening of an input ends, which is given back.
-fn opened(origins: &mut RealOrigins<HostRuntime>, path: &str) -> How {
-    match origins.file(path) {
-        Opened::Found(source) => {
-            origins.back(source);
-            How::Found
-        }
-        Opened::NotFound => How::NotFound,
-        Opened::Failed => How::Failed,
-        Opened::Memory => How::Memory,
-    }
+fn all_done_anew(rt: &HostRuntime, name: &str, things: &[Laid], rows: &[Row]) -> Result<(), Fail> {
+    let room = fresh_room(rt, name, things)?;
+    all_done(rt, room.as_str(), rows)?;
+    clear(rt, room.as_str())
 }
+
+const INPUTS: &[Laid] = &[
+    ("one", Thing::File(b"an input of some bytes")),
+    ("none", Thing::File(b"")),
+    ("two", Thing::File(b"abcde")),
+];
+
+const READ: &[Row] = &[
+    ("one", Gives(b"an input of some bytes")),
+    ("one", Gives(b"an input of some bytes")),
+    ("none", Gives(b"")),
+    ("none", Gives(b"")),
+    ("two", Gives(b"abcde")),
+    ("two", Gives(b"abcde")),
+    (".", AllFaults(0)),
+];
+
+#[test]
+fn inputs_are_read_whole(rt: HostRuntime) -> Result<(), Fail> {
+    all_done_anew(&rt, "inputs", INPUTS, READ)
+}
+
+// Longer than any file's name.
+const LONG: &str =
+    "longlonglonglonglonglonglonglonglonglonglonglonglonglonglonglonglonglonglonglonglonglonglonglong\
+longlonglonglonglonglonglonglonglonglonglonglonglonglonglonglonglonglonglonglonglonglonglonglonglong\
+longlonglonglonglonglonglonglonglonglonglonglonglonglonglonglonglonglonglonglonglonglonglonglonglong\
+longlonglonglonglonglonglonglonglonglonglonglonglonglonglonglonglonglonglonglonglonglonglonglonglong";
+
+const SHUT_AND_KNOT: &[Laid] = &[("shut", Thing::Shut), ("knot", Thing::Link("knot"))];
+
+const OPENED: &[Row] = &[
+    ("shut", EndsAsTheSystem),
+    ("knot", Fails),
+    ("knot", Faults(1)),
+    (LONG, Fails),
+    (LONG, Faults(1)),
+    ("absent", IsNotFound),
+    ("absent", Faults(0)),
+    ("shut/more", IsNotFound),
+    ("shut/more", Faults(0)),
+    (".", Opens),
+    (".", Faults(0)),
+];
 
 /// One that may not be opened is not absent. Who runs as root may open it.
 #[test]
 fn an_opening_ends_as_the_system_says(rt: HostRuntime) -> Result<(), Fail> {
-    let alloc = rt.alloc();
-    let folder = fresh_folder(&rt, alloc, "openings")?;
-    let dir = folder.as_str();
-    let shut = format!(in alloc; "{dir}/shut")?;
-    fs::write(&rt, shut.as_str(), "abc")?;
-    fs::set_permissions(&rt, shut.as_str(), Permissions::from_mode(0))?;
-    let may_open = match File::open(&rt, shut.as_str()) {
-        Ok(_) => How::Found,
-        Err(_) => How::Failed,
-    };
-    let knot = format!(in alloc; "{dir}/knot")?;
-    symlink(&rt, "knot", knot.as_str())?;
-    let long = format!(in alloc; "{dir}/{}", "long".repeat(alloc, 100)?.as_str())?;
-    let absent = format!(in alloc; "{dir}/absent")?;
-    let through = format!(in alloc; "{dir}/shut/more")?;
-    let cases = [
-        (shut.as_str(), may_open),
-        (knot.as_str(), How::Failed),
-        (long.as_str(), How::Failed),
-        (absent.as_str(), How::NotFound),
-        (through.as_str(), How::NotFound),
-        (dir, How::Found),
-    ];
-    let mut origins = RealOrigins::new(rt.clone()?, alloc);
-    for (path, how) in cases {
-        assert_eq!(rt; opened(&mut origins, path), how, "{path}");
-        let failed = how == How::Failed;
-        assert_eq!(rt; origins.path_faults(path), u64::from(failed), "{path}");
-    }
-    fs::remove_dir_all(&rt, dir)?;
-    Ok(())
+    all_done_anew(&rt, "openings", SHUT_AND_KNOT, OPENED)
 }
+
+const UNREAD: &[Row] = &[
+    (".", IsUnread),
+    (".", AllFaults(1)),
+    (".", Faults(1)),
+    ("elsewhere", Faults(0)),
+    (".", FailsAsFolder),
+    (".", Faults(2)),
+];
 
 /// A folder opens as an input, and no byte of it is read.
 #[test]
 fn a_read_that_fails_is_counted(rt: HostRuntime) -> Result<(), Fail> {
-    let alloc = rt.alloc();
-    let folder = fresh_folder(&rt, alloc, "reads")?;
-    let dir = folder.as_str();
-    let mut origins = RealOrigins::new(rt.clone()?, alloc);
-    let Opened::Found(mut source) = origins.file(dir) else {
-        return Err(Fail::from("the folder"));
-    };
-    assert!(rt; source.get(&mut [0; 5]).is_err());
-    origins.back(source);
-    assert_eq!(rt; origins.faults(), 1);
-    assert_eq!(rt; origins.path_faults(dir), 1);
-    assert_eq!(rt; origins.path_faults("elsewhere"), 0);
-    assert!(rt; matches!(&origins.folder(dir), Opened::Failed));
-    assert_eq!(rt; origins.path_faults(dir), 2);
-    fs::remove_dir_all(&rt, dir)?;
-    Ok(())
+    all_done_anew(&rt, "reads", &[], UNREAD)
 }

@@ -1,87 +1,110 @@
 // The clock, the sink, and the parts whose calls fail.
-use crate::fresh::fresh_folder;
-use std::fs;
+use crate::rooms::{clear, fresh_room, is_file, path_in};
+use std::alloc::Global;
 use std::fs::File;
 use std::test::Fail;
 use std::time::{SystemTime, UNIX_EPOCH};
 use swh_outside::{Clock, Doors, Failed, Folder, OutFault, Sink, Source, Yard};
 use swh_real::{RealClock, RealDoors, RealFolder, RealLink, RealSink, RealYard};
 
-// Whole seconds since 1970, as the library says them.
-fn seconds(rt: &HostRuntime) -> Result<u64, Fail> {
-    match SystemTime::now(rt)?.duration_since(UNIX_EPOCH) {
-        Ok(time) => Ok(time.as_secs()),
-        Err(_) => Err(Fail::from("a time before 1970")),
+// Whole seconds since 1970, as the library says them; none where it says none.
+fn seconds(rt: &HostRuntime) -> Option<u64> {
+    let now = SystemTime::now(rt).ok()?;
+    let time = now.duration_since(UNIX_EPOCH).ok()?;
+    Some(time.as_secs())
+}
+
+fn says_the_second(rt: &HostRuntime, clock: &mut RealClock<HostRuntime>) -> bool {
+    match (seconds(rt), clock.now(), seconds(rt)) {
+        (Some(before), Ok(now), Some(after)) => before <= now && now <= after,
+        _ => false,
     }
 }
 
 #[test]
 fn a_clock_says_the_second(rt: HostRuntime) -> Result<(), Fail> {
     let mut clock = RealClock::new(rt.clone()?);
-    let before = seconds(&rt)?;
-    let Ok(now) = clock.now() else {
-        return Err(Fail::from("the time"));
-    };
-    let after = seconds(&rt)?;
-    assert!(rt; before <= now, "{before} {now}");
-    assert!(rt; now <= after, "{now} {after}");
-    assert_eq!(rt; clock.faults(), 0);
+    assert!(rt; says_the_second(&rt, &mut clock) && clock.faults() == 0);
     Ok(())
 }
 
-/// What was put stands in the file while the sink is open still, since each piece is flushed.
+// Pieces, and what was put in all once each was.
+const PIECES: [(&str, &str); 3] = [
+    ("one\n", "one\n"),
+    ("", "one\n"),
+    ("three\n", "one\nthree\n"),
+];
+
+fn takes_each_piece(rt: &HostRuntime, path: &str, sink: &mut RealSink<File>) -> bool {
+    for (piece, whole) in PIECES {
+        if sink.put(piece.as_bytes()).is_err() || !is_file(rt, path, whole.as_bytes()) {
+            return false;
+        }
+    }
+    sink.faults() == 0
+}
+
+fn is_taken(rt: &HostRuntime, path: &str) -> Result<bool, Fail> {
+    let mut sink = RealSink::new(File::create(rt, path)?);
+    Ok(takes_each_piece(rt, path, &mut sink))
+}
+
+fn is_refused(rt: &HostRuntime, path: &str) -> Result<bool, Fail> {
+    let mut shut = RealSink::new(File::open(rt, path)?);
+    Ok(shut.put(b"more").is_err() && shut.faults() == 1)
+}
+
+fn sinks_end_so(rt: &HostRuntime, room: &str) -> Result<bool, Fail> {
+    let path = path_in(rt.alloc(), room, "out")?;
+    Ok(is_taken(rt, path.as_str())? && is_refused(rt, path.as_str())?)
+}
+
+/// What was put stands in the file while the sink is open still, since each piece is flushed. One over a file that is
+/// opened for reading takes nothing.
 #[test]
 fn a_sink_takes_each_piece(rt: HostRuntime) -> Result<(), Fail> {
-    let alloc = rt.alloc();
-    let folder = fresh_folder(&rt, alloc, "sink")?;
-    let path = format!(in alloc; "{}/out", folder.as_str())?;
-    let mut sink = RealSink::new(File::create(&rt, path.as_str())?);
-    for (piece, whole) in [
-        ("one\n", "one\n"),
-        ("", "one\n"),
-        ("three\n", "one\nthree\n"),
-    ] {
-        assert!(rt; sink.put(piece.as_bytes()).is_ok());
-        let text = fs::read_to_string(&rt, path.as_str())?;
-        assert_eq!(rt; text.as_str(), whole);
-    }
-    assert_eq!(rt; sink.faults(), 0);
-    let mut shut = RealSink::new(File::open(&rt, path.as_str())?);
-    assert!(rt; shut.put(b"more").is_err());
-    assert_eq!(rt; shut.faults(), 1);
-    fs::remove_dir_all(&rt, folder.as_str())?;
-    Ok(())
+    let room = fresh_room(&rt, "sink", &[])?;
+    assert!(rt; sinks_end_so(&rt, room.as_str())?);
+    clear(&rt, room.as_str())
+}
+
+fn yard_fails(yard: &mut RealYard) -> bool {
+    yard.folder("a") == Err(OutFault::Failed)
+        && yard.file("b") == Err(OutFault::Failed)
+        && yard.put(b"c") == Err(Failed)
+        && yard.faults() == 3
 }
 
 #[test]
-fn a_yard_fails(rt: HostRuntime) -> Result<(), Fail> {
+fn a_yard_fails(rt: HostRuntime) {
     let mut yard = RealYard::new();
-    assert_eq!(rt; yard.folder("a"), Err(OutFault::Failed));
-    assert_eq!(rt; yard.file("b"), Err(OutFault::Failed));
-    assert_eq!(rt; yard.put(b"c"), Err(Failed));
-    assert_eq!(rt; yard.faults(), 3);
-    Ok(())
+    assert!(rt; yard_fails(&mut yard));
+}
+
+fn link_fails(link: &mut RealLink) -> bool {
+    link.get(&mut [0]) == Err(Failed) && link.put(b"c") == Err(Failed) && link.faults() == 2
+}
+
+fn doors_fail(doors: &mut RealDoors, link: RealLink) -> bool {
+    let fail = doors.bind("here") == Err(OutFault::Failed) && doors.accept().is_err();
+    doors.back(link);
+    fail && doors.faults() == 2
 }
 
 #[test]
-fn links_and_doors_fail(rt: HostRuntime) -> Result<(), Fail> {
+fn links_and_doors_fail(rt: HostRuntime) {
     let mut link = RealLink::new();
-    assert_eq!(rt; link.get(&mut [0]), Err(Failed));
-    assert_eq!(rt; link.put(b"c"), Err(Failed));
-    assert_eq!(rt; link.faults(), 2);
     let mut doors = RealDoors::new();
-    assert_eq!(rt; doors.bind("here"), Err(OutFault::Failed));
-    assert!(rt; doors.accept().is_err());
-    doors.back(link);
-    assert_eq!(rt; doors.faults(), 2);
-    Ok(())
+    assert!(rt; link_fails(&mut link) && doors_fail(&mut doors, link));
+}
+
+fn folder_fails(alloc: Global, folder: &mut RealFolder) -> bool {
+    folder.list(alloc, "").is_err() && folder.read("a").is_err() && folder.faults() == 2
 }
 
 #[test]
 fn a_folder_fails(rt: HostRuntime) -> Result<(), Fail> {
     let mut folder = RealFolder::new(String::from_str(rt.alloc(), "in")?);
-    assert!(rt; folder.list(rt.alloc(), "").is_err());
-    assert!(rt; folder.read("a").is_err());
-    assert_eq!(rt; folder.faults(), 2);
+    assert!(rt; folder_fails(rt.alloc(), &mut folder));
     Ok(())
 }

@@ -1,15 +1,20 @@
 // A refusal of each status.
-use crate::starts::Room;
+use crate::rooms::{Laid, Thing, clear, fresh_room, is_file, path_in};
+use crate::starts::{Run, all_end_so, run};
 use std::fs::File;
-use std::os::unix::fs::symlink;
 use std::test::Fail;
 use swh_real::RealSink;
 use swh_start::{end_without_memory, start};
 
-// Words, the status of their run, and what it prints.
-type Refusal = (&'static [&'static str], u8, &'static [u8]);
+// A job file that is none, a link that leads to itself, and a folder whose ledger is a link to that of the archive `A`.
+const LAID: [Laid; 4] = [
+    ("bad", Thing::File(b"no job")),
+    ("knot", Thing::Link("knot")),
+    ("L", Thing::Folder),
+    ("L/0", Thing::Link("../A/0")),
+];
 
-const REFUSALS: [Refusal; 12] = [
+const REFUSALS: [Run; 12] = [
     (&["identify", "cnt", "@/none"], 1, b"swharc: not found\n"),
     (&["identify", "rev", "@/bad"], 1, b"swharc: bad rev 0\n"),
     (&[], 2, b"swharc: words\n"),
@@ -28,39 +33,36 @@ const REFUSALS: [Refusal; 12] = [
     ),
 ];
 
-// A room with an archive `A`, a folder `L` whose ledger is a link to that of `A`, and a link that leads to itself.
-fn room_to_refuse(rt: &HostRuntime) -> Result<Room, Fail> {
-    let alloc = rt.alloc();
-    let room = Room::fresh(rt, alloc, "refused", &[("bad", b"no job")])?;
-    let _ = room.run(rt, alloc, &["init", "--", "@/A"])?;
-    symlink(rt, "knot", room.path(alloc, "knot")?.as_str())?;
-    std::fs::create_dir(rt, room.path(alloc, "L")?.as_str())?;
-    symlink(rt, "../A/0", room.path(alloc, "L/0")?.as_str())?;
-    Ok(room)
-}
-
 #[test]
 fn each_refusal_has_its_line_and_status(rt: HostRuntime) -> Result<(), Fail> {
-    let room = room_to_refuse(&rt)?;
-    for (words, status, printed) in REFUSALS {
-        let (given, told) = room.run(&rt, rt.alloc(), words)?;
-        assert_eq!(rt; told.as_slice(), printed);
-        assert_eq!(rt; given, status);
-    }
-    room.clear(&rt)
+    let room = fresh_room(&rt, "refused", &LAID)?;
+    let _ = run(&rt, room.as_str(), &["init", "--", "@/A"])?;
+    all_end_so(&rt, room.as_str(), &REFUSALS)?;
+    clear(&rt, room.as_str())
+}
+
+// The status of a run whose sink is over a file that is opened for reading.
+fn status_untold(rt: &HostRuntime, path: &str) -> Result<u8, Fail> {
+    let shut = RealSink::new(File::open(rt, path)?);
+    Ok(start(rt, rt.alloc(), &[], shut).status())
+}
+
+fn status_without_memory(rt: &HostRuntime, path: &str) -> Result<u8, Fail> {
+    let sink = RealSink::new(File::create(rt, path)?);
+    Ok(end_without_memory(sink).status())
+}
+
+fn runs_end_so(rt: &HostRuntime, room: &str) -> Result<bool, Fail> {
+    let path = path_in(rt.alloc(), room, "out")?;
+    let untold = status_untold(rt, path.as_str())?;
+    let wanting = status_without_memory(rt, path.as_str())?;
+    Ok(untold == 4 && wanting == 5 && is_file(rt, path.as_str(), b"swharc: memory\n"))
 }
 
 /// A sink that fails is told by the status alone; want of memory is told with no words read.
 #[test]
 fn runs_that_cannot_tell_end_so(rt: HostRuntime) -> Result<(), Fail> {
-    let alloc = rt.alloc();
-    let room = Room::fresh(&rt, alloc, "untold", &[("in", b""), ("out", b"")])?;
-    let shut = RealSink::new(File::open(&rt, room.path(alloc, "in")?.as_str())?);
-    assert_eq!(rt; start(&rt, alloc, &[], shut).status(), 4);
-    let path = room.path(alloc, "out")?;
-    let sink = RealSink::new(File::create(&rt, path.as_str())?);
-    assert_eq!(rt; end_without_memory(sink).status(), 5);
-    let text = std::fs::read_to_string(&rt, path.as_str())?;
-    assert_eq!(rt; text.as_str(), "swharc: memory\n");
-    room.clear(&rt)
+    let room = fresh_room(&rt, "untold", &[("out", Thing::File(b""))])?;
+    assert!(rt; runs_end_so(&rt, room.as_str())?);
+    clear(&rt, room.as_str())
 }

@@ -1,5 +1,6 @@
 // An archive that is made, loaded, asked and checked.
-use crate::starts::Room;
+use crate::rooms::{Thing, clear, fresh_room, path_in};
+use crate::starts::{Run, all_end_so, run};
 use std::fs;
 use std::test::Fail;
 use swh_fixtures::STREAM;
@@ -8,86 +9,138 @@ use swh_real::RealDepot;
 
 const VISITS: &str = "/api/1/origin/https://e.org/p/visits/";
 
+const INIT: &[&str] = &["init", "@/A"];
+
+const LOAD: &[&str] = &["load", "@/A", "@/jobs"];
+
+const ASK: &[&str] = &["ask", "@/A", VISITS, "/x"];
+
 const CHECK: &[&str] = &["check", "@/A"];
 
-const CHECKED: &[u8] = b"objects 4 closed 4 visits 1\n";
-
 // A room with the worked stream, and a job file that names it.
-fn room_with_jobs(rt: &HostRuntime, name: &str) -> Result<Room, Fail> {
-    let alloc = rt.alloc();
-    let room = Room::fresh(rt, alloc, name, &[("stream", STREAM)])?;
-    let stream = room.path(alloc, "stream")?;
-    let jobs = format!(in alloc; "fast\thttps://e.org/p\t{}\n", stream.as_str())?;
-    fs::write(rt, room.path(alloc, "jobs")?.as_str(), jobs.as_bytes())?;
+fn room_with_jobs(rt: &HostRuntime, name: &str) -> Result<String, Fail> {
+    let room = fresh_room(rt, name, &[("stream", Thing::File(STREAM))])?;
+    lay_jobs(rt, room.as_str())?;
     Ok(room)
 }
 
-/// The snapshot's id is by another implementation.
+fn lay_jobs(rt: &HostRuntime, room: &str) -> Result<(), Fail> {
+    let path = path_in(rt.alloc(), room, "jobs")?;
+    let jobs = format!(in rt.alloc(); "fast\thttps://e.org/p\t{room}/stream\n")?;
+    Ok(fs::write(rt, path.as_str(), jobs.as_bytes())?)
+}
+
+// The snapshot's id is by another implementation.
+const WHOLE: [Run; 5] = [
+    (INIT, 0, b"made\n"),
+    (
+        LOAD,
+        0,
+        b"https://e.org/p\t1\tfull\tswh:1:snp:5036c2b4a676f9dad60fbaed431ca21ecdec56ff\n",
+    ),
+    (CHECK, 0, b"objects 4 closed 4 visits 1\n"),
+    (
+        LOAD,
+        0,
+        b"https://e.org/p\t2\tfull\tswh:1:snp:5036c2b4a676f9dad60fbaed431ca21ecdec56ff\n",
+    ),
+    (CHECK, 0, b"objects 4 closed 4 visits 2\n"),
+];
+
 #[test]
 fn an_archive_is_made_loaded_and_checked(rt: HostRuntime) -> Result<(), Fail> {
     let room = room_with_jobs(&rt, "whole")?;
-    let snapshot = "swh:1:snp:5036c2b4a676f9dad60fbaed431ca21ecdec56ff";
-    let first = format!(in rt.alloc(); "https://e.org/p\t1\tfull\t{snapshot}\n")?;
-    let second = format!(in rt.alloc(); "https://e.org/p\t2\tfull\t{snapshot}\n")?;
-    let runs: [(&[&str], &[u8]); 5] = [
-        (&["init", "@/A"], b"made\n"),
-        (&["load", "@/A", "@/jobs"], first.as_bytes()),
-        (CHECK, CHECKED),
-        (&["load", "@/A", "@/jobs"], second.as_bytes()),
-        (CHECK, b"objects 4 closed 4 visits 2\n"),
-    ];
-    for (words, printed) in runs {
-        let (status, given) = room.run(&rt, rt.alloc(), words)?;
-        assert_eq!(rt; given.as_slice(), printed);
-        assert_eq!(rt; status, 0);
+    all_end_so(&rt, room.as_str(), &WHOLE)?;
+    clear(&rt, room.as_str())
+}
+
+// What is printed of two paths: before the date of the visit, behind its ten digits, and up to the second's length.
+const BEFORE_DATE: &[u8] = b"200 142\n[{\"date\":";
+
+const BEHIND_DATE: &[u8] =
+    b",\"origin\":\"https://e.org/p\",\"snapshot\":\"5036c2b4a676f9dad60fbaed431ca21ecdec56ff\",\
+\"status\":\"full\",\"type\":\"fast\",\"visit\":1}]\n404 ";
+
+fn tells_visit(printed: &[u8]) -> bool {
+    match printed.split_at_checked(BEFORE_DATE.len() + 10) {
+        Some((front, behind)) => front.starts_with(BEFORE_DATE) && behind.starts_with(BEHIND_DATE),
+        None => false,
     }
-    room.clear(&rt)
+}
+
+fn is_visit_printed(rt: &HostRuntime, room: &str) -> Result<bool, Fail> {
+    let path = path_in(rt.alloc(), room, "printed")?;
+    Ok(tells_visit(&fs::read(rt, path.as_str())?))
+}
+
+fn is_visit_told(rt: &HostRuntime, room: &str) -> Result<bool, Fail> {
+    let _ = run(rt, room, INIT)?;
+    let _ = run(rt, room, LOAD)?;
+    Ok(run(rt, room, ASK)? == 1 && is_visit_printed(rt, room)?)
 }
 
 /// The date is the clock's.
 #[test]
 fn an_origin_is_asked_for(rt: HostRuntime) -> Result<(), Fail> {
     let room = room_with_jobs(&rt, "asked")?;
-    let _ = room.run(&rt, rt.alloc(), &["init", "@/A"])?;
-    let _ = room.run(&rt, rt.alloc(), &["load", "@/A", "@/jobs"])?;
-    let (status, given) = room.run(&rt, rt.alloc(), &["ask", "@/A", VISITS, "/x"])?;
-    assert_eq!(rt; status, 1);
-    assert!(rt; given.starts_with(b"200 142\n[{\"date\":"));
-    let rest =
-        b",\"origin\":\"https://e.org/p\",\"snapshot\":\"5036c2b4a676f9dad60fbaed431ca21ecdec56ff\",\
-\"status\":\"full\",\"type\":\"fast\",\"visit\":1}]\n404 ";
-    let at = b"200 142\n[{\"date\":1000000000".len();
-    assert!(rt; given.len() > at);
-    assert!(rt; given[at..].starts_with(rest));
-    room.clear(&rt)
+    assert!(rt; is_visit_told(&rt, room.as_str())?);
+    clear(&rt, room.as_str())
+}
+
+// A command, and its status beside a reader and beside a writer.
+const COMMANDS: [(&[&str], u8, u8); 4] = [
+    (CHECK, 0, 4),
+    (&["ask", "@/A", VISITS], 1, 4),
+    (LOAD, 4, 4),
+    (INIT, 4, 4),
+];
+
+// The status of a run while the ledger of a folder is open in this depot.
+fn status_beside(
+    rt: &HostRuntime,
+    room: &str,
+    depot: &mut RealDepot<HostRuntime>,
+    dir: &str,
+    words: &[&str],
+) -> Result<u8, Fail> {
+    match depot.open(dir, 0) {
+        Ok(disk) => {
+            let status = run(rt, room, words);
+            depot.close(dir, 0, disk);
+            status
+        }
+        Err(_) => Err(Fail::from("an opening")),
+    }
+}
+
+fn status_beside_reader(rt: &HostRuntime, room: &str, words: &[&str]) -> Result<u8, Fail> {
+    let dir = path_in(rt.alloc(), room, "A")?;
+    let mut depot = RealDepot::to_read(rt.clone()?, rt.alloc());
+    status_beside(rt, room, &mut depot, dir.as_str(), words)
+}
+
+fn status_beside_writer(rt: &HostRuntime, room: &str, words: &[&str]) -> Result<u8, Fail> {
+    let dir = path_in(rt.alloc(), room, "A")?;
+    let mut depot = RealDepot::to_write(rt.clone()?, rt.alloc());
+    status_beside(rt, room, &mut depot, dir.as_str(), words)
+}
+
+fn all_end_so_beside(rt: &HostRuntime, room: &str) -> Result<(), Fail> {
+    let _ = run(rt, room, INIT)?;
+    for (number, (words, with_reader, with_writer)) in COMMANDS.iter().enumerate() {
+        if status_beside_reader(rt, room, words)? != *with_reader
+            || status_beside_writer(rt, room, words)? != *with_writer
+        {
+            return Err(Fail::new(number));
+        }
+    }
+    Ok(())
 }
 
 /// What reads goes beside what reads, and what writes goes alone.
 #[test]
 fn commands_go_beside_each_other(rt: HostRuntime) -> Result<(), Fail> {
-    let alloc = rt.alloc();
     let room = room_with_jobs(&rt, "beside")?;
-    let dir = room.path(alloc, "A")?;
-    let _ = room.run(&rt, alloc, &["init", "@/A"])?;
-    let commands: [(&[&str], u8, u8); 4] = [
-        (CHECK, 0, 4),
-        (&["ask", "@/A", VISITS], 1, 4),
-        (&["load", "@/A", "@/jobs"], 4, 4),
-        (&["init", "@/A"], 4, 4),
-    ];
-    for (words, beside_readers, beside_writers) in commands {
-        let mut readers = RealDepot::to_read(rt.clone()?, alloc);
-        let Ok(reader) = readers.open(dir.as_str(), 0) else {
-            return Err(Fail::from("a reader"));
-        };
-        assert_eq!(rt; room.run(&rt, alloc, words)?.0, beside_readers);
-        readers.close(dir.as_str(), 0, reader);
-        let mut writers = RealDepot::to_write(rt.clone()?, alloc);
-        let Ok(writer) = writers.open(dir.as_str(), 0) else {
-            return Err(Fail::from("a writer"));
-        };
-        assert_eq!(rt; room.run(&rt, alloc, words)?.0, beside_writers);
-        writers.close(dir.as_str(), 0, writer);
-    }
-    room.clear(&rt)
+    all_end_so_beside(&rt, room.as_str())?;
+    clear(&rt, room.as_str())
 }

@@ -1,67 +1,47 @@
-// Runs of the program over the system, each in a folder of its own.
-use crate::fresh::fresh_folder;
+// Runs of the program over the system, in the room of a test.
+use crate::rooms::{is_file_in, path_in};
 use std::alloc::{AllocError, Global};
-use std::fs;
 use std::fs::File;
 use std::test::Fail;
 use swh_real::RealSink;
 use swh_start::start;
 
-/// A folder for runs. In their words `@` stands for it.
-#[derive(Drop)]
-pub struct Room {
-    folder: String,
+/// The words of a run, in which a first `@` stands for the room; the status that it gives, and what it prints.
+pub type Run = (&'static [&'static str], u8, &'static [u8]);
+
+fn spelled(alloc: Global, room: &str, word: &str) -> Result<String, AllocError> {
+    match word.strip_prefix('@') {
+        Some(rest) => format!(in alloc; "{room}{rest}"),
+        None => String::from_str(alloc, word),
+    }
 }
 
-impl Room {
-    /// A new folder, with these files.
-    pub fn fresh(
-        rt: &HostRuntime,
-        alloc: Global,
-        name: &str,
-        files: &[(&str, &[u8])],
-    ) -> Result<Room, Fail> {
-        let folder = fresh_folder(rt, alloc, name)?;
-        let room = Room { folder };
-        for (name, bytes) in files {
-            fs::write(rt, room.path(alloc, name)?.as_str(), *bytes)?;
+fn all_spelled(alloc: Global, room: &str, words: &[&str]) -> Result<Vec<String>, AllocError> {
+    let mut own = Vec::new(alloc);
+    for word in words {
+        own.push(spelled(alloc, room, word)?)?;
+    }
+    Ok(own)
+}
+
+fn printer(rt: &HostRuntime, room: &str) -> Result<RealSink<File>, Fail> {
+    let path = path_in(rt.alloc(), room, "printed")?;
+    Ok(RealSink::new(File::create(rt, path.as_str())?))
+}
+
+/// Runs the program on these words, which print into the file `printed`, and gives the status.
+pub fn run(rt: &HostRuntime, room: &str, words: &[&str]) -> Result<u8, Fail> {
+    let words = all_spelled(rt.alloc(), room, words)?;
+    Ok(start(rt, rt.alloc(), &words, printer(rt, room)?).status())
+}
+
+/// Runs the program on the words of each run, and fails with the number, from 0, of the first that ends in another way.
+pub fn all_end_so(rt: &HostRuntime, room: &str, runs: &[Run]) -> Result<(), Fail> {
+    for (number, (words, status, printed)) in runs.iter().enumerate() {
+        let given = run(rt, room, words)?;
+        if given != *status || !is_file_in(rt, room, "printed", printed)? {
+            return Err(Fail::new(number));
         }
-        Ok(room)
     }
-
-    /// A path in the folder.
-    pub fn path(&self, alloc: Global, name: &str) -> Result<String, AllocError> {
-        format!(in alloc; "{}/{name}", self.folder.as_str())
-    }
-
-    // A word, in which a first `@` stands for the folder.
-    fn word(&self, alloc: Global, word: &str) -> Result<String, AllocError> {
-        match word.strip_prefix('@') {
-            Some(rest) => format!(in alloc; "{}{rest}", self.folder.as_str()),
-            None => String::from_str(alloc, word),
-        }
-    }
-
-    /// Runs the program on these words, and gives the status and what it printed.
-    pub fn run(
-        &self,
-        rt: &HostRuntime,
-        alloc: Global,
-        words: &[&str],
-    ) -> Result<(u8, Vec<u8>), Fail> {
-        let mut own = Vec::new(alloc);
-        for word in words {
-            own.push(self.word(alloc, word)?)?;
-        }
-        let printed = self.path(alloc, "printed")?;
-        let sink = RealSink::new(File::create(rt, printed.as_str())?);
-        let end = start(rt, alloc, &own, sink);
-        Ok((end.status(), fs::read(rt, printed.as_str())?))
-    }
-
-    /// Removes the folder.
-    pub fn clear(self, rt: &HostRuntime) -> Result<(), Fail> {
-        fs::remove_dir_all(rt, self.folder.as_str())?;
-        Ok(())
-    }
+    Ok(())
 }
