@@ -6,7 +6,7 @@ use Rattle.std.specs.Prelude.{◌≡◌, ◌⊎◌, Option, Some, List, [], ◌�
 abbrev pub IsHeldIn : {X : Type 0} → (X → Option (List X)) → X → Type 0
 IsHeldIn {X} children_of n = (kids : List X) × (children_of n ≡ Some kids)
 
--- The first is held, and the second is one of its children.
+-- The parent is held, and the child is one of its children.
 pub record IsChildIn {X : Type 0} (children_of : X → Option (List X)) (parent child : X) : Type 0 where
   pub kids : List X
   pub held : children_of parent ≡ Some kids

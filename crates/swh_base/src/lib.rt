@@ -1,7 +1,9 @@
-//! Names of artifacts by their bytes, the public grammars of their bodies, and the texts and limits that several crates
-//! read and count against.
+//! What the other crates share: names of artifacts by their bytes, the public grammars of their bodies, the texts and
+//! limits that several crates read and count against, graphs of names, the kinds and statuses of visits, requests and
+//! replies, and lists that contracts see as lists.
 //! Stands on `sha1`, `hex`, `itoa`, `percent_encoding` and `swh_pieces`.
-//! Callers may rely on: an id is the namer's value of kind and body; a body names one list of children.
+//! Callers may rely on: an id is the namer's value of kind and body; a body names one list of children; what is closed
+//! in a graph stays closed as the graph grows.
 #![tactic(auto)]
 
 mod bytes;

@@ -20,7 +20,7 @@ module _ (id_of : Kind → List ℕ → List ℕ) where
   HaveTheirIds bytes [] = Unit {0}
   HaveTheirIds bytes (e ∷ es) = (id_of e.name.kind (body_in bytes e) ≡ e.name.id) × HaveTheirIds (drop (object_length e) bytes) es
 
-  -- The same of what an event added.
+  -- Where the bodies of the objects that the event added stand the bytes are bodies with their ids.
   abbrev pub HasItsIds : List ℕ → EventKind → Type 0
   HasItsIds bytes (Batch entries) = HaveTheirIds bytes entries
   HasItsIds bytes _ = Unit {0}
@@ -33,7 +33,7 @@ module _ (id_of : Kind → List ℕ → List ℕ) where
     pub ids : HasItsIds run e.what
     pub stored : tells → run ≡ packed_objects e.what
 
-  -- The same of each event.
+  -- The run of each of the events was read again, and compared so.
   abbrev pub AreCompared : Type 0 → List Event → Type 0
   AreCompared tells = AllByRecursion (IsCompared tells)
 

@@ -76,7 +76,7 @@ IsFullMark (Batch entries) id = ⊥
 IsFullMark (Open origin kind date) id = ⊥
 IsFullMark (Mark origin visit status snapshot) id = (status ≡ Full) × (snapshot ≡ Some id)
 
--- One of the events does.
+-- One of the events makes a visit full with the snapshot.
 abbrev pub IsFullIn : List Event → List ℕ → Type 0
 IsFullIn [] id = ⊥
 IsFullIn (e ∷ h) id = IsFullMark e.what id ⊎ IsFullIn h id

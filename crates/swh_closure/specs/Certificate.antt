@@ -24,7 +24,7 @@ IsGap children_of closed names root (Unlisted (Some parent) child) =
 abbrev pub IsMissing : (Name → Option (List Name)) → Name → Option Name → Name → Type 0
 -- it is the root
 IsMissing children_of root None child = (child ≡ root) × (children_of child ≡ None)
--- it is a child of a name that is reached and held, as the root is
+-- it is a child of a name that is reached and held; the root is held too
 IsMissing children_of root (Some parent) child =
     IsHeldIn children_of root × ReachesIn children_of root parent × IsChildIn children_of parent child × (children_of child ≡ None)
 

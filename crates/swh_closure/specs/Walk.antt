@@ -16,7 +16,7 @@ pub record IsTurn (children_of : Name → Option (List Name)) (names : List Name
   pub kids : children_of turn.name ≡ Some turn.kids.now
   pub listed : Contains names turn.name
 
--- The name is one of these and held, it is not known to be closed, and has no children, or has its turn.
+-- The name is among these names and held, and is not known to be closed; and it has no children, or has its turn.
 pub record IsNew (children_of : Name → Option (List Name)) (closed names : List Name) (turns : List Turn) (n : Name) : Type 0 where
   pub one_of : Contains names n
   pub held : IsHeldIn children_of n

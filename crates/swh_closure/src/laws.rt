@@ -5,7 +5,7 @@ ghost use Rattle.swh_base.specs.Reach.{IsClosedIn, CertifiesIn};
 ghost use Rattle.swh_closure.specs.declared.certificate.Gap.{Gap};
 ghost use Rattle.swh_closure.specs.Certificate.{IsGap, IsMissing};
 
-/// What speaks against names as a certificate shows that they are none.
+/// Names with a gap are no certificate.
 pub fn gaps_refute_certificates()
     ensures { (children_of : Name → Option (List Name)) (closed names : List Name) (root : Name) (gap : Gap)
         → IsGap children_of closed names root gap → CertifiesIn children_of closed names root → ⊥ }

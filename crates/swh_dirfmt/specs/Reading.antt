@@ -5,12 +5,12 @@ use Rattle.swh_dirfmt.specs.declared.fault.ReadDirFault.{ReadDirFault}
 use Rattle.swh_dirfmt.specs.declared.fault.ReadDirFault.TheVariants.{Memory, Bad}
 use Rattle.swh_dirfmt.specs.Fault.{IsDirFault}
 
--- It is the body's first fault, unless memory ran out.
+-- The fault is the body's first. Of want of memory nothing is said.
 abbrev pub ExplainsDir : List ℕ → ReadDirFault → Type 0
 ExplainsDir body Memory = Unit {0}
 ExplainsDir body (Bad bad) = IsDirFault body bad.at bad.why
 
--- It gives these entries, unless memory ran out.
+-- The answer is these entries, or memory ran out.
 abbrev pub GivesEntries : Result (List DirectoryEntry) ReadDirFault → List DirectoryEntry → Type 0
 GivesEntries (Ok found) entries = found ≡ entries
 GivesEntries (Err Memory) entries = Unit {0}

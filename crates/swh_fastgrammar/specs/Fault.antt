@@ -19,7 +19,7 @@ pub record BeginsRows (at : ℕ) (promised : Bool) (rows : List Row) : Type 0 wh
   pub commands : List Command
   pub whole : IsWhole at promised (rows ++ more) ending commands
 
--- what the lines begin with that are left out, but for features
+-- how lines begin that are left out; those that begin with `feature ` are treated apart
 abbrev pub left_out_words : List (List ℕ)
 left_out_words = codes "N " ∷ codes "ls " ∷ codes "cat-blob " ∷ codes "get-mark " ∷ codes "option " ∷ codes "alias" ∷ codes "gpgsig " ∷ codes "M 040000 " ∷ []
 
@@ -38,7 +38,8 @@ pub record IsUnfinished (rows : List Placed) : Type 0 where
   pub begins : IsItem (rows ++ more) item
   pub none : (i : Item) → IsItem rows i → ⊥
 
--- The text goes on as a stream with these rows and these whole commands, up to this rest.
+-- The text begins with these rows, with which some stream begins, and the rest follows. The whole items among the rows
+-- have these commands; behind them stand at most the first rows of one more item.
 pub record Reaches (at : ℕ) (promised : Bool) (text : List ℕ) (rows : List Row) (rest : List ℕ) (commands : List Command) : Type 0 where
   pub spelled : text ≡ text_of rows ++ rest
   pub good : AreRows rows rest

@@ -26,12 +26,12 @@ use Rattle.swh_fastgrammar.specs.declared.command.Command.TheVariants.{Blob, Com
 use Rattle.swh_fastgrammar.specs.Row.{Row, text_of, AreRows, IsData, Placed, placed}
 use Rattle.swh_fastgrammar.specs.Word.{IsMark, NamesRef, NamesTag, NamesPerson, NamesEncoding, NamesCommit, IsMode, SpellsId}
 
--- one part after the other, each of which says something;
+-- The rows are those that say the first value by `L`, and behind them those that say the second by `M`;
 infixr 30 ◌▹◌
 abbrev pub ◌▹◌ : {X Y : Type 0} → (List Placed → X → Type 0) → (List Placed → Y → Type 0) → List Placed → X × Y → Type 0
 (L ▹ M) rows v = (front : List Placed) × (back : List Placed) × (rows ≡ front ++ back) × L front v.0 × M back v.1
 
--- the same where what the first says is not kept,
+-- the same, where only the second value is kept,
 abbrev pub skipping : {X Y : Type 0} → (List Placed → X → Type 0) → (List Placed → Y → Type 0) → List Placed → Y → Type 0
 skipping {X} L M rows y = (x : X) × (L ▹ M) rows (x, y)
 
@@ -40,7 +40,7 @@ infixr 30 ◌▸◌
 abbrev pub ◌▸◌ : {X Y : Type 0} → (List Placed → X → Type 0) → (List Placed → Y → Type 0) → List Placed → Y → Type 0
 (L ▸ M) rows y = skipping L M rows y
 
--- the part, or nothing
+-- the part, or no row
 abbrev pub optional : {X : Type 0} → (List Placed → X → Type 0) → List Placed → Option X → Type 0
 optional L rows None = rows ≡ []
 optional L rows (Some x) = L rows x

@@ -14,7 +14,7 @@ pub record IsComponent (name : List ℕ) : Type 0 where
 abbrev pub components : List ℕ → List (List ℕ)
 components path = slice_split (λ c. c == 47) path
 
--- Each component is one. A path of any length is a path; that one is too long is said apart.
+-- Each part between slashes may be a component. A path of any length is a path; that one is too long is said apart.
 abbrev pub IsPath : List ℕ → Type 0
 IsPath path = AllByRecursion IsComponent (components path)
 

@@ -3,7 +3,8 @@ use Rattle.std.specs.Prelude.{ℕ}
 use Rattle.swh_fastlex.specs.declared.word.Word.{Word}
 use Rattle.swh_fastlex.specs.declared.word.Word.TheVariants.{Is, Over, No}
 
--- The text says this, and passes no limit; or it passes one, whatever it says; or it does neither.
+-- What a text is as a word. `Is`: it says this value, and passes no limit. `Over`: it passes a limit, whatever it says.
+-- `No`: it says no value, and passes no limit.
 abbrev pub IsWord : {X : Type 0} → (X → Type 0) → (ℕ → Type 0) → Word X → Type 0
 IsWord {X} Says Passes (Is x) = Says x × ((number : ℕ) → Passes number → ⊥)
 IsWord {X} Says Passes (Over number) = Passes number

@@ -15,7 +15,8 @@ SaysNothing line = (line ≡ []) ⊎ ((line ≡ codes "checkpoint") ⊎ ((text :
 abbrev pub BeginsNone : List ℕ → Type 0
 BeginsNone line = (first : Placed) (more : List Placed) (item : Item) → first.row.line ≡ line → IsItem (first ∷ more) item → ⊥
 
--- The line begins such an item, or ends the stream; or it passes a limit; or it does neither.
+-- What a line says where an item may begin. `Over`: a ref in it passes its limit. `No`: no item begins with it, and it
+-- is not `done`. Each other answer: it is the first line of such an item, or is `done`.
 abbrev pub IsItemLine : List ℕ → ItemLine → Type 0
 IsItemLine line Blob = line ≡ codes "blob"
 IsItemLine line (Commit ref) = (line ≡ codes "commit " ++ ref) × NamesRef ref ref

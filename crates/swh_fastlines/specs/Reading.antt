@@ -33,8 +33,9 @@ is_inline (Copy source path) = false
 is_inline (Move source path) = false
 is_inline Clear = false
 
--- A text says a change, whole or up to the bytes that follow its line, and passes no limit; or it passes one, whatever it
--- says; or it does neither.
+-- What a text says of a change. `Whole`: it says this change, which no bytes follow. `Inline`: it says that a path is
+-- set to the bytes that follow, whatever they are. Both pass no limit. `Over`: it passes a limit, whatever it says.
+-- `No`: it says no change, and passes no limit.
 abbrev pub IsChangeLine : (Change → Type 0) → (ℕ → Type 0) → ChangeLine → Type 0
 IsChangeLine Says Passes (Whole change) = Says change × (is_inline change ≡ false) × ((number : ℕ) → Passes number → ⊥)
 IsChangeLine Says Passes (Inline mode path) = ((bytes : List ℕ) → Says (Set mode (Of.Inline bytes) path)) × ((number : ℕ) → Passes number → ⊥)

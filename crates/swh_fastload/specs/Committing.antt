@@ -77,7 +77,8 @@ module _ (id : Kind → List ℕ → List ℕ) where
     pub short : AreShort before
     pub first : ((more : List Made) × (rest ≡ object ∷ more)) ⊎ ((rest ≡ []) × IsDirectoryIn id changed.tree object)
 
-  -- It is what is missing, or else the length of a content or a directory, unless memory ran out.
+  -- Why no tree is made: the fault is what is missing, or else the length of a content or a directory above the limit.
+  -- Of want of memory nothing is said.
   abbrev pub ExplainsTreeMade : Result Changed Missing → FeedFault → Type 0
   ExplainsTreeMade changes (BadStream at why) = changes ≡ Err (record { at = at; why = why })
   ExplainsTreeMade changes (Limit which number) = (which ≡ Body) × IsOverIn changes number

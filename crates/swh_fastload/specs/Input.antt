@@ -50,7 +50,7 @@ module _ (id : Kind → List ℕ → List ℕ) where
     pub passes : PassesFirst 0 false text commands which number
     pub carried : AreCarriedOut commands making
 
-  -- The text starts with whole commands that are carried out, and with one more, of which this holds.
+  -- The text begins with whole commands that are carried out, and with one more, of whose result `P` holds.
   pub record StopsAt (text : List ℕ) (P : Result Making Missing → Type 0) : Type 0 where
     pub commands : List Command
     pub command : Command
@@ -60,7 +60,7 @@ module _ (id : Kind → List ℕ → List ℕ) where
     pub carried : AreCarriedOut commands making
     pub stops : P (step id making.aims command)
 
-  -- A body that the next command makes has so many bytes, more than it may.
+  -- The next command makes a body of `number` bytes, above the limit.
   abbrev pub MakesAbove : List ℕ → Which → ℕ → Type 0
   MakesAbove text which number = (which ≡ Body) × StopsAt text (λ found. IsTooLong id found number)
 
@@ -96,12 +96,13 @@ module _ (id : Kind → List ℕ → List ℕ) (head : Option (List ℕ)) where
 unfoldable pub Means : (Kind → List ℕ → List ℕ) → Option (List ℕ) → List ℕ → StreamMeaning → Type 0
 Means id head text making = MeansStream id head text making
 
--- Where this head is named, or none, the input breaks so: its first fault, or the first limit that it passes.
+-- The input breaks in this way, where this head is named, or none: by its first fault, or by the first limit that it
+-- passes.
 unfoldable pub Breaks : (Kind → List ℕ → List ℕ) → Option (List ℕ) → List ℕ → BadStream → Type 0
 Breaks id head text (Stream at why) = BreaksAt id text at why ⊎ StopsAt id text (λ found. found ≡ Err (record { at = at; why = why }))
 Breaks id head text (Limit which number) = PassesAt id text which number ⊎ (MakesAbove id text which number ⊎ EndsAbove id head text which number)
 
--- An input may break so, whatever it is: by any fault at any place, by a limit that its text or a body passes, or by refs.
+-- Some input may break in this way: by any fault at any place, by a limit that its text or a body passes, or by refs.
 unfoldable pub MayBreak : BadStream → Type 0
 MayBreak (Stream at why) = Unit {0}
 MayBreak (Limit which number) = MayPass which number ⊎ ((which ≡ Refs) × (refs_limit < number))

@@ -12,7 +12,7 @@ use Rattle.swh_fastmeaning.specs.Commands.{Making, Makes, no_making, steps}
 use Rattle.swh_fastmeaning.specs.Feeding.{Loading}
 use Rattle.swh_fastload.specs.Input.{beginning}
 
--- What is known after some commands, and the objects that were given for them, as what the commands make.
+-- What a loader knows after some commands is what these commands make: marks and tips, and the objects that were given.
 pub record StandsFor (id : Kind → List ℕ → List ℕ) (l : Loading) (objects : List Entry) (making : Making) : Type 0 where
   pub aims : l.aims ≡ making.aims
   pub given : l.given ≡ made objects

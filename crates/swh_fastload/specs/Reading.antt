@@ -29,7 +29,7 @@ read_fault SourceFailed = ReadFault
 read_fault (PassesLimit which number) = Bad (Limit which number)
 read_fault ReadMemory = Memory
 
--- why one is refused of which a command is not carried out
+-- why an input is refused of which a command is not carried out
 abbrev pub feed_fault : FeedFault → InputFault
 feed_fault (BadFeed at why) = Bad (Stream at why)
 feed_fault (PassesBody which number) = Bad (Limit which number)
@@ -71,7 +71,8 @@ pub record ReadsUpTo (text now : List ℕ) : Type 0 where
   pub cut : ending ≡ front ++ now
   pub within : length front ≤ length done_line + WINDOW
 
--- Why a text is not carried out, which a source tells or not; its count of faults before and after.
+-- Why the text of a source is not carried out: it breaks so, which is said of the text where the source tells it; or
+-- the source failed, and its count of faults rose from `old` to `new`; or memory ran out.
 abbrev pub FailsSo : (Kind → List ℕ → List ℕ) → Type 0 → List ℕ → ℕ → ℕ → InputFault → Type 0
 FailsSo id tells text old new (Bad bad) = MayBreak bad × (tells → (head : Option (List ℕ)) → Breaks id head text bad)
 FailsSo id tells text old new ReadFault = Rose old new
@@ -83,7 +84,7 @@ BreaksSo id head text (Bad bad) = Breaks id head text bad
 BreaksSo id head text ReadFault = ⊥
 BreaksSo id head text Memory = Unit {0}
 
--- No source failed, and an input may break so.
+-- No source failed, and where the fault is the input's, some input may break so.
 abbrev pub IsQuiet : InputFault → Type 0
 IsQuiet (Bad bad) = MayBreak bad
 IsQuiet ReadFault = ⊥

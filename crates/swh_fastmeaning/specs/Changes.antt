@@ -40,7 +40,7 @@ pub record IsChangedTo (found : Result Changed Missing) (grove : Grove) (tree : 
   pub stands : StandsFor grove tree changed.tree
   pub holds : HoldsContents changed.contents objects over
 
--- It is what is missing, unless memory ran out.
+-- Why a change is refused: the fault is what is missing. Of want of memory nothing is said.
 abbrev pub ExplainsChange : {X : Type 0} → Result X Missing → FeedFault → Type 0
 ExplainsChange found (BadStream at why) = found ≡ Err (record { at = at; why = why })
 ExplainsChange found (Limit which number) = ⊥

@@ -30,7 +30,7 @@ Target = Aim PathMap
 abbrev pub Targets : Type 0
 Targets = AllAims PathMap
 
--- the second, with what the first gives
+-- `f` of what was found; or what is missing, where something is
 infixl 10 ◌>>=◌
 abbrev pub ◌>>=◌ : {X Y : Type 0} → Result X Missing → (X → Result Y Missing) → Result Y Missing
 (Ok x) >>= f = f x
@@ -41,15 +41,15 @@ pub record Changed : Type 0 where
   pub tree : PathMap
   pub contents : List Made
 
--- with another tree, and these contents more
+-- the same with another tree, and these contents more
 abbrev pub turned : Changed → PathMap → List Made → Changed
 turned c tree more = record { tree = tree; contents = c.contents ++ more }
 
--- with this at the path
+-- the same with a file of this mode and id at the path, and these contents more
 abbrev pub put : Changed → List ℕ → ℕ → List ℕ → List Made → Changed
 put c path mode id more = turned c (set (components path) (record { mode = mode; id = id }) c.tree) more
 
--- the second, where something stands at the source or under it
+-- `c` with this tree, where something stands at the source or under it; else the source is missing, in the line at `at`
 abbrev pub if_there : List ℕ → Changed → ℕ → PathMap → Result Changed Missing
 if_there source c at tree = elim (held (components source) c.tree) [ [] ↦ Err (record { at = at; why = NoPlace }) | _ ∷ _ ↦ Ok (turned c tree []) ]
 

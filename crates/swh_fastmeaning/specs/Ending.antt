@@ -39,7 +39,8 @@ abbrev pub Ascend : List SnapshotBranch → Type 0
 Ascend [] = Unit {0}
 Ascend (b ∷ bs) = AllByRecursion (BranchIsBefore b) bs × Ascend bs
 
--- Of these branches: those before `HEAD`, that of this name, and those after it.
+-- These are the parts of all branches: those whose names come before `HEAD`, those of that name, and those whose names
+-- come after it.
 pub record AreSides (all : List SnapshotBranch) (s : Sides) : Type 0 where
   pub before : branch_views s.before.items ≡ filter (λ b. is_greater (head_to b)) all
   pub same : branch_views s.same.items ≡ filter (λ b. is_eq (head_to b)) all
@@ -70,7 +71,8 @@ PassesEnd head aims which number =
     ((which ≡ Refs) × (number ≡ length (refs_of aims)) × (refs_limit < number))
     ⊎ ((which ≡ Body) × (length (refs_of aims) ≤ refs_limit) × (number ≡ length (snapshot_of head aims).body) × (body_limit < number))
 
--- There are too many refs with a tip, or else the body is above the limit, unless memory ran out.
+-- Why a stream's end is refused: too many refs have a tip, or else the snapshot's body is above the limit. Of want of
+-- memory nothing is said.
 abbrev pub ExplainsEnd : {T : Type 0} → Option (List ℕ) → AllAims T → FeedFault → Type 0
 ExplainsEnd head aims (BadStream at why) = ⊥
 ExplainsEnd head aims (Limit which number) = PassesEnd head aims which number

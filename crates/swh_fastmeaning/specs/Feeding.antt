@@ -63,7 +63,8 @@ module _ (id : Kind → List ℕ → List ℕ) where
     pub short : AreShort before
     pub first : ((more : List Made) × (rest ≡ object ∷ more)) ⊎ ((last : Made) × (rest ≡ last ∷ []))
 
-  -- It is what is missing, or else the length of a body, unless memory ran out.
+  -- Why a command is refused: the fault is what is missing, or else the length of a body above the limit. Of want of
+  -- memory nothing is said.
   abbrev pub ExplainsFeed : Result Making Missing → FeedFault → Type 0
   ExplainsFeed found (BadStream at why) = found ≡ Err (record { at = at; why = why })
   ExplainsFeed found (Limit which number) = (which ≡ Body) × IsTooLong found number

@@ -11,7 +11,7 @@ use Rattle.swh_fastmeaning.specs.Stock.{Stock, stock}
 abbrev pub stock_of : {N : Type 0} → Parts N → Stock
 stock_of p = stock p.trees p.aims p.seen
 
--- The body has this many bytes, above the limit, unless memory ran out.
+-- Why a body is refused: the fault is its length, which is above the limit. Of want of memory nothing is said.
 abbrev pub ExplainsBody : List ℕ → FeedFault → Type 0
 ExplainsBody body (BadStream at why) = ⊥
 ExplainsBody body (Limit which number) = (which ≡ Body) × (number ≡ length body) × (body_limit < number)

@@ -108,7 +108,7 @@ module _ (id : Kind → List ℕ → List ℕ) where
   AreReady before [] = Unit {0}
   AreReady before (m ∷ ms) = IsReady before m × AreReady (before ++ m ∷ []) ms
 
-  -- Of the objects that are made those are given that were not before.
+  -- Of the objects `ms` those are given that were not given before.
   pub record Gives (ms old new : List Made) (objects : List Entry) : Type 0 where
     pub given : new ≡ old ++ made objects
     pub each : AllByRecursion (λ e. Contains ms (made_from e)) objects

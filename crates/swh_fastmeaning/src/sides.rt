@@ -14,7 +14,8 @@ use swh_snpfmt::{Branch, Target};
 /// The refs with a tip, but for `HEAD`, that a snapshot may have.
 pub const REFS_LIMIT: u64 = 65_536;
 
-/// Branches by their names: those before `HEAD`, that of this name, and those after it.
+/// Branches in three parts: those whose names come before `HEAD`, those of that name, and those whose names come after
+/// it.
 #[derive(Drop)]
 pub struct Sides {
     pub before: Vec<Branch>,

@@ -16,7 +16,8 @@ pub record Standing : Type 0 where
   pub promised : Bool
   pub ending : Ending
 
--- From the old place on the stream starts with this command, which is one of the grammar, and goes on from the new one.
+-- From the old place on the stream begins with this command, and goes on from the new place; the command is one that
+-- the grammar can give.
 pub record LeadsOn (old new : Standing) (command : Command) : Type 0 where
   pub rows : List Placed
   pub says : IsCommand rows command
@@ -33,7 +34,7 @@ ending_of (Ok (Some command)) = Open
 ending_of (Ok None) = AtEnd
 ending_of (Err fail) = Refused fail
 
--- Where it ended it answers the same as before, and stays as it is.
+-- A reader whose stream ended, or was refused, answers the same as before, and stays as it is.
 abbrev pub Repeats : Ending → Standing → Standing → Result (Option Command) ReadFail → Type 0
 Repeats Open old new result = Unit {0}
 Repeats AtEnd old new result = (result ≡ Ok None) × (new ≡ old)

@@ -44,7 +44,7 @@ pub record EndsHere (old new : Place) (promised : Bool) : Type 0 where
   pub stream : IsStreamBefore old.at promised (left old) [] (left new)
   pub held : (left new ≡ []) ⊎ (new.held ≡ done_line)
 
--- what stands here
+-- What was read where a command may begin: a command, a promise of `done`, a line that says nothing, or the end.
 abbrev pub FindsStep : Place → Place → Bool → Step → Type 0
 FindsStep old new promised (Command c) = Reads IsCommand old new c
 FindsStep old new promised Promise = Whole old new Promises
@@ -56,7 +56,8 @@ abbrev pub FindsNext : Place → Place → Bool → Bool → Option Said → Typ
 FindsNext old new before after None = EndsHere old new before
 FindsNext old new before after (Some c) = FindsCommand old new before after c
 
--- Rows were taken.
+-- At least one byte was taken, unless the stream ended here; with a promise, or a line that says nothing, no byte
+-- behind the limit of a stream.
 abbrev pub Moves : Place → Place → Step → Type 0
 Moves old new (Command c) = old.at < new.at
 Moves old new Promise = (old.at < new.at) × (new.at ≤ STREAM_LIMIT)

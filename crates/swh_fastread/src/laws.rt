@@ -1,5 +1,5 @@
-//! What a text is from a position on, within the limits: what whole commands in front of it make of it, and that it is one
-//! thing only.
+//! Laws of what a text is from a position on, within the limits: it is one thing only, and behind whole commands the
+//! rest decides what.
 ghost use Rattle.std.specs.Prelude.{◌≡◌, ◌++◌, ℕ, Bool, List};
 ghost use Rattle.swh_base.specs.declared.visit.Which.{Which as Limit};
 ghost use Rattle.swh_fastgrammar.specs.declared.command.Command.{Command as Said};
@@ -7,7 +7,7 @@ ghost use Rattle.swh_fastgrammar.specs.declared.fault.StreamWhy.{StreamWhy as Wh
 ghost use Rattle.swh_fastrows.specs.Outcome.{IsStreamWithin, IsFaultWithin, PassesFirst, StartsWith};
 ghost use Rattle.swh_fastrows.specs.Places.{Position};
 
-/// A text that starts with whole commands is these, and what it is from where they end.
+/// A text that begins with whole commands is what the rest behind them is, with these commands in front.
 pub fn starts_go_on()
     ensures stream { (a b : Position) (front cs : List Said) → StartsWith a b front
         → IsStreamWithin b.at b.promised b.left cs → IsStreamWithin a.at a.promised a.left (front ++ cs) }

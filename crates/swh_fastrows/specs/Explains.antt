@@ -100,7 +100,8 @@ Stops old ReadFault = Unit {0}
 Stops old (Limit which number) = PassesAfter old which number
 Stops old Memory = Unit {0}
 
--- The next line counts, passes no limit, and begins here.
+-- The next line is no comment, passes no limit by itself, begins at `at`, and belongs to what is left out exactly where
+-- `out` says so.
 pub record LineAt (old : Place) (at : ℕ) (out : Bool) : Type 0 where
   pub line : List ℕ
   pub first : FirstLine (left old) line
@@ -128,7 +129,7 @@ line_refusal line at = if is_left_out line then BadStream at LeftOut else BadStr
 abbrev pub IsClear : Position → Type 0
 IsClear p = LineFits p.at p.left
 
--- The part was read as far as it goes; or as far as no limit is passed.
+-- The part was read, and no next line goes on with it, unless that line passes a limit.
 pub record Reads {X : Type 0} (L : List Placed → X → Type 0) (old new : Place) (x : X) : Type 0 where
   pub rows : List Placed
   pub took : Took old new rows

@@ -20,7 +20,7 @@ MayPass Path number = path_limit < number
 MayPass Ref number = tag_limit < number
 MayPass Refs number = ⊥
 
--- A stream may be refused so.
+-- Some stream may be refused for this.
 abbrev pub MayFail : ReadFail → Type 0
 MayFail (BadStream at why) = Unit {0}
 MayFail ReadFault = Unit {0}

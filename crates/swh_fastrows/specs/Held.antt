@@ -102,7 +102,7 @@ pub record LongLine (old new : Place) (word : List ℕ) : Type 0 where
   pub cut : old.rest ≡ (bytes ++ front) ++ new.rest
   pub more : new.rest ≢ []
 
--- Lines are passed that have more bytes than they may.
+-- Lines were read that together have more bytes than the limit.
 pub record ManyLines (old new : Place) (word : List ℕ) (limit : ℕ) : Type 0 where
   pub bytes : List ℕ
   pub lines : AreLines word bytes

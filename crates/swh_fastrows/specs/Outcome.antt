@@ -1,5 +1,6 @@
--- What a text is from a position on, within the limits: a stream, a text with a first fault, or one that passes a limit
--- first; and whole items with which it starts, from which it goes on as what follows them.
+-- What a text is from a position on, within the limits: a stream, a text with a first fault, or one that first passes a
+-- limit. And the whole items with which it begins; what it is from the position behind them on is asked in the same
+-- way.
 use Rattle.std.specs.Prelude.{◌≡◌, ◌⊎◌, ℕ, Bool, true, false, ◌||◌, ◌+◌, List, [], ◌∷◌, ◌++◌, length}
 use Rattle.swh_base.specs.declared.visit.Which.{Which}
 use Rattle.swh_fastgrammar.specs.declared.command.Command.{Command}
@@ -54,12 +55,12 @@ pub record PassesFirst (at : ℕ) (promised : Bool) (text : List ℕ) (commands 
   pub fit : AllFit at rows rest
   pub passes : LinePasses (at + length (text_of rows)) rest which number ⊎ (DataPasses (at + length (text_of rows)) rest which number × DataMayCome at promised rows rest)
 
--- No item goes on from these rows with what is next.
+-- No item begins with these rows and goes on with a row whose line comes next in the text.
 abbrev pub Ended : List Placed → List ℕ → Type 0
 Ended part text = (p : Placed) (more : List Placed) (item : Item) → MayCount text p.row.line → IsItem (part ++ p ∷ more) item → ⊥
 
--- The text starts with a whole item, whose rows pass no limit, and goes on from the new position. No next line goes on with
--- the item, unless it passes a limit.
+-- The text begins with this whole item, none of whose rows passes a limit, and `new` is the position behind it. The
+-- next line does not go on with the item, unless that line passes a limit.
 pub record Starts (old new : Position) (item : Item) : Type 0 where
   pub rows : List Row
   pub spelled : old.left ≡ text_of rows ++ new.left

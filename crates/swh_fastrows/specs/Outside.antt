@@ -1,4 +1,4 @@
--- How a reader tells what failed outside.
+-- How a reader is refused whose source failed, or for which memory ran out.
 use Rattle.swh_fastrows.specs.declared.fail.Outside.{Outside}
 use Rattle.swh_fastrows.specs.declared.fail.Outside.TheVariants.{Failed, Memory}
 use Rattle.swh_fastrows.specs.declared.fail.ReadFail.{ReadFail}

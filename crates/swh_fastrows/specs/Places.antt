@@ -1,4 +1,4 @@
--- What a reader answers, in whole texts: what is to be read before and after.
+-- What a reader of rows answers, said of what is left to be read before and after.
 use Rattle.std.specs.Prelude.{◌≡◌, ◌⊎◌, ℕ, Bool, true, false, not, ◌==◌, ◌≤◌, ◌+◌, List, [], ◌∷◌, ◌++◌, Option, Some, None, length, Contains, codes}
 use Rattle.swh_fastlex.specs.declared.source.TheConstants.{WINDOW}
 use Rattle.swh_fastgrammar.specs.Fault.{is_left_out}
@@ -16,7 +16,7 @@ pub record Place : Type 0 where
   pub faults : ℕ
   pub path : List ℕ
 
--- Of these bytes the first few are not left in the source, no more of them than a window holds.
+-- The bytes `now` are `rest` without a front, which is no longer than a window: the reader holds it.
 pub record HoldsFront (rest now : List ℕ) : Type 0 where
   pub front : List ℕ
   pub cut : rest ≡ front ++ now
@@ -39,7 +39,7 @@ pub record Took (old new : Place) (part : List Placed) : Type 0 where
 abbrev pub Refuses : {X : Type 0} → (List Placed → X → Type 0) → List ℕ → Type 0
 Refuses {X} L text = (p : Placed) (more : List Placed) (x : X) → FirstLine text p.row.line → L (p ∷ more) x → ⊥
 
--- A first line of the text is none that is skipped.
+-- The text's first line, if it has a whole one, is no comment.
 abbrev pub Counts : List ℕ → Type 0
 Counts text = (line : List ℕ) → FirstLine text line → is_comment line ≡ false
 
@@ -93,7 +93,8 @@ pub record LineLacks (old : Place) (at : ℕ) : Type 0 where
   pub no_feed : Contains (left before) 10 → ⊥
   pub here : at ≡ before.at + length (left before)
 
--- The line opens data that are cut off, within the limits: what follows it is no row, and is one with some more bytes.
+-- The next line opens data which the end of the input cuts off, and no limit is passed: what is left is no row yet, and
+-- would begin with one if some more bytes followed.
 pub record DataLacks (old : Place) (at : ℕ) : Type 0 where
   pub before : Place
   pub line : List ℕ
@@ -114,7 +115,7 @@ pub record Position : Type 0 where
   pub promised : Bool
   pub left : List ℕ
 
--- where a reader of commands stands that is at this place
+-- the position of a reader at this place, with `done` promised or not
 abbrev pub position : Place → Bool → Position
 position place promised = record { at = place.at; promised = promised; left = left place }
 
@@ -131,6 +132,6 @@ abbrev pub opens_none : List ℕ → Bool
 opens_none [] = false
 opens_none (c ∷ word) = not (c == 100)
 
--- The first line of the text that counts may be this one: it is the first, or the first does not count.
+-- This line may be the first that is no comment: it is the text's first line, or the first line is a comment.
 abbrev pub MayCount : List ℕ → List ℕ → Type 0
 MayCount text line = FirstLine text line ⊎ ((first : List ℕ) × FirstLine text first × (is_comment first ≡ true))

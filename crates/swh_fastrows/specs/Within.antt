@@ -82,7 +82,7 @@ pub record LongInside (text : List ℕ) (number : ℕ) : Type 0 where
 abbrev pub IsCut : List ℕ → Type 0
 IsCut text = (row : Row) (next : List ℕ) → text ≡ row_text row ++ next → IsRow row next → ⊥
 
--- The next row ends so many bytes on; or the input does, inside it.
+-- The next row has this many bytes; or the input ends inside it, after this many.
 abbrev pub RowEnds : List ℕ → ℕ → Type 0
 RowEnds text size = ((row : Row) × (next : List ℕ) × (text ≡ row_text row ++ next) × IsRow row next × (size ≡ length (row_text row))) ⊎ (IsCut text × (size ≡ length text))
 
@@ -122,7 +122,7 @@ pub record Fits (at : ℕ) (text : List ℕ) : Type 0 where
   pub line : LineFits at text
   pub inside : DataFits at text
 
--- No row passes a limit at its place; this follows them.
+-- None of these rows, which `next` follows, passes a limit at its place.
 abbrev pub AllFit : ℕ → List Row → List ℕ → Type 0
 AllFit at [] next = Unit {0}
 AllFit at (row ∷ rows) next = Fits at (text_of (row ∷ rows) ++ next) × AllFit (at + length (row_text row)) rows next

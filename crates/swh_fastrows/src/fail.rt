@@ -5,7 +5,7 @@ use swh_base::{Memory, Which};
 use swh_fastgrammar::StreamWhy;
 use swh_outside::Failed;
 
-/// Why nothing more is read from outside.
+/// Why nothing more is read of a source: it failed, or memory ran out.
 #[derive(Clone, Copy, Debug, PartialEq, Eq)]
 pub enum Outside {
     /// The source failed, and its count of faults rose.

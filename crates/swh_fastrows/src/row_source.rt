@@ -89,7 +89,8 @@ impl<S: Source> Rows<S> {
         self.at
     }
 
-    /// The same, which is never far behind the end that a stream may have.
+    /// The place of the first byte that was not taken, of which contracts here also say that it is never far behind the
+    /// end that a stream may have.
     pub fn place(&self) -> u64
         ensures at { result ≡ self.now.at }
         ensures within { result ≤ 2 ^ 33 }

@@ -24,7 +24,7 @@ pub record GoesAt (bytes : List ℕ) (place : Place) : Type 0 where
   pub goes : MayContinue place
   pub short : length bytes ≤ head_limit
 
--- A session may go on so.
+-- A session in this state may take more bytes.
 abbrev pub MayTakeMore : State → Type 0
 MayTakeMore (Head bytes place) = GoesAt bytes.items place
 MayTakeMore (Body head framed body) =
@@ -56,7 +56,8 @@ pub record StaysClosed (rest : List ℕ) (turn : Turn) : Type 0 where
   pub silent : turn.ask ≡ None
   pub closed : turn.state ≡ Closed
 
--- The whole bytes are these asks, and then what the bytes held and the rest are.
+-- The whole bytes are these asks, and then what the held bytes with the rest behind them are. Where no bytes wait any
+-- more, the whole bytes are these asks alone.
 abbrev pub SoFar : List ℕ → List Ask → Option (List ℕ) → List ℕ → Type 0
 SoFar whole asks None rest = AreAsks whole asks None
 SoFar whole asks (Some held) rest =

@@ -1,6 +1,7 @@
 //! Requests and replies on the wire: HTTP/1.0 and 1.1, over one connection.
 //! Stands on `swh_base`, `swh_pieces`, `httparse`, `http` and `itoa`.
-//! Callers may rely on: over any pieces the requests are those of the bytes, and a refusal comes exactly in its case.
+//! Callers may rely on: over any pieces the requests are those of the bytes, a refusal comes exactly in its case, and a
+//! reply is written as RFC 9112 has it.
 #![tactic(auto)]
 
 mod ask;

@@ -190,7 +190,7 @@ fn head_turn(alloc: Global, bytes: Vec<u8>, place: Place, rest: &[u8]) -> Result
     }
 }
 
-/// What waits takes bytes up to the end of what they ask first.
+/// Takes bytes behind those that wait, up to the end of the first ask among them.
 pub fn take_turn(alloc: Global, state: State, rest: &[u8]) -> Result<Turn, Memory>
     requires ready { MayTakeMore state }
     requires more { 0 < length rest.now }

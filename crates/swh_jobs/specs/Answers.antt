@@ -14,12 +14,12 @@ job_of line = record { url = line.url; path = string_bytes line.path; head = lin
 abbrev pub owned_jobs : List JobLine → List Job
 owned_jobs lines = map job_of lines
 
--- The bytes spell no jobs, unless memory ran out.
+-- The bytes spell no jobs, or memory ran out.
 abbrev pub SpellsNone : List ℕ → JobsFault → Type 0
 SpellsNone bytes (Bad line why) = (jobs : List Job) → IsJobFile bytes jobs → ⊥
 SpellsNone bytes Memory = Unit {0}
 
--- It is the first fault of the bytes, unless memory ran out.
+-- The fault is the first of the bytes. Of want of memory nothing is said.
 abbrev pub ExplainsJobs : List ℕ → JobsFault → Type 0
 ExplainsJobs bytes (Bad line why) = IsJobFileFault bytes line why
 ExplainsJobs bytes Memory = Unit {0}

@@ -46,19 +46,19 @@ pub record BeginsJob (bytes : List ℕ) (job : Job) : Type 0 where
   pub text : bytes ≡ line_text job ++ behind
   pub ends : EndsLine behind
 
--- The line that the bytes begin with spells a job whose origin one of these has.
+-- The bytes begin with the line of a job whose origin an earlier job has.
 pub record RepeatsOrigin (before : List Job) (bytes : List ℕ) : Type 0 where
   pub job : Job
   pub begins : BeginsJob bytes job
   pub again : Contains (origins before) job.url
 
--- After these jobs' lines the bytes go on with a line that breaks so.
+-- Behind the lines of these jobs comes a line that breaks in the way that the variant names.
 abbrev pub LineBreaks : List Job → List ℕ → JobWhy → Type 0
 LineBreaks before rest Form = (length before < most_jobs) × ((job : Job) → BeginsJob rest job → ⊥)
 LineBreaks before rest Origin = (length before < most_jobs) × RepeatsOrigin before rest
 LineBreaks before rest Limit = length before ≡ most_jobs
 
--- The first line that breaks has this number, and breaks so.
+-- The first line that breaks has the number `line`, and breaks as `why` says.
 pub record IsJobFileFault (bytes : List ℕ) (line : ℕ) (why : JobWhy) : Type 0 where
   pub before : List Job
   pub rest : List ℕ

@@ -10,13 +10,13 @@ use Rattle.swh_jobs.specs.JobFile.{LineBreaks, lines_text, most_jobs, origins}
 use Rattle.swh_jobs.specs.declared.fault.JobsFault.{JobsFault}
 use Rattle.swh_jobs.specs.declared.fault.JobsFault.TheVariants.{Bad, Memory}
 
--- The line is cut so, whatever its parts are.
+-- These are the fields of the line, between its TABs, whether or not they are fields of a job.
 pub record HasFields (line : List ℕ) (job : Job) : Type 0 where
   pub text : line ≡ line_text job
   pub url_no_tab : Contains job.url 9 → ⊥
   pub path_no_tab : Contains job.path 9 → ⊥
 
--- The bytes begin with this line, without its LF, and go on so.
+-- The bytes begin with this line, which is given without its LF, and go on with `rest`.
 pub record IsFirstLine (bytes line rest : List ℕ) : Type 0 where
   pub one_line : Contains line 10 → ⊥
   pub text : (bytes ≡ line ++ 10 ∷ rest) ⊎ ((bytes ≡ line) × (rest ≡ []))
@@ -35,7 +35,7 @@ pub record MayFollowJobs (before : List Job) (job : Job) : Type 0 where
   pub is_job : IsJob job
   pub fresh : Contains (origins before) job.url → ⊥
 
--- It is the fault of the line that these bytes begin with, unless memory ran out.
+-- The fault is that of the line with which these bytes begin. Of want of memory nothing is said.
 abbrev pub ExplainsNext : List Job → List ℕ → JobsFault → Type 0
 ExplainsNext before rest (Bad line why) = (line ≡ length before + 1) × LineBreaks before rest why
 ExplainsNext before rest Memory = Unit {0}

@@ -8,11 +8,11 @@ use swh_base::Memory;
 /// What is wrong with a line: `Limit` where it holds, else the first of the others that holds.
 #[derive(Clone, Copy, Debug, PartialEq, Eq)]
 pub enum JobWhy {
-    /// It spells no job.
+    /// The line spells no job.
     Form,
-    /// It spells a job, and a line before it has its origin.
+    /// The line spells a job, and a line before it has its origin.
     Origin,
-    /// It is the 257th, whatever stands in it.
+    /// The line is the 257th, whatever stands in it.
     Limit,
 }
 

@@ -15,11 +15,11 @@ pub record Attempt : Type 0 where
   pub origin : List ℕ
   pub date : ℕ
 
--- an attempt of this one, at this origin, on this date
+-- the attempt of the worker `by` to load this origin on this date
 abbrev pub attempt : ℕ → List ℕ → ℕ → Attempt
 attempt by origin date = record { by = by; origin = origin; date = date }
 
--- the open_event of its visit
+-- the event that opens its visit
 abbrev pub open_event : Attempt → Event
 open_event a = record { by = a.by; what = Open a.origin Fast a.date }
 
@@ -27,11 +27,11 @@ open_event a = record { by = a.by; what = Open a.origin Fast a.date }
 abbrev pub mark_event : Attempt → ℕ → Status → Option (List ℕ) → Event
 mark_event a number status snapshot = record { by = a.by; what = Mark a.origin number status snapshot }
 
--- a batch of these
+-- the event that adds a batch of these entries
 abbrev pub batch_event : ℕ → List Entry → Event
 batch_event by entries = record { by = by; what = Batch entries }
 
--- The event is this one.
+-- The event `e` is `x`.
 abbrev pub IsEvent : Event → Event → Type 0
 IsEvent x e = e ≡ x
 
@@ -39,12 +39,12 @@ IsEvent x e = e ≡ x
 abbrev pub AreAmong : List Entry → List Entry → Type 0
 AreAmong objects entries = AllByRecursion (Contains objects) entries
 
--- The event is a batch of these, and there are some.
+-- The event adds a batch of these entries, and there are some.
 pub record IsBatchOf (by : ℕ) (entries : List Entry) (e : Event) : Type 0 where
   pub is : e ≡ batch_event by entries
   pub some : entries ≢ []
 
--- The event is a batch of some of these objects.
+-- The event adds a batch of some of these objects.
 pub record IsBatchAmong (by : ℕ) (objects : List Entry) (e : Event) : Type 0 where
   pub entries : List Entry
   pub is_of : IsBatchOf by entries e
@@ -65,7 +65,7 @@ pub record IsOwn (IsAllowed : List Entry → Type 0) (a : Attempt) (number : ℕ
   pub by_one : e.by ≡ a.by
   pub kind : IsOwnKind IsAllowed a.origin number e.what
 
--- Events like these were added after the history, and no count of faults fell.
+-- Events that `IsAdded` allows were added after the history, and no count of faults fell.
 pub record AddsEvents {D : Type 0} (faults : D → ℕ) (IsAdded : Event → Type 0) (old new : Kept D) : Type 0 where
   pub more : List Event
   pub behind : new.history ≡ old.history ++ more

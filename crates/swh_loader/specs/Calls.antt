@@ -18,7 +18,8 @@ all_calls h (e ∷ more) = calls_for h e ++ all_calls (h ++ e ∷ []) more
 abbrev pub kept_files : {D : Type 0} → (D → File) → Kept D → Files
 kept_files file k = files_of (file k.ledger) (file k.store)
 
--- The calls of an event like these, which may happen next and fits its fields, were made up to one that failed.
+-- The calls of an event for which `IsNext` holds, which may happen next and fits its fields, were made up to one that
+-- failed.
 pub record BreaksAtEvent (id : Kind → List ℕ → List ℕ) (IsNext : Event → Type 0) (h : List Event) (old new : Files) : Type 0 where
   pub event : Event
   pub next : IsNext event

@@ -41,7 +41,7 @@ pub record IsMadeBy (id : Kind → List ℕ → List ℕ) (head : Option (List �
   pub means : MeansObjects id head text objects snapshot
   pub among : Contains objects e
 
--- The source makes each of these, where it tells what it is.
+-- Where the source tells what is left of it, those bytes make each of these entries.
 abbrev pub AreMadeBy : {S : Type 0} → (Kind → List ℕ → List ℕ) → Option (List ℕ) → Sources S → S → List Entry → Type 0
 AreMadeBy id head sources s entries = sources.tells → AllByRecursion (IsMadeBy id head (sources.left s)) entries
 
@@ -79,7 +79,8 @@ IsSentEnd bodies made (Failed (Collision name)) = IsCollision bodies made.object
 IsSentEnd bodies made (Failed Read) = ⊥
 
 module _ {S : Type 0} (id : Kind → List ℕ → List ℕ) (head : Option (List ℕ)) (sources : Sources S) (bodies : Bodies) where
-  -- Why a source is bad, as it was and as it is now; the count of faults of one that failed rose.
+  -- Why a source, `s` before the load and `now` after it, is bad: what was left of it breaks so, or an object of it
+  -- collides; or it failed, and its count of faults rose.
   abbrev pub IsBad : S → S → BadInput → Type 0
   IsBad s now (Broken bad) = BreaksLeft id head sources s bad
   IsBad s now (Collision name) = sources.tells → Collided id head (sources.left s) bodies name

@@ -31,7 +31,7 @@ AreAllowed id head sources NotFound entries = AllowsNoBatch entries
 AreAllowed id head sources Failed entries = AllowsNoBatch entries
 AreAllowed id head sources Memory entries = AllowsNoBatch entries
 
--- The events of one load: none, or its visit's open_event and then its own.
+-- The events of one load: none, or the opening of its visit and then others of that visit.
 abbrev pub AreOfVisit : (List Entry → Type 0) → Attempt → ℕ → List Event → Type 0
 AreOfVisit IsBatch a number [] = Unit {0}
 AreOfVisit IsBatch a number (e ∷ es) = IsEvent (open_event a) e × AllByRecursion (IsOwn IsBatch a number) es

@@ -29,7 +29,8 @@ pub record IsUnopened {D : Type 0} (old new : Kept D) (stop : LoadWhy) : Type 0 
   pub wounded : (n : ℕ) → old.wounded ≡ Some n → StopsUnchanged old new stop
 
 module _ {D : Type 0} (id : Kind → List ℕ → List ℕ) (disks : Disks D) where
-  -- Events like these were added, with their device calls. All that was held is, or the step says why it stopped.
+  -- Events that `IsAdded` allows were added, with their device calls. All that was held is held still; or the step
+  -- stopped, and says why.
   pub record Leaves {T : Type 0} (IsAdded : Event → Type 0) (old new : Kept D) (result : Result T LoadWhy) : Type 0 where
     pub on : OnOk result (KeepsAll old new)
     pub adds : AddsEvents disks.faults IsAdded old new

@@ -40,7 +40,8 @@ pub record IsFaulted {D : Type 0} (faults : D → ℕ) (old new : Kept D) : Type
   pub wounded : new.wounded ≡ Some (length new.history + 1)
   pub rose : ADiskFailed (faults old.store) (faults new.store) (faults old.ledger) (faults new.ledger)
 
--- One of the two files has no room after the history for an event like these, which may happen next.
+-- One of the two files has no room after the history for an event that this load tries to add, and that may happen
+-- next.
 pub record IsFileFull {D : Type 0} (id : Kind → List ℕ → List ℕ) (IsTried : Event → Type 0) (old new : Kept D) (which : Which) (number : ℕ) : Type 0 where
   pub before_it : old.wounded ≡ None
   pub unwounded : new.wounded ≡ None
@@ -54,7 +55,7 @@ pub record StopsUnchanged {D : Type 0} (old new : Kept D) (stop : LoadWhy) : Typ
   pub same : new ≡ old
   pub cause : (stop ≡ why.Wounded) ⊎ (stop ≡ why.Memory)
 
--- Why a load stops whose events are like these. No one else ends its visit.
+-- Why a load stops that tries to add events for which `IsTried` holds. No one else ends its visit.
 abbrev pub StopsFor : {D : Type 0} → (Kind → List ℕ → List ℕ) → (D → ℕ) → (Event → Type 0) → Kept D → Kept D → LoadWhy → Type 0
 StopsFor id faults IsTried old new (why.Ended status) = ⊥
 StopsFor id faults IsTried old new why.DiskFault = IsFaulted faults old new

@@ -20,7 +20,7 @@ attempt_of visit = attempt visit.by visit.origin.now visit.date
 abbrev pub visit_with : Attempt → ℕ → Statuses → Visit
 visit_with a number statuses = record { number = number; date = a.date; kind = Fast; by = a.by; statuses = statuses }
 
--- The origin's visit with this number was opened so, and has these statuses.
+-- The origin's visit with this number was opened by this attempt, and has these statuses.
 pub record IsVisit (h : List Event) (a : Attempt) (number : ℕ) (statuses : Statuses) : Type 0 where
   pub positive : 0 < number
   pub there : visit_at (visits_of (replay h).origins a.origin) number ≡ Some (visit_with a number statuses)
@@ -29,18 +29,18 @@ pub record IsVisit (h : List Event) (a : Attempt) (number : ℕ) (statuses : Sta
 abbrev pub created : Statuses
 created = (Created, None) ∷ []
 
--- and of one that goes on
+-- the statuses of a visit that goes on
 abbrev pub ongoing : Statuses
 ongoing = (Created, None) ∷ (Ongoing, None) ∷ []
 
--- The visit is there, was opened so, and has not ended: it has two statuses at most.
+-- The visit is there, was opened by this attempt, and has not ended: it has two statuses at most.
 pub record IsOpen (h : List Event) (a : Attempt) (number : ℕ) : Type 0 where
   pub statuses : Statuses
   pub visit : IsVisit h a number statuses
   pub unended : IsFinal (last_status statuses) → ⊥
   pub few : length statuses ≤ 2
 
--- Events were added, and all that was held is.
+-- Events were added, no disk has failed, and all bodies that were held are held still.
 pub record KeepsAll {D : Type 0} (old new : Kept D) : Type 0 where
   pub more : List Event
   pub added : new.history ≡ old.history ++ more

@@ -1,6 +1,9 @@
-//! Loads the input of an origin into an archive, as one visit.
-//! Stands on the keeper and the readers of inputs.
-//! Callers may rely on: how a load ends, that a visit whose load stopped has no end, and the line that reports it.
+//! Loads the input of an origin into an archive, as one visit, and reports it by a line.
+//! Stands on the keeper, on the reader of inputs (`swh_fastload`), on `swh_swhid` and `itoa` for its lines, and on
+//! crates below these; crates.txt lists all.
+//! Callers may rely on: a load adds the events of its visit alone; a visit whose load stopped has no end; a crash at
+//! any device call leaves the events up to some place in their order, with all that were acknowledged; and the line
+//! says how the visit ended.
 #![tactic(auto)]
 
 mod end;

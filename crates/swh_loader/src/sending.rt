@@ -23,7 +23,7 @@ use swh_store::Standing;
 /// What became of an object.
 #[derive(Drop)]
 pub enum Taken<N: Namer> {
-    /// It is held, or it waits among these.
+    /// The object is held, or it waits among these.
     Waits(Pending<N>),
     /// Another body is held under its name.
     Collides(Name),

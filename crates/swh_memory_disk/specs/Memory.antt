@@ -39,7 +39,7 @@ pub record DiskNotes : Type 0 where
 abbrev pub notes_of : MemoryDisk → DiskNotes
 notes_of disk = record { room = disk.room; calls = disk.calls.items; tally = disk.failures }
 
--- those of a disk of this room, no call of which was made or is to fail
+-- what is kept of a new disk of this room: no call was made, and none is to fail
 abbrev pub new_notes : Room → DiskNotes
 new_notes room = record { room = room; calls = []; tally = fresh_tally [] }
 

@@ -12,7 +12,8 @@ size_of (Read at count) = 0
 size_of (Written at count) = count
 size_of Synced = 0
 
--- what it is of the calls that change what a crash may leave
+-- the call as a plan of device calls has it, with these bytes where it is a write; none where it changes nothing that a
+-- crash may leave
 abbrev pub call_of : MemoryCall → List ℕ → List Call
 call_of Length bytes = []
 call_of (Read at count) bytes = []

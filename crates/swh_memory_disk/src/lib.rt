@@ -1,6 +1,8 @@
 //! Disks and depots in memory, told in full, of which each can be made to fail at chosen calls and at no others. No
-//! call of a disk allocates. It stands on swh_outside and swh_memory_failures.
-//! Callers may rely on: a disk keeps what a crash may leave, and each call that was begun.
+//! call of a disk allocates.
+//! Stands on `swh_outside` and `swh_memory_failures`.
+//! Callers may rely on: a disk keeps each call that was begun, and gives each image that a crash may leave after any of
+//! them; a depot opens a file as it was last laid down or given back.
 #![tactic(auto)]
 
 mod depot;

@@ -1,6 +1,7 @@
 //! Sources, origins, sinks and a clock in memory, told in full, of which each can be made to fail at chosen calls and
 //! at no others; folders, yards, links and doors that always fail; and a gate that counts its calls. No call of a
-//! source, sink or clock allocates. It stands on swh_outside and swh_memory_failures.
+//! source, sink or clock allocates.
+//! Stands on `swh_outside` and `swh_memory_failures`.
 //! Callers may rely on: a source gives the bytes and the pieces that it was made with, and a sink keeps what was put.
 #![tactic(auto)]
 

@@ -28,7 +28,7 @@ impl Model for ShortDepot {
 }
 
 impl ShortDepot {
-    /// Over a depot, whose files of this number fall short, with no fault so far.
+    /// A depot over another, whose files of this number fall short. It has no fault so far.
     pub fn new(alloc: Global, depot: MemoryDepot, file: u32, reads: Reads) -> Self
         ensures no_fault { result.0 ≡ 0 }
         ensures depot { result.1 ≡ depot }

@@ -51,7 +51,7 @@ impl Model for ShortDisk {
 }
 
 impl ShortDisk {
-    /// Over a disk, with no fault so far.
+    /// A disk over another, with no fault so far.
     pub fn new(alloc: Global, disk: MemoryDisk, reads: Reads) -> Self
         ensures no_fault { result.0 ≡ 0 }
         ensures disk { result.1 ≡ disk }

@@ -20,7 +20,7 @@ IsGoodKind (Batch entries) = AllByRecursion HasItsChildren entries
 IsGoodKind (Open origin kind date) = Unit {0}
 IsGoodKind (Mark origin visit status snapshot) = Unit {0}
 
--- The entries of the event are good.
+-- Each entry of the event has a body of its kind, with that body's children.
 abbrev pub IsGoodEvent : Event → Type 0
 IsGoodEvent e = IsGoodKind e.what
 
@@ -30,7 +30,7 @@ module _ (id_of : Kind → List ℕ → List ℕ) where
   IsNamedKind (Open origin kind date) = Unit {0}
   IsNamedKind (Mark origin visit status snapshot) = Unit {0}
 
-  -- The entries of the event are good and named.
+  -- Each entry of the event has a body of its kind, with that body's children and id.
   abbrev pub IsNamedEvent : Event → Type 0
   IsNamedEvent e = IsNamedKind e.what
 
@@ -39,7 +39,7 @@ CanHappenKind a by (Batch entries) = IsWithinLimits entries × AreNew a.bodies e
 CanHappenKind a by (Open origin kind date) = Unit {0}
 CanHappenKind a by (Mark origin visit status snapshot) = MayMark a by origin visit status snapshot
 
--- The event may happen, whatever its entries are and are called.
+-- The event may happen, if each of its entries has a body of its kind, with that body's children and id.
 abbrev pub CanHappen : Archive → Event → Type 0
 CanHappen a e = CanHappenKind a e.by e.what
 

@@ -32,7 +32,7 @@ abbrev pub not_held : Bodies → List Entry → List Entry
 not_held bodies [] = []
 not_held bodies (e ∷ es) = if is_some (body_of bodies e.name) then not_held bodies es else e ∷ not_held (map.insert bodies e.name e.body) es
 
--- what an event has of a wish
+-- the event that a wish becomes: of a batch, only the objects that are not held
 abbrev pub event_of : Archive → Wish → EventKind
 event_of a (Batch entries) = happened.Batch (not_held a.bodies entries)
 event_of a (Open origin kind date) = happened.Open origin kind date
@@ -50,7 +50,7 @@ BatchPasses entries Objects number = (number ≡ length entries) × (objects_lim
 BatchPasses entries Bytes number = (number ≡ bytes_before_last entries) × (bytes_limit < number)
 BatchPasses entries _ number = ⊥
 
--- This is where a file would end with the event, which is past its limit.
+-- With the event the file of this limit would end at this number, which is past the limit.
 abbrev pub FilePasses : List Event → EventKind → Which → ℕ → Type 0
 FilePasses history event Store number = (number ≡ store_length history + stored_length event) × (file_limit < number)
 FilePasses history event Ledger number = (number ≡ (ledger_length history + 6) + payload_length event) × (file_limit < number)
@@ -64,7 +64,7 @@ HasBodyOrAdds bodies entries n body = (body_of bodies n ≡ Some body) ⊎ ((e :
 abbrev pub Collides : Bodies → List Entry → Name → Type 0
 Collides bodies entries n = (a b : List ℕ) × HasBodyOrAdds bodies entries n a × HasBodyOrAdds bodies entries n b × (a ≢ b)
 
--- The visit with this number, which is there.
+-- The origin has a visit of this number, and it is `v`.
 abbrev pub IsThere : Archive → List ℕ → ℕ → Visit → Type 0
 IsThere a origin number v = (0 < number) × (visit_at (visits_of a.origins origin) number ≡ Some v)
 
@@ -113,7 +113,7 @@ which_rank Objects = 1
 which_rank Bytes = 2
 which_rank Store = 3
 which_rank Ledger = 4
--- no plan passes another
+-- no wish can pass another limit
 which_rank _ = 4
 
 -- the order in which causes are looked for: by their variant, and limits by the limit
@@ -151,7 +151,7 @@ StatusAllows Partial snapshot = Unit {0}
 StatusAllows NotFound snapshot = snapshot ≡ None
 StatusAllows Failed snapshot = snapshot ≡ None
 
--- What judging asks of a wish: its entries are good and named, its status and snapshot fit.
+-- What judging asks of a wish: each entry of a batch has its children and its name, and a status and its snapshot fit.
 abbrev pub IsWish : (Kind → List ℕ → List ℕ) → Wish → Type 0
 IsWish id_of (Batch entries) = AllByRecursion (HasItsChildrenAndName id_of) entries
 IsWish id_of (Open origin kind date) = Unit {0}

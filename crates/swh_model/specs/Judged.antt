@@ -44,14 +44,14 @@ IsVisitRefusal visits by number (NotYours other) = (v : Visit) × IsAt visits nu
 IsVisitRefusal visits by number (Ended last) = (v : Visit) × IsAt visits number v × (v.by ≡ by) × (last ≡ last_status v.statuses) × IsFinal last
 IsVisitRefusal visits by number _ = ⊥
 
--- The visit is there, was opened by this one, and has not ended.
+-- The visit is there, was opened by the worker `by`, and has not ended.
 pub record MayBeMarked (visits : List Visit) (by number : ℕ) : Type 0 where
   pub visit : Visit
   pub there : IsAt visits number visit
   pub opened : visit.by ≡ by
   pub unended : IsFinal (last_status visit.statuses) → ⊥
 
--- Of the name a child is reached that is not held.
+-- The refusal is that the name is not closed: its parent is reached from the name and held, and its child is not held.
 abbrev pub IsGapRefusal : Bodies → Name → No → Type 0
 IsGapRefusal bodies name (NotClosed parent child) = IsGap bodies name parent child
 IsGapRefusal bodies name _ = ⊥

@@ -6,13 +6,13 @@ use Rattle.swh_base.specs.declared.entry.Entry.{Entry}
 use Rattle.swh_model.specs.Archive.{Bodies, body_of, IsHeld, IsChild, Reaches}
 use Rattle.swh_model.specs.Step.{HasItsChildren}
 
--- The entry is good, has the name, and its body is held.
+-- The entry has the name, its body is held under it, and its children are those of the body.
 pub record IsEntryOf (bodies : Bodies) (n : Name) (e : Entry) : Type 0 where
   pub name : e.name ≡ n
   pub held : body_of bodies n ≡ Some e.body
   pub good : HasItsChildren e
 
--- The list is the same and has the name, or has it at the end.
+-- The list is the same, or has the name more at its end.
 abbrev pub MayGain : List Name → List Name → Name → Type 0
 MayGain old new name = (new ≡ old) ⊎ (new ≡ old ++ name ∷ [])
 
@@ -38,7 +38,7 @@ pub record GainsReached (bodies : Bodies) (root : Name) (old new : List Name) : 
   pub behind : new ≡ old ++ more
   pub reached : AllByRecursion (λ n. Reaches bodies root n × IsHeld bodies n) more
 
--- Of a reached parent this child is not held.
+-- The parent is reached from the root, the child is one of its children, and the child is not held.
 pub record IsGap (bodies : Bodies) (root parent child : Name) : Type 0 where
   pub reached : Reaches bodies root parent
   pub is_child : IsChild bodies parent child

@@ -49,6 +49,6 @@ with_snapshot id = opened_once ++ record { by = 1; what = Batch (snapshot_of_it 
 abbrev pub failed_once : List Event
 failed_once = opened_once ++ record { by = 1; what = Mark url 1 Failed None } ∷ []
 
--- what happened, by this one
+-- the event of this kind, by the worker `by`
 abbrev pub event_by : ℕ → EventKind → Event
 event_by by what = record { by = by; what = what }

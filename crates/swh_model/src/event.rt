@@ -34,7 +34,7 @@ pub enum EventKind {
     },
 }
 
-/// What somebody wants to happen. Of a batch all is handed over, where its event has what is new.
+/// What somebody wants to add. A batch has all objects that are handed over; its event has only those that are new.
 #[derive(Drop)]
 pub enum Wish {
     Batch(Items<Entry>),
@@ -51,7 +51,8 @@ pub enum Wish {
     },
 }
 
-/// What came of it.
+/// What came of a wish that became an event: the number of the event, from 1, and how many objects of a batch are new,
+/// or the number of the visit that was opened.
 #[derive(Clone, Copy, Debug)]
 pub enum Outcome {
     Added { event: u64, new: u32 },
@@ -59,7 +60,7 @@ pub enum Outcome {
     Marked { event: u64 },
 }
 
-/// Why it may not happen, in the order in which the causes are looked for.
+/// Why a wish becomes no event, in the order in which the causes are looked for.
 #[derive(Clone, Copy, Debug)]
 pub enum No {
     Limit { which: Which, number: u64 },

@@ -101,7 +101,7 @@ pub fn length_of_ledger(history: &[Event]) -> Result<u64, Memory>
     Ok(sum)
 }
 
-/// The first of both files that the event would make too long. Fails only where one of their lengths passes 64 bits.
+/// The first of the two files that the event would make too long. Fails only where one of their lengths passes 64 bits.
 pub fn file_limit(history: &[Event], event: &EventKind) -> Result<Option<(Which, u64)>, Memory>
     ensures some { IfOk result (λ limit. IfSome limit (IsFirstOf (FilePasses history.now event.now))) }
     ensures none { IfOk result (λ limit. IfNone limit (NonePasses (FilePasses history.now event.now))) }

@@ -11,9 +11,9 @@ use crate::stepping::may_happen;
 use std::alloc::Global;
 use swh_base::Memory;
 
-/// The archive once the events happened, one after another from the empty archive on, or none where they may not.
-/// Fails where memory runs out. It is asked that the events' entries are bodies of their kinds with their children; that
-/// their names are a namer's is for what is said of the answer.
+/// The archive once the events happened, one after another from the empty archive on, or none where they may not. Fails
+/// where memory runs out. It is asked that the events' entries are bodies of their kinds with their children. That
+/// their names are a namer's is not asked; the clauses on the answer suppose it.
 pub fn replay(alloc: Global, history: &[Event]) -> Result<Option<State>, Memory>
     requires { AllByRecursion IsGoodEvent history.now }
     ensures value { IfOk result (λ state. IfSome state (λ archive. archive ≡ replay history.now)) }

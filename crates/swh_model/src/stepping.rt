@@ -61,7 +61,8 @@ fn may_mark(
     }
 }
 
-/// Says whether the event may happen, its entries being good and named.
+/// Says whether the event may happen, where each of its entries has a body of its kind, with that body's children and
+/// id.
 pub fn may_happen(alloc: Global, state: &State, event: &Event) -> Result<bool, Memory>
     ensures { IfOk result (λ may. IsTrue may ↔ CanHappen state.now event.now) }
 {
@@ -78,8 +79,8 @@ pub fn may_happen(alloc: Global, state: &State, event: &Event) -> Result<bool, M
 }
 
 /// The archive once the event happened, or none where it may not happen. Fails where memory runs out. It is asked that
-/// the event's entries are bodies of their kinds with their children; that their names are a namer's is for what is
-/// said of the answer.
+/// the event's entries are bodies of their kinds with their children. That their names are a namer's is not asked; the
+/// clauses on the answer suppose it.
 pub fn step(alloc: Global, state: &State, event: &Event) -> Result<Option<State>, Memory>
     requires { IsGoodEvent event.now }
     ensures some { (id_of : Kind → List ℕ → List ℕ) → IsNamedEvent id_of event.now

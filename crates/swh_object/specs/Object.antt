@@ -41,19 +41,20 @@ IsBadBody Revision body at = revision.IsRevFault Revision body at
 IsBadBody Release body at = revision.IsRevFault Release body at
 IsBadBody Snapshot body at = snapshot.IsSnpFault body at
 
--- It is what the reader says, unless memory ran out.
+-- The fault is a place at which the reader of this kind refuses the body. Of want of memory nothing is said.
 abbrev pub ExplainsBad : Kind → List ℕ → ObjectFault → Type 0
 ExplainsBad kind body Memory = Unit {0}
 ExplainsBad kind body (TooLong len) = ⊥
 ExplainsBad kind body (BadBody at) = IsBadBody kind body at
 
--- It is the length above the limit, or else what the reader says, unless memory ran out.
+-- The fault is the length of the body, where it is above the limit, or else a place at which the reader of this kind
+-- refuses it. Of want of memory nothing is said.
 abbrev pub ExplainsObject : Kind → List ℕ → ObjectFault → Type 0
 ExplainsObject kind body Memory = Unit {0}
 ExplainsObject kind body (TooLong len) = (len ≡ length body) × (body_limit < len)
 ExplainsObject kind body (BadBody at) = (length body ≤ body_limit) × IsBadBody kind body at
 
--- There is an object, unless memory ran out.
+-- There is an object, or memory ran out.
 abbrev pub MakesObject : Result Entry ObjectFault → Type 0
 MakesObject (Ok e) = Unit {0}
 MakesObject (Err Memory) = Unit {0}

@@ -1,6 +1,8 @@
 //! The outside of the archive: bytes in, bytes out, disks, folders, links and the clock, each a trait with a meaning
-//! and a count of faults. It stands on std alone. The layer above may use each trait's clauses, whatever implements
-//! it: content where the implementation tells it, and counts and bounds always.
+//! and a count of faults.
+//! Stands on `std` alone.
+//! Callers may rely on: the clauses of each trait, whatever implements it: content where the implementation tells it,
+//! and counts and bounds always.
 #![tactic(auto)]
 
 mod clock;

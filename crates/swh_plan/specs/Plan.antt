@@ -22,7 +22,7 @@ status_of (Partial snapshot) = status.Partial
 status_of NotFound = status.NotFound
 status_of Failed = status.Failed
 
--- and its snapshot
+-- the snapshot of a visit that goes on so, if it has one
 abbrev pub snapshot_of : hows.How → Option (List ℕ)
 snapshot_of Ongoing = None
 snapshot_of (Full snapshot cert) = Some snapshot

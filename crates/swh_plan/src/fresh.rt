@@ -36,7 +36,8 @@ fn keep(split: &mut Split, entry: &Entry) -> Result<(), Memory>
     Ok(())
 }
 
-/// What is new of a batch. For what is held no room is taken: where nothing is new it is no refusal.
+/// The entries of a batch that are not held, each once. Fails where memory runs out. No room is taken for what is held,
+/// so that a batch of which nothing is new never fails.
 pub fn split_fresh(alloc: Global, store: &Store, entries: &[Entry]) -> Result<Split, Memory>
     requires { AllByRecursion HasItsChildren entries.now }
     ensures ok { IfOk result (IsSplit store.now.bodies entries.now) }

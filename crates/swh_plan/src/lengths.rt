@@ -7,7 +7,7 @@ ghost use Rattle.swh_model.specs.Judged.{IsFirstOf, NonePasses, AreLengths};
 
 use swh_base::{FILE_LIMIT, Which};
 
-/// The first of both files that an event would make too long.
+/// The first of the two files that an event would make too long.
 pub fn limit_of_files(
     store_end: u64,
     run: u64,

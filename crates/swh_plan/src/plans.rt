@@ -113,7 +113,7 @@ fn plan_open(
     })
 }
 
-/// Adds what is new of a batch of these.
+/// The event that adds those of these entries that are not held, or the first cause against it.
 fn plan_entries(
     alloc: Global,
     replayed: &Replayed,

@@ -3,7 +3,7 @@ use crate::how::How;
 use swh_base::{Namer, Url, VisitKind};
 use swh_object::Object;
 
-/// Of a batch all is handed over, where its event has what is new.
+/// What somebody wants to add. Of a batch all objects are handed over; its event has only those that are new.
 #[derive(Drop)]
 pub enum Plan<N: Namer> {
     Batch(Vec<Object<N>>),

@@ -29,7 +29,8 @@ abbrev pub is_disk_fault : Result Loaded LoadFault → Bool
 is_disk_fault (Ok loaded) = false
 is_disk_fault (Err fault) = is_fault fault.why
 
--- Once a disk has failed, each later one is stopped at once, and none is said to be before.
+-- Once a disk has failed, each later load stops before its visit is opened; before that, no load stops for a disk that
+-- had failed.
 abbrev pub AreStops : Bool → List (Result Loaded LoadFault) → Type 0
 AreStops failed [] = Unit {0}
 AreStops true (o ∷ outcomes) = IsStoppedAtOnce o × AreStops true outcomes

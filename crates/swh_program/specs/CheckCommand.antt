@@ -41,7 +41,7 @@ module _ (id_of : Kind → List ℕ → List ℕ) where
   IsChecked a Memory = Unit {0}
   IsChecked a _ = ⊥
 
-  -- The check of the replay of a history that may happen comes to this.
+  -- The answer is that of a check of some history that may happen.
   pub record ChecksHistory (answer : Answer) : Type 0 where
     pub history : List Event
     pub happens : IsHistory id_of history

@@ -41,13 +41,13 @@ abbrev pub all_made : List MeantJob → List Made
 all_made meant = flat_map (λ m. m.making.objects) meant
 
 module _ (id_of : Kind → List ℕ → List ℕ) where
-  -- The job's input is there, and means this, with the job's head.
+  -- The job's input is there, and means what stands beside the job, with the job's head.
   pub record IsMeant (input_at : FileAt) (m : MeantJob) : Type 0 where
     pub text : List ℕ
     pub there : input_at m.job.path ≡ Some text
     pub means : Means id_of m.job.head text m.making
 
-  -- The inputs of these jobs are there, and mean this.
+  -- The inputs of these jobs are there, and each means what stands beside its job.
   abbrev pub AreMeant : FileAt → List MeantJob → Type 0
   AreMeant input_at meant = AllByRecursion (IsMeant input_at) meant
 

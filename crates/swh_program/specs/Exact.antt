@@ -30,7 +30,7 @@ lines_for a [] ends = []
 lines_for a (job ∷ jobs) [] = []
 lines_for a (job ∷ jobs) (end ∷ ends) = line_for a job end ++ lines_for a jobs ends
 
--- how they end together
+-- how a run ends with these visits: as the worst of them makes it
 abbrev pub ending_of_ends : List End → Ending
 ending_of_ends [] = ending.Done
 ending_of_ends (end ∷ ends) = worse (ending_of_end end) (ending_of_ends ends)
@@ -68,7 +68,7 @@ module _ (id_of : Kind → List ℕ → List ℕ) where
     abbrev pub IsExactEnd : Archive → Job → End → Type 0
     IsExactEnd a job end = IsEndFor job.head a.bodies (of_jobs.at job.path) end ⊎ ((end ≡ Failed Read) × HasFailed of_jobs job)
 
-    -- the jobs' visits ended so, in their order
+    -- The jobs' visits ended so, in their order, each as its input has it.
     abbrev pub AreExactEnds : Archive → List Job → List End → Type 0
     AreExactEnds a jobs ends = AllZip (IsExactEnd a) jobs ends
 
@@ -78,6 +78,6 @@ module _ (id_of : Kind → List ℕ → List ℕ) where
       pub are : AreExactEnds a jobs ends
       pub is : answer ≡ Told (lines_for a jobs ends) (ending_of_ends ends)
 
-    -- It does, or memory ran out.
+    -- The answer tells the jobs' lines exactly, or memory ran out.
     abbrev pub IsExact : Archive → List Job → Answer → Type 0
     IsExact a jobs answer = (status_of answer ≡ 5) ⊎ TellsExactly a jobs answer

@@ -37,7 +37,7 @@ pub record Inputs : Type 1 where
   pub failures : List ℕ → ℕ
   pub failures_now : List ℕ → ℕ
 
--- the same of their parts
+-- the inputs with these parts
 abbrev pub inputs : Type 0 → FileAt → (List ℕ → ℕ) → (List ℕ → ℕ) → Inputs
 inputs tell at failures failures_now = record { tell = tell; at = at; failures = failures; failures_now = failures_now }
 
@@ -64,11 +64,11 @@ input_of of_jobs job = record {
 
 -- What a load says of its input.
 module _ (id_of : Kind → List ℕ → List ℕ) (input : Input) where
-  -- The input is there, and its text has this.
+  -- Where the input tells what it holds, it is there, and `P` holds of its text.
   abbrev pub OfText : (List ℕ → Type 0) → Type 0
   OfText P = input.tells → (text : List ℕ) × (input.found ≡ Some text) × P text
 
-  -- The input makes all of these.
+  -- The input makes all of these entries.
   abbrev pub IsOfInput : List Entry → Type 0
   IsOfInput entries = OfText (λ text. AllByRecursion (IsMadeBy id_of input.head text) entries)
 
@@ -95,7 +95,7 @@ module _ (id_of : Kind → List ℕ → List ℕ) (input : Input) where
         × IsOpen after a fault.visit)
     pub stops : StopsJobFor a before after fault.why
 
-  -- How the input makes its visit end.
+  -- What this end of a visit says of its input, where these bodies are held.
   abbrev pub IsInputEnd : Bodies → End → Type 0
   IsInputEnd bodies (Full snapshot) = OfText (λ text. IsFull id_of input.head text bodies snapshot)
   IsInputEnd bodies NotFound = input.tells → input.found ≡ None

@@ -15,7 +15,7 @@ pub record AreJobsAt (file_at : FileAt) (path : List ℕ) (jobs : List Job) : Ty
   pub there : file_at path ≡ Some bytes
   pub are : IsJobFile bytes jobs
 
--- The file at the path has this first line that breaks, and it breaks so.
+-- The first line that breaks of the file at the path has the number `line`, and breaks as `why` says.
 pub record IsBadAt (file_at : FileAt) (path : List ℕ) (line : ℕ) (why : JobWhy) : Type 0 where
   pub bytes : List ℕ
   pub there : file_at path ≡ Some bytes
@@ -53,13 +53,13 @@ pub record TellsBadJob (file_at : FileAt) (path text : List ℕ) : Type 0 where
   pub bad : IsBadAt file_at path line why
   pub text_is : text ≡ bad_job_line line why
 
--- bytes are refused by one of these
+-- The bytes of a job file may be refused by this answer.
 abbrev pub IsReadRefusal : List ℕ → Answer → Type 0
 IsReadRefusal bytes (BadJob text) = TellsFault bytes text
 IsReadRefusal bytes Memory = Unit {0}
 IsReadRefusal bytes _ = ⊥
 
--- a job file is refused by one of these
+-- A job file may be refused by this answer.
 abbrev pub IsJobRefusal : Answer → Type 0
 IsJobRefusal NoJobFile = Unit {0}
 IsJobRefusal (BadJob text) = (bytes : List ℕ) × TellsFault bytes text

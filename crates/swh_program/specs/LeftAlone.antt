@@ -34,13 +34,13 @@ module _ (s : Span) where
     pub origins : s.same.origins
     pub clock : s.same.clock
 
-  -- Of these parts all but the depot are as they were.
+  -- Of the parts that commands work on all but the depot are as they were.
   pub record IsOnDepot : Type 0 where
     pub desk : s.same.desk
     pub origins : s.same.origins
     pub clock : s.same.clock
 
-  -- All but the desk are as they were.
+  -- Of the parts that commands work on all but the desk are as they were.
   pub record IsOnDesk : Type 0 where
     pub depot : s.same.depot
     pub origins : s.same.origins

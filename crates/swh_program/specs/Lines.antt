@@ -19,7 +19,7 @@ ending_of_end (Full snapshot) = ending.Done
 ending_of_end NotFound = ending.Wanting
 ending_of_end (Failed bad) = ending.Wanting
 
--- how it ends with one whose load stopped for this
+-- how a run ends with one job whose load stopped for this reason
 abbrev pub ending_of_why : LoadWhy → Ending
 ending_of_why (why.Ended status) = ending.Wanting
 ending_of_why why.DiskFault = ending.OutsideDisk
@@ -27,7 +27,7 @@ ending_of_why why.Wounded = ending.OutsideDisk
 ending_of_why (why.Limit which number) = ending.Wanting
 ending_of_why why.Memory = ending.Memory
 
--- how it ends with one job
+-- how a run ends with one job, by the outcome of its load
 abbrev pub ending_for : Result Loaded LoadFault → Ending
 ending_for (Ok loaded) = ending_of_end loaded.end
 ending_for (Err fault) = ending_of_why fault.why
@@ -42,7 +42,7 @@ pub record LoadedJob : Type 0 where
 abbrev pub dates : List LoadedJob → List ℕ
 dates loads = map (λ l. l.date) loads
 
--- how they ended
+-- the outcomes of loads
 abbrev pub outcomes : List LoadedJob → List (Result Loaded LoadFault)
 outcomes loads = map (λ l. l.outcome) loads
 
@@ -67,7 +67,7 @@ pub record TellsLoads (loads : List LoadedJob) (text : List ℕ) (end : Ending) 
   pub text_is : text ≡ flat_map load_line loads
   pub end_is : end ≡ ending_of_all (outcomes loads)
 
--- the answer tells them
+-- The answer tells the lines of these loads, and the worst of their endings.
 abbrev pub TellsLoad : List LoadedJob → Answer → Type 0
 TellsLoad loads (Told text end) = TellsLoads loads text end
 TellsLoad loads _ = ⊥

@@ -37,8 +37,8 @@ VisitsStay before after = (origin : List ℕ) (number : ℕ) (v : Visit)
     → visit_at (visits_of (replay before).origins origin) number ≡ Some v
     → IsLaterVisit v (visit_at (visits_of (replay after).origins origin) number)
 
--- The files stand for this history, with nothing written since a barrier; after a device fault they do so with one
--- event more, or without it.
+-- The files stand for this history, with nothing written since a barrier; after a device fault they stand for it with
+-- one event more, or without it.
 pub record LeavesDisks (id_of : Kind → List ℕ → List ℕ) (ledger store : File) (after : List Event)
     (ended : List (Result Loaded LoadFault)) : Type 0 where
   pub standing : HaveNoDiskFault ended → AreStanding ledger store after
@@ -50,7 +50,7 @@ attempt_for l = attempt loader l.job.url l.date
 
 -- The loads of jobs with these inputs.
 module _ (id_of : Kind → List ℕ → List ℕ) (of_jobs : Inputs) where
-  -- The job's input makes all of these.
+  -- The job's input makes all of these entries.
   abbrev pub IsOfJob : Job → List Entry → Type 0
   IsOfJob job = IsOfInput id_of (input_of of_jobs job)
 

@@ -36,6 +36,6 @@ module _ {D : Type 0} (g : Givens) (disks : Disks D) where
     pub load : AreKeptLoads loads old new
     pub told : TellsLoad loads answer
 
-  -- They were loaded, or none was.
+  -- The jobs were loaded and their lines told, or no job was loaded and nothing changed.
   abbrev pub IsKeptRun : Kept D → Kept D → List Job → Answer → Type 0
   IsKeptRun old new jobs answer = AreKeptJobs old new jobs answer ⊎ (IsUnstarted answer × (new ≡ old))

@@ -24,7 +24,7 @@ IsUntouched old new = (new ≡ old) ⊎ IsOnlyOpened old new
 abbrev pub IsAtMostOpened : Files → Files → Type 0
 IsAtMostOpened old new = IsUntouched old new ⊎ FilesBreaks barriers old new
 
--- what the keeper's refusal comes to
+-- The command's answer is the one to this refusal of the keeper.
 abbrev pub IsRefusalFor : OpenWhy → Answer → Type 0
 IsRefusalFor why.Made answer = ⊥
 IsRefusalFor why.NotMade answer = answer ≡ NotMade
@@ -32,7 +32,7 @@ IsRefusalFor (why.Damaged file at harm) answer = TellsDamageLine (damaged_line f
 IsRefusalFor why.DiskFault answer = answer ≡ OutsideDisk
 IsRefusalFor why.Memory answer = answer ≡ Memory
 
--- an opening is refused by one of these
+-- An opening may be refused by this answer.
 abbrev pub IsOpenRefusal : Answer → Type 0
 IsOpenRefusal NotMade = Unit {0}
 IsOpenRefusal (Damaged text) = IsDamagedLine text

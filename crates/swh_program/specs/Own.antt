@@ -31,7 +31,8 @@ module _ (id_of : Kind → List ℕ → List ℕ) (old new : Files) where
     pub opened : HasOpened answer → AreOwn id_of new
     pub opening : AreOwn id_of old → EachFilesMoment barriers old (AreUsable id_of)
 
-  -- Own files are own at the end of a run; and so are all files at the end of one with 0 or 1.
+  -- Own files are own at the end of a run; and at the end of a run with status 0 or 1 the files are own, whatever they
+  -- were.
   pub record EndsOwn (status : ℕ) : Type 0 where
     pub own : AreOwn id_of old → AreOwn id_of new
     pub told : status < 2 → AreOwn id_of new

@@ -14,12 +14,12 @@ use Rattle.swh_program.specs.declared.answer.Answer.TheVariants.{Words, OutsideS
 abbrev pub IsStatus : ℕ → Type 0
 IsStatus status = (status ≡ 0) ⊎ (status ≡ 1) ⊎ (status ≡ 2) ⊎ (status ≡ 3) ⊎ (status ≡ 4) ⊎ (status ≡ 5)
 
--- It is this, unless a part of the outside failed or memory ran out.
+-- The status is the expected one, or it is 4 or 5: a part of the outside failed, or memory ran out.
 abbrev pub ComesTo : ℕ → ℕ → Type 0
 ComesTo expected status = (status ≡ expected) ⊎ (status ≡ 4) ⊎ (status ≡ 5)
 
--- It is this only where the cause holds; and where the cause holds it is this, unless a part of the outside failed or
--- memory ran out.
+-- The status is the expected one only where the cause holds; and where it holds the status is that one, or 4 or 5: a
+-- part of the outside failed, or memory ran out.
 pub record IsExactly (expected : ℕ) (Cause : Type 0) (status : ℕ) : Type 0 where
   pub only : status ≡ expected → Cause
   pub there : Cause → ComesTo expected status
@@ -28,7 +28,7 @@ pub record IsExactly (expected : ℕ) (Cause : Type 0) (status : ℕ) : Type 0 w
 abbrev pub IsTold : Answer → Span → ℕ → Type 0
 IsTold answer s status = IsToldOf answer s.told.sink s.old.sink.taken s.new.sink.taken s.old.sink.faults s.new.sink.faults status
 
--- An answer of this sort came, and it was told.
+-- The run came to an answer for which `IsOne` holds, and the answer was told.
 pub record Ends (IsOne : Answer → Type 0) (s : Span) (status : ℕ) : Type 0 where
   pub answer : Answer
   pub is_one : IsOne answer

@@ -1,9 +1,12 @@
-// All parts of the outside that a run may use, and what contracts see of them.
+//! All parts of the outside that a run may use, and what contracts see of them.
 ghost use Rattle.swh_program.specs.Seen.{Span};
 
 use swh_base::Namer;
 use swh_outside::{Clock, Depot, Doors, Gate, Origins, Sink, Yard};
 
+/// All parts of the outside that a run may use: the namer, the depot of archives, the desk with the job file and the
+/// files to be named, the inputs of jobs, the yard, the sink for all that is printed, the clock, the doors and the
+/// gate.
 #[derive(Drop)]
 pub struct Outside<N: Namer, P: Depot, O: Origins, Y: Yard, K: Sink, C: Clock, D: Doors, G: Gate> {
     pub namer: N,

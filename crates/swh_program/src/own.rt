@@ -5,13 +5,14 @@ ghost use Rattle.swh_outside.specs.Files.{Files, Images, AreImages};
 ghost use Rattle.swh_keeper.specs.Own.{AreUsable, AreOwn};
 ghost use Rattle.swh_program.specs.Own.{AreAfterCrash};
 
-/// Of own files a crash leaves own files.
+/// A crash leaves own files of own files.
 pub fn own_files_outlast_crashes()
     ensures { (id_of : Kind → List ℕ → List ℕ) (files : Files) (images : Images) (left : Files) → AreOwn id_of files
         → AreImages files images → AreAfterCrash images left → AreOwn id_of left }
 {}
 
-/// So it does at a device call of a run, where all that a crash may leave is not made, or stands for a history.
+/// Where all that a crash may leave at a device call is not made, or stands for a history, the files that stand after
+/// the crash are own.
 pub fn usable_images_are_own()
     ensures { (id_of : Kind → List ℕ → List ℕ) (images : Images) (left : Files) → AreUsable id_of images
         → AreAfterCrash images left → AreOwn id_of left }

@@ -1,6 +1,7 @@
-//! The outside over files, standard output and the clock: the trusted edge. It stands on swh_outside. The layer above
-//! may use each part's count of faults, which rises where the system refuses, and the bounds on lengths; what a file
-//! really holds no part tells.
+//! The outside over files, standard output and the clock: the trusted edge.
+//! Stands on `swh_outside` and `libc`.
+//! Callers may rely on: each part's count of faults, which rises where the system refuses, and the bounds on lengths;
+//! what a file really holds no part tells.
 #![tactic(auto)]
 
 mod clock;

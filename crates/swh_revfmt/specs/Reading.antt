@@ -73,23 +73,23 @@ pub record IsTypePlace (bytes : List ℕ) (n : ℕ) : Type 0 where
   pub none : (other : Kind) (rest : List ℕ) → other ≢ Snapshot → bytes ≡ type_text other ++ rest → ⊥
   pub longest : (m : ℕ) (other : Kind) (others rest : List ℕ) → n < m → m ≤ length bytes → other ≢ Snapshot → take m bytes ++ others ≡ type_text other ++ rest → ⊥
 
--- It is the place where the bytes cease to be those of a revision, unless memory ran out.
+-- The fault is the place where the bytes cease to be those of a revision. Of want of memory nothing is said.
 abbrev pub ExplainsRev : List ℕ → ReadRevFault → Type 0
 ExplainsRev body RevMemory = Unit {0}
 ExplainsRev body (RevBad bad) = IsRevFault RevisionKind body bad.at
 
--- It is the place where the bytes cease to be those of a release, unless memory ran out.
+-- The fault is the place where the bytes cease to be those of a release. Of want of memory nothing is said.
 abbrev pub ExplainsRel : List ℕ → ReadRelFault → Type 0
 ExplainsRel body RelMemory = Unit {0}
 ExplainsRel body (RelBad bad) = IsRevFault ReleaseKind body bad.at
 
--- It gives these parts, unless memory ran out.
+-- The answer is these parts of a revision, or memory ran out.
 abbrev pub GivesRev : Result Rev ReadRevFault → Revision → Type 0
 GivesRev (Ok rev) revision = revision_of rev ≡ revision
 GivesRev (Err RevMemory) revision = Unit {0}
 GivesRev (Err (RevBad bad)) revision = ⊥
 
--- It gives these parts of a release, unless memory ran out.
+-- The answer is these parts of a release, or memory ran out.
 abbrev pub GivesRel : Result Rel ReadRelFault → Release → Type 0
 GivesRel (Ok rel) release = release_of rel ≡ release
 GivesRel (Err RelMemory) release = Unit {0}

@@ -22,7 +22,7 @@ pub record BeginsNextBranch (before : List SnapshotBranch) (bytes : List ℕ) : 
   pub next : MayFollowBranches before branch
   pub text : bytes ≡ branch_text branch ++ rest
 
--- The first branch of the body that breaks stands here: what is left is no branch that may follow those before it.
+-- The first branch of the body that breaks stands at `at`: what is left is no branch that may follow those before it.
 pub record IsSnpFault (body : List ℕ) (at : ℕ) : Type 0 where
   pub before : List SnapshotBranch
   pub rest : List ℕ

@@ -9,12 +9,12 @@ use Rattle.swh_snpfmt.specs.Fault.{IsSnpFault}
 abbrev pub sized_text : List ℕ → List ℕ
 sized_text content = decimal (length content) ++ 58 ∷ content
 
--- It is the place of the body's first fault, unless memory ran out.
+-- The fault is the place of the body's first. Of want of memory nothing is said.
 abbrev pub ExplainsSnp : List ℕ → ReadSnpFault → Type 0
 ExplainsSnp body Memory = Unit {0}
 ExplainsSnp body (Bad bad) = IsSnpFault body bad.at
 
--- It gives these branches, unless memory ran out.
+-- The answer is these branches, or memory ran out.
 abbrev pub GivesBranches : Result (List SnapshotBranch) ReadSnpFault → List SnapshotBranch → Type 0
 GivesBranches (Ok found) branches = found ≡ branches
 GivesBranches (Err Memory) branches = Unit {0}

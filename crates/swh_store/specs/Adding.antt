@@ -24,7 +24,7 @@ pub record IsKnown (before now : List Entry) (e : Entry) : Type 0 where
   pub there : body_of (bodies_in before) e.name ≡ Some e.body
   pub same : now ≡ before
 
--- One of both.
+-- The entry was new and is added, or it was known and nothing changed.
 abbrev pub IsTakenUp : List Entry → List Entry → Entry → Type 0
 IsTakenUp before now e = IsPutIn before now e ⊎ IsKnown before now e
 

@@ -31,12 +31,12 @@ abbrev pub first_place : ℕ → List Entry → List ℕ → Option ℕ
 first_place from [] key = None
 first_place from (e ∷ es) key = cond (is_at (keys_cmp (name_key e.name)) key) (Some from) (first_place (from + 1) es key)
 
--- The entries are good, and each key leads to the first of its name.
+-- Each entry has its children, and each key leads to the first entry of its name.
 pub record IsFirstIndex (held : Held) : Type 0 where
   pub good : AllByRecursion HasItsChildren held.entries.items
   pub leads : (key : List ℕ) → get keys_cmp held.places key ≡ first_place 0 held.entries.items key
 
--- So many of the entries are new one after another, and no more.
+-- The first `count` entries are new, one after another, and no more than these are.
 pub record AreFresh (es : List Entry) (count : ℕ) : Type 0 where
   pub inside : count ≤ length es
   pub new : AreNew finite.empty (take count es)

@@ -58,7 +58,8 @@ pub record BeginsNumber (least : ℕ) (digits : List ℕ) (value : ℕ) : Type 0
 abbrev pub ZerosAllow : ℕ → ℕ → ℕ → ℕ → Type 0
 ZerosAllow least value count c = (0 < count → 0 < value) × (count ≡ 0 → c ≡ 48 → least ≡ 0)
 
--- One more byte that keeps this so.
+-- Behind `count` digits that write `value` the byte `c` may come as one more: some number of at least `least` begins
+-- with them all.
 pub record MayTakeDigit (least value count c : ℕ) : Type 0 where
   pub digit : IsDigit c
   pub room : count < 18

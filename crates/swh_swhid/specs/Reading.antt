@@ -11,7 +11,7 @@ use Rattle.swh_swhid.specs.Qualifier.{key_word, is_free, AddAll, pieces_text, Is
 abbrev pub along_key : Swhid → Key → List ℕ → ℕ
 along_key s key piece = if is_free s key then common (key_word key) piece else 0
 
--- Memory ran out, or the text breaks off there.
+-- The fault is the place where the text breaks off, or memory ran out.
 abbrev pub ExplainsSwhid : (List ℕ → Type 0) → List ℕ → SwhidFault → Type 0
 ExplainsSwhid L text Memory = Unit {0}
 ExplainsSwhid L text (BadText at) = BreaksAt L text at
@@ -32,14 +32,15 @@ pub record Tail (s : Swhid) (text : List ℕ) (t : Swhid) : Type 0 where
   pub spelled : text ≡ pieces_text pieces
   pub adds : AddAll pieces s t
 
--- What is read so far is this value: whole pieces go on from here as from it.
+-- The text up to `at` is read as the value `s`: with any pieces behind it, it is a SWHID of just the values to which
+-- these pieces take `s`.
 pub record IsPlace (text : List ℕ) (at : ℕ) (s : Swhid) : Type 0 where
   pub within : at ≤ length text
   pub closed : IsPieceEnd (drop at text)
   pub to : (y : List ℕ) (t : Swhid) → IsPieceEnd y → Tail s y t → IsSwhid (take at text ++ y) t
   pub from : (y : List ℕ) (t : Swhid) → IsPieceEnd y → IsSwhid (take at text ++ y) t → Tail s y t
 
--- It gives this value, unless memory ran out.
+-- The answer is this value, or memory ran out.
 abbrev pub GivesSwhid : Result Swhid SwhidFault → Swhid → Type 0
 GivesSwhid (Ok found) s = found ≡ s
 GivesSwhid (Err Memory) s = Unit {0}

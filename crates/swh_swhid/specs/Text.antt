@@ -39,6 +39,6 @@ IsTextBehind Nothing text = IsText text
 IsTextBehind Second text = BeginsWithDigit text × IsText text
 IsTextBehind Both text = BeginsWithDigits text × IsText text
 
--- A text with this byte in front is due this where the rest is due that.
+-- Where `due` says which digits are due before the byte `c`, `next` says which are due behind it.
 abbrev pub IsDueNext : Due → ℕ → Due → Type 0
 IsDueNext due c next = (y : List ℕ) → (IsTextBehind due (c ∷ y) → IsTextBehind next y) × (IsTextBehind next y → IsTextBehind due (c ∷ y))

@@ -46,7 +46,7 @@ fn due_behind(due: Due, c: u8) -> Option<Due>
     }
 }
 
-/// Nothing where these are a text, or where they break off.
+/// `Ok` where these bytes are a text, else the place where they break off.
 fn read_text(text: &[u8]) -> Result<(), usize>
     ensures ok { OnOk result (IsText text.now) }
     ensures err { IfErr result (λ n. BreaksAt IsText text.now n) }
@@ -64,7 +64,7 @@ fn read_text(text: &[u8]) -> Result<(), usize>
     }
 }
 
-/// Nothing where this is an origin's text, or where it breaks off.
+/// `Ok` where these bytes are an origin's text, else the place where they break off.
 pub fn read_origin(text: &[u8]) -> Result<(), usize>
     ensures ok { OnOk result (IsOriginText text.now) }
     ensures err { IfErr result (λ n. BreaksAt IsOriginText text.now n) }
@@ -75,7 +75,7 @@ pub fn read_origin(text: &[u8]) -> Result<(), usize>
     read_text(text)
 }
 
-/// Nothing where this is a path's text, or where it breaks off.
+/// `Ok` where these bytes are a path's text, else the place where they break off.
 pub fn read_path(text: &[u8]) -> Result<(), usize>
     ensures ok { OnOk result (IsPathText text.now) }
     ensures err { IfErr result (λ n. BreaksAt IsPathText text.now n) }

@@ -35,7 +35,7 @@ abbrev pub IsRefusal : List Visit → ℕ → ℕ → VisitFault → Type 0
 IsRefusal visits by number (NoVisit have) = (have ≡ length visits) × ((number ≡ 0) ⊎ (have < number))
 -- the visit is there, and another opened it
 IsRefusal visits by number (NotYours other) = (v : Visit) × IsAt visits number v × (other ≡ v.by) × (v.by ≢ by)
--- this one opened it, and its last status is an end
+-- the worker `by` opened it, and its last status is an end
 IsRefusal visits by number (Ended last) = (v : Visit) × IsAt visits number v × (v.by ≡ by) × (last ≡ last_status v.statuses) × IsFinal last
 IsRefusal visits by number Memory = ⊥
 

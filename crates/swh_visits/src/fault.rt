@@ -6,9 +6,9 @@ use swh_base::Status;
 pub enum VisitFault {
     /// The origin has this many visits, and none of the number.
     NoVisit { have: u64 },
-    /// This one opened it.
+    /// The worker of this number opened the visit, and another asks.
     NotYours { by: u32 },
-    /// It ended with this status.
+    /// The visit ended with this status.
     Ended { status: Status },
     /// Memory ran out.
     Memory,

@@ -1,4 +1,4 @@
--- How a command is spelled_command.
+-- How a command is spelled.
 use Rattle.std.specs.Prelude.{◌≡◌, ◌≢◌, ◌==◌, ◌&&◌, ℕ, Bool, true, false, List, [], ◌∷◌, Option, Some, None, IsSomeAnd, option_map, if◌then◌else◌, codes, chars}
 use Rattle.std.specs.Str.{bytes_eq}
 use Rattle.clap.specs.Words.{first_of, subcommand_of}
@@ -26,8 +26,8 @@ abbrev pub is_flag : List ℕ → Bool
 is_flag [] = false
 is_flag (b ∷ rest) = b == 45 && is_nonempty (chars rest)
 
--- The values that words give: each word is one but for the first `--`, after which each word is. A flag before it
--- gives none.
+-- The values that words give. Up to the first `--` each word is a value, and where one of these is a flag there are
+-- none; the `--` itself is no value, and behind it each word is one.
 abbrev pub values_given : List (List ℕ) → Option (List (List ℕ))
 values_given [] = Some []
 values_given (word ∷ rest) =

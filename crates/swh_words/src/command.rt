@@ -23,7 +23,7 @@ pub enum Command<'a> {
 /// Why words give no command.
 #[derive(Clone, Copy, Debug, PartialEq, Eq)]
 pub enum WordsFault {
-    /// They are no command.
+    /// The words are no command.
     Words,
     /// Memory ran out.
     Memory,
