@@ -13,7 +13,7 @@ use Rattle.swh_format.specs.declared.field.Field.TheVariants as field
 use Rattle.swh_format.proofs.Contents.{width, widths, field_short}
 use Rattle.swh_recovery.specs.declared.harm.Found.{Found}
 use Rattle.swh_recovery.specs.declared.object.Head.{Head}
-use Rattle.swh_format.specs.Fields.{choices, IsAmong, IsField}
+use Rattle.swh_format.specs.Fields.{choices, IsAmong}
 use Rattle.swh_recovery.specs.Fields.{IsCut, IsOther, FieldBreaks, FieldsBreak}
 use Rattle.swh_format.specs.Kinds.{head_fields}
 use Rattle.swh_recovery.specs.Reading.{window, IsHeadOf, BeginsWithHead}

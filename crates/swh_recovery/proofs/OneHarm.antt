@@ -7,7 +7,6 @@ use Rattle.std.proofs.lemmas.Bool.{cases_lt}
 use Rattle.std.proofs.Math.Seq.{drop-append_seam}
 use Rattle.std.specs.List.{AllByRecursion}
 use Rattle.std.specs.FinMap.{get-empty}
-use Rattle.std.specs.Int.{w32, w64, to_be_bytes}
 use Rattle.swh_base.specs.declared.kind.Kind.{Kind}
 use Rattle.swh_base.specs.declared.entry.Entry.{Entry}
 use Rattle.swh_base.specs.Name.{name_cmp}
@@ -25,7 +24,7 @@ use Rattle.swh_format.specs.StoredObject.{coded_run}
 use Rattle.swh_format.specs.EventRecord.{event_byte, payload_of, packed_objects, coded_record, IsCodable, AreCodable}
 use Rattle.swh_format.specs.Stands.{coded_records, coded_runs, StandsFor}
 use Rattle.swh_format.proofs.StandsFrom.{StandsFrom, behind_magic}
-use Rattle.swh_format.proofs.Cuts.{cut, four_bytes, eight_bytes, same_head, same_tail}
+use Rattle.swh_format.proofs.Cuts.{cut, same_head, same_tail}
 use Rattle.swh_format.proofs.Unique.{same_event, length_behind}
 use Rattle.swh_recovery.specs.declared.harm.Harm.{Harm}
 use Rattle.swh_recovery.specs.declared.harm.Found.{Found}

@@ -1,13 +1,12 @@
 -- What the payload of a batch tells of its run.
-use Rattle.std.proofs.Common.{◌≡◌, ℕ, ◌+◌, List, [], ◌∷◌, ◌++◌, length, refl, sym, ap, ◌∙◌, subst, arith}
+use Rattle.std.proofs.Common.{◌≡◌, ℕ, ◌+◌, List, [], ◌∷◌, ◌++◌, length, refl, sym, ◌∙◌, subst, arith}
 use Rattle.std.specs.Int.{w32, to_be_bytes}
 use Rattle.swh_base.specs.declared.entry.Entry.{Entry}
-use Rattle.swh_model.specs.declared.event.Event.{Event}
 use Rattle.swh_model.specs.declared.event.EventKind.TheVariants.{Batch}
 use Rattle.swh_format.specs.declared.field.Field.{Field}
 use Rattle.swh_format.specs.declared.field.Field.TheVariants as field
 use Rattle.swh_format.specs.declared.field.RecordKind.TheVariants as of
-use Rattle.swh_format.specs.Fields.{Contents, AreFit, FieldsHold}
+use Rattle.swh_format.specs.Fields.{AreFit, FieldsHold}
 use Rattle.swh_format.specs.Kinds.{fields_of}
 use Rattle.swh_format.specs.StoredObject.{coded_run}
 use Rattle.swh_format.specs.BatchRecord.{batch_contents}

@@ -19,7 +19,9 @@ use swh_format::{BatchParts, Choice, Field, RecordParts, split_batch, split_four
 
 // The fields of each kind's payload, which begins with who wrote it.
 const BATCH: [Field; 4] = [Field::Four, Field::Eight, Field::Eight, Field::Four];
+
 const OPEN: [Field; 3] = [Field::Four, Field::Byte(Choice::Visit), Field::Eight];
+
 const MARK: [Field; 4] = [
     Field::Four,
     Field::Byte(Choice::Status),
