@@ -50,12 +50,12 @@ def in_layers(crates):
 
 
 def doc_comment(crate):
-    """The first doc comment of a crate, as one line."""
+    """The first paragraph of a crate's doc comment, as one line."""
     source = CRATES / crate / "src"
     root = source / "lib.rt" if (source / "lib.rt").exists() else source / "main.rt"
     lines = []
     for line in root.read_text().splitlines():
-        if not line.startswith("//!"):
+        if not line.startswith("//! "):
             break
         lines.append(line[3:].strip())
     return " ".join(lines)

@@ -6,7 +6,7 @@ use Rattle.swh_base.specs.declared.entry.Entry.{Entry}
 use Rattle.swh_base.specs.Name.{name_cmp_total}
 use Rattle.swh_model.specs.declared.event.Event.{Event}
 use Rattle.swh_model.specs.declared.event.EventKind.{EventKind}
-use Rattle.swh_model.specs.declared.event.EventKind.TheVariants.{Batch, Open, Mark}
+use Rattle.swh_model.specs.declared.event.EventKind.TheVariants.{Batch}
 use Rattle.swh_model.specs.Archive.{Archive, Bodies}
 use Rattle.swh_model.specs.Limits.{run_length, stored_length, store_length}
 use Rattle.swh_model.specs.Step.{AreNew, May_kind, MayAll, added, after, after_kind, after_all}
@@ -24,8 +24,7 @@ count-added bodies (e ∷ es) new =
 module _ (id_of : Kind → List ℕ → List ℕ) where
   count-kind : (a : Archive) (by : ℕ) (what : EventKind) → May_kind id_of a by what → finite.len (after_kind a by what).bodies ≡ finite.len a.bodies + bodies_by what
   count-kind a by (Batch es) may = count-added a.bodies es may.new
-  count-kind a by (Open origin kind date) may = omega arith
-  count-kind a by (Mark origin visit status snapshot) may = omega arith
+  count-kind a by what may = omega arith
 
   -- a history's archive has an object for each that its events added
   pub counted : (a : Archive) (h : List Event) → MayAll id_of a h → finite.len (after_all a h).bodies ≡ finite.len a.bodies + bodies_in h
@@ -45,8 +44,7 @@ few-entries (e ∷ es) = let more = few-entries es in omega (arith, more)
 
 few-kind : (what : EventKind) → bodies_by what ≤ stored_length what
 few-kind (Batch es) = few-entries es
-few-kind (Open origin kind date) = omega arith
-few-kind (Mark origin visit status snapshot) = omega arith
+few-kind what = omega arith
 
 -- there are no more objects than bytes of the store
 pub few : (h : List Event) → bodies_in h ≤ store_length h

@@ -90,5 +90,4 @@ opened-next h k e less is = ap opened_in (take-more h k e less is) ∙ opened-pu
 
 pub opened_once : (what : EventKind) → opened_by what ≤ 1
 opened_once (Batch es) = omega arith
-opened_once (Open origin kind date) = omega arith
-opened_once (Mark origin visit status snapshot) = omega arith
+opened_once what = omega arith

@@ -54,8 +54,7 @@ pub record IsReport (a : Archive) (report : Report) : Type 0 where
 -- the objects that were added
 abbrev pub bodies_by : EventKind → ℕ
 bodies_by (Batch entries) = length entries
-bodies_by (Open origin kind date) = 0
-bodies_by (Mark origin visit status snapshot) = 0
+bodies_by _ = 0
 
 abbrev pub bodies_in : List Event → ℕ
 bodies_in [] = 0

@@ -8,7 +8,7 @@ use Rattle.swh_model.specs.Limits.{object_length, run_length, stored_length, sto
 use Rattle.swh_format.specs.Record.{magic, framed, front}
 use Rattle.swh_format.specs.Events.{records}
 use Rattle.swh_format.specs.StoredObject.{coded_entry, coded_run}
-use Rattle.swh_format.specs.MarkRecord.{coded_snapshot}
+use Rattle.swh_format.specs.Fields.{coded_snapshot}
 use Rattle.swh_format.specs.EventRecord.{packed_objects, event_byte, event_payload, payload_of, coded_record}
 use Rattle.swh_format.specs.Stands.{coded_records, coded_runs, all_written}
 
@@ -22,8 +22,7 @@ run-length (e ∷ es) = let one = object-length e in let more = run-length es in
 
 pub stored-length : (what : EventKind) → length (packed_objects what) ≡ stored_length what
 stored-length (Batch entries) = run-length entries
-stored-length (Open origin kind date) = refl
-stored-length (Mark origin visit status snapshot) = refl
+stored-length what = refl
 
 snapshot-length : (s : Option (List ℕ)) → length (coded_snapshot s) ≡ snapshot_length s
 snapshot-length None = refl

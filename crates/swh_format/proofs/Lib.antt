@@ -1,13 +1,12 @@
-pub mod BareEvents
+pub mod Contents
+pub mod Cuts
 pub mod Fronts
 pub mod Gates
 pub mod HistoryFiles
+pub mod KindLaws
 pub mod Lengths
 pub mod One
-pub mod RecordFronts
-pub mod RecordReading
 pub mod RunAppends
-pub mod RunFronts
 pub mod StandsFrom
 pub mod ToldFronts
 pub mod Unique

@@ -1,7 +1,8 @@
 -- A file stands for one list of records.
 use Rattle.std.proofs.Common.{◌≡◌, ◌≢◌, ℕ, ◌<◌, ◌^◌, List, [], ◌∷◌, ◌++◌, length, drop, refl, sym, ◌∙◌, ap, append_assoc}
 use Rattle.swh_format.specs.Record.{Record, body, coded, front, Stands, HaveCodableLengths}
-use Rattle.swh_format.proofs.Unique.{same_head, same_frame}
+use Rattle.swh_format.proofs.Cuts.{same_head}
+use Rattle.swh_format.proofs.Unique.{same_frame}
 
 -- two bodies with anything after them
 same_body : (r s : Record) (x y : List ℕ) → length r.payload < 2 ^ 32 → length s.payload < 2 ^ 32 → body r ++ x ≡ body s ++ y → (r ≡ s) × (x ≡ y)

@@ -1,26 +1,37 @@
--- What is, and what is not, told of an event.
-use Rattle.std.proofs.Common.{◌≡◌, ℕ, ◌+◌, List, ◌++◌, length, sym, ◌∙◌, subst, arith}
-use Rattle.std.specs.Int.{w32, w64, to_be_bytes}
-use Rattle.swh_model.specs.declared.event.EventKind.TheVariants.{Batch, Open, Mark}
-use Rattle.swh_format.specs.declared.mark_record.MarkParts.{MarkParts}
-use Rattle.swh_format.specs.StoredObject.{coded_run}
-use Rattle.swh_format.specs.MarkRecord.{coded_snapshot, status_number, IsMarkTold}
+-- What is not told of an event.
+use Rattle.std.proofs.Common.{◌≡◌, ℕ, Option, List, sym, ◌∙◌, subst, arith}
+use Rattle.swh_base.specs.declared.visit.VisitKind.{VisitKind}
+use Rattle.swh_base.specs.declared.visit.Status.{Status}
+use Rattle.swh_model.specs.declared.event.EventKind.TheVariants.{Open, Mark}
+use Rattle.swh_format.specs.declared.field.RecordKind.TheVariants as kind
+use Rattle.swh_format.specs.Fields.{byte_of, IsSnapshotId, Contents, text, AreFit}
+use Rattle.swh_format.specs.Kinds.{told_fields}
+use Rattle.swh_format.specs.OpenRecord.{open_contents}
+use Rattle.swh_format.specs.MarkRecord.{mark_contents, IsMarkStatus}
+use Rattle.swh_format.specs.EventRecord.{contents_of}
 use Rattle.swh_format.specs.Origin.{IsOrigin}
 use Rattle.swh_format.specs.Tells.{IsNotTold}
-use Rattle.swh_format.proofs.Unique.{cut_eight, same_tail, snapshot_same}
+use Rattle.swh_format.proofs.Contents.{one_text}
+use Rattle.swh_format.proofs.KindLaws.{said_fits}
 
--- where a payload is not that of a batch, none is told of
-pub no_batch : (payload : List ℕ) → ((from to number : ℕ) → payload ≡ to_be_bytes w64 from ++ (to_be_bytes w64 to ++ to_be_bytes w32 number) → ⊥) → IsNotTold 66 payload
-no_batch payload none at (Batch es) codable byte is = none at (at + length (coded_run es)) (length es) is
-no_batch payload none at (Open origin kind date) codable byte is = absurd (omega (arith, byte))
-no_batch payload none at (Mark origin visit status snapshot) codable byte is = absurd (omega (arith, byte))
+-- where a payload is not that of an opening, none is told of
+pub no_open : (told : List ℕ) → ((visit_kind : VisitKind) (date : ℕ) (origin : List ℕ) → told ≡ text (told_fields kind.Open) (open_contents visit_kind date) origin → ⊥) → IsNotTold (byte_of kind.Open) told
+no_open told none at (Open o k d) codable byte said = none k d o said
+no_open told none at what codable byte said = absurd (omega (arith, byte))
 
--- where the bytes after the snapshot are no origin, no mark is told of
-pub no_mark_origin : (payload : List ℕ) (p : MarkParts) → IsMarkTold payload p → (IsOrigin p.origin.now → ⊥) → IsNotTold 84 payload
-no_mark_origin payload p told none at (Batch es) codable byte is = absurd (omega (arith, byte))
-no_mark_origin payload p told none at (Open origin kind date) codable byte is = absurd (omega (arith, byte))
-no_mark_origin payload p told none at (Mark origin visit status snapshot) codable byte is =
-    let behind = same_tail (status_number p.status) (status_number status) _ _ (sym told.spelled ∙ is) in
-    let visits = cut_eight p.visit visit (coded_snapshot p.snapshot ++ p.origin.now) (coded_snapshot snapshot ++ origin) told.visit_fits codable.visit_fits behind in
-    let both = snapshot_same p.snapshot snapshot p.origin.now origin told.id codable.is_snapshot visits.1 in
-    none (subst IsOrigin (sym both.1) codable.is_origin)
+-- and of a mark
+pub no_mark : (told : List ℕ) → ((status : Status) (visit : ℕ) (snapshot : Option (List ℕ)) (origin : List ℕ) → IsMarkStatus status → IsSnapshotId snapshot → told ≡ text (told_fields kind.Mark) (mark_contents status visit snapshot) origin → ⊥)
+    → IsNotTold (byte_of kind.Mark) told
+no_mark told none at (Mark o v s n) codable byte said = none s v n o codable.is_status codable.is_snapshot said
+no_mark told none at what codable byte said = absurd (omega (arith, byte))
+
+-- where what is behind the fields is no origin, no opening or mark is told of
+pub no_open_origin : (told origin : List ℕ) (c : Contents (told_fields kind.Open)) → told ≡ text (told_fields kind.Open) c origin → AreFit (told_fields kind.Open) c → (IsOrigin origin → ⊥) → IsNotTold (byte_of kind.Open) told
+no_open_origin told origin c is fit none at (Open o k d) codable byte said =
+    none (subst IsOrigin (sym (one_text (told_fields kind.Open) c (contents_of at (Open o k d)) origin o fit (said_fits at (Open o k d) codable) (sym is ∙ said)).1) codable.is_origin)
+no_open_origin told origin c is fit none at what codable byte said = absurd (omega (arith, byte))
+
+pub no_mark_origin : (told origin : List ℕ) (c : Contents (told_fields kind.Mark)) → told ≡ text (told_fields kind.Mark) c origin → AreFit (told_fields kind.Mark) c → (IsOrigin origin → ⊥) → IsNotTold (byte_of kind.Mark) told
+no_mark_origin told origin c is fit none at (Mark o v s n) codable byte said =
+    none (subst IsOrigin (sym (one_text (told_fields kind.Mark) c (contents_of at (Mark o v s n)) origin o fit (said_fits at (Mark o v s n) codable) (sym is ∙ said)).1) codable.is_origin)
+no_mark_origin told origin c is fit none at what codable byte said = absurd (omega (arith, byte))

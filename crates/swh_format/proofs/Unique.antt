@@ -1,73 +1,25 @@
 -- What is coded in the files is coded in one way.
-use Rattle.std.specs.Prelude.{◌==◌, if◌then◌else◌}
-use Rattle.std.proofs.Common.{◌≡◌, ◌≢◌, ℕ, ◌+◌, ◌<◌, ◌≤◌, ◌^◌, Option, Some, None, List, [], ◌∷◌, ◌++◌, length, map, refl, sym, ap, ◌∙◌, subst, arith, append_assoc, length-append}
+use Rattle.std.proofs.Common.{◌≡◌, ◌≢◌, ℕ, ◌+◌, ◌<◌, ◌^◌, List, [], ◌∷◌, ◌++◌, length, map, refl, sym, ap, ◌∙◌, subst, arith, append_assoc, length-append}
 use Rattle.std.specs.List.{AllByRecursion}
-use Rattle.std.specs.Int.{w32, w64, to_be_bytes, from_be_bytes}
-use Rattle.std.proofs.lemmas.Nat.{from_be_bytes-to_be_bytes_4, from_be_bytes-to_be_bytes_8}
+use Rattle.std.specs.Int.{w32, w64, to_be_bytes}
 use Rattle.swh_base.specs.declared.name.Name.{Name}
 use Rattle.swh_base.specs.declared.entry.Entry.{Entry}
-use Rattle.swh_base.specs.declared.visit.VisitKind.{VisitKind}
-use Rattle.swh_base.specs.declared.visit.VisitKind.TheVariants.{Fast, Dir, Batch as BatchVisit}
-use Rattle.swh_base.specs.declared.visit.Status.{Status}
-use Rattle.swh_base.specs.declared.visit.Status.TheVariants.{Created, Ongoing, Full, Partial, NotFound, Failed}
 use Rattle.swh_base.specs.Name.{kind_number, name_key-injective}
 use Rattle.swh_model.specs.declared.event.Event.{Event}
 use Rattle.swh_model.specs.declared.event.EventKind.{EventKind}
 use Rattle.swh_model.specs.declared.event.EventKind.TheVariants.{Batch, Open, Mark}
+use Rattle.swh_format.specs.declared.field.RecordKind.TheVariants as kind
 use Rattle.swh_format.specs.Record.{magic, framed}
+use Rattle.swh_format.specs.Fields.{Contents}
+use Rattle.swh_format.specs.Kinds.{told_fields}
 use Rattle.swh_format.specs.StoredObject.{coded_entry, coded_run, IsCodableEntry}
-use Rattle.swh_format.specs.EventRecord.{packed_objects, event_byte, event_payload, payload_of, coded_record, IsCodableKind, IsCodable}
-use Rattle.swh_format.specs.OpenRecord.{visit_kind_number, IsCodableOpen}
-use Rattle.swh_format.specs.MarkRecord.{status_number, coded_snapshot, IsSnapshotId, IsCodableMark}
+use Rattle.swh_format.specs.EventRecord.{packed_objects, event_byte, event_payload, contents_of, payload_of, coded_record, IsCodableKind, IsCodable}
 use Rattle.swh_format.specs.Stands.{coded_records, coded_runs, StandsFor}
-use Rattle.swh_format.specs.BatchRecord.{IsCodableBatch}
+use Rattle.swh_format.proofs.Cuts.{cut, cut_four, cut_eight, same_head, same_tail}
+use Rattle.swh_format.proofs.Contents.{one_text}
+use Rattle.swh_format.proofs.KindLaws.{said_fits, payload-short, visit_kind_same, status_same}
 use Rattle.swh_format.proofs.StandsFrom.{StandsFrom, behind_magic, with_magic}
 use Rattle.swh_model.specs.Alike.{without_children, bare_kind, bare_event, AreAlike}
-
--- what stands before and after a number of bytes
-pub cut : (a b x y : List ℕ) → length a ≡ length b → a ++ x ≡ b ++ y → (a ≡ b) × (x ≡ y)
-cut [] [] x y l e = (refl, e)
-cut [] (d ∷ b) x y l e = absurd (omega (arith, l))
-cut (c ∷ a) [] x y l e = absurd (omega (arith, l))
-cut (c ∷ a) (d ∷ b) x y l e =
-    let after : a ++ x ≡ b ++ y = cc in
-    let both = cut a b x y (omega (arith, l)) after in
-    let fronts = both.0 in (cc, both.1)
-
-pub four_bytes : (n : ℕ) → length (to_be_bytes w32 n) ≡ 4
-four_bytes n = refl
-
-pub eight_bytes : (n : ℕ) → length (to_be_bytes w64 n) ≡ 8
-eight_bytes n = refl
-
-pub same_four : (m n : ℕ) → m < 2 ^ 32 → n < 2 ^ 32 → to_be_bytes w32 m ≡ to_be_bytes w32 n → m ≡ n
-same_four m n hm hn e = sym (from_be_bytes-to_be_bytes_4 m hm) ∙ ap (from_be_bytes w32) e ∙ from_be_bytes-to_be_bytes_4 n hn
-
-pub same_eight : (m n : ℕ) → m < 2 ^ 64 → n < 2 ^ 64 → to_be_bytes w64 m ≡ to_be_bytes w64 n → m ≡ n
-same_eight m n hm hn e = sym (from_be_bytes-to_be_bytes_8 m hm) ∙ ap (from_be_bytes w64) e ∙ from_be_bytes-to_be_bytes_8 n hn
-
--- a number in four bytes, and what is after it
-pub cut_four : (m n : ℕ) (x y : List ℕ) → m < 2 ^ 32 → n < 2 ^ 32 → to_be_bytes w32 m ++ x ≡ to_be_bytes w32 n ++ y → (m ≡ n) × (x ≡ y)
-cut_four m n x y hm hn e = let both = cut (to_be_bytes w32 m) (to_be_bytes w32 n) x y refl e in (same_four m n hm hn both.0, both.1)
-
-pub cut_eight : (m n : ℕ) (x y : List ℕ) → m < 2 ^ 64 → n < 2 ^ 64 → to_be_bytes w64 m ++ x ≡ to_be_bytes w64 n ++ y → (m ≡ n) × (x ≡ y)
-cut_eight m n x y hm hn e = let both = cut (to_be_bytes w64 m) (to_be_bytes w64 n) x y refl e in (same_eight m n hm hn both.0, both.1)
-
-head_of : List ℕ → ℕ
-head_of [] = 0
-head_of (x ∷ xs) = x
-
-tail_of : List ℕ → List ℕ
-tail_of [] = []
-tail_of (x ∷ xs) = xs
-
-pub same_head : (a b : ℕ) (x y : List ℕ) → a ∷ x ≡ b ∷ y → a ≡ b
-unfolding head_of
-same_head a b x y e = ap head_of e
-
-pub same_tail : (a b : ℕ) (x y : List ℕ) → a ∷ x ≡ b ∷ y → x ≡ y
-unfolding tail_of
-same_tail a b x y e = ap tail_of e
 
 pub entry_then : (e : Entry) (x : List ℕ) → coded_entry e ++ x ≡ kind_number e.name.kind ∷ (to_be_bytes w64 (length e.body) ++ (e.name.id ++ (e.body ++ x)))
 unfolding coded_entry
@@ -111,87 +63,26 @@ same_frame j k p q x y hp hq same =
     let both = cut p q x y sizes.0 sizes.1 in
     (same_head j k _ _ all, both.0, both.1)
 
-snapshot-short : (s : Option (List ℕ)) → IsSnapshotId s → length (coded_snapshot s) ≤ 21
-snapshot-short None h = omega arith
-snapshot-short (Some id) h = omega (arith, h)
-
-told-short : (at : ℕ) (what : EventKind) → IsCodableKind at what → length (event_payload at what) ≤ 3000
-told-short at (Batch entries) h = omega arith
-told-short at (Open origin kind date) h = let l = h.is_origin.url.short in omega (arith, l)
-told-short at (Mark origin visit status snapshot) h =
-    let l = h.is_origin.url.short in let s = snapshot-short snapshot h.is_snapshot in omega (arith, l, s, length-append (coded_snapshot snapshot) origin)
-
-pub payload-short : (at : ℕ) (e : Event) → IsCodable at e → length (payload_of at e) < 2 ^ 32
-payload-short at e h = let t = told-short at e.what h.1 in omega (arith, t)
-
-visit_kind_same : (a b : VisitKind) → visit_kind_number a ≡ visit_kind_number b → a ≡ b
-visit_kind_same Fast Fast e = refl
-visit_kind_same Fast Dir e = absurd (omega (arith, e))
-visit_kind_same Fast BatchVisit e = absurd (omega (arith, e))
-visit_kind_same Dir Fast e = absurd (omega (arith, e))
-visit_kind_same Dir Dir e = refl
-visit_kind_same Dir BatchVisit e = absurd (omega (arith, e))
-visit_kind_same BatchVisit Fast e = absurd (omega (arith, e))
-visit_kind_same BatchVisit Dir e = absurd (omega (arith, e))
-visit_kind_same BatchVisit BatchVisit e = refl
-
-abbrev status_of : ℕ → Status
-status_of n = if n == 1 then Created else if n == 2 then Ongoing else if n == 3 then Full else if n == 4 then Partial else if n == 5 then NotFound else Failed
-
-status_of-number : (s : Status) → status_of (status_number s) ≡ s
-status_of-number Created = refl
-status_of-number Ongoing = refl
-status_of-number Full = refl
-status_of-number Partial = refl
-status_of-number NotFound = refl
-status_of-number Failed = refl
-
-pub status_same : (a b : Status) → status_number a ≡ status_number b → a ≡ b
-status_same a b e = sym (status_of-number a) ∙ ap status_of e ∙ status_of-number b
-
-pub snapshot_same : (s t : Option (List ℕ)) (x y : List ℕ) → IsSnapshotId s → IsSnapshotId t → coded_snapshot s ++ x ≡ coded_snapshot t ++ y → (s ≡ t) × (x ≡ y)
-snapshot_same None None x y hs ht e = (refl, same_tail 0 0 x y e)
-snapshot_same None (Some id) x y hs ht e = absurd (omega (arith, same_head 0 1 x (id ++ y) e))
-snapshot_same (Some id) None x y hs ht e = absurd (omega (arith, same_head 1 0 (id ++ x) y e))
-snapshot_same (Some id) (Some jd) x y hs ht e =
-    let both = cut id jd x y (hs ∙ sym ht) (same_tail 1 1 (id ++ x) (jd ++ y) e) in
-    (ap (λ (l : List ℕ). Some l) both.0, both.1)
-
 -- Both kinds of event are the same, and so is what is after their runs.
 abbrev SameKinds : EventKind → EventKind → List ℕ → List ℕ → Type 0
 SameKinds a b u v = (bare_kind a ≡ bare_kind b) × (u ≡ v)
 
-batch_same : (at : ℕ) (es fs : List Entry) (u v : List ℕ) → IsCodableBatch at es → IsCodableBatch at fs → event_payload at (Batch es) ≡ event_payload at (Batch fs) → coded_run es ++ u ≡ coded_run fs ++ v → SameKinds (Batch es) (Batch fs) u v
-batch_same at es fs u v he hf e runs =
-    let starts = cut (to_be_bytes w64 at) (to_be_bytes w64 at) _ _ refl e in
-    let ends = cut_eight (at + length (coded_run es)) (at + length (coded_run fs)) _ _ he.end hf.end starts.1 in
-    let numbers = same_four (length es) (length fs) he.number hf.number ends.1 in
-    let both = same_run es fs u v numbers he.entries_codable hf.entries_codable runs in
-    (ap (λ (l : List Entry). Batch l) both.0, both.1)
-
-open_same : (at : ℕ) (o p : List ℕ) (j k : VisitKind) (d e : ℕ) → IsCodableOpen o d → IsCodableOpen p e → event_payload at (Open o j d) ≡ event_payload at (Open p k e) → Open o j d ≡ Open p k e
-open_same at o p j k d e ho hp same =
-    let kinds = visit_kind_same j k (same_head (visit_kind_number j) (visit_kind_number k) _ _ same) in
-    let dates = cut_eight d e o p ho.date_fits hp.date_fits (same_tail (visit_kind_number j) (visit_kind_number k) _ _ same) in
-    λ i. Open (dates.1 i) (kinds i) (dates.0 i)
-
-mark_same : (at : ℕ) (o p : List ℕ) (m n : ℕ) (s t : Status) (a b : Option (List ℕ)) → IsCodableMark o m s a → IsCodableMark p n t b → event_payload at (Mark o m s a) ≡ event_payload at (Mark p n t b) → Mark o m s a ≡ Mark p n t b
-mark_same at o p m n s t a b ho hp same =
-    let statuses = status_same s t (same_head (status_number s) (status_number t) _ _ same) in
-    let visits = cut_eight m n (coded_snapshot a ++ o) (coded_snapshot b ++ p) ho.visit_fits hp.visit_fits (same_tail (status_number s) (status_number t) _ _ same) in
-    let snapshots = snapshot_same a b o p ho.is_snapshot hp.is_snapshot visits.1 in
-    λ i. Mark (snapshots.1 i) (visits.0 i) (statuses i) (snapshots.0 i)
-
+-- what is said alike is said of the same
 pub same_kinds : (at : ℕ) (a b : EventKind) (u v : List ℕ) → IsCodableKind at a → IsCodableKind at b → event_byte a ≡ event_byte b → event_payload at a ≡ event_payload at b → packed_objects a ++ u ≡ packed_objects b ++ v → SameKinds a b u v
-same_kinds at (Batch es) (Batch fs) u v ha hb k t runs = batch_same at es fs u v ha hb t runs
-same_kinds at (Batch es) (Open p l e) u v ha hb k t runs = absurd (omega (arith, k))
-same_kinds at (Batch es) (Mark p n t' b) u v ha hb k t runs = absurd (omega (arith, k))
-same_kinds at (Open o j d) (Batch fs) u v ha hb k t runs = absurd (omega (arith, k))
-same_kinds at (Open o j d) (Open p l e) u v ha hb k t runs = (open_same at o p j l d e ha hb t, runs)
-same_kinds at (Open o j d) (Mark p n t' b) u v ha hb k t runs = absurd (omega (arith, k))
-same_kinds at (Mark o m s a) (Batch fs) u v ha hb k t runs = absurd (omega (arith, k))
-same_kinds at (Mark o m s a) (Open p l e) u v ha hb k t runs = absurd (omega (arith, k))
-same_kinds at (Mark o m s a) (Mark p n t' b) u v ha hb k t runs = (mark_same at o p m n s t' a b ha hb t, runs)
+same_kinds at (Batch es) (Batch fs) u v ha hb k t runs =
+    let told = one_text (told_fields kind.Batch) (contents_of at (Batch es)) (contents_of at (Batch fs)) [] [] (said_fits at (Batch es) ha) (said_fits at (Batch fs) hb) t in
+    let number : length es ≡ length fs = ap (λ (c : Contents (told_fields kind.Batch)). c.1.1.0) told.0 in
+    let both = same_run es fs u v number ha.entries_codable hb.entries_codable runs in
+    (ap (λ (l : List Entry). Batch l) both.0, both.1)
+same_kinds at (Open o j d) (Open p l e) u v ha hb k t runs =
+    let told = one_text (told_fields kind.Open) (contents_of at (Open o j d)) (contents_of at (Open p l e)) o p (said_fits at (Open o j d) ha) (said_fits at (Open p l e) hb) t in
+    let kinds = visit_kind_same j l (ap (λ (c : Contents (told_fields kind.Open)). c.0) told.0) in
+    ((λ i. Open (told.1 i) (kinds i) (told.0 i).1.0), runs)
+same_kinds at (Mark o m s a) (Mark p n r b) u v ha hb k t runs =
+    let told = one_text (told_fields kind.Mark) (contents_of at (Mark o m s a)) (contents_of at (Mark p n r b)) o p (said_fits at (Mark o m s a) ha) (said_fits at (Mark p n r b) hb) t in
+    let statuses = status_same s r (ap (λ (c : Contents (told_fields kind.Mark)). c.0) told.0) in
+    ((λ i. Mark (told.1 i) (told.0 i).1.0 (statuses i) (told.0 i).1.1.0), runs)
+same_kinds at a b u v ha hb k t runs = absurd (omega (arith, k))
 
 -- One record, with what is after it and after its run.
 pub same_event : (at : ℕ) (e f : Event) (x y u v : List ℕ) → IsCodable at e → IsCodable at f → coded_record at e ++ x ≡ coded_record at f ++ y → packed_objects e.what ++ u ≡ packed_objects f.what ++ v

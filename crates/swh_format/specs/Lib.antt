@@ -1,6 +1,8 @@
 pub mod BatchRecord
 pub mod EventRecord
 pub mod Events
+pub mod Fields
+pub mod Kinds
 pub mod LedgerReading
 pub mod MarkRecord
 pub mod OpenRecord

@@ -1,9 +1,7 @@
 //! The frame of a record: its kind, its payload's length and its payload.
-ghost use Rattle.std.specs.Prelude.{◌≡◌, ◌++◌, ◌∷◌, [], ◌<◌, ◌^◌, IfSome, IfNone, IfOk, List, ℕ, length};
+ghost use Rattle.std.specs.Prelude.{◌≡◌, ◌++◌, ◌∷◌, [], ◌<◌, ◌^◌, IfOk, length};
 ghost use Rattle.swh_format.specs.Record.{framed};
-ghost use Rattle.swh_format.specs.LedgerReading.{IsRecordFront};
 
-use crate::number::{split_bytes, split_four};
 use std::alloc::Global;
 use swh_base::Memory;
 
@@ -13,28 +11,6 @@ pub struct RecordParts<'a> {
     pub kind: u8,
     pub payload: &'a [u8],
     pub rest: &'a [u8],
-}
-
-/// The record at the front of bytes.
-pub fn split_record(bytes: &[u8]) -> Option<RecordParts<'_>>
-    ensures some { IfSome result (IsRecordFront bytes.now) }
-    ensures none { IfNone result ((kind : ℕ) (payload x : List ℕ) → length payload < 2 ^ 32
-        → bytes.now ≡ framed kind payload ++ x → ⊥) }
-{
-    let Some((kind, rest)) = bytes.split_first() else {
-        return None;
-    };
-    let Some((size, rest)) = split_four(rest) else {
-        return None;
-    };
-    let Some((payload, rest)) = split_bytes(rest, size as u64) else {
-        return None;
-    };
-    Some(RecordParts {
-        kind: *kind,
-        payload,
-        rest,
-    })
 }
 
 /// A record of this kind and payload, with the next gate, which is closed. `Memory` where there is none.

@@ -1,14 +1,10 @@
-//! What is said of a mark in its record: its text, how it is written and how it is read.
+//! What is said of a mark in its record: how it is written and how it is read.
 ghost use Rattle.std.specs.Prelude.{◌≡◌, ◌++◌, IfSome, IfNone, OnOk, List, ℕ, Option};
 ghost use Rattle.swh_base.specs.declared.visit.Status.{Status as AnyStatus};
-ghost use Rattle.swh_format.specs.MarkRecord.{
-  status_number,
-  coded_snapshot,
-  mark_text,
-  IsMarkStatus,
-  IsSnapshotId,
-  IsMarkTold,
-};
+ghost use Rattle.swh_format.specs.Fields.{text, coded_snapshot, IsSnapshotId};
+ghost use Rattle.swh_format.specs.Kinds.{told_fields};
+ghost use Rattle.swh_format.specs.MarkRecord.{status_number, mark_contents, IsMarkStatus, IsMarkTold};
+ghost use Rattle.swh_format.specs.declared.field.RecordKind.TheVariants as of;
 
 use crate::number::split_eight;
 use crate::stored_object::has_twenty_bytes;
@@ -96,8 +92,8 @@ pub fn push_mark(
     status: Status,
     snapshot: &Option<[u8; 20]>,
 ) -> Result<(), Memory>
-    ensures { OnOk result (bytes.new.items ≡ bytes.old.items ++ mark_text status visit
-        snapshot.now origin.now) }
+    ensures { OnOk result (bytes.new.items ≡ bytes.old.items
+        ++ text (told_fields of.Mark) (mark_contents status visit snapshot.now) origin.now) }
 {
     bytes.push(status_byte(status))?;
     bytes.extend_from_slice(&visit.to_be_bytes())?;
@@ -111,7 +107,7 @@ pub fn split_mark(told: &[u8]) -> Option<MarkParts<'_>>
     ensures some { IfSome result (IsMarkTold told.now) }
     ensures none { IfNone result ((status : AnyStatus) (visit : ℕ) (snapshot : Option (List ℕ)) (origin : List ℕ)
         → IsMarkStatus status → IsSnapshotId snapshot
-        → told.now ≡ mark_text status visit snapshot origin → ⊥) }
+        → told.now ≡ text (told_fields of.Mark) (mark_contents status visit snapshot) origin → ⊥) }
 {
     let Some((number, rest)) = told.split_first() else {
         return None;

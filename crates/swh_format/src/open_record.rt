@@ -1,7 +1,10 @@
-//! What is said of an opening in its record: its text, how it is written and how it is read.
+//! What is said of an opening in its record: how it is written and how it is read.
 ghost use Rattle.std.specs.Prelude.{◌≡◌, ◌++◌, IfSome, IfNone, OnOk, List, ℕ};
 ghost use Rattle.swh_base.specs.declared.visit.VisitKind.{VisitKind as AnyVisitKind};
-ghost use Rattle.swh_format.specs.OpenRecord.{visit_kind_number, open_text, IsOpenTold};
+ghost use Rattle.swh_format.specs.Fields.{text};
+ghost use Rattle.swh_format.specs.Kinds.{told_fields};
+ghost use Rattle.swh_format.specs.OpenRecord.{visit_kind_number, open_contents, IsOpenTold};
+ghost use Rattle.swh_format.specs.declared.field.RecordKind.TheVariants as of;
 
 use crate::number::split_eight;
 use swh_base::{Memory, Url, VisitKind};
@@ -43,7 +46,8 @@ pub fn push_open(
     kind: VisitKind,
     date: u64,
 ) -> Result<(), Memory>
-    ensures { OnOk result (bytes.new.items ≡ bytes.old.items ++ open_text kind date origin.now) }
+    ensures { OnOk result (bytes.new.items ≡ bytes.old.items
+        ++ text (told_fields of.Open) (open_contents kind date) origin.now) }
 {
     bytes.push(visit_kind_byte(kind))?;
     bytes.extend_from_slice(&date.to_be_bytes())?;
@@ -55,7 +59,7 @@ pub fn push_open(
 pub fn split_open(told: &[u8]) -> Option<OpenParts<'_>>
     ensures some { IfSome result (IsOpenTold told.now) }
     ensures none { IfNone result ((kind : AnyVisitKind) (date : ℕ) (origin : List ℕ)
-        → told.now ≡ open_text kind date origin → ⊥) }
+        → told.now ≡ text (told_fields of.Open) (open_contents kind date) origin → ⊥) }
 {
     let Some((number, rest)) = told.split_first() else {
         return None;

@@ -1,6 +1,7 @@
 //! The record of an event: how it is written, and what a record tells.
-ghost use Rattle.std.specs.Prelude.{◌≡◌, ◌+◌, ◌++◌, ◌∷◌, [], IfOk, IfSome, IfNone, OnOk, length};
-ghost use Rattle.swh_format.specs.Origin.{IsOrigin};
+ghost use Rattle.std.specs.Prelude.{◌≡◌, ◌≢◌, ◌+◌, ◌++◌, ◌∷◌, [], IfOk, IfSome, IfNone, OnOk, length};
+ghost use Rattle.swh_format.specs.Fields.{byte_of};
+ghost use Rattle.swh_format.specs.declared.field.RecordKind.TheVariants as of;
 ghost use Rattle.swh_format.specs.EventRecord.{
   packed_objects,
   event_byte,
@@ -10,9 +11,9 @@ ghost use Rattle.swh_format.specs.EventRecord.{
   IsCodableKind,
   IsCodable,
 };
-ghost use Rattle.swh_format.specs.Tells.{TellsEvent, IsNotTold};
+ghost use Rattle.swh_format.specs.Tells.{TellsWhole, IsNotTold};
 
-use crate::batch_record::{BatchParts, push_batch, split_batch};
+use crate::batch_record::{BatchParts, push_batch};
 use crate::frame::framed_record;
 use crate::mark_record::{push_mark, split_mark};
 use crate::open_record::{push_open, split_open};
@@ -79,60 +80,51 @@ pub fn record_of_event(alloc: Global, at: u64, end: u64, event: &Event) -> Resul
     framed_record(alloc, record_byte(&event.what), &payload)
 }
 
-fn read_open(alloc: Global, payload: &[u8]) -> Result<Option<Told>, Memory>
-    ensures some { IfOk result (λ found. IfSome found (TellsEvent 79 payload.now)) }
-    ensures none { IfOk result (λ found. IfNone found (IsNotTold 79 payload.now)) }
+fn read_open(alloc: Global, told: &[u8]) -> Result<Option<EventKind>, Memory>
+    ensures some { IfOk result (λ found. IfSome found (TellsWhole (byte_of of.Open) told.now)) }
+    ensures none { IfOk result (λ found. IfNone found (IsNotTold (byte_of of.Open) told.now)) }
 {
-    let Some(parts) = split_open(payload) else {
+    let Some(parts) = split_open(told) else {
         return Ok(None);
     };
     let Some(origin) = read_origin(alloc, parts.origin)? else {
         return Ok(None);
     };
-    Ok(Some(Told::Whole(EventKind::Open {
+    Ok(Some(EventKind::Open {
         origin,
         kind: parts.kind,
         date: parts.date,
-    })))
+    }))
 }
 
-fn read_mark(alloc: Global, payload: &[u8]) -> Result<Option<Told>, Memory>
-    ensures some { IfOk result (λ found. IfSome found (TellsEvent 84 payload.now)) }
-    ensures none { IfOk result (λ found. IfNone found (IsNotTold 84 payload.now)) }
+fn read_mark(alloc: Global, told: &[u8]) -> Result<Option<EventKind>, Memory>
+    ensures some { IfOk result (λ found. IfSome found (TellsWhole (byte_of of.Mark) told.now)) }
+    ensures none { IfOk result (λ found. IfNone found (IsNotTold (byte_of of.Mark) told.now)) }
 {
-    let Some(parts) = split_mark(payload) else {
+    let Some(parts) = split_mark(told) else {
         return Ok(None);
     };
     let Some(origin) = read_origin(alloc, parts.origin)? else {
         return Ok(None);
     };
-    Ok(Some(Told::Whole(EventKind::Mark {
+    Ok(Some(EventKind::Mark {
         origin,
         visit: parts.visit,
         status: parts.status,
         snapshot: parts.snapshot,
-    })))
+    }))
 }
 
-fn read_batch(payload: &[u8]) -> Option<Told>
-    ensures some { IfSome result (TellsEvent 66 payload.now) }
-    ensures none { IfNone result (IsNotTold 66 payload.now) }
-{
-    match split_batch(payload) {
-        Some(parts) => Some(Told::Batch(parts)),
-        None => None,
-    }
-}
-
-/// What a record of this kind tells, by its payload after who wrote it.
-pub fn read_told(alloc: Global, kind: u8, payload: &[u8]) -> Result<Option<Told>, Memory>
-    ensures some { IfOk result (λ found. IfSome found (TellsEvent kind payload.now)) }
-    ensures none { IfOk result (λ found. IfNone found (IsNotTold kind payload.now)) }
+/// What happened, by a record's kind, which is no batch's, and its payload after who wrote it; none where it is of no
+/// event. `Memory` where there is none for an origin.
+pub fn read_whole(alloc: Global, kind: u8, told: &[u8]) -> Result<Option<EventKind>, Memory>
+    requires { kind ≢ byte_of of.Batch }
+    ensures some { IfOk result (λ found. IfSome found (TellsWhole kind told.now)) }
+    ensures none { IfOk result (λ found. IfNone found (IsNotTold kind told.now)) }
 {
     match kind {
-        b'B' => Ok(read_batch(payload)),
-        b'O' => read_open(alloc, payload),
-        b'T' => read_mark(alloc, payload),
+        b'O' => read_open(alloc, told),
+        b'T' => read_mark(alloc, told),
         _ => Ok(None),
     }
 }

@@ -8,7 +8,7 @@ use Rattle.swh_base.specs.declared.kind.Kind.{Kind}
 use Rattle.swh_base.specs.declared.entry.Entry.{Entry}
 use Rattle.swh_model.specs.declared.event.Event.{Event}
 use Rattle.swh_model.specs.declared.event.EventKind.{EventKind}
-use Rattle.swh_model.specs.declared.event.EventKind.TheVariants.{Batch, Open, Mark}
+use Rattle.swh_model.specs.declared.event.EventKind.TheVariants.{Batch}
 use Rattle.swh_model.specs.Archive.{empty_archive}
 use Rattle.swh_model.specs.Limits.{ledger_length}
 use Rattle.swh_model.specs.Step.{HasItsChildrenAndName, May, IsHistory, replay}
@@ -73,8 +73,7 @@ module _ (id_of : Kind → List ℕ → List ℕ) where
 
   kind_named : (what : EventKind) → AllByRecursion (IsObject id_of) (entries_of what) → IsNamedKind id_of what
   kind_named (Batch es) good = entries_named es good
-  kind_named (Open o k d) good = tt
-  kind_named (Mark o v s n) good = tt
+  kind_named what good = tt
 
   pub events_named : (h : List Event) → AllByRecursion (λ e. AllByRecursion (IsObject id_of) (entries_of e.what)) h → AllByRecursion (IsNamedEvent id_of) h
   events_named [] good = tt

@@ -10,7 +10,7 @@ use Rattle.swh_base.specs.declared.entry.Entry.{Entry}
 use Rattle.swh_base.specs.Name.{kind_number}
 use Rattle.swh_model.specs.declared.event.Event.{Event}
 use Rattle.swh_model.specs.declared.event.EventKind.{EventKind}
-use Rattle.swh_model.specs.declared.event.EventKind.TheVariants.{Batch, Open, Mark}
+use Rattle.swh_model.specs.declared.event.EventKind.TheVariants.{Batch}
 use Rattle.swh_model.specs.Archive.{Archive, Bodies, body_of}
 use Rattle.swh_model.specs.Grows.{IsWithin}
 use Rattle.swh_model.specs.Limits.{object_length, run_length, stored_length, store_length}
@@ -46,13 +46,11 @@ module _ (id_of : Kind → List ℕ → List ℕ) where
   stays-held : (a b : Bodies) (what : EventKind) → IsWithin a b → IsHeldKind id_of a what → IsHeldKind id_of b what
   stays-held a b (Batch es) within held =
       all-map (IsHeldNamed id_of a) (IsHeldNamed id_of b) (λ e h. record { held = within e.name e.body h.held; named = h.named }) es held
-  stays-held a b (Open origin kind date) within held = tt
-  stays-held a b (Mark origin visit status snapshot) within held = tt
+  stays-held a b what within held = tt
 
   held-kind : (a : Archive) (by : ℕ) (what : EventKind) → May_kind id_of a by what → IsHeldKind id_of (after_kind a by what).bodies what
   held-kind a by (Batch es) may = held-added a.bodies es may.new may.good
-  held-kind a by (Open origin kind date) may = tt
-  held-kind a by (Mark origin visit status snapshot) may = tt
+  held-kind a by what may = tt
 
   pub held-at : (a : Archive) (h : List Event) (k : ℕ) (e : Event) → MayAll id_of a h → k < length h → e ≡ get_or h k e → IsHeldKind id_of (after_all a h).bodies e.what
   held-at a [] k e may less is = absurd (omega (arith, less))
@@ -182,8 +180,7 @@ module _ (id_of : Kind → List ℕ → List ℕ) (bodies : Bodies) (h : List Ev
             ∙ part-append (coded_run es) (coded_runs (drop (k + 1) h)) inner (length x.body) there
             ∙ part-there es place.number x place.within place.is;
       }
-  found-kind (Open origin kind date) same held place = absurd place
-  found-kind (Mark origin visit status snapshot) same held place = absurd place
+  found-kind what same held place = absurd place
 
 pub found-at : (id_of : Kind → List ℕ → List ℕ) (a : Archive) (h : List Event) (n : Name) (p : Place) → MayAll id_of a h → IsPlaceOf h n p → IsFound (after_all a h).bodies h n p
 found-at id_of a h n p may place =
@@ -196,5 +193,4 @@ none-at a (e ∷ h) n none absent = none-at (after a e) h n none.1 (kind e.what 
   where
     kind : (what : EventKind) → IsUnnamedKind n what → body_of (after_kind a e.by what).bodies n ≡ None
     kind (Batch es) unnamed = none-added a.bodies es n unnamed absent
-    kind (Open origin k date) unnamed = absent
-    kind (Mark origin visit status snapshot) unnamed = absent
+    kind what unnamed = absent

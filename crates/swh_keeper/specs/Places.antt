@@ -5,7 +5,7 @@ use Rattle.swh_base.specs.declared.name.Name.{Name}
 use Rattle.swh_base.specs.declared.entry.Entry.{Entry}
 use Rattle.swh_model.specs.declared.event.Event.{Event}
 use Rattle.swh_model.specs.declared.event.EventKind.{EventKind}
-use Rattle.swh_model.specs.declared.event.EventKind.TheVariants.{Batch, Open, Mark}
+use Rattle.swh_model.specs.declared.event.EventKind.TheVariants.{Batch}
 use Rattle.swh_model.specs.Limits.{run_length, store_length}
 use Rattle.swh_keeper.specs.declared.finding.Place.{Place}
 
@@ -22,8 +22,7 @@ pub record IsPlaceIn (start : ℕ) (entries : List Entry) (n : Name) (p : Place)
 -- The same of what an event added.
 abbrev pub IsPlaceFor : ℕ → EventKind → Name → Place → Type 0
 IsPlaceFor start (Batch entries) n p = IsPlaceIn start entries n p
-IsPlaceFor start (Open origin kind date) n p = ⊥
-IsPlaceFor start (Mark origin visit status snapshot) n p = ⊥
+IsPlaceFor start _ n p = ⊥
 
 -- The same of the runs of a history.
 pub record IsPlaceOf (h : List Event) (n : Name) (p : Place) : Type 0 where
@@ -40,8 +39,7 @@ IsUnnamed n entries = AllByRecursion (λ e. e.name ≢ n) entries
 -- No object that the event added has the name.
 abbrev pub IsUnnamedKind : Name → EventKind → Type 0
 IsUnnamedKind n (Batch entries) = IsUnnamed n entries
-IsUnnamedKind n (Open origin kind date) = Unit {0}
-IsUnnamedKind n (Mark origin visit status snapshot) = Unit {0}
+IsUnnamedKind n _ = Unit {0}
 
 -- No object of a history has the name.
 abbrev pub AreUnnamed : Name → List Event → Type 0

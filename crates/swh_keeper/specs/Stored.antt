@@ -7,7 +7,7 @@ use Rattle.swh_base.specs.declared.name.Name.{Name}
 use Rattle.swh_base.specs.declared.entry.Entry.{Entry}
 use Rattle.swh_outside.specs.Disk.{File}
 use Rattle.swh_model.specs.declared.event.EventKind.{EventKind}
-use Rattle.swh_model.specs.declared.event.EventKind.TheVariants.{Batch, Open, Mark}
+use Rattle.swh_model.specs.declared.event.EventKind.TheVariants.{Batch}
 use Rattle.swh_model.specs.Archive.{Bodies, body_of}
 use Rattle.swh_keeper.specs.Kept.{Kept}
 
@@ -31,8 +31,7 @@ module _ (id_of : Kind → List ℕ → List ℕ) where
   -- The same of what an event added.
   abbrev pub IsHeldKind : Bodies → EventKind → Type 0
   IsHeldKind bodies (Batch entries) = AllByRecursion (IsHeldNamed bodies) entries
-  IsHeldKind bodies (Open origin kind date) = Unit {0}
-  IsHeldKind bodies (Mark origin visit status snapshot) = Unit {0}
+  IsHeldKind bodies _ = Unit {0}
 
 -- The bytes are as many at most as the body has that is held under the name.
 pub record IsNoLonger (bodies : Bodies) (n : Name) (bytes : Vec ℕ) : Type 0 where

@@ -27,8 +27,7 @@ use Rattle.swh_loader.proofs.Steps.{get-last, get-marked_self, one_less}
 -- openings and marks
 abbrev pub other_kind : EventKind → ℕ
 other_kind (Batch entries) = 0
-other_kind (Open origin kind date) = 1
-other_kind (Mark origin visit status snapshot) = 1
+other_kind what = 1
 
 -- how many of the events are no batches
 abbrev pub others : List Event → ℕ

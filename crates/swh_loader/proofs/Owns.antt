@@ -5,7 +5,7 @@ use Rattle.swh_base.specs.declared.visit.Status.{Status}
 use Rattle.swh_base.specs.declared.visit.Status.TheVariants.{Created}
 use Rattle.swh_model.specs.declared.event.Event.{Event}
 use Rattle.swh_model.specs.declared.event.EventKind.{EventKind}
-use Rattle.swh_model.specs.declared.event.EventKind.TheVariants.{Batch, Open, Mark}
+use Rattle.swh_model.specs.declared.event.EventKind.TheVariants.{Batch}
 use Rattle.swh_model.specs.Step.{FitsStatus, MayMark, replay}
 use Rattle.swh_loader.specs.declared.end.End.{End}
 use Rattle.swh_loader.specs.declared.end.End.TheVariants.{Full, NotFound, Failed}
@@ -26,8 +26,7 @@ own_batch A a number objects f e b = subst (IsOwn A a number) (sym b.is_of.is) (
 
 kind_as : (A B : List Entry → Type 0) (origin : List ℕ) (number : ℕ) → ((entries : List Entry) → A entries → B entries) → (what : EventKind) → IsOwnKind A origin number what → IsOwnKind B origin number what
 kind_as A B origin number f (Batch entries) h = (h.0, f entries h.1)
-kind_as A B origin number f (Open other kind date) h = h
-kind_as A B origin number f (Mark other visit status snapshot) h = h
+kind_as A B origin number f what h = h
 
 -- where more batches are allowed
 pub own_as : (A B : List Entry → Type 0) (a : Attempt) (number : ℕ) → ((entries : List Entry) → A entries → B entries) → (e : Event) → IsOwn A a number e → IsOwn B a number e

@@ -48,8 +48,7 @@ module _ (id_of : Kind → List ℕ → List ℕ) (objects : List Made) where
   -- A batch is not empty, and is made of these objects.
   abbrev IsBatchMade : EventKind → Type 0
   IsBatchMade (Batch entries) = (entries ≢ []) × AllByRecursion (IsMadeOf id_of objects) entries
-  IsBatchMade (Open origin kind date) = Unit {0}
-  IsBatchMade (Mark origin visit status snapshot) = Unit {0}
+  IsBatchMade what = Unit {0}
 
   abbrev left_in_ledger : Bodies → ℕ
   left_in_ledger bodies = missing id_of (of_batch id_of) bodies objects
@@ -63,8 +62,7 @@ module _ (id_of : Kind → List ℕ → List ℕ) (objects : List Made) where
       let run = run_size id_of objects entries made.1 in
       let less = added_all id_of (stored_object id_of) objects a.bodies entries may.new made.1 in
       omega (arith, run, less)
-  store_step a by (Open origin kind date) may made = omega arith
-  store_step a by (Mark origin visit status snapshot) may made = omega arith
+  store_step a by what may made = omega arith
 
   ledger_step : (a : Archive) (by : ℕ) (what : EventKind) → May_kind id_of a by what → IsBatchMade what → IsShort what
       → (6 + payload_length what) + left_in_ledger (after_kind a by what).bodies ≤ left_in_ledger a.bodies + other_kind what * longest_record
@@ -117,8 +115,7 @@ all_behind P (x ∷ xs) ys all = all_behind P xs ys all.1
 -- All names that are held after such events have twenty bytes.
 names_kind : (at : ℕ) (a : Archive) (by : ℕ) (what : EventKind) → IsCodableKind at what → HasShortNames a.bodies → HasShortNames (after_kind a by what).bodies
 names_kind at a by (Batch entries) fits held = added-all (λ n body. length n.id ≡ 20) a.bodies entries held (all-map IsCodableEntry (λ e. length e.name.id ≡ 20) (λ e is. is.id) entries fits.entries_codable)
-names_kind at a by (Open origin kind date) fits held = held
-names_kind at a by (Mark origin visit status snapshot) fits held = held
+names_kind at a by what fits held = held
 
 names_all : (at : ℕ) (a : Archive) (es : List Event) → AreCodable at es → HasShortNames a.bodies → HasShortNames (after_all a es).bodies
 names_all at a [] fits held = held
@@ -172,8 +169,7 @@ module _ (id_of : Kind → List ℕ → List ℕ) (objects : List Made) where
 
   other_most : (what : EventKind) → other_kind what ≤ 1
   other_most (Batch entries) = omega arith
-  other_most (Open origin kind date) = omega arith
-  other_most (Mark origin visit status snapshot) = omega arith
+  other_most what = omega arith
 
   -- one that may come next passes no file's end
   passes_none : (h : List Event) (e : Event) (which : Which) (number : ℕ) → HasRoomLeft h 1 → May id_of (replay h) e → IsBatchMade id_of objects e.what → IsShort e.what → FilePasses h e.what which number → ⊥
@@ -199,8 +195,7 @@ module _ (id_of : Kind → List ℕ → List ℕ) (objects : List Made) where
 
     made_kind : (number : ℕ) (what : EventKind) → IsOwnKind AreMadeOf t.origin number what → IsBatchMade id_of objects what
     made_kind number (Batch entries) own = own
-    made_kind number (Open origin kind date) own = tt
-    made_kind number (Mark origin visit status snapshot) own = tt
+    made_kind number what own = tt
 
     made_own : (number : ℕ) (es : List Event) → AllByRecursion (IsOwn AreMadeOf t number) es → AllByRecursion (λ e. IsBatchMade id_of objects e.what) es
     made_own number [] own = tt

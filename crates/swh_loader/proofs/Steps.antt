@@ -84,8 +84,7 @@ batch_visit h by entries h' outcome a o number statuses v =
 -- what was held is held
 within_after : (h : List Event) (by : ℕ) (wish : Wish) → IsWithin (replay h).bodies (after (replay h) (record { by = by; what = event_of (replay h) wish })).bodies
 within_after h by (Batch entries) = within-added (replay h).bodies (not_held (replay h).bodies entries) (fresh-new (replay h).bodies entries)
-within_after h by (Open origin kind date) = λ n body e. e
-within_after h by (Mark origin number status snapshot) = λ n body e. e
+within_after h by what = λ n body e. e
 
 pub goes_on : {D : Type 0} (old new : Kept D) (by : ℕ) (wish : Wish) (outcome : Outcome) → Applies old.history by wish new.history outcome → new.wounded ≡ None → KeepsAll old new
 goes_on old new by wish outcome a w = record {

@@ -7,7 +7,7 @@ use Rattle.swh_base.specs.declared.name.Name.{Name}
 use Rattle.swh_base.specs.declared.entry.Entry.{Entry}
 use Rattle.swh_model.specs.declared.event.Event.{Event}
 use Rattle.swh_model.specs.declared.event.EventKind.{EventKind}
-use Rattle.swh_model.specs.declared.event.EventKind.TheVariants.{Batch, Open, Mark}
+use Rattle.swh_model.specs.declared.event.EventKind.TheVariants.{Batch}
 use Rattle.swh_model.specs.Archive.{Archive, Bodies, empty_archive, body_of}
 use Rattle.swh_model.specs.Meaning.{Made, StreamMeaning}
 use Rattle.swh_model.specs.Step.{IsHistory, after, after_kind, after_all, replay, HasItsChildrenAndName}
@@ -59,8 +59,7 @@ module _ (id_of : Kind → List ℕ → List ℕ) (objects : List Made) where
 
     had_kind : (a : Archive) (by : ℕ) (origin : List ℕ) (number : ℕ) (what : EventKind) → IsOwnKind (AreMade id_of objects) origin number what → Had id_of bodies objects a.bodies → Had id_of bodies objects (after_kind a by what).bodies
     had_kind a by origin number (Batch entries) own had = added-all (HasBodyOrMakes id_of bodies objects) a.bodies entries had (makes_all entries own.1)
-    had_kind a by origin number (Open other kind date) own had = had
-    had_kind a by origin number (Mark other visit status snapshot) own had = had
+    had_kind a by origin number what own had = had
 
     had_own : (t : Attempt) (number : ℕ) (a : Archive) (es : List Event) → AllByRecursion (IsOwn (AreMade id_of objects) t number) es → Had id_of bodies objects a.bodies → Had id_of bodies objects (after_all a es).bodies
     had_own t number a [] own had = had

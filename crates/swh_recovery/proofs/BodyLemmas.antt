@@ -7,7 +7,8 @@ use Rattle.swh_base.specs.declared.entry.Entry.{Entry}
 use Rattle.swh_base.specs.Name.{kind_number}
 use Rattle.swh_base.specs.Limits.{body_limit}
 use Rattle.swh_format.specs.StoredObject.{IsCodableEntry}
-use Rattle.swh_format.proofs.Unique.{cut, eight_bytes, entry_then}
+use Rattle.swh_format.proofs.Cuts.{cut, eight_bytes}
+use Rattle.swh_format.proofs.Unique.{entry_then}
 use Rattle.swh_recovery.specs.declared.harm.Harm.TheVariants.{Short}
 use Rattle.swh_recovery.specs.declared.harm.Found.{Found}
 use Rattle.swh_recovery.specs.declared.fault.ReadFault.{ReadFault}

@@ -1,6 +1,6 @@
 -- The record of a batch, with the run that it names.
 use Rattle.std.proofs.Common.{◌≡◌, ℕ, ◌+◌, ◌<◌, ◌^◌, List, [], ◌∷◌, ◌++◌, length, drop, refl, sym, ap, ◌∙◌, inl, inr, arith, length-append, append_assoc}
-use Rattle.std.proofs.lemmas.List.{drop-drop, append-nil}
+use Rattle.std.proofs.lemmas.List.{drop-drop}
 use Rattle.std.proofs.Math.Seq.{drop-append_seam}
 use Rattle.std.specs.List.{AllByRecursion}
 use Rattle.std.specs.Int.{w32, to_be_bytes}
@@ -8,10 +8,13 @@ use Rattle.swh_base.specs.declared.kind.Kind.{Kind}
 use Rattle.swh_base.specs.declared.entry.Entry.{Entry}
 use Rattle.swh_model.specs.declared.event.Event.{Event}
 use Rattle.swh_model.specs.declared.event.EventKind.{EventKind}
-use Rattle.swh_model.specs.declared.event.EventKind.TheVariants.{Batch, Open, Mark}
+use Rattle.swh_model.specs.declared.event.EventKind.TheVariants.{Batch}
 use Rattle.swh_format.specs.declared.frame.RecordParts.{RecordParts}
 use Rattle.swh_format.specs.Record.{framed}
-use Rattle.swh_format.specs.BatchRecord.{batch_text}
+use Rattle.swh_format.specs.declared.field.RecordKind.TheVariants as of
+use Rattle.swh_format.specs.Fields.{byte_of, text}
+use Rattle.swh_format.specs.Kinds.{fields_of}
+use Rattle.swh_format.specs.BatchRecord.{batch_contents}
 use Rattle.swh_format.specs.StoredObject.{coded_entry, coded_run, IsCodableEntry}
 use Rattle.swh_format.specs.EventRecord.{event_byte, event_payload, payload_of, packed_objects, coded_record, IsCodable, IsCodableKind}
 use Rattle.swh_format.proofs.Lengths.{object-length}
@@ -46,14 +49,14 @@ after_front xs p rest is = is ∙ ap (λ (l : List ℕ). p ++ l) (sym (ap (λ (l
 abbrev pub batch_event : ℕ → List Entry → Event
 batch_event by es = record { by = by; what = Batch es }
 
-module _ (id_of : Kind → List ℕ → List ℕ) (start : ℕ) (p : RecordParts) (whole : IsWholeRecord p) (batch : p.kind ≡ 66) (t : RunTold) (told : IsRunTold p.payload.now t) where
+module _ (id_of : Kind → List ℕ → List ℕ) (start : ℕ) (p : RecordParts) (whole : IsWholeRecord p) (batch : p.kind ≡ byte_of of.Batch) (t : RunTold) (told : IsRunTold p.payload.now t) where
   tells_run : TellsRun p.payload.now
-  tells_run = record { by = t.by; from = t.from; to = t.to; number = t.number; left = t.left.now; spelled = told.spelled; by_fits = told.by_fits; from_fits = told.from_fits; to_fits = told.to_fits; number_fits = told.number_fits }
+  tells_run = record { by = t.by; from = t.run.from; to = t.run.to; number = t.run.number; left = t.left.now; spelled = told.spelled; by_fits = told.by_fits; from_fits = told.from_fits; to_fits = told.to_fits; number_fits = told.number_fits }
 
   frame : BeginsRecord (framed p.kind p.payload.now ++ p.rest.now)
   frame = record { kind = p.kind; payload = p.payload.now; rest = p.rest.now; spelled = refl; is_kind = whole.is_kind; fits = whole.short }
 
-  pub run_harm : (store : List ℕ) (number gate : ℕ) (found : Found) → RunBreaks id_of t.from t.to store found → EventBreaks id_of number gate start p store 1 found
+  pub run_harm : (store : List ℕ) (number gate : ℕ) (found : Found) → RunBreaks id_of t.run.from t.run.to store found → EventBreaks id_of number gate start p store 1 found
   unfolding tells_run frame
   run_harm store number gate found breaks = inl (record {
     behind = framed p.kind p.payload.now ++ p.rest.now;
@@ -65,21 +68,18 @@ module _ (id_of : Kind → List ℕ → List ℕ) (start : ℕ) (p : RecordParts
     breaks = breaks;
   })
 
-  told_only : (by : ℕ) (fs : List Entry) → by < 2 ^ 32 → IsCodableKind start (Batch fs) → p.payload.now ≡ to_be_bytes w32 by ++ event_payload start (Batch fs) → (t.from ≡ start) × (t.to ≡ start + length (coded_run fs)) × (t.number ≡ length fs) × (t.left.now ≡ [])
+  told_only : (by : ℕ) (fs : List Entry) → by < 2 ^ 32 → IsCodableKind start (Batch fs) → p.payload.now ≡ to_be_bytes w32 by ++ event_payload start (Batch fs) → (t.run.from ≡ start) × (t.run.to ≡ start + length (coded_run fs)) × (t.run.number ≡ length fs) × (t.left.now ≡ [])
   unfolding tells_run
   told_only by fs by_fits codable is =
       one_told p.payload.now (payload_of start (batch_event by fs)) tells_run (told_of_batch start by fs (by_fits, codable)) is
 
-  module _ (es : List Entry) (run : IsRun id_of t.from t.to es) (exact : IsToldExactly start (length es) t) where
-    pub end_of : t.to ≡ start + length (coded_run es)
+  module _ (es : List Entry) (run : IsRun id_of t.run.from t.run.to es) (exact : IsToldExactly start (length es) t) where
+    pub end_of : t.run.to ≡ start + length (coded_run es)
     end_of = let f = exact.from_is in let l = exact.to_is in let e = run.ends in omega (arith, f, l, e)
 
     pub payload_told : p.payload.now ≡ payload_of start (batch_event t.by es)
     payload_told =
-        told.spelled
-        ∙ ap (λ (l : List ℕ). to_be_bytes w32 t.by ++ l)
-        (ap (λ (l : List ℕ). batch_text t.from t.to t.number ++ l) exact.nothing_left ∙ append-nil (batch_text t.from t.to t.number)
-        ∙ (let ends = end_of in λ i. batch_text (exact.from_is i) (ends i) (exact.number_is i)))
+        told.spelled ∙ (let ends = end_of in λ i. text (fields_of of.Batch) (t.by, batch_contents (exact.from_is i) (ends i) (exact.number_is i)) (exact.nothing_left i))
 
     pub codable_batch : IsCodable start (batch_event t.by es)
     codable_batch = (
@@ -94,16 +94,14 @@ module _ (id_of : Kind → List ℕ → List ℕ) (start : ℕ) (p : RecordParts
     pub ledger_told : framed p.kind p.payload.now ≡ coded_record start (batch_event t.by es)
     ledger_told = let q = payload_told in λ i. framed (batch i) (q i)
 
-    pub run_told : (store : List ℕ) → HoldsRun id_of t.from t.to store es → drop start store ≡ coded_run es ++ drop t.to store
+    pub run_told : (store : List ℕ) → HoldsRun id_of t.run.from t.run.to store es → drop start store ≡ coded_run es ++ drop t.run.to store
     run_told store holds =
         let begins : drop start store ≡ coded_run es ++ holds.run.rest = ap (λ (n : ℕ). drop n store) (sym exact.from_is) ∙ holds.run.begins in
         after_front (drop start store) (coded_run es) holds.run.rest begins
         ∙ ap (λ (l : List ℕ). coded_run es ++ l) (drop-drop (length (coded_run es)) start store ∙ ap (λ (n : ℕ). drop n store) (sym end_of))
 
-  module _ (store : List ℕ) (es : List Entry) (holds : HoldsRun id_of t.from t.to store es) where
+  module _ (store : List ℕ) (es : List Entry) (holds : HoldsRun id_of t.run.from t.run.to store es) where
     exactly : (by : ℕ) (what : EventKind) (y : List ℕ) → by < 2 ^ 32 → IsCodableKind start what → p.kind ≡ event_byte what → p.payload.now ≡ to_be_bytes w32 by ++ event_payload start what → drop start store ≡ packed_objects what ++ y → IsToldExactly start (length es) t
-    exactly by (Open o k d) y by_fits codable kind_is is run = absurd (omega (arith, kind_is, batch))
-    exactly by (Mark o v s n) y by_fits codable kind_is is run = absurd (omega (arith, kind_is, batch))
     exactly by (Batch fs) y by_fits codable kind_is is run =
         let o = told_only by fs by_fits codable is in
         let from_is = o.0 in
@@ -113,6 +111,7 @@ module _ (id_of : Kind → List ℕ → List ℕ) (start : ℕ) (p : RecordParts
         let joined : coded_run es ++ holds.run.rest ≡ coded_run fs ++ y = sym holds.run.begins ∙ ap (λ (n : ℕ). drop n store) from_is ∙ run in
         let count = same_count es fs _ _ holds.run.objects.codable codable.entries_codable joined sizes in
         record { from_is = from_is; to_is = omega (arith, to_is); number_is = o.2 ∙ sym count; nothing_left = o.3 }
+    exactly by what y by_fits codable kind_is is run = absurd (omega (arith, kind_is, batch))
 
     pub run_refused : (number gate : ℕ) → (IsToldExactly start (length es) t → ⊥) → EventBreaks id_of number gate start p store 0 (found_at gate (Refused number))
     unfolding tells_run frame

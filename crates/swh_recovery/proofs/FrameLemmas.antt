@@ -4,11 +4,14 @@ use Rattle.std.specs.Prelude.{IsErrAnd}
 use Rattle.std.specs.Int.{w32, to_be_bytes}
 use Rattle.std.proofs.lemmas.Result.{err_from_is_err_and}
 use Rattle.swh_format.specs.declared.frame.RecordParts.{RecordParts}
-use Rattle.swh_format.proofs.Unique.{framed_then, four_bytes}
-use Rattle.swh_recovery.specs.declared.field.Choice.TheVariants as choice
+use Rattle.swh_format.proofs.Cuts.{four_bytes}
+use Rattle.swh_format.proofs.Unique.{framed_then}
+use Rattle.swh_format.specs.declared.field.Choice.TheVariants as choice
 use Rattle.swh_recovery.specs.declared.harm.Found.{Found}
-use Rattle.swh_recovery.specs.Fields.{choices, IsAmong, IsCut, FieldsBreak}
-use Rattle.swh_recovery.specs.LedgerHarm.{payload_fields, IsFrame, FrameBreaks, RecordBreaks}
+use Rattle.swh_format.specs.Fields.{choices, IsAmong}
+use Rattle.swh_recovery.specs.Fields.{IsCut, FieldsBreak}
+use Rattle.swh_format.specs.Kinds.{payload_fields}
+use Rattle.swh_recovery.specs.LedgerHarm.{IsFrame, FrameBreaks, RecordBreaks}
 
 -- what the exit of a `?` returns is what failed
 pub exits : {T E : Type 0} → (r : Result T E) (P : E → Type 0) (x : E) → IsErrAnd r (λ y. y ≡ x) → P x → IfErr r P

@@ -5,15 +5,17 @@ use Rattle.std.proofs.Math.ListN.{drop_of_length-le}
 use Rattle.std.proofs.Math.Nat.{eq-or-lt_of_le}
 use Rattle.std.specs.Int.{w64, to_be_bytes}
 use Rattle.swh_base.specs.Name.{kind_number}
-use Rattle.swh_format.proofs.Unique.{eight_bytes}
-use Rattle.swh_recovery.specs.declared.field.Choice.{Choice}
-use Rattle.swh_recovery.specs.declared.field.Choice.TheVariants as choice
-use Rattle.swh_recovery.specs.declared.field.Field.{Field}
-use Rattle.swh_recovery.specs.declared.field.Field.TheVariants as field
+use Rattle.swh_format.proofs.Cuts.{eight_bytes}
+use Rattle.swh_format.specs.declared.field.Choice.{Choice}
+use Rattle.swh_format.specs.declared.field.Choice.TheVariants as choice
+use Rattle.swh_format.specs.declared.field.Field.{Field}
+use Rattle.swh_format.specs.declared.field.Field.TheVariants as field
+use Rattle.swh_format.proofs.Contents.{width, widths, field_short}
 use Rattle.swh_recovery.specs.declared.harm.Found.{Found}
 use Rattle.swh_recovery.specs.declared.object.Head.{Head}
-use Rattle.swh_recovery.specs.Fields.{choices, IsAmong, IsCut, IsField, IsOther, FieldBreaks, FieldsBreak}
-use Rattle.swh_recovery.specs.StoreHarm.{head_fields}
+use Rattle.swh_format.specs.Fields.{choices, IsAmong}
+use Rattle.swh_recovery.specs.Fields.{IsCut, IsOther, FieldBreaks, FieldsBreak}
+use Rattle.swh_format.specs.Kinds.{head_fields}
 use Rattle.swh_recovery.specs.Reading.{window, IsHeadOf, BeginsWithHead}
 
 module _ (bytes rest : List ℕ) (number at : ℕ) (found : Found) (is : bytes ≡ number ∷ rest) (among : IsAmong number (choices choice.Object)) where
@@ -32,16 +34,6 @@ head_of bytes rest more id behind number size h is kind front sized ids same twe
   fits = subst (λ (n : ℕ). n < 2 ^ 64) sized fits;
 }
 
--- as many bytes as the field has at most
-pub width : Field → ℕ
-width (field.Bytes n) = n
-width (field.Byte c) = 1
-width field.Snapshot = 21
-
-pub widths : List Field → ℕ
-widths [] = 0
-widths (f ∷ fs) = width f + widths fs
-
 pub head-widths : widths head_fields ≡ 29
 unfolding widths width
 head-widths = refl
@@ -51,20 +43,15 @@ other_more c bytes more at found o = record { byte = o.byte; rest = o.rest ++ mo
 
 field_more : (f : Field) (bytes more : List ℕ) (at : ℕ) (found : Found) → FieldBreaks f bytes at found → width f ≤ length bytes → FieldBreaks f (bytes ++ more) at found
 unfolding width
-field_more (field.Bytes n) bytes more at found cut le = absurd (let s = cut.short in omega (arith, s, le))
+field_more field.Four bytes more at found cut le = absurd (let s = cut.short in omega (arith, s, le))
+field_more field.Eight bytes more at found cut le = absurd (let s = cut.short in omega (arith, s, le))
+field_more field.Id bytes more at found cut le = absurd (let s = cut.short in omega (arith, s, le))
 field_more (field.Byte c) bytes more at found h le = elim h [ inl cut ↦ absurd (let s = cut.short in omega (arith, s, le)) | inr o ↦ inr (other_more c bytes more at found o) ]
 field_more field.Snapshot bytes more at found h le =
     elim h [
       | inl cut ↦ absurd (let s = cut.short in omega (arith, s, le))
       | inr h ↦ elim h [ inl o ↦ inr (inl (other_more choice.Snapshot bytes more at found o)) | inr i ↦ absurd (let s = i.cut.short in let l : length bytes ≡ length (1 ∷ i.rest) = ap length i.is in omega (arith, s, l, le)) ]
     ]
-
-field_long : (f : Field) (front : List ℕ) → IsField f front → length front ≤ width f
-unfolding width
-field_long (field.Bytes n) front h = omega (arith, h)
-field_long (field.Byte c) front h = let l : length front ≡ 1 = ap length h.1 in omega (arith, l)
-field_long field.Snapshot front h =
-    elim h [ inl e ↦ (let l : length front ≡ 1 = ap length e in omega (arith, l)) | inr i ↦ (let l : length front ≡ length (1 ∷ i.0) = ap length i.1 in let t = i.2 in omega (arith, l, t)) ]
 
 -- what breaks within enough bytes breaks with more behind them
 pub breaks_more : (fs : List Field) (bytes more : List ℕ) (at : ℕ) (found : Found) → FieldsBreak fs bytes at found → widths fs ≤ length bytes → FieldsBreak fs (bytes ++ more) at found
@@ -78,7 +65,7 @@ breaks_more (f ∷ fs) bytes more at found h le =
         x.1 ++ more,
         ap (λ (l : List ℕ). l ++ more) x.2 ∙ append_assoc x.0 x.1 more,
         x.3,
-        breaks_more fs x.1 more (at + length x.0) found x.4 (let w = field_long f x.0 x.3 in let l = ap length x.2 in omega (arith, le, w, l, length-append x.0 x.1)),
+        breaks_more fs x.1 more (at + length x.0) found x.4 (let w = field_short f x.0 x.3 in let l = ap length x.2 in omega (arith, le, w, l, length-append x.0 x.1)),
       )
     ]
 

@@ -3,16 +3,20 @@ use Rattle.std.proofs.Common.{◌≡◌, ℕ, ◌+◌, List, [], ◌∷◌, ◌+
 use Rattle.std.specs.Int.{w32, to_be_bytes}
 use Rattle.swh_model.specs.declared.event.Event.{Event}
 use Rattle.swh_format.specs.EventRecord.{event_byte, payload_of, coded_record, IsCodable}
-use Rattle.swh_format.proofs.Unique.{cut, cut_four, four_bytes, same_head, same_tail, same_frame, framed_then, payload-short}
-use Rattle.swh_recovery.specs.declared.field.Choice.{Choice}
-use Rattle.swh_recovery.specs.declared.field.Choice.TheVariants as choice
-use Rattle.swh_recovery.specs.declared.field.Field.{Field}
-use Rattle.swh_recovery.specs.declared.field.Field.TheVariants as field
+use Rattle.swh_format.proofs.Cuts.{cut, cut_four, four_bytes, same_head, same_tail}
+use Rattle.swh_format.proofs.KindLaws.{byte_among, payload-short, payload_holds}
+use Rattle.swh_format.proofs.Unique.{same_frame, framed_then}
+use Rattle.swh_format.specs.declared.field.Choice.{Choice}
+use Rattle.swh_format.specs.declared.field.Choice.TheVariants as choice
+use Rattle.swh_format.specs.declared.field.Field.{Field}
+use Rattle.swh_format.specs.declared.field.Field.TheVariants as field
 use Rattle.swh_recovery.specs.declared.harm.Harm.TheVariants.{Kind, Short}
 use Rattle.swh_recovery.specs.declared.harm.Found.{Found}
-use Rattle.swh_recovery.specs.Fields.{found_at, IsCut, IsOther, IsIdCut, FieldBreaks, FieldsHold, FieldsBreak}
-use Rattle.swh_recovery.specs.LedgerHarm.{frame_fields, payload_fields, BeginsFrame, BeginsRecord, RecordBreaks}
-use Rattle.swh_recovery.proofs.LadderLaws.{field_size, no_other, no_cut, no_break, not_both, byte_among, payload_holds}
+use Rattle.swh_format.specs.Fields.{FieldsHold}
+use Rattle.swh_recovery.specs.Fields.{found_at, IsCut, IsOther, IsIdCut, FieldBreaks, FieldsBreak}
+use Rattle.swh_format.specs.Kinds.{frame_fields, payload_fields}
+use Rattle.swh_recovery.specs.LedgerHarm.{BeginsFrame, BeginsRecord, RecordBreaks}
+use Rattle.swh_recovery.proofs.LadderLaws.{field_size, no_other, no_cut, no_break, not_both}
 
 one_cut : (need need' : ℕ) (bytes bytes' : List ℕ) (at : ℕ) (x y : Found) → need ≡ need' → bytes ≡ bytes' → IsCut need bytes at x → IsCut need' bytes' at y → x ≡ y
 one_cut need need' bytes bytes' at x y needs same a b = a.found_is ∙ (λ i. found_at at (Short (length (same i)) (needs i))) ∙ sym b.found_is
@@ -34,7 +38,9 @@ other_or_id : (bytes : List ℕ) (at : ℕ) (x y : Found) → IsOther choice.Sna
 other_or_id bytes at x y a b = no_other choice.Snapshot bytes b.rest at 1 x b.is (inr (inl refl)) a
 
 one_break : (f : Field) (bytes : List ℕ) (at : ℕ) (x y : Found) → FieldBreaks f bytes at x → FieldBreaks f bytes at y → x ≡ y
-one_break (field.Bytes n) bytes at x y a b = one_cut n n bytes bytes at x y refl refl a b
+one_break field.Four bytes at x y a b = one_cut 4 4 bytes bytes at x y refl refl a b
+one_break field.Eight bytes at x y a b = one_cut 8 8 bytes bytes at x y refl refl a b
+one_break field.Id bytes at x y a b = one_cut 20 20 bytes bytes at x y refl refl a b
 one_break (field.Byte c) bytes at x y a b =
     elim a [
       | inl a ↦ elim b [ inl b ↦ one_cut 1 1 bytes bytes at x y refl refl a b | inr b ↦ absurd (cut_or_other c bytes at x y a b) ]
@@ -152,4 +158,4 @@ event_frame start e behind x codable is = record { kind = event_byte e.what; pay
 -- an event's record does not break by its own bytes
 pub record_whole : (start : ℕ) (e : Event) (behind x : List ℕ) (at : ℕ) (found : Found) → IsCodable start e → behind ≡ coded_record start e ++ x → RecordBreaks behind at found → ⊥
 unfolding event_frame
-record_whole start e behind x at found codable is breaks = no_record behind (event_frame start e behind x codable is) at found (payload_holds start e.by e.what codable.1) breaks
+record_whole start e behind x at found codable is breaks = no_record behind (event_frame start e behind x codable is) at found (payload_holds start e codable) breaks

@@ -7,14 +7,13 @@ use Rattle.std.proofs.lemmas.Bool.{cases_lt}
 use Rattle.std.proofs.Math.Seq.{drop-append_seam}
 use Rattle.std.specs.List.{AllByRecursion}
 use Rattle.std.specs.FinMap.{get-empty}
-use Rattle.std.specs.Int.{w32, w64, to_be_bytes}
 use Rattle.swh_base.specs.declared.kind.Kind.{Kind}
 use Rattle.swh_base.specs.declared.entry.Entry.{Entry}
 use Rattle.swh_base.specs.Name.{name_cmp}
 use Rattle.swh_base.specs.Limits.{body_limit}
 use Rattle.swh_model.specs.declared.event.Event.{Event}
 use Rattle.swh_model.specs.declared.event.EventKind.{EventKind}
-use Rattle.swh_model.specs.declared.event.EventKind.TheVariants.{Batch, Open, Mark}
+use Rattle.swh_model.specs.declared.event.EventKind.TheVariants.{Batch}
 use Rattle.swh_model.specs.Alike.{without_children, bare_kind, bare_event}
 use Rattle.swh_model.specs.Archive.{Archive, empty_archive}
 use Rattle.swh_model.specs.Step.{HasItsChildrenAndName, May_kind, MayAll, IsHistory, after}
@@ -25,36 +24,25 @@ use Rattle.swh_format.specs.StoredObject.{coded_run}
 use Rattle.swh_format.specs.EventRecord.{event_byte, payload_of, packed_objects, coded_record, IsCodable, AreCodable}
 use Rattle.swh_format.specs.Stands.{coded_records, coded_runs, StandsFor}
 use Rattle.swh_format.proofs.StandsFrom.{StandsFrom, behind_magic}
-use Rattle.swh_format.proofs.Unique.{cut, four_bytes, eight_bytes, same_head, same_tail, same_event, length_behind}
+use Rattle.swh_format.proofs.Cuts.{cut, same_head, same_tail}
+use Rattle.swh_format.proofs.Unique.{same_event, length_behind}
 use Rattle.swh_recovery.specs.declared.harm.Harm.{Harm}
 use Rattle.swh_recovery.specs.declared.harm.Found.{Found}
 use Rattle.swh_recovery.specs.declared.harm.Harm.TheVariants.{Magic}
 use Rattle.swh_recovery.specs.declared.record.Record.{Record}
-use Rattle.swh_recovery.specs.Fields.{found_at, FieldsHold}
-use Rattle.swh_recovery.specs.LedgerHarm.{batch_fields, payload_fields, TellsRun, RecordBreaks}
+use Rattle.swh_format.specs.declared.field.RecordKind.TheVariants as of
+use Rattle.swh_format.specs.Fields.{byte_of, FieldsHold}
+use Rattle.swh_recovery.specs.Fields.{found_at}
+use Rattle.swh_format.specs.Kinds.{payload_fields}
+use Rattle.swh_recovery.specs.LedgerHarm.{TellsRun, RecordBreaks}
 use Rattle.swh_recovery.specs.StoreHarm.{RunBreaks}
 use Rattle.swh_recovery.specs.Harms.{entries_of, LedgerBreaks, StoreBreaks, IsRefused, NextBreaks, Begin, BreaksAfter, MagicBreaks}
 use Rattle.swh_recovery.specs.Records.{events, IsHarm}
-use Rattle.swh_recovery.proofs.ToldLemmas.{told_joined, one_told, told_of_batch}
+use Rattle.swh_recovery.proofs.ToldLemmas.{told_holds, one_told, told_of_batch}
 use Rattle.swh_recovery.proofs.OneField.{one_record, no_record, same_records, event_frame, record_whole}
 use Rattle.swh_recovery.proofs.OneObject.{one_run, no_run, whole_or_broken}
 
-told_holds : (payload : List ℕ) → TellsRun payload → FieldsHold batch_fields payload
-told_holds payload t = (
-  to_be_bytes w32 t.by,
-  to_be_bytes w64 t.from ++ (to_be_bytes w64 t.to ++ (to_be_bytes w32 t.number ++ t.left)),
-  told_joined payload t,
-  four_bytes t.by,
-  (
-    to_be_bytes w64 t.from,
-    to_be_bytes w64 t.to ++ (to_be_bytes w32 t.number ++ t.left),
-    refl,
-    eight_bytes t.from,
-    (to_be_bytes w64 t.to, to_be_bytes w32 t.number ++ t.left, refl, eight_bytes t.to, (to_be_bytes w32 t.number, t.left, refl, four_bytes t.number, tt)),
-  ),
-)
-
-batch_holds : (kind : ℕ) (payload : List ℕ) → kind ≡ 66 → TellsRun payload → FieldsHold (payload_fields kind) payload
+batch_holds : (kind : ℕ) (payload : List ℕ) → kind ≡ byte_of of.Batch → TellsRun payload → FieldsHold (payload_fields kind) payload
 batch_holds kind payload is t = subst (λ (n : ℕ). FieldsHold (payload_fields n) payload) (sym is) (told_holds payload t)
 
 behind_run : (at : ℕ) (store p z : List ℕ) → drop at store ≡ p ++ z → drop (at + length p) store ≡ z
@@ -96,8 +84,7 @@ first_entry (e ∷ h) d = first_of e.what
     first_of : EventKind → Entry
     first_of (Batch []) = d
     first_of (Batch (f ∷ fs)) = f
-    first_of (Open o k t) = d
-    first_of (Mark o v s n) = d
+    first_of _ = d
 
 module _ (id_of : Kind → List ℕ → List ℕ) where
   -- These events' objects are of their kinds and named.
@@ -110,8 +97,7 @@ module _ (id_of : Kind → List ℕ → List ℕ) where
 
   kind_good : (a : Archive) (by : ℕ) (what : EventKind) → May_kind id_of a by what → AllByRecursion (IsObject id_of) (entries_of what)
   kind_good a by (Batch es) may = entries_good es may.good may.limits.bodies
-  kind_good a by (Open o k d) may = tt
-  kind_good a by (Mark o v s n) may = tt
+  kind_good a by what may = tt
 
   -- what may happen is good
   pub history_good : (a : Archive) (h : List Event) → MayAll id_of a h → AreGood h
@@ -150,14 +136,9 @@ module _ (id_of : Kind → List ℕ → List ℕ) where
   same_what (Batch es) (Batch fs) alike ha hb =
       let entries : map without_children es ≡ map without_children fs = cc in
       let one = same_objects es fs entries ha hb in λ i. Batch (one i)
-  same_what (Batch es) (Open o k d) alike ha hb = let e : Batch (map without_children es) ≡ Open o k d = alike in absurd cc
-  same_what (Batch es) (Mark o v s t) alike ha hb = let e : Batch (map without_children es) ≡ Mark o v s t = alike in absurd cc
-  same_what (Open o k d) (Batch fs) alike ha hb = let e : Open o k d ≡ Batch (map without_children fs) = alike in absurd cc
-  same_what (Open o k d) (Open p l e) alike ha hb = alike
-  same_what (Open o k d) (Mark p v s t) alike ha hb = alike
-  same_what (Mark o v s t) (Batch fs) alike ha hb = let e : Mark o v s t ≡ Batch (map without_children fs) = alike in absurd cc
-  same_what (Mark o v s t) (Open p k d) alike ha hb = alike
-  same_what (Mark o v s t) (Mark p w r u) alike ha hb = alike
+  same_what (Batch es) b alike ha hb = let e : Batch (map without_children es) ≡ bare_kind b = alike in absurd cc
+  same_what a (Batch fs) alike ha hb = let e : bare_kind a ≡ Batch (map without_children fs) = alike in absurd cc
+  same_what a b alike ha hb = alike
 
   -- events that are the same up to the children, and good, are the same
   same_event_of : (e f : Event) → bare_event e ≡ bare_event f → AllByRecursion (IsObject id_of) (entries_of e.what) → AllByRecursion (IsObject id_of) (entries_of f.what) → e ≡ f
@@ -167,14 +148,13 @@ module _ (id_of : Kind → List ℕ → List ℕ) where
       λ i. record { by = who i; what = what i }
 
   module _ (store : List ℕ) where
-    run_stands : (start by : ℕ) (what : EventKind) (payload y : List ℕ) (t : TellsRun payload) (found : Found) → IsCodable start (record { by = by; what = what }) → event_byte what ≡ 66 → payload ≡ payload_of start (record { by = by; what = what })
+    run_stands : (start by : ℕ) (what : EventKind) (payload y : List ℕ) (t : TellsRun payload) (found : Found) → IsCodable start (record { by = by; what = what }) → event_byte what ≡ byte_of of.Batch → payload ≡ payload_of start (record { by = by; what = what })
         → AllByRecursion (IsObject id_of) (entries_of what) → drop start store ≡ packed_objects what ++ y → RunBreaks id_of t.from t.to store found → ⊥
-    run_stands start by (Open o k d) payload y t found codable kind_is is good run breaks = omega (arith, kind_is)
-    run_stands start by (Mark o v s n) payload y t found codable kind_is is good run breaks = omega (arith, kind_is)
     run_stands start by (Batch es) payload y t found codable kind_is is good run breaks =
         let same = one_told payload (payload_of start (record { by = by; what = Batch es })) t (told_of_batch start by es codable) is in
         no_run id_of start (start + length (coded_run es)) store y es found (record { good = good; codable = codable.1.entries_codable }) run refl
         (subst (λ (n : ℕ). RunBreaks id_of start n store found) same.1 (subst (λ (n : ℕ). RunBreaks id_of n t.to store found) same.0 breaks))
+    run_stands start by what payload y t found codable kind_is is good run breaks = omega (arith, kind_is)
 
     -- where an event stands, the next does not break
     no_next : (n gate start : ℕ) (records x y : List ℕ) (e : Event) (file : ℕ) (found : Found) → records ≡ 1 ∷ (coded_record start e ++ x) → IsCodable start e → AllByRecursion (IsObject id_of) (entries_of e.what) → drop start store ≡ packed_objects e.what ++ y

@@ -16,12 +16,15 @@ use Rattle.swh_object.specs.Object.{IsObject, IsBadBody}
 use Rattle.swh_object.specs.declared.fault.ObjectFault.TheVariants.{BadBody}
 use Rattle.swh_object.proofs.Refused.{made_unless}
 use Rattle.swh_format.specs.StoredObject.{coded_entry, coded_run, IsCodableEntry}
-use Rattle.swh_format.proofs.Unique.{cut, cut_eight, eight_bytes, same_head, same_tail, same_entry, entry_then, length_behind}
-use Rattle.swh_recovery.specs.declared.field.Choice.TheVariants as choice
+use Rattle.swh_format.proofs.Cuts.{cut, cut_eight, eight_bytes, same_head, same_tail}
+use Rattle.swh_format.proofs.Unique.{same_entry, entry_then, length_behind}
+use Rattle.swh_format.specs.declared.field.Choice.TheVariants as choice
 use Rattle.swh_recovery.specs.declared.harm.Harm.TheVariants.{Short, Body, Name}
 use Rattle.swh_recovery.specs.declared.harm.Found.{Found}
-use Rattle.swh_recovery.specs.Fields.{choices, found_at, IsAmong, FieldsHold}
-use Rattle.swh_recovery.specs.StoreHarm.{head_fields, BeginsHead, BeginsObject, IsRefusedBody, BodyIsCut, ObjectBreaks, AreObjects, HoldsRun, RunBreaks}
+use Rattle.swh_format.specs.Fields.{choices, IsAmong, FieldsHold}
+use Rattle.swh_recovery.specs.Fields.{found_at}
+use Rattle.swh_format.specs.Kinds.{head_fields}
+use Rattle.swh_recovery.specs.StoreHarm.{BeginsHead, BeginsObject, IsRefusedBody, BodyIsCut, ObjectBreaks, AreObjects, HoldsRun, RunBreaks}
 use Rattle.swh_recovery.proofs.LadderLaws.{not_both}
 use Rattle.swh_recovery.proofs.OneField.{one_fields}
 

@@ -1,40 +1,17 @@
--- Fields that stand one after another, and the first of them that does not stand.
+-- The first of fields that does not stand.
 use Rattle.std.specs.Prelude.{◌≡◌, ◌⊎◌, ◌+◌, ◌<◌, ℕ, List, [], ◌∷◌, ◌++◌, length}
-use Rattle.swh_recovery.specs.declared.field.Choice.{Choice}
-use Rattle.swh_recovery.specs.declared.field.Choice.TheVariants as choice
-use Rattle.swh_recovery.specs.declared.field.Field.{Field}
-use Rattle.swh_recovery.specs.declared.field.Field.TheVariants as field
+use Rattle.swh_format.specs.declared.field.Choice.{Choice}
+use Rattle.swh_format.specs.declared.field.Choice.TheVariants as choice
+use Rattle.swh_format.specs.declared.field.Field.{Field}
+use Rattle.swh_format.specs.declared.field.Field.TheVariants as field
+use Rattle.swh_format.specs.Fields.{choices, IsAmong, IsField}
 use Rattle.swh_recovery.specs.declared.harm.Harm.{Harm}
 use Rattle.swh_recovery.specs.declared.harm.Harm.TheVariants.{Kind, Short}
 use Rattle.swh_recovery.specs.declared.harm.Found.{Found}
 
--- the bytes that may stand
-abbrev pub choices : Choice → List ℕ
--- `B`, `O` and `T`
-choices choice.Record = 66 ∷ 79 ∷ 84 ∷ []
--- fast, dir, batch
-choices choice.Visit = 1 ∷ 2 ∷ 3 ∷ []
--- ongoing, full, partial, not_found, failed
-choices choice.Status = 2 ∷ 3 ∷ 4 ∷ 5 ∷ 6 ∷ []
--- none, or one
-choices choice.Snapshot = 0 ∷ 1 ∷ []
--- content, directory, revision, release, snapshot
-choices choice.Object = 1 ∷ 2 ∷ 3 ∷ 4 ∷ 5 ∷ []
-
--- The byte is one of these.
-abbrev pub IsAmong : ℕ → List ℕ → Type 0
-IsAmong b [] = ⊥
-IsAmong b (c ∷ cs) = (b ≡ c) ⊎ IsAmong b cs
-
 -- a harm at a place
 abbrev pub found_at : ℕ → Harm → Found
 found_at at harm = record { at = at; harm = harm }
-
--- The bytes are the field.
-abbrev pub IsField : Field → List ℕ → Type 0
-IsField (field.Bytes n) bytes = length bytes ≡ n
-IsField (field.Byte c) bytes = (b : ℕ) × (bytes ≡ b ∷ []) × IsAmong b (choices c)
-IsField field.Snapshot bytes = (bytes ≡ 0 ∷ []) ⊎ ((id : List ℕ) × (bytes ≡ 1 ∷ id) × (length id ≡ 20))
 
 -- The bytes are the field and what is behind it.
 pub record IsFieldThen (f : Field) (bytes rest : List ℕ) : Type 0 where
@@ -63,14 +40,11 @@ pub record IsIdCut (bytes : List ℕ) (at : ℕ) (found : Found) : Type 0 where
 
 -- The bytes, which stand from this place on, do not begin with the field.
 abbrev pub FieldBreaks : Field → List ℕ → ℕ → Found → Type 0
-FieldBreaks (field.Bytes n) bytes at found = IsCut n bytes at found
+FieldBreaks field.Four bytes at found = IsCut 4 bytes at found
+FieldBreaks field.Eight bytes at found = IsCut 8 bytes at found
+FieldBreaks field.Id bytes at found = IsCut 20 bytes at found
 FieldBreaks (field.Byte c) bytes at found = IsCut 1 bytes at found ⊎ IsOther c bytes at found
 FieldBreaks field.Snapshot bytes at found = IsCut 1 bytes at found ⊎ (IsOther choice.Snapshot bytes at found ⊎ IsIdCut bytes at found)
-
--- The bytes begin with these fields.
-abbrev pub FieldsHold : List Field → List ℕ → Type 0
-FieldsHold [] bytes = Unit {0}
-FieldsHold (f ∷ fs) bytes = (front : List ℕ) × (rest : List ℕ) × (bytes ≡ front ++ rest) × IsField f front × FieldsHold fs rest
 
 -- Of these fields the bytes, which stand from this place on, begin with some, and the next one breaks.
 abbrev pub FieldsBreak : List Field → List ℕ → ℕ → Found → Type 0

@@ -5,22 +5,24 @@ use Rattle.swh_base.specs.declared.kind.Kind.{Kind}
 use Rattle.swh_base.specs.declared.entry.Entry.{Entry}
 use Rattle.swh_model.specs.declared.event.Event.{Event}
 use Rattle.swh_model.specs.declared.event.EventKind.{EventKind}
-use Rattle.swh_model.specs.declared.event.EventKind.TheVariants.{Batch, Open, Mark}
+use Rattle.swh_model.specs.declared.event.EventKind.TheVariants.{Batch}
 use Rattle.swh_object.specs.Object.{IsObject}
+use Rattle.swh_format.specs.declared.field.RecordKind.TheVariants as of
 use Rattle.swh_format.specs.Record.{magic}
 use Rattle.swh_format.specs.EventRecord.{event_byte, payload_of, packed_objects, IsCodable, AreCodable}
 use Rattle.swh_format.specs.Stands.{coded_records, coded_runs}
 use Rattle.swh_recovery.specs.declared.harm.Harm.TheVariants.{Magic, Short, Refused}
 use Rattle.swh_recovery.specs.declared.harm.Found.{Found}
-use Rattle.swh_recovery.specs.Fields.{found_at, FieldsHold}
-use Rattle.swh_recovery.specs.LedgerHarm.{payload_fields, BeginsRecord, RecordBreaks, TellsRun}
+use Rattle.swh_format.specs.Fields.{byte_of, FieldsHold}
+use Rattle.swh_recovery.specs.Fields.{found_at}
+use Rattle.swh_format.specs.Kinds.{payload_fields}
+use Rattle.swh_recovery.specs.LedgerHarm.{BeginsRecord, RecordBreaks, TellsRun}
 use Rattle.swh_recovery.specs.StoreHarm.{RunBreaks, HoldsRun}
 
 -- the objects of what happened
 abbrev pub entries_of : EventKind → List Entry
 entries_of (Batch es) = es
-entries_of (Open origin kind date) = []
-entries_of (Mark origin visit status snapshot) = []
+entries_of _ = []
 
 -- No gate stands at the end of the ledger.
 pub record GateIsMissing (gate : ℕ) (records : List ℕ) (file : ℕ) (found : Found) : Type 0 where
@@ -41,7 +43,7 @@ module _ (id_of : Kind → List ℕ → List ℕ) where
     pub behind : List ℕ
     pub opened : records ≡ 1 ∷ behind
     pub frame : BeginsRecord behind
-    pub batch : frame.kind ≡ 66
+    pub batch : frame.kind ≡ byte_of of.Batch
     pub told : TellsRun frame.payload
     pub file_is : file ≡ 1
     pub breaks : RunBreaks id_of told.from told.to store found
@@ -59,7 +61,7 @@ module _ (id_of : Kind → List ℕ → List ℕ) where
     pub opened : records ≡ 1 ∷ behind
     pub frame : BeginsRecord behind
     pub fields : FieldsHold (payload_fields frame.kind) frame.payload
-    pub run : frame.kind ≡ 66 → NamesRun frame.payload store
+    pub run : frame.kind ≡ byte_of of.Batch → NamesRun frame.payload store
     pub none : (e : Event) (y : List ℕ) → IsCodable start e → frame.kind ≡ event_byte e.what → frame.payload ≡ payload_of start e → drop start store ≡ packed_objects e.what ++ y → ⊥
     pub file_is : file ≡ 0
     pub found_is : found ≡ found_at gate (Refused event)

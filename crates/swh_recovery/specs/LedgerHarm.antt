@@ -1,36 +1,17 @@
 -- What breaks in a record of the ledger by its own bytes. The bytes are those behind its open gate.
-use Rattle.std.specs.Prelude.{◌≡◌, ◌⊎◌, ◌+◌, ◌<◌, ◌^◌, ◌==◌, ℕ, List, [], ◌∷◌, ◌++◌, if◌then◌else◌, length}
+use Rattle.std.specs.Prelude.{◌≡◌, ◌⊎◌, ◌+◌, ◌<◌, ◌^◌, ℕ, List, ◌∷◌, ◌++◌, length}
 use Rattle.std.specs.Int.{w32, to_be_bytes}
 use Rattle.swh_format.specs.Record.{framed}
-use Rattle.swh_format.specs.BatchRecord.{batch_text}
-use Rattle.swh_recovery.specs.declared.field.Choice.TheVariants as choice
-use Rattle.swh_recovery.specs.declared.field.Field.{Field}
-use Rattle.swh_recovery.specs.declared.field.Field.TheVariants as field
+use Rattle.swh_format.specs.Kinds.{fields_of, frame_fields, payload_fields}
+use Rattle.swh_format.specs.declared.field.RecordKind.TheVariants as of
+use Rattle.swh_format.specs.BatchRecord.{batch_contents}
+use Rattle.swh_format.specs.declared.field.Choice.TheVariants as choice
 use Rattle.swh_recovery.specs.declared.harm.Found.{Found}
-use Rattle.swh_recovery.specs.Fields.{choices, IsAmong, IsCut, FieldsHold, FieldsBreak}
+use Rattle.swh_format.specs.Fields.{choices, IsAmong, text, FieldsHold}
+use Rattle.swh_recovery.specs.Fields.{IsCut, FieldsBreak}
 use Rattle.swh_format.specs.LedgerReading.{IsRecordFront}
 use Rattle.swh_format.specs.declared.frame.RecordParts.{RecordParts}
 use Rattle.swh_recovery.specs.declared.frame.RunTold.{RunTold}
-
--- a record's kind, and its payload's length
-abbrev pub frame_fields : List Field
-frame_fields = field.Byte choice.Record ∷ field.Bytes 4 ∷ []
-
--- who wrote it, where the run begins and ends, and the number of its objects
-abbrev pub batch_fields : List Field
-batch_fields = field.Bytes 4 ∷ field.Bytes 8 ∷ field.Bytes 8 ∷ field.Bytes 4 ∷ []
-
--- who wrote it, the visit's kind and the date; an origin follows
-abbrev pub open_fields : List Field
-open_fields = field.Bytes 4 ∷ field.Byte choice.Visit ∷ field.Bytes 8 ∷ []
-
--- who wrote it, the status, the visit's number and the snapshot; an origin follows
-abbrev pub mark_fields : List Field
-mark_fields = field.Bytes 4 ∷ field.Byte choice.Status ∷ field.Bytes 8 ∷ field.Snapshot ∷ []
-
--- the fields in the payload of a record of this kind
-abbrev pub payload_fields : ℕ → List Field
-payload_fields kind = if kind == 66 then batch_fields else (if kind == 79 then open_fields else mark_fields)
 
 -- The bytes begin with a record's kind and its payload's length.
 pub record BeginsFrame (bytes : List ℕ) : Type 0 where
@@ -72,7 +53,7 @@ pub record TellsRun (payload : List ℕ) : Type 0 where
   pub to : ℕ
   pub number : ℕ
   pub left : List ℕ
-  pub spelled : payload ≡ to_be_bytes w32 by ++ (batch_text from to number ++ left)
+  pub spelled : payload ≡ text (fields_of of.Batch) (by, batch_contents from to number) left
   pub by_fits : by < 2 ^ 32
   pub from_fits : from < 2 ^ 64
   pub to_fits : to < 2 ^ 64
@@ -94,8 +75,8 @@ pub record IsRecordWithFields (bytes : List ℕ) (p : RecordParts) : Type 0 wher
 
 -- This is what a batch's payload says of its run.
 pub record IsRunTold (payload : List ℕ) (r : RunTold) : Type 0 where
-  pub spelled : payload ≡ to_be_bytes w32 r.by ++ (batch_text r.from r.to r.number ++ r.left.now)
+  pub spelled : payload ≡ text (fields_of of.Batch) (r.by, batch_contents r.run.from r.run.to r.run.number) r.left.now
   pub by_fits : r.by < 2 ^ 32
-  pub from_fits : r.from < 2 ^ 64
-  pub to_fits : r.to < 2 ^ 64
-  pub number_fits : r.number < 2 ^ 32
+  pub from_fits : r.run.from < 2 ^ 64
+  pub to_fits : r.run.to < 2 ^ 64
+  pub number_fits : r.run.number < 2 ^ 32

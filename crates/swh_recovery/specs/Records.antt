@@ -20,7 +20,7 @@ use Rattle.swh_format.specs.Stands.{coded_records, coded_runs}
 use Rattle.swh_recovery.specs.declared.harm.Harm.{Harm}
 use Rattle.swh_recovery.specs.declared.harm.Harm.TheVariants.{Refused}
 use Rattle.std.specs.Int.{w32, to_be_bytes}
-use Rattle.swh_format.specs.Tells.{TellsEvent}
+use Rattle.swh_format.specs.Tells.{TellsWhole}
 use Rattle.swh_recovery.specs.declared.harm.Found.{Found}
 use Rattle.swh_recovery.specs.declared.fault.ReadFault.{ReadFault}
 use Rattle.swh_recovery.specs.declared.fault.ReadFault.TheVariants as read
@@ -28,10 +28,10 @@ use Rattle.swh_recovery.specs.declared.fault.NextFault.{NextFault}
 use Rattle.swh_recovery.specs.declared.fault.NextFault.TheVariants as next
 use Rattle.swh_recovery.specs.declared.frame.RunTold.{RunTold}
 use Rattle.swh_recovery.specs.declared.record.Record.{Record}
-use Rattle.swh_recovery.specs.Fields.{found_at, FieldsHold}
-use Rattle.swh_recovery.specs.Fields as fields
-use Rattle.swh_recovery.specs.declared.field.Choice.TheVariants as choice
-use Rattle.swh_recovery.specs.LedgerHarm.{payload_fields}
+use Rattle.swh_format.specs.Fields.{choices, IsAmong, FieldsHold}
+use Rattle.swh_recovery.specs.Fields.{found_at}
+use Rattle.swh_format.specs.declared.field.Choice.TheVariants as choice
+use Rattle.swh_format.specs.Kinds.{payload_fields}
 use Rattle.swh_recovery.specs.Harms.{entries_of, StoreBreaks, IsRefused, BreaksAfter, MagicBreaks}
 
 -- what happened: a batch of these objects, or all that is told
@@ -85,15 +85,15 @@ records_of p = 1 ∷ (framed p.kind p.payload.now ++ p.rest.now)
 
 -- The parts are a record's, with the fields of its kind.
 pub record IsWholeRecord (p : RecordParts) : Type 0 where
-  pub is_kind : fields.IsAmong p.kind (fields.choices choice.Record)
+  pub is_kind : IsAmong p.kind (choices choice.Record)
   pub short : length p.payload.now < 2 ^ 32
   pub fields_hold : FieldsHold (payload_fields p.kind) p.payload.now
 
 -- The run is what a batch's payload tells: it begins at this place, has so many objects, and nothing else is told.
 pub record IsToldExactly (start number : ℕ) (t : RunTold) : Type 0 where
-  pub from_is : t.from ≡ start
-  pub to_is : start ≤ t.to
-  pub number_is : t.number ≡ number
+  pub from_is : t.run.from ≡ start
+  pub to_is : start ≤ t.run.to
+  pub number_is : t.run.number ≡ number
   pub nothing_left : t.left.now ≡ []
 
 module _ (id_of : Kind → List ℕ → List ℕ) where
@@ -124,6 +124,11 @@ module _ (id_of : Kind → List ℕ → List ℕ) where
       (MagicBreaks ledger file (found_at at harm) × (before ≡ []))
       ⊎ (BreaksAfter id_of (events before) ledger store file (found_at at harm) × AreRecords 8 0 before)
 
+-- What is told is all that happened, by a record of this kind and with this payload after who wrote it.
+abbrev pub IsToldWhole : ℕ → List ℕ → Told → Type 0
+IsToldWhole byte told (told_of.Batch p) = ⊥
+IsToldWhole byte told (told_of.Whole what) = TellsWhole byte told what
+
 -- The record of these parts was read, and it is no batch.
 pub record IsWholeRead (gate : ℕ) (p : RecordParts) (r : Record) : Type 0 where
   pub gate_is : r.gate ≡ gate
@@ -133,7 +138,7 @@ pub record IsWholeRead (gate : ℕ) (p : RecordParts) (r : Record) : Type 0 wher
   pub rest : List ℕ
   pub who : p.payload.now ≡ to_be_bytes w32 r.by ++ rest
   pub by_fits : r.by < 2 ^ 32
-  pub tells : TellsEvent p.kind rest r.told
+  pub tells : IsToldWhole p.kind rest r.told
 
 -- The payload of these parts is that of no event, wherever its run would begin, and this is told of the record.
 pub record IsNotTold (gate number : ℕ) (p : RecordParts) (file : ℕ) (found : Found) : Type 0 where

@@ -1,6 +1,6 @@
 -- What breaks in the run of a batch. A run is read from the place that its record names up to the other, its objects one
 -- after another.
-use Rattle.std.specs.Prelude.{◌≡◌, ◌≢◌, ◌⊎◌, ◌+◌, ◌-◌, ◌≤◌, ◌<◌, ◌^◌, ℕ, max, List, [], ◌∷◌, ◌++◌, length, take, drop}
+use Rattle.std.specs.Prelude.{◌≡◌, ◌≢◌, ◌⊎◌, ◌+◌, ◌-◌, ◌≤◌, ◌<◌, ◌^◌, ℕ, max, List, ◌∷◌, ◌++◌, length, take, drop}
 use Rattle.std.specs.List.{AllByRecursion}
 use Rattle.std.specs.Int.{w64, to_be_bytes}
 use Rattle.swh_base.specs.declared.kind.Kind.{Kind}
@@ -10,16 +10,10 @@ use Rattle.swh_base.specs.Limits.{body_limit}
 use Rattle.swh_base.specs.Manifest.{IsWellFormed}
 use Rattle.swh_object.specs.Object.{IsObject, IsBadBody}
 use Rattle.swh_format.specs.StoredObject.{coded_run, IsCodableEntry}
-use Rattle.swh_recovery.specs.declared.field.Choice.TheVariants as choice
-use Rattle.swh_recovery.specs.declared.field.Field.{Field}
-use Rattle.swh_recovery.specs.declared.field.Field.TheVariants as field
 use Rattle.swh_recovery.specs.declared.harm.Harm.TheVariants.{Body, Name}
 use Rattle.swh_recovery.specs.declared.harm.Found.{Found}
+use Rattle.swh_format.specs.Kinds.{head_fields}
 use Rattle.swh_recovery.specs.Fields.{found_at, IsCut, FieldsBreak}
-
--- an object's kind, its body's length and its id
-abbrev pub head_fields : List Field
-head_fields = field.Byte choice.Object ∷ field.Bytes 8 ∷ field.Bytes 20 ∷ []
 
 -- The bytes begin with an object's kind, its body's length and its id.
 pub record BeginsHead (bytes : List ℕ) : Type 0 where

@@ -2,6 +2,8 @@
 ghost use Rattle.std.specs.Prelude.{◌≡◌, ◌≢◌, ◌↔◌, ◌≤◌, IsTrue, IfOk, OnOk, IfErr, IsErrOf, length};
 ghost use Rattle.swh_outside.specs.Faults.{Rose};
 ghost use Rattle.swh_base.specs.Limits.{file_limit};
+ghost use Rattle.swh_format.specs.Fields.{byte_of};
+ghost use Rattle.swh_format.specs.declared.field.RecordKind.TheVariants as of;
 ghost use Rattle.swh_recovery.specs.Fields.{found_at};
 ghost use Rattle.swh_recovery.specs.Records.{
   in_file,
@@ -25,7 +27,7 @@ use crate::record::Record;
 use crate::run::read_run;
 use std::alloc::Global;
 use swh_base::Namer;
-use swh_format::{BatchParts, RecordParts, Told, read_told, split_four};
+use swh_format::{RecordParts, Told, read_whole as whole_of, split_four};
 use swh_outside::Disk;
 
 /// Where the next record stands: the place of its gate in the ledger, the place in the store where its run has to begin,
@@ -59,7 +61,10 @@ fn is_told_exactly(told: &RunTold<'_>, start: u64, number: usize) -> bool
     ensures yes { IsTrue result → IsToldExactly start number told.now }
     ensures no { IsToldExactly start number told.now → IsTrue result }
 {
-    told.from == start && start <= told.to && told.number as usize == number && told.left.is_empty()
+    told.run.from == start
+        && start <= told.run.to
+        && told.run.number as usize == number
+        && told.left.is_empty()
 }
 
 // The record of a batch, and where its run ends in the store.
@@ -75,7 +80,7 @@ fn read_batch<N: Namer, D: Disk>(
     requires small { size ≤ file_limit }
     requires inside { place.start ≤ size }
     requires whole { IsWholeRecord parts.now }
-    requires batch { parts.now.kind ≡ 66 }
+    requires batch { parts.now.kind ≡ byte_of of.Batch }
     ensures read { IfOk result (λ x. IsEventRead N.id_of place.gate place.start parts.now x.0 x.1) }
     ensures inside { IfOk result (λ x. x.1 ≤ size) }
     ensures holds { D.tells → IfOk result (λ x. HoldsEvent place.start (D.file store.old).seen x.0 x.1) }
@@ -88,7 +93,7 @@ fn read_batch<N: Namer, D: Disk>(
     ensures quiet_fault { IfErr result (λ fault. UnlessDiskNext fault (D.faults store.new ≡ D.faults store.old)) }
 {
     let told = run_told(parts.payload);
-    let entries = match read_run(alloc, namer, store, size, told.from, told.to) {
+    let entries = match read_run(alloc, namer, store, size, told.run.from, told.run.to) {
         Ok(entries) => entries,
         Err(fault) => return Err(in_store(fault)),
     };
@@ -101,13 +106,9 @@ fn read_batch<N: Namer, D: Disk>(
         payload: parts.payload.to_vec(alloc)?,
         entries,
         by: told.by,
-        told: Told::Batch(BatchParts {
-            from: told.from,
-            to: told.to,
-            number: told.number,
-        }),
+        told: Told::Batch(told.run),
     };
-    Ok((record, told.to))
+    Ok((record, told.run.to))
 }
 
 // The record of an opening or a mark.
@@ -118,13 +119,13 @@ fn read_whole(
     parts: &RecordParts<'_>,
 ) -> Result<Record, NextFault>
     requires whole { IsWholeRecord parts.now }
-    requires other { parts.now.kind ≢ 66 }
+    requires other { parts.now.kind ≢ byte_of of.Batch }
     ensures ok { IfOk result (IsWholeRead gate parts.now) }
     ensures harm { IfErr result (λ fault. IfNextHarmed fault (IsNotTold gate number parts.now)) }
     ensures why { IsErrOf result DiskFailed → ⊥ }
 {
     let (by, rest) = split_four(parts.payload).unwrap();
-    let Some(told) = read_told(alloc, parts.kind, rest)? else {
+    let Some(what) = whole_of(alloc, parts.kind, rest)? else {
         return Err(refused(gate, number));
     };
     Ok(Record {
@@ -133,7 +134,7 @@ fn read_whole(
         payload: parts.payload.to_vec(alloc)?,
         entries: Vec::new(alloc),
         by,
-        told,
+        told: Told::Whole(what),
     })
 }
 

@@ -1,47 +1,13 @@
-//! Fields: how many bytes, or which byte, have to stand one after another, and the first that does not.
+//! Fields that have to stand one after another, and the first that does not.
 ghost use Rattle.std.specs.Prelude.{◌≡◌, ◌↔◌, ◌+◌, ◌<◌, ◌^◌, ◌∷◌, ◌++◌, IsTrue, IfOk, IfErr, OnOk, length};
 ghost use Rattle.std.specs.Int.{w32, w64, to_be_bytes};
-ghost use Rattle.swh_recovery.specs.declared.field.Field.TheVariants.{Byte, Snapshot};
+ghost use Rattle.swh_format.specs.declared.field.Field.TheVariants.{Byte, Snapshot};
 ghost use Rattle.swh_recovery.specs.declared.harm.Harm.TheVariants.{Short};
-ghost use Rattle.swh_recovery.specs.Fields.{
-  choices,
-  IsAmong,
-  IsCut,
-  IsFieldThen,
-  found_at,
-  FieldBreaks,
-  FieldsHold,
-  FieldsBreak,
-};
+ghost use Rattle.swh_format.specs.Fields.{choices, IsAmong, FieldsHold};
+ghost use Rattle.swh_recovery.specs.Fields.{IsCut, IsFieldThen, found_at, FieldBreaks, FieldsBreak};
 
 use crate::harm::{Found, Harm};
-use swh_format::{split_bytes, split_eight, split_four};
-
-/// What a byte may be.
-#[derive(Clone, Copy)]
-pub enum Choice {
-    /// The kind of a record.
-    Record,
-    /// The kind of a visit.
-    Visit,
-    /// The status that a visit is given.
-    Status,
-    /// Whether a snapshot follows.
-    Snapshot,
-    /// The kind of an object.
-    Object,
-}
-
-/// What has to stand in a file.
-#[derive(Clone, Copy)]
-pub enum Field {
-    /// As many bytes.
-    Bytes(u64),
-    /// One of these bytes.
-    Byte(Choice),
-    /// A byte 0, or a byte 1 and an id of twenty bytes.
-    Snapshot,
-}
+use swh_format::{Choice, Field, split_bytes, split_eight, split_four};
 
 fn is_choice(choice: Choice, byte: u8) -> bool
     ensures { IsTrue result ↔ IsAmong byte (choices choice) }
@@ -135,8 +101,16 @@ fn behind_field(field: Field, bytes: &[u8], at: u64) -> Result<&[u8], Found>
     ensures err { IfErr result (FieldBreaks field bytes.now at) }
 {
     match field {
-        Field::Bytes(count) => {
-            let (_front, rest) = take_bytes(bytes, count, at)?;
+        Field::Four => {
+            let (_front, rest) = take_bytes(bytes, 4, at)?;
+            Ok(rest)
+        }
+        Field::Eight => {
+            let (_front, rest) = take_bytes(bytes, 8, at)?;
+            Ok(rest)
+        }
+        Field::Id => {
+            let (_front, rest) = take_bytes(bytes, 20, at)?;
             Ok(rest)
         }
         Field::Byte(choice) => {

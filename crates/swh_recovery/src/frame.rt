@@ -1,10 +1,11 @@
 //! The records of a ledger: the first harm of one by its own bytes.
 ghost use Rattle.std.specs.Prelude.{◌≡◌, ◌+◌, ◌<◌, ◌^◌, IfOk, IfErr, OnOk, length};
 ghost use Rattle.swh_format.specs.LedgerReading.{IsRecordFront};
-ghost use Rattle.swh_recovery.specs.Fields.{FieldsHold, FieldsBreak};
+ghost use Rattle.swh_format.specs.Fields.{FieldsHold};
+ghost use Rattle.swh_recovery.specs.Fields.{FieldsBreak};
+ghost use Rattle.swh_format.specs.Kinds.{fields_of, payload_fields};
+ghost use Rattle.swh_format.specs.declared.field.RecordKind.TheVariants as of;
 ghost use Rattle.swh_recovery.specs.LedgerHarm.{
-  batch_fields,
-  payload_fields,
   RecordBreaks,
   IsRecordWithFields,
   IsFrame,
@@ -12,37 +13,27 @@ ghost use Rattle.swh_recovery.specs.LedgerHarm.{
   IsRunTold,
 };
 
-use crate::field::{Choice, Field, check_fields, take_byte, take_bytes, take_four};
+use crate::field::{check_fields, take_byte, take_bytes, take_four};
 use crate::harm::Found;
-use swh_format::{RecordParts, split_eight, split_four};
+use swh_format::{BatchParts, Choice, Field, RecordParts, split_batch, split_four};
 
-// Who wrote it, where the run begins and ends, and the number of its objects.
-const BATCH: [Field; 4] = [
-    Field::Bytes(4),
-    Field::Bytes(8),
-    Field::Bytes(8),
-    Field::Bytes(4),
-];
+// The fields of each kind's payload, which begins with who wrote it.
+const BATCH: [Field; 4] = [Field::Four, Field::Eight, Field::Eight, Field::Four];
 
-// Who wrote it, the visit's kind and the date.
-const OPEN: [Field; 3] = [Field::Bytes(4), Field::Byte(Choice::Visit), Field::Bytes(8)];
+const OPEN: [Field; 3] = [Field::Four, Field::Byte(Choice::Visit), Field::Eight];
 
-// Who wrote it, the status, the visit's number and the snapshot.
 const MARK: [Field; 4] = [
-    Field::Bytes(4),
+    Field::Four,
     Field::Byte(Choice::Status),
-    Field::Bytes(8),
+    Field::Eight,
     Field::Snapshot,
 ];
 
-/// What a batch's payload says of its run: who wrote it, where it begins and ends in the store, in bytes from its
-/// beginning, the number of its objects; and what is left behind that.
+/// What a batch's payload says: who wrote it, where its run stands, and what is left behind that.
 #[derive(Clone, Copy)]
 pub struct RunTold<'a> {
     pub by: u32,
-    pub from: u64,
-    pub to: u64,
-    pub number: u32,
+    pub run: BatchParts,
     pub left: &'a [u8],
 }
 
@@ -88,18 +79,10 @@ pub fn take_record(bytes: &[u8], at: u64) -> Result<RecordParts<'_>, Found>
 
 /// What a batch's payload says of its run.
 pub fn run_told(payload: &[u8]) -> RunTold<'_>
-    requires { FieldsHold batch_fields payload.now }
+    requires { FieldsHold (fields_of of.Batch) payload.now }
     ensures { IsRunTold payload.now result }
 {
     let (by, rest) = split_four(payload).unwrap();
-    let (from, rest) = split_eight(rest).unwrap();
-    let (to, rest) = split_eight(rest).unwrap();
-    let (number, left) = split_four(rest).unwrap();
-    RunTold {
-        by,
-        from,
-        to,
-        number,
-        left,
-    }
+    let (run, left) = split_batch(rest);
+    RunTold { by, run, left }
 }

@@ -16,9 +16,11 @@ ghost use Rattle.std.specs.Prelude.{
 ghost use Rattle.swh_outside.specs.Faults.{Rose};
 ghost use Rattle.swh_base.specs.Name.{kind_number};
 ghost use Rattle.swh_base.specs.Limits.{body_limit};
-ghost use Rattle.swh_recovery.specs.declared.field.Choice.TheVariants as choice;
-ghost use Rattle.swh_recovery.specs.Fields.{choices, IsAmong, IsCut, found_at, FieldsBreak};
-ghost use Rattle.swh_recovery.specs.StoreHarm.{head_fields, ObjectBreaks};
+ghost use Rattle.swh_format.specs.declared.field.Choice.TheVariants as choice;
+ghost use Rattle.swh_format.specs.Fields.{choices, IsAmong};
+ghost use Rattle.swh_recovery.specs.Fields.{IsCut, found_at, FieldsBreak};
+ghost use Rattle.swh_format.specs.Kinds.{head_fields};
+ghost use Rattle.swh_recovery.specs.StoreHarm.{ObjectBreaks};
 ghost use Rattle.swh_recovery.specs.Reading.{
   IfHarmed,
   UnlessDisk,
@@ -38,12 +40,12 @@ ghost use Rattle.swh_recovery.specs.declared.fault.ReadFault.TheVariants.{DiskFa
 ghost use Rattle.swh_recovery.specs.declared.harm.Harm.TheVariants.{Body};
 
 use crate::fault::ReadFault;
-use crate::field::{Choice, cut, take_byte, take_bytes, take_eight};
+use crate::field::{cut, take_byte, take_bytes, take_eight};
 use crate::harm::{Found, Harm};
 use crate::piece::{Piece, held, reach, read_behind};
 use std::alloc::Global;
 use swh_base::{BODY_LIMIT, Entry, Kind, Namer, Shared};
-use swh_format::entry_is_codable;
+use swh_format::{Choice, entry_is_codable};
 use swh_object::{Object, ObjectFault};
 use swh_outside::Disk;
 

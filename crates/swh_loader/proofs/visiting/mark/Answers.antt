@@ -8,7 +8,7 @@ use Rattle.swh_loader.proofs.Codables.{next_fits, marks_status}
 use Rattle.swh_loader.proofs.Refusals.{mark_may}
 use Rattle.swh_loader.proofs.Stepping.{leaves_same, leaves_applied, leaves_refused}
 use Rattle.swh_loader.proofs.Steps.{marked_visit}
-use Rattle.swh_format.specs.MarkRecord.{IsSnapshotId}
+use Rattle.swh_format.specs.Fields.{IsSnapshotId}
 use Rattle.swh_plan.specs.Plan.{status_of, snapshot_of}
 use Rattle.swh_loader.proofs.visiting.mark.Goals as goal
 

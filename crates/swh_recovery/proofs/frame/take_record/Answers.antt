@@ -1,6 +1,7 @@
 use Rattle.std.proofs.Common.{rules, ◌+◌, arith}
 use Rattle.swh_recovery.specs.Fields.{FieldsBreak}
-use Rattle.swh_recovery.specs.LedgerHarm.{payload_fields, IsFrame}
+use Rattle.swh_format.specs.Kinds.{payload_fields}
+use Rattle.swh_recovery.specs.LedgerHarm.{IsFrame}
 use Rattle.swh_recovery.proofs.FrameLemmas.{exits, frame_fits, fields_then}
 use Rattle.swh_recovery.proofs.frame.take_record.Goals as goal
 

@@ -1,5 +1,5 @@
 use Rattle.std.proofs.Common.{rules, ◌≡◌, ℕ, ap, ◌∙◌, arith}
-use Rattle.swh_recovery.specs.StoreHarm.{head_fields}
+use Rattle.swh_format.specs.Kinds.{head_fields}
 use Rattle.swh_recovery.specs.Fields.{FieldsBreak}
 use Rattle.swh_recovery.specs.Reading.{window, IsHeadOf}
 use Rattle.swh_recovery.specs.declared.fault.ReadFault.TheVariants.{Harmed}
