@@ -1,0 +1,55 @@
+-- Elements of lists, and what two walks over steps have in common.
+use Rattle.std.proofs.Common.{◌≡◌, ◌⊎◌, inl, inr, ℕ, zero, suc, ◌+◌, ◌<◌, ◌≤◌, Option, Some, None, List, [], ◌∷◌, ◌++◌, length, take, drop, get_or, refl, sym, ap, ◌∙◌, subst, arith, append_assoc, length-append}
+use Rattle.std.specs.Prelude.{Contains}
+use Rattle.std.specs.List.{AllByRecursion}
+use Rattle.std.proofs.lemmas.List.Elements.{Contains-append_left, Contains-append_right, Contains-append_cases}
+use Rattle.swh_base.specs.Reach.{IsWalk, Reaches}
+
+pub none_in : {X : Type 0} → (x : X) → Contains [] x → ⊥
+none_in x (k, less, is) = absurd (omega (arith, less))
+
+pub in_first : {X : Type 0} → (x : X) (xs : List X) → Contains (x ∷ xs) x
+in_first x xs = (0, omega arith, refl)
+
+pub in_rest : {X : Type 0} → (x : X) (xs : List X) (y : X) → Contains xs y → Contains (x ∷ xs) y
+in_rest x xs y (k, less, is) = (suc k, omega (arith, less), is)
+
+pub in_cases : {X : Type 0} → (x : X) (xs : List X) (y : X) → Contains (x ∷ xs) y → (x ≡ y) ⊎ Contains xs y
+in_cases x xs y (zero, less, is) = inl is
+in_cases x xs y (suc k, less, is) = inr (k, omega (arith, less), is)
+
+pub only : {X : Type 0} → (x y : X) → Contains (x ∷ []) y → x ≡ y
+only x y h = elim (in_cases x [] y h) [ inl is ↦ is | inr none ↦ absurd (none_in y none) ]
+
+pub in_middle : {X : Type 0} → (front : List X) (x : X) (rest : List X) → Contains (front ++ x ∷ rest) x
+in_middle front x rest = Contains-append_right front (x ∷ rest) x (in_first x rest)
+
+pub all_of : {X : Type 0} (P : X → Type 0) (xs : List X) (x : X) → AllByRecursion P xs → Contains xs x → P x
+all_of P [] x all h = absurd (none_in x h)
+all_of P (y ∷ ys) x all h = elim (in_cases y ys x h) [ inl is ↦ subst P is all.0 | inr more ↦ all_of P ys x all.1 more ]
+
+pub same_some : {X : Type 0} (a b : X) → Some a ≡ Some b → a ≡ b
+same_some a b e = cc
+
+pub not_none : {X : Type 0} (o : Option X) (a : X) → o ≡ Some a → o ≡ None → ⊥
+not_none o a e f = let g = sym e ∙ f in cc
+
+-- ---- steps that lead to one place at most
+
+module _ {X : Type 0} (Step : X → X → Type 0) (one : (a b c : X) → Step a b → Step a c → b ≡ c) where
+  -- walks that end where no step leads on end at one place
+  pub one_end : (ns ms : List X) (a x y : X) → IsWalk Step a ns x → IsWalk Step a ms y → ((z : X) → Step x z → ⊥) → ((z : X) → Step y z → ⊥) → x ≡ y
+  one_end [] [] a x y w v stops stays = sym w ∙ v
+  one_end [] (m ∷ ms) a x y w v stops stays = absurd (stops m (subst (λ (z : X). Step z m) w v.0))
+  one_end (n ∷ ns) [] a x y w v stops stays = absurd (stays n (subst (λ (z : X). Step z n) v w.0))
+  one_end (n ∷ ns) (m ∷ ms) a x y w v stops stays =
+      one_end ns ms n x y w.1 (subst (λ (z : X). IsWalk Step z ms y) (one a m n v.0 w.0) v.1) stops stays
+
+-- where each step from one of these leads to one of these, so does each walk
+pub trapped : {X : Type 0} (Step : X → X → Type 0) (In : X → Type 0) → ((a b : X) → In a → Step a b → In b) → (ns : List X) (a x : X) → In a → IsWalk Step a ns x → In x
+trapped Step In keeps [] a x here w = subst In w here
+trapped Step In keeps (n ∷ ns) a x here w = trapped Step In keeps ns n x (keeps a n here w.0) w.1
+
+pub walks_on : {X : Type 0} (Step : X → X → Type 0) → (ns : List X) (a x y : X) → IsWalk Step a ns x → Step x y → Reaches Step a y
+walks_on Step [] a x y w step = (y ∷ [], (subst (λ z. Step z y) (sym w) step, refl))
+walks_on Step (n ∷ ns) a x y w step = let more = walks_on Step ns n x y w.1 step in (n ∷ more.0, (w.0, more.1))
