@@ -1,6 +1,8 @@
 -- Elements of lists, and what two walks over steps have in common.
-use Rattle.std.proofs.Common.{◌≡◌, ◌⊎◌, inl, inr, ℕ, zero, suc, ◌+◌, ◌<◌, ◌≤◌, Option, Some, None, List, [], ◌∷◌, ◌++◌, length, take, drop, get_or, refl, sym, ap, ◌∙◌, subst, arith, append_assoc, length-append}
-use Rattle.std.specs.Prelude.{Contains}
+use Rattle.std.proofs.Common.{◌≡◌, ◌⊎◌, inl, inr, ℕ, zero, suc, ◌+◌, ◌<◌, ◌≤◌, Option, Some, None, List, [], ◌∷◌, ◌++◌, map, length, take, drop, get_or, refl, sym, ap, ◌∙◌, subst, arith, append_assoc, length-append}
+use Rattle.std.specs.Prelude.{Contains, Result, IfErr}
+use Rattle.std.specs.Result.{IsErrAnd}
+use Rattle.std.proofs.lemmas.Result.{err_from_is_err_and}
 use Rattle.std.specs.List.{AllByRecursion}
 use Rattle.std.proofs.lemmas.List.Elements.{Contains-append_left, Contains-append_right, Contains-append_cases}
 use Rattle.swh_base.specs.Reach.{IsWalk, Reaches}
@@ -28,11 +30,39 @@ pub all_of : {X : Type 0} (P : X → Type 0) (xs : List X) (x : X) → AllByRecu
 all_of P [] x all h = absurd (none_in x h)
 all_of P (y ∷ ys) x all h = elim (in_cases y ys x h) [ inl is ↦ subst P is all.0 | inr more ↦ all_of P ys x all.1 more ]
 
+-- what a list holds, made into something else
+pub in_map : {X Y : Type 0} (f : X → Y) (xs : List X) (x : X) → Contains xs x → Contains (map f xs) (f x)
+in_map f [] x h = absurd (none_in x h)
+in_map f (y ∷ ys) x h =
+    elim (in_cases y ys x h) [ inl is ↦ subst (λ (z : _). Contains (map f (y ∷ ys)) (f z)) is (in_first (f y) (map f ys)) | inr more ↦ in_rest (f y) (map f ys) (f x) (in_map f ys x more) ]
+
+pub from_map : {X Y : Type 0} (f : X → Y) (xs : List X) (y : Y) → Contains (map f xs) y → (x : X) × (Contains xs x × (f x ≡ y))
+from_map f [] y h = absurd (none_in y h)
+from_map f (x ∷ xs) y h =
+    elim (in_cases (f x) (map f xs) y h) [
+      | inl is ↦ (x, (in_first x xs, is))
+      | inr more ↦ let found = from_map f xs y more in (found.0, (in_rest x xs found.0 found.1.0, found.1.1))
+    ]
+
+-- how a call ends that hands a fault on
+pub refused : {T E : Type 0} (r : Result T E) (P : E → Type 0) (x : E) → IsErrAnd r (λ y. y ≡ x) → P x → IfErr r P
+refused r P x h p = let e = err_from_is_err_and r h in rw (e.1, e.2) p
+
 pub same_some : {X : Type 0} (a b : X) → Some a ≡ Some b → a ≡ b
 same_some a b e = cc
 
 pub not_none : {X : Type 0} (o : Option X) (a : X) → o ≡ Some a → o ≡ None → ⊥
 not_none o a e f = let g = sym e ∙ f in cc
+
+pub same_or_not : (a b : ℕ) → (a ≡ b) ⊎ (a ≡ b → ⊥)
+same_or_not zero zero = inl refl
+same_or_not zero (suc b) = inr (λ e. absurd (omega (arith, e)))
+same_or_not (suc a) zero = inr (λ e. absurd (omega (arith, e)))
+same_or_not (suc a) (suc b) = elim (same_or_not a b) [ inl e ↦ inl (ap suc e) | inr n ↦ inr (λ e. n (omega (arith, e))) ]
+
+pub nothing_there : {X : Type 0} (o : Option X) → ((x : X) × (o ≡ Some x) → ⊥) → o ≡ None
+nothing_there None none = refl
+nothing_there (Some x) none = absurd (none (x, refl))
 
 -- ---- steps that lead to one place at most
 

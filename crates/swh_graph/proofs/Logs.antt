@@ -35,9 +35,9 @@ meets_both old [] mid ys new a b = subst (λ (o : List Name). MeetsAll o ys new)
 meets_both old (x ∷ xs) mid ys new (first, (here, more)) b = (first, (here, meets_both first xs mid ys new more b))
 
 -- what was met stays in front
-record Extends (old new : List Name) : Type 0 where
-  more : List Name
-  is : new ≡ old ++ more
+pub record Extends (old new : List Name) : Type 0 where
+  pub more : List Name
+  pub is : new ≡ old ++ more
 
 one_extends : (old : List Name) (x : Name) (new : List Name) → MeetsOne old x new → Extends old new
 one_extends old x new (inl was) = record { more = []; is = was.1 ∙ sym (append-nil old) }
@@ -46,14 +46,14 @@ one_extends old x new (inr is) = record { more = x ∷ []; is = is.1 }
 extends_both : (a b c : List Name) → Extends a b → Extends b c → Extends a c
 extends_both a b c x y = record { more = x.more ++ y.more; is = y.is ∙ ap (λ (l : List Name). l ++ y.more) x.is ∙ append_assoc a x.more y.more }
 
-all_extends : (old xs new : List Name) → MeetsAll old xs new → Extends old new
+pub all_extends : (old xs new : List Name) → MeetsAll old xs new → Extends old new
 all_extends old [] new all = record { more = []; is = sym all ∙ sym (append-nil old) }
 all_extends old (x ∷ xs) new (first, (here, more)) = extends_both old first new (one_extends old x first here) (all_extends first xs new more)
 
-extends_in : (old new : List Name) → Extends old new → IsAmong old new
+pub extends_in : (old new : List Name) → Extends old new → IsAmong old new
 extends_in old new e n h = subst (λ (l : List Name). Contains l n) (sym e.is) (Contains-append_left old e.more n h)
 
-one_in : (old : List Name) (x : Name) (new : List Name) → MeetsOne old x new → Contains new x
+pub one_in : (old : List Name) (x : Name) (new : List Name) → MeetsOne old x new → Contains new x
 one_in old x new (inl was) = subst (λ (l : List Name). Contains l x) (sym was.1) was.0
 one_in old x new (inr is) = subst (λ (l : List Name). Contains l x) (sym is.1) (Contains-push old x)
 
@@ -67,7 +67,7 @@ met_in old (x ∷ xs) new (first, (here, more)) n h =
     ]
 
 -- what is listed was there, or is one of those that are met
-one_from : (P : Name → Type 0) (old : List Name) (x : Name) (new : List Name) → MeetsOne old x new → ((n : Name) → Contains old n → P n) → P x → (n : Name) → Contains new n → P n
+pub one_from : (P : Name → Type 0) (old : List Name) (x : Name) (new : List Name) → MeetsOne old x new → ((n : Name) → Contains old n → P n) → P x → (n : Name) → Contains new n → P n
 one_from P old x new (inl was) each here n h = each n (subst (λ (l : List Name). Contains l n) was.1 h)
 one_from P old x new (inr is) each here n h =
     elim (Contains-append_cases old (x ∷ []) n (subst (λ (l : List Name). Contains l n) is.1 h)) [

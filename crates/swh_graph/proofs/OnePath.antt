@@ -17,10 +17,10 @@ use Rattle.swh_graph.proofs.Lists.{none_in, in_first, in_cases, in_middle, all_o
 
 -- ---- components
 
-abbrev slashed : List (List ℕ) → List ℕ
+abbrev pub slashed : List (List ℕ) → List ℕ
 slashed components = flat_map (λ component. 47 ∷ component) components
 
-abbrev ArePlain : List (List ℕ) → Type 0
+abbrev pub ArePlain : List (List ℕ) → Type 0
 ArePlain components = AllByRecursion (λ component. Contains component 47 → ⊥) components
 
 pub same_slashed : (cs ds : List (List ℕ)) → ArePlain cs → ArePlain ds → slashed cs ≡ slashed ds → cs ≡ ds

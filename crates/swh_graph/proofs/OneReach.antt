@@ -55,6 +55,7 @@ module _ (x : Name) (xs ys : List Name) (front : IsFront x xs) (front' : IsFront
       ]
 
 same_sorted : (ns ms : List Name) → IsStrictlySortedBy name_cmp ns → IsStrictlySortedBy name_cmp ms → HaveSame ns ms → ns ≡ ms
+unfolding IsStrictlySortedBy
 same_sorted [] [] a b same = refl
 same_sorted [] (m ∷ ms) a b same = absurd (none_in m ((same m).1 (in_first m ms)))
 same_sorted (n ∷ ns) [] a b same = absurd (none_in n ((same n).0 (in_first n ns)))

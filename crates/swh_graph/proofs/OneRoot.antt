@@ -46,11 +46,8 @@ same_name (x ∷ xs) a b good h k named =
         let e : Less ≡ Equal = sym less ∙ ap (λ (n : List ℕ). slice_cmp nat_cmp n y.name) same ∙ tied_itself nat_list_cmp_total y.name in
         cc
 
-pub same_branch : (bs : List SnapshotBranch) (a b : SnapshotBranch) → AreBranches bs → Contains bs a → Contains bs b → a.name ≡ b.name → a ≡ b
-same_branch bs a b good h k named = same_name bs a b good h k named
-
 module _ (bs : List SnapshotBranch) (good : AreBranches bs) where
-  same_target : (name : List ℕ) (s t : BranchTarget) → Contains bs (record { name = name; target = s }) → Contains bs (record { name = name; target = t }) → s ≡ t
+  pub same_target : (name : List ℕ) (s t : BranchTarget) → Contains bs (record { name = name; target = s }) → Contains bs (record { name = name; target = t }) → s ≡ t
   same_target name s t h k =
       ap (λ (b : SnapshotBranch). b.target)
       (same_name bs (let a : SnapshotBranch = record { name = name; target = s } in a) (let b : SnapshotBranch = record { name = name; target = t } in b) good h k refl)

@@ -8,5 +8,4 @@ pub mod Resolve
 pub mod Reached
 pub mod Rounds
 pub mod Search
-pub mod Walk
 pub mod Way

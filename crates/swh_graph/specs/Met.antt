@@ -1,5 +1,5 @@
 -- Names in the order in which they are met, each once.
-use Rattle.std.specs.Prelude.{◌≡◌, ◌⊎◌, List, [], ◌∷◌, ◌++◌, Contains}
+use Rattle.std.specs.Prelude.{◌≡◌, ◌⊎◌, Option, unwrap_or, List, [], ◌∷◌, ◌++◌, Contains}
 use Rattle.swh_base.specs.declared.name.Name.{Name}
 use Rattle.swh_model.specs.Archive.{Bodies}
 use Rattle.swh_graph.specs.Log.{HasParents}
@@ -18,3 +18,7 @@ pub record MeetsParents (bodies : Bodies) (name : Name) (old new : List Name) : 
   pub parents : List Name
   pub has : HasParents bodies name parents
   pub meets : MeetsAll old parents new
+
+-- The children of this name are met, where it is held.
+abbrev pub MeetsChildren : (Name → Option (List Name)) → Name → List Name → List Name → Type 0
+MeetsChildren children_of name old new = MeetsAll old (unwrap_or (children_of name) []) new

@@ -22,7 +22,7 @@ fn revision_name(id: [u8; 20]) -> Name
 }
 
 /// Meets the revisions of these ids.
-fn meet_all(met: &mut Met, ids: &[[u8; 20]]) -> Result<(), Memory>
+fn meet_ids(met: &mut Met, ids: &[[u8; 20]]) -> Result<(), Memory>
     ensures { OnOk result (MeetsAll met.old (map revision_name ids.now) met.new) }
 {
     for id in ids {
@@ -43,7 +43,7 @@ fn meet_parents<L: Look>(
     ensures err { IfErr result (IsNotHeld (L.archive look.now).bodies name) }
 {
     let rev = revision_at(alloc, look, name)?;
-    meet_all(met, rev.parents.as_slice())?;
+    meet_ids(met, rev.parents.as_slice())?;
     Ok(())
 }
 

@@ -24,8 +24,8 @@ impl Model for Met {
 }
 
 impl Met {
-    ghost use Rattle.std.specs.Prelude.{◌≡◌, ◌<◌, ◌≤◌, [], IfSome, IfNone, OnOk, length, take, get_or};
-    ghost use Rattle.swh_graph.specs.Met.{MeetsOne};
+    ghost use Rattle.std.specs.Prelude.{◌≡◌, ◌<◌, ◌≤◌, ◌^◌, [], IfSome, IfNone, OnOk, length, take, get_or};
+    ghost use Rattle.swh_graph.specs.Met.{MeetsOne, MeetsAll};
 
     pub fn new(alloc: Global) -> Met
         ensures { result ≡ [] }
@@ -49,12 +49,30 @@ impl Met {
         Ok(())
     }
 
+    /// Meets these names one after another.
+    pub fn meet_all(&mut self, names: &[Name]) -> Result<(), Memory>
+        ensures { OnOk result (MeetsAll self.old names.now self.new) }
+    {
+        for name in names {
+            self.meet(*name)?;
+        }
+        Ok(())
+    }
+
     /// The name at a place.
     pub fn at(&self, place: usize) -> Option<Name>
         ensures some { IfSome result (λ name. (place < length self.now) × (name ≡ get_or self.now place name)) }
         ensures none { IfNone result (length self.now ≤ place) }
     {
         self.names.get(place).copied()
+    }
+
+    /// How many names there are.
+    pub fn len(&self) -> usize
+        ensures value { result ≡ length self.now }
+        ensures small { result < 2 ^ 63 }
+    {
+        self.names.len()
     }
 
     /// The first so many names.

@@ -1,73 +1,58 @@
 //! All that is reached from a name.
-ghost use Rattle.std.specs.Prelude.{◌∷◌, [], ◌↔◌, IfOk, IfErr, IfSome, IfNone, OnOk, Contains};
+ghost use Rattle.std.specs.Prelude.{◌↔◌, IfOk, IfErr, IfSome, IfNone, OnOk, Contains};
+ghost use Rattle.std.specs.List.{IsDistinct};
+ghost use Rattle.std.specs.List.Sorted.{IsStrictlySortedBy};
+ghost use Rattle.std.specs.Ordering.{eq_by_cmp};
 ghost use Rattle.swh_base.specs.declared.name.Name.{Name};
+ghost use Rattle.swh_base.specs.Name.{name_cmp};
 ghost use Rattle.swh_base.specs.Reach.{ReachesIn};
 ghost use Rattle.swh_model.specs.Archive.{IsHeld};
 ghost use Rattle.swh_graph.specs.Answer.{Found, Refuses};
+ghost use Rattle.swh_graph.specs.Met.{MeetsChildren};
 ghost use Rattle.swh_graph.specs.Reached.{IsReachAnswer};
 ghost use Rattle.swh_graph.specs.Resolve.{IsFirstMissing};
-ghost use Rattle.swh_graph.specs.Walk.{Meets};
 
 use crate::fault::GraphFault;
+use crate::met::Met;
 use std::alloc::Global;
-use swh_base::{Graph, Memory, Name};
-use swh_closure::Closed;
+use swh_base::{Memory, Name};
 use swh_model::Look;
 
-/// The children of a name, which are yet to be met.
-#[derive(Clone, Copy)]
-pub struct Turn<'a> {
-    pub kids: &'a [Name],
-}
-
-/// Names that are reached, and the turns of some of them.
-#[derive(Drop)]
-pub struct Walk<'a> {
-    pub names: Closed,
-    pub turns: Vec<Turn<'a>>,
-}
-
-/// Lists a name with the turn of its children, unless it is listed.
-fn meet<'a, L: Look>(look: &'a L, walk: &mut Walk<'a>, name: Name) -> Result<(), Memory>
-    ensures { OnOk result (Meets (L.children_of look.now) (name ∷ []) walk.old walk.new) }
+/// Meets the children of this name, where it is held.
+fn meet_children<L: Look>(look: &L, met: &mut Met, name: Name) -> Result<(), Memory>
+    ensures { OnOk result (MeetsChildren (L.children_of look.now) name met.old met.new) }
 {
-    if walk.names.contains(&name) {
-        return Ok(());
+    match look.children_of(&name) {
+        Some(kids) => met.meet_all(kids),
+        None => Ok(()),
     }
-    walk.names.add(name)?;
-    if let Some(kids) = look.children_of(&name) {
-        walk.turns.push(Turn { kids })?;
-    }
-    Ok(())
 }
 
-/// Meets these names.
-fn meet_all<'a, L: Look>(look: &'a L, walk: &mut Walk<'a>, names: &[Name]) -> Result<(), Memory>
-    ensures { OnOk result (Meets (L.children_of look.now) names.now walk.old walk.new) }
+/// All names that are reached from one, held or not, each once. Each is looked up once.
+fn reached<L: Look>(alloc: Global, look: &L, root: Name) -> Result<Vec<Name>, Memory>
+    ensures are { IfOk result (λ names. (n : Name) → Contains names.items n ↔ ReachesIn (L.children_of look.now) root n) }
+    ensures once { IfOk result (λ names. IsDistinct (eq_by_cmp name_cmp) names.items) }
 {
-    for name in names {
-        meet(look, walk, *name)?;
-    }
-    Ok(())
-}
-
-/// All names that are reached from one, held or not. Each is looked up once.
-fn reached<L: Look>(alloc: Global, look: &L, root: Name) -> Result<Closed, Memory>
-    ensures { IfOk result (λ names. (n : Name) → Contains names n ↔ ReachesIn (L.children_of look.now) root n) }
-{
-    let mut walk = Walk {
-        names: Closed::new(alloc),
-        turns: Vec::new(alloc),
-    };
-    meet(look, &mut walk, root)?;
-    for _round in 0..usize::MAX {
-        let Some(turn) = walk.turns.pop() else {
-            return Ok(walk.names);
+    let mut met = Met::new(alloc);
+    met.meet(root)?;
+    for place in 0..usize::MAX {
+        let Some(name) = met.at(place) else {
+            return Ok(met.into_front(place));
         };
-        meet_all(look, &mut walk, turn.kids)?;
+        meet_children(look, &mut met, name)?;
     }
-    let _count = walk.names.len();
+    let _count = met.len();
     unreachable!()
+}
+
+/// Names, of which no two are one, in ascending order.
+fn sorted(mut names: Vec<Name>) -> Vec<Name>
+    requires { IsDistinct (eq_by_cmp name_cmp) names.items }
+    ensures ascending { IsStrictlySortedBy name_cmp result.items }
+    ensures same { (n : Name) → Contains result.items n ↔ Contains names.items n }
+{
+    names.sort_unstable();
+    names
 }
 
 /// The first of these names that is not held.
@@ -90,7 +75,7 @@ pub fn reach<L: Look>(alloc: Global, look: &L, name: Name) -> Result<Vec<Name>, 
     ensures err { IfErr result (Refuses (IsReachAnswer (L.archive look.now).bodies name)) }
 {
     look.is_graph();
-    let names = reached(alloc, look, name)?.list(alloc)?;
+    let names = sorted(reached(alloc, look, name)?);
     match first_missing(look, names.as_slice()) {
         None => Ok(names),
         Some(name) => Err(GraphFault::NotHeld { name }),
