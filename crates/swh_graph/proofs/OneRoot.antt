@@ -61,9 +61,9 @@ module _ (bs : List SnapshotBranch) (good : AreBranches bs) where
   pub one_object : (name : List ℕ) (a b : Name) → BranchLeads bs name a → BranchLeads bs name b → a ≡ b
   one_object name a b x y =
       let last : x.last ≡ y.last =
-          one_end (IsAlias bs) one_alias x.aliases.0 y.aliases.0 name x.last y.last x.aliases.1 y.aliases.1 (object_no_alias x.last a x.target) (object_no_alias y.last b y.target) in
+      one_end (IsAlias bs) one_alias x.aliases.0 y.aliases.0 name x.last y.last x.aliases.1 y.aliases.1 (object_no_alias x.last a x.target) (object_no_alias y.last b y.target) in
       let there : Contains bs (record { name = y.last; target = ToObject a }) =
-          subst (λ (n : List ℕ). Contains bs (let branch : SnapshotBranch = record { name = n; target = ToObject a } in branch)) last x.target in
+      subst (λ (n : List ℕ). Contains bs (let branch : SnapshotBranch = record { name = n; target = ToObject a } in branch)) last x.target in
       let same : ToObject a ≡ ToObject b = same_target y.last (ToObject a) (ToObject b) there y.target in
       cc
 

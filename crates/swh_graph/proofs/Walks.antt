@@ -102,7 +102,7 @@ module _ (children_of : Name → Option (List Name)) (root : Name) where
           within = let long = ap length e.is in omega (arith, less, long, length-append names e.more);
           begins = extends_in names new e root w.begins;
           each = met_each (ReachesIn children_of root) names (unwrap_or (children_of name) []) new m w.each
-          (λ n h. let r = w.each name there in reaches-next (IsHeldIn children_of) (IsChildIn children_of) r.0 root name n r.1 (a_kid n h));
+              (λ n h. let r = w.each name there in reaches-next (IsHeldIn children_of) (IsChildIn children_of) r.0 root name n r.1 (a_kid n h));
           followed = λ n child h by.
               elim (Contains-push_cases (take count names) name n (subst (λ (ns : List Name). Contains ns n) front h)) [
                 | inl old ↦ extends_in names new e child (w.followed n child old by)

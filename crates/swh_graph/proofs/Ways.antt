@@ -48,16 +48,28 @@ cut [] = ([], ([], record { text_is = refl; first_plain = λ h. none_in 47 h; mo
 cut (b ∷ text) =
     let rest = cut text in
     elim (same_or_not b 47) [
-      | inl is ↦ ([], (rest.0 ∷ rest.1.0, record {
-          text_is = ap (λ (x : ℕ). x ∷ text) is ∙ ap (λ (x : List ℕ). 47 ∷ x) rest.1.1.text_is;
-          first_plain = λ h. none_in 47 h;
-          more_plain = (rest.1.1.first_plain, rest.1.1.more_plain);
-        }))
-      | inr other ↦ (b ∷ rest.0, (rest.1.0, record {
-          text_is = ap (λ (x : List ℕ). b ∷ x) rest.1.1.text_is;
-          first_plain = one_more b other rest.0 rest.1.1.first_plain;
-          more_plain = rest.1.1.more_plain;
-        }))
+      | inl is ↦ (
+        [],
+        (
+          rest.0 ∷ rest.1.0,
+          record {
+            text_is = ap (λ (x : ℕ). x ∷ text) is ∙ ap (λ (x : List ℕ). 47 ∷ x) rest.1.1.text_is;
+            first_plain = λ h. none_in 47 h;
+            more_plain = (rest.1.1.first_plain, rest.1.1.more_plain);
+          },
+        ),
+      )
+      | inr other ↦ (
+        b ∷ rest.0,
+        (
+          rest.1.0,
+          record {
+            text_is = ap (λ (x : List ℕ). b ∷ x) rest.1.1.text_is;
+            first_plain = one_more b other rest.0 rest.1.1.first_plain;
+            more_plain = rest.1.1.more_plain;
+          },
+        ),
+      )
     ]
 
 -- each path has components

@@ -1,5 +1,5 @@
 //! What a SWHID resolves to.
-ghost use Rattle.std.specs.Prelude.{◌≡◌, ◌≢◌, None, Some, IfOk, IfErr, IfSome, IfNone, option_to_list};
+ghost use Rattle.std.specs.Prelude.{◌≡◌, ◌≢◌, ◌↔◌, None, Some, IsTrue, IfOk, IfErr, IfSome, IfNone, option_to_list};
 ghost use Rattle.std.specs.List.{AllByRecursion};
 ghost use Rattle.swh_model.specs.Archive.{body_of, IsHeld};
 ghost use Rattle.swh_graph.specs.Answer.{Found, Refuses};
@@ -28,13 +28,7 @@ fn missing<L: Look>(look: &L, name: &Option<Name>) -> Option<Name>
     ensures none { IfNone result (AllByRecursion (IsHeld (L.archive look.now).bodies) (option_to_list name.now)) }
 {
     match name {
-        Some(name) => {
-            if look.has(name) {
-                None
-            } else {
-                Some(*name)
-            }
-        }
+        Some(name) => { if look.has(name) { None } else { Some(*name) } }
         None => None,
     }
 }
@@ -76,6 +70,12 @@ fn end_of<L: Look>(alloc: Global, look: &L, root: Name, path: &[u8]) -> Result<E
     Ok(End { name, number })
 }
 
+fn is_same(a: &Name, b: &Name) -> bool
+    ensures { IsTrue result ↔ (a.now ≡ b.now) }
+{
+    a == b
+}
+
 /// The core, where the path leads there from the anchor's root.
 fn arrive<L: Look>(
     alloc: Global,
@@ -93,7 +93,7 @@ fn arrive<L: Look>(
         return Err(GraphFault::NoPath { component });
     };
     let end = end_of(alloc, look, root, path)?;
-    if end.name == core {
+    if is_same(&end.name, &core) {
         Ok(core)
     } else {
         let component = end.number;

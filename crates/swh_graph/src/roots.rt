@@ -39,11 +39,7 @@ fn object_of<L: Look>(look: &L, name: Name) -> Result<Name, GraphFault>
 }
 
 /// The object to which the branch HEAD of a snapshot leads.
-fn target_of_head<L: Look>(
-    alloc: Global,
-    look: &L,
-    name: Name,
-) -> Result<Option<Name>, GraphFault>
+fn target_of_head<L: Look>(alloc: Global, look: &L, name: Name) -> Result<Option<Name>, GraphFault>
     requires { name.kind ≡ Snapshot }
     ensures ok { IfOk result (LeadsNext (HasHead (L.archive look.now).bodies name)
         (L.archive look.now).bodies name) }
@@ -78,11 +74,7 @@ fn next_of<L: Look>(alloc: Global, look: &L, name: Name) -> Result<Option<Name>,
 /// The root of an artifact: a directory is its own, a revision has its tree as root, a release the root of its object, and
 /// a snapshot that of what its branch HEAD leads to. There is none where it leads to anything else, or in a circle. Fails
 /// with the first name on the way that is not held, or where memory runs out.
-pub fn root_of<L: Look>(
-    alloc: Global,
-    look: &L,
-    anchor: Name,
-) -> Result<Option<Name>, GraphFault>
+pub fn root_of<L: Look>(alloc: Global, look: &L, anchor: Name) -> Result<Option<Name>, GraphFault>
     ensures ok { IfOk result (λ root. MatchOption root (HasNoRoot (L.archive look.now).bodies anchor)
         (IsRoot (L.archive look.now).bodies anchor)) }
     ensures err { IfErr result (RootFails (L.archive look.now).bodies anchor) }

@@ -31,8 +31,8 @@ aliases-preserved c =
     record {
       long = length-set seen place true ∙ long;
       trail = trail_goes_on (IsAlias (branches_in_body branches)) (IsSeen branches seen) (IsSeen branches (set seen place true)) (codes "HEAD") name c.in-Alias.other.now c.aliases.invariant.trail
-        (branch_there branches seen name place long at (ToBranch c.in-Alias.other.now) (λ d. ap (λ (b : SpelledBranch). target_spelled b.target) (get_or_default branches place d _ at.within) ∙ ap target_spelled c.in-Alias.is))
-        (seen_stays branches seen name place long at) (seen_now branches seen name place long at) (seen_only branches seen name place long at);
+          (branch_there branches seen name place long at (ToBranch c.in-Alias.other.now) (λ d. ap (λ (b : SpelledBranch). target_spelled b.target) (get_or_default branches place d _ at.within) ∙ ap target_spelled c.in-Alias.is))
+          (seen_stays branches seen name place long at) (seen_now branches seen name place long at) (seen_only branches seen name place long at);
     }
 
 pub returns-in-Dangling : goal.returns-in-Dangling

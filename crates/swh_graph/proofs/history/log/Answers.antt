@@ -1,4 +1,4 @@
-use Rattle.std.proofs.Common.{List, arith, sym, subst}
+use Rattle.std.proofs.Common.{◌≡◌, ℕ, List, take, arith, sym, subst}
 use Rattle.swh_graph.specs.Log.{IsLog}
 use Rattle.swh_base.specs.Revision.{revision_name}
 use Rattle.swh_base.specs.declared.name.Name.{Name}
@@ -33,4 +33,11 @@ returns-in_err-meet_parents-clause-err g c =
     (log_fails (g.L.Look.archive c.args.look.now).bodies c.args.rev c.loop-place.place c.loop-place.met c.loop-place.invariant c.in-Some.name c.in-Some.ensures.some.0 c.in-Some.ensures.some.1 c.args.limit c.loop-place-test.true c.in_err-meet_parents.field-0.0 c.in_err-meet_parents.ensures.err)
 
 pub returns-clause-ok : goal.returns-clause-ok
-returns-clause-ok g c = ?
+returns-clause-ok g c =
+    let bodies = (g.L.Look.archive c.args.look.now).bodies in
+    let root = revision_name c.args.rev in
+    let most = c.loop-place.auto.place-end in
+    let least = c.loop-place-test.false in
+    let all : c.loop-place.place ≡ c.args.limit = omega (arith, most, least) in
+    subst (IsLog bodies root c.args.limit) (sym c.into_front-2.ensures)
+    (subst (λ (k : ℕ). IsLog bodies root k (take k c.loop-place.met)) all (log_full bodies c.args.rev c.loop-place.place c.loop-place.met c.loop-place.invariant))

@@ -16,7 +16,7 @@ loop-id-preserved c =
     ap (map revision_name) (take_more ids i none c.loop-id-test.true) ∙ map-append revision_name (take i ids) (id ∷ []) in
     subst (λ (front : List Name). MeetsAll c.args.met.now front c.meet.new.self) (sym more)
     (one_more c.args.met.now (map revision_name (take i ids)) c.loop-id.met (revision_name id) c.meet.new.self c.loop-id.invariant
-      (subst (λ (n : Name). MeetsOne c.loop-id.met n c.meet.new.self) c.revision_name.ensures c.in_ok-meet.ensures))
+    (subst (λ (n : Name). MeetsOne c.loop-id.met n c.meet.new.self) c.revision_name.ensures c.in_ok-meet.ensures))
 
 pub returns : goal.returns
 returns c =

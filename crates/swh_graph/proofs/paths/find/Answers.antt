@@ -22,7 +22,7 @@ loop-entry-preserved c k d less is =
     below_more (λ (j : ℕ). (e : SpelledEntry) → (get_or c.args.entries.now j e).name.now ≡ c.args.component.now → ⊥) c.loop-entry.entry-index
     (λ j l e. c.loop-entry.invariant j e l)
     (λ e same.
-        let e : false ≡ true = sym c.if-eq.false ∙ (slice_eq-Decides Decides-eqb _ _ _ c.eq.ensures).1 (same_name c.args.entries.now c.loop-entry.entry-index _ e c.loop-entry-test.true ∙ same) in cc)
+    let e : false ≡ true = sym c.if-eq.false ∙ (slice_eq-Decides Decides-eqb _ _ _ c.eq.ensures).1 (same_name c.args.entries.now c.loop-entry.entry-index _ e c.loop-entry-test.true ∙ same) in cc)
     k less d is
 
 pub returns-clause-none : goal.returns-clause-none

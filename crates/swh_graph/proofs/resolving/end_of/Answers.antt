@@ -11,5 +11,5 @@ returns-clause-ok g c =
     let arrival = c.in_ok-arrival.arrival in
     subst (λ (n : Name). Ends bodies c.args.root c.args.path.now n (arrival.number + 1)) (sym c.target_of-name.ensures)
     (ends_at_entry bodies c.args.root c.args.path.now (entry_of arrival.entry) arrival.number
-      (λ e. let same = ap (λ (l : List ℕ). length l == 0) (c.behind_slash-below.ensures ∙ e) in let f : false ≡ true = sym c.if-is_empty.false ∙ c.is_empty.ensures ∙ same in cc)
-      (subst (λ (p : List ℕ). Arrives bodies c.args.root p (entry_of arrival.entry) arrival.number) c.behind_slash-below.ensures c.in_ok-arrival.ensures.ok))
+    (λ e. let same = ap (λ (l : List ℕ). length l == 0) (c.behind_slash-below.ensures ∙ e) in let f : false ≡ true = sym c.if-is_empty.false ∙ c.is_empty.ensures ∙ same in cc)
+    (subst (λ (p : List ℕ). Arrives bodies c.args.root p (entry_of arrival.entry) arrival.number) c.behind_slash-below.ensures c.in_ok-arrival.ensures.ok))
