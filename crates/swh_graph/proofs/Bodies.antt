@@ -1,17 +1,14 @@
 -- Each body that is held is one of its kind, so no reader finds a fault in it.
-use Rattle.std.proofs.Common.{◌≡◌, ℕ, Option, Some, None, List, sym, ◌∙◌, subst}
+use Rattle.std.proofs.Common.{◌≡◌, ℕ, Option, Some, List, sym, ◌∙◌, subst}
 use Rattle.swh_base.specs.declared.kind.Kind.{Kind}
-use Rattle.swh_base.specs.declared.kind.Kind.TheVariants.{Directory, Revision as RevisionKind, Release as ReleaseKind, Snapshot}
+use Rattle.swh_base.specs.declared.kind.Kind.TheVariants.{Directory, Snapshot}
 use Rattle.swh_base.specs.declared.name.Name.{Name}
-use Rattle.swh_base.specs.Directory.{DirectoryEntry, IsDirectory}
-use Rattle.swh_base.specs.Snapshot.{SnapshotBranch, IsSnapshot}
 use Rattle.swh_base.specs.Manifest.{AreChildren, IsWellFormed}
 use Rattle.swh_model.specs.Archive.{Bodies, body_of, IsGraphOf}
 use Rattle.swh_model.proofs.Graphs.{held-in}
 use Rattle.swh_dirfmt.specs.Fault.{IsDirFault}
 use Rattle.swh_dirfmt.specs.declared.fault.DirWhy.{DirWhy}
 use Rattle.swh_dirfmt.proofs.Exact as directory
-use Rattle.swh_revfmt.specs.Fault.{IsRevFault}
 use Rattle.swh_snpfmt.specs.Fault.{IsSnpFault}
 use Rattle.swh_snpfmt.proofs.Exact as snapshot
 use Rattle.swh_graph.proofs.Lists.{same_some}
@@ -28,12 +25,6 @@ module _ (bodies : Bodies) (children_of : Name → Option (List Name)) (graph : 
 
   pub no_bad_directory : name.kind ≡ Directory → (at : ℕ) (why : DirWhy) → IsDirFault body at why → ⊥
   no_bad_directory is at why fault = let w = of_kind Directory is in directory.no_fault body w.1.entries at why w.1.directory fault
-
-  pub no_bad_revision : name.kind ≡ RevisionKind → (at : ℕ) → IsRevFault RevisionKind body at → ⊥
-  no_bad_revision is at fault = fault.broken (of_kind RevisionKind is)
-
-  pub no_bad_release : name.kind ≡ ReleaseKind → (at : ℕ) → IsRevFault ReleaseKind body at → ⊥
-  no_bad_release is at fault = fault.broken (of_kind ReleaseKind is)
 
   pub no_bad_snapshot : name.kind ≡ Snapshot → (at : ℕ) → IsSnpFault body at → ⊥
   no_bad_snapshot is at fault = let w = of_kind Snapshot is in snapshot.no_fault body w.1.branches at w.1.is fault

@@ -1,7 +1,6 @@
 -- A branch that is looked for by halves, among branches that ascend.
-use Rattle.std.proofs.Common.{◌≡◌, ◌⊎◌, inl, inr, ℕ, zero, suc, ◌+◌, ◌<◌, ◌≤◌, List, [], ◌∷◌, length, map, get_or, refl, sym, ap, ◌∙◌, subst, arith}
+use Rattle.std.proofs.Common.{◌≡◌, ◌⊎◌, inl, inr, ℕ, zero, suc, ◌+◌, ◌<◌, ◌≤◌, List, [], ◌∷◌, length, get_or, refl, sym, ap, ◌∙◌, arith}
 use Rattle.std.specs.Prelude.{Contains, ◌≢◌}
-use Rattle.std.specs.List.{AllByRecursion}
 use Rattle.std.specs.declared.cmp.Ordering.{Ordering}
 use Rattle.std.specs.declared.cmp.Ordering.TheVariants.{Less, Equal, Greater}
 use Rattle.std.specs.Ordering.{nat_cmp, ordering_reverse}
@@ -62,14 +61,6 @@ module _ (branches : List SpelledBranch) (name : List ℕ) where
     pub within : high ≤ length branches
     pub below : (k : ℕ) (d : SpelledBranch) → k < low → cmp (name_at branches k d) name ≡ Less
     pub above : (k : ℕ) (d : SpelledBranch) → high ≤ k → k < length branches → cmp (name_at branches k d) name ≡ Greater
-
-  pub between_starts : IsBetween 0 (length branches)
-  between_starts = record {
-    order = omega arith;
-    within = omega arith;
-    below = λ k d less. absurd (omega (arith, less));
-    above = λ k d least less. absurd (omega (arith, least, less));
-  }
 
   module _ (good : AreBranches (branches_in_body branches)) (low high middle : ℕ) (b : IsBetween low high) (at_least : low ≤ middle) (less : middle < high) where
     in_list : middle < length branches

@@ -1,15 +1,13 @@
 -- Where HEAD leads: no further than the branches that were seen.
-use Rattle.std.proofs.Common.{◌≡◌, ◌⊎◌, inl, inr, ℕ, zero, suc, ◌+◌, ◌<◌, Bool, true, false, cond, List, length, get_or, set, replicate, map, sum_by, Contains, refl, sym, ap, ◌∙◌, subst, arith, codes, get_or-set_same, get_or-set_other}
+use Rattle.std.proofs.Common.{◌≡◌, ◌⊎◌, inl, inr, ℕ, ◌<◌, Bool, true, false, cond, List, length, get_or, set, sum_by, Contains, refl, sym, ap, ◌∙◌, subst, arith, get_or-set_same, get_or-set_other}
 use Rattle.std.specs.Prelude.{◌≢◌}
 use Rattle.std.proofs.lemmas.List.{get_or_default}
-use Rattle.std.proofs.lemmas.List.Sums.{sum_by-set}
 use Rattle.std.proofs.lemmas.List.Elements.{Contains-get_or}
 use Rattle.swh_snpfmt.specs.declared.branch.SpelledBranch.{SpelledBranch}
 use Rattle.swh_snpfmt.specs.Branches.{branch_of, branches_in_body, target_spelled}
 use Rattle.swh_graph.specs.Search.{IsPlaceOf}
 use Rattle.swh_graph.proofs.Lists.{in_map, same_or_not}
 use Rattle.swh_base.specs.declared.name.Name.{Name}
-use Rattle.swh_base.specs.Reach.{IsWalk, Reaches}
 use Rattle.swh_base.specs.Snapshot.{BranchTarget, ToObject, ToBranch, ToNothing, SnapshotBranch, AreBranches}
 use Rattle.swh_graph.specs.Root.{IsAlias, BranchLeads}
 use Rattle.swh_graph.proofs.OneRoot.{one_alias, object_no_alias, same_target}
@@ -22,14 +20,6 @@ pub record IsSeen (branches : List SpelledBranch) (seen : List Bool) (name : Lis
   pub marked : get_or seen place false ≡ true
   pub named : (d : SpelledBranch) → (get_or branches place d).name.now ≡ name
 
-pub nothing_seen : (branches : List SpelledBranch) (count : ℕ) (name : List ℕ) → IsSeen branches (replicate count false) name → ⊥
-nothing_seen branches count name s = none_marked count s.place s.marked
-  where
-    none_marked : (count place : ℕ) → get_or (replicate count false) place false ≡ true → ⊥
-    none_marked zero place is = cc
-    none_marked (suc count) zero is = cc
-    none_marked (suc count) (suc place) is = none_marked count place is
-
 -- what is read at a place
 pub read_at : (seen : List Bool) (place : ℕ) (read b : Bool) → place < length seen → read ≡ get_or seen place read → read ≡ b → get_or seen place false ≡ b
 read_at seen place read b less is same = get_or_default seen place false read less ∙ sym is ∙ same
@@ -37,12 +27,6 @@ read_at seen place read b less is same = get_or_default seen place false read le
 -- how many places are left
 abbrev pub unseen : List Bool → ℕ
 unseen seen = sum_by (λ (b : Bool). cond b 0 1) seen
-
-pub one_fewer : (seen : List Bool) (place : ℕ) → place < length seen → get_or seen place false ≡ false → unseen (set seen place true) < unseen seen
-one_fewer seen place within new =
-    let sums = sum_by-set (λ (b : Bool). cond b 0 1) seen place true false within in
-    let was : ◌≡◌ {A = ℕ} (cond (get_or seen place false) 0 1) 1 = ap (λ (b : Bool). cond b 0 1) new in
-    omega (arith, sums, was)
 
 module _ (branches : List SpelledBranch) (seen : List Bool) (name : List ℕ) (place : ℕ) (same_long : length seen ≡ length branches) (is : IsPlaceOf branches name place) where
   its_name : (d : SpelledBranch) → (get_or branches place d).name.now ≡ name
@@ -111,7 +95,3 @@ module _ (bs : List SnapshotBranch) (good : AreBranches bs) (Seen : List ℕ →
   pub missing_leads_nowhere : ((branch : SnapshotBranch) → Contains bs branch → branch.name ≢ here) → (object : Name) → BranchLeads bs start object → ⊥
   missing_leads_nowhere none object leads =
       end_leads_nowhere (λ target h. absurd (none (let b : SnapshotBranch = record { name = here; target = target } in b) h refl)) object leads
-
-  -- an object is where they lead
-  pub object_leads : (object : Name) → Contains bs (record { name = here; target = ToObject object }) → BranchLeads bs start object
-  object_leads object target = record { last = here; aliases = t.leads; target = target }

@@ -1,5 +1,5 @@
 -- A revision has one log.
-use Rattle.std.proofs.Common.{◌≡◌, ◌⊎◌, inl, inr, ℕ, zero, suc, ◌+◌, ◌<◌, ◌≤◌, Some, None, List, [], ◌∷◌, ◌++◌, map, length, refl, sym, ap, ◌∙◌, subst, arith, append_assoc, length-append}
+use Rattle.std.proofs.Common.{◌≡◌, ℕ, suc, ◌+◌, ◌<◌, ◌≤◌, None, List, [], ◌∷◌, ◌++◌, map, length, refl, sym, ap, ◌∙◌, subst, arith, append_assoc, length-append}
 use Rattle.std.specs.Prelude.{Contains}
 use Rattle.std.specs.List.{AllByRecursion}
 use Rattle.std.proofs.lemmas.List.{append-nil}
@@ -10,7 +10,7 @@ use Rattle.swh_base.proofs.RevisionLemmas.{one_revision}
 use Rattle.swh_model.specs.Archive.{Bodies, body_of, IsHeld}
 use Rattle.swh_graph.specs.Answer.{GraphAnswer, Found, Missing, Nowhere}
 use Rattle.swh_graph.specs.Holding.{HoldsRevision}
-use Rattle.swh_graph.specs.Log.{HasParents, HaveParents, ComesNext, AreNext, IsLog, IsLogGap, IsLogAnswer}
+use Rattle.swh_graph.specs.Log.{HasParents, HaveParents, ComesNext, AreNext, IsLogGap, IsLogAnswer}
 use Rattle.swh_graph.proofs.Lists.{in_first, same_some, not_none}
 
 module _ (bodies : Bodies) where
@@ -47,14 +47,8 @@ module _ (bodies : Bodies) where
         first_out before x.earlier y.earlier x.later y.later a b
         (sym x.order ∙ ap (λ (ps : List Name). root ∷ ps) (one_list_of_parents before x.parents y.parents x.have y.have) ∙ y.order) x.listed y.listed x.fresh y.fresh
 
-    next_at : (before before' : List Name) (a : Name) → before ≡ before' → ComesNext bodies root before a → ComesNext bodies root before' a
-    next_at before before' a e x = subst (λ (ns : List Name). ComesNext bodies root ns a) e x
-
     push_is : (before : List Name) (n : Name) (ns : List Name) → before ++ n ∷ ns ≡ (before ++ n ∷ []) ++ ns
     push_is before n ns = sym (append_assoc before (n ∷ []) ns)
-
-    length_push : (before : List Name) (n : Name) → length (before ++ n ∷ []) ≡ length before + 1
-    length_push before n = length-append before (n ∷ [])
 
     module _ (limit : ℕ) where
       -- nothing comes next, where there is room
@@ -94,9 +88,6 @@ module _ (bodies : Bodies) where
           let all : IsWhole (before ++ n ∷ ms) = subst (λ (x : Name). IsWhole (before ++ x ∷ ms)) same whole' in
           ap (λ (xs : List Name). n ∷ xs) (same_logs ns ms (before ++ n ∷ []) a.1 next (few_push before n ns few) (few_push before n ms short) (whole_push before n ns whole) (whole_push before n ms all))
           ∙ ap (λ (x : Name). x ∷ ms) (sym same)
-
-      room_of : (a : Name) (names : List Name) → Breaks names a → length names < limit
-      room_of a names b = b.room
 
       -- a log has no name that is not held
       no_break : (ns ms before : List Name) (a : Name) → AreNext bodies root before ns → AreNext bodies root before ms → AllByRecursion (IsHeld bodies) ms

@@ -1,19 +1,18 @@
 -- Components lead to one entry, and a path has one list of them.
-use Rattle.std.proofs.Common.{◌≡◌, ◌⊎◌, inl, inr, ℕ, zero, suc, ◌+◌, ◌<◌, ◌≤◌, Some, None, List, [], ◌∷◌, ◌++◌, length, refl, sym, ap, ◌∙◌, subst, arith, append_assoc, length-append}
+use Rattle.std.proofs.Common.{◌≡◌, ◌⊎◌, inl, inr, ℕ, ◌+◌, None, List, [], ◌∷◌, ◌++◌, length, refl, sym, ap, ◌∙◌, subst, arith}
 use Rattle.std.specs.Prelude.{Contains, ◌≢◌}
 use Rattle.std.specs.List.{flat_map, AllByRecursion}
 use Rattle.std.proofs.lemmas.List.{append-nil}
-use Rattle.std.proofs.lemmas.List.Elements.{Contains-append_right}
 use Rattle.swh_base.specs.declared.kind.Kind.TheVariants.{Directory}
 use Rattle.swh_base.specs.declared.name.Name.{Name}
 use Rattle.swh_base.specs.Directory.{DirectoryEntry, IsDirectory, AreEntries}
 use Rattle.swh_base.proofs.DirectoryLemmas.{one_listing_lem}
 use Rattle.swh_base.proofs.Splits.{first_split}
-use Rattle.swh_model.specs.Archive.{Bodies, body_of, IsHeld}
+use Rattle.swh_model.specs.Archive.{Bodies, body_of}
 use Rattle.swh_graph.specs.Answer.{GraphAnswer, Found, Missing, Nowhere}
 use Rattle.swh_graph.specs.Holding.{HoldsDirectory}
-use Rattle.swh_graph.specs.Path.{target_of, AreComponents, HasEntry, Follows, Passes, IsEntryAt, IsPathGap, LeadsNowhere, IsPathEnd, IsEntryAnswer, IsPathAnswer}
-use Rattle.swh_graph.proofs.Lists.{none_in, in_first, in_cases, in_middle, all_of, same_some, not_none}
+use Rattle.swh_graph.specs.Path.{target_of, AreComponents, HasEntry, Follows, LeadsNowhere, IsEntryAnswer, IsPathAnswer}
+use Rattle.swh_graph.proofs.Lists.{none_in, in_cases, in_middle, all_of, same_some, not_none}
 
 -- ---- components
 

@@ -1,6 +1,6 @@
 -- One list of names is reached from a name, or one is the first that is missing.
-use Rattle.std.proofs.Common.{◌≡◌, ◌⊎◌, inl, inr, ℕ, Some, None, List, [], ◌∷◌, refl, sym, ap, ◌∙◌, subst, arith}
-use Rattle.std.specs.Prelude.{Contains, ◌≢◌, ◌↔◌}
+use Rattle.std.proofs.Common.{◌≡◌, inl, inr, List, [], ◌∷◌, refl, sym, ap, ◌∙◌, subst}
+use Rattle.std.specs.Prelude.{Contains}
 use Rattle.std.specs.List.{AllByRecursion}
 use Rattle.std.specs.List.Sorted.{IsStrictlySortedBy}
 use Rattle.std.specs.declared.cmp.Ordering.{Ordering}
@@ -9,7 +9,7 @@ use Rattle.std.specs.Cmp.{tied_itself}
 use Rattle.std.specs.Ordering.{ordering_reverse}
 use Rattle.swh_base.specs.declared.name.Name.{Name}
 use Rattle.swh_base.specs.Name.{name_cmp, name_cmp_total, name_cmp-IsAntisymmetric}
-use Rattle.swh_model.specs.Archive.{Bodies, body_of, Reaches}
+use Rattle.swh_model.specs.Archive.{Bodies, body_of}
 use Rattle.swh_graph.specs.Answer.{GraphAnswer, Found, Missing, Nowhere}
 use Rattle.swh_graph.specs.Reached.{IsReach, IsReachGap, IsReachAnswer}
 use Rattle.swh_graph.proofs.Lists.{none_in, in_first, in_rest, in_cases, all_of, not_none}

@@ -1,14 +1,13 @@
 -- A SWHID resolves in one way.
-use Rattle.std.proofs.Common.{◌≡◌, ◌⊎◌, inl, inr, ℕ, Some, None, List, [], ◌∷◌, ◌++◌, length, refl, sym, ap, ◌∙◌, subst, arith, append_assoc}
-use Rattle.std.specs.Prelude.{Contains, ◌≢◌}
+use Rattle.std.proofs.Common.{◌≡◌, ◌⊎◌, inl, inr, ℕ, None, List, [], ◌∷◌, ◌++◌, refl, sym, ap, ◌∙◌, subst}
+use Rattle.std.specs.Prelude.{Contains}
 use Rattle.std.specs.List.{AllByRecursion}
 use Rattle.swh_base.specs.declared.name.Name.{Name}
 use Rattle.swh_base.specs.Directory.{DirectoryEntry}
 use Rattle.swh_model.specs.Archive.{Bodies, body_of, IsHeld}
 use Rattle.swh_swhid.specs.declared.swhid.Swhid.{Swhid}
 use Rattle.swh_graph.specs.Answer.{GraphAnswer, Found, Missing, Nowhere}
-use Rattle.swh_graph.specs.Path.{target_of, AreComponents, Follows, IsEntryAt, IsPathGap, IsPathEnd}
-use Rattle.swh_graph.specs.Root.{IsRoot, IsRootGap, HasNoRoot}
+use Rattle.swh_graph.specs.Path.{target_of, Follows, IsEntryAt, IsPathGap, IsPathEnd}
 use Rattle.swh_graph.specs.Resolve.{names_in, behind_slash, IsFirstMissing, AreComponentsOf, HasWay, LeadsTo, IsWayGap, EndsElsewhere, IsWayEnd, Resolves, MissesOnWay, EndsOnWay, IsResolveAnswer}
 use Rattle.swh_graph.proofs.Lists.{in_middle, all_of, same_some, not_none}
 use Rattle.swh_graph.proofs.OnePath.{same_components, one_follows, one_entry_lem}

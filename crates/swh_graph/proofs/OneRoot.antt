@@ -1,25 +1,22 @@
 -- An artifact has one root, or one name on the way to it that is missing.
-use Rattle.std.proofs.Common.{◌≡◌, ◌⊎◌, inl, inr, ℕ, zero, suc, ◌<◌, Some, None, List, [], ◌∷◌, ◌++◌, length, refl, sym, ap, ◌∙◌, subst, arith}
-use Rattle.std.specs.Prelude.{Contains, ◌≢◌, codes}
-use Rattle.std.specs.List.{AllByRecursion}
+use Rattle.std.proofs.Common.{◌≡◌, inl, inr, ℕ, Some, None, List, [], ◌∷◌, refl, sym, ap, ◌∙◌, subst}
+use Rattle.std.specs.Prelude.{Contains, codes}
 use Rattle.std.specs.Ordering.{nat_cmp}
-use Rattle.std.specs.declared.cmp.Ordering.{Ordering}
 use Rattle.std.specs.declared.cmp.Ordering.TheVariants.{Less, Equal}
 use Rattle.std.specs.Cmp.{tied_itself}
 use Rattle.std.specs.Cmp.Lexicographic.{slice_cmp, nat_list_cmp_total}
 use Rattle.swh_base.specs.declared.kind.Kind.{Kind}
 use Rattle.swh_base.specs.declared.kind.Kind.TheVariants.{Content, Directory, Revision as RevisionKind, Release as ReleaseKind, Snapshot}
 use Rattle.swh_base.specs.declared.name.Name.{Name}
-use Rattle.swh_base.specs.Reach.{IsWalk, Reaches}
 use Rattle.swh_base.specs.Revision.{Revision}
 use Rattle.swh_base.specs.Release.{Release, IsRelease}
-use Rattle.swh_base.specs.Snapshot.{BranchTarget, ToObject, ToBranch, ToNothing, SnapshotBranch, AreBranches, BranchIsBefore, IsSnapshot}
+use Rattle.swh_base.specs.Snapshot.{BranchTarget, ToObject, ToBranch, SnapshotBranch, AreBranches, BranchIsBefore, IsSnapshot}
 use Rattle.swh_base.proofs.RevisionLemmas.{one_release}
 use Rattle.swh_base.proofs.SnapshotLemmas.{one_snapshot}
 use Rattle.swh_model.specs.Archive.{Bodies, body_of}
-use Rattle.swh_graph.specs.Holding.{HoldsRevision, HoldsRelease, HoldsSnapshot}
+use Rattle.swh_graph.specs.Holding.{HoldsRelease, HoldsSnapshot}
 use Rattle.swh_graph.specs.Path.{directory_name}
-use Rattle.swh_graph.specs.Root.{IsAlias, BranchLeads, HasTree, HasObject, HasHead, LeadsOn, HasRootOf, IsRoot, IsRootGap, HasNoRoot}
+use Rattle.swh_graph.specs.Root.{IsAlias, BranchLeads, HasTree, HasObject, HasHead, LeadsOn, HasRootOf, IsRoot, IsRootGap}
 use Rattle.swh_graph.proofs.Lists.{none_in, in_cases, all_of, same_some, not_none, one_end}
 use Rattle.swh_graph.proofs.OneLog.{one_held_revision}
 

@@ -1,13 +1,13 @@
 -- What is answered to a SWHID, from what is known of its names, its anchor's root and its path.
-use Rattle.std.proofs.Common.{◌≡◌, ◌⊎◌, inl, inr, ℕ, ◌+◌, Option, Some, None, List, [], ◌∷◌, ◌++◌, length, refl, sym, ap, ◌∙◌, subst, arith}
-use Rattle.std.specs.Prelude.{◌≢◌, MatchOption, option_to_list}
+use Rattle.std.proofs.Common.{◌≡◌, ◌⊎◌, inl, inr, ℕ, ◌+◌, Some, List, [], ◌∷◌, refl, sym, ◌∙◌, subst}
+use Rattle.std.specs.Prelude.{◌≢◌}
 use Rattle.std.specs.List.{AllByRecursion}
 use Rattle.swh_base.specs.declared.name.Name.{Name}
-use Rattle.swh_model.specs.Archive.{Bodies, body_of, IsHeld}
+use Rattle.swh_model.specs.Archive.{Bodies, IsHeld}
 use Rattle.swh_swhid.specs.declared.swhid.Swhid.{Swhid}
-use Rattle.swh_graph.specs.Answer.{GraphAnswer, Found, Missing, Nowhere, Refuses}
-use Rattle.swh_graph.specs.Path.{target_of, AreComponents, Follows, IsPathAnswer}
-use Rattle.swh_graph.specs.Resolve.{names_in, behind_slash, IsFirstMissing, AreComponentsOf, HasWay, LeadsTo, EndsElsewhere, IsResolveAnswer}
+use Rattle.swh_graph.specs.Answer.{Found, Nowhere, Refuses}
+use Rattle.swh_graph.specs.Path.{target_of, Follows, IsPathAnswer}
+use Rattle.swh_graph.specs.Resolve.{names_in, behind_slash, AreComponentsOf, HasWay, LeadsTo, IsResolveAnswer}
 use Rattle.swh_graph.specs.Root.{IsRoot, HasNoRoot}
 use Rattle.swh_graph.specs.Rounds.{RootFails}
 use Rattle.swh_graph.specs.Way.{Arrives, Ends, EndFails, WayAnswers}
@@ -34,9 +34,6 @@ module _ (bodies : Bodies) where
   -- ---- the end of a path
 
   module _ (root : Name) (path : List ℕ) where
-    pub ends_at_root : behind_slash path ≡ [] → Ends bodies root path root 0
-    ends_at_root none = record { components = []; are = inl (none, refl); follows = refl; number_is = refl }
-
     pub ends_at_entry : (entry : DirectoryEntry) (number : ℕ) → behind_slash path ≢ [] → Arrives bodies root (behind_slash path) entry number
         → Ends bodies root path (target_of entry) (number + 1)
     ends_at_entry entry number some a = record {
@@ -80,16 +77,6 @@ module _ (bodies : Bodies) where
   -- ---- a SWHID
 
   module _ (s : Swhid) where
-    pub resolves_alone : AllByRecursion (IsHeld bodies) (names_in s) → ((anchor : Name) (components : List (List ℕ)) → HasWay s anchor components → ⊥)
-        → IsResolveAnswer bodies s (Found s.core)
-    resolves_alone held none = record { core = refl; held = held; leads = λ anchor components way. absurd (none anchor components way) }
-
-    pub no_way_without_anchor : s.anchor ≡ None → (anchor : Name) (components : List (List ℕ)) → HasWay s anchor components → ⊥
-    no_way_without_anchor none anchor components way = let e : None ≡ Some anchor = sym none ∙ way.anchor_is in cc
-
-    pub no_way_without_path : s.path ≡ None → (anchor : Name) (components : List (List ℕ)) → HasWay s anchor components → ⊥
-    no_way_without_path none anchor components way = let e : None ≡ Some way.path = sym none ∙ way.path_is in cc
-
     module _ (held : AllByRecursion (IsHeld bodies) (names_in s)) (anchor : Name) (path : List ℕ) (anchor_is : s.anchor ≡ Some anchor) (path_is : s.path ≡ Some path) where
       its_way : (components : List (List ℕ)) → AreComponentsOf path components → HasWay s anchor components
       its_way components are = record { anchor_is = anchor_is; path = path; path_is = path_is; are = are }

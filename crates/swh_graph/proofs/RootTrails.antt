@@ -1,16 +1,13 @@
 -- The way to a root.
-use Rattle.std.proofs.Common.{◌≡◌, ◌⊎◌, inl, inr, ℕ, Option, Some, None, List, Contains, refl, sym, subst, ap, ◌∙◌}
-use Rattle.std.specs.Prelude.{◌≢◌, MatchOption, codes}
-use Rattle.swh_base.specs.declared.kind.Kind.{Kind}
-use Rattle.swh_base.specs.declared.kind.Kind.TheVariants.{Content, Directory, Revision as RevisionKind, Release as ReleaseKind, Snapshot}
+use Rattle.std.proofs.Common.{◌≡◌, ◌⊎◌, inl, inr, Option, Some, None, List, Contains, sym, subst, ap, ◌∙◌}
+use Rattle.std.specs.Prelude.{MatchOption, codes}
+use Rattle.swh_base.specs.declared.kind.Kind.TheVariants.{Content, Directory}
 use Rattle.swh_base.specs.declared.name.Name.{Name}
 use Rattle.swh_model.specs.Archive.{Bodies, body_of, IsHeld}
 use Rattle.swh_base.specs.Snapshot.{SnapshotBranch}
-use Rattle.swh_graph.specs.Holding.{HoldsSnapshot, IsNotHeld}
-use Rattle.swh_graph.specs.Root.{BranchLeads, HasTree, HasObject, HasHead, LeadsOn, HasRootOf, IsRoot, IsRootGap, HasNoRoot}
-use Rattle.swh_graph.specs.Rounds.{LeadsNext, NextFails, RootFails}
-use Rattle.swh_graph.specs.declared.fault.GraphFault.{GraphFault}
-use Rattle.swh_graph.specs.declared.fault.GraphFault.TheVariants.{NotHeld, NoPath, Memory}
+use Rattle.swh_graph.specs.Holding.{HoldsSnapshot}
+use Rattle.swh_graph.specs.Root.{BranchLeads, HasHead, HasRootOf, IsRoot, IsRootGap, HasNoRoot}
+use Rattle.swh_graph.specs.Rounds.{LeadsNext}
 use Rattle.swh_graph.proofs.Lists.{not_none}
 use Rattle.swh_graph.proofs.OneRoot.{one_step, folder_stops, step_held, one_held_snapshot}
 use Rattle.swh_graph.proofs.Trails.{IsTrail, trail_closes, trail_stops}
@@ -18,34 +15,6 @@ use Rattle.swh_graph.proofs.Trails.{IsTrail, trail_closes, trail_stops}
 -- ---- one step
 
 module _ (bodies : Bodies) (name : Name) where
-  lead_of : (kind : Kind) → name.kind ≡ kind → (next : Name) → HasRootOf bodies name next → LeadsOn kind bodies name next
-  lead_of kind is next r = subst (λ (k : Kind). LeadsOn k bodies name next) is r.leads
-
-  step_of : (kind : Kind) → name.kind ≡ kind → (next : Name) → LeadsOn kind bodies name next → HasRootOf bodies name next
-  step_of kind is next leads = record { leads = subst (λ (k : Kind). LeadsOn k bodies name next) (sym is) leads }
-
-  pub content_leads_nowhere : name.kind ≡ Content → LeadsNext (HasRootOf bodies name) bodies name None
-  content_leads_nowhere is = (λ next r. lead_of Content is next r, inl is)
-
-  pub folder_leads_nowhere : name.kind ≡ Directory → LeadsNext (HasRootOf bodies name) bodies name None
-  folder_leads_nowhere is = (λ next r. lead_of Directory is next r, inr (inl is))
-
-  pub tree_leads : name.kind ≡ RevisionKind → (tree : Name) → HasTree bodies name tree → HasRootOf bodies name tree
-  tree_leads is tree has = step_of RevisionKind is tree has
-
-  pub object_leads : name.kind ≡ ReleaseKind → (object : Name) → HasObject bodies name object → HasRootOf bodies name object
-  object_leads is object has = step_of ReleaseKind is object has
-
-  pub head_leads : name.kind ≡ Snapshot → (head : Option Name) → LeadsNext (HasHead bodies name) bodies name head → LeadsNext (HasRootOf bodies name) bodies name head
-  head_leads is (Some object) leads = step_of Snapshot is object leads
-  head_leads is None leads = (λ next r. leads.0 next (lead_of Snapshot is next r), leads.1)
-
-  -- what is not held is to be read, where it is of a kind that leads on
-  pub next_fails : (name.kind ≢ Content) → (name.kind ≢ Directory) → (fault : GraphFault) → IsNotHeld bodies name fault → NextFails bodies name fault
-  next_fails content folder (NotHeld missing) why = (why.0, content, folder, why.1)
-  next_fails content folder (NoPath component) why = why
-  next_fails content folder Memory why = tt
-
   -- where HEAD leads in the snapshot that is held
   pub head_answers : (branches : List SnapshotBranch) → HoldsSnapshot bodies name branches → (head : Option Name)
       → MatchOption head ((object : Name) → BranchLeads branches (codes "HEAD") object → ⊥) (BranchLeads branches (codes "HEAD")) → LeadsNext (HasHead bodies name) bodies name head
@@ -64,9 +33,6 @@ module _ (bodies : Bodies) (seen : List Name) (anchor place : Name) (t : IsTrail
 
   seen_no_gap : (n : Name) → Contains seen n → body_of bodies n ≡ None → ⊥
   seen_no_gap n there missing = let on = t.next n there in let h = step_held bodies n on.0 on.1.0 in not_none (body_of bodies n) h.0 h.1 missing
-
-  pub root_here : place.kind ≡ Directory → IsRoot bodies anchor place
-  root_here folder = record { leads = t.leads; folder = folder }
 
   -- there is no root in a circle
   pub no_root_in_circle : Contains seen place → HasNoRoot bodies anchor
@@ -94,9 +60,3 @@ module _ (bodies : Bodies) (seen : List Name) (anchor place : Name) (t : IsTrail
       no_gap_here gap (inl content) = gap.no_content content
       no_gap_here gap (inr (inl folder)) = gap.no_folder folder
       no_gap_here gap (inr (inr held)) = not_none (body_of bodies place) held.0 held.1 gap.missing
-
-  pub root_fails : (fault : GraphFault) → NextFails bodies place fault → RootFails bodies anchor fault
-  root_fails (NotHeld missing) why =
-      subst (IsRootGap bodies anchor) (sym why.0) (record { leads = t.leads; no_content = why.1; no_folder = why.2; missing = why.3 })
-  root_fails (NoPath component) why = why
-  root_fails Memory why = tt

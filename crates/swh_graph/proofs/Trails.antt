@@ -1,7 +1,7 @@
 -- A trail of steps, of which one at most leads on from each place: where it comes to a place again, or can go no further,
 -- what is reached from its start is known.
-use Rattle.std.proofs.Common.{◌≡◌, ◌⊎◌, inl, inr, List, [], ◌∷◌, refl, sym, subst}
-use Rattle.swh_base.specs.Reach.{IsWalk, Reaches}
+use Rattle.std.proofs.Common.{◌≡◌, ◌⊎◌, inl, inr, [], refl, sym, subst}
+use Rattle.swh_base.specs.Reach.{Reaches}
 use Rattle.swh_graph.proofs.Lists.{trapped, walks_on}
 
 module _ {X : Type 0} (Step : X → X → Type 0) where

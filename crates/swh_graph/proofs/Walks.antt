@@ -1,5 +1,5 @@
 -- Names that are met from a root on, each with its children after it, are all that is reached, each once.
-use Rattle.std.proofs.Common.{◌≡◌, ◌⊎◌, inl, inr, ℕ, ◌+◌, ◌<◌, ◌≤◌, Bool, true, false, Option, Some, None, List, [], ◌∷◌, ◌++◌, length, take, get_or, unwrap_or, refl, sym, ap, ◌∙◌, subst, arith, length-append}
+use Rattle.std.proofs.Common.{◌≡◌, ◌⊎◌, inl, inr, ℕ, ◌+◌, ◌<◌, ◌≤◌, true, false, Option, Some, None, List, [], ◌∷◌, ◌++◌, length, take, get_or, unwrap_or, refl, sym, ap, ◌∙◌, subst, arith, length-append}
 use Rattle.std.specs.Prelude.{Contains, ◌↔◌, ◌≢◌}
 use Rattle.std.specs.List.{AllByRecursion, IsDistinct, list_any}
 use Rattle.std.specs.List.Sorted.{IsStrictlySortedBy, IsSorted, IsPermutation}
@@ -10,7 +10,7 @@ use Rattle.std.specs.Cmp.{eq_by_cmp_equiv, Equal-is, tied_itself}
 use Rattle.std.proofs.lemmas.List.{take_more, take_all, take-append-le}
 use Rattle.std.proofs.lemmas.List.Elements.{Contains-push_cases, Contains-append_cases}
 use Rattle.std.proofs.lemmas.List.Sorted.{Contains-permutation, IsPermutation-sym}
-use Rattle.std.proofs.lemmas.Map.Keys.{IsDistinct-cons, IsDistinct-push, IsDistinct-IsPermutation, apart_from_distinct, sorted_from_all_adjacent, sorted_head, sorted_tail}
+use Rattle.std.proofs.lemmas.Map.Keys.{IsDistinct-push, IsDistinct-IsPermutation, apart_from_distinct, sorted_from_all_adjacent, sorted_head, sorted_tail}
 use Rattle.std.proofs.lemmas.Map.Views.{Contains-from_any}
 use Rattle.swh_base.specs.declared.kind.Kind.TheVariants.{Content}
 use Rattle.swh_base.specs.declared.name.Name.{Name}
@@ -24,8 +24,8 @@ use Rattle.swh_model.proofs.Graphs.{reaches-same}
 use Rattle.swh_graph.specs.Met.{MeetsOne, MeetsAll, MeetsChildren}
 use Rattle.swh_graph.specs.Reached.{IsReach, IsReachGap}
 use Rattle.swh_graph.specs.Resolve.{IsFirstMissing}
-use Rattle.swh_graph.proofs.Lists.{none_in, in_first, in_cases, in_middle, all_of, not_none}
-use Rattle.swh_graph.proofs.Logs.{Extends, all_extends, extends_in, one_in, one_from, met_in, met_each}
+use Rattle.swh_graph.proofs.Lists.{none_in, in_cases, in_middle, all_of, not_none}
+use Rattle.swh_graph.proofs.Logs.{all_extends, extends_in, one_in, one_from, met_in, met_each}
 
 -- ---- each name once
 

@@ -1,15 +1,12 @@
 -- How far one has come on a path, and what is answered there.
-use Rattle.std.proofs.Common.{◌≡◌, ◌⊎◌, inl, inr, ℕ, zero, suc, ◌+◌, ◌<◌, ◌≤◌, ◌^◌, Bool, true, false, Some, None, List, [], ◌∷◌, ◌++◌, length, refl, sym, ap, ◌∙◌, subst, arith, append_assoc, length-append}
+use Rattle.std.proofs.Common.{◌≡◌, inl, inr, ℕ, ◌+◌, ◌<◌, ◌≤◌, ◌^◌, List, [], ◌∷◌, ◌++◌, length, refl, sym, ap, ◌∙◌, subst, arith, append_assoc, length-append}
 use Rattle.std.specs.Prelude.{Contains, ◌≢◌}
-use Rattle.std.specs.List.{flat_map, AllByRecursion}
 use Rattle.std.proofs.lemmas.List.{append-nil}
-use Rattle.swh_base.specs.declared.kind.Kind.TheVariants.{Directory}
 use Rattle.swh_base.specs.declared.name.Name.{Name}
 use Rattle.swh_base.specs.Directory.{DirectoryEntry}
-use Rattle.swh_base.proofs.DirectoryLemmas.{all-push}
-use Rattle.swh_model.specs.Archive.{Bodies, body_of}
-use Rattle.swh_graph.specs.Answer.{GraphAnswer, Found, Missing, Nowhere, Refuses}
-use Rattle.swh_graph.specs.Path.{target_of, AreComponents, HasEntry, Follows, Passes, IsEntryAt, IsPathGap, LeadsNowhere, IsPathEnd, IsPathAnswer}
+use Rattle.swh_model.specs.Archive.{Bodies}
+use Rattle.swh_graph.specs.Answer.{Refuses}
+use Rattle.swh_graph.specs.Path.{target_of, AreComponents, HasEntry, Follows, Passes, IsEntryAt, IsPathGap, LeadsNowhere, IsPathAnswer}
 use Rattle.swh_graph.specs.Way.{StepFails, Arrives}
 use Rattle.swh_graph.specs.declared.fault.GraphFault.{GraphFault}
 use Rattle.swh_graph.specs.declared.fault.GraphFault.TheVariants.{NotHeld, NoPath, Memory}
@@ -108,9 +105,6 @@ module _ (bodies : Bodies) (root : Name) (path : List ℕ) where
     pub number_is : number ≡ length before
     pub room : number + length rest ≤ length path
 
-  pub way_starts : IsOnWay root 0 path
-  way_starts = record { before = []; text = refl; plain = tt; follows = refl; number_is = refl; room = omega arith }
-
   module _ (place : Name) (number : ℕ) (rest : List ℕ) (w : IsOnWay place number rest) where
     pub way_goes_on : (component behind : List ℕ) (entry : DirectoryEntry) → IsPlain component → rest ≡ component ++ 47 ∷ behind → HasEntry bodies place component entry
         → IsOnWay (target_of entry) (number + 1) behind
@@ -134,9 +128,6 @@ module _ (bodies : Bodies) (root : Name) (path : List ℕ) where
 
     -- the path's components, of which this is the next
     module _ (component : List ℕ) (behind : List (List ℕ)) (plain : IsPlain component) (plain_behind : ArePlain behind) (is : rest ≡ component ++ slashed behind) where
-      all_components : List (List ℕ)
-      all_components = w.before ++ component ∷ behind
-
       are_components : AreComponents path (w.before ++ component ∷ behind)
       are_components = record {
         text = w.text ∙ ap (λ (x : List ℕ). slashed w.before ++ 47 ∷ x) is ∙ sym (slashed_append w.before (component ∷ behind));

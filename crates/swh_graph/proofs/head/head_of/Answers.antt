@@ -1,4 +1,4 @@
-use Rattle.std.proofs.Common.{◌≡◌, ◌<◌, true, false, List, length, set, codes, sym, ap, ◌∙◌, arith}
+use Rattle.std.proofs.Common.{◌<◌, true, length, set, codes, ap, ◌∙◌, arith}
 use Rattle.std.proofs.Math.ListN.{length-set}
 use Rattle.std.proofs.lemmas.List.{get_or_default}
 use Rattle.swh_base.specs.Snapshot.{ToBranch, ToNothing}

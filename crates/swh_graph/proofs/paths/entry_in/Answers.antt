@@ -1,4 +1,4 @@
-use Rattle.std.proofs.Common.{◌≡◌, List, refl, subst}
+use Rattle.std.proofs.Common.{List, refl, subst}
 use Rattle.std.specs.Prelude.{Contains, ◌≢◌}
 use Rattle.swh_base.specs.Directory.{DirectoryEntry}
 use Rattle.swh_dirfmt.specs.declared.entry.SpelledEntry.{SpelledEntry}

@@ -1,4 +1,4 @@
-use Rattle.std.proofs.Common.{ℕ, ◌+◌, arith, sym, subst}
+use Rattle.std.proofs.Common.{◌+◌, arith, sym, subst}
 use Rattle.swh_base.specs.declared.name.Name.{Name}
 use Rattle.swh_dirfmt.specs.Entries.{entry_of}
 use Rattle.swh_graph.proofs.Lists.{refused}

@@ -1,4 +1,4 @@
-use Rattle.std.proofs.Common.{◌≡◌, ◌⊎◌, inl, inr, false, true, List, arith, sym, ap, ◌∙◌, length, refl, subst}
+use Rattle.std.proofs.Common.{◌≡◌, inl, inr, false, true, List, arith, sym, ap, ◌∙◌, length, refl, subst}
 use Rattle.std.specs.Prelude.{Contains}
 use Rattle.swh_base.specs.declared.name.Name.{Name}
 use Rattle.swh_base.specs.declared.kind.Kind.{Kind}
@@ -8,7 +8,7 @@ use Rattle.swh_graph.specs.Root.{HasRootOf}
 use denote.Enum.Bare.{sameb}
 use Rattle.swh_graph.proofs.Lists.{none_in}
 use Rattle.swh_graph.proofs.Trails.{trail_starts, trail_goes_on}
-use Rattle.swh_graph.proofs.RootTrails.{root_here, no_root_in_circle, no_root_at_end, root_fails}
+use Rattle.swh_graph.proofs.RootTrails.{no_root_in_circle, no_root_at_end}
 use Rattle.swh_graph.proofs.roots.root_of.Goals as goal
 
 pub loop-round-init : goal.loop-round-init
