@@ -6,7 +6,7 @@ use Rattle.swh_base.specs.declared.name.Name.{Name}
 use Rattle.swh_model.specs.Archive.{Bodies, body_of, IsHeld}
 use Rattle.swh_base.specs.Snapshot.{SnapshotBranch}
 use Rattle.swh_graph.specs.Holding.{HoldsSnapshot}
-use Rattle.swh_graph.specs.Root.{BranchLeads, HasHead, HasRootOf, IsRoot, IsRootGap, HasNoRoot}
+use Rattle.swh_graph.specs.Root.{BranchLeads, HasHead, HasRootOf, IsRootGap, HasNoRoot}
 use Rattle.swh_graph.specs.Rounds.{LeadsNext}
 use Rattle.swh_graph.proofs.Lists.{not_none}
 use Rattle.swh_graph.proofs.OneRoot.{one_step, folder_stops, step_held, one_held_snapshot}
