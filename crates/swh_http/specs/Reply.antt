@@ -29,7 +29,11 @@ type_line json =
 abbrev pub closing : Bool → List ℕ
 closing keep = if keep then [] else codes "Connection: close\r\n"
 
-unfoldable pub reply_text : Reply → Bool → List ℕ
-reply_text reply keep =
+-- the lines before the body, and the empty line that ends them
+unfoldable pub head_text : Reply → Bool → List ℕ
+head_text reply keep =
     status_line reply.status ++ length_line (length reply.body) ++ type_line reply.json ++ closing keep
-    ++ codes "\r\n" ++ reply.body
+    ++ codes "\r\n"
+
+abbrev pub reply_text : Reply → Bool → List ℕ
+reply_text reply keep = head_text reply keep ++ reply.body

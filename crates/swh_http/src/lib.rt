@@ -15,5 +15,5 @@ mod state;
 
 pub use ask::Ask;
 pub use laws::{any_pieces, one_answer};
-pub use reply::reply_bytes;
+pub use reply::{reply_bytes, reply_head};
 pub use session::Session;

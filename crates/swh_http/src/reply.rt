@@ -2,6 +2,7 @@
 ghost use Rattle.std.specs.Prelude.{◌≡◌, ◌++◌, IfOk, OnOk, decimal};
 ghost use Rattle.http.specs.StatusCode.{IsStatusCode};
 ghost use Rattle.swh_http.specs.Reply.{
+  head_text,
   reply_text,
   phrase_of,
   closing,
@@ -70,19 +71,28 @@ fn closing(keep: bool) -> &'static [u8]
     if keep { b"" } else { b"Connection: close\r\n" }
 }
 
-/// The bytes of a reply, whose status is a number of three digits from 200 on, and neither 204, 205 nor 304: a reply with
-/// one of these has no body. A connection that is not kept is said to close.
+/// The head of a reply: its bytes up to the body, so that a body can be put without a copy of it. The status is a number
+/// of three digits from 200 on, and neither 204, 205 nor 304: a reply with one of these has no body. A connection that is
+/// not kept is said to close.
+pub fn reply_head(alloc: Global, reply: &Reply, keep: bool) -> Result<Vec<u8>, Memory>
+    requires { HasBody reply.now.status }
+    ensures { IfOk result (λ head. head.items ≡ head_text reply.now keep) }
+{
+    let mut text = Vec::new(alloc);
+    push_status(&mut text, reply.status)?;
+    push_length(&mut text, reply.body.as_slice().len() as u64)?;
+    text.extend_from_slice(type_line(reply.json))?;
+    text.extend_from_slice(closing(keep))?;
+    text.extend_from_slice(b"\r\n")?;
+    Ok(text)
+}
+
+/// The bytes of a reply, which are those of its head and of its body. Its status is as `reply_head` has it.
 pub fn reply_bytes(alloc: Global, reply: &Reply, keep: bool) -> Result<Vec<u8>, Memory>
     requires { HasBody reply.now.status }
     ensures { IfOk result (λ bytes. bytes.items ≡ reply_text reply.now keep) }
 {
-    let body = reply.body.as_slice();
-    let mut text = Vec::new(alloc);
-    push_status(&mut text, reply.status)?;
-    push_length(&mut text, body.len() as u64)?;
-    text.extend_from_slice(type_line(reply.json))?;
-    text.extend_from_slice(closing(keep))?;
-    text.extend_from_slice(b"\r\n")?;
-    text.extend_from_slice(body)?;
+    let mut text = reply_head(alloc, reply, keep)?;
+    text.extend_from_slice(reply.body.as_slice())?;
     Ok(text)
 }

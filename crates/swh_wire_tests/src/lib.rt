@@ -6,10 +6,16 @@
 #[cfg(test)]
 mod api;
 #[cfg(test)]
+mod asked;
+#[cfg(test)]
 mod clients;
+#[cfg(test)]
+mod known;
 #[cfg(test)]
 mod paths;
 #[cfg(test)]
 mod replies;
 #[cfg(test)]
 mod sessions;
+#[cfg(test)]
+mod values;

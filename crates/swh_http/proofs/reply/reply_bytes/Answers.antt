@@ -1,9 +1,5 @@
-use Rattle.std.proofs.Common.{refl}
-use Rattle.swh_http.specs.Reply.{reply_text}
 use Rattle.swh_http.proofs.reply.reply_bytes.Goals as goal
 
 pub returns : goal.returns
-unfolding reply_text
 returns c =
-    rw (c.in_ok-extend_from_slice-4.ensures.items, c.in_ok-extend_from_slice-3.ensures.items, c.in_ok-extend_from_slice-2.ensures.items, c.in_ok-extend_from_slice.ensures.items, c.in_ok-push_length.ensures, c.in_ok-push_status.ensures, c.new-text.ensures.items, c.type_line.ensures, c.closing.ensures, c.as_slice-body.ensures)
-    refl
+    rw (c.in_ok-extend_from_slice.ensures.items, c.in_ok-text.ensures, c.as_slice.ensures)

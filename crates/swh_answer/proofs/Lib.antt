@@ -1,0 +1,6 @@
+pub mod Shapes
+pub mod Lasts
+pub mod Values
+pub mod Names
+pub mod IdTexts
+pub mod Unique

@@ -1,0 +1,5 @@
+pub mod Shape
+pub mod Json
+pub mod Known
+pub mod Steps
+pub mod Answers

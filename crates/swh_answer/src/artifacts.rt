@@ -1,0 +1,166 @@
+// Artifacts as JSON.
+ghost use Rattle.std.specs.Prelude.{◌≡◌, IfOk, OnOk};
+ghost use Rattle.serde_json.specs.Data.{object, put as put_member};
+ghost use Rattle.serde_json.specs.View.{view, members_view};
+ghost use Rattle.swh_base.specs.Escape.{escaped};
+ghost use Rattle.swh_dirfmt.specs.Entries.{entry_view, entries_in_body};
+ghost use Rattle.swh_revfmt.specs.Reading.{revision_spelled, release_spelled};
+ghost use Rattle.swh_snpfmt.specs.Branches.{target_spelled, branches_in_body};
+ghost use Rattle.swh_answer.specs.Json.{revision_data, log_data, release_data, entry_data, directory_data, target_data, target_members, branches_data, snapshot_data, content_data, resolved_data};
+
+use crate::value::{id_value, ids_value, text_value};
+use crate::words::{core_string, entry_type, perms_of, word_of_kind};
+use serde_json::{Map, Value, json, put};
+use std::alloc::{AllocError, Global};
+use swh_base::{Name, escape};
+use swh_dirfmt::{DirEntry, SpelledEntry};
+use swh_revfmt::{SpelledRel, SpelledRev};
+use swh_snpfmt::{SpelledBranch, SpelledTarget};
+
+/// A revision: its directory, its parents in order, and the rest of its body.
+pub fn revision_value(
+    alloc: Global,
+    id: &[u8; 20],
+    rev: &SpelledRev<'_>,
+) -> Result<Value, AllocError>
+    ensures { IfOk result (λ value. view value ≡ revision_data id.now (revision_spelled rev.now)) }
+{
+    let directory = id_value(alloc, &rev.directory)?;
+    let own = id_value(alloc, id)?;
+    let parents = ids_value(alloc, rev.parents.as_slice())?;
+    let rest = text_value(alloc, rev.rest)?;
+    json!(in alloc; {"directory": directory, "id": own, "parents": parents, "rest": rest})
+}
+
+/// The ids of a log's revisions, in order.
+pub fn log_value(alloc: Global, names: &[Name]) -> Result<Value, AllocError>
+    ensures { IfOk result (λ value. view value ≡ log_data names.now) }
+{
+    let mut values = Vec::new(alloc);
+    for name in names {
+        values.push(id_value(alloc, &name.id)?)?;
+    }
+    Ok(Value::Array(values))
+}
+
+/// A release: its name, the object that it names, and the rest of its body.
+pub fn release_value(
+    alloc: Global,
+    id: &[u8; 20],
+    rel: &SpelledRel<'_>,
+) -> Result<Value, AllocError>
+    ensures { IfOk result (λ value. view value ≡ release_data id.now (release_spelled rel.now)) }
+{
+    let own = id_value(alloc, id)?;
+    let name = text_value(alloc, rel.tag)?;
+    let rest = text_value(alloc, rel.rest)?;
+    let target = id_value(alloc, &rel.object.id)?;
+    let kind = word_of_kind(rel.object.kind);
+    json!(in alloc; {"id": own, "name": name, "rest": rest, "target": target, "target_type": kind})
+}
+
+fn entry_object(alloc: Global, mode: u32, name: &[u8], id: &[u8; 20]) -> Result<Value, AllocError>
+    ensures { IfOk result (λ value. view value
+        ≡ entry_data (record { mode = mode; name = name.now; id = id.now })) }
+{
+    let name = text_value(alloc, name)?;
+    let target = id_value(alloc, id)?;
+    let perms = perms_of(mode);
+    let kind = entry_type(mode);
+    json!(in alloc; {"name": name, "perms": perms, "target": target, "type": kind})
+}
+
+/// An entry of a directory, by itself.
+pub fn entry_value(alloc: Global, entry: &DirEntry) -> Result<Value, AllocError>
+    ensures { IfOk result (λ value. view value ≡ entry_data (entry_view entry.now)) }
+{
+    entry_object(alloc, entry.mode, entry.name.as_slice(), &entry.id)
+}
+
+/// The entries of a directory, in their order.
+pub fn directory_value(alloc: Global, entries: &[SpelledEntry<'_>]) -> Result<Value, AllocError>
+    ensures { IfOk result (λ value. view value ≡ directory_data (entries_in_body entries.now)) }
+{
+    let mut values = Vec::new(alloc);
+    for entry in entries {
+        values.push(entry_object(alloc, entry.mode, entry.name, entry.id)?)?;
+    }
+    Ok(Value::Array(values))
+}
+
+fn target_object(alloc: Global, target: Value, kind: &str) -> Result<Value, AllocError>
+    ensures { IfOk result (λ value. view value ≡ target_members (view target) kind.now) }
+{
+    json!(in alloc; {"target": target, "target_type": kind})
+}
+
+fn target_value(alloc: Global, target: &SpelledTarget<'_>) -> Result<Value, AllocError>
+    ensures { IfOk result (λ value. view value ≡ target_data (target_spelled target.now)) }
+{
+    match target {
+        SpelledTarget::Object(kind, id) => {
+            let target = id_value(alloc, *id)?;
+            target_object(alloc, target, word_of_kind(*kind))
+        }
+        SpelledTarget::Alias(name) => {
+            let target = text_value(alloc, name)?;
+            target_object(alloc, target, "alias")
+        }
+        SpelledTarget::Dangling => Ok(Value::Null),
+    }
+}
+
+// One more branch, at its escaped name.
+fn put_branch(
+    alloc: Global,
+    members: &mut Map<String, Value>,
+    branch: &SpelledBranch<'_>,
+) -> Result<(), AllocError>
+    ensures { OnOk result (members_view members.new.entries ≡ put_member (escaped branch.now.name.now)
+        (target_data (target_spelled branch.now.target)) (members_view members.old.entries)) }
+{
+    let name = escape(alloc, branch.name)?;
+    let target = target_value(alloc, &branch.target)?;
+    put(members, alloc, name.as_str(), target)
+}
+
+fn branches_value(alloc: Global, branches: &[SpelledBranch<'_>]) -> Result<Value, AllocError>
+    ensures { IfOk result (λ value. view value ≡ object (branches_data (branches_in_body branches.now))) }
+{
+    let mut members = Map::new(alloc);
+    for branch in branches {
+        put_branch(alloc, &mut members, branch)?;
+    }
+    Ok(Value::Object(members))
+}
+
+/// A snapshot: its branches by their escaped names.
+pub fn snapshot_value(
+    alloc: Global,
+    id: &[u8; 20],
+    branches: &[SpelledBranch<'_>],
+) -> Result<Value, AllocError>
+    ensures { IfOk result (λ value. view value ≡ snapshot_data id.now (branches_in_body branches.now)) }
+{
+    let branches = branches_value(alloc, branches)?;
+    let own = id_value(alloc, id)?;
+    json!(in alloc; {"branches": branches, "id": own})
+}
+
+/// The length of a body, and the core identifier of its name.
+pub fn content_value(alloc: Global, name: &Name, body: &[u8]) -> Result<Value, AllocError>
+    ensures { IfOk result (λ value. view value ≡ content_data name.now body.now) }
+{
+    let swhid = core_string(alloc, name)?;
+    let length = body.len();
+    json!(in alloc; {"length": length, "swhid": swhid})
+}
+
+/// The object to which a SWHID leads.
+pub fn resolved_value(alloc: Global, name: &Name) -> Result<Value, AllocError>
+    ensures { IfOk result (λ value. view value ≡ resolved_data name.now) }
+{
+    let id = id_value(alloc, &name.id)?;
+    let kind = word_of_kind(name.kind);
+    json!(in alloc; {"object_id": id, "object_type": kind})
+}

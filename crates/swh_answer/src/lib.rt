@@ -1,0 +1,28 @@
+//! Answers of the read API: what a path asks for, and artifacts, visits and refusals as JSON.
+//! Stands on `swh_base`, `swh_pieces`, `swh_model`, the formats of manifests, `swh_swhid`, `json`, `serde_json`,
+//! `percent_encoding` and `hex`.
+//! Callers may rely on: a path asks for one thing at most, and each text is the definition's.
+#![tactic(auto)]
+
+mod artifacts;
+mod asked;
+mod known;
+mod laws;
+mod replies;
+mod value;
+mod visits;
+mod words;
+
+pub use artifacts::{
+    content_value, directory_value, entry_value, log_value, release_value, resolved_value,
+    revision_value, snapshot_value,
+};
+pub use asked::{Asked, read_path};
+pub use known::{known_value, listed_names};
+pub use laws::one_shape;
+pub use replies::{
+    content_reply, core_of, id_of, known_reply, no_path, not_held, origin_reply, raw_reply,
+    refusal, url_of, visits_reply,
+};
+pub use value::json_reply;
+pub use visits::{origin_value, visits_value};
