@@ -1,5 +1,5 @@
 -- That there is one reply.
-use Rattle.std.proofs.Common.{◌≡◌, ◌⊎◌, inl, inr, ℕ, List, [], ◌∷◌, ◌++◌, map, refl, sym, ap, ap₂, ◌∙◌}
+use Rattle.std.proofs.Common.{◌≡◌, inl, inr, ℕ, List, [], ◌∷◌, refl, sym, ap, ap₂, ◌∙◌}
 use Rattle.std.specs.List.{AllByRecursion}
 use Rattle.json.specs.Token as token
 use Rattle.serde_json.specs.Data.{Data}
@@ -12,7 +12,7 @@ use Rattle.swh_model.specs.Archive.{Archive, body_of, visits_of}
 use Rattle.swh_swhid.specs.Core.{core_text}
 use Rattle.swh_swhid.proofs.Cores.{core-injective}
 use Rattle.swh_answer.specs.Json.{content_data, known_data, tree_reply}
-use Rattle.swh_answer.specs.Known.{name_token, later_tokens, ListsNames}
+use Rattle.swh_answer.specs.Known.{later_tokens, ListsNames}
 use Rattle.swh_answer.specs.Answers.{SpellsUrl, SpellsId, SpellsCore, of_visits, of_body, content_name, plain_reply, IsOriginReply, IsContentReply, IsRawReply, IsKnownReply}
 
 -- ---- texts

@@ -1,7 +1,7 @@
 -- What is answered as JSON: visits, artifacts and refusals as trees, with members by their keys' bytes.
-use Rattle.std.specs.Prelude.{ℕ, ◌==◌, if◌then◌else◌, Bool, true, Option, Some, None, List, [], ◌∷◌, map, reverse, length, is_some, codes}
+use Rattle.std.specs.Prelude.{ℕ, ◌==◌, if◌then◌else◌, true, Option, Some, None, List, [], ◌∷◌, map, reverse, length, is_some, codes}
 use Rattle.hex.specs.Hex.{encode_lower}
-use Rattle.serde_json.specs.Data.{Data, null, boolean, number, unsigned, string, array, object, Items, Members, no_members, member, put}
+use Rattle.serde_json.specs.Data.{Data, null, boolean, number, unsigned, string, array, object, Members, no_members, member, put}
 use Rattle.serde_json.specs.View.{items_of}
 use Rattle.serde_json.specs.Written.{compact_text}
 use Rattle.swh_base.specs.declared.name.Name.{Name}

@@ -1,4 +1,4 @@
-use Rattle.std.proofs.Common.{◌≡◌, map, take}
+use Rattle.std.proofs.Common.{◌≡◌, take}
 use Rattle.serde_json.specs.View.{members_view}
 use Rattle.swh_snpfmt.specs.Branches.{branches_in_body}
 use Rattle.swh_answer.specs.Json.{branches_data}

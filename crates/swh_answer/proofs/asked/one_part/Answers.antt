@@ -1,4 +1,4 @@
-use Rattle.std.proofs.Common.{◌≢◌, [], sym, ◌∙◌}
+use Rattle.std.proofs.Common.{sym, ◌∙◌}
 use Rattle.swh_answer.proofs.Shapes.{not_one_part, not_empty}
 use Rattle.swh_answer.proofs.asked.one_part.Goals as goal
 

@@ -1,5 +1,4 @@
-use Rattle.std.proofs.Common.{sym, ◌∙◌}
-use Rattle.swh_answer.specs.Shape.{Shape, Spells}
+use Rattle.std.proofs.Common.{◌∙◌}
 use Rattle.swh_answer.proofs.Shapes.{IfNone-weaker, no_word, parts_of}
 use Rattle.swh_answer.proofs.asked.read_path.Goals as goal
 

@@ -1,4 +1,4 @@
-use Rattle.std.proofs.Common.{◌≡◌, ◌++◌, ℕ, List, refl}
+use Rattle.std.proofs.Common.{refl}
 use Rattle.swh_http.specs.Reply.{head_text}
 use Rattle.swh_http.proofs.reply.reply_head.Goals as goal
 
