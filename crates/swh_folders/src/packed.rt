@@ -113,6 +113,14 @@ impl Packed {
         }
     }
 
+    /// A place at which to look first for a name, with what it is compared with after it.
+    pub fn guess(&self, names: &[Vec<u8>], name: &[u8], end: &[u8]) -> usize {
+        match &self.form {
+            Form::Flat(flat) => flat.len() / 2,
+            Form::Cut(spans) => spans.guess(names, name, end),
+        }
+    }
+
     /// A copy of the entries. Fails where memory runs out.
     pub fn entries(&self, alloc: Global) -> Result<Vec<Entry>, AllocError>
         ensures { IfOk result (λ v. v.items ≡ self.now.items) }
