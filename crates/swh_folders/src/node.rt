@@ -173,17 +173,17 @@ pub fn child_in(names: &[Vec<u8>], node: &Packed, name: &[u8]) -> Option<Child>
 pub fn kept(
     alloc: Global,
     names: &[Vec<u8>],
-    node: &Packed,
+    node: Packed,
     name: &[u8],
 ) -> Result<Packed, AllocError>
-    requires names { All (λ e. e.name < length names.now) node.now.items }
-    requires ordered { AreOrdered (texts names.now) node.now.items }
-    ensures { (at : ℕ → Forest) → IsSound (forest_of (texts names.now) at node.now.items)
-        → IfOk result (λ p. p.items ≡ entries_without (texts names.now) name.now node.now.items) }
+    requires names { All (λ e. e.name < length names.now) node.items }
+    requires ordered { AreOrdered (texts names.now) node.items }
+    ensures { (at : ℕ → Forest) → IsSound (forest_of (texts names.now) at node.items)
+        → IfOk result (λ p. p.items ≡ entries_without (texts names.now) name.now node.items) }
 {
-    match place_of(names, node, name) {
+    match place_of(names, &node, name) {
         Some(place) => node.without(alloc, place),
-        None => node.again(alloc),
+        None => Ok(node),
     }
 }
 
@@ -191,17 +191,17 @@ pub fn kept(
 pub fn with_entry(
     alloc: Global,
     names: &[Vec<u8>],
-    node: &Packed,
+    node: Packed,
     entry: Entry,
 ) -> Result<Packed, AllocError>
     requires entry { entry.name < length names.now }
-    requires others { All (λ f. f.name < length names.now) node.now.items }
-    requires ordered { AreOrdered (texts names.now) node.now.items }
-    ensures { IfOk result (λ p. p.items ≡ entries_with (texts names.now) entry node.now.items) }
+    requires others { All (λ f. f.name < length names.now) node.items }
+    requires ordered { AreOrdered (texts names.now) node.items }
+    ensures { IfOk result (λ p. p.items ≡ entries_with (texts names.now) entry node.items) }
 {
     let name = names[entry.name].as_slice();
     let end = suffix(entry.child);
     let hint = node.guess(names, name, end);
-    let place = above(names, node, hint, name, end);
+    let place = above(names, &node, hint, name, end);
     node.with(alloc, place, entry)
 }

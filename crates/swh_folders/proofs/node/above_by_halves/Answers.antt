@@ -1,5 +1,4 @@
-use Rattle.std.proofs.Common.{rules, ◌≡◌, ◌+◌, ◌-◌, ◌/◌, ◌++◌, ◌<◌, ◌≤◌, ℕ, true, false, length, get_or, sym, ap, ◌∙◌, arith}
-use Rattle.swh_folders.specs.declared.entry.Entry.{Entry}
+use Rattle.std.proofs.Common.{◌≡◌, ◌+◌, ◌-◌, ◌/◌, ◌++◌, ◌<◌, true, false, length, sym, ◌∙◌, arith}
 use Rattle.swh_folders.specs.Arena.{texts, entry_key}
 use Rattle.swh_folders.specs.Forest.{is_before}
 use Rattle.swh_folders.proofs.Orders.{above-step, below-step, middle, name-of}

@@ -1,4 +1,4 @@
-use Rattle.std.proofs.Common.{rules, ◌≡◌, ◌<◌, ◌++◌, true, length, sym, ◌∙◌, arith}
+use Rattle.std.proofs.Common.{rules, ◌≡◌, ◌<◌, ◌++◌, true, length, sym, ◌∙◌}
 use Rattle.swh_folders.specs.Arena.{texts, entry_key}
 use Rattle.swh_folders.specs.Forest.{is_before}
 use Rattle.swh_folders.proofs.Orders.{above-step, name-of}

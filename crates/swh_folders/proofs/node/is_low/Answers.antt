@@ -1,4 +1,4 @@
-use Rattle.std.proofs.Common.{rules, ◌≡◌, ◌-◌, ◌<◌, ◌++◌, false, length, sym, ◌∙◌, arith}
+use Rattle.std.proofs.Common.{◌≡◌, ◌-◌, ◌<◌, ◌++◌, false, length, sym, ◌∙◌, arith}
 use Rattle.swh_folders.specs.Arena.{texts, entry_key}
 use Rattle.swh_folders.specs.Forest.{is_before}
 use Rattle.swh_folders.proofs.Orders.{below-step, name-of}
