@@ -1,14 +1,14 @@
 -- Numbered folders in order, and what is put into them.
-use Rattle.std.proofs.Common.{◌≡◌, ℕ, ◌<◌, ◌≤◌, List, length, get_or, sym, ap, subst, ◌∙◌, All, arith}
+use Rattle.std.proofs.Common.{◌≡◌, ℕ, ◌<◌, List, length, get_or, sym, subst}
 use Rattle.std.specs.Global.{Vec}
 use Rattle.swh_folders.specs.declared.entry.Entry.{Entry}
 use Rattle.swh_folders.specs.Listed.{Listed}
-use Rattle.swh_folders.specs.Arena.{texts, tree_at, forest_of, AreGood, IsArena, Extends}
+use Rattle.swh_folders.specs.Arena.{texts, tree_at, forest_of}
 use Rattle.swh_folders.specs.Forest.{Forest, without}
 use Rattle.swh_folders.specs.Sound.{IsSound}
 use Rattle.swh_folders.specs.Roots.{IsGood}
 use Rattle.swh_folders.specs.Ordered.{AreOrdered}
-use Rattle.swh_folders.proofs.Arenas.{tree-node, names-in_range}
+use Rattle.swh_folders.proofs.Arenas.{tree-node}
 use Rattle.swh_folders.proofs.Sounds.{without-sound}
 use Rattle.swh_folders.proofs.Orders.{ordered}
 

@@ -1,5 +1,5 @@
 -- A sound folder's entries are in order, so halving finds where a name stands.
-use Rattle.std.proofs.Common.{◌≡◌, ◌≢◌, ◌⊎◌, inl, inr, ℕ, suc, zero, ◌+◌, ◌-◌, ◌/◌, ◌<◌, ◌≤◌, Bool, true, false, cond, List, [], ◌∷◌, ◌++◌, length, take, drop, get_or, refl, sym, ap, subst, ◌∙◌, All, arith}
+use Rattle.std.proofs.Common.{◌≡◌, ◌⊎◌, inl, inr, ℕ, suc, zero, ◌+◌, ◌-◌, ◌/◌, ◌<◌, ◌≤◌, Bool, true, false, cond, List, [], ◌∷◌, ◌++◌, length, get_or, refl, sym, ap, subst, ◌∙◌, All, arith}
 use Rattle.std.specs.List.{insert, remove}
 use Rattle.std.specs.Global.{Vec}
 use Rattle.std.specs.Ordering.{nat_cmp, is_lt}
@@ -13,12 +13,12 @@ use Rattle.swh_folders.specs.declared.entry.Child.{Child}
 use Rattle.swh_folders.specs.declared.entry.Child.TheVariants.{File as FileChild, Folder as FolderChild}
 use Rattle.swh_folders.specs.declared.entry.Entry.{Entry}
 use Rattle.swh_folders.specs.Arena.{name_at, stands, forest_of, has_name, entries_without, entries_with, entry_key, suffix, texts, Extends}
-use Rattle.swh_folders.specs.Forest.{Forest, Bare, Stands, Nothing, beside, child_at, is_before}
+use Rattle.swh_folders.specs.Forest.{Forest, Nothing, beside, child_at, is_before}
 use Rattle.swh_folders.specs.PathMap.{same}
 use Rattle.swh_folders.specs.Sound.{IsSound, Follows}
 use Rattle.swh_folders.specs.Packing.{no_leaf}
 use Rattle.swh_folders.specs.Ordered.{AreOrdered, IsAbove}
-use Rattle.swh_folders.proofs.Grafts.{same_is, same_self}
+use Rattle.swh_folders.proofs.Grafts.{same_is}
 use Rattle.swh_folders.proofs.Sounds.{before-trans, follows-back}
 use Rattle.swh_folders.proofs.Steps.{beside-past}
 use Rattle.swh_folders.proofs.Lives.{tail-sound, some-child, child-of-entry}

@@ -7,12 +7,12 @@ use Rattle.swh_folders.specs.declared.spans.Span.TheVariants.{Piece, Fork'}
 -- the entries of all pieces, in their order
 abbrev pub items_of : Span → List Entry
 items_of (Piece v) = v.items
-items_of (Fork' p left q right len depth) = items_of left ++ items_of right
+items_of (Fork' p left q right len depth first) = items_of left ++ items_of right
 
 -- each fork has the number of the entries under it
 abbrev pub is_counted : Span → Bool
 is_counted (Piece v) = true
-is_counted (Fork' p left q right len depth) = len == length (items_of left ++ items_of right) && is_counted left && is_counted right
+is_counted (Fork' p left q right len depth first) = len == length (items_of left ++ items_of right) && is_counted left && is_counted right
 
 abbrev pub IsCounted : Span → Type 0
 IsCounted s = is_counted s ≡ true

@@ -61,7 +61,10 @@ fn cleared(
 {
     match under {
         Some(child) => match child {
-            Child::Folder(i) => kept(alloc, names, &nodes[i], name),
+            Child::Folder(i) => {
+                let copy = nodes[i].again(alloc)?;
+                kept(alloc, names, copy, name)
+            }
             Child::File(_) => Ok(Packed::none(alloc)),
         },
         None => Ok(Packed::none(alloc)),
@@ -92,7 +95,7 @@ fn add_some(
                 name: number,
                 child,
             };
-            with_entry(alloc, names.as_slice(), &out, entry)
+            with_entry(alloc, names.as_slice(), out, entry)
         }
         None => Ok(out),
     }

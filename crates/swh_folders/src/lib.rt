@@ -16,6 +16,7 @@ mod known;
 mod live;
 mod names;
 mod node;
+mod order;
 mod packed;
 mod packing;
 mod path;

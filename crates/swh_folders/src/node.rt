@@ -1,6 +1,6 @@
 //! One folder's entries, in the order of git's directories.
 
-ghost use Rattle.std.specs.Prelude.{◌≡◌, ◌<◌, ◌≤◌, ◌+◌, ◌++◌, ℕ, true, false, length, slice_index_or, All, IfOk, IfSome, IfNone};
+ghost use Rattle.std.specs.Prelude.{◌≡◌, ◌<◌, ◌≤◌, ◌+◌, ◌++◌, ℕ, true, false, length, slice_index_or, IsTrue, All, IfOk, IfSome, IfNone};
 ghost use Rattle.swh_folders.specs.declared.entry.Entry.{Entry};
 ghost use Rattle.swh_folders.specs.Forest.{Forest, child_at, is_before};
 ghost use Rattle.swh_folders.specs.Sound.{IsSound};
@@ -21,6 +21,7 @@ ghost use Rattle.swh_folders.specs.Arena.{
 };
 
 use crate::entry::{Child, Entry};
+use crate::order::{comes_before, suffix};
 use crate::packed::Packed;
 use std::alloc::{AllocError, Global};
 
@@ -32,34 +33,60 @@ fn is_name(names: &[Vec<u8>], number: usize, name: &[u8]) -> bool
     names[number].as_slice() == name
 }
 
-/// What a name is compared with after its own bytes.
-fn suffix(child: Child) -> &'static [u8]
-    ensures { result.now ≡ suffix child }
+/// Whether the name, with what it is compared with after it, comes before no entry in front of this place.
+fn is_low(names: &[Vec<u8>], node: &Packed, place: usize, name: &[u8], end: &[u8]) -> bool
+    requires names { All (λ f. f.name < length names.now) node.now.items }
+    requires ordered { AreOrdered (texts names.now) node.now.items }
+    requires within { place ≤ length node.now.items }
+    ensures { IsTrue result → (k : ℕ) (d : Entry) → k < place
+        → is_before (name.now ++ end.now) (entry_key (texts names.now) (slice_index_or node.now.items k d)) ≡ false }
 {
-    match child {
-        Child::File(_) => b"",
-        Child::Folder(_) => b"/",
+    if place == 0 {
+        return true;
     }
+    let before = comes_before(names, name, end, node.at(place - 1));
+    if before {
+        return false;
+    }
+    true
 }
 
-/// Whether the first name, with what it is compared with after it, comes before the second.
-fn is_less(a: &[u8], a_end: &[u8], b: &[u8], b_end: &[u8]) -> bool
-    ensures { result ≡ is_before (a.now ++ a_end.now) (b.now ++ b_end.now) }
+/// Whether the name, with what it is compared with after it, comes before each entry from this place on.
+fn is_high(names: &[Vec<u8>], node: &Packed, place: usize, name: &[u8], end: &[u8]) -> bool
+    requires names { All (λ f. f.name < length names.now) node.now.items }
+    requires ordered { AreOrdered (texts names.now) node.now.items }
+    requires within { place ≤ length node.now.items }
+    ensures { IsTrue result → (k : ℕ) (d : Entry) → place ≤ k → k < length node.now.items
+        → is_before (name.now ++ end.now) (entry_key (texts names.now) (slice_index_or node.now.items k d)) ≡ true }
 {
-    let key = a.iter().chain(a_end);
-    key.cmp(b.iter().chain(b_end)).is_lt()
+    if place == node.len() {
+        return true;
+    }
+    let before = comes_before(names, name, end, node.at(place));
+    if before {
+        return true;
+    }
+    false
 }
 
-/// Whether this name, with what it is compared with after it, comes before the entry.
-fn comes_before(names: &[Vec<u8>], name: &[u8], end: &[u8], f: Entry) -> bool
-    requires { f.name < length names.now }
-    ensures { result ≡ is_before (name.now ++ end.now) (entry_key (texts names.now) f) }
+/// Whether this is the place of the first entry that this name, with what it is compared with after it, comes before.
+fn is_above(names: &[Vec<u8>], node: &Packed, place: usize, name: &[u8], end: &[u8]) -> bool
+    requires names { All (λ f. f.name < length names.now) node.now.items }
+    requires ordered { AreOrdered (texts names.now) node.now.items }
+    ensures { IsTrue result → IsAbove (texts names.now) (name.now ++ end.now) node.now.items place }
 {
-    is_less(name, end, names[f.name].as_slice(), suffix(f.child))
+    if place > node.len() {
+        return false;
+    }
+    let low = is_low(names, node, place, name, end);
+    if !low {
+        return false;
+    }
+    is_high(names, node, place, name, end)
 }
 
 /// The place of the first entry that this name, with what it is compared with after it, comes before.
-fn above(names: &[Vec<u8>], node: &Packed, name: &[u8], end: &[u8]) -> usize
+fn above_by_halves(names: &[Vec<u8>], node: &Packed, name: &[u8], end: &[u8]) -> usize
     requires names { All (λ f. f.name < length names.now) node.now.items }
     requires ordered { AreOrdered (texts names.now) node.now.items }
     ensures { IsAbove (texts names.now) (name.now ++ end.now) node.now.items result }
@@ -76,6 +103,20 @@ fn above(names: &[Vec<u8>], node: &Packed, name: &[u8], end: &[u8]) -> usize
         }
     }
     low
+}
+
+/// The place of the first entry that this name, with what it is compared with after it, comes before: a hint, where it
+/// is right, or else what halving finds.
+fn above(names: &[Vec<u8>], node: &Packed, hint: usize, name: &[u8], end: &[u8]) -> usize
+    requires names { All (λ f. f.name < length names.now) node.now.items }
+    requires ordered { AreOrdered (texts names.now) node.now.items }
+    ensures { IsAbove (texts names.now) (name.now ++ end.now) node.now.items result }
+{
+    let right = is_above(names, node, hint, name, end);
+    if right {
+        return hint;
+    }
+    above_by_halves(names, node, name, end)
 }
 
 /// The place before this one, where its entry has this name.
@@ -106,11 +147,11 @@ fn place_of(names: &[Vec<u8>], node: &Packed, name: &[u8]) -> Option<usize>
         → has_name (texts names.now) name.now (slice_index_or node.now.items k d) ≡ true) }
     ensures none { IfNone result (All (λ f. has_name (texts names.now) name.now f ≡ false) node.now.items) }
 {
-    let behind_file = above(names, node, name, b"");
+    let behind_file = above(names, node, node.guess(names, name, b""), name, b"");
     if let Some(place) = place_before(names, node, behind_file, name) {
         return Some(place);
     }
-    let behind_folder = above(names, node, name, b"/");
+    let behind_folder = above(names, node, behind_file, name, b"/");
     place_before(names, node, behind_folder, name)
 }
 
@@ -132,17 +173,17 @@ pub fn child_in(names: &[Vec<u8>], node: &Packed, name: &[u8]) -> Option<Child>
 pub fn kept(
     alloc: Global,
     names: &[Vec<u8>],
-    node: &Packed,
+    node: Packed,
     name: &[u8],
 ) -> Result<Packed, AllocError>
-    requires names { All (λ e. e.name < length names.now) node.now.items }
-    requires ordered { AreOrdered (texts names.now) node.now.items }
-    ensures { (at : ℕ → Forest) → IsSound (forest_of (texts names.now) at node.now.items)
-        → IfOk result (λ p. p.items ≡ entries_without (texts names.now) name.now node.now.items) }
+    requires names { All (λ e. e.name < length names.now) node.items }
+    requires ordered { AreOrdered (texts names.now) node.items }
+    ensures { (at : ℕ → Forest) → IsSound (forest_of (texts names.now) at node.items)
+        → IfOk result (λ p. p.items ≡ entries_without (texts names.now) name.now node.items) }
 {
-    match place_of(names, node, name) {
+    match place_of(names, &node, name) {
         Some(place) => node.without(alloc, place),
-        None => node.again(alloc),
+        None => Ok(node),
     }
 }
 
@@ -150,15 +191,17 @@ pub fn kept(
 pub fn with_entry(
     alloc: Global,
     names: &[Vec<u8>],
-    node: &Packed,
+    node: Packed,
     entry: Entry,
 ) -> Result<Packed, AllocError>
     requires entry { entry.name < length names.now }
-    requires others { All (λ f. f.name < length names.now) node.now.items }
-    requires ordered { AreOrdered (texts names.now) node.now.items }
-    ensures { IfOk result (λ p. p.items ≡ entries_with (texts names.now) entry node.now.items) }
+    requires others { All (λ f. f.name < length names.now) node.items }
+    requires ordered { AreOrdered (texts names.now) node.items }
+    ensures { IfOk result (λ p. p.items ≡ entries_with (texts names.now) entry node.items) }
 {
     let name = names[entry.name].as_slice();
-    let place = above(names, node, name, suffix(entry.child));
+    let end = suffix(entry.child);
+    let hint = node.guess(names, name, end);
+    let place = above(names, &node, hint, name, end);
     node.with(alloc, place, entry)
 }

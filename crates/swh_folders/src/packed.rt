@@ -10,13 +10,14 @@ use crate::spans::Spans;
 use std::alloc::{AllocError, Global};
 use std::marker::Model;
 
-/// A folder of more entries is cut into pieces before it is changed; of one that has fewer a change copies all.
+/// A folder of more entries is cut into pieces before it is changed.
 const FEW: usize = 64;
 
-/// How entries are kept.
+/// How entries are kept: in the room that they need, or, ready for changes, in one list or in pieces.
 #[derive(Drop)]
 pub enum Form {
     Flat(Flat),
+    Loose(Vec<Entry>),
     Cut(Spans),
 }
 
@@ -38,15 +39,18 @@ impl Model for Packed {
     ghost view = { λ p. listed_of p.form };
 }
 
-/// These entries, cut where they are many.
-fn ready(alloc: Global, entries: &[Entry]) -> Result<Packed, AllocError>
-    ensures { IfOk result (λ p. p.items ≡ entries.now) }
+/// These entries, ready for changes: cut where they are many.
+fn ready(alloc: Global, entries: Vec<Entry>) -> Result<Packed, AllocError>
+    ensures { IfOk result (λ p. p.items ≡ entries.items) }
 {
-    if entries.len() <= FEW {
-        return Packed::of(alloc, entries);
+    let cost = entries.len();
+    if cost <= FEW {
+        return Ok(Packed {
+            form: Form::Loose(entries),
+            cost,
+        });
     }
-    let spans = Spans::of(alloc, entries)?;
-    let cost = spans.len();
+    let spans = Spans::of(alloc, entries.as_slice())?;
     Ok(Packed {
         form: Form::Cut(spans),
         cost,
@@ -93,6 +97,7 @@ impl Packed {
     {
         match &self.form {
             Form::Flat(flat) => flat.len(),
+            Form::Loose(entries) => entries.len(),
             Form::Cut(spans) => spans.len(),
         }
     }
@@ -109,7 +114,17 @@ impl Packed {
     {
         match &self.form {
             Form::Flat(flat) => flat.at(place),
+            Form::Loose(entries) => entries[place],
             Form::Cut(spans) => spans.at(place),
+        }
+    }
+
+    /// A place at which to look first for a name, with what it is compared with after it.
+    pub fn guess(&self, names: &[Vec<u8>], name: &[u8], end: &[u8]) -> usize {
+        match &self.form {
+            Form::Flat(flat) => flat.len(),
+            Form::Loose(entries) => entries.len(),
+            Form::Cut(spans) => spans.guess(names, name, end),
         }
     }
 
@@ -119,45 +134,57 @@ impl Packed {
     {
         match &self.form {
             Form::Flat(flat) => flat.entries(alloc),
+            Form::Loose(entries) => Ok(Vec::from_slice(alloc, entries.as_slice())?),
             Form::Cut(spans) => spans.entries(alloc),
         }
     }
 
-    /// The same entries, ready for a change. Fails where memory runs out.
+    /// The same entries, ready for changes. Fails where memory runs out.
     pub fn again(&self, alloc: Global) -> Result<Packed, AllocError>
         ensures { IfOk result (λ p. p.items ≡ self.now.items) }
     {
         match &self.form {
-            Form::Flat(flat) => ready(alloc, flat.entries(alloc)?.as_slice()),
+            Form::Flat(flat) => ready(alloc, flat.entries(alloc)?),
+            Form::Loose(entries) => ready(alloc, Vec::from_slice(alloc, entries.as_slice())?),
             Form::Cut(spans) => Ok(changed(spans.again()?)),
         }
     }
 
     /// One entry more, at a place. Fails where memory runs out.
-    pub fn with(&self, alloc: Global, place: usize, entry: Entry) -> Result<Packed, AllocError>
-        requires { place ≤ length self.now.items }
-        ensures { IfOk result (λ p. p.items ≡ insert self.now.items place entry) }
+    pub fn with(self, alloc: Global, place: usize, entry: Entry) -> Result<Packed, AllocError>
+        requires { place ≤ length self.items }
+        ensures { IfOk result (λ p. p.items ≡ insert self.items place entry) }
     {
-        match &self.form {
+        match self.form {
             Form::Flat(flat) => {
                 let mut entries = flat.entries(alloc)?;
                 entries.insert(place, entry)?;
-                ready(alloc, entries.as_slice())
+                ready(alloc, entries)
+            }
+            Form::Loose(loose) => {
+                let mut entries = loose;
+                entries.insert(place, entry)?;
+                ready(alloc, entries)
             }
             Form::Cut(spans) => Ok(changed(spans.with(alloc, place, entry)?)),
         }
     }
 
     /// All entries but the one at a place. Fails where memory runs out.
-    pub fn without(&self, alloc: Global, place: usize) -> Result<Packed, AllocError>
-        requires { place < length self.now.items }
-        ensures { IfOk result (λ p. p.items ≡ remove self.now.items place) }
+    pub fn without(self, alloc: Global, place: usize) -> Result<Packed, AllocError>
+        requires { place < length self.items }
+        ensures { IfOk result (λ p. p.items ≡ remove self.items place) }
     {
-        match &self.form {
+        match self.form {
             Form::Flat(flat) => {
                 let mut entries = flat.entries(alloc)?;
                 let _ = entries.remove(place);
-                ready(alloc, entries.as_slice())
+                ready(alloc, entries)
+            }
+            Form::Loose(loose) => {
+                let mut entries = loose;
+                let _ = entries.remove(place);
+                ready(alloc, entries)
             }
             Form::Cut(spans) => Ok(changed(spans.without(alloc, place)?)),
         }

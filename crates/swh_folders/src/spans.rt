@@ -8,6 +8,7 @@ ghost use Rattle.swh_folders.specs.declared.entry.Entry.{Entry};
 ghost use Rattle.swh_folders.specs.Spans.{items_of, IsCounted};
 
 use crate::entry::Entry;
+use crate::order::is_name_before;
 use std::alloc::{AllocError, Global};
 use std::marker::Model;
 use std::rc::Rc;
@@ -15,11 +16,11 @@ use std::rc::Rc;
 /// The most entries of a piece.
 const PIECE: usize = 16;
 
-/// A piece, or two sides with the number of their entries and how deep they are.
+/// A piece, or two sides with the number of their entries, how deep they are, and a copy of their first entry.
 #[derive(Drop)]
 pub enum Span {
     Piece(Vec<Entry>),
-    Fork(Rc<Span>, Rc<Span>, usize, usize),
+    Fork(Rc<Span>, Rc<Span>, usize, usize, Option<Entry>),
 }
 
 /// How many entries there are.
@@ -29,7 +30,7 @@ fn len_of(span: &Span) -> usize
 {
     match span {
         Span::Piece(entries) => entries.len(),
-        Span::Fork(_, _, len, _) => *len,
+        Span::Fork(_, _, len, _, _) => *len,
     }
 }
 
@@ -37,7 +38,52 @@ fn len_of(span: &Span) -> usize
 fn depth_of(span: &Span) -> usize {
     match span {
         Span::Piece(_) => 0,
-        Span::Fork(_, _, _, depth) => *depth,
+        Span::Fork(_, _, _, depth, _) => *depth,
+    }
+}
+
+/// The first entry, where there is one.
+fn first_of(span: &Span) -> Option<Entry> {
+    match span {
+        Span::Piece(entries) => entries.first().copied(),
+        Span::Fork(_, _, _, _, first) => *first,
+    }
+}
+
+/// Whether a name, with what it is compared with after it, comes before an entry; where there is none, it does.
+fn is_in_front(names: &[Vec<u8>], entry: Option<Entry>, name: &[u8], end: &[u8]) -> bool {
+    match entry {
+        Some(entry) => is_name_before(names, name, end, entry),
+        None => true,
+    }
+}
+
+/// How many entries there are up to the first that a name, with what it is compared with after it, comes before.
+fn count_up_to(names: &[Vec<u8>], entries: &[Entry], name: &[u8], end: &[u8]) -> usize {
+    let mut count: usize = 0;
+    for entry in entries {
+        if is_name_before(names, name, end, *entry) {
+            return count;
+        }
+        count = count.saturating_add(1);
+    }
+    count
+}
+
+/// A place at which a name, with what it is compared with after it, may be looked for: right where the entries are in
+/// order.
+fn guess_in(span: &Span, names: &[Vec<u8>], name: &[u8], end: &[u8]) -> usize
+    requires { IsCounted span.now }
+{
+    match span {
+        Span::Piece(entries) => count_up_to(names, entries.as_slice(), name, end),
+        Span::Fork(left, right, _, _, _) => {
+            if is_in_front(names, first_of(right), name, end) {
+                guess_in(left, names, name, end)
+            } else {
+                len_of(left).saturating_add(guess_in(right, names, name, end))
+            }
+        }
     }
 }
 
@@ -49,7 +95,7 @@ fn entry_at(span: &Span, place: usize) -> Entry
 {
     match span {
         Span::Piece(entries) => entries[place],
-        Span::Fork(left, right, _, _) => {
+        Span::Fork(left, right, _, _, _) => {
             let before = len_of(left);
             if place < before {
                 entry_at(left, place)
@@ -79,7 +125,8 @@ fn fork(alloc: Global, left: Rc<Span>, right: Rc<Span>) -> Result<Rc<Span>, Allo
         return Err(AllocError);
     };
     let deeper = depth_of(&left).max(depth_of(&right)).saturating_add(1);
-    Ok(Rc::new(alloc, Span::Fork(left, right, total, deeper))?)
+    let first = first_of(&left);
+    Ok(Rc::new(alloc, Span::Fork(left, right, total, deeper, first))?)
 }
 
 /// The entries of three sides, where the one in the middle may be cut.
@@ -101,7 +148,7 @@ fn cut_middle(
             let after = fork(alloc, middle.clone()?, right)?;
             fork(alloc, left, after)
         }
-        Span::Fork(near, far, _, _) => {
+        Span::Fork(near, far, _, _, _) => {
             let before = fork(alloc, left, near.clone()?)?;
             let after = fork(alloc, far.clone()?, right)?;
             fork(alloc, before, after)
@@ -118,7 +165,7 @@ fn lean_left(alloc: Global, left: Rc<Span>, right: Rc<Span>) -> Result<Rc<Span>,
 {
     match left.as_ref() {
         Span::Piece(_) => fork(alloc, left.clone()?, right),
-        Span::Fork(outer, inner, _, _) => {
+        Span::Fork(outer, inner, _, _, _) => {
             if depth_of(outer) < depth_of(inner) {
                 return cut_middle(alloc, outer.clone()?, inner, right);
             }
@@ -137,7 +184,7 @@ fn lean_right(alloc: Global, left: Rc<Span>, right: Rc<Span>) -> Result<Rc<Span>
 {
     match right.as_ref() {
         Span::Piece(_) => fork(alloc, left, right.clone()?),
-        Span::Fork(inner, outer, _, _) => {
+        Span::Fork(inner, outer, _, _, _) => {
             if depth_of(outer) < depth_of(inner) {
                 return cut_middle(alloc, left, inner, outer.clone()?);
             }
@@ -197,7 +244,7 @@ fn with(alloc: Global, span: &Span, place: usize, entry: Entry) -> Result<Rc<Spa
             more.insert(place, entry)?;
             pieces(alloc, more)
         }
-        Span::Fork(left, right, _, _) => {
+        Span::Fork(left, right, _, _, _) => {
             let before = len_of(left);
             if place <= before {
                 let changed = with(alloc, left, place, entry)?;
@@ -223,7 +270,7 @@ fn without(alloc: Global, span: &Span, place: usize) -> Result<Rc<Span>, AllocEr
             let _ = rest.remove(place);
             piece(alloc, rest)
         }
-        Span::Fork(left, right, _, _) => {
+        Span::Fork(left, right, _, _, _) => {
             let before = len_of(left);
             if place < before {
                 let changed = without(alloc, left, place)?;
@@ -256,7 +303,7 @@ fn put_all(span: &Span, out: &mut Vec<Entry>) -> Result<(), AllocError>
 {
     match span {
         Span::Piece(entries) => out.extend_from_slice(entries.as_slice()),
-        Span::Fork(left, right, _, _) => {
+        Span::Fork(left, right, _, _, _) => {
             put_all(left, out)?;
             put_all(right, out)
         }
@@ -313,6 +360,11 @@ impl Spans {
         ensures { (d : Entry) → result ≡ slice_index_or self.now.items place d }
     {
         entry_at(&self.root, place)
+    }
+
+    /// A place at which to look for a name, with what it is compared with after it.
+    pub fn guess(&self, names: &[Vec<u8>], name: &[u8], end: &[u8]) -> usize {
+        guess_in(&self.root, names, name, end)
     }
 
     /// A copy of the entries. Fails where memory runs out.

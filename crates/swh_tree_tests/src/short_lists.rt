@@ -69,16 +69,13 @@ fn is_right(alloc: Global, changes: &[Change]) -> Result<bool, Memory> {
     Ok(found == wanted)
 }
 
-/// How many parts the lists of two changes are tested in.
-const PARTS: usize = 4;
-
-/// How many lists of two changes are wrong, behind those of the start, of one of the parts.
-fn wrong_pairs(alloc: Global, part: usize) -> Result<u64, Memory> {
+/// How many lists of two changes are wrong, behind those of the start.
+fn wrong_pairs(alloc: Global) -> Result<u64, Memory> {
     let firsts = all_changes(alloc, PATHS.len(), 4)?;
     let seconds = all_changes(alloc, PATHS.len(), 5)?;
     let mut list = Vec::from_slice(alloc, START)?;
     let mut wrong: u64 = 0;
-    for first in firsts.iter().skip(part).step_by(PARTS) {
+    for first in &firsts {
         for second in &seconds {
             list.push(*first)?;
             list.push(*second)?;
@@ -114,26 +111,8 @@ fn wrong_triples(alloc: Global) -> Result<u64, Memory> {
 }
 
 #[test]
-fn pairs_of_changes_first_part(rt: HostRuntime) -> Result<(), Fail> {
-    assert_eq!(rt; wrong_pairs(rt.alloc(), 0)?, 0);
-    Ok(())
-}
-
-#[test]
-fn pairs_of_changes_second_part(rt: HostRuntime) -> Result<(), Fail> {
-    assert_eq!(rt; wrong_pairs(rt.alloc(), 1)?, 0);
-    Ok(())
-}
-
-#[test]
-fn pairs_of_changes_third_part(rt: HostRuntime) -> Result<(), Fail> {
-    assert_eq!(rt; wrong_pairs(rt.alloc(), 2)?, 0);
-    Ok(())
-}
-
-#[test]
-fn pairs_of_changes_fourth_part(rt: HostRuntime) -> Result<(), Fail> {
-    assert_eq!(rt; wrong_pairs(rt.alloc(), 3)?, 0);
+fn all_pairs_of_changes(rt: HostRuntime) -> Result<(), Fail> {
+    assert_eq!(rt; wrong_pairs(rt.alloc())?, 0);
     Ok(())
 }
 

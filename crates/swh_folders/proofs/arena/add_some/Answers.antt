@@ -1,4 +1,4 @@
-use Rattle.std.proofs.Common.{rules, ◌≡◌, ◌≤◌, sym, ap, subst, refl, ◌∙◌, List, ℕ, length, arith}
+use Rattle.std.proofs.Common.{◌≤◌, sym, ap, subst, refl, ◌∙◌, List, ℕ, length, arith}
 use Rattle.swh_folders.specs.declared.entry.Entry.{Entry}
 use Rattle.swh_folders.specs.Arena.{texts, stands, forest_of, AreGood}
 use Rattle.swh_folders.specs.Forest.{inserted}

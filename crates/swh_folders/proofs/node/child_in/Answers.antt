@@ -1,4 +1,4 @@
-use Rattle.std.proofs.Common.{rules, ◌≡◌, ap, subst, sym, ◌∙◌}
+use Rattle.std.proofs.Common.{rules, ap, subst, sym, ◌∙◌}
 use Rattle.swh_folders.specs.declared.entry.Entry.{Entry}
 use Rattle.swh_folders.specs.Arena.{texts, stands, IsLower}
 use Rattle.swh_folders.proofs.Steps.{good-at}

@@ -1,4 +1,3 @@
-use Rattle.std.proofs.Common.{List, ℕ}
 use Rattle.swh_folders.specs.Arena.{texts}
 use Rattle.swh_folders.proofs.Orders.{nowhere}
 use Rattle.swh_folders.proofs.Options.{if_none, none-of}

@@ -1,5 +1,5 @@
-use Rattle.std.proofs.Common.{rules, ◌≡◌, ◌++◌, List, ℕ, sym, ap, subst, ◌∙◌}
-use Rattle.swh_folders.specs.Arena.{texts, name_at, entry_key, suffix}
+use Rattle.std.proofs.Common.{◌≡◌, ◌++◌, List, ℕ, sym, ap, subst, ◌∙◌}
+use Rattle.swh_folders.specs.Arena.{texts, name_at, entry_key}
 use Rattle.swh_folders.specs.Ordered.{IsAbove}
 use Rattle.swh_folders.proofs.Arenas.{if_ok}
 use Rattle.swh_folders.proofs.Orders.{with-at}
@@ -11,6 +11,6 @@ returns c =
     let names = c.args.names.now in
     let e = c.args.entry in
     let text : c.as_slice-name.result.now ≡ name_at (texts c.args.names.now) e.name = c.as_slice-name.ensures.value ∙ sym (text-at c.args.names.now e.name c.index-names-entry.result c.requires.entry c.index-names-entry.is) in
-    let key : c.as_slice-name.result.now ++ c.suffix.result.now ≡ entry_key (texts c.args.names.now) e = ap (λ (n : List ℕ). n ++ c.suffix.result.now) text ∙ ap (λ (n : List ℕ). name_at (texts names) e.name ++ n) c.suffix.ensures in
-    let above = subst (λ (k : List ℕ). IsAbove (texts names) k c.args.node.now.items c.above-place.result) key c.above-place.ensures in
-    if_ok c.with.result (λ p is. is ∙ sym (with-at (texts names) e c.args.node.now.items c.above-place.result above)) c.with.ensures
+    let key : c.as_slice-name.result.now ++ c.suffix-end.result.now ≡ entry_key (texts c.args.names.now) e = ap (λ (n : List ℕ). n ++ c.suffix-end.result.now) text ∙ ap (λ (n : List ℕ). name_at (texts names) e.name ++ n) c.suffix-end.ensures in
+    let above = subst (λ (k : List ℕ). IsAbove (texts names) k c.args.node.items c.above-place.result) key c.above-place.ensures in
+    if_ok c.with.result (λ p is. is ∙ sym (with-at (texts names) e c.args.node.items c.above-place.result above)) c.with.ensures

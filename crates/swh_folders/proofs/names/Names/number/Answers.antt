@@ -1,4 +1,4 @@
-use Rattle.std.proofs.Common.{rules, ◌≡◌, ◌∙◌, length, sym, subst, None, arith}
+use Rattle.std.proofs.Common.{rules, ◌≡◌, ◌∙◌, length, sym, None}
 use Rattle.swh_folders.specs.Named.{number_of}
 use Rattle.swh_folders.proofs.Indexes.{index-more, not-known}
 use Rattle.swh_folders.proofs.names.Names.number.Goals as goal

@@ -4,7 +4,7 @@ use Rattle.std.proofs.lemmas.Iterator.Consumers.{YieldsList-from_chain}
 use Rattle.std.proofs.lemmas.Iterator.Search.{cmp_from_yields_List}
 use Rattle.std.specs.Ordering.{nat_cmp, is_lt}
 use Rattle.std.specs.Cmp.Lexicographic.{slice_cmp}
-use Rattle.swh_folders.proofs.node.is_less.Goals as goal
+use Rattle.swh_folders.proofs.order.is_less.Goals as goal
 
 pub returns : goal.returns
 returns c =

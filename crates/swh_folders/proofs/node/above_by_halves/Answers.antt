@@ -1,9 +1,8 @@
-use Rattle.std.proofs.Common.{rules, ◌≡◌, ◌+◌, ◌-◌, ◌/◌, ◌++◌, ◌<◌, ◌≤◌, ℕ, true, false, length, get_or, sym, ap, ◌∙◌, arith}
-use Rattle.swh_folders.specs.declared.entry.Entry.{Entry}
+use Rattle.std.proofs.Common.{◌≡◌, ◌+◌, ◌-◌, ◌/◌, ◌++◌, ◌<◌, true, false, length, sym, ◌∙◌, arith}
 use Rattle.swh_folders.specs.Arena.{texts, entry_key}
 use Rattle.swh_folders.specs.Forest.{is_before}
 use Rattle.swh_folders.proofs.Orders.{above-step, below-step, middle, name-of}
-use Rattle.swh_folders.proofs.node.above.Goals as goal
+use Rattle.swh_folders.proofs.node.above_by_halves.Goals as goal
 
 pub comes_before-before-requires : goal.comes_before-before-requires
 comes_before-before-requires c =

@@ -2,7 +2,7 @@ use Rattle.std.proofs.Common.{◌≡◌, ◌≤◌, ◌<◌, ◌++◌, ◌-◌, 
 use Rattle.swh_folders.specs.declared.entry.Entry.{Entry}
 use Rattle.swh_folders.specs.Arena.{texts, entry_key}
 use Rattle.swh_folders.specs.Forest.{is_before}
-use Rattle.swh_folders.proofs.node.above.Given as goal
+use Rattle.swh_folders.proofs.node.above_by_halves.Given as goal
 
 abbrev pub invariant-halves : goal.invariant-halves
 invariant-halves l = record {
