@@ -262,11 +262,36 @@ def failed_barrier(room):
             raise Wrong("%s: %d calls" % (call, number))
 
 
+def failed_folder_barrier(room):
+    """Of a making and of a load each barrier on a folder fails in turn, while those on the files go well: it is a disk that
+    fails, and afterwards the archive is made, or was, and opens."""
+    if shutil.which("strace") is None:
+        raise Wrong("strace is not there")
+    log = room.path("calls")
+    for words, least in ((("init", "A"), 4), (("load", "A", "jobs"), 2)):
+        for number in range(1, 40):
+            shutil.rmtree(room.path("A"), ignore_errors=True)
+            if words[0] == "load":
+                room.expect(0, b"made\n", "init", "A")
+            prefix = ["strace", "-f", "-o", log, "-e", "trace=fsync", "-e", "inject=fsync:error=EIO:when=%d" % number]
+            status, printed = room.run(*words, prefix=prefix)
+            with open(log) as lines:
+                if "(INJECTED)" not in lines.read():
+                    break
+            if status != 4 or not printed.endswith(b"swharc: outside disk\n"):
+                raise Wrong("%s, folder %d: status %d, %r" % (words[0], number, status, printed))
+            if room.run("init", "A")[0] not in (0, 3):
+                raise Wrong("%s, folder %d: not made afterwards" % (words[0], number))
+            room.expect(0, b"https://e.org/p\t", "load", "A", "jobs")
+        if not least < number < 39:
+            raise Wrong("%s: %d barriers on folders" % (words[0], number - 1))
+
+
 def main():
     program = find_program()
     verdict = Verdict()
     for case in (no_name, not_there, not_a_folder, only_read, at_once, several_readings, not_ordinary, several_makings,
-                 size_limit, full_output, interrupted, failed_barrier):
+                 size_limit, full_output, interrupted, failed_barrier, failed_folder_barrier):
         with tempfile.TemporaryDirectory() as folder:
             try:
                 case(Room(program, folder))
