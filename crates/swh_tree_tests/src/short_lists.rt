@@ -13,8 +13,8 @@ const PATHS: &[&[u8]] = &[
     b"b/a/b", b"b/b/a", b"b/b/b",
 ];
 
-/// How many of them the lists of three changes speak of.
-const FEW: usize = 4;
+/// Of how many of them the lists of three changes of every kind speak.
+const FEW: usize = 5;
 
 /// What stands in the tree to which two changes are made.
 const START: &[Change<'static>] = &[
@@ -88,14 +88,13 @@ fn wrong_pairs(alloc: Global) -> Result<u64, Memory> {
     Ok(wrong)
 }
 
-/// How many lists of three changes are wrong, of an empty tree with one file.
-fn wrong_triples(alloc: Global) -> Result<u64, Memory> {
-    let changes = all_changes(alloc, FEW, 4)?;
+/// How many lists of three of these changes are wrong, of a tree with one file.
+fn wrong_triples(alloc: Global, changes: &[Change<'static>]) -> Result<u64, Memory> {
     let mut list = Vec::new(alloc);
     let mut wrong: u64 = 0;
-    for first in &changes {
-        for second in &changes {
-            for third in &changes {
+    for first in changes {
+        for second in changes {
+            for third in changes {
                 list.push(Change::Set(100_644, 1, b"a/b"))?;
                 list.push(*first)?;
                 list.push(*second)?;
@@ -110,6 +109,60 @@ fn wrong_triples(alloc: Global) -> Result<u64, Memory> {
     Ok(wrong)
 }
 
+/// Of each path a file set to it, and a delete.
+fn sets_and_deletes(alloc: Global) -> Result<Vec<Change<'static>>, Memory> {
+    let mut out = Vec::new(alloc);
+    for path in PATHS {
+        out.push(Change::Set(100_644, 4, *path))?;
+        out.push(Change::Delete(*path))?;
+    }
+    Ok(out)
+}
+
+/// A folder that is copied, or moved, between changes of it, and then changed on both sides.
+const SIDES: &[&[Change<'static>]] = &[
+    &[
+        Change::Set(100_644, 1, b"d/x"),
+        Change::Copy(b"d", b"e"),
+        Change::Set(100_644, 2, b"d/y"),
+        Change::Set(100_644, 3, b"e/z"),
+    ],
+    &[
+        Change::Set(100_644, 1, b"d/x"),
+        Change::Set(100_644, 2, b"d/y"),
+        Change::Copy(b"d", b"e"),
+        Change::Delete(b"d/x"),
+        Change::Set(100_644, 3, b"e/y"),
+        Change::Set(100_644, 4, b"d/x/z"),
+    ],
+    &[
+        Change::Set(100_644, 1, b"d/s/x"),
+        Change::Copy(b"d", b"d/t"),
+        Change::Set(100_644, 2, b"d/s/y"),
+        Change::Delete(b"d/t/s/x"),
+        Change::Set(100_644, 3, b"d/t/z"),
+    ],
+    &[
+        Change::Set(100_644, 1, b"d/s/x"),
+        Change::Rename(b"d/s", b"e"),
+        Change::Set(100_644, 2, b"d/y"),
+        Change::Set(100_644, 3, b"e/z"),
+        Change::Copy(b"e", b"d/s"),
+        Change::Delete(b"e/x"),
+    ],
+];
+
+/// How many of them are wrong.
+fn wrong_sides(alloc: Global) -> Result<u64, Memory> {
+    let mut wrong: u64 = 0;
+    for list in SIDES {
+        if !is_right(alloc, *list)? {
+            wrong = wrong.saturating_add(1);
+        }
+    }
+    Ok(wrong)
+}
+
 #[test]
 fn all_pairs_of_changes(rt: HostRuntime) -> Result<(), Fail> {
     assert_eq!(rt; wrong_pairs(rt.alloc())?, 0);
@@ -117,7 +170,21 @@ fn all_pairs_of_changes(rt: HostRuntime) -> Result<(), Fail> {
 }
 
 #[test]
-fn all_lists_of_three_changes(rt: HostRuntime) -> Result<(), Fail> {
-    assert_eq!(rt; wrong_triples(rt.alloc())?, 0);
+fn lists_of_three_changes_of_every_kind(rt: HostRuntime) -> Result<(), Fail> {
+    let changes = all_changes(rt.alloc(), FEW, 4)?;
+    assert_eq!(rt; wrong_triples(rt.alloc(), changes.as_slice())?, 0);
+    Ok(())
+}
+
+#[test]
+fn lists_of_three_sets_and_deletes(rt: HostRuntime) -> Result<(), Fail> {
+    let changes = sets_and_deletes(rt.alloc())?;
+    assert_eq!(rt; wrong_triples(rt.alloc(), changes.as_slice())?, 0);
+    Ok(())
+}
+
+#[test]
+fn folders_changed_on_both_sides(rt: HostRuntime) -> Result<(), Fail> {
+    assert_eq!(rt; wrong_sides(rt.alloc())?, 0);
     Ok(())
 }
