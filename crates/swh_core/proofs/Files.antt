@@ -1,5 +1,5 @@
 -- Files as worlds have them, without the calls that were made on them, and what a crash leaves where a call was begun.
-use Rattle.std.proofs.Common.{◌≡◌, ◌≢◌, ◌⊎◌, inl, inr, ⊎_elim, ℕ, zero, suc, ◌+◌, ◌-◌, ◌<◌, ◌≤◌, ◌==◌, Bool, true, false, cond, List, [], ◌∷◌, ◌++◌, length, get_or, take, drop, map, refl, sym, ap, ◌∙◌, subst, arith, add-one, take_all, min}
+use Rattle.std.proofs.Common.{◌≡◌, ◌≢◌, ◌⊎◌, inl, inr, ⊎_elim, ℕ, zero, suc, ◌+◌, ◌-◌, ◌<◌, ◌≤◌, ◌==◌, Bool, true, false, cond, List, [], ◌∷◌, ◌++◌, length, get_or, take, drop, map, refl, sym, ap, ◌∙◌, subst, arith, add-one, take_all, min, length-drop}
 use Rattle.std.proofs.lemmas.Bool.{cases_lt}
 use Rattle.std.proofs.Math.Seq.{drop-cons}
 use Rattle.std.specs.List.{AllByRecursion}
@@ -103,6 +103,9 @@ drop_at_most n k xs is = ⊎_elim
     (λ (ge : length xs ≤ n). drop_past k xs (omega (arith, is, ge)) ∙ sym (drop_past n xs ge))
     (cases_lt n (length xs))
 
+pub calls_of_taken : (n : ℕ) (cs : List EventCall) → map file_call (take n cs) ≡ take n (map file_call cs)
+calls_of_taken n cs = map_take file_call n cs
+
 pub calls_taken : (n k : ℕ) (cs : List EventCall) → k ≡ min n (length cs) → map file_call (take k cs) ≡ take n (map file_call cs)
 calls_taken n k cs is = ap (map file_call) (take_at_most n k cs is) ∙ map_take file_call n cs
 
@@ -110,10 +113,11 @@ pub calls_left : (n k : ℕ) (cs : List EventCall) → k ≡ min n (length cs) �
 calls_left n k cs is = ap (map file_call) (drop_at_most n k cs is) ∙ map_drop file_call n cs
 
 -- the calls before one, and that one begun
-pub failed_same : (number k : ℕ) (cs : List EventCall) (old mid new : Files) → k ≡ min (number - 1) (length cs) → both mid ≡ both (files_done (map file_call (take k cs)) old) → both new ≡ both (first_begun (map file_call (drop k cs)) mid)
+pub failed_same : (number k : ℕ) (cs : List EventCall) (old mid new : Files) → k ≡ min (number - 1) (length cs) → both mid ≡ both (files_done (map file_call (take k cs)) old) → both new ≡ both (first_begun (map file_call (take (length cs - k) (drop k cs))) mid)
     → both new ≡ both (failed_at number (map file_call cs) old)
 failed_same number k cs old mid new is made begun_it =
-    begun_it ∙ first_same (drop k cs) mid (files_done (map file_call (take k cs)) old) made
+    let rest : take (length cs - k) (drop k cs) ≡ drop k cs = take_all (length cs - k) (drop k cs) (omega (arith, length-drop k cs)) in
+    begun_it ∙ ap (λ (l : List EventCall). both (first_begun (map file_call l) mid)) rest ∙ first_same (drop k cs) mid (files_done (map file_call (take k cs)) old) made
     ∙ ap (λ (l : List FileCall). both (first_begun l (files_done (map file_call (take k cs)) old))) (calls_left (number - 1) k cs is)
     ∙ ap (λ (l : List FileCall). both (first_begun (drop (number - 1) (map file_call cs)) (files_done l old))) (calls_taken (number - 1) k cs is)
 

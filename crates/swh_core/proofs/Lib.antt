@@ -4,3 +4,4 @@ pub mod Worlds
 pub mod Steps
 pub mod Judged
 pub mod Runs
+pub mod Caught

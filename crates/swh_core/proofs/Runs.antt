@@ -1,6 +1,6 @@
 -- Runs of steps.
-use Rattle.std.proofs.Common.{◌≡◌, ◌⊎◌, inl, inr, ℕ, Option, Some, None, Result, Ok, Err, List, [], ◌∷◌, ◌++◌, length, reverse, refl, sym, ap, ◌∙◌, subst, append_assoc}
-use Rattle.std.proofs.lemmas.List.{append-nil, reverse-append}
+use Rattle.std.proofs.Common.{◌≡◌, ◌⊎◌, inl, inr, ℕ, Option, Some, None, Result, Ok, Err, List, [], ◌∷◌, ◌++◌, length, refl, sym, ap, ◌∙◌, subst, append_assoc}
+use Rattle.std.proofs.lemmas.List.{append-nil}
 use Rattle.std.specs.List.{AllByRecursion}
 use Rattle.swh_base.specs.declared.kind.Kind.{Kind}
 use Rattle.swh_core.specs.declared.step.Step.{Step}
@@ -13,10 +13,6 @@ use Rattle.swh_core.specs.Step.{IsWorldStep, IsMeant}
 use Rattle.swh_core.specs.Kept.{IsWorld, IsLater}
 use Rattle.swh_core.specs.Run.{AreSteps, IsRun}
 use Rattle.swh_core.proofs.Steps.{Goes, stepped, same_later, later_then}
-
-turned_twice : {A : Type 0} (xs : List A) → reverse (reverse xs) ≡ xs
-turned_twice [] = refl
-turned_twice (x ∷ xs) = ap reverse (reverse-append (x ∷ []) xs) ∙ reverse-append (reverse xs) (x ∷ []) ∙ ap (λ (l : List _). x ∷ l) (turned_twice xs)
 
 -- what was told before goes before what is told
 abbrev pub behind : List Told → Result (List Told) StepFault → Result (List Told) StepFault
@@ -34,7 +30,7 @@ module _ (id_of : Kind → List ℕ → List ℕ) where
   pub went : (steps : List Step) (r : Result (List Told) StepFault) (w w' : World) → IsWorld id_of w → AllByRecursion (IsMeant id_of (length w.seen)) steps → IsRun id_of w steps r w' → Goes id_of w w'
   went [] (Ok []) w w' k meant run = subst (Goes id_of w) (sym run) (record { kept = k; later = same_later w })
   went [] (Ok (t ∷ ts)) w w' k meant run = absurd run
-  went [] (Err fault) w w' k meant run = absurd run
+  went [] (Err fault) w w' k meant run = subst (Goes id_of w) (sym run.1) (record { kept = k; later = same_later w })
   went (step ∷ steps) (Ok []) w w' k meant run = absurd run
   went (step ∷ steps) (Ok (t ∷ ts)) w w' k meant run =
       let one = stepped id_of step (Ok t) w run.0 k meant.0 run.1 in
@@ -58,44 +54,43 @@ module _ (id_of : Kind → List ℕ → List ℕ) where
   behind_nothing (Ok ts) = refl
   behind_nothing (Err fault) = refl
 
-  -- The steps that are left, the next one last, lead on from where the world is.
+  -- without room for the answers no step is taken
+  pub no_room : (steps : List Step) (w : World) → IsRun id_of w steps (Err Memory) w
+  no_room [] w = (refl, refl)
+  no_room (step ∷ steps) w = inl (no_memory step w)
+
+  -- The steps that are left lead on from where the world is.
   pub record RunSoFar (all : List Step) (first : World) (left : List Step) (told : List Told) (now : World) : Type 0 where
-    pub leads : (r : Result (List Told) StepFault) (w' : World) → IsRun id_of now (reverse left) r w' → IsRun id_of first all (behind told r) w'
-    pub meant : AllByRecursion (IsMeant id_of (length now.seen)) (reverse left)
+    pub leads : (r : Result (List Told) StepFault) (w' : World) → IsRun id_of now left r w' → IsRun id_of first all (behind told r) w'
+    pub meant : AllByRecursion (IsMeant id_of (length now.seen)) left
+    pub kept : IsWorld id_of now
     pub later : IsLater first now
 
-  pub run_begins : (all left : List Step) (w : World) → left ≡ reverse all → AllByRecursion (IsMeant id_of (length w.seen)) all → RunSoFar all w left [] w
-  run_begins all left w is meant =
-      let back : reverse left ≡ all = ap reverse is ∙ turned_twice all in
-      record {
-        leads = λ r w' run. subst (λ (x : Result (List Told) StepFault). IsRun id_of w all x w') (behind_nothing r) (subst (λ (l : List Step). IsRun id_of w l r w') back run);
-        meant = subst (AllByRecursion (IsMeant id_of (length w.seen))) (sym back) meant;
-        later = same_later w;
-      }
+  pub run_begins : (all : List Step) (w : World) → IsWorld id_of w → AllByRecursion (IsMeant id_of (length w.seen)) all → RunSoFar all w all [] w
+  run_begins all w k meant = record {
+    leads = λ r w' run. subst (λ (x : Result (List Told) StepFault). IsRun id_of w all x w') (behind_nothing r) run;
+    meant = meant;
+    kept = k;
+    later = same_later w;
+  }
 
-  -- the next step stands last
-  next_first : (left : List Step) (step : Step) → reverse (left ++ step ∷ []) ≡ step ∷ reverse left
-  next_first left step = reverse-append left (step ∷ [])
-
-  module _ (all left left' : List Step) (first now : World) (told : List Told) (step : Step) (is : left ≡ left' ++ step ∷ []) (so_far : RunSoFar all first left told now) where
-    turned : reverse left ≡ step ∷ reverse left'
-    turned = ap reverse is ∙ next_first left' step
-
+  module _ (all left left' : List Step) (first now : World) (told : List Told) (step : Step) (is : left ≡ step ∷ left') (so_far : RunSoFar all first left told now) where
     pub next_meant : IsMeant id_of (length now.seen) step
-    next_meant = (subst (AllByRecursion (IsMeant id_of (length now.seen))) turned so_far.meant).0
+    next_meant = (subst (AllByRecursion (IsMeant id_of (length now.seen))) is so_far.meant).0
 
-    pub run_goes_on : (t : Told) (new : World) → IsWorldStep id_of now step (Ok t) new → IsLater now new → RunSoFar all first left' (told ++ t ∷ []) new
-    run_goes_on t new one later = record {
+    pub run_goes_on : (t : Told) (new : World) → IsWorldStep id_of now step (Ok t) new → IsWorld id_of new → IsLater now new → RunSoFar all first left' (told ++ t ∷ []) new
+    run_goes_on t new one kept later = record {
       leads = λ r w' run. subst (λ (x : Result (List Told) StepFault). IsRun id_of first all x w') (sym (behind_twice told (t ∷ []) r))
-          (so_far.leads (behind (t ∷ []) r) w' (subst (λ (l : List Step). IsRun id_of now l (behind (t ∷ []) r) w') (sym turned) (one_more step (reverse left') t r now new w' one run)));
-      meant = subst (λ (n : ℕ). AllByRecursion (IsMeant id_of n) (reverse left')) (sym later.actors) (subst (AllByRecursion (IsMeant id_of (length now.seen))) turned so_far.meant).1;
+          (so_far.leads (behind (t ∷ []) r) w' (subst (λ (l : List Step). IsRun id_of now l (behind (t ∷ []) r) w') (sym is) (one_more step left' t r now new w' one run)));
+      meant = subst (λ (n : ℕ). AllByRecursion (IsMeant id_of n) left') (sym later.actors) (subst (AllByRecursion (IsMeant id_of (length now.seen))) is so_far.meant).1;
+      kept = kept;
       later = later_then first now new so_far.later later;
     }
 
     pub run_stops : (fault : StepFault) (new : World) → IsWorldStep id_of now step (Err fault) new → IsRun id_of first all (Err fault) new
-    run_stops fault new one = so_far.leads (Err fault) new (subst (λ (l : List Step). IsRun id_of now l (Err fault) new) (sym turned) (inl one))
+    run_stops fault new one = so_far.leads (Err fault) new (subst (λ (l : List Step). IsRun id_of now l (Err fault) new) (sym is) (inl one))
 
   pub run_ends : (all left : List Step) (first now : World) (told : List Told) → left ≡ [] → RunSoFar all first left told now → IsRun id_of first all (Ok told) now
   run_ends all left first now told is so_far =
       subst (λ (x : List Told). IsRun id_of first all (Ok x) now) (append-nil told)
-      (so_far.leads (Ok []) now (subst (λ (l : List Step). IsRun id_of now l (Ok []) now) (sym (ap reverse is)) refl))
+      (so_far.leads (Ok []) now (subst (λ (l : List Step). IsRun id_of now l (Ok []) now) (sym is) refl))

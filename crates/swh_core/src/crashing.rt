@@ -1,7 +1,8 @@
 //! Crashes: what they may leave, and what it stands for.
-ghost use Rattle.std.specs.Prelude.{◌≡◌, ◌↔◌, ℕ, List, Some, None, Err, IfOk, IfErr, IsTrue, length, get_or};
+ghost use Rattle.std.specs.Prelude.{◌≡◌, ◌↔◌, ◌+◌, ℕ, List, Some, None, Err, IfOk, IfErr, IsTrue, length, get_or};
 ghost use Rattle.swh_base.specs.declared.kind.Kind.{Kind};
 ghost use Rattle.swh_model.specs.declared.event.Event.{Event as AnEvent};
+ghost use Rattle.swh_model.specs.Limits.{records_length};
 ghost use Rattle.swh_model.specs.Happens.{IsSomeHistory};
 ghost use Rattle.swh_model.specs.Step.{May, IsHistory, replay};
 ghost use Rattle.swh_format.specs.Stands.{StandsFor};
@@ -11,7 +12,7 @@ ghost use Rattle.swh_core.specs.Kept.{MayStand, IsWorld};
 ghost use Rattle.swh_core.specs.Parts.{world_of, IsSomeWish, IsSomeFlight, AreCaught, IsOpened};
 
 use crate::copies::events_again;
-use crate::disk::{Disks, disks_again, do_calls, is_image};
+use crate::disk::{Disks, disks_again, is_image, make_first};
 use crate::judging::{Judgement, judge_wish};
 use crate::parts::{Parts, reopen};
 use crate::step::{StepFault, Told};
@@ -43,8 +44,7 @@ fn catch_flight(
     match judge_wish(alloc, &parts.history, actor, wish)? {
         Judgement::Refused(_) => Ok(Caught { disks, more: None }),
         Judgement::Allowed { event, calls, .. } => {
-            let made = (made as usize).min(calls.len());
-            do_calls(alloc, &mut disks, &calls[..made])?;
+            make_first(alloc, &mut disks, &calls, made)?;
             Ok(Caught {
                 disks,
                 more: Some(event),
@@ -53,21 +53,17 @@ fn catch_flight(
     }
 }
 
-fn catch_files(
+/// With nothing in doubt.
+fn catch_undoubted(
     alloc: Global,
     parts: &Parts,
     flight: &Option<(u32, Wish, u32)>,
 ) -> Result<Caught, Memory>
+    requires none { parts.now.doubt ≡ None }
     requires history { IsSomeHistory parts.now.history.items }
     requires flight { IsSomeFlight flight.now }
     ensures { IfOk result (AreCaught (world_of parts.now) flight.now) }
 {
-    if let Some(event) = &parts.doubt {
-        return Ok(Caught {
-            disks: disks_again(alloc, &parts.disks)?,
-            more: Some(event.again(alloc)?),
-        });
-    }
     match flight {
         Some((actor, wish, made)) => catch_flight(alloc, parts, *actor, wish, *made),
         None => Ok(Caught {
@@ -77,11 +73,38 @@ fn catch_files(
     }
 }
 
-fn is_open_at(ledger: &[u8], end: usize) -> bool
-    ensures { IsTrue result ↔ (get_or ledger.now end 0 ≡ 1) }
+/// An event in doubt may be there, and no other has begun.
+fn catch_files(
+    alloc: Global,
+    parts: &Parts,
+    flight: &Option<(u32, Wish, u32)>,
+) -> Result<Caught, Memory>
+    requires history { IsSomeHistory parts.now.history.items }
+    requires flight { IsSomeFlight flight.now }
+    ensures { IfOk result (AreCaught (world_of parts.now) flight.now) }
 {
-    if end < ledger.len() {
-        ledger[end] == 1
+    match &parts.doubt {
+        Some(event) => Ok(Caught {
+            disks: disks_again(alloc, &parts.disks)?,
+            more: Some(event.again(alloc)?),
+        }),
+        None => catch_undoubted(alloc, parts, flight),
+    }
+}
+
+/// The place of the gate after a history's records.
+fn gate_of(history: &[Event]) -> Result<usize, Memory>
+    ensures { IfOk result (λ place. place ≡ 8 + records_length history.now) }
+{
+    let length = length_of_ledger(history)?;
+    Ok(length as usize - 1)
+}
+
+fn is_open_at(ledger: &[u8], place: usize) -> bool
+    ensures { IsTrue result ↔ (get_or ledger.now place 0 ≡ 1) }
+{
+    if place < ledger.len() {
+        ledger[place] == 1
     } else {
         false
     }
@@ -91,24 +114,25 @@ fn is_open_at(ledger: &[u8], end: usize) -> bool
 fn history_left(
     alloc: Global,
     history: &[Event],
-    more: Option<Event>,
+    more: &Option<Event>,
     ledger: &[u8],
 ) -> Result<Vec<Event>, Memory>
-    ensures stands { (store : List ℕ) → MayStand history.now more ledger.now store
+    ensures stands { (store : List ℕ) → MayStand history.now more.now ledger.now store
         → IfOk result (λ left. StandsFor ledger.now store left.items) }
     ensures history { (id_of : Kind → List ℕ → List ℕ) → IsHistory id_of history.now
-        → ((e : AnEvent) → more ≡ Some e → May id_of (replay history.now) e)
+        → ((e : AnEvent) → more.now ≡ Some e → May id_of (replay history.now) e)
         → IfOk result (λ left. IsHistory id_of left.items) }
 {
-    let end = length_of_ledger(history)? - 1;
+    let gate = gate_of(history)?;
     let mut left = events_again(alloc, history)?;
     let Some(event) = more else {
         return Ok(left);
     };
-    if !is_open_at(ledger, end as usize) {
+    if !is_open_at(ledger, gate) {
         return Ok(left);
     }
-    left.push(event)?;
+    let joined = event.again(alloc)?;
+    left.push(joined)?;
     Ok(left)
 }
 
@@ -127,14 +151,14 @@ pub fn crash_step<N: Namer>(
     ensures err { IfErr result (λ f. IsWorldStep N.id_of (world_of parts.now) (Crash flight.now store.now ledger.now)
         (Err f) (world_of parts.now)) }
 {
-    let Caught { disks, more } = catch_files(alloc, parts, flight)?;
-    if !is_image(&disks.ledger, ledger) {
+    let caught = catch_files(alloc, parts, flight)?;
+    if !is_image(&caught.disks.ledger, ledger) {
         return Err(StepFault::NotImage { file: 0 });
     }
-    if !is_image(&disks.store, store) {
+    if !is_image(&caught.disks.store, store) {
         return Err(StepFault::NotImage { file: 1 });
     }
-    let history = history_left(alloc, &parts.history, more, ledger)?;
+    let history = history_left(alloc, &parts.history, &caught.more, ledger)?;
     let events = history.len() as u64;
     let next = reopen(alloc, parts, history, ledger, store)?;
     Ok((Told::Opened { events }, next))

@@ -1,5 +1,5 @@
 //! The two files in memory, as a crash may find them.
-ghost use Rattle.std.specs.Prelude.{◌≡◌, ◌↔◌, ◌+◌, ◌-◌, min, map, IfOk, OnOk, IsTrue};
+ghost use Rattle.std.specs.Prelude.{◌≡◌, ◌↔◌, ◌+◌, ◌-◌, min, map, take, IfOk, OnOk, IsTrue};
 ghost use Rattle.swh_outside.specs.Disk.{IsImage, IsOutside, Write, Sync, patched, begun, done};
 ghost use Rattle.swh_outside.specs.Files.{file_done, files_done};
 ghost use Rattle.swh_core.specs.Calls.{
@@ -170,6 +170,26 @@ pub fn do_calls(alloc: Global, disks: &mut Disks, calls: &[EventCall]) -> Result
     for call in calls {
         do_event_call(alloc, disks, call)?;
     }
+    Ok(())
+}
+
+fn at_most(number: u32, count: usize) -> usize
+    ensures { result ≡ min number count }
+{
+    (number as usize).min(count)
+}
+
+/// Makes so many of these calls, or all where there are fewer.
+pub fn make_first(
+    alloc: Global,
+    disks: &mut Disks,
+    calls: &[EventCall],
+    number: u32,
+) -> Result<(), Memory>
+    ensures { OnOk result (both (files_on disks.new) ≡ both (files_done (take number (map file_call calls.now)) (files_on disks.old))) }
+{
+    let count = at_most(number, calls.len());
+    do_calls(alloc, disks, &calls[..count])?;
     Ok(())
 }
 

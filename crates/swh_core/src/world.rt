@@ -9,6 +9,7 @@ use crate::crashing::crash_step;
 use crate::parts::{Parts, first_parts};
 use crate::step::{Step, StepFault, Told};
 use std::alloc::Global;
+use std::collections::VecDeque;
 use std::marker::Model;
 use swh_base::{Memory, Namer};
 use swh_model::Event;
@@ -67,10 +68,11 @@ fn take_step<N: Namer>(
 }
 
 impl<N: Namer> World<N> {
-    ghost use Rattle.std.specs.Prelude.{◌≡◌, IfOk, OnErr, List, length};
+    ghost use Rattle.std.specs.Prelude.{◌≡◌, Ok, Err, IfOk, IfErr, length};
     ghost use Rattle.std.specs.List.{AllByRecursion};
     ghost use Rattle.swh_core.specs.World.{first_world};
     ghost use Rattle.swh_core.specs.Step.{IsWorldStep, IsMeant};
+    ghost use Rattle.swh_core.specs.Run.{IsRun};
     ghost use Rattle.swh_core.specs.Kept.{IsWorld, IsLater};
 
     /// A made, empty archive, of which so many actors have seen nothing.
@@ -93,6 +95,28 @@ impl<N: Namer> World<N> {
     {
         let (told, parts) = take_step(self.alloc, self.namer, &self.parts, step)?;
         self.parts = parts;
+        Ok(told)
+    }
+
+    /// Takes these steps, one after another, up to the first that is refused.
+    pub fn run(&mut self, steps: Vec<Step>) -> Result<Vec<Told>, StepFault>
+        requires { AllByRecursion (IsMeant N.id_of (length self.old.seen)) steps.items }
+        ensures ok { IfOk result (λ told. IsRun N.id_of self.old steps.items (Ok told.items) self.new) }
+        ensures err { IfErr result (λ fault. IsRun N.id_of self.old steps.items (Err fault) self.new) }
+        ensures kept { IsWorld N.id_of self.new }
+        ensures later { IsLater self.old self.new }
+    {
+        let mut told = match Vec::with_capacity(self.alloc, steps.len()) {
+            Ok(told) => told,
+            Err(_) => return Err(StepFault::Memory),
+        };
+        let mut left = VecDeque::from_vec(steps);
+        'steps: while let Some(step) = left.pop_front() {
+            match self.step(step) {
+                Ok(answer) => told.push_reserved(answer),
+                Err(fault) => return Err(fault),
+            }
+        }
         Ok(told)
     }
 
