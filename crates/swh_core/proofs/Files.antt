@@ -204,13 +204,13 @@ begun_left : (n : ℕ) (call : Call) (files : Files) (P : Images → Type 0) →
 begun_left n (Write at bytes) files P before after = record {
   has = λ images are. after.has images (record {
     each = λ k. cond_image (k == n) (begun (Write at bytes) (files n)) (done (Write at bytes) (files n)) (files k) (images k)
-    (recast (done (Write at bytes) (files n)) (begun (Write at bytes) (files n)) (images k) refl refl refl) (are.each k);
+        (recast (done (Write at bytes) (files n)) (begun (Write at bytes) (files n)) (images k) refl refl refl) (are.each k);
   });
 }
 begun_left n Sync files P before after = record {
   has = λ images are. before.has images (subst (λ (f : Files). AreImages f images) (with_file_same n (files n) files refl) (record {
     each = λ k. cond_image (k == n) (begun Sync (files n)) (files n) (files k) (images k)
-    (recast (files n) (begun Sync (files n)) (images k) refl refl refl) (are.each k);
+        (recast (files n) (begun Sync (files n)) (images k) refl refl refl) (are.each k);
   }));
 }
 
@@ -227,5 +227,5 @@ failed_left number calls files P moments = by_rest (drop (number - 1) calls) ref
     by_rest [] is = moments.has (number - 1)
     by_rest (c ∷ rest) is =
         let next : files_done (take (suc (number - 1)) calls) files ≡ file_done c (files_done (take (number - 1) calls) files) =
-            ap (λ (l : List FileCall). files_done l files) (take_next calls (number - 1) c rest is) ∙ files_done-append (take (number - 1) calls) (c ∷ []) files in
+        ap (λ (l : List FileCall). files_done l files) (take_next calls (number - 1) c rest is) ∙ files_done-append (take (number - 1) calls) (c ∷ []) files in
         begun_left c.0 c.1 (files_done (take (number - 1) calls) files) P (moments.has (number - 1)) (subst (λ (f : Files). EachImages f P) next (moments.has (suc (number - 1))))

@@ -1,5 +1,5 @@
 -- Runs of steps.
-use Rattle.std.proofs.Common.{◌≡◌, ◌⊎◌, inl, inr, ℕ, Option, Some, None, Result, Ok, Err, List, [], ◌∷◌, ◌++◌, length, refl, sym, ap, ◌∙◌, subst, append_assoc}
+use Rattle.std.proofs.Common.{◌≡◌, ◌⊎◌, inl, inr, ℕ, Option, Some, None, Result, Ok, Err, List, [], ◌∷◌, ◌++◌, length, drop, refl, sym, ap, ◌∙◌, subst, arith, append_assoc}
 use Rattle.std.proofs.lemmas.List.{append-nil}
 use Rattle.std.specs.List.{AllByRecursion}
 use Rattle.swh_base.specs.declared.kind.Kind.{Kind}
@@ -13,6 +13,11 @@ use Rattle.swh_core.specs.Step.{IsWorldStep, IsMeant}
 use Rattle.swh_core.specs.Kept.{IsWorld, IsLater}
 use Rattle.swh_core.specs.Run.{AreSteps, IsRun}
 use Rattle.swh_core.proofs.Steps.{Goes, stepped, same_later, later_then}
+
+-- a list that is the same without its first item has none
+pub none_left : {A : Type 0} (xs ys : List A) → xs ≡ ys → ys ≡ drop 1 xs → xs ≡ []
+none_left [] ys same rest = refl
+none_left (x ∷ xs) ys same rest = absurd (omega (arith, ap length (same ∙ rest)))
 
 -- what was told before goes before what is told
 abbrev pub behind : List Told → Result (List Told) StepFault → Result (List Told) StepFault

@@ -21,9 +21,13 @@ use Rattle.swh_core.specs.Step.{IsCaught, Crashes}
 
 abbrev pub world_of : Parts → World
 world_of p = record {
-  history = p.history.items; shown = p.shown; doubt = p.doubt;
-  ledger = one_file (file_of p.disks.ledger); store = one_file (file_of p.disks.store);
-  seen = p.seen.items; kept = p.kept.items;
+  history = p.history.items;
+  shown = p.shown;
+  doubt = p.doubt;
+  ledger = one_file (file_of p.disks.ledger);
+  store = one_file (file_of p.disks.store);
+  seen = p.seen.items;
+  kept = p.kept.items;
 }
 
 -- It is a wish, with the names of some namer.

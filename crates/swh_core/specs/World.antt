@@ -49,9 +49,13 @@ with_files files w = record w { ledger = (both files).0; store = (both files).1 
 -- a made, empty archive, of which so many actors have seen nothing
 abbrev pub first_world : ℕ → World
 first_world actors = record {
-  history = []; shown = 0; doubt = None;
-  ledger = rested (magic ++ 0 ∷ []); store = rested [];
-  seen = replicate actors []; kept = [];
+  history = [];
+  shown = 0;
+  doubt = None;
+  ledger = rested (magic ++ 0 ∷ []);
+  store = rested [];
+  seen = replicate actors [];
+  kept = [];
 }
 
 abbrev pub longer : List Event → List Event → List Event
@@ -76,8 +80,13 @@ in_doubt event files w = record (with_files files w) { doubt = Some event }
 -- once the files are these images, which stand for this history: all actors begin anew
 abbrev pub reopened : List Event → List ℕ → List ℕ → World → World
 reopened h ledger store w = record {
-  history = h; shown = length h; doubt = None; ledger = rested ledger; store = rested store;
-  seen = map (λ _. h) w.seen; kept = longer w.kept h;
+  history = h;
+  shown = length h;
+  doubt = None;
+  ledger = rested ledger;
+  store = rested store;
+  seen = map (λ _. h) w.seen;
+  kept = longer w.kept h;
 }
 
 -- how files and worlds are told apart

@@ -16,7 +16,8 @@ mod step;
 mod world;
 
 pub use laws::{
-    acknowledged_events_stay, first_worlds_are_worlds, looks_go_on, runs_keep_worlds, worlds_are_sound,
+    acknowledged_events_stay, first_worlds_are_worlds, looks_go_on, runs_keep_worlds,
+    worlds_are_sound,
 };
 pub use step::{Held, Step, StepFault, Told};
 pub use world::World;

@@ -18,12 +18,22 @@ pub enum Held {
 #[derive(Drop)]
 pub enum Step {
     /// An actor's wish is judged, its event made durable, and shown.
-    Apply { actor: u32, wish: Wish, held: Held },
+    Apply {
+        actor: u32,
+        wish: Wish,
+        held: Held,
+    },
     /// An actor sees what is shown.
-    Look { actor: u32 },
+    Look {
+        actor: u32,
+    },
     /// An actor's wish is judged, and the device call of this number, from 1, fails: those before it are made. Where the
     /// event has fewer calls, all are made.
-    Fault { actor: u32, wish: Wish, call: u32 },
+    Fault {
+        actor: u32,
+        wish: Wish,
+        call: u32,
+    },
     /// All stops where so many device calls of an actor's wish were made, or none is in flight, and leaves these bytes of
     /// the two files. What is left is opened.
     Crash {
