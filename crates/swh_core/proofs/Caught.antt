@@ -1,5 +1,5 @@
 -- What a crash catches, and what it stands for, as code finds it.
-use Rattle.std.proofs.Common.{◌≡◌, ◌≢◌, ℕ, ◌+◌, Bool, true, false, not, IsTrue, Option, Some, None, List, [], ◌∷◌, ◌++◌, length, get_or, map, take, refl, sym, ap, ◌∙◌, subst}
+use Rattle.std.proofs.Common.{◌≡◌, ℕ, Bool, true, false, IsTrue, Option, Some, None, List, map, take, refl, sym, ap, ◌∙◌, subst}
 use Rattle.std.specs.Global.{Vec}
 use Rattle.swh_base.specs.declared.kind.Kind.{Kind}
 use Rattle.swh_outside.specs.Disk.{IsImage}
@@ -8,7 +8,6 @@ use Rattle.swh_model.specs.declared.event.Event.{Event}
 use Rattle.swh_model.specs.declared.event.Wish.{Wish}
 use Rattle.swh_model.specs.declared.event.Outcome.{Outcome}
 use Rattle.swh_model.specs.declared.event.No.{No}
-use Rattle.swh_model.specs.Limits.{records_length}
 use Rattle.swh_core.specs.declared.call.EventCall.{EventCall}
 use Rattle.swh_core.specs.declared.disk.Disks.{Disks}
 use Rattle.swh_core.specs.declared.parts.Parts.{Parts}

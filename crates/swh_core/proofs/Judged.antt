@@ -1,5 +1,5 @@
 -- An event that may happen fits its record.
-use Rattle.std.proofs.Common.{◌≡◌, ℕ, ◌≤◌, Ok, List, length, sym, subst, arith}
+use Rattle.std.proofs.Common.{ℕ, ◌≤◌, Ok, List, length, sym, subst, arith}
 use Rattle.swh_base.specs.declared.kind.Kind.{Kind}
 use Rattle.swh_base.specs.declared.visit.Status.{Status}
 use Rattle.swh_model.specs.declared.event.Event.{Event}

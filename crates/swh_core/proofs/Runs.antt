@@ -1,5 +1,5 @@
 -- Runs of steps.
-use Rattle.std.proofs.Common.{◌≡◌, ◌⊎◌, inl, inr, ℕ, Option, Some, None, Result, Ok, Err, List, [], ◌∷◌, ◌++◌, length, drop, refl, sym, ap, ◌∙◌, subst, arith, append_assoc}
+use Rattle.std.proofs.Common.{◌≡◌, inl, inr, ℕ, Result, Ok, Err, List, [], ◌∷◌, ◌++◌, length, drop, refl, sym, ap, ◌∙◌, subst, arith, append_assoc}
 use Rattle.std.proofs.lemmas.List.{append-nil}
 use Rattle.std.specs.List.{AllByRecursion}
 use Rattle.swh_base.specs.declared.kind.Kind.{Kind}
@@ -11,7 +11,7 @@ use Rattle.swh_core.specs.declared.step.StepFault.TheVariants.{Memory}
 use Rattle.swh_core.specs.World.{World}
 use Rattle.swh_core.specs.Step.{IsWorldStep, IsMeant}
 use Rattle.swh_core.specs.Kept.{IsWorld, IsLater}
-use Rattle.swh_core.specs.Run.{AreSteps, IsRun}
+use Rattle.swh_core.specs.Run.{IsRun}
 use Rattle.swh_core.proofs.Steps.{Goes, stepped, same_later, later_then}
 
 -- a list that is the same without its first item has none

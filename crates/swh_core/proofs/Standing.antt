@@ -1,9 +1,8 @@
 -- Files that stand for a history, with nothing written since a barrier, at the device calls of the next event; and the gate
 -- that tells whether it happened.
-use Rattle.std.proofs.Common.{◌≡◌, ◌≢◌, ◌⊎◌, inl, inr, ⊎_elim, ℕ, ◌+◌, ◌<◌, List, [], ◌∷◌, ◌++◌, length, get_or, Option, Some, None, sym, ap, ◌∙◌, subst, refl, arith}
+use Rattle.std.proofs.Common.{◌≡◌, ◌≢◌, inl, inr, ℕ, ◌+◌, ◌<◌, List, [], ◌∷◌, ◌++◌, length, get_or, Some, sym, ap, ◌∙◌, subst, refl, arith}
 use Rattle.std.specs.List.{AllByRecursion}
-use Rattle.swh_outside.specs.Disk.{File, IsImage}
-use Rattle.swh_outside.specs.Files.{Files, FileCall, Images, EachFilesMoment, on, files_done}
+use Rattle.swh_outside.specs.Files.{Files, FileCall, EachFilesMoment, on, files_done}
 use Rattle.swh_model.specs.declared.event.Event.{Event}
 use Rattle.swh_model.specs.Limits.{store_length, records_length}
 use Rattle.swh_format.specs.Record.{front, body}

@@ -1,5 +1,5 @@
 -- Each step keeps what every world keeps, and forgets nothing.
-use Rattle.std.proofs.Common.{◌≡◌, ◌≢◌, ◌⊎◌, inl, inr, ℕ, ◌+◌, ◌<◌, Option, Some, None, Result, Ok, Err, List, [], ◌∷◌, ◌++◌, length, take, refl, sym, ap, ◌∙◌, subst, arith, take_all}
+use Rattle.std.proofs.Common.{◌≡◌, ℕ, Option, Some, None, Result, Ok, Err, List, [], ◌∷◌, ◌++◌, length, take, refl, sym, ◌∙◌, subst}
 use Rattle.swh_base.specs.declared.kind.Kind.{Kind}
 use Rattle.swh_outside.specs.Disk.{IsImage}
 use Rattle.swh_outside.specs.Files.{Files}
@@ -19,9 +19,7 @@ use Rattle.swh_core.specs.declared.step.StepFault.TheVariants.{NotImage, Memory}
 use Rattle.swh_core.specs.Calls.{calls_for, failed_at}
 use Rattle.swh_core.specs.World.{World, files_in, sees, all_shown, joined, in_doubt}
 use Rattle.swh_core.specs.Step.{Lets, Applies, Faults, IsCaught, Crashes, IsWorldStep, IsMeant}
-use Rattle.swh_core.specs.Kept.{IsFront, MayStand, IsWorld, IsLater}
-use Rattle.swh_core.specs.Run.{AreSteps, IsRun}
-use Rattle.swh_core.proofs.Files.{HasTwo}
+use Rattle.swh_core.specs.Kept.{MayStand, IsWorld, IsLater}
 use Rattle.swh_core.proofs.Worlds.{front_itself, front_then, whole_taken, shown_kept, sees_kept, sees_later, joined_kept, joined_later, doubt_kept, doubt_later, shown_later, stands_at, front_of_stood, reopened_kept, reopened_later}
 
 pub same_later : (w : World) → IsLater w w

@@ -1,10 +1,10 @@
 -- What is made of a world keeps what every world keeps.
-use Rattle.std.proofs.Common.{◌≡◌, ◌≢◌, ◌⊎◌, inl, inr, ⊎_elim, ℕ, zero, suc, ◌+◌, ◌<◌, ◌≤◌, Bool, true, false, if◌then◌else◌, Option, Some, None, List, [], ◌∷◌, ◌++◌, length, map, take, drop, set, slice_set, slice_get, replicate, refl, sym, ap, ◌∙◌, subst, arith, append_assoc, length-append, take_all, take-append-drop, le-leb}
+use Rattle.std.proofs.Common.{◌≡◌, inl, inr, ℕ, zero, suc, ◌<◌, ◌≤◌, Bool, if◌then◌else◌, Option, Some, None, List, [], ◌∷◌, ◌++◌, length, map, take, drop, slice_set, slice_get, replicate, refl, sym, ap, ◌∙◌, subst, arith, append_assoc, length-append, take_all, take-append-drop, le-leb}
 use Rattle.std.proofs.lemmas.List.{append-nil, take-append-le, length-set, length-map}
 use Rattle.std.specs.List.{AllByRecursion}
 use Rattle.swh_base.specs.declared.kind.Kind.{Kind}
-use Rattle.swh_outside.specs.Disk.{File, IsImage, IsAtRest}
-use Rattle.swh_outside.specs.Files.{Files, Images, absent, with_file, files_done}
+use Rattle.swh_outside.specs.Disk.{IsImage}
+use Rattle.swh_outside.specs.Files.{absent, with_file, files_done}
 use Rattle.swh_outside.proofs.Images.{at_rest_image}
 use Rattle.swh_model.specs.declared.event.Event.{Event}
 use Rattle.swh_model.specs.Limits.{store_length}
@@ -19,7 +19,7 @@ use Rattle.swh_format.specs.Record.{magic}
 use Rattle.swh_format.proofs.Unique.{alike, none_from}
 use Rattle.swh_segment.specs.Settled.{AreAtRest}
 use Rattle.swh_core.specs.Calls.{calls_for, failed_at}
-use Rattle.swh_core.specs.World.{World, one_file, as_file, rested, files_in, first_world, longer, sees, all_shown, joined, in_doubt, reopened}
+use Rattle.swh_core.specs.World.{World, as_file, rested, files_in, first_world, longer, sees, all_shown, joined, in_doubt, reopened}
 use Rattle.swh_core.specs.Kept.{IsFront, MayStand, IsWorld, IsLater}
 use Rattle.swh_core.proofs.Files.{HasTwo, two_with, two_images, are_two, two_done, two_failed, failed_left, image_of, rest_image, all_take}
 use Rattle.swh_core.proofs.Standing.{calls_on_two, event_moments_stand, event_rests, event_stands}

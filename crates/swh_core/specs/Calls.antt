@@ -1,5 +1,5 @@
 -- The device calls of an event, and the files after some of them.
-use Rattle.std.specs.Prelude.{◌≡◌, ◌≢◌, ℕ, ◌+◌, ◌-◌, ◌<◌, ◌^◌, List, [], ◌∷◌, ◌++◌, length, take, drop}
+use Rattle.std.specs.Prelude.{◌≢◌, ℕ, ◌+◌, ◌-◌, ◌<◌, ◌^◌, List, [], ◌∷◌, ◌++◌, length, take, drop}
 use Rattle.swh_outside.specs.Disk.{File, Call, Write, Sync, begun}
 use Rattle.swh_outside.specs.Files.{Files, FileCall, with_file, files_of, files_done}
 use Rattle.swh_base.specs.declared.visit.Status.TheVariants.{Created}

@@ -17,6 +17,7 @@ use swh_model::Event;
 /// One archive, its two files and what each actor has seen. Every world keeps that the replay of its history is sound, that
 /// all that was shown or seen is a front of it, and that all a crash may leave of the files stands for it: where an event is
 /// in doubt, with that event or without it.
+#[derive(Drop)]
 pub struct World<N: Namer> {
     alloc: Global,
     namer: N,

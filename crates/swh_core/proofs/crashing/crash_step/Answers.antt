@@ -1,4 +1,4 @@
-use Rattle.std.proofs.Common.{◌≡◌, rules, Option, Some, List, length, refl, sym, subst}
+use Rattle.std.proofs.Common.{◌≡◌, rules, Some, List, length, refl, sym, subst}
 use Rattle.swh_model.specs.declared.event.Event.{Event}
 use Rattle.swh_model.specs.Step.{IsHistory, May, replay}
 use Rattle.swh_core.specs.Kept.{MayStand}

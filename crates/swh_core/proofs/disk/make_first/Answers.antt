@@ -1,4 +1,4 @@
-use Rattle.std.proofs.Common.{List, map, ap, ◌∙◌}
+use Rattle.std.proofs.Common.{List, ap, ◌∙◌}
 use Rattle.swh_outside.specs.Files.{FileCall, files_done}
 use Rattle.swh_core.specs.Calls.{files_on}
 use Rattle.swh_core.specs.World.{both}

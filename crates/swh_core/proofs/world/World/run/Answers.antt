@@ -1,4 +1,4 @@
-use Rattle.std.proofs.Common.{◌+◌, length, ap, arith}
+use Rattle.std.proofs.Common.{length, ap, arith}
 use Rattle.swh_core.proofs.Runs.{run_goes_on, run_stops, run_ends, none_left}
 use Rattle.swh_core.proofs.world.World.run.Goals as goal
 
