@@ -1,0 +1,235 @@
+-- What is made of a world keeps what every world keeps.
+use Rattle.std.proofs.Common.{◌≡◌, inl, inr, ℕ, zero, suc, ◌<◌, ◌≤◌, Bool, if◌then◌else◌, Option, Some, None, List, [], ◌∷◌, ◌++◌, length, map, take, drop, slice_set, slice_get, replicate, refl, sym, ap, ◌∙◌, subst, arith, append_assoc, length-append, take_all, take-append-drop, le-leb}
+use Rattle.std.proofs.lemmas.List.{append-nil, take-append-le, length-set, length-map}
+use Rattle.std.specs.List.{AllByRecursion}
+use Rattle.swh_base.specs.declared.kind.Kind.{Kind}
+use Rattle.swh_outside.specs.Disk.{IsImage}
+use Rattle.swh_outside.specs.Files.{absent, with_file, files_done}
+use Rattle.swh_outside.proofs.Images.{at_rest_image}
+use Rattle.swh_model.specs.declared.event.Event.{Event}
+use Rattle.swh_model.specs.Limits.{store_length}
+use Rattle.swh_model.specs.Archive.{empty_archive}
+use Rattle.swh_model.specs.Step.{May, IsHistory, replay}
+use Rattle.swh_model.proofs.PlainSteps.{may-push}
+use Rattle.swh_model.proofs.OneHistory.{one_history}
+use Rattle.swh_format.specs.EventRecord.{IsCodable, AreCodable}
+use Rattle.swh_format.specs.Stands.{StandsFor}
+use Rattle.swh_format.proofs.HistoryFiles.{codable-at}
+use Rattle.swh_format.specs.Record.{magic}
+use Rattle.swh_format.proofs.Unique.{alike, none_from}
+use Rattle.swh_segment.specs.Settled.{AreAtRest}
+use Rattle.swh_core.specs.Calls.{calls_for, failed_at}
+use Rattle.swh_core.specs.World.{World, as_file, rested, files_in, first_world, longer, sees, all_shown, joined, in_doubt, reopened}
+use Rattle.swh_core.specs.Kept.{IsFront, MayStand, IsWorld, IsLater}
+use Rattle.swh_core.proofs.Files.{HasTwo, two_with, two_images, are_two, two_done, two_failed, failed_left, image_of, rest_image, all_take}
+use Rattle.swh_core.proofs.Standing.{calls_on_two, event_moments_stand, event_rests, event_stands}
+
+-- Fronts.
+
+pub front_itself : (h : List Event) → IsFront h h
+front_itself h = record { rest = []; is = sym (append-nil h) }
+
+pub front_of_more : (h : List Event) (e : Event) → IsFront h (h ++ e ∷ [])
+front_of_more h e = record { rest = e ∷ []; is = refl }
+
+pub front_taken : (n : ℕ) (h : List Event) → IsFront (take n h) h
+front_taken n h = record { rest = drop n h; is = sym (take-append-drop n h) }
+
+pub front_then : (a b c : List Event) → IsFront a b → IsFront b c → IsFront a c
+front_then a b c p q = record { rest = p.rest ++ q.rest; is = q.is ∙ ap (λ (l : List Event). l ++ q.rest) p.is ∙ append_assoc a p.rest q.rest }
+
+front_short : (a b : List Event) → IsFront a b → length a ≤ length b
+front_short a b p = omega (arith, ap length p.is, length-append a p.rest)
+
+pub longer_whole : (a b : List Event) → IsFront a b → longer a b ≡ b
+longer_whole a b p = ap (λ (t : Bool). if t then b else a) (le-leb (length a) (length b) (front_short a b p))
+
+-- Lists all of whose items have something.
+
+pub all_map : {A : Type 0} (P Q : A → Type 0) (xs : List A) → ((x : A) → P x → Q x) → AllByRecursion P xs → AllByRecursion Q xs
+all_map P Q [] to all = tt
+all_map P Q (x ∷ xs) to all = (to x all.0, all_map P Q xs to all.1)
+
+all_set : {A : Type 0} (P : A → Type 0) (xs : List A) (i : ℕ) (y : A) → AllByRecursion P xs → P y → AllByRecursion P (slice_set xs i y)
+all_set P [] i y all one = tt
+all_set P (x ∷ xs) zero y all one = (one, all.1)
+all_set P (x ∷ xs) (suc i) y all one = (all.0, all_set P xs i y all.1 one)
+
+all_same : {A B : Type 0} (P : B → Type 0) (xs : List A) (y : B) → P y → AllByRecursion P (map (λ _. y) xs)
+all_same P [] y one = tt
+all_same P (x ∷ xs) y one = (one, all_same P xs y one)
+
+pub all_get : {A : Type 0} (P : A → Type 0) (xs : List A) (i : ℕ) (x : A) → AllByRecursion P xs → slice_get xs i ≡ Some x → P x
+all_get P [] i x all is = absurd (let e : None ≡ Some x = is in cc)
+all_get P (y ∷ xs) zero x all is = let both : Some y ≡ Some x = is in let one : y ≡ x = cc in subst P one all.0
+all_get P (y ∷ xs) (suc i) x all is = all_get P xs i x all.1 is
+
+all_copies : {A : Type 0} (P : A → Type 0) (n : ℕ) (x : A) → P x → AllByRecursion P (replicate n x)
+all_copies P zero x one = tt
+all_copies P (suc n) x one = (one, all_copies P n x one)
+
+pub whole_taken : (h : List Event) → take (length h) h ≡ h
+whole_taken h = take_all (length h) h (omega arith)
+
+two_in : (w : World) → HasTwo (files_in w)
+two_in w = two_with 0 (as_file w.ledger) (with_file 1 (as_file w.store) (λ k. absent)) (omega arith) (two_with 1 (as_file w.store) (λ k. absent) (omega arith) (record { others = λ k. refl }))
+
+module _ (id_of : Kind → List ℕ → List ℕ) where
+  pub first_kept : (actors : ℕ) → IsWorld id_of (first_world actors)
+  first_kept actors = record {
+    history = tt;
+    shown = omega arith;
+    kept = front_itself [];
+    seen = all_copies (λ (f : List Event). IsFront f []) actors [] (front_itself []);
+    images = λ ledger store il is. none_from 0 [] ledger store (λ e. absurd (omega (arith, e))) (at_rest_image (as_file (rested (magic ++ 0 ∷ []))) ledger (record { base = refl; ranges = refl; longest = refl }) il);
+    rests = λ _. record { ledger = record { base = refl; ranges = refl; longest = refl }; store = record { base = refl; ranges = refl; longest = refl } };
+    doubt = λ d is. absurd (let f : None ≡ Some d = is in cc);
+  }
+
+  module _ (w : World) (k : IsWorld id_of w) where
+    -- what was seen is a front of the whole history
+    pub kept_in : IsFront w.kept w.history
+    kept_in = front_then w.kept (take w.shown w.history) w.history k.kept (front_taken w.shown w.history)
+
+    pub shown_kept : IsWorld id_of (all_shown w)
+    shown_kept = record {
+      history = k.history;
+      shown = omega arith;
+      kept = subst (IsFront w.kept) (sym (whole_taken w.history)) kept_in;
+      seen = k.seen;
+      images = k.images;
+      rests = k.rests;
+      doubt = k.doubt;
+    }
+
+    pub shown_later : IsLater w (all_shown w)
+    shown_later = record { history = front_itself w.history; kept = front_itself w.kept; actors = refl }
+
+    pub sees_kept : (actor : ℕ) (front : List Event) → front ≡ take w.shown w.history → IsWorld id_of (sees actor front w)
+    sees_kept actor front is =
+        let within : IsFront w.kept front = subst (IsFront w.kept) (sym is) k.kept in
+        let one : longer w.kept front ≡ front = longer_whole w.kept front within in
+        record {
+          history = k.history;
+          shown = k.shown;
+          kept = subst (λ (l : List Event). IsFront l (take w.shown w.history)) (sym one) (subst (IsFront front) is (front_itself front));
+          seen = subst (λ (l : List Event). AllByRecursion (λ (f : List Event). IsFront f l) (slice_set w.seen actor front)) (sym one)
+              (all_set (λ (f : List Event). IsFront f front) w.seen actor front (all_map (λ (f : List Event). IsFront f w.kept) (λ (f : List Event). IsFront f front) w.seen (λ f at. front_then f w.kept front at within) k.seen) (front_itself front));
+          images = k.images;
+          rests = k.rests;
+          doubt = k.doubt;
+        }
+
+    pub sees_later : (actor : ℕ) (front : List Event) → front ≡ take w.shown w.history → IsLater w (sees actor front w)
+    sees_later actor front is =
+        let within : IsFront w.kept front = subst (IsFront w.kept) (sym is) k.kept in
+        record {
+          history = front_itself w.history;
+          kept = subst (IsFront w.kept) (sym (longer_whole w.kept front within)) within;
+          actors = length-set w.seen actor front;
+        }
+
+    module _ (none : w.doubt ≡ None) where
+      -- with nothing in doubt the files stand for the history
+      pub stands_now : StandsFor (files_in w 0).seen (files_in w 1).seen w.history
+      stands_now =
+          subst (λ (d : Option Event). MayStand w.history d (files_in w 0).seen (files_in w 1).seen) none
+          (k.images (files_in w 0).seen (files_in w 1).seen (rest_image (files_in w 0) (k.rests none).ledger) (rest_image (files_in w 1) (k.rests none).store))
+
+      module _ (e : Event) (may : May id_of (replay w.history) e) (fits : IsCodable (store_length w.history) e) where
+        all_fit : AreCodable 0 (w.history ++ e ∷ [])
+        all_fit = codable-at w.history e (store_length w.history) refl stands_now.codable fits
+
+        pub may_next : IsHistory id_of (w.history ++ e ∷ [])
+        may_next = may-push id_of empty_archive w.history e k.history may
+
+        -- at each call of the event, and where one failed
+        pub stands_at : (n : ℕ) (ledger store : List ℕ) → IsImage (files_done (take n (calls_for w.history e)) (files_in w) 0) ledger → IsImage (files_done (take n (calls_for w.history e)) (files_in w) 1) store → MayStand w.history (Some e) ledger store
+        stands_at n ledger store il is =
+            ((event_moments_stand (files_in w) w.history (k.rests none) stands_now e all_fit).has n).has (two_images ledger store)
+            (are_two (files_done (take n (calls_for w.history e)) (files_in w)) ledger store
+            (two_done (take n (calls_for w.history e)) (files_in w) (all_take (λ c. c.0 < 2) n (calls_for w.history e) (calls_on_two w.history e)) (two_in w)) il is)
+
+        stands_failed : (number : ℕ) (ledger store : List ℕ) → IsImage (failed_at number (calls_for w.history e) (files_in w) 0) ledger → IsImage (failed_at number (calls_for w.history e) (files_in w) 1) store → MayStand w.history (Some e) ledger store
+        stands_failed number ledger store il is =
+            (failed_left number (calls_for w.history e) (files_in w) (λ images. MayStand w.history (Some e) (images 0) (images 1)) (event_moments_stand (files_in w) w.history (k.rests none) stands_now e all_fit)).has (two_images ledger store)
+            (are_two (failed_at number (calls_for w.history e) (files_in w)) ledger store (two_failed number (calls_for w.history e) (files_in w) (calls_on_two w.history e) (two_in w)) il is)
+
+        pub joined_kept : IsWorld id_of (joined e w)
+        joined_kept =
+            let after = files_done (calls_for w.history e) (files_in w) in
+            let rests : AreAtRest after = event_rests (files_in w) w.history (k.rests none) stands_now e all_fit in
+            let stands : StandsFor (after 0).seen (after 1).seen (w.history ++ e ∷ []) = event_stands (files_in w) w.history (k.rests none) stands_now e all_fit in
+            record {
+              history = may_next;
+              shown = let l = k.shown in omega (arith, l, length-append w.history (e ∷ []));
+              kept = subst (IsFront w.kept) (sym (take-append-le w.shown w.history (e ∷ []) k.shown)) k.kept;
+              seen = k.seen;
+              images = λ ledger store il is.
+                  let same_l : ledger ≡ (after 0).seen = at_rest_image (after 0) ledger rests.ledger (image_of (after 0) ledger il) in
+                  let same_s : store ≡ (after 1).seen = at_rest_image (after 1) store rests.store (image_of (after 1) store is) in
+                  subst (λ (d : Option Event). MayStand (w.history ++ e ∷ []) d ledger store) (sym none)
+                  (subst (λ (l : List ℕ). StandsFor l store (w.history ++ e ∷ [])) (sym same_l) (subst (λ (s : List ℕ). StandsFor (after 0).seen s (w.history ++ e ∷ [])) (sym same_s) stands));
+              rests = λ _. record {
+                ledger = record { base = rests.ledger.base; ranges = rests.ledger.ranges; longest = rests.ledger.longest };
+                store = record { base = rests.store.base; ranges = rests.store.ranges; longest = rests.store.longest };
+              };
+              doubt = λ d is. absurd (let f : None ≡ Some d = sym none ∙ is in cc);
+            }
+
+        pub joined_later : IsLater w (joined e w)
+        joined_later = record { history = front_of_more w.history e; kept = front_itself w.kept; actors = refl }
+
+        pub doubt_later : (number : ℕ) → IsLater w (in_doubt e (failed_at number (calls_for w.history e) (files_in w)) w)
+        doubt_later number = record { history = front_itself w.history; kept = front_itself w.kept; actors = refl }
+
+        pub doubt_kept : (number : ℕ) → IsWorld id_of (in_doubt e (failed_at number (calls_for w.history e) (files_in w)) w)
+        doubt_kept number =
+            let left = failed_at number (calls_for w.history e) (files_in w) in
+            record {
+              history = k.history;
+              shown = k.shown;
+              kept = k.kept;
+              seen = k.seen;
+              images = λ ledger store il is. stands_failed number ledger store (image_of (left 0) ledger il) (image_of (left 1) store is);
+              rests = λ other. absurd (let f : Some e ≡ None = other in cc);
+              doubt = λ d is. subst (May id_of (replay w.history)) (let f : Some e ≡ Some d = is in let same : e ≡ d = cc in same) may;
+            }
+
+    -- two files stand for one history
+    pub one_for : (g h : List Event) (ledger store : List ℕ) → IsHistory id_of g → IsHistory id_of h → StandsFor ledger store g → StandsFor ledger store h → g ≡ h
+    one_for g h ledger store hg hh sg sh = one_history id_of g h (alike ledger store g h sg sh) hg hh
+
+    -- images that may stand for the history, or for it with an event that may be next, stand for no shorter one
+    pub front_of_stood : (more : Option Event) (h : List Event) (ledger store : List ℕ) → ((e : Event) → more ≡ Some e → May id_of (replay w.history) e) → MayStand w.history more ledger store → StandsFor ledger store h → IsHistory id_of h → IsFront w.history h
+    front_of_stood None h ledger store may stands is history = subst (IsFront w.history) (one_for w.history h ledger store k.history history stands is) (front_itself w.history)
+    front_of_stood (Some e) h ledger store may (inl without) is history = subst (IsFront w.history) (one_for w.history h ledger store k.history history without is) (front_itself w.history)
+    front_of_stood (Some e) h ledger store may (inr with_it) is history =
+        subst (IsFront w.history) (one_for (w.history ++ e ∷ []) h ledger store (may-push id_of empty_archive w.history e k.history (may e refl)) history with_it is) (front_of_more w.history e)
+
+    module _ (h : List Event) (ledger store : List ℕ) (front : IsFront w.history h) (history : IsHistory id_of h) (stands : StandsFor ledger store h) where
+      kept_there : IsFront w.kept h
+      kept_there = front_then w.kept w.history h kept_in front
+
+      pub reopened_kept : IsWorld id_of (reopened h ledger store w)
+      reopened_kept =
+          let one : longer w.kept h ≡ h = longer_whole w.kept h kept_there in
+          record {
+            history = history;
+            shown = omega arith;
+            kept = subst (λ (l : List Event). IsFront l (take (length h) h)) (sym one) (subst (IsFront h) (sym (whole_taken h)) (front_itself h));
+            seen = subst (λ (l : List Event). AllByRecursion (λ (f : List Event). IsFront f l) (map (λ _. h) w.seen)) (sym one) (all_same (λ (f : List Event). IsFront f h) w.seen h (front_itself h));
+            images = λ l s il is.
+                let same_l : l ≡ ledger = at_rest_image (as_file (rested ledger)) l (record { base = refl; ranges = refl; longest = refl }) il in
+                let same_s : s ≡ store = at_rest_image (as_file (rested store)) s (record { base = refl; ranges = refl; longest = refl }) is in
+                subst (λ (x : List ℕ). StandsFor x s h) (sym same_l) (subst (λ (x : List ℕ). StandsFor ledger x h) (sym same_s) stands);
+            rests = λ _. record { ledger = record { base = refl; ranges = refl; longest = refl }; store = record { base = refl; ranges = refl; longest = refl } };
+            doubt = λ d is. absurd (let f : None ≡ Some d = is in cc);
+          }
+
+      pub reopened_later : IsLater w (reopened h ledger store w)
+      reopened_later = record {
+        history = front;
+        kept = subst (IsFront w.kept) (sym (longer_whole w.kept h kept_there)) kept_there;
+        actors = length-map w.seen (λ _. h);
+      }

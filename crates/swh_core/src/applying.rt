@@ -1,0 +1,175 @@
+//! Wishes that are carried out, or of which a device call fails.
+ghost use Rattle.std.specs.Prelude.{◌≡◌, ◌↔◌, ◌≤◌, ◌<◌, IfOk, IsTrue, length, map};
+ghost use Rattle.swh_model.specs.Happens.{IsSomeHistory};
+ghost use Rattle.swh_core.specs.declared.step.Held.TheVariants.{Older};
+ghost use Rattle.swh_core.specs.Calls.{calls_for, file_call};
+ghost use Rattle.swh_core.specs.Step.{Applies, Faults};
+ghost use Rattle.swh_core.specs.Parts.{
+  world_of,
+  IsSomeWish,
+  IsRefusal,
+  IsFinished,
+  IsWaiting,
+  IsDoubted,
+  IsLooked,
+};
+
+use crate::call::EventCall;
+use crate::copies::events_again;
+use crate::judging::{Judgement, judge_wish};
+use crate::parts::{Parts, join, leave_in_doubt, parts_again, see, show_all};
+use crate::step::{Held, Told};
+use std::alloc::Global;
+use swh_base::Memory;
+use swh_model::{Event, No, Outcome, Wish};
+
+/// Shows all that waited, and lets the actor see it.
+fn refuse(alloc: Global, parts: &Parts, actor: u32, cause: No) -> Result<(Told, Parts), Memory>
+    requires { actor < length parts.now.seen.items }
+    ensures { IfOk result (IsRefusal (world_of parts.now) actor cause) }
+{
+    let mut next = parts_again(alloc, parts)?;
+    show_all(&mut next);
+    let front = events_again(alloc, &next.history)?;
+    see(alloc, &mut next, actor, front)?;
+    Ok((Told::No(cause), next))
+}
+
+/// Adds an event, and lets the actor see it.
+fn finish(
+    alloc: Global,
+    parts: &Parts,
+    actor: u32,
+    event: Event,
+    outcome: Outcome,
+    calls: &[EventCall],
+) -> Result<(Told, Parts), Memory>
+    requires actor { actor < length parts.now.seen.items }
+    requires calls { map file_call calls.now ≡ calls_for parts.now.history.items event }
+    ensures { IfOk result (IsFinished (world_of parts.now) actor event outcome) }
+{
+    let mut next = parts_again(alloc, parts)?;
+    join(alloc, &mut next, event, calls)?;
+    show_all(&mut next);
+    let front = events_again(alloc, &next.history)?;
+    see(alloc, &mut next, actor, front)?;
+    Ok((Told::Done(outcome), next))
+}
+
+/// Adds an event, which waits to be shown.
+fn wait(
+    alloc: Global,
+    parts: &Parts,
+    event: Event,
+    calls: &[EventCall],
+) -> Result<(Told, Parts), Memory>
+    requires { map file_call calls.now ≡ calls_for parts.now.history.items event }
+    ensures { IfOk result (IsWaiting (world_of parts.now) event) }
+{
+    let mut next = parts_again(alloc, parts)?;
+    show_all(&mut next);
+    join(alloc, &mut next, event, calls)?;
+    let event = next.history.len() as u64;
+    Ok((Told::Waits { event }, next))
+}
+
+/// Leaves an event in doubt.
+fn doubt(
+    alloc: Global,
+    parts: &Parts,
+    event: Event,
+    calls: &[EventCall],
+    call: u32,
+) -> Result<(Told, Parts), Memory>
+    requires { map file_call calls.now ≡ calls_for parts.now.history.items event }
+    ensures { IfOk result (IsDoubted (world_of parts.now) event call) }
+{
+    let mut next = parts_again(alloc, parts)?;
+    show_all(&mut next);
+    leave_in_doubt(alloc, &mut next, event, calls, call)?;
+    let event = next.history.len() as u64 + 1;
+    Ok((Told::Doubt { event }, next))
+}
+
+/// Says whether events wait, and showing them is refused.
+fn is_held_back(parts: &Parts, held: Held) -> bool
+    ensures { IsTrue result ↔ (held ≡ Older) × (parts.now.shown < length parts.now.history.items) }
+{
+    match held {
+        Held::Older => parts.shown < parts.history.len(),
+        Held::No => false,
+        Held::Newest => false,
+    }
+}
+
+/// An actor's wish.
+pub fn apply_step(
+    alloc: Global,
+    parts: &Parts,
+    actor: u32,
+    wish: &Wish,
+    held: Held,
+) -> Result<(Told, Parts), Memory>
+    requires actor { actor < length parts.now.seen.items }
+    requires shown { parts.now.shown ≤ length parts.now.history.items }
+    requires history { IsSomeHistory parts.now.history.items }
+    requires wish { IsSomeWish wish.now }
+    ensures { IfOk result (λ r. Applies actor wish.now held (world_of parts.now) r.0 (world_of r.1)) }
+{
+    if parts.doubt.is_some() {
+        return Ok((Told::Wounded, parts_again(alloc, parts)?));
+    }
+    if is_held_back(parts, held) {
+        return Ok((Told::Untaken, parts_again(alloc, parts)?));
+    }
+    match judge_wish(alloc, &parts.history, actor, wish)? {
+        Judgement::Refused(cause) => refuse(alloc, parts, actor, cause),
+        Judgement::Allowed {
+            event,
+            outcome,
+            calls,
+        } => match held {
+            Held::Newest => wait(alloc, parts, event, &calls),
+            Held::No => finish(alloc, parts, actor, event, outcome, &calls),
+            Held::Older => finish(alloc, parts, actor, event, outcome, &calls),
+        },
+    }
+}
+
+/// An actor's wish, of whose event a device call fails.
+pub fn fault_step(
+    alloc: Global,
+    parts: &Parts,
+    actor: u32,
+    wish: &Wish,
+    call: u32,
+) -> Result<(Told, Parts), Memory>
+    requires history { IsSomeHistory parts.now.history.items }
+    requires wish { IsSomeWish wish.now }
+    ensures { IfOk result (λ r. Faults actor wish.now call (world_of parts.now) r.0 (world_of r.1)) }
+{
+    if parts.doubt.is_some() {
+        return Ok((Told::Wounded, parts_again(alloc, parts)?));
+    }
+    match judge_wish(alloc, &parts.history, actor, wish)? {
+        Judgement::Refused(cause) => {
+            let mut next = parts_again(alloc, parts)?;
+            show_all(&mut next);
+            Ok((Told::No(cause), next))
+        }
+        Judgement::Allowed { event, calls, .. } => doubt(alloc, parts, event, &calls, call),
+    }
+}
+
+/// An actor sees what is shown.
+pub fn look_step(alloc: Global, parts: &Parts, actor: u32) -> Result<(Told, Parts), Memory>
+    requires actor { actor < length parts.now.seen.items }
+    requires shown { parts.now.shown ≤ length parts.now.history.items }
+    ensures { IfOk result (IsLooked (world_of parts.now) actor) }
+{
+    let mut next = parts_again(alloc, parts)?;
+    let front = events_again(alloc, &parts.history[..parts.shown])?;
+    see(alloc, &mut next, actor, front)?;
+    let front = next.shown as u64;
+    Ok((Told::Front { front }, next))
+}
