@@ -2,6 +2,6 @@ pub mod Files
 pub mod Standing
 pub mod Worlds
 pub mod Steps
-pub mod Judged
+pub mod Doubted
 pub mod Runs
 pub mod Caught
