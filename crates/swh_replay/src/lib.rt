@@ -6,6 +6,7 @@
 mod advancing;
 mod collecting;
 mod happening;
+mod look;
 mod replayed;
 mod replaying;
 

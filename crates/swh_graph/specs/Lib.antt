@@ -1,0 +1,11 @@
+pub mod Answer
+pub mod Holding
+pub mod Log
+pub mod Met
+pub mod Path
+pub mod Root
+pub mod Resolve
+pub mod Reached
+pub mod Rounds
+pub mod Search
+pub mod Way
