@@ -1,0 +1,5 @@
+use Rattle.swh_api.proofs.Loads.{no_load}
+use Rattle.swh_api.proofs.routing.load_text.Goals as goal
+
+pub returns-in_default-asked-clause-none : goal.returns-in_default-asked-clause-none
+returns-in_default-asked-clause-none c = no_load c.args.path.now c.in-Some.asked c.in-Some.ensures.some c.in_default-asked.not-Load
