@@ -158,7 +158,8 @@ fn swhid_of(alloc: Global, text: &[u8]) -> Result<Option<Swhid>, Memory>
 pub fn resolve_reply<L: Look>(alloc: Global, look: &L, text: &[u8]) -> Result<Reply, Memory>
     ensures { IfOk result (IsResolveReply (L.archive look.now).bodies text.now) }
 {
-    let Some(swhid) = swhid_of(alloc, text)? else {
+    let found = swhid_of(alloc, text)?;
+    let Some(swhid) = found else {
         return refusal(alloc, 400, "swhid");
     };
     let name = match resolve(alloc, look, &swhid) {
