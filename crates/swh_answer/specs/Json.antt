@@ -66,6 +66,7 @@ origin_data origin visits =
 
 -- ---- artifacts
 
+-- a revision: its directory, its id, its parents in order, and the rest of its body
 abbrev pub revision_data : List ℕ → Revision → Data
 revision_data id r =
     object (member (codes "directory") (id_data r.directory)
@@ -77,6 +78,7 @@ revision_data id r =
 abbrev pub log_data : List Name → Data
 log_data names = array_data (λ n. id_data n.id) names
 
+-- a release: its id, its name, the rest of its body, and the object that it names
 abbrev pub release_data : List ℕ → Release → Data
 release_data id r =
     object (member (codes "id") (id_data id)
@@ -101,6 +103,7 @@ entry_type mode =
     else if mode == 160000 then codes "rev"
     else codes "file"
 
+-- an entry of a directory: its name, its permissions, and what it leads to
 abbrev pub entry_data : DirectoryEntry → Data
 entry_data e =
     object (member (codes "name") (text_data e.name)
@@ -108,6 +111,7 @@ entry_data e =
     (member (codes "target") (id_data e.id)
     (member (codes "type") (string (entry_type e.mode)) no_members))))
 
+-- the entries of a directory, in their order
 abbrev pub directory_data : List DirectoryEntry → Data
 directory_data entries = array_data entry_data entries
 
@@ -125,6 +129,7 @@ target_data ToNothing = null
 abbrev pub branches_data : List SnapshotBranch → Members
 branches_data branches = members_data (λ b. escaped b.name) (λ b. target_data b.target) branches no_members
 
+-- a snapshot: what its branches lead to, and its id
 abbrev pub snapshot_data : List ℕ → List SnapshotBranch → Data
 snapshot_data id branches =
     object (member (codes "branches") (object (branches_data branches))
@@ -136,6 +141,7 @@ content_data name body =
     object (member (codes "length") (number_data (length body))
     (member (codes "swhid") (string (core_text name)) no_members))
 
+-- the object to which a SWHID leads: its id and the word of its kind
 abbrev pub resolved_data : Name → Data
 resolved_data name =
     object (member (codes "object_id") (id_data name.id)
@@ -151,6 +157,7 @@ known_data bodies names = object (members_data core_text (is_known_data bodies) 
 
 -- ---- refusals
 
+-- the word of a refusal
 abbrev pub error_data : List ℕ → Data
 error_data word = object (member (codes "error") (string word) no_members)
 

@@ -1,4 +1,3 @@
-pub mod Tables
-pub mod Escapes
-pub mod Texts
-pub mod Paths
+pub mod Told
+pub mod Loads
+pub mod Unique

@@ -1,2 +1,5 @@
-pub mod Asked
-pub mod Text
+pub mod Answer
+pub mod Fault
+pub mod Get
+pub mod Refusal
+pub mod Route

@@ -1,53 +1,79 @@
-// The reply to a path.
-ghost use Rattle.std.specs.Prelude.{◌≡◌, true, IfOk};
-ghost use Rattle.swh_api.specs.Text.{text_of};
-ghost use Rattle.swh_model.specs.Archive.{Archive, visits_of};
-ghost use Rattle.swh_model.specs.Answer.{IsReply, not_found as not_found_text};
+// The answer to a request.
+ghost use Rattle.std.specs.Prelude.{◌≡◌, ◌↔◌, ℕ, List, IsTrue, IfOk};
+ghost use Rattle.swh_answer.specs.Answers.{NoUrl};
+ghost use Rattle.swh_answer.specs.Json.{error_reply};
+ghost use Rattle.swh_answer.specs.Shape.{Load, shape_of};
+ghost use Rattle.swh_api.specs.Answer.{method_of, IsShapeReply, IsAnswer};
+ghost use Rattle.swh_api.specs.Route.{AsksNoLoad};
 
-use crate::path::visits_origin;
-use crate::visits::visits_reply;
+use crate::objects::{
+    directory_reply, entry_reply, log_reply, release_reply, resolve_reply, revision_reply,
+    snapshot_reply,
+};
 use std::alloc::Global;
-use swh_base::{Bytes, Memory, Reply};
-use swh_model::Visit;
+use swh_answer::{
+    Asked, content_reply, known_reply, origin_reply, raw_reply, read_path, refusal, visits_reply,
+};
+use swh_base::{Memory, Reply, Request};
+use swh_model::Look;
 
-/// What a reply looks at.
-pub trait Look {
-    /// The archive that it shows.
-    ghost archive: { Self → Archive };
-
-    /// It may be looked at.
-    ghost can_look: { Self → Type 0 };
-
-    /// The visits of an origin, the oldest first; none where it was never opened.
-    fn visits(&self, origin: &[u8]) -> &[Visit]
-        requires { can_look self.now }
-        ensures { result.now ≡ visits_of (archive self.now).origins origin.now };
-}
-
-/// The reply to a GET of this path: an origin's visits, and 404 for every other path. Fails where memory runs out.
-pub fn reply<L: Look>(alloc: Global, look: &L, path: &[u8]) -> Result<Reply, Memory>
-    requires { L.can_look look.now }
-    ensures text { IfOk result (λ r. IsReply (L.archive look.now) path.now (text_of r)) }
-    ensures json { IfOk result (λ r. r.json ≡ true) }
+// The method that a path is asked by.
+fn method_of(asked: &Asked<'_>) -> &'static [u8]
+    ensures { result.now ≡ method_of (shape_of asked.now) }
 {
-    match visits_origin(alloc, path)? {
-        Some(origin) => {
-            let origin = origin.as_slice();
-            visits_reply(alloc, origin, look.visits(origin))
-        }
-        None => not_found(alloc),
+    match asked {
+        Asked::Known | Asked::Load(_) => b"POST",
+        _ => b"GET",
     }
 }
 
-/// The reply where nothing answers to a path: 404, with a JSON body. Fails where memory runs out.
-pub fn not_found(alloc: Global) -> Result<Reply, Memory>
-    ensures text { IfOk result (λ r. text_of r ≡ not_found_text) }
-    ensures json { IfOk result (λ r. r.json ≡ true) }
+// Whether this is the method that a path is asked by.
+fn is_method_of(asked: &Asked<'_>, method: &[u8]) -> bool
+    ensures { IsTrue result ↔ (method.now ≡ method_of (shape_of asked.now)) }
 {
-    let body = Bytes::from_slice(alloc, b"{\"error\":\"not found\"}")?;
-    Ok(Reply {
-        status: 404,
-        json: true,
-        body,
-    })
+    method == method_of(asked)
+}
+
+// The reply to what a path asks for, by its method, with this body.
+fn reply_to<L: Look>(
+    alloc: Global,
+    look: &L,
+    asked: &Asked<'_>,
+    body: &[u8],
+) -> Result<Reply, Memory>
+    requires { (url : List ℕ) → shape_of asked.now ≡ Load url → NoUrl url }
+    ensures { IfOk result (IsShapeReply (L.archive look.now) body.now (shape_of asked.now)) }
+{
+    match asked {
+        Asked::Known => known_reply(alloc, look, body),
+        Asked::Visits(url) => visits_reply(alloc, look, url),
+        Asked::Origin(url) => origin_reply(alloc, look, url),
+        Asked::Revision(id) => revision_reply(alloc, look, id),
+        Asked::Log(id) => log_reply(alloc, look, id),
+        Asked::Release(id) => release_reply(alloc, look, id),
+        Asked::Directory(id) => directory_reply(alloc, look, id),
+        Asked::DirectoryEntry(id, path) => entry_reply(alloc, look, id, path),
+        Asked::Snapshot(id) => snapshot_reply(alloc, look, id),
+        Asked::Content(id) => content_reply(alloc, look, id),
+        Asked::Resolve(swhid) => resolve_reply(alloc, look, swhid),
+        Asked::Raw(core) => raw_reply(alloc, look, core),
+        Asked::Load(_) => refusal(alloc, 400, "swhid"),
+    }
+}
+
+/// The reply to a request that is no load, over what is looked at. A path that is none of the API's is 404 `not found`, and
+/// then another method than the path's is 405 `method`; a text that is no id, SWHID or URL is 400 `swhid`, and a body that
+/// lists no names 400 `json`; what is not held is 404 `not held`, and a path that leads nowhere 404 `no path`. Fails where
+/// memory runs out.
+pub fn reply<L: Look>(alloc: Global, look: &L, request: &Request) -> Result<Reply, Memory>
+    requires { AsksNoLoad request.now }
+    ensures { IfOk result (IsAnswer (L.archive look.now) request.now) }
+{
+    let Some(asked) = read_path(request.path.as_slice()) else {
+        return refusal(alloc, 404, "not found");
+    };
+    if !is_method_of(&asked, request.method.as_slice()) {
+        return refusal(alloc, 405, "method");
+    }
+    reply_to(alloc, look, &asked, request.body.as_slice())
 }

@@ -1,13 +1,17 @@
-//! Answers of the read API over HTTP: which origin's visits a path asks for, and the reply as JSON.
-//! Stands on `swh_base`, `swh_model`, `json`, `serde_json`, `percent_encoding` and `hex`.
-//! Callers may rely on: a reply is the model's answer to the path over the archive that is looked at.
+//! The read API: which requests are loads, and the reply to every other request, over an archive that is looked at.
+//! Stands on `swh_base`, `swh_model`, `swh_swhid`, `swh_graph` and `swh_answer`.
+//! Callers may rely on: a reply is the archive's answer to the request.
 #![tactic(auto)]
 
 mod answer;
-mod path;
-mod visits;
-mod words;
+mod get;
+mod objects;
+mod refusals;
+mod routing;
+mod wanted;
 
-pub use answer::{Look, not_found, reply};
-pub use path::visits_origin;
-pub use visits::visits_reply;
+pub use answer::reply;
+pub use get::reply_to_get;
+pub use refusals::refusal_reply;
+pub use routing::route;
+pub use wanted::Route;

@@ -21,4 +21,5 @@ pub use history::log;
 pub use laws::{one_entry, one_log, one_path, one_reach, one_resolution};
 pub use paths::at_path;
 pub use reaching::reach;
+pub use reading::{directory_at, release_at, revision_at, snapshot_at};
 pub use resolving::resolve;

@@ -1,38 +1,18 @@
 -- There is one reply to a path, and replies to more paths.
-use Rattle.std.specs.Bool.{Decides}
 use Rattle.std.specs.List.{flat_map}
-use Rattle.std.proofs.Common.{◌≡◌, ◌≢◌, ◌==◌, ◌⊎◌, inl, inr, ℕ, zero, suc, ◌<◌, Bool, true, false, List, [], ◌∷◌, ◌++◌, length, get_or, refl, sym, ap, ◌∙◌, arith, length-append}
+use Rattle.std.proofs.Common.{◌≡◌, ◌≢◌, ◌⊎◌, inl, inr, ℕ, zero, suc, ◌<◌, List, [], ◌∷◌, ◌++◌, length, get_or, refl, sym, ap, ◌∙◌, arith, length-append}
 use Rattle.std.proofs.Math.ListN.{get_or-append}
 use Rattle.std.proofs.lemmas.Grind.{flat_map-append}
 use Rattle.std.proofs.lemmas.List.{append-nil}
 use Rattle.std.proofs.lemmas.List.Quantifiers.{Any-push}
-use Rattle.std.proofs.lemmas.Bool.Decides.{Decides-eqb}
-use Rattle.std.proofs.lemmas.Slice.Eq.{bytes_eq-Decides}
-use Rattle.std.specs.Str.{bytes_eq}
 use Rattle.swh_model.specs.Archive.{Archive}
-use Rattle.swh_model.specs.Answer.{ReplyText, AsksForVisits, IsReply}
+use Rattle.swh_model.specs.Answer.{ReplyText}
 use Rattle.swh_model.proofs.Entries.{all-append}
+use Rattle.swh_api.specs.Get.{IsReplyToGet}
+use Rattle.swh_api.proofs.Unique.{one_reply_to_get}
 use Rattle.swh_program.specs.AskCommand.{reply_line, AreReplies, AreFound, HasShortReply, IsEndingOf, TellsArchive}
 use Rattle.swh_program.specs.declared.answer.Ending.{Ending}
 use Rattle.swh_program.specs.declared.answer.Ending.TheVariants.{Wanting}
-
--- what is decided holds where it cannot fail
-settled : {P : Type 0} (b : Bool) → Decides b P → ((P → ⊥) → ⊥) → P
-settled true d h = d.0 refl
-settled false d h = absurd (h (λ p. let e : false ≡ true = d.1 p in cc))
-
-module _ (a : Archive) (path : List ℕ) (r s : ReplyText) (is_r : IsReply a path r) (is_s : IsReply a path s) where
-  -- what two replies always share they have in common
-  shared : {X : Type 0} (part : ReplyText → X) → (part r ≡ part s → ⊥) → ⊥
-  shared part apart =
-      let unasked : (raw : List ℕ) → AsksForVisits path raw → ⊥ = λ raw asks. apart (ap part (is_r.visits raw asks ∙ sym (is_s.visits raw asks))) in
-      apart (ap part (is_r.other unasked ∙ sym (is_s.other unasked)))
-
-  pub one_reply : r ≡ s
-  one_reply =
-      let status = settled (r.status == s.status) (Decides-eqb r.status s.status) (shared (λ (x : ReplyText). x.status)) in
-      let body = settled (bytes_eq r.body s.body) (bytes_eq-Decides r.body s.body) (shared (λ (x : ReplyText). x.body)) in
-      λ i. record { status = status i; body = body i }
 
 -- there is one list of replies to paths
 pub same_replies : (a : Archive) (paths : List (List ℕ)) (rs ss : List ReplyText) → AreReplies a paths rs → AreReplies a paths ss → rs ≡ ss
@@ -42,12 +22,12 @@ same_replies a [] (r ∷ rs) ss are_r are_s = absurd are_r
 same_replies a (path ∷ paths) [] ss are_r are_s = absurd are_r
 same_replies a (path ∷ paths) (r ∷ rs) [] are_r are_s = absurd are_s
 same_replies a (path ∷ paths) (r ∷ rs) (s ∷ ss) are_r are_s =
-    let head = one_reply a path r s are_r.0 are_s.0 in
+    let head = one_reply_to_get a path r s are_r.0 are_s.0 in
     let rest = same_replies a paths rs ss are_r.1 are_s.1 in
     (λ i. head i ∷ rest i)
 
 -- one more path, and its reply
-more_replies : (a : Archive) (paths : List (List ℕ)) (replies : List ReplyText) (path : List ℕ) (reply : ReplyText) → AreReplies a paths replies → IsReply a path reply → AreReplies a (paths ++ path ∷ []) (replies ++ reply ∷ [])
+more_replies : (a : Archive) (paths : List (List ℕ)) (replies : List ReplyText) (path : List ℕ) (reply : ReplyText) → AreReplies a paths replies → IsReplyToGet a path reply → AreReplies a (paths ++ path ∷ []) (replies ++ reply ∷ [])
 more_replies a [] [] path reply are is = (is, tt)
 more_replies a [] (r ∷ rs) path reply are is = absurd are
 more_replies a (p ∷ ps) [] path reply are is = absurd are
@@ -67,7 +47,7 @@ more_ending replies reply end now (inr wanting) (inl found) = inr (still_short r
 more_ending replies reply end now is (inr other) = inr (Any-push (λ r. r.status ≢ 200) replies reply other.0, other.1)
 
 -- one more reply is told
-pub told_more : (a : Archive) (paths : List (List ℕ)) (path : List ℕ) (reply : ReplyText) (text text_now : List ℕ) (end now : Ending) → TellsArchive a paths text end → IsReply a path reply → text_now ≡ text ++ reply_line reply
+pub told_more : (a : Archive) (paths : List (List ℕ)) (path : List ℕ) (reply : ReplyText) (text text_now : List ℕ) (end now : Ending) → TellsArchive a paths text end → IsReplyToGet a path reply → text_now ≡ text ++ reply_line reply
     → ((reply.status ≡ 200) × (now ≡ end)) ⊎ ((reply.status ≢ 200) × (now ≡ Wanting)) → TellsArchive a (paths ++ path ∷ []) text_now now
 told_more a paths path reply text text_now end now told is appended ends =
     let line = reply_line reply in

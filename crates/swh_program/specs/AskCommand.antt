@@ -6,7 +6,8 @@ use Rattle.swh_outside.specs.Files.{Files}
 use Rattle.swh_model.specs.declared.event.Event.{Event}
 use Rattle.swh_model.specs.Archive.{Archive}
 use Rattle.swh_model.specs.Step.{IsHistory, replay}
-use Rattle.swh_model.specs.Answer.{ReplyText, IsReply}
+use Rattle.swh_model.specs.Answer.{ReplyText}
+use Rattle.swh_api.specs.Get.{IsReplyToGet}
 use Rattle.swh_segment.specs.Making.{IsNotMade}
 use Rattle.swh_keeper.specs.Own.{AreOwn}
 use Rattle.swh_program.specs.Seen.{Span, DepotFailed, SinkFailed}
@@ -25,9 +26,9 @@ use Rattle.swh_program.specs.declared.answer.Answer.TheVariants.{Told, OutsideDi
 abbrev pub reply_line : ReplyText → List ℕ
 reply_line r = decimal r.status ++ 32 ∷ (decimal (length r.body) ++ 10 ∷ (r.body ++ 10 ∷ []))
 
--- The replies of an archive, one to each path, in the order of the paths.
+-- The replies of an archive, one to a GET of each path, in the order of the paths.
 abbrev pub AreReplies : Archive → List (List ℕ) → List ReplyText → Type 0
-AreReplies a paths replies = AllZip (IsReply a) paths replies
+AreReplies a paths replies = AllZip (IsReplyToGet a) paths replies
 
 -- Each reply's status is 200.
 abbrev pub AreFound : List ReplyText → Type 0

@@ -1,7 +1,7 @@
 // The command `ask`.
 ghost use Rattle.std.specs.Prelude.{◌≡◌, ◌≢◌, ◌⊎◌, ◌≤◌, ◌++◌, ◌∷◌, [], None, IfOk, OnOk, decimal, length, map};
 ghost use Rattle.swh_outside.specs.Faults.{Rose};
-ghost use Rattle.swh_api.specs.Text.{text_of};
+ghost use Rattle.swh_api.specs.Get.{text_of};
 ghost use Rattle.swh_program.specs.Archives.{archive_at, SameElsewhere};
 ghost use Rattle.swh_program.specs.AskCommand.{reply_line, TellsArchive, IsToldArchive, IsAskAnswer, AskEnds};
 ghost use Rattle.swh_program.specs.Own.{KeepsOwn};
@@ -14,32 +14,10 @@ use crate::opening::{close_archive, open_archive};
 use itoa::Buffer;
 use std::alloc::Global;
 use std::convert::AsStr;
-use swh_api::{Look, reply};
+use swh_api::reply_to_get;
 use swh_base::{Bytes, Memory, Namer, Reply};
-use swh_model::Visit;
 use swh_outside::Depot;
 use swh_replay::Replayed;
-
-/// What a keeper shows: the replay of its history.
-#[derive(Drop)]
-struct Shown<'a> {
-    replayed: &'a Replayed,
-}
-
-impl<'a> Look for Shown<'a> {
-    ghost use Rattle.swh_replay.specs.Replay.{archive_of};
-
-    ghost archive = { λ s. archive_of s.replayed.now };
-
-    ghost can_look = { λ _. Unit {0} };
-
-    fn visits(&self, origin: &[u8]) -> &[Visit] {
-        match self.replayed.visits.list_of(origin) {
-            Some(visits) => visits,
-            None => &[],
-        }
-    }
-}
 
 /// What is printed of replies, and how the run ends.
 #[derive(Drop)]
@@ -79,11 +57,10 @@ fn replies<W: AsStr>(alloc: Global, replayed: &Replayed, paths: &[W]) -> Result<
     ensures { IfOk result (λ told.
         TellsArchive (archive_of replayed.now) (map W.text paths.now) told.text told.ending) }
 {
-    let shown = Shown { replayed };
     let mut text = Vec::new(alloc);
     let mut ending = Ending::Done;
     for path in paths {
-        let reply = reply(alloc, &shown, path.as_str().as_bytes())?;
+        let reply = reply_to_get(alloc, replayed, path.as_str().as_bytes())?;
         put_reply(&mut text, &reply)?;
         ending = ending_with(ending, reply.status);
     }

@@ -1,10 +1,8 @@
 //! Tests of the wire: what clients sent and what is read of it, and the read API's paths and replies.
-//! Stands on the HTTP session and the read API.
+//! Stands on the HTTP session and the answers of the read API.
 //! Nothing stands above it.
 #![tactic(auto)]
 
-#[cfg(test)]
-mod api;
 #[cfg(test)]
 mod asked;
 #[cfg(test)]
@@ -12,10 +10,10 @@ mod clients;
 #[cfg(test)]
 mod known;
 #[cfg(test)]
-mod paths;
-#[cfg(test)]
 mod replies;
 #[cfg(test)]
 mod sessions;
 #[cfg(test)]
 mod values;
+#[cfg(test)]
+mod visits;

@@ -1,18 +1,10 @@
-use Rattle.std.proofs.Common.{ap, ◌∙◌}
-use Rattle.std.proofs.lemmas.Result.{IfOk-weaker}
-use Rattle.swh_model.specs.Answer.{reply_with, visits_reply}
-use Rattle.swh_api.proofs.Paths.{IsReply-visits, IsReply-other}
+use Rattle.std.proofs.Common.{rules, ◌≡◌, ℕ, List, sym, ◌∙◌, subst}
+use Rattle.swh_answer.specs.Shape.{Spells, shape_of}
+use Rattle.swh_api.proofs.Loads.{no_url}
 use Rattle.swh_api.proofs.answer.reply.Goals as goal
 
-pub returns-in-Some-clause-text : goal.returns-in-Some-clause-text
-returns-in-Some-clause-text g c =
-    let archive = g.L.Look.archive c.args.look.now in
-    let asks = rw c.in-Some.is at c.in_ok-origin.ensures in
-    let shown = ap (reply_with c.as_slice-origin.result.now) c.visits.ensures ∙ ap (visits_reply archive) c.as_slice-origin.ensures in
-    IfOk-weaker c.visits_reply.result _ _ (λ r is. IsReply-visits archive c.args.path.now c.in-Some.origin _ asks (is ∙ shown)) c.visits_reply.ensures.text
-
-pub returns-in-None-clause-text : goal.returns-in-None-clause-text
-returns-in-None-clause-text g c =
-    let archive = g.L.Look.archive c.args.look.now in
-    let asks = rw c.in-None.is at c.in_ok-origin.ensures in
-    IfOk-weaker c.not_found.result _ _ (λ r is. IsReply-other archive c.args.path.now _ asks is) c.not_found.ensures.text
+pub reply_to-requires : goal.reply_to-requires
+reply_to-requires g c =
+    let shape = shape_of c.in-Some.asked in
+    let method = c.if-not-is_method_of.ensures.0 (search rules) in
+    no_url c.args.request.now shape c.requires (subst (λ (path : List ℕ). Spells path shape) c.as_slice.ensures c.in-Some.ensures.some) (sym c.as_slice-2.ensures ∙ method)

@@ -1,8 +1,7 @@
 use Rattle.std.proofs.Common.{◌≡◌, ◌+◌, List, [], ◌∷◌, ◌++◌, ℕ, map, take, sym, ap, ◌∙◌, subst}
 use Rattle.std.proofs.lemmas.List.{take_more, map-append}
-use Rattle.swh_api.specs.Text.{text_of}
+use Rattle.swh_api.specs.Get.{text_of, IsReplyToGet}
 use Rattle.swh_replay.specs.Replay.{archive_of}
-use Rattle.swh_model.specs.Answer.{IsReply}
 use Rattle.swh_program.specs.AskCommand.{TellsArchive}
 use Rattle.swh_program.proofs.Replies.{told_more}
 use Rattle.swh_program.proofs.ask_command.replies.Goals as goal
@@ -19,5 +18,5 @@ loop-path-preserved g c =
     let more : map text (take (i + 1) paths) ≡ map text (take i paths) ++ text path ∷ [] =
     ap (map text) (take_more paths i path c.loop-path-test.true ∙ ap (λ p. take i paths ++ p ∷ []) (sym c.path-item.is)) ∙ map-append text (take i paths) (path ∷ []) in
     let told = told_more a (map text (take i paths)) (text path) reply c.loop-path.text.items c.put_reply.new.text.items c.loop-path.ending c.ending_with-ending.result c.loop-path.invariant
-    (subst (λ (p : List ℕ). IsReply a p reply) same c.in_ok-reply.ensures.text) c.in_ok-put_reply.ensures c.ending_with-ending.ensures in
+    (subst (λ (p : List ℕ). IsReplyToGet a p reply) same c.in_ok-reply.ensures) c.in_ok-put_reply.ensures c.ending_with-ending.ensures in
     subst (λ (l : List (List ℕ)). TellsArchive a l c.put_reply.new.text.items c.ending_with-ending.result) (sym more) told

@@ -1,0 +1,10 @@
+-- Why a session refuses what it reads.
+use Rattle.std.specs.Prelude.{ℕ, ◌==◌, if◌then◌else◌, List, codes}
+
+-- the word for the status of a refusal: the bytes begin no request, or its body, its fields or how it is sent are refused
+abbrev pub refusal_word : ℕ → List ℕ
+refusal_word status =
+    if status == 413 then codes "length"
+    else if status == 431 then codes "fields"
+    else if status == 501 then codes "transfer"
+    else codes "request"
