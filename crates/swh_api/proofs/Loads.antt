@@ -1,13 +1,13 @@
 -- Which paths are those of loads.
-use Rattle.std.proofs.Common.{◌≡◌, ◌≢◌, ℕ, Bor, List, refl, sym, ap, ◌∙◌, subst}
+use Rattle.std.proofs.Common.{◌≡◌, ◌≢◌, ℕ, Bor, List, refl, ap, ◌∙◌, subst}
 use Rattle.swh_base.specs.declared.request.Request.{Request}
 use Rattle.swh_answer.specs.declared.asked.Asked.{Asked}
 use Rattle.swh_answer.specs.declared.asked.Asked.TheVariants as asked
 use Rattle.swh_answer.specs.Shape.{Shape, Load, Spells, shape_of}
-use Rattle.swh_answer.specs.Answers.{SpellsUrl, NoUrl}
+use Rattle.swh_answer.specs.Answers.{NoUrl}
 use Rattle.swh_answer.proofs.Shapes.{one_shape}
 use Rattle.swh_api.specs.Answer.{method_of}
-use Rattle.swh_api.specs.Route.{AsksLoad, AsksNoLoad}
+use Rattle.swh_api.specs.Route.{AsksNoLoad}
 
 other_shape : (a : Asked) (text : List ℕ) → ((x : Bor (List ℕ)) → a ≢ asked.Load x) → shape_of a ≡ Load text → ⊥
 other_shape (asked.Load x) text other same = other x refl

@@ -1,11 +1,11 @@
 -- Replies that tell an answer of the graph.
-use Rattle.std.proofs.Common.{◌≡◌, ◌⊎◌, inl, inr, ℕ, Result, Ok, Err, IfOk, None, List, ap, ◌∙◌}
+use Rattle.std.proofs.Common.{◌≡◌, inr, ℕ, Result, Ok, Err, IfOk, List, ap, ◌∙◌}
 use Rattle.serde_json.specs.Data.{Data}
 use Rattle.swh_base.specs.declared.kind.Kind.{Kind}
 use Rattle.swh_base.specs.declared.memory.Memory.{Memory}
 use Rattle.swh_base.specs.declared.name.Name.{Name}
 use Rattle.swh_base.specs.declared.request.Reply.{Reply}
-use Rattle.swh_model.specs.Archive.{Bodies, body_of}
+use Rattle.swh_model.specs.Archive.{Bodies}
 use Rattle.swh_swhid.specs.declared.swhid.Swhid.{Swhid}
 use Rattle.swh_swhid.specs.Qualifier.{IsSwhid}
 use Rattle.swh_graph.specs.Answer.{GraphAnswer, Found, Missing, Nowhere, Refuses}
@@ -15,7 +15,7 @@ use Rattle.swh_graph.specs.declared.fault.GraphFault.{GraphFault}
 use Rattle.swh_graph.specs.declared.fault.GraphFault.TheVariants as fault
 use Rattle.swh_answer.specs.Json.{resolved_data, tree_reply}
 use Rattle.swh_answer.specs.Answers.{SpellsId}
-use Rattle.swh_api.specs.Answer.{IsRead, graph_reply, TellsAnswer, IsIdReply, IsResolveReply}
+use Rattle.swh_api.specs.Answer.{IsRead, TellsAnswer, IsIdReply, IsResolveReply}
 use Rattle.swh_api.specs.Fault.{IsFaultReply}
 
 -- the name of a kind, by its kind and its id

@@ -1,5 +1,5 @@
 -- That there is one answer to a request.
-use Rattle.std.proofs.Common.{◌≡◌, ◌≢◌, ◌⊎◌, inl, inr, ℕ, Option, Some, None, List, refl, sym, ap, ◌∙◌, subst}
+use Rattle.std.proofs.Common.{◌≡◌, inl, inr, ℕ, Option, Some, None, List, sym, ap, ◌∙◌, subst}
 use Rattle.percent_encoding.specs.Percent.{percent_decode}
 use Rattle.serde_json.specs.Data.{Data}
 use Rattle.swh_base.specs.declared.kind.Kind.{Kind}
@@ -26,7 +26,7 @@ use Rattle.swh_graph.specs.Resolve.{IsResolveAnswer}
 use Rattle.swh_graph.proofs.OneLog.{one_log_lem}
 use Rattle.swh_graph.proofs.OnePath.{one_path_lem}
 use Rattle.swh_graph.proofs.OneResolution.{one_resolution_lem}
-use Rattle.swh_answer.specs.Shape.{Shape, Known, Visits, Origin, Revision, Log, Release, Directory, DirectoryEntry as Entry, Snapshot, Content, Resolve, Raw, Load, Spells}
+use Rattle.swh_answer.specs.Shape.{Shape, Known, Visits, Origin, Revision, Log, Release, Directory, DirectoryEntry as Entry, Snapshot, Content, Resolve, Raw, Load}
 use Rattle.swh_answer.specs.Json.{visits_data, origin_data, revision_data, log_data, release_data, entry_data, directory_data, snapshot_data, resolved_data}
 use Rattle.swh_answer.proofs.Shapes.{one_shape}
 use Rattle.swh_answer.proofs.Unique.{one_id, one_origin_reply, one_content_reply, one_raw_reply, one_known_reply}

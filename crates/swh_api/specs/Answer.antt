@@ -1,5 +1,5 @@
 -- What is answered to a request of the read API, over an archive.
-use Rattle.std.specs.Prelude.{◌≡◌, ◌≢◌, ◌⊎◌, ℕ, false, None, List, [], codes}
+use Rattle.std.specs.Prelude.{◌≡◌, ◌≢◌, ◌⊎◌, ℕ, None, List, codes}
 use Rattle.percent_encoding.specs.Percent.{percent_decode}
 use Rattle.serde_json.specs.Data.{Data}
 use Rattle.swh_base.specs.declared.kind.Kind.{Kind}
@@ -17,7 +17,7 @@ use Rattle.swh_graph.specs.Path.{IsPathAnswer}
 use Rattle.swh_graph.specs.Resolve.{IsResolveAnswer}
 use Rattle.swh_answer.specs.Shape.{Shape, Known, Visits, Origin, Revision, Log, Release, Directory, DirectoryEntry, Snapshot, Content, Resolve, Raw, Load, Spells}
 use Rattle.swh_answer.specs.Json.{visits_data, origin_data, revision_data, log_data, release_data, entry_data, directory_data, snapshot_data, resolved_data, no_path_data, tree_reply, error_reply}
-use Rattle.swh_answer.specs.Answers.{SpellsUrl, NoUrl, SpellsId, NoId, bad_text, not_found, not_held, IsOriginReply, IsContentReply, IsRawReply, IsKnownReply}
+use Rattle.swh_answer.specs.Answers.{NoUrl, SpellsId, NoId, bad_text, not_found, not_held, IsOriginReply, IsContentReply, IsRawReply, IsKnownReply}
 
 -- ---- objects and the graph
 

@@ -1,4 +1,4 @@
-use Rattle.std.proofs.Common.{◌≡◌, ap, ◌∙◌, subst}
+use Rattle.std.proofs.Common.{subst}
 use Rattle.swh_base.specs.declared.kind.Kind.TheVariants as kind
 use Rattle.swh_base.specs.declared.name.Name.{Name}
 use Rattle.swh_revfmt.specs.Reading.{revision_spelled}
