@@ -79,13 +79,13 @@ fn push_record(
     alloc: Global,
     calls: &mut Vec<EventCall>,
     end: usize,
-    record: Vec<u8>,
+    coded: Vec<u8>,
 ) -> Result<(), Memory>
     requires { end + 1 < 2 ^ 64 }
     ensures { OnOk result (map file_call calls.new.items ≡ map file_call calls.old.items
-        ++ on 0 (append_calls end record.items)) }
+        ++ on 0 (append_calls end coded.items)) }
 {
-    let bytes = Bytes::from_vec(record);
+    let bytes = Bytes::from_vec(coded);
     let gate = Bytes::from_slice(alloc, &[1])?;
     calls.push(EventCall::Ledger(DeviceCall::Write { at: end + 1, bytes }))?;
     calls.push(EventCall::Ledger(DeviceCall::Sync))?;
