@@ -1,11 +1,11 @@
 // Damaged archives: each kind of harm, with its place, as every command tells it that opens an archive.
-use crate::plain::{PlainDepot, Spoil};
-use crate::setting::{Case, Setting};
-use crate::words::{ASK, CHECK, INIT, LEDGER, LOAD, LOADING, STORE};
-use crate::world::{is_met, is_met_by};
 use std::alloc::{AllocError, Global};
 use std::test::Fail;
 use swh_base::Sha1Namer;
+use swh_program_fixtures::{
+    ASK, CHECK, Case, INIT, LEDGER, LOAD, LOADING, PlainDepot, STORE, Setting, Spoil, is_met,
+    is_met_by,
+};
 
 // Another byte at a place of the loaded archive: the file, 0 the ledger and 1 the store, the place, the byte, and the line
 // that tells the harm. Of the ledger: its magic; a record's kind and its length; a visit's kind, its origin, a status that

@@ -1,10 +1,10 @@
 // Each device call of a run fails in turn, and a run after it finds what was acknowledged.
-use crate::setting::{BARE, Case, Setting};
-use crate::words::{CHECK, INIT, LOAD, LOADED, LOADING, TWO_JOBS};
-use crate::world::is_met;
 use std::alloc::Global;
 use std::test::Fail;
 use swh_fixtures::MADE_LEDGER;
+use swh_program_fixtures::{
+    BARE, CHECK, Case, INIT, LOAD, LOADED, LOADING, Setting, TWO_JOBS, is_met,
+};
 
 // A file of an archive.
 #[derive(Clone, Copy, PartialEq, Eq)]

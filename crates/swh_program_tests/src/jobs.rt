@@ -1,11 +1,8 @@
 // Job files: those that are right, up to each limit, and the first line that breaks.
-use crate::pieces::{Piece, spelled};
-use crate::setting::{BARE, Case, Setting};
-use crate::words::{INIT, LOAD};
-use crate::world::is_met_printing;
 use std::alloc::{AllocError, Global};
 use std::test::Fail;
 use swh_fixtures::MADE_LEDGER;
+use swh_program_fixtures::{BARE, Case, INIT, LOAD, Piece, Setting, is_met_printing, spelled};
 
 // A job file, the statuses of an `init` and of its load where no input is there, and what both print.
 #[derive(Clone, Copy)]

@@ -1,13 +1,13 @@
 // Loads of one job and of several: their lines, and what is left.
-use crate::pieces::Piece;
-use crate::plain::PlainDepot;
-use crate::setting::{Case, Setting};
-use crate::words::{ASK, CHECK, INIT, LEDGER, LOAD, LOADED, LOADING, STORE, TWO_JOBS};
-use crate::world::{all_met, is_met_by};
+use crate::rows::all_met;
 use std::alloc::{AllocError, Global};
 use std::test::Fail;
 use swh_base::ByteNamer;
 use swh_fixtures::MADE_LEDGER;
+use swh_program_fixtures::{
+    ASK, CHECK, Case, INIT, LEDGER, LOAD, LOADED, LOADING, Piece, PlainDepot, STORE, Setting,
+    TWO_JOBS, is_met_by,
+};
 
 // A path that is none.
 const ASK_NOTHING: &[&str] = &["ask", "A", "/"];

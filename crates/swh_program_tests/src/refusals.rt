@@ -1,9 +1,7 @@
 // What each command prints, with its status: answers, and each line that tells a refusal.
-use crate::pieces::Piece;
-use crate::setting::{BARE, Case, Setting};
-use crate::words::{ASK, CHECK, INIT, LOAD, LOADED, LOADING};
-use crate::world::all_met;
+use crate::rows::all_met;
 use std::test::Fail;
+use swh_program_fixtures::{ASK, BARE, CHECK, Case, INIT, LOAD, LOADED, LOADING, Piece, Setting};
 
 // Words that are no command.
 const WORDS: &[Case<'static>] = &[Case {

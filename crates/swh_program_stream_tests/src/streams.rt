@@ -1,10 +1,7 @@
 // How a load of one stream ends: each detail of a line.
-use crate::pieces::Piece;
-use crate::setting::{Case, Setting};
-use crate::words::{INIT, LOAD, LOADING};
-use crate::world::is_met;
 use std::alloc::Global;
 use std::test::Fail;
+use swh_program_fixtures::{Case, INIT, LOAD, LOADING, Piece, Setting, is_met};
 
 /// A stream, and what is printed of an `init` and of its load.
 #[derive(Clone, Copy)]

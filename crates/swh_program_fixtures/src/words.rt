@@ -13,7 +13,7 @@ pub const ASK: &[&str] = &["ask", "A", "/api/1/origin/https://e.org/p/visits/"];
 pub const CHECK: &[&str] = &["check", "A"];
 
 /// The job of the worked stream.
-pub const JOB: &[Piece<'static>] = &[Piece::Text(b"fast\thttps://e.org/p\te\n")];
+const JOB: &[Piece<'static>] = &[Piece::Text(b"fast\thttps://e.org/p\te\n")];
 
 /// That job, and one of another origin and the other input.
 pub const TWO_JOBS: &[Piece<'static>] = &[Piece::Text(

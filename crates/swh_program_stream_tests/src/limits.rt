@@ -1,14 +1,12 @@
 // Each limit of a stream, of a body and of a job file: what is just within it, and what is one above.
-use crate::pieces::Piece;
-use crate::plain::PlainDepot;
-use crate::setting::{Case, Setting};
 use crate::streams::{EMPTY, Load, all_end_so};
-use crate::words::{CHECK, INIT, LOAD, LOADING};
-use crate::world::is_met_by;
 use std::alloc::Global;
 use std::test::Fail;
 use swh_base::Sha1Namer;
 use swh_fixtures::STREAM;
+use swh_program_fixtures::{
+    CHECK, Case, INIT, LOAD, LOADING, Piece, PlainDepot, Setting, is_met_by,
+};
 
 // A commit without a tree, up to where its changes stand.
 const COMMIT: &[u8] = b"commit refs/heads/m\ncommitter A <a@e.org> 1000000000 +0000\ndata 0\n";

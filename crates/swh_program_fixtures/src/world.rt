@@ -3,7 +3,6 @@
 use crate::pieces::{Piece, spelled};
 use crate::setting::{Case, Setting};
 use std::alloc::{AllocError, Global};
-use std::test::Fail;
 use swh_base::{Namer, Sha1Namer};
 use swh_memory::{
     Input, MemoryClock, MemoryDepot, MemoryDisk, MemoryDoors, MemoryOrigins, MemorySink,
@@ -211,14 +210,4 @@ pub fn is_met_printing(alloc: Global, case: &Case<'_>, printed: &[u8]) -> Result
 /// Says whether the runs of a row end as it says, with the namer of the program and files in memory.
 pub fn is_met(alloc: Global, case: &Case<'_>) -> Result<bool, AllocError> {
     is_met_printing(alloc, case, case.printed)
-}
-
-/// Fails with the name of the first row that is not met.
-pub fn all_met(alloc: Global, cases: &[Case<'_>]) -> Result<(), Fail> {
-    for case in cases {
-        if !is_met(alloc, case)? {
-            return Err(Fail::new(case.name));
-        }
-    }
-    Ok(())
 }

@@ -1,0 +1,16 @@
+//! What tests of the program share: a world in memory to run in, what runs begin with and end with, and long inputs.
+//! Stands on `swh_program`, the fakes and the fixtures.
+//! Callers may rely on: a row is met exactly where its runs end with its statuses and print what it says.
+#![tactic(auto)]
+
+mod pieces;
+mod plain;
+mod setting;
+mod words;
+mod world;
+
+pub use pieces::{Piece, spelled};
+pub use plain::{PlainDepot, Spoil};
+pub use setting::{BARE, Case, Setting};
+pub use words::{ASK, CHECK, INIT, LEDGER, LOAD, LOADED, LOADING, STORE, TWO_JOBS};
+pub use world::{is_met, is_met_by, is_met_printing};
