@@ -27,8 +27,11 @@ static CORES: [(Kind, [u8; 50]); 5] = [
     ),
 ];
 
-const QUALIFIED: &[u8] =
-    b"swh:1:cnt:4d99d2d18326621ccdd70f5ea66c2e2ac236ad8b;origin=https://gitorious.org/ocamlp3l/ocamlp3l_cvs.git;visit=swh:1:snp:d7f1b9eb7ccb596c2622c4780febaa02549830f9;anchor=swh:1:rev:2db189928c94d62a3b4757b3eec68f0a4d4113f0;path=/Examples/SimpleFarm/simplefarm.ml;lines=9-15";
+const QUALIFIED: &[u8] = b"swh:1:cnt:4d99d2d18326621ccdd70f5ea66c2e2ac236ad8b;\
+origin=https://gitorious.org/ocamlp3l/ocamlp3l_cvs.git;\
+visit=swh:1:snp:d7f1b9eb7ccb596c2622c4780febaa02549830f9;\
+anchor=swh:1:rev:2db189928c94d62a3b4757b3eec68f0a4d4113f0;path=/Examples/SimpleFarm/simplefarm.ml;\
+lines=9-15";
 
 // The text with this after the core identifier of the empty content.
 fn behind_empty(alloc: Global, tail: &[u8]) -> Result<Vec<u8>, AllocError> {

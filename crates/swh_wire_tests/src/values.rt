@@ -32,27 +32,43 @@ static BODIES: [(Kind, &[u8], &[u8]); 10] = [
     (
         Kind::Directory,
         b"100644 a b%\0\xe6\x9d\xe2\x9b\xb2\xd1\xd6\x43\x4b\x8b\x29\xae\x77\x5a\xd8\xc2\xe4\x8c\x53\x91",
-        b"[{\"name\":\"a%20b%25\",\"perms\":33188,\"target\":\"e69de29bb2d1d6434b8b29ae775ad8c2e48c5391\",\"type\":\"file\"}]",
+        b"[{\"name\":\"a%20b%25\",\"perms\":33188,\
+\"target\":\"e69de29bb2d1d6434b8b29ae775ad8c2e48c5391\",\"type\":\"file\"}]",
     ),
     (
         Kind::Directory,
-        b"40000 a\0\x4b\x82\x5d\xc6\x42\xcb\x6e\xb9\xa0\x60\xe5\x4b\xf8\xd6\x92\x88\xfb\xee\x49\x04100755 b\0\xe6\x9d\xe2\x9b\xb2\xd1\xd6\x43\x4b\x8b\x29\xae\x77\x5a\xd8\xc2\xe4\x8c\x53\x91120000 c\0\xe6\x9d\xe2\x9b\xb2\xd1\xd6\x43\x4b\x8b\x29\xae\x77\x5a\xd8\xc2\xe4\x8c\x53\x91160000 d\"\\\0\x11\x11\x11\x11\x11\x11\x11\x11\x11\x11\x11\x11\x11\x11\x11\x11\x11\x11\x11\x11",
-        b"[{\"name\":\"a\",\"perms\":16384,\"target\":\"4b825dc642cb6eb9a060e54bf8d69288fbee4904\",\"type\":\"dir\"},{\"name\":\"b\",\"perms\":33261,\"target\":\"e69de29bb2d1d6434b8b29ae775ad8c2e48c5391\",\"type\":\"file\"},{\"name\":\"c\",\"perms\":40960,\"target\":\"e69de29bb2d1d6434b8b29ae775ad8c2e48c5391\",\"type\":\"file\"},{\"name\":\"d\\\"\\\\\",\"perms\":57344,\"target\":\"1111111111111111111111111111111111111111\",\"type\":\"rev\"}]",
+        b"40000 a\0\x4b\x82\x5d\xc6\x42\xcb\x6e\xb9\xa0\x60\xe5\x4b\xf8\xd6\x92\x88\xfb\xee\x49\x04\
+100755 b\0\xe6\x9d\xe2\x9b\xb2\xd1\xd6\x43\x4b\x8b\x29\xae\x77\x5a\xd8\xc2\xe4\x8c\x53\x91\
+120000 c\0\xe6\x9d\xe2\x9b\xb2\xd1\xd6\x43\x4b\x8b\x29\xae\x77\x5a\xd8\xc2\xe4\x8c\x53\x91\
+160000 d\"\\\0\x11\x11\x11\x11\x11\x11\x11\x11\x11\x11\x11\x11\x11\x11\x11\x11\x11\x11\x11\x11",
+        b"[{\"name\":\"a\",\"perms\":16384,\"target\":\"4b825dc642cb6eb9a060e54bf8d69288fbee4904\",\
+\"type\":\"dir\"},{\"name\":\"b\",\"perms\":33261,\
+\"target\":\"e69de29bb2d1d6434b8b29ae775ad8c2e48c5391\",\"type\":\"file\"},{\"name\":\"c\",\
+\"perms\":40960,\"target\":\"e69de29bb2d1d6434b8b29ae775ad8c2e48c5391\",\"type\":\"file\"},\
+{\"name\":\"d\\\"\\\\\",\"perms\":57344,\"target\":\"1111111111111111111111111111111111111111\",\
+\"type\":\"rev\"}]",
     ),
     (
         Kind::Revision,
         b"tree 4b825dc642cb6eb9a060e54bf8d69288fbee4904\nauthor A <a@e.org> 1 +0000\n\nm;\n",
-        b"{\"directory\":\"4b825dc642cb6eb9a060e54bf8d69288fbee4904\",\"id\":\"1111111111111111111111111111111111111111\",\"parents\":[],\"rest\":\"author%20A%20<a@e.org>%201%20+0000%0A%0Am%3B%0A\"}",
+        b"{\"directory\":\"4b825dc642cb6eb9a060e54bf8d69288fbee4904\",\
+\"id\":\"1111111111111111111111111111111111111111\",\"parents\":[],\
+\"rest\":\"author%20A%20<a@e.org>%201%20+0000%0A%0Am%3B%0A\"}",
     ),
     (
         Kind::Revision,
-        b"tree 4b825dc642cb6eb9a060e54bf8d69288fbee4904\nparent 2222222222222222222222222222222222222222\nparent 1111111111111111111111111111111111111111\n",
-        b"{\"directory\":\"4b825dc642cb6eb9a060e54bf8d69288fbee4904\",\"id\":\"1111111111111111111111111111111111111111\",\"parents\":[\"2222222222222222222222222222222222222222\",\"1111111111111111111111111111111111111111\"],\"rest\":\"\"}",
+        b"tree 4b825dc642cb6eb9a060e54bf8d69288fbee4904\n\
+parent 2222222222222222222222222222222222222222\nparent 1111111111111111111111111111111111111111\n",
+        b"{\"directory\":\"4b825dc642cb6eb9a060e54bf8d69288fbee4904\",\
+\"id\":\"1111111111111111111111111111111111111111\",\
+\"parents\":[\"2222222222222222222222222222222222222222\",\
+\"1111111111111111111111111111111111111111\"],\"rest\":\"\"}",
     ),
     (
         Kind::Release,
         b"object 2222222222222222222222222222222222222222\ntype tag\ntag v 1\n\nm",
-        b"{\"id\":\"1111111111111111111111111111111111111111\",\"name\":\"v%201\",\"rest\":\"%0Am\",\"target\":\"2222222222222222222222222222222222222222\",\"target_type\":\"release\"}",
+        b"{\"id\":\"1111111111111111111111111111111111111111\",\"name\":\"v%201\",\"rest\":\"%0Am\",\
+\"target\":\"2222222222222222222222222222222222222222\",\"target_type\":\"release\"}",
     ),
     (
         Kind::Snapshot,
@@ -61,8 +77,13 @@ static BODIES: [(Kind, &[u8], &[u8]); 10] = [
     ),
     (
         Kind::Snapshot,
-        b"alias HEAD\x003:a;bdangling a;b\x000:content b\x0020:\x11\x11\x11\x11\x11\x11\x11\x11\x11\x11\x11\x11\x11\x11\x11\x11\x11\x11\x11\x11snapshot \x80\x0020:\x11\x11\x11\x11\x11\x11\x11\x11\x11\x11\x11\x11\x11\x11\x11\x11\x11\x11\x11\x11",
-        b"{\"branches\":{\"%80\":{\"target\":\"1111111111111111111111111111111111111111\",\"target_type\":\"snapshot\"},\"HEAD\":{\"target\":\"a%3Bb\",\"target_type\":\"alias\"},\"a%3Bb\":null,\"b\":{\"target\":\"1111111111111111111111111111111111111111\",\"target_type\":\"content\"}},\"id\":\"1111111111111111111111111111111111111111\"}",
+        b"alias HEAD\x003:a;bdangling a;b\x000:content b\x00\
+20:\x11\x11\x11\x11\x11\x11\x11\x11\x11\x11\x11\x11\x11\x11\x11\x11\x11\x11\x11\x11snapshot \x80\x00\
+20:\x11\x11\x11\x11\x11\x11\x11\x11\x11\x11\x11\x11\x11\x11\x11\x11\x11\x11\x11\x11",
+        b"{\"branches\":{\"%80\":{\"target\":\"1111111111111111111111111111111111111111\",\
+\"target_type\":\"snapshot\"},\"HEAD\":{\"target\":\"a%3Bb\",\"target_type\":\"alias\"},\
+\"a%3Bb\":null,\"b\":{\"target\":\"1111111111111111111111111111111111111111\",\
+\"target_type\":\"content\"}},\"id\":\"1111111111111111111111111111111111111111\"}",
     ),
 ];
 

@@ -26,32 +26,40 @@ static VISITS: [(VisitKind, Mark, &[u8]); 6] = [
     (
         VisitKind::Fast,
         (Status::Created, None),
-        b"[{\"date\":1000000000,\"origin\":\"o\",\"snapshot\":null,\"status\":\"created\",\"type\":\"fast\",\"visit\":1}]",
+        b"[{\"date\":1000000000,\"origin\":\"o\",\"snapshot\":null,\"status\":\"created\",\
+\"type\":\"fast\",\"visit\":1}]",
     ),
     (
         VisitKind::Dir,
         (Status::Ongoing, None),
-        b"[{\"date\":1000000000,\"origin\":\"o\",\"snapshot\":null,\"status\":\"ongoing\",\"type\":\"dir\",\"visit\":1}]",
+        b"[{\"date\":1000000000,\"origin\":\"o\",\"snapshot\":null,\"status\":\"ongoing\",\
+\"type\":\"dir\",\"visit\":1}]",
     ),
     (
         VisitKind::Fast,
         (Status::Full, Some(EMPTY_SNAPSHOT)),
-        b"[{\"date\":1000000000,\"origin\":\"o\",\"snapshot\":\"1a8893e6a86f444e8be8e7bda6cb34fb1735a00e\",\"status\":\"full\",\"type\":\"fast\",\"visit\":1}]",
+        b"[{\"date\":1000000000,\"origin\":\"o\",\
+\"snapshot\":\"1a8893e6a86f444e8be8e7bda6cb34fb1735a00e\",\"status\":\"full\",\"type\":\"fast\",\
+\"visit\":1}]",
     ),
     (
         VisitKind::Batch,
         (Status::Partial, Some([255; 20])),
-        b"[{\"date\":1000000000,\"origin\":\"o\",\"snapshot\":\"ffffffffffffffffffffffffffffffffffffffff\",\"status\":\"partial\",\"type\":\"batch\",\"visit\":1}]",
+        b"[{\"date\":1000000000,\"origin\":\"o\",\
+\"snapshot\":\"ffffffffffffffffffffffffffffffffffffffff\",\"status\":\"partial\",\"type\":\"batch\",\
+\"visit\":1}]",
     ),
     (
         VisitKind::Fast,
         (Status::NotFound, None),
-        b"[{\"date\":1000000000,\"origin\":\"o\",\"snapshot\":null,\"status\":\"not_found\",\"type\":\"fast\",\"visit\":1}]",
+        b"[{\"date\":1000000000,\"origin\":\"o\",\"snapshot\":null,\"status\":\"not_found\",\
+\"type\":\"fast\",\"visit\":1}]",
     ),
     (
         VisitKind::Fast,
         (Status::Failed, None),
-        b"[{\"date\":1000000000,\"origin\":\"o\",\"snapshot\":null,\"status\":\"failed\",\"type\":\"fast\",\"visit\":1}]",
+        b"[{\"date\":1000000000,\"origin\":\"o\",\"snapshot\":null,\"status\":\"failed\",\
+\"type\":\"fast\",\"visit\":1}]",
     ),
 ];
 
@@ -78,8 +86,10 @@ fn the_latest_first(rt: HostRuntime) -> Result<(), Fail> {
     ]?;
     let origin = b"https://e.org/a;b\"\xc3\xa9\\\x7f";
     let shown = visits_value(rt.alloc(), origin, visits.as_slice())?.to_string(rt.alloc())?;
-    let text: &[u8] =
-        b"[{\"date\":1000000000,\"origin\":\"https://e.org/a%3Bb\\\"%C3%A9\\\\%7F\",\"snapshot\":null,\"status\":\"ongoing\",\"type\":\"dir\",\"visit\":2},{\"date\":1000000000,\"origin\":\"https://e.org/a%3Bb\\\"%C3%A9\\\\%7F\",\"snapshot\":null,\"status\":\"failed\",\"type\":\"fast\",\"visit\":1}]";
+    let text: &[u8] = b"[{\"date\":1000000000,\"origin\":\"https://e.org/a%3Bb\\\"%C3%A9\\\\%7F\",\
+\"snapshot\":null,\"status\":\"ongoing\",\"type\":\"dir\",\"visit\":2},{\"date\":1000000000,\
+\"origin\":\"https://e.org/a%3Bb\\\"%C3%A9\\\\%7F\",\"snapshot\":null,\"status\":\"failed\",\
+\"type\":\"fast\",\"visit\":1}]";
     assert!(rt; shown.as_bytes() == text);
     Ok(())
 }
