@@ -20,9 +20,10 @@ use Rattle.swh_replay.specs.declared.replayed.Replayed.{Replayed}
 use Rattle.swh_plan.specs.declared.planning.Planned.{Planned}
 use Rattle.swh_replay.specs.Replay.{IsReplayOf, IsInFiles, MayAdvance}
 use Rattle.swh_plan.specs.Planned.{IsPlanned}
-use Rattle.swh_keeper.specs.Keeping.{AreSettledFor, HaveEnds, IsToAdd, WithOrWithout, IsKeeping, calls_for}
+use Rattle.swh_keeper.specs.Keeping.{AreSettledFor, HaveEnds, IsToAdd, IsKeeping}
+use Rattle.swh_segment.specs.Standing.{WithOrWithout}
 use Rattle.swh_format.specs.EventRecord.{run_written, coded_record}
-use Rattle.swh_segment.specs.Calls.{event_calls}
+use Rattle.swh_segment.specs.Calls.{calls_for, event_calls}
 use Rattle.swh_model.specs.Limits.{store_length, records_length}
 use Rattle.swh_keeper.proofs.KeptLemmas.{history-push}
 

@@ -17,9 +17,10 @@ use Rattle.swh_model.specs.Archive.{Archive, empty_archive}
 use Rattle.swh_model.specs.Step.{May, MayAll, after, after_all, replay}
 use Rattle.swh_replay.specs.Replay.{IsReplayOf, archive_of, Advances}
 use Rattle.swh_replay.specs.declared.replayed.Replayed.{Replayed}
-use Rattle.swh_keeper.specs.Keeping.{AreSettledFor, IsKeeping, IsKeeper, IsToAdd, WithOrWithout}
+use Rattle.swh_keeper.specs.Keeping.{AreSettledFor, IsKeeping, IsKeeper, IsToAdd}
+use Rattle.swh_segment.specs.Standing.{WithOrWithout, AreStanding}
 use Rattle.swh_segment.specs.OnDisk.{OnDisk}
-use Rattle.swh_keeper.specs.Kept.{AreStanding, IsKept}
+use Rattle.swh_keeper.specs.Kept.{IsKept}
 
 pub standing_from_settled : (ledger store : File) (h : List Event) (m n : ℕ) → AreSettledFor ledger store h m n → AreStanding ledger store h
 standing_from_settled ledger store h m n s =

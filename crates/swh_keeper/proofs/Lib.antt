@@ -3,7 +3,6 @@ pub mod ApplyLemmas
 pub mod OpenLemmas
 pub mod ReadLemmas
 pub mod OwnLemmas
-pub mod Standings
 pub mod DamageLemmas
 pub mod StoredLemmas
 pub mod OpenedLemmas

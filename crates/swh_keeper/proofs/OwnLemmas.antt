@@ -16,16 +16,17 @@ use Rattle.swh_segment.specs.Making.{IsMade, IsNotMade, IsNotMadeOrEmpty, needs_
 use Rattle.swh_segment.specs.Settled.{seen_of}
 use Rattle.swh_segment.proofs.Crash.{on_ledger}
 use Rattle.swh_segment.proofs.Barriers.{both_images}
-use Rattle.swh_keeper.specs.Keeping.{WithOrWithout, calls_for}
+use Rattle.swh_segment.specs.Standing.{WithOrWithout, AreStanding}
+use Rattle.swh_segment.specs.Calls.{calls_for}
 use Rattle.swh_keeper.specs.declared.opening.OpenWhy.{OpenWhy}
 use Rattle.swh_keeper.specs.declared.opening.OpenWhy.TheVariants.{Made, NotMade, Damaged, DiskFault, Memory}
-use Rattle.swh_keeper.specs.Kept.{Kept, AreStanding, MayHoldOneMore, IsKept}
+use Rattle.swh_keeper.specs.Kept.{Kept, MayHoldOneMore, IsKept}
 use Rattle.swh_keeper.specs.Opening.{IsDamaged, IsLeftOfMaking, IsLeftFor}
 use Rattle.swh_keeper.specs.Damage.{IfDamagedAt, IsDamagedAt}
 use Rattle.swh_keeper.specs.Own.{IsUnwritten, StandForHistory, AreUsable, AreOwn}
 use Rattle.swh_keeper.proofs.DamageLemmas.{damage_is_damaged, damaged_map}
 use Rattle.swh_keeper.proofs.KeptLemmas.{history-push}
-use Rattle.swh_keeper.proofs.Standings.{one_moments, still}
+use Rattle.swh_segment.proofs.Standings.{one_moments, still}
 
 made_or_not : (bytes : List ℕ) → IsMade bytes → IsNotMade bytes → ⊥
 made_or_not bytes made (inl short) = omega (arith, made.0, short)

@@ -1,18 +1,18 @@
 -- What a keeper's fields keep.
-use Rattle.std.specs.Prelude.{◌≡◌, ◌⊎◌, ℕ, ◌+◌, ◌≤◌, ◌^◌, Option, Some, None, Ok, List, [], ◌∷◌, ◌++◌, length}
+use Rattle.std.specs.Prelude.{◌≡◌, ℕ, ◌+◌, ◌≤◌, ◌^◌, Option, Some, None, Ok, List, [], ◌∷◌, ◌++◌, length}
 use Rattle.swh_outside.specs.Disk.{File}
-use Rattle.swh_outside.specs.Files.{Files, FileCall, Images, FilesBreaks, files_of, files_done}
+use Rattle.swh_outside.specs.Files.{Files, FilesBreaks, files_of, files_done}
 use Rattle.swh_model.specs.declared.event.Outcome.{Outcome}
 use Rattle.swh_model.specs.Judge.{IsVerdict}
 use Rattle.swh_segment.specs.OnDisk.{OnDisk}
 use Rattle.swh_segment.specs.Settled.{AreSettled}
-use Rattle.swh_segment.specs.Calls.{event_calls}
+use Rattle.swh_segment.specs.Calls.{calls_for}
 use Rattle.swh_base.specs.declared.kind.Kind.{Kind}
 use Rattle.swh_model.specs.declared.event.Event.{Event}
 use Rattle.swh_model.specs.declared.event.Wish.{Wish}
-use Rattle.swh_format.specs.EventRecord.{coded_record, packed_objects, run_written, IsCodable, AreCodable}
-use Rattle.swh_model.specs.Limits.{store_length, records_length}
-use Rattle.swh_format.specs.Stands.{StandsFor, all_written}
+use Rattle.swh_format.specs.EventRecord.{coded_record, packed_objects, IsCodable, AreCodable}
+use Rattle.swh_model.specs.Limits.{store_length}
+use Rattle.swh_format.specs.Stands.{all_written}
 use Rattle.swh_model.specs.Step.{IsHistory}
 use Rattle.swh_replay.specs.declared.replayed.Replayed.{Replayed}
 use Rattle.swh_replay.specs.Replay.{IsReplayOf, IsInFiles}
@@ -48,18 +48,10 @@ pub record IsToAdd (r : Replayed) (h : List Event) (e : Event) (run bytes : List
   pub codable : IsCodable r.store_end e
   pub store : r.store_end ≡ store_length h
 
--- What a crash leaves stands for the history, with the event or without.
-abbrev pub WithOrWithout : List Event → Event → Images → Type 0
-WithOrWithout h e images = StandsFor (images 0) (images 1) h ⊎ StandsFor (images 0) (images 1) (h ++ e ∷ [])
-
 -- Both files have room for these.
 pub record FilesHaveRoom (r : Replayed) (run bytes : List ℕ) : Type 0 where
   pub store_fits : r.store_end + length run ≤ 2 ^ 62
   pub ledger_fits : r.ledger_end + 1 + length bytes ≤ 2 ^ 62
-
--- The device calls that add an event after a history.
-abbrev pub calls_for : List Event → Event → List FileCall
-calls_for h e = event_calls (store_length h) (run_written e.what) (8 + records_length h) (coded_record (store_length h) e ++ 0 ∷ [])
 
 -- The event after the history is the newest, and its calls were made.
 pub record IsCarriedOut (h h' : List Event) (old new : Files) : Type 0 where

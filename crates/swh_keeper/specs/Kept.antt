@@ -1,7 +1,7 @@
 -- What a keeper is, and what holds of its disks.
-use Rattle.std.specs.Prelude.{◌≡◌, ◌⊎◌, ℕ, ◌+◌, Option, Some, None, Ok, Err, false, List, [], ◌∷◌, ◌++◌, length, refl}
+use Rattle.std.specs.Prelude.{◌≡◌, ℕ, ◌+◌, Option, Some, None, Ok, Err, false, List, [], ◌∷◌, ◌++◌, length, refl}
 use Rattle.std.specs.Coded.{Coded, code_by, coded×, coded_ℕ, coded_option, coded_list}
-use Rattle.swh_outside.specs.Disk.{File, IsAtRest}
+use Rattle.swh_outside.specs.Disk.{File}
 use Rattle.swh_outside.specs.Files.{EachImages, files_of}
 use Rattle.swh_base.specs.declared.kind.Kind.{Kind}
 use Rattle.swh_model.specs.contracts.event.Event as an_event
@@ -10,7 +10,7 @@ use Rattle.swh_model.specs.declared.event.Wish.{Wish}
 use Rattle.swh_model.specs.declared.event.Outcome.{Outcome}
 use Rattle.swh_model.specs.declared.event.No.{No}
 use Rattle.swh_model.specs.declared.event.No.TheVariants.{Limit, NoVisit, NotYours, Ended, NoSnapshot, NotClosed, Collision}
-use Rattle.swh_format.specs.Stands.{StandsFor}
+use Rattle.swh_segment.specs.Standing.{AreStanding, WithOrWithout}
 use Rattle.swh_model.specs.Step.{May, IsHistory, replay}
 use Rattle.swh_model.specs.Judge.{IsVerdict}
 use Rattle.swh_keeper.specs.declared.fault.Refusal.{Refusal}
@@ -29,17 +29,11 @@ kept_code {D} d =
     code_by (D × (D × (List Event × Option ℕ))) (coded× d (coded× d (coded× (coded_list an_event.the_row.coded) (coded_option coded_ℕ))))
     (λ k. (k.store, (k.ledger, (k.history, k.wounded)))) (λ p. record { store = p.0; ledger = p.1.0; history = p.1.1.0; wounded = p.1.1.1 }) (λ _. refl)
 
--- Nothing was written on either since a barrier, and the two files stand for the history.
-pub record AreStanding (ledger store : File) (h : List Event) : Type 0 where
-  pub ledger_rests : IsAtRest ledger
-  pub store_rests : IsAtRest store
-  pub stand : StandsFor ledger.seen store.seen h
-
 -- One event may have happened after the history.
 pub record MayHoldOneMore (id_of : Kind → List ℕ → List ℕ) (ledger store : File) (h : List Event) : Type 0 where
   pub event : Event
   pub may : May id_of (replay h) event
-  pub each : EachImages (files_of ledger store) (λ images. StandsFor (images 0) (images 1) h ⊎ StandsFor (images 0) (images 1) (h ++ event ∷ []))
+  pub each : EachImages (files_of ledger store) (WithOrWithout h event)
 
 -- What always holds of a keeper.
 pub record IsKept {D : Type 0} (id_of : Kind → List ℕ → List ℕ) (tells : Type 0) (file : D → File) (k : Kept D) : Type 0 where

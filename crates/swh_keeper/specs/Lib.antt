@@ -1,6 +1,7 @@
 pub mod Refusal
 pub mod Kept
 pub mod Keeping
+pub mod Calls
 pub mod Adding
 pub mod Opening
 pub mod Own

@@ -7,7 +7,8 @@ ghost use Rattle.swh_model.specs.declared.event.Event.{Event};
 ghost use Rattle.swh_replay.specs.Replay.{IsReplayOf, MayAdvance};
 ghost use Rattle.swh_keeper.specs.Adding.{IsAdded, IsNotAdded};
 ghost use Rattle.swh_segment.specs.Counts.{AreLater, AreQuiet};
-ghost use Rattle.swh_keeper.specs.Keeping.{AreSettledFor, HaveEnds, IsToAdd, WithOrWithout, FilesHaveRoom};
+ghost use Rattle.swh_keeper.specs.Keeping.{AreSettledFor, HaveEnds, IsToAdd, FilesHaveRoom};
+ghost use Rattle.swh_segment.specs.Standing.{WithOrWithout};
 ghost use Rattle.swh_format.specs.EventRecord.{run_written};
 ghost use Rattle.swh_keeper.specs.declared.adding.AddFault.TheVariants.{Disk as DiskFailed, Memory as OutOfMemory};
 

@@ -1,15 +1,15 @@
 //! That an archive which this program made is never damaged: what its device calls and crashes leave of the two files is
 //! not made, or stands for a history.
-ghost use Rattle.std.specs.Prelude.{◌≡◌, ◌++◌, ◌∷◌, [], ℕ, List};
+ghost use Rattle.std.specs.Prelude.{◌++◌, ◌∷◌, [], ℕ, List};
 ghost use Rattle.swh_base.specs.declared.kind.Kind.{Kind};
-ghost use Rattle.swh_outside.specs.Files.{Files, Images, AreImages, EachFilesMoment, FilesBreaks, files_done, files_of};
+ghost use Rattle.swh_outside.specs.Files.{Files, Images, AreImages, EachFilesMoment};
 ghost use Rattle.swh_model.specs.declared.event.Event.{Event};
 ghost use Rattle.swh_model.specs.Step.{IsHistory};
 ghost use Rattle.swh_format.specs.EventRecord.{AreCodable};
 ghost use Rattle.swh_segment.specs.Making.{IsNotMade, barriers, making_calls};
 ghost use Rattle.swh_segment.specs.Settled.{seen_of};
-ghost use Rattle.swh_keeper.specs.Keeping.{calls_for};
-ghost use Rattle.swh_keeper.specs.Kept.{AreStanding};
+ghost use Rattle.swh_segment.specs.Calls.{calls_for};
+ghost use Rattle.swh_segment.specs.Standing.{AreStanding};
 ghost use Rattle.swh_keeper.specs.Opening.{IsDamaged};
 ghost use Rattle.swh_keeper.specs.Own.{IsUnwritten, AreUsable, AreOwn};
 

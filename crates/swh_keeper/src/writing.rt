@@ -6,7 +6,8 @@ ghost use Rattle.swh_segment.specs.Makes.{ADiskFailed};
 ghost use Rattle.swh_segment.specs.Runs as runs;
 ghost use Rattle.swh_format.specs.EventRecord.{packed_objects, run_written};
 ghost use Rattle.swh_model.specs.declared.event.Event.{Event};
-ghost use Rattle.swh_keeper.specs.Keeping.{AreSettledFor, FilesHaveRoom, HaveEnds, IsToAdd, WithOrWithout};
+ghost use Rattle.swh_keeper.specs.Keeping.{AreSettledFor, FilesHaveRoom, HaveEnds, IsToAdd};
+ghost use Rattle.swh_segment.specs.Standing.{WithOrWithout};
 
 use swh_model::{Event, EventKind};
 use swh_outside::{Disk, Failed};

@@ -3,6 +3,8 @@ pub mod Barriers
 pub mod Crash
 pub mod Ends
 pub mod EventsCrash
+pub mod Moments
 pub mod Outcomes
 pub mod Owners
 pub mod Pieces
+pub mod Standings

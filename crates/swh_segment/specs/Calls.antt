@@ -1,7 +1,10 @@
--- The device calls that add an event, in order.
+-- The device calls that add an event, or several, in order.
 use Rattle.std.specs.Prelude.{ℕ, ◌+◌, List, [], ◌∷◌, ◌++◌, Option, Some, None}
 use Rattle.swh_outside.specs.Disk.{Call, Write, Sync}
 use Rattle.swh_outside.specs.Files.{FileCall, on}
+use Rattle.swh_model.specs.declared.event.Event.{Event}
+use Rattle.swh_model.specs.Limits.{store_length, records_length}
+use Rattle.swh_format.specs.EventRecord.{coded_record, run_written}
 
 -- bytes are written, and a barrier
 abbrev pub write_calls : ℕ → List ℕ → List Call
@@ -21,3 +24,12 @@ run_calls at (Some (b ∷ bytes)) = Write at (b ∷ bytes) ∷ Sync ∷ []
 -- its gate, each with a barrier after it.
 abbrev pub event_calls : ℕ → Option (List ℕ) → ℕ → List ℕ → List FileCall
 event_calls store_end run end bytes = on 1 (run_calls store_end run) ++ on 0 (append_calls end bytes)
+
+-- The device calls that add an event after a history.
+abbrev pub calls_for : List Event → Event → List FileCall
+calls_for h e = event_calls (store_length h) (run_written e.what) (8 + records_length h) (coded_record (store_length h) e ++ 0 ∷ [])
+
+-- the device calls that add several events to a history, one after another
+abbrev pub all_calls : List Event → List Event → List FileCall
+all_calls h [] = []
+all_calls h (e ∷ more) = calls_for h e ++ all_calls (h ++ e ∷ []) more

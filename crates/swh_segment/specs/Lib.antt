@@ -1,8 +1,10 @@
 pub mod Calls
 pub mod Makes
 pub mod Making
+pub mod Moments
 pub mod OnDisk
 pub mod Reading
 pub mod Runs
 pub mod Settled
+pub mod Standing
 pub mod Counts

@@ -12,8 +12,8 @@ use Rattle.swh_format.proofs.HistoryFiles.{runs-written, written-at}
 use Rattle.swh_format.proofs.Lengths.{runs-length, ledger-length}
 use Rattle.swh_segment.specs.Settled.{AreSettled}
 use Rattle.swh_segment.proofs.EventsCrash.{event_moments, event_settled}
-use Rattle.swh_keeper.specs.Kept.{AreStanding}
-use Rattle.swh_keeper.specs.Keeping.{WithOrWithout, calls_for}
+use Rattle.swh_segment.specs.Calls.{calls_for}
+use Rattle.swh_segment.specs.Standing.{AreStanding, WithOrWithout}
 
 -- Files that stand for a history, with nothing written since a barrier.
 module _ (files : Files) (h : List Event) (standing : AreStanding (files 0) (files 1) h) where
