@@ -9,6 +9,7 @@ mod fault;
 mod giving;
 mod making;
 mod objects;
+mod places;
 mod seen;
 
 pub use fault::MakeFault;

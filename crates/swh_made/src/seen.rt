@@ -21,13 +21,13 @@ ghost use Rattle.std.specs.BTreeMap.{is_at};
 ghost use Rattle.std.specs.Ordering.{nat_cmp};
 ghost use Rattle.std.specs.Cmp.Lexicographic.{slice_cmp};
 ghost use Rattle.swh_model.specs.Meaning.{Made};
-ghost use Rattle.swh_made.specs.Making.{made_from};
-ghost use Rattle.swh_made.specs.Seen.{kept_made, places_at, GetsPlace, Adds};
+ghost use Rattle.swh_made.specs.Making.{made_from, object_of};
+ghost use Rattle.swh_made.specs.Seen.{kept_made, IsNoted, SamePlaces, Adds};
 
+use crate::places::{Places, add_other, lead, others_of};
 use std::alloc::Global;
-use std::collections::BTreeMap;
 use std::marker::{Model, PhantomData};
-use swh_base::{Kind, Memory, Namer, Shared};
+use swh_base::{Kind, Memory, Name, Namer, Shared};
 use swh_object::Object;
 
 /// What is kept of an object: its body is shared with it.
@@ -41,7 +41,7 @@ pub struct Kept {
 #[derive(Drop)]
 pub struct Seen<N: Namer> {
     made: Vec<Kept>,
-    places: BTreeMap<[u8; 20], Vec<usize>>,
+    places: Places,
     namer: PhantomData<N>,
 }
 
@@ -62,7 +62,7 @@ impl<N: Namer> Model for Seen<N> {
 
     ghost view = { λ s. map kept_made s.made.items };
 
-    ghost invariant = { λ s. IsIndexed N.id_of (map kept_made s.made.items) s.places.entries };
+    ghost invariant = { λ s. IsIndexed N.id_of (map kept_made s.made.items) s.places };
 }
 
 /// Whether this is of the object of a kind and a body.
@@ -98,30 +98,32 @@ fn stands_among(made: &[Kept], places: &[usize], kind: Kind, body: &[u8]) -> boo
     false
 }
 
-/// The places at which objects of this id may stand.
-fn places_of<'a>(places: &'a BTreeMap<[u8; 20], Vec<usize>>, id: &[u8; 20]) -> &'a [usize]
-    ensures { result.now ≡ places_at places.now.entries id.now }
-{
-    match places.get(id) {
-        Some(places) => places.as_slice(),
-        None => &[],
-    }
-}
-
-/// One place more at which objects of this id may stand.
-fn add_place(
+/// Looks for the object of this name and body at the places of its id; where it stands at none of them, the id gets this
+/// place.
+fn note(
     alloc: Global,
-    places: &mut BTreeMap<[u8; 20], Vec<usize>>,
-    id: &[u8; 20],
+    places: &mut Places,
+    made: &[Kept],
+    name: &Name,
+    body: &[u8],
     place: usize,
-) -> Result<(), Memory>
-    ensures ok { OnOk result (GetsPlace id.now place places.old.entries places.new.entries) }
-    ensures err { OnErr result (places.new.entries ≡ places.old.entries) }
+) -> Result<Novelty, Memory>
+    ensures noted { IfOk result (IsNoted (map kept_made made.now) name.now.id place (object_of name.now.kind body.now)
+        places.old places.new) }
+    ensures err { OnErr result (SamePlaces places.old places.new) }
 {
-    let mut more = Vec::from_slice(alloc, places_of(places, id))?;
-    more.push(place)?;
-    places.insert(*id, more)?;
-    Ok(())
+    let Some(first) = lead(&mut places.first, &name.id, place)? else {
+        return Ok(Novelty::New);
+    };
+    if stands_at(made, first, name.kind, body) {
+        return Ok(Novelty::Known);
+    }
+    let others = others_of(&places.further, &name.id);
+    if stands_among(made, others, name.kind, body) {
+        return Ok(Novelty::Known);
+    }
+    add_other(alloc, &mut places.further, &name.id, place)?;
+    Ok(Novelty::New)
 }
 
 impl<N: Namer> Seen<N> {
@@ -131,7 +133,7 @@ impl<N: Namer> Seen<N> {
     {
         Seen {
             made: Vec::new(alloc),
-            places: BTreeMap::new(alloc),
+            places: Places::new(alloc),
             namer: PhantomData,
         }
     }
@@ -143,16 +145,17 @@ impl<N: Namer> Seen<N> {
         ensures err { OnErr result (self.new ≡ self.old) }
     {
         let name = object.name();
-        let places = places_of(&self.places, &name.id);
-        if stands_among(self.made.as_slice(), places, name.kind, object.body()) {
-            return Ok(Novelty::Known);
-        }
         let body = object.entry().body.again()?;
-        add_place(alloc, &mut self.places, &name.id, self.made.len())?;
-        self.made.push(Kept {
-            kind: name.kind,
-            body,
-        })?;
-        Ok(Novelty::New)
+        self.made.reserve(1)?;
+        let place = self.made.len();
+        let made = self.made.as_slice();
+        match note(alloc, &mut self.places, made, &name, object.body(), place)? {
+            Novelty::Known => Ok(Novelty::Known),
+            Novelty::New => {
+                let kind = name.kind;
+                self.made.push_reserved(Kept { kind, body });
+                Ok(Novelty::New)
+            }
+        }
     }
 }

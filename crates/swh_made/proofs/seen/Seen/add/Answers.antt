@@ -6,35 +6,45 @@ use Rattle.swh_model.specs.Meaning.{Made}
 use Rattle.swh_made.specs.declared.seen.Kept.{Kept}
 use Rattle.swh_made.specs.Making.{made_from, object_of}
 use Rattle.swh_made.specs.Seen.{kept_made, places_at, GetsPlace, IsIndexed}
-use Rattle.swh_made.proofs.Seens.{indexed_stay, indexed_more, absent, same_object}
+use Rattle.swh_made.proofs.Seens.{indexed_same, indexed_more, absent, same_object, noted_known, noted_new}
 use Rattle.swh_made.proofs.seen.Seen.add.Goals as goal
 
-pub invariant_of-self-in_err-push : goal.invariant_of-self-in_err-push
-invariant_of-self-in_err-push g c =
+pub invariant_of-self-in_err-note : goal.invariant_of-self-in_err-note
+invariant_of-self-in_err-note g c =
     let inside = c.self.inside in
-    subst (λ (t : List Kept). IsIndexed g.N.Namer.id_of (map kept_made t) c.add_place.new.places.entries) (sym c.in_err-push.ensures.items)
-    (indexed_stay g.N.Namer.id_of (map kept_made inside.made.items) inside.places.entries c.add_place.new.places.entries c.name-name.result.id c.len.result c.in_ok-add_place.ensures.ok c.self.invariant)
+    subst (λ (t : List Kept). IsIndexed g.N.Namer.id_of (map kept_made t) c.note.new.places) (sym c.in_ok-reserve.ensures.items)
+    (indexed_same g.N.Namer.id_of (map kept_made inside.made.items) inside.places c.note.new.places c.in_err-note.ensures.err c.self.invariant)
 
-pub invariant_of-self-2 : goal.invariant_of-self-2
-invariant_of-self-2 g c =
+pub invariant_of-self-in-Known-1 : goal.invariant_of-self-in-Known-1
+invariant_of-self-in-Known-1 g c =
+    let inside = c.self.inside in
+    let same = noted_known (map kept_made c.as_slice-made.result.now) c.name-name.result.id c.len-place.result (object_of c.name-name.result.kind c.body-2.result.now) inside.places c.note.new.places _ c.in-Known.is c.in_ok-note.ensures.noted in
+    subst (λ (t : List Kept). IsIndexed g.N.Namer.id_of (map kept_made t) c.note.new.places) (sym c.in_ok-reserve.ensures.items)
+    (indexed_same g.N.Namer.id_of (map kept_made inside.made.items) inside.places c.note.new.places same.0 c.self.invariant)
+
+pub invariant_of-self-in-New : goal.invariant_of-self-in-New
+invariant_of-self-in-New g c =
     let inside = c.self.inside in
     let old = map kept_made inside.made.items in
     let n = made_from c.args.object.now in
     let id : c.name-name.result.id ≡ g.N.Namer.id_of n.kind n.body = ap (λ (n : Name). n.id) c.name-name.ensures.name ∙ c.name-name.ensures.good.named in
     let mapped = length-map inside.made.items kept_made in
-    let place : c.len.result ≡ length old = omega (arith, c.len.ensures, inside.made.ok.0, mapped) in
-    let gets : GetsPlace (g.N.Namer.id_of n.kind n.body) (length old) inside.places.entries c.add_place.new.places.entries =
-    subst (λ (i : List ℕ). GetsPlace i (length old) inside.places.entries c.add_place.new.places.entries) id
-    (subst (λ (k : ℕ). GetsPlace c.name-name.result.id k inside.places.entries c.add_place.new.places.entries) place c.in_ok-add_place.ensures.ok) in
+    let place : c.len-place.result ≡ length old = omega (arith, c.len-place.ensures, c.in_ok-reserve.ensures.len, inside.made.ok.0, mapped) in
+    let noted = noted_new (map kept_made c.as_slice-made.result.now) c.name-name.result.id c.len-place.result (object_of c.name-name.result.kind c.body-2.result.now) inside.places c.note.new.places _ c.in-New.is c.in_ok-note.ensures.noted in
+    let gets : GetsPlace (g.N.Namer.id_of n.kind n.body) (length old) inside.places c.note.new.places =
+    subst (λ (i : List ℕ). GetsPlace i (length old) inside.places c.note.new.places) id
+    (subst (λ (k : ℕ). GetsPlace c.name-name.result.id k inside.places c.note.new.places) place noted.0) in
     let kept : object_of c.name-name.result.kind c.in_ok-body.body ≡ n =
     same_object c.name-name.result.kind n.kind c.in_ok-body.body n.body (ap (λ (n : Name). n.kind) c.name-name.ensures.name) (c.in_ok-body.ensures ∙ ap (λ (e : Entry). e.body) c.entry.ensures.entry) in
-    let added : map kept_made c.push.new.self.items ≡ old ++ n ∷ [] =
-    ap (map kept_made) c.in_ok-push.ensures.items ∙ map-append kept_made inside.made.items _ ∙ ap (λ (m : Made). old ++ m ∷ []) kept in
-    subst (λ (t : List Made). IsIndexed g.N.Namer.id_of t c.add_place.new.places.entries) (sym added)
-    (indexed_more g.N.Namer.id_of old inside.places.entries c.add_place.new.places.entries n gets c.self.invariant)
+    let added : map kept_made c.push_reserved.new.self.items ≡ old ++ n ∷ [] =
+    ap (map kept_made) c.push_reserved.ensures.items ∙ map-append kept_made c.reserve.new.self.items _
+    ∙ ap (λ (ms : List Made). ms ++ object_of c.name-name.result.kind c.in_ok-body.body ∷ []) (ap (map kept_made) c.in_ok-reserve.ensures.items)
+    ∙ ap (λ (m : Made). old ++ m ∷ []) kept in
+    subst (λ (t : List Made). IsIndexed g.N.Namer.id_of t c.note.new.places) (sym added)
+    (indexed_more g.N.Namer.id_of old inside.places c.note.new.places n gets c.self.invariant)
 
-pub returns-clause-ok : goal.returns-clause-ok
-returns-clause-ok g c =
+pub returns-in-New-clause-ok : goal.returns-in-New-clause-ok
+returns-in-New-clause-ok g c =
     let inside = c.self.inside in
     let old = map kept_made inside.made.items in
     let n = made_from c.args.object.now in
@@ -42,11 +52,12 @@ returns-clause-ok g c =
     let id : c.name-name.result.id ≡ g.N.Namer.id_of n.kind n.body = ap (λ (n : Name). n.id) c.name-name.ensures.name ∙ c.name-name.ensures.good.named in
     let kept : object_of c.name-name.result.kind c.in_ok-body.body ≡ n =
     same_object c.name-name.result.kind n.kind c.in_ok-body.body n.body kind (c.in_ok-body.ensures ∙ ap (λ (e : Entry). e.body) c.entry.ensures.entry) in
-    let asked : object_of c.name-name.result.kind c.body.result.now ≡ n = same_object c.name-name.result.kind n.kind c.body.result.now n.body kind c.body.ensures in
-    let places : c.places_of-places.result.now ≡ places_at inside.places.entries (g.N.Namer.id_of n.kind n.body) = c.places_of-places.ensures ∙ ap (places_at inside.places.entries) id in
-    let added : map kept_made c.push.new.self.items ≡ old ++ n ∷ [] =
-    ap (map kept_made) c.in_ok-push.ensures.items ∙ map-append kept_made inside.made.items _ ∙ ap (λ (m : Made). old ++ m ∷ []) kept in
-    let fresh = absent g.N.Namer.id_of old inside.places.entries n c.stands_among.result c.self.invariant
-    (λ k h e. c.stands_among.ensures.none k (subst (λ (t : List ℕ). Contains t k) (sym places) h) (ap (λ (t : List Kept). slice_get (map kept_made t) k) c.as_slice.ensures.value ∙ e ∙ ap Some (sym asked)))
-    c.if-stands_among.false in
+    let asked : object_of c.name-name.result.kind c.body-2.result.now ≡ n = same_object c.name-name.result.kind n.kind c.body-2.result.now n.body kind c.body-2.ensures in
+    let added : map kept_made c.push_reserved.new.self.items ≡ old ++ n ∷ [] =
+    ap (map kept_made) c.push_reserved.ensures.items ∙ map-append kept_made c.reserve.new.self.items _
+    ∙ ap (λ (ms : List Made). ms ++ object_of c.name-name.result.kind c.in_ok-body.body ∷ []) (ap (map kept_made) c.in_ok-reserve.ensures.items)
+    ∙ ap (λ (m : Made). old ++ m ∷ []) kept in
+    let noted = noted_new (map kept_made c.as_slice-made.result.now) c.name-name.result.id c.len-place.result (object_of c.name-name.result.kind c.body-2.result.now) inside.places c.note.new.places _ c.in-New.is c.in_ok-note.ensures.noted in
+    let fresh = absent g.N.Namer.id_of old inside.places n c.self.invariant
+    (λ k h e. noted.1 k (subst (λ (i : List ℕ). Contains (places_at inside.places i) k) (sym id) h) (ap (λ (t : List Kept). slice_get (map kept_made t) k) (c.as_slice-made.ensures.value ∙ c.in_ok-reserve.ensures.items) ∙ e ∙ ap Some (sym asked))) in
     (λ h. fresh (subst (λ (t : List Made). Contains t n) (sym c.self.view_is) h), added ∙ ap (λ (t : List Made). t ++ n ∷ []) c.self.view_is)
