@@ -1,0 +1,44 @@
+//! Bodies with their ids, as git and Software Heritage give them: a content, a directory with it alone, and a snapshot with
+//! the one branch `b` to the directory; twice.
+use swh_base::Kind;
+
+/// A body of a kind.
+pub type Body = (Kind, &'static [u8]);
+
+pub const CONTENT: Body = (Kind::Content, b"version 1\n");
+
+/// With the file `test.txt`.
+pub const DIRECTORY: Body = (
+    Kind::Directory,
+    b"100644 test.txt\0\x83\xba\xae\x61\x80\x4e\x65\xcc\x73\xa7\x20\x1a\x72\x52\x75\x0c\x76\x06\x6a\x30",
+);
+
+pub const SNAPSHOT: Body = (
+    Kind::Snapshot,
+    b"directory b\020:\xd8\x32\x9f\xc1\xcc\x93\x87\x80\xff\xdd\x9f\x94\xe0\xd3\x64\xe0\xea\x74\xf5\x79",
+);
+
+pub const CONTENT_ID: [u8; 20] =
+    *b"\x83\xba\xae\x61\x80\x4e\x65\xcc\x73\xa7\x20\x1a\x72\x52\x75\x0c\x76\x06\x6a\x30";
+
+pub const DIRECTORY_ID: [u8; 20] =
+    *b"\xd8\x32\x9f\xc1\xcc\x93\x87\x80\xff\xdd\x9f\x94\xe0\xd3\x64\xe0\xea\x74\xf5\x79";
+
+pub const SNAPSHOT_ID: [u8; 20] =
+    *b"\xbf\xbf\xdb\xb9\x21\x0f\xa5\xc0\x65\x0f\xb0\x53\x3b\x29\x88\xa1\x8f\x01\x5e\x31";
+
+pub const OTHER_CONTENT: Body = (Kind::Content, b"hi\n");
+
+/// With the file `hi`.
+pub const OTHER_DIRECTORY: Body = (
+    Kind::Directory,
+    b"100644 hi\0\x45\xb9\x83\xbe\x36\xb7\x3c\x07\x88\xdc\x9c\xbc\xb7\x6c\xbb\x80\xfc\x7b\xb0\x57",
+);
+
+pub const OTHER_SNAPSHOT: Body = (
+    Kind::Snapshot,
+    b"directory b\020:\xdc\x40\x13\x9a\x24\xe6\x90\x30\x3b\x3e\x68\xdc\xbb\x9b\x26\xeb\x71\x88\xad\x82",
+);
+
+pub const OTHER_SNAPSHOT_ID: [u8; 20] =
+    *b"\x0a\xb2\x52\x4a\x4d\x80\xb9\x2b\x5f\x06\xc1\x1b\x95\x9c\xaa\xb3\x8f\x60\x7a\xb4";
