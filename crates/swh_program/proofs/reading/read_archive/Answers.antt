@@ -9,10 +9,10 @@ pub returns-in-Err-clause-one_of : goal.returns-in-Err-clause-one_of
 returns-in-Err-clause-one_of g c = one_refused g.N.Namer.id_of _ c.in-Err.answer c.in-Err.ensures.one_of
 
 pub returns-in-Err-clause-ends : goal.returns-in-Err-clause-ends
-returns-in-Err-clause-ends g c told = refused_ends g.N.Namer.id_of _ _ _ c.in-Err.answer (c.in-Err.ensures.ends told)
+returns-in-Err-clause-ends g c told = refused_ends g.N.Namer.id_of _ _ _ c.in-Err.answer (c.in-Err.ensures.refused told).ends
 
 pub returns-in-Err-clause-own : goal.returns-in-Err-clause-own
-returns-in-Err-clause-own g c told = c.in-Err.ensures.own told
+returns-in-Err-clause-own g c told = (c.in-Err.ensures.refused told).own
 
 pub returns-clause-one_of : goal.returns-clause-one_of
 returns-clause-one_of g c = one_told g.N.Namer.id_of _ _ c.in-Ok.ensures.happens c.look-answer.result c.look-answer.ensures.told
@@ -22,8 +22,8 @@ returns-clause-ends g c told =
     let tells = c.in-Ok.ensures.disks_tell told in
     let same = c.look-answer.ensures.left.same in
     let kept = ap₂ files_of (ap g.P.D.Disk.file same.ledger) (same.store tells) in
-    let opened = c.close_archive.ensures.taken told ∙ kept ∙ c.in-Ok.ensures.opened told in
-    told_ends g.N.Namer.id_of _ _ _ _ (c.in-Ok.ensures.archive told) opened c.look-answer.result c.look-answer.ensures.told (c.look-answer.ensures.undamaged tells)
+    let opened = c.close_archive.ensures.taken told ∙ kept ∙ (c.in-Ok.ensures.opened told).opened in
+    told_ends g.N.Namer.id_of _ _ _ _ (c.in-Ok.ensures.opened told).archive opened c.look-answer.result c.look-answer.ensures.told (c.look-answer.ensures.undamaged tells)
 
 pub returns-clause-own : goal.returns-clause-own
 returns-clause-own g c told =
