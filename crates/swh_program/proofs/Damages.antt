@@ -7,14 +7,12 @@ use Rattle.swh_jobs.specs.Job.{Job}
 use Rattle.swh_keeper.proofs.DamageLemmas.{one_damage}
 use Rattle.swh_program.specs.Seen.{FileAt}
 use Rattle.swh_program.specs.Answers.{status_of}
-use Rattle.swh_program.specs.AskCommand.{AskEnds}
-use Rattle.swh_program.specs.CheckCommand.{CheckEnds}
 use Rattle.swh_program.specs.Damage.{damaged_line, IsHarmedAt, TellsHarm}
 use Rattle.swh_program.specs.Jobs.{HasJobs}
 use Rattle.swh_program.specs.Load.{Givens, IsLoadedOrNot, LoadEnds}
 use Rattle.swh_program.specs.Opening.{IsOpenRefusal, OpenEnds}
 use Rattle.swh_program.specs.declared.answer.Answer.{Answer}
-use Rattle.swh_program.specs.declared.answer.Answer.TheVariants.{Told, NotMade, Damaged, OutsideDisk, OutsideSource, OutsideClock, Memory}
+use Rattle.swh_program.specs.declared.answer.Answer.TheVariants.{NotMade, Damaged, OutsideDisk, OutsideSource, OutsideClock, Memory}
 use Rattle.swh_program.proofs.Archived.{not_both, usable, no_archive}
 use Rattle.swh_program.proofs.Completes.{Tells}
 use Rattle.swh_program.proofs.JobRefusals.{refusal_of_jobs}
@@ -38,22 +36,6 @@ module _ (id_of : Kind → List ℕ → List ℕ) (old : Files) (file at : ℕ) 
     refusal_harm OutsideDisk ends = inl refl
     refusal_harm Memory ends = inr (inl refl)
     refusal_harm _ ends = absurd ends
-
-    pub ask_harm : (paths : List (List ℕ)) (answer : Answer) → AskEnds id_of paths old new answer → IsLineOfHarm answer
-    ask_harm paths (Told text end) ends = absurd (usable id_of old ends.history ends.archive (inr (no_archive id_of old file at harmed)))
-    ask_harm paths NotMade ends = refusal_harm NotMade ends
-    ask_harm paths (Damaged text) ends = refusal_harm (Damaged text) ends
-    ask_harm paths OutsideDisk ends = inl refl
-    ask_harm paths Memory ends = inr (inl refl)
-    ask_harm paths _ ends = absurd ends
-
-    pub check_harm : (answer : Answer) → CheckEnds id_of old new answer → IsLineOfHarm answer
-    check_harm (Told text end) ends = absurd (usable id_of old ends.history ends.archive (inr (no_archive id_of old file at harmed)))
-    check_harm NotMade ends = refusal_harm NotMade ends
-    check_harm (Damaged text) ends = refusal_harm (Damaged text) ends
-    check_harm OutsideDisk ends = inl refl
-    check_harm Memory ends = inr (inl refl)
-    check_harm _ ends = absurd ends
 
 -- the same of `load`, where the job file is right
 module _ (g : Givens) (old new : Files) (file at : ℕ) (harmed : IsHarmedAt g.id_of old file at) (disks : g.disks_tell) where

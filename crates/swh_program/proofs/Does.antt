@@ -1,40 +1,41 @@
 -- What a command does, from the answer that came of it and was told.
 use Rattle.std.proofs.Common.{◌≡◌, ◌<◌, ◌≤◌, refl, ℕ, List, subst, arith, inl, inr}
-use Rattle.std.specs.List.{flat_map}
 use Rattle.swh_base.specs.declared.kind.Kind.{Kind}
 use Rattle.swh_words.specs.Words.{Wanted, ToInit, ToLoad, ToAsk, ToCheck, ToIdentify}
 use Rattle.swh_program.specs.Seen.{Sink, Seen, Told, Same, Span}
 use Rattle.swh_program.specs.Answers.{last_line_of}
 use Rattle.swh_program.specs.Archives.{SameElsewhere, old_archive, new_archive}
-use Rattle.swh_program.specs.AskCommand.{Asks, DoesAsk, HasShortReply, reply_line}
-use Rattle.swh_program.specs.CheckCommand.{Checks, DoesCheck}
+use Rattle.swh_program.specs.AskCommand.{asking}
+use Rattle.swh_program.specs.CheckCommand.{checking}
 use Rattle.swh_program.specs.Commands.{Does, Comes}
 use Rattle.swh_program.specs.Complete.{jobs_of_meant, all_made, full_lines}
 use Rattle.swh_program.specs.Damage.{damaged_line}
-use Rattle.swh_program.specs.IdentifyCommand.{Identifies, DoesIdentify, HasNoBody, name_of_bytes, name_line}
-use Rattle.swh_program.specs.InitCommand.{Inits, DoesInit}
+use Rattle.swh_program.specs.IdentifyCommand.{Identifies, DoesIdentify, HasNoBody, IsIdentifyAnswer, name_of_bytes, name_line}
+use Rattle.swh_program.specs.InitCommand.{Inits, DoesInit, IsInitAnswer}
 use Rattle.swh_program.specs.Jobs.{HasJobs, HasNoJobs, bad_job_line}
 use Rattle.swh_program.specs.LeftAlone.{IsOnDepot, IsOnDesk, IsBeforeInputs, IsRefusedInOrder}
 use Rattle.swh_program.specs.LoadCommand.{inputs_of, givens_of, Loads, DoesLoad}
 use Rattle.swh_program.specs.Opening.{IsUnusable}
 use Rattle.swh_program.specs.Own.{KeepsOwn}
-use Rattle.swh_program.specs.Run.{IsTold, replies_status}
-use Rattle.swh_model.specs.Step.{replay}
+use Rattle.swh_program.specs.Reading.{Telling, Reads}
+use Rattle.swh_program.specs.Run.{IsTold, NamesFailed}
 use Rattle.swh_segment.specs.Making.{IsMade}
 use Rattle.swh_program.specs.declared.answer.Answer.{Answer}
 use Rattle.swh_program.specs.declared.answer.Answer.TheVariants.{Made, NoJobFile, BadJob, NotMade, Damaged, OutsideDisk, OutsideSource, OutsideClock, Memory}
-use Rattle.swh_program.proofs.Checked.{check_statuses, check_archive, check_done, counts_with}
-use Rattle.swh_program.proofs.Damages.{ask_harm, check_harm, load_harm}
-use Rattle.swh_program.proofs.Completes.{told_with, told_unless, init_done, ask_done}
+use Rattle.swh_program.proofs.Asked.{ask_settles, does_ask}
+use Rattle.swh_program.proofs.Checked.{check_settles, does_check}
+use Rattle.swh_program.proofs.Damages.{load_harm}
+use Rattle.swh_program.proofs.Completes.{told_with, told_unless, init_done}
 use Rattle.swh_program.proofs.Ends.{safe}
-use Rattle.swh_program.proofs.Exacts.{init_statuses, ask_statuses, init_archive, ask_archive, ask_replies}
+use Rattle.swh_program.proofs.Exacts.{init_statuses, init_archive}
 use Rattle.swh_program.proofs.LoadFiles.{load_files, refused_files}
 use Rattle.swh_program.proofs.LoadStatuses.{load_job, load_bad, load_archive, load_lines, load_input}
 use Rattle.swh_program.proofs.LoadsDone.{load_exact, meant_all_made, load_done}
 use Rattle.swh_program.proofs.Naming.{identify_statuses, identify_exactly, named}
-use Rattle.swh_program.proofs.Owned.{exactly_not_made, exactly_not_made_with, keeps_same, ends_own}
+use Rattle.swh_program.proofs.Owned.{exactly_not_made_with, keeps_same, ends_own}
 use Rattle.swh_program.proofs.Orders.{job_first, archive_first, refused_job, refused_archive}
-use Rattle.swh_program.proofs.Statuses.{run_comes, uncut, run_exactly, run_never}
+use Rattle.swh_program.proofs.ReadOnly.{read_names}
+use Rattle.swh_program.proofs.Statuses.{run_comes, uncut, run_exactly, run_never, init_disk, identify_disk}
 
 -- what comes of the words comes of the command that they are
 pub came : (a b : Wanted) (s : Span) (answer : Answer) → a ≡ b → Comes a s answer → Comes b s answer
@@ -63,6 +64,16 @@ module _ (id_of : Kind → List ℕ → List ℕ) (told : Told) (seen : Seen) (s
   on_depot : IsOnDepot nothing
   on_depot = record { desk = desk; origins = origins; clock = clock }
 
+  nothing_read : (t : Telling) (dir : List ℕ) → Reads t dir nothing Memory
+  nothing_read t dir = record {
+    one_of = tt;
+    ends = λ k. inl refl;
+    elsewhere = λ k. same_elsewhere dir;
+    own = λ k. nothing_kept dir;
+    cause = λ e. absurd (no_disk e);
+    left = on_depot;
+  }
+
   pub nothing_came : (wanted : Wanted) → Comes wanted nothing Memory
   nothing_came (ToInit dir) = record {
     one_of = tt;
@@ -83,22 +94,8 @@ module _ (id_of : Kind → List ℕ → List ℕ) (told : Told) (seen : Seen) (s
     clock_cause = λ e. absurd (no_clock e);
     left = tt;
   }
-  nothing_came (ToAsk dir paths) = record {
-    one_of = tt;
-    ends = λ t. inl refl;
-    elsewhere = λ t. same_elsewhere dir;
-    own = λ t. nothing_kept dir;
-    cause = λ e. absurd (no_disk e);
-    left = on_depot;
-  }
-  nothing_came (ToCheck dir) = record {
-    one_of = tt;
-    ends = λ t. inl refl;
-    elsewhere = λ t. same_elsewhere dir;
-    own = λ t. nothing_kept dir;
-    cause = λ e. absurd (no_disk e);
-    left = on_depot;
-  }
+  nothing_came (ToAsk dir paths) = nothing_read (asking paths) dir
+  nothing_came (ToCheck dir) = nothing_read (checking id_of) dir
   nothing_came (ToIdentify kind path) = record {
     one_of = tt;
     ends = λ t. tt;
@@ -145,6 +142,16 @@ module _ (s : Span) (sink : Sink) (same_sink : Type 0) where
   refused_still OutsideDisk left = before_still left
   refused_still _ left = tt
 
+read_still : (t : Telling) (dir : List ℕ) (s : Span) (sink : Sink) (same_sink : Type 0) (answer : Answer) → Reads t dir s answer → Reads t dir (with_sink s sink same_sink) answer
+read_still t dir s sink same_sink answer r = record {
+  one_of = r.one_of;
+  ends = r.ends;
+  elsewhere = r.elsewhere;
+  own = r.own;
+  cause = r.cause;
+  left = on_depot_still s sink same_sink r.left;
+}
+
 -- an answer says nothing of the sink that it is told on
 pub comes_still : (wanted : Wanted) (s : Span) (sink : Sink) (same_sink : Type 0) (answer : Answer) → Comes wanted s answer → Comes wanted (with_sink s sink same_sink) answer
 comes_still (ToInit dir) s sink same_sink answer i = record {
@@ -166,22 +173,8 @@ comes_still (ToLoad dir jobs) s sink same_sink answer l = record {
   clock_cause = l.clock_cause;
   left = refused_still s sink same_sink answer l.left;
 }
-comes_still (ToAsk dir paths) s sink same_sink answer a = record {
-  one_of = a.one_of;
-  ends = a.ends;
-  elsewhere = a.elsewhere;
-  own = a.own;
-  cause = a.cause;
-  left = on_depot_still s sink same_sink a.left;
-}
-comes_still (ToCheck dir) s sink same_sink answer c = record {
-  one_of = c.one_of;
-  ends = c.ends;
-  elsewhere = c.elsewhere;
-  own = c.own;
-  cause = c.cause;
-  left = on_depot_still s sink same_sink c.left;
-}
+comes_still (ToAsk dir paths) s sink same_sink answer r = read_still (asking paths) dir s sink same_sink answer r
+comes_still (ToCheck dir) s sink same_sink answer r = read_still (checking s.id_of) dir s sink same_sink answer r
 comes_still (ToIdentify kind path) s sink same_sink answer i = record {
   one_of = i.one_of;
   ends = i.ends;
@@ -237,41 +230,6 @@ does_load dir path s answer status told l =
           told_with (full_lines before meant) 0 answer s status (load_done s.id_of (inputs_of s) before meant one are quiet answer exact) no_sink told;
     }
 
-does_ask : (dir : List ℕ) (paths : List (List ℕ)) (s : Span) (answer : Answer) (status : ℕ) → IsTold answer s status → Asks dir paths s answer → DoesAsk dir paths s status
-does_ask dir paths s answer status told a =
-    let old = old_archive dir s in
-    let new = new_archive dir s in
-    record {
-      ends = record { answer = answer; is_one = a; told = told };
-      not_refused = run_never answer s status 2 3 (ask_statuses s.id_of paths answer a.one_of) 2 (omega arith) (omega arith) (omega arith) told;
-      unusable = λ t. run_exactly answer s status 3 (IsUnusable s.id_of old) (omega arith) (ask_archive s.id_of old new paths answer a.one_of (a.ends t)) told;
-      first_harm = λ file at t harm. told_unless (damaged_line file at) 3 answer s status (ask_harm s.id_of old file at harm new paths answer (a.ends t)) told;
-      undamaged = λ t own.
-          exactly_not_made s.id_of old status own (run_exactly answer s status 3 (IsUnusable s.id_of old) (omega arith) (ask_archive s.id_of old new paths answer a.one_of (a.ends t)) told);
-      own = λ t. ends_own s.id_of old new answer s status (a.own t) told;
-      short_reply = λ h replies t archive are. run_exactly answer s status 1 (HasShortReply replies) (omega arith) (ask_replies s.id_of old new paths h replies archive are answer (a.ends t)) told;
-      complete = λ h replies t archive are no_disk no_sink.
-          told_with (flat_map reply_line replies) (replies_status replies) answer s status
-          (ask_done s.id_of paths old new h replies archive are answer (a.ends t) (λ failed. no_disk (a.cause failed))) no_sink told;
-    }
-
-does_check : (dir : List ℕ) (s : Span) (answer : Answer) (status : ℕ) → IsTold answer s status → Checks dir s answer → DoesCheck dir s status
-does_check dir s answer status told c =
-    let old = old_archive dir s in
-    let new = new_archive dir s in
-    record {
-      ends = record { answer = answer; is_one = c; told = told };
-      not_wanting = run_never answer s status 1 3 (check_statuses s.id_of answer c.one_of) 1 (omega arith) (omega arith) (omega arith) told;
-      not_refused = run_never answer s status 1 3 (check_statuses s.id_of answer c.one_of) 2 (omega arith) (omega arith) (omega arith) told;
-      unusable = λ t. run_exactly answer s status 3 (IsUnusable s.id_of old) (omega arith) (check_archive s.id_of old new answer (c.ends t)) told;
-      first_harm = λ file at t harm. told_unless (damaged_line file at) 3 answer s status (check_harm s.id_of old file at harm new answer (c.ends t)) told;
-      undamaged = λ t own.
-          exactly_not_made s.id_of old status own (run_exactly answer s status 3 (IsUnusable s.id_of old) (omega arith) (check_archive s.id_of old new answer (c.ends t)) told);
-      own = λ t. ends_own s.id_of old new answer s status (c.own t) told;
-      complete = λ h t archive no_disk no_sink.
-          counts_with (replay h) answer s status (check_done s.id_of old new h archive answer (c.ends t) (λ failed. no_disk (c.cause failed))) no_sink told;
-    }
-
 does_identify : (kind : Kind) (path : List ℕ) (s : Span) (answer : Answer) (status : ℕ) → IsTold answer s status → Identifies kind path s answer → DoesIdentify kind path s status
 does_identify kind path s answer status told i =
     let found = s.old.desk.file_at path in
@@ -291,3 +249,19 @@ does (ToLoad dir jobs) s answer status told came = does_load dir jobs s answer s
 does (ToAsk dir paths) s answer status told came = does_ask dir paths s answer status told came
 does (ToCheck dir) s answer status told came = does_check dir s answer status told came
 does (ToIdentify kind path) s answer status told came = does_identify kind path s answer status told came
+
+-- which part the answer of a command names
+pub comes_names : (wanted : Wanted) (s : Span) (answer : Answer) → Comes wanted s answer → NamesFailed s answer
+comes_names (ToInit dir) s answer i = record {
+  disk = λ tells. i.cause (init_disk answer i.one_of tells);
+  source = λ e. absurd (subst IsInitAnswer e i.one_of);
+  clock = λ e. absurd (subst IsInitAnswer e i.one_of);
+}
+comes_names (ToLoad dir jobs) s answer l = record { disk = l.disk_cause; source = l.source_cause; clock = l.clock_cause }
+comes_names (ToAsk dir paths) s answer r = read_names (asking paths) (ask_settles paths) dir s answer r
+comes_names (ToCheck dir) s answer r = read_names (checking s.id_of) (check_settles s.id_of) dir s answer r
+comes_names (ToIdentify kind path) s answer i = record {
+  disk = λ tells. absurd (subst (IsIdentifyAnswer s.id_of kind) (identify_disk s.id_of kind answer i.one_of tells) i.one_of);
+  source = i.cause;
+  clock = λ e. absurd (subst (IsIdentifyAnswer s.id_of kind) e i.one_of);
+}

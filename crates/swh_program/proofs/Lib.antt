@@ -2,7 +2,6 @@ pub mod Elements
 pub mod Ends
 pub mod Told
 pub mod Opened
-pub mod Asked
 pub mod Inputs
 pub mod Endings
 pub mod Calling
@@ -14,7 +13,6 @@ pub mod JobReads
 pub mod Archived
 pub mod Replies
 pub mod Completes
-pub mod Checked
 pub mod Damages
 pub mod LoadEndings
 pub mod Fulls
@@ -31,4 +29,7 @@ pub mod LoadFiles
 pub mod Naming
 pub mod Leaving
 pub mod Orders
+pub mod ReadOnly
+pub mod Asked
+pub mod Checked
 pub mod Does

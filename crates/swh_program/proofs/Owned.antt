@@ -7,7 +7,7 @@ use Rattle.swh_outside.specs.Files.{Files, Images, AreImages, EachFilesMoment, f
 use Rattle.swh_outside.proofs.Images.{at_rest_image}
 use Rattle.swh_outside.proofs.Numbered.{files_moments_then}
 use Rattle.swh_format.specs.Record.{Stands}
-use Rattle.swh_model.specs.Archive.{Archive, empty_archive}
+use Rattle.swh_model.specs.Archive.{empty_archive}
 use Rattle.swh_model.specs.declared.event.Event.{Event}
 use Rattle.swh_model.specs.Step.{IsHistory}
 use Rattle.swh_model.proofs.Histories.{fronts}
@@ -21,7 +21,6 @@ use Rattle.swh_keeper.proofs.OwnLemmas.{not_damaged, opening_moments, making_lea
 use Rattle.swh_loader.specs.Calls.{all_calls}
 use Rattle.swh_loader.specs.Moments.{EachFrontMoment}
 use Rattle.swh_program.specs.Answers.{status_of}
-use Rattle.swh_program.specs.AskCommand.{IsToldArchive}
 use Rattle.swh_program.specs.Damage.{IsUndamaged}
 use Rattle.swh_program.specs.InitCommand.{InitEnds}
 use Rattle.swh_program.specs.Jobs.{IsJobRefusal}
@@ -193,8 +192,3 @@ module _ (id_of : Kind → List ℕ → List ℕ) where
           let below : status_of answer < 2 = omega (arith, printed.status_is, less) in
           keeps.opened (low_opened answer below);
     }
-
--- replies are told, or memory ran out
-pub told_archive_undamaged : (a : Archive) (paths : List (List ℕ)) (answer : Answer) → IsToldArchive a paths answer → IsUndamaged answer
-told_archive_undamaged a paths (Damaged text) told = absurd told
-told_archive_undamaged a paths _ told = tt

@@ -47,8 +47,8 @@ more_ending replies reply end now (inr wanting) (inl found) = inr (still_short r
 more_ending replies reply end now is (inr other) = inr (Any-push (λ r. r.status ≢ 200) replies reply other.0, other.1)
 
 -- one more reply is told
-pub told_more : (a : Archive) (paths : List (List ℕ)) (path : List ℕ) (reply : ReplyText) (text text_now : List ℕ) (end now : Ending) → TellsArchive a paths text end → IsReplyToGet a path reply → text_now ≡ text ++ reply_line reply
-    → ((reply.status ≡ 200) × (now ≡ end)) ⊎ ((reply.status ≢ 200) × (now ≡ Wanting)) → TellsArchive a (paths ++ path ∷ []) text_now now
+pub told_more : (a : Archive) (paths : List (List ℕ)) (path : List ℕ) (reply : ReplyText) (text text_now : List ℕ) (end now : Ending) → TellsArchive paths a text end → IsReplyToGet a path reply → text_now ≡ text ++ reply_line reply
+    → ((reply.status ≡ 200) × (now ≡ end)) ⊎ ((reply.status ≢ 200) × (now ≡ Wanting)) → TellsArchive (paths ++ path ∷ []) a text_now now
 told_more a paths path reply text text_now end now told is appended ends =
     let line = reply_line reply in
     let whole : flat_map reply_line (told.replies ++ reply ∷ []) ≡ flat_map reply_line told.replies ++ line = flat_map-append reply_line told.replies (reply ∷ []) ∙ ap (λ (l : List ℕ). flat_map reply_line told.replies ++ l) (append-nil line) in

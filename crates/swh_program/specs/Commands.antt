@@ -1,13 +1,17 @@
 -- What each command does.
-use Rattle.std.specs.Prelude.{ℕ}
+use Rattle.std.specs.Prelude.{ℕ, List, map}
+use Rattle.swh_base.specs.declared.kind.Kind.{Kind}
 use Rattle.swh_words.specs.Words.{Wanted, ToInit, ToLoad, ToAsk, ToCheck, ToIdentify}
 use Rattle.swh_program.specs.Seen.{Span}
 use Rattle.swh_program.specs.InitCommand.{Inits, DoesInit}
 use Rattle.swh_program.specs.LoadCommand.{Loads, DoesLoad}
-use Rattle.swh_program.specs.AskCommand.{Asks, DoesAsk}
-use Rattle.swh_program.specs.CheckCommand.{Checks, DoesCheck}
+use Rattle.swh_program.specs.AskCommand.{asking, DoesAsk}
+use Rattle.swh_program.specs.CheckCommand.{checking, DoesCheck}
 use Rattle.swh_program.specs.IdentifyCommand.{Identifies, DoesIdentify}
+use Rattle.swh_program.specs.Reading.{Telling, Reads}
 use Rattle.swh_program.specs.declared.answer.Answer.{Answer}
+use Rattle.swh_program.specs.declared.reading.Reading.{Reading}
+use Rattle.swh_program.specs.declared.reading.Reading.TheVariants.{Ask, Check}
 
 -- The run does what the command asks for, and ends with this status.
 abbrev pub Does : Wanted → Span → ℕ → Type 0
@@ -21,6 +25,11 @@ Does (ToIdentify kind path) s status = DoesIdentify kind path s status
 abbrev pub Comes : Wanted → Span → Answer → Type 0
 Comes (ToInit dir) s answer = Inits dir s answer
 Comes (ToLoad dir jobs) s answer = Loads dir jobs s answer
-Comes (ToAsk dir paths) s answer = Asks dir paths s answer
-Comes (ToCheck dir) s answer = Checks dir s answer
+Comes (ToAsk dir paths) s answer = Reads (asking paths) dir s answer
+Comes (ToCheck dir) s answer = Reads (checking s.id_of) dir s answer
 Comes (ToIdentify kind path) s answer = Identifies kind path s answer
+
+-- what a command that only reads has to tell of an archive
+abbrev pub telling : (Kind → List ℕ → List ℕ) → Reading → Telling
+telling id_of (Ask paths) = asking (map (λ path. path.now) paths.now)
+telling id_of Check = checking id_of

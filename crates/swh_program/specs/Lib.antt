@@ -7,6 +7,7 @@ pub mod LeftAlone
 pub mod Damage
 pub mod Opening
 pub mod Own
+pub mod Reading
 pub mod InitCommand
 pub mod AskCommand
 pub mod CheckCommand

@@ -1,14 +1,18 @@
 -- The opening of an archive: which history its files stand for, and how a command ends that is refused.
 use Rattle.std.specs.Prelude.{◌≡◌, ◌⊎◌, ℕ, List}
 use Rattle.swh_base.specs.declared.kind.Kind.{Kind}
-use Rattle.swh_outside.specs.Files.{Files, FilesBreaks, files_done}
+use Rattle.swh_outside.specs.Disk.{File}
+use Rattle.swh_outside.specs.Files.{Files, FilesBreaks, AreImages, files_of, files_done}
 use Rattle.swh_model.specs.declared.event.Event.{Event}
 use Rattle.swh_format.specs.Stands.{StandsFor}
 use Rattle.swh_model.specs.Step.{IsHistory}
 use Rattle.swh_segment.specs.Making.{IsMade, IsNotMade, barriers}
+use Rattle.swh_segment.specs.Settled.{seen_of}
+use Rattle.swh_keeper.specs.Kept.{Kept}
 use Rattle.swh_keeper.specs.declared.opening.OpenWhy.{OpenWhy}
 use Rattle.swh_keeper.specs.declared.opening.OpenWhy.TheVariants as why
 use Rattle.swh_program.specs.Damage.{damaged_line, IsDamagedLine, TellsDamageLine, TellsHarm}
+use Rattle.swh_program.specs.Own.{KeepsOwn}
 use Rattle.swh_program.specs.declared.answer.Answer.{Answer}
 use Rattle.swh_program.specs.declared.answer.Answer.TheVariants.{NotMade, Damaged, OutsideDisk, Memory}
 
@@ -62,3 +66,17 @@ module _ (id_of : Kind → List ℕ → List ℕ) where
   OpenEnds old new OutsideDisk = IsAtMostOpened old new
   OpenEnds old new Memory = IsUntouched old new
   OpenEnds old new _ = ⊥
+
+  -- how it leaves them; and own files are not told of as damaged, and are left own
+  pub record IsLeftRefused (old new : Files) (answer : Answer) : Type 0 where
+    pub ends : OpenEnds old new answer
+    pub own : KeepsOwn id_of old new answer
+
+  -- The files of an archive that was opened stand for its history and no other, and nothing was done on them but a
+  -- barrier on each. What a read gave of each is what a crash might have left of it.
+  pub record IsOpenedFrom {D : Type 0} (file : D → File) (old : Files) (kept : Kept D) : Type 0 where
+    pub archive : IsArchive old kept.history
+    pub no_other : (h : List Event) → IsArchive old h → kept.history ≡ h
+    pub made : IsMade (old 0).seen
+    pub opened : IsOnlyOpened old (files_of (file kept.ledger) (file kept.store))
+    pub sees : AreImages old (seen_of old)

@@ -19,6 +19,7 @@ ghost use Rattle.swh_program.specs.declared.answer.Ending.TheVariants as ending;
 ghost use Rattle.swh_program.specs.declared.answer.Answer.TheVariants.{OutsideSource};
 
 use crate::answer::{Answer, Ending};
+use crate::text::Text;
 use itoa::Buffer;
 use std::alloc::Global;
 use swh_base::{BODY_LIMIT, Bytes, Kind, Memory, Name, Namer};
@@ -58,8 +59,8 @@ fn tell_name(alloc: Global, name: &Name) -> Answer
     ensures { TellsLine (name_line name.now) ending.Done result }
 {
     match name_line(alloc, name) {
-        Ok(text) => Answer::Told {
-            text,
+        Ok(line) => Answer::Told {
+            text: Text::of(alloc, line),
             ending: Ending::Done,
         },
         Err(_) => Answer::Memory,
@@ -71,8 +72,8 @@ fn tell_bad(alloc: Global, kind: Kind, at: u64) -> Answer
     ensures { TellsLine (bad_line kind at) ending.Wanting result }
 {
     match bad_line(alloc, kind, at) {
-        Ok(text) => Answer::Told {
-            text,
+        Ok(line) => Answer::Told {
+            text: Text::of(alloc, line),
             ending: Ending::Wanting,
         },
         Err(_) => Answer::Memory,
@@ -84,8 +85,8 @@ fn tell_refusal(alloc: Global, line: &[u8]) -> Answer
     ensures { TellsLine line.now ending.Wanting result }
 {
     match Bytes::from_slice(alloc, line) {
-        Ok(text) => Answer::Told {
-            text,
+        Ok(line) => Answer::Told {
+            text: Text::of(alloc, line),
             ending: Ending::Wanting,
         },
         Err(_) => Answer::Memory,

@@ -68,7 +68,7 @@ impl<N: Namer, P: Depot, O: Origins, Y: Yard, K: Sink, C: Clock, D: Doors, G: Ga
             number: LOADER,
         };
         let loaded = load_all(alloc, &self.namer, keeper, &worker, jobs.as_mut_slice());
-        let answer = tell_loaded(loaded);
+        let answer = tell_loaded(alloc, loaded);
         give_all_back(&mut self.origins, jobs);
         answer
     }

@@ -1,17 +1,13 @@
 // The archive in a folder, opened and given back.
-ghost use Rattle.std.specs.Prelude.{◌≡◌, ◌≤◌, ◌<◌, List, None, Err, IfOk, IfErr, OnOk, OnErr};
+ghost use Rattle.std.specs.Prelude.{◌≡◌, ◌≤◌, ◌<◌, None, IfOk, IfErr, OnOk};
 ghost use Rattle.swh_outside.specs.Faults.{Rose};
-ghost use Rattle.swh_outside.specs.Files.{AreImages, files_of, files_done};
-ghost use Rattle.swh_model.specs.declared.event.Event.{Event};
+ghost use Rattle.swh_outside.specs.Files.{files_of};
 ghost use Rattle.swh_model.specs.Step.{IsHistory};
-ghost use Rattle.swh_segment.specs.Making.{IsMade, barriers};
-ghost use Rattle.swh_segment.specs.Settled.{seen_of};
 ghost use Rattle.swh_keeper.specs.Kept.{IsKept};
 ghost use Rattle.swh_keeper.specs.Own.{AreOwn};
 ghost use Rattle.swh_program.specs.Archives.{archive_at, SameElsewhere};
 ghost use Rattle.swh_keeper.specs.Opening.{IsOpeningFault};
-ghost use Rattle.swh_program.specs.Opening.{IsArchive, IsOpenRefusal, IsRefusalFor, OpenEnds};
-ghost use Rattle.swh_program.specs.Own.{KeepsOwn};
+ghost use Rattle.swh_program.specs.Opening.{IsOpenRefusal, IsRefusalFor, IsOpenedFrom, IsLeftRefused};
 ghost use Rattle.swh_keeper.specs.declared.opening.OpenWhy.TheVariants.{DiskFault};
 ghost use Rattle.swh_program.specs.declared.answer.Answer.TheVariants.{OutsideDisk};
 
@@ -47,28 +43,16 @@ pub fn open_archive<N: Namer, P: Depot>(
     dir: &str,
 ) -> Result<Keeper<N, P::D>, Answer>
     ensures disks_tell { P.tells → P.D.tells }
-    ensures archive { P.tells → IfOk result (λ keeper.
-        IsArchive N.id_of (archive_at (P.files depot.old) dir.now) keeper.history) }
+    ensures opened { P.tells → IfOk result (IsOpenedFrom N.id_of P.D.file (archive_at (P.files depot.old) dir.now)) }
     // Whatever the disks tell, the history may happen.
     ensures happens { IfOk result (λ keeper. IsHistory N.id_of keeper.history) }
-    ensures no_other { P.tells → IfOk result (λ keeper. (h : List Event)
-        → IsArchive N.id_of (archive_at (P.files depot.old) dir.now) h → keeper.history ≡ h) }
-    ensures made { P.tells → OnOk result (IsMade (archive_at (P.files depot.old) dir.now 0).seen) }
-    ensures opened { P.tells → IfOk result (λ keeper. files_of (P.D.file keeper.ledger) (P.D.file keeper.store)
-        ≡ files_done barriers (archive_at (P.files depot.old) dir.now)) }
-    // What a read gave of each file is what a crash might have left of it.
-    ensures sees { P.tells → OnOk result (AreImages (archive_at (P.files depot.old) dir.now)
-        (seen_of (archive_at (P.files depot.old) dir.now))) }
     ensures unwounded { IfOk result (λ keeper. keeper.wounded ≡ None) }
-    ensures store_place { OnOk result (P.has_place depot.new dir.now 1) }
-    ensures ledger_place { OnOk result (P.has_place depot.new dir.now 0) }
+    ensures places { OnOk result (P.has_place depot.new dir.now 0 × P.has_place depot.new dir.now 1) }
 
-    ensures one_of { IfErr result (λ answer. IsOpenRefusal answer) }
-    ensures ends { P.tells → IfErr result
-        (OpenEnds N.id_of (archive_at (P.files depot.old) dir.now) (archive_at (P.files depot.new) dir.now)) }
+    ensures one_of { IfErr result IsOpenRefusal }
     // Own files are not told of as damaged, and are left own.
-    ensures own { P.tells → IfErr result
-        (KeepsOwn N.id_of (archive_at (P.files depot.old) dir.now) (archive_at (P.files depot.new) dir.now)) }
+    ensures refused { P.tells → IfErr result (IsLeftRefused N.id_of (archive_at (P.files depot.old) dir.now)
+        (archive_at (P.files depot.new) dir.now)) }
     ensures others { P.tells → SameElsewhere dir.now (P.files depot.old) (P.files depot.new) }
     ensures later { P.faults depot.old ≤ P.faults depot.new }
     ensures cause { IfErr result (λ answer. answer ≡ OutsideDisk → Rose (P.faults depot.old) (P.faults depot.new)) }
@@ -94,8 +78,7 @@ pub fn open_archive<N: Namer, P: Depot>(
 
 /// Gives the files of an archive back, which are own. Where one of them has failed, the depot's count rises.
 pub fn close_archive<N: Namer, P: Depot>(depot: &mut P, dir: &str, keeper: Keeper<N, P::D>)
-    requires store_place { P.has_place depot.old dir.now 1 }
-    requires ledger_place { P.has_place depot.old dir.now 0 }
+    requires { P.has_place depot.old dir.now 0 × P.has_place depot.old dir.now 1 }
     ensures taken { P.tells → archive_at (P.files depot.new) dir.now
         ≡ files_of (P.D.file keeper.ledger) (P.D.file keeper.store) }
     ensures kept { IsKept N.id_of P.D.tells P.D.file keeper }

@@ -4,6 +4,8 @@ ghost use Rattle.swh_program.specs.Lines.{ending_of_end, ending_of_why, ending_f
 ghost use Rattle.swh_program.specs.declared.answer.Answer.TheVariants.{Told, Memory as OutOfMemory};
 
 use crate::answer::{Answer, Ending};
+use crate::text::Text;
+use std::alloc::Global;
 use swh_base::Memory;
 use swh_loader::{End, LoadFault, LoadWhy, Loaded};
 use swh_pool::Report;
@@ -59,13 +61,14 @@ fn worst_of(outcomes: &[Result<Loaded, LoadFault>]) -> Ending
 }
 
 /// The answer that tells how loads ended, or that memory ran out before them.
-pub fn tell_loaded(loaded: Result<Report, Memory>) -> Answer
+pub fn tell_loaded(alloc: Global, loaded: Result<Report, Memory>) -> Answer
     ensures told { IfOk loaded (λ report. result ≡ Told report.text (ending_of_all report.outcomes.items)) }
     ensures memory { OnErr loaded (result ≡ OutOfMemory) }
 {
     match loaded {
         Ok(Report { outcomes, text }) => {
             let ending = worst_of(&outcomes);
+            let text = Text::of(alloc, text);
             Answer::Told { text, ending }
         }
         Err(_) => Answer::Memory,

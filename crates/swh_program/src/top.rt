@@ -7,7 +7,7 @@ ghost use Rattle.swh_program.specs.LeftAlone.{KeepsTheRest, TouchesNothing};
 ghost use Rattle.swh_program.specs.Run.{IsStatus, IsNoCommand, NamesFailed, RefusesWords, TellsFailures};
 ghost use Rattle.swh_program.specs.declared.answer.Answer.TheVariants.{Words, Memory};
 
-use crate::{Answer, Outside, Shown, ask, check, identify, init, tell};
+use crate::{Answer, Outside, Reading, Shown, identify, init, read_archive, tell};
 use std::alloc::Global;
 use swh_base::Namer;
 use swh_outside::{Clock, Depot, Doors, Gate, Origins, Sink, Yard};
@@ -33,14 +33,15 @@ impl<N: Namer, P: Depot, O: Origins, Y: Yard, K: Sink, C: Clock, D: Doors, G: Ga
         match command {
             Command::Init { dir } => init(&mut self.depot, dir),
             Command::Load { dir, jobs } => self.load(alloc, dir, jobs),
-            Command::Ask { dir, paths } => ask(
-                alloc,
-                self.namer,
-                &mut self.depot,
-                dir,
-                paths.as_slice(),
-            ),
-            Command::Check { dir } => check(alloc, self.namer, &mut self.depot, dir),
+            Command::Ask { dir, paths } => {
+                let reading = Reading::Ask {
+                    paths: paths.as_slice(),
+                };
+                read_archive(alloc, self.namer, &mut self.depot, dir, &reading)
+            }
+            Command::Check { dir } => {
+                read_archive(alloc, self.namer, &mut self.depot, dir, &Reading::Check)
+            }
             Command::Identify { kind, path } => identify(
                 alloc,
                 &self.namer,

@@ -18,9 +18,7 @@ fn depot_for(rt: HostRuntime, alloc: Global, command: &Command<'_>) -> RealDepot
     match command {
         Command::Init { .. } => RealDepot::to_make(rt, alloc),
         Command::Load { .. } => RealDepot::to_write(rt, alloc),
-        Command::Ask { .. } | Command::Check { .. } | Command::Identify { .. } => {
-            RealDepot::to_read(rt, alloc)
-        }
+        _ => RealDepot::to_read(rt, alloc),
     }
 }
 

@@ -7,27 +7,27 @@ pub returns-in_default-clause-told : goal.returns-in_default-clause-told
 returns-in_default-clause-told g c =
     inr (record {
       status_is = refl;
-      rose = c.in_default.ensures.cause;
-      printed = λ told. some_of_first _ _ (last_line_of c.args.answer.now) _ (rw c.told.ensures at c.in_default.ensures.err told);
+      rose = c.in_default.ensures.cause.failed;
+      printed = λ told. some_of_first _ _ (last_line_of c.args.answer.now) _ (c.in_default.ensures.bytes told).err;
     })
 
-pub returns-in_default-print-clause-told : goal.returns-in_default-print-clause-told
-returns-in_default-print-clause-told g c =
+pub returns-in_default-put_some-clause-told : goal.returns-in_default-put_some-clause-told
+returns-in_default-put_some-clause-told g c =
     inr (record {
       status_is = refl;
-      rose = rw c.in-Ok.ensures.quiet at c.in_default-print.ensures.cause;
-      printed = λ told. some_of_second _ (told_by c.args.answer.now) _ _ _ (rw c.told.ensures at c.in-Ok.ensures.ok told) (rw c.last_line.ensures at c.in_default-print.ensures.err told);
+      rose = rw c.in-Ok.ensures.cause.quiet at c.in_default-put_some.ensures.cause.failed;
+      printed = λ told. some_of_second _ (told_by c.args.answer.now) _ _ _ (c.in-Ok.ensures.bytes told).ok (rw c.last_line.ensures at (c.in_default-put_some.ensures.bytes told).err);
     })
 
 pub returns-clause-told : goal.returns-clause-told
 returns-clause-told g c =
     inl (record {
       status_is = c.status.ensures;
-      printed = λ told. both_pieces _ (told_by c.args.answer.now) (last_line_of c.args.answer.now) _ _ (rw c.told.ensures at c.in-Ok.ensures.ok told) (rw c.last_line.ensures at c.in-Ok-print.ensures.ok told);
+      printed = λ told. both_pieces _ (told_by c.args.answer.now) (last_line_of c.args.answer.now) _ _ (c.in-Ok.ensures.bytes told).ok (rw c.last_line.ensures at (c.in-Ok-put_some.ensures.bytes told).ok);
     })
 
 pub returns-in_default-clause-later : goal.returns-in_default-clause-later
-returns-in_default-clause-later g c = c.in_default.ensures.later
+returns-in_default-clause-later g c = c.in_default.ensures.cause.later
 
-pub returns-in_default-print-clause-later : goal.returns-in_default-print-clause-later
-returns-in_default-print-clause-later g c = let same = c.in-Ok.ensures.quiet in let more = c.in_default-print.ensures.later in omega (arith, same, more)
+pub returns-in_default-put_some-clause-later : goal.returns-in_default-put_some-clause-later
+returns-in_default-put_some-clause-later g c = let same = c.in-Ok.ensures.cause.quiet in let more = c.in_default-put_some.ensures.cause.later in omega (arith, same, more)

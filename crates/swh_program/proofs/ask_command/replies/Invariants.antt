@@ -4,4 +4,4 @@ use Rattle.swh_program.specs.AskCommand.{TellsArchive}
 use Rattle.swh_program.proofs.ask_command.replies.Given as goal
 
 abbrev pub invariant-loop-path : goal.invariant-loop-path
-invariant-loop-path g l = TellsArchive (archive_of l.replayed) (map g.W.AsStr.text (take l.path-index l.paths)) l.text.items l.ending
+invariant-loop-path g l = TellsArchive (map g.W.AsStr.text (take l.path-index l.paths)) (archive_of l.replayed) l.text l.ending

@@ -22,14 +22,14 @@ returns-in-Init-clause-comes g c =
 
 pub returns-in-Check-clause-comes : goal.returns-in-Check-clause-comes
 returns-in-Check-clause-comes g c =
-    let k = c.check.ensures in
+    let r = c.read_archive-in-Check.ensures in
     came (ToCheck c.in-Check.dir.now) _ _ _ (ap wanted_by (sym c.in-Check.is))
-    (record { one_of = k.one_of; ends = k.ends; elsewhere = k.elsewhere; own = k.own; cause = k.cause; left = record { desk = refl; origins = refl; clock = refl } })
+    (record { one_of = r.one_of; ends = r.ends; elsewhere = r.elsewhere; own = r.own; cause = r.cause; left = record { desk = refl; origins = refl; clock = refl } })
 
 pub returns-in-Ask-clause-comes : goal.returns-in-Ask-clause-comes
 returns-in-Ask-clause-comes g c =
-    let a = c.ask.ensures in
+    let r = c.read_archive.ensures in
     let slice : c.as_slice.result.now ≡ c.in-Ask.paths.items = search rules in
     came (ToAsk c.in-Ask.dir.now (map (λ path. path.now) c.as_slice.result.now)) _ _ _
     (ap (λ (l : List (Bor (List ℕ))). ToAsk c.in-Ask.dir.now (map (λ path. path.now) l)) slice ∙ ap wanted_by (sym c.in-Ask.is))
-    (record { one_of = a.one_of; ends = a.ends; elsewhere = a.elsewhere; own = a.own; cause = a.cause; left = record { desk = refl; origins = refl; clock = refl } })
+    (record { one_of = r.one_of; ends = r.ends; elsewhere = r.elsewhere; own = r.own; cause = r.cause; left = record { desk = refl; origins = refl; clock = refl } })

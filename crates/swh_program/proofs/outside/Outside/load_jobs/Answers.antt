@@ -9,16 +9,16 @@ use Rattle.swh_program.proofs.outside.Outside.load_jobs.Goals as goal
 pub returns-in-Err-clause-load : goal.returns-in-Err-clause-load
 returns-in-Err-clause-load g c =
     inr (refused_unloaded g.N.Namer.id_of g.P.Depot.tells (archive_at (g.P.Depot.files c.args.self.now.depot) c.args.dir.now) (archive_at (g.P.Depot.files c.open_archive.new.depot) c.args.dir.now) c.in-Err.refusal
-    c.in-Err.ensures.one_of c.in-Err.ensures.ends)
+    c.in-Err.ensures.one_of (λ t. (c.in-Err.ensures.refused t).ends))
 
 pub returns-clause-load : goal.returns-clause-load
 returns-clause-load g c =
     run_files _ (disks g.P.D.Disk.tells g.P.D.Disk.file g.P.D.Disk.faults) c.in-Ok.keeper c.load_lines-answer.new.keeper _ _
-    c.in-Ok.ensures.archive c.close_archive.ensures.kept c.in-Ok.ensures.disks_tell c.in-Ok.ensures.sees c.in-Ok.ensures.opened c.close_archive.ensures.taken c.in-Ok.ensures.unwounded
+    (λ t. (c.in-Ok.ensures.opened t).archive) c.close_archive.ensures.kept c.in-Ok.ensures.disks_tell (λ t. (c.in-Ok.ensures.opened t).sees) (λ t. (c.in-Ok.ensures.opened t).opened) c.close_archive.ensures.taken c.in-Ok.ensures.unwounded
     (owned_jobs c.args.lines.items) c.load_lines-answer.result c.load_lines-answer.ensures.load
 
 pub returns-in-Err-clause-own : goal.returns-in-Err-clause-own
-returns-in-Err-clause-own g c told = c.in-Err.ensures.own told
+returns-in-Err-clause-own g c told = (c.in-Err.ensures.refused told).own
 
 pub returns-clause-own : goal.returns-clause-own
 returns-clause-own g c told =

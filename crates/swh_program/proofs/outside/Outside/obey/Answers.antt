@@ -1,7 +1,6 @@
 use Rattle.std.proofs.Common.{refl}
 use Rattle.swh_words.proofs.Commands.{one_command}
-use Rattle.swh_program.proofs.Does.{came, nothing_came}
-use Rattle.swh_program.proofs.Statuses.{comes_names}
+use Rattle.swh_program.proofs.Does.{came, nothing_came, comes_names}
 use Rattle.swh_program.proofs.outside.Outside.obey.Goals as goal
 
 pub returns-in-Ok-clause-refused : goal.returns-in-Ok-clause-refused

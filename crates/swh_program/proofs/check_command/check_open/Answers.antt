@@ -1,6 +1,0 @@
-use Rattle.swh_model.specs.Step.{replay}
-use Rattle.swh_program.proofs.Checked.{counted}
-use Rattle.swh_program.proofs.check_command.check_open.Goals as goal
-
-pub returns-in-Ok-clause-checked : goal.returns-in-Ok-clause-checked
-returns-in-Ok-clause-checked g c = counted g.N.Namer.id_of (replay c.args.keeper.now.history) c.in-Ok.report c.in-Ok.ensures.ok c.tell_report.result c.tell_report.ensures.told
