@@ -1,14 +1,14 @@
 //! What each call answers over the objects.
-use crate::objects::{
+use swh_graph_fixtures::objects::{
     ABOVE, BY_MAIN, BY_TWO, CIRCLE, CUT, DANGLING, EMPTY, FIRST, FOLDER, HEADLESS, LEFT, MERGE,
     MERGE_BACK, OBJECTS, OCTOPUS, OF_ABSENT, OF_BLOB, OF_RELEASE, OF_TREE, ON_CUT, RIGHT, SELF,
     TO_ABSENT, TO_BLOB, TO_NONE, TO_SNAPSHOT, TOP, TREELESS, VERSION_1, WHOLE,
 };
-use crate::shown::archive_of;
 use std::alloc::Global;
 use std::test::Fail;
 use swh_base::Name;
 use swh_graph::{GraphFault, at_path, log, reach, resolve};
+use swh_graph_fixtures::archive_of;
 use swh_replay::Replayed;
 use swh_swhid::{core_text, parse, parse_core};
 
@@ -414,7 +414,9 @@ fn is_answered(alloc: Global, shown: &Replayed, case: &Case) -> Result<bool, Fai
 
 /// The number of the first case with another answer, or how many there are.
 fn first_other(alloc: Global, cases: &[Case]) -> Result<usize, Fail> {
-    let shown = archive_of(alloc, OBJECTS)?;
+    let Some(shown) = archive_of(alloc, OBJECTS) else {
+        return Err(Fail::from("an archive"));
+    };
     for (number, case) in cases.iter().enumerate() {
         if !is_answered(alloc, &shown, case)? {
             return Ok(number);

@@ -1,9 +1,9 @@
 //! A long history and a deep folder.
-use crate::shown::add;
 use std::alloc::{AllocError, Global};
 use std::test::Fail;
 use swh_base::{Kind, Name};
 use swh_graph::{at_path, log, reach};
+use swh_graph_fixtures::add;
 use swh_replay::Replayed;
 
 /// An archive, and the name of what was added last to it.
@@ -36,16 +36,24 @@ fn folder_body(alloc: Global, below: &Name) -> Result<Vec<u8>, AllocError> {
     Ok(body)
 }
 
+/// Adds an object, and answers its name.
+fn added(alloc: Global, shown: &mut Replayed, kind: Kind, body: Vec<u8>) -> Result<Name, Fail> {
+    match add(alloc, shown, kind, body) {
+        Some(name) => Ok(name),
+        None => Err(Fail::from("an object")),
+    }
+}
+
 /// A revision without parents, and so many more, each the child of the one before.
 fn history(alloc: Global, count: u32) -> Result<Deep, Fail> {
     let mut shown = Replayed::new(alloc);
-    let folder = add(alloc, &mut shown, Kind::Directory, Vec::new(alloc))?;
+    let folder = added(alloc, &mut shown, Kind::Directory, Vec::new(alloc))?;
     let mut body = Vec::new(alloc);
     push_line(&mut body, b"tree ", &folder)?;
-    let mut last = add(alloc, &mut shown, Kind::Revision, body)?;
+    let mut last = added(alloc, &mut shown, Kind::Revision, body)?;
     for _ in 0..count {
         let body = revision_body(alloc, &folder, &last)?;
-        last = add(alloc, &mut shown, Kind::Revision, body)?;
+        last = added(alloc, &mut shown, Kind::Revision, body)?;
     }
     Ok(Deep { shown, last })
 }
@@ -53,10 +61,10 @@ fn history(alloc: Global, count: u32) -> Result<Deep, Fail> {
 /// An empty folder, and so many more, each with the one before as its entry.
 fn folders(alloc: Global, count: u32) -> Result<Deep, Fail> {
     let mut shown = Replayed::new(alloc);
-    let mut last = add(alloc, &mut shown, Kind::Directory, Vec::new(alloc))?;
+    let mut last = added(alloc, &mut shown, Kind::Directory, Vec::new(alloc))?;
     for _ in 0..count {
         let body = folder_body(alloc, &last)?;
-        last = add(alloc, &mut shown, Kind::Directory, body)?;
+        last = added(alloc, &mut shown, Kind::Directory, body)?;
     }
     Ok(Deep { shown, last })
 }

@@ -1,0 +1,9 @@
+//! What tests of what is read of an archive share: objects that git named, and archives in memory of single objects.
+//! Stands on objects and on what is in memory of a replay.
+//! Callers may rely on: an object is held under the name that its body has.
+#![tactic(auto)]
+
+pub mod objects;
+mod shown;
+
+pub use shown::{add, archive_of};
