@@ -1,0 +1,4 @@
+pub mod Elements
+pub mod Givens
+pub mod Seens
+pub mod Wholes
