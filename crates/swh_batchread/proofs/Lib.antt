@@ -1,0 +1,4 @@
+pub mod Breaking
+pub mod Headers
+pub mod Reaching
+pub mod Unique

@@ -1,0 +1,4 @@
+pub mod Batch
+pub mod BatchFault
+pub mod Failing
+pub mod Parts
