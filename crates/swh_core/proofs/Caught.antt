@@ -14,7 +14,8 @@ use Rattle.swh_core.specs.declared.parts.Parts.{Parts}
 use Rattle.swh_core.specs.declared.judging.Judgement.{Judgement}
 use Rattle.swh_core.specs.declared.judging.Judgement.TheVariants.{Refused, Allowed}
 use Rattle.swh_core.specs.declared.step.Step.TheVariants.{Crash}
-use Rattle.swh_core.specs.Calls.{calls_for, file_call, file_of, files_on}
+use Rattle.swh_core.specs.Calls.{file_call, file_of, files_on}
+use Rattle.swh_segment.specs.Calls.{calls_for}
 use Rattle.swh_core.specs.World.{one_file, both, files_in}
 use Rattle.swh_core.specs.Step.{IsCaught, IsMeant}
 use Rattle.swh_core.specs.Parts.{world_of, IsJudged, AreCaught, IsSomeFlight}

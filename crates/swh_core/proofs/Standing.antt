@@ -1,6 +1,6 @@
 -- Files that stand for a history, with nothing written since a barrier, at the device calls of the next event; and the gate
 -- that tells whether it happened.
-use Rattle.std.proofs.Common.{◌≡◌, ◌≢◌, inl, inr, ℕ, ◌+◌, ◌<◌, List, [], ◌∷◌, ◌++◌, length, get_or, Some, sym, ap, ◌∙◌, subst, refl, arith}
+use Rattle.std.proofs.Common.{◌≡◌, ◌≢◌, inl, inr, ℕ, ◌+◌, ◌<◌, List, [], ◌∷◌, ◌++◌, length, get_or, Some, sym, ap, ◌∙◌, refl, arith}
 use Rattle.std.specs.List.{AllByRecursion}
 use Rattle.swh_outside.specs.Files.{Files, FileCall, EachFilesMoment, on, files_done}
 use Rattle.swh_model.specs.declared.event.Event.{Event}
@@ -9,13 +9,14 @@ use Rattle.swh_format.specs.Record.{front, body}
 use Rattle.swh_format.specs.Events as format
 use Rattle.swh_format.specs.EventRecord.{coded_record, run_written, AreCodable}
 use Rattle.swh_format.specs.Stands.{StandsFor, written, all_written}
-use Rattle.swh_format.proofs.HistoryFiles.{runs-written, written-at}
-use Rattle.swh_format.proofs.Lengths.{runs-length, ledger-length}
+use Rattle.swh_format.proofs.HistoryFiles.{written-at}
+use Rattle.swh_format.proofs.Lengths.{ledger-length}
 use Rattle.swh_format.proofs.Gates.{front-push}
-use Rattle.swh_segment.specs.Settled.{AreSettled, AreAtRest}
-use Rattle.swh_segment.specs.Calls.{run_calls, append_calls}
-use Rattle.swh_segment.proofs.EventsCrash.{event_moments, event_settled, records-push}
-use Rattle.swh_core.specs.Calls.{calls_for}
+use Rattle.swh_segment.specs.Settled.{AreAtRest}
+use Rattle.swh_segment.specs.Calls.{run_calls, append_calls, calls_for}
+use Rattle.swh_segment.specs.Standing.{AreStanding}
+use Rattle.swh_segment.proofs.EventsCrash.{records-push}
+use Rattle.swh_segment.proofs.Standings.{one_moments, one_added}
 use Rattle.swh_core.specs.Kept.{MayStand}
 use Rattle.swh_core.proofs.Files.{all_both, all_on}
 
@@ -25,45 +26,23 @@ calls_on_two h e =
     (all_on 1 (run_calls (store_length h) (run_written e.what)) (omega arith)) (all_on 0 (append_calls (8 + records_length h) (coded_record (store_length h) e ++ 0 ∷ [])) (omega arith))
 
 module _ (files : Files) (h : List Event) (rests : AreAtRest files) (stand : StandsFor (files 0).seen (files 1).seen h) where
-  settled : AreSettled files (all_written 0 h) (store_length h) (8 + records_length h)
-  settled = record {
-    ledger = record {
-      rests = rests.ledger;
-      stands = stand.files.ledger_stands;
-      end_is = let n = ledger-length h in omega (arith, n);
-    };
-    store = rests.store;
-    rest = stand.files.rest;
-    begins = stand.files.store_begins;
-    store_end_is = ap length (runs-written 0 h) ∙ runs-length h;
-  }
+  standing : AreStanding (files 0) (files 1) h
+  standing = record { ledger_rests = rests.ledger; store_rests = rests.store; stand = stand }
 
   module _ (e : Event) (codable : AreCodable 0 (h ++ e ∷ [])) where
     -- at each of its calls
     pub event_moments_stand : EachFilesMoment (calls_for h e) files (λ images. MayStand h (Some e) (images 0) (images 1))
-    event_moments_stand =
-        let each = event_moments files (all_written 0 h) (written (store_length h) e) (store_length h) (8 + records_length h) settled (coded_record (store_length h) e ++ 0 ∷ []) (record { is = refl }) in
-        record {
-          has = λ n. record {
-            has = λ images are. elim ((each.has n).has images are) [
-              | inl without ↦ inl (record { files = without; codable = stand.codable })
-              | inr with_it ↦ inr (record { files = subst (λ (es : List format.Append). format.FilesStand (images 0) (images 1) es) (sym (written-at h e (store_length h) refl)) with_it; codable = codable })
-            ];
-          };
-        }
+    event_moments_stand = one_moments files h standing e codable
 
-    after : AreSettled (files_done (calls_for h e) files) (all_written 0 h ++ written (store_length h) e ∷ []) (store_length h + length (format.run_bytes (run_written e.what))) (8 + records_length h + length (coded_record (store_length h) e ++ 0 ∷ []))
-    after = event_settled files (all_written 0 h) (written (store_length h) e) (store_length h) (8 + records_length h) settled (coded_record (store_length h) e ++ 0 ∷ []) (record { is = refl })
+    added : AreStanding (files_done (calls_for h e) files 0) (files_done (calls_for h e) files 1) (h ++ e ∷ [])
+    added = one_added files h standing e codable
 
     -- and after them
     pub event_rests : AreAtRest (files_done (calls_for h e) files)
-    event_rests = record { ledger = after.ledger.rests; store = after.store }
+    event_rests = record { ledger = added.ledger_rests; store = added.store_rests }
 
     pub event_stands : StandsFor (files_done (calls_for h e) files 0).seen (files_done (calls_for h e) files 1).seen (h ++ e ∷ [])
-    event_stands =
-        let now = files_done (calls_for h e) files in
-        let stands : format.FilesStand (now 0).seen (now 1).seen (all_written 0 h ++ written (store_length h) e ∷ []) = record { ledger_stands = after.ledger.stands; rest = after.rest; store_begins = after.begins } in
-        record { files = subst (λ (es : List format.Append). format.FilesStand (now 0).seen (now 1).seen es) (sym (written-at h e (store_length h) refl)) stands; codable = codable }
+    event_stands = added.stand
 
 behind_front : (xs : List ℕ) (x : ℕ) (rest : List ℕ) → get_or (xs ++ x ∷ rest) (length xs) 0 ≡ x
 behind_front [] x rest = refl

@@ -18,7 +18,8 @@ use Rattle.swh_format.proofs.HistoryFiles.{codable-at}
 use Rattle.swh_format.specs.Record.{magic}
 use Rattle.swh_format.proofs.Unique.{alike, none_from}
 use Rattle.swh_segment.specs.Settled.{AreAtRest}
-use Rattle.swh_core.specs.Calls.{calls_for, failed_at}
+use Rattle.swh_core.specs.Calls.{failed_at}
+use Rattle.swh_segment.specs.Calls.{calls_for}
 use Rattle.swh_core.specs.World.{World, as_file, rested, files_in, first_world, longer, sees, all_shown, joined, in_doubt, reopened}
 use Rattle.swh_core.specs.Kept.{IsFront, MayStand, IsWorld, IsLater}
 use Rattle.swh_core.proofs.Files.{HasTwo, two_with, two_images, are_two, two_done, two_failed, failed_left, image_of, rest_image, all_take}

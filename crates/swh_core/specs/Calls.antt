@@ -1,24 +1,16 @@
 -- The device calls of an event, and the files after some of them.
-use Rattle.std.specs.Prelude.{◌≢◌, ℕ, ◌+◌, ◌-◌, ◌<◌, ◌^◌, List, [], ◌∷◌, ◌++◌, length, take, drop}
+use Rattle.std.specs.Prelude.{◌≢◌, ℕ, ◌-◌, ◌<◌, ◌^◌, List, [], ◌∷◌, length, take, drop}
 use Rattle.swh_outside.specs.Disk.{File, Call, Write, Sync, begun}
 use Rattle.swh_outside.specs.Files.{Files, FileCall, with_file, files_of, files_done}
 use Rattle.swh_base.specs.declared.visit.Status.TheVariants.{Created}
-use Rattle.swh_model.specs.declared.event.Event.{Event}
 use Rattle.swh_model.specs.declared.event.EventKind.{EventKind}
 use Rattle.swh_model.specs.declared.event.EventKind.TheVariants.{Batch, Open, Mark}
-use Rattle.swh_model.specs.Limits.{store_length, records_length}
-use Rattle.swh_format.specs.EventRecord.{coded_record, run_written}
-use Rattle.swh_segment.specs.Calls.{event_calls}
 use Rattle.swh_core.specs.declared.call.DeviceCall.{DeviceCall}
 use Rattle.swh_core.specs.declared.call.DeviceCall.TheVariants as device
 use Rattle.swh_core.specs.declared.call.EventCall.{EventCall}
 use Rattle.swh_core.specs.declared.call.EventCall.TheVariants.{Ledger, Store}
 use Rattle.swh_core.specs.declared.disk.Disk.{Disk}
 use Rattle.swh_core.specs.declared.disk.Disks.{Disks}
-
--- the device calls that add an event after a history
-abbrev pub calls_for : List Event → Event → List FileCall
-calls_for h e = event_calls (store_length h) (run_written e.what) (8 + records_length h) (coded_record (store_length h) e ++ 0 ∷ [])
 
 -- the files once the first of these calls, if there is one, has begun
 abbrev pub first_begun : List FileCall → Files → Files

@@ -15,7 +15,8 @@ use Rattle.swh_core.specs.declared.step.Told.{Told}
 use Rattle.swh_core.specs.declared.step.Told.TheVariants as told
 use Rattle.swh_core.specs.declared.parts.Parts.{Parts}
 use Rattle.swh_core.specs.declared.crashing.Caught.{Caught}
-use Rattle.swh_core.specs.Calls.{calls_for, failed_at, file_call, file_of, files_on}
+use Rattle.swh_core.specs.Calls.{failed_at, file_call, file_of, files_on}
+use Rattle.swh_segment.specs.Calls.{calls_for}
 use Rattle.swh_core.specs.World.{World, one_file, both, files_in, sees, all_shown, joined, in_doubt}
 use Rattle.swh_core.specs.Step.{IsCaught, Crashes}
 

@@ -20,7 +20,8 @@ use Rattle.swh_core.specs.declared.step.Told.{Told}
 use Rattle.swh_core.specs.declared.step.Told.TheVariants as told
 use Rattle.swh_core.specs.declared.step.StepFault.{StepFault}
 use Rattle.swh_core.specs.declared.step.StepFault.TheVariants.{NotImage, Memory}
-use Rattle.swh_core.specs.Calls.{calls_for, failed_at}
+use Rattle.swh_core.specs.Calls.{failed_at}
+use Rattle.swh_segment.specs.Calls.{calls_for}
 use Rattle.swh_core.specs.World.{World, files_in, sees, all_shown, joined, in_doubt, reopened}
 
 -- Nothing is in doubt, and no older showing is refused: all that waited is shown, and the wish is judged.

@@ -6,7 +6,7 @@ use Rattle.swh_outside.specs.Files.{Files, files_of, files_done}
 use Rattle.swh_model.specs.contracts.event.Event as an_event
 use Rattle.swh_model.specs.declared.event.Event.{Event}
 use Rattle.swh_format.specs.Record.{magic}
-use Rattle.swh_core.specs.Calls.{calls_for}
+use Rattle.swh_segment.specs.Calls.{calls_for}
 
 -- a file as a world has it: all but the calls that were made on it
 pub record OneFile : Type 0 where

@@ -2,7 +2,8 @@
 ghost use Rattle.std.specs.Prelude.{◌≡◌, ◌↔◌, ◌≤◌, ◌<◌, IfOk, IsTrue, length, map};
 ghost use Rattle.swh_model.specs.Happens.{IsSomeHistory};
 ghost use Rattle.swh_core.specs.declared.step.Held.TheVariants.{Older};
-ghost use Rattle.swh_core.specs.Calls.{calls_for, file_call};
+ghost use Rattle.swh_core.specs.Calls.{file_call};
+ghost use Rattle.swh_segment.specs.Calls.{calls_for};
 ghost use Rattle.swh_core.specs.Step.{Applies, Faults};
 ghost use Rattle.swh_core.specs.Parts.{
   world_of,

@@ -1,6 +1,7 @@
 //! A world's parts, and what steps make of them. What fails midway is to be let go.
-ghost use Rattle.std.specs.Prelude.{◌≡◌, ◌++◌, ◌∷◌, ◌<◌, [], IfOk, OnOk, map, length};
-ghost use Rattle.swh_core.specs.Calls.{calls_for, failed_at, file_call};
+ghost use Rattle.std.specs.Prelude.{◌≡◌, ◌<◌, [], IfOk, OnOk, map, length};
+ghost use Rattle.swh_core.specs.Calls.{failed_at, file_call};
+ghost use Rattle.swh_segment.specs.Calls.{calls_for};
 ghost use Rattle.swh_core.specs.World.{
   first_world,
   files_in,

@@ -12,19 +12,14 @@ use Rattle.swh_model.specs.Judge.{event_of}
 use Rattle.swh_model.specs.Step.{May, replay}
 use Rattle.swh_format.specs.EventRecord.{AreCodable}
 use Rattle.swh_keeper.specs.Kept.{Kept, RefusesPlan}
-use Rattle.swh_keeper.specs.Keeping.{calls_for, IsCarriedOut, IsBrokenOff}
+use Rattle.swh_keeper.specs.Keeping.{IsCarriedOut, IsBrokenOff}
+use Rattle.swh_segment.specs.Calls.{calls_for, all_calls}
 use Rattle.swh_keeper.specs.declared.fault.Refusal.{Refusal}
 use Rattle.swh_keeper.specs.declared.fault.Refusal.TheVariants as refusal
 use Rattle.swh_loader.specs.Adding.{IsEvent}
-use Rattle.swh_loader.specs.Calls.{all_calls, kept_files, BreaksAtEvent, MakesCallsOf, MakesCalls}
-
--- the calls of events, and then of more events
-pub all_calls-append : (h xs ys : List Event) → all_calls h (xs ++ ys) ≡ all_calls h xs ++ all_calls (h ++ xs) ys
-all_calls-append h [] ys = ap (λ (t : List Event). all_calls t ys) (sym (append-nil h))
-all_calls-append h (x ∷ xs) ys =
-    ap (λ (plan : List FileCall). calls_for h x ++ plan)
-    (all_calls-append (h ++ x ∷ []) xs ys ∙ ap (λ (t : List Event). all_calls (h ++ x ∷ []) xs ++ all_calls t ys) (append_assoc h (x ∷ []) xs))
-    ∙ sym (append_assoc (calls_for h x) (all_calls (h ++ x ∷ []) xs) (all_calls (h ++ x ∷ xs) ys))
+use Rattle.swh_keeper.specs.Calls.{kept_files, MakesCallsOf, MakesCalls}
+use Rattle.swh_segment.specs.Moments.{BreaksAtEvent}
+use Rattle.swh_segment.proofs.Moments.{all_calls-append}
 
 module _ {D : Type 0} (id : Kind → List ℕ → List ℕ) (file : D → File) where
   -- a keeper that was left as it was

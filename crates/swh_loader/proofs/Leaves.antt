@@ -18,7 +18,7 @@ use Rattle.swh_loader.specs.declared.end.BadInput.TheVariants.{Broken, Collision
 use Rattle.swh_loader.specs.declared.end.End.{End}
 use Rattle.swh_loader.specs.declared.end.End.TheVariants.{Full, NotFound, Failed}
 use Rattle.swh_loader.specs.Adding.{Attempt, open_event, IsEvent, AreAmong, IsOwn, AddsEvents}
-use Rattle.swh_loader.specs.Calls.{MakesCallsOf, MakesCalls}
+use Rattle.swh_keeper.specs.Calls.{MakesCallsOf, MakesCalls}
 use Rattle.swh_loader.specs.Ending.{MeansObjects, IsMadeBy, AreMadeBy, IsSentEnd, IsEndOf}
 use Rattle.swh_loader.specs.Leaving.{next_visit, AreOfVisit, AddsVisit, MakesVisitCalls, Stops}
 use Rattle.swh_loader.specs.Steps.{IsOpened}

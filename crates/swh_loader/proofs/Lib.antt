@@ -8,7 +8,6 @@ pub mod Leaves
 pub mod Limiting
 pub mod Marks
 pub mod Missing
-pub mod Moments
 pub mod Opens
 pub mod Owns
 pub mod Refusals

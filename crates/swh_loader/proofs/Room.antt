@@ -31,7 +31,7 @@ use Rattle.swh_loader.specs.Adding.{Attempt, IsOwn, IsOwnKind}
 use Rattle.swh_loader.specs.Leaving.{AddsVisit, AreOfVisit, next_visit}
 use Rattle.swh_loader.specs.Room.{longest_record, batch_record, ledger_growth, stored_object, store_growth}
 use Rattle.swh_loader.proofs.Missing.{IsMadeOf, missing, missing-most, added_all, run_size, of_batch, some_size}
-use Rattle.swh_loader.proofs.Moments.{codable_front}
+use Rattle.swh_segment.proofs.Moments.{codable_front}
 use Rattle.swh_loader.proofs.Marks.{other_kind, others}
 
 -- The event's record is no longer than the longest: its URL is within its limit, and so is its snapshot.

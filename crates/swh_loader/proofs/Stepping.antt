@@ -24,7 +24,7 @@ use Rattle.swh_loader.specs.declared.end.End.{End}
 use Rattle.swh_loader.specs.declared.fault.LoadWhy.{LoadWhy}
 use Rattle.swh_loader.specs.declared.visiting.OpenVisit.{OpenVisit}
 use Rattle.swh_loader.specs.Adding.{mark_event, AreAmong, IsEvent, IsBatchOf, IsBatchAmong, AllowsNoBatch, IsOwn}
-use Rattle.swh_loader.specs.Calls.{kept_files}
+use Rattle.swh_keeper.specs.Calls.{kept_files}
 use Rattle.swh_loader.specs.Ending.{before_end, last_of}
 use Rattle.swh_loader.specs.Steps.{Leaves, LeavesVisit}
 use Rattle.swh_loader.specs.Stopping.{IsWhyOf, StopsFor}

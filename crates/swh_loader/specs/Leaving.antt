@@ -15,7 +15,7 @@ use Rattle.swh_loader.specs.declared.end.Loaded.{Loaded}
 use Rattle.swh_loader.specs.declared.fault.LoadFault.{LoadFault}
 use Rattle.swh_loader.specs.declared.job.Job.{Job}
 use Rattle.swh_loader.specs.Adding.{Attempt, open_event, IsEvent, AllowsNoBatch, IsOwn}
-use Rattle.swh_loader.specs.Calls.{MakesCallsOf}
+use Rattle.swh_keeper.specs.Calls.{MakesCallsOf}
 use Rattle.swh_loader.specs.Ending.{AreMadeBy, statuses_of}
 use Rattle.swh_loader.specs.Stopping.{StopsUnchanged, StopsFor}
 use Rattle.swh_loader.specs.Visiting.{IsVisit, IsOpen, KeepsAll}

@@ -1,8 +1,6 @@
 pub mod Adding
-pub mod Calls
 pub mod Ending
 pub mod Leaving
-pub mod Moments
 pub mod Reading
 pub mod Report
 pub mod Room

@@ -10,7 +10,7 @@ use Rattle.swh_loader.specs.declared.end.End.{End}
 use Rattle.swh_loader.specs.declared.fault.LoadWhy.{LoadWhy}
 use Rattle.swh_loader.specs.declared.visiting.OpenVisit.{OpenVisit}
 use Rattle.swh_loader.specs.Adding.{Attempt, open_event, IsOwn, AddsEvents}
-use Rattle.swh_loader.specs.Calls.{MakesCalls}
+use Rattle.swh_keeper.specs.Calls.{MakesCalls}
 use Rattle.swh_loader.specs.Ending.{statuses_of}
 use Rattle.swh_loader.specs.Leaving.{next_visit}
 use Rattle.swh_loader.specs.Stopping.{StopsUnchanged, StopsFor}

@@ -9,7 +9,6 @@
 mod end;
 mod fault;
 mod job;
-mod laws;
 mod loading;
 mod pending;
 mod report;
@@ -21,10 +20,6 @@ mod visiting;
 pub use end::{BadInput, End, Loaded};
 pub use fault::{LoadFault, LoadWhy};
 pub use job::Job;
-pub use laws::{
-    broken_event_is_in_doubt, events_are_added, fronts_survive_crashes, opening_survives_crashes,
-    worked_acknowledgements,
-};
 pub use loading::load_one;
 pub use report::{REPORT_LIMIT, report_line};
 pub use swh_fastload::{BadStream, StreamWhy};

@@ -6,7 +6,7 @@ use Rattle.swh_outside.specs.Views.{Disks, Sources}
 use Rattle.swh_model.specs.declared.event.Event.{Event}
 use Rattle.swh_keeper.specs.Kept.{Kept}
 use Rattle.swh_jobs.specs.Job.{Job}
-use Rattle.swh_loader.specs.Calls.{MakesCallsOf, MakesCalls}
+use Rattle.swh_keeper.specs.Calls.{MakesCallsOf, MakesCalls}
 use Rattle.swh_loader.specs.Leaving.{AreOfVisit, AddsVisit, IsHeldBack, next_visit}
 use Rattle.swh_loader.specs.declared.end.Loaded.{Loaded}
 use Rattle.swh_loader.specs.declared.fault.LoadFault.{LoadFault}

@@ -15,12 +15,14 @@ use Rattle.swh_model.specs.Step.{May, IsHistory, MayAll, after_all, replay, visi
 use Rattle.swh_model.proofs.Growing.{bodies_grow, visits_grow}
 use Rattle.swh_model.proofs.Histories.{fronts}
 use Rattle.swh_model.proofs.Sounds.{all-sound, empty-sound}
-use Rattle.swh_keeper.specs.Kept.{Kept, IsKept, AreStanding, MayHoldOneMore}
+use Rattle.swh_keeper.specs.Kept.{Kept, IsKept, MayHoldOneMore}
+use Rattle.swh_segment.specs.Standing.{AreStanding}
 use Rattle.swh_keeper.proofs.KeptLemmas.{history-push}
 use Rattle.swh_jobs.specs.Job.{Job}
-use Rattle.swh_loader.specs.Calls.{all_calls, kept_files, BreaksAtEvent, MakesCalls}
-use Rattle.swh_loader.specs.Moments.{EachFrontMoment, IsSafelyBroken}
-use Rattle.swh_loader.proofs.Moments.{codable_front, all_moments, opened_standing, safe_opening, safely_made, safely_broken}
+use Rattle.swh_segment.specs.Calls.{all_calls}
+use Rattle.swh_keeper.specs.Calls.{kept_files, MakesCalls}
+use Rattle.swh_segment.specs.Moments.{BreaksAtEvent, EachFrontMoment, IsSafelyBroken}
+use Rattle.swh_segment.proofs.Moments.{codable_front, all_moments, opened_standing, safe_opening, safely_made, safely_broken}
 use Rattle.swh_pool.specs.Stops.{HaveNoDiskFault}
 use Rattle.swh_program.specs.Answers.{TellsDisk}
 use Rattle.swh_program.specs.Inputs.{Inputs}

@@ -18,8 +18,8 @@ use Rattle.swh_keeper.specs.Own.{AreUsable, AreOwn}
 use Rattle.swh_keeper.specs.declared.opening.OpenWhy.{OpenWhy}
 use Rattle.swh_keeper.specs.declared.opening.OpenWhy.TheVariants as why
 use Rattle.swh_keeper.proofs.OwnLemmas.{not_damaged, opening_moments, making_leaves_own}
-use Rattle.swh_loader.specs.Calls.{all_calls}
-use Rattle.swh_loader.specs.Moments.{EachFrontMoment}
+use Rattle.swh_segment.specs.Calls.{all_calls}
+use Rattle.swh_segment.specs.Moments.{EachFrontMoment}
 use Rattle.swh_program.specs.Answers.{status_of}
 use Rattle.swh_program.specs.Damage.{IsUndamaged}
 use Rattle.swh_program.specs.InitCommand.{InitEnds}

@@ -10,14 +10,15 @@ use Rattle.swh_model.specs.Archive.{visits_of}
 use Rattle.swh_model.specs.Grows.{IsWithin, IsLaterVisit}
 use Rattle.swh_model.specs.Sound.{IsSound}
 use Rattle.swh_model.specs.Step.{IsHistory, visit_at, replay}
-use Rattle.swh_keeper.specs.Kept.{AreStanding, MayHoldOneMore}
+use Rattle.swh_keeper.specs.Kept.{MayHoldOneMore}
+use Rattle.swh_segment.specs.Standing.{AreStanding}
 use Rattle.swh_keeper.specs.Own.{AreUsable, AreOwn}
 use Rattle.swh_segment.specs.Making.{barriers}
 use Rattle.swh_jobs.specs.Job.{Job}
 use Rattle.swh_jobs.specs.JobFile.{AreJobs}
 use Rattle.swh_loader.specs.Adding.{Attempt, attempt}
-use Rattle.swh_loader.specs.Calls.{all_calls}
-use Rattle.swh_loader.specs.Moments.{IsSafelyMade, IsSafelyBroken, IsSafeOpening}
+use Rattle.swh_segment.specs.Calls.{all_calls}
+use Rattle.swh_segment.specs.Moments.{IsSafelyMade, IsSafelyBroken, IsSafeOpening}
 use Rattle.swh_loader.specs.Leaving.{AddsVisit}
 use Rattle.swh_loader.specs.declared.end.Loaded.{Loaded}
 use Rattle.swh_loader.specs.declared.fault.LoadFault.{LoadFault}

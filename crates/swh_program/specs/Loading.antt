@@ -4,7 +4,7 @@ use Rattle.swh_outside.specs.Views.{Disks}
 use Rattle.swh_segment.specs.Makes.{ADiskFailed}
 use Rattle.swh_keeper.specs.Kept.{Kept}
 use Rattle.swh_jobs.specs.Job.{Job}
-use Rattle.swh_loader.specs.Calls.{MakesCalls}
+use Rattle.swh_keeper.specs.Calls.{MakesCalls}
 use Rattle.swh_pool.specs.Stops.{AreStops, HaveNoDiskFault}
 use Rattle.swh_program.specs.Dated.{AreSaid}
 use Rattle.swh_program.specs.Lines.{LoadedJob, dates, outcomes, ending_of_all, TellsLoad}

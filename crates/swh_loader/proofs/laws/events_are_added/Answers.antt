@@ -1,5 +1,0 @@
-use Rattle.swh_loader.proofs.Moments.{all_added}
-use Rattle.swh_loader.proofs.laws.events_are_added.Goals as goal
-
-pub returns : goal.returns
-returns c files h more standing fits = all_added more h files standing fits

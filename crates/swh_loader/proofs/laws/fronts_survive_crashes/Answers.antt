@@ -1,5 +1,0 @@
-use Rattle.swh_loader.proofs.Moments.{all_moments}
-use Rattle.swh_loader.proofs.laws.fronts_survive_crashes.Goals as goal
-
-pub returns : goal.returns
-returns c files h more standing fits = all_moments more h files standing fits
