@@ -5,7 +5,7 @@ ghost use Rattle.swh_base.specs.Limits.{body_limit};
 ghost use Rattle.swh_outside.specs.Views.{sources};
 ghost use Rattle.swh_object.specs.Object.{IsObject};
 ghost use Rattle.swh_fastlex.specs.Line.{unread, IsAtEnd};
-ghost use Rattle.swh_fastmeaning.specs.Making.{made_from, made};
+ghost use Rattle.swh_made.specs.Making.{made_from, made};
 ghost use Rattle.swh_batchread.specs.BatchFault.{
   ObjectBreaks,
   BreaksHere,
@@ -25,7 +25,7 @@ use crate::parts::{next_body, next_header};
 use std::alloc::Global;
 use swh_base::{Memory, Namer};
 use swh_fastlex::Window;
-use swh_fastmeaning::{Novelty, Seen};
+use swh_made::{Novelty, Seen};
 use swh_object::{Object, ObjectFault};
 use swh_outside::Source;
 
