@@ -1,19 +1,19 @@
 -- What is found of an object, and why it breaks.
-use Rattle.std.proofs.Common.{◌≡◌, ℕ, zero, suc, ◌+◌, ◌<◌, ◌≤◌, inl, inr, ◌⊎◌, true, false, Bool, Option, Some, None, List, [], ◌∷◌, ◌++◌, length, take, Contains, refl, sym, ap, ◌∙◌, subst, arith, append_assoc, length-append}
+use Rattle.std.proofs.Common.{◌≡◌, ℕ, suc, ◌+◌, ◌<◌, ◌≤◌, inl, inr, ◌⊎◌, false, List, [], ◌∷◌, ◌++◌, length, Contains, refl, sym, ap, ◌∙◌, subst, arith, append_assoc, length-append}
 use Rattle.std.proofs.lemmas.Bool.{cases_lt}
 use Rattle.std.proofs.lemmas.List.{append-nil, length-take}
-use Rattle.swh_base.specs.declared.visit.Which.TheVariants.{Body, Stream}
+use Rattle.swh_base.specs.declared.visit.Which.TheVariants.{Stream}
 use Rattle.swh_base.specs.Limits.{body_limit, line_limit}
 use Rattle.swh_base.proofs.Splits.{first_split, sized_split}
 use Rattle.swh_pieces.proofs.Middle.{in_middle}
 use Rattle.swh_outside.specs.Faults.{Rose}
-use Rattle.swh_fastlex.specs.Line.{Held, unread, Takes, IsLine, IsAtEnd, IsCutLine, IsLongLine, IsCutData}
+use Rattle.swh_fastlex.specs.Line.{Held, unread, Takes, IsLine, IsCutLine, IsLongLine, IsCutData}
 use Rattle.swh_batchread.specs.declared.fault.BatchFault.{BatchFault}
 use Rattle.swh_batchread.specs.declared.fault.BatchFault.TheVariants.{BadBatch, WrongName, BadRefs, NoObject, Limit, ReadFault, Memory}
 use Rattle.swh_batchread.specs.declared.header.Header.{Header}
 use Rattle.swh_batchread.specs.Batch.{IsHeader, header_line, header_text, input_limit}
-use Rattle.swh_batchread.specs.BatchFault.{BeginsWithLine, HasNoHeader, LinePasses, HeaderBreaks, body_front, HasNoBody, BodyPasses, BodyBreaks, MayBreakBatch}
-use Rattle.swh_batchread.specs.Failing.{BreaksSo, Fails}
+use Rattle.swh_batchread.specs.BatchFault.{BeginsWithLine, HeaderBreaks, HasNoBody, BodyPasses, BodyBreaks, MayBreakBatch}
+use Rattle.swh_batchread.specs.Failing.{Fails}
 use Rattle.swh_batchread.specs.Parts.{EndsBody}
 use Rattle.swh_batchread.proofs.Headers.{header_then, line_no_feed, line_short}
 
@@ -77,8 +77,8 @@ pub cut_header : (tells : Type 0) (before now : Held) (left left_now : List ℕ)
     → (tells → IsCutLine line_limit before now left left_now) → Fails tells MayBreakBatch (HeaderBreaks before.place (unread before left)) old new fault
 cut_header tells before now left left_now old new fault past within low cut =
     broken_fails tells (HeaderBreaks before.place (unread before left)) before.place now.place old new fault past within low
-      (λ t above. let c = cut t in ((refl, refl), record { line = unread before left; first = whole_line (unread before left) c.no_feed c.short; above = omega (arith, c.counted, above) }))
-      (λ t below. let c = cut t in (refl, record { line = unread before left; first = whole_line (unread before left) c.no_feed c.short; some = c.some; within = omega (arith, c.counted, below); none = no_header_cut (unread before left) c.no_feed }))
+    (λ t above. let c = cut t in ((refl, refl), record { line = unread before left; first = whole_line (unread before left) c.no_feed c.short; above = omega (arith, c.counted, above) }))
+    (λ t below. let c = cut t in (refl, record { line = unread before left; first = whole_line (unread before left) c.no_feed c.short; some = c.some; within = omega (arith, c.counted, below); none = no_header_cut (unread before left) c.no_feed }))
 
 some_front : (front more : List ℕ) (n : ℕ) → length front ≡ n → 0 < n → front ++ more ≡ [] → ⊥
 some_front [] more n l p e = absurd (omega arith)
@@ -89,8 +89,8 @@ pub long_header : (tells : Type 0) (before now : Held) (left left_now : List ℕ
     → (tells → IsLongLine line_limit before now left left_now) → Fails tells MayBreakBatch (HeaderBreaks before.place (unread before left)) old new fault
 long_header tells before now left left_now old new fault past within low long =
     broken_fails tells (HeaderBreaks before.place (unread before left)) before.place now.place old new fault past within low
-      (λ t above. let c = long t in let took = c.taken in ((refl, refl), record { line = c.front; first = front_line (unread before left) c.front (unread now left_now) took.cut c.no_feed c.long; above = omega (arith, took.counted, above) }))
-      (λ t below. let c = long t in let took = c.taken in (refl, record { line = c.front; first = front_line (unread before left) c.front (unread now left_now) took.cut c.no_feed c.long; some = λ e. some_front c.front (unread now left_now) line_limit c.long (omega arith) (sym took.cut ∙ e); within = omega (arith, took.counted, below); none = no_header_long (unread before left) c.front (unread now left_now) took.cut c.no_feed c.long }))
+    (λ t above. let c = long t in let took = c.taken in ((refl, refl), record { line = c.front; first = front_line (unread before left) c.front (unread now left_now) took.cut c.no_feed c.long; above = omega (arith, took.counted, above) }))
+    (λ t below. let c = long t in let took = c.taken in (refl, record { line = c.front; first = front_line (unread before left) c.front (unread now left_now) took.cut c.no_feed c.long; some = λ e. some_front c.front (unread now left_now) line_limit c.long (omega arith) (sym took.cut ∙ e); within = omega (arith, took.counted, below); none = no_header_long (unread before left) c.front (unread now left_now) took.cut c.no_feed c.long }))
 
 some_line : (line more : List ℕ) → IsLine line → line ++ more ≡ [] → ⊥
 some_line [] more is e = nil_line is.front is.text
@@ -105,8 +105,8 @@ pub other_header : (tells : Type 0) (before now : Held) (left left_now line : Li
     → IsLine line → length line ≤ line_limit → (tells → Takes before now left left_now line) → (now.place ≤ input_limit → (h : Header) → IsHeader h → line ≡ header_text h → ⊥) → Fails tells MayBreakBatch (HeaderBreaks before.place (unread before left)) old new fault
 other_header tells before now left left_now line old new fault past within low is short taken never =
     broken_fails tells (HeaderBreaks before.place (unread before left)) before.place now.place old new fault past within low
-      (λ t above. let took = taken t in ((refl, refl), record { line = line; first = found_line (unread before left) line (unread now left_now) took.cut is short; above = omega (arith, took.counted, above) }))
-      (λ t below. let took = taken t in (refl, record { line = line; first = found_line (unread before left) line (unread now left_now) took.cut is short; some = λ e. some_line line (unread now left_now) is (sym took.cut ∙ e); within = omega (arith, took.counted, below); none = no_header_line (unread before left) line (unread now left_now) took.cut is (never below) }))
+    (λ t above. let took = taken t in ((refl, refl), record { line = line; first = found_line (unread before left) line (unread now left_now) took.cut is short; above = omega (arith, took.counted, above) }))
+    (λ t below. let took = taken t in (refl, record { line = line; first = found_line (unread before left) line (unread now left_now) took.cut is short; some = λ e. some_line line (unread now left_now) is (sym took.cut ∙ e); within = omega (arith, took.counted, below); none = no_header_line (unread before left) line (unread now left_now) took.cut is (never below) }))
 
 -- ## Bodies
 
@@ -120,8 +120,8 @@ cut_body tells before now left left_now start size old new fault past within low
     let text : List ℕ = unread before left in
     let long = length-take (size + 1) text in
     broken_fails tells (BodyBreaks start before.place text size) start now.place old new fault past within low
-      (λ t above. let c = cut t in inr ((refl, refl), record { short = small; above = omega (arith, c.counted, c.short, above, long) }))
-      (λ t below. let c = cut t in (refl, record { short = small; within = omega (arith, c.counted, c.short, below, long); none = λ body rest l e. absurd (omega (arith, c.short, l, ap length e, length-append body (10 ∷ rest))) }))
+    (λ t above. let c = cut t in inr ((refl, refl), record { short = small; above = omega (arith, c.counted, c.short, above, long) }))
+    (λ t below. let c = cut t in (refl, record { short = small; within = omega (arith, c.counted, c.short, below, long); none = λ body rest l e. absurd (omega (arith, c.short, l, ap length e, length-append body (10 ∷ rest))) }))
 
 -- the bytes of a body, and what follows them
 abbrev pub Follows : Held → Held → Held → List ℕ → List ℕ → List ℕ → List ℕ → Type 0
@@ -174,5 +174,5 @@ pub other_end : (tells : Type 0) (before middle now : Held) (left left_middle le
     → length body ≡ size → size ≤ body_limit → (tells → Takes before middle left left_middle body) → (tells → EndsBody middle now left_middle left_now false) → Fails tells MayBreakBatch (BodyBreaks start before.place (unread before left) size) old new fault
 other_end tells before middle now left left_middle left_now body start size old new fault past within low l small took ends =
     broken_fails tells (BodyBreaks start before.place (unread before left) size) start now.place old new fault past within low
-      (λ t above. inr ((refl, refl), end_above before middle now left left_middle left_now body size l small above (took t) (ends t)))
-      (λ t below. (refl, end_below before middle now left left_middle left_now body size l small below (took t) (ends t)))
+    (λ t above. inr ((refl, refl), end_above before middle now left left_middle left_now body size l small above (took t) (ends t)))
+    (λ t below. (refl, end_below before middle now left left_middle left_now body size l small below (took t) (ends t)))

@@ -10,7 +10,7 @@ use Rattle.swh_base.specs.declared.kind.Kind.{Kind}
 use Rattle.swh_base.specs.declared.kind.Kind.TheVariants.{Content, Directory, Revision, Release, Snapshot}
 use Rattle.swh_base.specs.Kind.{word_of}
 use Rattle.swh_base.specs.Name.{IsId, IsIdText, is_lower_hex_digit}
-use Rattle.swh_base.proofs.HexLines.{hex-injective, length-hex}
+use Rattle.swh_base.proofs.HexLines.{hex-injective}
 use Rattle.swh_base.proofs.Ids.{IsIdText-encode}
 use Rattle.swh_base.proofs.Splits.{first_split, absent}
 use Rattle.swh_fastlex.proofs.Windows.{none_joined}

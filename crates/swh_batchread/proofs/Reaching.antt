@@ -1,5 +1,5 @@
 -- A batch that is read object by object.
-use Rattle.std.proofs.Common.{◌≡◌, ◌⊎◌, ℕ, ◌+◌, ◌<◌, ◌≤◌, inl, inr, List, [], ◌∷◌, ◌++◌, length, map, Contains, refl, sym, ap, ◌∙◌, subst, arith, append_assoc, length-append}
+use Rattle.std.proofs.Common.{◌≡◌, ℕ, ◌+◌, ◌≤◌, inl, inr, List, [], ◌∷◌, ◌++◌, length, map, Contains, sym, ap, ◌∙◌, subst, arith, append_assoc, length-append}
 use Rattle.std.specs.Prelude.{Result, IfErr}
 use Rattle.std.specs.Result.{IsErrAnd}
 use Rattle.std.proofs.lemmas.Result.{err_from_is_err_and}
@@ -18,8 +18,8 @@ use Rattle.swh_made.specs.Making.{made_from}
 use Rattle.swh_batchread.specs.declared.fault.BatchFault.{BatchFault}
 use Rattle.swh_batchread.specs.declared.fault.BatchFault.TheVariants.{BadBatch, WrongName, BadRefs, NoObject, Limit, ReadFault, Memory}
 use Rattle.swh_batchread.specs.declared.header.Header.{Header}
-use Rattle.swh_batchread.specs.Batch.{Given, IsHeader, IsGiven, AreGiven, KeepsFirst, MeansObjects, header_text, given_text, batch_text, input_limit}
-use Rattle.swh_batchread.specs.BatchFault.{BeginsWithHeader, BeginsWithBody, BodyBreaks, ObjectBreaks, BreaksBehind, BreaksHere, Reaches, BreaksBatch}
+use Rattle.swh_batchread.specs.Batch.{Given, IsHeader, IsGiven, KeepsFirst, MeansObjects, header_text, given_text, batch_text, input_limit}
+use Rattle.swh_batchread.specs.BatchFault.{ObjectBreaks, BreaksBehind, BreaksHere, Reaches, BreaksBatch}
 use Rattle.swh_batchread.specs.Failing.{Fails}
 use Rattle.swh_batchread.specs.Parts.{Keeps, TakesObject, HasRead}
 use Rattle.swh_batchread.proofs.Breaking.{takes_both}

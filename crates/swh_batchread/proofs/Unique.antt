@@ -1,6 +1,5 @@
 -- A batch means one list of objects at most, breaks in one way at most, and does not do both.
-use Rattle.std.proofs.Common.{◌≡◌, ◌≢◌, ◌⊎◌, ℕ, zero, suc, ◌+◌, ◌<◌, ◌≤◌, inl, inr, List, [], ◌∷◌, ◌++◌, length, map, take, Contains, refl, sym, ap, ◌∙◌, subst, arith, append_assoc, length-append}
-use Rattle.std.specs.List.{AllByRecursion}
+use Rattle.std.proofs.Common.{◌≡◌, ◌≢◌, ◌⊎◌, ℕ, ◌+◌, ◌<◌, ◌≤◌, inl, inr, List, [], ◌∷◌, ◌++◌, length, map, Contains, refl, sym, ap, ◌∙◌, subst, arith, append_assoc, length-append}
 use Rattle.std.proofs.lemmas.List.{append-nil, length-take}
 use Rattle.std.proofs.lemmas.Bool.{cases_lt}
 use Rattle.std.proofs.lemmas.List.Concat.{flat_map-append}
@@ -18,8 +17,8 @@ use Rattle.swh_pieces.proofs.Middle.{in_middle}
 use Rattle.swh_batchread.specs.declared.fault.BatchFault.{BatchFault}
 use Rattle.swh_batchread.specs.declared.fault.BatchFault.TheVariants.{BadBatch, WrongName, BadRefs, NoObject, Limit, ReadFault, Memory}
 use Rattle.swh_batchread.specs.declared.header.Header.{Header}
-use Rattle.swh_batchread.specs.Batch.{Given, IsHeader, IsGiven, AreGiven, KeepsFirst, MeansObjects, header_of, header_line, header_text, given_text, batch_text, input_limit}
-use Rattle.swh_batchread.specs.BatchFault.{BeginsWithLine, BeginsWithHeader, BeginsWithBody, HasNoHeader, LinePasses, HasNoBody, BodyPasses, IsPastInput, HeaderBreaks, BodyBreaks, ObjectBreaks, BreaksBehind, BreaksHere, Reaches, BreaksBatch}
+use Rattle.swh_batchread.specs.Batch.{Given, IsGiven, AreGiven, KeepsFirst, MeansObjects, header_of, header_line, header_text, given_text, batch_text, input_limit}
+use Rattle.swh_batchread.specs.BatchFault.{BeginsWithLine, BeginsWithHeader, BeginsWithBody, HasNoHeader, LinePasses, HasNoBody, BodyPasses, HeaderBreaks, BodyBreaks, ObjectBreaks, BreaksBehind, BreaksHere, Reaches, BreaksBatch}
 use Rattle.swh_batchread.proofs.Breaking.{feed_inside}
 use Rattle.swh_batchread.proofs.Headers.{one_header, header_then, line_no_feed}
 

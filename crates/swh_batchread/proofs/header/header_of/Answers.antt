@@ -1,4 +1,4 @@
-use Rattle.std.proofs.Common.{sym, refl}
+use Rattle.std.proofs.Common.{refl}
 use Rattle.swh_base.proofs.Ids.{IsId-from_text}
 use Rattle.swh_batchread.proofs.Headers.{line-no_space, line-no_id, line-no_word, line-no_kind, line-no_size, whole_line}
 use Rattle.swh_batchread.proofs.header.header_of.Goals as goal
@@ -34,9 +34,11 @@ returns-clause-some c =
     let named = c.in-Some-from_hex.ensures.some in
     let word = c.in-Some-split_at_byte.ensures.some in
     let kind = c.in-Some-kind_of.ensures.some in
-    let size = c.in-Some-size_of.ensures in
-    (record {
-      id = IsId-from_text c.in-Some.hex.now c.in-Some-from_hex.name.id (c.in-Some-from_hex.ensures.found.0 refl) named.1;
-      kind = kind.1;
-      size = size.small;
-    }, whole_line c.args.line.now c.in-Some.hex.now c.in-Some.rest.now c.in-Some-split_at_byte.word.now c.in-Some-split_at_byte.digits.now c.in-Some-from_hex.name.id c.in-Some-kind_of.kind c.in-Some-size_of.size hex.1 named.1 word.1 kind.0 size.some)
+    let size = c.in-Some-size_of.ensures in (
+      record {
+        id = IsId-from_text c.in-Some.hex.now c.in-Some-from_hex.name.id (c.in-Some-from_hex.ensures.found.0 refl) named.1;
+        kind = kind.1;
+        size = size.small;
+      },
+      whole_line c.args.line.now c.in-Some.hex.now c.in-Some.rest.now c.in-Some-split_at_byte.word.now c.in-Some-split_at_byte.digits.now c.in-Some-from_hex.name.id c.in-Some-kind_of.kind c.in-Some-size_of.size hex.1 named.1 word.1 kind.0 size.some,
+    )
