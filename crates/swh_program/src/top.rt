@@ -1,7 +1,6 @@
 // The top call.
 ghost use Rattle.std.specs.Prelude.{◌≡◌, ◌⊎◌, map, string_bytes};
-ghost use Rattle.swh_words.specs.Commands.{wanted_by};
-ghost use Rattle.swh_words.specs.Words.{Wanted, IsCommand, IsOffered};
+ghost use Rattle.swh_words.specs.Words.{Wanted, IsCommand, IsOffered, wanted_by};
 ghost use Rattle.swh_program.specs.Commands.{Does, Comes};
 ghost use Rattle.swh_program.specs.LeftAlone.{KeepsTheRest, TouchesNothing};
 ghost use Rattle.swh_program.specs.Run.{IsStatus, IsNoCommand, NamesFailed, RefusesWords, TellsFailures};

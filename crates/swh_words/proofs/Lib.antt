@@ -1,7 +1,6 @@
 pub mod Commands
 pub mod Definitions
 pub mod Flags
-pub mod Refusals
 pub mod Spelling
 pub mod Subcommands
 pub mod Values

@@ -1,5 +1,5 @@
--- Words are a command exactly where they spell it.
-use Rattle.std.proofs.Common.{◌≡◌, ◌∙◌, ◌<◌, ◌≤◌, ◌∷◌, Bool, true, false, arith, List, [], refl, sym, ap, subst, inl, inr, ◌^◌, Option, Some, None, length}
+-- Words are a command exactly where they spell it, and none exactly where clap refuses them, or they name no kind.
+use Rattle.std.proofs.Common.{◌≡◌, ◌∙◌, ◌<◌, ◌≤◌, ◌∷◌, Bool, true, false, arith, List, [], refl, sym, ap, subst, inl, inr, ◌^◌, Option, Some, None, length, eq-eqb, ◌≢◌, ◌==◌, true≢false}
 use Rattle.std.proofs.lemmas.Slice.Eq.{bytes_eq-Decides}
 use Rattle.std.specs.Prelude.{codes, ◌⊎◌, ◌↔◌, ◌||◌, option_map, unwrap_or, IsSomeAnd, if◌then◌else◌}
 use Rattle.std.specs.Str.{bytes_eq}
@@ -10,12 +10,13 @@ use Rattle.clap.specs.Words.{App, first_of}
 use Rattle.clap.proofs.OnLiterals.{clap_on_literals}
 use Rattle.swh_words.specs.Definition.{ask_app, check_app, identify_app, init_app, load_app, program_app}
 use Rattle.swh_words.proofs.Commands.{kind_from, offered, read, read-given}
-use Rattle.swh_words.specs.Spelling.{is_flag, spelled_command, spelling_of, values_given}
-use Rattle.swh_words.specs.Words.{Wanted, ToInit, ToLoad, ToAsk, ToCheck, ToIdentify, AsksFor, IsCommand, IsGiven, IsOffered}
+use Rattle.swh_words.specs.Spelling.{is_flag, spelling_of, values_given, IsNoFileKind, NamesNoKind}
+use Rattle.swh_words.specs.Words.{Wanted, ToInit, ToLoad, ToAsk, ToCheck, ToIdentify, AsksFor, IsCommand, IsGiven, IsOffered, spelled_command}
 use Rattle.swh_base.specs.Kind.{kind_letters}
 use Rattle.swh_words.proofs.Flags.{HasValuesOnly, dashes, first_bad, first_clean, is_clean, refused, value_met, value_passes, word_refused}
 use Rattle.swh_words.proofs.Values.{given_by, some≢none, turned_by}
-use Rattle.swh_words.proofs.Subcommands.{Enters, ask_rows, ask_taken, built_sub, check_rows, check_taken, enters_ask, enters_check, enters_identify, enters_init, enters_load, fault_in, identify_rows, identify_taken, init_rows, init_taken, load_rows, load_taken, only_ask, only_check, only_identify, only_init, only_load, program, reads, rows_in, taken_values}
+use Rattle.swh_words.proofs.Subcommands.{Enters, ask_rows, ask_taken, built_sub, check_rows, check_taken, enters_ask, enters_check, enters_identify, enters_init, enters_load, fault_in, identify_rows, identify_taken, init_rows, init_taken, load_rows, load_taken, only_ask, only_check, only_identify, only_init, only_load, program, reads, rows_in, taken_values, init_by, load_by, ask_by, check_by, identify_by}
+use Rattle.clap.specs.Kinds.{Kinds}
 
 -- ---- words that spell a command are one
 
@@ -94,43 +95,6 @@ spelling_is_command (name ∷ rest) wanted few spells offered = go (values_given
     go (Some values) given same =
         let fewer : length values ≤ length rest = values_few rest values given in
         spelled_is_command wanted name rest values given (ap (λ o. unwrap_or o []) same) (omega arith) offered
-
--- ---- how many values each subcommand has
-
-pub init_by : (Holds : List Text → Type 0) → ((dir : Text) → Holds (dir ∷ [])) → (values : List Text) → fault_in init_app true values ≡ [] → Holds values
-unfolding clap_on_literals
-init_by Holds one [] clean = absurd (refused (fault_in init_app true []) refl clean)
-init_by Holds one (dir ∷ []) clean = one dir
-init_by Holds one (dir ∷ more ∷ rest) clean = absurd (refused (fault_in init_app true (dir ∷ more ∷ rest)) refl clean)
-
-pub load_by : (Holds : List Text → Type 0) → ((dir jobs : Text) → Holds (dir ∷ jobs ∷ [])) → (values : List Text) → fault_in load_app true values ≡ []
-    → Holds values
-unfolding clap_on_literals
-load_by Holds two [] clean = absurd (refused (fault_in load_app true []) refl clean)
-load_by Holds two (dir ∷ []) clean = absurd (refused (fault_in load_app true (dir ∷ [])) refl clean)
-load_by Holds two (dir ∷ jobs ∷ []) clean = two dir jobs
-load_by Holds two (dir ∷ jobs ∷ more ∷ rest) clean = absurd (refused (fault_in load_app true (dir ∷ jobs ∷ more ∷ rest)) refl clean)
-
-pub ask_by : (Holds : List Text → Type 0) → ((dir path : Text) (more : List Text) → Holds (dir ∷ path ∷ more)) → (values : List Text)
-    → fault_in ask_app true values ≡ [] → Holds values
-unfolding clap_on_literals
-ask_by Holds some [] clean = absurd (refused (fault_in ask_app true []) refl clean)
-ask_by Holds some (dir ∷ []) clean = absurd (refused (fault_in ask_app true (dir ∷ [])) refl clean)
-ask_by Holds some (dir ∷ path ∷ more) clean = some dir path more
-
-pub check_by : (Holds : List Text → Type 0) → ((dir : Text) → Holds (dir ∷ [])) → (values : List Text) → fault_in check_app true values ≡ [] → Holds values
-unfolding clap_on_literals
-check_by Holds one [] clean = absurd (refused (fault_in check_app true []) refl clean)
-check_by Holds one (dir ∷ []) clean = one dir
-check_by Holds one (dir ∷ more ∷ rest) clean = absurd (refused (fault_in check_app true (dir ∷ more ∷ rest)) refl clean)
-
-pub identify_by : (Holds : List Text → Type 0) → ((kind path : Text) → Holds (kind ∷ path ∷ [])) → (values : List Text)
-    → fault_in identify_app true values ≡ [] → Holds values
-unfolding clap_on_literals
-identify_by Holds two [] clean = absurd (refused (fault_in identify_app true []) refl clean)
-identify_by Holds two (kind ∷ []) clean = absurd (refused (fault_in identify_app true (kind ∷ [])) refl clean)
-identify_by Holds two (kind ∷ path ∷ []) clean = two kind path
-identify_by Holds two (kind ∷ path ∷ more ∷ rest) clean = absurd (refused (fault_in identify_app true (kind ∷ path ∷ more ∷ rest)) refl clean)
 
 -- ---- words that are a command spell it
 
@@ -293,4 +257,91 @@ pub spelled_words : (words : List Text) (wanted : Wanted) → length words < 2 ^
 spelled_words words wanted few = (
   λ is. (command_is_spelled words wanted is, offered words wanted is),
   λ (h : (spelling_of words ≡ Some (spelled_command wanted)) × IsOffered wanted). spelling_is_command words wanted few h.0 h.1,
+)
+
+-- ---- words that are no command
+
+abbrev AsksNothing : Text → App → List Text → Type 0
+AsksNothing name sub values = (wanted : Wanted) → AsksFor (name, rows_in sub true values) wanted → ⊥
+
+-- where nothing is asked of words that are taken, they name no kind
+abbrev NamesNoKindIfNone : List Text → Type 0
+NamesNoKindIfNone words = ((wanted : Wanted) → IsAskedBy (subcommand_of program_app words) wanted → ⊥) → NamesNoKind words
+
+named_asks : (name : Text) (sub : App) → Enters name sub → HasValuesOnly (built_sub sub).rules
+    → ((values : List Text) → fault_in sub true values ≡ [] → AsksNothing name sub values → ⊥)
+    → (rest : List Text) → fault_of program_app (name ∷ rest) ≡ [] → NamesNoKindIfNone (name ∷ rest)
+named_asks name sub enters only asks rest clean none =
+    absurd (named_by ⊥ name sub rest enters only clean (λ values given passes are. asks values passes
+    (λ wanted asked. none wanted (subst (λ (o : Option (Text × List Row)). IsAskedBy o wanted) (sym are) asked))))
+
+init_asks : (values : List Text) → fault_in init_app true values ≡ [] → AsksNothing (codes "init") init_app values → ⊥
+unfolding clap_on_literals
+init_asks = init_by (λ values. AsksNothing (codes "init") init_app values → ⊥)
+    (λ dir none. none (ToInit dir) (record { is_given = (refl, refl); offered = tt }))
+
+load_asks : (values : List Text) → fault_in load_app true values ≡ [] → AsksNothing (codes "load") load_app values → ⊥
+unfolding clap_on_literals
+load_asks = load_by (λ values. AsksNothing (codes "load") load_app values → ⊥)
+    (λ dir jobs none. none (ToLoad dir jobs) (record { is_given = (refl, refl, refl); offered = tt }))
+
+ask_asks : (values : List Text) → fault_in ask_app true values ≡ [] → AsksNothing (codes "ask") ask_app values → ⊥
+ask_asks = ask_by (λ values. AsksNothing (codes "ask") ask_app values → ⊥) (λ dir path more none. none (ToAsk dir (path ∷ more))
+    (subst (λ (rows : List Row). AsksFor (codes "ask", rows) (ToAsk dir (path ∷ more))) (sym (ask_rows dir path more))
+    (record { is_given = (refl, refl, refl); offered = omega arith })))
+
+check_asks : (values : List Text) → fault_in check_app true values ≡ [] → AsksNothing (codes "check") check_app values → ⊥
+unfolding clap_on_literals
+check_asks = check_by (λ values. AsksNothing (codes "check") check_app values → ⊥)
+    (λ dir none. none (ToCheck dir) (record { is_given = (refl, refl); offered = tt }))
+
+identify_asks : (values : List Text) → fault_in identify_app true values ≡ [] → AsksNothing (codes "identify") identify_app values
+    → IsSomeAnd (first_of (codes "kind") (rows_in identify_app true values)) IsNoFileKind
+unfolding clap_on_literals
+identify_asks = identify_by
+    (λ values. AsksNothing (codes "identify") identify_app values → IsSomeAnd (first_of (codes "kind") (rows_in identify_app true values)) IsNoFileKind)
+    (λ letters path none kind file same. none (ToIdentify kind path) (record { is_given = (refl, ap (λ l. Some l) same, refl); offered = file }))
+
+identify_names : (rest : List Text) → fault_of program_app (codes "identify" ∷ rest) ≡ [] → NamesNoKindIfNone (codes "identify" ∷ rest)
+identify_names rest clean none =
+    named_by (NamesNoKind (codes "identify" ∷ rest)) (codes "identify") identify_app rest enters_identify only_identify clean
+    (λ values given passes are. subst (λ (o : Option (Text × List Row)).
+    IsSomeAnd o (λ given. (given.0 ≡ codes "identify") × IsSomeAnd (first_of (codes "kind") given.1) IsNoFileKind)) (sym are) (
+      refl,
+      identify_asks values passes
+          (λ wanted asked. none wanted (subst (λ (o : Option (Text × List Row)). IsAskedBy o wanted) (sym are) asked)),
+    ))
+
+no_command : (words : List Text) → ((wanted : Wanted) → IsCommand words wanted → ⊥) → (fault_of program_app words ≢ []) ⊎ NamesNoKind words
+no_command words none = go (fault_of program_app words) refl
+  where
+    go : (fault : Kinds) → fault_of program_app words ≡ fault → (fault_of program_app words ≢ []) ⊎ NamesNoKind words
+    go [] clean = inr (taken_by NamesNoKindIfNone (named_asks (codes "init") init_app enters_init only_init init_asks)
+        (named_asks (codes "load") load_app enters_load only_load load_asks)
+        (named_asks (codes "ask") ask_app enters_ask only_ask ask_asks) (named_asks (codes "check") check_app enters_check only_check check_asks)
+        identify_names words clean
+        (λ wanted asked. none wanted (record { taken = clean; asked = asked })))
+    go (k ∷ rest) bad = inl (refused (fault_of program_app words) (ap is_clean bad))
+
+-- names of other lengths are others
+no_other_name : (name a b : Text) → (length a == length b) ≡ false → name ≡ a → name ≡ b → ⊥
+no_other_name name a b differ is_a is_b = true≢false (sym (eq-eqb (length a) (length b) (ap length (sym is_a ∙ is_b))) ∙ differ)
+
+names_no_command : (o : Option (Text × List Row)) (wanted : Wanted)
+    → IsSomeAnd o (λ given. (given.0 ≡ codes "identify") × IsSomeAnd (first_of (codes "kind") given.1) IsNoFileKind) → IsAskedBy o wanted → ⊥
+names_no_command None wanted names asked = absurd names
+names_no_command (Some given) (ToInit dir) names asked = no_other_name given.0 (codes "init") (codes "identify") refl asked.is_given.0 names.0
+names_no_command (Some given) (ToLoad dir jobs) names asked = no_other_name given.0 (codes "load") (codes "identify") refl asked.is_given.0 names.0
+names_no_command (Some given) (ToAsk dir paths) names asked = no_other_name given.0 (codes "ask") (codes "identify") refl asked.is_given.0 names.0
+names_no_command (Some given) (ToCheck dir) names asked = no_other_name given.0 (codes "check") (codes "identify") refl asked.is_given.0 names.0
+names_no_command (Some given) (ToIdentify kind path) names asked =
+    subst (λ (o : Option Text). IsSomeAnd o IsNoFileKind) asked.is_given.1 names.1 kind asked.offered refl
+
+pub refused_words : (words : List Text) → ((wanted : Wanted) → IsCommand words wanted → ⊥) ↔ ((fault_of program_app words ≢ []) ⊎ NamesNoKind words)
+refused_words words = (
+  no_command words,
+  λ (h : (fault_of program_app words ≢ []) ⊎ NamesNoKind words) wanted is. elim h [
+    | inl bad ↦ bad is.taken
+    | inr names ↦ names_no_command (subcommand_of program_app words) wanted names is.asked
+  ],
 )

@@ -88,40 +88,35 @@ named_rows name rest stops =
     ap (λ (w : Walk). entered program (fold (walked program.top.rules (names_of program)) w rest).stopped) stops
     ∙ ap (λ (w : Walk). entered program w.stopped) (stopped_walk program.top.rules (names_of program) (walk_from nothing_held) name [] rest)
 
+-- where the program stops at the name, and enters the subcommand
+enters_at : (name : Text) (sub : App) → walked program.top.rules (names_of program) (walk_from nothing_held) name ≡ stopped_at name []
+    → turn_fault program.top (names_of program) (walk_from nothing_held) name ≡ []
+    → ((rest : List Text) → program_fault (stopped_at name rest) [] ≡ or_else (fault_in sub false rest) [])
+    → ((rest : List Text) → entered program (Some (name, rest)) ≡ Some (name, rows_in sub false rest)) → Enters name sub
+enters_at name sub stops passes fault rows = record {
+  fault = λ rest. named_fault name rest stops passes ∙ fault rest ∙ or_else-nil (fault_in sub false rest);
+  rows = λ rest. named_rows name rest stops ∙ rows rest;
+}
+
 pub enters_init : Enters (codes "init") init_app
 unfolding clap_on_literals
-enters_init = record {
-  fault = λ rest. named_fault (codes "init") rest refl refl ∙ or_else-nil (fault_in init_app false rest);
-  rows = λ rest. named_rows (codes "init") rest refl;
-}
+enters_init = enters_at (codes "init") init_app refl refl (λ rest. refl) (λ rest. refl)
 
 pub enters_load : Enters (codes "load") load_app
 unfolding clap_on_literals
-enters_load = record {
-  fault = λ rest. named_fault (codes "load") rest refl refl ∙ or_else-nil (fault_in load_app false rest);
-  rows = λ rest. named_rows (codes "load") rest refl;
-}
+enters_load = enters_at (codes "load") load_app refl refl (λ rest. refl) (λ rest. refl)
 
 pub enters_ask : Enters (codes "ask") ask_app
 unfolding clap_on_literals
-enters_ask = record {
-  fault = λ rest. named_fault (codes "ask") rest refl refl ∙ or_else-nil (fault_in ask_app false rest);
-  rows = λ rest. named_rows (codes "ask") rest refl;
-}
+enters_ask = enters_at (codes "ask") ask_app refl refl (λ rest. refl) (λ rest. refl)
 
 pub enters_check : Enters (codes "check") check_app
 unfolding clap_on_literals
-enters_check = record {
-  fault = λ rest. named_fault (codes "check") rest refl refl ∙ or_else-nil (fault_in check_app false rest);
-  rows = λ rest. named_rows (codes "check") rest refl;
-}
+enters_check = enters_at (codes "check") check_app refl refl (λ rest. refl) (λ rest. refl)
 
 pub enters_identify : Enters (codes "identify") identify_app
 unfolding clap_on_literals
-enters_identify = record {
-  fault = λ rest. named_fault (codes "identify") rest refl refl ∙ or_else-nil (fault_in identify_app false rest);
-  rows = λ rest. named_rows (codes "identify") rest refl;
-}
+enters_identify = enters_at (codes "identify") identify_app refl refl (λ rest. refl) (λ rest. refl)
 
 -- the words give the subcommand's rules values alone
 pub record Reads (sub : App) (words values : List Text) : Type 0 where
@@ -247,3 +242,40 @@ pub ask_rows : (dir path : Text) (more : List Text)
     → rows_in ask_app true (dir ∷ path ∷ more) ≡ given_row (codes "dir") (dir ∷ []) ∷ given_row (codes "path") (path ∷ more) ∷ []
 unfolding clap_on_literals
 ask_rows dir path more = ap (λ (w : Walk). finished (built_sub ask_app).rules w.held) (paths_walk dir (path ∷ []) more)
+
+-- ---- how many values each subcommand has
+
+pub init_by : (Holds : List Text → Type 0) → ((dir : Text) → Holds (dir ∷ [])) → (values : List Text) → fault_in init_app true values ≡ [] → Holds values
+unfolding clap_on_literals
+init_by Holds one [] clean = absurd (refused (fault_in init_app true []) refl clean)
+init_by Holds one (dir ∷ []) clean = one dir
+init_by Holds one (dir ∷ more ∷ rest) clean = absurd (refused (fault_in init_app true (dir ∷ more ∷ rest)) refl clean)
+
+pub load_by : (Holds : List Text → Type 0) → ((dir jobs : Text) → Holds (dir ∷ jobs ∷ [])) → (values : List Text) → fault_in load_app true values ≡ []
+    → Holds values
+unfolding clap_on_literals
+load_by Holds two [] clean = absurd (refused (fault_in load_app true []) refl clean)
+load_by Holds two (dir ∷ []) clean = absurd (refused (fault_in load_app true (dir ∷ [])) refl clean)
+load_by Holds two (dir ∷ jobs ∷ []) clean = two dir jobs
+load_by Holds two (dir ∷ jobs ∷ more ∷ rest) clean = absurd (refused (fault_in load_app true (dir ∷ jobs ∷ more ∷ rest)) refl clean)
+
+pub ask_by : (Holds : List Text → Type 0) → ((dir path : Text) (more : List Text) → Holds (dir ∷ path ∷ more)) → (values : List Text)
+    → fault_in ask_app true values ≡ [] → Holds values
+unfolding clap_on_literals
+ask_by Holds some [] clean = absurd (refused (fault_in ask_app true []) refl clean)
+ask_by Holds some (dir ∷ []) clean = absurd (refused (fault_in ask_app true (dir ∷ [])) refl clean)
+ask_by Holds some (dir ∷ path ∷ more) clean = some dir path more
+
+pub check_by : (Holds : List Text → Type 0) → ((dir : Text) → Holds (dir ∷ [])) → (values : List Text) → fault_in check_app true values ≡ [] → Holds values
+unfolding clap_on_literals
+check_by Holds one [] clean = absurd (refused (fault_in check_app true []) refl clean)
+check_by Holds one (dir ∷ []) clean = one dir
+check_by Holds one (dir ∷ more ∷ rest) clean = absurd (refused (fault_in check_app true (dir ∷ more ∷ rest)) refl clean)
+
+pub identify_by : (Holds : List Text → Type 0) → ((kind path : Text) → Holds (kind ∷ path ∷ [])) → (values : List Text)
+    → fault_in identify_app true values ≡ [] → Holds values
+unfolding clap_on_literals
+identify_by Holds two [] clean = absurd (refused (fault_in identify_app true []) refl clean)
+identify_by Holds two (kind ∷ []) clean = absurd (refused (fault_in identify_app true (kind ∷ [])) refl clean)
+identify_by Holds two (kind ∷ path ∷ []) clean = two kind path
+identify_by Holds two (kind ∷ path ∷ more ∷ rest) clean = absurd (refused (fault_in identify_app true (kind ∷ path ∷ more ∷ rest)) refl clean)

@@ -5,16 +5,7 @@ use Rattle.clap.specs.Words.{first_of, subcommand_of}
 use Rattle.swh_base.specs.declared.kind.Kind.{Kind}
 use Rattle.swh_base.specs.declared.kind.Kind.TheVariants.{Directory}
 use Rattle.swh_words.specs.Definition.{program_app}
-use Rattle.swh_words.specs.Words.{Wanted, ToInit, ToLoad, ToAsk, ToCheck, ToIdentify}
 use Rattle.swh_base.specs.Kind.{kind_letters}
-
--- the subcommand and the values that ask for this
-abbrev pub spelled_command : Wanted → List (List ℕ)
-spelled_command (ToInit dir) = codes "init" ∷ dir ∷ []
-spelled_command (ToLoad dir jobs) = codes "load" ∷ dir ∷ jobs ∷ []
-spelled_command (ToAsk dir paths) = codes "ask" ∷ dir ∷ paths
-spelled_command (ToCheck dir) = codes "check" ∷ dir ∷ []
-spelled_command (ToIdentify kind path) = codes "identify" ∷ kind_letters kind ∷ path ∷ []
 
 -- one character or more
 abbrev pub is_nonempty : List ℕ → Bool

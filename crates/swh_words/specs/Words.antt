@@ -1,10 +1,12 @@
 -- The words of a run: which command they are, by the program's definition for clap.
-use Rattle.std.specs.Prelude.{◌≡◌, ◌≢◌, ◌<◌, ℕ, List, [], Some, IsSomeAnd, length, codes}
+use Rattle.std.specs.Prelude.{◌≡◌, ◌≢◌, ◌<◌, ℕ, List, [], ◌∷◌, Some, IsSomeAnd, length, map, codes}
 use Rattle.clap.specs.Words.{Row, Text, all_of, fault_of, first_of, subcommand_of}
 use Rattle.swh_base.specs.declared.kind.Kind.{Kind}
 use Rattle.swh_base.specs.Kind.{kind_letters}
 use Rattle.swh_base.specs.declared.kind.Kind.TheVariants.{Directory}
 use Rattle.swh_words.specs.Definition.{program_app}
+use Rattle.swh_words.specs.declared.command.Command.{Command}
+use Rattle.swh_words.specs.declared.command.Command.TheVariants.{Init, Load, Ask, Check, Identify}
 
 -- what a run may be asked to do
 pub data Wanted : Type 0 where
@@ -18,6 +20,22 @@ pub data Wanted : Type 0 where
   ToCheck : List ℕ → Wanted
   -- to name the bytes of a file as a body of a kind
   ToIdentify : Kind → List ℕ → Wanted
+
+-- what a command asks for
+abbrev pub wanted_by : Command → Wanted
+wanted_by (Init dir) = ToInit dir.now
+wanted_by (Load dir jobs) = ToLoad dir.now jobs.now
+wanted_by (Ask dir paths) = ToAsk dir.now (map (λ path. path.now) paths.items)
+wanted_by (Check dir) = ToCheck dir.now
+wanted_by (Identify kind path) = ToIdentify kind path.now
+
+-- the subcommand and the values that ask for this
+abbrev pub spelled_command : Wanted → List (List ℕ)
+spelled_command (ToInit dir) = codes "init" ∷ dir ∷ []
+spelled_command (ToLoad dir jobs) = codes "load" ∷ dir ∷ jobs ∷ []
+spelled_command (ToAsk dir paths) = codes "ask" ∷ dir ∷ paths
+spelled_command (ToCheck dir) = codes "check" ∷ dir ∷ []
+spelled_command (ToIdentify kind path) = codes "identify" ∷ kind_letters kind ∷ path ∷ []
 
 -- A subcommand's name and clap's values for it are what is wanted.
 abbrev pub IsGiven : Text × List Row → Wanted → Type 0

@@ -2,8 +2,8 @@
 ghost use Rattle.std.specs.Prelude.{◌≡◌, ◌≢◌, ◌<◌, ◌↔◌, ◌⊎◌, ◌^◌, ℕ, List, [], Some, length};
 ghost use Rattle.clap.specs.Words.{fault_of};
 ghost use Rattle.swh_words.specs.Definition.{program_app};
-ghost use Rattle.swh_words.specs.Spelling.{NamesNoKind, spelled_command, spelling_of};
-ghost use Rattle.swh_words.specs.Words.{Wanted, IsCommand, IsOffered};
+ghost use Rattle.swh_words.specs.Spelling.{NamesNoKind, spelling_of};
+ghost use Rattle.swh_words.specs.Words.{Wanted, IsCommand, IsOffered, spelled_command};
 
 /// Words are one command at most.
 pub fn one_command()

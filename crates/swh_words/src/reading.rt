@@ -17,9 +17,9 @@ ghost use Rattle.std.specs.Prelude.{
 ghost use Rattle.clap.specs.Words.{all_of, first_of, found_of, rows_of, subcommand_rows_of};
 ghost use Rattle.swh_base.specs.declared.kind.Kind.{Kind};
 ghost use Rattle.swh_base.specs.declared.kind.Kind.TheVariants.{Directory};
-ghost use Rattle.swh_words.specs.Words.{Wanted, IsCommand, AsksFor};
+ghost use Rattle.swh_words.specs.Words.{Wanted, IsCommand, AsksFor, wanted_by};
 ghost use Rattle.swh_base.specs.Kind.{kind_letters};
-ghost use Rattle.swh_words.specs.Commands.{Answers, wanted_by};
+ghost use Rattle.swh_words.specs.Commands.{Answers};
 ghost use Rattle.swh_words.specs.declared.command.WordsFault.TheVariants.{Words};
 
 use crate::definition::program;
