@@ -17,13 +17,12 @@ use Rattle.swh_trees.specs.Makes.{IsNumbered}
 use Rattle.swh_trees.specs.Objects.{AreDirectoryObjects, IsDirectoryObject}
 use Rattle.swh_folders.specs.PathMap.{PathMap, HasFolder, held, held_by}
 use Rattle.swh_trees.specs.Directory.{directory_id, directory_of}
-use Rattle.swh_fastmeaning.specs.Making.{made_from, made}
+use Rattle.swh_made.specs.Making.{made_from, made, name_of, object_of, names_of_made, HaveIds}
 use Rattle.swh_fastmeaning.specs.Commands.{revision_parts}
-use Rattle.swh_fastmeaning.specs.Feeding.{name_of}
-use Rattle.swh_fastmeaning.specs.Seen.{object_of}
-use Rattle.swh_fastmeaning.specs.Stock.{names_of_made, HaveIds, IsReady, AreReady, folder_made, AreFilesAmong}
-use Rattle.swh_fastmeaning.proofs.Elements.{contains_map, all_as, first_is, later_is, none_is, first_or_later}
-use Rattle.swh_fastmeaning.proofs.Givens.{AreAlso}
+use Rattle.swh_made.specs.Giving.{IsReady, AreReady}
+use Rattle.swh_fastmeaning.specs.Stock.{folder_made, AreFilesAmong}
+use Rattle.swh_made.proofs.Elements.{contains_map, all_as, first_is, later_is, none_is, first_or_later}
+use Rattle.swh_made.proofs.Givens.{AreAlso}
 use Rattle.swh_fastmeaning.proofs.Tags.{named_id}
 use Rattle.swh_fastload.proofs.DirectoryKids.{directory_name, directory_kids}
 

@@ -18,9 +18,9 @@ use Rattle.swh_folders.specs.PathMap.{PathMap, same, same_path, leaf_at, rest_be
 use Rattle.swh_trees.specs.Directory.{directory_id, insert_by, insert_entry, ordered, first, entry_at, directory_within, depth_of, directory_of}
 use Rattle.swh_folders.proofs.Grafts.{same_is}
 use Rattle.swh_folders.proofs.Lookups.{path_is, path_self}
-use Rattle.swh_fastmeaning.specs.Whole.{content_name}
+use Rattle.swh_made.specs.Whole.{content_name}
 use Rattle.swh_fastmeaning.specs.Stock.{IsLeafAmong, IsFileAmong, AreFilesAmong}
-use Rattle.swh_fastmeaning.proofs.Elements.{all_as, each_is, first_is, later_is, first_or_later}
+use Rattle.swh_made.proofs.Elements.{all_as, each_is, first_is, later_is, first_or_later}
 
 -- ## What stands in an ordered listing
 

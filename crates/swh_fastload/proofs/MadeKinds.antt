@@ -16,7 +16,7 @@ use Rattle.swh_fastgrammar.specs.declared.command.Command.{Command}
 use Rattle.swh_fastgrammar.specs.declared.command.Command.TheVariants.{Blob, Commit, Tag, Reset}
 use Rattle.swh_fastmeaning.specs.Aims.{Aim, Missing, with_tip, without_tip, commit_at, object_at}
 use Rattle.swh_fastmeaning.specs.Commands.{Changed, Targets, Making, Makes, marked, committed, tagged, only, revision, release, commit_parts, step, first_parent, commits_at, parents_of, starting_tree, all_changed, ◌>>=◌}
-use Rattle.swh_fastmeaning.proofs.Elements.{all_as, each_is}
+use Rattle.swh_made.proofs.Elements.{all_as, each_is}
 use Rattle.swh_fastload.proofs.ChangedAll.{all_brings}
 
 by_content : Content ≡ Snapshot → ⊥

@@ -18,25 +18,26 @@ use Rattle.swh_fastrows.specs.Outcome.{IsStreamWithin}
 use Rattle.swh_fastread.proofs.Outcomes.{stream_carries, carries_with}
 use Rattle.swh_fastmeaning.specs.declared.feed_fault.FeedFault.{FeedFault}
 use Rattle.swh_fastmeaning.specs.declared.feed_fault.FeedFault.TheVariants.{BadStream as BadFeed, Limit as PassesBody, Memory as FeedMemory}
-use Rattle.swh_fastmeaning.specs.declared.objects.Objects.{Objects}
+use Rattle.swh_made.specs.declared.objects.Objects.{Objects}
 use Rattle.swh_fastmeaning.specs.Aims.{AllAims}
 use Rattle.swh_fastmeaning.specs.Commands.{Making, Makes}
 use Rattle.swh_fastmeaning.specs.Ending.{refs_limit, EndsParts, PassesEnd, ExplainsEnd}
-use Rattle.swh_fastmeaning.specs.Feeding.{Loading, AreNew}
+use Rattle.swh_fastmeaning.specs.Feeding.{Loading}
+use Rattle.swh_made.specs.Giving.{AreNew}
 use Rattle.swh_fastload.specs.Input.{beginning, MeansStream, Means, Breaks, MayBreak}
 use Rattle.swh_fastload.specs.Loaded.{making_of}
-use Rattle.swh_fastmeaning.specs.Making.{made_from, made}
+use Rattle.swh_made.specs.Making.{made_from, made, names_of_made}
 use Rattle.swh_fastload.specs.declared.bad.InputFault.{InputFault}
 use Rattle.swh_fastload.specs.declared.bad.InputFault.TheVariants.{Bad, ReadFault, Memory}
 use Rattle.swh_fastload.specs.Reading.{feed_fault, HasRead, FailsSo, BreaksSo, IsQuiet}
 use Rattle.swh_fastload.specs.Sourced.{MeansLeft, ExplainsSource}
 use Rattle.swh_fastmeaning.specs.Snapshots.{refs_of, snapshot_of}
-use Rattle.swh_fastmeaning.specs.Stock.{names_of_made}
-use Rattle.swh_fastmeaning.specs.Whole.{names_of, AreWhole, HasAllThatIsReached}
-use Rattle.swh_fastmeaning.proofs.Elements.{first_or_later, first_is, none_is, from_map, each_is}
-use Rattle.swh_fastmeaning.proofs.Givens.{new_push}
+use Rattle.swh_made.specs.Whole.{names_of, AreWhole, HasAllThatIsReached}
+use Rattle.swh_made.proofs.Elements.{first_or_later, first_is, none_is, from_map, each_is}
+use Rattle.swh_made.proofs.Givens.{new_push}
 use Rattle.swh_fastload.proofs.Readings.{body_may}
-use Rattle.swh_fastload.proofs.Progresses.{same_names, whole_one, new_whole, carried}
+use Rattle.swh_made.proofs.Wholes.{same_names, whole_one, new_whole}
+use Rattle.swh_fastload.proofs.Progresses.{carried}
 
 module _ (id : Kind → List ℕ → List ℕ) (head : Option (List ℕ)) where
   whole_stream : (text : List ℕ) (state : Result Loading FeedFault) (es : List Entry) (h : HasRead id text state es) → IsStreamWithin 0 false text h.come.loaded.commands

@@ -31,15 +31,17 @@ use Rattle.swh_fastmeaning.specs.declared.feed_fault.FeedFault.{FeedFault}
 use Rattle.swh_fastmeaning.specs.declared.feed_fault.FeedFault.TheVariants.{BadStream as BadFeed, Limit as PassesBody, Memory as FeedMemory}
 use Rattle.swh_fastmeaning.specs.Aims.{Missing}
 use Rattle.swh_fastmeaning.specs.Commands.{Making, no_making, Makes, step}
-use Rattle.swh_fastmeaning.specs.Feeding.{Loading, AreNew, IsTooLong, ExplainsFeed}
+use Rattle.swh_fastmeaning.specs.Feeding.{Loading, IsTooLong, ExplainsFeed}
+use Rattle.swh_made.specs.Giving.{AreNew}
 use Rattle.swh_fastload.specs.Input.{beginning, BreaksAt, PassesAt, StopsAt, Breaks, MayBreak}
 use Rattle.swh_fastload.specs.Loads.{no_loading, FeedsTo}
-use Rattle.swh_fastmeaning.specs.Making.{made_from, made}
+use Rattle.swh_made.specs.Making.{made_from, made}
 use Rattle.swh_fastload.specs.Progress.{StandsFor, HasLoaded}
 use Rattle.swh_fastload.specs.Reading.{read_fault, feed_fault, HasGiven, HasCome, HasRead, StopsAtEnd, ReadsUpTo, FailsSo}
-use Rattle.swh_fastmeaning.proofs.Elements.{none_is, all_as}
+use Rattle.swh_made.proofs.Elements.{none_is, all_as}
 use Rattle.swh_fastload.proofs.MadeKinds.{no_snapshot}
-use Rattle.swh_fastload.proofs.Progresses.{new_append, loaded_more, carried}
+use Rattle.swh_made.proofs.Wholes.{new_append}
+use Rattle.swh_fastload.proofs.Progresses.{loaded_more, carried}
 
 -- Where a count rose since later, it rose since earlier.
 pub rose_since : (ending : Ending) (a b c : ℕ) → ending ≡ Open → a ≤ b → (ending ≡ Refused SourceFailed) ⊎ Rose b c → Rose a c

@@ -17,9 +17,10 @@ use Rattle.swh_fastload.specs.declared.bad.InputFault.{InputFault}
 use Rattle.swh_fastload.specs.declared.bad.InputFault.TheVariants.{Bad, ReadFault, Memory}
 use Rattle.swh_fastmeaning.specs.declared.feed_fault.FeedFault.{FeedFault}
 use Rattle.swh_fastmeaning.specs.declared.feed_fault.FeedFault.TheVariants.{BadStream as BadFeed, Limit as PassesBody, Memory as FeedMemory}
-use Rattle.swh_fastmeaning.specs.Feeding.{Loading, AreNew}
+use Rattle.swh_fastmeaning.specs.Feeding.{Loading}
+use Rattle.swh_made.specs.Giving.{AreNew}
 use Rattle.swh_fastload.specs.Input.{Breaks, MayBreak}
-use Rattle.swh_fastmeaning.specs.Making.{made}
+use Rattle.swh_made.specs.Making.{made}
 use Rattle.swh_fastload.specs.Progress.{HasLoaded}
 
 -- why an input is refused whose stream is not read on

@@ -8,7 +8,7 @@ ghost use Rattle.swh_revfmt.specs.Plain.{plain_revision_text};
 ghost use Rattle.swh_model.specs.Meaning.{Made as MadeObject};
 ghost use Rattle.swh_base.specs.Text.{IsRef};
 ghost use Rattle.swh_trees.specs.Grove.{Grove, map_of, IsTree, StandsFor};
-ghost use Rattle.swh_fastmeaning.specs.Making.{made_from, made};
+ghost use Rattle.swh_made.specs.Making.{made_from, made, object_of, HaveIds};
 ghost use Rattle.swh_fastmeaning.specs.Changes.{AreShort, HoldsContents, IsGivableChange, IsOver, changed_of};
 ghost use Rattle.swh_fastmeaning.specs.Commands.{step, first_parent, all_changed, revision_parts};
 ghost use Rattle.swh_fastmeaning.specs.Aims.{Aim, aims_with};
@@ -23,17 +23,16 @@ ghost use Rattle.swh_fastload.specs.Committing.{
   GivesCommit,
   ExplainsOver,
 };
-ghost use Rattle.swh_fastmeaning.specs.Seen.{object_of};
-ghost use Rattle.swh_fastmeaning.specs.Stock.{HaveIds, AreReady, IsStocked, Leads, loading_of};
+ghost use Rattle.swh_made.specs.Giving.{AreReady};
+ghost use Rattle.swh_fastmeaning.specs.Stock.{IsStocked, Leads, loading_of};
 ghost use Rattle.swh_fastmeaning.specs.Parting.{ExplainsBody, stock_of};
 
 use crate::parents::{first_parent, parent_ids};
 use std::alloc::Global;
 use swh_base::{Bytes, Items, Kind, Memory, Name, Namer, Which};
 use swh_fastgrammar::{At, Change, Commitish, Start};
-use swh_fastmeaning::{
-    Aims, Contents, FeedFault, Parts, Seen, Target, changed_tree, give_all, make_object, whole_id,
-};
+use swh_fastmeaning::{Aims, Contents, FeedFault, Parts, Target, changed_tree, make_or_refuse};
+use swh_made::{Seen, give_all, whole_id};
 use swh_object::Object;
 use swh_revfmt::{PlainRev, write_plain_rev};
 use swh_trees::{Made, Tree, TreeFault, Trees};
@@ -220,7 +219,7 @@ fn give_commit<N: Namer>(
         seen.old seen.new r.0 r.1.items) }
     ensures err { IfErr result (ExplainsBody body.items) }
 {
-    let revision = make_object(alloc, namer, Kind::Revision, body)?;
+    let revision = make_or_refuse(alloc, namer, Kind::Revision, body)?;
     let name = revision.name();
     let all = joined(contents, directories, revision)?;
     let objects = give_all(alloc, seen, all)?;

@@ -5,16 +5,16 @@ ghost use Rattle.std.specs.Option.{option_copied};
 ghost use Rattle.swh_base.specs.Snapshot.{IsBranch, AreBranches};
 ghost use Rattle.swh_object.specs.Object.{IsObject};
 ghost use Rattle.swh_model.specs.Meaning.{with_head};
-ghost use Rattle.swh_fastmeaning.specs.Making.{made_from};
+ghost use Rattle.swh_made.specs.Making.{made_from, names_of_made};
 ghost use Rattle.swh_fastmeaning.specs.Ending.{IsHead, EndsParts, ExplainsEnd, refs_limit};
 ghost use Rattle.swh_fastmeaning.specs.Parting.{stock_of};
-ghost use Rattle.swh_fastmeaning.specs.Stock.{loading_of, names_of_made, IsStocked};
+ghost use Rattle.swh_fastmeaning.specs.Stock.{loading_of, IsStocked};
 ghost use Rattle.swh_fastmeaning.specs.Snapshots.{tip_branch, refs_of, snapshot_of};
 
 use std::alloc::Global;
 use swh_base::{Kind, Namer, Which};
 use swh_fastmeaning::{
-    Aims, FeedFault, Parts, REFS_LIMIT, Sides, head_branch_of, joined, make_object,
+    Aims, FeedFault, Parts, REFS_LIMIT, Sides, head_branch_of, joined, make_or_refuse,
 };
 use swh_object::Object;
 use swh_snpfmt::{Branches, write_snp};
@@ -52,7 +52,7 @@ pub fn make_snapshot<N: Namer>(
     let head = head_branch_of(alloc, head)?;
     let branches = joined(sides, head)?;
     let body = write_snp(alloc, &Branches::of(branches))?;
-    make_object(alloc, namer, Kind::Snapshot, body)
+    make_or_refuse(alloc, namer, Kind::Snapshot, body)
 }
 
 /// The snapshot of a head, where one is named, and of what the tips lead to.

@@ -20,16 +20,17 @@ ghost use Rattle.swh_fastload.specs.Reading.{
 };
 ghost use Rattle.swh_fastload.specs.Input.{Means};
 ghost use Rattle.swh_fastload.specs.Sourced.{MeansLeft, ExplainsSource};
-ghost use Rattle.swh_fastmeaning.specs.Feeding.{AreNew};
-ghost use Rattle.swh_fastmeaning.specs.Whole.{HasAllThatIsReached};
+ghost use Rattle.swh_made.specs.Giving.{AreNew};
+ghost use Rattle.swh_made.specs.Whole.{HasAllThatIsReached};
 
 use crate::bad::{BadStream, InputFault};
 use crate::load::FastLoad;
 use std::alloc::{AllocError, Global};
 use swh_base::Namer;
 use swh_fastlex::Window;
-use swh_fastmeaning::{FeedFault, Objects};
+use swh_fastmeaning::FeedFault;
 use swh_fastread::{Lent, ReadFail, Reader};
+use swh_made::Objects;
 use swh_object::Object;
 use swh_outside::Source;
 

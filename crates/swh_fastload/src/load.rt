@@ -8,7 +8,8 @@ ghost use Rattle.std.specs.Option.{option_copied};
 ghost use Rattle.swh_fastmeaning.specs.Ending.{IsHead, EndsWith, ExplainsEnd};
 ghost use Rattle.swh_fastload.specs.Loads.{no_loading, FeedsTo, Refuses, Repeats};
 ghost use Rattle.swh_fastmeaning.specs.Parting.{stock_of};
-ghost use Rattle.swh_fastmeaning.specs.Stock.{loading_of, names_of_made, IsStocked, Leads};
+ghost use Rattle.swh_fastmeaning.specs.Stock.{loading_of, IsStocked, Leads};
+ghost use Rattle.swh_made.specs.Making.{names_of_made};
 
 use crate::commit::{Commit, CommitText, feed_commit};
 use crate::ending::end_parts;
@@ -17,7 +18,8 @@ use std::alloc::Global;
 use std::marker::Model;
 use swh_base::Namer;
 use swh_fastgrammar::Command;
-use swh_fastmeaning::{Aims, FeedFault, Parts, Seen};
+use swh_fastmeaning::{Aims, FeedFault, Parts};
+use swh_made::Seen;
 use swh_object::Object;
 use swh_trees::Trees;
 

@@ -27,8 +27,8 @@ use Rattle.swh_fastmeaning.specs.Aims.{Aim, AllAims, Missing, or_missing, mark_a
 use Rattle.swh_fastmeaning.specs.Commands.{Changed, set_to, changed, all_changed, put, ◌>>=◌}
 use Rattle.swh_fastmeaning.specs.Stock.{IsAimAmong, IsTipAmong, AreAimsAmong}
 use Rattle.swh_fastmeaning.proofs.MappedMaps.{lookup-mapped, remove-mapped, insert-mapped}
-use Rattle.swh_fastmeaning.proofs.Elements.{all_as}
-use Rattle.swh_fastmeaning.proofs.Givens.{AreAlso, more_names}
+use Rattle.swh_made.proofs.Elements.{all_as}
+use Rattle.swh_made.proofs.Givens.{AreAlso, more_names}
 
 -- what is there, in another form
 abbrev pub ok_map : {X Y : Type 0} → (X → Y) → Result X Missing → Result Y Missing

@@ -11,11 +11,10 @@ use Rattle.std.specs.Option.{option_map}
 use Rattle.std.proofs.lemmas.List.{map-append, append-nil, length-map}
 use Rattle.swh_base.specs.declared.kind.Kind.{Kind}
 use Rattle.swh_base.specs.Text.{IsRef, is_ref_byte}
-use Rattle.swh_base.specs.Snapshot.{SnapshotBranch, IsBranch, BranchIsBefore, AreBranches}
+use Rattle.swh_base.specs.Snapshot.{SnapshotBranch, IsBranch, BranchIsBefore, AreBranches, snapshot_text}
 use Rattle.swh_base.specs.Snapshot.BranchTarget.{ToObject}
 use Rattle.swh_base.proofs.Lacks.{passes_not}
 use Rattle.swh_base.specs.declared.kind.Kind.TheVariants.{Snapshot}
-use Rattle.swh_base.specs.Snapshot.{snapshot_text}
 use Rattle.swh_object.specs.Object.{IsObject}
 use Rattle.swh_model.specs.Meaning.{head_branch, put_branch, with_head, Made}
 use Rattle.swh_snpfmt.specs.declared.branch.Branch.{Branch}
@@ -29,11 +28,11 @@ use Rattle.swh_fastmeaning.specs.Snapshots.{tip_branch, refs_of, snapshot_of}
 use Rattle.swh_fastmeaning.specs.Tips.{tip_of}
 use Rattle.swh_fastmeaning.specs.declared.aims.Target.{Target}
 use Rattle.std.specs.List.Sorted.{IsStrictlySortedBy}
-use Rattle.swh_fastmeaning.specs.Stock.{HaveIds, names_of_made, IsTipAmong}
+use Rattle.swh_made.specs.Making.{HaveIds, names_of_made, made_from}
+use Rattle.swh_fastmeaning.specs.Stock.{IsTipAmong}
 use Rattle.swh_fastmeaning.specs.Ending.{is_greater, head_to, Ascend, AreSides, middle, IsHead, ExplainsEnd, EndsParts, refs_limit}
 use Rattle.swh_base.specs.declared.entry.Entry.{Entry}
 use Rattle.swh_folders.specs.PathMap.{PathMap}
-use Rattle.swh_fastmeaning.specs.Making.{made_from}
 use Rattle.swh_fastmeaning.specs.Parting.{ExplainsBody}
 use Rattle.swh_fastmeaning.specs.declared.feed_fault.FeedFault.{FeedFault}
 use Rattle.swh_fastmeaning.specs.declared.feed_fault.FeedFault.TheVariants.{BadStream, Limit, Memory}

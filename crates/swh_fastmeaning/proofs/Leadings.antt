@@ -13,7 +13,7 @@ use Rattle.swh_trees.specs.Grove.{Grove, StandsFor, folder_map, map_of}
 use Rattle.swh_folders.specs.Roots.{IsBelow}
 use Rattle.swh_folders.specs.declared.entry.Leaf.{Leaf}
 use Rattle.swh_folders.specs.PathMap.{PathMap}
-use Rattle.swh_fastmeaning.specs.Making.{made_from, made}
+use Rattle.swh_made.specs.Making.{made_from, made, name_of, names_of_made}
 use Rattle.swh_fastgrammar.specs.declared.command.Command.{Command}
 use Rattle.swh_fastgrammar.specs.declared.command.Command.TheVariants.{Blob, Reset}
 use Rattle.swh_fastgrammar.specs.declared.command.At.{At}
@@ -23,14 +23,15 @@ use Rattle.swh_fastgrammar.specs.declared.command.Start.TheVariants.{Absent, NoT
 use Rattle.swh_fastmeaning.specs.Aims.{Aim, AllAims, Missing, with_mark, with_tip, without_tip, commit_at, aim_with, aims_with}
 use Rattle.swh_fastmeaning.specs.Changes.{AreShort}
 use Rattle.swh_fastmeaning.specs.Commands.{Making, Makes, Targets, step, marked, only, aim_of, ◌>>=◌}
-use Rattle.swh_fastmeaning.specs.Feeding.{ExplainsFeed, name_of}
+use Rattle.swh_fastmeaning.specs.Feeding.{ExplainsFeed}
 use Rattle.swh_fastmeaning.specs.Missings.{ExplainsMissing}
 use Rattle.swh_fastmeaning.specs.Parting.{ExplainsBody}
-use Rattle.swh_fastmeaning.specs.Stock.{Stock, stock, loading_of, names_of_made, IsAimAmong, AreAimsAmong, IsGivenGrove, IsStocked, Gives, GivesOwn, Leads, IsFileAmong}
+use Rattle.swh_fastmeaning.specs.Stock.{Stock, stock, loading_of, IsAimAmong, AreAimsAmong, IsGivenGrove, IsStocked, GivesOwn, Leads, IsFileAmong}
+use Rattle.swh_made.specs.Giving.{Gives}
 use Rattle.swh_fastmeaning.specs.declared.feed_fault.FeedFault.{FeedFault}
 use Rattle.swh_fastmeaning.specs.declared.feed_fault.FeedFault.TheVariants.{BadStream, Limit, Memory}
-use Rattle.swh_fastmeaning.proofs.Elements.{contains_map, all_as, first_is}
-use Rattle.swh_fastmeaning.proofs.Givens.{AreAlso, more_names}
+use Rattle.swh_made.proofs.Elements.{contains_map, all_as, first_is}
+use Rattle.swh_made.proofs.Givens.{AreAlso, more_names}
 use Rattle.swh_fastmeaning.proofs.AimForms.{ok_map, with_mark-map, with_tip-map, without_tip-map, commit_at-map, aims_more, marked_among, tipped_among, untipped_among, commit_among}
 
 -- a grove without folders

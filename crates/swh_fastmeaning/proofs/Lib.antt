@@ -1,11 +1,8 @@
 pub mod AimForms
 pub mod ChangesMade
-pub mod Elements
-pub mod Givens
 pub mod HeadSides
 pub mod Leadings
 pub mod MappedMaps
-pub mod Seens
 pub mod Tags
 pub mod SnapshotKids
 pub mod Overs

@@ -15,19 +15,19 @@ use Rattle.swh_model.specs.Meaning.{Made}
 use Rattle.swh_trees.specs.declared.tree.Tree.{Tree}
 use Rattle.swh_trees.specs.Grove.{map_of}
 use Rattle.swh_folders.specs.PathMap.{PathMap}
-use Rattle.swh_fastmeaning.specs.Making.{made_from}
+use Rattle.swh_made.specs.Making.{made_from, name_of, object_of, names_of_made, HaveIds}
 use Rattle.swh_fastgrammar.specs.declared.command.Command.TheVariants.{Tag}
 use Rattle.swh_fastgrammar.specs.declared.command.At.{At}
 use Rattle.swh_fastgrammar.specs.declared.command.Commitish.{Commitish}
 use Rattle.swh_fastmeaning.specs.Aims.{Aim, AllAims, Missing, with_mark, with_tip, object_at, aim_with, aims_with}
 use Rattle.swh_fastmeaning.specs.Commands.{Making, Makes, Targets, step, tagged, release, ◌>>=◌}
-use Rattle.swh_fastmeaning.specs.Feeding.{ExplainsFeed, name_of}
+use Rattle.swh_fastmeaning.specs.Feeding.{ExplainsFeed}
 use Rattle.swh_fastmeaning.specs.Missings.{ExplainsMissing}
 use Rattle.swh_fastmeaning.specs.Parting.{ExplainsBody}
-use Rattle.swh_fastmeaning.specs.Seen.{object_of}
-use Rattle.swh_fastmeaning.specs.Stock.{Stock, stock, loading_of, names_of_made, HaveIds, AreAimsAmong, IsStocked, IsReady, GivesOwn, Leads}
+use Rattle.swh_fastmeaning.specs.Stock.{Stock, stock, loading_of, AreAimsAmong, IsStocked, GivesOwn, Leads}
+use Rattle.swh_made.specs.Giving.{IsReady}
 use Rattle.swh_fastmeaning.specs.declared.feed_fault.FeedFault.{FeedFault}
-use Rattle.swh_fastmeaning.proofs.Elements.{from_map, all_as, first_is}
+use Rattle.swh_made.proofs.Elements.{from_map, all_as, first_is}
 use Rattle.swh_fastmeaning.proofs.AimForms.{ok_map, with_mark-map, with_tip-map, object_at-map, aims_more, marked_among, tipped_among}
 use Rattle.swh_fastmeaning.proofs.Leadings.{gives_also, stocked_more, own_aim, own_form, own_only, explains_long, explains_missing}
 

@@ -1,13 +1,11 @@
 -- What a loader gives for a command (git-fast-import(1), commands): the objects that it makes and that were not made before,
 -- each after all that it names; or why it refuses the command.
-use Rattle.std.specs.Prelude.{◌≡◌, ◌⊎◌, ℕ, ◌<◌, List, [], ◌∷◌, ◌++◌, length, map, Contains, Option, Some, None, Result, Ok, Err}
+use Rattle.std.specs.Prelude.{◌≡◌, ◌⊎◌, ℕ, ◌<◌, List, [], ◌∷◌, ◌++◌, length, Contains, Option, Some, None, Result, Ok, Err}
 use Rattle.std.specs.List.{AllByRecursion}
 use Rattle.swh_base.specs.declared.kind.Kind.{Kind}
-use Rattle.swh_base.specs.declared.name.Name.{Name}
 use Rattle.swh_base.specs.declared.entry.Entry.{Entry}
 use Rattle.swh_base.specs.declared.visit.Which.TheVariants.{Body}
 use Rattle.swh_base.specs.Limits.{body_limit}
-use Rattle.swh_object.specs.Object.{IsObject}
 use Rattle.swh_model.specs.Meaning.{Made}
 use Rattle.swh_fastgrammar.specs.declared.command.Command.{Command}
 use Rattle.swh_fastmeaning.specs.declared.feed_fault.FeedFault.{FeedFault}
@@ -16,7 +14,8 @@ use Rattle.swh_fastmeaning.specs.Aims.{Missing}
 use Rattle.swh_fastmeaning.specs.Changes.{AreShort}
 pub use Rattle.swh_fastgrammar.specs.Givable.{IsGivable}
 use Rattle.swh_fastmeaning.specs.Commands.{Targets, Making, Makes, step}
-use Rattle.swh_fastmeaning.specs.Making.{made_from, made}
+use Rattle.swh_made.specs.Making.{made_from, made}
+use Rattle.swh_made.specs.Giving.{AreNew}
 
 -- what is known between two commands: marks and tips, and the objects that were given, in their order
 pub record Loading : Type 0 where
@@ -29,15 +28,6 @@ state_of None loading = Ok loading
 state_of (Some fault) loading = Err fault
 
 module _ (id : Kind → List ℕ → List ℕ) where
-  -- the name of an object
-  abbrev pub name_of : Made → Name
-  name_of m = record { kind = m.kind; id = id m.kind m.body }
-
-  -- Each is an object that was not given before, and each of its children is the name of one that was.
-  abbrev pub AreNew : List Made → List Entry → Type 0
-  AreNew before [] = Unit {0}
-  AreNew before (e ∷ es) = (Contains before (made_from e) → ⊥) × IsObject id e × AllByRecursion (Contains (map name_of before)) e.kids × AreNew (before ++ made_from e ∷ []) es
-
   -- These objects are given for the command: each is one that it makes, and each that it makes is given now or was before.
   pub record Feeds (old : Loading) (command : Command) (new : Loading) (objects : List Entry) : Type 0 where
     pub making : Making
@@ -46,7 +36,7 @@ module _ (id : Kind → List ℕ → List ℕ) where
     pub given : new.given ≡ old.given ++ made objects
     pub each : AllByRecursion (λ e. Makes id making (made_from e)) objects
     pub all : (m : Made) → Makes id making m → Contains new.given m
-    pub fresh : AreNew old.given objects
+    pub fresh : AreNew id old.given objects
 
   -- One of the bodies that are made has this many bytes, above the limit, and is the first such: contents come in the order
   -- of their lines, then the directories, of which any may be told, and last the revision.

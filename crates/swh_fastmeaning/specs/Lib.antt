@@ -5,9 +5,7 @@ pub mod Ending
 pub mod Feeding
 pub mod Missings
 pub mod Parting
-pub mod Seen
 pub mod Snapshots
 pub mod Stock
 pub mod Tips
 pub mod Making
-pub mod Whole

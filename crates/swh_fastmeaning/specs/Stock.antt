@@ -1,5 +1,5 @@
 -- What a loader holds between two commands: trees, marks and tips, and the objects that were given.
-use Rattle.std.specs.Prelude.{◌≡◌, ◌≢◌, ℕ, ◌<◌, true, List, [], ◌∷◌, ◌++◌, length, map, Contains}
+use Rattle.std.specs.Prelude.{◌≡◌, ◌≢◌, ℕ, ◌<◌, true, List, [], ◌∷◌, length, Contains}
 use Rattle.std.specs.List.{AllByRecursion}
 use Rattle.swh_base.specs.declared.kind.Kind.{Kind}
 use Rattle.swh_base.specs.declared.kind.Kind.TheVariants.{Snapshot}
@@ -8,7 +8,6 @@ use Rattle.swh_base.specs.declared.entry.Entry.{Entry}
 use Rattle.swh_base.specs.Name.{IsId}
 use Rattle.swh_base.specs.Text.{IsRef}
 use Rattle.swh_base.specs.Directory.{IsEntryName, directory_text}
-use Rattle.swh_base.specs.Manifest.{AreChildren}
 use Rattle.swh_model.specs.Meaning.{Made, directory}
 use Rattle.swh_trees.specs.declared.tree.Tree.{Tree}
 use Rattle.swh_folders.specs.declared.entry.Leaf.{Leaf}
@@ -17,10 +16,11 @@ use Rattle.swh_folders.specs.Roots.{IsBelow}
 use Rattle.swh_folders.specs.Leaf.{IsLeafMode}
 use Rattle.swh_folders.specs.PathMap.{PathMap, begins}
 use Rattle.swh_trees.specs.Directory.{directory_of}
-use Rattle.swh_fastmeaning.specs.Making.{made_from, made}
-use Rattle.swh_fastmeaning.specs.Whole.{content_name}
+use Rattle.swh_made.specs.Making.{name_of, names_of_made, HaveIds}
+use Rattle.swh_made.specs.Whole.{content_name}
 use Rattle.swh_fastmeaning.specs.Aims.{Aim, AllAims, aims_with}
-use Rattle.swh_fastmeaning.specs.Feeding.{Loading, name_of, AreNew, Feeds}
+use Rattle.swh_fastmeaning.specs.Feeding.{Loading, Feeds}
+use Rattle.swh_made.specs.Giving.{Gives}
 use Rattle.swh_fastgrammar.specs.declared.command.Command.{Command}
 
 -- trees, marks and tips, and the objects that were given
@@ -58,18 +58,10 @@ abbrev pub AreFilesAmong : List Name → PathMap → Type 0
 AreFilesAmong names m = AllByRecursion (IsFileAmong names) m
 
 module _ (id : Kind → List ℕ → List ℕ) where
-  -- the names of objects
-  abbrev pub names_of_made : List Made → List Name
-  names_of_made given = map (name_of id) given
-
-  -- Their ids have twenty bytes.
-  abbrev pub HaveIds : List Made → Type 0
-  HaveIds given = (m : Made) → Contains given m → IsId (id m.kind m.body)
-
   -- The object was given, and its tree's objects were made.
   pub record IsAimAmong (folders : ℕ) (given : List Made) (aim : Aim Tree) : Type 0 where
     pub tree : IsBelow folders aim.tree.number
-    pub named : Contains (names_of_made given) aim.name
+    pub named : Contains (names_of_made id given) aim.name
     pub kind : aim.name.kind ≢ Snapshot
 
   -- The ref is one, and what it leads to was given.
@@ -90,31 +82,14 @@ module _ (id : Kind → List ℕ → List ℕ) where
   pub record IsGivenGrove (grove : Grove) (given : List Made) : Type 0 where
     pub whole : grove.made ≡ length grove.folders
     pub folders : (n : ℕ) → n < grove.made → Contains given (folder_made grove n)
-    pub files : (n : ℕ) → n < grove.made → AreFilesAmong (names_of_made given) (folder_map grove n)
+    pub files : (n : ℕ) → n < grove.made → AreFilesAmong (names_of_made id given) (folder_map grove n)
     pub free : (n : ℕ) → n < grove.made → IsFree (folder_map grove n)
 
   -- Ids are whole, what marks and tips lead to was given, and so were the trees' objects.
   pub record IsStocked (s : Stock) : Type 0 where
-    pub ids : HaveIds s.given
+    pub ids : HaveIds id s.given
     pub among : AreAimsAmong s.grove.made s.given s.aims
     pub trees : IsGivenGrove s.grove s.given
-
-  -- The children of the object's body are names of these, whose ids have twenty bytes.
-  abbrev pub IsReady : List Made → Made → Type 0
-  IsReady before m = HaveIds before → (kids : List Name) → AreChildren m.kind m.body kids → AllByRecursion (Contains (names_of_made before)) kids
-
-  -- Each object's children are among these and the objects before it.
-  abbrev pub AreReady : List Made → List Made → Type 0
-  AreReady before [] = Unit {0}
-  AreReady before (m ∷ ms) = IsReady before m × AreReady (before ++ m ∷ []) ms
-
-  -- Of the objects `ms` those are given that were not given before.
-  pub record Gives (ms old new : List Made) (objects : List Entry) : Type 0 where
-    pub given : new ≡ old ++ made objects
-    pub each : AllByRecursion (λ e. Contains ms (made_from e)) objects
-    pub all : (m : Made) → Contains ms m → Contains new m
-    pub fresh : AreNew id old objects
-    pub ids : HaveIds new
 
   -- The command's objects are given, and what is held afterwards is whole again.
   pub record Leads (old : Stock) (command : Command) (new : Stock) (objects : List Entry) : Type 0 where
@@ -123,6 +98,6 @@ module _ (id : Kind → List ℕ → List ℕ) where
 
   -- The object is given where it is new, and this is what a mark of it leads to.
   pub record GivesOwn (m : Made) (old new : List Made) (aim : Aim Tree) (objects : List Entry) : Type 0 where
-    pub gives : Gives (m ∷ []) old new objects
+    pub gives : Gives id (m ∷ []) old new objects
     pub name : aim.name ≡ name_of id m
     pub empty : (g : Grove) → StandsFor g aim.tree []

@@ -1,10 +1,9 @@
 //! What the commands of a stream make (git-fast-import(1), commands), as definitions, and the parts that make it: marks
-//! and tips, contents, the changes of a commit, objects given once, and the branches of a snapshot.
-//! Stands on `swh_base`, `swh_fastlex`, `swh_revfmt`, `swh_snpfmt`, `swh_object`, `swh_folders` and `swh_trees`, and on
-//! the types and definitions of `swh_fastgrammar` and `swh_model`.
+//! and tips, contents, the changes of a commit, and the branches of a snapshot.
+//! Stands on `swh_base`, `swh_fastlex`, `swh_revfmt`, `swh_snpfmt`, `swh_object`, `swh_made`, `swh_folders` and
+//! `swh_trees`, and on the types and definitions of `swh_fastgrammar` and `swh_model`.
 //! Callers may rely on: what a mark or a ref leads to is what was set last; a tree with a commit's changes is the path
-//! map that they make of its parent's, or the place of the first change that names what is not there is told; an object
-//! that was given before is not given again.
+//! map that they make of its parent's, or the place of the first change that names what is not there is told.
 #![tactic(auto)]
 
 mod aims;
@@ -14,18 +13,14 @@ mod feed_fault;
 mod giving;
 mod laws;
 mod lookups;
-mod objects;
 mod parts;
-mod seen;
 mod sides;
 
 pub use aims::{Aims, Target, blob_of, commit_of};
 pub use changes::changed_tree;
 pub use contents::Contents;
 pub use feed_fault::FeedFault;
-pub use giving::{give_all, give_own, make_object, whole_id};
+pub use giving::{give_own, make_or_refuse};
 pub use laws::limit_of_refs;
-pub use objects::Objects;
 pub use parts::Parts;
-pub use seen::{Novelty, Seen};
 pub use sides::{REFS_LIMIT, Sides, head_branch_of, joined};

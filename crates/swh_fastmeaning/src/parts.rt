@@ -1,8 +1,8 @@
 //! What a loader is made of.
 
 use crate::aims::Aims;
-use crate::seen::Seen;
 use swh_base::Namer;
+use swh_made::Seen;
 use swh_trees::Trees;
 
 /// The parts of a loader: the trees of commits, what marks and tips lead to, and the objects that were given.

@@ -1,24 +1,19 @@
 -- What is made is closed once all of it is held.
-use Rattle.std.proofs.Common.{◌≡◌, ℕ, Option, Some, List, [], ◌∷◌, Contains, sym, subst, inl, arith}
+use Rattle.std.proofs.Common.{◌≡◌, ℕ, Option, Some, List, [], ◌∷◌, Contains, subst, inl, arith}
 use Rattle.std.specs.List.{AllByRecursion}
 use Rattle.swh_base.specs.declared.kind.Kind.{Kind}
 use Rattle.swh_base.specs.declared.name.Name.{Name}
 use Rattle.swh_base.specs.declared.entry.Entry.{Entry}
 use Rattle.swh_base.specs.Manifest.{AreChildren}
 use Rattle.swh_base.proofs.Children.{one_list}
-use Rattle.swh_model.specs.Archive.{Bodies, IsGraphOf, body_of, IsHeld, IsChild, IsClosed}
+use Rattle.swh_model.specs.Archive.{Bodies, body_of, IsHeld, IsChild, IsClosed}
 use Rattle.swh_model.specs.Certificate.{Certifies}
 use Rattle.swh_model.specs.Step.{HasItsChildrenAndName}
 use Rattle.swh_base.specs.Snapshot.{snapshot_name}
-use Rattle.swh_closure.specs.Certificate.{IsWalkFault}
-use Rattle.swh_closure.specs.declared.walking.WalkFault.{WalkFault}
-use Rattle.swh_closure.specs.declared.walking.WalkFault.TheVariants.{Missing}
-use Rattle.swh_closure.proofs.Refusals.{missing_refutes}
-use Rattle.swh_model.proofs.Graphs.{closed-same}
 use Rattle.swh_model.proofs.Certificates.{certified-closed}
 use Rattle.swh_object.specs.Object.{IsObject}
-use Rattle.swh_fastmeaning.specs.declared.objects.Objects.{Objects}
-use Rattle.swh_fastmeaning.specs.Whole.{names_of, HasChildrenAmong, AreWhole, HasAllThatIsReached}
+use Rattle.swh_made.specs.declared.objects.Objects.{Objects}
+use Rattle.swh_made.specs.Whole.{names_of, HasChildrenAmong, AreWhole, HasAllThatIsReached}
 use Rattle.swh_loader.specs.Sending.{AllHeld}
 use Rattle.swh_loader.proofs.Limiting.{at_element}
 
@@ -61,9 +56,3 @@ whole_closed id bodies made w held =
 pub whole_good : (id : Kind → List ℕ → List ℕ) (es : List Entry) → AllByRecursion (IsObject id) es → AllByRecursion (HasItsChildrenAndName id) es
 whole_good id [] h = tt
 whole_good id (e ∷ es) h = (record { good = record { kids = h.0.kids }; named = h.0.named }, whole_good id es h.1)
-
--- of what is closed no walk finds a name that is not held
-pub none_missing : (bodies held : Bodies) (children_of : Name → Option (List Name)) (root : Name) (fault : WalkFault) (parent : Option Name) (child : Name) → IsGraphOf bodies children_of → bodies ≡ held → IsClosed held root
-    → fault ≡ Missing parent child → IsWalkFault children_of root fault → ⊥
-none_missing bodies held children_of root fault parent child graph same closed is why =
-    missing_refutes children_of root parent child (subst (IsWalkFault children_of root) is why) ((closed-same bodies children_of graph root).0 (subst (λ (b : Bodies). IsClosed b root) (sym same) closed))

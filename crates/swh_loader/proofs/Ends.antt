@@ -5,7 +5,7 @@ use Rattle.swh_base.specs.declared.name.Name.{Name}
 use Rattle.swh_base.specs.declared.entry.Entry.{Entry}
 use Rattle.swh_model.specs.Archive.{Bodies}
 use Rattle.swh_keeper.specs.Kept.{Kept}
-use Rattle.swh_fastmeaning.specs.declared.objects.Objects.{Objects}
+use Rattle.swh_made.specs.declared.objects.Objects.{Objects}
 use Rattle.swh_loader.specs.declared.end.End.{End}
 use Rattle.swh_loader.specs.declared.end.End.TheVariants.{Full}
 use Rattle.swh_loader.specs.Visiting.{KeepsAll}

@@ -11,9 +11,9 @@ use Rattle.swh_model.specs.Archive.{Bodies}
 use Rattle.swh_model.proofs.Entries.{all-append}
 use Rattle.swh_keeper.specs.Kept.{Kept}
 use Rattle.swh_fastload.specs.Input.{Means}
-use Rattle.swh_fastmeaning.specs.declared.objects.Objects.{Objects}
+use Rattle.swh_made.specs.declared.objects.Objects.{Objects}
 use Rattle.swh_fastload.specs.Loaded.{making_of}
-use Rattle.swh_fastmeaning.specs.Whole.{HasAllThatIsReached}
+use Rattle.swh_made.specs.Whole.{HasAllThatIsReached}
 use Rattle.swh_loader.specs.declared.end.BadInput.TheVariants.{Broken, Collision, Read}
 use Rattle.swh_loader.specs.declared.end.End.{End}
 use Rattle.swh_loader.specs.declared.end.End.TheVariants.{Full, NotFound, Failed}

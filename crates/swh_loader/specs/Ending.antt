@@ -13,9 +13,9 @@ use Rattle.swh_base.specs.Visit.{Statuses}
 use Rattle.swh_outside.specs.declared.fault.Opened.{Opened}
 use Rattle.swh_outside.specs.declared.fault.Opened.TheVariants.{Found, NotFound as Missing, Failed as Unopened, Memory as NoRoom}
 use Rattle.swh_fastload.specs.Input.{Means}
-use Rattle.swh_fastmeaning.specs.Making.{made}
+use Rattle.swh_made.specs.Making.{made}
 use Rattle.swh_fastload.specs.Sourced.{BreaksLeft}
-use Rattle.swh_fastmeaning.specs.declared.objects.Objects.{Objects}
+use Rattle.swh_made.specs.declared.objects.Objects.{Objects}
 use Rattle.swh_loader.specs.declared.end.BadInput.{BadInput}
 use Rattle.swh_loader.specs.declared.end.BadInput.TheVariants.{Broken, Collision, Read}
 use Rattle.swh_loader.specs.declared.end.End.{End}

@@ -5,7 +5,7 @@ use Rattle.swh_outside.specs.Faults.{Rose}
 use Rattle.swh_outside.specs.Views.{Sources}
 use Rattle.swh_fastload.specs.Loaded.{making_of}
 use Rattle.swh_fastload.specs.Sourced.{MeansLeft, BreaksLeft}
-use Rattle.swh_fastmeaning.specs.Whole.{HasAllThatIsReached}
+use Rattle.swh_made.specs.Whole.{HasAllThatIsReached}
 use Rattle.swh_loader.specs.declared.end.BadInput.{BadInput}
 use Rattle.swh_loader.specs.declared.end.BadInput.TheVariants.{Broken, Collision, Read}
 use Rattle.swh_loader.specs.declared.loading.Input.{Input}

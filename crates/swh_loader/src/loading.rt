@@ -7,7 +7,7 @@ ghost use Rattle.swh_model.specs.Archive.{IsClosed};
 ghost use Rattle.swh_model.specs.Step.{FitsStatus};
 ghost use Rattle.swh_base.specs.Snapshot.{snapshot_name};
 ghost use Rattle.swh_plan.specs.Plan.{status_of, snapshot_of};
-ghost use Rattle.swh_fastmeaning.specs.Whole.{HasAllThatIsReached};
+ghost use Rattle.swh_made.specs.Whole.{HasAllThatIsReached};
 ghost use Rattle.swh_loader.specs.declared.fault.LoadWhy.TheVariants.{Memory as OutOfMemory};
 ghost use Rattle.swh_loader.specs.declared.end.BadInput.TheVariants.{Read as BadRead};
 ghost use Rattle.swh_loader.specs.declared.end.End.TheVariants.{Full as EndFull, NotFound as EndNotFound};
@@ -29,9 +29,11 @@ use crate::turn::Turn;
 use crate::visiting::{OpenVisit, mark, open_visit};
 use std::alloc::Global;
 use swh_base::{Bytes, Kind, Memory, Name, Namer};
-use swh_closure::{Cert, Closed, WalkFault, walk};
-use swh_fastload::{InputFault, Objects, load_source};
+use swh_closure::Cert;
+use swh_fastload::{InputFault, load_source};
 use swh_keeper::{How, Keeper};
+use swh_made::Objects;
+use swh_object::Object;
 use swh_outside::{Disk, Gate, Opened, Source};
 
 /// What an input gives.
@@ -110,35 +112,32 @@ fn end_bad<N: Namer, D: Disk>(
     end_visit(alloc, keeper, visit, How::Failed, end)
 }
 
-/// A certificate that all that the snapshot reaches is held.
-fn certificate<N: Namer, D: Disk>(
-    alloc: Global,
-    keeper: &Keeper<N, D>,
-    snapshot: [u8; 20],
-) -> Result<Cert, Memory>
-    requires unwounded { keeper.now.wounded ≡ None }
-    requires closed { IsClosed (held_bodies keeper.now) (snapshot_name snapshot) }
-{
-    let root = Name {
-        kind: Kind::Snapshot,
-        id: snapshot,
-    };
-    let store = keeper.store();
-    store.is_graph();
-    let nothing = Closed::new(alloc);
-    match walk(alloc, store, root, &nothing) {
-        Ok(cert) => Ok(cert),
-        Err(WalkFault::Memory) => Err(Memory),
-        Err(WalkFault::Missing { .. }) => unreachable!(),
+/// The names of objects, in ascending order.
+fn names_of<N: Namer>(alloc: Global, objects: &[Object<N>]) -> Result<Vec<Name>, Memory> {
+    let mut names = Vec::with_capacity(alloc, objects.len())?;
+    for object in objects {
+        names.push(object.name())?;
     }
+    names.sort_unstable();
+    Ok(names)
 }
 
-/// Ends a visit whose input is all held, on both sides of the gate.
+/// A certificate that all that the snapshot reaches is held: it is among these names. The keeper checks it, and does not
+/// walk.
+fn certificate(snapshot: [u8; 20], names: Vec<Name>) -> Cert {
+    let kind = Kind::Snapshot;
+    let root = Name { kind, id: snapshot };
+    Cert { root, names }
+}
+
+/// Ends a visit whose input is all held, on both sides of the gate. All that is reached from the snapshot has one of these
+/// names.
 fn end_full<N: Namer, D: Disk, G: Gate>(
     alloc: Global,
     keeper: &mut Keeper<N, D>,
     visit: &OpenVisit,
     snapshot: [u8; 20],
+    names: Vec<Name>,
     turn: &Turn<G>,
 ) -> Result<End, LoadWhy>
     requires unwounded { keeper.old.wounded ≡ None }
@@ -148,7 +147,7 @@ fn end_full<N: Namer, D: Disk, G: Gate>(
     ensures leaves { LeavesVisit N.id_of (disks D.tells D.file D.faults) AllowsNoBatch
         visit.now keeper.old keeper.new result }
 {
-    let cert = certificate(alloc, keeper, snapshot)?;
+    let cert = certificate(snapshot, names);
     let gate = turn.worker.gate;
     gate.before(turn.worker.number, turn.job);
     let end = End::Full { snapshot };
@@ -172,9 +171,10 @@ fn finish<N: Namer, D: Disk, G: Gate>(
     ensures leaves { LeavesVisit N.id_of (disks D.tells D.file D.faults) (AreAmong made.objects.items)
         visit.now keeper.old keeper.new result }
 {
+    let names = names_of(alloc, &made.objects)?;
     match send_all(alloc, keeper, visit.by, made.objects)? {
         Some(name) => end_bad(alloc, keeper, visit, BadInput::Collision { name }),
-        None => end_full(alloc, keeper, visit, made.snapshot, turn),
+        None => end_full(alloc, keeper, visit, made.snapshot, names, turn),
     }
 }
 

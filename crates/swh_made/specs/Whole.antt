@@ -9,9 +9,11 @@ use Rattle.swh_base.specs.Snapshot.{snapshot_name}
 use Rattle.swh_object.specs.Object.{IsObject}
 use Rattle.swh_made.specs.declared.objects.Objects.{Objects}
 
+-- the names of these entries
 abbrev pub names_of : List Entry → List Name
 names_of objects = map (λ e. e.name) objects
 
+-- the name of a content of this id
 abbrev pub content_name : List ℕ → Name
 content_name id = record { kind = Content; id = id }
 

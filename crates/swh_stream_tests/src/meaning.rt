@@ -2,7 +2,8 @@
 use std::alloc::{AllocError, Global};
 use std::test::Fail;
 use swh_base::{Kind, Name, Sha1Namer};
-use swh_fastmeaning::{Aims, Novelty, Seen, Target, blob_of, commit_of};
+use swh_fastmeaning::{Aims, Target, blob_of, commit_of};
+use swh_made::{Novelty, Seen};
 use swh_object::Object;
 use swh_trees::Tree;
 

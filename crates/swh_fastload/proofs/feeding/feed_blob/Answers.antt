@@ -1,7 +1,7 @@
 use Rattle.std.proofs.Common.{List, ℕ, subst}
 use Rattle.std.proofs.lemmas.Result.{err_from_is_err_and}
 use Rattle.swh_base.specs.declared.kind.Kind.TheVariants.{Content}
-use Rattle.swh_fastmeaning.specs.Seen.{object_of}
+use Rattle.swh_made.specs.Making.{object_of}
 use Rattle.swh_fastmeaning.specs.Stock.{GivesOwn}
 use Rattle.swh_fastmeaning.specs.Tips.{aim_of}
 use Rattle.swh_fastmeaning.specs.Parting.{stock_of, ExplainsBody}
