@@ -208,8 +208,8 @@ under-sound names nodes (Some (FileChild l)) sound low = tt
 under-sound names nodes (Some (FolderChild j)) sound low = sound j low
 
 -- what the entries of a folder are after one was dropped and one was put
-pub put-added : (names names' : List (Vec ℕ)) (nodes : List Listed) (under child : Option Child) (name : List ℕ) (kept out : List Entry) → IsArena names nodes → Extends names names' → IsIn (length nodes) child → AreGood (length names) (length nodes) kept → forest_of (texts names') (tree_at names' nodes) out ≡ inserted name (stands_of (tree_at names' nodes) child) (forest_of (texts names) (tree_at names' nodes) kept) → forest_of (texts names) (tree_at names nodes) kept ≡ without name (forest (stands_of (tree_at names nodes) under)) → forest_of (texts names') (tree_at names' nodes) out ≡ put name (stands_of (tree_at names nodes) child) (forest (stands_of (tree_at names nodes) under))
-put-added names names' nodes under child name kept out arena more low good added cleared =
+pub put-added : (names names' : List (Vec ℕ)) (nodes : List Listed) (child : Option Child) (f : Forest) (name : List ℕ) (kept out : List Entry) → IsArena names nodes → Extends names names' → IsIn (length nodes) child → AreGood (length names) (length nodes) kept → forest_of (texts names') (tree_at names' nodes) out ≡ inserted name (stands_of (tree_at names' nodes) child) (forest_of (texts names) (tree_at names' nodes) kept) → forest_of (texts names) (tree_at names nodes) kept ≡ without name f → forest_of (texts names') (tree_at names' nodes) out ≡ put name (stands_of (tree_at names nodes) child) f
+put-added names names' nodes child f name kept out arena more low good added cleared =
     let old = tree_at names nodes in
     let new = tree_at names' nodes in
     let n = length nodes in

@@ -41,7 +41,7 @@ returns-clause-good c =
     let more = c.add_some.ensures.names in
     let arena = arena-names old new nodes c.requires.good.arena more in
     let out = c.in_ok-out.ensures.good (length nodes) kept c.requires.child in
-    let added = put-added old new nodes c.args.under c.args.child c.args.name.now c.in_ok-rest.rest.items c.in_ok-out.out.items c.requires.good.arena more c.requires.child kept (c.in_ok-out.ensures.forest (tree_at new nodes) (length nodes) kept) cleared in
+    let added = put-added old new nodes c.args.child (forest (stands_of (tree_at old nodes) c.args.under)) c.args.name.now c.in_ok-rest.rest.items c.in_ok-out.out.items c.requires.good.arena more c.requires.child kept (c.in_ok-out.ensures.forest (tree_at new nodes) (length nodes) kept) cleared in
     record {
       arena = c.seal.ensures.arena new arena out;
       sound = c.seal.ensures.sound new (sound-names old new nodes c.requires.good.arena more c.requires.good.sound) (subst IsSound (sym added)
@@ -63,7 +63,7 @@ returns-clause-put c =
     let kept = rw (c.as_slice.ensures.value, c.as_slice-2.ensures.value) at c.in_ok-rest.ensures.good in
     let cleared = rw (c.as_slice.ensures.value, c.as_slice-2.ensures.value) at c.in_ok-rest.ensures.forest in
     let more = c.add_some.ensures.names in
-    let added = put-added old new nodes c.args.under c.args.child c.args.name.now c.in_ok-rest.rest.items c.in_ok-out.out.items c.requires.good.arena more c.requires.child kept (c.in_ok-out.ensures.forest (tree_at new nodes) (length nodes) kept) cleared in
+    let added = put-added old new nodes c.args.child (forest (stands_of (tree_at old nodes) c.args.under)) c.args.name.now c.in_ok-rest.rest.items c.in_ok-out.out.items c.requires.good.arena more c.requires.child kept (c.in_ok-out.ensures.forest (tree_at new nodes) (length nodes) kept) cleared in
     if_ok c.seal.result (λ r e. e ∙ ap folder added) (c.seal.ensures.folder new)
 
 pub returns-clause-sound : goal.returns-clause-sound
@@ -74,7 +74,7 @@ returns-clause-sound c =
     let kept = rw (c.as_slice.ensures.value, c.as_slice-2.ensures.value) at c.in_ok-rest.ensures.good in
     let cleared = rw (c.as_slice.ensures.value, c.as_slice-2.ensures.value) at c.in_ok-rest.ensures.forest in
     let more = c.add_some.ensures.names in
-    let added = put-added old new nodes c.args.under c.args.child c.args.name.now c.in_ok-rest.rest.items c.in_ok-out.out.items c.requires.good.arena more c.requires.child kept (c.in_ok-out.ensures.forest (tree_at new nodes) (length nodes) kept) cleared in
+    let added = put-added old new nodes c.args.child (forest (stands_of (tree_at old nodes) c.args.under)) c.args.name.now c.in_ok-rest.rest.items c.in_ok-out.out.items c.requires.good.arena more c.requires.child kept (c.in_ok-out.ensures.forest (tree_at new nodes) (length nodes) kept) cleared in
     let whole : IsSound (put c.args.name.now (stands_of (tree_at old nodes) c.args.child) (forest (stands_of (tree_at old nodes) c.args.under))) =
     put-sound c.args.name.now (stands_of (tree_at old nodes) c.args.child) (forest (stands_of (tree_at old nodes) c.args.under)) c.requires.name c.requires.sound (under-sound old nodes c.args.under c.requires.good.sound c.requires.under) in
     if_ok c.seal.result (λ r e. subst IsSoundHere (sym (e ∙ ap folder added)) (folder-sound (put c.args.name.now (stands_of (tree_at old nodes) c.args.child) (forest (stands_of (tree_at old nodes) c.args.under))) whole)) (c.seal.ensures.folder new)
