@@ -20,6 +20,10 @@ pub if_ok : {A E : Type 0} {P Q : A → Type 0} (r : Result A E) → ((x : A) �
 if_ok (Ok x) f h = f x h
 if_ok (Err e) f h = tt
 
+pub if_ok3 : {A E : Type 0} {P Q R S : A → Type 0} (r : Result A E) → ((x : A) → P x → Q x → R x → S x) → IfOk r P → IfOk r Q → IfOk r R → IfOk r S
+if_ok3 (Ok x) f p q r = f x p q r
+if_ok3 (Err e) f p q r = tt
+
 eqb_self : (n : ℕ) → eqb n n ≡ true
 eqb_self n = grind arith
 

@@ -22,3 +22,4 @@ pub mod Overwrites
 pub mod Splittings
 pub mod Openings
 pub mod Closings
+pub mod Changes

@@ -298,7 +298,7 @@ fn deleted_here(
         (flat (open_forest folders.old.names.items folders.old.nodes.items opened))) }
 {
     match child_in(folders.names.as_slice(), &opened.node, name) {
-        Some(_) => edited(alloc, folders, opened, name, None),
+        Some(_child) => edited(alloc, folders, opened, name, None),
         None => Ok(opened),
     }
 }

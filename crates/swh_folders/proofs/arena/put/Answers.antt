@@ -15,6 +15,7 @@ returns-in_err-out-clause-good c = record {
 
 pub returns-in_err-out-clause-grows : goal.returns-in_err-out-clause-grows
 returns-in_err-out-clause-grows c = record {
+  names_more = c.add_some.ensures.names;
   longer = omega arith;
   trees = λ i lt. tree-names c.args.names.now.items c.add_some.new.names.items c.args.nodes.now.items c.requires.good.arena c.add_some.ensures.names i;
 }
@@ -51,6 +52,7 @@ returns-clause-good c =
 pub returns-clause-grows : goal.returns-clause-grows
 returns-clause-grows c =
     let g = c.seal.ensures.grows c.add_some.new.names.items in record {
+      names_more = c.add_some.ensures.names;
       longer = g.longer;
       trees = λ i lt. g.trees i lt ∙ tree-names c.args.names.now.items c.add_some.new.names.items c.args.nodes.now.items c.requires.good.arena c.add_some.ensures.names i;
     }

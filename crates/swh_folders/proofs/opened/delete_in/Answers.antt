@@ -1,39 +1,28 @@
-use Rattle.std.proofs.Common.{rules, ◌≡◌, ◌≢◌, ◌≤◌, ◌∷◌, ◌++◌, [], ℕ, List, length, Some, IfOk, IfErr, ◌+◌, ◌-◌, ◌*◌, ◌<◌, ◌/◌, ◌%◌, Bool, true, false, nat_eq, nat_lt, slice_index_or, bit_and, bit_or, Fits, w8, w32, w64, Bor, MutBor}
-use Rattle.std.specs.Global.{Vec}
+use Rattle.std.proofs.Common.{◌∷◌, ◌++◌, [], ℕ, List, subst, inr}
 use Rattle.std.specs.List.{AllByRecursion}
 use Rattle.swh_base.specs.Directory.{IsEntryName}
-use Rattle.swh_folders.specs.Arena.{stands_of, forest_of, texts, tree_at, AreGood, IsIn, Extends, Grows}
-use Rattle.swh_folders.specs.Forest.{Forest, Nothing, IsFolder, child_at, put, forest, found, flat}
-use Rattle.swh_folders.specs.Roots.{IsBelow, IsGood, root_forest}
-use Rattle.swh_folders.specs.PathMap.{set, delete, held}
-use Rattle.swh_folders.specs.Transfer.{transferred}
-use Rattle.swh_folders.specs.Sound.{IsLeaf, IsSoundHere}
-use Rattle.swh_fastlex.specs.Path.{components, IsPath}
-use Rattle.swh_folders.specs.Working.{AreFolders, count_of, root_map, StaysBelow, IsBounded}
-use Rattle.swh_folders.specs.Opened.{lent_path, folder_path, own_forest, open_forest, root_of_start, number_of_start, start_map, IsOpened, IsStart, StandsIn, StaysBounded}
+use Rattle.swh_folders.specs.Opened.{lent_path, root_of_start, StaysBounded}
+use Rattle.swh_folders.proofs.Arenas.{if_ok}
+use Rattle.swh_folders.proofs.Changes.{last-name}
+use Rattle.swh_folders.proofs.Closings.{stays-self, stays-names, bounded-names}
+use Rattle.swh_folders.proofs.Components.{path-names}
 use Rattle.swh_folders.proofs.opened.delete_in.Goals as goal
 
--- src/opened.rt:354:37
 pub deleted_here-requires-clause-name : goal.deleted_here-requires-clause-name
-deleted_here-requires-clause-name c = ?
+deleted_here-requires-clause-name c = last-name (lent_path c.split_path.result.0) c.split_path.result.1.now (subst (λ (p : List (List ℕ)). AllByRecursion IsEntryName p) c.split_path.ensures (path-names c.args.path.now c.requires.path))
 
--- src/opened.rt:354:37
-pub returns-in_err-deleted_here-in-In-clause-stays :
-    goal.returns-in_err-deleted_here-in-In-clause-stays
-returns-in_err-deleted_here-in-In-clause-stays c = ?
+pub returns-in_err-deleted_here-in-In-clause-stays : goal.returns-in_err-deleted_here-in-In-clause-stays
+returns-in_err-deleted_here-in-In-clause-stays c = stays-names c.args.base c.args.folders.now c.args.folders.now c.deleted_here.new.folders (stays-self c.args.base c.args.folders.now c.requires.base c.requires.good) c.deleted_here.ensures.names c.deleted_here.ensures.nodes
 
--- src/opened.rt:354:17
 pub returns-then-same-clause-stays : goal.returns-then-same-clause-stays
-returns-then-same-clause-stays c = ?
+returns-then-same-clause-stays c = stays-names c.args.base c.args.folders.now c.args.folders.now c.deleted_here.new.folders (stays-self c.args.base c.args.folders.now c.requires.base c.requires.good) c.deleted_here.ensures.names c.deleted_here.ensures.nodes
 
--- src/opened.rt:333:1
 pub returns-in_ok-root-in-In-clause-stays : goal.returns-in_ok-root-in-In-clause-stays
-returns-in_ok-root-in-In-clause-stays c = ?
+returns-in_ok-root-in-In-clause-stays c = stays-names c.args.base c.args.folders.now c.closed.new.folders c.deleted_there.new.folders c.closed.ensures.stays c.deleted_there.ensures.names c.deleted_there.ensures.nodes
 
--- src/opened.rt:333:1
 pub returns-in_ok-root-in-In-clause-bounded : goal.returns-in_ok-root-in-In-clause-bounded
-returns-in_ok-root-in-In-clause-bounded c = ?
+returns-in_ok-root-in-In-clause-bounded c = if_ok c.deleted_there.result (λ s is. rw is
+    (bounded-names c.args.base c.args.folders.now c.closed.new.folders c.deleted_there.new.folders c.in_ok-root-in-In.root c.closed.ensures.stays.good c.deleted_there.ensures.names c.deleted_there.ensures.nodes c.deleted_there.ensures.most (inr c.in_ok-root-in-In.ensures.bounded))) c.deleted_there.ensures.root
 
--- src/opened.rt:333:1
 pub returns-in-At-clause-stays : goal.returns-in-At-clause-stays
-returns-in-At-clause-stays c = ?
+returns-in-At-clause-stays c = stays-names c.args.base c.args.folders.now c.args.folders.now c.deleted_there-in-At.new.folders (stays-self c.args.base c.args.folders.now c.requires.base c.requires.good) c.deleted_there-in-At.ensures.names c.deleted_there-in-At.ensures.nodes

@@ -1,26 +1,35 @@
-use Rattle.std.proofs.Common.{rules, ◌≡◌, ◌≢◌, ◌≤◌, ◌∷◌, ◌++◌, [], ℕ, List, length, Some, IfOk, IfErr, ◌+◌, ◌-◌, ◌*◌, ◌<◌, ◌/◌, ◌%◌, Bool, true, false, nat_eq, nat_lt, slice_index_or, bit_and, bit_or, Fits, w8, w32, w64, Bor, MutBor}
-use Rattle.std.specs.Global.{Vec}
-use Rattle.std.specs.List.{AllByRecursion}
-use Rattle.swh_base.specs.Directory.{IsEntryName}
-use Rattle.swh_folders.specs.Arena.{stands_of, forest_of, texts, tree_at, AreGood, IsIn, Extends, Grows}
-use Rattle.swh_folders.specs.Forest.{Forest, Nothing, IsFolder, child_at, put, forest, found, flat}
-use Rattle.swh_folders.specs.Roots.{IsBelow, IsGood, root_forest}
-use Rattle.swh_folders.specs.PathMap.{set, delete, held}
-use Rattle.swh_folders.specs.Transfer.{transferred}
-use Rattle.swh_folders.specs.Sound.{IsLeaf, IsSoundHere}
-use Rattle.swh_fastlex.specs.Path.{components, IsPath}
-use Rattle.swh_folders.specs.Working.{AreFolders, count_of, root_map, StaysBelow, IsBounded}
-use Rattle.swh_folders.specs.Opened.{lent_path, folder_path, own_forest, open_forest, root_of_start, number_of_start, start_map, IsOpened, IsStart, StandsIn, StaysBounded}
+use Rattle.std.proofs.Common.{rules, ◌≡◌, ℕ, length, take, refl, ap, ◌∙◌}
+use Rattle.swh_folders.specs.Arena.{Grows}
+use Rattle.swh_folders.specs.Forest.{flat}
+use Rattle.swh_folders.proofs.Changes.{IsAgain, open-again, opened-again, stays-again}
+use Rattle.swh_folders.proofs.Walks.{grows-more}
 use Rattle.swh_folders.proofs.opened.transfer_open.Goals as goal
 
--- src/opened.rt:421:9
 pub returns-in_default-clause-stays : goal.returns-in_default-clause-stays
-returns-in_default-clause-stays c = ?
+returns-in_default-clause-stays c =
+    let old = c.args.folders.now in
+    let names = c.transfer_path.new.names.items in
+    let nodes = c.transfer_path.new.nodes.items in
+    let n : c.len-count.result ≡ length old.nodes.items = search rules in
+    let grows = grows-more old.names.items c.sealed.new.names.items names old.nodes.items c.sealed.new.nodes.items nodes c.sealed.ensures.grows c.transfer_path.ensures.grows in
+    stays-again c.args.base old _ names nodes c.requires.base c.transfer_path.ensures.good grows refl (c.truncate.ensures.items ∙ ap (λ (k : ℕ). take k nodes) n)
 
--- src/opened.rt:421:9
 pub returns-in_default-clause-left : goal.returns-in_default-clause-left
-returns-in_default-clause-left c = ?
+returns-in_default-clause-left c =
+    let old = c.args.folders.now in
+    let names = c.transfer_path.new.names.items in
+    let nodes = c.transfer_path.new.nodes.items in
+    let n : c.len-count.result ≡ length old.nodes.items = search rules in
+    let grows = grows-more old.names.items c.sealed.new.names.items names old.nodes.items c.sealed.new.nodes.items nodes c.sealed.ensures.grows c.transfer_path.ensures.grows in
+    let again : IsAgain c.args.opened c.in_ok-again.again = record { root = c.in_ok-again.ensures.root; path = c.in_ok-again.ensures.path; node = c.in_ok-again.ensures.node } in
+    rw (c.truncate.ensures.items, n) (opened-again old.names.items names old.nodes.items nodes c.args.opened c.in_ok-again.again c.requires.opened grows again)
 
--- src/opened.rt:421:9
 pub returns-in_default-clause-same : goal.returns-in_default-clause-same
-returns-in_default-clause-same c = ?
+returns-in_default-clause-same c =
+    let old = c.args.folders.now in
+    let names = c.transfer_path.new.names.items in
+    let nodes = c.transfer_path.new.nodes.items in
+    let n : c.len-count.result ≡ length old.nodes.items = search rules in
+    let grows = grows-more old.names.items c.sealed.new.names.items names old.nodes.items c.sealed.new.nodes.items nodes c.sealed.ensures.grows c.transfer_path.ensures.grows in
+    let again : IsAgain c.args.opened c.in_ok-again.again = record { root = c.in_ok-again.ensures.root; path = c.in_ok-again.ensures.path; node = c.in_ok-again.ensures.node } in
+    rw (c.truncate.ensures.items, n) (ap flat (open-again old.names.items names old.nodes.items nodes c.args.opened c.in_ok-again.again c.requires.opened grows again))
