@@ -26,7 +26,7 @@ use Rattle.swh_folders.specs.declared.opened.Opened.{Opened}
 use Rattle.swh_folders.specs.declared.opened.Start.{Start}
 use Rattle.swh_folders.specs.declared.opened.Start.TheVariants.{At, In}
 use Rattle.swh_folders.specs.Opened.{open_forest, start_map, number_of_start, IsOpened, IsStart}
-use Rattle.swh_trees.specs.Held.{AreIds, IsEmptyFolder, MayBeOpened, IsHeld, first_values, maps_with, grove, start_with, opened_of, kept_number, kept_empty}
+use Rattle.swh_trees.specs.Held.{AreIds, IsEmptyFolder, MayBeOpened, IsHeld, first_values, count_with, maps_with, grove, start_with, opened_of, kept_number, kept_empty}
 use Rattle.swh_folders.specs.Live.{IsPart}
 use Rattle.swh_trees.specs.Makes.{IsFolderOf, IsNumbered, Makes, ExplainsTree}
 use Rattle.swh_trees.specs.Objects.{IsDirectoryObject, AreDirectoryObjects, ExplainsPart}
@@ -132,11 +132,6 @@ value-at f (suc n) k lt = elim (cases_lt k n) [
       let long = values-long f n in
       rw is (ap (λ (i : ℕ). get_or (first_values f n ++ f n ∷ []) i []) (sym long) ∙ get_or-append_seam (first_values f n) (f n) [] [])
 ]
-
--- how many trees have numbers, where so many folders have
-abbrev pub count_with : Option Opened → ℕ → ℕ
-count_with None n = n
-count_with (Some o) n = n + 1
 
 grove-long : (f : Folders) (opened : Option Opened) (ids : List (List ℕ)) → length (grove f.names.items f.nodes.items opened ids).folders ≡ count_with opened (count_of f)
 grove-long f None ids = values-long (map_at f.names.items f.nodes.items) (count_of f)
@@ -247,9 +242,9 @@ objects-same id_of a b from (o ∷ os) same h =
     let first = same from (omega arith) (omega arith) in
     (subst (λ (es : List DirectoryEntry). IsDirectoryObject id_of es o) first h.0, objects-same id_of a b (suc from) os (λ n le lt. same n (omega arith) (omega arith)) h.1)
 
-bare_stays : (x y : ℕ → Forest) (n : ℕ) (empty : Option ℕ) → ((j : ℕ) → j < n → y j ≡ x j) → IsEmptyFolder x n empty → IsEmptyFolder y n empty
-bare_stays x y n None stay h = tt
-bare_stays x y n (Some k) stay h = (h.0, stay k h.0 ∙ h.1)
+pub bare-stays : (x y : ℕ → Forest) (n : ℕ) (empty : Option ℕ) → ((j : ℕ) → j < n → y j ≡ x j) → IsEmptyFolder x n empty → IsEmptyFolder y n empty
+bare-stays x y n None stay h = tt
+bare-stays x y n (Some k) stay h = (h.0, stay k h.0 ∙ h.1)
 
 pub held-stays : (id_of : Kind → List ℕ → List ℕ) (a b : Folders) (opened opened' : Option Opened) (ids : List (List ℕ)) (empty : Option ℕ) → MayBeOpened b.names.items b.nodes.items opened' → IsHeld id_of a.names.items a.nodes.items opened ids empty → StaysBelow (length ids) a b → IsHeld id_of b.names.items b.nodes.items opened' ids empty
 held-stays id_of a b opened opened' ids empty o h s = record {
@@ -257,7 +252,7 @@ held-stays id_of a b opened opened' ids empty o h s = record {
   opens = o;
   within = s.long;
   known = λ j lt. h.known j lt ∙ ap (λ (f : Forest). directory_id id_of (directory (directory_id id_of) f)) (sym (s.stay j lt));
-  no_files = bare_stays (folder_at a) (folder_at b) (length ids) empty s.stay h.no_files;
+  no_files = bare-stays (folder_at a) (folder_at b) (length ids) empty s.stay h.no_files;
 }
 
 root_is : (f : Folders) (root : Option ℕ) → root_map f root ≡ flat (root_forest (folder_at f) root)
@@ -357,3 +352,26 @@ makes-from id_of a b opened ids new m tree id objects le s h = record {
   whole = h.whole;
   children = h.children;
 }
+
+-- where changes of a tree of these trees go on
+pub start-of : (v : Grove) (a : Folders) (opened taken : Option Opened) (ids : List (List ℕ)) (tree : Tree) (count : ℕ) (s : Start) → grove a.names.items a.nodes.items opened ids ≡ v → MayBeOpened a.names.items a.nodes.items opened → IsTree v tree → count ≡ count_of a → taken ≡ opened → s ≡ start_with taken tree.number count → IsStartOf a s (map_of v tree)
+start-of v a opened taken ids tree count s seen h t is took begins =
+    subst (λ (w : Start). IsStartOf a w (map_of v tree)) (sym (begins ∙ ap (λ (o : Option Opened). start_with o tree.number count) took))
+    (start-seen v a opened ids tree count seen h is t)
+
+pub tree-seen : (v : Grove) (a : Folders) (opened : Option Opened) (ids : List (List ℕ)) (tree : Tree) → grove a.names.items a.nodes.items opened ids ≡ v → IsTree v tree → IsBelow (count_with opened (count_of a)) tree.number
+tree-seen v a opened ids tree seen h = is-tree a opened ids tree (subst (λ (w : Grove). IsTree w tree) (sym seen) h)
+
+number_one : (f : Folders) (o : Opened) (n : ℕ) (b : Bool) → (n == count_of f) ≡ b → number_of_start f (cond b (In o) (At (Some n))) ≡ Some n
+number_one f o n true e = let is : n ≡ count_of f = search (rules, tests) in ap Some (sym is)
+number_one f o n false e = refl
+
+start_number : (f : Folders) (opened : Option Opened) (number : Option ℕ) → number_of_start f (start_with opened number (count_of f)) ≡ number
+start_number f None number = refl
+start_number f (Some o) None = refl
+start_number f (Some o) (Some n) = number_one f o n (n == count_of f) refl
+
+-- by which number the tree is known at which changes go on
+pub number-of : (f : Folders) (opened taken : Option Opened) (number : Option ℕ) (count : ℕ) (s : Start) → count ≡ count_of f → taken ≡ opened → s ≡ start_with taken number count → number_of_start f s ≡ number
+number-of f opened taken number count s is took begins =
+    ap (number_of_start f) (begins ∙ ap (λ (o : Option Opened). start_with o number count) took ∙ ap (start_with opened number) is) ∙ start_number f opened number

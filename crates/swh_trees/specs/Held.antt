@@ -1,5 +1,5 @@
 -- What trees hold: numbered folders, all of them sound, and the ids of the first of them.
-use Rattle.std.specs.Prelude.{◌≡◌, ℕ, zero, suc, ◌==◌, if◌then◌else◌, ◌<◌, ◌≤◌, List, [], ◌∷◌, ◌++◌, length, slice_index_or, Option, Some, None}
+use Rattle.std.specs.Prelude.{◌≡◌, ℕ, zero, suc, ◌==◌, ◌+◌, if◌then◌else◌, ◌<◌, ◌≤◌, List, [], ◌∷◌, ◌++◌, length, slice_index_or, Option, Some, None}
 use Rattle.std.specs.Global.{Vec}
 use Rattle.swh_base.specs.declared.kind.Kind.{Kind}
 use Rattle.swh_base.specs.Directory.{DirectoryEntry}
@@ -50,6 +50,11 @@ maps_with names nodes (Some o) = first_values (map_at names nodes) (length nodes
 -- what callers see
 abbrev pub grove : List (Vec ℕ) → List Listed → Option Opened → List (List ℕ) → Grove
 grove names nodes opened ids = record { folders = maps_with names nodes opened; made = length ids }
+
+-- how many trees have numbers, where so many folders have
+abbrev pub count_with : Option Opened → ℕ → ℕ
+count_with None n = n
+count_with (Some o) n = n + 1
 
 -- where changes of the tree of a number go on: in its open folder, if it has one
 abbrev pub start_with : Option Opened → Option ℕ → ℕ → Start

@@ -46,7 +46,7 @@ impl<N: Namer> Model for Trees<N> {
 
 ghost use Rattle.std.specs.Prelude.{◌≡◌, ◌↔◌, None, Some, IsTrue, IfNone, IfSome};
 ghost use Rattle.swh_folders.specs.Roots.{IsBelow};
-ghost use Rattle.swh_trees.specs.Held.{kept_number, kept_empty, start_with, opened_of};
+ghost use Rattle.swh_trees.specs.Held.{kept_number, kept_empty, count_with, start_with, opened_of};
 ghost use Rattle.swh_folders.specs.declared.folders.Folders.{Folders};
 ghost use Rattle.swh_folders.specs.Opened.{number_of_start};
 ghost use Rattle.swh_folders.specs.Working.{count_of};
@@ -67,12 +67,15 @@ fn kept(root: Option<usize>, empty: Option<usize>, number: usize) -> (Tree, Opti
     }
 }
 
-/// Whether the number, if there is one, is below the count.
-fn is_below(number: Option<usize>, count: usize) -> bool
-    ensures { IsTrue result ↔ IsBelow count number }
+/// Whether a tree has this number, where so many folders have numbers, and after them the tree whose folder is open.
+fn is_known(opened: &Option<Opened>, number: Option<usize>, count: usize) -> bool
+    ensures { IsTrue result ↔ IsBelow (count_with opened.now count) number }
 {
     match number {
-        Some(number) => number < count,
+        Some(number) => match opened {
+            Some(_) => number <= count,
+            None => number < count,
+        },
         None => true,
     }
 }
@@ -133,8 +136,7 @@ impl<N: Namer> Trees<N> {
     pub fn has(&self, tree: Tree) -> bool
         ensures { IsTrue result ↔ IsTree self.now tree }
     {
-        let count = self.folders.nodes.len();
-        is_below(tree.number, count) || (self.opened.is_some() && tree.number == Some(count))
+        is_known(&self.opened, tree.number, self.folders.nodes.len())
     }
 
     /// The tree with the leaf at the path, in place of what stood there, under it, and at its proper fronts
@@ -248,7 +250,8 @@ impl<N: Namer> Trees<N> {
     {
         let base = self.ids.len();
         let start = start_with(self.opened.take(), tree.number, self.folders.nodes.len());
-        match transfer_from(alloc, &mut self.folders, base, start, source, target, way)? {
+        let moved = transfer_from(alloc, &mut self.folders, base, start, source, target, way)?;
+        match moved {
             Ok(number) => Ok(Some(Tree { number })),
             Err(left) => {
                 let (_, opened) = parts_of(left, self.folders.nodes.len());
