@@ -63,7 +63,9 @@ delete-nothing f o c good h name none =
     let names = f.names.items in
     let nodes = f.nodes.items in
     let s = stands-own names nodes o good h in
-    delete-absent (folder_path o.path ++ c ∷ []) (open_forest names nodes o) (last-some (folder_path o.path) c) (names-with (folder_path o.path) c h.path name) (stands-own names nodes o good h).sound (found-opened names nodes o (flat (open_forest names nodes o)) c s ∙ none)
+    let p = folder_path o.path ++ c ∷ [] in
+    let m = flat (open_forest names nodes o) in
+    subst (λ (k : PathMap). k ≡ delete p k) s.map (delete-absent p s.whole (last-some (folder_path o.path) c) (names-with (folder_path o.path) c h.path name) s.sound (found-opened names nodes o m c s ∙ none))
 
 -- ## The open folder as it was, after folders came and were dropped again
 

@@ -71,7 +71,7 @@ edited-root names names' nodes o o' m c x arena more s root path own =
     ∙ ap (λ (g : Forest). forest (graft (folder_path o.path) (folder (put c x (own_forest names nodes o))) (IsFolder g))) (root-names names names' nodes o.root arena more)
     ∙ ap forest (s.change c x)
 
-last-some : (p : List (List ℕ)) (c : List ℕ) → p ++ c ∷ [] ≢ []
+pub last-some : (p : List (List ℕ)) (c : List ℕ) → p ++ c ∷ [] ≢ []
 last-some [] c e = cc
 last-some (d ∷ p) c e = cc
 

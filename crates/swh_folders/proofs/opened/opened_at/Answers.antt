@@ -18,7 +18,7 @@ returns-in_ok-root-in-In-clause-stands c =
     let nodes = c.closed.new.folders.nodes.items in
     let root = c.in_ok-root-in-In.root in
     rw c.in-In.is (if_ok3 c.taken.result (λ o path is own.
-        stands-taken names nodes o root (root_map c.closed.new.folders root) c.closed.ensures.stays.good c.in_ok-root-in-In.ensures.inside is
+        stands-taken names nodes o root _ c.closed.ensures.stays.good c.in_ok-root-in-In.ensures.inside is
         (own ∙ ap (λ (p : List (List ℕ)). forest (found p (IsFolder (root_forest (tree_at names nodes) root)))) (sym path)) c.in_ok-root-in-In.ensures.map)
     c.taken.ensures.path c.taken.ensures.root (rw (c.as_slice-names.ensures.value, c.as_slice-nodes.ensures.value) at c.taken.ensures.own))
 
