@@ -1,5 +1,5 @@
 -- What is left when a folder is opened, edited and closed.
-use Rattle.std.proofs.Common.{◌≡◌, ◌⊎◌, inl, inr, ℕ, ◌+◌, ◌*◌, ◌<◌, ◌≤◌, List, [], ◌∷◌, length, Option, Some, None, refl, sym, ap, subst, ◌∙◌, arith}
+use Rattle.std.proofs.Common.{◌≡◌, inl, inr, ℕ, ◌<◌, ◌≤◌, List, [], ◌∷◌, length, Option, Some, None, refl, sym, ap, subst, ◌∙◌}
 use Rattle.std.specs.Global.{Vec}
 use Rattle.std.specs.List.{AllByRecursion}
 use Rattle.swh_base.specs.Directory.{IsEntryName}
@@ -8,18 +8,18 @@ use Rattle.swh_folders.specs.declared.entry.Entry.{Entry}
 use Rattle.swh_folders.specs.declared.folders.Folders.{Folders}
 use Rattle.swh_folders.specs.declared.opened.Opened.{Opened}
 use Rattle.swh_folders.specs.Listed.{Listed}
-use Rattle.swh_folders.specs.Arena.{stands_of, forest_of, texts, tree_at, entries_without, AreGood, IsArena, IsIn, Extends, Grows}
-use Rattle.swh_folders.specs.Forest.{Forest, Stands, IsFolder, child_at, put, inserted, folder, forest, found, graft}
+use Rattle.swh_folders.specs.Arena.{stands_of, forest_of, texts, tree_at, entries_without, AreGood, IsIn, Extends, Grows}
+use Rattle.swh_folders.specs.Forest.{Forest, Stands, IsFolder, child_at, put, inserted, forest, found, graft}
 use Rattle.swh_folders.specs.Live.{IsPart}
 use Rattle.swh_folders.specs.Opened.{folder_path, own_forest, IsOpened, StaysBounded}
 use Rattle.swh_folders.specs.Roots.{IsBelow, IsGood, root_forest}
-use Rattle.swh_folders.specs.Sound.{IsSound, IsSoundHere}
-use Rattle.swh_folders.specs.Working.{AreFolders, folder_at, count_of, StaysBelow, AreNeeded, spare}
+use Rattle.swh_folders.specs.Sound.{IsSound}
+use Rattle.swh_folders.specs.Working.{AreFolders, folder_at, count_of, StaysBelow, AreNeeded}
 use Rattle.swh_folders.proofs.Arenas.{arena-names, sound-names, tree-names, put-added}
 use Rattle.swh_folders.proofs.EditedRoots.{root_sound}
 use Rattle.swh_folders.proofs.Openings.{root-names}
 use Rattle.swh_folders.proofs.Overwrites.{found-same, graft-same}
-use Rattle.swh_folders.proofs.Sounds.{forest-sound, child-sound, found-sound, put-sound}
+use Rattle.swh_folders.proofs.Sounds.{forest-sound, child-sound, found-sound}
 use Rattle.swh_folders.proofs.Steps.{forest-without, without-good}
 
 pub found-here : (p : List (List ℕ)) (y : Stands) (g : Forest) → forest y ≡ g → forest (found p y) ≡ forest (found p (IsFolder g))

@@ -1,16 +1,16 @@
 -- A folder that is open, and the tree that it stands in.
-use Rattle.std.proofs.Common.{◌≡◌, ◌≢◌, ℕ, ◌≤◌, List, [], ◌∷◌, ◌++◌, length, Option, Some, None, refl, sym, ap, subst, ◌∙◌, arith}
+use Rattle.std.proofs.Common.{◌≡◌, ◌≢◌, ℕ, List, [], ◌∷◌, ◌++◌, length, Option, Some, None, refl, sym, ap, ◌∙◌}
 use Rattle.std.specs.Global.{Vec}
 use Rattle.std.specs.List.{AllByRecursion}
 use Rattle.swh_base.specs.Directory.{IsEntryName}
 use Rattle.swh_folders.specs.declared.entry.Leaf.{Leaf}
 use Rattle.swh_folders.specs.declared.opened.Opened.{Opened}
 use Rattle.swh_folders.specs.Listed.{Listed}
-use Rattle.swh_folders.specs.Arena.{tree_at, IsArena, Extends, Grows}
-use Rattle.swh_folders.specs.Forest.{Forest, Stands, Nothing, IsFile, IsFolder, child_at, put, folder, forest, step, found, graft, deleted, deleted_where, flat}
+use Rattle.swh_folders.specs.Arena.{tree_at, IsArena, Extends}
+use Rattle.swh_folders.specs.Forest.{Forest, Stands, Nothing, IsFile, IsFolder, child_at, put, folder, forest, found, graft, deleted, flat}
 use Rattle.swh_folders.specs.Opened.{folder_path, own_forest, root_with, open_forest, IsOpened, StandsIn}
 use Rattle.swh_folders.specs.PathMap.{PathMap, set, delete}
-use Rattle.swh_folders.specs.Roots.{IsBelow, map_of_number, AreSound, IsGood, map_at, root_forest}
+use Rattle.swh_folders.specs.Roots.{IsBelow, map_of_number, IsGood, map_at, root_forest}
 use Rattle.swh_folders.specs.Sound.{IsLeaf, IsSound, IsSoundHere}
 use Rattle.swh_folders.proofs.Arenas.{tree-names}
 use Rattle.swh_folders.proofs.Canonical.{delete-here}

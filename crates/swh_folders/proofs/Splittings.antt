@@ -1,5 +1,5 @@
 -- A path cut at its last slash.
-use Rattle.std.proofs.Common.{rules, ◌≡◌, ◌≢◌, ℕ, suc, zero, ◌==◌, ◌<◌, ◌≤◌, ◌+◌, ◌-◌, Bool, true, false, cond, List, [], ◌∷◌, ◌++◌, length, take, drop, get_or, Contains, refl, sym, ap, subst, ◌∙◌, arith, add-one}
+use Rattle.std.proofs.Common.{◌≡◌, ◌≢◌, ℕ, suc, ◌==◌, ◌<◌, ◌≤◌, ◌+◌, ◌-◌, Bool, true, false, cond, List, [], ◌∷◌, ◌++◌, length, take, drop, get_or, Contains, refl, sym, ap, subst, ◌∙◌, arith, add-one}
 use Rattle.std.proofs.Math.Seq.{drop-cons}
 use Rattle.std.proofs.lemmas.List.{get_or-drop, take-append-drop, length-drop}
 use Rattle.std.specs.List.{onto_first}
@@ -28,5 +28,5 @@ cut-last path k lt is none =
     let rest : drop k path ≡ 47 ∷ drop (k + 1) path = rw add-one (drop-cons path k 47 lt ∙ ap (λ (c : ℕ). c ∷ drop (suc k) path) is) in
     let whole : path ≡ take k path ++ 47 ∷ drop (k + 1) path = sym (take-append-drop k path) ∙ ap (λ (r : List ℕ). take k path ++ r) rest in
     ap components whole ∙ components-last (take k path) (drop (k + 1) path) (λ h.
-        let within : h.0 < length path - (k + 1) = subst (λ (n : ℕ). h.0 < n) (length-drop (k + 1) path) h.1 in
-        none (k + 1 + h.0) (omega arith) (omega (arith, within)) (sym (get_or-drop (k + 1) path h.0 47) ∙ h.2))
+    let within : h.0 < length path - (k + 1) = subst (λ (n : ℕ). h.0 < n) (length-drop (k + 1) path) h.1 in
+    none (k + 1 + h.0) (omega arith) (omega (arith, within)) (sym (get_or-drop (k + 1) path h.0 47) ∙ h.2))

@@ -57,11 +57,7 @@ pub enum Start {
 }
 
 /// The entries of what stands here, ready for changes; none where no folder stands.
-fn entries_here(
-    alloc: Global,
-    nodes: &[Packed],
-    under: Option<Child>,
-) -> Result<Packed, AllocError>
+fn entries_here(alloc: Global, nodes: &[Packed], under: Option<Child>) -> Result<Packed, AllocError>
     requires { IsIn (length nodes.now) under }
     ensures good { (names : List (Vec ℕ)) → IsGood names nodes.now
         → IfOk result (λ p. AreGood (length names) (length nodes.now) p.items) }

@@ -3,7 +3,7 @@ use Rattle.std.proofs.Common.{rules, tests, ◌≡◌, ◌≢◌, ℕ, zero, suc
 use Rattle.std.proofs.Math.Seq.{get_or-append_seam}
 use Rattle.std.proofs.lemmas.Bool.{cases_lt}
 use Rattle.std.proofs.lemmas.List.{get_or_default, get_or_append_left, length-append}
-use Rattle.std.specs.Prelude.{IfNone, IfSome, OnErr, Result, Ok, Err}
+use Rattle.std.specs.Prelude.{OnErr, Result, Ok, Err}
 use Rattle.swh_base.specs.declared.entry.Entry.{Entry as Object}
 use Rattle.swh_base.specs.declared.kind.Kind.{Kind}
 use Rattle.swh_base.specs.Directory.{DirectoryEntry, directory_text}
@@ -26,7 +26,7 @@ use Rattle.swh_folders.specs.declared.opened.Opened.{Opened}
 use Rattle.swh_folders.specs.declared.opened.Start.{Start}
 use Rattle.swh_folders.specs.declared.opened.Start.TheVariants.{At, In}
 use Rattle.swh_folders.specs.Opened.{open_forest, start_map, number_of_start, IsOpened, IsStart}
-use Rattle.swh_trees.specs.Held.{AreIds, IsEmptyFolder, MayBeOpened, IsHeld, first_values, count_with, maps_with, grove, start_with, opened_of, kept_number, kept_empty}
+use Rattle.swh_trees.specs.Held.{AreIds, IsEmptyFolder, MayBeOpened, IsHeld, first_values, count_with, grove, start_with, opened_of, kept_number, kept_empty}
 use Rattle.swh_folders.specs.Live.{IsPart}
 use Rattle.swh_trees.specs.Makes.{IsFolderOf, IsNumbered, Makes, ExplainsTree}
 use Rattle.swh_trees.specs.Objects.{IsDirectoryObject, AreDirectoryObjects, ExplainsPart}
@@ -372,6 +372,6 @@ start_number f (Some o) None = refl
 start_number f (Some o) (Some n) = number_one f o n (n == count_of f) refl
 
 -- by which number the tree is known at which changes go on
-pub number-of : (f : Folders) (opened taken : Option Opened) (number : Option ℕ) (count : ℕ) (s : Start) → count ≡ count_of f → taken ≡ opened → s ≡ start_with taken number count → number_of_start f s ≡ number
-number-of f opened taken number count s is took begins =
+pub number-start : (f : Folders) (opened taken : Option Opened) (number : Option ℕ) (count : ℕ) (s : Start) → count ≡ count_of f → taken ≡ opened → s ≡ start_with taken number count → number_of_start f s ≡ number
+number-start f opened taken number count s is took begins =
     ap (number_of_start f) (begins ∙ ap (λ (o : Option Opened). start_with o number count) took ∙ ap (start_with opened number) is) ∙ start_number f opened number

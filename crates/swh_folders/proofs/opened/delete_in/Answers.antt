@@ -1,7 +1,7 @@
-use Rattle.std.proofs.Common.{◌∷◌, ◌++◌, [], ℕ, List, subst, inr}
+use Rattle.std.proofs.Common.{ℕ, List, subst, inr}
 use Rattle.std.specs.List.{AllByRecursion}
 use Rattle.swh_base.specs.Directory.{IsEntryName}
-use Rattle.swh_folders.specs.Opened.{lent_path, root_of_start, StaysBounded}
+use Rattle.swh_folders.specs.Opened.{lent_path}
 use Rattle.swh_folders.proofs.Arenas.{if_ok}
 use Rattle.swh_folders.proofs.Changes.{last-name}
 use Rattle.swh_folders.proofs.Closings.{stays-self, stays-names, bounded-names}

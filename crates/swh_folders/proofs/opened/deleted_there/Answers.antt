@@ -7,7 +7,6 @@ use Rattle.swh_folders.specs.Forest.{Nothing, IsFolder, child_at, forest, found}
 use Rattle.swh_folders.specs.Opened.{lent_path, folder_path, own_forest}
 use Rattle.swh_folders.specs.Roots.{root_forest}
 use Rattle.swh_folders.specs.Working.{root_map}
-use Rattle.swh_folders.proofs.Arenas.{if_ok3}
 use Rattle.swh_folders.proofs.Changes.{front-names, last-name, delete-in, stands-there}
 use Rattle.swh_folders.proofs.Components.{path-names}
 use Rattle.swh_folders.proofs.EditedRoots.{from-root, here-sound, deleted-none, some-stands}

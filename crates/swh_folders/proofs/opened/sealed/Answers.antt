@@ -1,6 +1,6 @@
-use Rattle.std.proofs.Common.{◌≡◌, ℕ, List, length, ap, sym, ◌∙◌}
+use Rattle.std.proofs.Common.{length, ap, ◌∙◌}
 use Rattle.swh_folders.specs.Arena.{stands_of, forest_of, tree_at, texts}
-use Rattle.swh_folders.specs.Forest.{Stands, Forest, IsFolder, folder, forest, graft}
+use Rattle.swh_folders.specs.Forest.{Stands, folder, forest, graft}
 use Rattle.swh_fastlex.specs.Path.{components}
 use Rattle.swh_folders.specs.Roots.{root_forest}
 use Rattle.swh_folders.proofs.Closings.{graft-here, root-grown}

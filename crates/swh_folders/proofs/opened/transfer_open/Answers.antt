@@ -1,5 +1,4 @@
 use Rattle.std.proofs.Common.{rules, ◌≡◌, ℕ, length, take, refl, ap, ◌∙◌}
-use Rattle.swh_folders.specs.Arena.{Grows}
 use Rattle.swh_folders.specs.Forest.{flat}
 use Rattle.swh_folders.proofs.Changes.{IsAgain, open-again, opened-again, stays-again}
 use Rattle.swh_folders.proofs.Walks.{grows-more}

@@ -29,5 +29,5 @@ returns-clause-map g c =
     let n : c.len.result ≡ count_of a = search rules in
     let last : c.len-2.result ≡ count_of b = search rules in
     let start = start-of _ a c.self.inside.opened c.take.result ids c.args.tree c.len.result c.start_with-start.result c.self.view_is c.self.invariant.opens c.requires.tree n c.take.ensures.value c.start_with-start.ensures in
-    rw c.parts_of-opened.ensures.opened (stands-start b c.in_ok-left.left ids _ _ c.in_ok-left.ensures.start (c.parts_of-opened.ensures.number b last)
+    rw c.parts_of-number.ensures.opened (stands-start b c.in_ok-left.left ids _ _ c.in_ok-left.ensures.start (c.parts_of-number.ensures.number b last)
     (c.in_ok-left.ensures.map ∙ ap (delete (components c.args.path.now)) start.1))

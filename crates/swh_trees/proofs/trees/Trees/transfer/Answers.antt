@@ -3,7 +3,7 @@ use Rattle.swh_fastlex.specs.Path.{components}
 use Rattle.swh_folders.specs.PathMap.{PathMap, held}
 use Rattle.swh_folders.specs.Transfer.{transferred}
 use Rattle.swh_folders.specs.Working.{count_of}
-use Rattle.swh_trees.proofs.Parts.{keeps-seen, number-of, stands-for, stands-start, start-of}
+use Rattle.swh_trees.proofs.Parts.{keeps-seen, number-start, stands-for, stands-start, start-of}
 use Rattle.swh_trees.proofs.trees.Trees.transfer.Goals as goal
 
 pub transfer_from-requires-clause-start : goal.transfer_from-requires-clause-start
@@ -56,6 +56,6 @@ returns-in-Err-clause-left g c =
     let ids = c.self.inside.ids.items in
     let n : c.len.result ≡ count_of a = search rules in
     let start = start-of _ a c.self.inside.opened c.take.result ids c.args.tree c.len.result c.start_with-start.result c.self.view_is c.self.invariant.opens c.requires.tree n c.take.ensures.value c.start_with-start.ensures in
-    let number = number-of a c.self.inside.opened c.take.result c.args.tree.number c.len.result c.start_with-start.result n c.take.ensures.value c.start_with-start.ensures in
+    let number = number-start a c.self.inside.opened c.take.result c.args.tree.number c.len.result c.start_with-start.result n c.take.ensures.value c.start_with-start.ensures in
     rw c.parts_of-opened.ensures.opened (stands-start b c.in-Err.left ids c.args.tree _ (rw c.in-Err.is at c.in_ok-moved.ensures.left) (sym ((rw c.in-Err.is at c.in_ok-moved.ensures.number) ∙ number))
     ((rw c.in-Err.is at c.in_ok-moved.ensures.same) ∙ start.1))
