@@ -20,6 +20,10 @@ pub if_ok : {A E : Type 0} {P Q : A → Type 0} (r : Result A E) → ((x : A) �
 if_ok (Ok x) f h = f x h
 if_ok (Err e) f h = tt
 
+pub if_ok3 : {A E : Type 0} {P Q R S : A → Type 0} (r : Result A E) → ((x : A) → P x → Q x → R x → S x) → IfOk r P → IfOk r Q → IfOk r R → IfOk r S
+if_ok3 (Ok x) f p q r = f x p q r
+if_ok3 (Err e) f p q r = tt
+
 eqb_self : (n : ℕ) → eqb n n ≡ true
 eqb_self n = grind arith
 
@@ -208,8 +212,8 @@ under-sound names nodes (Some (FileChild l)) sound low = tt
 under-sound names nodes (Some (FolderChild j)) sound low = sound j low
 
 -- what the entries of a folder are after one was dropped and one was put
-pub put-added : (names names' : List (Vec ℕ)) (nodes : List Listed) (under child : Option Child) (name : List ℕ) (kept out : List Entry) → IsArena names nodes → Extends names names' → IsIn (length nodes) child → AreGood (length names) (length nodes) kept → forest_of (texts names') (tree_at names' nodes) out ≡ inserted name (stands_of (tree_at names' nodes) child) (forest_of (texts names) (tree_at names' nodes) kept) → forest_of (texts names) (tree_at names nodes) kept ≡ without name (forest (stands_of (tree_at names nodes) under)) → forest_of (texts names') (tree_at names' nodes) out ≡ put name (stands_of (tree_at names nodes) child) (forest (stands_of (tree_at names nodes) under))
-put-added names names' nodes under child name kept out arena more low good added cleared =
+pub put-added : (names names' : List (Vec ℕ)) (nodes : List Listed) (child : Option Child) (f : Forest) (name : List ℕ) (kept out : List Entry) → IsArena names nodes → Extends names names' → IsIn (length nodes) child → AreGood (length names) (length nodes) kept → forest_of (texts names') (tree_at names' nodes) out ≡ inserted name (stands_of (tree_at names' nodes) child) (forest_of (texts names) (tree_at names' nodes) kept) → forest_of (texts names) (tree_at names nodes) kept ≡ without name f → forest_of (texts names') (tree_at names' nodes) out ≡ put name (stands_of (tree_at names nodes) child) f
+put-added names names' nodes child f name kept out arena more low good added cleared =
     let old = tree_at names nodes in
     let new = tree_at names' nodes in
     let n = length nodes in

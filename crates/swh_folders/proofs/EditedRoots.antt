@@ -20,11 +20,11 @@ use Rattle.swh_folders.proofs.Puts.{set-here, copy-here, rename-here, held-root,
 use Rattle.swh_folders.proofs.Sounds.{child-sound, found-sound}
 
 -- the map of a root's number is that of its folder
-root_flat : (names : List (Vec ℕ)) (nodes : List Listed) (r : Option ℕ) → map_of_number (map_at names nodes) r ≡ flat (root_forest (tree_at names nodes) r)
+pub root_flat : (names : List (Vec ℕ)) (nodes : List Listed) (r : Option ℕ) → map_of_number (map_at names nodes) r ≡ flat (root_forest (tree_at names nodes) r)
 root_flat names nodes None = refl
 root_flat names nodes (Some n) = refl
 
-root_sound : (names : List (Vec ℕ)) (nodes : List Listed) (r : Option ℕ) → AreSound names nodes → IsBelow (length nodes) r → IsSound (root_forest (tree_at names nodes) r)
+pub root_sound : (names : List (Vec ℕ)) (nodes : List Listed) (r : Option ℕ) → AreSound names nodes → IsBelow (length nodes) r → IsSound (root_forest (tree_at names nodes) r)
 root_sound names nodes None sound low = tt
 root_sound names nodes (Some n) sound low = sound n low
 
@@ -47,7 +47,7 @@ deleted-none path y m is_path sound from none =
     let stays : deleted (components path) y ≡ y = rw none refl in
     sym from ∙ ap (λ (x : Stands). flat (forest x)) (sym stays) ∙ gone ∙ ap (delete (components path)) from
 
-deleted_one : (p : List (List ℕ)) (y x : Stands) → found p y ≡ x → x ≢ Nothing → deleted p y ≡ graft p Nothing y
+pub deleted_one : (p : List (List ℕ)) (y x : Stands) → found p y ≡ x → x ≢ Nothing → deleted p y ≡ graft p Nothing y
 deleted_one p y Nothing is ne = absurd (ne refl)
 deleted_one p y (IsFile l) is ne = rw is refl
 deleted_one p y (IsFolder g) is ne = rw is refl

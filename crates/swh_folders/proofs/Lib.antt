@@ -18,3 +18,8 @@ pub mod Orders
 pub mod Ordering
 pub mod Indexes
 pub mod Options
+pub mod Overwrites
+pub mod Splittings
+pub mod Openings
+pub mod Closings
+pub mod Changes

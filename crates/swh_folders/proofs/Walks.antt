@@ -7,7 +7,7 @@ use Rattle.std.specs.Global.{Vec}
 use Rattle.swh_folders.specs.Listed.{Listed}
 use Rattle.swh_folders.specs.declared.entry.Child.{Child}
 use Rattle.swh_folders.specs.Forest.{Stands, put, folder, forest, step, found, graft}
-use Rattle.swh_folders.specs.Arena.{parts_of, IsIn, Grows}
+use Rattle.swh_folders.specs.Arena.{parts_of, IsIn, Extends, Grows}
 use Rattle.swh_folders.proofs.Arenas.{lower-more}
 
 pub found-more : (p : List (List ℕ)) (k : ℕ) (y : Stands) → k < length p → found (take (k + 1) p) y ≡ step (get_or p k []) (found (take k p) y)
@@ -30,14 +30,24 @@ pub in-more : (k k' : ℕ) (c : Option Child) → k ≤ k' → IsIn k c → IsIn
 in-more k k' None le h = tt
 in-more k k' (Some c) le h = lower-more k k' c le h
 
+pub extends-none : (names : List (Vec ℕ)) → Extends names names
+extends-none names = record { longer = omega arith; same_names = λ i lt. refl }
+
+pub extends-on : (a b c : List (Vec ℕ)) → Extends a b → Extends b c → Extends a c
+extends-on a b c g h = record {
+  longer = let k = g.longer in let l = h.longer in omega arith;
+  same_names = λ i lt. let k = g.longer in h.same_names i (omega arith) ∙ g.same_names i lt;
+}
+
 pub grows-more : (n n' n'' : List (Vec ℕ)) (o o' o'' : List Listed) → Grows n o n' o' → Grows n' o' n'' o'' → Grows n o n'' o''
 grows-more n n' n'' o o' o'' g h = record {
+  names_more = extends-on n n' n'' g.names_more h.names_more;
   longer = let a = g.longer in let b = h.longer in omega arith;
   trees = λ i lt. let a = g.longer in h.trees i (omega arith) ∙ g.trees i lt;
 }
 
 pub grows-none : (n : List (Vec ℕ)) (o : List Listed) → Grows n o n o
-grows-none n o = record { longer = omega arith; trees = λ i lt. refl }
+grows-none n o = record { names_more = extends-none n; longer = omega arith; trees = λ i lt. refl }
 
 pub length-parts_of : (path : List (Bor (List ℕ))) → length (parts_of path) ≡ length path
 length-parts_of path = length-map path (λ (b : Bor (List ℕ)). b.now)

@@ -97,15 +97,16 @@ abbrev pub IsIn : ℕ → Option Child → Type 0
 IsIn n None = Unit {0}
 IsIn n (Some c) = IsLower n c
 
--- numbers mean what they meant
-pub record Grows (names : List (Vec ℕ)) (nodes : List Listed) (names' : List (Vec ℕ)) (nodes' : List Listed) : Type 0 where
-  pub longer : length nodes ≤ length nodes'
-  pub trees : (i : ℕ) → i < length nodes → tree_at names' nodes' i ≡ tree_at names nodes i
-
 -- names kept, and maybe more
 pub record Extends (names names' : List (Vec ℕ)) : Type 0 where
   pub longer : length names ≤ length names'
   pub same_names : (i : ℕ) → i < length names → name_at (texts names') i ≡ name_at (texts names) i
+
+-- numbers mean what they meant
+pub record Grows (names : List (Vec ℕ)) (nodes : List Listed) (names' : List (Vec ℕ)) (nodes' : List Listed) : Type 0 where
+  pub names_more : Extends names names'
+  pub longer : length nodes ≤ length nodes'
+  pub trees : (i : ℕ) → i < length nodes → tree_at names' nodes' i ≡ tree_at names nodes i
 
 -- the components that are borrowed
 abbrev pub parts_of : List (Bor (List ℕ)) → List (List ℕ)

@@ -7,6 +7,7 @@ pub mod Live
 pub mod Moved
 pub mod Named
 pub mod Ordered
+pub mod Opened
 pub mod Packing
 pub mod PathMap
 pub mod Roots

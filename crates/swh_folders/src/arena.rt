@@ -72,7 +72,7 @@ fn cleared(
 }
 
 /// The entries, and the child, if there is one, under this name.
-fn add_some(
+pub fn add_some(
     alloc: Global,
     names: &mut Names,
     out: Packed,
@@ -102,7 +102,7 @@ fn add_some(
 }
 
 /// The folder of these entries, if there are any.
-fn seal(nodes: &mut Vec<Packed>, out: Packed) -> Result<Option<Child>, AllocError>
+pub fn seal(nodes: &mut Vec<Packed>, out: Packed) -> Result<Option<Child>, AllocError>
     ensures arena { (names : List (Vec ℕ)) → IsArena names nodes.old.items
         → AreGood (length names) (length nodes.old.items) out.items → IsArena names nodes.new.items }
     ensures grows { (names : List (Vec ℕ)) → Grows names nodes.old.items names nodes.new.items }

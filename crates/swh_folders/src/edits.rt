@@ -26,7 +26,7 @@ pub enum Transfer {
 }
 
 /// What stands at a root.
-fn root_of(number: Option<usize>) -> Option<Child>
+pub fn root_of(number: Option<usize>) -> Option<Child>
     ensures inside { (n : ℕ) → IsBelow n number → IsIn n result }
     ensures same { (at : ℕ → Forest) → forest (stands_of at result) ≡ root_forest at number }
 {
@@ -37,7 +37,7 @@ fn root_of(number: Option<usize>) -> Option<Child>
 }
 
 /// The number of the folder that stands here.
-fn number_of(child: Option<Child>) -> Option<usize>
+pub fn number_of(child: Option<Child>) -> Option<usize>
     ensures inside { (n : ℕ) → IsIn n child → IsBelow n result }
     ensures same { (at : ℕ → Forest) → root_forest at result ≡ forest (stands_of at child) }
 {
@@ -46,63 +46,6 @@ fn number_of(child: Option<Child>) -> Option<usize>
         Some(Child::File(_)) => None,
         None => None,
     }
-}
-
-/// The tree with the leaf at the path.
-pub fn set_leaf(
-    alloc: Global,
-    names: &mut Names,
-    nodes: &mut Vec<Packed>,
-    root: Option<usize>,
-    path: &[u8],
-    leaf: Leaf,
-) -> Result<Option<usize>, AllocError>
-    requires good { IsGood names.old.items nodes.old.items }
-    requires root { IsBelow (length nodes.old.items) root }
-    requires path { IsPath path.now }
-    requires leaf { IsLeaf leaf }
-    ensures good { IsGood names.new.items nodes.new.items }
-    ensures grows { Grows names.old.items nodes.old.items names.new.items nodes.new.items }
-    ensures inside { IfOk result (λ r. IsBelow (length nodes.new.items) r) }
-    ensures map { IfOk result (λ r. map_of_number (map_at names.new.items nodes.new.items) r
-        ≡ set (components path.now) leaf (map_of_number (map_at names.old.items nodes.old.items) root)) }
-{
-    let parts = components_of(alloc, path)?;
-    let there = graft(
-        alloc,
-        names,
-        nodes,
-        root_of(root),
-        parts.as_slice(),
-        Some(Child::File(leaf)),
-    )?;
-    Ok(number_of(there))
-}
-
-/// The tree without what stands at the path and under it.
-pub fn delete_path(
-    alloc: Global,
-    names: &mut Names,
-    nodes: &mut Vec<Packed>,
-    root: Option<usize>,
-    path: &[u8],
-) -> Result<Option<usize>, AllocError>
-    requires good { IsGood names.old.items nodes.old.items }
-    requires root { IsBelow (length nodes.old.items) root }
-    requires path { IsPath path.now }
-    ensures good { IsGood names.new.items nodes.new.items }
-    ensures grows { Grows names.old.items nodes.old.items names.new.items nodes.new.items }
-    ensures inside { IfOk result (λ r. IsBelow (length nodes.new.items) r) }
-    ensures map { IfOk result (λ r. map_of_number (map_at names.new.items nodes.new.items) r
-        ≡ delete (components path.now) (map_of_number (map_at names.old.items nodes.old.items) root)) }
-{
-    let parts = components_of(alloc, path)?;
-    let here = root_of(root);
-    let Some(_child) = find(names.as_slice(), nodes.as_slice(), here, parts.as_slice()) else {
-        return Ok(root);
-    };
-    let there = graft(alloc, names, nodes, here, parts.as_slice(), None)?;
-    Ok(number_of(there))
 }
 
 /// What is left of what stands here before a transfer: all of it, or for a rename all but what stands at the source.

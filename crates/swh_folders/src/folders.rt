@@ -9,8 +9,7 @@ ghost use Rattle.swh_folders.specs.Sound.{IsLeaf};
 ghost use Rattle.swh_folders.specs.Working.{AreFolders, count_of, root_map, StaysBelow, spare, IsBounded};
 
 use crate::compacting::compact;
-use crate::edits::{Transfer, delete_path, set_leaf, transfer_path};
-use crate::entry::Leaf;
+use crate::edits::{Transfer, transfer_path};
 use crate::known::Known;
 use crate::names::Names;
 use crate::packed::Packed;
@@ -92,7 +91,7 @@ pub fn count_from(folders: &mut Folders, first: usize)
 }
 
 /// The root, after folders that it does not need were dropped where there are many of them.
-fn settled(
+pub fn settled(
     alloc: Global,
     folders: &mut Folders,
     base: usize,
@@ -117,58 +116,6 @@ fn settled(
     let there = compact(alloc, &mut folders.nodes, &folders.known, base, number)?;
     count_from(folders, base);
     Ok(Some(there))
-}
-
-/// The tree with the leaf at the path.
-pub fn set_in(
-    alloc: Global,
-    folders: &mut Folders,
-    base: usize,
-    root: Option<usize>,
-    path: &[u8],
-    leaf: Leaf,
-) -> Result<Option<usize>, AllocError>
-    requires good { AreFolders folders.old }
-    requires base { base ≤ count_of folders.old }
-    requires root { IsBelow (count_of folders.old) root }
-    requires path { IsPath path.now }
-    requires leaf { IsLeaf leaf }
-    ensures stays { StaysBelow base folders.old folders.new }
-    ensures inside { IfOk result (λ r. IsBelow (count_of folders.new) r) }
-    ensures bounded { IfOk result (IsBounded base folders.old folders.new) }
-    ensures map { IfOk result (λ r. root_map folders.new r
-        ≡ set (components path.now) leaf (root_map folders.old root)) }
-{
-    let there = set_leaf(
-        alloc,
-        &mut folders.names,
-        &mut folders.nodes,
-        root,
-        path,
-        leaf,
-    )?;
-    settled(alloc, folders, base, there)
-}
-
-/// The tree without what stands at the path and under it.
-pub fn delete_in(
-    alloc: Global,
-    folders: &mut Folders,
-    base: usize,
-    root: Option<usize>,
-    path: &[u8],
-) -> Result<Option<usize>, AllocError>
-    requires good { AreFolders folders.old }
-    requires base { base ≤ count_of folders.old }
-    requires root { IsBelow (count_of folders.old) root }
-    requires path { IsPath path.now }
-    ensures stays { StaysBelow base folders.old folders.new }
-    ensures inside { IfOk result (λ r. IsBelow (count_of folders.new) r) }
-    ensures bounded { IfOk result (IsBounded base folders.old folders.new) }
-    ensures map { IfOk result (λ r. root_map folders.new r ≡ delete (components path.now) (root_map folders.old root)) }
-{
-    let there = delete_path(alloc, &mut folders.names, &mut folders.nodes, root, path)?;
-    settled(alloc, folders, base, there)
 }
 
 /// The tree with what the source holds at the target, and at the source too where the transfer is a copy. None where the

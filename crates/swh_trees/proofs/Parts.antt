@@ -1,9 +1,9 @@
 -- The folders of a map are those of its root's folder, and each has a number.
-use Rattle.std.proofs.Common.{◌≡◌, ◌≢◌, ℕ, zero, suc, ◌+◌, ◌<◌, ◌≤◌, Bool, true, false, cond, List, [], ◌∷◌, ◌++◌, length, get_or, Option, Some, None, refl, sym, ap, subst, ◌∙◌, inl, inr, arith}
+use Rattle.std.proofs.Common.{rules, tests, ◌≡◌, ◌≢◌, ℕ, zero, suc, ◌+◌, ◌<◌, ◌≤◌, Bool, true, false, cond, List, [], ◌∷◌, ◌++◌, length, get_or, Option, Some, None, refl, sym, ap, subst, ◌∙◌, inl, inr, arith, ◌==◌}
 use Rattle.std.proofs.Math.Seq.{get_or-append_seam}
 use Rattle.std.proofs.lemmas.Bool.{cases_lt}
 use Rattle.std.proofs.lemmas.List.{get_or_default, get_or_append_left, length-append}
-use Rattle.std.specs.Prelude.{IfNone, IfSome, OnErr, Result, Ok, Err}
+use Rattle.std.specs.Prelude.{OnErr, Result, Ok, Err}
 use Rattle.swh_base.specs.declared.entry.Entry.{Entry as Object}
 use Rattle.swh_base.specs.declared.kind.Kind.{Kind}
 use Rattle.swh_base.specs.Directory.{DirectoryEntry, directory_text}
@@ -22,7 +22,11 @@ use Rattle.swh_folders.specs.Forest.{Forest, Stands, Nothing, IsFile, IsFolder, 
 use Rattle.swh_trees.specs.Listing.{directory}
 use Rattle.swh_trees.specs.Grove.{Grove, StandsFor, Keeps, IsTree, folder_map, map_of}
 use Rattle.swh_folders.specs.Roots.{IsBelow, map_of_number, map_at, root_forest}
-use Rattle.swh_trees.specs.Held.{AreIds, IsEmptyFolder, IsHeld, first_values, grove, kept_number, kept_empty}
+use Rattle.swh_folders.specs.declared.opened.Opened.{Opened}
+use Rattle.swh_folders.specs.declared.opened.Start.{Start}
+use Rattle.swh_folders.specs.declared.opened.Start.TheVariants.{At, In}
+use Rattle.swh_folders.specs.Opened.{open_forest, start_map, number_of_start, IsOpened, IsStart}
+use Rattle.swh_trees.specs.Held.{AreIds, IsEmptyFolder, MayBeOpened, IsHeld, first_values, count_with, grove, start_with, opened_of, kept_number, kept_empty}
 use Rattle.swh_folders.specs.Live.{IsPart}
 use Rattle.swh_trees.specs.Makes.{IsFolderOf, IsNumbered, Makes, ExplainsTree}
 use Rattle.swh_trees.specs.Objects.{IsDirectoryObject, AreDirectoryObjects, ExplainsPart}
@@ -129,50 +133,101 @@ value-at f (suc n) k lt = elim (cases_lt k n) [
       rw is (ap (λ (i : ℕ). get_or (first_values f n ++ f n ∷ []) i []) (sym long) ∙ get_or-append_seam (first_values f n) (f n) [] [])
 ]
 
-grove-long : (f : Folders) (ids : List (List ℕ)) → length (grove f.names.items f.nodes.items ids).folders ≡ count_of f
-grove-long f ids = values-long (map_at f.names.items f.nodes.items) (count_of f)
+grove-long : (f : Folders) (opened : Option Opened) (ids : List (List ℕ)) → length (grove f.names.items f.nodes.items opened ids).folders ≡ count_with opened (count_of f)
+grove-long f None ids = values-long (map_at f.names.items f.nodes.items) (count_of f)
+grove-long f (Some o) ids =
+    let maps = first_values (map_at f.names.items f.nodes.items) (count_of f) in
+    let long = values-long (map_at f.names.items f.nodes.items) (count_of f) in
+    length-append maps (flat (open_forest f.names.items f.nodes.items o) ∷ []) ∙ ap (λ (n : ℕ). n + 1) long
 
-grove-at : (f : Folders) (ids : List (List ℕ)) (n : ℕ) → n < count_of f → folder_map (grove f.names.items f.nodes.items ids) n ≡ flat (folder_at f n)
-grove-at f ids n lt = value-at (map_at f.names.items f.nodes.items) (count_of f) n lt
+grove-at : (f : Folders) (opened : Option Opened) (ids : List (List ℕ)) (n : ℕ) → n < count_of f → folder_map (grove f.names.items f.nodes.items opened ids) n ≡ flat (folder_at f n)
+grove-at f None ids n lt = value-at (map_at f.names.items f.nodes.items) (count_of f) n lt
+grove-at f (Some o) ids n lt =
+    let maps = first_values (map_at f.names.items f.nodes.items) (count_of f) in
+    let long = values-long (map_at f.names.items f.nodes.items) (count_of f) in
+    get_or_append_left maps (flat (open_forest f.names.items f.nodes.items o) ∷ []) [] n (omega (arith, long)) ∙ value-at (map_at f.names.items f.nodes.items) (count_of f) n lt
+
+grove-open : (f : Folders) (o : Opened) (ids : List (List ℕ)) → folder_map (grove f.names.items f.nodes.items (Some o) ids) (count_of f) ≡ flat (open_forest f.names.items f.nodes.items o)
+grove-open f o ids =
+    let maps = first_values (map_at f.names.items f.nodes.items) (count_of f) in
+    let m = flat (open_forest f.names.items f.nodes.items o) in
+    let long = values-long (map_at f.names.items f.nodes.items) (count_of f) in
+    ap (λ (n : ℕ). get_or (maps ++ m ∷ []) n []) (sym long) ∙ get_or-append_seam maps m [] []
 
 below_is : (n m : ℕ) (k : Option ℕ) → n ≡ m → IsBelow n k → IsBelow m k
 below_is n m None e h = tt
 below_is n m (Some k) e h = omega arith
 
-pub is-tree : (f : Folders) (ids : List (List ℕ)) (tree : Tree) → IsTree (grove f.names.items f.nodes.items ids) tree → IsBelow (count_of f) tree.number
-is-tree f ids tree h = below_is _ (count_of f) tree.number (grove-long f ids) h
+pub is-tree : (f : Folders) (opened : Option Opened) (ids : List (List ℕ)) (tree : Tree) → IsTree (grove f.names.items f.nodes.items opened ids) tree → IsBelow (count_with opened (count_of f)) tree.number
+is-tree f opened ids tree h = below_is _ (count_with opened (count_of f)) tree.number (grove-long f opened ids) h
 
-pub tree-is : (f : Folders) (ids : List (List ℕ)) (tree : Tree) → IsBelow (count_of f) tree.number → IsTree (grove f.names.items f.nodes.items ids) tree
-tree-is f ids tree h = below_is (count_of f) _ tree.number (sym (grove-long f ids)) h
+pub tree-is : (f : Folders) (opened : Option Opened) (ids : List (List ℕ)) (tree : Tree) → IsBelow (count_with opened (count_of f)) tree.number → IsTree (grove f.names.items f.nodes.items opened ids) tree
+tree-is f opened ids tree h = below_is (count_with opened (count_of f)) _ tree.number (sym (grove-long f opened ids)) h
 
-map_is : (f : Folders) (ids : List (List ℕ)) (number : Option ℕ) → IsBelow (count_of f) number → map_of_number (folder_map (grove f.names.items f.nodes.items ids)) number ≡ root_map f number
-map_is f ids None low = refl
-map_is f ids (Some n) low = grove-at f ids n low
+low_with : (opened : Option Opened) (n : ℕ) (k : Option ℕ) → IsBelow n k → IsBelow (count_with opened n) k
+low_with opened n None low = tt
+low_with None n (Some k) low = low
+low_with (Some o) n (Some k) low = omega arith
 
-pub map-is : (f : Folders) (ids : List (List ℕ)) (tree : Tree) → IsBelow (count_of f) tree.number → map_of (grove f.names.items f.nodes.items ids) tree ≡ root_map f tree.number
-map-is f ids tree low = map_is f ids tree.number low
+map_is : (f : Folders) (opened : Option Opened) (ids : List (List ℕ)) (number : Option ℕ) → IsBelow (count_of f) number → map_of_number (folder_map (grove f.names.items f.nodes.items opened ids)) number ≡ root_map f number
+map_is f opened ids None low = refl
+map_is f opened ids (Some n) low = grove-at f opened ids n low
 
-pub stands-for : (f : Folders) (ids : List (List ℕ)) (tree : Tree) (m : PathMap) → IsBelow (count_of f) tree.number → root_map f tree.number ≡ m → StandsFor (grove f.names.items f.nodes.items ids) tree m
-stands-for f ids tree m low is = record { inside = below_is (count_of f) _ tree.number (sym (grove-long f ids)) low; map = map-is f ids tree low ∙ is }
+-- a tree whose number is a folder's
+pub stands-for : (f : Folders) (opened : Option Opened) (ids : List (List ℕ)) (tree : Tree) (m : PathMap) → IsBelow (count_of f) tree.number → root_map f tree.number ≡ m → StandsFor (grove f.names.items f.nodes.items opened ids) tree m
+stands-for f opened ids tree m low is = record { inside = tree-is f opened ids tree (low_with opened (count_of f) tree.number low); map = map_is f opened ids tree.number low ∙ is }
 
-pub keeps-stays : (a b : Folders) (ids ids' : List (List ℕ)) → length ids ≤ count_of a → StaysBelow (length ids) a b → length ids' ≡ length ids → Keeps (grove a.names.items a.nodes.items ids) (grove b.names.items b.nodes.items ids')
-keeps-stays a b ids ids' le s same = record {
+stands_open : (f : Folders) (o : Opened) (ids : List (List ℕ)) (number : Option ℕ) → number ≡ Some (count_of f) → IsBelow (count_of f + 1) number × (map_of_number (folder_map (grove f.names.items f.nodes.items (Some o) ids)) number ≡ flat (open_forest f.names.items f.nodes.items o))
+stands_open f o ids number is = rw is (omega arith, grove-open f o ids)
+
+-- the tree whose folder is open
+pub stands-open : (f : Folders) (o : Opened) (ids : List (List ℕ)) (tree : Tree) (m : PathMap) → tree.number ≡ Some (count_of f) → flat (open_forest f.names.items f.nodes.items o) ≡ m → StandsFor (grove f.names.items f.nodes.items (Some o) ids) tree m
+stands-open f o ids tree m number is =
+    let there = stands_open f o ids tree.number number in
+    record { inside = tree-is f (Some o) ids tree there.0; map = there.1 ∙ is }
+
+-- the tree at which changes go on
+pub stands-start : (f : Folders) (s : Start) (ids : List (List ℕ)) (tree : Tree) (m : PathMap) → IsStart f s → tree.number ≡ number_of_start f s → start_map f s ≡ m → StandsFor (grove f.names.items f.nodes.items (opened_of s) ids) tree m
+stands-start f (At root) ids tree m h number is = stands-for f None ids tree m (rw number h) (rw number is)
+stands-start f (In o) ids tree m h number is = stands-open f o ids tree m number is
+
+pub keeps-stays : (a b : Folders) (o o' : Option Opened) (ids ids' : List (List ℕ)) → length ids ≤ count_of a → StaysBelow (length ids) a b → length ids' ≡ length ids → Keeps (grove a.names.items a.nodes.items o ids) (grove b.names.items b.nodes.items o' ids')
+keeps-stays a b o o' ids ids' le s same = record {
   made = same;
-  maps = λ n lt. let long = s.long in grove-at b ids' n (omega arith) ∙ ap flat (s.stay n lt) ∙ sym (grove-at a ids n (omega arith));
+  maps = λ n lt. let long = s.long in grove-at b o' ids' n (omega arith) ∙ ap flat (s.stay n lt) ∙ sym (grove-at a o ids n (omega arith));
 }
 
 -- ## What callers see of folders
 
-pub keeps-seen : (v : Grove) (a b : Folders) (ids : List (List ℕ)) (base : ℕ) → grove a.names.items a.nodes.items ids ≡ v → length ids ≤ count_of a → base ≡ length ids → StaysBelow base a b → Keeps v (grove b.names.items b.nodes.items ids)
-keeps-seen v a b ids base seen le is stays =
-    subst (λ (w : Grove). Keeps w (grove b.names.items b.nodes.items ids)) seen
-    (keeps-stays a b ids ids le (subst (λ (k : ℕ). StaysBelow k a b) is stays) refl)
+pub keeps-seen : (v : Grove) (a b : Folders) (o o' : Option Opened) (ids : List (List ℕ)) (base : ℕ) → grove a.names.items a.nodes.items o ids ≡ v → length ids ≤ count_of a → base ≡ length ids → StaysBelow base a b → Keeps v (grove b.names.items b.nodes.items o' ids)
+keeps-seen v a b o o' ids base seen le is stays =
+    subst (λ (w : Grove). Keeps w (grove b.names.items b.nodes.items o' ids)) seen
+    (keeps-stays a b o o' ids ids le (subst (λ (k : ℕ). StaysBelow k a b) is stays) refl)
 
-pub tree-seen : (v : Grove) (a : Folders) (ids : List (List ℕ)) (tree : Tree) → grove a.names.items a.nodes.items ids ≡ v → IsTree v tree → IsBelow (count_of a) tree.number
-tree-seen v a ids tree seen h = is-tree a ids tree (subst (λ (w : Grove). IsTree w tree) (sym seen) h)
+-- where changes of a tree go on
+abbrev pub IsStartOf : Folders → Start → PathMap → Type 0
+IsStartOf f s m = IsStart f s × (start_map f s ≡ m)
 
-pub map-seen : (v : Grove) (a : Folders) (ids : List (List ℕ)) (tree : Tree) → grove a.names.items a.nodes.items ids ≡ v → IsTree v tree → root_map a tree.number ≡ map_of v tree
-map-seen v a ids tree seen h = sym (map-is a ids tree (tree-seen v a ids tree seen h)) ∙ ap (λ (w : Grove). map_of w tree) seen
+start_one : (f : Folders) (o : Opened) (ids : List (List ℕ)) (n : ℕ) (b : Bool) → (n == count_of f) ≡ b → IsOpened f.names.items f.nodes.items o → n < count_of f + 1 → IsStartOf f (cond b (In o) (At (Some n))) (folder_map (grove f.names.items f.nodes.items (Some o) ids) n)
+start_one f o ids n true e h lt =
+    let is : n ≡ count_of f = search (rules, tests) in
+    (h, sym (ap (folder_map (grove f.names.items f.nodes.items (Some o) ids)) is ∙ grove-open f o ids))
+start_one f o ids n false e h lt =
+    let ne : n ≡ count_of f → ⊥ = search (rules, tests) in
+    let low : n < count_of f = omega (arith, ne) in
+    (low, sym (grove-at f (Some o) ids n low))
+
+start-in : (f : Folders) (opened : Option Opened) (ids : List (List ℕ)) (number : Option ℕ) → MayBeOpened f.names.items f.nodes.items opened → IsBelow (count_with opened (count_of f)) number → IsStartOf f (start_with opened number (count_of f)) (map_of_number (folder_map (grove f.names.items f.nodes.items opened ids)) number)
+start-in f None ids number h low = (low, sym (map_is f None ids number low))
+start-in f (Some o) ids None h low = (tt, refl)
+start-in f (Some o) ids (Some n) h low = start_one f o ids n (n == count_of f) refl h low
+
+pub start-seen : (v : Grove) (a : Folders) (opened : Option Opened) (ids : List (List ℕ)) (tree : Tree) (count : ℕ) → grove a.names.items a.nodes.items opened ids ≡ v → MayBeOpened a.names.items a.nodes.items opened → count ≡ count_of a → IsTree v tree → IsStartOf a (start_with opened tree.number count) (map_of v tree)
+start-seen v a opened ids tree count seen h is t =
+    let t' = subst (λ (w : Grove). IsTree w tree) (sym seen) t in
+    let there = start-in a opened ids tree.number h (is-tree a opened ids tree t') in
+    subst (λ (w : Grove). IsStartOf a (start_with opened tree.number count) (map_of w tree)) seen
+    (subst (λ (k : ℕ). IsStartOf a (start_with opened tree.number k) (map_of (grove a.names.items a.nodes.items opened ids) tree)) (sym is) there)
 
 -- ## Parts and numbers
 
@@ -187,16 +242,17 @@ objects-same id_of a b from (o ∷ os) same h =
     let first = same from (omega arith) (omega arith) in
     (subst (λ (es : List DirectoryEntry). IsDirectoryObject id_of es o) first h.0, objects-same id_of a b (suc from) os (λ n le lt. same n (omega arith) (omega arith)) h.1)
 
-bare_stays : (x y : ℕ → Forest) (n : ℕ) (empty : Option ℕ) → ((j : ℕ) → j < n → y j ≡ x j) → IsEmptyFolder x n empty → IsEmptyFolder y n empty
-bare_stays x y n None stay h = tt
-bare_stays x y n (Some k) stay h = (h.0, stay k h.0 ∙ h.1)
+pub bare-stays : (x y : ℕ → Forest) (n : ℕ) (empty : Option ℕ) → ((j : ℕ) → j < n → y j ≡ x j) → IsEmptyFolder x n empty → IsEmptyFolder y n empty
+bare-stays x y n None stay h = tt
+bare-stays x y n (Some k) stay h = (h.0, stay k h.0 ∙ h.1)
 
-pub held-stays : (id_of : Kind → List ℕ → List ℕ) (a b : Folders) (ids : List (List ℕ)) (empty : Option ℕ) → IsHeld id_of a.names.items a.nodes.items ids empty → StaysBelow (length ids) a b → IsHeld id_of b.names.items b.nodes.items ids empty
-held-stays id_of a b ids empty h s = record {
+pub held-stays : (id_of : Kind → List ℕ → List ℕ) (a b : Folders) (opened opened' : Option Opened) (ids : List (List ℕ)) (empty : Option ℕ) → MayBeOpened b.names.items b.nodes.items opened' → IsHeld id_of a.names.items a.nodes.items opened ids empty → StaysBelow (length ids) a b → IsHeld id_of b.names.items b.nodes.items opened' ids empty
+held-stays id_of a b opened opened' ids empty o h s = record {
   good = s.good;
+  opens = o;
   within = s.long;
   known = λ j lt. h.known j lt ∙ ap (λ (f : Forest). directory_id id_of (directory (directory_id id_of) f)) (sym (s.stay j lt));
-  no_files = bare_stays (folder_at a) (folder_at b) (length ids) empty s.stay h.no_files;
+  no_files = bare-stays (folder_at a) (folder_at b) (length ids) empty s.stay h.no_files;
 }
 
 root_is : (f : Folders) (root : Option ℕ) → root_map f root ≡ flat (root_forest (folder_at f) root)
@@ -226,7 +282,7 @@ map-kept : (a d : Folders) (root : Option ℕ) (number : ℕ) (tree : Tree) → 
 map-kept a d None number tree is kept = rw kept refl
 map-kept a d (Some n) number tree is kept = rw kept (sym is)
 
-pub makes-done : (id_of : Kind → List ℕ → List ℕ) (a b d : Folders) (ids ids' : List (List ℕ)) (root : Option ℕ) (r number : ℕ) (tree : Tree) (id : List ℕ) (objects : List Object) → AreFolders a → length ids ≤ count_of a → IsMaking id_of a b d (length ids) r number → folder_at b r ≡ root_forest (folder_at a) root → length ids' ≡ count_of d → AreIds (directory_id id_of) (folder_at d) ids' → length ids + length objects ≡ count_of d → AreDirectoryObjects id_of (λ n. directory (directory_id id_of) (folder_at d n)) (length ids) objects → id ≡ get_or ids' number [] → tree.number ≡ kept_number root number → Makes id_of (grove a.names.items a.nodes.items ids) (grove d.names.items d.nodes.items ids') (root_map a root) tree id objects
+pub makes-done : (id_of : Kind → List ℕ → List ℕ) (a b d : Folders) (ids ids' : List (List ℕ)) (root : Option ℕ) (r number : ℕ) (tree : Tree) (id : List ℕ) (objects : List Object) → AreFolders a → length ids ≤ count_of a → IsMaking id_of a b d (length ids) r number → folder_at b r ≡ root_forest (folder_at a) root → length ids' ≡ count_of d → AreIds (directory_id id_of) (folder_at d) ids' → length ids + length objects ≡ count_of d → AreDirectoryObjects id_of (λ n. directory (directory_id id_of) (folder_at d n)) (length ids) objects → id ≡ get_or ids' number [] → tree.number ≡ kept_number root number → Makes id_of (grove a.names.items a.nodes.items None ids) (grove d.names.items d.nodes.items None ids') (root_map a root) tree id objects
 makes-done id_of a b d ids ids' root r number tree id objects good le m is all known each made own kept =
     let f : Forest = folder_at d number in
     let f_is : f ≡ root_forest (folder_at a) root = m.root ∙ is in
@@ -234,17 +290,17 @@ makes-done id_of a b d ids ids' root r number tree id objects good le m is all k
     let m_is : flat f ≡ root_map a root = ap flat f_is ∙ sym (root_is a root) in
     let first_is : folder_at b r ≡ f = sym m.root in
     let named = λ (n : ℕ) (lt : n < count_of d). directory-of id_of (folder_at d n) (m.then.good.sound n lt) in
-    let at_d = λ (n : ℕ) (lt : n < count_of d). grove-at d ids' n lt in
+    let at_d = λ (n : ℕ) (lt : n < count_of d). grove-at d None ids' n lt in
     let below = m.then.long in
     record {
-      stay = λ n lt. at_d n (omega arith) ∙ ap flat (m.then.stay n lt ∙ m.first.stay n lt) ∙ sym (grove-at a ids n (omega arith));
-      all = all ∙ sym (grove-long d ids');
-      stands = stands-for d ids' tree (root_map a root) (below-kept d root number tree m.inside kept) (map-kept a d root number tree (sym m_is) kept);
+      stay = λ n lt. at_d n (omega arith) ∙ ap flat (m.then.stay n lt ∙ m.first.stay n lt) ∙ sym (grove-at a None ids n (omega arith));
+      all = all ∙ sym (grove-long d None ids');
+      stands = stands-for d None ids' tree (root_map a root) (below-kept d root number tree m.inside kept) (map-kept a d root number tree (sym m_is) kept);
       named = own ∙ known number (omega (arith, m.inside)) ∙ ap (directory_id id_of) (sym (named number m.inside)) ∙ ap (λ (x : PathMap). directory_id id_of (directory_of id_of x)) m_is;
       each = each ∙ sym all;
-      made = objects-same id_of (λ n. directory (directory_id id_of) (folder_at d n)) (λ n. directory_of id_of (folder_map (grove d.names.items d.nodes.items ids') n)) (length ids) objects (λ n le lt. sym (ap (directory_of id_of) (at_d n (omega arith)) ∙ named n (omega arith))) made;
+      made = objects-same id_of (λ n. directory (directory_id id_of) (folder_at d n)) (λ n. directory_of id_of (folder_map (grove d.names.items d.nodes.items None ids') n)) (length ids) objects (λ n le lt. sym (ap (directory_of id_of) (at_d n (omega arith)) ∙ named n (omega arith))) made;
       parts = λ n le lt. subst (λ (x : PathMap). IsFolderOf (root_map a root) x) (sym (at_d n (omega arith))) (subst (λ (x : PathMap). IsFolderOf x (flat (folder_at d n))) m_is (folder_of f (folder_at d n) s (subst (λ (h : Forest). IsPart (IsFolder h) (folder_at d n)) first_is (m.parts n le (omega arith)))));
-      whole = λ path h. subst (λ (x : PathMap). HasFolder x path → IsNumbered (grove d.names.items d.nodes.items ids') (length ids') (held path x)) m_is (λ h'.
+      whole = λ path h. subst (λ (x : PathMap). HasFolder x path → IsNumbered (grove d.names.items d.nodes.items None ids') (length ids') (held path x)) m_is (λ h'.
           let part = has-part path f s h' in
           let there = part-number d m.then.good path number m.inside part.0 part.1 in
           let has = part-has path f part.0 s part.1 in
@@ -279,27 +335,43 @@ empty-kept a b d ids ids' None empty r number s t is same lt le h = (lt, same �
 empty-kept a b d ids ids' (Some n) None r number s t is same lt le h = tt
 empty-kept a b d ids ids' (Some n) (Some k) r number s t is same lt le h = let low = h.0 in (omega arith, t.stay k low ∙ s.stay k low ∙ h.1)
 
-pub none-mapped : (found : Option (Option ℕ)) (o : Option Tree) (P : Type 0) → IfNone o (found ≡ None) → IfNone found P → IfNone o P
-none-mapped found (Some t) P h k = tt
-none-mapped None None P h k = k
-none-mapped (Some n) None P h k = absurd cc
-
-some_mapped : (found : Option (Option ℕ)) (n : Option ℕ) (P : Option ℕ → Type 0) → found ≡ Some n → IfSome found P → P n
-some_mapped None n P e h = absurd cc
-some_mapped (Some k) n P e h = let is : k ≡ n = cc in subst P is h
-
-pub some-mapped : (found : Option (Option ℕ)) (o : Option Tree) (P : Option ℕ → Type 0) (Q : Tree → Type 0) → IfSome o (λ t. found ≡ Some t.number) → IfSome found P → ((t : Tree) → P t.number → Q t) → IfSome o Q
-some-mapped found None P Q h k more = tt
-some-mapped found (Some t) P Q h k more = more t (some_mapped found t.number P h k)
-
-pub some-both : (found : Option (Option ℕ)) (P Q : Option ℕ → Type 0) → IfSome found P → IfSome found Q → IfSome found (λ n. P n × Q n)
-some-both None P Q h k = tt
-some-both (Some n) P Q h k = (h, k)
-
 pub on-err : {A E P : Type 0} (r : Result A E) → P → OnErr r P
 on-err (Ok x) p = tt
 on-err (Err e) p = p
 
-pub none-both : (found : Option (Option ℕ)) (P Q R : Type 0) → IfNone found P → IfNone found Q → (P → Q → R) → IfNone found R
-none-both None P Q R h k more = more h k
-none-both (Some n) P Q R h k more = tt
+-- seen from folders before
+pub makes-from : (id_of : Kind → List ℕ → List ℕ) (a b : Folders) (opened : Option Opened) (ids : List (List ℕ)) (new : Grove) (m : PathMap) (tree : Tree) (id : List ℕ) (objects : List Object) → length ids ≤ count_of a → StaysBelow (length ids) a b → Makes id_of (grove b.names.items b.nodes.items None ids) new m tree id objects → Makes id_of (grove a.names.items a.nodes.items opened ids) new m tree id objects
+makes-from id_of a b opened ids new m tree id objects le s h = record {
+  stay = λ n lt. let long = s.long in h.stay n lt ∙ grove-at b None ids n (omega arith) ∙ ap flat (s.stay n lt) ∙ sym (grove-at a opened ids n (omega arith));
+  all = h.all;
+  stands = h.stands;
+  named = h.named;
+  each = h.each;
+  made = h.made;
+  parts = h.parts;
+  whole = h.whole;
+  children = h.children;
+}
+
+-- where changes of a tree of these trees go on
+pub start-of : (v : Grove) (a : Folders) (opened taken : Option Opened) (ids : List (List ℕ)) (tree : Tree) (count : ℕ) (s : Start) → grove a.names.items a.nodes.items opened ids ≡ v → MayBeOpened a.names.items a.nodes.items opened → IsTree v tree → count ≡ count_of a → taken ≡ opened → s ≡ start_with taken tree.number count → IsStartOf a s (map_of v tree)
+start-of v a opened taken ids tree count s seen h t is took begins =
+    subst (λ (w : Start). IsStartOf a w (map_of v tree)) (sym (begins ∙ ap (λ (o : Option Opened). start_with o tree.number count) took))
+    (start-seen v a opened ids tree count seen h is t)
+
+pub tree-seen : (v : Grove) (a : Folders) (opened : Option Opened) (ids : List (List ℕ)) (tree : Tree) → grove a.names.items a.nodes.items opened ids ≡ v → IsTree v tree → IsBelow (count_with opened (count_of a)) tree.number
+tree-seen v a opened ids tree seen h = is-tree a opened ids tree (subst (λ (w : Grove). IsTree w tree) (sym seen) h)
+
+number_one : (f : Folders) (o : Opened) (n : ℕ) (b : Bool) → (n == count_of f) ≡ b → number_of_start f (cond b (In o) (At (Some n))) ≡ Some n
+number_one f o n true e = let is : n ≡ count_of f = search (rules, tests) in ap Some (sym is)
+number_one f o n false e = refl
+
+start_number : (f : Folders) (opened : Option Opened) (number : Option ℕ) → number_of_start f (start_with opened number (count_of f)) ≡ number
+start_number f None number = refl
+start_number f (Some o) None = refl
+start_number f (Some o) (Some n) = number_one f o n (n == count_of f) refl
+
+-- by which number the tree is known at which changes go on
+pub number-start : (f : Folders) (opened taken : Option Opened) (number : Option ℕ) (count : ℕ) (s : Start) → count ≡ count_of f → taken ≡ opened → s ≡ start_with taken number count → number_of_start f s ≡ number
+number-start f opened taken number count s is took begins =
+    ap (number_of_start f) (begins ∙ ap (λ (o : Option Opened). start_with o number count) took ∙ ap (start_with opened number) is) ∙ start_number f opened number

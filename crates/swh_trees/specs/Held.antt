@@ -1,14 +1,18 @@
 -- What trees hold: numbered folders, all of them sound, and the ids of the first of them.
-use Rattle.std.specs.Prelude.{◌≡◌, ℕ, zero, suc, ◌<◌, ◌≤◌, List, [], ◌∷◌, ◌++◌, length, slice_index_or, Option, Some, None}
+use Rattle.std.specs.Prelude.{◌≡◌, ℕ, zero, suc, ◌==◌, ◌+◌, if◌then◌else◌, ◌<◌, ◌≤◌, List, [], ◌∷◌, ◌++◌, length, slice_index_or, Option, Some, None}
 use Rattle.std.specs.Global.{Vec}
 use Rattle.swh_base.specs.declared.kind.Kind.{Kind}
 use Rattle.swh_base.specs.Directory.{DirectoryEntry}
 use Rattle.swh_folders.specs.Listed.{Listed}
+use Rattle.swh_folders.specs.declared.opened.Opened.{Opened}
+use Rattle.swh_folders.specs.declared.opened.Start.{Start}
+use Rattle.swh_folders.specs.declared.opened.Start.TheVariants.{At, In}
 use Rattle.swh_folders.specs.Arena.{tree_at}
 use Rattle.swh_trees.specs.Directory.{directory_id}
-use Rattle.swh_folders.specs.Forest.{Forest, Bare}
+use Rattle.swh_folders.specs.Forest.{Forest, Bare, flat}
 use Rattle.swh_trees.specs.Listing.{directory}
 use Rattle.swh_folders.specs.PathMap.{PathMap}
+use Rattle.swh_folders.specs.Opened.{open_forest, IsOpened}
 use Rattle.swh_folders.specs.Roots.{IsGood, map_at}
 use Rattle.swh_trees.specs.Grove.{Grove}
 
@@ -21,8 +25,14 @@ abbrev pub IsEmptyFolder : (ℕ → Forest) → ℕ → Option ℕ → Type 0
 IsEmptyFolder at n None = Unit {0}
 IsEmptyFolder at n (Some k) = (k < n) × (at k ≡ Bare)
 
-pub record IsHeld (id_of : Kind → List ℕ → List ℕ) (names : List (Vec ℕ)) (nodes : List Listed) (ids : List (List ℕ)) (empty : Option ℕ) : Type 0 where
+-- The folder that is open, if one is, stands here.
+abbrev pub MayBeOpened : List (Vec ℕ) → List Listed → Option Opened → Type 0
+MayBeOpened names nodes None = Unit {0}
+MayBeOpened names nodes (Some o) = IsOpened names nodes o
+
+pub record IsHeld (id_of : Kind → List ℕ → List ℕ) (names : List (Vec ℕ)) (nodes : List Listed) (opened : Option Opened) (ids : List (List ℕ)) (empty : Option ℕ) : Type 0 where
   pub good : IsGood names nodes
+  pub opens : MayBeOpened names nodes opened
   pub within : length ids ≤ length nodes
   pub known : AreIds (directory_id id_of) (tree_at names nodes) ids
   pub no_files : IsEmptyFolder (tree_at names nodes) (length ids) empty
@@ -32,9 +42,30 @@ abbrev pub first_values : (ℕ → PathMap) → ℕ → List PathMap
 first_values f zero = []
 first_values f (suc n) = first_values f n ++ f n ∷ []
 
+-- the maps of the folders that have numbers, and after them that of the tree whose folder is open
+abbrev pub maps_with : List (Vec ℕ) → List Listed → Option Opened → List PathMap
+maps_with names nodes None = first_values (map_at names nodes) (length nodes)
+maps_with names nodes (Some o) = first_values (map_at names nodes) (length nodes) ++ flat (open_forest names nodes o) ∷ []
+
 -- what callers see
-abbrev pub grove : List (Vec ℕ) → List Listed → List (List ℕ) → Grove
-grove names nodes ids = record { folders = first_values (map_at names nodes) (length nodes); made = length ids }
+abbrev pub grove : List (Vec ℕ) → List Listed → Option Opened → List (List ℕ) → Grove
+grove names nodes opened ids = record { folders = maps_with names nodes opened; made = length ids }
+
+-- how many trees have numbers, where so many folders have
+abbrev pub count_with : Option Opened → ℕ → ℕ
+count_with None n = n
+count_with (Some o) n = n + 1
+
+-- where changes of the tree of a number go on: in its open folder, if it has one
+abbrev pub start_with : Option Opened → Option ℕ → ℕ → Start
+start_with None number count = At number
+start_with (Some o) None count = At None
+start_with (Some o) (Some n) count = if n == count then In o else At (Some n)
+
+-- the folder of a tree that is open
+abbrev pub opened_of : Start → Option Opened
+opened_of (At root) = None
+opened_of (In o) = Some o
 
 -- the number of a tree after its objects were made: an empty one has none
 abbrev pub kept_number : Option ℕ → ℕ → Option ℕ

@@ -6,7 +6,9 @@ use crate::tree::Tree;
 use std::alloc::Global;
 use std::marker::Model;
 use swh_base::{Memory, Namer};
-use swh_folders::{Folders, Leaf, Transfer, delete_in, set_in, transfer_in, whole_id};
+use swh_folders::{
+    Folders, Leaf, Opened, Start, Transfer, delete_in, root_from, set_in, transfer_from, whole_id,
+};
 use swh_object::Object;
 
 /// Trees that share the folders which they have in common, and the ids of the folders whose objects were made, by the
@@ -16,6 +18,8 @@ use swh_object::Object;
 pub struct Trees<N: Namer> {
     namer: N,
     folders: Folders,
+    /// The folder in which the last change was made, while its tree's objects are not made.
+    opened: Option<Opened>,
     ids: Vec<[u8; 20]>,
     empty: Option<usize>,
 }
@@ -35,14 +39,17 @@ impl<N: Namer> Model for Trees<N> {
 
     ghost Value = { Grove };
 
-    ghost view = { λ t. grove t.folders.names.items t.folders.nodes.items t.ids.items };
+    ghost view = { λ t. grove t.folders.names.items t.folders.nodes.items t.opened t.ids.items };
 
-    ghost invariant = { λ t. IsHeld N.id_of t.folders.names.items t.folders.nodes.items t.ids.items t.empty };
+    ghost invariant = { λ t. IsHeld N.id_of t.folders.names.items t.folders.nodes.items t.opened t.ids.items t.empty };
 }
 
 ghost use Rattle.std.specs.Prelude.{◌≡◌, ◌↔◌, None, Some, IsTrue, IfNone, IfSome};
 ghost use Rattle.swh_folders.specs.Roots.{IsBelow};
-ghost use Rattle.swh_trees.specs.Held.{kept_number, kept_empty};
+ghost use Rattle.swh_trees.specs.Held.{kept_number, kept_empty, count_with, start_with, opened_of};
+ghost use Rattle.swh_folders.specs.declared.folders.Folders.{Folders};
+ghost use Rattle.swh_folders.specs.Opened.{number_of_start};
+ghost use Rattle.swh_folders.specs.Working.{count_of};
 
 /// The tree, and the number of the empty folder, after the objects were made. The root's folder has this number now.
 fn kept(root: Option<usize>, empty: Option<usize>, number: usize) -> (Tree, Option<usize>)
@@ -60,24 +67,46 @@ fn kept(root: Option<usize>, empty: Option<usize>, number: usize) -> (Tree, Opti
     }
 }
 
-/// Whether the number, if there is one, is below the count.
-fn is_below(number: Option<usize>, count: usize) -> bool
-    ensures { IsTrue result ↔ IsBelow count number }
+/// Whether a tree has this number, where so many folders have numbers, and after them the tree whose folder is open.
+fn is_known(opened: &Option<Opened>, number: Option<usize>, count: usize) -> bool
+    ensures { IsTrue result ↔ IsBelow (count_with opened.now count) number }
 {
     match number {
-        Some(number) => number < count,
+        Some(number) => match opened {
+            Some(_) => number <= count,
+            None => number < count,
+        },
         None => true,
     }
 }
 
-/// The tree of a root, where there is one.
-fn tree_of(found: Option<Option<usize>>) -> Option<Tree>
-    ensures none { IfNone result (found ≡ None) }
-    ensures some { IfSome result (λ tree. found ≡ Some tree.number) }
+/// Where changes of the tree of this number go on, where so many folders have numbers.
+fn start_with(opened: Option<Opened>, number: Option<usize>, count: usize) -> Start
+    ensures { result ≡ start_with opened number count }
 {
-    match found {
-        Some(number) => Some(Tree { number }),
-        None => None,
+    match opened {
+        None => Start::At(number),
+        Some(opened) => match number {
+            None => Start::At(None),
+            Some(number) => {
+                if number == count {
+                    Start::In(opened)
+                } else {
+                    Start::At(Some(number))
+                }
+            }
+        },
+    }
+}
+
+/// The number of a tree, where so many folders have numbers, and its folder that is open.
+fn parts_of(start: Start, count: usize) -> (Option<usize>, Option<Opened>)
+    ensures number { (f : Folders) → count ≡ count_of f → result.0 ≡ number_of_start f start }
+    ensures opened { result.1 ≡ opened_of start }
+{
+    match start {
+        Start::At(number) => (number, None),
+        Start::In(opened) => (Some(count), Some(opened)),
     }
 }
 
@@ -97,6 +126,7 @@ impl<N: Namer> Trees<N> {
         Trees {
             namer,
             folders: Folders::new(alloc),
+            opened: None,
             ids: Vec::new(alloc),
             empty: None,
         }
@@ -106,7 +136,7 @@ impl<N: Namer> Trees<N> {
     pub fn has(&self, tree: Tree) -> bool
         ensures { IsTrue result ↔ IsTree self.now tree }
     {
-        is_below(tree.number, self.folders.nodes.len())
+        is_known(&self.opened, tree.number, self.folders.nodes.len())
     }
 
     /// The tree with the leaf at the path, in place of what stood there, under it, and at its proper fronts
@@ -130,7 +160,10 @@ impl<N: Namer> Trees<N> {
             id: whole_id(&leaf.id),
         };
         let base = self.ids.len();
-        let number = set_in(alloc, &mut self.folders, base, tree.number, path, whole)?;
+        let start = start_with(self.opened.take(), tree.number, self.folders.nodes.len());
+        let opened = set_in(alloc, &mut self.folders, base, start, path, whole)?;
+        let number = Some(self.folders.nodes.len());
+        self.opened = Some(opened);
         Ok(Tree { number })
     }
 
@@ -143,7 +176,10 @@ impl<N: Namer> Trees<N> {
         ensures map { IfOk result (λ t. StandsFor self.new t (delete (components path.now) (map_of self.old tree))) }
     {
         let base = self.ids.len();
-        let number = delete_in(alloc, &mut self.folders, base, tree.number, path)?;
+        let start = start_with(self.opened.take(), tree.number, self.folders.nodes.len());
+        let left = delete_in(alloc, &mut self.folders, base, start, path)?;
+        let (number, opened) = parts_of(left, self.folders.nodes.len());
+        self.opened = opened;
         Ok(Tree { number })
     }
 
@@ -213,9 +249,16 @@ impl<N: Namer> Trees<N> {
             (transferred way (components source.now) (components target.now) (map_of self.old tree)))) }
     {
         let base = self.ids.len();
-        let (number, folders) = (tree.number, &mut self.folders);
-        let found = transfer_in(alloc, folders, base, number, source, target, way)?;
-        Ok(tree_of(found))
+        let start = start_with(self.opened.take(), tree.number, self.folders.nodes.len());
+        let moved = transfer_from(alloc, &mut self.folders, base, start, source, target, way)?;
+        match moved {
+            Ok(number) => Ok(Some(Tree { number })),
+            Err(left) => {
+                let (_, opened) = parts_of(left, self.folders.nodes.len());
+                self.opened = opened;
+                Ok(None)
+            }
+        }
     }
 
     /// Makes the objects of the tree's directories that have none yet (git objects, tree). The other trees whose
@@ -229,7 +272,9 @@ impl<N: Namer> Trees<N> {
         ensures err { IfErr result (ExplainsTree N.id_of (map_of self.old tree)) }
     {
         let base = self.ids.len();
-        let root = root_number(alloc, &mut self.folders, base, self.empty, tree.number)?;
+        let start = start_with(self.opened.take(), tree.number, self.folders.nodes.len());
+        let there = root_from(alloc, &mut self.folders, base, start)?;
+        let root = root_number(alloc, &mut self.folders, base, self.empty, there)?;
         let (number, objects) = make_folders(
             alloc,
             &self.namer,
@@ -238,7 +283,7 @@ impl<N: Namer> Trees<N> {
             root,
         )?;
         let id = self.ids[number];
-        let (tree, empty) = kept(tree.number, self.empty, number);
+        let (tree, empty) = kept(there, self.empty, number);
         self.empty = empty;
         Ok(Made { tree, id, objects })
     }

@@ -15,6 +15,7 @@ returns-in_err-out-clause-good c = record {
 
 pub returns-in_err-out-clause-grows : goal.returns-in_err-out-clause-grows
 returns-in_err-out-clause-grows c = record {
+  names_more = c.add_some.ensures.names;
   longer = omega arith;
   trees = λ i lt. tree-names c.args.names.now.items c.add_some.new.names.items c.args.nodes.now.items c.requires.good.arena c.add_some.ensures.names i;
 }
@@ -41,7 +42,7 @@ returns-clause-good c =
     let more = c.add_some.ensures.names in
     let arena = arena-names old new nodes c.requires.good.arena more in
     let out = c.in_ok-out.ensures.good (length nodes) kept c.requires.child in
-    let added = put-added old new nodes c.args.under c.args.child c.args.name.now c.in_ok-rest.rest.items c.in_ok-out.out.items c.requires.good.arena more c.requires.child kept (c.in_ok-out.ensures.forest (tree_at new nodes) (length nodes) kept) cleared in
+    let added = put-added old new nodes c.args.child (forest (stands_of (tree_at old nodes) c.args.under)) c.args.name.now c.in_ok-rest.rest.items c.in_ok-out.out.items c.requires.good.arena more c.requires.child kept (c.in_ok-out.ensures.forest (tree_at new nodes) (length nodes) kept) cleared in
     record {
       arena = c.seal.ensures.arena new arena out;
       sound = c.seal.ensures.sound new (sound-names old new nodes c.requires.good.arena more c.requires.good.sound) (subst IsSound (sym added)
@@ -51,6 +52,7 @@ returns-clause-good c =
 pub returns-clause-grows : goal.returns-clause-grows
 returns-clause-grows c =
     let g = c.seal.ensures.grows c.add_some.new.names.items in record {
+      names_more = c.add_some.ensures.names;
       longer = g.longer;
       trees = λ i lt. g.trees i lt ∙ tree-names c.args.names.now.items c.add_some.new.names.items c.args.nodes.now.items c.requires.good.arena c.add_some.ensures.names i;
     }
@@ -63,7 +65,7 @@ returns-clause-put c =
     let kept = rw (c.as_slice.ensures.value, c.as_slice-2.ensures.value) at c.in_ok-rest.ensures.good in
     let cleared = rw (c.as_slice.ensures.value, c.as_slice-2.ensures.value) at c.in_ok-rest.ensures.forest in
     let more = c.add_some.ensures.names in
-    let added = put-added old new nodes c.args.under c.args.child c.args.name.now c.in_ok-rest.rest.items c.in_ok-out.out.items c.requires.good.arena more c.requires.child kept (c.in_ok-out.ensures.forest (tree_at new nodes) (length nodes) kept) cleared in
+    let added = put-added old new nodes c.args.child (forest (stands_of (tree_at old nodes) c.args.under)) c.args.name.now c.in_ok-rest.rest.items c.in_ok-out.out.items c.requires.good.arena more c.requires.child kept (c.in_ok-out.ensures.forest (tree_at new nodes) (length nodes) kept) cleared in
     if_ok c.seal.result (λ r e. e ∙ ap folder added) (c.seal.ensures.folder new)
 
 pub returns-clause-sound : goal.returns-clause-sound
@@ -74,7 +76,7 @@ returns-clause-sound c =
     let kept = rw (c.as_slice.ensures.value, c.as_slice-2.ensures.value) at c.in_ok-rest.ensures.good in
     let cleared = rw (c.as_slice.ensures.value, c.as_slice-2.ensures.value) at c.in_ok-rest.ensures.forest in
     let more = c.add_some.ensures.names in
-    let added = put-added old new nodes c.args.under c.args.child c.args.name.now c.in_ok-rest.rest.items c.in_ok-out.out.items c.requires.good.arena more c.requires.child kept (c.in_ok-out.ensures.forest (tree_at new nodes) (length nodes) kept) cleared in
+    let added = put-added old new nodes c.args.child (forest (stands_of (tree_at old nodes) c.args.under)) c.args.name.now c.in_ok-rest.rest.items c.in_ok-out.out.items c.requires.good.arena more c.requires.child kept (c.in_ok-out.ensures.forest (tree_at new nodes) (length nodes) kept) cleared in
     let whole : IsSound (put c.args.name.now (stands_of (tree_at old nodes) c.args.child) (forest (stands_of (tree_at old nodes) c.args.under))) =
     put-sound c.args.name.now (stands_of (tree_at old nodes) c.args.child) (forest (stands_of (tree_at old nodes) c.args.under)) c.requires.name c.requires.sound (under-sound old nodes c.args.under c.requires.good.sound c.requires.under) in
     if_ok c.seal.result (λ r e. subst IsSoundHere (sym (e ∙ ap folder added)) (folder-sound (put c.args.name.now (stands_of (tree_at old nodes) c.args.child) (forest (stands_of (tree_at old nodes) c.args.under))) whole)) (c.seal.ensures.folder new)

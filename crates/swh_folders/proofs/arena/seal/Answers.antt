@@ -4,6 +4,7 @@ use Rattle.swh_folders.specs.Forest.{IsFolder}
 use Rattle.swh_folders.specs.Arena.{texts, tree_at}
 use Rattle.swh_folders.proofs.Arenas.{tree-push_old, tree-push_new, arena-push, sound-push}
 use Rattle.swh_folders.proofs.Steps.{not_bare}
+use Rattle.swh_folders.proofs.Walks.{extends-none}
 use Rattle.swh_folders.proofs.arena.seal.Goals as goal
 
 pub returns-clause-arena : goal.returns-clause-arena
@@ -11,6 +12,7 @@ returns-clause-arena c = λ names good own. rw c.in_ok-push.ensures.items (arena
 
 pub returns-clause-grows : goal.returns-clause-grows
 returns-clause-grows c = λ names. rw c.in_ok-push.ensures.items (record {
+  names_more = extends-none names;
   longer = simp length-append (omega arith);
   trees = λ i lt. tree-push_old names c.args.nodes.now.items c.args.out i lt;
 })

@@ -1,24 +1,33 @@
 use Rattle.std.proofs.Common.{rules, ◌≡◌, length, ap, ◌∙◌}
 use Rattle.swh_fastlex.specs.Path.{components}
 use Rattle.swh_folders.specs.PathMap.{delete}
-use Rattle.swh_trees.proofs.Parts.{keeps-seen, map-seen, stands-for, tree-seen}
+use Rattle.swh_folders.specs.Working.{count_of}
+use Rattle.swh_trees.proofs.Parts.{keeps-seen, stands-start, start-of}
 use Rattle.swh_trees.proofs.trees.Trees.delete.Goals as goal
 
-pub delete_in-requires-clause-root : goal.delete_in-requires-clause-root
-delete_in-requires-clause-root g c = tree-seen _ c.self.inside.folders c.self.inside.ids.items c.args.tree c.self.view_is c.requires.tree
+pub delete_in-requires-clause-start : goal.delete_in-requires-clause-start
+delete_in-requires-clause-start g c =
+    let a = c.self.inside.folders in
+    let n : c.len.result ≡ count_of a = search rules in
+    (start-of _ a c.self.inside.opened c.take.result c.self.inside.ids.items c.args.tree c.len.result c.start_with-start.result c.self.view_is c.self.invariant.opens c.requires.tree n c.take.ensures.value c.start_with-start.ensures).0
 
-pub returns-in_err-number-clause-keeps : goal.returns-in_err-number-clause-keeps
-returns-in_err-number-clause-keeps g c =
+pub returns-in_err-left-clause-keeps : goal.returns-in_err-left-clause-keeps
+returns-in_err-left-clause-keeps g c =
     let n : c.len-base.result ≡ length c.self.inside.ids.items = search rules in
-    keeps-seen _ c.self.inside.folders c.delete_in.new.folders c.self.inside.ids.items _ c.self.view_is c.self.invariant.within n c.delete_in.ensures.stays
+    keeps-seen _ c.self.inside.folders c.delete_in.new.folders c.self.inside.opened _ c.self.inside.ids.items _ c.self.view_is c.self.invariant.within n c.delete_in.ensures.stays
 
 pub returns-clause-keeps : goal.returns-clause-keeps
 returns-clause-keeps g c =
     let n : c.len-base.result ≡ length c.self.inside.ids.items = search rules in
-    keeps-seen _ c.self.inside.folders c.delete_in.new.folders c.self.inside.ids.items _ c.self.view_is c.self.invariant.within n c.delete_in.ensures.stays
+    keeps-seen _ c.self.inside.folders c.delete_in.new.folders c.self.inside.opened _ c.self.inside.ids.items _ c.self.view_is c.self.invariant.within n c.delete_in.ensures.stays
 
 pub returns-clause-map : goal.returns-clause-map
 returns-clause-map g c =
+    let a = c.self.inside.folders in
+    let b = c.delete_in.new.folders in
     let ids = c.self.inside.ids.items in
-    let before = map-seen _ c.self.inside.folders ids c.args.tree c.self.view_is c.requires.tree in
-    stands-for c.delete_in.new.folders ids _ _ c.in_ok-number.ensures.inside (c.in_ok-number.ensures.map ∙ ap (delete (components c.args.path.now)) before)
+    let n : c.len.result ≡ count_of a = search rules in
+    let last : c.len-2.result ≡ count_of b = search rules in
+    let start = start-of _ a c.self.inside.opened c.take.result ids c.args.tree c.len.result c.start_with-start.result c.self.view_is c.self.invariant.opens c.requires.tree n c.take.ensures.value c.start_with-start.ensures in
+    rw c.parts_of-number.ensures.opened (stands-start b c.in_ok-left.left ids _ _ c.in_ok-left.ensures.start (c.parts_of-number.ensures.number b last)
+    (c.in_ok-left.ensures.map ∙ ap (delete (components c.args.path.now)) start.1))

@@ -1,26 +1,43 @@
-use Rattle.std.proofs.Common.{rules, ◌≡◌, [], ℕ, length, ap, refl, subst, ◌∙◌, arith}
+use Rattle.std.proofs.Common.{rules, ◌≡◌, [], ℕ, length, None, ap, subst, ◌∙◌, arith}
 use Rattle.swh_trees.specs.Grove.{Grove, Keeps, map_of}
 use Rattle.swh_trees.specs.Held.{grove}
 use Rattle.swh_folders.specs.PathMap.{PathMap}
-use Rattle.swh_folders.specs.Working.{StaysBelow, root_map, folder_at}
+use Rattle.swh_folders.specs.Working.{StaysBelow, count_of, root_map, folder_at}
 use Rattle.std.proofs.lemmas.List.{get_or_default}
 use Rattle.std.proofs.lemmas.Result.{err_from_is_err_and}
 use Rattle.swh_trees.specs.Makes.{Makes, ExplainsTree}
 use Rattle.swh_folders.proofs.Workings.{stays-on}
-use Rattle.swh_trees.proofs.Parts.{tree-seen, map-seen, keeps-stays, on-err, explained, IsMaking, makes-done}
+use Rattle.swh_trees.proofs.Parts.{bare-stays, keeps-seen, keeps-stays, on-err, explained, IsMaking, makes-done, makes-from, start-of}
 use Rattle.swh_trees.proofs.trees.Trees.make.Goals as goal
 
-pub root_number-requires-clause-root : goal.root_number-requires-clause-root
-root_number-requires-clause-root g c = tree-seen _ c.self.inside.folders c.self.inside.ids.items c.args.tree c.self.view_is c.requires
+pub root_from-requires-clause-start : goal.root_from-requires-clause-start
+root_from-requires-clause-start g c =
+    let a = c.self.inside.folders in
+    let n : c.len.result ≡ count_of a = search rules in
+    (start-of _ a c.self.inside.opened c.take.result c.self.inside.ids.items c.args.tree c.len.result c.start_with-start.result c.self.view_is c.self.invariant.opens c.requires n c.take.ensures.value c.start_with-start.ensures).0
+
+pub returns-in_err-there-clause-keeps : goal.returns-in_err-there-clause-keeps
+returns-in_err-there-clause-keeps g c =
+    let ids = c.self.inside.ids.items in
+    let n : c.len-base.result ≡ length ids = search rules in
+    on-err c.from_residual.result (keeps-seen _ c.self.inside.folders c.root_from.new.folders c.self.inside.opened _ ids _ c.self.view_is c.self.invariant.within n c.root_from.ensures.stays)
+
+pub root_number-requires-clause-empty : goal.root_number-requires-clause-empty
+root_number-requires-clause-empty g c =
+    let a = c.self.inside.folders in
+    let b = c.root_from.new.folders in
+    let ids = c.self.inside.ids.items in
+    let n : c.len-base.result ≡ length ids = search rules in
+    let stays = subst (λ (k : ℕ). StaysBelow k a b) n c.root_from.ensures.stays in
+    rw n (bare-stays (folder_at a) (folder_at b) (length ids) c.self.inside.empty stays.stay c.self.invariant.no_files)
 
 pub returns-in_err-root-clause-keeps : goal.returns-in_err-root-clause-keeps
 returns-in_err-root-clause-keeps g c =
     let a = c.self.inside.folders in
-    let b = c.root_number.new.folders in
     let ids = c.self.inside.ids.items in
-    let n : c.len-base.result ≡ length c.self.inside.ids.items = search rules in
-    on-err c.from_residual.result (subst (λ (v : Grove). Keeps v (grove b.names.items b.nodes.items ids)) c.self.view_is
-    (keeps-stays a b ids ids c.self.invariant.within (subst (λ (k : ℕ). StaysBelow k a b) n c.root_number.ensures.stays) refl))
+    let n : c.len-base.result ≡ length ids = search rules in
+    on-err c.from_residual-in_err-root.result (keeps-seen _ a c.root_number.new.folders c.self.inside.opened _ ids _ c.self.view_is c.self.invariant.within n
+    (stays-on c.len-base.result a c.root_from.new.folders c.root_number.new.folders c.root_from.ensures.stays c.root_number.ensures.stays))
 
 pub returns-in_err-number-clause-keeps : goal.returns-in_err-number-clause-keeps
 returns-in_err-number-clause-keeps g c =
@@ -28,42 +45,49 @@ returns-in_err-number-clause-keeps g c =
     let b = c.root_number.new.folders in
     let d = c.make_folders.new.folders in
     let ids = c.self.inside.ids.items in
-    let n : c.len-base.result ≡ length c.self.inside.ids.items = search rules in
-    let first = subst (λ (k : ℕ). StaysBelow k a b) n c.root_number.ensures.stays in
-    on-err c.from_residual-in_err-number.result (subst (λ (v : Grove). Keeps v (grove d.names.items d.nodes.items c.make_folders.new.ids.items)) c.self.view_is
-    (keeps-stays a d ids c.make_folders.new.ids.items c.self.invariant.within (stays-on (length ids) a b d first c.make_folders.ensures.stays) (ap length c.in_err-number.ensures.none_made)))
+    let n : c.len-base.result ≡ length ids = search rules in
+    let first = subst (λ (k : ℕ). StaysBelow k a b) n (stays-on c.len-base.result a c.root_from.new.folders b c.root_from.ensures.stays c.root_number.ensures.stays) in
+    on-err c.from_residual-in_err-number.result (subst (λ (v : Grove). Keeps v (grove d.names.items d.nodes.items c.take.new.self c.make_folders.new.ids.items)) c.self.view_is
+    (keeps-stays a d c.self.inside.opened _ ids c.make_folders.new.ids.items c.self.invariant.within (stays-on (length ids) a b d first c.make_folders.ensures.stays) (ap length c.in_err-number.ensures.none_made)))
 
 pub returns-in_err-number-clause-err : goal.returns-in_err-number-clause-err
 returns-in_err-number-clause-err g c =
     let a = c.self.inside.folders in
     let b = c.root_number.new.folders in
     let ids = c.self.inside.ids.items in
-    let before : root_map a c.args.tree.number ≡ map_of c.args.self.now c.args.tree = map-seen _ a ids c.args.tree c.self.view_is c.requires in
+    let count : c.len.result ≡ count_of a = search rules in
+    let start = start-of _ a c.self.inside.opened c.take.result ids c.args.tree c.len.result c.start_with-start.result c.self.view_is c.self.invariant.opens c.requires count c.take.ensures.value c.start_with-start.ensures in
+    let before = c.in_ok-there.ensures.map ∙ start.1 in
     let good = c.root_number.ensures.stays.good in
     let p = err_from_is_err_and c.from_residual-in_err-number.result c.from_residual-in_err-number.ensures.1 in
     rw (p.1, p.2) (subst (λ (m : PathMap). ExplainsTree g.N.Namer.id_of m c.in_err-number.field-0.0) before
-    (explained g.N.Namer.id_of a c.args.tree.number (folder_at b c.in_ok-root.root) c.in_err-number.field-0.0 (good.sound c.in_ok-root.root c.in_ok-root.ensures.inside) c.in_ok-root.ensures.same c.in_err-number.ensures.err))
+    (explained g.N.Namer.id_of c.root_from.new.folders c.in_ok-there.there (folder_at b c.in_ok-root.root) c.in_err-number.field-0.0 (good.sound c.in_ok-root.root c.in_ok-root.ensures.inside) c.in_ok-root.ensures.same c.in_err-number.ensures.err))
 
 pub returns-clause-makes : goal.returns-clause-makes
 returns-clause-makes g c =
     let a = c.self.inside.folders in
+    let closed = c.root_from.new.folders in
     let b = c.root_number.new.folders in
     let d = c.make_folders.new.folders in
     let ids = c.self.inside.ids.items in
     let ids' = c.make_folders.new.ids.items in
-    let n : c.len-base.result ≡ length c.self.inside.ids.items = search rules in
-    let before : root_map a c.args.tree.number ≡ map_of c.args.self.now c.args.tree = map-seen _ a ids c.args.tree c.self.view_is c.requires in
-    let first = subst (λ (k : ℕ). StaysBelow k a b) n c.root_number.ensures.stays in
+    let n : c.len-base.result ≡ length ids = search rules in
+    let count : c.len.result ≡ count_of a = search rules in
+    let start = start-of _ a c.self.inside.opened c.take.result ids c.args.tree c.len.result c.start_with-start.result c.self.view_is c.self.invariant.opens c.requires count c.take.ensures.value c.start_with-start.ensures in
+    let before : root_map closed c.in_ok-there.there ≡ map_of c.args.self.now c.args.tree = c.in_ok-there.ensures.map ∙ start.1 in
+    let stays = subst (λ (k : ℕ). StaysBelow k a closed) n c.root_from.ensures.stays in
+    let first = subst (λ (k : ℕ). StaysBelow k closed b) n c.root_number.ensures.stays in
     let all = c.in_ok-number.ensures.all in
     let inside = c.in_ok-number.ensures.inside in
     let own = c.index-id.ensures ∙ get_or_default ids' c.in_ok-number.number _ [] (omega arith) in
-    let making : IsMaking g.N.Namer.id_of a b d (length ids) c.in_ok-root.root c.in_ok-number.number = record {
+    let making : IsMaking g.N.Namer.id_of closed b d (length ids) c.in_ok-root.root c.in_ok-number.number = record {
       first = first;
       then = c.make_folders.ensures.stays;
       root = c.in_ok-number.ensures.same;
       inside = inside;
       parts = c.in_ok-number.ensures.parts;
     } in
-    let done = makes-done g.N.Namer.id_of a b d ids ids' c.args.tree.number c.in_ok-root.root c.in_ok-number.number c.kept-empty.result.0 c.index-id.result.now c.in_ok-number.objects.items c.self.invariant.good c.self.invariant.within making c.in_ok-root.ensures.same all c.make_folders.ensures.known c.in_ok-number.ensures.each c.in_ok-number.ensures.objects own c.kept-empty.ensures.tree in
-    subst (λ (v : Grove). Makes g.N.Namer.id_of v (grove d.names.items d.nodes.items ids') (map_of c.args.self.now c.args.tree) c.kept-empty.result.0 c.index-id.result.now c.in_ok-number.objects.items) c.self.view_is
-    (subst (λ (m : PathMap). Makes g.N.Namer.id_of (grove a.names.items a.nodes.items ids) (grove d.names.items d.nodes.items ids') m c.kept-empty.result.0 c.index-id.result.now c.in_ok-number.objects.items) before done)
+    let done = makes-done g.N.Namer.id_of closed b d ids ids' c.in_ok-there.there c.in_ok-root.root c.in_ok-number.number c.kept-empty.result.0 c.index-id.result.now c.in_ok-number.objects.items stays.good stays.long making c.in_ok-root.ensures.same all c.make_folders.ensures.known c.in_ok-number.ensures.each c.in_ok-number.ensures.objects own c.kept-empty.ensures.tree in
+    let from = makes-from g.N.Namer.id_of a closed c.self.inside.opened ids (grove d.names.items d.nodes.items None ids') (root_map closed c.in_ok-there.there) c.kept-empty.result.0 c.index-id.result.now c.in_ok-number.objects.items c.self.invariant.within stays done in
+    rw c.take.ensures.after (subst (λ (v : Grove). Makes g.N.Namer.id_of v (grove d.names.items d.nodes.items None ids') (map_of c.args.self.now c.args.tree) c.kept-empty.result.0 c.index-id.result.now c.in_ok-number.objects.items) c.self.view_is
+    (subst (λ (m : PathMap). Makes g.N.Namer.id_of (grove a.names.items a.nodes.items c.self.inside.opened ids) (grove d.names.items d.nodes.items None ids') m c.kept-empty.result.0 c.index-id.result.now c.in_ok-number.objects.items) before from))

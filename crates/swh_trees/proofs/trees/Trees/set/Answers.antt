@@ -1,31 +1,37 @@
-use Rattle.std.proofs.Common.{rules, ◌≡◌, ℕ, List, length, ap, ◌∙◌}
+use Rattle.std.proofs.Common.{rules, ◌≡◌, ℕ, List, length, ap, ◌∙◌, Some}
 use Rattle.swh_fastlex.specs.Path.{components}
 use Rattle.swh_folders.specs.declared.entry.Leaf.{Leaf}
+use Rattle.swh_folders.specs.Opened.{start_map}
 use Rattle.swh_folders.specs.PathMap.{set}
-use Rattle.swh_folders.specs.Working.{root_map}
-use Rattle.swh_trees.specs.Grove.{map_of}
-use Rattle.swh_trees.proofs.Parts.{keeps-seen, map-seen, stands-for, tree-seen}
+use Rattle.swh_folders.specs.Working.{count_of}
+use Rattle.swh_trees.proofs.Parts.{keeps-seen, stands-open, start-of}
 use Rattle.swh_trees.proofs.trees.Trees.set.Goals as goal
 
-pub set_in-requires-clause-root : goal.set_in-requires-clause-root
-set_in-requires-clause-root g c = tree-seen _ c.self.inside.folders c.self.inside.ids.items c.args.tree c.self.view_is c.requires.tree
+pub set_in-requires-clause-start : goal.set_in-requires-clause-start
+set_in-requires-clause-start g c =
+    let a = c.self.inside.folders in
+    let n : c.len.result ≡ count_of a = search rules in
+    (start-of _ a c.self.inside.opened c.take.result c.self.inside.ids.items c.args.tree c.len.result c.start_with-start.result c.self.view_is c.self.invariant.opens c.requires.tree n c.take.ensures.value c.start_with-start.ensures).0
 
-pub returns-in_err-number-clause-keeps : goal.returns-in_err-number-clause-keeps
-returns-in_err-number-clause-keeps g c =
+pub returns-in_err-opened-clause-keeps : goal.returns-in_err-opened-clause-keeps
+returns-in_err-opened-clause-keeps g c =
     let n : c.len-base.result ≡ length c.self.inside.ids.items = search rules in
-    keeps-seen _ c.self.inside.folders c.set_in.new.folders c.self.inside.ids.items _ c.self.view_is c.self.invariant.within n c.set_in.ensures.stays
+    keeps-seen _ c.self.inside.folders c.set_in.new.folders c.self.inside.opened _ c.self.inside.ids.items _ c.self.view_is c.self.invariant.within n c.set_in.ensures.stays
 
 pub returns-clause-keeps : goal.returns-clause-keeps
 returns-clause-keeps g c =
     let n : c.len-base.result ≡ length c.self.inside.ids.items = search rules in
-    keeps-seen _ c.self.inside.folders c.set_in.new.folders c.self.inside.ids.items _ c.self.view_is c.self.invariant.within n c.set_in.ensures.stays
+    keeps-seen _ c.self.inside.folders c.set_in.new.folders c.self.inside.opened (Some c.in_ok-opened.opened) c.self.inside.ids.items _ c.self.view_is c.self.invariant.within n c.set_in.ensures.stays
 
 pub returns-clause-map : goal.returns-clause-map
 returns-clause-map g c =
     let a = c.self.inside.folders in
+    let b = c.set_in.new.folders in
     let ids = c.self.inside.ids.items in
-    let before : root_map a c.args.tree.number ≡ map_of c.args.self.now c.args.tree = map-seen _ a ids c.args.tree c.self.view_is c.requires.tree in
+    let n : c.len.result ≡ count_of a = search rules in
+    let last : c.len-2.result ≡ count_of b = search rules in
+    let start = start-of _ a c.self.inside.opened c.take.result ids c.args.tree c.len.result c.start_with-start.result c.self.view_is c.self.invariant.opens c.requires.tree n c.take.ensures.value c.start_with-start.ensures in
     let p = components c.args.path.now in
     let whole : record { mode = c.args.leaf.mode; id = c.whole_id.result } ≡ c.args.leaf = ap (λ (i : List ℕ). record { mode = c.args.leaf.mode; id = i }) c.whole_id.ensures.same in
-    stands-for c.set_in.new.folders ids _ _ c.in_ok-number.ensures.inside
-    (c.in_ok-number.ensures.map ∙ ap (λ (l : Leaf). set p l (root_map a c.args.tree.number)) whole ∙ ap (set p c.args.leaf) before)
+    stands-open b c.in_ok-opened.opened ids _ _ (ap Some last)
+    (c.in_ok-opened.ensures.map ∙ ap (λ (l : Leaf). set p l (start_map a c.start_with-start.result)) whole ∙ ap (set p c.args.leaf) start.1)

@@ -1,0 +1,78 @@
+-- What is left when a folder is opened, edited and closed.
+use Rattle.std.proofs.Common.{◌≡◌, inl, inr, ℕ, ◌<◌, ◌≤◌, List, [], ◌∷◌, length, Option, Some, None, refl, sym, ap, subst, ◌∙◌}
+use Rattle.std.specs.Global.{Vec}
+use Rattle.std.specs.List.{AllByRecursion}
+use Rattle.swh_base.specs.Directory.{IsEntryName}
+use Rattle.swh_folders.specs.declared.entry.Child.{Child}
+use Rattle.swh_folders.specs.declared.entry.Entry.{Entry}
+use Rattle.swh_folders.specs.declared.folders.Folders.{Folders}
+use Rattle.swh_folders.specs.declared.opened.Opened.{Opened}
+use Rattle.swh_folders.specs.Listed.{Listed}
+use Rattle.swh_folders.specs.Arena.{stands_of, forest_of, texts, tree_at, entries_without, AreGood, IsIn, Extends, Grows}
+use Rattle.swh_folders.specs.Forest.{Forest, Stands, IsFolder, child_at, put, inserted, forest, found, graft}
+use Rattle.swh_folders.specs.Live.{IsPart}
+use Rattle.swh_folders.specs.Opened.{folder_path, own_forest, IsOpened, StaysBounded}
+use Rattle.swh_folders.specs.Roots.{IsBelow, IsGood, root_forest}
+use Rattle.swh_folders.specs.Sound.{IsSound}
+use Rattle.swh_folders.specs.Working.{AreFolders, folder_at, count_of, StaysBelow, AreNeeded}
+use Rattle.swh_folders.proofs.Arenas.{arena-names, sound-names, tree-names, put-added}
+use Rattle.swh_folders.proofs.EditedRoots.{root_sound}
+use Rattle.swh_folders.proofs.Openings.{root-names}
+use Rattle.swh_folders.proofs.Overwrites.{found-same, graft-same}
+use Rattle.swh_folders.proofs.Sounds.{forest-sound, child-sound, found-sound}
+use Rattle.swh_folders.proofs.Steps.{forest-without, without-good}
+
+pub found-here : (p : List (List ℕ)) (y : Stands) (g : Forest) → forest y ≡ g → forest (found p y) ≡ forest (found p (IsFolder g))
+found-here p y g is = sym (found-same p y) ∙ ap (λ (f : Forest). forest (found p (IsFolder f))) is
+
+pub graft-here : (p : List (List ℕ)) (x y : Stands) (g : Forest) → forest y ≡ g → graft p x y ≡ graft p x (IsFolder g)
+graft-here p x y g is = sym (graft-same p x y) ∙ ap (λ (f : Forest). graft p x (IsFolder f)) is
+
+pub found-forest : (p : List (List ℕ)) (y : Stands) → IsSound (forest y) → IsSound (forest (found p y))
+found-forest [] y s = s
+found-forest (c ∷ p) y s = forest-sound (found p (child_at c (forest y))) (found-sound p (child_at c (forest y)) (child-sound c (forest y) s))
+
+pub root-grown : (names names' : List (Vec ℕ)) (nodes nodes' : List Listed) (r : Option ℕ) → IsBelow (length nodes) r → Grows names nodes names' nodes' → root_forest (tree_at names' nodes') r ≡ root_forest (tree_at names nodes) r
+root-grown names names' nodes nodes' None low grows = refl
+root-grown names names' nodes nodes' (Some n) low grows = grows.trees n low
+
+pub taken-opened : (names : List (Vec ℕ)) (nodes : List Listed) (o : Opened) (p : List (List ℕ)) → IsGood names nodes → IsBelow (length nodes) o.root → folder_path o.path ≡ p → AllByRecursion IsEntryName p → AreGood (length names) (length nodes) o.node.items → own_forest names nodes o ≡ forest (found p (IsFolder (root_forest (tree_at names nodes) o.root))) → IsOpened names nodes o
+taken-opened names nodes o p good low is plain entries own = record {
+  root = low;
+  path = subst (λ (q : List (List ℕ)). AllByRecursion IsEntryName q) (sym is) plain;
+  entries = entries;
+  sound = subst IsSound (sym own) (found-forest p (IsFolder (root_forest (tree_at names nodes) o.root)) (root_sound names nodes o.root good.sound low));
+}
+
+pub edited-own : (names names' : List (Vec ℕ)) (nodes : List Listed) (es : List Entry) (name : List ℕ) (child : Option Child) (rest out : List Entry) → IsGood names nodes → Extends names names' → AreGood (length names) (length nodes) es → IsIn (length nodes) child → rest ≡ entries_without (texts names) name es → forest_of (texts names') (tree_at names' nodes) out ≡ inserted name (stands_of (tree_at names' nodes) child) (forest_of (texts names) (tree_at names' nodes) rest) → forest_of (texts names') (tree_at names' nodes) out ≡ put name (stands_of (tree_at names nodes) child) (forest_of (texts names) (tree_at names nodes) es)
+edited-own names names' nodes es name child rest out good more entries low is added =
+    put-added names names' nodes child (forest_of (texts names) (tree_at names nodes) es) name rest out good.arena more low
+    (subst (λ (r : List Entry). AreGood (length names) (length nodes) r) (sym is) (without-good (texts names) name (length names) (length nodes) es entries)) added
+    (ap (forest_of (texts names) (tree_at names nodes)) is ∙ forest-without (texts names) name (tree_at names nodes) es)
+
+pub good-names : (names names' : List (Vec ℕ)) (nodes : List Listed) → IsGood names nodes → Extends names names' → IsGood names' nodes
+good-names names names' nodes good more = record {
+  arena = arena-names names names' nodes good.arena more;
+  sound = sound-names names names' nodes good.arena more good.sound;
+}
+
+pub stays-self : (base : ℕ) (f : Folders) → base ≤ count_of f → AreFolders f → StaysBelow base f f
+stays-self base f le good = record { good = good; long = le; stay = λ j lt. refl }
+
+pub stays-names : (base : ℕ) (old mid new : Folders) → StaysBelow base old mid → Extends mid.names.items new.names.items → new.nodes.items ≡ mid.nodes.items → StaysBelow base old new
+stays-names base old mid new s more same = record {
+  good = rw same (good-names mid.names.items new.names.items mid.nodes.items s.good more);
+  long = rw same s.long;
+  stay = λ j lt. ap (λ (k : List Listed). tree_at new.names.items k j) same ∙ tree-names mid.names.items new.names.items mid.nodes.items s.good.arena more j ∙ s.stay j lt;
+}
+
+needed_names : (base : ℕ) (mid new : Folders) (root : Option ℕ) → AreFolders mid → Extends mid.names.items new.names.items → new.nodes.items ≡ mid.nodes.items → AreNeeded base mid root → AreNeeded base new root
+needed_names base mid new root good more same h = λ n le lt.
+    let there : folder_at new n ≡ folder_at mid n = ap (λ (k : List Listed). tree_at new.names.items k n) same ∙ tree-names mid.names.items new.names.items mid.nodes.items good.arena more n in
+    let is : root_forest (folder_at new) root ≡ root_forest (folder_at mid) root = ap (λ (k : List Listed). root_forest (tree_at new.names.items k) root) same ∙ root-names mid.names.items new.names.items mid.nodes.items root good.arena more in
+    subst (λ (g : Forest). IsPart (IsFolder g) (folder_at new n)) (sym is) (subst (λ (g : Forest). IsPart (IsFolder (root_forest (folder_at mid) root)) g) (sym there) (h n le (subst (λ (k : List Listed). n < length k) same lt)))
+
+pub bounded-names : (base : ℕ) (old mid new : Folders) (root : Option ℕ) → AreFolders mid → Extends mid.names.items new.names.items → new.nodes.items ≡ mid.nodes.items → new.most ≡ mid.most → StaysBounded base old mid root → StaysBounded base old new root
+bounded-names base old mid new root good more same most (inl h) = inl (ap length same ∙ h.0, most ∙ h.1)
+bounded-names base old mid new root good more same most (inr (inl h)) = inr (inl (rw (same, most) h.0, most ∙ h.1))
+bounded-names base old mid new root good more same most (inr (inr h)) = inr (inr (needed_names base mid new root good more same h.0, rw (same, most) h.1))
