@@ -1,14 +1,15 @@
 -- Entries ascend, so a search finds where an entry of a name and an order stands.
-use Rattle.std.proofs.Common.{◌≡◌, ◌≢◌, ℕ, zero, suc, ◌+◌, ◌<◌, Bool, true, false, inl, inr, List, [], ◌∷◌, ◌++◌, length, get_or, refl, sym, ap, ◌∙◌, arith}
+use Rattle.std.proofs.Common.{◌≡◌, ◌≢◌, ℕ, zero, suc, ◌+◌, ◌<◌, Bool, true, false, inl, inr, List, [], ◌∷◌, ◌++◌, length, get_or, refl, sym, ap, ◌∙◌, subst, arith, All}
 use Rattle.std.specs.List.{AllByRecursion, AllWithin}
-use Rattle.std.specs.Ordering.{nat_cmp, is_lt}
+use Rattle.std.specs.Ordering.{nat_cmp, is_lt, ordering_reverse, ordering_then}
+use Rattle.std.specs.declared.cmp.Ordering.{Ordering}
 use Rattle.std.specs.Cmp.Lexicographic.{slice_cmp}
-use Rattle.std.specs.declared.cmp.Ordering.TheVariants.{Less, Greater}
+use Rattle.std.specs.declared.cmp.Ordering.TheVariants.{Less, Equal, Greater}
 use Rattle.std.proofs.lemmas.Bool.{cases_lt}
-use Rattle.std.proofs.lemmas.Cmp.{nat_list_cmp_total}
+use Rattle.std.proofs.lemmas.Cmp.{nat_cmp_total, nat_list_cmp_total}
 use Rattle.std.proofs.lemmas.List.{get_or_default}
 use Rattle.std.proofs.lemmas.List.Elements.{All-from_recursion}
-use Rattle.swh_base.specs.Directory.{DirectoryEntry, IsBefore, AreEntries, suffix_of}
+use Rattle.swh_base.specs.Directory.{DirectoryEntry, IsBefore, IsAfter, AreEntries, suffix_of}
 use Rattle.swh_pieces.proofs.Lasts.{less_from}
 use Rattle.swh_dirfmt.specs.declared.entry.SpelledEntry.{SpelledEntry}
 use Rattle.swh_dirfmt.specs.Entries.{entry_of, entries_in_body, key_of, comes_before}
@@ -69,3 +70,29 @@ none_so_named xs name suffix place h before others other k d within s e =
     let is : key_of (get_or xs k d) ≡ name ++ suffix = ap (λ (n : List ℕ). n ++ suffix_of (get_or xs k d).mode) e ∙ ap (λ (t : List ℕ). name ++ t) s in
     let same = place_of xs (name ++ suffix) place k d h before others within is in
     other d (omega arith) (ap (λ (i : ℕ). (get_or xs i d).name.now) same ∙ e)
+
+own_reverse : (o : Ordering) → o ≡ ordering_reverse o → o ≡ Equal
+own_reverse Less e = absurd (cc)
+own_reverse Equal e = refl
+own_reverse Greater e = absurd (cc)
+
+same_number : (n : ℕ) → nat_cmp n n ≡ Equal
+same_number n = own_reverse (nat_cmp n n) (nat_cmp_total.antisymm n n)
+
+-- a text that goes on does not come before its front
+never_longer : (front more : List ℕ) → slice_cmp nat_cmp (front ++ more) (front ++ []) ≡ Less → ⊥
+never_longer [] [] e = cc
+never_longer [] (n ∷ more) e = cc
+never_longer (n ∷ front) more e = never_longer front more (sym (ap (λ (o : Ordering). ordering_then o (slice_cmp nat_cmp (front ++ more) (front ++ []))) (same_number n)) ∙ e)
+
+-- a file of this name
+abbrev pub file_of : List ℕ → DirectoryEntry
+file_of name = record { mode = 100644; name = name; id = [] }
+
+unnamed : (xs : List SpelledEntry) (name : List ℕ) → AllByRecursion (λ (other : DirectoryEntry). IsBefore other (file_of name)) (entries_in_body xs) → AllByRecursion (λ (other : SpelledEntry). other.name.now ≢ name) xs
+unnamed [] name h = tt
+unnamed (x ∷ xs) name h = ((λ e. never_longer name (suffix_of x.mode) (subst (λ (n : List ℕ). slice_cmp nat_cmp (n ++ suffix_of x.mode) (name ++ []) ≡ Less) e h.0)), unnamed xs name h.1)
+
+-- Entries that all come before a file have not its name.
+pub none_past : (xs : List SpelledEntry) (name : List ℕ) → IsAfter (entries_in_body xs) (file_of name) → All (λ (other : SpelledEntry). other.name.now ≢ name) xs
+none_past xs name h = All-from_recursion (λ (other : SpelledEntry). other.name.now ≢ name) xs (unnamed xs name h)

@@ -58,11 +58,27 @@ fn has_name(entries: &[SpelledEntry<'_>], mode: u32, name: &[u8]) -> bool
     }
 }
 
-/// Whether no entry has this name, neither as a file nor as a folder. Two searches find it, since the entries ascend.
+/// Whether this name, as a file's, comes after all of the entries: then none of them has it, neither as a file nor as a
+/// folder.
+fn is_past(before: &[SpelledEntry<'_>], name: &[u8]) -> bool
+    requires { AreEntries (entries_in_body before.now) }
+    ensures { IsTrue result → All (λ other. other.name.now ≢ name.now) before.now }
+{
+    match before.last() {
+        Some(last) => is_before(last.mode, last.name, 100_644, name),
+        None => true,
+    }
+}
+
+/// Whether no entry has this name, neither as a file nor as a folder. Since the entries ascend, the last one mostly tells;
+/// where it does not, as for `a` after `a.b`, two searches find it.
 pub fn is_fresh(before: &[SpelledEntry<'_>], name: &[u8]) -> bool
     requires { AreEntries (entries_in_body before.now) }
     ensures { IsTrue result ↔ All (λ other. other.name.now ≢ name.now) before.now }
 {
+    if is_past(before, name) {
+        return true;
+    }
     let file = has_name(before, 100_644, name);
     let folder = has_name(before, 40_000, name);
     !file && !folder
