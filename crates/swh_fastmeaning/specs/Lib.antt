@@ -8,4 +8,3 @@ pub mod Parting
 pub mod Snapshots
 pub mod Stock
 pub mod Tips
-pub mod Making

@@ -13,7 +13,7 @@ use Rattle.swh_model.specs.Step.{IsHistory, HasItsChildrenAndName, replay}
 use Rattle.swh_model.proofs.Growing.{bodies_grow}
 use Rattle.swh_model.proofs.Histories.{fronts}
 use Rattle.swh_fastload.specs.Input.{Means}
-use Rattle.swh_fastmeaning.specs.Making.{made_from, made}
+use Rattle.swh_made.specs.Making.{made_from, made}
 use Rattle.swh_fastload.proofs.InputLaws.{one_making, unbroken}
 use Rattle.swh_loader.specs.Adding.{attempt}
 use Rattle.swh_loader.specs.Ending.{IsFull}

@@ -14,7 +14,7 @@ use Rattle.swh_model.specs.Step.{IsHistory, after, after_kind, after_all, replay
 use Rattle.swh_model.proofs.Histories.{fronts}
 use Rattle.swh_model.proofs.Maps.{added-all}
 use Rattle.swh_fastload.specs.Input.{Means}
-use Rattle.swh_fastmeaning.specs.Making.{made_from, made}
+use Rattle.swh_made.specs.Making.{made_from, made}
 use Rattle.swh_loader.specs.Adding.{Attempt, IsOwn, IsOwnKind}
 use Rattle.swh_loader.specs.Ending.{MeansObjects, IsMadeBy, Collided}
 use Rattle.swh_loader.specs.Leaving.{AddsVisit, AreOfVisit, next_visit}

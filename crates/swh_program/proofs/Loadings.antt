@@ -14,7 +14,7 @@ use Rattle.swh_format.specs.EventRecord.{AreCodable}
 use Rattle.swh_model.specs.Meaning.{Made as MadeObject, StreamMeaning}
 use Rattle.swh_model.specs.Step.{IsHistory, replay}
 use Rattle.swh_base.specs.Visit.{Statuses}
-use Rattle.swh_fastmeaning.specs.Making.{made}
+use Rattle.swh_made.specs.Making.{made}
 use Rattle.swh_model.proofs.Histories.{fronts}
 use Rattle.swh_loader.specs.Adding.{Attempt, attempt, open_event}
 use Rattle.swh_loader.specs.Ending.{statuses_of}
