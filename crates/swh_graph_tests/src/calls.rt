@@ -1,14 +1,14 @@
 //! What each call answers over the objects.
-use swh_graph_fixtures::objects::{
-    ABOVE, BY_MAIN, BY_TWO, CIRCLE, CUT, DANGLING, EMPTY, FIRST, FOLDER, HEADLESS, LEFT, MERGE,
-    MERGE_BACK, OBJECTS, OCTOPUS, OF_ABSENT, OF_BLOB, OF_RELEASE, OF_TREE, ON_CUT, RIGHT, SELF,
-    TO_ABSENT, TO_BLOB, TO_NONE, TO_SNAPSHOT, TOP, TREELESS, VERSION_1, WHOLE,
-};
 use std::alloc::Global;
 use std::test::Fail;
 use swh_base::Name;
 use swh_graph::{GraphFault, at_path, log, reach, resolve};
 use swh_graph_fixtures::archive_of;
+use swh_graph_fixtures::objects::{
+    ABOVE, BY_MAIN, BY_TWO, CIRCLE, CUT, DANGLING, EMPTY, FIRST, FOLDER, HEADLESS, LEFT, MERGE,
+    MERGE_BACK, OBJECTS, OCTOPUS, OF_ABSENT, OF_BLOB, OF_RELEASE, OF_TREE, ON_CUT, RIGHT, SELF,
+    TO_ABSENT, TO_BLOB, TO_NONE, TO_SNAPSHOT, TOP, TREELESS, VERSION_1, WHOLE,
+};
 use swh_replay::Replayed;
 use swh_swhid::{core_text, parse, parse_core};
 
