@@ -3,7 +3,7 @@ ghost use Rattle.std.specs.Prelude.{◌≡◌, ◌+◌, ◌≤◌, ◌<◌, ◌^
 
 use crate::event::append_run;
 use crate::reading::fill;
-use crate::{DiskFault, Run, RunFault};
+use crate::{DiskFault, RunFault};
 use std::alloc::Global;
 use std::marker::Model;
 use swh_base::Entry;
@@ -94,7 +94,7 @@ impl<D: Disk> Runs<D> {
         ensures cause { HasCause (D.faults self.old.disk) (D.faults self.new.disk) result }
     {
         let from = self.end;
-        append_run(&mut self.disk, from, Run::Batch(run))?;
+        append_run(&mut self.disk, from, run)?;
         self.end = from + run.len() as u64;
         Ok((from, self.end))
     }
