@@ -56,15 +56,14 @@ mod stored_object;
 mod told;
 
 pub use batch_record::{RunTold, run_told};
-pub use frame::{RecordParts, framed_record};
+pub use frame::RecordParts;
 pub use kinds::{Choice, Field, RecordKind, fields_of_payload, may_stand};
 pub use laws::{
     closed_at_once, files_stand_for_one_history, ledger_stands_once, lengths_are_counted,
     worked_bytes,
 };
-pub use mark_record::{MarkParts, snapshot_is_codable, split_mark};
+pub use mark_record::snapshot_is_codable;
 pub use number::{split_bytes, split_eight, split_four};
-pub use open_record::{OpenParts, split_open};
-pub use origin::{origin_is_codable, origin_of};
+pub use origin::origin_is_codable;
 pub use stored_object::{entries_are_codable, entry_is_codable, run_of_entries};
 pub use told::{read_whole, record_of_event};

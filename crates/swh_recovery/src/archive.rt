@@ -102,8 +102,8 @@ fn read_records<N: Namer, D: Disk>(
         StandsFor ledger.now (D.file store.old).seen (events records.items)) }
     ensures harm { D.tells → IfErr result (λ fault.
         IfDamaged fault (IsHarm N.id_of ledger.now (D.file store.old).seen)) }
-    ensures reads { OnlyReads D.tells UnlessDiskFault DiskFault (D.file store.old) (D.file store.new)
-        (D.faults store.old) (D.faults store.new) result }
+    ensures reads { OnlyReads D.tells UnlessDiskFault DiskFault (D.file store.old, D.faults store.old)
+        (D.file store.new, D.faults store.new) result }
 {
     let mut reached = Reached {
         gate: 8,
@@ -147,8 +147,8 @@ fn read_both<N: Namer, D: Disk>(
         StandsFor ledger.now (D.file store.old).seen (events records.items)) }
     ensures harm { D.tells → IfErr result (λ fault.
         IfDamaged fault (IsHarm N.id_of ledger.now (D.file store.old).seen)) }
-    ensures reads { OnlyReads D.tells UnlessDiskFault DiskFault (D.file store.old) (D.file store.new)
-        (D.faults store.old) (D.faults store.new) result }
+    ensures reads { OnlyReads D.tells UnlessDiskFault DiskFault (D.file store.old, D.faults store.old)
+        (D.file store.new, D.faults store.new) result }
 {
     if let Err(found) = check_magic(ledger) {
         return Err(damaged(NextFault::Harmed(0, found), Vec::new(alloc)));

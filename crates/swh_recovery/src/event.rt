@@ -83,8 +83,8 @@ fn read_batch<N: Namer, D: Disk>(
     ensures holds { D.tells → IfOk result (λ x. HoldsEvent place.start (D.file store.old).seen x.0 x.1) }
     ensures harm { D.tells → IfErr result (λ fault. IfNextHarmed fault
         (EventBreaks N.id_of place.number place.gate place.start parts.now (D.file store.old).seen)) }
-    ensures reads { OnlyReads D.tells UnlessDiskNext DiskFailed (D.file store.old) (D.file store.new)
-        (D.faults store.old) (D.faults store.new) result }
+    ensures reads { OnlyReads D.tells UnlessDiskNext DiskFailed (D.file store.old, D.faults store.old)
+        (D.file store.new, D.faults store.new) result }
 {
     let told = run_told(parts.payload);
     let entries = match read_run(alloc, namer, store, size, told.from, told.to) {
@@ -146,8 +146,8 @@ pub fn read_event<N: Namer, D: Disk>(
     ensures holds { D.tells → IfOk result (λ x. HoldsEvent place.start (D.file store.old).seen x.0 x.1) }
     ensures harm { D.tells → IfErr result (λ fault. IfNextHarmed fault
         (EventBreaks N.id_of place.number place.gate place.start parts.now (D.file store.old).seen)) }
-    ensures reads { OnlyReads D.tells UnlessDiskNext DiskFailed (D.file store.old) (D.file store.new)
-        (D.faults store.old) (D.faults store.new) result }
+    ensures reads { OnlyReads D.tells UnlessDiskNext DiskFailed (D.file store.old, D.faults store.old)
+        (D.file store.new, D.faults store.new) result }
 {
     if parts.kind == b'B' {
         return read_batch(alloc, namer, store, size, place, parts);

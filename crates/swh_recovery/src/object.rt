@@ -159,8 +159,8 @@ fn read_head<D: Disk>(
     ensures whole { OnOk result (29 ≤ have) }
     ensures harm { D.tells → IfErr result (λ fault.
         IfHarmed fault (FieldsBreak head_fields (window (D.file store.old).seen at have) at)) }
-    ensures reads { OnlyReads D.tells UnlessDisk DiskFailed (D.file store.old) (D.file store.new)
-        (D.faults store.old) (D.faults store.new) result }
+    ensures reads { OnlyReads D.tells UnlessDisk DiskFailed (D.file store.old, D.faults store.old)
+        (D.file store.new, D.faults store.new) result }
 {
     let count = have.min(HEAD as u64);
     reach(alloc, store, piece, at, count, have)?;
@@ -186,8 +186,8 @@ fn read_body<D: Disk>(
     ensures whole { OnOk result ((29 + size ≤ have) × (size ≤ body_limit)) }
     ensures count { IfOk result (λ body. length body.items ≤ size) }
     ensures harm { IfErr result (λ fault. IfHarmed fault (BodyHarmsAt at have size)) }
-    ensures reads { OnlyReads D.tells UnlessDisk DiskFailed (D.file store.old) (D.file store.new)
-        (D.faults store.old) (D.faults store.new) result }
+    ensures reads { OnlyReads D.tells UnlessDisk DiskFailed (D.file store.old, D.faults store.old)
+        (D.file store.new, D.faults store.new) result }
 {
     let have = have - HEAD as u64;
     if size > have {
@@ -223,8 +223,8 @@ pub fn read_object<N: Namer, D: Disk>(
     ensures whole { IfOk result (λ e. 29 + length e.body ≤ have) }
     ensures harm { D.tells → IfErr result (λ fault.
         IfHarmed fault (ObjectBreaks N.id_of (window (D.file store.old).seen at have) at)) }
-    ensures reads { OnlyReads D.tells UnlessDisk DiskFailed (D.file store.old) (D.file store.new)
-        (D.faults store.old) (D.faults store.new) result }
+    ensures reads { OnlyReads D.tells UnlessDisk DiskFailed (D.file store.old, D.faults store.old)
+        (D.file store.new, D.faults store.new) result }
 {
     let head = read_head(alloc, store, piece, at, have)?;
     let body = read_body(alloc, store, piece, at, have, head.size)?;

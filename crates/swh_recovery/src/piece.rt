@@ -103,8 +103,8 @@ pub fn read_behind<D: Disk>(
     ensures bytes { D.tells → IfOk result (λ bytes. bytes.items ≡ window (D.file disk.old).seen at count) }
     ensures count { IfOk result (λ bytes. length bytes.items ≤ count) }
     ensures why { IfErr result (λ fault. IfHarmed fault (λ _. ⊥)) }
-    ensures reads { OnlyReads D.tells UnlessDisk DiskFailed (D.file disk.old) (D.file disk.new)
-        (D.faults disk.old) (D.faults disk.new) result }
+    ensures reads { OnlyReads D.tells UnlessDisk DiskFailed (D.file disk.old, D.faults disk.old)
+        (D.file disk.new, D.faults disk.new) result }
 {
     let mut bytes = vec![in alloc; 0u8; count as usize]?;
     let count = fill_behind(disk, front, at, &mut bytes)?;
@@ -132,8 +132,8 @@ pub fn reach<D: Disk>(
     // A piece that reaches so far is used as it is: the disk is not read.
     ensures used { Reaches piece.old at count → (OnErr result ⊥) × (piece.new ≡ piece.old) × (disk.new ≡ disk.old) }
     ensures why { IfErr result (λ fault. IfHarmed fault (λ _. ⊥)) }
-    ensures reads { OnlyReads D.tells UnlessDisk DiskFailed (D.file disk.old) (D.file disk.new)
-        (D.faults disk.old) (D.faults disk.new) result }
+    ensures reads { OnlyReads D.tells UnlessDisk DiskFailed (D.file disk.old, D.faults disk.old)
+        (D.file disk.new, D.faults disk.new) result }
 {
     if reaches(piece, at, count) {
         return Ok(());

@@ -82,8 +82,8 @@ pub fn read_next<N: Namer, D: Disk>(
     ensures harm { D.tells → IfErr result (λ fault.
         IfNextHarmed fault (BreaksNext N.id_of ledger.now (D.file store.old).seen reached.new)) }
     ensures kept { IfErr result (λ fault. IfNextHarmed fault (λ _ _. reached.new ≡ reached.old)) }
-    ensures reads { OnlyReads D.tells UnlessDiskNext DiskFailed (D.file store.old) (D.file store.new)
-        (D.faults store.old) (D.faults store.new) result }
+    ensures reads { OnlyReads D.tells UnlessDiskNext DiskFailed (D.file store.old, D.faults store.old)
+        (D.file store.new, D.faults store.new) result }
 {
     let Some((gate, behind)) = split_gate(&ledger[reached.gate as usize..]) else {
         return Err(NextFault::Harmed(0, cut(0, 1, reached.gate)));

@@ -40,8 +40,8 @@ pub fn read_run<N: Namer, D: Disk>(
     ensures ok { D.tells → IfOk result (λ es. HoldsRun N.id_of from to (D.file store.old).seen es.items) }
     ensures harm { D.tells → IfErr result (λ fault.
         IfHarmed fault (RunBreaks N.id_of from to (D.file store.old).seen)) }
-    ensures reads { OnlyReads D.tells UnlessDisk DiskFailed (D.file store.old) (D.file store.new)
-        (D.faults store.old) (D.faults store.new) result }
+    ensures reads { OnlyReads D.tells UnlessDisk DiskFailed (D.file store.old, D.faults store.old)
+        (D.file store.new, D.faults store.new) result }
 {
     let end = to.min(size);
     let mut entries = Vec::new(alloc);

@@ -61,8 +61,8 @@ pub fn fill<D: Disk>(disk: &mut D, at: u64, out: &mut [u8]) -> Result<usize, Fai
 /// none.
 pub fn read_file<D: Disk>(alloc: Global, disk: &mut D) -> Result<Vec<u8>, ReadFileFault>
     ensures bytes { D.tells → IfOk result (λ bytes. bytes.items ≡ (D.file disk.old).seen) }
-    ensures reads { OnlyReads D.tells UnlessUnread DiskFailed (D.file disk.old) (D.file disk.new)
-        (D.faults disk.old) (D.faults disk.new) result }
+    ensures reads { OnlyReads D.tells UnlessUnread DiskFailed (D.file disk.old, D.faults disk.old)
+        (D.file disk.new, D.faults disk.new) result }
 {
     let size = disk.len()?;
     if size > MOST_BYTES {
