@@ -1,8 +1,8 @@
 -- What fields hold: their bytes say it in one way, and begin with the fields.
-use Rattle.std.proofs.Common.{◌≡◌, ℕ, ◌+◌, ◌≤◌, Option, Some, None, List, [], ◌∷◌, ◌++◌, length, refl, sym, ap, ◌∙◌, inl, inr, arith, length-append}
-use Rattle.swh_format.specs.declared.field.Field.{Field}
-use Rattle.swh_format.specs.declared.field.Field.TheVariants as field
-use Rattle.swh_format.specs.Fields.{coded_snapshot, IsSnapshotId, Content, field_text, Fits, Contents, text, AreFit, IsField, FieldsHold}
+use Rattle.std.proofs.Common.{◌≡◌, ℕ, ◌+◌, ◌≤◌, Option, Some, None, List, [], ◌∷◌, ◌++◌, length, refl, sym, ap, ◌∙◌, subst, inl, inr, arith, length-append}
+use Rattle.swh_format.specs.declared.kinds.Field.{Field}
+use Rattle.swh_format.specs.declared.kinds.Field.TheVariants as field
+use Rattle.swh_format.specs.Fields.{coded_snapshot, IsSnapshotId, Content, field_text, Fits, Contents, text, AreFit, IsField, FieldsHold, Spells}
 use Rattle.swh_format.proofs.Cuts.{cut, cut_four, cut_eight, same_head, same_tail}
 
 snapshot_same : (s t : Option (List ℕ)) (x y : List ℕ) → IsSnapshotId s → IsSnapshotId t → coded_snapshot s ++ x ≡ coded_snapshot t ++ y → (s ≡ t) × (x ≡ y)
@@ -72,3 +72,11 @@ text_short (f ∷ fs) c x h =
     let one = field_short f (field_text f c.0) (is_field f c.0 h.0) in
     let more = text_short fs c.1 x h.1 in
     omega (arith, one, more, length-append (field_text f c.0) (text fs c.1 x))
+
+-- Bytes that say something in fields begin with them.
+pub spells_hold : (fs : List Field) (bytes : List ℕ) → Spells fs bytes → FieldsHold fs bytes
+spells_hold fs bytes s = subst (FieldsHold fs) (sym s.says.spelled) (text_holds fs s.holds s.behind s.says.fit)
+
+-- They say one thing.
+pub one_spelling : (fs : List Field) (bytes bytes' : List ℕ) (s : Spells fs bytes) (t : Spells fs bytes') → bytes ≡ bytes' → (s.holds ≡ t.holds) × (s.behind ≡ t.behind)
+one_spelling fs bytes bytes' s t same = one_text fs s.holds t.holds s.behind t.behind s.says.fit t.says.fit (sym s.says.spelled ∙ same ∙ t.says.spelled)

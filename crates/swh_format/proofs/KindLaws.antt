@@ -8,12 +8,12 @@ use Rattle.swh_base.specs.declared.visit.Status.TheVariants.{Created, Ongoing, F
 use Rattle.swh_model.specs.declared.event.Event.{Event}
 use Rattle.swh_model.specs.declared.event.EventKind.{EventKind}
 use Rattle.swh_model.specs.declared.event.EventKind.TheVariants.{Batch, Open, Mark}
-use Rattle.swh_format.specs.declared.field.Choice.TheVariants as choice
-use Rattle.swh_format.specs.declared.field.RecordKind.{RecordKind}
-use Rattle.swh_format.specs.declared.field.RecordKind.TheVariants as kind
-use Rattle.swh_format.specs.Fields.{byte_of, choices, IsAmong, AreFit, FieldsHold}
-use Rattle.swh_format.specs.declared.field.Field.{Field}
-use Rattle.swh_format.specs.Kinds.{told_fields, fields_of, payload_fields}
+use Rattle.swh_format.specs.declared.kinds.Choice.TheVariants as choice
+use Rattle.swh_format.specs.declared.kinds.RecordKind.{RecordKind}
+use Rattle.swh_format.specs.declared.kinds.RecordKind.TheVariants as kind
+use Rattle.swh_format.specs.Fields.{IsAmong, AreFit, FieldsHold}
+use Rattle.swh_format.specs.Kinds.{byte_of, choices, told_fields, fields_of, payload_fields}
+use Rattle.swh_format.specs.declared.kinds.Field.{Field}
 use Rattle.swh_format.specs.OpenRecord.{visit_kind_number}
 use Rattle.swh_format.specs.MarkRecord.{status_number, IsMarkStatus}
 use Rattle.swh_format.specs.EventRecord.{kind_of, event_byte, contents_of, behind_fields, payload_of, IsCodableKind, IsCodable}

@@ -8,7 +8,7 @@ use Rattle.swh_base.specs.Name.{kind_number, name_key-injective}
 use Rattle.swh_model.specs.declared.event.Event.{Event}
 use Rattle.swh_model.specs.declared.event.EventKind.{EventKind}
 use Rattle.swh_model.specs.declared.event.EventKind.TheVariants.{Batch, Open, Mark}
-use Rattle.swh_format.specs.declared.field.RecordKind.TheVariants as kind
+use Rattle.swh_format.specs.declared.kinds.RecordKind.TheVariants as kind
 use Rattle.swh_format.specs.Record.{magic, framed}
 use Rattle.swh_format.specs.Fields.{Contents}
 use Rattle.swh_format.specs.Kinds.{told_fields}

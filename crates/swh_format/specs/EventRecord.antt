@@ -3,10 +3,10 @@ use Rattle.std.specs.Prelude.{ℕ, ◌+◌, ◌<◌, ◌^◌, Option, Some, None
 use Rattle.swh_model.specs.declared.event.Event.{Event}
 use Rattle.swh_model.specs.declared.event.EventKind.{EventKind}
 use Rattle.swh_model.specs.declared.event.EventKind.TheVariants.{Batch, Open, Mark}
-use Rattle.swh_format.specs.Fields.{byte_of, text, Contents}
-use Rattle.swh_format.specs.Kinds.{told_fields, fields_of}
-use Rattle.swh_format.specs.declared.field.RecordKind.{RecordKind}
-use Rattle.swh_format.specs.declared.field.RecordKind.TheVariants as kind
+use Rattle.swh_format.specs.Fields.{text, Contents}
+use Rattle.swh_format.specs.Kinds.{byte_of, told_fields, fields_of}
+use Rattle.swh_format.specs.declared.kinds.RecordKind.{RecordKind}
+use Rattle.swh_format.specs.declared.kinds.RecordKind.TheVariants as kind
 use Rattle.swh_format.specs.Record.{Record, body}
 use Rattle.swh_format.specs.Events.{run_bytes}
 use Rattle.swh_format.specs.StoredObject.{coded_run}

@@ -1,30 +1,9 @@
 -- Fields that stand one after another, what each may hold, and its bytes.
 use Rattle.std.specs.Prelude.{◌≡◌, ◌⊎◌, ℕ, ◌<◌, ◌^◌, Option, Some, None, List, [], ◌∷◌, ◌++◌, length}
 use Rattle.std.specs.Int.{w32, w64, to_be_bytes}
-use Rattle.swh_format.specs.declared.field.Choice.{Choice}
-use Rattle.swh_format.specs.declared.field.Choice.TheVariants as choice
-use Rattle.swh_format.specs.declared.field.Field.{Field}
-use Rattle.swh_format.specs.declared.field.Field.TheVariants as field
-use Rattle.swh_format.specs.declared.field.RecordKind.{RecordKind}
-use Rattle.swh_format.specs.declared.field.RecordKind.TheVariants as kind
-
--- a record's kind as a byte: `B`, `O` and `T`
-abbrev pub byte_of : RecordKind → ℕ
-byte_of kind.Batch = 66
-byte_of kind.Open = 79
-byte_of kind.Mark = 84
-
--- the bytes that may stand
-abbrev pub choices : Choice → List ℕ
-choices choice.Record = byte_of kind.Batch ∷ byte_of kind.Open ∷ byte_of kind.Mark ∷ []
--- fast, dir, batch
-choices choice.Visit = 1 ∷ 2 ∷ 3 ∷ []
--- ongoing, full, partial, not_found, failed
-choices choice.Status = 2 ∷ 3 ∷ 4 ∷ 5 ∷ 6 ∷ []
--- none, or one
-choices choice.Snapshot = 0 ∷ 1 ∷ []
--- content, directory, revision, release, snapshot
-choices choice.Object = 1 ∷ 2 ∷ 3 ∷ 4 ∷ 5 ∷ []
+use Rattle.swh_format.specs.declared.kinds.Field.{Field}
+use Rattle.swh_format.specs.declared.kinds.Field.TheVariants as field
+use Rattle.swh_format.specs.Kinds.{choices}
 
 -- The byte is one of these.
 abbrev pub IsAmong : ℕ → List ℕ → Type 0
@@ -92,3 +71,14 @@ IsField field.Snapshot bytes = (bytes ≡ 0 ∷ []) ⊎ ((id : List ℕ) × (byt
 abbrev pub FieldsHold : List Field → List ℕ → Type 0
 FieldsHold [] bytes = Unit {0}
 FieldsHold (f ∷ fs) bytes = (front : List ℕ) × (rest : List ℕ) × (bytes ≡ front ++ rest) × IsField f front × FieldsHold fs rest
+
+-- The bytes say this in the fields, and have this behind them.
+pub record Says (fs : List Field) (c : Contents fs) (bytes behind : List ℕ) : Type 0 where
+  pub spelled : bytes ≡ text fs c behind
+  pub fit : AreFit fs c
+
+-- What the bytes say in the fields with which they begin.
+pub record Spells (fs : List Field) (bytes : List ℕ) : Type 0 where
+  pub holds : Contents fs
+  pub behind : List ℕ
+  pub says : Says fs holds bytes behind

@@ -1,11 +1,29 @@
--- The kinds of records, each one list of fields. `docs/FORMATS.md` has them as a table.
+-- The kinds of records, each one list of fields, and the bytes that stand for kinds. `docs/FORMATS.md` has them as a table.
 use Rattle.std.specs.Prelude.{ℕ, ◌==◌, if◌then◌else◌, List, [], ◌∷◌}
-use Rattle.swh_format.specs.declared.field.Choice.TheVariants as choice
-use Rattle.swh_format.specs.declared.field.Field.{Field}
-use Rattle.swh_format.specs.declared.field.Field.TheVariants as field
-use Rattle.swh_format.specs.declared.field.RecordKind.{RecordKind}
-use Rattle.swh_format.specs.declared.field.RecordKind.TheVariants as kind
-use Rattle.swh_format.specs.Fields.{byte_of}
+use Rattle.swh_format.specs.declared.kinds.Choice.{Choice}
+use Rattle.swh_format.specs.declared.kinds.Choice.TheVariants as choice
+use Rattle.swh_format.specs.declared.kinds.Field.{Field}
+use Rattle.swh_format.specs.declared.kinds.Field.TheVariants as field
+use Rattle.swh_format.specs.declared.kinds.RecordKind.{RecordKind}
+use Rattle.swh_format.specs.declared.kinds.RecordKind.TheVariants as kind
+
+-- a record's kind as a byte: `B`, `O` and `T`
+abbrev pub byte_of : RecordKind → ℕ
+byte_of kind.Batch = 66
+byte_of kind.Open = 79
+byte_of kind.Mark = 84
+
+-- the bytes that may stand
+abbrev pub choices : Choice → List ℕ
+choices choice.Record = byte_of kind.Batch ∷ byte_of kind.Open ∷ byte_of kind.Mark ∷ []
+-- fast, dir, batch
+choices choice.Visit = 1 ∷ 2 ∷ 3 ∷ []
+-- ongoing, full, partial, not_found, failed
+choices choice.Status = 2 ∷ 3 ∷ 4 ∷ 5 ∷ 6 ∷ []
+-- none, or one
+choices choice.Snapshot = 0 ∷ 1 ∷ []
+-- content, directory, revision, release, snapshot
+choices choice.Object = 1 ∷ 2 ∷ 3 ∷ 4 ∷ 5 ∷ []
 
 -- what is told after who wrote the record
 abbrev pub told_fields : RecordKind → List Field

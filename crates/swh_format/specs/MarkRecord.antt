@@ -4,7 +4,7 @@ use Rattle.swh_base.specs.declared.visit.Status.{Status}
 use Rattle.swh_base.specs.declared.visit.Status.TheVariants.{Created, Ongoing, Full, Partial, NotFound, Failed}
 use Rattle.swh_format.specs.Fields.{text, Contents, IsSnapshotId}
 use Rattle.swh_format.specs.Kinds.{told_fields}
-use Rattle.swh_format.specs.declared.field.RecordKind.TheVariants as kind
+use Rattle.swh_format.specs.declared.kinds.RecordKind.TheVariants as kind
 use Rattle.swh_format.specs.Origin.{IsOrigin}
 use Rattle.swh_format.specs.declared.mark_record.MarkParts.{MarkParts}
 

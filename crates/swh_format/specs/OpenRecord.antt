@@ -4,7 +4,7 @@ use Rattle.swh_base.specs.declared.visit.VisitKind.{VisitKind}
 use Rattle.swh_base.specs.declared.visit.VisitKind.TheVariants.{Fast, Dir, Batch as BatchVisit}
 use Rattle.swh_format.specs.Fields.{text, Contents}
 use Rattle.swh_format.specs.Kinds.{told_fields}
-use Rattle.swh_format.specs.declared.field.RecordKind.TheVariants as kind
+use Rattle.swh_format.specs.declared.kinds.RecordKind.TheVariants as kind
 use Rattle.swh_format.specs.Origin.{IsOrigin}
 use Rattle.swh_format.specs.declared.open_record.OpenParts.{OpenParts}
 

@@ -1,19 +1,22 @@
 //! What is said of a batch in its record: how it is written and how it is read.
 ghost use Rattle.std.specs.Prelude.{◌≡◌, ◌++◌, [], OnOk};
-ghost use Rattle.swh_format.specs.Fields.{text, FieldsHold};
-ghost use Rattle.swh_format.specs.Kinds.{told_fields};
-ghost use Rattle.swh_format.specs.BatchRecord.{batch_contents, IsBatchTold};
-ghost use Rattle.swh_format.specs.declared.field.RecordKind.TheVariants as kind;
+ghost use Rattle.swh_format.specs.Fields.{text, FieldsHold, Says};
+ghost use Rattle.swh_format.specs.Kinds.{told_fields, fields_of};
+ghost use Rattle.swh_format.specs.BatchRecord.{batch_contents};
+ghost use Rattle.swh_format.specs.declared.kinds.RecordKind.TheVariants as kind;
 
 use crate::number::{split_eight, split_four};
 use swh_base::Memory;
 
-/// Where a batch's run begins and ends in the store, in bytes from its beginning, and the number of its objects.
+/// What a batch's payload says: who wrote it, where its run begins and ends in the store, in bytes from its beginning, the
+/// number of its objects, and what is left behind that.
 #[derive(Clone, Copy)]
-pub struct BatchParts {
+pub struct RunTold<'a> {
+    pub by: u32,
     pub from: u64,
     pub to: u64,
     pub number: u32,
+    pub left: &'a [u8],
 }
 
 /// Writes where a batch's run begins and ends, and the number of its objects.
@@ -27,13 +30,21 @@ pub fn push_batch(bytes: &mut Vec<u8>, at: u64, end: u64, number: u32) -> Result
     Ok(())
 }
 
-/// What a batch's payload tells after who wrote it, and what is left behind that.
-pub fn split_batch(told: &[u8]) -> (BatchParts, &[u8])
-    requires { FieldsHold (told_fields kind.Batch) told.now }
-    ensures { IsBatchTold told.now result.0 result.1.now }
+/// What a batch's payload says of its run.
+pub fn run_told(payload: &[u8]) -> RunTold<'_>
+    requires { FieldsHold (fields_of kind.Batch) payload.now }
+    ensures { Says (fields_of kind.Batch) (result.by, batch_contents result.from result.to result.number)
+        payload.now result.left.now }
 {
-    let (from, rest) = split_eight(told).unwrap();
+    let (by, rest) = split_four(payload).unwrap();
+    let (from, rest) = split_eight(rest).unwrap();
     let (to, rest) = split_eight(rest).unwrap();
     let (number, left) = split_four(rest).unwrap();
-    (BatchParts { from, to, number }, left)
+    RunTold {
+        by,
+        from,
+        to,
+        number,
+        left,
+    }
 }

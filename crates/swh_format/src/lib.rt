@@ -18,7 +18,7 @@
 //! Numbers are written with the highest byte first. The records that count are those up to the first closed gate. What
 //! follows it counts for nothing: it may be what is left of a record whose gate was never opened.
 //!
-//! A payload is the fields of its kind, one after another, which specs/Kinds.antt lists, and what is behind them:
+//! A payload is the fields of its kind, one after another, which kinds.rt lists, and what is behind them:
 //!
 //! ```text
 //! kind            fields                                                              behind them
@@ -45,8 +45,8 @@
 #![tactic(auto)]
 
 mod batch_record;
-mod field;
 mod frame;
+mod kinds;
 mod laws;
 mod mark_record;
 mod number;
@@ -55,16 +55,15 @@ mod origin;
 mod stored_object;
 mod told;
 
-pub use batch_record::{BatchParts, split_batch};
-pub use field::{Choice, Field, RecordKind};
-pub use frame::{RecordParts, framed_record};
+pub use batch_record::{RunTold, run_told};
+pub use frame::RecordParts;
+pub use kinds::{Choice, Field, RecordKind, fields_of_payload, may_stand};
 pub use laws::{
     closed_at_once, files_stand_for_one_history, ledger_stands_once, lengths_are_counted,
     worked_bytes,
 };
-pub use mark_record::{MarkParts, snapshot_is_codable, split_mark};
+pub use mark_record::snapshot_is_codable;
 pub use number::{split_bytes, split_eight, split_four};
-pub use open_record::{OpenParts, split_open};
-pub use origin::{origin_is_codable, origin_of};
+pub use origin::origin_is_codable;
 pub use stored_object::{entries_are_codable, entry_is_codable, run_of_entries};
-pub use told::{Told, read_whole, record_of_event};
+pub use told::{read_whole, record_of_event};

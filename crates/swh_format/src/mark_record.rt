@@ -4,7 +4,7 @@ ghost use Rattle.swh_base.specs.declared.visit.Status.{Status as AnyStatus};
 ghost use Rattle.swh_format.specs.Fields.{text, coded_snapshot, IsSnapshotId};
 ghost use Rattle.swh_format.specs.Kinds.{told_fields};
 ghost use Rattle.swh_format.specs.MarkRecord.{status_number, mark_contents, IsMarkStatus, IsMarkTold};
-ghost use Rattle.swh_format.specs.declared.field.RecordKind.TheVariants as of;
+ghost use Rattle.swh_format.specs.declared.kinds.RecordKind.TheVariants as of;
 
 use crate::number::split_eight;
 use crate::stored_object::has_twenty_bytes;

@@ -4,7 +4,7 @@ ghost use Rattle.swh_base.specs.declared.visit.VisitKind.{VisitKind as AnyVisitK
 ghost use Rattle.swh_format.specs.Fields.{text};
 ghost use Rattle.swh_format.specs.Kinds.{told_fields};
 ghost use Rattle.swh_format.specs.OpenRecord.{visit_kind_number, open_contents, IsOpenTold};
-ghost use Rattle.swh_format.specs.declared.field.RecordKind.TheVariants as of;
+ghost use Rattle.swh_format.specs.declared.kinds.RecordKind.TheVariants as of;
 
 use crate::number::split_eight;
 use swh_base::{Memory, Url, VisitKind};

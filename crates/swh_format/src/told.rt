@@ -1,10 +1,10 @@
 //! The record of an event: how it is written, and what a record tells.
 ghost use Rattle.std.specs.Prelude.{◌≡◌, ◌≢◌, ◌+◌, ◌++◌, ◌∷◌, [], IfOk, IfSome, IfNone, OnOk, length};
-ghost use Rattle.swh_format.specs.Fields.{byte_of};
-ghost use Rattle.swh_format.specs.declared.field.RecordKind.TheVariants as of;
+ghost use Rattle.swh_format.specs.Kinds.{byte_of};
+ghost use Rattle.swh_format.specs.declared.kinds.RecordKind.TheVariants as of;
 ghost use Rattle.swh_format.specs.EventRecord.{
   packed_objects,
-  event_byte,
+  kind_of,
   event_payload,
   payload_of,
   coded_record,
@@ -13,8 +13,9 @@ ghost use Rattle.swh_format.specs.EventRecord.{
 };
 ghost use Rattle.swh_format.specs.Tells.{TellsWhole, IsNotTold};
 
-use crate::batch_record::{BatchParts, push_batch};
+use crate::batch_record::push_batch;
 use crate::frame::framed_record;
+use crate::kinds::{RecordKind, record_byte};
 use crate::mark_record::{push_mark, split_mark};
 use crate::open_record::{push_open, split_open};
 use crate::origin::read_origin;
@@ -22,22 +23,13 @@ use std::alloc::Global;
 use swh_base::Memory;
 use swh_model::{Event, EventKind};
 
-/// What a record tells.
-#[derive(Drop)]
-pub enum Told {
-    /// Where the run of a batch stands in the store, and how many objects it has.
-    Batch(BatchParts),
-    /// All that happened: a visit was opened or marked.
-    Whole(EventKind),
-}
-
-fn record_byte(what: &EventKind) -> u8
-    ensures { result ≡ event_byte what.now }
+fn kind_of_event(what: &EventKind) -> RecordKind
+    ensures { result ≡ kind_of what.now }
 {
     match what {
-        EventKind::Batch(_) => b'B',
-        EventKind::Open { .. } => b'O',
-        EventKind::Mark { .. } => b'T',
+        EventKind::Batch(_) => RecordKind::Batch,
+        EventKind::Open { .. } => RecordKind::Open,
+        EventKind::Mark { .. } => RecordKind::Mark,
     }
 }
 
@@ -77,7 +69,8 @@ pub fn record_of_event(alloc: Global, at: u64, end: u64, event: &Event) -> Resul
     ensures { IfOk result (λ bytes. bytes.items ≡ coded_record at event.now ++ 0 ∷ []) }
 {
     let payload = payload(alloc, at, end, event)?;
-    framed_record(alloc, record_byte(&event.what), &payload)
+    let kind = record_byte(kind_of_event(&event.what));
+    framed_record(alloc, kind, &payload)
 }
 
 fn read_open(alloc: Global, told: &[u8]) -> Result<Option<EventKind>, Memory>

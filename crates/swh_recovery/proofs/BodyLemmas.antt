@@ -16,6 +16,7 @@ use Rattle.swh_recovery.specs.declared.fault.ReadFault.TheVariants.{DiskFailed, 
 use Rattle.swh_recovery.specs.declared.object.Head.{Head}
 use Rattle.swh_recovery.specs.Fields.{found_at}
 use Rattle.swh_recovery.specs.StoreHarm.{BeginsObject, ObjectBreaks}
+use Rattle.swh_recovery.proofs.OneObject.{kind_among}
 use Rattle.swh_recovery.specs.Reading.{IfHarmed, window, IsHeadOf, BeginsWithHead, BodyHarmsAt, BodyHarms, IsEntryOf, BeginsWith}
 
 pub harmed_map : (fault : ReadFault) (P Q : Found → Type 0) → ((x : Found) → P x → Q x) → IfHarmed fault P → IfHarmed fault Q
@@ -70,7 +71,7 @@ module _ (seen : List ℕ) (at have : ℕ) (h : Head) (head : 29 ≤ have) (insi
     size_harms found harm =
         elim harm [
           | inl x ↦ inr (inl (record {
-            head = record { kind = h.kind; size = h.size; id = h.id; cut = b.rest; spelled = b.is.spelled; twenty = b.is.twenty; fits = b.is.fits };
+            head = record { holds = (kind_number h.kind, (h.size, (h.id, tt))); behind = b.rest; says = record { spelled = b.is.spelled; fit = (kind_among h.kind, (b.is.fits, (b.is.twenty, tt))) } };
             cut = record {
               short = let l = behind_length in let less = x.0 in omega (arith, l, less);
               found_is = x.1 ∙ ap (λ (n : ℕ). found_at (at + 29) (Short n h.size)) (sym behind_length);

@@ -1,5 +1,5 @@
 -- The record of a batch, with the run that it names.
-use Rattle.std.proofs.Common.{◌≡◌, ℕ, ◌+◌, ◌<◌, ◌^◌, List, [], ◌∷◌, ◌++◌, length, drop, refl, sym, ap, ◌∙◌, inl, inr, arith, length-append, append_assoc}
+use Rattle.std.proofs.Common.{◌≡◌, ℕ, ◌+◌, ◌<◌, ◌^◌, List, [], ◌∷◌, ◌++◌, length, drop, refl, sym, ap, ◌∙◌, inl, inr, arith, length-append, append_assoc, subst}
 use Rattle.std.proofs.lemmas.List.{drop-drop}
 use Rattle.std.proofs.Math.Seq.{drop-append_seam}
 use Rattle.std.specs.List.{AllByRecursion}
@@ -9,11 +9,13 @@ use Rattle.swh_base.specs.declared.entry.Entry.{Entry}
 use Rattle.swh_model.specs.declared.event.Event.{Event}
 use Rattle.swh_model.specs.declared.event.EventKind.{EventKind}
 use Rattle.swh_model.specs.declared.event.EventKind.TheVariants.{Batch}
+use Rattle.swh_object.specs.Object.{IsObject}
+use Rattle.swh_format.specs.declared.batch_record.RunTold.{RunTold}
 use Rattle.swh_format.specs.declared.frame.RecordParts.{RecordParts}
 use Rattle.swh_format.specs.Record.{framed}
-use Rattle.swh_format.specs.declared.field.RecordKind.TheVariants as of
-use Rattle.swh_format.specs.Fields.{byte_of, text}
-use Rattle.swh_format.specs.Kinds.{fields_of}
+use Rattle.swh_format.specs.declared.kinds.RecordKind.TheVariants as of
+use Rattle.swh_format.specs.Fields.{text, Says, Spells}
+use Rattle.swh_format.specs.Kinds.{byte_of, fields_of}
 use Rattle.swh_format.specs.BatchRecord.{batch_contents}
 use Rattle.swh_format.specs.StoredObject.{coded_entry, coded_run, IsCodableEntry}
 use Rattle.swh_format.specs.EventRecord.{event_byte, event_payload, payload_of, packed_objects, coded_record, IsCodable, IsCodableKind}
@@ -21,11 +23,12 @@ use Rattle.swh_format.proofs.Lengths.{object-length}
 use Rattle.swh_format.proofs.Unique.{same_entry, length_behind}
 use Rattle.swh_recovery.specs.declared.harm.Harm.TheVariants.{Refused}
 use Rattle.swh_recovery.specs.declared.harm.Found.{Found}
-use Rattle.swh_recovery.specs.declared.frame.RunTold.{RunTold}
+use Rattle.swh_recovery.specs.declared.record.Record.{Record}
 use Rattle.swh_recovery.specs.Fields.{found_at}
-use Rattle.swh_recovery.specs.LedgerHarm.{BeginsRecord, TellsRun, IsRunTold}
+use Rattle.swh_recovery.specs.LedgerHarm.{BeginsRecord}
+use Rattle.swh_recovery.specs.Harms.{entries_of}
 use Rattle.swh_recovery.specs.StoreHarm.{IsRun, HoldsRun, RunBreaks}
-use Rattle.swh_recovery.specs.Records.{IsWholeRecord, IsToldExactly, EventBreaks}
+use Rattle.swh_recovery.specs.Records.{IsWholeRecord, IsToldExactly, IsEventRead, EventBreaks}
 use Rattle.swh_recovery.proofs.ToldLemmas.{one_told, told_of_batch}
 
 -- runs of the same bytes have as many objects
@@ -49,14 +52,14 @@ after_front xs p rest is = is ∙ ap (λ (l : List ℕ). p ++ l) (sym (ap (λ (l
 abbrev pub batch_event : ℕ → List Entry → Event
 batch_event by es = record { by = by; what = Batch es }
 
-module _ (id_of : Kind → List ℕ → List ℕ) (start : ℕ) (p : RecordParts) (whole : IsWholeRecord p) (batch : p.kind ≡ byte_of of.Batch) (t : RunTold) (told : IsRunTold p.payload.now t) where
-  tells_run : TellsRun p.payload.now
-  tells_run = record { by = t.by; from = t.run.from; to = t.run.to; number = t.run.number; left = t.left.now; spelled = told.spelled; by_fits = told.by_fits; from_fits = told.from_fits; to_fits = told.to_fits; number_fits = told.number_fits }
+module _ (id_of : Kind → List ℕ → List ℕ) (start : ℕ) (p : RecordParts) (whole : IsWholeRecord p) (batch : p.kind ≡ byte_of of.Batch) (t : RunTold) (told : Says (fields_of of.Batch) (t.by, batch_contents t.from t.to t.number) p.payload.now t.left.now) where
+  tells_run : Spells (fields_of of.Batch) p.payload.now
+  tells_run = record { holds = (t.by, batch_contents t.from t.to t.number); behind = t.left.now; says = told }
 
   frame : BeginsRecord (framed p.kind p.payload.now ++ p.rest.now)
   frame = record { kind = p.kind; payload = p.payload.now; rest = p.rest.now; spelled = refl; is_kind = whole.is_kind; fits = whole.short }
 
-  pub run_harm : (store : List ℕ) (number gate : ℕ) (found : Found) → RunBreaks id_of t.run.from t.run.to store found → EventBreaks id_of number gate start p store 1 found
+  pub run_harm : (store : List ℕ) (number gate : ℕ) (found : Found) → RunBreaks id_of t.from t.to store found → EventBreaks id_of number gate start p store 1 found
   unfolding tells_run frame
   run_harm store number gate found breaks = inl (record {
     behind = framed p.kind p.payload.now ++ p.rest.now;
@@ -68,13 +71,13 @@ module _ (id_of : Kind → List ℕ → List ℕ) (start : ℕ) (p : RecordParts
     breaks = breaks;
   })
 
-  told_only : (by : ℕ) (fs : List Entry) → by < 2 ^ 32 → IsCodableKind start (Batch fs) → p.payload.now ≡ to_be_bytes w32 by ++ event_payload start (Batch fs) → (t.run.from ≡ start) × (t.run.to ≡ start + length (coded_run fs)) × (t.run.number ≡ length fs) × (t.left.now ≡ [])
+  told_only : (by : ℕ) (fs : List Entry) → by < 2 ^ 32 → IsCodableKind start (Batch fs) → p.payload.now ≡ to_be_bytes w32 by ++ event_payload start (Batch fs) → (t.from ≡ start) × (t.to ≡ start + length (coded_run fs)) × (t.number ≡ length fs) × (t.left.now ≡ [])
   unfolding tells_run
   told_only by fs by_fits codable is =
       one_told p.payload.now (payload_of start (batch_event by fs)) tells_run (told_of_batch start by fs (by_fits, codable)) is
 
-  module _ (es : List Entry) (run : IsRun id_of t.run.from t.run.to es) (exact : IsToldExactly start (length es) t) where
-    pub end_of : t.run.to ≡ start + length (coded_run es)
+  module _ (es : List Entry) (run : IsRun id_of t.from t.to es) (exact : IsToldExactly start (length es) t) where
+    pub end_of : t.to ≡ start + length (coded_run es)
     end_of = let f = exact.from_is in let l = exact.to_is in let e = run.ends in omega (arith, f, l, e)
 
     pub payload_told : p.payload.now ≡ payload_of start (batch_event t.by es)
@@ -83,24 +86,34 @@ module _ (id_of : Kind → List ℕ → List ℕ) (start : ℕ) (p : RecordParts
 
     pub codable_batch : IsCodable start (batch_event t.by es)
     codable_batch = (
-      told.by_fits,
+      told.fit.0,
       record {
         entries_codable = run.objects.codable;
-        number = let n = exact.number_is in let f = told.number_fits in omega (arith, n, f);
-        end = let e = end_of in let f = told.to_fits in omega (arith, e, f);
+        number = let n = exact.number_is in let f = told.fit.1.1.1.0 in omega (arith, n, f);
+        end = let e = end_of in let f = told.fit.1.1.0 in omega (arith, e, f);
       },
     )
 
     pub ledger_told : framed p.kind p.payload.now ≡ coded_record start (batch_event t.by es)
     ledger_told = let q = payload_told in λ i. framed (batch i) (q i)
 
-    pub run_told : (store : List ℕ) → HoldsRun id_of t.run.from t.run.to store es → drop start store ≡ coded_run es ++ drop t.run.to store
+    -- so it is read as its event's
+    pub batch_read : (gate : ℕ) (r : Record) → r.gate ≡ gate → r.event ≡ batch_event t.by es → IsEventRead id_of gate start p r t.to
+    batch_read gate r gate_is is = record {
+      gate_is = gate_is;
+      codable = subst (λ (e : Event). IsCodable start e) (sym is) codable_batch;
+      ledger = ledger_told ∙ ap (λ (e : Event). coded_record start e) (sym is);
+      end_is = end_of ∙ ap (λ (e : Event). start + length (packed_objects e.what)) (sym is);
+      good = subst (λ (e : Event). AllByRecursion (IsObject id_of) (entries_of e.what)) (sym is) run.objects.good;
+    }
+
+    pub run_told : (store : List ℕ) → HoldsRun id_of t.from t.to store es → drop start store ≡ coded_run es ++ drop t.to store
     run_told store holds =
         let begins : drop start store ≡ coded_run es ++ holds.run.rest = ap (λ (n : ℕ). drop n store) (sym exact.from_is) ∙ holds.run.begins in
         after_front (drop start store) (coded_run es) holds.run.rest begins
         ∙ ap (λ (l : List ℕ). coded_run es ++ l) (drop-drop (length (coded_run es)) start store ∙ ap (λ (n : ℕ). drop n store) (sym end_of))
 
-  module _ (store : List ℕ) (es : List Entry) (holds : HoldsRun id_of t.run.from t.run.to store es) where
+  module _ (store : List ℕ) (es : List Entry) (holds : HoldsRun id_of t.from t.to store es) where
     exactly : (by : ℕ) (what : EventKind) (y : List ℕ) → by < 2 ^ 32 → IsCodableKind start what → p.kind ≡ event_byte what → p.payload.now ≡ to_be_bytes w32 by ++ event_payload start what → drop start store ≡ packed_objects what ++ y → IsToldExactly start (length es) t
     exactly by (Batch fs) y by_fits codable kind_is is run =
         let o = told_only by fs by_fits codable is in

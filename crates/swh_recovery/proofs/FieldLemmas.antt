@@ -1,9 +1,10 @@
 -- Fields at the front of bytes.
 use Rattle.std.proofs.Common.{◌≡◌, ℕ, List, [], ◌∷◌, ◌++◌, length, refl, ap, ◌∙◌, inl, inr}
-use Rattle.swh_format.specs.declared.field.Choice.{Choice}
-use Rattle.swh_format.specs.declared.field.Choice.TheVariants as choice
-use Rattle.swh_format.specs.declared.field.Field.TheVariants as field
-use Rattle.swh_format.specs.Fields.{choices, IsAmong}
+use Rattle.swh_format.specs.declared.kinds.Choice.{Choice}
+use Rattle.swh_format.specs.declared.kinds.Choice.TheVariants as choice
+use Rattle.swh_format.specs.declared.kinds.Field.TheVariants as field
+use Rattle.swh_format.specs.Fields.{IsAmong}
+use Rattle.swh_format.specs.Kinds.{choices}
 use Rattle.swh_recovery.specs.Fields.{IsFieldThen}
 
 pub no_snapshot : (bytes rest : List ℕ) (b : ℕ) → bytes ≡ b ∷ rest → b ≡ 0 → IsFieldThen field.Snapshot bytes rest

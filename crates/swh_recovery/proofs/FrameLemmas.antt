@@ -6,11 +6,11 @@ use Rattle.std.proofs.lemmas.Result.{err_from_is_err_and}
 use Rattle.swh_format.specs.declared.frame.RecordParts.{RecordParts}
 use Rattle.swh_format.proofs.Cuts.{four_bytes}
 use Rattle.swh_format.proofs.Unique.{framed_then}
-use Rattle.swh_format.specs.declared.field.Choice.TheVariants as choice
+use Rattle.swh_format.specs.declared.kinds.Choice.TheVariants as choice
 use Rattle.swh_recovery.specs.declared.harm.Found.{Found}
-use Rattle.swh_format.specs.Fields.{choices, IsAmong}
+use Rattle.swh_format.specs.Fields.{IsAmong}
+use Rattle.swh_format.specs.Kinds.{choices, payload_fields}
 use Rattle.swh_recovery.specs.Fields.{IsCut, FieldsBreak}
-use Rattle.swh_format.specs.Kinds.{payload_fields}
 use Rattle.swh_recovery.specs.LedgerHarm.{IsFrame, FrameBreaks, RecordBreaks}
 
 -- what the exit of a `?` returns is what failed
@@ -23,7 +23,7 @@ module _ (bytes rest : List ℕ) (kind at : ℕ) (found : Found) (is : bytes ≡
 
   pub payload_breaks : (size : ℕ) (more : List ℕ) → rest ≡ to_be_bytes w32 size ++ more → size < 2 ^ 32 → IsCut size more (at + 5) found → FrameBreaks bytes at found
   payload_breaks size more behind fits cut = inr (record {
-    frame = record { kind = kind; size = size; cut = more; spelled = is ∙ ap (λ (l : List ℕ). kind ∷ l) behind; is_kind = among; fits = fits };
+    frame = record { holds = (kind, (size, tt)); behind = more; says = record { spelled = is ∙ ap (λ (l : List ℕ). kind ∷ l) behind; fit = (among, (fits, tt)) } };
     cut = cut;
   })
 

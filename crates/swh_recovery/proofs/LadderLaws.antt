@@ -1,10 +1,11 @@
 -- Bytes that begin with fields do not break in them.
 use Rattle.std.proofs.Common.{◌≡◌, ℕ, ◌+◌, List, [], ◌∷◌, ◌++◌, length, sym, ap, ◌∙◌, subst, refl, inl, inr, arith, length-append}
-use Rattle.swh_format.specs.declared.field.Choice.{Choice}
-use Rattle.swh_format.specs.declared.field.Choice.TheVariants as choice
-use Rattle.swh_format.specs.declared.field.Field.{Field}
-use Rattle.swh_format.specs.declared.field.Field.TheVariants as field
-use Rattle.swh_format.specs.Fields.{choices, IsAmong, IsField, FieldsHold}
+use Rattle.swh_format.specs.declared.kinds.Choice.{Choice}
+use Rattle.swh_format.specs.declared.kinds.Choice.TheVariants as choice
+use Rattle.swh_format.specs.declared.kinds.Field.{Field}
+use Rattle.swh_format.specs.declared.kinds.Field.TheVariants as field
+use Rattle.swh_format.specs.Fields.{IsAmong, IsField, FieldsHold}
+use Rattle.swh_format.specs.Kinds.{choices}
 use Rattle.swh_format.proofs.Cuts.{cut, same_head, same_tail}
 use Rattle.swh_recovery.specs.declared.harm.Found.{Found}
 use Rattle.swh_recovery.specs.Fields.{IsCut, IsOther, FieldBreaks, FieldsBreak}

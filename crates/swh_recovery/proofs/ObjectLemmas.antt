@@ -6,16 +6,16 @@ use Rattle.std.proofs.Math.Nat.{eq-or-lt_of_le}
 use Rattle.std.specs.Int.{w64, to_be_bytes}
 use Rattle.swh_base.specs.Name.{kind_number}
 use Rattle.swh_format.proofs.Cuts.{eight_bytes}
-use Rattle.swh_format.specs.declared.field.Choice.{Choice}
-use Rattle.swh_format.specs.declared.field.Choice.TheVariants as choice
-use Rattle.swh_format.specs.declared.field.Field.{Field}
-use Rattle.swh_format.specs.declared.field.Field.TheVariants as field
+use Rattle.swh_format.specs.declared.kinds.Choice.{Choice}
+use Rattle.swh_format.specs.declared.kinds.Choice.TheVariants as choice
+use Rattle.swh_format.specs.declared.kinds.Field.{Field}
+use Rattle.swh_format.specs.declared.kinds.Field.TheVariants as field
 use Rattle.swh_format.proofs.Contents.{width, widths, field_short}
 use Rattle.swh_recovery.specs.declared.harm.Found.{Found}
 use Rattle.swh_recovery.specs.declared.object.Head.{Head}
-use Rattle.swh_format.specs.Fields.{choices, IsAmong}
+use Rattle.swh_format.specs.Fields.{IsAmong}
+use Rattle.swh_format.specs.Kinds.{choices, head_fields}
 use Rattle.swh_recovery.specs.Fields.{IsCut, IsOther, FieldBreaks, FieldsBreak}
-use Rattle.swh_format.specs.Kinds.{head_fields}
 use Rattle.swh_recovery.specs.Reading.{window, IsHeadOf, BeginsWithHead}
 
 module _ (bytes rest : List ℕ) (number at : ℕ) (found : Found) (is : bytes ≡ number ∷ rest) (among : IsAmong number (choices choice.Object)) where

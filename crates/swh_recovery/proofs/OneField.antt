@@ -1,21 +1,21 @@
 -- The fields at the front of bytes break in one way at most, and so does a record by its own bytes.
 use Rattle.std.proofs.Common.{◌≡◌, ℕ, ◌+◌, List, [], ◌∷◌, ◌++◌, length, refl, sym, ap, ◌∙◌, subst, inl, inr, arith, length-append}
-use Rattle.std.specs.Int.{w32, to_be_bytes}
 use Rattle.swh_model.specs.declared.event.Event.{Event}
 use Rattle.swh_format.specs.EventRecord.{event_byte, payload_of, coded_record, IsCodable}
-use Rattle.swh_format.proofs.Cuts.{cut, cut_four, four_bytes, same_head, same_tail}
+use Rattle.swh_format.proofs.Contents.{spells_hold, one_spelling}
+use Rattle.swh_format.proofs.Cuts.{cut, same_head, same_tail}
 use Rattle.swh_format.proofs.KindLaws.{byte_among, payload-short, payload_holds}
 use Rattle.swh_format.proofs.Unique.{same_frame, framed_then}
-use Rattle.swh_format.specs.declared.field.Choice.{Choice}
-use Rattle.swh_format.specs.declared.field.Choice.TheVariants as choice
-use Rattle.swh_format.specs.declared.field.Field.{Field}
-use Rattle.swh_format.specs.declared.field.Field.TheVariants as field
+use Rattle.swh_format.specs.declared.kinds.Choice.{Choice}
+use Rattle.swh_format.specs.declared.kinds.Choice.TheVariants as choice
+use Rattle.swh_format.specs.declared.kinds.Field.{Field}
+use Rattle.swh_format.specs.declared.kinds.Field.TheVariants as field
 use Rattle.swh_recovery.specs.declared.harm.Harm.TheVariants.{Kind, Short}
 use Rattle.swh_recovery.specs.declared.harm.Found.{Found}
-use Rattle.swh_format.specs.Fields.{FieldsHold}
+use Rattle.swh_format.specs.Fields.{FieldsHold, Spells}
 use Rattle.swh_recovery.specs.Fields.{found_at, IsCut, IsOther, IsIdCut, FieldBreaks, FieldsBreak}
 use Rattle.swh_format.specs.Kinds.{frame_fields, payload_fields}
-use Rattle.swh_recovery.specs.LedgerHarm.{BeginsFrame, BeginsRecord, RecordBreaks}
+use Rattle.swh_recovery.specs.LedgerHarm.{frame_size, BeginsRecord, RecordBreaks}
 use Rattle.swh_recovery.proofs.LadderLaws.{field_size, no_other, no_cut, no_break, not_both}
 
 one_cut : (need need' : ℕ) (bytes bytes' : List ℕ) (at : ℕ) (x y : Found) → need ≡ need' → bytes ≡ bytes' → IsCut need bytes at x → IsCut need' bytes' at y → x ≡ y
@@ -79,30 +79,22 @@ one_fields (f ∷ fs) bytes at x y a b =
       ]
     ]
 
-pub frame_holds : (bytes : List ℕ) (f : BeginsFrame bytes) → FieldsHold frame_fields bytes
-frame_holds bytes f = (f.kind ∷ [], to_be_bytes w32 f.size ++ f.cut, f.spelled, (f.kind, refl, f.is_kind), (to_be_bytes w32 f.size, f.cut, refl, four_bytes f.size, tt))
+-- the frame of a record
+abbrev pub frame_of : (bytes : List ℕ) → BeginsRecord bytes → Spells frame_fields bytes
+frame_of bytes r = record {
+  holds = (r.kind, (length r.payload, tt));
+  behind = r.payload ++ r.rest;
+  says = record { spelled = r.spelled ∙ framed_then r.kind r.payload r.rest; fit = (r.is_kind, (r.fits, tt)) };
+}
 
-pub frame_of : (bytes : List ℕ) (r : BeginsRecord bytes) → FieldsHold frame_fields bytes
-frame_of bytes r = frame_holds bytes (record { kind = r.kind; size = length r.payload; cut = r.payload ++ r.rest; spelled = r.spelled ∙ framed_then r.kind r.payload r.rest; is_kind = r.is_kind; fits = r.fits })
-
--- two readings of a record's front
-pub record SameFrames (bytes : List ℕ) (f g : BeginsFrame bytes) : Type 0 where
-  pub kind : f.kind ≡ g.kind
-  pub size : f.size ≡ g.size
-  pub cut : f.cut ≡ g.cut
-
-same_frames : (bytes : List ℕ) (f g : BeginsFrame bytes) → SameFrames bytes f g
-same_frames bytes f g =
-    let all : f.kind ∷ (to_be_bytes w32 f.size ++ f.cut) ≡ g.kind ∷ (to_be_bytes w32 g.size ++ g.cut) = sym f.spelled ∙ g.spelled in
-    let both = cut_four f.size g.size f.cut g.cut f.fits g.fits (same_tail f.kind g.kind _ _ all) in
-    record { kind = same_head f.kind g.kind _ _ all; size = both.0; cut = both.1 }
+frame_holds : (bytes : List ℕ) → Spells frame_fields bytes → FieldsHold frame_fields bytes
+frame_holds bytes f = spells_hold frame_fields bytes f
 
 -- a record's payload is there
-whole_or_cut : (bytes : List ℕ) (r : BeginsRecord bytes) (f : BeginsFrame bytes) (at : ℕ) (x : Found) → IsCut f.size f.cut at x → ⊥
+whole_or_cut : (bytes : List ℕ) (r : BeginsRecord bytes) (f : Spells frame_fields bytes) (at : ℕ) (x : Found) → IsCut (frame_size f.holds) f.behind at x → ⊥
 whole_or_cut bytes r f at x c =
-    let g : BeginsFrame bytes = record { kind = r.kind; size = length r.payload; cut = r.payload ++ r.rest; spelled = r.spelled ∙ framed_then r.kind r.payload r.rest; is_kind = r.is_kind; fits = r.fits } in
-    let same = same_frames bytes f g in
-    let s = c.short in let l = ap length same.cut in let n = same.size in
+    let same = one_spelling frame_fields bytes bytes f (frame_of bytes r) refl in
+    let s = c.short in let l = ap length same.1 in let n = ap frame_size same.0 in
     omega (arith, s, l, n, length-append r.payload r.rest)
 
 -- two records at the front of the same bytes
@@ -113,7 +105,7 @@ same_records bytes bytes' r s same = same_frame r.kind s.kind r.payload s.payloa
 pub no_record : (bytes : List ℕ) (r : BeginsRecord bytes) (at : ℕ) (x : Found) → FieldsHold (payload_fields r.kind) r.payload → RecordBreaks bytes at x → ⊥
 no_record bytes r at x holds breaks =
     elim breaks [
-      | inl b ↦ not_both frame_fields bytes at x (frame_of bytes r) b
+      | inl b ↦ not_both frame_fields bytes at x (frame_holds bytes (frame_of bytes r)) b
       | inr b ↦ elim b [
         | inl c ↦ whole_or_cut bytes r c.frame (at + 5) x c.cut
         | inr p ↦
@@ -128,18 +120,18 @@ one_record bytes at x y a b =
     elim a [
       | inl a ↦ elim b [
         | inl b ↦ one_fields frame_fields bytes at x y a b
-        | inr b ↦ elim b [ inl b ↦ absurd (not_both frame_fields bytes at x (frame_holds bytes b.frame) a) | inr b ↦ absurd (not_both frame_fields bytes at x (frame_of bytes b.frame) a) ]
+        | inr b ↦ elim b [ inl b ↦ absurd (not_both frame_fields bytes at x (frame_holds bytes b.frame) a) | inr b ↦ absurd (not_both frame_fields bytes at x (frame_holds bytes (frame_of bytes b.frame)) a) ]
       ]
       | inr a ↦ elim a [
         | inl a ↦ elim b [
           | inl b ↦ absurd (not_both frame_fields bytes at y (frame_holds bytes a.frame) b)
           | inr b ↦ elim b [
-            | inl b ↦ (let same = same_frames bytes a.frame b.frame in one_cut a.frame.size b.frame.size a.frame.cut b.frame.cut (at + 5) x y same.size same.cut a.cut b.cut)
+            | inl b ↦ (let same = one_spelling frame_fields bytes bytes a.frame b.frame refl in one_cut (frame_size a.frame.holds) (frame_size b.frame.holds) a.frame.behind b.frame.behind (at + 5) x y (ap frame_size same.0) same.1 a.cut b.cut)
             | inr b ↦ absurd (whole_or_cut bytes b.frame a.frame (at + 5) x a.cut)
           ]
         ]
         | inr a ↦ elim b [
-          | inl b ↦ absurd (not_both frame_fields bytes at y (frame_of bytes a.frame) b)
+          | inl b ↦ absurd (not_both frame_fields bytes at y (frame_holds bytes (frame_of bytes a.frame)) b)
           | inr b ↦ elim b [
             | inl b ↦ absurd (whole_or_cut bytes a.frame b.frame (at + 5) y b.cut)
             | inr b ↦

@@ -24,26 +24,28 @@ use Rattle.swh_format.specs.StoredObject.{coded_run}
 use Rattle.swh_format.specs.EventRecord.{event_byte, payload_of, packed_objects, coded_record, IsCodable, AreCodable}
 use Rattle.swh_format.specs.Stands.{coded_records, coded_runs, StandsFor}
 use Rattle.swh_format.proofs.StandsFrom.{StandsFrom, behind_magic}
+use Rattle.swh_format.specs.BatchRecord.{run_from, run_to}
+use Rattle.swh_format.proofs.Contents.{spells_hold}
 use Rattle.swh_format.proofs.Cuts.{cut, same_head, same_tail}
 use Rattle.swh_format.proofs.Unique.{same_event, length_behind}
 use Rattle.swh_recovery.specs.declared.harm.Harm.{Harm}
 use Rattle.swh_recovery.specs.declared.harm.Found.{Found}
 use Rattle.swh_recovery.specs.declared.harm.Harm.TheVariants.{Magic}
 use Rattle.swh_recovery.specs.declared.record.Record.{Record}
-use Rattle.swh_format.specs.declared.field.RecordKind.TheVariants as of
-use Rattle.swh_format.specs.Fields.{byte_of, FieldsHold}
+use Rattle.swh_format.specs.declared.kinds.RecordKind.TheVariants as of
+use Rattle.swh_format.specs.Fields.{FieldsHold, Spells}
+use Rattle.swh_format.specs.Kinds.{byte_of, fields_of, payload_fields}
 use Rattle.swh_recovery.specs.Fields.{found_at}
-use Rattle.swh_format.specs.Kinds.{payload_fields}
-use Rattle.swh_recovery.specs.LedgerHarm.{TellsRun, RecordBreaks}
+use Rattle.swh_recovery.specs.LedgerHarm.{RecordBreaks}
 use Rattle.swh_recovery.specs.StoreHarm.{RunBreaks}
 use Rattle.swh_recovery.specs.Harms.{entries_of, LedgerBreaks, StoreBreaks, IsRefused, NextBreaks, Begin, BreaksAfter, MagicBreaks}
 use Rattle.swh_recovery.specs.Records.{events, IsHarm}
-use Rattle.swh_recovery.proofs.ToldLemmas.{told_holds, one_told, told_of_batch}
+use Rattle.swh_recovery.proofs.ToldLemmas.{one_told, told_of_batch}
 use Rattle.swh_recovery.proofs.OneField.{one_record, no_record, same_records, event_frame, record_whole}
 use Rattle.swh_recovery.proofs.OneObject.{one_run, no_run, whole_or_broken}
 
-batch_holds : (kind : ℕ) (payload : List ℕ) → kind ≡ byte_of of.Batch → TellsRun payload → FieldsHold (payload_fields kind) payload
-batch_holds kind payload is t = subst (λ (n : ℕ). FieldsHold (payload_fields n) payload) (sym is) (told_holds payload t)
+batch_holds : (kind : ℕ) (payload : List ℕ) → kind ≡ byte_of of.Batch → Spells (fields_of of.Batch) payload → FieldsHold (payload_fields kind) payload
+batch_holds kind payload is t = subst (λ (n : ℕ). FieldsHold (payload_fields n) payload) (sym is) (spells_hold (fields_of of.Batch) payload t)
 
 behind_run : (at : ℕ) (store p z : List ℕ) → drop at store ≡ p ++ z → drop (at + length p) store ≡ z
 behind_run at store p z is = sym (drop-drop (length p) at store) ∙ ap (λ (l : List ℕ). drop (length p) l) is ∙ drop-append_seam p z
@@ -148,12 +150,12 @@ module _ (id_of : Kind → List ℕ → List ℕ) where
       λ i. record { by = who i; what = what i }
 
   module _ (store : List ℕ) where
-    run_stands : (start by : ℕ) (what : EventKind) (payload y : List ℕ) (t : TellsRun payload) (found : Found) → IsCodable start (record { by = by; what = what }) → event_byte what ≡ byte_of of.Batch → payload ≡ payload_of start (record { by = by; what = what })
-        → AllByRecursion (IsObject id_of) (entries_of what) → drop start store ≡ packed_objects what ++ y → RunBreaks id_of t.from t.to store found → ⊥
+    run_stands : (start by : ℕ) (what : EventKind) (payload y : List ℕ) (t : Spells (fields_of of.Batch) payload) (found : Found) → IsCodable start (record { by = by; what = what }) → event_byte what ≡ byte_of of.Batch → payload ≡ payload_of start (record { by = by; what = what })
+        → AllByRecursion (IsObject id_of) (entries_of what) → drop start store ≡ packed_objects what ++ y → RunBreaks id_of (run_from t.holds) (run_to t.holds) store found → ⊥
     run_stands start by (Batch es) payload y t found codable kind_is is good run breaks =
         let same = one_told payload (payload_of start (record { by = by; what = Batch es })) t (told_of_batch start by es codable) is in
         no_run id_of start (start + length (coded_run es)) store y es found (record { good = good; codable = codable.1.entries_codable }) run refl
-        (subst (λ (n : ℕ). RunBreaks id_of start n store found) same.1 (subst (λ (n : ℕ). RunBreaks id_of n t.to store found) same.0 breaks))
+        (subst (λ (n : ℕ). RunBreaks id_of start n store found) same.1 (subst (λ (n : ℕ). RunBreaks id_of n (run_to t.holds) store found) same.0 breaks))
     run_stands start by what payload y t found codable kind_is is good run breaks = omega (arith, kind_is)
 
     -- where an event stands, the next does not break
@@ -205,15 +207,15 @@ module _ (id_of : Kind → List ℕ → List ℕ) where
         let same = same_records a.behind b.behind a.frame b.frame (same_tail 1 1 a.behind b.behind (sym a.opened ∙ b.opened)) in
         let named = b.run (sym same.0 ∙ a.batch) in
         let told = one_told a.frame.payload b.frame.payload a.told named.told same.1 in
-        whole_or_broken id_of named.told.from named.told.to store named.entries x named.run
-        (subst (λ (m : ℕ). RunBreaks id_of named.told.from m store x) told.1 (subst (λ (m : ℕ). RunBreaks id_of m a.told.to store x) told.0 a.breaks))
+        whole_or_broken id_of (run_from named.told.holds) (run_to named.told.holds) store named.entries x named.run
+        (subst (λ (m : ℕ). RunBreaks id_of (run_from named.told.holds) m store x) told.1 (subst (λ (m : ℕ). RunBreaks id_of m (run_to a.told.holds) store x) told.0 a.breaks))
 
     one_store : (records : List ℕ) (file file' : ℕ) (x y : Found) → StoreBreaks id_of records store file x → StoreBreaks id_of records store file' y → x ≡ y
     one_store records file file' x y a b =
         let same = same_records a.behind b.behind a.frame b.frame (same_tail 1 1 a.behind b.behind (sym a.opened ∙ b.opened)) in
         let told = one_told a.frame.payload b.frame.payload a.told b.told same.1 in
-        one_run id_of b.told.from b.told.to store x y
-        (subst (λ (m : ℕ). RunBreaks id_of b.told.from m store x) told.1 (subst (λ (m : ℕ). RunBreaks id_of m a.told.to store x) told.0 a.breaks)) b.breaks
+        one_run id_of (run_from b.told.holds) (run_to b.told.holds) store x y
+        (subst (λ (m : ℕ). RunBreaks id_of (run_from b.told.holds) m store x) told.1 (subst (λ (m : ℕ). RunBreaks id_of m (run_to a.told.holds) store x) told.0 a.breaks)) b.breaks
 
     one_ledger : (gate : ℕ) (records : List ℕ) (file file' : ℕ) (x y : Found) → LedgerBreaks gate records file x → LedgerBreaks gate records file' y → x ≡ y
     one_ledger gate records file file' x y a b = one_record b.behind (gate + 1) x y (subst (λ (l : List ℕ). RecordBreaks l (gate + 1) x) (same_tail 1 1 a.behind b.behind (sym a.opened ∙ b.opened)) a.breaks) b.breaks

@@ -1,7 +1,6 @@
 -- An object breaks in one way at most, and so does a run.
 use Rattle.std.proofs.Common.{◌≡◌, ℕ, ◌+◌, ◌-◌, ◌<◌, ◌≤◌, List, [], ◌∷◌, ◌++◌, length, take, drop, refl, sym, ap, ◌∙◌, subst, inl, inr, arith, length-append, append_assoc}
 use Rattle.std.proofs.Math.Seq.{take-append-add}
-use Rattle.std.specs.Int.{w64, to_be_bytes}
 use Rattle.swh_base.specs.declared.kind.Kind.{Kind}
 use Rattle.swh_base.specs.declared.kind.Kind.TheVariants.{Content, Directory, Revision, Release, Snapshot}
 use Rattle.swh_base.specs.declared.entry.Entry.{Entry}
@@ -16,22 +15,23 @@ use Rattle.swh_object.specs.Object.{IsObject, IsBadBody}
 use Rattle.swh_object.specs.declared.fault.ObjectFault.TheVariants.{BadBody}
 use Rattle.swh_object.proofs.Refused.{made_unless}
 use Rattle.swh_format.specs.StoredObject.{coded_entry, coded_run, IsCodableEntry}
-use Rattle.swh_format.proofs.Cuts.{cut, cut_eight, eight_bytes, same_head, same_tail}
+use Rattle.swh_format.proofs.Contents.{spells_hold, one_spelling}
+use Rattle.swh_format.proofs.Cuts.{cut}
 use Rattle.swh_format.proofs.Unique.{same_entry, entry_then, length_behind}
-use Rattle.swh_format.specs.declared.field.Choice.TheVariants as choice
+use Rattle.swh_format.specs.declared.kinds.Choice.TheVariants as choice
 use Rattle.swh_recovery.specs.declared.harm.Harm.TheVariants.{Short, Body, Name}
 use Rattle.swh_recovery.specs.declared.harm.Found.{Found}
-use Rattle.swh_format.specs.Fields.{choices, IsAmong, FieldsHold}
+use Rattle.swh_format.specs.Fields.{IsAmong, Contents, FieldsHold, Spells}
+use Rattle.swh_format.specs.Kinds.{choices, head_fields}
 use Rattle.swh_recovery.specs.Fields.{found_at}
-use Rattle.swh_format.specs.Kinds.{head_fields}
-use Rattle.swh_recovery.specs.StoreHarm.{BeginsHead, BeginsObject, IsRefusedBody, BodyIsCut, ObjectBreaks, AreObjects, HoldsRun, RunBreaks}
+use Rattle.swh_recovery.specs.StoreHarm.{head_size, BeginsObject, IsRefusedBody, BodyIsCut, ObjectBreaks, AreObjects, HoldsRun, RunBreaks}
 use Rattle.swh_recovery.proofs.LadderLaws.{not_both}
 use Rattle.swh_recovery.proofs.OneField.{one_fields}
 
 one_kind : (a b : Kind) → kind_number a ≡ kind_number b → a ≡ b
 one_kind a b e = ap (λ (n : names.Name). n.kind) (name_key-injective (record { kind = a; id = [] }) (record { kind = b; id = [] }) (let k = e in cc))
 
-kind_among : (k : Kind) → IsAmong (kind_number k) (choices choice.Object)
+pub kind_among : (k : Kind) → IsAmong (kind_number k) (choices choice.Object)
 kind_among Content = inl refl
 kind_among Directory = inr (inl refl)
 kind_among Revision = inr (inr (inl refl))
@@ -57,31 +57,16 @@ not_refused : (kind : Kind) (body : List ℕ) (i : ℕ) → IsRefusedBody kind b
 not_refused kind body i a short well =
     elim a [ inl a ↦ (let l = a.0 in omega (arith, l, short)) | inr a ↦ made_unless kind body (BadBody i) a.1 well ]
 
-head_holds : (bytes : List ℕ) → BeginsHead bytes → FieldsHold head_fields bytes
-head_holds bytes h = (
-  kind_number h.kind ∷ [],
-  to_be_bytes w64 h.size ++ (h.id ++ h.cut),
-  h.spelled,
-  (kind_number h.kind, refl, kind_among h.kind),
-  (to_be_bytes w64 h.size, h.id ++ h.cut, refl, eight_bytes h.size, (h.id, h.cut, refl, h.twenty, tt)),
-)
+head_holds : (bytes : List ℕ) → Spells head_fields bytes → FieldsHold head_fields bytes
+head_holds bytes h = spells_hold head_fields bytes h
 
-head_of : (bytes : List ℕ) → BeginsObject bytes → BeginsHead bytes
-head_of bytes o = record { kind = o.kind; size = length o.body; id = o.id; cut = o.body ++ o.rest; spelled = o.spelled; twenty = o.twenty; fits = o.fits }
-
--- two readings of a head
-record SameHeads (bytes : List ℕ) (h k : BeginsHead bytes) : Type 0 where
-  kind : h.kind ≡ k.kind
-  size : h.size ≡ k.size
-  id : h.id ≡ k.id
-  cut : h.cut ≡ k.cut
-
-same_heads : (bytes : List ℕ) (h k : BeginsHead bytes) → SameHeads bytes h k
-same_heads bytes h k =
-    let all : kind_number h.kind ∷ (to_be_bytes w64 h.size ++ (h.id ++ h.cut)) ≡ kind_number k.kind ∷ (to_be_bytes w64 k.size ++ (k.id ++ k.cut)) = sym h.spelled ∙ k.spelled in
-    let sizes = cut_eight h.size k.size (h.id ++ h.cut) (k.id ++ k.cut) h.fits k.fits (same_tail (kind_number h.kind) (kind_number k.kind) _ _ all) in
-    let ids = cut h.id k.id h.cut k.cut (h.twenty ∙ sym k.twenty) sizes.1 in
-    record { kind = one_kind h.kind k.kind (same_head (kind_number h.kind) (kind_number k.kind) _ _ all); size = sizes.0; id = ids.0; cut = ids.1 }
+-- the head of an object
+head_of : (bytes : List ℕ) → BeginsObject bytes → Spells head_fields bytes
+head_of bytes o = record {
+  holds = (kind_number o.kind, (length o.body, (o.id, tt)));
+  behind = o.body ++ o.rest;
+  says = record { spelled = o.spelled; fit = (kind_among o.kind, (o.fits, (o.twenty, tt))) };
+}
 
 -- two readings of an object
 record SameObjects (bytes : List ℕ) (o p : BeginsObject bytes) : Type 0 where
@@ -92,16 +77,16 @@ record SameObjects (bytes : List ℕ) (o p : BeginsObject bytes) : Type 0 where
 same_objects : (bytes : List ℕ) (o p : BeginsObject bytes) → SameObjects bytes o p
 unfolding head_of
 same_objects bytes o p =
-    let same = same_heads bytes (head_of bytes o) (head_of bytes p) in
-    let bodies = cut o.body p.body o.rest p.rest same.size same.cut in
-    record { kind = same.kind; id = same.id; body = bodies.0 }
+    let same = one_spelling head_fields bytes bytes (head_of bytes o) (head_of bytes p) refl in
+    let bodies = cut o.body p.body o.rest p.rest (ap head_size same.0) same.1 in
+    record { kind = one_kind o.kind p.kind (ap (λ (c : Contents head_fields). c.0) same.0); id = ap (λ (c : Contents head_fields). c.1.1.0) same.0; body = bodies.0 }
 
 -- an object's body is there
 whole_or_cut : (bytes : List ℕ) (at : ℕ) (x : Found) → BeginsObject bytes → BodyIsCut bytes at x → ⊥
 unfolding head_of
 whole_or_cut bytes at x o c =
-    let same = same_heads bytes c.head (head_of bytes o) in
-    let s = c.cut.short in let l = ap length same.cut in let n = same.size in
+    let same = one_spelling head_fields bytes bytes c.head (head_of bytes o) refl in
+    let s = c.cut.short in let l = ap length same.1 in let n = ap head_size same.0 in
     omega (arith, s, l, n, length-append o.body o.rest)
 
 module _ (id_of : Kind → List ℕ → List ℕ) where
@@ -126,8 +111,8 @@ module _ (id_of : Kind → List ℕ → List ℕ) where
             | inl b ↦ absurd (not_both head_fields bytes at y (head_holds bytes a.head) b)
             | inr b ↦ elim b [
               | inl b ↦
-                  (let same = same_heads bytes a.head b.head in
-                  a.cut.found_is ∙ (λ i. found_at (at + 29) (Short (length (same.cut i)) (same.size i))) ∙ sym b.cut.found_is)
+                  (let same = one_spelling head_fields bytes bytes a.head b.head refl in
+                  a.cut.found_is ∙ (λ i. found_at (at + 29) (Short (length (same.1 i)) (head_size (same.0 i)))) ∙ sym b.cut.found_is)
               | inr b ↦ absurd (elim b [ inl b ↦ whole_or_cut bytes at x b.object a | inr b ↦ whole_or_cut bytes at x b.object a ])
             ]
           ]

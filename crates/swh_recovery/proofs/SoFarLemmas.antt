@@ -18,7 +18,7 @@ use Rattle.swh_recovery.specs.declared.reading.Reached.{Reached}
 use Rattle.swh_recovery.specs.Fields.{found_at}
 use Rattle.swh_recovery.specs.LedgerHarm.{RecordBreaks}
 use Rattle.swh_recovery.specs.Harms.{entries_of, Begin, NextBreaks}
-use Rattle.swh_recovery.specs.Records.{event_of, events, IsRecordOfEvent, AreRecords, records_of, EventBreaks, IsEventRead, HasRuns, HoldsEvent, IsReadSoFar, BreaksNext}
+use Rattle.swh_recovery.specs.Records.{events, AreRecords, records_of, EventBreaks, IsEventRead, HasRuns, HoldsEvent, IsReadSoFar, BreaksNext}
 
 records-push : (at : ℕ) (g : List Event) (e : Event) (rest : List ℕ) → coded_records at (g ++ e ∷ []) ++ rest ≡ coded_records at g ++ 1 ∷ (coded_record (at + length (coded_runs g)) e ++ rest)
 records-push at [] e rest =
@@ -35,9 +35,9 @@ runs-push : (g : List Event) (e : Event) → coded_runs (g ++ e ∷ []) ≡ code
 runs-push [] e = append-nil (packed_objects e.what)
 runs-push (f ∷ g) e = ap (λ (l : List ℕ). packed_objects f.what ++ l) (runs-push g e) ∙ sym (append_assoc (packed_objects f.what) (coded_runs g) (packed_objects e.what))
 
-pub events-push : (rs : List Record) (r : Record) → events (rs ++ r ∷ []) ≡ events rs ++ event_of r ∷ []
+pub events-push : (rs : List Record) (r : Record) → events (rs ++ r ∷ []) ≡ events rs ++ r.event ∷ []
 events-push [] r = refl
-events-push (s ∷ rs) r = ap (λ (l : List Event). event_of s ∷ l) (events-push rs r)
+events-push (s ∷ rs) r = ap (λ (l : List Event). s.event ∷ l) (events-push rs r)
 
 length-events : (rs : List Record) → length (events rs) ≡ length rs
 length-events [] = refl
@@ -47,18 +47,13 @@ all_push : {X : Type 0} (P : X → Type 0) (xs : List X) (y : X) → AllByRecurs
 all_push P [] y h p = (p, tt)
 all_push P (x ∷ xs) y h p = (h.0, all_push P xs y h.1 p)
 
-placed-push : (gate start : ℕ) (rs : List Record) (r : Record) → AreRecords gate start rs → IsRecordOfEvent (gate + length (coded_records start (events rs))) (start + length (coded_runs (events rs))) r → AreRecords gate start (rs ++ r ∷ [])
-placed-push gate start [] r h one =
-    (subst (λ (n : ℕ). IsRecordOfEvent n start r) (let z : gate + 0 ≡ gate = omega arith in z) (subst (λ (n : ℕ). IsRecordOfEvent (gate + 0) n r) (let z : start + 0 ≡ start = omega arith in z) one), tt)
+placed-push : (gate start : ℕ) (rs : List Record) (r : Record) → AreRecords gate start rs → r.gate ≡ gate + length (coded_records start (events rs)) → AreRecords gate start (rs ++ r ∷ [])
+placed-push gate start [] r h one = (one ∙ (let z : gate + 0 ≡ gate = omega arith in z), tt)
 placed-push gate start (s ∷ rs) r h one =
-    let e = event_of s in
+    let e = s.event in
     let next = start + length (packed_objects e.what) in
     let gates : gate + length (1 ∷ (coded_record start e ++ coded_records next (events rs))) ≡ gate + (1 + length (coded_record start e)) + length (coded_records next (events rs)) = omega (arith, length-append (coded_record start e) (coded_records next (events rs))) in
-    let places : start + length (packed_objects e.what ++ coded_runs (events rs)) ≡ next + length (coded_runs (events rs)) = omega (arith, length-append (packed_objects e.what) (coded_runs (events rs))) in (
-      h.0,
-      placed-push (gate + (1 + length (coded_record start e))) next rs r h.1
-          (subst (λ (n : ℕ). IsRecordOfEvent n (next + length (coded_runs (events rs))) r) gates (subst (λ (n : ℕ). IsRecordOfEvent (gate + length (1 ∷ (coded_record start e ++ coded_records next (events rs)))) n r) places one)),
-    )
+    (h.0, placed-push (gate + (1 + length (coded_record start e))) next rs r h.1 (one ∙ gates))
 
 -- What is told of a history, up to these places.
 record AreParts (id_of : Kind → List ℕ → List ℕ) (ledger : List ℕ) (gate end : ℕ) (h : List Event) : Type 0 where
@@ -107,10 +102,10 @@ module _ (id_of : Kind → List ℕ → List ℕ) (ledger store : List ℕ) (old
 
 module _ (id_of : Kind → List ℕ → List ℕ) (ledger : List ℕ) (old : Reached) (so_far : IsReadSoFar id_of ledger old) where
   module _ (p : RecordParts) (r : Record) (end : ℕ) (is : drop old.gate ledger ≡ records_of p) (read : IsEventRead id_of old.gate old.end p r end) where
-    parts : AreParts id_of ledger (length ledger - length p.rest.now) end (events old.records.items ++ event_of r ∷ [])
+    parts : AreParts id_of ledger (length ledger - length p.rest.now) end (events old.records.items ++ r.event ∷ [])
     parts =
         let g = events old.records.items in
-        let e = event_of r in
+        let e = r.event in
         let rest = p.rest.now in
         let place : old.end ≡ 0 + length (coded_runs g) = let s = so_far.end_is in omega (arith, s) in
         let whole : ledger ≡ magic ++ (coded_records 0 (g ++ e ∷ []) ++ rest) =
@@ -131,27 +126,24 @@ module _ (id_of : Kind → List ℕ → List ℕ) (ledger : List ℕ) (old : Rea
 
     pub so_far_next : (new : Reached) → new.gate ≡ length ledger - length p.rest.now → new.end ≡ end → new.records.items ≡ old.records.items ++ r ∷ [] → IsReadSoFar id_of ledger new
     so_far_next new gate_is end_is items =
-        let history : events new.records.items ≡ events old.records.items ++ event_of r ∷ [] = ap events items ∙ events-push old.records.items r in
+        let history : events new.records.items ≡ events old.records.items ++ r.event ∷ [] = ap events items ∙ events-push old.records.items r in
         let a : AreParts id_of ledger new.gate new.end (events new.records.items) =
         subst (λ (h : List Event). AreParts id_of ledger new.gate new.end h) (sym history)
-        (subst (λ (n : ℕ). AreParts id_of ledger n new.end (events old.records.items ++ event_of r ∷ [])) (sym gate_is)
-        (subst (λ (n : ℕ). AreParts id_of ledger (length ledger - length p.rest.now) n (events old.records.items ++ event_of r ∷ [])) (sym end_is) parts)) in
-        let placed : IsRecordOfEvent (8 + length (coded_records 0 (events old.records.items))) (0 + length (coded_runs (events old.records.items))) r =
-        subst (λ (n : ℕ). IsRecordOfEvent n (0 + length (coded_runs (events old.records.items))) r) so_far.gate_is
-        (subst (λ (n : ℕ). IsRecordOfEvent old.gate n r) (let s = so_far.end_is in let z : old.end ≡ 0 + length (coded_runs (events old.records.items)) = omega (arith, s) in z) read.placed) in
+        (subst (λ (n : ℕ). AreParts id_of ledger n new.end (events old.records.items ++ r.event ∷ [])) (sym gate_is)
+        (subst (λ (n : ℕ). AreParts id_of ledger (length ledger - length p.rest.now) n (events old.records.items ++ r.event ∷ [])) (sym end_is) parts)) in
         record {
           gate_is = a.gate_is;
           ledger_begins = a.ledger_begins;
           end_is = a.end_is;
           codable = a.codable;
-          placed = subst (λ (rs : List Record). AreRecords 8 0 rs) (sym items) (placed-push 8 0 old.records.items r so_far.placed placed);
+          placed = subst (λ (rs : List Record). AreRecords 8 0 rs) (sym items) (placed-push 8 0 old.records.items r so_far.placed (read.gate_is ∙ so_far.gate_is));
           good = a.good;
         }
 
 pub runs_next : (store : List ℕ) (old new : Reached) (r : Record) → HasRuns store old → HoldsEvent old.end store r new.end → new.records.items ≡ old.records.items ++ r ∷ [] → HasRuns store new
 runs_next store old new r runs holds items =
     let g = events old.records.items in
-    let e = event_of r in
+    let e = r.event in
     let history : events new.records.items ≡ g ++ e ∷ [] = ap events items ∙ events-push old.records.items r in
     record {
       store_begins = runs.store_begins ∙ ap (λ (l : List ℕ). coded_runs g ++ l) holds.run ∙ sym (append_assoc (coded_runs g) (packed_objects e.what) (drop new.end store)) ∙ ap (λ (l : List ℕ). l ++ drop new.end store) (sym (runs-push g e))

@@ -3,22 +3,19 @@ use Rattle.std.proofs.Common.{◌≡◌, ◌≢◌, ℕ, List, [], ◌++◌, len
 use Rattle.std.specs.List.{AllByRecursion}
 use Rattle.std.specs.Int.{w32, to_be_bytes}
 use Rattle.swh_base.specs.declared.kind.Kind.{Kind}
-use Rattle.swh_base.specs.declared.entry.Entry.{Entry}
 use Rattle.swh_model.specs.declared.event.EventKind.{EventKind}
 use Rattle.swh_model.specs.declared.event.EventKind.TheVariants.{Batch}
 use Rattle.swh_object.specs.Object.{IsObject}
-use Rattle.swh_format.specs.declared.told.Told.{Told}
-use Rattle.swh_format.specs.declared.told.Told.TheVariants as told_of
 use Rattle.swh_format.specs.declared.frame.RecordParts.{RecordParts}
 use Rattle.swh_format.specs.Record.{framed}
-use Rattle.swh_format.specs.declared.field.RecordKind.TheVariants as of
-use Rattle.swh_format.specs.Fields.{byte_of}
+use Rattle.swh_format.specs.declared.kinds.RecordKind.TheVariants as of
+use Rattle.swh_format.specs.Kinds.{byte_of}
 use Rattle.swh_format.specs.Tells.{TellsWhole}
 use Rattle.swh_format.specs.EventRecord.{event_byte, event_payload, packed_objects, IsCodableKind}
 use Rattle.swh_recovery.specs.declared.harm.Found.{Found}
 use Rattle.swh_recovery.specs.declared.record.Record.{Record}
 use Rattle.swh_recovery.specs.Harms.{entries_of}
-use Rattle.swh_recovery.specs.Records.{kind_of_told, event_of, IsWholeRecord, IsEventRead, EventBreaks, HoldsEvent, IsToldWhole, IsWholeRead, IsNotTold}
+use Rattle.swh_recovery.specs.Records.{IsWholeRecord, IsEventRead, EventBreaks, HoldsEvent, IsWholeRead, IsNotTold}
 
 -- What is told wherever a run would begin.
 record ToldWhole (start kind : ℕ) (rest : List ℕ) (what : EventKind) : Type 0 where
@@ -32,28 +29,24 @@ whole_told : (start kind : ℕ) (rest : List ℕ) (what : EventKind) → TellsWh
 whole_told start kind rest (Batch es) t = absurd t.whole
 whole_told start kind rest what t = record { kind_is = t.byte_is; payload = t.spelled; codable = t.codable; no_run = refl; no_entries = refl }
 
-told_whole : (start kind : ℕ) (rest : List ℕ) (t : Told) (es : List Entry) → IsToldWhole kind rest t → ToldWhole start kind rest (kind_of_told t es)
-told_whole start kind rest (told_of.Batch p) es tells = absurd tells
-told_whole start kind rest (told_of.Whole what) es tells = whole_told start kind rest what tells
-
 all_none : {X : Type 0} (P : X → Type 0) (xs : List X) → xs ≡ [] → AllByRecursion P xs
 all_none P xs is = subst (AllByRecursion P) (sym is) tt
 
 pub whole_read : (id_of : Kind → List ℕ → List ℕ) (gate start : ℕ) (p : RecordParts) (r : Record) → p.kind ≢ byte_of of.Batch → IsWholeRead gate p r → IsEventRead id_of gate start p r start
 whole_read id_of gate start p r other w =
-    let f = told_whole start p.kind w.rest r.told r.entries.items w.tells in
-    let payload = w.who ∙ ap (λ (l : List ℕ). to_be_bytes w32 r.by ++ l) f.payload in
+    let f = whole_told start p.kind w.rest r.event.what w.tells in
+    let payload = w.who ∙ ap (λ (l : List ℕ). to_be_bytes w32 r.event.by ++ l) f.payload in
     record {
-      placed = record { gate_is = w.gate_is; kind_is = w.kind_is ∙ f.kind_is; payload_is = w.payload_is ∙ payload; entries_are = w.no_entries ∙ sym f.no_entries };
+      gate_is = w.gate_is;
       codable = (w.by_fits, f.codable);
       ledger = (λ i. framed (f.kind_is i) (payload i));
-      end_is = let n : length (packed_objects (event_of r).what) ≡ 0 = ap length f.no_run in omega (arith, n);
-      good = all_none (IsObject id_of) (entries_of (event_of r).what) f.no_entries;
+      end_is = let n : length (packed_objects r.event.what) ≡ 0 = ap length f.no_run in omega (arith, n);
+      good = all_none (IsObject id_of) (entries_of r.event.what) f.no_entries;
     }
 
 pub whole_holds : (gate start : ℕ) (p : RecordParts) (store : List ℕ) (r : Record) → p.kind ≢ byte_of of.Batch → IsWholeRead gate p r → HoldsEvent start store r start
 whole_holds gate start p store r other w =
-    let f = told_whole start p.kind w.rest r.told r.entries.items w.tells in
+    let f = whole_told start p.kind w.rest r.event.what w.tells in
     record { run = ap (λ (l : List ℕ). l ++ drop start store) (sym f.no_run) }
 
 pub whole_refused : (id_of : Kind → List ℕ → List ℕ) (number gate start : ℕ) (p : RecordParts) (store : List ℕ) (file : ℕ) (found : Found) → p.kind ≢ byte_of of.Batch → IsWholeRecord p → IsNotTold gate number p file found → EventBreaks id_of number gate start p store file found

@@ -1,10 +1,11 @@
 -- The first of fields that does not stand.
 use Rattle.std.specs.Prelude.{◌≡◌, ◌⊎◌, ◌+◌, ◌<◌, ℕ, List, [], ◌∷◌, ◌++◌, length}
-use Rattle.swh_format.specs.declared.field.Choice.{Choice}
-use Rattle.swh_format.specs.declared.field.Choice.TheVariants as choice
-use Rattle.swh_format.specs.declared.field.Field.{Field}
-use Rattle.swh_format.specs.declared.field.Field.TheVariants as field
-use Rattle.swh_format.specs.Fields.{choices, IsAmong, IsField}
+use Rattle.swh_format.specs.declared.kinds.Choice.{Choice}
+use Rattle.swh_format.specs.declared.kinds.Choice.TheVariants as choice
+use Rattle.swh_format.specs.declared.kinds.Field.{Field}
+use Rattle.swh_format.specs.declared.kinds.Field.TheVariants as field
+use Rattle.swh_format.specs.Fields.{IsAmong, IsField}
+use Rattle.swh_format.specs.Kinds.{choices}
 use Rattle.swh_recovery.specs.declared.harm.Harm.{Harm}
 use Rattle.swh_recovery.specs.declared.harm.Harm.TheVariants.{Kind, Short}
 use Rattle.swh_recovery.specs.declared.harm.Found.{Found}

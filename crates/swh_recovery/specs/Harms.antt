@@ -7,16 +7,17 @@ use Rattle.swh_model.specs.declared.event.Event.{Event}
 use Rattle.swh_model.specs.declared.event.EventKind.{EventKind}
 use Rattle.swh_model.specs.declared.event.EventKind.TheVariants.{Batch}
 use Rattle.swh_object.specs.Object.{IsObject}
-use Rattle.swh_format.specs.declared.field.RecordKind.TheVariants as of
+use Rattle.swh_format.specs.declared.kinds.RecordKind.TheVariants as of
 use Rattle.swh_format.specs.Record.{magic}
+use Rattle.swh_format.specs.BatchRecord.{run_from, run_to}
 use Rattle.swh_format.specs.EventRecord.{event_byte, payload_of, packed_objects, IsCodable, AreCodable}
 use Rattle.swh_format.specs.Stands.{coded_records, coded_runs}
 use Rattle.swh_recovery.specs.declared.harm.Harm.TheVariants.{Magic, Short, Refused}
 use Rattle.swh_recovery.specs.declared.harm.Found.{Found}
-use Rattle.swh_format.specs.Fields.{byte_of, FieldsHold}
+use Rattle.swh_format.specs.Fields.{FieldsHold, Spells}
+use Rattle.swh_format.specs.Kinds.{byte_of, fields_of, payload_fields}
 use Rattle.swh_recovery.specs.Fields.{found_at}
-use Rattle.swh_format.specs.Kinds.{payload_fields}
-use Rattle.swh_recovery.specs.LedgerHarm.{BeginsRecord, RecordBreaks, TellsRun}
+use Rattle.swh_recovery.specs.LedgerHarm.{BeginsRecord, RecordBreaks}
 use Rattle.swh_recovery.specs.StoreHarm.{RunBreaks, HoldsRun}
 
 -- the objects of what happened
@@ -44,15 +45,15 @@ module _ (id_of : Kind → List ℕ → List ℕ) where
     pub opened : records ≡ 1 ∷ behind
     pub frame : BeginsRecord behind
     pub batch : frame.kind ≡ byte_of of.Batch
-    pub told : TellsRun frame.payload
+    pub told : Spells (fields_of of.Batch) frame.payload
     pub file_is : file ≡ 1
-    pub breaks : RunBreaks id_of told.from told.to store found
+    pub breaks : RunBreaks id_of (run_from told.holds) (run_to told.holds) store found
 
   -- The run that a batch's fields name is whole.
   pub record NamesRun (payload store : List ℕ) : Type 0 where
-    pub told : TellsRun payload
+    pub told : Spells (fields_of of.Batch) payload
     pub entries : List Entry
-    pub run : HoldsRun id_of told.from told.to store entries
+    pub run : HoldsRun id_of (run_from told.holds) (run_to told.holds) store entries
 
   -- A record has its fields, and its run, where it is a batch's, is whole; but it is of no event whose run begins where
   -- the last one ends and stands there.

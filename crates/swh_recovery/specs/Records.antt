@@ -2,15 +2,10 @@
 use Rattle.std.specs.Prelude.{◌≡◌, ◌⊎◌, ◌+◌, ◌≤◌, ◌<◌, ◌^◌, ℕ, List, [], ◌∷◌, ◌++◌, length, drop}
 use Rattle.std.specs.List.{AllByRecursion}
 use Rattle.swh_base.specs.declared.kind.Kind.{Kind}
-use Rattle.swh_base.specs.declared.entry.Entry.{Entry}
 use Rattle.swh_base.specs.Limits.{file_limit}
 use Rattle.swh_model.specs.Limits.{store_length, ledger_length}
 use Rattle.swh_model.specs.declared.event.Event.{Event}
-use Rattle.swh_model.specs.declared.event.EventKind.{EventKind}
-use Rattle.swh_model.specs.declared.event.EventKind.TheVariants.{Batch}
 use Rattle.swh_object.specs.Object.{IsObject}
-use Rattle.swh_format.specs.declared.told.Told.{Told}
-use Rattle.swh_format.specs.declared.told.Told.TheVariants as told_of
 use Rattle.swh_format.specs.declared.frame.RecordParts.{RecordParts}
 use Rattle.swh_format.specs.Record.{magic, framed}
 use Rattle.swh_format.specs.LedgerReading.{IsGateClosed}
@@ -26,40 +21,24 @@ use Rattle.swh_recovery.specs.declared.fault.ReadFault.{ReadFault}
 use Rattle.swh_recovery.specs.declared.fault.ReadFault.TheVariants as read
 use Rattle.swh_recovery.specs.declared.fault.NextFault.{NextFault}
 use Rattle.swh_recovery.specs.declared.fault.NextFault.TheVariants as next
-use Rattle.swh_recovery.specs.declared.frame.RunTold.{RunTold}
+use Rattle.swh_format.specs.declared.batch_record.RunTold.{RunTold}
 use Rattle.swh_recovery.specs.declared.record.Record.{Record}
-use Rattle.swh_format.specs.Fields.{choices, IsAmong, FieldsHold}
+use Rattle.swh_format.specs.Fields.{IsAmong, FieldsHold}
+use Rattle.swh_format.specs.Kinds.{choices, payload_fields}
 use Rattle.swh_recovery.specs.Fields.{found_at}
-use Rattle.swh_format.specs.declared.field.Choice.TheVariants as choice
-use Rattle.swh_format.specs.Kinds.{payload_fields}
+use Rattle.swh_format.specs.declared.kinds.Choice.TheVariants as choice
 use Rattle.swh_recovery.specs.Harms.{entries_of, StoreBreaks, IsRefused, BreaksAfter, MagicBreaks}
-
--- what happened: a batch of these objects, or all that is told
-abbrev pub kind_of_told : Told → List Entry → EventKind
-kind_of_told (told_of.Batch p) es = Batch es
-kind_of_told (told_of.Whole what) es = what
-
--- the event of a record
-abbrev pub event_of : Record → Event
-event_of r = record { by = r.by; what = kind_of_told r.told r.entries.items }
 
 -- the events of records
 abbrev pub events : List Record → List Event
 events [] = []
-events (r ∷ rs) = event_of r ∷ events rs
+events (r ∷ rs) = r.event ∷ events rs
 
--- The record's gate stands at this place of the ledger, and all else of it is its event's, whose run begins at this place
--- of the store.
-pub record IsRecordOfEvent (gate start : ℕ) (r : Record) : Type 0 where
-  pub gate_is : r.gate ≡ gate
-  pub kind_is : r.kind ≡ event_byte (event_of r).what
-  pub payload_is : r.payload.items ≡ payload_of start (event_of r)
-  pub entries_are : r.entries.items ≡ entries_of (event_of r).what
-
--- Each record is its event's, the gates and the runs one behind another from these places on.
+-- The gates of the records stand one behind another, the first at this place of the ledger, where its run begins at the
+-- other of the store.
 abbrev pub AreRecords : ℕ → ℕ → List Record → Type 0
 AreRecords gate start [] = Unit {0}
-AreRecords gate start (r ∷ rs) = IsRecordOfEvent gate start r × AreRecords (gate + (1 + length (coded_record start (event_of r)))) (start + length (packed_objects (event_of r).what)) rs
+AreRecords gate start (r ∷ rs) = (r.gate ≡ gate) × AreRecords (gate + (1 + length (coded_record start r.event))) (start + length (packed_objects r.event.what)) rs
 
 -- a fault in a file of this number
 abbrev pub in_file : ℕ → ReadFault → NextFault
@@ -91,19 +70,19 @@ pub record IsWholeRecord (p : RecordParts) : Type 0 where
 
 -- The run is what a batch's payload tells: it begins at this place, has so many objects, and nothing else is told.
 pub record IsToldExactly (start number : ℕ) (t : RunTold) : Type 0 where
-  pub from_is : t.run.from ≡ start
-  pub to_is : start ≤ t.run.to
-  pub number_is : t.run.number ≡ number
+  pub from_is : t.from ≡ start
+  pub to_is : start ≤ t.to
+  pub number_is : t.number ≡ number
   pub nothing_left : t.left.now ≡ []
 
 module _ (id_of : Kind → List ℕ → List ℕ) where
   -- The record of these parts was read, with a run that ends at this place of the store.
   pub record IsEventRead (gate start : ℕ) (p : RecordParts) (r : Record) (end : ℕ) : Type 0 where
-    pub placed : IsRecordOfEvent gate start r
-    pub codable : IsCodable start (event_of r)
-    pub ledger : framed p.kind p.payload.now ≡ coded_record start (event_of r)
-    pub end_is : end ≡ start + length (packed_objects (event_of r).what)
-    pub good : AllByRecursion (IsObject id_of) (entries_of (event_of r).what)
+    pub gate_is : r.gate ≡ gate
+    pub codable : IsCodable start r.event
+    pub ledger : framed p.kind p.payload.now ≡ coded_record start r.event
+    pub end_is : end ≡ start + length (packed_objects r.event.what)
+    pub good : AllByRecursion (IsObject id_of) (entries_of r.event.what)
 
   -- The record of these parts, which has its fields, has this harm.
   abbrev pub EventBreaks : ℕ → ℕ → ℕ → RecordParts → List ℕ → ℕ → Found → Type 0
@@ -124,21 +103,13 @@ module _ (id_of : Kind → List ℕ → List ℕ) where
       (MagicBreaks ledger file (found_at at harm) × (before ≡ []))
       ⊎ (BreaksAfter id_of (events before) ledger store file (found_at at harm) × AreRecords 8 0 before)
 
--- What is told is all that happened, by a record of this kind and with this payload after who wrote it.
-abbrev pub IsToldWhole : ℕ → List ℕ → Told → Type 0
-IsToldWhole byte told (told_of.Batch p) = ⊥
-IsToldWhole byte told (told_of.Whole what) = TellsWhole byte told what
-
 -- The record of these parts was read, and it is no batch.
 pub record IsWholeRead (gate : ℕ) (p : RecordParts) (r : Record) : Type 0 where
   pub gate_is : r.gate ≡ gate
-  pub kind_is : r.kind ≡ p.kind
-  pub payload_is : r.payload.items ≡ p.payload.now
-  pub no_entries : r.entries.items ≡ []
   pub rest : List ℕ
-  pub who : p.payload.now ≡ to_be_bytes w32 r.by ++ rest
-  pub by_fits : r.by < 2 ^ 32
-  pub tells : IsToldWhole p.kind rest r.told
+  pub who : p.payload.now ≡ to_be_bytes w32 r.event.by ++ rest
+  pub by_fits : r.event.by < 2 ^ 32
+  pub tells : TellsWhole p.kind rest r.event.what
 
 -- The payload of these parts is that of no event, wherever its run would begin, and this is told of the record.
 pub record IsNotTold (gate number : ℕ) (p : RecordParts) (file : ℕ) (found : Found) : Type 0 where
@@ -152,7 +123,7 @@ pub record HasRuns (store : List ℕ) (r : Reached) : Type 0 where
 
 -- The store holds the run of the record's event from this place on, up to the other.
 pub record HoldsEvent (start : ℕ) (store : List ℕ) (r : Record) (end : ℕ) : Type 0 where
-  pub run : drop start store ≡ packed_objects (event_of r).what ++ drop end store
+  pub run : drop start store ≡ packed_objects r.event.what ++ drop end store
 
 module _ (id_of : Kind → List ℕ → List ℕ) where
   -- The records are those up to this gate of the ledger, their runs end at this place of a store, and their objects are

@@ -12,18 +12,13 @@ use Rattle.swh_object.specs.Object.{IsObject, IsBadBody}
 use Rattle.swh_format.specs.StoredObject.{coded_run, IsCodableEntry}
 use Rattle.swh_recovery.specs.declared.harm.Harm.TheVariants.{Body, Name}
 use Rattle.swh_recovery.specs.declared.harm.Found.{Found}
+use Rattle.swh_format.specs.Fields.{Contents, Spells}
 use Rattle.swh_format.specs.Kinds.{head_fields}
 use Rattle.swh_recovery.specs.Fields.{found_at, IsCut, FieldsBreak}
 
--- The bytes begin with an object's kind, its body's length and its id.
-pub record BeginsHead (bytes : List ℕ) : Type 0 where
-  pub kind : Kind
-  pub size : ℕ
-  pub id : List ℕ
-  pub cut : List ℕ
-  pub spelled : bytes ≡ kind_number kind ∷ (to_be_bytes w64 size ++ (id ++ cut))
-  pub twenty : length id ≡ 20
-  pub fits : size < 2 ^ 64
+-- the body's length, as the fields of a head say
+abbrev pub head_size : Contents head_fields → ℕ
+head_size c = c.1.0
 
 -- The bytes begin with all that stands of an object.
 pub record BeginsObject (bytes : List ℕ) : Type 0 where
@@ -41,8 +36,8 @@ IsRefusedBody kind body at = ((body_limit < length body) × (at ≡ body_limit))
 
 -- The body has fewer bytes than its length says.
 pub record BodyIsCut (bytes : List ℕ) (at : ℕ) (found : Found) : Type 0 where
-  pub head : BeginsHead bytes
-  pub cut : IsCut head.size head.cut (at + 29) found
+  pub head : Spells head_fields bytes
+  pub cut : IsCut (head_size head.holds) head.behind (at + 29) found
 
 -- The body is none of its kind, or above the limit.
 pub record BodyBreaks (bytes : List ℕ) (at : ℕ) (found : Found) : Type 0 where

@@ -14,7 +14,7 @@ ghost use Rattle.std.specs.Prelude.{
   length,
   drop,
 };
-ghost use Rattle.swh_outside.specs.Faults.{Rose};
+ghost use Rattle.swh_segment.specs.Reads.{OnlyReads};
 ghost use Rattle.swh_format.specs.Record.{magic};
 ghost use Rattle.swh_format.specs.Stands.{StandsFor};
 ghost use Rattle.swh_segment.specs.Making.{IsMade};
@@ -102,11 +102,8 @@ fn read_records<N: Namer, D: Disk>(
         StandsFor ledger.now (D.file store.old).seen (events records.items)) }
     ensures harm { D.tells → IfErr result (λ fault.
         IfDamaged fault (IsHarm N.id_of ledger.now (D.file store.old).seen)) }
-    ensures same { D.tells → D.file store.new ≡ D.file store.old }
-    ensures later { D.faults store.old ≤ D.faults store.new }
-    ensures cause { IsErrOf result DiskFault → Rose (D.faults store.old) (D.faults store.new) }
-    ensures quiet { OnOk result (D.faults store.new ≡ D.faults store.old) }
-    ensures quiet_fault { IfErr result (λ fault. UnlessDiskFault fault (D.faults store.new ≡ D.faults store.old)) }
+    ensures reads { OnlyReads D.tells UnlessDiskFault DiskFault (D.file store.old, D.faults store.old)
+        (D.file store.new, D.faults store.new) result }
 {
     let mut reached = Reached {
         gate: 8,
@@ -150,11 +147,8 @@ fn read_both<N: Namer, D: Disk>(
         StandsFor ledger.now (D.file store.old).seen (events records.items)) }
     ensures harm { D.tells → IfErr result (λ fault.
         IfDamaged fault (IsHarm N.id_of ledger.now (D.file store.old).seen)) }
-    ensures same { D.tells → D.file store.new ≡ D.file store.old }
-    ensures later { D.faults store.old ≤ D.faults store.new }
-    ensures cause { IsErrOf result DiskFault → Rose (D.faults store.old) (D.faults store.new) }
-    ensures quiet { OnOk result (D.faults store.new ≡ D.faults store.old) }
-    ensures quiet_fault { IfErr result (λ fault. UnlessDiskFault fault (D.faults store.new ≡ D.faults store.old)) }
+    ensures reads { OnlyReads D.tells UnlessDiskFault DiskFault (D.file store.old, D.faults store.old)
+        (D.file store.new, D.faults store.new) result }
 {
     if let Err(found) = check_magic(ledger) {
         return Err(damaged(NextFault::Harmed(0, found), Vec::new(alloc)));

@@ -1,9 +1,9 @@
 //! The event of a record that has its fields: its run is read, and what it tells is looked at.
-ghost use Rattle.std.specs.Prelude.{◌≡◌, ◌≢◌, ◌↔◌, ◌≤◌, IsTrue, IfOk, OnOk, IfErr, IsErrOf, length};
-ghost use Rattle.swh_outside.specs.Faults.{Rose};
+ghost use Rattle.std.specs.Prelude.{◌≡◌, ◌≢◌, ◌≤◌, IsTrue, IfOk, IfErr, IsErrOf, length};
+ghost use Rattle.swh_segment.specs.Reads.{OnlyReads};
 ghost use Rattle.swh_base.specs.Limits.{file_limit};
-ghost use Rattle.swh_format.specs.Fields.{byte_of};
-ghost use Rattle.swh_format.specs.declared.field.RecordKind.TheVariants as of;
+ghost use Rattle.swh_format.specs.Kinds.{byte_of};
+ghost use Rattle.swh_format.specs.declared.kinds.RecordKind.TheVariants as of;
 ghost use Rattle.swh_recovery.specs.Fields.{found_at};
 ghost use Rattle.swh_recovery.specs.Records.{
   in_file,
@@ -21,13 +21,13 @@ ghost use Rattle.swh_recovery.specs.declared.harm.Harm.TheVariants.{Refused};
 ghost use Rattle.swh_recovery.specs.declared.fault.NextFault.TheVariants.{DiskFailed, Harmed};
 
 use crate::fault::{NextFault, ReadFault};
-use crate::frame::{RunTold, run_told};
 use crate::harm::{Found, Harm};
 use crate::record::Record;
 use crate::run::read_run;
 use std::alloc::Global;
-use swh_base::Namer;
-use swh_format::{RecordParts, Told, read_whole as whole_of, split_four};
+use swh_base::{Items, Namer};
+use swh_format::{RecordParts, RunTold, read_whole as whole_of, run_told, split_four};
+use swh_model::{Event, EventKind};
 use swh_outside::Disk;
 
 /// Where the next record stands: the place of its gate in the ledger, the place in the store where its run has to begin,
@@ -61,10 +61,7 @@ fn is_told_exactly(told: &RunTold<'_>, start: u64, number: usize) -> bool
     ensures yes { IsTrue result → IsToldExactly start number told.now }
     ensures no { IsToldExactly start number told.now → IsTrue result }
 {
-    told.run.from == start
-        && start <= told.run.to
-        && told.run.number as usize == number
-        && told.left.is_empty()
+    told.from == start && start <= told.to && told.number as usize == number && told.left.is_empty()
 }
 
 // The record of a batch, and where its run ends in the store.
@@ -86,29 +83,26 @@ fn read_batch<N: Namer, D: Disk>(
     ensures holds { D.tells → IfOk result (λ x. HoldsEvent place.start (D.file store.old).seen x.0 x.1) }
     ensures harm { D.tells → IfErr result (λ fault. IfNextHarmed fault
         (EventBreaks N.id_of place.number place.gate place.start parts.now (D.file store.old).seen)) }
-    ensures same { D.tells → D.file store.new ≡ D.file store.old }
-    ensures later { D.faults store.old ≤ D.faults store.new }
-    ensures cause { IsErrOf result DiskFailed → Rose (D.faults store.old) (D.faults store.new) }
-    ensures quiet { OnOk result (D.faults store.new ≡ D.faults store.old) }
-    ensures quiet_fault { IfErr result (λ fault. UnlessDiskNext fault (D.faults store.new ≡ D.faults store.old)) }
+    ensures reads { OnlyReads D.tells UnlessDiskNext DiskFailed (D.file store.old, D.faults store.old)
+        (D.file store.new, D.faults store.new) result }
 {
     let told = run_told(parts.payload);
-    let entries = match read_run(alloc, namer, store, size, told.run.from, told.run.to) {
+    let entries = match read_run(alloc, namer, store, size, told.from, told.to) {
         Ok(entries) => entries,
         Err(fault) => return Err(in_store(fault)),
     };
     if !is_told_exactly(&told, place.start, entries.as_slice().len()) {
         return Err(refused(place.gate, place.number));
     }
+    let event = Event {
+        by: told.by,
+        what: EventKind::Batch(Items::from_vec(entries)),
+    };
     let record = Record {
         gate: place.gate,
-        kind: parts.kind,
-        payload: parts.payload.to_vec(alloc)?,
-        entries,
-        by: told.by,
-        told: Told::Batch(told.run),
+        event,
     };
-    Ok((record, told.run.to))
+    Ok((record, told.to))
 }
 
 // The record of an opening or a mark.
@@ -130,11 +124,7 @@ fn read_whole(
     };
     Ok(Record {
         gate,
-        kind: parts.kind,
-        payload: parts.payload.to_vec(alloc)?,
-        entries: Vec::new(alloc),
-        by,
-        told: Told::Whole(what),
+        event: Event { by, what },
     })
 }
 
@@ -156,11 +146,8 @@ pub fn read_event<N: Namer, D: Disk>(
     ensures holds { D.tells → IfOk result (λ x. HoldsEvent place.start (D.file store.old).seen x.0 x.1) }
     ensures harm { D.tells → IfErr result (λ fault. IfNextHarmed fault
         (EventBreaks N.id_of place.number place.gate place.start parts.now (D.file store.old).seen)) }
-    ensures same { D.tells → D.file store.new ≡ D.file store.old }
-    ensures later { D.faults store.old ≤ D.faults store.new }
-    ensures cause { IsErrOf result DiskFailed → Rose (D.faults store.old) (D.faults store.new) }
-    ensures quiet { OnOk result (D.faults store.new ≡ D.faults store.old) }
-    ensures quiet_fault { IfErr result (λ fault. UnlessDiskNext fault (D.faults store.new ≡ D.faults store.old)) }
+    ensures reads { OnlyReads D.tells UnlessDiskNext DiskFailed (D.file store.old, D.faults store.old)
+        (D.file store.new, D.faults store.new) result }
 {
     if parts.kind == b'B' {
         return read_batch(alloc, namer, store, size, place, parts);

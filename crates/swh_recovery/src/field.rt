@@ -1,25 +1,14 @@
 //! Fields that have to stand one after another, and the first that does not.
-ghost use Rattle.std.specs.Prelude.{◌≡◌, ◌↔◌, ◌+◌, ◌<◌, ◌^◌, ◌∷◌, ◌++◌, IsTrue, IfOk, IfErr, OnOk, length};
+ghost use Rattle.std.specs.Prelude.{◌≡◌, ◌+◌, ◌<◌, ◌^◌, ◌∷◌, ◌++◌, IfOk, IfErr, OnOk, length};
 ghost use Rattle.std.specs.Int.{w32, w64, to_be_bytes};
-ghost use Rattle.swh_format.specs.declared.field.Field.TheVariants.{Byte, Snapshot};
+ghost use Rattle.swh_format.specs.declared.kinds.Field.TheVariants.{Byte, Snapshot};
 ghost use Rattle.swh_recovery.specs.declared.harm.Harm.TheVariants.{Short};
-ghost use Rattle.swh_format.specs.Fields.{choices, IsAmong, FieldsHold};
+ghost use Rattle.swh_format.specs.Fields.{IsAmong, FieldsHold};
+ghost use Rattle.swh_format.specs.Kinds.{choices};
 ghost use Rattle.swh_recovery.specs.Fields.{IsCut, IsFieldThen, found_at, FieldBreaks, FieldsBreak};
 
 use crate::harm::{Found, Harm};
-use swh_format::{Choice, Field, split_bytes, split_eight, split_four};
-
-fn is_choice(choice: Choice, byte: u8) -> bool
-    ensures { IsTrue result ↔ IsAmong byte (choices choice) }
-{
-    match choice {
-        Choice::Record => byte == b'B' || byte == b'O' || byte == b'T',
-        Choice::Visit => byte == 1 || byte == 2 || byte == 3,
-        Choice::Status => byte == 2 || byte == 3 || byte == 4 || byte == 5 || byte == 6,
-        Choice::Snapshot => byte == 0 || byte == 1,
-        Choice::Object => byte == 1 || byte == 2 || byte == 3 || byte == 4 || byte == 5,
-    }
-}
+use swh_format::{Choice, Field, may_stand, split_bytes, split_eight, split_four};
 
 /// Fewer bytes than needed.
 pub fn cut(have: usize, need: u64, at: u64) -> Found
@@ -51,7 +40,7 @@ pub fn take_byte(bytes: &[u8], choice: Choice, at: u64) -> Result<(u8, &[u8]), F
     let Some((byte, rest)) = bytes.split_first() else {
         return Err(cut(0, 1, at));
     };
-    if !is_choice(choice, *byte) {
+    if !may_stand(choice, *byte) {
         let harm = Harm::Kind { found: *byte };
         return Err(Found { at, harm });
     }

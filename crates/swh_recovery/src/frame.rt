@@ -3,39 +3,12 @@ ghost use Rattle.std.specs.Prelude.{◌≡◌, ◌+◌, ◌<◌, ◌^◌, IfOk, 
 ghost use Rattle.swh_format.specs.LedgerReading.{IsRecordFront};
 ghost use Rattle.swh_format.specs.Fields.{FieldsHold};
 ghost use Rattle.swh_recovery.specs.Fields.{FieldsBreak};
-ghost use Rattle.swh_format.specs.Kinds.{fields_of, payload_fields};
-ghost use Rattle.swh_format.specs.declared.field.RecordKind.TheVariants as of;
-ghost use Rattle.swh_recovery.specs.LedgerHarm.{
-  RecordBreaks,
-  IsRecordWithFields,
-  IsFrame,
-  FrameBreaks,
-  IsRunTold,
-};
+ghost use Rattle.swh_format.specs.Kinds.{payload_fields};
+ghost use Rattle.swh_recovery.specs.LedgerHarm.{RecordBreaks, IsRecordWithFields, IsFrame, FrameBreaks};
 
 use crate::field::{check_fields, take_byte, take_bytes, take_four};
 use crate::harm::Found;
-use swh_format::{BatchParts, Choice, Field, RecordParts, split_batch, split_four};
-
-// The fields of each kind's payload, which begins with who wrote it.
-const BATCH: [Field; 4] = [Field::Four, Field::Eight, Field::Eight, Field::Four];
-
-const OPEN: [Field; 3] = [Field::Four, Field::Byte(Choice::Visit), Field::Eight];
-
-const MARK: [Field; 4] = [
-    Field::Four,
-    Field::Byte(Choice::Status),
-    Field::Eight,
-    Field::Snapshot,
-];
-
-/// What a batch's payload says: who wrote it, where its run stands, and what is left behind that.
-#[derive(Clone, Copy)]
-pub struct RunTold<'a> {
-    pub by: u32,
-    pub run: BatchParts,
-    pub left: &'a [u8],
-}
+use swh_format::{Choice, RecordParts, fields_of_payload};
 
 // A record's kind, length and payload.
 fn take_frame(bytes: &[u8], at: u64) -> Result<RecordParts<'_>, Found>
@@ -58,11 +31,7 @@ fn check_payload(kind: u8, payload: &[u8], at: u64) -> Result<(), Found>
     ensures ok { OnOk result (FieldsHold (payload_fields kind) payload.now) }
     ensures err { IfErr result (FieldsBreak (payload_fields kind) payload.now at) }
 {
-    match kind {
-        b'B' => check_fields(&BATCH, payload, at),
-        b'O' => check_fields(&OPEN, payload, at),
-        _ => check_fields(&MARK, payload, at),
-    }
+    check_fields(fields_of_payload(kind), payload, at)
 }
 
 /// The record at the front of bytes that stand from a place on, behind its open gate, with the fields of its kind; else
@@ -75,14 +44,4 @@ pub fn take_record(bytes: &[u8], at: u64) -> Result<RecordParts<'_>, Found>
     let parts = take_frame(bytes, at)?;
     check_payload(parts.kind, parts.payload, at + 5)?;
     Ok(parts)
-}
-
-/// What a batch's payload says of its run.
-pub fn run_told(payload: &[u8]) -> RunTold<'_>
-    requires { FieldsHold (fields_of of.Batch) payload.now }
-    ensures { IsRunTold payload.now result }
-{
-    let (by, rest) = split_four(payload).unwrap();
-    let (run, left) = split_batch(rest);
-    RunTold { by, run, left }
 }

@@ -10,16 +10,15 @@ ghost use Rattle.std.specs.Prelude.{
   IfOk,
   OnOk,
   IfErr,
-  IsErrOf,
   length,
 };
-ghost use Rattle.swh_outside.specs.Faults.{Rose};
+ghost use Rattle.swh_segment.specs.Reads.{OnlyReads};
 ghost use Rattle.swh_base.specs.Name.{kind_number};
 ghost use Rattle.swh_base.specs.Limits.{body_limit};
-ghost use Rattle.swh_format.specs.declared.field.Choice.TheVariants as choice;
-ghost use Rattle.swh_format.specs.Fields.{choices, IsAmong};
+ghost use Rattle.swh_format.specs.declared.kinds.Choice.TheVariants as choice;
+ghost use Rattle.swh_format.specs.Fields.{IsAmong};
+ghost use Rattle.swh_format.specs.Kinds.{choices, head_fields};
 ghost use Rattle.swh_recovery.specs.Fields.{IsCut, found_at, FieldsBreak};
-ghost use Rattle.swh_format.specs.Kinds.{head_fields};
 ghost use Rattle.swh_recovery.specs.StoreHarm.{ObjectBreaks};
 ghost use Rattle.swh_recovery.specs.Reading.{
   IfHarmed,
@@ -160,11 +159,8 @@ fn read_head<D: Disk>(
     ensures whole { OnOk result (29 ≤ have) }
     ensures harm { D.tells → IfErr result (λ fault.
         IfHarmed fault (FieldsBreak head_fields (window (D.file store.old).seen at have) at)) }
-    ensures same { D.tells → D.file store.new ≡ D.file store.old }
-    ensures later { D.faults store.old ≤ D.faults store.new }
-    ensures cause { IsErrOf result DiskFailed → Rose (D.faults store.old) (D.faults store.new) }
-    ensures quiet { OnOk result (D.faults store.new ≡ D.faults store.old) }
-    ensures quiet_fault { IfErr result (λ fault. UnlessDisk fault (D.faults store.new ≡ D.faults store.old)) }
+    ensures reads { OnlyReads D.tells UnlessDisk DiskFailed (D.file store.old, D.faults store.old)
+        (D.file store.new, D.faults store.new) result }
 {
     let count = have.min(HEAD as u64);
     reach(alloc, store, piece, at, count, have)?;
@@ -190,11 +186,8 @@ fn read_body<D: Disk>(
     ensures whole { OnOk result ((29 + size ≤ have) × (size ≤ body_limit)) }
     ensures count { IfOk result (λ body. length body.items ≤ size) }
     ensures harm { IfErr result (λ fault. IfHarmed fault (BodyHarmsAt at have size)) }
-    ensures same { D.tells → D.file store.new ≡ D.file store.old }
-    ensures later { D.faults store.old ≤ D.faults store.new }
-    ensures cause { IsErrOf result DiskFailed → Rose (D.faults store.old) (D.faults store.new) }
-    ensures quiet { OnOk result (D.faults store.new ≡ D.faults store.old) }
-    ensures quiet_fault { IfErr result (λ fault. UnlessDisk fault (D.faults store.new ≡ D.faults store.old)) }
+    ensures reads { OnlyReads D.tells UnlessDisk DiskFailed (D.file store.old, D.faults store.old)
+        (D.file store.new, D.faults store.new) result }
 {
     let have = have - HEAD as u64;
     if size > have {
@@ -230,11 +223,8 @@ pub fn read_object<N: Namer, D: Disk>(
     ensures whole { IfOk result (λ e. 29 + length e.body ≤ have) }
     ensures harm { D.tells → IfErr result (λ fault.
         IfHarmed fault (ObjectBreaks N.id_of (window (D.file store.old).seen at have) at)) }
-    ensures same { D.tells → D.file store.new ≡ D.file store.old }
-    ensures later { D.faults store.old ≤ D.faults store.new }
-    ensures cause { IsErrOf result DiskFailed → Rose (D.faults store.old) (D.faults store.new) }
-    ensures quiet { OnOk result (D.faults store.new ≡ D.faults store.old) }
-    ensures quiet_fault { IfErr result (λ fault. UnlessDisk fault (D.faults store.new ≡ D.faults store.old)) }
+    ensures reads { OnlyReads D.tells UnlessDisk DiskFailed (D.file store.old, D.faults store.old)
+        (D.file store.new, D.faults store.new) result }
 {
     let head = read_head(alloc, store, piece, at, have)?;
     let body = read_body(alloc, store, piece, at, have, head.size)?;

@@ -14,11 +14,11 @@ ghost use Rattle.std.specs.Prelude.{
   OnOk,
   OnErr,
   IfErr,
-  IsErrOf,
   length,
   take,
 };
-ghost use Rattle.swh_outside.specs.Faults.{HasCause, Rose};
+ghost use Rattle.swh_outside.specs.Faults.{HasCause};
+ghost use Rattle.swh_segment.specs.Reads.{OnlyReads};
 ghost use Rattle.swh_base.specs.Limits.{body_limit};
 ghost use Rattle.swh_recovery.specs.Reading.{IfHarmed, UnlessDisk, window};
 ghost use Rattle.swh_recovery.specs.Pieces.{IsPieceOf, Reaches};
@@ -103,11 +103,8 @@ pub fn read_behind<D: Disk>(
     ensures bytes { D.tells → IfOk result (λ bytes. bytes.items ≡ window (D.file disk.old).seen at count) }
     ensures count { IfOk result (λ bytes. length bytes.items ≤ count) }
     ensures why { IfErr result (λ fault. IfHarmed fault (λ _. ⊥)) }
-    ensures same { D.tells → D.file disk.new ≡ D.file disk.old }
-    ensures later { D.faults disk.old ≤ D.faults disk.new }
-    ensures cause { IsErrOf result DiskFailed → Rose (D.faults disk.old) (D.faults disk.new) }
-    ensures quiet { OnOk result (D.faults disk.new ≡ D.faults disk.old) }
-    ensures quiet_fault { IfErr result (λ fault. UnlessDisk fault (D.faults disk.new ≡ D.faults disk.old)) }
+    ensures reads { OnlyReads D.tells UnlessDisk DiskFailed (D.file disk.old, D.faults disk.old)
+        (D.file disk.new, D.faults disk.new) result }
 {
     let mut bytes = vec![in alloc; 0u8; count as usize]?;
     let count = fill_behind(disk, front, at, &mut bytes)?;
@@ -135,11 +132,8 @@ pub fn reach<D: Disk>(
     // A piece that reaches so far is used as it is: the disk is not read.
     ensures used { Reaches piece.old at count → (OnErr result ⊥) × (piece.new ≡ piece.old) × (disk.new ≡ disk.old) }
     ensures why { IfErr result (λ fault. IfHarmed fault (λ _. ⊥)) }
-    ensures same { D.tells → D.file disk.new ≡ D.file disk.old }
-    ensures later { D.faults disk.old ≤ D.faults disk.new }
-    ensures cause { IsErrOf result DiskFailed → Rose (D.faults disk.old) (D.faults disk.new) }
-    ensures quiet { OnOk result (D.faults disk.new ≡ D.faults disk.old) }
-    ensures quiet_fault { IfErr result (λ fault. UnlessDisk fault (D.faults disk.new ≡ D.faults disk.old)) }
+    ensures reads { OnlyReads D.tells UnlessDisk DiskFailed (D.file disk.old, D.faults disk.old)
+        (D.file disk.new, D.faults disk.new) result }
 {
     if reaches(piece, at, count) {
         return Ok(());

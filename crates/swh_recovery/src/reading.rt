@@ -12,10 +12,9 @@ ghost use Rattle.std.specs.Prelude.{
   IfOk,
   OnOk,
   IfErr,
-  IsErrOf,
   length,
 };
-ghost use Rattle.swh_outside.specs.Faults.{Rose};
+ghost use Rattle.swh_segment.specs.Reads.{OnlyReads};
 ghost use Rattle.swh_base.specs.Limits.{file_limit};
 ghost use Rattle.swh_recovery.specs.Records.{
   IfNextHarmed,
@@ -83,11 +82,8 @@ pub fn read_next<N: Namer, D: Disk>(
     ensures harm { D.tells → IfErr result (λ fault.
         IfNextHarmed fault (BreaksNext N.id_of ledger.now (D.file store.old).seen reached.new)) }
     ensures kept { IfErr result (λ fault. IfNextHarmed fault (λ _ _. reached.new ≡ reached.old)) }
-    ensures same { D.tells → D.file store.new ≡ D.file store.old }
-    ensures later { D.faults store.old ≤ D.faults store.new }
-    ensures cause { IsErrOf result DiskFailed → Rose (D.faults store.old) (D.faults store.new) }
-    ensures quiet { OnOk result (D.faults store.new ≡ D.faults store.old) }
-    ensures quiet_fault { IfErr result (λ fault. UnlessDiskNext fault (D.faults store.new ≡ D.faults store.old)) }
+    ensures reads { OnlyReads D.tells UnlessDiskNext DiskFailed (D.file store.old, D.faults store.old)
+        (D.file store.new, D.faults store.new) result }
 {
     let Some((gate, behind)) = split_gate(&ledger[reached.gate as usize..]) else {
         return Err(NextFault::Harmed(0, cut(0, 1, reached.gate)));

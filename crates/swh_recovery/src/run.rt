@@ -7,10 +7,9 @@ ghost use Rattle.std.specs.Prelude.{
   IfOk,
   OnOk,
   IfErr,
-  IsErrOf,
   length,
 };
-ghost use Rattle.swh_outside.specs.Faults.{Rose};
+ghost use Rattle.swh_segment.specs.Reads.{OnlyReads};
 ghost use Rattle.swh_base.specs.Limits.{file_limit};
 ghost use Rattle.swh_recovery.specs.StoreHarm.{IsRun, HoldsRun, RunBreaks};
 ghost use Rattle.swh_recovery.specs.Reading.{IfHarmed, UnlessDisk};
@@ -41,11 +40,8 @@ pub fn read_run<N: Namer, D: Disk>(
     ensures ok { D.tells → IfOk result (λ es. HoldsRun N.id_of from to (D.file store.old).seen es.items) }
     ensures harm { D.tells → IfErr result (λ fault.
         IfHarmed fault (RunBreaks N.id_of from to (D.file store.old).seen)) }
-    ensures same { D.tells → D.file store.new ≡ D.file store.old }
-    ensures later { D.faults store.old ≤ D.faults store.new }
-    ensures cause { IsErrOf result DiskFailed → Rose (D.faults store.old) (D.faults store.new) }
-    ensures quiet { OnOk result (D.faults store.new ≡ D.faults store.old) }
-    ensures quiet_fault { IfErr result (λ fault. UnlessDisk fault (D.faults store.new ≡ D.faults store.old)) }
+    ensures reads { OnlyReads D.tells UnlessDisk DiskFailed (D.file store.old, D.faults store.old)
+        (D.file store.new, D.faults store.new) result }
 {
     let end = to.min(size);
     let mut entries = Vec::new(alloc);

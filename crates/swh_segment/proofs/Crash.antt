@@ -9,7 +9,7 @@ use Rattle.swh_outside.proofs.Numbered.{files_done-append, files_done-on, files_
 use Rattle.swh_format.specs.Record.{Stands}
 use Rattle.swh_segment.specs.Settled.{IsSettled}
 use Rattle.swh_segment.specs.Calls.{write_calls}
-use Rattle.swh_segment.specs.Making.{IsNotMade, needs_clearing, magic_end, magic_calls, barriers, making_calls, ledger_making_calls, IsNotMadeOrEmpty, IsEmptyArchive, IsCrashSafe}
+use Rattle.swh_segment.specs.Making.{IsNotMade, needs_clearing, magic_end, magic_calls, barriers, making_calls, IsNotMadeOrEmpty, IsEmptyArchive, IsCrashSafe}
 
 abbrev P : List ℕ → Type 0
 P ledger = IsNotMade ledger ⊎ Stands ledger []
@@ -128,14 +128,6 @@ module _ (file : File) (rests : IsAtRest file) (not_made : IsNotMade file.seen) 
 
   pub magic_settled : IsSettled (all_done (magic_calls (needs_clearing file.seen)) file) [] 8
   magic_settled = settled (needs_clearing file.seen) refl
-
--- a crash at any call of the making of a ledger alone
-pub ledger_moments : (file : File) → IsNotMade file.seen → EachImage file IsNotMade → EachMoment (ledger_making_calls file.seen) file P
-ledger_moments file not_made each = record { has = at }
-  where
-    at : (n : ℕ) → EachImage (all_done (take n (ledger_making_calls file.seen)) file) P
-    at zero = record { has = λ image i. inl (each.has image i) }
-    at (suc n) = (magic_moments (done Sync file) (at_rest_done file) not_made).has n
 
 module _ (files : Files) (not_made : IsNotMade (files 0).seen) where
   abbrev still : Files

@@ -4,6 +4,7 @@ pub mod Making
 pub mod Moments
 pub mod OnDisk
 pub mod Reading
+pub mod Reads
 pub mod Runs
 pub mod Settled
 pub mod Standing

@@ -40,17 +40,9 @@ barriers = (1, Sync) ∷ (0, Sync) ∷ []
 abbrev pub making_calls : List ℕ → List FileCall
 making_calls bytes = barriers ++ on 0 (magic_calls (needs_clearing bytes))
 
--- the device calls that make a ledger that has these bytes
-abbrev pub ledger_making_calls : List ℕ → List Call
-ledger_making_calls bytes = Sync ∷ magic_calls (needs_clearing bytes)
-
--- not made, or made with no record
-abbrev pub IsNotMadeOrEmptyLedger : List ℕ → Type 0
-IsNotMadeOrEmptyLedger ledger = IsNotMade ledger ⊎ Stands ledger []
-
--- the same of the ledger among images
+-- The ledger among the images is not made, or made with no record.
 abbrev pub IsNotMadeOrEmpty : Images → Type 0
-IsNotMadeOrEmpty images = IsNotMadeOrEmptyLedger (images 0)
+IsNotMadeOrEmpty images = IsNotMade (images 0) ⊎ Stands (images 0) []
 
 -- The ledger stands for no record and the store is empty of promises, with nothing written since a barrier.
 pub record IsEmptyArchive (files : Files) : Type 0 where

@@ -1,11 +1,11 @@
 // How a ledger begins.
 ghost use Rattle.std.specs.Prelude.{◌≡◌, ◌≤◌, IfOk, OnOk, IsErrOf};
-ghost use Rattle.swh_outside.specs.Faults.{HasCause, Rose};
+ghost use Rattle.swh_outside.specs.Faults.{Rose};
 ghost use Rattle.swh_segment.specs.Making.{IsMade, IsNotMade, needs_clearing};
 ghost use Rattle.swh_segment.specs.declared.fault.MakeFault.TheVariants.{Made, Disk};
 
 use crate::MakeFault;
-use swh_outside::{Disk, Failed};
+use swh_outside::Disk;
 
 /// Says whether the first byte of a ledger that is not made has to be cleared before the rest is written. A disk that
 /// gives nothing of the bytes that it says to have may hold an archive: it counts as made, so that no making writes over it.
@@ -29,15 +29,4 @@ pub fn read_beginning<D: Disk>(ledger: &mut D) -> Result<bool, MakeFault>
         return Ok(false);
     }
     Err(MakeFault::Made)
-}
-
-/// Says the same of a ledger of which it is known that it is not made.
-pub fn read_clearing<D: Disk>(ledger: &mut D) -> Result<bool, Failed>
-    ensures clears { D.tells → IfOk result (λ clears. clears ≡ needs_clearing (D.file ledger.old).seen) }
-    ensures same { D.tells → D.file ledger.new ≡ D.file ledger.old }
-    ensures cause { HasCause (D.faults ledger.old) (D.faults ledger.new) result }
-{
-    let mut first = [0; 1];
-    let count = ledger.read_at(0, &mut first)?;
-    Ok(count == 0 || first[0] == b'S')
 }

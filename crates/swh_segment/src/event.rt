@@ -1,9 +1,8 @@
 //! The writing of an event: what it adds to the store is on the disk before its record, and its record before its gate.
-ghost use Rattle.std.specs.Prelude.{◌+◌, ◌≤◌, ◌<◌, ◌^◌, length};
+ghost use Rattle.std.specs.Prelude.{◌+◌, ◌≤◌, ◌<◌, ◌^◌, Some, length};
 ghost use Rattle.swh_outside.specs.Disk.{Runs};
 ghost use Rattle.swh_outside.specs.Faults.{HasCause};
 ghost use Rattle.swh_segment.specs.Calls.{append_calls, run_calls};
-ghost use Rattle.swh_segment.specs.Runs.{run_of};
 
 use crate::writing::write_synced;
 use swh_outside::{Disk, Failed};
@@ -17,15 +16,12 @@ pub enum Run<'a> {
     Batch(&'a [u8]),
 }
 
-/// The run of an event, on the disk at `Ok`.
-pub fn append_run<D: Disk>(store: &mut D, at: u64, run: Run<'_>) -> Result<(), Failed>
+/// The run of a batch, on the disk at `Ok`.
+pub fn append_run<D: Disk>(store: &mut D, at: u64, bytes: &[u8]) -> Result<(), Failed>
     requires { D.tells → at ≤ length (D.file store.old).seen }
-    ensures runs { D.tells → Runs (run_calls at (run_of run.entry)) (D.file store.old) (D.file store.new) result }
+    ensures runs { D.tells → Runs (run_calls at (Some bytes.now)) (D.file store.old) (D.file store.new) result }
     ensures cause { HasCause (D.faults store.old) (D.faults store.new) result }
 {
-    let Run::Batch(bytes) = run else {
-        return Ok(());
-    };
     if bytes.is_empty() {
         return store.sync();
     }

@@ -20,9 +20,3 @@ impl From<Failed> for MakeFault {
         MakeFault::Disk
     }
 }
-
-/// A disk that comes back from what failed.
-pub struct HandBack<D> {
-    pub disk: D,
-    pub fault: Failed,
-}

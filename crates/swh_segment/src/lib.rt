@@ -21,15 +21,15 @@ mod writing;
 pub use beginning::read_beginning;
 pub use both::{Both, BothBack, append_to_both, make_both};
 pub use event::Run;
-pub use fault::{HandBack, MakeFault};
+pub use fault::MakeFault;
 pub use fronts::{
     broken_event_is_in_doubt, events_are_added, fronts_survive_crashes, opening_survives_crashes,
     worked_acknowledgements,
 };
 pub use laws::{event_is_added, event_survives_crashes, made_is_empty, making_survives_crashes};
-pub use ledger::{Ledger, Ready};
+pub use ledger::Ledger;
 pub use making::make;
 pub use reading::{ReadFileFault, fill, read_file};
 pub use runs::Runs;
-pub use swh_outside::{Failed as DiskFault, OutFault as RunFault};
+pub use swh_outside::Failed as DiskFault;
 pub use writing::{settle, write_synced};

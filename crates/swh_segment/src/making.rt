@@ -1,14 +1,14 @@
 // The making of an archive: its first byte is written last, so that it is not made before all of it is there.
-ghost use Rattle.std.specs.Prelude.{◌≡◌, ◌≤◌, ◌⊎◌, false, length, OnOk, OnErr, IsErrOf};
-ghost use Rattle.swh_outside.specs.Disk.{Runs, Breaks, all_done};
+ghost use Rattle.std.specs.Prelude.{◌≡◌, ◌≤◌, false, length, OnOk, OnErr, IsErrOf};
+ghost use Rattle.swh_outside.specs.Disk.{Runs};
 ghost use Rattle.swh_outside.specs.Files.{files_of};
 ghost use Rattle.swh_outside.specs.Faults.{HasCause};
-ghost use Rattle.swh_segment.specs.Making.{IsMade, IsNotMade, clearing, magic_calls, ledger_making_calls};
+ghost use Rattle.swh_segment.specs.Making.{IsMade, IsNotMade, clearing, magic_calls};
 ghost use Rattle.swh_segment.specs.Makes.{Makes, ADiskFailed};
 ghost use Rattle.swh_segment.specs.declared.fault.MakeFault.TheVariants.{Made, Disk};
 
 use crate::MakeFault;
-use crate::beginning::{read_beginning, read_clearing};
+use crate::beginning::read_beginning;
 use crate::writing::{settle, write_synced};
 use swh_outside::{Disk, Failed};
 
@@ -34,19 +34,6 @@ fn lay_magic<D: Disk>(ledger: &mut D, clears: bool) -> Result<(), Failed>
     clear(ledger, clears)?;
     write_synced(ledger, 1, b"WHARC1\n\0")?;
     write_synced(ledger, 0, b"S")
-}
-
-/// Makes a ledger with no record: a barrier, and then the magic as below.
-pub fn make_ledger<D: Disk>(ledger: &mut D) -> Result<(), Failed>
-    ensures ok { D.tells → OnOk result (D.file ledger.new
-        ≡ all_done (ledger_making_calls (D.file ledger.old).seen) (D.file ledger.old)) }
-    ensures err { D.tells → OnErr result ((D.file ledger.new ≡ D.file ledger.old)
-        ⊎ Breaks (ledger_making_calls (D.file ledger.old).seen) (D.file ledger.old) (D.file ledger.new)) }
-    ensures cause { HasCause (D.faults ledger.old) (D.faults ledger.new) result }
-{
-    let clears = read_clearing(ledger)?;
-    ledger.sync()?;
-    lay_magic(ledger, clears)
 }
 
 /// Makes an archive of two files: a barrier on both; a first byte that is an `S`, or is not there, is cleared; then the

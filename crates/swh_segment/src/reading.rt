@@ -1,11 +1,9 @@
 //! The reading of a whole file, from a disk that may give fewer bytes than are asked.
-ghost use Rattle.std.specs.Prelude.{◌≡◌, ◌+◌, ◌≤◌, ◌<◌, ◌^◌, length, IfOk, OnOk, IsErrOf};
-ghost use Rattle.swh_outside.specs.Faults.{HasCause, Rose};
-ghost use Rattle.swh_segment.specs.Reading.{IsFilled};
-ghost use Rattle.swh_segment.specs.declared.reading.ReadFileFault.TheVariants.{
-  Disk as DiskFailed,
-  Memory as OutOfMemory,
-};
+ghost use Rattle.std.specs.Prelude.{◌≡◌, ◌+◌, ◌≤◌, ◌<◌, ◌^◌, length, IfOk};
+ghost use Rattle.swh_outside.specs.Faults.{HasCause};
+ghost use Rattle.swh_segment.specs.Reading.{IsFilled, UnlessUnread};
+ghost use Rattle.swh_segment.specs.Reads.{OnlyReads};
+ghost use Rattle.swh_segment.specs.declared.reading.ReadFileFault.TheVariants.{Disk as DiskFailed};
 
 use std::alloc::{AllocError, Global};
 use swh_outside::{Disk, Failed};
@@ -63,11 +61,8 @@ pub fn fill<D: Disk>(disk: &mut D, at: u64, out: &mut [u8]) -> Result<usize, Fai
 /// none.
 pub fn read_file<D: Disk>(alloc: Global, disk: &mut D) -> Result<Vec<u8>, ReadFileFault>
     ensures bytes { D.tells → IfOk result (λ bytes. bytes.items ≡ (D.file disk.old).seen) }
-    ensures same { D.tells → D.file disk.new ≡ D.file disk.old }
-    ensures later { D.faults disk.old ≤ D.faults disk.new }
-    ensures cause { IsErrOf result DiskFailed → Rose (D.faults disk.old) (D.faults disk.new) }
-    ensures quiet { OnOk result (D.faults disk.new ≡ D.faults disk.old) }
-    ensures memory_quiet { IsErrOf result OutOfMemory → D.faults disk.new ≡ D.faults disk.old }
+    ensures reads { OnlyReads D.tells UnlessUnread DiskFailed (D.file disk.old, D.faults disk.old)
+        (D.file disk.new, D.faults disk.new) result }
 {
     let size = disk.len()?;
     if size > MOST_BYTES {

@@ -1,13 +1,10 @@
 //! The runs of batches on their disk, the store: one write and a barrier each.
 ghost use Rattle.std.specs.Prelude.{◌≡◌, ◌+◌, ◌≤◌, ◌<◌, ◌^◌, ◌++◌, List, ℕ, Some, length};
 
+use crate::DiskFault;
 use crate::event::append_run;
 use crate::reading::fill;
-use crate::{DiskFault, Run, RunFault};
-use std::alloc::Global;
 use std::marker::Model;
-use swh_base::Entry;
-use swh_format::run_of_entries;
 use swh_outside::{Disk, Failed};
 
 /// A store that owns its disk. Contracts see the disk, and the place where its last run ends.
@@ -30,13 +27,10 @@ impl<D: Disk> Model for Runs<D> {
 }
 
 impl<D: Disk> Runs<D> {
-    ghost use Rattle.std.specs.Prelude.{IfOk, OnOk, OnErr, IsErrOf};
-    ghost use Rattle.swh_outside.specs.Disk.{EachImage, Breaks, all_done};
+    ghost use Rattle.std.specs.Prelude.{IfOk, OnOk, OnErr};
+    ghost use Rattle.swh_outside.specs.Disk.{EachImage};
     ghost use Rattle.swh_outside.specs.Disk.{Runs as IsRun};
     ghost use Rattle.swh_outside.specs.Faults.{HasCause};
-    ghost use Rattle.swh_outside.specs.Causes.{HasOutCause};
-    ghost use Rattle.swh_outside.specs.declared.fault.OutFault.TheVariants.{Failed as DiskFailed, Memory};
-    ghost use Rattle.swh_format.specs.StoredObject.{coded_run};
     ghost use Rattle.swh_segment.specs.Calls.{run_calls};
     ghost use Rattle.swh_segment.specs.Reading.{IsFilled};
     ghost use Rattle.swh_segment.specs.Settled.{AreRunsSettled, BeginsWith};
@@ -50,35 +44,8 @@ impl<D: Disk> Runs<D> {
         Runs { disk, end }
     }
 
-    /// Adds the run of these objects, and answers where it begins and ends: one write, left out where the run is empty, and
-    /// a barrier. `Memory` where there is none for the run; nothing is done then.
-    pub fn append(&mut self, alloc: Global, entries: &[Entry]) -> Result<(u64, u64), RunFault>
-        requires { self.old.end + length (coded_run entries.now) < 2 ^ 64 }
-        ensures from { IfOk result (λ places. places.0 ≡ self.old.end) }
-        ensures to { IfOk result (λ places. places.1 ≡ self.new.end) }
-        ensures end { OnOk result (self.new.end ≡ self.old.end + length (coded_run entries.now)) }
-        ensures same_end { OnErr result (self.new.end ≡ self.old.end) }
-        ensures same { IsErrOf result Memory → self.new ≡ self.old }
-        ensures calls { D.tells → OnOk result (D.file self.new.disk
-            ≡ all_done (run_calls self.old.end (Some (coded_run entries.now))) (D.file self.old.disk)) }
-        ensures broken { D.tells → IsErrOf result DiskFailed → Breaks
-            (run_calls self.old.end (Some (coded_run entries.now))) (D.file self.old.disk) (D.file self.new.disk) }
-        ensures appended { D.tells → (before : List ℕ) → AreRunsSettled (D.file self.old.disk) before self.old.end
-            → OnOk result (AreRunsSettled (D.file self.new.disk) (before ++ coded_run entries.now) self.new.end) }
-        ensures left { D.tells → (before : List ℕ) → AreRunsSettled (D.file self.old.disk) before self.old.end
-            → OnErr result (EachImage (D.file self.new.disk) (BeginsWith before)) }
-        ensures cause { HasOutCause (D.faults self.old.disk) (D.faults self.new.disk) result }
-    {
-        let Ok(run) = run_of_entries(alloc, entries) else {
-            return Err(RunFault::Memory);
-        };
-        match self.append_bytes(&run) {
-            Ok(places) => Ok(places),
-            Err(DiskFault) => Err(RunFault::Failed),
-        }
-    }
-
-    /// The same with the run's bytes, where they were made before.
+    /// Adds a run, of which the bytes are given, and answers where it begins and ends: one write, left out where the run is
+    /// empty, and a barrier.
     pub fn append_bytes(&mut self, run: &[u8]) -> Result<(u64, u64), DiskFault>
         requires { self.old.end + length run.now < 2 ^ 64 }
         ensures from { IfOk result (λ places. places.0 ≡ self.old.end) }
@@ -94,7 +61,7 @@ impl<D: Disk> Runs<D> {
         ensures cause { HasCause (D.faults self.old.disk) (D.faults self.new.disk) result }
     {
         let from = self.end;
-        append_run(&mut self.disk, from, Run::Batch(run))?;
+        append_run(&mut self.disk, from, run)?;
         self.end = from + run.len() as u64;
         Ok((from, self.end))
     }

@@ -145,7 +145,7 @@ fn a_gate_that_fails_may_stand_or_not(rt: HostRuntime) -> Result<(), Fail> {
 fn owners_answer_places(rt: HostRuntime) -> Result<(), Fail> {
     let alloc = rt.alloc();
     let mut runs = Runs::at(MemoryDisk::with_room(alloc, ROOM)?, 0);
-    let empty = runs.append(alloc, &[]);
+    let empty = runs.append_bytes(&[]);
     let places = runs.append_bytes(&[8, 9]);
     let end = runs.end();
     let _store = runs.close();
@@ -156,6 +156,5 @@ fn owners_answer_places(rt: HostRuntime) -> Result<(), Fail> {
     let end = ledger.end();
     let _ledger = ledger.close();
     assert!(rt; gate == Ok(8) && end == 14);
-    let _ready = Ledger::<MemoryDisk>::ready(alloc, b'O', Vec::new(alloc))?;
     Ok(())
 }

@@ -1,20 +1,15 @@
 //! The making of an archive, and the reading of a whole file.
-ghost use Rattle.std.specs.Prelude.{◌≡◌, ◌<◌, IfOk, length};
-ghost use Rattle.swh_memory.specs.Memory.{memory_file};
-
 use std::alloc::{AllocError, Global};
 use std::test::Fail;
 use swh_memory::{MemoryDisk, Room};
-use swh_segment::{Both, BothBack, HandBack, Ledger, MakeFault, make, make_both, read_file};
+use swh_segment::{Both, BothBack, MakeFault, make, make_both, read_file};
 
 const ROOM: Room = Room {
     bytes: 64,
     calls: 64,
 };
 
-fn empty_disk(alloc: Global, failing: &[u64]) -> Result<MemoryDisk, AllocError>
-    ensures { IfOk result (λ disk. length (memory_file disk).seen ≡ 0) }
-{
+fn empty_disk(alloc: Global, failing: &[u64]) -> Result<MemoryDisk, AllocError> {
     MemoryDisk::new(alloc, b"", ROOM, failing.to_vec(alloc)?)
 }
 
@@ -41,32 +36,13 @@ fn an_archive_is_made_once(rt: HostRuntime) -> Result<(), Fail> {
     Ok(())
 }
 
-/// The disk of a ledger, and where its records end, or none where the making failed.
-fn made(disk: MemoryDisk) -> (MemoryDisk, Option<u64>)
-    requires { length (memory_file disk).seen < 9 }
-{
-    match Ledger::make(disk) {
-        Ok(ledger) => {
-            let end = ledger.end();
-            (ledger.close(), Some(end))
-        }
-        Err(back) => {
-            let HandBack {
-                disk,
-                fault: _fault,
-            } = back;
-            (disk, None)
-        }
-    }
-}
-
 #[test]
-fn a_ledger_is_made_or_comes_back(rt: HostRuntime) -> Result<(), Fail> {
+fn a_making_that_fails_leaves_no_archive(rt: HostRuntime) -> Result<(), Fail> {
     let alloc = rt.alloc();
-    let (disk, end) = made(empty_disk(alloc, &[])?);
-    assert!(rt; end == Some(8) && disk.bytes() == b"SWHARC1\n\0".as_slice());
-    let (disk, end) = made(empty_disk(alloc, &[1])?);
-    assert!(rt; end.is_none() && disk.faults() == 1 && disk.bytes().is_empty());
+    let mut store = empty_disk(alloc, &[])?;
+    let mut ledger = empty_disk(alloc, &[1])?;
+    assert_eq!(rt; make(&mut store, &mut ledger), Err(MakeFault::Disk));
+    assert!(rt; ledger.faults() == 1 && ledger.bytes().is_empty());
     Ok(())
 }
 

@@ -1,6 +1,7 @@
+use Rattle.swh_format.specs.declared.kinds.RecordKind.TheVariants as kind
 use Rattle.swh_format.specs.OpenRecord.{open_contents}
 use Rattle.swh_format.proofs.KindLaws.{visit_among}
-use Rattle.swh_format.proofs.ToldFronts.{no_open, no_open_origin}
+use Rattle.swh_format.proofs.ToldFronts.{no_open, no_origin}
 use Rattle.swh_format.proofs.told.read_open.Goals as goal
 
 pub returns-in_default-clause-none : goal.returns-in_default-clause-none
@@ -10,4 +11,4 @@ pub returns-in_default-2-clause-none : goal.returns-in_default-2-clause-none
 returns-in_default-2-clause-none c =
     let t = c.in-Some.ensures.some in
     let p = c.in-Some.parts in
-    no_open_origin _ p.origin.now (open_contents p.kind p.date) t.spelled (visit_among p.kind, (t.date_fits, tt)) (rw c.in_default-2.is at c.in_ok-origin.ensures.none)
+    no_origin kind.Open _ p.origin.now (open_contents p.kind p.date) t.spelled (visit_among p.kind, (t.date_fits, tt)) tt (rw c.in_default-2.is at c.in_ok-origin.ensures.none)

@@ -1,9 +1,11 @@
-use Rattle.std.proofs.Common.{rules, ◌≡◌, ℕ, true, false, length, refl, sym, ap, ◌∙◌, subst, arith}
+use Rattle.std.proofs.Common.{rules, ◌≡◌, ℕ, List, ◌++◌, true, false, length, drop, refl, sym, ap, ◌∙◌, subst, arith}
+use Rattle.swh_base.specs.declared.entry.Entry.{Entry}
+use Rattle.swh_format.specs.StoredObject.{coded_run}
 use Rattle.swh_recovery.specs.declared.harm.Found.{Found}
 use Rattle.swh_recovery.specs.declared.fault.NextFault.{NextFault}
 use Rattle.swh_recovery.specs.Records.{IfNextHarmed, IsToldExactly, EventBreaks}
 use Rattle.swh_recovery.proofs.NextLemmas.{in_file_harmed}
-use Rattle.swh_recovery.proofs.EventLemmas.{run_harm, run_refused, end_of, payload_told, codable_batch, ledger_told, run_told}
+use Rattle.swh_recovery.proofs.EventLemmas.{batch_event, run_harm, run_refused, batch_read, run_told}
 use Rattle.swh_recovery.proofs.event.read_batch.Goals as goal
 
 pub returns-in-Err-clause-harm : goal.returns-in-Err-clause-harm
@@ -34,21 +36,9 @@ returns-clause-read g c =
     let size : length c.as_slice.result.now ≡ length c.in-Ok.entries.items = ap length c.as_slice.ensures.value in
     let yes : c.is_told_exactly.result ≡ true = search rules in
     let exact : IsToldExactly c.args.place.start (length c.in-Ok.entries.items) c.run_told-told.result = subst (λ (n : ℕ). IsToldExactly c.args.place.start n c.run_told-told.result) size (c.is_told_exactly.ensures.yes yes) in
-    let items : c.in_ok-to_vec.field-0.items ≡ c.args.parts.now.payload.now = search rules in
     let id_of = g.N.Namer.id_of in
     let p = c.args.parts.now in
-    record {
-      placed = record {
-        gate_is = refl;
-        kind_is = c.requires.batch;
-        payload_is = items ∙ payload_told id_of c.args.place.start p c.requires.whole c.requires.batch t c.run_told-told.ensures es run exact;
-        entries_are = refl;
-      };
-      codable = codable_batch id_of c.args.place.start p c.requires.whole c.requires.batch t c.run_told-told.ensures es run exact;
-      ledger = ledger_told id_of c.args.place.start p c.requires.whole c.requires.batch t c.run_told-told.ensures es run exact;
-      end_is = end_of id_of c.args.place.start p c.requires.whole c.requires.batch t c.run_told-told.ensures es run exact;
-      good = run.objects.good;
-    }
+    batch_read id_of c.args.place.start p c.requires.whole c.requires.batch t c.run_told-told.ensures es run exact c.args.place.gate _ refl (ap (λ (l : List Entry). batch_event t.by l) c.from_vec.ensures)
 
 pub returns-clause-inside : goal.returns-clause-inside
 returns-clause-inside g c =
@@ -67,4 +57,4 @@ returns-clause-holds g c told =
     let size : length c.as_slice.result.now ≡ length c.in-Ok.entries.items = ap length c.as_slice.ensures.value in
     let yes : c.is_told_exactly.result ≡ true = search rules in
     let exact : IsToldExactly c.args.place.start (length c.in-Ok.entries.items) c.run_told-told.result = subst (λ (n : ℕ). IsToldExactly c.args.place.start n c.run_told-told.result) size (c.is_told_exactly.ensures.yes yes) in
-    record { run = run_told g.N.Namer.id_of c.args.place.start c.args.parts.now c.requires.whole c.requires.batch t c.run_told-told.ensures es c.in-Ok.ensures.whole exact (g.D.Disk.file c.args.store.now).seen (c.in-Ok.ensures.ok told) }
+    record { run = run_told g.N.Namer.id_of c.args.place.start c.args.parts.now c.requires.whole c.requires.batch t c.run_told-told.ensures es c.in-Ok.ensures.whole exact (g.D.Disk.file c.args.store.now).seen (c.in-Ok.ensures.ok told) ∙ ap (λ (l : List Entry). coded_run l ++ drop t.to (g.D.Disk.file c.args.store.now).seen) (sym c.from_vec.ensures) }

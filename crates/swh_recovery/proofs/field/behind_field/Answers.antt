@@ -1,5 +1,6 @@
 use Rattle.std.proofs.Common.{rules, ◌≡◌, ◌∷◌}
-use Rattle.swh_format.specs.Fields.{choices, IsAmong}
+use Rattle.swh_format.specs.Fields.{IsAmong}
+use Rattle.swh_format.specs.Kinds.{choices}
 use Rattle.swh_recovery.proofs.FieldLemmas.{a_byte}
 use Rattle.swh_recovery.proofs.field.behind_field.Goals as goal
 

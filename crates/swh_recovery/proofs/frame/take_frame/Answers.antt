@@ -1,8 +1,9 @@
 use Rattle.std.proofs.Common.{rules, ◌≡◌, ◌+◌, ◌<◌, ◌^◌, ◌∷◌, ◌++◌, length, arith}
 use Rattle.std.specs.Int.{w32, to_be_bytes}
 use Rattle.swh_format.proofs.Fronts.{record_joined}
-use Rattle.swh_format.specs.declared.field.Choice.TheVariants as choice
-use Rattle.swh_format.specs.Fields.{choices, IsAmong}
+use Rattle.swh_format.specs.declared.kinds.Choice.TheVariants as choice
+use Rattle.swh_format.specs.Fields.{IsAmong}
+use Rattle.swh_format.specs.Kinds.{choices}
 use Rattle.swh_recovery.specs.Fields.{IsCut}
 use Rattle.swh_recovery.proofs.FrameLemmas.{exits, size_breaks, payload_breaks}
 use Rattle.swh_recovery.proofs.frame.take_frame.Goals as goal

@@ -1,7 +1,8 @@
 use Rattle.std.proofs.Common.{rules, ◌≡◌, ◌+◌, ◌<◌, ◌^◌, ◌∷◌, ◌++◌, length, refl}
 use Rattle.std.specs.Int.{w64, to_be_bytes}
-use Rattle.swh_format.specs.declared.field.Choice.TheVariants as choice
-use Rattle.swh_format.specs.Fields.{choices, IsAmong}
+use Rattle.swh_format.specs.declared.kinds.Choice.TheVariants as choice
+use Rattle.swh_format.specs.Fields.{IsAmong}
+use Rattle.swh_format.specs.Kinds.{choices}
 use Rattle.swh_recovery.specs.Fields.{IsCut}
 use Rattle.swh_format.proofs.Fronts.{front_and_back}
 use Rattle.swh_recovery.proofs.FrameLemmas.{exits}

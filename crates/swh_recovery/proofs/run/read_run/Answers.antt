@@ -49,6 +49,6 @@ objects-preserved g c =
           begins_next g.N.Namer.id_of seen es e c.args.from c.objects.place (c.min-end.result - c.objects.place) _ (i.begins told) begun next
           ∙ ap (λ (l : List Entry). coded_run l ++ drop (c.objects.place + (29 + length c.as_slice.result.now)) seen) (sym items);
       piece = λ told. subst (λ (f : File). IsPieceOf f.seen c.read_object.new.piece) (i.same told) (c.in_ok-entry.ensures.piece told);
-      same = λ told. c.in_ok-entry.ensures.same told ∙ i.same told;
-      quiet = c.in_ok-entry.ensures.quiet ∙ i.quiet;
+      same = λ told. c.in_ok-entry.ensures.reads.same told ∙ i.same told;
+      quiet = c.in_ok-entry.ensures.reads.quiet ∙ i.quiet;
     }
