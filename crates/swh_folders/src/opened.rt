@@ -1,13 +1,13 @@
 //! A folder that is open while the changes of a commit are made to its tree. What stands in it is kept apart from the
 //! numbered folders, so many changes of one folder make it, and the folders above it, anew once.
 
-ghost use Rattle.std.specs.Prelude.{◌≡◌, ◌≢◌, ◌≤◌, ◌∷◌, ◌++◌, [], ℕ, List, length, Some, IfOk, IfErr};
+ghost use Rattle.std.specs.Prelude.{◌≡◌, ◌≢◌, ◌≤◌, ◌∷◌, ◌++◌, [], ℕ, List, length, Some, IfOk, IfErr, IfSome, IfNone};
 ghost use Rattle.std.specs.Global.{Vec};
 ghost use Rattle.std.specs.List.{AllByRecursion};
 ghost use Rattle.swh_base.specs.Directory.{IsEntryName};
 ghost use Rattle.swh_folders.specs.Arena.{stands_of, forest_of, texts, tree_at, AreGood, IsIn, Extends, Grows};
 ghost use Rattle.swh_folders.specs.Forest.{Forest, Nothing, IsFolder, child_at, put, forest, found, flat};
-ghost use Rattle.swh_folders.specs.Roots.{IsBelow, IsGood, root_forest};
+ghost use Rattle.swh_folders.specs.Roots.{IsBelow, IsGood, map_at, map_of_number, root_forest};
 ghost use Rattle.swh_folders.specs.PathMap.{set, delete, held};
 ghost use Rattle.swh_folders.specs.Transfer.{transferred};
 ghost use Rattle.swh_folders.specs.Sound.{IsLeaf, IsSoundHere};
@@ -39,7 +39,6 @@ use crate::splitting::{is_same_folder, split_path};
 use std::alloc::{AllocError, Global};
 
 /// A folder of a tree, open.
-#[derive(Drop)]
 pub struct Opened {
     /// The root of its tree, as that was before the folder was opened.
     pub root: Option<usize>,
@@ -47,6 +46,17 @@ pub struct Opened {
     pub path: Option<Vec<u8>>,
     /// Its entries.
     pub node: Packed,
+}
+
+/// Written out, so that callers have one call here and not all that it owns.
+impl Drop for Opened {
+    fn drop(self) {
+        let Self {
+            root: _,
+            path: _,
+            node: _,
+        } = self;
+    }
 }
 
 /// The tree at which changes go on: one that has a number, or that of an open folder.
@@ -115,30 +125,61 @@ fn taken(
     }
 }
 
-/// The number of the root of an open folder's tree, after the folder and those above it were made anew.
-fn sealed(
-    alloc: Global,
-    names: &mut Names,
-    nodes: &mut Vec<Packed>,
-    opened: Opened,
-) -> Result<Option<usize>, AllocError>
-    requires good { IsGood names.old.items nodes.old.items }
-    requires opened { IsOpened names.old.items nodes.old.items opened }
-    ensures good { IsGood names.new.items nodes.new.items }
-    ensures grows { Grows names.old.items nodes.old.items names.new.items nodes.new.items }
-    ensures inside { IfOk result (λ r. IsBelow (length nodes.new.items) r) }
-    ensures forest { IfOk result (λ r. root_forest (tree_at names.new.items nodes.new.items) r
-        ≡ open_forest names.old.items nodes.old.items opened) }
-{
-    let Opened { root, path, node } = opened;
-    let child = seal(nodes, node)?;
-    match path {
-        Some(path) => {
-            let parts = components_of(alloc, path.as_slice())?;
-            let there = graft(alloc, names, nodes, root_of(root), parts.as_slice(), child)?;
-            Ok(number_of(there))
+impl Opened {
+    /// The number of the root of its tree, after the folder and those above it were made anew.
+    fn sealed(
+        self,
+        alloc: Global,
+        names: &mut Names,
+        nodes: &mut Vec<Packed>,
+    ) -> Result<Option<usize>, AllocError>
+        requires good { IsGood names.old.items nodes.old.items }
+        requires opened { IsOpened names.old.items nodes.old.items self }
+        ensures good { IsGood names.new.items nodes.new.items }
+        ensures grows { Grows names.old.items nodes.old.items names.new.items nodes.new.items }
+        ensures inside { IfOk result (λ r. IsBelow (length nodes.new.items) r) }
+        ensures forest { IfOk result (λ r. root_forest (tree_at names.new.items nodes.new.items) r
+            ≡ open_forest names.old.items nodes.old.items self) }
+    {
+        let Self { root, path, node } = self;
+        let child = seal(nodes, node)?;
+        match path {
+            Some(path) => {
+                let parts = components_of(alloc, path.as_slice())?;
+                let there = graft(alloc, names, nodes, root_of(root), parts.as_slice(), child)?;
+                Ok(number_of(there))
+            }
+            None => Ok(number_of(child)),
         }
-        None => Ok(number_of(child)),
+    }
+
+    /// It with the child, if there is one, in the place of what stands under the name.
+    fn edited(
+        self,
+        alloc: Global,
+        folders: &mut Folders,
+        name: &[u8],
+        child: Option<Child>,
+    ) -> Result<Opened, AllocError>
+        requires good { AreFolders folders.old }
+        requires opened { IsOpened folders.old.names.items folders.old.nodes.items self }
+        requires name { IsEntryName name.now }
+        requires child { IsIn (count_of folders.old) child }
+        requires sound { IsSoundHere (stands_of (tree_at folders.old.names.items folders.old.nodes.items) child) }
+        ensures names { Extends folders.old.names.items folders.new.names.items }
+        ensures nodes { folders.new.nodes.items ≡ folders.old.nodes.items }
+        ensures most { folders.new.most ≡ folders.old.most }
+        ensures opened { IfOk result (λ o. IsOpened folders.new.names.items folders.new.nodes.items o) }
+        ensures root { IfOk result (λ o. o.root ≡ self.root) }
+        ensures path { IfOk result (λ o. o.path ≡ self.path) }
+        ensures own { IfOk result (λ o. own_forest folders.new.names.items folders.new.nodes.items o
+            ≡ put name.now (stands_of (tree_at folders.old.names.items folders.old.nodes.items) child)
+            (own_forest folders.old.names.items folders.old.nodes.items self)) }
+    {
+        let Self { root, path, node } = self;
+        let rest = kept(alloc, folders.names.as_slice(), node, name)?;
+        let node = add_some(alloc, &mut folders.names, rest, name, child)?;
+        Ok(Opened { root, path, node })
     }
 }
 
@@ -159,7 +200,7 @@ fn closed(
     ensures map { IfOk result (λ r. root_map folders.new r
         ≡ flat (open_forest folders.old.names.items folders.old.nodes.items opened)) }
 {
-    let there = sealed(alloc, &mut folders.names, &mut folders.nodes, opened)?;
+    let there = opened.sealed(alloc, &mut folders.names, &mut folders.nodes)?;
     settled(alloc, folders, base, there)
 }
 
@@ -182,35 +223,6 @@ pub fn root_from(
         Start::At(root) => Ok(root),
         Start::In(opened) => closed(alloc, folders, base, opened),
     }
-}
-
-/// The open folder with the child, if there is one, in the place of what stands under the name.
-fn edited(
-    alloc: Global,
-    folders: &mut Folders,
-    opened: Opened,
-    name: &[u8],
-    child: Option<Child>,
-) -> Result<Opened, AllocError>
-    requires good { AreFolders folders.old }
-    requires opened { IsOpened folders.old.names.items folders.old.nodes.items opened }
-    requires name { IsEntryName name.now }
-    requires child { IsIn (count_of folders.old) child }
-    requires sound { IsSoundHere (stands_of (tree_at folders.old.names.items folders.old.nodes.items) child) }
-    ensures names { Extends folders.old.names.items folders.new.names.items }
-    ensures nodes { folders.new.nodes.items ≡ folders.old.nodes.items }
-    ensures most { folders.new.most ≡ folders.old.most }
-    ensures opened { IfOk result (λ o. IsOpened folders.new.names.items folders.new.nodes.items o) }
-    ensures root { IfOk result (λ o. o.root ≡ opened.root) }
-    ensures path { IfOk result (λ o. o.path ≡ opened.path) }
-    ensures own { IfOk result (λ o. own_forest folders.new.names.items folders.new.nodes.items o
-        ≡ put name.now (stands_of (tree_at folders.old.names.items folders.old.nodes.items) child)
-        (own_forest folders.old.names.items folders.old.nodes.items opened)) }
-{
-    let Opened { root, path, node } = opened;
-    let rest = kept(alloc, folders.names.as_slice(), node, name)?;
-    let node = add_some(alloc, &mut folders.names, rest, name, child)?;
-    Ok(Opened { root, path, node })
 }
 
 /// The folder at a path, open, in the tree at which changes go on.
@@ -271,7 +283,7 @@ pub fn set_in(
 {
     let (folder, name) = split_path(path);
     let opened = opened_at(alloc, folders, base, start, folder)?;
-    edited(alloc, folders, opened, name, Some(Child::File(leaf)))
+    opened.edited(alloc, folders, name, Some(Child::File(leaf)))
 }
 
 /// The tree of the open folder without what stands under the name.
@@ -294,7 +306,7 @@ fn deleted_here(
         (flat (open_forest folders.old.names.items folders.old.nodes.items opened))) }
 {
     match child_in(folders.names.as_slice(), &opened.node, name) {
-        Some(_child) => edited(alloc, folders, opened, name, None),
+        Some(_child) => opened.edited(alloc, folders, name, None),
         None => Ok(opened),
     }
 }
@@ -324,7 +336,7 @@ fn deleted_there(
     };
     let (folder, name) = split_path(path);
     let opened = taken(alloc, names, nodes, root, folder)?;
-    Ok(Start::In(edited(alloc, folders, opened, name, None)?))
+    Ok(Start::In(opened.edited(alloc, folders, name, None)?))
 }
 
 /// The tree without what stands at the path and under it.
@@ -379,6 +391,36 @@ fn copied(alloc: Global, opened: &Opened) -> Result<Opened, AllocError>
     }
 }
 
+/// The tree of an open folder, closed, with what the source holds at the target, and at the source too where the transfer is
+/// a copy. None where the source holds nothing.
+fn transfer_sealed(
+    alloc: Global,
+    names: &mut Names,
+    nodes: &mut Vec<Packed>,
+    opened: Opened,
+    source: &[u8],
+    target: &[u8],
+    way: Transfer,
+) -> Result<Option<Option<usize>>, AllocError>
+    requires good { IsGood names.old.items nodes.old.items }
+    requires opened { IsOpened names.old.items nodes.old.items opened }
+    requires source { IsPath source.now }
+    requires target { IsPath target.now }
+    ensures good { IsGood names.new.items nodes.new.items }
+    ensures grows { Grows names.old.items nodes.old.items names.new.items nodes.new.items }
+    ensures none { IfOk result (λ o. IfNone o (held (components source.now)
+        (flat (open_forest names.old.items nodes.old.items opened)) ≡ [])) }
+    ensures some { IfOk result (λ o. IfSome o (λ r. held (components source.now)
+        (flat (open_forest names.old.items nodes.old.items opened)) ≢ [])) }
+    ensures inside { IfOk result (λ o. IfSome o (λ r. IsBelow (length nodes.new.items) r)) }
+    ensures map { IfOk result (λ o. IfSome o (λ r. map_of_number (map_at names.new.items nodes.new.items) r
+        ≡ transferred way (components source.now) (components target.now)
+        (flat (open_forest names.old.items nodes.old.items opened)))) }
+{
+    let root = opened.sealed(alloc, names, nodes)?;
+    transfer_path(alloc, names, nodes, root, source, target, way)
+}
+
 /// The tree of an open folder with what the source holds at the target, and at the source too where the transfer is a copy;
 /// the open folder as it was, where the source holds nothing.
 fn transfer_open(
@@ -412,9 +454,8 @@ fn transfer_open(
 {
     let count = folders.nodes.len();
     let again = copied(alloc, &opened)?;
-    let root = sealed(alloc, &mut folders.names, &mut folders.nodes, opened)?;
     let (names, nodes) = (&mut folders.names, &mut folders.nodes);
-    let Some(there) = transfer_path(alloc, names, nodes, root, source, target, way)? else {
+    let Some(there) = transfer_sealed(alloc, names, nodes, opened, source, target, way)? else {
         folders.nodes.truncate(count);
         return Ok(Err(Start::In(again)));
     };

@@ -22,11 +22,17 @@ pub enum Form {
 }
 
 /// The entries of one folder. Contracts see their list.
-#[derive(Drop)]
 pub struct Packed {
     form: Form,
     /// How many entries were made for it, others being shared.
     cost: usize,
+}
+
+/// Written out, so that callers have one call here and not all that the forms own.
+impl Drop for Packed {
+    fn drop(self) {
+        let Self { form: _, cost: _ } = self;
+    }
 }
 
 impl Model for Packed {
@@ -155,7 +161,8 @@ impl Packed {
         requires { place ≤ length self.items }
         ensures { IfOk result (λ p. p.items ≡ insert self.items place entry) }
     {
-        match self.form {
+        let Self { form, cost: _ } = self;
+        match form {
             Form::Flat(flat) => {
                 let mut entries = flat.entries(alloc)?;
                 entries.insert(place, entry)?;
@@ -175,7 +182,8 @@ impl Packed {
         requires { place < length self.items }
         ensures { IfOk result (λ p. p.items ≡ remove self.items place) }
     {
-        match self.form {
+        let Self { form, cost: _ } = self;
+        match form {
             Form::Flat(flat) => {
                 let mut entries = flat.entries(alloc)?;
                 let _ = entries.remove(place);

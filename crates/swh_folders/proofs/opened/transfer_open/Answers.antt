@@ -1,34 +1,33 @@
 use Rattle.std.proofs.Common.{rules, ◌≡◌, ℕ, length, take, refl, ap, ◌∙◌}
 use Rattle.swh_folders.specs.Forest.{flat}
 use Rattle.swh_folders.proofs.Changes.{IsAgain, open-again, opened-again, stays-again}
-use Rattle.swh_folders.proofs.Walks.{grows-more}
 use Rattle.swh_folders.proofs.opened.transfer_open.Goals as goal
 
 pub returns-in_default-clause-stays : goal.returns-in_default-clause-stays
 returns-in_default-clause-stays c =
     let old = c.args.folders.now in
-    let names = c.transfer_path.new.names.items in
-    let nodes = c.transfer_path.new.nodes.items in
+    let names = c.transfer_sealed.new.names.items in
+    let nodes = c.transfer_sealed.new.nodes.items in
     let n : c.len-count.result ≡ length old.nodes.items = search rules in
-    let grows = grows-more old.names.items c.sealed.new.names.items names old.nodes.items c.sealed.new.nodes.items nodes c.sealed.ensures.grows c.transfer_path.ensures.grows in
-    stays-again c.args.base old _ names nodes c.requires.base c.transfer_path.ensures.good grows refl (c.truncate.ensures.items ∙ ap (λ (k : ℕ). take k nodes) n)
+    let grows = c.transfer_sealed.ensures.grows in
+    stays-again c.args.base old _ names nodes c.requires.base c.transfer_sealed.ensures.good grows refl (c.truncate.ensures.items ∙ ap (λ (k : ℕ). take k nodes) n)
 
 pub returns-in_default-clause-left : goal.returns-in_default-clause-left
 returns-in_default-clause-left c =
     let old = c.args.folders.now in
-    let names = c.transfer_path.new.names.items in
-    let nodes = c.transfer_path.new.nodes.items in
+    let names = c.transfer_sealed.new.names.items in
+    let nodes = c.transfer_sealed.new.nodes.items in
     let n : c.len-count.result ≡ length old.nodes.items = search rules in
-    let grows = grows-more old.names.items c.sealed.new.names.items names old.nodes.items c.sealed.new.nodes.items nodes c.sealed.ensures.grows c.transfer_path.ensures.grows in
+    let grows = c.transfer_sealed.ensures.grows in
     let again : IsAgain c.args.opened c.in_ok-again.again = record { root = c.in_ok-again.ensures.root; path = c.in_ok-again.ensures.path; node = c.in_ok-again.ensures.node } in
     rw (c.truncate.ensures.items, n) (opened-again old.names.items names old.nodes.items nodes c.args.opened c.in_ok-again.again c.requires.opened grows again)
 
 pub returns-in_default-clause-same : goal.returns-in_default-clause-same
 returns-in_default-clause-same c =
     let old = c.args.folders.now in
-    let names = c.transfer_path.new.names.items in
-    let nodes = c.transfer_path.new.nodes.items in
+    let names = c.transfer_sealed.new.names.items in
+    let nodes = c.transfer_sealed.new.nodes.items in
     let n : c.len-count.result ≡ length old.nodes.items = search rules in
-    let grows = grows-more old.names.items c.sealed.new.names.items names old.nodes.items c.sealed.new.nodes.items nodes c.sealed.ensures.grows c.transfer_path.ensures.grows in
+    let grows = c.transfer_sealed.ensures.grows in
     let again : IsAgain c.args.opened c.in_ok-again.again = record { root = c.in_ok-again.ensures.root; path = c.in_ok-again.ensures.path; node = c.in_ok-again.ensures.node } in
     rw (c.truncate.ensures.items, n) (ap flat (open-again old.names.items names old.nodes.items nodes c.args.opened c.in_ok-again.again c.requires.opened grows again))

@@ -8,34 +8,34 @@ use Rattle.swh_folders.proofs.Ordering.{left-ordered}
 use Rattle.swh_folders.proofs.Orders.{ordered}
 use Rattle.swh_folders.proofs.Sounds.{put-sound}
 use Rattle.swh_folders.proofs.Steps.{forest-without, without-good}
-use Rattle.swh_folders.proofs.opened.edited.Goals as goal
+use Rattle.swh_folders.proofs.opened.Opened.edited.Goals as goal
 
 pub kept-requires-clause-ordered : goal.kept-requires-clause-ordered
 kept-requires-clause-ordered c =
     let names = c.args.folders.now.names.items in
     let nodes = c.args.folders.now.nodes.items in
-    rw c.as_slice.ensures.value (ordered (texts names) (tree_at names nodes) c.args.opened.node.items c.requires.opened.sound)
+    rw c.as_slice.ensures.value (ordered (texts names) (tree_at names nodes) c.args.self.node.items c.requires.opened.sound)
 
 pub add_some-requires-clause-others : goal.add_some-requires-clause-others
 add_some-requires-clause-others c =
     let names = c.args.folders.now.names.items in
     let nodes = c.args.folders.now.nodes.items in
-    let is : c.in_ok-rest.rest.items ≡ entries_without (texts names) c.args.name.now c.args.opened.node.items = (rw c.as_slice.ensures.value at c.in_ok-rest.ensures) (tree_at names nodes) c.requires.opened.sound in
-    names-in_range (length names) (length nodes) c.in_ok-rest.rest.items (subst (λ (es : List Entry). AreGood (length names) (length nodes) es) (sym is) (without-good (texts names) c.args.name.now (length names) (length nodes) c.args.opened.node.items c.requires.opened.entries))
+    let is : c.in_ok-rest.rest.items ≡ entries_without (texts names) c.args.name.now c.args.self.node.items = (rw c.as_slice.ensures.value at c.in_ok-rest.ensures) (tree_at names nodes) c.requires.opened.sound in
+    names-in_range (length names) (length nodes) c.in_ok-rest.rest.items (subst (λ (es : List Entry). AreGood (length names) (length nodes) es) (sym is) (without-good (texts names) c.args.name.now (length names) (length nodes) c.args.self.node.items c.requires.opened.entries))
 
 pub add_some-requires-clause-ordered : goal.add_some-requires-clause-ordered
 add_some-requires-clause-ordered c =
     let names = c.args.folders.now.names.items in
     let nodes = c.args.folders.now.nodes.items in
-    let is : c.in_ok-rest.rest.items ≡ entries_without (texts names) c.args.name.now c.args.opened.node.items = (rw c.as_slice.ensures.value at c.in_ok-rest.ensures) (tree_at names nodes) c.requires.opened.sound in
-    left-ordered (texts names) (tree_at names nodes) c.in_ok-rest.rest.items c.args.name.now (forest_of (texts names) (tree_at names nodes) c.args.opened.node.items) c.requires.opened.sound (ap (forest_of (texts names) (tree_at names nodes)) is ∙ forest-without (texts names) c.args.name.now (tree_at names nodes) c.args.opened.node.items)
+    let is : c.in_ok-rest.rest.items ≡ entries_without (texts names) c.args.name.now c.args.self.node.items = (rw c.as_slice.ensures.value at c.in_ok-rest.ensures) (tree_at names nodes) c.requires.opened.sound in
+    left-ordered (texts names) (tree_at names nodes) c.in_ok-rest.rest.items c.args.name.now (forest_of (texts names) (tree_at names nodes) c.args.self.node.items) c.requires.opened.sound (ap (forest_of (texts names) (tree_at names nodes)) is ∙ forest-without (texts names) c.args.name.now (tree_at names nodes) c.args.self.node.items)
 
 pub returns-clause-opened : goal.returns-clause-opened
 returns-clause-opened c =
     let names = c.args.folders.now.names.items in
     let nodes = c.args.folders.now.nodes.items in
     let new = c.add_some.new.names.items in
-    let es = c.args.opened.node.items in
+    let es = c.args.self.node.items in
     let is : c.in_ok-rest.rest.items ≡ entries_without (texts names) c.args.name.now es = (rw c.as_slice.ensures.value at c.in_ok-rest.ensures) (tree_at names nodes) c.requires.opened.sound in
     let kept : AreGood (length names) (length nodes) c.in_ok-rest.rest.items = subst (λ (r : List Entry). AreGood (length names) (length nodes) r) (sym is) (without-good (texts names) c.args.name.now (length names) (length nodes) es c.requires.opened.entries) in
     let own = edited-own names new nodes es c.args.name.now c.args.child c.in_ok-rest.rest.items c.in_ok-node.node.items c.requires.good c.add_some.ensures.names c.requires.opened.entries c.requires.child is (c.in_ok-node.ensures.forest (tree_at new nodes) (length nodes) kept) in
@@ -51,7 +51,7 @@ returns-clause-own c =
     let names = c.args.folders.now.names.items in
     let nodes = c.args.folders.now.nodes.items in
     let new = c.add_some.new.names.items in
-    let es = c.args.opened.node.items in
+    let es = c.args.self.node.items in
     let is : c.in_ok-rest.rest.items ≡ entries_without (texts names) c.args.name.now es = (rw c.as_slice.ensures.value at c.in_ok-rest.ensures) (tree_at names nodes) c.requires.opened.sound in
     let kept : AreGood (length names) (length nodes) c.in_ok-rest.rest.items = subst (λ (r : List Entry). AreGood (length names) (length nodes) r) (sym is) (without-good (texts names) c.args.name.now (length names) (length nodes) es c.requires.opened.entries) in
     edited-own names new nodes es c.args.name.now c.args.child c.in_ok-rest.rest.items c.in_ok-node.node.items c.requires.good c.add_some.ensures.names c.requires.opened.entries c.requires.child is (c.in_ok-node.ensures.forest (tree_at new nodes) (length nodes) kept)

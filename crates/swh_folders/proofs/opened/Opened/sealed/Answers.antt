@@ -6,7 +6,7 @@ use Rattle.swh_folders.specs.Roots.{root_forest}
 use Rattle.swh_folders.proofs.Closings.{graft-here, root-grown}
 use Rattle.swh_folders.proofs.Walks.{grows-more}
 use Rattle.swh_folders.proofs.Workings.{below-grown}
-use Rattle.swh_folders.proofs.opened.sealed.Goals as goal
+use Rattle.swh_folders.proofs.opened.Opened.sealed.Goals as goal
 
 pub returns-in_err-child-clause-grows : goal.returns-in_err-child-clause-grows
 returns-in_err-child-clause-grows c = c.seal.ensures.grows c.args.names.now.items
@@ -15,7 +15,7 @@ pub returns-in_err-parts-in-Some-clause-grows : goal.returns-in_err-parts-in-Som
 returns-in_err-parts-in-Some-clause-grows c = c.seal.ensures.grows c.args.names.now.items
 
 pub graft-requires-clause-root : goal.graft-requires-clause-root
-graft-requires-clause-root c = c.root_of.ensures.inside (length c.seal.new.nodes.items) (below-grown c.args.names.now.items c.args.names.now.items c.args.nodes.now.items c.seal.new.nodes.items c.args.opened.root c.requires.opened.root (c.seal.ensures.grows c.args.names.now.items))
+graft-requires-clause-root c = c.root_of.ensures.inside (length c.seal.new.nodes.items) (below-grown c.args.names.now.items c.args.names.now.items c.args.nodes.now.items c.seal.new.nodes.items c.args.self.root c.requires.opened.root (c.seal.ensures.grows c.args.names.now.items))
 
 pub returns-in_err-there-in-Some-clause-grows : goal.returns-in_err-there-in-Some-clause-grows
 returns-in_err-there-in-Some-clause-grows c = grows-more c.args.names.now.items c.args.names.now.items c.graft.new.names.items c.args.nodes.now.items c.seal.new.nodes.items c.graft.new.nodes.items (c.seal.ensures.grows c.args.names.now.items) c.graft.ensures.grows
@@ -33,12 +33,12 @@ returns-in_ok-there-in-Some-clause-forest c =
     let mid = tree_at names c.seal.new.nodes.items in
     let last = tree_at c.graft.new.names.items c.graft.new.nodes.items in
     let p = components c.in-Some.path.items in
-    let own = forest_of (texts names) (tree_at names nodes) c.args.opened.node.items in
+    let own = forest_of (texts names) (tree_at names nodes) c.args.self.node.items in
     let grafted = rw (c.as_slice-in-Some.ensures.value, c.in_ok-parts-in-Some.ensures, c.as_slice.ensures.value) at c.in_ok-there-in-Some.ensures.graft in
-    let here = c.root_of.ensures.same mid ∙ root-grown names names nodes c.seal.new.nodes.items c.args.opened.root c.requires.opened.root (c.seal.ensures.grows names) in
+    let here = c.root_of.ensures.same mid ∙ root-grown names names nodes c.seal.new.nodes.items c.args.self.root c.requires.opened.root (c.seal.ensures.grows names) in
     rw c.in-Some.is (c.number_of.ensures.same last ∙ ap forest (grafted
     ∙ ap (λ (x : Stands). graft p x (stands_of mid c.root_of.result)) (c.in_ok-child.ensures.folder names)
-    ∙ graft-here p (folder own) (stands_of mid c.root_of.result) (root_forest (tree_at names nodes) c.args.opened.root) here))
+    ∙ graft-here p (folder own) (stands_of mid c.root_of.result) (root_forest (tree_at names nodes) c.args.self.root) here))
 
 pub returns-in-None-clause-grows : goal.returns-in-None-clause-grows
 returns-in-None-clause-grows c = c.seal.ensures.grows c.args.names.now.items
