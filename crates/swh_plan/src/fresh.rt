@@ -1,81 +1,65 @@
 //! What is new of a batch, and whether a name would have two bodies.
-ghost use Rattle.std.specs.Prelude.{◌≡◌, ◌↔◌, ◌++◌, ◌∷◌, [], IsTrue, None, Some, IfOk, IfSome, IfNone, OnOk, OnErr};
+ghost use Rattle.std.specs.Prelude.{◌≡◌, [], None, IfOk, IfSome, IfNone, OnErr};
 ghost use Rattle.std.specs.List.{AllByRecursion};
-ghost use Rattle.std.specs.FinMap as finite;
 ghost use Rattle.swh_base.specs.declared.name.Name.{Name};
 ghost use Rattle.swh_model.specs.Archive.{body_of};
-ghost use Rattle.swh_model.specs.Step.{HasItsChildren, added};
+ghost use Rattle.swh_model.specs.Step.{HasItsChildren};
 ghost use Rattle.swh_model.specs.Judge.{not_held, Collides};
-ghost use Rattle.swh_plan.specs.Batches.{either, IsSplit};
+ghost use Rattle.swh_plan.specs.Batches.{TakesUp, first_collision};
 
 use std::alloc::Global;
 use swh_base::{Entry, Memory, Name};
-use swh_store::{Standing, Store};
+use swh_store::{Distinct, Standing, Store};
 
-/// The entries of a batch that are not held, each once, and the same as a map.
+/// The entries of a batch that are not held, each once, and the name of the first entry whose name would have two bodies.
 #[derive(Drop)]
 pub struct Split {
     pub fresh: Vec<Entry>,
-    pub added: Store,
+    pub collision: Option<Name>,
 }
 
-fn is_new(store: &Store, added: &Store, name: &Name) -> bool
-    ensures { IsTrue result ↔ (either added.now.bodies store.now.bodies name.now ≡ None) }
+/// How an entry stands to what is held and to what is new before it, which it joins where it is new. It is looked for once
+/// in each.
+fn take_up(store: &Store, fresh: &mut Distinct, entry: &Entry) -> Result<Standing, Memory>
+    requires { HasItsChildren entry.now }
+    ensures ok { IfOk result (TakesUp store.now.bodies fresh.old fresh.new entry.now) }
+    ensures err { OnErr result (body_of store.now.bodies entry.now.name ≡ None) }
 {
-    !store.has(name) && !added.has(name)
+    match store.standing(entry) {
+        Standing::New => fresh.join(entry.again()?),
+        Standing::Known => Ok(Standing::Known),
+        Standing::Other => Ok(Standing::Other),
+    }
 }
 
-fn keep(split: &mut Split, entry: &Entry) -> Result<(), Memory>
-    requires good { HasItsChildren entry.now }
-    requires absent { body_of split.old.added.bodies entry.now.name ≡ None }
-    ensures fresh { OnOk result (split.new.fresh.items ≡ split.old.fresh.items ++ entry.now ∷ []) }
-    ensures added { OnOk result (split.new.added.bodies ≡ finite.insert split.old.added.bodies entry.now.name entry.now.body) }
+/// The name that was found to have two bodies, or else this one, where its entry stands so.
+fn first_collision(found: Option<Name>, name: Name, standing: Standing) -> Option<Name>
+    ensures { result ≡ first_collision found name standing }
 {
-    split.fresh.push(entry.again()?)?;
-    split.added.put(entry.again()?)?;
-    Ok(())
+    match (found, standing) {
+        (None, Standing::Other) => Some(name),
+        _ => found,
+    }
 }
 
-/// The entries of a batch that are not held, each once. Fails where memory runs out. No room is taken for what is held,
-/// so that a batch of which nothing is new never fails.
+/// What is new of a batch, in one pass. Fails where memory runs out. No room is taken for what is held, so that a batch of
+/// which nothing is new never fails.
 pub fn split_fresh(alloc: Global, store: &Store, entries: &[Entry]) -> Result<Split, Memory>
     requires { AllByRecursion HasItsChildren entries.now }
-    ensures ok { IfOk result (IsSplit store.now.bodies entries.now) }
+    ensures fresh { IfOk result (λ split. split.fresh.items ≡ not_held store.now.bodies entries.now) }
+    ensures some { IfOk result (λ split. IfSome split.collision (Collides store.now.bodies entries.now)) }
+    ensures none { IfOk result (λ split. IfNone split.collision ((name : Name)
+        → Collides store.now.bodies entries.now name → ⊥)) }
     ensures held { not_held store.now.bodies entries.now ≡ [] → OnErr result ⊥ }
 {
-    let mut split = Split {
-        fresh: Vec::new(alloc),
-        added: Store::new(alloc),
-    };
+    let mut fresh = Distinct::new(alloc);
+    let mut collision = None;
     for entry in entries {
-        if !is_new(store, &split.added, &entry.name) {
-            continue;
-        }
-        keep(&mut split, entry)?;
+        let standing = take_up(store, &mut fresh, entry)?;
+        collision = first_collision(collision, entry.name, standing);
     }
-    Ok(split)
-}
-
-fn is_bodied(store: &Store, added: &Store, entry: &Entry) -> bool
-    ensures { IsTrue result ↔ (either added.now.bodies store.now.bodies entry.now.name ≡ Some entry.now.body) }
-{
-    match added.standing(entry) {
-        Standing::Known => true,
-        Standing::Other => false,
-        Standing::New => matches!(store.standing(entry), Standing::Known),
-    }
-}
-
-/// The name of the first entry whose name would have two bodies.
-pub fn find_collision(store: &Store, split: &Split, entries: &[Entry]) -> Option<Name>
-    requires { IsSplit store.now.bodies entries.now split.now }
-    ensures some { IfSome result (Collides store.now.bodies entries.now) }
-    ensures none { IfNone result ((name : Name) → Collides store.now.bodies entries.now name → ⊥) }
-{
-    for entry in entries {
-        if !is_bodied(store, &split.added, entry) {
-            return Some(entry.name);
-        }
-    }
-    None
+    Ok(Split {
+        fresh: fresh.into_vec(),
+        collision,
+    })
 }

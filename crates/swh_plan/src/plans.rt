@@ -18,7 +18,7 @@ ghost use Rattle.swh_plan.specs.Planned.{
 };
 
 use crate::entries::entries_of;
-use crate::fresh::{Split, find_collision, split_fresh};
+use crate::fresh::{Split, split_fresh};
 use crate::how::How;
 use crate::lengths::limit_of_files;
 use crate::planning::{PlanFault, Planned};
@@ -131,8 +131,7 @@ fn plan_entries(
         return Err(PlanFault::Refused(No::Limit { which, number }));
     }
     let split = split_fresh(alloc, &replayed.store, entries)?;
-    let collision = find_collision(&replayed.store, &split, entries);
-    let Split { fresh, .. } = split;
+    let Split { fresh, collision } = split;
     entries_are_codable(&fresh);
     let new = fresh.as_slice().len() as u32;
     let run = run_of_entries(alloc, &fresh)?;

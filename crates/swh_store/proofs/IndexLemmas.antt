@@ -1,5 +1,5 @@
 -- Entries in the order of their adding as finite maps, and the places by which they are found.
-use Rattle.std.proofs.Common.{◌≡◌, ◌≢◌, ℕ, ◌+◌, ◌<◌, Bool, true, false, cond, Option, Some, None, List, [], ◌∷◌, ◌++◌, length, get_or, refl, sym, ap, ◌∙◌, subst, arith}
+use Rattle.std.proofs.Common.{◌≡◌, ◌≢◌, ℕ, ◌+◌, ◌<◌, ◌≤◌, Bool, true, false, cond, Option, Some, None, List, [], ◌∷◌, ◌++◌, length, get_or, unwrap_or, refl, sym, ap, ◌∙◌, subst, arith}
 use Rattle.std.specs.Ordering.{eq_by_cmp, is_eq}
 use Rattle.std.specs.Cmp.{tied_itself, Equal-is}
 use Rattle.std.specs.Cmp.Lexicographic.{nat_list_cmp_total}
@@ -17,7 +17,7 @@ use Rattle.swh_model.specs.Step.{HasItsChildren, AreNew, added}
 use Rattle.swh_model.proofs.Maps.{body-put, body_cases}
 use Rattle.swh_model.proofs.Entries.{NoneNamed, none_named, none-empty, added-append, new-push}
 use Rattle.swh_store.specs.Stored.{Children, IsEntryOf, children_in}
-use Rattle.swh_store.specs.Entries.{keys_cmp, bodies_in, with_children, stored_in, StandsAt, IsFound, IsIndex}
+use Rattle.swh_store.specs.Entries.{keys_cmp, bodies_in, with_children, stored_in, StandsAt, IsFound, IsIndex, IsLed}
 
 -- whether a key is the queried one
 abbrev pub at : List ℕ → List ℕ → Bool
@@ -190,6 +190,35 @@ inside place_at es n key place key_is index is =
 
 pub missing : (place_at : List ℕ → Option ℕ) (es : List Entry) (n : Name) (key : List ℕ) → key ≡ name_key n → IsIndex place_at es → place_at key ≡ None → body_of (bodies_in es) n ≡ None
 missing place_at es n key key_is index is = subst (IsFound es n) (ap place_at (sym key_is) ∙ is) (index.finds n)
+
+-- ---- where a key leads that is led to a place unless it leads somewhere
+
+led_where : (o : Option ℕ) (place led : ℕ) → led ≡ unwrap_or o place → led < place → o ≡ Some led
+led_where None place led is less = absurd (omega (arith, is, less))
+led_where (Some k) place led is less = ap (λ (n : ℕ). Some n) (sym is)
+
+-- one that led somewhere leads there still, and so do the others
+pub led-same : (old new : List ℕ → Option ℕ) (key : List ℕ) (place led : ℕ) → IsLed old new key place led → led < place → (q : List ℕ) → new q ≡ old q
+led-same old new key place led l less q =
+    l.now q
+    ∙ elim (at key q) as (λ b. at key q ≡ b → cond b (Some led) (old q) ≡ old q) [
+      | true ↦ λ t. sym (led_where (old key) place led l.leads less) ∙ ap old (same_list key q t)
+      | false ↦ λ _. refl
+    ] refl
+
+pub led_nowhere : (old : List ℕ → Option ℕ) (es : List Entry) (n : Name) (key : List ℕ) (place led : ℕ) → key ≡ name_key n → IsIndex old es → place ≡ length es → led ≡ unwrap_or (old key) place → place ≤ led → old key ≡ None
+led_nowhere old es n key place led key_is index all is past =
+    elim (old key) as (λ o. old key ≡ o → led ≡ unwrap_or o place → o ≡ None) [
+      | None ↦ λ _ _. refl
+      | Some k ↦ λ e there. absurd (let less = inside old es n key k key_is index e in omega (arith, less, there, all, past))
+    ] refl is
+
+-- one that led nowhere leads to the place
+pub led-new : (old new : List ℕ → Option ℕ) (es : List Entry) (n : Name) (key : List ℕ) (place led : ℕ) → key ≡ name_key n → IsIndex old es → place ≡ length es → IsLed old new key place led → place ≤ led
+    → (q : List ℕ) → new q ≡ cond (at key q) (Some (length es)) (old q)
+led-new old new es n key place led key_is index all l past q =
+    let none = led_nowhere old es n key place led key_is index all l.leads past in
+    l.now q ∙ ap (λ (k : ℕ). cond (at key q) (Some k) (old q)) (l.leads ∙ ap (λ (o : Option ℕ). unwrap_or o place) none ∙ all)
 
 -- ---- the graph of what is held
 

@@ -24,6 +24,12 @@ pub record IsKnown (before now : List Entry) (e : Entry) : Type 0 where
   pub there : body_of (bodies_in before) e.name ≡ Some e.body
   pub same : now ≡ before
 
+-- What comes of an entry that joins: one that is new is added, and else nothing changes.
+abbrev pub Joins : List Entry → List Entry → Entry → Standing → Type 0
+Joins before now e New = IsPutIn before now e
+Joins before now e Known = IsKnown before now e
+Joins before now e Other = HasOther (bodies_in before) e × (now ≡ before)
+
 -- The entry was new and is added, or it was known and nothing changed.
 abbrev pub IsTakenUp : List Entry → List Entry → Entry → Type 0
 IsTakenUp before now e = IsPutIn before now e ⊎ IsKnown before now e

@@ -1,9 +1,9 @@
 -- Entries in memory, in the order of their adding, and the place of each by its name's key.
-use Rattle.std.specs.Prelude.{◌≡◌, ◌<◌, ℕ, Option, Some, None, List, [], ◌∷◌, ◌++◌, length, get_or}
+use Rattle.std.specs.Prelude.{◌≡◌, ◌<◌, ℕ, cond, Option, Some, None, List, [], ◌∷◌, ◌++◌, length, get_or, unwrap_or}
 use Rattle.std.specs.declared.cmp.Ordering.{Ordering}
 use Rattle.std.specs.Ordering.{nat_cmp}
 use Rattle.std.specs.Cmp.Lexicographic.{slice_cmp}
-use Rattle.std.specs.BTreeMap.{get}
+use Rattle.std.specs.BTreeMap.{get, is_at}
 use Rattle.std.specs.FinMap as finite
 use Rattle.swh_base.specs.declared.name.Name.{Name}
 use Rattle.swh_base.specs.declared.entry.Entry.{Entry}
@@ -55,3 +55,8 @@ IsIndexed held = IsIndex (get keys_cmp held.places) held.entries.items
 pub record IsPutIn (before now : List Entry) (e : Entry) : Type 0 where
   pub absent : body_of (bodies_in before) e.name ≡ None
   pub is_last : now ≡ before ++ e ∷ []
+
+-- A key that led nowhere leads to this place, one that led somewhere leads there, and others lead where they led.
+pub record IsLed (old new : List ℕ → Option ℕ) (key : List ℕ) (place at : ℕ) : Type 0 where
+  pub leads : at ≡ unwrap_or (old key) place
+  pub now : (q : List ℕ) → new q ≡ cond (is_at (keys_cmp key) q) (Some at) (old q)

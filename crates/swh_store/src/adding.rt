@@ -1,15 +1,16 @@
 //! A batch of entries, of which some may be known, is added whole or not at all.
-ghost use Rattle.std.specs.Prelude.{◌≡◌, ◌<◌, ◌^◌, ◌↔◌, ◌++◌, IsTrue, IfOk, IfErr, OnOk, OnErr, length, take};
+ghost use Rattle.std.specs.Prelude.{◌≡◌, ◌<◌, ◌^◌, ◌↔◌, ◌++◌, IsTrue, Some, IfOk, IfErr, OnOk, OnErr, length, take};
 ghost use Rattle.std.specs.List.{AllByRecursion};
 ghost use Rattle.swh_base.specs.declared.name.Name.{Name};
+ghost use Rattle.swh_model.specs.Archive.{Bodies, body_of};
 ghost use Rattle.swh_model.specs.Step.{HasItsChildren};
 ghost use Rattle.swh_model.specs.Judge.{not_held, Collides};
 ghost use Rattle.swh_store.specs.Entries.{bodies_in, IsIndexed};
-ghost use Rattle.swh_store.specs.Adding.{IsStanding, IsTakenUp, IsEntryFault, IsStoreFault};
+ghost use Rattle.swh_store.specs.Adding.{IsStanding, Joins, IsTakenUp, IsEntryFault, IsStoreFault};
 
-use crate::entries::{Held, push_again};
+use crate::entries::{Held, key_of, lead, push_again};
 use crate::fault::StoreFault;
-use swh_base::Entry;
+use swh_base::{Entry, Memory};
 
 /// How an entry stands to what is held.
 #[derive(Clone, Copy)]
@@ -28,6 +29,17 @@ fn is_same(a: &[u8], b: &[u8]) -> bool
     a == b
 }
 
+/// The standing of an entry where this one is held under its name.
+fn standing_beside(known: &Entry, entry: &Entry) -> Standing
+    ensures { (bodies : Bodies) → body_of bodies entry.now.name ≡ Some known.now.body → IsStanding bodies entry.now result }
+{
+    if is_same(known.body.as_slice(), entry.body.as_slice()) {
+        Standing::Known
+    } else {
+        Standing::Other
+    }
+}
+
 /// The standing of an entry.
 pub fn standing_of(held: &Held, entry: &Entry) -> Standing
     requires { IsIndexed held.now }
@@ -35,14 +47,26 @@ pub fn standing_of(held: &Held, entry: &Entry) -> Standing
 {
     match held.get(&entry.name) {
         None => Standing::New,
-        Some(known) => {
-            if is_same(known.body.as_slice(), entry.body.as_slice()) {
-                Standing::Known
-            } else {
-                Standing::Other
-            }
-        }
+        Some(known) => standing_beside(known, entry),
     }
+}
+
+/// Adds an entry where nothing is held under its name, and answers how it stood to what was held.
+pub fn join(held: &mut Held, entry: Entry) -> Result<Standing, Memory>
+    requires indexed { IsIndexed held.old }
+    requires good { HasItsChildren entry }
+    ensures indexed { IsIndexed held.new }
+    ensures ok { IfOk result (Joins held.old.entries.items held.new.entries.items entry) }
+    ensures err { OnErr result (held.new.entries.items ≡ held.old.entries.items) }
+{
+    held.entries.reserve(1)?;
+    let place = held.entries.len();
+    let at = lead(&mut held.places, key_of(&entry.name), place)?;
+    if at < place {
+        return Ok(standing_beside(&held.entries[at], &entry));
+    }
+    held.entries.push_reserved(entry);
+    Ok(Standing::New)
 }
 
 fn add_one(held: &mut Held, entry: &Entry) -> Result<(), StoreFault>

@@ -12,8 +12,10 @@ pub struct Held {
     pub entries: Vec<Entry>,
 }
 
-ghost use Rattle.std.specs.Prelude.{◌≡◌};
+ghost use Rattle.std.specs.Prelude.{◌≡◌, IfOk, OnErr};
+ghost use Rattle.std.specs.BTreeMap.{get, IsUnchanged};
 ghost use Rattle.swh_base.specs.Name.{name_key};
+ghost use Rattle.swh_store.specs.Entries.{keys_cmp, IsLed};
 
 /// The kind's number, then the id.
 pub fn key_of(name: &Name) -> [u8; 21]
@@ -23,6 +25,18 @@ pub fn key_of(name: &Name) -> [u8; 21]
     key[0] = kind_byte(name.kind);
     key[1..].copy_from_slice(&name.id);
     key
+}
+
+/// The place to which a key leads: where it led nowhere, it leads to this one from now on. The key is looked for once.
+pub fn lead(
+    places: &mut BTreeMap<[u8; 21], usize>,
+    key: [u8; 21],
+    place: usize,
+) -> Result<usize, Memory>
+    ensures ok { IfOk result (IsLed (get keys_cmp places.old) (get keys_cmp places.new) key place) }
+    ensures err { OnErr result (IsUnchanged places.old places.new) }
+{
+    Ok(*places.entry(key)?.or_insert(place))
 }
 
 impl Held {
@@ -98,6 +112,14 @@ impl Held {
         if let Some(entry) = self.entries.pop() {
             self.places.remove(&key_of(&entry.name));
         }
+    }
+
+    /// The entries, without their places.
+    pub fn into_entries(self) -> Vec<Entry>
+        ensures { result.items ≡ self.entries.items }
+    {
+        let Held { places: _, entries } = self;
+        entries
     }
 
     /// Takes the entries behind the first ones out again, which wants no memory.

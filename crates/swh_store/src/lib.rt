@@ -6,12 +6,14 @@
 #![tactic(auto)]
 
 mod adding;
+mod distinct;
 mod entries;
 mod fault;
 mod preloaded;
 mod store;
 
 pub use adding::Standing;
+pub use distinct::Distinct;
 pub use fault::StoreFault;
 pub use preloaded::Preloaded;
 pub use store::Store;
