@@ -2,6 +2,5 @@ pub mod Files
 pub mod Standing
 pub mod Worlds
 pub mod Steps
-pub mod Doubted
 pub mod Runs
 pub mod Caught

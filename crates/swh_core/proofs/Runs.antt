@@ -8,10 +8,9 @@ use Rattle.swh_core.specs.declared.step.Step.TheVariants.{Apply, Look, Fault, Cr
 use Rattle.swh_core.specs.declared.step.Told.{Told}
 use Rattle.swh_core.specs.declared.step.StepFault.{StepFault}
 use Rattle.swh_core.specs.declared.step.StepFault.TheVariants.{Memory}
-use Rattle.swh_core.specs.World.{World}
-use Rattle.swh_core.specs.Step.{IsWorldStep, IsMeant}
+use Rattle.swh_core.specs.declared.parts.Parts.{Parts as World}
+use Rattle.swh_core.specs.Step.{IsWorldStep, IsRun, IsMeant}
 use Rattle.swh_core.specs.Kept.{IsWorld, IsLater}
-use Rattle.swh_core.specs.Run.{IsRun}
 use Rattle.swh_core.proofs.Steps.{Goes, stepped, same_later, later_then}
 
 -- a list that is the same without its first item has none

@@ -1,48 +1,25 @@
--- Files that stand for a history, with nothing written since a barrier, at the device calls of the next event; and the gate
--- that tells whether it happened.
-use Rattle.std.proofs.Common.{◌≡◌, ◌≢◌, inl, inr, ℕ, ◌+◌, ◌<◌, List, [], ◌∷◌, ◌++◌, length, get_or, Some, sym, ap, ◌∙◌, refl, arith}
+-- The device calls of an event are on two files, and the gate that a crash leaves tells whether it happened.
+use Rattle.std.proofs.Common.{◌≡◌, ◌≢◌, inl, inr, ℕ, ◌+◌, ◌<◌, List, [], ◌∷◌, ◌++◌, length, get_or, sym, ap, ◌∙◌, refl, arith}
 use Rattle.std.specs.List.{AllByRecursion}
-use Rattle.swh_outside.specs.Files.{Files, FileCall, EachFilesMoment, on, files_done}
+use Rattle.swh_outside.specs.Files.{FileCall, Images, on}
 use Rattle.swh_model.specs.declared.event.Event.{Event}
 use Rattle.swh_model.specs.Limits.{store_length, records_length}
 use Rattle.swh_format.specs.Record.{front, body}
 use Rattle.swh_format.specs.Events as format
-use Rattle.swh_format.specs.EventRecord.{coded_record, run_written, AreCodable}
+use Rattle.swh_format.specs.EventRecord.{coded_record, run_written}
 use Rattle.swh_format.specs.Stands.{StandsFor, written, all_written}
 use Rattle.swh_format.proofs.HistoryFiles.{written-at}
 use Rattle.swh_format.proofs.Lengths.{ledger-length}
 use Rattle.swh_format.proofs.Gates.{front-push}
-use Rattle.swh_segment.specs.Settled.{AreAtRest}
 use Rattle.swh_segment.specs.Calls.{run_calls, append_calls, calls_for}
-use Rattle.swh_segment.specs.Standing.{AreStanding}
+use Rattle.swh_segment.specs.Standing.{WithOrWithout}
 use Rattle.swh_segment.proofs.EventsCrash.{records-push}
-use Rattle.swh_segment.proofs.Standings.{one_moments, one_added}
-use Rattle.swh_core.specs.Kept.{MayStand}
 use Rattle.swh_core.proofs.Files.{all_both, all_on}
 
 pub calls_on_two : (h : List Event) (e : Event) → AllByRecursion (λ (c : FileCall). c.0 < 2) (calls_for h e)
 calls_on_two h e =
     all_both (λ (c : FileCall). c.0 < 2) (on 1 (run_calls (store_length h) (run_written e.what))) (on 0 (append_calls (8 + records_length h) (coded_record (store_length h) e ++ 0 ∷ [])))
     (all_on 1 (run_calls (store_length h) (run_written e.what)) (omega arith)) (all_on 0 (append_calls (8 + records_length h) (coded_record (store_length h) e ++ 0 ∷ [])) (omega arith))
-
-module _ (files : Files) (h : List Event) (rests : AreAtRest files) (stand : StandsFor (files 0).seen (files 1).seen h) where
-  standing : AreStanding (files 0) (files 1) h
-  standing = record { ledger_rests = rests.ledger; store_rests = rests.store; stand = stand }
-
-  module _ (e : Event) (codable : AreCodable 0 (h ++ e ∷ [])) where
-    -- at each of its calls
-    pub event_moments_stand : EachFilesMoment (calls_for h e) files (λ images. MayStand h (Some e) (images 0) (images 1))
-    event_moments_stand = one_moments files h standing e codable
-
-    added : AreStanding (files_done (calls_for h e) files 0) (files_done (calls_for h e) files 1) (h ++ e ∷ [])
-    added = one_added files h standing e codable
-
-    -- and after them
-    pub event_rests : AreAtRest (files_done (calls_for h e) files)
-    event_rests = record { ledger = added.ledger_rests; store = added.store_rests }
-
-    pub event_stands : StandsFor (files_done (calls_for h e) files 0).seen (files_done (calls_for h e) files 1).seen (h ++ e ∷ [])
-    event_stands = added.stand
 
 behind_front : (xs : List ℕ) (x : ℕ) (rest : List ℕ) → get_or (xs ++ x ∷ rest) (length xs) 0 ≡ x
 behind_front [] x rest = refl
@@ -54,10 +31,10 @@ gate_at h ledger rest gate is =
     let place : 8 + records_length h ≡ length (front (format.records (all_written 0 h))) = let n = ledger-length h in omega (arith, n) in
     ap (λ (l : List ℕ). get_or l (8 + records_length h) 0) is ∙ ap (λ (k : ℕ). get_or (front (format.records (all_written 0 h)) ++ gate ∷ rest) k 0) place ∙ behind_front (front (format.records (all_written 0 h))) gate rest
 
-pub closed_without : (h : List Event) (ledger store : List ℕ) → StandsFor ledger store h → get_or ledger (8 + records_length h) 0 ≢ 1
+closed_without : (h : List Event) (ledger store : List ℕ) → StandsFor ledger store h → get_or ledger (8 + records_length h) 0 ≢ 1
 closed_without h ledger store s open_gate = let st = s.files.ledger_stands in st.closed (sym (gate_at h ledger st.rest st.gate st.split) ∙ open_gate)
 
-pub open_with : (h : List Event) (e : Event) (ledger store : List ℕ) → StandsFor ledger store (h ++ e ∷ []) → get_or ledger (8 + records_length h) 0 ≡ 1
+open_with : (h : List Event) (e : Event) (ledger store : List ℕ) → StandsFor ledger store (h ++ e ∷ []) → get_or ledger (8 + records_length h) 0 ≡ 1
 open_with h e ledger store s =
     let st = s.files.ledger_stands in
     let one = written (store_length h) e in
@@ -66,10 +43,10 @@ open_with h e ledger store s =
     gate_at h ledger (body one.entry ++ st.gate ∷ st.rest) 1 (st.split ∙ ap (λ (l : List _). front l ++ st.gate ∷ st.rest) are ∙ front-push rs one.entry (st.gate ∷ st.rest))
 
 -- an open gate says that the event happened, a closed one that it did not
-pub gate_tells_with : (h : List Event) (e : Event) (ledger store : List ℕ) → MayStand h (Some e) ledger store → get_or ledger (8 + records_length h) 0 ≡ 1 → StandsFor ledger store (h ++ e ∷ [])
-gate_tells_with h e ledger store (inl without) open_gate = absurd (closed_without h ledger store without open_gate)
-gate_tells_with h e ledger store (inr with_it) open_gate = with_it
+pub gate_tells_with : (h : List Event) (e : Event) (images : Images) → WithOrWithout h e images → get_or (images 0) (8 + records_length h) 0 ≡ 1 → StandsFor (images 0) (images 1) (h ++ e ∷ [])
+gate_tells_with h e images (inl without) open_gate = absurd (closed_without h (images 0) (images 1) without open_gate)
+gate_tells_with h e images (inr with_it) open_gate = with_it
 
-pub gate_tells_without : (h : List Event) (e : Event) (ledger store : List ℕ) → MayStand h (Some e) ledger store → get_or ledger (8 + records_length h) 0 ≢ 1 → StandsFor ledger store h
-gate_tells_without h e ledger store (inl without) shut = without
-gate_tells_without h e ledger store (inr with_it) shut = absurd (shut (open_with h e ledger store with_it))
+pub gate_tells_without : (h : List Event) (e : Event) (images : Images) → WithOrWithout h e images → get_or (images 0) (8 + records_length h) 0 ≢ 1 → StandsFor (images 0) (images 1) h
+gate_tells_without h e images (inl without) shut = without
+gate_tells_without h e images (inr with_it) shut = absurd (shut (open_with h e (images 0) (images 1) with_it))

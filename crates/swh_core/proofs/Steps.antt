@@ -1,8 +1,7 @@
 -- Each step keeps what every world keeps, and forgets nothing.
-use Rattle.std.proofs.Common.{◌≡◌, ℕ, Option, Some, None, Result, Ok, Err, List, [], ◌∷◌, ◌++◌, length, take, refl, sym, ◌∙◌, subst}
+use Rattle.std.proofs.Common.{◌≡◌, ℕ, Option, Some, None, Result, Ok, Err, List, length, take, refl, sym, ◌∙◌, subst}
 use Rattle.swh_base.specs.declared.kind.Kind.{Kind}
-use Rattle.swh_outside.specs.Disk.{IsImage}
-use Rattle.swh_outside.specs.Files.{Files}
+use Rattle.swh_outside.specs.Files.{EachImages}
 use Rattle.swh_model.specs.declared.event.Event.{Event}
 use Rattle.swh_model.specs.declared.event.Wish.{Wish}
 use Rattle.swh_model.specs.declared.event.Outcome.{Outcome}
@@ -16,11 +15,13 @@ use Rattle.swh_core.specs.declared.step.Told.{Told}
 use Rattle.swh_core.specs.declared.step.Told.TheVariants as told
 use Rattle.swh_core.specs.declared.step.StepFault.{StepFault}
 use Rattle.swh_core.specs.declared.step.StepFault.TheVariants.{NotImage, Memory}
-use Rattle.swh_core.specs.Calls.{failed_at}
-use Rattle.swh_segment.specs.Calls.{calls_for}
-use Rattle.swh_core.specs.World.{World, files_in, sees, all_shown, joined, in_doubt}
+use Rattle.swh_segment.specs.Standing.{WithOrWithout}
+use Rattle.swh_core.specs.declared.disk.Disks.{Disks}
+use Rattle.swh_core.specs.declared.parts.Parts.{Parts as World}
+use Rattle.swh_core.specs.World.{files_on, all_shown, sees_all, joined, in_doubt}
 use Rattle.swh_core.specs.Step.{Lets, Applies, Faults, IsCaught, Crashes, IsWorldStep, IsMeant}
 use Rattle.swh_core.specs.Kept.{MayStand, IsWorld, IsLater}
+use Rattle.swh_core.proofs.Files.{two_images, are_two}
 use Rattle.swh_core.proofs.Worlds.{front_itself, front_then, whole_taken, shown_kept, sees_kept, sees_later, joined_kept, joined_later, doubt_kept, doubt_later, shown_later, stands_at, front_of_stood, reopened_kept, reopened_later}
 
 pub same_later : (w : World) → IsLater w w
@@ -42,30 +43,30 @@ module _ (id_of : Kind → List ℕ → List ℕ) where
   stays : (w w' : World) → IsWorld id_of w → w' ≡ w → Goes w w'
   stays w w' k is = subst (Goes w) (sym is) (record { kept = k; later = same_later w })
 
-  may_of : (w : World) (actor : ℕ) (wish : Wish) (e : Event) (o : Outcome) → IsWish id_of wish → Lets w actor wish e o → May id_of (replay w.history) e
+  may_of : (w : World) (actor : ℕ) (wish : Wish) (e : Event) (o : Outcome) → IsWish id_of wish → Lets w.history actor wish e o → May id_of (replay w.history) e
   may_of w actor wish e o good lets = subst (λ (x : Event). May id_of (replay w.history) x) (sym lets.verdict.1) (wish_may id_of w.history actor wish good lets.verdict.0)
 
   -- once all is shown the actor sees all
-  sees_all : (w : World) (actor : ℕ) → IsWorld id_of w → Goes w (sees actor w.history (all_shown w))
-  sees_all w actor k =
+  all_seen : (w : World) (actor : ℕ) → IsWorld id_of w → Goes w (sees_all actor w)
+  all_seen w actor k =
       let shown = shown_kept id_of w k in
       record {
         kept = sees_kept id_of (all_shown w) shown actor w.history (sym (whole_taken w.history));
-        later = later_then w (all_shown w) (sees actor w.history (all_shown w)) (shown_later id_of w k) (sees_later id_of (all_shown w) shown actor w.history (sym (whole_taken w.history)));
+        later = later_then w (all_shown w) (sees_all actor w) (shown_later id_of w k) (sees_later id_of (all_shown w) shown actor w.history (sym (whole_taken w.history)));
       }
 
   applied : (actor : ℕ) (wish : Wish) (h : Held) (t : Told) (w w' : World) → IsWorld id_of w → IsWish id_of wish → Applies actor wish h w t w' → Goes w w'
   applied actor wish h told.Wounded w w' k good s = stays w w' k s.1
   applied actor wish h told.Untaken w w' k good s = stays w w' k s.3
-  applied actor wish h (told.No cause) w w' k good s = subst (Goes w) (sym s.2) (sees_all w actor k)
+  applied actor wish h (told.No cause) w w' k good s = subst (Goes w) (sym s.2) (all_seen w actor k)
   applied actor wish h (told.Done outcome) w w' k good s =
       let none = s.0.0 in
       let e = s.2 in
       let lets = s.3 in
       let may = may_of w actor wish e outcome good lets in
       let next = joined_kept id_of w k none e may lets.fits in
-      let all = sees_all (joined e w) actor next in
-      subst (Goes w) (sym s.4) (record { kept = all.kept; later = later_then w (joined e w) (sees actor (w.history ++ e ∷ []) (all_shown (joined e w))) (joined_later id_of w k none e may lets.fits) all.later })
+      let all = all_seen (joined e w) actor next in
+      subst (Goes w) (sym s.4) (record { kept = all.kept; later = later_then w (joined e w) (sees_all actor (joined e w)) (joined_later id_of w k none e may lets.fits) all.later })
   applied actor wish h (told.Waits number) w w' k good s =
       let none = s.0.0 in
       let e = s.2 in
@@ -84,7 +85,7 @@ module _ (id_of : Kind → List ℕ → List ℕ) where
       let lets = s.3 in
       let may = may_of w actor wish s.1 s.2 good lets in
       let shown = shown_kept id_of w k in
-      let left = in_doubt s.1 (failed_at call (calls_for w.history s.1) (files_in w)) (all_shown w) in
+      let left = in_doubt s.1 call (all_shown w) in
       subst (Goes w) (sym s.5) (record { kept = doubt_kept id_of (all_shown w) shown s.0 s.1 may lets.fits call; later = later_then w (all_shown w) left (shown_later id_of w k) (doubt_later id_of (all_shown w) shown s.0 s.1 may lets.fits call) })
   faulted actor wish call told.Untaken w w' k good s = absurd s
   faulted actor wish call (told.Done o) w w' k good s = absurd s
@@ -92,38 +93,34 @@ module _ (id_of : Kind → List ℕ → List ℕ) where
   faulted actor wish call (told.Front n) w w' k good s = absurd s
   faulted actor wish call (told.Opened n) w w' k good s = absurd s
 
-  -- what a crash catches stands for the history, with the event or without, and the event may be next
-  pub caught_stands : (w : World) (d : Option Event) (flight : Option (ℕ × Wish × ℕ)) (files : Files) (more : Option Event) (actors : ℕ) (ledger store : List ℕ) → IsWorld id_of w → w.doubt ≡ d → IsMeant id_of actors (Crash flight store ledger)
-      → IsCaught d flight w files more → IsImage (files 0) ledger → IsImage (files 1) store → MayStand w.history more ledger store
-  caught_stands w (Some e) flight files more actors ledger store k is meant caught il im = still
-    where
-      still : MayStand w.history more ledger store
-      still = subst (λ (d : Option Event). MayStand w.history d ledger store) (is ∙ sym caught.1)
-          (k.images ledger store (subst (λ (f : Files). IsImage (f 0) ledger) caught.0 il) (subst (λ (f : Files). IsImage (f 1) store) caught.0 im))
-  caught_stands w None None files more actors ledger store k is meant caught il im = still
-    where
-      still : MayStand w.history more ledger store
-      still = subst (λ (d : Option Event). MayStand w.history d ledger store) (is ∙ sym caught.1)
-          (k.images ledger store (subst (λ (f : Files). IsImage (f 0) ledger) caught.0 il) (subst (λ (f : Files). IsImage (f 1) store) caught.0 im))
-  caught_stands w None (Some f) files None actors ledger store k is meant caught il im =
-      subst (λ (d : Option Event). MayStand w.history d ledger store) is
-      (k.images ledger store (subst (λ (g : Files). IsImage (g 0) ledger) caught.0 il) (subst (λ (g : Files). IsImage (g 1) store) caught.0 im))
-  caught_stands w None (Some f) files (Some e) actors ledger store k is meant caught il im =
-      stands_at id_of w k is e (may_of w f.0 f.1 e caught.1 meant.1 caught.2) caught.2.fits f.2 ledger store
-      (subst (λ (g : Files). IsImage (g 0) ledger) caught.0 il) (subst (λ (g : Files). IsImage (g 1) store) caught.0 im)
+  as_before : (w : World) (disks : Disks) (more : Option Event) → IsWorld id_of w → disks ≡ w.disks → w.doubt ≡ more → EachImages (files_on disks) (MayStand w.history more)
+  as_before w disks more k same doubt =
+      subst (λ (d : Disks). EachImages (files_on d) (MayStand w.history more)) (sym same)
+      (subst (λ (m : Option Event). EachImages (files_on w.disks) (MayStand w.history m)) doubt k.images)
 
-  pub caught_may : (w : World) (d : Option Event) (flight : Option (ℕ × Wish × ℕ)) (files : Files) (more : Option Event) (actors : ℕ) (ledger store : List ℕ) → IsWorld id_of w → w.doubt ≡ d → IsMeant id_of actors (Crash flight store ledger)
-      → IsCaught d flight w files more → (e : Event) → more ≡ Some e → May id_of (replay w.history) e
-  caught_may w (Some e) flight files more actors ledger store k is meant caught g same = k.doubt g (is ∙ sym caught.1 ∙ same)
-  caught_may w None None files more actors ledger store k is meant caught g same = absurd (let f : None ≡ Some g = sym caught.1 ∙ same in cc)
-  caught_may w None (Some f) files None actors ledger store k is meant caught g same = absurd (let e : None ≡ Some g = same in cc)
-  caught_may w None (Some f) files (Some e) actors ledger store k is meant caught g same =
+  -- what a crash catches stands for the history, with the event or without, and the event may be next
+  pub caught_stands : (w : World) (d : Option Event) (flight : Option (ℕ × Wish × ℕ)) (disks : Disks) (more : Option Event) (actors : ℕ) (ledger store : List ℕ) → IsWorld id_of w → w.doubt ≡ d → IsMeant id_of actors (Crash flight store ledger)
+      → IsCaught d flight w disks more → EachImages (files_on disks) (MayStand w.history more)
+  caught_stands w (Some e) flight disks more actors ledger store k is meant caught = as_before w disks more k caught.0 (is ∙ sym caught.1)
+  caught_stands w None None disks more actors ledger store k is meant caught = as_before w disks more k caught.0 (is ∙ sym caught.1)
+  caught_stands w None (Some f) disks None actors ledger store k is meant caught = as_before w disks None k caught.0 is
+  caught_stands w None (Some f) disks (Some e) actors ledger store k is meant caught =
+      subst (λ (d : Disks). EachImages (files_on d) (WithOrWithout w.history e)) (sym caught.0)
+      (stands_at id_of w k is e (may_of w f.0 f.1 e caught.1 meant.1 caught.2) caught.2.fits f.2)
+
+  pub caught_may : (w : World) (d : Option Event) (flight : Option (ℕ × Wish × ℕ)) (disks : Disks) (more : Option Event) (actors : ℕ) (ledger store : List ℕ) → IsWorld id_of w → w.doubt ≡ d → IsMeant id_of actors (Crash flight store ledger)
+      → IsCaught d flight w disks more → (e : Event) → more ≡ Some e → May id_of (replay w.history) e
+  caught_may w (Some e) flight disks more actors ledger store k is meant caught g same = k.doubt g (is ∙ sym caught.1 ∙ same)
+  caught_may w None None disks more actors ledger store k is meant caught g same = absurd (let f : None ≡ Some g = sym caught.1 ∙ same in cc)
+  caught_may w None (Some f) disks None actors ledger store k is meant caught g same = absurd (let e : None ≡ Some g = same in cc)
+  caught_may w None (Some f) disks (Some e) actors ledger store k is meant caught g same =
       subst (May id_of (replay w.history)) (let both : Some e ≡ Some g = same in let one : e ≡ g = cc in one) (may_of w f.0 f.1 e caught.1 meant.1 caught.2)
 
   crashed : (flight : Option (ℕ × Wish × ℕ)) (store ledger : List ℕ) (w : World) (events : ℕ) (w' : World) → IsWorld id_of w → IsMeant id_of (length w.seen) (Crash flight store ledger) → Crashes id_of flight store ledger w events w' → Goes w w'
   crashed flight store ledger w events w' k meant s =
-      let may = caught_may w w.doubt flight s.files s.more (length w.seen) ledger store k refl meant s.caught in
-      let stands = caught_stands w w.doubt flight s.files s.more (length w.seen) ledger store k refl meant s.caught s.ledger_is s.store_is in
+      let may = caught_may w w.doubt flight s.disks s.more (length w.seen) ledger store k refl meant s.caught in
+      let each = caught_stands w w.doubt flight s.disks s.more (length w.seen) ledger store k refl meant s.caught in
+      let stands = each.has (two_images ledger store) (are_two s.disks ledger store s.ledger_is s.store_is) in
       let front = front_of_stood id_of w k s.more s.h ledger store may stands s.stands s.history in
       subst (Goes w) (sym s.reopens) (record { kept = reopened_kept id_of w k s.h ledger store front s.history s.stands; later = reopened_later id_of w k s.h ledger store front s.history s.stands })
 

@@ -3,9 +3,7 @@ use Rattle.std.proofs.Common.{◌≡◌, inl, inr, ℕ, zero, suc, ◌<◌, ◌�
 use Rattle.std.proofs.lemmas.List.{append-nil, take-append-le, length-set, length-map}
 use Rattle.std.specs.List.{AllByRecursion}
 use Rattle.swh_base.specs.declared.kind.Kind.{Kind}
-use Rattle.swh_outside.specs.Disk.{IsImage}
-use Rattle.swh_outside.specs.Files.{absent, with_file, files_done}
-use Rattle.swh_outside.proofs.Images.{at_rest_image}
+use Rattle.swh_outside.specs.Files.{Files, EachImages, files_done}
 use Rattle.swh_model.specs.declared.event.Event.{Event}
 use Rattle.swh_model.specs.Limits.{store_length}
 use Rattle.swh_model.specs.Archive.{empty_archive}
@@ -17,13 +15,15 @@ use Rattle.swh_format.specs.Stands.{StandsFor}
 use Rattle.swh_format.proofs.HistoryFiles.{codable-at}
 use Rattle.swh_format.specs.Record.{magic}
 use Rattle.swh_format.proofs.Unique.{alike, none_from}
-use Rattle.swh_segment.specs.Settled.{AreAtRest}
-use Rattle.swh_core.specs.Calls.{failed_at}
+use Rattle.swh_segment.specs.Settled.{seen_of}
 use Rattle.swh_segment.specs.Calls.{calls_for}
-use Rattle.swh_core.specs.World.{World, as_file, rested, files_in, first_world, longer, sees, all_shown, joined, in_doubt, reopened}
+use Rattle.swh_segment.specs.Standing.{AreStanding, WithOrWithout}
+use Rattle.swh_segment.proofs.Standings.{still, one_moments, one_added}
+use Rattle.swh_core.specs.declared.parts.Parts.{Parts as World}
+use Rattle.swh_core.specs.World.{files_on, rested, called, first_world, longer, sees, all_shown, joined, in_doubt, reopened}
 use Rattle.swh_core.specs.Kept.{IsFront, MayStand, IsWorld, IsLater}
-use Rattle.swh_core.proofs.Files.{HasTwo, two_with, two_images, are_two, two_done, two_failed, failed_left, image_of, rest_image, all_take}
-use Rattle.swh_core.proofs.Standing.{calls_on_two, event_moments_stand, event_rests, event_stands}
+use Rattle.swh_core.proofs.Files.{two_images, rest_images, called_left, failed_left, all_take}
+use Rattle.swh_core.proofs.Standing.{calls_on_two}
 
 -- Fronts.
 
@@ -72,8 +72,13 @@ all_copies P (suc n) x one = (one, all_copies P n x one)
 pub whole_taken : (h : List Event) → take (length h) h ≡ h
 whole_taken h = take_all (length h) h (omega arith)
 
-two_in : (w : World) → HasTwo (files_in w)
-two_in w = two_with 0 (as_file w.ledger) (with_file 1 (as_file w.store) (λ k. absent)) (omega arith) (two_with 1 (as_file w.store) (λ k. absent) (omega arith) (record { others = λ k. refl }))
+-- files that hold bytes which stand for a history, with nothing written since a barrier
+rested_standing : (h : List Event) (ledger store : List ℕ) → StandsFor ledger store h → AreStanding (files_on (rested ledger store) 0) (files_on (rested ledger store) 1) h
+rested_standing h ledger store stands = record {
+  ledger_rests = record { base = refl; ranges = refl; longest = refl };
+  store_rests = record { base = refl; ranges = refl; longest = refl };
+  stand = stands;
+}
 
 module _ (id_of : Kind → List ℕ → List ℕ) where
   pub first_kept : (actors : ℕ) → IsWorld id_of (first_world actors)
@@ -82,7 +87,7 @@ module _ (id_of : Kind → List ℕ → List ℕ) where
     shown = omega arith;
     kept = front_itself [];
     seen = all_copies (λ (f : List Event). IsFront f []) actors [] (front_itself []);
-    images = λ ledger store il is. none_from 0 [] ledger store (λ e. absurd (omega (arith, e))) (at_rest_image (as_file (rested (magic ++ 0 ∷ []))) ledger (record { base = refl; ranges = refl; longest = refl }) il);
+    images = still (files_on (rested (magic ++ 0 ∷ []) [])) [] (rested_standing [] (magic ++ 0 ∷ []) [] (none_from 0 [] (magic ++ 0 ∷ []) [] (λ e. absurd (omega (arith, e))) refl));
     rests = λ _. record { ledger = record { base = refl; ranges = refl; longest = refl }; store = record { base = refl; ranges = refl; longest = refl } };
     doubt = λ d is. absurd (let f : None ≡ Some d = is in cc);
   }
@@ -132,77 +137,70 @@ module _ (id_of : Kind → List ℕ → List ℕ) where
 
     module _ (none : w.doubt ≡ None) where
       -- with nothing in doubt the files stand for the history
-      pub stands_now : StandsFor (files_in w 0).seen (files_in w 1).seen w.history
-      stands_now =
-          subst (λ (d : Option Event). MayStand w.history d (files_in w 0).seen (files_in w 1).seen) none
-          (k.images (files_in w 0).seen (files_in w 1).seen (rest_image (files_in w 0) (k.rests none).ledger) (rest_image (files_in w 1) (k.rests none).store))
+      standing : AreStanding (files_on w.disks 0) (files_on w.disks 1) w.history
+      standing = record {
+        ledger_rests = (k.rests none).ledger;
+        store_rests = (k.rests none).store;
+        stand = subst (λ (d : Option Event). MayStand w.history d (seen_of (files_on w.disks))) none (k.images.has (seen_of (files_on w.disks)) (rest_images w.disks (k.rests none)));
+      }
 
       module _ (e : Event) (may : May id_of (replay w.history) e) (fits : IsCodable (store_length w.history) e) where
         all_fit : AreCodable 0 (w.history ++ e ∷ [])
-        all_fit = codable-at w.history e (store_length w.history) refl stands_now.codable fits
+        all_fit = codable-at w.history e (store_length w.history) refl standing.stand.codable fits
 
         pub may_next : IsHistory id_of (w.history ++ e ∷ [])
         may_next = may-push id_of empty_archive w.history e k.history may
 
-        -- at each call of the event, and where one failed
-        pub stands_at : (n : ℕ) (ledger store : List ℕ) → IsImage (files_done (take n (calls_for w.history e)) (files_in w) 0) ledger → IsImage (files_done (take n (calls_for w.history e)) (files_in w) 1) store → MayStand w.history (Some e) ledger store
-        stands_at n ledger store il is =
-            ((event_moments_stand (files_in w) w.history (k.rests none) stands_now e all_fit).has n).has (two_images ledger store)
-            (are_two (files_done (take n (calls_for w.history e)) (files_in w)) ledger store
-            (two_done (take n (calls_for w.history e)) (files_in w) (all_take (λ c. c.0 < 2) n (calls_for w.history e) (calls_on_two w.history e)) (two_in w)) il is)
+        -- at each call of the event
+        pub stands_at : (n : ℕ) → EachImages (files_on (called (take n (calls_for w.history e)) w.disks)) (WithOrWithout w.history e)
+        stands_at n =
+            called_left (take n (calls_for w.history e)) w.disks (WithOrWithout w.history e) (all_take (λ c. c.0 < 2) n (calls_for w.history e) (calls_on_two w.history e))
+            ((one_moments (files_on w.disks) w.history standing e all_fit).has n)
 
-        stands_failed : (number : ℕ) (ledger store : List ℕ) → IsImage (failed_at number (calls_for w.history e) (files_in w) 0) ledger → IsImage (failed_at number (calls_for w.history e) (files_in w) 1) store → MayStand w.history (Some e) ledger store
-        stands_failed number ledger store il is =
-            (failed_left number (calls_for w.history e) (files_in w) (λ images. MayStand w.history (Some e) (images 0) (images 1)) (event_moments_stand (files_in w) w.history (k.rests none) stands_now e all_fit)).has (two_images ledger store)
-            (are_two (failed_at number (calls_for w.history e) (files_in w)) ledger store (two_failed number (calls_for w.history e) (files_in w) (calls_on_two w.history e) (two_in w)) il is)
+        abbrev after : Files
+        after = files_done (calls_for w.history e) (files_on w.disks)
+
+        added : AreStanding (after 0) (after 1) (w.history ++ e ∷ [])
+        added = one_added (files_on w.disks) w.history standing e all_fit
 
         pub joined_kept : IsWorld id_of (joined e w)
-        joined_kept =
-            let after = files_done (calls_for w.history e) (files_in w) in
-            let rests : AreAtRest after = event_rests (files_in w) w.history (k.rests none) stands_now e all_fit in
-            let stands : StandsFor (after 0).seen (after 1).seen (w.history ++ e ∷ []) = event_stands (files_in w) w.history (k.rests none) stands_now e all_fit in
-            record {
-              history = may_next;
-              shown = let l = k.shown in omega (arith, l, length-append w.history (e ∷ []));
-              kept = subst (IsFront w.kept) (sym (take-append-le w.shown w.history (e ∷ []) k.shown)) k.kept;
-              seen = k.seen;
-              images = λ ledger store il is.
-                  let same_l : ledger ≡ (after 0).seen = at_rest_image (after 0) ledger rests.ledger (image_of (after 0) ledger il) in
-                  let same_s : store ≡ (after 1).seen = at_rest_image (after 1) store rests.store (image_of (after 1) store is) in
-                  subst (λ (d : Option Event). MayStand (w.history ++ e ∷ []) d ledger store) (sym none)
-                  (subst (λ (l : List ℕ). StandsFor l store (w.history ++ e ∷ [])) (sym same_l) (subst (λ (s : List ℕ). StandsFor (after 0).seen s (w.history ++ e ∷ [])) (sym same_s) stands));
-              rests = λ _. record {
-                ledger = record { base = rests.ledger.base; ranges = rests.ledger.ranges; longest = rests.ledger.longest };
-                store = record { base = rests.store.base; ranges = rests.store.ranges; longest = rests.store.longest };
-              };
-              doubt = λ d is. absurd (let f : None ≡ Some d = sym none ∙ is in cc);
-            }
+        joined_kept = record {
+          history = may_next;
+          shown = let l = k.shown in omega (arith, l, length-append w.history (e ∷ []));
+          kept = subst (IsFront w.kept) (sym (take-append-le w.shown w.history (e ∷ []) k.shown)) k.kept;
+          seen = k.seen;
+          images = subst (λ (d : Option Event). EachImages (files_on (called (calls_for w.history e) w.disks)) (MayStand (w.history ++ e ∷ []) d)) (sym none)
+              (called_left (calls_for w.history e) w.disks (λ images. StandsFor (images 0) (images 1) (w.history ++ e ∷ [])) (calls_on_two w.history e) (still after (w.history ++ e ∷ []) added));
+          rests = λ _. record {
+            ledger = record { base = added.ledger_rests.base; ranges = added.ledger_rests.ranges; longest = added.ledger_rests.longest };
+            store = record { base = added.store_rests.base; ranges = added.store_rests.ranges; longest = added.store_rests.longest };
+          };
+          doubt = λ d is. absurd (let f : None ≡ Some d = sym none ∙ is in cc);
+        }
 
         pub joined_later : IsLater w (joined e w)
         joined_later = record { history = front_of_more w.history e; kept = front_itself w.kept; actors = refl }
 
-        pub doubt_later : (number : ℕ) → IsLater w (in_doubt e (failed_at number (calls_for w.history e) (files_in w)) w)
+        pub doubt_later : (number : ℕ) → IsLater w (in_doubt e number w)
         doubt_later number = record { history = front_itself w.history; kept = front_itself w.kept; actors = refl }
 
-        pub doubt_kept : (number : ℕ) → IsWorld id_of (in_doubt e (failed_at number (calls_for w.history e) (files_in w)) w)
-        doubt_kept number =
-            let left = failed_at number (calls_for w.history e) (files_in w) in
-            record {
-              history = k.history;
-              shown = k.shown;
-              kept = k.kept;
-              seen = k.seen;
-              images = λ ledger store il is. stands_failed number ledger store (image_of (left 0) ledger il) (image_of (left 1) store is);
-              rests = λ other. absurd (let f : Some e ≡ None = other in cc);
-              doubt = λ d is. subst (May id_of (replay w.history)) (let f : Some e ≡ Some d = is in let same : e ≡ d = cc in same) may;
-            }
+        pub doubt_kept : (number : ℕ) → IsWorld id_of (in_doubt e number w)
+        doubt_kept number = record {
+          history = k.history;
+          shown = k.shown;
+          kept = k.kept;
+          seen = k.seen;
+          images = failed_left number (calls_for w.history e) w.disks (WithOrWithout w.history e) (calls_on_two w.history e) (one_moments (files_on w.disks) w.history standing e all_fit);
+          rests = λ other. absurd (let f : Some e ≡ None = other in cc);
+          doubt = λ d is. subst (May id_of (replay w.history)) (let f : Some e ≡ Some d = is in let same : e ≡ d = cc in same) may;
+        }
 
     -- two files stand for one history
     pub one_for : (g h : List Event) (ledger store : List ℕ) → IsHistory id_of g → IsHistory id_of h → StandsFor ledger store g → StandsFor ledger store h → g ≡ h
     one_for g h ledger store hg hh sg sh = one_history id_of g h (alike ledger store g h sg sh) hg hh
 
     -- images that may stand for the history, or for it with an event that may be next, stand for no shorter one
-    pub front_of_stood : (more : Option Event) (h : List Event) (ledger store : List ℕ) → ((e : Event) → more ≡ Some e → May id_of (replay w.history) e) → MayStand w.history more ledger store → StandsFor ledger store h → IsHistory id_of h → IsFront w.history h
+    pub front_of_stood : (more : Option Event) (h : List Event) (ledger store : List ℕ) → ((e : Event) → more ≡ Some e → May id_of (replay w.history) e) → MayStand w.history more (two_images ledger store) → StandsFor ledger store h → IsHistory id_of h → IsFront w.history h
     front_of_stood None h ledger store may stands is history = subst (IsFront w.history) (one_for w.history h ledger store k.history history stands is) (front_itself w.history)
     front_of_stood (Some e) h ledger store may (inl without) is history = subst (IsFront w.history) (one_for w.history h ledger store k.history history without is) (front_itself w.history)
     front_of_stood (Some e) h ledger store may (inr with_it) is history =
@@ -220,10 +218,7 @@ module _ (id_of : Kind → List ℕ → List ℕ) where
             shown = omega arith;
             kept = subst (λ (l : List Event). IsFront l (take (length h) h)) (sym one) (subst (IsFront h) (sym (whole_taken h)) (front_itself h));
             seen = subst (λ (l : List Event). AllByRecursion (λ (f : List Event). IsFront f l) (map (λ _. h) w.seen)) (sym one) (all_same (λ (f : List Event). IsFront f h) w.seen h (front_itself h));
-            images = λ l s il is.
-                let same_l : l ≡ ledger = at_rest_image (as_file (rested ledger)) l (record { base = refl; ranges = refl; longest = refl }) il in
-                let same_s : s ≡ store = at_rest_image (as_file (rested store)) s (record { base = refl; ranges = refl; longest = refl }) is in
-                subst (λ (x : List ℕ). StandsFor x s h) (sym same_l) (subst (λ (x : List ℕ). StandsFor ledger x h) (sym same_s) stands);
+            images = still (files_on (rested ledger store)) h (rested_standing h ledger store stands);
             rests = λ _. record { ledger = record { base = refl; ranges = refl; longest = refl }; store = record { base = refl; ranges = refl; longest = refl } };
             doubt = λ d is. absurd (let f : None ≡ Some d = is in cc);
           }

@@ -1,6 +1,4 @@
-pub mod Calls
 pub mod World
 pub mod Step
 pub mod Kept
-pub mod Run
-pub mod Parts
+pub mod Answers

@@ -1,50 +1,52 @@
--- The interleaved world: one archive, its two files and what each actor has seen.
-use Rattle.std.specs.Prelude.{ℕ, nat_le, if◌then◌else◌, Option, Some, None, List, [], ◌∷◌, ◌++◌, length, map, slice_set, replicate, refl}
-use Rattle.std.specs.Coded.{Coded, code_by, coded×, coded_ℕ, coded_option, coded_list}
-use Rattle.swh_outside.specs.Disk.{File}
-use Rattle.swh_outside.specs.Files.{Files, files_of, files_done}
-use Rattle.swh_model.specs.contracts.event.Event as an_event
+-- The interleaved world: one archive, its two files and what each actor has seen, and what is made of it. It is the plain
+-- struct `Parts` of src/parts.rt, and a file of it `Disk` of src/disk.rt.
+use Rattle.std.specs.Prelude.{ℕ, ◌-◌, nat_le, if◌then◌else◌, Some, None, List, [], ◌∷◌, ◌++◌, length, map, take, drop, slice_set, replicate}
+use Rattle.swh_outside.specs.Disk.{File, begun}
+use Rattle.swh_outside.specs.Files.{Files, FileCall, files_of, files_done, with_file}
 use Rattle.swh_model.specs.declared.event.Event.{Event}
 use Rattle.swh_format.specs.Record.{magic}
 use Rattle.swh_segment.specs.Calls.{calls_for}
+use Rattle.swh_core.specs.declared.disk.Disk.{Disk}
+use Rattle.swh_core.specs.declared.disk.Disks.{Disks}
+use Rattle.swh_core.specs.declared.parts.Parts.{Parts as World}
+
+-- a file of a world, with no call that was made on it
+abbrev pub file_of : Disk → File
+file_of d = record { base = d.base; ranges = d.ranges; longest = d.longest; seen = d.seen; calls = [] }
+
+-- the two files by their numbers
+abbrev pub files_on : Disks → Files
+files_on disks = files_of (file_of disks.ledger) (file_of disks.store)
 
 -- a file as a world has it: all but the calls that were made on it
-pub record OneFile : Type 0 where
-  pub base : List ℕ
-  pub ranges : List (ℕ × ℕ)
-  pub longest : ℕ
-  pub seen : List ℕ
-
-abbrev pub as_file : OneFile → File
-as_file f = record { base = f.base; ranges = f.ranges; longest = f.longest; seen = f.seen; calls = [] }
-
-abbrev pub one_file : File → OneFile
-one_file f = record { base = f.base; ranges = f.ranges; longest = f.longest; seen = f.seen }
+abbrev pub disk_of : File → Disk
+disk_of f = record { base = f.base; ranges = f.ranges; longest = f.longest; seen = f.seen }
 
 -- the ledger and the store among files
-abbrev pub both : Files → OneFile × OneFile
-both files = (one_file (files 0), one_file (files 1))
+abbrev pub disks_in : Files → Disks
+disks_in files = record { ledger = disk_of (files 0); store = disk_of (files 1) }
 
 -- the file that holds these bytes, with nothing written since a barrier
-abbrev pub rested : List ℕ → OneFile
-rested bytes = record { base = bytes; ranges = []; longest = length bytes; seen = bytes }
+abbrev pub rested_disk : List ℕ → Disk
+rested_disk bytes = record { base = bytes; ranges = []; longest = length bytes; seen = bytes }
 
--- The archive between two steps. A front of the history is shown, and the rest waits to be. An event is in doubt where a
--- device call of it failed. `kept` is the longest list that any actor has seen, ended ones included.
-pub record World : Type 0 where
-  pub history : List Event
-  pub shown : ℕ
-  pub doubt : Option Event
-  pub ledger : OneFile
-  pub store : OneFile
-  pub seen : List (List Event)
-  pub kept : List Event
+-- two such files
+abbrev pub rested : List ℕ → List ℕ → Disks
+rested ledger store = record { ledger = rested_disk ledger; store = rested_disk store }
 
-abbrev pub files_in : World → Files
-files_in w = files_of (as_file w.ledger) (as_file w.store)
+-- the two files after these calls
+abbrev pub called : List FileCall → Disks → Disks
+called calls disks = disks_in (files_done calls (files_on disks))
 
-abbrev pub with_files : Files → World → World
-with_files files w = record w { ledger = (both files).0; store = (both files).1 }
+-- the files once the first of these calls, if there is one, has begun
+abbrev pub first_begun : List FileCall → Files → Files
+first_begun [] files = files
+first_begun (call ∷ calls) files = with_file call.0 (begun call.1 (files call.0)) files
+
+-- the two files where the call of this number, from 1, failed: those before it were made, and it was begun
+abbrev pub failed_at : ℕ → List FileCall → Disks → Disks
+failed_at number calls disks =
+    disks_in (first_begun (drop (number - 1) calls) (files_done (take (number - 1) calls) (files_on disks)))
 
 -- a made, empty archive, of which so many actors have seen nothing
 abbrev pub first_world : ℕ → World
@@ -52,8 +54,7 @@ first_world actors = record {
   history = [];
   shown = 0;
   doubt = None;
-  ledger = rested (magic ++ 0 ∷ []);
-  store = rested [];
+  disks = rested (magic ++ 0 ∷ []) [];
   seen = replicate actors [];
   kept = [];
 }
@@ -69,13 +70,17 @@ sees actor front w = record w { seen = slice_set w.seen actor front; kept = long
 abbrev pub all_shown : World → World
 all_shown w = record w { shown = length w.history }
 
+-- once all that waited is shown, and the actor has seen it
+abbrev pub sees_all : ℕ → World → World
+sees_all actor w = sees actor w.history (all_shown w)
+
 -- once the event joined the history, durably; it waits to be shown
 abbrev pub joined : Event → World → World
-joined event w = record (with_files (files_done (calls_for w.history event) (files_in w)) w) { history = w.history ++ event ∷ [] }
+joined event w = record w { history = w.history ++ event ∷ []; disks = called (calls_for w.history event) w.disks }
 
--- once the event is in doubt, and this is left of the files
-abbrev pub in_doubt : Event → Files → World → World
-in_doubt event files w = record (with_files files w) { doubt = Some event }
+-- once the event is in doubt, whose device call of this number failed
+abbrev pub in_doubt : Event → ℕ → World → World
+in_doubt event call w = record w { doubt = Some event; disks = failed_at call (calls_for w.history event) w.disks }
 
 -- once the files are these images, which stand for this history: all actors begin anew
 abbrev pub reopened : List Event → List ℕ → List ℕ → World → World
@@ -83,24 +88,7 @@ reopened h ledger store w = record {
   history = h;
   shown = length h;
   doubt = None;
-  ledger = rested ledger;
-  store = rested store;
+  disks = rested ledger store;
   seen = map (λ _. h) w.seen;
   kept = longer w.kept h;
 }
-
--- how files and worlds are told apart
-
-abbrev pub one_file_code : Coded OneFile
-one_file_code =
-    code_by (List ℕ × (List (ℕ × ℕ) × (ℕ × List ℕ))) (coded× (coded_list coded_ℕ) (coded× (coded_list (coded× coded_ℕ coded_ℕ)) (coded× coded_ℕ (coded_list coded_ℕ))))
-    (λ f. (f.base, (f.ranges, (f.longest, f.seen)))) (λ p. record { base = p.0; ranges = p.1.0; longest = p.1.1.0; seen = p.1.1.1 }) (λ _. refl)
-
-abbrev pub world_code : Coded World
-world_code =
-    let event = an_event.the_row.coded in
-    code_by (List Event × (ℕ × (Option Event × (OneFile × (OneFile × (List (List Event) × List Event))))))
-    (coded× (coded_list event) (coded× coded_ℕ (coded× (coded_option event) (coded× one_file_code (coded× one_file_code (coded× (coded_list (coded_list event)) (coded_list event)))))))
-    (λ w. (w.history, (w.shown, (w.doubt, (w.ledger, (w.store, (w.seen, w.kept)))))))
-    (λ p. record { history = p.0; shown = p.1.0; doubt = p.1.1.0; ledger = p.1.1.1.0; store = p.1.1.1.1.0; seen = p.1.1.1.1.1.0; kept = p.1.1.1.1.1.1 })
-    (λ _. refl)

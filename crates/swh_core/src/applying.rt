@@ -1,19 +1,12 @@
 //! Wishes that are carried out, or of which a device call fails.
-ghost use Rattle.std.specs.Prelude.{◌≡◌, ◌↔◌, ◌≤◌, ◌<◌, IfOk, IsTrue, length, map};
+ghost use Rattle.std.specs.Prelude.{◌≡◌, ◌↔◌, ◌≤◌, ◌+◌, ◌<◌, IfOk, IsTrue, length, map, take};
 ghost use Rattle.swh_model.specs.Happens.{IsSomeHistory};
-ghost use Rattle.swh_core.specs.declared.step.Held.TheVariants.{Older};
-ghost use Rattle.swh_core.specs.Calls.{file_call};
 ghost use Rattle.swh_segment.specs.Calls.{calls_for};
+ghost use Rattle.swh_core.specs.declared.step.Held.TheVariants.{Older};
+ghost use Rattle.swh_core.specs.declared.step.Told.TheVariants as told;
+ghost use Rattle.swh_core.specs.World.{sees, all_shown, sees_all, joined, in_doubt};
 ghost use Rattle.swh_core.specs.Step.{Applies, Faults};
-ghost use Rattle.swh_core.specs.Parts.{
-  world_of,
-  IsSomeWish,
-  IsRefusal,
-  IsFinished,
-  IsWaiting,
-  IsDoubted,
-  IsLooked,
-};
+ghost use Rattle.swh_core.specs.Answers.{file_call, IsSomeWish};
 
 use crate::call::EventCall;
 use crate::copies::events_again;
@@ -26,12 +19,12 @@ use swh_model::{Event, No, Outcome, Wish};
 
 /// Shows all that waited, and lets the actor see it.
 fn refuse(alloc: Global, parts: &Parts, actor: u32, cause: No) -> Result<(Told, Parts), Memory>
-    requires { actor < length parts.now.seen.items }
-    ensures { IfOk result (IsRefusal (world_of parts.now) actor cause) }
+    requires { actor < length parts.now.seen }
+    ensures { IfOk result (λ r. r ≡ (told.No cause, sees_all actor parts.now)) }
 {
     let mut next = parts_again(alloc, parts)?;
     show_all(&mut next);
-    let front = events_again(alloc, &next.history)?;
+    let front = events_again(alloc, next.history.as_slice())?;
     see(alloc, &mut next, actor, front)?;
     Ok((Told::No(cause), next))
 }
@@ -45,14 +38,14 @@ fn finish(
     outcome: Outcome,
     calls: &[EventCall],
 ) -> Result<(Told, Parts), Memory>
-    requires actor { actor < length parts.now.seen.items }
-    requires calls { map file_call calls.now ≡ calls_for parts.now.history.items event }
-    ensures { IfOk result (IsFinished (world_of parts.now) actor event outcome) }
+    requires actor { actor < length parts.now.seen }
+    requires calls { map file_call calls.now ≡ calls_for parts.now.history event }
+    ensures { IfOk result (λ r. r ≡ (told.Done outcome, sees_all actor (joined event parts.now))) }
 {
     let mut next = parts_again(alloc, parts)?;
     join(alloc, &mut next, event, calls)?;
     show_all(&mut next);
-    let front = events_again(alloc, &next.history)?;
+    let front = events_again(alloc, next.history.as_slice())?;
     see(alloc, &mut next, actor, front)?;
     Ok((Told::Done(outcome), next))
 }
@@ -64,13 +57,13 @@ fn wait(
     event: Event,
     calls: &[EventCall],
 ) -> Result<(Told, Parts), Memory>
-    requires { map file_call calls.now ≡ calls_for parts.now.history.items event }
-    ensures { IfOk result (IsWaiting (world_of parts.now) event) }
+    requires { map file_call calls.now ≡ calls_for parts.now.history event }
+    ensures { IfOk result (λ r. r ≡ (told.Waits (length parts.now.history + 1), joined event (all_shown parts.now))) }
 {
     let mut next = parts_again(alloc, parts)?;
     show_all(&mut next);
     join(alloc, &mut next, event, calls)?;
-    let event = next.history.len() as u64;
+    let event = next.history.as_slice().len() as u64;
     Ok((Told::Waits { event }, next))
 }
 
@@ -82,22 +75,22 @@ fn doubt(
     calls: &[EventCall],
     call: u32,
 ) -> Result<(Told, Parts), Memory>
-    requires { map file_call calls.now ≡ calls_for parts.now.history.items event }
-    ensures { IfOk result (IsDoubted (world_of parts.now) event call) }
+    requires { map file_call calls.now ≡ calls_for parts.now.history event }
+    ensures { IfOk result (λ r. r ≡ (told.Doubt (length parts.now.history + 1), in_doubt event call (all_shown parts.now))) }
 {
     let mut next = parts_again(alloc, parts)?;
     show_all(&mut next);
     leave_in_doubt(alloc, &mut next, event, calls, call)?;
-    let event = next.history.len() as u64 + 1;
+    let event = next.history.as_slice().len() as u64 + 1;
     Ok((Told::Doubt { event }, next))
 }
 
 /// Says whether events wait, and showing them is refused.
 fn is_held_back(parts: &Parts, held: Held) -> bool
-    ensures { IsTrue result ↔ (held ≡ Older) × (parts.now.shown < length parts.now.history.items) }
+    ensures { IsTrue result ↔ (held ≡ Older) × (parts.now.shown < length parts.now.history) }
 {
     match held {
-        Held::Older => parts.shown < parts.history.len(),
+        Held::Older => parts.shown < parts.history.as_slice().len(),
         Held::No => false,
         Held::Newest => false,
     }
@@ -111,11 +104,11 @@ pub fn apply_step(
     wish: &Wish,
     held: Held,
 ) -> Result<(Told, Parts), Memory>
-    requires actor { actor < length parts.now.seen.items }
-    requires shown { parts.now.shown ≤ length parts.now.history.items }
-    requires history { IsSomeHistory parts.now.history.items }
+    requires actor { actor < length parts.now.seen }
+    requires shown { parts.now.shown ≤ length parts.now.history }
+    requires history { IsSomeHistory parts.now.history }
     requires wish { IsSomeWish wish.now }
-    ensures { IfOk result (λ r. Applies actor wish.now held (world_of parts.now) r.0 (world_of r.1)) }
+    ensures { IfOk result (λ r. Applies actor wish.now held parts.now r.0 r.1) }
 {
     if parts.doubt.is_some() {
         return Ok((Told::Wounded, parts_again(alloc, parts)?));
@@ -123,7 +116,7 @@ pub fn apply_step(
     if is_held_back(parts, held) {
         return Ok((Told::Untaken, parts_again(alloc, parts)?));
     }
-    match judge_wish(alloc, &parts.history, actor, wish)? {
+    match judge_wish(alloc, parts.history.as_slice(), actor, wish)? {
         Judgement::Refused(cause) => refuse(alloc, parts, actor, cause),
         Judgement::Allowed {
             event,
@@ -145,14 +138,14 @@ pub fn fault_step(
     wish: &Wish,
     call: u32,
 ) -> Result<(Told, Parts), Memory>
-    requires history { IsSomeHistory parts.now.history.items }
+    requires history { IsSomeHistory parts.now.history }
     requires wish { IsSomeWish wish.now }
-    ensures { IfOk result (λ r. Faults actor wish.now call (world_of parts.now) r.0 (world_of r.1)) }
+    ensures { IfOk result (λ r. Faults actor wish.now call parts.now r.0 r.1) }
 {
     if parts.doubt.is_some() {
         return Ok((Told::Wounded, parts_again(alloc, parts)?));
     }
-    match judge_wish(alloc, &parts.history, actor, wish)? {
+    match judge_wish(alloc, parts.history.as_slice(), actor, wish)? {
         Judgement::Refused(cause) => {
             let mut next = parts_again(alloc, parts)?;
             show_all(&mut next);
@@ -164,12 +157,12 @@ pub fn fault_step(
 
 /// An actor sees what is shown.
 pub fn look_step(alloc: Global, parts: &Parts, actor: u32) -> Result<(Told, Parts), Memory>
-    requires actor { actor < length parts.now.seen.items }
-    requires shown { parts.now.shown ≤ length parts.now.history.items }
-    ensures { IfOk result (IsLooked (world_of parts.now) actor) }
+    requires actor { actor < length parts.now.seen }
+    requires shown { parts.now.shown ≤ length parts.now.history }
+    ensures { IfOk result (λ r. r ≡ (told.Front parts.now.shown, sees actor (take parts.now.shown parts.now.history) parts.now)) }
 {
     let mut next = parts_again(alloc, parts)?;
-    let front = events_again(alloc, &parts.history[..parts.shown])?;
+    let front = events_again(alloc, &parts.history.as_slice()[..parts.shown])?;
     see(alloc, &mut next, actor, front)?;
     let front = next.shown as u64;
     Ok((Told::Front { front }, next))

@@ -9,7 +9,7 @@ ghost use Rattle.swh_format.specs.EventRecord.{
   IsCodable,
 };
 ghost use Rattle.swh_segment.specs.Calls.{append_calls, run_calls, calls_for};
-ghost use Rattle.swh_core.specs.Calls.{file_call, FitsRecord};
+ghost use Rattle.swh_core.specs.Answers.{file_call, FitsRecord};
 
 use std::alloc::Global;
 use swh_base::{Bytes, Memory};

@@ -6,15 +6,15 @@ use swh_base::{Items, Memory};
 use swh_model::Event;
 
 /// Equal events.
-pub fn events_again(alloc: Global, events: &[Event]) -> Result<Vec<Event>, Memory>
-    ensures { IfOk result (λ copies. copies.items ≡ events.now) }
+pub fn events_again(alloc: Global, events: &[Event]) -> Result<Items<Event>, Memory>
+    ensures { IfOk result (λ copies. copies ≡ events.now) }
 {
     let mut copies = Vec::new(alloc);
     for event in events {
         let copy = event.again(alloc)?;
         copies.push(copy)?;
     }
-    Ok(copies)
+    Ok(Items::from_vec(copies))
 }
 
 /// Equal lists of events.
@@ -24,7 +24,7 @@ pub fn lists_again(alloc: Global, lists: &[Items<Event>]) -> Result<Vec<Items<Ev
     let mut copies = Vec::new(alloc);
     for list in lists {
         let copy = events_again(alloc, list.as_slice())?;
-        copies.push(Items::from_vec(copy))?;
+        copies.push(copy)?;
     }
     Ok(copies)
 }
@@ -34,26 +34,26 @@ pub fn copies_of(
     alloc: Global,
     events: &[Event],
     lists: &[Items<Event>],
-) -> Result<Vec<Items<Event>>, Memory>
-    ensures { IfOk result (λ copies. copies.items ≡ map (λ _. events.now) lists.now) }
+) -> Result<Items<Items<Event>>, Memory>
+    ensures { IfOk result (λ copies. copies ≡ map (λ _. events.now) lists.now) }
 {
     let mut copies = Vec::new(alloc);
     for _list in lists {
         let copy = events_again(alloc, events)?;
-        copies.push(Items::from_vec(copy))?;
+        copies.push(copy)?;
     }
-    Ok(copies)
+    Ok(Items::from_vec(copies))
 }
 
 /// So many lists of no event.
-pub fn empty_lists(alloc: Global, number: u32) -> Result<Vec<Items<Event>>, Memory>
-    ensures { IfOk result (λ lists. lists.items ≡ replicate number []) }
+pub fn empty_lists(alloc: Global, number: u32) -> Result<Items<Items<Event>>, Memory>
+    ensures { IfOk result (λ lists. lists ≡ replicate number []) }
 {
     let mut lists = Vec::new(alloc);
     for _i in 0..number {
         lists.push(Items::from_vec(Vec::new(alloc)))?;
     }
-    Ok(lists)
+    Ok(Items::from_vec(lists))
 }
 
 /// An equal event, if there is one.

@@ -1,15 +1,17 @@
 //! Crashes: what they may leave, and what it stands for.
-ghost use Rattle.std.specs.Prelude.{◌≡◌, ◌↔◌, ◌+◌, ℕ, List, Some, None, Err, IfOk, IfErr, IsTrue, length, get_or};
+ghost use Rattle.std.specs.Prelude.{◌≡◌, ◌↔◌, ◌+◌, ℕ, List, Some, None, Ok, Err, IfOk, IfErr, IsTrue, length, get_or};
 ghost use Rattle.swh_base.specs.declared.kind.Kind.{Kind};
+ghost use Rattle.swh_outside.specs.Files.{Images};
 ghost use Rattle.swh_model.specs.declared.event.Event.{Event as AnEvent};
+ghost use Rattle.swh_model.specs.declared.event.Wish.{Wish as AWish};
 ghost use Rattle.swh_model.specs.Limits.{records_length};
 ghost use Rattle.swh_model.specs.Happens.{IsSomeHistory};
 ghost use Rattle.swh_model.specs.Step.{May, IsHistory, replay};
 ghost use Rattle.swh_format.specs.Stands.{StandsFor};
 ghost use Rattle.swh_core.specs.declared.step.Step.TheVariants.{Crash};
-ghost use Rattle.swh_core.specs.Step.{IsWorldStep, IsMeant};
+ghost use Rattle.swh_core.specs.Step.{IsCaught, IsWorldStep, IsMeant};
 ghost use Rattle.swh_core.specs.Kept.{MayStand, IsWorld};
-ghost use Rattle.swh_core.specs.Parts.{world_of, IsSomeWish, IsSomeFlight, AreCaught, IsOpened};
+ghost use Rattle.swh_core.specs.Answers.{IsSomeWish};
 
 use crate::copies::events_again;
 use crate::disk::{Disks, disks_again, is_image, make_first};
@@ -17,7 +19,7 @@ use crate::judging::{Judgement, judge_wish};
 use crate::parts::{Parts, reopen};
 use crate::step::{StepFault, Told};
 use std::alloc::Global;
-use swh_base::{Memory, Namer};
+use swh_base::{Items, Memory, Namer};
 use swh_model::{Event, Wish, length_of_ledger};
 
 /// The files at the moment of a crash, and the event that they may have besides the history.
@@ -35,13 +37,12 @@ fn catch_flight(
     wish: &Wish,
     made: u32,
 ) -> Result<Caught, Memory>
-    requires none { parts.now.doubt ≡ None }
-    requires history { IsSomeHistory parts.now.history.items }
+    requires history { IsSomeHistory parts.now.history }
     requires wish { IsSomeWish wish.now }
-    ensures { IfOk result (AreCaught (world_of parts.now) (Some (actor, wish.now, made))) }
+    ensures { IfOk result (λ c. IsCaught None (Some (actor, wish.now, made)) parts.now c.disks c.more) }
 {
     let mut disks = disks_again(alloc, &parts.disks)?;
-    match judge_wish(alloc, &parts.history, actor, wish)? {
+    match judge_wish(alloc, parts.history.as_slice(), actor, wish)? {
         Judgement::Refused(_) => Ok(Caught { disks, more: None }),
         Judgement::Allowed { event, calls, .. } => {
             make_first(alloc, &mut disks, &calls, made)?;
@@ -59,10 +60,9 @@ fn catch_undoubted(
     parts: &Parts,
     flight: &Option<(u32, Wish, u32)>,
 ) -> Result<Caught, Memory>
-    requires none { parts.now.doubt ≡ None }
-    requires history { IsSomeHistory parts.now.history.items }
-    requires flight { IsSomeFlight flight.now }
-    ensures { IfOk result (AreCaught (world_of parts.now) flight.now) }
+    requires history { IsSomeHistory parts.now.history }
+    requires flight { (f : ℕ × AWish × ℕ) → flight.now ≡ Some f → IsSomeWish f.1 }
+    ensures { IfOk result (λ c. IsCaught None flight.now parts.now c.disks c.more) }
 {
     match flight {
         Some((actor, wish, made)) => catch_flight(alloc, parts, *actor, wish, *made),
@@ -79,9 +79,9 @@ fn catch_files(
     parts: &Parts,
     flight: &Option<(u32, Wish, u32)>,
 ) -> Result<Caught, Memory>
-    requires history { IsSomeHistory parts.now.history.items }
-    requires flight { IsSomeFlight flight.now }
-    ensures { IfOk result (AreCaught (world_of parts.now) flight.now) }
+    requires history { IsSomeHistory parts.now.history }
+    requires flight { (f : ℕ × AWish × ℕ) → flight.now ≡ Some f → IsSomeWish f.1 }
+    ensures { IfOk result (λ c. IsCaught parts.now.doubt flight.now parts.now c.disks c.more) }
 {
     match &parts.doubt {
         Some(event) => Ok(Caught {
@@ -116,12 +116,12 @@ fn history_left(
     history: &[Event],
     more: &Option<Event>,
     ledger: &[u8],
-) -> Result<Vec<Event>, Memory>
-    ensures stands { (store : List ℕ) → MayStand history.now more.now ledger.now store
-        → IfOk result (λ left. StandsFor ledger.now store left.items) }
+) -> Result<Items<Event>, Memory>
+    ensures stands { (images : Images) → images 0 ≡ ledger.now → MayStand history.now more.now images
+        → IfOk result (λ left. StandsFor (images 0) (images 1) left) }
     ensures history { (id_of : Kind → List ℕ → List ℕ) → IsHistory id_of history.now
         → ((e : AnEvent) → more.now ≡ Some e → May id_of (replay history.now) e)
-        → IfOk result (λ left. IsHistory id_of left.items) }
+        → IfOk result (IsHistory id_of) }
 {
     let gate = gate_of(history)?;
     let mut left = events_again(alloc, history)?;
@@ -145,11 +145,10 @@ pub fn crash_step<N: Namer>(
     store: &[u8],
     ledger: &[u8],
 ) -> Result<(Told, Parts), StepFault>
-    requires world { IsWorld N.id_of (world_of parts.now) }
-    requires meant { IsMeant N.id_of (length parts.now.seen.items) (Crash flight.now store.now ledger.now) }
-    ensures ok { IfOk result (IsOpened N.id_of (world_of parts.now) flight.now store.now ledger.now) }
-    ensures err { IfErr result (λ f. IsWorldStep N.id_of (world_of parts.now) (Crash flight.now store.now ledger.now)
-        (Err f) (world_of parts.now)) }
+    requires world { IsWorld N.id_of parts.now }
+    requires meant { IsMeant N.id_of (length parts.now.seen) (Crash flight.now store.now ledger.now) }
+    ensures ok { IfOk result (λ r. IsWorldStep N.id_of parts.now (Crash flight.now store.now ledger.now) (Ok r.0) r.1) }
+    ensures err { IfErr result (λ f. IsWorldStep N.id_of parts.now (Crash flight.now store.now ledger.now) (Err f) parts.now) }
 {
     let caught = catch_files(alloc, parts, flight)?;
     if !is_image(&caught.disks.ledger, ledger) {
@@ -158,8 +157,8 @@ pub fn crash_step<N: Namer>(
     if !is_image(&caught.disks.store, store) {
         return Err(StepFault::NotImage { file: 1 });
     }
-    let history = history_left(alloc, &parts.history, &caught.more, ledger)?;
-    let events = history.len() as u64;
+    let history = history_left(alloc, parts.history.as_slice(), &caught.more, ledger)?;
+    let events = history.as_slice().len() as u64;
     let next = reopen(alloc, parts, history, ledger, store)?;
     Ok((Told::Opened { events }, next))
 }

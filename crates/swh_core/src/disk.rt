@@ -1,29 +1,34 @@
 //! The two files in memory, as a crash may find them.
-ghost use Rattle.std.specs.Prelude.{◌≡◌, ◌↔◌, ◌+◌, ◌-◌, min, map, take, IfOk, OnOk, IsTrue};
+ghost use Rattle.std.specs.Prelude.{◌≡◌, ◌↔◌, ◌+◌, ◌-◌, ◌∷◌, [], min, map, take, IfOk, OnOk, IsTrue};
 ghost use Rattle.swh_outside.specs.Disk.{IsImage, IsOutside, Write, Sync, patched, begun, done};
-ghost use Rattle.swh_outside.specs.Files.{file_done, files_done};
-ghost use Rattle.swh_core.specs.Calls.{
-  call_of,
-  file_call,
+ghost use Rattle.swh_core.specs.World.{
   file_of,
   files_on,
+  disk_of,
+  disks_in,
+  rested_disk,
+  rested,
+  called,
   first_begun,
   failed_at,
 };
-ghost use Rattle.swh_core.specs.World.{one_file, both, rested};
+ghost use Rattle.swh_core.specs.Answers.{call_of, file_call};
 
 use crate::call::{DeviceCall, EventCall};
 use std::alloc::Global;
-use swh_base::Memory;
+use swh_base::{Bytes, Items, Memory};
 
-/// What a file held at its last barrier, the ranges written since (the newest first), its greatest length since, and what
-/// a read gives.
+/// A file as a crash may find it.
 #[derive(Drop)]
 pub struct Disk {
-    base: Vec<u8>,
-    ranges: Vec<(usize, usize)>,
-    longest: usize,
-    seen: Vec<u8>,
+    /// What it held at its last barrier.
+    pub base: Bytes,
+    /// The places and lengths of what was written since, the newest first.
+    pub ranges: Items<(usize, usize)>,
+    /// Its greatest length since.
+    pub longest: usize,
+    /// What a read gives.
+    pub seen: Bytes,
 }
 
 /// The two files of an archive.
@@ -34,50 +39,49 @@ pub struct Disks {
 }
 
 /// The sum, or want of memory where it passes 64 bits: no machine holds files of such a length.
-pub fn plus(a: usize, b: usize) -> Result<usize, Memory>
+fn plus(a: usize, b: usize) -> Result<usize, Memory>
     ensures { IfOk result (λ sum. sum ≡ a + b) }
 {
     a.checked_add(b).ok_or(Memory)
 }
 
 /// A file with these bytes, and nothing written since a barrier.
-pub fn rested_disk(alloc: Global, bytes: &[u8]) -> Result<Disk, Memory>
-    ensures { IfOk result (λ disk. one_file (file_of disk) ≡ rested bytes.now) }
+fn disk_at_rest(alloc: Global, bytes: &[u8]) -> Result<Disk, Memory>
+    ensures { IfOk result (λ disk. disk ≡ rested_disk bytes.now) }
 {
     Ok(Disk {
-        base: Vec::from_slice(alloc, bytes)?,
-        ranges: Vec::new(alloc),
+        base: Bytes::from_slice(alloc, bytes)?,
+        ranges: Items::from_vec(Vec::new(alloc)),
         longest: bytes.len(),
-        seen: Vec::from_slice(alloc, bytes)?,
+        seen: Bytes::from_slice(alloc, bytes)?,
     })
 }
 
 /// Two files with these bytes, and nothing written since a barrier.
-pub fn rested_disks(alloc: Global, ledger: &[u8], store: &[u8]) -> Result<Disks, Memory>
-    ensures ledger { IfOk result (λ disks. one_file (file_of disks.ledger) ≡ rested ledger.now) }
-    ensures store { IfOk result (λ disks. one_file (file_of disks.store) ≡ rested store.now) }
+pub fn disks_at_rest(alloc: Global, ledger: &[u8], store: &[u8]) -> Result<Disks, Memory>
+    ensures { IfOk result (λ disks. disks ≡ rested ledger.now store.now) }
 {
     Ok(Disks {
-        ledger: rested_disk(alloc, ledger)?,
-        store: rested_disk(alloc, store)?,
+        ledger: disk_at_rest(alloc, ledger)?,
+        store: disk_at_rest(alloc, store)?,
     })
 }
 
 fn disk_again(alloc: Global, disk: &Disk) -> Result<Disk, Memory>
-    ensures { IfOk result (λ copy. one_file (file_of copy) ≡ one_file (file_of disk.now)) }
+    ensures { IfOk result (λ copy. copy ≡ disk.now) }
 {
+    let ranges = Vec::from_slice(alloc, disk.ranges.as_slice())?;
     Ok(Disk {
-        base: Vec::from_slice(alloc, &disk.base)?,
-        ranges: Vec::from_slice(alloc, &disk.ranges)?,
+        base: Bytes::from_slice(alloc, disk.base.as_slice())?,
+        ranges: Items::from_vec(ranges),
         longest: disk.longest,
-        seen: Vec::from_slice(alloc, &disk.seen)?,
+        seen: Bytes::from_slice(alloc, disk.seen.as_slice())?,
     })
 }
 
 /// Equal files.
 pub fn disks_again(alloc: Global, disks: &Disks) -> Result<Disks, Memory>
-    ensures ledger { IfOk result (λ copy. one_file (file_of copy.ledger) ≡ one_file (file_of disks.now.ledger)) }
-    ensures store { IfOk result (λ copy. one_file (file_of copy.store) ≡ one_file (file_of disks.now.store)) }
+    ensures { IfOk result (λ copy. copy ≡ disks.now) }
 {
     Ok(Disks {
         ledger: disk_again(alloc, &disks.ledger)?,
@@ -98,36 +102,37 @@ fn patched_bytes(alloc: Global, old: &[u8], at: usize, bytes: &[u8]) -> Result<V
     Ok(new)
 }
 
-fn begin_write(disk: &mut Disk, at: usize, bytes: &[u8]) -> Result<(), Memory>
-    ensures { OnOk result (one_file (file_of disk.new) ≡ one_file (begun (Write at bytes.now) (file_of disk.old))) }
+fn begin_write(alloc: Global, disk: &mut Disk, at: usize, bytes: &[u8]) -> Result<(), Memory>
+    ensures { OnOk result (disk.new ≡ disk_of (begun (Write at bytes.now) (file_of disk.old))) }
 {
     let end = plus(at, bytes.len())?;
-    disk.ranges.insert(0, (at, bytes.len()))?;
+    let mut ranges = Vec::new(alloc);
+    ranges.push((at, bytes.len()))?;
+    ranges.extend_from_slice(disk.ranges.as_slice())?;
+    disk.ranges = Items::from_vec(ranges);
     disk.longest = disk.longest.max(end);
     Ok(())
 }
 
 fn do_write(alloc: Global, disk: &mut Disk, at: usize, bytes: &[u8]) -> Result<(), Memory>
-    ensures { OnOk result (one_file (file_of disk.new) ≡ one_file (done (Write at bytes.now) (file_of disk.old))) }
+    ensures { OnOk result (disk.new ≡ disk_of (done (Write at bytes.now) (file_of disk.old))) }
 {
-    let seen = patched_bytes(alloc, &disk.seen, at, bytes)?;
-    begin_write(disk, at, bytes)?;
-    disk.seen = seen;
+    let seen = patched_bytes(alloc, disk.seen.as_slice(), at, bytes)?;
+    begin_write(alloc, disk, at, bytes)?;
+    disk.seen = Bytes::from_vec(seen);
     Ok(())
 }
 
 fn do_sync(alloc: Global, disk: &mut Disk) -> Result<(), Memory>
-    ensures { OnOk result (one_file (file_of disk.new) ≡ one_file (done Sync (file_of disk.old))) }
+    ensures { OnOk result (disk.new ≡ disk_of (done Sync (file_of disk.old))) }
 {
-    let base = Vec::from_slice(alloc, &disk.seen)?;
-    disk.longest = base.len();
-    disk.base = base;
-    disk.ranges = Vec::new(alloc);
+    let rested = disk_at_rest(alloc, disk.seen.as_slice())?;
+    *disk = rested;
     Ok(())
 }
 
 fn do_call(alloc: Global, disk: &mut Disk, call: &DeviceCall) -> Result<(), Memory>
-    ensures { OnOk result (one_file (file_of disk.new) ≡ one_file (done (call_of call.now) (file_of disk.old))) }
+    ensures { OnOk result (disk.new ≡ disk_of (done (call_of call.now) (file_of disk.old))) }
 {
     match call {
         DeviceCall::Write { at, bytes } => do_write(alloc, disk, *at, bytes.as_slice()),
@@ -135,17 +140,17 @@ fn do_call(alloc: Global, disk: &mut Disk, call: &DeviceCall) -> Result<(), Memo
     }
 }
 
-fn begin_call(disk: &mut Disk, call: &DeviceCall) -> Result<(), Memory>
-    ensures { OnOk result (one_file (file_of disk.new) ≡ one_file (begun (call_of call.now) (file_of disk.old))) }
+fn begin_call(alloc: Global, disk: &mut Disk, call: &DeviceCall) -> Result<(), Memory>
+    ensures { OnOk result (disk.new ≡ disk_of (begun (call_of call.now) (file_of disk.old))) }
 {
     match call {
-        DeviceCall::Write { at, bytes } => begin_write(disk, *at, bytes.as_slice()),
+        DeviceCall::Write { at, bytes } => begin_write(alloc, disk, *at, bytes.as_slice()),
         DeviceCall::Sync => Ok(()),
     }
 }
 
 fn do_event_call(alloc: Global, disks: &mut Disks, call: &EventCall) -> Result<(), Memory>
-    ensures { OnOk result (both (files_on disks.new) ≡ both (file_done (file_call call.now) (files_on disks.old))) }
+    ensures { OnOk result (disks.new ≡ called (file_call call.now ∷ []) disks.old) }
 {
     match call {
         EventCall::Ledger(call) => do_call(alloc, &mut disks.ledger, call),
@@ -153,19 +158,19 @@ fn do_event_call(alloc: Global, disks: &mut Disks, call: &EventCall) -> Result<(
     }
 }
 
-fn begin_first(disks: &mut Disks, calls: &[EventCall]) -> Result<(), Memory>
-    ensures { OnOk result (both (files_on disks.new) ≡ both (first_begun (map file_call calls.now) (files_on disks.old))) }
+fn begin_first(alloc: Global, disks: &mut Disks, calls: &[EventCall]) -> Result<(), Memory>
+    ensures { OnOk result (disks.new ≡ disks_in (first_begun (map file_call calls.now) (files_on disks.old))) }
 {
     match calls {
         [] => Ok(()),
-        [EventCall::Ledger(call), ..] => begin_call(&mut disks.ledger, call),
-        [EventCall::Store(call), ..] => begin_call(&mut disks.store, call),
+        [EventCall::Ledger(call), ..] => begin_call(alloc, &mut disks.ledger, call),
+        [EventCall::Store(call), ..] => begin_call(alloc, &mut disks.store, call),
     }
 }
 
 /// Makes these calls, one after another.
 pub fn do_calls(alloc: Global, disks: &mut Disks, calls: &[EventCall]) -> Result<(), Memory>
-    ensures { OnOk result (both (files_on disks.new) ≡ both (files_done (map file_call calls.now) (files_on disks.old))) }
+    ensures { OnOk result (disks.new ≡ called (map file_call calls.now) disks.old) }
 {
     for call in calls {
         do_event_call(alloc, disks, call)?;
@@ -186,7 +191,7 @@ pub fn make_first(
     calls: &[EventCall],
     number: u32,
 ) -> Result<(), Memory>
-    ensures { OnOk result (both (files_on disks.new) ≡ both (files_done (take number (map file_call calls.now)) (files_on disks.old))) }
+    ensures { OnOk result (disks.new ≡ called (take number (map file_call calls.now)) disks.old) }
 {
     let count = at_most(number, calls.len());
     do_calls(alloc, disks, &calls[..count])?;
@@ -210,11 +215,11 @@ pub fn fail_call(
     calls: &[EventCall],
     number: u32,
 ) -> Result<(), Memory>
-    ensures { OnOk result (both (files_on disks.new) ≡ both (failed_at number (map file_call calls.now) (files_on disks.old))) }
+    ensures { OnOk result (disks.new ≡ failed_at number (map file_call calls.now) disks.old) }
 {
     let before = calls_before(number, calls.len());
     do_calls(alloc, disks, &calls[..before])?;
-    begin_first(disks, &calls[before..])?;
+    begin_first(alloc, disks, &calls[before..])?;
     Ok(())
 }
 
@@ -233,11 +238,13 @@ fn is_outside(ranges: &[(usize, usize)], k: usize) -> bool
 pub fn is_image(disk: &Disk, image: &[u8]) -> bool
     ensures { IsTrue result ↔ IsImage (file_of disk.now) image.now }
 {
-    if image.len() < disk.base.len() || image.len() > disk.longest {
+    let base = disk.base.as_slice();
+    let ranges = disk.ranges.as_slice();
+    if image.len() < base.len() || image.len() > disk.longest {
         return false;
     }
-    for k in 0..disk.base.len() {
-        if is_outside(&disk.ranges, k) && image[k] != disk.base[k] {
+    for k in 0..base.len() {
+        if is_outside(ranges, k) && image[k] != base[k] {
             return false;
         }
     }

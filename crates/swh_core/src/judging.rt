@@ -1,7 +1,7 @@
 //! The verdict on a wish, with the device calls of its event.
 ghost use Rattle.std.specs.Prelude.{IfOk};
 ghost use Rattle.swh_model.specs.Happens.{IsSomeHistory};
-ghost use Rattle.swh_core.specs.Parts.{IsSomeWish, IsJudged};
+ghost use Rattle.swh_core.specs.Answers.{IsSomeWish, IsJudged};
 
 use crate::call::{EventCall, device_calls};
 use std::alloc::Global;

@@ -1,8 +1,8 @@
 //! What holds of every world, over every list of steps.
-ghost use Rattle.std.specs.Prelude.{◌≡◌, ◌++◌, ◌∷◌, [], Option, Some, Result, Ok, ℕ, List, length, take, slice_get};
+ghost use Rattle.std.specs.Prelude.{◌≡◌, ◌++◌, ◌∷◌, [], Some, Result, Ok, ℕ, List, length, take, slice_get};
 ghost use Rattle.std.specs.List.{AllByRecursion};
 ghost use Rattle.swh_base.specs.declared.kind.Kind.{Kind};
-ghost use Rattle.swh_outside.specs.Disk.{IsImage};
+ghost use Rattle.swh_outside.specs.Files.{EachImages};
 ghost use Rattle.swh_model.specs.declared.event.Event.{Event};
 ghost use Rattle.swh_model.specs.declared.event.Wish.{Wish};
 ghost use Rattle.swh_model.specs.declared.event.Outcome.{Outcome};
@@ -14,10 +14,10 @@ ghost use Rattle.swh_core.specs.declared.step.Step.TheVariants.{Apply, Look};
 ghost use Rattle.swh_core.specs.declared.step.Told.{Told};
 ghost use Rattle.swh_core.specs.declared.step.Told.TheVariants.{Done};
 ghost use Rattle.swh_core.specs.declared.step.StepFault.{StepFault};
-ghost use Rattle.swh_core.specs.World.{World, first_world, files_in};
-ghost use Rattle.swh_core.specs.Step.{IsWorldStep, IsMeant};
-ghost use Rattle.swh_core.specs.Kept.{IsFront, MayStand, IsWorld, IsLater, HasJoined};
-ghost use Rattle.swh_core.specs.Run.{IsRun};
+ghost use Rattle.swh_core.specs.declared.parts.Parts.{Parts as World};
+ghost use Rattle.swh_core.specs.World.{first_world, files_on};
+ghost use Rattle.swh_core.specs.Step.{Lets, IsWorldStep, IsRun, IsMeant};
+ghost use Rattle.swh_core.specs.Kept.{IsFront, MayStand, IsWorld, IsLater};
 
 /// A made, empty archive is a world.
 pub fn first_worlds_are_worlds()
@@ -42,8 +42,8 @@ pub fn worlds_are_sound()
     ensures kept { (id_of : Kind → List ℕ → List ℕ) (w : World) → IsWorld id_of w → IsFront w.kept w.history }
     ensures seen { (id_of : Kind → List ℕ → List ℕ) (w : World) → IsWorld id_of w
         → AllByRecursion (λ front. IsFront front w.history) w.seen }
-    ensures images { (id_of : Kind → List ℕ → List ℕ) (w : World) (ledger store : List ℕ) → IsWorld id_of w
-        → IsImage (files_in w 0) ledger → IsImage (files_in w 1) store → MayStand w.history w.doubt ledger store }
+    ensures images { (id_of : Kind → List ℕ → List ℕ) (w : World) → IsWorld id_of w
+        → EachImages (files_on w.disks) (MayStand w.history w.doubt) }
 {}
 
 /// What an actor sees begins with all that it had seen.
@@ -53,11 +53,12 @@ pub fn looks_go_on()
         → IsFront front (take w.shown w.history) }
 {}
 
-/// An event that was told to have happened is in the history after every later list of steps, crashes included.
+/// An event that was told to have happened is in the history, at its place, after every later list of steps, crashes
+/// included.
 pub fn acknowledged_events_stay()
     ensures { (id_of : Kind → List ℕ → List ℕ) (w mid w' : World) (actor : ℕ) (wish : Wish) (held : Held) (outcome : Outcome)
         (steps : List Step) (r : Result (List Told) StepFault) → IsWorld id_of w
         → IsMeant id_of (length w.seen) (Apply actor wish held) → IsWorldStep id_of w (Apply actor wish held) (Ok (Done outcome)) mid
         → AllByRecursion (IsMeant id_of (length mid.seen)) steps → IsRun id_of mid steps r w'
-        → HasJoined w actor wish outcome w' }
+        → (event : Event) × Lets w.history actor wish event outcome × IsFront (w.history ++ event ∷ []) w'.history }
 {}

@@ -1,10 +1,8 @@
 //! A world's parts, and what steps make of them. What fails midway is to be let go.
-ghost use Rattle.std.specs.Prelude.{◌≡◌, ◌<◌, [], IfOk, OnOk, map, length};
-ghost use Rattle.swh_core.specs.Calls.{failed_at, file_call};
+ghost use Rattle.std.specs.Prelude.{◌≡◌, ◌<◌, IfOk, OnOk, map, length};
 ghost use Rattle.swh_segment.specs.Calls.{calls_for};
 ghost use Rattle.swh_core.specs.World.{
   first_world,
-  files_in,
   longer,
   sees,
   all_shown,
@@ -12,63 +10,69 @@ ghost use Rattle.swh_core.specs.World.{
   in_doubt,
   reopened,
 };
-ghost use Rattle.swh_core.specs.Parts.{world_of};
+ghost use Rattle.swh_core.specs.Answers.{file_call};
 
 use crate::call::EventCall;
 use crate::copies::{copies_of, empty_lists, events_again, lists_again, maybe_again};
-use crate::disk::{Disks, disks_again, do_calls, fail_call, rested_disks};
+use crate::disk::{Disks, disks_again, disks_at_rest, do_calls, fail_call};
 use std::alloc::Global;
 use swh_base::{Items, Memory};
 use swh_model::Event;
 
+/// The archive between two steps.
 #[derive(Drop)]
 pub struct Parts {
-    pub history: Vec<Event>,
+    /// The events that happened, the oldest first.
+    pub history: Items<Event>,
+    /// How many of them are shown. The rest waits to be.
     pub shown: usize,
+    /// An event of which a device call failed: it may have happened, or not.
     pub doubt: Option<Event>,
     pub disks: Disks,
-    pub seen: Vec<Items<Event>>,
-    pub kept: Vec<Event>,
+    /// What each actor has seen.
+    pub seen: Items<Items<Event>>,
+    /// The longest list that any actor has seen, those that ended in a crash included.
+    pub kept: Items<Event>,
 }
 
 /// A made, empty archive, of which the actors have seen nothing.
 pub fn first_parts(alloc: Global, actors: u32) -> Result<Parts, Memory>
-    ensures { IfOk result (λ parts. world_of parts ≡ first_world actors) }
+    ensures { IfOk result (λ parts. parts ≡ first_world actors) }
 {
     let made: &[u8] = &[83, 87, 72, 65, 82, 67, 49, 10, 0];
     Ok(Parts {
-        history: Vec::new(alloc),
+        history: Items::from_vec(Vec::new(alloc)),
         shown: 0,
         doubt: None,
-        disks: rested_disks(alloc, made, &[])?,
+        disks: disks_at_rest(alloc, made, &[])?,
         seen: empty_lists(alloc, actors)?,
-        kept: Vec::new(alloc),
+        kept: Items::from_vec(Vec::new(alloc)),
     })
 }
 
 /// An equal world.
 pub fn parts_again(alloc: Global, parts: &Parts) -> Result<Parts, Memory>
-    ensures { IfOk result (λ copy. world_of copy ≡ world_of parts.now) }
+    ensures { IfOk result (λ copy. copy ≡ parts.now) }
 {
     Ok(Parts {
-        history: events_again(alloc, &parts.history)?,
+        history: events_again(alloc, parts.history.as_slice())?,
         shown: parts.shown,
         doubt: maybe_again(alloc, &parts.doubt)?,
         disks: disks_again(alloc, &parts.disks)?,
-        seen: lists_again(alloc, &parts.seen)?,
-        kept: events_again(alloc, &parts.kept)?,
+        seen: Items::from_vec(lists_again(alloc, parts.seen.as_slice())?),
+        kept: events_again(alloc, parts.kept.as_slice())?,
     })
 }
 
 /// Shows all that waited.
 pub fn show_all(parts: &mut Parts)
-    ensures { world_of parts.new ≡ all_shown (world_of parts.old) }
+    ensures { parts.new ≡ all_shown parts.old }
 {
-    parts.shown = parts.history.len();
+    parts.shown = parts.history.as_slice().len();
 }
 
-fn longer_of(alloc: Global, a: &[Event], b: &[Event]) -> Result<Vec<Event>, Memory>
-    ensures { IfOk result (λ list. list.items ≡ longer a.now b.now) }
+fn longer_of(alloc: Global, a: &[Event], b: &[Event]) -> Result<Items<Event>, Memory>
+    ensures { IfOk result (λ list. list ≡ longer a.now b.now) }
 {
     if a.len() <= b.len() {
         events_again(alloc, b)
@@ -78,12 +82,14 @@ fn longer_of(alloc: Global, a: &[Event], b: &[Event]) -> Result<Vec<Event>, Memo
 }
 
 /// Lets an actor see a front.
-pub fn see(alloc: Global, parts: &mut Parts, actor: u32, front: Vec<Event>) -> Result<(), Memory>
-    requires { actor < length parts.old.seen.items }
-    ensures { OnOk result (world_of parts.new ≡ sees actor front.items (world_of parts.old)) }
+pub fn see(alloc: Global, parts: &mut Parts, actor: u32, front: Items<Event>) -> Result<(), Memory>
+    requires { actor < length parts.old.seen }
+    ensures { OnOk result (parts.new ≡ sees actor front parts.old) }
 {
-    parts.kept = longer_of(alloc, &parts.kept, &front)?;
-    parts.seen[actor as usize] = Items::from_vec(front);
+    parts.kept = longer_of(alloc, parts.kept.as_slice(), front.as_slice())?;
+    let mut seen = lists_again(alloc, parts.seen.as_slice())?;
+    seen[actor as usize] = front;
+    parts.seen = Items::from_vec(seen);
     Ok(())
 }
 
@@ -94,8 +100,8 @@ pub fn join(
     event: Event,
     calls: &[EventCall],
 ) -> Result<(), Memory>
-    requires { map file_call calls.now ≡ calls_for parts.old.history.items event }
-    ensures { OnOk result (world_of parts.new ≡ joined event (world_of parts.old)) }
+    requires { map file_call calls.now ≡ calls_for parts.old.history event }
+    ensures { OnOk result (parts.new ≡ joined event parts.old) }
 {
     do_calls(alloc, &mut parts.disks, calls)?;
     parts.history.push(event)?;
@@ -110,9 +116,8 @@ pub fn leave_in_doubt(
     calls: &[EventCall],
     number: u32,
 ) -> Result<(), Memory>
-    requires { map file_call calls.now ≡ calls_for parts.old.history.items event }
-    ensures { OnOk result (world_of parts.new ≡ in_doubt event
-        (failed_at number (calls_for parts.old.history.items event) (files_in (world_of parts.old))) (world_of parts.old)) }
+    requires { map file_call calls.now ≡ calls_for parts.old.history event }
+    ensures { OnOk result (parts.new ≡ in_doubt event number parts.old) }
 {
     fail_call(alloc, &mut parts.disks, calls, number)?;
     parts.doubt = Some(event);
@@ -123,18 +128,19 @@ pub fn leave_in_doubt(
 pub fn reopen(
     alloc: Global,
     parts: &Parts,
-    history: Vec<Event>,
+    history: Items<Event>,
     ledger: &[u8],
     store: &[u8],
 ) -> Result<Parts, Memory>
-    ensures { IfOk result (λ new. world_of new ≡ reopened history.items ledger.now store.now (world_of parts.now)) }
+    ensures { IfOk result (λ new. new ≡ reopened history ledger.now store.now parts.now) }
 {
+    let events = history.as_slice();
     Ok(Parts {
-        shown: history.len(),
+        shown: events.len(),
         doubt: None,
-        disks: rested_disks(alloc, ledger, store)?,
-        seen: copies_of(alloc, &history, &parts.seen)?,
-        kept: longer_of(alloc, &parts.kept, &history)?,
+        disks: disks_at_rest(alloc, ledger, store)?,
+        seen: copies_of(alloc, events, parts.seen.as_slice())?,
+        kept: longer_of(alloc, parts.kept.as_slice(), events)?,
         history,
     })
 }

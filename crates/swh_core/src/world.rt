@@ -1,8 +1,7 @@
 //! The world, and its steps.
-ghost use Rattle.std.specs.Prelude.{◌≡◌, ◌<◌, ◌≤◌, Ok, Err, IfOk, IfErr, length};
+ghost use Rattle.std.specs.Prelude.{Ok, Err, IfOk, IfErr, length};
 ghost use Rattle.swh_core.specs.Step.{IsWorldStep, IsMeant};
 ghost use Rattle.swh_core.specs.Kept.{IsWorld};
-ghost use Rattle.swh_core.specs.Parts.{world_of};
 
 use crate::applying::{apply_step, fault_step, look_step};
 use crate::crashing::crash_step;
@@ -25,17 +24,14 @@ pub struct World<N: Namer> {
 }
 
 impl<N: Namer> Model for World<N> {
-    ghost use Rattle.swh_core.specs.World.{World, world_code};
-    ghost use Rattle.swh_core.specs.Parts.{world_of};
+    ghost use Rattle.swh_core.specs.declared.parts.Parts.{Parts};
     ghost use Rattle.swh_core.specs.Kept.{IsWorld};
 
-    ghost Value = { World };
+    ghost Value = { Parts };
 
-    ghost coded = { world_code };
+    ghost view = { λ w. w.parts };
 
-    ghost view = { λ w. world_of w.parts };
-
-    ghost invariant = { λ w. IsWorld N.id_of (world_of w.parts) };
+    ghost invariant = { λ w. IsWorld N.id_of w.parts };
 }
 
 fn take_step<N: Namer>(
@@ -44,10 +40,10 @@ fn take_step<N: Namer>(
     parts: &Parts,
     step: Step,
 ) -> Result<(Told, Parts), StepFault>
-    requires world { IsWorld N.id_of (world_of parts.now) }
-    requires meant { IsMeant N.id_of (length parts.now.seen.items) step }
-    ensures ok { IfOk result (λ r. IsWorldStep N.id_of (world_of parts.now) step (Ok r.0) (world_of r.1)) }
-    ensures err { IfErr result (λ f. IsWorldStep N.id_of (world_of parts.now) step (Err f) (world_of parts.now)) }
+    requires world { IsWorld N.id_of parts.now }
+    requires meant { IsMeant N.id_of (length parts.now.seen) step }
+    ensures ok { IfOk result (λ r. IsWorldStep N.id_of parts.now step (Ok r.0) r.1) }
+    ensures err { IfErr result (λ f. IsWorldStep N.id_of parts.now step (Err f) parts.now) }
 {
     match step {
         Step::Apply { actor, wish, held } => Ok(apply_step(alloc, parts, actor, &wish, held)?),
@@ -72,8 +68,7 @@ impl<N: Namer> World<N> {
     ghost use Rattle.std.specs.Prelude.{◌≡◌, Ok, Err, IfOk, IfErr, length};
     ghost use Rattle.std.specs.List.{AllByRecursion};
     ghost use Rattle.swh_core.specs.World.{first_world};
-    ghost use Rattle.swh_core.specs.Step.{IsWorldStep, IsMeant};
-    ghost use Rattle.swh_core.specs.Run.{IsRun};
+    ghost use Rattle.swh_core.specs.Step.{IsWorldStep, IsRun, IsMeant};
     ghost use Rattle.swh_core.specs.Kept.{IsWorld, IsLater};
 
     /// A made, empty archive, of which so many actors have seen nothing.
@@ -126,6 +121,6 @@ impl<N: Namer> World<N> {
         ensures value { result.now ≡ self.now.history }
         ensures kept { IsWorld N.id_of self.now }
     {
-        &self.parts.history
+        self.parts.history.as_slice()
     }
 }

@@ -12,5 +12,5 @@ returns c = record {
   shown = λ w. front_taken w.shown w.history;
   kept = λ id_of w k. kept_in id_of w k;
   seen = λ id_of w k. all_map (λ (f : List Event). IsFront f w.kept) (λ (f : List Event). IsFront f w.history) w.seen (λ f at. front_then f w.kept w.history at (kept_in id_of w k)) k.seen;
-  images = λ id_of w ledger store k. k.images ledger store;
+  images = λ id_of w k. k.images;
 }

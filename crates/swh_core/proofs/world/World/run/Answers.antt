@@ -1,5 +1,5 @@
 use Rattle.std.proofs.Common.{length, ap, arith}
-use Rattle.swh_core.proofs.Runs.{run_goes_on, run_stops, run_ends, none_left}
+use Rattle.swh_core.proofs.Runs.{no_room, run_goes_on, run_stops, run_ends, none_left}
 use Rattle.swh_core.proofs.world.World.run.Goals as goal
 
 pub steps-preserved : goal.steps-preserved
@@ -11,6 +11,9 @@ steps-preserved g c =
       so_far = rw items (run_goes_on g.N.Namer.id_of c.args.steps.items c.steps.left.items c.pop_front.new.self.items c.args.self.now c.steps.self c.steps.told.items c.in-Some.step c.in-Some.ensures.items i.so_far
           c.in-Ok-step.answer c.step.new.self c.in-Ok-step.ensures.step c.in-Ok-step.ensures.kept c.in-Ok-step.ensures.later);
     }
+
+pub returns-in-Err-clause-err : goal.returns-in-Err-clause-err
+returns-in-Err-clause-err g c = no_room g.N.Namer.id_of c.args.steps.items c.args.self.now
 
 pub returns-in-Err-step-clause-err : goal.returns-in-Err-step-clause-err
 returns-in-Err-step-clause-err g c =
