@@ -4,9 +4,9 @@
 //! Callers may rely on: an object is held under the name that its body has.
 #![tactic(auto)]
 
-mod chain;
 pub mod objects;
+mod revisions;
 mod shown;
 
-pub use chain::{Chain, chain};
+pub use revisions::{History, chain};
 pub use shown::{add, archive_of};

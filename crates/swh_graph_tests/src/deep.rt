@@ -8,7 +8,7 @@ use swh_replay::Replayed;
 
 /// An archive, and the name of the folder that was added last to it.
 #[derive(Drop)]
-struct Folders {
+struct Deep {
     shown: Replayed,
     last: Name,
 }
@@ -29,14 +29,14 @@ fn added(alloc: Global, shown: &mut Replayed, body: Vec<u8>) -> Result<Name, Fai
 }
 
 /// An empty folder, and so many more, each with the one before as its entry.
-fn folders(alloc: Global, count: u32) -> Result<Folders, Fail> {
+fn folders(alloc: Global, count: u32) -> Result<Deep, Fail> {
     let mut shown = Replayed::new(alloc);
     let mut last = added(alloc, &mut shown, Vec::new(alloc))?;
     for _ in 0..count {
         let body = folder_body(alloc, &last)?;
         last = added(alloc, &mut shown, body)?;
     }
-    Ok(Folders { shown, last })
+    Ok(Deep { shown, last })
 }
 
 /// How long the log of a history of 300,000 revisions is, and how many names are reached.

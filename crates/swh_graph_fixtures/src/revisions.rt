@@ -6,7 +6,7 @@ use swh_replay::Replayed;
 
 /// What is in memory of an archive with a chain of revisions, and the name of the last of them.
 #[derive(Drop)]
-pub struct Chain {
+pub struct History {
     pub shown: Replayed,
     pub last: Name,
 }
@@ -34,11 +34,7 @@ fn next_body(alloc: Global, folder: &Name, parent: &Name) -> Result<Vec<u8>, All
 }
 
 /// Adds the revision of a body that could be made, and answers its name.
-fn added(
-    alloc: Global,
-    shown: &mut Replayed,
-    body: Result<Vec<u8>, AllocError>,
-) -> Option<Name> {
+fn added(alloc: Global, shown: &mut Replayed, body: Result<Vec<u8>, AllocError>) -> Option<Name> {
     match body {
         Ok(body) => add(alloc, shown, Kind::Revision, body),
         Err(_) => None,
@@ -47,7 +43,7 @@ fn added(
 
 /// A revision without parents and so many more, each the child of the one before, and all of an empty folder; none where
 /// memory runs out.
-pub fn chain(alloc: Global, more: u32) -> Option<Chain> {
+pub fn chain(alloc: Global, more: u32) -> Option<History> {
     let mut shown = Replayed::new(alloc);
     let Some(folder) = add(alloc, &mut shown, Kind::Directory, Vec::new(alloc)) else {
         return None;
@@ -61,5 +57,5 @@ pub fn chain(alloc: Global, more: u32) -> Option<Chain> {
         };
         last = next;
     }
-    Some(Chain { shown, last })
+    Some(History { shown, last })
 }
