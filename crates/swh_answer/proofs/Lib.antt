@@ -4,3 +4,4 @@ pub mod Values
 pub mod Names
 pub mod IdTexts
 pub mod Unique
+pub mod Listed

@@ -1,7 +1,6 @@
 -- That there is one reply.
 use Rattle.std.proofs.Common.{◌≡◌, inl, inr, ℕ, List, [], ◌∷◌, refl, sym, ap, ap₂, ◌∙◌}
 use Rattle.std.specs.List.{AllByRecursion}
-use Rattle.json.specs.Token as token
 use Rattle.serde_json.specs.Data.{Data}
 use Rattle.swh_base.specs.declared.name.Name.{Name}
 use Rattle.swh_base.specs.declared.request.Reply.{Reply}

@@ -8,7 +8,6 @@ use Rattle.serde_json.specs.View.{view, items_of}
 use Rattle.serde_json.specs.declared.value.Value.{Value}
 use Rattle.serde_json.specs.Written.{has_float, items_have_float, members_have_float}
 use Rattle.swh_base.specs.declared.name.Name.{Name}
-use Rattle.swh_base.specs.Directory.{DirectoryEntry}
 use Rattle.swh_base.specs.Escape.{escaped}
 use Rattle.swh_base.specs.Revision.{Revision}
 use Rattle.swh_base.specs.Snapshot.{BranchTarget, ToObject, ToBranch, ToNothing, SnapshotBranch}
@@ -18,7 +17,7 @@ use Rattle.swh_model.specs.Archive.{Bodies}
 use Rattle.swh_snpfmt.specs.declared.branch.SpelledBranch.{SpelledBranch}
 use Rattle.swh_snpfmt.specs.Branches.{branch_of, branches_in_body, target_spelled}
 use Rattle.swh_swhid.specs.Core.{core_text}
-use Rattle.swh_answer.specs.Json.{id_data, optional_id_data, visit_data, visits_data, revision_data, log_data, entry_data, directory_data, target_data, branches_data, snapshot_data, is_known_data, known_data, members_data}
+use Rattle.swh_answer.specs.Json.{id_data, optional_id_data, visit_data, visits_data, revision_data, log_data, target_data, branches_data, snapshot_data, is_known_data, known_data, members_data}
 
 -- ---- lists
 
@@ -97,9 +96,6 @@ revision-no_float id r = rw (items-no_float id_data r.parents (λ x. refl))
 
 pub log-no_float : (names : List Name) → has_float (log_data names) ≡ false
 log-no_float names = items-no_float (λ (n : Name). id_data n.id) names (λ x. refl)
-
-pub directory-no_float : (entries : List DirectoryEntry) → has_float (directory_data entries) ≡ false
-directory-no_float entries = items-no_float entry_data entries (λ x. refl)
 
 target-no_float : (target : BranchTarget) → has_float (target_data target) ≡ false
 target-no_float (ToObject n) = refl

@@ -3,3 +3,4 @@ pub mod Json
 pub mod Known
 pub mod Steps
 pub mod Answers
+pub mod Writes

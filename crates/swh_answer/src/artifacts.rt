@@ -3,17 +3,17 @@ ghost use Rattle.std.specs.Prelude.{◌≡◌, IfOk, OnOk};
 ghost use Rattle.serde_json.specs.Data.{object, put as put_member};
 ghost use Rattle.serde_json.specs.View.{view, members_view};
 ghost use Rattle.swh_base.specs.Escape.{escaped};
-ghost use Rattle.swh_dirfmt.specs.Entries.{entry_view, entries_in_body};
+ghost use Rattle.swh_dirfmt.specs.Entries.{entry_view};
 ghost use Rattle.swh_revfmt.specs.Reading.{revision_spelled, release_spelled};
 ghost use Rattle.swh_snpfmt.specs.Branches.{target_spelled, branches_in_body};
-ghost use Rattle.swh_answer.specs.Json.{revision_data, log_data, release_data, entry_data, directory_data, target_data, target_members, branches_data, snapshot_data, content_data, resolved_data};
+ghost use Rattle.swh_answer.specs.Json.{revision_data, log_data, release_data, entry_data, target_data, target_members, branches_data, snapshot_data, content_data, resolved_data};
 
 use crate::value::{id_value, ids_value, text_value};
 use crate::words::{core_string, entry_type, perms_of, word_of_kind};
 use serde_json::{Map, Value, json, put};
 use std::alloc::{AllocError, Global};
 use swh_base::{Name, escape};
-use swh_dirfmt::{DirEntry, SpelledEntry};
+use swh_dirfmt::DirEntry;
 use swh_revfmt::{SpelledRel, SpelledRev};
 use swh_snpfmt::{SpelledBranch, SpelledTarget};
 
@@ -59,33 +59,15 @@ pub fn release_value(
     json!(in alloc; {"id": own, "name": name, "rest": rest, "target": target, "target_type": kind})
 }
 
-fn entry_object(alloc: Global, mode: u32, name: &[u8], id: &[u8; 20]) -> Result<Value, AllocError>
-    ensures { IfOk result (λ value. view value
-        ≡ entry_data (record { mode = mode; name = name.now; id = id.now })) }
-{
-    let name = text_value(alloc, name)?;
-    let target = id_value(alloc, id)?;
-    let perms = perms_of(mode);
-    let kind = entry_type(mode);
-    json!(in alloc; {"name": name, "perms": perms, "target": target, "type": kind})
-}
-
 /// An entry of a directory, by itself.
 pub fn entry_value(alloc: Global, entry: &DirEntry) -> Result<Value, AllocError>
     ensures { IfOk result (λ value. view value ≡ entry_data (entry_view entry.now)) }
 {
-    entry_object(alloc, entry.mode, entry.name.as_slice(), &entry.id)
-}
-
-/// The entries of a directory, in their order.
-pub fn directory_value(alloc: Global, entries: &[SpelledEntry<'_>]) -> Result<Value, AllocError>
-    ensures { IfOk result (λ value. view value ≡ directory_data (entries_in_body entries.now)) }
-{
-    let mut values = Vec::new(alloc);
-    for entry in entries {
-        values.push(entry_object(alloc, entry.mode, entry.name, entry.id)?)?;
-    }
-    Ok(Value::Array(values))
+    let name = text_value(alloc, entry.name.as_slice())?;
+    let target = id_value(alloc, &entry.id)?;
+    let perms = perms_of(entry.mode);
+    let kind = entry_type(entry.mode);
+    json!(in alloc; {"name": name, "perms": perms, "target": target, "type": kind})
 }
 
 fn target_object(alloc: Global, target: Value, kind: &str) -> Result<Value, AllocError>

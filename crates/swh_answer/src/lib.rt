@@ -6,6 +6,7 @@
 
 mod artifacts;
 mod asked;
+mod entries;
 mod known;
 mod laws;
 mod replies;
@@ -14,15 +15,16 @@ mod visits;
 mod words;
 
 pub use artifacts::{
-    content_value, directory_value, entry_value, log_value, release_value, resolved_value,
-    revision_value, snapshot_value,
+    content_value, entry_value, log_value, release_value, resolved_value, revision_value,
+    snapshot_value,
 };
 pub use asked::{Asked, read_path};
-pub use known::{known_value, listed_names};
+pub use entries::entries_reply;
+pub use known::listed_names;
 pub use laws::one_shape;
 pub use replies::{
-    content_reply, core_of, id_of, known_reply, no_path, not_held, origin_reply, raw_reply,
-    refusal, url_of, visits_reply,
+    content_reply, id_of, known_reply, no_path, not_held, origin_reply, raw_reply, refusal, url_of,
+    visits_reply,
 };
 pub use value::json_reply;
-pub use visits::{origin_value, visits_value};
+pub use visits::visits_value;

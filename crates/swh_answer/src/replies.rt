@@ -143,8 +143,8 @@ pub fn id_of(kind: Kind, text: &[u8]) -> Option<Name>
     Name::from_hex(kind, text)
 }
 
-/// The name whose core identifier a text in a path is; none where it is none.
-pub fn core_of(text: &[u8]) -> Option<Name>
+// The name whose core identifier a text in a path is; none where it is none.
+fn core_of(text: &[u8]) -> Option<Name>
     ensures some { IfSome result (SpellsCore text.now) }
     ensures none { IfNone result (NoCore text.now) }
 {

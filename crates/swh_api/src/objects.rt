@@ -14,7 +14,7 @@ ghost use Rattle.swh_api.specs.Fault.{IsFaultReply};
 use percent_encoding::percent_decode;
 use std::alloc::Global;
 use swh_answer::{
-    directory_value, entry_value, id_of, json_reply, log_value, no_path, not_held, refusal,
+    entries_reply, entry_value, id_of, json_reply, log_value, no_path, not_held, refusal,
     release_value, resolved_value, revision_value, snapshot_value,
 };
 use swh_base::{Kind, Memory, Reply};
@@ -98,8 +98,7 @@ pub fn directory_reply<L: Look>(alloc: Global, look: &L, text: &[u8]) -> Result<
         Ok(entries) => entries,
         Err(fault) => return fault_reply(alloc, fault),
     };
-    let value = directory_value(alloc, entries.as_slice())?;
-    json_reply(alloc, 200, &value)
+    entries_reply(alloc, entries.as_slice())
 }
 
 /// The reply with the entry to which a path leads, percent-decoded, from the directory whose id a text is.

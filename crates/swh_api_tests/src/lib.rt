@@ -11,6 +11,8 @@ mod artifacts;
 #[cfg(test)]
 mod lists;
 #[cfg(test)]
+mod logs;
+#[cfg(test)]
 mod requests;
 #[cfg(test)]
 mod wire;

@@ -3,30 +3,14 @@ use std::alloc::{AllocError, Global};
 use std::test::Fail;
 use swh_base::{Kind, Name};
 use swh_graph::{at_path, log, reach};
-use swh_graph_fixtures::add;
+use swh_graph_fixtures::{add, chain};
 use swh_replay::Replayed;
 
-/// An archive, and the name of what was added last to it.
+/// An archive, and the name of the folder that was added last to it.
 #[derive(Drop)]
 struct Deep {
     shown: Replayed,
     last: Name,
-}
-
-fn push_line(body: &mut Vec<u8>, word: &[u8], name: &Name) -> Result<(), AllocError> {
-    let mut digits = [0; 40];
-    name.hex(&mut digits);
-    body.extend_from_slice(word)?;
-    body.extend_from_slice(&digits)?;
-    body.extend_from_slice(b"\n")
-}
-
-/// A revision of this folder, with this parent.
-fn revision_body(alloc: Global, folder: &Name, parent: &Name) -> Result<Vec<u8>, AllocError> {
-    let mut body = Vec::new(alloc);
-    push_line(&mut body, b"tree ", folder)?;
-    push_line(&mut body, b"parent ", parent)?;
-    Ok(body)
 }
 
 /// A folder whose one entry `a` is this folder.
@@ -36,42 +20,30 @@ fn folder_body(alloc: Global, below: &Name) -> Result<Vec<u8>, AllocError> {
     Ok(body)
 }
 
-/// Adds an object, and answers its name.
-fn added(alloc: Global, shown: &mut Replayed, kind: Kind, body: Vec<u8>) -> Result<Name, Fail> {
-    match add(alloc, shown, kind, body) {
+/// Adds a folder, and answers its name.
+fn added(alloc: Global, shown: &mut Replayed, body: Vec<u8>) -> Result<Name, Fail> {
+    match add(alloc, shown, Kind::Directory, body) {
         Some(name) => Ok(name),
-        None => Err(Fail::from("an object")),
+        None => Err(Fail::from("a folder")),
     }
-}
-
-/// A revision without parents, and so many more, each the child of the one before.
-fn history(alloc: Global, count: u32) -> Result<Deep, Fail> {
-    let mut shown = Replayed::new(alloc);
-    let folder = added(alloc, &mut shown, Kind::Directory, Vec::new(alloc))?;
-    let mut body = Vec::new(alloc);
-    push_line(&mut body, b"tree ", &folder)?;
-    let mut last = added(alloc, &mut shown, Kind::Revision, body)?;
-    for _ in 0..count {
-        let body = revision_body(alloc, &folder, &last)?;
-        last = added(alloc, &mut shown, Kind::Revision, body)?;
-    }
-    Ok(Deep { shown, last })
 }
 
 /// An empty folder, and so many more, each with the one before as its entry.
 fn folders(alloc: Global, count: u32) -> Result<Deep, Fail> {
     let mut shown = Replayed::new(alloc);
-    let mut last = added(alloc, &mut shown, Kind::Directory, Vec::new(alloc))?;
+    let mut last = added(alloc, &mut shown, Vec::new(alloc))?;
     for _ in 0..count {
         let body = folder_body(alloc, &last)?;
-        last = added(alloc, &mut shown, Kind::Directory, body)?;
+        last = added(alloc, &mut shown, body)?;
     }
     Ok(Deep { shown, last })
 }
 
 /// How long the log of a history of 300,000 revisions is, and how many names are reached.
 fn lengths(alloc: Global) -> Result<(usize, usize), Fail> {
-    let deep = history(alloc, 299_999)?;
+    let Some(deep) = chain(alloc, 299_999) else {
+        return Err(Fail::from("a chain"));
+    };
     let Ok(names) = log(alloc, &deep.shown, deep.last.id, u32::MAX) else {
         return Err(Fail::from("a log"));
     };

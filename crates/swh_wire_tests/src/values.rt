@@ -2,10 +2,10 @@
 use std::alloc::Global;
 use std::test::Fail;
 use swh_answer::{
-    content_value, directory_value, log_value, release_value, resolved_value, revision_value,
+    content_value, entries_reply, log_value, release_value, resolved_value, revision_value,
     snapshot_value,
 };
-use swh_base::{Kind, Memory, Name};
+use swh_base::{Bytes, Kind, Memory, Name};
 use swh_dirfmt::spelled_dir;
 use swh_revfmt::{spelled_rel, spelled_rev};
 use swh_snpfmt::spelled_snp;
@@ -88,11 +88,11 @@ parent 2222222222222222222222222222222222222222\nparent 111111111111111111111111
 ];
 
 // What is written of a body of a kind; none where it is no such body.
-fn written(alloc: Global, kind: Kind, body: &[u8]) -> Result<Option<String>, Memory> {
+fn written(alloc: Global, kind: Kind, body: &[u8]) -> Result<Option<Bytes>, Memory> {
     let value = match kind {
         Kind::Content => content_value(alloc, &Name { kind, id: ONES }, body)?,
         Kind::Directory => match spelled_dir(alloc, body) {
-            Ok(entries) => directory_value(alloc, entries.as_slice())?,
+            Ok(entries) => return Ok(Some(entries_reply(alloc, entries.as_slice())?.body)),
             Err(_) => return Ok(None),
         },
         Kind::Revision => match spelled_rev(alloc, body) {
@@ -108,12 +108,12 @@ fn written(alloc: Global, kind: Kind, body: &[u8]) -> Result<Option<String>, Mem
             Err(_) => return Ok(None),
         },
     };
-    Ok(Some(value.to_string(alloc)?))
+    Ok(Some(Bytes::from_vec(value.to_string(alloc)?.into_bytes())))
 }
 
 fn is_written(alloc: Global, kind: Kind, body: &[u8], text: &[u8]) -> Result<bool, Memory> {
     Ok(match written(alloc, kind, body)? {
-        Some(found) => found.as_bytes() == text,
+        Some(found) => found.as_slice() == text,
         None => false,
     })
 }

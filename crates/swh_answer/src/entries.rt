@@ -1,0 +1,53 @@
+// The entries of a directory as JSON, written one after another: a tree of a long directory takes much more memory and time.
+ghost use Rattle.std.specs.Prelude.{◌≡◌, IfOk, OnOk};
+ghost use Rattle.serde_json.specs.Written.{compact_text};
+ghost use Rattle.swh_dirfmt.specs.Entries.{entry_of, entries_in_body};
+ghost use Rattle.swh_answer.specs.Json.{entry_data, directory_data, tree_reply};
+ghost use Rattle.swh_answer.specs.Writes.{WritesValue};
+
+use crate::words::{entry_type, perms_of};
+use json::Writer;
+use std::alloc::{AllocError, Global};
+use swh_base::{Bytes, Memory, Reply, escape};
+use swh_dirfmt::SpelledEntry;
+
+fn put_entry(alloc: Global, writer: &mut Writer, entry: &SpelledEntry<'_>) -> Result<(), AllocError>
+    ensures { OnOk result (WritesValue writer.old (entry_data (entry_of entry.now)) writer.new) }
+{
+    let name = escape(alloc, entry.name)?;
+    let target = hex::encode(alloc, entry.id)?;
+    writer.begin_object()?;
+    writer.key("name")?;
+    writer.string(name.as_str())?;
+    writer.key("perms")?;
+    writer.u64(perms_of(entry.mode) as u64)?;
+    writer.key("target")?;
+    writer.string(target.as_str())?;
+    writer.key("type")?;
+    writer.string(entry_type(entry.mode))?;
+    writer.end_object()
+}
+
+fn directory_text(alloc: Global, entries: &[SpelledEntry<'_>]) -> Result<Vec<u8>, AllocError>
+    ensures { IfOk result (λ text. text.items ≡ compact_text (directory_data (entries_in_body entries.now))) }
+{
+    let mut writer = Writer::new(Vec::new(alloc));
+    writer.begin_array()?;
+    for entry in entries {
+        put_entry(alloc, &mut writer, entry)?;
+    }
+    writer.end_array()?;
+    Ok(writer.into_inner())
+}
+
+/// The reply with the entries of a directory, in their order.
+pub fn entries_reply(alloc: Global, entries: &[SpelledEntry<'_>]) -> Result<Reply, Memory>
+    ensures { IfOk result (λ reply. reply ≡ tree_reply 200 (directory_data (entries_in_body entries.now))) }
+{
+    let text = directory_text(alloc, entries)?;
+    Ok(Reply {
+        status: 200,
+        json: true,
+        body: Bytes::from_vec(text),
+    })
+}
