@@ -1,22 +1,9 @@
 -- The parts in memory of which nothing is told, and how often they failed.
-use Rattle.std.specs.Prelude.{ℕ, List, string_bytes}
+use Rattle.std.specs.Prelude.{ℕ}
 use Rattle.swh_memory_failures.specs.Tally.{Tally}
-use Rattle.swh_memory_input.specs.declared.folder.MemoryFolder.{MemoryFolder}
 use Rattle.swh_memory_input.specs.declared.yard.MemoryYard.{MemoryYard}
 use Rattle.swh_memory_input.specs.declared.link.MemoryLink.{MemoryLink}
 use Rattle.swh_memory_input.specs.declared.doors.MemoryDoors.{MemoryDoors}
-
--- where the folder was opened
-abbrev pub folder_path : MemoryFolder → List ℕ
-folder_path folder = string_bytes folder.path
-
--- what is kept of the folder's calls
-abbrev pub folder_tally : MemoryFolder → Tally
-folder_tally folder = folder.failures
-
--- how often the folder has failed
-abbrev pub folder_faults : MemoryFolder → ℕ
-folder_faults folder = folder.failures.faults
 
 -- what is kept of the yard's calls
 abbrev pub yard_tally : MemoryYard → Tally

@@ -1,4 +1,5 @@
 pub mod Failing
+pub mod Folders
 pub mod Inputs
 pub mod Outside
 pub mod Parts

@@ -4,6 +4,9 @@ use Rattle.std.specs.Str.{bytes_eq}
 use Rattle.swh_outside.specs.Firsts.{first_or}
 use Rattle.swh_outside.specs.Counts.{count_at, is_counted}
 use Rattle.swh_memory_failures.specs.Tally.{Tally, fresh_tally}
+use Rattle.swh_outside.specs.Folder.{Tree}
+use Rattle.swh_memory_input.specs.Folders.{tree_at}
+use Rattle.swh_memory_input.specs.declared.folder_input.FolderInput.{FolderInput}
 use Rattle.swh_memory_input.specs.declared.input.Input.{Input}
 use Rattle.swh_memory_input.specs.declared.origins.MemoryOrigins.{MemoryOrigins}
 
@@ -34,6 +37,14 @@ origin_inputs origins = origins.inputs.items
 -- the bytes at each path
 abbrev pub origin_files : MemoryOrigins → List ℕ → Option (List ℕ)
 origin_files origins = input_at origins.inputs.items
+
+-- the folders that it was made with
+abbrev pub origin_folder_inputs : MemoryOrigins → List FolderInput
+origin_folder_inputs origins = origins.folders.items
+
+-- what the folder at each path holds
+abbrev pub origin_folders : MemoryOrigins → List ℕ → Option Tree
+origin_folders origins = tree_at origins.folders.items
 
 -- which of its openings are to fail, and how often it failed
 abbrev pub origin_tally : MemoryOrigins → Tally

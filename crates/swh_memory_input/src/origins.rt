@@ -1,6 +1,7 @@
 // Origins in memory.
 ghost use Rattle.std.specs.Prelude.{◌≡◌, ◌≢◌, ◌<◌, ◌≤◌, [], false, List, ℕ, None, Some, length, IfOk};
 ghost use Rattle.std.specs.List.{position_or_len};
+ghost use Rattle.swh_memory_input.specs.Folders.{is_folder_for, tree_at, folder_made_at, folder_places, folder_tree, folder_path, folder_tally, folder_faults};
 ghost use Rattle.swh_memory_input.specs.Outside.{is_for, input_at, made_at};
 ghost use Rattle.swh_memory_input.specs.Inputs.{
   source_left,
@@ -12,16 +13,17 @@ ghost use Rattle.swh_memory_input.specs.Inputs.{
   source_faults,
 };
 
-use crate::{Input, MemoryFolder, MemorySource};
+use crate::{FolderInput, Input, MemoryFolder, MemorySource};
 use std::alloc::{AllocError, Global};
 use swh_memory_failures::Failures;
 use swh_outside::{Opened, Origins, PathCounts};
 
-/// Files outside, by their paths. No folder opens: such a call fails and is counted.
+/// Files and folders outside, by their paths.
 #[derive(Drop)]
 pub struct MemoryOrigins {
     alloc: Global,
     inputs: Vec<Input>,
+    folders: Vec<FolderInput>,
     failures: Failures,
     counts: PathCounts,
 }
@@ -31,7 +33,9 @@ impl MemoryOrigins {
     ghost use Rattle.swh_memory_failures.specs.Answers.{with_given_back};
     ghost use Rattle.swh_memory_input.specs.Outside.{
       origin_files,
+      origin_folders,
       origin_inputs,
+      origin_folder_inputs,
       origin_tally,
       origin_faults,
       origin_path_faults,
@@ -39,11 +43,31 @@ impl MemoryOrigins {
     };
     ghost use Rattle.swh_memory_failures.specs.Tally.{fresh_tally, refused};
 
-    /// Origins with these inputs. Of two at one path the first counts. Openings with the listed numbers, from 0, will
-    /// fail.
+    /// Origins with these inputs, and no folders. Of two at one path the first counts. Openings with the listed numbers,
+    /// from 0, will fail.
     pub fn new(alloc: Global, inputs: Vec<Input>, failing: Vec<u64>) -> Self
         ensures files { (path : List ℕ) → origin_files result path ≡ input_at inputs.items path }
+        ensures folders { (path : List ℕ) → origin_folders result path ≡ None }
         ensures inputs { origin_inputs result ≡ inputs.items }
+        ensures failing { origin_tally result ≡ fresh_tally failing.items }
+        ensures no_fault { origin_faults result ≡ 0 }
+        ensures no_path_fault { (path : List ℕ) → origin_path_faults result path ≡ 0 }
+    {
+        MemoryOrigins::with_folders(alloc, inputs, Vec::new(alloc), failing)
+    }
+
+    /// Origins with these inputs and folders. Of two files at one path the first counts, and so of two folders.
+    /// Openings with the listed numbers, from 0, will fail.
+    pub fn with_folders(
+        alloc: Global,
+        inputs: Vec<Input>,
+        folders: Vec<FolderInput>,
+        failing: Vec<u64>,
+    ) -> Self
+        ensures files { (path : List ℕ) → origin_files result path ≡ input_at inputs.items path }
+        ensures folders { (path : List ℕ) → origin_folders result path ≡ tree_at folders.items path }
+        ensures inputs { origin_inputs result ≡ inputs.items }
+        ensures folder_inputs { origin_folder_inputs result ≡ folders.items }
         ensures failing { origin_tally result ≡ fresh_tally failing.items }
         ensures no_fault { origin_faults result ≡ 0 }
         ensures no_path_fault { (path : List ℕ) → origin_path_faults result path ≡ 0 }
@@ -51,6 +75,7 @@ impl MemoryOrigins {
         MemoryOrigins {
             alloc,
             inputs,
+            folders,
             failures: Failures::at(failing),
             counts: PathCounts::new(alloc),
         }
@@ -73,7 +98,9 @@ impl MemoryOrigins {
     // Counts a failure at a path.
     fn refuse(&mut self, path: &str)
         ensures files { (p : List ℕ) → origin_files self.new p ≡ origin_files self.old p }
+        ensures folders { (p : List ℕ) → origin_folders self.new p ≡ origin_folders self.old p }
         ensures inputs { origin_inputs self.new ≡ origin_inputs self.old }
+        ensures folder_inputs { origin_folder_inputs self.new ≡ origin_folder_inputs self.old }
         ensures counted { origin_tally self.new ≡ refused (origin_tally self.old) }
         ensures later { origin_faults self.old ≤ origin_faults self.new }
         ensures path_later { (p : List ℕ) → origin_path_faults self.old p ≤ origin_path_faults self.new p }
@@ -91,7 +118,9 @@ impl MemoryOrigins {
     // Counts once, at its path, what is given back, where it has failed.
     fn take_back(&mut self, faults: u64, path: &str)
         ensures files { (p : List ℕ) → origin_files self.new p ≡ origin_files self.old p }
+        ensures folders { (p : List ℕ) → origin_folders self.new p ≡ origin_folders self.old p }
         ensures inputs { origin_inputs self.new ≡ origin_inputs self.old }
+        ensures folder_inputs { origin_folder_inputs self.new ≡ origin_folder_inputs self.old }
         ensures counted { origin_tally self.new ≡ with_given_back faults (origin_tally self.old) }
         ensures later { origin_faults self.old ≤ origin_faults self.new }
         ensures path_later { (p : List ℕ) → origin_path_faults self.old p ≤ origin_path_faults self.new p }
@@ -115,10 +144,11 @@ impl Origins for MemoryOrigins {
     ghost use Rattle.swh_outside.specs.Faults.{Rose, one_more};
     ghost use Rattle.swh_outside.specs.Opened.{IfFound, IsNotFound, IsFailed, UnlessFailed, UnlessMemory};
     ghost use Rattle.swh_memory_failures.specs.Answers.{opening_failed, with_given_back};
-    ghost use Rattle.swh_memory_input.specs.Failing.{folder_path, folder_faults};
     ghost use Rattle.swh_memory_input.specs.Outside.{
       origin_files,
+      origin_folders,
       origin_inputs,
+      origin_folder_inputs,
       origin_tally,
       origin_faults,
       origin_path_faults,
@@ -134,7 +164,7 @@ impl Origins for MemoryOrigins {
 
     ghost file_at = { origin_files };
 
-    ghost folder_at = { λ _ _. None };
+    ghost folder_at = { origin_folders };
 
     ghost faults = { origin_faults };
 
@@ -153,6 +183,7 @@ impl Origins for MemoryOrigins {
         ensures not_ended { IfFound result (λ source. source_ended source ≡ false) }
 
         ensures same_files { (p : List ℕ) → origin_files self.new p ≡ origin_files self.old p }
+        ensures same_folders { (p : List ℕ) → origin_folders self.new p ≡ origin_folders self.old p }
         ensures later { origin_faults self.old ≤ origin_faults self.new }
         ensures path_later { (p : List ℕ) → origin_path_faults self.old p ≤ origin_path_faults self.new p }
         ensures cause { IsFailed result → Rose (origin_faults self.old) (origin_faults self.new) }
@@ -170,6 +201,7 @@ impl Origins for MemoryOrigins {
 
         ensures fails { UnlessMemory result (opening_failed result ≡ is_next_listed (origin_tally self.old)) }
         ensures inputs { origin_inputs self.new ≡ origin_inputs self.old }
+        ensures folder_inputs { origin_folder_inputs self.new ≡ origin_folder_inputs self.old }
         ensures counted { origin_tally self.new ≡ tallied (opening_failed result) (origin_tally self.old) }
     {
         let fails = self.failures.next_fails();
@@ -191,11 +223,20 @@ impl Origins for MemoryOrigins {
     }
 
     fn folder(&mut self, path: &str) -> Opened<MemoryFolder>
-        ensures fails { UnlessMemory result (IsFailed result) }
+        ensures found { IfFound result (λ folder. origin_folders self.old path.now ≡ Some (folder_tree folder)) }
+        ensures absent { IsNotFound result → origin_folders self.old path.now ≡ None }
+        ensures folder_path { IfFound result (λ folder. folder_path folder ≡ path.now) }
+        ensures no_fault { IfFound result (λ folder. folder_faults folder ≡ 0) }
+        ensures made { IfFound result (λ folder. folder_made_at (origin_folder_inputs self.old) path.now
+            ≡ Some (folder_places folder, folder_tally folder)) }
+
+        ensures fails { UnlessMemory result (opening_failed result ≡ is_next_listed (origin_tally self.old)) }
         ensures inputs { origin_inputs self.new ≡ origin_inputs self.old }
+        ensures folder_inputs { origin_folder_inputs self.new ≡ origin_folder_inputs self.old }
         ensures counted { origin_tally self.new ≡ tallied (opening_failed result) (origin_tally self.old) }
 
         ensures same_files { (p : List ℕ) → origin_files self.new p ≡ origin_files self.old p }
+        ensures same_folders { (p : List ℕ) → origin_folders self.new p ≡ origin_folders self.old p }
         ensures later { origin_faults self.old ≤ origin_faults self.new }
         ensures path_later { (p : List ℕ) → origin_path_faults self.old p ≤ origin_path_faults self.new p }
         ensures cause { IsFailed result → Rose (origin_faults self.old) (origin_faults self.new) }
@@ -211,17 +252,29 @@ impl Origins for MemoryOrigins {
         ensures place { UnlessMemory result (has_origin_place self.new path.now) }
         ensures places { (p : List ℕ) → has_origin_place self.old p → has_origin_place self.new p }
     {
-        let _ = self.failures.next_fails();
+        let fails = self.failures.next_fails();
         if self.counts.place(path).is_err() {
             return Opened::Memory;
         }
-        self.refuse(path);
-        Opened::Failed
+        if fails {
+            self.refuse(path);
+            return Opened::Failed;
+        }
+        let i = find_folder(&self.folders, path);
+        if i == self.folders.len() {
+            return Opened::NotFound;
+        }
+        match open_folder(self.alloc, &self.folders, i, path) {
+            Ok(folder) => Opened::Found(folder),
+            Err(_) => Opened::Memory,
+        }
     }
 
     fn back(&mut self, source: MemorySource)
         ensures same_files { (p : List ℕ) → origin_files self.new p ≡ origin_files self.old p }
+        ensures same_folders { (p : List ℕ) → origin_folders self.new p ≡ origin_folders self.old p }
         ensures inputs { origin_inputs self.new ≡ origin_inputs self.old }
+        ensures folder_inputs { origin_folder_inputs self.new ≡ origin_folder_inputs self.old }
         ensures counted { origin_tally self.new ≡ with_given_back (source_faults source) (origin_tally self.old) }
         ensures path_counted { 0 < source_faults source
             → origin_path_faults self.new (source_path source)
@@ -245,7 +298,9 @@ impl Origins for MemoryOrigins {
 
     fn back_folder(&mut self, folder: MemoryFolder)
         ensures same_files { (p : List ℕ) → origin_files self.new p ≡ origin_files self.old p }
+        ensures same_folders { (p : List ℕ) → origin_folders self.new p ≡ origin_folders self.old p }
         ensures inputs { origin_inputs self.new ≡ origin_inputs self.old }
+        ensures folder_inputs { origin_folder_inputs self.new ≡ origin_folder_inputs self.old }
         ensures counted { origin_tally self.new ≡ with_given_back (folder_faults folder) (origin_tally self.old) }
         ensures path_counted { 0 < folder_faults folder
             → origin_path_faults self.new (folder_path folder)
@@ -303,4 +358,39 @@ fn open_input(
     let bytes = input.bytes.to_vec(alloc)?;
     let failing = input.failing.to_vec(alloc)?;
     Ok(MemorySource::new(name, bytes, input.piece, failing))
+}
+
+// The number of the first folder at a path, or of folders.
+fn find_folder(folders: &[FolderInput], path: &str) -> usize
+    ensures first { result ≡ position_or_len (is_folder_for path.now) folders.now }
+    ensures within { result ≤ length folders.now }
+{
+    for (i, folder) in folders.iter().enumerate() {
+        if folder.is_for(path) {
+            return i;
+        }
+    }
+    folders.len()
+}
+
+// The first folder at a path. Its places are shared.
+fn open_folder(
+    alloc: Global,
+    folders: &[FolderInput],
+    i: usize,
+    path: &str,
+) -> Result<MemoryFolder, AllocError>
+    requires found { i ≡ position_or_len (is_folder_for path.now) folders.now }
+    requires inside { i < length folders.now }
+    ensures holds { IfOk result (λ folder. tree_at folders.now path.now ≡ Some (folder_tree folder)) }
+    ensures path { IfOk result (λ folder. folder_path folder ≡ path.now) }
+    ensures no_fault { IfOk result (λ folder. folder_faults folder ≡ 0) }
+    ensures made { IfOk result (λ folder. folder_made_at folders.now path.now
+        ≡ Some (folder_places folder, folder_tally folder)) }
+{
+    let folder = &folders[i];
+    let name = String::from_str(alloc, path)?;
+    let places = folder.places.clone()?;
+    let failing = folder.failing.to_vec(alloc)?;
+    Ok(MemoryFolder::new(alloc, name, places, failing))
 }

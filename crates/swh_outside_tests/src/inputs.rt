@@ -55,11 +55,11 @@ fn openings_end_so(origins: &mut MemoryOrigins) -> bool {
     matches!(&origins.file("in"), Opened::Found(_))
         && matches!(&origins.file("out"), Opened::NotFound)
         && matches!(&origins.file("in"), Opened::Failed)
-        && matches!(&origins.folder("out"), Opened::Failed)
+        && matches!(&origins.folder("out"), Opened::NotFound)
 }
 
 fn are_counted(origins: &MemoryOrigins) -> bool {
-    origins.path_faults("in") == 1 && origins.path_faults("out") == 1 && origins.faults() == 2
+    origins.path_faults("in") == 1 && origins.path_faults("out") == 0 && origins.faults() == 1
 }
 
 #[test]

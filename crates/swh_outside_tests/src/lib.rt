@@ -1,5 +1,5 @@
-//! Tests of the outside over memory: counts of faults by path, disks with what a crash leaves of them, depots, inputs, and
-//! disks that fall short.
+//! Tests of the outside over memory: counts of faults by path, disks with what a crash leaves of them, depots, inputs and
+//! folders, and disks that fall short.
 //! Stands on the outside and its fakes.
 //! Nothing stands above it.
 #![tactic(auto)]
@@ -8,6 +8,8 @@
 mod depots;
 #[cfg(test)]
 mod disks;
+#[cfg(test)]
+mod folders;
 #[cfg(test)]
 mod images;
 #[cfg(test)]

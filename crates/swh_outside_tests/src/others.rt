@@ -1,10 +1,8 @@
 // The other parts in memory.
 use std::alloc::Global;
 use std::test::Fail;
-use swh_memory::{
-    MemoryClock, MemoryDoors, MemoryFolder, MemoryGate, MemoryLink, MemorySink, MemoryYard,
-};
-use swh_outside::{Clock, Doors, Failed, Folder, Gate, OutFault, Sink, Source, Yard};
+use swh_memory::{MemoryClock, MemoryDoors, MemoryGate, MemoryLink, MemorySink, MemoryYard};
+use swh_outside::{Clock, Doors, Failed, Gate, OutFault, Sink, Source, Yard};
 
 #[test]
 fn a_gate_counts_its_calls(rt: HostRuntime) {
@@ -57,10 +55,6 @@ fn a_clock_stands(rt: HostRuntime) -> Result<(), Fail> {
     Ok(())
 }
 
-fn folder_fails(alloc: Global, mut folder: MemoryFolder) -> bool {
-    folder.list(alloc, "").is_err() && folder.read("a").is_err() && folder.faults() == 2
-}
-
 fn yard_fails(mut yard: MemoryYard) -> bool {
     yard.folder("a") == Err(OutFault::Failed)
         && yard.file("b") == Err(OutFault::Failed)
@@ -69,12 +63,8 @@ fn yard_fails(mut yard: MemoryYard) -> bool {
 }
 
 #[test]
-fn folders_and_yards_fail(rt: HostRuntime) -> Result<(), Fail> {
-    let alloc = rt.alloc();
-    let folder = MemoryFolder::new(alloc, String::from_str(alloc, "in")?);
-    assert!(rt; folder_fails(alloc, folder));
-    assert!(rt; yard_fails(MemoryYard::new(alloc)));
-    Ok(())
+fn a_yard_fails(rt: HostRuntime) {
+    assert!(rt; yard_fails(MemoryYard::new(rt.alloc())));
 }
 
 fn link_fails(link: &mut MemoryLink) -> bool {

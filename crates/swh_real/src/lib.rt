@@ -1,5 +1,5 @@
 //! The outside over files, standard output and the clock: the trusted edge.
-//! Stands on `swh_outside` and `libc`.
+//! Stands on `swh_outside`, `swh_folder_names` and `libc`.
 //! Callers may rely on: each part's count of faults, which rises where the system refuses, and the bounds on lengths;
 //! what a file really holds no part tells.
 #![tactic(auto)]
@@ -11,6 +11,7 @@ mod disk;
 mod doors;
 mod folder;
 mod forgetting;
+mod items;
 mod link;
 mod opening;
 mod origins;

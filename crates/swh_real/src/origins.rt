@@ -1,17 +1,18 @@
-// Files of the system as inputs.
+// Files and folders of the system as inputs.
 ghost use Rattle.std.specs.Prelude.{◌≡◌, ◌≢◌, ◌≤◌, List, ℕ};
 
 use crate::count::Count;
 use crate::{RealFolder, RealSource};
-use std::alloc::Global;
+use std::alloc::{AllocError, Global};
 use std::fs::File;
 use std::io::ErrorKind;
 use std::marker::Model;
 use std::rt::Files;
+use std::{fs, io};
 use swh_outside::{Opened, Origins, PathCounts};
 
-/// Inputs in the file system. No folder opens: such a call fails and is counted. A contract sees the count of faults
-/// and those of the paths.
+/// Inputs in the file system. What stands at a path and is no folder fails to open as one. A contract sees the count of
+/// faults and those of the paths.
 #[derive(Drop)]
 pub struct RealOrigins<R: Files<File = File> + Drop> {
     rt: R,
@@ -76,13 +77,13 @@ impl<R: Files<File = File> + Drop> RealOrigins<R> {
     }
 }
 
-impl<R: Files<File = File> + Drop + Send> Origins for RealOrigins<R> {
+impl<R: Files<File = File> + AllocGlobal + Clone + Drop + Send> Origins for RealOrigins<R> {
     ghost use Rattle.std.specs.Prelude.{None};
     ghost use Rattle.swh_outside.specs.Counts.{count_at, is_counted};
 
     type S = RealSource;
 
-    type F = RealFolder;
+    type F = RealFolder<R>;
 
     ghost tells = { ⊥ };
 
@@ -113,12 +114,23 @@ impl<R: Files<File = File> + Drop + Send> Origins for RealOrigins<R> {
         }
     }
 
-    fn folder(&mut self, path: &str) -> Opened<RealFolder> {
+    fn folder(&mut self, path: &str) -> Opened<RealFolder<R>> {
         if self.counts.place(path).is_err() {
             return Opened::Memory;
         }
-        self.refuse(path);
-        Opened::Failed
+        let name = String::from_str(self.alloc, path);
+        let rt: Result<R, AllocError> = self.rt.clone();
+        let (Ok(name), Ok(rt)) = (name, rt) else {
+            return Opened::Memory;
+        };
+        match is_folder(&self.rt, path) {
+            Ok(true) => Opened::Found(RealFolder::new(rt, self.alloc, name)),
+            Err(fault) if is_absence(fault.kind()) => Opened::NotFound,
+            _ => {
+                self.refuse(path);
+                Opened::Failed
+            }
+        }
     }
 
     fn back(&mut self, source: RealSource) {
@@ -127,11 +139,16 @@ impl<R: Files<File = File> + Drop + Send> Origins for RealOrigins<R> {
         }
     }
 
-    fn back_folder(&mut self, folder: RealFolder) {
+    fn back_folder(&mut self, folder: RealFolder<R>) {
         if folder.faults() > 0 {
             self.refuse(folder.path());
         }
     }
+}
+
+// Whether a folder stands at a path, or a link to one.
+fn is_folder<R: Files>(rt: &R, path: &str) -> io::Result<bool> {
+    Ok(fs::metadata(rt, path)?.is_dir())
 }
 
 // Nothing stands at a path that does not lead on either: one of its folders is absent, or is no folder.

@@ -21,7 +21,9 @@ enum Act {
     EndsAsTheSystem,
     // It is opened, a read fails, and it is given back.
     IsUnread,
-    // It is opened as a folder.
+    // It is opened as a folder and given back, nothing stands there, or it is no folder.
+    OpensAsFolder,
+    IsNoPlace,
     FailsAsFolder,
     // How often it failed, and how often anything did.
     Faults(u64),
@@ -77,9 +79,22 @@ fn ends_as_the_system(rt: &HostRuntime, origins: &mut HostOrigins, path: &str) -
     }
 }
 
+fn opens_as_folder(origins: &mut HostOrigins, path: &str) -> bool {
+    match origins.folder(path) {
+        Opened::Found(folder) => {
+            let here = folder.path() == path && folder.faults() == 0;
+            origins.back_folder(folder);
+            here
+        }
+        Opened::NotFound | Opened::Failed | Opened::Memory => false,
+    }
+}
+
 fn does(rt: &HostRuntime, origins: &mut HostOrigins, path: &str, act: Act) -> bool {
     match act {
         EndsAsTheSystem => ends_as_the_system(rt, origins, path),
+        OpensAsFolder => opens_as_folder(origins, path),
+        IsNoPlace => matches!(&origins.folder(path), Opened::NotFound),
         FailsAsFolder => matches!(&origins.folder(path), Opened::Failed),
         Faults(faults) => origins.path_faults(path) == faults,
         AllFaults(faults) => origins.faults() == faults,
@@ -172,12 +187,38 @@ const UNREAD: &[Row] = &[
     (".", AllFaults(1)),
     (".", Faults(1)),
     ("elsewhere", Faults(0)),
-    (".", FailsAsFolder),
-    (".", Faults(2)),
 ];
 
 /// A folder opens as an input, and no byte of it is read.
 #[test]
 fn a_read_that_fails_is_counted(rt: HostRuntime) -> Result<(), Fail> {
     all_done_anew(&rt, "reads", &[], UNREAD)
+}
+
+const FOLDERS: &[Laid] = &[
+    ("d", Thing::Folder),
+    ("f", Thing::File(b"abc")),
+    ("link", Thing::Link("d")),
+    ("knot", Thing::Link("knot")),
+];
+
+const OPENED_AS_FOLDERS: &[Row] = &[
+    (".", OpensAsFolder),
+    ("d", OpensAsFolder),
+    ("link", OpensAsFolder),
+    ("absent", IsNoPlace),
+    ("f/more", IsNoPlace),
+    (".", AllFaults(0)),
+    ("f", FailsAsFolder),
+    ("f", Faults(1)),
+    ("knot", FailsAsFolder),
+    ("knot", Faults(1)),
+    ("d", Faults(0)),
+    (".", AllFaults(2)),
+];
+
+/// The path of an input may be a link to a folder.
+#[test]
+fn folders_are_opened(rt: HostRuntime) -> Result<(), Fail> {
+    all_done_anew(&rt, "folder_inputs", FOLDERS, OPENED_AS_FOLDERS)
 }

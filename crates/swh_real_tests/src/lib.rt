@@ -6,6 +6,8 @@
 #[cfg(test)]
 mod disks;
 #[cfg(test)]
+mod folders;
+#[cfg(test)]
 mod inputs;
 #[cfg(test)]
 mod others;

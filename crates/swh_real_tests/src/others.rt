@@ -1,11 +1,10 @@
 // The clock, the sink, and the parts whose calls fail.
 use crate::rooms::{clear, fresh_room, is_file, path_in};
-use std::alloc::Global;
 use std::fs::File;
 use std::test::Fail;
 use std::time::{SystemTime, UNIX_EPOCH};
-use swh_outside::{Clock, Doors, Failed, Folder, OutFault, Sink, Source, Yard};
-use swh_real::{RealClock, RealDoors, RealFolder, RealLink, RealSink, RealYard};
+use swh_outside::{Clock, Doors, Failed, OutFault, Sink, Source, Yard};
+use swh_real::{RealClock, RealDoors, RealLink, RealSink, RealYard};
 
 // Whole seconds since 1970, as the library says them; none where it says none.
 fn seconds(rt: &HostRuntime) -> Option<u64> {
@@ -96,15 +95,4 @@ fn links_and_doors_fail(rt: HostRuntime) {
     let mut link = RealLink::new();
     let mut doors = RealDoors::new();
     assert!(rt; link_fails(&mut link) && doors_fail(&mut doors, link));
-}
-
-fn folder_fails(alloc: Global, folder: &mut RealFolder) -> bool {
-    folder.list(alloc, "").is_err() && folder.read("a").is_err() && folder.faults() == 2
-}
-
-#[test]
-fn a_folder_fails(rt: HostRuntime) -> Result<(), Fail> {
-    let mut folder = RealFolder::new(String::from_str(rt.alloc(), "in")?);
-    assert!(rt; folder_fails(rt.alloc(), &mut folder));
-    Ok(())
 }
