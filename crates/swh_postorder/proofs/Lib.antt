@@ -1,0 +1,2 @@
+pub mod Trips
+pub mod Walks
