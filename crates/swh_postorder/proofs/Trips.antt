@@ -1,8 +1,8 @@
 -- Trips that begin by passing names, and what is left to do of a walk from the names that it is inside of.
-use Rattle.std.proofs.Common.{◌≡◌, ◌⊎◌, inl, inr, ℕ, ◌<◌, Option, Some, None, List, [], ◌∷◌, ◌++◌, length, map, refl, sym, ap, ◌∙◌, subst, arith, append_assoc}
+use Rattle.std.proofs.Common.{◌≡◌, ◌⊎◌, inl, inr, zero, suc, Option, Some, None, List, [], ◌∷◌, ◌++◌, map, refl, sym, ap, ◌∙◌, subst, arith, append_assoc}
 use Rattle.std.specs.Prelude.{Contains}
 use Rattle.std.proofs.lemmas.List.{append-nil}
-use Rattle.std.proofs.lemmas.List.Elements.{Contains-append_left, Contains-append_right}
+use Rattle.std.proofs.lemmas.List.Elements.{Contains-append_right, Contains-append_cases}
 use Rattle.swh_base.specs.declared.name.Name.{Name}
 use Rattle.swh_postorder.specs.Postorder.{Trip, Over, Passes, Enters, left_in, IsEntered, Stop, Here, Inside, IsTrip, ComesTo, StopsAt}
 
@@ -14,6 +14,13 @@ first_in x xs = (0, omega arith, refl)
 
 pub later_in : {X : Type 0} → (x : X) (xs : List X) (y : X) → Contains xs y → Contains (x ∷ xs) y
 later_in x xs y there = Contains-append_right (x ∷ []) xs y there
+
+pub only : {X : Type 0} → (x y : X) → Contains (x ∷ []) y → x ≡ y
+only x y (zero, less, is) = is
+only x y (suc k, less, is) = absurd (omega (arith, less))
+
+pub in_cases : {X : Type 0} → (x : X) (xs : List X) (y : X) → Contains (x ∷ xs) y → (x ≡ y) ⊎ Contains xs y
+in_cases x xs y there = elim (Contains-append_cases (x ∷ []) xs y there) [ inl is ↦ inl (only x y is) | inr later ↦ inr later ]
 
 -- a trip that first passes these names
 abbrev pub passing : List Name → Trip → Trip
@@ -38,7 +45,7 @@ names_of levels = map (λ l. l.0) levels
 assoc : (left a b : List Name) (k n : Name) → (left ++ (a ++ k ∷ [])) ++ (b ++ n ∷ []) ≡ left ++ ((a ++ k ∷ b) ++ n ∷ [])
 assoc left a b k n = simp append_assoc
 
-assoc_end : (left a b : List Name) (k : Name) → (left ++ (a ++ k ∷ [])) ++ b ≡ left ++ (a ++ k ∷ b)
+pub assoc_end : (left a b : List Name) (k : Name) → (left ++ (a ++ k ∷ [])) ++ b ≡ left ++ (a ++ k ∷ b)
 assoc_end left a b k = simp append_assoc
 
 module _ (children_of : Name → Option (List Name)) where

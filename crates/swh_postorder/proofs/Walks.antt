@@ -1,5 +1,5 @@
 -- How far a walk has come, and what each of its steps does.
-use Rattle.std.proofs.Common.{◌≡◌, ◌⊎◌, inl, inr, ℕ, zero, suc, ◌+◌, ◌*◌, ◌<◌, ◌≤◌, Option, Some, None, List, [], ◌∷◌, ◌++◌, length, map, refl, sym, ap, ◌∙◌, subst, arith, append_assoc, length-append}
+use Rattle.std.proofs.Common.{◌≡◌, ◌⊎◌, inl, inr, ℕ, ◌+◌, ◌*◌, Option, Some, None, List, [], ◌∷◌, ◌++◌, length, map, refl, sym, ap, ◌∙◌, subst, arith, append_assoc, length-append}
 use Rattle.std.specs.Prelude.{Contains, ◌↔◌, reverse, Result, IfErr}
 use Rattle.std.specs.Result.{IsErrAnd}
 use Rattle.std.proofs.lemmas.Result.{err_from_is_err_and}
@@ -8,11 +8,11 @@ use Rattle.std.proofs.lemmas.List.Elements.{Contains-append_left, Contains-appen
 use Rattle.swh_base.specs.declared.name.Name.{Name}
 use Rattle.swh_postorder.specs.declared.walk.Frame.{Frame}
 use Rattle.swh_postorder.specs.declared.walk.Walk.{Walk}
-use Rattle.swh_postorder.specs.Postorder.{Trip, Over, Enters, left_in, IsEntered, Stop, Here, Inside, IsTrip, StopsAt, IsPostorder, IsFirstMissing}
+use Rattle.swh_postorder.specs.Postorder.{Over, Enters, IsEntered, Here, Inside, IsPostorder, IsFirstMissing}
 use Rattle.swh_postorder.specs.Walk.{HasEntered, CannotEnter, IsFirstFresh, GoesOn, StopsIn, CannotGoOn, ExplainsOrder}
 use Rattle.swh_postorder.specs.declared.fault.OrderFault.{OrderFault}
 use Rattle.swh_postorder.specs.declared.fault.OrderFault.TheVariants.{NotHeld, Memory}
-use Rattle.swh_postorder.proofs.Trips.{none_in, first_in, later_in, Level, names_of, AreEntered, Completes, Misses, leaves_whole, leaves_gap, stops_here, enters_whole, enters_gap, passing, stops_inside}
+use Rattle.swh_postorder.proofs.Trips.{none_in, only, first_in, later_in, Level, names_of, Completes, Misses, leaves_whole, leaves_gap, stops_here, enters_whole, enters_gap, passing, stops_inside}
 
 -- how a call ends that hands a fault on
 pub refused : {T E : Type 0} (r : Result T E) (P : E → Type 0) (x : E) → IsErrAnd r (λ y. y ≡ x) → P x → IfErr r P
@@ -30,10 +30,6 @@ levels_push fs f = ap (λ (l : List Frame). map level_of l) (reverse-append fs (
 
 levels_push_two : (fs : List Frame) (f g : Frame) → levels_of (fs ++ f ∷ g ∷ []) ≡ level_of g ∷ level_of f ∷ levels_of fs
 levels_push_two fs f g = ap (λ (l : List Frame). map level_of l) (reverse-append fs (f ∷ g ∷ []))
-
-only : {X : Type 0} → (x y : X) → Contains (x ∷ []) y → x ≡ y
-only x y (zero, less, is) = is
-only x y (suc k, less, is) = absurd (omega (arith, less))
 
 -- the names that were entered are those of the levels, and those that were left
 abbrev pub AreKnown : List Name → List Level → List Name → Type 0

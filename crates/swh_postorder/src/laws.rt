@@ -1,11 +1,8 @@
 //! What the definition of the order determines.
 ghost use Rattle.std.specs.Prelude.{◌≡◌, ◌↔◌, None, List, Option, Contains};
-ghost use Rattle.std.specs.List.{IsDistinct};
-ghost use Rattle.std.specs.Ordering.{eq_by_cmp};
 ghost use Rattle.swh_base.specs.declared.name.Name.{Name};
-ghost use Rattle.swh_base.specs.Name.{name_cmp};
 ghost use Rattle.swh_base.specs.Reach.{IsChildIn, IsClosedIn, ReachesIn};
-ghost use Rattle.swh_postorder.specs.Postorder.{IsPostorder, IsFirstMissing, PrecedesOrReturns};
+ghost use Rattle.swh_postorder.specs.Postorder.{IsPostorder, IsFirstMissing, Precedes, PrecedesOrReturns};
 
 /// A root has one order at most.
 pub fn one_postorder()
@@ -36,7 +33,7 @@ pub fn order_is_reached()
     ensures are { (children_of : Name → Option (List Name)) (root : Name) (order : List Name)
         → IsPostorder children_of root order → (n : Name) → Contains order n ↔ ReachesIn children_of root n }
     ensures once { (children_of : Name → Option (List Name)) (root : Name) (order : List Name)
-        → IsPostorder children_of root order → IsDistinct (eq_by_cmp name_cmp) order }
+        → IsPostorder children_of root order → (n : Name) → Precedes order n n → ⊥ }
     ensures closed { (children_of : Name → Option (List Name)) (root : Name) (order : List Name)
         → IsPostorder children_of root order → IsClosedIn children_of root }
 {}

@@ -1,4 +1,4 @@
-use Rattle.std.proofs.Common.{◌≡◌, ◌+◌, ◌-◌, ◌≤◌, true, false, List, [], ◌∷◌, ◌++◌, length, get_or, take, drop, sym, ap, ◌∙◌, arith, length-drop, drop-cons, add-one}
+use Rattle.std.proofs.Common.{◌≡◌, ◌+◌, ◌-◌, true, false, List, [], ◌∷◌, ◌++◌, length, get_or, take, drop, sym, ap, ◌∙◌, arith, length-drop, drop-cons, add-one}
 use Rattle.std.proofs.lemmas.List.{take-append-drop, take_all}
 use Rattle.swh_base.specs.declared.kind.Kind.TheVariants.{Content}
 use Rattle.swh_base.specs.declared.name.Name.{Name}
@@ -11,7 +11,7 @@ returns-then-not-contains-clause-some c =
     let place = c.loop-place.place in
     let within = c.loop-place-test.true in
     let rest : take (length names - (place + 1)) (drop (place + 1) names) ≡ drop (place + 1) names =
-        take_all (length names - (place + 1)) (drop (place + 1) names) (omega (arith, length-drop (place + 1) names)) in
+    take_all (length names - (place + 1)) (drop (place + 1) names) (omega (arith, length-drop (place + 1) names)) in
     let one : drop place names ≡ get_or names place none ∷ drop (place + 1) names = rw (add-one, drop-cons names place none) in
     record {
       front = take place names;

@@ -1,8 +1,7 @@
-use Rattle.std.proofs.Common.{◌≡◌, List, [], ◌∷◌, ◌++◌, inl, inr, refl, sym, ap, ◌∙◌, append_assoc}
+use Rattle.std.proofs.Common.{refl}
 use Rattle.std.proofs.lemmas.Result.{on_ok_weaker, IfErr-weaker}
-use Rattle.swh_postorder.specs.declared.fault.OrderFault.{OrderFault}
 use Rattle.swh_postorder.specs.declared.walk.Frame.{Frame}
-use Rattle.swh_postorder.specs.Walk.{HasEntered, CannotEnter, GoesOn, CannotGoOn}
+use Rattle.swh_postorder.specs.Walk.{CannotEnter, CannotGoOn}
 use Rattle.swh_postorder.proofs.Walks.{goes_in_child, stops_in_child}
 use Rattle.swh_postorder.proofs.walking.go_on.Goals as goal
 

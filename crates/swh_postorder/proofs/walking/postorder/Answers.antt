@@ -1,4 +1,4 @@
-use Rattle.std.proofs.Common.{◌≡◌, ℕ, ◌-◌, ◌<◌, List, [], ◌∷◌, ◌++◌, Some, take, refl, sym, ap, ◌∙◌, subst, arith, option_to_list}
+use Rattle.std.proofs.Common.{ℕ, ◌-◌, List, [], ◌++◌, take, ap, ◌∙◌, arith}
 use Rattle.swh_postorder.specs.declared.walk.Frame.{Frame}
 use Rattle.swh_postorder.specs.declared.walk.Walk.{Walk}
 use Rattle.swh_postorder.proofs.Walks.{entered_root, cannot_enter_root, cannot_go_on, refused, walk_goes_on, walk_ends}
