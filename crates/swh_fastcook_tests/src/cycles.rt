@@ -1,0 +1,84 @@
+//! Folders that are reached from themselves, which the naming by small sums allows.
+use std::alloc::Global;
+use std::test::Fail;
+use swh_base::{ByteNamer, Kind, Name};
+use swh_object::Object;
+use swh_postorder::postorder;
+use swh_replay::Replayed;
+
+/// Twenty bytes, of which the last is this.
+const fn id(last: u8) -> [u8; 20] {
+    [
+        0, 0, 0, 0, 0, 0, 0, 0, 0, 0, 0, 0, 0, 0, 0, 0, 0, 0, 0, last,
+    ]
+}
+
+/// Folders with the last byte of the id that the sum of their bytes gives them: one whose entry is itself, and two of
+/// which each is the entry of the other.
+const FOLDERS: &[(u8, &[u8])] = &[
+    (0, b"40000 vv\0\0\0\0\0\0\0\0\0\0\0\0\0\0\0\0\0\0\0\0\0"),
+    (1, b"40000 v\0\0\0\0\0\0\0\0\0\0\0\0\0\0\0\0\0\0\0\0\x77"),
+    (0x77, b"40000 b\0\0\0\0\0\0\0\0\0\0\0\0\0\0\0\0\0\0\0\0\x01"),
+];
+
+/// Roots, and the order in which the walk from each leaves names.
+const ORDERS: &[(u8, &[u8])] = &[(0, &[0]), (1, &[0x77, 1]), (0x77, &[1, 0x77])];
+
+fn folder_name(last: u8) -> Name {
+    let kind = Kind::Directory;
+    Name { kind, id: id(last) }
+}
+
+fn add_folder(alloc: Global, shown: &mut Replayed, last: u8, body: &[u8]) -> Result<(), Fail> {
+    let body = body.to_vec(alloc)?;
+    let Ok(object) = Object::make(alloc, &ByteNamer, Kind::Directory, body) else {
+        return Err(Fail::from("a folder"));
+    };
+    if object.name() != folder_name(last) {
+        return Err(Fail::from("the name of a folder"));
+    }
+    match shown.store.add(&[object.into_entry()]) {
+        Ok(_) => Ok(()),
+        Err(_) => Err(Fail::from("a new name")),
+    }
+}
+
+fn folders(alloc: Global) -> Result<Replayed, Fail> {
+    let mut shown = Replayed::new(alloc);
+    for (last, body) in FOLDERS {
+        add_folder(alloc, &mut shown, *last, body)?;
+    }
+    Ok(shown)
+}
+
+fn are_left(names: &[Name], lasts: &[u8]) -> bool {
+    if names.len() != lasts.len() {
+        return false;
+    }
+    for (name, last) in names.iter().zip(lasts) {
+        if *name != folder_name(*last) {
+            return false;
+        }
+    }
+    true
+}
+
+/// The number of the first root with another order, or how many there are.
+fn first_other(alloc: Global) -> Result<usize, Fail> {
+    let shown = folders(alloc)?;
+    for (number, (root, lasts)) in ORDERS.iter().enumerate() {
+        let Ok(names) = postorder(alloc, &shown, folder_name(*root)) else {
+            return Ok(number);
+        };
+        if !are_left(names.as_slice(), lasts) {
+            return Ok(number);
+        }
+    }
+    Ok(ORDERS.len())
+}
+
+#[test]
+fn a_cycle_is_entered_once(rt: HostRuntime) -> Result<(), Fail> {
+    assert_eq!(rt; first_other(rt.alloc())?, ORDERS.len());
+    Ok(())
+}

@@ -1,0 +1,12 @@
+//! Tests of the order in which a walk leaves names: over objects that git named, in cycles, and over a long history, a deep
+//! folder and a wide snapshot.
+//! Stands on the walk, and on the objects that tests of reading share.
+//! Nothing stands above it.
+#![tactic(auto)]
+
+#[cfg(test)]
+mod cycles;
+#[cfg(test)]
+mod deep;
+#[cfg(test)]
+mod orders;

@@ -1,0 +1,4 @@
+pub mod Orders
+pub mod Stops
+pub mod Trips
+pub mod Walks

@@ -1,0 +1,18 @@
+//! The order in which a walk over a graph of names leaves them, depth first: each is entered once, and left after its
+//! children. It takes no recursion, so that a path of any length is walked.
+//! Stands on `swh_base` and `swh_closure`.
+//! Callers may rely on: there is one order, or one name that is the first entered and not held; the order has each name
+//! that is reached, once, and a child comes before its parent unless it leads back to it.
+#![tactic(auto)]
+
+mod fault;
+mod laws;
+mod walk;
+mod walking;
+
+pub use fault::OrderFault;
+pub use laws::{
+    children_precede, missing_names_are_reached, one_missing, one_postorder, order_is_reached,
+    order_or_missing,
+};
+pub use walking::postorder;
