@@ -1,4 +1,4 @@
-// What a request asks for.
+// Requests that are answered, and those that load.
 
 use swh_base::Url;
 

@@ -22,7 +22,7 @@ pub fn one_entry()
         → IsEntryAnswer bodies root components a → IsEntryAnswer bodies root components b → a ≡ b }
 {}
 
-/// So does a path.
+/// A path leads to one entry, or fails to in one way.
 pub fn one_path()
     ensures { (bodies : Bodies) (root : Name) (path : List ℕ) (a b : GraphAnswer DirectoryEntry)
         → IsPathAnswer bodies root path a → IsPathAnswer bodies root path b → a ≡ b }

@@ -21,7 +21,7 @@ pub struct Arrival<'a> {
     pub number: u64,
 }
 
-/// What an entry leads to.
+/// The object that an entry leads to.
 pub fn target_of(entry: &SpelledEntry<'_>) -> Name
     ensures { result ≡ target_of (entry_of entry.now) }
 {

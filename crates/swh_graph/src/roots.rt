@@ -50,7 +50,7 @@ fn target_of_head<L: Look>(alloc: Global, look: &L, name: Name) -> Result<Option
     Ok(head)
 }
 
-/// The name whose root is that of this name.
+/// Where a name leads on its way to a root; none where it leads nowhere.
 fn next_of<L: Look>(alloc: Global, look: &L, name: Name) -> Result<Option<Name>, GraphFault>
     ensures ok { IfOk result (LeadsNext (HasRootOf (L.archive look.now).bodies name)
         (L.archive look.now).bodies name) }
