@@ -10,7 +10,7 @@ use Rattle.swh_core.specs.declared.disk.Disk.{Disk}
 use Rattle.swh_core.specs.declared.disk.Disks.{Disks}
 use Rattle.swh_core.specs.declared.parts.Parts.{Parts as World}
 
--- a file of a world, with no call that was made on it
+-- a world's file as the disk model has it, of which no call is remembered
 abbrev pub file_of : Disk → File
 file_of d = record { base = d.base; ranges = d.ranges; longest = d.longest; seen = d.seen; calls = [] }
 
@@ -18,7 +18,7 @@ file_of d = record { base = d.base; ranges = d.ranges; longest = d.longest; seen
 abbrev pub files_on : Disks → Files
 files_on disks = files_of (file_of disks.ledger) (file_of disks.store)
 
--- a file as a world has it: all but the calls that were made on it
+-- and back: all but the calls that were made on it
 abbrev pub disk_of : File → Disk
 disk_of f = record { base = f.base; ranges = f.ranges; longest = f.longest; seen = f.seen }
 

@@ -16,6 +16,7 @@ use crate::call::EventCall;
 use crate::copies::{copies_of, empty_lists, events_again, lists_again, maybe_again};
 use crate::disk::{Disks, disks_again, disks_at_rest, do_calls, fail_call};
 use std::alloc::Global;
+use std::mem;
 use swh_base::{Items, Memory};
 use swh_model::Event;
 
@@ -87,7 +88,8 @@ pub fn see(alloc: Global, parts: &mut Parts, actor: u32, front: Items<Event>) ->
     ensures { OnOk result (parts.new ≡ sees actor front parts.old) }
 {
     parts.kept = longer_of(alloc, parts.kept.as_slice(), front.as_slice())?;
-    let mut seen = lists_again(alloc, parts.seen.as_slice())?;
+    let before = mem::replace(&mut parts.seen, Items::from_vec(Vec::new(alloc)));
+    let mut seen = before.into_vec();
     seen[actor as usize] = front;
     parts.seen = Items::from_vec(seen);
     Ok(())
