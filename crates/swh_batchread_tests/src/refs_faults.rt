@@ -166,7 +166,12 @@ fn lacks(rt: &impl Abort, alloc: Global, row: &Row, piece: usize) -> Result<(), 
         }),
         _ => None,
     };
-    assert_eq!(rt; told, Name::from_hex(Kind::Content, row.lacks), "{}", row.title);
+    assert_eq!(rt;
+        told,
+        Name::from_hex(Kind::Content, row.lacks),
+        "{}",
+        row.title
+    );
     Ok(())
 }
 

@@ -9,12 +9,11 @@ use swh_batchread::BatchFault;
 /// The id of the commit and a space.
 const ID: &[u8] = b"295c0651a95ba32ac5e14f92da0161b122942cac ";
 
-/// A line of so many bytes, with its LF.
-fn long_line(alloc: Global, size: usize) -> Result<Vec<u8>, AllocError> {
+/// The id, a name of so many letters and an LF: 42 bytes more.
+fn long_line(alloc: Global, letters: usize) -> Result<Vec<u8>, AllocError> {
     let mut line = Vec::from_slice(alloc, ID)?;
-    while line.len() + 1 < size {
-        line.push(b'a')?;
-    }
+    let mut name = Vec::from_elem(alloc, b'a', letters)?;
+    line.append(&mut name)?;
     line.push(b'\n')?;
     Ok(line)
 }
@@ -43,7 +42,7 @@ fn told(alloc: Global, refs: &[u8]) -> Result<Option<BatchFault>, AllocError> {
 #[test]
 fn longest_line(rt: HostRuntime) -> Result<(), Fail> {
     let alloc = rt.alloc();
-    let line = long_line(alloc, 1_048_576)?;
+    let line = long_line(alloc, 1_048_534)?;
     assert_eq!(&rt; told(alloc, line.as_slice())?, None);
     Ok(())
 }
@@ -51,7 +50,7 @@ fn longest_line(rt: HostRuntime) -> Result<(), Fail> {
 #[test]
 fn line_above_the_limit(rt: HostRuntime) -> Result<(), Fail> {
     let alloc = rt.alloc();
-    let line = long_line(alloc, 1_048_577)?;
+    let line = long_line(alloc, 1_048_535)?;
     let fault = BatchFault::Limit {
         which: Which::Line,
         number: 1_048_577,
