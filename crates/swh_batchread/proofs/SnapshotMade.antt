@@ -203,6 +203,10 @@ snapshot_kids id names branches e good is o there =
 pub snapshot_good : (branches : List SnapshotBranch) (body : List ℕ) → AreBranches branches → body ≡ snapshot_text branches → IsWellFormed Snapshot body
 snapshot_good branches body good e = (filter_map branch_child branches, record { branches = branches; is = record { text = e; good = good }; kids = refl })
 
+-- the name of a snapshot
+pub snapshot_named : (snapshot : Entry) (body id : List ℕ) → made_from snapshot ≡ object_of Snapshot body → id ≡ snapshot.name.id → snapshot.name ≡ snapshot_name id
+snapshot_named snapshot body id made same = ap (λ (k : Kind). name_with k snapshot.name.id) (ap (λ m. m.kind) made) ∙ ap snapshot_name (sym same)
+
 -- all that is reached is there
 pub has_all : {N : Type 0} (id : Kind → List ℕ → List ℕ) (objects : List Entry) (known : Names) (refs : Refs) (snapshot : Entry) (given : Objects N)
     → KnowsNames (names_of objects) known → AreHeld refs → AllByRecursion (IsObject id) objects → AllByRecursion (HasChildrenAmong known.all) objects → Ascend (map line_at refs.by_name.entries)
@@ -218,8 +222,7 @@ has_all id objects known refs snapshot given knows held each kids ascend made ob
     let there = kids_found (kind_in known.first.entries) names (map line_at refs.by_name.entries) (λ i k e. kind_found names i k (sym (knows.first i) ∙ e)) in
     let own = all_as (Contains names) (Contains all) wider snapshot.kids (snapshot_kids id names branches snapshot good made object there) in
     let theirs = all_as (HasChildrenAmong names) (HasChildrenAmong all) (λ e c. all_as (Contains names) (Contains all) wider e.kids c) objects (children_there names known objects knows kids) in
-    let kind : snapshot.name.kind ≡ Snapshot = ap (λ m. m.kind) made in
-    let named : snapshot.name ≡ snapshot_name given.snapshot = ap (λ (k : Kind). name_with k snapshot.name.id) kind ∙ ap snapshot_name (sym name) in
+    let named = snapshot_named snapshot (snapshot_text branches) given.snapshot made name in
     let whole : AreWhole id (objects ++ snapshot ∷ []) = record { each = all_push (IsObject id) objects snapshot each object; kids = all_push (HasChildrenAmong all) objects snapshot theirs own } in
     let last : Contains all (snapshot_name given.snapshot) = subst (λ (n : Name). Contains all n) named (subst (λ (ns : List Name). Contains ns snapshot.name) (sym more) (Contains-push names snapshot.name)) in
     record {

@@ -13,7 +13,7 @@ use Rattle.swh_base.specs.declared.kind.Kind.TheVariants.{Snapshot}
 use Rattle.swh_base.specs.declared.name.Name.{Name}
 use Rattle.swh_base.specs.Limits.{body_limit, line_limit}
 use Rattle.swh_base.specs.Name.{IsId}
-use Rattle.swh_base.specs.Snapshot.{SnapshotBranch, AreBranches, snapshot_text}
+use Rattle.swh_base.specs.Snapshot.{SnapshotBranch, AreBranches, snapshot_name, snapshot_text}
 use Rattle.swh_base.specs.Snapshot.BranchTarget.{ToObject}
 use Rattle.swh_made.specs.Making.{made_from, object_of}
 use Rattle.swh_made.specs.Whole.{names_of, HasChildrenAmong}
@@ -126,6 +126,12 @@ pub record GivesSnapshot (refs : List RefLine) (objects given : List Entry) (id 
   pub made : made_from snapshot ≡ object_of Snapshot (snapshot_text branches)
   pub objects_are : given ≡ objects ++ snapshot ∷ []
   pub id_is : id ≡ snapshot.name.id
+
+-- What is given is the objects, and behind them a snapshot, with its id.
+pub record EndsWithSnapshot (objects given : List Entry) (id : List ℕ) : Type 0 where
+  pub snapshot : Entry
+  pub objects_are : given ≡ objects ++ snapshot ∷ []
+  pub named : snapshot.name ≡ snapshot_name id
 
 -- The text is a file of refs, and with these objects this is what it gives.
 pub record MeansRefs (text : List ℕ) (objects given : List Entry) (id : List ℕ) : Type 0 where

@@ -9,7 +9,7 @@ ghost use Rattle.swh_snpfmt.specs.Branches.{branch_views};
 ghost use Rattle.swh_made.specs.Making.{made_from, object_of};
 ghost use Rattle.swh_made.specs.Whole.{HasAllThatIsReached};
 ghost use Rattle.swh_batchread.specs.Failing.{Fails};
-ghost use Rattle.swh_batchread.specs.Refs.{RefLine, branch_with, AreRefLines, GivesSnapshot};
+ghost use Rattle.swh_batchread.specs.Refs.{RefLine, branch_with, AreRefLines, GivesSnapshot, EndsWithSnapshot};
 ghost use Rattle.swh_batchread.specs.RefsFault.{SnapshotBreaks, MayBreakRefs, MeansRefsLeft, ExplainsRefs};
 ghost use Rattle.swh_batchread.specs.RefSteps.{line_at, kind_in, AreHeld, Ascend, Holds, PassesBody};
 
@@ -113,6 +113,7 @@ fn end_refs<N: Namer>(
     requires { AreHeld refs }
     ensures ok { (rs : List RefLine) → AreRefLines rs → Holds rs refs
         → IfOk result (λ given. GivesSnapshot rs objects.items given.objects.items given.snapshot) }
+    ensures kept { IfOk result (λ given. EndsWithSnapshot objects.items given.objects.items given.snapshot) }
     ensures whole { IfOk result (HasAllThatIsReached N.id_of) }
     ensures err { (rs : List RefLine) → AreRefLines rs → Holds rs refs → (faults : ℕ)
         → IfErr result (Fails (Unit {0}) MayBreakRefs (SnapshotBreaks rs objects.items) faults faults) }
@@ -148,6 +149,8 @@ pub fn read_refs<N: Namer, S: Source>(
 ) -> Result<Objects<N>, BatchFault>
     // What is left of the source gives this with these objects.
     ensures ok { IfOk result (MeansRefsLeft (sources S.tells S.left S.faults S.path) source.old objects.items) }
+    // Behind the objects there is their snapshot, also where the source does not tell what is left.
+    ensures kept { IfOk result (λ given. EndsWithSnapshot objects.items given.objects.items given.snapshot) }
     // All that is named is there.
     ensures whole { IfOk result (HasAllThatIsReached N.id_of) }
     // All of it was read, and no read failed.

@@ -68,6 +68,11 @@ const ROWS: &[Row] = &[
         b"100755 .../..x/y.\n",
         Lines(&[(Mode::Executable, b".../..x/y.")]),
     ),
+    // Only a project has an id.
+    (
+        b"120000 0123456789abcdef0123456789abcdef01234567 /a\n",
+        Lines(&[(Mode::Link, b"0123456789abcdef0123456789abcdef01234567 /a")]),
+    ),
     // No line of a listing.
     (b"\n", Bad(1)),
     (b"#\n", Bad(1)),
@@ -101,10 +106,6 @@ const ROWS: &[Row] = &[
         Bad(1),
     ),
     (b"160000 0123456789abcdef0123456789abcdef01234567\n", Bad(1)),
-    (
-        b"120000 0123456789abcdef0123456789abcdef01234567 /a\n",
-        Bad(1),
-    ),
     // The first line that is none, and a last line without its LF.
     (b"100755 a\n100755 a\n\n100755\n", Bad(3)),
     (b"100755 a", Bad(1)),

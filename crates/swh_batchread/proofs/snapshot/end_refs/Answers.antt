@@ -11,7 +11,7 @@ use Rattle.swh_batchread.specs.RefsFault.{SnapshotBreaks, MayBreakRefs}
 use Rattle.swh_batchread.specs.RefSteps.{HasIdIn, KnowsNames, LacksSome, PassesBody}
 use Rattle.swh_batchread.proofs.Breaking.{fails_in}
 use Rattle.swh_batchread.proofs.Reaching.{exits}
-use Rattle.swh_batchread.proofs.SnapshotMade.{held_branches, gives_snapshot, has_all, lacks_breaks_of, long_breaks}
+use Rattle.swh_batchread.proofs.SnapshotMade.{held_branches, snapshot_named, gives_snapshot, has_all, lacks_breaks_of, long_breaks}
 use Rattle.swh_batchread.proofs.snapshot.end_refs.Goals as goal
 
 pub returns-in_err-names-clause-err : goal.returns-in_err-names-clause-err
@@ -43,6 +43,14 @@ returns-clause-ok g c = λ rs are h.
     let kids = subst (AllByRecursion (HasChildrenAmong known.all)) c.as_slice-2.ensures.value c.in_ok-names.ensures.kids in
     gives_snapshot g.N.Namer.id_of c.args.objects.items known rs c.args.refs c.in_ok-snapshot.snapshot c.in_ok-with_snapshot.field-0 knows are h ids kids c.in_ok-branches.ensures.ascend
     (c.in_ok-snapshot.ensures.made ∙ ap (λ (bs : List SnapshotBranch). object_of Snapshot (snapshot_text bs)) c.in_ok-branches.ensures.list) c.in_ok-snapshot.ensures.object c.in_ok-with_snapshot.ensures.objects c.in_ok-with_snapshot.ensures.id
+
+pub returns-clause-kept : goal.returns-clause-kept
+returns-clause-kept g c =
+    record {
+      snapshot = c.in_ok-snapshot.snapshot;
+      objects_are = c.in_ok-with_snapshot.ensures.objects;
+      named = snapshot_named c.in_ok-snapshot.snapshot _ c.in_ok-with_snapshot.field-0.snapshot c.in_ok-snapshot.ensures.made c.in_ok-with_snapshot.ensures.id;
+    }
 
 pub returns-clause-whole : goal.returns-clause-whole
 returns-clause-whole g c =
