@@ -1,4 +1,10 @@
 pub mod Breaking
 pub mod Headers
+pub mod NamesKnown
 pub mod Reaching
+pub mod RefLines
+pub mod RefsHeld
+pub mod RefsRead
+pub mod SnapshotMade
 pub mod Unique
+pub mod UniqueRefs

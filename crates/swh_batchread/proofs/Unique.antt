@@ -76,7 +76,7 @@ one_cut text a b ra rb ca cb sa sb (inr l) (inl f) =
     sym (whole ∙ ap (λ (t : List ℕ). a ++ t) (nil_of a ra (omega (arith, ap length whole, sb, l))) ∙ append-nil a)
 one_cut text a b ra rb ca cb sa sb (inr l) (inr m) = (sized_split a b ra rb (l ∙ sym m) (sym ca ∙ cb)).0
 
-one_first_line : (text a b : List ℕ) → BeginsWithLine text a → BeginsWithLine text b → a ≡ b
+pub one_first_line : (text a b : List ℕ) → BeginsWithLine text a → BeginsWithLine text b → a ≡ b
 one_first_line text a b f g = by_ends f.ends g.ends
   where
     by_ends : (IsLine a ⊎ ((Contains a 10 → ⊥) × ((f.rest ≡ []) ⊎ (length a ≡ line_limit)))) → (IsLine b ⊎ ((Contains b 10 → ⊥) × ((g.rest ≡ []) ⊎ (length b ≡ line_limit)))) → a ≡ b
@@ -87,10 +87,10 @@ one_first_line text a b f g = by_ends f.ends g.ends
     by_ends (inr x) (inl y) = absurd (no_shorter text b a g.rest f.rest g.cut f.cut y g.short x.0 x.1)
     by_ends (inr x) (inr y) = one_cut text a b f.rest g.rest f.cut g.cut f.short g.short x.1 y.1
 
-abbrev past : BatchFault
+abbrev pub past : BatchFault
 past = Limit Stream (input_limit + 1)
 
-same_limit : (which which' : Which) (n m : ℕ) → which ≡ which' → n ≡ m → Limit which n ≡ Limit which' m
+pub same_limit : (which which' : Which) (n m : ℕ) → which ≡ which' → n ≡ m → Limit which n ≡ Limit which' m
 same_limit which which' n m e d = ap (λ (w : Which). Limit w n) e ∙ ap (λ (k : ℕ). Limit which' k) d
 
 -- the ways in which a header breaks

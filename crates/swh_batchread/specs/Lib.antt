@@ -2,3 +2,6 @@ pub mod Batch
 pub mod BatchFault
 pub mod Failing
 pub mod Parts
+pub mod RefSteps
+pub mod Refs
+pub mod RefsFault

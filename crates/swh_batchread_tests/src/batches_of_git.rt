@@ -6,7 +6,7 @@ use swh_base::Kind;
 
 /// A commit and a tag with a signature, a tag of a tag, of a tree and of a blob, an empty tree and an empty blob, a tree with a
 /// link, a program and a submodule, an encoding, persons without a date or a name, and NUL in a blob and in a message.
-const EVERYTHING: &[u8] = b"1a23e4be731d2f539deeea324686d000ccdfbfcd blob 4\n\
+pub const EVERYTHING: &[u8] = b"1a23e4be731d2f539deeea324686d000ccdfbfcd blob 4\n\
 a\0b\n\
 \n\
 295c0651a95ba32ac5e14f92da0161b122942cac commit 128\n\

@@ -1,6 +1,6 @@
-//! Tests of the reading of batches over sources in memory: what git wrote, with the ids that git gives; each fault at its
-//! place; limits; and reads that fail.
-//! Stands on `swh_base`, `swh_memory_input`, `swh_object` and `swh_batchread`.
+//! Tests of the reading of batches and of refs over sources in memory: what git wrote, with the ids that git gives; each fault
+//! at its place; limits; and reads that fail.
+//! Stands on `swh_base`, `swh_memory_input`, `swh_object`, `swh_made` and `swh_batchread`.
 //! Nothing stands above it.
 #![tactic(auto)]
 
@@ -14,5 +14,11 @@ mod faults;
 mod kept_objects;
 #[cfg(test)]
 mod limits;
+#[cfg(test)]
+mod refs_faults;
+#[cfg(test)]
+mod refs_limits;
+#[cfg(test)]
+mod refs_of_git;
 #[cfg(test)]
 mod world;

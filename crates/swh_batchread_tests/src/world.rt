@@ -1,9 +1,10 @@
-// Batches in memory, and the objects that are read of them.
+// Batches and refs in memory, and the objects that are read of them.
 use std::alloc::{AllocError, Global};
 use std::process::Abort;
 use std::test::Fail;
 use swh_base::{Kind, Name, Namer, Sha1Namer};
-use swh_batchread::{BatchFault, read_batch};
+use swh_batchread::{BatchFault, read_batch, read_refs};
+use swh_made::Objects;
 use swh_memory_input::MemorySource;
 use swh_object::Object;
 
@@ -46,4 +47,35 @@ pub fn check(rt: &impl Abort, alloc: Global, row: &Row) -> Result<(), Fail> {
         check_in(rt, alloc, row, *piece)?;
     }
     Ok(())
+}
+
+/// What is read of a batch and then of its refs, both in pieces of this size.
+pub fn read_both<N: Namer>(
+    alloc: Global,
+    namer: &N,
+    batch: &[u8],
+    refs: &[u8],
+    piece: usize,
+) -> Result<Result<Objects<N>, BatchFault>, AllocError> {
+    let objects = match read(alloc, namer, batch, piece)? {
+        Ok(objects) => objects,
+        Err(fault) => return Ok(Err(fault)),
+    };
+    let bytes = Vec::from_slice(alloc, refs)?;
+    let mut source = MemorySource::new(String::new(alloc), bytes, piece, Vec::new(alloc));
+    Ok(read_refs(alloc, namer, &mut source, objects))
+}
+
+/// The fault of reading a batch and then its refs.
+pub fn fault_of_both<N: Namer>(
+    alloc: Global,
+    namer: &N,
+    batch: &[u8],
+    refs: &[u8],
+    piece: usize,
+) -> Result<Option<BatchFault>, AllocError> {
+    match read_both(alloc, namer, batch, refs, piece)? {
+        Ok(_) => Ok(None),
+        Err(fault) => Ok(Some(fault)),
+    }
 }

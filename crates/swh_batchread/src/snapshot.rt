@@ -1,0 +1,168 @@
+//! The snapshot of refs and of the objects of a batch (SWHID v1.2, core identifiers, snapshots).
+ghost use Rattle.std.specs.Prelude.{◌≡◌, ◌≤◌, ◌++◌, ◌∷◌, [], ℕ, List, IfOk, IfErr, OnOk, map};
+ghost use Rattle.std.specs.List.{filter_map};
+ghost use Rattle.swh_base.specs.declared.kind.Kind.TheVariants.{Snapshot};
+ghost use Rattle.swh_base.specs.Snapshot.{AreBranches, snapshot_text};
+ghost use Rattle.swh_outside.specs.Views.{sources};
+ghost use Rattle.swh_object.specs.Object.{IsObject};
+ghost use Rattle.swh_snpfmt.specs.Branches.{branch_views};
+ghost use Rattle.swh_made.specs.Making.{made_from, object_of};
+ghost use Rattle.swh_made.specs.Whole.{HasAllThatIsReached};
+ghost use Rattle.swh_batchread.specs.Failing.{Fails};
+ghost use Rattle.swh_batchread.specs.Refs.{RefLine, branch_with, AreRefLines, GivesSnapshot, EndsWithSnapshot};
+ghost use Rattle.swh_batchread.specs.RefsFault.{SnapshotBreaks, MayBreakRefs, MeansRefsLeft, ExplainsRefs};
+ghost use Rattle.swh_batchread.specs.RefSteps.{line_at, kind_in, AreHeld, Ascend, Holds, PassesBody};
+
+use crate::fault::BatchFault;
+use crate::names::whole_names;
+use crate::refs::{Refs, read_lines};
+use std::alloc::Global;
+use std::collections::BTreeMap;
+use swh_base::{Bytes, Kind, Memory, Name, Namer, Which};
+use swh_fastlex::Window;
+use swh_made::{MakeFault, Objects, make_object};
+use swh_object::Object;
+use swh_outside::Source;
+use swh_snpfmt::{Branch, Branches, Target, write_snp};
+
+/// Adds the branch of a ref of this name and id, where the id leads to a kind.
+fn put_branch(
+    list: &mut Vec<Branch>,
+    first: &BTreeMap<[u8; 20], Kind>,
+    name: Vec<u8>,
+    id: [u8; 20],
+) -> Result<(), Memory>
+    ensures { OnOk result (branch_views list.new.items ≡ branch_views list.old.items
+        ++ filter_map (branch_with (kind_in first.now.entries)) (line_at (name, id) ∷ [])) }
+{
+    let Some(kind) = first.get(&id) else {
+        return Ok(());
+    };
+    let target = Target::Object(Name { kind: *kind, id });
+    list.push(Branch {
+        name: Bytes::from_vec(name),
+        target,
+    })?;
+    Ok(())
+}
+
+/// The branches of refs, in the order of their names.
+fn branches_of(
+    alloc: Global,
+    first: &BTreeMap<[u8; 20], Kind>,
+    refs: BTreeMap<Vec<u8>, [u8; 20]>,
+) -> Result<Vec<Branch>, Memory>
+    ensures list { IfOk result (λ bs. branch_views bs.items
+        ≡ filter_map (branch_with (kind_in first.now.entries)) (map line_at refs.entries)) }
+    ensures ascend { IfOk result (λ _. Ascend (map line_at refs.entries)) }
+{
+    let mut list = Vec::new(alloc);
+    for (name, id) in refs {
+        put_branch(&mut list, first, name, id)?;
+    }
+    Ok(list)
+}
+
+/// The snapshot of these branches.
+fn snapshot_of<N: Namer>(
+    alloc: Global,
+    namer: &N,
+    branches: Vec<Branch>,
+) -> Result<Object<N>, BatchFault>
+    requires { AreBranches (branch_views branches.items) }
+    ensures made { IfOk result (λ o. made_from o ≡ object_of Snapshot (snapshot_text (branch_views branches.items))) }
+    ensures object { IfOk result (IsObject N.id_of) }
+    ensures err { (faults : ℕ) → IfErr result (Fails (Unit {0}) MayBreakRefs
+        (PassesBody (snapshot_text (branch_views branches.items))) faults faults) }
+{
+    let body = write_snp(alloc, &Branches::of(branches))?;
+    match make_object(alloc, namer, Kind::Snapshot, body) {
+        Ok(object) => Ok(object),
+        Err(MakeFault::TooLong { len }) => Err(BatchFault::Limit {
+            which: Which::Body,
+            number: len,
+        }),
+        Err(MakeFault::Memory) => Err(BatchFault::Memory),
+    }
+}
+
+/// The objects, and behind them their snapshot.
+fn with_snapshot<N: Namer>(
+    objects: Vec<Object<N>>,
+    snapshot: Object<N>,
+) -> Result<Objects<N>, Memory>
+    ensures objects { IfOk result (λ all. all.objects.items ≡ objects.items ++ snapshot ∷ []) }
+    ensures id { IfOk result (λ all. all.snapshot ≡ snapshot.name.id) }
+{
+    let mut objects = objects;
+    let id = snapshot.name().id;
+    objects.push(snapshot)?;
+    Ok(Objects {
+        objects,
+        snapshot: id,
+    })
+}
+
+/// The objects, and behind them the snapshot of refs.
+fn end_refs<N: Namer>(
+    alloc: Global,
+    namer: &N,
+    refs: Refs,
+    objects: Vec<Object<N>>,
+) -> Result<Objects<N>, BatchFault>
+    requires { AreHeld refs }
+    ensures ok { (rs : List RefLine) → AreRefLines rs → Holds rs refs
+        → IfOk result (λ given. GivesSnapshot rs objects.items given.objects.items given.snapshot) }
+    ensures kept { IfOk result (λ given. EndsWithSnapshot objects.items given.objects.items given.snapshot) }
+    ensures whole { IfOk result (HasAllThatIsReached N.id_of) }
+    ensures err { (rs : List RefLine) → AreRefLines rs → Holds rs refs → (faults : ℕ)
+        → IfErr result (Fails (Unit {0}) MayBreakRefs (SnapshotBreaks rs objects.items) faults faults) }
+{
+    let Refs {
+        ids,
+        by_name,
+        counted: _,
+    } = refs;
+    let names = whole_names(alloc, ids.as_slice(), objects.as_slice())?;
+    let branches = branches_of(alloc, &names.first, by_name)?;
+    let snapshot = snapshot_of(alloc, namer, branches)?;
+    Ok(with_snapshot(objects, snapshot)?)
+}
+
+/// The objects of a batch, and behind them the snapshot of the refs that are left of a source (git-show-ref(1), with
+/// `--head` and `--dereference`): lines of an id in hexadecimal digits, a space and a name. A line whose name ends with
+/// `^{}` is skipped. Each other one is a branch, `HEAD` too, to the first object of its id. The whole source is read, a
+/// line at a time.
+///
+/// # Errors
+///
+/// `BadRefs` at the first line, from 1, that is none, or has a name that stands before; `Limit` where a line is above
+/// 1,048,576 bytes with its LF, the source above 4,294,967,296, or the refs but for `HEAD` above 65,536. Where all lines
+/// are good, `NoObject` with the first id that is named and that no object has, or none of the kind that it is named
+/// with: by the refs in their order, and then by the objects in theirs; and then `Limit` where the snapshot is above
+/// 67,108,864 bytes. `ReadFault` where the source fails, and `Memory`.
+pub fn read_refs<N: Namer, S: Source>(
+    alloc: Global,
+    namer: &N,
+    source: &mut S,
+    objects: Vec<Object<N>>,
+) -> Result<Objects<N>, BatchFault>
+    // What is left of the source gives this with these objects.
+    ensures ok { IfOk result (MeansRefsLeft (sources S.tells S.left S.faults S.path) source.old objects.items) }
+    // Behind the objects there is their snapshot, also where the source does not tell what is left.
+    ensures kept { IfOk result (λ given. EndsWithSnapshot objects.items given.objects.items given.snapshot) }
+    // All that is named is there.
+    ensures whole { IfOk result (HasAllThatIsReached N.id_of) }
+    // All of it was read, and no read failed.
+    ensures read { S.tells → IfOk result (λ _. S.left source.new ≡ []) }
+    ensures quiet { IfOk result (λ _. S.faults source.new ≡ S.faults source.old) }
+    // Refs that are refused break so, or the source failed.
+    ensures err { IfErr result (ExplainsRefs (sources S.tells S.left S.faults S.path) source.old objects.items source.new) }
+
+    ensures same_path { S.path source.new ≡ S.path source.old }
+    ensures later { S.faults source.old ≤ S.faults source.new }
+{
+    let mut window = Window::new(alloc)?;
+    let refs = read_lines(alloc, &mut window, source)?;
+    end_refs(alloc, namer, refs, objects)
+}

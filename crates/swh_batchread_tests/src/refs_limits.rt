@@ -1,0 +1,80 @@
+// Refs as many and as long as may be, and one more.
+use crate::refs_of_git::COMMIT_FIRST;
+use crate::world::fault_of_both;
+use std::alloc::{AllocError, Global};
+use std::test::Fail;
+use swh_base::{Sha1Namer, Which};
+use swh_batchread::BatchFault;
+
+/// The id of the commit and a space.
+const ID: &[u8] = b"295c0651a95ba32ac5e14f92da0161b122942cac ";
+
+/// The id, a name of so many letters and an LF: 42 bytes more.
+fn long_line(alloc: Global, letters: usize) -> Result<Vec<u8>, AllocError> {
+    let mut line = Vec::from_slice(alloc, ID)?;
+    let mut name = Vec::from_elem(alloc, b'a', letters)?;
+    line.append(&mut name)?;
+    line.push(b'\n')?;
+    Ok(line)
+}
+
+/// `HEAD`, and so many other refs, each named by five letters.
+fn many_lines(alloc: Global, count: u64) -> Result<Vec<u8>, AllocError> {
+    let mut lines = Vec::from_slice(alloc, ID)?;
+    lines.extend_from_slice(b"HEAD\n")?;
+    for number in 0..count {
+        lines.extend_from_slice(ID)?;
+        let mut rest = number;
+        for _letter in 0..5 {
+            lines.push(b'a' + (rest % 16) as u8)?;
+            rest /= 16;
+        }
+        lines.push(b'\n')?;
+    }
+    Ok(lines)
+}
+
+/// What is told of the batch with these refs.
+fn told(alloc: Global, refs: &[u8]) -> Result<Option<BatchFault>, AllocError> {
+    fault_of_both(alloc, &Sha1Namer, COMMIT_FIRST, refs, 65_536)
+}
+
+#[test]
+fn longest_line(rt: HostRuntime) -> Result<(), Fail> {
+    let alloc = rt.alloc();
+    let line = long_line(alloc, 1_048_534)?;
+    assert_eq!(&rt; told(alloc, line.as_slice())?, None);
+    Ok(())
+}
+
+#[test]
+fn line_above_the_limit(rt: HostRuntime) -> Result<(), Fail> {
+    let alloc = rt.alloc();
+    let line = long_line(alloc, 1_048_535)?;
+    let fault = BatchFault::Limit {
+        which: Which::Line,
+        number: 1_048_577,
+    };
+    assert_eq!(&rt; told(alloc, line.as_slice())?, Some(fault));
+    Ok(())
+}
+
+#[test]
+fn most_refs(rt: HostRuntime) -> Result<(), Fail> {
+    let alloc = rt.alloc();
+    let lines = many_lines(alloc, 65_536)?;
+    assert_eq!(&rt; told(alloc, lines.as_slice())?, None);
+    Ok(())
+}
+
+#[test]
+fn refs_above_the_limit(rt: HostRuntime) -> Result<(), Fail> {
+    let alloc = rt.alloc();
+    let lines = many_lines(alloc, 65_537)?;
+    let fault = BatchFault::Limit {
+        which: Which::Refs,
+        number: 65_537,
+    };
+    assert_eq!(&rt; told(alloc, lines.as_slice())?, Some(fault));
+    Ok(())
+}
