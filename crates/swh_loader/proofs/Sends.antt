@@ -1,5 +1,5 @@
 -- What waits, and what is held once it was sent.
-use Rattle.std.proofs.Common.{◌≡◌, ◌≢◌, ◌==◌, ℕ, ◌+◌, true, false, cond, Option, Some, None, List, [], ◌∷◌, ◌++◌, length, refl, sym, ap, ◌∙◌, subst, arith, append_assoc}
+use Rattle.std.proofs.Common.{◌≡◌, ◌≢◌, ◌==◌, ℕ, true, false, cond, Option, Some, None, List, [], ◌∷◌, ◌++◌, length, refl, sym, ap, ◌∙◌, subst, arith, append_assoc}
 use Rattle.std.specs.Prelude.{is_some, sum_by, vec_len}
 use Rattle.std.specs.Global.{Vec}
 use Rattle.std.specs.List.{AllByRecursion}
@@ -17,17 +17,21 @@ use Rattle.swh_model.specs.Step.{AreNew, HasItsChildrenAndName, added, replay}
 use Rattle.swh_model.specs.Judge.{not_held}
 use Rattle.swh_model.specs.Grows.{IsWithin}
 use Rattle.swh_model.proofs.Maps.{body-put, within-put, within-added}
-use Rattle.swh_model.proofs.Entries.{none-added, none_named, none-empty, added-append, new-push, all-append}
+use Rattle.swh_model.proofs.Entries.{none-added, none_named, added-append, new-push, all-append}
+use Rattle.swh_store.specs.Entries.{bodies_in}
+use Rattle.swh_store.specs.Adding.{HasOther}
+use Rattle.swh_plan.proofs.BatchLemmas.{beside}
 use Rattle.swh_keeper.specs.Kept.{Kept, Applies}
 use Rattle.swh_object.specs.Object.{IsObject}
 use Rattle.swh_loader.specs.declared.pending.Pending.{Pending}
 use Rattle.swh_loader.specs.Visiting.{IsVisit, KeepsAll}
-use Rattle.swh_loader.specs.declared.sending.Taken.TheVariants.{Waits}
+use Rattle.swh_loader.specs.declared.sending.Taken.{Taken}
+use Rattle.swh_loader.specs.declared.sending.Taken.TheVariants.{Waits, Collides}
 use Rattle.swh_loader.specs.Adding.{AreAmong}
-use Rattle.swh_loader.specs.Sending.{BatchHasRoom, TakesEntry, IsPendingBatch, AllHeld, SameVisits, held_bodies, to_be}
+use Rattle.swh_loader.specs.Sending.{BatchHasRoom, IsJoined, HasMadeRoom, TakesEntry, IsPendingBatch, AllHeld, SameVisits, held_bodies, to_be}
 use Rattle.swh_loader.proofs.Steps.{applied}
 use Rattle.swh_loader.proofs.Limiting.{limits_more, counted_more}
-use Rattle.swh_loader.proofs.Among.{among_front, among_push}
+use Rattle.swh_loader.proofs.Among.{among_all, among_front, among_further, among_push}
 
 -- a vector that is not empty has elements
 pub not_empty : (v : Vec Entry) → (vec_len v == 0) ≡ false → v.items ≢ []
@@ -58,11 +62,8 @@ visits_further a b c h k o number statuses v =
     subst (IsVisit c.history o number) (append-nil (statuses ++ [])) (k o number (statuses ++ []) (h o number statuses v))
 
 -- no entry that waits has the name
-pub no_room : (n : Name) (held : Bodies) → held ≡ finite.empty → body_of held n ≡ None
-no_room n held e = ap (λ (b : Bodies). body_of b n) e ∙ none-empty n
-
-pub none_waits : {N : Type 0} (id : Kind → List ℕ → List ℕ) (bodies : Bodies) (p : Pending N) (n : Name) → IsPendingBatch id bodies p → body_of p.held.bodies n ≡ None → body_of bodies n ≡ None → body_of (added bodies p.objects.items) n ≡ None
-none_waits id bodies p n w h k = none-added bodies p.objects.items n (none_named finite.empty p.objects.items n (ap (λ (b : Bodies). body_of b n) (sym w.held) ∙ h)) k
+pub none_waits : {N : Type 0} (id : Kind → List ℕ → List ℕ) (bodies : Bodies) (p : Pending N) (n : Name) → IsPendingBatch id bodies p → body_of (bodies_in p.held) n ≡ None → body_of bodies n ≡ None → body_of (added bodies p.objects.items) n ≡ None
+none_waits id bodies p n w h k = none-added bodies p.objects.items n (none_named finite.empty p.objects.items n (ap (λ (es : List Entry). body_of (bodies_in es) n) (sym w.held) ∙ h)) k
 
 -- what is held stays held
 pub held_waits : {N : Type 0} (id : Kind → List ℕ → List ℕ) (bodies : Bodies) (p : Pending N) (e : Entry) → IsPendingBatch id bodies p → body_of bodies e.name ≡ Some e.body → body_of (added bodies p.objects.items) e.name ≡ Some e.body
@@ -71,23 +72,23 @@ held_waits id bodies p e w h = within-added bodies p.objects.items w.new e.name 
 object_good : (id : Kind → List ℕ → List ℕ) (e : Entry) → IsObject id e → HasItsChildrenAndName id e
 object_good id e h = record { good = record { kids = h.kids }; named = h.named }
 
-pub room_none : {N : Type 0} (p : Pending N) (n : Name) → p.objects.items ≡ [] → p.held.bodies ≡ finite.empty → p.bytes ≡ 0 → BatchHasRoom p n
-room_none p n e held zero_bytes = record { few = let l = ap length e in omega (arith, l); small = omega (arith, zero_bytes); absent = no_room n p.held.bodies held }
+pub room_none : {N : Type 0} (p : Pending N) → p.objects.items ≡ [] → p.bytes ≡ 0 → BatchHasRoom p
+room_none p e zero_bytes = record { few = let l = ap length e in omega (arith, l); small = omega (arith, zero_bytes) }
 
 -- one more waits
-pub waits_more : {N : Type 0} (id : Kind → List ℕ → List ℕ) (bodies : Bodies) (p q : Pending N) (e : Entry) → IsObject id e → IsPendingBatch id bodies p → BatchHasRoom p e.name → body_of bodies e.name ≡ None → q.objects.items ≡ p.objects.items ++ e ∷ [] → q.held.bodies ≡ finite.insert p.held.bodies e.name e.body → q.bytes ≡ p.bytes + length e.body → IsPendingBatch id bodies q
-waits_more id bodies p q e o w h k es held bytes = record {
-  held = held ∙ ap (λ (b : Bodies). finite.insert b e.name e.body) w.held ∙ sym (added-append finite.empty p.objects.items (e ∷ [])) ∙ ap (added finite.empty) (sym es);
-  new = subst (AreNew bodies) (sym es) (new-push bodies p.objects.items e w.new (none_waits id bodies p e.name w h.absent k));
-  good = subst (AllByRecursion (HasItsChildrenAndName id)) (sym es) (all-append (HasItsChildrenAndName id) p.objects.items (e ∷ []) w.good (object_good id e o, tt));
-  limits = subst IsWithinLimits (sym es) (limits_more p.objects.items e p.bytes w.limits w.counted h.few h.small o.short);
-  counted = counted_more p.objects.items e p.bytes q.bytes w.counted bytes ∙ ap (sum_by (λ (x : Entry). length x.body)) (sym es);
+pub waits_more : {N : Type 0} (id : Kind → List ℕ → List ℕ) (bodies : Bodies) (p q : Pending N) (e : Entry) → IsObject id e → IsPendingBatch id bodies p → BatchHasRoom p → body_of bodies e.name ≡ None → IsJoined p q e → IsPendingBatch id bodies q
+waits_more id bodies p q e o w room k j = record {
+  held = j.put.is_last ∙ ap (λ (es : List Entry). es ++ e ∷ []) w.held ∙ sym j.objects;
+  new = subst (AreNew bodies) (sym j.objects) (new-push bodies p.objects.items e w.new (none_waits id bodies p e.name w j.put.absent k));
+  good = subst (AllByRecursion (HasItsChildrenAndName id)) (sym j.objects) (all-append (HasItsChildrenAndName id) p.objects.items (e ∷ []) w.good (object_good id e o, tt));
+  limits = subst IsWithinLimits (sym j.objects) (limits_more p.objects.items e p.bytes w.limits w.counted room.few room.small o.short);
+  counted = counted_more p.objects.items e p.bytes q.bytes w.counted j.bytes ∙ ap (sum_by (λ (x : Entry). length x.body)) (sym j.objects);
 }
 
 pub to_be-more : {N : Type 0} (bodies : Bodies) (p q : Pending N) (e : Entry) → q.objects.items ≡ p.objects.items ++ e ∷ [] → added bodies q.objects.items ≡ finite.insert (added bodies p.objects.items) e.name e.body
 to_be-more bodies p q e es = ap (added bodies) es ∙ added-append bodies p.objects.items (e ∷ [])
 
-pub within_more : {N : Type 0} (id : Kind → List ℕ → List ℕ) (bodies : Bodies) (p q : Pending N) (e : Entry) → IsPendingBatch id bodies p → body_of p.held.bodies e.name ≡ None → body_of bodies e.name ≡ None → q.objects.items ≡ p.objects.items ++ e ∷ [] → IsWithin (added bodies p.objects.items) (added bodies q.objects.items)
+pub within_more : {N : Type 0} (id : Kind → List ℕ → List ℕ) (bodies : Bodies) (p q : Pending N) (e : Entry) → IsPendingBatch id bodies p → body_of (bodies_in p.held) e.name ≡ None → body_of bodies e.name ≡ None → q.objects.items ≡ p.objects.items ++ e ∷ [] → IsWithin (added bodies p.objects.items) (added bodies q.objects.items)
 within_more id bodies p q e w h k es =
     subst (IsWithin (added bodies p.objects.items)) (sym (to_be-more bodies p q e es)) (within-put (added bodies p.objects.items) e.name e.body (none_waits id bodies p e.name w h k))
 
@@ -124,15 +125,42 @@ taken_held id old new p q x e same w b among h = (
   among_front p.objects.items (e ∷ []) q.objects.items among,
 )
 
--- and of one that is new
-pub taken_new : {D N : Type 0} (id : Kind → List ℕ → List ℕ) (old new : Kept D) (p q r : Pending N) (x e : Entry) → x ≡ e → IsObject id x → IsPendingBatch id (held_bodies new) q → to_be new q ≡ to_be old p → AreAmong p.objects.items q.objects.items → BatchHasRoom q x.name → body_of (held_bodies new) x.name ≡ None → r.objects.items ≡ q.objects.items ++ x ∷ [] → r.held.bodies ≡ finite.insert q.held.bodies x.name x.body → r.bytes ≡ q.bytes + length x.body
-    → TakesEntry id old p e new (Waits r)
-taken_new id old new p q r x e same o w b among room absent es held bytes = (
-  waits_more id (held_bodies new) q r x o w room absent es held bytes,
-  (λ n body k. within_more id (held_bodies new) q r x w room.absent absent es n body (ap (λ (t : Bodies). body_of t n) b ∙ k)),
-  subst (λ (y : Entry). body_of (to_be new r) y.name ≡ Some y.body) same (put_more (held_bodies new) q r x es),
-  subst (AreAmong (p.objects.items ++ e ∷ [])) (sym (es ∙ ap (λ (y : Entry). q.objects.items ++ y ∷ []) same)) (among_push p.objects.items q.objects.items e among),
+-- of one that is new
+pub taken_new : {D N : Type 0} (id : Kind → List ℕ → List ℕ) (k : Kept D) (p q : Pending N) (e : Entry) → IsObject id e → IsPendingBatch id (held_bodies k) p → BatchHasRoom p → body_of (held_bodies k) e.name ≡ None → IsJoined p q e → TakesEntry id k p e k (Waits q)
+taken_new id k p q e o w room absent j = (
+  waits_more id (held_bodies k) p q e o w room absent j,
+  within_more id (held_bodies k) p q e w j.put.absent absent j.objects,
+  put_more (held_bodies k) p q e j.objects,
+  subst (AreAmong (p.objects.items ++ e ∷ [])) (sym j.objects) (among_all (p.objects.items ++ e ∷ [])),
 )
+
+-- what waits under a name will be held under it
+will_be : {D N : Type 0} (id : Kind → List ℕ → List ℕ) (k : Kept D) (p : Pending N) (n : Name) (body : List ℕ) → IsPendingBatch id (held_bodies k) p → body_of (bodies_in p.held) n ≡ Some body → body_of (to_be k p) n ≡ Some body
+will_be id k p n body w is = beside (held_bodies k) p.objects.items n body (ap (λ (es : List Entry). body_of (bodies_in es) n) (sym w.held) ∙ is)
+
+-- of one that waits already
+pub taken_waiting : {D N : Type 0} (id : Kind → List ℕ → List ℕ) (k : Kept D) (p q : Pending N) (e : Entry) → IsPendingBatch id (held_bodies k) p → body_of (bodies_in p.held) e.name ≡ Some e.body → q ≡ p → TakesEntry id k p e k (Waits q)
+taken_waiting {D} {N} id k p q e w is same =
+    subst (λ (r : Pending N). TakesEntry id k p e k (Waits r)) (sym same) (
+      w,
+      (λ n body h. h),
+      will_be id k p e.name e.body w is,
+      among_front p.objects.items (e ∷ []) p.objects.items (among_all p.objects.items),
+    )
+
+-- and of one whose name has another body among what waited and was sent
+pub other_sent : {D N : Type 0} (id : Kind → List ℕ → List ℕ) (old new : Kept D) (p : Pending N) (e : Entry) → IsPendingBatch id (held_bodies old) p → HasOther (bodies_in p.held) e → held_bodies new ≡ to_be old p → HasOther (held_bodies new) e
+other_sent id old new p e w (body, there, other) sent = (body, ap (λ (b : Bodies). body_of b e.name) sent ∙ will_be id old p e.name body w there, other)
+
+-- once room was made for it
+pub taken_further : {D N : Type 0} (id : Kind → List ℕ → List ℕ) (a b c : Kept D) (p q : Pending N) (e : Entry) (taken : Taken N) → HasMadeRoom id a p b q → TakesEntry id b q e c taken → TakesEntry id a p e c taken
+taken_further id a b c p q e (Waits r) room t = (
+  t.0,
+  (λ n body h. t.1 n body (ap (λ (m : Bodies). body_of m n) room.to_be ∙ h)),
+  t.2,
+  among_further (p.objects.items ++ e ∷ []) (q.objects.items ++ e ∷ []) r.objects.items (among_push p.objects.items q.objects.items e room.among) t.3,
+)
+taken_further id a b c p q e (Collides name) room t = t
 
 -- one object after those before it
 pub took_next : {D N : Type 0} (id : Kind → List ℕ → List ℕ) (old new : Kept D) (p q : Pending N) (all left next : List Entry) (e : Entry) → Took (to_be old p) all left → left ≡ (e ∷ []) ++ next → TakesEntry id old p e new (Waits q) → Took (to_be new q) all next

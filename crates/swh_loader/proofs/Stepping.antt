@@ -29,6 +29,7 @@ use Rattle.swh_loader.specs.Ending.{before_end, last_of}
 use Rattle.swh_loader.specs.Steps.{Leaves, LeavesVisit}
 use Rattle.swh_loader.specs.Stopping.{IsWhyOf, StopsFor}
 use Rattle.swh_loader.specs.Visiting.{IsVisit, IsOpen, KeepsAll, GainsStatuses, attempt_of}
+use Rattle.swh_loader.proofs.Among.{among_all, among_further}
 use Rattle.swh_loader.proofs.CallLaws.{calls_none, calls_one, calls_refused, calls_as, step_calls}
 use Rattle.swh_loader.proofs.Further.{adds_none, adds_one, adds_as, adds_further, stops_as, step_stops}
 use Rattle.swh_loader.proofs.Opens.{refused_same}
@@ -198,3 +199,13 @@ module _ {D : Type 0} (id : Kind → List ℕ → List ℕ) (disks : Disks D) wh
       → Leaves id disks {T = Unit {0}} (IsBatchAmong by objects) a b (Ok tt) → Leaves id disks (IsBatchOf by entries) b c r → Leaves id disks (IsBatchAmong by objects) a c r
   sent_further by objects entries a b c r among begun first next =
       leaves_further {T = Unit {0}} (IsBatchAmong by objects) a b c tt r begun first (leaves_as (IsBatchOf by entries) (IsBatchAmong by objects) b c r (batch_among by objects entries among) next)
+
+  -- a batch of some objects is one among them
+  pub sent_among : {T : Type 0} (by : ℕ) (entries : List Entry) (old new : Kept D) (r : Result T LoadWhy) → Leaves id disks {T = T} (IsBatchOf by entries) old new r → Leaves id disks {T = T} (IsBatchAmong by entries) old new r
+  sent_among by entries old new r l = leaves_as (IsBatchOf by entries) (IsBatchAmong by entries) old new r (batch_among by entries entries (among_all entries)) l
+
+  -- batches among some of a load's objects, after those before them
+  pub taken_further : {T : Type 0} (by : ℕ) (objects entries : List Entry) (a b c : Kept D) (r : Result T LoadWhy) → AreAmong objects entries → a.wounded ≡ None
+      → Leaves id disks {T = Unit {0}} (IsBatchAmong by objects) a b (Ok tt) → Leaves id disks (IsBatchAmong by entries) b c r → Leaves id disks (IsBatchAmong by objects) a c r
+  taken_further by objects entries a b c r among begun first next =
+      leaves_further {T = Unit {0}} (IsBatchAmong by objects) a b c tt r begun first (leaves_as (IsBatchAmong by entries) (IsBatchAmong by objects) b c r (λ e is. record { entries = is.entries; is_of = is.is_of; among = among_further objects entries is.entries among is.among }) next)

@@ -4,7 +4,8 @@ ghost use Rattle.std.specs.List.{AllByRecursion};
 ghost use Rattle.swh_format.specs.StoredObject.{IsCodableEntry};
 ghost use Rattle.swh_outside.specs.Views.{disks};
 ghost use Rattle.swh_loader.specs.Adding.{IsBatchOf, IsBatchAmong};
-ghost use Rattle.swh_loader.specs.Sending.{IsPendingBatch, HasMadeRoom, TakesEntry, SameVisits, AreSent};
+ghost use Rattle.swh_model.specs.Archive.{body_of};
+ghost use Rattle.swh_loader.specs.Sending.{BatchHasRoom, IsPendingBatch, HasMadeRoom, TakesEntry, SameVisits, AreSent};
 ghost use Rattle.swh_loader.specs.Sending.{held_bodies, to_be};
 ghost use Rattle.swh_loader.specs.Steps.{Leaves};
 
@@ -62,26 +63,53 @@ fn flush<N: Namer, D: Disk>(
     }
 }
 
-/// Sends what waits where an entry of this name may not join it.
+/// Sends what waits where no other object may join it.
 fn make_room<N: Namer, D: Disk>(
     alloc: Global,
     keeper: &mut Keeper<N, D>,
     by: u32,
     pending: Pending<N>,
-    name: &Name,
 ) -> Result<Pending<N>, LoadWhy>
     requires unwounded { keeper.old.wounded ≡ None }
     requires waiting { IsPendingBatch N.id_of (held_bodies keeper.old) pending }
-    ensures room { IfOk result (HasMadeRoom N.id_of keeper.old pending name.now keeper.new) }
+    ensures room { IfOk result (HasMadeRoom N.id_of keeper.old pending keeper.new) }
     ensures visits { SameVisits keeper.old keeper.new }
     ensures leaves { Leaves N.id_of (disks D.tells D.file D.faults) (IsBatchOf by pending.objects.items)
         keeper.old keeper.new result }
 {
-    if pending.has_room(name) {
+    if pending.has_room() {
         return Ok(pending);
     }
     flush(keeper, by, pending)?;
     Ok(Pending::new(alloc))
+}
+
+/// Lets an object that is not held wait. Where another body waits under its name, what waits is sent, and it collides.
+fn let_wait<N: Namer, D: Disk>(
+    keeper: &mut Keeper<N, D>,
+    by: u32,
+    pending: Pending<N>,
+    object: Object<N>,
+) -> Result<Taken<N>, LoadWhy>
+    requires unwounded { keeper.old.wounded ≡ None }
+    requires waiting { IsPendingBatch N.id_of (held_bodies keeper.old) pending }
+    requires room { BatchHasRoom pending }
+    requires absent { body_of (held_bodies keeper.old) object.name ≡ None }
+    ensures taken { IfOk result (λ taken. TakesEntry N.id_of keeper.old pending object keeper.new taken) }
+    ensures visits { SameVisits keeper.old keeper.new }
+    ensures leaves { Leaves N.id_of (disks D.tells D.file D.faults) (IsBatchOf by pending.objects.items)
+        keeper.old keeper.new result }
+{
+    let name = object.name();
+    let mut waiting = pending;
+    match waiting.join(object)? {
+        Standing::New => Ok(Taken::Waits(waiting)),
+        Standing::Known => Ok(Taken::Waits(waiting)),
+        Standing::Other => {
+            flush(keeper, by, waiting)?;
+            Ok(Taken::Collides(name))
+        }
+    }
 }
 
 /// Takes an object in: it is held, it waits, or it collides.
@@ -96,18 +124,15 @@ fn take_in<N: Namer, D: Disk>(
     requires waiting { IsPendingBatch N.id_of (held_bodies keeper.old) pending }
     ensures taken { IfOk result (λ taken. TakesEntry N.id_of keeper.old pending object keeper.new taken) }
     ensures visits { SameVisits keeper.old keeper.new }
-    ensures leaves { Leaves N.id_of (disks D.tells D.file D.faults) (IsBatchOf by pending.objects.items)
+    ensures leaves { Leaves N.id_of (disks D.tells D.file D.faults) (IsBatchAmong by pending.objects.items)
         keeper.old keeper.new result }
 {
     let name = object.name();
-    let mut pending = make_room(alloc, keeper, by, pending, &name)?;
+    let waiting = make_room(alloc, keeper, by, pending)?;
     match keeper.store().standing(object.entry()) {
-        Standing::Known => Ok(Taken::Waits(pending)),
+        Standing::Known => Ok(Taken::Waits(waiting)),
         Standing::Other => Ok(Taken::Collides(name)),
-        Standing::New => {
-            pending.push(object)?;
-            Ok(Taken::Waits(pending))
-        }
+        Standing::New => let_wait(keeper, by, waiting, object),
     }
 }
 

@@ -6,7 +6,7 @@ ghost use Rattle.swh_model.specs.Step.{HasItsChildren};
 use std::alloc::Global;
 use std::test::Fail;
 use swh_base::{Entry, Graph, Kind, Memory, Name, Shared};
-use swh_store::{Store, StoreFault};
+use swh_store::{Distinct, Standing, Store, StoreFault};
 
 /// The name of a content whose id is nineteen zeros and a byte.
 pub fn named(byte: u8) -> Name {
@@ -125,5 +125,30 @@ fn nothing_that_is_new_is_added(rt: HostRuntime) -> Result<(), Fail> {
     let mut none = Store::new(rt.alloc());
     none.add_new(&[])?;
     assert!(rt; holds_just(&none, &[]));
+    Ok(())
+}
+
+fn is_of(entry: &Entry, bytes: [u8; 2]) -> bool {
+    entry.body.as_slice() == bytes.as_slice()
+}
+
+#[test]
+fn an_entry_joins_those_of_other_names(rt: HostRuntime) -> Result<(), Fail> {
+    let alloc = rt.alloc();
+    let mut distinct = Distinct::new(alloc);
+    let first = distinct.join(content(alloc, *b"ab")?)?;
+    let again = distinct.join(content(alloc, *b"ab")?)?;
+    let other = distinct.join(content(alloc, *b"ba")?)?;
+    let last = distinct.join(content(alloc, *b"cd")?)?;
+    assert!(rt; matches!(first, Standing::New));
+    assert!(rt; matches!(again, Standing::Known));
+    assert!(rt; matches!(other, Standing::Other));
+    assert!(rt; matches!(last, Standing::New));
+    let entries = distinct.into_vec();
+    let are_two = match entries.as_slice() {
+        [one, two] => is_of(one, *b"ab") && is_of(two, *b"cd"),
+        _ => false,
+    };
+    assert!(rt; are_two);
     Ok(())
 }

@@ -20,7 +20,7 @@ returns-then-has_room-clause-leaves g c = leaves_none g.N.Namer.id_of (disks g.D
 
 pub returns-clause-room : goal.returns-clause-room
 returns-clause-room g c = record {
-  room = room_none c.new.result c.args.name.now c.new.ensures.objects c.new.ensures.held c.new.ensures.bytes;
+  room = room_none c.new.result c.new.ensures.objects c.new.ensures.bytes;
   among = search rules;
   waiting = search rules;
   to_be = search rules;
