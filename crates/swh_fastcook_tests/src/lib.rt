@@ -10,3 +10,5 @@ mod cycles;
 mod deep;
 #[cfg(test)]
 mod orders;
+#[cfg(test)]
+mod texts;
