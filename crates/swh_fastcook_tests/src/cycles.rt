@@ -2,9 +2,12 @@
 use std::alloc::Global;
 use std::test::Fail;
 use swh_base::{ByteNamer, Kind, Name};
+use swh_graph_fixtures::archive_of;
+use swh_graph_fixtures::objects::{OBJECTS, WHOLE};
 use swh_object::Object;
-use swh_postorder::postorder;
+use swh_postorder::{first_on_cycle, postorder};
 use swh_replay::Replayed;
+use swh_swhid::parse_core;
 
 /// Twenty bytes, of which the last is this.
 const fn id(last: u8) -> [u8; 20] {
@@ -75,6 +78,57 @@ fn first_other(alloc: Global) -> Result<usize, Fail> {
         }
     }
     Ok(ORDERS.len())
+}
+
+/// Whether the first name on a cycle, in the order from the root, is the first of that order.
+fn begins_with_cycle(alloc: Global, shown: &Replayed, root: u8, lasts: &[u8]) -> bool {
+    let Ok(names) = postorder(alloc, shown, folder_name(root)) else {
+        return false;
+    };
+    match first_on_cycle(alloc, shown, names.as_slice()) {
+        Ok(Some(name)) => lasts.first() == Some(&name.id[19]),
+        _ => false,
+    }
+}
+
+/// The number of the first root from which another name is the first on a cycle, or how many there are.
+fn first_other_cycle(alloc: Global) -> Result<usize, Fail> {
+    let shown = folders(alloc)?;
+    for (number, (root, lasts)) in ORDERS.iter().enumerate() {
+        if !begins_with_cycle(alloc, &shown, *root, lasts) {
+            return Ok(number);
+        }
+    }
+    Ok(ORDERS.len())
+}
+
+/// Whether no name that is reached from this one is on a cycle.
+fn is_without_cycle(alloc: Global, core: &[u8]) -> Result<bool, Fail> {
+    let Some(shown) = archive_of(alloc, OBJECTS) else {
+        return Err(Fail::from("an archive"));
+    };
+    let Some(root) = parse_core(core) else {
+        return Err(Fail::from("a core identifier"));
+    };
+    let Ok(names) = postorder(alloc, &shown, root) else {
+        return Err(Fail::from("an order"));
+    };
+    match first_on_cycle(alloc, &shown, names.as_slice()) {
+        Ok(found) => Ok(found.is_none()),
+        Err(_) => Err(Fail::from("memory")),
+    }
+}
+
+#[test]
+fn the_first_on_a_cycle_is_named(rt: HostRuntime) -> Result<(), Fail> {
+    assert_eq!(rt; first_other_cycle(rt.alloc())?, ORDERS.len());
+    Ok(())
+}
+
+#[test]
+fn objects_of_git_have_no_cycle(rt: HostRuntime) -> Result<(), Fail> {
+    assert!(rt; is_without_cycle(rt.alloc(), WHOLE)?);
+    Ok(())
 }
 
 #[test]

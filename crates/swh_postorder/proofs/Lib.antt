@@ -1,4 +1,5 @@
 pub mod Orders
+pub mod Preceded
 pub mod Stops
 pub mod Trips
 pub mod Walks

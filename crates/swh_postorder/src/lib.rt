@@ -5,11 +5,13 @@
 //! that is reached, once, and a child comes before its parent unless it leads back to it.
 #![tactic(auto)]
 
+mod cycles;
 mod fault;
 mod laws;
 mod walk;
 mod walking;
 
+pub use cycles::first_on_cycle;
 pub use fault::OrderFault;
 pub use laws::{
     children_precede, missing_names_are_reached, one_missing, one_postorder, order_is_reached,
