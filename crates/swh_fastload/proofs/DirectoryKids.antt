@@ -12,7 +12,7 @@ use Rattle.swh_base.specs.Name.{IsId}
 use Rattle.swh_base.specs.Directory.{DirectoryEntry, IsEntry, IsEntryName, IsMode, sort_key, directory_text, child_of, children_of}
 use Rattle.swh_base.specs.Manifest.{AreChildren}
 use Rattle.swh_base.proofs.DirectoryLemmas.{read_on, entry-not_nil, are-each}
-use Rattle.swh_folders.specs.declared.entry.Leaf.{Leaf}
+use Rattle.swh_entries.specs.declared.entry.Leaf.{Leaf}
 use Rattle.swh_folders.specs.Leaf.{IsLeafMode}
 use Rattle.swh_folders.specs.PathMap.{PathMap, same, same_path, leaf_at, rest_beside, held_by, HasFolder}
 use Rattle.swh_trees.specs.Directory.{directory_id, insert_by, insert_entry, ordered, first, entry_at, directory_within, depth_of, directory_of}

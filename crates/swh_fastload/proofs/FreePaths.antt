@@ -2,7 +2,7 @@
 use Rattle.std.proofs.Common.{◌≡◌, ◌≢◌, ◌⊎◌, inl, inr, ℕ, Bool, true, false, not, cond, Some, List, [], ◌∷◌, ◌++◌, Contains, refl, sym, ap, ◌∙◌, subst}
 use Rattle.std.specs.Prelude.{filter, ◌&&◌, ◌||◌}
 use Rattle.std.proofs.lemmas.List.{append-nil}
-use Rattle.swh_folders.specs.declared.entry.Leaf.{Leaf}
+use Rattle.swh_entries.specs.declared.entry.Leaf.{Leaf}
 use Rattle.swh_folders.specs.PathMap.{PathMap, same, same_path, leaf_at, begins, is_path_before, insert_path, cleared, set, delete, rest_beside, held_by, held, insert_under, put_held, copy, rename, HasFolder}
 use Rattle.swh_folders.proofs.Grafts.{same_is, same_self}
 use Rattle.swh_folders.proofs.Lookups.{path_is, begins-more}

@@ -10,7 +10,7 @@ use Rattle.swh_base.specs.Text.{IsRef}
 use Rattle.swh_base.specs.Directory.{IsEntryName, directory_text}
 use Rattle.swh_model.specs.Meaning.{Made, directory}
 use Rattle.swh_trees.specs.declared.tree.Tree.{Tree}
-use Rattle.swh_folders.specs.declared.entry.Leaf.{Leaf}
+use Rattle.swh_entries.specs.declared.entry.Leaf.{Leaf}
 use Rattle.swh_trees.specs.Grove.{Grove, folder_map, map_of, StandsFor}
 use Rattle.swh_folders.specs.Roots.{IsBelow}
 use Rattle.swh_folders.specs.Leaf.{IsLeafMode}

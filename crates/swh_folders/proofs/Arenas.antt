@@ -7,14 +7,16 @@ use Rattle.std.proofs.lemmas.List.Elements.{All-from_recursion}
 use Rattle.std.specs.Prelude.{if◌then◌else◌, ◌==◌, All, IfOk, Result, Ok, Err}
 use Rattle.std.specs.List.{AllByRecursion}
 use Rattle.std.specs.Global.{Vec}
-use Rattle.swh_folders.specs.declared.entry.Entry.{Entry}
-use Rattle.swh_folders.specs.Listed.{Listed}
-use Rattle.swh_folders.specs.declared.entry.Child.{Child}
-use Rattle.swh_folders.specs.declared.entry.Child.TheVariants.{File as FileChild, Folder as FolderChild}
+use Rattle.swh_entries.specs.declared.entry.Entry.{Entry}
+use Rattle.swh_entries.specs.Listed.{Listed}
+use Rattle.swh_entries.specs.declared.entry.Child.{Child}
+use Rattle.swh_entries.specs.declared.entry.Child.TheVariants.{File as FileChild, Folder as FolderChild}
 use Rattle.swh_folders.specs.Forest.{Forest, Stands, IsFolder, forest, inserted, without, put}
 use Rattle.swh_folders.specs.Sound.{IsSound}
 use Rattle.swh_folders.specs.Roots.{AreSound}
-use Rattle.swh_folders.specs.Arena.{name_at, stands, stands_of, forest_of, among, IsLower, AreGood, AllGood, texts, layers, tree_at, IsArena, IsIn, Extends}
+use Rattle.swh_folders.specs.Arena.{stands, stands_of, forest_of, among, IsLower, AreGood, AllGood, layers, tree_at, IsArena, IsIn}
+use Rattle.swh_entries.specs.Keys.{name_at, texts}
+use Rattle.swh_entries.specs.Named.{Extends}
 
 pub if_ok : {A E : Type 0} {P Q : A → Type 0} (r : Result A E) → ((x : A) → P x → Q x) → IfOk r P → IfOk r Q
 if_ok (Ok x) f h = f x h

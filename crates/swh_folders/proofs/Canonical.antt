@@ -8,8 +8,9 @@ use Rattle.std.specs.declared.cmp.Ordering.TheVariants.{Less, Equal, Greater}
 use Rattle.std.specs.List.{AllByRecursion}
 use Rattle.std.proofs.lemmas.Cmp.{nat_list_cmp_total, lists_total}
 use Rattle.std.proofs.lemmas.Map.Lookups.{exact_bytes}
-use Rattle.swh_folders.specs.declared.entry.Leaf.{Leaf}
-use Rattle.swh_folders.specs.Forest.{Forest, Bare, File, Folder, Stands, Nothing, IsFile, IsFolder, is_before, child_at, put, folder, forest, step, found, graft, deleted, deleted_where, at, flat}
+use Rattle.swh_entries.specs.declared.entry.Leaf.{Leaf}
+use Rattle.swh_folders.specs.Forest.{Forest, Bare, File, Folder, Stands, Nothing, IsFile, IsFolder, child_at, put, folder, forest, step, found, graft, deleted, deleted_where, at, flat}
+use Rattle.swh_entries.specs.Keys.{is_before}
 use Rattle.swh_folders.specs.Sound.{Follows, IsSound}
 use Rattle.swh_folders.specs.PathMap.{PathMap, same_path, leaf_at, begins, keys, is_path_before, insert_path, delete}
 use Rattle.swh_base.specs.Directory.{IsEntryName}

@@ -4,12 +4,14 @@ use Rattle.std.proofs.lemmas.List.{length-take}
 use Rattle.std.specs.Global.{Vec}
 use Rattle.std.specs.List.{AllByRecursion}
 use Rattle.swh_base.specs.Directory.{IsEntryName}
-use Rattle.swh_folders.specs.declared.entry.Leaf.{Leaf}
+use Rattle.swh_entries.specs.declared.entry.Leaf.{Leaf}
 use Rattle.swh_folders.specs.declared.folders.Folders.{Folders}
 use Rattle.swh_folders.specs.declared.opened.Opened.{Opened}
-use Rattle.swh_folders.specs.Listed.{Listed}
-use Rattle.swh_folders.specs.declared.entry.Entry.{Entry}
-use Rattle.swh_folders.specs.Arena.{forest_of, texts, tree_at, AreGood, Extends, Grows}
+use Rattle.swh_entries.specs.Listed.{Listed}
+use Rattle.swh_entries.specs.declared.entry.Entry.{Entry}
+use Rattle.swh_folders.specs.Arena.{forest_of, tree_at, AreGood, Grows}
+use Rattle.swh_entries.specs.Keys.{texts}
+use Rattle.swh_entries.specs.Named.{Extends}
 use Rattle.swh_folders.specs.Forest.{Forest, Stands, Nothing, IsFile, IsFolder, child_at, put, folder, forest, found, graft, flat}
 use Rattle.swh_folders.specs.Opened.{folder_path, own_forest, open_forest, IsOpened, StandsIn}
 use Rattle.swh_folders.specs.PathMap.{PathMap, set, delete}

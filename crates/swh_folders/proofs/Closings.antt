@@ -3,12 +3,14 @@ use Rattle.std.proofs.Common.{◌≡◌, inl, inr, ℕ, ◌<◌, ◌≤◌, List
 use Rattle.std.specs.Global.{Vec}
 use Rattle.std.specs.List.{AllByRecursion}
 use Rattle.swh_base.specs.Directory.{IsEntryName}
-use Rattle.swh_folders.specs.declared.entry.Child.{Child}
-use Rattle.swh_folders.specs.declared.entry.Entry.{Entry}
+use Rattle.swh_entries.specs.declared.entry.Child.{Child}
+use Rattle.swh_entries.specs.declared.entry.Entry.{Entry}
 use Rattle.swh_folders.specs.declared.folders.Folders.{Folders}
 use Rattle.swh_folders.specs.declared.opened.Opened.{Opened}
-use Rattle.swh_folders.specs.Listed.{Listed}
-use Rattle.swh_folders.specs.Arena.{stands_of, forest_of, texts, tree_at, entries_without, AreGood, IsIn, Extends, Grows}
+use Rattle.swh_entries.specs.Listed.{Listed}
+use Rattle.swh_folders.specs.Arena.{stands_of, forest_of, tree_at, entries_without, AreGood, IsIn, Grows}
+use Rattle.swh_entries.specs.Keys.{texts}
+use Rattle.swh_entries.specs.Named.{Extends}
 use Rattle.swh_folders.specs.Forest.{Forest, Stands, IsFolder, child_at, put, inserted, forest, found, graft}
 use Rattle.swh_folders.specs.Live.{IsPart}
 use Rattle.swh_folders.specs.Opened.{folder_path, own_forest, IsOpened, StaysBounded}

@@ -4,9 +4,10 @@ use Rattle.std.proofs.Math.Seq.{get_or-append_seam}
 use Rattle.std.proofs.lemmas.Bool.{cases_lt}
 use Rattle.std.proofs.lemmas.List.{length-append, length-take, get_or_append_left, get_or_default, map-append, reverse-append, take-append-drop, append-nil}
 use Rattle.std.specs.Global.{Vec}
-use Rattle.swh_folders.specs.declared.entry.Entry.{Entry}
-use Rattle.swh_folders.specs.Listed.{Listed}
-use Rattle.swh_folders.specs.Arena.{texts, layers, among, AllGood, tree_at, forest_of, AreGood, IsArena}
+use Rattle.swh_entries.specs.declared.entry.Entry.{Entry}
+use Rattle.swh_entries.specs.Listed.{Listed}
+use Rattle.swh_folders.specs.Arena.{layers, among, AllGood, tree_at, forest_of, AreGood, IsArena}
+use Rattle.swh_entries.specs.Keys.{texts}
 use Rattle.swh_folders.specs.Forest.{Forest, Stands, forest}
 use Rattle.swh_folders.specs.Sound.{IsSound}
 use Rattle.swh_folders.specs.Roots.{IsGood}

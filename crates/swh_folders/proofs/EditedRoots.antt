@@ -1,10 +1,10 @@
 -- What an edit of a root's folder makes of the root's map.
 use Rattle.std.proofs.Common.{◌≡◌, ◌≢◌, ℕ, List, [], ◌∷◌, length, Option, Some, None, refl, sym, ap, subst, ◌∙◌}
 use Rattle.std.specs.Global.{Vec}
-use Rattle.swh_folders.specs.declared.entry.Leaf.{Leaf}
-use Rattle.swh_folders.specs.Listed.{Listed}
-use Rattle.swh_folders.specs.declared.entry.Child.{Child}
-use Rattle.swh_folders.specs.declared.entry.Child.TheVariants.{File as FileChild, Folder as FolderChild}
+use Rattle.swh_entries.specs.declared.entry.Leaf.{Leaf}
+use Rattle.swh_entries.specs.Listed.{Listed}
+use Rattle.swh_entries.specs.declared.entry.Child.{Child}
+use Rattle.swh_entries.specs.declared.entry.Child.TheVariants.{File as FileChild, Folder as FolderChild}
 use Rattle.swh_folders.specs.Arena.{stands, stands_of, tree_at}
 use Rattle.swh_folders.specs.Forest.{Forest, Stands, Nothing, IsFile, IsFolder, child_at, forest, found, graft, deleted, flat, shown}
 use Rattle.swh_folders.specs.PathMap.{PathMap, set, delete, copy, rename, held}

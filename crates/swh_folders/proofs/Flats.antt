@@ -1,7 +1,7 @@
 -- What the paths of a folder say of a name.
 use Rattle.std.proofs.Common.{◌≡◌, ◌≢◌, ℕ, Bool, true, false, cond, List, [], ◌∷◌, ◌++◌, map, Option, Some, refl, ap, ◌∙◌}
 use Rattle.std.specs.Prelude.{◌&&◌}
-use Rattle.swh_folders.specs.declared.entry.Leaf.{Leaf}
+use Rattle.swh_entries.specs.declared.entry.Leaf.{Leaf}
 use Rattle.swh_folders.specs.Forest.{Forest, Bare, File, Folder, Stands, Nothing, IsFile, IsFolder, child_at, leaf_of, flat, shown}
 use Rattle.swh_folders.specs.PathMap.{same, PathMap, same_path, leaf_at, held_by}
 use Rattle.swh_folders.specs.Sound.{IsSound}

@@ -1,8 +1,9 @@
 -- What stands at a path after something is put at another.
 use Rattle.std.proofs.Common.{◌≡◌, ◌≢◌, ℕ, Bool, true, false, cond, List, [], ◌∷◌, ◌++◌, None, refl, sym, ap, ◌∙◌}
 use Rattle.std.proofs.lemmas.Slice.Eq.{bytes_eq-Decides}
-use Rattle.swh_folders.specs.declared.entry.Leaf.{Leaf}
-use Rattle.swh_folders.specs.Forest.{Forest, Bare, File, Folder, Stands, Nothing, IsFile, IsFolder, beside, child_at, without, key, is_before, inserted, put, folder, forest, step, found, graft, leaf_of, at}
+use Rattle.swh_entries.specs.declared.entry.Leaf.{Leaf}
+use Rattle.swh_folders.specs.Forest.{Forest, Bare, File, Folder, Stands, Nothing, IsFile, IsFolder, beside, child_at, without, key, inserted, put, folder, forest, step, found, graft, leaf_of, at}
+use Rattle.swh_entries.specs.Keys.{is_before}
 use Rattle.swh_folders.specs.PathMap.{same}
 
 pub same_is : (a b : List ℕ) → same a b ≡ true → a ≡ b

@@ -12,11 +12,9 @@ pub mod EditedRoots
 pub mod Copies
 pub mod Lives
 pub mod Moves
-pub mod Packings
 pub mod Workings
 pub mod Orders
 pub mod Ordering
-pub mod Indexes
 pub mod Options
 pub mod Overwrites
 pub mod Splittings

@@ -1,7 +1,7 @@
 -- What setting and deleting make of a folder is what they make of its map.
 use Rattle.std.proofs.Common.{◌≡◌, ◌≢◌, ℕ, Bool, true, false, not, cond, List, [], ◌∷◌, ◌++◌, Option, Some, None, refl, sym, ap, ◌∙◌}
 use Rattle.std.specs.Prelude.{◌&&◌, ◌||◌, filter}
-use Rattle.swh_folders.specs.declared.entry.Leaf.{Leaf}
+use Rattle.swh_entries.specs.declared.entry.Leaf.{Leaf}
 use Rattle.swh_folders.specs.Forest.{Forest, Bare, File, Folder, Stands, Nothing, IsFile, IsFolder, child_at, leaf_of, step, found, deleted, deleted_where, at, flat}
 use Rattle.swh_folders.specs.PathMap.{same, PathMap, same_path, leaf_at, begins, is_path_before, insert_path, cleared, delete}
 use Rattle.swh_folders.specs.Sound.{IsSound}

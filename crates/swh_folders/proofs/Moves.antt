@@ -1,11 +1,12 @@
 -- Entries whose folders were moved.
 use Rattle.std.proofs.Common.{◌≡◌, ℕ, suc, zero, ◌+◌, ◌<◌, List, [], ◌∷◌, ◌++◌, length, take, get_or, refl, sym, ap, ◌∙◌, arith}
 use Rattle.std.proofs.lemmas.List.{take_more}
-use Rattle.swh_folders.specs.declared.entry.Entry.{Entry}
-use Rattle.swh_folders.specs.declared.entry.Child.{Child}
-use Rattle.swh_folders.specs.declared.entry.Child.TheVariants.{File as FileChild, Folder as FolderChild}
+use Rattle.swh_entries.specs.declared.entry.Entry.{Entry}
+use Rattle.swh_entries.specs.declared.entry.Child.{Child}
+use Rattle.swh_entries.specs.declared.entry.Child.TheVariants.{File as FileChild, Folder as FolderChild}
 use Rattle.swh_folders.specs.Forest.{Forest, Bare, File, Folder, Stands, beside}
-use Rattle.swh_folders.specs.Arena.{name_at, stands, forest_of, IsGood, AreGood}
+use Rattle.swh_folders.specs.Arena.{stands, forest_of, IsGood, AreGood}
+use Rattle.swh_entries.specs.Keys.{name_at}
 
 -- one folder's entries after another's
 join : Forest → Forest → Forest

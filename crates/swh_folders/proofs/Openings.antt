@@ -3,10 +3,11 @@ use Rattle.std.proofs.Common.{◌≡◌, ◌≢◌, ℕ, List, [], ◌∷◌, �
 use Rattle.std.specs.Global.{Vec}
 use Rattle.std.specs.List.{AllByRecursion}
 use Rattle.swh_base.specs.Directory.{IsEntryName}
-use Rattle.swh_folders.specs.declared.entry.Leaf.{Leaf}
+use Rattle.swh_entries.specs.declared.entry.Leaf.{Leaf}
 use Rattle.swh_folders.specs.declared.opened.Opened.{Opened}
-use Rattle.swh_folders.specs.Listed.{Listed}
-use Rattle.swh_folders.specs.Arena.{tree_at, IsArena, Extends}
+use Rattle.swh_entries.specs.Listed.{Listed}
+use Rattle.swh_folders.specs.Arena.{tree_at, IsArena}
+use Rattle.swh_entries.specs.Named.{Extends}
 use Rattle.swh_folders.specs.Forest.{Forest, Stands, Nothing, IsFile, IsFolder, child_at, put, folder, forest, found, graft, deleted, flat}
 use Rattle.swh_folders.specs.Opened.{folder_path, own_forest, root_with, open_forest, IsOpened, StandsIn}
 use Rattle.swh_folders.specs.PathMap.{PathMap, set, delete}

@@ -1,9 +1,10 @@
 -- Numbered folders in order, and what is put into them.
 use Rattle.std.proofs.Common.{◌≡◌, ℕ, ◌<◌, List, length, get_or, sym, subst}
 use Rattle.std.specs.Global.{Vec}
-use Rattle.swh_folders.specs.declared.entry.Entry.{Entry}
-use Rattle.swh_folders.specs.Listed.{Listed}
-use Rattle.swh_folders.specs.Arena.{texts, tree_at, forest_of}
+use Rattle.swh_entries.specs.declared.entry.Entry.{Entry}
+use Rattle.swh_entries.specs.Listed.{Listed}
+use Rattle.swh_folders.specs.Arena.{tree_at, forest_of}
+use Rattle.swh_entries.specs.Keys.{texts}
 use Rattle.swh_folders.specs.Forest.{Forest, without}
 use Rattle.swh_folders.specs.Sound.{IsSound}
 use Rattle.swh_folders.specs.Roots.{IsGood}

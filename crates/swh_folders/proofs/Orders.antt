@@ -9,14 +9,16 @@ use Rattle.std.specs.Cmp.Lexicographic.{slice_cmp}
 use Rattle.std.proofs.lemmas.Cmp.{nat_list_cmp_total}
 use Rattle.std.proofs.lemmas.Bool.{cases_lt}
 use Rattle.std.proofs.lemmas.List.{get_or_default}
-use Rattle.swh_folders.specs.declared.entry.Child.{Child}
-use Rattle.swh_folders.specs.declared.entry.Child.TheVariants.{File as FileChild, Folder as FolderChild}
-use Rattle.swh_folders.specs.declared.entry.Entry.{Entry}
-use Rattle.swh_folders.specs.Arena.{name_at, stands, forest_of, has_name, entries_without, entries_with, entry_key, suffix, texts, Extends}
-use Rattle.swh_folders.specs.Forest.{Forest, Nothing, beside, child_at, is_before}
+use Rattle.swh_entries.specs.declared.entry.Child.{Child}
+use Rattle.swh_entries.specs.declared.entry.Child.TheVariants.{File as FileChild, Folder as FolderChild}
+use Rattle.swh_entries.specs.declared.entry.Entry.{Entry}
+use Rattle.swh_folders.specs.Arena.{stands, forest_of, has_name, entries_without, entries_with}
+use Rattle.swh_entries.specs.Keys.{name_at, entry_key, suffix, texts, is_before}
+use Rattle.swh_entries.specs.Named.{Extends}
+use Rattle.swh_folders.specs.Forest.{Forest, Nothing, beside, child_at}
 use Rattle.swh_folders.specs.PathMap.{same}
 use Rattle.swh_folders.specs.Sound.{IsSound, Follows}
-use Rattle.swh_folders.specs.Packing.{no_leaf}
+use Rattle.swh_entries.proofs.Packings.{no_entry}
 use Rattle.swh_folders.specs.Ordered.{AreOrdered, IsAbove}
 use Rattle.swh_folders.proofs.Grafts.{same_is}
 use Rattle.swh_folders.proofs.Sounds.{before-trans, follows-back}
@@ -133,10 +135,6 @@ without-at names at (e ∷ es) c (suc k) d s lt h =
     let other = head-other names at e es c k d s (omega arith) h in
     ap (λ (b : Bool). cond b (entries_without names c es) (e ∷ entries_without names c es)) other
     ∙ ap (λ (t : List Entry). e ∷ t) (without-at names at es c k d rest.1 (omega arith) h)
-
--- an entry of no name and no file
-pub no_entry : Entry
-no_entry = record { name = 0; child = FileChild no_leaf }
 
 pub without-placed : (names : List (List ℕ)) (at : ℕ → Forest) (es : List Entry) (c : List ℕ) (k : ℕ) → IsSound (forest_of names at es) → k < length es → ((d : Entry) → has_name names c (get_or es k d) ≡ true) → entries_without names c es ≡ remove es k
 without-placed names at es c k s lt h = without-at names at es c k no_entry s lt (h no_entry)

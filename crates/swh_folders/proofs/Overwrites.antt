@@ -1,7 +1,8 @@
 -- What is put at a path over what was put there before.
 use Rattle.std.proofs.Common.{◌≡◌, ℕ, Bool, true, false, cond, List, [], ◌∷◌, ◌++◌, refl, sym, ap, ◌∙◌}
-use Rattle.swh_folders.specs.declared.entry.Leaf.{Leaf}
-use Rattle.swh_folders.specs.Forest.{Forest, Bare, File, Folder, Stands, Nothing, IsFile, IsFolder, beside, child_at, without, key, is_before, inserted, put, folder, forest, step, found, graft}
+use Rattle.swh_entries.specs.declared.entry.Leaf.{Leaf}
+use Rattle.swh_folders.specs.Forest.{Forest, Bare, File, Folder, Stands, Nothing, IsFile, IsFolder, beside, child_at, without, key, inserted, put, folder, forest, step, found, graft}
+use Rattle.swh_entries.specs.Keys.{is_before}
 use Rattle.swh_folders.specs.PathMap.{same}
 use Rattle.swh_folders.proofs.Grafts.{same_self, without-same, forest-folder, put-same}
 

@@ -3,7 +3,7 @@ use Rattle.std.proofs.Common.{◌≡◌, ◌≢◌, ℕ, Bool, true, false, not,
 use Rattle.std.specs.Prelude.{◌&&◌, ◌||◌, filter}
 use Rattle.std.specs.List.{AllByRecursion}
 use Rattle.swh_base.specs.Directory.{IsEntryName}
-use Rattle.swh_folders.specs.declared.entry.Leaf.{Leaf}
+use Rattle.swh_entries.specs.declared.entry.Leaf.{Leaf}
 use Rattle.swh_folders.specs.PathMap.{PathMap, same, same_path, begins, leaf_at, is_path_before, insert_path, cleared, set, delete, held, insert_under, put_held, copy, rename}
 use Rattle.swh_folders.specs.Forest.{Forest, Stands, Nothing, IsFile, IsFolder, child_at, put, folder, forest, step, found, graft, leaf_of, at, deleted_where, flat, shown}
 use Rattle.swh_folders.specs.Sound.{IsLeaf, IsSound, IsSoundHere}

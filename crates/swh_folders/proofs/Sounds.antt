@@ -8,8 +8,9 @@ use Rattle.std.specs.List.{AllByRecursion}
 use Rattle.std.proofs.lemmas.Cmp.{nat_list_cmp_total}
 use Rattle.std.proofs.lemmas.List.{append-nil}
 use Rattle.std.proofs.lemmas.Map.Lookups.{exact_bytes}
-use Rattle.swh_folders.specs.declared.entry.Leaf.{Leaf}
-use Rattle.swh_folders.specs.Forest.{Forest, Bare, File, Folder, Stands, Nothing, IsFile, IsFolder, beside, child_at, without, key, is_before, inserted, put, folder, forest, step, found, graft}
+use Rattle.swh_entries.specs.declared.entry.Leaf.{Leaf}
+use Rattle.swh_folders.specs.Forest.{Forest, Bare, File, Folder, Stands, Nothing, IsFile, IsFolder, beside, child_at, without, key, inserted, put, folder, forest, step, found, graft}
+use Rattle.swh_entries.specs.Keys.{is_before}
 use Rattle.swh_folders.specs.PathMap.{same}
 use Rattle.swh_folders.specs.Sound.{Follows, IsSound, IsSoundHere}
 use Rattle.swh_base.specs.Directory.{IsEntryName}

@@ -1,15 +1,15 @@
 -- One entry more of a folder.
 use Rattle.std.proofs.Common.{◌≡◌, ℕ, ◌<◌, Bool, true, false, cond, List, [], ◌∷◌, ◌++◌, length, drop, ◌+◌, suc, zero, add-one, get_or, refl, sym, ap, ◌∙◌, arith}
 use Rattle.std.proofs.Math.Seq.{drop-cons}
-use Rattle.std.proofs.lemmas.List.{get_or-map, get_or_append_left, length-append}
-use Rattle.std.proofs.Math.Seq.{get_or-append_seam}
+use Rattle.std.proofs.lemmas.List.{get_or-map}
 use Rattle.std.specs.Global.{Vec}
-use Rattle.swh_folders.specs.declared.entry.Entry.{Entry}
-use Rattle.swh_folders.specs.declared.entry.Child.{Child}
-use Rattle.swh_folders.specs.declared.entry.Child.TheVariants.{File as FileChild, Folder as FolderChild}
-use Rattle.swh_folders.specs.Forest.{Forest, Bare, File, Folder, Stands, Nothing, IsFolder, beside, child_at, without, key, is_before, inserted, folder}
+use Rattle.swh_entries.specs.declared.entry.Entry.{Entry}
+use Rattle.swh_entries.specs.declared.entry.Child.{Child}
+use Rattle.swh_entries.specs.declared.entry.Child.TheVariants.{File as FileChild, Folder as FolderChild}
+use Rattle.swh_folders.specs.Forest.{Forest, Bare, File, Folder, Stands, Nothing, IsFolder, beside, child_at, without, key, inserted, folder}
+use Rattle.swh_entries.specs.Keys.{is_before, name_at, suffix, entry_key, texts}
 use Rattle.swh_folders.specs.PathMap.{same}
-use Rattle.swh_folders.specs.Arena.{name_at, stands, forest_of, has_name, entries_without, suffix, entry_key, entries_with, texts, IsLower, IsGood, AreGood, Extends}
+use Rattle.swh_folders.specs.Arena.{stands, forest_of, has_name, entries_without, entries_with, IsLower, IsGood, AreGood}
 
 pub text-at : (names : List (Vec ℕ)) (i : ℕ) (v : Vec ℕ) → i < length names → v ≡ get_or names i v → name_at (texts names) i ≡ v.items
 text-at names i v lt is = get_or-map (λ (w : Vec ℕ). w.items) names i v [] lt ∙ ap (λ (w : Vec ℕ). w.items) (sym is)
@@ -92,21 +92,6 @@ without-good names c n k (e ∷ es) good = good_cond n k e (entries_without name
 pub with-good : (names : List (List ℕ)) (e : Entry) (n k : ℕ) (es : List Entry) → IsGood n k e → AreGood n k es → AreGood n k (entries_with names e es)
 with-good names e n k [] own good = (own, tt)
 with-good names e n k (f ∷ es) own good = good_cond n k f (e ∷ f ∷ es) (entries_with names e es) (is_before (entry_key names e) (entry_key names f)) good.0 (own, good) (with-good names e n k es own good.1)
-
-pub extends-push : (names : List (Vec ℕ)) (v : Vec ℕ) → Extends names (names ++ v ∷ [])
-extends-push names v = record {
-  longer = simp length-append (omega arith);
-  same_names = λ i lt. let more : i < length (names ++ v ∷ []) = simp length-append (omega arith) in
-      get_or-map (λ (w : Vec ℕ). w.items) (names ++ v ∷ []) i v [] more
-      ∙ ap (λ (w : Vec ℕ). w.items) (get_or_append_left names (v ∷ []) v i lt)
-      ∙ sym (get_or-map (λ (w : Vec ℕ). w.items) names i v [] lt);
-}
-
-pub name-push : (names : List (Vec ℕ)) (v : Vec ℕ) → name_at (texts (names ++ v ∷ [])) (length names) ≡ v.items
-name-push names v =
-    let more : length names < length (names ++ v ∷ []) = simp length-append (omega arith) in
-    get_or-map (λ (w : Vec ℕ). w.items) (names ++ v ∷ []) (length names) v [] more
-    ∙ ap (λ (w : Vec ℕ). w.items) (get_or-append_seam names v [] v)
 
 beside_bare : (n : List ℕ) (k : Child) (at : ℕ → Forest) (f : Forest) → folder (beside n (stands at k) f) ≡ IsFolder (beside n (stands at k) f)
 beside_bare n (FileChild l) at f = refl

@@ -4,10 +4,11 @@ use Rattle.std.proofs.Math.Seq.{drop-cons}
 use Rattle.std.proofs.lemmas.List.{get_or-map, length-map}
 use Rattle.std.specs.Borrow.{Bor}
 use Rattle.std.specs.Global.{Vec}
-use Rattle.swh_folders.specs.Listed.{Listed}
-use Rattle.swh_folders.specs.declared.entry.Child.{Child}
+use Rattle.swh_entries.specs.Listed.{Listed}
+use Rattle.swh_entries.specs.declared.entry.Child.{Child}
 use Rattle.swh_folders.specs.Forest.{Stands, put, folder, forest, step, found, graft}
-use Rattle.swh_folders.specs.Arena.{parts_of, IsIn, Extends, Grows}
+use Rattle.swh_folders.specs.Arena.{parts_of, IsIn, Grows}
+use Rattle.swh_entries.specs.Named.{Extends}
 use Rattle.swh_folders.proofs.Arenas.{lower-more}
 
 pub found-more : (p : List (List ℕ)) (k : ℕ) (y : Stands) → k < length p → found (take (k + 1) p) y ≡ step (get_or p k []) (found (take k p) y)

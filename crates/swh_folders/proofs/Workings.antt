@@ -1,9 +1,10 @@
 -- What stays of folders at work.
 use Rattle.std.proofs.Common.{◌≡◌, ℕ, ◌≤◌, List, [], ◌∷◌, ◌++◌, length, take, Option, Some, None, refl, ap, ◌∙◌, arith}
 use Rattle.std.specs.Global.{Vec}
-use Rattle.swh_folders.specs.Listed.{Listed}
+use Rattle.swh_entries.specs.Listed.{Listed}
 use Rattle.swh_folders.specs.declared.folders.Folders.{Folders}
-use Rattle.swh_folders.specs.Arena.{tree_at, forest_of, texts, Grows}
+use Rattle.swh_folders.specs.Arena.{tree_at, forest_of, Grows}
+use Rattle.swh_entries.specs.Keys.{texts}
 use Rattle.swh_folders.specs.Roots.{IsGood, map_at, IsBelow, map_of_number}
 use Rattle.swh_folders.specs.Working.{AreFolders, count_of, StaysBelow}
 use Rattle.swh_folders.proofs.Arenas.{arena-none, arena-push, sound-push, tree-push_old, tree-push_new}

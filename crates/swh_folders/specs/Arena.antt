@@ -1,18 +1,16 @@
 -- Numbered folders as forests.
-use Rattle.std.specs.Prelude.{◌≡◌, ℕ, ◌==◌, ◌<◌, ◌≤◌, ◌++◌, Bool, List, [], ◌∷◌, length, map, reverse, Option, Some, None, if◌then◌else◌, slice_index_or, All, take}
+use Rattle.std.specs.Prelude.{◌≡◌, ℕ, ◌==◌, ◌<◌, ◌≤◌, Bool, List, [], ◌∷◌, length, map, reverse, Option, Some, None, if◌then◌else◌, slice_index_or, All, take}
 use Rattle.std.specs.Borrow.{Bor}
 use Rattle.std.specs.List.{AllByRecursion}
 use Rattle.std.specs.Global.{Vec}
-use Rattle.swh_folders.specs.declared.entry.Child.{Child}
-use Rattle.swh_folders.specs.declared.entry.Entry.{Entry}
-use Rattle.swh_folders.specs.Listed.{Listed}
-use Rattle.swh_folders.specs.declared.entry.Child.TheVariants.{File as FileChild, Folder as FolderChild}
-use Rattle.swh_folders.specs.Forest.{Forest, Bare, Stands, Nothing, IsFile, IsFolder, beside, is_before, found}
+use Rattle.swh_entries.specs.declared.entry.Child.{Child}
+use Rattle.swh_entries.specs.declared.entry.Entry.{Entry}
+use Rattle.swh_entries.specs.Listed.{Listed}
+use Rattle.swh_entries.specs.declared.entry.Child.TheVariants.{File as FileChild, Folder as FolderChild}
+use Rattle.swh_entries.specs.Keys.{name_at, texts, entry_key, is_before}
+use Rattle.swh_entries.specs.Named.{Extends}
+use Rattle.swh_folders.specs.Forest.{Forest, Bare, Stands, Nothing, IsFile, IsFolder, beside, found}
 use Rattle.swh_folders.specs.PathMap.{same}
-
--- the name of this number
-abbrev pub name_at : List (List ℕ) → ℕ → List ℕ
-name_at names i = slice_index_or names i []
 
 -- what a child is, where folders are these
 abbrev pub stands : (ℕ → Forest) → Child → Stands
@@ -62,23 +60,10 @@ abbrev pub entries_without : List (List ℕ) → List ℕ → List Entry → Lis
 entries_without names c [] = []
 entries_without names c (e ∷ es) = if has_name names c e then entries_without names c es else e ∷ entries_without names c es
 
--- what a name is compared with after its own bytes
-abbrev pub suffix : Child → List ℕ
-suffix (FileChild l) = []
-suffix (FolderChild j) = 47 ∷ []
-
--- the bytes by which entries are in order
-abbrev pub entry_key : List (List ℕ) → Entry → List ℕ
-entry_key names e = name_at names e.name ++ suffix e.child
-
 -- in front of the first with a greater key
 abbrev pub entries_with : List (List ℕ) → Entry → List Entry → List Entry
 entries_with names e [] = e ∷ []
 entries_with names e (f ∷ es) = if is_before (entry_key names e) (entry_key names f) then e ∷ f ∷ es else f ∷ entries_with names e es
-
--- the names themselves
-abbrev pub texts : List (Vec ℕ) → List (List ℕ)
-texts names = map (λ v. v.items) names
 
 -- the newest first
 abbrev pub layers : List Listed → List (List Entry)
@@ -96,11 +81,6 @@ IsArena names nodes = AllGood (length names) (layers nodes)
 abbrev pub IsIn : ℕ → Option Child → Type 0
 IsIn n None = Unit {0}
 IsIn n (Some c) = IsLower n c
-
--- names kept, and maybe more
-pub record Extends (names names' : List (Vec ℕ)) : Type 0 where
-  pub longer : length names ≤ length names'
-  pub same_names : (i : ℕ) → i < length names → name_at (texts names') i ≡ name_at (texts names) i
 
 -- numbers mean what they meant
 pub record Grows (names : List (Vec ℕ)) (nodes : List Listed) (names' : List (Vec ℕ)) (nodes' : List Listed) : Type 0 where

@@ -1,8 +1,7 @@
 -- Folders of folders, what stands at a path, and what putting something at a path makes.
-use Rattle.std.specs.Prelude.{ℕ, Bool, List, [], ◌∷◌, ◌++◌, map, Option, Some, None, if◌then◌else◌}
-use Rattle.std.specs.Ordering.{nat_cmp, is_lt}
-use Rattle.std.specs.Cmp.Lexicographic.{slice_cmp}
-use Rattle.swh_folders.specs.declared.entry.Leaf.{Leaf}
+use Rattle.std.specs.Prelude.{ℕ, List, [], ◌∷◌, ◌++◌, map, Option, Some, None, if◌then◌else◌}
+use Rattle.swh_entries.specs.declared.entry.Leaf.{Leaf}
+use Rattle.swh_entries.specs.Keys.{is_before}
 use Rattle.swh_folders.specs.PathMap.{PathMap, same}
 
 -- a folder: its entries in their order, each a file or a folder under its name
@@ -39,10 +38,6 @@ without c (Folder n g f) = if same n c then without c f else Folder n g (without
 abbrev pub key : List ℕ → Stands → List ℕ
 key c (IsFolder g) = c ++ 47 ∷ []
 key c _ = c ++ []
-
--- whether the first bytes come before the second
-abbrev pub is_before : List ℕ → List ℕ → Bool
-is_before a b = is_lt (slice_cmp nat_cmp a b)
 
 -- in front of the first with a greater key
 abbrev pub inserted : List ℕ → Stands → Forest → Forest

@@ -1,17 +1,12 @@
 pub mod Arena
 pub mod Forest
-pub mod Forms
 pub mod Leaf
-pub mod Listed
 pub mod Live
 pub mod Moved
-pub mod Named
 pub mod Ordered
 pub mod Opened
-pub mod Packing
 pub mod PathMap
 pub mod Roots
 pub mod Sound
-pub mod Spans
 pub mod Transfer
 pub mod Working

@@ -1,9 +1,9 @@
 -- Which folders a root still needs: those that are marked.
 use Rattle.std.specs.Prelude.{◌≡◌, ℕ, ◌-◌, ◌<◌, ◌≤◌, Bool, true, false, List, length, slice_index_or}
-use Rattle.swh_folders.specs.declared.entry.Child.{Child}
-use Rattle.swh_folders.specs.declared.entry.Child.TheVariants.{File as FileChild, Folder as FolderChild}
-use Rattle.swh_folders.specs.declared.entry.Entry.{Entry}
-use Rattle.swh_folders.specs.Listed.{Listed}
+use Rattle.swh_entries.specs.declared.entry.Child.{Child}
+use Rattle.swh_entries.specs.declared.entry.Child.TheVariants.{File as FileChild, Folder as FolderChild}
+use Rattle.swh_entries.specs.declared.entry.Entry.{Entry}
+use Rattle.swh_entries.specs.Listed.{Listed}
 use Rattle.swh_folders.specs.Arena.{IsLower}
 use Rattle.swh_folders.specs.Forest.{Forest, Stands, IsFolder, found}
 

@@ -1,7 +1,7 @@
 -- Folders that were moved.
 use Rattle.std.specs.Prelude.{◌≡◌, ℕ, ◌+◌, ◌<◌, ◌≤◌, ◌++◌, Bool, true, List, length, take, slice_index_or}
 use Rattle.std.specs.Global.{Vec}
-use Rattle.swh_folders.specs.Listed.{Listed}
+use Rattle.swh_entries.specs.Listed.{Listed}
 use Rattle.swh_folders.specs.Arena.{tree_at, IsArena}
 use Rattle.swh_folders.specs.Forest.{Forest, Stands}
 use Rattle.swh_folders.specs.Live.{is_live, IsPart}

@@ -9,8 +9,9 @@ use Rattle.swh_folders.specs.declared.folders.Folders.{Folders}
 use Rattle.swh_folders.specs.declared.opened.Opened.{Opened}
 use Rattle.swh_folders.specs.declared.opened.Start.{Start}
 use Rattle.swh_folders.specs.declared.opened.Start.TheVariants.{At, In}
-use Rattle.swh_folders.specs.Listed.{Listed}
-use Rattle.swh_folders.specs.Arena.{forest_of, texts, tree_at, AreGood}
+use Rattle.swh_entries.specs.Listed.{Listed}
+use Rattle.swh_folders.specs.Arena.{forest_of, tree_at, AreGood}
+use Rattle.swh_entries.specs.Keys.{texts}
 use Rattle.swh_folders.specs.Forest.{Forest, Stands, IsFolder, put, folder, forest, found, graft, flat}
 use Rattle.swh_folders.specs.PathMap.{PathMap}
 use Rattle.swh_folders.specs.Roots.{IsBelow, root_forest}

@@ -1,8 +1,7 @@
 -- Entries in the order of git's directories.
 use Rattle.std.specs.Prelude.{◌≡◌, ℕ, ◌<◌, ◌≤◌, true, false, List, length, slice_index_or}
-use Rattle.swh_folders.specs.declared.entry.Entry.{Entry}
-use Rattle.swh_folders.specs.Forest.{is_before}
-use Rattle.swh_folders.specs.Arena.{entry_key}
+use Rattle.swh_entries.specs.declared.entry.Entry.{Entry}
+use Rattle.swh_entries.specs.Keys.{is_before, entry_key}
 
 -- Each entry comes before those behind it.
 abbrev pub AreOrdered : List (List ℕ) → List Entry → Type 0

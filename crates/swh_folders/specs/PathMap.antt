@@ -4,7 +4,7 @@ use Rattle.std.specs.Prelude.{◌≡◌, ℕ, Bool, true, false, not, ◌&&◌, 
 use Rattle.std.specs.Ordering.{nat_cmp, is_lt}
 use Rattle.std.specs.Cmp.Lexicographic.{slice_cmp}
 use Rattle.std.specs.Str.{bytes_eq}
-use Rattle.swh_folders.specs.declared.entry.Leaf.{Leaf}
+use Rattle.swh_entries.specs.declared.entry.Leaf.{Leaf}
 
 -- each path with what stands there, in the order of git's directories; no path stands twice
 abbrev pub PathMap : Type 0

@@ -1,7 +1,7 @@
 -- Numbered folders, all of them sound, and what the number of a root stands for.
 use Rattle.std.specs.Prelude.{ℕ, ◌<◌, List, [], length, Option, Some, None}
 use Rattle.std.specs.Global.{Vec}
-use Rattle.swh_folders.specs.Listed.{Listed}
+use Rattle.swh_entries.specs.Listed.{Listed}
 use Rattle.swh_folders.specs.Arena.{tree_at, IsArena}
 use Rattle.swh_folders.specs.Forest.{Forest, Bare, flat}
 use Rattle.swh_folders.specs.PathMap.{PathMap}

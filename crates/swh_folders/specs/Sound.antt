@@ -1,9 +1,10 @@
 -- Folders in order, with distinct names, and none of them empty but the root.
 use Rattle.std.specs.Prelude.{◌≡◌, ◌≢◌, ℕ, true, List, [], ◌∷◌, ◌++◌, length}
 use Rattle.swh_base.specs.Directory.{IsEntryName}
-use Rattle.swh_folders.specs.declared.entry.Leaf.{Leaf}
+use Rattle.swh_entries.specs.declared.entry.Leaf.{Leaf}
 use Rattle.swh_folders.specs.Leaf.{IsLeafMode}
-use Rattle.swh_folders.specs.Forest.{Forest, Bare, File, Folder, Stands, Nothing, IsFile, IsFolder, child_at, is_before}
+use Rattle.swh_folders.specs.Forest.{Forest, Bare, File, Folder, Stands, Nothing, IsFile, IsFolder, child_at}
+use Rattle.swh_entries.specs.Keys.{is_before}
 
 -- The mode is one of a leaf, and the id has twenty bytes.
 pub record IsLeaf (l : Leaf) : Type 0 where

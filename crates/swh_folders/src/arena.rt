@@ -5,28 +5,25 @@ ghost use Rattle.std.specs.Global.{Vec};
 ghost use Rattle.swh_folders.specs.Forest.{Forest, step, without, inserted, put, folder, forest};
 ghost use Rattle.swh_folders.specs.Sound.{IsSound, IsSoundHere};
 ghost use Rattle.swh_folders.specs.Arena.{
-  name_at,
   stands,
   stands_of,
   forest_of,
-  texts,
   tree_at,
   IsArena,
   AreGood,
   IsLower,
   IsIn,
   Grows,
-  Extends,
 };
+ghost use Rattle.swh_entries.specs.Keys.{name_at, texts};
+ghost use Rattle.swh_entries.specs.Named.{Extends};
 ghost use Rattle.swh_base.specs.Directory.{IsEntryName};
 ghost use Rattle.swh_folders.specs.Ordered.{AreOrdered};
 ghost use Rattle.swh_folders.specs.Roots.{AreSound, IsGood};
 
-use crate::entry::{Child, Entry};
-use crate::names::Names;
 use crate::node::{child_in, kept, with_entry};
-use crate::packed::Packed;
 use std::alloc::{AllocError, Global};
+use swh_entries::{Child, Entry, Names, Packed};
 
 /// What stands under this name in what stands here.
 pub fn step(names: &[Vec<u8>], nodes: &[Packed], under: Option<Child>, name: &[u8]) -> Option<Child>

@@ -17,18 +17,17 @@ ghost use Rattle.std.specs.Prelude.{
   OnOk,
 };
 ghost use Rattle.std.specs.Global.{Vec};
-ghost use Rattle.swh_folders.specs.declared.entry.Entry.{Entry};
+ghost use Rattle.swh_entries.specs.declared.entry.Entry.{Entry};
 ghost use Rattle.swh_folders.specs.Forest.{Forest, Stands, IsFolder};
-ghost use Rattle.swh_folders.specs.Arena.{stands, forest_of, texts, tree_at, AreGood, IsArena, IsLower};
+ghost use Rattle.swh_folders.specs.Arena.{stands, forest_of, tree_at, AreGood, IsArena, IsLower};
+ghost use Rattle.swh_entries.specs.Keys.{texts};
 ghost use Rattle.swh_folders.specs.Roots.{IsGood};
 ghost use Rattle.swh_folders.specs.Live.{is_live, IsMarked, AreMarked, AreLower, IsClosed, IsPart};
 ghost use Rattle.swh_folders.specs.Moved.{AreMoved, IsCopied};
 
-use crate::entry::{Child, Entry};
-use crate::known::Known;
 use crate::live::live_of;
-use crate::packed::Packed;
 use std::alloc::{AllocError, Global};
+use swh_entries::{Child, Entry, Known, Packed};
 
 /// Where a child stands now.
 fn moved_child(child: Child, base: usize, moved: &[usize]) -> Child

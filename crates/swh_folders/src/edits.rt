@@ -12,11 +12,9 @@ ghost use Rattle.swh_folders.specs.Transfer.{transferred, left_by};
 ghost use Rattle.swh_base.specs.Directory.{IsEntryName};
 ghost use Rattle.swh_fastlex.specs.Path.{components, IsPath};
 
-use crate::entry::{Child, Leaf};
-use crate::names::Names;
-use crate::packed::Packed;
 use crate::path::{components_of, find, graft};
 use std::alloc::{AllocError, Global};
+use swh_entries::{Child, Leaf, Names, Packed};
 
 /// How a source's holdings come to a target: they stay at the source too, or the source is removed first.
 #[derive(Clone, Copy)]

@@ -10,10 +10,8 @@ ghost use Rattle.swh_folders.specs.Working.{AreFolders, count_of, root_map, Stay
 
 use crate::compacting::compact;
 use crate::edits::{Transfer, transfer_path};
-use crate::known::Known;
-use crate::names::Names;
-use crate::packed::Packed;
 use std::alloc::{AllocError, Global};
+use swh_entries::{Known, Names, Packed};
 
 /// How many entries, and how many folders, more than twice those that are needed may stand.
 const SPARE: usize = 65_536;

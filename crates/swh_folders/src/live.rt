@@ -2,16 +2,15 @@
 
 ghost use Rattle.std.specs.Prelude.{◌≡◌, ◌⊎◌, ◌<◌, ◌≤◌, ◌+◌, ℕ, List, length, slice_index_or, true, false, IfOk};
 ghost use Rattle.std.specs.Global.{Vec};
-ghost use Rattle.swh_folders.specs.declared.entry.Child.TheVariants.{Folder as FolderChild};
-ghost use Rattle.swh_folders.specs.declared.entry.Entry.{Entry};
+ghost use Rattle.swh_entries.specs.declared.entry.Child.TheVariants.{Folder as FolderChild};
+ghost use Rattle.swh_entries.specs.declared.entry.Entry.{Entry};
 ghost use Rattle.swh_folders.specs.Arena.{tree_at, IsArena, IsLower};
 ghost use Rattle.swh_folders.specs.Forest.{IsFolder};
 ghost use Rattle.swh_folders.specs.Roots.{AreSound};
 ghost use Rattle.swh_folders.specs.Live.{is_live, IsMarked, AreMarked, HasChild, AreLower, IsClosed, AreLiveParts};
 
-use crate::entry::{Child, Entry};
-use crate::packed::Packed;
 use std::alloc::{AllocError, Global};
+use swh_entries::{Child, Entry, Packed};
 
 /// Marks a folder that stands from the base on.
 fn mark(live: &mut [bool], base: usize, child: Child)

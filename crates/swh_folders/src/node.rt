@@ -1,29 +1,24 @@
 //! One folder's entries, in the order of git's directories.
 
 ghost use Rattle.std.specs.Prelude.{◌≡◌, ◌<◌, ◌≤◌, ◌+◌, ◌++◌, ℕ, true, false, length, slice_index_or, IsTrue, All, IfOk, IfSome, IfNone};
-ghost use Rattle.swh_folders.specs.declared.entry.Entry.{Entry};
-ghost use Rattle.swh_folders.specs.Forest.{Forest, child_at, is_before};
+ghost use Rattle.swh_entries.specs.declared.entry.Entry.{Entry};
+ghost use Rattle.swh_folders.specs.Forest.{Forest, child_at};
+ghost use Rattle.swh_entries.specs.Keys.{is_before, name_at, entry_key, suffix, texts};
 ghost use Rattle.swh_folders.specs.Sound.{IsSound};
 ghost use Rattle.swh_folders.specs.PathMap.{same};
 ghost use Rattle.swh_folders.specs.Ordered.{AreOrdered, IsAbove};
 ghost use Rattle.swh_folders.specs.Arena.{
-  name_at,
   stands_of,
   forest_of,
   has_name,
   entries_without,
   entries_with,
-  entry_key,
-  suffix,
-  texts,
   AreGood,
   IsIn,
 };
 
-use crate::entry::{Child, Entry};
-use crate::order::{comes_before, suffix};
-use crate::packed::Packed;
 use std::alloc::{AllocError, Global};
+use swh_entries::{Child, Entry, Packed, comes_before, suffix};
 
 /// Whether the name of this number is this one.
 fn is_name(names: &[Vec<u8>], number: usize, name: &[u8]) -> bool

@@ -5,7 +5,9 @@ ghost use Rattle.std.specs.Prelude.{◌≡◌, ◌≢◌, ◌≤◌, ◌∷◌, 
 ghost use Rattle.std.specs.Global.{Vec};
 ghost use Rattle.std.specs.List.{AllByRecursion};
 ghost use Rattle.swh_base.specs.Directory.{IsEntryName};
-ghost use Rattle.swh_folders.specs.Arena.{stands_of, forest_of, texts, tree_at, AreGood, IsIn, Extends, Grows};
+ghost use Rattle.swh_folders.specs.Arena.{stands_of, forest_of, tree_at, AreGood, IsIn, Grows};
+ghost use Rattle.swh_entries.specs.Keys.{texts};
+ghost use Rattle.swh_entries.specs.Named.{Extends};
 ghost use Rattle.swh_folders.specs.Forest.{Forest, Nothing, IsFolder, child_at, put, forest, found, flat};
 ghost use Rattle.swh_folders.specs.Roots.{IsBelow, IsGood, map_at, map_of_number, root_forest};
 ghost use Rattle.swh_folders.specs.PathMap.{set, delete, held};
@@ -29,14 +31,12 @@ ghost use Rattle.swh_folders.specs.Opened.{
 
 use crate::arena::{add_some, seal};
 use crate::edits::{Transfer, number_of, root_of, transfer_path};
-use crate::entry::{Child, Leaf};
 use crate::folders::{Folders, settled, transfer_in};
-use crate::names::Names;
 use crate::node::{child_in, kept};
-use crate::packed::Packed;
 use crate::path::{components_of, find, graft};
 use crate::splitting::{is_same_folder, split_path};
 use std::alloc::{AllocError, Global};
+use swh_entries::{Child, Leaf, Names, Packed};
 
 /// A folder of a tree, open.
 pub struct Opened {

@@ -10,10 +10,8 @@ ghost use Rattle.swh_folders.specs.Roots.{IsGood};
 ghost use Rattle.swh_folders.specs.Arena.{stands_of, tree_at, parts_of, IsIn, Grows, AreFronts};
 
 use crate::arena::{put, step};
-use crate::entry::Child;
-use crate::names::Names;
-use crate::packed::Packed;
 use std::alloc::{AllocError, Global};
+use swh_entries::{Child, Names, Packed};
 use swh_pieces::split_at_byte;
 
 /// What stands at this path.

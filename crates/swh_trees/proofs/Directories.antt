@@ -5,8 +5,9 @@ use Rattle.std.specs.Cmp.Lexicographic.{slice_cmp}
 use Rattle.std.specs.declared.cmp.Ordering.{Ordering}
 use Rattle.std.specs.declared.cmp.Ordering.TheVariants.{Less, Equal, Greater}
 use Rattle.std.proofs.lemmas.Cmp.{nat_list_cmp_total}
-use Rattle.swh_folders.specs.declared.entry.Leaf.{Leaf}
-use Rattle.swh_folders.specs.Forest.{Forest, Bare, File, Folder, Stands, Nothing, IsFile, IsFolder, child_at, is_before, leaf_of, flat, shown}
+use Rattle.swh_entries.specs.declared.entry.Leaf.{Leaf}
+use Rattle.swh_folders.specs.Forest.{Forest, Bare, File, Folder, Stands, Nothing, IsFile, IsFolder, child_at, leaf_of, flat, shown}
+use Rattle.swh_entries.specs.Keys.{is_before}
 use Rattle.swh_trees.specs.Listing.{entry_here, directory}
 use Rattle.swh_folders.specs.PathMap.{same, PathMap, leaf_at, held_by}
 use Rattle.swh_folders.specs.Sound.{Follows, IsLeaf, IsSound}

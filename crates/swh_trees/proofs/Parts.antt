@@ -7,16 +7,17 @@ use Rattle.std.specs.Prelude.{OnErr, Result, Ok, Err}
 use Rattle.swh_base.specs.declared.entry.Entry.{Entry as Object}
 use Rattle.swh_base.specs.declared.kind.Kind.{Kind}
 use Rattle.swh_base.specs.Directory.{DirectoryEntry, directory_text}
-use Rattle.swh_folders.specs.declared.entry.Leaf.{Leaf}
-use Rattle.swh_folders.specs.declared.entry.Entry.{Entry}
-use Rattle.swh_folders.specs.Listed.{Listed}
-use Rattle.swh_folders.specs.declared.entry.Child.{Child}
-use Rattle.swh_folders.specs.declared.entry.Child.TheVariants.{File as FileChild, Folder as FolderChild}
+use Rattle.swh_entries.specs.declared.entry.Leaf.{Leaf}
+use Rattle.swh_entries.specs.declared.entry.Entry.{Entry}
+use Rattle.swh_entries.specs.Listed.{Listed}
+use Rattle.swh_entries.specs.declared.entry.Child.{Child}
+use Rattle.swh_entries.specs.declared.entry.Child.TheVariants.{File as FileChild, Folder as FolderChild}
 use Rattle.swh_trees.specs.declared.fault.TreeFault.{TreeFault}
 use Rattle.swh_trees.specs.declared.fault.TreeFault.TheVariants.{Memory, TooLong}
 use Rattle.swh_folders.specs.declared.folders.Folders.{Folders}
 use Rattle.swh_trees.specs.declared.tree.Tree.{Tree}
-use Rattle.swh_folders.specs.Arena.{name_at, stands, forest_of, texts, tree_at, AreGood, IsLower}
+use Rattle.swh_folders.specs.Arena.{stands, forest_of, tree_at, AreGood, IsLower}
+use Rattle.swh_entries.specs.Keys.{name_at, texts}
 use Rattle.swh_trees.specs.Directory.{directory_id, directory_of}
 use Rattle.swh_folders.specs.Forest.{Forest, Stands, Nothing, IsFile, IsFolder, beside, child_at, forest, found, leaf_of, at, flat, shown}
 use Rattle.swh_trees.specs.Listing.{directory}

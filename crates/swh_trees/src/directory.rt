@@ -3,7 +3,8 @@
 ghost use Rattle.std.specs.Prelude.{◌≡◌, ◌<◌, ℕ, List, length, All, IfOk};
 ghost use Rattle.swh_base.specs.Directory.{DirectoryEntry};
 ghost use Rattle.swh_dirfmt.specs.Entries.{entry_view, entry_views};
-ghost use Rattle.swh_folders.specs.Arena.{name_at, stands, forest_of, texts, AreGood, IsLower};
+ghost use Rattle.swh_folders.specs.Arena.{stands, forest_of, AreGood, IsLower};
+ghost use Rattle.swh_entries.specs.Keys.{name_at, texts};
 ghost use Rattle.swh_folders.specs.Forest.{Forest};
 ghost use Rattle.swh_trees.specs.Listing.{directory, entry_here};
 ghost use Rattle.swh_trees.specs.Held.{AreIds};
@@ -11,7 +12,7 @@ ghost use Rattle.swh_trees.specs.Held.{AreIds};
 use std::alloc::Global;
 use swh_base::{Bytes, Memory};
 use swh_dirfmt::DirEntry;
-use swh_folders::{Child, Entry, whole_id};
+use swh_entries::{Child, Entry, whole_id};
 
 /// The mode and the id of a child, where folders have these ids.
 fn mode_and_id(ids: &[[u8; 20]], child: Child) -> (u32, [u8; 20])

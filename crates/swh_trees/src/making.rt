@@ -14,7 +14,8 @@ use crate::fault::TreeFault;
 use crate::objects::make_all;
 use std::alloc::{AllocError, Global};
 use swh_base::Namer;
-use swh_folders::{Folders, Packed, compact, count_from};
+use swh_entries::Packed;
+use swh_folders::{Folders, compact, count_from};
 use swh_object::Object;
 
 /// The number of an empty folder: this one, or else a new one.

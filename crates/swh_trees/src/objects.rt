@@ -24,7 +24,7 @@ use crate::fault::TreeFault;
 use std::alloc::Global;
 use swh_base::{Kind, Namer};
 use swh_dirfmt::{DirEntry, Entries, write_dir};
-use swh_folders::{Packed, whole_id};
+use swh_entries::{Packed, whole_id};
 use swh_object::{Object, ObjectFault};
 
 /// The object of the directory of these entries.

@@ -6,9 +6,8 @@ use crate::tree::Tree;
 use std::alloc::Global;
 use std::marker::Model;
 use swh_base::{Memory, Namer};
-use swh_folders::{
-    Folders, Leaf, Opened, Start, Transfer, delete_in, root_from, set_in, transfer_from, whole_id,
-};
+use swh_entries::{Leaf, whole_id};
+use swh_folders::{Folders, Opened, Start, Transfer, delete_in, root_from, set_in, transfer_from};
 use swh_object::Object;
 
 /// Trees that share the folders which they have in common, and the ids of the folders whose objects were made, by the

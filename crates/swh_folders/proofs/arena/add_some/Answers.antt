@@ -1,6 +1,7 @@
 use Rattle.std.proofs.Common.{◌≤◌, sym, ap, subst, refl, ◌∙◌, List, ℕ, length, arith}
-use Rattle.swh_folders.specs.declared.entry.Entry.{Entry}
-use Rattle.swh_folders.specs.Arena.{texts, stands, forest_of, AreGood}
+use Rattle.swh_entries.specs.declared.entry.Entry.{Entry}
+use Rattle.swh_folders.specs.Arena.{stands, forest_of, AreGood}
+use Rattle.swh_entries.specs.Keys.{texts}
 use Rattle.swh_folders.specs.Forest.{inserted}
 use Rattle.swh_folders.proofs.Arenas.{if_ok, good-more, same-forest}
 use Rattle.swh_folders.proofs.Steps.{inserted-nothing, with-good, forest-with}

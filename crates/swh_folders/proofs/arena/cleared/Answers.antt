@@ -1,10 +1,11 @@
 use Rattle.std.proofs.Common.{rules, ◌<◌, List, sym, ap, subst, ◌∙◌, length}
 use Rattle.std.specs.Prelude.{All}
-use Rattle.swh_folders.specs.declared.entry.Entry.{Entry}
+use Rattle.swh_entries.specs.declared.entry.Entry.{Entry}
 use Rattle.swh_folders.specs.Forest.{without}
 use Rattle.swh_folders.specs.Sound.{IsSound}
 use Rattle.swh_folders.specs.Ordered.{AreOrdered}
-use Rattle.swh_folders.specs.Arena.{tree_at, texts, forest_of, AreGood}
+use Rattle.swh_folders.specs.Arena.{tree_at, forest_of, AreGood}
+use Rattle.swh_entries.specs.Keys.{texts}
 use Rattle.swh_folders.proofs.Arenas.{if_ok, tree-node, entries-good, names-in_range}
 use Rattle.swh_folders.proofs.Steps.{without-good, forest-without}
 use Rattle.swh_folders.proofs.Ordering.{node-sound, node-ordered}

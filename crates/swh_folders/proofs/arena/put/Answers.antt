@@ -1,7 +1,8 @@
 use Rattle.std.proofs.Common.{ap, sym, subst, ◌∙◌, length, arith}
 use Rattle.swh_folders.specs.Forest.{put, folder, forest}
 use Rattle.swh_folders.specs.Sound.{IsSound, IsSoundHere}
-use Rattle.swh_folders.specs.Arena.{stands_of, tree_at, texts}
+use Rattle.swh_folders.specs.Arena.{stands_of, tree_at}
+use Rattle.swh_entries.specs.Keys.{texts}
 use Rattle.swh_folders.proofs.Arenas.{if_ok, tree-names, arena-names, sound-names, under-sound, put-added, names-in_range}
 use Rattle.swh_folders.proofs.Ordering.{left-ordered}
 use Rattle.swh_folders.proofs.Sounds.{put-sound, folder-sound}

@@ -1,7 +1,8 @@
 use Rattle.std.proofs.Common.{rules, ◌≡◌, ◌<◌, sym, ap, ◌∙◌, length, arith}
 use Rattle.std.proofs.lemmas.List.{length-append}
 use Rattle.swh_folders.specs.Forest.{IsFolder}
-use Rattle.swh_folders.specs.Arena.{texts, tree_at}
+use Rattle.swh_folders.specs.Arena.{tree_at}
+use Rattle.swh_entries.specs.Keys.{texts}
 use Rattle.swh_folders.proofs.Arenas.{tree-push_old, tree-push_new, arena-push, sound-push}
 use Rattle.swh_folders.proofs.Steps.{not_bare}
 use Rattle.swh_folders.proofs.Walks.{extends-none}

@@ -1,6 +1,6 @@
 use Rattle.std.proofs.Common.{◌≡◌, ◌+◌, ◌-◌, ◌<◌, ◌≤◌, ◌++◌, List, length, take, get_or, true, ap, ◌∙◌, arith}
 use Rattle.std.proofs.lemmas.List.{length-append, length-take, get_or_default}
-use Rattle.swh_folders.specs.Listed.{Listed}
+use Rattle.swh_entries.specs.Listed.{Listed}
 use Rattle.swh_folders.specs.Forest.{IsFolder}
 use Rattle.swh_folders.specs.Arena.{tree_at}
 use Rattle.swh_folders.specs.Live.{is_live}

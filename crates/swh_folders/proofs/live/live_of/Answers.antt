@@ -1,6 +1,6 @@
 use Rattle.std.proofs.Common.{rules, ◌≡◌, ◌⊎◌, ◌+◌, ◌-◌, ◌<◌, ◌≤◌, ◌++◌, ℕ, length, take, drop, true, false, sym, subst, ◌∙◌, arith}
 use Rattle.std.proofs.lemmas.List.{get_or_default}
-use Rattle.swh_folders.specs.Listed.{Listed}
+use Rattle.swh_entries.specs.Listed.{Listed}
 use Rattle.swh_folders.specs.Live.{is_live, AreMarked, HasChild, IsClosed}
 use Rattle.swh_folders.proofs.Lives.{parts-step, closed-step, written-back}
 use Rattle.swh_folders.proofs.live.live_of.Goals as goal

@@ -1,6 +1,5 @@
 use Rattle.std.proofs.Common.{◌≡◌, ◌+◌, ◌-◌, ◌/◌, ◌++◌, ◌<◌, true, false, length, sym, ◌∙◌, arith}
-use Rattle.swh_folders.specs.Arena.{texts, entry_key}
-use Rattle.swh_folders.specs.Forest.{is_before}
+use Rattle.swh_entries.specs.Keys.{texts, entry_key, is_before}
 use Rattle.swh_folders.proofs.Orders.{above-step, below-step, middle, name-of}
 use Rattle.swh_folders.proofs.node.above_by_halves.Goals as goal
 

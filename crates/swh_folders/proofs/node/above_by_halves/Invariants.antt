@@ -1,7 +1,6 @@
 use Rattle.std.proofs.Common.{◌≡◌, ◌≤◌, ◌<◌, ◌++◌, ◌-◌, ℕ, true, false, length, get_or}
-use Rattle.swh_folders.specs.declared.entry.Entry.{Entry}
-use Rattle.swh_folders.specs.Arena.{texts, entry_key}
-use Rattle.swh_folders.specs.Forest.{is_before}
+use Rattle.swh_entries.specs.declared.entry.Entry.{Entry}
+use Rattle.swh_entries.specs.Keys.{texts, entry_key, is_before}
 use Rattle.swh_folders.proofs.node.above_by_halves.Given as goal
 
 abbrev pub invariant-halves : goal.invariant-halves

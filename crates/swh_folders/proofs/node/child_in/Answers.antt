@@ -1,6 +1,7 @@
 use Rattle.std.proofs.Common.{rules, ap, subst, sym, ◌∙◌}
-use Rattle.swh_folders.specs.declared.entry.Entry.{Entry}
-use Rattle.swh_folders.specs.Arena.{texts, stands, IsLower}
+use Rattle.swh_entries.specs.declared.entry.Entry.{Entry}
+use Rattle.swh_folders.specs.Arena.{stands, IsLower}
+use Rattle.swh_entries.specs.Keys.{texts}
 use Rattle.swh_folders.proofs.Steps.{good-at}
 use Rattle.swh_folders.proofs.Orders.{found-at, found-none}
 use Rattle.swh_folders.proofs.node.child_in.Goals as goal

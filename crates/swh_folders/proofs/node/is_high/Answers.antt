@@ -1,6 +1,5 @@
 use Rattle.std.proofs.Common.{rules, ◌≡◌, ◌<◌, ◌++◌, true, length, sym, ◌∙◌}
-use Rattle.swh_folders.specs.Arena.{texts, entry_key}
-use Rattle.swh_folders.specs.Forest.{is_before}
+use Rattle.swh_entries.specs.Keys.{texts, entry_key, is_before}
 use Rattle.swh_folders.proofs.Orders.{above-step, name-of}
 use Rattle.swh_folders.proofs.node.is_high.Goals as goal
 

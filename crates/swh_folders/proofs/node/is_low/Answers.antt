@@ -1,6 +1,5 @@
 use Rattle.std.proofs.Common.{◌≡◌, ◌-◌, ◌<◌, ◌++◌, false, length, sym, ◌∙◌, arith}
-use Rattle.swh_folders.specs.Arena.{texts, entry_key}
-use Rattle.swh_folders.specs.Forest.{is_before}
+use Rattle.swh_entries.specs.Keys.{texts, entry_key, is_before}
 use Rattle.swh_folders.proofs.Orders.{below-step, name-of}
 use Rattle.swh_folders.proofs.node.is_low.Goals as goal
 

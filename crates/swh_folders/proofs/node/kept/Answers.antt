@@ -1,5 +1,5 @@
 use Rattle.std.proofs.Common.{rules, sym, ◌∙◌}
-use Rattle.swh_folders.specs.Arena.{texts}
+use Rattle.swh_entries.specs.Keys.{texts}
 use Rattle.swh_folders.proofs.Arenas.{if_ok}
 use Rattle.swh_folders.proofs.Orders.{without-placed, without-none}
 use Rattle.swh_folders.proofs.node.kept.Goals as goal

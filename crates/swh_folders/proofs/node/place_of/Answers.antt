@@ -1,4 +1,4 @@
-use Rattle.swh_folders.specs.Arena.{texts}
+use Rattle.swh_entries.specs.Keys.{texts}
 use Rattle.swh_folders.proofs.Orders.{nowhere}
 use Rattle.swh_folders.proofs.Options.{if_none, none-of}
 use Rattle.swh_folders.proofs.node.place_of.Goals as goal

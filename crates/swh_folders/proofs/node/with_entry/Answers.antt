@@ -1,5 +1,5 @@
 use Rattle.std.proofs.Common.{◌≡◌, ◌++◌, List, ℕ, sym, ap, subst, ◌∙◌}
-use Rattle.swh_folders.specs.Arena.{texts, name_at, entry_key}
+use Rattle.swh_entries.specs.Keys.{texts, name_at, entry_key}
 use Rattle.swh_folders.specs.Ordered.{IsAbove}
 use Rattle.swh_folders.proofs.Arenas.{if_ok}
 use Rattle.swh_folders.proofs.Orders.{with-at}

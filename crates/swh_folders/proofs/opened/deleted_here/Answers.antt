@@ -1,5 +1,6 @@
 use Rattle.std.proofs.Common.{◌≢◌, ◌∷◌, ◌++◌, [], sym, ◌∙◌, refl}
-use Rattle.swh_folders.specs.Arena.{texts, tree_at}
+use Rattle.swh_folders.specs.Arena.{tree_at}
+use Rattle.swh_entries.specs.Keys.{texts}
 use Rattle.swh_folders.specs.Forest.{Nothing, child_at, flat}
 use Rattle.swh_folders.specs.Opened.{folder_path, own_forest, open_forest}
 use Rattle.swh_folders.proofs.Arenas.{if_ok3}

@@ -1,6 +1,7 @@
 use Rattle.std.proofs.Common.{◌≡◌, ap, sym, subst, ◌∙◌, List, length}
-use Rattle.swh_folders.specs.declared.entry.Entry.{Entry}
-use Rattle.swh_folders.specs.Arena.{stands_of, forest_of, tree_at, texts, AreGood, entries_without}
+use Rattle.swh_entries.specs.declared.entry.Entry.{Entry}
+use Rattle.swh_folders.specs.Arena.{stands_of, forest_of, tree_at, AreGood, entries_without}
+use Rattle.swh_entries.specs.Keys.{texts}
 use Rattle.swh_folders.specs.Sound.{IsSound}
 use Rattle.swh_folders.proofs.Arenas.{names-in_range}
 use Rattle.swh_folders.proofs.Closings.{edited-own}

@@ -1,5 +1,6 @@
 use Rattle.std.proofs.Common.{length, ap, ◌∙◌}
-use Rattle.swh_folders.specs.Arena.{stands_of, forest_of, tree_at, texts}
+use Rattle.swh_folders.specs.Arena.{stands_of, forest_of, tree_at}
+use Rattle.swh_entries.specs.Keys.{texts}
 use Rattle.swh_folders.specs.Forest.{Stands, folder, forest, graft}
 use Rattle.swh_fastlex.specs.Path.{components}
 use Rattle.swh_folders.specs.Roots.{root_forest}

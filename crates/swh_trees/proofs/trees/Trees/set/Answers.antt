@@ -1,6 +1,6 @@
 use Rattle.std.proofs.Common.{rules, ◌≡◌, ℕ, List, length, ap, ◌∙◌, Some}
 use Rattle.swh_fastlex.specs.Path.{components}
-use Rattle.swh_folders.specs.declared.entry.Leaf.{Leaf}
+use Rattle.swh_entries.specs.declared.entry.Leaf.{Leaf}
 use Rattle.swh_folders.specs.Opened.{start_map}
 use Rattle.swh_folders.specs.PathMap.{set}
 use Rattle.swh_folders.specs.Working.{count_of}

@@ -1,0 +1,6 @@
+pub mod Forms
+pub mod Keys
+pub mod Listed
+pub mod Named
+pub mod Packing
+pub mod Spans

@@ -1,0 +1,200 @@
+//! A folder's entries: in the room that they need, or in pieces while many of them are changed.
+
+ghost use Rattle.std.specs.Prelude.{◌≡◌, ◌<◌, ◌≤◌, [], length, slice_index_or, IfOk};
+ghost use Rattle.std.specs.List.{insert, remove};
+ghost use Rattle.swh_entries.specs.declared.entry.Entry.{Entry};
+
+use crate::entry::Entry;
+use crate::packing::Flat;
+use crate::spans::Spans;
+use std::alloc::{AllocError, Global};
+use std::marker::Model;
+
+/// A folder of more entries is cut into pieces before it is changed.
+const FEW: usize = 64;
+
+/// How entries are kept: in the room that they need, or, ready for changes, in one list or in pieces.
+#[derive(Drop)]
+pub enum Form {
+    Flat(Flat),
+    Loose(Vec<Entry>),
+    Cut(Spans),
+}
+
+/// The entries of one folder. Contracts see their list.
+pub struct Packed {
+    form: Form,
+    /// How many entries were made for it, others being shared.
+    cost: usize,
+}
+
+/// Written out, so that callers have one call here and not all that the forms own.
+impl Drop for Packed {
+    fn drop(self) {
+        let Self { form: _, cost: _ } = self;
+    }
+}
+
+impl Model for Packed {
+    ghost use Rattle.swh_entries.specs.Listed.{Listed};
+
+    ghost Value = { Listed };
+
+    ghost use Rattle.swh_entries.specs.Forms.{listed_of};
+
+    ghost view = { λ p. listed_of p.form };
+}
+
+/// These entries, ready for changes: cut where they are many.
+fn ready(alloc: Global, entries: Vec<Entry>) -> Result<Packed, AllocError>
+    ensures { IfOk result (λ p. p.items ≡ entries.items) }
+{
+    let cost = entries.len();
+    if cost <= FEW {
+        return Ok(Packed {
+            form: Form::Loose(entries),
+            cost,
+        });
+    }
+    let spans = Spans::of(alloc, entries.as_slice())?;
+    Ok(Packed {
+        form: Form::Cut(spans),
+        cost,
+    })
+}
+
+/// What a change made of pieces.
+fn changed(spans: Spans) -> Packed
+    ensures { result.items ≡ spans.items }
+{
+    let cost = spans.cost();
+    Packed {
+        form: Form::Cut(spans),
+        cost,
+    }
+}
+
+impl Packed {
+    /// No entry.
+    pub fn none(alloc: Global) -> Packed
+        ensures { result.items ≡ [] }
+    {
+        Packed {
+            form: Form::Flat(Flat::none(alloc)),
+            cost: 0,
+        }
+    }
+
+    /// These entries, in the room that they need. Fails where memory runs out, as it has long before there are 2^32
+    /// names or folders.
+    pub fn of(alloc: Global, entries: &[Entry]) -> Result<Packed, AllocError>
+        ensures { IfOk result (λ p. p.items ≡ entries.now) }
+    {
+        let flat = Flat::of(alloc, entries)?;
+        Ok(Packed {
+            form: Form::Flat(flat),
+            cost: entries.len(),
+        })
+    }
+
+    /// How many entries there are.
+    pub fn len(&self) -> usize
+        ensures { result ≡ length self.now.items }
+    {
+        match &self.form {
+            Form::Flat(flat) => flat.len(),
+            Form::Loose(entries) => entries.len(),
+            Form::Cut(spans) => spans.len(),
+        }
+    }
+
+    /// How many entries were made for it, others being shared.
+    pub fn cost(&self) -> usize {
+        self.cost
+    }
+
+    /// The entry at a place.
+    pub fn at(&self, place: usize) -> Entry
+        requires { place < length self.now.items }
+        ensures { (d : Entry) → result ≡ slice_index_or self.now.items place d }
+    {
+        match &self.form {
+            Form::Flat(flat) => flat.at(place),
+            Form::Loose(entries) => entries[place],
+            Form::Cut(spans) => spans.at(place),
+        }
+    }
+
+    /// A place at which to look first for a name, with what it is compared with after it.
+    pub fn guess(&self, names: &[Vec<u8>], name: &[u8], end: &[u8]) -> usize {
+        match &self.form {
+            Form::Flat(flat) => flat.len(),
+            Form::Loose(entries) => entries.len(),
+            Form::Cut(spans) => spans.guess(names, name, end),
+        }
+    }
+
+    /// A copy of the entries. Fails where memory runs out.
+    pub fn entries(&self, alloc: Global) -> Result<Vec<Entry>, AllocError>
+        ensures { IfOk result (λ v. v.items ≡ self.now.items) }
+    {
+        match &self.form {
+            Form::Flat(flat) => flat.entries(alloc),
+            Form::Loose(entries) => Ok(Vec::from_slice(alloc, entries.as_slice())?),
+            Form::Cut(spans) => spans.entries(alloc),
+        }
+    }
+
+    /// The same entries, ready for changes. Fails where memory runs out.
+    pub fn again(&self, alloc: Global) -> Result<Packed, AllocError>
+        ensures { IfOk result (λ p. p.items ≡ self.now.items) }
+    {
+        match &self.form {
+            Form::Flat(flat) => ready(alloc, flat.entries(alloc)?),
+            Form::Loose(entries) => ready(alloc, Vec::from_slice(alloc, entries.as_slice())?),
+            Form::Cut(spans) => Ok(changed(spans.again()?)),
+        }
+    }
+
+    /// One entry more, at a place. Fails where memory runs out.
+    pub fn with(self, alloc: Global, place: usize, entry: Entry) -> Result<Packed, AllocError>
+        requires { place ≤ length self.items }
+        ensures { IfOk result (λ p. p.items ≡ insert self.items place entry) }
+    {
+        let Self { form, cost: _ } = self;
+        match form {
+            Form::Flat(flat) => {
+                let mut entries = flat.entries(alloc)?;
+                entries.insert(place, entry)?;
+                ready(alloc, entries)
+            }
+            Form::Loose(loose) => {
+                let mut entries = loose;
+                entries.insert(place, entry)?;
+                ready(alloc, entries)
+            }
+            Form::Cut(spans) => Ok(changed(spans.with(alloc, place, entry)?)),
+        }
+    }
+
+    /// All entries but the one at a place. Fails where memory runs out.
+    pub fn without(self, alloc: Global, place: usize) -> Result<Packed, AllocError>
+        requires { place < length self.items }
+        ensures { IfOk result (λ p. p.items ≡ remove self.items place) }
+    {
+        let Self { form, cost: _ } = self;
+        match form {
+            Form::Flat(flat) => {
+                let mut entries = flat.entries(alloc)?;
+                let _ = entries.remove(place);
+                ready(alloc, entries)
+            }
+            Form::Loose(loose) => {
+                let mut entries = loose;
+                let _ = entries.remove(place);
+                ready(alloc, entries)
+            }
+            Form::Cut(spans) => Ok(changed(spans.without(alloc, place)?)),
+        }
+    }
+}

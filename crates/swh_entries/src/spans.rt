@@ -1,0 +1,404 @@
+//! Entries in their order, cut into pieces that several lists share. A change makes anew one piece and the forks above it.
+//! The sides of a fork are about as deep as each other, so of n entries about log n forks stand above a piece.
+
+ghost use Rattle.std.specs.Prelude.{◌≡◌, ◌<◌, ◌≤◌, ◌++◌, ℕ, length, slice_index_or, IfOk, OnOk};
+ghost use Rattle.std.specs.List.{insert, remove};
+ghost use Rattle.std.specs.Rc.{rc_value};
+ghost use Rattle.swh_entries.specs.declared.entry.Entry.{Entry};
+ghost use Rattle.swh_entries.specs.Spans.{items_of, IsCounted};
+
+use crate::entry::Entry;
+use crate::order::is_name_before;
+use std::alloc::{AllocError, Global};
+use std::marker::Model;
+use std::rc::Rc;
+
+/// The most entries of a piece.
+const PIECE: usize = 16;
+
+/// A piece, or two sides with the number of their entries, how deep they are, and a copy of their first entry.
+#[derive(Drop)]
+pub enum Span {
+    Piece(Vec<Entry>),
+    Fork(Rc<Span>, Rc<Span>, usize, usize, Option<Entry>),
+}
+
+/// How many entries there are.
+fn len_of(span: &Span) -> usize
+    requires { IsCounted span.now }
+    ensures { result ≡ length (items_of span.now) }
+{
+    match span {
+        Span::Piece(entries) => entries.len(),
+        Span::Fork(_, _, len, _, _) => *len,
+    }
+}
+
+/// How many forks stand above the piece that has most of them above it.
+fn depth_of(span: &Span) -> usize {
+    match span {
+        Span::Piece(_) => 0,
+        Span::Fork(_, _, _, depth, _) => *depth,
+    }
+}
+
+/// The first entry, where there is one.
+fn first_of(span: &Span) -> Option<Entry> {
+    match span {
+        Span::Piece(entries) => entries.first().copied(),
+        Span::Fork(_, _, _, _, first) => *first,
+    }
+}
+
+/// Whether a name, with what it is compared with after it, comes before an entry; where there is none, it does.
+fn is_in_front(names: &[Vec<u8>], entry: Option<Entry>, name: &[u8], end: &[u8]) -> bool {
+    match entry {
+        Some(entry) => is_name_before(names, name, end, entry),
+        None => true,
+    }
+}
+
+/// How many entries there are up to the first that a name, with what it is compared with after it, comes before.
+fn count_up_to(names: &[Vec<u8>], entries: &[Entry], name: &[u8], end: &[u8]) -> usize {
+    let mut count: usize = 0;
+    for entry in entries {
+        if is_name_before(names, name, end, *entry) {
+            return count;
+        }
+        count = count.saturating_add(1);
+    }
+    count
+}
+
+/// A place at which a name, with what it is compared with after it, may be looked for: right where the entries are in
+/// order.
+fn guess_in(span: &Span, names: &[Vec<u8>], name: &[u8], end: &[u8]) -> usize
+    requires { IsCounted span.now }
+{
+    match span {
+        Span::Piece(entries) => count_up_to(names, entries.as_slice(), name, end),
+        Span::Fork(left, right, _, _, _) => {
+            if is_in_front(names, first_of(right), name, end) {
+                guess_in(left, names, name, end)
+            } else {
+                len_of(left).saturating_add(guess_in(right, names, name, end))
+            }
+        }
+    }
+}
+
+/// The entry at a place.
+fn entry_at(span: &Span, place: usize) -> Entry
+    requires counted { IsCounted span.now }
+    requires within { place < length (items_of span.now) }
+    ensures { (d : Entry) → result ≡ slice_index_or (items_of span.now) place d }
+{
+    match span {
+        Span::Piece(entries) => entries[place],
+        Span::Fork(left, right, _, _, _) => {
+            let before = len_of(left);
+            if place < before {
+                entry_at(left, place)
+            } else {
+                entry_at(right, place - before)
+            }
+        }
+    }
+}
+
+/// These entries in one piece.
+fn piece(alloc: Global, entries: Vec<Entry>) -> Result<Rc<Span>, AllocError>
+    ensures counted { IfOk result (λ s. IsCounted (rc_value s)) }
+    ensures items { IfOk result (λ s. items_of (rc_value s) ≡ entries.items) }
+{
+    Ok(Rc::new(alloc, Span::Piece(entries))?)
+}
+
+/// The entries of both sides, under one fork.
+fn fork(alloc: Global, left: Rc<Span>, right: Rc<Span>) -> Result<Rc<Span>, AllocError>
+    requires left { IsCounted (rc_value left) }
+    requires right { IsCounted (rc_value right) }
+    ensures counted { IfOk result (λ s. IsCounted (rc_value s)) }
+    ensures items { IfOk result (λ s. items_of (rc_value s) ≡ items_of (rc_value left) ++ items_of (rc_value right)) }
+{
+    let Some(total) = len_of(&left).checked_add(len_of(&right)) else {
+        return Err(AllocError);
+    };
+    let deeper = depth_of(&left).max(depth_of(&right)).saturating_add(1);
+    let first = first_of(&left);
+    Ok(Rc::new(alloc, Span::Fork(left, right, total, deeper, first))?)
+}
+
+/// The entries of three sides, where the one in the middle may be cut.
+fn cut_middle(
+    alloc: Global,
+    left: Rc<Span>,
+    middle: &Rc<Span>,
+    right: Rc<Span>,
+) -> Result<Rc<Span>, AllocError>
+    requires left { IsCounted (rc_value left) }
+    requires middle { IsCounted (rc_value middle.now) }
+    requires right { IsCounted (rc_value right) }
+    ensures counted { IfOk result (λ s. IsCounted (rc_value s)) }
+    ensures items { IfOk result (λ s. items_of (rc_value s)
+        ≡ items_of (rc_value left) ++ (items_of (rc_value middle.now) ++ items_of (rc_value right))) }
+{
+    match middle.as_ref() {
+        Span::Piece(_) => {
+            let after = fork(alloc, middle.clone()?, right)?;
+            fork(alloc, left, after)
+        }
+        Span::Fork(near, far, _, _, _) => {
+            let before = fork(alloc, left, near.clone()?)?;
+            let after = fork(alloc, far.clone()?, right)?;
+            fork(alloc, before, after)
+        }
+    }
+}
+
+/// The entries of both sides, where the left one is the deeper.
+fn lean_left(alloc: Global, left: Rc<Span>, right: Rc<Span>) -> Result<Rc<Span>, AllocError>
+    requires left { IsCounted (rc_value left) }
+    requires right { IsCounted (rc_value right) }
+    ensures counted { IfOk result (λ s. IsCounted (rc_value s)) }
+    ensures items { IfOk result (λ s. items_of (rc_value s) ≡ items_of (rc_value left) ++ items_of (rc_value right)) }
+{
+    match left.as_ref() {
+        Span::Piece(_) => fork(alloc, left.clone()?, right),
+        Span::Fork(outer, inner, _, _, _) => {
+            if depth_of(outer) < depth_of(inner) {
+                return cut_middle(alloc, outer.clone()?, inner, right);
+            }
+            let after = fork(alloc, inner.clone()?, right)?;
+            fork(alloc, outer.clone()?, after)
+        }
+    }
+}
+
+/// The entries of both sides, where the right one is the deeper.
+fn lean_right(alloc: Global, left: Rc<Span>, right: Rc<Span>) -> Result<Rc<Span>, AllocError>
+    requires left { IsCounted (rc_value left) }
+    requires right { IsCounted (rc_value right) }
+    ensures counted { IfOk result (λ s. IsCounted (rc_value s)) }
+    ensures items { IfOk result (λ s. items_of (rc_value s) ≡ items_of (rc_value left) ++ items_of (rc_value right)) }
+{
+    match right.as_ref() {
+        Span::Piece(_) => fork(alloc, left, right.clone()?),
+        Span::Fork(inner, outer, _, _, _) => {
+            if depth_of(outer) < depth_of(inner) {
+                return cut_middle(alloc, left, inner, outer.clone()?);
+            }
+            let before = fork(alloc, left, inner.clone()?)?;
+            fork(alloc, before, outer.clone()?)
+        }
+    }
+}
+
+/// The entries of both sides, of which one changed by an entry, and may be empty now.
+fn joined(alloc: Global, left: Rc<Span>, right: Rc<Span>) -> Result<Rc<Span>, AllocError>
+    requires left { IsCounted (rc_value left) }
+    requires right { IsCounted (rc_value right) }
+    ensures counted { IfOk result (λ s. IsCounted (rc_value s)) }
+    ensures items { IfOk result (λ s. items_of (rc_value s) ≡ items_of (rc_value left) ++ items_of (rc_value right)) }
+{
+    if len_of(&left) == 0 {
+        return Ok(right);
+    }
+    if len_of(&right) == 0 {
+        return Ok(left);
+    }
+    let (deep_left, deep_right) = (depth_of(&left), depth_of(&right));
+    if deep_left > deep_right.saturating_add(1) {
+        return lean_left(alloc, left, right);
+    }
+    if deep_right > deep_left.saturating_add(1) {
+        return lean_right(alloc, left, right);
+    }
+    fork(alloc, left, right)
+}
+
+/// These entries, in two pieces where they are too many for one.
+fn pieces(alloc: Global, entries: Vec<Entry>) -> Result<Rc<Span>, AllocError>
+    ensures counted { IfOk result (λ s. IsCounted (rc_value s)) }
+    ensures items { IfOk result (λ s. items_of (rc_value s) ≡ entries.items) }
+{
+    if entries.len() <= PIECE {
+        return piece(alloc, entries);
+    }
+    let (first, second) = entries.as_slice().split_at(entries.len() / 2);
+    let left = piece(alloc, Vec::from_slice(alloc, first)?)?;
+    let right = piece(alloc, Vec::from_slice(alloc, second)?)?;
+    fork(alloc, left, right)
+}
+
+/// One entry more, at a place.
+fn with(alloc: Global, span: &Span, place: usize, entry: Entry) -> Result<Rc<Span>, AllocError>
+    requires counted { IsCounted span.now }
+    requires within { place ≤ length (items_of span.now) }
+    ensures counted { IfOk result (λ s. IsCounted (rc_value s)) }
+    ensures items { IfOk result (λ s. items_of (rc_value s) ≡ insert (items_of span.now) place entry) }
+{
+    match span {
+        Span::Piece(entries) => {
+            let mut more = Vec::from_slice(alloc, entries.as_slice())?;
+            more.insert(place, entry)?;
+            pieces(alloc, more)
+        }
+        Span::Fork(left, right, _, _, _) => {
+            let before = len_of(left);
+            if place <= before {
+                let changed = with(alloc, left, place, entry)?;
+                joined(alloc, changed, right.clone()?)
+            } else {
+                let changed = with(alloc, right, place - before, entry)?;
+                joined(alloc, left.clone()?, changed)
+            }
+        }
+    }
+}
+
+/// All entries but the one at a place.
+fn without(alloc: Global, span: &Span, place: usize) -> Result<Rc<Span>, AllocError>
+    requires counted { IsCounted span.now }
+    requires within { place < length (items_of span.now) }
+    ensures counted { IfOk result (λ s. IsCounted (rc_value s)) }
+    ensures items { IfOk result (λ s. items_of (rc_value s) ≡ remove (items_of span.now) place) }
+{
+    match span {
+        Span::Piece(entries) => {
+            let mut rest = Vec::from_slice(alloc, entries.as_slice())?;
+            let _ = rest.remove(place);
+            piece(alloc, rest)
+        }
+        Span::Fork(left, right, _, _, _) => {
+            let before = len_of(left);
+            if place < before {
+                let changed = without(alloc, left, place)?;
+                joined(alloc, changed, right.clone()?)
+            } else {
+                let changed = without(alloc, right, place - before)?;
+                joined(alloc, left.clone()?, changed)
+            }
+        }
+    }
+}
+
+/// These entries, cut into halves down to the pieces.
+fn cut(alloc: Global, entries: &[Entry]) -> Result<Rc<Span>, AllocError>
+    ensures counted { IfOk result (λ s. IsCounted (rc_value s)) }
+    ensures items { IfOk result (λ s. items_of (rc_value s) ≡ entries.now) }
+{
+    if entries.len() <= PIECE {
+        return piece(alloc, Vec::from_slice(alloc, entries)?);
+    }
+    let (first, second) = entries.split_at(entries.len() / 2);
+    let left = cut(alloc, first)?;
+    let right = cut(alloc, second)?;
+    fork(alloc, left, right)
+}
+
+/// Puts the entries behind those that are there.
+fn put_all(span: &Span, out: &mut Vec<Entry>) -> Result<(), AllocError>
+    ensures { OnOk result (out.new.items ≡ out.old.items ++ items_of span.now) }
+{
+    match span {
+        Span::Piece(entries) => out.extend_from_slice(entries.as_slice()),
+        Span::Fork(left, right, _, _, _) => {
+            put_all(left, out)?;
+            put_all(right, out)
+        }
+    }
+}
+
+/// The entries of a folder, in pieces. Contracts see their list.
+#[derive(Drop)]
+pub struct Spans {
+    root: Rc<Span>,
+}
+
+impl Model for Spans {
+    ghost use Rattle.swh_entries.specs.Listed.{Listed};
+
+    ghost Value = { Listed };
+
+    ghost use Rattle.std.specs.Rc.{rc_value};
+    ghost use Rattle.swh_entries.specs.Spans.{items_of, IsCounted};
+
+    ghost view = { λ s. record { items = items_of (rc_value s.root) } };
+
+    ghost invariant = { λ s. IsCounted (rc_value s.root) };
+}
+
+impl Spans {
+    ghost use Rattle.std.specs.Prelude.{◌≡◌, ◌<◌, ◌≤◌, length, slice_index_or, IfOk};
+    ghost use Rattle.std.specs.List.{insert, remove};
+    ghost use Rattle.swh_entries.specs.declared.entry.Entry.{Entry};
+
+    /// These entries. Fails where memory runs out.
+    pub fn of(alloc: Global, entries: &[Entry]) -> Result<Spans, AllocError>
+        ensures { IfOk result (λ s. s.items ≡ entries.now) }
+    {
+        let root = cut(alloc, entries)?;
+        Ok(Spans { root })
+    }
+
+    /// How many entries there are.
+    pub fn len(&self) -> usize
+        ensures { result ≡ length self.now.items }
+    {
+        len_of(&self.root)
+    }
+
+    /// How many entries a change makes anew, or what takes as much room as they do.
+    pub fn cost(&self) -> usize {
+        depth_of(&self.root).saturating_mul(2).saturating_add(PIECE)
+    }
+
+    /// The entry at a place.
+    pub fn at(&self, place: usize) -> Entry
+        requires { place < length self.now.items }
+        ensures { (d : Entry) → result ≡ slice_index_or self.now.items place d }
+    {
+        entry_at(&self.root, place)
+    }
+
+    /// A place at which to look for a name, with what it is compared with after it.
+    pub fn guess(&self, names: &[Vec<u8>], name: &[u8], end: &[u8]) -> usize {
+        guess_in(&self.root, names, name, end)
+    }
+
+    /// A copy of the entries. Fails where memory runs out.
+    pub fn entries(&self, alloc: Global) -> Result<Vec<Entry>, AllocError>
+        ensures { IfOk result (λ v. v.items ≡ self.now.items) }
+    {
+        let mut out = Vec::with_capacity(alloc, self.len())?;
+        put_all(&self.root, &mut out)?;
+        Ok(out)
+    }
+
+    /// The same entries, shared. Fails where memory runs out.
+    pub fn again(&self) -> Result<Spans, AllocError>
+        ensures { IfOk result (λ s. s.items ≡ self.now.items) }
+    {
+        let root = self.root.clone()?;
+        Ok(Spans { root })
+    }
+
+    /// One entry more, at a place. Fails where memory runs out.
+    pub fn with(&self, alloc: Global, place: usize, entry: Entry) -> Result<Spans, AllocError>
+        requires { place ≤ length self.now.items }
+        ensures { IfOk result (λ s. s.items ≡ insert self.now.items place entry) }
+    {
+        let root = with(alloc, &self.root, place, entry)?;
+        Ok(Spans { root })
+    }
+
+    /// All entries but the one at a place. Fails where memory runs out.
+    pub fn without(&self, alloc: Global, place: usize) -> Result<Spans, AllocError>
+        requires { place < length self.now.items }
+        ensures { IfOk result (λ s. s.items ≡ remove self.now.items place) }
+    {
+        let root = without(alloc, &self.root, place)?;
+        Ok(Spans { root })
+    }
+}

@@ -1,6 +1,0 @@
-use Rattle.std.proofs.Common.{◌≡◌, take}
-use Rattle.swh_folders.specs.Packing.{entries_of}
-use Rattle.swh_folders.proofs.packing.unpacked.Given as goal
-
-abbrev pub invariant-loop-slot : goal.invariant-loop-slot
-invariant-loop-slot l = l.out.items ≡ entries_of l.leaves (take l.slot-index l.slots)
