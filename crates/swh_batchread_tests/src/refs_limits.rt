@@ -9,13 +9,37 @@ use swh_batchread::BatchFault;
 /// The id of the commit and a space.
 const ID: &[u8] = b"295c0651a95ba32ac5e14f92da0161b122942cac ";
 
-/// The id, a name of so many letters and an LF: 42 bytes more.
-fn long_line(alloc: Global, letters: usize) -> Result<Vec<u8>, AllocError> {
-    let mut line = Vec::from_slice(alloc, ID)?;
+/// Adds a line of the id, a name that begins with this letter and goes on with so many others, and an LF.
+fn add_line(
+    lines: &mut Vec<u8>,
+    alloc: Global,
+    first: u8,
+    letters: usize,
+) -> Result<(), AllocError> {
     let mut name = Vec::from_elem(alloc, b'a', letters)?;
-    line.append(&mut name)?;
-    line.push(b'\n')?;
+    lines.extend_from_slice(ID)?;
+    lines.push(first)?;
+    lines.append(&mut name)?;
+    lines.push(b'\n')?;
+    Ok(())
+}
+
+/// A line of 43 bytes and so many letters.
+fn long_line(alloc: Global, letters: usize) -> Result<Vec<u8>, AllocError> {
+    let mut line = Vec::new(alloc);
+    add_line(&mut line, alloc, b'a', letters)?;
     Ok(line)
+}
+
+/// 64 of the longest lines, whose branches have 1,048,567 bytes each in a snapshot, and one of so many letters, whose branch has
+/// 34 bytes more.
+fn long_lines(alloc: Global, letters: usize) -> Result<Vec<u8>, AllocError> {
+    let mut lines = Vec::new(alloc);
+    for number in 0..64u8 {
+        add_line(&mut lines, alloc, b'0' + number, 1_048_533)?;
+    }
+    add_line(&mut lines, alloc, b'a', letters)?;
+    Ok(lines)
 }
 
 /// `HEAD`, and so many other refs, each named by five letters.
@@ -42,7 +66,7 @@ fn told(alloc: Global, refs: &[u8]) -> Result<Option<BatchFault>, AllocError> {
 #[test]
 fn longest_line(rt: HostRuntime) -> Result<(), Fail> {
     let alloc = rt.alloc();
-    let line = long_line(alloc, 1_048_534)?;
+    let line = long_line(alloc, 1_048_533)?;
     assert_eq!(&rt; told(alloc, line.as_slice())?, None);
     Ok(())
 }
@@ -50,7 +74,7 @@ fn longest_line(rt: HostRuntime) -> Result<(), Fail> {
 #[test]
 fn line_above_the_limit(rt: HostRuntime) -> Result<(), Fail> {
     let alloc = rt.alloc();
-    let line = long_line(alloc, 1_048_535)?;
+    let line = long_line(alloc, 1_048_534)?;
     let fault = BatchFault::Limit {
         which: Which::Line,
         number: 1_048_577,
@@ -74,6 +98,26 @@ fn refs_above_the_limit(rt: HostRuntime) -> Result<(), Fail> {
     let fault = BatchFault::Limit {
         which: Which::Refs,
         number: 65_537,
+    };
+    assert_eq!(&rt; told(alloc, lines.as_slice())?, Some(fault));
+    Ok(())
+}
+
+#[test]
+fn longest_snapshot(rt: HostRuntime) -> Result<(), Fail> {
+    let alloc = rt.alloc();
+    let lines = long_lines(alloc, 542)?;
+    assert_eq!(&rt; told(alloc, lines.as_slice())?, None);
+    Ok(())
+}
+
+#[test]
+fn snapshot_above_the_limit(rt: HostRuntime) -> Result<(), Fail> {
+    let alloc = rt.alloc();
+    let lines = long_lines(alloc, 543)?;
+    let fault = BatchFault::Limit {
+        which: Which::Body,
+        number: 67_108_865,
     };
     assert_eq!(&rt; told(alloc, lines.as_slice())?, Some(fault));
     Ok(())
