@@ -1,0 +1,5 @@
+pub mod Givens
+pub mod Readings
+pub mod Sorting
+pub mod Tables
+pub mod Walks

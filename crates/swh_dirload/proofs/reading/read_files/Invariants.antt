@@ -1,0 +1,14 @@
+use Rattle.std.proofs.Common.{◌≡◌, ◌≤◌, take}
+use Rattle.swh_dirload.specs.declared.limits.TheConstants.{FILES_LIMIT}
+use Rattle.swh_dirload.specs.Found.{items_of}
+use Rattle.swh_dirload.specs.Reading.{ReadsAll}
+use Rattle.swh_dirload.proofs.reading.read_files.Given as goal
+
+abbrev pub invariant-files : goal.invariant-files
+invariant-files g l = record {
+  within : l.total ≤ FILES_LIMIT;
+  same : g.F.Folder.tells → g.F.Folder.holds l.folder ≡ g.F.Folder.holds l.fn.folder;
+  reads : g.F.Folder.tells → ReadsAll g.N.Namer.id_of (g.F.Folder.holds l.fn.folder) 0 l.fn.given (items_of (take l.number l.found)) l.places.items l.total l.given;
+  same_path : g.F.Folder.opened_at l.folder ≡ g.F.Folder.opened_at l.fn.folder;
+  later : g.F.Folder.faults l.fn.folder ≤ g.F.Folder.faults l.folder;
+}

@@ -1,0 +1,27 @@
+//! Folders as inputs: what stands in one, in the order of its path walk, and the contents of its files. Modes listings and
+//! directories are to come.
+//! Stands on `swh_outside`, on `swh_fastlex`, which reads files, and on the objects and what makes them.
+//! Callers may rely on: the table of a walk has all that stands in the folder, in the order of git's trees, or its first item
+//! that is neither file nor folder, or whose path is too long, is told; each file is read once, in that order, and its
+//! content is given once, or the first that passes a limit is told.
+#![tactic(auto)]
+
+mod content;
+mod fault;
+mod file;
+mod found;
+mod given;
+mod limits;
+mod order;
+mod path;
+mod place;
+mod reading;
+mod walking;
+
+pub use fault::DirFault;
+pub use found::Found;
+pub use given::Given;
+pub use limits::FILES_LIMIT;
+pub use place::Place;
+pub use reading::read_files;
+pub use walking::walk;

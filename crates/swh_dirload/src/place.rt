@@ -1,0 +1,8 @@
+//! What stands at the places of a folder.
+
+/// A file with its mode and the id of its content, or a folder.
+#[derive(Clone, Copy, Debug, PartialEq, Eq)]
+pub enum Place {
+    File { mode: u32, id: [u8; 20] },
+    Folder,
+}

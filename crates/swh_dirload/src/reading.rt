@@ -1,0 +1,120 @@
+//! The files of a folder, read in the order of its walk.
+ghost use Rattle.std.specs.Prelude.{◌≡◌, ◌≢◌, ◌≤◌, ◌+◌, ℕ, IfOk, IfErr, IsErrOf};
+ghost use Rattle.swh_outside.specs.Faults.{Rose};
+ghost use Rattle.swh_outside.specs.declared.folder.What.TheVariants.{File as AFile, Other as NeitherKind};
+ghost use Rattle.swh_dirload.specs.declared.fault.DirFault.TheVariants.{ReadFault as NotRead};
+ghost use Rattle.swh_dirload.specs.Found.{items_of, ArePlaced};
+ghost use Rattle.swh_dirload.specs.Walk.{AllFit};
+ghost use Rattle.swh_dirload.specs.Reading.{IsRead, ReadsAll, ExplainsRead, ExplainsReading};
+
+use crate::content::give_content;
+use crate::fault::DirFault;
+use crate::file::read_file;
+use crate::found::Found;
+use crate::given::Given;
+use crate::limits::FILES_LIMIT;
+use crate::path::path_of;
+use crate::place::Place;
+use std::alloc::Global;
+use swh_base::{Namer, Which};
+use swh_outside::{Folder, What};
+
+/// Reads a file and makes its content, where so many bytes were read before; what stands there, and how many bytes are
+/// read now.
+fn read_content<N: Namer, F: Folder>(
+    alloc: Global,
+    namer: &N,
+    folder: &mut F,
+    path: &str,
+    given: &mut Given<N>,
+    total: u64,
+) -> Result<(Place, u64), DirFault>
+    requires { total ≤ FILES_LIMIT }
+    ensures read { F.tells → IfOk result (λ x. (count : ℕ) × (x.1 ≡ total + count)
+        × IsRead N.id_of (F.holds folder.old) path.now AFile count given.old x.0 given.new) }
+    ensures within { IfOk result (λ x. x.1 ≤ FILES_LIMIT) }
+    ensures err { F.tells → IfErr result (ExplainsRead N.id_of (F.holds folder.old) total path.now AFile) }
+
+    ensures same { F.tells → F.holds folder.new ≡ F.holds folder.old }
+    ensures same_path { F.opened_at folder.new ≡ F.opened_at folder.old }
+    ensures later { F.faults folder.old ≤ F.faults folder.new }
+    ensures cause { IsErrOf result NotRead → Rose (F.faults folder.old) (F.faults folder.new) }
+{
+    let bytes = read_file(alloc, folder, path)?;
+    let count = bytes.len() as u64;
+    if count > FILES_LIMIT - total {
+        return Err(DirFault::Limit {
+            which: Which::Stream,
+            number: FILES_LIMIT + 1,
+        });
+    }
+    let id = give_content(alloc, namer, given, bytes)?;
+    let mode = 100_644;
+    Ok((Place::File { mode, id }, total + count))
+}
+
+/// Reads an item, where so many bytes were read before; what stands there, and how many bytes are read now.
+fn read_item<N: Namer, F: Folder>(
+    alloc: Global,
+    namer: &N,
+    folder: &mut F,
+    path: &str,
+    what: What,
+    given: &mut Given<N>,
+    total: u64,
+) -> Result<(Place, u64), DirFault>
+    requires kind { what ≢ NeitherKind }
+    requires within { total ≤ FILES_LIMIT }
+    ensures read { F.tells → IfOk result (λ x. (count : ℕ) × (x.1 ≡ total + count)
+        × IsRead N.id_of (F.holds folder.old) path.now what count given.old x.0 given.new) }
+    ensures within { IfOk result (λ x. x.1 ≤ FILES_LIMIT) }
+    ensures err { F.tells → IfErr result (ExplainsRead N.id_of (F.holds folder.old) total path.now what) }
+
+    ensures same { F.tells → F.holds folder.new ≡ F.holds folder.old }
+    ensures same_path { F.opened_at folder.new ≡ F.opened_at folder.old }
+    ensures later { F.faults folder.old ≤ F.faults folder.new }
+    ensures cause { IsErrOf result NotRead → Rose (F.faults folder.old) (F.faults folder.new) }
+{
+    match what {
+        What::File => read_content(alloc, namer, folder, path, given, total),
+        What::Folder => Ok((Place::Folder, total)),
+        What::Other => unreachable!(),
+    }
+}
+
+/// Reads the files of a table, in its order and each once, and makes their contents; what stands at each place.
+///
+/// # Errors
+///
+/// The first file that is longer than a body may be, or with which the files together are longer than an input may be;
+/// the folder or a file fails, or memory runs out.
+pub fn read_files<N: Namer, F: Folder>(
+    alloc: Global,
+    namer: &N,
+    folder: &mut F,
+    found: &[Found],
+    given: &mut Given<N>,
+) -> Result<Vec<Place>, DirFault>
+    requires placed { ArePlaced 0 found.now }
+    requires fit { AllFit (items_of found.now) }
+    ensures read { F.tells → IfOk result (λ places. (total : ℕ)
+        × ReadsAll N.id_of (F.holds folder.old) 0 given.old (items_of found.now) places.items total given.new) }
+    ensures err { F.tells → IfErr result (ExplainsReading N.id_of (F.holds folder.old) given.old (items_of found.now)) }
+
+    ensures same { F.tells → F.holds folder.new ≡ F.holds folder.old }
+    ensures same_path { F.opened_at folder.new ≡ F.opened_at folder.old }
+    ensures later { F.faults folder.old ≤ F.faults folder.new }
+    ensures cause { IsErrOf result NotRead → Rose (F.faults folder.old) (F.faults folder.new) }
+{
+    let mut places = Vec::new(alloc);
+    let mut total = 0;
+    'files: for number in 0..found.len() {
+        let item = &found[number];
+        let what = item.what;
+        let path = path_of(alloc, &found[..number], item)?;
+        let (place, now) = read_item(alloc, namer, folder, path.as_str(), what, given, total)?;
+        places.push(place)?;
+        total = now;
+    }
+    Ok(places)
+}
