@@ -1,0 +1,25 @@
+//! That the entries that are given are the walk over the paths.
+ghost use Rattle.std.specs.Prelude.{◌∷◌, [], List, Some, None};
+ghost use Rattle.swh_base.specs.declared.name.Name.{Name};
+ghost use Rattle.swh_dirfmt.specs.declared.entry.SpelledEntry.{SpelledEntry};
+ghost use Rattle.swh_model.specs.Archive.{Bodies};
+ghost use Rattle.swh_pathwalk.specs.Tree.{Row, IsPathWalk};
+ghost use Rattle.swh_pathwalk.specs.Walk.{Standing, BeginsAt, Steps, Remain, row_of};
+
+/// What remains at the beginning of a directory is its whole walk.
+pub fn all_remains_at_first()
+    ensures { (bodies : Bodies) (directory : Name) (new : Standing) (rows : List Row)
+        → BeginsAt bodies directory new → Remain bodies new.levels rows → IsPathWalk bodies directory rows }
+{}
+
+/// What remained before a step is the entry that it gives, and what remains after it.
+pub fn less_remains_after_a_step()
+    ensures { (bodies : Bodies) (old new : Standing) (entry : SpelledEntry) (rows : List Row)
+        → Steps bodies old (Some entry) new → Remain bodies new.levels rows
+        → Remain bodies old.levels (row_of new entry ∷ rows) }
+{}
+
+/// Where a step gives nothing, nothing remained.
+pub fn nothing_remains_at_last()
+    ensures { (bodies : Bodies) (old new : Standing) → Steps bodies old None new → Remain bodies old.levels [] }
+{}
