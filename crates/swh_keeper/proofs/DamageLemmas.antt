@@ -23,10 +23,9 @@ use Rattle.swh_segment.specs.Making.{IsMade}
 use Rattle.swh_recovery.specs.declared.harm.Harm.{Harm}
 use Rattle.swh_recovery.specs.declared.harm.Harm.TheVariants.{Refused}
 use Rattle.swh_recovery.specs.declared.harm.Found.{Found}
-use Rattle.swh_recovery.specs.declared.record.Record.{Record}
 use Rattle.swh_recovery.specs.Fields.{found_at}
 use Rattle.swh_recovery.specs.Harms.{entries_of, Begin}
-use Rattle.swh_recovery.specs.Records.{events, AreWhole, IsHarm}
+use Rattle.swh_recovery.specs.Records.{AreWhole, IsHarm}
 use Rattle.swh_recovery.proofs.OneHarm.{history_good, no_magic_break, no_history, same_harm, from_magic, begins_from, front_of_standing, shorter_is_front, no_more_events}
 use Rattle.swh_replay.specs.Replay.{IsFirstRefused}
 use Rattle.swh_keeper.specs.declared.opening.OpenWhy.{OpenWhy}
@@ -108,9 +107,9 @@ module _ (id_of : Kind → List ℕ → List ℕ) where
             harm_is = g.harm_is ∙ ap (λ (k : ℕ). Refused k) r.number_is;
           }
 
-  begin_of : (ledger store : List ℕ) (records : List Record) → AreWhole id_of records → StandsFor ledger store (events records) → Begin id_of ledger store (events records)
+  begin_of : (ledger store : List ℕ) (records : List Event) → AreWhole id_of records → StandsFor ledger store records → Begin id_of ledger store records
   begin_of ledger store records whole stands =
-      let s = behind_magic ledger store (events records) stands in
+      let s = behind_magic ledger store records stands in
       record {
         records = s.stands.gate ∷ s.stands.behind;
         ledger_begins = s.begins ∙ ap (λ (l : List ℕ). magic ++ l) s.stands.records;
@@ -121,27 +120,27 @@ module _ (id_of : Kind → List ℕ → List ℕ) where
       }
 
   -- what is damaged among records that are read
-  pub damaged_among : (ledger store : List ℕ) (records : List Record) (why : OpenWhy) → IsMade ledger → AreWhole id_of records → StandsFor ledger store (events records) → IfDamagedAt why (IsRefusedEvent id_of (events records)) → IfDamagedAt why (IsDamagedAt id_of ledger store)
+  pub damaged_among : (ledger store : List ℕ) (records : List Event) (why : OpenWhy) → IsMade ledger → AreWhole id_of records → StandsFor ledger store records → IfDamagedAt why (IsRefusedEvent id_of records) → IfDamagedAt why (IsDamagedAt id_of ledger store)
   damaged_among ledger store records why made whole stands is =
-      damaged_map why (IsRefusedEvent id_of (events records)) (IsDamagedAt id_of ledger store)
-      (λ file at harm r. record { made = made; first = inl (record { events = events records; fronts = begin_of ledger store records whole stands; refused = r }) }) is
+      damaged_map why (IsRefusedEvent id_of records) (IsDamagedAt id_of ledger store)
+      (λ file at harm r. record { made = made; first = inl (record { events = records; fronts = begin_of ledger store records whole stands; refused = r }) }) is
 
   none_refused : (h : List Event) (file at : ℕ) (harm : Harm) → h ≡ [] → IsRefusedEvent id_of h file at harm → ⊥
   none_refused h file at harm none r =
       let l : length h ≡ 0 = ap length none in let m = ap length r.are in omega (arith, l, m, length-append r.before (r.event ∷ r.more))
 
   -- what is damaged behind them or among them
-  pub damaged_behind : (ledger store : List ℕ) (file at : ℕ) (harm : Harm) (before : List Record) (why : OpenWhy) → IsMade ledger → IsHarm id_of ledger store file at harm before → IfDamagedAt why (IsHarmBehind id_of (events before) file at harm) → IfDamagedAt why (IsDamagedAt id_of ledger store)
-  damaged_behind ledger store file at harm before why made harmed is = damaged_map why (IsHarmBehind id_of (events before) file at harm) (IsDamagedAt id_of ledger store) (λ k p x b. here k p x b) is
+  pub damaged_behind : (ledger store : List ℕ) (file at : ℕ) (harm : Harm) (before : List Event) (why : OpenWhy) → IsMade ledger → IsHarm id_of ledger store file at harm before → IfDamagedAt why (IsHarmBehind id_of before file at harm) → IfDamagedAt why (IsDamagedAt id_of ledger store)
+  damaged_behind ledger store file at harm before why made harmed is = damaged_map why (IsHarmBehind id_of before file at harm) (IsDamagedAt id_of ledger store) (λ k p x b. here k p x b) is
     where
-      among : (k p : ℕ) (x : Harm) → IsRefusedEvent id_of (events before) k p x → RefusesEvent id_of ledger store k p x
+      among : (k p : ℕ) (x : Harm) → IsRefusedEvent id_of before k p x → RefusesEvent id_of ledger store k p x
       among k p x r =
           elim harmed [
-            | inl m ↦ absurd (none_refused (events before) k p x (ap events m.1) r)
-            | inr b ↦ record { events = events before; fronts = b.0.fronts; refused = r }
+            | inl m ↦ absurd (none_refused before k p x m.1 r)
+            | inr b ↦ record { events = before; fronts = b.fronts; refused = r }
           ]
 
-      here : (k p : ℕ) (x : Harm) → IsHarmBehind id_of (events before) file at harm k p x → IsDamagedAt id_of ledger store k p x
+      here : (k p : ℕ) (x : Harm) → IsHarmBehind id_of before file at harm k p x → IsDamagedAt id_of ledger store k p x
       here k p x b = record {
         made = made;
         first =
@@ -233,12 +232,12 @@ module _ (id_of : Kind → List ℕ → List ℕ) where
       elim b.harmed [
         | inl m ↦ no_magic_break ledger rest file' (found_at at' harm') a.fronts.ledger_begins m.0
         | inr x ↦
-            (let h = events b.before in
+            (let h = b.before in
             let fronts = begins_from id_of ledger store rest a.events a.fronts.ledger_begins a.fronts in
             elim (cases_lt (length h) (length a.events)) [
-              | inl less ↦ no_more_events id_of store 1 0 8 rest h a.events file' (found_at at' harm') (from_magic id_of ledger store rest h file' (found_at at' harm') a.fronts.ledger_begins x.0) fronts less
+              | inl less ↦ no_more_events id_of store 1 0 8 rest h a.events file' (found_at at' harm') (from_magic id_of ledger store rest h file' (found_at at' harm') a.fronts.ledger_begins x) fronts less
               | inr le ↦
-                  (let f = shorter_is_front id_of store 0 rest a.events h fronts (begins_from id_of ledger store rest h a.fronts.ledger_begins x.0.fronts) le in
+                  (let f = shorter_is_front id_of store 0 rest a.events h fronts (begins_from id_of ledger store rest h a.fronts.ledger_begins x.fronts) le in
                   let is : h ≡ r.before ++ r.event ∷ (r.more ++ f.more) = sym f.is ∙ ap (λ (l : List Event). l ++ f.more) r.are ∙ append_assoc r.before (r.event ∷ r.more) f.more in
                   r.may_not (may_next h r.before (r.more ++ f.more) r.event b.history is))
             ])

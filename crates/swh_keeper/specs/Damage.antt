@@ -9,9 +9,8 @@ use Rattle.swh_format.specs.Stands.{coded_records}
 use Rattle.swh_segment.specs.Making.{IsMade}
 use Rattle.swh_recovery.specs.declared.harm.Harm.{Harm}
 use Rattle.swh_recovery.specs.declared.harm.Harm.TheVariants.{Refused}
-use Rattle.swh_recovery.specs.declared.record.Record.{Record}
 use Rattle.swh_recovery.specs.Harms.{Begin}
-use Rattle.swh_recovery.specs.Records.{events, IsHarm}
+use Rattle.swh_recovery.specs.Records.{IsHarm}
 use Rattle.swh_keeper.specs.declared.opening.OpenWhy.{OpenWhy}
 use Rattle.swh_keeper.specs.declared.opening.OpenWhy.TheVariants.{Damaged, Memory}
 
@@ -53,15 +52,15 @@ module _ (id_of : Kind → List ℕ → List ℕ) where
 
   -- The record behind a history breaks.
   pub record BreaksHistory (ledger store : List ℕ) (file at : ℕ) (harm : Harm) : Type 0 where
-    pub before : List Record
+    pub before : List Event
     pub harmed : IsHarm id_of ledger store file at harm before
-    pub history : IsHistory id_of (events before)
+    pub history : IsHistory id_of before
 
   -- The ledger is made, and this is the first harm: in the file of this number, at this place of it.
   pub record IsDamagedAt (ledger store : List ℕ) (file at : ℕ) (harm : Harm) : Type 0 where
     pub made : IsMade ledger
     pub first : RefusesEvent ledger store file at harm ⊎ BreaksHistory ledger store file at harm
 
-  -- What stands behind records that are given: of their events one may not happen, or else this harm.
+  -- What stands behind events that are given: of them one may not happen, or else this harm.
   abbrev pub IsHarmBehind : List Event → ℕ → ℕ → Harm → ℕ → ℕ → Harm → Type 0
   IsHarmBehind before file at harm file' at' harm' = IsRefusedEvent before file' at' harm' ⊎ (IsHistory id_of before × (file' ≡ file) × (at' ≡ at) × (harm' ≡ harm))

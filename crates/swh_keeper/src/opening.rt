@@ -135,7 +135,7 @@ fn read_archive<N: Namer, D: Disk>(
         (D.faults ledger.old) (D.faults ledger.new))) }
 {
     match read_all(alloc, namer, ledger, store) {
-        Ok(records) => replay_records(alloc, namer, records),
+        Ok(history) => replay_records(alloc, namer, history),
         Err(ReadAllFault::DiskFault) => Err(OpenWhy::DiskFault),
         Err(ReadAllFault::Memory) => Err(OpenWhy::Memory),
         Err(

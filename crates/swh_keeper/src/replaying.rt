@@ -1,7 +1,7 @@
 //! What the records that were read make of an archive in memory.
 ghost use Rattle.std.specs.Prelude.{◌≡◌, ◌≤◌, ◌<◌, IfOk, IfErr, length};
 ghost use Rattle.swh_model.specs.declared.event.Event.{Event};
-ghost use Rattle.swh_recovery.specs.Records.{events, AreWhole};
+ghost use Rattle.swh_recovery.specs.Records.{AreWhole};
 ghost use Rattle.swh_keeper.specs.Damage.{
   IfDamagedAt,
   IsReplayWhy,
@@ -15,7 +15,7 @@ use crate::opening::{OpenWhy, Opened};
 use std::alloc::Global;
 use swh_base::Namer;
 use swh_model::{Event, length_of_ledger};
-use swh_recovery::{Harm, Record, into_events};
+use swh_recovery::Harm;
 use swh_replay::{ReplayFault, replay_all};
 
 // The harm at the record of the event of a number, from 1, which may not happen.
@@ -35,19 +35,18 @@ fn refused(events: &[Event], number: u64) -> OpenWhy
     }
 }
 
-/// The events of which the records tell, and their replay; else the first of them that may not happen.
+/// The events that were read, and their replay; else the first of them that may not happen.
 pub fn replay_records<N: Namer>(
     alloc: Global,
     _namer: &N,
-    records: Vec<Record>,
+    history: Vec<Event>,
 ) -> Result<Opened, OpenWhy>
-    requires { AreWhole N.id_of records.items }
-    ensures history { IfOk result (λ opened. opened.history.items ≡ events records.items) }
+    requires { AreWhole N.id_of history.items }
+    ensures history { IfOk result (λ opened. opened.history.items ≡ history.items) }
     ensures whole { IfOk result (IsReadWhole N.id_of) }
-    ensures refused { IfErr result (λ why. IfDamagedAt why (IsRefusedEvent N.id_of (events records.items))) }
+    ensures refused { IfErr result (λ why. IfDamagedAt why (IsRefusedEvent N.id_of history.items)) }
     ensures why { IfErr result IsReplayWhy }
 {
-    let history = into_events(alloc, records)?;
     let fault = match replay_all(alloc, history.as_slice()) {
         Ok(replayed) => return Ok(Opened { replayed, history }),
         Err(fault) => fault,
@@ -58,18 +57,18 @@ pub fn replay_records<N: Namer>(
     }
 }
 
-/// A harm behind the records that were read before it, in the file of a number and at a place of it; else the first of
-/// their events that may not happen.
+/// A harm behind the events that were read before it, in the file of a number and at a place of it; else the first of
+/// them that may not happen.
 pub fn harm_behind<N: Namer>(
     alloc: Global,
     namer: &N,
-    before: Vec<Record>,
+    before: Vec<Event>,
     file: u32,
     at: u64,
     harm: Harm,
 ) -> OpenWhy
     requires { AreWhole N.id_of before.items }
-    ensures at { IfDamagedAt result (IsHarmBehind N.id_of (events before.items) file at harm) }
+    ensures at { IfDamagedAt result (IsHarmBehind N.id_of before.items file at harm) }
     ensures why { IsReplayWhy result }
 {
     match replay_records(alloc, namer, before) {

@@ -9,58 +9,57 @@ use Rattle.swh_format.proofs.StandsFrom.{with_magic}
 use Rattle.swh_format.proofs.Lengths.{runs-length, ledger-length}
 use Rattle.swh_recovery.specs.declared.fault.NextFault.{NextFault}
 use Rattle.swh_recovery.specs.declared.fault.NextFault.TheVariants as next
-use Rattle.swh_recovery.specs.declared.record.Record.{Record}
+use Rattle.swh_model.specs.declared.event.Event.{Event}
 use Rattle.swh_recovery.specs.declared.reading.Reached.{Reached}
 use Rattle.swh_recovery.specs.Harms.{MagicBreaks}
-use Rattle.swh_recovery.specs.Records.{events, IfNextHarmed, HasRuns, IsReadSoFar, IsInside, BreaksNext, IsAtEnd, AreWhole, IsHarm, AreRecords}
+use Rattle.swh_recovery.specs.Records.{IfNextHarmed, HasRuns, IsReadSoFar, IsInside, BreaksNext, IsAtEnd, AreWhole, IsHarm}
 use Rattle.swh_recovery.specs.Answers.{all_fault, IfDamaged}
 
-pub all_read : (id_of : Kind → List ℕ → List ℕ) (ledger store : List ℕ) (r : Reached) → IsReadSoFar id_of ledger r → HasRuns store r → IsAtEnd ledger r → StandsFor ledger store (events r.records.items)
-all_read id_of ledger store r so_far runs end = with_magic ledger store (events r.records.items) (record {
-  rest = coded_records 0 (events r.records.items) ++ drop r.gate ledger;
+pub all_read : (id_of : Kind → List ℕ → List ℕ) (ledger store : List ℕ) (r : Reached) → IsReadSoFar id_of ledger r → HasRuns store r → IsAtEnd ledger r → StandsFor ledger store r.events.items
+all_read id_of ledger store r so_far runs end = with_magic ledger store r.events.items (record {
+  rest = coded_records 0 r.events.items ++ drop r.gate ledger;
   begins = so_far.ledger_begins;
   stands = record {
     gate = end.gate;
     closed = end.closed;
     behind = end.behind;
-    records = ap (λ (l : List ℕ). coded_records 0 (events r.records.items) ++ l) end.is;
+    records = ap (λ (l : List ℕ). coded_records 0 r.events.items ++ l) end.is;
     beyond = drop r.end store;
     runs = runs.store_begins;
     codable = so_far.codable;
   };
 })
 
-pub all_whole : (id_of : Kind → List ℕ → List ℕ) (ledger : List ℕ) (size : ℕ) (r : Reached) → IsReadSoFar id_of ledger r → IsInside (length ledger) size r → size ≤ file_limit → length ledger < file_limit → AreWhole id_of r.records.items
+pub all_whole : (id_of : Kind → List ℕ → List ℕ) (ledger : List ℕ) (size : ℕ) (r : Reached) → IsReadSoFar id_of ledger r → IsInside (length ledger) size r → size ≤ file_limit → length ledger < file_limit → AreWhole id_of r.events.items
 all_whole id_of ledger size r so_far inside small short =
-    let h = events r.records.items in
+    let h = r.events.items in
     record {
-      placed = so_far.placed;
       codable = so_far.codable;
       good = so_far.good;
       store_fits = let e = so_far.end_is in let i = inside.end_inside in let n = runs-length h in omega (arith, e, i, n, small);
       ledger_fits = let e = so_far.gate_is in let i = inside.gate_inside in let n = ledger-length h in omega (arith, e, i, n, short, length-append magic (coded_records 0 h));
     }
 
-pub none_whole : (id_of : Kind → List ℕ → List ℕ) (rs : List Record) → rs ≡ [] → AreWhole id_of rs
-none_whole id_of rs is = subst (AreWhole id_of) (sym is) (record { placed = tt; codable = tt; good = tt; store_fits = omega arith; ledger_fits = omega arith })
+pub none_whole : (id_of : Kind → List ℕ → List ℕ) (rs : List Event) → rs ≡ [] → AreWhole id_of rs
+none_whole id_of rs is = subst (AreWhole id_of) (sym is) (record { codable = tt; good = tt; store_fits = omega arith; ledger_fits = omega arith })
 
-pub harmed_whole : (id_of : Kind → List ℕ → List ℕ) (fault : NextFault) (old new : Reached) → IfNextHarmed fault (λ _ _. new ≡ old) → AreWhole id_of old.records.items → IfDamaged (all_fault fault new.records) (λ _ _ _ before. AreWhole id_of before)
+pub harmed_whole : (id_of : Kind → List ℕ → List ℕ) (fault : NextFault) (old new : Reached) → IfNextHarmed fault (λ _ _. new ≡ old) → AreWhole id_of old.events.items → IfDamaged (all_fault fault new.events) (λ _ _ _ before. AreWhole id_of before)
 harmed_whole id_of next.DiskFailed old new same whole = tt
 harmed_whole id_of next.Memory old new same whole = tt
-harmed_whole id_of (next.Harmed file found) old new same whole = subst (λ (r : Reached). AreWhole id_of r.records.items) (sym same) whole
+harmed_whole id_of (next.Harmed file found) old new same whole = subst (λ (r : Reached). AreWhole id_of r.events.items) (sym same) whole
 
-pub fault_whole : (id_of : Kind → List ℕ → List ℕ) (fault : NextFault) (before : Vec Record) → before.items ≡ [] → IfDamaged (all_fault fault before) (λ _ _ _ rs. AreWhole id_of rs)
+pub fault_whole : (id_of : Kind → List ℕ → List ℕ) (fault : NextFault) (before : Vec Event) → before.items ≡ [] → IfDamaged (all_fault fault before) (λ _ _ _ rs. AreWhole id_of rs)
 fault_whole id_of next.DiskFailed before none = tt
 fault_whole id_of next.Memory before none = tt
 fault_whole id_of (next.Harmed file found) before none = none_whole id_of before.items none
 
-pub all_harmed : (id_of : Kind → List ℕ → List ℕ) (ledger store : List ℕ) (fault : NextFault) (before : Vec Record) → AreRecords 8 0 before.items
+pub all_harmed : (id_of : Kind → List ℕ → List ℕ) (ledger store : List ℕ) (fault : NextFault) (before : Vec Event)
     → IfNextHarmed fault (λ file found. MagicBreaks ledger file found × (before.items ≡ [])) → IfDamaged (all_fault fault before) (IsHarm id_of ledger store)
-all_harmed id_of ledger store next.DiskFailed before placed h = tt
-all_harmed id_of ledger store next.Memory before placed h = tt
-all_harmed id_of ledger store (next.Harmed file found) before placed h = inl h
+all_harmed id_of ledger store next.DiskFailed before h = tt
+all_harmed id_of ledger store next.Memory before h = tt
+all_harmed id_of ledger store (next.Harmed file found) before h = inl h
 
-pub next_harmed : (id_of : Kind → List ℕ → List ℕ) (ledger store : List ℕ) (fault : NextFault) (r : Reached) → IfNextHarmed fault (BreaksNext id_of ledger store r) → IfDamaged (all_fault fault r.records) (IsHarm id_of ledger store)
+pub next_harmed : (id_of : Kind → List ℕ → List ℕ) (ledger store : List ℕ) (fault : NextFault) (r : Reached) → IfNextHarmed fault (BreaksNext id_of ledger store r) → IfDamaged (all_fault fault r.events) (IsHarm id_of ledger store)
 next_harmed id_of ledger store next.DiskFailed r h = tt
 next_harmed id_of ledger store next.Memory r h = tt
 next_harmed id_of ledger store (next.Harmed file found) r h = inr h

@@ -23,7 +23,6 @@ use Rattle.swh_format.proofs.Lengths.{object-length}
 use Rattle.swh_format.proofs.Unique.{same_entry, length_behind}
 use Rattle.swh_recovery.specs.declared.harm.Harm.TheVariants.{Refused}
 use Rattle.swh_recovery.specs.declared.harm.Found.{Found}
-use Rattle.swh_recovery.specs.declared.record.Record.{Record}
 use Rattle.swh_recovery.specs.Fields.{found_at}
 use Rattle.swh_recovery.specs.LedgerHarm.{BeginsRecord}
 use Rattle.swh_recovery.specs.Harms.{entries_of}
@@ -98,9 +97,8 @@ module _ (id_of : Kind → List ℕ → List ℕ) (start : ℕ) (p : RecordParts
     ledger_told = let q = payload_told in λ i. framed (batch i) (q i)
 
     -- so it is read as its event's
-    pub batch_read : (gate : ℕ) (r : Record) → r.gate ≡ gate → r.event ≡ batch_event t.by es → IsEventRead id_of gate start p r t.to
-    batch_read gate r gate_is is = record {
-      gate_is = gate_is;
+    pub batch_read : (e : Event) → e ≡ batch_event t.by es → IsEventRead id_of start p e t.to
+    batch_read e is = record {
       codable = subst (λ (e : Event). IsCodable start e) (sym is) codable_batch;
       ledger = ledger_told ∙ ap (λ (e : Event). coded_record start e) (sym is);
       end_is = end_of ∙ ap (λ (e : Event). start + length (packed_objects e.what)) (sym is);

@@ -31,7 +31,6 @@ use Rattle.swh_format.proofs.Unique.{same_event, length_behind}
 use Rattle.swh_recovery.specs.declared.harm.Harm.{Harm}
 use Rattle.swh_recovery.specs.declared.harm.Found.{Found}
 use Rattle.swh_recovery.specs.declared.harm.Harm.TheVariants.{Magic}
-use Rattle.swh_recovery.specs.declared.record.Record.{Record}
 use Rattle.swh_format.specs.declared.kinds.RecordKind.TheVariants as of
 use Rattle.swh_format.specs.Fields.{FieldsHold, Spells}
 use Rattle.swh_format.specs.Kinds.{byte_of, fields_of, payload_fields}
@@ -39,7 +38,7 @@ use Rattle.swh_recovery.specs.Fields.{found_at}
 use Rattle.swh_recovery.specs.LedgerHarm.{RecordBreaks}
 use Rattle.swh_recovery.specs.StoreHarm.{RunBreaks}
 use Rattle.swh_recovery.specs.Harms.{entries_of, LedgerBreaks, StoreBreaks, IsRefused, NextBreaks, Begin, BreaksAfter, MagicBreaks}
-use Rattle.swh_recovery.specs.Records.{events, IsHarm}
+use Rattle.swh_recovery.specs.Records.{IsHarm}
 use Rattle.swh_recovery.proofs.ToldLemmas.{one_told, told_of_batch}
 use Rattle.swh_recovery.proofs.OneField.{one_record, no_record, same_records, event_frame, record_whole}
 use Rattle.swh_recovery.proofs.OneObject.{one_run, no_run, whole_or_broken}
@@ -442,21 +441,21 @@ module _ (id_of : Kind → List ℕ → List ℕ) where
   }
 
   -- files with a harm stand for no history
-  pub no_history : (ledger store : List ℕ) (file at : ℕ) (harm : Harm) (before : List Record) (h : List Event) → IsHarm id_of ledger store file at harm before → StandsFor ledger store h → IsHistory id_of h → ⊥
+  pub no_history : (ledger store : List ℕ) (file at : ℕ) (harm : Harm) (before : List Event) (h : List Event) → IsHarm id_of ledger store file at harm before → StandsFor ledger store h → IsHistory id_of h → ⊥
   no_history ledger store file at harm before h is stands history =
       let s = behind_magic ledger store h stands in
       elim is [
         | inl m ↦ no_magic_break ledger s.rest file (found_at at harm) s.begins m.0
-        | inr b ↦ no_stand store 1 0 8 s.rest (events before) h file (found_at at harm) (from_magic ledger store s.rest (events before) file (found_at at harm) s.begins b.0) s.stands (history_good empty_archive h history)
+        | inr b ↦ no_stand store 1 0 8 s.rest before h file (found_at at harm) (from_magic ledger store s.rest before file (found_at at harm) s.begins b) s.stands (history_good empty_archive h history)
       ]
 
   -- Two harms are the same, after the same events.
-  pub record IsSameHarm (file at : ℕ) (harm : Harm) (before : List Record) (file' at' : ℕ) (harm' : Harm) (before' : List Record) : Type 0 where
+  pub record IsSameHarm (file at : ℕ) (harm : Harm) (before : List Event) (file' at' : ℕ) (harm' : Harm) (before' : List Event) : Type 0 where
     pub same_file : file ≡ file'
     pub same_found : found_at at harm ≡ found_at at' harm'
-    pub same_events : events before ≡ events before'
+    pub same_events : before ≡ before'
 
-  pub same_harm : (ledger store : List ℕ) (file at : ℕ) (harm : Harm) (before : List Record) (file' at' : ℕ) (harm' : Harm) (before' : List Record) → IsHarm id_of ledger store file at harm before → IsHarm id_of ledger store file' at' harm' before'
+  pub same_harm : (ledger store : List ℕ) (file at : ℕ) (harm : Harm) (before : List Event) (file' at' : ℕ) (harm' : Harm) (before' : List Event) → IsHarm id_of ledger store file at harm before → IsHarm id_of ledger store file' at' harm' before'
       → IsSameHarm file at harm before file' at' harm' before'
   same_harm ledger store file at harm before file' at' harm' before' a b =
       elim a [
@@ -464,17 +463,17 @@ module _ (id_of : Kind → List ℕ → List ℕ) where
           | inl b ↦ record {
             same_file = a.0.file_is ∙ sym b.0.file_is;
             same_found = one_magic ledger file file' (found_at at harm) (found_at at' harm') a.0 b.0;
-            same_events = ap events (a.1 ∙ sym b.1);
+            same_events = a.1 ∙ sym b.1;
           }
-          | inr b ↦ absurd (no_magic_break ledger (coded_records 0 (events before') ++ b.0.fronts.records) file (found_at at harm) b.0.fronts.ledger_begins a.0)
+          | inr b ↦ absurd (no_magic_break ledger (coded_records 0 before' ++ b.fronts.records) file (found_at at harm) b.fronts.ledger_begins a.0)
         ]
         | inr a ↦ elim b [
-          | inl b ↦ absurd (no_magic_break ledger (coded_records 0 (events before) ++ a.0.fronts.records) file' (found_at at' harm') a.0.fronts.ledger_begins b.0)
+          | inl b ↦ absurd (no_magic_break ledger (coded_records 0 before ++ a.fronts.records) file' (found_at at' harm') a.fronts.ledger_begins b.0)
           | inr b ↦
-              (let rest = coded_records 0 (events before) ++ a.0.fronts.records in
-              let is = a.0.fronts.ledger_begins in
-              let one = one_from store 1 0 8 rest (events before) (events before') file file' (found_at at harm) (found_at at' harm')
-              (from_magic ledger store rest (events before) file (found_at at harm) is a.0) (from_magic ledger store rest (events before') file' (found_at at' harm') is b.0) in
+              (let rest = coded_records 0 before ++ a.fronts.records in
+              let is = a.fronts.ledger_begins in
+              let one = one_from store 1 0 8 rest before before' file file' (found_at at harm) (found_at at' harm')
+              (from_magic ledger store rest before file (found_at at harm) is a) (from_magic ledger store rest before' file' (found_at at' harm') is b) in
               record { same_file = one.1; same_found = one.2; same_events = one.0 })
         ]
       ]

@@ -13,12 +13,11 @@ use Rattle.swh_format.specs.Stands.{coded_records, coded_runs}
 use Rattle.swh_format.proofs.HistoryFiles.{codable-push}
 use Rattle.swh_recovery.specs.declared.harm.Harm.TheVariants.{Short}
 use Rattle.swh_recovery.specs.declared.harm.Found.{Found}
-use Rattle.swh_recovery.specs.declared.record.Record.{Record}
 use Rattle.swh_recovery.specs.declared.reading.Reached.{Reached}
 use Rattle.swh_recovery.specs.Fields.{found_at}
 use Rattle.swh_recovery.specs.LedgerHarm.{RecordBreaks}
 use Rattle.swh_recovery.specs.Harms.{entries_of, Begin, NextBreaks}
-use Rattle.swh_recovery.specs.Records.{events, AreRecords, records_of, EventBreaks, IsEventRead, HasRuns, HoldsEvent, IsReadSoFar, BreaksNext}
+use Rattle.swh_recovery.specs.Records.{records_of, EventBreaks, IsEventRead, HasRuns, HoldsEvent, IsReadSoFar, BreaksNext}
 
 records-push : (at : ℕ) (g : List Event) (e : Event) (rest : List ℕ) → coded_records at (g ++ e ∷ []) ++ rest ≡ coded_records at g ++ 1 ∷ (coded_record (at + length (coded_runs g)) e ++ rest)
 records-push at [] e rest =
@@ -35,25 +34,9 @@ runs-push : (g : List Event) (e : Event) → coded_runs (g ++ e ∷ []) ≡ code
 runs-push [] e = append-nil (packed_objects e.what)
 runs-push (f ∷ g) e = ap (λ (l : List ℕ). packed_objects f.what ++ l) (runs-push g e) ∙ sym (append_assoc (packed_objects f.what) (coded_runs g) (packed_objects e.what))
 
-pub events-push : (rs : List Record) (r : Record) → events (rs ++ r ∷ []) ≡ events rs ++ r.event ∷ []
-events-push [] r = refl
-events-push (s ∷ rs) r = ap (λ (l : List Event). s.event ∷ l) (events-push rs r)
-
-length-events : (rs : List Record) → length (events rs) ≡ length rs
-length-events [] = refl
-length-events (r ∷ rs) = let m = length-events rs in omega (arith, m)
-
 all_push : {X : Type 0} (P : X → Type 0) (xs : List X) (y : X) → AllByRecursion P xs → P y → AllByRecursion P (xs ++ y ∷ [])
 all_push P [] y h p = (p, tt)
 all_push P (x ∷ xs) y h p = (h.0, all_push P xs y h.1 p)
-
-placed-push : (gate start : ℕ) (rs : List Record) (r : Record) → AreRecords gate start rs → r.gate ≡ gate + length (coded_records start (events rs)) → AreRecords gate start (rs ++ r ∷ [])
-placed-push gate start [] r h one = (one ∙ (let z : gate + 0 ≡ gate = omega arith in z), tt)
-placed-push gate start (s ∷ rs) r h one =
-    let e = s.event in
-    let next = start + length (packed_objects e.what) in
-    let gates : gate + length (1 ∷ (coded_record start e ++ coded_records next (events rs))) ≡ gate + (1 + length (coded_record start e)) + length (coded_records next (events rs)) = omega (arith, length-append (coded_record start e) (coded_records next (events rs))) in
-    (h.0, placed-push (gate + (1 + length (coded_record start e))) next rs r h.1 (one ∙ gates))
 
 -- What is told of a history, up to these places.
 record AreParts (id_of : Kind → List ℕ → List ℕ) (ledger : List ℕ) (gate end : ℕ) (h : List Event) : Type 0 where
@@ -64,7 +47,7 @@ record AreParts (id_of : Kind → List ℕ → List ℕ) (ledger : List ℕ) (ga
   good : AllByRecursion (λ e. AllByRecursion (IsObject id_of) (entries_of e.what)) h
 
 module _ (id_of : Kind → List ℕ → List ℕ) (ledger store : List ℕ) (old : Reached) (so_far : IsReadSoFar id_of ledger old) (runs : HasRuns store old) where
-  fronts : Begin id_of ledger store (events old.records.items)
+  fronts : Begin id_of ledger store old.events.items
   fronts = record {
     records = drop old.gate ledger;
     ledger_begins = so_far.ledger_begins;
@@ -74,18 +57,14 @@ module _ (id_of : Kind → List ℕ → List ℕ) (ledger store : List ℕ) (old
     good = so_far.good;
   }
 
-  next_breaks : (file : ℕ) (found : Found) → NextBreaks id_of (length old.records.items + 1) old.gate old.end (drop old.gate ledger) store file found → BreaksNext id_of ledger store old file found
+  next_breaks : (file : ℕ) (found : Found) → NextBreaks id_of (length old.events.items + 1) old.gate old.end (drop old.gate ledger) store file found → BreaksNext id_of ledger store old file found
   unfolding fronts
-  next_breaks file found next = (
-    record {
-      fronts = fronts;
-      next =
-          subst (λ (n : ℕ). NextBreaks id_of (n + 1) (8 + length (coded_records 0 (events old.records.items))) (length (coded_runs (events old.records.items))) (drop old.gate ledger) store file found) (sym (length-events old.records.items))
-          (subst (λ (n : ℕ). NextBreaks id_of (length old.records.items + 1) n (length (coded_runs (events old.records.items))) (drop old.gate ledger) store file found) so_far.gate_is
-          (subst (λ (n : ℕ). NextBreaks id_of (length old.records.items + 1) old.gate n (drop old.gate ledger) store file found) so_far.end_is next));
-    },
-    so_far.placed,
-  )
+  next_breaks file found next = record {
+    fronts = fronts;
+    next =
+        subst (λ (n : ℕ). NextBreaks id_of (length old.events.items + 1) n (length (coded_runs old.events.items)) (drop old.gate ledger) store file found) so_far.gate_is
+        (subst (λ (n : ℕ). NextBreaks id_of (length old.events.items + 1) old.gate n (drop old.gate ledger) store file found) so_far.end_is next);
+  }
 
   pub no_gate : (found : Found) → drop old.gate ledger ≡ [] → found ≡ found_at old.gate (Short 0 1) → BreaksNext id_of ledger store old 0 found
   no_gate found none is = next_breaks 0 found (inl (record { none = none; file_is = refl; found_is = is }))
@@ -93,7 +72,7 @@ module _ (id_of : Kind → List ℕ → List ℕ) (ledger store : List ℕ) (old
   pub record_breaks : (behind : List ℕ) (found : Found) → drop old.gate ledger ≡ 1 ∷ behind → RecordBreaks behind (old.gate + 1) found → BreaksNext id_of ledger store old 0 found
   record_breaks behind found opened breaks = next_breaks 0 found (inr (inl (record { behind = behind; opened = opened; file_is = refl; breaks = breaks })))
 
-  pub event_breaks : (p : RecordParts) (file : ℕ) (found : Found) (number : ℕ) → number ≡ length old.records.items + 1 → drop old.gate ledger ≡ records_of p → EventBreaks id_of number old.gate old.end p store file found → BreaksNext id_of ledger store old file found
+  pub event_breaks : (p : RecordParts) (file : ℕ) (found : Found) (number : ℕ) → number ≡ length old.events.items + 1 → drop old.gate ledger ≡ records_of p → EventBreaks id_of number old.gate old.end p store file found → BreaksNext id_of ledger store old file found
   event_breaks p file found number numbered is breaks =
       let here : NextBreaks id_of number old.gate old.end (records_of p) store file found = elim breaks [ inl x ↦ inr (inr (inl x)) | inr x ↦ inr (inr (inr x)) ] in
       next_breaks file found
@@ -101,11 +80,10 @@ module _ (id_of : Kind → List ℕ → List ℕ) (ledger store : List ℕ) (old
       (subst (λ (l : List ℕ). NextBreaks id_of number old.gate old.end l store file found) (sym is) here))
 
 module _ (id_of : Kind → List ℕ → List ℕ) (ledger : List ℕ) (old : Reached) (so_far : IsReadSoFar id_of ledger old) where
-  module _ (p : RecordParts) (r : Record) (end : ℕ) (is : drop old.gate ledger ≡ records_of p) (read : IsEventRead id_of old.gate old.end p r end) where
-    parts : AreParts id_of ledger (length ledger - length p.rest.now) end (events old.records.items ++ r.event ∷ [])
+  module _ (p : RecordParts) (e : Event) (end : ℕ) (is : drop old.gate ledger ≡ records_of p) (read : IsEventRead id_of old.end p e end) where
+    parts : AreParts id_of ledger (length ledger - length p.rest.now) end (old.events.items ++ e ∷ [])
     parts =
-        let g = events old.records.items in
-        let e = r.event in
+        let g = old.events.items in
         let rest = p.rest.now in
         let place : old.end ≡ 0 + length (coded_runs g) = let s = so_far.end_is in omega (arith, s) in
         let whole : ledger ≡ magic ++ (coded_records 0 (g ++ e ∷ []) ++ rest) =
@@ -124,28 +102,24 @@ module _ (id_of : Kind → List ℕ → List ℕ) (ledger : List ℕ) (old : Rea
           good = all_push (λ e. AllByRecursion (IsObject id_of) (entries_of e.what)) g e so_far.good read.good;
         }
 
-    pub so_far_next : (new : Reached) → new.gate ≡ length ledger - length p.rest.now → new.end ≡ end → new.records.items ≡ old.records.items ++ r ∷ [] → IsReadSoFar id_of ledger new
+    pub so_far_next : (new : Reached) → new.gate ≡ length ledger - length p.rest.now → new.end ≡ end → new.events.items ≡ old.events.items ++ e ∷ [] → IsReadSoFar id_of ledger new
     so_far_next new gate_is end_is items =
-        let history : events new.records.items ≡ events old.records.items ++ r.event ∷ [] = ap events items ∙ events-push old.records.items r in
-        let a : AreParts id_of ledger new.gate new.end (events new.records.items) =
-        subst (λ (h : List Event). AreParts id_of ledger new.gate new.end h) (sym history)
-        (subst (λ (n : ℕ). AreParts id_of ledger n new.end (events old.records.items ++ r.event ∷ [])) (sym gate_is)
-        (subst (λ (n : ℕ). AreParts id_of ledger (length ledger - length p.rest.now) n (events old.records.items ++ r.event ∷ [])) (sym end_is) parts)) in
+        let a : AreParts id_of ledger new.gate new.end new.events.items =
+        subst (λ (h : List Event). AreParts id_of ledger new.gate new.end h) (sym items)
+        (subst (λ (n : ℕ). AreParts id_of ledger n new.end (old.events.items ++ e ∷ [])) (sym gate_is)
+        (subst (λ (n : ℕ). AreParts id_of ledger (length ledger - length p.rest.now) n (old.events.items ++ e ∷ [])) (sym end_is) parts)) in
         record {
           gate_is = a.gate_is;
           ledger_begins = a.ledger_begins;
           end_is = a.end_is;
           codable = a.codable;
-          placed = subst (λ (rs : List Record). AreRecords 8 0 rs) (sym items) (placed-push 8 0 old.records.items r so_far.placed (read.gate_is ∙ so_far.gate_is));
           good = a.good;
         }
 
-pub runs_next : (store : List ℕ) (old new : Reached) (r : Record) → HasRuns store old → HoldsEvent old.end store r new.end → new.records.items ≡ old.records.items ++ r ∷ [] → HasRuns store new
-runs_next store old new r runs holds items =
-    let g = events old.records.items in
-    let e = r.event in
-    let history : events new.records.items ≡ g ++ e ∷ [] = ap events items ∙ events-push old.records.items r in
+pub runs_next : (store : List ℕ) (old new : Reached) (e : Event) → HasRuns store old → HoldsEvent old.end store e new.end → new.events.items ≡ old.events.items ++ e ∷ [] → HasRuns store new
+runs_next store old new e runs holds items =
+    let g = old.events.items in
     record {
       store_begins = runs.store_begins ∙ ap (λ (l : List ℕ). coded_runs g ++ l) holds.run ∙ sym (append_assoc (coded_runs g) (packed_objects e.what) (drop new.end store)) ∙ ap (λ (l : List ℕ). l ++ drop new.end store) (sym (runs-push g e))
-          ∙ ap (λ (h : List Event). coded_runs h ++ drop new.end store) (sym history);
+          ∙ ap (λ (h : List Event). coded_runs h ++ drop new.end store) (sym items);
     }

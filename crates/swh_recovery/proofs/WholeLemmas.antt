@@ -3,6 +3,7 @@ use Rattle.std.proofs.Common.{◌≡◌, ◌≢◌, ℕ, List, [], ◌++◌, len
 use Rattle.std.specs.List.{AllByRecursion}
 use Rattle.std.specs.Int.{w32, to_be_bytes}
 use Rattle.swh_base.specs.declared.kind.Kind.{Kind}
+use Rattle.swh_model.specs.declared.event.Event.{Event}
 use Rattle.swh_model.specs.declared.event.EventKind.{EventKind}
 use Rattle.swh_model.specs.declared.event.EventKind.TheVariants.{Batch}
 use Rattle.swh_object.specs.Object.{IsObject}
@@ -13,7 +14,6 @@ use Rattle.swh_format.specs.Kinds.{byte_of}
 use Rattle.swh_format.specs.Tells.{TellsWhole}
 use Rattle.swh_format.specs.EventRecord.{event_byte, event_payload, packed_objects, IsCodableKind}
 use Rattle.swh_recovery.specs.declared.harm.Found.{Found}
-use Rattle.swh_recovery.specs.declared.record.Record.{Record}
 use Rattle.swh_recovery.specs.Harms.{entries_of}
 use Rattle.swh_recovery.specs.Records.{IsWholeRecord, IsEventRead, EventBreaks, HoldsEvent, IsWholeRead, IsNotTold}
 
@@ -32,21 +32,20 @@ whole_told start kind rest what t = record { kind_is = t.byte_is; payload = t.sp
 all_none : {X : Type 0} (P : X → Type 0) (xs : List X) → xs ≡ [] → AllByRecursion P xs
 all_none P xs is = subst (AllByRecursion P) (sym is) tt
 
-pub whole_read : (id_of : Kind → List ℕ → List ℕ) (gate start : ℕ) (p : RecordParts) (r : Record) → p.kind ≢ byte_of of.Batch → IsWholeRead gate p r → IsEventRead id_of gate start p r start
-whole_read id_of gate start p r other w =
-    let f = whole_told start p.kind w.rest r.event.what w.tells in
-    let payload = w.who ∙ ap (λ (l : List ℕ). to_be_bytes w32 r.event.by ++ l) f.payload in
+pub whole_read : (id_of : Kind → List ℕ → List ℕ) (start : ℕ) (p : RecordParts) (e : Event) → p.kind ≢ byte_of of.Batch → IsWholeRead p e → IsEventRead id_of start p e start
+whole_read id_of start p e other w =
+    let f = whole_told start p.kind w.rest e.what w.tells in
+    let payload = w.who ∙ ap (λ (l : List ℕ). to_be_bytes w32 e.by ++ l) f.payload in
     record {
-      gate_is = w.gate_is;
       codable = (w.by_fits, f.codable);
       ledger = (λ i. framed (f.kind_is i) (payload i));
-      end_is = let n : length (packed_objects r.event.what) ≡ 0 = ap length f.no_run in omega (arith, n);
-      good = all_none (IsObject id_of) (entries_of r.event.what) f.no_entries;
+      end_is = let n : length (packed_objects e.what) ≡ 0 = ap length f.no_run in omega (arith, n);
+      good = all_none (IsObject id_of) (entries_of e.what) f.no_entries;
     }
 
-pub whole_holds : (gate start : ℕ) (p : RecordParts) (store : List ℕ) (r : Record) → p.kind ≢ byte_of of.Batch → IsWholeRead gate p r → HoldsEvent start store r start
-whole_holds gate start p store r other w =
-    let f = whole_told start p.kind w.rest r.event.what w.tells in
+pub whole_holds : (start : ℕ) (p : RecordParts) (store : List ℕ) (e : Event) → p.kind ≢ byte_of of.Batch → IsWholeRead p e → HoldsEvent start store e start
+whole_holds start p store e other w =
+    let f = whole_told start p.kind w.rest e.what w.tells in
     record { run = ap (λ (l : List ℕ). l ++ drop start store) (sym f.no_run) }
 
 pub whole_refused : (id_of : Kind → List ℕ → List ℕ) (number gate start : ℕ) (p : RecordParts) (store : List ℕ) (file : ℕ) (found : Found) → p.kind ≢ byte_of of.Batch → IsWholeRecord p → IsNotTold gate number p file found → EventBreaks id_of number gate start p store file found

@@ -1,4 +1,4 @@
--- Records that were read, and their events.
+-- The events of records that were read.
 use Rattle.std.specs.Prelude.{◌≡◌, ◌⊎◌, ◌+◌, ◌≤◌, ◌<◌, ◌^◌, ℕ, List, [], ◌∷◌, ◌++◌, length, drop}
 use Rattle.std.specs.List.{AllByRecursion}
 use Rattle.swh_base.specs.declared.kind.Kind.{Kind}
@@ -22,23 +22,11 @@ use Rattle.swh_recovery.specs.declared.fault.ReadFault.TheVariants as read
 use Rattle.swh_recovery.specs.declared.fault.NextFault.{NextFault}
 use Rattle.swh_recovery.specs.declared.fault.NextFault.TheVariants as next
 use Rattle.swh_format.specs.declared.batch_record.RunTold.{RunTold}
-use Rattle.swh_recovery.specs.declared.record.Record.{Record}
 use Rattle.swh_format.specs.Fields.{IsAmong, FieldsHold}
 use Rattle.swh_format.specs.Kinds.{choices, payload_fields}
 use Rattle.swh_recovery.specs.Fields.{found_at}
 use Rattle.swh_format.specs.declared.kinds.Choice.TheVariants as choice
 use Rattle.swh_recovery.specs.Harms.{entries_of, StoreBreaks, IsRefused, BreaksAfter, MagicBreaks}
-
--- the events of records
-abbrev pub events : List Record → List Event
-events [] = []
-events (r ∷ rs) = r.event ∷ events rs
-
--- The gates of the records stand one behind another, the first at this place of the ledger, where its run begins at the
--- other of the store.
-abbrev pub AreRecords : ℕ → ℕ → List Record → Type 0
-AreRecords gate start [] = Unit {0}
-AreRecords gate start (r ∷ rs) = (r.gate ≡ gate) × AreRecords (gate + (1 + length (coded_record start r.event))) (start + length (packed_objects r.event.what)) rs
 
 -- a fault in a file of this number
 abbrev pub in_file : ℕ → ReadFault → NextFault
@@ -76,40 +64,35 @@ pub record IsToldExactly (start number : ℕ) (t : RunTold) : Type 0 where
   pub nothing_left : t.left.now ≡ []
 
 module _ (id_of : Kind → List ℕ → List ℕ) where
-  -- The record of these parts was read, with a run that ends at this place of the store.
-  pub record IsEventRead (gate start : ℕ) (p : RecordParts) (r : Record) (end : ℕ) : Type 0 where
-    pub gate_is : r.gate ≡ gate
-    pub codable : IsCodable start r.event
-    pub ledger : framed p.kind p.payload.now ≡ coded_record start r.event
-    pub end_is : end ≡ start + length (packed_objects r.event.what)
-    pub good : AllByRecursion (IsObject id_of) (entries_of r.event.what)
+  -- The event of the record of these parts was read, with a run that ends at this place of the store.
+  pub record IsEventRead (start : ℕ) (p : RecordParts) (e : Event) (end : ℕ) : Type 0 where
+    pub codable : IsCodable start e
+    pub ledger : framed p.kind p.payload.now ≡ coded_record start e
+    pub end_is : end ≡ start + length (packed_objects e.what)
+    pub good : AllByRecursion (IsObject id_of) (entries_of e.what)
 
   -- The record of these parts, which has its fields, has this harm.
   abbrev pub EventBreaks : ℕ → ℕ → ℕ → RecordParts → List ℕ → ℕ → Found → Type 0
   EventBreaks number gate start p store file found = StoreBreaks id_of (records_of p) store file found ⊎ IsRefused id_of number gate start (records_of p) store file found
 
-  -- The records are their events', in order; the events fit their fields, their objects are of their kinds and named, and
-  -- both files have room for them.
-  pub record AreWhole (records : List Record) : Type 0 where
-    pub placed : AreRecords 8 0 records
-    pub codable : AreCodable 0 (events records)
-    pub good : AllByRecursion (λ e. AllByRecursion (IsObject id_of) (entries_of e.what)) (events records)
-    pub store_fits : store_length (events records) ≤ file_limit
-    pub ledger_fits : ledger_length (events records) ≤ file_limit
+  -- The events fit their fields, their objects are of their kinds and named, and both files have room for them.
+  pub record AreWhole (h : List Event) : Type 0 where
+    pub codable : AreCodable 0 h
+    pub good : AllByRecursion (λ e. AllByRecursion (IsObject id_of) (entries_of e.what)) h
+    pub store_fits : store_length h ≤ file_limit
+    pub ledger_fits : ledger_length h ≤ file_limit
 
-  -- The first harm of the two files, in the file of this number, at this place, and the records before it.
-  abbrev pub IsHarm : List ℕ → List ℕ → ℕ → ℕ → Harm → List Record → Type 0
+  -- The first harm of the two files, in the file of this number, at this place, and the events of the records before it.
+  abbrev pub IsHarm : List ℕ → List ℕ → ℕ → ℕ → Harm → List Event → Type 0
   IsHarm ledger store file at harm before =
-      (MagicBreaks ledger file (found_at at harm) × (before ≡ []))
-      ⊎ (BreaksAfter id_of (events before) ledger store file (found_at at harm) × AreRecords 8 0 before)
+      (MagicBreaks ledger file (found_at at harm) × (before ≡ [])) ⊎ BreaksAfter id_of before ledger store file (found_at at harm)
 
--- The record of these parts was read, and it is no batch.
-pub record IsWholeRead (gate : ℕ) (p : RecordParts) (r : Record) : Type 0 where
-  pub gate_is : r.gate ≡ gate
+-- The event of the record of these parts was read, and it is no batch.
+pub record IsWholeRead (p : RecordParts) (e : Event) : Type 0 where
   pub rest : List ℕ
-  pub who : p.payload.now ≡ to_be_bytes w32 r.event.by ++ rest
-  pub by_fits : r.event.by < 2 ^ 32
-  pub tells : TellsWhole p.kind rest r.event.what
+  pub who : p.payload.now ≡ to_be_bytes w32 e.by ++ rest
+  pub by_fits : e.by < 2 ^ 32
+  pub tells : TellsWhole p.kind rest e.what
 
 -- The payload of these parts is that of no event, wherever its run would begin, and this is told of the record.
 pub record IsNotTold (gate number : ℕ) (p : RecordParts) (file : ℕ) (found : Found) : Type 0 where
@@ -117,28 +100,27 @@ pub record IsNotTold (gate number : ℕ) (p : RecordParts) (file : ℕ) (found :
   pub file_is : file ≡ 0
   pub found_is : found ≡ found_at gate (Refused number)
 
--- The store begins with the runs of the records.
+-- The store begins with the runs of the events.
 pub record HasRuns (store : List ℕ) (r : Reached) : Type 0 where
-  pub store_begins : store ≡ coded_runs (events r.records.items) ++ drop r.end store
+  pub store_begins : store ≡ coded_runs r.events.items ++ drop r.end store
 
--- The store holds the run of the record's event from this place on, up to the other.
-pub record HoldsEvent (start : ℕ) (store : List ℕ) (r : Record) (end : ℕ) : Type 0 where
-  pub run : drop start store ≡ packed_objects r.event.what ++ drop end store
+-- The store holds the run of the event from this place on, up to the other.
+pub record HoldsEvent (start : ℕ) (store : List ℕ) (e : Event) (end : ℕ) : Type 0 where
+  pub run : drop start store ≡ packed_objects e.what ++ drop end store
 
 module _ (id_of : Kind → List ℕ → List ℕ) where
-  -- The records are those up to this gate of the ledger, their runs end at this place of a store, and their objects are
-  -- of their kinds and named.
+  -- The events are those of the records up to this gate of the ledger, their runs end at this place of a store, and their
+  -- objects are of their kinds and named.
   pub record IsReadSoFar (ledger : List ℕ) (r : Reached) : Type 0 where
-    pub gate_is : r.gate ≡ 8 + length (coded_records 0 (events r.records.items))
-    pub ledger_begins : ledger ≡ magic ++ (coded_records 0 (events r.records.items) ++ drop r.gate ledger)
-    pub end_is : r.end ≡ length (coded_runs (events r.records.items))
-    pub codable : AreCodable 0 (events r.records.items)
-    pub placed : AreRecords 8 0 r.records.items
-    pub good : AllByRecursion (λ e. AllByRecursion (IsObject id_of) (entries_of e.what)) (events r.records.items)
+    pub gate_is : r.gate ≡ 8 + length (coded_records 0 r.events.items)
+    pub ledger_begins : ledger ≡ magic ++ (coded_records 0 r.events.items ++ drop r.gate ledger)
+    pub end_is : r.end ≡ length (coded_runs r.events.items)
+    pub codable : AreCodable 0 r.events.items
+    pub good : AllByRecursion (λ e. AllByRecursion (IsObject id_of) (entries_of e.what)) r.events.items
 
-  -- The next record after these has this harm, and these are their events'.
+  -- The next record after these has this harm.
   abbrev pub BreaksNext : List ℕ → List ℕ → Reached → ℕ → Found → Type 0
-  BreaksNext ledger store r file found = BreaksAfter id_of (events r.records.items) ledger store file found × AreRecords 8 0 r.records.items
+  BreaksNext ledger store r file found = BreaksAfter id_of r.events.items ledger store file found
 
 -- They reach within a ledger and a store of these lengths.
 pub record IsInside (ledger store : ℕ) (r : Reached) : Type 0 where

@@ -22,31 +22,31 @@ ghost use Rattle.swh_segment.specs.Makes.{ADiskFailed};
 ghost use Rattle.swh_segment.specs.Counts.{AreLater, AreQuiet};
 ghost use Rattle.swh_base.specs.Limits.{file_limit};
 ghost use Rattle.swh_recovery.specs.Harms.{MagicBreaks};
-ghost use Rattle.swh_recovery.specs.Records.{events, AreWhole, IsHarm};
+ghost use Rattle.swh_recovery.specs.Records.{AreWhole, IsHarm};
 ghost use Rattle.swh_recovery.specs.Answers.{all_fault, IfDamaged, UnlessDiskFault};
 ghost use Rattle.swh_recovery.specs.declared.archive.ReadAllFault.TheVariants.{DiskFault};
 
 use crate::fault::NextFault;
 use crate::harm::{Found, Harm};
 use crate::reading::{Reached, read_next};
-use crate::record::Record;
 use std::alloc::Global;
 use swh_base::{FILE_LIMIT, Namer};
+use swh_model::Event;
 use swh_outside::Disk;
 use swh_segment::{ReadFileFault, read_file};
 
-/// Why the records are not read.
+/// Why the events are not read.
 #[derive(Drop)]
 pub enum ReadAllFault {
     /// A disk failed.
     DiskFault,
-    /// The first harm, at a place of the file of this number, in bytes from 0, and the whole records before it. File 0 is
-    /// the ledger, 1 the store.
+    /// The first harm, at a place of the file of this number, in bytes from 0, and the events of the whole records before it.
+    /// File 0 is the ledger, 1 the store.
     Damaged {
         file: u32,
         at: u64,
         harm: Harm,
-        before: Vec<Record>,
+        before: Vec<Event>,
     },
     /// Memory is wanting, or a file is as long as no archive's.
     Memory,
@@ -69,7 +69,7 @@ fn check_magic(ledger: &[u8]) -> Result<(), Found>
     Ok(())
 }
 
-fn damaged(fault: NextFault, before: Vec<Record>) -> ReadAllFault
+fn damaged(fault: NextFault, before: Vec<Event>) -> ReadAllFault
     ensures { result ≡ all_fault fault before }
 {
     match fault {
@@ -84,22 +84,22 @@ fn damaged(fault: NextFault, before: Vec<Record>) -> ReadAllFault
     }
 }
 
-// The records behind the magic.
+// The events of the records behind the magic.
 fn read_records<N: Namer, D: Disk>(
     alloc: Global,
     namer: &N,
     store: &mut D,
     size: u64,
     ledger: &[u8],
-) -> Result<Vec<Record>, ReadAllFault>
+) -> Result<Vec<Event>, ReadAllFault>
     requires size { D.tells → size ≡ length (D.file store.old).seen }
     requires small { size ≤ file_limit }
     requires ledger_small { length ledger.now < file_limit }
     requires magic { ledger.now ≡ magic ++ drop 8 ledger.now }
-    ensures whole { IfOk result (λ records. AreWhole N.id_of records.items) }
+    ensures whole { IfOk result (λ h. AreWhole N.id_of h.items) }
     ensures before { IfErr result (λ fault. IfDamaged fault (λ _ _ _ before. AreWhole N.id_of before)) }
-    ensures ok { D.tells → IfOk result (λ records.
-        StandsFor ledger.now (D.file store.old).seen (events records.items)) }
+    ensures ok { D.tells → IfOk result (λ h.
+        StandsFor ledger.now (D.file store.old).seen h.items) }
     ensures harm { D.tells → IfErr result (λ fault.
         IfDamaged fault (IsHarm N.id_of ledger.now (D.file store.old).seen)) }
     ensures reads { OnlyReads D.tells UnlessDiskFault DiskFault (D.file store.old, D.faults store.old)
@@ -108,7 +108,7 @@ fn read_records<N: Namer, D: Disk>(
     let mut reached = Reached {
         gate: 8,
         end: 0,
-        records: Vec::new(alloc),
+        events: Vec::new(alloc),
     };
     'records: loop {
         match read_next(alloc, namer, store, size, ledger, &mut reached) {
@@ -117,34 +117,34 @@ fn read_records<N: Namer, D: Disk>(
                 let Reached {
                     gate: _,
                     end: _,
-                    records,
+                    events,
                 } = reached;
-                return Ok(records);
+                return Ok(events);
             }
             Err(fault) => {
                 let Reached {
                     gate: _,
                     end: _,
-                    records,
+                    events,
                 } = reached;
-                return Err(damaged(fault, records));
+                return Err(damaged(fault, events));
             }
         }
     }
 }
 
-// The records of a ledger of these bytes and of the store.
+// The events of the records of a ledger of these bytes and of the store.
 fn read_both<N: Namer, D: Disk>(
     alloc: Global,
     namer: &N,
     store: &mut D,
     ledger: &[u8],
-) -> Result<Vec<Record>, ReadAllFault>
+) -> Result<Vec<Event>, ReadAllFault>
     requires { 8 ≤ length ledger.now }
-    ensures whole { IfOk result (λ records. AreWhole N.id_of records.items) }
+    ensures whole { IfOk result (λ h. AreWhole N.id_of h.items) }
     ensures before { IfErr result (λ fault. IfDamaged fault (λ _ _ _ before. AreWhole N.id_of before)) }
-    ensures ok { D.tells → IfOk result (λ records.
-        StandsFor ledger.now (D.file store.old).seen (events records.items)) }
+    ensures ok { D.tells → IfOk result (λ h.
+        StandsFor ledger.now (D.file store.old).seen h.items) }
     ensures harm { D.tells → IfErr result (λ fault.
         IfDamaged fault (IsHarm N.id_of ledger.now (D.file store.old).seen)) }
     ensures reads { OnlyReads D.tells UnlessDiskFault DiskFault (D.file store.old, D.faults store.old)
@@ -162,22 +162,22 @@ fn read_both<N: Namer, D: Disk>(
     read_records(alloc, namer, store, size, ledger)
 }
 
-/// The records for which the two files of an archive that is made stand, or the first harm and the records before it.
+/// The events for which the two files of an archive that is made stand, or the first harm and the events before it.
 /// The ledger is read whole, and of the store the runs alone, object by object.
 pub fn read_all<N: Namer, D: Disk>(
     alloc: Global,
     namer: &N,
     ledger: &mut D,
     store: &mut D,
-) -> Result<Vec<Record>, ReadAllFault>
+) -> Result<Vec<Event>, ReadAllFault>
     requires { D.tells → IsMade (D.file ledger.old).seen }
-    // On every disk: what is read is a list of whole records, and so is what is before a harm.
-    ensures whole { IfOk result (λ records. AreWhole N.id_of records.items) }
+    // On every disk: what is read is a list of whole events, and so is what is before a harm.
+    ensures whole { IfOk result (λ h. AreWhole N.id_of h.items) }
     ensures before { IfErr result (λ fault. IfDamaged fault (λ _ _ _ before. AreWhole N.id_of before)) }
 
     // They are those for which the files stand, and what is damaged is the first harm.
-    ensures ok { D.tells → IfOk result (λ records.
-        StandsFor (D.file ledger.old).seen (D.file store.old).seen (events records.items)) }
+    ensures ok { D.tells → IfOk result (λ h.
+        StandsFor (D.file ledger.old).seen (D.file store.old).seen h.items) }
     ensures damaged { D.tells → IfErr result (λ fault.
         IfDamaged fault (IsHarm N.id_of (D.file ledger.old).seen (D.file store.old).seen)) }
 

@@ -22,7 +22,6 @@ ghost use Rattle.swh_recovery.specs.declared.fault.NextFault.TheVariants.{DiskFa
 
 use crate::fault::{NextFault, ReadFault};
 use crate::harm::{Found, Harm};
-use crate::record::Record;
 use crate::run::read_run;
 use std::alloc::Global;
 use swh_base::{Items, Namer};
@@ -64,7 +63,7 @@ fn is_told_exactly(told: &RunTold<'_>, start: u64, number: usize) -> bool
     told.from == start && start <= told.to && told.number as usize == number && told.left.is_empty()
 }
 
-// The record of a batch, and where its run ends in the store.
+// The event of a batch, and where its run ends in the store.
 fn read_batch<N: Namer, D: Disk>(
     alloc: Global,
     namer: &N,
@@ -72,13 +71,13 @@ fn read_batch<N: Namer, D: Disk>(
     size: u64,
     place: NextPlace,
     parts: &RecordParts<'_>,
-) -> Result<(Record, u64), NextFault>
+) -> Result<(Event, u64), NextFault>
     requires size { D.tells → size ≡ length (D.file store.old).seen }
     requires small { size ≤ file_limit }
     requires inside { place.start ≤ size }
     requires whole { IsWholeRecord parts.now }
     requires batch { parts.now.kind ≡ byte_of of.Batch }
-    ensures read { IfOk result (λ x. IsEventRead N.id_of place.gate place.start parts.now x.0 x.1) }
+    ensures read { IfOk result (λ x. IsEventRead N.id_of place.start parts.now x.0 x.1) }
     ensures inside { IfOk result (λ x. x.1 ≤ size) }
     ensures holds { D.tells → IfOk result (λ x. HoldsEvent place.start (D.file store.old).seen x.0 x.1) }
     ensures harm { D.tells → IfErr result (λ fault. IfNextHarmed fault
@@ -98,23 +97,19 @@ fn read_batch<N: Namer, D: Disk>(
         by: told.by,
         what: EventKind::Batch(Items::from_vec(entries)),
     };
-    let record = Record {
-        gate: place.gate,
-        event,
-    };
-    Ok((record, told.to))
+    Ok((event, told.to))
 }
 
-// The record of an opening or a mark.
+// The event of an opening or a mark.
 fn read_whole(
     alloc: Global,
     gate: u64,
     number: u64,
     parts: &RecordParts<'_>,
-) -> Result<Record, NextFault>
+) -> Result<Event, NextFault>
     requires whole { IsWholeRecord parts.now }
     requires other { parts.now.kind ≢ byte_of of.Batch }
-    ensures ok { IfOk result (IsWholeRead gate parts.now) }
+    ensures ok { IfOk result (IsWholeRead parts.now) }
     ensures harm { IfErr result (λ fault. IfNextHarmed fault (IsNotTold gate number parts.now)) }
     ensures why { IsErrOf result DiskFailed → ⊥ }
 {
@@ -122,13 +117,10 @@ fn read_whole(
     let Some(what) = whole_of(alloc, parts.kind, rest)? else {
         return Err(refused(gate, number));
     };
-    Ok(Record {
-        gate,
-        event: Event { by, what },
-    })
+    Ok(Event { by, what })
 }
 
-/// The record of parts that have their fields, and where its run ends in the store; else its first harm.
+/// The event of parts that have their fields, and where its run ends in the store; else its first harm.
 pub fn read_event<N: Namer, D: Disk>(
     alloc: Global,
     namer: &N,
@@ -136,12 +128,12 @@ pub fn read_event<N: Namer, D: Disk>(
     size: u64,
     place: NextPlace,
     parts: &RecordParts<'_>,
-) -> Result<(Record, u64), NextFault>
+) -> Result<(Event, u64), NextFault>
     requires size { D.tells → size ≡ length (D.file store.old).seen }
     requires small { size ≤ file_limit }
     requires inside { place.start ≤ size }
     requires whole { IsWholeRecord parts.now }
-    ensures read { IfOk result (λ x. IsEventRead N.id_of place.gate place.start parts.now x.0 x.1) }
+    ensures read { IfOk result (λ x. IsEventRead N.id_of place.start parts.now x.0 x.1) }
     ensures inside { IfOk result (λ x. x.1 ≤ size) }
     ensures holds { D.tells → IfOk result (λ x. HoldsEvent place.start (D.file store.old).seen x.0 x.1) }
     ensures harm { D.tells → IfErr result (λ fault. IfNextHarmed fault
@@ -153,7 +145,7 @@ pub fn read_event<N: Namer, D: Disk>(
         return read_batch(alloc, namer, store, size, place, parts);
     }
     match read_whole(alloc, place.gate, place.number, parts) {
-        Ok(record) => Ok((record, place.start)),
+        Ok(event) => Ok((event, place.start)),
         Err(fault) => Err(fault),
     }
 }

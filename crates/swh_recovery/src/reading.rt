@@ -31,18 +31,18 @@ use crate::event::{NextPlace, read_event};
 use crate::fault::NextFault;
 use crate::field::cut;
 use crate::frame::take_record;
-use crate::record::Record;
 use std::alloc::Global;
 use swh_base::Namer;
+use swh_model::Event;
 use swh_outside::Disk;
 
 /// How far the files are read: the place of the next gate in the ledger, the place in the store where the runs so far
-/// end, and the records.
+/// end, and the events.
 #[derive(Drop)]
 pub struct Reached {
     pub gate: u64,
     pub end: u64,
-    pub records: Vec<Record>,
+    pub events: Vec<Event>,
 }
 
 // The gate of a record that stands.
@@ -95,14 +95,14 @@ pub fn read_next<N: Namer, D: Disk>(
         Ok(parts) => parts,
         Err(found) => return Err(NextFault::Harmed(0, found)),
     };
-    let number = reached.records.as_slice().len() as u64 + 1;
+    let number = reached.events.as_slice().len() as u64 + 1;
     let place = NextPlace {
         gate: reached.gate,
         start: reached.end,
         number,
     };
-    let (record, end) = read_event(alloc, namer, store, size, place, &parts)?;
-    reached.records.push(record)?;
+    let (event, end) = read_event(alloc, namer, store, size, place, &parts)?;
+    reached.events.push(event)?;
     reached.gate = (ledger.len() - parts.rest.len()) as u64;
     reached.end = end;
     Ok(true)

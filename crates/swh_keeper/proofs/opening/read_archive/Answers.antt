@@ -7,7 +7,7 @@ pub returns-in-Ok-clause-damaged : goal.returns-in-Ok-clause-damaged
 returns-in-Ok-clause-damaged g c told =
     let ledger = (g.D.Disk.file c.args.ledger.now).seen in
     let store = (g.D.Disk.file c.args.store.now).seen in
-    IfErr-weaker c.replay_records.result _ _ (λ why. damaged_among g.N.Namer.id_of ledger store c.in-Ok.records.items why (c.requires told) c.in-Ok.ensures.whole (c.in-Ok.ensures.ok told)) c.replay_records.ensures.refused
+    IfErr-weaker c.replay_records.result _ _ (λ why. damaged_among g.N.Namer.id_of ledger store c.in-Ok.history.items why (c.requires told) c.in-Ok.ensures.whole (c.in-Ok.ensures.ok told)) c.replay_records.ensures.refused
 
 pub returns-in-Err-Damaged-clause-damaged : goal.returns-in-Err-Damaged-clause-damaged
 returns-in-Err-Damaged-clause-damaged g c told =

@@ -1,4 +1,4 @@
-use Rattle.std.proofs.Common.{rules, ◌≡◌, ℕ, List, ◌++◌, true, false, length, drop, refl, sym, ap, ◌∙◌, subst, arith}
+use Rattle.std.proofs.Common.{rules, ◌≡◌, ℕ, List, ◌++◌, true, false, length, drop, sym, ap, ◌∙◌, subst, arith}
 use Rattle.swh_base.specs.declared.entry.Entry.{Entry}
 use Rattle.swh_format.specs.StoredObject.{coded_run}
 use Rattle.swh_recovery.specs.declared.harm.Found.{Found}
@@ -38,7 +38,7 @@ returns-clause-read g c =
     let exact : IsToldExactly c.args.place.start (length c.in-Ok.entries.items) c.run_told-told.result = subst (λ (n : ℕ). IsToldExactly c.args.place.start n c.run_told-told.result) size (c.is_told_exactly.ensures.yes yes) in
     let id_of = g.N.Namer.id_of in
     let p = c.args.parts.now in
-    batch_read id_of c.args.place.start p c.requires.whole c.requires.batch t c.run_told-told.ensures es run exact c.args.place.gate _ refl (ap (λ (l : List Entry). batch_event t.by l) c.from_vec.ensures)
+    batch_read id_of c.args.place.start p c.requires.whole c.requires.batch t c.run_told-told.ensures es run exact _ (ap (λ (l : List Entry). batch_event t.by l) c.from_vec.ensures)
 
 pub returns-clause-inside : goal.returns-clause-inside
 returns-clause-inside g c =

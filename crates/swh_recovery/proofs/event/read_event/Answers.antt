@@ -5,10 +5,10 @@ use Rattle.swh_recovery.proofs.WholeLemmas.{whole_read, whole_holds, whole_refus
 use Rattle.swh_recovery.proofs.event.read_event.Goals as goal
 
 pub returns-in-Ok-clause-read : goal.returns-in-Ok-clause-read
-returns-in-Ok-clause-read g c = whole_read g.N.Namer.id_of c.args.place.gate c.args.place.start c.args.parts.now c.in-Ok.record c.if-parts-eq66.false c.in-Ok.ensures.ok
+returns-in-Ok-clause-read g c = whole_read g.N.Namer.id_of c.args.place.start c.args.parts.now c.in-Ok.event c.if-parts-eq66.false c.in-Ok.ensures.ok
 
 pub returns-in-Ok-clause-holds : goal.returns-in-Ok-clause-holds
-returns-in-Ok-clause-holds g c told = whole_holds c.args.place.gate c.args.place.start c.args.parts.now (g.D.Disk.file c.args.store.now).seen c.in-Ok.record c.if-parts-eq66.false c.in-Ok.ensures.ok
+returns-in-Ok-clause-holds g c told = whole_holds c.args.place.start c.args.parts.now (g.D.Disk.file c.args.store.now).seen c.in-Ok.event c.if-parts-eq66.false c.in-Ok.ensures.ok
 
 pub returns-in-Err-clause-harm : goal.returns-in-Err-clause-harm
 returns-in-Err-clause-harm g c told =

@@ -1,7 +1,7 @@
 use Rattle.std.proofs.Common.{rules, ◌≡◌, ℕ, ◌+◌, List, [], ◌∷◌, ◌++◌, length, drop, refl, ap, ◌∙◌, arith}
 use Rattle.std.proofs.lemmas.Grind.{common_steps}
 use Rattle.swh_recovery.specs.declared.harm.Found.{Found}
-use Rattle.swh_recovery.specs.declared.record.Record.{Record}
+use Rattle.swh_model.specs.declared.event.Event.{Event}
 use Rattle.swh_recovery.specs.LedgerHarm.{IsRecordWithFields}
 use Rattle.swh_recovery.specs.Records.{records_of}
 use Rattle.swh_recovery.proofs.FrameLemmas.{exits}
@@ -20,20 +20,20 @@ returns-in-Err-clause-harm g c told =
     let opened = at ∙ ap (λ (n : ℕ). n ∷ c.in-Some.behind.now) c.if-gate-ne-OPEN.false in
     record_breaks g.N.Namer.id_of c.args.ledger.now (g.D.Disk.file c.args.store.now).seen c.args.reached.now c.requires.so_far (c.requires.runs told) c.in-Some.behind.now c.in-Err.found opened c.in-Err.ensures.err
 
-pub returns-in_err-record-clause-harm : goal.returns-in_err-record-clause-harm
-returns-in_err-record-clause-harm g c told =
+pub returns-in_err-event-clause-harm : goal.returns-in_err-event-clause-harm
+returns-in_err-event-clause-harm g c told =
     let seen = (g.D.Disk.file c.args.store.now).seen in
     let at : drop c.args.reached.now.gate c.args.ledger.now ≡ c.in-Some.gate ∷ c.in-Some.behind.now = first_of (search rules, grind (arith, common_steps, c.in-Some.ensures.some)) in
     let frame : IsRecordWithFields c.in-Some.behind.now c.in-Ok.parts = c.in-Ok.ensures.ok in
     let opened : drop c.args.reached.now.gate c.args.ledger.now ≡ records_of c.in-Ok.parts =
     at ∙ ap (λ (n : ℕ). n ∷ c.in-Some.behind.now) c.if-gate-ne-OPEN.false ∙ ap (λ (l : List ℕ). 1 ∷ l) frame.frame.front.spelled in
-    let numbered = ap (λ (l : List Record). length l + 1) c.as_slice.ensures.value in
-    exits _ _ c.in_err-record.field-0.0 c.from_residual.ensures.1
-    (next_map c.in_err-record.field-0.0 _ _
-    (λ (k : ℕ) (x : Found). λ breaks. event_breaks g.N.Namer.id_of c.args.ledger.now seen c.args.reached.now c.requires.so_far (c.requires.runs told) c.in-Ok.parts k x (length c.as_slice.result.now + 1) numbered opened breaks) (c.in_err-record.ensures.harm told))
+    let numbered = ap (λ (l : List Event). length l + 1) c.as_slice.ensures.value in
+    exits _ _ c.in_err-event.field-0.0 c.from_residual.ensures.1
+    (next_map c.in_err-event.field-0.0 _ _
+    (λ (k : ℕ) (x : Found). λ breaks. event_breaks g.N.Namer.id_of c.args.ledger.now seen c.args.reached.now c.requires.so_far (c.requires.runs told) c.in-Ok.parts k x (length c.as_slice.result.now + 1) numbered opened breaks) (c.in_err-event.ensures.harm told))
 
-pub returns-in_err-record-clause-kept : goal.returns-in_err-record-clause-kept
-returns-in_err-record-clause-kept g c = exits _ _ c.in_err-record.field-0.0 c.from_residual.ensures.1 (next_always c.in_err-record.field-0.0 _ (λ k x. refl))
+pub returns-in_err-event-clause-kept : goal.returns-in_err-event-clause-kept
+returns-in_err-event-clause-kept g c = exits _ _ c.in_err-event.field-0.0 c.from_residual.ensures.1 (next_always c.in_err-event.field-0.0 _ (λ k x. refl))
 
 pub returns-clause-so_far : goal.returns-clause-so_far
 returns-clause-so_far g c =
@@ -41,10 +41,10 @@ returns-clause-so_far g c =
     let frame : IsRecordWithFields c.in-Some.behind.now c.in-Ok.parts = c.in-Ok.ensures.ok in
     let opened : drop c.args.reached.now.gate c.args.ledger.now ≡ records_of c.in-Ok.parts =
     at ∙ ap (λ (n : ℕ). n ∷ c.in-Some.behind.now) c.if-gate-ne-OPEN.false ∙ ap (λ (l : List ℕ). 1 ∷ l) frame.frame.front.spelled in
-    let items : c.push.new.self.items ≡ c.args.reached.now.records.items ++ c.in_ok-record.record ∷ [] = search rules in
-    so_far_next g.N.Namer.id_of c.args.ledger.now c.args.reached.now c.requires.so_far c.in-Ok.parts c.in_ok-record.record c.in_ok-record.end opened c.in_ok-record.ensures.read _ refl refl items
+    let items : c.push.new.self.items ≡ c.args.reached.now.events.items ++ c.in_ok-event.event ∷ [] = search rules in
+    so_far_next g.N.Namer.id_of c.args.ledger.now c.args.reached.now c.requires.so_far c.in-Ok.parts c.in_ok-event.event c.in_ok-event.end opened c.in_ok-event.ensures.read _ refl refl items
 
 pub returns-clause-runs : goal.returns-clause-runs
 returns-clause-runs g c told =
-    let items : c.push.new.self.items ≡ c.args.reached.now.records.items ++ c.in_ok-record.record ∷ [] = search rules in
-    runs_next (g.D.Disk.file c.args.store.now).seen c.args.reached.now _ c.in_ok-record.record (c.requires.runs told) (c.in_ok-record.ensures.holds told) items
+    let items : c.push.new.self.items ≡ c.args.reached.now.events.items ++ c.in_ok-event.event ∷ [] = search rules in
+    runs_next (g.D.Disk.file c.args.store.now).seen c.args.reached.now _ c.in_ok-event.event (c.requires.runs told) (c.in_ok-event.ensures.holds told) items
