@@ -1,7 +1,7 @@
 //! What stands in a folder, found before any file is read.
 ghost use Rattle.std.specs.Prelude.{◌≡◌, ◌≢◌, ◌++◌, ◌∷◌, [], ◌≤◌, IfOk, IfErr, OnOk, IsErrOf, length, map, string_bytes};
 ghost use Rattle.swh_outside.specs.Faults.{Rose};
-ghost use Rattle.swh_dirload.specs.declared.fault.DirFault.TheVariants.{ReadFault as NotRead};
+ghost use Rattle.swh_dirload.specs.declared.fault.DirFault.TheVariants.{ReadFault as NotRead, Memory as NoRoom};
 ghost use Rattle.swh_outside.specs.declared.folder.What.TheVariants.{Other as NeitherKind};
 ghost use Rattle.swh_dirload.specs.Items.{Fits};
 ghost use Rattle.swh_dirload.specs.Found.{path_in, paths_of, items_of, IsPlaced, ArePlaced, AreBelow, found_in, items_under};
@@ -22,6 +22,7 @@ fn within(path: String, what: What) -> Result<String, DirFault>
     ensures ok { IfOk result (λ kept. (kept ≡ path) × Fits (string_bytes path) what) }
     ensures err { IfErr result (ExplainsItem (string_bytes path) what) }
     ensures not_read { IfErr result (λ fault. fault ≢ NotRead) }
+    ensures not_memory { IfErr result (λ fault. fault ≢ NoRoom) }
 {
     let _what = what;
     let number = path.as_bytes().len();
@@ -39,6 +40,7 @@ fn fitting(path: String, what: What) -> Result<String, DirFault>
     ensures ok { IfOk result (λ kept. (kept ≡ path) × Fits (string_bytes path) what) }
     ensures err { IfErr result (ExplainsItem (string_bytes path) what) }
     ensures not_read { IfErr result (λ fault. fault ≢ NotRead) }
+    ensures not_memory { IfErr result (λ fault. fault ≢ NoRoom) }
 {
     match what {
         What::File => within(path, what),
@@ -138,5 +140,6 @@ pub fn walk<F: Folder>(alloc: Global, folder: &mut F) -> Result<Vec<Found>, DirF
         };
         visit(alloc, folder, &mut found, &mut waiting, next)?;
     }
-    Err(DirFault::Memory)
+    let _count = found.len();
+    unreachable!()
 }

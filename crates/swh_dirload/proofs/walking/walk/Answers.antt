@@ -1,4 +1,4 @@
-use Rattle.std.proofs.Common.{◌≡◌, ℕ, ◌+◌, List, [], ◌∷◌, ◌++◌, length, sym, ◌∙◌, subst, arith, rules}
+use Rattle.std.proofs.Common.{◌≡◌, ℕ, ◌+◌, List, [], ◌∷◌, ◌++◌, length, sym, ap, ◌∙◌, subst, arith, length-append, rules}
 use Rattle.swh_dirload.specs.declared.found.Found.{Found}
 use Rattle.swh_dirload.specs.Found.{path_in, paths_of, items_of, ArePlaced, AreBelow, items_under, IsPlaced}
 use Rattle.swh_dirload.specs.Walk.{root, Visits, Takes, AllFit, ExplainsWalk}
@@ -18,7 +18,9 @@ items-preserved g c =
     let below : AreBelow (length found) (next ∷ left) = subst (AreBelow (length found)) popped inv.below in
     let pushed : now ≡ found ++ next ∷ [] = c.in_ok-visit-2.ensures.found in
     let zeroed : 0 + length found ≡ length found = omega arith in
+    let counted = inv.count in
     record {
+      count = omega (arith, counted, ap length pushed, length-append found (next ∷ []));
       placed = subst (ArePlaced 0) (sym pushed) (placed_push 0 found next inv.placed (subst (λ (k : ℕ). IsPlaced k next) (sym zeroed) (below_placed (length found) next below.0)));
       below = c.in_ok-visit-2.ensures.below;
       fit = subst (λ (fs : List Found). AllFit (items_of fs)) (sym pushed) (fit_found found next inv.fit c.in_ok-visit-2.ensures.fits);

@@ -1,10 +1,11 @@
-use Rattle.std.proofs.Common.{◌≡◌, [], ◌∷◌, length}
+use Rattle.std.proofs.Common.{◌≡◌, ◌+◌, [], ◌∷◌, length}
 use Rattle.swh_dirload.specs.Found.{paths_of, items_of, ArePlaced, AreBelow, items_under}
 use Rattle.swh_dirload.specs.Walk.{root, Takes, AllFit}
 use Rattle.swh_dirload.proofs.walking.walk.Given as goal
 
 abbrev pub invariant-items : goal.invariant-items
 invariant-items g l = record {
+  count : length l.found.items ≡ l._turn + 1;
   placed : ArePlaced 0 l.found.items;
   below : AreBelow (length l.found.items) l.waiting.items;
   fit : AllFit (items_of l.found.items);
