@@ -11,4 +11,6 @@ mod deep;
 #[cfg(test)]
 mod orders;
 #[cfg(test)]
+mod paths;
+#[cfg(test)]
 mod texts;
