@@ -1,6 +1,7 @@
 //! Tests of what a cooked stream is made of: the order in which a walk leaves names, over objects that git named, in cycles,
-//! and over a long history, a deep folder and a wide snapshot; and the texts of its commands, by hand.
-//! Stands on the walk and the texts, and on the objects that tests of reading share.
+//! and over a long history, a deep folder and a wide snapshot; the walk over a folder's paths; and the texts of its
+//! commands, by hand.
+//! Stands on the walks and the texts, and on the objects that tests of reading share.
 //! Nothing stands above it.
 #![tactic(auto)]
 
@@ -10,5 +11,7 @@ mod cycles;
 mod deep;
 #[cfg(test)]
 mod orders;
+#[cfg(test)]
+mod paths;
 #[cfg(test)]
 mod texts;

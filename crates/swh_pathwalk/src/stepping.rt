@@ -2,6 +2,7 @@
 ghost use Rattle.std.specs.Prelude.{◌≡◌, ◌++◌, ◌∷◌, [], IfOk, IfErr, OnOk, OnErr, take};
 ghost use Rattle.swh_base.specs.declared.kind.Kind.TheVariants.{Directory};
 ghost use Rattle.swh_graph.specs.Holding.{IsNotHeld};
+ghost use Rattle.swh_graph.specs.Path.{directory_name};
 ghost use Rattle.swh_pathwalk.specs.Walk.{
   Steps,
   CannotStep,
@@ -88,17 +89,20 @@ fn go_to(path: &mut Vec<u8>, front: usize, nested: bool, name: &[u8]) -> Result<
 }
 
 impl<'a> PathWalk<'a> {
-    /// A walk over the paths of this directory. Fails where it is not held, or where memory runs out.
+    /// A walk over the paths of the directory of this id. Fails where it is not held, or where memory runs out.
     pub fn begin<L: Look>(
         alloc: Global,
         look: &'a L,
-        directory: Name,
+        directory: [u8; 20],
     ) -> Result<PathWalk<'a>, GraphFault>
-        requires { directory.kind ≡ Directory }
-        ensures ok { IfOk result (λ walk. BeginsAt (L.archive look.now).bodies directory walk) }
-        ensures err { IfErr result (IsNotHeld (L.archive look.now).bodies directory) }
+        ensures ok { IfOk result (λ walk. BeginsAt (L.archive look.now).bodies (directory_name directory) walk) }
+        ensures err { IfErr result (IsNotHeld (L.archive look.now).bodies (directory_name directory)) }
     {
-        let level = level_of(alloc, look, directory, 0, false)?;
+        let name = Name {
+            kind: Kind::Directory,
+            id: directory,
+        };
+        let level = level_of(alloc, look, name, 0, false)?;
         let mut levels = Vec::new(alloc);
         push_level(&mut levels, level)?;
         Ok(PathWalk {
