@@ -20,20 +20,19 @@ use swh_fastmeaning::{FeedFault, Parts, give_own};
 use swh_object::Object;
 use swh_revfmt::{PlainRel, write_plain_rel};
 
-/// The content of a blob, where it is new; its mark, where it has one, leads to it.
+/// The content of a blob, where it is new; its mark, where it has one, leads to it. The body is not copied.
 pub fn feed_blob<N: Namer>(
     alloc: Global,
     parts: &mut Parts<N>,
     mark: Option<u64>,
-    bytes: &[u8],
+    body: Vec<u8>,
 ) -> Result<Vec<Object<N>>, FeedFault>
     requires { IsStocked N.id_of (stock_of parts.old) }
-    ensures ok { IfOk result (λ os. Leads N.id_of (stock_of parts.old) (BlobCommand mark bytes.now) (stock_of parts.new)
+    ensures ok { IfOk result (λ os. Leads N.id_of (stock_of parts.old) (BlobCommand mark body.items) (stock_of parts.new)
         os.items) }
     ensures err { IfErr result (ExplainsFeed N.id_of (step N.id_of (loading_of (stock_of parts.old)).aims
-        (BlobCommand mark bytes.now))) }
+        (BlobCommand mark body.items))) }
 {
-    let body = Vec::from_slice(alloc, bytes)?;
     let (target, objects) = give_own(alloc, &parts.namer, &mut parts.seen, Kind::Content, body)?;
     parts.aims.set_mark(mark, target)?;
     Ok(objects)

@@ -190,6 +190,11 @@ const COLLIDED: Name = Name {
     id: *b"\0\0\0\0\0\0\0\0\0\0\0\0\0\0\0\0\0\0\0\xc3",
 };
 
+const COLLIDED_IN_A_STREAM: Name = Name {
+    kind: Kind::Content,
+    id: *b"\0\0\0\0\0\0\0\0\0\0\0\0\0\0\0\0\0\0\0\xc7",
+};
+
 const TWO_BODIES: &[Step<'static>] = &[
     Step {
         url: URL,
@@ -210,6 +215,19 @@ const TWO_BODIES: &[Step<'static>] = &[
         }),
         events: 7,
         objects: 2,
+    },
+    // The first of the two is not held yet: it is added before the load ends.
+    Step {
+        url: "https://e.org/r",
+        given: Given::Text(b"blob\nmark :1\ndata 2\ncd\nblob\nmark :2\ndata 2\ndc"),
+        ends: Ok(Loaded {
+            visit: 1,
+            end: End::Failed(BadInput::Collision {
+                name: COLLIDED_IN_A_STREAM,
+            }),
+        }),
+        events: 11,
+        objects: 3,
     },
 ];
 
