@@ -134,6 +134,29 @@ impl Packed {
         }
     }
 
+    /// The place at which an entry was looked for last, while there are many.
+    pub fn hint(&self) -> usize {
+        match &self.form {
+            Form::Flat(flat) => flat.len(),
+            Form::Loose(entries) => entries.len(),
+            Form::Cut(spans) => spans.hint(),
+        }
+    }
+
+    /// The same entries, of which one was looked for at this place.
+    pub fn hinted(self, place: usize) -> Packed
+        ensures { result.items ≡ self.items }
+    {
+        let Self { form, cost } = self;
+        match form {
+            Form::Cut(spans) => Packed {
+                form: Form::Cut(spans.hinted(place)),
+                cost,
+            },
+            form => Packed { form, cost },
+        }
+    }
+
     /// A copy of the entries. Fails where memory runs out.
     pub fn entries(&self, alloc: Global) -> Result<Vec<Entry>, AllocError>
         ensures { IfOk result (λ v. v.items ≡ self.now.items) }

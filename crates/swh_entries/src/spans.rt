@@ -1,11 +1,12 @@
-//! Entries in their order, cut into pieces that several lists share. A change makes anew one piece and the forks above it.
+//! Entries in their order, cut into pieces that several lists share. A change makes anew one piece and the forks above it,
+//! but for those that one list alone has: it changes them.
 //! The sides of a fork are about as deep as each other, so of n entries about log n forks stand above a piece.
 
 ghost use Rattle.std.specs.Prelude.{◌≡◌, ◌<◌, ◌≤◌, ◌++◌, ℕ, length, slice_index_or, IfOk, OnOk};
 ghost use Rattle.std.specs.List.{insert, remove};
 ghost use Rattle.std.specs.Rc.{rc_value};
 ghost use Rattle.swh_entries.specs.declared.entry.Entry.{Entry};
-ghost use Rattle.swh_entries.specs.Spans.{items_of, IsCounted};
+ghost use Rattle.swh_entries.specs.Spans.{items_of, weight, IsCounted};
 
 use crate::entry::Entry;
 use crate::order::is_name_before;
@@ -58,16 +59,21 @@ fn is_in_front(names: &[Vec<u8>], entry: Option<Entry>, name: &[u8], end: &[u8])
     }
 }
 
-/// How many entries there are up to the first that a name, with what it is compared with after it, comes before.
+/// How many entries there are up to the first that a name, with what it is compared with after it, comes before: right where
+/// they are in order.
 fn count_up_to(names: &[Vec<u8>], entries: &[Entry], name: &[u8], end: &[u8]) -> usize {
-    let mut count: usize = 0;
-    for entry in entries {
-        if is_name_before(names, name, end, *entry) {
-            return count;
+    let mut low = 0;
+    let mut high = entries.len();
+    'halves: while low < high {
+        let middle = low + (high - low) / 2;
+        let before = is_name_before(names, name, end, entries[middle]);
+        if before {
+            high = middle;
+        } else {
+            low = middle + 1;
         }
-        count = count.saturating_add(1);
     }
-    count
+    low
 }
 
 /// A place at which a name, with what it is compared with after it, may be looked for: right where the entries are in
@@ -231,53 +237,82 @@ fn pieces(alloc: Global, entries: Vec<Entry>) -> Result<Rc<Span>, AllocError>
     fork(alloc, left, right)
 }
 
-/// One entry more, at a place.
-fn with(alloc: Global, span: &Span, place: usize, entry: Entry) -> Result<Rc<Span>, AllocError>
-    requires counted { IsCounted span.now }
-    requires within { place ≤ length (items_of span.now) }
-    ensures counted { IfOk result (λ s. IsCounted (rc_value s)) }
-    ensures items { IfOk result (λ s. items_of (rc_value s) ≡ insert (items_of span.now) place entry) }
+/// The same entries, whose sides or whose piece others have too.
+fn shared(alloc: Global, span: &Span) -> Result<Span, AllocError>
+    requires { IsCounted span.now }
+    ensures counted { IfOk result (λ s. IsCounted s) }
+    ensures items { IfOk result (λ s. items_of s ≡ items_of span.now) }
+    ensures weight { IfOk result (λ s. weight s ≡ weight span.now) }
 {
     match span {
+        Span::Piece(entries) => Ok(Span::Piece(Vec::from_slice(alloc, entries.as_slice())?)),
+        Span::Fork(left, right, len, depth, first) => {
+            let (left, right) = (left.clone()?, right.clone()?);
+            Ok(Span::Fork(left, right, *len, *depth, *first))
+        }
+    }
+}
+
+/// What an owner has, itself where there is no other owner.
+fn owned(alloc: Global, span: Rc<Span>) -> Result<Span, AllocError>
+    requires { IsCounted (rc_value span) }
+    ensures counted { IfOk result (λ s. IsCounted s) }
+    ensures items { IfOk result (λ s. items_of s ≡ items_of (rc_value span)) }
+    ensures weight { IfOk result (λ s. weight s ≡ weight (rc_value span)) }
+{
+    match Rc::try_unwrap(span) {
+        Ok(own) => Ok(own),
+        Err(other) => shared(alloc, &other),
+    }
+}
+
+/// One entry more, at a place: in the pieces themselves where they have no other owner.
+fn with(alloc: Global, span: Rc<Span>, place: usize, entry: Entry) -> Result<Rc<Span>, AllocError>
+    requires counted { IsCounted (rc_value span) }
+    requires within { place ≤ length (items_of (rc_value span)) }
+    ensures counted { IfOk result (λ s. IsCounted (rc_value s)) }
+    ensures items { IfOk result (λ s. items_of (rc_value s) ≡ insert (items_of (rc_value span)) place entry) }
+{
+    match owned(alloc, span)? {
         Span::Piece(entries) => {
-            let mut more = Vec::from_slice(alloc, entries.as_slice())?;
+            let mut more = entries;
             more.insert(place, entry)?;
             pieces(alloc, more)
         }
         Span::Fork(left, right, _, _, _) => {
-            let before = len_of(left);
+            let before = len_of(&left);
             if place <= before {
                 let changed = with(alloc, left, place, entry)?;
-                joined(alloc, changed, right.clone()?)
+                joined(alloc, changed, right)
             } else {
                 let changed = with(alloc, right, place - before, entry)?;
-                joined(alloc, left.clone()?, changed)
+                joined(alloc, left, changed)
             }
         }
     }
 }
 
-/// All entries but the one at a place.
-fn without(alloc: Global, span: &Span, place: usize) -> Result<Rc<Span>, AllocError>
-    requires counted { IsCounted span.now }
-    requires within { place < length (items_of span.now) }
+/// All entries but the one at a place, in the pieces themselves where they have no other owner.
+fn without(alloc: Global, span: Rc<Span>, place: usize) -> Result<Rc<Span>, AllocError>
+    requires counted { IsCounted (rc_value span) }
+    requires within { place < length (items_of (rc_value span)) }
     ensures counted { IfOk result (λ s. IsCounted (rc_value s)) }
-    ensures items { IfOk result (λ s. items_of (rc_value s) ≡ remove (items_of span.now) place) }
+    ensures items { IfOk result (λ s. items_of (rc_value s) ≡ remove (items_of (rc_value span)) place) }
 {
-    match span {
+    match owned(alloc, span)? {
         Span::Piece(entries) => {
-            let mut rest = Vec::from_slice(alloc, entries.as_slice())?;
+            let mut rest = entries;
             let _ = rest.remove(place);
             piece(alloc, rest)
         }
         Span::Fork(left, right, _, _, _) => {
-            let before = len_of(left);
+            let before = len_of(&left);
             if place < before {
                 let changed = without(alloc, left, place)?;
-                joined(alloc, changed, right.clone()?)
+                joined(alloc, changed, right)
             } else {
                 let changed = without(alloc, right, place - before)?;
-                joined(alloc, left.clone()?, changed)
+                joined(alloc, left, changed)
             }
         }
     }
@@ -314,6 +349,8 @@ fn put_all(span: &Span, out: &mut Vec<Entry>) -> Result<(), AllocError>
 #[derive(Drop)]
 pub struct Spans {
     root: Rc<Span>,
+    /// A place at which an entry was looked for last.
+    hint: usize,
 }
 
 impl Model for Spans {
@@ -339,7 +376,7 @@ impl Spans {
         ensures { IfOk result (λ s. s.items ≡ entries.now) }
     {
         let root = cut(alloc, entries)?;
-        Ok(Spans { root })
+        Ok(Spans { root, hint: 0 })
     }
 
     /// How many entries there are.
@@ -367,6 +404,19 @@ impl Spans {
         guess_in(&self.root, names, name, end)
     }
 
+    /// The place at which an entry was looked for last.
+    pub fn hint(&self) -> usize {
+        self.hint
+    }
+
+    /// The same entries, of which one was looked for at this place.
+    pub fn hinted(self, hint: usize) -> Spans
+        ensures { result.items ≡ self.items }
+    {
+        let root = self.root;
+        Spans { root, hint }
+    }
+
     /// A copy of the entries. Fails where memory runs out.
     pub fn entries(&self, alloc: Global) -> Result<Vec<Entry>, AllocError>
         ensures { IfOk result (λ v. v.items ≡ self.now.items) }
@@ -381,24 +431,25 @@ impl Spans {
         ensures { IfOk result (λ s. s.items ≡ self.now.items) }
     {
         let root = self.root.clone()?;
-        Ok(Spans { root })
+        let hint = self.hint;
+        Ok(Spans { root, hint })
     }
 
     /// One entry more, at a place. Fails where memory runs out.
-    pub fn with(&self, alloc: Global, place: usize, entry: Entry) -> Result<Spans, AllocError>
-        requires { place ≤ length self.now.items }
-        ensures { IfOk result (λ s. s.items ≡ insert self.now.items place entry) }
+    pub fn with(self, alloc: Global, place: usize, entry: Entry) -> Result<Spans, AllocError>
+        requires { place ≤ length self.items }
+        ensures { IfOk result (λ s. s.items ≡ insert self.items place entry) }
     {
-        let root = with(alloc, &self.root, place, entry)?;
-        Ok(Spans { root })
+        let root = with(alloc, self.root, place, entry)?;
+        Ok(Spans { root, hint: place })
     }
 
     /// All entries but the one at a place. Fails where memory runs out.
-    pub fn without(&self, alloc: Global, place: usize) -> Result<Spans, AllocError>
-        requires { place < length self.now.items }
-        ensures { IfOk result (λ s. s.items ≡ remove self.now.items place) }
+    pub fn without(self, alloc: Global, place: usize) -> Result<Spans, AllocError>
+        requires { place < length self.items }
+        ensures { IfOk result (λ s. s.items ≡ remove self.items place) }
     {
-        let root = without(alloc, &self.root, place)?;
-        Ok(Spans { root })
+        let root = without(alloc, self.root, place)?;
+        Ok(Spans { root, hint: place })
     }
 }

@@ -1,6 +1,6 @@
 //! One folder's entries, in the order of git's directories.
 
-ghost use Rattle.std.specs.Prelude.{◌≡◌, ◌<◌, ◌≤◌, ◌+◌, ◌++◌, ℕ, true, false, length, slice_index_or, IsTrue, All, IfOk, IfSome, IfNone};
+ghost use Rattle.std.specs.Prelude.{◌≡◌, ◌<◌, ◌≤◌, ◌+◌, ◌++◌, ℕ, true, false, length, slice_index_or, IsTrue, All, IfOk, IfErr, IfSome, IfNone};
 ghost use Rattle.swh_entries.specs.declared.entry.Entry.{Entry};
 ghost use Rattle.swh_folders.specs.Forest.{Forest, child_at};
 ghost use Rattle.swh_entries.specs.Keys.{is_before, name_at, entry_key, suffix, texts};
@@ -100,8 +100,8 @@ fn above_by_halves(names: &[Vec<u8>], node: &Packed, name: &[u8], end: &[u8]) ->
     low
 }
 
-/// The place of the first entry that this name, with what it is compared with after it, comes before: a hint, where it
-/// is right, or else what halving finds.
+/// The place of the first entry that this name, with what it is compared with after it, comes before: a hint or a guess,
+/// where it is right, or else what halving finds.
 fn above(names: &[Vec<u8>], node: &Packed, hint: usize, name: &[u8], end: &[u8]) -> usize
     requires names { All (λ f. f.name < length names.now) node.now.items }
     requires ordered { AreOrdered (texts names.now) node.now.items }
@@ -110,6 +110,11 @@ fn above(names: &[Vec<u8>], node: &Packed, hint: usize, name: &[u8], end: &[u8])
     let right = is_above(names, node, hint, name, end);
     if right {
         return hint;
+    }
+    let guess = node.guess(names, name, end);
+    let guessed = is_above(names, node, guess, name, end);
+    if guessed {
+        return guess;
     }
     above_by_halves(names, node, name, end)
 }
@@ -133,21 +138,25 @@ fn place_before(names: &[Vec<u8>], node: &Packed, place: usize, name: &[u8]) -> 
     None
 }
 
-/// The place of the entry of this name: a file's, or else a folder's.
-fn place_of(names: &[Vec<u8>], node: &Packed, name: &[u8]) -> Option<usize>
+/// The place of the entry of this name: a file's, or else a folder's; where there is none, the place that a file of this name
+/// would have.
+fn place_of(names: &[Vec<u8>], node: &Packed, name: &[u8]) -> Result<usize, usize>
     requires names { All (λ f. f.name < length names.now) node.now.items }
     requires ordered { AreOrdered (texts names.now) node.now.items }
-    ensures within { IfSome result (λ k. k < length node.now.items) }
-    ensures some { IfSome result (λ k. (d : Entry)
+    ensures within { IfOk result (λ k. k < length node.now.items) }
+    ensures some { IfOk result (λ k. (d : Entry)
         → has_name (texts names.now) name.now (slice_index_or node.now.items k d) ≡ true) }
-    ensures none { IfNone result (All (λ f. has_name (texts names.now) name.now f ≡ false) node.now.items) }
+    ensures none { IfErr result (λ k. All (λ f. has_name (texts names.now) name.now f ≡ false) node.now.items) }
 {
     let behind_file = above(names, node, node.guess(names, name, b""), name, b"");
     if let Some(place) = place_before(names, node, behind_file, name) {
-        return Some(place);
+        return Ok(place);
     }
     let behind_folder = above(names, node, behind_file, name, b"/");
-    place_before(names, node, behind_folder, name)
+    match place_before(names, node, behind_folder, name) {
+        Some(place) => Ok(place),
+        None => Err(behind_file),
+    }
 }
 
 /// What stands under this name.
@@ -159,8 +168,8 @@ pub fn child_in(names: &[Vec<u8>], node: &Packed, name: &[u8]) -> Option<Child>
         → stands_of at result ≡ child_at name.now (forest_of (texts names.now) at node.now.items) }
 {
     match place_of(names, node, name) {
-        Some(place) => Some(node.at(place).child),
-        None => None,
+        Ok(place) => Some(node.at(place).child),
+        Err(_) => None,
     }
 }
 
@@ -177,8 +186,8 @@ pub fn kept(
         → IfOk result (λ p. p.items ≡ entries_without (texts names.now) name.now node.items) }
 {
     match place_of(names, &node, name) {
-        Some(place) => node.without(alloc, place),
-        None => Ok(node),
+        Ok(place) => node.without(alloc, place),
+        Err(place) => Ok(node.hinted(place)),
     }
 }
 
@@ -196,7 +205,6 @@ pub fn with_entry(
 {
     let name = names[entry.name].as_slice();
     let end = suffix(entry.child);
-    let hint = node.guess(names, name, end);
-    let place = above(names, &node, hint, name, end);
+    let place = above(names, &node, node.hint(), name, end);
     node.with(alloc, place, entry)
 }

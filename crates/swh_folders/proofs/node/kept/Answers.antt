@@ -4,8 +4,8 @@ use Rattle.swh_folders.proofs.Arenas.{if_ok}
 use Rattle.swh_folders.proofs.Orders.{without-placed, without-none}
 use Rattle.swh_folders.proofs.node.kept.Goals as goal
 
-pub returns-in-Some : goal.returns-in-Some
-returns-in-Some c = λ at s. if_ok c.without.result (λ p is. is ∙ sym (without-placed (texts c.args.names.now) at c.args.node.items c.args.name.now c.in-Some.place s (search rules) (search rules))) c.without.ensures
+pub returns-in-Ok : goal.returns-in-Ok
+returns-in-Ok c = λ at s. if_ok c.without.result (λ p is. is ∙ sym (without-placed (texts c.args.names.now) at c.args.node.items c.args.name.now c.in-Ok.place s (search rules) (search rules))) c.without.ensures
 
-pub returns-in-None : goal.returns-in-None
-returns-in-None c = λ at s. sym (without-none (texts c.args.names.now) c.args.node.items c.args.name.now (search rules))
+pub returns-in-Err : goal.returns-in-Err
+returns-in-Err c = λ at s. c.hinted.ensures ∙ sym (without-none (texts c.args.names.now) c.args.node.items c.args.name.now (search rules))
