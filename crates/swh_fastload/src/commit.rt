@@ -31,7 +31,9 @@ use crate::parents::{first_parent, parent_ids};
 use std::alloc::Global;
 use swh_base::{Bytes, Items, Kind, Memory, Name, Namer, Which};
 use swh_fastgrammar::{At, Change, Commitish, Start};
-use swh_fastmeaning::{Aims, Contents, FeedFault, Parts, Target, changed_tree, make_or_refuse};
+use swh_fastmeaning::{
+    Contents, FeedFault, MarksAndTips, Parts, Target, changed_tree, make_or_refuse,
+};
 use swh_made::{Seen, give_all, whole_id};
 use swh_object::Object;
 use swh_revfmt::{PlainRev, write_plain_rev};
@@ -89,7 +91,7 @@ fn within_limit<N: Namer>(contents: Contents<N>) -> Result<Vec<Object<N>>, FeedF
 fn make_tree<N: Namer>(
     alloc: Global,
     namer: &N,
-    aims: &Aims,
+    aims: &MarksAndTips,
     trees: &mut Trees<N>,
     start: Tree,
     changes: &[At<Change>],
@@ -128,7 +130,7 @@ fn start_of(first: Option<Target>) -> Tree
 fn prepare<N: Namer>(
     alloc: Global,
     namer: &N,
-    aims: &Aims,
+    aims: &MarksAndTips,
     trees: &mut Trees<N>,
     commit: &Commit,
 ) -> Result<Prepared<N>, FeedFault>

@@ -14,7 +14,7 @@ ghost use Rattle.swh_fastmeaning.specs.Snapshots.{tip_branch, refs_of, snapshot_
 use std::alloc::Global;
 use swh_base::{Kind, Namer, Which};
 use swh_fastmeaning::{
-    Aims, FeedFault, Parts, REFS_LIMIT, Sides, head_branch_of, joined, make_or_refuse,
+    FeedFault, MarksAndTips, Parts, REFS_LIMIT, Sides, head_branch_of, joined, make_or_refuse,
 };
 use swh_object::Object;
 use swh_snpfmt::{Branches, write_snp};
@@ -30,7 +30,7 @@ fn count(sides: &Sides) -> u64
 pub fn make_snapshot<N: Namer>(
     alloc: Global,
     namer: &N,
-    aims: &Aims,
+    aims: &MarksAndTips,
     head: Option<&[u8]>,
 ) -> Result<Object<N>, FeedFault>
     requires head { IsHead (option_copied head) }

@@ -23,5 +23,5 @@ pub use input::load_source;
 pub use laws::{never_both, one_break, one_limit, same_making, ways_to_break};
 pub use load::FastLoad;
 pub use swh_fastgrammar::StreamWhy;
-pub use swh_fastmeaning::{Aims, FeedFault, Target, blob_of, commit_of};
+pub use swh_fastmeaning::{FeedFault, MarksAndTips, Target, blob_of, commit_of};
 pub use swh_made::{Novelty, Objects, Seen};

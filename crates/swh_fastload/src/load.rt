@@ -18,7 +18,7 @@ use std::alloc::Global;
 use std::marker::Model;
 use swh_base::Namer;
 use swh_fastgrammar::Command;
-use swh_fastmeaning::{Aims, FeedFault, Parts};
+use swh_fastmeaning::{FeedFault, MarksAndTips, Parts};
 use swh_made::Seen;
 use swh_object::Object;
 use swh_trees::Trees;
@@ -119,7 +119,7 @@ impl<N: Namer> FastLoad<N> {
         let parts = Parts {
             namer,
             trees: Trees::new(alloc, namer),
-            aims: Aims::new(alloc),
+            aims: MarksAndTips::new(alloc),
             seen: Seen::new(alloc),
         };
         FastLoad {

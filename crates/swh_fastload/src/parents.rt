@@ -10,11 +10,15 @@ ghost use Rattle.swh_fastmeaning.specs.Tips.{aim_of};
 use std::alloc::Global;
 use swh_base::Memory;
 use swh_fastgrammar::{At, Commitish, Start};
-use swh_fastmeaning::{Aims, FeedFault, Target, commit_of};
+use swh_fastmeaning::{FeedFault, MarksAndTips, Target, commit_of};
 
 /// The first parent of a commit, where it has one: what its line `from` names, or else the commit that is the tip of its
 /// ref.
-pub fn first_parent(aims: &Aims, branch: &[u8], parent: &Start) -> Result<Option<Target>, FeedFault>
+pub fn first_parent(
+    aims: &MarksAndTips,
+    branch: &[u8],
+    parent: &Start,
+) -> Result<Option<Target>, FeedFault>
     ensures ok { IfOk result (λ t. first_parent aims.now branch.now parent.now ≡ Ok (option_map aim_of t)) }
     ensures err { IfErr result (ExplainsMissing (first_parent aims.now branch.now parent.now)) }
 {
@@ -41,7 +45,7 @@ fn first_id(alloc: Global, first: Option<Target>) -> Result<Vec<[u8; 20]>, Memor
 /// The ids of the parents: the first, where there is one, and those that the lines `merge` name, repeats kept.
 pub fn parent_ids(
     alloc: Global,
-    aims: &Aims,
+    aims: &MarksAndTips,
     first: Option<Target>,
     merges: &[At<Commitish>],
 ) -> Result<Vec<[u8; 20]>, FeedFault>

@@ -23,12 +23,12 @@ pub struct Target {
 
 /// What the marks and the refs with a tip lead to. A later setting replaces an earlier one.
 #[derive(Drop)]
-pub struct Aims {
+pub struct MarksAndTips {
     marks: BTreeMap<u64, Target>,
     tips: BTreeMap<Vec<u8>, Target>,
 }
 
-impl Model for Aims {
+impl Model for MarksAndTips {
     ghost use Rattle.swh_fastmeaning.specs.Aims.{AllAims};
     ghost use Rattle.swh_trees.specs.declared.tree.Tree.{Tree};
     ghost use Rattle.swh_fastmeaning.specs.Tips.{aims_of};
@@ -76,12 +76,12 @@ fn sides_of(alloc: Global, tips: &BTreeMap<Vec<u8>, Target>) -> Result<Sides, Me
     Ok(sides)
 }
 
-impl Aims {
+impl MarksAndTips {
     /// Where nothing is set.
-    pub fn new(alloc: Global) -> Aims
+    pub fn new(alloc: Global) -> MarksAndTips
         ensures { result ≡ no_aims }
     {
-        Aims {
+        MarksAndTips {
             marks: BTreeMap::new(alloc),
             tips: BTreeMap::new(alloc),
         }

@@ -8,7 +8,7 @@ ghost use Rattle.swh_fastmeaning.specs.Commands.{set_to, changed, all_changed};
 ghost use Rattle.swh_fastmeaning.specs.declared.feed_fault.FeedFault.TheVariants.{BadStream};
 ghost use Rattle.swh_fastgrammar.specs.declared.fault.StreamWhy.TheVariants.{Place as NoPlace};
 
-use crate::aims::Aims;
+use crate::aims::MarksAndTips;
 use crate::contents::{Contents, add_content};
 use crate::feed_fault::FeedFault;
 use std::alloc::Global;
@@ -20,7 +20,7 @@ use swh_trees::{Leaf, Tree, Trees};
 fn id_at<N: Namer>(
     alloc: Global,
     namer: &N,
-    aims: &Aims,
+    aims: &MarksAndTips,
     contents: &mut Contents<N>,
     at: u64,
     what: &Dataref,
@@ -58,7 +58,7 @@ fn or_no_place(tree: Option<Tree>, at: u64) -> Result<Tree, FeedFault>
 fn changed<N: Namer>(
     alloc: Global,
     namer: &N,
-    aims: &Aims,
+    aims: &MarksAndTips,
     trees: &mut Trees<N>,
     contents: &mut Contents<N>,
     tree: Tree,
@@ -97,7 +97,7 @@ fn changed<N: Namer>(
 pub fn changed_tree<N: Namer>(
     alloc: Global,
     namer: &N,
-    aims: &Aims,
+    aims: &MarksAndTips,
     trees: &mut Trees<N>,
     tree: Tree,
     changes: &[At<Change>],

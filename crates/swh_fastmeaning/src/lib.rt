@@ -16,7 +16,7 @@ mod lookups;
 mod parts;
 mod sides;
 
-pub use aims::{Aims, Target, blob_of, commit_of};
+pub use aims::{MarksAndTips, Target, blob_of, commit_of};
 pub use changes::changed_tree;
 pub use contents::Contents;
 pub use feed_fault::FeedFault;

@@ -5,7 +5,7 @@ ghost use Rattle.swh_fastmeaning.specs.Aims.{or_missing, commit_at, object_at, b
 ghost use Rattle.swh_fastmeaning.specs.Missings.{ExplainsMissing};
 ghost use Rattle.swh_fastmeaning.specs.Tips.{aim_of};
 
-use crate::aims::{Aims, Target, blob_of, commit_of};
+use crate::aims::{MarksAndTips, Target, blob_of, commit_of};
 use crate::feed_fault::FeedFault;
 use swh_fastgrammar::{Commitish, StreamWhy};
 
@@ -20,7 +20,7 @@ fn or_missing(target: Option<Target>, at: u64, why: StreamWhy) -> Result<Target,
     }
 }
 
-impl Aims {
+impl MarksAndTips {
     /// The commit that the line at this place names. `BadStream` tells the place where its mark is not set or is of no
     /// commit, or where its ref has no commit as its tip.
     pub fn commit_at(&self, at: u64, it: &Commitish) -> Result<Target, FeedFault>

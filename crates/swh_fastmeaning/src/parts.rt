@@ -1,6 +1,6 @@
 //! What a loader is made of.
 
-use crate::aims::Aims;
+use crate::aims::MarksAndTips;
 use swh_base::Namer;
 use swh_made::Seen;
 use swh_trees::Trees;
@@ -10,6 +10,6 @@ use swh_trees::Trees;
 pub struct Parts<N: Namer> {
     pub namer: N,
     pub trees: Trees<N>,
-    pub aims: Aims,
+    pub aims: MarksAndTips,
     pub seen: Seen<N>,
 }

@@ -9,11 +9,11 @@ ghost use Rattle.swh_fastrows.specs.Held.{IsNext};
 ghost use Rattle.swh_fastrows.specs.Failing.{MayFail};
 
 use swh_fastgrammar::Command;
-use swh_fastrows::{ReadFail, Rows, data, optional_mark, skip_oid};
+use swh_fastrows::{ReadFail, RowReader, data, optional_mark, skip_oid};
 use swh_outside::Source;
 
 /// The blob that the held line begins.
-pub fn read_blob<S: Source>(rows: &mut Rows<S>) -> Result<Command, ReadFail>
+pub fn read_blob<S: Source>(rows: &mut RowReader<S>) -> Result<Command, ReadFail>
     requires next { IsNext rows.old }
     requires line { rows.old.held ≡ codes "blob" ++ 10 ∷ [] }
     ensures givable { IfOk result IsGivable }

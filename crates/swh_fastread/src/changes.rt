@@ -12,11 +12,11 @@ ghost use Rattle.swh_fastread.specs.Tail.{FindsChange, ChangeFails, ChangesFail,
 use swh_base::Items;
 use swh_fastgrammar::{At, Change, Dataref};
 use swh_fastlines::{ChangeLine, change_line};
-use swh_fastrows::{ReadFail, Rows, data, next_line};
+use swh_fastrows::{ReadFail, RowReader, data, next_line};
 use swh_outside::Source;
 
 /// The change that the held line is, with the data that follow it where they are inline.
-fn next_change<S: Source>(rows: &mut Rows<S>) -> Result<Option<At<Change>>, ReadFail>
+fn next_change<S: Source>(rows: &mut RowReader<S>) -> Result<Option<At<Change>>, ReadFail>
     requires next { IsNext rows.old }
     ensures change { S.tells → IfOk result (FindsChange rows.old rows.new) }
     ensures fails { S.tells → IfErr result (ChangeFails rows.old) }
@@ -50,7 +50,7 @@ fn next_change<S: Source>(rows: &mut Rows<S>) -> Result<Option<At<Change>>, Read
 
 /// The changes that come next; `next` says whether a line is held.
 pub fn read_changes<S: Source>(
-    rows: &mut Rows<S>,
+    rows: &mut RowReader<S>,
     next: bool,
 ) -> Result<Items<At<Change>>, ReadFail>
     requires line { next ≡ true → IsNext rows.old }

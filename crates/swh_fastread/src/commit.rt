@@ -13,12 +13,12 @@ use crate::tail::read_tail;
 use swh_base::Bytes;
 use swh_fastgrammar::Command;
 use swh_fastrows::{
-    ReadFail, Rows, data, optional_encoding, optional_mark, optional_person, person, skip_oid,
+    ReadFail, RowReader, data, optional_encoding, optional_mark, optional_person, person, skip_oid,
 };
 use swh_outside::Source;
 
 /// The commit to this ref that the held line begins. It is whole after its data, and after each whole change.
-pub fn read_commit<S: Source>(rows: &mut Rows<S>, branch: Bytes) -> Result<Command, ReadFail>
+pub fn read_commit<S: Source>(rows: &mut RowReader<S>, branch: Bytes) -> Result<Command, ReadFail>
     requires next { IsNext rows.old }
     requires line { rows.old.held ≡ (codes "commit " ++ branch) ++ 10 ∷ [] }
     requires name { NamesRef branch branch }

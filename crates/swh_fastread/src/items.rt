@@ -15,7 +15,7 @@ use crate::tag::read_tag;
 use swh_base::Which;
 use swh_fastgrammar::{Command, StreamWhy};
 use swh_fastlines::{ItemLine, item_line};
-use swh_fastrows::{ReadFail, Rows, peek, refused_line};
+use swh_fastrows::{ReadFail, RowReader, peek, refused_line};
 use swh_outside::Source;
 
 /// What stands at a command's place.
@@ -38,7 +38,7 @@ pub struct Next {
 }
 
 /// The item that the held line begins, or the end of the stream.
-fn held_item<S: Source>(rows: &mut Rows<S>) -> Result<Step, ReadFail>
+fn held_item<S: Source>(rows: &mut RowReader<S>) -> Result<Step, ReadFail>
     requires next { IsNext rows.old }
     ensures item { S.tells → IfOk result (λ step. (p : Bool) → FindsStep rows.old rows.new p step) }
     ensures fails { S.tells → IfErr result (λ fail. (p : Bool) → Explains rows.old p fail) }
@@ -74,7 +74,7 @@ fn held_item<S: Source>(rows: &mut Rows<S>) -> Result<Step, ReadFail>
 }
 
 /// The end of the input, before a line ends: that of the stream where nothing is held and no `done` was promised.
-fn end_of_input<S: Source>(rows: &Rows<S>, promised: bool) -> Result<Step, ReadFail>
+fn end_of_input<S: Source>(rows: &RowReader<S>, promised: bool) -> Result<Step, ReadFail>
     requires within { rows.now.at ≤ 2 ^ 33 }
     requires end { S.tells → EndsNext rows.now }
     ensures item { S.tells → IfOk result (FindsStep rows.now rows.now promised) }
@@ -98,7 +98,7 @@ fn end_of_input<S: Source>(rows: &Rows<S>, promised: bool) -> Result<Step, ReadF
 }
 
 /// The item that comes next, or the end of the stream. `promised` says whether the line `done` has to end it.
-fn read_item<S: Source>(rows: &mut Rows<S>, promised: bool) -> Result<Step, ReadFail>
+fn read_item<S: Source>(rows: &mut RowReader<S>, promised: bool) -> Result<Step, ReadFail>
     ensures item { S.tells → IfOk result (FindsStep rows.old rows.new promised) }
     ensures fails { S.tells → IfErr result (Explains rows.old promised) }
     ensures may { IfErr result MayFail }
@@ -118,7 +118,7 @@ fn read_item<S: Source>(rows: &mut Rows<S>, promised: bool) -> Result<Step, Read
 }
 
 /// The next command, or none where the stream ends without one.
-pub fn read_next<S: Source>(rows: &mut Rows<S>, promised: bool) -> Result<Next, ReadFail>
+pub fn read_next<S: Source>(rows: &mut RowReader<S>, promised: bool) -> Result<Next, ReadFail>
     ensures next { S.tells → IfOk result (λ n. FindsNext rows.old rows.new promised n.promised n.command) }
     ensures onward { IfOk result (λ n. IfSome n.command (λ _. rows.old.at < rows.new.at)) }
     ensures givable { IfOk result (λ n. IfSome n.command IsGivable) }

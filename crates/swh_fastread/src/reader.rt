@@ -15,7 +15,7 @@ use std::alloc::Global;
 use std::marker::Model;
 use swh_fastgrammar::Command;
 use swh_fastlex::Window;
-use swh_fastrows::{ReadFail, Rows};
+use swh_fastrows::{ReadFail, RowReader};
 use swh_outside::Source;
 
 /// How a reader ended.
@@ -32,7 +32,7 @@ pub enum Ending {
 /// A stream, read command by command.
 #[derive(Drop)]
 pub struct Reader<S: Source> {
-    rows: Rows<S>,
+    rows: RowReader<S>,
     promised: bool,
     ending: Ending,
 }
@@ -55,7 +55,7 @@ impl<S: Source> Reader<S> {
         ensures open { result.ending ≡ IsOpen }
     {
         Reader {
-            rows: Rows::new(alloc, window, source),
+            rows: RowReader::new(alloc, window, source),
             promised: false,
             ending: Ending::Open,
         }

@@ -12,12 +12,12 @@ use swh_base::Bytes;
 use swh_fastgrammar::{At, Command, Start};
 use swh_fastlex::Word;
 use swh_fastlines::{commit_word, is_zeros};
-use swh_fastrows::{Outside, Rows, next_line};
+use swh_fastrows::{Outside, RowReader, next_line};
 use swh_outside::Source;
 use swh_pieces::behind;
 
 /// Where a reset leads: the commit that a line `from` names, where one comes next, or no tip where it names forty zeros.
-fn reset_target<S: Source>(rows: &mut Rows<S>) -> Result<Start, Outside>
+fn reset_target<S: Source>(rows: &mut RowReader<S>) -> Result<Start, Outside>
     ensures target { S.tells → IfOk result (Reads target rows.old rows.new) }
     ensures onward { IfOk result (λ _. rows.old.at ≤ rows.new.at) }
 
@@ -47,7 +47,7 @@ fn reset_target<S: Source>(rows: &mut Rows<S>) -> Result<Start, Outside>
 }
 
 /// The reset of this ref that the held line begins.
-pub fn read_reset<S: Source>(rows: &mut Rows<S>, branch: Bytes) -> Result<Command, Outside>
+pub fn read_reset<S: Source>(rows: &mut RowReader<S>, branch: Bytes) -> Result<Command, Outside>
     requires next { IsNext rows.old }
     requires line { rows.old.held ≡ (codes "reset " ++ branch) ++ 10 ∷ [] }
     requires name { NamesRef branch branch }

@@ -11,11 +11,13 @@ ghost use Rattle.swh_fastgrammar.specs.Word.{NamesTag};
 
 use swh_base::Bytes;
 use swh_fastgrammar::Command;
-use swh_fastrows::{ReadFail, Rows, data, named_commit, optional_mark, optional_person, skip_oid};
+use swh_fastrows::{
+    ReadFail, RowReader, data, named_commit, optional_mark, optional_person, skip_oid,
+};
 use swh_outside::Source;
 
 /// The tag of this name that the held line begins.
-pub fn read_tag<S: Source>(rows: &mut Rows<S>, branch: Bytes) -> Result<Command, ReadFail>
+pub fn read_tag<S: Source>(rows: &mut RowReader<S>, branch: Bytes) -> Result<Command, ReadFail>
     requires next { IsNext rows.old }
     requires line { rows.old.held ≡ (codes "tag " ++ branch) ++ 10 ∷ [] }
     requires name { NamesTag branch branch }

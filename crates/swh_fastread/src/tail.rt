@@ -14,7 +14,7 @@ ghost use Rattle.swh_fastread.specs.Tail.{ReadsFrom, ReadsAll, ReadsStart, TailF
 use crate::changes::read_changes;
 use swh_base::Items;
 use swh_fastgrammar::{At, Change, Commitish, Start};
-use swh_fastrows::{Outside, ReadFail, Rows, commit_line, next_line};
+use swh_fastrows::{Outside, ReadFail, RowReader, commit_line, next_line};
 use swh_outside::Source;
 
 /// The parent that a line `from` names, if one came, and whether a line is held then.
@@ -50,7 +50,7 @@ fn start_of(parent: Option<At<Commitish>>) -> Start
 }
 
 /// The parent, where a line `from` comes next.
-fn read_parent<S: Source>(rows: &mut Rows<S>) -> Result<Parent, Outside>
+fn read_parent<S: Source>(rows: &mut RowReader<S>) -> Result<Parent, Outside>
     ensures parent { S.tells → IfOk result (λ r. ReadsFrom rows.old rows.new r.next r.commit) }
     ensures line { IfOk result (λ r. r.next ≡ true → IsNext rows.new) }
     ensures end { S.tells → IfOk result (λ r. r.next ≡ false → EndsWhole rows.new) }
@@ -83,7 +83,7 @@ fn read_parent<S: Source>(rows: &mut Rows<S>) -> Result<Parent, Outside>
 }
 
 /// The merges that come next; `next` says whether a line is held.
-fn read_merges<S: Source>(rows: &mut Rows<S>, next: bool) -> Result<Merges, Outside>
+fn read_merges<S: Source>(rows: &mut RowReader<S>, next: bool) -> Result<Merges, Outside>
     requires line { next ≡ true → IsNext rows.old }
     requires end { S.tells → next ≡ false → EndsWhole rows.old }
     ensures merges { S.tells → IfOk result (λ r. ReadsAll (placed_line (codes "merge ") NamesCommit)
@@ -120,7 +120,7 @@ fn read_merges<S: Source>(rows: &mut Rows<S>, next: bool) -> Result<Merges, Outs
 }
 
 /// The parent, the merges and the changes, as far as each comes next.
-pub fn read_tail<S: Source>(rows: &mut Rows<S>) -> Result<Tail, ReadFail>
+pub fn read_tail<S: Source>(rows: &mut RowReader<S>) -> Result<Tail, ReadFail>
     ensures tail { S.tells → IfOk result (λ t. ReadsStart rows.old rows.new t.parent t.merges t.changes) }
     ensures givable { IfOk result (λ t. AreGivable t.changes) }
     ensures fails { S.tells → IfErr result (TailFails rows.old) }

@@ -11,7 +11,7 @@ ghost use Rattle.swh_fastrows.specs.Failing.{MayFail};
 
 use crate::fail::ReadFail;
 use crate::refusing::{peek, refusal};
-use crate::row_source::{Rows, STREAM_LIMIT};
+use crate::row_source::{RowReader, STREAM_LIMIT};
 use swh_base::{BODY_LIMIT, Bytes, LINE_LIMIT, Which};
 use swh_fastgrammar::StreamWhy;
 use swh_fastlex::{DataFault, LineFault};
@@ -50,7 +50,7 @@ fn data_fail(fault: LineFault, at: u64) -> ReadFail
 }
 
 /// The data that the held line opens: so many bytes, with an LF directly after them.
-pub fn counted_data<S: Source>(rows: &mut Rows<S>, count: u64) -> Result<Bytes, ReadFail>
+pub fn counted_data<S: Source>(rows: &mut RowReader<S>, count: u64) -> Result<Bytes, ReadFail>
     requires next { IsNext rows.old }
     requires opens { OpensCounted rows.old count }
     requires fits { count ≤ body_limit }
@@ -99,7 +99,7 @@ fn lines_fail(fault: DataFault, at: u64) -> ReadFail
 }
 
 /// The data that the held line opens: the lines before the line that is just the word, with an LF directly after it.
-fn delimited_data<S: Source>(rows: &mut Rows<S>, word: &[u8]) -> Result<Bytes, ReadFail>
+fn delimited_data<S: Source>(rows: &mut RowReader<S>, word: &[u8]) -> Result<Bytes, ReadFail>
     requires next { IsNext rows.old }
     requires opens { OpensDelimited rows.old word.now }
     requires short { length word.now ≤ line_limit }
@@ -129,7 +129,7 @@ fn delimited_data<S: Source>(rows: &mut Rows<S>, word: &[u8]) -> Result<Bytes, R
 }
 
 /// The data that come next.
-pub fn data<S: Source>(rows: &mut Rows<S>) -> Result<Bytes, ReadFail>
+pub fn data<S: Source>(rows: &mut RowReader<S>) -> Result<Bytes, ReadFail>
     ensures data { S.tells → IfOk result (λ bytes. Part contents rows.old rows.new bytes) }
     ensures fails { S.tells → IfErr result (DataFails rows.old) }
     ensures may { IfErr result MayFail }

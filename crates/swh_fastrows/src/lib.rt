@@ -24,5 +24,5 @@ pub use optional::{
 };
 pub use part_lines::commit_line;
 pub use refusing::{peek, refused_line};
-pub use row_source::Rows;
+pub use row_source::RowReader;
 pub use whole::next_line;

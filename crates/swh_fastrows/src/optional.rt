@@ -11,14 +11,14 @@ ghost use Rattle.swh_fastgrammar.specs.Word.{NamesPerson, NamesEncoding};
 use crate::fail::ReadFail;
 use crate::part_lines::{commit_line, encoding_line, mark_line, person_line};
 use crate::refusing::{peek, refusal};
-use crate::row_source::Rows;
+use crate::row_source::RowReader;
 use swh_base::Bytes;
 use swh_fastgrammar::{At, Commitish};
 use swh_outside::Source;
 use swh_pieces::behind;
 
 /// The mark, where a line `mark` comes next.
-pub fn optional_mark<S: Source>(rows: &mut Rows<S>) -> Result<Option<u64>, ReadFail>
+pub fn optional_mark<S: Source>(rows: &mut RowReader<S>) -> Result<Option<u64>, ReadFail>
     ensures part { S.tells → IfOk result (OptionalPart mark rows.old rows.new) }
     ensures fails { S.tells → IfErr result (Stops rows.old) }
     ensures may { IfErr result MayFail }
@@ -40,7 +40,7 @@ pub fn optional_mark<S: Source>(rows: &mut Rows<S>) -> Result<Option<u64>, ReadF
 }
 
 /// Passes over a line `original-oid`, where one comes next.
-pub fn skip_oid<S: Source>(rows: &mut Rows<S>) -> Result<bool, ReadFail>
+pub fn skip_oid<S: Source>(rows: &mut RowReader<S>) -> Result<bool, ReadFail>
     ensures part { S.tells → IfOk result (FoundPart oid rows.old rows.new) }
     ensures fails { S.tells → IfErr result (Stops rows.old) }
     ensures may { IfErr result MayFail }
@@ -63,7 +63,7 @@ pub fn skip_oid<S: Source>(rows: &mut Rows<S>) -> Result<bool, ReadFail>
 
 /// The person, where a line of this word comes next.
 pub fn optional_person<S: Source>(
-    rows: &mut Rows<S>,
+    rows: &mut RowReader<S>,
     word: &[u8],
 ) -> Result<Option<Bytes>, ReadFail>
     requires closed { opens_none word.now ≡ true }
@@ -89,7 +89,7 @@ pub fn optional_person<S: Source>(
 }
 
 /// The encoding, where a line `encoding` comes next.
-pub fn optional_encoding<S: Source>(rows: &mut Rows<S>) -> Result<Option<Bytes>, ReadFail>
+pub fn optional_encoding<S: Source>(rows: &mut RowReader<S>) -> Result<Option<Bytes>, ReadFail>
     ensures part { S.tells → IfOk result (OptionalPart (line (codes "encoding ") NamesEncoding) rows.old rows.new) }
     ensures fails { S.tells → IfErr result (Stops rows.old) }
     ensures may { IfErr result MayFail }
@@ -112,7 +112,7 @@ pub fn optional_encoding<S: Source>(rows: &mut Rows<S>) -> Result<Option<Bytes>,
 }
 
 /// The person of the line of this word that comes next.
-pub fn person<S: Source>(rows: &mut Rows<S>, word: &[u8]) -> Result<Bytes, ReadFail>
+pub fn person<S: Source>(rows: &mut RowReader<S>, word: &[u8]) -> Result<Bytes, ReadFail>
     requires closed { opens_none word.now ≡ true }
     ensures part { S.tells → IfOk result (Part (line word.now NamesPerson) rows.old rows.new) }
     ensures fails { S.tells → IfErr result (PartFails (line word.now NamesPerson) rows.old) }
@@ -131,7 +131,7 @@ pub fn person<S: Source>(rows: &mut Rows<S>, word: &[u8]) -> Result<Bytes, ReadF
 }
 
 /// The commit that the line `from` that comes next names.
-pub fn named_commit<S: Source>(rows: &mut Rows<S>) -> Result<At<Commitish>, ReadFail>
+pub fn named_commit<S: Source>(rows: &mut RowReader<S>) -> Result<At<Commitish>, ReadFail>
     ensures part { S.tells → IfOk result (Part from rows.old rows.new) }
     ensures fails { S.tells → IfErr result (PartFails from rows.old) }
     ensures may { IfErr result MayFail }

@@ -10,7 +10,7 @@ ghost use Rattle.swh_fastrows.specs.Failing.{MayFail};
 
 use crate::ahead::Ahead;
 use crate::fail::ReadFail;
-use crate::row_source::{Rows, STREAM_LIMIT};
+use crate::row_source::{RowReader, STREAM_LIMIT};
 use swh_base::{LINE_LIMIT, Which};
 use swh_fastgrammar::StreamWhy;
 use swh_fastlines::{is_left_out, word_limit};
@@ -21,7 +21,7 @@ use swh_outside::Source;
 /// # Errors
 ///
 /// The next line passes the limit of lines, that of the stream, or that of a word in it.
-pub fn peek<S: Source>(rows: &mut Rows<S>) -> Result<bool, ReadFail>
+pub fn peek<S: Source>(rows: &mut RowReader<S>) -> Result<bool, ReadFail>
     ensures line { IfOk result (λ some. some ≡ true → IsNext rows.new) }
     ensures took { S.tells → IfOk result (λ _. Took rows.old rows.new []) }
     ensures end { S.tells → IfOk result (λ some. some ≡ false → EndsNext rows.new) }
@@ -65,7 +65,7 @@ pub fn refused_line(line: &[u8], at: u64) -> ReadFail
 }
 
 /// Why nothing of what comes next is what is wanted.
-pub fn refusal<S: Source>(rows: &mut Rows<S>) -> ReadFail
+pub fn refusal<S: Source>(rows: &mut RowReader<S>) -> ReadFail
     ensures refusal { S.tells → Counts (left rows.old) → Refusal rows.old result }
     ensures may { MayFail result }
 

@@ -32,7 +32,7 @@ fn is_comment(line: &[u8]) -> bool
 
 /// A source of which the next line may be looked at before it is taken.
 #[derive(Drop)]
-pub struct Rows<S: Source> {
+pub struct RowReader<S: Source> {
     alloc: Global,
     source: S,
     window: Window,
@@ -40,7 +40,7 @@ pub struct Rows<S: Source> {
     at: u64,
 }
 
-impl<S: Source> Model for Rows<S> {
+impl<S: Source> Model for RowReader<S> {
     ghost use Rattle.swh_fastrows.specs.Places.{Place};
 
     ghost Value = { Place };
@@ -54,15 +54,15 @@ impl<S: Source> Model for Rows<S> {
     ghost invariant = { λ r. Holds S.tells r.at r.held.items r.window (S.left r.source) };
 }
 
-impl<S: Source> Rows<S> {
+impl<S: Source> RowReader<S> {
     /// The rows of a source, read through a window that holds nothing.
-    pub fn new(alloc: Global, window: Window, source: S) -> Rows<S>
+    pub fn new(alloc: Global, window: Window, source: S) -> RowReader<S>
         requires empty { window.bytes ≡ [] }
         requires first { window.place ≡ 0 }
         ensures { result ≡ record { at = 0; held = []; rest = S.left source; faults = S.faults source; path = S.path source } }
     {
         let held = Vec::new(alloc);
-        Rows {
+        RowReader {
             alloc,
             source,
             window,
@@ -78,7 +78,7 @@ impl<S: Source> Rows<S> {
         ensures left { HoldsFront self.rest (S.left result) }
     {
         let _count = self.window.count();
-        let Rows { source, .. } = self;
+        let RowReader { source, .. } = self;
         source
     }
 

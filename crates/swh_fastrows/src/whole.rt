@@ -8,13 +8,13 @@ ghost use Rattle.swh_fastrows.specs.Explains.{EndsWhole};
 
 use crate::ahead::Ahead;
 use crate::fail::Outside;
-use crate::row_source::Rows;
+use crate::row_source::RowReader;
 use swh_fastlines::word_limit;
 use swh_outside::Source;
 
 /// Passes over comments and holds the next line; answers whether there is one within the limits. A limit that is passed
 /// is told when more is asked for.
-pub fn next_line<S: Source>(rows: &mut Rows<S>) -> Result<bool, Outside>
+pub fn next_line<S: Source>(rows: &mut RowReader<S>) -> Result<bool, Outside>
     ensures line { IfOk result (λ some. some ≡ true → IsNext rows.new) }
     ensures took { S.tells → IfOk result (λ _. Took rows.old rows.new []) }
     ensures end { S.tells → IfOk result (λ some. some ≡ false → EndsWhole rows.new) }

@@ -2,7 +2,7 @@
 use std::alloc::{AllocError, Global};
 use std::test::Fail;
 use swh_base::{Kind, Name, Sha1Namer};
-use swh_fastmeaning::{Aims, Target, blob_of, commit_of};
+use swh_fastmeaning::{MarksAndTips, Target, blob_of, commit_of};
 use swh_made::{Novelty, Seen};
 use swh_object::Object;
 use swh_trees::Tree;
@@ -18,7 +18,7 @@ fn target(kind: Kind) -> Target {
 #[test]
 fn marks_and_tips(rt: HostRuntime) -> Result<(), Fail> {
     let alloc = rt.alloc();
-    let mut aims = Aims::new(alloc);
+    let mut aims = MarksAndTips::new(alloc);
     aims.set_mark(Some(7), target(Kind::Content))?;
     aims.set_tip(alloc, b"refs/heads/main", target(Kind::Revision))?;
     assert!(rt; blob_of(aims.mark(7)).is_some());

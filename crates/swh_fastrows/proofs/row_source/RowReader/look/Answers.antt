@@ -3,7 +3,7 @@ use Rattle.swh_fastrows.specs.Places.{Place, Took}
 use Rattle.swh_fastgrammar.specs.Row.{is_comment}
 use Rattle.swh_fastrows.proofs.HeldLines.{skipped}
 use Rattle.swh_fastrows.proofs.Joins.{took_append}
-use Rattle.swh_fastrows.proofs.row_source.Rows.look.Goals as goal
+use Rattle.swh_fastrows.proofs.row_source.RowReader.look.Goals as goal
 
 pub comments-preserved : goal.comments-preserved
 comments-preserved g c =

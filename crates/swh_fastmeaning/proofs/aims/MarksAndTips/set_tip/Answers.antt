@@ -6,7 +6,7 @@ use Rattle.swh_trees.specs.declared.tree.Tree.{Tree}
 use Rattle.swh_fastmeaning.specs.Aims.{Aim, AllAims, with_tip}
 use Rattle.swh_fastmeaning.specs.Tips.{aim_of, aims_of}
 use Rattle.swh_fastmeaning.proofs.MappedMaps.{insert-mapped}
-use Rattle.swh_fastmeaning.proofs.aims.Aims.set_tip.Goals as goal
+use Rattle.swh_fastmeaning.proofs.aims.MarksAndTips.set_tip.Goals as goal
 
 pub returns : goal.returns
 returns c =

@@ -1,6 +1,6 @@
 use Rattle.std.proofs.Common.{◌≡◌, ◌≤◌, ◌^◌, ◌-◌, []}
 use Rattle.swh_fastrows.specs.Places.{Took}
-use Rattle.swh_fastrows.proofs.row_source.Rows.look.Given as goal
+use Rattle.swh_fastrows.proofs.row_source.RowReader.look.Given as goal
 
 -- only comments were taken
 abbrev pub invariant-comments : goal.invariant-comments

@@ -4,7 +4,7 @@ use Rattle.swh_trees.specs.declared.tree.Tree.{Tree}
 use Rattle.swh_fastmeaning.specs.Aims.{Aim, AllAims, with_mark}
 use Rattle.swh_fastmeaning.specs.Tips.{aim_of, aims_of}
 use Rattle.swh_fastmeaning.proofs.MappedMaps.{insert-mapped}
-use Rattle.swh_fastmeaning.proofs.aims.Aims.set_mark.Goals as goal
+use Rattle.swh_fastmeaning.proofs.aims.MarksAndTips.set_mark.Goals as goal
 
 pub returns-in_ok-insert-in-Some : goal.returns-in_ok-insert-in-Some
 returns-in_ok-insert-in-Some c =

@@ -1,7 +1,7 @@
 use Rattle.std.proofs.Common.{arith, ◌≡◌, refl, sym, ap, ◌∙◌, length}
 use Rattle.swh_fastrows.specs.Places.{Place}
 use Rattle.swh_fastrows.proofs.HeldLines.{lines_faults}
-use Rattle.swh_fastrows.proofs.row_source.Rows.delimited.Goals as goal
+use Rattle.swh_fastrows.proofs.row_source.RowReader.delimited.Goals as goal
 
 pub returns-clause-fails : goal.returns-clause-fails
 returns-clause-fails g c = λ told.
