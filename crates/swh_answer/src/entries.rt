@@ -8,7 +8,7 @@ ghost use Rattle.swh_answer.specs.Writes.{WritesValue};
 use crate::words::{entry_type, perms_of};
 use json::Writer;
 use std::alloc::{AllocError, Global};
-use swh_base::{Bytes, Memory, Reply, escape};
+use swh_base::{Memory, Reply, Shared, escape};
 use swh_dirfmt::SpelledEntry;
 
 fn put_entry(alloc: Global, writer: &mut Writer, entry: &SpelledEntry<'_>) -> Result<(), AllocError>
@@ -48,6 +48,6 @@ pub fn entries_reply(alloc: Global, entries: &[SpelledEntry<'_>]) -> Result<Repl
     Ok(Reply {
         status: 200,
         json: true,
-        body: Bytes::from_vec(text),
+        body: Shared::from_vec(text)?,
     })
 }

@@ -26,7 +26,7 @@ use percent_encoding::percent_decode;
 use serde_json::{Value, json};
 use std::alloc::{AllocError, Global};
 use std::str;
-use swh_base::{Bytes, Kind, Memory, Name, Reply, Url, UrlFault};
+use swh_base::{Kind, Memory, Name, Reply, Url, UrlFault};
 use swh_model::{Look, Visit};
 use swh_swhid::parse_core;
 
@@ -162,12 +162,12 @@ pub fn content_reply<L: Look>(alloc: Global, look: &L, text: &[u8]) -> Result<Re
     let Some(body) = look.body(&name) else {
         return not_held(alloc, &name);
     };
-    let value = content_value(alloc, &name, body)?;
+    let value = content_value(alloc, &name, body.as_slice())?;
     json_reply(alloc, 200, &value)
 }
 
 /// The reply with the body that is held under the name whose core identifier a text is: 404 where none is, and 400 where
-/// the text is no core identifier. Fails where memory runs out.
+/// the text is no core identifier. The body is not copied. Fails where memory runs out.
 pub fn raw_reply<L: Look>(alloc: Global, look: &L, text: &[u8]) -> Result<Reply, Memory>
     ensures { IfOk result (IsRawReply (L.archive look.now) text.now) }
 {
@@ -177,11 +177,10 @@ pub fn raw_reply<L: Look>(alloc: Global, look: &L, text: &[u8]) -> Result<Reply,
     let Some(body) = look.body(&name) else {
         return not_held(alloc, &name);
     };
-    let body = Bytes::from_slice(alloc, body)?;
     Ok(Reply {
         status: 200,
         json: false,
-        body,
+        body: body.again()?,
     })
 }
 

@@ -6,7 +6,7 @@ ghost use Rattle.swh_answer.specs.Json.{text_data, id_data, array_data, tree_rep
 
 use serde_json::Value;
 use std::alloc::{AllocError, Global};
-use swh_base::{Bytes, Memory, Reply, escape};
+use swh_base::{Memory, Reply, Shared, escape};
 
 /// Bytes as an escaped text.
 pub fn text_value(alloc: Global, bytes: &[u8]) -> Result<Value, AllocError>
@@ -44,6 +44,6 @@ pub fn json_reply(alloc: Global, status: u16, value: &Value) -> Result<Reply, Me
     Ok(Reply {
         status,
         json: true,
-        body: Bytes::from_vec(text.into_bytes()),
+        body: Shared::from_vec(text.into_bytes())?,
     })
 }

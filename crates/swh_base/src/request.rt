@@ -1,6 +1,7 @@
 //! Requests of the read API, and replies to them.
 
 use crate::bytes::Bytes;
+use crate::shared::Shared;
 
 /// A request of the read API: an HTTP method, a path with what may follow a `?`, and a body.
 #[derive(Debug, Drop)]
@@ -19,5 +20,6 @@ pub struct Reply {
     pub status: u16,
     /// Whether the body is JSON (RFC 8259); else it is plain bytes.
     pub json: bool,
-    pub body: Bytes,
+    /// A body that is held under a name is shared with its holder, and not copied.
+    pub body: Shared<u8>,
 }

@@ -29,7 +29,7 @@ pub fn directory_at<L: Look>(
     let Some(body) = look.body(&name) else {
         return Err(GraphFault::NotHeld { name });
     };
-    match spelled_dir(alloc, body) {
+    match spelled_dir(alloc, body.as_slice()) {
         Ok(entries) => Ok(entries),
         Err(ReadDirFault::Memory) => Err(GraphFault::Memory),
         Err(ReadDirFault::Bad(_)) => unreachable!(),
@@ -50,7 +50,7 @@ pub fn revision_at<L: Look>(
     let Some(body) = look.body(&name) else {
         return Err(GraphFault::NotHeld { name });
     };
-    match spelled_rev(alloc, body) {
+    match spelled_rev(alloc, body.as_slice()) {
         Ok(rev) => Ok(rev),
         Err(ReadRevFault::Memory) => Err(GraphFault::Memory),
         Err(ReadRevFault::Bad(_)) => unreachable!(),
@@ -67,7 +67,7 @@ pub fn release_at<L: Look>(look: &L, name: Name) -> Result<SpelledRel<'_>, Graph
     let Some(body) = look.body(&name) else {
         return Err(GraphFault::NotHeld { name });
     };
-    match spelled_rel(body) {
+    match spelled_rel(body.as_slice()) {
         Ok(rel) => Ok(rel),
         Err(_) => unreachable!(),
     }
@@ -88,7 +88,7 @@ pub fn snapshot_at<L: Look>(
     let Some(body) = look.body(&name) else {
         return Err(GraphFault::NotHeld { name });
     };
-    match spelled_snp(alloc, body) {
+    match spelled_snp(alloc, body.as_slice()) {
         Ok(branches) => Ok(branches),
         Err(ReadSnpFault::Memory) => Err(GraphFault::Memory),
         Err(ReadSnpFault::Bad(_)) => unreachable!(),

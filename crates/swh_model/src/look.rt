@@ -3,7 +3,7 @@ ghost use Rattle.std.specs.Prelude.{◌≡◌, ◌↔◌, None, Some, IsTrue, If
 ghost use Rattle.swh_model.specs.Archive.{Archive, body_of, visits_of, IsHeld, IsGraphOf};
 
 use crate::event::Visit;
-use swh_base::{Graph, Name};
+use swh_base::{Graph, Name, Shared};
 
 /// An archive to look at. No method takes memory or waits.
 pub trait Look: Graph {
@@ -14,8 +14,8 @@ pub trait Look: Graph {
     fn has(&self, name: &Name) -> bool
         ensures { IsTrue result ↔ IsHeld (archive self.now).bodies name.now };
 
-    /// The body that is held under a name; none exactly where no body is.
-    fn body(&self, name: &Name) -> Option<&[u8]>
+    /// The body that is held under a name, to read or to share; none exactly where no body is.
+    fn body(&self, name: &Name) -> Option<&Shared<u8>>
         ensures held { IfSome result (λ body. body_of (archive self.now).bodies name.now ≡ Some body.now) }
         ensures not_held { IfNone result (body_of (archive self.now).bodies name.now ≡ None) };
 

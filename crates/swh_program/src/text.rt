@@ -6,7 +6,7 @@ ghost use Rattle.swh_outside.specs.Sink.{IsPut};
 use std::alloc::Global;
 use std::marker::Model;
 use std::mem;
-use swh_base::{Bytes, Memory};
+use swh_base::{Bytes, Memory, Shared};
 use swh_outside::{Failed, Sink};
 
 /// From how many bytes on a piece is kept as it is: to copy fewer costs less than one more call of the system.
@@ -15,7 +15,7 @@ const LONG: usize = 16_384;
 /// Text in pieces, which contracts see as one list of bytes.
 #[derive(Debug, Drop)]
 pub struct Text {
-    pieces: Vec<Bytes>,
+    pieces: Vec<Shared<u8>>,
     last: Bytes,
 }
 
@@ -30,7 +30,7 @@ impl Model for Text {
 /// Text that is being written, in pieces.
 #[derive(Drop)]
 pub struct TextBuilder {
-    pieces: Vec<Bytes>,
+    pieces: Vec<Shared<u8>>,
     last: Vec<u8>,
 }
 
@@ -54,7 +54,7 @@ pub fn put_some<K: Sink>(sink: &mut K, bytes: &[u8]) -> Result<(), Failed>
 }
 
 // Puts pieces one after the other.
-fn put_pieces<K: Sink>(sink: &mut K, pieces: &[Bytes]) -> Result<(), Failed>
+fn put_pieces<K: Sink>(sink: &mut K, pieces: &[Shared<u8>]) -> Result<(), Failed>
     ensures bytes { K.tells → IsPut (K.taken sink.old) (flat_map (λ piece. piece) pieces.now)
         (K.taken sink.new) result }
     ensures cause { HasCause (K.faults sink.old) (K.faults sink.new) result }
@@ -111,14 +111,14 @@ impl TextBuilder {
     }
 
     /// Adds these bytes at the end; a long piece is taken over without a copy.
-    pub fn append(&mut self, alloc: Global, piece: Bytes) -> Result<(), Memory>
+    pub fn append(&mut self, alloc: Global, piece: Shared<u8>) -> Result<(), Memory>
         ensures { OnOk result (self.new ≡ self.old ++ piece) }
     {
         if piece.as_slice().len() < LONG {
             return self.write(piece.as_slice());
         }
         let before = mem::replace(&mut self.last, Vec::new(alloc));
-        self.pieces.push(Bytes::from_vec(before))?;
+        self.pieces.push(Shared::from_vec(before)?)?;
         self.pieces.push(piece)?;
         Ok(())
     }

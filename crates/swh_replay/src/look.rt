@@ -1,6 +1,6 @@
 //! What is in memory, as an archive to look at.
 use crate::replayed::Replayed;
-use swh_base::{Graph, Name};
+use swh_base::{Graph, Name, Shared};
 use swh_model::{Look, Visit};
 
 impl Graph for Replayed {
@@ -22,9 +22,9 @@ impl Look for Replayed {
         self.store.has(name)
     }
 
-    fn body(&self, name: &Name) -> Option<&[u8]> {
+    fn body(&self, name: &Name) -> Option<&Shared<u8>> {
         match self.store.get(name) {
-            Some(entry) => Some(entry.body.as_slice()),
+            Some(entry) => Some(&entry.body),
             None => None,
         }
     }

@@ -1,14 +1,15 @@
 // Replies: their bytes.
 use std::test::Fail;
-use swh_base::{Bytes, Reply};
+use swh_base::{Reply, Shared};
 use swh_http::reply_bytes;
 
 #[test]
 fn a_reply(rt: HostRuntime) -> Result<(), Fail> {
+    let body = Vec::from_slice(rt.alloc(), b"{\"error\":\"not found\"}")?;
     let reply = Reply {
         status: 404,
         json: true,
-        body: Bytes::from_slice(rt.alloc(), b"{\"error\":\"not found\"}")?,
+        body: Shared::from_vec(body)?,
     };
     let bytes = reply_bytes(rt.alloc(), &reply, false)?;
     assert!(rt;
