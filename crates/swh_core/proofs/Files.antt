@@ -109,9 +109,6 @@ drop_at_most n k xs is = ⊎_elim
     (λ (ge : length xs ≤ n). drop_past k xs (omega (arith, is, ge)) ∙ sym (drop_past n xs ge))
     (cases_lt n (length xs))
 
-pub calls_of_taken : (n : ℕ) (cs : List EventCall) → map file_call (take n cs) ≡ take n (map file_call cs)
-calls_of_taken n cs = map_take file_call n cs
-
 pub calls_taken : (n k : ℕ) (cs : List EventCall) → k ≡ min n (length cs) → map file_call (take k cs) ≡ take n (map file_call cs)
 calls_taken n k cs is = ap (map file_call) (take_at_most n k cs is) ∙ map_take file_call n cs
 
