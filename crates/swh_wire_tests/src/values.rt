@@ -5,7 +5,7 @@ use swh_answer::{
     content_value, entries_reply, log_value, release_value, resolved_value, revision_value,
     snapshot_value,
 };
-use swh_base::{Bytes, Kind, Memory, Name};
+use swh_base::{Kind, Memory, Name, Shared};
 use swh_dirfmt::spelled_dir;
 use swh_revfmt::{spelled_rel, spelled_rev};
 use swh_snpfmt::spelled_snp;
@@ -88,7 +88,7 @@ parent 2222222222222222222222222222222222222222\nparent 111111111111111111111111
 ];
 
 // What is written of a body of a kind; none where it is no such body.
-fn written(alloc: Global, kind: Kind, body: &[u8]) -> Result<Option<Bytes>, Memory> {
+fn written(alloc: Global, kind: Kind, body: &[u8]) -> Result<Option<Shared<u8>>, Memory> {
     let value = match kind {
         Kind::Content => content_value(alloc, &Name { kind, id: ONES }, body)?,
         Kind::Directory => match spelled_dir(alloc, body) {
@@ -108,7 +108,7 @@ fn written(alloc: Global, kind: Kind, body: &[u8]) -> Result<Option<Bytes>, Memo
             Err(_) => return Ok(None),
         },
     };
-    Ok(Some(Bytes::from_vec(value.to_string(alloc)?.into_bytes())))
+    Ok(Some(Shared::from_vec(value.to_string(alloc)?.into_bytes())?))
 }
 
 fn is_written(alloc: Global, kind: Kind, body: &[u8], text: &[u8]) -> Result<bool, Memory> {
