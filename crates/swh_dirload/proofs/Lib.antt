@@ -1,4 +1,5 @@
 pub mod Givens
+pub mod Naming
 pub mod Readings
 pub mod Sorting
 pub mod Tables
