@@ -1,5 +1,5 @@
 //! What stands in a folder, found before any file is read.
-ghost use Rattle.std.specs.Prelude.{◌≡◌, ◌≢◌, ◌++◌, ◌∷◌, [], ◌≤◌, IfOk, IfErr, OnOk, IsErrOf, length, map, string_bytes};
+ghost use Rattle.std.specs.Prelude.{◌≡◌, ◌≢◌, ◌++◌, ◌∷◌, [], ◌<◌, ◌≤◌, IfOk, IfErr, OnOk, IsErrOf, length, map, string_bytes};
 ghost use Rattle.swh_outside.specs.Faults.{Rose};
 ghost use Rattle.swh_dirload.specs.declared.fault.DirFault.TheVariants.{ReadFault as NotRead, Memory as NoRoom};
 ghost use Rattle.swh_outside.specs.declared.folder.What.TheVariants.{Other as NeitherKind};
@@ -118,6 +118,7 @@ fn visit<F: Folder>(
 pub fn walk<F: Folder>(alloc: Global, folder: &mut F) -> Result<Vec<Found>, DirFault>
     ensures ok { F.tells → IfOk result (λ found. IsWalk (F.holds folder.old) (items_of found.items)) }
     // Also of a folder that does not tell what it holds.
+    ensures some { IfOk result (λ found. 0 < length found.items) }
     ensures placed { IfOk result (λ found. ArePlaced 0 found.items) }
     ensures named { IfOk result (λ found. AreNamedBehind found.items) }
     ensures fit { IfOk result (λ found. AllFit (items_of found.items)) }
