@@ -2,6 +2,7 @@
 -- path is kept, and those of a deep folder take no more room than their names.
 use Rattle.std.specs.Prelude.{◌≡◌, ◌<◌, ◌≤◌, ◌+◌, ◌-◌, ℕ, List, [], ◌∷◌, ◌++◌, length, map, string_bytes, slice_index_or}
 use Rattle.std.specs.List.{AllByRecursion}
+use Rattle.swh_outside.specs.Folder.{IsFolderEntryName}
 use Rattle.swh_outside.specs.declared.folder.Item as listed
 use Rattle.swh_dirload.specs.declared.found.Found.{Found}
 use Rattle.swh_dirload.specs.Items.{Item, child}
@@ -62,3 +63,17 @@ items_under paths waiting = map (item_under paths) waiting
 abbrev pub Leads : List Found → ℕ → List ℕ → ℕ → Type 0
 Leads found from [] to = from ≡ to
 Leads found from (number ∷ way) to = (0 < number) × (number < length found) × (slice_index_or (map (λ f. f.above) found) number 0 ≡ from) × Leads found number way to
+
+-- Two stand in different folders, or have different names.
+abbrev pub AreApart : Found → Found → Type 0
+AreApart a b = a.above ≡ b.above → string_bytes a.name ≡ string_bytes b.name → ⊥
+
+-- Each has a good name, and none stands in the folder of another under its name.
+abbrev pub AreNamed : List Found → Type 0
+AreNamed [] = Unit {0}
+AreNamed (f ∷ found) = IsFolderEntryName (string_bytes f.name) × AllByRecursion (AreApart f) found × AreNamed found
+
+-- those behind the first, which is the folder itself
+abbrev pub AreNamedBehind : List Found → Type 0
+AreNamedBehind [] = Unit {0}
+AreNamedBehind (f ∷ found) = AreNamed found

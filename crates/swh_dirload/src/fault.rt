@@ -2,6 +2,7 @@
 
 use std::alloc::{AllocError, AllocFailed};
 use swh_base::{Bytes, Memory, Which};
+use swh_listing::ListingFault;
 use swh_outside::OutFault;
 
 /// Why a folder makes no objects.
@@ -61,6 +62,22 @@ impl From<OutFault> for DirFault {
         match fault {
             OutFault::Failed => DirFault::ReadFault,
             OutFault::Memory => DirFault::Memory,
+        }
+    }
+}
+
+impl From<ListingFault> for DirFault {
+    ghost use Rattle.std.specs.Prelude.{◌≡◌};
+    ghost use Rattle.swh_dirload.specs.Faults.{listing_fault};
+
+    ghost from_gives = { λ fault e. e ≡ listing_fault fault };
+
+    fn from(fault: ListingFault) -> DirFault {
+        match fault {
+            ListingFault::BadModes { line } => DirFault::BadModes { line },
+            ListingFault::Limit { which, number } => DirFault::Limit { which, number },
+            ListingFault::ReadFault => DirFault::ReadFault,
+            ListingFault::Memory => DirFault::Memory,
         }
     }
 }

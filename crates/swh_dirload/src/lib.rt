@@ -1,9 +1,11 @@
-//! Folders as inputs: what stands in one, in the order of its path walk, and the contents of its files. Modes listings and
-//! directories are to come.
-//! Stands on `swh_outside`, on `swh_fastlex`, which reads files, and on the objects and what makes them.
+//! Folders as inputs: what stands in one, in the order of its path walk, the contents of its files, and what a modes listing
+//! says of it. Directories are to come.
+//! Stands on `swh_outside`, on `swh_fastlex`, which reads files, on `swh_listing`, which reads listings, and on the objects and
+//! what makes them.
 //! Callers may rely on: the table of a walk has all that stands in the folder, in the order of git's trees, or its first item
 //! that is neither file nor folder, or whose path is too long, is told; each file is read once, in that order, and its
-//! content is given once, or the first that passes a limit is told.
+//! content is given once, or the first that passes a limit is told; the lines of a listing are taken one after another, or
+//! the first that is none or may not come after those before it is told.
 #![tactic(auto)]
 
 mod content;
@@ -12,16 +14,23 @@ mod file;
 mod found;
 mod given;
 mod limits;
+mod listing;
+mod lookup;
 mod order;
 mod path;
 mod place;
 mod reading;
+mod spot;
+mod taking;
 mod walking;
 
 pub use fault::DirFault;
 pub use found::Found;
 pub use given::Given;
 pub use limits::FILES_LIMIT;
+pub use listing::take_lines;
+pub use lookup::index_of;
 pub use place::Place;
 pub use reading::read_files;
+pub use spot::{Spot, spots_of};
 pub use walking::walk;

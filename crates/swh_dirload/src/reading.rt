@@ -1,5 +1,5 @@
 //! The files of a folder, read in the order of its walk.
-ghost use Rattle.std.specs.Prelude.{◌≡◌, ◌≢◌, ◌≤◌, ◌+◌, ℕ, IfOk, IfErr, IsErrOf};
+ghost use Rattle.std.specs.Prelude.{◌≡◌, ◌≢◌, ◌≤◌, ◌+◌, ℕ, IfOk, IfErr, IsErrOf, length};
 ghost use Rattle.swh_outside.specs.Faults.{Rose};
 ghost use Rattle.swh_outside.specs.declared.folder.What.TheVariants.{File as AFile, Other as NeitherKind};
 ghost use Rattle.swh_dirload.specs.declared.fault.DirFault.TheVariants.{ReadFault as NotRead};
@@ -99,6 +99,8 @@ pub fn read_files<N: Namer, F: Folder>(
     requires fit { AllFit (items_of found.now) }
     ensures read { F.tells → IfOk result (λ places. (total : ℕ)
         × ReadsAll N.id_of (F.holds folder.old) 0 given.old (items_of found.now) places.items total given.new) }
+    // Also of a folder that does not tell what it holds.
+    ensures count { IfOk result (λ places. length places.items ≡ length found.now) }
     ensures err { F.tells → IfErr result (ExplainsReading N.id_of (F.holds folder.old) given.old (items_of found.now)) }
 
     ensures same { F.tells → F.holds folder.new ≡ F.holds folder.old }

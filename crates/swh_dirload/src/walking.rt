@@ -1,10 +1,10 @@
 //! What stands in a folder, found before any file is read.
-ghost use Rattle.std.specs.Prelude.{◌≡◌, ◌≢◌, ◌++◌, ◌∷◌, [], ◌≤◌, IfOk, IfErr, OnOk, IsErrOf, length, map, string_bytes};
+ghost use Rattle.std.specs.Prelude.{◌≡◌, ◌≢◌, ◌++◌, ◌∷◌, [], ◌<◌, ◌≤◌, IfOk, IfErr, OnOk, IsErrOf, length, map, string_bytes};
 ghost use Rattle.swh_outside.specs.Faults.{Rose};
 ghost use Rattle.swh_dirload.specs.declared.fault.DirFault.TheVariants.{ReadFault as NotRead, Memory as NoRoom};
 ghost use Rattle.swh_outside.specs.declared.folder.What.TheVariants.{Other as NeitherKind};
 ghost use Rattle.swh_dirload.specs.Items.{Fits};
-ghost use Rattle.swh_dirload.specs.Found.{path_in, paths_of, items_of, IsPlaced, ArePlaced, AreBelow, found_in, items_under};
+ghost use Rattle.swh_dirload.specs.Found.{path_in, paths_of, items_of, IsPlaced, ArePlaced, AreBelow, AreNamedBehind, found_in, items_under};
 ghost use Rattle.swh_dirload.specs.Walk.{Visits, AllFit, IsWalk, ExplainsItem, ExplainsWalk};
 
 use crate::fault::DirFault;
@@ -81,8 +81,10 @@ fn visit<F: Folder>(
     requires placed { ArePlaced 0 found.old.items }
     requires next { IsPlaced (length found.old.items) next }
     requires waiting { AreBelow (length found.old.items) waiting.old.items }
+    requires named { AreNamedBehind (found.old.items ++ next ∷ waiting.old.items) }
     ensures found { OnOk result (found.new.items ≡ found.old.items ++ next ∷ []) }
     ensures below { OnOk result (AreBelow (length found.new.items) waiting.new.items) }
+    ensures named { OnOk result (AreNamedBehind (found.new.items ++ waiting.new.items)) }
     ensures fits { OnOk result (Fits (path_in (paths_of found.old.items) next) next.what) }
     ensures visits { F.tells → OnOk result (Visits (F.holds folder.old) (path_in (paths_of found.old.items) next) next.what
         (items_under (paths_of found.old.items) waiting.old.items)
@@ -116,7 +118,9 @@ fn visit<F: Folder>(
 pub fn walk<F: Folder>(alloc: Global, folder: &mut F) -> Result<Vec<Found>, DirFault>
     ensures ok { F.tells → IfOk result (λ found. IsWalk (F.holds folder.old) (items_of found.items)) }
     // Also of a folder that does not tell what it holds.
+    ensures some { IfOk result (λ found. 0 < length found.items) }
     ensures placed { IfOk result (λ found. ArePlaced 0 found.items) }
+    ensures named { IfOk result (λ found. AreNamedBehind found.items) }
     ensures fit { IfOk result (λ found. AllFit (items_of found.items)) }
     ensures err { F.tells → IfErr result (ExplainsWalk (F.holds folder.old)) }
 

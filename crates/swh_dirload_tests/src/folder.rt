@@ -29,6 +29,24 @@ pub fn listed_at(alloc: Global, path: &str, items: Vec<Item>) -> Result<Place, A
     Ok(Place { path, stands })
 }
 
+/// A file of these bytes, which it gives in pieces of a size; the calls with these numbers fail.
+pub fn file_at(
+    alloc: Global,
+    path: &str,
+    bytes: Vec<u8>,
+    piece: usize,
+    failing: &[u64],
+) -> Result<Place, AllocError> {
+    let path = String::from_str(alloc, path)?;
+    let failing = Vec::from_slice(alloc, failing)?;
+    let stands = Stands::File {
+        bytes,
+        piece,
+        failing,
+    };
+    Ok(Place { path, stands })
+}
+
 pub fn folder_of(
     alloc: Global,
     places: Vec<Place>,

@@ -8,4 +8,6 @@ mod folder;
 #[cfg(test)]
 mod readings;
 #[cfg(test)]
+mod taken_lines;
+#[cfg(test)]
 mod walks;

@@ -1,11 +1,11 @@
 // Files of folders. The ids are git's.
-use crate::folder::{folder_of, item_of, listed_at};
+use crate::folder::{file_at, folder_of, item_of, listed_at};
 use What::{File, Folder};
 use std::alloc::{AllocError, Global};
 use std::test::Fail;
 use swh_base::{Kind, Name, Sha1Namer, Which};
 use swh_dirload::{DirFault, Given, Place, read_files, walk};
-use swh_memory_input::{MemoryFolder, Place as Laid, Stands};
+use swh_memory_input::{MemoryFolder, Place as Laid};
 use swh_outside::What;
 
 /// `hello` and an LF.
@@ -18,23 +18,6 @@ const ZEROS: &[u8; 40] = b"51c513d36451ab389b5b3e9bca9b478b84a2e2ce";
 
 /// A path, the bytes of the file there, and the numbers of the calls on its source that fail.
 type Filed = (&'static str, &'static [u8], &'static [u64]);
-
-fn file_at(
-    alloc: Global,
-    path: &str,
-    bytes: Vec<u8>,
-    piece: usize,
-    failing: &[u64],
-) -> Result<Laid, AllocError> {
-    let path = String::from_str(alloc, path)?;
-    let failing = Vec::from_slice(alloc, failing)?;
-    let stands = Stands::File {
-        bytes,
-        piece,
-        failing,
-    };
-    Ok(Laid { path, stands })
-}
 
 /// Lists of a folder with a folder `a` of two files, a file `b`, and an empty folder `e`.
 fn places_of(alloc: Global, files: &[Filed]) -> Result<Vec<Laid>, AllocError> {

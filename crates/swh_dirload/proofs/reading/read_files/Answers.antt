@@ -1,4 +1,4 @@
-use Rattle.std.proofs.Common.{◌≡◌, ℕ, ◌+◌, ◌<◌, List, length, take, get_or, sym, ap, ◌∙◌, subst, arith, rules}
+use Rattle.std.proofs.Common.{◌≡◌, ℕ, ◌+◌, ◌<◌, List, [], ◌∷◌, length, length-append, take, get_or, sym, ap, ◌∙◌, subst, arith, rules}
 use Rattle.swh_outside.specs.Folder.{Tree}
 use Rattle.swh_dirload.specs.declared.found.Found.{Found}
 use Rattle.swh_dirload.specs.declared.place.Place.{Place}
@@ -52,7 +52,10 @@ files-preserved g c =
     let new = c.read_item.new.given in
     let before = inv.later in
     let after = read.later in
+    let count = inv.count in
+    let pushed = c.in_ok-push.ensures.items in
     record {
+      count = omega (arith, count, ap length pushed, length-append c.files.places.items (c.in_ok-place.place ∷ []));
       within = read.within;
       same = λ tells. read.same tells ∙ inv.same tells;
       reads = λ tells.

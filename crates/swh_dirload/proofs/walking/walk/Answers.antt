@@ -23,6 +23,7 @@ items-preserved g c =
       count = omega (arith, counted, ap length pushed, length-append found (next ∷ []));
       placed = subst (ArePlaced 0) (sym pushed) (placed_push 0 found next inv.placed (subst (λ (k : ℕ). IsPlaced k next) (sym zeroed) (below_placed (length found) next below.0)));
       below = c.in_ok-visit-2.ensures.below;
+      named = c.in_ok-visit-2.ensures.named;
       fit = subst (λ (fs : List Found). AllFit (items_of fs)) (sym pushed) (fit_found found next inv.fit c.in_ok-visit-2.ensures.fits);
       same = λ tells. c.in_ok-visit-2.ensures.same tells ∙ inv.same tells;
       takes = λ tells.

@@ -1,0 +1,15 @@
+use Rattle.std.proofs.Common.{◌≡◌, IfOk, rules, sym, subst}
+use Rattle.swh_listing.specs.declared.listed.Mode.{Mode}
+use Rattle.swh_dirload.specs.Lines.{IsTaken}
+use Rattle.swh_dirload.proofs.TakenLines.{executable_result, link_result}
+use Rattle.swh_dirload.proofs.taking.take_line.Goals as goal
+
+pub returns-in-Executable-clause-taken : goal.returns-in-Executable-clause-taken
+returns-in-Executable-clause-taken c = λ before stand.
+    rw c.in-Executable.is
+    (executable_result c.args.spots.now.items c.args.places.now.items c.take_mode.new.places.items before c.args.listed.now.path c.take_mode.result c.requires.table c.requires.count stand (rw (c.as_slice.ensures.value, c.as_slice-path.ensures) at c.take_mode.ensures.taken))
+
+pub returns-in-Link-clause-taken : goal.returns-in-Link-clause-taken
+returns-in-Link-clause-taken c = λ before stand.
+    rw c.in-Link.is
+    (link_result c.args.spots.now.items c.args.places.now.items c.take_mode-in-Link.new.places.items before c.args.listed.now.path c.take_mode-in-Link.result c.requires.table c.requires.count stand (rw (c.as_slice-in-Link.ensures.value, c.as_slice-path.ensures) at c.take_mode-in-Link.ensures.taken))

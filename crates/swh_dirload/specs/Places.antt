@@ -1,0 +1,58 @@
+-- What stands at the paths of a folder with its listing: files with the modes and ids of their contents, folders, and
+-- revisions of other projects.
+use Rattle.std.specs.Prelude.{◌≡◌, ◌≢◌, ℕ, Bool, cond, List, [], ◌∷◌, ◌++◌, Contains, Option, Some, None}
+use Rattle.std.specs.Str.{bytes_eq}
+use Rattle.swh_listing.specs.declared.listed.Listed.{Listed}
+use Rattle.swh_listing.specs.declared.listed.Mode.{Mode}
+use Rattle.swh_listing.specs.declared.listed.Mode.TheVariants.{Executable, Link, Project}
+use Rattle.swh_dirload.specs.declared.place.Place.{Place}
+use Rattle.swh_dirload.specs.declared.place.Place.TheVariants as stands
+use Rattle.swh_dirload.specs.Items.{Item, child}
+
+-- what stands at each path
+abbrev pub Places : Type 0
+Places = List ℕ → Option Place
+
+-- the places of the items of a walk, before a listing says more of them
+abbrev pub places_of : List Item → List Place → Places
+places_of [] places = λ path. None
+places_of (item ∷ items) [] = λ path. None
+places_of (item ∷ items) (place ∷ places) = λ path. cond (bytes_eq path item.0) (Some place) (places_of items places path)
+
+-- The path is a name in a folder.
+pub record IsInFolder (places : Places) (path : List ℕ) : Type 0 where
+  pub dir : List ℕ
+  pub name : List ℕ
+  pub cut : path ≡ child dir name
+  pub some : name ≢ []
+  pub one : Contains name 47 → ⊥
+  pub folder : places dir ≡ Some stands.Folder
+
+-- A line may come after these places: a mode where a file stands that no line before it names; a project's revision where
+-- nothing stands, in a folder.
+abbrev pub MayTake : Places → Mode → List ℕ → Type 0
+MayTake places Executable path = (id : List ℕ) × (places path ≡ Some (stands.File 100644 id))
+MayTake places Link path = (id : List ℕ) × (places path ≡ Some (stands.File 100644 id))
+MayTake places (Project id) path = (places path ≡ None) × IsInFolder places path
+
+-- a file with another mode
+abbrev pub with_mode : ℕ → Option Place → Option Place
+with_mode mode (Some (stands.File old id)) = Some (stands.File mode id)
+with_mode mode (Some stands.Folder) = Some stands.Folder
+with_mode mode (Some (stands.Project id)) = Some (stands.Project id)
+with_mode mode None = None
+
+-- what a line makes of what stands at its path
+abbrev pub changed : Mode → Option Place → Option Place
+changed Executable old = with_mode 100755 old
+changed Link old = with_mode 120000 old
+changed (Project id) old = Some (stands.Project id)
+
+-- the places after a line
+abbrev pub take : Places → Listed → Places
+take places listed = λ path. cond (bytes_eq path listed.path) (changed listed.mode (places path)) (places path)
+
+-- The lines may come one after the other, and make these places.
+abbrev pub TakesAll : Places → List Listed → Places → Type 0
+TakesAll places [] new = (path : List ℕ) → new path ≡ places path
+TakesAll places (listed ∷ lines) new = MayTake places listed.mode listed.path × TakesAll (take places listed) lines new

@@ -1,0 +1,38 @@
+//! The names of what stands in a folder, also by its listing.
+ghost use Rattle.std.specs.Prelude.{◌≡◌, ◌<◌, List, IfOk, length};
+ghost use Rattle.swh_dirload.specs.declared.place.Place.{Place};
+ghost use Rattle.swh_dirload.specs.Found.{items_of, ArePlaced, AreNamedBehind};
+ghost use Rattle.swh_dirload.specs.Places.{places_of};
+ghost use Rattle.swh_dirload.specs.Spots.{IsTable, Stand};
+
+use crate::found::Found;
+use std::alloc::Global;
+use swh_base::{Bytes, Memory};
+
+/// A name in a folder, which it names by the folder's number in the table of all that stands. The number 0 is the folder
+/// itself.
+#[derive(Drop)]
+pub struct Spot {
+    pub above: usize,
+    pub name: Bytes,
+}
+
+/// The table of what a walk found.
+pub fn spots_of(alloc: Global, found: &[Found]) -> Result<Vec<Spot>, Memory>
+    requires some { 0 < length found.now }
+    requires placed { ArePlaced 0 found.now }
+    requires named { AreNamedBehind found.now }
+    ensures table { IfOk result (λ spots. IsTable spots.items) }
+    ensures count { IfOk result (λ spots. length spots.items ≡ length found.now) }
+    ensures stand { (standing : List Place) → length standing ≡ length found.now
+        → IfOk result (λ spots. Stand spots.items standing (places_of (items_of found.now) standing)) }
+{
+    let mut spots = Vec::new(alloc);
+    'found: for number in 0..found.len() {
+        let item = &found[number];
+        let name = Bytes::from_slice(alloc, item.name.as_bytes())?;
+        let above = item.above;
+        spots.push(Spot { above, name })?;
+    }
+    Ok(spots)
+}
