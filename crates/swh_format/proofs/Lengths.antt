@@ -1,16 +1,16 @@
 -- What is written of events is as long as the limits count it.
-use Rattle.std.proofs.Common.{◌≡◌, ℕ, ◌+◌, Option, Some, None, List, [], ◌∷◌, ◌++◌, length, refl, ap, arith, length-append}
+use Rattle.std.proofs.Common.{◌≡◌, ℕ, ◌+◌, List, [], ◌∷◌, ◌++◌, length, refl, ap, ◌∙◌, arith, length-append}
 use Rattle.swh_base.specs.declared.entry.Entry.{Entry}
 use Rattle.swh_model.specs.declared.event.Event.{Event}
 use Rattle.swh_model.specs.declared.event.EventKind.{EventKind}
-use Rattle.swh_model.specs.declared.event.EventKind.TheVariants.{Batch, Open, Mark}
-use Rattle.swh_model.specs.Limits.{object_length, run_length, stored_length, store_length, snapshot_length, payload_length, records_length, ledger_length}
+use Rattle.swh_model.specs.Entries.{entries_of}
+use Rattle.swh_model.specs.Limits.{object_length, run_length, stored_length, store_length, payload_length, records_length, ledger_length}
 use Rattle.swh_format.specs.Record.{magic, framed, front}
 use Rattle.swh_format.specs.Events.{records}
 use Rattle.swh_format.specs.StoredObject.{coded_entry, coded_run}
-use Rattle.swh_format.specs.Fields.{coded_snapshot}
-use Rattle.swh_format.specs.EventRecord.{packed_objects, event_byte, event_payload, payload_of, coded_record}
+use Rattle.swh_format.specs.EventRecord.{packed_objects, event_byte, payload_of, coded_record}
 use Rattle.swh_format.specs.Stands.{coded_records, coded_runs, all_written}
+use Rattle.swh_format.proofs.KindLaws.{kind-length, packed}
 
 pub object-length : (e : Entry) → length (coded_entry e) ≡ object_length e
 unfolding coded_entry
@@ -21,17 +21,7 @@ run-length [] = refl
 run-length (e ∷ es) = let one = object-length e in let more = run-length es in omega (arith, one, more, length-append (coded_entry e) (coded_run es))
 
 pub stored-length : (what : EventKind) → length (packed_objects what) ≡ stored_length what
-stored-length (Batch entries) = run-length entries
-stored-length what = refl
-
-snapshot-length : (s : Option (List ℕ)) → length (coded_snapshot s) ≡ snapshot_length s
-snapshot-length None = refl
-snapshot-length (Some id) = omega arith
-
-kind-length : (at : ℕ) (what : EventKind) → 4 + length (event_payload at what) ≡ payload_length what
-kind-length at (Batch entries) = refl
-kind-length at (Open origin kind date) = omega arith
-kind-length at (Mark origin visit status snapshot) = let s = snapshot-length snapshot in omega (arith, s, length-append (coded_snapshot snapshot) origin)
+stored-length what = ap length (packed what) ∙ run-length (entries_of what)
 
 -- who in four bytes, and what is said
 pub payload-length : (at : ℕ) (e : Event) → length (payload_of at e) ≡ payload_length e.what

@@ -8,5 +8,4 @@ pub mod Lengths
 pub mod One
 pub mod RunAppends
 pub mod StandsFrom
-pub mod ToldFronts
 pub mod Unique

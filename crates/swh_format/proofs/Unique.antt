@@ -7,17 +7,13 @@ use Rattle.swh_base.specs.declared.entry.Entry.{Entry}
 use Rattle.swh_base.specs.Name.{kind_number, name_key-injective}
 use Rattle.swh_model.specs.declared.event.Event.{Event}
 use Rattle.swh_model.specs.declared.event.EventKind.{EventKind}
-use Rattle.swh_model.specs.declared.event.EventKind.TheVariants.{Batch, Open, Mark}
-use Rattle.swh_format.specs.declared.kinds.RecordKind.TheVariants as kind
+use Rattle.swh_model.specs.Entries.{entries_of}
 use Rattle.swh_format.specs.Record.{magic, framed}
-use Rattle.swh_format.specs.Fields.{Contents}
-use Rattle.swh_format.specs.Kinds.{told_fields}
 use Rattle.swh_format.specs.StoredObject.{coded_entry, coded_run, IsCodableEntry}
-use Rattle.swh_format.specs.EventRecord.{packed_objects, event_byte, event_payload, contents_of, payload_of, coded_record, IsCodableKind, IsCodable}
+use Rattle.swh_format.specs.EventRecord.{packed_objects, event_byte, event_payload, payload_of, coded_record, IsCodableKind, IsCodable}
 use Rattle.swh_format.specs.Stands.{coded_records, coded_runs, StandsFor}
 use Rattle.swh_format.proofs.Cuts.{cut, cut_four, cut_eight, same_head, same_tail}
-use Rattle.swh_format.proofs.Contents.{one_text}
-use Rattle.swh_format.proofs.KindLaws.{said_fits, payload-short, visit_kind_same, status_same}
+use Rattle.swh_format.proofs.KindLaws.{payload-short, packed, entries_codable, same_said}
 use Rattle.swh_format.proofs.StandsFrom.{StandsFrom, behind_magic, with_magic}
 use Rattle.swh_model.specs.Alike.{without_children, bare_kind, bare_event, AreAlike}
 
@@ -69,20 +65,11 @@ SameKinds a b u v = (bare_kind a ≡ bare_kind b) × (u ≡ v)
 
 -- what is said alike is said of the same
 pub same_kinds : (at : ℕ) (a b : EventKind) (u v : List ℕ) → IsCodableKind at a → IsCodableKind at b → event_byte a ≡ event_byte b → event_payload at a ≡ event_payload at b → packed_objects a ++ u ≡ packed_objects b ++ v → SameKinds a b u v
-same_kinds at (Batch es) (Batch fs) u v ha hb k t runs =
-    let told = one_text (told_fields kind.Batch) (contents_of at (Batch es)) (contents_of at (Batch fs)) [] [] (said_fits at (Batch es) ha) (said_fits at (Batch fs) hb) t in
-    let number : length es ≡ length fs = ap (λ (c : Contents (told_fields kind.Batch)). c.1.1.0) told.0 in
-    let both = same_run es fs u v number ha.entries_codable hb.entries_codable runs in
-    (ap (λ (l : List Entry). Batch l) both.0, both.1)
-same_kinds at (Open o j d) (Open p l e) u v ha hb k t runs =
-    let told = one_text (told_fields kind.Open) (contents_of at (Open o j d)) (contents_of at (Open p l e)) o p (said_fits at (Open o j d) ha) (said_fits at (Open p l e) hb) t in
-    let kinds = visit_kind_same j l (ap (λ (c : Contents (told_fields kind.Open)). c.0) told.0) in
-    ((λ i. Open (told.1 i) (kinds i) (told.0 i).1.0), runs)
-same_kinds at (Mark o m s a) (Mark p n r b) u v ha hb k t runs =
-    let told = one_text (told_fields kind.Mark) (contents_of at (Mark o m s a)) (contents_of at (Mark p n r b)) o p (said_fits at (Mark o m s a) ha) (said_fits at (Mark p n r b) hb) t in
-    let statuses = status_same s r (ap (λ (c : Contents (told_fields kind.Mark)). c.0) told.0) in
-    ((λ i. Mark (told.1 i) (told.0 i).1.0 (statuses i) (told.0 i).1.1.0), runs)
-same_kinds at a b u v ha hb k t runs = absurd (omega (arith, k))
+same_kinds at a b u v ha hb k t runs =
+    let said = same_said at a b ha hb k t in
+    let behind = ap (λ (l : List ℕ). l ++ u) (sym (packed a)) ∙ runs ∙ ap (λ (l : List ℕ). l ++ v) (packed b) in
+    let both = same_run (entries_of a) (entries_of b) u v said.number (entries_codable at a ha) (entries_codable at b hb) behind in
+    (said.same both.0, both.1)
 
 -- One record, with what is after it and after its run.
 pub same_event : (at : ℕ) (e f : Event) (x y u v : List ℕ) → IsCodable at e → IsCodable at f → coded_record at e ++ x ≡ coded_record at f ++ y → packed_objects e.what ++ u ≡ packed_objects f.what ++ v

@@ -15,12 +15,10 @@ use Rattle.swh_model.proofs.Visits.{later_same, get-push, get-marked}
 
 pub bodies_stay : (id_of : Kind → List ℕ → List ℕ) (a : Archive) (by : ℕ) (what : EventKind) → May_kind id_of a by what → IsWithin a.bodies (after_kind a by what).bodies
 bodies_stay id_of a by (Batch entries) may n body is = within-added a.bodies entries may.new n body is
-bodies_stay id_of a by (Open origin kind date) may n body is = is
-bodies_stay id_of a by (Mark origin visit status snapshot) may n body is = is
+bodies_stay id_of a by what may n body is = is
 
 pub visit_stays : (id_of : Kind → List ℕ → List ℕ) (a : Archive) (by : ℕ) (what : EventKind) (url : List ℕ) (number : ℕ) (v : Visit) → May_kind id_of a by what
     → visit_at (visits_of a.origins url) number ≡ Some v → IsLaterVisit v (visit_at (visits_of (after_kind a by what).origins url) number)
-visit_stays id_of a by (Batch entries) url number v may is = later_same v _ is
 visit_stays id_of a by (Open origin kind date) url number v may is =
     visits_cases a.origins origin _ url (λ (vs : List Visit). IsLaterVisit v (visit_at vs number))
     (λ at. later_same v _ (get-push (visits_of a.origins origin) _ (number - 1) v (subst (λ (u : List ℕ). visit_at (visits_of a.origins u) number ≡ Some v) at is)))
@@ -30,6 +28,7 @@ visit_stays id_of a by (Mark origin visit status snapshot) url number v may is =
     (λ at. get-marked (visits_of a.origins origin) (visit - 1) (number - 1) status snapshot may.visit v may.there may.unended
     (subst (λ (u : List ℕ). visit_at (visits_of a.origins u) number ≡ Some v) at is))
     (later_same v _ is)
+visit_stays id_of a by what url number v may is = later_same v _ is
 
 pub bodies_grow : (id_of : Kind → List ℕ → List ℕ) (a : Archive) (more : List Event) → MayAll id_of a more → IsWithin a.bodies (after_all a more).bodies
 bodies_grow id_of a [] may n body is = is

@@ -8,7 +8,7 @@ use Rattle.swh_base.specs.Manifest.{AreChildren}
 use Rattle.swh_base.proofs.Children.{one_list}
 use Rattle.swh_model.specs.declared.event.Event.{Event}
 use Rattle.swh_model.specs.declared.event.EventKind.{EventKind}
-use Rattle.swh_model.specs.declared.event.EventKind.TheVariants.{Batch, Open, Mark}
+use Rattle.swh_model.specs.declared.event.EventKind.TheVariants.{Batch}
 use Rattle.swh_model.specs.Archive.{Archive, empty_archive}
 use Rattle.swh_model.specs.Alike.{without_children, bare_kind, bare_event, AreAlike}
 use Rattle.swh_model.specs.Step.{HasItsChildrenAndName, May_kind, MayAll, IsHistory, after}
@@ -37,14 +37,9 @@ module _ (id_of : Kind → List ℕ → List ℕ) where
   one_kind a by (Batch es) (Batch fs) alike hx hy =
       let entries : map without_children es ≡ map without_children fs = cc in
       let one = one_batch es fs entries hx.good hy.good in λ i. Batch (one i)
-  one_kind a by (Batch es) (Open o k d) alike hx hy = let e : Batch (map without_children es) ≡ Open o k d = alike in absurd (cc)
-  one_kind a by (Batch es) (Mark o v s t) alike hx hy = let e : Batch (map without_children es) ≡ Mark o v s t = alike in absurd (cc)
-  one_kind a by (Open o k d) (Batch fs) alike hx hy = let e : Open o k d ≡ Batch (map without_children fs) = alike in absurd (cc)
-  one_kind a by (Open o k d) (Open p l e) alike hx hy = alike
-  one_kind a by (Open o k d) (Mark p v s t) alike hx hy = let e : Open o k d ≡ Mark p v s t = alike in absurd (cc)
-  one_kind a by (Mark o v s t) (Batch fs) alike hx hy = let e : Mark o v s t ≡ Batch (map without_children fs) = alike in absurd (cc)
-  one_kind a by (Mark o v s t) (Open p k d) alike hx hy = let e : Mark o v s t ≡ Open p k d = alike in absurd (cc)
-  one_kind a by (Mark o v s t) (Mark p w r u) alike hx hy = alike
+  one_kind a by (Batch es) y alike hx hy = let e : Batch (map without_children es) ≡ bare_kind y = alike in absurd (cc)
+  one_kind a by x (Batch fs) alike hx hy = let e : bare_kind x ≡ Batch (map without_children fs) = alike in absurd (cc)
+  one_kind a by x y alike hx hy = alike
 
   one_from : (a : Archive) (g h : List Event) → AreAlike g h → MayAll id_of a g → MayAll id_of a h → g ≡ h
   one_from a [] [] alike hg hh = refl

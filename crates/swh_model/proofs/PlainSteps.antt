@@ -9,11 +9,12 @@ use Rattle.swh_base.specs.declared.visit.Status.TheVariants.{Created, Ongoing, F
 use Rattle.swh_base.specs.Snapshot.{snapshot_name}
 use Rattle.swh_model.specs.declared.event.Event.{Event}
 use Rattle.swh_model.specs.declared.event.EventKind.{EventKind}
-use Rattle.swh_model.specs.declared.event.EventKind.TheVariants.{Batch, Open, Mark}
+use Rattle.swh_model.specs.declared.event.EventKind.TheVariants.{Batch, Mark}
 use Rattle.swh_model.specs.declared.event.No.{No}
 use Rattle.swh_model.specs.declared.event.No.TheVariants.{Limit, NoVisit, NotYours, Ended, NoSnapshot, NotClosed, Collision}
 use Rattle.swh_model.specs.Archive.{Archive, Bodies, body_of, IsHeld, visits_of}
-use Rattle.swh_model.specs.Step.{HasItsChildrenAndName, HasItsChildren, FitsStatus, May, May_kind, MayAll, after, after_all}
+use Rattle.swh_model.specs.Step.{HasItsChildrenAndName, HasItsChildren, FitsStatus, AreNew, May, May_kind, MayAll, after, after_all}
+use Rattle.swh_model.specs.Entries.{entries_of}
 use Rattle.swh_model.specs.Judge.{StatusAllows}
 use Rattle.swh_model.specs.Judged.{IsSnapshotRefusal, SuitsStatus}
 use Rattle.swh_model.specs.Happens.{IsGoodEvent, IsGoodKind, IsNamedEvent, IsNamedKind, CanHappen, CanHappenKind, HasItsVisit, HasItsVisitKind}
@@ -61,39 +62,43 @@ refused_unfit bodies status snapshot (Collision name) is fits = is
 
 can_may_kind : (id_of : Kind → List ℕ → List ℕ) (a : Archive) (by : ℕ) (what : EventKind) → IsNamedKind id_of what → CanHappenKind a by what → May_kind id_of a by what
 can_may_kind id_of a by (Batch entries) named can = record { good = named; limits = can.0; new = can.1 }
-can_may_kind id_of a by (Open origin kind date) named can = tt
-can_may_kind id_of a by (Mark origin visit status snapshot) named can = can
+can_may_kind id_of a by what named can = can
 
 pub can_may : (id_of : Kind → List ℕ → List ℕ) (a : Archive) (e : Event) → IsNamedEvent id_of e → CanHappen a e → May id_of a e
 can_may id_of a e = can_may_kind id_of a e.by e.what
 
 may_can_kind : (id_of : Kind → List ℕ → List ℕ) (a : Archive) (by : ℕ) (what : EventKind) → May_kind id_of a by what → CanHappenKind a by what
 may_can_kind id_of a by (Batch entries) may = (may.limits, may.new)
-may_can_kind id_of a by (Open origin kind date) may = tt
-may_can_kind id_of a by (Mark origin visit status snapshot) may = may
+may_can_kind id_of a by what may = may
 
 pub may_can : (id_of : Kind → List ℕ → List ℕ) (a : Archive) (e : Event) → May id_of a e → CanHappen a e
 may_can id_of a e = may_can_kind id_of a e.by e.what
 
 can_there_kind : (a : Archive) (by : ℕ) (what : EventKind) → CanHappenKind a by what → HasItsVisitKind a what
-can_there_kind a by (Batch entries) can = tt
-can_there_kind a by (Open origin kind date) can = tt
 can_there_kind a by (Mark origin visit status snapshot) can =
     let less = slice_get_within (visits_of a.origins origin) (visit - 1) can.visit can.there in
     let some = can.positive in (some, omega (arith, less, some))
+can_there_kind a by what can = tt
 
 pub can_there : (a : Archive) (e : Event) → CanHappen a e → HasItsVisit a e
 can_there a e = can_there_kind a e.by e.what
 
 named_kind : (id_of : Kind → List ℕ → List ℕ) (a : Archive) (by : ℕ) (what : EventKind) → May_kind id_of a by what → IsNamedKind id_of what
 named_kind id_of a by (Batch entries) may = may.good
-named_kind id_of a by (Open origin kind date) may = tt
-named_kind id_of a by (Mark origin visit status snapshot) may = tt
+named_kind id_of a by what may = tt
 
 good_kind : (id_of : Kind → List ℕ → List ℕ) (what : EventKind) → IsNamedKind id_of what → IsGoodKind what
-good_kind id_of (Batch entries) named = all-map (HasItsChildrenAndName id_of) HasItsChildren (λ e h. h.good) entries named
-good_kind id_of (Open origin kind date) named = tt
-good_kind id_of (Mark origin visit status snapshot) named = tt
+good_kind id_of what named = all-map (HasItsChildrenAndName id_of) HasItsChildren (λ e h. h.good) (entries_of what) named
+
+new_kind : (id_of : Kind → List ℕ → List ℕ) (a : Archive) (by : ℕ) (what : EventKind) → May_kind id_of a by what → AreNew a.bodies (entries_of what)
+new_kind id_of a by (Batch entries) may = may.new
+new_kind id_of a by what may = tt
+
+pub may_new : (id_of : Kind → List ℕ → List ℕ) (a : Archive) (e : Event) → May id_of a e → AreNew a.bodies (entries_of e.what)
+may_new id_of a e = new_kind id_of a e.by e.what
+
+pub may_good : (id_of : Kind → List ℕ → List ℕ) (a : Archive) (e : Event) → May id_of a e → IsGoodEvent e
+may_good id_of a e may = good_kind id_of e.what (named_kind id_of a e.by e.what may)
 
 -- ---- a history
 

@@ -13,7 +13,7 @@ use Rattle.swh_base.specs.declared.visit.Which.TheVariants.{Body, Objects, Bytes
 use Rattle.swh_model.specs.declared.event.Visit.{Visit}
 use Rattle.swh_model.specs.declared.event.Event.{Event}
 use Rattle.swh_model.specs.declared.event.Wish.{Wish}
-use Rattle.swh_model.specs.declared.event.Wish.TheVariants.{Batch, Open, Mark}
+use Rattle.swh_model.specs.declared.event.Wish.TheVariants.{Batch, Mark}
 use Rattle.swh_model.specs.declared.event.EventKind.{EventKind}
 use Rattle.swh_model.specs.declared.event.EventKind.TheVariants as happened
 use Rattle.swh_model.specs.declared.event.No.{No}
@@ -166,5 +166,5 @@ mark_may h by event origin number status snapshot how none =
 pub wish_may : (id_of : Kind → List ℕ → List ℕ) (h : List Event) (by : ℕ) (wish : Wish) → IsWish id_of wish → ((cause : No) → IsCause h by wish cause → ⊥)
     → May_kind id_of (replay h) by (event_of (replay h) wish)
 wish_may id_of h by (Batch entries) good none = batch_may id_of h by entries good none
-wish_may id_of h by (Open origin kind date) good none = tt
 wish_may id_of h by (Mark origin number status snapshot) how none = mark_may h by (happened.Mark origin number status snapshot) origin number status snapshot how none
+wish_may id_of h by wish good none = tt

@@ -3,7 +3,7 @@ use Rattle.std.specs.Prelude.{◌≡◌, List, [], map}
 use Rattle.swh_base.specs.declared.entry.Entry.{Entry}
 use Rattle.swh_model.specs.declared.event.Event.{Event}
 use Rattle.swh_model.specs.declared.event.EventKind.{EventKind}
-use Rattle.swh_model.specs.declared.event.EventKind.TheVariants.{Batch, Open, Mark}
+use Rattle.swh_model.specs.declared.event.EventKind.TheVariants.{Batch}
 
 -- an entry without its children
 abbrev pub without_children : Entry → Entry
@@ -12,8 +12,7 @@ without_children e = record e { kids = [] }
 -- what happened, its entries without their children
 abbrev pub bare_kind : EventKind → EventKind
 bare_kind (Batch entries) = Batch (map without_children entries)
-bare_kind (Open origin kind date) = Open origin kind date
-bare_kind (Mark origin visit status snapshot) = Mark origin visit status snapshot
+bare_kind what = what
 
 abbrev pub bare_event : Event → Event
 bare_event e = record e { what = bare_kind e.what }

@@ -4,21 +4,21 @@ use Rattle.std.specs.List.{AllByRecursion}
 use Rattle.swh_base.specs.declared.kind.Kind.{Kind}
 use Rattle.swh_model.specs.declared.event.Event.{Event}
 use Rattle.swh_model.specs.declared.event.EventKind.{EventKind}
-use Rattle.swh_model.specs.declared.event.EventKind.TheVariants.{Batch, Open, Mark}
+use Rattle.swh_model.specs.declared.event.EventKind.TheVariants.{Mark}
 use Rattle.swh_model.specs.declared.event.Wish.{Wish}
 use Rattle.swh_model.specs.declared.fault.JudgeFault.{JudgeFault}
 use Rattle.swh_model.specs.declared.fault.JudgeFault.TheVariants.{Refused, Memory}
-use Rattle.swh_model.specs.Archive.{Archive, visits_of}
+use Rattle.swh_model.specs.Archive.{Archive, Bodies, visits_of}
+use Rattle.swh_base.specs.declared.entry.Entry.{Entry}
+use Rattle.swh_model.specs.Entries.{entries_of}
 use Rattle.swh_model.specs.Limits.{IsWithinLimits}
-use Rattle.swh_model.specs.Step.{HasItsChildren, HasItsChildrenAndName, AreNew, MayMark, IsHistory}
+use Rattle.swh_model.specs.Step.{HasItsChildren, HasItsChildrenAndName, AreNew, MayWhere, IsHistory}
 use Rattle.swh_model.specs.declared.event.No.TheVariants.{Limit}
 use Rattle.swh_model.specs.Judge.{IsVerdict, FilePasses}
 use Rattle.swh_model.specs.Judged.{IsFirstOf}
 
 abbrev pub IsGoodKind : EventKind → Type 0
-IsGoodKind (Batch entries) = AllByRecursion HasItsChildren entries
-IsGoodKind (Open origin kind date) = Unit {0}
-IsGoodKind (Mark origin visit status snapshot) = Unit {0}
+IsGoodKind what = AllByRecursion HasItsChildren (entries_of what)
 
 -- Each entry of the event has a body of its kind, with that body's children.
 abbrev pub IsGoodEvent : Event → Type 0
@@ -26,27 +26,26 @@ IsGoodEvent e = IsGoodKind e.what
 
 module _ (id_of : Kind → List ℕ → List ℕ) where
   abbrev pub IsNamedKind : EventKind → Type 0
-  IsNamedKind (Batch entries) = AllByRecursion (HasItsChildrenAndName id_of) entries
-  IsNamedKind (Open origin kind date) = Unit {0}
-  IsNamedKind (Mark origin visit status snapshot) = Unit {0}
+  IsNamedKind what = AllByRecursion (HasItsChildrenAndName id_of) (entries_of what)
 
   -- Each entry of the event has a body of its kind, with that body's children and id.
   abbrev pub IsNamedEvent : Event → Type 0
   IsNamedEvent e = IsNamedKind e.what
 
+-- A batch of these entries may be added, names aside.
+abbrev pub CanBeAdded : Bodies → List Entry → Type 0
+CanBeAdded bodies entries = IsWithinLimits entries × AreNew bodies entries
+
 abbrev pub CanHappenKind : Archive → ℕ → EventKind → Type 0
-CanHappenKind a by (Batch entries) = IsWithinLimits entries × AreNew a.bodies entries
-CanHappenKind a by (Open origin kind date) = Unit {0}
-CanHappenKind a by (Mark origin visit status snapshot) = MayMark a by origin visit status snapshot
+CanHappenKind = MayWhere CanBeAdded
 
 -- The event may happen, if each of its entries has a body of its kind, with that body's children and id.
 abbrev pub CanHappen : Archive → Event → Type 0
 CanHappen a e = CanHappenKind a e.by e.what
 
 abbrev pub HasItsVisitKind : Archive → EventKind → Type 0
-HasItsVisitKind a (Batch entries) = Unit {0}
-HasItsVisitKind a (Open origin kind date) = Unit {0}
 HasItsVisitKind a (Mark origin visit status snapshot) = (0 < visit) × (visit ≤ length (visits_of a.origins origin))
+HasItsVisitKind a _ = Unit {0}
 
 -- The visit that the event marks, if it marks one, is there.
 abbrev pub HasItsVisit : Archive → Event → Type 0

@@ -1,3 +1,4 @@
+pub mod Entries
 pub mod Archive
 pub mod Limits
 pub mod Step

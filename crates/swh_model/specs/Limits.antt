@@ -6,6 +6,7 @@ use Rattle.swh_base.specs.Limits.{body_limit, bytes_limit, objects_limit}
 use Rattle.swh_model.specs.declared.event.Event.{Event}
 use Rattle.swh_model.specs.declared.event.EventKind.{EventKind}
 use Rattle.swh_model.specs.declared.event.EventKind.TheVariants.{Batch, Open, Mark}
+use Rattle.swh_model.specs.Entries.{entries_of}
 
 -- the bytes of all bodies but the last one's
 abbrev pub bytes_before_last : List Entry → ℕ
@@ -30,9 +31,7 @@ run_length (e ∷ es) = object_length e + run_length es
 
 -- the bytes that an event adds to the store
 abbrev pub stored_length : EventKind → ℕ
-stored_length (Batch entries) = run_length entries
-stored_length (Open origin kind date) = 0
-stored_length (Mark origin visit status snapshot) = 0
+stored_length what = run_length (entries_of what)
 
 -- a byte, and a snapshot's id where there is one
 abbrev pub snapshot_length : Option (List ℕ) → ℕ

@@ -34,6 +34,21 @@ pub enum EventKind {
     },
 }
 
+impl EventKind {
+    ghost use Rattle.std.specs.Prelude.{◌≡◌};
+    ghost use Rattle.swh_model.specs.Entries.{entries_of};
+
+    /// The entries of a batch, and none of another event.
+    pub fn entries(&self) -> &[Entry]
+        ensures { result.now ≡ entries_of self.now }
+    {
+        match self {
+            EventKind::Batch(entries) => entries.as_slice(),
+            _ => &[],
+        }
+    }
+}
+
 /// What somebody wants to add. A batch has all objects that are handed over; its event has only those that are new.
 #[derive(Drop)]
 pub enum Wish {

@@ -45,11 +45,7 @@ fn length_of_run(entries: &[Entry]) -> Result<u64, Memory>
 pub fn length_in_store(event: &EventKind) -> Result<u64, Memory>
     ensures { MatchResult result (λ length. length ≡ stored_length event.now) (λ _. 2 ^ 64 ≤ stored_length event.now) }
 {
-    match event {
-        EventKind::Batch(entries) => length_of_run(entries.as_slice()),
-        EventKind::Open { .. } => Ok(0),
-        EventKind::Mark { .. } => Ok(0),
-    }
+    length_of_run(event.entries())
 }
 
 fn length_of_snapshot(snapshot: &Option<[u8; 20]>) -> u64

@@ -1,7 +1,6 @@
 use Rattle.swh_format.specs.declared.kinds.RecordKind.TheVariants as kind
 use Rattle.swh_format.specs.MarkRecord.{mark_contents}
-use Rattle.swh_format.proofs.KindLaws.{status_among}
-use Rattle.swh_format.proofs.ToldFronts.{no_mark, no_origin}
+use Rattle.swh_format.proofs.KindLaws.{no_mark, no_origin, status_among}
 use Rattle.swh_format.proofs.told.read_mark.Goals as goal
 
 pub returns-in_default-clause-none : goal.returns-in_default-clause-none

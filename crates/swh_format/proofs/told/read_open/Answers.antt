@@ -1,7 +1,6 @@
 use Rattle.swh_format.specs.declared.kinds.RecordKind.TheVariants as kind
 use Rattle.swh_format.specs.OpenRecord.{open_contents}
-use Rattle.swh_format.proofs.KindLaws.{visit_among}
-use Rattle.swh_format.proofs.ToldFronts.{no_open, no_origin}
+use Rattle.swh_format.proofs.KindLaws.{no_open, no_origin, visit_among}
 use Rattle.swh_format.proofs.told.read_open.Goals as goal
 
 pub returns-in_default-clause-none : goal.returns-in_default-clause-none
