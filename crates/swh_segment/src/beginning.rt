@@ -1,6 +1,7 @@
 // How a ledger begins.
-ghost use Rattle.std.specs.Prelude.{◌≡◌, ◌≤◌, IfOk, OnOk, IsErrOf};
-ghost use Rattle.swh_outside.specs.Faults.{Rose};
+ghost use Rattle.std.specs.Prelude.{◌≡◌, IfOk, IsErrOf};
+ghost use Rattle.swh_segment.specs.Makes.{UnlessDiskFault};
+ghost use Rattle.swh_segment.specs.Reads.{OnlyReads};
 ghost use Rattle.swh_segment.specs.Making.{IsMade, IsNotMade, needs_clearing};
 ghost use Rattle.swh_segment.specs.declared.fault.MakeFault.TheVariants.{Made, Disk};
 
@@ -13,11 +14,8 @@ pub fn read_beginning<D: Disk>(ledger: &mut D) -> Result<bool, MakeFault>
     ensures made { D.tells → IsErrOf result Made → IsMade (D.file ledger.old).seen }
     ensures not_made { D.tells → IfOk result (λ clears. IsNotMade (D.file ledger.old).seen) }
     ensures clears { D.tells → IfOk result (λ clears. clears ≡ needs_clearing (D.file ledger.old).seen) }
-    ensures same { D.tells → D.file ledger.new ≡ D.file ledger.old }
-    ensures later { D.faults ledger.old ≤ D.faults ledger.new }
-    ensures cause { IsErrOf result Disk → Rose (D.faults ledger.old) (D.faults ledger.new) }
-    ensures quiet { OnOk result (D.faults ledger.new ≡ D.faults ledger.old) }
-    ensures made_quiet { IsErrOf result Made → D.faults ledger.new ≡ D.faults ledger.old }
+    ensures reads { OnlyReads D.tells UnlessDiskFault Disk (D.file ledger.old, D.faults ledger.old)
+        (D.file ledger.new, D.faults ledger.new) result }
 {
     let size = ledger.len()?;
     let mut first = [0; 1];

@@ -21,7 +21,7 @@ ghost use Rattle.swh_outside.specs.Disk.{Runs as IsRun};
 ghost use Rattle.swh_outside.specs.Faults.{HasCause};
 ghost use Rattle.swh_outside.specs.Files.{FilesRuns, FilesBreaks, EachImages, files_of, files_done};
 ghost use Rattle.swh_format.specs.Events.{Append, IsWritten, run_bytes};
-ghost use Rattle.swh_segment.specs.Makes.{ADiskFailed};
+ghost use Rattle.swh_segment.specs.Counts.{ADiskFailed, HaveCause};
 ghost use Rattle.swh_segment.specs.Making.{IsMade, IsNotMade, making_calls};
 ghost use Rattle.swh_segment.specs.Calls.{run_calls, event_calls};
 ghost use Rattle.swh_segment.specs.Settled.{AreSettled, with_or_without_event};
@@ -91,14 +91,8 @@ pub fn append_to_both<D: Disk>(
         → OnErr result (EachImages (files_of (D.file ledger.new.disk) (D.file store.new.disk))
         (with_or_without_event h e)) }
 
-    ensures store_later { D.faults store.old.disk ≤ D.faults store.new.disk }
-    ensures ledger_later { D.faults ledger.old.disk ≤ D.faults ledger.new.disk }
-    ensures cause { OnErr result (ADiskFailed (D.faults store.old.disk) (D.faults store.new.disk)
-        (D.faults ledger.old.disk) (D.faults ledger.new.disk)) }
-
-    // Where no disk failed, both counts are as they were.
-    ensures store_quiet { OnOk result (D.faults store.new.disk ≡ D.faults store.old.disk) }
-    ensures ledger_quiet { OnOk result (D.faults ledger.new.disk ≡ D.faults ledger.old.disk) }
+    ensures cause { HaveCause (D.faults store.old.disk, D.faults store.new.disk)
+        (D.faults ledger.old.disk, D.faults ledger.new.disk) result }
 {
     append_some(store, run)?;
     ledger.append_bytes(entry)?;

@@ -4,7 +4,8 @@ ghost use Rattle.swh_outside.specs.Disk.{Runs};
 ghost use Rattle.swh_outside.specs.Files.{files_of};
 ghost use Rattle.swh_outside.specs.Faults.{HasCause};
 ghost use Rattle.swh_segment.specs.Making.{IsMade, IsNotMade, clearing, magic_calls};
-ghost use Rattle.swh_segment.specs.Makes.{Makes, ADiskFailed};
+ghost use Rattle.swh_segment.specs.Counts.{CountFaults};
+ghost use Rattle.swh_segment.specs.Makes.{Makes, UnlessDiskFault};
 ghost use Rattle.swh_segment.specs.declared.fault.MakeFault.TheVariants.{Made, Disk};
 
 use crate::MakeFault;
@@ -49,16 +50,8 @@ pub fn make<D: Disk>(store: &mut D, ledger: &mut D) -> Result<(), MakeFault>
     ensures spared { D.tells → IsMade (D.file ledger.old).seen
         → OnErr result (files_of (D.file ledger.new) (D.file store.new) ≡ files_of (D.file ledger.old) (D.file store.old)) }
 
-    ensures store_later { D.faults store.old ≤ D.faults store.new }
-    ensures ledger_later { D.faults ledger.old ≤ D.faults ledger.new }
-    ensures cause { IsErrOf result Disk → ADiskFailed (D.faults store.old) (D.faults store.new) (D.faults ledger.old)
-        (D.faults ledger.new) }
-
-    // Where no disk failed, both counts are as they were.
-    ensures store_quiet { OnOk result (D.faults store.new ≡ D.faults store.old) }
-    ensures ledger_quiet { OnOk result (D.faults ledger.new ≡ D.faults ledger.old) }
-    ensures made_store { IsErrOf result Made → D.faults store.new ≡ D.faults store.old }
-    ensures made_ledger { IsErrOf result Made → D.faults ledger.new ≡ D.faults ledger.old }
+    ensures counts { CountFaults UnlessDiskFault Disk (D.faults store.old, D.faults store.new)
+        (D.faults ledger.old, D.faults ledger.new) result }
 {
     let clears = read_beginning(ledger)?;
     settle(store, ledger)?;

@@ -1,9 +1,9 @@
 // Writes that are on the disk before the call returns.
-ghost use Rattle.std.specs.Prelude.{◌≡◌, ◌≤◌, length, OnOk, OnErr};
+ghost use Rattle.std.specs.Prelude.{◌≤◌, length, OnOk};
 ghost use Rattle.swh_outside.specs.Disk.{Runs};
 ghost use Rattle.swh_outside.specs.Files.{FilesRuns, AreImages, files_of};
 ghost use Rattle.swh_outside.specs.Faults.{HasCause};
-ghost use Rattle.swh_segment.specs.Makes.{ADiskFailed};
+ghost use Rattle.swh_segment.specs.Counts.{HaveCause};
 ghost use Rattle.swh_segment.specs.Making.{barriers};
 ghost use Rattle.swh_segment.specs.Settled.{AreAtRest, seen_of};
 ghost use Rattle.swh_segment.specs.Calls.{write_calls};
@@ -31,14 +31,7 @@ pub fn settle<D: Disk>(store: &mut D, ledger: &mut D) -> Result<(), Failed>
         (seen_of (files_of (D.file ledger.new) (D.file store.new))) }
     ensures rests { D.tells → OnOk result (AreAtRest (files_of (D.file ledger.new) (D.file store.new))) }
 
-    ensures store_later { D.faults store.old ≤ D.faults store.new }
-    ensures ledger_later { D.faults ledger.old ≤ D.faults ledger.new }
-    ensures cause { OnErr result (ADiskFailed (D.faults store.old) (D.faults store.new) (D.faults ledger.old)
-        (D.faults ledger.new)) }
-
-    // Where no disk failed, both counts are as they were.
-    ensures store_quiet { OnOk result (D.faults store.new ≡ D.faults store.old) }
-    ensures ledger_quiet { OnOk result (D.faults ledger.new ≡ D.faults ledger.old) }
+    ensures cause { HaveCause (D.faults store.old, D.faults store.new) (D.faults ledger.old, D.faults ledger.new) result }
 {
     store.sync()?;
     ledger.sync()

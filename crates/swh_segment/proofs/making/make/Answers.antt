@@ -12,7 +12,7 @@ returns-in_err-settle-clause-calls g c told =
     let ledger = g.D.Disk.file c.args.ledger.now in
     let store = g.D.Disk.file c.args.store.now in
     let is : c.from_residual-in_err-settle.result ≡ Err Disk = search rules in
-    let start = ap (λ (f : File). files_of f store) (c.in_ok-clears.ensures.same told) in
+    let start = ap (λ (f : File). files_of f store) (c.in_ok-clears.ensures.reads.same told) in
     let breaks = subst (λ (f : Files). FilesBreaks barriers f (files_of (g.D.Disk.file c.settle.new.ledger) (g.D.Disk.file c.settle.new.store))) start (c.in_err-settle.ensures.runs told).err in
     makes_failed _ _ _ is (inr (files_stops barriers (on 0 (magic_calls (needs_clearing ledger.seen))) _ _ breaks))
 
@@ -21,7 +21,7 @@ returns-in_err-lay_magic-clause-calls g c told =
     let ledger = g.D.Disk.file c.args.ledger.now in
     let store = g.D.Disk.file c.args.store.now in
     let is : c.from_residual-in_err-lay_magic.result ≡ Err Disk = search rules in
-    let start = ap (λ (f : File). files_of f store) (c.in_ok-clears.ensures.same told) in
+    let start = ap (λ (f : File). files_of f store) (c.in_ok-clears.ensures.reads.same told) in
     let now = files_of (g.D.Disk.file c.settle.new.ledger) (g.D.Disk.file c.settle.new.store) in
     let settled = subst (λ (f : Files). now ≡ files_done barriers f) start (c.in_ok-settle.ensures.runs told).ok in
     let laid = ledger_breaks _ _ _ (g.D.Disk.file c.settle.new.store) (c.in_err-lay_magic.ensures.runs told).err in
@@ -31,14 +31,14 @@ returns-in_err-lay_magic-clause-calls g c told =
 pub lay_magic-requires-after_bounds : goal.lay_magic-requires-after_bounds
 lay_magic-requires-after_bounds g c κs outlives told clear =
     let settled = (c.in_ok-settle.ensures.runs told).ok in
-    let same = ap (λ (f : Files). (f 0).seen) settled ∙ ap (λ (f : File). f.seen) (c.in_ok-clears.ensures.same told) in
+    let same = ap (λ (f : Files). (f 0).seen) settled ∙ ap (λ (f : File). f.seen) (c.in_ok-clears.ensures.reads.same told) in
     subst (λ (bytes : List ℕ). 1 ≤ length bytes) (sym same) (some_there _ (sym (c.in_ok-clears.ensures.clears told) ∙ clear))
 
 pub returns-clause-calls : goal.returns-clause-calls
 returns-clause-calls g c told =
     let ledger = g.D.Disk.file c.args.ledger.now in
     let store = g.D.Disk.file c.args.store.now in
-    let start = ap (λ (f : File). files_of f store) (c.in_ok-clears.ensures.same told) in
+    let start = ap (λ (f : File). files_of f store) (c.in_ok-clears.ensures.reads.same told) in
     let ledger_now = g.D.Disk.file c.settle.new.ledger in
     let store_now = g.D.Disk.file c.settle.new.store in
     let settled = subst (λ (f : Files). files_of ledger_now store_now ≡ files_done barriers f) start (c.in_ok-settle.ensures.runs told).ok in
