@@ -22,10 +22,12 @@ impl<T: Drop> Model for Shared<T> {
 impl<T: Drop> Shared<T> {
     ghost use Rattle.std.specs.Prelude.{◌≡◌, IfOk};
 
-    /// Takes the items over without copying them. Fails where memory runs out, and the items are let go.
-    pub fn from_vec(items: Vec<T>) -> Result<Shared<T>, Memory>
+    /// Takes the items over without copying them; room for more of them than there are is given back. Fails where memory
+    /// runs out, and the items are let go.
+    pub fn from_vec(mut items: Vec<T>) -> Result<Shared<T>, Memory>
         ensures { IfOk result (λ s. s ≡ items.items) }
     {
+        items.shrink_to_fit();
         let items = ArcSlice::from_vec(items)?;
         Ok(Shared { items })
     }
