@@ -8,6 +8,7 @@ ghost use Rattle.swh_closure.specs.Certificate.{IsGap, IsAscending};
 
 use crate::certificate::{Cert, Gap};
 use crate::closed::Closed;
+use crate::hints::Hints;
 use std::cmp::Ordering;
 use swh_base::{Graph, Name};
 
@@ -28,23 +29,46 @@ fn is_ascending(names: &[Name]) -> bool
     true
 }
 
-/// Whether a name is listed: by halves where the list ascends, else one by one.
-fn is_listed(names: &[Name], ascending: bool, name: &Name) -> bool
+/// Whether an ascending list has a name: where it was found before, or else by halves.
+fn is_found(names: &[Name], hints: &mut Hints, name: &Name) -> bool
+    requires { IsAscending names.now }
+    ensures { IsTrue result ↔ Contains names.now name.now }
+{
+    if hints.leads(names, name) {
+        return true;
+    }
+    match names.binary_search(name) {
+        Ok(place) => {
+            hints.note(name, place);
+            true
+        }
+        Err(_) => false,
+    }
+}
+
+/// Whether a name is listed: one by one where the list does not ascend.
+fn is_listed(names: &[Name], ascending: bool, hints: &mut Hints, name: &Name) -> bool
     requires { IsTrue ascending → IsAscending names.now }
     ensures { IsTrue result ↔ Contains names.now name.now }
 {
     if ascending {
-        names.binary_search(name).is_ok()
+        is_found(names, hints, name)
     } else {
         names.contains(name)
     }
 }
 
-fn is_covered(names: &[Name], ascending: bool, closed: &Closed, name: &Name) -> bool
+fn is_covered(
+    names: &[Name],
+    ascending: bool,
+    hints: &mut Hints,
+    closed: &Closed,
+    name: &Name,
+) -> bool
     requires { IsTrue ascending → IsAscending names.now }
     ensures { IsTrue result ↔ IsCovered closed.now names.now name.now }
 {
-    is_listed(names, ascending, name) || closed.contains(name)
+    is_listed(names, ascending, hints, name) || closed.contains(name)
 }
 
 /// Whether a listed name is held, and its children are listed or closed.
@@ -53,6 +77,7 @@ fn check_listed<G: Graph>(
     closed: &Closed,
     names: &[Name],
     ascending: bool,
+    hints: &mut Hints,
     name: &Name,
 ) -> Result<(), Gap>
     requires order { IsTrue ascending → IsAscending names.now }
@@ -66,7 +91,7 @@ fn check_listed<G: Graph>(
         return Err(Gap::NotHeld { name: *name });
     };
     for kid in kids {
-        if !is_covered(names, ascending, closed, kid) {
+        if !is_covered(names, ascending, hints, closed, kid) {
             let parent = Some(*name);
             return Err(Gap::Unlisted {
                 parent,
@@ -78,8 +103,8 @@ fn check_listed<G: Graph>(
 }
 
 /// Passes exactly where each listed name is held, and each of its children, and the root, is listed or known to be closed.
-/// It takes no memory, and time n log n in the names and children that it sees; a list that does not ascend takes n
-/// squared.
+/// It takes time n log n in the names and children that it sees, and less where many have the same children; a list that
+/// does not ascend takes n squared. It needs no memory: where there is some, it remembers where names were found.
 pub fn check<G: Graph>(graph: &G, closed: &Closed, cert: &Cert) -> Result<(), Gap>
     ensures ok { OnOk result (CertifiesIn (G.children_of graph.now) closed.now cert.now.names.items cert.now.root) }
     ensures closed { OnOk result (AreClosedIn (G.children_of graph.now) closed.now
@@ -88,7 +113,8 @@ pub fn check<G: Graph>(graph: &G, closed: &Closed, cert: &Cert) -> Result<(), Ga
 {
     let names = cert.names.as_slice();
     let ascending = is_ascending(names);
-    if !is_covered(names, ascending, closed, &cert.root) {
+    let mut hints = Hints::new(*cert.names.allocator());
+    if !is_covered(names, ascending, &mut hints, closed, &cert.root) {
         let parent = None;
         return Err(Gap::Unlisted {
             parent,
@@ -96,7 +122,7 @@ pub fn check<G: Graph>(graph: &G, closed: &Closed, cert: &Cert) -> Result<(), Ga
         });
     }
     for name in names {
-        if let Err(gap) = check_listed(graph, closed, names, ascending, name) {
+        if let Err(gap) = check_listed(graph, closed, names, ascending, &mut hints, name) {
             return Err(gap);
         }
     }

@@ -8,6 +8,7 @@ mod certificate;
 mod checking;
 mod closed;
 mod closing;
+mod hints;
 mod laws;
 mod met;
 mod walking;

@@ -1,4 +1,4 @@
-use Rattle.std.proofs.Common.{List, [], get_or, refl, subst}
+use Rattle.std.proofs.Common.{◌≡◌, true, false, List, [], get_or, refl, sym, subst}
 use Rattle.swh_base.specs.declared.kind.Kind.TheVariants.{Content}
 use Rattle.swh_base.specs.declared.name.Name.{Name}
 use Rattle.swh_base.specs.Reach.{IsHeldIn, IsChildIn, IsCovered, CertifiesIn}
@@ -12,6 +12,15 @@ pub returns-in-Err-clause-err : goal.returns-in-Err-clause-err
 returns-in-Err-clause-err g c =
     subst (λ (names : List Name). IsGap (g.G.Graph.children_of c.args.graph.now) c.args.closed.now names c.args.cert.now.root c.in-Err.gap) c.as_slice-names.ensures.value
     (c.in-Err.ensures.err c.args.cert.now.root)
+
+pub returns-then-not-is_covered-clause-err : goal.returns-then-not-is_covered-clause-err
+returns-then-not-is_covered-clause-err g c = (
+  refl,
+  λ covered.
+      let there = subst (λ (names : List Name). IsCovered c.args.closed.now names c.args.cert.now.root) (sym c.as_slice-names.ensures.value) covered in
+      let no : false ≡ true = c.if-not-is_covered.ensures.1 there in
+      absurd (cc),
+)
 
 pub loop-name-preserved : goal.loop-name-preserved
 loop-name-preserved g c =

@@ -1,0 +1,60 @@
+//! Where names were found in a list: a name that is looked for again and again is then found at once.
+ghost use Rattle.std.specs.Prelude.{◌<◌, ◌^◌, ◌↔◌, ◌≡◌, IsTrue, Contains};
+
+use std::alloc::Global;
+use swh_base::Name;
+
+const PLACES: usize = 65_536;
+
+/// Where the last name of each two first bytes was found. It has none where there was no memory for them, which costs time
+/// alone, and whatever it says is looked at before it is believed.
+#[derive(Drop)]
+pub struct Hints {
+    places: Vec<u32>,
+}
+
+fn is_same(a: &Name, b: &Name) -> bool
+    ensures { IsTrue result ↔ (a.now ≡ b.now) }
+{
+    a == b
+}
+
+/// The number of the two first bytes of a name's id.
+fn number_of(name: &Name) -> usize
+    ensures { result < 2 ^ 16 }
+{
+    name.id[0] as usize * 256 + name.id[1] as usize
+}
+
+impl Hints {
+    pub fn new(alloc: Global) -> Hints {
+        let mut places = Vec::new(alloc);
+        let _ = places.resize(PLACES, 0);
+        Hints { places }
+    }
+
+    /// Whether the list has the name where the last one of its first bytes was found. Where it does not, it may have it
+    /// elsewhere.
+    pub fn leads(&self, names: &[Name], name: &Name) -> bool
+        ensures { IsTrue result → Contains names.now name.now }
+    {
+        match self.places.get(number_of(name)) {
+            Some(place) => match names.get(*place as usize) {
+                Some(found) => is_same(found, name),
+                None => false,
+            },
+            None => false,
+        }
+    }
+
+    /// Remembers where a name was found.
+    pub fn note(&mut self, name: &Name, place: usize) {
+        let number = number_of(name);
+        if number >= self.places.len() {
+            return;
+        }
+        if let Ok(place) = u32::try_from(place) {
+            self.places[number] = place;
+        }
+    }
+}
