@@ -1,10 +1,14 @@
 -- What the origins in memory hold, and what is kept of their calls.
-use Rattle.std.specs.Prelude.{ℕ, Bool, List, Option, Some, None, string_bytes}
+use Rattle.std.specs.Prelude.{◌≡◌, ◌≢◌, ◌<◌, ◌≤◌, ℕ, Bool, List, Option, Some, None, string_bytes}
 use Rattle.std.specs.Str.{bytes_eq}
 use Rattle.swh_outside.specs.Firsts.{first_or}
 use Rattle.swh_outside.specs.Counts.{count_at, is_counted}
-use Rattle.swh_memory_failures.specs.Tally.{Tally, fresh_tally}
+use Rattle.swh_outside.specs.Faults.{Rose, one_more}
 use Rattle.swh_outside.specs.Folder.{Tree}
+use Rattle.swh_outside.specs.Opened.{IsFailed, UnlessFailed, UnlessMemory}
+use Rattle.swh_outside.specs.declared.fault.Opened.{Opened}
+use Rattle.swh_memory_failures.specs.Answers.{opening_failed, with_given_back}
+use Rattle.swh_memory_failures.specs.Tally.{Tally, fresh_tally, is_next_listed, tallied}
 use Rattle.swh_memory_input.specs.Folders.{tree_at}
 use Rattle.swh_memory_input.specs.declared.folder_input.FolderInput.{FolderInput}
 use Rattle.swh_memory_input.specs.declared.input.Input.{Input}
@@ -61,3 +65,35 @@ origin_path_faults origins = count_at origins.counts
 -- the path has a count of its own
 abbrev pub has_origin_place : MemoryOrigins → List ℕ → Type 0
 has_origin_place origins = is_counted origins.counts
+
+-- What stands outside stays as the origins were made with it.
+pub record SameOutside (old new : MemoryOrigins) : Type 0 where
+  pub inputs : origin_inputs new ≡ origin_inputs old
+  pub folders : origin_folder_inputs new ≡ origin_folder_inputs old
+
+-- No count falls, and a path that has a count of its own keeps it.
+pub record KeepsCounts (old new : MemoryOrigins) : Type 0 where
+  pub later : origin_faults old ≤ origin_faults new
+  pub path_later : (p : List ℕ) → origin_path_faults old p ≤ origin_path_faults new p
+  pub places : (p : List ℕ) → has_origin_place old p → has_origin_place new p
+
+-- An opening at a path that ends so is counted: memory apart it fails exactly where its number is listed, and then it counts once,
+-- in all and at its path, and at no other.
+pub record CountsOpening {T : Type 0} (path : List ℕ) (result : Opened T) (old new : MemoryOrigins) : Type 0 where
+  pub fails : UnlessMemory result (opening_failed result ≡ is_next_listed (origin_tally old))
+  pub counted : origin_tally new ≡ tallied (opening_failed result) (origin_tally old)
+  pub cause : IsFailed result → Rose (origin_faults old) (origin_faults new)
+  pub path_counted : IsFailed result → origin_path_faults new path ≡ one_more (origin_path_faults old path)
+  pub quiet : UnlessFailed result (origin_faults new ≡ origin_faults old)
+  pub path_quiet : UnlessFailed result (origin_path_faults new path ≡ origin_path_faults old path)
+  pub other_paths : (p : List ℕ) → p ≢ path → origin_path_faults new p ≡ origin_path_faults old p
+  pub place : UnlessMemory result (has_origin_place new path)
+
+-- What was opened at a path and has failed so often is given back: where it has failed it counts once, in all and at its path.
+pub record CountsGivenBack (path : List ℕ) (faults : ℕ) (old new : MemoryOrigins) : Type 0 where
+  pub counted : origin_tally new ≡ with_given_back faults (origin_tally old)
+  pub cause : 0 < faults → Rose (origin_faults old) (origin_faults new)
+  pub path_counted : 0 < faults → origin_path_faults new path ≡ one_more (origin_path_faults old path)
+  pub quiet : faults ≡ 0 → origin_faults new ≡ origin_faults old
+  pub path_quiet : faults ≡ 0 → (p : List ℕ) → origin_path_faults new p ≡ origin_path_faults old p
+  pub other_paths : (p : List ℕ) → p ≢ path → has_origin_place old p → origin_path_faults new p ≡ origin_path_faults old p

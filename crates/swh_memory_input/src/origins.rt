@@ -29,8 +29,7 @@ pub struct MemoryOrigins {
 }
 
 impl MemoryOrigins {
-    ghost use Rattle.swh_outside.specs.Faults.{Rose, one_more};
-    ghost use Rattle.swh_memory_failures.specs.Answers.{with_given_back};
+    ghost use Rattle.swh_outside.specs.Faults.{one_more};
     ghost use Rattle.swh_memory_input.specs.Outside.{
       origin_files,
       origin_folders,
@@ -40,6 +39,9 @@ impl MemoryOrigins {
       origin_faults,
       origin_path_faults,
       has_origin_place,
+      SameOutside,
+      KeepsCounts,
+      CountsGivenBack,
     };
     ghost use Rattle.swh_memory_failures.specs.Tally.{fresh_tally, refused};
 
@@ -97,19 +99,14 @@ impl MemoryOrigins {
 
     // Counts a failure at a path.
     fn refuse(&mut self, path: &str)
-        ensures files { (p : List ℕ) → origin_files self.new p ≡ origin_files self.old p }
-        ensures folders { (p : List ℕ) → origin_folders self.new p ≡ origin_folders self.old p }
-        ensures inputs { origin_inputs self.new ≡ origin_inputs self.old }
-        ensures folder_inputs { origin_folder_inputs self.new ≡ origin_folder_inputs self.old }
+        ensures same { SameOutside self.old self.new }
+        ensures keeps { KeepsCounts self.old self.new }
         ensures counted { origin_tally self.new ≡ refused (origin_tally self.old) }
-        ensures later { origin_faults self.old ≤ origin_faults self.new }
-        ensures path_later { (p : List ℕ) → origin_path_faults self.old p ≤ origin_path_faults self.new p }
-        ensures path_rose { origin_path_faults self.new path.now ≡ one_more (origin_path_faults self.old path.now) }
+        ensures path_counted { origin_path_faults self.new path.now ≡ one_more (origin_path_faults self.old path.now) }
         ensures other_paths { has_origin_place self.old path.now → (p : List ℕ) → p ≢ path.now
             → origin_path_faults self.new p ≡ origin_path_faults self.old p }
         ensures other_places { (p : List ℕ) → p ≢ path.now → has_origin_place self.old p
             → origin_path_faults self.new p ≡ origin_path_faults self.old p }
-        ensures places { (p : List ℕ) → has_origin_place self.old p → has_origin_place self.new p }
     {
         let _ = self.failures.refuse();
         self.counts.raise(path);
@@ -117,22 +114,9 @@ impl MemoryOrigins {
 
     // Counts once, at its path, what is given back, where it has failed.
     fn take_back(&mut self, faults: u64, path: &str)
-        ensures files { (p : List ℕ) → origin_files self.new p ≡ origin_files self.old p }
-        ensures folders { (p : List ℕ) → origin_folders self.new p ≡ origin_folders self.old p }
-        ensures inputs { origin_inputs self.new ≡ origin_inputs self.old }
-        ensures folder_inputs { origin_folder_inputs self.new ≡ origin_folder_inputs self.old }
-        ensures counted { origin_tally self.new ≡ with_given_back faults (origin_tally self.old) }
-        ensures later { origin_faults self.old ≤ origin_faults self.new }
-        ensures path_later { (p : List ℕ) → origin_path_faults self.old p ≤ origin_path_faults self.new p }
-        ensures cause { 0 < faults → Rose (origin_faults self.old) (origin_faults self.new) }
-        ensures path_counted { 0 < faults
-            → origin_path_faults self.new path.now ≡ one_more (origin_path_faults self.old path.now) }
-        ensures quiet { faults ≡ 0 → origin_faults self.new ≡ origin_faults self.old }
-        ensures path_quiet { faults ≡ 0
-            → (p : List ℕ) → origin_path_faults self.new p ≡ origin_path_faults self.old p }
-        ensures other_paths { (p : List ℕ) → p ≢ path.now → has_origin_place self.old p
-            → origin_path_faults self.new p ≡ origin_path_faults self.old p }
-        ensures places { (p : List ℕ) → has_origin_place self.old p → has_origin_place self.new p }
+        ensures same { SameOutside self.old self.new }
+        ensures keeps { KeepsCounts self.old self.new }
+        ensures counted { CountsGivenBack path.now faults self.old self.new }
     {
         if faults > 0 {
             self.refuse(path);
@@ -141,20 +125,20 @@ impl MemoryOrigins {
 }
 
 impl Origins for MemoryOrigins {
-    ghost use Rattle.swh_outside.specs.Faults.{Rose, one_more};
-    ghost use Rattle.swh_outside.specs.Opened.{IfFound, IsNotFound, IsFailed, UnlessFailed, UnlessMemory};
-    ghost use Rattle.swh_memory_failures.specs.Answers.{opening_failed, with_given_back};
+    ghost use Rattle.swh_outside.specs.Opened.{IfFound, IsNotFound};
     ghost use Rattle.swh_memory_input.specs.Outside.{
       origin_files,
       origin_folders,
       origin_inputs,
       origin_folder_inputs,
-      origin_tally,
       origin_faults,
       origin_path_faults,
       has_origin_place,
+      SameOutside,
+      KeepsCounts,
+      CountsOpening,
+      CountsGivenBack,
     };
-    ghost use Rattle.swh_memory_failures.specs.Tally.{is_next_listed, tallied};
 
     type S = MemorySource;
 
@@ -181,28 +165,9 @@ impl Origins for MemoryOrigins {
             ≡ Some (source_piece source, source_tally source)) }
         ensures nothing_given { IfFound result (λ source. source_given source ≡ []) }
         ensures not_ended { IfFound result (λ source. source_ended source ≡ false) }
-
-        ensures same_files { (p : List ℕ) → origin_files self.new p ≡ origin_files self.old p }
-        ensures same_folders { (p : List ℕ) → origin_folders self.new p ≡ origin_folders self.old p }
-        ensures later { origin_faults self.old ≤ origin_faults self.new }
-        ensures path_later { (p : List ℕ) → origin_path_faults self.old p ≤ origin_path_faults self.new p }
-        ensures cause { IsFailed result → Rose (origin_faults self.old) (origin_faults self.new) }
-        ensures path_cause { IsFailed result → Rose (origin_path_faults self.old path.now)
-            (origin_path_faults self.new path.now) }
-        ensures path_counted { IsFailed result
-            → origin_path_faults self.new path.now ≡ one_more (origin_path_faults self.old path.now) }
-        ensures quiet { UnlessFailed result (origin_faults self.new ≡ origin_faults self.old) }
-        ensures path_quiet { UnlessFailed result (origin_path_faults self.new path.now
-            ≡ origin_path_faults self.old path.now) }
-        ensures other_paths { (p : List ℕ) → p ≢ path.now → origin_path_faults self.new p
-            ≡ origin_path_faults self.old p }
-        ensures place { UnlessMemory result (has_origin_place self.new path.now) }
-        ensures places { (p : List ℕ) → has_origin_place self.old p → has_origin_place self.new p }
-
-        ensures fails { UnlessMemory result (opening_failed result ≡ is_next_listed (origin_tally self.old)) }
-        ensures inputs { origin_inputs self.new ≡ origin_inputs self.old }
-        ensures folder_inputs { origin_folder_inputs self.new ≡ origin_folder_inputs self.old }
-        ensures counted { origin_tally self.new ≡ tallied (opening_failed result) (origin_tally self.old) }
+        ensures same { SameOutside self.old self.new }
+        ensures keeps { KeepsCounts self.old self.new }
+        ensures counted { CountsOpening path.now result self.old self.new }
     {
         let fails = self.failures.next_fails();
         if self.counts.place(path).is_err() {
@@ -229,28 +194,9 @@ impl Origins for MemoryOrigins {
         ensures no_fault { IfFound result (λ folder. folder_faults folder ≡ 0) }
         ensures made { IfFound result (λ folder. folder_made_at (origin_folder_inputs self.old) path.now
             ≡ Some (folder_places folder, folder_tally folder)) }
-
-        ensures fails { UnlessMemory result (opening_failed result ≡ is_next_listed (origin_tally self.old)) }
-        ensures inputs { origin_inputs self.new ≡ origin_inputs self.old }
-        ensures folder_inputs { origin_folder_inputs self.new ≡ origin_folder_inputs self.old }
-        ensures counted { origin_tally self.new ≡ tallied (opening_failed result) (origin_tally self.old) }
-
-        ensures same_files { (p : List ℕ) → origin_files self.new p ≡ origin_files self.old p }
-        ensures same_folders { (p : List ℕ) → origin_folders self.new p ≡ origin_folders self.old p }
-        ensures later { origin_faults self.old ≤ origin_faults self.new }
-        ensures path_later { (p : List ℕ) → origin_path_faults self.old p ≤ origin_path_faults self.new p }
-        ensures cause { IsFailed result → Rose (origin_faults self.old) (origin_faults self.new) }
-        ensures path_cause { IsFailed result → Rose (origin_path_faults self.old path.now)
-            (origin_path_faults self.new path.now) }
-        ensures path_counted { IsFailed result
-            → origin_path_faults self.new path.now ≡ one_more (origin_path_faults self.old path.now) }
-        ensures quiet { UnlessFailed result (origin_faults self.new ≡ origin_faults self.old) }
-        ensures path_quiet { UnlessFailed result (origin_path_faults self.new path.now
-            ≡ origin_path_faults self.old path.now) }
-        ensures other_paths { (p : List ℕ) → p ≢ path.now → origin_path_faults self.new p
-            ≡ origin_path_faults self.old p }
-        ensures place { UnlessMemory result (has_origin_place self.new path.now) }
-        ensures places { (p : List ℕ) → has_origin_place self.old p → has_origin_place self.new p }
+        ensures same { SameOutside self.old self.new }
+        ensures keeps { KeepsCounts self.old self.new }
+        ensures counted { CountsOpening path.now result self.old self.new }
     {
         let fails = self.failures.next_fails();
         if self.counts.place(path).is_err() {
@@ -271,53 +217,17 @@ impl Origins for MemoryOrigins {
     }
 
     fn back(&mut self, source: MemorySource)
-        ensures same_files { (p : List ℕ) → origin_files self.new p ≡ origin_files self.old p }
-        ensures same_folders { (p : List ℕ) → origin_folders self.new p ≡ origin_folders self.old p }
-        ensures inputs { origin_inputs self.new ≡ origin_inputs self.old }
-        ensures folder_inputs { origin_folder_inputs self.new ≡ origin_folder_inputs self.old }
-        ensures counted { origin_tally self.new ≡ with_given_back (source_faults source) (origin_tally self.old) }
-        ensures path_counted { 0 < source_faults source
-            → origin_path_faults self.new (source_path source)
-            ≡ one_more (origin_path_faults self.old (source_path source)) }
-
-        ensures later { origin_faults self.old ≤ origin_faults self.new }
-        ensures path_later { (p : List ℕ) → origin_path_faults self.old p ≤ origin_path_faults self.new p }
-        ensures cause { 0 < source_faults source → Rose (origin_faults self.old) (origin_faults self.new) }
-        ensures path_cause { 0 < source_faults source
-            → Rose (origin_path_faults self.old (source_path source))
-            (origin_path_faults self.new (source_path source)) }
-        ensures quiet { source_faults source ≡ 0 → origin_faults self.new ≡ origin_faults self.old }
-        ensures path_quiet { source_faults source ≡ 0
-            → (p : List ℕ) → origin_path_faults self.new p ≡ origin_path_faults self.old p }
-        ensures other_paths { (p : List ℕ) → p ≢ source_path source → has_origin_place self.old p
-            → origin_path_faults self.new p ≡ origin_path_faults self.old p }
-        ensures places { (p : List ℕ) → has_origin_place self.old p → has_origin_place self.new p }
+        ensures same { SameOutside self.old self.new }
+        ensures keeps { KeepsCounts self.old self.new }
+        ensures counted { CountsGivenBack (source_path source) (source_faults source) self.old self.new }
     {
         self.take_back(source.faults(), source.path());
     }
 
     fn back_folder(&mut self, folder: MemoryFolder)
-        ensures same_files { (p : List ℕ) → origin_files self.new p ≡ origin_files self.old p }
-        ensures same_folders { (p : List ℕ) → origin_folders self.new p ≡ origin_folders self.old p }
-        ensures inputs { origin_inputs self.new ≡ origin_inputs self.old }
-        ensures folder_inputs { origin_folder_inputs self.new ≡ origin_folder_inputs self.old }
-        ensures counted { origin_tally self.new ≡ with_given_back (folder_faults folder) (origin_tally self.old) }
-        ensures path_counted { 0 < folder_faults folder
-            → origin_path_faults self.new (folder_path folder)
-            ≡ one_more (origin_path_faults self.old (folder_path folder)) }
-
-        ensures later { origin_faults self.old ≤ origin_faults self.new }
-        ensures path_later { (p : List ℕ) → origin_path_faults self.old p ≤ origin_path_faults self.new p }
-        ensures cause { 0 < folder_faults folder → Rose (origin_faults self.old) (origin_faults self.new) }
-        ensures path_cause { 0 < folder_faults folder
-            → Rose (origin_path_faults self.old (folder_path folder))
-            (origin_path_faults self.new (folder_path folder)) }
-        ensures quiet { folder_faults folder ≡ 0 → origin_faults self.new ≡ origin_faults self.old }
-        ensures path_quiet { folder_faults folder ≡ 0
-            → (p : List ℕ) → origin_path_faults self.new p ≡ origin_path_faults self.old p }
-        ensures other_paths { (p : List ℕ) → p ≢ folder_path folder → has_origin_place self.old p
-            → origin_path_faults self.new p ≡ origin_path_faults self.old p }
-        ensures places { (p : List ℕ) → has_origin_place self.old p → has_origin_place self.new p }
+        ensures same { SameOutside self.old self.new }
+        ensures keeps { KeepsCounts self.old self.new }
+        ensures counted { CountsGivenBack (folder_path folder) (folder_faults folder) self.old self.new }
     {
         self.take_back(folder.faults(), folder.path());
     }
