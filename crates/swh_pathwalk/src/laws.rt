@@ -1,10 +1,13 @@
 //! That the entries that are given are the walk over the paths.
-ghost use Rattle.std.specs.Prelude.{◌∷◌, [], List, Some, None};
+ghost use Rattle.std.specs.Prelude.{ℕ, ◌<◌, ◌∷◌, [], length, Contains, List, Option, Some, None};
 ghost use Rattle.swh_base.specs.declared.name.Name.{Name};
 ghost use Rattle.swh_dirfmt.specs.declared.entry.SpelledEntry.{SpelledEntry};
-ghost use Rattle.swh_model.specs.Archive.{Bodies};
+ghost use Rattle.swh_model.specs.Archive.{Bodies, IsGraphOf};
+ghost use Rattle.swh_graph.specs.Path.{directory_name};
+ghost use Rattle.swh_postorder.specs.Cycle.{ArePreceded};
 ghost use Rattle.swh_pathwalk.specs.Tree.{Row, IsPathWalk};
 ghost use Rattle.swh_pathwalk.specs.Walk.{Standing, BeginsAt, Steps, Remain, row_of};
+ghost use Rattle.swh_pathwalk.specs.Weight.{coming_weight, LeadInto};
 
 /// What remains at the beginning of a directory is its whole walk.
 pub fn all_remains_at_first()
@@ -22,4 +25,18 @@ pub fn less_remains_after_a_step()
 /// Where a step gives nothing, nothing remained.
 pub fn nothing_remains_at_last()
     ensures { (bodies : Bodies) (old new : Standing) → Steps bodies old None new → Remain bodies old.levels [] }
+{}
+
+/// Where no directory is reached from itself, each step leaves less to come: so a walk ends.
+pub fn steps_come_to_an_end()
+    ensures first { (bodies : Bodies) (children_of : Name → Option (List Name)) (order : List Name) (id : List ℕ) (new : Standing)
+        → IsGraphOf bodies children_of → ArePreceded children_of order → BeginsAt bodies (directory_name id) new
+        → Contains order (directory_name id) → LeadInto order new.levels }
+    ensures lighter { (bodies : Bodies) (children_of : Name → Option (List Name)) (order : List Name) (old new : Standing)
+        (entry : SpelledEntry) → IsGraphOf bodies children_of → ArePreceded children_of order → LeadInto order old.levels
+        → Steps bodies old (Some entry) new → coming_weight bodies children_of (length order) new.levels
+        < coming_weight bodies children_of (length order) old.levels }
+    ensures led { (bodies : Bodies) (children_of : Name → Option (List Name)) (order : List Name) (old new : Standing)
+        (entry : SpelledEntry) → IsGraphOf bodies children_of → ArePreceded children_of order → LeadInto order old.levels
+        → Steps bodies old (Some entry) new → LeadInto order new.levels }
 {}

@@ -8,5 +8,7 @@ mod laws;
 mod stepping;
 mod walk;
 
-pub use laws::{all_remains_at_first, less_remains_after_a_step, nothing_remains_at_last};
+pub use laws::{
+    all_remains_at_first, less_remains_after_a_step, nothing_remains_at_last, steps_come_to_an_end,
+};
 pub use walk::PathWalk;
