@@ -1,17 +1,8 @@
 -- The parts in memory of which nothing is told, and how often they failed.
 use Rattle.std.specs.Prelude.{ℕ}
 use Rattle.swh_memory_failures.specs.Tally.{Tally}
-use Rattle.swh_memory_input.specs.declared.yard.MemoryYard.{MemoryYard}
 use Rattle.swh_memory_input.specs.declared.link.MemoryLink.{MemoryLink}
 use Rattle.swh_memory_input.specs.declared.doors.MemoryDoors.{MemoryDoors}
-
--- what is kept of the yard's calls
-abbrev pub yard_tally : MemoryYard → Tally
-yard_tally yard = yard.failures
-
--- how often the yard has failed
-abbrev pub yard_faults : MemoryYard → ℕ
-yard_faults yard = yard.failures.faults
 
 -- what is kept of the link's calls
 abbrev pub link_tally : MemoryLink → Tally

@@ -1,9 +1,8 @@
-//! Sources, folders, origins, sinks and a clock in memory, told in full, of which each can be made to fail at chosen
-//! calls and at no others; yards, links and doors that always fail; and a gate that counts its calls. No call of a
-//! source, sink or clock allocates.
+//! Sources, folders, origins, sinks, yards and a clock in memory, told in full, of which each can be made to fail at chosen
+//! calls; links and doors that always fail; and a gate that counts its calls. No call of a source, sink or clock allocates.
 //! Stands on `swh_outside`, `swh_memory_failures` and `swh_folder_names`.
 //! Callers may rely on: a source gives the bytes and the pieces that it was made with, a folder holds the tree of its
-//! places, and a sink keeps what was put.
+//! places, a sink keeps what was put, and a yard what was begun, in its order.
 #![tactic(auto)]
 
 mod clock;
@@ -13,6 +12,7 @@ mod folder_input;
 mod gate;
 mod input;
 mod link;
+mod making;
 mod origins;
 mod place;
 mod sink;
@@ -26,6 +26,7 @@ pub use folder_input::FolderInput;
 pub use gate::MemoryGate;
 pub use input::Input;
 pub use link::MemoryLink;
+pub use making::{Begins, Making};
 pub use origins::MemoryOrigins;
 pub use place::{Place, Stands};
 pub use sink::MemorySink;

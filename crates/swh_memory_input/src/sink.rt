@@ -16,7 +16,8 @@ pub struct MemorySink {
 
 impl MemorySink {
     ghost use Rattle.swh_memory_input.specs.Parts.{sink_bytes, sink_room, sink_tally, sink_faults};
-    ghost use Rattle.swh_memory_failures.specs.Tally.{fresh_tally};
+    ghost use Rattle.swh_memory_failures.specs.Tally.{fresh_tally, is_next_listed, called, refused};
+    ghost use Rattle.swh_outside.specs.Faults.{Rose};
 
     /// An empty sink with room for this many bytes. Its calls with the listed numbers, from 0, will fail, with the
     /// first half of their bytes taken.
@@ -31,6 +32,41 @@ impl MemorySink {
             bytes: Vec::with_capacity(alloc, room)?,
             failures: Failures::at(failing),
         })
+    }
+
+    /// An empty sink without room, of whose calls none will fail for its number.
+    pub fn without_room(alloc: Global) -> Self
+        ensures empty { sink_bytes result ≡ [] }
+        ensures room { sink_room result ≡ 0 }
+        ensures failing { sink_tally result ≡ fresh_tally [] }
+        ensures no_fault { sink_faults result ≡ 0 }
+    {
+        MemorySink {
+            room: 0,
+            bytes: Vec::new(alloc),
+            failures: Failures::at(Vec::new(alloc)),
+        }
+    }
+
+    /// Counts another call than a `put`, and says whether it is to fail.
+    pub(crate) fn next_fails(&mut self) -> bool
+        ensures fails { result ≡ is_next_listed (sink_tally self.old) }
+        ensures counted { sink_tally self.new ≡ called (sink_tally self.old) }
+        ensures same { sink_bytes self.new ≡ sink_bytes self.old }
+        ensures same_room { sink_room self.new ≡ sink_room self.old }
+    {
+        self.failures.next_fails()
+    }
+
+    /// Counts the failure of another call than a `put`.
+    pub(crate) fn refuse(&mut self) -> Failed
+        ensures counted { sink_tally self.new ≡ refused (sink_tally self.old) }
+        ensures same { sink_bytes self.new ≡ sink_bytes self.old }
+        ensures same_room { sink_room self.new ≡ sink_room self.old }
+        ensures later { sink_faults self.old ≤ sink_faults self.new }
+        ensures rose { Rose (sink_faults self.old) (sink_faults self.new) }
+    {
+        self.failures.refuse()
     }
 
     /// The bytes that were put.

@@ -1,8 +1,8 @@
 // The other parts in memory.
 use std::alloc::Global;
 use std::test::Fail;
-use swh_memory::{MemoryClock, MemoryDoors, MemoryGate, MemoryLink, MemorySink, MemoryYard};
-use swh_outside::{Clock, Doors, Failed, Gate, OutFault, Sink, Source, Yard};
+use swh_memory::{MemoryClock, MemoryDoors, MemoryGate, MemoryLink, MemorySink};
+use swh_outside::{Clock, Doors, Failed, Gate, OutFault, Sink, Source};
 
 #[test]
 fn a_gate_counts_its_calls(rt: HostRuntime) {
@@ -53,18 +53,6 @@ fn a_clock_stands(rt: HostRuntime) -> Result<(), Fail> {
     let mut clock = MemoryClock::new(1_000_000_000, [1].to_vec(rt.alloc())?);
     assert!(rt; stands(&mut clock));
     Ok(())
-}
-
-fn yard_fails(mut yard: MemoryYard) -> bool {
-    yard.folder("a") == Err(OutFault::Failed)
-        && yard.file("b") == Err(OutFault::Failed)
-        && yard.put(b"c") == Err(Failed)
-        && yard.faults() == 3
-}
-
-#[test]
-fn a_yard_fails(rt: HostRuntime) {
-    assert!(rt; yard_fails(MemoryYard::new(rt.alloc())));
 }
 
 fn link_fails(link: &mut MemoryLink) -> bool {
