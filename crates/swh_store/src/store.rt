@@ -83,16 +83,6 @@ impl Store {
         add_batch(&mut self.held, entries)
     }
 
-    /// Adds an entry that is not held.
-    pub fn put(&mut self, entry: Entry) -> Result<(), Memory>
-        requires good { HasItsChildren entry }
-        requires absent { body_of self.old.bodies entry.name ≡ None }
-        ensures ok { OnOk result (self.new.bodies ≡ finite.insert self.old.bodies entry.name entry.body) }
-        ensures err { OnErr result (self.new ≡ self.old) }
-    {
-        self.held.push(entry)
-    }
-
     /// Adds entries that are not held, and no two of one name.
     pub fn add_new(&mut self, entries: &[Entry]) -> Result<(), Memory>
         requires good { AllByRecursion HasItsChildren entries.now }
