@@ -9,7 +9,7 @@ use Rattle.swh_base.specs.declared.entry.Entry.{Entry}
 use Rattle.swh_base.specs.Text.{IsRef}
 use Rattle.swh_model.specs.Meaning.{Made, content}
 use Rattle.swh_trees.specs.declared.tree.Tree.{Tree}
-use Rattle.swh_trees.specs.Grove.{Grove, StandsFor, folder_map, map_of}
+use Rattle.swh_trees.specs.Grove.{Grove, StandsFor, folder_map, map_of, no_trees}
 use Rattle.swh_folders.specs.Roots.{IsBelow}
 use Rattle.swh_entries.specs.declared.entry.Leaf.{Leaf}
 use Rattle.swh_folders.specs.PathMap.{PathMap}
@@ -36,7 +36,7 @@ use Rattle.swh_fastmeaning.proofs.AimForms.{ok_map, with_mark-map, with_tip-map,
 
 -- a grove without folders
 abbrev no_grove : Grove
-no_grove = record { folders = []; made = 0 }
+no_grove = no_trees
 
 pub below_any : (n : ℕ) (o : Option ℕ) → IsBelow 0 o → IsBelow n o
 below_any n None h = tt

@@ -1,3 +1,4 @@
 pub mod Directories
 pub mod Listings
 pub mod Parts
+pub mod Bounds

@@ -134,21 +134,21 @@ value-at f (suc n) k lt = elim (cases_lt k n) [
       rw is (ap (λ (i : ℕ). get_or (first_values f n ++ f n ∷ []) i []) (sym long) ∙ get_or-append_seam (first_values f n) (f n) [] [])
 ]
 
-grove-long : (f : Folders) (opened : Option Opened) (ids : List (List ℕ)) → length (grove f.names.items f.nodes.items opened ids).folders ≡ count_with opened (count_of f)
+grove-long : (f : Folders) (opened : Option Opened) (ids : List (List ℕ)) → length (grove f opened ids).folders ≡ count_with opened (count_of f)
 grove-long f None ids = values-long (map_at f.names.items f.nodes.items) (count_of f)
 grove-long f (Some o) ids =
     let maps = first_values (map_at f.names.items f.nodes.items) (count_of f) in
     let long = values-long (map_at f.names.items f.nodes.items) (count_of f) in
     length-append maps (flat (open_forest f.names.items f.nodes.items o) ∷ []) ∙ ap (λ (n : ℕ). n + 1) long
 
-grove-at : (f : Folders) (opened : Option Opened) (ids : List (List ℕ)) (n : ℕ) → n < count_of f → folder_map (grove f.names.items f.nodes.items opened ids) n ≡ flat (folder_at f n)
+pub grove-at : (f : Folders) (opened : Option Opened) (ids : List (List ℕ)) (n : ℕ) → n < count_of f → folder_map (grove f opened ids) n ≡ flat (folder_at f n)
 grove-at f None ids n lt = value-at (map_at f.names.items f.nodes.items) (count_of f) n lt
 grove-at f (Some o) ids n lt =
     let maps = first_values (map_at f.names.items f.nodes.items) (count_of f) in
     let long = values-long (map_at f.names.items f.nodes.items) (count_of f) in
     get_or_append_left maps (flat (open_forest f.names.items f.nodes.items o) ∷ []) [] n (omega (arith, long)) ∙ value-at (map_at f.names.items f.nodes.items) (count_of f) n lt
 
-grove-open : (f : Folders) (o : Opened) (ids : List (List ℕ)) → folder_map (grove f.names.items f.nodes.items (Some o) ids) (count_of f) ≡ flat (open_forest f.names.items f.nodes.items o)
+grove-open : (f : Folders) (o : Opened) (ids : List (List ℕ)) → folder_map (grove f (Some o) ids) (count_of f) ≡ flat (open_forest f.names.items f.nodes.items o)
 grove-open f o ids =
     let maps = first_values (map_at f.names.items f.nodes.items) (count_of f) in
     let m = flat (open_forest f.names.items f.nodes.items o) in
@@ -159,10 +159,10 @@ below_is : (n m : ℕ) (k : Option ℕ) → n ≡ m → IsBelow n k → IsBelow 
 below_is n m None e h = tt
 below_is n m (Some k) e h = omega arith
 
-pub is-tree : (f : Folders) (opened : Option Opened) (ids : List (List ℕ)) (tree : Tree) → IsTree (grove f.names.items f.nodes.items opened ids) tree → IsBelow (count_with opened (count_of f)) tree.number
+pub is-tree : (f : Folders) (opened : Option Opened) (ids : List (List ℕ)) (tree : Tree) → IsTree (grove f opened ids) tree → IsBelow (count_with opened (count_of f)) tree.number
 is-tree f opened ids tree h = below_is _ (count_with opened (count_of f)) tree.number (grove-long f opened ids) h
 
-pub tree-is : (f : Folders) (opened : Option Opened) (ids : List (List ℕ)) (tree : Tree) → IsBelow (count_with opened (count_of f)) tree.number → IsTree (grove f.names.items f.nodes.items opened ids) tree
+pub tree-is : (f : Folders) (opened : Option Opened) (ids : List (List ℕ)) (tree : Tree) → IsBelow (count_with opened (count_of f)) tree.number → IsTree (grove f opened ids) tree
 tree-is f opened ids tree h = below_is (count_with opened (count_of f)) _ tree.number (sym (grove-long f opened ids)) h
 
 low_with : (opened : Option Opened) (n : ℕ) (k : Option ℕ) → IsBelow n k → IsBelow (count_with opened n) k
@@ -170,29 +170,29 @@ low_with opened n None low = tt
 low_with None n (Some k) low = low
 low_with (Some o) n (Some k) low = omega arith
 
-map_is : (f : Folders) (opened : Option Opened) (ids : List (List ℕ)) (number : Option ℕ) → IsBelow (count_of f) number → map_of_number (folder_map (grove f.names.items f.nodes.items opened ids)) number ≡ root_map f number
+pub map_is : (f : Folders) (opened : Option Opened) (ids : List (List ℕ)) (number : Option ℕ) → IsBelow (count_of f) number → map_of_number (folder_map (grove f opened ids)) number ≡ root_map f number
 map_is f opened ids None low = refl
 map_is f opened ids (Some n) low = grove-at f opened ids n low
 
 -- a tree whose number is a folder's
-pub stands-for : (f : Folders) (opened : Option Opened) (ids : List (List ℕ)) (tree : Tree) (m : PathMap) → IsBelow (count_of f) tree.number → root_map f tree.number ≡ m → StandsFor (grove f.names.items f.nodes.items opened ids) tree m
+pub stands-for : (f : Folders) (opened : Option Opened) (ids : List (List ℕ)) (tree : Tree) (m : PathMap) → IsBelow (count_of f) tree.number → root_map f tree.number ≡ m → StandsFor (grove f opened ids) tree m
 stands-for f opened ids tree m low is = record { inside = tree-is f opened ids tree (low_with opened (count_of f) tree.number low); map = map_is f opened ids tree.number low ∙ is }
 
-stands_open : (f : Folders) (o : Opened) (ids : List (List ℕ)) (number : Option ℕ) → number ≡ Some (count_of f) → IsBelow (count_of f + 1) number × (map_of_number (folder_map (grove f.names.items f.nodes.items (Some o) ids)) number ≡ flat (open_forest f.names.items f.nodes.items o))
+stands_open : (f : Folders) (o : Opened) (ids : List (List ℕ)) (number : Option ℕ) → number ≡ Some (count_of f) → IsBelow (count_of f + 1) number × (map_of_number (folder_map (grove f (Some o) ids)) number ≡ flat (open_forest f.names.items f.nodes.items o))
 stands_open f o ids number is = rw is (omega arith, grove-open f o ids)
 
 -- the tree whose folder is open
-pub stands-open : (f : Folders) (o : Opened) (ids : List (List ℕ)) (tree : Tree) (m : PathMap) → tree.number ≡ Some (count_of f) → flat (open_forest f.names.items f.nodes.items o) ≡ m → StandsFor (grove f.names.items f.nodes.items (Some o) ids) tree m
+pub stands-open : (f : Folders) (o : Opened) (ids : List (List ℕ)) (tree : Tree) (m : PathMap) → tree.number ≡ Some (count_of f) → flat (open_forest f.names.items f.nodes.items o) ≡ m → StandsFor (grove f (Some o) ids) tree m
 stands-open f o ids tree m number is =
     let there = stands_open f o ids tree.number number in
     record { inside = tree-is f (Some o) ids tree there.0; map = there.1 ∙ is }
 
 -- the tree at which changes go on
-pub stands-start : (f : Folders) (s : Start) (ids : List (List ℕ)) (tree : Tree) (m : PathMap) → IsStart f s → tree.number ≡ number_of_start f s → start_map f s ≡ m → StandsFor (grove f.names.items f.nodes.items (opened_of s) ids) tree m
+pub stands-start : (f : Folders) (s : Start) (ids : List (List ℕ)) (tree : Tree) (m : PathMap) → IsStart f s → tree.number ≡ number_of_start f s → start_map f s ≡ m → StandsFor (grove f (opened_of s) ids) tree m
 stands-start f (At root) ids tree m h number is = stands-for f None ids tree m (rw number h) (rw number is)
 stands-start f (In o) ids tree m h number is = stands-open f o ids tree m number is
 
-pub keeps-stays : (a b : Folders) (o o' : Option Opened) (ids ids' : List (List ℕ)) → length ids ≤ count_of a → StaysBelow (length ids) a b → length ids' ≡ length ids → Keeps (grove a.names.items a.nodes.items o ids) (grove b.names.items b.nodes.items o' ids')
+pub keeps-stays : (a b : Folders) (o o' : Option Opened) (ids ids' : List (List ℕ)) → length ids ≤ count_of a → StaysBelow (length ids) a b → length ids' ≡ length ids → Keeps (grove a o ids) (grove b o' ids')
 keeps-stays a b o o' ids ids' le s same = record {
   made = same;
   maps = λ n lt. let long = s.long in grove-at b o' ids' n (omega arith) ∙ ap flat (s.stay n lt) ∙ sym (grove-at a o ids n (omega arith));
@@ -200,35 +200,35 @@ keeps-stays a b o o' ids ids' le s same = record {
 
 -- ## What callers see of folders
 
-pub keeps-seen : (v : Grove) (a b : Folders) (o o' : Option Opened) (ids : List (List ℕ)) (base : ℕ) → grove a.names.items a.nodes.items o ids ≡ v → length ids ≤ count_of a → base ≡ length ids → StaysBelow base a b → Keeps v (grove b.names.items b.nodes.items o' ids)
+pub keeps-seen : (v : Grove) (a b : Folders) (o o' : Option Opened) (ids : List (List ℕ)) (base : ℕ) → grove a o ids ≡ v → length ids ≤ count_of a → base ≡ length ids → StaysBelow base a b → Keeps v (grove b o' ids)
 keeps-seen v a b o o' ids base seen le is stays =
-    subst (λ (w : Grove). Keeps w (grove b.names.items b.nodes.items o' ids)) seen
+    subst (λ (w : Grove). Keeps w (grove b o' ids)) seen
     (keeps-stays a b o o' ids ids le (subst (λ (k : ℕ). StaysBelow k a b) is stays) refl)
 
 -- where changes of a tree go on
 abbrev pub IsStartOf : Folders → Start → PathMap → Type 0
 IsStartOf f s m = IsStart f s × (start_map f s ≡ m)
 
-start_one : (f : Folders) (o : Opened) (ids : List (List ℕ)) (n : ℕ) (b : Bool) → (n == count_of f) ≡ b → IsOpened f.names.items f.nodes.items o → n < count_of f + 1 → IsStartOf f (cond b (In o) (At (Some n))) (folder_map (grove f.names.items f.nodes.items (Some o) ids) n)
+start_one : (f : Folders) (o : Opened) (ids : List (List ℕ)) (n : ℕ) (b : Bool) → (n == count_of f) ≡ b → IsOpened f.names.items f.nodes.items o → n < count_of f + 1 → IsStartOf f (cond b (In o) (At (Some n))) (folder_map (grove f (Some o) ids) n)
 start_one f o ids n true e h lt =
     let is : n ≡ count_of f = search (rules, tests) in
-    (h, sym (ap (folder_map (grove f.names.items f.nodes.items (Some o) ids)) is ∙ grove-open f o ids))
+    (h, sym (ap (folder_map (grove f (Some o) ids)) is ∙ grove-open f o ids))
 start_one f o ids n false e h lt =
     let ne : n ≡ count_of f → ⊥ = search (rules, tests) in
     let low : n < count_of f = omega (arith, ne) in
     (low, sym (grove-at f (Some o) ids n low))
 
-start-in : (f : Folders) (opened : Option Opened) (ids : List (List ℕ)) (number : Option ℕ) → MayBeOpened f.names.items f.nodes.items opened → IsBelow (count_with opened (count_of f)) number → IsStartOf f (start_with opened number (count_of f)) (map_of_number (folder_map (grove f.names.items f.nodes.items opened ids)) number)
+start-in : (f : Folders) (opened : Option Opened) (ids : List (List ℕ)) (number : Option ℕ) → MayBeOpened f.names.items f.nodes.items opened → IsBelow (count_with opened (count_of f)) number → IsStartOf f (start_with opened number (count_of f)) (map_of_number (folder_map (grove f opened ids)) number)
 start-in f None ids number h low = (low, sym (map_is f None ids number low))
 start-in f (Some o) ids None h low = (tt, refl)
 start-in f (Some o) ids (Some n) h low = start_one f o ids n (n == count_of f) refl h low
 
-pub start-seen : (v : Grove) (a : Folders) (opened : Option Opened) (ids : List (List ℕ)) (tree : Tree) (count : ℕ) → grove a.names.items a.nodes.items opened ids ≡ v → MayBeOpened a.names.items a.nodes.items opened → count ≡ count_of a → IsTree v tree → IsStartOf a (start_with opened tree.number count) (map_of v tree)
+pub start-seen : (v : Grove) (a : Folders) (opened : Option Opened) (ids : List (List ℕ)) (tree : Tree) (count : ℕ) → grove a opened ids ≡ v → MayBeOpened a.names.items a.nodes.items opened → count ≡ count_of a → IsTree v tree → IsStartOf a (start_with opened tree.number count) (map_of v tree)
 start-seen v a opened ids tree count seen h is t =
     let t' = subst (λ (w : Grove). IsTree w tree) (sym seen) t in
     let there = start-in a opened ids tree.number h (is-tree a opened ids tree t') in
     subst (λ (w : Grove). IsStartOf a (start_with opened tree.number count) (map_of w tree)) seen
-    (subst (λ (k : ℕ). IsStartOf a (start_with opened tree.number k) (map_of (grove a.names.items a.nodes.items opened ids) tree)) (sym is) there)
+    (subst (λ (k : ℕ). IsStartOf a (start_with opened tree.number k) (map_of (grove a opened ids) tree)) (sym is) there)
 
 -- ## Parts and numbers
 
@@ -256,7 +256,7 @@ held-stays id_of a b opened opened' ids empty o h s = record {
   no_files = bare-stays (folder_at a) (folder_at b) (length ids) empty s.stay h.no_files;
 }
 
-root_is : (f : Folders) (root : Option ℕ) → root_map f root ≡ flat (root_forest (folder_at f) root)
+pub root_is : (f : Folders) (root : Option ℕ) → root_map f root ≡ flat (root_forest (folder_at f) root)
 root_is f None = refl
 root_is f (Some n) = refl
 
@@ -272,7 +272,7 @@ pub record IsMaking (id_of : Kind → List ℕ → List ℕ) (a b d : Folders) (
   pub inside : number < count_of d
   pub parts : (n : ℕ) → base ≤ n → n < count_of d → IsPart (IsFolder (folder_at b r)) (folder_at d n)
 
-folder_of : (f g : Forest) → IsSound f → IsPart (IsFolder f) g → IsFolderOf (flat f) (flat g)
+pub folder_of : (f g : Forest) → IsSound f → IsPart (IsFolder f) g → IsFolderOf (flat f) (flat g)
 folder_of f g s part = let has = part-has part.path f g s part.there in record { path = part.path; there = has.0; holds = sym has.1 }
 
 below-kept : (d : Folders) (root : Option ℕ) (number : ℕ) (tree : Tree) → number < count_of d → tree.number ≡ kept_number root number → IsBelow (count_of d) tree.number
@@ -283,7 +283,7 @@ map-kept : (a d : Folders) (root : Option ℕ) (number : ℕ) (tree : Tree) → 
 map-kept a d None number tree is kept = rw kept refl
 map-kept a d (Some n) number tree is kept = rw kept (sym is)
 
-pub makes-done : (id_of : Kind → List ℕ → List ℕ) (a b d : Folders) (ids ids' : List (List ℕ)) (root : Option ℕ) (r number : ℕ) (tree : Tree) (id : List ℕ) (objects : List Object) → AreFolders a → length ids ≤ count_of a → IsMaking id_of a b d (length ids) r number → folder_at b r ≡ root_forest (folder_at a) root → length ids' ≡ count_of d → AreIds (directory_id id_of) (folder_at d) ids' → length ids + length objects ≡ count_of d → AreDirectoryObjects id_of (λ n. directory (directory_id id_of) (folder_at d n)) (length ids) objects → id ≡ get_or ids' number [] → tree.number ≡ kept_number root number → Makes id_of (grove a.names.items a.nodes.items None ids) (grove d.names.items d.nodes.items None ids') (root_map a root) tree id objects
+pub makes-done : (id_of : Kind → List ℕ → List ℕ) (a b d : Folders) (ids ids' : List (List ℕ)) (root : Option ℕ) (r number : ℕ) (tree : Tree) (id : List ℕ) (objects : List Object) → AreFolders a → length ids ≤ count_of a → IsMaking id_of a b d (length ids) r number → folder_at b r ≡ root_forest (folder_at a) root → length ids' ≡ count_of d → AreIds (directory_id id_of) (folder_at d) ids' → length ids + length objects ≡ count_of d → AreDirectoryObjects id_of (λ n. directory (directory_id id_of) (folder_at d n)) (length ids) objects → id ≡ get_or ids' number [] → tree.number ≡ kept_number root number → Makes id_of (grove a None ids) (grove d None ids') (root_map a root) tree id objects
 makes-done id_of a b d ids ids' root r number tree id objects good le m is all known each made own kept =
     let f : Forest = folder_at d number in
     let f_is : f ≡ root_forest (folder_at a) root = m.root ∙ is in
@@ -299,9 +299,9 @@ makes-done id_of a b d ids ids' root r number tree id objects good le m is all k
       stands = stands-for d None ids' tree (root_map a root) (below-kept d root number tree m.inside kept) (map-kept a d root number tree (sym m_is) kept);
       named = own ∙ known number (omega (arith, m.inside)) ∙ ap (directory_id id_of) (sym (named number m.inside)) ∙ ap (λ (x : PathMap). directory_id id_of (directory_of id_of x)) m_is;
       each = each ∙ sym all;
-      made = objects-same id_of (λ n. directory (directory_id id_of) (folder_at d n)) (λ n. directory_of id_of (folder_map (grove d.names.items d.nodes.items None ids') n)) (length ids) objects (λ n le lt. sym (ap (directory_of id_of) (at_d n (omega arith)) ∙ named n (omega arith))) made;
+      made = objects-same id_of (λ n. directory (directory_id id_of) (folder_at d n)) (λ n. directory_of id_of (folder_map (grove d None ids') n)) (length ids) objects (λ n le lt. sym (ap (directory_of id_of) (at_d n (omega arith)) ∙ named n (omega arith))) made;
       parts = λ n le lt. subst (λ (x : PathMap). IsFolderOf (root_map a root) x) (sym (at_d n (omega arith))) (subst (λ (x : PathMap). IsFolderOf x (flat (folder_at d n))) m_is (folder_of f (folder_at d n) s (subst (λ (h : Forest). IsPart (IsFolder h) (folder_at d n)) first_is (m.parts n le (omega arith)))));
-      whole = λ path h. subst (λ (x : PathMap). HasFolder x path → IsNumbered (grove d.names.items d.nodes.items None ids') (length ids') (held path x)) m_is (λ h'.
+      whole = λ path h. subst (λ (x : PathMap). HasFolder x path → IsNumbered (grove d None ids') (length ids') (held path x)) m_is (λ h'.
           let part = has-part path f s h' in
           let there = part-number d m.then.good path number m.inside part.0 part.1 in
           let has = part-has path f part.0 s part.1 in
@@ -341,7 +341,7 @@ on-err (Ok x) p = tt
 on-err (Err e) p = p
 
 -- seen from folders before
-pub makes-from : (id_of : Kind → List ℕ → List ℕ) (a b : Folders) (opened : Option Opened) (ids : List (List ℕ)) (new : Grove) (m : PathMap) (tree : Tree) (id : List ℕ) (objects : List Object) → length ids ≤ count_of a → StaysBelow (length ids) a b → Makes id_of (grove b.names.items b.nodes.items None ids) new m tree id objects → Makes id_of (grove a.names.items a.nodes.items opened ids) new m tree id objects
+pub makes-from : (id_of : Kind → List ℕ → List ℕ) (a b : Folders) (opened : Option Opened) (ids : List (List ℕ)) (new : Grove) (m : PathMap) (tree : Tree) (id : List ℕ) (objects : List Object) → length ids ≤ count_of a → StaysBelow (length ids) a b → Makes id_of (grove b None ids) new m tree id objects → Makes id_of (grove a opened ids) new m tree id objects
 makes-from id_of a b opened ids new m tree id objects le s h = record {
   stay = λ n lt. let long = s.long in h.stay n lt ∙ grove-at b None ids n (omega arith) ∙ ap flat (s.stay n lt) ∙ sym (grove-at a opened ids n (omega arith));
   all = h.all;
@@ -355,12 +355,12 @@ makes-from id_of a b opened ids new m tree id objects le s h = record {
 }
 
 -- where changes of a tree of these trees go on
-pub start-of : (v : Grove) (a : Folders) (opened taken : Option Opened) (ids : List (List ℕ)) (tree : Tree) (count : ℕ) (s : Start) → grove a.names.items a.nodes.items opened ids ≡ v → MayBeOpened a.names.items a.nodes.items opened → IsTree v tree → count ≡ count_of a → taken ≡ opened → s ≡ start_with taken tree.number count → IsStartOf a s (map_of v tree)
+pub start-of : (v : Grove) (a : Folders) (opened taken : Option Opened) (ids : List (List ℕ)) (tree : Tree) (count : ℕ) (s : Start) → grove a opened ids ≡ v → MayBeOpened a.names.items a.nodes.items opened → IsTree v tree → count ≡ count_of a → taken ≡ opened → s ≡ start_with taken tree.number count → IsStartOf a s (map_of v tree)
 start-of v a opened taken ids tree count s seen h t is took begins =
     subst (λ (w : Start). IsStartOf a w (map_of v tree)) (sym (begins ∙ ap (λ (o : Option Opened). start_with o tree.number count) took))
     (start-seen v a opened ids tree count seen h is t)
 
-pub tree-seen : (v : Grove) (a : Folders) (opened : Option Opened) (ids : List (List ℕ)) (tree : Tree) → grove a.names.items a.nodes.items opened ids ≡ v → IsTree v tree → IsBelow (count_with opened (count_of a)) tree.number
+pub tree-seen : (v : Grove) (a : Folders) (opened : Option Opened) (ids : List (List ℕ)) (tree : Tree) → grove a opened ids ≡ v → IsTree v tree → IsBelow (count_with opened (count_of a)) tree.number
 tree-seen v a opened ids tree seen h = is-tree a opened ids tree (subst (λ (w : Grove). IsTree w tree) (sym seen) h)
 
 number_one : (f : Folders) (o : Opened) (n : ℕ) (b : Bool) → (n == count_of f) ≡ b → number_of_start f (cond b (In o) (At (Some n))) ≡ Some n

@@ -4,6 +4,7 @@ use Rattle.std.specs.Global.{Vec}
 use Rattle.swh_base.specs.declared.kind.Kind.{Kind}
 use Rattle.swh_base.specs.Directory.{DirectoryEntry}
 use Rattle.swh_entries.specs.Listed.{Listed}
+use Rattle.swh_folders.specs.declared.folders.Folders.{Folders}
 use Rattle.swh_folders.specs.declared.opened.Opened.{Opened}
 use Rattle.swh_folders.specs.declared.opened.Start.{Start}
 use Rattle.swh_folders.specs.declared.opened.Start.TheVariants.{At, In}
@@ -48,8 +49,8 @@ maps_with names nodes None = first_values (map_at names nodes) (length nodes)
 maps_with names nodes (Some o) = first_values (map_at names nodes) (length nodes) ++ flat (open_forest names nodes o) ∷ []
 
 -- what callers see
-abbrev pub grove : List (Vec ℕ) → List Listed → Option Opened → List (List ℕ) → Grove
-grove names nodes opened ids = record { folders = maps_with names nodes opened; made = length ids }
+abbrev pub grove : Folders → Option Opened → List (List ℕ) → Grove
+grove f opened ids = record { folders = maps_with f.names.items f.nodes.items opened; made = length ids; standing = length f.nodes.items; most = f.most }
 
 -- how many trees have numbers, where so many folders have
 abbrev pub count_with : Option Opened → ℕ → ℕ

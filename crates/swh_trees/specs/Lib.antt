@@ -1,3 +1,4 @@
+pub mod Bound
 pub mod Directory
 pub mod Grove
 pub mod Held

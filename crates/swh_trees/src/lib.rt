@@ -3,7 +3,8 @@
 //! Stands on `swh_base`, `swh_fastlex`, whose paths they are, `swh_entries`, `swh_folders`, `swh_dirfmt` and
 //! `swh_object`.
 //! Callers may rely on: a change makes of a tree what it makes of a map from paths; the objects made are those of the
-//! map's directories, each after its own folders, and none that was made before is made again.
+//! map's directories, each after its own folders, and none that was made before is made again; of the folders without
+//! objects about as many stand as one root needs.
 #![tactic(auto)]
 
 mod directory;

@@ -1,6 +1,6 @@
 //! The objects of a tree's new folders.
 
-ghost use Rattle.std.specs.Prelude.{◌≡◌, ◌<◌, ◌≤◌, ◌+◌, ℕ, List, length, Option, IfOk, IfErr, OnOk, OnErr};
+ghost use Rattle.std.specs.Prelude.{◌≡◌, ◌<◌, ◌≤◌, ◌+◌, ◌*◌, ℕ, List, length, Option, IfOk, IfErr, OnOk, OnErr};
 ghost use Rattle.swh_trees.specs.Directory.{directory_id};
 ghost use Rattle.swh_folders.specs.Forest.{Bare, IsFolder};
 ghost use Rattle.swh_trees.specs.Listing.{directory};
@@ -8,7 +8,7 @@ ghost use Rattle.swh_folders.specs.Roots.{IsBelow, root_forest};
 ghost use Rattle.swh_trees.specs.Held.{AreIds, IsEmptyFolder};
 ghost use Rattle.swh_folders.specs.Live.{IsPart};
 ghost use Rattle.swh_trees.specs.Objects.{AreDirectoryObjects, ExplainsPart};
-ghost use Rattle.swh_folders.specs.Working.{AreFolders, count_of, folder_at, StaysBelow};
+ghost use Rattle.swh_folders.specs.Working.{AreFolders, count_of, folder_at, spare, StaysBelow};
 
 use crate::fault::TreeFault;
 use crate::objects::make_all;
@@ -83,6 +83,7 @@ pub fn make_folders<N: Namer>(
     ensures front { length ids.old.items ≤ length ids.new.items }
     ensures none_made { OnErr result (ids.new.items ≡ ids.old.items) }
     ensures all { OnOk result (length ids.new.items ≡ count_of folders.new) }
+    ensures most { OnOk result (folders.new.most + length ids.new.items ≤ 2 * count_of folders.new + spare) }
     ensures inside { IfOk result (λ r. r.0 < count_of folders.new) }
     ensures same { IfOk result (λ r. folder_at folders.new r.0 ≡ folder_at folders.old root) }
     ensures parts { IfOk result (λ r. (n : ℕ) → length ids.old.items ≤ n → n < count_of folders.new

@@ -10,6 +10,9 @@ use swh_entries::{Leaf, whole_id};
 use swh_folders::{Folders, Opened, Start, Transfer, delete_in, root_from, set_in, transfer_from};
 use swh_object::Object;
 
+/// How many folders may stand before one has its object.
+const SPARE: usize = 65_536;
+
 /// Trees that share the folders which they have in common, and the ids of the folders whose objects were made, by the
 /// namer `N`. Contracts see the map of each folder by its number, and of how many folders, the first ones, the objects
 /// were made.
@@ -38,7 +41,7 @@ impl<N: Namer> Model for Trees<N> {
 
     ghost Value = { Grove };
 
-    ghost view = { λ t. grove t.folders.names.items t.folders.nodes.items t.opened t.ids.items };
+    ghost view = { λ t. grove t.folders t.opened t.ids.items };
 
     ghost invariant = { λ t. IsHeld N.id_of t.folders.names.items t.folders.nodes.items t.opened t.ids.items t.empty };
 }
@@ -111,7 +114,8 @@ fn parts_of(start: Start, count: usize) -> (Option<usize>, Option<Opened>)
 
 impl<N: Namer> Trees<N> {
     ghost use Rattle.std.specs.Prelude.{◌≡◌, ◌≢◌, ◌↔◌, [], IsTrue, IfOk, IfErr, IfSome, IfNone, OnErr};
-    ghost use Rattle.swh_trees.specs.Grove.{map_of, IsTree, Keeps, StandsFor};
+    ghost use Rattle.swh_trees.specs.Grove.{map_of, IsTree, Keeps, StandsFor, no_trees};
+    ghost use Rattle.swh_trees.specs.Bound.{IsBounded, IsBoundedByOne, IsEmptied};
     ghost use Rattle.swh_folders.specs.Leaf.{IsLeafMode};
     ghost use Rattle.swh_trees.specs.Makes.{Makes, ExplainsTree};
     ghost use Rattle.swh_fastlex.specs.Path.{components, IsPath};
@@ -120,11 +124,13 @@ impl<N: Namer> Trees<N> {
 
     /// No tree but the empty one.
     pub fn new(alloc: Global, namer: N) -> Trees<N>
-        ensures { result ≡ record { folders = []; made = 0 } }
+        ensures { result ≡ no_trees }
     {
+        let mut folders = Folders::new(alloc);
+        folders.most = SPARE;
         Trees {
             namer,
-            folders: Folders::new(alloc),
+            folders,
             opened: None,
             ids: Vec::new(alloc),
             empty: None,
@@ -153,6 +159,7 @@ impl<N: Namer> Trees<N> {
         requires mode { IsLeafMode leaf.mode }
         ensures keeps { Keeps self.old self.new }
         ensures map { IfOk result (λ t. StandsFor self.new t (set (components path.now) leaf (map_of self.old tree))) }
+        ensures bounded { IfOk result (λ t. IsBoundedByOne self.old self.new) }
     {
         let whole = Leaf {
             mode: leaf.mode,
@@ -173,6 +180,7 @@ impl<N: Namer> Trees<N> {
         requires path { IsPath path.now }
         ensures keeps { Keeps self.old self.new }
         ensures map { IfOk result (λ t. StandsFor self.new t (delete (components path.now) (map_of self.old tree))) }
+        ensures bounded { IfOk result (λ t. IsBoundedByOne self.old self.new) }
     {
         let base = self.ids.len();
         let start = start_with(self.opened.take(), tree.number, self.folders.nodes.len());
@@ -201,6 +209,7 @@ impl<N: Namer> Trees<N> {
         ensures some { IfOk result (λ o. IfSome o (λ t. held (components source.now) (map_of self.old tree) ≢ [])) }
         ensures map { IfOk result (λ o. IfSome o (λ t. StandsFor self.new t
             (copy (components source.now) (components target.now) (map_of self.old tree)))) }
+        ensures bounded { IfOk result (λ o. IfSome o (λ t. IsBounded self.old self.new (map_of self.new t))) }
     {
         self.transfer(alloc, tree, source, target, Transfer::Copy)
     }
@@ -224,6 +233,7 @@ impl<N: Namer> Trees<N> {
         ensures some { IfOk result (λ o. IfSome o (λ t. held (components source.now) (map_of self.old tree) ≢ [])) }
         ensures map { IfOk result (λ o. IfSome o (λ t. StandsFor self.new t
             (rename (components source.now) (components target.now) (map_of self.old tree)))) }
+        ensures bounded { IfOk result (λ o. IfSome o (λ t. IsBounded self.old self.new (map_of self.new t))) }
     {
         self.transfer(alloc, tree, source, target, Transfer::Rename)
     }
@@ -246,6 +256,7 @@ impl<N: Namer> Trees<N> {
         ensures some { IfOk result (λ o. IfSome o (λ t. held (components source.now) (map_of self.old tree) ≢ [])) }
         ensures map { IfOk result (λ o. IfSome o (λ t. StandsFor self.new t
             (transferred way (components source.now) (components target.now) (map_of self.old tree)))) }
+        ensures bounded { IfOk result (λ o. IfSome o (λ t. IsBounded self.old self.new (map_of self.new t))) }
     {
         let base = self.ids.len();
         let start = start_with(self.opened.take(), tree.number, self.folders.nodes.len());
@@ -268,6 +279,7 @@ impl<N: Namer> Trees<N> {
         ensures makes { IfOk result (λ m. Makes N.id_of self.old self.new (map_of self.old tree) m.tree m.id
             m.objects.items) }
         ensures keeps { OnErr result (Keeps self.old self.new) }
+        ensures bounded { IfOk result (λ m. IsEmptied self.new) }
         ensures err { IfErr result (ExplainsTree N.id_of (map_of self.old tree)) }
     {
         let base = self.ids.len();

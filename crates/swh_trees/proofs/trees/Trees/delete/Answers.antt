@@ -1,7 +1,9 @@
 use Rattle.std.proofs.Common.{rules, ◌≡◌, length, ap, ◌∙◌}
 use Rattle.swh_fastlex.specs.Path.{components}
 use Rattle.swh_folders.specs.PathMap.{delete}
+use Rattle.swh_folders.specs.Opened.{root_of_start}
 use Rattle.swh_folders.specs.Working.{count_of}
+use Rattle.swh_trees.proofs.Bounds.{start-root, stays-seen}
 use Rattle.swh_trees.proofs.Parts.{keeps-seen, stands-start, start-of}
 use Rattle.swh_trees.proofs.trees.Trees.delete.Goals as goal
 
@@ -31,3 +33,9 @@ returns-clause-map g c =
     let start = start-of _ a c.self.inside.opened c.take.result ids c.args.tree c.len.result c.start_with-start.result c.self.view_is c.self.invariant.opens c.requires.tree n c.take.ensures.value c.start_with-start.ensures in
     rw c.parts_of-number.ensures.opened (stands-start b c.in_ok-left.left ids _ _ c.in_ok-left.ensures.start (c.parts_of-number.ensures.number b last)
     (c.in_ok-left.ensures.map ∙ ap (delete (components c.args.path.now)) start.1))
+
+pub returns-clause-bounded : goal.returns-clause-bounded
+returns-clause-bounded g c =
+    let ids = c.self.inside.ids.items in
+    let base : c.len-base.result ≡ length c.self.inside.ids.items = search rules in
+    stays-seen _ c.self.inside.folders c.delete_in.new.folders c.self.inside.opened _ ids c.len-base.result (root_of_start c.in_ok-left.left) c.self.view_is base c.delete_in.ensures.stays.good (start-root c.delete_in.new.folders c.in_ok-left.left c.in_ok-left.ensures.start) c.in_ok-left.ensures.bounded

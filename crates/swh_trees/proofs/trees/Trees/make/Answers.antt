@@ -7,6 +7,7 @@ use Rattle.std.proofs.lemmas.List.{get_or_default}
 use Rattle.std.proofs.lemmas.Result.{err_from_is_err_and}
 use Rattle.swh_trees.specs.Makes.{Makes, ExplainsTree}
 use Rattle.swh_folders.proofs.Workings.{stays-on}
+use Rattle.swh_trees.proofs.Bounds.{emptied}
 use Rattle.swh_trees.proofs.Parts.{bare-stays, keeps-seen, keeps-stays, on-err, explained, IsMaking, makes-done, makes-from, start-of}
 use Rattle.swh_trees.proofs.trees.Trees.make.Goals as goal
 
@@ -47,7 +48,7 @@ returns-in_err-number-clause-keeps g c =
     let ids = c.self.inside.ids.items in
     let n : c.len-base.result ≡ length ids = search rules in
     let first = subst (λ (k : ℕ). StaysBelow k a b) n (stays-on c.len-base.result a c.root_from.new.folders b c.root_from.ensures.stays c.root_number.ensures.stays) in
-    on-err c.from_residual-in_err-number.result (subst (λ (v : Grove). Keeps v (grove d.names.items d.nodes.items c.take.new.self c.make_folders.new.ids.items)) c.self.view_is
+    on-err c.from_residual-in_err-number.result (subst (λ (v : Grove). Keeps v (grove d c.take.new.self c.make_folders.new.ids.items)) c.self.view_is
     (keeps-stays a d c.self.inside.opened _ ids c.make_folders.new.ids.items c.self.invariant.within (stays-on (length ids) a b d first c.make_folders.ensures.stays) (ap length c.in_err-number.ensures.none_made)))
 
 pub returns-in_err-number-clause-err : goal.returns-in_err-number-clause-err
@@ -88,6 +89,9 @@ returns-clause-makes g c =
       parts = c.in_ok-number.ensures.parts;
     } in
     let done = makes-done g.N.Namer.id_of closed b d ids ids' c.in_ok-there.there c.in_ok-root.root c.in_ok-number.number c.kept-empty.result.0 c.index-id.result.now c.in_ok-number.objects.items stays.good stays.long making c.in_ok-root.ensures.same all c.make_folders.ensures.known c.in_ok-number.ensures.each c.in_ok-number.ensures.objects own c.kept-empty.ensures.tree in
-    let from = makes-from g.N.Namer.id_of a closed c.self.inside.opened ids (grove d.names.items d.nodes.items None ids') (root_map closed c.in_ok-there.there) c.kept-empty.result.0 c.index-id.result.now c.in_ok-number.objects.items c.self.invariant.within stays done in
-    rw c.take.ensures.after (subst (λ (v : Grove). Makes g.N.Namer.id_of v (grove d.names.items d.nodes.items None ids') (map_of c.args.self.now c.args.tree) c.kept-empty.result.0 c.index-id.result.now c.in_ok-number.objects.items) c.self.view_is
-    (subst (λ (m : PathMap). Makes g.N.Namer.id_of (grove a.names.items a.nodes.items c.self.inside.opened ids) (grove d.names.items d.nodes.items None ids') m c.kept-empty.result.0 c.index-id.result.now c.in_ok-number.objects.items) before from))
+    let from = makes-from g.N.Namer.id_of a closed c.self.inside.opened ids (grove d None ids') (root_map closed c.in_ok-there.there) c.kept-empty.result.0 c.index-id.result.now c.in_ok-number.objects.items c.self.invariant.within stays done in
+    rw c.take.ensures.after (subst (λ (v : Grove). Makes g.N.Namer.id_of v (grove d None ids') (map_of c.args.self.now c.args.tree) c.kept-empty.result.0 c.index-id.result.now c.in_ok-number.objects.items) c.self.view_is
+    (subst (λ (m : PathMap). Makes g.N.Namer.id_of (grove a c.self.inside.opened ids) (grove d None ids') m c.kept-empty.result.0 c.index-id.result.now c.in_ok-number.objects.items) before from))
+
+pub returns-clause-bounded : goal.returns-clause-bounded
+returns-clause-bounded g c = rw c.take.ensures.after (emptied c.make_folders.new.folders c.make_folders.new.ids.items c.in_ok-number.ensures.all c.in_ok-number.ensures.most)

@@ -4,6 +4,7 @@ use Rattle.swh_entries.specs.declared.entry.Leaf.{Leaf}
 use Rattle.swh_folders.specs.Opened.{start_map}
 use Rattle.swh_folders.specs.PathMap.{set}
 use Rattle.swh_folders.specs.Working.{count_of}
+use Rattle.swh_trees.proofs.Bounds.{stays-seen}
 use Rattle.swh_trees.proofs.Parts.{keeps-seen, stands-open, start-of}
 use Rattle.swh_trees.proofs.trees.Trees.set.Goals as goal
 
@@ -35,3 +36,9 @@ returns-clause-map g c =
     let whole : record { mode = c.args.leaf.mode; id = c.whole_id.result } ≡ c.args.leaf = ap (λ (i : List ℕ). record { mode = c.args.leaf.mode; id = i }) c.whole_id.ensures.same in
     stands-open b c.in_ok-opened.opened ids _ _ (ap Some last)
     (c.in_ok-opened.ensures.map ∙ ap (λ (l : Leaf). set p l (start_map a c.start_with-start.result)) whole ∙ ap (set p c.args.leaf) start.1)
+
+pub returns-clause-bounded : goal.returns-clause-bounded
+returns-clause-bounded g c =
+    let ids = c.self.inside.ids.items in
+    let base : c.len-base.result ≡ length c.self.inside.ids.items = search rules in
+    stays-seen _ c.self.inside.folders c.set_in.new.folders c.self.inside.opened (Some c.in_ok-opened.opened) ids c.len-base.result c.in_ok-opened.opened.root c.self.view_is base c.set_in.ensures.stays.good c.in_ok-opened.ensures.opened.root c.in_ok-opened.ensures.bounded

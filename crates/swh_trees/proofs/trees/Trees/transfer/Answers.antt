@@ -3,6 +3,7 @@ use Rattle.swh_fastlex.specs.Path.{components}
 use Rattle.swh_folders.specs.PathMap.{PathMap, held}
 use Rattle.swh_folders.specs.Transfer.{transferred}
 use Rattle.swh_folders.specs.Working.{count_of}
+use Rattle.swh_trees.proofs.Bounds.{bounded-seen}
 use Rattle.swh_trees.proofs.Parts.{keeps-seen, number-start, stands-for, stands-start, start-of}
 use Rattle.swh_trees.proofs.trees.Trees.transfer.Goals as goal
 
@@ -59,3 +60,9 @@ returns-in-Err-clause-left g c =
     let number = number-start a c.self.inside.opened c.take.result c.args.tree.number c.len.result c.start_with-start.result n c.take.ensures.value c.start_with-start.ensures in
     rw c.parts_of-opened.ensures.opened (stands-start b c.in-Err.left ids c.args.tree _ (rw c.in-Err.is at c.in_ok-moved.ensures.left) (sym ((rw c.in-Err.is at c.in_ok-moved.ensures.number) ∙ number))
     ((rw c.in-Err.is at c.in_ok-moved.ensures.same) ∙ start.1))
+
+pub returns-in-Ok-clause-bounded : goal.returns-in-Ok-clause-bounded
+returns-in-Ok-clause-bounded g c =
+    let ids = c.self.inside.ids.items in
+    let base : c.len-base.result ≡ length c.self.inside.ids.items = search rules in
+    rw c.take.ensures.after (bounded-seen _ c.self.inside.folders c.transfer_from.new.folders c.self.inside.opened ids c.len-base.result (record { number = c.in-Ok.number }) c.self.view_is base c.transfer_from.ensures.stays.good (rw c.in-Ok.is at c.in_ok-moved.ensures.inside) (rw c.in-Ok.is at c.in_ok-moved.ensures.bounded))
