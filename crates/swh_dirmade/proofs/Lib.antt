@@ -1,0 +1,11 @@
+pub mod Built
+pub mod Directories
+pub mod Entries
+pub mod Givens
+pub mod Heads
+pub mod Lengths
+pub mod Numbers
+pub mod Paths
+pub mod Sorting
+pub mod SpotTables
+pub mod Trees

@@ -1,0 +1,9 @@
+pub mod Building
+pub mod Directories
+pub mod Giving
+pub mod Making
+pub mod Numbers
+pub mod Paths
+pub mod Sizes
+pub mod Snapshots
+pub mod Spots
