@@ -1,0 +1,4 @@
+pub mod Cook
+pub mod Listing
+pub mod Made
+pub mod Rules
