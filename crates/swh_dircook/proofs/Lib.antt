@@ -1,0 +1,3 @@
+pub mod DotNames
+pub mod Reread
+pub mod YardParts

@@ -1,0 +1,8 @@
+use Rattle.std.specs.Prelude.{Contains}
+use Rattle.std.proofs.Common.{take}
+use Rattle.std.specs.Str.{IsUtf8}
+use Rattle.swh_dirfmt.specs.declared.entry.SpelledEntry.{SpelledEntry}
+use Rattle.swh_dircook.proofs.names.first_other.Given as goal
+
+abbrev pub invariant-loop-entry : goal.invariant-loop-entry
+invariant-loop-entry l = (e : SpelledEntry) → Contains (take l.entry-index l.entries) e → IsUtf8 e.name.now

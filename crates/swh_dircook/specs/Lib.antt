@@ -1,0 +1,5 @@
+pub mod Cook
+pub mod Listing
+pub mod Made
+pub mod Names
+pub mod Rules
