@@ -26,15 +26,19 @@ broken_fails tells Breaks start end old new fault past within low above below =
       | inr less ↦ subst (λ (f : BatchFault). Fails tells MayBreakBatch Breaks old new f) (sym (within less)) (record { possible = low; told = λ t. below t less })
     ]
 
+-- one way to break is another, whatever a source tells
+pub fails_as : (tells : Type 0) (May More B C : BatchFault → Type 0) (old middle new : ℕ) (fault : BatchFault) → ((f : BatchFault) → May f → More f) → (tells → (f : BatchFault) → B f → C f) → middle ≡ old → Fails tells May B middle new fault → Fails tells More C old new fault
+fails_as tells May More B C old middle new ReadFault may so same h = subst (λ (n : ℕ). Rose n new) same h
+fails_as tells May More B C old middle new Memory may so same h = tt
+fails_as tells May More B C old middle new (BadBatch at) may so same h = record { possible = may (BadBatch at) h.possible; told = λ t. so t (BadBatch at) (h.told t) }
+fails_as tells May More B C old middle new (WrongName given got) may so same h = record { possible = may (WrongName given got) h.possible; told = λ t. so t (WrongName given got) (h.told t) }
+fails_as tells May More B C old middle new (BadRefs line) may so same h = record { possible = may (BadRefs line) h.possible; told = λ t. so t (BadRefs line) (h.told t) }
+fails_as tells May More B C old middle new (NoObject id) may so same h = record { possible = may (NoObject id) h.possible; told = λ t. so t (NoObject id) (h.told t) }
+fails_as tells May More B C old middle new (Limit which number) may so same h = record { possible = may (Limit which number) h.possible; told = λ t. so t (Limit which number) (h.told t) }
+
 -- other ways to break, and an earlier count of faults
 pub fails_in : (tells : Type 0) (May B C : BatchFault → Type 0) (old middle new : ℕ) (fault : BatchFault) → (tells → (f : BatchFault) → B f → C f) → middle ≡ old → Fails tells May B middle new fault → Fails tells May C old new fault
-fails_in tells May B C old middle new ReadFault so same h = subst (λ (n : ℕ). Rose n new) same h
-fails_in tells May B C old middle new Memory so same h = tt
-fails_in tells May B C old middle new (BadBatch at) so same h = record { possible = h.possible; told = λ t. so t (BadBatch at) (h.told t) }
-fails_in tells May B C old middle new (WrongName given got) so same h = record { possible = h.possible; told = λ t. so t (WrongName given got) (h.told t) }
-fails_in tells May B C old middle new (BadRefs line) so same h = record { possible = h.possible; told = λ t. so t (BadRefs line) (h.told t) }
-fails_in tells May B C old middle new (NoObject id) so same h = record { possible = h.possible; told = λ t. so t (NoObject id) (h.told t) }
-fails_in tells May B C old middle new (Limit which number) so same h = record { possible = h.possible; told = λ t. so t (Limit which number) (h.told t) }
+fails_in tells May B C old middle new fault so same h = fails_as tells May May B C old middle new fault (λ f m. m) so same h
 
 -- ## Lines
 

@@ -17,7 +17,7 @@ use Rattle.swh_made.specs.Whole.{names_of, HasChildrenAmong}
 use Rattle.swh_made.proofs.Elements.{first_is, later_is}
 use Rattle.swh_batchread.specs.declared.names.Names.{Names}
 use Rattle.swh_batchread.specs.Refs.{kind_at, HasId}
-use Rattle.swh_batchread.specs.RefsFault.{IsFirstLacking, Lacks, kids_of}
+use Rattle.swh_batchread.specs.RefsFault.{IsFirstLacking, Lacks, LacksKid, kids_of}
 use Rattle.swh_batchread.specs.RefSteps.{kind_in, HasIdIn, either, LeadsFirst, KnowsNames, LacksIn}
 use Rattle.swh_batchread.proofs.RefsHeld.{push_iff, either_in}
 
@@ -187,3 +187,8 @@ lacks names known ids objects id k (inl h) = inl (first_with (HasIdIn known.firs
 lacks names known ids objects id k (inr h) =
     let lack = h.1 in
     inr (ids_there names known ids k h.0, record { kid = lack.kid; first = first_with (Contains known.all) (Contains names) (kids_of objects) lack.kid (λ n. (k.all n).0) (λ n. (k.all n).1) lack.first; id_is = lack.id_is })
+
+-- an id that is lacking is one that no name has, or that of the first child that is no name
+pub may_lack : (names : List Name) (ids : List (List ℕ)) (objects : List Entry) (id : List ℕ) → Lacks names ids objects id → (HasId names id → ⊥) ⊎ LacksKid names objects id
+may_lack names ids objects id (inl h) = inl h.none
+may_lack names ids objects id (inr h) = inr h.1

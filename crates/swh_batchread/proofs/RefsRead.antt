@@ -15,20 +15,20 @@ use Rattle.swh_batchread.specs.declared.refs.Refs.{Refs}
 use Rattle.swh_batchread.specs.Batch.{input_limit}
 use Rattle.swh_batchread.specs.Failing.{Fails}
 use Rattle.swh_batchread.specs.Refs.{RefLine, ref_text, refs_text, MayFollowRefs, AreRefLines}
-use Rattle.swh_batchread.specs.RefsFault.{LineIsLong, PassesInput, LineBreaks, RefBreaks, BreaksLines, MayBreakRefs}
+use Rattle.swh_batchread.specs.RefsFault.{LineIsLong, PassesInput, LineBreaks, RefBreaks, BreaksLines, MayBreakLines}
 use Rattle.swh_batchread.specs.RefSteps.{told, Holds, TakesLine, HasLines, GivesLines}
 use Rattle.swh_batchread.proofs.Breaking.{whole_line, found_line}
 
 -- ## Where no line is given
 
-fails_input : (tells : Type 0) (number at : ℕ) (text : List ℕ) (old new : ℕ) → (tells → PassesInput at text) → Fails tells MayBreakRefs (LineBreaks number at text) old new (Limit Stream (input_limit + 1))
+fails_input : (tells : Type 0) (number at : ℕ) (text : List ℕ) (old new : ℕ) → (tells → PassesInput at text) → Fails tells MayBreakLines (LineBreaks number at text) old new (Limit Stream (input_limit + 1))
 fails_input tells number at text old new passes = record { possible = inl (refl, refl); told = λ t. inl ((refl, refl), passes t) }
 
 long_is : (before now : Held) (left left_now : List ℕ) → IsLongLine line_limit before now left left_now → LineIsLong (unread before left)
 long_is before now left left_now c = record { line = c.front; rest = unread now left_now; cut = c.taken.cut; no_feed = c.no_feed; long = c.long; more = c.more }
 
 cut_row : (tells : Type 0) (before now : Held) (left left_now : List ℕ) (number old new : ℕ) (b : Bool) → nat_lt input_limit now.place ≡ b → 1 ≤ number → number ≤ input_limit + 1 → (tells → IsCutLine line_limit before now left left_now)
-    → Fails tells MayBreakRefs (LineBreaks number before.place (unread before left)) old new (if b then Limit Stream (input_limit + 1) else BadRefs number)
+    → Fails tells MayBreakLines (LineBreaks number before.place (unread before left)) old new (if b then Limit Stream (input_limit + 1) else BadRefs number)
 cut_row tells before now left left_now number old new true e low high cut =
     let above = ltb-true input_limit now.place e in
     fails_input tells number before.place (unread before left) old new (λ t. let c = cut t in inl (record { line = unread before left; first = whole_line (unread before left) c.no_feed c.short; above = omega (arith, c.counted, above) }))
@@ -37,7 +37,7 @@ cut_row tells before now left left_now number old new false e low high cut =
     record { possible = (low, high); told = λ t. let c = cut t in (refl, record { some = c.some; no_feed = c.no_feed; short = c.short; within = omega (arith, c.counted, below) }) }
 
 long_row : (tells : Type 0) (before now : Held) (left left_now : List ℕ) (number old new : ℕ) (b : Bool) → nat_lt now.place input_limit ≡ b → (tells → IsLongLine line_limit before now left left_now)
-    → Fails tells MayBreakRefs (LineBreaks number before.place (unread before left)) old new (if b then Limit Line (line_limit + 1) else Limit Stream (input_limit + 1))
+    → Fails tells MayBreakLines (LineBreaks number before.place (unread before left)) old new (if b then Limit Line (line_limit + 1) else Limit Stream (input_limit + 1))
 long_row tells before now left left_now number old new true e long =
     let below = ltb-true now.place input_limit e in
     record { possible = inr (inl (refl, refl)); told = λ t. let c = long t in let took = c.taken in inr (refl, refl, (omega (arith, took.counted, c.long, below), long_is before now left left_now c)) }
@@ -47,7 +47,7 @@ long_row tells before now left left_now number old new false e long =
 
 -- why no line is given
 pub row_told : (tells : Type 0) (before now : Held) (left left_now : List ℕ) (number old new : ℕ) (fault : LineFault) → 1 ≤ number → number ≤ input_limit + 1 → (fault ≡ Failed → Rose old new) → (tells → fault ≡ End → IsCutLine line_limit before now left left_now) → (tells → fault ≡ Long → IsLongLine line_limit before now left left_now)
-    → Fails tells MayBreakRefs (LineBreaks number before.place (unread before left)) old new (told fault now.place number)
+    → Fails tells MayBreakLines (LineBreaks number before.place (unread before left)) old new (told fault now.place number)
 row_told tells before now left left_now number old new Failed low high rose cut long = rose refl
 row_told tells before now left left_now number old new End low high rose cut long = cut_row tells before now left left_now number old new (nat_lt input_limit now.place) refl low high (λ t. cut t refl)
 row_told tells before now left left_now number old new Long low high rose cut long = long_row tells before now left left_now number old new (nat_lt now.place input_limit) refl (λ t. long t refl)
@@ -55,7 +55,7 @@ row_told tells before now left left_now number old new NoRoom low high rose cut 
 
 -- a line that ends above the limit of a file
 pub row_over : (tells : Type 0) (before now : Held) (left left_now line : List ℕ) (number old new : ℕ) → IsLine line → length line ≤ line_limit → (tells → Takes before now left left_now line) → input_limit < now.place
-    → Fails tells MayBreakRefs (LineBreaks number before.place (unread before left)) old new (Limit Stream (input_limit + 1))
+    → Fails tells MayBreakLines (LineBreaks number before.place (unread before left)) old new (Limit Stream (input_limit + 1))
 row_over tells before now left left_now line number old new is short taken above =
     fails_input tells number before.place (unread before left) old new (λ t. let took = taken t in inl (record { line = line; first = found_line (unread before left) line (unread now left_now) took.cut is short; above = omega (arith, took.counted, above) }))
 

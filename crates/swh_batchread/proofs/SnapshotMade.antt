@@ -1,6 +1,7 @@
 -- The snapshot of refs: its branches, and that all that is named is there.
-use Rattle.std.specs.Prelude.{not, filter, Result, Ok, Err, IfErr}
-use Rattle.std.proofs.Common.{◌≡◌, ◌⊎◌, inl, inr, ℕ, ◌≤◌, Bool, true, false, cond, Option, Some, None, List, [], ◌∷◌, ◌++◌, length, map, Contains, refl, sym, ap, ◌∙◌, subst, append_assoc}
+use Rattle.std.specs.Prelude.{not, filter, Result, Ok, Err, IfErr, decimal}
+use Rattle.std.proofs.Common.{◌≡◌, ◌⊎◌, inl, inr, ℕ, ◌+◌, ◌≤◌, Bool, true, false, cond, Option, Some, None, List, [], ◌∷◌, ◌++◌, length, map, Contains, refl, sym, ap, ◌∙◌, subst, arith, append_assoc, length-append}
+use Rattle.std.specs.Fmt.{digits}
 use Rattle.std.specs.Global.{Vec}
 use Rattle.std.specs.declared.cmp.Ordering.TheVariants.{Less}
 use Rattle.std.specs.Ordering.{nat_cmp}
@@ -14,7 +15,8 @@ use Rattle.swh_base.specs.declared.kind.Kind.TheVariants.{Snapshot}
 use Rattle.swh_base.specs.declared.name.Name.{Name}
 use Rattle.swh_base.specs.Limits.{body_limit}
 use Rattle.swh_base.specs.Manifest.{AreChildren, IsWellFormed}
-use Rattle.swh_base.specs.Snapshot.{SnapshotBranch, BranchIsBefore, AreBranches, snapshot_text, branch_child, snapshot_name}
+use Rattle.swh_base.specs.Name.{IsId}
+use Rattle.swh_base.specs.Snapshot.{SnapshotBranch, target_kind_word, BranchIsBefore, AreBranches, branch_text, snapshot_text, branch_child, snapshot_name}
 use Rattle.swh_base.proofs.Children.{one_list}
 use Rattle.swh_object.specs.Object.{IsObject}
 use Rattle.swh_made.specs.Making.{made_from, object_of}
@@ -22,13 +24,14 @@ use Rattle.swh_made.specs.Whole.{names_of, HasChildrenAmong, AreWhole, HasAllTha
 use Rattle.swh_made.specs.declared.objects.Objects.{Objects}
 use Rattle.swh_made.proofs.Elements.{first_or_later, first_is, later_is, none_is, all_from, all_push, all_as}
 use Rattle.std.proofs.lemmas.List.{append-nil, map-append}
+use Rattle.std.proofs.lemmas.List.Concat.{flat_map-append}
 use Rattle.std.proofs.lemmas.List.Elements.{Contains-append_left, Contains-push, filter_map-append}
 use Rattle.swh_batchread.specs.declared.fault.BatchFault.{BatchFault}
 use Rattle.swh_batchread.specs.declared.fault.BatchFault.TheVariants.{BadBatch, WrongName, BadRefs, NoObject, Limit, ReadFault, Memory}
 use Rattle.swh_batchread.specs.declared.names.Names.{Names}
 use Rattle.swh_batchread.specs.declared.refs.Refs.{Refs}
 use Rattle.swh_batchread.specs.Refs.{RefLine, IsRefLine, AreRefLines, is_peeled, kept_refs, ref_ids, kind_at, HasId, branch_to, branch_with, branch_of, AreBranchesOf, AreAllThere, GivesSnapshot}
-use Rattle.swh_batchread.specs.RefsFault.{SnapshotBreaks, Lacks}
+use Rattle.swh_batchread.specs.RefsFault.{SnapshotBreaks, MayBreakSnapshot, Lacks}
 use Rattle.swh_batchread.specs.RefSteps.{line_at, kind_in, HasIdIn, Ascend, AreHeld, Holds, KnowsNames, LacksSome, PassesBody}
 use Rattle.swh_batchread.proofs.NamesKnown.{name_with, kind_found, ids_there, children_there}
 
@@ -245,6 +248,16 @@ lacks_breaks objects rs ids Memory e h = absurd h
 pub lacks_breaks_of : (objects others : List Entry) (rs : List RefLine) (ids own : List (List ℕ)) (fault : BatchFault) → others ≡ objects → ids ≡ own → own ≡ ref_ids rs → LacksSome (names_of others) ids others fault → SnapshotBreaks rs objects fault
 lacks_breaks_of objects others rs ids own fault same e held h = lacks_breaks objects rs ids fault (e ∙ held) (subst (λ (es : List Entry). LacksSome (names_of es) ids es fault) same h)
 
+-- a snapshot that is too long is one that some objects have
+pub may_pass : (objects : List Entry) (body : List ℕ) (fault : BatchFault) → PassesBody body fault → MayBreakSnapshot objects fault
+may_pass objects body (Limit which number) p = (p.0, p.2)
+may_pass objects body (BadBatch at) p = absurd p
+may_pass objects body (WrongName given got) p = absurd p
+may_pass objects body (BadRefs line) p = absurd p
+may_pass objects body (NoObject id) p = absurd p
+may_pass objects body ReadFault p = absurd p
+may_pass objects body Memory p = absurd p
+
 -- an error of each count of faults
 pub err_each : {T E : Type 0} (P : ℕ → E → Type 0) (Q : E → Type 0) (r : Result T E) → ((n : ℕ) → IfErr r (P n)) → ((e : E) → ((n : ℕ) → P n e) → Q e) → IfErr r Q
 err_each P Q (Ok x) h f = tt
@@ -268,3 +281,27 @@ long_breaks objects known rs refs (BadRefs line) knows are held ids kids ascend 
 long_breaks objects known rs refs (NoObject id) knows are held ids kids ascend p = absurd p
 long_breaks objects known rs refs ReadFault knows are held ids kids ascend p = absurd p
 long_breaks objects known rs refs Memory knows are held ids kids ascend p = absurd p
+
+-- the bytes of some branches, and of more behind them
+pub bytes_push : (bs added new : List SnapshotBranch) (n m : ℕ) → n ≡ length (snapshot_text bs) → m ≡ length (snapshot_text added) → new ≡ bs ++ added → n + m ≡ length (snapshot_text new)
+bytes_push bs added new n m e f s = omega (arith, e, f, ap (λ (xs : List SnapshotBranch). length (snapshot_text xs)) s, ap length (flat_map-append branch_text bs added), length-append (snapshot_text bs) (snapshot_text added))
+
+-- how many bytes a branch to an object has: its kind's word, a space, its name, a NUL, `20:` and the id
+pub frame_bytes : (r : RefLine) (kind : Kind) (n : ℕ) → IsId r.id → length (target_kind_word kind) + 25 ≡ n → length (branch_text (branch_to r kind)) ≡ length r.name + n
+unfolding digits
+frame_bytes r kind n is e =
+    let l : length r.id ≡ 20 = is.0 in
+    let d : length (decimal (length r.id)) ≡ 2 = ap (λ (m : ℕ). length (decimal m)) l in
+    omega (
+      arith,
+      l,
+      d,
+      e,
+      length-append (target_kind_word kind) (32 ∷ (r.name ++ 0 ∷ (decimal (length r.id) ++ 58 ∷ r.id))),
+      length-append r.name (0 ∷ (decimal (length r.id) ++ 58 ∷ r.id)),
+      length-append (decimal (length r.id)) (58 ∷ r.id),
+    )
+
+-- the bytes of one branch
+pub bytes_of_one : (f : List ℕ → Option Kind) (r : RefLine) (kind : Kind) (a b : ℕ) → f r.id ≡ Some kind → a ≡ length r.name → length (branch_text (branch_to r kind)) ≡ length r.name + b → a + b ≡ length (snapshot_text (filter_map (branch_with f) (r ∷ [])))
+bytes_of_one f r kind a b e n l = subst (λ (o : Option Kind). a + b ≡ length (snapshot_text (cons_option (option_map (branch_to r) o) []))) (sym e) (omega (arith, n, l, length-append (branch_text (branch_to r kind)) []))

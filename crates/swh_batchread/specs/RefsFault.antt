@@ -139,15 +139,30 @@ SnapshotBreaks refs objects Memory = ⊥
 abbrev pub BreaksRefs : List ℕ → List Entry → BatchFault → Type 0
 BreaksRefs text objects fault = BreaksLines text fault ⊎ ((refs : List RefLine) × AreRefs text refs × SnapshotBreaks refs objects fault)
 
--- Some refs may break so, whatever their source tells.
-abbrev pub MayBreakRefs : BatchFault → Type 0
-MayBreakRefs (BadRefs line) = (1 ≤ line) × (line ≤ input_limit + 1)
-MayBreakRefs (NoObject id) = Unit {0}
-MayBreakRefs (Limit which number) = IsPastInput which number ⊎ (((which ≡ Line) × (number ≡ line_limit + 1)) ⊎ (((which ≡ Refs) × (number ≡ refs_limit + 1)) ⊎ ((which ≡ Body) × (body_limit < number))))
-MayBreakRefs (BadBatch at) = ⊥
-MayBreakRefs (WrongName given got) = ⊥
-MayBreakRefs ReadFault = ⊥
-MayBreakRefs Memory = ⊥
+-- Some line of refs may break so, whatever their source tells.
+abbrev pub MayBreakLines : BatchFault → Type 0
+MayBreakLines (BadRefs line) = (1 ≤ line) × (line ≤ input_limit + 1)
+MayBreakLines (Limit which number) = IsPastInput which number ⊎ (((which ≡ Line) × (number ≡ line_limit + 1)) ⊎ ((which ≡ Refs) × (number ≡ refs_limit + 1)))
+MayBreakLines (NoObject id) = ⊥
+MayBreakLines (BadBatch at) = ⊥
+MayBreakLines (WrongName given got) = ⊥
+MayBreakLines ReadFault = ⊥
+MayBreakLines Memory = ⊥
+
+-- These objects may have no snapshot, whatever refs lead to them: a ref leads to an id that none of them has, or this is the id of
+-- their first child that is none of them; or the snapshot is too long.
+abbrev pub MayBreakSnapshot : List Entry → BatchFault → Type 0
+MayBreakSnapshot objects (NoObject id) = (HasId (names_of objects) id → ⊥) ⊎ LacksKid (names_of objects) objects id
+MayBreakSnapshot objects (Limit which number) = (which ≡ Body) × (body_limit < number)
+MayBreakSnapshot objects (BadRefs line) = ⊥
+MayBreakSnapshot objects (BadBatch at) = ⊥
+MayBreakSnapshot objects (WrongName given got) = ⊥
+MayBreakSnapshot objects ReadFault = ⊥
+MayBreakSnapshot objects Memory = ⊥
+
+-- Some refs of these objects may break so, whatever their source tells.
+abbrev pub MayBreakRefs : List Entry → BatchFault → Type 0
+MayBreakRefs objects fault = MayBreakLines fault ⊎ MayBreakSnapshot objects fault
 
 module _ {S : Type 0} (sources : Sources S) (s : S) where
   -- Where the source tells what is left of it, with these objects those bytes give this.
@@ -157,4 +172,4 @@ module _ {S : Type 0} (sources : Sources S) (s : S) where
   -- Why a source, `s` before the reading and `now` after it, gives no snapshot of these objects: what was left of it breaks so, or
   -- it failed and its count of faults rose, or memory ran out.
   abbrev pub ExplainsRefs : List Entry → S → BatchFault → Type 0
-  ExplainsRefs objects now fault = Fails sources.tells MayBreakRefs (BreaksRefs (sources.left s) objects) (sources.faults s) (sources.faults now) fault
+  ExplainsRefs objects now fault = Fails sources.tells (MayBreakRefs objects) (BreaksRefs (sources.left s) objects) (sources.faults s) (sources.faults now) fault

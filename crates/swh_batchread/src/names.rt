@@ -6,7 +6,7 @@ ghost use Rattle.swh_object.specs.Object.{IsObject};
 ghost use Rattle.swh_made.specs.Whole.{names_of, HasChildrenAmong};
 ghost use Rattle.swh_batchread.specs.Failing.{Fails};
 ghost use Rattle.swh_batchread.specs.RefSteps.{LeadsFirst, KnowsNames, HasIdIn, LacksIn, LacksSome};
-ghost use Rattle.swh_batchread.specs.RefsFault.{IsFirstLacking, MayBreakRefs, kids_of};
+ghost use Rattle.swh_batchread.specs.RefsFault.{IsFirstLacking, MayBreakSnapshot, kids_of};
 
 use crate::fault::BatchFault;
 use std::alloc::Global;
@@ -130,7 +130,7 @@ pub fn whole_names<N: Namer>(
     ensures ids { IfOk result (λ names. AllByRecursion (HasIdIn names.first.entries) ids.now) }
     ensures kids { IfOk result (λ names. AllByRecursion (HasChildrenAmong names.all) objects.now) }
     ensures good { OnOk result (AllByRecursion (IsObject N.id_of) objects.now) }
-    ensures err { (faults : ℕ) → IfErr result (Fails (Unit {0}) MayBreakRefs
+    ensures err { (faults : ℕ) → IfErr result (Fails (Unit {0}) (MayBreakSnapshot objects.now)
         (LacksSome (names_of objects.now) ids.now objects.now) faults faults) }
 {
     let names = names_of(alloc, objects)?;

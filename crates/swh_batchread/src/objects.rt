@@ -152,6 +152,7 @@ fn read_objects<N: Namer, S: Source>(
 /// `BadBatch` at the first byte of the first header whose object breaks: its header, its body, the LF behind it or the grammar
 /// of its kind; `WrongName` where that is good, and its id is another one; `Limit` where a body is above 67,108,864
 /// bytes, of which none is read, or the batch above 4,294,967,296; `ReadFault` where the source fails, and `Memory`.
+/// What is left of the source after a refusal is not promised.
 pub fn read_batch<N: Namer, S: Source>(
     alloc: Global,
     namer: &N,

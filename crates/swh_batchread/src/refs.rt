@@ -7,7 +7,7 @@ ghost use Rattle.swh_base.specs.Limits.{line_limit};
 ghost use Rattle.swh_fastlex.specs.Line.{unread, Takes, IsAtEnd, IsLine};
 ghost use Rattle.swh_batchread.specs.Failing.{Fails};
 ghost use Rattle.swh_batchread.specs.Refs.{RefLine, kept_refs};
-ghost use Rattle.swh_batchread.specs.RefsFault.{LineBreaks, RefBreaks, BreaksLines, MayBreakRefs};
+ghost use Rattle.swh_batchread.specs.RefsFault.{LineBreaks, RefBreaks, BreaksLines, MayBreakLines};
 ghost use Rattle.swh_batchread.specs.RefSteps.{line_of, told, HasNone, Holds, PutsRef, TakesLine, GivesLines};
 
 use crate::fault::BatchFault;
@@ -89,7 +89,7 @@ fn take_line(alloc: Global, refs: &mut Refs, number: u64, line: &[u8]) -> Result
     requires few { refs.old.counted ≤ REFS_LIMIT }
     ensures ok { (rs : List RefLine) → Holds rs refs.old → OnOk result (TakesLine rs line.now refs.new) }
     ensures err { (rs : List RefLine) → Holds rs refs.old → (faults : ℕ)
-        → IfErr result (Fails (Unit {0}) MayBreakRefs (RefBreaks rs number line.now) faults faults) }
+        → IfErr result (Fails (Unit {0}) MayBreakLines (RefBreaks rs number line.now) faults faults) }
 {
     let Some(found) = ref_in(line) else {
         return Err(BatchFault::BadRefs { line: number });
@@ -149,7 +149,7 @@ fn next_row<S: Source>(
         (S.left source.old) (S.left source.new) line.items)) }
     ensures none { S.tells → IfOk result (λ found. IfNone found (IsAtEnd window.old window.new
         (S.left source.old) (S.left source.new))) }
-    ensures err { IfErr result (Fails S.tells MayBreakRefs
+    ensures err { IfErr result (Fails S.tells MayBreakLines
         (LineBreaks number window.old.place (unread window.old (S.left source.old)))
         (S.faults source.old) (S.faults source.new)) }
 
@@ -181,7 +181,7 @@ pub fn read_lines<S: Source>(
     requires first { window.old.place ≡ 0 }
     ensures ok { IfOk result (GivesLines S.tells (S.left source.old)) }
     ensures read { S.tells → IfOk result (λ _. S.left source.new ≡ []) }
-    ensures err { IfErr result (Fails S.tells MayBreakRefs (BreaksLines (S.left source.old))
+    ensures err { IfErr result (Fails S.tells MayBreakLines (BreaksLines (S.left source.old))
         (S.faults source.old) (S.faults source.new)) }
 
     ensures same_path { S.path source.new ≡ S.path source.old }

@@ -1,16 +1,17 @@
 //! The snapshot of refs and of the objects of a batch (SWHID v1.2, core identifiers, snapshots).
-ghost use Rattle.std.specs.Prelude.{◌≡◌, ◌≤◌, ◌++◌, ◌∷◌, [], ℕ, List, IfOk, IfErr, OnOk, map};
+ghost use Rattle.std.specs.Prelude.{◌≡◌, ◌≤◌, ◌+◌, ◌^◌, ◌++◌, ◌∷◌, [], ℕ, List, IfOk, IfErr, OnOk, MatchResult, length, map};
 ghost use Rattle.std.specs.List.{filter_map};
+ghost use Rattle.swh_base.specs.Name.{IsId};
 ghost use Rattle.swh_base.specs.declared.kind.Kind.TheVariants.{Snapshot};
-ghost use Rattle.swh_base.specs.Snapshot.{AreBranches, snapshot_text};
+ghost use Rattle.swh_base.specs.Snapshot.{AreBranches, branch_text, snapshot_text};
 ghost use Rattle.swh_outside.specs.Views.{sources};
 ghost use Rattle.swh_object.specs.Object.{IsObject};
 ghost use Rattle.swh_snpfmt.specs.Branches.{branch_views};
 ghost use Rattle.swh_made.specs.Making.{made_from, object_of};
 ghost use Rattle.swh_made.specs.Whole.{HasAllThatIsReached};
 ghost use Rattle.swh_batchread.specs.Failing.{Fails};
-ghost use Rattle.swh_batchread.specs.Refs.{RefLine, branch_with, AreRefLines, GivesSnapshot, EndsWithSnapshot};
-ghost use Rattle.swh_batchread.specs.RefsFault.{SnapshotBreaks, MayBreakRefs, MeansRefsLeft, ExplainsRefs};
+ghost use Rattle.swh_batchread.specs.Refs.{RefLine, branch_to, branch_with, AreRefLines, GivesSnapshot, EndsWithSnapshot};
+ghost use Rattle.swh_batchread.specs.RefsFault.{SnapshotBreaks, MayBreakSnapshot, MeansRefsLeft, ExplainsRefs};
 ghost use Rattle.swh_batchread.specs.RefSteps.{line_at, kind_in, AreHeld, Ascend, Holds, PassesBody};
 
 use crate::fault::BatchFault;
@@ -18,32 +19,64 @@ use crate::names::whole_names;
 use crate::refs::{Refs, read_lines};
 use std::alloc::Global;
 use std::collections::BTreeMap;
-use swh_base::{Bytes, Kind, Memory, Name, Namer, Which};
+use swh_base::{BODY_LIMIT, Bytes, Kind, Memory, Name, Namer, Which};
 use swh_fastlex::Window;
-use swh_made::{MakeFault, Objects, make_object};
+use swh_made::{MakeFault, Objects, make_object, whole_id};
 use swh_object::Object;
 use swh_outside::Source;
 use swh_snpfmt::{Branch, Branches, Target, write_snp};
 
-/// Adds the branch of a ref of this name and id, where the id leads to a kind.
+/// Branches, and how many bytes they have in a snapshot.
+#[derive(Drop)]
+struct Listing {
+    branches: Vec<Branch>,
+    length: u64,
+}
+
+/// How many bytes a branch to an object of this kind has beside its name: the kind's word, a space, a NUL, `20:` and the id.
+fn frame_length(kind: Kind) -> u64
+    ensures length { (r : RefLine) → IsId r.id → length (branch_text (branch_to r kind)) ≡ length r.name + result }
+    ensures small { result ≤ 34 }
+{
+    match kind {
+        Kind::Content => 32,
+        Kind::Directory => 34,
+        Kind::Revision => 33,
+        Kind::Release => 32,
+        Kind::Snapshot => 33,
+    }
+}
+
+/// Adds the branch of a ref of this name and id, where the id leads to a kind, and tells how many bytes it has in a snapshot.
 fn put_branch(
     list: &mut Vec<Branch>,
     first: &BTreeMap<[u8; 20], Kind>,
     name: Vec<u8>,
     id: [u8; 20],
-) -> Result<(), Memory>
-    ensures { OnOk result (branch_views list.new.items ≡ branch_views list.old.items
+) -> Result<u64, Memory>
+    ensures list { OnOk result (branch_views list.new.items ≡ branch_views list.old.items
         ++ filter_map (branch_with (kind_in first.now.entries)) (line_at (name, id) ∷ [])) }
+    ensures added { IfOk result (λ n. n ≡ length (snapshot_text
+        (filter_map (branch_with (kind_in first.now.entries)) (line_at (name, id) ∷ [])))) }
 {
     let Some(kind) = first.get(&id) else {
-        return Ok(());
+        return Ok(0);
     };
+    let id = whole_id(&id);
+    let length = name.as_slice().len() as u64 + frame_length(*kind);
     let target = Target::Object(Name { kind: *kind, id });
     list.push(Branch {
         name: Bytes::from_vec(name),
         target,
     })?;
-    Ok(())
+    Ok(length)
+}
+
+/// The sum, or want of memory where it passes 64 bits: no machine holds a body of such a length.
+fn plus(a: u64, b: u64) -> Result<u64, Memory>
+    ensures { MatchResult result (λ sum. sum ≡ a + b) (λ _. 2 ^ 64 ≤ a + b) }
+{
+    a.checked_add(b).ok_or(Memory)
 }
 
 /// The branches of refs, in the order of their names.
@@ -51,37 +84,50 @@ fn branches_of(
     alloc: Global,
     first: &BTreeMap<[u8; 20], Kind>,
     refs: BTreeMap<Vec<u8>, [u8; 20]>,
-) -> Result<Vec<Branch>, Memory>
-    ensures list { IfOk result (λ bs. branch_views bs.items
+) -> Result<Listing, Memory>
+    ensures list { IfOk result (λ l. branch_views l.branches.items
         ≡ filter_map (branch_with (kind_in first.now.entries)) (map line_at refs.entries)) }
+    ensures length { IfOk result (λ l. l.length ≡ length (snapshot_text (branch_views l.branches.items))) }
     ensures ascend { IfOk result (λ _. Ascend (map line_at refs.entries)) }
 {
     let mut list = Vec::new(alloc);
+    let mut length = 0u64;
     for (name, id) in refs {
-        put_branch(&mut list, first, name, id)?;
+        let added = put_branch(&mut list, first, name, id)?;
+        length = plus(length, added)?;
     }
-    Ok(list)
+    Ok(Listing {
+        branches: list,
+        length,
+    })
 }
 
-/// The snapshot of these branches.
+/// The snapshot of these branches. One above the limit of bodies is refused before any of it is written.
 fn snapshot_of<N: Namer>(
     alloc: Global,
     namer: &N,
-    branches: Vec<Branch>,
+    listing: Listing,
 ) -> Result<Object<N>, BatchFault>
-    requires { AreBranches (branch_views branches.items) }
-    ensures made { IfOk result (λ o. made_from o ≡ object_of Snapshot (snapshot_text (branch_views branches.items))) }
+    requires good { AreBranches (branch_views listing.branches.items) }
+    requires length { listing.length ≡ length (snapshot_text (branch_views listing.branches.items)) }
+    ensures made { IfOk result (λ o. made_from o
+        ≡ object_of Snapshot (snapshot_text (branch_views listing.branches.items))) }
     ensures object { IfOk result (IsObject N.id_of) }
-    ensures err { (faults : ℕ) → IfErr result (Fails (Unit {0}) MayBreakRefs
-        (PassesBody (snapshot_text (branch_views branches.items))) faults faults) }
+    ensures err { (faults : ℕ) → IfErr result (Fails (Unit {0})
+        (PassesBody (snapshot_text (branch_views listing.branches.items)))
+        (PassesBody (snapshot_text (branch_views listing.branches.items))) faults faults) }
 {
+    let Listing { branches, length } = listing;
+    if length > BODY_LIMIT {
+        return Err(BatchFault::Limit {
+            which: Which::Body,
+            number: length,
+        });
+    }
     let body = write_snp(alloc, &Branches::of(branches))?;
     match make_object(alloc, namer, Kind::Snapshot, body) {
         Ok(object) => Ok(object),
-        Err(MakeFault::TooLong { len }) => Err(BatchFault::Limit {
-            which: Which::Body,
-            number: len,
-        }),
+        Err(MakeFault::TooLong { len: _ }) => unreachable!(),
         Err(MakeFault::Memory) => Err(BatchFault::Memory),
     }
 }
@@ -116,7 +162,8 @@ fn end_refs<N: Namer>(
     ensures kept { IfOk result (λ given. EndsWithSnapshot objects.items given.objects.items given.snapshot) }
     ensures whole { IfOk result (HasAllThatIsReached N.id_of) }
     ensures err { (rs : List RefLine) → AreRefLines rs → Holds rs refs → (faults : ℕ)
-        → IfErr result (Fails (Unit {0}) MayBreakRefs (SnapshotBreaks rs objects.items) faults faults) }
+        → IfErr result (Fails (Unit {0}) (MayBreakSnapshot objects.items)
+        (SnapshotBreaks rs objects.items) faults faults) }
 {
     let Refs {
         ids,
@@ -124,8 +171,8 @@ fn end_refs<N: Namer>(
         counted: _,
     } = refs;
     let names = whole_names(alloc, ids.as_slice(), objects.as_slice())?;
-    let branches = branches_of(alloc, &names.first, by_name)?;
-    let snapshot = snapshot_of(alloc, namer, branches)?;
+    let listing = branches_of(alloc, &names.first, by_name)?;
+    let snapshot = snapshot_of(alloc, namer, listing)?;
     Ok(with_snapshot(objects, snapshot)?)
 }
 
@@ -140,7 +187,8 @@ fn end_refs<N: Namer>(
 /// 1,048,576 bytes with its LF, the source above 4,294,967,296, or the refs but for `HEAD` above 65,536. Where all lines
 /// are good, `NoObject` with the first id that is named and that no object has, or none of the kind that it is named
 /// with: by the refs in their order, and then by the objects in theirs; and then `Limit` where the snapshot is above
-/// 67,108,864 bytes. `ReadFault` where the source fails, and `Memory`.
+/// 67,108,864 bytes, of which none is written. `ReadFault` where the source fails, and `Memory`. The objects are spent by
+/// every answer, and what is left of the source after a refusal is not promised.
 pub fn read_refs<N: Namer, S: Source>(
     alloc: Global,
     namer: &N,

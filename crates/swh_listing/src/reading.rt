@@ -18,7 +18,7 @@ use swh_outside::Source;
 /// # Errors
 ///
 /// The first line that is none of a listing, or the first limit that the listing passes; the source fails, or memory
-/// runs out.
+/// runs out. What is left of the source after a refusal is not promised.
 pub fn read_listing<S: Source>(alloc: Global, source: &mut S) -> Result<Vec<Listed>, ListingFault>
     ensures lines { S.tells → IfOk result (λ lines. IsListing (S.left source.old) lines.items) }
     ensures whole { S.tells → IfOk result (λ _. S.left source.new ≡ []) }

@@ -1,5 +1,5 @@
 use Rattle.std.proofs.Common.{ℕ, List, ◌∙◌, subst, arith}
-use Rattle.swh_batchread.specs.RefsFault.{RefBreaks, BreaksLines, MayBreakRefs}
+use Rattle.swh_batchread.specs.RefsFault.{RefBreaks, BreaksLines, MayBreakLines}
 use Rattle.swh_batchread.specs.RefSteps.{TakesLine}
 use Rattle.swh_batchread.proofs.Reaching.{exits, object_fails, nothing_left}
 use Rattle.swh_batchread.proofs.RefsRead.{line_more, line_breaks, line_some}
@@ -19,7 +19,7 @@ returns-in_err-take_line-clause-err g c =
     let short = rw c.in-Some.is at c.in_ok-line.ensures.short in
     let low = rw c.in-Some.is at c.in_ok-line.ensures.within in
     exits c.from_residual-in_err-take_line.result _ c.in_err-take_line.field-0.0 c.from_residual-in_err-take_line.ensures.1
-    (object_fails g.S.Source.tells MayBreakRefs (RefBreaks h.lines c.lines.number c.as_slice.result.now) (BreaksLines text) (g.S.Source.faults c.args.source.now) (g.S.Source.faults c.next_row.new.source) c.in_err-take_line.field-0.0
+    (object_fails g.S.Source.tells MayBreakLines (RefBreaks h.lines c.lines.number c.as_slice.result.now) (BreaksLines text) (g.S.Source.faults c.args.source.now) (g.S.Source.faults c.next_row.new.source) c.in_err-take_line.field-0.0
     (λ told fault breaks.
     let took = c.in_ok-line.ensures.taken told in
     line_breaks g.S.Source.tells text c.lines.window c.next_row.new.window (g.S.Source.left c.lines.source) (g.S.Source.left c.next_row.new.source) c.in-Some.line.items c.lines.number c.lines.refs fault h told is short (rw c.in-Some.is at took) low

@@ -1,4 +1,4 @@
-use Rattle.std.proofs.Common.{refl, sym, ◌∙◌, inl, inr}
+use Rattle.std.proofs.Common.{refl, sym, ◌∙◌, inr}
 use Rattle.swh_batchread.specs.RefSteps.{line_of}
 use Rattle.swh_batchread.proofs.RefsHeld.{takes_peeled, takes_ref, met_again, passes_refs}
 use Rattle.swh_batchread.proofs.refs.take_line.Goals as goal
@@ -17,7 +17,7 @@ returns-then-has_name-clause-err c = λ rs h faults.
 pub returns-then-counted-gt-REFS_LIMIT-clause-err : goal.returns-then-counted-gt-REFS_LIMIT-clause-err
 returns-then-counted-gt-REFS_LIMIT-clause-err c = λ rs h faults.
     record {
-      possible = inr (inr (inl (refl, refl)));
+      possible = inr (inr (refl, refl));
       told = λ t. (refl, refl, passes_refs rs c.args.line.now (line_of c.in-Some.found) c.count_with-counted.result c.args.refs.now h c.in-Some.ensures.0 c.in-Some.ensures.1 (sym c.is_peeled.ensures ∙ c.if-is_peeled.false) (c.has_name.ensures.none c.if-has_name.false) c.count_with-counted.ensures c.if-counted-gt-REFS_LIMIT.true);
     }
 
