@@ -1,0 +1,4 @@
+pub mod Refusing
+pub mod Fitting
+pub mod Alone
+pub mod Lawful

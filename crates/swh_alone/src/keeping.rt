@@ -1,0 +1,56 @@
+// What a keeper answers to its one loader.
+ghost use Rattle.std.specs.Prelude.{◌≡◌, [], None, IfOk, IfErr};
+ghost use Rattle.swh_model.specs.Step.{replay};
+ghost use Rattle.swh_store.specs.Adding.{IsStanding};
+ghost use Rattle.swh_outside.specs.Views.{disks};
+ghost use Rattle.swh_plan.specs.Plan.{wish_of};
+ghost use Rattle.swh_place.specs.Knowing.{IsLawful, CarriesOut, RefusesPlan};
+ghost use Rattle.swh_alone.specs.Alone.{AddsOn, alone_words};
+
+use crate::fitting::plan_fits;
+use crate::refusing::refused;
+use swh_base::{Entry, Namer};
+use swh_keeper::Keeper;
+use swh_model::Outcome;
+use swh_outside::Disk;
+use swh_place::Refusal;
+use swh_plan::Plan;
+use swh_store::Standing;
+
+/// What is said of a keeper's states obeys what a place's words are to obey.
+pub fn keepers_are_lawful<N: Namer, D: Disk>(by: u32)
+    ensures { IsLawful N.id_of (alone_words N.id_of (disks D.tells D.file D.faults) by) }
+{
+    let _by = by;
+}
+
+/// How an entry stands to what a keeper holds.
+pub fn standing_in<N: Namer, D: Disk>(keeper: &mut Keeper<N, D>, entry: &Entry) -> Standing
+    requires { keeper.old.wounded ≡ None }
+    ensures looks { AddsOn N.id_of (disks D.tells D.file D.faults) [] keeper.old keeper.new }
+    ensures standing { IsStanding (replay keeper.new.history).bodies entry.now result }
+{
+    keeper.store().standing(entry)
+}
+
+/// Lets a keeper carry out a plan under a number.
+pub fn carry_out<N: Namer, D: Disk>(
+    by: u32,
+    keeper: &mut Keeper<N, D>,
+    plan: Plan<N>,
+) -> Result<Outcome, Refusal>
+    ensures ok { IfOk result (CarriesOut N.id_of (alone_words N.id_of (disks D.tells D.file D.faults) by)
+        (wish_of plan) keeper.old keeper.new) }
+    ensures err { IfErr result (RefusesPlan N.id_of (alone_words N.id_of (disks D.tells D.file D.faults) by)
+        (wish_of plan) keeper.old keeper.new) }
+{
+    plan_fits(&plan);
+    let _before = keeper.history();
+    match keeper.apply(by, plan) {
+        Ok(outcome) => {
+            let _after = keeper.history();
+            Ok(outcome)
+        }
+        Err(refusal) => Err(refused(refusal)),
+    }
+}

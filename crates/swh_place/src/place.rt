@@ -1,0 +1,53 @@
+// Where a loader's plans go.
+use crate::refusal::Refusal;
+use std::alloc::Global;
+use swh_base::{Entry, Memory, Name, Namer};
+use swh_closure::Cert;
+use swh_model::Outcome;
+use swh_plan::Plan;
+use swh_store::Standing;
+
+/// An archive as one loader knows it. What it knows lies in a seat: its number, a front of the history, and how many events
+/// it made. Contracts see all of it through the place's words.
+pub trait Place<N: Namer> {
+    ghost use Rattle.std.specs.Prelude.{◌≡◌, [], IfOk, IfErr};
+    ghost use Rattle.swh_base.specs.Snapshot.{snapshot_name};
+    ghost use Rattle.swh_model.specs.Archive.{IsClosed};
+    ghost use Rattle.swh_store.specs.Adding.{IsStanding};
+    ghost use Rattle.swh_plan.specs.Plan.{wish_of};
+    ghost use Rattle.swh_place.specs.Knowing.{Words, IsLawful, CarriesOut, RefusesPlan, held_in};
+
+    /// What the loader knows.
+    type Seat;
+
+    /// What is said of seats.
+    ghost words: { Self → Words Self.Seat };
+
+    /// How an entry stands to what is held.
+    fn standing(&self, seat: &mut Self::Seat, entry: &Entry) -> Result<Standing, Memory>
+        requires { (words self.now).ready seat.old }
+        ensures looks { (words self.now).adds [] seat.old seat.new }
+        ensures standing { IfOk result (IsStanding (held_in ((words self.now).known seat.new)) entry.now) };
+
+    /// A certificate that all that is reached from a snapshot is held. The names are those of the input, among which all of
+    /// it stands.
+    fn certify(
+        &self,
+        alloc: Global,
+        seat: &mut Self::Seat,
+        snapshot: [u8; 20],
+        names: Vec<Name>,
+    ) -> Result<Cert, Memory>
+        requires ready { (words self.now).ready seat.old }
+        requires closed { IsClosed (held_in ((words self.now).known seat.old)) (snapshot_name snapshot) }
+        ensures looks { (words self.now).adds [] seat.old seat.new }
+        ensures root { IfOk result (λ cert. cert.root ≡ snapshot_name snapshot) };
+
+    /// Lets a plan be carried out.
+    fn apply(&self, seat: &mut Self::Seat, plan: Plan<N>) -> Result<Outcome, Refusal>
+        ensures ok { IfOk result (CarriesOut N.id_of (words self.now) (wish_of plan) seat.old seat.new) }
+        ensures err { IfErr result (RefusesPlan N.id_of (words self.now) (wish_of plan) seat.old seat.new) };
+
+    /// What the words of each place obey.
+    ghost lawful: { (place : Self) → IsLawful N.id_of (words place) };
+}

@@ -1,0 +1,4 @@
+pub mod Steps
+pub mod Batches
+pub mod Waiting
+pub mod Marks

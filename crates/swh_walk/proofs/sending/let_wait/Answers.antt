@@ -1,0 +1,22 @@
+use Rattle.swh_place.specs.Knowing.{held_in}
+use Rattle.swh_walk.specs.Owning.{IsBatchAmong}
+use Rattle.swh_walk.proofs.Steps.{adds_none}
+use Rattle.swh_walk.proofs.Waiting.{taken_new, taken_waiting}
+use Rattle.swh_walk.proofs.sending.let_wait.Goals as goal
+
+pub returns-in-New-clause-taken : goal.returns-in-New-clause-taken
+returns-in-New-clause-taken g c =
+    let w = g.P.Place.words c.args.place.now in
+    taken_new g.N.Namer.id_of w.alone (held_in (w.known c.args.seat.now)) c.args.pending c.join.new.self c.args.object c.name-name.ensures.good c.requires.waiting c.requires.room c.requires.absent (rw c.in-New.is at c.in-Ok.ensures)
+
+pub returns-in-New-clause-adds : goal.returns-in-New-clause-adds
+returns-in-New-clause-adds g c = adds_none g.N.Namer.id_of (g.P.Place.words c.args.place.now) (g.met.P.Place.lawful c.args.place.now) (IsBatchAmong (g.P.Place.words c.args.place.now).alone c.args.pending.objects.items) c.args.seat.now c.requires.ready
+
+pub returns-in-Known-clause-taken : goal.returns-in-Known-clause-taken
+returns-in-Known-clause-taken g c =
+    let w = g.P.Place.words c.args.place.now in
+    let j = rw c.in-Known.is at c.in-Ok.ensures in
+    taken_waiting g.N.Namer.id_of w.alone (held_in (w.known c.args.seat.now)) c.args.pending c.join.new.self c.args.object c.requires.waiting j.0 j.1
+
+pub returns-in-Known-clause-adds : goal.returns-in-Known-clause-adds
+returns-in-Known-clause-adds g c = adds_none g.N.Namer.id_of (g.P.Place.words c.args.place.now) (g.met.P.Place.lawful c.args.place.now) (IsBatchAmong (g.P.Place.words c.args.place.now).alone c.args.pending.objects.items) c.args.seat.now c.requires.ready

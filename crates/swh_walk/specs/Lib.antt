@@ -1,0 +1,5 @@
+pub mod Owning
+pub mod Stopping
+pub mod Visiting
+pub mod Walking
+pub mod Sending

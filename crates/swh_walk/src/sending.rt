@@ -1,0 +1,222 @@
+// What a load's input adds to what is held.
+ghost use Rattle.std.specs.Prelude.{◌≡◌, ◌++◌, ◌∷◌, [], None, IfOk, IfErr, OnOk};
+ghost use Rattle.swh_base.specs.declared.entry.Entry.{Entry};
+ghost use Rattle.swh_model.specs.Archive.{body_of};
+ghost use Rattle.swh_place.specs.Knowing.{held_in};
+ghost use Rattle.swh_store.specs.Adding.{HasOther};
+ghost use Rattle.swh_store.specs.Entries.{bodies_in};
+ghost use Rattle.swh_walk.specs.Owning.{IsBatchAmong, IsBatchAsked};
+ghost use Rattle.swh_walk.specs.Sending.{BatchHasRoom, IsPendingBatch, IsMet, AreSent, MakesRoom, TakesEntry};
+ghost use Rattle.swh_walk.specs.Walking.{Adds, StopsNow, StopsAfter};
+
+use crate::pending::Pending;
+use crate::stop::{Stop, met_or_stopped};
+use std::alloc::Global;
+use std::collections::VecDeque;
+use swh_base::{Name, Namer};
+use swh_object::Object;
+use swh_place::Place;
+use swh_plan::Plan;
+use swh_store::Standing;
+
+/// What became of an object.
+#[derive(Drop)]
+pub enum Taken<N: Namer> {
+    /// The object is held, or it waits among these.
+    Waits(Pending<N>),
+    /// Another body is held under this name.
+    Collides(Name),
+}
+
+/// Sends a batch, where there is something to send. Answers a name under which another body is held than the batch has,
+/// where somebody added that body since it was looked.
+fn flush<N: Namer, P: Place<N>>(
+    place: &P,
+    seat: &mut P::Seat,
+    pending: Pending<N>,
+) -> Result<Option<Name>, Stop>
+    requires ready { (P.words place.now).ready seat.old }
+    requires waiting { IsPendingBatch N.id_of (P.words place.now).alone
+        (held_in ((P.words place.now).known seat.old)) pending }
+    ensures sent { IfOk result (AreSent (held_in ((P.words place.now).known seat.new)) pending.objects.items) }
+    ensures adds { OnOk result (Adds (P.words place.now)
+        (IsBatchAmong (P.words place.now).alone pending.objects.items) [] seat.old seat.new) }
+    ensures stops { IfErr result (StopsNow N.id_of (P.words place.now) (IsBatchAsked pending.objects.items)
+        seat.old seat.new) }
+{
+    if pending.objects.is_empty() {
+        return Ok(None);
+    }
+    match place.apply(seat, Plan::Batch(pending.objects)) {
+        Ok(_) => Ok(None),
+        Err(refusal) => match met_or_stopped(refusal) {
+            Ok(name) => Ok(Some(name)),
+            Err(why) => Err(why),
+        },
+    }
+}
+
+/// Sends what waits where no other object may join it.
+fn make_room<N: Namer, P: Place<N>>(
+    alloc: Global,
+    place: &P,
+    seat: &mut P::Seat,
+    pending: Pending<N>,
+) -> Result<Taken<N>, Stop>
+    requires ready { (P.words place.now).ready seat.old }
+    requires waiting { IsPendingBatch N.id_of (P.words place.now).alone
+        (held_in ((P.words place.now).known seat.old)) pending }
+    ensures room { IfOk result (MakesRoom N.id_of (P.words place.now).alone
+        (held_in ((P.words place.now).known seat.old)) pending (held_in ((P.words place.now).known seat.new))) }
+    ensures adds { OnOk result (Adds (P.words place.now)
+        (IsBatchAmong (P.words place.now).alone pending.objects.items) [] seat.old seat.new) }
+    ensures stops { IfErr result (StopsNow N.id_of (P.words place.now) (IsBatchAsked pending.objects.items)
+        seat.old seat.new) }
+{
+    if pending.has_room() {
+        return Ok(Taken::Waits(pending));
+    }
+    match flush(place, seat, pending) {
+        Ok(None) => Ok(Taken::Waits(Pending::new(alloc))),
+        Ok(Some(name)) => Ok(Taken::Collides(name)),
+        Err(why) => Err(why),
+    }
+}
+
+/// Sends what waits before an object whose name waits with another body, so that the held body shows that it collides.
+fn send_before<N: Namer, P: Place<N>>(
+    place: &P,
+    seat: &mut P::Seat,
+    pending: Pending<N>,
+    name: Name,
+) -> Result<Name, Stop>
+    requires ready { (P.words place.now).ready seat.old }
+    requires waiting { IsPendingBatch N.id_of (P.words place.now).alone
+        (held_in ((P.words place.now).known seat.old)) pending }
+    ensures met { (e : Entry) → e.name ≡ name → HasOther (bodies_in pending.objects.items) e
+        → IfOk result (IsMet (held_in ((P.words place.now).known seat.new)) (pending.objects.items ++ e ∷ [])) }
+    ensures adds { OnOk result (Adds (P.words place.now)
+        (IsBatchAmong (P.words place.now).alone pending.objects.items) [] seat.old seat.new) }
+    ensures stops { IfErr result (StopsNow N.id_of (P.words place.now) (IsBatchAsked pending.objects.items)
+        seat.old seat.new) }
+{
+    match flush(place, seat, pending) {
+        Ok(None) => Ok(name),
+        Ok(Some(first)) => Ok(first),
+        Err(why) => Err(why),
+    }
+}
+
+/// Lets an object that is not held wait. Where another body waits under its name, what waits is sent, and it collides.
+fn let_wait<N: Namer, P: Place<N>>(
+    place: &P,
+    seat: &mut P::Seat,
+    pending: Pending<N>,
+    object: Object<N>,
+) -> Result<Taken<N>, Stop>
+    requires ready { (P.words place.now).ready seat.old }
+    requires waiting { IsPendingBatch N.id_of (P.words place.now).alone
+        (held_in ((P.words place.now).known seat.old)) pending }
+    requires room { BatchHasRoom pending }
+    requires absent { body_of (held_in ((P.words place.now).known seat.old)) object.name ≡ None }
+    ensures taken { IfOk result (TakesEntry N.id_of (P.words place.now).alone
+        (held_in ((P.words place.now).known seat.old)) pending object (held_in ((P.words place.now).known seat.new))) }
+    ensures adds { OnOk result (Adds (P.words place.now)
+        (IsBatchAmong (P.words place.now).alone pending.objects.items) [] seat.old seat.new) }
+    ensures stops { IfErr result (StopsNow N.id_of (P.words place.now) (IsBatchAsked pending.objects.items)
+        seat.old seat.new) }
+{
+    let name = object.name();
+    let mut waiting = pending;
+    let Ok(standing) = waiting.join(object) else {
+        return Err(Stop::Memory);
+    };
+    match standing {
+        Standing::New => Ok(Taken::Waits(waiting)),
+        Standing::Known => Ok(Taken::Waits(waiting)),
+        Standing::Other => match send_before(place, seat, waiting, name) {
+            Ok(name) => Ok(Taken::Collides(name)),
+            Err(why) => Err(why),
+        },
+    }
+}
+
+/// Takes an object in after it was looked at: it is held, it waits, or it collides.
+fn take_seen<N: Namer, P: Place<N>>(
+    place: &P,
+    seat: &mut P::Seat,
+    pending: Pending<N>,
+    object: Object<N>,
+) -> Result<Taken<N>, Stop>
+    requires ready { (P.words place.now).ready seat.old }
+    requires waiting { IsPendingBatch N.id_of (P.words place.now).alone
+        (held_in ((P.words place.now).known seat.old)) pending }
+    requires room { BatchHasRoom pending }
+    ensures taken { IfOk result (TakesEntry N.id_of (P.words place.now).alone
+        (held_in ((P.words place.now).known seat.old)) pending object (held_in ((P.words place.now).known seat.new))) }
+    ensures adds { OnOk result (Adds (P.words place.now)
+        (IsBatchAmong (P.words place.now).alone pending.objects.items) [] seat.old seat.new) }
+    ensures stops { IfErr result (StopsAfter N.id_of (P.words place.now)
+        (IsBatchAmong (P.words place.now).alone pending.objects.items) (IsBatchAsked pending.objects.items) []
+        seat.old seat.new) }
+{
+    let name = object.name();
+    match place.standing(seat, object.entry()) {
+        Ok(Standing::Known) => Ok(Taken::Waits(pending)),
+        Ok(Standing::Other) => Ok(Taken::Collides(name)),
+        Ok(Standing::New) => let_wait(place, seat, pending, object),
+        Err(_) => Err(Stop::Memory),
+    }
+}
+
+/// Takes an object in: it is held, it waits, or it collides.
+fn take_in<N: Namer, P: Place<N>>(
+    alloc: Global,
+    place: &P,
+    seat: &mut P::Seat,
+    pending: Pending<N>,
+    object: Object<N>,
+) -> Result<Taken<N>, Stop>
+    requires ready { (P.words place.now).ready seat.old }
+    requires waiting { IsPendingBatch N.id_of (P.words place.now).alone
+        (held_in ((P.words place.now).known seat.old)) pending }
+    ensures taken { IfOk result (TakesEntry N.id_of (P.words place.now).alone
+        (held_in ((P.words place.now).known seat.old)) pending object (held_in ((P.words place.now).known seat.new))) }
+    ensures adds { OnOk result (Adds (P.words place.now)
+        (IsBatchAmong (P.words place.now).alone pending.objects.items) [] seat.old seat.new) }
+    ensures stops { IfErr result (StopsAfter N.id_of (P.words place.now)
+        (IsBatchAmong (P.words place.now).alone pending.objects.items) (IsBatchAsked pending.objects.items) []
+        seat.old seat.new) }
+{
+    match make_room(alloc, place, seat, pending) {
+        Ok(Taken::Waits(waiting)) => take_seen(place, seat, waiting, object),
+        Ok(Taken::Collides(name)) => Ok(Taken::Collides(name)),
+        Err(why) => Err(why),
+    }
+}
+
+/// Sends what is new of some objects, in order, up to the first that collides.
+pub fn send_all<N: Namer, P: Place<N>>(
+    alloc: Global,
+    place: &P,
+    seat: &mut P::Seat,
+    objects: Vec<Object<N>>,
+) -> Result<Option<Name>, Stop>
+    requires { (P.words place.now).ready seat.old }
+    ensures sent { IfOk result (AreSent (held_in ((P.words place.now).known seat.new)) objects.items) }
+    ensures adds { OnOk result (Adds (P.words place.now)
+        (IsBatchAmong (P.words place.now).alone objects.items) [] seat.old seat.new) }
+    ensures stops { IfErr result (StopsAfter N.id_of (P.words place.now)
+        (IsBatchAmong (P.words place.now).alone objects.items) (IsBatchAsked objects.items) [] seat.old seat.new) }
+{
+    let mut left = VecDeque::from_vec(objects);
+    let mut pending = Pending::new(alloc);
+    'objects: while let Some(object) = left.pop_front() {
+        pending = match take_in(alloc, place, seat, pending, object) {
+            Ok(Taken::Waits(pending)) => pending,
+            Ok(Taken::Collides(name)) => return Ok(Some(name)),
+            Err(why) => return Err(why),
+        };
+    }
+    flush(place, seat, pending)
+}

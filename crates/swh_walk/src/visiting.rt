@@ -1,0 +1,83 @@
+// The visit of a load: opened, marked and ended.
+ghost use Rattle.std.specs.Prelude.{◌≡◌, ◌∷◌, [], IfOk, IfErr, OnOk};
+ghost use Rattle.swh_base.specs.declared.visit.VisitKind.TheVariants.{Fast};
+ghost use Rattle.swh_model.specs.Step.{FitsStatus};
+ghost use Rattle.swh_model.specs.declared.event.Wish.TheVariants.{Open as WishToOpen, Mark as WishToMark};
+ghost use Rattle.swh_plan.specs.Plan.{status_of, snapshot_of};
+ghost use Rattle.swh_place.specs.Knowing.{held_in};
+ghost use Rattle.swh_walk.specs.Owning.{attempt, attempt_of, mark_of, IsKind, IsWished};
+ghost use Rattle.swh_walk.specs.Visiting.{IsMine, HasLast};
+ghost use Rattle.swh_walk.specs.Walking.{Opens, Adds, StopsNow};
+
+use crate::stop::{Stop, stopped};
+use std::alloc::Global;
+use swh_base::{Namer, Url, VisitKind};
+use swh_model::Outcome;
+use swh_place::Place;
+use swh_plan::{How, Plan};
+
+/// A visit that was opened: by whom, of which origin, when, and its number.
+#[derive(Clone, Copy)]
+pub struct OpenVisit<'a> {
+    pub by: u32,
+    pub origin: &'a Url,
+    pub date: u64,
+    pub number: u64,
+}
+
+/// Opens a visit of an origin, and answers its number.
+pub fn open_visit<N: Namer, P: Place<N>>(
+    alloc: Global,
+    place: &P,
+    seat: &mut P::Seat,
+    origin: &Url,
+    date: u64,
+) -> Result<u64, Stop>
+    ensures opened { IfOk result (Opens N.id_of (P.words place.now)
+        (attempt ((P.words place.now).known seat.old).number origin.now date) seat.old seat.new) }
+    ensures stops { IfErr result (StopsNow N.id_of (P.words place.now) (IsWished (WishToOpen origin.now Fast date))
+        seat.old seat.new) }
+{
+    let Ok(origin) = origin.again(alloc) else {
+        return Err(Stop::Memory);
+    };
+    let kind = VisitKind::Fast;
+    match place.apply(seat, Plan::Open { origin, kind, date }) {
+        Ok(Outcome::Opened { event: _, visit }) => Ok(visit),
+        Ok(_) => unreachable!(),
+        Err(refusal) => Err(stopped(refusal)),
+    }
+}
+
+/// Adds a status to a visit.
+pub fn mark<N: Namer, P: Place<N>>(
+    alloc: Global,
+    place: &P,
+    seat: &mut P::Seat,
+    visit: &OpenVisit,
+    how: How,
+) -> Result<(), Stop>
+    requires mine { IsMine ((P.words place.now).known seat.old) (attempt_of visit.now) visit.now.number }
+    requires fits { FitsStatus (held_in ((P.words place.now).known seat.old)) (status_of how) (snapshot_of how) }
+    ensures marked { OnOk result (HasLast ((P.words place.now).known seat.new).front
+        (attempt_of visit.now) visit.now.number (status_of how, snapshot_of how)) }
+    ensures adds { OnOk result (Adds (P.words place.now)
+        (IsKind (mark_of (attempt_of visit.now) visit.now.number (status_of how) (snapshot_of how)))
+        ((status_of how, snapshot_of how) ∷ []) seat.old seat.new) }
+    ensures stops { IfErr result (StopsNow N.id_of (P.words place.now)
+        (IsWished (WishToMark visit.now.origin.now visit.now.number (status_of how) (snapshot_of how)))
+        seat.old seat.new) }
+{
+    let Ok(origin) = visit.origin.again(alloc) else {
+        return Err(Stop::Memory);
+    };
+    let plan = Plan::Mark {
+        origin,
+        visit: visit.number,
+        how,
+    };
+    match place.apply(seat, plan) {
+        Ok(_) => Ok(()),
+        Err(refusal) => Err(stopped(refusal)),
+    }
+}
