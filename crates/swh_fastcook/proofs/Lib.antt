@@ -1,0 +1,4 @@
+pub mod CommitTexts
+pub mod FileWalks
+pub mod Marked
+pub mod Texts
