@@ -2,3 +2,4 @@ pub mod Cause
 pub mod Files
 pub mod Marks
 pub mod Stream
+pub mod Tips

@@ -8,7 +8,9 @@ mod commits;
 mod files;
 mod marks;
 mod pieces;
+mod tips;
 
-pub use commits::{write_blob, write_tag};
+pub use commits::{write_blob, write_commit, write_tag};
 pub use files::write_files;
 pub use marks::Marks;
+pub use tips::write_tips;
