@@ -15,6 +15,7 @@ pub record Kept (T : Type 0) : Type 0 where
   pub taker : T
   pub held : List ℕ
 
+-- these two
 abbrev pub kept : {T : Type 0} → T → List ℕ → Kept T
 kept taker held = record { taker = taker; held = held }
 

@@ -1,0 +1,5 @@
+pub mod Cause
+pub mod Files
+pub mod Marks
+pub mod Stream
+pub mod Tips
