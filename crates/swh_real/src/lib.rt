@@ -11,6 +11,7 @@ mod disk;
 mod doors;
 mod folder;
 mod forgetting;
+mod inside;
 mod items;
 mod link;
 mod opening;

@@ -19,3 +19,5 @@ mod rooms;
 mod runs;
 #[cfg(test)]
 mod starts;
+#[cfg(test)]
+mod yards;

@@ -3,8 +3,8 @@ use crate::rooms::{clear, fresh_room, is_file, path_in};
 use std::fs::File;
 use std::test::Fail;
 use std::time::{SystemTime, UNIX_EPOCH};
-use swh_outside::{Clock, Doors, Failed, OutFault, Sink, Source, Yard};
-use swh_real::{RealClock, RealDoors, RealLink, RealSink, RealYard};
+use swh_outside::{Clock, Doors, Failed, OutFault, Sink, Source};
+use swh_real::{RealClock, RealDoors, RealLink, RealSink};
 
 // Whole seconds since 1970, as the library says them; none where it says none.
 fn seconds(rt: &HostRuntime) -> Option<u64> {
@@ -65,19 +65,6 @@ fn a_sink_takes_each_piece(rt: HostRuntime) -> Result<(), Fail> {
     let room = fresh_room(&rt, "sink", &[])?;
     assert!(rt; sinks_end_so(&rt, room.as_str())?);
     clear(&rt, room.as_str())
-}
-
-fn yard_fails(yard: &mut RealYard) -> bool {
-    yard.folder("a") == Err(OutFault::Failed)
-        && yard.file("b") == Err(OutFault::Failed)
-        && yard.put(b"c") == Err(Failed)
-        && yard.faults() == 3
-}
-
-#[test]
-fn a_yard_fails(rt: HostRuntime) {
-    let mut yard = RealYard::new();
-    assert!(rt; yard_fails(&mut yard));
 }
 
 fn link_fails(link: &mut RealLink) -> bool {

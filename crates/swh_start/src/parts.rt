@@ -1,6 +1,6 @@
 // The real parts of the outside that a command may need.
 use std::alloc::{AllocError, Global};
-use swh_real::{RealClock, RealDepot, RealOrigins};
+use swh_real::{RealClock, RealDepot, RealOrigins, RealYard};
 use swh_words::{Command, WordsFault, parse_words};
 
 /// The parts that stand on files and the clock.
@@ -9,6 +9,7 @@ pub struct Parts {
     pub depot: RealDepot<HostRuntime>,
     pub desk: RealOrigins<HostRuntime>,
     pub origins: RealOrigins<HostRuntime>,
+    pub yard: RealYard<HostRuntime>,
     pub clock: RealClock<HostRuntime>,
 }
 
@@ -33,6 +34,7 @@ pub fn parts_for(rt: &HostRuntime, alloc: Global, words: &[String]) -> Result<Pa
         depot,
         desk: RealOrigins::new(rt.clone()?, alloc),
         origins: RealOrigins::new(rt.clone()?, alloc),
+        yard: RealYard::new(rt.clone()?, alloc),
         clock: RealClock::new(rt.clone()?),
     })
 }

@@ -8,7 +8,7 @@ use std::alloc::Global;
 use swh_base::Sha1Namer;
 use swh_outside::Sink;
 use swh_program::{Answer, Outside, run, tell};
-use swh_real::{RealDoors, RealGate, RealYard};
+use swh_real::{RealDoors, RealGate};
 
 /// Runs the program on the words after its name: over the files of the system and its clock, with all that it prints
 /// put to the sink.
@@ -24,7 +24,7 @@ pub fn start<K: Sink + Drop>(rt: &HostRuntime, alloc: Global, words: &[String], 
         depot: parts.depot,
         desk: parts.desk,
         origins: parts.origins,
-        yard: RealYard::new(),
+        yard: parts.yard,
         sink,
         clock: parts.clock,
         doors: RealDoors::new(),
