@@ -59,10 +59,7 @@ fn feed_command<N: Namer>(
     ensures err { IfErr result (ExplainsFeed N.id_of (step N.id_of (loading_of (stock_of parts.old)).aims command)) }
 {
     match command {
-        Command::Blob { mark, bytes } => {
-            let body = Vec::from_slice(alloc, bytes.as_slice())?;
-            feed_blob(alloc, parts, mark, body)
-        }
+        Command::Blob { mark, bytes } => feed_blob(alloc, parts, mark, bytes.into_vec()),
         Command::Commit {
             branch,
             mark,
