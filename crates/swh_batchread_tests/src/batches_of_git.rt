@@ -94,6 +94,88 @@ iQEz\n\
 -----END PGP SIGNATURE-----\n\
 \n";
 
+/// A commit and a tag that git signed by a key of ssh, a merge with a tag in its header and a header that git does not know, a
+/// message without an LF, none at all in a commit and in a tag, a header without the line behind it, persons without a name or
+/// an address, and a tag of a tag that no ref leads to.
+pub const ODD: &[u8] = b"295c0651a95ba32ac5e14f92da0161b122942cac commit 128\n\
+tree d8329fc1cc938780ffdd9f94e0d364e0ea74f579\n\
+author A <a@e.org> 1000000000 +0000\n\
+committer A <a@e.org> 1000000000 +0000\n\
+\n\
+first\n\
+\n\
+4b825dc642cb6eb9a060e54bf8d69288fbee4904 tree 0\n\
+\n\
+53733ff25454f579163cdad156e6816bd037d200 tag 409\n\
+object e9078245768b6749b275ea9ade16b2901a7e0f7b\n\
+type commit\n\
+tag s1\n\
+tagger A <a@e.org> 1000000000 +0000\n\
+\n\
+signed tag\n\
+-----BEGIN SSH SIGNATURE-----\n\
+U1NIU0lHAAAAAQAAADMAAAALc3NoLWVkMjU1MTkAAAAgv1dzYMATmiiytXM5eK8v6N9y56\n\
+rVuU3MfmrsqLaPuvwAAAADZ2l0AAAAAAAAAAZzaGE1MTIAAABTAAAAC3NzaC1lZDI1NTE5\n\
+AAAAQICjoJst/lCwwugeECSCYf4yH6IDnsfeaUHCxVhLOK8jM6IgLRyojXnIFfsSjFWSkQ\n\
++LBNkgtDE8ujKd7v8quwI=\n\
+-----END SSH SIGNATURE-----\n\
+\n\
+83baae61804e65cc73a7201a7252750c76066a30 blob 10\n\
+version 1\n\
+\n\
+901732adcb4e8b997b4849389eb2375b4d603184 commit 403\n\
+tree d8329fc1cc938780ffdd9f94e0d364e0ea74f579\n\
+parent 295c0651a95ba32ac5e14f92da0161b122942cac\n\
+parent e9078245768b6749b275ea9ade16b2901a7e0f7b\n\
+author A <a@e.org> 1000000050 +0100\n\
+committer A <a@e.org> 1000000050 -0730\n\
+mergetag object e9078245768b6749b275ea9ade16b2901a7e0f7b\n\
+\x20type commit\n\
+\x20tag m\n\
+\x20tagger A <a@e.org> 1000000040 +0000\n\
+\x20\n\
+\x20merged\n\
+HG:extra old\n\
+encoding UTF-8\n\
+\n\
+Merge tag 'm'\n\
+\n\
+no feed at the end\n\
+d8329fc1cc938780ffdd9f94e0d364e0ea74f579 tree 36\n\
+100644 test.txt\0\x83\xba\xaea\x80Ne\xccs\xa7 \x1arRu\x0cv\x06j0\n\
+dfae34f60f5c3b4cb3f3ca8e0bb172eed6220140 tag 63\n\
+object 53733ff25454f579163cdad156e6816bd037d200\n\
+type tag\n\
+tag q\n\
+\n\
+e9078245768b6749b275ea9ade16b2901a7e0f7b commit 490\n\
+tree d8329fc1cc938780ffdd9f94e0d364e0ea74f579\n\
+parent 295c0651a95ba32ac5e14f92da0161b122942cac\n\
+author A <a@e.org> 1000000000 +0000\n\
+committer A <a@e.org> 1000000000 +0000\n\
+gpgsig -----BEGIN SSH SIGNATURE-----\n\
+\x20U1NIU0lHAAAAAQAAADMAAAALc3NoLWVkMjU1MTkAAAAgv1dzYMATmiiytXM5eK8v6N9y56\n\
+\x20rVuU3MfmrsqLaPuvwAAAADZ2l0AAAAAAAAAAZzaGE1MTIAAABTAAAAC3NzaC1lZDI1NTE5\n\
+\x20AAAAQLaP6J4kB86Re6a0k3SQTTY6NlBTP6vvIdkEUhNjkdUTtiToV/d65pvNnlGphK04v1\n\
+\x20vwkzQxGZcgoiUqhSJA7Ak=\n\
+\x20-----END SSH SIGNATURE-----\n\
+\n\
+signed by ssh\n\
+\n\
+eff3ccf57c01ca412b62e4f295d00f413e76f383 commit 152\n\
+tree 4b825dc642cb6eb9a060e54bf8d69288fbee4904\n\
+parent 901732adcb4e8b997b4849389eb2375b4d603184\n\
+author A <a@e.org> 1 +0000\n\
+committer A <a@e.org> 1 +0000\n\
+\n\
+\n\
+f986b98258ceb164ecbdfbbed882d4aa2272c657 commit 100\n\
+tree 4b825dc642cb6eb9a060e54bf8d69288fbee4904\n\
+author  <> 0 +0000\n\
+committer A B <> 99999999999 +9999\n\
+\n\
+";
+
 const ROWS: &[Row] = &[
     Row {
         title: "nothing",
@@ -118,6 +200,22 @@ const ROWS: &[Row] = &[
             (Kind::Directory, b"d8329fc1cc938780ffdd9f94e0d364e0ea74f579"),
             (Kind::Content, b"e69de29bb2d1d6434b8b29ae775ad8c2e48c5391"),
             (Kind::Release, b"f84a22337c207d4d488517d79d52f1fa842bd9f7"),
+        ],
+    },
+    Row {
+        title: "odd headers and signatures",
+        batch: ODD,
+        objects: &[
+            (Kind::Revision, b"295c0651a95ba32ac5e14f92da0161b122942cac"),
+            (Kind::Directory, b"4b825dc642cb6eb9a060e54bf8d69288fbee4904"),
+            (Kind::Release, b"53733ff25454f579163cdad156e6816bd037d200"),
+            (Kind::Content, b"83baae61804e65cc73a7201a7252750c76066a30"),
+            (Kind::Revision, b"901732adcb4e8b997b4849389eb2375b4d603184"),
+            (Kind::Directory, b"d8329fc1cc938780ffdd9f94e0d364e0ea74f579"),
+            (Kind::Release, b"dfae34f60f5c3b4cb3f3ca8e0bb172eed6220140"),
+            (Kind::Revision, b"e9078245768b6749b275ea9ade16b2901a7e0f7b"),
+            (Kind::Revision, b"eff3ccf57c01ca412b62e4f295d00f413e76f383"),
+            (Kind::Revision, b"f986b98258ceb164ecbdfbbed882d4aa2272c657"),
         ],
     },
 ];

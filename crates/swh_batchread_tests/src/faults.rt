@@ -193,8 +193,10 @@ fn other_faults(rt: HostRuntime) -> Result<(), Fail> {
     let alloc = rt.alloc();
     for (number, (rest, fault)) in OTHER.iter().enumerate() {
         for piece in PIECES {
-            let told = fault_of(alloc, FRONT, rest, *piece)?;
-            assert_eq!(&rt; told, Some(*fault), "other {number}");
+            let alone = fault_of(alloc, b"", rest, *piece)?;
+            assert_eq!(&rt; alone, Some(*fault), "other {number}");
+            let behind = fault_of(alloc, FRONT, rest, *piece)?;
+            assert_eq!(&rt; behind, Some(*fault), "other {number}");
         }
     }
     Ok(())

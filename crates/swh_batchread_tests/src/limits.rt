@@ -3,7 +3,9 @@ use crate::world::read;
 use std::alloc::{AllocError, Global};
 use std::test::Fail;
 use swh_base::{Sha1Namer, Which};
-use swh_batchread::BatchFault;
+use swh_batchread::{BatchFault, read_batch};
+use swh_memory_input::MemorySource;
+use swh_outside::{Failed, Source};
 
 /// A header, so many zeros and an LF.
 fn zeros(alloc: Global, header: &[u8], size: usize) -> Result<Vec<u8>, AllocError> {
@@ -38,5 +40,31 @@ fn body_above_the_limit(rt: HostRuntime) -> Result<(), Fail> {
         number: 67_108_865,
     };
     assert_eq!(&rt; fault, Some(told));
+    Ok(())
+}
+
+/// A header of 55 bytes whose body is above the limit, and 45 bytes behind it.
+const LONG: &[u8] = b"e69de29bb2d1d6434b8b29ae775ad8c2e48c5391 blob 67108865\n\
+xxxxxxxxxxxxxxxxxxxxxxxxxxxxxxxxxxxxxxxxxxxx\n";
+
+/// How many bytes a source still gives, one by one, 100 at most.
+fn count_left(source: &mut MemorySource) -> Result<u64, Failed> {
+    let mut byte = [0u8];
+    for count in 0..100u64 {
+        if source.get(byte.as_mut_slice())? == 0 {
+            return Ok(count);
+        }
+    }
+    Ok(100)
+}
+
+#[test]
+fn long_body_unread(rt: HostRuntime) -> Result<(), Fail> {
+    let alloc = rt.alloc();
+    let bytes = Vec::from_slice(alloc, LONG)?;
+    let mut source = MemorySource::new(String::new(alloc), bytes, 1, Vec::new(alloc));
+    let refused = read_batch(alloc, &Sha1Namer, &mut source).is_err();
+    assert!(&rt; refused);
+    assert_eq!(&rt; count_left(&mut source), Ok(45));
     Ok(())
 }

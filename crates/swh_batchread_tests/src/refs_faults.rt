@@ -33,12 +33,16 @@ const BAD: &[&[u8]] = &[
     b"295c0651a95ba32ac5e14f92da0161b122942cac\trefs/heads/b\n",
     b"295c0651a95ba32ac5e14f92da0161b122942cac refs/heads/\0\n",
     b"295c0651a95ba32ac5e14f92da0161b122942cac \0^{}\n",
-    // A name that stands before, to another object.
-    b"83baae61804e65cc73a7201a7252750c76066a30 refs/heads/a\n",
     // The first of two faults.
-    b"295c0651a95ba32ac5e14f92da0161b122942cac refs/heads/a\n\n",
+    b"\n295c0651a95ba32ac5e14f92da0161b122942ca refs/heads/b\n",
     // A fault of lines before an id that no object has.
     b"\n1111111111111111111111111111111111111111 refs/heads/b\n",
+];
+
+/// What breaks in its first line behind the others, by a name that stands before: to another object, and before another fault.
+const AGAIN: &[&[u8]] = &[
+    b"83baae61804e65cc73a7201a7252750c76066a30 refs/heads/a\n",
+    b"295c0651a95ba32ac5e14f92da0161b122942cac refs/heads/a\n\n",
 ];
 
 /// What is no fault of a line.
@@ -62,9 +66,19 @@ fn behind(alloc: Global, refs: &[u8], piece: usize) -> Result<Option<BatchFault>
 }
 
 #[test]
-fn lines(rt: HostRuntime) -> Result<(), Fail> {
+fn first_lines(rt: HostRuntime) -> Result<(), Fail> {
     let alloc = rt.alloc();
     for (number, refs) in BAD.iter().enumerate() {
+        let told = fault_of_both(alloc, &Sha1Namer, COMMIT_FIRST, refs, 7)?;
+        assert_eq!(&rt; told, Some(BatchFault::BadRefs { line: 1 }), "bad {number}");
+    }
+    Ok(())
+}
+
+#[test]
+fn third_lines(rt: HostRuntime) -> Result<(), Fail> {
+    let alloc = rt.alloc();
+    for (number, refs) in BAD.iter().chain(AGAIN.iter()).enumerate() {
         for piece in PIECES {
             let told = behind(alloc, refs, *piece)?;
             assert_eq!(&rt; told, Some(BatchFault::BadRefs { line: 3 }), "bad {number}");
@@ -101,6 +115,27 @@ first\n\
 d8329fc1cc938780ffdd9f94e0d364e0ea74f579 tree 36\n\
 100644 test.txt\0\x83\xba\xaea\x80Ne\xccs\xa7 \x1arRu\x0cv\x06j0\n\
 e69de29bb2d1d6434b8b29ae775ad8c2e48c5391 blob 0\n\
+\n";
+
+/// A commit, whose tree is not there, and then a tree, none of whose items is.
+const TWO_LACK: &[u8] = b"295c0651a95ba32ac5e14f92da0161b122942cac commit 128\n\
+tree d8329fc1cc938780ffdd9f94e0d364e0ea74f579\n\
+author A <a@e.org> 1000000000 +0000\n\
+committer A <a@e.org> 1000000000 +0000\n\
+\n\
+first\n\
+\n\
+739e667484402a491461698a322e402e09690dc4 tree 126\n\
+40000 empty\0K\x82]\xc6B\xcbn\xb9\xa0`\xe5K\xf8\xd6\x92\x88\xfb\xeeI\x04120000 link\0\xe6\x9d\xe2\x9b\xb2\xd1\xd6\
+CK\x8b)\xaewZ\xd8\xc2\xe4\x8cS\x91100755 run\0\x83\xba\xaea\x80Ne\xccs\xa7 \x1arRu\x0cv\x06j0160000 sub\0\x11\x11\
+\x11\x11\x11\x11\x11\x11\x11\x11\x11\x11\x11\x11\x11\x11\x11\x11\x11\x11\n";
+
+/// The same tree alone, with its folder.
+const LINK_LACKS: &[u8] = b"739e667484402a491461698a322e402e09690dc4 tree 126\n\
+40000 empty\0K\x82]\xc6B\xcbn\xb9\xa0`\xe5K\xf8\xd6\x92\x88\xfb\xeeI\x04120000 link\0\xe6\x9d\xe2\x9b\xb2\xd1\xd6\
+CK\x8b)\xaewZ\xd8\xc2\xe4\x8cS\x91100755 run\0\x83\xba\xaea\x80Ne\xccs\xa7 \x1arRu\x0cv\x06j0160000 sub\0\x11\x11\
+\x11\x11\x11\x11\x11\x11\x11\x11\x11\x11\x11\x11\x11\x11\x11\x11\x11\x11\n\
+4b825dc642cb6eb9a060e54bf8d69288fbee4904 tree 0\n\
 \n";
 
 /// A blob and a commit, whose tree and parent are not there.
@@ -148,6 +183,32 @@ const LACKING: &[Row] = &[
         batch: COMMIT_FIRST,
         refs: b"1111111111111111111111111111111111111111 HEAD\n",
         lacks: b"1111111111111111111111111111111111111111",
+    },
+    Row {
+        title: "the children of the objects, in the batch's order",
+        batch: TWO_LACK,
+        refs: b"",
+        lacks: b"d8329fc1cc938780ffdd9f94e0d364e0ea74f579",
+    },
+    Row {
+        title: "the first of two children, and no revision of another project",
+        batch: LINK_LACKS,
+        refs: b"",
+        lacks: b"e69de29bb2d1d6434b8b29ae775ad8c2e48c5391",
+    },
+    Row {
+        title: "a tag's object that is not there, and no object that a tag leads to in the end",
+        batch: b"88a09fe28c3de8e6ebd5e51c824a3e91c1e6d8e4 tag 114\n\
+object d8329fc1cc938780ffdd9f94e0d364e0ea74f579\n\
+type tree\n\
+tag tree\n\
+tagger A <a@e.org> 1000000040 +0000\n\
+\n\
+of a tree\n\
+\n",
+        refs: b"1111111111111111111111111111111111111111 refs/tags/v^{}\n\
+88a09fe28c3de8e6ebd5e51c824a3e91c1e6d8e4 refs/tags/v\n",
+        lacks: b"d8329fc1cc938780ffdd9f94e0d364e0ea74f579",
     },
     Row {
         title: "the children of the last object, in their order",

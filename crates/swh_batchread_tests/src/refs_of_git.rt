@@ -1,6 +1,6 @@
 // Refs that git 2.39 wrote by `git show-ref --head -d`. The snapshots' ids were reckoned beside the program, by the manifest of
 // snapshots in SWHID v1.2; that of no branches is published.
-use crate::batches_of_git::EVERYTHING;
+use crate::batches_of_git::{EVERYTHING, ODD};
 use crate::world::{PIECES, read_both};
 use std::alloc::Global;
 use std::process::Abort;
@@ -34,6 +34,14 @@ const TURNED: &[u8] = b"f84a22337c207d4d488517d79d52f1fa842bd9f7 refs/tags/v1\n\
 d4a9f10c9400b7414258fb414f30b5ec3a9aa138 refs/heads/nul\n\
 9482b26213cb78db00672706db2aa9334c113057 refs/heads/main\n\
 9482b26213cb78db00672706db2aa9334c113057 HEAD\n";
+
+/// The refs of the repository of odd headers.
+const ODD_REFS: &[u8] = b"e9078245768b6749b275ea9ade16b2901a7e0f7b HEAD\n\
+e9078245768b6749b275ea9ade16b2901a7e0f7b refs/heads/main\n\
+f986b98258ceb164ecbdfbbed882d4aa2272c657 refs/heads/no\n\
+eff3ccf57c01ca412b62e4f295d00f413e76f383 refs/heads/odd\n\
+53733ff25454f579163cdad156e6816bd037d200 refs/tags/s1\n\
+e9078245768b6749b275ea9ade16b2901a7e0f7b refs/tags/s1^{}\n";
 
 /// A commit before its tree and its blob.
 pub const COMMIT_FIRST: &[u8] = b"295c0651a95ba32ac5e14f92da0161b122942cac commit 128\n\
@@ -112,6 +120,15 @@ const ROWS: &[Row] = &[
     },
 ];
 
+/// The repository of odd headers.
+const ODD_ROW: Row = Row {
+    title: "odd headers and signatures",
+    batch: ODD,
+    refs: ODD_REFS,
+    objects: 11,
+    snapshot: b"eb13c28ffec42682459952b767c377d9b129c299",
+};
+
 /// Checks that a row's batch and refs, in pieces of this size, give the row's objects and its snapshot, which stands last.
 fn check(rt: &impl Abort, alloc: Global, row: &Row, piece: usize) -> Result<(), Fail> {
     let given = read_both(alloc, &Sha1Namer, row.batch, row.refs, piece)??;
@@ -134,6 +151,15 @@ fn refs_of_git(rt: HostRuntime) -> Result<(), Fail> {
         for piece in PIECES {
             check(&rt, alloc, row, *piece)?;
         }
+    }
+    Ok(())
+}
+
+#[test]
+fn odd_refs_of_git(rt: HostRuntime) -> Result<(), Fail> {
+    let alloc = rt.alloc();
+    for piece in PIECES {
+        check(&rt, alloc, &ODD_ROW, *piece)?;
     }
     Ok(())
 }
