@@ -6,8 +6,11 @@ use swh_base::Name;
 
 const PLACES: usize = 65_536;
 
-/// Where the last name of each two first bytes was found. It has none where there was no memory for them, which costs time
-/// alone, and whatever it says is looked at before it is believed.
+/// The names of a list that is too short for its hints to save time.
+const FEW: usize = 4_096;
+
+/// Where the last name of each two first bytes was found. It has none for a short list, and where there was no memory for
+/// them, which costs time alone; and whatever it says is looked at before it is believed.
 #[derive(Drop)]
 pub struct Hints {
     places: Vec<u32>,
@@ -27,9 +30,12 @@ fn number_of(name: &Name) -> usize
 }
 
 impl Hints {
-    pub fn new(alloc: Global) -> Hints {
+    /// Hints for a list of so many names, of which a short one has none.
+    pub fn new(alloc: Global, count: usize) -> Hints {
         let mut places = Vec::new(alloc);
-        let _ = places.resize(PLACES, 0);
+        if count >= FEW {
+            let _ = places.resize(PLACES, 0);
+        }
         Hints { places }
     }
 
