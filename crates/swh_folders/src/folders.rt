@@ -64,7 +64,10 @@ fn is_full(folders: &mut Folders) -> bool
     ensures names { folders.new.names.items ≡ folders.old.names.items }
     ensures nodes { folders.new.nodes.items ≡ folders.old.nodes.items }
     ensures most { folders.new.most ≡ folders.old.most }
+    ensures room { folders.new.room ≡ folders.old.room }
+    ensures counted { folders.new.counted ≡ count_of folders.old }
     ensures few { IsFalse result → count_of folders.old ≤ folders.old.most }
+    ensures small { IsFalse result → folders.new.entries ≤ folders.old.room }
 {
     let more = entries_from(folders.nodes.as_slice(), folders.counted);
     folders.counted = folders.nodes.len();
