@@ -10,16 +10,16 @@ use Rattle.swh_base.specs.Directory.{IsEntryName}
 use Rattle.swh_outside.specs.Folder.{IsFolderEntryName}
 use Rattle.swh_outside.specs.declared.folder.What.TheVariants.{Folder}
 use Rattle.swh_dirload.specs.declared.found.Found.{Found}
-use Rattle.swh_dirload.specs.declared.place.Place.{Place}
-use Rattle.swh_dirload.specs.declared.place.Place.TheVariants as stands
-use Rattle.swh_dirload.specs.declared.spot.Spot.{Spot}
+use Rattle.swh_dirmade.specs.declared.place.Place.{Place}
+use Rattle.swh_dirmade.specs.declared.place.Place.TheVariants as stands
+use Rattle.swh_dirmade.specs.declared.spot.Spot.{Spot}
 use Rattle.swh_dirload.specs.Items.{Item}
 use Rattle.swh_dirload.specs.Found as found
 use Rattle.swh_dirload.specs.Lines.{spot_of}
-use Rattle.swh_dirload.specs.Places.{Places, places_of}
-use Rattle.swh_dirload.specs.Spots.{path_at, path_in, paths_behind, paths_of, path_to, above_at, name_at, place_at, ArePlaced, AreApart, AreNamed, AreNamedBehind, IsTable, IsFree, Stand}
-use Rattle.swh_dirload.proofs.Trees.{unique}
-use Rattle.swh_dirload.proofs.SpotTables.{stays, tree_of}
+use Rattle.swh_dirmade.specs.Spots.{Places, path_at, path_in, paths_behind, paths_of, path_to, above_at, name_at, place_at, ArePlaced, AreApart, AreNamed, AreNamedBehind, IsTable, IsFree, Stand}
+use Rattle.swh_dirload.specs.Places.{places_of}
+use Rattle.swh_dirmade.proofs.Trees.{unique}
+use Rattle.swh_dirmade.proofs.SpotTables.{stays, tree_of}
 use Rattle.swh_dirload.proofs.Indexes.{test_apart}
 
 -- what was found, as a spot

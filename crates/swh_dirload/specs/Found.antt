@@ -5,7 +5,8 @@ use Rattle.std.specs.List.{AllByRecursion}
 use Rattle.swh_outside.specs.Folder.{IsFolderEntryName}
 use Rattle.swh_outside.specs.declared.folder.Item as listed
 use Rattle.swh_dirload.specs.declared.found.Found.{Found}
-use Rattle.swh_dirload.specs.Items.{Item, child}
+use Rattle.swh_dirmade.specs.Paths.{child}
+use Rattle.swh_dirload.specs.Items.{Item}
 
 -- the path of a number, and the empty one past their end
 abbrev pub path_at : List (List ℕ) → ℕ → List ℕ

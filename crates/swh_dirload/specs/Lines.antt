@@ -11,13 +11,13 @@ use Rattle.swh_dirload.specs.declared.fault.DirFault.{DirFault}
 use Rattle.swh_dirload.specs.declared.fault.DirFault.TheVariants.{OtherKind, BadModes, Limit, ReadFault, Memory}
 use Rattle.swh_dirload.specs.declared.lookup.Lookup.{Lookup}
 use Rattle.swh_dirload.specs.declared.lookup.Lookup.TheVariants.{Here, Free, Lost}
-use Rattle.swh_dirload.specs.declared.place.Place.{Place}
-use Rattle.swh_dirload.specs.declared.place.Place.TheVariants as stands
-use Rattle.swh_dirload.specs.declared.spot.Spot.{Spot}
+use Rattle.swh_dirmade.specs.declared.place.Place.{Place}
+use Rattle.swh_dirmade.specs.declared.place.Place.TheVariants as stands
+use Rattle.swh_dirmade.specs.declared.spot.Spot.{Spot}
 use Rattle.swh_dirload.specs.declared.taking.Taken.{Taken}
 use Rattle.swh_dirload.specs.declared.taking.Taken.TheVariants.{Yes, No}
-use Rattle.swh_dirload.specs.Places.{Places, MayTake, take, TakesAll}
-use Rattle.swh_dirload.specs.Spots.{place_at, Stand}
+use Rattle.swh_dirmade.specs.Spots.{Places, place_at, Stand}
+use Rattle.swh_dirload.specs.Places.{MayTake, take, TakesAll}
 
 -- a line of this mode and path
 abbrev pub line_of : Mode → List ℕ → Listed

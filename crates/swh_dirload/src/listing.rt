@@ -4,15 +4,13 @@ ghost use Rattle.swh_outside.specs.Faults.{Rose};
 ghost use Rattle.swh_dirload.specs.declared.fault.DirFault.TheVariants.{ReadFault as NotRead};
 ghost use Rattle.swh_dirload.specs.Index.{IsIndex};
 ghost use Rattle.swh_dirload.specs.Lines.{AreTaken, ExplainsLines};
-ghost use Rattle.swh_dirload.specs.Places.{Places};
-ghost use Rattle.swh_dirload.specs.Spots.{IsTable, Stand};
+ghost use Rattle.swh_dirmade.specs.Spots.{Places, IsTable, Stand};
 
 use crate::fault::DirFault;
-use crate::place::Place;
-use crate::spot::Spot;
 use crate::taking::{Taken, take_line};
 use std::alloc::Global;
 use std::collections::BTreeMap;
+use swh_dirmade::{Place, Spot};
 use swh_fastlex::Window;
 use swh_listing::next_listed;
 use swh_outside::Source;

@@ -11,12 +11,11 @@ use crate::content::give_content;
 use crate::fault::DirFault;
 use crate::file::read_file;
 use crate::found::Found;
-use crate::given::Given;
 use crate::limits::FILES_LIMIT;
 use crate::path::path_of;
-use crate::place::Place;
 use std::alloc::Global;
 use swh_base::{Namer, Which};
+use swh_dirmade::{Given, Place};
 use swh_outside::{Folder, What};
 
 /// Reads a file and makes its content, where so many bytes were read before; what stands there, and how many bytes are

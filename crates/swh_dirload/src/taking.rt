@@ -4,18 +4,16 @@ ghost use Rattle.swh_base.specs.Directory.{IsEntryName};
 ghost use Rattle.swh_fastlex.specs.Path.{IsPath};
 ghost use Rattle.swh_listing.specs.declared.listed.Mode.TheVariants.{Project as OfProject};
 ghost use Rattle.swh_dirload.specs.declared.lookup.Lookup.{Lookup as Leads};
-ghost use Rattle.swh_dirload.specs.declared.place.Place.TheVariants.{File as AFile, Folder as AFolder};
+ghost use Rattle.swh_dirmade.specs.declared.place.Place.TheVariants.{File as AFile, Folder as AFolder};
 ghost use Rattle.swh_dirload.specs.Index.{IsIndex, HasNone, LooksUp};
 ghost use Rattle.swh_dirload.specs.Lines.{SetsMode, TakesMode, AddsProject, IsTaken};
-ghost use Rattle.swh_dirload.specs.Places.{Places};
-ghost use Rattle.swh_dirload.specs.Spots.{IsTable, Stand};
+ghost use Rattle.swh_dirmade.specs.Spots.{Places, IsTable, Stand};
 
 use crate::lookup::{Lookup, add_number, look_up};
-use crate::place::Place;
-use crate::spot::Spot;
 use std::alloc::Global;
 use std::collections::BTreeMap;
 use swh_base::{Bytes, Memory};
+use swh_dirmade::{Place, Spot};
 use swh_fastlex::is_path;
 use swh_listing::{Listed, Mode};
 

@@ -1,8 +1,7 @@
 use Rattle.std.proofs.Common.{◌≡◌, ◌+◌, ◌-◌, ◌≤◌, length}
 use Rattle.swh_fastlex.specs.Line.{unread}
 use Rattle.swh_dirload.specs.Index.{IsIndex}
-use Rattle.swh_dirload.specs.Places.{Places}
-use Rattle.swh_dirload.specs.Spots.{IsTable, Stand}
+use Rattle.swh_dirmade.specs.Spots.{Places, IsTable, Stand}
 use Rattle.swh_dirload.proofs.TakenLines.{Goes}
 use Rattle.swh_dirload.proofs.listing.take_lines.Given as goal
 

@@ -1,7 +1,7 @@
 use Rattle.std.proofs.Common.{◌≡◌, ℕ, ◌+◌, ◌<◌, List, [], ◌∷◌, length, length-append, take, get_or, sym, ap, ◌∙◌, subst, arith, rules}
 use Rattle.swh_outside.specs.Folder.{Tree}
 use Rattle.swh_dirload.specs.declared.found.Found.{Found}
-use Rattle.swh_dirload.specs.declared.place.Place.{Place}
+use Rattle.swh_dirmade.specs.declared.place.Place.{Place}
 use Rattle.swh_dirload.specs.Found.{path_in, paths_of, items_of, IsPlaced}
 use Rattle.swh_dirload.specs.Reading.{IsRead, ReadsAll, ExplainsRead, ExplainsReading}
 use Rattle.swh_dirload.proofs.Tables.{placed_at}
