@@ -1,4 +1,5 @@
 pub mod FoundSpots
+pub mod Helds
 pub mod Indexes
 pub mod Lookups
 pub mod Naming

@@ -1,5 +1,8 @@
 //! The listing of a folder, taken line by line.
-ghost use Rattle.std.specs.Prelude.{◌≡◌, ◌≤◌, IfErr, IsErrOf, OnOk, length};
+ghost use Rattle.std.specs.Prelude.{◌≡◌, ◌≤◌, IfErr, IsErrOf, List, OnOk, length};
+ghost use Rattle.std.specs.List.{AllByRecursion};
+ghost use Rattle.swh_base.specs.declared.name.Name.{Name};
+ghost use Rattle.swh_dirmade.specs.Making.{IsHeld};
 ghost use Rattle.swh_outside.specs.Faults.{Rose};
 ghost use Rattle.swh_dirload.specs.declared.fault.DirFault.TheVariants.{ReadFault as NotRead};
 ghost use Rattle.swh_dirload.specs.Index.{IsIndex};
@@ -35,6 +38,8 @@ pub fn take_lines<S: Source>(
         → OnOk result (AreTaken before (S.left source.old) spots.new.items places.new.items) }
     ensures err { S.tells → (before : Places) → Stand spots.old.items places.old.items before
         → IfErr result (ExplainsLines before (S.left source.old)) }
+    ensures held { (names : List Name) → AllByRecursion (IsHeld names) places.old.items
+        → OnOk result (AllByRecursion (IsHeld names) places.new.items) }
     ensures table { OnOk result (IsTable spots.new.items) }
     ensures count { OnOk result (length places.new.items ≡ length spots.new.items) }
 

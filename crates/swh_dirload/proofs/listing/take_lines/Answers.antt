@@ -22,6 +22,7 @@ lines-init g c =
           let text = g.S.Source.left c.args.source.now in
           let all : text ≡ unread c.in_ok-window.window text = ap (λ (held : List ℕ). held ++ text) (sym c.in_ok-window.ensures.empty) in
           subst (λ (n : ℕ). Goes before text n (unread c.in_ok-window.window text) 1 c.args.spots.now.items c.args.places.now.items) (sym first) (begins before text (unread c.in_ok-window.window text) c.args.spots.now.items c.args.places.now.items stand all);
+      held = λ names h. h;
       same_path = refl;
       quiet = refl;
     }
@@ -49,6 +50,7 @@ lines-preserved g c =
           let so = inv.goes sure before stand in
           let taken : IsTaken so.places c.in-Some.listed.mode c.in-Some.listed.path c.take_line.new.spots.items c.take_line.new.places.items Yes = rw c.in-Yes.is at (done.taken so.places so.stand) in
           goes_on before whole c.lines.window.place (unread c.lines.window (g.S.Source.left c.lines.source)) c.lines.line c.lines.spots.items c.take_line.new.spots.items c.lines.places.items c.take_line.new.places.items t.line rest c.next_listed.new.window.place c.in-Some.listed so t.takes t.says t.here taken;
+      held = λ names h. done.held names (inv.held names h);
       same_path = next.same_path ∙ inv.same_path;
       quiet = next.quiet ∙ inv.quiet;
     }
