@@ -3,7 +3,9 @@ pub mod Helds
 pub mod Indexes
 pub mod Lookups
 pub mod Naming
+pub mod Onward
 pub mod Readings
+pub mod Sizes
 pub mod Standings
 pub mod Tables
 pub mod TakenLines

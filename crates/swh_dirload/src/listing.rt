@@ -6,7 +6,7 @@ ghost use Rattle.swh_dirmade.specs.Making.{IsHeld};
 ghost use Rattle.swh_outside.specs.Faults.{Rose};
 ghost use Rattle.swh_dirload.specs.declared.fault.DirFault.TheVariants.{ReadFault as NotRead};
 ghost use Rattle.swh_dirload.specs.Index.{IsIndex};
-ghost use Rattle.swh_dirload.specs.Lines.{AreTaken, ExplainsLines};
+ghost use Rattle.swh_dirload.specs.Lines.{AreTaken, ExplainsLines, GoesOn};
 ghost use Rattle.swh_dirmade.specs.Spots.{Places, IsTable, Stand};
 
 use crate::fault::DirFault;
@@ -40,6 +40,7 @@ pub fn take_lines<S: Source>(
         → IfErr result (ExplainsLines before (S.left source.old)) }
     ensures held { (names : List Name) → AllByRecursion (IsHeld names) places.old.items
         → OnOk result (AllByRecursion (IsHeld names) places.new.items) }
+    ensures goes { OnOk result (GoesOn spots.old.items places.old.items spots.new.items places.new.items) }
     ensures table { OnOk result (IsTable spots.new.items) }
     ensures count { OnOk result (length places.new.items ≡ length spots.new.items) }
 

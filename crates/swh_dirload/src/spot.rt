@@ -1,7 +1,7 @@
 //! The names of what stands in a folder, also by its listing.
 ghost use Rattle.std.specs.Prelude.{◌≡◌, ◌<◌, List, IfOk, length};
 ghost use Rattle.swh_dirmade.specs.declared.place.Place.{Place};
-ghost use Rattle.swh_dirload.specs.Found.{items_of, ArePlaced, AreNamedBehind};
+ghost use Rattle.swh_dirload.specs.Found.{items_of, ArePlaced, AreNamedBehind, HavePaths};
 ghost use Rattle.swh_dirload.specs.Places.{places_of};
 ghost use Rattle.swh_dirmade.specs.Spots.{IsTable, Stand};
 
@@ -17,6 +17,7 @@ pub fn spots_of(alloc: Global, found: &[Found]) -> Result<Vec<Spot>, Memory>
     requires named { AreNamedBehind found.now }
     ensures table { IfOk result (λ spots. IsTable spots.items) }
     ensures count { IfOk result (λ spots. length spots.items ≡ length found.now) }
+    ensures paths { IfOk result (λ spots. HavePaths spots.items (items_of found.now)) }
     ensures stand { (standing : List Place) → length standing ≡ length found.now
         → IfOk result (λ spots. Stand spots.items standing (places_of (items_of found.now) standing)) }
 {

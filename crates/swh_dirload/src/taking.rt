@@ -9,7 +9,7 @@ ghost use Rattle.swh_listing.specs.declared.listed.Mode.TheVariants.{Project as 
 ghost use Rattle.swh_dirload.specs.declared.lookup.Lookup.{Lookup as Leads};
 ghost use Rattle.swh_dirmade.specs.declared.place.Place.TheVariants.{File as AFile, Folder as AFolder};
 ghost use Rattle.swh_dirload.specs.Index.{IsIndex, HasNone, LooksUp};
-ghost use Rattle.swh_dirload.specs.Lines.{SetsMode, TakesMode, AddsProject, IsTaken};
+ghost use Rattle.swh_dirload.specs.Lines.{SetsMode, TakesMode, AddsProject, IsTaken, GoesOn};
 ghost use Rattle.swh_dirmade.specs.Spots.{Places, IsTable, Stand};
 
 use crate::lookup::{Lookup, add_number, look_up};
@@ -136,6 +136,7 @@ fn take_project(
         → IfOk result (IsTaken before (OfProject id) path.now spots.new.items places.new.items) }
     ensures held { (names : List Name) → AllByRecursion (IsHeld names) places.old.items
         → OnOk result (AllByRecursion (IsHeld names) places.new.items) }
+    ensures goes { OnOk result (GoesOn spots.old.items places.old.items spots.new.items places.new.items) }
     ensures table { OnOk result (IsTable spots.new.items) }
     ensures index { OnOk result (IsIndex spots.new.items numbers.new.entries) }
     ensures count { OnOk result (length places.new.items ≡ length spots.new.items) }
@@ -162,6 +163,7 @@ pub fn take_line(
         → IfOk result (IsTaken before listed.now.mode listed.now.path spots.new.items places.new.items) }
     ensures held { (names : List Name) → AllByRecursion (IsHeld names) places.old.items
         → OnOk result (AllByRecursion (IsHeld names) places.new.items) }
+    ensures goes { OnOk result (GoesOn spots.old.items places.old.items spots.new.items places.new.items) }
     ensures table { OnOk result (IsTable spots.new.items) }
     ensures index { OnOk result (IsIndex spots.new.items numbers.new.entries) }
     ensures count { OnOk result (length places.new.items ≡ length spots.new.items) }

@@ -3,6 +3,7 @@ use Rattle.swh_listing.specs.declared.listed.Mode.{Mode}
 use Rattle.swh_dirload.specs.Lines.{IsTaken}
 use Rattle.swh_dirload.proofs.TakenLines.{executable_result, link_result}
 use Rattle.swh_dirload.proofs.Helds.{mode_held}
+use Rattle.swh_dirload.proofs.Onward.{mode_on}
 use Rattle.swh_dirload.proofs.taking.take_line.Goals as goal
 
 pub returns-in-Executable-clause-taken : goal.returns-in-Executable-clause-taken
@@ -22,3 +23,11 @@ returns-in-Executable-clause-held c = λ names held.
 pub returns-in-Link-clause-held : goal.returns-in-Link-clause-held
 returns-in-Link-clause-held c = λ names held.
     mode_held names c.args.spots.now.items c.args.listed.now.path c.args.places.now.items c.take_mode-in-Link.new.places.items 120000 c.take_mode-in-Link.result (inr (inr refl)) (rw (c.as_slice-in-Link.ensures.value, c.as_slice-path.ensures) at c.take_mode-in-Link.ensures.taken) held
+
+pub returns-in-Executable-clause-goes : goal.returns-in-Executable-clause-goes
+returns-in-Executable-clause-goes c =
+    mode_on c.args.spots.now.items c.args.listed.now.path c.args.places.now.items c.take_mode.new.places.items 100755 c.take_mode.result c.requires.count (rw (c.as_slice.ensures.value, c.as_slice-path.ensures) at c.take_mode.ensures.taken)
+
+pub returns-in-Link-clause-goes : goal.returns-in-Link-clause-goes
+returns-in-Link-clause-goes c =
+    mode_on c.args.spots.now.items c.args.listed.now.path c.args.places.now.items c.take_mode-in-Link.new.places.items 120000 c.take_mode-in-Link.result c.requires.count (rw (c.as_slice-in-Link.ensures.value, c.as_slice-path.ensures) at c.take_mode-in-Link.ensures.taken)

@@ -4,6 +4,7 @@ use Rattle.swh_dirload.specs.declared.lookup.Lookup.TheVariants.{Free, Lost}
 use Rattle.swh_dirload.specs.Index.{LooksUp, MayAdd}
 use Rattle.swh_dirload.proofs.TakenLines.{project_result, project_none}
 use Rattle.swh_dirload.proofs.Helds.{project_held}
+use Rattle.swh_dirload.proofs.Onward.{project_on}
 use Rattle.swh_dirload.proofs.taking.take_project.Goals as goal
 
 pub returns-in-Free-clause-taken : goal.returns-in-Free-clause-taken
@@ -21,3 +22,7 @@ returns-in-Lost-clause-taken c = λ before stand good may.
 pub returns-in-Free-clause-held : goal.returns-in-Free-clause-held
 returns-in-Free-clause-held c = λ names held.
     project_held names c.in-Free.above c.in-Free.name c.args.id c.args.spots.now.items c.add_project.new.spots.items c.args.places.now.items c.add_project.new.places.items c.add_project.result c.add_project.ensures.adds held
+
+pub returns-in-Free-clause-goes : goal.returns-in-Free-clause-goes
+returns-in-Free-clause-goes c =
+    project_on c.in-Free.above c.in-Free.name c.args.id c.args.spots.now.items c.add_project.new.spots.items c.args.places.now.items c.add_project.new.places.items c.add_project.result c.requires.count c.add_project.ensures.adds
