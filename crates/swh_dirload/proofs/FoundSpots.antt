@@ -10,16 +10,17 @@ use Rattle.swh_base.specs.Directory.{IsEntryName}
 use Rattle.swh_outside.specs.Folder.{IsFolderEntryName}
 use Rattle.swh_outside.specs.declared.folder.What.TheVariants.{Folder}
 use Rattle.swh_dirload.specs.declared.found.Found.{Found}
-use Rattle.swh_dirload.specs.declared.place.Place.{Place}
-use Rattle.swh_dirload.specs.declared.place.Place.TheVariants as stands
-use Rattle.swh_dirload.specs.declared.spot.Spot.{Spot}
+use Rattle.swh_dirmade.specs.declared.place.Place.{Place}
+use Rattle.swh_dirmade.specs.declared.place.Place.TheVariants as stands
+use Rattle.swh_dirmade.specs.declared.spot.Spot.{Spot}
 use Rattle.swh_dirload.specs.Items.{Item}
 use Rattle.swh_dirload.specs.Found as found
+use Rattle.swh_dirload.specs.Found.{HavePaths}
 use Rattle.swh_dirload.specs.Lines.{spot_of}
-use Rattle.swh_dirload.specs.Places.{Places, places_of}
-use Rattle.swh_dirload.specs.Spots.{path_at, path_in, paths_behind, paths_of, path_to, above_at, name_at, place_at, ArePlaced, AreApart, AreNamed, AreNamedBehind, IsTable, IsFree, Stand}
-use Rattle.swh_dirload.proofs.Trees.{unique}
-use Rattle.swh_dirload.proofs.SpotTables.{stays, tree_of}
+use Rattle.swh_dirmade.specs.Spots.{Places, path_at, path_in, paths_behind, paths_of, path_to, above_at, name_at, place_at, ArePlaced, AreApart, AreNamed, AreNamedBehind, IsTable, IsFree, Stand}
+use Rattle.swh_dirload.specs.Places.{places_of}
+use Rattle.swh_dirmade.proofs.Trees.{unique}
+use Rattle.swh_dirmade.proofs.SpotTables.{stays, tree_of}
 use Rattle.swh_dirload.proofs.Indexes.{test_apart}
 
 -- what was found, as a spot
@@ -113,6 +114,14 @@ no_match (i ∷ items) [] path d none = refl
 no_match (i ∷ items) (s ∷ standing) path d none =
     ap (λ (b : Bool). cond b (Some s) (places_of items standing path)) (test_apart path i.0 (λ e. none 0 (omega arith) (sym e)))
     ∙ no_match items standing path d (λ k low. none (suc k) (omega (arith, low)))
+
+-- the paths of what was found
+pub paths_found : (fs : List Found) → HavePaths (map spot_in fs) (found.items_of fs)
+paths_found fs = λ k lt.
+    let m = length-map fs spot_in in
+    let d : Item = ([], Folder) in
+    let e : 0 + k ≡ k = omega arith in
+    sym (item_path [] fs k d (omega (arith, lt, m)) ∙ ap (path_to (map spot_in fs)) e)
 
 pub stand_found : (fs : List Found) (standing : List Place) → IsTable (map spot_in fs) → length standing ≡ length fs → Stand (map spot_in fs) standing (places_of (found.items_of fs) standing)
 stand_found fs standing table count =

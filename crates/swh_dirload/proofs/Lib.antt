@@ -1,14 +1,12 @@
 pub mod FoundSpots
-pub mod Givens
+pub mod Helds
 pub mod Indexes
 pub mod Lookups
 pub mod Naming
-pub mod Paths
+pub mod Onward
 pub mod Readings
-pub mod Sorting
-pub mod SpotTables
+pub mod Sizes
 pub mod Standings
 pub mod Tables
 pub mod TakenLines
-pub mod Trees
 pub mod Walks

@@ -2,13 +2,13 @@
 use Rattle.std.proofs.Common.{◌≡◌, ℕ, ◌<◌, List, [], ◌∷◌, ◌++◌, length, Contains, sym, ap, ◌∙◌, subst}
 use Rattle.swh_base.specs.Directory.{IsEntryName}
 use Rattle.swh_fastlex.specs.Path.{IsComponent}
-use Rattle.swh_dirload.specs.declared.spot.Spot.{Spot}
-use Rattle.swh_dirload.specs.Items.{child}
-use Rattle.swh_dirload.specs.Spots.{path_to, above_at, name_at, IsTable}
+use Rattle.swh_dirmade.specs.declared.spot.Spot.{Spot}
+use Rattle.swh_dirmade.specs.Paths.{child}
+use Rattle.swh_dirmade.specs.Spots.{path_to, above_at, name_at, IsTable}
 use Rattle.swh_dirload.specs.Index.{IsIn, HasNone, IsCutOff, MayAdd}
-use Rattle.swh_dirload.proofs.Paths.{child_some, child_deeper, child_below}
-use Rattle.swh_dirload.proofs.Trees.{parent}
-use Rattle.swh_dirload.proofs.SpotTables.{tree_of}
+use Rattle.swh_dirmade.proofs.Paths.{child_some, child_deeper, child_below}
+use Rattle.swh_dirmade.proofs.Trees.{parent}
+use Rattle.swh_dirmade.proofs.SpotTables.{tree_of}
 
 pub path_first : (spots : List Spot) (path : List ℕ) → IsTable spots → path ≡ child (path_to spots 0) path
 path_first spots path table = sym (ap (λ (dir : List ℕ). child dir path) (tree_of spots table).first)

@@ -9,7 +9,7 @@ use Rattle.swh_dirload.specs.declared.fault.DirFault.{DirFault}
 use Rattle.swh_dirload.specs.declared.fault.DirFault.TheVariants.{OtherKind, BadModes, Limit, ReadFault, Memory}
 use Rattle.swh_dirload.specs.declared.found.Found.{Found}
 use Rattle.swh_dirload.specs.declared.limits.TheConstants.{FILES_LIMIT}
-use Rattle.swh_dirload.specs.declared.place.Place.{Place}
+use Rattle.swh_dirmade.specs.declared.place.Place.{Place}
 use Rattle.swh_dirload.specs.Found.{path_in, item_under, paths_behind, items_behind, paths_of, items_of, ArePlaced}
 use Rattle.swh_dirload.specs.Items.{Item, Fits}
 use Rattle.swh_dirload.specs.Walk.{AllFit}

@@ -12,17 +12,17 @@ use Rattle.swh_listing.specs.declared.listed.Mode.{Mode}
 use Rattle.swh_listing.specs.declared.listed.Mode.TheVariants.{Executable, Link, Project}
 use Rattle.swh_dirload.specs.declared.lookup.Lookup.{Lookup}
 use Rattle.swh_dirload.specs.declared.lookup.Lookup.TheVariants.{Here, Free, Lost}
-use Rattle.swh_dirload.specs.declared.place.Place.{Place}
-use Rattle.swh_dirload.specs.declared.place.Place.TheVariants as stands
-use Rattle.swh_dirload.specs.declared.spot.Spot.{Spot}
-use Rattle.swh_dirload.specs.Items.{child}
-use Rattle.swh_dirload.specs.Places.{Places, IsInFolder, MayTake, changed, take}
-use Rattle.swh_dirload.specs.Spots.{path_at, path_in, paths_of, path_to, above_at, name_at, place_at, IsPlaced, ArePlaced, AreApart, AreNamed, AreNamedBehind, IsTable, IsFree, Stand}
+use Rattle.swh_dirmade.specs.declared.place.Place.{Place}
+use Rattle.swh_dirmade.specs.declared.place.Place.TheVariants as stands
+use Rattle.swh_dirmade.specs.declared.spot.Spot.{Spot}
+use Rattle.swh_dirmade.specs.Paths.{child}
+use Rattle.swh_dirmade.specs.Spots.{Places, path_at, path_in, paths_of, path_to, above_at, name_at, place_at, IsPlaced, ArePlaced, AreApart, AreNamed, AreNamedBehind, IsTable, IsFree, Stand}
+use Rattle.swh_dirload.specs.Places.{IsInFolder, MayTake, changed, take}
 use Rattle.swh_dirload.specs.Index.{key_text, Adds, LeadsTo, IsIndexTo, IsIndex, IsIn, HasNone, IsCutOff, MayAdd, LooksUp, number_of}
 use Rattle.swh_dirload.specs.Lines.{line_of}
-use Rattle.swh_dirload.proofs.Paths.{child_injective, cut_above}
-use Rattle.swh_dirload.proofs.Trees.{unique, parent, ancestor}
-use Rattle.swh_dirload.proofs.SpotTables.{length_paths, paths_push, placed_push, above_is, name_is, tree_of}
+use Rattle.swh_dirmade.proofs.Paths.{child_injective, cut_above}
+use Rattle.swh_dirmade.proofs.Trees.{unique, parent, ancestor}
+use Rattle.swh_dirmade.proofs.SpotTables.{length_paths, paths_push, placed_push, above_is, name_is, tree_of}
 use Rattle.swh_dirload.proofs.Indexes.{test_self, test_apart, index_step}
 
 some_none : (p : Place) → None ≡ Some p → ⊥

@@ -4,7 +4,8 @@ use Rattle.std.specs.Prelude.{string_bytes, slice_index_or}
 use Rattle.std.proofs.lemmas.List.{get_or_append_left, get_or-map}
 use Rattle.std.proofs.Math.Seq.{get_or-append_seam}
 use Rattle.swh_dirload.specs.declared.found.Found.{Found}
-use Rattle.swh_dirload.specs.Items.{Item, child}
+use Rattle.swh_dirmade.specs.Paths.{child}
+use Rattle.swh_dirload.specs.Items.{Item}
 use Rattle.swh_dirload.specs.Found.{path_at, path_in, item_under, paths_behind, items_behind, paths_of, IsPlaced, ArePlaced, AreBelow, items_under}
 
 pub length_paths : (paths : List (List ℕ)) (found : List Found) → length (paths_behind paths found) ≡ length paths + length found

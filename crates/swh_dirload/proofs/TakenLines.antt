@@ -15,14 +15,14 @@ use Rattle.swh_listing.specs.Fault.{NextBreaks}
 use Rattle.swh_listing.proofs.Readings.{one_more, all_read}
 use Rattle.swh_dirload.specs.declared.lookup.Lookup.{Lookup}
 use Rattle.swh_dirload.specs.declared.lookup.Lookup.TheVariants.{Here, Free, Lost}
-use Rattle.swh_dirload.specs.declared.place.Place.{Place}
-use Rattle.swh_dirload.specs.declared.place.Place.TheVariants as stands
-use Rattle.swh_dirload.specs.declared.spot.Spot.{Spot}
+use Rattle.swh_dirmade.specs.declared.place.Place.{Place}
+use Rattle.swh_dirmade.specs.declared.place.Place.TheVariants as stands
+use Rattle.swh_dirmade.specs.declared.spot.Spot.{Spot}
 use Rattle.swh_dirload.specs.declared.taking.Taken.{Taken}
 use Rattle.swh_dirload.specs.declared.taking.Taken.TheVariants.{Yes, No}
 use Rattle.swh_dirload.specs.Faults.{listing_fault}
-use Rattle.swh_dirload.specs.Places.{Places, IsInFolder, MayTake, changed, take, TakesAll}
-use Rattle.swh_dirload.specs.Spots.{place_at, IsTable, Stand}
+use Rattle.swh_dirmade.specs.Spots.{Places, place_at, IsTable, Stand}
+use Rattle.swh_dirload.specs.Places.{IsInFolder, MayTake, changed, take, TakesAll}
 use Rattle.swh_dirload.specs.Index.{MayAdd, LooksUp}
 use Rattle.swh_dirload.specs.Lines.{line_of, TakesMode, spot_of, AddsProject, IsTaken, ExplainsLines, AreTaken}
 use Rattle.swh_dirload.proofs.Standings.{mode_refused, mode_may, mode_taken, project_refused, project_may, project_taken}

@@ -11,7 +11,8 @@ use Rattle.swh_outside.specs.declared.folder.What.TheVariants.{File, Folder, Oth
 use Rattle.swh_dirload.specs.declared.fault.DirFault.{DirFault}
 use Rattle.swh_dirload.specs.declared.fault.DirFault.TheVariants.{OtherKind, BadModes, Limit, ReadFault, Memory}
 use Rattle.swh_dirload.specs.declared.found.Found.{Found}
-use Rattle.swh_dirload.specs.Items.{Item, child, item_in, HasItems, Fits}
+use Rattle.swh_dirmade.specs.Paths.{child}
+use Rattle.swh_dirload.specs.Items.{Item, item_in, HasItems, Fits}
 use Rattle.swh_dirload.specs.Found.{path_in, item_under, paths_of, items_of, IsPlaced, AreBelow, found_in, items_under}
 use Rattle.swh_dirload.specs.Walk.{root, Visits, Takes, AllFit, ComesTo, ExplainsItem, ExplainsWalk}
 use Rattle.swh_dirload.proofs.Tables.{length_paths, paths_push, items_push, under_push}

@@ -4,8 +4,12 @@ use Rattle.std.specs.Prelude.{◌≡◌, ◌<◌, ◌≤◌, ◌+◌, ◌-◌, �
 use Rattle.std.specs.List.{AllByRecursion}
 use Rattle.swh_outside.specs.Folder.{IsFolderEntryName}
 use Rattle.swh_outside.specs.declared.folder.Item as listed
+use Rattle.swh_outside.specs.declared.folder.What.TheVariants.{Folder}
 use Rattle.swh_dirload.specs.declared.found.Found.{Found}
-use Rattle.swh_dirload.specs.Items.{Item, child}
+use Rattle.swh_dirmade.specs.Paths.{child}
+use Rattle.swh_dirmade.specs.declared.spot.Spot.{Spot}
+use Rattle.swh_dirmade.specs.Spots.{path_to}
+use Rattle.swh_dirload.specs.Items.{Item}
 
 -- the path of a number, and the empty one past their end
 abbrev pub path_at : List (List ℕ) → ℕ → List ℕ
@@ -54,6 +58,14 @@ AreBelow count = AllByRecursion (λ f. f.above < count)
 -- an item of the list of the folder of this number
 abbrev pub found_in : ℕ → listed.Item → Found
 found_in number item = record { above = number; name = item.name; what = item.what }
+
+-- the item of a number, and the folder itself past their end
+abbrev pub item_at : List Item → ℕ → Item
+item_at items number = slice_index_or items number ([], Folder)
+
+-- These spots have the paths of the items, one after the other.
+abbrev pub HavePaths : List Spot → List Item → Type 0
+HavePaths spots items = (number : ℕ) → number < length spots → path_to spots number ≡ (item_at items number).0
 
 -- the items that wait, where folders have these paths
 abbrev pub items_under : List (List ℕ) → List Found → List Item

@@ -9,9 +9,9 @@ use Rattle.std.specs.Str.{bytes_eq}
 use Rattle.swh_base.specs.Directory.{IsEntryName}
 use Rattle.swh_dirload.specs.declared.lookup.Lookup.{Lookup}
 use Rattle.swh_dirload.specs.declared.lookup.Lookup.TheVariants.{Here, Free, Lost}
-use Rattle.swh_dirload.specs.declared.spot.Spot.{Spot}
-use Rattle.swh_dirload.specs.Items.{child}
-use Rattle.swh_dirload.specs.Spots.{path_to, above_at, name_at, IsFree}
+use Rattle.swh_dirmade.specs.declared.spot.Spot.{Spot}
+use Rattle.swh_dirmade.specs.Paths.{child}
+use Rattle.swh_dirmade.specs.Spots.{path_to, above_at, name_at, IsFree}
 
 -- what the name in the folder of a number is looked up by
 abbrev pub key_text : ℕ → List ℕ → List ℕ

@@ -7,15 +7,11 @@ use Rattle.swh_base.specs.Limits.{path_limit}
 use Rattle.swh_outside.specs.Folder.{FolderEntry, Tree, entries_at, AreNames}
 use Rattle.swh_outside.specs.declared.folder.What.{What}
 use Rattle.swh_outside.specs.declared.folder.What.TheVariants.{File, Folder, Other}
+use Rattle.swh_dirmade.specs.Paths.{child}
 
 -- a path in a folder, and what stands there
 abbrev pub Item : Type 0
 Item = List ℕ × What
-
--- the path of a name in the folder at a path
-abbrev pub child : List ℕ → List ℕ → List ℕ
-child [] name = name
-child (c ∷ dir) name = (c ∷ dir) ++ 47 ∷ name
 
 -- an entry of the list of the folder at a path
 abbrev pub item_in : List ℕ → FolderEntry → Item

@@ -1,11 +1,9 @@
 pub mod Faults
 pub mod Files
 pub mod Found
-pub mod Giving
 pub mod Index
 pub mod Items
 pub mod Lines
 pub mod Places
 pub mod Reading
-pub mod Spots
 pub mod Walk

@@ -1,5 +1,5 @@
 -- The lines of a listing, taken one after another.
-use Rattle.std.specs.Prelude.{◌≡◌, ◌⊎◌, ◌+◌, ℕ, List, [], ◌∷◌, ◌++◌, length, map, slice_set, Some}
+use Rattle.std.specs.Prelude.{◌≡◌, ◌⊎◌, ◌<◌, ◌≤◌, ◌+◌, ℕ, List, [], ◌∷◌, ◌++◌, length, map, slice_set, Some}
 use Rattle.swh_base.specs.declared.visit.Which.{Which}
 use Rattle.swh_fastlex.specs.Path.{IsPath}
 use Rattle.swh_listing.specs.declared.fault.ListingFault.TheVariants as listing
@@ -11,13 +11,13 @@ use Rattle.swh_dirload.specs.declared.fault.DirFault.{DirFault}
 use Rattle.swh_dirload.specs.declared.fault.DirFault.TheVariants.{OtherKind, BadModes, Limit, ReadFault, Memory}
 use Rattle.swh_dirload.specs.declared.lookup.Lookup.{Lookup}
 use Rattle.swh_dirload.specs.declared.lookup.Lookup.TheVariants.{Here, Free, Lost}
-use Rattle.swh_dirload.specs.declared.place.Place.{Place}
-use Rattle.swh_dirload.specs.declared.place.Place.TheVariants as stands
-use Rattle.swh_dirload.specs.declared.spot.Spot.{Spot}
+use Rattle.swh_dirmade.specs.declared.place.Place.{Place}
+use Rattle.swh_dirmade.specs.declared.place.Place.TheVariants as stands
+use Rattle.swh_dirmade.specs.declared.spot.Spot.{Spot}
 use Rattle.swh_dirload.specs.declared.taking.Taken.{Taken}
 use Rattle.swh_dirload.specs.declared.taking.Taken.TheVariants.{Yes, No}
-use Rattle.swh_dirload.specs.Places.{Places, MayTake, take, TakesAll}
-use Rattle.swh_dirload.specs.Spots.{place_at, Stand}
+use Rattle.swh_dirmade.specs.Spots.{Places, path_to, place_at, Stand}
+use Rattle.swh_dirload.specs.Places.{MayTake, take, TakesAll}
 
 -- a line of this mode and path
 abbrev pub line_of : Mode → List ℕ → Listed
@@ -47,6 +47,14 @@ AddsProject above name id spots standing spots_now standing_now No = (spots_now 
 abbrev pub IsTaken : Places → Mode → List ℕ → List Spot → List Place → Taken → Type 0
 IsTaken before mode path spots standing Yes = MayTake before mode path × Stand spots standing (take before (line_of mode path))
 IsTaken before mode path spots standing No = IsPath path → MayTake before mode path → ⊥
+
+-- The table goes on from an old one: what stood there has its number and its path still, and the folders are those of the
+-- old one.
+pub record GoesOn (spots : List Spot) (standing : List Place) (spots_now : List Spot) (standing_now : List Place) : Type 0 where
+  pub more : length spots ≤ length spots_now
+  pub paths : (number : ℕ) → number < length spots → path_to spots_now number ≡ path_to spots number
+  pub folders : (number : ℕ) → number < length spots_now → place_at standing_now number ≡ stands.Folder → (number < length spots) × (place_at standing number ≡ stands.Folder)
+  pub stay : (number : ℕ) → number < length spots → place_at standing number ≡ stands.Folder → place_at standing_now number ≡ stands.Folder
 
 -- The listing breaks at this line: each before it is one that may come, and it is none, or may not come after them.
 pub record BreaksAfter (before : Places) (text : List ℕ) (line : ℕ) : Type 0 where

@@ -1,17 +1,15 @@
--- What stands at the paths of a folder with its listing: files with the modes and ids of their contents, folders, and
+-- What a listing says of the paths of a folder: files with the modes and ids of their contents, folders, and
 -- revisions of other projects.
 use Rattle.std.specs.Prelude.{◌≡◌, ◌≢◌, ℕ, Bool, cond, List, [], ◌∷◌, ◌++◌, Contains, Option, Some, None}
 use Rattle.std.specs.Str.{bytes_eq}
 use Rattle.swh_listing.specs.declared.listed.Listed.{Listed}
 use Rattle.swh_listing.specs.declared.listed.Mode.{Mode}
 use Rattle.swh_listing.specs.declared.listed.Mode.TheVariants.{Executable, Link, Project}
-use Rattle.swh_dirload.specs.declared.place.Place.{Place}
-use Rattle.swh_dirload.specs.declared.place.Place.TheVariants as stands
-use Rattle.swh_dirload.specs.Items.{Item, child}
-
--- what stands at each path
-abbrev pub Places : Type 0
-Places = List ℕ → Option Place
+use Rattle.swh_dirmade.specs.declared.place.Place.{Place}
+use Rattle.swh_dirmade.specs.declared.place.Place.TheVariants as stands
+use Rattle.swh_dirmade.specs.Paths.{child}
+use Rattle.swh_dirmade.specs.Spots.{Places}
+use Rattle.swh_dirload.specs.Items.{Item}
 
 -- the places of the items of a walk, before a listing says more of them
 abbrev pub places_of : List Item → List Place → Places

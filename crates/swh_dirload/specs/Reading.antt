@@ -14,10 +14,10 @@ use Rattle.swh_made.specs.Making.{made_from}
 use Rattle.swh_dirload.specs.declared.fault.DirFault.{DirFault}
 use Rattle.swh_dirload.specs.declared.fault.DirFault.TheVariants.{OtherKind, BadModes, Limit, ReadFault, Memory}
 use Rattle.swh_dirload.specs.declared.limits.TheConstants.{FILES_LIMIT}
-use Rattle.swh_dirload.specs.declared.place.Place.{Place}
-use Rattle.swh_dirload.specs.declared.place.Place.TheVariants as stands
+use Rattle.swh_dirmade.specs.declared.place.Place.{Place}
+use Rattle.swh_dirmade.specs.declared.place.Place.TheVariants as stands
 use Rattle.swh_dirload.specs.Files.{IsTooLong}
-use Rattle.swh_dirload.specs.Giving.{GivesOne}
+use Rattle.swh_dirmade.specs.Giving.{GivesOne}
 use Rattle.swh_dirload.specs.Items.{Item}
 
 -- the content of these bytes is given

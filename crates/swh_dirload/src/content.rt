@@ -4,9 +4,9 @@ ghost use Rattle.swh_base.specs.declared.kind.Kind.TheVariants.{Content};
 ghost use Rattle.swh_base.specs.Limits.{body_limit};
 ghost use Rattle.swh_dirload.specs.Reading.{GivesContent};
 
-use crate::given::Given;
 use std::alloc::Global;
 use swh_base::{Kind, Memory, Namer};
+use swh_dirmade::Given;
 use swh_made::{MakeFault, make_object};
 
 /// Makes the content of these bytes, and tells its id.

@@ -1,18 +1,19 @@
 //! The listing of a folder, taken line by line.
-ghost use Rattle.std.specs.Prelude.{◌≡◌, ◌≤◌, IfErr, IsErrOf, OnOk, length};
+ghost use Rattle.std.specs.Prelude.{◌≡◌, ◌≤◌, IfErr, IsErrOf, List, OnOk, length};
+ghost use Rattle.std.specs.List.{AllByRecursion};
+ghost use Rattle.swh_base.specs.declared.name.Name.{Name};
+ghost use Rattle.swh_dirmade.specs.Making.{IsHeld};
 ghost use Rattle.swh_outside.specs.Faults.{Rose};
 ghost use Rattle.swh_dirload.specs.declared.fault.DirFault.TheVariants.{ReadFault as NotRead};
 ghost use Rattle.swh_dirload.specs.Index.{IsIndex};
-ghost use Rattle.swh_dirload.specs.Lines.{AreTaken, ExplainsLines};
-ghost use Rattle.swh_dirload.specs.Places.{Places};
-ghost use Rattle.swh_dirload.specs.Spots.{IsTable, Stand};
+ghost use Rattle.swh_dirload.specs.Lines.{AreTaken, ExplainsLines, GoesOn};
+ghost use Rattle.swh_dirmade.specs.Spots.{Places, IsTable, Stand};
 
 use crate::fault::DirFault;
-use crate::place::Place;
-use crate::spot::Spot;
 use crate::taking::{Taken, take_line};
 use std::alloc::Global;
 use std::collections::BTreeMap;
+use swh_dirmade::{Place, Spot};
 use swh_fastlex::Window;
 use swh_listing::next_listed;
 use swh_outside::Source;
@@ -37,6 +38,9 @@ pub fn take_lines<S: Source>(
         → OnOk result (AreTaken before (S.left source.old) spots.new.items places.new.items) }
     ensures err { S.tells → (before : Places) → Stand spots.old.items places.old.items before
         → IfErr result (ExplainsLines before (S.left source.old)) }
+    ensures held { (names : List Name) → AllByRecursion (IsHeld names) places.old.items
+        → OnOk result (AllByRecursion (IsHeld names) places.new.items) }
+    ensures goes { OnOk result (GoesOn spots.old.items places.old.items spots.new.items places.new.items) }
     ensures table { OnOk result (IsTable spots.new.items) }
     ensures count { OnOk result (length places.new.items ≡ length spots.new.items) }
 

@@ -2,13 +2,13 @@
 ghost use Rattle.std.specs.Prelude.{◌≡◌, ◌<◌, IfOk, IfSome, IfNone, OnOk, length};
 ghost use Rattle.std.specs.List.{AllByRecursion};
 ghost use Rattle.swh_fastlex.specs.Path.{IsPath};
-ghost use Rattle.swh_dirload.specs.Spots.{IsTable};
+ghost use Rattle.swh_dirmade.specs.Spots.{IsTable};
 ghost use Rattle.swh_dirload.specs.Index.{key_text, number_of, Adds, IsIndex, IsIn, HasNone, LooksUp};
 
-use crate::spot::Spot;
 use std::alloc::Global;
 use std::collections::BTreeMap;
 use swh_base::{Bytes, Memory};
+use swh_dirmade::Spot;
 use swh_pieces::split_at_byte;
 
 /// Where a path leads: to the spot of a number; to a name that the folder of a number does not have; or nowhere, since a

@@ -1,6 +1,6 @@
 //! The paths of what a walk finds.
 ghost use Rattle.std.specs.Prelude.{◌≡◌, ◌<◌, ◌≤◌, ◌-◌, IfOk, OnOk, length, string_bytes};
-ghost use Rattle.swh_dirload.specs.Items.{child};
+ghost use Rattle.swh_dirmade.specs.Paths.{child};
 ghost use Rattle.swh_dirload.specs.Found.{path_at, path_in, paths_of, IsPlaced, ArePlaced, Leads};
 
 use crate::found::Found;

@@ -1,5 +1,9 @@
 //! The files of a folder, read in the order of its walk.
-ghost use Rattle.std.specs.Prelude.{◌≡◌, ◌≢◌, ◌≤◌, ◌+◌, ℕ, IfOk, IfErr, IsErrOf, length};
+ghost use Rattle.std.specs.Prelude.{◌≡◌, ◌≢◌, ◌≤◌, ◌+◌, ℕ, IfOk, IfErr, OnOk, IsErrOf, length};
+ghost use Rattle.std.specs.List.{AllByRecursion};
+ghost use Rattle.swh_made.specs.Making.{made, names_of_made};
+ghost use Rattle.swh_dirmade.specs.Giving.{Keeps};
+ghost use Rattle.swh_dirmade.specs.Making.{IsHeld};
 ghost use Rattle.swh_outside.specs.Faults.{Rose};
 ghost use Rattle.swh_outside.specs.declared.folder.What.TheVariants.{File as AFile, Other as NeitherKind};
 ghost use Rattle.swh_dirload.specs.declared.fault.DirFault.TheVariants.{ReadFault as NotRead};
@@ -11,12 +15,11 @@ use crate::content::give_content;
 use crate::fault::DirFault;
 use crate::file::read_file;
 use crate::found::Found;
-use crate::given::Given;
 use crate::limits::FILES_LIMIT;
 use crate::path::path_of;
-use crate::place::Place;
 use std::alloc::Global;
 use swh_base::{Namer, Which};
+use swh_dirmade::{Given, Place};
 use swh_outside::{Folder, What};
 
 /// Reads a file and makes its content, where so many bytes were read before; what stands there, and how many bytes are
@@ -33,6 +36,8 @@ fn read_content<N: Namer, F: Folder>(
     ensures read { F.tells → IfOk result (λ x. (count : ℕ) × (x.1 ≡ total + count)
         × IsRead N.id_of (F.holds folder.old) path.now AFile count given.old x.0 given.new) }
     ensures within { IfOk result (λ x. x.1 ≤ FILES_LIMIT) }
+    ensures held { IfOk result (λ x. IsHeld (names_of_made N.id_of (made given.new)) x.0) }
+    ensures kept { OnOk result (Keeps given.old given.new) }
     ensures err { F.tells → IfErr result (ExplainsRead N.id_of (F.holds folder.old) total path.now AFile) }
 
     ensures same { F.tells → F.holds folder.new ≡ F.holds folder.old }
@@ -68,6 +73,8 @@ fn read_item<N: Namer, F: Folder>(
     ensures read { F.tells → IfOk result (λ x. (count : ℕ) × (x.1 ≡ total + count)
         × IsRead N.id_of (F.holds folder.old) path.now what count given.old x.0 given.new) }
     ensures within { IfOk result (λ x. x.1 ≤ FILES_LIMIT) }
+    ensures held { IfOk result (λ x. IsHeld (names_of_made N.id_of (made given.new)) x.0) }
+    ensures kept { OnOk result (Keeps given.old given.new) }
     ensures err { F.tells → IfErr result (ExplainsRead N.id_of (F.holds folder.old) total path.now what) }
 
     ensures same { F.tells → F.holds folder.new ≡ F.holds folder.old }
@@ -101,6 +108,7 @@ pub fn read_files<N: Namer, F: Folder>(
         × ReadsAll N.id_of (F.holds folder.old) 0 given.old (items_of found.now) places.items total given.new) }
     // Also of a folder that does not tell what it holds.
     ensures count { IfOk result (λ places. length places.items ≡ length found.now) }
+    ensures held { IfOk result (λ places. AllByRecursion (IsHeld (names_of_made N.id_of (made given.new))) places.items) }
     ensures err { F.tells → IfErr result (ExplainsReading N.id_of (F.holds folder.old) given.old (items_of found.now)) }
 
     ensures same { F.tells → F.holds folder.new ≡ F.holds folder.old }

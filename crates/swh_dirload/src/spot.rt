@@ -1,21 +1,14 @@
 //! The names of what stands in a folder, also by its listing.
 ghost use Rattle.std.specs.Prelude.{◌≡◌, ◌<◌, List, IfOk, length};
-ghost use Rattle.swh_dirload.specs.declared.place.Place.{Place};
-ghost use Rattle.swh_dirload.specs.Found.{items_of, ArePlaced, AreNamedBehind};
+ghost use Rattle.swh_dirmade.specs.declared.place.Place.{Place};
+ghost use Rattle.swh_dirload.specs.Found.{items_of, ArePlaced, AreNamedBehind, HavePaths};
 ghost use Rattle.swh_dirload.specs.Places.{places_of};
-ghost use Rattle.swh_dirload.specs.Spots.{IsTable, Stand};
+ghost use Rattle.swh_dirmade.specs.Spots.{IsTable, Stand};
 
 use crate::found::Found;
 use std::alloc::Global;
 use swh_base::{Bytes, Memory};
-
-/// A name in a folder, which it names by the folder's number in the table of all that stands. The number 0 is the folder
-/// itself.
-#[derive(Drop)]
-pub struct Spot {
-    pub above: usize,
-    pub name: Bytes,
-}
+use swh_dirmade::Spot;
 
 /// The table of what a walk found.
 pub fn spots_of(alloc: Global, found: &[Found]) -> Result<Vec<Spot>, Memory>
@@ -24,6 +17,7 @@ pub fn spots_of(alloc: Global, found: &[Found]) -> Result<Vec<Spot>, Memory>
     requires named { AreNamedBehind found.now }
     ensures table { IfOk result (λ spots. IsTable spots.items) }
     ensures count { IfOk result (λ spots. length spots.items ≡ length found.now) }
+    ensures paths { IfOk result (λ spots. HavePaths spots.items (items_of found.now)) }
     ensures stand { (standing : List Place) → length standing ≡ length found.now
         → IfOk result (λ spots. Stand spots.items standing (places_of (items_of found.now) standing)) }
 {

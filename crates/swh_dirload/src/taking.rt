@@ -1,21 +1,22 @@
 //! A line of a listing, taken where it may come.
 ghost use Rattle.std.specs.Prelude.{◌≡◌, ◌≢◌, ◌<◌, ◌↔◌, ℕ, List, IsTrue, IfOk, IfSome, IfNone, OnOk, length};
+ghost use Rattle.std.specs.List.{AllByRecursion};
+ghost use Rattle.swh_base.specs.declared.name.Name.{Name};
 ghost use Rattle.swh_base.specs.Directory.{IsEntryName};
+ghost use Rattle.swh_dirmade.specs.Making.{IsHeld};
 ghost use Rattle.swh_fastlex.specs.Path.{IsPath};
 ghost use Rattle.swh_listing.specs.declared.listed.Mode.TheVariants.{Project as OfProject};
 ghost use Rattle.swh_dirload.specs.declared.lookup.Lookup.{Lookup as Leads};
-ghost use Rattle.swh_dirload.specs.declared.place.Place.TheVariants.{File as AFile, Folder as AFolder};
+ghost use Rattle.swh_dirmade.specs.declared.place.Place.TheVariants.{File as AFile, Folder as AFolder};
 ghost use Rattle.swh_dirload.specs.Index.{IsIndex, HasNone, LooksUp};
-ghost use Rattle.swh_dirload.specs.Lines.{SetsMode, TakesMode, AddsProject, IsTaken};
-ghost use Rattle.swh_dirload.specs.Places.{Places};
-ghost use Rattle.swh_dirload.specs.Spots.{IsTable, Stand};
+ghost use Rattle.swh_dirload.specs.Lines.{SetsMode, TakesMode, AddsProject, IsTaken, GoesOn};
+ghost use Rattle.swh_dirmade.specs.Spots.{Places, IsTable, Stand};
 
 use crate::lookup::{Lookup, add_number, look_up};
-use crate::place::Place;
-use crate::spot::Spot;
 use std::alloc::Global;
 use std::collections::BTreeMap;
 use swh_base::{Bytes, Memory};
+use swh_dirmade::{Place, Spot};
 use swh_fastlex::is_path;
 use swh_listing::{Listed, Mode};
 
@@ -133,6 +134,9 @@ fn take_project(
     requires path { IsPath path.now }
     ensures taken { (before : Places) → Stand spots.old.items places.old.items before
         → IfOk result (IsTaken before (OfProject id) path.now spots.new.items places.new.items) }
+    ensures held { (names : List Name) → AllByRecursion (IsHeld names) places.old.items
+        → OnOk result (AllByRecursion (IsHeld names) places.new.items) }
+    ensures goes { OnOk result (GoesOn spots.old.items places.old.items spots.new.items places.new.items) }
     ensures table { OnOk result (IsTable spots.new.items) }
     ensures index { OnOk result (IsIndex spots.new.items numbers.new.entries) }
     ensures count { OnOk result (length places.new.items ≡ length spots.new.items) }
@@ -157,6 +161,9 @@ pub fn take_line(
     requires count { length places.old.items ≡ length spots.old.items }
     ensures taken { (before : Places) → Stand spots.old.items places.old.items before
         → IfOk result (IsTaken before listed.now.mode listed.now.path spots.new.items places.new.items) }
+    ensures held { (names : List Name) → AllByRecursion (IsHeld names) places.old.items
+        → OnOk result (AllByRecursion (IsHeld names) places.new.items) }
+    ensures goes { OnOk result (GoesOn spots.old.items places.old.items spots.new.items places.new.items) }
     ensures table { OnOk result (IsTable spots.new.items) }
     ensures index { OnOk result (IsIndex spots.new.items numbers.new.entries) }
     ensures count { OnOk result (length places.new.items ≡ length spots.new.items) }

@@ -4,7 +4,8 @@ use What::{File, Folder};
 use std::alloc::{AllocError, Global};
 use std::test::Fail;
 use swh_base::{Kind, Name, Sha1Namer, Which};
-use swh_dirload::{DirFault, Given, Place, read_files, walk};
+use swh_dirload::{DirFault, read_files, walk};
+use swh_dirmade::{Given, Place};
 use swh_memory_input::{MemoryFolder, Place as Laid};
 use swh_outside::What;
 

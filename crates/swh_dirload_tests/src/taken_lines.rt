@@ -4,7 +4,8 @@ use What::{File, Folder};
 use std::alloc::{AllocError, Global};
 use std::test::Fail;
 use swh_base::{Sha1Namer, Which};
-use swh_dirload::{DirFault, Given, Place, Spot, index_of, read_files, spots_of, take_lines, walk};
+use swh_dirload::{DirFault, index_of, read_files, spots_of, take_lines, walk};
+use swh_dirmade::{Given, Place, Spot};
 use swh_memory_input::{MemoryFolder, MemorySource};
 use swh_outside::What;
 

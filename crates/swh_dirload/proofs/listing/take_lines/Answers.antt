@@ -5,6 +5,7 @@ use Rattle.swh_dirload.specs.declared.fault.DirFault.{DirFault}
 use Rattle.swh_dirload.specs.declared.taking.Taken.TheVariants.{Yes, No}
 use Rattle.swh_dirload.specs.Faults.{listing_fault}
 use Rattle.swh_dirload.specs.Lines.{IsTaken, ExplainsLines}
+use Rattle.swh_dirload.proofs.Onward.{same_on, then_on}
 use Rattle.swh_dirload.proofs.TakenLines.{Goes, begins, goes_on, goes_not, goes_wrong, goes_all}
 use Rattle.swh_dirload.proofs.listing.take_lines.Goals as goal
 
@@ -22,6 +23,8 @@ lines-init g c =
           let text = g.S.Source.left c.args.source.now in
           let all : text ≡ unread c.in_ok-window.window text = ap (λ (held : List ℕ). held ++ text) (sym c.in_ok-window.ensures.empty) in
           subst (λ (n : ℕ). Goes before text n (unread c.in_ok-window.window text) 1 c.args.spots.now.items c.args.places.now.items) (sym first) (begins before text (unread c.in_ok-window.window text) c.args.spots.now.items c.args.places.now.items stand all);
+      held = λ names h. h;
+      onward = same_on c.args.spots.now.items c.args.places.now.items;
       same_path = refl;
       quiet = refl;
     }
@@ -49,6 +52,8 @@ lines-preserved g c =
           let so = inv.goes sure before stand in
           let taken : IsTaken so.places c.in-Some.listed.mode c.in-Some.listed.path c.take_line.new.spots.items c.take_line.new.places.items Yes = rw c.in-Yes.is at (done.taken so.places so.stand) in
           goes_on before whole c.lines.window.place (unread c.lines.window (g.S.Source.left c.lines.source)) c.lines.line c.lines.spots.items c.take_line.new.spots.items c.lines.places.items c.take_line.new.places.items t.line rest c.next_listed.new.window.place c.in-Some.listed so t.takes t.says t.here taken;
+      held = λ names h. done.held names (inv.held names h);
+      onward = then_on c.args.spots.now.items c.lines.spots.items c.take_line.new.spots.items c.args.places.now.items c.lines.places.items c.take_line.new.places.items inv.onward done.goes;
       same_path = next.same_path ∙ inv.same_path;
       quiet = next.quiet ∙ inv.quiet;
     }

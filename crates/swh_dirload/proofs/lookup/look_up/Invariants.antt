@@ -1,8 +1,8 @@
 use Rattle.std.proofs.Common.{◌≡◌, ◌<◌, length}
 use Rattle.std.specs.List.{AllByRecursion}
 use Rattle.swh_fastlex.specs.Path.{IsComponent, components}
-use Rattle.swh_dirload.specs.Items.{child}
-use Rattle.swh_dirload.specs.Spots.{path_to}
+use Rattle.swh_dirmade.specs.Paths.{child}
+use Rattle.swh_dirmade.specs.Spots.{path_to}
 use Rattle.swh_dirload.proofs.lookup.look_up.Given as goal
 
 abbrev pub invariant-components : goal.invariant-components

@@ -9,7 +9,7 @@ use Rattle.swh_outside.specs.Folder.{FolderEntry, AreNames}
 use Rattle.swh_outside.specs.Listing.{listed}
 use Rattle.swh_outside.specs.declared.folder.Item as listing
 use Rattle.swh_dirload.specs.Items.{entry_key, item_in}
-use Rattle.swh_dirload.proofs.Sorting.{sorted_map, map_map}
+use Rattle.swh_dirmade.proofs.Sorting.{sorted_map, map_map}
 use Rattle.swh_dirload.proofs.order.list_in_order.Goals as goal
 
 pub returns-in-Ok-clause-items : goal.returns-in-Ok-clause-items

@@ -1,6 +1,6 @@
 use Rattle.std.proofs.Common.{◌≡◌, ℕ, List, ◌∷◌, sym, ◌∙◌, subst, rules}
 use Rattle.std.specs.Prelude.{string_bytes}
-use Rattle.swh_dirload.specs.Items.{child}
+use Rattle.swh_dirmade.specs.Paths.{child}
 use Rattle.swh_dirload.specs.Found.{path_at, paths_of, Leads}
 use Rattle.swh_dirload.proofs.Tables.{path_first, path_step}
 use Rattle.swh_dirload.proofs.path.path_along.Goals as goal

@@ -1,7 +1,11 @@
 use Rattle.std.proofs.Common.{◌≡◌, ℕ, ◌+◌, ◌<◌, List, [], ◌∷◌, length, length-append, take, get_or, sym, ap, ◌∙◌, subst, arith, rules}
+use Rattle.std.specs.List.{AllByRecursion}
+use Rattle.swh_made.specs.Making.{made, names_of_made}
+use Rattle.swh_dirmade.specs.Making.{IsHeld}
+use Rattle.swh_dirload.proofs.Helds.{held_push}
 use Rattle.swh_outside.specs.Folder.{Tree}
 use Rattle.swh_dirload.specs.declared.found.Found.{Found}
-use Rattle.swh_dirload.specs.declared.place.Place.{Place}
+use Rattle.swh_dirmade.specs.declared.place.Place.{Place}
 use Rattle.swh_dirload.specs.Found.{path_in, paths_of, items_of, IsPlaced}
 use Rattle.swh_dirload.specs.Reading.{IsRead, ReadsAll, ExplainsRead, ExplainsReading}
 use Rattle.swh_dirload.proofs.Tables.{placed_at}
@@ -57,6 +61,7 @@ files-preserved g c =
     record {
       count = omega (arith, count, ap length pushed, length-append c.files.places.items (c.in_ok-place.place ∷ []));
       within = read.within;
+      held = subst (AllByRecursion (IsHeld (names_of_made id (made new)))) (sym pushed) (held_push id c.files.given new c.files.places.items c.in_ok-place.place read.kept inv.held read.held);
       same = λ tells. read.same tells ∙ inv.same tells;
       reads = λ tells.
           let here = subst (λ (t : Tree). (count : ℕ) × (c.in_ok-place.now ≡ c.files.total + count) × IsRead id t path item.what count c.files.given c.in_ok-place.place new) (inv.same tells) (read.read tells) in

@@ -1,10 +1,10 @@
 use Rattle.std.proofs.Common.{◌≡◌, ◌<◌, ◌≤◌, List, length, map, sym, ap, ◌∙◌, subst, rules}
 use Rattle.std.specs.Prelude.{string_bytes}
-use Rattle.swh_dirload.specs.declared.spot.Spot.{Spot}
-use Rattle.swh_dirload.specs.Found.{items_of}
+use Rattle.swh_dirmade.specs.declared.spot.Spot.{Spot}
+use Rattle.swh_dirload.specs.Found.{items_of, HavePaths}
 use Rattle.swh_dirload.specs.Places.{places_of}
-use Rattle.swh_dirload.specs.Spots.{IsTable, Stand}
-use Rattle.swh_dirload.proofs.FoundSpots.{spot_in, spots_more, spots_all, length_spots, table_of, stand_found}
+use Rattle.swh_dirmade.specs.Spots.{IsTable, Stand}
+use Rattle.swh_dirload.proofs.FoundSpots.{spot_in, spots_more, spots_all, length_spots, table_of, paths_found, stand_found}
 use Rattle.swh_dirload.proofs.spot.spots_of.Goals as goal
 
 pub found-preserved : goal.found-preserved
@@ -32,3 +32,10 @@ returns-clause-stand c = λ standing count.
     let ended : length found ≤ c.found.number = search rules in
     let all = spots_all found c.found.number c.found.spots.items ended c.found.invariant in
     subst (λ (ss : List Spot). Stand ss standing (places_of (items_of found) standing)) (sym all) (stand_found found standing (table_of found c.requires.some c.requires.placed c.requires.named) count)
+
+pub returns-clause-paths : goal.returns-clause-paths
+returns-clause-paths c =
+    let found = c.args.found.now in
+    let ended : length found ≤ c.found.number = search rules in
+    let all = spots_all found c.found.number c.found.spots.items ended c.found.invariant in
+    subst (λ (ss : List Spot). HavePaths ss (items_of found)) (sym all) (paths_found found)

@@ -1,6 +1,6 @@
 use Rattle.std.proofs.Common.{◌≡◌, ℕ, ◌+◌, ◌<◌, ◌^◌, [], ◌∷◌, ◌++◌, List, length, sym, subst, rules}
-use Rattle.swh_dirload.specs.declared.spot.Spot.{Spot}
-use Rattle.swh_dirload.specs.Spots.{IsTable}
+use Rattle.swh_dirmade.specs.declared.spot.Spot.{Spot}
+use Rattle.swh_dirmade.specs.Spots.{IsTable}
 use Rattle.swh_dirload.specs.Index.{key_text, Adds, IsIndex}
 use Rattle.swh_dirload.specs.Lines.{spot_of}
 use Rattle.swh_dirload.proofs.Standings.{table_push, index_push}

@@ -1,0 +1,67 @@
+-- The contents of files that were read are held.
+use Rattle.std.proofs.Common.{◌≡◌, ◌⊎◌, inl, inr, ℕ, zero, suc, List, [], ◌∷◌, ◌++◌, get_or, set, Contains, refl, sym, ap, subst}
+use Rattle.std.specs.Prelude.{Result, Ok, Err, IfOk, OnOk}
+use Rattle.std.specs.List.{AllByRecursion}
+use Rattle.swh_base.specs.declared.kind.Kind.{Kind}
+use Rattle.swh_base.specs.declared.kind.Kind.TheVariants.{Content}
+use Rattle.swh_base.specs.declared.entry.Entry.{Entry}
+use Rattle.swh_base.specs.declared.memory.Memory.{Memory}
+use Rattle.swh_base.specs.declared.name.Name.{Name}
+use Rattle.swh_model.specs.Meaning.{Made, content}
+use Rattle.swh_made.specs.Making.{made_from, made, name_of, names_of_made}
+use Rattle.swh_made.proofs.Elements.{all_as, all_push, contains_map}
+use Rattle.swh_made.proofs.Givens.{more_names}
+use Rattle.swh_dirmade.specs.declared.place.Place.{Place}
+use Rattle.swh_dirmade.specs.declared.place.Place.TheVariants as stands
+use Rattle.swh_dirmade.specs.Giving.{Keeps}
+use Rattle.swh_dirmade.specs.Making.{IsHeld}
+use Rattle.swh_dirmade.proofs.Built.{grows, given_there, held_more}
+use Rattle.swh_dirmade.specs.declared.spot.Spot.{Spot}
+use Rattle.swh_dirload.specs.declared.lookup.Lookup.{Lookup}
+use Rattle.swh_dirload.specs.declared.lookup.Lookup.TheVariants.{Here, Free, Lost}
+use Rattle.swh_dirload.specs.declared.taking.Taken.{Taken}
+use Rattle.swh_dirload.specs.declared.taking.Taken.TheVariants.{Yes, No}
+use Rattle.swh_dirload.specs.Index.{LooksUp}
+use Rattle.swh_dirload.specs.Lines.{SetsMode, TakesMode, AddsProject}
+use Rattle.swh_dirload.specs.Reading.{GivesContent}
+
+pub keeps_content : (old : List Entry) (bytes : List ℕ) (new : List Entry) → GivesContent old bytes new → Keeps old new
+keeps_content old bytes new h = λ m c. grows old new h.0 h.2 m c
+
+module _ (id : Kind → List ℕ → List ℕ) where
+  pub holds_content : (old : List Entry) (bytes : List ℕ) (new : List Entry) (own : List ℕ) → own ≡ id Content bytes → GivesContent old bytes new → IsHeld (names_of_made id (made new)) (stands.File 100644 own)
+  holds_content old bytes new own is h =
+      let there : Contains (made new) (content bytes) = subst (Contains (made new)) h.1 (given_there old new h.0 h.2) in
+      (inl refl, subst (λ (k : List ℕ). Contains (names_of_made id (made new)) (record { kind = Content; id = k })) (sym is) (contains_map (name_of id) (made new) (content bytes) there))
+
+  pub held_push : (old new : List Entry) (places : List Place) (place : Place) → Keeps old new → AllByRecursion (IsHeld (names_of_made id (made old))) places → IsHeld (names_of_made id (made new)) place → AllByRecursion (IsHeld (names_of_made id (made new))) (places ++ place ∷ [])
+  held_push old new places place kept held here =
+      all_push (IsHeld (names_of_made id (made new))) places place
+      (all_as (IsHeld (names_of_made id (made old))) (IsHeld (names_of_made id (made new))) (λ p h. held_more (names_of_made id (made old)) (names_of_made id (made new)) p (λ n c. more_names id (made old) (made new) n kept c) h) places held) here
+
+-- a list of which each is held stays one, where one element is set to one that is held if the old one was
+all_set : {X : Type 0} (P : X → Type 0) (xs : List X) (n : ℕ) (y d : X) → (P (get_or xs n d) → P y) → AllByRecursion P xs → AllByRecursion P (set xs n y)
+all_set P [] n y d f h = tt
+all_set P (x ∷ xs) zero y d f h = (f h.0, h.1)
+all_set P (x ∷ xs) (suc n) y d f h = (h.0, all_set P xs n y d f h.1)
+
+sets_held : (names : List Name) (old new : List Place) (n mode : ℕ) (taken : Taken) → (mode ≡ 100644) ⊎ ((mode ≡ 100755) ⊎ (mode ≡ 120000)) → SetsMode old n mode new taken → AllByRecursion (IsHeld names) old → AllByRecursion (IsHeld names) new
+sets_held names old new n mode Yes good h all =
+    subst (AllByRecursion (IsHeld names)) (sym h.2) (all_set (IsHeld names) old n (stands.File mode h.0) stands.Folder (λ held. (good, (subst (IsHeld names) h.1 held).1)) all)
+sets_held names old new n mode No good h all = subst (AllByRecursion (IsHeld names)) (sym h.0) all
+
+takes_held : (names : List Name) (found : Lookup) (old new : List Place) (mode : ℕ) (taken : Taken) → (mode ≡ 100644) ⊎ ((mode ≡ 100755) ⊎ (mode ≡ 120000)) → TakesMode found old mode new taken → AllByRecursion (IsHeld names) old → AllByRecursion (IsHeld names) new
+takes_held names (Here n) old new mode taken good h all = sets_held names old new n mode taken good h all
+takes_held names (Free above name) old new mode taken good h all = subst (AllByRecursion (IsHeld names)) (sym h.1) all
+takes_held names Lost old new mode taken good h all = subst (AllByRecursion (IsHeld names)) (sym h.1) all
+
+-- what a mode leaves held
+pub mode_held : (names : List Name) (spots : List Spot) (path : List ℕ) (old new : List Place) (mode : ℕ) (r : Result Taken Memory) → (mode ≡ 100644) ⊎ ((mode ≡ 100755) ⊎ (mode ≡ 120000)) → IfOk r (λ taken. (found : Lookup) × LooksUp spots path found × TakesMode found old mode new taken) → AllByRecursion (IsHeld names) old → OnOk r (AllByRecursion (IsHeld names) new)
+mode_held names spots path old new mode (Ok taken) good h all = takes_held names h.0 old new mode taken good h.2 all
+mode_held names spots path old new mode (Err e) good h all = tt
+
+-- what a project leaves held
+pub project_held : (names : List Name) (above : ℕ) (name id : List ℕ) (spots spots_now : List Spot) (old new : List Place) (r : Result Taken Memory) → IfOk r (AddsProject above name id spots old spots_now new) → AllByRecursion (IsHeld names) old → OnOk r (AllByRecursion (IsHeld names) new)
+project_held names above name id spots spots_now old new (Ok Yes) h all = subst (AllByRecursion (IsHeld names)) (sym h.2) (all_push (IsHeld names) old (stands.Project id) all tt)
+project_held names above name id spots spots_now old new (Ok No) h all = subst (AllByRecursion (IsHeld names)) (sym h.1) all
+project_held names above name id spots spots_now old new (Err e) h all = tt

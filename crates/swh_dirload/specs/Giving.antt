@@ -1,8 +1,0 @@
--- Objects that a folder makes, each once and after all that it names.
-use Rattle.std.specs.Prelude.{◌≡◌, ◌⊎◌, List, [], ◌∷◌, ◌++◌, Contains}
-use Rattle.swh_base.specs.declared.entry.Entry.{Entry}
-use Rattle.swh_made.specs.Making.{made_from, made}
-
--- The object is given, unless one of its kind and body was given before.
-abbrev pub GivesOne : List Entry → Entry → List Entry → Type 0
-GivesOne old object new = ((new ≡ old) × Contains (made old) (made_from object)) ⊎ (new ≡ old ++ object ∷ [])
