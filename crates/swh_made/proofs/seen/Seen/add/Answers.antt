@@ -15,8 +15,15 @@ invariant_of-self-in_err-note g c =
     subst (λ (t : List Kept). IsIndexed g.N.Namer.id_of (map kept_made t) c.note.new.places) (sym c.in_ok-reserve.ensures.items)
     (indexed_same g.N.Namer.id_of (map kept_made inside.made.items) inside.places c.note.new.places c.in_err-note.ensures.err c.self.invariant)
 
-pub invariant_of-self-in-Known-1 : goal.invariant_of-self-in-Known-1
-invariant_of-self-in-Known-1 g c =
+pub invariant_of-self-in-Known : goal.invariant_of-self-in-Known
+invariant_of-self-in-Known g c =
+    let inside = c.self.inside in
+    let same = noted_known (map kept_made c.as_slice-made.result.now) c.name-name.result.id c.len-place.result (object_of c.name-name.result.kind c.body-2.result.now) inside.places c.note.new.places _ c.in-Known.is c.in_ok-note.ensures.noted in
+    subst (λ (t : List Kept). IsIndexed g.N.Namer.id_of (map kept_made t) c.note.new.places) (sym c.in_ok-reserve.ensures.items)
+    (indexed_same g.N.Namer.id_of (map kept_made inside.made.items) inside.places c.note.new.places same.0 c.self.invariant)
+
+pub invariant_of-self-in-Known-2 : goal.invariant_of-self-in-Known-2
+invariant_of-self-in-Known-2 g c =
     let inside = c.self.inside in
     let same = noted_known (map kept_made c.as_slice-made.result.now) c.name-name.result.id c.len-place.result (object_of c.name-name.result.kind c.body-2.result.now) inside.places c.note.new.places _ c.in-Known.is c.in_ok-note.ensures.noted in
     subst (λ (t : List Kept). IsIndexed g.N.Namer.id_of (map kept_made t) c.note.new.places) (sym c.in_ok-reserve.ensures.items)
