@@ -7,8 +7,9 @@ use Rattle.swh_base.specs.Name.{name_cmp_total}
 use Rattle.swh_model.specs.declared.event.Event.{Event}
 use Rattle.swh_model.specs.declared.event.EventKind.{EventKind}
 use Rattle.swh_model.specs.declared.event.EventKind.TheVariants.{Batch}
+use Rattle.swh_model.specs.Entries.{entries_of}
 use Rattle.swh_model.specs.Archive.{Archive, Bodies}
-use Rattle.swh_model.specs.Limits.{run_length, stored_length, store_length}
+use Rattle.swh_model.specs.Limits.{run_length, store_length}
 use Rattle.swh_model.specs.Step.{AreNew, May_kind, MayAll, added, after, after_kind, after_all}
 use Rattle.swh_model.proofs.PlainLists.{take-more}
 use Rattle.swh_check.specs.Counts.{bodies_by, bodies_in}
@@ -42,11 +43,7 @@ few-entries : (es : List Entry) → length es ≤ run_length es
 few-entries [] = omega arith
 few-entries (e ∷ es) = let more = few-entries es in omega (arith, more)
 
-few-kind : (what : EventKind) → bodies_by what ≤ stored_length what
-few-kind (Batch es) = few-entries es
-few-kind what = omega arith
-
 -- there are no more objects than bytes of the store
 pub few : (h : List Event) → bodies_in h ≤ store_length h
 few [] = omega arith
-few (e ∷ h) = let more = few h in let here = few-kind e.what in omega (arith, more, here)
+few (e ∷ h) = let more = few h in let here = few-entries (entries_of e.what) in omega (arith, more, here)

@@ -14,7 +14,7 @@ use Rattle.swh_base.specs.Snapshot.{snapshot_name}
 use Rattle.swh_model.specs.declared.event.Visit.{Visit}
 use Rattle.swh_model.specs.declared.event.Event.{Event}
 use Rattle.swh_model.specs.declared.event.EventKind.{EventKind}
-use Rattle.swh_model.specs.declared.event.EventKind.TheVariants.{Batch, Open, Mark}
+use Rattle.swh_model.specs.declared.event.EventKind.TheVariants.{Open, Mark}
 use Rattle.swh_model.specs.Archive.{Archive, Origins, visits_of, IsClosed}
 use Rattle.swh_model.specs.Step.{FitsStatus, May_kind, MayAll, first_of, marked_at, after, after_kind, after_all}
 use Rattle.swh_model.proofs.Growing.{bodies_grow}
@@ -111,7 +111,6 @@ any-there origins url vs id h = (url, subst (λ (ws : List Visit). Fulls ws id) 
 
 module _ (id_of : Kind → List ℕ → List ℕ) (id : List ℕ) where
   full-kind : (a : Archive) (by : ℕ) (what : EventKind) → May_kind id_of a by what → AnyFull (after_kind a by what).origins id → AnyFull a.origins id ⊎ IsFullMark what id
-  full-kind a by (Batch entries) may h = inl h
   full-kind a by (Open origin kind date) may h =
       let vs = visits_of a.origins origin in
       elim (any-put a.origins origin (vs ++ first_of (length vs + 1) date kind by ∷ []) id h) [
@@ -124,23 +123,23 @@ module _ (id_of : Kind → List ℕ → List ℕ) (id : List ℕ) where
         | inl old ↦ inl old
         | inr here ↦ elim (fulls-marked vs (visit - 1) status snapshot id here) [ inl old ↦ inl (origin, old) | inr new ↦ inr new ]
       ]
+  full-kind a by what may h = inl h
 
   stay-kind : (a : Archive) (by : ℕ) (what : EventKind) → AnyFull a.origins id → AnyFull (after_kind a by what).origins id
-  stay-kind a by (Batch entries) h = h
   stay-kind a by (Open origin kind date) h =
       let vs = visits_of a.origins origin in
       any-stay a.origins origin (vs ++ first_of (length vs + 1) date kind by ∷ []) id (fulls-stay_opened vs (first_of (length vs + 1) date kind by) id) h
   stay-kind a by (Mark origin visit status snapshot) h =
       let vs = visits_of a.origins origin in
       any-stay a.origins origin (marked_at vs (visit - 1) status snapshot) id (fulls-stay vs (visit - 1) status snapshot id) h
+  stay-kind a by what h = h
 
   now-kind : (a : Archive) (by : ℕ) (what : EventKind) → May_kind id_of a by what → IsFullMark what id → AnyFull (after_kind a by what).origins id
-  now-kind a by (Batch entries) may h = absurd h
-  now-kind a by (Open origin kind date) may h = absurd h
   now-kind a by (Mark origin visit status snapshot) may h =
       let vs = visits_of a.origins origin in
       let less = slice_get_within vs (visit - 1) may.visit may.there in
       any-there a.origins origin (marked_at vs (visit - 1) status snapshot) id (fulls-now vs (visit - 1) status snapshot id less h.0 h.1)
+  now-kind a by what may h = absurd h
 
   full-all : (a : Archive) (h : List Event) → MayAll id_of a h → AnyFull (after_all a h).origins id → AnyFull a.origins id ⊎ IsFullIn h id
   full-all a [] may f = inl f
@@ -169,10 +168,9 @@ module _ (id_of : Kind → List ℕ → List ℕ) (id : List ℕ) where
   -- ---- a full snapshot is closed for good
 
   closed-kind : (a : Archive) (by : ℕ) (what : EventKind) → May_kind id_of a by what → IsFullMark what id → IsClosed a.bodies (snapshot_name id)
-  closed-kind a by (Batch entries) may h = absurd h
-  closed-kind a by (Open origin kind date) may h = absurd h
   closed-kind a by (Mark origin visit status snapshot) may h =
       subst (λ (o : Option (List ℕ)). FitsStatus a.bodies Full o) h.1 (subst (λ (s : Status). FitsStatus a.bodies s snapshot) h.0 may.fits)
+  closed-kind a by what may h = absurd h
 
   pub closed-full : (a : Archive) (h : List Event) (k : ℕ) (e : Event) → MayAll id_of a h → k < length h → e ≡ get_or h k e → IsFullMark e.what id → IsClosed (after_all a h).bodies (snapshot_name id)
   closed-full a [] k e may less is full = absurd (omega (arith, less))

@@ -10,7 +10,7 @@ use Rattle.swh_base.specs.declared.visit.Status.{Status}
 use Rattle.swh_model.specs.declared.event.Visit.{Visit}
 use Rattle.swh_model.specs.declared.event.Event.{Event}
 use Rattle.swh_model.specs.declared.event.EventKind.{EventKind}
-use Rattle.swh_model.specs.declared.event.EventKind.TheVariants.{Batch, Open, Mark}
+use Rattle.swh_model.specs.declared.event.EventKind.TheVariants.{Open, Mark}
 use Rattle.swh_model.specs.Archive.{Archive, Origins, visits_of}
 use Rattle.swh_model.specs.Step.{first_of, marked_at, after, after_kind, after_all}
 use Rattle.swh_model.proofs.PlainLists.{take-more}
@@ -58,7 +58,6 @@ length-marked (v ∷ vs) zero s snapshot = refl
 length-marked (v ∷ vs) (suc k) s snapshot = ap suc (length-marked vs k s snapshot)
 
 count-kind : (a : Archive) (by : ℕ) (what : EventKind) → visit_count (after_kind a by what).origins ≡ visit_count a.origins + opened_by what
-count-kind a by (Batch es) = omega arith
 count-kind a by (Open origin kind date) =
     let vs = visits_of a.origins origin in
     let one = first_of (length vs + 1) date kind by in
@@ -69,6 +68,7 @@ count-kind a by (Mark origin visit status snapshot) =
     let here = count-put a.origins origin (marked_at (visits_of a.origins origin) (visit - 1) status snapshot) in
     let long = length-marked (visits_of a.origins origin) (visit - 1) status snapshot in
     omega (arith, here, long)
+count-kind a by what = omega arith
 
 pub counted : (a : Archive) (h : List Event) → visit_count (after_all a h).origins ≡ visit_count a.origins + opened_in h
 counted a [] = omega arith
@@ -89,5 +89,5 @@ pub opened-next : (h : List Event) (k : ℕ) (e : Event) → k < length h → e 
 opened-next h k e less is = ap opened_in (take-more h k e less is) ∙ opened-push (take k h) e
 
 pub opened_once : (what : EventKind) → opened_by what ≤ 1
-opened_once (Batch es) = omega arith
+opened_once (Open origin kind date) = omega arith
 opened_once what = omega arith

@@ -6,7 +6,7 @@ use Rattle.swh_base.specs.declared.name.Name.{Name}
 use Rattle.swh_base.specs.declared.entry.Entry.{Entry}
 use Rattle.swh_model.specs.declared.event.Event.{Event}
 use Rattle.swh_model.specs.declared.event.EventKind.{EventKind}
-use Rattle.swh_model.specs.declared.event.EventKind.TheVariants.{Batch}
+use Rattle.swh_model.specs.Entries.{entries_of}
 use Rattle.swh_model.specs.Archive.{Bodies, body_of}
 use Rattle.swh_model.specs.Limits.{object_length, stored_length}
 use Rattle.swh_format.specs.EventRecord.{packed_objects}
@@ -22,8 +22,7 @@ module _ (id_of : Kind → List ℕ → List ℕ) where
 
   -- Where the bodies of the objects that the event added stand the bytes are bodies with their ids.
   abbrev pub HasItsIds : List ℕ → EventKind → Type 0
-  HasItsIds bytes (Batch entries) = HaveTheirIds bytes entries
-  HasItsIds bytes _ = Unit {0}
+  HasItsIds bytes what = HaveTheirIds bytes (entries_of what)
 
   -- The run of the event was read again: bytes no longer than it, in which each body has its object's id, and which are the
   -- run where the disks tell.

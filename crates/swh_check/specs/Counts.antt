@@ -9,7 +9,8 @@ use Rattle.swh_base.specs.Snapshot.{snapshot_name}
 use Rattle.swh_model.specs.declared.event.Visit.{Visit}
 use Rattle.swh_model.specs.declared.event.Event.{Event}
 use Rattle.swh_model.specs.declared.event.EventKind.{EventKind}
-use Rattle.swh_model.specs.declared.event.EventKind.TheVariants.{Batch, Open, Mark}
+use Rattle.swh_model.specs.declared.event.EventKind.TheVariants.{Open, Mark}
+use Rattle.swh_model.specs.Entries.{entries_of}
 use Rattle.swh_model.specs.Archive.{Archive, Origins, visits_of, Reaches}
 use Rattle.swh_check.specs.declared.report.Report.{Report}
 
@@ -53,8 +54,7 @@ pub record IsReport (a : Archive) (report : Report) : Type 0 where
 
 -- the objects that were added
 abbrev pub bodies_by : EventKind → ℕ
-bodies_by (Batch entries) = length entries
-bodies_by _ = 0
+bodies_by what = length (entries_of what)
 
 abbrev pub bodies_in : List Event → ℕ
 bodies_in [] = 0
@@ -62,9 +62,8 @@ bodies_in (e ∷ h) = bodies_by e.what + bodies_in h
 
 -- the visits that were opened
 abbrev pub opened_by : EventKind → ℕ
-opened_by (Batch entries) = 0
 opened_by (Open origin kind date) = 1
-opened_by (Mark origin visit status snapshot) = 0
+opened_by _ = 0
 
 abbrev pub opened_in : List Event → ℕ
 opened_in [] = 0
@@ -72,9 +71,8 @@ opened_in (e ∷ h) = opened_by e.what + opened_in h
 
 -- The event makes a visit full with the snapshot.
 abbrev pub IsFullMark : EventKind → List ℕ → Type 0
-IsFullMark (Batch entries) id = ⊥
-IsFullMark (Open origin kind date) id = ⊥
 IsFullMark (Mark origin visit status snapshot) id = (status ≡ Full) × (snapshot ≡ Some id)
+IsFullMark _ id = ⊥
 
 -- One of the events makes a visit full with the snapshot.
 abbrev pub IsFullIn : List Event → List ℕ → Type 0

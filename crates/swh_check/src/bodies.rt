@@ -85,8 +85,5 @@ pub fn check_objects<N: Namer>(namer: &N, run: &[u8], event: &EventKind) -> Resu
     ensures damaged { (bodies : Bodies) → IsHeldKind N.id_of bodies event.now
         → IfErr result (IsBodyFault N.id_of bodies) }
 {
-    match event {
-        EventKind::Batch(entries) => check_run(namer, run, entries.as_slice()),
-        EventKind::Open { .. } | EventKind::Mark { .. } => Ok(0),
-    }
+    check_run(namer, run, event.entries())
 }

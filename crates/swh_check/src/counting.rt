@@ -22,7 +22,7 @@ fn visits_opened(event: &EventKind) -> u64
 {
     match event {
         EventKind::Open { .. } => 1,
-        EventKind::Batch(_) | EventKind::Mark { .. } => 0,
+        _ => 0,
     }
 }
 

@@ -6,7 +6,7 @@ use Rattle.swh_outside.specs.Disk.{Call, Write, Sync}
 use Rattle.swh_outside.specs.Files.{FileCall}
 use Rattle.swh_model.specs.declared.event.Event.{Event}
 use Rattle.swh_model.specs.declared.event.EventKind.{EventKind}
-use Rattle.swh_model.specs.declared.event.EventKind.TheVariants.{Batch, Open, Mark}
+use Rattle.swh_model.specs.declared.event.EventKind.TheVariants.{Batch, Mark}
 use Rattle.swh_model.specs.declared.event.Wish.{Wish}
 use Rattle.swh_model.specs.Judge.{IsVerdict, IsWish}
 use Rattle.swh_segment.specs.Calls.{calls_for}
@@ -31,8 +31,8 @@ file_call (Store call) = (1, call_of call)
 -- A batch has no more objects than its record can count, and no mark makes a visit created.
 abbrev pub FitsRecord : EventKind → Type 0
 FitsRecord (Batch entries) = length entries < 2 ^ 32
-FitsRecord (Open origin kind date) = Unit {0}
 FitsRecord (Mark origin visit status snapshot) = status ≢ Created
+FitsRecord _ = Unit {0}
 
 -- It is a wish, with the names of some namer.
 pub record IsSomeWish (wish : Wish) : Type 0 where

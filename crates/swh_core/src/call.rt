@@ -38,8 +38,7 @@ fn packed(alloc: Global, what: &EventKind) -> Result<Vec<u8>, Memory>
 {
     match what {
         EventKind::Batch(entries) => run_of_entries(alloc, entries.as_slice()),
-        EventKind::Open { .. } => Ok(Vec::new(alloc)),
-        EventKind::Mark { .. } => Ok(Vec::new(alloc)),
+        _ => Ok(Vec::new(alloc)),
     }
 }
 
@@ -69,8 +68,7 @@ fn push_packed(
 {
     match what {
         EventKind::Batch(_) => push_run(calls, at, run),
-        EventKind::Open { .. } => Ok(()),
-        EventKind::Mark { .. } => Ok(()),
+        _ => Ok(()),
     }
 }
 

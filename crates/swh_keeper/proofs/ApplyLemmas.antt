@@ -1,21 +1,19 @@
 -- A planned event may be added.
-use Rattle.std.proofs.Common.{ap, ◌≡◌, ℕ, zero, suc, ◌-◌, ◌<◌, ◌≤◌, Some, None, Ok, List, [], ◌∷◌, ◌++◌, length, sym, subst, arith, ◌+◌, ◌∙◌}
-use Rattle.std.specs.List.{slice_get}
+use Rattle.std.proofs.Common.{ap, ◌≡◌, ℕ, Some, None, Ok, List, [], ◌∷◌, ◌++◌, sym, subst, arith, ◌+◌, ◌∙◌}
 use Rattle.swh_outside.specs.Disk.{File}
 use Rattle.swh_outside.specs.Files.{EachImages, files_of}
 use Rattle.swh_segment.specs.Settled.{AreSettled}
 use Rattle.swh_base.specs.declared.kind.Kind.{Kind}
-use Rattle.swh_model.specs.declared.event.Visit.{Visit}
 use Rattle.swh_model.specs.declared.event.Event.{Event}
-use Rattle.swh_model.specs.declared.event.EventKind.{EventKind}
 use Rattle.swh_model.specs.declared.event.Wish.{Wish}
-use Rattle.swh_model.specs.declared.event.EventKind.TheVariants.{Batch, Open, Mark}
 use Rattle.swh_model.specs.declared.event.Outcome.{Outcome}
-use Rattle.swh_model.specs.Archive.{Bodies, Origins, visits_of, empty_archive}
-use Rattle.swh_model.specs.Step.{May, May_kind, MayAll, HasItsChildren, HasItsChildrenAndName, AreNew, replay}
+use Rattle.swh_model.specs.Entries.{entries_of}
+use Rattle.swh_model.specs.Archive.{Archive, Bodies, empty_archive}
+use Rattle.swh_model.specs.Step.{May, MayAll, AreNew, replay}
+use Rattle.swh_model.specs.Happens.{HasItsVisit}
 use Rattle.swh_model.specs.Judge.{IsVerdict, IsWish}
 use Rattle.swh_model.proofs.Verdicts.{wish_may}
-use Rattle.swh_model.proofs.Visits.{all-map}
+use Rattle.swh_model.proofs.PlainSteps.{may_can, may_good, may_new, can_there}
 use Rattle.swh_replay.specs.declared.replayed.Replayed.{Replayed}
 use Rattle.swh_plan.specs.declared.planning.Planned.{Planned}
 use Rattle.swh_replay.specs.Replay.{IsReplayOf, IsInFiles, MayAdvance}
@@ -25,27 +23,18 @@ use Rattle.swh_segment.specs.Standing.{WithOrWithout}
 use Rattle.swh_format.specs.EventRecord.{run_written, coded_record}
 use Rattle.swh_segment.specs.Calls.{calls_for, event_calls}
 use Rattle.swh_model.specs.Limits.{store_length, records_length}
-use Rattle.swh_keeper.proofs.KeptLemmas.{history-push}
+use Rattle.swh_keeper.proofs.KeptLemmas.{history-push, same_archive}
 
 pub may_of_plan : (id_of : Kind → List ℕ → List ℕ) (h : List Event) (by : ℕ) (wish : Wish) (e : Event) (o : Outcome) → IsWish id_of wish → IsVerdict h by wish (Ok (e, o)) → May id_of (replay h) e
 may_of_plan id_of h by wish e o good verdict = subst (λ (x : Event). May id_of (replay h) x) (sym verdict.1) (wish_may id_of h by wish good verdict.0)
 
-within : (vs : List Visit) (k : ℕ) (v : Visit) → slice_get vs k ≡ Some v → k < length vs
-within [] k v is = absurd (let f : None ≡ Some v = is in cc)
-within (w ∷ vs) zero v is = omega arith
-within (w ∷ vs) (suc k) v is = let m = within vs k v is in omega (arith, m)
-
-may_kind_advance : (id_of : Kind → List ℕ → List ℕ) (r : Replayed) (h : List Event) (by : ℕ) (what : EventKind) → IsReplayOf r h → May_kind id_of (replay h) by what → MayAdvance r what
-may_kind_advance id_of r h by (Batch entries) is may =
-    (all-map (HasItsChildrenAndName id_of) HasItsChildren (λ e g. g.good) entries may.good, subst (λ (b : Bodies). AreNew b entries) (sym is.bodies) may.new)
-may_kind_advance id_of r h by (Open origin kind date) is may = tt
-may_kind_advance id_of r h by (Mark origin visit status snapshot) is may =
-    let at = within (visits_of (replay h).origins origin) (visit - 1) may.visit may.there in
-    let pos = may.positive in
-    (pos, subst (λ (o : Origins). visit ≤ length (visits_of o origin)) (sym is.visits) (omega (arith, at, pos)))
-
 pub may_advance : (id_of : Kind → List ℕ → List ℕ) (r : Replayed) (h : List Event) (e : Event) → IsReplayOf r h → May id_of (replay h) e → MayAdvance r e.what
-may_advance id_of r h e is may = may_kind_advance id_of r h e.by e.what is may
+may_advance id_of r h e is may =
+    let there = can_there (replay h) e (may_can id_of (replay h) e may) in record {
+      good = may_good id_of (replay h) e may;
+      new = subst (λ (b : Bodies). AreNew b (entries_of e.what)) (sym is.bodies) (may_new id_of (replay h) e may);
+      there = subst (λ (a : Archive). HasItsVisit a e) (sym (same_archive r h is)) there;
+    }
 
 pub to_add : (r : Replayed) (h : List Event) (by : ℕ) (wish : Wish) (p : Planned) → IsReplayOf r h → IsPlanned h by wish r p → IsToAdd r h p.event p.run.items p.bytes.items
 to_add r h by wish p is planned = record { run_is = planned.run_is; bytes_are = planned.record_is; codable = planned.codable; store = is.store }

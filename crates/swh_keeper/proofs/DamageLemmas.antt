@@ -7,12 +7,11 @@ use Rattle.std.specs.List.{AllByRecursion}
 use Rattle.swh_base.specs.declared.kind.Kind.{Kind}
 use Rattle.swh_base.specs.declared.entry.Entry.{Entry}
 use Rattle.swh_model.specs.declared.event.Event.{Event}
-use Rattle.swh_model.specs.declared.event.EventKind.{EventKind}
-use Rattle.swh_model.specs.declared.event.EventKind.TheVariants.{Batch}
+use Rattle.swh_model.specs.Entries.{entries_of}
 use Rattle.swh_model.specs.Archive.{empty_archive}
 use Rattle.swh_model.specs.Limits.{ledger_length}
 use Rattle.swh_model.specs.Step.{HasItsChildrenAndName, May, IsHistory, replay}
-use Rattle.swh_model.specs.Happens.{IsNamedKind, IsNamedEvent}
+use Rattle.swh_model.specs.Happens.{IsNamedEvent}
 use Rattle.swh_model.proofs.Histories as histories
 use Rattle.swh_object.specs.Object.{IsObject}
 use Rattle.swh_format.specs.Record.{magic}
@@ -24,7 +23,7 @@ use Rattle.swh_recovery.specs.declared.harm.Harm.{Harm}
 use Rattle.swh_recovery.specs.declared.harm.Harm.TheVariants.{Refused}
 use Rattle.swh_recovery.specs.declared.harm.Found.{Found}
 use Rattle.swh_recovery.specs.Fields.{found_at}
-use Rattle.swh_recovery.specs.Harms.{entries_of, Begin}
+use Rattle.swh_recovery.specs.Harms.{Begin}
 use Rattle.swh_recovery.specs.Records.{AreWhole, IsHarm}
 use Rattle.swh_recovery.proofs.OneHarm.{history_good, no_magic_break, no_history, same_harm, from_magic, begins_from, front_of_standing, shorter_is_front, no_more_events}
 use Rattle.swh_replay.specs.Replay.{IsFirstRefused}
@@ -70,13 +69,9 @@ module _ (id_of : Kind → List ℕ → List ℕ) where
   entries_named [] good = tt
   entries_named (e ∷ es) good = (record { good = record { kids = good.0.kids }; named = good.0.named }, entries_named es good.1)
 
-  kind_named : (what : EventKind) → AllByRecursion (IsObject id_of) (entries_of what) → IsNamedKind id_of what
-  kind_named (Batch es) good = entries_named es good
-  kind_named what good = tt
-
   pub events_named : (h : List Event) → AllByRecursion (λ e. AllByRecursion (IsObject id_of) (entries_of e.what)) h → AllByRecursion (IsNamedEvent id_of) h
   events_named [] good = tt
-  events_named (e ∷ h) good = (kind_named e.what good.0, events_named h good.1)
+  events_named (e ∷ h) good = (entries_named (entries_of e.what) good.0, events_named h good.1)
 
   pub first_some : (h : List Event) (number : ℕ) → IsFirstRefused id_of h number → 0 < number
   first_some h number r = let n = r.number_is in omega (arith, n)

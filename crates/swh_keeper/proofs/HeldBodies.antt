@@ -11,6 +11,7 @@ use Rattle.swh_base.specs.Name.{kind_number}
 use Rattle.swh_model.specs.declared.event.Event.{Event}
 use Rattle.swh_model.specs.declared.event.EventKind.{EventKind}
 use Rattle.swh_model.specs.declared.event.EventKind.TheVariants.{Batch}
+use Rattle.swh_model.specs.Entries.{entries_of}
 use Rattle.swh_model.specs.Archive.{Archive, Bodies, body_of}
 use Rattle.swh_model.specs.Grows.{IsWithin}
 use Rattle.swh_model.specs.Limits.{object_length, run_length, stored_length, store_length}
@@ -24,10 +25,11 @@ use Rattle.swh_model.proofs.Visits.{all-map}
 use Rattle.swh_format.specs.StoredObject.{coded_entry, coded_run}
 use Rattle.swh_format.specs.EventRecord.{packed_objects}
 use Rattle.swh_format.specs.Stands.{coded_runs}
+use Rattle.swh_format.proofs.KindLaws.{packed}
 use Rattle.swh_format.proofs.Lengths.{object-length, run-length, stored-length}
 use Rattle.swh_keeper.specs.declared.finding.Place.{Place}
 use Rattle.swh_keeper.specs.Stored.{IsHeldNamed, IsHeldKind, body_in}
-use Rattle.swh_keeper.specs.Places.{IsPlaceFor, IsPlaceOf, IsUnnamedKind, AreUnnamed}
+use Rattle.swh_keeper.specs.Places.{IsPlaceIn, IsPlaceOf, IsUnnamed, AreUnnamed}
 use Rattle.swh_keeper.proofs.StoredLemmas.{part-append}
 
 -- ---- they are held
@@ -44,9 +46,8 @@ module _ (id_of : Kind → List ℕ → List ℕ) where
   )
 
   stays-held : (a b : Bodies) (what : EventKind) → IsWithin a b → IsHeldKind id_of a what → IsHeldKind id_of b what
-  stays-held a b (Batch es) within held =
-      all-map (IsHeldNamed id_of a) (IsHeldNamed id_of b) (λ e h. record { held = within e.name e.body h.held; named = h.named }) es held
-  stays-held a b what within held = tt
+  stays-held a b what within held =
+      all-map (IsHeldNamed id_of a) (IsHeldNamed id_of b) (λ e h. record { held = within e.name e.body h.held; named = h.named }) (entries_of what) held
 
   held-kind : (a : Archive) (by : ℕ) (what : EventKind) → May_kind id_of a by what → IsHeldKind id_of (after_kind a by what).bodies what
   held-kind a by (Batch es) may = held-added a.bodies es may.new may.good
@@ -156,13 +157,12 @@ pub record IsFound (bodies : Bodies) (h : List Event) (n : Name) (p : Place) : T
   pub bytes : take p.size (drop p.at (coded_runs h)) ≡ body
 
 module _ (id_of : Kind → List ℕ → List ℕ) (bodies : Bodies) (h : List Event) (k : ℕ) (e : Event) (less : k < length h) (is : e ≡ get_or h k e) (n : Name) (p : Place) where
-  found-kind : (what : EventKind) → e.what ≡ what → IsHeldKind id_of bodies what → IsPlaceFor (store_length (take k h)) what n p → IsFound bodies h n p
-  found-kind (Batch es) same held place =
+  found-kind : IsHeldKind id_of bodies e.what → IsPlaceIn (store_length (take k h)) (entries_of e.what) n p → IsFound bodies h n p
+  found-kind held place =
+      let es = entries_of e.what in
       let x = place.entry in
       let start = store_length (take k h) in
       let inner = run_length (take place.number es) + (9 + length x.name.id) in
-      let run : packed_objects e.what ≡ coded_run es = ap packed_objects same in
-      let long_run : stored_length e.what ≡ run_length es = ap stored_length same in
       let here = run-within h k e less is in
       let part = lengths.run-within es place.number x place.within place.is in
       let at = place.at in
@@ -171,26 +171,25 @@ module _ (id_of : Kind → List ℕ → List ℕ) (bodies : Bodies) (h : List Ev
       record {
         body = x.body;
         held = subst (λ (m : Name). body_of bodies m ≡ Some x.body) place.name (all-at (IsHeldNamed id_of bodies) es place.number x held place.within place.is).held;
-        within = omega (arith, here, long_run, part, at, size);
+        within = omega (arith, here, part, at, size);
         long = size;
         bytes =
             ap (λ (m : ℕ). take m (drop p.at (coded_runs h))) size
             ∙ ap (λ (m : ℕ). take (length x.body) (drop m (coded_runs h))) (let z : p.at ≡ start + inner = omega (arith, at) in z)
-            ∙ ap (λ (l : List ℕ). take (length x.body) l) (sym (drop-twice start inner (coded_runs h)) ∙ ap (λ (l : List ℕ). drop inner l) (runs-split h k e less is ∙ ap (λ (l : List ℕ). l ++ coded_runs (drop (k + 1) h)) run))
+            ∙ ap (λ (l : List ℕ). take (length x.body) l) (sym (drop-twice start inner (coded_runs h)) ∙ ap (λ (l : List ℕ). drop inner l) (runs-split h k e less is ∙ ap (λ (l : List ℕ). l ++ coded_runs (drop (k + 1) h)) (packed e.what)))
             ∙ part-append (coded_run es) (coded_runs (drop (k + 1) h)) inner (length x.body) there
             ∙ part-there es place.number x place.within place.is;
       }
-  found-kind what same held place = absurd place
 
 pub found-at : (id_of : Kind → List ℕ → List ℕ) (a : Archive) (h : List Event) (n : Name) (p : Place) → MayAll id_of a h → IsPlaceOf h n p → IsFound (after_all a h).bodies h n p
 found-at id_of a h n p may place =
-    found-kind id_of (after_all a h).bodies h place.number place.event place.within place.is n p place.event.what refl
+    found-kind id_of (after_all a h).bodies h place.number place.event place.within place.is n p
     (held-at id_of a h place.number place.event may place.within place.is) place.place
 
 pub none-at : (a : Archive) (h : List Event) (n : Name) → AreUnnamed n h → body_of a.bodies n ≡ None → body_of (after_all a h).bodies n ≡ None
 none-at a [] n none absent = absent
 none-at a (e ∷ h) n none absent = none-at (after a e) h n none.1 (kind e.what none.0)
   where
-    kind : (what : EventKind) → IsUnnamedKind n what → body_of (after_kind a e.by what).bodies n ≡ None
+    kind : (what : EventKind) → IsUnnamed n (entries_of what) → body_of (after_kind a e.by what).bodies n ≡ None
     kind (Batch es) unnamed = none-added a.bodies es n unnamed absent
     kind what unnamed = absent

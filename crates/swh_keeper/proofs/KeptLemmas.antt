@@ -52,6 +52,9 @@ pub history-push : (id_of : Kind → List ℕ → List ℕ) (a : Archive) (h : L
 history-push id_of a [] e all one = (one, tt)
 history-push id_of a (f ∷ h) e all one = (all.0, history-push id_of (after a f) h e all.1 one)
 
+pub same_archive : (r : Replayed) (h : List Event) → IsReplayOf r h → archive_of r ≡ replay h
+same_archive r h is i = record { bodies = is.bodies i; origins = is.visits i }
+
 pub replay_of-push : (r r' : Replayed) (h : List Event) (e : Event) → IsReplayOf r h → Advances r e r' → (store_end ledger_end : ℕ) → store_end ≡ r.store_end + stored_length e.what → ledger_end ≡ r.ledger_end + (6 + payload_length e.what)
     → IsReplayOf (record r' { store_end = store_end; ledger_end = ledger_end }) (h ++ e ∷ [])
 replay_of-push r r' h e is adv store_end ledger_end se le =
@@ -62,9 +65,6 @@ replay_of-push r r' h e is adv store_end ledger_end se le =
       store = let s = is.store in omega (arith, se, s, store_length-push h e);
       ledger = let l = is.ledger in omega (arith, le, l, ledger_length-push h e);
     }
-  where
-    same_archive : (q : Replayed) (g : List Event) → IsReplayOf q g → archive_of q ≡ replay g
-    same_archive q g w i = record { bodies = w.bodies i; origins = w.visits i }
 
 pub ready : (r : Replayed) (h : List Event) (e : Event) (run bytes : List ℕ) → IsToAdd r h e run bytes → IsReady bytes (written r.store_end e).entry
 ready r h e run bytes t = record { is = t.bytes_are }

@@ -4,8 +4,7 @@ use Rattle.std.specs.List.{AllByRecursion}
 use Rattle.swh_base.specs.declared.name.Name.{Name}
 use Rattle.swh_base.specs.declared.entry.Entry.{Entry}
 use Rattle.swh_model.specs.declared.event.Event.{Event}
-use Rattle.swh_model.specs.declared.event.EventKind.{EventKind}
-use Rattle.swh_model.specs.declared.event.EventKind.TheVariants.{Batch}
+use Rattle.swh_model.specs.Entries.{entries_of}
 use Rattle.swh_model.specs.Limits.{run_length, store_length}
 use Rattle.swh_keeper.specs.declared.finding.Place.{Place}
 
@@ -19,28 +18,18 @@ pub record IsPlaceIn (start : ℕ) (entries : List Entry) (n : Name) (p : Place)
   pub at : p.at ≡ start + run_length (take number entries) + (9 + length entry.name.id)
   pub size : p.size ≡ length entry.body
 
--- The same of what an event added.
-abbrev pub IsPlaceFor : ℕ → EventKind → Name → Place → Type 0
-IsPlaceFor start (Batch entries) n p = IsPlaceIn start entries n p
-IsPlaceFor start _ n p = ⊥
-
 -- The same of the runs of a history.
 pub record IsPlaceOf (h : List Event) (n : Name) (p : Place) : Type 0 where
   pub number : ℕ
   pub event : Event
   pub within : number < length h
   pub is : event ≡ get_or h number event
-  pub place : IsPlaceFor (store_length (take number h)) event.what n p
+  pub place : IsPlaceIn (store_length (take number h)) (entries_of event.what) n p
 
 -- No object has the name.
 abbrev pub IsUnnamed : Name → List Entry → Type 0
 IsUnnamed n entries = AllByRecursion (λ e. e.name ≢ n) entries
 
--- No object that the event added has the name.
-abbrev pub IsUnnamedKind : Name → EventKind → Type 0
-IsUnnamedKind n (Batch entries) = IsUnnamed n entries
-IsUnnamedKind n _ = Unit {0}
-
 -- No object of a history has the name.
 abbrev pub AreUnnamed : Name → List Event → Type 0
-AreUnnamed n h = AllByRecursion (λ e. IsUnnamedKind n e.what) h
+AreUnnamed n h = AllByRecursion (λ e. IsUnnamed n (entries_of e.what)) h

@@ -2,11 +2,10 @@
 ghost use Rattle.std.specs.Prelude.{◌≡◌, ◌++◌, ◌∷◌, [], OnOk, OnErr, IfOk, IsErrOf};
 ghost use Rattle.swh_outside.specs.Files.{EachImages, FilesBreaks, files_of, files_done};
 ghost use Rattle.swh_segment.specs.Calls.{event_calls};
-ghost use Rattle.swh_segment.specs.Makes.{ADiskFailed};
 ghost use Rattle.swh_model.specs.declared.event.Event.{Event};
 ghost use Rattle.swh_replay.specs.Replay.{IsReplayOf, MayAdvance};
-ghost use Rattle.swh_keeper.specs.Adding.{IsAdded, IsNotAdded};
-ghost use Rattle.swh_segment.specs.Counts.{AreLater, AreQuiet};
+ghost use Rattle.swh_keeper.specs.Adding.{IsAdded, IsNotAdded, UnlessDiskFault};
+ghost use Rattle.swh_segment.specs.Counts.{CountFaults};
 ghost use Rattle.swh_keeper.specs.Keeping.{AreSettledFor, HaveEnds, IsToAdd, FilesHaveRoom};
 ghost use Rattle.swh_segment.specs.Standing.{WithOrWithout};
 ghost use Rattle.swh_format.specs.EventRecord.{run_written};
@@ -83,13 +82,8 @@ pub fn add_event<D: Disk>(
     ensures same_ledger { IsErrOf result OutOfMemory → ledger.new ≡ ledger.old }
     ensures left { D.tells → IsErrOf result DiskFailed → EachImages (files_of (D.file ledger.new.disk) (D.file store.new.disk))
         (WithOrWithout history.old.items planned.event) }
-    ensures later { AreLater (D.faults store.old.disk) (D.faults store.new.disk) (D.faults ledger.old.disk) (D.faults ledger.new.disk) }
-    ensures cause { IsErrOf result DiskFailed → ADiskFailed (D.faults store.old.disk) (D.faults store.new.disk)
-        (D.faults ledger.old.disk) (D.faults ledger.new.disk) }
-
-    // Where no disk failed, both counts are as they were.
-    ensures quiet { OnOk result (AreQuiet (D.faults store.old.disk) (D.faults store.new.disk)
-        (D.faults ledger.old.disk) (D.faults ledger.new.disk)) }
+    ensures counts { CountFaults UnlessDiskFault DiskFailed (D.faults store.old.disk, D.faults store.new.disk)
+        (D.faults ledger.old.disk, D.faults ledger.new.disk) result }
 {
     let Planned {
         event,

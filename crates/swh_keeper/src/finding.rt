@@ -1,10 +1,10 @@
 //! Where the body of a name stands in the store: by the lengths of all that stands before it.
 ghost use Rattle.std.specs.Prelude.{◌≡◌, ◌↔◌, ◌+◌, ◌<◌, ◌≤◌, ◌^◌, IsTrue, IfSome, IfNone, length};
-ghost use Rattle.swh_model.specs.Limits.{run_length, store_length, stored_length};
-ghost use Rattle.swh_keeper.specs.Places.{IsPlaceIn, IsPlaceFor, IsPlaceOf, IsUnnamed, IsUnnamedKind, AreUnnamed};
+ghost use Rattle.swh_model.specs.Limits.{run_length, store_length};
+ghost use Rattle.swh_keeper.specs.Places.{IsPlaceIn, IsPlaceOf, IsUnnamed, AreUnnamed};
 
 use swh_base::{Entry, Name};
-use swh_model::{Event, EventKind, length_in_store};
+use swh_model::{Event, length_in_store};
 
 /// Where a body stands: at a place in bytes from 0, and how many bytes it has.
 #[derive(Clone, Copy)]
@@ -45,17 +45,6 @@ fn place_in(entries: &[Entry], name: &Name, from: u64) -> Option<Place>
     None
 }
 
-fn place_for(event: &EventKind, name: &Name, from: u64) -> Option<Place>
-    requires { from + stored_length event.now < 2 ^ 64 }
-    ensures some { IfSome result (IsPlaceFor from event.now name.now) }
-    ensures none { IfNone result (IsUnnamedKind name.now event.now) }
-{
-    match event {
-        EventKind::Batch(entries) => place_in(entries.as_slice(), name, from),
-        EventKind::Open { .. } | EventKind::Mark { .. } => None,
-    }
-}
-
 /// The place of the body of a name among the runs of a history; none exactly where no batch has the name.
 pub fn place_of(history: &[Event], name: &Name) -> Option<Place>
     requires { store_length history.now < 2 ^ 64 }
@@ -64,7 +53,7 @@ pub fn place_of(history: &[Event], name: &Name) -> Option<Place>
 {
     let mut at = 0;
     for event in history {
-        if let Some(place) = place_for(&event.what, name, at) {
+        if let Some(place) = place_in(event.what.entries(), name, at) {
             return Some(place);
         }
         let Ok(length) = length_in_store(&event.what) else {

@@ -90,14 +90,9 @@ impl<N: Namer, D: Disk> Keeper<N, D> {
     ghost use Rattle.swh_model.specs.Step.{replay};
     ghost use Rattle.swh_replay.specs.Replay.{archive_of};
     ghost use Rattle.swh_visits.specs.Visits.{IsAll};
-    ghost use Rattle.swh_outside.specs.Faults.{Rose};
     ghost use Rattle.swh_model.specs.Limits.{store_length};
     ghost use Rattle.swh_format.specs.Stands.{coded_runs};
-    ghost use Rattle.swh_keeper.specs.declared.stored.StoredFault.TheVariants.{
-      DiskFault as StoredDiskFault,
-      Memory as StoredMemory,
-    };
-    ghost use Rattle.swh_keeper.specs.Stored.{IsReadAgain, IsNoLonger};
+    ghost use Rattle.swh_keeper.specs.Stored.{OnlyReadsStore, IsNoLonger};
     ghost use Rattle.swh_keeper.specs.Kept.{IsKept, Applies, RefusesPlan};
     ghost use Rattle.swh_keeper.specs.Keeping.{IsCarriedOut, IsBrokenOff};
 
@@ -276,11 +271,7 @@ impl<N: Namer, D: Disk> Keeper<N, D> {
         ensures size { IfOk result (λ bytes. length bytes.items ≤ size) }
         ensures bytes { D.tells → IfOk result (λ bytes. bytes.items
             ≡ take size (drop at (coded_runs self.old.history))) }
-        ensures same { IsReadAgain D.tells D.file self.old self.new }
-        ensures later { D.faults self.old.store ≤ D.faults self.new.store }
-        ensures cause { IsErrOf result StoredDiskFault → Rose (D.faults self.old.store) (D.faults self.new.store) }
-        ensures quiet { OnOk result (D.faults self.new.store ≡ D.faults self.old.store) }
-        ensures memory_quiet { IsErrOf result StoredMemory → D.faults self.new.store ≡ D.faults self.old.store }
+        ensures reads { OnlyReadsStore D.tells D.file D.faults self.old self.new result }
     {
         read_bytes(alloc, &mut self.store, at, size)
     }
@@ -294,11 +285,7 @@ impl<N: Namer, D: Disk> Keeper<N, D> {
         ensures long { IfOk result (λ found. IfSome found (IsNoLonger (replay self.old.history).bodies name.now)) }
         ensures held { D.tells → IfOk result (λ found. IfSome found (λ bytes.
             body_of (replay self.old.history).bodies name.now ≡ Some bytes.items)) }
-        ensures same { IsReadAgain D.tells D.file self.old self.new }
-        ensures later { D.faults self.old.store ≤ D.faults self.new.store }
-        ensures cause { IsErrOf result StoredDiskFault → Rose (D.faults self.old.store) (D.faults self.new.store) }
-        ensures quiet { OnOk result (D.faults self.new.store ≡ D.faults self.old.store) }
-        ensures memory_quiet { IsErrOf result StoredMemory → D.faults self.new.store ≡ D.faults self.old.store }
+        ensures reads { OnlyReadsStore D.tells D.file D.faults self.old self.new result }
     {
         let Some(place) = place_of(self.history.as_slice(), name) else {
             return Ok(None);

@@ -1,9 +1,8 @@
 //! The opening of an archive's two files, and why an archive is not opened or made.
-ghost use Rattle.std.specs.Prelude.{◌≡◌, ◌≤◌, IfOk, IfErr, OnOk, IsErrOf};
-ghost use Rattle.swh_outside.specs.Faults.{Rose};
+ghost use Rattle.std.specs.Prelude.{◌≡◌, IfOk, IfErr, OnOk, IsErrOf};
 ghost use Rattle.swh_outside.specs.Files.{files_of, files_done};
-ghost use Rattle.swh_segment.specs.Counts.{AreLater, AreQuiet};
-ghost use Rattle.swh_segment.specs.Makes.{ADiskFailed};
+ghost use Rattle.swh_segment.specs.Counts.{CountFaults};
+ghost use Rattle.swh_segment.specs.Reads.{OnlyReads, OnlyReadsBoth};
 ghost use Rattle.swh_segment.specs.Making.{IsMade, IsNotMade, barriers};
 ghost use Rattle.swh_format.specs.Stands.{StandsFor};
 ghost use Rattle.swh_keeper.specs.Opening.{
@@ -97,11 +96,8 @@ fn check_made<D: Disk>(ledger: &mut D) -> Result<(), OpenWhy>
     ensures made { D.tells → OnOk result (IsMade (D.file ledger.old).seen) }
     ensures not_made { D.tells → IsErrOf result NotMade → IsNotMade (D.file ledger.old).seen }
     ensures why { IfErr result IsMadeFault }
-    ensures same { D.tells → D.file ledger.new ≡ D.file ledger.old }
-    ensures later { D.faults ledger.old ≤ D.faults ledger.new }
-    ensures cause { IsErrOf result DiskFault → Rose (D.faults ledger.old) (D.faults ledger.new) }
-    ensures quiet { OnOk result (D.faults ledger.new ≡ D.faults ledger.old) }
-    ensures quiet_fault { IfErr result (λ why. UnlessDiskFault why (D.faults ledger.new ≡ D.faults ledger.old)) }
+    ensures reads { OnlyReads D.tells UnlessDiskFault DiskFault (D.file ledger.old, D.faults ledger.old)
+        (D.file ledger.new, D.faults ledger.new) result }
 {
     match read_beginning(ledger) {
         Err(MakeFault::Made) => Ok(()),
@@ -124,15 +120,9 @@ fn read_archive<N: Namer, D: Disk>(
     ensures why { IfErr result IsReadingFault }
     ensures damaged { D.tells → IfErr result (λ why. IfDamagedAt why
         (IsDamagedAt N.id_of (D.file ledger.old).seen (D.file store.old).seen)) }
-    ensures same_ledger { D.tells → D.file ledger.new ≡ D.file ledger.old }
-    ensures same_store { D.tells → D.file store.new ≡ D.file store.old }
-    ensures later { AreLater (D.faults store.old) (D.faults store.new) (D.faults ledger.old) (D.faults ledger.new) }
-    ensures cause { IsErrOf result DiskFault → ADiskFailed (D.faults store.old) (D.faults store.new)
-        (D.faults ledger.old) (D.faults ledger.new) }
-    ensures quiet { OnOk result (AreQuiet (D.faults store.old) (D.faults store.new)
-        (D.faults ledger.old) (D.faults ledger.new)) }
-    ensures quiet_fault { IfErr result (λ why. UnlessDiskFault why (AreQuiet (D.faults store.old) (D.faults store.new)
-        (D.faults ledger.old) (D.faults ledger.new))) }
+    ensures reads { OnlyReadsBoth D.tells UnlessDiskFault DiskFault
+        ((D.file store.old, D.faults store.old), (D.file store.new, D.faults store.new))
+        ((D.file ledger.old, D.faults ledger.old), (D.file ledger.new, D.faults ledger.new)) result }
 {
     match read_all(alloc, namer, ledger, store) {
         Ok(history) => replay_records(alloc, namer, history),
@@ -169,15 +159,8 @@ pub fn open_archive<N: Namer, D: Disk>(
         (IsDamagedAt N.id_of (D.file ledger.old).seen (D.file store.old).seen)) }
     ensures left { D.tells → IfErr result (λ why. IsLeftFor why (files_of (D.file ledger.old) (D.file store.old))
         (files_of (D.file ledger.new) (D.file store.new))) }
-    ensures later { AreLater (D.faults store.old) (D.faults store.new) (D.faults ledger.old) (D.faults ledger.new) }
-    ensures cause { IsErrOf result DiskFault → ADiskFailed (D.faults store.old) (D.faults store.new)
-        (D.faults ledger.old) (D.faults ledger.new) }
-
-    // Where no disk failed, both counts are as they were.
-    ensures quiet { OnOk result (AreQuiet (D.faults store.old) (D.faults store.new)
-        (D.faults ledger.old) (D.faults ledger.new)) }
-    ensures quiet_fault { IfErr result (λ why. UnlessDiskFault why (AreQuiet (D.faults store.old) (D.faults store.new)
-        (D.faults ledger.old) (D.faults ledger.new))) }
+    ensures counts { CountFaults UnlessDiskFault DiskFault (D.faults store.old, D.faults store.new)
+        (D.faults ledger.old, D.faults ledger.new) result }
 {
     settle(store, ledger)?;
     check_made(ledger)?;

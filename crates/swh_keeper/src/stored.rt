@@ -1,6 +1,7 @@
 //! What the store's disk gives of the runs that stand in it, read again.
-ghost use Rattle.std.specs.Prelude.{◌≡◌, ◌+◌, ◌≤◌, ◌<◌, ◌^◌, length, take, drop, IfOk, OnOk, IsErrOf};
-ghost use Rattle.swh_outside.specs.Faults.{Rose};
+ghost use Rattle.std.specs.Prelude.{◌≡◌, ◌+◌, ◌≤◌, ◌<◌, ◌^◌, length, take, drop, IfOk};
+ghost use Rattle.swh_segment.specs.Reads.{OnlyReads};
+ghost use Rattle.swh_keeper.specs.Stored.{UnlessUnread};
 ghost use Rattle.swh_keeper.specs.declared.stored.StoredFault.TheVariants.{DiskFault, Memory as OutOfMemory};
 
 use std::alloc::{AllocError, Global};
@@ -43,11 +44,8 @@ pub fn read_bytes<D: Disk>(
     ensures bytes { D.tells → at + size ≤ length (D.file store.old.disk).seen
         → IfOk result (λ bytes. bytes.items ≡ take size (drop at (D.file store.old.disk).seen)) }
     ensures end { store.new.end ≡ store.old.end }
-    ensures same { D.tells → D.file store.new.disk ≡ D.file store.old.disk }
-    ensures later { D.faults store.old.disk ≤ D.faults store.new.disk }
-    ensures cause { IsErrOf result DiskFault → Rose (D.faults store.old.disk) (D.faults store.new.disk) }
-    ensures quiet { OnOk result (D.faults store.new.disk ≡ D.faults store.old.disk) }
-    ensures memory_quiet { IsErrOf result OutOfMemory → D.faults store.new.disk ≡ D.faults store.old.disk }
+    ensures reads { OnlyReads D.tells UnlessUnread DiskFault (D.file store.old.disk, D.faults store.old.disk)
+        (D.file store.new.disk, D.faults store.new.disk) result }
 {
     let mut bytes = vec![in alloc; 0u8; size]?;
     let count = store.fill(at, &mut bytes)?;

@@ -1,8 +1,8 @@
 //! An event on both disks.
-ghost use Rattle.std.specs.Prelude.{◌≡◌, ◌+◌, ◌≤◌, ◌++◌, ◌∷◌, [], length, OnOk, OnErr};
+ghost use Rattle.std.specs.Prelude.{◌≡◌, ◌+◌, ◌++◌, ◌∷◌, [], length, OnOk, OnErr};
 ghost use Rattle.swh_outside.specs.Files.{EachImages, FilesRuns, files_of};
 ghost use Rattle.swh_segment.specs.Calls.{event_calls};
-ghost use Rattle.swh_segment.specs.Makes.{ADiskFailed};
+ghost use Rattle.swh_segment.specs.Counts.{HaveCause};
 ghost use Rattle.swh_segment.specs.Runs as runs;
 ghost use Rattle.swh_format.specs.EventRecord.{packed_objects, run_written};
 ghost use Rattle.swh_model.specs.declared.event.Event.{Event};
@@ -21,7 +21,7 @@ fn run_for<'a>(event: &Event, run: &'a [u8]) -> Run<'a>
 {
     match &event.what {
         EventKind::Batch(_) => Run::Batch(run),
-        EventKind::Open { .. } | EventKind::Mark { .. } => Run::None,
+        _ => Run::None,
     }
 }
 
@@ -53,14 +53,8 @@ pub fn write_event<D: Disk>(
     ensures ledger_end { OnOk result (ledger.new.end ≡ replayed.now.ledger_end + length bytes.now) }
     ensures left { D.tells → OnErr result (EachImages (files_of (D.file ledger.new.disk) (D.file store.new.disk))
         (WithOrWithout history.now.items event.now)) }
-    ensures store_later { D.faults store.old.disk ≤ D.faults store.new.disk }
-    ensures ledger_later { D.faults ledger.old.disk ≤ D.faults ledger.new.disk }
-    ensures cause { OnErr result (ADiskFailed (D.faults store.old.disk) (D.faults store.new.disk)
-        (D.faults ledger.old.disk) (D.faults ledger.new.disk)) }
-
-    // Where no disk failed, both counts are as they were.
-    ensures store_quiet { OnOk result (D.faults store.new.disk ≡ D.faults store.old.disk) }
-    ensures ledger_quiet { OnOk result (D.faults ledger.new.disk ≡ D.faults ledger.old.disk) }
+    ensures cause { HaveCause (D.faults store.old.disk, D.faults store.new.disk)
+        (D.faults ledger.old.disk, D.faults ledger.new.disk) result }
 {
     let run = run_for(event, run);
     append_to_both(store, run, ledger, bytes)

@@ -25,7 +25,7 @@ use Rattle.swh_recovery.specs.declared.harm.Harm.TheVariants.{Refused}
 use Rattle.swh_recovery.specs.declared.harm.Found.{Found}
 use Rattle.swh_recovery.specs.Fields.{found_at}
 use Rattle.swh_recovery.specs.LedgerHarm.{BeginsRecord}
-use Rattle.swh_recovery.specs.Harms.{entries_of}
+use Rattle.swh_model.specs.Entries.{entries_of}
 use Rattle.swh_recovery.specs.StoreHarm.{IsRun, HoldsRun, RunBreaks}
 use Rattle.swh_recovery.specs.Records.{IsWholeRecord, IsToldExactly, IsEventRead, EventBreaks}
 use Rattle.swh_recovery.proofs.ToldLemmas.{one_told, told_of_batch}

@@ -37,7 +37,8 @@ use Rattle.swh_format.specs.Kinds.{byte_of, fields_of, payload_fields}
 use Rattle.swh_recovery.specs.Fields.{found_at}
 use Rattle.swh_recovery.specs.LedgerHarm.{RecordBreaks}
 use Rattle.swh_recovery.specs.StoreHarm.{RunBreaks}
-use Rattle.swh_recovery.specs.Harms.{entries_of, LedgerBreaks, StoreBreaks, IsRefused, NextBreaks, Begin, BreaksAfter, MagicBreaks}
+use Rattle.swh_model.specs.Entries.{entries_of}
+use Rattle.swh_recovery.specs.Harms.{LedgerBreaks, StoreBreaks, IsRefused, NextBreaks, Begin, BreaksAfter, MagicBreaks}
 use Rattle.swh_recovery.specs.Records.{IsHarm}
 use Rattle.swh_recovery.proofs.ToldLemmas.{one_told, told_of_batch}
 use Rattle.swh_recovery.proofs.OneField.{one_record, no_record, same_records, event_frame, record_whole}

@@ -16,7 +16,8 @@ use Rattle.swh_recovery.specs.declared.harm.Found.{Found}
 use Rattle.swh_recovery.specs.declared.reading.Reached.{Reached}
 use Rattle.swh_recovery.specs.Fields.{found_at}
 use Rattle.swh_recovery.specs.LedgerHarm.{RecordBreaks}
-use Rattle.swh_recovery.specs.Harms.{entries_of, Begin, NextBreaks}
+use Rattle.swh_model.specs.Entries.{entries_of}
+use Rattle.swh_recovery.specs.Harms.{Begin, NextBreaks}
 use Rattle.swh_recovery.specs.Records.{records_of, EventBreaks, IsEventRead, HasRuns, HoldsEvent, IsReadSoFar, BreaksNext}
 
 records-push : (at : ℕ) (g : List Event) (e : Event) (rest : List ℕ) → coded_records at (g ++ e ∷ []) ++ rest ≡ coded_records at g ++ 1 ∷ (coded_record (at + length (coded_runs g)) e ++ rest)

@@ -14,7 +14,7 @@ use Rattle.swh_format.specs.Kinds.{byte_of}
 use Rattle.swh_format.specs.Tells.{TellsWhole}
 use Rattle.swh_format.specs.EventRecord.{event_byte, event_payload, packed_objects, IsCodableKind}
 use Rattle.swh_recovery.specs.declared.harm.Found.{Found}
-use Rattle.swh_recovery.specs.Harms.{entries_of}
+use Rattle.swh_model.specs.Entries.{entries_of}
 use Rattle.swh_recovery.specs.Records.{IsWholeRecord, IsEventRead, EventBreaks, HoldsEvent, IsWholeRead, IsNotTold}
 
 -- What is told wherever a run would begin.

@@ -4,8 +4,7 @@ use Rattle.std.specs.List.{AllByRecursion}
 use Rattle.swh_base.specs.declared.kind.Kind.{Kind}
 use Rattle.swh_base.specs.declared.entry.Entry.{Entry}
 use Rattle.swh_model.specs.declared.event.Event.{Event}
-use Rattle.swh_model.specs.declared.event.EventKind.{EventKind}
-use Rattle.swh_model.specs.declared.event.EventKind.TheVariants.{Batch}
+use Rattle.swh_model.specs.Entries.{entries_of}
 use Rattle.swh_object.specs.Object.{IsObject}
 use Rattle.swh_format.specs.declared.kinds.RecordKind.TheVariants as of
 use Rattle.swh_format.specs.Record.{magic}
@@ -19,11 +18,6 @@ use Rattle.swh_format.specs.Kinds.{byte_of, fields_of, payload_fields}
 use Rattle.swh_recovery.specs.Fields.{found_at}
 use Rattle.swh_recovery.specs.LedgerHarm.{BeginsRecord, RecordBreaks}
 use Rattle.swh_recovery.specs.StoreHarm.{RunBreaks, HoldsRun}
-
--- the objects of what happened
-abbrev pub entries_of : EventKind → List Entry
-entries_of (Batch es) = es
-entries_of _ = []
 
 -- No gate stands at the end of the ledger.
 pub record GateIsMissing (gate : ℕ) (records : List ℕ) (file : ℕ) (found : Found) : Type 0 where

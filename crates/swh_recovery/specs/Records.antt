@@ -26,7 +26,8 @@ use Rattle.swh_format.specs.Fields.{IsAmong, FieldsHold}
 use Rattle.swh_format.specs.Kinds.{choices, payload_fields}
 use Rattle.swh_recovery.specs.Fields.{found_at}
 use Rattle.swh_format.specs.declared.kinds.Choice.TheVariants as choice
-use Rattle.swh_recovery.specs.Harms.{entries_of, StoreBreaks, IsRefused, BreaksAfter, MagicBreaks}
+use Rattle.swh_model.specs.Entries.{entries_of}
+use Rattle.swh_recovery.specs.Harms.{StoreBreaks, IsRefused, BreaksAfter, MagicBreaks}
 
 -- a fault in a file of this number
 abbrev pub in_file : ℕ → ReadFault → NextFault

@@ -8,18 +8,15 @@ ghost use Rattle.std.specs.Prelude.{
   IfOk,
   OnOk,
   IfErr,
-  IsErrOf,
   List,
   ℕ,
   length,
   drop,
 };
-ghost use Rattle.swh_segment.specs.Reads.{OnlyReads};
+ghost use Rattle.swh_segment.specs.Reads.{OnlyReads, OnlyReadsBoth};
 ghost use Rattle.swh_format.specs.Record.{magic};
 ghost use Rattle.swh_format.specs.Stands.{StandsFor};
 ghost use Rattle.swh_segment.specs.Making.{IsMade};
-ghost use Rattle.swh_segment.specs.Makes.{ADiskFailed};
-ghost use Rattle.swh_segment.specs.Counts.{AreLater, AreQuiet};
 ghost use Rattle.swh_base.specs.Limits.{file_limit};
 ghost use Rattle.swh_recovery.specs.Harms.{MagicBreaks};
 ghost use Rattle.swh_recovery.specs.Records.{AreWhole, IsHarm};
@@ -181,18 +178,10 @@ pub fn read_all<N: Namer, D: Disk>(
     ensures damaged { D.tells → IfErr result (λ fault.
         IfDamaged fault (IsHarm N.id_of (D.file ledger.old).seen (D.file store.old).seen)) }
 
-    // What the files hold stays.
-    ensures same_ledger { D.tells → D.file ledger.new ≡ D.file ledger.old }
-    ensures same_store { D.tells → D.file store.new ≡ D.file store.old }
-
-    // `DiskFault` comes only where a disk failed, and else both counts stay.
-    ensures later { AreLater (D.faults store.old) (D.faults store.new) (D.faults ledger.old) (D.faults ledger.new) }
-    ensures cause { IsErrOf result DiskFault → ADiskFailed (D.faults store.old) (D.faults store.new)
-        (D.faults ledger.old) (D.faults ledger.new) }
-    ensures quiet { OnOk result (AreQuiet (D.faults store.old) (D.faults store.new)
-        (D.faults ledger.old) (D.faults ledger.new)) }
-    ensures quiet_fault { IfErr result (λ fault. UnlessDiskFault fault (AreQuiet (D.faults store.old)
-        (D.faults store.new) (D.faults ledger.old) (D.faults ledger.new))) }
+    // What the files hold stays, and `DiskFault` comes only where a disk failed.
+    ensures reads { OnlyReadsBoth D.tells UnlessDiskFault DiskFault
+        ((D.file store.old, D.faults store.old), (D.file store.new, D.faults store.new))
+        ((D.file ledger.old, D.faults ledger.old), (D.file ledger.new, D.faults ledger.new)) result }
 {
     let bytes = match read_file(alloc, ledger) {
         Ok(bytes) => bytes,

@@ -7,15 +7,15 @@ use Rattle.swh_base.specs.declared.name.Name.{Name}
 use Rattle.swh_base.specs.declared.entry.Entry.{Entry}
 use Rattle.swh_closure.proofs.Wholes.{whole-grows}
 use Rattle.swh_model.specs.declared.event.Event.{Event}
-use Rattle.swh_model.specs.declared.event.EventKind.TheVariants.{Batch, Open, Mark}
+use Rattle.swh_model.specs.Entries.{entries_of}
 use Rattle.swh_model.specs.Archive.{Bodies, IsHeld, IsChild}
 use Rattle.swh_model.specs.Step.{HasItsChildren, AreNew, added}
-use Rattle.swh_model.specs.Happens.{IsGoodEvent, IsGoodKind}
+use Rattle.swh_model.specs.Happens.{IsGoodEvent}
 use Rattle.swh_model.proofs.Entries.{all-append}
 use Rattle.swh_model.proofs.Maps.{within-added}
 use Rattle.swh_model.proofs.PlainLists.{take-more}
 use Rattle.swh_model.proofs.Walks.{grows}
-use Rattle.swh_replay.specs.Happened.{AreWhole, entries_of, all_entries}
+use Rattle.swh_replay.specs.Happened.{AreWhole, all_entries}
 
 -- one event more was collected
 pub collected-more : (events : List Event) (i : ℕ) (e : Event) → i < length events → e ≡ get_or events i e → all_entries (take (i + 1) events) ≡ all_entries (take i events) ++ entries_of e.what
@@ -27,12 +27,7 @@ collected-more events i e less is = ap all_entries (take-more events i e less is
 
 pub all_good : (events : List Event) → AllByRecursion IsGoodEvent events → AllByRecursion HasItsChildren (all_entries events)
 all_good [] h = tt
-all_good (e ∷ es) h = all-append HasItsChildren (entries_of e.what) (all_entries es) (of_kind e.what h.0) (all_good es h.1)
-  where
-    of_kind : (what : _) → IsGoodKind what → AllByRecursion HasItsChildren (entries_of what)
-    of_kind (Batch entries) good = good
-    of_kind (Open origin kind date) good = tt
-    of_kind (Mark origin visit status snapshot) good = tt
+all_good (e ∷ es) h = all-append HasItsChildren (entries_of e.what) (all_entries es) h.0 (all_good es h.1)
 
 -- ---- the entries to come once an event's were shown
 

@@ -1,11 +1,10 @@
--- One event of a replay, the entries of events, and the names that are known to be closed.
+-- One event of a replay, the entries of all events, and the names that are known to be closed.
 use Rattle.std.specs.Prelude.{◌≡◌, List, [], ◌∷◌, ◌++◌}
 use Rattle.swh_base.specs.declared.name.Name.{Name}
 use Rattle.swh_base.specs.declared.entry.Entry.{Entry}
 use Rattle.swh_closure.specs.Whole.{IsWhole}
 use Rattle.swh_model.specs.declared.event.Event.{Event}
-use Rattle.swh_model.specs.declared.event.EventKind.{EventKind}
-use Rattle.swh_model.specs.declared.event.EventKind.TheVariants.{Batch, Open, Mark}
+use Rattle.swh_model.specs.Entries.{entries_of}
 use Rattle.swh_model.specs.Archive.{Archive, Bodies, Origins, IsHeld, IsChild}
 use Rattle.swh_model.specs.Step.{after}
 use Rattle.swh_model.specs.Happens.{CanHappen}
@@ -14,12 +13,6 @@ use Rattle.swh_store.specs.Stored.{Stored}
 -- the archive of a store and of visits
 abbrev pub archive_in : Stored → Origins → Archive
 archive_in store visits = record { bodies = store.bodies; origins = visits }
-
--- the entries of a batch, and none of another event
-abbrev pub entries_of : EventKind → List Entry
-entries_of (Batch entries) = entries
-entries_of (Open origin kind date) = []
-entries_of (Mark origin visit status snapshot) = []
 
 -- the entries of all batches, in their order
 abbrev pub all_entries : List Event → List Entry

@@ -4,10 +4,11 @@ use Rattle.std.specs.List.{AllByRecursion}
 use Rattle.swh_base.specs.declared.kind.Kind.{Kind}
 use Rattle.swh_model.specs.declared.event.Event.{Event}
 use Rattle.swh_model.specs.declared.event.EventKind.{EventKind}
-use Rattle.swh_model.specs.declared.event.EventKind.TheVariants.{Batch, Open, Mark}
-use Rattle.swh_model.specs.Archive.{Archive, visits_of}
+use Rattle.swh_model.specs.Entries.{entries_of}
+use Rattle.swh_model.specs.Archive.{Archive}
 use Rattle.swh_model.specs.Limits.{store_length, ledger_length}
 use Rattle.swh_model.specs.Step.{HasItsChildren, AreNew, May, IsHistory, after, replay}
+use Rattle.swh_model.specs.Happens.{HasItsVisitKind}
 use Rattle.swh_replay.specs.Happened.{archive_in}
 use Rattle.swh_replay.specs.declared.replayed.Replayed.{Replayed}
 use Rattle.swh_replay.specs.declared.replaying.ReplayFault.{ReplayFault}
@@ -30,11 +31,12 @@ pub record IsInFiles (r : Replayed) : Type 0 where
   pub store_fits : r.store_end ≤ 2 ^ 62
   pub ledger_fits : r.ledger_end < 2 ^ 62
 
--- What carrying an event out in memory asks of it.
-abbrev pub MayAdvance : Replayed → EventKind → Type 0
-MayAdvance r (Batch entries) = AllByRecursion HasItsChildren entries × AreNew r.store.bodies entries
-MayAdvance r (Open origin kind date) = Unit {0}
-MayAdvance r (Mark origin visit status snapshot) = (0 < visit) × (visit ≤ length (visits_of r.visits origin))
+-- What carrying an event out in memory asks of it: its entries have their children and are new, and the visit that it marks,
+-- if it marks one, is there.
+pub record MayAdvance (r : Replayed) (what : EventKind) : Type 0 where
+  pub good : AllByRecursion HasItsChildren (entries_of what)
+  pub new : AreNew r.store.bodies (entries_of what)
+  pub there : HasItsVisitKind (archive_of r) what
 
 -- The maps are those after the event, and the ends are as they were.
 pub record Advances (old : Replayed) (e : Event) (new : Replayed) : Type 0 where

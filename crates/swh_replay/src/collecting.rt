@@ -1,25 +1,16 @@
 //! The entries of all events at once.
 ghost use Rattle.std.specs.Prelude.{◌≡◌, ◌++◌, IfOk, OnOk};
-ghost use Rattle.swh_replay.specs.Happened.{entries_of, all_entries};
+ghost use Rattle.swh_replay.specs.Happened.{all_entries};
 
 use std::alloc::Global;
 use swh_base::{Entry, Memory};
-use swh_model::{Event, EventKind};
-
-fn entries_of(event: &Event) -> &[Entry]
-    ensures { result.now ≡ entries_of event.now.what }
-{
-    match &event.what {
-        EventKind::Batch(entries) => entries.as_slice(),
-        EventKind::Open { .. } | EventKind::Mark { .. } => &[],
-    }
-}
+use swh_model::Event;
 
 // How many objects the events have.
 fn count_objects(events: &[Event]) -> usize {
     let mut count: usize = 0;
     for event in events {
-        count = count.saturating_add(entries_of(event).len());
+        count = count.saturating_add(event.what.entries().len());
     }
     count
 }
@@ -39,7 +30,7 @@ pub fn collect_entries(alloc: Global, events: &[Event]) -> Result<Vec<Entry>, Me
 {
     let mut all = Vec::with_capacity(alloc, count_objects(events))?;
     for event in events {
-        push_all(&mut all, entries_of(event))?;
+        push_all(&mut all, event.what.entries())?;
     }
     Ok(all)
 }

@@ -6,8 +6,9 @@ ghost use Rattle.swh_model.specs.Archive.{visits_of, IsHeld, Reaches, IsClosed};
 ghost use Rattle.swh_model.specs.Limits.{IsWithinLimits};
 ghost use Rattle.swh_model.specs.Judged.{MayBeMarked};
 ghost use Rattle.swh_model.specs.Step.{AreNew, FitsStatus, added, marked};
+ghost use Rattle.swh_model.specs.Entries.{entries_of};
 ghost use Rattle.swh_model.specs.Happens.{CanHappen};
-ghost use Rattle.swh_replay.specs.Happened.{archive_in, entries_of, Happened, AreWhole};
+ghost use Rattle.swh_replay.specs.Happened.{archive_in, Happened, AreWhole};
 
 use std::alloc::Global;
 use swh_base::{Entry, Kind, Memory, Name, Status, Url};

@@ -28,7 +28,7 @@ check_objects-requires-clause-held g c κs long =
     let id_of = g.N.Namer.id_of in
     let h = c.args.keeper.now.history in
     let f = c.index-history-place-2.result in
-    let is = subst (λ (l : List Event). f ≡ get_or l c.args.place f) (c.history-2.ensures.value ∙ c.in_ok-run.ensures.same.history) c.index-history-place-2.is in (
+    let is = subst (λ (l : List Event). f ≡ get_or l c.args.place f) (c.history-2.ensures.value ∙ c.in_ok-run.ensures.reads.same.history) c.index-history-place-2.is in (
       (replay h).bodies,
       subst (λ (x : Event). IsHeldKind id_of (replay h).bodies x.what) c.index-history-place-2.is (held-at id_of empty_archive h c.args.place f c.history.ensures.kept.history c.requires.place is),
     )
@@ -39,7 +39,7 @@ overflow_add-result g c =
     let e = c.index-history-place.result in
     let f = c.index-history-place-2.result in
     let first = subst (λ (l : List Event). e ≡ get_or l c.args.place e) c.history.ensures.value c.index-history-place.is in
-    let is = subst (λ (l : List Event). f ≡ get_or l c.args.place f) (c.history-2.ensures.value ∙ c.in_ok-run.ensures.same.history) c.index-history-place-2.is in
+    let is = subst (λ (l : List Event). f ≡ get_or l c.args.place f) (c.history-2.ensures.value ∙ c.in_ok-run.ensures.reads.same.history) c.index-history-place-2.is in
     let size = c.in_ok-size.ensures ∙ ap (λ (x : Event). stored_length x.what) (sym c.index-history-place.is) in
     let count = c.in-Ok.ensures.count ∙ ap (λ (x : Event). bodies_by x.what) (sym c.index-history-place-2.is) in
     let next_store = store-next h c.args.place e c.requires.place first in
@@ -56,7 +56,7 @@ returns-in-Ok-clause-done g c =
     let e = c.index-history-place.result in
     let f = c.index-history-place-2.result in
     let first = subst (λ (l : List Event). e ≡ get_or l c.args.place e) c.history.ensures.value c.index-history-place.is in
-    let is = subst (λ (l : List Event). f ≡ get_or l c.args.place f) (c.history-2.ensures.value ∙ c.in_ok-run.ensures.same.history) c.index-history-place-2.is in
+    let is = subst (λ (l : List Event). f ≡ get_or l c.args.place f) (c.history-2.ensures.value ∙ c.in_ok-run.ensures.reads.same.history) c.index-history-place-2.is in
     let size = c.in_ok-size.ensures ∙ ap (λ (x : Event). stored_length x.what) (sym c.index-history-place.is) in
     let count = c.in-Ok.ensures.count ∙ ap (λ (x : Event). bodies_by x.what) (sym c.index-history-place-2.is) in
     record {
@@ -71,7 +71,7 @@ returns-in-Ok-clause-compared g c event event_is =
     let e = c.index-history-place.result in
     let f = c.index-history-place-2.result in
     let less = c.requires.place in
-    let is = subst (λ (l : List Event). f ≡ get_or l c.args.place f) (c.history-2.ensures.value ∙ c.in_ok-run.ensures.same.history) c.index-history-place-2.is in
+    let is = subst (λ (l : List Event). f ≡ get_or l c.args.place f) (c.history-2.ensures.value ∙ c.in_ok-run.ensures.reads.same.history) c.index-history-place-2.is in
     let first = subst (λ (l : List Event). e ≡ get_or l c.args.place e) c.history.ensures.value c.index-history-place.is in
     let size = c.in_ok-size.ensures ∙ ap (λ (x : Event). stored_length x.what) (sym c.index-history-place.is ∙ same-item h c.args.place e f less first is) in
     subst (IsCompared id_of g.D.Disk.tells) (same-item h c.args.place f event less is event_is) (
@@ -94,7 +94,7 @@ returns-clause-again g c =
     let e = c.index-history-place.result in
     let f = c.index-history-place-2.result in
     let less = c.requires.place in
-    let is = subst (λ (l : List Event). f ≡ get_or l c.args.place f) (c.history-2.ensures.value ∙ c.in_ok-run.ensures.same.history) c.index-history-place-2.is in
+    let is = subst (λ (l : List Event). f ≡ get_or l c.args.place f) (c.history-2.ensures.value ∙ c.in_ok-run.ensures.reads.same.history) c.index-history-place-2.is in
     let first = subst (λ (l : List Event). e ≡ get_or l c.args.place e) c.history.ensures.value c.index-history-place.is in
     let held = subst (λ (x : Event). IsHeldKind id_of (replay h).bodies x.what) c.index-history-place-2.is (held-at id_of empty_archive h c.args.place f c.history.ensures.kept.history less is) in
     let size = c.in_ok-size.ensures ∙ ap (λ (x : Event). stored_length x.what) (sym c.index-history-place.is ∙ same-item h c.args.place e f less first is) in

@@ -1,17 +1,20 @@
-use Rattle.std.proofs.Common.{List, take, sym, subst, arith}
+use Rattle.std.proofs.Common.{List, take, sym, ap, subst, arith}
 use Rattle.swh_model.specs.declared.event.Event.{Event}
+use Rattle.swh_model.specs.Entries.{entries_of}
+use Rattle.swh_model.specs.Limits.{run_length}
 use Rattle.swh_model.proofs.PlainLengths.{store-next, store-within}
 use Rattle.swh_model.proofs.PlainLists.{take-more}
 use Rattle.swh_model.proofs.Visits.{all-push}
-use Rattle.swh_keeper.specs.Places.{IsUnnamedKind, AreUnnamed}
+use Rattle.swh_keeper.specs.Places.{IsUnnamed, AreUnnamed}
 use Rattle.swh_keeper.proofs.finding.place_of.Goals as goal
 
-pub place_for-requires : goal.place_for-requires
-place_for-requires c =
+pub place_in-requires : goal.place_in-requires
+place_in-requires c =
     let there = store-within c.args.history.now c.loop-event.event-index c.event-item.result c.loop-event-test.true c.event-item.is in
     let at = c.loop-event.invariant.at in
     let fits = c.requires in
-    omega (arith, there, at, fits)
+    let run = ap run_length c.entries.ensures in
+    omega (arith, there, at, fits, run)
 
 pub overflow_add-at : goal.overflow_add-at
 overflow_add-at c =
@@ -40,5 +43,6 @@ loop-event-preserved c =
       at = omega (arith, next, at, size);
       none =
           subst (λ (g : List Event). AreUnnamed c.args.name.now g) (sym (take-more h i e c.loop-event-test.true c.event-item.is))
-          (all-push (λ (f : Event). IsUnnamedKind c.args.name.now f.what) (take i h) e c.loop-event.invariant.none c.in_default.ensures.none);
+          (all-push (λ (f : Event). IsUnnamed c.args.name.now (entries_of f.what)) (take i h) e c.loop-event.invariant.none
+          (subst (IsUnnamed c.args.name.now) c.entries.ensures c.in_default.ensures.none));
     }

@@ -20,13 +20,13 @@ returns-in_err-check_made-clause-not_made g c told is =
 pub returns-in_err-check_made-clause-left : goal.returns-in_err-check_made-clause-left
 returns-in_err-check_made-clause-left g c told =
     let settled = (c.in_ok-settle.ensures.runs told).ok in
-    let same = ap (λ (f : File). files_of f (g.D.Disk.file c.settle.new.store)) (c.in_err-check_made.ensures.same told) in
+    let same = ap (λ (f : File). files_of f (g.D.Disk.file c.settle.new.store)) (c.in_err-check_made.ensures.reads.same told) in
     if_err_all _ _ (λ why. left_settled why _ _ (same ∙ settled))
 
 pub returns-clause-stand : goal.returns-clause-stand
 returns-clause-stand g c told =
     let settled = (c.in_ok-settle.ensures.runs told).ok in
-    let ledger = ap (λ (f : File). f.seen) (c.in_ok-check_made.ensures.same told) ∙ ledger_seen (g.D.Disk.file c.args.ledger.now) (g.D.Disk.file c.args.store.now) _ (g.D.Disk.file c.settle.new.store) settled in
+    let ledger = ap (λ (f : File). f.seen) (c.in_ok-check_made.ensures.reads.same told) ∙ ledger_seen (g.D.Disk.file c.args.ledger.now) (g.D.Disk.file c.args.store.now) _ (g.D.Disk.file c.settle.new.store) settled in
     let store = store_seen (g.D.Disk.file c.args.ledger.now) (g.D.Disk.file c.args.store.now) (g.D.Disk.file c.settle.new.ledger) _ settled in
     if_ok_then c.read_archive.result _ _ (c.read_archive.ensures.stand told)
     (λ x s. subst (λ (l : List ℕ). StandsFor l (g.D.Disk.file c.args.store.now).seen x.history.items) ledger (subst (λ (l : List ℕ). StandsFor (g.D.Disk.file c.check_made.new.ledger).seen l x.history.items) store s))
@@ -40,15 +40,15 @@ returns-clause-made g c told =
 pub returns-clause-calls : goal.returns-clause-calls
 returns-clause-calls g c told =
     let settled = (c.in_ok-settle.ensures.runs told).ok in
-    let ledger = c.read_archive.ensures.same_ledger told ∙ c.in_ok-check_made.ensures.same told in
-    let store = c.read_archive.ensures.same_store told in
+    let ledger = c.read_archive.ensures.reads.same_ledger told ∙ c.in_ok-check_made.ensures.reads.same told in
+    let store = c.read_archive.ensures.reads.same_store told in
     let same : files_of (g.D.Disk.file c.read_archive.new.ledger) (g.D.Disk.file c.read_archive.new.store) ≡ files_of (g.D.Disk.file c.settle.new.ledger) (g.D.Disk.file c.settle.new.store) = λ i. files_of (ledger i) (store i) in
     on_any c.read_archive.result _ (same ∙ settled)
 
 pub returns-clause-damaged : goal.returns-clause-damaged
 returns-clause-damaged g c told =
     let settled = (c.in_ok-settle.ensures.runs told).ok in
-    let ledger = ap (λ (f : File). f.seen) (c.in_ok-check_made.ensures.same told) ∙ ledger_seen (g.D.Disk.file c.args.ledger.now) (g.D.Disk.file c.args.store.now) _ (g.D.Disk.file c.settle.new.store) settled in
+    let ledger = ap (λ (f : File). f.seen) (c.in_ok-check_made.ensures.reads.same told) ∙ ledger_seen (g.D.Disk.file c.args.ledger.now) (g.D.Disk.file c.args.store.now) _ (g.D.Disk.file c.settle.new.store) settled in
     let store = store_seen (g.D.Disk.file c.args.ledger.now) (g.D.Disk.file c.args.store.now) (g.D.Disk.file c.settle.new.ledger) _ settled in
     IfErr-weaker c.read_archive.result _ _
     (λ why d. subst (λ (l : List ℕ). IfDamagedAt why (IsDamagedAt g.N.Namer.id_of l (g.D.Disk.file c.args.store.now).seen)) ledger
@@ -57,7 +57,7 @@ returns-clause-damaged g c told =
 pub returns-clause-left : goal.returns-clause-left
 returns-clause-left g c told =
     let settled = (c.in_ok-settle.ensures.runs told).ok in
-    let ledger = c.read_archive.ensures.same_ledger told ∙ c.in_ok-check_made.ensures.same told in
-    let store = c.read_archive.ensures.same_store told in
+    let ledger = c.read_archive.ensures.reads.same_ledger told ∙ c.in_ok-check_made.ensures.reads.same told in
+    let store = c.read_archive.ensures.reads.same_store told in
     let same : files_of (g.D.Disk.file c.read_archive.new.ledger) (g.D.Disk.file c.read_archive.new.store) ≡ files_of (g.D.Disk.file c.settle.new.ledger) (g.D.Disk.file c.settle.new.store) = λ i. files_of (ledger i) (store i) in
     if_err_all _ _ (λ why. left_settled why _ _ (same ∙ settled))
