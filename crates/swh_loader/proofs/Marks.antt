@@ -9,7 +9,7 @@ use Rattle.swh_base.specs.declared.visit.Status.TheVariants.{Created}
 use Rattle.swh_base.specs.declared.visit.VisitKind.TheVariants.{Fast}
 use Rattle.swh_model.specs.declared.event.Event.{Event}
 use Rattle.swh_model.specs.declared.event.EventKind.{EventKind}
-use Rattle.swh_model.specs.declared.event.EventKind.TheVariants.{Batch, Open, Mark}
+use Rattle.swh_model.specs.declared.event.EventKind.TheVariants.{Batch, Mark}
 use Rattle.swh_model.specs.declared.event.Visit.{Visit}
 use Rattle.swh_model.specs.Archive.{Archive, empty_archive, visits_of}
 use Rattle.swh_model.specs.Step.{first_of, opened, marked, marked_at, with_status, IsHistory, after, after_kind, after_all, replay, visit_at}
@@ -63,8 +63,8 @@ module _ (IsBatch : List Entry → Type 0) (t : Attempt) (number : ℕ) where
 
   own_kind : (a : Archive) (by count : ℕ) (what : EventKind) → IsOwnKind IsBatch t.origin number what → HasStatuses a count → HasStatuses (after_kind a by what) (count + other_kind what)
   own_kind a by count (Batch entries) own has = let counted = has.counted in record { visit = has.visit; there = has.there; counted = omega (arith, counted) }
-  own_kind a by count (Open origin kind date) own has = absurd own
   own_kind a by count (Mark origin visit status snapshot) own has = marked_there a origin visit count status snapshot own.0 own.1 has
+  own_kind a by count what own has = absurd own
 
   own_all : (a : Archive) (count : ℕ) (es : List Event) → AllByRecursion (IsOwn IsBatch t number) es → HasStatuses a count → HasStatuses (after_all a es) (count + others es)
   own_all a count [] own has = let counted = has.counted in record { visit = has.visit; there = has.there; counted = omega (arith, counted) }

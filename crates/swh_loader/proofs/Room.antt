@@ -217,10 +217,10 @@ module _ (id_of : Kind → List ℕ → List ℕ) (objects : List Made) where
     -- so is its next event, which is made too
     short_kind_next : (number : ℕ) (a : Archive) (by : ℕ) (what : EventKind) → length t.origin ≤ 2048 → HasShortNames a.bodies → IsOwnKind AreMadeOf t.origin number what → May_kind id_of a by what → IsShort what
     short_kind_next number a by (Batch entries) url held own may = tt
-    short_kind_next number a by (Open origin kind date) url held own may = absurd own
     short_kind_next number a by (Mark origin visit status snapshot) url held own may =
         let same = ap length own.0 in
         (omega (arith, same, url), fitting a.bodies status snapshot held may.fits)
+    short_kind_next number a by what url held own may = absurd own
 
     module _ (h h' later : List Event) (e : Event) (url : length t.origin ≤ 2048) (fits : AreCodable 0 (h' ++ later)) (may : May id_of (replay h') e) where
       next_made : (more : List Event) → AreOfVisit AreMadeOf t (next_visit h t.origin) (more ++ e ∷ []) → IsBatchMade id_of objects e.what × IsShort e.what

@@ -57,8 +57,8 @@ AllowsNoBatch entries = ⊥
 -- The event marks this visit, or adds a batch that is allowed and not empty.
 abbrev pub IsOwnKind : (List Entry → Type 0) → List ℕ → ℕ → EventKind → Type 0
 IsOwnKind IsAllowed origin number (Batch entries) = (entries ≢ []) × IsAllowed entries
-IsOwnKind IsAllowed origin number (Open other kind date) = ⊥
 IsOwnKind IsAllowed origin number (Mark other visit status snapshot) = (other ≡ origin) × (visit ≡ number)
+IsOwnKind IsAllowed origin number _ = ⊥
 
 -- The event is a load's own, by the one who opened the visit.
 pub record IsOwn (IsAllowed : List Entry → Type 0) (a : Attempt) (number : ℕ) (e : Event) : Type 0 where

@@ -10,7 +10,7 @@ use Rattle.swh_outside.specs.declared.fault.Opened.{Opened}
 use Rattle.swh_outside.specs.declared.fault.Opened.TheVariants.{Found, NotFound as Missing, Failed as Unopened, Memory as NoRoom}
 use Rattle.swh_model.specs.declared.event.Event.{Event}
 use Rattle.swh_model.specs.declared.event.EventKind.{EventKind}
-use Rattle.swh_model.specs.declared.event.EventKind.TheVariants.{Batch, Open as OpenEvent, Mark}
+use Rattle.swh_model.specs.declared.event.EventKind.TheVariants.{Batch}
 use Rattle.swh_model.specs.Archive.{Bodies}
 use Rattle.swh_model.specs.Step.{replay}
 use Rattle.swh_keeper.specs.Kept.{Kept}
@@ -50,8 +50,7 @@ url_and_outcome l = (l.job.url, l.outcome)
 -- events are a load's own also where more batches are allowed
 own_kind : (P Q : List Entry → Type 0) (origin : List ℕ) (number : ℕ) → ((entries : List Entry) → P entries → Q entries) → (what : EventKind) → IsOwnKind P origin number what → IsOwnKind Q origin number what
 own_kind P Q origin number more (Batch entries) is = (is.0, more entries is.1)
-own_kind P Q origin number more (OpenEvent other kind date) is = is
-own_kind P Q origin number more (Mark other visit status snapshot) is = is
+own_kind P Q origin number more what is = is
 
 own_events : (P Q : List Entry → Type 0) (a : Attempt) (number : ℕ) → ((entries : List Entry) → P entries → Q entries) → (es : List Event) → AllByRecursion (IsOwn P a number) es → AllByRecursion (IsOwn Q a number) es
 own_events P Q a number more [] all = tt

@@ -5,7 +5,7 @@ use Rattle.swh_base.specs.declared.kind.Kind.{Kind}
 use Rattle.swh_base.specs.declared.entry.Entry.{Entry}
 use Rattle.swh_model.specs.declared.event.Event.{Event}
 use Rattle.swh_model.specs.declared.event.EventKind.{EventKind}
-use Rattle.swh_model.specs.declared.event.EventKind.TheVariants.{Batch, Open, Mark}
+use Rattle.swh_model.specs.declared.event.EventKind.TheVariants.{Batch, Mark}
 use Rattle.swh_model.specs.declared.event.Visit.{Visit}
 use Rattle.swh_model.specs.Archive.{Archive, empty_archive, visits_of}
 use Rattle.swh_model.specs.Step.{IsHistory, after, after_kind, after_all, replay}
@@ -23,8 +23,8 @@ module _ (IsBatch : List Entry → Type 0) (t : Attempt) (url : List ℕ) (apart
 
   stay_kind : (a : Archive) (who number : ℕ) (what : EventKind) → IsOwnKind IsBatch t.origin number what → Stay a (after_kind a who what)
   stay_kind a who number (Batch entries) own = refl
-  stay_kind a who number (Open other kind date) own = absurd own
   stay_kind a who number (Mark other visit status snapshot) own = visits_cases a.origins other _ url (λ (vs : List Visit). vs ≡ visits_of a.origins url) (λ at. absurd (apart (at ∙ own.0))) refl
+  stay_kind a who number what own = absurd own
 
   stay_own : (number : ℕ) (a : Archive) (es : List Event) → AllByRecursion (IsOwn IsBatch t number) es → Stay a (after_all a es)
   stay_own number a [] own = refl
