@@ -49,8 +49,8 @@ xxxxxxxxxxxxxxxxxxxxxxxxxxxxxxxxxxxxxxxxxxxx\n";
 
 /// How many bytes a source still gives, one by one, 100 at most.
 fn count_left(source: &mut MemorySource) -> Result<u64, Failed> {
-    let mut byte = [0u8];
     for count in 0..100u64 {
+        let mut byte = [0u8];
         if source.get(byte.as_mut_slice())? == 0 {
             return Ok(count);
         }
