@@ -19,11 +19,23 @@ fn push_entry(bytes: &mut Vec<u8>, entry: &Entry) -> Result<(), Memory>
     Ok(())
 }
 
-/// The run of a batch: its objects, one after another; `Memory` where there is none.
+/// How many bytes the run of these entries has: the kind, the length and the id of each stand before its body.
+fn room_of(entries: &[Entry]) -> usize {
+    let mut room = 0_usize;
+    for entry in entries {
+        room = room
+            .saturating_add(1 + 8 + 20)
+            .saturating_add(entry.body.as_slice().len());
+    }
+    room
+}
+
+/// The run of a batch: its objects, one after another; `Memory` where there is none. Its room is taken once: a run has up
+/// to `RUN_LIMIT` bytes, which would be held twice while it grows.
 pub fn run_of_entries(alloc: Global, entries: &[Entry]) -> Result<Vec<u8>, Memory>
     ensures { IfOk result (λ bytes. bytes.items ≡ coded_run entries.now) }
 {
-    let mut bytes = Vec::new(alloc);
+    let mut bytes = Vec::with_capacity(alloc, room_of(entries))?;
     for entry in entries {
         push_entry(&mut bytes, entry)?;
     }
