@@ -1,6 +1,6 @@
 //! A folder's entries: in the room that they need, or in pieces while many of them are changed.
 
-ghost use Rattle.std.specs.Prelude.{◌≡◌, ◌<◌, ◌≤◌, [], length, slice_index_or, IfOk};
+ghost use Rattle.std.specs.Prelude.{◌≡◌, ◌<◌, ◌≤◌, ◌+◌, [], length, min, slice_index_or, IfOk};
 ghost use Rattle.std.specs.List.{insert, remove};
 ghost use Rattle.swh_entries.specs.declared.entry.Entry.{Entry};
 
@@ -12,6 +12,9 @@ use std::marker::Model;
 
 /// A folder of more entries is cut into pieces before it is changed.
 const FEW: usize = 64;
+
+/// How many entries a change of one in pieces makes anew, or what takes as much room as they do.
+const CHANGE: usize = 32;
 
 /// How entries are kept: in the room that they need, or, ready for changes, in one list or in pieces.
 #[derive(Drop)]
@@ -40,14 +43,15 @@ impl Model for Packed {
 
     ghost Value = { Listed };
 
-    ghost use Rattle.swh_entries.specs.Forms.{listed_of};
+    ghost use Rattle.swh_entries.specs.Forms.{items_in, is_cut};
 
-    ghost view = { λ p. listed_of p.form };
+    ghost view = { λ p. record { items = items_in p.form; cost = p.cost; shares = is_cut p.form } };
 }
 
 /// These entries, ready for changes: cut where they are many.
 fn ready(alloc: Global, entries: Vec<Entry>) -> Result<Packed, AllocError>
-    ensures { IfOk result (λ p. p.items ≡ entries.items) }
+    ensures items { IfOk result (λ p. p.items ≡ entries.items) }
+    ensures cost { IfOk result (λ p. p.cost ≡ length entries.items) }
 {
     let cost = entries.len();
     if cost <= FEW {
@@ -63,11 +67,13 @@ fn ready(alloc: Global, entries: Vec<Entry>) -> Result<Packed, AllocError>
     })
 }
 
-/// What a change made of pieces.
-fn changed(spans: Spans) -> Packed
-    ensures { result.items ≡ spans.items }
+/// What a change made of pieces that cost so much.
+fn changed(spans: Spans, cost: usize) -> Packed
+    ensures items { result.items ≡ spans.items }
+    ensures cost { result.cost ≡ min (cost + 32) (length spans.items) }
 {
-    let cost = spans.cost();
+    let all = spans.len();
+    let cost = cost.saturating_add(CHANGE).min(all);
     Packed {
         form: Form::Cut(spans),
         cost,
@@ -75,9 +81,12 @@ fn changed(spans: Spans) -> Packed
 }
 
 impl Packed {
+    ghost use Rattle.swh_entries.specs.Listed.{cost_again, cost_changed};
+
     /// No entry.
     pub fn none(alloc: Global) -> Packed
-        ensures { result.items ≡ [] }
+        ensures items { result.items ≡ [] }
+        ensures cost { result.cost ≡ 0 }
     {
         Packed {
             form: Form::Flat(Flat::none(alloc)),
@@ -88,7 +97,8 @@ impl Packed {
     /// These entries, in the room that they need. Fails where memory runs out, as it has long before there are 2^32
     /// names or folders.
     pub fn of(alloc: Global, entries: &[Entry]) -> Result<Packed, AllocError>
-        ensures { IfOk result (λ p. p.items ≡ entries.now) }
+        ensures items { IfOk result (λ p. p.items ≡ entries.now) }
+        ensures cost { IfOk result (λ p. p.cost ≡ length entries.now) }
     {
         let flat = Flat::of(alloc, entries)?;
         Ok(Packed {
@@ -109,7 +119,9 @@ impl Packed {
     }
 
     /// How many entries were made for it, others being shared.
-    pub fn cost(&self) -> usize {
+    pub fn cost(&self) -> usize
+        ensures { result ≡ self.now.cost }
+    {
         self.cost
     }
 
@@ -145,7 +157,7 @@ impl Packed {
 
     /// The same entries, of which one was looked for at this place.
     pub fn hinted(self, place: usize) -> Packed
-        ensures { result.items ≡ self.items }
+        ensures { result ≡ self }
     {
         let Self { form, cost } = self;
         match form {
@@ -170,21 +182,26 @@ impl Packed {
 
     /// The same entries, ready for changes. Fails where memory runs out.
     pub fn again(&self, alloc: Global) -> Result<Packed, AllocError>
-        ensures { IfOk result (λ p. p.items ≡ self.now.items) }
+        ensures items { IfOk result (λ p. p.items ≡ self.now.items) }
+        ensures cost { IfOk result (λ p. p.cost ≡ cost_again self.now) }
     {
         match &self.form {
             Form::Flat(flat) => ready(alloc, flat.entries(alloc)?),
             Form::Loose(entries) => ready(alloc, Vec::from_slice(alloc, entries.as_slice())?),
-            Form::Cut(spans) => Ok(changed(spans.again()?)),
+            Form::Cut(spans) => Ok(Packed {
+                form: Form::Cut(spans.again()?),
+                cost: 0,
+            }),
         }
     }
 
     /// One entry more, at a place. Fails where memory runs out.
     pub fn with(self, alloc: Global, place: usize, entry: Entry) -> Result<Packed, AllocError>
         requires { place ≤ length self.items }
-        ensures { IfOk result (λ p. p.items ≡ insert self.items place entry) }
+        ensures items { IfOk result (λ p. p.items ≡ insert self.items place entry) }
+        ensures cost { IfOk result (λ p. p.cost ≡ cost_changed self p.items) }
     {
-        let Self { form, cost: _ } = self;
+        let Self { form, cost } = self;
         match form {
             Form::Flat(flat) => {
                 let mut entries = flat.entries(alloc)?;
@@ -196,16 +213,17 @@ impl Packed {
                 entries.insert(place, entry)?;
                 ready(alloc, entries)
             }
-            Form::Cut(spans) => Ok(changed(spans.with(alloc, place, entry)?)),
+            Form::Cut(spans) => Ok(changed(spans.with(alloc, place, entry)?, cost)),
         }
     }
 
     /// All entries but the one at a place. Fails where memory runs out.
     pub fn without(self, alloc: Global, place: usize) -> Result<Packed, AllocError>
         requires { place < length self.items }
-        ensures { IfOk result (λ p. p.items ≡ remove self.items place) }
+        ensures items { IfOk result (λ p. p.items ≡ remove self.items place) }
+        ensures cost { IfOk result (λ p. p.cost ≡ cost_changed self p.items) }
     {
-        let Self { form, cost: _ } = self;
+        let Self { form, cost } = self;
         match form {
             Form::Flat(flat) => {
                 let mut entries = flat.entries(alloc)?;
@@ -217,7 +235,7 @@ impl Packed {
                 let _ = entries.remove(place);
                 ready(alloc, entries)
             }
-            Form::Cut(spans) => Ok(changed(spans.without(alloc, place)?)),
+            Form::Cut(spans) => Ok(changed(spans.without(alloc, place)?, cost)),
         }
     }
 }

@@ -31,9 +31,9 @@ pub struct Flat {
 }
 
 impl Model for Flat {
-    ghost use Rattle.swh_entries.specs.Listed.{Listed};
+    ghost use Rattle.swh_entries.specs.Listed.{Row};
 
-    ghost Value = { Listed };
+    ghost Value = { Row };
 
     ghost use Rattle.std.specs.Prelude.{length};
     ghost use Rattle.swh_entries.specs.Packing.{entries_of, ArePlaced};

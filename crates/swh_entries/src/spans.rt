@@ -354,9 +354,9 @@ pub struct Spans {
 }
 
 impl Model for Spans {
-    ghost use Rattle.swh_entries.specs.Listed.{Listed};
+    ghost use Rattle.swh_entries.specs.Listed.{Row};
 
-    ghost Value = { Listed };
+    ghost Value = { Row };
 
     ghost use Rattle.std.specs.Rc.{rc_value};
     ghost use Rattle.swh_entries.specs.Spans.{items_of, IsCounted};
@@ -384,11 +384,6 @@ impl Spans {
         ensures { result ≡ length self.now.items }
     {
         len_of(&self.root)
-    }
-
-    /// How many entries a change makes anew, or what takes as much room as they do.
-    pub fn cost(&self) -> usize {
-        depth_of(&self.root).saturating_mul(2).saturating_add(PIECE)
     }
 
     /// The entry at a place.

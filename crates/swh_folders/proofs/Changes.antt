@@ -17,7 +17,7 @@ use Rattle.swh_folders.specs.Opened.{folder_path, own_forest, open_forest, IsOpe
 use Rattle.swh_folders.specs.PathMap.{PathMap, set, delete}
 use Rattle.swh_folders.specs.Roots.{IsBelow, IsGood, root_forest}
 use Rattle.swh_folders.specs.Sound.{IsLeaf, IsSound}
-use Rattle.swh_folders.specs.Working.{AreFolders, count_of, StaysBelow}
+use Rattle.swh_folders.specs.Working.{AreFolders, count_of, IsTallied, StaysBelow}
 use Rattle.swh_folders.proofs.Arenas.{same-forest, good-more}
 use Rattle.swh_folders.proofs.Copies.{good-take, tree-take}
 use Rattle.swh_folders.proofs.Closings.{found-here}
@@ -111,12 +111,15 @@ opened-again names names' nodes nodes' o again h grows is =
       sound = subst IsSound (sym (own-again names names' nodes nodes' o again h.entries grows is.node)) h.sound;
     }
 
-pub stays-again : (base : ℕ) (old new : Folders) (names : List (Vec ℕ)) (nodes : List Listed) → base ≤ count_of old → IsGood names nodes → Grows old.names.items old.nodes.items names nodes → new.names.items ≡ names → new.nodes.items ≡ take (count_of old) nodes → StaysBelow base old new
-stays-again base old new names nodes le good grows en ek = record {
-  good = rw (en, ek) (good-take names nodes (count_of old) grows.longer good);
-  long = let more = grows.longer in rw ek (simp length-take (omega arith));
-  stay = λ j lt. rw (en, ek) (tree-take names nodes (count_of old) j grows.longer (omega arith) ∙ grows.trees j (omega arith));
-}
+pub stays-again : (base : ℕ) (old new : Folders) (names : List (Vec ℕ)) (nodes : List Listed) → IsTallied base old → IsGood names nodes → Grows old.names.items old.nodes.items names nodes → new.names.items ≡ names → new.nodes.items ≡ take (count_of old) nodes → StaysBelow base old new
+stays-again base old new names nodes t good grows en ek =
+    let from = t.from in
+    let up = t.up_to in
+    record {
+      good = rw (en, ek) (good-take names nodes (count_of old) grows.longer good);
+      long = let more = grows.longer in rw ek (simp length-take (omega arith));
+      stay = λ j lt. rw (en, ek) (tree-take names nodes (count_of old) j grows.longer (omega arith) ∙ grows.trees j (omega arith));
+    }
 
 -- ## A folder that was taken from a root
 

@@ -1,5 +1,5 @@
 -- What is left when a folder is opened, edited and closed.
-use Rattle.std.proofs.Common.{◌≡◌, inl, inr, ℕ, ◌<◌, ◌≤◌, List, [], ◌∷◌, length, Option, Some, None, refl, sym, ap, subst, ◌∙◌}
+use Rattle.std.proofs.Common.{◌≡◌, inl, inr, ℕ, ◌<◌, List, [], ◌∷◌, length, Option, Some, None, refl, sym, ap, subst, ◌∙◌, arith}
 use Rattle.std.specs.Global.{Vec}
 use Rattle.std.specs.List.{AllByRecursion}
 use Rattle.swh_base.specs.Directory.{IsEntryName}
@@ -11,12 +11,13 @@ use Rattle.swh_entries.specs.Listed.{Listed}
 use Rattle.swh_folders.specs.Arena.{stands_of, forest_of, tree_at, entries_without, AreGood, IsIn, Grows}
 use Rattle.swh_entries.specs.Keys.{texts}
 use Rattle.swh_entries.specs.Named.{Extends}
-use Rattle.swh_folders.specs.Forest.{Forest, Stands, IsFolder, child_at, put, inserted, forest, found, graft}
+use Rattle.swh_folders.specs.Forest.{Forest, Stands, IsFolder, child_at, put, inserted, forest, found, graft, flat}
 use Rattle.swh_folders.specs.Live.{IsPart}
 use Rattle.swh_folders.specs.Opened.{folder_path, own_forest, IsOpened, StaysBounded}
+use Rattle.swh_folders.specs.PathMap.{PathMap}
 use Rattle.swh_folders.specs.Roots.{IsBelow, IsGood, root_forest}
 use Rattle.swh_folders.specs.Sound.{IsSound}
-use Rattle.swh_folders.specs.Working.{AreFolders, folder_at, count_of, StaysBelow, AreNeeded}
+use Rattle.swh_folders.specs.Working.{AreFolders, folder_at, root_map, IsTallied, KeepsCounts, StaysBelow, AreNeeded, IsWithin, IsSetAnew, IsBounded}
 use Rattle.swh_folders.proofs.Arenas.{arena-names, sound-names, tree-names, put-added}
 use Rattle.swh_folders.proofs.EditedRoots.{root_sound}
 use Rattle.swh_folders.proofs.Openings.{root-names}
@@ -58,8 +59,8 @@ good-names names names' nodes good more = record {
   sound = sound-names names names' nodes good.arena more good.sound;
 }
 
-pub stays-self : (base : ℕ) (f : Folders) → base ≤ count_of f → AreFolders f → StaysBelow base f f
-stays-self base f le good = record { good = good; long = le; stay = λ j lt. refl }
+pub stays-self : (base : ℕ) (f : Folders) → IsTallied base f → AreFolders f → StaysBelow base f f
+stays-self base f t good = record { good = good; long = let from = t.from in let up = t.up_to in omega arith; stay = λ j lt. refl }
 
 pub stays-names : (base : ℕ) (old mid new : Folders) → StaysBelow base old mid → Extends mid.names.items new.names.items → new.nodes.items ≡ mid.nodes.items → StaysBelow base old new
 stays-names base old mid new s more same = record {
@@ -74,7 +75,28 @@ needed_names base mid new root good more same h = λ n le lt.
     let is : root_forest (folder_at new) root ≡ root_forest (folder_at mid) root = ap (λ (k : List Listed). root_forest (tree_at new.names.items k) root) same ∙ root-names mid.names.items new.names.items mid.nodes.items root good.arena more in
     subst (λ (g : Forest). IsPart (IsFolder g) (folder_at new n)) (sym is) (subst (λ (g : Forest). IsPart (IsFolder (root_forest (folder_at mid) root)) g) (sym there) (h n le (subst (λ (k : List Listed). n < length k) same lt)))
 
-pub bounded-names : (base : ℕ) (old mid new : Folders) (root : Option ℕ) → AreFolders mid → Extends mid.names.items new.names.items → new.nodes.items ≡ mid.nodes.items → new.most ≡ mid.most → StaysBounded base old mid root → StaysBounded base old new root
-bounded-names base old mid new root good more same most (inl h) = inl (ap length same ∙ h.0, most ∙ h.1)
-bounded-names base old mid new root good more same most (inr (inl h)) = inr (inl (rw (same, most) h.0, most ∙ h.1))
-bounded-names base old mid new root good more same most (inr (inr h)) = inr (inr (needed_names base mid new root good more same h.0, rw (same, most) h.1))
+map-names : (mid new : Folders) (root : Option ℕ) → AreFolders mid → Extends mid.names.items new.names.items → new.nodes.items ≡ mid.nodes.items → root_map new root ≡ root_map mid root
+map-names mid new None good more same = refl
+map-names mid new (Some n) good more same = ap (λ (k : List Listed). flat (tree_at new.names.items k n)) same ∙ ap flat (tree-names mid.names.items new.names.items mid.nodes.items good.arena more n)
+
+counts-on : (a b c : Folders) → KeepsCounts a b → KeepsCounts b c → KeepsCounts a c
+counts-on a b c h k = record {
+  counted = k.counted ∙ h.counted;
+  entries = k.entries ∙ h.entries;
+  room = k.room ∙ h.room;
+  most = k.most ∙ h.most;
+}
+
+within_names : (base : ℕ) (mid new : Folders) → new.nodes.items ≡ mid.nodes.items → KeepsCounts mid new → IsWithin base mid → IsWithin base new
+within_names base mid new same k h = record { folders = rw (same, k.most) h.folders; entries = rw (same, k.room) h.entries }
+
+anew_names : (base : ℕ) (mid new : Folders) → new.nodes.items ≡ mid.nodes.items → KeepsCounts mid new → IsSetAnew base mid → IsSetAnew base new
+anew_names base mid new same k h = record { folders = rw (same, k.most) h.folders; entries = rw (same, k.room) h.entries; whole = rw same h.whole }
+
+is_bounded_names : (base : ℕ) (old mid new : Folders) (root : Option ℕ) → AreFolders mid → Extends mid.names.items new.names.items → new.nodes.items ≡ mid.nodes.items → KeepsCounts mid new → IsBounded base old mid root → IsBounded base old new root
+is_bounded_names base old mid new root good more same k (inl h) = inl (within_names base mid new same k h.0, k.room ∙ h.1, k.most ∙ h.2)
+is_bounded_names base old mid new root good more same k (inr h) = inr (needed_names base mid new root good more same h.0, anew_names base mid new same k h.1)
+
+pub bounded-names : (base : ℕ) (old mid new : Folders) (root : Option ℕ) (m : PathMap) → AreFolders mid → Extends mid.names.items new.names.items → new.nodes.items ≡ mid.nodes.items → KeepsCounts mid new → StaysBounded base old mid root m → StaysBounded base old new root m
+bounded-names base old mid new root m good more same k (inl h) = inl (same ∙ h.0, counts-on old mid new h.1 k)
+bounded-names base old mid new root m good more same k (inr h) = inr (is_bounded_names base old mid new root good more same k h.0, map-names mid new root good more same ∙ h.1)

@@ -96,7 +96,7 @@ pub known-tree : (names : List (Vec ℕ)) (nodes fresh : List Listed) (base plac
 known-tree names nodes fresh base place es g arena le below low is e =
     let at = tree_at names nodes in
     let at' = tree_at names (take base nodes ++ fresh) in
-    let none : Listed = record { items = [] } in
+    let none : Listed = record { items = []; cost = 0; shares = false } in
     let v = get_or nodes place none in
     let lt : place < length nodes = omega arith in
     let own : get_or nodes place none ≡ get_or nodes place (get_or nodes place none) = get_or_default nodes place none (get_or nodes place none) lt in

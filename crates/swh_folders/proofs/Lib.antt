@@ -12,6 +12,7 @@ pub mod EditedRoots
 pub mod Copies
 pub mod Lives
 pub mod Moves
+pub mod Tallies
 pub mod Workings
 pub mod Orders
 pub mod Ordering

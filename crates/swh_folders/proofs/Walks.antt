@@ -1,7 +1,7 @@
 -- One component more of a path.
-use Rattle.std.proofs.Common.{◌≡◌, ℕ, zero, suc, ◌+◌, ◌<◌, ◌≤◌, List, [], ◌∷◌, length, take, drop, get_or, Option, Some, None, refl, ◌∙◌, arith, add-one}
+use Rattle.std.proofs.Common.{◌≡◌, ℕ, zero, suc, ◌+◌, ◌<◌, ◌≤◌, List, [], ◌∷◌, length, take, drop, get_or, Option, Some, None, refl, sym, ap, ◌∙◌, arith, add-one}
 use Rattle.std.proofs.Math.Seq.{drop-cons}
-use Rattle.std.proofs.lemmas.List.{get_or-map, length-map}
+use Rattle.std.proofs.lemmas.List.{get_or-map, length-map, take-take, take_all}
 use Rattle.std.specs.Borrow.{Bor}
 use Rattle.std.specs.Global.{Vec}
 use Rattle.swh_entries.specs.Listed.{Listed}
@@ -45,10 +45,11 @@ grows-more n n' n'' o o' o'' g h = record {
   names_more = extends-on n n' n'' g.names_more h.names_more;
   longer = let a = g.longer in let b = h.longer in omega arith;
   trees = λ i lt. let a = g.longer in h.trees i (omega arith) ∙ g.trees i lt;
+  lists = sym (take-take (length o) (length o') o'' g.longer) ∙ ap (take (length o)) h.lists ∙ g.lists;
 }
 
 pub grows-none : (n : List (Vec ℕ)) (o : List Listed) → Grows n o n o
-grows-none n o = record { names_more = extends-none n; longer = omega arith; trees = λ i lt. refl }
+grows-none n o = record { names_more = extends-none n; longer = omega arith; trees = λ i lt. refl; lists = take_all (length o) o (omega arith) }
 
 pub length-parts_of : (path : List (Bor (List ℕ))) → length (parts_of path) ≡ length path
 length-parts_of path = length-map path (λ (b : Bor (List ℕ)). b.now)

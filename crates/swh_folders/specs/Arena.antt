@@ -82,11 +82,12 @@ abbrev pub IsIn : ℕ → Option Child → Type 0
 IsIn n None = Unit {0}
 IsIn n (Some c) = IsLower n c
 
--- numbers mean what they meant
+-- numbers mean what they meant, and have the lists that they had
 pub record Grows (names : List (Vec ℕ)) (nodes : List Listed) (names' : List (Vec ℕ)) (nodes' : List Listed) : Type 0 where
   pub names_more : Extends names names'
   pub longer : length nodes ≤ length nodes'
   pub trees : (i : ℕ) → i < length nodes → tree_at names' nodes' i ≡ tree_at names nodes i
+  pub lists : take (length nodes) nodes' ≡ nodes
 
 -- the components that are borrowed
 abbrev pub parts_of : List (Bor (List ℕ)) → List (List ℕ)

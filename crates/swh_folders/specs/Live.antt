@@ -1,5 +1,5 @@
 -- Which folders a root still needs: those that are marked.
-use Rattle.std.specs.Prelude.{◌≡◌, ℕ, ◌-◌, ◌<◌, ◌≤◌, Bool, true, false, List, length, slice_index_or}
+use Rattle.std.specs.Prelude.{◌≡◌, ℕ, ◌-◌, ◌<◌, ◌≤◌, Bool, true, false, List, length, All, slice_index_or}
 use Rattle.swh_entries.specs.declared.entry.Child.{Child}
 use Rattle.swh_entries.specs.declared.entry.Child.TheVariants.{File as FileChild, Folder as FolderChild}
 use Rattle.swh_entries.specs.declared.entry.Entry.{Entry}
@@ -43,3 +43,7 @@ pub record IsPart (x : Stands) (g : Forest) : Type 0 where
 -- Each marked folder is a part of what stands here.
 abbrev pub AreLiveParts : (ℕ → Forest) → ℕ → List Bool → ℕ → Stands → Type 0
 AreLiveParts at base live n x = (i : ℕ) → base ≤ i → i < n → is_live base live i ≡ true → IsPart x (at i)
+
+-- Each list costs as much as it has entries.
+abbrev pub AreWhole : List Listed → Type 0
+AreWhole lists = All (λ l. l.cost ≡ length l.items) lists

@@ -16,7 +16,7 @@ use Rattle.swh_folders.specs.Forest.{Forest, Stands, IsFolder, put, folder, fore
 use Rattle.swh_folders.specs.PathMap.{PathMap}
 use Rattle.swh_folders.specs.Roots.{IsBelow, root_forest}
 use Rattle.swh_folders.specs.Sound.{IsSound}
-use Rattle.swh_folders.specs.Working.{count_of, root_map, IsBounded}
+use Rattle.swh_folders.specs.Working.{count_of, root_map, KeepsCounts, IsBounded}
 
 -- the components of the path of an open folder, which the root's own folder has none of
 abbrev pub folder_path : Option (Vec ℕ) → List (List ℕ)
@@ -75,6 +75,6 @@ abbrev pub IsStart : Folders → Start → Type 0
 IsStart f (At root) = IsBelow (count_of f) root
 IsStart f (In o) = IsOpened f.names.items f.nodes.items o
 
--- No folder came or went, or those that the root does not need were dropped where more stand than may.
-abbrev pub StaysBounded : ℕ → Folders → Folders → Option ℕ → Type 0
-StaysBounded base old new root = ((count_of new ≡ count_of old) × (new.most ≡ old.most)) ⊎ IsBounded base old new root
+-- No folder came or went, and as much may stand; or the bound is kept by what the root of this map needs.
+abbrev pub StaysBounded : ℕ → Folders → Folders → Option ℕ → PathMap → Type 0
+StaysBounded base old new root m = ((new.nodes.items ≡ old.nodes.items) × KeepsCounts old new) ⊎ (IsBounded base old new root × (root_map new root ≡ m))

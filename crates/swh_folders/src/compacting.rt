@@ -12,6 +12,7 @@ ghost use Rattle.std.specs.Prelude.{
   true,
   length,
   take,
+  drop,
   slice_index_or,
   IfOk,
   OnOk,
@@ -22,7 +23,7 @@ ghost use Rattle.swh_folders.specs.Forest.{Forest, Stands, IsFolder};
 ghost use Rattle.swh_folders.specs.Arena.{stands, forest_of, tree_at, AreGood, IsArena, IsLower};
 ghost use Rattle.swh_entries.specs.Keys.{texts};
 ghost use Rattle.swh_folders.specs.Roots.{IsGood};
-ghost use Rattle.swh_folders.specs.Live.{is_live, IsMarked, AreMarked, AreLower, IsClosed, IsPart};
+ghost use Rattle.swh_folders.specs.Live.{is_live, IsMarked, AreMarked, AreLower, IsClosed, IsPart, AreWhole};
 ghost use Rattle.swh_folders.specs.Moved.{AreMoved, IsCopied};
 
 use crate::live::live_of;
@@ -89,6 +90,7 @@ fn move_one(
     requires lower { AreLower nodes.now }
     ensures next { OnOk result (length moved.new.items ≡ length moved.old.items + 1) }
     ensures room { OnOk result (length fresh.new.items ≤ length fresh.old.items + 1) }
+    ensures whole { OnOk result (AreWhole fresh.old.items → AreWhole fresh.new.items) }
     ensures copied { (names : List (Vec ℕ)) (live : List Bool) (x : Stands) → IsArena names nodes.now
         → is_live base live (base + length moved.old.items) ≡ wanted → IsClosed base live nodes.now base
         → (wanted ≡ true → IsPart x (tree_at names nodes.now (base + length moved.old.items)))
@@ -124,6 +126,7 @@ fn move_all(
     requires as_long { base + length live.now ≡ length nodes.now }
     requires lower { AreLower nodes.now }
     ensures next { IfOk result (λ r. length r.1.items ≡ length live.now) }
+    ensures whole { IfOk result (λ r. AreWhole r.0.items) }
     ensures copied { (names : List (Vec ℕ)) (x : Stands) → IsArena names nodes.now
         → IsClosed base live.now nodes.now base
         → ((i : ℕ) → base ≤ i → i < length nodes.now → is_live base live.now i ≡ true
@@ -153,6 +156,7 @@ pub fn compact(
     ensures stay { (names : List (Vec ℕ)) (j : ℕ) → IsArena names nodes.old.items → j < base
         → tree_at names nodes.new.items j ≡ tree_at names nodes.old.items j }
     ensures long { base ≤ length nodes.new.items }
+    ensures whole { OnOk result (AreWhole (drop base nodes.new.items)) }
     ensures same { (names : List (Vec ℕ)) → IsGood names nodes.old.items
         → IfOk result (λ r. (r < length nodes.new.items)
         × (tree_at names nodes.new.items r ≡ tree_at names nodes.old.items root)) }

@@ -89,6 +89,7 @@ pub fn transfer_path(
     ensures grows { Grows names.old.items nodes.old.items names.new.items nodes.new.items }
     ensures none { IfOk result (λ o. IfNone o (held (components source.now)
         (map_of_number (map_at names.old.items nodes.old.items) root) ≡ [])) }
+    ensures left { IfOk result (λ o. IfNone o (nodes.new.items ≡ nodes.old.items)) }
     ensures some { IfOk result (λ o. IfSome o (λ r. held (components source.now)
         (map_of_number (map_at names.old.items nodes.old.items) root) ≢ [])) }
     ensures inside { IfOk result (λ o. IfSome o (λ r. IsBelow (length nodes.new.items) r)) }

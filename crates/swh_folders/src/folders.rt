@@ -1,19 +1,30 @@
 //! Folders at work: the changes of a commit made to them, and what is no longer needed dropped now and then.
 
-ghost use Rattle.std.specs.Prelude.{◌≡◌, ◌≢◌, ◌≤◌, ◌+◌, ◌*◌, [], IsFalse, IfOk, IfSome, IfNone};
+ghost use Rattle.std.specs.Prelude.{◌≡◌, ◌≢◌, ◌≤◌, ◌+◌, ◌*◌, [], ℕ, IsFalse, IfOk, IfSome, IfNone};
+ghost use Rattle.swh_entries.specs.Listed.{cost_of};
 ghost use Rattle.swh_folders.specs.Roots.{IsBelow};
 ghost use Rattle.swh_fastlex.specs.Path.{components, IsPath};
 ghost use Rattle.swh_folders.specs.PathMap.{set, delete, held};
 ghost use Rattle.swh_folders.specs.Transfer.{transferred};
 ghost use Rattle.swh_folders.specs.Sound.{IsLeaf};
-ghost use Rattle.swh_folders.specs.Working.{AreFolders, count_of, root_map, StaysBelow, spare, IsBounded};
+ghost use Rattle.swh_folders.specs.Working.{
+  AreFolders,
+  count_of,
+  cost_from,
+  root_map,
+  StaysBelow,
+  spare,
+  IsTallied,
+  KeepsCounts,
+  IsBounded,
+};
 
 use crate::compacting::compact;
 use crate::edits::{Transfer, transfer_path};
 use std::alloc::{AllocError, Global};
 use swh_entries::{Known, Names, Packed};
 
-/// How many entries, and how many folders, more than twice those that are needed may stand.
+/// How many folders more than twice those that are needed may stand, and how many entries more than three times those.
 const SPARE: usize = 65_536;
 
 /// Folders by their numbers, with the names of their entries.
@@ -23,11 +34,11 @@ pub struct Folders {
     pub nodes: Vec<Packed>,
     /// Those whose objects were made.
     pub known: Known,
-    /// The number of the first folder whose entries are not counted.
+    /// The number of the first folder whose list is not counted.
     pub counted: usize,
-    /// How many entries were counted since folders were dropped.
+    /// What the lists cost that were counted.
     pub entries: usize,
-    /// How many there may be before folders are dropped again.
+    /// What they may cost before folders are dropped again.
     pub room: usize,
     /// How many folders there may be before.
     pub most: usize,
@@ -36,7 +47,10 @@ pub struct Folders {
 impl Folders {
     pub fn new(alloc: Global) -> Folders
         ensures good { AreFolders result }
-        ensures none { count_of result ≡ 0 }
+        ensures none { result.nodes.items ≡ [] }
+        ensures tallied { IsTallied 0 result }
+        ensures room { result.room ≡ spare }
+        ensures most { result.most ≡ spare }
     {
         Folders {
             names: Names::new(alloc),
@@ -50,45 +64,71 @@ impl Folders {
     }
 }
 
-/// How many entries the folders from this one on have, at most what a `usize` holds.
-fn entries_from(nodes: &[Packed], first: usize) -> usize {
+/// What these lists cost, where a `usize` holds it.
+fn sum_of(nodes: &[Packed]) -> Option<usize>
+    ensures { IfSome result (λ n. n ≡ cost_of nodes.now) }
+{
     let mut sum: usize = 0;
-    for number in first..nodes.len() {
-        sum = sum.saturating_add(nodes[number].cost());
+    for node in nodes {
+        sum = sum.checked_add(node.cost())?;
     }
-    sum
+    Some(sum)
 }
 
-/// Whether so many entries stand in folders that those no longer needed are to be dropped.
+/// What is counted, with the lists that are not.
+fn more_of(folders: &Folders) -> Option<usize>
+    requires { folders.now.counted ≤ count_of folders.now }
+    ensures { IfSome result (λ n. n ≡ folders.now.entries + cost_from folders.now.counted folders.now) }
+{
+    let (_, rest) = folders.nodes.as_slice().split_at(folders.counted);
+    folders.entries.checked_add(sum_of(rest)?)
+}
+
+/// Whether so many folders stand, or their lists from the base on cost so much, that those no longer needed are to be dropped.
 fn is_full(folders: &mut Folders) -> bool
+    requires { folders.old.counted ≤ count_of folders.old }
     ensures names { folders.new.names.items ≡ folders.old.names.items }
     ensures nodes { folders.new.nodes.items ≡ folders.old.nodes.items }
     ensures most { folders.new.most ≡ folders.old.most }
     ensures room { folders.new.room ≡ folders.old.room }
-    ensures counted { folders.new.counted ≡ count_of folders.old }
+    ensures tallied { (base : ℕ) → IsTallied base folders.old → IsTallied base folders.new }
     ensures few { IsFalse result → count_of folders.old ≤ folders.old.most }
-    ensures small { IsFalse result → folders.new.entries ≤ folders.old.room }
+    ensures small { IsFalse result → (base : ℕ) → IsTallied base folders.old
+        → cost_from base folders.old ≤ folders.old.room }
 {
-    let more = entries_from(folders.nodes.as_slice(), folders.counted);
-    folders.counted = folders.nodes.len();
-    folders.entries = folders.entries.saturating_add(more);
-    folders.entries > folders.room || folders.nodes.len() > folders.most
-}
-
-/// Counts anew the entries of the folders from this one on.
-pub fn count_from(folders: &mut Folders, first: usize)
-    ensures names { folders.new.names.items ≡ folders.old.names.items }
-    ensures nodes { folders.new.nodes.items ≡ folders.old.nodes.items }
-    ensures most { first ≤ count_of folders.new → folders.new.most + first ≤ 2 * count_of folders.new + spare }
-{
-    let entries = entries_from(folders.nodes.as_slice(), first);
+    let Some(entries) = more_of(folders) else {
+        return true;
+    };
     folders.counted = folders.nodes.len();
     folders.entries = entries;
-    folders.room = entries.saturating_mul(2).saturating_add(SPARE);
-    let fresh = folders.nodes.len().saturating_sub(first);
+    if folders.entries > folders.room {
+        return true;
+    }
+    folders.nodes.len() > folders.most
+}
+
+/// Counts anew the lists of the folders from this one on, and sets how much may stand by what they cost.
+pub fn count_from(folders: &mut Folders, first: usize)
+    requires { first ≤ count_of folders.old }
+    ensures names { folders.new.names.items ≡ folders.old.names.items }
+    ensures nodes { folders.new.nodes.items ≡ folders.old.nodes.items }
+    ensures tallied { IsTallied first folders.new }
+    ensures most { folders.new.most + first ≤ 2 * count_of folders.new + spare }
+    ensures room { folders.new.room ≤ 3 * cost_from first folders.new + spare }
+{
+    let count = folders.nodes.len();
+    folders.counted = first;
+    folders.entries = 0;
+    folders.room = SPARE;
+    let fresh = count.saturating_sub(first);
     folders.most = first
         .saturating_add(fresh.saturating_mul(2))
         .saturating_add(SPARE);
+    if let Some(entries) = more_of(folders) {
+        folders.counted = count;
+        folders.entries = entries;
+        folders.room = entries.saturating_mul(3).saturating_add(SPARE);
+    }
 }
 
 /// The root, after folders that it does not need were dropped where there are many of them.
@@ -99,9 +139,10 @@ pub fn settled(
     root: Option<usize>,
 ) -> Result<Option<usize>, AllocError>
     requires good { AreFolders folders.old }
-    requires base { base ≤ count_of folders.old }
+    requires tallied { IsTallied base folders.old }
     requires root { IsBelow (count_of folders.old) root }
     ensures stays { StaysBelow base folders.old folders.new }
+    ensures tallied { IsTallied base folders.new }
     ensures inside { IfOk result (λ r. IsBelow (count_of folders.new) r) }
     ensures bounded { IfOk result (IsBounded base folders.old folders.new) }
     ensures map { IfOk result (λ r. root_map folders.new r ≡ root_map folders.old root) }
@@ -114,9 +155,9 @@ pub fn settled(
         count_from(folders, base);
         return Ok(None);
     };
-    let there = compact(alloc, &mut folders.nodes, &folders.known, base, number)?;
+    let there = compact(alloc, &mut folders.nodes, &folders.known, base, number);
     count_from(folders, base);
-    Ok(Some(there))
+    Ok(Some(there?))
 }
 
 /// The tree with what the source holds at the target, and at the source too where the transfer is a copy. None where the
@@ -131,13 +172,16 @@ pub fn transfer_in(
     way: Transfer,
 ) -> Result<Option<Option<usize>>, AllocError>
     requires good { AreFolders folders.old }
-    requires base { base ≤ count_of folders.old }
+    requires tallied { IsTallied base folders.old }
     requires root { IsBelow (count_of folders.old) root }
     requires source { IsPath source.now }
     requires target { IsPath target.now }
     ensures stays { StaysBelow base folders.old folders.new }
+    ensures tallied { IsTallied base folders.new }
     ensures none { IfOk result (λ o. IfNone o (held (components source.now) (root_map folders.old root) ≡ [])) }
     ensures left { IfOk result (λ o. IfNone o (IsBelow (count_of folders.new) root)) }
+    ensures lists { IfOk result (λ o. IfNone o (folders.new.nodes.items ≡ folders.old.nodes.items)) }
+    ensures counts { IfOk result (λ o. IfNone o (KeepsCounts folders.old folders.new)) }
     ensures same { IfOk result (λ o. IfNone o (root_map folders.new root ≡ root_map folders.old root)) }
     ensures some { IfOk result (λ o. IfSome o (λ r. held (components source.now) (root_map folders.old root) ≢ [])) }
     ensures inside { IfOk result (λ o. IfSome o (λ r. IsBelow (count_of folders.new) r)) }

@@ -2,7 +2,8 @@
 //! that are no longer needed dropped. None knows of ids that are computed, or of objects.
 //! Stands on `swh_base`, `swh_pieces`, `swh_fastlex`, whose paths they are, and `swh_entries`.
 //! Callers may rely on: a change makes of a root what it makes of a map from paths; the folders below a base stay; after
-//! a drop each folder from the base on is one of the root's, and there is a drop before more folders stand than may.
+//! a drop each folder from the base on is one of the root's, and there is a drop before more folders, or entries,
+//! stand than may.
 #![tactic(auto)]
 
 mod arena;

@@ -14,7 +14,7 @@ ghost use Rattle.swh_folders.specs.PathMap.{set, delete, held};
 ghost use Rattle.swh_folders.specs.Transfer.{transferred};
 ghost use Rattle.swh_folders.specs.Sound.{IsLeaf, IsSoundHere};
 ghost use Rattle.swh_fastlex.specs.Path.{components, IsPath};
-ghost use Rattle.swh_folders.specs.Working.{AreFolders, count_of, root_map, StaysBelow, IsBounded};
+ghost use Rattle.swh_folders.specs.Working.{AreFolders, count_of, root_map, StaysBelow, IsTallied, KeepsCounts, IsBounded};
 ghost use Rattle.swh_folders.specs.Opened.{
   lent_path,
   folder_path,
@@ -168,7 +168,7 @@ impl Opened {
         requires sound { IsSoundHere (stands_of (tree_at folders.old.names.items folders.old.nodes.items) child) }
         ensures names { Extends folders.old.names.items folders.new.names.items }
         ensures nodes { folders.new.nodes.items ≡ folders.old.nodes.items }
-        ensures most { folders.new.most ≡ folders.old.most }
+        ensures counts { KeepsCounts folders.old folders.new }
         ensures opened { IfOk result (λ o. IsOpened folders.new.names.items folders.new.nodes.items o) }
         ensures root { IfOk result (λ o. o.root ≡ self.root) }
         ensures path { IfOk result (λ o. o.path ≡ self.path) }
@@ -192,9 +192,10 @@ fn closed(
     opened: Opened,
 ) -> Result<Option<usize>, AllocError>
     requires good { AreFolders folders.old }
-    requires base { base ≤ count_of folders.old }
+    requires tallied { IsTallied base folders.old }
     requires opened { IsOpened folders.old.names.items folders.old.nodes.items opened }
     ensures stays { StaysBelow base folders.old folders.new }
+    ensures tallied { IsTallied base folders.new }
     ensures inside { IfOk result (λ r. IsBelow (count_of folders.new) r) }
     ensures bounded { IfOk result (IsBounded base folders.old folders.new) }
     ensures map { IfOk result (λ r. root_map folders.new r
@@ -212,11 +213,13 @@ pub fn root_from(
     start: Start,
 ) -> Result<Option<usize>, AllocError>
     requires good { AreFolders folders.old }
-    requires base { base ≤ count_of folders.old }
+    requires tallied { IsTallied base folders.old }
     requires start { IsStart folders.old start }
     ensures stays { StaysBelow base folders.old folders.new }
+    ensures tallied { IsTallied base folders.new }
     ensures inside { IfOk result (λ r. IsBelow (count_of folders.new) r) }
-    ensures bounded { IfOk result (StaysBounded base folders.old folders.new) }
+    ensures bounded { IfOk result (λ r. StaysBounded base folders.old folders.new r
+        (start_map folders.old start)) }
     ensures map { IfOk result (λ r. root_map folders.new r ≡ start_map folders.old start) }
 {
     match start {
@@ -234,13 +237,15 @@ fn opened_at(
     folder: Option<&[u8]>,
 ) -> Result<Opened, AllocError>
     requires good { AreFolders folders.old }
-    requires base { base ≤ count_of folders.old }
+    requires tallied { IsTallied base folders.old }
     requires start { IsStart folders.old start }
     requires folder { AllByRecursion IsEntryName (lent_path folder) }
     ensures stays { StaysBelow base folders.old folders.new }
+    ensures tallied { IsTallied base folders.new }
     ensures opened { IfOk result (λ o. IsOpened folders.new.names.items folders.new.nodes.items o) }
     ensures path { IfOk result (λ o. folder_path o.path ≡ lent_path folder.entry) }
-    ensures bounded { IfOk result (λ o. StaysBounded base folders.old folders.new o.root) }
+    ensures bounded { IfOk result (λ o. StaysBounded base folders.old folders.new o.root
+        (start_map folders.old start)) }
     ensures stands { IfOk result (λ o. StandsIn folders.new.names.items folders.new.nodes.items o
         (start_map folders.old start)) }
 {
@@ -271,13 +276,15 @@ pub fn set_in(
     leaf: Leaf,
 ) -> Result<Opened, AllocError>
     requires good { AreFolders folders.old }
-    requires base { base ≤ count_of folders.old }
+    requires tallied { IsTallied base folders.old }
     requires start { IsStart folders.old start }
     requires path { IsPath path.now }
     requires leaf { IsLeaf leaf }
     ensures stays { StaysBelow base folders.old folders.new }
+    ensures tallied { IsTallied base folders.new }
     ensures opened { IfOk result (λ o. IsOpened folders.new.names.items folders.new.nodes.items o) }
-    ensures bounded { IfOk result (λ o. StaysBounded base folders.old folders.new o.root) }
+    ensures bounded { IfOk result (λ o. StaysBounded base folders.old folders.new o.root
+        (start_map folders.old start)) }
     ensures map { IfOk result (λ o. flat (open_forest folders.new.names.items folders.new.nodes.items o)
         ≡ set (components path.now) leaf (start_map folders.old start)) }
 {
@@ -298,7 +305,7 @@ fn deleted_here(
     requires name { IsEntryName name.now }
     ensures names { Extends folders.old.names.items folders.new.names.items }
     ensures nodes { folders.new.nodes.items ≡ folders.old.nodes.items }
-    ensures most { folders.new.most ≡ folders.old.most }
+    ensures counts { KeepsCounts folders.old folders.new }
     ensures opened { IfOk result (λ o. IsOpened folders.new.names.items folders.new.nodes.items o) }
     ensures root { IfOk result (λ o. o.root ≡ opened.root) }
     ensures map { IfOk result (λ o. flat (open_forest folders.new.names.items folders.new.nodes.items o)
@@ -323,7 +330,7 @@ fn deleted_there(
     requires path { IsPath path.now }
     ensures names { Extends folders.old.names.items folders.new.names.items }
     ensures nodes { folders.new.nodes.items ≡ folders.old.nodes.items }
-    ensures most { folders.new.most ≡ folders.old.most }
+    ensures counts { KeepsCounts folders.old folders.new }
     ensures start { IfOk result (λ s. IsStart folders.new s) }
     ensures root { IfOk result (λ s. root_of_start s ≡ root) }
     ensures map { IfOk result (λ s. start_map folders.new s
@@ -348,12 +355,14 @@ pub fn delete_in(
     path: &[u8],
 ) -> Result<Start, AllocError>
     requires good { AreFolders folders.old }
-    requires base { base ≤ count_of folders.old }
+    requires tallied { IsTallied base folders.old }
     requires start { IsStart folders.old start }
     requires path { IsPath path.now }
     ensures stays { StaysBelow base folders.old folders.new }
+    ensures tallied { IsTallied base folders.new }
     ensures start { IfOk result (λ s. IsStart folders.new s) }
-    ensures bounded { IfOk result (λ s. StaysBounded base folders.old folders.new (root_of_start s)) }
+    ensures bounded { IfOk result (λ s. StaysBounded base folders.old folders.new (root_of_start s)
+        (start_map folders.old start)) }
     ensures map { IfOk result (λ s. start_map folders.new s ≡ delete (components path.now) (start_map folders.old start)) }
 {
     match start {
@@ -433,14 +442,17 @@ fn transfer_open(
     way: Transfer,
 ) -> Result<Result<Option<usize>, Start>, AllocError>
     requires good { AreFolders folders.old }
-    requires base { base ≤ count_of folders.old }
+    requires tallied { IsTallied base folders.old }
     requires opened { IsOpened folders.old.names.items folders.old.nodes.items opened }
     requires source { IsPath source.now }
     requires target { IsPath target.now }
     ensures stays { StaysBelow base folders.old folders.new }
+    ensures tallied { IsTallied base folders.new }
     ensures none { IfOk result (λ m. IfErr m (λ s. held (components source.now)
         (flat (open_forest folders.old.names.items folders.old.nodes.items opened)) ≡ [])) }
     ensures left { IfOk result (λ m. IfErr m (λ s. IsStart folders.new s)) }
+    ensures lists { IfOk result (λ m. IfErr m (λ s. folders.new.nodes.items ≡ folders.old.nodes.items)) }
+    ensures counts { IfOk result (λ m. IfErr m (λ s. KeepsCounts folders.old folders.new)) }
     ensures number { IfOk result (λ m. IfErr m (λ s. number_of_start folders.new s ≡ Some (count_of folders.old))) }
     ensures same { IfOk result (λ m. IfErr m (λ s. start_map folders.new s
         ≡ flat (open_forest folders.old.names.items folders.old.nodes.items opened))) }
@@ -474,13 +486,16 @@ pub fn transfer_from(
     way: Transfer,
 ) -> Result<Result<Option<usize>, Start>, AllocError>
     requires good { AreFolders folders.old }
-    requires base { base ≤ count_of folders.old }
+    requires tallied { IsTallied base folders.old }
     requires start { IsStart folders.old start }
     requires source { IsPath source.now }
     requires target { IsPath target.now }
     ensures stays { StaysBelow base folders.old folders.new }
+    ensures tallied { IsTallied base folders.new }
     ensures none { IfOk result (λ m. IfErr m (λ s. held (components source.now) (start_map folders.old start) ≡ [])) }
     ensures left { IfOk result (λ m. IfErr m (λ s. IsStart folders.new s)) }
+    ensures lists { IfOk result (λ m. IfErr m (λ s. folders.new.nodes.items ≡ folders.old.nodes.items)) }
+    ensures counts { IfOk result (λ m. IfErr m (λ s. KeepsCounts folders.old folders.new)) }
     ensures number { IfOk result (λ m. IfErr m (λ s. number_of_start folders.new s
         ≡ number_of_start folders.old start)) }
     ensures same { IfOk result (λ m. IfErr m (λ s. start_map folders.new s ≡ start_map folders.old start)) }

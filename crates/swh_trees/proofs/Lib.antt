@@ -1,4 +1,5 @@
 pub mod Directories
 pub mod Listings
 pub mod Parts
+pub mod Counts
 pub mod Bounds

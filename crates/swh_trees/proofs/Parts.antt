@@ -33,7 +33,7 @@ use Rattle.swh_trees.specs.Makes.{IsFolderOf, IsNumbered, Makes, ExplainsTree}
 use Rattle.swh_trees.specs.Objects.{IsDirectoryObject, AreDirectoryObjects, ExplainsPart}
 use Rattle.swh_folders.specs.PathMap.{PathMap, same, leaf_at, held, HasFolder}
 use Rattle.swh_folders.specs.Sound.{IsSound, IsSoundHere}
-use Rattle.swh_folders.specs.Working.{AreFolders, count_of, folder_at, root_map, StaysBelow}
+use Rattle.swh_folders.specs.Working.{AreFolders, count_of, folder_at, root_map, IsTallied, StaysBelow}
 use Rattle.swh_folders.proofs.Arenas.{tree-node, entries-low}
 use Rattle.swh_folders.proofs.Canonical.{own-leaf}
 use Rattle.swh_folders.proofs.Flats.{HavePaths, paths-flat, flat-some}
@@ -247,13 +247,14 @@ pub bare-stays : (x y : ℕ → Forest) (n : ℕ) (empty : Option ℕ) → ((j :
 bare-stays x y n None stay h = tt
 bare-stays x y n (Some k) stay h = (h.0, stay k h.0 ∙ h.1)
 
-pub held-stays : (id_of : Kind → List ℕ → List ℕ) (a b : Folders) (opened opened' : Option Opened) (ids : List (List ℕ)) (empty : Option ℕ) → MayBeOpened b.names.items b.nodes.items opened' → IsHeld id_of a.names.items a.nodes.items opened ids empty → StaysBelow (length ids) a b → IsHeld id_of b.names.items b.nodes.items opened' ids empty
-held-stays id_of a b opened opened' ids empty o h s = record {
+pub held-stays : (id_of : Kind → List ℕ → List ℕ) (a b : Folders) (opened opened' : Option Opened) (ids : List (List ℕ)) (empty : Option ℕ) → MayBeOpened b.names.items b.nodes.items opened' → IsHeld id_of a opened ids empty → StaysBelow (length ids) a b → IsTallied (length ids) b → IsHeld id_of b opened' ids empty
+held-stays id_of a b opened opened' ids empty o h s t = record {
   good = s.good;
   opens = o;
   within = s.long;
   known = λ j lt. h.known j lt ∙ ap (λ (f : Forest). directory_id id_of (directory (directory_id id_of) f)) (sym (s.stay j lt));
   no_files = bare-stays (folder_at a) (folder_at b) (length ids) empty s.stay h.no_files;
+  tallied = t;
 }
 
 pub root_is : (f : Folders) (root : Option ℕ) → root_map f root ≡ flat (root_forest (folder_at f) root)

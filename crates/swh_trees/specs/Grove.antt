@@ -5,16 +5,19 @@ use Rattle.swh_folders.specs.PathMap.{PathMap}
 use Rattle.swh_folders.specs.Roots.{IsBelow, map_of_number}
 
 -- the map of each folder, in the order of their numbers, and of how many folders, the first ones, the objects were made; how many
--- folders stand in memory beside one that is open, and how many may
+-- folders stand in memory, beside one that is open, and how many entries the lists of those without objects cost; and how many
+-- folders and entries may stand
 pub record Grove : Type 0 where
   pub folders : List PathMap
   pub made : ℕ
   pub standing : ℕ
+  pub entries : ℕ
   pub most : ℕ
+  pub room : ℕ
 
 -- no tree but the empty one
 abbrev pub no_trees : Grove
-no_trees = record { folders = []; made = 0; standing = 0; most = 65536 }
+no_trees = record { folders = []; made = 0; standing = 0; entries = 0; most = 65536; room = 65536 }
 
 -- the map of the folder of this number
 abbrev pub folder_map : Grove → ℕ → PathMap

@@ -8,13 +8,13 @@ use Rattle.swh_folders.specs.declared.folders.Folders.{Folders}
 use Rattle.swh_folders.specs.declared.opened.Opened.{Opened}
 use Rattle.swh_folders.specs.declared.opened.Start.{Start}
 use Rattle.swh_folders.specs.declared.opened.Start.TheVariants.{At, In}
-use Rattle.swh_folders.specs.Arena.{tree_at}
+use Rattle.swh_folders.specs.Working.{AreFolders, count_of, cost_from, folder_at, IsTallied}
 use Rattle.swh_trees.specs.Directory.{directory_id}
 use Rattle.swh_folders.specs.Forest.{Forest, Bare, flat}
 use Rattle.swh_trees.specs.Listing.{directory}
 use Rattle.swh_folders.specs.PathMap.{PathMap}
 use Rattle.swh_folders.specs.Opened.{open_forest, IsOpened}
-use Rattle.swh_folders.specs.Roots.{IsGood, map_at}
+use Rattle.swh_folders.specs.Roots.{map_at}
 use Rattle.swh_trees.specs.Grove.{Grove}
 
 -- the ids of the first folders
@@ -31,12 +31,13 @@ abbrev pub MayBeOpened : List (Vec ℕ) → List Listed → Option Opened → Ty
 MayBeOpened names nodes None = Unit {0}
 MayBeOpened names nodes (Some o) = IsOpened names nodes o
 
-pub record IsHeld (id_of : Kind → List ℕ → List ℕ) (names : List (Vec ℕ)) (nodes : List Listed) (opened : Option Opened) (ids : List (List ℕ)) (empty : Option ℕ) : Type 0 where
-  pub good : IsGood names nodes
-  pub opens : MayBeOpened names nodes opened
-  pub within : length ids ≤ length nodes
-  pub known : AreIds (directory_id id_of) (tree_at names nodes) ids
-  pub no_files : IsEmptyFolder (tree_at names nodes) (length ids) empty
+pub record IsHeld (id_of : Kind → List ℕ → List ℕ) (f : Folders) (opened : Option Opened) (ids : List (List ℕ)) (empty : Option ℕ) : Type 0 where
+  pub good : AreFolders f
+  pub opens : MayBeOpened f.names.items f.nodes.items opened
+  pub within : length ids ≤ count_of f
+  pub known : AreIds (directory_id id_of) (folder_at f) ids
+  pub no_files : IsEmptyFolder (folder_at f) (length ids) empty
+  pub tallied : IsTallied (length ids) f
 
 -- the values of the first numbers
 abbrev pub first_values : (ℕ → PathMap) → ℕ → List PathMap
@@ -50,7 +51,14 @@ maps_with names nodes (Some o) = first_values (map_at names nodes) (length nodes
 
 -- what callers see
 abbrev pub grove : Folders → Option Opened → List (List ℕ) → Grove
-grove f opened ids = record { folders = maps_with f.names.items f.nodes.items opened; made = length ids; standing = length f.nodes.items; most = f.most }
+grove f opened ids = record {
+  folders = maps_with f.names.items f.nodes.items opened;
+  made = length ids;
+  standing = count_of f;
+  entries = cost_from (length ids) f;
+  most = f.most;
+  room = f.room;
+}
 
 -- how many trees have numbers, where so many folders have
 abbrev pub count_with : Option Opened → ℕ → ℕ

@@ -1,6 +1,6 @@
 //! The objects of a tree's new folders.
 
-ghost use Rattle.std.specs.Prelude.{◌≡◌, ◌<◌, ◌≤◌, ◌+◌, ◌*◌, ℕ, List, length, Option, IfOk, IfErr, OnOk, OnErr};
+ghost use Rattle.std.specs.Prelude.{◌≡◌, ◌<◌, ◌≤◌, ◌+◌, ℕ, List, length, Option, IfOk, IfErr, OnOk, OnErr};
 ghost use Rattle.swh_trees.specs.Directory.{directory_id};
 ghost use Rattle.swh_folders.specs.Forest.{Bare, IsFolder};
 ghost use Rattle.swh_trees.specs.Listing.{directory};
@@ -8,7 +8,7 @@ ghost use Rattle.swh_folders.specs.Roots.{IsBelow, root_forest};
 ghost use Rattle.swh_trees.specs.Held.{AreIds, IsEmptyFolder};
 ghost use Rattle.swh_folders.specs.Live.{IsPart};
 ghost use Rattle.swh_trees.specs.Objects.{AreDirectoryObjects, ExplainsPart};
-ghost use Rattle.swh_folders.specs.Working.{AreFolders, count_of, folder_at, spare, StaysBelow};
+ghost use Rattle.swh_folders.specs.Working.{AreFolders, count_of, folder_at, spare, StaysBelow, IsTallied};
 
 use crate::fault::TreeFault;
 use crate::objects::make_all;
@@ -26,9 +26,10 @@ fn empty_folder(
     empty: Option<usize>,
 ) -> Result<usize, AllocError>
     requires good { AreFolders folders.old }
-    requires base { base ≤ count_of folders.old }
+    requires tallied { IsTallied base folders.old }
     requires empty { IsEmptyFolder (folder_at folders.old) base empty }
     ensures stays { StaysBelow base folders.old folders.new }
+    ensures tallied { IsTallied base folders.new }
     ensures inside { IfOk result (λ r. r < count_of folders.new) }
     ensures bare { IfOk result (λ r. folder_at folders.new r ≡ Bare) }
 {
@@ -51,10 +52,11 @@ pub fn root_number(
     root: Option<usize>,
 ) -> Result<usize, AllocError>
     requires good { AreFolders folders.old }
-    requires base { base ≤ count_of folders.old }
+    requires tallied { IsTallied base folders.old }
     requires root { IsBelow (count_of folders.old) root }
     requires empty { IsEmptyFolder (folder_at folders.old) base empty }
     ensures stays { StaysBelow base folders.old folders.new }
+    ensures tallied { IsTallied base folders.new }
     ensures inside { IfOk result (λ r. r < count_of folders.new) }
     ensures same { IfOk result (λ r. folder_at folders.new r ≡ root_forest (folder_at folders.old) root) }
 {
@@ -75,15 +77,18 @@ pub fn make_folders<N: Namer>(
 ) -> Result<(usize, Vec<Object<N>>), TreeFault>
     requires good { AreFolders folders.old }
     requires within { length ids.old.items ≤ count_of folders.old }
+    requires tallied { IsTallied (length ids.old.items) folders.old }
     requires known { AreIds (directory_id N.id_of) (folder_at folders.old) ids.old.items }
     requires root { root < count_of folders.old }
     ensures stays { StaysBelow (length ids.old.items) folders.old folders.new }
     ensures within { length ids.new.items ≤ count_of folders.new }
+    ensures tallied { IsTallied (length ids.new.items) folders.new }
     ensures known { AreIds (directory_id N.id_of) (folder_at folders.new) ids.new.items }
     ensures front { length ids.old.items ≤ length ids.new.items }
     ensures none_made { OnErr result (ids.new.items ≡ ids.old.items) }
     ensures all { OnOk result (length ids.new.items ≡ count_of folders.new) }
-    ensures most { OnOk result (folders.new.most + length ids.new.items ≤ 2 * count_of folders.new + spare) }
+    ensures most { OnOk result (folders.new.most ≤ count_of folders.new + spare) }
+    ensures room { OnOk result (folders.new.room ≤ spare) }
     ensures inside { IfOk result (λ r. r.0 < count_of folders.new) }
     ensures same { IfOk result (λ r. folder_at folders.new r.0 ≡ folder_at folders.old root) }
     ensures parts { IfOk result (λ r. (n : ℕ) → length ids.old.items ≤ n → n < count_of folders.new
@@ -94,7 +99,10 @@ pub fn make_folders<N: Namer>(
     ensures err { IfErr result (ExplainsPart (directory_id N.id_of) (IsFolder (folder_at folders.old root))) }
 {
     let base = ids.len();
-    let number = compact(alloc, &mut folders.nodes, &folders.known, base, root)?;
+    let Ok(number) = compact(alloc, &mut folders.nodes, &folders.known, base, root) else {
+        count_from(folders, base);
+        return Err(TreeFault::Memory);
+    };
     let made = make_all(
         alloc,
         namer,
@@ -102,14 +110,15 @@ pub fn make_folders<N: Namer>(
         folders.nodes.as_slice(),
         ids,
     );
-    count_from(folders, ids.len());
     match made {
         Ok(objects) => {
+            count_from(folders, ids.len());
             folders.known.learn(folders.nodes.as_slice(), base);
             Ok((number, objects))
         }
         Err(fault) => {
             ids.truncate(base);
+            count_from(folders, base);
             Err(fault)
         }
     }

@@ -10,9 +10,6 @@ use swh_entries::{Leaf, whole_id};
 use swh_folders::{Folders, Opened, Start, Transfer, delete_in, root_from, set_in, transfer_from};
 use swh_object::Object;
 
-/// How many folders may stand before one has its object.
-const SPARE: usize = 65_536;
-
 /// Trees that share the folders which they have in common, and the ids of the folders whose objects were made, by the
 /// namer `N`. Contracts see the map of each folder by its number, and of how many folders, the first ones, the objects
 /// were made.
@@ -43,7 +40,7 @@ impl<N: Namer> Model for Trees<N> {
 
     ghost view = { λ t. grove t.folders t.opened t.ids.items };
 
-    ghost invariant = { λ t. IsHeld N.id_of t.folders.names.items t.folders.nodes.items t.opened t.ids.items t.empty };
+    ghost invariant = { λ t. IsHeld N.id_of t.folders t.opened t.ids.items t.empty };
 }
 
 ghost use Rattle.std.specs.Prelude.{◌≡◌, ◌↔◌, None, Some, IsTrue, IfNone, IfSome};
@@ -115,7 +112,7 @@ fn parts_of(start: Start, count: usize) -> (Option<usize>, Option<Opened>)
 impl<N: Namer> Trees<N> {
     ghost use Rattle.std.specs.Prelude.{◌≡◌, ◌≢◌, ◌↔◌, [], IsTrue, IfOk, IfErr, IfSome, IfNone, OnErr};
     ghost use Rattle.swh_trees.specs.Grove.{map_of, IsTree, Keeps, StandsFor, no_trees};
-    ghost use Rattle.swh_trees.specs.Bound.{IsBounded, IsBoundedByOne, IsEmptied};
+    ghost use Rattle.swh_trees.specs.Bound.{IsStill, IsBounded, IsEmptied};
     ghost use Rattle.swh_folders.specs.Leaf.{IsLeafMode};
     ghost use Rattle.swh_trees.specs.Makes.{Makes, ExplainsTree};
     ghost use Rattle.swh_fastlex.specs.Path.{components, IsPath};
@@ -126,11 +123,9 @@ impl<N: Namer> Trees<N> {
     pub fn new(alloc: Global, namer: N) -> Trees<N>
         ensures { result ≡ no_trees }
     {
-        let mut folders = Folders::new(alloc);
-        folders.most = SPARE;
         Trees {
             namer,
-            folders,
+            folders: Folders::new(alloc),
             opened: None,
             ids: Vec::new(alloc),
             empty: None,
@@ -159,7 +154,7 @@ impl<N: Namer> Trees<N> {
         requires mode { IsLeafMode leaf.mode }
         ensures keeps { Keeps self.old self.new }
         ensures map { IfOk result (λ t. StandsFor self.new t (set (components path.now) leaf (map_of self.old tree))) }
-        ensures bounded { IfOk result (λ t. IsBoundedByOne self.old self.new) }
+        ensures bounded { IfOk result (λ t. IsBounded self.old self.new (map_of self.old tree)) }
     {
         let whole = Leaf {
             mode: leaf.mode,
@@ -180,7 +175,7 @@ impl<N: Namer> Trees<N> {
         requires path { IsPath path.now }
         ensures keeps { Keeps self.old self.new }
         ensures map { IfOk result (λ t. StandsFor self.new t (delete (components path.now) (map_of self.old tree))) }
-        ensures bounded { IfOk result (λ t. IsBoundedByOne self.old self.new) }
+        ensures bounded { IfOk result (λ t. IsBounded self.old self.new (map_of self.old tree)) }
     {
         let base = self.ids.len();
         let start = start_with(self.opened.take(), tree.number, self.folders.nodes.len());
@@ -206,6 +201,7 @@ impl<N: Namer> Trees<N> {
         ensures keeps { Keeps self.old self.new }
         ensures none { IfOk result (λ o. IfNone o (held (components source.now) (map_of self.old tree) ≡ [])) }
         ensures left { IfOk result (λ o. IfNone o (StandsFor self.new tree (map_of self.old tree))) }
+        ensures still { IfOk result (λ o. IfNone o (IsStill self.old self.new)) }
         ensures some { IfOk result (λ o. IfSome o (λ t. held (components source.now) (map_of self.old tree) ≢ [])) }
         ensures map { IfOk result (λ o. IfSome o (λ t. StandsFor self.new t
             (copy (components source.now) (components target.now) (map_of self.old tree)))) }
@@ -230,6 +226,7 @@ impl<N: Namer> Trees<N> {
         ensures keeps { Keeps self.old self.new }
         ensures none { IfOk result (λ o. IfNone o (held (components source.now) (map_of self.old tree) ≡ [])) }
         ensures left { IfOk result (λ o. IfNone o (StandsFor self.new tree (map_of self.old tree))) }
+        ensures still { IfOk result (λ o. IfNone o (IsStill self.old self.new)) }
         ensures some { IfOk result (λ o. IfSome o (λ t. held (components source.now) (map_of self.old tree) ≢ [])) }
         ensures map { IfOk result (λ o. IfSome o (λ t. StandsFor self.new t
             (rename (components source.now) (components target.now) (map_of self.old tree)))) }
@@ -253,6 +250,7 @@ impl<N: Namer> Trees<N> {
         ensures keeps { Keeps self.old self.new }
         ensures none { IfOk result (λ o. IfNone o (held (components source.now) (map_of self.old tree) ≡ [])) }
         ensures left { IfOk result (λ o. IfNone o (StandsFor self.new tree (map_of self.old tree))) }
+        ensures still { IfOk result (λ o. IfNone o (IsStill self.old self.new)) }
         ensures some { IfOk result (λ o. IfSome o (λ t. held (components source.now) (map_of self.old tree) ≢ [])) }
         ensures map { IfOk result (λ o. IfSome o (λ t. StandsFor self.new t
             (transferred way (components source.now) (components target.now) (map_of self.old tree)))) }

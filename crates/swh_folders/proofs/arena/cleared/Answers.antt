@@ -14,13 +14,13 @@ use Rattle.swh_folders.proofs.arena.cleared.Goals as goal
 pub kept-requires-clause-names : goal.kept-requires-clause-names
 kept-requires-clause-names c =
     let lt : c.in-Folder.i < length c.args.nodes.now = search rules in
-    subst (λ (es : List Entry). All (λ (e : Entry). e.name < length c.args.names.now) es) (sym c.in_ok-copy-in-Folder.ensures)
+    subst (λ (es : List Entry). All (λ (e : Entry). e.name < length c.args.names.now) es) (sym c.in_ok-copy-in-Folder.ensures.items)
     (names-in_range (length c.args.names.now) (length c.args.nodes.now) c.index-nodes-i.result.items (entries-good c.args.names.now c.args.nodes.now c.in-Folder.i c.index-nodes-i.result c.requires.good.arena lt c.index-nodes-i.is))
 
 pub kept-requires-clause-ordered : goal.kept-requires-clause-ordered
 kept-requires-clause-ordered c =
     let lt : c.in-Folder.i < length c.args.nodes.now = search rules in
-    subst (λ (es : List Entry). AreOrdered (texts c.args.names.now) es) (sym c.in_ok-copy-in-Folder.ensures)
+    subst (λ (es : List Entry). AreOrdered (texts c.args.names.now) es) (sym c.in_ok-copy-in-Folder.ensures.items)
     (node-ordered c.args.names.now c.args.nodes.now c.in-Folder.i c.index-nodes-i.result c.requires.good lt c.index-nodes-i.is)
 
 pub returns-in_ok-copy-in-Folder-clause-good : goal.returns-in_ok-copy-in-Folder-clause-good
@@ -30,7 +30,7 @@ returns-in_ok-copy-in-Folder-clause-good c =
     let own = c.index-nodes-i.result in
     let at = tree_at names nodes in
     let lt : c.in-Folder.i < length c.args.nodes.now = search rules in
-    let same = sym c.in_ok-copy-in-Folder.ensures in
+    let same = sym c.in_ok-copy-in-Folder.ensures.items in
     let sound = subst (λ (es : List Entry). IsSound (forest_of (texts names) at es)) same (node-sound names nodes c.in-Folder.i own c.requires.good lt c.index-nodes-i.is) in
     let good = subst (λ (es : List Entry). AreGood (length names) (length nodes) es) same (entries-good names nodes c.in-Folder.i own c.requires.good.arena lt c.index-nodes-i.is) in
     if_ok c.kept.result (λ p e. subst (λ (es : List Entry). AreGood (length names) (length nodes) es) (sym e) (without-good (texts names) c.args.name.now (length names) (length nodes) c.in_ok-copy-in-Folder.copy.items good)) (c.kept.ensures at sound)
@@ -42,7 +42,7 @@ returns-in_ok-copy-in-Folder-clause-forest c =
     let own = c.index-nodes-i.result in
     let at = tree_at names nodes in
     let lt : c.in-Folder.i < length c.args.nodes.now = search rules in
-    let same = sym c.in_ok-copy-in-Folder.ensures in
+    let same = sym c.in_ok-copy-in-Folder.ensures.items in
     let sound = subst (λ (es : List Entry). IsSound (forest_of (texts names) at es)) same (node-sound names nodes c.in-Folder.i own c.requires.good lt c.index-nodes-i.is) in
     let tree = tree-node names nodes c.in-Folder.i own c.requires.good.arena lt c.index-nodes-i.is in
-    rw (c.in-Some.is, c.in-Folder.is) (if_ok c.kept.result (λ p e. ap (forest_of (texts names) at) e ∙ forest-without (texts names) c.args.name.now at c.in_ok-copy-in-Folder.copy.items ∙ ap (λ (es : List Entry). without c.args.name.now (forest_of (texts names) at es)) c.in_ok-copy-in-Folder.ensures ∙ ap (without c.args.name.now) (sym tree)) (c.kept.ensures at sound))
+    rw (c.in-Some.is, c.in-Folder.is) (if_ok c.kept.result (λ p e. ap (forest_of (texts names) at) e ∙ forest-without (texts names) c.args.name.now at c.in_ok-copy-in-Folder.copy.items ∙ ap (λ (es : List Entry). without c.args.name.now (forest_of (texts names) at es)) c.in_ok-copy-in-Folder.ensures.items ∙ ap (without c.args.name.now) (sym tree)) (c.kept.ensures at sound))

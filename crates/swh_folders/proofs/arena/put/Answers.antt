@@ -1,4 +1,5 @@
 use Rattle.std.proofs.Common.{ap, sym, subst, ◌∙◌, length, arith}
+use Rattle.std.proofs.lemmas.List.{take_all}
 use Rattle.swh_folders.specs.Forest.{put, folder, forest}
 use Rattle.swh_folders.specs.Sound.{IsSound, IsSoundHere}
 use Rattle.swh_folders.specs.Arena.{stands_of, tree_at}
@@ -19,6 +20,7 @@ returns-in_err-out-clause-grows c = record {
   names_more = c.add_some.ensures.names;
   longer = omega arith;
   trees = λ i lt. tree-names c.args.names.now.items c.add_some.new.names.items c.args.nodes.now.items c.requires.good.arena c.add_some.ensures.names i;
+  lists = take_all (length c.args.nodes.now.items) c.args.nodes.now.items (omega arith);
 }
 
 pub add_some-requires-clause-others : goal.add_some-requires-clause-others
@@ -56,6 +58,7 @@ returns-clause-grows c =
       names_more = c.add_some.ensures.names;
       longer = g.longer;
       trees = λ i lt. g.trees i lt ∙ tree-names c.args.names.now.items c.add_some.new.names.items c.args.nodes.now.items c.requires.good.arena c.add_some.ensures.names i;
+      lists = g.lists;
     }
 
 pub returns-clause-put : goal.returns-clause-put

@@ -1,5 +1,5 @@
-use Rattle.std.proofs.Common.{rules, ◌≡◌, ◌<◌, sym, ap, ◌∙◌, length, arith}
-use Rattle.std.proofs.lemmas.List.{length-append}
+use Rattle.std.proofs.Common.{rules, ◌≡◌, ◌<◌, sym, ap, refl, ◌∙◌, length, arith}
+use Rattle.std.proofs.lemmas.List.{length-append, take_at}
 use Rattle.swh_folders.specs.Forest.{IsFolder}
 use Rattle.swh_folders.specs.Arena.{tree_at}
 use Rattle.swh_entries.specs.Keys.{texts}
@@ -16,6 +16,7 @@ returns-clause-grows c = λ names. rw c.in_ok-push.ensures.items (record {
   names_more = extends-none names;
   longer = simp length-append (omega arith);
   trees = λ i lt. tree-push_old names c.args.nodes.now.items c.args.out i lt;
+  lists = take_at c.args.nodes.now.items _ (length c.args.nodes.now.items) refl;
 })
 
 pub returns-clause-folder : goal.returns-clause-folder

@@ -1,5 +1,5 @@
 use Rattle.std.proofs.Common.{◌≡◌, ◌+◌, ◌-◌, ◌<◌, ◌≤◌, ◌++◌, List, length, take, get_or, true, ap, ◌∙◌, arith}
-use Rattle.std.proofs.lemmas.List.{length-append, length-take, get_or_default}
+use Rattle.std.proofs.lemmas.List.{length-append, length-take, length-take-le, drop_all, drop_at, get_or_default}
 use Rattle.swh_entries.specs.Listed.{Listed}
 use Rattle.swh_folders.specs.Forest.{IsFolder}
 use Rattle.swh_folders.specs.Arena.{tree_at}
@@ -79,3 +79,15 @@ returns-clause-parts c = λ names g m le lt.
     let all : c.append.new.self.items ≡ take c.args.base c.args.nodes.now.items ++ c.in_ok-fresh.fresh.items = c.in_ok-append.ensures.items ∙ ap (λ (o : List Listed). o ++ c.in_ok-fresh.fresh.items) c.truncate-2.ensures.items in
     let size : length c.append.new.self.items ≡ c.args.base + length c.in_ok-fresh.fresh.items = rw all (simp (length-append, length-take) (omega arith)) in
     rw all (done.parts m le (omega arith))
+
+pub returns-then-root-base-clause-whole : goal.returns-then-root-base-clause-whole
+returns-then-root-base-clause-whole c =
+    let long = length-take-le c.args.base c.args.nodes.now.items c.requires.base in
+    rw (c.truncate.ensures.items, drop_all c.args.base (take c.args.base c.args.nodes.now.items) (omega arith)) (λ k d lt. absurd (omega arith))
+
+pub returns-clause-whole : goal.returns-clause-whole
+returns-clause-whole c =
+    let low = take c.args.base c.args.nodes.now.items in
+    let long = length-take-le c.args.base c.args.nodes.now.items c.requires.base in
+    let all : c.append.new.self.items ≡ take c.args.base c.args.nodes.now.items ++ c.in_ok-fresh.fresh.items = c.in_ok-append.ensures.items ∙ ap (λ (o : List Listed). o ++ c.in_ok-fresh.fresh.items) c.truncate-2.ensures.items in
+    rw (all, drop_at low c.in_ok-fresh.fresh.items c.args.base long) c.in_ok-fresh.ensures.whole

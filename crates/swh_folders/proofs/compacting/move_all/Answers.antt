@@ -8,6 +8,7 @@ pub loop-wanted-init : goal.loop-wanted-init
 loop-wanted-init c = record {
   next = rw c.new-moved.ensures.items (omega arith);
   room = rw c.new-fresh.ensures.items (omega arith);
+  whole = rw c.new-fresh.ensures.items (λ k d lt. absurd (omega arith));
   copied = λ names x arena closed parts. rw (c.new-fresh.ensures.items, c.new-moved.ensures.items) (copied-none names c.args.nodes.now c.args.base c.args.live.now x arena (omega arith));
 }
 
@@ -21,6 +22,7 @@ loop-wanted-preserved c =
     record {
       next = omega arith;
       room = omega arith;
+      whole = c.in_ok-move_one.ensures.whole inv.whole;
       copied = λ names x arena closed parts.
           let place : c.args.base + length c.loop-wanted.moved.items - c.args.base ≡ c.loop-wanted.wanted-index = omega arith in
           let is : is_live c.args.base c.args.live.now (c.args.base + length c.loop-wanted.moved.items) ≡ _ = rw place (get_or_default c.args.live.now c.loop-wanted.wanted-index false _ (omega arith)) in

@@ -1,4 +1,5 @@
 use Rattle.std.proofs.Common.{rules, ◌≡◌, ◌+◌, ◌≤◌, ◌++◌, ℕ, length, take, get_or, true, sym, ap, subst, ◌∙◌, arith}
+use Rattle.std.proofs.lemmas.List.Elements.{All-push}
 use Rattle.swh_entries.specs.Listed.{Listed}
 use Rattle.swh_folders.specs.Arena.{tree_at, forest_of, AreGood}
 use Rattle.swh_entries.specs.Keys.{texts}
@@ -30,7 +31,7 @@ returns-clause-copied c = λ names live x arena is closed part copied.
     let v-same = c.in_ok-entries.ensures.same (texts names) at at' bound live mv marked' in
     let tree : forest_of (texts names) at' c.in_ok-entries.entries.items ≡ tree_at names nodes (base + length moved) =
     v-same ∙ ap (forest_of (texts names) at) (c.as_slice.ensures.value ∙ c.in_ok-old.ensures) ∙ sym (tree-node names nodes (base + length moved) own arena within own_is) in
-    let same : c.in_ok-packed.packed.items ≡ c.in_ok-entries.entries.items = c.in_ok-packed.ensures ∙ c.as_slice-4.ensures.value in
+    let same : c.in_ok-packed.packed.items ≡ c.in_ok-entries.entries.items = c.in_ok-packed.ensures.items ∙ c.as_slice-4.ensures.value in
     let p-good : AreGood (length names) bound c.in_ok-packed.packed.items = rw same v-good in
     let p-tree : forest_of (texts names) at' c.in_ok-packed.packed.items ≡ tree_at names nodes (base + length moved) = rw same tree in
     let bounded : c.args.base ≤ length c.args.nodes.now = omega arith in
@@ -61,3 +62,6 @@ returns-in-Some-clause-copied c = λ names live x arena is closed part copied.
     let there = λ (w : Listed). c.in-Some.ensures.same w ∙ c.as_slice-3.ensures.value in
     let same = known-tree names nodes fresh base c.in-Some.place c.in_ok-entries.entries.items (tree_at names nodes (base + length moved)) arena bounded c.in-Some.ensures.below copied.moves.low there tree in
     rw c.in_ok-push-2.ensures.items (copied-known names nodes base live x fresh moved c.in-Some.place c.in-Some.ensures.below same copied)
+
+pub returns-clause-whole : goal.returns-clause-whole
+returns-clause-whole c = λ all. rw c.in_ok-push-3.ensures.items (All-push (λ (l : Listed). l.cost ≡ length l.items) c.args.fresh.now.items c.in_ok-packed.packed all (c.in_ok-packed.ensures.cost ∙ ap length (sym c.in_ok-packed.ensures.items)))

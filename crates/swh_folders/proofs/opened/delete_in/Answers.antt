@@ -1,28 +1,41 @@
 use Rattle.std.proofs.Common.{ℕ, List, subst, inr}
 use Rattle.std.specs.List.{AllByRecursion}
 use Rattle.swh_base.specs.Directory.{IsEntryName}
-use Rattle.swh_folders.specs.Opened.{lent_path}
+use Rattle.swh_folders.specs.Opened.{lent_path, start_map}
 use Rattle.swh_folders.proofs.Arenas.{if_ok}
 use Rattle.swh_folders.proofs.Changes.{last-name}
 use Rattle.swh_folders.proofs.Closings.{stays-self, stays-names, bounded-names}
 use Rattle.swh_folders.proofs.Components.{path-names}
+use Rattle.swh_folders.proofs.Tallies.{tallied-same}
 use Rattle.swh_folders.proofs.opened.delete_in.Goals as goal
 
 pub deleted_here-requires-clause-name : goal.deleted_here-requires-clause-name
 deleted_here-requires-clause-name c = last-name (lent_path c.split_path.result.0) c.split_path.result.1.now (subst (λ (p : List (List ℕ)). AllByRecursion IsEntryName p) c.split_path.ensures (path-names c.args.path.now c.requires.path))
 
 pub returns-in_err-deleted_here-in-In-clause-stays : goal.returns-in_err-deleted_here-in-In-clause-stays
-returns-in_err-deleted_here-in-In-clause-stays c = stays-names c.args.base c.args.folders.now c.args.folders.now c.deleted_here.new.folders (stays-self c.args.base c.args.folders.now c.requires.base c.requires.good) c.deleted_here.ensures.names c.deleted_here.ensures.nodes
+returns-in_err-deleted_here-in-In-clause-stays c = stays-names c.args.base c.args.folders.now c.args.folders.now c.deleted_here.new.folders (stays-self c.args.base c.args.folders.now c.requires.tallied c.requires.good) c.deleted_here.ensures.names c.deleted_here.ensures.nodes
 
 pub returns-then-same-clause-stays : goal.returns-then-same-clause-stays
-returns-then-same-clause-stays c = stays-names c.args.base c.args.folders.now c.args.folders.now c.deleted_here.new.folders (stays-self c.args.base c.args.folders.now c.requires.base c.requires.good) c.deleted_here.ensures.names c.deleted_here.ensures.nodes
+returns-then-same-clause-stays c = stays-names c.args.base c.args.folders.now c.args.folders.now c.deleted_here.new.folders (stays-self c.args.base c.args.folders.now c.requires.tallied c.requires.good) c.deleted_here.ensures.names c.deleted_here.ensures.nodes
 
 pub returns-in_ok-root-in-In-clause-stays : goal.returns-in_ok-root-in-In-clause-stays
 returns-in_ok-root-in-In-clause-stays c = stays-names c.args.base c.args.folders.now c.closed.new.folders c.deleted_there.new.folders c.closed.ensures.stays c.deleted_there.ensures.names c.deleted_there.ensures.nodes
 
 pub returns-in_ok-root-in-In-clause-bounded : goal.returns-in_ok-root-in-In-clause-bounded
 returns-in_ok-root-in-In-clause-bounded c = if_ok c.deleted_there.result (λ s is. rw is
-    (bounded-names c.args.base c.args.folders.now c.closed.new.folders c.deleted_there.new.folders c.in_ok-root-in-In.root c.closed.ensures.stays.good c.deleted_there.ensures.names c.deleted_there.ensures.nodes c.deleted_there.ensures.most (inr c.in_ok-root-in-In.ensures.bounded))) c.deleted_there.ensures.root
+    (bounded-names c.args.base c.args.folders.now c.closed.new.folders c.deleted_there.new.folders c.in_ok-root-in-In.root (start_map c.args.folders.now c.args.start) c.closed.ensures.stays.good c.deleted_there.ensures.names c.deleted_there.ensures.nodes c.deleted_there.ensures.counts (inr (c.in_ok-root-in-In.ensures.bounded, rw c.in-In.is c.in_ok-root-in-In.ensures.map)))) c.deleted_there.ensures.root
 
 pub returns-in-At-clause-stays : goal.returns-in-At-clause-stays
-returns-in-At-clause-stays c = stays-names c.args.base c.args.folders.now c.args.folders.now c.deleted_there-in-At.new.folders (stays-self c.args.base c.args.folders.now c.requires.base c.requires.good) c.deleted_there-in-At.ensures.names c.deleted_there-in-At.ensures.nodes
+returns-in-At-clause-stays c = stays-names c.args.base c.args.folders.now c.args.folders.now c.deleted_there-in-At.new.folders (stays-self c.args.base c.args.folders.now c.requires.tallied c.requires.good) c.deleted_there-in-At.ensures.names c.deleted_there-in-At.ensures.nodes
+
+pub returns-in_err-deleted_here-in-In-clause-tallied : goal.returns-in_err-deleted_here-in-In-clause-tallied
+returns-in_err-deleted_here-in-In-clause-tallied c = tallied-same c.args.base c.args.folders.now c.deleted_here.new.folders c.requires.tallied c.deleted_here.ensures.nodes c.deleted_here.ensures.counts.counted c.deleted_here.ensures.counts.entries
+
+pub returns-then-same-clause-tallied : goal.returns-then-same-clause-tallied
+returns-then-same-clause-tallied c = tallied-same c.args.base c.args.folders.now c.deleted_here.new.folders c.requires.tallied c.deleted_here.ensures.nodes c.deleted_here.ensures.counts.counted c.deleted_here.ensures.counts.entries
+
+pub returns-in_ok-root-in-In-clause-tallied : goal.returns-in_ok-root-in-In-clause-tallied
+returns-in_ok-root-in-In-clause-tallied c = tallied-same c.args.base c.closed.new.folders c.deleted_there.new.folders c.closed.ensures.tallied c.deleted_there.ensures.nodes c.deleted_there.ensures.counts.counted c.deleted_there.ensures.counts.entries
+
+pub returns-in-At-clause-tallied : goal.returns-in-At-clause-tallied
+returns-in-At-clause-tallied c = tallied-same c.args.base c.args.folders.now c.deleted_there-in-At.new.folders c.requires.tallied c.deleted_there-in-At.ensures.nodes c.deleted_there-in-At.ensures.counts.counted c.deleted_there-in-At.ensures.counts.entries

@@ -7,6 +7,7 @@ use Rattle.swh_folders.proofs.Arenas.{if_ok, if_ok3}
 use Rattle.swh_folders.proofs.Changes.{front-names, last-name, set-in}
 use Rattle.swh_folders.proofs.Closings.{stays-names, bounded-names}
 use Rattle.swh_folders.proofs.Components.{path-names}
+use Rattle.swh_folders.proofs.Tallies.{tallied-same}
 use Rattle.swh_folders.proofs.opened.set_in.Goals as goal
 
 pub opened_at-requires-clause-folder : goal.opened_at-requires-clause-folder
@@ -19,8 +20,8 @@ pub returns-clause-stays : goal.returns-clause-stays
 returns-clause-stays c = stays-names c.args.base c.args.folders.now c.opened_at.new.folders c.edited.new.folders c.opened_at.ensures.stays c.edited.ensures.names c.edited.ensures.nodes
 
 pub returns-clause-bounded : goal.returns-clause-bounded
-returns-clause-bounded c = if_ok c.edited.result (λ o is. subst (λ (r : Option ℕ). StaysBounded c.args.base c.args.folders.now c.edited.new.folders r) (sym is)
-    (bounded-names c.args.base c.args.folders.now c.opened_at.new.folders c.edited.new.folders c.in_ok-opened.opened.root c.opened_at.ensures.stays.good c.edited.ensures.names c.edited.ensures.nodes c.edited.ensures.most c.in_ok-opened.ensures.bounded)) c.edited.ensures.root
+returns-clause-bounded c = if_ok c.edited.result (λ o is. subst (λ (r : Option ℕ). StaysBounded c.args.base c.args.folders.now c.edited.new.folders r (start_map c.args.folders.now c.args.start)) (sym is)
+    (bounded-names c.args.base c.args.folders.now c.opened_at.new.folders c.edited.new.folders c.in_ok-opened.opened.root (start_map c.args.folders.now c.args.start) c.opened_at.ensures.stays.good c.edited.ensures.names c.edited.ensures.nodes c.edited.ensures.counts c.in_ok-opened.ensures.bounded)) c.edited.ensures.root
 
 pub returns-clause-map : goal.returns-clause-map
 returns-clause-map c =
@@ -29,3 +30,6 @@ returns-clause-map c =
     let is : components c.args.path.now ≡ folder_path c.in_ok-opened.opened.path ++ name ∷ [] = c.split_path.ensures ∙ ap (λ (p : List (List ℕ)). p ++ name ∷ []) (sym c.in_ok-opened.ensures.path) in
     if_ok3 c.edited.result (λ o root path own. set-in c.opened_at.new.folders c.edited.new.folders c.in_ok-opened.opened o m (components c.args.path.now) name c.args.leaf c.opened_at.ensures.stays.good c.edited.ensures.names c.edited.ensures.nodes c.in_ok-opened.ensures.stands is (path-names c.args.path.now c.requires.path) c.requires.leaf root path own)
     c.edited.ensures.root c.edited.ensures.path c.edited.ensures.own
+
+pub returns-clause-tallied : goal.returns-clause-tallied
+returns-clause-tallied c = tallied-same c.args.base c.opened_at.new.folders c.edited.new.folders c.opened_at.ensures.tallied c.edited.ensures.nodes c.edited.ensures.counts.counted c.edited.ensures.counts.entries

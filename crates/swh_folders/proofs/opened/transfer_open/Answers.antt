@@ -1,6 +1,7 @@
 use Rattle.std.proofs.Common.{rules, ◌≡◌, ℕ, length, take, refl, ap, ◌∙◌}
 use Rattle.swh_folders.specs.Forest.{flat}
 use Rattle.swh_folders.proofs.Changes.{IsAgain, open-again, opened-again, stays-again}
+use Rattle.swh_folders.proofs.Tallies.{tallied-same}
 use Rattle.swh_folders.proofs.opened.transfer_open.Goals as goal
 
 pub returns-in_default-clause-stays : goal.returns-in_default-clause-stays
@@ -10,7 +11,7 @@ returns-in_default-clause-stays c =
     let nodes = c.transfer_sealed.new.nodes.items in
     let n : c.len-count.result ≡ length old.nodes.items = search rules in
     let grows = c.transfer_sealed.ensures.grows in
-    stays-again c.args.base old _ names nodes c.requires.base c.transfer_sealed.ensures.good grows refl (c.truncate.ensures.items ∙ ap (λ (k : ℕ). take k nodes) n)
+    stays-again c.args.base old _ names nodes c.requires.tallied c.transfer_sealed.ensures.good grows refl (c.truncate.ensures.items ∙ ap (λ (k : ℕ). take k nodes) n)
 
 pub returns-in_default-clause-left : goal.returns-in_default-clause-left
 returns-in_default-clause-left c =
@@ -31,3 +32,15 @@ returns-in_default-clause-same c =
     let grows = c.transfer_sealed.ensures.grows in
     let again : IsAgain c.args.opened c.in_ok-again.again = record { root = c.in_ok-again.ensures.root; path = c.in_ok-again.ensures.path; node = c.in_ok-again.ensures.node } in
     rw (c.truncate.ensures.items, n) (ap flat (open-again old.names.items names old.nodes.items nodes c.args.opened c.in_ok-again.again c.requires.opened grows again))
+
+pub returns-in_default-clause-lists : goal.returns-in_default-clause-lists
+returns-in_default-clause-lists c =
+    let nodes = c.transfer_sealed.new.nodes.items in
+    let n : c.len-count.result ≡ length c.args.folders.now.nodes.items = search rules in
+    c.truncate.ensures.items ∙ ap (λ (k : ℕ). take k nodes) n ∙ c.transfer_sealed.ensures.grows.lists
+
+pub returns-in_default-clause-tallied : goal.returns-in_default-clause-tallied
+returns-in_default-clause-tallied c =
+    let nodes = c.transfer_sealed.new.nodes.items in
+    let n : c.len-count.result ≡ length c.args.folders.now.nodes.items = search rules in
+    tallied-same c.args.base c.args.folders.now _ c.requires.tallied (c.truncate.ensures.items ∙ ap (λ (k : ℕ). take k nodes) n ∙ c.transfer_sealed.ensures.grows.lists) refl refl

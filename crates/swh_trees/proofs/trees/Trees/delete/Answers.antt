@@ -36,6 +36,10 @@ returns-clause-map g c =
 
 pub returns-clause-bounded : goal.returns-clause-bounded
 returns-clause-bounded g c =
+    let a = c.self.inside.folders in
+    let b = c.delete_in.new.folders in
     let ids = c.self.inside.ids.items in
-    let base : c.len-base.result ≡ length c.self.inside.ids.items = search rules in
-    stays-seen _ c.self.inside.folders c.delete_in.new.folders c.self.inside.opened _ ids c.len-base.result (root_of_start c.in_ok-left.left) c.self.view_is base c.delete_in.ensures.stays.good (start-root c.delete_in.new.folders c.in_ok-left.left c.in_ok-left.ensures.start) c.in_ok-left.ensures.bounded
+    let base : c.len-base.result ≡ length ids = search rules in
+    let n : c.len.result ≡ count_of a = search rules in
+    let start = start-of _ a c.self.inside.opened c.take.result ids c.args.tree c.len.result c.start_with-start.result c.self.view_is c.self.invariant.opens c.requires.tree n c.take.ensures.value c.start_with-start.ensures in
+    stays-seen _ a b c.self.inside.opened _ ids c.len-base.result (root_of_start c.in_ok-left.left) _ _ c.self.view_is base c.delete_in.ensures.stays.good (start-root b c.in_ok-left.left c.in_ok-left.ensures.start) c.in_ok-left.ensures.bounded start.1

@@ -94,4 +94,4 @@ returns-clause-makes g c =
     (subst (λ (m : PathMap). Makes g.N.Namer.id_of (grove a c.self.inside.opened ids) (grove d None ids') m c.kept-empty.result.0 c.index-id.result.now c.in_ok-number.objects.items) before from))
 
 pub returns-clause-bounded : goal.returns-clause-bounded
-returns-clause-bounded g c = rw c.take.ensures.after (emptied c.make_folders.new.folders c.make_folders.new.ids.items c.in_ok-number.ensures.all c.in_ok-number.ensures.most)
+returns-clause-bounded g c = rw c.take.ensures.after (emptied c.make_folders.new.folders c.make_folders.new.ids.items c.in_ok-number.ensures.all c.in_ok-number.ensures.most c.in_ok-number.ensures.room)

@@ -3,7 +3,7 @@ use Rattle.swh_fastlex.specs.Path.{components}
 use Rattle.swh_folders.specs.PathMap.{PathMap, held}
 use Rattle.swh_folders.specs.Transfer.{transferred}
 use Rattle.swh_folders.specs.Working.{count_of}
-use Rattle.swh_trees.proofs.Bounds.{bounded-seen}
+use Rattle.swh_trees.proofs.Bounds.{bounded-seen, still-seen}
 use Rattle.swh_trees.proofs.Parts.{keeps-seen, number-start, stands-for, stands-start, start-of}
 use Rattle.swh_trees.proofs.trees.Trees.transfer.Goals as goal
 
@@ -63,6 +63,12 @@ returns-in-Err-clause-left g c =
 
 pub returns-in-Ok-clause-bounded : goal.returns-in-Ok-clause-bounded
 returns-in-Ok-clause-bounded g c =
+    let a = c.self.inside.folders in
+    let b = c.transfer_from.new.folders in
     let ids = c.self.inside.ids.items in
-    let base : c.len-base.result ≡ length c.self.inside.ids.items = search rules in
-    rw c.take.ensures.after (bounded-seen _ c.self.inside.folders c.transfer_from.new.folders c.self.inside.opened ids c.len-base.result (record { number = c.in-Ok.number }) c.self.view_is base c.transfer_from.ensures.stays.good (rw c.in-Ok.is at c.in_ok-moved.ensures.inside) (rw c.in-Ok.is at c.in_ok-moved.ensures.bounded))
+    let base : c.len-base.result ≡ length ids = search rules in
+    rw c.take.ensures.after (bounded-seen _ a b c.self.inside.opened ids c.len-base.result (record { number = c.in-Ok.number }) c.self.view_is base c.transfer_from.ensures.stays.good (rw c.in-Ok.is at c.in_ok-moved.ensures.inside) (rw c.in-Ok.is at c.in_ok-moved.ensures.bounded))
+
+pub returns-in-Err-clause-still : goal.returns-in-Err-clause-still
+returns-in-Err-clause-still g c =
+    still-seen _ c.self.inside.folders c.transfer_from.new.folders c.self.inside.opened _ c.self.inside.ids.items c.self.view_is (rw c.in-Err.is at c.in_ok-moved.ensures.lists) (rw c.in-Err.is at c.in_ok-moved.ensures.counts)
