@@ -5,11 +5,12 @@ use Rattle.swh_model.specs.Archive.{Bodies}
 use Rattle.swh_revfmt.specs.Plain.{PlainRevision}
 use Rattle.swh_graph.specs.Path.{directory_name}
 use Rattle.swh_pathwalk.specs.Tree.{Row}
-use Rattle.swh_fasttext.specs.Text.{mark_line, data_line, blob_head, blob_text}
+use Rattle.swh_fasttext.specs.Text.{mark_line, data_line, blob_head, blob_text, commit_head}
 use Rattle.swh_written.specs.Held.{AddsUp, Kept, kept, Goes}
 use Rattle.swh_written.proofs.Pieces.{goes_both, front_behind, front_more, front_none}
 use Rattle.swh_fastcook.specs.Files.{AreFilesOf, IsCommitOf}
-use Rattle.swh_fastcook.specs.Stream.{files_text, commit_front}
+use Rattle.swh_fastcook.specs.Marks.{mark_of}
+use Rattle.swh_fastcook.specs.Stream.{beginning, parents_text, files_text, commit_front}
 use Rattle.swh_fastcook.proofs.OneText.{one_walk}
 use Rattle.swh_fastcook.proofs.Texts.{pushed}
 
@@ -23,6 +24,52 @@ pub front_is : (begin head line message behind : List ℕ) → (begin ++ (head +
 front_is begin head line message behind =
     append_assoc begin (head ++ line) (message ++ behind)
     ∙ ap (λ (l : List ℕ). begin ++ l) (append_assoc head line (message ++ behind) ∙ ap (λ (l : List ℕ). head ++ l) (sym (append_assoc line message behind)))
+
+-- ---- a commit up to the lines of its files
+
+module _ {T : Type 0} (takes front : T → List ℕ → T → Type 0) (sums : AddsUp takes front) (order : List Name) (name : Name) (plain : PlainRevision) (old : Kept T) (lines : List ℕ) where
+  abbrev begin : List ℕ
+  begin = beginning plain.parents
+
+  abbrev head : List ℕ
+  head = commit_head (mark_of order name) plain.rest.author plain.rest.committer plain.rest.encoding
+
+  abbrev line : List ℕ
+  line = data_line (length plain.rest.message)
+
+  abbrev message : List ℕ
+  message = plain.rest.message ++ 10 ∷ []
+
+  abbrev behind : List ℕ
+  behind = parents_text order plain.parents ++ codes "deleteall\n"
+
+  module _ (first : lines ≡ old.held ++ (begin ++ (head ++ line))) where
+    lines_pushed : Goes takes front old (begin ++ (head ++ line)) (kept old.taker lines)
+    lines_pushed = pushed takes front sums old.taker old.held (begin ++ (head ++ line)) lines first
+
+    whole : (new : T) → front old.taker (old.held ++ ((begin ++ (head ++ line)) ++ (message ++ behind))) new → front old.taker (old.held ++ commit_front order name plain) new
+    whole new f = subst (λ (t : List ℕ). front old.taker (old.held ++ t) new) (front_is begin head line message behind) f
+
+    pub message_broke : (new : T) → front old.taker (lines ++ message) new → front old.taker (old.held ++ commit_front order name plain) new
+    message_broke new f =
+        whole new
+        (front_behind takes front sums old (kept old.taker lines) new (begin ++ (head ++ line)) (message ++ behind) lines_pushed
+        (front_more takes front sums (kept old.taker lines) new message behind f))
+
+    module _ (now : Kept T) (second : Goes takes front (kept old.taker lines) message now) where
+      pub parents_broke : front old.taker (old.held ++ commit_front order name plain) now.taker
+      parents_broke =
+          whole now.taker
+          (front_behind takes front sums old (kept old.taker lines) now.taker (begin ++ (head ++ line)) (message ++ behind) lines_pushed
+          (front_behind takes front sums (kept old.taker lines) now now.taker message behind second (front_none takes front sums now behind)))
+
+      pub front_done : (more : List ℕ) → more ≡ now.held ++ behind → Goes takes front old (commit_front order name plain) (kept now.taker more)
+      front_done more third =
+          subst (λ (t : List ℕ). Goes takes front old t (kept now.taker more)) (front_is begin head line message behind)
+          (goes_both takes front sums old (kept old.taker lines) (kept now.taker more) (begin ++ (head ++ line)) (message ++ behind) lines_pushed
+          (goes_both takes front sums (kept old.taker lines) now (kept now.taker more) message behind second (pushed takes front sums now.taker now.held behind more third)))
+
+-- ---- a whole commit
 
 module _ {T : Type 0} (takes front : T → List ℕ → T → Type 0) (sums : AddsUp takes front) (bodies : Bodies) (order : List Name) (name : Name) (plain : PlainRevision) where
   abbrev first : List ℕ

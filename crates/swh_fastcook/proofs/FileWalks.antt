@@ -1,11 +1,10 @@
 -- The walk over the files of a tree: all that it leads to is in the order, and held.
-use Rattle.std.proofs.Common.{◌≡◌, ◌⊎◌, inl, inr, ℕ, ◌+◌, ◌<◌, ◌==◌, Bool, true, false, cond, Option, Some, None, List, [], ◌∷◌, ◌++◌, length, refl, sym, ap, ◌∙◌, subst, arith, append_assoc}
+use Rattle.std.proofs.Common.{◌≡◌, ◌⊎◌, inl, inr, ℕ, ◌<◌, ◌==◌, Bool, true, false, cond, Option, Some, None, List, [], ◌∷◌, ◌++◌, length, refl, sym, ap, ◌∙◌, subst}
 use Rattle.std.specs.Prelude.{Contains}
 use Rattle.std.specs.List.{filter_map, cons_option}
 use Rattle.std.proofs.lemmas.Bool.{eqb-true}
-use Rattle.std.proofs.lemmas.List.Elements.{Contains-append_left, Contains-append_right, Contains-append_cases}
+use Rattle.std.proofs.lemmas.List.Elements.{Contains-append_left}
 use Rattle.swh_base.specs.declared.name.Name.{Name}
-use Rattle.swh_base.specs.declared.kind.Kind.TheVariants.{Content}
 use Rattle.swh_base.specs.Directory.{DirectoryEntry, child_of}
 use Rattle.swh_base.specs.Reach.{IsChildIn}
 use Rattle.swh_dirfmt.specs.declared.entry.SpelledEntry.{SpelledEntry}
@@ -16,7 +15,7 @@ use Rattle.swh_graph.specs.Path.{directory_name}
 use Rattle.swh_postorder.specs.Cycle.{IsSomePostorder, ArePreceded}
 use Rattle.swh_postorder.proofs.Preceded.{held_in, cut_at}
 use Rattle.swh_postorder.proofs.Trips.{none_in, first_in, later_in, in_cases}
-use Rattle.swh_pathwalk.specs.Walk.{Coming, Standing, with_entries, BeginsAt, ComesInside, GivesNext, MissesNext, Steps}
+use Rattle.swh_pathwalk.specs.Walk.{Coming, Standing, with_entries, BeginsAt, ComesInside, MissesNext, Steps}
 use Rattle.swh_pathwalk.specs.Weight.{coming_weight, LeadInto}
 use Rattle.swh_pathwalk.proofs.Weights.{kids_are, lead_at_first, lighter}
 use Rattle.swh_fastcook.specs.Files.{IsFileIn, FilesLeadInto, Leads}

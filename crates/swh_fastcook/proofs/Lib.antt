@@ -1,6 +1,10 @@
 pub mod CommitTexts
+pub mod EndTexts
 pub mod FileWalks
+pub mod Kids
 pub mod Lines
 pub mod Marked
+pub mod ObjectTexts
 pub mod OneText
+pub mod StreamTexts
 pub mod Texts

@@ -1,17 +1,28 @@
 -- Lines that stand for the elements of a list, one after another.
-use Rattle.std.proofs.Common.{◌≡◌, ℕ, ◌+◌, ◌<◌, List, [], ◌∷◌, ◌++◌, length, take, drop, get_or, refl, sym, ap, ◌∙◌, subst, append_assoc, add-one, drop-cons}
+use Rattle.std.proofs.Common.{◌≡◌, inl, inr, ℕ, ◌+◌, ◌<◌, List, [], ◌∷◌, ◌++◌, length, take, drop, get_or, refl, sym, ap, ◌∙◌, subst, append_assoc, add-one, drop-cons}
+use Rattle.std.specs.Prelude.{Contains}
 use Rattle.std.specs.List.{flat_map}
 use Rattle.std.proofs.lemmas.List.{append-nil, take-append-drop, take_more}
+use Rattle.std.proofs.lemmas.List.Elements.{Contains-append_cases}
 use Rattle.std.proofs.lemmas.Grind.{flat_map-append}
 use Rattle.std.proofs.lemmas.List.Concat.{flat_map-cons}
 use Rattle.swh_base.specs.declared.name.Name.{Name}
 use Rattle.swh_base.specs.Snapshot.{SnapshotBranch}
 use Rattle.swh_snpfmt.specs.declared.branch.SpelledBranch.{SpelledBranch}
 use Rattle.swh_snpfmt.specs.Branches.{branch_of, branches_in_body}
-use Rattle.swh_written.specs.Held.{AddsUp, Kept, kept, Goes}
+use Rattle.swh_graph.proofs.Lists.{only}
+use Rattle.swh_written.specs.Held.{AddsUp, Kept, Goes}
 use Rattle.swh_written.proofs.Pieces.{goes_both, front_behind, front_none}
 use Rattle.swh_fastcook.specs.Stream.{target_tip, tips_text}
 use Rattle.swh_fastcook.proofs.Texts.{unsettled}
+
+-- what holds of each of the first, and of the next, holds of each of these
+pub each_more : {X : Type 0} (P : X → Type 0) (xs : List X) (i : ℕ) (d : X) → i < length xs → ((x : X) → Contains (take i xs) x → P x) → P (get_or xs i d) → (x : X) → Contains (take (i + 1) xs) x → P x
+each_more {X} P xs i d within all one x there =
+    elim (Contains-append_cases (take i xs) (get_or xs i d ∷ []) x (subst (λ (l : List X). Contains l x) (take_more xs i d within) there)) [
+      | inl was ↦ all x was
+      | inr is ↦ subst P (only (get_or xs i d) x is) one
+    ]
 
 module _ {X : Type 0} (f : X → List ℕ) (xs : List X) (i : ℕ) (d : X) (within : i < length xs) where
   -- one line more

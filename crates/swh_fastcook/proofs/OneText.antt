@@ -1,7 +1,5 @@
 -- What is held determines a text.
-use Rattle.std.proofs.Common.{◌≡◌, ◌⊎◌, inl, inr, ℕ, Option, Some, None, List, [], ◌∷◌, ◌++◌, IfSome, Contains, refl, sym, ap, ◌∙◌, subst, codes}
-use Rattle.swh_base.specs.declared.kind.Kind.{Kind}
-use Rattle.swh_base.specs.declared.kind.Kind.TheVariants.{Content, Directory, Revision as RevisionKind, Release as ReleaseKind, Snapshot}
+use Rattle.std.proofs.Common.{◌≡◌, ℕ, Option, Some, None, List, [], ◌∷◌, ◌++◌, IfSome, Contains, refl, sym, ap, ◌∙◌, subst, codes}
 use Rattle.swh_base.specs.declared.name.Name.{Name}
 use Rattle.swh_base.specs.Directory.{DirectoryEntry, IsDirectory}
 use Rattle.swh_base.specs.Revision.{Revision}
@@ -9,7 +7,7 @@ use Rattle.swh_base.specs.Release.{Release}
 use Rattle.swh_base.proofs.DirectoryLemmas.{one_listing_lem}
 use Rattle.swh_base.proofs.RevisionLemmas.{one_revision, one_release}
 use Rattle.swh_base.proofs.Lacks.{person-no_feed}
-use Rattle.swh_model.specs.Archive.{Bodies, body_of}
+use Rattle.swh_model.specs.Archive.{Bodies}
 use Rattle.swh_revfmt.specs.Plain.{text_line, optional_line, IsPersonLine, IsEncoding, RevisionRest, IsRevisionRest, PlainRevision, IsPlainRevision, ReleaseRest, IsReleaseRest, PlainRelease, IsPlainRelease}
 use Rattle.swh_revfmt.proofs.Rests.{same_line}
 use Rattle.swh_graph.specs.Holding.{HoldsDirectory}

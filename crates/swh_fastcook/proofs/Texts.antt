@@ -1,16 +1,14 @@
 -- Texts one after another, and how a text ends that is broken off.
-use Rattle.std.proofs.Common.{◌≡◌, ◌⊎◌, inl, inr, ℕ, ◌≤◌, Some, None, List, [], ◌∷◌, ◌++◌, refl, sym, ap, ◌∙◌, subst, arith, append_assoc}
-use Rattle.std.specs.Prelude.{Result, Ok, Err, OnOk, OnErr, IsErr, IfErr, ⊤}
+use Rattle.std.proofs.Common.{◌≡◌, ℕ, ◌≤◌, Some, None, List, [], ◌∷◌, ◌++◌, refl, sym, ap, ◌∙◌, subst, arith, append_assoc}
+use Rattle.std.specs.Prelude.{Result, OnOk, IsErr, IfErr, ⊤}
 use Rattle.std.specs.Result.{IsErrAnd}
-use Rattle.std.specs.List.{flat_map}
 use Rattle.std.proofs.lemmas.List.{append-nil}
 use Rattle.std.proofs.lemmas.Grind.{flat_map-append}
 use Rattle.std.proofs.lemmas.List.Concat.{flat_map-cons}
 use Rattle.std.proofs.lemmas.Result.{IfOk-from_err, MatchResult-from_err, err_from_is_err_and, on_ok_weaker, IfErr-weaker}
 use Rattle.swh_base.specs.declared.name.Name.{Name}
-use Rattle.swh_outside.specs.Faults.{Rose, HasCause}
+use Rattle.swh_outside.specs.Faults.{Rose}
 use Rattle.swh_dirfmt.specs.declared.entry.SpelledEntry.{SpelledEntry}
-use Rattle.swh_dirfmt.specs.Entries.{entry_of}
 use Rattle.swh_model.specs.Archive.{Bodies}
 use Rattle.swh_graph.specs.Path.{directory_name}
 use Rattle.swh_pathwalk.specs.Tree.{Row, IsPathWalk}
@@ -19,7 +17,7 @@ use Rattle.swh_pathwalk.proofs.Steps.{begins, goes_on, ends, remain_at_first, re
 use Rattle.swh_carried.specs.declared.fault.CookFault.{CookFault}
 use Rattle.swh_carried.specs.declared.fault.CookFault.TheVariants.{WriteFault, Memory}
 use Rattle.swh_written.specs.Held.{AddsUp, Kept, kept, Goes, Wrote, WroteSome}
-use Rattle.swh_written.proofs.Pieces.{goes_none, goes_appended, goes_both, front_behind, front_more, front_none}
+use Rattle.swh_written.proofs.Pieces.{goes_appended, goes_both, front_behind, front_more}
 use Rattle.swh_fastcook.specs.Cause.{Breaks, HasWriteCause}
 use Rattle.swh_fastcook.specs.Files.{AreFilesOf, RowsSoFar}
 use Rattle.swh_fastcook.specs.Stream.{file_text, files_text}

@@ -1,5 +1,7 @@
 pub mod Cause
+pub mod Ends
 pub mod Files
 pub mod Marks
+pub mod Odd
 pub mod Stream
 pub mod Tips

@@ -5,12 +5,18 @@
 #![tactic(auto)]
 
 mod commits;
+mod ends;
 mod files;
 mod marks;
+mod objects;
 mod pieces;
+mod stream;
 mod tips;
 
 pub use commits::{write_blob, write_commit, write_tag};
+pub use ends::write_end;
 pub use files::write_files;
 pub use marks::Marks;
+pub use objects::write_objects;
+pub use stream::write_stream;
 pub use tips::write_tips;

@@ -1,8 +1,7 @@
-use Rattle.std.proofs.Common.{◌≡◌, ◌≤◌, ◌+◌, ℕ, List, Bool, [], length, take, get_or, sym, ap, ◌∙◌, subst, arith}
-use Rattle.std.proofs.lemmas.List.{take_all}
+use Rattle.std.proofs.Common.{◌+◌, ℕ, [], take, sym, ap, ◌∙◌, subst, arith}
 use Rattle.swh_base.specs.declared.kind.Kind.TheVariants.{Content}
 use Rattle.swh_base.specs.declared.name.Name.{Name}
-use Rattle.swh_fastcook.specs.Marks.{is_written, written, HaveMarks}
+use Rattle.swh_fastcook.specs.Marks.{HaveMarks}
 use Rattle.swh_fastcook.proofs.Marked.{count_more, count_same, have_same, have_more}
 use Rattle.swh_fastcook.proofs.marks.number.Goals.{then-is_written+in_ok-insert, else-is_written}
 use Rattle.swh_fastcook.proofs.marks.number.Goals as goal
