@@ -7,14 +7,34 @@ use swh_model::Outcome;
 use swh_plan::Plan;
 use swh_store::Standing;
 
-/// An archive as one loader knows it. What it knows lies in a seat of type `S`: its number, a front of the history, and how
-/// many events it made. Contracts see all of it through the place's words.
-pub trait Place<N: Namer, S> {
+/// Something that is wanted of an archive.
+pub trait Wanted {
+    ghost use Rattle.std.specs.Prelude.{ℕ, List};
+    ghost use Rattle.swh_base.specs.declared.kind.Kind.{Kind};
+    ghost use Rattle.swh_model.specs.declared.event.Wish.{Wish};
+
+    /// How its objects are named.
+    ghost id_of: { Kind → List ℕ → List ℕ };
+
+    /// What is wanted.
+    ghost wish: { Self → Wish };
+}
+
+impl<N: Namer> Wanted for Plan<N> {
+    ghost use Rattle.swh_plan.specs.Plan.{wish_of};
+
+    ghost id_of = { N.id_of };
+
+    ghost wish = { wish_of };
+}
+
+/// An archive as one loader knows it, of which it wants things of type `Q`. What it knows lies in a seat of type `S`: its
+/// number, a front of the history, and how many events it made. Contracts see all of it through the place's words.
+pub trait Place<Q: Wanted, S> {
     ghost use Rattle.std.specs.Prelude.{◌≡◌, [], IfOk, IfErr};
     ghost use Rattle.swh_base.specs.Snapshot.{snapshot_name};
     ghost use Rattle.swh_model.specs.Archive.{IsClosed};
     ghost use Rattle.swh_store.specs.Adding.{IsStanding};
-    ghost use Rattle.swh_plan.specs.Plan.{wish_of};
     ghost use Rattle.swh_place.specs.Knowing.{Words, IsLawful, CarriesOut, RefusesPlan, held_in};
 
     /// What is said of seats.
@@ -47,11 +67,11 @@ pub trait Place<N: Namer, S> {
         ensures root { IfOk result (λ cert. cert.root ≡ snapshot_name snapshot) };
 
     /// Lets a plan be carried out.
-    fn apply(&self, seat: &mut S, plan: Plan<N>) -> Result<Outcome, Refusal>
+    fn apply(&self, seat: &mut S, plan: Q) -> Result<Outcome, Refusal>
         requires { fits self.now }
-        ensures ok { IfOk result (CarriesOut N.id_of (words self.now) (wish_of plan) seat.old seat.new) }
-        ensures err { IfErr result (RefusesPlan N.id_of (words self.now) (wish_of plan) seat.old seat.new) };
+        ensures ok { IfOk result (CarriesOut Q.id_of (words self.now) (Q.wish plan) seat.old seat.new) }
+        ensures err { IfErr result (RefusesPlan Q.id_of (words self.now) (Q.wish plan) seat.old seat.new) };
 
     /// What the words of each place obey.
-    ghost lawful: { (place : Self) → IsLawful N.id_of (words place) };
+    ghost lawful: { (place : Self) → IsLawful Q.id_of (words place) };
 }
