@@ -30,7 +30,7 @@ pub enum Taken<N: Namer> {
 
 /// Sends a batch, where there is something to send. Answers a name under which another body is held than the batch has,
 /// where somebody added that body since it was looked.
-fn flush<N: Namer, S, P: Place<N, S>>(
+fn flush<N: Namer, S, P: Place<Plan<N>, S>>(
     place: &P,
     seat: &mut S,
     pending: Pending<N>,
@@ -58,7 +58,7 @@ fn flush<N: Namer, S, P: Place<N, S>>(
 }
 
 /// Sends what waits where no other object may join it.
-fn make_room<N: Namer, S, P: Place<N, S>>(
+fn make_room<N: Namer, S, P: Place<Plan<N>, S>>(
     alloc: Global,
     place: &P,
     seat: &mut S,
@@ -86,7 +86,7 @@ fn make_room<N: Namer, S, P: Place<N, S>>(
 }
 
 /// Sends what waits before an object whose name waits with another body, so that the held body shows that it collides.
-fn send_before<N: Namer, S, P: Place<N, S>>(
+fn send_before<N: Namer, S, P: Place<Plan<N>, S>>(
     place: &P,
     seat: &mut S,
     pending: Pending<N>,
@@ -111,7 +111,7 @@ fn send_before<N: Namer, S, P: Place<N, S>>(
 }
 
 /// Lets an object that is not held wait. Where another body waits under its name, what waits is sent, and it collides.
-fn let_wait<N: Namer, S, P: Place<N, S>>(
+fn let_wait<N: Namer, S, P: Place<Plan<N>, S>>(
     place: &P,
     seat: &mut S,
     pending: Pending<N>,
@@ -146,7 +146,7 @@ fn let_wait<N: Namer, S, P: Place<N, S>>(
 }
 
 /// Takes an object in after it was looked at: it is held, it waits, or it collides.
-fn take_seen<N: Namer, S, P: Place<N, S>>(
+fn take_seen<N: Namer, S, P: Place<Plan<N>, S>>(
     place: &P,
     seat: &mut S,
     pending: Pending<N>,
@@ -175,7 +175,7 @@ fn take_seen<N: Namer, S, P: Place<N, S>>(
 }
 
 /// Takes an object in: it is held, it waits, or it collides.
-fn take_in<N: Namer, S, P: Place<N, S>>(
+fn take_in<N: Namer, S, P: Place<Plan<N>, S>>(
     alloc: Global,
     place: &P,
     seat: &mut S,
@@ -202,7 +202,7 @@ fn take_in<N: Namer, S, P: Place<N, S>>(
 }
 
 /// Sends what is new of some objects, in order, up to the first that collides.
-pub fn send_all<N: Namer, S, P: Place<N, S>>(
+pub fn send_all<N: Namer, S, P: Place<Plan<N>, S>>(
     alloc: Global,
     place: &P,
     seat: &mut S,

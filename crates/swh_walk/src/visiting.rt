@@ -26,7 +26,7 @@ pub struct OpenVisit<'a> {
 }
 
 /// Opens a visit of an origin, and answers its number.
-pub fn open_visit<N: Namer, S, P: Place<N, S>>(
+pub fn open_visit<N: Namer, S, P: Place<Plan<N>, S>>(
     alloc: Global,
     place: &P,
     seat: &mut S,
@@ -51,7 +51,7 @@ pub fn open_visit<N: Namer, S, P: Place<N, S>>(
 }
 
 /// Adds a status to a visit.
-pub fn mark<N: Namer, S, P: Place<N, S>>(
+pub fn mark<N: Namer, S, P: Place<Plan<N>, S>>(
     alloc: Global,
     place: &P,
     seat: &mut S,
