@@ -8,6 +8,6 @@ mod calls;
 mod place;
 mod refusal;
 
-pub use calls::{Calls, Seat};
+pub use calls::{Calls, Said};
 pub use place::{Place, Wanted};
 pub use refusal::Refusal;
