@@ -4,8 +4,10 @@
 //! events; a plan is judged at a history that begins with the front.
 #![tactic(auto)]
 
+mod calls;
 mod place;
 mod refusal;
 
-pub use place::Place;
+pub use calls::{Calls, Said};
+pub use place::{Place, Wanted};
 pub use refusal::Refusal;

@@ -7,25 +7,47 @@ use swh_model::Outcome;
 use swh_plan::Plan;
 use swh_store::Standing;
 
-/// An archive as one loader knows it. What it knows lies in a seat: its number, a front of the history, and how many events
-/// it made. Contracts see all of it through the place's words.
-pub trait Place<N: Namer> {
+/// Something that is wanted of an archive.
+pub trait Wanted {
+    ghost use Rattle.std.specs.Prelude.{ℕ, List};
+    ghost use Rattle.swh_base.specs.declared.kind.Kind.{Kind};
+    ghost use Rattle.swh_model.specs.declared.event.Wish.{Wish};
+
+    /// How its objects are named.
+    ghost id_of: { Kind → List ℕ → List ℕ };
+
+    /// What is wanted.
+    ghost wish: { Self → Wish };
+}
+
+impl<N: Namer> Wanted for Plan<N> {
+    ghost use Rattle.swh_plan.specs.Plan.{wish_of};
+
+    ghost id_of = { N.id_of };
+
+    ghost wish = { wish_of };
+}
+
+/// An archive as one loader knows it, of which it wants things of type `Q`. What it knows lies in a seat of type `S`: its
+/// number, a front of the history, and how many events it made. Contracts see all of it through the place's words.
+pub trait Place<Q: Wanted, S> {
     ghost use Rattle.std.specs.Prelude.{◌≡◌, [], IfOk, IfErr};
     ghost use Rattle.swh_base.specs.Snapshot.{snapshot_name};
     ghost use Rattle.swh_model.specs.Archive.{IsClosed};
     ghost use Rattle.swh_store.specs.Adding.{IsStanding};
-    ghost use Rattle.swh_plan.specs.Plan.{wish_of};
     ghost use Rattle.swh_place.specs.Knowing.{Words, IsLawful, CarriesOut, RefusesPlan, held_in};
 
-    /// What the loader knows.
-    type Seat;
-
     /// What is said of seats.
-    ghost words: { Self → Words Self.Seat };
+    ghost words: { Self → Words S };
+
+    /// That what the place was made of keeps to its words. A place that is made of closures says so here of their calls. It is
+    /// owed by the one who has the place and calls a method, so that a place of which it never holds serves nobody.
+    ghost fits: { Self → Type 0 };
 
     /// How an entry stands to what is held.
-    fn standing(&self, seat: &mut Self::Seat, entry: &Entry) -> Result<Standing, Memory>
-        requires { (words self.now).ready seat.old }
+    fn standing(&self, seat: &mut S, entry: &Entry) -> Result<Standing, Memory>
+        requires fits { fits self.now }
+        requires ready { (words self.now).ready seat.old }
         ensures looks { (words self.now).adds [] seat.old seat.new }
         ensures standing { IfOk result (IsStanding (held_in ((words self.now).known seat.new)) entry.now) };
 
@@ -34,20 +56,22 @@ pub trait Place<N: Namer> {
     fn certify(
         &self,
         alloc: Global,
-        seat: &mut Self::Seat,
+        seat: &mut S,
         snapshot: [u8; 20],
         names: Vec<Name>,
     ) -> Result<Cert, Memory>
+        requires fits { fits self.now }
         requires ready { (words self.now).ready seat.old }
         requires closed { IsClosed (held_in ((words self.now).known seat.old)) (snapshot_name snapshot) }
         ensures looks { (words self.now).adds [] seat.old seat.new }
         ensures root { IfOk result (λ cert. cert.root ≡ snapshot_name snapshot) };
 
     /// Lets a plan be carried out.
-    fn apply(&self, seat: &mut Self::Seat, plan: Plan<N>) -> Result<Outcome, Refusal>
-        ensures ok { IfOk result (CarriesOut N.id_of (words self.now) (wish_of plan) seat.old seat.new) }
-        ensures err { IfErr result (RefusesPlan N.id_of (words self.now) (wish_of plan) seat.old seat.new) };
+    fn apply(&self, seat: &mut S, plan: Q) -> Result<Outcome, Refusal>
+        requires { fits self.now }
+        ensures ok { IfOk result (CarriesOut Q.id_of (words self.now) (Q.wish plan) seat.old seat.new) }
+        ensures err { IfErr result (RefusesPlan Q.id_of (words self.now) (Q.wish plan) seat.old seat.new) };
 
     /// What the words of each place obey.
-    ghost lawful: { (place : Self) → IsLawful N.id_of (words place) };
+    ghost lawful: { (place : Self) → IsLawful Q.id_of (words place) };
 }

@@ -77,7 +77,7 @@ same_opening t number x n d k b =
     ∙ ap (λ (m : ℕ). visit_of number t.date Fast m x.statuses) b
 
 -- a visit goes on
-record GoesOn (h : List Event) (t : Attempt) (number : ℕ) : Type 0 where
+pub record GoesOn (h : List Event) (t : Attempt) (number : ℕ) : Type 0 where
   pub statuses : Statuses
   pub visit : IsVisit h t number statuses
 
@@ -88,7 +88,7 @@ later_with t number statuses h (Some w) positive is later = record {
   visit = record { positive = positive; there = is ∙ ap (λ (x : Visit). Some x) (same_opening t number w later.number later.date later.kind later.by) };
 }
 
-goes_on : (id : Kind → List ℕ → List ℕ) (alone : Bool) (g h : List Event) (t : Attempt) (number : ℕ) (statuses : Statuses) → IsBehind id alone g h → IsVisit g t number statuses → GoesOn h t number
+pub goes_on : (id : Kind → List ℕ → List ℕ) (alone : Bool) (g h : List Event) (t : Attempt) (number : ℕ) (statuses : Statuses) → IsBehind id alone g h → IsVisit g t number statuses → GoesOn h t number
 goes_on id alone g h t number statuses b v = later_with t number statuses h _ v.positive refl (behind_visit id alone g h t.origin number (visit_with t number statuses) b v.there)
 
 opened_number : (o : Outcome) (m n event visit : ℕ) → o ≡ Opened m n → o ≡ Opened event visit → visit ≡ n

@@ -1,3 +1,4 @@
+pub mod Ending
 pub mod Owning
 pub mod Stopping
 pub mod Visiting

@@ -5,12 +5,16 @@
 //! the new front; others may add between.
 #![tactic(auto)]
 
+mod ending;
 mod pending;
 mod sending;
 mod stop;
+mod turn;
 mod visiting;
 
+pub use ending::finish;
 pub use pending::Pending;
 pub use sending::send_all;
 pub use stop::Stop;
+pub use turn::{Turn, Worker};
 pub use visiting::{OpenVisit, mark, open_visit};

@@ -30,11 +30,12 @@ pub enum Taken<N: Namer> {
 
 /// Sends a batch, where there is something to send. Answers a name under which another body is held than the batch has,
 /// where somebody added that body since it was looked.
-fn flush<N: Namer, P: Place<N>>(
+fn flush<N: Namer, S, P: Place<Plan<N>, S>>(
     place: &P,
-    seat: &mut P::Seat,
+    seat: &mut S,
     pending: Pending<N>,
 ) -> Result<Option<Name>, Stop>
+    requires fits { P.fits place.now }
     requires ready { (P.words place.now).ready seat.old }
     requires waiting { IsPendingBatch N.id_of (P.words place.now).alone
         (held_in ((P.words place.now).known seat.old)) pending }
@@ -57,12 +58,13 @@ fn flush<N: Namer, P: Place<N>>(
 }
 
 /// Sends what waits where no other object may join it.
-fn make_room<N: Namer, P: Place<N>>(
+fn make_room<N: Namer, S, P: Place<Plan<N>, S>>(
     alloc: Global,
     place: &P,
-    seat: &mut P::Seat,
+    seat: &mut S,
     pending: Pending<N>,
 ) -> Result<Taken<N>, Stop>
+    requires fits { P.fits place.now }
     requires ready { (P.words place.now).ready seat.old }
     requires waiting { IsPendingBatch N.id_of (P.words place.now).alone
         (held_in ((P.words place.now).known seat.old)) pending }
@@ -84,12 +86,13 @@ fn make_room<N: Namer, P: Place<N>>(
 }
 
 /// Sends what waits before an object whose name waits with another body, so that the held body shows that it collides.
-fn send_before<N: Namer, P: Place<N>>(
+fn send_before<N: Namer, S, P: Place<Plan<N>, S>>(
     place: &P,
-    seat: &mut P::Seat,
+    seat: &mut S,
     pending: Pending<N>,
     name: Name,
 ) -> Result<Name, Stop>
+    requires fits { P.fits place.now }
     requires ready { (P.words place.now).ready seat.old }
     requires waiting { IsPendingBatch N.id_of (P.words place.now).alone
         (held_in ((P.words place.now).known seat.old)) pending }
@@ -108,12 +111,13 @@ fn send_before<N: Namer, P: Place<N>>(
 }
 
 /// Lets an object that is not held wait. Where another body waits under its name, what waits is sent, and it collides.
-fn let_wait<N: Namer, P: Place<N>>(
+fn let_wait<N: Namer, S, P: Place<Plan<N>, S>>(
     place: &P,
-    seat: &mut P::Seat,
+    seat: &mut S,
     pending: Pending<N>,
     object: Object<N>,
 ) -> Result<Taken<N>, Stop>
+    requires fits { P.fits place.now }
     requires ready { (P.words place.now).ready seat.old }
     requires waiting { IsPendingBatch N.id_of (P.words place.now).alone
         (held_in ((P.words place.now).known seat.old)) pending }
@@ -142,12 +146,13 @@ fn let_wait<N: Namer, P: Place<N>>(
 }
 
 /// Takes an object in after it was looked at: it is held, it waits, or it collides.
-fn take_seen<N: Namer, P: Place<N>>(
+fn take_seen<N: Namer, S, P: Place<Plan<N>, S>>(
     place: &P,
-    seat: &mut P::Seat,
+    seat: &mut S,
     pending: Pending<N>,
     object: Object<N>,
 ) -> Result<Taken<N>, Stop>
+    requires fits { P.fits place.now }
     requires ready { (P.words place.now).ready seat.old }
     requires waiting { IsPendingBatch N.id_of (P.words place.now).alone
         (held_in ((P.words place.now).known seat.old)) pending }
@@ -170,13 +175,14 @@ fn take_seen<N: Namer, P: Place<N>>(
 }
 
 /// Takes an object in: it is held, it waits, or it collides.
-fn take_in<N: Namer, P: Place<N>>(
+fn take_in<N: Namer, S, P: Place<Plan<N>, S>>(
     alloc: Global,
     place: &P,
-    seat: &mut P::Seat,
+    seat: &mut S,
     pending: Pending<N>,
     object: Object<N>,
 ) -> Result<Taken<N>, Stop>
+    requires fits { P.fits place.now }
     requires ready { (P.words place.now).ready seat.old }
     requires waiting { IsPendingBatch N.id_of (P.words place.now).alone
         (held_in ((P.words place.now).known seat.old)) pending }
@@ -196,13 +202,14 @@ fn take_in<N: Namer, P: Place<N>>(
 }
 
 /// Sends what is new of some objects, in order, up to the first that collides.
-pub fn send_all<N: Namer, P: Place<N>>(
+pub fn send_all<N: Namer, S, P: Place<Plan<N>, S>>(
     alloc: Global,
     place: &P,
-    seat: &mut P::Seat,
+    seat: &mut S,
     objects: Vec<Object<N>>,
 ) -> Result<Option<Name>, Stop>
-    requires { (P.words place.now).ready seat.old }
+    requires fits { P.fits place.now }
+    requires ready { (P.words place.now).ready seat.old }
     ensures sent { IfOk result (AreSent (held_in ((P.words place.now).known seat.new)) objects.items) }
     ensures adds { OnOk result (Adds (P.words place.now)
         (IsBatchAmong (P.words place.now).alone objects.items) [] seat.old seat.new) }

@@ -26,13 +26,14 @@ pub struct OpenVisit<'a> {
 }
 
 /// Opens a visit of an origin, and answers its number.
-pub fn open_visit<N: Namer, P: Place<N>>(
+pub fn open_visit<N: Namer, S, P: Place<Plan<N>, S>>(
     alloc: Global,
     place: &P,
-    seat: &mut P::Seat,
+    seat: &mut S,
     origin: &Url,
     date: u64,
 ) -> Result<u64, Stop>
+    requires { P.fits place.now }
     ensures opened { IfOk result (Opens N.id_of (P.words place.now)
         (attempt ((P.words place.now).known seat.old).number origin.now date) seat.old seat.new) }
     ensures stops { IfErr result (StopsNow N.id_of (P.words place.now) (IsWished (WishToOpen origin.now Fast date))
@@ -50,15 +51,16 @@ pub fn open_visit<N: Namer, P: Place<N>>(
 }
 
 /// Adds a status to a visit.
-pub fn mark<N: Namer, P: Place<N>>(
+pub fn mark<N: Namer, S, P: Place<Plan<N>, S>>(
     alloc: Global,
     place: &P,
-    seat: &mut P::Seat,
+    seat: &mut S,
     visit: &OpenVisit,
     how: How,
 ) -> Result<(), Stop>
+    requires fits { P.fits place.now }
     requires mine { IsMine ((P.words place.now).known seat.old) (attempt_of visit.now) visit.now.number }
-    requires fits { FitsStatus (held_in ((P.words place.now).known seat.old)) (status_of how) (snapshot_of how) }
+    requires allowed { FitsStatus (held_in ((P.words place.now).known seat.old)) (status_of how) (snapshot_of how) }
     ensures marked { OnOk result (HasLast ((P.words place.now).known seat.new).front
         (attempt_of visit.now) visit.now.number (status_of how, snapshot_of how)) }
     ensures adds { OnOk result (Adds (P.words place.now)

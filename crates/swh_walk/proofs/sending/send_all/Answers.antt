@@ -11,7 +11,7 @@ use Rattle.swh_walk.proofs.sending.send_all.Goals as goal
 pub objects-init : goal.objects-init
 objects-init g c =
     let w = g.P.Place.words c.args.place.now in record {
-      adds = adds_none g.N.Namer.id_of w (g.met.P.Place.lawful c.args.place.now) (IsBatchAmong w.alone c.args.objects.items) c.args.seat.now c.requires;
+      adds = adds_none g.N.Namer.id_of w (g.met.P.Place.lawful c.args.place.now) (IsBatchAmong w.alone c.args.objects.items) c.args.seat.now c.requires.ready;
       waiting = waits_none g.N.Namer.id_of w.alone (held_in (w.known c.args.seat.now)) c.new-pending.result c.new-pending.ensures.objects c.new-pending.ensures.held c.new-pending.ensures.bytes;
       among = search rules;
       took = search rules;

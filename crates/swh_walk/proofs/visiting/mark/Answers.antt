@@ -16,9 +16,9 @@ returns-in-Ok-apply-clause-adds g c =
 pub stopped-requires : goal.stopped-requires
 stopped-requires g c =
     let v = c.args.visit.now in
-    mark_may g.N.Namer.id_of (g.P.Place.words c.args.place.now) c.args.seat.now c.apply.new.seat (attempt_of v) v.number (status_of c.args.how) (snapshot_of c.args.how) c.requires.mine c.in-Err.refusal c.requires.fits (rw c.in-Ok.ensures at c.in-Err.ensures.err)
+    mark_may g.N.Namer.id_of (g.P.Place.words c.args.place.now) c.args.seat.now c.apply.new.seat (attempt_of v) v.number (status_of c.args.how) (snapshot_of c.args.how) c.requires.mine c.in-Err.refusal c.requires.allowed (rw c.in-Ok.ensures at c.in-Err.ensures.err)
 
 pub returns-in-Err-clause-stops : goal.returns-in-Err-clause-stops
 returns-in-Err-clause-stops g c =
     let v = c.args.visit.now in
-    mark_stops g.N.Namer.id_of (g.P.Place.words c.args.place.now) c.args.seat.now c.apply.new.seat (attempt_of v) v.number (status_of c.args.how) (snapshot_of c.args.how) c.requires.mine c.in-Err.refusal c.stopped.result c.requires.fits (rw c.in-Ok.ensures at c.in-Err.ensures.err) c.stopped.ensures
+    mark_stops g.N.Namer.id_of (g.P.Place.words c.args.place.now) c.args.seat.now c.apply.new.seat (attempt_of v) v.number (status_of c.args.how) (snapshot_of c.args.how) c.requires.mine c.in-Err.refusal c.stopped.result c.requires.allowed (rw c.in-Ok.ensures at c.in-Err.ensures.err) c.stopped.ensures

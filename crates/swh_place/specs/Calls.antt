@@ -1,0 +1,39 @@
+-- What calls answer that a place is made of.
+use Rattle.std.specs.Prelude.{◌≡◌, ℕ, Result, List, [], IfOk, IfErr}
+use Rattle.swh_base.specs.declared.kind.Kind.{Kind}
+use Rattle.swh_base.specs.declared.entry.Entry.{Entry}
+use Rattle.swh_base.specs.Snapshot.{snapshot_name}
+use Rattle.swh_closure.specs.declared.certificate.Cert.{Cert}
+use Rattle.swh_model.specs.declared.event.Wish.{Wish}
+use Rattle.swh_model.specs.declared.event.Outcome.{Outcome}
+use Rattle.swh_model.specs.Archive.{IsClosed}
+use Rattle.swh_store.specs.declared.adding.Standing.{Standing}
+use Rattle.swh_store.specs.Adding.{IsStanding}
+use Rattle.swh_place.specs.declared.refusal.Refusal.{Refusal}
+use Rattle.swh_place.specs.Knowing.{Words, CarriesOut, RefusesPlan, held_in}
+
+module _ {S : Type 0} (w : Words S) where
+  -- It may be looked how an entry stands.
+  abbrev pub MayLook : S → Type 0
+  MayLook s = w.ready s
+
+  -- It was looked how an entry stands.
+  pub record Looks {E : Type 0} (old : S) (entry : Entry) (new : S) (result : Result Standing E) : Type 0 where
+    pub looks : w.adds [] old new
+    pub standing : IfOk result (IsStanding (held_in (w.known new)) entry)
+
+  -- A certificate of a snapshot may be asked for.
+  pub record MayCertify (s : S) (snapshot : List ℕ) : Type 0 where
+    pub ready : w.ready s
+    pub closed : IsClosed (held_in (w.known s)) (snapshot_name snapshot)
+
+  -- A certificate of a snapshot was asked for.
+  pub record Certifies {E : Type 0} (old : S) (snapshot : List ℕ) (new : S) (result : Result Cert E) : Type 0 where
+    pub looks : w.adds [] old new
+    pub root : IfOk result (λ cert. cert.root ≡ snapshot_name snapshot)
+
+module _ {S : Type 0} (id : Kind → List ℕ → List ℕ) (w : Words S) where
+  -- A plan was carried out, or refused.
+  pub record Applies (old : S) (wish : Wish) (new : S) (result : Result Outcome Refusal) : Type 0 where
+    pub ok : IfOk result (CarriesOut id w wish old new)
+    pub err : IfErr result (RefusesPlan id w wish old new)

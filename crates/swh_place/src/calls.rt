@@ -1,0 +1,75 @@
+// A place that is made of calls.
+ghost use Rattle.swh_place.specs.Calls.{MayLook, Looks, MayCertify, Certifies, Applies};
+
+use crate::place::{Place, Wanted};
+use crate::refusal::Refusal;
+use std::alloc::Global;
+use swh_base::{Entry, Memory, Name};
+use swh_closure::Cert;
+use swh_model::Outcome;
+use swh_store::Standing;
+
+/// What is said of seats of one kind.
+pub trait Said<Q: Wanted, S> {
+    ghost use Rattle.std.specs.Prelude.{ℕ};
+    ghost use Rattle.swh_place.specs.Knowing.{Words, IsLawful};
+
+    /// The words, by the loader's number.
+    ghost words: { ℕ → Words S };
+
+    /// What the words obey.
+    ghost lawful: { (by : ℕ) → IsLawful Q.id_of (words by) };
+}
+
+/// The calls of a loader of this number, one for each method of a place, and what is said of its seats. A function whose
+/// archive is of any disks can make one, where no type of its own can be a place.
+#[derive(Drop)]
+pub struct Calls<W, A, B, C> {
+    pub by: u32,
+    pub said: W,
+    pub standing: A,
+    pub certify: B,
+    pub apply: C,
+}
+
+impl<
+    Q: Wanted,
+    S,
+    W: Said<Q, S>,
+    A: Fn(&mut S, &Entry) -> Result<Standing, Memory>,
+    B: Fn(&mut S, [u8; 20], Vec<Name>) -> Result<Cert, Memory>,
+    C: Fn(&mut S, Q) -> Result<Outcome, Refusal>,
+> Place<Q, S> for Calls<W, A, B, C> {
+    ghost words = { λ p. W.words p.by };
+
+    ghost fits = { λ p.
+        ((s : _) (e : _) → MayLook (W.words p.by) s.now → A.pre p.standing s e)
+        × ((s : _) (e : _) (r : _) (t : _) → MayLook (W.words p.by) s.now → A.post p.standing s e r t
+        → Looks (W.words p.by) s.now e.now t.now r)
+        × ((s : _) (snapshot : _) (names : _) → MayCertify (W.words p.by) s.now snapshot → B.pre p.certify s snapshot names)
+        × ((s : _) (snapshot : _) (names : _) (r : _) (t : _) → MayCertify (W.words p.by) s.now snapshot
+        → B.post p.certify s snapshot names r t → Certifies (W.words p.by) s.now snapshot t.now r)
+        × ((s : _) (plan : _) → C.pre p.apply s plan)
+        × ((s : _) (plan : _) (r : _) (t : _) → C.post p.apply s plan r t
+        → Applies Q.id_of (W.words p.by) s.now (Q.wish plan) t.now r) };
+
+    fn standing(&self, seat: &mut S, entry: &Entry) -> Result<Standing, Memory> {
+        (self.standing)(seat, entry)
+    }
+
+    fn certify(
+        &self,
+        _alloc: Global,
+        seat: &mut S,
+        snapshot: [u8; 20],
+        names: Vec<Name>,
+    ) -> Result<Cert, Memory> {
+        (self.certify)(seat, snapshot, names)
+    }
+
+    fn apply(&self, seat: &mut S, plan: Q) -> Result<Outcome, Refusal> {
+        (self.apply)(seat, plan)
+    }
+
+    ghost lawful = { λ p. W.lawful p.by };
+}
