@@ -3,7 +3,7 @@ use crate::refs_of_git::COMMIT_FIRST;
 use crate::world::fault_of_both;
 use std::alloc::{AllocError, Global};
 use std::test::Fail;
-use swh_base::{Sha1Namer, Which};
+use swh_base::{Kind, Name, Sha1Namer, Which};
 use swh_batchread::BatchFault;
 
 /// The id of the commit and a space.
@@ -120,5 +120,47 @@ fn snapshot_above_the_limit(rt: HostRuntime) -> Result<(), Fail> {
         number: 67_108_865,
     };
     assert_eq!(&rt; told(alloc, lines.as_slice())?, Some(fault));
+    Ok(())
+}
+
+/// The commit alone.
+const NO_TREE: &[u8] = b"295c0651a95ba32ac5e14f92da0161b122942cac commit 128\n\
+tree d8329fc1cc938780ffdd9f94e0d364e0ea74f579\n\
+author A <a@e.org> 1000000000 +0000\n\
+committer A <a@e.org> 1000000000 +0000\n\
+\n\
+first\n\
+\n";
+
+/// The id that no object of the commit alone has, with these refs.
+fn lacks(alloc: Global, refs: &[u8]) -> Result<Option<Name>, AllocError> {
+    match fault_of_both(alloc, &Sha1Namer, NO_TREE, refs, 65_536)? {
+        Some(BatchFault::NoObject { id }) => Ok(Some(Name {
+            kind: Kind::Directory,
+            id,
+        })),
+        _ => Ok(None),
+    }
+}
+
+#[test]
+fn lacking_before_a_long_snapshot(rt: HostRuntime) -> Result<(), Fail> {
+    let alloc = rt.alloc();
+    let lines = long_lines(alloc, 543)?;
+    let tree = Name::from_hex(Kind::Directory, b"d8329fc1cc938780ffdd9f94e0d364e0ea74f579");
+    assert_eq!(&rt; lacks(alloc, lines.as_slice())?, tree);
+    Ok(())
+}
+
+#[test]
+fn refs_above_the_limit_before_lacking(rt: HostRuntime) -> Result<(), Fail> {
+    let alloc = rt.alloc();
+    let lines = many_lines(alloc, 65_537)?;
+    let fault = BatchFault::Limit {
+        which: Which::Refs,
+        number: 65_537,
+    };
+    let told = fault_of_both(alloc, &Sha1Namer, b"", lines.as_slice(), 65_536)?;
+    assert_eq!(&rt; told, Some(fault));
     Ok(())
 }

@@ -1,7 +1,9 @@
 //! Tests of modes listings over sources in memory: lines, pieces, limits, and sources that fail.
-//! Stands on `swh_base`, `swh_memory_input` and `swh_listing`.
+//! Stands on `swh_base`, `swh_outside`, `swh_memory_input`, `swh_repeated_input`, `swh_fastlex` and `swh_listing`.
 //! Nothing stands above it.
 #![tactic(auto)]
 
 #[cfg(test)]
 mod listings;
+#[cfg(test)]
+mod long_listings;
