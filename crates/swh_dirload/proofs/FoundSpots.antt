@@ -95,7 +95,7 @@ item_path paths (f ∷ fs) (suc n) d lt =
     let e : length more + n ≡ length paths + suc n = omega (arith, length-append paths (here ∷ [])) in
     item_path more fs n d (omega (arith, lt)) ∙ ap (path_at (paths_behind more (map spot_in fs))) e
 
-length_items : (paths : List (List ℕ)) (fs : List Found) → length (found.items_behind paths fs) ≡ length fs
+pub length_items : (paths : List (List ℕ)) (fs : List Found) → length (found.items_behind paths fs) ≡ length fs
 length_items paths [] = refl
 length_items paths (f ∷ fs) = let h = length_items (paths ++ found.path_in paths f ∷ []) fs in omega (arith, h)
 

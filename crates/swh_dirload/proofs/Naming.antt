@@ -36,7 +36,7 @@ names_in_order ordered h =
       once = AllPairs-from_IsDistinct bytes_eq-Decides new (IsDistinct-IsPermutation bytes_eq flips old new moved (IsDistinct-from_AllPairs bytes_eq-Decides old h.names.once));
     }
 
-names_tail : (name : List ℕ) (names : List (List ℕ)) → AreNames (name ∷ names) → AreNames names
+pub names_tail : (name : List ℕ) (names : List (List ℕ)) → AreNames (name ∷ names) → AreNames names
 names_tail name names h = record {
   each = λ i d lt. h.each (suc i) d (omega (arith, lt));
   once = λ i j d lt within. h.once (suc i) (suc j) d (omega (arith, lt)) (omega (arith, within));

@@ -38,12 +38,13 @@ pub record AreInOrder (ordered : List FolderEntry) : Type 0 where
   pub order : IsOrder entries ordered
   pub names : AreNames (map (λ entry. entry.name) entries)
 
--- The folder at a path has these items, in the order of a directory.
+-- The folder at a path has these items, in the order of a directory. Their names are good, and none stands twice.
 pub record HasItems (tree : Tree) (dir : List ℕ) (items : List Item) : Type 0 where
   pub entries : List FolderEntry
   pub ordered : List FolderEntry
   pub are : entries_at tree dir ≡ Some entries
   pub order : IsOrder entries ordered
+  pub names : AreNames (map (λ entry. entry.name) entries)
   pub named : items ≡ map (item_in dir) ordered
 
 -- A folder may have this item: it is a file or a folder, at a path that is not too long.

@@ -4,6 +4,9 @@ pub mod Found
 pub mod Index
 pub mod Items
 pub mod Lines
+pub mod Loading
+pub mod Meaning
+pub mod Modes
 pub mod Places
 pub mod Reading
 pub mod Walk

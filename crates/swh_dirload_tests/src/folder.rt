@@ -15,7 +15,7 @@ pub fn item_of(alloc: Global, name: &str, what: What) -> Result<Item, AllocError
     Ok(Item { name, what })
 }
 
-fn items_of(alloc: Global, list: &[Named]) -> Result<Vec<Item>, AllocError> {
+pub fn items_of(alloc: Global, list: &[Named]) -> Result<Vec<Item>, AllocError> {
     let mut items = Vec::new(alloc);
     for (name, what) in list {
         items.push(item_of(alloc, name, *what)?)?;

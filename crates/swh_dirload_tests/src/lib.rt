@@ -6,8 +6,12 @@
 #[cfg(test)]
 mod folder;
 #[cfg(test)]
+mod loads;
+#[cfg(test)]
 mod readings;
 #[cfg(test)]
 mod taken_lines;
 #[cfg(test)]
 mod walks;
+#[cfg(test)]
+mod wide;

@@ -25,6 +25,7 @@ returns-in-Ok-clause-items g c = λ tells.
         same = IsPermutation-map listed c.in-Ok.items.items items c.sort_unstable_by.ensures.permutation;
         ascend = sorted_map listed (λ x y. is_lt (slice_cmp nat_cmp (entry_key x) (entry_key y))) items up;
       };
+      names = subst AreNames (sym (map_map (λ (entry : FolderEntry). entry.name) listed c.in-Ok.items.items)) c.in-Ok.ensures.names;
       named = sym (map_map (item_in c.args.dir.now) listed items);
     }
 
