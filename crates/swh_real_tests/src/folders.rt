@@ -1,6 +1,6 @@
 // Folders over the system.
-use crate::rooms::{Laid, Thing, clear, fresh_room};
-use std::alloc::Global;
+use crate::rooms::{Laid, Thing, clear, fresh_room, temporary_path};
+use std::alloc::{AllocError, Global};
 use std::test::Fail;
 use swh_outside::{Folder, Item, Source, What};
 use swh_real::{RealFolder, RealSource};
@@ -160,6 +160,36 @@ const ACTS: &[Act] = &[
 fn a_folder_gives_what_stands_in_it(rt: HostRuntime) -> Result<(), Fail> {
     let room = fresh_room(&rt, "folder", LAID)?;
     all_done(&rt, room.as_str(), ACTS)?;
+    clear(&rt, room.as_str())
+}
+
+const WITH_OTHER_TEXT: &[Laid] = &[("d", Thing::Folder), ("f", Thing::File(b"abc"))];
+
+const OTHER_TEXT: &[Act] = &[
+    Lists("", &[("d", What::Folder), ("f", What::File)]),
+    ListsNot("d"),
+    Faults(1),
+    Reads("f", b"abc"),
+    Faults(1),
+];
+
+/// The path of a folder in the folder `d` of a room, whose name is no UTF-8.
+fn other_text(alloc: Global, room: &str) -> Result<Vec<u8>, AllocError> {
+    let mut path = Vec::from_slice(alloc, room.as_bytes())?;
+    path.extend_from_slice(b"/d/\xff")?;
+    Ok(path)
+}
+
+#[test]
+fn a_name_that_is_no_text_fails_its_list(rt: HostRuntime) -> Result<(), Fail> {
+    let name = "other_text";
+    let path = other_text(rt.alloc(), temporary_path(&rt, name)?.as_str())?;
+    let _left_by_a_run_that_was_cut = os::rmdir(path.as_slice());
+    let room = fresh_room(&rt, name, WITH_OTHER_TEXT)?;
+    assert_eq!(&rt; os::mkdir(path.as_slice()), 0);
+    let done = all_done(&rt, room.as_str(), OTHER_TEXT);
+    assert_eq!(&rt; os::rmdir(path.as_slice()), 0);
+    done?;
     clear(&rt, room.as_str())
 }
 

@@ -49,7 +49,8 @@ fn fill(rt: &HostRuntime, folder: &str, things: &[Laid]) -> Result<(), Fail> {
     Ok(())
 }
 
-fn temporary_path(rt: &HostRuntime, name: &str) -> Result<String, Fail> {
+/// Where the folder of this name stands.
+pub fn temporary_path(rt: &HostRuntime, name: &str) -> Result<String, Fail> {
     let parent = env::temp_dir(rt)?;
     Ok(format!(in rt.alloc(); "{}/swh_real_{name}", parent.as_path().display())?)
 }
