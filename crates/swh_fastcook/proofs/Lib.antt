@@ -1,3 +1,4 @@
+pub mod Acyclic
 pub mod CommitTexts
 pub mod EndTexts
 pub mod FileWalks

@@ -2,6 +2,5 @@ pub mod Cause
 pub mod Ends
 pub mod Files
 pub mod Marks
-pub mod Odd
 pub mod Stream
 pub mod Tips

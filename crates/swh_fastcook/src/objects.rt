@@ -4,9 +4,9 @@ ghost use Rattle.swh_base.specs.declared.kind.Kind.TheVariants.{Content as Conte
 ghost use Rattle.swh_base.specs.declared.name.Name.{Name as Named};
 ghost use Rattle.swh_model.specs.Archive.{body_of};
 ghost use Rattle.swh_postorder.specs.Cycle.{IsSomePostorder, ArePreceded};
+ghost use Rattle.swh_fastcarried.specs.Rules.{IsOddObject};
 ghost use Rattle.swh_written.specs.Held.{WroteSome, kept};
 ghost use Rattle.swh_fastcook.specs.Cause.{HasWriteCause};
-ghost use Rattle.swh_fastcook.specs.Odd.{IsOddRevision, IsOddRelease};
 ghost use Rattle.swh_fastcook.specs.Stream.{IsBlob, IsCommit, IsTag, IsObjectText, AreObjectTexts};
 
 use crate::commits::{write_blob, write_commit, write_tag};
@@ -63,7 +63,7 @@ fn write_revision<L: Look, T: Taker>(
     requires preceded { ArePreceded (L.children_of look.now) marks.now }
     requires there { Contains marks.now name }
     requires kind { name.kind ≡ RevisionKind }
-    requires plain { IsOddRevision (L.archive look.now).bodies name → ⊥ }
+    requires plain { IsOddObject (L.archive look.now).bodies name → ⊥ }
     ensures bytes { WroteSome T.takes T.takes_front (kept taker.old held.old.items)
         (IsCommit (L.archive look.now).bodies marks.now name) (kept taker.new held.new.items) result }
     ensures cause { HasWriteCause (T.failures taker.old) (T.failures taker.new) result }
@@ -90,7 +90,7 @@ fn write_release<L: Look, T: Taker>(
     requires preceded { ArePreceded (L.children_of look.now) marks.now }
     requires there { Contains marks.now name }
     requires kind { name.kind ≡ ReleaseKind }
-    requires plain { IsOddRelease (L.archive look.now).bodies name → ⊥ }
+    requires plain { IsOddObject (L.archive look.now).bodies name → ⊥ }
     ensures bytes { WroteSome T.takes T.takes_front (kept taker.old held.old.items)
         (IsTag (L.archive look.now).bodies marks.now name) (kept taker.new held.new.items) result }
     ensures cause { HasWriteCause (T.failures taker.old) (T.failures taker.new) result }
@@ -116,8 +116,7 @@ fn write_object<L: Look, T: Taker>(
     requires order { IsSomePostorder (L.children_of look.now) marks.now }
     requires preceded { ArePreceded (L.children_of look.now) marks.now }
     requires there { Contains marks.now name }
-    requires revision { IsOddRevision (L.archive look.now).bodies name → ⊥ }
-    requires release { IsOddRelease (L.archive look.now).bodies name → ⊥ }
+    requires plain { IsOddObject (L.archive look.now).bodies name → ⊥ }
     ensures bytes { WroteSome T.takes T.takes_front (kept taker.old held.old.items)
         (IsObjectText (L.archive look.now).bodies marks.now name) (kept taker.new held.new.items) result }
     ensures cause { HasWriteCause (T.failures taker.old) (T.failures taker.new) result }
@@ -143,8 +142,7 @@ fn write_each<L: Look, T: Taker>(
     requires order { IsSomePostorder (L.children_of look.now) marks.now }
     requires preceded { ArePreceded (L.children_of look.now) marks.now }
     requires there { (n : Named) → Contains names.now n → Contains marks.now n }
-    requires revisions { (n : Named) → Contains names.now n → IsOddRevision (L.archive look.now).bodies n → ⊥ }
-    requires releases { (n : Named) → Contains names.now n → IsOddRelease (L.archive look.now).bodies n → ⊥ }
+    requires plain { (n : Named) → Contains names.now n → IsOddObject (L.archive look.now).bodies n → ⊥ }
     ensures bytes { WroteSome T.takes T.takes_front (kept taker.old held.old.items)
         (AreObjectTexts (L.archive look.now).bodies marks.now names.now) (kept taker.new held.new.items) result }
     ensures cause { HasWriteCause (T.failures taker.old) (T.failures taker.new) result }
@@ -165,8 +163,7 @@ pub fn write_objects<L: Look, T: Taker>(
 ) -> Result<(), CookFault>
     requires order { IsSomePostorder (L.children_of look.now) marks.now }
     requires preceded { ArePreceded (L.children_of look.now) marks.now }
-    requires revisions { (n : Named) → Contains marks.now n → IsOddRevision (L.archive look.now).bodies n → ⊥ }
-    requires releases { (n : Named) → Contains marks.now n → IsOddRelease (L.archive look.now).bodies n → ⊥ }
+    requires plain { (n : Named) → Contains marks.now n → IsOddObject (L.archive look.now).bodies n → ⊥ }
     ensures bytes { WroteSome T.takes T.takes_front (kept taker.old held.old.items)
         (AreObjectTexts (L.archive look.now).bodies marks.now marks.now) (kept taker.new held.new.items) result }
     ensures cause { HasWriteCause (T.failures taker.old) (T.failures taker.new) result }

@@ -1,11 +1,12 @@
 //! A whole stream.
 ghost use Rattle.std.specs.Prelude.{◌≡◌, ℕ, List, OnOk, OnErr, Contains};
 ghost use Rattle.swh_base.specs.declared.name.Name.{Name as Named};
+ghost use Rattle.swh_carried.specs.Uncarried.{HasNoCycle};
 ghost use Rattle.swh_postorder.specs.Cycle.{ArePreceded};
 ghost use Rattle.swh_postorder.specs.Postorder.{IsPostorder};
+ghost use Rattle.swh_fastcarried.specs.Rules.{IsOddObject};
 ghost use Rattle.swh_written.specs.Held.{WroteSome, kept};
 ghost use Rattle.swh_fastcook.specs.Cause.{HasWriteCause};
-ghost use Rattle.swh_fastcook.specs.Odd.{IsOddRevision, IsOddRelease};
 ghost use Rattle.swh_fastcook.specs.Stream.{IsStreamText};
 
 use crate::ends::write_end;
@@ -29,8 +30,7 @@ fn write_all<L: Look, T: Taker>(
 ) -> Result<(), CookFault>
     requires order { IsPostorder (L.children_of look.now) root marks.now }
     requires preceded { ArePreceded (L.children_of look.now) marks.now }
-    requires revisions { (n : Named) → Contains marks.now n → IsOddRevision (L.archive look.now).bodies n → ⊥ }
-    requires releases { (n : Named) → Contains marks.now n → IsOddRelease (L.archive look.now).bodies n → ⊥ }
+    requires plain { (n : Named) → Contains marks.now n → IsOddObject (L.archive look.now).bodies n → ⊥ }
     ensures bytes { WroteSome T.takes T.takes_front (kept taker.old held.old.items)
         (IsStreamText (L.archive look.now).bodies marks.now root) (kept taker.new held.new.items) result }
     ensures cause { HasWriteCause (T.failures taker.old) (T.failures taker.new) result }
@@ -51,8 +51,7 @@ pub fn write_stream<L: Look, T: Taker>(
 ) -> Result<(), CookFault>
     requires order { IsPostorder (L.children_of look.now) root marks.now }
     requires preceded { ArePreceded (L.children_of look.now) marks.now }
-    requires revisions { (n : Named) → Contains marks.now n → IsOddRevision (L.archive look.now).bodies n → ⊥ }
-    requires releases { (n : Named) → Contains marks.now n → IsOddRelease (L.archive look.now).bodies n → ⊥ }
+    requires plain { (n : Named) → Contains marks.now n → IsOddObject (L.archive look.now).bodies n → ⊥ }
     ensures ok { OnOk result ((text : List ℕ) × IsStreamText (L.archive look.now).bodies marks.now root text
         × T.takes taker.old text taker.new) }
     ensures err { OnErr result ((text : List ℕ) → IsStreamText (L.archive look.now).bodies marks.now root text
@@ -63,4 +62,26 @@ pub fn write_stream<L: Look, T: Taker>(
     write_all(alloc, look, marks, root, taker, &mut held)?;
     flush(taker, &mut held)?;
     Ok(())
+}
+
+/// Writes the stream of the names that are reached from the root, of which none is reached from itself. A failure leaves a
+/// front of it taken.
+pub fn write_order<L: Look, T: Taker>(
+    alloc: Global,
+    look: &L,
+    order: Vec<Name>,
+    root: Name,
+    taker: &mut T,
+) -> Result<(), CookFault>
+    requires order { IsPostorder (L.children_of look.now) root order.items }
+    requires acyclic { HasNoCycle (L.children_of look.now) order.items }
+    requires plain { (n : Named) → Contains order.items n → IsOddObject (L.archive look.now).bodies n → ⊥ }
+    ensures ok { OnOk result ((text : List ℕ) × IsStreamText (L.archive look.now).bodies order.items root text
+        × T.takes taker.old text taker.new) }
+    ensures err { OnErr result ((text : List ℕ) → IsStreamText (L.archive look.now).bodies order.items root text
+        → T.takes_front taker.old text taker.new) }
+    ensures cause { HasWriteCause (T.failures taker.old) (T.failures taker.new) result }
+{
+    let marks = Marks::new(alloc, order)?;
+    write_stream(alloc, look, &marks, root, taker)
 }

@@ -25,13 +25,9 @@ pub write_object-requires-clause-there : goal.write_object-requires-clause-there
 write_object-requires-clause-there g c =
     c.requires.there (get_or c.args.names.now c.loop-name.name-index none) (Contains-get_or c.args.names.now c.loop-name.name-index none c.loop-name-test.true)
 
-pub write_object-requires-clause-revision : goal.write_object-requires-clause-revision
-write_object-requires-clause-revision g c =
-    c.requires.revisions (get_or c.args.names.now c.loop-name.name-index none) (Contains-get_or c.args.names.now c.loop-name.name-index none c.loop-name-test.true)
-
-pub write_object-requires-clause-release : goal.write_object-requires-clause-release
-write_object-requires-clause-release g c =
-    c.requires.releases (get_or c.args.names.now c.loop-name.name-index none) (Contains-get_or c.args.names.now c.loop-name.name-index none c.loop-name-test.true)
+pub write_object-requires-clause-plain : goal.write_object-requires-clause-plain
+write_object-requires-clause-plain g c =
+    c.requires.plain (get_or c.args.names.now c.loop-name.name-index none) (Contains-get_or c.args.names.now c.loop-name.name-index none c.loop-name-test.true)
 
 pub returns-in_err-write_object-clause-bytes : goal.returns-in_err-write_object-clause-bytes
 returns-in_err-write_object-clause-bytes g c =

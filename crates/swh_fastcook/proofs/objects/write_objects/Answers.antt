@@ -8,11 +8,8 @@ use Rattle.swh_fastcook.proofs.objects.write_objects.Goals as goal
 pub write_each-requires-clause-there : goal.write_each-requires-clause-there
 write_each-requires-clause-there g c = λ n there. subst (λ (ns : List Name). Contains ns n) c.order.ensures there
 
-pub write_each-requires-clause-revisions : goal.write_each-requires-clause-revisions
-write_each-requires-clause-revisions g c = λ n there. c.requires.revisions n (subst (λ (ns : List Name). Contains ns n) c.order.ensures there)
-
-pub write_each-requires-clause-releases : goal.write_each-requires-clause-releases
-write_each-requires-clause-releases g c = λ n there. c.requires.releases n (subst (λ (ns : List Name). Contains ns n) c.order.ensures there)
+pub write_each-requires-clause-plain : goal.write_each-requires-clause-plain
+write_each-requires-clause-plain g c = λ n there. c.requires.plain n (subst (λ (ns : List Name). Contains ns n) c.order.ensures there)
 
 pub returns-clause-bytes : goal.returns-clause-bytes
 returns-clause-bytes g c =

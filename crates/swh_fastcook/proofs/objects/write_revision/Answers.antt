@@ -1,4 +1,5 @@
 use Rattle.swh_revfmt.specs.PlainReading.{plain_revision}
+use Rattle.swh_fastcarried.proofs.OddObjects.{of_revision}
 use Rattle.swh_written.specs.Held.{kept}
 use Rattle.swh_written.proofs.Pieces.{front_none}
 use Rattle.swh_fastcook.specs.Files.{IsCommitOf}
@@ -16,7 +17,8 @@ returns-in_err-plain-clause-bytes g c =
 
 pub unreachable-requires : goal.unreachable-requires
 unreachable-requires g c =
-    c.requires.plain (record { kind = c.requires.kind; body = c.body_at-body.result.now; held = c.body_at-body.ensures; odd = rw c.as_slice.ensures at (rw c.in-None.is at c.in_ok-plain.ensures.none) })
+    c.requires.plain
+    (of_revision (g.L.Look.archive c.args.look.now).bodies c.args.name (record { kind = c.requires.kind; body = c.body_at-body.result.now; held = c.body_at-body.ensures; odd = rw c.as_slice.ensures at (rw c.in-None.is at c.in_ok-plain.ensures.none) }))
 
 pub write_commit-requires-clause-directory : goal.write_commit-requires-clause-directory
 write_commit-requires-clause-directory g c =

@@ -1,0 +1,2 @@
+pub mod OddObjects
+pub mod OwnBranches
