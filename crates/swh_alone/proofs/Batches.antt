@@ -1,5 +1,5 @@
 -- What is known of a batch that was asked for.
-use Rattle.std.proofs.Common.{◌≡◌, ◌≢◌, inl, inr, ℕ, ◌<◌, ◌≤◌, Bool, true, false, cond, Some, None, List, [], ◌∷◌, length, refl, sym, ap, ◌∙◌, subst, arith}
+use Rattle.std.proofs.Common.{◌≡◌, ◌≢◌, inl, inr, ℕ, ◌≤◌, Bool, true, false, cond, Some, None, List, [], ◌∷◌, length, refl, sym, ap, ◌∙◌, subst, arith}
 use Rattle.std.specs.Prelude.{nat_lt}
 use Rattle.std.specs.List.{AllByRecursion}
 use Rattle.swh_base.specs.declared.kind.Kind.{Kind}
@@ -18,7 +18,6 @@ use Rattle.swh_model.specs.Step.{May, replay}
 use Rattle.swh_walk.specs.Owning.{AreAmong, IsBatchAmong, IsBatchAsked}
 use Rattle.swh_walk.specs.Walking.{IsBy, IsReadyBatch, IsReadyFor}
 use Rattle.swh_walk.proofs.Batches.{fresh-same}
-use Rattle.swh_alone.specs.Alone.{event_for}
 use Rattle.swh_alone.proofs.Leaving.{IsSure}
 
 not_above : (m n : ℕ) → n ≤ m → nat_lt m n ≡ false

@@ -5,7 +5,6 @@ use Rattle.std.specs.List.{AllByRecursion}
 use Rattle.std.proofs.lemmas.List.{append-nil}
 use Rattle.std.proofs.lemmas.Option.{none-some}
 use Rattle.swh_base.specs.declared.kind.Kind.{Kind}
-use Rattle.swh_base.specs.declared.entry.Entry.{Entry}
 use Rattle.swh_base.specs.declared.visit.Status.{Status}
 use Rattle.swh_base.specs.declared.visit.Which.{Which}
 use Rattle.swh_base.specs.Visit.{Statuses}
@@ -23,7 +22,7 @@ use Rattle.swh_model.specs.declared.event.Wish.{Wish}
 use Rattle.swh_model.specs.declared.event.No.TheVariants as cause
 use Rattle.swh_model.specs.Judge.{FilePasses, IsCause, event_of}
 use Rattle.swh_model.specs.Step.{May, replay}
-use Rattle.swh_keeper.specs.Calls.{kept_files, MakesCallsOf, MakesCalls}
+use Rattle.swh_keeper.specs.Calls.{kept_files, MakesCallsOf}
 use Rattle.swh_keeper.specs.Kept.{Kept, RefusesPlan}
 use Rattle.swh_keeper.specs.declared.fault.Refusal as kept
 use Rattle.swh_keeper.specs.declared.fault.Refusal.TheVariants as refusal
@@ -35,7 +34,7 @@ use Rattle.swh_walk.specs.Walking.{IsBy, IsReadyFor, Adds, StopsNow, StopsAfter}
 use Rattle.swh_walk.proofs.Steps.{all_as, adds_within}
 use Rattle.swh_alone.specs.Alone.{event_for, IsEventFor, AddsOn, FailsOn, alone_words}
 use Rattle.swh_alone.specs.Lawful.{alone_lawful}
-use Rattle.swh_alone.specs.Leaving.{KeepsAll, AddsEvents, IsStoppedBefore, IsFaulted, IsFileFull, StopsFor, Leaves}
+use Rattle.swh_alone.specs.Leaving.{StopsFor, Leaves}
 use Rattle.swh_alone.specs.Refusing.{place_refusal}
 use Rattle.swh_alone.proofs.Applying.{refused_same}
 
