@@ -129,7 +129,7 @@ module _ {D : Type 0} (id : Kind → List ℕ → List ℕ) (disks : Disks D) (b
       }
 
   -- the history is as it was
-  refused_same : (r : Refusal) → RefusesKept old by wish new r → new.history ≡ old.history
+  pub refused_same : (r : Refusal) → RefusesKept old by wish new r → new.history ≡ old.history
   refused_same (refusal.Wounded first) h = ap (λ (k : Kept D). k.history) h.1
   refused_same (refusal.Limit which number) h = ap (λ (k : Kept D). k.history) h.same
   refused_same (refusal.NoVisit have) h = ap (λ (k : Kept D). k.history) h.same

@@ -1,1 +1,3 @@
 pub mod Applying
+pub mod Batches
+pub mod Leaving

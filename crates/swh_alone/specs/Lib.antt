@@ -2,3 +2,4 @@ pub mod Refusing
 pub mod Fitting
 pub mod Alone
 pub mod Lawful
+pub mod Leaving

@@ -1,5 +1,6 @@
 // What a keeper answers to its one loader.
 ghost use Rattle.std.specs.Prelude.{◌≡◌, [], None, IfOk, IfErr};
+ghost use Rattle.swh_base.specs.Snapshot.{snapshot_name};
 ghost use Rattle.swh_model.specs.Step.{replay};
 ghost use Rattle.swh_store.specs.Adding.{IsStanding};
 ghost use Rattle.swh_outside.specs.Views.{disks};
@@ -9,7 +10,8 @@ ghost use Rattle.swh_alone.specs.Alone.{AddsOn, alone_words};
 
 use crate::fitting::plan_fits;
 use crate::refusing::refused;
-use swh_base::{Entry, Namer};
+use swh_base::{Entry, Kind, Name, Namer};
+use swh_closure::Cert;
 use swh_keeper::Keeper;
 use swh_model::Outcome;
 use swh_outside::Disk;
@@ -31,6 +33,23 @@ pub fn standing_in<N: Namer, D: Disk>(keeper: &mut Keeper<N, D>, entry: &Entry) 
     ensures standing { IsStanding (replay keeper.new.history).bodies entry.now result }
 {
     keeper.store().standing(entry)
+}
+
+/// A certificate that all that is reached from a snapshot is held, where all of it stands among these names. Whoever applies
+/// a mark checks it, so that nothing is walked here.
+pub fn certificate_in<N: Namer, D: Disk>(
+    keeper: &mut Keeper<N, D>,
+    snapshot: [u8; 20],
+    names: Vec<Name>,
+) -> Cert
+    requires { keeper.old.wounded ≡ None }
+    ensures looks { AddsOn N.id_of (disks D.tells D.file D.faults) [] keeper.old keeper.new }
+    ensures root { result.root ≡ snapshot_name snapshot }
+{
+    let _history = keeper.history();
+    let kind = Kind::Snapshot;
+    let root = Name { kind, id: snapshot };
+    Cert { root, names }
 }
 
 /// Lets a keeper carry out a plan under a number.

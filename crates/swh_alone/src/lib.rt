@@ -8,5 +8,9 @@
 mod fitting;
 mod keeping;
 mod refusing;
+mod seat;
+mod sending;
 
-pub use keeping::{carry_out, keepers_are_lawful, standing_in};
+pub use keeping::{carry_out, certificate_in, keepers_are_lawful, standing_in};
+pub use seat::Alone;
+pub use sending::send_kept;

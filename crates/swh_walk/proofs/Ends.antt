@@ -1,11 +1,11 @@
 -- The end of a visit.
-use Rattle.std.proofs.Common.{◌≡◌, inl, inr, ℕ, Result, Ok, Err, Option, Some, None, List, [], ◌∷◌, ◌++◌, refl, sym, subst, ◌∙◌}
+use Rattle.std.proofs.Common.{◌≡◌, inl, inr, ℕ, Result, Ok, Err, Option, Some, None, List, [], ◌∷◌, sym, subst, ◌∙◌}
 use Rattle.std.specs.Prelude.{OnOk, IfOk}
 use Rattle.swh_base.specs.declared.kind.Kind.{Kind}
 use Rattle.swh_base.specs.declared.name.Name.{Name}
 use Rattle.swh_base.specs.declared.entry.Entry.{Entry}
 use Rattle.swh_base.specs.declared.visit.Status.{Status}
-use Rattle.swh_base.specs.declared.visit.Status.TheVariants.{Full, Failed}
+use Rattle.swh_base.specs.declared.visit.Status.TheVariants.{Failed}
 use Rattle.swh_base.specs.Snapshot.{snapshot_name}
 use Rattle.swh_base.specs.Visit.{Statuses}
 use Rattle.swh_model.specs.declared.event.EventKind.{EventKind}
@@ -17,7 +17,7 @@ use Rattle.swh_made.specs.declared.objects.Objects.{Objects}
 use Rattle.swh_place.specs.Knowing.{Words, IsLawful, held_in}
 use Rattle.swh_walk.specs.declared.stop.Stop.{Stop}
 use Rattle.swh_walk.specs.Owning.{Attempt, mark_of, IsKind, IsWished, IsBatchAmong, IsBatchAsked}
-use Rattle.swh_walk.specs.Sending.{AllHeld, AreSent, IsMet}
+use Rattle.swh_walk.specs.Sending.{AreSent, IsMet}
 use Rattle.swh_walk.specs.Visiting.{IsMine, HasLast}
 use Rattle.swh_walk.specs.Walking.{Adds, StopsNow, StopsAfter}
 use Rattle.swh_walk.specs.Ending.{IsMarkOf, IsMarkAsked, IsOfVisit, IsOfVisitAsked, IsFinished, last_of}
