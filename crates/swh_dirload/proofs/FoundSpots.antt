@@ -1,9 +1,8 @@
 -- The table of what a walk found.
-use Rattle.std.proofs.Common.{◌≡◌, ◌≢◌, ℕ, zero, suc, ◌+◌, ◌<◌, ◌≤◌, Bool, true, false, cond, Option, Some, None, List, [], ◌∷◌, ◌++◌, length, map, take, get_or, Contains, refl, sym, ap, ◌∙◌, subst, arith, length-append}
+use Rattle.std.proofs.Common.{◌≡◌, ◌≢◌, ℕ, zero, suc, ◌+◌, ◌<◌, ◌≤◌, Bool, cond, Some, None, List, [], ◌∷◌, ◌++◌, length, map, take, get_or, Contains, refl, sym, ap, ◌∙◌, arith, length-append}
 use Rattle.std.specs.Prelude.{string_bytes, All}
 use Rattle.std.specs.List.{AllByRecursion}
-use Rattle.std.specs.Str.{bytes_eq}
-use Rattle.std.proofs.lemmas.List.{length-map, map-append, take_more, get_or_append_left}
+use Rattle.std.proofs.lemmas.List.{length-map, map-append, take_more}
 use Rattle.std.proofs.lemmas.Slice.Eq.{bytes_eq-Decides}
 use Rattle.std.proofs.Math.Seq.{get_or-append_seam}
 use Rattle.swh_base.specs.Directory.{IsEntryName}
@@ -11,13 +10,12 @@ use Rattle.swh_outside.specs.Folder.{IsFolderEntryName}
 use Rattle.swh_outside.specs.declared.folder.What.TheVariants.{Folder}
 use Rattle.swh_dirload.specs.declared.found.Found.{Found}
 use Rattle.swh_dirmade.specs.declared.place.Place.{Place}
-use Rattle.swh_dirmade.specs.declared.place.Place.TheVariants as stands
 use Rattle.swh_dirmade.specs.declared.spot.Spot.{Spot}
 use Rattle.swh_dirload.specs.Items.{Item}
 use Rattle.swh_dirload.specs.Found as found
 use Rattle.swh_dirload.specs.Found.{HavePaths}
 use Rattle.swh_dirload.specs.Lines.{spot_of}
-use Rattle.swh_dirmade.specs.Spots.{Places, path_at, path_in, paths_behind, paths_of, path_to, above_at, name_at, place_at, ArePlaced, AreApart, AreNamed, AreNamedBehind, IsTable, IsFree, Stand}
+use Rattle.swh_dirmade.specs.Spots.{path_at, path_in, paths_behind, path_to, above_at, name_at, place_at, ArePlaced, AreApart, AreNamed, AreNamedBehind, IsTable, Stand}
 use Rattle.swh_dirload.specs.Places.{places_of}
 use Rattle.swh_dirmade.proofs.Trees.{unique}
 use Rattle.swh_dirmade.proofs.SpotTables.{stays, tree_of}

@@ -1,5 +1,5 @@
 -- The contents of files that were read are held.
-use Rattle.std.proofs.Common.{◌≡◌, ◌⊎◌, inl, inr, ℕ, zero, suc, List, [], ◌∷◌, ◌++◌, get_or, set, Contains, refl, sym, ap, subst}
+use Rattle.std.proofs.Common.{◌≡◌, ◌⊎◌, inl, ℕ, zero, suc, List, [], ◌∷◌, ◌++◌, get_or, set, Contains, refl, sym, subst}
 use Rattle.std.specs.Prelude.{Result, Ok, Err, IfOk, OnOk}
 use Rattle.std.specs.List.{AllByRecursion}
 use Rattle.swh_base.specs.declared.kind.Kind.{Kind}
@@ -7,8 +7,8 @@ use Rattle.swh_base.specs.declared.kind.Kind.TheVariants.{Content}
 use Rattle.swh_base.specs.declared.entry.Entry.{Entry}
 use Rattle.swh_base.specs.declared.memory.Memory.{Memory}
 use Rattle.swh_base.specs.declared.name.Name.{Name}
-use Rattle.swh_model.specs.Meaning.{Made, content}
-use Rattle.swh_made.specs.Making.{made_from, made, name_of, names_of_made}
+use Rattle.swh_model.specs.Meaning.{content}
+use Rattle.swh_made.specs.Making.{made, name_of, names_of_made}
 use Rattle.swh_made.proofs.Elements.{all_as, all_push, contains_map}
 use Rattle.swh_made.proofs.Givens.{more_names}
 use Rattle.swh_dirmade.specs.declared.place.Place.{Place}

@@ -15,7 +15,7 @@ use Rattle.std.specs.Cmp.Lexicographic.{slice_cmp, nat_list_cmp_total}
 use Rattle.std.specs.BTreeMap.{insert_entry}
 use Rattle.std.proofs.lemmas.Bool.{cases_lt}
 use Rattle.swh_dirmade.specs.declared.spot.Spot.{Spot}
-use Rattle.swh_dirmade.specs.Spots.{path_to, above_at, name_at, IsTable}
+use Rattle.swh_dirmade.specs.Spots.{above_at, name_at, IsTable}
 use Rattle.swh_dirload.specs.Index.{key_text, number_of, Adds, LeadsTo, IsIndexTo, IsIndex, IsIn, HasNone}
 use Rattle.swh_dirmade.proofs.SpotTables.{above_is, name_is, tree_of}
 

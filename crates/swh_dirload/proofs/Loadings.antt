@@ -1,5 +1,5 @@
 -- A folder with its listing, from its table to what it means.
-use Rattle.std.proofs.Common.{◌≡◌, ◌⊎◌, inl, inr, ℕ, ◌<◌, Some, List, [], ◌∷◌, ◌++◌, length, Contains, refl, sym, ap, ◌∙◌, subst, arith}
+use Rattle.std.proofs.Common.{◌≡◌, ◌⊎◌, inl, inr, ℕ, Some, List, [], ◌∷◌, Contains, refl, sym, ap, ◌∙◌, subst}
 use Rattle.std.proofs.lemmas.List.{map-append}
 use Rattle.std.proofs.lemmas.List.Elements.{Contains-push_cases}
 use Rattle.swh_base.specs.declared.kind.Kind.{Kind}
@@ -11,17 +11,17 @@ use Rattle.swh_outside.specs.Folder.{Tree}
 use Rattle.swh_model.specs.Meaning.{Made}
 use Rattle.swh_made.specs.Giving.{AreNew}
 use Rattle.swh_made.specs.Making.{made_from, made, name_of, names_of_made, object_of}
-use Rattle.swh_made.specs.Whole.{names_of, AreWhole}
+use Rattle.swh_made.specs.Whole.{names_of}
 use Rattle.swh_made.proofs.Elements.{contains_map}
 use Rattle.swh_made.proofs.Wholes.{same_names, new_whole}
 use Rattle.swh_dirmade.specs.declared.place.Place.{Place}
 use Rattle.swh_dirmade.specs.declared.place.Place.TheVariants as stands
 use Rattle.swh_dirmade.specs.declared.spot.Spot.{Spot}
-use Rattle.swh_dirmade.specs.Directories.{IsDirectoryOf, GivesDirectories}
+use Rattle.swh_dirmade.specs.Directories.{GivesDirectories}
 use Rattle.swh_dirmade.specs.Giving.{GivesOne}
 use Rattle.swh_dirmade.specs.Sizes as sizes
 use Rattle.swh_dirmade.specs.Snapshots.{head, GivesSnapshot}
-use Rattle.swh_dirmade.specs.Spots.{Places, IsTable, Stand}
+use Rattle.swh_dirmade.specs.Spots.{Places, IsTable}
 use Rattle.swh_dirmade.proofs.Built.{grows, given_there}
 use Rattle.swh_dirload.specs.declared.fault.DirFault.{DirFault}
 use Rattle.swh_dirload.specs.declared.fault.DirFault.TheVariants.{OtherKind, BadModes, Limit, ReadFault, Memory}

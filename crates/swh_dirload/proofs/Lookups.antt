@@ -1,5 +1,5 @@
 -- Where paths lead, component by component.
-use Rattle.std.proofs.Common.{◌≡◌, ℕ, ◌<◌, List, [], ◌∷◌, ◌++◌, length, Contains, sym, ap, ◌∙◌, subst}
+use Rattle.std.proofs.Common.{◌≡◌, ℕ, ◌<◌, List, ◌∷◌, ◌++◌, length, Contains, sym, ap, ◌∙◌, subst}
 use Rattle.swh_base.specs.Directory.{IsEntryName}
 use Rattle.swh_fastlex.specs.Path.{IsComponent}
 use Rattle.swh_dirmade.specs.declared.spot.Spot.{Spot}

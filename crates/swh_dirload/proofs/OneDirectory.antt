@@ -1,5 +1,5 @@
 -- What stands in a folder has one directory for each folder.
-use Rattle.std.proofs.Common.{◌≡◌, ◌≢◌, ◌⊎◌, inl, inr, ℕ, zero, suc, ◌+◌, ◌<◌, ◌≤◌, Bool, true, false, cond, Option, Some, None, List, [], ◌∷◌, ◌++◌, length, length-append, Contains, refl, sym, ap, ◌∙◌, subst, arith}
+use Rattle.std.proofs.Common.{◌≡◌, ◌≢◌, ℕ, zero, suc, ◌+◌, ◌<◌, ◌≤◌, Bool, true, false, cond, Option, Some, None, List, [], ◌∷◌, length, length-append, Contains, refl, sym, ap, ◌∙◌, subst, arith}
 use Rattle.std.specs.Str.{bytes_eq}
 use Rattle.std.specs.Ordering.{nat_cmp, ordering_reverse}
 use Rattle.std.specs.declared.cmp.Ordering.{Ordering}
@@ -17,7 +17,7 @@ use Rattle.swh_listing.specs.declared.listed.Mode.TheVariants.{Executable, Link,
 use Rattle.swh_outside.specs.declared.folder.What.{What}
 use Rattle.swh_dirmade.specs.declared.place.Place.{Place}
 use Rattle.swh_dirmade.specs.declared.place.Place.TheVariants as stands
-use Rattle.swh_dirmade.specs.Directories.{entry_of, entry_for, IsEntryIn, AreDirectories, directory_id}
+use Rattle.swh_dirmade.specs.Directories.{entry_of, entry_for, IsEntryIn, AreDirectories}
 use Rattle.swh_dirmade.specs.Paths.{child}
 use Rattle.swh_dirmade.specs.Spots.{Places}
 use Rattle.swh_dirload.specs.Items.{Item, Fits}

@@ -1,7 +1,6 @@
 -- A folder with its listing means one snapshot at most, breaks in one way at most, and does not do both.
-use Rattle.std.proofs.Common.{◌≡◌, ◌≢◌, ◌⊎◌, inl, inr, ℕ, ◌+◌, ◌<◌, ◌≤◌, Bool, cond, Option, Some, None, List, [], ◌∷◌, ◌++◌, length, Contains, refl, sym, ap, ◌∙◌, subst, arith}
+use Rattle.std.proofs.Common.{◌≡◌, ◌≢◌, ◌⊎◌, inl, inr, ℕ, ◌<◌, ◌≤◌, Bool, cond, Some, List, [], ◌∷◌, ◌++◌, length, Contains, refl, sym, ap, ◌∙◌, subst, arith}
 use Rattle.std.specs.Prelude.{◌↔◌}
-use Rattle.std.specs.List.{AllByRecursion}
 use Rattle.std.proofs.lemmas.Slice.Eq.{bytes_eq-Decides}
 use Rattle.swh_base.specs.declared.kind.Kind.{Kind}
 use Rattle.swh_base.specs.declared.kind.Kind.TheVariants.{Snapshot}
@@ -19,23 +18,23 @@ use Rattle.swh_made.specs.Making.{made, object_of}
 use Rattle.swh_listing.specs.declared.fault.ListingFault.{ListingFault}
 use Rattle.swh_listing.specs.declared.fault.ListingFault.TheVariants as listing
 use Rattle.swh_listing.specs.declared.listed.Listed.{Listed}
-use Rattle.swh_listing.specs.Listing.{Reads, IsListing}
+use Rattle.swh_listing.specs.Listing.{Reads}
 use Rattle.swh_listing.specs.Fault.{NextBreaks}
 use Rattle.swh_listing.proofs.Faults.{one_listing}
 use Rattle.swh_dirmade.specs.declared.place.Place.{Place}
 use Rattle.swh_dirmade.specs.declared.place.Place.TheVariants as stands
 use Rattle.swh_dirmade.specs.Spots.{Places}
-use Rattle.swh_dirmade.specs.Directories.{AreDirectories, IsDirectoryOf, HasSize, directory_id}
+use Rattle.swh_dirmade.specs.Directories.{IsDirectoryOf, HasSize, directory_id}
 use Rattle.swh_dirmade.specs.Snapshots.{head}
 use Rattle.swh_dirload.specs.declared.fault.DirFault.{DirFault}
 use Rattle.swh_dirload.specs.declared.fault.DirFault.TheVariants.{OtherKind, BadModes, Limit, ReadFault, Memory}
 use Rattle.swh_dirload.specs.Faults.{listing_fault}
 use Rattle.swh_dirload.specs.Items.{Item, Fits}
-use Rattle.swh_dirload.specs.Lines.{BreaksAfter, PassesAfter}
-use Rattle.swh_dirload.specs.Meaning.{AreShort, IsFirstLong, ReadsFolder, HasFolder, ReadsBoth, MeansFolder, StopsReading, HasLong, BreaksAt, PassesAtLine, HasLongListed, PassesInFolder, PassesInListing, BreaksFolder}
+use Rattle.swh_dirload.specs.Lines.{BreaksAfter}
+use Rattle.swh_dirload.specs.Meaning.{AreShort, IsFirstLong, ReadsFolder, HasFolder, ReadsBoth, MeansFolder, HasLong, BreaksAt, HasLongListed, BreaksFolder}
 use Rattle.swh_dirload.specs.Places.{places_of, MayTake, TakesAll}
 use Rattle.swh_dirload.specs.Reading.{IsRead, ReadsAll, StopsAt}
-use Rattle.swh_dirload.specs.Walk.{root, Takes, IsWalk, ComesTo, ExplainsWalk}
+use Rattle.swh_dirload.specs.Walk.{root, Takes, IsWalk, ComesTo}
 use Rattle.swh_dirload.proofs.OneWalk.{one_walk, comes_to_none, comes_to_one}
 use Rattle.swh_dirload.proofs.OneReading.{Cuts, two_cuts, same_reading, same_contents, reads_or_stops}
 use Rattle.swh_dirload.proofs.OneReading.Cuts.{Same, Second, First}

@@ -1,21 +1,18 @@
 -- The files of a folder are read in one way, or stop at one of them.
 use Rattle.std.proofs.Common.{◌≡◌, ◌⊎◌, inl, inr, ℕ, ◌+◌, ◌<◌, ◌≤◌, Some, List, [], ◌∷◌, ◌++◌, length, Contains, refl, sym, ap, ◌∙◌, subst, arith}
 use Rattle.std.specs.Prelude.{◌↔◌}
-use Rattle.std.proofs.lemmas.List.{map-append}
-use Rattle.std.proofs.lemmas.List.Elements.{Contains-push_cases}
 use Rattle.swh_base.specs.declared.kind.Kind.{Kind}
 use Rattle.swh_base.specs.declared.kind.Kind.TheVariants.{Content}
 use Rattle.swh_base.specs.declared.entry.Entry.{Entry}
 use Rattle.swh_base.specs.declared.visit.Which.{Which}
 use Rattle.swh_base.specs.declared.visit.Which.TheVariants.{Body, Objects, Bytes, Store, Ledger, Stream, Line, Path, Ref, Refs}
 use Rattle.swh_base.specs.Limits.{body_limit}
-use Rattle.swh_outside.specs.Folder.{Tree, bytes_at}
+use Rattle.swh_outside.specs.Folder.{Tree}
 use Rattle.swh_outside.specs.declared.folder.What.{What}
 use Rattle.swh_outside.specs.declared.folder.What.TheVariants.{File, Folder, Other}
 use Rattle.swh_model.specs.Meaning.{Made, content}
-use Rattle.swh_made.specs.Making.{made_from, made}
-use Rattle.swh_dirload.specs.declared.fault.DirFault.{DirFault}
-use Rattle.swh_dirload.specs.declared.fault.DirFault.TheVariants.{OtherKind, BadModes, Limit, ReadFault, Memory}
+use Rattle.swh_made.specs.Making.{made}
+use Rattle.swh_dirload.specs.declared.fault.DirFault.TheVariants.{Limit}
 use Rattle.swh_dirload.specs.declared.limits.TheConstants.{FILES_LIMIT}
 use Rattle.swh_dirmade.specs.declared.place.Place.{Place}
 use Rattle.swh_dirmade.specs.declared.place.Place.TheVariants as stands

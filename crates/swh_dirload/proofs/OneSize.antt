@@ -1,11 +1,9 @@
 -- A directory has one size.
-use Rattle.std.proofs.Common.{◌≡◌, ◌≢◌, ◌⊎◌, inl, inr, ℕ, zero, suc, ◌+◌, ◌<◌, ◌≤◌, Some, List, [], ◌∷◌, ◌++◌, length, map, get_or, Contains, refl, sym, ap, ◌∙◌, subst, arith}
-use Rattle.std.specs.Prelude.{◌↔◌}
-use Rattle.std.specs.List.{AllByRecursion, AllPairs, sum_by}
+use Rattle.std.proofs.Common.{◌≡◌, ◌≢◌, ◌⊎◌, inl, inr, ℕ, suc, ◌+◌, List, [], ◌∷◌, ◌++◌, Contains, refl, sym, ap, ◌∙◌, subst, arith}
+use Rattle.std.specs.List.{AllPairs, sum_by}
 use Rattle.std.proofs.lemmas.List.Sorted.{IsPermutation-middle, sum_by-IsPermutation}
 use Rattle.std.proofs.lemmas.List.Sums.{sum_by-cons}
-use Rattle.swh_made.proofs.Elements.{first_or_later, first_is, later_is, none_is, each_is, all_from}
-use Rattle.swh_base.specs.Directory.{IsEntryName}
+use Rattle.swh_made.proofs.Elements.{first_or_later, first_is, later_is, none_is}
 use Rattle.swh_dirmade.specs.Directories.{Row, row_size, HasSize}
 use Rattle.swh_dirmade.specs.Paths.{child}
 use Rattle.swh_dirmade.specs.Spots.{Places}

@@ -1,7 +1,6 @@
 -- The lines of a listing over a folder break in one way at most.
-use Rattle.std.proofs.Common.{◌≡◌, ◌⊎◌, inl, inr, ℕ, zero, suc, ◌+◌, ◌<◌, ◌≤◌, List, [], ◌∷◌, ◌++◌, length, length-append, Contains, refl, sym, ap, ◌∙◌, subst, arith}
+use Rattle.std.proofs.Common.{◌≡◌, ◌⊎◌, inl, inr, ℕ, suc, ◌+◌, ◌<◌, List, [], ◌∷◌, ◌++◌, length, Contains, refl, sym, ap, ◌∙◌, subst, arith}
 use Rattle.std.proofs.lemmas.List.{append-nil}
-use Rattle.swh_base.specs.Limits.{line_limit}
 use Rattle.swh_base.specs.declared.visit.Which.{Which}
 use Rattle.swh_base.specs.declared.visit.Which.TheVariants.{Body, Objects, Bytes, Store, Ledger, Stream, Line, Path, Ref, Refs}
 use Rattle.swh_base.proofs.Splits.{first_split}
@@ -12,11 +11,11 @@ use Rattle.swh_listing.specs.declared.fault.ListingFault.TheVariants.{BadModes, 
 use Rattle.swh_listing.specs.declared.listed.Listed.{Listed}
 use Rattle.swh_listing.specs.Line.{SaysListed, PassesPathIn}
 use Rattle.swh_listing.specs.Listing.{HasLine, TakesLine, behind, Reads, IsListing}
-use Rattle.swh_listing.specs.Fault.{GoesOn, PassesListing, PassesLine, IsNoLine, IsCut, NextPasses, NextBreaks, IsFault}
-use Rattle.swh_listing.proofs.Faults.{one_listing, no_fault, one_fault}
+use Rattle.swh_listing.specs.Fault.{GoesOn, NextPasses, NextBreaks, IsFault}
+use Rattle.swh_listing.proofs.Faults.{no_fault, one_fault}
 use Rattle.swh_listing.proofs.Modes.{one_said}
 use Rattle.swh_dirload.specs.Places.{MayTake, TakesAll}
-use Rattle.swh_dirload.proofs.OneTaking.{AreSame, one_taking, may_come}
+use Rattle.swh_dirload.proofs.OneTaking.{AreSame, may_come}
 
 -- ## A line that is read breaks nothing
 

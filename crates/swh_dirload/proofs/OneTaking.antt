@@ -1,12 +1,12 @@
 -- The lines of a listing make one thing of what stands in a folder, and break it in one way at most.
-use Rattle.std.proofs.Common.{◌≡◌, ◌⊎◌, inl, inr, ℕ, zero, suc, ◌+◌, ◌<◌, ◌≤◌, Bool, cond, Option, Some, None, List, [], ◌∷◌, ◌++◌, length, length-append, Contains, refl, sym, ap, ◌∙◌, subst, arith}
+use Rattle.std.proofs.Common.{◌≡◌, ℕ, cond, Option, List, [], ◌∷◌, ◌++◌, refl, sym, ap, ◌∙◌}
 use Rattle.std.specs.Str.{bytes_eq}
 use Rattle.swh_dirmade.specs.Spots.{Places}
 use Rattle.swh_listing.specs.declared.listed.Listed.{Listed}
 use Rattle.swh_listing.specs.declared.listed.Mode.{Mode}
 use Rattle.swh_listing.specs.declared.listed.Mode.TheVariants.{Executable, Link, Project}
 use Rattle.swh_dirmade.specs.declared.place.Place.{Place}
-use Rattle.swh_dirload.specs.Places.{IsInFolder, MayTake, changed, take, TakesAll}
+use Rattle.swh_dirload.specs.Places.{MayTake, changed, take, TakesAll}
 
 -- the same stands at each path
 abbrev pub AreSame : Places → Places → Type 0

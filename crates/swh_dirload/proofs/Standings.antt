@@ -1,29 +1,29 @@
 -- What stands at the paths of a table, before and after a line.
-use Rattle.std.proofs.Common.{◌≡◌, ◌≢◌, ◌⊎◌, inl, inr, ℕ, zero, suc, ◌+◌, ◌<◌, ◌≤◌, ◌^◌, Bool, true, false, cond, Option, Some, None, List, [], ◌∷◌, ◌++◌, length, map, set, get_or, Contains, refl, sym, ap, ◌∙◌, subst, arith, length-append}
+use Rattle.std.proofs.Common.{◌≡◌, ◌≢◌, inl, inr, ℕ, suc, ◌+◌, ◌<◌, ◌^◌, Bool, true, false, cond, Some, None, List, [], ◌∷◌, ◌++◌, length, set, get_or, refl, sym, ap, ◌∙◌, subst, arith, length-append}
 use Rattle.std.specs.Global.{Vec}
 use Rattle.std.specs.List.{AllByRecursion}
 use Rattle.std.specs.Str.{bytes_eq}
 use Rattle.std.proofs.lemmas.Bool.{cases_lt}
-use Rattle.std.proofs.lemmas.List.{get_or_append_left, get_or-map, get_or-set_same, get_or-set_other, map-append, length-map}
+use Rattle.std.proofs.lemmas.List.{get_or_append_left, get_or-set_same, get_or-set_other}
 use Rattle.std.proofs.lemmas.Slice.Eq.{bytes_eq-Decides}
 use Rattle.std.proofs.Math.Seq.{get_or-append_seam}
 use Rattle.swh_base.specs.Directory.{IsEntryName}
 use Rattle.swh_listing.specs.declared.listed.Mode.{Mode}
-use Rattle.swh_listing.specs.declared.listed.Mode.TheVariants.{Executable, Link, Project}
+use Rattle.swh_listing.specs.declared.listed.Mode.TheVariants.{Project}
 use Rattle.swh_dirload.specs.declared.lookup.Lookup.{Lookup}
 use Rattle.swh_dirload.specs.declared.lookup.Lookup.TheVariants.{Here, Free, Lost}
 use Rattle.swh_dirmade.specs.declared.place.Place.{Place}
 use Rattle.swh_dirmade.specs.declared.place.Place.TheVariants as stands
 use Rattle.swh_dirmade.specs.declared.spot.Spot.{Spot}
 use Rattle.swh_dirmade.specs.Paths.{child}
-use Rattle.swh_dirmade.specs.Spots.{Places, path_at, path_in, paths_of, path_to, above_at, name_at, place_at, IsPlaced, ArePlaced, AreApart, AreNamed, AreNamedBehind, IsTable, IsFree, Stand}
-use Rattle.swh_dirload.specs.Places.{IsInFolder, MayTake, changed, take}
-use Rattle.swh_dirload.specs.Index.{key_text, Adds, LeadsTo, IsIndexTo, IsIndex, IsIn, HasNone, IsCutOff, MayAdd, LooksUp, number_of}
+use Rattle.swh_dirmade.specs.Spots.{Places, path_at, path_in, paths_of, path_to, above_at, name_at, place_at, IsPlaced, AreApart, AreNamed, AreNamedBehind, IsTable, IsFree, Stand}
+use Rattle.swh_dirload.specs.Places.{IsInFolder, changed, take}
+use Rattle.swh_dirload.specs.Index.{key_text, Adds, IsIndexTo, IsIndex, HasNone, IsCutOff, MayAdd, LooksUp, number_of}
 use Rattle.swh_dirload.specs.Lines.{line_of}
 use Rattle.swh_dirmade.proofs.Paths.{child_injective, cut_above}
 use Rattle.swh_dirmade.proofs.Trees.{unique, parent, ancestor}
 use Rattle.swh_dirmade.proofs.SpotTables.{length_paths, paths_push, placed_push, above_is, name_is, tree_of}
-use Rattle.swh_dirload.proofs.Indexes.{test_self, test_apart, index_step}
+use Rattle.swh_dirload.proofs.Indexes.{test_apart, index_step}
 
 some_none : (p : Place) → None ≡ Some p → ⊥
 some_none p e = absurd (cc)

@@ -1,16 +1,15 @@
 -- Lines that are taken one after another.
-use Rattle.std.proofs.Common.{◌≡◌, ◌⊎◌, inl, inr, ℕ, ◌+◌, cond, Option, Some, None, List, [], ◌∷◌, ◌++◌, length, refl, sym, ap, ◌∙◌, subst, arith, length-append}
+use Rattle.std.proofs.Common.{◌≡◌, inl, inr, ℕ, ◌+◌, cond, Option, Some, List, [], ◌∷◌, ◌++◌, length, refl, sym, ap, ◌∙◌, subst, arith, length-append}
 use Rattle.std.specs.Prelude.{Result, Ok, Err, IfOk}
 use Rattle.std.specs.Str.{bytes_eq}
 use Rattle.swh_base.specs.declared.memory.Memory.{Memory}
-use Rattle.swh_fastlex.specs.Path.{IsPath}
 use Rattle.swh_listing.specs.declared.fault.ListingFault.{ListingFault}
 use Rattle.swh_listing.specs.declared.fault.ListingFault.TheVariants as listing
 use Rattle.swh_listing.specs.declared.listed.Listed.{Listed}
 use Rattle.swh_listing.specs.declared.listed.Mode.{Mode}
 use Rattle.swh_listing.specs.declared.listed.Mode.TheVariants.{Executable, Link, Project}
 use Rattle.swh_listing.specs.Line.{SaysListed}
-use Rattle.swh_listing.specs.Listing.{TakesLine, behind, Reads, IsListing}
+use Rattle.swh_listing.specs.Listing.{TakesLine, behind, Reads}
 use Rattle.swh_listing.specs.Fault.{NextBreaks}
 use Rattle.swh_listing.proofs.Readings.{one_more, all_read}
 use Rattle.swh_dirload.specs.declared.lookup.Lookup.{Lookup}

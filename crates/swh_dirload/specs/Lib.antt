@@ -5,6 +5,7 @@ pub mod Index
 pub mod Items
 pub mod Lines
 pub mod Loading
+pub mod May
 pub mod Meaning
 pub mod Modes
 pub mod Places

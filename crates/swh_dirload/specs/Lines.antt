@@ -1,5 +1,5 @@
 -- The lines of a listing, taken one after another.
-use Rattle.std.specs.Prelude.{◌≡◌, ◌⊎◌, ◌<◌, ◌≤◌, ◌+◌, ℕ, List, [], ◌∷◌, ◌++◌, length, map, slice_set, Some}
+use Rattle.std.specs.Prelude.{◌≡◌, ◌⊎◌, ◌<◌, ◌≤◌, ◌+◌, ℕ, List, [], ◌∷◌, ◌++◌, length, slice_set}
 use Rattle.swh_base.specs.declared.visit.Which.{Which}
 use Rattle.swh_fastlex.specs.Path.{IsPath}
 use Rattle.swh_listing.specs.declared.fault.ListingFault.TheVariants as listing

@@ -1,5 +1,5 @@
 -- A folder with its listing, loaded step by step.
-use Rattle.std.specs.Prelude.{◌≡◌, ◌↔◌, ◌⊎◌, ◌<◌, ◌++◌, ℕ, List, [], ◌∷◌, length, Contains}
+use Rattle.std.specs.Prelude.{◌≡◌, ◌↔◌, ◌⊎◌, ℕ, List, [], ◌∷◌, length, Contains}
 use Rattle.swh_base.specs.declared.kind.Kind.{Kind}
 use Rattle.swh_base.specs.declared.kind.Kind.TheVariants.{Snapshot}
 use Rattle.swh_base.specs.declared.entry.Entry.{Entry}
@@ -9,7 +9,6 @@ use Rattle.swh_base.specs.Snapshot.{IsSnapshot}
 use Rattle.swh_outside.specs.Folder.{Tree}
 use Rattle.swh_model.specs.Meaning.{Made}
 use Rattle.swh_made.specs.Making.{made, object_of}
-use Rattle.swh_made.specs.Giving.{AreNew}
 use Rattle.swh_dirmade.specs.declared.place.Place.{Place}
 use Rattle.swh_dirmade.specs.declared.spot.Spot.{Spot}
 use Rattle.swh_dirmade.specs.Directories.{AreDirectories, IsDirectoryOf, directory_id}
@@ -20,7 +19,7 @@ use Rattle.swh_dirload.specs.declared.fault.DirFault.{DirFault}
 use Rattle.swh_dirload.specs.declared.fault.DirFault.TheVariants.{OtherKind, BadModes, Limit, ReadFault, Memory}
 use Rattle.swh_dirload.specs.Found.{HavePaths}
 use Rattle.swh_dirload.specs.Items.{Item}
-use Rattle.swh_dirload.specs.Lines.{GoesOn, AreTaken, ExplainsLines}
+use Rattle.swh_dirload.specs.Lines.{GoesOn, AreTaken}
 use Rattle.swh_dirload.specs.Places.{places_of}
 use Rattle.swh_dirload.specs.Reading.{ReadsAll}
 use Rattle.swh_dirload.specs.Walk.{IsWalk}

@@ -6,6 +6,7 @@ ghost use Rattle.swh_dirmade.specs.Making.{IsHeld};
 ghost use Rattle.swh_outside.specs.Faults.{Rose};
 ghost use Rattle.swh_dirload.specs.declared.fault.DirFault.TheVariants.{ReadFault as NotRead};
 ghost use Rattle.swh_dirload.specs.Index.{IsIndex};
+ghost use Rattle.swh_dirload.specs.May.{MayRefuse};
 ghost use Rattle.swh_dirload.specs.Lines.{AreTaken, ExplainsLines, GoesOn};
 ghost use Rattle.swh_dirmade.specs.Spots.{Places, IsTable, Stand};
 
@@ -36,6 +37,7 @@ pub fn take_lines<S: Source>(
     requires count { length places.old.items ≡ length spots.old.items }
     ensures taken { S.tells → (before : Places) → Stand spots.old.items places.old.items before
         → OnOk result (AreTaken before (S.left source.old) spots.new.items places.new.items) }
+    ensures may { IfErr result MayRefuse }
     ensures err { S.tells → (before : Places) → Stand spots.old.items places.old.items before
         → IfErr result (ExplainsLines before (S.left source.old)) }
     ensures held { (names : List Name) → AllByRecursion (IsHeld names) places.old.items

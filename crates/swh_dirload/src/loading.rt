@@ -13,6 +13,7 @@ ghost use Rattle.swh_dirmade.specs.Spots.{Places, IsTable, Stand};
 ghost use Rattle.swh_dirload.specs.declared.fault.DirFault.TheVariants.{ReadFault as NotRead};
 ghost use Rattle.swh_dirload.specs.Lines.{AreTaken, ExplainsLines, GoesOn};
 ghost use Rattle.swh_dirload.specs.Loading.{HasTable, ExplainsLength, IsLongAfter, MakesAll};
+ghost use Rattle.swh_dirload.specs.May.{MayRefuse};
 ghost use Rattle.swh_dirload.specs.Meaning.{MeansFolder, ExplainsFolder};
 ghost use Rattle.swh_dirload.specs.Modes.{Tells, text_of, IsLeft, RoseIn};
 
@@ -47,6 +48,7 @@ fn read_folder<N: Namer, F: Folder>(
     ensures table { IfOk result (λ s. IsTable s.spots.items) }
     ensures count { IfOk result (λ s. length s.places.items ≡ length s.spots.items) }
     ensures held { IfOk result (λ s. AllByRecursion (IsHeld (names_of_made N.id_of (made given.new))) s.places.items) }
+    ensures may { IfErr result MayRefuse }
     ensures err { F.tells → (text : List ℕ) → IfErr result (ExplainsFolder N.id_of (F.holds folder.old) text) }
 
     ensures same { F.tells → F.holds folder.new ≡ F.holds folder.old }
@@ -66,6 +68,7 @@ fn check_lengths(alloc: Global, spots: &[Spot], places: &[Place]) -> Result<(), 
     requires count { length places.now ≡ length spots.now }
     ensures short { OnOk result (AreShort spots.now places.now) }
     ensures err { IfErr result (ExplainsLength spots.now places.now) }
+    ensures may { IfErr result MayRefuse }
 {
     match first_long(alloc, spots, places)? {
         Some(number) => Err(DirFault::Limit {
@@ -93,6 +96,7 @@ fn take_listing<S: Source>(
     ensures table { OnOk result (IsTable spots.new.items) }
     ensures count { OnOk result (length places.new.items ≡ length spots.new.items) }
     ensures short { OnOk result (AreShort spots.new.items places.new.items) }
+    ensures may { IfErr result MayRefuse }
     ensures err { S.tells → (before : Places) → Stand spots.old.items places.old.items before
         → IfErr result (λ fault. ExplainsLines before (S.left source.old) fault
         ⊎ IsLongAfter before (S.left source.old) spots.old.items places.old.items spots.new.items places.new.items
@@ -141,6 +145,7 @@ fn load_plain<N: Namer, F: Folder>(
     ensures ok { F.tells → IfOk result (λ loaded. MeansFolder N.id_of (F.holds folder.old) [] loaded.objects.items
         loaded.snapshot) }
     ensures whole { IfOk result (HasAllThatIsReached N.id_of) }
+    ensures may { IfErr result MayRefuse }
     ensures err { F.tells → IfErr result (ExplainsFolder N.id_of (F.holds folder.old) []) }
 
     ensures same { F.tells → F.holds folder.new ≡ F.holds folder.old }
@@ -165,6 +170,7 @@ fn load_listed<N: Namer, F: Folder, S: Source>(
     ensures ok { F.tells → S.tells → IfOk result (λ loaded. MeansFolder N.id_of (F.holds folder.old) (S.left source.old)
         loaded.objects.items loaded.snapshot) }
     ensures whole { IfOk result (HasAllThatIsReached N.id_of) }
+    ensures may { IfErr result MayRefuse }
     ensures err { F.tells → S.tells → IfErr result (ExplainsFolder N.id_of (F.holds folder.old) (S.left source.old)) }
 
     ensures same { F.tells → F.holds folder.new ≡ F.holds folder.old }
@@ -204,10 +210,11 @@ pub fn load_folder<N: Namer, F: Folder, S: Source>(
 ) -> Result<Objects<N>, DirFault>
     ensures ok { F.tells → Tells S.tells modes.entry → IfOk result (λ loaded. MeansFolder N.id_of (F.holds folder.old)
         (text_of S.left modes.entry) loaded.objects.items loaded.snapshot) }
-    // Also of a folder and a listing that do not tell what they hold.
-    ensures whole { IfOk result (HasAllThatIsReached N.id_of) }
     ensures err { F.tells → Tells S.tells modes.entry
         → IfErr result (ExplainsFolder N.id_of (F.holds folder.old) (text_of S.left modes.entry)) }
+    // Also of a folder and a listing that do not tell what they hold.
+    ensures whole { IfOk result (HasAllThatIsReached N.id_of) }
+    ensures may { IfErr result MayRefuse }
 
     ensures same { F.tells → F.holds folder.new ≡ F.holds folder.old }
     ensures same_path { F.opened_at folder.new ≡ F.opened_at folder.old }

@@ -1,12 +1,10 @@
-use Rattle.std.proofs.Common.{◌≡◌, ℕ, ◌+◌, ◌≤◌, List, ◌++◌, length, refl, sym, ap, ◌∙◌, subst, arith, rules}
+use Rattle.std.proofs.Common.{◌≡◌, ℕ, List, ◌++◌, refl, sym, ap, ◌∙◌, subst, arith, rules}
 use Rattle.swh_fastlex.specs.Line.{unread}
-use Rattle.swh_listing.specs.declared.fault.ListingFault.{ListingFault}
-use Rattle.swh_dirload.specs.declared.fault.DirFault.{DirFault}
 use Rattle.swh_dirload.specs.declared.taking.Taken.TheVariants.{Yes, No}
 use Rattle.swh_dirload.specs.Faults.{listing_fault}
 use Rattle.swh_dirload.specs.Lines.{IsTaken, ExplainsLines}
 use Rattle.swh_dirload.proofs.Onward.{same_on, then_on}
-use Rattle.swh_dirload.proofs.TakenLines.{Goes, begins, goes_on, goes_not, goes_wrong, goes_all}
+use Rattle.swh_dirload.proofs.TakenLines.{Goes, begins, goes_on, goes_not, goes_wrong}
 use Rattle.swh_dirload.proofs.listing.take_lines.Goals as goal
 
 pub lines-init : goal.lines-init

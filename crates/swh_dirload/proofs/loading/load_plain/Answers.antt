@@ -1,11 +1,10 @@
-use Rattle.std.proofs.Common.{◌≡◌, List, [], sym, subst, rules}
+use Rattle.std.proofs.Common.{List, [], sym, subst, rules}
 use Rattle.swh_dirmade.specs.declared.place.Place.{Place}
 use Rattle.swh_dirmade.specs.declared.spot.Spot.{Spot}
 use Rattle.swh_dirmade.specs.Sizes.{AreShort}
 use Rattle.swh_dirmade.specs.Spots.{Stand}
-use Rattle.swh_dirload.specs.Loading.{ExplainsLength, MakesAll}
+use Rattle.swh_dirload.specs.Loading.{ExplainsLength}
 use Rattle.swh_dirload.specs.Meaning.{ExplainsFolder}
-use Rattle.swh_dirload.specs.Places.{places_of}
 use Rattle.swh_dirload.proofs.Loadings.{length_breaks, root_listed, means_listed, taken_none}
 use Rattle.swh_dirload.proofs.Onward.{same_on}
 use Rattle.swh_dirload.proofs.loading.load_plain.Goals as goal

@@ -1,4 +1,4 @@
-use Rattle.std.proofs.Common.{◌≡◌, List, [], Contains, sym, subst}
+use Rattle.std.proofs.Common.{List, [], Contains, sym, subst}
 use Rattle.swh_base.specs.declared.entry.Entry.{Entry}
 use Rattle.swh_base.specs.Snapshot.{snapshot_name}
 use Rattle.swh_made.specs.Giving.{AreNew}

@@ -1,4 +1,4 @@
-use Rattle.std.proofs.Common.{◌≡◌, ℕ, ◌+◌, ◌<◌, ◌≤◌, ◌^◌, length, subst, arith, rules}
+use Rattle.std.proofs.Common.{◌≡◌, ℕ, ◌<◌, ◌≤◌, ◌^◌, length, subst, arith, rules}
 use Rattle.swh_dirload.specs.Index.{IsIndexTo}
 use Rattle.swh_dirload.proofs.Indexes.{index_more}
 use Rattle.swh_dirload.proofs.lookup.index_of.Goals as goal

@@ -1,4 +1,4 @@
-use Rattle.std.proofs.Common.{sym, subst}
+use Rattle.std.proofs.Common.{subst}
 use Rattle.std.specs.List.{AllByRecursion}
 use Rattle.swh_fastlex.specs.Path.{IsComponent}
 use Rattle.swh_fastlex.proofs.Components.{components_none, components_cut}

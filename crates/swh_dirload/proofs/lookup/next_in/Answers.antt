@@ -1,5 +1,4 @@
-use Rattle.std.proofs.Common.{◌≡◌, ◌<◌, ◌^◌, length, ◌∙◌, rules}
-use Rattle.swh_dirload.specs.Index.{key_text}
+use Rattle.std.proofs.Common.{◌<◌, ◌^◌, length, ◌∙◌, rules}
 use Rattle.swh_dirload.proofs.Indexes.{some_in, no_some_in}
 use Rattle.swh_dirload.proofs.lookup.next_in.Goals as goal
 

@@ -1,10 +1,10 @@
-use Rattle.std.proofs.Common.{◌≡◌, ◌<◌, ◌≤◌, List, length, map, sym, ap, ◌∙◌, subst, rules}
+use Rattle.std.proofs.Common.{◌≡◌, ◌<◌, ◌≤◌, List, length, sym, ap, ◌∙◌, subst, rules}
 use Rattle.std.specs.Prelude.{string_bytes}
 use Rattle.swh_dirmade.specs.declared.spot.Spot.{Spot}
 use Rattle.swh_dirload.specs.Found.{items_of, HavePaths}
 use Rattle.swh_dirload.specs.Places.{places_of}
 use Rattle.swh_dirmade.specs.Spots.{IsTable, Stand}
-use Rattle.swh_dirload.proofs.FoundSpots.{spot_in, spots_more, spots_all, length_spots, table_of, paths_found, stand_found}
+use Rattle.swh_dirload.proofs.FoundSpots.{spots_more, spots_all, length_spots, table_of, paths_found, stand_found}
 use Rattle.swh_dirload.proofs.spot.spots_of.Goals as goal
 
 pub found-preserved : goal.found-preserved

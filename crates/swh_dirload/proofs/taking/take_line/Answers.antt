@@ -1,6 +1,4 @@
-use Rattle.std.proofs.Common.{◌≡◌, inr, inl, refl, IfOk, rules, sym, subst}
-use Rattle.swh_listing.specs.declared.listed.Mode.{Mode}
-use Rattle.swh_dirload.specs.Lines.{IsTaken}
+use Rattle.std.proofs.Common.{inr, inl, refl}
 use Rattle.swh_dirload.proofs.TakenLines.{executable_result, link_result}
 use Rattle.swh_dirload.proofs.Helds.{mode_held}
 use Rattle.swh_dirload.proofs.Onward.{mode_on}

@@ -1,7 +1,5 @@
-use Rattle.std.proofs.Common.{◌≡◌, Ok, Err, IfOk, rules, ap, sym, ◌∙◌, subst}
-use Rattle.swh_dirload.specs.declared.lookup.Lookup.{Lookup}
 use Rattle.swh_dirload.specs.declared.lookup.Lookup.TheVariants.{Free, Lost}
-use Rattle.swh_dirload.specs.Index.{LooksUp, MayAdd}
+use Rattle.swh_dirload.specs.Index.{LooksUp}
 use Rattle.swh_dirload.proofs.TakenLines.{project_result, project_none}
 use Rattle.swh_dirload.proofs.Helds.{project_held}
 use Rattle.swh_dirload.proofs.Onward.{project_on}
