@@ -1,6 +1,6 @@
-//! What a keeper is as the place of one loader, to which nobody else adds: the words for it, and functions with the clauses
-//! of a place's methods.
-//! Stands on `swh_place` and `swh_keeper`, and on crates below these; crates.txt lists all.
+//! A keeper as the place of one loader, to which nobody else adds: the words for it, the calls that make it, and a first
+//! step of a load over it.
+//! Stands on `swh_place`, `swh_walk` and `swh_keeper`, and on crates below these; crates.txt lists all.
 //! Callers may rely on: the device calls between two seats are those of the loader's own events, in order; where a disk
 //! fails, up to one of the event that was asked for.
 #![tactic(auto)]
