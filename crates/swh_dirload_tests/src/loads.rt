@@ -417,3 +417,28 @@ fn folders_are_loaded_alone(rt: HostRuntime) -> Result<(), Fail> {
     }
     Ok(())
 }
+
+/// What is laid, what stands before a path that is too long in the listing, and how the folder is loaded.
+const LONG: &[(Layout, &[u8], Loading)] = &[
+    (TWO, b"120000 ln\n", IsOver(Which::Path, 65_536)),
+    (TWO, b"120000 no\n", IsBad(1)),
+    (NEITHER, b"", IsNeither("a.b")),
+    (LACKING, b"", Fails(1, 0)),
+];
+
+/// A limit of the listing stands behind the folder's faults and behind a line that may not come.
+#[test]
+fn a_path_that_is_too_long(rt: HostRuntime) -> Result<(), Fail> {
+    for (number, (layout, front, loading)) in LONG.iter().enumerate() {
+        let mut text = Vec::from_slice(rt.alloc(), front)?;
+        text.extend_from_slice(b"100755 ")?;
+        text.extend_from_slice(Vec::from_elem(rt.alloc(), b'a', 65_536)?.as_slice())?;
+        text.push(b'\n')?;
+        let mut folder = folder_laid(rt.alloc(), layout, &[])?;
+        let mut source = listing_of(rt.alloc(), text.as_slice(), 4_096, &[])?;
+        if !loads_with(rt.alloc(), &mut folder, &mut source, *loading) {
+            return Err(Fail::new(number));
+        }
+    }
+    Ok(())
+}
