@@ -19,19 +19,22 @@ fn push_entry(bytes: &mut Vec<u8>, entry: &Entry) -> Result<(), Memory>
     Ok(())
 }
 
-/// How many bytes the run of these entries has: the kind, the length and the id of each stand before its body.
+/// The room of a run is a whole number of these, so that the room which one run gives back serves the next.
+const ROOM: usize = 1 << 20;
+
+/// Room for the run of these entries: the kind, the length and the id of each stand before its body.
 fn room_of(entries: &[Entry]) -> usize {
-    let mut room = 0_usize;
+    let mut bytes = 0_usize;
     for entry in entries {
-        room = room
+        bytes = bytes
             .saturating_add(1 + 8 + 20)
             .saturating_add(entry.body.as_slice().len());
     }
-    room
+    (bytes.saturating_add(ROOM - 1) / ROOM).saturating_mul(ROOM)
 }
 
-/// The run of a batch: its objects, one after another; `Memory` where there is none. Its room is taken once: a run has up
-/// to `RUN_LIMIT` bytes, which would be held twice while it grows.
+/// The run of a batch: its objects, one after another; `Memory` where there is none. Its room is taken once: a run may have
+/// millions of bytes, which would be held twice while it grows.
 pub fn run_of_entries(alloc: Global, entries: &[Entry]) -> Result<Vec<u8>, Memory>
     ensures { IfOk result (λ bytes. bytes.items ≡ coded_run entries.now) }
 {
