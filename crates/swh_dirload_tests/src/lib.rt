@@ -1,5 +1,5 @@
 //! Tests of folders as inputs, over folders in memory.
-//! Stands on what it tests, on `swh_base`, and on the folders of `swh_memory_input`.
+//! Stands on what it tests, on `swh_base`, and on the folders of `swh_memory_input` and `swh_repeated_input`.
 //! Nothing stands above it.
 #![tactic(auto)]
 
@@ -11,6 +11,8 @@ mod loads;
 mod readings;
 #[cfg(test)]
 mod taken_lines;
+#[cfg(test)]
+mod together;
 #[cfg(test)]
 mod walks;
 #[cfg(test)]
