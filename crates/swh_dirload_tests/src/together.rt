@@ -1,7 +1,8 @@
-// Folders whose files have as many bytes together as they may have. The id is that of Python's hashlib.
+// Folders whose files have as many bytes together as they may have. Names are small sums, since SHA-1 of so many bytes takes
+// long.
 use std::alloc::{AllocError, Global};
 use std::test::Fail;
-use swh_base::{Kind, Name, Sha1Namer, Which};
+use swh_base::{ByteNamer, Kind, Name, Which};
 use swh_dirload::{DirFault, load_folder};
 use swh_made::Objects;
 use swh_memory_input::MemorySource;
@@ -33,10 +34,10 @@ fn great_folder(alloc: Global, last: &[u8]) -> Result<RepeatedFolder, AllocError
     Ok(RepeatedFolder::new(alloc, text, files))
 }
 
-/// The id of the snapshot, if there is one: the files are named by it.
+/// The id of the snapshot, if there is one.
 type Made = Option<&'static [u8; 40]>;
 
-fn is_made(ended: &Result<Objects<Sha1Namer>, DirFault>, made: Made) -> bool {
+fn is_made(ended: &Result<Objects<ByteNamer>, DirFault>, made: Made) -> bool {
     match (ended, made) {
         (Ok(loaded), Some(hex)) => match Name::from_hex(Kind::Snapshot, hex) {
             Some(name) => name.id == loaded.snapshot,
@@ -59,13 +60,13 @@ fn is_made(ended: &Result<Objects<Sha1Namer>, DirFault>, made: Made) -> bool {
 fn loads_so(alloc: Global, last: &[u8], made: Made) -> Result<bool, AllocError> {
     let mut folder = great_folder(alloc, last)?;
     let none: Option<&mut MemorySource> = None;
-    let ended = load_folder(alloc, &Sha1Namer, &mut folder, none);
+    let ended = load_folder(alloc, &ByteNamer, &mut folder, none);
     Ok(is_made(&ended, made) && folder.faults() == 0)
 }
 
-const GREATEST: Made = Some(b"5dc5760ac3cecaa62ea5c080f35f9d6b91d510e4");
+const GREATEST: Made = Some(b"00000000000000000000000000000000000000de");
 
-// Each has a process of its own, since it takes the SHA-1 of 2^32 bytes.
+// Each has a process of its own, since it reads 2^32 bytes.
 
 /// Files may have 4,294,967,296 bytes together, and a file without bytes may stand behind them.
 #[test]
