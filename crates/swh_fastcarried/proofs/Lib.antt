@@ -1,2 +1,4 @@
 pub mod OddObjects
 pub mod OwnBranches
+pub mod WayCounts
+pub mod WaySteps

@@ -5,7 +5,9 @@
 #![tactic(auto)]
 
 mod branches;
+mod directories;
 mod plain;
+mod ways;
 
 pub use branches::{have_odd_branch, is_at_own_branch};
 pub use plain::{first_odd_object, is_odd_release, is_odd_revision};
