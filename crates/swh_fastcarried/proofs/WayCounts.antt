@@ -1,15 +1,12 @@
 -- How long the ways to each directory are, found from the end of the order.
 use Rattle.std.proofs.Common.{take, get_or, Result, Ok, Err, ◌≡◌, ◌⊎◌, inl, inr, ℕ, ◌+◌, ◌<◌, ◌≤◌, Bool, true, false, cond, Option, Some, None, List, [], ◌∷◌, ◌++◌, length, map, refl, sym, ap, ◌∙◌, subst, arith}
-use Rattle.std.specs.Prelude.{Contains, IsTrue, OnOk}
+use Rattle.std.specs.Prelude.{OnOk}
 use Rattle.std.specs.Map.{lookup}
 use Rattle.std.specs.BTreeMap.{is_at}
 use Rattle.std.specs.Ordering.{is_eq}
 use Rattle.std.specs.declared.cmp.Ordering.{Ordering}
 use Rattle.std.specs.Cmp.{Equal-is, tied_itself}
-use Rattle.std.specs.List.{filter_map, cons_option}
-use Rattle.std.proofs.lemmas.List.{take_more, take_all}
-use Rattle.swh_base.specs.declared.kind.Kind.{Kind}
-use Rattle.swh_base.specs.declared.kind.Kind.TheVariants.{Content, Directory, Revision as RevisionKind, Release, Snapshot}
+use Rattle.std.proofs.lemmas.List.{take_more}
 use Rattle.swh_base.specs.declared.name.Name.{Name}
 use Rattle.swh_base.specs.Name.{name_cmp, name_cmp_total, name_cmp-IsAntisymmetric}
 use Rattle.swh_base.specs.contracts.name.NameOrd.TheImpl.{cmp-value}
@@ -18,9 +15,8 @@ use Rattle.swh_base.specs.Limits.{path_limit}
 use Rattle.swh_closure.proofs.Order.{order_is}
 use Rattle.swh_dirfmt.specs.declared.entry.SpelledEntry.{SpelledEntry}
 use Rattle.swh_dirfmt.specs.Entries.{entry_of, entries_in_body}
-use Rattle.swh_carried.specs.Rules.{folder_name}
-use Rattle.swh_fastcarried.specs.Ways.{Ways, IsWay, GoesOver, GoesOverOne, Tells, TellAll, OrWays, IsRaised, Raises, RaisesOver, RaisesOverAll}
-use Rattle.swh_graph.proofs.Lists.{none_in, in_first, in_rest, in_cases, only}
+use Rattle.swh_fastcarried.specs.Ways.{Ways, Tells, TellAll, OrWays, IsRaised, Raises, RaisesOver, RaisesOverAll}
+use Rattle.swh_graph.proofs.Lists.{only}
 
 -- ---- what is known of counts
 

@@ -18,7 +18,7 @@ use Rattle.swh_base.specs.Limits.{path_limit}
 use Rattle.swh_base.proofs.DirectoryLemmas.{one_listing_lem}
 use Rattle.swh_base.proofs.RevisionLemmas.{one_revision}
 use Rattle.swh_model.specs.Archive.{Bodies, body_of, IsGraphOf}
-use Rattle.swh_graph.specs.Holding.{HoldsDirectory, HoldsRevision}
+use Rattle.swh_graph.specs.Holding.{HoldsRevision}
 use Rattle.swh_graph.specs.Path.{directory_name}
 use Rattle.swh_graph.proofs.Lists.{none_in, in_first, in_rest, in_cases, same_some, same_or_not}
 use Rattle.swh_postorder.specs.Cycle.{ArePreceded}
@@ -26,7 +26,7 @@ use Rattle.swh_postorder.specs.Postorder.{Precedes}
 use Rattle.swh_postorder.proofs.Orders.{AtOne, Sooner, Later, cuts}
 use Rattle.swh_postorder.proofs.Preceded.{cut_at}
 use Rattle.swh_carried.specs.Rules.{HasDirectoryEntry, LeadsOver, folder_name, way_length}
-use Rattle.swh_fastcarried.specs.Ways.{Ways, IsWay, BeginsAt, GoesOver, GoesThrough, StepsFrom, ComesFrom, GoesOverOne, Tells, TellAll, OrWays, Raises, RaisesOver, RaisesOverAll, TellsOfRevision, TellsOfFolders, TellsOf}
+use Rattle.swh_fastcarried.specs.Ways.{Ways, IsWay, GoesOver, StepsFrom, ComesFrom, GoesOverOne, Tells, TellAll, OrWays, RaisesOver, RaisesOverAll, TellsOfRevision, TellsOfFolders, TellsOf}
 use Rattle.swh_fastcarried.proofs.WayCounts.{all_same, tells_same, raised}
 
 -- a folder is a child
@@ -217,9 +217,11 @@ module _ (bodies : Bodies) (children_of : Name → Option (List Name)) (graph : 
             same_directory q other =
                 ap (λ (x : Revision). directory_name x.directory)
                 (one_revision holds.body r q holds.is (subst (λ (b : List ℕ). IsRevision b q) (same_some other.body holds.body (sym other.held ∙ holds.held)) other.is))
+
             only_nought : (c : ℕ) → StepsFrom bodies order name (directory_name r.directory) c → (c ≤ 0) ⊎ (path_limit < 0)
             only_nought c (inl b) = let e = b.is in inl (omega (arith, e))
             only_nought c (inr g) = let e : RevisionKind ≡ Directory = sym kind ∙ g.is_entry.kind in cc
+
             only_there : (n : Name) (c : ℕ) → StepsFrom bodies order name n c → directory_name r.directory ≡ n
             only_there n c (inl b) = same_directory b.revision b.holds ∙ sym b.named
             only_there n c (inr g) = let e : RevisionKind ≡ Directory = sym kind ∙ g.is_entry.kind in cc
@@ -229,8 +231,7 @@ module _ (bodies : Bodies) (children_of : Name → Option (List Name)) (graph : 
             → Tells (GoesOver bodies order name d (folder_name d.id)) (Some v)
         over_tells d folder w v known least most =
             let longest = known.0 in
-            let less = longest.2 in
-            (
+            let less = longest.2 in (
               (longest.0 + (length d.name + 1), record { before = longest.0; way = longest.1; folder = folder; named = refl; is = refl }, omega (arith, less, least)),
               λ c g. elim most [ inr long ↦ inr long | inl all ↦ let is = g.is in elim (known.1 g.before g.way) [ inl few ↦ inl (omega (arith, is, few, all)) | inr long ↦ inr (omega (arith, long, all)) ] ],
             )

@@ -6,8 +6,17 @@
 
 mod branches;
 mod directories;
+mod first;
+mod folders;
 mod plain;
+mod reached;
+mod tagged;
 mod ways;
 
 pub use branches::{have_odd_branch, is_at_own_branch};
+pub use directories::{have_dots, have_long};
+pub use first::first_uncarried;
+pub use folders::folders_of;
 pub use plain::{first_odd_object, is_odd_release, is_odd_revision};
+pub use tagged::tagged_of;
+pub use ways::{way_to, ways_of};

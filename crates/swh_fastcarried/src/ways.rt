@@ -72,7 +72,10 @@ fn raise_over(
         return Ok(());
     }
     let kind = Kind::Directory;
-    let name = Name { kind, id: *entry.id };
+    let name = Name {
+        kind,
+        id: *entry.id,
+    };
     raise(ways, name, way_over(way, entry.name))
 }
 

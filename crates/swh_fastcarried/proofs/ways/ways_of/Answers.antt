@@ -1,4 +1,4 @@
-use Rattle.std.proofs.Common.{◌≡◌, ◌+◌, ◌-◌, ℕ, drop, sym, subst, arith}
+use Rattle.std.proofs.Common.{◌≡◌, ◌+◌, ◌-◌, ℕ, drop, subst, arith}
 use Rattle.swh_fastcarried.specs.Ways.{ComesFrom, TellAll}
 use Rattle.swh_fastcarried.proofs.WaySteps.{told_at, all_told}
 use Rattle.swh_fastcarried.proofs.ways.ways_of.Goals as goal
