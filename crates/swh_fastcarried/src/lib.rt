@@ -1,7 +1,9 @@
 //! What a stream (git-fast-import(1)) cannot carry of all that is reached from a name.
-//! Stands on `swh_carried`, which has what any form cannot carry and why, and on the readers of what is held.
-//! Callers may rely on: the first revision or release that is not plain is told, and whether a snapshot has a branch that a
-//! stream cannot carry.
+//! Stands on `swh_carried`, which has what any form cannot carry and why, on `swh_postorder`, which has the order of the
+//! objects, on `swh_closure` for sets of names, and on the readers of what is held.
+//! Callers may rely on: of an order in which each name stands once and behind its children, the first object that a stream
+//! cannot carry is told, with the first rule that it breaks; whether the stream loads too many branches is handed in, and how
+//! long it is remains to be seen.
 #![tactic(auto)]
 
 mod branches;
