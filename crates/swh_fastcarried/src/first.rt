@@ -1,0 +1,261 @@
+//! The first object that a stream cannot carry, and why.
+ghost use Rattle.std.specs.Prelude.{◌≡◌, ◌↔◌, List, IsTrue, IfOk, Contains};
+ghost use Rattle.std.specs.Map.{lookup};
+ghost use Rattle.std.specs.BTreeMap.{is_at};
+ghost use Rattle.swh_base.specs.declared.kind.Kind.TheVariants.{
+  Directory as DirectoryKind,
+  Revision as RevisionKind,
+  Release as ReleaseKind,
+  Snapshot as SnapshotKind,
+};
+ghost use Rattle.swh_base.specs.declared.name.Name.{Name as Named};
+ghost use Rattle.swh_base.specs.Name.{name_cmp};
+ghost use Rattle.swh_dirfmt.specs.Entries.{entries_in_body};
+ghost use Rattle.swh_postorder.specs.Cycle.{ArePreceded};
+ghost use Rattle.swh_postorder.specs.Postorder.{Precedes};
+ghost use Rattle.swh_carried.specs.Rules.{HasDots, HasLongPath};
+ghost use Rattle.swh_fastcarried.specs.First.{HaveDots, IsFirstRule, IsFirstFound};
+ghost use Rattle.swh_fastcarried.specs.Known.{Knows, IsEmptyFolder, IsLongOver, IsFolderRule};
+ghost use Rattle.swh_fastcarried.specs.Rules.{
+  IsEmptyEntry,
+  IsRevisionRoot,
+  HasOddBranch,
+  BreaksIn,
+};
+
+use crate::branches::have_odd_branch;
+use crate::directories::{have_dots, have_long};
+use crate::plain::{is_odd_release, is_odd_revision};
+use crate::reached::{Reached, survey};
+use crate::ways::way_to;
+use std::alloc::Global;
+use std::collections::BTreeMap;
+use swh_base::{Kind, Memory, Name};
+use swh_carried::Why;
+use swh_closure::Closed;
+use swh_dirfmt::SpelledEntry;
+use swh_graph::{GraphFault, directory_at, snapshot_at};
+use swh_model::Look;
+
+/// Whether a directory of these entries is empty, and one of the folders.
+fn is_empty_folder(folders: &Closed, name: Name, entries: &[SpelledEntry<'_>]) -> bool
+    ensures { IsTrue result ↔ IsEmptyFolder folders.now name (entries_in_body entries.now) }
+{
+    if entries.is_empty() {
+        return folders.contains(&name);
+    }
+    false
+}
+
+/// Whether one of a directory's entries makes a path to it longer than a path may be.
+fn is_long_over(ways: &BTreeMap<Name, u64>, name: Name, entries: &[SpelledEntry<'_>]) -> bool
+    ensures { IsTrue result
+        ↔ IsLongOver (lookup (is_at (name_cmp name)) ways.now.entries) (entries_in_body entries.now) }
+{
+    match way_to(ways, &name) {
+        Some(way) => have_long(way, entries),
+        None => false,
+    }
+}
+
+/// The first rule that a directory of these entries breaks, if it breaks one.
+fn rule_of_entries(reached: &Reached<'_>, name: Name, entries: &[SpelledEntry<'_>]) -> Option<Why>
+    ensures { IsFolderRule (IsEmptyFolder reached.now.folders name (entries_in_body entries.now))
+        (HaveDots (entries_in_body entries.now))
+        (IsLongOver (lookup (is_at (name_cmp name)) reached.now.ways.entries) (entries_in_body entries.now)) result }
+{
+    if is_empty_folder(&reached.folders, name, entries) {
+        return Some(Why::Empty);
+    }
+    if have_dots(entries) {
+        return Some(Why::Dots);
+    }
+    if is_long_over(&reached.ways, name, entries) {
+        return Some(Why::Path);
+    }
+    None
+}
+
+/// The first rule that a directory breaks, if it breaks one.
+fn rule_of_directory<L: Look>(
+    alloc: Global,
+    look: &L,
+    reached: &Reached<'_>,
+    name: Name,
+) -> Result<Option<Why>, Memory>
+    requires kind { name.kind ≡ DirectoryKind }
+    requires knows { Knows (L.archive look.now).bodies reached.now }
+    ensures { IfOk result (IsFolderRule (IsEmptyEntry (L.archive look.now).bodies reached.now.order.now name)
+        (HasDots (L.archive look.now).bodies name)
+        (HasLongPath (L.archive look.now).bodies (IsRevisionRoot (L.archive look.now).bodies reached.now.order.now) name)) }
+{
+    let entries = match directory_at(alloc, look, name) {
+        Ok(entries) => entries,
+        Err(GraphFault::Memory) => return Err(Memory),
+        Err(GraphFault::NotHeld { .. }) => return Ok(None),
+        Err(GraphFault::NoPath { .. }) => unreachable!(),
+    };
+    Ok(rule_of_entries(reached, name, entries.as_slice()))
+}
+
+/// Whether a release does not stand at its own branch of the root, where that is a snapshot.
+fn is_tagless(reached: &Reached<'_>, name: Name) -> bool
+    ensures { IsTrue result ↔ ((reached.now.root.kind ≡ SnapshotKind) × (Contains reached.now.tagged name → ⊥)) }
+{
+    match reached.root.kind {
+        Kind::Snapshot => !reached.tagged.contains(&name),
+        Kind::Content | Kind::Directory | Kind::Revision | Kind::Release => false,
+    }
+}
+
+fn is_same(name: Name, root: Name) -> bool
+    ensures { IsTrue result ↔ (name ≡ root) }
+{
+    name == root
+}
+
+/// Whether a snapshot has a branch that a stream cannot carry.
+fn has_odd_branch<L: Look>(alloc: Global, look: &L, root: Name) -> Result<bool, Memory>
+    requires { root.kind ≡ SnapshotKind }
+    ensures { IfOk result (λ odd. (top : Named) → IsTrue odd ↔ HasOddBranch (L.archive look.now).bodies top root) }
+{
+    let branches = match snapshot_at(alloc, look, root) {
+        Ok(branches) => branches,
+        Err(GraphFault::Memory) => return Err(Memory),
+        Err(GraphFault::NotHeld { .. }) => return Ok(false),
+        Err(GraphFault::NoPath { .. }) => unreachable!(),
+    };
+    Ok(have_odd_branch(look, branches.as_slice()))
+}
+
+/// The first rule that a revision breaks, if it breaks one.
+fn rule_of_revision<L: Look>(alloc: Global, look: &L, name: Name) -> Result<Option<Why>, Memory>
+    requires { name.kind ≡ RevisionKind }
+    ensures { IfOk result (λ rule. (root : Named) (order : List Named)
+        → IsFirstRule (BreaksIn (L.archive look.now).bodies root order ⊥ ⊥) name rule) }
+{
+    if is_odd_revision(alloc, look, name)? {
+        return Ok(Some(Why::Revision));
+    }
+    Ok(None)
+}
+
+/// The first rule that a release breaks, if it breaks one.
+fn rule_of_release<L: Look>(
+    alloc: Global,
+    look: &L,
+    reached: &Reached<'_>,
+    name: Name,
+) -> Result<Option<Why>, Memory>
+    requires kind { name.kind ≡ ReleaseKind }
+    requires knows { Knows (L.archive look.now).bodies reached.now }
+    ensures { IfOk result (IsFirstRule
+        (BreaksIn (L.archive look.now).bodies reached.now.root reached.now.order.now ⊥ ⊥) name) }
+{
+    if is_odd_release(alloc, look, name)? {
+        return Ok(Some(Why::Release));
+    }
+    if is_tagless(reached, name) {
+        return Ok(Some(Why::Tagless));
+    }
+    Ok(None)
+}
+
+/// The first rule that a snapshot breaks, if it breaks one.
+fn rule_of_snapshot<L: Look>(
+    alloc: Global,
+    look: &L,
+    root: Name,
+    name: Name,
+) -> Result<Option<Why>, Memory>
+    requires { name.kind ≡ SnapshotKind }
+    ensures { IfOk result (λ rule. (order : List Named)
+        → IsFirstRule (BreaksIn (L.archive look.now).bodies root order ⊥ ⊥) name rule) }
+{
+    if !is_same(name, root) {
+        return Ok(Some(Why::Branch));
+    }
+    if has_odd_branch(alloc, look, name)? {
+        return Ok(Some(Why::Branch));
+    }
+    Ok(None)
+}
+
+/// The first rule that an object breaks by itself, if it breaks one.
+fn rule_of_object<L: Look>(
+    alloc: Global,
+    look: &L,
+    reached: &Reached<'_>,
+    name: Name,
+) -> Result<Option<Why>, Memory>
+    requires { Knows (L.archive look.now).bodies reached.now }
+    ensures { IfOk result (IsFirstRule
+        (BreaksIn (L.archive look.now).bodies reached.now.root reached.now.order.now ⊥ ⊥) name) }
+{
+    match name.kind {
+        Kind::Content => Ok(None),
+        Kind::Directory => rule_of_directory(alloc, look, reached, name),
+        Kind::Revision => rule_of_revision(alloc, look, name),
+        Kind::Release => rule_of_release(alloc, look, reached, name),
+        Kind::Snapshot => rule_of_snapshot(alloc, look, reached.root, name),
+    }
+}
+
+/// The first rule that an object breaks, if it breaks one; the root breaks one where its stream loads too many branches.
+fn rule_of<L: Look>(
+    alloc: Global,
+    look: &L,
+    reached: &Reached<'_>,
+    name: Name,
+    many: bool,
+) -> Result<Option<Why>, Memory>
+    requires { Knows (L.archive look.now).bodies reached.now }
+    ensures { IfOk result (IsFirstRule
+        (BreaksIn (L.archive look.now).bodies reached.now.root reached.now.order.now (IsTrue many) ⊥) name) }
+{
+    if let Some(why) = rule_of_object(alloc, look, reached, name)? {
+        return Ok(Some(why));
+    }
+    if many && is_same(name, reached.root) {
+        return Ok(Some(Why::Refs));
+    }
+    Ok(None)
+}
+
+/// The first of these names that breaks a rule of streams, and the first rule that it breaks.
+fn first_in<L: Look>(
+    alloc: Global,
+    look: &L,
+    reached: &Reached<'_>,
+    names: &[Name],
+    many: bool,
+) -> Result<Option<(Name, Why)>, Memory>
+    requires { Knows (L.archive look.now).bodies reached.now }
+    ensures { IfOk result (IsFirstFound
+        (BreaksIn (L.archive look.now).bodies reached.now.root reached.now.order.now (IsTrue many) ⊥) names.now) }
+{
+    for name in names {
+        if let Some(why) = rule_of(alloc, look, reached, *name, many)? {
+            return Ok(Some((*name, why)));
+        }
+    }
+    Ok(None)
+}
+
+/// The first object that a stream cannot carry, of those that are reached from the root in this order, each once and behind
+/// its children; and the first rule that it breaks. It is handed in whether the stream loads too many branches; how long the
+/// stream is remains to be seen.
+pub fn first_uncarried<L: Look>(
+    alloc: Global,
+    look: &L,
+    order: &[Name],
+    root: Name,
+    many: bool,
+) -> Result<Option<(Name, Why)>, Memory>
+    requires preceded { ArePreceded (L.children_of look.now) order.now }
+    requires once { (n : Named) → Precedes order.now n n → ⊥ }
+    ensures { IfOk result (IsFirstFound (BreaksIn (L.archive look.now).bodies root order.now (IsTrue many) ⊥) order.now) }
+{
+    let reached = survey(alloc, look, order, root)?;
+    first_in(alloc, look, &reached, order, many)
+}
