@@ -6,15 +6,23 @@
 //! the new front; others may add between.
 #![tactic(auto)]
 
+mod end;
 mod ending;
+mod input;
+mod loading;
 mod pending;
+mod reading;
 mod sending;
 mod stop;
 mod turn;
 mod visiting;
 
+pub use end::{End, LoadFault, Loaded};
 pub use ending::finish;
+pub use input::{Input, Job, Opening};
+pub use loading::load;
 pub use pending::Pending;
+pub use reading::{ByCall, Reads};
 pub use sending::send_all;
 pub use stop::Stop;
 pub use turn::{Turn, Worker};
