@@ -20,7 +20,6 @@ use Rattle.swh_walk.specs.declared.input.Opening.TheVariants as opening
 use Rattle.swh_walk.specs.declared.input.Input.{Input}
 use Rattle.swh_walk.specs.declared.input.Input.TheVariants as given
 use Rattle.swh_walk.specs.declared.stop.Stop.{Stop}
-use Rattle.swh_walk.specs.declared.stop.Stop.TheVariants.{Memory}
 use Rattle.swh_walk.specs.Owning.{Attempt, attempt, open_event, mark_of, IsKind, IsWished, AreAmong}
 use Rattle.swh_walk.specs.Visiting.{IsMine}
 use Rattle.swh_walk.specs.Walking.{Adds, Opens, StopsNow, StopsAfter}

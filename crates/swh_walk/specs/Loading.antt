@@ -98,12 +98,13 @@ module _ {I N B E : Type 0} (Reads : I → Result (Input N B) E → I → Type 0
   IsEndAt opening.Failed bodies i now end = (end ≡ Unread) × (now ≡ i)
   IsEndAt opening.Memory bodies i now end = ⊥
 
-  -- The input is as it was, or was read where it was found.
+  -- The input was found, and read.
   pub record WasRead (is : Opening) (i now : I) : Type 0 where
     pub found : is ≡ opening.Found
     pub result : Result (Input N B) E
     pub read : Reads i result now
 
+  -- The input is as it was, or was read.
   abbrev pub IsSameOrRead : Opening → I → I → Type 0
   IsSameOrRead is i now = (now ≡ i) ⊎ WasRead is i now
 

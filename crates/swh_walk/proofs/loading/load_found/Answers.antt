@@ -1,11 +1,10 @@
-use Rattle.std.proofs.Common.{◌≡◌, Ok, None, [], ◌∷◌, subst, sym}
-use Rattle.std.specs.Prelude.{IfOk}
+use Rattle.std.proofs.Common.{None, [], ◌∷◌}
 use Rattle.swh_base.specs.declared.visit.Status.TheVariants.{Ongoing}
 use Rattle.swh_place.specs.Knowing.{held_in}
 use Rattle.swh_walk.specs.Owning.{attempt_of}
 use Rattle.swh_walk.specs.Ending.{IsMarkOf}
-use Rattle.swh_walk.specs.Loading.{AreOf, AreRead, IsEndOf, IsOwn, IsOwnAsked, IsReadEnd, StopsUnended, last_at, statuses_of}
-use Rattle.swh_walk.specs.Walking.{Adds, StopsAfter}
+use Rattle.swh_walk.specs.Loading.{AreOf, AreRead, IsEndOf, IsOwn, IsOwnAsked, IsReadEnd, StopsUnended}
+use Rattle.swh_walk.specs.Walking.{StopsAfter}
 use Rattle.swh_walk.proofs.Ends.{mine_on}
 use Rattle.swh_walk.proofs.Loads.{begun_all, begun_own_stops, err_as, ok_as, unended_own}
 use Rattle.swh_walk.proofs.Steps.{adds_ready}

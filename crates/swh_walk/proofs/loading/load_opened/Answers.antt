@@ -1,4 +1,4 @@
-use Rattle.std.proofs.Common.{◌≡◌, inl, None, [], ◌∷◌, refl}
+use Rattle.std.proofs.Common.{inl, None, [], ◌∷◌, refl}
 use Rattle.swh_base.specs.declared.visit.Status.TheVariants.{Ongoing, NotFound as NotFoundStatus, Failed}
 use Rattle.swh_place.specs.Knowing.{held_in}
 use Rattle.swh_walk.specs.declared.end.End.TheVariants.{NotFound, Unread}
