@@ -1,5 +1,5 @@
 -- What is known of a batch that was asked for.
-use Rattle.std.proofs.Common.{◌≡◌, ◌≢◌, inl, inr, ℕ, ◌≤◌, Bool, true, false, cond, Some, None, List, [], ◌∷◌, length, refl, sym, ap, ◌∙◌, subst, arith}
+use Rattle.std.proofs.Common.{◌≡◌, inl, inr, ℕ, ◌≤◌, Bool, true, false, cond, Some, None, List, [], ◌∷◌, length, refl, sym, ap, ◌∙◌, subst, arith}
 use Rattle.std.specs.Prelude.{nat_lt}
 use Rattle.std.specs.List.{AllByRecursion}
 use Rattle.swh_base.specs.declared.kind.Kind.{Kind}
@@ -8,15 +8,13 @@ use Rattle.swh_base.specs.declared.visit.Which.{Which}
 use Rattle.swh_base.specs.declared.visit.Which.TheVariants.{Body, Objects, Bytes}
 use Rattle.swh_base.specs.Limits.{body_limit}
 use Rattle.swh_model.specs.declared.event.Event.{Event}
-use Rattle.swh_model.specs.declared.event.Wish.{Wish}
 use Rattle.swh_model.specs.declared.event.Wish.TheVariants as wished
 use Rattle.swh_model.specs.declared.event.EventKind.TheVariants as happened
 use Rattle.swh_model.specs.declared.event.No.TheVariants as cause
 use Rattle.swh_model.specs.Limits.{IsWithinLimits}
 use Rattle.swh_model.specs.Judge.{first_long, not_held, event_of, BatchPasses, FilePasses, IsCause}
 use Rattle.swh_model.specs.Step.{May, replay}
-use Rattle.swh_walk.specs.Owning.{AreAmong, IsBatchAmong, IsBatchAsked}
-use Rattle.swh_walk.specs.Walking.{IsBy, IsReadyBatch, IsReadyFor}
+use Rattle.swh_walk.specs.Walking.{IsReadyBatch}
 use Rattle.swh_walk.proofs.Batches.{fresh-same}
 use Rattle.swh_alone.proofs.Leaving.{IsSure}
 
@@ -38,24 +36,12 @@ full_file : (h : List Event) (by : ℕ) (entries : List Entry) (which : Which) (
 full_file h by entries which number within (inl passes) = absurd (none_passes entries which number within passes)
 full_file h by entries which number within (inr full) = full
 
-module _ (id : Kind → List ℕ → List ℕ) (by : ℕ) (objects : List Entry) (h : List Event) where
-  sure_of : (entries : List Entry) → entries ≢ [] → AreAmong objects entries → IsReadyBatch id true (replay h).bodies entries → IsSure id by (IsBy by (IsBatchAmong true objects)) h (wished.Batch entries)
-  sure_of entries some among ready =
-      let fresh : entries ≡ not_held (replay h).bodies entries = sym (fresh-same (replay h).bodies entries (ready.new refl)) in record {
-        tried = record {
-          by_one = refl;
-          added = record {
-            entries = not_held (replay h).bodies entries;
-            is = refl;
-            some = λ _. subst (λ (es : List Entry). es ≢ []) fresh some;
-            among = subst (AreAmong objects) fresh among;
-          };
-        };
-        may = subst (λ (es : List Entry). May id (replay h) (record { by = by; what = happened.Batch es })) fresh (record { good = ready.good; limits = ready.limits; new = ready.new refl });
-        full = λ which number is. full_file h by entries which number ready.limits is;
-        unended = λ status c. c;
-      }
-
-  pub batch_sure : (wish : Wish) → IsBatchAsked objects wish → IsReadyFor id true (replay h).bodies wish → IsSure id by (IsBy by (IsBatchAmong true objects)) h wish
-  batch_sure wish asked ready =
-      subst (IsSure id by (IsBy by (IsBatchAmong true objects)) h) (sym asked.is) (sure_of asked.entries asked.some asked.among (subst (IsReadyFor id true (replay h).bodies) asked.is ready))
+-- a batch that is ready is surely added
+pub sure_batch : (id : Kind → List ℕ → List ℕ) (by : ℕ) (Q : Event → Type 0) (h : List Event) (entries : List Entry) → Q (record { by = by; what = happened.Batch entries }) → IsReadyBatch id true (replay h).bodies entries → IsSure id by Q h (wished.Batch entries)
+sure_batch id by Q h entries tried ready =
+    let fresh : entries ≡ not_held (replay h).bodies entries = sym (fresh-same (replay h).bodies entries (ready.new refl)) in record {
+      tried = subst (λ (es : List Entry). Q (record { by = by; what = happened.Batch es })) fresh tried;
+      may = subst (λ (es : List Entry). May id (replay h) (record { by = by; what = happened.Batch es })) fresh (record { good = ready.good; limits = ready.limits; new = ready.new refl });
+      full = λ which number is. full_file h by entries which number ready.limits is;
+      unended = λ status c. c;
+    }

@@ -1,3 +1,4 @@
 pub mod Applying
 pub mod Batches
 pub mod Leaving
+pub mod Loads

@@ -1,16 +1,13 @@
--- What a step leaves of a keeper, whatever it answers.
-use Rattle.std.specs.Prelude.{◌≡◌, ℕ, ◌+◌, ◌≤◌, Some, None, Result, List, ◌++◌, length, IfErr, OnOk}
-use Rattle.std.specs.List.{AllByRecursion}
+-- Why a step over a keeper stops, and what is left then.
+use Rattle.std.specs.Prelude.{◌≡◌, ℕ, ◌+◌, Some, None, List, ◌++◌, length}
 use Rattle.swh_base.specs.declared.kind.Kind.{Kind}
 use Rattle.swh_base.specs.declared.visit.Which.{Which}
-use Rattle.swh_outside.specs.Views.{Disks}
 use Rattle.swh_segment.specs.Makes.{ADiskFailed}
 use Rattle.swh_model.specs.declared.event.Event.{Event}
 use Rattle.swh_model.specs.Grows.{IsWithin}
 use Rattle.swh_model.specs.Judge.{FilePasses}
 use Rattle.swh_model.specs.Step.{May, replay}
 use Rattle.swh_keeper.specs.Kept.{Kept}
-use Rattle.swh_keeper.specs.Calls.{MakesCalls}
 use Rattle.swh_walk.specs.declared.stop.Stop.{Stop}
 use Rattle.swh_walk.specs.declared.stop.Stop.TheVariants as why
 
@@ -20,14 +17,6 @@ pub record KeepsAll {D : Type 0} (old new : Kept D) : Type 0 where
   pub added : new.history ≡ old.history ++ more
   pub unwounded : new.wounded ≡ None
   pub within : IsWithin (replay old.history).bodies (replay new.history).bodies
-
--- Events that `IsAdded` allows were added after the history, and no count of faults fell.
-pub record AddsEvents {D : Type 0} (faults : D → ℕ) (IsAdded : Event → Type 0) (old new : Kept D) : Type 0 where
-  pub more : List Event
-  pub behind : new.history ≡ old.history ++ more
-  pub each : AllByRecursion IsAdded more
-  pub store_later : faults old.store ≤ faults new.store
-  pub ledger_later : faults old.ledger ≤ faults new.ledger
 
 -- A disk had failed before, and nothing is changed.
 pub record IsStoppedBefore {D : Type 0} (old new : Kept D) : Type 0 where
@@ -57,12 +46,3 @@ StopsFor id faults IsTried old new why.DiskFault = IsFaulted faults old new
 StopsFor id faults IsTried old new why.Wounded = IsStoppedBefore old new
 StopsFor id faults IsTried old new (why.Limit which number) = IsFileFull id IsTried old new which number
 StopsFor id faults IsTried old new why.Memory = new.wounded ≡ old.wounded
-
-module _ {D : Type 0} (id : Kind → List ℕ → List ℕ) (disks : Disks D) where
-  -- Events that `IsAdded` allows were added, with their device calls. All that was held is held still; or the step
-  -- stopped, and says why.
-  pub record Leaves {T : Type 0} (IsAdded : Event → Type 0) (old new : Kept D) (result : Result T Stop) : Type 0 where
-    pub on : OnOk result (KeepsAll old new)
-    pub adds : AddsEvents disks.faults IsAdded old new
-    pub calls : disks.tells → MakesCalls id disks.file IsAdded old new
-    pub stops : IfErr result (StopsFor id disks.faults IsAdded old new)

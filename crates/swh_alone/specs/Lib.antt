@@ -3,3 +3,4 @@ pub mod Fitting
 pub mod Alone
 pub mod Lawful
 pub mod Leaving
+pub mod Loading

@@ -5,7 +5,7 @@ ghost use Rattle.swh_model.specs.Step.{replay};
 ghost use Rattle.swh_store.specs.Adding.{IsStanding};
 ghost use Rattle.swh_outside.specs.Views.{disks};
 ghost use Rattle.swh_plan.specs.Plan.{wish_of};
-ghost use Rattle.swh_place.specs.Knowing.{IsLawful, CarriesOut, RefusesPlan};
+ghost use Rattle.swh_place.specs.Knowing.{CarriesOut, RefusesPlan};
 ghost use Rattle.swh_alone.specs.Alone.{AddsOn, alone_words};
 
 use crate::fitting::plan_fits;
@@ -18,13 +18,6 @@ use swh_outside::Disk;
 use swh_place::Refusal;
 use swh_plan::Plan;
 use swh_store::Standing;
-
-/// What is said of a keeper's states obeys what a place's words are to obey.
-pub fn keepers_are_lawful<N: Namer, D: Disk>(by: u32)
-    ensures { IsLawful N.id_of (alone_words N.id_of (disks D.tells D.file D.faults) by) }
-{
-    let _by = by;
-}
 
 /// How an entry stands to what a keeper holds.
 pub fn standing_in<N: Namer, D: Disk>(keeper: &mut Keeper<N, D>, entry: &Entry) -> Standing

@@ -4,3 +4,4 @@ pub mod Waiting
 pub mod Marks
 pub mod Closes
 pub mod Ends
+pub mod Loads

@@ -56,7 +56,7 @@ opened_there h t =
     record { positive = omega arith; there = ap (λ (vs : List Visit). visit_at vs (length visits + 1)) all ∙ at }
 
 -- a visit that was marked
-marked_there : (h : List Event) (by : ℕ) (t : Attempt) (number : ℕ) (statuses : Statuses) (status : Status) (snapshot : Option (List ℕ)) → IsVisit h t number statuses
+pub marked_there : (h : List Event) (by : ℕ) (t : Attempt) (number : ℕ) (statuses : Statuses) (status : Status) (snapshot : Option (List ℕ)) → IsVisit h t number statuses
     → IsVisit (h ++ record { by = by; what = mark_of t number status snapshot } ∷ []) t number (statuses ++ (status, snapshot) ∷ [])
 marked_there h by t number statuses status snapshot v =
     let visits = visits_of (replay h).origins t.origin in

@@ -1,4 +1,5 @@
 pub mod Ending
+pub mod Loading
 pub mod Owning
 pub mod Stopping
 pub mod Visiting

@@ -1,8 +1,10 @@
 // The end of a visit whose input made objects.
 ghost use Rattle.std.specs.Prelude.{◌≡◌, ◌∷◌, [], Some, None, IfOk, IfErr, OnOk};
 ghost use Rattle.swh_base.specs.Snapshot.{snapshot_name};
-ghost use Rattle.swh_base.specs.declared.visit.Status.TheVariants.{Full, Failed};
+ghost use Rattle.swh_base.specs.declared.visit.Status.TheVariants.{Full};
 ghost use Rattle.swh_model.specs.Archive.{IsClosed};
+ghost use Rattle.swh_model.specs.Step.{FitsStatus};
+ghost use Rattle.swh_plan.specs.Plan.{status_of, snapshot_of};
 ghost use Rattle.swh_made.specs.Whole.{HasAllThatIsReached};
 ghost use Rattle.swh_place.specs.Knowing.{held_in};
 ghost use Rattle.swh_walk.specs.Owning.{attempt_of};
@@ -75,26 +77,28 @@ fn end_full<N: Namer, S, P: Place<Plan<N>, S>, G: Gate>(
     }
 }
 
-/// Ends a visit of whose input an object collides under this name.
-fn end_met<N: Namer, S, P: Place<Plan<N>, S>>(
+/// Adds the last status of a visit, and answers what is told then.
+pub fn end_as<N: Namer, S, P: Place<Plan<N>, S>, T: Drop>(
     alloc: Global,
     place: &P,
     seat: &mut S,
     visit: &OpenVisit,
-    name: Name,
-) -> Result<Option<Name>, Stop>
+    how: How,
+    told: T,
+) -> Result<T, Stop>
     requires fits { P.fits place.now }
     requires mine { IsMine ((P.words place.now).known seat.old) (attempt_of visit.now) visit.now.number }
-    ensures is { IfOk result (λ met. met ≡ Some name) }
+    requires allowed { FitsStatus (held_in ((P.words place.now).known seat.old)) (status_of how) (snapshot_of how) }
+    ensures is { IfOk result (λ t. t ≡ told) }
     ensures last { OnOk result (HasLast ((P.words place.now).known seat.new).front
-        (attempt_of visit.now) visit.now.number (Failed, None)) }
+        (attempt_of visit.now) visit.now.number (status_of how, snapshot_of how)) }
     ensures adds { OnOk result (Adds (P.words place.now) (IsMarkOf (attempt_of visit.now) visit.now.number)
-        ((Failed, None) ∷ []) seat.old seat.new) }
+        ((status_of how, snapshot_of how) ∷ []) seat.old seat.new) }
     ensures stops { IfErr result (StopsNow N.id_of (P.words place.now)
         (IsMarkAsked (attempt_of visit.now) visit.now.number) seat.old seat.new) }
 {
-    match mark(alloc, place, seat, visit, How::Failed) {
-        Ok(()) => Ok(Some(name)),
+    match mark(alloc, place, seat, visit, how) {
+        Ok(()) => Ok(told),
         Err(why) => Err(why),
     }
 }
@@ -127,7 +131,7 @@ pub fn finish<N: Namer, S, P: Place<Plan<N>, S>, G: Gate>(
     };
     let snapshot = made.snapshot;
     match send_all(alloc, place, seat, made.objects) {
-        Ok(Some(name)) => end_met(alloc, place, seat, visit, name),
+        Ok(Some(name)) => end_as(alloc, place, seat, visit, How::Failed, Some(name)),
         Ok(None) => match end_full(alloc, place, seat, visit, Reached { snapshot, names }, turn) {
             Ok(()) => Ok(None),
             Err(why) => Err(why),

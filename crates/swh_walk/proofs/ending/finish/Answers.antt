@@ -18,8 +18,8 @@ returns-in_default-clause-stops g c =
     let objects = c.args.made.objects.items in
     after_now g.N.Namer.id_of w (g.met.P.Place.lawful c.args.place.now) (IsOfVisit w.alone objects (attempt_of v) v.number) (IsOfVisitAsked objects (attempt_of v) v.number) c.args.seat.now c.args.seat.now Memory c.requires.ready (inl (refl, refl))
 
-pub end_met-requires-clause-mine : goal.end_met-requires-clause-mine
-end_met-requires-clause-mine g c κs within =
+pub end_as-requires-clause-mine : goal.end_as-requires-clause-mine
+end_as-requires-clause-mine g c κs within =
     let v = c.args.visit.now in
     let w = g.P.Place.words c.args.place.now in
     mine_on g.N.Namer.id_of w (g.met.P.Place.lawful c.args.place.now) (IsBatchAmong w.alone c.args.made.objects.items) [] c.args.seat.now c.send_all.new.seat (attempt_of v) v.number c.in-Ok-Some.ensures.adds c.requires.mine
@@ -44,13 +44,13 @@ pub returns-in-Ok-Some-clause-ended : goal.returns-in-Ok-Some-clause-ended
 returns-in-Ok-Some-clause-ended g c =
     let v = c.args.visit.now in
     let w = g.P.Place.words c.args.place.now in
-    met_finished g.N.Namer.id_of w (g.met.P.Place.lawful c.args.place.now) c.args.made (attempt_of v) v.number c.in-Ok-Some.name c.args.seat.now c.send_all.new.seat c.end_met.new.seat c.end_met.result c.end_met.ensures.is c.end_met.ensures.last c.end_met.ensures.adds (rw c.in-Ok-Some.field-0-is at c.in-Ok-Some.ensures.sent)
+    met_finished g.N.Namer.id_of w (g.met.P.Place.lawful c.args.place.now) c.args.made (attempt_of v) v.number c.in-Ok-Some.name c.args.seat.now c.send_all.new.seat c.end_as.new.seat c.end_as.result c.end_as.ensures.is c.end_as.ensures.last c.end_as.ensures.adds (rw c.in-Ok-Some.field-0-is at c.in-Ok-Some.ensures.sent)
 
 pub returns-in-Ok-Some-clause-adds : goal.returns-in-Ok-Some-clause-adds
 returns-in-Ok-Some-clause-adds g c =
     let v = c.args.visit.now in
     let w = g.P.Place.words c.args.place.now in
-    met_adds g.N.Namer.id_of w (g.met.P.Place.lawful c.args.place.now) c.args.made (attempt_of v) v.number c.in-Ok-Some.name c.args.seat.now c.send_all.new.seat c.end_met.new.seat c.end_met.result c.end_met.ensures.is c.end_met.ensures.adds c.in-Ok-Some.ensures.adds
+    met_adds g.N.Namer.id_of w (g.met.P.Place.lawful c.args.place.now) c.args.made (attempt_of v) v.number c.in-Ok-Some.name c.args.seat.now c.send_all.new.seat c.end_as.new.seat c.end_as.result c.end_as.ensures.is c.end_as.ensures.adds c.in-Ok-Some.ensures.adds
 
 pub returns-in-Ok-Some-clause-stops : goal.returns-in-Ok-Some-clause-stops
 returns-in-Ok-Some-clause-stops g c =
@@ -61,9 +61,9 @@ returns-in-Ok-Some-clause-stops g c =
     let objects = c.args.made.objects.items in
     let a = c.args.seat.now in
     let m = c.send_all.new.seat in
-    let b = c.end_met.new.seat in
-    IfErr-weaker c.end_met.result (StopsNow id w (IsMarkAsked t v.number) m b) (StopsAfter id w (IsOfVisit w.alone objects t v.number) (IsOfVisitAsked objects t v.number) [] a b)
-    (λ why stops. sent_then_stops_now id w (g.met.P.Place.lawful c.args.place.now) objects t v.number a m b why c.in-Ok-Some.ensures.adds stops) c.end_met.ensures.stops
+    let b = c.end_as.new.seat in
+    IfErr-weaker c.end_as.result (StopsNow id w (IsMarkAsked t v.number) m b) (StopsAfter id w (IsOfVisit w.alone objects t v.number) (IsOfVisitAsked objects t v.number) [] a b)
+    (λ why stops. sent_then_stops_now id w (g.met.P.Place.lawful c.args.place.now) objects t v.number a m b why c.in-Ok-Some.ensures.adds stops) c.end_as.ensures.stops
 
 pub returns-in-Ok-end_full-clause-ended : goal.returns-in-Ok-end_full-clause-ended
 returns-in-Ok-end_full-clause-ended g c =
