@@ -1,0 +1,6 @@
+pub mod Commands
+pub mod Loaded
+pub mod Made
+pub mod Rules
+pub mod Sound
+pub mod Trees
