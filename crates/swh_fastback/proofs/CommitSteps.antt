@@ -35,7 +35,7 @@ is_commit t kind e is = let pick : Kind → Option Target = λ k. elim k [ Conte
 is_blob : (t : Target) (kind : Kind) → t.name.kind ≡ kind → kind ≡ Content → if_blob (Some t) ≡ Some t
 is_blob t kind e is = let pick : Kind → Option Target = λ k. elim k [ Content ↦ Some t | Directory ↦ None | RevisionKind ↦ None | ReleaseKind ↦ None | Snapshot ↦ None ] in ap pick (e ∙ is)
 
-commit_by : (order : List Name) (aims : Targets) (a : At Commitish) (name : Name) → a.it ≡ Mark (mark_of order name) → name.kind ≡ RevisionKind → (k : Knows order aims name) → commit_at aims a.at a.it ≡ Ok k.aim
+pub commit_by : (order : List Name) (aims : Targets) (a : At Commitish) (name : Name) → a.it ≡ Mark (mark_of order name) → name.kind ≡ RevisionKind → (k : Knows order aims name) → commit_at aims a.at a.it ≡ Ok k.aim
 commit_by order aims a name is kind k =
     ap (commit_at aims a.at) is
     ∙ ap (λ (o : Option Target). or_missing (if_commit o) a.at NoMark) k.found

@@ -17,3 +17,5 @@ pub mod Tipping
 pub mod Steps
 pub mod HeldFolders
 pub mod Carried
+pub mod Endings
+pub mod OtherRoots

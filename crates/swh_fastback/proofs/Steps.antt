@@ -52,7 +52,7 @@ use Rattle.swh_fastback.proofs.HeldFolders.{IsHeldHere, folder_held}
 use Rattle.swh_fastback.proofs.CommitSteps.{KnowsFile, object_by, at_tree, commit_is}
 use Rattle.swh_fastback.proofs.Tipping.{Tips, TipsAre, tips_same, tips_commit, tips_tag, tips_begun, begun_free}
 
-nothing_more : {X : Type 0} (xs : List X) → xs ++ [] ≡ xs
+pub nothing_more : {X : Type 0} (xs : List X) → xs ++ [] ≡ xs
 nothing_more [] = refl
 nothing_more {X} (x ∷ xs) = ap (λ (r : List X). x ∷ r) (nothing_more xs)
 
@@ -63,7 +63,7 @@ name_of n kind i k e =
     sym (ap by_id e ∙ ap by_kind k)
 
 -- the marks alone say what they lead to
-knows_with : (order : List Name) (aims : Targets) (tips : Tips) (n : Name) → Knows order aims n → Knows order (record { marks = aims.marks; tips = tips }) n
+pub knows_with : (order : List Name) (aims : Targets) (tips : Tips) (n : Name) → Knows order aims n → Knows order (record { marks = aims.marks; tips = tips }) n
 knows_with order aims tips n k = record { aim = k.aim; found = k.found; named = k.named }
 
 abbrev pub AreSorted : Tips → Type 0
