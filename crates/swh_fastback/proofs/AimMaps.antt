@@ -1,6 +1,7 @@
 -- Entries of a map in a list: what an insertion and a removal leave.
-use Rattle.std.proofs.Common.{◌≡◌, ◌≢◌, Bool, true, false, cond, List, [], ◌∷◌, Option, Some, None, refl, sym, ap, ◌∙◌, subst}
+use Rattle.std.proofs.Common.{◌≡◌, ◌≢◌, Bool, true, false, cond, List, [], ◌∷◌, Option, Some, None, Contains, inl, inr, refl, sym, ap, ◌∙◌, subst}
 use Rattle.std.specs.List.{AllByRecursion}
+use Rattle.swh_graph.proofs.Lists.{in_first, in_rest, in_cases, none_in, all_of}
 use Rattle.std.specs.Ordering.{is_eq, match_ordering}
 use Rattle.std.specs.declared.cmp.Ordering.{Ordering}
 use Rattle.std.specs.declared.cmp.Ordering.TheVariants.{Less, Equal, Greater}
@@ -173,3 +174,26 @@ module _ {K X : Type 0} (cmp : K → K → Ordering) (total : IsTotalOrder cmp) 
       let behind : AllByRecursion (λ (x : K × X). cmp e.0 x.0 ≡ Less) fs = subst (λ (y : K). AllByRecursion (λ (x : K × X). cmp y x.0 ≡ Less) fs) (sym key) t.0 in
       let rest = same-entries es fs s.1 t.1 (λ q. tail_by (is_at (cmp q) e.0) q e es fs refl s.0 behind (h q ∙ ap (λ (x : K × X). lookup (is_at (cmp q)) (x ∷ fs)) (sym own))) in
       cc
+
+  -- ## What is found is among the entries
+
+  in_by : (b : Bool) (q : K) (v : X) (e : K × X) (es : List (K × X)) → is_at (cmp q) e.0 ≡ b → cond b (Some e.1) (lookup (is_at (cmp q)) es) ≡ Some v → (lookup (is_at (cmp q)) es ≡ Some v → Contains es (q, v)) → Contains (e ∷ es) (q, v)
+  in_by true q v e es is h ih =
+      let value : e.1 ≡ v = same_some e.1 v h in
+      let key : q ≡ e.0 = exact q e.0 ((Equal-is (cmp q e.0)).0 is) in
+      subst (λ (x : K × X). Contains (e ∷ es) x) (pair_is e (q, v) (sym key) value) (in_first e es)
+  in_by false q v e es is h ih = in_rest e es (q, v) (ih h)
+
+  pub in-found : (es : List (K × X)) (q : K) (v : X) → lookup (is_at (cmp q)) es ≡ Some v → Contains es (q, v)
+  in-found [] q v h = absurd cc
+  in-found (e ∷ es) q v h = in_by (is_at (cmp q) e.0) q v e es refl h (in-found es q v)
+
+  pub found-in : (es : List (K × X)) (q : K) (v : X) → Sorted es → Contains es (q, v) → lookup (is_at (cmp q)) es ≡ Some v
+  found-in [] q v s there = absurd (none_in (q, v) there)
+  found-in (e ∷ es) q v s there = elim (in_cases e es (q, v) there) [
+    | inl same ↦ subst (λ (x : K × X). lookup (is_at (cmp x.0)) (e ∷ es) ≡ Some x.1) same (found_first e es)
+    | inr later ↦
+        let before : cmp e.0 q ≡ Less = all_of (λ (x : K × X). cmp e.0 x.0 ≡ Less) es (q, v) s.0 later in
+        let other : q ≢ e.0 = λ same. (let self : cmp e.0 e.0 ≡ Equal = tied_itself total e.0 in let bad : Less ≡ Equal = sym before ∙ ap (cmp e.0) same ∙ self in cc) in
+        ap (λ (b : Bool). cond b (Some e.1) (lookup (is_at (cmp q)) es)) (not_at cmp total exact q e.0 other) ∙ found-in es q v s.1 later
+  ]

@@ -19,3 +19,4 @@ pub mod HeldFolders
 pub mod Carried
 pub mod Endings
 pub mod OtherRoots
+pub mod TagLookups
