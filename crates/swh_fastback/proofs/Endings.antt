@@ -107,6 +107,7 @@ module _ (id : Kind → List ℕ → List ℕ) (bodies : Bodies) (order : List N
     pub is_base : TipsAre bodies order base
     pub set : Tips
     pub sets : SetsAll base tips set
+    pub sorted_set : AreSorted set
     pub leaves : Leaves (LeavesBranch bodies order root) set making.aims.tips
     pub sorted : AreSorted making.aims.tips
 
@@ -123,6 +124,7 @@ module _ (id : Kind → List ℕ → List ℕ) (bodies : Bodies) (order : List N
         is_base = c.tips;
         set = r.making.aims.tips;
         sets = r.sets;
+        sorted_set = r.sorted;
         leaves = l.leaves;
         sorted = l.sorted;
       }

@@ -20,3 +20,5 @@ pub mod Carried
 pub mod Endings
 pub mod OtherRoots
 pub mod TagLookups
+pub mod Branching
+pub mod SnapshotRoots

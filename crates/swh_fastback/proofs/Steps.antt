@@ -56,7 +56,7 @@ pub nothing_more : {X : Type 0} (xs : List X) → xs ++ [] ≡ xs
 nothing_more [] = refl
 nothing_more {X} (x ∷ xs) = ap (λ (r : List X). x ∷ r) (nothing_more xs)
 
-name_of : (n : Name) (kind : Kind) (i : List ℕ) → n.kind ≡ kind → n.id ≡ i → record { kind = kind; id = i } ≡ n
+pub name_of : (n : Name) (kind : Kind) (i : List ℕ) → n.kind ≡ kind → n.id ≡ i → record { kind = kind; id = i } ≡ n
 name_of n kind i k e =
     let by_kind : Kind → Name = λ x. record { kind = x; id = i } in
     let by_id : List ℕ → Name = λ x. record { kind = n.kind; id = x } in

@@ -1,4 +1,5 @@
 pub mod Commands
+pub mod Head
 pub mod Loaded
 pub mod Made
 pub mod Rules
