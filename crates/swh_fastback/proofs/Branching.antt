@@ -1,6 +1,6 @@
 -- The branches of a snapshot that a stream carries, and the tips that are set for them.
-use Rattle.std.proofs.Common.{◌≡◌, ◌≢◌, ◌⊎◌, inl, inr, ℕ, Bool, true, false, cond, List, [], ◌∷◌, ◌++◌, map, Option, Some, None, Contains, refl, sym, ap, ◌∙◌, subst, codes}
-use Rattle.std.specs.List.{AllByRecursion, flat_map, filter_map, cons_option}
+use Rattle.std.proofs.Common.{◌≡◌, ◌≢◌, ◌⊎◌, inl, inr, ℕ, Bool, true, false, List, [], ◌∷◌, ◌++◌, map, Contains, refl, sym, ap, ◌∙◌, subst, codes}
+use Rattle.std.specs.List.{AllByRecursion, flat_map}
 use Rattle.std.specs.Ordering.{nat_cmp, match_ordering}
 use Rattle.std.specs.declared.cmp.Ordering.{Ordering}
 use Rattle.std.specs.declared.cmp.Ordering.TheVariants.{Less, Equal, Greater}
@@ -13,14 +13,8 @@ use Rattle.swh_base.specs.declared.kind.Kind.{Kind}
 use Rattle.swh_base.specs.declared.kind.Kind.TheVariants.{Content, Directory as DirectoryKind, Revision as RevisionKind, Release as ReleaseKind, Snapshot as SnapshotKind}
 use Rattle.swh_base.specs.declared.name.Name.{Name}
 use Rattle.swh_base.specs.Name.{name_cmp, name_cmp_total, name_cmp-IsAntisymmetric}
-use Rattle.swh_base.specs.Manifest.{AreChildren}
-use Rattle.swh_base.specs.Reach.{IsChildIn}
-use Rattle.swh_base.specs.Release.{Release, IsRelease}
-use Rattle.swh_base.specs.Snapshot.{SnapshotBranch, BranchTarget, ToObject, ToBranch, ToNothing, BranchIsBefore, AreBranches, IsSnapshot, branch_child}
-use Rattle.swh_base.proofs.SnapshotLemmas.{one_snapshot}
-use Rattle.swh_model.specs.Archive.{Bodies, body_of, IsGraphOf}
-use Rattle.swh_model.specs.Meaning.{head_branch, put_branch, with_head}
-use Rattle.swh_graph.specs.Holding.{HoldsSnapshot, HoldsRelease}
+use Rattle.swh_base.specs.Snapshot.{SnapshotBranch, BranchTarget, ToObject, ToBranch, ToNothing, BranchIsBefore, AreBranches}
+use Rattle.swh_model.specs.Meaning.{head_branch, put_branch}
 use Rattle.swh_graph.proofs.Lists.{in_first, in_rest, in_cases, none_in, only, all_of}
 use Rattle.swh_fastcarried.proofs.Reaching.{same_object}
 use Rattle.swh_fastback.specs.Commands.{object_tips, branch_tips}

@@ -1,5 +1,5 @@
 -- What the commands behind the objects make of the tips: branches that are set, and the branch of all commits taken away.
-use Rattle.std.proofs.Common.{◌≡◌, ◌⊎◌, inl, inr, ℕ, true, List, [], ◌∷◌, ◌++◌, Some, Result, Ok, Err, Contains, refl, sym, ap, ◌∙◌, subst}
+use Rattle.std.proofs.Common.{◌≡◌, ◌⊎◌, inl, inr, ℕ, List, [], ◌∷◌, ◌++◌, Result, Ok, Contains, refl, ap, ◌∙◌, subst}
 use Rattle.std.specs.Ordering.{nat_cmp}
 use Rattle.std.specs.Cmp.Lexicographic.{slice_cmp}
 use Rattle.std.specs.BTreeMap.{insert_entry, is_at}
@@ -17,10 +17,10 @@ use Rattle.swh_fasttext.specs.Text.{cook_branch}
 use Rattle.swh_fastcook.specs.Stream.{LeavesBranch}
 use Rattle.swh_fastgrammar.specs.declared.command.Command.{Command}
 use Rattle.swh_fastgrammar.specs.declared.command.Command.TheVariants.{Reset}
-use Rattle.swh_fastgrammar.specs.declared.command.Start.TheVariants.{NoTip, Of}
-use Rattle.swh_fastmeaning.specs.Aims.{Missing, commit_at, with_tip, without_tip}
+use Rattle.swh_fastgrammar.specs.declared.command.Start.TheVariants.{Of}
+use Rattle.swh_fastmeaning.specs.Aims.{Missing, with_tip, without_tip}
 use Rattle.swh_fastmeaning.specs.Commands.{Target, Making, Makes, no_making, step, steps, then, only, ◌>>=◌}
-use Rattle.swh_fastback.specs.Commands.{AreTips, AreLastCommands, AreStreamCommands}
+use Rattle.swh_fastback.specs.Commands.{AreTips, AreLastCommands}
 use Rattle.swh_fastback.specs.Made.{LeadsTo as Knows, IsHeldMade}
 use Rattle.swh_fastback.proofs.AimMaps.{insert-sorted, remove-sorted}
 use Rattle.swh_fastback.proofs.Tipping.{Tips, TipsAre}
@@ -67,7 +67,7 @@ module _ (id : Kind → List ℕ → List ℕ) (order : List Name) where
       let later : Result Target Missing → Result Making Missing = λ x. x >>= λ aim. Ok (only id (with_tip tip.0 aim m.aims)) in
       let step_is : step id m.aims (Reset tip.0 (Of a)) ≡ Ok (only id (with_tip tip.0 k.aim m.aims)) = ap later found in
       let r = resets_made tips next more (insert-sorted (slice_cmp nat_cmp) nat_list_cmp_total (slice_cmp-IsAntisymmetric nat_cmp-IsAntisymmetric) m.aims.tips tip.0 k.aim s) rest
-        (λ t there. knows_with order m.aims (insert_entry (slice_cmp nat_cmp) m.aims.tips tip.0 k.aim) t.1 (known t (in_rest tip tips t there))) (λ t there. kinds t (in_rest tip tips t there)) in
+      (λ t there. knows_with order m.aims (insert_entry (slice_cmp nat_cmp) m.aims.tips tip.0 k.aim) t.1 (known t (in_rest tip tips t there))) (λ t there. kinds t (in_rest tip tips t there)) in
       record {
         making = r.making;
         makes = ap (steps id m) is ∙ ap (λ (x : Result Making Missing). x >>= λ y. steps id (then id m y) more) step_is ∙ r.makes;

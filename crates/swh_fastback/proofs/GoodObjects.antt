@@ -68,7 +68,7 @@ bit_stable : (b : Bool) → ((b ≡ true → ⊥) → ⊥) → b ≡ true
 bit_stable true h = refl
 bit_stable false h = absurd (h (λ z. cc))
 
-below_or : (a b : ℕ) → (a ≤ b) ⊎ (b < a)
+pub below_or : (a b : ℕ) → (a ≤ b) ⊎ (b < a)
 below_or a b = grind arith
 
 ref_stable : (text : List ℕ) → ((IsRef text → ⊥) → ⊥) → IsRef text

@@ -22,3 +22,5 @@ pub mod OtherRoots
 pub mod TagLookups
 pub mod Branching
 pub mod SnapshotRoots
+pub mod FolderLists
+pub mod LoadingBack

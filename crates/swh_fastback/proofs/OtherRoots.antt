@@ -1,12 +1,10 @@
 -- The tips at the end of the stream of a revision and of a release.
 use Rattle.std.proofs.Common.{◌≡◌, ◌≢◌, ◌⊎◌, inl, inr, ℕ, ◌==◌, Bool, true, false, cond, List, [], ◌∷◌, ◌++◌, map, Option, Some, None, Contains, refl, sym, ap, ◌∙◌, subst, codes}
-use Rattle.std.specs.List.{filter_map, cons_option}
+use Rattle.std.specs.List.{cons_option}
 use Rattle.std.specs.Ordering.{nat_cmp}
 use Rattle.std.specs.Cmp.Lexicographic.{slice_cmp}
 use Rattle.std.specs.BTreeMap.{insert_entry, is_at}
-use Rattle.std.specs.Map.{lookup, remove_entry}
-use Rattle.std.specs.FinMap.{nat_cmp-IsAntisymmetric, slice_cmp-IsAntisymmetric}
-use Rattle.std.proofs.lemmas.Cmp.{nat_list_cmp_total}
+use Rattle.std.specs.Map.{remove_entry}
 use Rattle.swh_base.specs.declared.kind.Kind.{Kind}
 use Rattle.swh_base.specs.declared.kind.Kind.TheVariants.{Content, Directory as DirectoryKind, Revision as RevisionKind, Release as ReleaseKind, Snapshot as SnapshotKind}
 use Rattle.swh_base.specs.declared.name.Name.{Name}
@@ -14,13 +12,11 @@ use Rattle.swh_base.specs.Directory.{DirectoryEntry, child_of, children_of as di
 use Rattle.swh_base.specs.Manifest.{AreChildren}
 use Rattle.swh_base.specs.Reach.{IsChildIn}
 use Rattle.swh_base.specs.Revision.{Revision, revision_name}
-use Rattle.swh_base.specs.Snapshot.{SnapshotBranch, ToObject}
-use Rattle.swh_model.specs.Archive.{Bodies, body_of, IsGraphOf}
+use Rattle.swh_model.specs.Archive.{Bodies, IsGraphOf}
 use Rattle.swh_graph.proofs.Lists.{in_first, in_rest, in_cases, none_in, trapped}
 use Rattle.swh_postorder.specs.Postorder.{IsPostorder, Trip, Over, Passes, Enters, IsTrip, left_in}
 use Rattle.swh_postorder.proofs.Orders.{order_are}
 use Rattle.swh_fasttext.specs.Text.{cook_branch}
-use Rattle.swh_fastcook.specs.Ends.{HasRevision}
 use Rattle.swh_fastcook.specs.Stream.{LeavesBranch}
 use Rattle.swh_fastmeaning.specs.Commands.{Target}
 use Rattle.swh_fastmeaning.specs.Snapshots.{tip_branch}
@@ -155,3 +151,27 @@ module _ (bodies : Bodies) (children_of : Name → Option (List Name)) (graph : 
       no_cook (inl none) stays = none
       no_cook (inr (t, one, has)) stays =
           absurd (stays (record { commit = has.commit; there = has.there; kind = has.kind; free = λ e. absurd (let bad : ReleaseKind ≡ SnapshotKind = sym kind ∙ e in cc) }))
+
+-- ## The root is the last in the order
+
+module _ (children_of : Name → Option (List Name)) where
+  nothing_left : (trip : Trip) (around left : List Name) → IsTrip children_of around left [] trip → left_in trip ≡ []
+  nothing_left Over around left t = refl
+  nothing_left (Passes n rest) around left (more, e, entered, later) = absurd cc
+  nothing_left (Enters n inner rest) around left (more, kids, e, fresh, held, inside, later) = absurd cc
+
+  none_entered : (n : Name) → Contains [] n ⊎ Contains [] n → ⊥
+  none_entered n (inl there) = none_in n there
+  none_entered n (inr there) = none_in n there
+
+  last_by : (root : Name) (trip : Trip) → IsTrip children_of [] [] (root ∷ []) trip → (front : List Name) × (left_in trip ≡ front ++ root ∷ [])
+  last_by root Over t = absurd cc
+  last_by root (Passes n rest) (more, e, entered, later) = absurd (none_entered n entered)
+  last_by root (Enters n inner rest) (more, kids, e, fresh, held, inside, later) =
+      let same : n ≡ root = cc in
+      let over : more ≡ [] = cc in
+      let ended : left_in rest ≡ [] = nothing_left rest [] ([] ++ (left_in inner ++ n ∷ [])) (subst (λ (l : List Name). IsTrip children_of [] ([] ++ (left_in inner ++ n ∷ [])) l rest) over later) in
+      (left_in inner, ap (λ (l : List Name). left_in inner ++ n ∷ l) ended ∙ ap (λ (x : Name). left_in inner ++ x ∷ []) same)
+
+  pub root_last : (root : Name) (order : List Name) → IsPostorder children_of root order → (front : List Name) × (order ≡ front ++ root ∷ [])
+  root_last root order is = let l = last_by root is.trip is.walk in (l.0, is.is ∙ l.1)

@@ -5,17 +5,16 @@ use Rattle.std.specs.Ordering.{nat_cmp}
 use Rattle.std.specs.declared.cmp.Ordering.TheVariants.{Less}
 use Rattle.std.specs.Cmp.Lexicographic.{slice_cmp}
 use Rattle.std.specs.BTreeMap.{insert_entry, is_at}
-use Rattle.std.specs.Map.{lookup, remove_entry}
+use Rattle.std.specs.Map.{lookup}
 use Rattle.std.proofs.lemmas.Cmp.{nat_list_cmp_total}
 use Rattle.swh_base.specs.declared.kind.Kind.{Kind}
 use Rattle.swh_base.specs.declared.kind.Kind.TheVariants.{Content, Directory as DirectoryKind, Revision as RevisionKind, Release as ReleaseKind, Snapshot as SnapshotKind}
 use Rattle.swh_base.specs.declared.name.Name.{Name}
 use Rattle.swh_base.specs.Manifest.{AreChildren}
-use Rattle.swh_base.specs.Reach.{IsChildIn}
 use Rattle.swh_base.specs.Release.{Release}
 use Rattle.swh_base.specs.Snapshot.{SnapshotBranch, BranchTarget, ToObject, ToBranch, ToNothing, IsSnapshot, branch_child}
 use Rattle.swh_base.proofs.SnapshotLemmas.{one_snapshot}
-use Rattle.swh_model.specs.Archive.{Bodies, body_of, IsGraphOf}
+use Rattle.swh_model.specs.Archive.{Bodies, IsGraphOf}
 use Rattle.swh_model.specs.Meaning.{head_branch, with_head}
 use Rattle.swh_graph.specs.Holding.{HoldsSnapshot, HoldsRelease}
 use Rattle.swh_graph.proofs.Lists.{in_first, in_rest, in_cases, none_in}
@@ -24,7 +23,7 @@ use Rattle.swh_postorder.specs.Postorder.{IsPostorder}
 use Rattle.swh_postorder.proofs.Orders.{order_are, order_closed}
 use Rattle.swh_carried.specs.declared.fault.Why.TheVariants.{Tagless}
 use Rattle.swh_carried.specs.Uncarried.{BreaksNone}
-use Rattle.swh_fastcarried.specs.Rules.{tag_branch, IsCarriedObject, IsCarriedTarget, IsAtOwnBranch, StandsAtBranch, BreaksIn}
+use Rattle.swh_fastcarried.specs.Rules.{tag_branch, IsCarriedObject, IsCarriedTarget, StandsAtBranch, BreaksIn}
 use Rattle.swh_fastcarried.proofs.Reaching.{same_object}
 use Rattle.swh_fasttext.specs.Text.{cook_branch}
 use Rattle.swh_fastcook.specs.Ends.{HasRevision}
@@ -32,16 +31,16 @@ use Rattle.swh_fastcook.specs.Stream.{LeavesBranch}
 use Rattle.swh_fastmeaning.specs.Commands.{Target}
 use Rattle.swh_fastmeaning.specs.Snapshots.{tip_branch}
 use Rattle.swh_fastback.specs.Commands.{branch_tips}
-use Rattle.swh_fastback.specs.Head.{LeadsHead, IsHeadOf}
-use Rattle.swh_fastback.specs.Loaded.{Tags, release_name}
-use Rattle.swh_fastback.proofs.AimMaps.{Sorted, not_at, insert-own, insert-other, remove-own, remove-other, in-found, found-in, same-entries}
+use Rattle.swh_fastback.specs.Head.{IsHeadOf}
+use Rattle.swh_fastback.specs.Loaded.{release_name}
+use Rattle.swh_fastback.proofs.AimMaps.{not_at, insert-own, insert-other, remove-own, remove-other, in-found, found-in, same-entries}
 use Rattle.swh_fastback.proofs.Tipping.{Tips, TipsAre, IsCook}
 use Rattle.swh_fastback.proofs.Endings.{SetsAll, Leaves}
 use Rattle.swh_fastback.proofs.GoodRows.{kid_in}
 use Rattle.swh_fastback.proofs.GoodObjects.{no_odd, root_there}
 use Rattle.swh_fastback.proofs.Steps.{AreSorted, name_of}
-use Rattle.swh_fastback.proofs.TagLookups.{text_exact, same_text, some_is, IsTagTip, rest_found, HasTip, tag_found, one_held, SetBy, tag_sound, tag_full}
-use Rattle.swh_fastback.proofs.Branching.{Pairs, PairsSorted, pairs, to_branch, HasBranch, in_pairs, to_pairs, pairs_sorted, one_branch, find_branch, target_is, in_tips, to_tips, LeadToObjects, without_head, put_head}
+use Rattle.swh_fastback.proofs.TagLookups.{text_exact, same_text, some_is, rest_found, tag_found, one_held, tag_sound, tag_full}
+use Rattle.swh_fastback.proofs.Branching.{Pairs, PairsSorted, pairs, to_branch, HasBranch, in_pairs, to_pairs, pairs_sorted, one_branch, find_branch, target_is, in_tips, to_tips, without_head, put_head}
 
 abbrev at_key : List ℕ → Tips → Option Target
 at_key q tips = lookup (is_at (slice_cmp nat_cmp q)) tips
@@ -157,7 +156,7 @@ same_body a b e = cc
 module _ (bodies : Bodies) (children_of : Name → Option (List Name)) (graph : IsGraphOf bodies children_of) (root : Name) (order : List Name) (is_order : IsPostorder children_of root order) (preceded : ArePreceded children_of order)
     (many long : Type 0) (none : (n : Name) → Contains order n → BreaksNone (BreaksIn bodies root order many long) n) where
   -- a release that is reached is held
-  release_held : (n : Name) → Contains order n → n.kind ≡ ReleaseKind → (r : Release) × HoldsRelease bodies n r
+  pub release_held : (n : Name) → Contains order n → n.kind ≡ ReleaseKind → (r : Release) × HoldsRelease bodies n r
   release_held n there kind =
       let has_kids = order_closed children_of root order is_order n ((order_are children_of root order is_order n).0 there) in
       let has = graph.held n has_kids.0 has_kids.1 in
@@ -177,7 +176,7 @@ module _ (bodies : Bodies) (children_of : Name → Option (List Name)) (graph : 
         let given : List Name → Option (List Name) = λ ns. Some ns in
         found ∙ ap given (are.kids ∙ ap (filter_map branch_child) (one_snapshot holds.body are.branches branches (subst (λ (b : List ℕ). IsSnapshot b are.branches) same are.is) holds.is))
 
-    target_order : (b : SnapshotBranch) (n : Name) → Contains branches b → b.target ≡ ToObject n → Contains order n
+    pub target_order : (b : SnapshotBranch) (n : Name) → Contains branches b → b.target ≡ ToObject n → Contains order n
     target_order b n there e =
         kid_in bodies children_of graph order preceded root n (root_there bodies children_of root order is_order many long none)
         (record { kids = filter_map branch_child branches; held = snapshot_by (children_of root) refl; one_of = in_children branches b n there e })
@@ -272,10 +271,10 @@ module _ (bodies : Bodies) (children_of : Name → Option (List Name)) (graph : 
           elim leaves [
             | inr (stays, same) ↦ record { tip = f.tip; found = ap (at_key b.name) same ∙ f.found; named = f.named }
             | inl (l, gone) ↦ record {
-                tip = f.tip;
-                found = ap (at_key b.name) gone ∙ remove-other (slice_cmp nat_cmp) nat_list_cmp_total text_exact set cook_branch b.name (l.free kind branches holds b there) ∙ f.found;
-                named = f.named;
-              }
+              tip = f.tip;
+              found = ap (at_key b.name) gone ∙ remove-other (slice_cmp nat_cmp) nat_list_cmp_total text_exact set cook_branch b.name (l.free kind branches holds b there) ∙ f.found;
+              named = f.named;
+            }
           ]
 
       head_differs : cook_branch ≡ codes "HEAD" → ⊥

@@ -1,7 +1,6 @@
 -- What is found among tags, and among the tips that they are.
-use Rattle.std.proofs.Common.{◌≡◌, ◌≢◌, ◌⊎◌, inl, inr, ℕ, Bool, true, false, cond, List, [], ◌∷◌, ◌++◌, map, Option, Some, None, Contains, refl, sym, ap, ◌∙◌, subst, codes}
-use Rattle.std.specs.Ordering.{nat_cmp, is_eq}
-use Rattle.std.specs.declared.cmp.Ordering.{Ordering}
+use Rattle.std.proofs.Common.{◌≡◌, ◌≢◌, ◌⊎◌, inl, inr, ℕ, Bool, true, false, cond, List, [], ◌∷◌, ◌++◌, map, Option, Some, Contains, refl, sym, ap, ◌∙◌, subst}
+use Rattle.std.specs.Ordering.{nat_cmp}
 use Rattle.std.specs.Cmp.{Equal-is}
 use Rattle.std.specs.Cmp.Lexicographic.{slice_cmp}
 use Rattle.std.specs.BTreeMap.{insert_entry, is_at}
@@ -12,9 +11,9 @@ use Rattle.swh_base.specs.declared.kind.Kind.{Kind}
 use Rattle.swh_base.specs.declared.kind.Kind.TheVariants.{Content, Directory as DirectoryKind, Revision as RevisionKind, Release as ReleaseKind, Snapshot as SnapshotKind}
 use Rattle.swh_base.specs.declared.name.Name.{Name}
 use Rattle.swh_base.specs.Release.{Release, IsRelease}
-use Rattle.swh_base.specs.Snapshot.{SnapshotBranch, BranchTarget, ToObject}
+use Rattle.swh_base.specs.Snapshot.{SnapshotBranch}
 use Rattle.swh_base.proofs.RevisionLemmas.{one_release}
-use Rattle.swh_model.specs.Archive.{Bodies, body_of}
+use Rattle.swh_model.specs.Archive.{Bodies}
 use Rattle.swh_graph.specs.Holding.{HoldsRelease}
 use Rattle.swh_graph.proofs.Lists.{in_first, in_rest, in_cases, none_in}
 use Rattle.swh_fastcarried.specs.Rules.{tag_branch}
@@ -22,7 +21,7 @@ use Rattle.swh_fastcarried.proofs.Reaching.{same_object}
 use Rattle.swh_fastmeaning.specs.Commands.{Target}
 use Rattle.swh_fastmeaning.specs.Snapshots.{tip_branch}
 use Rattle.swh_fastback.specs.Loaded.{Tags, SetsTag, SetTags, branch_of_tag, release_name}
-use Rattle.swh_fastback.proofs.AimMaps.{at_self, not_at, insert-own, insert-other}
+use Rattle.swh_fastback.proofs.AimMaps.{at_self, insert-own, insert-other}
 use Rattle.swh_fastback.proofs.Tipping.{Tips}
 
 abbrev pub text_exact : IsAntisymmetric (slice_cmp nat_cmp)

@@ -1,6 +1,8 @@
 pub mod Commands
 pub mod Head
+pub mod Length
 pub mod Loaded
+pub mod LoadsBack
 pub mod Made
 pub mod Rules
 pub mod Sound

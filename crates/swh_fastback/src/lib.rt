@@ -6,10 +6,12 @@
 //! within the limits; and its commands make again what is held.
 #![tactic(auto)]
 
+mod back;
 mod grammar;
 mod meaning;
 mod trees;
 
+pub use back::what_was_cooked_loads_back;
 pub use grammar::cooked_texts_are_streams;
 pub use meaning::objects_are_made_again;
 pub use trees::{files_make_their_directory, folders_are_held};
