@@ -24,3 +24,4 @@ pub mod Branching
 pub mod SnapshotRoots
 pub mod FolderLists
 pub mod LoadingBack
+pub mod Histories
