@@ -1,0 +1,9 @@
+pub mod Commands
+pub mod Head
+pub mod Length
+pub mod Loaded
+pub mod LoadsBack
+pub mod Made
+pub mod Rules
+pub mod Sound
+pub mod Trees
