@@ -34,6 +34,7 @@ use Rattle.swh_dirload.specs.Lines.{BreaksAfter}
 use Rattle.swh_dirload.specs.Meaning.{AreShort, IsFirstLong, ReadsFolder, HasFolder, ReadsBoth, MeansFolder, HasLong, BreaksAt, HasLongListed, BreaksFolder}
 use Rattle.swh_dirload.specs.Places.{places_of, MayTake, TakesAll}
 use Rattle.swh_dirload.specs.Reading.{IsRead, ReadsAll, StopsAt}
+use Rattle.swh_dirload.specs.Root.{HasRoot}
 use Rattle.swh_dirload.specs.Walk.{root, Takes, IsWalk, ComesTo}
 use Rattle.swh_dirload.proofs.OneWalk.{one_walk, comes_to_none, comes_to_one}
 use Rattle.swh_dirload.proofs.OneReading.{Cuts, two_cuts, same_reading, same_contents, reads_or_stops}
@@ -290,12 +291,32 @@ module _ (id : Kind → List ℕ → List ℕ) (tree : Tree) where
   pub one_fault : (text : List ℕ) (fault other : DirFault) → BreaksFolder id tree text fault → BreaksFolder id tree text other → fault ≡ other
   one_fault text fault other h k = one_form text fault other (form_of text fault h) (form_of text other k)
 
-  means_or : (text : List ℕ) (objects : List Entry) (snapshot : List ℕ) (fault : DirFault) → MeansFolder id tree text objects snapshot → Form text fault → ⊥
-  means_or text objects snapshot fault a (AtItem p w c u e) = walk_not p w a.items u c a.reads.folder.reads.walk
-  means_or text objects snapshot fault a (AtFile items which n walk stops e) = file_not items a.items which n a.reads.before a.contents walk stops a.reads.folder.reads
-  means_or text objects snapshot fault a (AtDirectory size h e) = directory_not size a.items a.reads.before a.contents h a.reads.folder
-  means_or text objects snapshot fault a (AtLine items before contents own h is s e) = line_not text items a.items before a.places contents a.contents own h is s a.reads
-  means_or text objects snapshot fault a (AtListed size h e) = listed_not text size a.items a.places a.contents h a.reads a.short
+  root_or : (text root : List ℕ) (fault : DirFault) → HasRoot id tree text root → Form text fault → ⊥
+  root_or text itself fault a (AtItem p w c u e) = walk_not p w a.items u c a.reads.folder.reads.walk
+  root_or text itself fault a (AtFile items which n walk stops e) = file_not items a.items which n a.reads.before a.contents walk stops a.reads.folder.reads
+  root_or text itself fault a (AtDirectory size h e) = directory_not size a.items a.reads.before a.contents h a.reads.folder
+  root_or text itself fault a (AtLine items before contents own h is s e) = line_not text items a.items before a.places contents a.contents own h is s a.reads
+  root_or text itself fault a (AtListed size h e) = listed_not text size a.items a.places a.contents h a.reads a.short
+
+  -- ## The folder's own directory
+
+  -- the branch of its snapshot leads to it
+  means_root : (text : List ℕ) (objects : List Entry) (snapshot : List ℕ) → (a : MeansFolder id tree text objects snapshot) → HasRoot id tree text (directory_id id (a.entries []))
+  means_root text objects snapshot a = record { items = a.items; places = a.places; contents = a.contents; reads = a.reads; short = a.short; entries = a.entries; directories = a.directories; named = refl }
+
+  pub one_root : (text root other : List ℕ) → HasRoot id tree text root → HasRoot id tree text other → root ≡ other
+  one_root text own other a b =
+      let stand = same_listed text a.items b.items a.places b.places a.contents b.contents a.reads b.reads in
+      let same = one_directory id a.places b.places a.entries b.entries stand (short_folders text a.items a.places a.contents a.reads) a.directories b.directories in
+      a.named ∙ ap (directory_id id) (same [] (root_folder text a.items a.places a.contents a.reads)) ∙ sym b.named
+
+  pub root_head : (text root : List ℕ) (objects : List Entry) (snapshot : List ℕ) → HasRoot id tree text root → MeansFolder id tree text objects snapshot → (body : List ℕ) × IsSnapshot body (head root ∷ []) × (snapshot ≡ id Snapshot body)
+  root_head text own objects snapshot a b =
+      let same = one_root text (directory_id id (b.entries [])) own (means_root text objects snapshot b) a in
+      (b.body, subst (λ (r : List ℕ). IsSnapshot b.body (head r ∷ [])) same b.is_snapshot, b.named)
+
+  pub root_unbroken : (text root : List ℕ) (fault : DirFault) → HasRoot id tree text root → BreaksFolder id tree text fault → ⊥
+  root_unbroken text own fault a h = root_or text own fault a (form_of text fault h)
 
   pub never_both : (text : List ℕ) (objects : List Entry) (snapshot : List ℕ) (fault : DirFault) → MeansFolder id tree text objects snapshot → BreaksFolder id tree text fault → ⊥
-  never_both text objects snapshot fault a h = means_or text objects snapshot fault a (form_of text fault h)
+  never_both text objects snapshot fault a h = root_unbroken text (directory_id id (a.entries [])) fault (means_root text objects snapshot a) h

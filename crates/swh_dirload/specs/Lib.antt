@@ -10,4 +10,5 @@ pub mod Meaning
 pub mod Modes
 pub mod Places
 pub mod Reading
+pub mod Root
 pub mod Walk

@@ -27,3 +27,24 @@ MayRefuse (BadModes line) = 1 ≤ line
 MayRefuse (Limit which number) = IsAbove which number
 MayRefuse ReadFault = Unit {0}
 MayRefuse Memory = Unit {0}
+
+-- A number is above this limit of folders, which have no others without a listing.
+abbrev pub IsAbovePlain : Which → ℕ → Type 0
+IsAbovePlain Body number = body_limit < number
+IsAbovePlain Objects number = ⊥
+IsAbovePlain Bytes number = ⊥
+IsAbovePlain Store number = ⊥
+IsAbovePlain Ledger number = ⊥
+IsAbovePlain Stream number = number ≡ FILES_LIMIT + 1
+IsAbovePlain Line number = ⊥
+IsAbovePlain Path number = path_limit < number
+IsAbovePlain Ref number = ⊥
+IsAbovePlain Refs number = ⊥
+
+-- A folder without a listing may be refused for this, whatever it holds.
+abbrev pub MayRefusePlain : DirFault → Type 0
+MayRefusePlain (OtherKind path) = length path ≤ path_limit
+MayRefusePlain (BadModes line) = ⊥
+MayRefusePlain (Limit which number) = IsAbovePlain which number
+MayRefusePlain ReadFault = Unit {0}
+MayRefusePlain Memory = Unit {0}

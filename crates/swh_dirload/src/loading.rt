@@ -13,7 +13,7 @@ ghost use Rattle.swh_dirmade.specs.Spots.{Places, IsTable, Stand};
 ghost use Rattle.swh_dirload.specs.declared.fault.DirFault.TheVariants.{ReadFault as NotRead};
 ghost use Rattle.swh_dirload.specs.Lines.{AreTaken, ExplainsLines, GoesOn};
 ghost use Rattle.swh_dirload.specs.Loading.{HasTable, ExplainsLength, IsLongAfter, MakesAll};
-ghost use Rattle.swh_dirload.specs.May.{MayRefuse};
+ghost use Rattle.swh_dirload.specs.May.{MayRefuse, MayRefusePlain};
 ghost use Rattle.swh_dirload.specs.Meaning.{MeansFolder, ExplainsFolder};
 ghost use Rattle.swh_dirload.specs.Modes.{Tells, text_of, IsLeft, RoseIn};
 
@@ -31,13 +31,13 @@ use swh_outside::{Folder, Source};
 
 /// What stands in a folder: its table, and what is under each number of it.
 #[derive(Drop)]
-struct Standing {
-    spots: Vec<Spot>,
-    places: Vec<Place>,
+pub struct Standing {
+    pub spots: Vec<Spot>,
+    pub places: Vec<Place>,
 }
 
 /// What stands in a folder, with the contents of its files.
-fn read_folder<N: Namer, F: Folder>(
+pub fn read_folder<N: Namer, F: Folder>(
     alloc: Global,
     namer: &N,
     folder: &mut F,
@@ -48,7 +48,7 @@ fn read_folder<N: Namer, F: Folder>(
     ensures table { IfOk result (λ s. IsTable s.spots.items) }
     ensures count { IfOk result (λ s. length s.places.items ≡ length s.spots.items) }
     ensures held { IfOk result (λ s. AllByRecursion (IsHeld (names_of_made N.id_of (made given.new))) s.places.items) }
-    ensures may { IfErr result MayRefuse }
+    ensures may { IfErr result MayRefusePlain }
     ensures err { F.tells → (text : List ℕ) → IfErr result (ExplainsFolder N.id_of (F.holds folder.old) text) }
 
     ensures same { F.tells → F.holds folder.new ≡ F.holds folder.old }
@@ -63,12 +63,12 @@ fn read_folder<N: Namer, F: Folder>(
 }
 
 /// Refuses directories that are longer than a body may be.
-fn check_lengths(alloc: Global, spots: &[Spot], places: &[Place]) -> Result<(), DirFault>
+pub fn check_lengths(alloc: Global, spots: &[Spot], places: &[Place]) -> Result<(), DirFault>
     requires table { IsTable spots.now }
     requires count { length places.now ≡ length spots.now }
     ensures short { OnOk result (AreShort spots.now places.now) }
     ensures err { IfErr result (ExplainsLength spots.now places.now) }
-    ensures may { IfErr result MayRefuse }
+    ensures may { IfErr result MayRefusePlain }
 {
     match first_long(alloc, spots, places)? {
         Some(number) => Err(DirFault::Limit {

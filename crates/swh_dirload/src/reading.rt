@@ -7,7 +7,7 @@ ghost use Rattle.swh_dirmade.specs.Making.{IsHeld};
 ghost use Rattle.swh_outside.specs.Faults.{Rose};
 ghost use Rattle.swh_outside.specs.declared.folder.What.TheVariants.{File as AFile, Other as NeitherKind};
 ghost use Rattle.swh_dirload.specs.declared.fault.DirFault.TheVariants.{ReadFault as NotRead};
-ghost use Rattle.swh_dirload.specs.May.{MayRefuse};
+ghost use Rattle.swh_dirload.specs.May.{MayRefusePlain};
 ghost use Rattle.swh_dirload.specs.Found.{items_of, ArePlaced};
 ghost use Rattle.swh_dirload.specs.Walk.{AllFit};
 ghost use Rattle.swh_dirload.specs.Reading.{IsRead, ReadsAll, ExplainsRead, ExplainsReading};
@@ -39,7 +39,7 @@ fn read_content<N: Namer, F: Folder>(
     ensures within { IfOk result (λ x. x.1 ≤ FILES_LIMIT) }
     ensures held { IfOk result (λ x. IsHeld (names_of_made N.id_of (made given.new)) x.0) }
     ensures kept { OnOk result (Keeps given.old given.new) }
-    ensures may { IfErr result MayRefuse }
+    ensures may { IfErr result MayRefusePlain }
     ensures err { F.tells → IfErr result (ExplainsRead N.id_of (F.holds folder.old) total path.now AFile) }
 
     ensures same { F.tells → F.holds folder.new ≡ F.holds folder.old }
@@ -77,7 +77,7 @@ fn read_item<N: Namer, F: Folder>(
     ensures within { IfOk result (λ x. x.1 ≤ FILES_LIMIT) }
     ensures held { IfOk result (λ x. IsHeld (names_of_made N.id_of (made given.new)) x.0) }
     ensures kept { OnOk result (Keeps given.old given.new) }
-    ensures may { IfErr result MayRefuse }
+    ensures may { IfErr result MayRefusePlain }
     ensures err { F.tells → IfErr result (ExplainsRead N.id_of (F.holds folder.old) total path.now what) }
 
     ensures same { F.tells → F.holds folder.new ≡ F.holds folder.old }
@@ -112,7 +112,7 @@ pub fn read_files<N: Namer, F: Folder>(
     // Also of a folder that does not tell what it holds.
     ensures count { IfOk result (λ places. length places.items ≡ length found.now) }
     ensures held { IfOk result (λ places. AllByRecursion (IsHeld (names_of_made N.id_of (made given.new))) places.items) }
-    ensures may { IfErr result MayRefuse }
+    ensures may { IfErr result MayRefusePlain }
     ensures err { F.tells → IfErr result (ExplainsReading N.id_of (F.holds folder.old) given.old (items_of found.now)) }
 
     ensures same { F.tells → F.holds folder.new ≡ F.holds folder.old }

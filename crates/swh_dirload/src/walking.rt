@@ -4,7 +4,7 @@ ghost use Rattle.swh_outside.specs.Faults.{Rose};
 ghost use Rattle.swh_dirload.specs.declared.fault.DirFault.TheVariants.{ReadFault as NotRead, Memory as NoRoom};
 ghost use Rattle.swh_dirload.specs.Items.{Fits};
 ghost use Rattle.swh_dirload.specs.Found.{path_in, paths_of, items_of, IsPlaced, ArePlaced, AreBelow, AreNamedBehind, found_in, items_under};
-ghost use Rattle.swh_dirload.specs.May.{MayRefuse};
+ghost use Rattle.swh_dirload.specs.May.{MayRefusePlain};
 ghost use Rattle.swh_dirload.specs.Walk.{Visits, AllFit, IsWalk, ExplainsItem, ExplainsWalk};
 
 use crate::fault::DirFault;
@@ -109,7 +109,7 @@ pub fn walk<F: Folder>(alloc: Global, folder: &mut F) -> Result<Vec<Found>, DirF
     ensures placed { IfOk result (λ found. ArePlaced 0 found.items) }
     ensures named { IfOk result (λ found. AreNamedBehind found.items) }
     ensures fit { IfOk result (λ found. AllFit (items_of found.items)) }
-    ensures may { IfErr result MayRefuse }
+    ensures may { IfErr result MayRefusePlain }
     ensures err { F.tells → IfErr result (ExplainsWalk (F.holds folder.old)) }
 
     ensures same { F.tells → F.holds folder.new ≡ F.holds folder.old }

@@ -1,7 +1,7 @@
 -- What a command does, from the answer that came of it and was told.
 use Rattle.std.proofs.Common.{◌≡◌, ◌<◌, ◌≤◌, refl, ℕ, List, subst, arith, inl, inr}
 use Rattle.swh_base.specs.declared.kind.Kind.{Kind}
-use Rattle.swh_words.specs.Words.{Wanted, ToInit, ToLoad, ToAsk, ToCheck, ToIdentify}
+use Rattle.swh_words.specs.Words.{Wanted, ToInit, ToLoad, ToAsk, ToCheck, ToIdentify, ToIdentifyFolder}
 use Rattle.swh_program.specs.Seen.{Sink, Seen, Told, Same, Span}
 use Rattle.swh_program.specs.Answers.{last_line_of}
 use Rattle.swh_program.specs.Archives.{SameElsewhere, old_archive, new_archive}
@@ -11,6 +11,7 @@ use Rattle.swh_program.specs.Commands.{Does, Comes}
 use Rattle.swh_program.specs.Complete.{jobs_of_meant, all_made, full_lines}
 use Rattle.swh_program.specs.Damage.{damaged_line}
 use Rattle.swh_program.specs.IdentifyCommand.{Identifies, DoesIdentify, HasNoBody, IsIdentifyAnswer, name_of_bytes, name_line}
+use Rattle.swh_program.specs.IdentifyFolderCommand.{IdentifiesFolder, DoesIdentifyFolder, HasNoDirectory, IsFolderAnswer, directory_line}
 use Rattle.swh_program.specs.InitCommand.{Inits, DoesInit, IsInitAnswer}
 use Rattle.swh_program.specs.Jobs.{HasJobs, HasNoJobs, bad_job_line}
 use Rattle.swh_program.specs.LeftAlone.{IsOnDepot, IsOnDesk, IsBeforeInputs, IsRefusedInOrder}
@@ -21,13 +22,14 @@ use Rattle.swh_program.specs.Reading.{Telling, Reads}
 use Rattle.swh_program.specs.Run.{IsTold, NamesFailed}
 use Rattle.swh_segment.specs.Making.{IsMade}
 use Rattle.swh_program.specs.declared.answer.Answer.{Answer}
-use Rattle.swh_program.specs.declared.answer.Answer.TheVariants.{Made, NoJobFile, BadJob, NotMade, Damaged, OutsideDisk, OutsideSource, OutsideClock, Memory}
+use Rattle.swh_program.specs.declared.answer.Answer.TheVariants.{Made, NoJobFile, BadJob, NotMade, Damaged, OutsideDisk, OutsideSource, OutsideFolder, OutsideClock, Memory}
 use Rattle.swh_program.proofs.Asked.{ask_settles, does_ask}
 use Rattle.swh_program.proofs.Checked.{check_settles, does_check}
 use Rattle.swh_program.proofs.Damages.{load_harm}
 use Rattle.swh_program.proofs.Completes.{told_with, told_unless, init_done}
 use Rattle.swh_program.proofs.Ends.{safe}
 use Rattle.swh_program.proofs.Exacts.{init_statuses, init_archive}
+use Rattle.swh_program.proofs.FolderNaming.{folder_statuses, folder_disk, folder_exactly, folder_named, load_no_folder}
 use Rattle.swh_program.proofs.LoadFiles.{load_files, refused_files}
 use Rattle.swh_program.proofs.LoadStatuses.{load_job, load_bad, load_archive, load_lines, load_input}
 use Rattle.swh_program.proofs.LoadsDone.{load_exact, meant_all_made, load_done}
@@ -51,6 +53,9 @@ module _ (id_of : Kind → List ℕ → List ℕ) (told : Told) (seen : Seen) (s
 
   no_source : Memory ≡ OutsideSource → ⊥
   no_source e = cc
+
+  no_folder : Memory ≡ OutsideFolder → ⊥
+  no_folder e = cc
 
   no_clock : Memory ≡ OutsideClock → ⊥
   no_clock e = cc
@@ -100,6 +105,12 @@ module _ (id_of : Kind → List ℕ → List ℕ) (told : Told) (seen : Seen) (s
     one_of = tt;
     ends = λ t. tt;
     cause = λ e. absurd (no_source e);
+    left = record { depot = depot; origins = origins; clock = clock };
+  }
+  nothing_came (ToIdentifyFolder path) = record {
+    one_of = tt;
+    ends = λ t. tt;
+    cause = λ e. absurd (no_folder e);
     left = record { depot = depot; origins = origins; clock = clock };
   }
 
@@ -181,6 +192,12 @@ comes_still (ToIdentify kind path) s sink same_sink answer i = record {
   cause = i.cause;
   left = on_desk_still s sink same_sink i.left;
 }
+comes_still (ToIdentifyFolder path) s sink same_sink answer i = record {
+  one_of = i.one_of;
+  ends = i.ends;
+  cause = i.cause;
+  left = on_desk_still s sink same_sink i.left;
+}
 
 does_init : (dir : List ℕ) (s : Span) (answer : Answer) (status : ℕ) → IsTold answer s status → Inits dir s answer → DoesInit dir s status
 does_init dir s answer status told i = record {
@@ -243,25 +260,52 @@ does_identify kind path s answer status told i =
           (named s.id_of kind bytes body found answer there (λ failed. no_source (i.cause failed)) (i.ends t)) no_sink told;
     }
 
+does_identify_folder : (path : List ℕ) (s : Span) (answer : Answer) (status : ℕ) → IsTold answer s status → IdentifiesFolder path s answer → DoesIdentifyFolder path s status
+does_identify_folder path s answer status told i =
+    let found = s.old.desk.folder_at path in
+    record {
+      ends = record { answer = answer; is_one = i; told = told };
+      not_refused = run_never answer s status 2 4 (folder_statuses s.id_of answer i.one_of) 2 (omega arith) (omega arith) (omega arith) told;
+      no_archive = run_never answer s status 2 4 (folder_statuses s.id_of answer i.one_of) 3 (omega arith) (omega arith) (omega arith) told;
+      no_directory = λ t. run_exactly answer s status 1 (HasNoDirectory s.id_of found) (omega arith) (folder_exactly s.id_of found answer (i.ends t)) told;
+      complete = λ tree root t there is no_folder no_sink.
+          told_with (directory_line root) 0 answer s status
+          (folder_named s.id_of tree root is found answer there (λ failed. no_folder (i.cause failed)) (i.ends t)) no_sink told;
+    }
+
 pub does : (wanted : Wanted) (s : Span) (answer : Answer) (status : ℕ) → IsTold answer s status → Comes wanted s answer → Does wanted s status
 does (ToInit dir) s answer status told came = does_init dir s answer status told came
 does (ToLoad dir jobs) s answer status told came = does_load dir jobs s answer status told came
 does (ToAsk dir paths) s answer status told came = does_ask dir paths s answer status told came
 does (ToCheck dir) s answer status told came = does_check dir s answer status told came
 does (ToIdentify kind path) s answer status told came = does_identify kind path s answer status told came
+does (ToIdentifyFolder path) s answer status told came = does_identify_folder path s answer status told came
 
 -- which part the answer of a command names
 pub comes_names : (wanted : Wanted) (s : Span) (answer : Answer) → Comes wanted s answer → NamesFailed s answer
 comes_names (ToInit dir) s answer i = record {
   disk = λ tells. i.cause (init_disk answer i.one_of tells);
   source = λ e. absurd (subst IsInitAnswer e i.one_of);
+  folder = λ e. absurd (subst IsInitAnswer e i.one_of);
   clock = λ e. absurd (subst IsInitAnswer e i.one_of);
 }
-comes_names (ToLoad dir jobs) s answer l = record { disk = l.disk_cause; source = l.source_cause; clock = l.clock_cause }
+comes_names (ToLoad dir jobs) s answer l = record {
+  disk = l.disk_cause;
+  source = l.source_cause;
+  folder = λ e. absurd (load_no_folder (givens_of s) s.old.desk.file_at jobs (old_archive dir s) (new_archive dir s) answer l.ends e);
+  clock = l.clock_cause;
+}
 comes_names (ToAsk dir paths) s answer r = read_names (asking paths) (ask_settles paths) dir s answer r
 comes_names (ToCheck dir) s answer r = read_names (checking s.id_of) (check_settles s.id_of) dir s answer r
 comes_names (ToIdentify kind path) s answer i = record {
   disk = λ tells. absurd (subst (IsIdentifyAnswer s.id_of kind) (identify_disk s.id_of kind answer i.one_of tells) i.one_of);
   source = i.cause;
+  folder = λ e. absurd (subst (IsIdentifyAnswer s.id_of kind) e i.one_of);
   clock = λ e. absurd (subst (IsIdentifyAnswer s.id_of kind) e i.one_of);
+}
+comes_names (ToIdentifyFolder path) s answer i = record {
+  disk = λ tells. absurd (folder_disk s.id_of answer i.one_of tells);
+  source = λ e. absurd (subst (IsFolderAnswer s.id_of) e i.one_of);
+  folder = i.cause;
+  clock = λ e. absurd (subst (IsFolderAnswer s.id_of) e i.one_of);
 }

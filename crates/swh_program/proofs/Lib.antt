@@ -27,6 +27,7 @@ pub mod Exacts
 pub mod LoadStatuses
 pub mod LoadFiles
 pub mod Naming
+pub mod FolderNaming
 pub mod Leaving
 pub mod Orders
 pub mod ReadOnly

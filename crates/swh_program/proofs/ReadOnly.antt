@@ -174,5 +174,6 @@ pub read_names : (t : Telling) → Settles t → (dir : List ℕ) (s : Span) (an
 read_names t settles dir s answer r = record {
   disk = λ tells. r.cause (read_disk s.id_of t settles answer r.one_of tells);
   source = λ e. absurd (subst (IsReadAnswer s.id_of t) e r.one_of);
+  folder = λ e. absurd (subst (IsReadAnswer s.id_of t) e r.one_of);
   clock = λ e. absurd (subst (IsReadAnswer s.id_of t) e r.one_of);
 }

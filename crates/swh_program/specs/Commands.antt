@@ -1,13 +1,14 @@
 -- What each command does.
 use Rattle.std.specs.Prelude.{ℕ, List, map}
 use Rattle.swh_base.specs.declared.kind.Kind.{Kind}
-use Rattle.swh_words.specs.Words.{Wanted, ToInit, ToLoad, ToAsk, ToCheck, ToIdentify}
+use Rattle.swh_words.specs.Words.{Wanted, ToInit, ToLoad, ToAsk, ToCheck, ToIdentify, ToIdentifyFolder}
 use Rattle.swh_program.specs.Seen.{Span}
 use Rattle.swh_program.specs.InitCommand.{Inits, DoesInit}
 use Rattle.swh_program.specs.LoadCommand.{Loads, DoesLoad}
 use Rattle.swh_program.specs.AskCommand.{asking, DoesAsk}
 use Rattle.swh_program.specs.CheckCommand.{checking, DoesCheck}
 use Rattle.swh_program.specs.IdentifyCommand.{Identifies, DoesIdentify}
+use Rattle.swh_program.specs.IdentifyFolderCommand.{IdentifiesFolder, DoesIdentifyFolder}
 use Rattle.swh_program.specs.Reading.{Telling, Reads}
 use Rattle.swh_program.specs.declared.answer.Answer.{Answer}
 use Rattle.swh_program.specs.declared.reading.Reading.{Reading}
@@ -20,6 +21,7 @@ Does (ToLoad dir jobs) s status = DoesLoad dir jobs s status
 Does (ToAsk dir paths) s status = DoesAsk dir paths s status
 Does (ToCheck dir) s status = DoesCheck dir s status
 Does (ToIdentify kind path) s status = DoesIdentify kind path s status
+Does (ToIdentifyFolder path) s status = DoesIdentifyFolder path s status
 
 -- This answer came of the command.
 abbrev pub Comes : Wanted → Span → Answer → Type 0
@@ -28,6 +30,7 @@ Comes (ToLoad dir jobs) s answer = Loads dir jobs s answer
 Comes (ToAsk dir paths) s answer = Reads (asking paths) dir s answer
 Comes (ToCheck dir) s answer = Reads (checking s.id_of) dir s answer
 Comes (ToIdentify kind path) s answer = Identifies kind path s answer
+Comes (ToIdentifyFolder path) s answer = IdentifiesFolder path s answer
 
 -- what a command that only reads has to tell of an archive
 abbrev pub telling : (Kind → List ℕ → List ℕ) → Reading → Telling

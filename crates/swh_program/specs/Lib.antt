@@ -12,6 +12,7 @@ pub mod InitCommand
 pub mod AskCommand
 pub mod CheckCommand
 pub mod IdentifyCommand
+pub mod IdentifyFolderCommand
 pub mod Jobs
 pub mod Inputs
 pub mod Dated

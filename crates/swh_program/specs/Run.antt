@@ -8,7 +8,7 @@ use Rattle.swh_program.specs.Seen.{Span, DepotFailed, DeskFailed, ClockFailed, S
 use Rattle.swh_program.specs.Answers.{TellsDisk, IsToldOf}
 use Rattle.swh_program.specs.LeftAlone.{TouchesNothing}
 use Rattle.swh_program.specs.declared.answer.Answer.{Answer}
-use Rattle.swh_program.specs.declared.answer.Answer.TheVariants.{Words, OutsideSource, OutsideClock, Memory}
+use Rattle.swh_program.specs.declared.answer.Answer.TheVariants.{Words, OutsideSource, OutsideFolder, OutsideClock, Memory}
 
 -- The statuses that a run may end with.
 abbrev pub IsStatus : ℕ → Type 0
@@ -66,6 +66,7 @@ pub record RefusesWords (s : Span) (status : ℕ) : Type 0 where
 pub record NamesFailed (s : Span) (answer : Answer) : Type 0 where
   pub disk : TellsDisk answer → DepotFailed s
   pub source : answer ≡ OutsideSource → DeskFailed s
+  pub folder : answer ≡ OutsideFolder → DeskFailed s
   pub clock : answer ≡ OutsideClock → ClockFailed s
 
 -- Status 4 comes only where a part failed, and where a line names a part, that one.

@@ -3,10 +3,15 @@ use Rattle.std.specs.Prelude.{ℕ, Option, List}
 use Rattle.swh_base.specs.declared.kind.Kind.{Kind}
 use Rattle.swh_outside.specs.Faults.{Rose}
 use Rattle.swh_outside.specs.Files.{Files}
+use Rattle.swh_outside.specs.Folder.{Tree}
 
--- what stands at each path
+-- the bytes of the file at each path
 abbrev pub FileAt : Type 0
 FileAt = List ℕ → Option (List ℕ)
+
+-- what the folder at each path holds
+abbrev pub FolderAt : Type 0
+FolderAt = List ℕ → Option Tree
 
 -- what a depot holds
 abbrev pub Folders : Type 0
@@ -17,9 +22,11 @@ pub record Depot : Type 0 where
   pub files : Folders
   pub faults : ℕ
 
--- a desk, or the inputs of jobs: what stands at each path, how often each path has failed, and how often any has
+-- a desk, or the inputs of jobs: the file and the folder that stand at each path, how often each path has failed, and how
+-- often any has
 pub record Origins : Type 0 where
   pub file_at : FileAt
+  pub folder_at : FolderAt
   pub path_faults : List ℕ → ℕ
   pub faults : ℕ
 

@@ -54,8 +54,8 @@ fn bad_line(alloc: Global, kind: Kind, at: u64) -> Result<Bytes, Memory>
     Ok(Bytes::from_vec(line))
 }
 
-// The answer that tells a name.
-fn tell_name(alloc: Global, name: &Name) -> Answer
+/// The answer that tells a name.
+pub fn tell_name(alloc: Global, name: &Name) -> Answer
     ensures { TellsLine (name_line name.now) ending.Done result }
 {
     match name_line(alloc, name) {
@@ -80,8 +80,8 @@ fn tell_bad(alloc: Global, kind: Kind, at: u64) -> Answer
     }
 }
 
-// The answer that tells why there is no name.
-fn tell_refusal(alloc: Global, line: &[u8]) -> Answer
+/// The answer that tells why there is no name.
+pub fn tell_refusal(alloc: Global, line: &[u8]) -> Answer
     ensures { TellsLine line.now ending.Wanting result }
 {
     match Bytes::from_slice(alloc, line) {

@@ -1,6 +1,6 @@
 //! The program: reads its words, does what they say with the parts of the outside, and prints what came of it.
 //! Stands on `swh_outside`, on `swh_words`, `swh_jobs`, `swh_keeper`, `swh_check`, `swh_loader`, `swh_pool`, `swh_api`,
-//! `swh_object` and `swh_swhid` for what its commands do, and on crates below these whose types and definitions its
+//! `swh_dirload`, `swh_object` and `swh_swhid` for what its commands do, and on crates below these whose types and definitions its
 //! clauses cite; crates.txt lists all.
 //! `swharc` may rely on: the clauses of `run`, which are the archive theorem for the commands that stand; what each
 //! command does is a record of its own (`Does` in specs/Commands.antt names them).
@@ -12,6 +12,7 @@ mod check_command;
 mod damage;
 mod files;
 mod identify_command;
+mod identify_folder_command;
 mod init_command;
 mod job_inputs;
 mod job_reading;
@@ -28,6 +29,7 @@ mod top;
 pub use answer::{Answer, Ending, tell};
 pub use files::{ArchiveFiles, close_files, open_files};
 pub use identify_command::identify;
+pub use identify_folder_command::identify_folder;
 pub use init_command::init;
 pub use job_reading::read_jobs;
 pub use limits::limits_in_numbers;

@@ -5,7 +5,7 @@ use swh_base::Namer;
 use swh_outside::{Clock, Depot, Doors, Gate, Origins, Sink, Yard};
 
 /// All parts of the outside that a run may use: the namer, the depot of archives, the desk with the job file and the
-/// files to be named, the inputs of jobs, the yard, the sink for all that is printed, the clock, the doors and the
+/// files and folders to be named, the inputs of jobs, the yard, the sink for all that is printed, the clock, the doors and the
 /// gate.
 #[derive(Drop)]
 pub struct Outside<N: Namer, P: Depot, O: Origins, Y: Yard, K: Sink, C: Clock, D: Doors, G: Gate> {
@@ -33,9 +33,15 @@ impl<N: Namer, P: Depot, O: Origins, Y: Yard, K: Sink, C: Clock, D: Doors, G: Ga
     ghost span = { λ old new.
         let seen : _ → Seen = λ w. record {
           depot = record { files = P.files w.depot; faults = P.faults w.depot };
-          desk = record { file_at = O.file_at w.desk; path_faults = O.path_faults w.desk; faults = O.faults w.desk };
+          desk = record {
+            file_at = O.file_at w.desk;
+            folder_at = O.folder_at w.desk;
+            path_faults = O.path_faults w.desk;
+            faults = O.faults w.desk;
+          };
           origins = record {
             file_at = O.file_at w.origins;
+            folder_at = O.folder_at w.origins;
             path_faults = O.path_faults w.origins;
             faults = O.faults w.origins;
           };

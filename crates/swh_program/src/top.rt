@@ -6,7 +6,7 @@ ghost use Rattle.swh_program.specs.LeftAlone.{KeepsTheRest, TouchesNothing};
 ghost use Rattle.swh_program.specs.Run.{IsStatus, IsNoCommand, NamesFailed, RefusesWords, TellsFailures};
 ghost use Rattle.swh_program.specs.declared.answer.Answer.TheVariants.{Words, Memory};
 
-use crate::{Answer, Outside, Reading, Shown, identify, init, read_archive, tell};
+use crate::{Answer, Outside, Reading, Shown, identify, identify_folder, init, read_archive, tell};
 use std::alloc::Global;
 use swh_base::Namer;
 use swh_outside::{Clock, Depot, Doors, Gate, Origins, Sink, Yard};
@@ -48,6 +48,9 @@ impl<N: Namer, P: Depot, O: Origins, Y: Yard, K: Sink, C: Clock, D: Doors, G: Ga
                 *kind,
                 path,
             ),
+            Command::IdentifyFolder { path } => {
+                identify_folder(alloc, &self.namer, &mut self.desk, path)
+            }
         }
     }
 

@@ -3,12 +3,14 @@
 //! Callers may rely on: a row is met exactly where its runs end with its statuses and print what it says.
 #![tactic(auto)]
 
+mod folders;
 mod pieces;
 mod plain;
 mod setting;
 mod words;
 mod world;
 
+pub use folders::{Laid, Layout};
 pub use pieces::{Piece, spelled};
 pub use plain::{PlainDepot, Spoil};
 pub use setting::{BARE, Case, Setting};

@@ -1,8 +1,9 @@
 // What runs begin with, and what they are to end with.
+use crate::folders::Layout;
 use crate::pieces::Piece;
 
-/// What runs begin with: the folder `A` of a depot, the file `J` of the desk, and the inputs `e` and `f`. Of each part
-/// the call with the given number, from 0, fails.
+/// What runs begin with: the folder `A` of a depot, the file `J` and the folder `D` of the desk, and the inputs `e` and
+/// `f`. Of each part the call with the given number, from 0, fails.
 #[derive(Clone, Copy)]
 pub struct Setting<'a> {
     /// The ledger in `A`, where it is there.
@@ -15,7 +16,9 @@ pub struct Setting<'a> {
     pub depot_fails: Option<u64>,
     pub jobs: Option<&'a [Piece<'a>]>,
     pub jobs_fail: Option<u64>,
-    /// An opening at the desk where `J` is not there.
+    pub folder: Option<Layout<'a>>,
+    pub folder_fails: Option<u64>,
+    /// An opening at the desk, where what is opened is not there.
     pub desk_fails: Option<u64>,
     pub input: Option<&'a [Piece<'a>]>,
     pub input_fails: Option<u64>,
@@ -35,6 +38,8 @@ pub const BARE: Setting<'static> = Setting {
     depot_fails: None,
     jobs: None,
     jobs_fail: None,
+    folder: None,
+    folder_fails: None,
     desk_fails: None,
     input: None,
     input_fails: None,

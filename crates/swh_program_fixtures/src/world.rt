@@ -1,5 +1,6 @@
 // A world in memory for the program to run in. What can fail borrows what others own: a `?` where much is owned is dear
 // to prove.
+use crate::folders::folder_input;
 use crate::pieces::{Piece, spelled};
 use crate::setting::{Case, Setting};
 use std::alloc::{AllocError, Global};
@@ -8,6 +9,7 @@ use swh_memory::{
     Input, MemoryClock, MemoryDepot, MemoryDisk, MemoryDoors, MemoryOrigins, MemorySink,
     MemoryYard, Room,
 };
+use swh_memory_input::FolderInput;
 use swh_outside::{Depot, OpenGate};
 use swh_program::{Outside, run};
 
@@ -73,11 +75,25 @@ fn add_inputs(
     add_file(alloc, files, "f", setting.other_input, None)
 }
 
+// Adds the folder of the desk, where there is one.
+fn add_folder(
+    alloc: Global,
+    folders: &mut Vec<FolderInput>,
+    setting: &Setting<'_>,
+) -> Result<(), AllocError> {
+    if let Some(layout) = setting.folder {
+        let failing = failing(alloc, setting.folder_fails)?;
+        folders.push(folder_input(alloc, "D", layout, failing)?)?;
+    }
+    Ok(())
+}
+
 // The parts of a world that take memory, its files aside.
 #[derive(Drop)]
 struct Parts {
     jobs: Vec<Input>,
     jobs_failing: Vec<u64>,
+    folders: Vec<FolderInput>,
     inputs: Vec<Input>,
     inputs_failing: Vec<u64>,
     sink: MemorySink,
@@ -88,6 +104,7 @@ fn empty_parts(alloc: Global, setting: &Setting<'_>) -> Result<Parts, AllocError
     Ok(Parts {
         jobs: Vec::new(alloc),
         jobs_failing: failing(alloc, setting.desk_fails)?,
+        folders: Vec::new(alloc),
         inputs: Vec::new(alloc),
         inputs_failing: failing(alloc, setting.origins_fail)?,
         sink: MemorySink::new(alloc, 65_536, failing(alloc, setting.sink_fails)?)?,
@@ -97,6 +114,7 @@ fn empty_parts(alloc: Global, setting: &Setting<'_>) -> Result<Parts, AllocError
 
 fn fill_parts(alloc: Global, parts: &mut Parts, setting: &Setting<'_>) -> Result<(), AllocError> {
     add_file(alloc, &mut parts.jobs, "J", setting.jobs, setting.jobs_fail)?;
+    add_folder(alloc, &mut parts.folders, setting)?;
     add_inputs(alloc, &mut parts.inputs, setting)
 }
 
@@ -104,7 +122,12 @@ fn world_of<N: Namer, P: Depot>(alloc: Global, namer: N, depot: P, parts: Parts)
     Outside {
         namer,
         depot,
-        desk: MemoryOrigins::new(alloc, parts.jobs, parts.jobs_failing),
+        desk: MemoryOrigins::with_folders(
+            alloc,
+            parts.jobs,
+            parts.folders,
+            parts.jobs_failing,
+        ),
         origins: MemoryOrigins::new(alloc, parts.inputs, parts.inputs_failing),
         yard: MemoryYard::new(alloc),
         sink: parts.sink,

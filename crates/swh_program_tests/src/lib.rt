@@ -9,6 +9,8 @@ mod damages;
 #[cfg(test)]
 mod devices;
 #[cfg(test)]
+mod folders;
+#[cfg(test)]
 mod jobs;
 #[cfg(test)]
 mod loads;

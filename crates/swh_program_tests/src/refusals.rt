@@ -13,7 +13,7 @@ const WORDS: &[Case<'static>] = &[Case {
         &["init", "-A"],
         &["init", "A", "B"],
         &["make", "A"],
-        &["identify", "dir", "J"],
+        &["identify", "tree", "J"],
         &["ask", "A"],
     ],
     statuses: &[2; 7],

@@ -10,6 +10,8 @@ mod folders;
 #[cfg(test)]
 mod inputs;
 #[cfg(test)]
+mod named;
+#[cfg(test)]
 mod others;
 #[cfg(test)]
 mod refusals;

@@ -13,7 +13,7 @@ fn printed(alloc: Global, line: &str) -> Result<String, AllocError> {
     format!(in alloc; "{found:?}")
 }
 
-static PRINTED: [(&str, &str); 36] = [
+static PRINTED: [(&str, &str); 37] = [
     ("init A", "Ok(Init { dir: \"A\" })"),
     ("init -- -B", "Ok(Init { dir: \"-B\" })"),
     ("load A J", "Ok(Load { dir: \"A\", jobs: \"J\" })"),
@@ -45,6 +45,7 @@ static PRINTED: [(&str, &str); 36] = [
         "identify snp f",
         "Ok(Identify { kind: Snapshot, path: \"f\" })",
     ),
+    ("identify dir f", "Ok(IdentifyFolder { path: \"f\" })"),
     ("", "Err(Words)"),
     ("help", "Err(Words)"),
     ("--help", "Err(Words)"),
@@ -66,7 +67,7 @@ static PRINTED: [(&str, &str); 36] = [
     ("check -A", "Err(Words)"),
     ("identify cnt", "Err(Words)"),
     ("identify cnt f g", "Err(Words)"),
-    ("identify dir f", "Err(Words)"),
+    ("identify tree f", "Err(Words)"),
     ("identify blob f", "Err(Words)"),
 ];
 

@@ -9,9 +9,11 @@ use Rattle.clap.specs.Simple.{names_of, subcommand_of}
 use Rattle.clap.specs.Words.{App, first_of}
 use Rattle.clap.proofs.OnLiterals.{clap_on_literals}
 use Rattle.swh_words.specs.Definition.{ask_app, check_app, identify_app, init_app, load_app, program_app}
-use Rattle.swh_words.proofs.Commands.{kind_from, offered, read, read-given}
-use Rattle.swh_words.specs.Spelling.{is_flag, spelling_of, values_given, IsNoFileKind, NamesNoKind}
-use Rattle.swh_words.specs.Words.{Wanted, ToInit, ToLoad, ToAsk, ToCheck, ToIdentify, AsksFor, IsCommand, IsGiven, IsOffered, spelled_command}
+use Rattle.swh_words.proofs.Commands.{kind_from, identified, offered, read, read-given}
+use Rattle.swh_words.specs.Spelling.{is_flag, spelling_of, values_given, IsNoKind, NamesNoKind}
+use Rattle.swh_words.specs.Words.{Wanted, ToInit, ToLoad, ToAsk, ToCheck, ToIdentify, ToIdentifyFolder, AsksFor, IsCommand, IsGiven, IsOffered, spelled_command}
+use Rattle.swh_base.specs.declared.kind.Kind.{Kind}
+use Rattle.swh_base.specs.declared.kind.Kind.TheVariants.{Content, Directory, Revision, Release, Snapshot}
 use Rattle.swh_base.specs.Kind.{kind_letters}
 use Rattle.swh_words.proofs.Flags.{HasValuesOnly, dashes, first_bad, first_clean, is_clean, refused, value_met, value_passes, word_refused}
 use Rattle.swh_words.proofs.Values.{given_by, some≢none, turned_by}
@@ -84,6 +86,11 @@ spelled_is_command (ToIdentify kind path) name rest values given same few offere
     (command_of (codes "identify") identify_app rest (kind_letters kind ∷ path ∷ []) _ (ToIdentify kind path) enters_identify only_identify
     (given_as rest values name _ _ given same) (identify_taken (kind_letters kind) path) (identify_rows (kind_letters kind) path)
     (record { is_given = (refl, refl, refl); offered = offered }))
+spelled_is_command (ToIdentifyFolder path) name rest values given same few offered =
+    named_as rest values name (codes "identify") (kind_letters Directory ∷ path ∷ []) (ToIdentifyFolder path) same
+    (command_of (codes "identify") identify_app rest (kind_letters Directory ∷ path ∷ []) _ (ToIdentifyFolder path) enters_identify only_identify
+    (given_as rest values name _ _ given same) (identify_taken (kind_letters Directory) path) (identify_rows (kind_letters Directory) path)
+    (record { is_given = (refl, refl, refl); offered = offered }))
 
 spelling_is_command : (words : List Text) (wanted : Wanted) → length words < 2 ^ 64 → spelling_of words ≡ Some (spelled_command wanted) → IsOffered wanted
     → IsCommand words wanted
@@ -101,7 +108,7 @@ spelling_is_command (name ∷ rest) wanted few spells offered = go (values_given
 -- what is asked of a subcommand's rows is what they are read as
 read_as_wanted : (name : Text) (rows known : List Row) (wanted : Wanted) → rows ≡ known → AsksFor (name, rows) wanted → read (name, known) ≡ wanted
 read_as_wanted name rows known wanted are asked =
-    sym (ap (λ (r : List Row). read (name, r)) are) ∙ read-given (name, rows) wanted asked.is_given
+    sym (ap (λ (r : List Row). read (name, r)) are) ∙ read-given (name, rows) wanted asked.is_given asked.offered
 
 -- values that ask a subcommand for something spell it
 abbrev Spells : Text → App → Wanted → List Text → Type 0
@@ -123,13 +130,29 @@ check_spells : (wanted : Wanted) (values : List Text) → fault_in check_app tru
 check_spells wanted = check_by (Spells (codes "check") check_app wanted)
     (λ dir asked. ap spelled_command (read_as_wanted (codes "check") _ _ wanted (check_rows dir) asked))
 
+spelled_identified : (kind : Kind) (path : Text) → spelled_command (identified kind path) ≡ codes "identify" ∷ kind_letters kind ∷ path ∷ []
+spelled_identified Content path = refl
+spelled_identified Directory path = refl
+spelled_identified Revision path = refl
+spelled_identified Release path = refl
+spelled_identified Snapshot path = refl
+
+given_letters : (rows : List Row) (kind : Kind) (path : Text) → IsGiven (codes "identify", rows) (identified kind path)
+    → first_of (codes "kind") rows ≡ Some (kind_letters kind)
+given_letters rows Content path given = given.1
+given_letters rows Directory path given = given.1
+given_letters rows Revision path given = given.1
+given_letters rows Release path given = given.1
+given_letters rows Snapshot path given = given.1
+
 -- the letters of what is identified are its kind's
 identify_letters : (rows : List Row) (letters path : Text) (wanted : Wanted) → first_of (codes "kind") rows ≡ Some letters
-    → ToIdentify (kind_from letters) path ≡ wanted → IsGiven (codes "identify", rows) wanted
+    → identified (kind_from letters) path ≡ wanted → IsGiven (codes "identify", rows) wanted
     → codes "identify" ∷ letters ∷ path ∷ [] ≡ spelled_command wanted
 identify_letters rows letters path wanted is_first are given =
-    let back : IsGiven (codes "identify", rows) (ToIdentify (kind_from letters) path) = subst (IsGiven (codes "identify", rows)) (sym are) given in
-    ap (λ (o : Option Text). codes "identify" ∷ unwrap_or o [] ∷ path ∷ []) (sym is_first ∙ back.1) ∙ ap spelled_command are
+    let back : IsGiven (codes "identify", rows) (identified (kind_from letters) path) = subst (IsGiven (codes "identify", rows)) (sym are) given in
+    ap (λ (o : Option Text). codes "identify" ∷ unwrap_or o [] ∷ path ∷ []) (sym is_first ∙ given_letters rows (kind_from letters) path back)
+    ∙ sym (spelled_identified (kind_from letters) path) ∙ ap spelled_command are
 
 identify_spells : (wanted : Wanted) (values : List Text) → fault_in identify_app true values ≡ []
     → Spells (codes "identify") identify_app wanted values
@@ -295,18 +318,25 @@ unfolding clap_on_literals
 check_asks = check_by (λ values. AsksNothing (codes "check") check_app values → ⊥)
     (λ dir none. none (ToCheck dir) (record { is_given = (refl, refl); offered = tt }))
 
+no_kind : (letters path : Text) → AsksNothing (codes "identify") identify_app (letters ∷ path ∷ []) → IsNoKind letters
+unfolding clap_on_literals
+no_kind letters path none Content same = none (ToIdentify Content path) (record { is_given = (refl, ap (λ l. Some l) same, refl); offered = λ e. cc })
+no_kind letters path none Directory same = none (ToIdentifyFolder path) (record { is_given = (refl, ap (λ l. Some l) same, refl); offered = tt })
+no_kind letters path none Revision same = none (ToIdentify Revision path) (record { is_given = (refl, ap (λ l. Some l) same, refl); offered = λ e. cc })
+no_kind letters path none Release same = none (ToIdentify Release path) (record { is_given = (refl, ap (λ l. Some l) same, refl); offered = λ e. cc })
+no_kind letters path none Snapshot same = none (ToIdentify Snapshot path) (record { is_given = (refl, ap (λ l. Some l) same, refl); offered = λ e. cc })
+
 identify_asks : (values : List Text) → fault_in identify_app true values ≡ [] → AsksNothing (codes "identify") identify_app values
-    → IsSomeAnd (first_of (codes "kind") (rows_in identify_app true values)) IsNoFileKind
+    → IsSomeAnd (first_of (codes "kind") (rows_in identify_app true values)) IsNoKind
 unfolding clap_on_literals
 identify_asks = identify_by
-    (λ values. AsksNothing (codes "identify") identify_app values → IsSomeAnd (first_of (codes "kind") (rows_in identify_app true values)) IsNoFileKind)
-    (λ letters path none kind file same. none (ToIdentify kind path) (record { is_given = (refl, ap (λ l. Some l) same, refl); offered = file }))
+    (λ values. AsksNothing (codes "identify") identify_app values → IsSomeAnd (first_of (codes "kind") (rows_in identify_app true values)) IsNoKind) no_kind
 
 identify_names : (rest : List Text) → fault_of program_app (codes "identify" ∷ rest) ≡ [] → NamesNoKindIfNone (codes "identify" ∷ rest)
 identify_names rest clean none =
     named_by (NamesNoKind (codes "identify" ∷ rest)) (codes "identify") identify_app rest enters_identify only_identify clean
     (λ values given passes are. subst (λ (o : Option (Text × List Row)).
-    IsSomeAnd o (λ given. (given.0 ≡ codes "identify") × IsSomeAnd (first_of (codes "kind") given.1) IsNoFileKind)) (sym are) (
+    IsSomeAnd o (λ given. (given.0 ≡ codes "identify") × IsSomeAnd (first_of (codes "kind") given.1) IsNoKind)) (sym are) (
       refl,
       identify_asks values passes
           (λ wanted asked. none wanted (subst (λ (o : Option (Text × List Row)). IsAskedBy o wanted) (sym are) asked)),
@@ -327,15 +357,17 @@ no_command words none = go (fault_of program_app words) refl
 no_other_name : (name a b : Text) → (length a == length b) ≡ false → name ≡ a → name ≡ b → ⊥
 no_other_name name a b differ is_a is_b = true≢false (sym (eq-eqb (length a) (length b) (ap length (sym is_a ∙ is_b))) ∙ differ)
 
-names_no_command : (o : Option (Text × List Row)) (wanted : Wanted)
-    → IsSomeAnd o (λ given. (given.0 ≡ codes "identify") × IsSomeAnd (first_of (codes "kind") given.1) IsNoFileKind) → IsAskedBy o wanted → ⊥
+pub names_no_command : (o : Option (Text × List Row)) (wanted : Wanted)
+    → IsSomeAnd o (λ given. (given.0 ≡ codes "identify") × IsSomeAnd (first_of (codes "kind") given.1) IsNoKind) → IsAskedBy o wanted → ⊥
 names_no_command None wanted names asked = absurd names
 names_no_command (Some given) (ToInit dir) names asked = no_other_name given.0 (codes "init") (codes "identify") refl asked.is_given.0 names.0
 names_no_command (Some given) (ToLoad dir jobs) names asked = no_other_name given.0 (codes "load") (codes "identify") refl asked.is_given.0 names.0
 names_no_command (Some given) (ToAsk dir paths) names asked = no_other_name given.0 (codes "ask") (codes "identify") refl asked.is_given.0 names.0
 names_no_command (Some given) (ToCheck dir) names asked = no_other_name given.0 (codes "check") (codes "identify") refl asked.is_given.0 names.0
 names_no_command (Some given) (ToIdentify kind path) names asked =
-    subst (λ (o : Option Text). IsSomeAnd o IsNoFileKind) asked.is_given.1 names.1 kind asked.offered refl
+    subst (λ (o : Option Text). IsSomeAnd o IsNoKind) asked.is_given.1 names.1 kind refl
+names_no_command (Some given) (ToIdentifyFolder path) names asked =
+    subst (λ (o : Option Text). IsSomeAnd o IsNoKind) asked.is_given.1 names.1 Directory refl
 
 pub refused_words : (words : List Text) → ((wanted : Wanted) → IsCommand words wanted → ⊥) ↔ ((fault_of program_app words ≢ []) ⊎ NamesNoKind words)
 refused_words words = (

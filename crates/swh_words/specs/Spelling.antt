@@ -3,7 +3,6 @@ use Rattle.std.specs.Prelude.{◌≡◌, ◌≢◌, ◌==◌, ◌&&◌, ℕ, Boo
 use Rattle.std.specs.Str.{bytes_eq}
 use Rattle.clap.specs.Words.{first_of, subcommand_of}
 use Rattle.swh_base.specs.declared.kind.Kind.{Kind}
-use Rattle.swh_base.specs.declared.kind.Kind.TheVariants.{Directory}
 use Rattle.swh_words.specs.Definition.{program_app}
 use Rattle.swh_base.specs.Kind.{kind_letters}
 
@@ -31,11 +30,11 @@ abbrev pub spelling_of : List (List ℕ) → Option (List (List ℕ))
 spelling_of [] = None
 spelling_of (name ∷ rest) = option_map (λ values. name ∷ values) (values_given rest)
 
--- the letters of no kind whose bodies are files
-abbrev pub IsNoFileKind : List ℕ → Type 0
-IsNoFileKind letters = (kind : Kind) → kind ≢ Directory → letters ≢ kind_letters kind
+-- the letters of no kind
+abbrev pub IsNoKind : List ℕ → Type 0
+IsNoKind letters = (kind : Kind) → letters ≢ kind_letters kind
 
 -- `identify`, of no kind
 abbrev pub NamesNoKind : List (List ℕ) → Type 0
 NamesNoKind words =
-    IsSomeAnd (subcommand_of program_app words) (λ given. (given.0 ≡ codes "identify") × IsSomeAnd (first_of (codes "kind") given.1) IsNoFileKind)
+    IsSomeAnd (subcommand_of program_app words) (λ given. (given.0 ≡ codes "identify") × IsSomeAnd (first_of (codes "kind") given.1) IsNoKind)

@@ -6,7 +6,7 @@ use Rattle.swh_base.specs.Kind.{kind_letters}
 use Rattle.swh_base.specs.declared.kind.Kind.TheVariants.{Directory}
 use Rattle.swh_words.specs.Definition.{program_app}
 use Rattle.swh_words.specs.declared.command.Command.{Command}
-use Rattle.swh_words.specs.declared.command.Command.TheVariants.{Init, Load, Ask, Check, Identify}
+use Rattle.swh_words.specs.declared.command.Command.TheVariants.{Init, Load, Ask, Check, Identify, IdentifyFolder}
 
 -- what a run may be asked to do
 pub data Wanted : Type 0 where
@@ -20,6 +20,8 @@ pub data Wanted : Type 0 where
   ToCheck : List ℕ → Wanted
   -- to name the bytes of a file as a body of a kind
   ToIdentify : Kind → List ℕ → Wanted
+  -- to name a folder as a directory
+  ToIdentifyFolder : List ℕ → Wanted
 
 -- what a command asks for
 abbrev pub wanted_by : Command → Wanted
@@ -28,6 +30,7 @@ wanted_by (Load dir jobs) = ToLoad dir.now jobs.now
 wanted_by (Ask dir paths) = ToAsk dir.now (map (λ path. path.now) paths.items)
 wanted_by (Check dir) = ToCheck dir.now
 wanted_by (Identify kind path) = ToIdentify kind path.now
+wanted_by (IdentifyFolder path) = ToIdentifyFolder path.now
 
 -- the subcommand and the values that ask for this
 abbrev pub spelled_command : Wanted → List (List ℕ)
@@ -36,6 +39,7 @@ spelled_command (ToLoad dir jobs) = codes "load" ∷ dir ∷ jobs ∷ []
 spelled_command (ToAsk dir paths) = codes "ask" ∷ dir ∷ paths
 spelled_command (ToCheck dir) = codes "check" ∷ dir ∷ []
 spelled_command (ToIdentify kind path) = codes "identify" ∷ kind_letters kind ∷ path ∷ []
+spelled_command (ToIdentifyFolder path) = codes "identify" ∷ kind_letters Directory ∷ path ∷ []
 
 -- A subcommand's name and clap's values for it are what is wanted.
 abbrev pub IsGiven : Text × List Row → Wanted → Type 0
@@ -47,6 +51,8 @@ IsGiven given (ToAsk dir paths) =
 IsGiven given (ToCheck dir) = (given.0 ≡ codes "check") × (first_of (codes "dir") given.1 ≡ Some dir)
 IsGiven given (ToIdentify kind path) =
     (given.0 ≡ codes "identify") × (first_of (codes "kind") given.1 ≡ Some (kind_letters kind)) × (first_of (codes "path") given.1 ≡ Some path)
+IsGiven given (ToIdentifyFolder path) =
+    (given.0 ≡ codes "identify") × (first_of (codes "kind") given.1 ≡ Some (kind_letters Directory)) × (first_of (codes "path") given.1 ≡ Some path)
 
 -- One path or more is asked, and a directory is no file.
 abbrev pub IsOffered : Wanted → Type 0
@@ -55,6 +61,7 @@ IsOffered (ToLoad dir jobs) = Unit {0}
 IsOffered (ToAsk dir paths) = 0 < length paths
 IsOffered (ToCheck dir) = Unit {0}
 IsOffered (ToIdentify kind path) = kind ≢ Directory
+IsOffered (ToIdentifyFolder path) = Unit {0}
 
 -- A subcommand's name and clap's values for it ask for this, which is offered.
 pub record AsksFor (given : Text × List Row) (wanted : Wanted) : Type 0 where

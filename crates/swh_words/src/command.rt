@@ -18,6 +18,8 @@ pub enum Command<'a> {
     Check { dir: &'a str },
     /// To name the bytes of a file as a body of a kind, which is no directory.
     Identify { kind: Kind, path: &'a str },
+    /// To name a folder as a directory.
+    IdentifyFolder { path: &'a str },
 }
 
 /// Why words give no command.

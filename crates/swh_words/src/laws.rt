@@ -16,7 +16,7 @@ pub fn spelled_words()
         → IsCommand words wanted ↔ ((spelling_of words ≡ Some (spelled_command wanted)) × IsOffered wanted) }
 {}
 
-/// Words are no command exactly where clap's definition of the program refuses them, or they name no kind whose bodies are files.
+/// Words are no command exactly where clap's definition of the program refuses them, or they name no kind.
 pub fn refused_words()
     ensures { (words : List (List ℕ)) → ((wanted : Wanted) → IsCommand words wanted → ⊥) ↔
         ((fault_of program_app words ≢ []) ⊎ NamesNoKind words) }

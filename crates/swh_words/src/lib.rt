@@ -2,7 +2,7 @@
 //! Stands on `swh_base` and `clap`.
 //! Callers may rely on: words are a command exactly where clap's definition of the program takes them and gives its
 //! values, and are one command at most. They are one exactly where they spell it, and none exactly where clap refuses
-//! them or they name no kind whose bodies are files.
+//! them or they name no kind.
 #![tactic(auto)]
 
 mod command;

@@ -1,7 +1,6 @@
 //! Which command words are.
 ghost use Rattle.std.specs.Prelude.{
   ◌≡◌,
-  ◌≢◌,
   List,
   [],
   IfSome,
@@ -15,11 +14,10 @@ ghost use Rattle.std.specs.Prelude.{
   string_bytes,
 };
 ghost use Rattle.clap.specs.Words.{all_of, first_of, found_of, rows_of, subcommand_rows_of};
-ghost use Rattle.swh_base.specs.declared.kind.Kind.{Kind};
-ghost use Rattle.swh_base.specs.declared.kind.Kind.TheVariants.{Directory};
 ghost use Rattle.swh_words.specs.Words.{Wanted, IsCommand, AsksFor, wanted_by};
 ghost use Rattle.swh_base.specs.Kind.{kind_letters};
 ghost use Rattle.swh_words.specs.Commands.{Answers};
+ghost use Rattle.swh_words.specs.Spelling.{IsNoKind};
 ghost use Rattle.swh_words.specs.declared.command.WordsFault.TheVariants.{Words};
 
 use crate::definition::program;
@@ -29,13 +27,15 @@ use clap::error::ErrorKind;
 use std::alloc::{AllocError, Global};
 use swh_base::Kind;
 
-// The kind of these letters whose bodies are files.
-fn file_kind(letters: &str) -> Option<Kind>
-    ensures some { IfSome result (λ kind. (letters.now ≡ kind_letters kind) × (kind ≢ Directory)) }
-    ensures none { result ≡ None → (kind : Kind) → letters.now ≡ kind_letters kind → kind ≡ Directory }
+// The kind of these letters.
+fn kind_of(letters: &str) -> Option<Kind>
+    ensures some { IfSome result (λ kind. letters.now ≡ kind_letters kind) }
+    ensures none { result ≡ None → IsNoKind letters.now }
 {
     if letters == "cnt" {
         Some(Kind::Content)
+    } else if letters == "dir" {
+        Some(Kind::Directory)
     } else if letters == "rev" {
         Some(Kind::Revision)
     } else if letters == "rel" {
@@ -123,10 +123,14 @@ fn identify_of<'a>(values: &ArgMatches<'a>) -> Result<Command<'a>, WordsFault>
     let Some(path) = value_of(values, "path") else {
         return Err(WordsFault::Words);
     };
-    let Some(kind) = file_kind(letters) else {
+    let Some(kind) = kind_of(letters) else {
         return Err(WordsFault::Words);
     };
-    Ok(Command::Identify { kind, path })
+    if kind == Kind::Directory {
+        Ok(Command::IdentifyFolder { path })
+    } else {
+        Ok(Command::Identify { kind, path })
+    }
 }
 
 // The command of a subcommand's name and values.

@@ -1,0 +1,51 @@
+use Rattle.std.proofs.Common.{List, [], sym, subst, rules}
+use Rattle.swh_base.specs.declared.entry.Entry.{Entry}
+use Rattle.swh_made.specs.Giving.{AreNew}
+use Rattle.swh_dirmade.specs.declared.place.Place.{Place}
+use Rattle.swh_dirmade.specs.declared.spot.Spot.{Spot}
+use Rattle.swh_dirmade.specs.Sizes.{AreShort}
+use Rattle.swh_dirmade.specs.Spots.{Stand}
+use Rattle.swh_dirload.specs.Loading.{ExplainsLength}
+use Rattle.swh_dirload.specs.Meaning.{ExplainsFolder}
+use Rattle.swh_dirload.proofs.Loadings.{length_breaks, root_listed, root_of, directory_of, taken_none}
+use Rattle.swh_dirload.proofs.Onward.{same_on}
+use Rattle.swh_dirload.proofs.folder_name.name_folder.Goals as goal
+
+pub returns-in_err-spots-clause-err : goal.returns-in_err-spots-clause-err
+returns-in_err-spots-clause-err g c = λ tells.
+    let broken : ExplainsFolder g.N.Namer.id_of (g.F.Folder.holds c.args.folder.now) [] c.in_err-spots.field-0.0 = c.in_err-spots.ensures.err tells [] in
+    search rules
+
+pub returns-in_err-check_lengths-clause-err : goal.returns-in_err-check_lengths-clause-err
+returns-in_err-check_lengths-clause-err g c = λ tells.
+    let id = g.N.Namer.id_of in
+    let tree = g.F.Folder.holds c.args.folder.now in
+    let fault = c.in_err-check_lengths.field-0.0 in
+    let spots = c.in_ok-spots.field-0.spots.items in
+    let places = c.in_ok-spots.field-0.places.items in
+    let read = c.in_ok-spots.ensures in
+    let long : ExplainsLength spots places fault = subst (λ (ps : List Place). ExplainsLength spots ps fault) c.as_slice-2.ensures.value (subst (λ (ss : List Spot). ExplainsLength ss c.as_slice-2.result.now fault) c.as_slice.ensures.value c.in_err-check_lengths.ensures.err) in
+    let broken : ExplainsFolder id tree [] fault = length_breaks id tree spots places c.read_folder.new.given read.table (read.has tells) [] fault long in
+    search rules
+
+pub returns-clause-ok : goal.returns-clause-ok
+returns-clause-ok g c = λ tells.
+    let id = g.N.Namer.id_of in
+    let tree = g.F.Folder.holds c.args.folder.now in
+    let spots = c.in_ok-spots.field-0.spots.items in
+    let places = c.in_ok-spots.field-0.places.items in
+    let contents = c.read_folder.new.given in
+    let read = c.in_ok-spots.ensures in
+    let has = read.has tells in
+    let short : AreShort spots places = rw (c.as_slice.ensures.value, c.as_slice-2.ensures.value) at c.in_ok-check_lengths.ensures.short in
+    let taken = taken_none id tree spots places contents read.table has short in
+    let goes = same_on spots places in
+    let stands = root_listed id tree spots places contents read.table has short [] spots places taken goes read.table in
+    let stand : Stand c.as_slice-3.result.now c.as_slice-4.result.now taken.places = subst (λ (ps : List Place). Stand c.as_slice-3.result.now ps taken.places) (sym c.as_slice-4.ensures.value) (subst (λ (ss : List Spot). Stand ss places taken.places) (sym c.as_slice-3.ensures.value) taken.stand) in
+    root_of id tree spots places contents read.table has short [] spots places c.make_directories.new.given c.in_ok-root.root taken goes read.table short (c.in_ok-root.ensures.gives taken.places stand stands)
+
+pub returns-clause-named : goal.returns-clause-named
+returns-clause-named g c =
+    let id = g.N.Namer.id_of in
+    let fresh : AreNew id [] c.make_directories.new.given = subst (AreNew id []) c.into_objects-objects.ensures.objects c.into_objects-objects.ensures.new in
+    directory_of id c.make_directories.new.given c.in_ok-root.root fresh c.in_ok-root.ensures.root

@@ -1,0 +1,128 @@
+-- How `identify dir` ends, and where nothing stands against it.
+use Rattle.std.proofs.Common.{◌≡◌, ◌≢◌, ◌⊎◌, inl, inr, ℕ, ◌<◌, ◌≤◌, Option, Some, None, List, [], refl, sym, ap, ◌∙◌, subst, arith}
+use Rattle.std.proofs.lemmas.List.{append-nil}
+use Rattle.swh_base.specs.declared.kind.Kind.{Kind}
+use Rattle.swh_outside.specs.Files.{Files}
+use Rattle.swh_outside.specs.Folder.{Tree}
+use Rattle.swh_dirload.specs.declared.fault.DirFault.{DirFault}
+use Rattle.swh_dirload.specs.declared.fault.DirFault.TheVariants.{OtherKind, BadModes, Limit, ReadFault, Memory as OutOfMemory}
+use Rattle.swh_dirload.specs.May.{MayRefusePlain}
+use Rattle.swh_dirload.specs.Meaning.{BreaksFolder, ExplainsFolder}
+use Rattle.swh_dirload.specs.Root.{HasRoot}
+use Rattle.swh_dirload.proofs.OneFolder.{one_root, root_unbroken}
+use Rattle.swh_program.specs.Seen.{FileAt}
+use Rattle.swh_program.specs.Answers.{TellsDisk, TellsLine, status_of}
+use Rattle.swh_program.specs.Load.{Givens, LoadEnds}
+use Rattle.swh_program.specs.Run.{IsExactly}
+use Rattle.swh_program.specs.IdentifyFolderCommand.{directory_line, TellsFault, AnswersFault, HasNoDirectory, TellsFolder, FolderEnds, MayTell, IsFolderAnswer}
+use Rattle.swh_program.specs.declared.answer.Ending.{Ending}
+use Rattle.swh_program.specs.declared.answer.Ending.TheVariants as ending
+use Rattle.swh_program.specs.declared.answer.Answer.{Answer}
+use Rattle.swh_program.specs.declared.answer.Answer.TheVariants.{Told, OutsideDisk, OutsideFolder, Memory}
+use Rattle.swh_program.proofs.Completes.{Tells}
+use Rattle.swh_program.proofs.Exacts.{stopped}
+use Rattle.swh_program.proofs.LoadEndings.{told_status}
+
+-- a line is told of a fault
+pub fault_told : (fault : DirFault) (line : List ℕ) (answer : Answer) → TellsFault fault line → TellsLine line ending.Wanting answer → AnswersFault fault answer
+fault_told fault line (Told text end) tells told = (told.1, subst (TellsFault fault) (sym told.0) tells)
+fault_told fault line Memory tells told = tt
+fault_told fault line _ tells told = absurd told
+
+module _ (id_of : Kind → List ℕ → List ℕ) where
+  -- a line is told of what stands at the path
+  pub told_folder : (found : Option Tree) (line : List ℕ) (end : Ending) (answer : Answer) → TellsFolder id_of found end line → TellsLine line end answer → FolderEnds id_of found answer
+  told_folder found line end (Told text e) tells told = subst (λ (f : Ending). TellsFolder id_of found f text) (sym told.1) (subst (TellsFolder id_of found end) (sym told.0) tells)
+  told_folder found line end Memory tells told = tt
+  told_folder found line end _ tells told = absurd told
+
+  -- and so is what may be told
+  pub may_be_told : (line : List ℕ) (end : Ending) (answer : Answer) → MayTell id_of end line → TellsLine line end answer → IsFolderAnswer id_of answer
+  may_be_told line end (Told text e) tells told = subst (λ (f : Ending). MayTell id_of f text) (sym told.1) (subst (MayTell id_of end) (sym told.0) tells)
+  may_be_told line end Memory tells told = tt
+  may_be_told line end _ tells told = absurd told
+
+  -- a fault that is told breaks the folder
+  told_breaks : (tree : Tree) (fault : DirFault) (text : List ℕ) → ExplainsFolder id_of tree [] fault → TellsFault fault text → BreaksFolder id_of tree [] fault
+  told_breaks tree (OtherKind path) text why tells = why
+  told_breaks tree (BadModes line) text why tells = absurd tells
+  told_breaks tree (Limit which number) text why tells = why
+  told_breaks tree ReadFault text why tells = absurd tells
+  told_breaks tree OutOfMemory text why tells = absurd tells
+
+  pub fault_ends : (tree : Tree) (fault : DirFault) (answer : Answer) → ExplainsFolder id_of tree [] fault → AnswersFault fault answer → FolderEnds id_of (Some tree) answer
+  fault_ends tree fault (Told text end) why a =
+      subst (λ (e : Ending). TellsFolder id_of (Some tree) e text) (sym a.0) (record { fault = fault; breaks = told_breaks tree fault text why a.1; tells = a.1 })
+  fault_ends tree fault OutsideFolder why a = tt
+  fault_ends tree fault Memory why a = tt
+  fault_ends tree fault _ why a = absurd a
+
+  pub fault_one : (fault : DirFault) (answer : Answer) → MayRefusePlain fault → AnswersFault fault answer → IsFolderAnswer id_of answer
+  fault_one fault (Told text end) may a = subst (λ (e : Ending). MayTell id_of e text) (sym a.0) (inr (record { fault = fault; may = may; tells = a.1 }))
+  fault_one fault OutsideFolder may a = tt
+  fault_one fault Memory may a = tt
+  fault_one fault _ may a = absurd a
+
+  -- it is never refused for words, a job or an archive
+  pub folder_statuses : (answer : Answer) → IsFolderAnswer id_of answer → (status_of answer < 2) ⊎ (4 ≤ status_of answer)
+  folder_statuses (Told text end) is = told_status end
+  folder_statuses OutsideFolder is = inr (omega arith)
+  folder_statuses Memory is = inr (omega arith)
+  folder_statuses _ is = absurd is
+
+  -- it names no disk
+  pub folder_disk : (answer : Answer) → IsFolderAnswer id_of answer → TellsDisk answer → ⊥
+  folder_disk (Told text ending.Done) is tells = let e : ending.Done ≡ ending.OutsideDisk = tells in cc
+  folder_disk (Told text ending.Wanting) is tells = let e : ending.Wanting ≡ ending.OutsideDisk = tells in cc
+  folder_disk (Told text ending.OutsideDisk) is tells = is
+  folder_disk (Told text ending.Memory) is tells = is
+  folder_disk OutsideFolder is tells = let e : OutsideFolder ≡ OutsideDisk = tells in cc
+  folder_disk Memory is tells = let e : Memory ≡ OutsideDisk = tells in cc
+  folder_disk _ is tells = is
+
+  told_exactly : (found : Option Tree) (text : List ℕ) (end : Ending) → TellsFolder id_of found end text → IsExactly 1 (HasNoDirectory id_of found) (status_of (Told text end))
+  told_exactly None text ending.Done tells = absurd tells
+  told_exactly (Some tree) text ending.Done tells = record {
+    only = λ e. absurd (omega (arith, e));
+    there = λ none. absurd (root_unbroken id_of tree [] tells.root none.0 tells.is none.1);
+  }
+  told_exactly None text ending.Wanting tells = record { only = λ e. tt; there = λ none. inl refl }
+  told_exactly (Some tree) text ending.Wanting tells = record { only = λ e. (tells.fault, tells.breaks); there = λ none. inl refl }
+  told_exactly found text ending.OutsideDisk tells = absurd tells
+  told_exactly found text ending.Memory tells = absurd tells
+
+  -- 1 exactly where no folder stands at the path, or it breaks
+  pub folder_exactly : (found : Option Tree) (answer : Answer) → FolderEnds id_of found answer → IsExactly 1 (HasNoDirectory id_of found) (status_of answer)
+  folder_exactly found (Told text end) ends = told_exactly found text end ends
+  folder_exactly found OutsideFolder ends = stopped 1 4 (HasNoDirectory id_of found) (λ e. omega (arith, e)) (inr (inl refl))
+  folder_exactly found Memory ends = stopped 1 5 (HasNoDirectory id_of found) (λ e. omega (arith, e)) (inr (inr refl))
+  folder_exactly found _ ends = absurd ends
+
+  -- a folder that does not break is named, or memory runs out, where the desk did not fail
+  module _ (tree : Tree) (root : List ℕ) (is : HasRoot id_of tree [] root) where
+    told_root : (text : List ℕ) (end : Ending) → TellsFolder id_of (Some tree) end text → Tells (directory_line root) 0 (Told text end)
+    told_root text ending.Done tells = inr (refl, append-nil text ∙ tells.text_is ∙ ap directory_line (one_root id_of tree [] tells.root root tells.is is))
+    told_root text ending.Wanting tells = absurd (root_unbroken id_of tree [] root tells.fault is tells.breaks)
+    told_root text ending.OutsideDisk tells = absurd tells
+    told_root text ending.Memory tells = absurd tells
+
+    tree_named : (answer : Answer) → answer ≢ OutsideFolder → FolderEnds id_of (Some tree) answer → Tells (directory_line root) 0 answer
+    tree_named (Told text end) no_folder ends = told_root text end ends
+    tree_named OutsideFolder no_folder ends = absurd (no_folder refl)
+    tree_named Memory no_folder ends = inl refl
+    tree_named _ no_folder ends = absurd ends
+
+    pub folder_named : (found : Option Tree) (answer : Answer) → found ≡ Some tree → answer ≢ OutsideFolder → FolderEnds id_of found answer → Tells (directory_line root) 0 answer
+    folder_named found answer there no_folder ends = tree_named answer no_folder (subst (λ (f : Option Tree). FolderEnds id_of f answer) there ends)
+
+-- a load has no such answer
+module _ (g : Givens) (desk_at : FileAt) (path : List ℕ) (old new : Files) where
+  none_of_load : LoadEnds g desk_at path old new OutsideFolder → ⊥
+  none_of_load (inl run) = elim run.outcome [
+    | inl loaded ↦ loaded.told
+    | inr none ↦ none.0
+  ]
+  none_of_load (inr none) = none.one_of
+
+  pub load_no_folder : (answer : Answer) → LoadEnds g desk_at path old new answer → answer ≡ OutsideFolder → ⊥
+  load_no_folder answer ends is = none_of_load (subst (LoadEnds g desk_at path old new) is ends)
