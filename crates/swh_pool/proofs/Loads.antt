@@ -3,10 +3,9 @@ use Rattle.std.proofs.Common.{Result, Ok, Err, List, [], ◌∷◌, ◌++◌, re
 use Rattle.std.specs.Prelude.{IfOk, IfErr}
 use Rattle.swh_keeper.specs.Kept.{Kept}
 use Rattle.swh_loader.specs.declared.end.Loaded.{Loaded}
-use Rattle.swh_loader.specs.declared.fault.LoadFault.{LoadFault}
-use Rattle.swh_loader.specs.Ending.{IsJobEnd}
-use Rattle.swh_loader.specs.Leaving.{EndsVisit, Stops}
-use Rattle.swh_loader.specs.Sending.{held_bodies}
+use Rattle.swh_walk.specs.declared.end.LoadFault.{LoadFault}
+use Rattle.swh_loader.specs.Ending.{IsJobEnd, held_bodies}
+use Rattle.swh_alone.specs.Loading.{EndsVisit, Stops}
 use Rattle.swh_pool.specs.Loads.{OneLoad, Loading, IsLoadOutcome, IsOneLoad, AreLoads, attempt_at, AreAllowedAt}
 
 module _ {S D : Type 0} (given : Loading S D) where
