@@ -37,6 +37,18 @@ made_by : (id : Kind → List ℕ → List ℕ) (head : Option (List ℕ)) (text
 made_by id head text objects snapshot m [] h = tt
 made_by id head text objects snapshot m (e ∷ entries) h = (record { objects = objects; snapshot = snapshot; means = m; among = h.0 }, made_by id head text objects snapshot m entries h.1)
 
+module _ {S : Type 0} (id : Kind → List ℕ → List ℕ) (head : Option (List ℕ)) (sources : Sources S) where
+  broke_end : (bodies : Bodies) (s t : S) (bad : BadInput) → Broke id head sources s t bad → IsJobEnd id head sources bodies (opened.Found s) (opened.Found t) (end_for (Bad bad))
+  broke_end bodies s t (Broken bad) r = r
+  broke_end bodies s t (Collision name) r = absurd r
+  broke_end bodies s t Read r = r
+
+as_it_was : {S : Type 0} (sources : Sources S) (stream : Opened S) → IsSameInput sources stream stream
+as_it_was sources (opened.Found s) = (refl, le_refl (sources.faults s))
+as_it_was sources opened.NotFound = tt
+as_it_was sources opened.Failed = tt
+as_it_was sources opened.Memory = tt
+
 module _ {S N : Type 0} (id : Kind → List ℕ → List ℕ) (head : Option (List ℕ)) (sources : Sources S) where
   -- the objects that were made are meant
   means_made : (s : S) (made : Objects N) → HasAllThatIsReached id made → (sources.tells → Means id head (sources.left s) (making_of made)) → sources.tells → MeansObjects id head (sources.left s) made.objects.items made.snapshot
@@ -44,16 +56,11 @@ module _ {S N : Type 0} (id : Kind → List ℕ → List ℕ) (head : Option (Li
 
   -- some of what was made is made by the input
   among_read : (s : S) (now : Opened S) (x : Input N BadInput) → IsReadInput id head sources (opened.Found s) now x → walking.IsWhole id x → (entries : List Entry) → walking.AreOf x entries → AreMadeBy id head sources s entries
-  among_read s (opened.Found t) (given.Made made) r w entries are told = made_by id head (sources.left s) made.objects.items made.snapshot (means_made s made w r told) entries are
+  among_read s (opened.Found t) (given.Made made) r w entries are = λ told. made_by id head (sources.left s) made.objects.items made.snapshot (means_made s made w r told) entries are
   among_read s (opened.Found t) (given.Bad bad) r w entries are = absurd are
   among_read s opened.NotFound x r w entries are = absurd r
   among_read s opened.Failed x r w entries are = absurd r
   among_read s opened.Memory x r w entries are = absurd r
-
-  broke_end : (bodies : Bodies) (s t : S) (bad : BadInput) → Broke id head sources s t bad → IsJobEnd id head sources bodies (opened.Found s) (opened.Found t) (end_for (Bad bad))
-  broke_end bodies s t (Broken bad) r = r
-  broke_end bodies s t (Collision name) r = absurd r
-  broke_end bodies s t Read r = r
 
   -- the end of a load whose input was read
   read_end : (bodies : Bodies) (s : S) (now : Opened S) (x : Input N BadInput) (end : walk.End BadInput) → IsReadInput id head sources (opened.Found s) now x → walking.IsWhole id x → walking.IsEndOf bodies x end
@@ -67,16 +74,10 @@ module _ {S N : Type 0} (id : Kind → List ℕ → List ℕ) (head : Option (Li
   read_end bodies s (opened.Found t) (given.Made made) NotFound r w h = absurd h
   read_end bodies s (opened.Found t) (given.Made made) Unread r w h = absurd h
   read_end bodies s (opened.Found t) (given.Made made) (Bad bad) r w h = absurd h
-  read_end bodies s (opened.Found t) (given.Bad bad) end r w h = subst (λ (e : walk.End BadInput). IsJobEnd id head sources bodies (opened.Found s) (opened.Found t) (end_for e)) (sym h) (broke_end bodies s t bad r)
+  read_end bodies s (opened.Found t) (given.Bad bad) end r w h = subst (λ (e : walk.End BadInput). IsJobEnd id head sources bodies (opened.Found s) (opened.Found t) (end_for e)) (sym h) (broke_end id head sources bodies s t bad r)
   read_end bodies s opened.NotFound x end r w h = absurd r
   read_end bodies s opened.Failed x end r w h = absurd r
   read_end bodies s opened.Memory x end r w h = absurd r
-
-  as_it_was : (stream : Opened S) → IsSameInput sources stream stream
-  as_it_was (opened.Found s) = (refl, le_refl (sources.faults s))
-  as_it_was opened.NotFound = tt
-  as_it_was opened.Failed = tt
-  as_it_was opened.Memory = tt
 
   -- What reading an input answers.
   module _ {E : Type 0} (Reads : Opened S → Result (Input N BadInput) E → Opened S → Type 0) (read : (stream now : Opened S) (x : Input N BadInput) → Reads stream (Ok x) now → IsReadInput id head sources stream now x)
@@ -94,5 +95,5 @@ module _ {S N : Type 0} (id : Kind → List ℕ → List ℕ) (head : Option (Li
     job_end bodies opened.Memory now end h = absurd h
 
     pub same_input : (stream now : Opened S) → walking.IsSameOrRead Reads (opening_for stream) stream now → IsSameInput sources stream now
-    same_input stream now (inl is) = subst (IsSameInput sources stream) (sym is) (as_it_was stream)
+    same_input stream now (inl is) = subst (IsSameInput sources stream) (sym is) (as_it_was sources stream)
     same_input stream now (inr was) = same stream now was.result was.read

@@ -124,9 +124,10 @@ pub fn load_one<N: Namer, D: Disk, S: Source, G: Gate>(
         date,
         opening: opening_of(&job.stream),
         read: ByCall {
-            call: |stream: &mut Opened<S>| -> Result<Input<N, BadInput>, Memory>
-                requires { opening_for stream.old ≡ Found }
-                ensures read { IfOk result (IsReadInput N.id_of head.now (sources S.tells S.left S.faults S.path)
+            call: move |stream: &mut Opened<S>| -> Result<Input<N, BadInput>, Memory>
+                requires found { opening_for stream.old ≡ Found }
+                requires head { IfSome head.now IsRef }
+                ensures read { IfOk result (IsReadInput N.id_of head.entry.now (sources S.tells S.left S.faults S.path)
                     stream.old stream.new) }
                 ensures whole { IfOk result (IsWhole N.id_of) }
                 ensures same { IsSameInput (sources S.tells S.left S.faults S.path) stream.old stream.new }

@@ -4,7 +4,7 @@ use std::alloc::Global;
 use std::test::Fail;
 use swh_base::Sha1Namer;
 use swh_fixtures::{STREAM, URL, found, made_archive};
-use swh_loader::{LoadFault, Stop, Loaded};
+use swh_loader::{LoadFault, Loaded, Stop};
 
 /// What two loads of the worked stream answer, and whether a disk had failed after the first.
 #[derive(Drop)]

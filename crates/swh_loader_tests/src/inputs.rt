@@ -7,7 +7,7 @@ use swh_fixtures::{
     Archive, CONTENT, DIRECTORY, EMPTY_SNAPSHOT, REVISION, SNAPSHOT, STREAM, URL, found,
     made_archive,
 };
-use swh_loader::{BadInput, BadStream, End, LoadFault, Stop, Loaded, StreamWhy};
+use swh_loader::{BadInput, BadStream, End, LoadFault, Loaded, Stop, StreamWhy};
 use swh_memory::MemorySource;
 use swh_outside::Opened;
 

@@ -4,7 +4,7 @@ use std::test::Fail;
 use swh_base::{Kind, Name, Status, Url, Which};
 use swh_fixtures::{EMPTY_SNAPSHOT, URL};
 use swh_loader::{
-    BadInput, BadStream, End, LoadFault, Stop, Loaded, REPORT_LIMIT, StreamWhy, report_line,
+    BadInput, BadStream, End, LoadFault, Loaded, REPORT_LIMIT, Stop, StreamWhy, report_line,
 };
 
 // How a load ended, and the words that the spec of the lines has for it.

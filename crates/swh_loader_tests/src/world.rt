@@ -2,7 +2,7 @@
 use std::alloc::Global;
 use swh_base::{Kind, Name, Namer, Url};
 use swh_fixtures::Archive;
-use swh_loader::{Job, LoadFault, Stop, Loaded, Turn, Worker, load_one};
+use swh_loader::{Job, LoadFault, Loaded, Stop, Turn, Worker, load_one};
 use swh_memory::MemorySource;
 use swh_model::{Event, EventKind};
 use swh_outside::{OpenGate, Opened};
