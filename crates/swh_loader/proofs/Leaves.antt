@@ -1,102 +1,99 @@
--- What a load of a job leaves, from its steps.
-use Rattle.std.proofs.Common.{◌≡◌, inr, ℕ, None, Result, Ok, Err, Option, List, [], ◌∷◌, ◌++◌, refl, sym, ap, ◌∙◌, subst, append_assoc}
-use Rattle.std.proofs.lemmas.List.{append-nil, append_cancel_left}
-use Rattle.std.specs.Prelude.{IfOk}
+-- What a load leaves, by what reading its input gave.
+use Rattle.std.proofs.Common.{◌≡◌, inl, inr, ℕ, Result, Ok, Option, List, [], ◌∷◌, refl, sym, ap, subst, le_refl}
 use Rattle.std.specs.List.{AllByRecursion}
 use Rattle.swh_base.specs.declared.kind.Kind.{Kind}
 use Rattle.swh_base.specs.declared.entry.Entry.{Entry}
-use Rattle.swh_outside.specs.Views.{Disks, Sources}
-use Rattle.swh_model.specs.declared.event.Event.{Event}
+use Rattle.swh_outside.specs.Views.{Sources}
+use Rattle.swh_outside.specs.declared.fault.Opened.{Opened}
+use Rattle.swh_outside.specs.declared.fault.Opened.TheVariants as opened
 use Rattle.swh_model.specs.Archive.{Bodies}
-use Rattle.swh_model.proofs.Entries.{all-append}
-use Rattle.swh_keeper.specs.Kept.{Kept}
-use Rattle.swh_fastload.specs.Input.{Means}
 use Rattle.swh_made.specs.declared.objects.Objects.{Objects}
-use Rattle.swh_fastload.specs.Loaded.{making_of}
 use Rattle.swh_made.specs.Whole.{HasAllThatIsReached}
+use Rattle.swh_fastload.specs.Input.{Means}
+use Rattle.swh_fastload.specs.Loaded.{making_of}
+use Rattle.swh_walk.specs.declared.end.End as walk
+use Rattle.swh_walk.specs.declared.end.End.TheVariants.{Full, NotFound, Unread, Bad, Met}
+use Rattle.swh_walk.specs.declared.input.Input.{Input}
+use Rattle.swh_walk.specs.declared.input.Input.TheVariants as given
+use Rattle.swh_walk.specs.Loading as walking
+use Rattle.swh_walk.specs.Owning.{AreAmong}
+use Rattle.swh_walk.proofs.Closes.{whole_good}
+use Rattle.swh_loader.specs.declared.end.BadInput.{BadInput}
 use Rattle.swh_loader.specs.declared.end.BadInput.TheVariants.{Broken, Collision, Read}
 use Rattle.swh_loader.specs.declared.end.End.{End}
-use Rattle.swh_loader.specs.declared.end.End.TheVariants.{Full, NotFound, Failed}
-use Rattle.swh_loader.specs.Adding.{Attempt, open_event, IsEvent, AreAmong, IsOwn, AddsEvents}
-use Rattle.swh_keeper.specs.Calls.{MakesCallsOf, MakesCalls}
-use Rattle.swh_loader.specs.Ending.{MeansObjects, IsMadeBy, AreMadeBy, IsSentEnd, IsEndOf}
-use Rattle.swh_loader.specs.Leaving.{next_visit, AreOfVisit, AddsVisit, MakesVisitCalls, Stops}
-use Rattle.swh_loader.specs.Steps.{IsOpened}
-use Rattle.swh_loader.specs.Stopping.{StopsFor}
-use Rattle.swh_loader.specs.Visiting.{IsOpen}
-use Rattle.swh_loader.specs.declared.fault.LoadWhy.{LoadWhy}
-use Rattle.swh_loader.proofs.CallLaws.{of_as, calls_at, of_further}
-use Rattle.swh_loader.proofs.Closes.{whole_good}
-use Rattle.swh_loader.proofs.Further.{stops_further}
+use Rattle.swh_loader.specs.Ending.{MeansObjects, IsMadeBy, AreMadeBy, IsJobEnd, statuses_of}
+use Rattle.swh_loader.specs.Leaving.{AreAllowed, IsSameInput}
+use Rattle.swh_loader.specs.Reading.{Broke, IsReadInput, end_for, opening_for}
 
--- the objects that were made are meant
-pub means_made : {N : Type 0} (id : Kind → List ℕ → List ℕ) (head : Option (List ℕ)) (text : List ℕ) (made : Objects N) → HasAllThatIsReached id made → Means id head text (making_of made) → MeansObjects id head text made.objects.items made.snapshot
-means_made id head text made w m = record { meaning = m; good = whole_good id made.objects.items w.objects.each }
+-- the statuses of an end are those of its report
+pub same_statuses : (end : walk.End BadInput) → walking.statuses_of end ≡ statuses_of (end_for end)
+same_statuses (Full snapshot) = refl
+same_statuses NotFound = refl
+same_statuses Unread = refl
+same_statuses (Bad bad) = refl
+same_statuses (Met name) = refl
 
 made_by : (id : Kind → List ℕ → List ℕ) (head : Option (List ℕ)) (text : List ℕ) (objects : List Entry) (snapshot : List ℕ) → MeansObjects id head text objects snapshot → (entries : List Entry) → AreAmong objects entries → AllByRecursion (IsMadeBy id head text) entries
 made_by id head text objects snapshot m [] h = tt
 made_by id head text objects snapshot m (e ∷ entries) h = (record { objects = objects; snapshot = snapshot; means = m; among = h.0 }, made_by id head text objects snapshot m entries h.1)
 
--- a batch of some of them is made by the input
-pub among_made : {N S : Type 0} (id : Kind → List ℕ → List ℕ) (head : Option (List ℕ)) (sources : Sources S) (s : S) (made : Objects N) → HasAllThatIsReached id made → (sources.tells → Means id head (sources.left s) (making_of made)) → (entries : List Entry) → AreAmong made.objects.items entries → AreMadeBy id head sources s entries
-among_made id head sources s made w m entries h t = made_by id head (sources.left s) made.objects.items made.snapshot (means_made id head (sources.left s) made w (m t)) entries h
+module _ {S : Type 0} (id : Kind → List ℕ → List ℕ) (head : Option (List ℕ)) (sources : Sources S) where
+  broke_end : (bodies : Bodies) (s t : S) (bad : BadInput) → Broke id head sources s t bad → IsJobEnd id head sources bodies (opened.Found s) (opened.Found t) (end_for (Bad bad))
+  broke_end bodies s t (Broken bad) r = r
+  broke_end bodies s t (Collision name) r = absurd r
+  broke_end bodies s t Read r = r
 
--- the end of a visit whose input was sent
-pub sent_end : {N S E : Type 0} (id : Kind → List ℕ → List ℕ) (head : Option (List ℕ)) (sources : Sources S) (bodies : Bodies) (s now : S) (made : Objects N) (r : Result End E)
-    → (sources.tells → MeansObjects id head (sources.left s) made.objects.items made.snapshot) → IfOk r (IsSentEnd bodies made) → IfOk r (IsEndOf id head sources bodies s now)
-sent_end id head sources bodies s now made (Ok (Full snapshot)) m h = λ t. record {
-  objects = made.objects.items;
-  means = subst (MeansObjects id head (sources.left s) made.objects.items) (sym h.0) (m t);
-  held = h.1;
-}
-sent_end id head sources bodies s now made (Ok NotFound) m h = h
-sent_end id head sources bodies s now made (Ok (Failed (Broken bad))) m h = absurd h
-sent_end id head sources bodies s now made (Ok (Failed (Collision name))) m h = λ t. record { objects = made.objects.items; snapshot = made.snapshot; means = m t; collision = h }
-sent_end id head sources bodies s now made (Ok (Failed Read)) m h = absurd h
-sent_end id head sources bodies s now made (Err e) m h = tt
+as_it_was : {S : Type 0} (sources : Sources S) (stream : Opened S) → IsSameInput sources stream stream
+as_it_was sources (opened.Found s) = (refl, le_refl (sources.faults s))
+as_it_was sources opened.NotFound = tt
+as_it_was sources opened.Failed = tt
+as_it_was sources opened.Memory = tt
 
--- a visit that was opened, and its own events
-pub visit_added : {D : Type 0} (faults : D → ℕ) (A : List Entry → Type 0) (a : Attempt) (number : ℕ) (old mid new : Kept D) → IsOpened a old mid number → AddsEvents faults (IsOwn A a number) mid new → AddsVisit A a old.history new.history
-visit_added faults A a number old mid new o adds = record {
-  more = open_event a ∷ adds.more;
-  behind = adds.behind ∙ ap (λ (t : List Event). t ++ adds.more) o.opened ∙ append_assoc old.history (open_event a ∷ []) adds.more;
-  are = (refl, subst (λ (n : ℕ). AllByRecursion (IsOwn A a n) adds.more) o.next adds.each);
-}
+module _ {S N : Type 0} (id : Kind → List ℕ → List ℕ) (head : Option (List ℕ)) (sources : Sources S) where
+  -- the objects that were made are meant
+  means_made : (s : S) (made : Objects N) → HasAllThatIsReached id made → (sources.tells → Means id head (sources.left s) (making_of made)) → sources.tells → MeansObjects id head (sources.left s) made.objects.items made.snapshot
+  means_made s made w m told = record { meaning = m told; good = whole_good id made.objects.items w.objects.each }
 
--- a visit that was not opened
-pub unopened_added : (A : List Entry → Type 0) (a : Attempt) (h h' : List Event) → h' ≡ h → AddsVisit A a h h'
-unopened_added A a h h' same = record { more = []; behind = same ∙ sym (append-nil h); are = tt }
+  -- some of what was made is made by the input
+  among_read : (s : S) (now : Opened S) (x : Input N BadInput) → IsReadInput id head sources (opened.Found s) now x → walking.IsWhole id x → (entries : List Entry) → walking.AreOf x entries → AreMadeBy id head sources s entries
+  among_read s (opened.Found t) (given.Made made) r w entries are = λ told. made_by id head (sources.left s) made.objects.items made.snapshot (means_made s made w r told) entries are
+  among_read s (opened.Found t) (given.Bad bad) r w entries are = absurd are
+  among_read s opened.NotFound x r w entries are = absurd r
+  among_read s opened.Failed x r w entries are = absurd r
+  among_read s opened.Memory x r w entries are = absurd r
 
--- and its calls
-pub unopened_calls : {D : Type 0} (id : Kind → List ℕ → List ℕ) (disks : Disks D) (A : List Entry → Type 0) (a : Attempt) (old new : Kept D) → new.history ≡ old.history → MakesCalls id disks.file (IsEvent (open_event a)) old new → MakesVisitCalls id disks A a old new
-unopened_calls id disks A a old new same calls more behind =
-    let none = same ∙ sym (append-nil old.history) in
-    let next = next_visit old.history a.origin in
-    subst (λ (t : List Event). MakesCallsOf id disks.file (λ e. AreOfVisit A a next (t ++ e ∷ [])) t old new)
-    (append_cancel_left old.history [] more (sym none ∙ behind))
-    (of_as id disks.file (IsEvent (open_event a)) (λ e. AreOfVisit A a next (e ∷ [])) [] old new (λ e is. (is, tt)) (calls_at id disks.file (IsEvent (open_event a)) old new [] none calls))
+  -- the end of a load whose input was read
+  read_end : (bodies : Bodies) (s : S) (now : Opened S) (x : Input N BadInput) (end : walk.End BadInput) → IsReadInput id head sources (opened.Found s) now x → walking.IsWhole id x → walking.IsEndOf bodies x end
+      → IsJobEnd id head sources bodies (opened.Found s) now (end_for end)
+  read_end bodies s (opened.Found t) (given.Made made) (Full snapshot) r w h = λ told. record {
+    objects = made.objects.items;
+    means = subst (MeansObjects id head (sources.left s) made.objects.items) (sym h.0) (means_made s made w r told);
+    held = h.1;
+  }
+  read_end bodies s (opened.Found t) (given.Made made) (Met name) r w h = λ told. record { objects = made.objects.items; snapshot = made.snapshot; means = means_made s made w r told; collision = h }
+  read_end bodies s (opened.Found t) (given.Made made) NotFound r w h = absurd h
+  read_end bodies s (opened.Found t) (given.Made made) Unread r w h = absurd h
+  read_end bodies s (opened.Found t) (given.Made made) (Bad bad) r w h = absurd h
+  read_end bodies s (opened.Found t) (given.Bad bad) end r w h = subst (λ (e : walk.End BadInput). IsJobEnd id head sources bodies (opened.Found s) (opened.Found t) (end_for e)) (sym h) (broke_end id head sources bodies s t bad r)
+  read_end bodies s opened.NotFound x end r w h = absurd r
+  read_end bodies s opened.Failed x end r w h = absurd r
+  read_end bodies s opened.Memory x end r w h = absurd r
 
--- and of one that was, with its own events
-pub visit_calls : {D : Type 0} (id : Kind → List ℕ → List ℕ) (disks : Disks D) (A : List Entry → Type 0) (a : Attempt) (number : ℕ) (old mid new : Kept D) → IsOpened a old mid number → mid.wounded ≡ None
-    → AddsEvents disks.faults (IsOwn A a number) mid new → MakesCalls id disks.file (IsEvent (open_event a)) old mid → MakesCalls id disks.file (IsOwn A a number) mid new → MakesVisitCalls id disks A a old new
-unfolding visit_added
-visit_calls id disks A a number old mid new o going adds first rest more behind =
-    let added = visit_added disks.faults A a number old mid new o adds in
-    let next = next_visit old.history a.origin in
-    subst (λ (t : List Event). MakesCallsOf id disks.file (λ e. AreOfVisit A a next (t ++ e ∷ [])) t old new)
-    (append_cancel_left old.history added.more more (sym added.behind ∙ behind))
-    (of_further id disks.file (IsEvent (open_event a)) (IsOwn A a number) (λ e. AreOfVisit A a next (open_event a ∷ (adds.more ++ e ∷ []))) (open_event a ∷ []) adds.more old mid new
-    (λ e own. (refl, all-append (IsOwn A a next) adds.more (e ∷ []) added.are.1 (subst (λ (n : ℕ). IsOwn A a n e) o.next own, tt)))
-    o.before_it going o.opened (calls_at id disks.file (IsEvent (open_event a)) old mid (open_event a ∷ []) o.opened first) (calls_at id disks.file (IsOwn A a number) mid new adds.more adds.behind rest))
+  -- What reading an input answers.
+  module _ {E : Type 0} (Reads : Opened S → Result (Input N BadInput) E → Opened S → Type 0) (read : (stream now : Opened S) (x : Input N BadInput) → Reads stream (Ok x) now → IsReadInput id head sources stream now x)
+      (whole : (stream now : Opened S) (x : Input N BadInput) → Reads stream (Ok x) now → walking.IsWhole id x) (same : (stream now : Opened S) (r : Result (Input N BadInput) E) → Reads stream r now → IsSameInput sources stream now) where
+    pub allowed : (stream : Opened S) (entries : List Entry) → walking.AreAllowed Reads (opening_for stream) stream entries → AreAllowed id head sources stream entries
+    allowed (opened.Found s) entries are = among_read s are.now are.given (read (opened.Found s) are.now are.given are.read) (whole (opened.Found s) are.now are.given are.read) entries are.are_of
+    allowed opened.NotFound entries are = absurd are
+    allowed opened.Failed entries are = absurd are
+    allowed opened.Memory entries are = absurd are
 
--- why it stopped
-pub visit_stops : {D : Type 0} (id : Kind → List ℕ → List ℕ) (disks : Disks D) (A : List Entry → Type 0) (a : Attempt) (number : ℕ) (old mid new : Kept D) (why : LoadWhy) → IsOpened a old mid number → mid.wounded ≡ None
-    → AddsEvents disks.faults (IsEvent (open_event a)) old mid → AddsEvents disks.faults (IsOwn A a number) mid new → IsOpen new.history a number → StopsFor id disks.faults (IsOwn A a number) mid new why
-    → Stops id disks A a old new (record { visit = number; why = why })
-visit_stops id disks A a number old mid new why o going first adds still stops = inr (record {
-  visit = o.next;
-  more = adds.more;
-  opened = adds.behind ∙ ap (λ (t : List Event). t ++ adds.more) o.opened ∙ append_assoc old.history (open_event a ∷ []) adds.more;
-  unended = still;
-  stops = stops_further id disks.faults (IsOwn A a number) (IsEvent (open_event a)) old mid new why o.before_it going first stops;
-})
+    pub job_end : (bodies : Bodies) (stream now : Opened S) (end : walk.End BadInput) → walking.IsEndAt Reads (opening_for stream) bodies stream now end → IsJobEnd id head sources bodies stream now (end_for end)
+    job_end bodies (opened.Found s) now end h = read_end bodies s now h.given end (read (opened.Found s) now h.given h.read) (whole (opened.Found s) now h.given h.read) h.is_end
+    job_end bodies opened.NotFound now end h = ap (λ (e : walk.End BadInput). end_for e) h.0
+    job_end bodies opened.Failed now end h = ap (λ (e : walk.End BadInput). end_for e) h.0
+    job_end bodies opened.Memory now end h = absurd h
+
+    pub same_input : (stream now : Opened S) → walking.IsSameOrRead Reads (opening_for stream) stream now → IsSameInput sources stream now
+    same_input stream now (inl is) = subst (IsSameInput sources stream) (sym is) (as_it_was sources stream)
+    same_input stream now (inr was) = same stream now was.result was.read

@@ -1,17 +1,4 @@
-pub mod Among
-pub mod CallLaws
-pub mod Closes
-pub mod Codables
-pub mod Ends
-pub mod Further
 pub mod Leaves
-pub mod Limiting
 pub mod Marks
 pub mod Missing
-pub mod Opens
-pub mod Owns
-pub mod Refusals
 pub mod Room
-pub mod Sends
-pub mod Stepping
-pub mod Steps

@@ -1,12 +1,11 @@
 -- How many openings and marks a load has made, by the statuses of its visit.
-use Rattle.std.proofs.Common.{◌≡◌, ℕ, ◌+◌, ◌-◌, ◌≤◌, Option, Some, None, List, [], ◌∷◌, ◌++◌, length, refl, sym, ap, ◌∙◌, subst, arith, length-append}
+use Rattle.std.proofs.Common.{◌≡◌, ℕ, ◌+◌, ◌-◌, ◌≤◌, true, Option, Some, None, List, [], ◌∷◌, ◌++◌, length, refl, sym, ap, ◌∙◌, subst, arith, length-append}
 use Rattle.std.specs.List.{AllByRecursion, slice_get}
 use Rattle.std.proofs.lemmas.List.{append-nil, append_cancel_left}
 use Rattle.swh_base.specs.declared.kind.Kind.{Kind}
 use Rattle.swh_base.specs.declared.entry.Entry.{Entry}
 use Rattle.swh_base.specs.declared.visit.Status.{Status}
 use Rattle.swh_base.specs.declared.visit.Status.TheVariants.{Created}
-use Rattle.swh_base.specs.declared.visit.VisitKind.TheVariants.{Fast}
 use Rattle.swh_model.specs.declared.event.Event.{Event}
 use Rattle.swh_model.specs.declared.event.EventKind.{EventKind}
 use Rattle.swh_model.specs.declared.event.EventKind.TheVariants.{Batch, Mark}
@@ -16,13 +15,14 @@ use Rattle.swh_model.specs.Step.{first_of, opened, marked, marked_at, with_statu
 use Rattle.swh_base.specs.Visit.{Statuses}
 use Rattle.swh_model.proofs.Histories.{fronts}
 use Rattle.swh_model.proofs.Maps.{visits-put}
-use Rattle.swh_loader.specs.Adding.{Attempt, open_event, IsOwn, IsOwnKind}
+use Rattle.swh_walk.specs.Loading.{IsOwn}
+use Rattle.swh_walk.specs.Owning.{Attempt, open_event}
+use Rattle.swh_walk.specs.Visiting.{IsVisit, next_visit, visit_with}
+use Rattle.swh_walk.proofs.Marks.{get-last, get-marked_self, one_less}
+use Rattle.swh_alone.specs.Loading.{AddsVisit, AreOfVisit, IsOwnEvent}
 use Rattle.swh_loader.specs.Ending.{statuses_of}
-use Rattle.swh_loader.specs.Leaving.{AddsVisit, AreOfVisit, next_visit}
-use Rattle.swh_loader.specs.Visiting.{IsVisit, visit_with}
 use Rattle.swh_loader.specs.declared.end.End.{End}
 use Rattle.swh_loader.specs.declared.end.End.TheVariants as ending
-use Rattle.swh_loader.proofs.Steps.{get-last, get-marked_self, one_less}
 
 -- openings and marks
 abbrev pub other_kind : EventKind → ℕ
@@ -61,15 +61,15 @@ module _ (IsBatch : List Entry → Type 0) (t : Attempt) (number : ℕ) where
       subst (λ (o : List ℕ). HasStatuses (record a { origins = marked a.origins o visit status snapshot }) (count + 1)) (sym same_origin)
       (subst (λ (k : ℕ). HasStatuses (record a { origins = marked a.origins t.origin k status snapshot }) (count + 1)) (sym same_number) mine)
 
-  own_kind : (a : Archive) (by count : ℕ) (what : EventKind) → IsOwnKind IsBatch t.origin number what → HasStatuses a count → HasStatuses (after_kind a by what) (count + other_kind what)
+  own_kind : (a : Archive) (by count : ℕ) (what : EventKind) → IsOwn true IsBatch t number what → HasStatuses a count → HasStatuses (after_kind a by what) (count + other_kind what)
   own_kind a by count (Batch entries) own has = let counted = has.counted in record { visit = has.visit; there = has.there; counted = omega (arith, counted) }
   own_kind a by count (Mark origin visit status snapshot) own has = marked_there a origin visit count status snapshot own.0 own.1 has
   own_kind a by count what own has = absurd own
 
-  own_all : (a : Archive) (count : ℕ) (es : List Event) → AllByRecursion (IsOwn IsBatch t number) es → HasStatuses a count → HasStatuses (after_all a es) (count + others es)
+  own_all : (a : Archive) (count : ℕ) (es : List Event) → AllByRecursion (IsOwnEvent IsBatch t number) es → HasStatuses a count → HasStatuses (after_all a es) (count + others es)
   own_all a count [] own has = let counted = has.counted in record { visit = has.visit; there = has.there; counted = omega (arith, counted) }
   own_all a count (e ∷ es) own has =
-      let rest = own_all (after a e) (count + other_kind e.what) es own.1 (own_kind a e.by count e.what own.0.kind has) in
+      let rest = own_all (after a e) (count + other_kind e.what) es own.1 (own_kind a e.by count e.what own.0.added has) in
       let counted = rest.counted in
       record { visit = rest.visit; there = rest.there; counted = omega (arith, counted) }
 
@@ -77,8 +77,8 @@ module _ (IsBatch : List Entry → Type 0) (t : Attempt) (number : ℕ) where
 opened_there : (IsBatch : List Entry → Type 0) (t : Attempt) (h : List Event) → HasStatuses IsBatch t (next_visit h t.origin) (after (replay h) (open_event t)) 1
 opened_there IsBatch t h =
     let vs = visits_of (replay h).origins t.origin in
-    let first = first_of (length vs + 1) t.date Fast t.by in
-    let put : visits_of (opened (replay h).origins t.origin t.by Fast t.date) t.origin ≡ vs ++ first ∷ [] = visits-put (replay h).origins t.origin (vs ++ first ∷ []) in
+    let first = first_of (length vs + 1) t.date t.kind t.by in
+    let put : visits_of (opened (replay h).origins t.origin t.by t.kind t.date) t.origin ≡ vs ++ first ∷ [] = visits-put (replay h).origins t.origin (vs ++ first ∷ []) in
     let at : visit_at (vs ++ first ∷ []) (length vs + 1) ≡ Some first = ap (slice_get (vs ++ first ∷ [])) (one_less (length vs)) ∙ get-last vs first in
     record { visit = first; there = ap (λ (ws : List Visit). visit_at ws (length vs + 1)) put ∙ at; counted = refl }
 

@@ -1,5 +1,5 @@
 -- What loads add to the two files is within the room for what their inputs make.
-use Rattle.std.proofs.Common.{◌≡◌, ◌≢◌, ℕ, ◌+◌, ◌*◌, ◌≤◌, Option, Some, None, List, [], ◌∷◌, ◌++◌, length, refl, sym, ap, ◌∙◌, subst, arith, append_assoc}
+use Rattle.std.proofs.Common.{◌≡◌, ◌≢◌, ℕ, ◌+◌, ◌*◌, ◌≤◌, true, Option, Some, None, List, [], ◌∷◌, ◌++◌, length, refl, sym, ap, ◌∙◌, subst, arith, append_assoc}
 use Rattle.std.specs.Prelude.{sum_by}
 use Rattle.std.specs.List.{AllByRecursion}
 use Rattle.std.proofs.lemmas.List.{append_cancel_left}
@@ -27,8 +27,10 @@ use Rattle.swh_model.proofs.Entries.{none-empty}
 use Rattle.swh_model.proofs.Histories.{fronts}
 use Rattle.swh_model.proofs.Maps.{added-all}
 use Rattle.swh_model.proofs.Visits.{all-map}
-use Rattle.swh_loader.specs.Adding.{Attempt, IsOwn, IsOwnKind}
-use Rattle.swh_loader.specs.Leaving.{AddsVisit, AreOfVisit, next_visit}
+use Rattle.swh_walk.specs.Loading.{IsOwn}
+use Rattle.swh_walk.specs.Owning.{Attempt}
+use Rattle.swh_walk.specs.Visiting.{next_visit}
+use Rattle.swh_alone.specs.Loading.{AddsVisit, AreOfVisit, IsOwnEvent}
 use Rattle.swh_loader.specs.Room.{longest_record, batch_record, ledger_growth, stored_object, store_growth}
 use Rattle.swh_loader.proofs.Missing.{IsMadeOf, missing, missing-most, added_all, run_size, of_batch, some_size}
 use Rattle.swh_segment.proofs.Moments.{codable_front}
@@ -193,13 +195,13 @@ module _ (id_of : Kind → List ℕ → List ℕ) (objects : List Made) where
     abbrev AreMadeOf : List Entry → Type 0
     AreMadeOf entries = AllByRecursion (IsMadeOf id_of objects) entries
 
-    made_kind : (number : ℕ) (what : EventKind) → IsOwnKind AreMadeOf t.origin number what → IsBatchMade id_of objects what
-    made_kind number (Batch entries) own = own
+    made_kind : (number : ℕ) (what : EventKind) → IsOwn true AreMadeOf t number what → IsBatchMade id_of objects what
+    made_kind number (Batch entries) own = (own.0 refl, own.1)
     made_kind number what own = tt
 
-    made_own : (number : ℕ) (es : List Event) → AllByRecursion (IsOwn AreMadeOf t number) es → AllByRecursion (λ e. IsBatchMade id_of objects e.what) es
+    made_own : (number : ℕ) (es : List Event) → AllByRecursion (IsOwnEvent AreMadeOf t number) es → AllByRecursion (λ e. IsBatchMade id_of objects e.what) es
     made_own number [] own = tt
-    made_own number (e ∷ es) own = (made_kind number e.what own.0.kind, made_own number es own.1)
+    made_own number (e ∷ es) own = (made_kind number e.what own.0.added, made_own number es own.1)
 
     made_visit : (number : ℕ) (es : List Event) → AreOfVisit AreMadeOf t number es → AllByRecursion (λ e. IsBatchMade id_of objects e.what) es
     made_visit number [] are = tt
@@ -215,7 +217,7 @@ module _ (id_of : Kind → List ℕ → List ℕ) (objects : List Made) where
         (all_behind (λ e. IsShort e.what) h adds.more short) enough room)
 
     -- so is its next event, which is made too
-    short_kind_next : (number : ℕ) (a : Archive) (by : ℕ) (what : EventKind) → length t.origin ≤ 2048 → HasShortNames a.bodies → IsOwnKind AreMadeOf t.origin number what → May_kind id_of a by what → IsShort what
+    short_kind_next : (number : ℕ) (a : Archive) (by : ℕ) (what : EventKind) → length t.origin ≤ 2048 → HasShortNames a.bodies → IsOwn true AreMadeOf t number what → May_kind id_of a by what → IsShort what
     short_kind_next number a by (Batch entries) url held own may = tt
     short_kind_next number a by (Mark origin visit status snapshot) url held own may =
         let same = ap length own.0 in
@@ -227,8 +229,8 @@ module _ (id_of : Kind → List ℕ → List ℕ) (objects : List Made) where
       next_made [] are = (subst (λ (x : Event). IsBatchMade id_of objects x.what) (sym are.0) tt, subst (λ (x : Event). IsShort x.what) (sym are.0) url)
       next_made (x ∷ more) are =
           let number = next_visit h t.origin in
-          let own = (all_behind (IsOwn AreMadeOf t number) more (e ∷ []) are.1).0 in
-          (made_kind number e.what own.kind, short_kind_next number (replay h') e.by e.what url (short_names h' (codable_front 0 h' later fits)) own.kind may)
+          let own = (all_behind (IsOwnEvent AreMadeOf t number) more (e ∷ []) are.1).0 in
+          (made_kind number e.what own.added, short_kind_next number (replay h') e.by e.what url (short_names h' (codable_front 0 h' later fits)) own.added may)
 
       -- where there is room for one mark, no event that may come next in the load passes a file's end
       pub none_meets_end : AddsVisit AreMadeOf t h h' → AddsVisit AreMadeOf t h (h' ++ e ∷ []) → HasRoomLeft h' 1 → (which : Which) (number : ℕ) → FilePasses h' e.what which number → ⊥

@@ -8,20 +8,23 @@ use Rattle.swh_base.specs.declared.visit.Status.TheVariants.{Ongoing, Full as Fu
 use Rattle.swh_outside.specs.Faults.{Rose}
 use Rattle.swh_outside.specs.Views.{Sources}
 use Rattle.swh_model.specs.Archive.{Bodies}
-use Rattle.swh_model.specs.Step.{HasItsChildrenAndName}
+use Rattle.swh_model.specs.Step.{HasItsChildrenAndName, replay}
+use Rattle.swh_keeper.specs.Kept.{Kept}
 use Rattle.swh_base.specs.Visit.{Statuses}
 use Rattle.swh_outside.specs.declared.fault.Opened.{Opened}
 use Rattle.swh_outside.specs.declared.fault.Opened.TheVariants.{Found, NotFound as Missing, Failed as Unopened, Memory as NoRoom}
 use Rattle.swh_fastload.specs.Input.{Means}
 use Rattle.swh_made.specs.Making.{made}
 use Rattle.swh_fastload.specs.Sourced.{BreaksLeft}
-use Rattle.swh_made.specs.declared.objects.Objects.{Objects}
+use Rattle.swh_walk.specs.Sending.{AllHeld, IsMet}
 use Rattle.swh_loader.specs.declared.end.BadInput.{BadInput}
 use Rattle.swh_loader.specs.declared.end.BadInput.TheVariants.{Broken, Collision, Read}
 use Rattle.swh_loader.specs.declared.end.End.{End}
 use Rattle.swh_loader.specs.declared.end.End.TheVariants.{Full, NotFound, Failed}
-use Rattle.swh_loader.specs.Sending.{AllHeld, IsCollision}
-use Rattle.swh_loader.specs.Visiting.{created, ongoing}
+
+-- the bodies that an archive holds
+abbrev pub held_bodies : {D : Type 0} → Kept D → Bodies
+held_bodies k = (replay k.history).bodies
 
 -- the statuses of a visit after its first
 abbrev pub statuses_of : End → Statuses
@@ -56,27 +59,7 @@ pub record Collided (id : Kind → List ℕ → List ℕ) (head : Option (List �
   pub objects : List Entry
   pub snapshot : List ℕ
   pub means : MeansObjects id head text objects snapshot
-  pub collision : IsCollision bodies objects name
-
--- all of its statuses but the last
-abbrev pub before_end : End → Statuses
-before_end (Full snapshot) = ongoing
-before_end NotFound = created
-before_end (Failed bad) = ongoing
-
--- the last of them
-abbrev pub last_of : End → Statuses
-last_of (Full snapshot) = (FullStatus, Some snapshot) ∷ []
-last_of NotFound = (NotFoundStatus, None) ∷ []
-last_of (Failed bad) = (FailedStatus, None) ∷ []
-
--- The end of a visit whose input makes these objects.
-abbrev pub IsSentEnd : {N : Type 0} → Bodies → Objects N → End → Type 0
-IsSentEnd bodies made (Full snapshot) = (snapshot ≡ made.snapshot) × AllHeld bodies made.objects.items
-IsSentEnd bodies made NotFound = ⊥
-IsSentEnd bodies made (Failed (Broken bad)) = ⊥
-IsSentEnd bodies made (Failed (Collision name)) = IsCollision bodies made.objects.items name
-IsSentEnd bodies made (Failed Read) = ⊥
+  pub collision : IsMet bodies objects name
 
 module _ {S : Type 0} (id : Kind → List ℕ → List ℕ) (head : Option (List ℕ)) (sources : Sources S) (bodies : Bodies) where
   -- Why a source, `s` before the load and `now` after it, is bad: what was left of it breaks so, or an object of it

@@ -1,10 +1,5 @@
-pub mod Adding
 pub mod Ending
 pub mod Leaving
 pub mod Reading
 pub mod Report
 pub mod Room
-pub mod Sending
-pub mod Steps
-pub mod Stopping
-pub mod Visiting

@@ -14,9 +14,9 @@ use Rattle.swh_loader.specs.declared.end.BadInput.TheVariants.{Broken, Collision
 use Rattle.swh_loader.specs.declared.end.End.{End}
 use Rattle.swh_loader.specs.declared.end.End.TheVariants.{Full, NotFound, Failed}
 use Rattle.swh_loader.specs.declared.end.Loaded.{Loaded}
-use Rattle.swh_loader.specs.declared.fault.LoadWhy.{LoadWhy}
-use Rattle.swh_loader.specs.declared.fault.LoadWhy.TheVariants.{Ended, DiskFault, Wounded, Limit, Memory}
-use Rattle.swh_loader.specs.declared.fault.LoadFault.{LoadFault}
+use Rattle.swh_walk.specs.declared.stop.Stop.{Stop}
+use Rattle.swh_walk.specs.declared.stop.Stop.TheVariants.{Ended, DiskFault, Wounded, Limit, Memory}
+use Rattle.swh_walk.specs.declared.end.LoadFault.{LoadFault}
 
 -- what is wrong with a stream, as a line says it
 abbrev pub stream_why_word : StreamWhy → List ℕ
@@ -64,7 +64,7 @@ end_detail NotFound = codes "-"
 end_detail (Failed bad) = bad_detail bad
 
 -- why a load stopped
-abbrev pub fault_detail : LoadWhy → List ℕ
+abbrev pub fault_detail : Stop → List ℕ
 fault_detail (Ended status) = codes "ended"
 fault_detail DiskFault = codes "disk"
 fault_detail Wounded = codes "wounded"

@@ -1,26 +1,19 @@
 //! Loads the input of an origin into an archive, as one visit, and reports it by a line.
-//! Stands on the keeper, on the reader of inputs (`swh_fastload`), on `swh_swhid` and `itoa` for its lines, and on
-//! crates below these; crates.txt lists all.
+//! Stands on a load over a keeper (`swh_alone`), on the reader of inputs (`swh_fastload`), on `swh_swhid` and `itoa` for its
+//! lines, and on crates below these; crates.txt lists all.
 //! Callers may rely on: a load adds the events of its visit alone; a visit whose load stopped has no end; a crash at
 //! any device call leaves the events up to some place in their order, with all that were acknowledged; and the line
 //! says how the visit ended.
 #![tactic(auto)]
 
 mod end;
-mod fault;
 mod job;
 mod loading;
-mod pending;
 mod report;
-mod sending;
-mod stopping;
-mod turn;
-mod visiting;
 
 pub use end::{BadInput, End, Loaded};
-pub use fault::{LoadFault, LoadWhy};
 pub use job::Job;
 pub use loading::load_one;
 pub use report::{REPORT_LIMIT, report_line};
 pub use swh_fastload::{BadStream, StreamWhy};
-pub use turn::{Turn, Worker};
+pub use swh_walk::{LoadFault, Stop, Turn, Worker};

@@ -5,11 +5,11 @@ ghost use Rattle.swh_loader.specs.Report.{stream_why_word, which_word, stream_de
 ghost use Rattle.swh_loader.specs.Report.{end_word, end_detail, fault_detail, report_of};
 
 use crate::end::{BadInput, End, Loaded};
-use crate::fault::{LoadFault, LoadWhy};
 use itoa::Buffer;
 use swh_base::{Kind, Name, Url, Which};
 use swh_fastload::{BadStream, StreamWhy};
 use swh_swhid::core_text;
+use swh_walk::{LoadFault, Stop};
 
 /// The most bytes of a line: a URL of 2,048, a number of 20, a status of 9 and a detail of 60, with a TAB after each of
 /// the first three and an LF at the end.
@@ -58,16 +58,16 @@ fn word_of_end(end: End) -> &'static [u8]
     }
 }
 
-fn detail_of_fault(why: LoadWhy) -> &'static [u8]
+fn detail_of_fault(why: Stop) -> &'static [u8]
     ensures is { result.now ≡ fault_detail why }
     ensures short { length result.now ≤ 60 }
 {
     match why {
-        LoadWhy::Ended { .. } => b"ended".as_slice(),
-        LoadWhy::DiskFault => b"disk".as_slice(),
-        LoadWhy::Wounded => b"wounded".as_slice(),
-        LoadWhy::Limit { .. } => b"limit".as_slice(),
-        LoadWhy::Memory => b"memory".as_slice(),
+        Stop::Ended { .. } => b"ended".as_slice(),
+        Stop::DiskFault => b"disk".as_slice(),
+        Stop::Wounded => b"wounded".as_slice(),
+        Stop::Limit { .. } => b"limit".as_slice(),
+        Stop::Memory => b"memory".as_slice(),
     }
 }
 

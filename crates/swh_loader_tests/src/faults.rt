@@ -4,7 +4,7 @@ use std::alloc::Global;
 use std::test::Fail;
 use swh_base::Sha1Namer;
 use swh_fixtures::{STREAM, URL, found, made_archive};
-use swh_loader::{LoadFault, LoadWhy, Loaded};
+use swh_loader::{LoadFault, Loaded, Stop};
 
 /// What two loads of the worked stream answer, and whether a disk had failed after the first.
 #[derive(Drop)]
@@ -37,11 +37,11 @@ fn load_twice(
 fn is_stopped(loads: &TwoLoads, visit: u64) -> bool {
     let fault = LoadFault {
         visit,
-        why: LoadWhy::DiskFault,
+        why: Stop::DiskFault,
     };
     let wounded = LoadFault {
         visit: 0,
-        why: LoadWhy::Wounded,
+        why: Stop::Wounded,
     };
     loads.first == Err(fault) && loads.wounded && loads.second == Err(wounded)
 }
@@ -64,7 +64,7 @@ fn each_device_call_fails_in_turn(rt: HostRuntime) -> Result<(), Fail> {
     assert!(rt; later.first.is_ok() && !later.wounded);
     let fault = LoadFault {
         visit: 0,
-        why: LoadWhy::DiskFault,
+        why: Stop::DiskFault,
     };
     assert_eq!(rt; later.second, Err(fault));
     Ok(())

@@ -7,7 +7,7 @@ use swh_fixtures::{
     Archive, CONTENT, DIRECTORY, EMPTY_SNAPSHOT, REVISION, SNAPSHOT, STREAM, URL, found,
     made_archive,
 };
-use swh_loader::{BadInput, BadStream, End, LoadFault, LoadWhy, Loaded, StreamWhy};
+use swh_loader::{BadInput, BadStream, End, LoadFault, Loaded, Stop, StreamWhy};
 use swh_memory::MemorySource;
 use swh_outside::Opened;
 
@@ -155,7 +155,7 @@ const STEPS: &[Step<'static>] = &[
         given: Given::Memory,
         ends: Err(LoadFault {
             visit: 7,
-            why: LoadWhy::Memory,
+            why: Stop::Memory,
         }),
         events: 23,
         objects: 5,

@@ -4,7 +4,7 @@ use std::test::Fail;
 use swh_base::{Kind, Name, Status, Url, Which};
 use swh_fixtures::{EMPTY_SNAPSHOT, URL};
 use swh_loader::{
-    BadInput, BadStream, End, LoadFault, LoadWhy, Loaded, REPORT_LIMIT, StreamWhy, report_line,
+    BadInput, BadStream, End, LoadFault, Loaded, REPORT_LIMIT, Stop, StreamWhy, report_line,
 };
 
 // How a load ended, and the words that the spec of the lines has for it.
@@ -174,21 +174,21 @@ const LINES: &[Line] = &[
     Line {
         ended: Err(LoadFault {
             visit: 0,
-            why: LoadWhy::DiskFault,
+            why: Stop::DiskFault,
         }),
         told: b"0\tstopped\tdisk\n",
     },
     Line {
         ended: Err(LoadFault {
             visit: 0,
-            why: LoadWhy::Wounded,
+            why: Stop::Wounded,
         }),
         told: b"0\tstopped\twounded\n",
     },
     Line {
         ended: Err(LoadFault {
             visit: 1,
-            why: LoadWhy::Limit {
+            why: Stop::Limit {
                 which: Which::Store,
                 number: 1,
             },
@@ -198,14 +198,14 @@ const LINES: &[Line] = &[
     Line {
         ended: Err(LoadFault {
             visit: 1,
-            why: LoadWhy::Memory,
+            why: Stop::Memory,
         }),
         told: b"1\tstopped\tmemory\n",
     },
     Line {
         ended: Err(LoadFault {
             visit: 1,
-            why: LoadWhy::Ended {
+            why: Stop::Ended {
                 status: Status::Failed,
             },
         }),

@@ -2,7 +2,7 @@
 use std::alloc::Global;
 use swh_base::{Kind, Name, Namer, Url};
 use swh_fixtures::Archive;
-use swh_loader::{Job, LoadFault, LoadWhy, Loaded, Turn, Worker, load_one};
+use swh_loader::{Job, LoadFault, Loaded, Stop, Turn, Worker, load_one};
 use swh_memory::MemorySource;
 use swh_model::{Event, EventKind};
 use swh_outside::{OpenGate, Opened};
@@ -18,7 +18,7 @@ pub fn load<N: Namer>(
     let Ok(origin) = Url::new(alloc, url) else {
         return Err(LoadFault {
             visit: 0,
-            why: LoadWhy::Memory,
+            why: Stop::Memory,
         });
     };
     let mut job = Job {

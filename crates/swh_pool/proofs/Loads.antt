@@ -3,16 +3,15 @@ use Rattle.std.proofs.Common.{Result, Ok, Err, List, [], ◌∷◌, ◌++◌, re
 use Rattle.std.specs.Prelude.{IfOk, IfErr}
 use Rattle.swh_keeper.specs.Kept.{Kept}
 use Rattle.swh_loader.specs.declared.end.Loaded.{Loaded}
-use Rattle.swh_loader.specs.declared.fault.LoadFault.{LoadFault}
-use Rattle.swh_loader.specs.Ending.{IsJobEnd}
-use Rattle.swh_loader.specs.Leaving.{EndsVisit, Stops}
-use Rattle.swh_loader.specs.Sending.{held_bodies}
+use Rattle.swh_walk.specs.declared.end.LoadFault.{LoadFault}
+use Rattle.swh_loader.specs.Ending.{IsJobEnd, held_bodies, statuses_of}
+use Rattle.swh_alone.specs.Loading.{EndsVisit, Stops}
 use Rattle.swh_pool.specs.Loads.{OneLoad, Loading, IsLoadOutcome, IsOneLoad, AreLoads, attempt_at, AreAllowedAt}
 
 module _ {S D : Type 0} (given : Loading S D) where
   -- what a load answers says how it ended
   pub outcome_of : (l : OneLoad S) (old new : Kept D) (result : Result Loaded LoadFault)
-      → IfOk result (EndsVisit (attempt_at given l) old new)
+      → IfOk result (λ loaded. EndsVisit (attempt_at given l) old new loaded.visit (statuses_of loaded.end))
       → IfOk result (λ loaded. IsJobEnd given.id l.job.job.head given.sources (held_bodies new) l.job.job.stream l.after.job.stream loaded.end)
       → IfErr result (Stops given.id given.disks (AreAllowedAt given l) (attempt_at given l) old new)
       → IsLoadOutcome given l old new result

@@ -3,11 +3,11 @@ use Rattle.std.proofs.Common.{◌≡◌, ◌≢◌, inl, inr, ℕ, Bool, true, f
 use Rattle.swh_model.specs.declared.event.Event.{Event}
 use Rattle.swh_keeper.specs.Kept.{Kept}
 use Rattle.swh_loader.specs.declared.end.Loaded.{Loaded}
-use Rattle.swh_loader.specs.declared.fault.LoadFault.{LoadFault}
-use Rattle.swh_loader.specs.declared.fault.LoadWhy.{LoadWhy}
-use Rattle.swh_loader.specs.declared.fault.LoadWhy.TheVariants.{Ended, DiskFault, Wounded, Limit, Memory}
-use Rattle.swh_loader.specs.Stopping.{StopsFor}
-use Rattle.swh_loader.specs.Leaving.{IsHeldBack}
+use Rattle.swh_walk.specs.declared.end.LoadFault.{LoadFault}
+use Rattle.swh_walk.specs.declared.stop.Stop.{Stop}
+use Rattle.swh_walk.specs.declared.stop.Stop.TheVariants.{Ended, DiskFault, Wounded, Limit, Memory}
+use Rattle.swh_alone.specs.Leaving.{StopsFor}
+use Rattle.swh_alone.specs.Loading.{IsHeldBack}
 use Rattle.swh_pool.specs.Loads.{OneLoad, Loading, IsLoadOutcome, IsOneLoad, AreLoads}
 use Rattle.swh_pool.specs.Stops.{IsStoppedAtOnce, IsUnwounded, is_fault, is_disk_fault, AreStops, HaveNoDiskFault}
 
@@ -25,7 +25,7 @@ held_back old new (Err fault) h = (h.1.same, (h.0, h.1.cause))
 
 module _ {S D : Type 0} (given : Loading S D) where
   -- on a whole disk a load says itself whether one failed
-  stopped_whole : (IsTried : Event → Type 0) (old new : Kept D) (why : LoadWhy) → old.wounded ≡ None → StopsFor given.id given.disks.faults IsTried old new why → (why ≢ Wounded) × (is_some new.wounded ≡ is_fault why)
+  stopped_whole : (IsTried : Event → Type 0) (old new : Kept D) (why : Stop) → old.wounded ≡ None → StopsFor given.id given.disks.faults IsTried old new why → (why ≢ Wounded) × (is_some new.wounded ≡ is_fault why)
   stopped_whole IsTried old new (Ended status) whole stops = absurd stops
   stopped_whole IsTried old new DiskFault whole stops = (λ e. let f : DiskFault ≡ Wounded = e in cc, ap is_some stops.wounded)
   stopped_whole IsTried old new Wounded whole stops = absurd (some_none stops.first (sym stops.wounded ∙ whole))

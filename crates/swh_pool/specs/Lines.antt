@@ -1,7 +1,7 @@
 -- The lines that report jobs.
 use Rattle.std.specs.Prelude.{ℕ, Result, List, map, zip, flat_map}
 use Rattle.swh_loader.specs.declared.end.Loaded.{Loaded}
-use Rattle.swh_loader.specs.declared.fault.LoadFault.{LoadFault}
+use Rattle.swh_walk.specs.declared.end.LoadFault.{LoadFault}
 use Rattle.swh_loader.specs.Report.{report_of}
 use Rattle.swh_pool.specs.declared.dated.DatedJob.{DatedJob}
 

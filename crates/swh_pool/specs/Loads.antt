@@ -4,15 +4,17 @@ use Rattle.swh_base.specs.declared.kind.Kind.{Kind}
 use Rattle.swh_base.specs.Text.{IsRef}
 use Rattle.swh_base.specs.declared.entry.Entry.{Entry}
 use Rattle.swh_base.specs.declared.visit.Status.TheVariants.{Created}
+use Rattle.swh_base.specs.declared.visit.VisitKind.TheVariants.{Fast}
 use Rattle.swh_outside.specs.Views.{Disks, Sources}
 use Rattle.swh_keeper.specs.Kept.{Kept}
 use Rattle.swh_loader.specs.declared.end.Loaded.{Loaded}
-use Rattle.swh_loader.specs.declared.fault.LoadFault.{LoadFault}
-use Rattle.swh_loader.specs.Adding.{Attempt, attempt}
-use Rattle.swh_loader.specs.Ending.{IsJobEnd, statuses_of}
-use Rattle.swh_loader.specs.Leaving.{AreAllowed, AddsVisit, MakesVisitCalls, Stops, IsHeldBack, IsSameInput, next_visit}
-use Rattle.swh_loader.specs.Sending.{held_bodies}
-use Rattle.swh_loader.specs.Visiting.{IsVisit, KeepsAll}
+use Rattle.swh_walk.specs.declared.end.LoadFault.{LoadFault}
+use Rattle.swh_walk.specs.Owning.{Attempt, attempt}
+use Rattle.swh_loader.specs.Ending.{IsJobEnd, statuses_of, held_bodies}
+use Rattle.swh_loader.specs.Leaving.{AreAllowed, IsSameInput}
+use Rattle.swh_alone.specs.Loading.{AddsVisit, MakesVisitCalls, Stops, IsHeldBack}
+use Rattle.swh_walk.specs.Visiting.{next_visit, IsVisit}
+use Rattle.swh_alone.specs.Leaving.{KeepsAll}
 use Rattle.swh_pool.specs.declared.dated.DatedJob.{DatedJob}
 
 -- The job's head is a ref, where it names one.
@@ -43,7 +45,7 @@ loading id by sources disks = record { id = id; by = by; sources = sources; disk
 module _ {S D : Type 0} (given : Loading S D) where
   -- who loads the job, and when
   abbrev pub attempt_at : OneLoad S → Attempt
-  attempt_at l = attempt given.by l.job.job.origin l.job.date
+  attempt_at l = attempt given.by l.job.job.origin Fast l.job.date
 
   -- The batches of the load hold only what its input makes.
   abbrev pub AreAllowedAt : OneLoad S → List Entry → Type 0

@@ -2,9 +2,9 @@
 use Rattle.std.specs.Prelude.{◌≡◌, ◌≢◌, ◌⊎◌, Bool, true, false, Result, Ok, Err, List, [], ◌∷◌}
 use Rattle.std.specs.List.{AllByRecursion}
 use Rattle.swh_loader.specs.declared.end.Loaded.{Loaded}
-use Rattle.swh_loader.specs.declared.fault.LoadWhy.{LoadWhy}
-use Rattle.swh_loader.specs.declared.fault.LoadWhy.TheVariants.{Ended, DiskFault, Wounded, Limit, Memory}
-use Rattle.swh_loader.specs.declared.fault.LoadFault.{LoadFault}
+use Rattle.swh_walk.specs.declared.stop.Stop.{Stop}
+use Rattle.swh_walk.specs.declared.stop.Stop.TheVariants.{Ended, DiskFault, Wounded, Limit, Memory}
+use Rattle.swh_walk.specs.declared.end.LoadFault.{LoadFault}
 
 -- It stopped before its visit was opened, since a disk had failed before, or for want of memory.
 abbrev pub IsStoppedAtOnce : Result Loaded LoadFault → Type 0
@@ -17,7 +17,7 @@ IsUnwounded (Ok loaded) = Unit {0}
 IsUnwounded (Err fault) = fault.why ≢ Wounded
 
 -- whether a load stopped for this since a disk failed
-abbrev pub is_fault : LoadWhy → Bool
+abbrev pub is_fault : Stop → Bool
 is_fault (Ended status) = false
 is_fault DiskFault = true
 is_fault Wounded = false

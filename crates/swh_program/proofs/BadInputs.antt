@@ -1,6 +1,7 @@
 -- A job whose input is bad is not full.
 use Rattle.std.proofs.Common.{◌≡◌, inl, inr, ⊎_elim, ℕ, Option, Some, Result, Ok, Err, List, [], ◌∷◌, ◌++◌, map, Contains, sym, ap, ◌∙◌, subst}
 use Rattle.std.specs.List.{AllByRecursion}
+use Rattle.swh_base.specs.declared.visit.VisitKind.TheVariants.{Fast}
 use Rattle.swh_base.specs.declared.kind.Kind.{Kind}
 use Rattle.swh_base.specs.declared.name.Name.{Name}
 use Rattle.swh_base.specs.declared.entry.Entry.{Entry}
@@ -15,13 +16,13 @@ use Rattle.swh_model.proofs.Histories.{fronts}
 use Rattle.swh_fastload.specs.Input.{Means}
 use Rattle.swh_made.specs.Making.{made_from, made}
 use Rattle.swh_fastload.proofs.InputLaws.{one_making, unbroken}
-use Rattle.swh_loader.specs.Adding.{attempt}
+use Rattle.swh_walk.specs.Owning.{attempt}
 use Rattle.swh_loader.specs.Ending.{IsFull}
-use Rattle.swh_loader.proofs.Limiting.{at_element}
+use Rattle.swh_walk.proofs.Batches.{at_element}
 use Rattle.swh_loader.specs.declared.end.End.{End}
 use Rattle.swh_loader.specs.declared.end.End.TheVariants.{Full, NotFound, Failed}
 use Rattle.swh_loader.specs.declared.end.Loaded.{Loaded}
-use Rattle.swh_loader.specs.declared.fault.LoadFault.{LoadFault}
+use Rattle.swh_walk.specs.declared.end.LoadFault.{LoadFault}
 use Rattle.swh_program.specs.Causes.{HasTwoBodies, IsBroken, IsBadInput}
 use Rattle.swh_program.specs.Complete.{HasBodyOrMakes}
 use Rattle.swh_program.specs.Inputs.{loader, Inputs, input_of, IsInputEnd, IsJobOutcome}
@@ -70,7 +71,7 @@ module _ (id_of : Kind → List ℕ → List ℕ) (of_jobs : Inputs) (told : of_
   end_not_bad job held within (Failed reason) is e bad = let f : ending.Wanting ≡ ending.Done = e in cc
 
   load_not_bad : (job : Job) (date : ℕ) (h h' : List Event) → IsWithin bodies (replay h').bodies → (outcome : Result Loaded LoadFault)
-      → IsJobOutcome id_of (input_of of_jobs job) (attempt loader job.url date) h h' outcome → ending_for outcome ≡ ending.Done → IsBadInput id_of job.head bodies (of_jobs.at job.path) → ⊥
+      → IsJobOutcome id_of (input_of of_jobs job) (attempt loader job.url Fast date) h h' outcome → ending_for outcome ≡ ending.Done → IsBadInput id_of job.head bodies (of_jobs.at job.path) → ⊥
   load_not_bad job date h h' within (Ok l) line e bad = end_not_bad job (replay h').bodies within l.end line.end e bad
   load_not_bad job date h h' within (Err f) line e bad = why_undone f.why e
 

@@ -3,14 +3,14 @@ use Rattle.std.proofs.Common.{◌≡◌, ◌⊎◌, inl, inr, ⊎_elim, ℕ, ◌
 use Rattle.std.proofs.lemmas.List.Folds.{flat_map-map}
 use Rattle.swh_segment.specs.Makes.{ADiskFailed}
 use Rattle.swh_keeper.specs.Kept.{Kept}
-use Rattle.swh_loader.specs.Leaving.{Stops}
+use Rattle.swh_alone.specs.Loading.{Stops}
 use Rattle.swh_loader.specs.Report.{report_of}
 use Rattle.swh_loader.specs.declared.end.End.{End}
 use Rattle.swh_loader.specs.declared.end.End.TheVariants.{Full, NotFound, Failed}
 use Rattle.swh_loader.specs.declared.end.Loaded.{Loaded}
-use Rattle.swh_loader.specs.declared.fault.LoadWhy.{LoadWhy}
-use Rattle.swh_loader.specs.declared.fault.LoadWhy.TheVariants as why
-use Rattle.swh_loader.specs.declared.fault.LoadFault.{LoadFault}
+use Rattle.swh_walk.specs.declared.stop.Stop.{Stop}
+use Rattle.swh_walk.specs.declared.stop.Stop.TheVariants as why
+use Rattle.swh_walk.specs.declared.end.LoadFault.{LoadFault}
 use Rattle.swh_pool.specs.Lines.{ended, lines_of}
 use Rattle.swh_pool.specs.Loads.{Loading, attempt_at, AreAllowedAt, OneLoad, IsLoadOutcome, AreLoads}
 use Rattle.swh_pool.specs.Stops.{IsUnwounded, is_disk_fault, AreStops}
@@ -76,7 +76,7 @@ module _ {S D : Type 0} (given : Loading S D) where
     from_later : (e : Ending) → (e ≡ ending.OutsideDisk → ⊥) → AreStops false rest → worse e (ending_of_all rest) ≡ ending.OutsideDisk → Raised old new
     from_later e none stops is = ⊎_elim (λ (h : e ≡ ending.OutsideDisk). absurd (none h)) (λ (h : ending_of_all rest ≡ ending.OutsideDisk). raised_since old between new first (later stops h)) (worse_disk e (ending_of_all rest) is)
 
-    by_why : (visit : ℕ) (reason : LoadWhy) → IsUnwounded (Err (record { visit = visit; why = reason })) → Stops given.id given.disks (AreAllowedAt given l) (attempt_at given l) old between (record { visit = visit; why = reason })
+    by_why : (visit : ℕ) (reason : Stop) → IsUnwounded (Err (record { visit = visit; why = reason })) → Stops given.id given.disks (AreAllowedAt given l) (attempt_at given l) old between (record { visit = visit; why = reason })
         → AreStops (is_disk_fault (Err (record { visit = visit; why = reason }))) rest → worse (ending_of_why reason) (ending_of_all rest) ≡ ending.OutsideDisk → Raised old new
     by_why visit (why.Ended status) unwounded stops more is = from_later ending.Wanting (λ e. cc) more is
     by_why visit why.DiskFault unwounded (inl once) more is = raised_until old between new once.stops.rose behind

@@ -1,7 +1,6 @@
 -- What a load of an input that means something adds, and that no name of it collides.
-use Rattle.std.proofs.Common.{◌≡◌, inr, ℕ, Option, Some, List, [], ◌∷◌, Contains, sym, ap, ◌∙◌, subst}
+use Rattle.std.proofs.Common.{◌≡◌, inr, ℕ, true, Option, Some, List, [], ◌∷◌, Contains, sym, ap, ◌∙◌, subst}
 use Rattle.std.specs.List.{AllByRecursion}
-use Rattle.std.proofs.lemmas.List.Elements.{Contains-append_right}
 use Rattle.swh_base.specs.declared.kind.Kind.{Kind}
 use Rattle.swh_base.specs.declared.name.Name.{Name}
 use Rattle.swh_base.specs.declared.entry.Entry.{Entry}
@@ -15,12 +14,14 @@ use Rattle.swh_model.proofs.Histories.{fronts}
 use Rattle.swh_model.proofs.Maps.{added-all}
 use Rattle.swh_fastload.specs.Input.{Means}
 use Rattle.swh_made.specs.Making.{made_from, made}
-use Rattle.swh_loader.specs.Adding.{Attempt, IsOwn, IsOwnKind}
+use Rattle.swh_walk.specs.Owning.{Attempt}
+use Rattle.swh_alone.specs.Loading.{IsOwnEvent, AddsVisit, AreOfVisit}
+use Rattle.swh_walk.specs.Loading.{IsOwn}
 use Rattle.swh_loader.specs.Ending.{MeansObjects, IsMadeBy, Collided}
-use Rattle.swh_loader.specs.Leaving.{AddsVisit, AreOfVisit, next_visit}
-use Rattle.swh_loader.proofs.Limiting.{at_element}
+use Rattle.swh_walk.specs.Visiting.{next_visit}
+use Rattle.swh_walk.proofs.Batches.{at_element}
 use Rattle.swh_program.specs.Complete.{AreMade, MakesBody, HasBodyOrMakes, HasOneBody}
-use Rattle.swh_program.proofs.Elements.{contains_first, map_contains}
+use Rattle.swh_program.proofs.Elements.{map_contains}
 
 -- Whatever is held now was held before, or is made.
 abbrev pub Had : (Kind → List ℕ → List ℕ) → Bodies → List Made → Bodies → Type 0
@@ -47,9 +48,9 @@ module _ (id_of : Kind → List ℕ → List ℕ) (objects : List Made) where
     pub none_collides : (bodies now : Bodies) (name : Name) → Had id_of bodies objects now → HasOneBody id_of bodies objects → Collided id_of head text now name → ⊥
     none_collides bodies now name had one collided =
         let c = collided.collision in
-        let among : Contains collided.objects c.entry = subst (λ (es : List Entry). Contains es c.entry) (sym c.among) (Contains-append_right c.front (c.entry ∷ c.back) c.entry (contains_first c.entry c.back)) in
-        let makes = makes_body collided.objects collided.snapshot collided.means c.entry among in
-        c.differs (one.one name c.other c.entry.body (had name c.other c.held) (inr (subst (λ (n : Name). MakesBody id_of objects n c.entry.body) (sym c.named) makes)))
+        let makes = makes_body collided.objects collided.snapshot collided.means c.entry c.among in
+        let other = c.other.0 in
+        c.other.2 (one.one c.entry.name other c.entry.body (had c.entry.name other c.other.1) (inr makes))
 
   -- what is held stays held, or was made
   module _ (bodies : Bodies) where
@@ -57,13 +58,13 @@ module _ (id_of : Kind → List ℕ → List ℕ) (objects : List Made) where
     makes_all [] all = tt
     makes_all (e ∷ entries) all = (inr all.0, makes_all entries all.1)
 
-    had_kind : (a : Archive) (by : ℕ) (origin : List ℕ) (number : ℕ) (what : EventKind) → IsOwnKind (AreMade id_of objects) origin number what → Had id_of bodies objects a.bodies → Had id_of bodies objects (after_kind a by what).bodies
-    had_kind a by origin number (Batch entries) own had = added-all (HasBodyOrMakes id_of bodies objects) a.bodies entries had (makes_all entries own.1)
-    had_kind a by origin number what own had = had
+    had_kind : (a : Archive) (by : ℕ) (t : Attempt) (number : ℕ) (what : EventKind) → IsOwn true (AreMade id_of objects) t number what → Had id_of bodies objects a.bodies → Had id_of bodies objects (after_kind a by what).bodies
+    had_kind a by t number (Batch entries) own had = added-all (HasBodyOrMakes id_of bodies objects) a.bodies entries had (makes_all entries own.1)
+    had_kind a by t number what own had = had
 
-    had_own : (t : Attempt) (number : ℕ) (a : Archive) (es : List Event) → AllByRecursion (IsOwn (AreMade id_of objects) t number) es → Had id_of bodies objects a.bodies → Had id_of bodies objects (after_all a es).bodies
+    had_own : (t : Attempt) (number : ℕ) (a : Archive) (es : List Event) → AllByRecursion (IsOwnEvent (AreMade id_of objects) t number) es → Had id_of bodies objects a.bodies → Had id_of bodies objects (after_all a es).bodies
     had_own t number a [] own had = had
-    had_own t number a (e ∷ es) own had = had_own t number (after a e) es own.1 (had_kind a e.by t.origin number e.what own.0.kind had)
+    had_own t number a (e ∷ es) own had = had_own t number (after a e) es own.1 (had_kind a e.by t number e.what own.0.added had)
 
     had_visit : (t : Attempt) (number : ℕ) (a : Archive) (es : List Event) → AreOfVisit (AreMade id_of objects) t number es → Had id_of bodies objects a.bodies → Had id_of bodies objects (after_all a es).bodies
     had_visit t number a [] are had = had

@@ -1,6 +1,7 @@
 -- What the loads of opened inputs say of what stands at their paths.
 use Rattle.std.proofs.Common.{◌≡◌, inl, inr, ℕ, ◌<◌, ◌≤◌, Option, Some, Result, Ok, Err, List, [], ◌∷◌, ◌++◌, length, map, refl, sym, ap, ◌∙◌, subst, arith, append_assoc, length-append}
 use Rattle.std.specs.List.{AllByRecursion}
+use Rattle.swh_base.specs.declared.visit.VisitKind.TheVariants.{Fast}
 use Rattle.swh_base.specs.declared.kind.Kind.{Kind}
 use Rattle.swh_base.specs.declared.entry.Entry.{Entry}
 use Rattle.swh_outside.specs.Views.{Disks, Sources}
@@ -15,17 +16,20 @@ use Rattle.swh_model.specs.Archive.{Bodies}
 use Rattle.swh_model.specs.Step.{replay}
 use Rattle.swh_keeper.specs.Kept.{Kept}
 use Rattle.swh_jobs.specs.Job.{Job}
-use Rattle.swh_loader.specs.Adding.{Attempt, attempt, open_event, IsEvent, IsOwn, IsOwnKind}
+use Rattle.swh_walk.specs.Owning.{Attempt, attempt, open_event}
+use Rattle.swh_alone.specs.Loading.{IsEvent, IsOwnEvent, AreOfVisit, AddsVisit, Stops}
 use Rattle.swh_loader.specs.Ending.{IsEndOf, IsJobEnd}
-use Rattle.swh_loader.specs.Leaving.{AreAllowed, AreOfVisit, AddsVisit, Stops, IsSameInput, next_visit}
-use Rattle.swh_loader.specs.Stopping as stopping
+use Rattle.swh_loader.specs.Leaving.{AreAllowed, IsSameInput}
+use Rattle.swh_walk.specs.Visiting.{next_visit}
+use Rattle.swh_alone.specs.Leaving as stopping
+use Rattle.swh_alone.proofs.Allowing.{adds_visit}
 use Rattle.swh_loader.specs.declared.end.BadInput.TheVariants.{Broken, Collision, Read}
 use Rattle.swh_loader.specs.declared.end.End.{End}
 use Rattle.swh_loader.specs.declared.end.End.TheVariants.{Full, NotFound, Failed}
 use Rattle.swh_loader.specs.declared.end.Loaded.{Loaded}
-use Rattle.swh_loader.specs.declared.fault.LoadWhy.{LoadWhy}
-use Rattle.swh_loader.specs.declared.fault.LoadWhy.TheVariants as why
-use Rattle.swh_loader.specs.declared.fault.LoadFault.{LoadFault}
+use Rattle.swh_walk.specs.declared.stop.Stop.{Stop}
+use Rattle.swh_walk.specs.declared.stop.Stop.TheVariants as why
+use Rattle.swh_walk.specs.declared.end.LoadFault.{LoadFault}
 use Rattle.swh_pool.specs.Lines.{ended}
 use Rattle.swh_pool.specs.Loads.{Loading, loading, attempt_at, AreAllowedAt, OneLoad, IsLoadOutcome as IsOutcomeOf, IsOneLoad, AreLoads}
 use Rattle.swh_program.specs.Dated.{IsOpenedAt, IsOpenedJob, AreOpenedJobs, IsGivenBack, AreGivenBack}
@@ -47,22 +51,6 @@ rose_above a b rose = omega (arith, rose)
 abbrev pub url_and_outcome : LoadedJob → List ℕ × Result Loaded LoadFault
 url_and_outcome l = (l.job.url, l.outcome)
 
--- events are a load's own also where more batches are allowed
-own_kind : (P Q : List Entry → Type 0) (origin : List ℕ) (number : ℕ) → ((entries : List Entry) → P entries → Q entries) → (what : EventKind) → IsOwnKind P origin number what → IsOwnKind Q origin number what
-own_kind P Q origin number more (Batch entries) is = (is.0, more entries is.1)
-own_kind P Q origin number more what is = is
-
-own_events : (P Q : List Entry → Type 0) (a : Attempt) (number : ℕ) → ((entries : List Entry) → P entries → Q entries) → (es : List Event) → AllByRecursion (IsOwn P a number) es → AllByRecursion (IsOwn Q a number) es
-own_events P Q a number more [] all = tt
-own_events P Q a number more (e ∷ es) all = (record { by_one = all.0.by_one; kind = own_kind P Q a.origin number more e.what all.0.kind }, own_events P Q a number more es all.1)
-
-of_visit : (P Q : List Entry → Type 0) (a : Attempt) (number : ℕ) → ((entries : List Entry) → P entries → Q entries) → (es : List Event) → AreOfVisit P a number es → AreOfVisit Q a number es
-of_visit P Q a number more [] are = tt
-of_visit P Q a number more (e ∷ es) are = (are.0, own_events P Q a number more es are.1)
-
-pub adds_visit : (P Q : List Entry → Type 0) (a : Attempt) (h h' : List Event) → ((entries : List Entry) → P entries → Q entries) → AddsVisit P a h h' → AddsVisit Q a h h'
-adds_visit P Q a h h' more adds = record { more = adds.more; behind = adds.behind; are = of_visit P Q a (next_visit h a.origin) more adds.more adds.are }
-
 all_append : {X : Type 0} (P : X → Type 0) (xs ys : List X) → AllByRecursion P xs → AllByRecursion P ys → AllByRecursion P (xs ++ ys)
 all_append P [] ys h k = k
 all_append P (x ∷ xs) ys h k = (h.0, all_append P xs ys h.1 k)
@@ -76,12 +64,12 @@ module _ (P : List Entry → Type 0) (a : Attempt) (h h' : List Event) (e : Even
   longer : (more : List Event) (o : Event) → h' ≡ h ++ [] → h' ≡ h ++ o ∷ more → ⊥
   longer more o none some = let l = sym (length-append h []) ∙ ap length (sym none ∙ some) ∙ length-append h (o ∷ more) in omega (arith, l)
 
-  own_more : (m more : List Event) (o : Event) → h' ≡ h ++ m → h' ≡ h ++ o ∷ more → AreOfVisit P a (next_visit h a.origin) m → IsOwn P a (next_visit h a.origin) e → AreOfVisit P a (next_visit h a.origin) (m ++ e ∷ [])
+  own_more : (m more : List Event) (o : Event) → h' ≡ h ++ m → h' ≡ h ++ o ∷ more → AreOfVisit P a (next_visit h a.origin) m → IsOwnEvent P a (next_visit h a.origin) e → AreOfVisit P a (next_visit h a.origin) (m ++ e ∷ [])
   own_more [] more o none some are own = absurd (longer more o none some)
-  own_more (x ∷ m) more o behind some are own = (are.0, all_append (IsOwn P a (next_visit h a.origin)) m (e ∷ []) are.1 (own, tt))
+  own_more (x ∷ m) more o behind some are own = (are.0, all_append (IsOwnEvent P a (next_visit h a.origin)) m (e ∷ []) are.1 (own, tt))
 
   -- a later one
-  pub own_next : (more : List Event) (o : Event) → h' ≡ h ++ o ∷ more → AddsVisit P a h h' → IsOwn P a (next_visit h a.origin) e → AddsVisit P a h (h' ++ e ∷ [])
+  pub own_next : (more : List Event) (o : Event) → h' ≡ h ++ o ∷ more → AddsVisit P a h h' → IsOwnEvent P a (next_visit h a.origin) e → AddsVisit P a h (h' ++ e ∷ [])
   own_next more o opened adds own = record {
     more = adds.more ++ e ∷ [];
     behind = ap (λ (t : List Event). t ++ e ∷ []) adds.behind ∙ append_assoc h adds.more (e ∷ []);
@@ -91,14 +79,14 @@ module _ (P : List Entry → Type 0) (a : Attempt) (h h' : List Event) (e : Even
 -- Why a load stopped.
 module _ {D : Type 0} (id_of : Kind → List ℕ → List ℕ) (input : Input) (disks : Disks D) (P : List Entry → Type 0) (a : Attempt) (old new : Kept D)
     (allowed : (entries : List Entry) → P entries → IsOfInput id_of input entries) (adds : AddsVisit P a old.history new.history) where
-  stops_for : (tried : Event → Type 0) → ((e : Event) → tried e → AddsVisit P a old.history (new.history ++ e ∷ [])) → (reason : LoadWhy) → stopping.StopsFor id_of disks.faults tried old new reason
+  stops_for : (tried : Event → Type 0) → ((e : Event) → tried e → AddsVisit P a old.history (new.history ++ e ∷ [])) → (reason : Stop) → stopping.StopsFor id_of disks.faults tried old new reason
       → StopsJobFor id_of input a old.history new.history reason
   stops_for tried next (why.Ended status) stops = stops
   stops_for tried next why.DiskFault stops = tt
   stops_for tried next why.Wounded stops = tt
   stops_for tried next (why.Limit which number) stops = record {
     event = stops.event;
-    next = adds_visit P (IsOfInput id_of input) a old.history (new.history ++ stops.event ∷ []) allowed (next stops.event stops.tried);
+    next = adds_visit P (IsOfInput id_of input) a allowed old.history (new.history ++ stops.event ∷ []) (next stops.event stops.tried);
     may = stops.may;
     passes = stops.passes;
   }
@@ -111,8 +99,8 @@ module _ {D : Type 0} (id_of : Kind → List ℕ → List ℕ) (input : Input) (
         stops = stops_for (IsEvent (open_event a)) (λ e is. opened_next P a old.history new.history e once.same is) fault.why once.stops;
       }
   stops_visit fault (inr later) =
-      let own = λ (e : Event) (is : IsOwn P a fault.visit e). own_next P a old.history new.history e later.more (open_event a) later.opened adds (subst (λ (n : ℕ). IsOwn P a n e) later.visit is) in
-      record { visit = inr (later.visit, later.more, later.opened, later.unended); stops = stops_for (IsOwn P a fault.visit) own fault.why later.stops }
+      let own = λ (e : Event) (is : IsOwnEvent P a fault.visit e). own_next P a old.history new.history e later.more (open_event a) later.opened adds (subst (λ (n : ℕ). IsOwnEvent P a n e) later.visit is) in
+      record { visit = inr (later.visit, later.more, later.opened, later.unended); stops = stops_for (IsOwnEvent P a fault.visit) own fault.why later.stops }
 
 -- a job as it was loaded
 abbrev pub loaded_job : {S : Type 0} → Job → OneLoad S → LoadedJob
@@ -218,10 +206,10 @@ module _ {S : Type 0} (id_of : Kind → List ℕ → List ℕ) (sources : Source
     adds_with job l before after' head adds = subst (λ (h : Option (List ℕ)). AddsVisit (AreAllowed id_of h sources l.job.job.stream) (attempt_at given l) before after') head adds
 
     pub adds_of : (job : Job) (l : OneLoad S) (before after' : List Event) → IsOpenedJob sources opened_by job l.job → AddsVisit (AreAllowedAt given l) (attempt_at given l) before after'
-        → AddsVisit (OfJob job) (attempt loader job.url l.job.date) before after'
+        → AddsVisit (OfJob job) (attempt loader job.url Fast l.job.date) before after'
     adds_of job l before after' opened adds =
-        subst (λ (u : List ℕ). AddsVisit (OfJob job) (attempt loader u l.job.date) before after') opened.origin
-        (adds_visit (AreAllowed id_of job.head sources l.job.job.stream) (OfJob job) (attempt_at given l) before after' (allowed job l.job.job.stream opened.input.told opened.input.found) (adds_with job l before after' opened.head adds))
+        subst (λ (u : List ℕ). AddsVisit (OfJob job) (attempt loader u Fast l.job.date) before after') opened.origin
+        (adds_visit (AreAllowed id_of job.head sources l.job.job.stream) (OfJob job) (attempt_at given l) (allowed job l.job.job.stream opened.input.told opened.input.found) before after' (adds_with job l before after' opened.head adds))
 
     pub one_job : (job : Job) (l : OneLoad S) (old new : Kept D) → IsOpenedJob sources opened_by job l.job → IsGivenBack sources opened_by.failures_now after l.after.job.stream → IsOneLoad given l old new
         → IsJobLoad id_of of_jobs (loaded_job job l) old.history new.history
@@ -229,7 +217,7 @@ module _ {S : Type 0} (id_of : Kind → List ℕ → List ℕ) (sources : Source
         let told = line job l old new opened.input opened.head back (adds_with job l old.history new.history opened.head is.adds) is.same_input l.outcome is.ends in
         record {
           nothing_else = adds_of job l old.history new.history opened is.adds;
-          line = subst (λ (u : List ℕ). IsJobOutcome id_of (input_of of_jobs job) (attempt loader u l.job.date) old.history new.history l.outcome) opened.origin told;
+          line = subst (λ (u : List ℕ). IsJobOutcome id_of (input_of of_jobs job) (attempt loader u Fast l.job.date) old.history new.history l.outcome) opened.origin told;
         }
 
     pub each_job : (jobs : List Job) (loads : List (OneLoad S)) (old new : Kept D) → Open sources opened_by jobs loads → AreGivenBack sources opened_by.failures_now after (map (λ l. l.after) loads)

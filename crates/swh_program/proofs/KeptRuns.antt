@@ -5,7 +5,7 @@ use Rattle.swh_outside.specs.Views.{Disks, Sources}
 use Rattle.swh_keeper.specs.Kept.{Kept}
 use Rattle.swh_jobs.specs.Job.{Job}
 use Rattle.swh_loader.specs.declared.end.Loaded.{Loaded}
-use Rattle.swh_loader.specs.declared.fault.LoadFault.{LoadFault}
+use Rattle.swh_walk.specs.declared.end.LoadFault.{LoadFault}
 use Rattle.swh_pool.specs.Lines.{ended, lines_of}
 use Rattle.swh_pool.specs.Loads.{loading, AreLoaded}
 use Rattle.swh_pool.specs.Stops.{AreStops, HaveNoDiskFault}

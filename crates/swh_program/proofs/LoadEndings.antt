@@ -5,10 +5,10 @@ use Rattle.std.proofs.lemmas.List.{append-nil}
 use Rattle.swh_loader.specs.declared.end.End.{End}
 use Rattle.swh_loader.specs.declared.end.End.TheVariants.{Full, NotFound, Failed}
 use Rattle.swh_loader.specs.declared.end.Loaded.{Loaded}
-use Rattle.swh_loader.specs.declared.fault.LoadWhy.{LoadWhy}
-use Rattle.swh_loader.specs.declared.fault.LoadWhy.TheVariants as why
-use Rattle.swh_loader.specs.declared.fault.LoadFault.{LoadFault}
-use Rattle.swh_loader.proofs.Limiting.{at_element}
+use Rattle.swh_walk.specs.declared.stop.Stop.{Stop}
+use Rattle.swh_walk.specs.declared.stop.Stop.TheVariants as why
+use Rattle.swh_walk.specs.declared.end.LoadFault.{LoadFault}
+use Rattle.swh_walk.proofs.Batches.{at_element}
 use Rattle.swh_pool.specs.Stops.{is_fault, is_disk_fault, HaveNoDiskFault}
 use Rattle.swh_program.specs.Answers.{status_for, last_line_for}
 use Rattle.swh_program.specs.Run.{ComesTo}
@@ -24,7 +24,7 @@ end_short (Full snapshot) e = let f : ending.Done ≡ ending.Wanting = e in absu
 end_short NotFound e = tt
 end_short (Failed bad) e = tt
 
-why_short : (reason : LoadWhy) → ending_of_why reason ≡ ending.Wanting → IsOtherStop reason
+why_short : (reason : Stop) → ending_of_why reason ≡ ending.Wanting → IsOtherStop reason
 why_short (why.Ended status) e = tt
 why_short why.DiskFault e = let f : ending.OutsideDisk ≡ ending.Wanting = e in absurd (cc)
 why_short why.Wounded e = let f : ending.OutsideDisk ≡ ending.Wanting = e in absurd (cc)
@@ -40,7 +40,7 @@ short_end (Full snapshot) is = absurd is
 short_end NotFound is = refl
 short_end (Failed bad) is = refl
 
-short_why : (reason : LoadWhy) → IsOtherStop reason → ending_of_why reason ≡ ending.Wanting
+short_why : (reason : Stop) → IsOtherStop reason → ending_of_why reason ≡ ending.Wanting
 short_why (why.Ended status) is = refl
 short_why why.DiskFault is = absurd is
 short_why why.Wounded is = absurd is
@@ -61,7 +61,7 @@ full_end (Full snapshot) is = refl
 full_end NotFound is = absurd is
 full_end (Failed bad) is = absurd is
 
-pub why_undone : (reason : LoadWhy) → ending_of_why reason ≡ ending.Done → ⊥
+pub why_undone : (reason : Stop) → ending_of_why reason ≡ ending.Done → ⊥
 why_undone (why.Ended status) e = let f : ending.Wanting ≡ ending.Done = e in cc
 why_undone why.DiskFault e = let f : ending.OutsideDisk ≡ ending.Done = e in cc
 why_undone why.Wounded e = let f : ending.OutsideDisk ≡ ending.Done = e in cc
@@ -170,7 +170,7 @@ short_undone os s e =
     cc
 
 -- no disk failed where none is told
-no_fault : (reason : LoadWhy) → (ending_of_why reason ≡ ending.OutsideDisk → ⊥) → is_fault reason ≡ false
+no_fault : (reason : Stop) → (ending_of_why reason ≡ ending.OutsideDisk → ⊥) → is_fault reason ≡ false
 no_fault (why.Ended status) apart = refl
 no_fault why.DiskFault apart = absurd (apart refl)
 no_fault why.Wounded apart = refl

@@ -1,6 +1,7 @@
 -- Loads against which nothing stands are told as their inputs have it, or memory ran out.
 use Rattle.std.proofs.Common.{◌≡◌, ◌⊎◌, inl, inr, ⊎_elim, ℕ, ◌+◌, ◌*◌, ◌≤◌, Option, Some, None, Result, Ok, Err, List, [], ◌∷◌, ◌++◌, length, map, Contains, refl, sym, ap, ◌∙◌, subst, arith}
 use Rattle.std.specs.List.{AllByRecursion, flat_map}
+use Rattle.swh_base.specs.declared.visit.VisitKind.TheVariants.{Fast}
 use Rattle.swh_base.specs.declared.kind.Kind.{Kind}
 use Rattle.swh_base.specs.declared.entry.Entry.{Entry}
 use Rattle.swh_base.specs.declared.name.Name.{Name}
@@ -16,18 +17,18 @@ use Rattle.swh_model.specs.Step.{IsHistory, replay}
 use Rattle.swh_base.specs.Visit.{Statuses}
 use Rattle.swh_made.specs.Making.{made}
 use Rattle.swh_model.proofs.Histories.{fronts}
-use Rattle.swh_loader.specs.Adding.{Attempt, attempt, open_event}
+use Rattle.swh_walk.specs.Owning.{Attempt, attempt, open_event}
 use Rattle.swh_loader.specs.Ending.{statuses_of}
-use Rattle.swh_loader.specs.Leaving.{AddsVisit, next_visit}
+use Rattle.swh_alone.specs.Loading.{AddsVisit, IsOpen}
+use Rattle.swh_walk.specs.Visiting.{next_visit, IsVisit}
 use Rattle.swh_loader.specs.Report.{report_of}
-use Rattle.swh_loader.specs.Visiting.{IsVisit, IsOpen}
 use Rattle.swh_loader.specs.declared.end.BadInput.TheVariants.{Broken, Collision, Read}
 use Rattle.swh_loader.specs.declared.end.End.{End}
 use Rattle.swh_loader.specs.declared.end.End.TheVariants.{Full, NotFound, Failed}
 use Rattle.swh_loader.specs.declared.end.Loaded.{Loaded}
-use Rattle.swh_loader.specs.declared.fault.LoadWhy.{LoadWhy}
-use Rattle.swh_loader.specs.declared.fault.LoadWhy.TheVariants as why
-use Rattle.swh_loader.specs.declared.fault.LoadFault.{LoadFault}
+use Rattle.swh_walk.specs.declared.stop.Stop.{Stop}
+use Rattle.swh_walk.specs.declared.stop.Stop.TheVariants as why
+use Rattle.swh_walk.specs.declared.end.LoadFault.{LoadFault}
 use Rattle.swh_loader.proofs.Marks.{others, others_none, others_most, ended_most}
 use Rattle.swh_loader.proofs.Room.{HasRoomLeft, room_after, none_meets_end}
 use Rattle.swh_program.specs.Complete.{AreMade, HasAllMade, HasBodyOrMakes, HasOneBody}
@@ -40,7 +41,7 @@ use Rattle.swh_program.specs.declared.answer.Ending.TheVariants as ending
 use Rattle.swh_program.proofs.Elements.{contains_first, contains_more}
 use Rattle.swh_program.proofs.LoadEndings.{first_apart, others_apart}
 use Rattle.swh_program.proofs.Fulls.{Had, MakesWithin, are_made, had_after, none_collides}
-use Rattle.swh_program.proofs.Inputs.{adds_visit}
+use Rattle.swh_alone.proofs.Allowing.{adds_visit}
 use Rattle.swh_program.proofs.Loads.{all_behind}
 use Rattle.swh_program.proofs.OtherOrigins.{next_stays}
 
@@ -115,11 +116,11 @@ module _ (id_of : Kind → List ℕ → List ℕ) (of_jobs : Inputs) (told : of_
     of_job entries is = let t = is told in are_made id_of objects job.head t.0 (within t.0 t.1) entries t.2
 
     -- its load's events are those of its text
-    of_load : (date : ℕ) (h h' : List Event) → AddsVisit Allowed (attempt loader job.url date) h h' → AddsVisit (AreMade id_of objects) (attempt loader job.url date) h h'
-    of_load date h h' adds = adds_visit Allowed (AreMade id_of objects) (attempt loader job.url date) h h' of_job adds
+    of_load : (date : ℕ) (h h' : List Event) → AddsVisit Allowed (attempt loader job.url Fast date) h h' → AddsVisit (AreMade id_of objects) (attempt loader job.url Fast date) h h'
+    of_load date h h' adds = adds_visit Allowed (AreMade id_of objects) (attempt loader job.url Fast date) of_job h h' adds
 
-    had_load : (date : ℕ) (h h' : List Event) → IsHistory id_of h' → AddsVisit Allowed (attempt loader job.url date) h h' → HadBefore h → HadBefore h'
-    had_load date h h' history adds had = had_after id_of objects (replay before).bodies (attempt loader job.url date) h h' history (of_load date h h' adds) had
+    had_load : (date : ℕ) (h h' : List Event) → IsHistory id_of h' → AddsVisit Allowed (attempt loader job.url Fast date) h h' → HadBefore h → HadBefore h'
+    had_load date h h' history adds had = had_after id_of objects (replay before).bodies (attempt loader job.url Fast date) h h' history (of_load date h h' adds) had
 
     wider : (making : StreamMeaning) → ((o : MadeObject) → Contains making.objects o → Contains objects o) → HasOneBody id_of (replay before).bodies making.objects
     wider making more = record { one = λ name a b x y. one.one name a b (has_more name a x) (has_more name b y) }
@@ -129,10 +130,10 @@ module _ (id_of : Kind → List ℕ → List ℕ) (of_jobs : Inputs) (told : of_
         has_more name body (inr makes) = inr (more (record { kind = name.kind; body = body }) makes.0, makes.1)
 
     -- one load of it
-    module _ (date : ℕ) (h h' later : List Event) (history : IsHistory id_of h') (fits : AreCodable 0 (h' ++ later)) (adds : AddsVisit Allowed (attempt loader job.url date) h h') (had : HadBefore h') (next : IsNextAt h job)
+    module _ (date : ℕ) (h h' later : List Event) (history : IsHistory id_of h') (fits : AreCodable 0 (h' ++ later)) (adds : AddsVisit Allowed (attempt loader job.url Fast date) h h') (had : HadBefore h') (next : IsNextAt h job)
         (is_job : IsJob job) where
       abbrev t : Attempt
-      t = attempt loader job.url date
+      t = attempt loader job.url Fast date
 
       made_adds : AddsVisit (AreMade id_of objects) t h h'
       made_adds = of_load date h h' adds
@@ -191,7 +192,7 @@ module _ (id_of : Kind → List ℕ → List ℕ) (of_jobs : Inputs) (told : of_
 
       -- why it stopped
       stop_done : (fault : LoadFault) (marks : ℕ) → 3 ≤ marks → HasRoomLeft id_of objects h marks → StopsVisit id_of (input_of of_jobs job) t h h' fault
-          → (reason : LoadWhy) → StopsJobFor id_of (input_of of_jobs job) t h h' reason → (ending_of_why reason ≡ ending.OutsideDisk → ⊥) → ending_of_why reason ≡ ending.Memory
+          → (reason : Stop) → StopsJobFor id_of (input_of of_jobs job) t h h' reason → (ending_of_why reason ≡ ending.OutsideDisk → ⊥) → ending_of_why reason ≡ ending.Memory
       stop_done fault marks enough room at (why.Ended status) stops apart = absurd stops
       stop_done fault marks enough room at why.DiskFault stops apart = absurd (apart refl)
       stop_done fault marks enough room at why.Wounded stops apart = absurd (apart refl)
@@ -206,11 +207,11 @@ module _ (id_of : Kind → List ℕ → List ℕ) (of_jobs : Inputs) (told : of_
       one_done (Err f) marks enough room line apart = inl (stop_done f marks enough room line f.why line.stops apart)
 
   -- a load leaves the next visits of the jobs after it
-  others_next : (P : List Entry → Type 0) (origin : List ℕ) (date : ℕ) (h h' : List Event) → IsHistory id_of h' → AddsVisit P (attempt loader origin date) h h' → (jobs : List Job)
+  others_next : (P : List Entry → Type 0) (origin : List ℕ) (date : ℕ) (h h' : List Event) → IsHistory id_of h' → AddsVisit P (attempt loader origin Fast date) h h' → (jobs : List Job)
       → (Contains (origins jobs) origin → ⊥) → AllByRecursion (IsNextAt h) jobs → AllByRecursion (IsNextAt h') jobs
   others_next P origin date h h' history adds [] apart next = tt
   others_next P origin date h h' history adds (job ∷ jobs) apart next = (
-    next_stays P (attempt loader origin date) job.url (λ e. apart (subst (λ (u : List ℕ). Contains (job.url ∷ origins jobs) u) e (contains_first job.url (origins jobs)))) id_of h h' history adds ∙ next.0,
+    next_stays P (attempt loader origin Fast date) job.url (λ e. apart (subst (λ (u : List ℕ). Contains (job.url ∷ origins jobs) u) e (contains_first job.url (origins jobs)))) id_of h h' history adds ∙ next.0,
     others_next P origin date h h' history adds jobs (λ there. apart (contains_more job.url (origins jobs) origin there)) next.1,
   )
 
@@ -243,8 +244,8 @@ module _ (id_of : Kind → List ℕ → List ℕ) (of_jobs : Inputs) (told : of_
       let rest = all_behind id_of of_jobs loads between after each.2 in
       let here : IsHistory id_of between = (fronts id_of empty_archive between rest.0 (subst (IsHistory id_of) rest.1 history)).0 in
       let fits_here : AreCodable 0 (between ++ rest.0) = subst (AreCodable 0) rest.1 fits in
-      let adds = subst (λ (j : Job). AddsVisit (IsOfJob id_of of_jobs j) (attempt loader j.url l.date) h between) same each.1.nothing_else in
-      let line = subst (λ (j : Job). IsJobOutcome id_of (input_of of_jobs j) (attempt loader j.url l.date) h between l.outcome) same each.1.line in
+      let adds = subst (λ (j : Job). AddsVisit (IsOfJob id_of of_jobs j) (attempt loader j.url Fast l.date) h between) same each.1.nothing_else in
+      let line = subst (λ (j : Job). IsJobOutcome id_of (input_of of_jobs j) (attempt loader j.url Fast l.date) h between l.outcome) same each.1.line in
       let had_here = had_load job among.0 l.date h between here adds had in
       let marks = length (job ∷ jobs) * 3 in
       let room_here = room_left job among.0 l.date h between rest.0 here fits_here adds had_here next.0 good.0 l.outcome marks (length jobs * 3) line (omega arith) room in

@@ -12,8 +12,8 @@ use Rattle.swh_model.specs.Meaning.{Made as MadeObject, StreamMeaning}
 use Rattle.swh_model.specs.Step.{replay}
 use Rattle.swh_fastload.specs.Input.{IsSameMaking, Means}
 use Rattle.swh_fastload.proofs.InputLaws.{one_making, unbroken}
-use Rattle.swh_loader.specs.Leaving.{next_visit}
-use Rattle.swh_loader.proofs.Limiting.{at_element}
+use Rattle.swh_walk.specs.Visiting.{next_visit}
+use Rattle.swh_walk.proofs.Batches.{at_element}
 use Rattle.swh_loader.proofs.Room.{HasRoomLeft, room_at_entry}
 use Rattle.swh_loader.specs.declared.end.BadInput.TheVariants.{Broken, Collision, Read}
 use Rattle.swh_loader.specs.declared.end.End.{End}

@@ -8,9 +8,9 @@ use Rattle.swh_fastload.specs.declared.bad.BadStream.{BadStream}
 use Rattle.swh_loader.specs.declared.end.End.{End}
 use Rattle.swh_loader.specs.declared.end.End.TheVariants.{Full, NotFound, Failed}
 use Rattle.swh_loader.specs.declared.end.Loaded.{Loaded}
-use Rattle.swh_loader.specs.declared.fault.LoadWhy.{LoadWhy}
-use Rattle.swh_loader.specs.declared.fault.LoadWhy.TheVariants as why
-use Rattle.swh_loader.specs.declared.fault.LoadFault.{LoadFault}
+use Rattle.swh_walk.specs.declared.stop.Stop.{Stop}
+use Rattle.swh_walk.specs.declared.stop.Stop.TheVariants as why
+use Rattle.swh_walk.specs.declared.end.LoadFault.{LoadFault}
 use Rattle.swh_program.specs.Exact.{MeansCollision}
 
 -- The visit ended as full.
@@ -31,7 +31,7 @@ IsShortEnd NotFound = Unit {0}
 IsShortEnd (Failed bad) = Unit {0}
 
 -- Neither a disk nor memory stopped it.
-abbrev pub IsOtherStop : LoadWhy → Type 0
+abbrev pub IsOtherStop : Stop → Type 0
 IsOtherStop (why.Ended status) = Unit {0}
 IsOtherStop why.DiskFault = ⊥
 IsOtherStop why.Wounded = ⊥

@@ -14,7 +14,7 @@ use Rattle.swh_base.specs.Limits.{file_limit}
 use Rattle.swh_model.specs.Meaning.{Made, StreamMeaning}
 use Rattle.swh_base.specs.Snapshot.{snapshot_name}
 use Rattle.swh_fastload.specs.Input.{Means}
-use Rattle.swh_loader.specs.Leaving.{next_visit}
+use Rattle.swh_walk.specs.Visiting.{next_visit}
 use Rattle.swh_loader.specs.Room.{ledger_growth, store_growth}
 use Rattle.swh_program.specs.Seen.{FileAt}
 use Rattle.swh_program.specs.Run.{IsQuiet}

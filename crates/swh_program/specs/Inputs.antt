@@ -12,17 +12,17 @@ use Rattle.swh_model.specs.Archive.{Bodies}
 use Rattle.swh_model.specs.Judge.{FilePasses}
 use Rattle.swh_model.specs.Step.{May, replay}
 use Rattle.swh_fastload.specs.Input.{Breaks, MayBreak}
-use Rattle.swh_loader.specs.Adding.{Attempt, open_event}
+use Rattle.swh_walk.specs.Owning.{Attempt, open_event}
 use Rattle.swh_loader.specs.Ending.{IsMadeBy, IsFull, Collided, statuses_of}
-use Rattle.swh_loader.specs.Leaving.{AddsVisit, next_visit}
-use Rattle.swh_loader.specs.Visiting.{IsVisit, IsOpen}
+use Rattle.swh_alone.specs.Loading.{AddsVisit, IsOpen}
+use Rattle.swh_walk.specs.Visiting.{next_visit, IsVisit}
 use Rattle.swh_loader.specs.declared.end.BadInput.TheVariants.{Broken, Collision, Read}
 use Rattle.swh_loader.specs.declared.end.End.{End}
 use Rattle.swh_loader.specs.declared.end.End.TheVariants.{Full, NotFound, Failed}
 use Rattle.swh_loader.specs.declared.end.Loaded.{Loaded}
-use Rattle.swh_loader.specs.declared.fault.LoadWhy.{LoadWhy}
-use Rattle.swh_loader.specs.declared.fault.LoadWhy.TheVariants as why
-use Rattle.swh_loader.specs.declared.fault.LoadFault.{LoadFault}
+use Rattle.swh_walk.specs.declared.stop.Stop.{Stop}
+use Rattle.swh_walk.specs.declared.stop.Stop.TheVariants as why
+use Rattle.swh_walk.specs.declared.end.LoadFault.{LoadFault}
 use Rattle.swh_program.specs.Seen.{FileAt}
 
 -- who loads the jobs of a run
@@ -80,7 +80,7 @@ module _ (id_of : Kind → List ℕ → List ℕ) (input : Input) where
     pub passes : FilePasses after event.what which number
 
   -- Why a load stopped: a disk failed, a file would pass its end, or memory ran out.
-  abbrev pub StopsJobFor : Attempt → List Event → List Event → LoadWhy → Type 0
+  abbrev pub StopsJobFor : Attempt → List Event → List Event → Stop → Type 0
   StopsJobFor a before after (why.Ended status) = ⊥
   StopsJobFor a before after why.DiskFault = Unit {0}
   StopsJobFor a before after why.Wounded = Unit {0}

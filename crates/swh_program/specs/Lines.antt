@@ -5,9 +5,9 @@ use Rattle.swh_loader.specs.Report.{report_of}
 use Rattle.swh_loader.specs.declared.end.End.{End}
 use Rattle.swh_loader.specs.declared.end.End.TheVariants.{Full, NotFound, Failed}
 use Rattle.swh_loader.specs.declared.end.Loaded.{Loaded}
-use Rattle.swh_loader.specs.declared.fault.LoadWhy.{LoadWhy}
-use Rattle.swh_loader.specs.declared.fault.LoadWhy.TheVariants as why
-use Rattle.swh_loader.specs.declared.fault.LoadFault.{LoadFault}
+use Rattle.swh_walk.specs.declared.stop.Stop.{Stop}
+use Rattle.swh_walk.specs.declared.stop.Stop.TheVariants as why
+use Rattle.swh_walk.specs.declared.end.LoadFault.{LoadFault}
 use Rattle.swh_program.specs.declared.answer.Ending.{Ending}
 use Rattle.swh_program.specs.declared.answer.Ending.TheVariants as ending
 use Rattle.swh_program.specs.declared.answer.Answer.{Answer}
@@ -20,7 +20,7 @@ ending_of_end NotFound = ending.Wanting
 ending_of_end (Failed bad) = ending.Wanting
 
 -- how a run ends with one job whose load stopped for this reason
-abbrev pub ending_of_why : LoadWhy → Ending
+abbrev pub ending_of_why : Stop → Ending
 ending_of_why (why.Ended status) = ending.Wanting
 ending_of_why why.DiskFault = ending.OutsideDisk
 ending_of_why why.Wounded = ending.OutsideDisk

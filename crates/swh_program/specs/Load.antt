@@ -1,5 +1,6 @@
 -- The loads of a run, and how it ends.
 use Rattle.std.specs.Prelude.{◌≡◌, ◌⊎◌, ℕ, Some, false, Result, List, [], ◌∷◌, ◌++◌, Contains, map}
+use Rattle.swh_base.specs.declared.visit.VisitKind.TheVariants.{Fast}
 use Rattle.swh_base.specs.declared.kind.Kind.{Kind}
 use Rattle.swh_base.specs.declared.entry.Entry.{Entry}
 use Rattle.swh_outside.specs.Disk.{File}
@@ -16,12 +17,12 @@ use Rattle.swh_keeper.specs.Own.{AreUsable, AreOwn}
 use Rattle.swh_segment.specs.Making.{barriers}
 use Rattle.swh_jobs.specs.Job.{Job}
 use Rattle.swh_jobs.specs.JobFile.{AreJobs}
-use Rattle.swh_loader.specs.Adding.{Attempt, attempt}
+use Rattle.swh_walk.specs.Owning.{Attempt, attempt}
 use Rattle.swh_segment.specs.Calls.{all_calls}
 use Rattle.swh_segment.specs.Moments.{IsSafelyMade, IsSafelyBroken, IsSafeOpening}
-use Rattle.swh_loader.specs.Leaving.{AddsVisit}
+use Rattle.swh_alone.specs.Loading.{AddsVisit}
 use Rattle.swh_loader.specs.declared.end.Loaded.{Loaded}
-use Rattle.swh_loader.specs.declared.fault.LoadFault.{LoadFault}
+use Rattle.swh_walk.specs.declared.end.LoadFault.{LoadFault}
 use Rattle.swh_pool.specs.Stops.{AreStops, HaveNoDiskFault}
 use Rattle.swh_program.specs.Seen.{FileAt}
 use Rattle.swh_program.specs.Dated.{AreSaid}
@@ -47,7 +48,7 @@ pub record LeavesDisks (id_of : Kind → List ℕ → List ℕ) (ledger store : 
 
 -- who loaded a job, and when
 abbrev pub attempt_for : LoadedJob → Attempt
-attempt_for l = attempt loader l.job.url l.date
+attempt_for l = attempt loader l.job.url Fast l.date
 
 -- The loads of jobs with these inputs.
 module _ (id_of : Kind → List ℕ → List ℕ) (of_jobs : Inputs) where

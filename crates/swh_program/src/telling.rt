@@ -7,7 +7,7 @@ use crate::answer::{Answer, Ending};
 use crate::text::Text;
 use std::alloc::Global;
 use swh_base::Memory;
-use swh_loader::{End, LoadFault, LoadWhy, Loaded};
+use swh_loader::{End, LoadFault, Loaded, Stop};
 use swh_pool::Report;
 
 fn ending_of_end(end: End) -> Ending
@@ -19,13 +19,13 @@ fn ending_of_end(end: End) -> Ending
     }
 }
 
-fn ending_of_why(why: LoadWhy) -> Ending
+fn ending_of_why(why: Stop) -> Ending
     ensures { result ≡ ending_of_why why }
 {
     match why {
-        LoadWhy::DiskFault | LoadWhy::Wounded => Ending::OutsideDisk,
-        LoadWhy::Ended { .. } | LoadWhy::Limit { .. } => Ending::Wanting,
-        LoadWhy::Memory => Ending::Memory,
+        Stop::DiskFault | Stop::Wounded => Ending::OutsideDisk,
+        Stop::Ended { .. } | Stop::Limit { .. } => Ending::Wanting,
+        Stop::Memory => Ending::Memory,
     }
 }
 
