@@ -124,7 +124,7 @@ module _ (bodies : Bodies) (children_of : Name → Option (List Name)) (graph : 
     entry_is place e has = all_of IsEntry has.entries e (are-each has.entries has.is.good) has.there
 
     own_bytes : (place : Name) (e : DirectoryEntry) → Contains order place → HasDirectoryEntry bodies place e → AllByRecursion IsByte (entry_text e)
-    own_bytes place e there has = entry_bytes has.entries e has.there (subst (AllByRecursion IsByte) has.is.text (of_bytes place has.body there has.kind has.held))
+    own_bytes place e there has = entry_bytes has.entries e has.there (subst (AllByRecursion IsByte) has.is.text (of_bytes place there has.body has.kind has.held))
 
     component : (place : Name) (e : DirectoryEntry) → Contains order place → HasDirectoryEntry bodies place e → IsComponent e.name
     component place e there has =

@@ -52,4 +52,4 @@ pub bodies_in_limit : (id : Kind → List ℕ → List ℕ) (h : List Event) →
 bodies_in_limit id h is = short_after id empty_archive h is (none_held (λ body. length body ≤ body_limit))
 
 pub bodies_of_bytes : (h : List Event) (names : List Name) → AreMadeOfBytes h → AreOfBytes (replay h).bodies names
-bodies_of_bytes h names made n body there kind held = bytes_after empty_archive h made (none_held (AllByRecursion IsByte)) n body held
+bodies_of_bytes h names made n there body kind held = bytes_after empty_archive h made (none_held (AllByRecursion IsByte)) n body held

@@ -10,9 +10,13 @@ use Rattle.swh_model.specs.Archive.{Bodies, body_of}
 use Rattle.swh_model.specs.Entries.{entries_of}
 use Rattle.swh_model.specs.declared.event.Event.{Event}
 
--- The directories of these names are made of bytes: each name of a path has its digits then, and each id.
+-- Of a directory the body, if one is held, is made of bytes: each name in a path has its digits then, and each id.
+abbrev pub IsOfBytes : Bodies → Name → Type 0
+IsOfBytes bodies n = (body : List ℕ) → n.kind ≡ Directory → body_of bodies n ≡ Some body → AllByRecursion IsByte body
+
+-- The same of each of some names.
 abbrev pub AreOfBytes : Bodies → List Name → Type 0
-AreOfBytes bodies names = (n : Name) (body : List ℕ) → Contains names n → n.kind ≡ Directory → body_of bodies n ≡ Some body → AllByRecursion IsByte body
+AreOfBytes bodies names = (n : Name) → Contains names n → IsOfBytes bodies n
 
 -- No held body is longer than one may be.
 abbrev pub AreInLimit : Bodies → Type 0
