@@ -30,6 +30,7 @@ use Rattle.swh_alone.specs.Alone.{event_for, IsEventFor, AddsOn, FailsOn, alone_
 use Rattle.swh_alone.specs.Leaving.{StopsFor}
 use Rattle.swh_alone.specs.Refusing.{place_refusal}
 use Rattle.swh_alone.proofs.Applying.{refused_same}
+use Rattle.swh_alone.proofs.Calls.{same_calls, breaks_as, of_further}
 
 rose_further : (a b c : ℕ) → a ≤ b → Rose b c → Rose a c
 rose_further a b c h r = omega (arith, h, r)
@@ -91,40 +92,23 @@ module _ {D : Type 0} (id : Kind → List ℕ → List ℕ) (disks : Disks D) (b
   stops_at Q wish a b (refusal.NotClosed parent child) stop sure h is rose = absurd is
   stops_at Q wish a b (refusal.Collision name) stop sure h is rose = absurd is
 
-  -- the calls of a keeper that is as it was
-  same_calls : (Q : Event → Type 0) (a b : Kept D) → b ≡ a → MakesCallsOf id disks.file Q [] a b
-  same_calls Q a b same = record {
-    made = λ _. ap (kept_files disks.file) same;
-    broken = λ none n some. absurd (none-some n (sym none ∙ ap (λ (k : Kept D). k.wounded) (sym same) ∙ some));
-  }
-
-  breaks_as : (P Q : Event → Type 0) (h h' : List Event) (x y new : Files) → ((e : Event) → P e → Q e) → h' ≡ h → x ≡ y → BreaksAtEvent id P h x new → BreaksAtEvent id Q h' y new
-  breaks_as P Q h h' x y new f same files b =
-      subst (λ (t : List Event). BreaksAtEvent id Q t y new) (sym same) (record {
-        event = b.event;
-        next = f b.event b.next;
-        may = b.may;
-        codable = b.codable;
-        breaks = subst (λ (t : Files). FilesBreaks (calls_for h b.event) t new) files b.breaks;
-      })
-
   -- the calls of an event that was refused
   refused_calls : (Q : Event → Type 0) (wish : Wish) (a b : Kept D) (r : kept.Refusal) → (a.wounded ≡ None → IsSure id by Q a.history wish) → RefusesPlan a by wish b r
       → (r ≡ refusal.DiskFault → BreaksAtEvent id (IsEventFor a.history by wish) a.history (kept_files disks.file a) (kept_files disks.file b)) → MakesCallsOf id disks.file Q [] a b
-  refused_calls Q wish a b (refusal.Wounded first) sure h broken = same_calls Q a b h.1
-  refused_calls Q wish a b (refusal.Limit which number) sure h broken = same_calls Q a b h.same
+  refused_calls Q wish a b (refusal.Wounded first) sure h broken = same_calls id disks.file Q a b h.1
+  refused_calls Q wish a b (refusal.Limit which number) sure h broken = same_calls id disks.file Q a b h.same
   refused_calls Q wish a b refusal.DiskFault sure h broken = record {
     made = λ same. absurd (none-some (length a.history + 1) (sym (same ∙ h.before_it) ∙ h.wounded));
-    broken = λ none n some. breaks_as (IsEventFor a.history by wish) Q a.history b.history (kept_files disks.file a) (kept_files disks.file a) (kept_files disks.file b)
+    broken = λ none n some. breaks_as id disks.file (IsEventFor a.history by wish) Q a.history b.history (kept_files disks.file a) (kept_files disks.file a) (kept_files disks.file b)
         (λ e is. subst Q (sym is) (sure h.before_it).tried) h.history refl (broken refl);
   }
-  refused_calls Q wish a b (refusal.Memory stands) sure h broken = same_calls Q a b h.1
-  refused_calls Q wish a b (refusal.NoVisit have) sure h broken = same_calls Q a b h.same
-  refused_calls Q wish a b (refusal.NotYours other) sure h broken = same_calls Q a b h.same
-  refused_calls Q wish a b (refusal.Ended status) sure h broken = same_calls Q a b h.same
-  refused_calls Q wish a b (refusal.NoSnapshot name) sure h broken = same_calls Q a b h.same
-  refused_calls Q wish a b (refusal.NotClosed parent child) sure h broken = same_calls Q a b h.same
-  refused_calls Q wish a b (refusal.Collision name) sure h broken = same_calls Q a b h.same
+  refused_calls Q wish a b (refusal.Memory stands) sure h broken = same_calls id disks.file Q a b h.1
+  refused_calls Q wish a b (refusal.NoVisit have) sure h broken = same_calls id disks.file Q a b h.same
+  refused_calls Q wish a b (refusal.NotYours other) sure h broken = same_calls id disks.file Q a b h.same
+  refused_calls Q wish a b (refusal.Ended status) sure h broken = same_calls id disks.file Q a b h.same
+  refused_calls Q wish a b (refusal.NoSnapshot name) sure h broken = same_calls id disks.file Q a b h.same
+  refused_calls Q wish a b (refusal.NotClosed parent child) sure h broken = same_calls id disks.file Q a b h.same
+  refused_calls Q wish a b (refusal.Collision name) sure h broken = same_calls id disks.file Q a b h.same
 
   -- a wish that was refused
   stops_refused : (Q : Event → Type 0) (wish : Wish) (a b : Kept D) (r : Refusal) (stop : Stop) → (a.wounded ≡ None → IsSure id by Q a.history wish) → IsWhyOf r stop → FailsOn id disks by wish r a b → StopsAt id disks Q a b stop
@@ -142,7 +126,7 @@ module _ {D : Type 0} (id : Kind → List ℕ → List ℕ) (disks : Disks D) (b
     same = ap (λ (k : Kept D). k.history) same;
     store_later = let e = ap (λ (k : Kept D). disks.faults k.store) same in omega (arith, e);
     ledger_later = let e = ap (λ (k : Kept D). disks.faults k.ledger) same in omega (arith, e);
-    calls = λ told. same_calls Q a b same;
+    calls = λ told. same_calls id disks.file Q a b same;
     stops = ap (λ (k : Kept D). k.wounded) same;
   }
 
@@ -162,11 +146,4 @@ module _ {D : Type 0} (id : Kind → List ℕ → List ℕ) (disks : Disks D) (b
 
   -- the calls of events, and then of others
   pub calls_then : (Q : Event → Type 0) (xs ys : List Event) (a m b : Kept D) → AddsOn id disks xs a m → disks.tells → MakesCallsOf id disks.file Q ys m b → MakesCallsOf id disks.file Q (xs ++ ys) a b
-  calls_then Q xs ys a m b h told k =
-      let plan : all_calls a.history xs ++ all_calls m.history ys ≡ all_calls a.history (xs ++ ys) = ap (λ (t : List Event). all_calls a.history xs ++ all_calls t ys) h.behind ∙ sym (all_calls-append a.history xs ys) in
-      let both : files_done (all_calls m.history ys) (kept_files disks.file m) ≡ files_done (all_calls a.history (xs ++ ys)) (kept_files disks.file a) =
-      ap (files_done (all_calls m.history ys)) (h.calls told) ∙ sym (files_done-append (all_calls a.history xs) (all_calls m.history ys) (kept_files disks.file a)) ∙ ap (λ (p : List FileCall). files_done p (kept_files disks.file a)) plan in
-      record {
-        made = λ same. k.made (same ∙ h.before_it ∙ sym h.unwounded) ∙ both;
-        broken = λ none n some. breaks_as Q Q b.history b.history (files_done (all_calls m.history ys) (kept_files disks.file m)) (files_done (all_calls a.history (xs ++ ys)) (kept_files disks.file a)) (kept_files disks.file b) (λ e is. is) refl both (k.broken h.unwounded n some);
-      }
+  calls_then Q xs ys a m b h told k = of_further id disks.file Q Q Q xs ys a m b (λ e is. is) h.before_it h.unwounded h.behind (added_calls xs Q a m h told) k

@@ -8,7 +8,6 @@ use Rattle.swh_base.specs.declared.kind.Kind.{Kind}
 use Rattle.swh_base.specs.declared.entry.Entry.{Entry}
 use Rattle.swh_base.specs.declared.visit.Status.{Status}
 use Rattle.swh_base.specs.declared.visit.Status.TheVariants.{Created, Ongoing}
-use Rattle.swh_base.specs.declared.visit.VisitKind.TheVariants.{Fast}
 use Rattle.swh_base.specs.Visit.{Statuses, IsFinal, last_status}
 use Rattle.swh_outside.specs.Views.{Disks}
 use Rattle.swh_model.specs.declared.event.Event.{Event}
@@ -96,7 +95,7 @@ module _ (A : List Entry → Type 0) (t : Attempt) (number : ℕ) where
         (subst (λ (n : ℕ). IsSure id t.by Q h (wished.Mark t.origin n status snapshot)) (sym asked.1) (sure_mark status snapshot ready))
     sure_own (wished.Open origin kind date) asked ready = absurd asked
 
-sure_open : (id : Kind → List ℕ → List ℕ) (t : Attempt) (Q : Event → Type 0) (h : List Event) → Q (open_event t) → (wish : Wish) → IsWished (wished.Open t.origin Fast t.date) wish → IsSure id t.by Q h wish
+sure_open : (id : Kind → List ℕ → List ℕ) (t : Attempt) (Q : Event → Type 0) (h : List Event) → Q (open_event t) → (wish : Wish) → IsWished (wished.Open t.origin t.kind t.date) wish → IsSure id t.by Q h wish
 sure_open id t Q h tried wish is = subst (IsSure id t.by Q h) (sym is) (record { tried = tried; may = tt; full = λ which number c. c; unended = λ status c. c })
 
 -- Where a disk had failed before, nothing is changed.
@@ -164,7 +163,7 @@ module _ {D : Type 0} (id : Kind → List ℕ → List ℕ) (disks : Disks D) (A
         (append_cancel_left a.history (open_event t ∷ own.own) more (sym all_added.behind ∙ sym same ∙ behind)) calls
 
   -- A load that ended.
-  ended : {B : Type 0} (a b : Kept D) (loaded : Loaded B) → EndsOwn id Ws A t a b loaded → EndsVisit t a b loaded
+  ended : {B : Type 0} (a b : Kept D) (loaded : Loaded B) → EndsOwn id Ws A t a b loaded → EndsVisit t a b loaded.visit (statuses_of loaded.end)
   ended a b loaded h = record {
     number = next a h.mid b loaded.visit (statuses_of loaded.end) h.opened h.own;
     visit = so_far a h.mid b loaded.visit (statuses_of loaded.end) h.opened h.own;
@@ -226,7 +225,7 @@ module _ {D : Type 0} (id : Kind → List ℕ → List ℕ) (disks : Disks D) (A
   -- And one that stopped before.
   module _ (a b : Kept D) (fault : LoadFault) (h : StopsUnopened id Ws A t a b fault) where
     once_at : (Q : Event → Type 0) → Q (open_event t) → StopsAt id disks Q a b fault.why
-    once_at Q tried = stops_now id disks t.by Q (IsWished (wished.Open t.origin Fast t.date)) a b fault.why (λ wish is ready. sure_open id t Q a.history tried wish is) h.now
+    once_at Q tried = stops_now id disks t.by Q (IsWished (wished.Open t.origin t.kind t.date)) a b fault.why (λ wish is ready. sure_open id t Q a.history tried wish is) h.now
 
     once : StopsAt id disks (IsEvent (open_event t)) a b fault.why
     once = once_at (IsEvent (open_event t)) refl
@@ -247,7 +246,7 @@ module _ {D : Type 0} (id : Kind → List ℕ → List ℕ) (disks : Disks D) (A
 
   -- Whatever a load answers.
   module _ {B : Type 0} (a b : Kept D) where
-    pub load_ended : (r : Result (Loaded B) LoadFault) → IfOk r (EndsOwn id Ws A t a b) → IfOk r (EndsVisit t a b)
+    pub load_ended : (r : Result (Loaded B) LoadFault) → IfOk r (EndsOwn id Ws A t a b) → IfOk r (λ loaded. EndsVisit t a b loaded.visit (statuses_of loaded.end))
     load_ended (Ok loaded) h = ended a b loaded h
     load_ended (Err fault) h = tt
 
@@ -263,7 +262,7 @@ module _ {D : Type 0} (id : Kind → List ℕ → List ℕ) (disks : Disks D) (A
 
     pub load_held : (r : Result (Loaded B) LoadFault) → IfOk r (EndsOwn id Ws A t a b) → IfErr r (StopsLoad id Ws A t a b) → (n : ℕ) → a.wounded ≡ Some n → IsHeldBack a b r
     load_held (Ok loaded) h s n some = none-some n (sym h.opened.adds.before_it ∙ some)
-    load_held (Err fault) h (inl s) n some = (s.no_visit, now_held (IsWished (wished.Open t.origin Fast t.date)) a b n fault.why some s.now)
+    load_held (Err fault) h (inl s) n some = (s.no_visit, now_held (IsWished (wished.Open t.origin t.kind t.date)) a b n fault.why some s.now)
     load_held (Err fault) h (inr s) n some = absurd (none-some n (sym s.opened.adds.before_it ∙ some))
 
     pub load_stops : (r : Result (Loaded B) LoadFault) → IfErr r (StopsLoad id Ws A t a b) → IfErr r (Stops id disks A t a b)

@@ -9,11 +9,10 @@ use Rattle.swh_outside.specs.Views.{Disks}
 use Rattle.swh_model.specs.declared.event.Event.{Event}
 use Rattle.swh_keeper.specs.Calls.{MakesCallsOf}
 use Rattle.swh_keeper.specs.Kept.{Kept}
-use Rattle.swh_walk.specs.declared.end.Loaded.{Loaded}
 use Rattle.swh_walk.specs.declared.end.LoadFault.{LoadFault}
 use Rattle.swh_walk.specs.declared.stop.Stop.{Stop}
 use Rattle.swh_walk.specs.declared.stop.Stop.TheVariants as why
-use Rattle.swh_walk.specs.Loading.{IsOwn, statuses_of}
+use Rattle.swh_walk.specs.Loading.{IsOwn}
 use Rattle.swh_walk.specs.Owning.{Attempt, open_event}
 use Rattle.swh_walk.specs.Visiting.{IsVisit, next_visit}
 use Rattle.swh_walk.specs.Walking.{IsBy}
@@ -76,14 +75,15 @@ module _ {D : Type 0} (id : Kind → List ℕ → List ℕ) (disks : Disks D) wh
   Stops IsAllowed a old new fault = StopsAtOnce a old new fault ⊎ StopsLater IsAllowed a old new fault
 
 -- Where a disk had failed before, no visit is opened and nothing is changed.
-abbrev pub IsHeldBack : {D B : Type 0} → Kept D → Kept D → Result (Loaded B) LoadFault → Type 0
+abbrev pub IsHeldBack : {D T : Type 0} → Kept D → Kept D → Result T LoadFault → Type 0
 IsHeldBack old new (Ok loaded) = ⊥
 IsHeldBack old new (Err fault) = (fault.visit ≡ 0) × StopsUnchanged old new fault.why
 
--- The load ended its visit, the next of its origin. Nothing that was held is lost, and no disk had failed.
-pub record EndsVisit {D B : Type 0} (a : Attempt) (old new : Kept D) (loaded : Loaded B) : Type 0 where
-  pub number : loaded.visit ≡ next_visit old.history a.origin
-  pub visit : IsVisit new.history a loaded.visit ((Created, None) ∷ statuses_of loaded.end)
+-- The load ended the visit with this number, the next of its origin, which has these statuses after its first. Nothing that was
+-- held is lost, and no disk had failed.
+pub record EndsVisit {D : Type 0} (a : Attempt) (old new : Kept D) (ended : ℕ) (later : Statuses) : Type 0 where
+  pub number : ended ≡ next_visit old.history a.origin
+  pub visit : IsVisit new.history a ended ((Created, None) ∷ later)
   pub on : KeepsAll old new
   pub before_it : old.wounded ≡ None
 

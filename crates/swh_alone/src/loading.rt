@@ -7,7 +7,7 @@ ghost use Rattle.swh_place.specs.Knowing.{CarriesOut, RefusesPlan};
 ghost use Rattle.swh_outside.specs.Views.{disks};
 ghost use Rattle.swh_model.specs.Step.{replay};
 ghost use Rattle.swh_walk.specs.declared.input.Opening.TheVariants.{Found};
-ghost use Rattle.swh_walk.specs.Loading.{AreAllowed, IsEndAt, IsSameOrRead, IsWhole};
+ghost use Rattle.swh_walk.specs.Loading.{AreAllowed, IsEndAt, IsSameOrRead, IsWhole, statuses_of};
 ghost use Rattle.swh_walk.specs.Owning.{attempt};
 ghost use Rattle.swh_alone.specs.Alone.{AddsOn, alone_words};
 ghost use Rattle.swh_alone.specs.Loading.{AddsVisit, EndsVisit, IsHeldBack, MakesVisitCalls, NoCountFell, Stops};
@@ -37,25 +37,26 @@ pub fn load_kept<N: Namer, D: Disk, I, B: Drop, R: Reads<I, Input<N, B>>, G: Gat
     requires takes { job.now.opening ≡ Found → R.takes job.now.read input.old }
     requires whole { (given : _) (now : _) → R.gives job.now.read input.old (Ok given) now → IsWhole N.id_of given }
     // The visit is the next of its origin, and its end is the one told. Nothing that was held is lost.
-    ensures ended { IfOk result (EndsVisit (attempt turn.now.worker.now.by job.now.origin.now job.now.date)
-        keeper.old keeper.new) }
+    ensures ended { IfOk result (λ loaded. EndsVisit
+        (attempt turn.now.worker.now.by job.now.origin.now job.now.kind job.now.date) keeper.old keeper.new
+        loaded.visit (statuses_of loaded.end)) }
     // The end says what the input gave, and what is held.
     ensures end { IfOk result (λ loaded. IsEndAt (R.gives job.now.read) job.now.opening
         (replay keeper.new.history).bodies input.old input.new loaded.end) }
 
     // Whatever it answers, it adds its visit's events alone, with nothing but what the input makes.
     ensures adds { AddsVisit (AreAllowed (R.gives job.now.read) job.now.opening input.old)
-        (attempt turn.now.worker.now.by job.now.origin.now job.now.date) keeper.old.history keeper.new.history }
+        (attempt turn.now.worker.now.by job.now.origin.now job.now.kind job.now.date) keeper.old.history keeper.new.history }
     // The device calls that it makes: those of its events, in order; where a disk fails, up to one of the next event.
     ensures calls { D.tells → MakesVisitCalls N.id_of (disks D.tells D.file D.faults)
         (AreAllowed (R.gives job.now.read) job.now.opening input.old)
-        (attempt turn.now.worker.now.by job.now.origin.now job.now.date) keeper.old keeper.new }
+        (attempt turn.now.worker.now.by job.now.origin.now job.now.kind job.now.date) keeper.old keeper.new }
     // Where a disk had failed before, it opens no visit and changes nothing.
     ensures wounded { (n : ℕ) → keeper.old.wounded ≡ Some n → IsHeldBack keeper.old keeper.new result }
     // Why it stopped, and what is left then.
     ensures stops { IfErr result (Stops N.id_of (disks D.tells D.file D.faults)
         (AreAllowed (R.gives job.now.read) job.now.opening input.old)
-        (attempt turn.now.worker.now.by job.now.origin.now job.now.date) keeper.old keeper.new) }
+        (attempt turn.now.worker.now.by job.now.origin.now job.now.kind job.now.date) keeper.old keeper.new) }
     // The counts of faults, and the input.
     ensures later { NoCountFell (disks D.tells D.file D.faults) keeper.old keeper.new }
     ensures input { IsSameOrRead (R.gives job.now.read) job.now.opening input.old input.new }

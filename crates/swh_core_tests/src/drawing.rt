@@ -4,7 +4,6 @@ ghost use Rattle.swh_core.specs.Step.{IsMeant};
 
 use crate::doing::{ACTORS, Doing, step_of};
 use crate::images::draw_image;
-use crate::machine::{Machine, files_at_crash};
 use crate::wished::{Mark, Wished, wish_of};
 use crate::worked::{
     Body, CONTENT, DIRECTORY, OTHER_CONTENT, OTHER_DIRECTORY, OTHER_SNAPSHOT, OTHER_SNAPSHOT_ID,
@@ -15,6 +14,7 @@ use std::test::Fail;
 use swh_base::Namer;
 use swh_core::{Held, Step};
 use swh_model::Wish;
+use swh_naive_core::{Machine, files_at_crash};
 
 /// The numbers of a linear congruential generator.
 #[derive(Drop)]

@@ -1,8 +1,8 @@
 //! Bytes that a crash may leave of a file, drawn at random, and such as it may not leave.
 use crate::drawing::Draws;
-use crate::files::ByteFile;
 use std::alloc::Global;
 use swh_base::Memory;
+use swh_naive_core::ByteFile;
 
 fn draw_length(draws: &mut Draws, file: &ByteFile) -> usize {
     let least = file.safe.len();

@@ -8,23 +8,11 @@ mod doing;
 #[cfg(test)]
 mod drawing;
 #[cfg(test)]
-mod files;
-#[cfg(test)]
 mod images;
-#[cfg(test)]
-mod machine;
-#[cfg(test)]
-mod plain;
 #[cfg(test)]
 mod random;
 #[cfg(test)]
-mod records;
-#[cfg(test)]
-mod said;
-#[cfg(test)]
 mod scripts;
-#[cfg(test)]
-mod verdict;
 #[cfg(test)]
 mod wished;
 #[cfg(test)]

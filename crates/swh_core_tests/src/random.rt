@@ -4,13 +4,11 @@ ghost use Rattle.swh_core.specs.Step.{IsMeant};
 
 use crate::doing::ACTORS;
 use crate::drawing::{Draws, draw_step};
-use crate::machine::{Machine, first_machine, take};
-use crate::plain::are_events;
-use crate::said::{Said, said_of};
 use std::alloc::Global;
 use std::test::Fail;
 use swh_base::{Namer, Sha1Namer};
 use swh_core::{Step, World};
+use swh_naive_core::{Machine, Said, are_events, first_machine, said_of, take};
 
 const LISTS: u64 = 200;
 

@@ -4,13 +4,13 @@ ghost use Rattle.std.specs.List.{AllByRecursion};
 ghost use Rattle.swh_core.specs.Step.{IsMeant};
 
 use crate::doing::{ACTORS, Doing, step_of};
-use crate::said::{Said, said_of, said_of_told};
 use crate::wished::{Mark, Wished};
 use crate::worked::{CONTENT, CONTENT_ID, DIRECTORY, DIRECTORY_ID, SNAPSHOT, SNAPSHOT_ID};
 use std::alloc::Global;
 use std::test::Fail;
 use swh_base::{Kind, Name, Namer, Sha1Namer};
 use swh_core::{Held, Step, Told, World};
+use swh_naive_core::{Said, said_of, said_of_told};
 
 /// A step, and what is told of it.
 type Row = (Doing<'static>, Said);

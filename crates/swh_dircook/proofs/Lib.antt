@@ -1,3 +1,9 @@
 pub mod DotNames
+pub mod Endings
+pub mod Lines
+pub mod Makings
+pub mod Paths
 pub mod Reread
+pub mod Rules
+pub mod Sums
 pub mod YardParts

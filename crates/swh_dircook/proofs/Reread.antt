@@ -7,10 +7,10 @@ use Rattle.std.proofs.lemmas.Bool.{eqb-true, leb-true, leb-false}
 use borrow.Author.Tests.{ltb-true}
 use Rattle.hex.specs.Hex.{encode_lower, lower_digits}
 use Rattle.hex.proofs.HexLemmas.{length-encode_with}
-use Rattle.swh_base.specs.Name.{IsId, is_lower_hex_digit}
+use Rattle.swh_base.specs.Name.{is_lower_hex_digit}
 use Rattle.swh_base.specs.Limits.{line_limit, path_limit}
 use Rattle.swh_base.proofs.Ids.{IsIdText-encode}
-use Rattle.swh_fastlex.specs.Path.{IsPath, Spells, PassesPath}
+use Rattle.swh_fastlex.specs.Path.{Spells, PassesPath}
 use Rattle.swh_fastlex.proofs.Runs.{whole_run}
 use Rattle.swh_fasttext.specs.Quoted.{is_quoted_byte, quoted_byte, quoted_path}
 use Rattle.swh_fasttext.proofs.Quotes.{names_again}
@@ -19,7 +19,7 @@ use Rattle.swh_listing.specs.declared.listed.Listed.{Listed}
 use Rattle.swh_listing.specs.declared.listed.Mode.{Mode}
 use Rattle.swh_listing.specs.declared.listed.Mode.TheVariants.{Executable, Link, Project}
 use Rattle.swh_listing.specs.Line.{mode_text, HasId, BeginsMode, SaysListed, PassesPathIn}
-use Rattle.swh_listing.specs.Listing.{HasLine, TakesLine, behind, Reads, IsListing}
+use Rattle.swh_listing.specs.Listing.{TakesLine, behind, Reads, IsListing}
 use Rattle.swh_listing.proofs.Modes.{one_mode}
 use Rattle.swh_dircook.specs.Listing.{listed_line, lines_text, MayBeListed}
 

@@ -1,9 +1,9 @@
 -- What a yard has of a file where its bytes could not all be put.
-use Rattle.std.proofs.Common.{◌≡◌, inl, inr, ℕ, List, [], ◌∷◌, ◌++◌, length, take, Result, Err, refl, sym, ap, ◌∙◌}
+use Rattle.std.proofs.Common.{◌≡◌, inl, inr, ℕ, List, [], ◌∷◌, ◌++◌, length, take, Err, refl, ap, ◌∙◌}
 use Rattle.swh_outside.specs.Sink.{Begun, FileAt, TakesSome}
 use Rattle.swh_dircook.specs.Made.{Made, FileMade, Yarded, yarded, Makes, MakesSome}
 
-same_yarded : (b c : List Begun) (s t : List ℕ) → b ≡ c → s ≡ t → yarded b s ≡ yarded c t
+pub same_yarded : (b c : List Begun) (s t : List ℕ) → b ≡ c → s ≡ t → yarded b s ≡ yarded c t
 same_yarded b c s t e f = λ k. record { begun = e k; taken = f k }
 
 some_of_file : (begun begun_now after : List Begun) (taken taken_now put path bytes : List ℕ) → begun_now ≡ begun ++ FileAt path (length taken) ∷ [] → taken_now ≡ taken → after ≡ begun_now → TakesSome taken_now bytes put

@@ -1,6 +1,7 @@
 -- How the cooking of a directory ends, and what it leaves in the yard.
-use Rattle.std.specs.Prelude.{◌≡◌, ℕ, Option, List}
+use Rattle.std.specs.Prelude.{◌≡◌, ◌⊎◌, ◌≤◌, ℕ, Option, List, Result, OnOk, IfErr}
 use Rattle.swh_base.specs.declared.name.Name.{Name}
+use Rattle.swh_outside.specs.Faults.{Rose}
 use Rattle.swh_model.specs.Archive.{Bodies}
 use Rattle.swh_postorder.specs.Postorder.{IsPostorder, IsFirstMissing}
 use Rattle.swh_pathwalk.specs.Tree.{Row, IsPathWalk}
@@ -8,7 +9,7 @@ use Rattle.swh_carried.specs.Uncarried.{IsUncarried, AreCarried}
 use Rattle.swh_carried.specs.declared.fault.Why.{Why}
 use Rattle.swh_carried.specs.declared.fault.CookFault.{CookFault}
 use Rattle.swh_carried.specs.declared.fault.CookFault.TheVariants.{NotHeld, Uncarried, WriteFault, Memory}
-use Rattle.swh_dircook.specs.Made.{Made, folder_made, Yarded, MakesSome}
+use Rattle.swh_dircook.specs.Made.{Made, folder_made, Yarded, after_made, MakesSome}
 use Rattle.swh_dircook.specs.Rules.{BreaksInFolder}
 
 -- This is all that is made of the directory: its folder, what stands in that, and its listing.
@@ -16,6 +17,18 @@ pub record IsFolderOf (bodies : Bodies) (root : Name) (out : List ℕ) (made : L
   pub rows : List Row
   pub walk : IsPathWalk bodies root rows
   pub are : made ≡ folder_made bodies out rows
+
+-- All of it was made.
+pub record MakesFolder (bodies : Bodies) (root : Name) (out : List ℕ) (old new : Yarded) : Type 0 where
+  pub made : List Made
+  pub folder : IsFolderOf bodies root out made
+  pub is : new ≡ after_made old made
+
+-- A front of it was made.
+pub record MakesFrontOfFolder (bodies : Bodies) (root : Name) (out : List ℕ) (old new : Yarded) : Type 0 where
+  pub made : List Made
+  pub folder : IsFolderOf bodies root out made
+  pub front : MakesSome old made new
 
 module _ (bodies : Bodies) (children_of : Name → Option (List Name)) (root : Name) where
   -- All that is reached is held, and a folder carries it.
@@ -30,9 +43,30 @@ module _ (bodies : Bodies) (children_of : Name → Option (List Name)) (root : N
     pub is_order : IsPostorder children_of root order
     pub is : IsUncarried children_of (BreaksInFolder bodies root) order name why
 
-  -- Why a folder is not made whole, and what stands then in a yard that tells. Of the first two, nothing was begun.
-  abbrev pub ExplainsNoFolder : List ℕ → Type 0 → Yarded → Yarded → CookFault → Type 0
-  ExplainsNoFolder out tells old new (NotHeld missing) = IsFirstMissing children_of root missing × (new ≡ old)
-  ExplainsNoFolder out tells old new (Uncarried name why) = IsUncarriedFolder name why × (new ≡ old)
-  ExplainsNoFolder out tells old new WriteFault = IsCarriedFolder × (tells → (made : List Made) → IsFolderOf bodies root out made → MakesSome old made new)
-  ExplainsNoFolder out tells old new Memory = tells → (made : List Made) → IsFolderOf bodies root out made → MakesSome old made new
+  -- Why there is no order that a folder carries. It says nothing where memory ran out.
+  abbrev pub ExplainsUncarried : CookFault → Type 0
+  ExplainsUncarried (NotHeld missing) = IsFirstMissing children_of root missing
+  ExplainsUncarried (Uncarried name why) = IsUncarriedFolder name why
+  ExplainsUncarried WriteFault = ⊥
+  ExplainsUncarried Memory = Unit {0}
+
+  -- Why a folder is not made whole, and what stands then in the yard, where it is said that the yard is as it was. With the
+  -- first two it is, whether it tells of itself or not; with the others a yard that tells has a front of the folder.
+  abbrev pub ExplainsNoFolder : List ℕ → Type 0 → Type 0 → Yarded → Yarded → CookFault → Type 0
+  ExplainsNoFolder out tells same old new (NotHeld missing) = IsFirstMissing children_of root missing × same
+  ExplainsNoFolder out tells same old new (Uncarried name why) = IsUncarriedFolder name why × same
+  ExplainsNoFolder out tells same old new WriteFault = IsCarriedFolder × (tells → MakesFrontOfFolder bodies root out old new)
+  ExplainsNoFolder out tells same old new Memory = same ⊎ (IsCarriedFolder × (tells → MakesFrontOfFolder bodies root out old new))
+
+-- What the count of faults does where a folder is not made whole: it rose just where the yard failed.
+abbrev pub CookBreaks : ℕ → ℕ → CookFault → Type 0
+CookBreaks before now (NotHeld name) = now ≡ before
+CookBreaks before now (Uncarried name why) = now ≡ before
+CookBreaks before now WriteFault = Rose before now
+CookBreaks before now Memory = now ≡ before
+
+-- what it does in a call that makes a folder
+pub record HasCookCause {T : Type 0} (before now : ℕ) (result : Result T CookFault) : Type 0 where
+  pub later : before ≤ now
+  pub failed : IfErr result (CookBreaks before now)
+  pub quiet : OnOk result (now ≡ before)

@@ -1,4 +1,5 @@
 pub mod Cook
+pub mod Lengths
 pub mod Listing
 pub mod Made
 pub mod Names

@@ -155,15 +155,13 @@ module _ (id : Kind → List ℕ → List ℕ) (tree : Tree) where
 
   -- ## One way to break
 
-  -- how an item that may not stand in a folder is told
-  abbrev walk_fault : List ℕ → What → DirFault
-  walk_fault path item.File = Limit Path (length path)
-  walk_fault path item.Folder = Limit Path (length path)
-  walk_fault path item.Other = OtherKind path
+  -- How an item that may not stand in a folder is told.
+  abbrev IsToldAs : List ℕ → DirFault → Type 0
+  IsToldAs path fault = ((path_limit < length path) × (fault ≡ Limit Path (length path))) ⊎ ((length path ≤ path_limit) × (fault ≡ OtherKind path))
 
   -- The ways in which a folder with its listing breaks, in their order.
   data Form (text : List ℕ) (fault : DirFault) : Type 0 where
-    AtItem : (path : List ℕ) (what : What) → ComesTo tree path what → (Fits path what → ⊥) → fault ≡ walk_fault path what → Form text fault
+    AtItem : (path : List ℕ) (what : What) → ComesTo tree path what → (Fits path what → ⊥) → IsToldAs path fault → Form text fault
     AtFile : (items : List Item) (which : Which) (number : ℕ) → IsWalk tree items → StopsAt id tree [] items (Limit which number) → fault ≡ Limit which number → Form text fault
     AtDirectory : (size : ℕ) → HasLong id tree size → fault ≡ Limit Body size → Form text fault
     AtLine : (items : List Item) (before : Places) (contents : List Entry) (own : ListingFault) → HasFolder id tree items before contents → IsOwn own → Stops before text own → fault ≡ listing_fault own → Form text fault
@@ -171,11 +169,6 @@ module _ (id : Kind → List ℕ → List ℕ) (tree : Tree) where
 
   limit_is : (which other : Which) (m n : ℕ) → which ≡ other → m ≡ n → Limit which m ≡ Limit other n
   limit_is which other m n e f = ap (λ (w : Which). Limit w m) e ∙ ap (Limit other) f
-
-  walk_limit : (path : List ℕ) (what : What) → what ≢ item.Other → Limit Path (length path) ≡ walk_fault path what
-  walk_limit path item.File h = refl
-  walk_limit path item.Folder h = refl
-  walk_limit path item.Other h = absurd (h refl)
 
   form_of_line : (text : List ℕ) (line : ℕ) → BreaksAt id tree text line → Form text (BadModes line)
   form_of_line text line h =
@@ -190,11 +183,13 @@ module _ (id : Kind → List ℕ → List ℕ) (tree : Tree) where
           by_sum (inr n) = inr (ap listing.BadModes b.number, n)
 
   form_of : (text : List ℕ) (fault : DirFault) → BreaksFolder id tree text fault → Form text fault
-  form_of text (OtherKind path) h = AtItem path item.Other h (λ fits. fits.0 refl) refl
+  form_of text (OtherKind path) h = AtItem path item.Other h.0 (λ fits. fits.0 refl) (inr (h.1, refl))
   form_of text (BadModes line) h = form_of_line text line h
   form_of text (Limit which number) (inl (inl h)) =
       let e = h.3 in
-      AtItem h.0 h.1 h.2 (λ fits. let le = fits.1 in let long = e.3 in let n = e.2 in omega (arith, le, long, n)) (limit_is which Path number (length h.0) e.1 e.2 ∙ walk_limit h.0 h.1 e.0)
+      let n = e.1 in
+      let long = e.2 in
+      AtItem h.0 h.1 h.2 (λ fits. let le = fits.1 in omega (arith, le, long, n)) (inl (omega (arith, long, n), limit_is which Path number (length h.0) e.0 n))
   form_of text (Limit which number) (inl (inr (inl h))) = AtFile h.items which number h.walk h.stops refl
   form_of text (Limit which number) (inl (inr (inr h))) = AtDirectory number h.1 (ap (λ (w : Which). Limit w number) h.0)
   form_of text (Limit which number) (inr (inl h)) =
@@ -227,10 +222,17 @@ module _ (id : Kind → List ℕ → List ℕ) (tree : Tree) where
       let stand = same_listed text h.items items h.places places h.contents contents h.reads both in
       long_or_short h.places places items size stand (subst (λ (xs : List Item). IsFirstLong h.places xs size) f.0 h.first) short
 
-  two_items : (path other : List ℕ) (what kind : What) → (Fits path what → ⊥) → (Fits other kind → ⊥) → ComesTo tree path what → ComesTo tree other kind → walk_fault path what ≡ walk_fault other kind
-  two_items path other what kind unfit misfit a b =
-      let e = comes_to_one tree path other what kind unfit misfit a b in
-      ap (λ (p : List ℕ). walk_fault p what) e.0 ∙ ap (walk_fault other) e.1
+  two_items : (path other : List ℕ) (what kind : What) (f g : DirFault) → (Fits path what → ⊥) → (Fits other kind → ⊥) → ComesTo tree path what → ComesTo tree other kind → IsToldAs path f → IsToldAs other g → f ≡ g
+  two_items path other what kind f g unfit misfit a b = by_told
+    where
+      same : path ≡ other
+      same = (comes_to_one tree path other what kind unfit misfit a b).0
+
+      by_told : IsToldAs path f → IsToldAs other g → f ≡ g
+      by_told (inl x) (inl y) = x.1 ∙ ap (λ (p : List ℕ). Limit Path (length p)) same ∙ sym y.1
+      by_told (inl x) (inr y) = let long = x.0 in let short = y.0 in let n = ap length same in absurd (omega (arith, long, short, n))
+      by_told (inr x) (inl y) = let short = x.0 in let long = y.0 in let n = ap length same in absurd (omega (arith, long, short, n))
+      by_told (inr x) (inr y) = x.1 ∙ ap OtherKind same ∙ sym y.1
 
   two_files : (items others : List Item) (which other : Which) (m n : ℕ) → IsWalk tree items → IsWalk tree others → StopsAt id tree [] items (Limit which m) → StopsAt id tree [] others (Limit other n) → Limit which m ≡ Limit other n
   two_files items others which other m n walk walked s t =
@@ -259,7 +261,7 @@ module _ (id : Kind → List ℕ → List ℕ) (tree : Tree) where
 
   -- a way of a later part leaves none of an earlier one
   one_form : (text : List ℕ) (f g : DirFault) → Form text f → Form text g → f ≡ g
-  one_form text f g (AtItem p w c u e) (AtItem q v d x i) = e ∙ two_items p q w v u x c d ∙ sym i
+  one_form text f g (AtItem p w c u e) (AtItem q v d x i) = two_items p q w v f g u x c d e i
   one_form text f g (AtItem p w c u e) (AtFile items which n walk stops i) = absurd (walk_not p w items u c walk)
   one_form text f g (AtItem p w c u e) (AtDirectory size h i) = absurd (walk_not p w h.items u c h.reads.walk)
   one_form text f g (AtItem p w c u e) (AtLine items before contents own h is s i) = absurd (walk_not p w items u c h.reads.walk)

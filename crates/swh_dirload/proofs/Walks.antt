@@ -1,8 +1,9 @@
 -- Walks, item by item.
-use Rattle.std.proofs.Common.{◌≡◌, ℕ, ◌<◌, List, [], ◌∷◌, ◌++◌, length, map, refl, sym, ap, ◌∙◌, subst, arith}
+use Rattle.std.proofs.Common.{◌≡◌, ℕ, ◌<◌, ◌≤◌, List, [], ◌∷◌, ◌++◌, length, map, refl, sym, ap, ◌∙◌, subst, arith}
 use Rattle.std.specs.Prelude.{string_bytes}
 use Rattle.std.proofs.lemmas.List.{map-append}
 use Rattle.std.proofs.Math.Seq.{get_or-append_seam}
+use Rattle.swh_base.specs.Limits.{path_limit}
 use Rattle.swh_outside.specs.Folder.{Tree}
 use Rattle.swh_outside.specs.Listing.{listed}
 use Rattle.swh_outside.specs.declared.folder.Item as listing
@@ -77,7 +78,7 @@ visits_file tree found next waiting found_now waiting_now below pushed waits f o
 pub explains_walk : (tree : Tree) (path : List ℕ) (what : What) (before rest : List Item) (fault : DirFault) → Takes tree (root ∷ []) before ((path, what) ∷ rest) → AllFit before → ExplainsItem path what fault → ExplainsWalk tree fault
 explains_walk tree path what before rest (OtherKind other) takes fit h =
     let comes : ComesTo tree path what = record { before = before; rest = rest; takes = takes; fit = fit } in
-    subst (λ (p : List ℕ). ComesTo tree p Other) (sym h.1) (subst (λ (w : What). ComesTo tree path w) h.0 comes)
+    (subst (λ (p : List ℕ). ComesTo tree p Other) (sym h.1) (subst (λ (w : What). ComesTo tree path w) h.0 comes), subst (λ (p : List ℕ). length p ≤ path_limit) (sym h.1) h.2)
 explains_walk tree path what before rest (BadModes line) takes fit h = h
 explains_walk tree path what before rest (Limit which number) takes fit h =
     let comes : ComesTo tree path what = record { before = before; rest = rest; takes = takes; fit = fit } in

@@ -1,5 +1,5 @@
 -- Why a folder may be refused, whatever it and its listing hold, also where they do not tell.
-use Rattle.std.specs.Prelude.{◌≡◌, ◌<◌, ◌≤◌, ◌+◌, ℕ}
+use Rattle.std.specs.Prelude.{◌≡◌, ◌<◌, ◌≤◌, ◌+◌, ℕ, length}
 use Rattle.swh_base.specs.Limits.{body_limit, line_limit, path_limit}
 use Rattle.swh_base.specs.declared.visit.Which.{Which}
 use Rattle.swh_base.specs.declared.visit.Which.TheVariants.{Body, Objects, Bytes, Store, Ledger, Stream, Line, Path, Ref, Refs}
@@ -22,7 +22,7 @@ IsAbove Refs number = ⊥
 
 -- A folder may be refused for this, whatever it and its listing hold.
 abbrev pub MayRefuse : DirFault → Type 0
-MayRefuse (OtherKind path) = Unit {0}
+MayRefuse (OtherKind path) = length path ≤ path_limit
 MayRefuse (BadModes line) = 1 ≤ line
 MayRefuse (Limit which number) = IsAbove which number
 MayRefuse ReadFault = Unit {0}

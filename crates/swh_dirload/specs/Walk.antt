@@ -1,6 +1,6 @@
 -- The path walk of a folder: the folder itself, and then the items of each folder in the order of a directory, each folder
 -- followed at once by its own items.
-use Rattle.std.specs.Prelude.{◌≡◌, ◌≢◌, ◌<◌, ℕ, List, [], ◌∷◌, ◌++◌, length}
+use Rattle.std.specs.Prelude.{◌≡◌, ◌<◌, ◌≤◌, ℕ, List, [], ◌∷◌, ◌++◌, length}
 use Rattle.std.specs.List.{AllByRecursion}
 use Rattle.swh_base.specs.Limits.{path_limit}
 use Rattle.swh_base.specs.declared.visit.Which.TheVariants.{Path}
@@ -44,16 +44,16 @@ pub record ComesTo (tree : Tree) (path : List ℕ) (what : What) : Type 0 where
 
 -- Why no folder may have an item. Of a folder that fails and of want of memory nothing is said.
 abbrev pub ExplainsItem : List ℕ → What → DirFault → Type 0
-ExplainsItem path what (OtherKind other) = (what ≡ Other) × (other ≡ path)
+ExplainsItem path what (OtherKind other) = (what ≡ Other) × (other ≡ path) × (length path ≤ path_limit)
 ExplainsItem path what (BadModes line) = ⊥
-ExplainsItem path what (Limit which number) = (what ≢ Other) × (which ≡ Path) × (number ≡ length path) × (path_limit < number)
+ExplainsItem path what (Limit which number) = (which ≡ Path) × (number ≡ length path) × (path_limit < number)
 ExplainsItem path what ReadFault = Unit {0}
 ExplainsItem path what Memory = Unit {0}
 
 -- Why a folder has no walk of items that may stand in one: the first that may not. Of a folder that fails and of want of
 -- memory nothing is said.
 abbrev pub ExplainsWalk : Tree → DirFault → Type 0
-ExplainsWalk tree (OtherKind path) = ComesTo tree path Other
+ExplainsWalk tree (OtherKind path) = ComesTo tree path Other × (length path ≤ path_limit)
 ExplainsWalk tree (BadModes line) = ⊥
 ExplainsWalk tree (Limit which number) = (path : List ℕ) × (what : What) × ComesTo tree path what × ExplainsItem path what (Limit which number)
 ExplainsWalk tree ReadFault = Unit {0}

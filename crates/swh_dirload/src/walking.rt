@@ -2,7 +2,6 @@
 ghost use Rattle.std.specs.Prelude.{◌≡◌, ◌≢◌, ◌++◌, ◌∷◌, [], ◌<◌, ◌≤◌, IfOk, IfErr, OnOk, IsErrOf, length, map, string_bytes};
 ghost use Rattle.swh_outside.specs.Faults.{Rose};
 ghost use Rattle.swh_dirload.specs.declared.fault.DirFault.TheVariants.{ReadFault as NotRead, Memory as NoRoom};
-ghost use Rattle.swh_outside.specs.declared.folder.What.TheVariants.{Other as NeitherKind};
 ghost use Rattle.swh_dirload.specs.Items.{Fits};
 ghost use Rattle.swh_dirload.specs.Found.{path_in, paths_of, items_of, IsPlaced, ArePlaced, AreBelow, AreNamedBehind, found_in, items_under};
 ghost use Rattle.swh_dirload.specs.May.{MayRefuse};
@@ -17,15 +16,13 @@ use std::collections::VecDeque;
 use swh_base::{Bytes, PATH_LIMIT, Which};
 use swh_outside::{Folder, Item, What};
 
-/// The path, unless it is too long.
-fn within(path: String, what: What) -> Result<String, DirFault>
-    requires { what ≢ NeitherKind }
+/// The path, unless it is too long, or no folder may have an item of this kind.
+fn fitting(path: String, what: What) -> Result<String, DirFault>
     ensures ok { IfOk result (λ kept. (kept ≡ path) × Fits (string_bytes path) what) }
     ensures err { IfErr result (ExplainsItem (string_bytes path) what) }
     ensures not_read { IfErr result (λ fault. fault ≢ NotRead) }
     ensures not_memory { IfErr result (λ fault. fault ≢ NoRoom) }
 {
-    let _what = what;
     let number = path.as_bytes().len();
     if number > PATH_LIMIT {
         return Err(DirFault::Limit {
@@ -33,19 +30,8 @@ fn within(path: String, what: What) -> Result<String, DirFault>
             number: number as u64,
         });
     }
-    Ok(path)
-}
-
-/// The path, unless no folder may have an item of this kind there.
-fn fitting(path: String, what: What) -> Result<String, DirFault>
-    ensures ok { IfOk result (λ kept. (kept ≡ path) × Fits (string_bytes path) what) }
-    ensures err { IfErr result (ExplainsItem (string_bytes path) what) }
-    ensures not_read { IfErr result (λ fault. fault ≢ NotRead) }
-    ensures not_memory { IfErr result (λ fault. fault ≢ NoRoom) }
-{
     match what {
-        What::File => within(path, what),
-        What::Folder => within(path, what),
+        What::File | What::Folder => Ok(path),
         What::Other => Err(DirFault::OtherKind {
             path: Bytes::from_vec(path.into_bytes()),
         }),

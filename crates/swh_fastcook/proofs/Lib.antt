@@ -1,11 +1,17 @@
 pub mod Acyclic
 pub mod CommitTexts
+pub mod Cooked
 pub mod EndTexts
 pub mod FileWalks
+pub mod HeadTargets
+pub mod Judged
 pub mod Kids
+pub mod Lengths
 pub mod Lines
+pub mod Loads
 pub mod Marked
 pub mod ObjectTexts
 pub mod OneText
 pub mod StreamTexts
+pub mod TagMaps
 pub mod Texts

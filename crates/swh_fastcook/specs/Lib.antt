@@ -1,6 +1,10 @@
 pub mod Cause
+pub mod Cook
 pub mod Ends
 pub mod Files
+pub mod Length
+pub mod Loaded
 pub mod Marks
+pub mod Ready
 pub mod Stream
 pub mod Tips

@@ -4,6 +4,7 @@ use Rattle.std.specs.Prelude.{IfOk, IfErr, OnOk}
 use Rattle.swh_base.specs.declared.kind.Kind.{Kind}
 use Rattle.swh_base.specs.declared.entry.Entry.{Entry}
 use Rattle.swh_base.specs.declared.visit.Status.{Status}
+use Rattle.swh_base.specs.declared.visit.VisitKind.{VisitKind}
 use Rattle.swh_base.specs.declared.visit.Status.TheVariants.{Ongoing}
 use Rattle.swh_base.specs.Visit.{Statuses}
 use Rattle.swh_model.specs.declared.event.EventKind.{EventKind}
@@ -137,8 +138,8 @@ module _ {S : Type 0} (id : Kind → List ℕ → List ℕ) (w : Words S) (law :
         (after_as id w law (IsOwn w.alone A t number) (IsOwn w.alone B t number) (IsOwnAsked A t number) (IsOwnAsked B t number) [] m b why (own_as w A B t number f) (own_asked_as A B t number f) k)
 
   -- a visit that was opened under the loader's number
-  pub opens_by : (origin : List ℕ) (date by : ℕ) (a m : S) (number : ℕ) → (w.known a).number ≡ by → Opens id w (attempt (w.known a).number origin date) a m number → Opens id w (attempt by origin date) a m number
-  opens_by origin date by a m number same h = subst (λ (n : ℕ). Opens id w (attempt n origin date) a m number) same h
+  pub opens_by : (origin : List ℕ) (kind : VisitKind) (date by : ℕ) (a m : S) (number : ℕ) → (w.known a).number ≡ by → Opens id w (attempt (w.known a).number origin kind date) a m number → Opens id w (attempt by origin kind date) a m number
+  opens_by origin kind date by a m number same h = subst (λ (n : ℕ). Opens id w (attempt n origin kind date) a m number) same h
 
   pub opened_ready : (t : Attempt) (a m : S) (number : ℕ) → Opens id w t a m number → w.ready m
   opened_ready t a m number h = law.ready (open_event t ∷ []) a m h.adds

@@ -6,7 +6,6 @@ use Rattle.swh_base.specs.declared.name.Name.{Name}
 use Rattle.swh_base.specs.declared.visit.Status.{Status}
 use Rattle.swh_base.specs.declared.visit.Status.TheVariants.{Created, Ongoing, Full, Partial, NotFound, Failed}
 use Rattle.swh_base.specs.declared.visit.VisitKind.{VisitKind}
-use Rattle.swh_base.specs.declared.visit.VisitKind.TheVariants.{Fast}
 use Rattle.swh_base.specs.Snapshot.{snapshot_name}
 use Rattle.swh_base.specs.Visit.{Statuses}
 use Rattle.swh_model.specs.declared.event.Event.{Event}
@@ -34,23 +33,23 @@ use Rattle.swh_walk.specs.Stopping.{MayStop, IsWhyOf}
 use Rattle.swh_walk.specs.Visiting.{next_visit, visit_with, IsVisit, IsMine, HasLast}
 use Rattle.swh_walk.specs.Walking.{Adds, Opens, StopsNow}
 
-get-last : (vs : List Visit) (v : Visit) → slice_get (vs ++ v ∷ []) (length vs) ≡ Some v
+pub get-last : (vs : List Visit) (v : Visit) → slice_get (vs ++ v ∷ []) (length vs) ≡ Some v
 get-last [] v = refl
 get-last (x ∷ vs) v = get-last vs v
 
-get-marked_self : (vs : List Visit) (k : ℕ) (v : Visit) (s : Status) (snapshot : Option (List ℕ)) → slice_get vs k ≡ Some v → slice_get (marked_at vs k s snapshot) k ≡ Some (with_status v s snapshot)
+pub get-marked_self : (vs : List Visit) (k : ℕ) (v : Visit) (s : Status) (snapshot : Option (List ℕ)) → slice_get vs k ≡ Some v → slice_get (marked_at vs k s snapshot) k ≡ Some (with_status v s snapshot)
 get-marked_self [] k v s snapshot e = absurd (let f : None ≡ Some v = e in cc)
 get-marked_self (x ∷ vs) zero v s snapshot e = let same : x ≡ v = cc in ap (λ (y : Visit). Some (with_status y s snapshot)) same
 get-marked_self (x ∷ vs) (suc k) v s snapshot e = get-marked_self vs k v s snapshot e
 
-one_less : (n : ℕ) → n + 1 - 1 ≡ n
+pub one_less : (n : ℕ) → n + 1 - 1 ≡ n
 one_less n = omega arith
 
 -- a visit that was opened
 opened_there : (h : List Event) (t : Attempt) → IsVisit (h ++ open_event t ∷ []) t (next_visit h t.origin) ((Created, None) ∷ [])
 opened_there h t =
     let visits = visits_of (replay h).origins t.origin in
-    let first = first_of (length visits + 1) t.date Fast t.by in
+    let first = first_of (length visits + 1) t.date t.kind t.by in
     let all : visits_of (replay (h ++ open_event t ∷ [])).origins t.origin ≡ visits ++ first ∷ [] = ap (λ (x : Archive). visits_of x.origins t.origin) (replay-append h (open_event t ∷ [])) ∙ visits-put (replay h).origins t.origin (visits ++ first ∷ []) in
     let at : visit_at (visits ++ first ∷ []) (length visits + 1) ≡ Some first = ap (slice_get (visits ++ first ∷ [])) (one_less (length visits)) ∙ get-last visits first in
     record { positive = omega arith; there = ap (λ (vs : List Visit). visit_at vs (length visits + 1)) all ∙ at }
@@ -69,12 +68,12 @@ marked_there h by t number statuses status snapshot v =
 abbrev visit_of : ℕ → ℕ → VisitKind → ℕ → Statuses → Visit
 visit_of number date kind by statuses = record { number = number; date = date; kind = kind; by = by; statuses = statuses }
 
-same_opening : (t : Attempt) (number : ℕ) (x : Visit) → x.number ≡ number → x.date ≡ t.date → x.kind ≡ Fast → x.by ≡ t.by → x ≡ visit_with t number x.statuses
+same_opening : (t : Attempt) (number : ℕ) (x : Visit) → x.number ≡ number → x.date ≡ t.date → x.kind ≡ t.kind → x.by ≡ t.by → x ≡ visit_with t number x.statuses
 same_opening t number x n d k b =
     ap (λ (m : ℕ). visit_of m x.date x.kind x.by x.statuses) n
     ∙ ap (λ (m : ℕ). visit_of number m x.kind x.by x.statuses) d
     ∙ ap (λ (m : VisitKind). visit_of number t.date m x.by x.statuses) k
-    ∙ ap (λ (m : ℕ). visit_of number t.date Fast m x.statuses) b
+    ∙ ap (λ (m : ℕ). visit_of number t.date t.kind m x.statuses) b
 
 -- a visit goes on
 pub record GoesOn (h : List Event) (t : Attempt) (number : ℕ) : Type 0 where
@@ -95,10 +94,10 @@ opened_number : (o : Outcome) (m n event visit : ℕ) → o ≡ Opened m n → o
 opened_number o m n event visit e f = let both : Opened m n ≡ Opened event visit = sym e ∙ f in cc
 
 -- an opening that was carried out
-pub carried_opens : {S : Type 0} (id : Kind → List ℕ → List ℕ) (w : Words S) (a b : S) (origin : List ℕ) (date : ℕ) (outcome : Outcome) (event visit : ℕ) → CarriesOut id w (wished.Open origin Fast date) a b outcome → outcome ≡ Opened event visit
-    → Opens id w (attempt (w.known a).number origin date) a b visit
-carried_opens id w a b origin date outcome event visit c is =
-    let t = attempt (w.known a).number origin date in
+pub carried_opens : {S : Type 0} (id : Kind → List ℕ → List ℕ) (w : Words S) (a b : S) (origin : List ℕ) (kind : VisitKind) (date : ℕ) (outcome : Outcome) (event visit : ℕ) → CarriesOut id w (wished.Open origin kind date) a b outcome → outcome ≡ Opened event visit
+    → Opens id w (attempt (w.known a).number origin kind date) a b visit
+carried_opens id w a b origin kind date outcome event visit c is =
+    let t = attempt (w.known a).number origin kind date in
     let number : visit ≡ next_visit c.base origin = opened_number outcome (length c.base + 1) (next_visit c.base origin) event visit c.verdict.2 is in
     let this : c.event ≡ open_event t = c.verdict.1 in
     let front : (w.known b).front ≡ c.base ++ open_event t ∷ [] = c.front ∙ ap (λ (e : Event). c.base ++ e ∷ []) this in record {
@@ -110,23 +109,23 @@ carried_opens id w a b origin date outcome event visit c is =
       adds = subst (λ (e : Event). w.adds (e ∷ []) a b) this c.adds;
     }
 
-against_open : {S : Type 0} (id : Kind → List ℕ → List ℕ) (w : Words S) (a b : S) (origin : List ℕ) (date : ℕ) (c : Cause) → RefusesPlan id w (wished.Open origin Fast date) a b (refusal.No c) → MayStop (refusal.No c)
-against_open id w a b origin date (cause.Limit which number) r = tt
-against_open id w a b origin date (cause.Ended status) r = tt
-against_open id w a b origin date (cause.NoVisit have) r = r.against.0.0
-against_open id w a b origin date (cause.NotYours by) r = r.against.0.0
-against_open id w a b origin date (cause.NoSnapshot name) r = r.against.0.0
-against_open id w a b origin date (cause.NotClosed parent child) r = r.against.0.0
-against_open id w a b origin date (cause.Collision name) r = r.against.0.0
+against_open : {S : Type 0} (id : Kind → List ℕ → List ℕ) (w : Words S) (a b : S) (origin : List ℕ) (kind : VisitKind) (date : ℕ) (c : Cause) → RefusesPlan id w (wished.Open origin kind date) a b (refusal.No c) → MayStop (refusal.No c)
+against_open id w a b origin kind date (cause.Limit which number) r = tt
+against_open id w a b origin kind date (cause.Ended status) r = tt
+against_open id w a b origin kind date (cause.NoVisit have) r = r.against.0.0
+against_open id w a b origin kind date (cause.NotYours by) r = r.against.0.0
+against_open id w a b origin kind date (cause.NoSnapshot name) r = r.against.0.0
+against_open id w a b origin kind date (cause.NotClosed parent child) r = r.against.0.0
+against_open id w a b origin kind date (cause.Collision name) r = r.against.0.0
 
-pub open_may : {S : Type 0} (id : Kind → List ℕ → List ℕ) (w : Words S) (a b : S) (origin : List ℕ) (date : ℕ) (r : Refusal) → RefusesPlan id w (wished.Open origin Fast date) a b r → MayStop r
-open_may id w a b origin date (refusal.No c) r = against_open id w a b origin date c r
-open_may id w a b origin date refusal.DiskFault r = tt
-open_may id w a b origin date refusal.Wounded r = tt
-open_may id w a b origin date (refusal.Memory stands) r = tt
+pub open_may : {S : Type 0} (id : Kind → List ℕ → List ℕ) (w : Words S) (a b : S) (origin : List ℕ) (kind : VisitKind) (date : ℕ) (r : Refusal) → RefusesPlan id w (wished.Open origin kind date) a b r → MayStop r
+open_may id w a b origin kind date (refusal.No c) r = against_open id w a b origin kind date c r
+open_may id w a b origin kind date refusal.DiskFault r = tt
+open_may id w a b origin kind date refusal.Wounded r = tt
+open_may id w a b origin kind date (refusal.Memory stands) r = tt
 
-pub open_stops : {S : Type 0} (id : Kind → List ℕ → List ℕ) (w : Words S) (a b : S) (origin : List ℕ) (date : ℕ) (r : Refusal) (why : Stop) → RefusesPlan id w (wished.Open origin Fast date) a b r → IsWhyOf r why → StopsNow id w (IsWished (wished.Open origin Fast date)) a b why
-open_stops id w a b origin date r why refuses is = inr (record { wish = wished.Open origin Fast date; tried = refl; ready = tt; refusal = r; is_why = is; refuses = refuses })
+pub open_stops : {S : Type 0} (id : Kind → List ℕ → List ℕ) (w : Words S) (a b : S) (origin : List ℕ) (kind : VisitKind) (date : ℕ) (r : Refusal) (why : Stop) → RefusesPlan id w (wished.Open origin kind date) a b r → IsWhyOf r why → StopsNow id w (IsWished (wished.Open origin kind date)) a b why
+open_stops id w a b origin kind date r why refuses is = inr (record { wish = wished.Open origin kind date; tried = refl; ready = tt; refusal = r; is_why = is; refuses = refuses })
 
 -- the visit of a number that is there
 none_past : (us : List Visit) (j : ℕ) (y : Visit) → slice_get us j ≡ Some y → length us ≤ j → ⊥

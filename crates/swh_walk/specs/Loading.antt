@@ -4,7 +4,6 @@ use Rattle.swh_base.specs.declared.kind.Kind.{Kind}
 use Rattle.swh_base.specs.declared.entry.Entry.{Entry}
 use Rattle.swh_base.specs.declared.visit.Status.{Status}
 use Rattle.swh_base.specs.declared.visit.Status.TheVariants.{Ongoing, Full as FullStatus, NotFound as NotFoundStatus, Failed as FailedStatus}
-use Rattle.swh_base.specs.declared.visit.VisitKind.TheVariants.{Fast}
 use Rattle.swh_base.specs.Visit.{Statuses}
 use Rattle.swh_model.specs.declared.event.EventKind.{EventKind}
 use Rattle.swh_model.specs.declared.event.EventKind.TheVariants.{Batch, Mark}
@@ -130,7 +129,7 @@ module _ {S : Type 0} (id : Kind → List ℕ → List ℕ) (w : Words S) where
     -- It stopped before its visit was opened.
     pub record StopsUnopened (fault : LoadFault) : Type 0 where
       pub no_visit : fault.visit ≡ 0
-      pub now : StopsNow id w (IsWished (wished.Open t.origin Fast t.date)) a b fault.why
+      pub now : StopsNow id w (IsWished (wished.Open t.origin t.kind t.date)) a b fault.why
 
     -- It stopped once its visit was opened.
     pub record StopsOpened (fault : LoadFault) : Type 0 where

@@ -3,7 +3,7 @@ use Rattle.std.specs.Prelude.{◌≡◌, ◌≢◌, ℕ, Bool, true, Option, Lis
 use Rattle.std.specs.List.{AllByRecursion}
 use Rattle.swh_base.specs.declared.entry.Entry.{Entry}
 use Rattle.swh_base.specs.declared.visit.Status.{Status}
-use Rattle.swh_base.specs.declared.visit.VisitKind.TheVariants.{Fast}
+use Rattle.swh_base.specs.declared.visit.VisitKind.{VisitKind}
 use Rattle.swh_base.specs.Visit.{Statuses}
 use Rattle.swh_model.specs.declared.event.Event.{Event}
 use Rattle.swh_model.specs.declared.event.EventKind.{EventKind}
@@ -12,23 +12,24 @@ use Rattle.swh_model.specs.declared.event.Wish.{Wish}
 use Rattle.swh_model.specs.declared.event.Wish.TheVariants as wished
 use Rattle.swh_walk.specs.declared.visiting.OpenVisit.{OpenVisit}
 
--- who loads which origin, and when
+-- who loads which origin, by which kind of input, and when
 pub record Attempt : Type 0 where
   pub by : ℕ
   pub origin : List ℕ
+  pub kind : VisitKind
   pub date : ℕ
 
--- the attempt of the worker `by` to load this origin on this date
-abbrev pub attempt : ℕ → List ℕ → ℕ → Attempt
-attempt by origin date = record { by = by; origin = origin; date = date }
+-- the attempt of the worker `by` to load this origin by an input of this kind on this date
+abbrev pub attempt : ℕ → List ℕ → VisitKind → ℕ → Attempt
+attempt by origin kind date = record { by = by; origin = origin; kind = kind; date = date }
 
--- who opened a visit, of which origin, and when
+-- who opened a visit, of which origin, of which kind, and when
 abbrev pub attempt_of : OpenVisit → Attempt
-attempt_of visit = attempt visit.by visit.origin.now visit.date
+attempt_of visit = attempt visit.by visit.origin.now visit.kind visit.date
 
 -- the event that opens its visit
 abbrev pub open_event : Attempt → Event
-open_event a = record { by = a.by; what = Open a.origin Fast a.date }
+open_event a = record { by = a.by; what = Open a.origin a.kind a.date }
 
 -- what marks its visit with this number
 abbrev pub mark_of : Attempt → ℕ → Status → Option (List ℕ) → EventKind

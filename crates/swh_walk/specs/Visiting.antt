@@ -1,7 +1,6 @@
 -- What a loader knows of its visit.
 use Rattle.std.specs.Prelude.{◌≡◌, ℕ, ◌+◌, ◌<◌, Option, Some, List, [], ◌∷◌, ◌++◌, length}
 use Rattle.swh_base.specs.declared.visit.Status.{Status}
-use Rattle.swh_base.specs.declared.visit.VisitKind.TheVariants.{Fast}
 use Rattle.swh_base.specs.Visit.{Statuses}
 use Rattle.swh_model.specs.declared.event.Event.{Event}
 use Rattle.swh_model.specs.declared.event.Visit.{Visit}
@@ -14,9 +13,9 @@ use Rattle.swh_walk.specs.Owning.{Attempt}
 abbrev pub next_visit : List Event → List ℕ → ℕ
 next_visit h origin = length (visits_of (replay h).origins origin) + 1
 
--- a visit of a stream
+-- the visit of an attempt
 abbrev pub visit_with : Attempt → ℕ → Statuses → Visit
-visit_with a number statuses = record { number = number; date = a.date; kind = Fast; by = a.by; statuses = statuses }
+visit_with a number statuses = record { number = number; date = a.date; kind = a.kind; by = a.by; statuses = statuses }
 
 -- The origin's visit with this number was opened by this attempt, and has these statuses.
 pub record IsVisit (h : List Event) (a : Attempt) (number : ℕ) (statuses : Statuses) : Type 0 where

@@ -1,5 +1,5 @@
 // What is loaded.
-use swh_base::{Namer, Url};
+use swh_base::{Namer, Url, VisitKind};
 use swh_made::Objects;
 
 /// How an input was found.
@@ -22,10 +22,11 @@ pub enum Input<N: Namer, B> {
     Bad(B),
 }
 
-/// An origin, when it is loaded, how its input was found, and how that is read.
+/// An origin, the kind of its visit, when it is loaded, how its input was found, and how that is read.
 #[derive(Drop)]
 pub struct Job<'a, R> {
     pub origin: &'a Url,
+    pub kind: VisitKind,
     pub date: u64,
     pub opening: Opening,
     pub read: R,

@@ -222,23 +222,24 @@ pub fn load<N: Namer, S, P: Place<Plan<N>, S>, I, B: Drop, R: Reads<I, Input<N, 
     // The visit is the next of its origin, and has the statuses of the end that is told.
     ensures ended { IfOk result (EndsOwn N.id_of (P.words place.now)
         (AreAllowed (R.gives job.now.read) job.now.opening input.old)
-        (attempt turn.now.worker.now.by job.now.origin.now job.now.date) seat.old seat.new) }
+        (attempt turn.now.worker.now.by job.now.origin.now job.now.kind job.now.date) seat.old seat.new) }
     // The end says what the input gave, and what is held.
     ensures end { IfOk result (λ loaded. IsEndAt (R.gives job.now.read) job.now.opening
         (held_in ((P.words place.now).known seat.new)) input.old input.new loaded.end) }
     // Why it stopped, and what is added then.
     ensures stops { IfErr result (StopsLoad N.id_of (P.words place.now)
         (AreAllowed (R.gives job.now.read) job.now.opening input.old)
-        (attempt turn.now.worker.now.by job.now.origin.now job.now.date) seat.old seat.new) }
+        (attempt turn.now.worker.now.by job.now.origin.now job.now.kind job.now.date) seat.old seat.new) }
     ensures input { IsSameOrRead (R.gives job.now.read) job.now.opening input.old input.new }
 {
-    let number = match open_visit(alloc, place, seat, job.origin, job.date) {
+    let number = match open_visit(alloc, place, seat, job.origin, job.kind, job.date) {
         Ok(number) => number,
         Err(why) => return Err(LoadFault { visit: 0, why }),
     };
     let visit = OpenVisit {
         by: turn.worker.by,
         origin: job.origin,
+        kind: job.kind,
         date: job.date,
         number,
     };

@@ -1,6 +1,5 @@
 // The visit of a load: opened, marked and ended.
 ghost use Rattle.std.specs.Prelude.{◌≡◌, ◌∷◌, [], IfOk, IfErr, OnOk};
-ghost use Rattle.swh_base.specs.declared.visit.VisitKind.TheVariants.{Fast};
 ghost use Rattle.swh_model.specs.Step.{FitsStatus};
 ghost use Rattle.swh_model.specs.declared.event.Wish.TheVariants.{Open as WishToOpen, Mark as WishToMark};
 ghost use Rattle.swh_plan.specs.Plan.{status_of, snapshot_of};
@@ -16,33 +15,34 @@ use swh_model::Outcome;
 use swh_place::Place;
 use swh_plan::{How, Plan};
 
-/// A visit that was opened: by whom, of which origin, when, and its number.
+/// A visit that was opened: by whom, of which origin, its kind, when, and its number.
 #[derive(Clone, Copy)]
 pub struct OpenVisit<'a> {
     pub by: u32,
     pub origin: &'a Url,
+    pub kind: VisitKind,
     pub date: u64,
     pub number: u64,
 }
 
-/// Opens a visit of an origin, and answers its number.
+/// Opens a visit of an origin of this kind, and answers its number.
 pub fn open_visit<N: Namer, S, P: Place<Plan<N>, S>>(
     alloc: Global,
     place: &P,
     seat: &mut S,
     origin: &Url,
+    kind: VisitKind,
     date: u64,
 ) -> Result<u64, Stop>
     requires { P.fits place.now }
     ensures opened { IfOk result (Opens N.id_of (P.words place.now)
-        (attempt ((P.words place.now).known seat.old).number origin.now date) seat.old seat.new) }
-    ensures stops { IfErr result (StopsNow N.id_of (P.words place.now) (IsWished (WishToOpen origin.now Fast date))
+        (attempt ((P.words place.now).known seat.old).number origin.now kind date) seat.old seat.new) }
+    ensures stops { IfErr result (StopsNow N.id_of (P.words place.now) (IsWished (WishToOpen origin.now kind date))
         seat.old seat.new) }
 {
     let Ok(origin) = origin.again(alloc) else {
         return Err(Stop::Memory);
     };
-    let kind = VisitKind::Fast;
     match place.apply(seat, Plan::Open { origin, kind, date }) {
         Ok(Outcome::Opened { event: _, visit }) => Ok(visit),
         Ok(_) => unreachable!(),

@@ -7,7 +7,7 @@ use crate::desk::{Desk, Second};
 use std::alloc::{AllocError, Global};
 use std::collections::VecDeque;
 use std::test::Fail;
-use swh_base::{ByteNamer, Kind, Name, Url};
+use swh_base::{ByteNamer, Kind, Name, Url, VisitKind};
 use swh_fastload::load_source;
 use swh_fixtures::{URL, made_archive};
 use swh_made::Objects;
@@ -145,14 +145,16 @@ fn made_of(alloc: Global, stream: &[u8]) -> Result<Option<Objects<ByteNamer>>, A
 fn walk(alloc: Global, desk: &mut Desk, origin: &Url, made: Objects<ByteNamer>) -> End
     requires { HasAllThatIsReached byte_id made }
 {
+    let kind = VisitKind::Fast;
     let date = 1_000_000_000;
-    let Ok(number) = open_visit::<ByteNamer, Desk, Second>(alloc, &Second, desk, origin, date)
+    let Ok(number) = open_visit::<ByteNamer, Desk, Second>(alloc, &Second, desk, origin, kind, date)
     else {
         return End::Stopped;
     };
     let visit = OpenVisit {
         by: 2,
         origin,
+        kind,
         date,
         number,
     };

@@ -9,37 +9,37 @@ pub returns-clause-ended : goal.returns-clause-ended
 returns-clause-ended g c =
     let job = c.args.job.now in
     let A = AreAllowed (g.R.Reads.gives job.read) job.opening c.args.input.now in
-    load_ended g.N.Namer.id_of (disks g.D.Disk.tells g.D.Disk.file g.D.Disk.faults) A (attempt c.args.turn.now.worker.now.by job.origin.now job.date) c.args.keeper.now c.load.new.seat c.load.result c.load.ensures.ended
+    load_ended g.N.Namer.id_of (disks g.D.Disk.tells g.D.Disk.file g.D.Disk.faults) A (attempt c.args.turn.now.worker.now.by job.origin.now job.kind job.date) c.args.keeper.now c.load.new.seat c.load.result c.load.ensures.ended
 
 pub returns-clause-adds : goal.returns-clause-adds
 returns-clause-adds g c =
     let job = c.args.job.now in
     let A = AreAllowed (g.R.Reads.gives job.read) job.opening c.args.input.now in
-    load_added g.N.Namer.id_of (disks g.D.Disk.tells g.D.Disk.file g.D.Disk.faults) A (attempt c.args.turn.now.worker.now.by job.origin.now job.date) c.args.keeper.now c.load.new.seat c.load.result c.load.ensures.ended c.load.ensures.stops
+    load_added g.N.Namer.id_of (disks g.D.Disk.tells g.D.Disk.file g.D.Disk.faults) A (attempt c.args.turn.now.worker.now.by job.origin.now job.kind job.date) c.args.keeper.now c.load.new.seat c.load.result c.load.ensures.ended c.load.ensures.stops
 
 pub returns-clause-calls : goal.returns-clause-calls
 returns-clause-calls g c told =
     let job = c.args.job.now in
     let A = AreAllowed (g.R.Reads.gives job.read) job.opening c.args.input.now in
-    load_calls g.N.Namer.id_of (disks g.D.Disk.tells g.D.Disk.file g.D.Disk.faults) A (attempt c.args.turn.now.worker.now.by job.origin.now job.date) c.args.keeper.now c.load.new.seat c.load.result c.load.ensures.ended c.load.ensures.stops told
+    load_calls g.N.Namer.id_of (disks g.D.Disk.tells g.D.Disk.file g.D.Disk.faults) A (attempt c.args.turn.now.worker.now.by job.origin.now job.kind job.date) c.args.keeper.now c.load.new.seat c.load.result c.load.ensures.ended c.load.ensures.stops told
 
 pub returns-clause-wounded : goal.returns-clause-wounded
 returns-clause-wounded g c n some =
     let job = c.args.job.now in
     let A = AreAllowed (g.R.Reads.gives job.read) job.opening c.args.input.now in
-    load_held g.N.Namer.id_of (disks g.D.Disk.tells g.D.Disk.file g.D.Disk.faults) A (attempt c.args.turn.now.worker.now.by job.origin.now job.date) c.args.keeper.now c.load.new.seat c.load.result c.load.ensures.ended c.load.ensures.stops n some
+    load_held g.N.Namer.id_of (disks g.D.Disk.tells g.D.Disk.file g.D.Disk.faults) A (attempt c.args.turn.now.worker.now.by job.origin.now job.kind job.date) c.args.keeper.now c.load.new.seat c.load.result c.load.ensures.ended c.load.ensures.stops n some
 
 pub returns-clause-stops : goal.returns-clause-stops
 returns-clause-stops g c =
     let job = c.args.job.now in
     let A = AreAllowed (g.R.Reads.gives job.read) job.opening c.args.input.now in
-    load_stops g.N.Namer.id_of (disks g.D.Disk.tells g.D.Disk.file g.D.Disk.faults) A (attempt c.args.turn.now.worker.now.by job.origin.now job.date) c.args.keeper.now c.load.new.seat c.load.result c.load.ensures.stops
+    load_stops g.N.Namer.id_of (disks g.D.Disk.tells g.D.Disk.file g.D.Disk.faults) A (attempt c.args.turn.now.worker.now.by job.origin.now job.kind job.date) c.args.keeper.now c.load.new.seat c.load.result c.load.ensures.stops
 
 pub returns-clause-later : goal.returns-clause-later
 returns-clause-later g c =
     let job = c.args.job.now in
     let A = AreAllowed (g.R.Reads.gives job.read) job.opening c.args.input.now in
-    load_counts g.N.Namer.id_of (disks g.D.Disk.tells g.D.Disk.file g.D.Disk.faults) A (attempt c.args.turn.now.worker.now.by job.origin.now job.date) c.args.keeper.now c.load.new.seat c.load.result c.load.ensures.ended c.load.ensures.stops
+    load_counts g.N.Namer.id_of (disks g.D.Disk.tells g.D.Disk.file g.D.Disk.faults) A (attempt c.args.turn.now.worker.now.by job.origin.now job.kind job.date) c.args.keeper.now c.load.new.seat c.load.result c.load.ensures.ended c.load.ensures.stops
 
 pub load-requires-clause-fits : goal.load-requires-clause-fits
 load-requires-clause-fits g c κs within = (

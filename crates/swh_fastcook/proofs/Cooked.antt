@@ -1,0 +1,164 @@
+-- A name is cooked: a content as its bytes, all else as a stream.
+use Rattle.std.proofs.Common.{◌≡◌, ◌≢◌, inl, inr, ℕ, Option, Some, None, List, [], ◌∷◌, ◌++◌, refl, sym, ap, ◌∙◌, subst}
+use Rattle.std.specs.Prelude.{Contains}
+use Rattle.swh_base.specs.declared.kind.Kind.{Kind}
+use Rattle.swh_base.specs.declared.kind.Kind.TheVariants.{Content, Directory, Revision as RevisionKind, Release as ReleaseKind, Snapshot}
+use Rattle.swh_base.specs.declared.name.Name.{Name}
+use Rattle.swh_base.specs.Manifest.{AreChildren}
+use Rattle.swh_model.specs.Archive.{Bodies, body_of, IsGraphOf}
+use Rattle.swh_postorder.specs.Postorder.{Over, Enters, Here, IsEntered, IsPostorder, IsFirstMissing}
+use Rattle.swh_postorder.specs.Cycle.{IsOnCycle}
+use Rattle.swh_postorder.proofs.Trips.{none_in, only}
+use Rattle.swh_carried.specs.declared.fault.Why.{Why}
+use Rattle.swh_carried.specs.declared.fault.Why.TheVariants.{Cycle, Revision, Release, Empty, Dots, Text, Path, Branch, Tagless, Refs, Length}
+use Rattle.swh_carried.specs.Uncarried.{BreaksNone}
+use Rattle.swh_carried.specs.declared.fault.CookFault.{CookFault}
+use Rattle.swh_carried.specs.declared.fault.CookFault.TheVariants.{NotHeld, Uncarried, WriteFault, Memory}
+use Rattle.swh_fastcarried.specs.Rules.{IsOddKind, IsOddObject, BreaksIn}
+use Rattle.swh_fastcarried.proofs.FirstRules.{rule_none}
+use Rattle.swh_written.specs.Sinks.{IsTaken}
+use Rattle.swh_fastcook.specs.Cause.{Breaks, CookBreaks}
+use Rattle.swh_fastcook.specs.Cook.{BreaksStream, LeadsHead, IsCarriedStream, IsTextOfKind, IsCookedText, IsCooked, IsFrontCooked, ExplainsNoText}
+use Rattle.swh_fastcook.specs.Ready.{IsReady, ExplainsNotReady}
+use Rattle.swh_fastcook.specs.Stream.{IsStreamOf, IsStreamText}
+use Rattle.swh_fastcook.proofs.Loads.{content_few}
+
+none_entered : (n : Name) → IsEntered [] [] n → ⊥
+none_entered n (inl there) = none_in n there
+none_entered n (inr there) = none_in n there
+
+-- ---- contents
+
+module _ (bodies : Bodies) (children_of : Name → Option (List Name)) (graph : IsGraphOf bodies children_of) (root : Name) where
+  -- what is not held is the first that a walk from it enters
+  pub missing_first : body_of bodies root ≡ None → IsFirstMissing children_of root root
+  missing_first none = record { stop = Here Over; walk = (record { front = []; back = []; cut = refl; before = refl; fresh = none_entered root }, by (children_of root) refl) }
+    where
+      by : (found : Option (List Name)) → children_of root ≡ found → children_of root ≡ None
+      by None is = is
+      by (Some kids) is = let held = graph.held root kids is in let e : Some held.0 ≡ None = sym held.1 ∙ none in cc
+
+  module _ (kind : root.kind ≡ Content) (body : List ℕ) (held : body_of bodies root ≡ Some body) where
+    no_kids : (found : Option (List Name)) → children_of root ≡ found → children_of root ≡ Some []
+    no_kids None is = let e : Some body ≡ None = sym held ∙ graph.missing root is in cc
+    no_kids (Some kids) is =
+        let has = graph.held root kids is in
+        is ∙ ap (λ (ns : List Name). Some ns) (subst (λ (k : Kind). AreChildren k has.0 kids) kind has.2)
+
+    kids_are : children_of root ≡ Some []
+    kids_are = no_kids (children_of root) refl
+
+    alone : IsPostorder children_of root (root ∷ [])
+    alone = record { trip = Enters root Over Over; walk = ([], [], refl, none_entered root, kids_are, refl, refl); is = refl }
+
+    no_cycle : (n : Name) → Contains (root ∷ []) n → IsOnCycle children_of n → ⊥
+    no_cycle n there c =
+        let kid = c.is_child in
+        let held_here : children_of root ≡ Some kid.kids = ap children_of (only root n there) ∙ kid.held in
+        let none : Some [] ≡ Some kid.kids = sym kids_are ∙ held_here in
+        none_in c.child (subst (λ (ns : List Name). Contains ns c.child) (sym (same_list [] kid.kids none)) kid.one_of)
+      where
+        same_list : (a b : List Name) → Some a ≡ Some b → a ≡ b
+        same_list a b e = cc
+
+    none_broken : (order : List Name) → BreaksNone (BreaksStream bodies root order) root
+    none_broken order why h = rule_none bodies root order root kind why (back why h)
+      where
+        back : (w : Why) → BreaksStream bodies root order root w → BreaksIn bodies root order ⊥ ⊥ root w
+        back Cycle x = x
+        back Revision x = x
+        back Release x = x
+        back Empty x = x
+        back Dots x = x
+        back Text x = x
+        back Path x = x
+        back Branch x = x
+        back Tagless x = x
+        back Refs x = (x.0, content_few bodies order root kind x.1)
+        back Length x = (x.0, x.1.0 kind)
+
+    content_carried : IsCarriedStream bodies children_of root
+    content_carried = record {
+      order = root ∷ [];
+      is_order = alone;
+      carried = record {
+        acyclic = no_cycle;
+        none = λ n there. subst (BreaksNone (BreaksStream bodies root (root ∷ []))) (only root n there) (none_broken (root ∷ []));
+      };
+    }
+
+    content_text : IsCookedText bodies children_of root body
+    content_text = subst (λ (k : Kind). IsTextOfKind bodies children_of root k body) (sym kind) held
+
+    not_snapshot : (target : List ℕ) → LeadsHead bodies root target → ⊥
+    not_snapshot target h = let e : Content ≡ Snapshot = sym kind ∙ h.kind in cc
+
+    pub content_cooked : (tells : Type 0) (old new : List ℕ) → (tells → new ≡ old ++ body) → IsCooked bodies children_of root tells old new None
+    content_cooked tells old new took = record { carried = content_carried; is_head = not_snapshot; text = body; is = content_text; took = took }
+
+    pub content_front : (tells : Type 0) (old new : List ℕ) → (tells → IsTaken old body new) → IsFrontCooked bodies children_of root tells old new
+    content_front tells old new took = record { carried = content_carried; text = body; is = content_text; took = took }
+
+-- ---- streams
+
+module _ (bodies : Bodies) (children_of : Name → Option (List Name)) (root : Name) (other : root.kind ≢ Content) (order : List Name) (head : Option (List ℕ)) (ready : IsReady bodies children_of root order head) where
+  ready_carried : IsCarriedStream bodies children_of root
+  ready_carried = record { order = order; is_order = ready.is_order; carried = ready.carried }
+
+  stream_text : (text : List ℕ) → IsStreamText bodies order root text → IsCookedText bodies children_of root text
+  stream_text text is = by root.kind refl (record { order = order; is_order = ready.is_order; is = is })
+    where
+      by : (kind : Kind) → root.kind ≡ kind → IsStreamOf bodies children_of root text → IsTextOfKind bodies children_of root kind text
+      by Content k s = absurd (other k)
+      by Directory k s = s
+      by RevisionKind k s = s
+      by ReleaseKind k s = s
+      by Snapshot k s = s
+
+  pub stream_cooked : (tells : Type 0) (old new text : List ℕ) → IsStreamText bodies order root text → (tells → new ≡ old ++ text) → IsCooked bodies children_of root tells old new head
+  stream_cooked tells old new text is took = record { carried = ready_carried; is_head = ready.is_head; text = text; is = stream_text text is; took = took }
+
+  pub stream_front : (tells : Type 0) (old new : List ℕ) → ((text : List ℕ) → IsStreamText bodies order root text → tells → IsTaken old text new) → IsFrontCooked bodies children_of root tells old new
+  stream_front tells old new took =
+      let t = ready.has_text in
+      record { carried = ready_carried; text = t.text; is = stream_text t.text t.is; took = took t.text t.is }
+
+-- what is carried is plain
+pub carried_plain : (bodies : Bodies) (root : Name) (order : List Name) → ((n : Name) → Contains order n → BreaksNone (BreaksStream bodies root order) n) → (n : Name) → Contains order n → IsOddObject bodies n → ⊥
+carried_plain bodies root order none n there odd = by n.kind refl odd
+  where
+    by : (kind : Kind) → n.kind ≡ kind → IsOddKind bodies n kind → ⊥
+    by Content k h = h
+    by Directory k h = h
+    by RevisionKind k h = none n there Revision h
+    by ReleaseKind k h = none n there Release h
+    by Snapshot k h = h
+
+-- ---- why a name is not cooked
+
+module _ (bodies : Bodies) (children_of : Name → Option (List Name)) (root : Name) (tells same : Type 0) (old new : List ℕ) where
+  -- nothing was put
+  pub not_begun : (fault : CookFault) → same → ExplainsNotReady bodies children_of root fault → ExplainsNoText bodies children_of root tells same old new fault
+  not_begun (NotHeld missing) s h = (h, s)
+  not_begun (Uncarried name why) s h = (h, s)
+  not_begun WriteFault s h = absurd h
+  not_begun Memory s h = inl s
+
+  -- a front was put
+  pub broken_off : (before now : ℕ) (fault : CookFault) → Breaks before now fault → IsFrontCooked bodies children_of root tells old new → ExplainsNoText bodies children_of root tells same old new fault
+  broken_off before now (NotHeld missing) h f = absurd h
+  broken_off before now (Uncarried name why) h f = absurd h
+  broken_off before now WriteFault h f = f
+  broken_off before now Memory h f = inr f
+
+  pub not_begun_cause : (count : ℕ) (fault : CookFault) → ExplainsNotReady bodies children_of root fault → CookBreaks count count fault
+  not_begun_cause count (NotHeld missing) h = refl
+  not_begun_cause count (Uncarried name why) h = refl
+  not_begun_cause count WriteFault h = absurd h
+  not_begun_cause count Memory h = refl
+
+pub broken_cause : (before now : ℕ) (fault : CookFault) → Breaks before now fault → CookBreaks before now fault
+broken_cause before now (NotHeld missing) h = absurd h
+broken_cause before now (Uncarried name why) h = absurd h
+broken_cause before now WriteFault h = h
+broken_cause before now Memory h = h

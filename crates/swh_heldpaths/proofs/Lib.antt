@@ -1,0 +1,4 @@
+pub mod Preceding
+pub mod Trees
+pub mod Rows
+pub mod Walks

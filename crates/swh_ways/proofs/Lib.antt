@@ -1,0 +1,2 @@
+pub mod WayCounts
+pub mod WaySteps
