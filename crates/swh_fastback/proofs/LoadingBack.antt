@@ -27,10 +27,10 @@ use Rattle.swh_fastmeaning.specs.Commands.{Target, Targets, no_making, steps}
 use Rattle.swh_fastmeaning.specs.Snapshots.{tip_branch, branches_of, refs_of, snapshot_of}
 use Rattle.swh_fastload.specs.Input.{Means, MeansStream, AreCarriedOut, EndsWithin, IsMeant}
 use Rattle.swh_fastback.specs.Commands.{AreRootTips}
-use Rattle.swh_fastback.specs.Head.{IsHeadOf}
-use Rattle.swh_fastback.specs.Loaded.{SetTags, branch_of_tag, release_name, main_branch, without_head as headless, AreMany, AreLoadedOf, LoadsMany}
-use Rattle.swh_fastback.specs.LoadsBack.{BreaksStream, LoadsAs, LoadsBack}
-use Rattle.swh_fastback.specs.Length.{IsLongStream}
+use Rattle.swh_fastcook.specs.Cook.{BreaksStream, IsHeadOf}
+use Rattle.swh_fastcook.specs.Loaded.{SetTags, branch_of_tag, release_name, main_branch, without_head as headless, AreMany, AreLoadedOf, LoadsMany}
+use Rattle.swh_fastback.specs.LoadsBack.{LoadsAs, LoadsBack}
+use Rattle.swh_fastcook.specs.Length.{IsLongStream}
 use Rattle.swh_fastback.specs.Sound.{AreInLimit, AreOfBytes, AreNamed}
 use Rattle.swh_fastback.proofs.AimMaps.{in-found}
 use Rattle.swh_fastback.proofs.Branching.{in_tips}

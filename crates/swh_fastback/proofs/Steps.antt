@@ -40,7 +40,7 @@ use Rattle.swh_fastcook.proofs.Marked.{mark_is}
 use Rattle.swh_fastgrammar.specs.declared.command.Command.{Command}
 use Rattle.swh_fastmeaning.specs.Aims.{Missing, tip_at, with_mark, without_tip}
 use Rattle.swh_fastmeaning.specs.Commands.{Target, Targets, Changed, Making, Makes, no_making, step, steps, then, only as only_aims, aim_of, root_of, revision, revision_parts, release, release_parts, marked, committed, tagged, ◌>>=◌}
-use Rattle.swh_fastback.specs.Loaded.{SetsTag}
+use Rattle.swh_fastcook.specs.Loaded.{SetsTag}
 use Rattle.swh_fastback.specs.Trees.{with_rows, HasNoEmptyFolder}
 use Rattle.swh_fastback.specs.Sound.{AreNamed}
 use Rattle.swh_fastback.specs.Made.{LeadsTo as Knows, IsHeldMade, AreMadeAgain}

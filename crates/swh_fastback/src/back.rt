@@ -7,8 +7,8 @@ ghost use Rattle.swh_model.specs.Archive.{Bodies, IsGraphOf};
 ghost use Rattle.swh_postorder.specs.Postorder.{IsPostorder};
 ghost use Rattle.swh_carried.specs.Uncarried.{AreCarried};
 ghost use Rattle.swh_fastcook.specs.Stream.{IsStreamText, IsStreamOf};
-ghost use Rattle.swh_fastback.specs.Head.{IsHeadOf};
-ghost use Rattle.swh_fastback.specs.LoadsBack.{BreaksStream, LoadsBack};
+ghost use Rattle.swh_fastcook.specs.Cook.{BreaksStream, IsHeadOf};
+ghost use Rattle.swh_fastback.specs.LoadsBack.{LoadsBack};
 ghost use Rattle.swh_fastback.specs.Sound.{AreInLimit, AreNamed, AreOfBytes};
 
 /// What was cooked loads back: where all that is reached is held, in bodies that stand under their names and are within the
