@@ -16,7 +16,7 @@ use Rattle.swh_fastgrammar.specs.declared.command.Command.{Command}
 use Rattle.swh_fastrows.specs.Outcome.{IsStreamWithin}
 use Rattle.swh_fastback.specs.Commands.{AreObjectCommands, AreStreamCommands}
 use Rattle.swh_fastback.specs.Made.{AreMadeAgain}
-use Rattle.swh_fastback.specs.Sound.{AreWithin, AreNamed}
+use Rattle.swh_fastback.specs.Sound.{AreInLimit, AreOfBytes, AreNamed}
 use Rattle.swh_fastback.proofs.AimMaps.{at_self}
 use Rattle.swh_fastback.proofs.MarkBounds.{marks_are}
 use Rattle.swh_fastback.proofs.GoodObjects.{objects_good, tips_good, no_empty}
@@ -31,12 +31,12 @@ module _ (bodies : Bodies) (children_of : Name → Option (List Name)) (graph : 
   pub once : StandOnce order
   once = all_once children_of root order is_order
 
-  pub is_stream : AreWithin bodies → (text : List ℕ) → IsStreamText bodies order root text → length text ≤ 2 ^ 32 → (commands : List Command) × AreStreamCommands bodies order root commands × IsStreamWithin 0 false text commands
-  is_stream within text t short =
+  pub is_stream : AreInLimit bodies → AreOfBytes bodies order → (text : List ℕ) → IsStreamText bodies order root text → length text ≤ 2 ^ 32 → (commands : List Command) × AreStreamCommands bodies order root commands × IsStreamWithin 0 false text commands
+  is_stream in_limit of_bytes text t short =
       let marks = marks_are bodies order root text (at_self name_cmp name_cmp_total name_cmp-IsAntisymmetric) t (omega (arith, short)) in
       cooked_stream bodies order root text
-      (objects_good bodies children_of graph root order is_order preceded many long carried.none within marks)
-      (tips_good bodies children_of graph root order is_order preceded many long carried.none within marks)
+      (objects_good bodies children_of graph root order is_order preceded many long carried.none in_limit of_bytes marks)
+      (tips_good bodies children_of graph root order is_order preceded many long carried.none in_limit of_bytes marks)
       t (omega (arith, short))
 
   pub are_made : (id : Kind → List ℕ → List ℕ) → AreNamed id bodies → (commands : List Command) → AreObjectCommands bodies order order commands → AreMadeAgain id bodies order commands

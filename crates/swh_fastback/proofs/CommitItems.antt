@@ -2,6 +2,7 @@
 use Rattle.std.proofs.Common.{◌≡◌, ◌≢◌, inl, inr, ℕ, ◌+◌, ◌==◌, ◌≤◌, Bool, true, false, cond, List, [], ◌∷◌, ◌++◌, length, map, Option, Some, None, refl, sym, ap, ◌∙◌, subst, arith, append_assoc, codes}
 use Rattle.std.specs.Prelude.{IfSome}
 use Rattle.std.specs.List.{AllByRecursion, flat_map}
+use Rattle.std.proofs.lemmas.List.{append-nil}
 use Rattle.swh_base.specs.Limits.{body_limit}
 use Rattle.swh_base.specs.declared.name.Name.{Name}
 use Rattle.swh_base.specs.Directory.{IsMode}
@@ -44,14 +45,10 @@ pub record SpellsChanges (at : ℕ) (text : List ℕ) (these : List Change) : Ty
   pub spells : Spells (many change) at text changes
   pub are : said changes ≡ these
 
-nothing_behind : (a : List ℕ) → a ++ [] ≡ a
-nothing_behind [] = refl
-nothing_behind (c ∷ a) = ap (λ (t : List ℕ). c ∷ t) (nothing_behind a)
-
 one_change : (at : ℕ) (text : List ℕ) (c : Change) → Spells change at text (record { at = at; it = c }) → SpellsChanges at text (c ∷ [])
 one_change at text c s = record {
   changes = record { at = at; it = c } ∷ [];
-  spells = spells_as (many change) at (text ++ []) text (record { at = at; it = c } ∷ []) (nothing_behind text)
+  spells = spells_as (many change) at (text ++ []) text (record { at = at; it = c } ∷ []) (append-nil text)
       (spells_cons change at text [] (record { at = at; it = c }) [] s (spells_nil change (at + length text)));
   are = refl;
 }

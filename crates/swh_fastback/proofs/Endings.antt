@@ -6,6 +6,7 @@ use Rattle.std.specs.BTreeMap.{insert_entry, is_at}
 use Rattle.std.specs.Map.{remove_entry}
 use Rattle.std.specs.FinMap.{nat_cmp-IsAntisymmetric, slice_cmp-IsAntisymmetric}
 use Rattle.std.proofs.lemmas.Cmp.{nat_list_cmp_total}
+use Rattle.std.proofs.lemmas.List.{append-nil}
 use Rattle.swh_base.specs.declared.kind.Kind.{Kind}
 use Rattle.swh_base.specs.declared.kind.Kind.TheVariants.{Revision as RevisionKind}
 use Rattle.swh_base.specs.declared.name.Name.{Name}
@@ -25,7 +26,7 @@ use Rattle.swh_fastback.specs.Made.{LeadsTo as Knows, IsHeldMade}
 use Rattle.swh_fastback.proofs.AimMaps.{insert-sorted, remove-sorted}
 use Rattle.swh_fastback.proofs.Tipping.{Tips, TipsAre}
 use Rattle.swh_fastback.proofs.CommitSteps.{commit_by}
-use Rattle.swh_fastback.proofs.Steps.{AreSorted, Carries, nothing_more, knows_with, steps_append}
+use Rattle.swh_fastback.proofs.Steps.{AreSorted, Carries, knows_with, steps_append}
 
 -- These branches were set, one after another, each to its object.
 abbrev pub SetsAll : Tips → List (List ℕ × Name) → Tips → Type 0
@@ -43,8 +44,8 @@ makes_same id old new h o (inr (t, there, is)) = inr (t, h.trees t there, is)
 
 no_more : (id : Kind → List ℕ → List ℕ) (m : Making) (n : Making) → n.objects ≡ m.objects ++ [] → n.trees ≡ m.trees ++ [] → MakesNoMore m n
 no_more id m n p q = record {
-  objects = λ o there. subst (λ (l : List Made). Contains l o) (p ∙ nothing_more m.objects) there;
-  trees = λ t there. subst (λ (l : List PathMap). Contains l t) (q ∙ nothing_more m.trees) there;
+  objects = λ o there. subst (λ (l : List Made). Contains l o) (p ∙ append-nil m.objects) there;
+  trees = λ t there. subst (λ (l : List PathMap). Contains l t) (q ∙ append-nil m.trees) there;
 }
 
 then_no_more : (a b c : Making) → MakesNoMore a b → MakesNoMore b c → MakesNoMore a c

@@ -28,7 +28,7 @@ use Rattle.swh_fastcook.specs.Marks.{mark_of}
 use Rattle.swh_fastcook.specs.Stream.{IsCommit, IsTag}
 use Rattle.swh_fastcook.proofs.Kids.{directory_in, parents_in, object_in, tips_in}
 use Rattle.swh_pathwalk.specs.Tree.{Row, IsPathWalk}
-use Rattle.swh_fastback.specs.Sound.{AreWithin}
+use Rattle.swh_fastback.specs.Sound.{AreInLimit, AreOfBytes}
 use Rattle.swh_fastback.specs.Commands.{object_tips, branch_tips, AreRootTips}
 use Rattle.swh_fastback.proofs.LineKinds.{IsMarkNumber}
 use Rattle.swh_fastback.proofs.CommitItems.{IsGoodRow, IsGoodCommit}
@@ -111,19 +111,19 @@ module _ (bodies : Bodies) (children_of : Name → Option (List Name)) (root : N
       }))
 
 module _ (bodies : Bodies) (children_of : Name → Option (List Name)) (graph : IsGraphOf bodies children_of) (root : Name) (order : List Name) (is_order : IsPostorder children_of root order) (preceded : ArePreceded children_of order)
-    (many long : Type 0) (none : (n : Name) → Contains order n → BreaksNone (BreaksIn bodies root order many long) n) (within : AreWithin bodies) (marks : (n : Name) → Contains order n → IsMarkNumber (mark_of order n)) where
+    (many long : Type 0) (none : (n : Name) → Contains order n → BreaksNone (BreaksIn bodies root order many long) n) (in_limit : AreInLimit bodies) (of_bytes : AreOfBytes bodies order) (marks : (n : Name) → Contains order n → IsMarkNumber (mark_of order n)) where
   rows_of : (name : Name) → Contains order name → name.kind ≡ RevisionKind → (body : List ℕ) → body_of bodies name ≡ Some body → (p : PlainRevision) (is : IsPlainRevision body p) (rows : List Row) → IsPathWalk bodies (directory_name p.directory) rows → AllByRecursion (IsGoodRow order) rows
   rows_of name there kind body held p is rows walk =
       let start : Name = directory_name p.directory in
       let r : Revision = record { directory = p.directory; parents = p.parents; rest = is.bytes } in
       let begins : IsRevisionRoot bodies order start = record { commit = name; there = there; kind = kind; revision = r; holds = record { body = body; held = held; is = is.revision }; named = refl } in
       subst (AllByRecursion (IsGoodRow order)) (sym walk.rows_are)
-      (walk_good bodies children_of graph order preceded within (no_dots bodies children_of root order is_order many long none) (IsRevisionRoot bodies order) (no_long bodies children_of root order is_order many long none) marks start begins walk.tree (directory_in bodies children_of graph order preceded name body there held p kind is) refl walk.is)
+      (walk_good bodies children_of graph order preceded of_bytes (no_dots bodies children_of root order is_order many long none) (IsRevisionRoot bodies order) (no_long bodies children_of root order is_order many long none) marks start begins walk.tree (directory_in bodies children_of graph order preceded name body there held p kind is) refl walk.is)
 
   commit_good : (name : Name) → Contains order name → name.kind ≡ RevisionKind → (text : List ℕ) (t : IsCommit bodies order name text) → IsGoodCommit order name t.plain t.rows
   commit_good name there kind text t =
       let size = revision_message t.body t.plain t.is_plain in
-      let short = within.short name t.body t.held in
+      let short = in_limit name t.body t.held in
       record {
         mark = marks name there;
         author = t.is_plain.rest.author;
@@ -137,7 +137,7 @@ module _ (bodies : Bodies) (children_of : Name → Option (List Name)) (graph : 
   tag_good : (name : Name) → Contains order name → name.kind ≡ ReleaseKind → (text : List ℕ) (t : IsTag bodies order name text) → IsGoodTag bodies order name text t
   tag_good name there kind text t =
       let size = release_message t.body t.plain t.is_plain in
-      let short = within.short name t.body t.held in
+      let short = in_limit name t.body t.held in
       record {
         mark = marks name there;
         object = marks t.plain.object (object_in bodies children_of graph order preceded name t.body there t.held t.plain kind t.is_plain);
@@ -145,7 +145,7 @@ module _ (bodies : Bodies) (children_of : Name → Option (List Name)) (graph : 
       }
 
   good_by : (name : Name) → Contains order name → (kind : Kind) → name.kind ≡ kind → IsGoodText bodies order kind name
-  good_by name there Content e = (marks name there, λ body held. within.short name body held)
+  good_by name there Content e = (marks name there, λ body held. in_limit name body held)
   good_by name there DirectoryKind e = tt
   good_by name there RevisionKind e = commit_good name there e
   good_by name there ReleaseKind e = tag_good name there e

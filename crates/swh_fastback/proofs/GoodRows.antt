@@ -24,7 +24,7 @@ use Rattle.swh_fastlex.specs.Path.{IsComponent}
 use Rattle.swh_pathwalk.specs.Tree.{Tree, End, Leaf as TreeLeaf, Folder, entries_in, AreHeldUnder, IsTreeOf, Row, path_walk}
 use Rattle.swh_fastcook.specs.Marks.{mark_of}
 use Rattle.swh_fastcook.specs.Stream.{content_name}
-use Rattle.swh_fastback.specs.Sound.{AreWithin}
+use Rattle.swh_fastback.specs.Sound.{AreOfBytes}
 use Rattle.swh_fastback.specs.Trees.{HasNoEmptyFolder}
 use Rattle.swh_fastback.proofs.LineKinds.{IsMarkNumber}
 use Rattle.swh_fastback.proofs.CommitItems.{IsGoodRow}
@@ -109,7 +109,7 @@ module _ (bodies : Bodies) (children_of : Name → Option (List Name)) (graph : 
       let c = cut_at order parent there in
       subst (λ (ns : List Name). Contains ns child) (sym c.cut) (Contains-append_left c.before (parent ∷ c.behind) child (preceded c.before parent c.behind c.cut child kid))
 
-  module _ (within : AreWithin bodies) (no_dots : (n : Name) → Contains order n → HasDots bodies n → ⊥) (Begins : Name → Type 0) (no_long : (n : Name) → Contains order n → HasLongPath bodies Begins n → ⊥)
+  module _ (of_bytes : AreOfBytes bodies order) (no_dots : (n : Name) → Contains order n → HasDots bodies n → ⊥) (Begins : Name → Type 0) (no_long : (n : Name) → Contains order n → HasLongPath bodies Begins n → ⊥)
       (marks : (n : Name) → Contains order n → IsMarkNumber (mark_of order n)) (start : Name) (begins : Begins start) where
     -- Where a walk stands: the directory, the entries that lead to it, and their names.
     record Stands (place : Name) (way : List DirectoryEntry) (p : List (List ℕ)) : Type 0 where
@@ -123,8 +123,8 @@ module _ (bodies : Bodies) (children_of : Name → Option (List Name)) (graph : 
     entry_is : (place : Name) (e : DirectoryEntry) → HasDirectoryEntry bodies place e → IsEntry e
     entry_is place e has = all_of IsEntry has.entries e (are-each has.entries has.is.good) has.there
 
-    own_bytes : (place : Name) (e : DirectoryEntry) → HasDirectoryEntry bodies place e → AllByRecursion IsByte (entry_text e)
-    own_bytes place e has = entry_bytes has.entries e has.there (subst (AllByRecursion IsByte) has.is.text (within.bytes place has.body has.held))
+    own_bytes : (place : Name) (e : DirectoryEntry) → Contains order place → HasDirectoryEntry bodies place e → AllByRecursion IsByte (entry_text e)
+    own_bytes place e there has = entry_bytes has.entries e has.there (subst (AllByRecursion IsByte) has.is.text (of_bytes place there has.body has.kind has.held))
 
     component : (place : Name) (e : DirectoryEntry) → Contains order place → HasDirectoryEntry bodies place e → IsComponent e.name
     component place e there has =
@@ -143,7 +143,7 @@ module _ (bodies : Bodies) (children_of : Name → Option (List Name)) (graph : 
     row_good : (place : Name) (way : List DirectoryEntry) (p : List (List ℕ)) (e : DirectoryEntry) → Stands place way p → HasDirectoryEntry bodies place e → IsGoodRow order (record { path = front_text p ++ e.name; entry = e })
     row_good place way p e s has =
         let is = entry_is place e has in
-        let bytes = own_bytes place e has in
+        let bytes = own_bytes place e s.there has in
         let long : path_limit < way_length way + length e.name → ⊥ = λ l. no_long place s.there (record { start = start; begins = begins; way = way; leads = s.leads; entry = e; is_entry = has; long = l }) in
         let size = s.size in
         let short : length (front_text p ++ e.name) ≤ path_limit = omega (arith, long, size, length-append (front_text p) e.name) in
@@ -169,7 +169,7 @@ module _ (bodies : Bodies) (children_of : Name → Option (List Name)) (graph : 
           size = omega (arith, size, ap length text, length-append (front_text p ++ e.name) (47 ∷ []), length-append (front_text p) e.name);
           names = push p e.name s.names (component place e s.there has);
           slashes = slashes-push p e.name s.slashes is.name.no_slash;
-          bytes = subst (AllByRecursion IsByte) text (bytes_append (front_text p ++ e.name) (47 ∷ []) (bytes_append (front_text p) e.name s.bytes (name_bytes e (own_bytes place e has))) (omega arith, tt));
+          bytes = subst (AllByRecursion IsByte) text (bytes_append (front_text p ++ e.name) (47 ∷ []) (bytes_append (front_text p) e.name s.bytes (name_bytes e (own_bytes place e s.there has))) (omega arith, tt));
         }
 
     all_append : (a b : List Row) → AllByRecursion (IsGoodRow order) a → AllByRecursion (IsGoodRow order) b → AllByRecursion (IsGoodRow order) (a ++ b)

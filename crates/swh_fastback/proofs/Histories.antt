@@ -1,4 +1,4 @@
--- The bodies of the archive of a history are named, made of bytes, and not too long.
+-- The bodies of the archive of a history are named, and not too long, and made of bytes where those of its entries are.
 use Rattle.std.proofs.Common.{◌≡◌, ℕ, ◌≤◌, Option, Some, None, List, [], ◌∷◌, length}
 use Rattle.std.specs.List.{AllByRecursion}
 use Rattle.std.specs.FinMap.{empty, get-empty}
@@ -15,7 +15,7 @@ use Rattle.swh_model.specs.declared.event.EventKind.TheVariants.{Batch, Open, Ma
 use Rattle.swh_model.specs.Entries.{entries_of}
 use Rattle.swh_model.proofs.Maps.{added-all}
 use Rattle.swh_model.proofs.Sounds.{empty-sound, all-sound}
-use Rattle.swh_fastback.specs.Sound.{AreNamed, AreWithin, AreMadeOfBytes}
+use Rattle.swh_fastback.specs.Sound.{AreNamed, AreInLimit, AreOfBytes, AreMadeOfBytes}
 
 -- What holds of each body that is held.
 abbrev AllBodies : (List ℕ → Type 0) → Bodies → Type 0
@@ -48,8 +48,8 @@ bytes_after a (e ∷ h) made bytes = bytes_after (after a e) h made.1 (one_step 
 pub named_bodies : (id : Kind → List ℕ → List ℕ) (h : List Event) → IsHistory id h → AreNamed id (replay h).bodies
 named_bodies id h is n body held = ((all-sound id empty_archive h (empty-sound id) is).bodies n body held).1
 
-pub bodies_within : (id : Kind → List ℕ → List ℕ) (h : List Event) → IsHistory id h → AreMadeOfBytes h → AreWithin (replay h).bodies
-bodies_within id h is made = record {
-  bytes = bytes_after empty_archive h made (none_held (AllByRecursion IsByte));
-  short = short_after id empty_archive h is (none_held (λ body. length body ≤ body_limit));
-}
+pub bodies_in_limit : (id : Kind → List ℕ → List ℕ) (h : List Event) → IsHistory id h → AreInLimit (replay h).bodies
+bodies_in_limit id h is = short_after id empty_archive h is (none_held (λ body. length body ≤ body_limit))
+
+pub bodies_of_bytes : (h : List Event) (names : List Name) → AreMadeOfBytes h → AreOfBytes (replay h).bodies names
+bodies_of_bytes h names made n there body kind held = bytes_after empty_archive h made (none_held (AllByRecursion IsByte)) n body held

@@ -2,6 +2,7 @@
 use Rattle.std.proofs.Common.{◌≡◌, inl, ℕ, ◌+◌, ◌≤◌, List, [], ◌∷◌, ◌++◌, length, Option, Some, None, refl, sym, ap, ◌∙◌, subst, arith, append_assoc, codes}
 use Rattle.std.specs.Prelude.{IfSome}
 use Rattle.std.proofs.lemmas.List.Elements.{filter_map-append}
+use Rattle.std.proofs.lemmas.List.{append-nil}
 use Rattle.swh_base.specs.Limits.{body_limit, tag_limit}
 use Rattle.swh_base.specs.Text.{IsRef}
 use Rattle.swh_revfmt.specs.Plain.{text_line, optional_line, IsPersonLine}
@@ -37,12 +38,8 @@ commands_append at a b cs ds s t = record {
 pub commands_as : (at : ℕ) (a b : List ℕ) (cs : List Command) → a ≡ b → SpellsCommands at a cs → SpellsCommands at b cs
 commands_as at a b cs e s = subst (λ (t : List ℕ). SpellsCommands at t cs) e s
 
-nothing_behind : (a : List ℕ) → a ++ [] ≡ a
-nothing_behind [] = refl
-nothing_behind (c ∷ a) = ap (λ (t : List ℕ). c ∷ t) (nothing_behind a)
-
 one_item : (at : ℕ) (text : List ℕ) (i : Item) → Spells IsItem at text i → Spells (many IsItem) at text (i ∷ [])
-one_item at text i s = spells_as (many IsItem) at (text ++ []) text (i ∷ []) (nothing_behind text) (spells_cons IsItem at text [] i [] s (spells_nil IsItem (at + length text)))
+one_item at text i s = spells_as (many IsItem) at (text ++ []) text (i ∷ []) (append-nil text) (spells_cons IsItem at text [] i [] s (spells_nil IsItem (at + length text)))
 
 pub one_command : (at : ℕ) (text : List ℕ) (c : Command) → Spells IsItem at text (Says c) → SpellsCommands at text (c ∷ [])
 one_command at text c s = record { items = Says c ∷ []; spells = one_item at text (Says c) s; these = refl }

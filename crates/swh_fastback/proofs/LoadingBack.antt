@@ -27,11 +27,11 @@ use Rattle.swh_fastmeaning.specs.Commands.{Target, Targets, no_making, steps}
 use Rattle.swh_fastmeaning.specs.Snapshots.{tip_branch, branches_of, refs_of, snapshot_of}
 use Rattle.swh_fastload.specs.Input.{Means, MeansStream, AreCarriedOut, EndsWithin, IsMeant}
 use Rattle.swh_fastback.specs.Commands.{AreRootTips}
-use Rattle.swh_fastback.specs.Head.{IsHeadOf}
-use Rattle.swh_fastback.specs.Loaded.{SetTags, branch_of_tag, release_name, main_branch, without_head as headless, AreMany, AreLoadedOf, LoadsMany}
-use Rattle.swh_fastback.specs.LoadsBack.{BreaksStream, LoadsAs, LoadsBack}
-use Rattle.swh_fastback.specs.Length.{IsLongStream}
-use Rattle.swh_fastback.specs.Sound.{AreWithin, AreNamed}
+use Rattle.swh_fastcook.specs.Cook.{BreaksStream, IsHeadOf}
+use Rattle.swh_fastcook.specs.Loaded.{SetTags, branch_of_tag, release_name, main_branch, without_head as headless, AreMany, AreLoadedOf, LoadsMany}
+use Rattle.swh_fastback.specs.LoadsBack.{LoadsAs, LoadsBack}
+use Rattle.swh_fastcook.specs.Length.{IsLongStream}
+use Rattle.swh_fastback.specs.Sound.{AreInLimit, AreOfBytes, AreNamed}
 use Rattle.swh_fastback.proofs.AimMaps.{in-found}
 use Rattle.swh_fastback.proofs.Branching.{in_tips}
 use Rattle.swh_fastback.proofs.Carried.{preceded, once, is_stream}
@@ -80,7 +80,7 @@ unfolding Means
 to_means id head text meaning m = m
 
 module _ (id : Kind → List ℕ → List ℕ) (bodies : Bodies) (children_of : Name → Option (List Name)) (graph : IsGraphOf bodies children_of) (root : Name) (order : List Name) (is_order : IsPostorder children_of root order)
-    (carried : AreCarried children_of (BreaksStream bodies root order) order) (named : AreNamed id bodies) (within : AreWithin bodies) where
+    (carried : AreCarried children_of (BreaksStream bodies root order) order) (named : AreNamed id bodies) (in_limit : AreInLimit bodies) (of_bytes : AreOfBytes bodies order) where
   abbrev Many : Type 0
   Many = LoadsMany bodies order root
 
@@ -180,7 +180,7 @@ module _ (id : Kind → List ℕ → List ℕ) (bodies : Bodies) (children_of : 
 
   pub loads_back : root.kind ≢ Content → root.kind ≢ DirectoryKind → (text : List ℕ) → IsStreamText bodies order root text → (head : Option (List ℕ)) → IsHeadOf bodies root head → LoadsBack id bodies order root head text
   loads_back no_content no_directory text t head h =
-      let s = is_stream bodies children_of graph root order is_order Many Long carried within text t (short text no_content t) in
+      let s = is_stream bodies children_of graph root order is_order Many Long carried in_limit of_bytes text t (short text no_content t) in
       let c = s.1 in
       let full = no_empty bodies children_of root order is_order Many Long carried.none in
       let stand_once = once bodies children_of graph root order is_order Many Long carried in
@@ -196,7 +196,7 @@ module _ (id : Kind → List ℕ → List ℕ) (bodies : Bodies) (children_of : 
       let named_so : meaning.snapshot ≡ id SnapshotKind (snapshot_text b.branches) = ap (id SnapshotKind) text_is in
       let out : AreCarriedOut id s.0 f.making = record {
         makes = ap (steps id no_making) c.is ∙ f.makes;
-        short = λ m makes. (let held = f.held m makes in within.short held.name m.body held.held);
+        short = λ m makes. (let held = f.held m makes in in_limit held.name m.body held.held);
       } in
       let ends : EndsWithin id head f.making = record {
         refs = let count = refs_few head f.making.aims b.branches b.is in elim (below_or (length (headless b.branches)) 65536) [ inl le ↦ omega (arith, le, count) | inr many ↦ absurd (not_many (inl many)) ];

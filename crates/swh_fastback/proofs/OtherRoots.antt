@@ -20,7 +20,7 @@ use Rattle.swh_fasttext.specs.Text.{cook_branch}
 use Rattle.swh_fastcook.specs.Stream.{LeavesBranch}
 use Rattle.swh_fastmeaning.specs.Commands.{Target}
 use Rattle.swh_fastmeaning.specs.Snapshots.{tip_branch}
-use Rattle.swh_fastback.specs.Loaded.{Tags, SetsTag, SetTags, branch_of_tag}
+use Rattle.swh_fastcook.specs.Loaded.{Tags, SetsTag, SetTags, branch_of_tag}
 use Rattle.swh_fastback.proofs.Tipping.{Tips, TipsAre, IsCook, remove_cook}
 use Rattle.swh_fastback.proofs.Endings.{SetsAll, Leaves}
 

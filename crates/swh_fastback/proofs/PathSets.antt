@@ -2,6 +2,7 @@
 use Rattle.std.proofs.Common.{◌≡◌, ◌≢◌, ℕ, Bool, true, false, not, cond, List, [], ◌∷◌, ◌++◌, refl, sym, ap, ◌∙◌, append_assoc}
 use Rattle.std.specs.Prelude.{◌||◌}
 use Rattle.std.specs.List.{AllByRecursion}
+use Rattle.std.proofs.lemmas.List.{append-nil}
 use Rattle.swh_entries.specs.declared.entry.Leaf.{Leaf}
 use Rattle.swh_folders.specs.Forest.{Forest, Bare, File, Folder, Nothing, IsFile, IsFolder, Stands, child_at, flat}
 use Rattle.swh_folders.specs.PathMap.{PathMap, same, begins, is_path_before, insert_path, cleared, set}
@@ -121,11 +122,7 @@ all_push e m [] h a b = tt
 all_push e m (x ∷ k) h a b = (before_push x.0 m e h.0 (a.0, b.0.1, b.0.0), all_push e m k h.1 a.1 b.1)
 
 sets_on : (m k : PathMap) → Ascends k → AreApart k → AllBefore m k → sets [] k m ≡ m ++ k
-sets_on m [] a b h = sym (nothing_more m)
-  where
-    nothing_more : (m : PathMap) → m ++ [] ≡ m
-    nothing_more [] = refl
-    nothing_more (e ∷ m) = ap (λ (r : PathMap). e ∷ r) (nothing_more m)
+sets_on m [] a b h = sym (append-nil m)
 sets_on m (e ∷ k) a b h =
     ap (sets [] k) (set_last e.0 e.1 m h.0)
     ∙ sets_on (m ++ e ∷ []) k a.1 b.1 (all_push e m k h.1 a.0 b.0)

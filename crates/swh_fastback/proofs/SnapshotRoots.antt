@@ -31,8 +31,8 @@ use Rattle.swh_fastcook.specs.Stream.{LeavesBranch}
 use Rattle.swh_fastmeaning.specs.Commands.{Target}
 use Rattle.swh_fastmeaning.specs.Snapshots.{tip_branch}
 use Rattle.swh_fastback.specs.Commands.{branch_tips}
-use Rattle.swh_fastback.specs.Head.{IsHeadOf}
-use Rattle.swh_fastback.specs.Loaded.{release_name}
+use Rattle.swh_fastcook.specs.Cook.{IsHeadOf}
+use Rattle.swh_fastcook.specs.Loaded.{release_name}
 use Rattle.swh_fastback.proofs.AimMaps.{not_at, insert-own, insert-other, remove-own, remove-other, in-found, found-in, same-entries}
 use Rattle.swh_fastback.proofs.Tipping.{Tips, TipsAre, IsCook}
 use Rattle.swh_fastback.proofs.Endings.{SetsAll, Leaves}

@@ -8,6 +8,7 @@ use Rattle.std.specs.Map.{remove_entry}
 use Rattle.std.specs.FinMap.{nat_cmp-IsAntisymmetric, slice_cmp-IsAntisymmetric}
 use Rattle.std.proofs.lemmas.Cmp.{nat_cmp_total, nat_list_cmp_total}
 use Rattle.std.proofs.lemmas.List.Elements.{Contains-append_left, Contains-append_right, Contains-append_cases, filter-append}
+use Rattle.std.proofs.lemmas.List.{append-nil}
 use Rattle.swh_base.specs.declared.kind.Kind.{Kind}
 use Rattle.swh_base.specs.declared.kind.Kind.TheVariants.{Content, Directory as DirectoryKind, Revision as RevisionKind, Release as ReleaseKind, Snapshot as SnapshotKind}
 use Rattle.swh_base.specs.declared.name.Name.{Name}
@@ -40,7 +41,7 @@ use Rattle.swh_fastcook.proofs.Marked.{mark_is}
 use Rattle.swh_fastgrammar.specs.declared.command.Command.{Command}
 use Rattle.swh_fastmeaning.specs.Aims.{Missing, tip_at, with_mark, without_tip}
 use Rattle.swh_fastmeaning.specs.Commands.{Target, Targets, Changed, Making, Makes, no_making, step, steps, then, only as only_aims, aim_of, root_of, revision, revision_parts, release, release_parts, marked, committed, tagged, ◌>>=◌}
-use Rattle.swh_fastback.specs.Loaded.{SetsTag}
+use Rattle.swh_fastcook.specs.Loaded.{SetsTag}
 use Rattle.swh_fastback.specs.Trees.{with_rows, HasNoEmptyFolder}
 use Rattle.swh_fastback.specs.Sound.{AreNamed}
 use Rattle.swh_fastback.specs.Made.{LeadsTo as Knows, IsHeldMade, AreMadeAgain}
@@ -51,10 +52,6 @@ use Rattle.swh_fastback.proofs.GoodRows.{entry_child, child_file, kid_in, walk_f
 use Rattle.swh_fastback.proofs.HeldFolders.{IsHeldHere, folder_held}
 use Rattle.swh_fastback.proofs.CommitSteps.{KnowsFile, object_by, at_tree, commit_is}
 use Rattle.swh_fastback.proofs.Tipping.{Tips, TipsAre, tips_same, tips_commit, tips_tag, tips_begun, begun_free}
-
-pub nothing_more : {X : Type 0} (xs : List X) → xs ++ [] ≡ xs
-nothing_more [] = refl
-nothing_more {X} (x ∷ xs) = ap (λ (r : List X). x ∷ r) (nothing_more xs)
 
 pub name_of : (n : Name) (kind : Kind) (i : List ℕ) → n.kind ≡ kind → n.id ≡ i → record { kind = kind; id = i } ≡ n
 name_of n kind i k e =
@@ -91,10 +88,10 @@ module _ (id : Kind → List ℕ → List ℕ) (bodies : Bodies) (order : List N
     pub carries : Carries (front ++ name ∷ []) making
 
   no_more_made : (m : Making) → ((o : Made) → Contains m.objects o → IsHeldMade bodies o) → (o : Made) → Contains (m.objects ++ []) o → IsHeldMade bodies o
-  no_more_made m h o there = h o (subst (λ (l : List Made). Contains l o) (nothing_more m.objects) there)
+  no_more_made m h o there = h o (subst (λ (l : List Made). Contains l o) (append-nil m.objects) there)
 
   no_more_trees : (m : Making) → ((t : PathMap) → Contains m.trees t → IsHeldTree t) → (t : PathMap) → Contains (m.trees ++ []) t → IsHeldTree t
-  no_more_trees m h t there = h t (subst (λ (l : List PathMap). Contains l t) (nothing_more m.trees) there)
+  no_more_trees m h t there = h t (subst (λ (l : List PathMap). Contains l t) (append-nil m.trees) there)
 
   one_more_made : (m : Making) (x : Made) → ((o : Made) → Contains m.objects o → IsHeldMade bodies o) → IsHeldMade bodies x → (o : Made) → Contains (m.objects ++ x ∷ []) o → IsHeldMade bodies o
   one_more_made m x h new o there = elim (Contains-append_cases m.objects (x ∷ []) o there) [ inl was ↦ h o was | inr is ↦ subst (IsHeldMade bodies) (only x o is) new ]
@@ -366,7 +363,7 @@ module _ (id : Kind → List ℕ → List ℕ) (bodies : Bodies) (order : List N
       carries : Carries order making
 
     go_on : (names front : List Name) (m : Making) (commands : List Command) → order ≡ front ++ names → Carries front m → AreObjectCommands bodies order names commands → GoesOn front m commands
-    go_on [] front m commands cut c t = record { making = m; makes = ap (steps id m) t; carries = subst (λ (l : List Name). Carries l m) (sym (cut ∙ nothing_more front)) c }
+    go_on [] front m commands cut c t = record { making = m; makes = ap (steps id m) t; carries = subst (λ (l : List Name). Carries l m) (sym (cut ∙ append-nil front)) c }
     go_on (n ∷ names) front m commands cut c (own, more, is, one, rest) =
         let s = step_by once front names n cut children_of graph preceded named no_empty m own n.kind refl c one in
         let next : order ≡ (front ++ n ∷ []) ++ names = cut ∙ sym (append_assoc front (n ∷ []) names) in

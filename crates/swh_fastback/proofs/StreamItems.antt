@@ -1,6 +1,7 @@
 -- The whole text is a stream of its commands, within the limits.
 use Rattle.std.proofs.Common.{◌≡◌, inl, inr, ℕ, ◌+◌, ◌≤◌, false, List, [], ◌∷◌, ◌++◌, length, length-append, Some, refl, sym, ap, ◌∙◌, subst, arith, append_assoc, codes, Contains}
 use Rattle.std.specs.List.{AllByRecursion, flat_map}
+use Rattle.std.proofs.lemmas.List.{append-nil}
 use Rattle.swh_base.specs.Limits.{body_limit}
 use Rattle.swh_base.specs.declared.kind.Kind.{Kind}
 use Rattle.swh_base.specs.declared.kind.Kind.TheVariants.{Content, Directory, Revision as RevisionKind, Release as ReleaseKind, Snapshot}
@@ -117,10 +118,6 @@ module _ (order : List Name) where
         spells = commands_append at text (resets_text tips) (Reset tip.0 (Of s.object) ∷ []) r.commands s.spells r.spells;
       }
 
-  nothing_behind : (a : List ℕ) → a ++ [] ≡ a
-  nothing_behind [] = refl
-  nothing_behind (c ∷ a) = ap (λ (t : List ℕ). c ∷ t) (nothing_behind a)
-
   resets_append : (a b : List (List ℕ × Name)) → resets_text (a ++ b) ≡ resets_text a ++ resets_text b
   resets_append [] b = refl
   resets_append (t ∷ a) b = ap (λ (x : List ℕ). tip_text t.0 (mark_of order t.1) ++ x) (resets_append a b) ∙ sym (append_assoc (tip_text t.0 (mark_of order t.1)) (resets_text a) (resets_text b))
@@ -128,7 +125,7 @@ module _ (order : List Name) where
   object_is : (branch : List ℕ) (n : Name) (kind : Kind) → object_tip order branch n kind ≡ resets_text (object_tips branch n kind)
   object_is branch n Content = refl
   object_is branch n Directory = refl
-  object_is branch n RevisionKind = sym (nothing_behind (tip_text branch (mark_of order n)))
+  object_is branch n RevisionKind = sym (append-nil (tip_text branch (mark_of order n)))
   object_is branch n ReleaseKind = refl
   object_is branch n Snapshot = refl
 
@@ -182,7 +179,7 @@ module _ (bodies : Bodies) (order : List Name) (root : Name) where
   root_tips : (kind : Kind) (text : List ℕ) → AreTipsOf bodies order root kind text → SpellsRoot text kind
   root_tips Content text t = record { tips = []; are = refl; is = t }
   root_tips Directory text t = record { tips = []; are = refl; is = t }
-  root_tips RevisionKind text t = record { tips = (codes "refs/heads/main", root) ∷ []; are = refl; is = t ∙ sym (nothing_behind order (tip_text (codes "refs/heads/main") (mark_of order root))) }
+  root_tips RevisionKind text t = record { tips = (codes "refs/heads/main", root) ∷ []; are = refl; is = t ∙ sym (append-nil (tip_text (codes "refs/heads/main") (mark_of order root))) }
   root_tips ReleaseKind text t = record { tips = []; are = refl; is = t }
   root_tips Snapshot text (branches, holds, is) = record { tips = flat_map branch_tips branches; are = (branches, holds, refl); is = is ∙ branches_are order branches }
 

@@ -20,7 +20,7 @@ use Rattle.swh_fastcarried.specs.Rules.{tag_branch}
 use Rattle.swh_fastcarried.proofs.Reaching.{same_object}
 use Rattle.swh_fastmeaning.specs.Commands.{Target}
 use Rattle.swh_fastmeaning.specs.Snapshots.{tip_branch}
-use Rattle.swh_fastback.specs.Loaded.{Tags, SetsTag, SetTags, branch_of_tag, release_name}
+use Rattle.swh_fastcook.specs.Loaded.{Tags, SetsTag, SetTags, branch_of_tag, release_name}
 use Rattle.swh_fastback.proofs.AimMaps.{at_self, insert-own, insert-other}
 use Rattle.swh_fastback.proofs.Tipping.{Tips}
 

@@ -15,7 +15,7 @@ use Rattle.swh_fastcarried.specs.Rules.{tag_branch}
 use Rattle.swh_fastcook.specs.Ends.{HasRevision}
 use Rattle.swh_fastmeaning.specs.Commands.{Target}
 use Rattle.swh_fastmeaning.specs.Snapshots.{tip_branch}
-use Rattle.swh_fastback.specs.Loaded.{Tags, SetTags, SetsTag, release_name, branch_of_tag}
+use Rattle.swh_fastcook.specs.Loaded.{Tags, SetTags, SetsTag, release_name, branch_of_tag}
 
 abbrev pub Tips : Type 0
 Tips = List (List ℕ × Target)

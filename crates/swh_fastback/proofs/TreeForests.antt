@@ -4,6 +4,7 @@ use Rattle.std.specs.Prelude.{Contains}
 use Rattle.std.specs.List.{flat_map, AllByRecursion}
 use Rattle.std.specs.Ordering.{is_lt}
 use Rattle.std.proofs.lemmas.Bool.{eqb-true}
+use Rattle.std.proofs.lemmas.List.{append-nil}
 use Rattle.swh_base.specs.declared.kind.Kind.{Kind}
 use Rattle.swh_base.specs.declared.kind.Kind.TheVariants.{Directory}
 use Rattle.swh_base.specs.declared.name.Name.{Name}
@@ -48,11 +49,7 @@ slashes-push [] n h k = (k, tt)
 slashes-push (c ∷ p) n h k = (h.0, slashes-push p n h.1 k)
 
 pub front-push : (p : List (List ℕ)) (n : List ℕ) → (front_text p ++ n) ++ 47 ∷ [] ≡ front_text (p ++ n ∷ [])
-front-push [] n = sym (nothing_more (n ++ 47 ∷ []))
-  where
-    nothing_more : (m : List ℕ) → m ++ [] ≡ m
-    nothing_more [] = refl
-    nothing_more (e ∷ m) = ap (λ (r : List ℕ). e ∷ r) (nothing_more m)
+front-push [] n = sym (append-nil (n ++ 47 ∷ []))
 front-push (c ∷ p) n =
     ap (λ (t : List ℕ). t ++ 47 ∷ []) (append_assoc (c ++ 47 ∷ []) (front_text p) n)
     ∙ append_assoc (c ++ 47 ∷ []) (front_text p ++ n) (47 ∷ [])

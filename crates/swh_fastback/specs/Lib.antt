@@ -1,7 +1,4 @@
 pub mod Commands
-pub mod Head
-pub mod Length
-pub mod Loaded
 pub mod LoadsBack
 pub mod Made
 pub mod Rules

@@ -1,5 +1,5 @@
 -- What a text that was cooked loads back as.
-use Rattle.std.specs.Prelude.{◌≡◌, ◌≢◌, ◌⊎◌, ℕ, List, [], ◌∷◌, Option, Contains}
+use Rattle.std.specs.Prelude.{◌≡◌, ◌⊎◌, ℕ, List, [], ◌∷◌, Option, Contains}
 use Rattle.swh_base.specs.declared.kind.Kind.{Kind}
 use Rattle.swh_base.specs.declared.kind.Kind.TheVariants.{Content, Directory, Revision as RevisionKind, Release as ReleaseKind, Snapshot}
 use Rattle.swh_base.specs.declared.name.Name.{Name}
@@ -8,17 +8,10 @@ use Rattle.swh_base.specs.Snapshot.{SnapshotBranch, ToObject, snapshot_text}
 use Rattle.swh_model.specs.Archive.{Bodies}
 use Rattle.swh_model.specs.Meaning.{Made, StreamMeaning}
 use Rattle.swh_graph.specs.Holding.{HoldsRelease}
-use Rattle.swh_carried.specs.declared.fault.Why.{Why}
-use Rattle.swh_fastcarried.specs.Rules.{BreaksIn, tag_branch}
+use Rattle.swh_fastcarried.specs.Rules.{tag_branch}
 use Rattle.swh_fastload.specs.Input.{Means}
-use Rattle.swh_fastback.specs.Length.{IsLongStream}
-use Rattle.swh_fastback.specs.Loaded.{LoadsMany, AreLoadedOf, main_branch}
+use Rattle.swh_fastcook.specs.Loaded.{AreLoadedOf, main_branch}
 use Rattle.swh_fastback.specs.Made.{IsHeldMade}
-
--- which of a stream's rules a name breaks, where these are reached from the root, in their order. A content is written as its
--- bytes, which no rule limits.
-abbrev pub BreaksStream : Bodies → Name → List Name → Name → Why → Type 0
-BreaksStream bodies root order = BreaksIn bodies root order (LoadsMany bodies order root) ((root.kind ≢ Content) × IsLongStream bodies order root)
 
 module _ (id : Kind → List ℕ → List ℕ) (bodies : Bodies) (root : Name) where
   -- One of the branches is the release's own.
