@@ -1,0 +1,4 @@
+pub mod Input
+pub mod Opening
+pub mod Parts
+pub mod Reading
