@@ -39,7 +39,13 @@ pub fn name_folder<N: Namer, F: Folder>(
     let mut given = Given::new(alloc);
     let Standing { spots, places } = read_folder(alloc, namer, folder, &mut given)?;
     check_lengths(alloc, spots.as_slice(), places.as_slice())?;
-    let root = make_directories(alloc, namer, spots.as_slice(), places.as_slice(), &mut given)?;
+    let root = make_directories(
+        alloc,
+        namer,
+        spots.as_slice(),
+        places.as_slice(),
+        &mut given,
+    )?;
     let _objects = given.into_objects();
     Ok(root)
 }

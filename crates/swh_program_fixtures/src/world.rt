@@ -122,12 +122,7 @@ fn world_of<N: Namer, P: Depot>(alloc: Global, namer: N, depot: P, parts: Parts)
     Outside {
         namer,
         depot,
-        desk: MemoryOrigins::with_folders(
-            alloc,
-            parts.jobs,
-            parts.folders,
-            parts.jobs_failing,
-        ),
+        desk: MemoryOrigins::with_folders(alloc, parts.jobs, parts.folders, parts.jobs_failing),
         origins: MemoryOrigins::new(alloc, parts.inputs, parts.inputs_failing),
         yard: MemoryYard::new(alloc),
         sink: parts.sink,

@@ -42,7 +42,10 @@ const NAMES: &[Case<'static>] = &[
     Case {
         name: "folders in a folder",
         setting: laid(&[
-            ("", List(&[("none", Folder), ("a0", File), ("a", Folder), ("a.b", File)])),
+            (
+                "",
+                List(&[("none", Folder), ("a0", File), ("a", Folder), ("a.b", File)]),
+            ),
             ("none", List(&[])),
             ("a0", Bytes(b"version 1\n")),
             ("a", List(&[("test.txt", File)])),
@@ -92,7 +95,10 @@ const BAD: &[Case<'static>] = &[
     },
     Case {
         name: "a file of 67,108,865 bytes",
-        setting: laid(&[("", List(&[("test.txt", File)])), ("test.txt", Fill(67_108_865))]),
+        setting: laid(&[
+            ("", List(&[("test.txt", File)])),
+            ("test.txt", Fill(67_108_865)),
+        ]),
         runs: &[NAME],
         statuses: &[1],
         printed: b"swharc: limit body\n",
