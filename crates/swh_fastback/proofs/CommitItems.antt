@@ -60,7 +60,7 @@ file_mode mode (inr (inr (inl e))) f p = inr (inr e)
 file_mode mode (inr (inr (inr (inl e)))) f p = absurd (f e)
 file_mode mode (inr (inr (inr (inr e)))) f p = absurd (p e)
 
-not_mode : (mode other : ℕ) → (mode == other) ≡ false → mode ≢ other
+pub not_mode : (mode other : ℕ) → (mode == other) ≡ false → mode ≢ other
 not_mode mode other e is = let t : (other == other) ≡ false = subst (λ (k : ℕ). (k == other) ≡ false) is e in by_self other t
   where
     by_self : (k : ℕ) → (k == k) ≡ false → ⊥

@@ -1,5 +1,5 @@
 -- What the commands of an object make, where the marks lead to what it names.
-use Rattle.std.proofs.Common.{◌≡◌, ◌≢◌, ℕ, ◌==◌, Bool, true, false, cond, List, [], ◌∷◌, ◌++◌, map, Option, Some, None, Result, Ok, refl, sym, ap, ◌∙◌, subst, arith}
+use Rattle.std.proofs.Common.{◌≡◌, ◌≢◌, ℕ, ◌==◌, Bool, true, false, cond, List, [], ◌∷◌, ◌++◌, map, Option, Some, None, Result, Ok, refl, sym, ap, ◌∙◌}
 use Rattle.std.specs.List.{AllByRecursion, flat_map}
 use Rattle.std.proofs.lemmas.Bool.{eqb-true}
 use Rattle.swh_base.specs.declared.kind.Kind.{Kind}
@@ -26,6 +26,7 @@ use Rattle.swh_fastmeaning.specs.Commands.{Target, Targets, Changed, first_paren
 use Rattle.swh_fastback.specs.Trees.{leaf_of, with_rows}
 use Rattle.swh_fastback.specs.Made.{LeadsTo as Knows}
 use Rattle.swh_fastback.specs.Commands.{said, commit_of, changes_for, StartsFrom}
+use Rattle.swh_fastback.proofs.CommitItems.{not_mode}
 
 -- ## Commits and blobs by their marks
 
@@ -70,12 +71,6 @@ as_set aim = Ok (aim.name.id, [])
 
 abbrev put_at : ℕ → List ℕ → PathMap → List ℕ × List Made → Result Changed Missing
 put_at mode path m s = Ok (record { tree = set (components path) (record { mode = mode; id = s.0 }) m; contents = [] ++ s.1 })
-
-not_mode : (mode other : ℕ) → (mode == other) ≡ false → mode ≢ other
-not_mode mode other e is = by_self other (subst (λ (k : ℕ). (k == other) ≡ false) is e)
-  where
-    by_self : (k : ℕ) → (k == k) ≡ false → ⊥
-    by_self k f = grind arith
 
 module _ (id : Kind → List ℕ → List ℕ) (order : List Name) (aims : Targets) where
   one_more : (a : At Change) (more : List (At Change)) (m n : PathMap) (c : Change) (r : Result Changed Missing) → a.it ≡ c → changed id aims a.at c (at_tree m) ≡ Ok (at_tree n) → all_changed id aims more (at_tree n) ≡ r → all_changed id aims (a ∷ more) (at_tree m) ≡ r

@@ -1,8 +1,7 @@
 -- What is carried is what a stream takes: rows of files.
-use Rattle.std.proofs.Common.{◌≡◌, ◌≢◌, inl, inr, ℕ, ◌+◌, ◌==◌, ◌<◌, ◌≤◌, Bool, true, false, cond, List, [], ◌∷◌, ◌++◌, length, length-append, Option, Some, None, Contains, refl, sym, ap, ◌∙◌, subst, arith}
+use Rattle.std.proofs.Common.{◌≡◌, ◌≢◌, inl, inr, ℕ, ◌+◌, ◌==◌, ◌<◌, ◌≤◌, Bool, cond, List, [], ◌∷◌, ◌++◌, length, length-append, Option, Some, None, Contains, refl, sym, ap, ◌∙◌, subst, arith}
 use Rattle.std.specs.Prelude.{decimal}
 use Rattle.std.specs.List.{AllByRecursion, cons_option}
-use Rattle.std.proofs.lemmas.Bool.{eqb-true}
 use Rattle.std.proofs.lemmas.List.Elements.{Contains-append_left}
 use Rattle.swh_base.specs.Limits.{path_limit}
 use Rattle.swh_base.specs.declared.kind.Kind.{Kind}
@@ -28,7 +27,7 @@ use Rattle.swh_fastback.specs.Sound.{AreOfBytes}
 use Rattle.swh_fastback.specs.Trees.{HasNoEmptyFolder}
 use Rattle.swh_fastback.proofs.LineKinds.{IsMarkNumber}
 use Rattle.swh_fastback.proofs.CommitItems.{IsGoodRow}
-use Rattle.swh_fastback.proofs.TreeForests.{front_text, NoSlashes, slashes-push, front-push, path-parts}
+use Rattle.swh_fastback.proofs.TreeForests.{other_mode, front_text, NoSlashes, slashes-push, front-push, path-parts}
 
 -- ## Bytes of entries
 
@@ -59,7 +58,7 @@ id_bytes e h = (bytes_back e.name (0 ∷ e.id) (bytes_back (decimal e.mode) (32 
 
 -- ## Children of directories
 
-more_in : (o : Option Name) (kids : List Name) (n : Name) → Contains kids n → Contains (cons_option o kids) n
+pub more_in : (o : Option Name) (kids : List Name) (n : Name) → Contains kids n → Contains (cons_option o kids) n
 more_in None kids n there = there
 more_in (Some k) kids n there = in_rest k kids n there
 
@@ -70,15 +69,8 @@ in_filter (x ∷ xs) e n there is = elim (in_cases x xs e there) [
   | inr later ↦ more_in (child_of x) (directory_children xs) n (in_filter xs e n later is)
 ]
 
-same_body : (a b : List ℕ) → Some a ≡ Some b → a ≡ b
+pub same_body : (a b : List ℕ) → Some a ≡ Some b → a ≡ b
 same_body a b e = cc
-
-pub other_mode : (mode other : ℕ) → mode ≢ other → (mode == other) ≡ false
-other_mode mode other ne = by_test (mode == other) refl
-  where
-    by_test : (b : Bool) → (mode == other) ≡ b → (mode == other) ≡ false
-    by_test true e = absurd (ne (eqb-true mode other e))
-    by_test false e = e
 
 child_folder : (e : DirectoryEntry) → e.mode ≡ 40000 → child_of e ≡ Some (directory_name e.id)
 child_folder e is = ap (λ (m : ℕ). cond (m == 160000) None (cond (m == 40000) (Some (directory_name e.id)) (Some (content_name e.id)))) is

@@ -36,7 +36,7 @@ use Rattle.swh_fastcook.specs.Loaded.{release_name}
 use Rattle.swh_fastback.proofs.AimMaps.{not_at, insert-own, insert-other, remove-own, remove-other, in-found, found-in, same-entries}
 use Rattle.swh_fastback.proofs.Tipping.{Tips, TipsAre, IsCook}
 use Rattle.swh_fastback.proofs.Endings.{SetsAll, Leaves}
-use Rattle.swh_fastback.proofs.GoodRows.{kid_in}
+use Rattle.swh_fastback.proofs.GoodRows.{kid_in, more_in, same_body}
 use Rattle.swh_fastback.proofs.GoodObjects.{no_odd, root_there}
 use Rattle.swh_fastback.proofs.Steps.{AreSorted, name_of}
 use Rattle.swh_fastback.proofs.TagLookups.{text_exact, same_text, some_is, rest_found, tag_found, one_held, tag_sound, tag_full}
@@ -136,10 +136,6 @@ names_sorted (e ∷ es) s = (names_after e.0 es s.0, names_sorted es s.1)
 
 -- ## Children of a snapshot
 
-more_in : (o : Option Name) (kids : List Name) (n : Name) → Contains kids n → Contains (cons_option o kids) n
-more_in None kids n there = there
-more_in (Some k) kids n there = in_rest k kids n there
-
 child_target : (b : SnapshotBranch) (n : Name) → b.target ≡ ToObject n → branch_child b ≡ Some n
 child_target b n e = ap (λ (t : BranchTarget). elim t [ ToObject m ↦ Some m | ToBranch other ↦ None | ToNothing ↦ None ]) e
 
@@ -149,9 +145,6 @@ in_children (x ∷ xs) b n there e = elim (in_cases x xs b there) [
   | inl same ↦ subst (λ (o : Option Name). Contains (cons_option o (filter_map branch_child xs)) n) (sym (ap branch_child same ∙ child_target b n e)) (in_first n (filter_map branch_child xs))
   | inr later ↦ more_in (branch_child x) (filter_map branch_child xs) n (in_children xs b n later e)
 ]
-
-same_body : (a b : List ℕ) → Some a ≡ Some b → a ≡ b
-same_body a b e = cc
 
 module _ (bodies : Bodies) (children_of : Name → Option (List Name)) (graph : IsGraphOf bodies children_of) (root : Name) (order : List Name) (is_order : IsPostorder children_of root order) (preceded : ArePreceded children_of order)
     (many long : Type 0) (none : (n : Name) → Contains order n → BreaksNone (BreaksIn bodies root order many long) n) where

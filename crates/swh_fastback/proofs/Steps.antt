@@ -48,7 +48,7 @@ use Rattle.swh_fastback.specs.Made.{LeadsTo as Knows, IsHeldMade, AreMadeAgain}
 use Rattle.swh_fastback.specs.Commands.{begin_commands, IsBlobCommand, AreCommitCommands, IsTagCommand, AreCommandsOf, AreObjectCommands}
 use Rattle.swh_fastback.proofs.AimMaps.{insert-own, insert-other, insert-sorted, remove-sorted, Sorted}
 use Rattle.swh_fastback.proofs.TreeForests.{forest_of, walk-map, made_again, held_id}
-use Rattle.swh_fastback.proofs.GoodRows.{entry_child, child_file, kid_in, walk_full, walk_stands, StandsIn}
+use Rattle.swh_fastback.proofs.GoodRows.{entry_child, child_file, same_body, kid_in, walk_full, walk_stands, StandsIn}
 use Rattle.swh_fastback.proofs.HeldFolders.{IsHeldHere, folder_held}
 use Rattle.swh_fastback.proofs.CommitSteps.{KnowsFile, object_by, at_tree, commit_is}
 use Rattle.swh_fastback.proofs.Tipping.{Tips, TipsAre, tips_same, tips_commit, tips_tag, tips_begun, begun_free}
@@ -318,9 +318,6 @@ module _ (id : Kind → List ℕ → List ℕ) (bodies : Bodies) (order : List N
         where
           name_at : List ℕ → Name
           name_at x = record { kind = RevisionKind; id = id RevisionKind x }
-
-      same_body : (a b : List ℕ) → Some a ≡ Some b → a ≡ b
-      same_body a b e = cc
 
       release_by : (body : List ℕ) (r : Release) → name.kind ≡ ReleaseKind → body_of bodies name ≡ Some body → IsRelease body r → (found : Option (List Name)) → children_of name ≡ found → children_of name ≡ Some (r.object ∷ [])
       release_by body r kind held is None missing = let e : Some body ≡ None = sym held ∙ graph.missing name missing in cc

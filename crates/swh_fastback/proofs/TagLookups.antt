@@ -22,7 +22,8 @@ use Rattle.swh_fastmeaning.specs.Commands.{Target}
 use Rattle.swh_fastmeaning.specs.Snapshots.{tip_branch}
 use Rattle.swh_fastcook.specs.Loaded.{Tags, SetsTag, SetTags, branch_of_tag, release_name}
 use Rattle.swh_fastback.proofs.AimMaps.{at_self, insert-own, insert-other}
-use Rattle.swh_fastback.proofs.Tipping.{Tips}
+use Rattle.swh_fastback.proofs.Tipping.{Tips, first_same, same_key}
+use Rattle.swh_fastback.proofs.GoodRows.{same_body}
 
 abbrev pub text_exact : IsAntisymmetric (slice_cmp nat_cmp)
 text_exact = slice_cmp-IsAntisymmetric nat_cmp-IsAntisymmetric
@@ -46,12 +47,6 @@ pub record IsTagTip (tags : Tags) (q : List ℕ) (t : Target) : Type 0 where
   pub key : q ≡ tag_branch tag
   pub found : lookup (is_at (slice_cmp nat_cmp tag)) tags ≡ Some id
   pub named : t.name ≡ release_name id
-
-first_same : (e : List ℕ × Target) (es : Tips) (x : List ℕ × List ℕ) (xs : Tags) → map tip_branch (e ∷ es) ≡ map branch_of_tag (x ∷ xs) → (tip_branch e ≡ branch_of_tag x) × (map tip_branch es ≡ map branch_of_tag xs)
-first_same e es x xs h = (cc, cc)
-
-same_key : (e : List ℕ × Target) (x : List ℕ × List ℕ) → tip_branch e ≡ branch_of_tag x → e.0 ≡ tag_branch x.0
-same_key e x h = ap (λ (b : SnapshotBranch). b.name) h
 
 same_name : (e : List ℕ × Target) (x : List ℕ × List ℕ) → tip_branch e ≡ branch_of_tag x → e.1.name ≡ release_name x.1
 same_name e x h = same_object e.1.name (release_name x.1) (ap (λ (b : SnapshotBranch). b.target) h)
@@ -103,9 +98,6 @@ tag_found (e ∷ es) (x ∷ xs) tag i h found =
 -- ## Tags of names
 
 module _ (bodies : Bodies) where
-  same_body : (a b : List ℕ) → Some a ≡ Some b → a ≡ b
-  same_body a b e = cc
-
   pub one_held : (n : Name) (r s : Release) → HoldsRelease bodies n r → HoldsRelease bodies n s → r ≡ s
   one_held n r s h k = one_release k.body r s (subst (λ (b : List ℕ). IsRelease b r) (same_body h.body k.body (sym h.held ∙ k.held)) h.is) k.is
 

@@ -36,10 +36,10 @@ pub record TipsAre (bodies : Bodies) (front : List Name) (tips : Tips) : Type 0 
 
 -- ## A tip and a tag of one branch
 
-same_key : (e : List ℕ × Target) (x : List ℕ × List ℕ) → tip_branch e ≡ branch_of_tag x → e.0 ≡ tag_branch x.0
+pub same_key : (e : List ℕ × Target) (x : List ℕ × List ℕ) → tip_branch e ≡ branch_of_tag x → e.0 ≡ tag_branch x.0
 same_key e x h = ap (λ (b : SnapshotBranch). b.name) h
 
-first_same : (e : List ℕ × Target) (es : Tips) (x : List ℕ × List ℕ) (xs : Tags) → map tip_branch (e ∷ es) ≡ map branch_of_tag (x ∷ xs) → (tip_branch e ≡ branch_of_tag x) × (map tip_branch es ≡ map branch_of_tag xs)
+pub first_same : (e : List ℕ × Target) (es : Tips) (x : List ℕ × List ℕ) (xs : Tags) → map tip_branch (e ∷ es) ≡ map branch_of_tag (x ∷ xs) → (tip_branch e ≡ branch_of_tag x) × (map tip_branch es ≡ map branch_of_tag xs)
 first_same e es x xs h = (cc, cc)
 
 before_tags : (e : List ℕ × Target) (x : List ℕ × List ℕ) → tip_branch e ≡ branch_of_tag x → slice_cmp nat_cmp cook_branch e.0 ≡ Less

@@ -68,11 +68,11 @@ rows-append : (a b : List Row) (m : PathMap) → with_rows (a ++ b) m ≡ with_r
 rows-append [] b m = refl
 rows-append (r ∷ a) b m = rows-append a b (with_row r m)
 
-other_mode : (mode : ℕ) → mode ≢ 40000 → (mode == 40000) ≡ false
-other_mode mode ne = by_test (mode == 40000) refl
+pub other_mode : (mode other : ℕ) → mode ≢ other → (mode == other) ≡ false
+other_mode mode other ne = by_test (mode == other) refl
   where
-    by_test : (b : Bool) → (mode == 40000) ≡ b → (mode == 40000) ≡ false
-    by_test true e = absurd (ne (eqb-true mode 40000 e))
+    by_test : (b : Bool) → (mode == other) ≡ b → (mode == other) ≡ false
+    by_test true e = absurd (ne (eqb-true mode other e))
     by_test false e = e
 
 -- no name under the tree has a slash
@@ -84,7 +84,7 @@ HasNames (Folder e inner rest) = (Contains e.name 47 → ⊥) × HasNames inner 
 walk-sets : (bodies : Bodies) (p : List (List ℕ)) (t : Tree) (m : PathMap) → NoSlashes p → HasNames t → AreHeldUnder bodies t → with_rows (path_walk (front_text p) t) m ≡ sets p (flat (forest_of t)) m
 walk-sets bodies p End m s n h = refl
 walk-sets bodies p (TreeLeaf e rest) m s n h =
-    let no_folder : (e.mode == 40000) ≡ false = other_mode e.mode h.0 in
+    let no_folder : (e.mode == 40000) ≡ false = other_mode e.mode 40000 h.0 in
     let here : with_row (record { path = front_text p ++ e.name; entry = e }) m ≡ set (p ++ e.name ∷ []) (leaf_of e) m =
     ap (λ (b : Bool). cond b m (set (components (front_text p ++ e.name)) (leaf_of e) m)) no_folder ∙ ap (λ (q : List (List ℕ)). set q (leaf_of e) m) (path-parts p e.name s n.0) in
     ap (with_rows (path_walk (front_text p) rest)) here ∙ walk-sets bodies p rest (set (p ++ e.name ∷ []) (leaf_of e) m) s n.1 h.1
@@ -122,7 +122,7 @@ fresh_child n (TreeLeaf e rest) h = rw (not_same e.name n (λ z. h.0 (sym z))) (
 fresh_child n (Folder e inner rest) h = rw (not_same e.name n (λ z. h.0 (sym z))) (fresh_child n rest h.1)
 
 key_of_leaf : (e : DirectoryEntry) → e.mode ≢ 40000 → sort_key e ≡ e.name ++ []
-key_of_leaf e ne = ap (λ (b : Bool). e.name ++ cond b (47 ∷ []) []) (other_mode e.mode ne)
+key_of_leaf e ne = ap (λ (b : Bool). e.name ++ cond b (47 ∷ []) []) (other_mode e.mode 40000 ne)
 
 key_of_folder : (e : DirectoryEntry) → e.mode ≡ 40000 → sort_key e ≡ e.name ++ 47 ∷ []
 key_of_folder e is = ap (λ (k : ℕ). e.name ++ suffix_of k) is
