@@ -15,17 +15,13 @@ const ONE: Layout<'static> = &[
     ("test.txt", Bytes(b"version 1\n")),
 ];
 
-const fn laid(folder: Layout<'static>) -> Setting<'static> {
-    Setting {
-        folder: Some(folder),
-        ..BARE
-    }
-}
-
 const NAMES: &[Case<'static>] = &[
     Case {
         name: "one file",
-        setting: laid(ONE),
+        setting: Setting {
+            folder: Some(ONE),
+            ..BARE
+        },
         runs: &[NAME],
         statuses: &[0],
         printed: b"swh:1:dir:d8329fc1cc938780ffdd9f94e0d364e0ea74f579\n",
@@ -33,7 +29,10 @@ const NAMES: &[Case<'static>] = &[
     },
     Case {
         name: "an empty folder",
-        setting: laid(&[("", List(&[]))]),
+        setting: Setting {
+            folder: Some(&[("", List(&[]))]),
+            ..BARE
+        },
         runs: &[NAME],
         statuses: &[0],
         printed: b"swh:1:dir:4b825dc642cb6eb9a060e54bf8d69288fbee4904\n",
@@ -41,17 +40,20 @@ const NAMES: &[Case<'static>] = &[
     },
     Case {
         name: "folders in a folder",
-        setting: laid(&[
-            (
-                "",
-                List(&[("none", Folder), ("a0", File), ("a", Folder), ("a.b", File)]),
-            ),
-            ("none", List(&[])),
-            ("a0", Bytes(b"version 1\n")),
-            ("a", List(&[("test.txt", File)])),
-            ("a/test.txt", Bytes(b"version 1\n")),
-            ("a.b", Bytes(b"")),
-        ]),
+        setting: Setting {
+            folder: Some(&[
+                (
+                    "",
+                    List(&[("none", Folder), ("a0", File), ("a", Folder), ("a.b", File)]),
+                ),
+                ("none", List(&[])),
+                ("a0", Bytes(b"version 1\n")),
+                ("a", List(&[("test.txt", File)])),
+                ("a/test.txt", Bytes(b"version 1\n")),
+                ("a.b", Bytes(b"")),
+            ]),
+            ..BARE
+        },
         runs: &[NAME],
         statuses: &[0],
         printed: b"swh:1:dir:238cb2c3a407d7e4e70ede41dcafd303a6eada92\n",
@@ -75,11 +77,14 @@ const BAD: &[Case<'static>] = &[
     },
     Case {
         name: "neither a file nor a folder",
-        setting: laid(&[
-            ("", List(&[("sub", Folder), ("test.txt", File)])),
-            ("sub", List(&[("50% off", Other)])),
-            ("test.txt", Bytes(b"version 1\n")),
-        ]),
+        setting: Setting {
+            folder: Some(&[
+                ("", List(&[("sub", Folder), ("test.txt", File)])),
+                ("sub", List(&[("50% off", Other)])),
+                ("test.txt", Bytes(b"version 1\n")),
+            ]),
+            ..BARE
+        },
         runs: &[NAME],
         statuses: &[1],
         printed: b"swharc: other sub/50%25%20off\n",
@@ -87,7 +92,10 @@ const BAD: &[Case<'static>] = &[
     },
     Case {
         name: "a path of 65,536 bytes",
-        setting: laid(&[("", LongName(65_536))]),
+        setting: Setting {
+            folder: Some(&[("", LongName(65_536))]),
+            ..BARE
+        },
         runs: &[NAME],
         statuses: &[1],
         printed: b"swharc: limit path\n",
@@ -95,10 +103,13 @@ const BAD: &[Case<'static>] = &[
     },
     Case {
         name: "a file of 67,108,865 bytes",
-        setting: laid(&[
-            ("", List(&[("test.txt", File)])),
-            ("test.txt", Fill(67_108_865)),
-        ]),
+        setting: Setting {
+            folder: Some(&[
+                ("", List(&[("test.txt", File)])),
+                ("test.txt", Fill(67_108_865)),
+            ]),
+            ..BARE
+        },
         runs: &[NAME],
         statuses: &[1],
         printed: b"swharc: limit body\n",
@@ -111,20 +122,13 @@ fn folders_that_break_are_told(rt: HostRuntime) -> Result<(), Fail> {
     all_met(rt.alloc(), BAD)
 }
 
-/// The folder of one file, of whose calls this one fails.
-const fn failing(number: u64) -> Setting<'static> {
-    Setting {
-        folder_fails: Some(number),
-        ..laid(ONE)
-    }
-}
-
 const FAULTS: &[Case<'static>] = &[
     Case {
         name: "an opening",
         setting: Setting {
             desk_fails: Some(0),
-            ..laid(ONE)
+            folder: Some(ONE),
+            ..BARE
         },
         runs: &[NAME],
         statuses: &[4],
@@ -133,7 +137,11 @@ const FAULTS: &[Case<'static>] = &[
     },
     Case {
         name: "the list",
-        setting: failing(0),
+        setting: Setting {
+            folder: Some(ONE),
+            folder_fails: Some(0),
+            ..BARE
+        },
         runs: &[NAME],
         statuses: &[4],
         printed: b"swharc: outside folder\n",
@@ -141,7 +149,11 @@ const FAULTS: &[Case<'static>] = &[
     },
     Case {
         name: "the file's opening",
-        setting: failing(1),
+        setting: Setting {
+            folder: Some(ONE),
+            folder_fails: Some(1),
+            ..BARE
+        },
         runs: &[NAME],
         statuses: &[4],
         printed: b"swharc: outside folder\n",
@@ -149,7 +161,10 @@ const FAULTS: &[Case<'static>] = &[
     },
     Case {
         name: "the file",
-        setting: laid(&[("", List(&[("test.txt", File)])), ("test.txt", Broken)]),
+        setting: Setting {
+            folder: Some(&[("", List(&[("test.txt", File)])), ("test.txt", Broken)]),
+            ..BARE
+        },
         runs: &[NAME],
         statuses: &[4],
         printed: b"swharc: outside folder\n",
@@ -157,7 +172,11 @@ const FAULTS: &[Case<'static>] = &[
     },
     Case {
         name: "no call",
-        setting: failing(2),
+        setting: Setting {
+            folder: Some(ONE),
+            folder_fails: Some(2),
+            ..BARE
+        },
         runs: &[NAME],
         statuses: &[0],
         printed: b"swh:1:dir:d8329fc1cc938780ffdd9f94e0d364e0ea74f579\n",
