@@ -7,6 +7,7 @@ use swh_outside::Opened;
 use swh_walk::Opening;
 
 /// An input by its parts, each as it was opened.
+#[derive(Drop)]
 pub enum Input<S, F> {
     /// A stream, and the head that is named for it.
     Fast {

@@ -1,14 +1,15 @@
 // Lines that report loads.
+ghost use Rattle.std.specs.Prelude.{◌≤◌, IfSome};
+ghost use Rattle.swh_loader.specs.Report.{outcome_room};
+
 use std::alloc::{AllocError, Global};
 use std::test::Fail;
 use swh_base::{Kind, Name, Status, Url, Which};
 use swh_fixtures::{EMPTY_SNAPSHOT, URL};
-use swh_loader::{
-    BadInput, BadStream, End, LoadFault, Loaded, REPORT_LIMIT, Stop, StreamWhy, report_line,
-};
+use swh_loader::{BadInput, BadText, End, LoadFault, Loaded, Stop, report_line};
 
 // How a load ended, and the words that the spec of the lines has for it.
-#[derive(Clone, Copy)]
+#[derive(Drop)]
 struct Line {
     ended: Result<Loaded, LoadFault>,
     told: &'static [u8],
@@ -54,7 +55,7 @@ const LINES: &[Line] = &[
     Line {
         ended: Ok(Loaded {
             visit: 1,
-            end: End::Failed(BadInput::Broken(BadStream::Stream {
+            end: End::Failed(BadInput::Broken(BadText::Stream {
                 at: 0,
                 why: StreamWhy::Grammar,
             })),
@@ -64,7 +65,7 @@ const LINES: &[Line] = &[
     Line {
         ended: Ok(Loaded {
             visit: 1,
-            end: End::Failed(BadInput::Broken(BadStream::Stream {
+            end: End::Failed(BadInput::Broken(BadText::Stream {
                 at: 13,
                 why: StreamWhy::End,
             })),
@@ -74,7 +75,7 @@ const LINES: &[Line] = &[
     Line {
         ended: Ok(Loaded {
             visit: 1,
-            end: End::Failed(BadInput::Broken(BadStream::Stream {
+            end: End::Failed(BadInput::Broken(BadText::Stream {
                 at: 18446744073709551615,
                 why: StreamWhy::LeftOut,
             })),
@@ -84,7 +85,7 @@ const LINES: &[Line] = &[
     Line {
         ended: Ok(Loaded {
             visit: 1,
-            end: End::Failed(BadInput::Broken(BadStream::Stream {
+            end: End::Failed(BadInput::Broken(BadText::Stream {
                 at: 1,
                 why: StreamWhy::Mark,
             })),
@@ -94,7 +95,7 @@ const LINES: &[Line] = &[
     Line {
         ended: Ok(Loaded {
             visit: 1,
-            end: End::Failed(BadInput::Broken(BadStream::Stream {
+            end: End::Failed(BadInput::Broken(BadText::Stream {
                 at: 1,
                 why: StreamWhy::Branch,
             })),
@@ -104,7 +105,7 @@ const LINES: &[Line] = &[
     Line {
         ended: Ok(Loaded {
             visit: 1,
-            end: End::Failed(BadInput::Broken(BadStream::Stream {
+            end: End::Failed(BadInput::Broken(BadText::Stream {
                 at: 1,
                 why: StreamWhy::Place,
             })),
@@ -114,7 +115,7 @@ const LINES: &[Line] = &[
     Line {
         ended: Ok(Loaded {
             visit: 1,
-            end: End::Failed(BadInput::Broken(BadStream::Limit {
+            end: End::Failed(BadInput::Broken(BadText::Limit {
                 which: Which::Line,
                 number: 1,
             })),
@@ -124,7 +125,7 @@ const LINES: &[Line] = &[
     Line {
         ended: Ok(Loaded {
             visit: 1,
-            end: End::Failed(BadInput::Broken(BadStream::Limit {
+            end: End::Failed(BadInput::Broken(BadText::Limit {
                 which: Which::Path,
                 number: 1,
             })),
@@ -134,7 +135,7 @@ const LINES: &[Line] = &[
     Line {
         ended: Ok(Loaded {
             visit: 1,
-            end: End::Failed(BadInput::Broken(BadStream::Limit {
+            end: End::Failed(BadInput::Broken(BadText::Limit {
                 which: Which::Ref,
                 number: 1,
             })),
@@ -144,7 +145,7 @@ const LINES: &[Line] = &[
     Line {
         ended: Ok(Loaded {
             visit: 1,
-            end: End::Failed(BadInput::Broken(BadStream::Limit {
+            end: End::Failed(BadInput::Broken(BadText::Limit {
                 which: Which::Refs,
                 number: 1,
             })),
@@ -154,7 +155,7 @@ const LINES: &[Line] = &[
     Line {
         ended: Ok(Loaded {
             visit: 1,
-            end: End::Failed(BadInput::Broken(BadStream::Limit {
+            end: End::Failed(BadInput::Broken(BadText::Limit {
                 which: Which::Body,
                 number: 1,
             })),
@@ -164,7 +165,7 @@ const LINES: &[Line] = &[
     Line {
         ended: Ok(Loaded {
             visit: 1,
-            end: End::Failed(BadInput::Broken(BadStream::Limit {
+            end: End::Failed(BadInput::Broken(BadText::Limit {
                 which: Which::Stream,
                 number: 1,
             })),
@@ -213,13 +214,39 @@ const LINES: &[Line] = &[
     },
 ];
 
+/// The room for the detail of an end; of a path that is told none is taken here.
+fn room_of(ended: &Result<Loaded, LoadFault>) -> Option<usize>
+    ensures { IfSome result (λ room. outcome_room ended.now ≤ room) }
+{
+    match ended {
+        Ok(loaded) => match &loaded.end {
+            End::Failed(BadInput::Broken(BadText::Other { path: _ })) => None,
+            _ => Some(86),
+        },
+        Err(_) => Some(86),
+    }
+}
+
+/// The line of a load; none where it tells a path.
+pub fn line_of(
+    alloc: Global,
+    url: &Url,
+    ended: &Result<Loaded, LoadFault>,
+) -> Result<Vec<u8>, AllocError> {
+    let Some(room) = room_of(ended) else {
+        return Ok(Vec::new(alloc));
+    };
+    let mut text = Vec::with_capacity(alloc, 2_081 + room)?;
+    report_line(&mut text, url, ended);
+    Ok(text)
+}
+
 // Says whether a line tells how its load ended, of the worked origin.
 fn is_told(alloc: Global, line: &Line) -> Result<bool, AllocError> {
     let Ok(url) = Url::new(alloc, URL) else {
         return Ok(false);
     };
-    let mut text = Vec::with_capacity(alloc, REPORT_LIMIT)?;
-    report_line(&mut text, &url, line.ended);
+    let text = line_of(alloc, &url, &line.ended)?;
     Ok(text.as_slice().strip_prefix(b"https://e.org/p\t") == Some(line.told))
 }
 

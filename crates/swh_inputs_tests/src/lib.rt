@@ -1,0 +1,12 @@
+//! Tests of inputs of three kinds, over sources and folders in memory.
+//! Stands on what it tests, on `swh_base`, `swh_walk` and the types of what an input makes, and on the sources and folders of
+//! `swh_memory_input`.
+//! Nothing stands above it.
+#![tactic(auto)]
+
+#[cfg(test)]
+mod held;
+#[cfg(test)]
+mod openings;
+#[cfg(test)]
+mod readings;
