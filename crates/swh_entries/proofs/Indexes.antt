@@ -3,6 +3,7 @@ use Rattle.std.proofs.Common.{◌≡◌, inl, inr, ℕ, ◌+◌, ◌<◌, Bool, 
 use Rattle.std.specs.Global.{Vec}
 use Rattle.std.proofs.lemmas.List.{get_or-map, get_or_append_left}
 use Rattle.std.proofs.Math.Seq.{get_or-append_seam}
+use Rattle.std.proofs.lemmas.Cmp.{nat_cmp_total}
 use Rattle.std.specs.FinMap.{nat_cmp-IsAntisymmetric, slice_cmp-IsAntisymmetric}
 use Rattle.std.specs.Ordering.{nat_cmp, is_eq, ordering_reverse, match_ordering}
 use Rattle.std.specs.declared.cmp.Ordering.{Ordering}
@@ -11,7 +12,7 @@ use Rattle.std.specs.Cmp.Lexicographic.{slice_cmp, nat_list_cmp_total}
 use Rattle.std.specs.BTreeMap.{insert_entry}
 use Rattle.std.proofs.lemmas.Bool.{cases_lt}
 use Rattle.swh_entries.specs.Keys.{name_at, texts}
-use Rattle.swh_entries.specs.Named.{Extends, number_of, IsIndex}
+use Rattle.swh_entries.specs.Named.{Extends, digest_of, first_of, number_of, number_from, number_in, IsIndex}
 
 pub extends-push : (names : List (Vec ℕ)) (v : Vec ℕ) → Extends names (names ++ v ∷ [])
 extends-push names v = record {
@@ -41,7 +42,7 @@ equal_order Less e = absurd (cc)
 equal_order Equal e = refl
 equal_order Greater e = absurd (cc)
 
-same_bytes : (a b : List ℕ) → is_eq (slice_cmp nat_cmp a b) ≡ true → a ≡ b
+pub same_bytes : (a b : List ℕ) → is_eq (slice_cmp nat_cmp a b) ≡ true → a ≡ b
 same_bytes a b e = slice_cmp-IsAntisymmetric nat_cmp-IsAntisymmetric a b (equal_order (slice_cmp nat_cmp a b) e)
 
 test_self : (a : List ℕ) → is_eq (slice_cmp nat_cmp a a) ≡ true
@@ -85,10 +86,23 @@ the_some a b e = cc
 none_some : (x : Option ℕ) (n : ℕ) → x ≡ None → x ≡ Some n → {A : Type 0} → A
 none_some x n e f = absurd (let bad : None ≡ Some n = sym e ∙ f in cc)
 
--- one name more, that has no number yet
-pub index-more : (names : List (Vec ℕ)) (entries entries' : List (Vec ℕ × ℕ)) (name : List ℕ) (text key : Vec ℕ) (n : ℕ) → IsIndex names entries → text.items ≡ name → key.items ≡ name → n ≡ length names → number_of entries name ≡ None
-    → entries' ≡ insert_entry (λ (a b : Vec ℕ). slice_cmp nat_cmp a.items b.items) entries key n → IsIndex (names ++ text ∷ []) entries'
-index-more names entries entries' name text key n index t k last none is = record { known = known; within = λ m j h. (found m j h).0; there = λ m j h. (found m j h).1 }
+nat_self : (d : ℕ) → is_eq (nat_cmp d d) ≡ true
+nat_self d = ap is_eq (own_reverse (nat_cmp d d) (nat_cmp_total.antisymm d d))
+
+same_number : (a b : ℕ) → is_eq (nat_cmp a b) ≡ true → a ≡ b
+same_number a b e = nat_cmp-IsAntisymmetric a b (equal_order (nat_cmp a b) e)
+
+-- names behind those that were there change no number
+from-more : (names names' : List (Vec ℕ)) (others others' : List (Vec ℕ × ℕ)) (m : List ℕ) (o : Option ℕ) → Extends names names' → ((k : ℕ) → o ≡ Some k → k < length names) → number_of others' m ≡ number_of others m → number_from (texts names') others' m o ≡ number_from (texts names) others m o
+from-more names names' others others' m None more low h = refl
+from-more names names' others others' m (Some k) more low h =
+    ap (λ (t : List ℕ). cond (is_eq (slice_cmp nat_cmp m t)) (Some k) (number_of others' m)) (more.same_names k (low k refl))
+    ∙ ap (λ (x : Option ℕ). cond (is_eq (slice_cmp nat_cmp m (name_at (texts names) k))) (Some k) x) h
+
+-- one name more, of a digest that none has yet
+pub index-first : (names : List (Vec ℕ)) (firsts firsts' : List (ℕ × ℕ)) (others : List (Vec ℕ × ℕ)) (name : List ℕ) (text : Vec ℕ) (n : ℕ) → IsIndex names firsts others → text.items ≡ name → n ≡ length names → first_of firsts (digest_of name) ≡ None
+    → ((d : ℕ) → first_of firsts' d ≡ cond (is_eq (nat_cmp (digest_of name) d)) (Some n) (first_of firsts d)) → IsIndex (names ++ text ∷ []) firsts' others
+index-first names firsts firsts' others name text n index t last none looked = record { known = known; first = first; within = within; there = λ m j h. more.same_names j (index.within m j h) ∙ index.there m j h }
   where
     long : length (names ++ text ∷ []) ≡ length names + 1
     long = length-append names (text ∷ [])
@@ -99,35 +113,102 @@ index-more names entries entries' name text key n index t k last none is = recor
     own : name_at (texts (names ++ text ∷ [])) (length names) ≡ name
     own = name-push names text ∙ t
 
-    looked : (m : List ℕ) → number_of entries' m ≡ cond (is_eq (slice_cmp nat_cmp m name)) (Some n) (number_of entries m)
-    looked m = ap (λ (es : List (Vec ℕ × ℕ)). number_of es m) is ∙ lookup-inserted m key n entries ∙ ap (λ (x : List ℕ). cond (is_eq (slice_cmp nat_cmp m x)) (Some n) (number_of entries m)) k
-
-    old-known : (i : ℕ) → i < length names → (b : Bool) → is_eq (slice_cmp nat_cmp (name_at (texts names) i) name) ≡ b → number_of entries' (name_at (texts names) i) ≡ Some i
+    old-known : (i : ℕ) → i < length names → (b : Bool) → is_eq (nat_cmp (digest_of name) (digest_of (name_at (texts names) i))) ≡ b → number_in (names ++ text ∷ []) firsts' others (name_at (texts names) i) ≡ Some i
     old-known i lt true e =
-        let same : name_at (texts names) i ≡ name = same_bytes (name_at (texts names) i) name e in
-        none_some (number_of entries name) i none (subst (λ (x : List ℕ). number_of entries x ≡ Some i) same (index.known i lt))
-    old-known i lt false e = looked (name_at (texts names) i) ∙ ap (λ (b : Bool). cond b (Some n) (number_of entries (name_at (texts names) i))) e ∙ index.known i lt
+        let m = name_at (texts names) i in
+        let same : digest_of name ≡ digest_of m = same_number (digest_of name) (digest_of m) e in
+        let no : first_of firsts (digest_of m) ≡ None = subst (λ (d : ℕ). first_of firsts d ≡ None) same none in
+        none_some (number_in names firsts others m) i (ap (number_from (texts names) others m) no) (index.known i lt)
+    old-known i lt false e =
+        let m = name_at (texts names) i in
+        let kept : first_of firsts' (digest_of m) ≡ first_of firsts (digest_of m) = looked (digest_of m) ∙ ap (λ (b : Bool). cond b (Some n) (first_of firsts (digest_of m))) e in
+        ap (number_from (texts (names ++ text ∷ [])) others m) kept
+        ∙ from-more names (names ++ text ∷ []) others others m (first_of firsts (digest_of m)) more (λ k h. index.first (digest_of m) k h) refl
+        ∙ index.known i lt
 
-    known : (i : ℕ) → i < length (names ++ text ∷ []) → number_of entries' (name_at (texts (names ++ text ∷ [])) i) ≡ Some i
+    known : (i : ℕ) → i < length (names ++ text ∷ []) → number_in (names ++ text ∷ []) firsts' others (name_at (texts (names ++ text ∷ [])) i) ≡ Some i
     known i lt = elim (cases_lt i (length names)) [
-      | inl l ↦ subst (λ (x : List ℕ). number_of entries' x ≡ Some i) (sym (more.same_names i l)) (old-known i l (is_eq (slice_cmp nat_cmp (name_at (texts names) i) name)) refl)
+      | inl l ↦ subst (λ (x : List ℕ). number_in (names ++ text ∷ []) firsts' others x ≡ Some i) (sym (more.same_names i l)) (old-known i l (is_eq (nat_cmp (digest_of name) (digest_of (name_at (texts names) i)))) refl)
       | inr l ↦
           let same : length names ≡ i = omega (arith, long) in
-          let here : number_of entries' name ≡ Some n = looked name ∙ ap (λ (b : Bool). cond b (Some n) (number_of entries name)) (test_self name) in
-          subst (λ (j : ℕ). number_of entries' (name_at (texts (names ++ text ∷ [])) j) ≡ Some j) same (subst (λ (x : List ℕ). number_of entries' x ≡ Some (length names)) (sym own) (here ∙ ap Some last))
+          let at : first_of firsts' (digest_of name) ≡ Some (length names) = looked (digest_of name) ∙ ap (λ (b : Bool). cond b (Some n) (first_of firsts (digest_of name))) (nat_self (digest_of name)) ∙ ap Some last in
+          let here : number_in (names ++ text ∷ []) firsts' others name ≡ Some (length names) =
+          ap (number_from (texts (names ++ text ∷ [])) others name) at
+          ∙ ap (λ (x : List ℕ). cond (is_eq (slice_cmp nat_cmp name x)) (Some (length names)) (number_of others name)) own
+          ∙ ap (λ (b : Bool). cond b (Some (length names)) (number_of others name)) (test_self name) in
+          subst (λ (j : ℕ). number_in (names ++ text ∷ []) firsts' others (name_at (texts (names ++ text ∷ [])) j) ≡ Some j) same (subst (λ (x : List ℕ). number_in (names ++ text ∷ []) firsts' others x ≡ Some (length names)) (sym own) here)
     ]
 
-    found : (m : List ℕ) (j : ℕ) → number_of entries' m ≡ Some j → (j < length (names ++ text ∷ [])) × (name_at (texts (names ++ text ∷ [])) j ≡ m)
+    first : (d k : ℕ) → first_of firsts' d ≡ Some k → k < length (names ++ text ∷ [])
+    first d k h = by_test (is_eq (nat_cmp (digest_of name) d)) refl
+      where
+        by_test : (b : Bool) → is_eq (nat_cmp (digest_of name) d) ≡ b → k < length (names ++ text ∷ [])
+        by_test true e =
+            let number : Some n ≡ Some k = sym (looked d ∙ ap (λ (b : Bool). cond b (Some n) (first_of firsts d)) e) ∙ h in
+            let is : length names ≡ k = sym last ∙ the_some n k number in
+            omega (arith, long)
+        by_test false e =
+            let number : first_of firsts d ≡ Some k = sym (looked d ∙ ap (λ (b : Bool). cond b (Some n) (first_of firsts d)) e) ∙ h in
+            let lt = index.first d k number in
+            omega (arith, long)
+
+    within : (m : List ℕ) (k : ℕ) → number_of others m ≡ Some k → k < length (names ++ text ∷ [])
+    within m k h = let lt = index.within m k h in omega (arith, long)
+
+-- one name more, behind another that has its digest
+pub index-other : (names : List (Vec ℕ)) (firsts : List (ℕ × ℕ)) (others others' : List (Vec ℕ × ℕ)) (name : List ℕ) (text key : Vec ℕ) (f n : ℕ) → IsIndex names firsts others → text.items ≡ name → key.items ≡ name → n ≡ length names → first_of firsts (digest_of name) ≡ Some f
+    → is_eq (slice_cmp nat_cmp name (name_at (texts names) f)) ≡ false → number_of others name ≡ None → others' ≡ insert_entry (λ (a b : Vec ℕ). slice_cmp nat_cmp a.items b.items) others key n → IsIndex (names ++ text ∷ []) firsts others'
+index-other names firsts others others' name text key f n index t k last at apart none is = record { known = known; first = λ d j h. let lt = index.first d j h in omega (arith, long); within = λ m j h. (found m j h).0; there = λ m j h. (found m j h).1 }
+  where
+    long : length (names ++ text ∷ []) ≡ length names + 1
+    long = length-append names (text ∷ [])
+
+    more : Extends names (names ++ text ∷ [])
+    more = extends-push names text
+
+    own : name_at (texts (names ++ text ∷ [])) (length names) ≡ name
+    own = name-push names text ∙ t
+
+    looked : (m : List ℕ) → number_of others' m ≡ cond (is_eq (slice_cmp nat_cmp m name)) (Some n) (number_of others m)
+    looked m = ap (λ (es : List (Vec ℕ × ℕ)). number_of es m) is ∙ lookup-inserted m key n others ∙ ap (λ (x : List ℕ). cond (is_eq (slice_cmp nat_cmp m x)) (Some n) (number_of others m)) k
+
+    absent : number_in names firsts others name ≡ None
+    absent = ap (number_from (texts names) others name) at ∙ ap (λ (b : Bool). cond b (Some f) (number_of others name)) apart ∙ none
+
+    old-known : (i : ℕ) → i < length names → (b : Bool) → is_eq (slice_cmp nat_cmp (name_at (texts names) i) name) ≡ b → number_in (names ++ text ∷ []) firsts others' (name_at (texts names) i) ≡ Some i
+    old-known i lt true e =
+        let same : name_at (texts names) i ≡ name = same_bytes (name_at (texts names) i) name e in
+        none_some (number_in names firsts others name) i absent (subst (λ (x : List ℕ). number_in names firsts others x ≡ Some i) same (index.known i lt))
+    old-known i lt false e =
+        let m = name_at (texts names) i in
+        let kept : number_of others' m ≡ number_of others m = looked m ∙ ap (λ (b : Bool). cond b (Some n) (number_of others m)) e in
+        from-more names (names ++ text ∷ []) others others' m (first_of firsts (digest_of m)) more (λ j h. index.first (digest_of m) j h) kept
+        ∙ index.known i lt
+
+    known : (i : ℕ) → i < length (names ++ text ∷ []) → number_in (names ++ text ∷ []) firsts others' (name_at (texts (names ++ text ∷ [])) i) ≡ Some i
+    known i lt = elim (cases_lt i (length names)) [
+      | inl l ↦ subst (λ (x : List ℕ). number_in (names ++ text ∷ []) firsts others' x ≡ Some i) (sym (more.same_names i l)) (old-known i l (is_eq (slice_cmp nat_cmp (name_at (texts names) i) name)) refl)
+      | inr l ↦
+          let same : length names ≡ i = omega (arith, long) in
+          let here : number_in (names ++ text ∷ []) firsts others' name ≡ Some (length names) =
+          ap (number_from (texts (names ++ text ∷ [])) others' name) at
+          ∙ ap (λ (x : List ℕ). cond (is_eq (slice_cmp nat_cmp name x)) (Some f) (number_of others' name)) (more.same_names f (index.first (digest_of name) f at))
+          ∙ ap (λ (b : Bool). cond b (Some f) (number_of others' name)) apart
+          ∙ looked name ∙ ap (λ (b : Bool). cond b (Some n) (number_of others name)) (test_self name) ∙ ap Some last in
+          subst (λ (j : ℕ). number_in (names ++ text ∷ []) firsts others' (name_at (texts (names ++ text ∷ [])) j) ≡ Some j) same (subst (λ (x : List ℕ). number_in (names ++ text ∷ []) firsts others' x ≡ Some (length names)) (sym own) here)
+    ]
+
+    found : (m : List ℕ) (j : ℕ) → number_of others' m ≡ Some j → (j < length (names ++ text ∷ [])) × (name_at (texts (names ++ text ∷ [])) j ≡ m)
     found m j h = by_test (is_eq (slice_cmp nat_cmp m name)) refl
       where
         by_test : (b : Bool) → is_eq (slice_cmp nat_cmp m name) ≡ b → (j < length (names ++ text ∷ [])) × (name_at (texts (names ++ text ∷ [])) j ≡ m)
         by_test true e =
             let same : m ≡ name = same_bytes m name e in
-            let number : Some n ≡ Some j = sym (looked m ∙ ap (λ (b : Bool). cond b (Some n) (number_of entries m)) e) ∙ h in
-            let is : length names ≡ j = sym last ∙ the_some n j number in
-            (omega (arith, long), subst (λ (i : ℕ). name_at (texts (names ++ text ∷ [])) i ≡ m) is (own ∙ sym same))
+            let number : Some n ≡ Some j = sym (looked m ∙ ap (λ (b : Bool). cond b (Some n) (number_of others m)) e) ∙ h in
+            let here : length names ≡ j = sym last ∙ the_some n j number in
+            (omega (arith, long), subst (λ (i : ℕ). name_at (texts (names ++ text ∷ [])) i ≡ m) here (own ∙ sym same))
         by_test false e =
-            let number : number_of entries m ≡ Some j = sym (looked m ∙ ap (λ (b : Bool). cond b (Some n) (number_of entries m)) e) ∙ h in
+            let number : number_of others m ≡ Some j = sym (looked m ∙ ap (λ (b : Bool). cond b (Some n) (number_of others m)) e) ∙ h in
             let lt = index.within m j number in
             (omega (arith, long), more.same_names j lt ∙ index.there m j number)
 
@@ -135,6 +216,10 @@ pub not-known : (x : Option ℕ) → ((n : ℕ) → x ≡ Some n → ⊥) → x 
 not-known None h = refl
 not-known (Some n) h = absurd (h n refl)
 
+-- a name that an index has not
+pub unknown : (names : List (Vec ℕ)) (firsts : List (ℕ × ℕ)) (others : List (Vec ℕ × ℕ)) (name : List ℕ) (n : ℕ) → IsIndex names firsts others → number_in names firsts others name ≡ None → n < length names → name_at (texts names) n ≡ name → {A : Type 0} → A
+unknown names firsts others name n index none lt is = none_some (number_in names firsts others name) n none (subst (λ (x : List ℕ). number_in names firsts others x ≡ Some n) is (index.known n lt))
+
 -- no name stands twice
-pub once-each : (names : List (Vec ℕ)) (entries : List (Vec ℕ × ℕ)) → IsIndex names entries → (i j : ℕ) → i < length names → j < length names → name_at (texts names) i ≡ name_at (texts names) j → i ≡ j
-once-each names entries index i j li lj e = the_some i j (sym (index.known i li) ∙ ap (number_of entries) e ∙ index.known j lj)
+pub once-each : (names : List (Vec ℕ)) (firsts : List (ℕ × ℕ)) (others : List (Vec ℕ × ℕ)) → IsIndex names firsts others → (i j : ℕ) → i < length names → j < length names → name_at (texts names) i ≡ name_at (texts names) j → i ≡ j
+once-each names firsts others index i j li lj e = the_some i j (sym (index.known i li) ∙ ap (number_in names firsts others) e ∙ index.known j lj)

@@ -1,4 +1,5 @@
 pub mod Forms
+pub mod Gaps
 pub mod Keys
 pub mod Listed
 pub mod Named

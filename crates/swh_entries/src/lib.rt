@@ -14,7 +14,7 @@ mod packed;
 mod packing;
 mod spans;
 
-pub use entry::{Child, Entry, Leaf, whole_id};
+pub use entry::{Child, Entry, Gap, Leaf, whole_id};
 pub use known::Known;
 pub use names::Names;
 pub use order::{comes_before, suffix};

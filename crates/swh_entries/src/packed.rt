@@ -4,7 +4,7 @@ ghost use Rattle.std.specs.Prelude.{◌≡◌, ◌<◌, ◌≤◌, ◌+◌, [], 
 ghost use Rattle.std.specs.List.{insert, remove};
 ghost use Rattle.swh_entries.specs.declared.entry.Entry.{Entry};
 
-use crate::entry::Entry;
+use crate::entry::{Entry, Gap};
 use crate::packing::Flat;
 use crate::spans::Spans;
 use std::alloc::{AllocError, Global};
@@ -81,6 +81,8 @@ fn changed(spans: Spans, cost: usize) -> Packed
 }
 
 impl Packed {
+    ghost use Rattle.std.specs.List.{slice_get};
+    ghost use Rattle.swh_entries.specs.Gaps.{gap_at};
     ghost use Rattle.swh_entries.specs.Listed.{cost_again, cost_changed};
 
     /// No entry.
@@ -137,7 +139,36 @@ impl Packed {
         }
     }
 
-    /// A place at which to look first for a name, with what it is compared with after it.
+    /// The entry at a place, where there is one.
+    fn get(&self, place: usize) -> Option<Entry>
+        ensures { result ≡ slice_get self.now.items place }
+    {
+        if place < self.len() {
+            return Some(self.at(place));
+        }
+        None
+    }
+
+    /// A place, with the entries on both sides of it.
+    pub fn gap(&self, place: usize) -> Gap
+        ensures { result ≡ gap_at self.now.items place }
+    {
+        if let Form::Cut(spans) = &self.form {
+            return spans.gap(place);
+        }
+        let at = self.get(place);
+        if place == 0 {
+            return Gap {
+                place,
+                before: None,
+                at,
+            };
+        }
+        let before = self.get(place - 1);
+        Gap { place, before, at }
+    }
+
+    /// A place at which to look for a name, with what it is compared with after it.
     pub fn guess(&self, names: &[Vec<u8>], name: &[u8], end: &[u8]) -> usize {
         match &self.form {
             Form::Flat(flat) => flat.len(),
@@ -146,7 +177,7 @@ impl Packed {
         }
     }
 
-    /// The place at which an entry was looked for last, while there are many.
+    /// A place at which to look first: the end, or, while there are many, behind the entry that was put there last.
     pub fn hint(&self) -> usize {
         match &self.form {
             Form::Flat(flat) => flat.len(),

@@ -2,13 +2,14 @@
 //! but for those that one list alone has: it changes them.
 //! The sides of a fork are about as deep as each other, so of n entries about log n forks stand above a piece.
 
-ghost use Rattle.std.specs.Prelude.{◌≡◌, ◌<◌, ◌≤◌, ◌++◌, ℕ, length, slice_index_or, IfOk, OnOk};
-ghost use Rattle.std.specs.List.{insert, remove};
+ghost use Rattle.std.specs.Prelude.{◌≡◌, ◌<◌, ◌≤◌, ◌++◌, ℕ, length, slice_index_or, IsTrue, IsFalse, IfOk, OnOk};
+ghost use Rattle.std.specs.List.{insert, remove, slice_get};
 ghost use Rattle.std.specs.Rc.{rc_value};
 ghost use Rattle.swh_entries.specs.declared.entry.Entry.{Entry};
+ghost use Rattle.swh_entries.specs.Gaps.{entry_before};
 ghost use Rattle.swh_entries.specs.Spans.{items_of, weight, IsCounted};
 
-use crate::entry::Entry;
+use crate::entry::{Entry, Gap};
 use crate::order::is_name_before;
 use std::alloc::{AllocError, Global};
 use std::marker::Model;
@@ -108,6 +109,41 @@ fn entry_at(span: &Span, place: usize) -> Entry
             } else {
                 entry_at(right, place - before)
             }
+        }
+    }
+}
+
+/// The entry before a place in a slice, and the one at it.
+fn sides_in(entries: &[Entry], place: usize) -> (Option<Entry>, Option<Entry>)
+    ensures before { result.0 ≡ entry_before entries.now place }
+    ensures at { result.1 ≡ slice_get entries.now place }
+{
+    let at = entries.get(place).copied();
+    if place == 0 {
+        return (None, at);
+    }
+    (entries.get(place - 1).copied(), at)
+}
+
+/// The entry before a place, and the one at it.
+fn sides_of(span: &Span, place: usize) -> (Option<Entry>, Option<Entry>)
+    requires { IsCounted span.now }
+    ensures before { result.0 ≡ entry_before (items_of span.now) place }
+    ensures at { result.1 ≡ slice_get (items_of span.now) place }
+{
+    match span {
+        Span::Piece(entries) => sides_in(entries.as_slice(), place),
+        Span::Fork(left, right, _, _, _) => {
+            let count = len_of(left);
+            if place < count {
+                return sides_of(left, place);
+            }
+            if place > count {
+                return sides_of(right, place - count);
+            }
+            let (before, _) = sides_of(left, place);
+            let (_, at) = sides_of(right, 0);
+            (before, at)
         }
     }
 }
@@ -292,6 +328,54 @@ fn with(alloc: Global, span: Rc<Span>, place: usize, entry: Entry) -> Result<Rc<
     }
 }
 
+/// The first entry after one more was put at a place.
+fn first_after(first: Option<Entry>, place: usize, entry: Entry) -> Option<Entry> {
+    if place == 0 { Some(entry) } else { first }
+}
+
+/// Puts one entry more at a place, in the pieces themselves, and tells whether it did: where one of them has another owner,
+/// or the piece has no room, they stay.
+fn put_in_place(span: &mut Rc<Span>, place: usize, entry: Entry) -> bool
+    requires counted { IsCounted (rc_value span.old) }
+    requires within { place ≤ length (items_of (rc_value span.old)) }
+    ensures counted { IsCounted (rc_value span.new) }
+    ensures put { IsTrue result → items_of (rc_value span.new) ≡ insert (items_of (rc_value span.old)) place entry }
+    ensures left { IsFalse result → items_of (rc_value span.new) ≡ items_of (rc_value span.old) }
+{
+    let Some(own) = Rc::get_mut(span) else {
+        return false;
+    };
+    match own {
+        Span::Piece(entries) => {
+            if entries.len() >= PIECE {
+                return false;
+            }
+            entries.insert(place, entry).is_ok()
+        }
+        Span::Fork(left, right, len, _, first) => {
+            let Some(more) = len.checked_add(1) else {
+                return false;
+            };
+            let before = len_of(left);
+            if place <= before {
+                let put = put_in_place(left, place, entry);
+                if !put {
+                    return false;
+                }
+                *first = first_after(*first, place, entry);
+                *len = more;
+                return true;
+            }
+            let put = put_in_place(right, place - before, entry);
+            if !put {
+                return false;
+            }
+            *len = more;
+            true
+        }
+    }
+}
+
 /// All entries but the one at a place, in the pieces themselves where they have no other owner.
 fn without(alloc: Global, span: Rc<Span>, place: usize) -> Result<Rc<Span>, AllocError>
     requires counted { IsCounted (rc_value span) }
@@ -349,7 +433,7 @@ fn put_all(span: &Span, out: &mut Vec<Entry>) -> Result<(), AllocError>
 #[derive(Drop)]
 pub struct Spans {
     root: Rc<Span>,
-    /// A place at which an entry was looked for last.
+    /// A place at which to look first: behind the entry that was put there last.
     hint: usize,
 }
 
@@ -370,6 +454,7 @@ impl Spans {
     ghost use Rattle.std.specs.Prelude.{◌≡◌, ◌<◌, ◌≤◌, length, slice_index_or, IfOk};
     ghost use Rattle.std.specs.List.{insert, remove};
     ghost use Rattle.swh_entries.specs.declared.entry.Entry.{Entry};
+    ghost use Rattle.swh_entries.specs.Gaps.{gap_at};
 
     /// These entries. Fails where memory runs out.
     pub fn of(alloc: Global, entries: &[Entry]) -> Result<Spans, AllocError>
@@ -394,12 +479,20 @@ impl Spans {
         entry_at(&self.root, place)
     }
 
+    /// A place, with the entries on both sides of it.
+    pub fn gap(&self, place: usize) -> Gap
+        ensures { result ≡ gap_at self.now.items place }
+    {
+        let (before, at) = sides_of(&self.root, place);
+        Gap { place, before, at }
+    }
+
     /// A place at which to look for a name, with what it is compared with after it.
     pub fn guess(&self, names: &[Vec<u8>], name: &[u8], end: &[u8]) -> usize {
         guess_in(&self.root, names, name, end)
     }
 
-    /// The place at which an entry was looked for last.
+    /// A place at which to look first: behind the entry that was put there last, or where one was looked for last.
     pub fn hint(&self) -> usize {
         self.hint
     }
@@ -435,8 +528,14 @@ impl Spans {
         requires { place ≤ length self.items }
         ensures { IfOk result (λ s. s.items ≡ insert self.items place entry) }
     {
-        let root = with(alloc, self.root, place, entry)?;
-        Ok(Spans { root, hint: place })
+        let hint = place.saturating_add(1);
+        let mut root = self.root;
+        let put = put_in_place(&mut root, place, entry);
+        if put {
+            return Ok(Spans { root, hint });
+        }
+        let root = with(alloc, root, place, entry)?;
+        Ok(Spans { root, hint })
     }
 
     /// All entries but the one at a place. Fails where memory runs out.

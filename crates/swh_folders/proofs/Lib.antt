@@ -15,6 +15,7 @@ pub mod Moves
 pub mod Tallies
 pub mod Workings
 pub mod Orders
+pub mod Gaps
 pub mod Ordering
 pub mod Options
 pub mod Overwrites

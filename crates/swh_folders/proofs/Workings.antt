@@ -26,6 +26,9 @@ stays-grown base old new t good grows =
       stay = λ j lt. grows.trees j (omega arith);
     }
 
+pub stays-same : (base : ℕ) (f : Folders) → IsTallied base f → AreFolders f → StaysBelow base f f
+stays-same base f t good = let from = t.from in let up = t.up_to in record { good = good; long = omega arith; stay = λ j lt. refl }
+
 pub stays-on : (base : ℕ) (a b c : Folders) → StaysBelow base a b → StaysBelow base b c → StaysBelow base a c
 stays-on base a b c s t = record { good = t.good; long = t.long; stay = λ j lt. t.stay j lt ∙ s.stay j lt }
 

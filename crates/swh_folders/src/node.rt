@@ -1,8 +1,9 @@
 //! One folder's entries, in the order of git's directories.
 
-ghost use Rattle.std.specs.Prelude.{◌≡◌, ◌<◌, ◌≤◌, ◌+◌, ◌++◌, ℕ, true, false, length, slice_index_or, IsTrue, All, IfOk, IfErr, IfSome, IfNone};
+ghost use Rattle.std.specs.Prelude.{◌≡◌, ◌<◌, ◌≤◌, ◌+◌, ◌++◌, ℕ, List, true, false, length, slice_index_or, IsTrue, All, IfOk, IfErr, IfSome, IfNone};
 ghost use Rattle.swh_entries.specs.declared.entry.Entry.{Entry};
 ghost use Rattle.swh_folders.specs.Forest.{Forest, child_at};
+ghost use Rattle.swh_entries.specs.Gaps.{gap_at};
 ghost use Rattle.swh_entries.specs.Keys.{is_before, name_at, entry_key, suffix, texts};
 ghost use Rattle.swh_folders.specs.Sound.{IsSound};
 ghost use Rattle.swh_folders.specs.PathMap.{same};
@@ -18,7 +19,7 @@ ghost use Rattle.swh_folders.specs.Arena.{
 };
 
 use std::alloc::{AllocError, Global};
-use swh_entries::{Child, Entry, Packed, comes_before, suffix};
+use swh_entries::{Child, Entry, Gap, Packed, comes_before, suffix};
 
 /// Whether the name of this number is this one.
 fn is_name(names: &[Vec<u8>], number: usize, name: &[u8]) -> bool
@@ -28,56 +29,59 @@ fn is_name(names: &[Vec<u8>], number: usize, name: &[u8]) -> bool
     names[number].as_slice() == name
 }
 
-/// Whether the name, with what it is compared with after it, comes before no entry in front of this place.
-fn is_low(names: &[Vec<u8>], node: &Packed, place: usize, name: &[u8], end: &[u8]) -> bool
-    requires names { All (λ f. f.name < length names.now) node.now.items }
-    requires ordered { AreOrdered (texts names.now) node.now.items }
-    requires within { place ≤ length node.now.items }
-    ensures { IsTrue result → (k : ℕ) (d : Entry) → k < place
-        → is_before (name.now ++ end.now) (entry_key (texts names.now) (slice_index_or node.now.items k d)) ≡ false }
+/// Whether the name, with what it is compared with after it, comes before no entry in front of this gap.
+fn is_low(names: &[Vec<u8>], gap: &Gap, name: &[u8], end: &[u8]) -> bool
+    requires { IfSome gap.now.before (λ f. f.name < length names.now) }
+    ensures { IsTrue result → (es : List Entry) → AreOrdered (texts names.now) es → gap.now ≡ gap_at es gap.now.place
+        → (gap.now.place ≤ length es) × ((k : ℕ) (d : Entry) → k < gap.now.place
+        → is_before (name.now ++ end.now) (entry_key (texts names.now) (slice_index_or es k d)) ≡ false) }
 {
-    if place == 0 {
+    if gap.place == 0 {
         return true;
     }
-    let before = comes_before(names, name, end, node.at(place - 1));
-    if before {
-        return false;
+    match gap.before {
+        Some(entry) => {
+            let before = comes_before(names, name, end, entry);
+            if before {
+                return false;
+            }
+            true
+        }
+        None => false,
     }
-    true
 }
 
-/// Whether the name, with what it is compared with after it, comes before each entry from this place on.
-fn is_high(names: &[Vec<u8>], node: &Packed, place: usize, name: &[u8], end: &[u8]) -> bool
-    requires names { All (λ f. f.name < length names.now) node.now.items }
-    requires ordered { AreOrdered (texts names.now) node.now.items }
-    requires within { place ≤ length node.now.items }
-    ensures { IsTrue result → (k : ℕ) (d : Entry) → place ≤ k → k < length node.now.items
-        → is_before (name.now ++ end.now) (entry_key (texts names.now) (slice_index_or node.now.items k d)) ≡ true }
+/// Whether the name, with what it is compared with after it, comes before each entry behind this gap.
+fn is_high(names: &[Vec<u8>], gap: &Gap, name: &[u8], end: &[u8]) -> bool
+    requires { IfSome gap.now.at (λ f. f.name < length names.now) }
+    ensures { IsTrue result → (es : List Entry) → AreOrdered (texts names.now) es → gap.now ≡ gap_at es gap.now.place
+        → (k : ℕ) (d : Entry) → gap.now.place ≤ k → k < length es
+        → is_before (name.now ++ end.now) (entry_key (texts names.now) (slice_index_or es k d)) ≡ true }
 {
-    if place == node.len() {
-        return true;
+    match gap.at {
+        Some(entry) => {
+            let before = comes_before(names, name, end, entry);
+            if before {
+                return true;
+            }
+            false
+        }
+        None => true,
     }
-    let before = comes_before(names, name, end, node.at(place));
-    if before {
-        return true;
-    }
-    false
 }
 
-/// Whether this is the place of the first entry that this name, with what it is compared with after it, comes before.
-fn is_above(names: &[Vec<u8>], node: &Packed, place: usize, name: &[u8], end: &[u8]) -> bool
-    requires names { All (λ f. f.name < length names.now) node.now.items }
-    requires ordered { AreOrdered (texts names.now) node.now.items }
-    ensures { IsTrue result → IsAbove (texts names.now) (name.now ++ end.now) node.now.items place }
+/// Whether this is the gap in front of the first entry that this name, with what it is compared with after it, comes before.
+fn is_above(names: &[Vec<u8>], gap: &Gap, name: &[u8], end: &[u8]) -> bool
+    requires before { IfSome gap.now.before (λ f. f.name < length names.now) }
+    requires at { IfSome gap.now.at (λ f. f.name < length names.now) }
+    ensures { IsTrue result → (es : List Entry) → AreOrdered (texts names.now) es → gap.now ≡ gap_at es gap.now.place
+        → IsAbove (texts names.now) (name.now ++ end.now) es gap.now.place }
 {
-    if place > node.len() {
-        return false;
-    }
-    let low = is_low(names, node, place, name, end);
+    let low = is_low(names, gap, name, end);
     if !low {
         return false;
     }
-    is_high(names, node, place, name, end)
+    is_high(names, gap, name, end)
 }
 
 /// The place of the first entry that this name, with what it is compared with after it, comes before.
@@ -100,42 +104,49 @@ fn above_by_halves(names: &[Vec<u8>], node: &Packed, name: &[u8], end: &[u8]) ->
     low
 }
 
-/// The place of the first entry that this name, with what it is compared with after it, comes before: a hint or a guess,
-/// where it is right, or else what halving finds.
-fn above(names: &[Vec<u8>], node: &Packed, hint: usize, name: &[u8], end: &[u8]) -> usize
+/// The gap in front of the first entry that this name, with what it is compared with after it, comes before: this one or a
+/// guess, where it is right, or else what halving finds.
+fn above(names: &[Vec<u8>], node: &Packed, near: Gap, name: &[u8], end: &[u8]) -> Gap
     requires names { All (λ f. f.name < length names.now) node.now.items }
     requires ordered { AreOrdered (texts names.now) node.now.items }
-    ensures { IsAbove (texts names.now) (name.now ++ end.now) node.now.items result }
+    requires near { near ≡ gap_at node.now.items near.place }
+    ensures gap { result ≡ gap_at node.now.items result.place }
+    ensures above { IsAbove (texts names.now) (name.now ++ end.now) node.now.items result.place }
 {
-    let right = is_above(names, node, hint, name, end);
+    let right = is_above(names, &near, name, end);
     if right {
-        return hint;
+        return near;
     }
-    let guess = node.guess(names, name, end);
-    let guessed = is_above(names, node, guess, name, end);
+    let guess = node.gap(node.guess(names, name, end));
+    let guessed = is_above(names, &guess, name, end);
     if guessed {
         return guess;
     }
-    above_by_halves(names, node, name, end)
+    node.gap(above_by_halves(names, node, name, end))
 }
 
-/// The place before this one, where its entry has this name.
-fn place_before(names: &[Vec<u8>], node: &Packed, place: usize, name: &[u8]) -> Option<usize>
-    requires names { All (λ f. f.name < length names.now) node.now.items }
-    requires within { place ≤ length node.now.items }
-    ensures some { IfSome result (λ k. (k + 1 ≡ place)
-        × ((d : Entry) → has_name (texts names.now) name.now (slice_index_or node.now.items k d) ≡ true)) }
-    ensures none { IfNone result ((k : ℕ) (d : Entry) → k + 1 ≡ place
-        → has_name (texts names.now) name.now (slice_index_or node.now.items k d) ≡ false) }
+/// The place in front of this gap, where its entry has this name.
+fn place_before(names: &[Vec<u8>], gap: &Gap, name: &[u8]) -> Option<usize>
+    requires { IfSome gap.now.before (λ f. f.name < length names.now) }
+    ensures some { (es : List Entry) → gap.now ≡ gap_at es gap.now.place → IfSome result (λ k. (k < length es)
+        × ((d : Entry) → has_name (texts names.now) name.now (slice_index_or es k d) ≡ true)) }
+    ensures none { (es : List Entry) → gap.now ≡ gap_at es gap.now.place → IfNone result ((k : ℕ) (d : Entry)
+        → k < length es → k + 1 ≡ gap.now.place
+        → has_name (texts names.now) name.now (slice_index_or es k d) ≡ false) }
 {
-    if place == 0 {
+    if gap.place == 0 {
         return None;
     }
-    let found = is_name(names, node.at(place - 1).name, name);
-    if found {
-        return Some(place - 1);
+    match gap.before {
+        Some(entry) => {
+            let found = is_name(names, entry.name, name);
+            if found {
+                return Some(gap.place - 1);
+            }
+            None
+        }
+        None => None,
     }
-    None
 }
 
 /// The place of the entry of this name: a file's, or else a folder's; where there is none, the place that a file of this name
@@ -148,14 +159,14 @@ fn place_of(names: &[Vec<u8>], node: &Packed, name: &[u8]) -> Result<usize, usiz
         → has_name (texts names.now) name.now (slice_index_or node.now.items k d) ≡ true) }
     ensures none { IfErr result (λ k. All (λ f. has_name (texts names.now) name.now f ≡ false) node.now.items) }
 {
-    let behind_file = above(names, node, node.guess(names, name, b""), name, b"");
-    if let Some(place) = place_before(names, node, behind_file, name) {
+    let behind_file = above(names, node, node.gap(node.hint()), name, b"");
+    if let Some(place) = place_before(names, &behind_file, name) {
         return Ok(place);
     }
     let behind_folder = above(names, node, behind_file, name, b"/");
-    match place_before(names, node, behind_folder, name) {
+    match place_before(names, &behind_folder, name) {
         Some(place) => Ok(place),
-        None => Err(behind_file),
+        None => Err(behind_file.place),
     }
 }
 
@@ -205,6 +216,6 @@ pub fn with_entry(
 {
     let name = names[entry.name].as_slice();
     let end = suffix(entry.child);
-    let place = above(names, &node, node.hint(), name, end);
-    node.with(alloc, place, entry)
+    let gap = above(names, &node, node.gap(node.hint()), name, end);
+    node.with(alloc, gap.place, entry)
 }

@@ -205,26 +205,23 @@ fn closed(
     settled(alloc, folders, base, there)
 }
 
-/// The number of the root of the tree at which changes go on, after its open folder, if there is one, was closed.
+/// The number of the root of the tree at which changes go on, after its open folder, if there is one, and those above it were
+/// made anew. No folder is dropped.
 pub fn root_from(
     alloc: Global,
     folders: &mut Folders,
-    base: usize,
     start: Start,
 ) -> Result<Option<usize>, AllocError>
     requires good { AreFolders folders.old }
-    requires tallied { IsTallied base folders.old }
     requires start { IsStart folders.old start }
-    ensures stays { StaysBelow base folders.old folders.new }
-    ensures tallied { IsTallied base folders.new }
+    ensures stays { (base : ℕ) → IsTallied base folders.old → StaysBelow base folders.old folders.new }
+    ensures tallied { (base : ℕ) → IsTallied base folders.old → IsTallied base folders.new }
     ensures inside { IfOk result (λ r. IsBelow (count_of folders.new) r) }
-    ensures bounded { IfOk result (λ r. StaysBounded base folders.old folders.new r
-        (start_map folders.old start)) }
     ensures map { IfOk result (λ r. root_map folders.new r ≡ start_map folders.old start) }
 {
     match start {
         Start::At(root) => Ok(root),
-        Start::In(opened) => closed(alloc, folders, base, opened),
+        Start::In(opened) => opened.sealed(alloc, &mut folders.names, &mut folders.nodes),
     }
 }
 

@@ -52,7 +52,7 @@ pub fn listing(
         → IfOk result (λ v. entry_views v.items ≡ directory id (forest_of (texts names.now) at entries.now)) }
     ensures ids { IfOk result (λ v. All (λ r. length r.id ≡ 20) v.items) }
 {
-    let mut out = Vec::new(alloc);
+    let mut out = Vec::with_capacity(alloc, entries.len())?;
     for e in entries {
         out.push(listed(alloc, names, ids, *e)?)?;
     }

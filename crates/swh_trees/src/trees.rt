@@ -282,7 +282,7 @@ impl<N: Namer> Trees<N> {
     {
         let base = self.ids.len();
         let start = start_with(self.opened.take(), tree.number, self.folders.nodes.len());
-        let there = root_from(alloc, &mut self.folders, base, start)?;
+        let there = root_from(alloc, &mut self.folders, start)?;
         let root = root_number(alloc, &mut self.folders, base, self.empty, there)?;
         let (number, objects) = make_folders(
             alloc,

@@ -12,5 +12,5 @@ returns c =
     let e = c.args.entry in
     let text : c.as_slice-name.result.now ≡ name_at (texts c.args.names.now) e.name = c.as_slice-name.ensures.value ∙ sym (text-at c.args.names.now e.name c.index-names-entry.result c.requires.entry c.index-names-entry.is) in
     let key : c.as_slice-name.result.now ++ c.suffix-end.result.now ≡ entry_key (texts c.args.names.now) e = ap (λ (n : List ℕ). n ++ c.suffix-end.result.now) text ∙ ap (λ (n : List ℕ). name_at (texts names) e.name ++ n) c.suffix-end.ensures in
-    let above = subst (λ (k : List ℕ). IsAbove (texts names) k c.args.node.items c.above-place.result) key c.above-place.ensures in
-    if_ok c.with.result (λ p is. is ∙ sym (with-at (texts names) e c.args.node.items c.above-place.result above)) c.with.ensures.items
+    let above = subst (λ (k : List ℕ). IsAbove (texts names) k c.args.node.items c.above-gap.result.place) key c.above-gap.ensures.above in
+    if_ok c.with.result (λ p is. is ∙ sym (with-at (texts names) e c.args.node.items c.above-gap.result.place above)) c.with.ensures.items

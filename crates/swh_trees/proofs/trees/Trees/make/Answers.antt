@@ -1,8 +1,8 @@
-use Rattle.std.proofs.Common.{rules, ◌≡◌, [], ℕ, length, None, ap, subst, ◌∙◌, arith}
+use Rattle.std.proofs.Common.{rules, ◌≡◌, [], ℕ, length, None, sym, ap, subst, ◌∙◌, arith}
 use Rattle.swh_trees.specs.Grove.{Grove, Keeps, map_of}
 use Rattle.swh_trees.specs.Held.{grove}
 use Rattle.swh_folders.specs.PathMap.{PathMap}
-use Rattle.swh_folders.specs.Working.{StaysBelow, count_of, root_map, folder_at}
+use Rattle.swh_folders.specs.Working.{IsTallied, StaysBelow, count_of, root_map, folder_at}
 use Rattle.std.proofs.lemmas.List.{get_or_default}
 use Rattle.std.proofs.lemmas.Result.{err_from_is_err_and}
 use Rattle.swh_trees.specs.Makes.{Makes, ExplainsTree}
@@ -21,7 +21,13 @@ pub returns-in_err-there-clause-keeps : goal.returns-in_err-there-clause-keeps
 returns-in_err-there-clause-keeps g c =
     let ids = c.self.inside.ids.items in
     let n : c.len-base.result ≡ length ids = search rules in
-    on-err c.from_residual.result (keeps-seen _ c.self.inside.folders c.root_from.new.folders c.self.inside.opened _ ids _ c.self.view_is c.self.invariant.within n c.root_from.ensures.stays)
+    let tallied = subst (λ (k : ℕ). IsTallied k c.self.inside.folders) (sym n) c.self.invariant.tallied in
+    on-err c.from_residual.result (keeps-seen _ c.self.inside.folders c.root_from.new.folders c.self.inside.opened _ ids _ c.self.view_is c.self.invariant.within n (c.root_from.ensures.stays c.len-base.result tallied))
+
+pub root_number-requires-clause-tallied : goal.root_number-requires-clause-tallied
+root_number-requires-clause-tallied g c =
+    let n : c.len-base.result ≡ length c.self.inside.ids.items = search rules in
+    c.root_from.ensures.tallied c.len-base.result (subst (λ (k : ℕ). IsTallied k c.self.inside.folders) (sym n) c.self.invariant.tallied)
 
 pub root_number-requires-clause-empty : goal.root_number-requires-clause-empty
 root_number-requires-clause-empty g c =
@@ -29,7 +35,7 @@ root_number-requires-clause-empty g c =
     let b = c.root_from.new.folders in
     let ids = c.self.inside.ids.items in
     let n : c.len-base.result ≡ length ids = search rules in
-    let stays = subst (λ (k : ℕ). StaysBelow k a b) n c.root_from.ensures.stays in
+    let stays = c.root_from.ensures.stays (length ids) c.self.invariant.tallied in
     rw n (bare-stays (folder_at a) (folder_at b) (length ids) c.self.inside.empty stays.stay c.self.invariant.no_files)
 
 pub returns-in_err-root-clause-keeps : goal.returns-in_err-root-clause-keeps
@@ -37,8 +43,9 @@ returns-in_err-root-clause-keeps g c =
     let a = c.self.inside.folders in
     let ids = c.self.inside.ids.items in
     let n : c.len-base.result ≡ length ids = search rules in
+    let tallied = subst (λ (k : ℕ). IsTallied k c.self.inside.folders) (sym n) c.self.invariant.tallied in
     on-err c.from_residual-in_err-root.result (keeps-seen _ a c.root_number.new.folders c.self.inside.opened _ ids _ c.self.view_is c.self.invariant.within n
-    (stays-on c.len-base.result a c.root_from.new.folders c.root_number.new.folders c.root_from.ensures.stays c.root_number.ensures.stays))
+    (stays-on c.len-base.result a c.root_from.new.folders c.root_number.new.folders (c.root_from.ensures.stays c.len-base.result tallied) c.root_number.ensures.stays))
 
 pub returns-in_err-number-clause-keeps : goal.returns-in_err-number-clause-keeps
 returns-in_err-number-clause-keeps g c =
@@ -47,7 +54,8 @@ returns-in_err-number-clause-keeps g c =
     let d = c.make_folders.new.folders in
     let ids = c.self.inside.ids.items in
     let n : c.len-base.result ≡ length ids = search rules in
-    let first = subst (λ (k : ℕ). StaysBelow k a b) n (stays-on c.len-base.result a c.root_from.new.folders b c.root_from.ensures.stays c.root_number.ensures.stays) in
+    let second = subst (λ (k : ℕ). StaysBelow k c.root_from.new.folders b) n c.root_number.ensures.stays in
+    let first = stays-on (length ids) a c.root_from.new.folders b (c.root_from.ensures.stays (length ids) c.self.invariant.tallied) second in
     on-err c.from_residual-in_err-number.result (subst (λ (v : Grove). Keeps v (grove d c.take.new.self c.make_folders.new.ids.items)) c.self.view_is
     (keeps-stays a d c.self.inside.opened _ ids c.make_folders.new.ids.items c.self.invariant.within (stays-on (length ids) a b d first c.make_folders.ensures.stays) (ap length c.in_err-number.ensures.none_made)))
 
@@ -76,7 +84,7 @@ returns-clause-makes g c =
     let count : c.len.result ≡ count_of a = search rules in
     let start = start-of _ a c.self.inside.opened c.take.result ids c.args.tree c.len.result c.start_with-start.result c.self.view_is c.self.invariant.opens c.requires count c.take.ensures.value c.start_with-start.ensures in
     let before : root_map closed c.in_ok-there.there ≡ map_of c.args.self.now c.args.tree = c.in_ok-there.ensures.map ∙ start.1 in
-    let stays = subst (λ (k : ℕ). StaysBelow k a closed) n c.root_from.ensures.stays in
+    let stays = c.root_from.ensures.stays (length ids) c.self.invariant.tallied in
     let first = subst (λ (k : ℕ). StaysBelow k closed b) n c.root_number.ensures.stays in
     let all = c.in_ok-number.ensures.all in
     let inside = c.in_ok-number.ensures.inside in

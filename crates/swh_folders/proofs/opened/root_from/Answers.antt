@@ -1,0 +1,12 @@
+use Rattle.std.proofs.Common.{refl}
+use Rattle.swh_folders.proofs.Workings.{stays-same, stays-grown, tallied-grown}
+use Rattle.swh_folders.proofs.opened.root_from.Goals as goal
+
+pub returns-in-At-clause-stays : goal.returns-in-At-clause-stays
+returns-in-At-clause-stays c = λ base t. stays-same base c.args.folders.now t c.requires.good
+
+pub returns-in-In-clause-stays : goal.returns-in-In-clause-stays
+returns-in-In-clause-stays c = λ base t. stays-grown base c.args.folders.now _ t c.sealed.ensures.good c.sealed.ensures.grows
+
+pub returns-in-In-clause-tallied : goal.returns-in-In-clause-tallied
+returns-in-In-clause-tallied c = λ base t. tallied-grown base c.args.folders.now _ t c.sealed.ensures.grows refl refl
