@@ -16,6 +16,7 @@ is_written_kind Revision = true
 is_written_kind Release = true
 is_written_kind Snapshot = false
 
+-- whether the name's object has a command of its own
 abbrev pub is_written : Name → Bool
 is_written name = is_written_kind name.kind
 

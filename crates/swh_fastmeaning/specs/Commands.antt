@@ -27,6 +27,7 @@ use Rattle.swh_fastmeaning.specs.Aims.{Aim, AllAims, Missing, no_aims, tip_at, w
 abbrev pub Target : Type 0
 Target = Aim PathMap
 
+-- what marks and refs lead to, where a commit's tree is a map from paths
 abbrev pub Targets : Type 0
 Targets = AllAims PathMap
 
