@@ -1,6 +1,6 @@
 -- How much stands in memory, as callers see it.
-use Rattle.std.proofs.Common.{◌≡◌, ℕ, ◌+◌, ◌≤◌, List, length, drop, Option, None, sym, ap, subst, ◌∙◌, inl, inr, arith}
-use Rattle.std.proofs.lemmas.List.{drop_all}
+use Rattle.std.proofs.Common.{◌≡◌, ℕ, ◌+◌, ◌≤◌, List, length, take, drop, Option, None, sym, ap, subst, ◌∙◌, inl, inr, arith}
+use Rattle.std.proofs.lemmas.List.{drop_all, length-take}
 use Rattle.swh_entries.specs.Listed.{Listed, cost_of}
 use Rattle.swh_folders.specs.declared.folders.Folders.{Folders}
 use Rattle.swh_folders.specs.declared.opened.Opened.{Opened}
@@ -10,7 +10,7 @@ use Rattle.swh_folders.specs.Forest.{flat}
 use Rattle.swh_folders.specs.Opened.{root_of_start, IsStart, StaysBounded}
 use Rattle.swh_folders.specs.PathMap.{PathMap}
 use Rattle.swh_folders.specs.Roots.{IsBelow, root_forest}
-use Rattle.swh_folders.specs.Working.{AreFolders, count_of, folder_at, root_map, spare, KeepsCounts, AreNeeded, IsSetAnew, IsBounded as AreBounded}
+use Rattle.swh_folders.specs.Working.{AreFolders, count_of, cost_from, folder_at, root_map, spare, KeepsCounts, AreNeeded, IsSetAnew, IsBounded as AreBounded}
 use Rattle.swh_trees.specs.declared.tree.Tree.{Tree}
 use Rattle.swh_trees.specs.Bound.{IsStill, IsCleared, IsBounded, IsEmptied}
 use Rattle.swh_trees.specs.Grove.{Grove, map_of}
@@ -62,6 +62,12 @@ pub bounded-seen : (v : Grove) (a b : Folders) (o : Option Opened) (ids : List (
 bounded-seen v a b o ids base tree seen is good low h =
     subst (λ (w : Grove). IsBounded w (grove b None ids) (map_of (grove b None ids) tree)) seen
     (bounded a b o None ids tree.number (map_of (grove b None ids) tree) good low (subst (λ (k : ℕ). AreBounded k a b tree.number) is h) (sym (map_is b None ids tree.number low)))
+
+pub cut-long : (made : ℕ) (nodes : List Listed) → made ≤ length nodes → length (take made nodes) ≡ made
+cut-long made nodes le = simp length-take (omega arith)
+
+pub none-cost : (made : ℕ) (f : Folders) → count_of f ≡ made → cost_from made f ≡ 0
+none-cost made f is = ap cost_of (drop_all made f.nodes.items (omega arith))
 
 -- after all objects were made
 pub emptied : (f : Folders) (ids : List (List ℕ)) → length ids ≡ count_of f → f.most ≤ count_of f + spare → f.room ≤ spare → IsEmptied (grove f None ids)

@@ -200,6 +200,9 @@ keeps-stays a b o o' ids ids' le s same = record {
 
 -- ## What callers see of folders
 
+pub keeps-on : (a b d : Grove) → Keeps a b → Keeps b d → Keeps a d
+keeps-on a b d first then = record { made = then.made ∙ first.made; maps = λ n lt. then.maps n (rw first.made lt) ∙ first.maps n lt }
+
 pub keeps-seen : (v : Grove) (a b : Folders) (o o' : Option Opened) (ids : List (List ℕ)) (base : ℕ) → grove a o ids ≡ v → length ids ≤ count_of a → base ≡ length ids → StaysBelow base a b → Keeps v (grove b o' ids)
 keeps-seen v a b o o' ids base seen le is stays =
     subst (λ (w : Grove). Keeps w (grove b o' ids)) seen

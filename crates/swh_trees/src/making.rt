@@ -66,6 +66,20 @@ pub fn root_number(
     }
 }
 
+/// Drops the folders that have no object, where so many have one.
+pub fn drop_unmade(folders: &mut Folders, made: usize)
+    requires good { AreFolders folders.old }
+    requires tallied { IsTallied made folders.old }
+    ensures stays { StaysBelow made folders.old folders.new }
+    ensures tallied { IsTallied made folders.new }
+    ensures all { made ≡ count_of folders.new }
+    ensures most { folders.new.most ≤ count_of folders.new + spare }
+    ensures room { folders.new.room ≤ spare }
+{
+    folders.nodes.truncate(made);
+    count_from(folders, made);
+}
+
 /// The objects of the folders that the root needs and that have none yet, and the root's new number. The other folders
 /// without objects are dropped. After a fault no folder more has an object.
 pub fn make_folders<N: Namer>(

@@ -1,7 +1,7 @@
 //! Trees of commits.
 
 use crate::fault::TreeFault;
-use crate::making::{make_folders, root_number};
+use crate::making::{drop_unmade, make_folders, root_number};
 use crate::tree::Tree;
 use std::alloc::Global;
 use std::marker::Model;
@@ -141,7 +141,7 @@ impl<N: Namer> Trees<N> {
 
     /// The tree with the leaf at the path, in place of what stood there, under it, and at its proper fronts
     /// (git-fast-import(1), filemodify). The other trees whose objects were not made are given up. Fails where memory
-    /// runs out.
+    /// runs out, and then this one is, too.
     pub fn set(
         &mut self,
         alloc: Global,
@@ -155,6 +155,7 @@ impl<N: Namer> Trees<N> {
         ensures keeps { Keeps self.old self.new }
         ensures map { IfOk result (λ t. StandsFor self.new t (set (components path.now) leaf (map_of self.old tree))) }
         ensures bounded { IfOk result (λ t. IsBounded self.old self.new (map_of self.old tree)) }
+        ensures failed { OnErr result (IsEmptied self.new) }
     {
         let whole = Leaf {
             mode: leaf.mode,
@@ -162,24 +163,37 @@ impl<N: Namer> Trees<N> {
         };
         let base = self.ids.len();
         let start = start_with(self.opened.take(), tree.number, self.folders.nodes.len());
-        let opened = set_in(alloc, &mut self.folders, base, start, path, whole)?;
+        let opened = match set_in(alloc, &mut self.folders, base, start, path, whole) {
+            Ok(opened) => opened,
+            Err(_) => {
+                drop_unmade(&mut self.folders, base);
+                return Err(Memory);
+            }
+        };
         let number = Some(self.folders.nodes.len());
         self.opened = Some(opened);
         Ok(Tree { number })
     }
 
     /// The tree without what stands at the path and under it (git-fast-import(1), filedelete). The other trees whose
-    /// objects were not made are given up. Fails where memory runs out.
+    /// objects were not made are given up. Fails where memory runs out, and then this one is, too.
     pub fn delete(&mut self, alloc: Global, tree: Tree, path: &[u8]) -> Result<Tree, Memory>
         requires tree { IsTree self.old tree }
         requires path { IsPath path.now }
         ensures keeps { Keeps self.old self.new }
         ensures map { IfOk result (λ t. StandsFor self.new t (delete (components path.now) (map_of self.old tree))) }
         ensures bounded { IfOk result (λ t. IsBounded self.old self.new (map_of self.old tree)) }
+        ensures failed { OnErr result (IsEmptied self.new) }
     {
         let base = self.ids.len();
         let start = start_with(self.opened.take(), tree.number, self.folders.nodes.len());
-        let left = delete_in(alloc, &mut self.folders, base, start, path)?;
+        let left = match delete_in(alloc, &mut self.folders, base, start, path) {
+            Ok(left) => left,
+            Err(_) => {
+                drop_unmade(&mut self.folders, base);
+                return Err(Memory);
+            }
+        };
         let (number, opened) = parts_of(left, self.folders.nodes.len());
         self.opened = opened;
         Ok(Tree { number })
@@ -187,7 +201,7 @@ impl<N: Namer> Trees<N> {
 
     /// The tree with what the source holds at the target too (git-fast-import(1), filecopy); none where the source
     /// holds nothing, and then the tree stands as before. The other trees whose objects were not made are given up.
-    /// Fails where memory runs out.
+    /// Fails where memory runs out, and then this one is, too.
     pub fn copy(
         &mut self,
         alloc: Global,
@@ -206,13 +220,14 @@ impl<N: Namer> Trees<N> {
         ensures map { IfOk result (λ o. IfSome o (λ t. StandsFor self.new t
             (copy (components source.now) (components target.now) (map_of self.old tree)))) }
         ensures bounded { IfOk result (λ o. IfSome o (λ t. IsBounded self.old self.new (map_of self.new t))) }
+        ensures failed { OnErr result (IsEmptied self.new) }
     {
         self.transfer(alloc, tree, source, target, Transfer::Copy)
     }
 
     /// The tree with what the source holds at the target, and no more at the source, which is removed first
     /// (git-fast-import(1), filerename); none where the source holds nothing, and then the tree stands as before. The
-    /// other trees whose objects were not made are given up. Fails where memory runs out.
+    /// other trees whose objects were not made are given up. Fails where memory runs out, and then this one is, too.
     pub fn rename(
         &mut self,
         alloc: Global,
@@ -231,6 +246,7 @@ impl<N: Namer> Trees<N> {
         ensures map { IfOk result (λ o. IfSome o (λ t. StandsFor self.new t
             (rename (components source.now) (components target.now) (map_of self.old tree)))) }
         ensures bounded { IfOk result (λ o. IfSome o (λ t. IsBounded self.old self.new (map_of self.new t))) }
+        ensures failed { OnErr result (IsEmptied self.new) }
     {
         self.transfer(alloc, tree, source, target, Transfer::Rename)
     }
@@ -255,10 +271,25 @@ impl<N: Namer> Trees<N> {
         ensures map { IfOk result (λ o. IfSome o (λ t. StandsFor self.new t
             (transferred way (components source.now) (components target.now) (map_of self.old tree)))) }
         ensures bounded { IfOk result (λ o. IfSome o (λ t. IsBounded self.old self.new (map_of self.new t))) }
+        ensures failed { OnErr result (IsEmptied self.new) }
     {
         let base = self.ids.len();
         let start = start_with(self.opened.take(), tree.number, self.folders.nodes.len());
-        let moved = transfer_from(alloc, &mut self.folders, base, start, source, target, way)?;
+        let moved = match transfer_from(
+            alloc,
+            &mut self.folders,
+            base,
+            start,
+            source,
+            target,
+            way,
+        ) {
+            Ok(moved) => moved,
+            Err(_) => {
+                drop_unmade(&mut self.folders, base);
+                return Err(Memory);
+            }
+        };
         match moved {
             Ok(number) => Ok(Some(Tree { number })),
             Err(left) => {
@@ -269,10 +300,8 @@ impl<N: Namer> Trees<N> {
         }
     }
 
-    /// Makes the objects of the tree's directories that have none yet (git objects, tree). The other trees whose
-    /// objects were not made are given up. Fails where memory runs out or the body of a directory is above the limit,
-    /// and then no object was made.
-    pub fn make(&mut self, alloc: Global, tree: Tree) -> Result<Made<N>, TreeFault>
+    /// Makes the objects, as `make` does. After a fault folders without objects may be left.
+    fn make_objects(&mut self, alloc: Global, tree: Tree) -> Result<Made<N>, TreeFault>
         requires { IsTree self.old tree }
         ensures makes { IfOk result (λ m. Makes N.id_of self.old self.new (map_of self.old tree) m.tree m.id
             m.objects.items) }
@@ -295,5 +324,26 @@ impl<N: Namer> Trees<N> {
         let (tree, empty) = kept(there, self.empty, number);
         self.empty = empty;
         Ok(Made { tree, id, objects })
+    }
+
+    /// Makes the objects of the tree's directories that have none yet (git objects, tree). The other trees whose
+    /// objects were not made are given up. Fails where memory runs out or the body of a directory is above the limit,
+    /// and then no object was made, and this one is given up, too.
+    pub fn make(&mut self, alloc: Global, tree: Tree) -> Result<Made<N>, TreeFault>
+        requires { IsTree self.old tree }
+        ensures makes { IfOk result (λ m. Makes N.id_of self.old self.new (map_of self.old tree) m.tree m.id
+            m.objects.items) }
+        ensures keeps { OnErr result (Keeps self.old self.new) }
+        ensures emptied { IsEmptied self.new }
+        ensures err { IfErr result (ExplainsTree N.id_of (map_of self.old tree)) }
+    {
+        match self.make_objects(alloc, tree) {
+            Ok(made) => Ok(made),
+            Err(fault) => {
+                self.opened = None;
+                drop_unmade(&mut self.folders, self.ids.len());
+                Err(fault)
+            }
+        }
     }
 }

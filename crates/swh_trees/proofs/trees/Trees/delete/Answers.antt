@@ -3,6 +3,7 @@ use Rattle.swh_fastlex.specs.Path.{components}
 use Rattle.swh_folders.specs.PathMap.{delete}
 use Rattle.swh_folders.specs.Opened.{root_of_start}
 use Rattle.swh_folders.specs.Working.{count_of}
+use Rattle.swh_folders.proofs.Workings.{stays-on}
 use Rattle.swh_trees.proofs.Bounds.{start-root, stays-seen}
 use Rattle.swh_trees.proofs.Parts.{keeps-seen, stands-start, start-of}
 use Rattle.swh_trees.proofs.trees.Trees.delete.Goals as goal
@@ -13,10 +14,10 @@ delete_in-requires-clause-start g c =
     let n : c.len.result ≡ count_of a = search rules in
     (start-of _ a c.self.inside.opened c.take.result c.self.inside.ids.items c.args.tree c.len.result c.start_with-start.result c.self.view_is c.self.invariant.opens c.requires.tree n c.take.ensures.value c.start_with-start.ensures).0
 
-pub returns-in_err-left-clause-keeps : goal.returns-in_err-left-clause-keeps
-returns-in_err-left-clause-keeps g c =
+pub returns-in-Err-clause-keeps : goal.returns-in-Err-clause-keeps
+returns-in-Err-clause-keeps g c =
     let n : c.len-base.result ≡ length c.self.inside.ids.items = search rules in
-    keeps-seen _ c.self.inside.folders c.delete_in.new.folders c.self.inside.opened _ c.self.inside.ids.items _ c.self.view_is c.self.invariant.within n c.delete_in.ensures.stays
+    keeps-seen _ c.self.inside.folders c.drop_unmade.new.folders c.self.inside.opened _ c.self.inside.ids.items _ c.self.view_is c.self.invariant.within n (stays-on c.len-base.result c.self.inside.folders c.delete_in.new.folders c.drop_unmade.new.folders c.delete_in.ensures.stays c.drop_unmade.ensures.stays)
 
 pub returns-clause-keeps : goal.returns-clause-keeps
 returns-clause-keeps g c =
@@ -31,8 +32,8 @@ returns-clause-map g c =
     let n : c.len.result ≡ count_of a = search rules in
     let last : c.len-2.result ≡ count_of b = search rules in
     let start = start-of _ a c.self.inside.opened c.take.result ids c.args.tree c.len.result c.start_with-start.result c.self.view_is c.self.invariant.opens c.requires.tree n c.take.ensures.value c.start_with-start.ensures in
-    rw c.parts_of-number.ensures.opened (stands-start b c.in_ok-left.left ids _ _ c.in_ok-left.ensures.start (c.parts_of-number.ensures.number b last)
-    (c.in_ok-left.ensures.map ∙ ap (delete (components c.args.path.now)) start.1))
+    rw c.parts_of-number.ensures.opened (stands-start b c.in-Ok.left ids _ _ c.in-Ok.ensures.start (c.parts_of-number.ensures.number b last)
+    (c.in-Ok.ensures.map ∙ ap (delete (components c.args.path.now)) start.1))
 
 pub returns-clause-bounded : goal.returns-clause-bounded
 returns-clause-bounded g c =
@@ -42,4 +43,4 @@ returns-clause-bounded g c =
     let base : c.len-base.result ≡ length ids = search rules in
     let n : c.len.result ≡ count_of a = search rules in
     let start = start-of _ a c.self.inside.opened c.take.result ids c.args.tree c.len.result c.start_with-start.result c.self.view_is c.self.invariant.opens c.requires.tree n c.take.ensures.value c.start_with-start.ensures in
-    stays-seen _ a b c.self.inside.opened _ ids c.len-base.result (root_of_start c.in_ok-left.left) _ _ c.self.view_is base c.delete_in.ensures.stays.good (start-root b c.in_ok-left.left c.in_ok-left.ensures.start) c.in_ok-left.ensures.bounded start.1
+    stays-seen _ a b c.self.inside.opened _ ids c.len-base.result (root_of_start c.in-Ok.left) _ _ c.self.view_is base c.delete_in.ensures.stays.good (start-root b c.in-Ok.left c.in-Ok.ensures.start) c.in-Ok.ensures.bounded start.1

@@ -4,6 +4,7 @@ use Rattle.swh_entries.specs.declared.entry.Leaf.{Leaf}
 use Rattle.swh_folders.specs.Opened.{start_map}
 use Rattle.swh_folders.specs.PathMap.{set}
 use Rattle.swh_folders.specs.Working.{count_of}
+use Rattle.swh_folders.proofs.Workings.{stays-on}
 use Rattle.swh_trees.proofs.Bounds.{stays-seen}
 use Rattle.swh_trees.proofs.Parts.{keeps-seen, stands-open, start-of}
 use Rattle.swh_trees.proofs.trees.Trees.set.Goals as goal
@@ -14,15 +15,15 @@ set_in-requires-clause-start g c =
     let n : c.len.result ≡ count_of a = search rules in
     (start-of _ a c.self.inside.opened c.take.result c.self.inside.ids.items c.args.tree c.len.result c.start_with-start.result c.self.view_is c.self.invariant.opens c.requires.tree n c.take.ensures.value c.start_with-start.ensures).0
 
-pub returns-in_err-opened-clause-keeps : goal.returns-in_err-opened-clause-keeps
-returns-in_err-opened-clause-keeps g c =
+pub returns-in-Err-clause-keeps : goal.returns-in-Err-clause-keeps
+returns-in-Err-clause-keeps g c =
     let n : c.len-base.result ≡ length c.self.inside.ids.items = search rules in
-    keeps-seen _ c.self.inside.folders c.set_in.new.folders c.self.inside.opened _ c.self.inside.ids.items _ c.self.view_is c.self.invariant.within n c.set_in.ensures.stays
+    keeps-seen _ c.self.inside.folders c.drop_unmade.new.folders c.self.inside.opened _ c.self.inside.ids.items _ c.self.view_is c.self.invariant.within n (stays-on c.len-base.result c.self.inside.folders c.set_in.new.folders c.drop_unmade.new.folders c.set_in.ensures.stays c.drop_unmade.ensures.stays)
 
 pub returns-clause-keeps : goal.returns-clause-keeps
 returns-clause-keeps g c =
     let n : c.len-base.result ≡ length c.self.inside.ids.items = search rules in
-    keeps-seen _ c.self.inside.folders c.set_in.new.folders c.self.inside.opened (Some c.in_ok-opened.opened) c.self.inside.ids.items _ c.self.view_is c.self.invariant.within n c.set_in.ensures.stays
+    keeps-seen _ c.self.inside.folders c.set_in.new.folders c.self.inside.opened (Some c.in-Ok.opened) c.self.inside.ids.items _ c.self.view_is c.self.invariant.within n c.set_in.ensures.stays
 
 pub returns-clause-map : goal.returns-clause-map
 returns-clause-map g c =
@@ -34,8 +35,8 @@ returns-clause-map g c =
     let start = start-of _ a c.self.inside.opened c.take.result ids c.args.tree c.len.result c.start_with-start.result c.self.view_is c.self.invariant.opens c.requires.tree n c.take.ensures.value c.start_with-start.ensures in
     let p = components c.args.path.now in
     let whole : record { mode = c.args.leaf.mode; id = c.whole_id.result } ≡ c.args.leaf = ap (λ (i : List ℕ). record { mode = c.args.leaf.mode; id = i }) c.whole_id.ensures.same in
-    stands-open b c.in_ok-opened.opened ids _ _ (ap Some last)
-    (c.in_ok-opened.ensures.map ∙ ap (λ (l : Leaf). set p l (start_map a c.start_with-start.result)) whole ∙ ap (set p c.args.leaf) start.1)
+    stands-open b c.in-Ok.opened ids _ _ (ap Some last)
+    (c.in-Ok.ensures.map ∙ ap (λ (l : Leaf). set p l (start_map a c.start_with-start.result)) whole ∙ ap (set p c.args.leaf) start.1)
 
 pub returns-clause-bounded : goal.returns-clause-bounded
 returns-clause-bounded g c =
@@ -45,4 +46,4 @@ returns-clause-bounded g c =
     let base : c.len-base.result ≡ length ids = search rules in
     let n : c.len.result ≡ count_of a = search rules in
     let start = start-of _ a c.self.inside.opened c.take.result ids c.args.tree c.len.result c.start_with-start.result c.self.view_is c.self.invariant.opens c.requires.tree n c.take.ensures.value c.start_with-start.ensures in
-    stays-seen _ a b c.self.inside.opened (Some c.in_ok-opened.opened) ids c.len-base.result c.in_ok-opened.opened.root _ _ c.self.view_is base c.set_in.ensures.stays.good c.in_ok-opened.ensures.opened.root c.in_ok-opened.ensures.bounded start.1
+    stays-seen _ a b c.self.inside.opened (Some c.in-Ok.opened) ids c.len-base.result c.in-Ok.opened.root _ _ c.self.view_is base c.set_in.ensures.stays.good c.in-Ok.ensures.opened.root c.in-Ok.ensures.bounded start.1

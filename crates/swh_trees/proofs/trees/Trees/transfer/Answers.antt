@@ -3,6 +3,7 @@ use Rattle.swh_fastlex.specs.Path.{components}
 use Rattle.swh_folders.specs.PathMap.{PathMap, held}
 use Rattle.swh_folders.specs.Transfer.{transferred}
 use Rattle.swh_folders.specs.Working.{count_of}
+use Rattle.swh_folders.proofs.Workings.{stays-on}
 use Rattle.swh_trees.proofs.Bounds.{bounded-seen, still-seen}
 use Rattle.swh_trees.proofs.Parts.{keeps-seen, number-start, stands-for, stands-start, start-of}
 use Rattle.swh_trees.proofs.trees.Trees.transfer.Goals as goal
@@ -13,62 +14,62 @@ transfer_from-requires-clause-start g c =
     let n : c.len.result ≡ count_of a = search rules in
     (start-of _ a c.self.inside.opened c.take.result c.self.inside.ids.items c.args.tree c.len.result c.start_with-start.result c.self.view_is c.self.invariant.opens c.requires.tree n c.take.ensures.value c.start_with-start.ensures).0
 
-pub returns-in_err-moved-clause-keeps : goal.returns-in_err-moved-clause-keeps
-returns-in_err-moved-clause-keeps g c =
-    let n : c.len-base.result ≡ length c.self.inside.ids.items = search rules in
-    keeps-seen _ c.self.inside.folders c.transfer_from.new.folders c.self.inside.opened _ c.self.inside.ids.items _ c.self.view_is c.self.invariant.within n c.transfer_from.ensures.stays
-
-pub returns-in-Ok-clause-keeps : goal.returns-in-Ok-clause-keeps
-returns-in-Ok-clause-keeps g c =
-    let n : c.len-base.result ≡ length c.self.inside.ids.items = search rules in
-    keeps-seen _ c.self.inside.folders c.transfer_from.new.folders c.self.inside.opened _ c.self.inside.ids.items _ c.self.view_is c.self.invariant.within n c.transfer_from.ensures.stays
-
-pub returns-in-Ok-clause-some : goal.returns-in-Ok-clause-some
-returns-in-Ok-clause-some g c =
-    let a = c.self.inside.folders in
-    let n : c.len.result ≡ count_of a = search rules in
-    let start = start-of _ a c.self.inside.opened c.take.result c.self.inside.ids.items c.args.tree c.len.result c.start_with-start.result c.self.view_is c.self.invariant.opens c.requires.tree n c.take.ensures.value c.start_with-start.ensures in
-    subst (λ (m : PathMap). held (components c.args.source.now) m ≢ []) start.1 (rw c.in-Ok.is at c.in_ok-moved.ensures.some)
-
-pub returns-in-Ok-clause-map : goal.returns-in-Ok-clause-map
-returns-in-Ok-clause-map g c =
-    let a = c.self.inside.folders in
-    let n : c.len.result ≡ count_of a = search rules in
-    let start = start-of _ a c.self.inside.opened c.take.result c.self.inside.ids.items c.args.tree c.len.result c.start_with-start.result c.self.view_is c.self.invariant.opens c.requires.tree n c.take.ensures.value c.start_with-start.ensures in
-    stands-for c.transfer_from.new.folders _ c.self.inside.ids.items _ _ (rw c.in-Ok.is at c.in_ok-moved.ensures.inside)
-    ((rw c.in-Ok.is at c.in_ok-moved.ensures.map) ∙ ap (transferred c.args.way (components c.args.source.now) (components c.args.target.now)) start.1)
-
 pub returns-in-Err-clause-keeps : goal.returns-in-Err-clause-keeps
 returns-in-Err-clause-keeps g c =
     let n : c.len-base.result ≡ length c.self.inside.ids.items = search rules in
+    keeps-seen _ c.self.inside.folders c.drop_unmade.new.folders c.self.inside.opened _ c.self.inside.ids.items _ c.self.view_is c.self.invariant.within n (stays-on c.len-base.result c.self.inside.folders c.transfer_from.new.folders c.drop_unmade.new.folders c.transfer_from.ensures.stays c.drop_unmade.ensures.stays)
+
+pub returns-in-Ok-moved-clause-keeps : goal.returns-in-Ok-moved-clause-keeps
+returns-in-Ok-moved-clause-keeps g c =
+    let n : c.len-base.result ≡ length c.self.inside.ids.items = search rules in
     keeps-seen _ c.self.inside.folders c.transfer_from.new.folders c.self.inside.opened _ c.self.inside.ids.items _ c.self.view_is c.self.invariant.within n c.transfer_from.ensures.stays
 
-pub returns-in-Err-clause-none : goal.returns-in-Err-clause-none
-returns-in-Err-clause-none g c =
+pub returns-in-Ok-moved-clause-some : goal.returns-in-Ok-moved-clause-some
+returns-in-Ok-moved-clause-some g c =
     let a = c.self.inside.folders in
     let n : c.len.result ≡ count_of a = search rules in
     let start = start-of _ a c.self.inside.opened c.take.result c.self.inside.ids.items c.args.tree c.len.result c.start_with-start.result c.self.view_is c.self.invariant.opens c.requires.tree n c.take.ensures.value c.start_with-start.ensures in
-    subst (λ (m : PathMap). held (components c.args.source.now) m ≡ []) start.1 (rw c.in-Err.is at c.in_ok-moved.ensures.none)
+    subst (λ (m : PathMap). held (components c.args.source.now) m ≢ []) start.1 (rw c.in-Ok-moved.is at c.in-Ok.ensures.some)
 
-pub returns-in-Err-clause-left : goal.returns-in-Err-clause-left
-returns-in-Err-clause-left g c =
+pub returns-in-Ok-moved-clause-map : goal.returns-in-Ok-moved-clause-map
+returns-in-Ok-moved-clause-map g c =
+    let a = c.self.inside.folders in
+    let n : c.len.result ≡ count_of a = search rules in
+    let start = start-of _ a c.self.inside.opened c.take.result c.self.inside.ids.items c.args.tree c.len.result c.start_with-start.result c.self.view_is c.self.invariant.opens c.requires.tree n c.take.ensures.value c.start_with-start.ensures in
+    stands-for c.transfer_from.new.folders _ c.self.inside.ids.items _ _ (rw c.in-Ok-moved.is at c.in-Ok.ensures.inside)
+    ((rw c.in-Ok-moved.is at c.in-Ok.ensures.map) ∙ ap (transferred c.args.way (components c.args.source.now) (components c.args.target.now)) start.1)
+
+pub returns-in-Err-moved-clause-keeps : goal.returns-in-Err-moved-clause-keeps
+returns-in-Err-moved-clause-keeps g c =
+    let n : c.len-base.result ≡ length c.self.inside.ids.items = search rules in
+    keeps-seen _ c.self.inside.folders c.transfer_from.new.folders c.self.inside.opened _ c.self.inside.ids.items _ c.self.view_is c.self.invariant.within n c.transfer_from.ensures.stays
+
+pub returns-in-Err-moved-clause-none : goal.returns-in-Err-moved-clause-none
+returns-in-Err-moved-clause-none g c =
+    let a = c.self.inside.folders in
+    let n : c.len.result ≡ count_of a = search rules in
+    let start = start-of _ a c.self.inside.opened c.take.result c.self.inside.ids.items c.args.tree c.len.result c.start_with-start.result c.self.view_is c.self.invariant.opens c.requires.tree n c.take.ensures.value c.start_with-start.ensures in
+    subst (λ (m : PathMap). held (components c.args.source.now) m ≡ []) start.1 (rw c.in-Err-moved.is at c.in-Ok.ensures.none)
+
+pub returns-in-Err-moved-clause-left : goal.returns-in-Err-moved-clause-left
+returns-in-Err-moved-clause-left g c =
     let a = c.self.inside.folders in
     let b = c.transfer_from.new.folders in
     let ids = c.self.inside.ids.items in
     let n : c.len.result ≡ count_of a = search rules in
     let start = start-of _ a c.self.inside.opened c.take.result ids c.args.tree c.len.result c.start_with-start.result c.self.view_is c.self.invariant.opens c.requires.tree n c.take.ensures.value c.start_with-start.ensures in
     let number = number-start a c.self.inside.opened c.take.result c.args.tree.number c.len.result c.start_with-start.result n c.take.ensures.value c.start_with-start.ensures in
-    rw c.parts_of-opened.ensures.opened (stands-start b c.in-Err.left ids c.args.tree _ (rw c.in-Err.is at c.in_ok-moved.ensures.left) (sym ((rw c.in-Err.is at c.in_ok-moved.ensures.number) ∙ number))
-    ((rw c.in-Err.is at c.in_ok-moved.ensures.same) ∙ start.1))
+    rw c.parts_of-opened.ensures.opened (stands-start b c.in-Err-moved.left ids c.args.tree _ (rw c.in-Err-moved.is at c.in-Ok.ensures.left) (sym ((rw c.in-Err-moved.is at c.in-Ok.ensures.number) ∙ number))
+    ((rw c.in-Err-moved.is at c.in-Ok.ensures.same) ∙ start.1))
 
-pub returns-in-Ok-clause-bounded : goal.returns-in-Ok-clause-bounded
-returns-in-Ok-clause-bounded g c =
+pub returns-in-Ok-moved-clause-bounded : goal.returns-in-Ok-moved-clause-bounded
+returns-in-Ok-moved-clause-bounded g c =
     let a = c.self.inside.folders in
     let b = c.transfer_from.new.folders in
     let ids = c.self.inside.ids.items in
     let base : c.len-base.result ≡ length ids = search rules in
-    rw c.take.ensures.after (bounded-seen _ a b c.self.inside.opened ids c.len-base.result (record { number = c.in-Ok.number }) c.self.view_is base c.transfer_from.ensures.stays.good (rw c.in-Ok.is at c.in_ok-moved.ensures.inside) (rw c.in-Ok.is at c.in_ok-moved.ensures.bounded))
+    rw c.take.ensures.after (bounded-seen _ a b c.self.inside.opened ids c.len-base.result (record { number = c.in-Ok-moved.number }) c.self.view_is base c.transfer_from.ensures.stays.good (rw c.in-Ok-moved.is at c.in-Ok.ensures.inside) (rw c.in-Ok-moved.is at c.in-Ok.ensures.bounded))
 
-pub returns-in-Err-clause-still : goal.returns-in-Err-clause-still
-returns-in-Err-clause-still g c =
-    still-seen _ c.self.inside.folders c.transfer_from.new.folders c.self.inside.opened _ c.self.inside.ids.items c.self.view_is (rw c.in-Err.is at c.in_ok-moved.ensures.lists) (rw c.in-Err.is at c.in_ok-moved.ensures.counts)
+pub returns-in-Err-moved-clause-still : goal.returns-in-Err-moved-clause-still
+returns-in-Err-moved-clause-still g c =
+    still-seen _ c.self.inside.folders c.transfer_from.new.folders c.self.inside.opened _ c.self.inside.ids.items c.self.view_is (rw c.in-Err-moved.is at c.in-Ok.ensures.lists) (rw c.in-Err-moved.is at c.in-Ok.ensures.counts)
