@@ -1,9 +1,9 @@
 //! The listing of a folder, taken line by line.
-ghost use Rattle.std.specs.Prelude.{◌≡◌, ◌≤◌, IfErr, IsErrOf, List, OnOk, length};
+ghost use Rattle.std.specs.Prelude.{◌≡◌, IfErr, List, OnOk, length};
 ghost use Rattle.std.specs.List.{AllByRecursion};
 ghost use Rattle.swh_base.specs.declared.name.Name.{Name};
 ghost use Rattle.swh_dirmade.specs.Making.{IsHeld};
-ghost use Rattle.swh_outside.specs.Faults.{Rose};
+ghost use Rattle.swh_fastlex.specs.ReadOn.{IsReadOn};
 ghost use Rattle.swh_dirload.specs.declared.fault.DirFault.TheVariants.{ReadFault as NotRead};
 ghost use Rattle.swh_dirload.specs.Index.{IsIndex};
 ghost use Rattle.swh_dirload.specs.May.{MayRefuse};
@@ -46,10 +46,7 @@ pub fn take_lines<S: Source>(
     ensures table { OnOk result (IsTable spots.new.items) }
     ensures count { OnOk result (length places.new.items ≡ length spots.new.items) }
 
-    ensures same_path { S.path source.new ≡ S.path source.old }
-    ensures later { S.faults source.old ≤ S.faults source.new }
-    ensures quiet { OnOk result (S.faults source.new ≡ S.faults source.old) }
-    ensures cause { IsErrOf result NotRead → Rose (S.faults source.old) (S.faults source.new) }
+    ensures on { IsReadOn S.path S.faults source.old source.new NotRead result }
 {
     let mut window = Window::new(alloc)?;
     let mut line = 1;

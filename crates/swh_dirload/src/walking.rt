@@ -1,6 +1,6 @@
 //! What stands in a folder, found before any file is read.
-ghost use Rattle.std.specs.Prelude.{◌≡◌, ◌≢◌, ◌++◌, ◌∷◌, [], ◌<◌, ◌≤◌, IfOk, IfErr, OnOk, IsErrOf, length, map, string_bytes};
-ghost use Rattle.swh_outside.specs.Faults.{Rose};
+ghost use Rattle.std.specs.Prelude.{◌≡◌, ◌≢◌, ◌++◌, ◌∷◌, [], ◌<◌, IfOk, IfErr, OnOk, length, map, string_bytes};
+ghost use Rattle.swh_fastlex.specs.ReadOn.{IsReadOn};
 ghost use Rattle.swh_dirload.specs.declared.fault.DirFault.TheVariants.{ReadFault as NotRead, Memory as NoRoom};
 ghost use Rattle.swh_dirload.specs.Items.{Fits};
 ghost use Rattle.swh_dirload.specs.Found.{path_in, paths_of, items_of, IsPlaced, ArePlaced, AreBelow, AreNamedBehind, found_in, items_under};
@@ -79,10 +79,7 @@ fn visit<F: Folder>(
     ensures err { IfErr result (ExplainsItem (path_in (paths_of found.old.items) next) next.what) }
 
     ensures same { F.tells → F.holds folder.new ≡ F.holds folder.old }
-    ensures same_path { F.opened_at folder.new ≡ F.opened_at folder.old }
-    ensures later { F.faults folder.old ≤ F.faults folder.new }
-    ensures quiet { OnOk result (F.faults folder.new ≡ F.faults folder.old) }
-    ensures cause { IsErrOf result NotRead → Rose (F.faults folder.old) (F.faults folder.new) }
+    ensures on { IsReadOn F.opened_at F.faults folder.old folder.new NotRead result }
 {
     let path = fitting(path_of(alloc, found.as_slice(), &next)?, next.what)?;
     let number = found.len();
@@ -113,10 +110,7 @@ pub fn walk<F: Folder>(alloc: Global, folder: &mut F) -> Result<Vec<Found>, DirF
     ensures err { F.tells → IfErr result (ExplainsWalk (F.holds folder.old)) }
 
     ensures same { F.tells → F.holds folder.new ≡ F.holds folder.old }
-    ensures same_path { F.opened_at folder.new ≡ F.opened_at folder.old }
-    ensures later { F.faults folder.old ≤ F.faults folder.new }
-    ensures quiet { OnOk result (F.faults folder.new ≡ F.faults folder.old) }
-    ensures cause { IsErrOf result NotRead → Rose (F.faults folder.old) (F.faults folder.new) }
+    ensures on { IsReadOn F.opened_at F.faults folder.old folder.new NotRead result }
 {
     let mut found = Vec::new(alloc);
     let mut waiting = VecDeque::new(alloc);

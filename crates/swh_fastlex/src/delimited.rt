@@ -11,13 +11,12 @@ ghost use Rattle.std.specs.Prelude.{
   ◌++◌,
   IfOk,
   IfErr,
-  IsErrOf,
   IsTrue,
   length,
 };
-ghost use Rattle.swh_outside.specs.Faults.{Rose};
 ghost use Rattle.swh_outside.specs.Source.{LosesSome};
 ghost use Rattle.swh_base.specs.Limits.{body_limit, line_limit};
+ghost use Rattle.swh_fastlex.specs.ReadOn.{IsReadOn};
 ghost use Rattle.swh_fastlex.specs.Line.{unread, Takes};
 ghost use Rattle.swh_fastlex.specs.Delimited.{AreLines, IsDataFault};
 ghost use Rattle.swh_fastlex.specs.declared.fault.DataFault.TheVariants.{Failed};
@@ -67,10 +66,7 @@ pub fn next_delimited<S: Source>(
         (unread window.new (S.left source.new))) }
     ensures place { IfErr result (λ _. window.new.place ≤ window.old.place + (limit + line_limit)) }
 
-    ensures same_path { S.path source.new ≡ S.path source.old }
-    ensures later { S.faults source.old ≤ S.faults source.new }
-    ensures quiet { IfOk result (λ _. S.faults source.new ≡ S.faults source.old) }
-    ensures cause { IsErrOf result Failed → Rose (S.faults source.old) (S.faults source.new) }
+    ensures on { IsReadOn S.path S.faults source.old source.new Failed result }
 {
     let mut bytes = Vec::new(alloc);
     'lines: loop {

@@ -1,8 +1,8 @@
 // Lines of a source, read through a window.
 ghost use Rattle.std.specs.Prelude.{◌≡◌, ◌≤◌, ◌<◌, ◌+◌, ◌^◌, IfOk, IfErr, IfSome, IfNone, IsErrOf, length};
-ghost use Rattle.swh_outside.specs.Faults.{Rose};
 ghost use Rattle.swh_outside.specs.Source.{LosesSome};
 ghost use Rattle.swh_base.specs.Limits.{line_limit};
+ghost use Rattle.swh_fastlex.specs.ReadOn.{IsReadOn};
 ghost use Rattle.swh_fastlex.specs.Line.{unread, Takes, IsLine, IsAtEnd, IsCutLine, IsLongLine, MovesFront};
 ghost use Rattle.swh_fastlex.specs.declared.fault.LineFault.TheVariants.{Failed, End, Limit};
 
@@ -65,10 +65,7 @@ pub fn next_line<S: Source>(
         (unread window.new (S.left source.new))) }
     ensures place { window.new.place ≤ window.old.place + line_limit }
 
-    ensures same_path { S.path source.new ≡ S.path source.old }
-    ensures later { S.faults source.old ≤ S.faults source.new }
-    ensures quiet { IfOk result (λ _. S.faults source.new ≡ S.faults source.old) }
-    ensures cause { IsErrOf result Failed → Rose (S.faults source.old) (S.faults source.new) }
+    ensures on { IsReadOn S.path S.faults source.old source.new Failed result }
 {
     let mut line = Vec::new(alloc);
     'pieces: while line.len() < LINE_LIMIT {

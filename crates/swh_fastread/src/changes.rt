@@ -1,6 +1,6 @@
 // Changes of a commit (git-fast-import(1), filemodify, filedelete, filecopy, filerename, filedeleteall).
-ghost use Rattle.std.specs.Prelude.{◌≡◌, ◌≤◌, ◌<◌, true, false, IfOk, IfErr, IfSome, IsErrOf};
-ghost use Rattle.swh_outside.specs.Faults.{Rose};
+ghost use Rattle.std.specs.Prelude.{◌≡◌, ◌≤◌, ◌<◌, true, false, IfOk, IfErr, IfSome};
+ghost use Rattle.swh_fastrows.specs.ReadOn.{AreReadOn};
 ghost use Rattle.swh_fastrows.specs.declared.fail.ReadFail.TheVariants.{ReadFault as SourceFailed};
 ghost use Rattle.swh_fastrows.specs.Explains.{EndsWhole};
 ghost use Rattle.swh_fastgrammar.specs.Givable.{IsGivableChange, AreGivable};
@@ -25,10 +25,7 @@ fn next_change<S: Source>(rows: &mut RowReader<S>) -> Result<Option<At<Change>>,
     ensures onward { IfOk result (λ found. IfSome found (λ _. rows.old.at < rows.new.at)) }
     ensures never_back { IfOk result (λ _. rows.old.at ≤ rows.new.at) }
 
-    ensures same_path { rows.new.path ≡ rows.old.path }
-    ensures later { rows.old.faults ≤ rows.new.faults }
-    ensures quiet { IfOk result (λ _. rows.new.faults ≡ rows.old.faults) }
-    ensures cause { IsErrOf result SourceFailed → Rose rows.old.faults rows.new.faults }
+    ensures on { AreReadOn rows.old rows.new SourceFailed result }
 {
     let at = rows.at();
     match change_line(rows.alloc(), rows.line())? {
@@ -63,10 +60,7 @@ pub fn read_changes<S: Source>(
     ensures some { IfErr result (λ _. next ≡ true) }
     ensures none { next ≡ false → rows.new ≡ rows.old }
 
-    ensures same_path { rows.new.path ≡ rows.old.path }
-    ensures later { rows.old.faults ≤ rows.new.faults }
-    ensures quiet { IfOk result (λ _. rows.new.faults ≡ rows.old.faults) }
-    ensures cause { IsErrOf result SourceFailed → Rose rows.old.faults rows.new.faults }
+    ensures on { AreReadOn rows.old rows.new SourceFailed result }
 {
     let mut changes = Vec::new(rows.alloc());
     let mut more = next;

@@ -1,6 +1,6 @@
 // What stands at a command's place (git-fast-import(1), commands).
-ghost use Rattle.std.specs.Prelude.{◌≡◌, ◌≤◌, ◌^◌, false, Bool, IfOk, IfErr, IfSome, IsErrOf, ◌<◌};
-ghost use Rattle.swh_outside.specs.Faults.{Rose};
+ghost use Rattle.std.specs.Prelude.{◌≤◌, ◌^◌, false, Bool, IfOk, IfErr, IfSome, IsErrOf, ◌<◌};
+ghost use Rattle.swh_fastrows.specs.ReadOn.{AreReadOn};
 ghost use Rattle.swh_fastgrammar.specs.Givable.{IsGivable};
 ghost use Rattle.swh_fastrows.specs.declared.fail.ReadFail.TheVariants.{ReadFault as SourceFailed};
 ghost use Rattle.swh_fastrows.specs.Explains.{Explains};
@@ -46,10 +46,7 @@ fn held_item<S: Source>(rows: &mut RowReader<S>) -> Result<Step, ReadFail>
     ensures givable { IfOk result StepGivable }
     ensures onward { IfOk result (Moves rows.old rows.new) }
 
-    ensures same_path { rows.new.path ≡ rows.old.path }
-    ensures later { rows.old.faults ≤ rows.new.faults }
-    ensures quiet { IfOk result (λ _. rows.new.faults ≡ rows.old.faults) }
-    ensures cause { IsErrOf result SourceFailed → Rose rows.old.faults rows.new.faults }
+    ensures on { AreReadOn rows.old rows.new SourceFailed result }
 {
     match item_line(rows.alloc(), rows.line())? {
         ItemLine::Blob => Ok(Step::Command(read_blob(rows)?)),
@@ -105,10 +102,7 @@ fn read_item<S: Source>(rows: &mut RowReader<S>, promised: bool) -> Result<Step,
     ensures givable { IfOk result StepGivable }
     ensures onward { IfOk result (Moves rows.old rows.new) }
 
-    ensures same_path { rows.new.path ≡ rows.old.path }
-    ensures later { rows.old.faults ≤ rows.new.faults }
-    ensures quiet { IfOk result (λ _. rows.new.faults ≡ rows.old.faults) }
-    ensures cause { IsErrOf result SourceFailed → Rose rows.old.faults rows.new.faults }
+    ensures on { AreReadOn rows.old rows.new SourceFailed result }
 {
     if peek(rows)? {
         held_item(rows)
@@ -125,10 +119,7 @@ pub fn read_next<S: Source>(rows: &mut RowReader<S>, promised: bool) -> Result<N
     ensures fails { S.tells → IfErr result (Explains rows.old promised) }
     ensures may { IfErr result MayFail }
 
-    ensures same_path { rows.new.path ≡ rows.old.path }
-    ensures later { rows.old.faults ≤ rows.new.faults }
-    ensures quiet { IfOk result (λ _. rows.new.faults ≡ rows.old.faults) }
-    ensures cause { IsErrOf result SourceFailed → Rose rows.old.faults rows.new.faults }
+    ensures on { AreReadOn rows.old rows.new SourceFailed result }
 {
     let mut wants_done = promised;
     'items: loop {

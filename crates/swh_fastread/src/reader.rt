@@ -1,6 +1,7 @@
 //! The reader of a stream's commands.
 ghost use Rattle.std.specs.Prelude.{◌≡◌, ◌≤◌, ◌⊎◌, [], false, IfOk, IfErr, IfSome, IsErrOf, ◌<◌, ◌^◌};
 ghost use Rattle.swh_outside.specs.Faults.{Rose};
+ghost use Rattle.swh_fastrows.specs.ReadOn.{AreReadOn};
 ghost use Rattle.swh_fastgrammar.specs.Givable.{IsGivable};
 ghost use Rattle.swh_fastrows.specs.declared.fail.ReadFail.TheVariants.{ReadFault as SourceFailed};
 ghost use Rattle.swh_fastread.specs.declared.reader.Ending.TheVariants.{Open as IsOpen, Refused as IsRefused};
@@ -71,10 +72,7 @@ impl<S: Source> Reader<S> {
         ensures may { IfErr result MayFail }
         ensures ending { self.new.ending ≡ ending_of result }
 
-        ensures same_path { self.new.place.path ≡ self.old.place.path }
-        ensures later { self.old.place.faults ≤ self.new.place.faults }
-        ensures quiet { IfOk result (λ _. self.new.place.faults ≡ self.old.place.faults) }
-        ensures cause { IsErrOf result SourceFailed → Rose self.old.place.faults self.new.place.faults }
+        ensures on { AreReadOn self.old.place self.new.place SourceFailed result }
     {
         match read_next(&mut self.rows, self.promised) {
             Ok(Next { command, promised }) => {

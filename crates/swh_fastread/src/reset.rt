@@ -1,6 +1,6 @@
 // Resets of a stream (git-fast-import(1), reset).
-ghost use Rattle.std.specs.Prelude.{◌≡◌, ◌≤◌, ◌++◌, ◌∷◌, [], codes, IfOk, IfErr, IsErrOf, ◌<◌};
-ghost use Rattle.swh_outside.specs.Faults.{Rose};
+ghost use Rattle.std.specs.Prelude.{◌≡◌, ◌≤◌, ◌++◌, ◌∷◌, [], codes, IfOk, IfErr, ◌<◌};
+ghost use Rattle.swh_fastrows.specs.ReadOn.{AreReadOn};
 ghost use Rattle.swh_fastrows.specs.declared.fail.Outside.TheVariants.{Failed};
 ghost use Rattle.swh_fastrows.specs.Explains.{Reads};
 ghost use Rattle.swh_fastgrammar.specs.Givable.{IsGivable};
@@ -21,10 +21,7 @@ fn reset_target<S: Source>(rows: &mut RowReader<S>) -> Result<Start, Outside>
     ensures target { S.tells → IfOk result (Reads target rows.old rows.new) }
     ensures onward { IfOk result (λ _. rows.old.at ≤ rows.new.at) }
 
-    ensures same_path { rows.new.path ≡ rows.old.path }
-    ensures later { rows.old.faults ≤ rows.new.faults }
-    ensures quiet { IfOk result (λ _. rows.new.faults ≡ rows.old.faults) }
-    ensures cause { IsErrOf result Failed → Rose rows.old.faults rows.new.faults }
+    ensures on { AreReadOn rows.old rows.new Failed result }
 {
     if !next_line(rows)? {
         return Ok(Start::Absent);
@@ -55,10 +52,7 @@ pub fn read_reset<S: Source>(rows: &mut RowReader<S>, branch: Bytes) -> Result<C
     ensures command { S.tells → IfOk result (Reads IsCommand rows.old rows.new) }
     ensures onward { IfOk result (λ _. rows.old.at < rows.new.at) }
 
-    ensures same_path { rows.new.path ≡ rows.old.path }
-    ensures later { rows.old.faults ≤ rows.new.faults }
-    ensures quiet { IfOk result (λ _. rows.new.faults ≡ rows.old.faults) }
-    ensures cause { IsErrOf result Failed → Rose rows.old.faults rows.new.faults }
+    ensures on { AreReadOn rows.old rows.new Failed result }
 {
     rows.take();
     let parent = reset_target(rows)?;

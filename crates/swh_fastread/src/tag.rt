@@ -1,6 +1,6 @@
 // Tags of a stream (git-fast-import(1), tag).
-ghost use Rattle.std.specs.Prelude.{◌≡◌, ◌≤◌, ◌++◌, ◌∷◌, [], Bool, codes, IfOk, IfErr, IsErrOf, ◌<◌};
-ghost use Rattle.swh_outside.specs.Faults.{Rose};
+ghost use Rattle.std.specs.Prelude.{◌≡◌, ◌++◌, ◌∷◌, [], Bool, codes, IfOk, IfErr, ◌<◌};
+ghost use Rattle.swh_fastrows.specs.ReadOn.{AreReadOn};
 ghost use Rattle.swh_fastrows.specs.declared.fail.ReadFail.TheVariants.{ReadFault as SourceFailed};
 ghost use Rattle.swh_fastrows.specs.Explains.{Explains, Reads};
 ghost use Rattle.swh_fastgrammar.specs.Givable.{IsGivable};
@@ -27,10 +27,7 @@ pub fn read_tag<S: Source>(rows: &mut RowReader<S>, branch: Bytes) -> Result<Com
     ensures may { IfErr result MayFail }
     ensures onward { IfOk result (λ _. rows.old.at < rows.new.at) }
 
-    ensures same_path { rows.new.path ≡ rows.old.path }
-    ensures later { rows.old.faults ≤ rows.new.faults }
-    ensures quiet { IfOk result (λ _. rows.new.faults ≡ rows.old.faults) }
-    ensures cause { IsErrOf result SourceFailed → Rose rows.old.faults rows.new.faults }
+    ensures on { AreReadOn rows.old rows.new SourceFailed result }
 {
     rows.take();
     let mark = optional_mark(rows)?;

@@ -1,6 +1,6 @@
 // What may follow a commit's data (git-fast-import(1), from, merge).
-ghost use Rattle.std.specs.Prelude.{◌≡◌, ◌≤◌, true, false, codes, IfOk, IfErr, IsErrOf};
-ghost use Rattle.swh_outside.specs.Faults.{Rose};
+ghost use Rattle.std.specs.Prelude.{◌≡◌, ◌≤◌, true, false, codes, IfOk, IfErr};
+ghost use Rattle.swh_fastrows.specs.ReadOn.{AreReadOn};
 ghost use Rattle.swh_fastrows.specs.declared.fail.Outside.TheVariants.{Failed};
 ghost use Rattle.swh_fastrows.specs.declared.fail.ReadFail.TheVariants.{ReadFault as SourceFailed};
 ghost use Rattle.swh_fastrows.specs.Explains.{EndsWhole};
@@ -56,10 +56,7 @@ fn read_parent<S: Source>(rows: &mut RowReader<S>) -> Result<Parent, Outside>
     ensures end { S.tells → IfOk result (λ r. r.next ≡ false → EndsWhole rows.new) }
     ensures onward { IfOk result (λ _. rows.old.at ≤ rows.new.at) }
 
-    ensures same_path { rows.new.path ≡ rows.old.path }
-    ensures later { rows.old.faults ≤ rows.new.faults }
-    ensures quiet { IfOk result (λ _. rows.new.faults ≡ rows.old.faults) }
-    ensures cause { IsErrOf result Failed → Rose rows.old.faults rows.new.faults }
+    ensures on { AreReadOn rows.old rows.new Failed result }
 {
     if !next_line(rows)? {
         return Ok(Parent {
@@ -94,10 +91,7 @@ fn read_merges<S: Source>(rows: &mut RowReader<S>, next: bool) -> Result<Merges,
     ensures none { next ≡ false → IfOk result (λ r. r.next ≡ false) }
     ensures still { next ≡ false → rows.new ≡ rows.old }
 
-    ensures same_path { rows.new.path ≡ rows.old.path }
-    ensures later { rows.old.faults ≤ rows.new.faults }
-    ensures quiet { IfOk result (λ _. rows.new.faults ≡ rows.old.faults) }
-    ensures cause { IsErrOf result Failed → Rose rows.old.faults rows.new.faults }
+    ensures on { AreReadOn rows.old rows.new Failed result }
 {
     let mut merges = Vec::new(rows.alloc());
     let mut more = next;
@@ -127,10 +121,7 @@ pub fn read_tail<S: Source>(rows: &mut RowReader<S>) -> Result<Tail, ReadFail>
     ensures may { IfErr result MayFail }
     ensures onward { IfOk result (λ _. rows.old.at ≤ rows.new.at) }
 
-    ensures same_path { rows.new.path ≡ rows.old.path }
-    ensures later { rows.old.faults ≤ rows.new.faults }
-    ensures quiet { IfOk result (λ _. rows.new.faults ≡ rows.old.faults) }
-    ensures cause { IsErrOf result SourceFailed → Rose rows.old.faults rows.new.faults }
+    ensures on { AreReadOn rows.old rows.new SourceFailed result }
 {
     let parent = read_parent(rows)?;
     let merges = read_merges(rows, parent.next)?;

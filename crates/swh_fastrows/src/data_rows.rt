@@ -1,7 +1,7 @@
 // Data of a stream (git-fast-import(1), data).
-ghost use Rattle.std.specs.Prelude.{◌≡◌, ◌≤◌, [], IfOk, IfErr, IsErrOf, length};
+ghost use Rattle.std.specs.Prelude.{◌≡◌, ◌≤◌, [], IfOk, IfErr, length};
 ghost use Rattle.swh_base.specs.Limits.{body_limit, line_limit};
-ghost use Rattle.swh_outside.specs.Faults.{Rose};
+ghost use Rattle.swh_fastrows.specs.ReadOn.{AreReadOn};
 ghost use Rattle.swh_fastrows.specs.declared.fail.ReadFail.TheVariants.{ReadFault as SourceFailed};
 ghost use Rattle.swh_fastrows.specs.Explains.{DataFails, OpensCounted, OpensDelimited, cut_fail, data_fail, lines_fail};
 ghost use Rattle.swh_fastgrammar.specs.Grammar.{contents};
@@ -59,10 +59,7 @@ pub fn counted_data<S: Source>(rows: &mut RowReader<S>, count: u64) -> Result<By
     ensures may { IfErr result MayFail }
     ensures onward { IfOk result (λ _. rows.old.at ≤ rows.new.at) }
 
-    ensures same_path { rows.new.path ≡ rows.old.path }
-    ensures later { rows.old.faults ≤ rows.new.faults }
-    ensures quiet { IfOk result (λ _. rows.new.faults ≡ rows.old.faults) }
-    ensures cause { IsErrOf result SourceFailed → Rose rows.old.faults rows.new.faults }
+    ensures on { AreReadOn rows.old rows.new SourceFailed result }
 {
     rows.take();
     let bytes = match rows.bytes(count) {
@@ -108,10 +105,7 @@ fn delimited_data<S: Source>(rows: &mut RowReader<S>, word: &[u8]) -> Result<Byt
     ensures may { IfErr result MayFail }
     ensures onward { IfOk result (λ _. rows.old.at ≤ rows.new.at) }
 
-    ensures same_path { rows.new.path ≡ rows.old.path }
-    ensures later { rows.old.faults ≤ rows.new.faults }
-    ensures quiet { IfOk result (λ _. rows.new.faults ≡ rows.old.faults) }
-    ensures cause { IsErrOf result SourceFailed → Rose rows.old.faults rows.new.faults }
+    ensures on { AreReadOn rows.old rows.new SourceFailed result }
 {
     rows.take();
     let bytes = match rows.delimited(word, BODY_LIMIT as usize) {
@@ -135,10 +129,7 @@ pub fn data<S: Source>(rows: &mut RowReader<S>) -> Result<Bytes, ReadFail>
     ensures may { IfErr result MayFail }
     ensures onward { IfOk result (λ _. rows.old.at ≤ rows.new.at) }
 
-    ensures same_path { rows.new.path ≡ rows.old.path }
-    ensures later { rows.old.faults ≤ rows.new.faults }
-    ensures quiet { IfOk result (λ _. rows.new.faults ≡ rows.old.faults) }
-    ensures cause { IsErrOf result SourceFailed → Rose rows.old.faults rows.new.faults }
+    ensures on { AreReadOn rows.old rows.new SourceFailed result }
 {
     if !peek(rows)? {
         return Err(refusal(rows));

@@ -1,6 +1,6 @@
 // A line that is held until it is taken.
-ghost use Rattle.std.specs.Prelude.{◌≡◌, ◌≤◌, ◌<◌, ◌+◌, ◌^◌, ◌++◌, [], Contains, IfOk, IsErrOf, length};
-ghost use Rattle.swh_outside.specs.Faults.{Rose};
+ghost use Rattle.std.specs.Prelude.{◌≡◌, ◌≤◌, ◌<◌, ◌+◌, ◌^◌, ◌++◌, [], Contains, IfOk, length};
+ghost use Rattle.swh_fastlex.specs.ReadOn.{IsReadOn};
 ghost use Rattle.swh_fastlex.specs.Line.{unread};
 ghost use Rattle.swh_fastrows.specs.Held.{IsHeld, held_limit};
 ghost use Rattle.swh_fastrows.specs.declared.fail.Outside.TheVariants.{Failed};
@@ -36,10 +36,7 @@ pub fn hold_line<S: Source>(
     ensures end { S.tells → IfOk result (λ _. length line.new.items < held_limit
         → (Contains line.new.items 10 → ⊥) → unread window.new (S.left source.new) ≡ []) }
 
-    ensures same_path { S.path source.new ≡ S.path source.old }
-    ensures later { S.faults source.old ≤ S.faults source.new }
-    ensures quiet { IfOk result (λ _. S.faults source.new ≡ S.faults source.old) }
-    ensures cause { IsErrOf result Failed → Rose (S.faults source.old) (S.faults source.new) }
+    ensures on { IsReadOn S.path S.faults source.old source.new Failed result }
 {
     'pieces: while line.len() < HELD_LIMIT {
         if !window.fill(source)? {

@@ -1,6 +1,6 @@
 // Parts of commands that may come where more is wanted still.
-ghost use Rattle.std.specs.Prelude.{◌≡◌, ◌≤◌, true, codes, IfOk, IfErr, IsErrOf};
-ghost use Rattle.swh_outside.specs.Faults.{Rose};
+ghost use Rattle.std.specs.Prelude.{◌≡◌, ◌≤◌, true, codes, IfOk, IfErr};
+ghost use Rattle.swh_fastrows.specs.ReadOn.{AreReadOn};
 ghost use Rattle.swh_fastrows.specs.declared.fail.ReadFail.TheVariants.{ReadFault as SourceFailed};
 ghost use Rattle.swh_fastrows.specs.Explains.{Stops, PartFails};
 ghost use Rattle.swh_fastgrammar.specs.Grammar.{line, mark, oid, from};
@@ -24,10 +24,7 @@ pub fn optional_mark<S: Source>(rows: &mut RowReader<S>) -> Result<Option<u64>, 
     ensures may { IfErr result MayFail }
     ensures onward { rows.old.at ≤ rows.new.at }
 
-    ensures same_path { rows.new.path ≡ rows.old.path }
-    ensures later { rows.old.faults ≤ rows.new.faults }
-    ensures quiet { IfOk result (λ _. rows.new.faults ≡ rows.old.faults) }
-    ensures cause { IsErrOf result SourceFailed → Rose rows.old.faults rows.new.faults }
+    ensures on { AreReadOn rows.old rows.new SourceFailed result }
 {
     if !peek(rows)? {
         return Ok(None);
@@ -46,10 +43,7 @@ pub fn skip_oid<S: Source>(rows: &mut RowReader<S>) -> Result<bool, ReadFail>
     ensures may { IfErr result MayFail }
     ensures onward { rows.old.at ≤ rows.new.at }
 
-    ensures same_path { rows.new.path ≡ rows.old.path }
-    ensures later { rows.old.faults ≤ rows.new.faults }
-    ensures quiet { IfOk result (λ _. rows.new.faults ≡ rows.old.faults) }
-    ensures cause { IsErrOf result SourceFailed → Rose rows.old.faults rows.new.faults }
+    ensures on { AreReadOn rows.old rows.new SourceFailed result }
 {
     if !peek(rows)? {
         return Ok(false);
@@ -72,10 +66,7 @@ pub fn optional_person<S: Source>(
     ensures may { IfErr result MayFail }
     ensures onward { rows.old.at ≤ rows.new.at }
 
-    ensures same_path { rows.new.path ≡ rows.old.path }
-    ensures later { rows.old.faults ≤ rows.new.faults }
-    ensures quiet { IfOk result (λ _. rows.new.faults ≡ rows.old.faults) }
-    ensures cause { IsErrOf result SourceFailed → Rose rows.old.faults rows.new.faults }
+    ensures on { AreReadOn rows.old rows.new SourceFailed result }
 {
     if !peek(rows)? {
         return Ok(None);
@@ -95,10 +86,7 @@ pub fn optional_encoding<S: Source>(rows: &mut RowReader<S>) -> Result<Option<By
     ensures may { IfErr result MayFail }
     ensures onward { rows.old.at ≤ rows.new.at }
 
-    ensures same_path { rows.new.path ≡ rows.old.path }
-    ensures later { rows.old.faults ≤ rows.new.faults }
-    ensures quiet { IfOk result (λ _. rows.new.faults ≡ rows.old.faults) }
-    ensures cause { IsErrOf result SourceFailed → Rose rows.old.faults rows.new.faults }
+    ensures on { AreReadOn rows.old rows.new SourceFailed result }
 {
     if !peek(rows)? {
         return Ok(None);
@@ -119,10 +107,7 @@ pub fn person<S: Source>(rows: &mut RowReader<S>, word: &[u8]) -> Result<Bytes, 
     ensures may { IfErr result MayFail }
     ensures onward { IfOk result (λ _. rows.old.at ≤ rows.new.at) }
 
-    ensures same_path { rows.new.path ≡ rows.old.path }
-    ensures later { rows.old.faults ≤ rows.new.faults }
-    ensures quiet { IfOk result (λ _. rows.new.faults ≡ rows.old.faults) }
-    ensures cause { IsErrOf result SourceFailed → Rose rows.old.faults rows.new.faults }
+    ensures on { AreReadOn rows.old rows.new SourceFailed result }
 {
     match optional_person(rows, word)? {
         Some(person) => Ok(person),
@@ -137,10 +122,7 @@ pub fn named_commit<S: Source>(rows: &mut RowReader<S>) -> Result<At<Commitish>,
     ensures may { IfErr result MayFail }
     ensures onward { IfOk result (λ _. rows.old.at ≤ rows.new.at) }
 
-    ensures same_path { rows.new.path ≡ rows.old.path }
-    ensures later { rows.old.faults ≤ rows.new.faults }
-    ensures quiet { IfOk result (λ _. rows.new.faults ≡ rows.old.faults) }
-    ensures cause { IsErrOf result SourceFailed → Rose rows.old.faults rows.new.faults }
+    ensures on { AreReadOn rows.old rows.new SourceFailed result }
 {
     if !peek(rows)? {
         return Err(refusal(rows));

@@ -1,6 +1,7 @@
 // What comes next where more is wanted still, and why it is refused.
-ghost use Rattle.std.specs.Prelude.{◌≡◌, ◌≤◌, ◌^◌, true, false, [], IfOk, IfErr, IsErrOf};
+ghost use Rattle.std.specs.Prelude.{◌≡◌, ◌≤◌, ◌^◌, true, false, [], IfOk, IfErr};
 ghost use Rattle.swh_outside.specs.Faults.{Rose};
+ghost use Rattle.swh_fastrows.specs.ReadOn.{AreReadOn};
 ghost use Rattle.swh_fastlex.specs.Line.{IsLine};
 ghost use Rattle.swh_fastrows.specs.declared.fail.ReadFail.TheVariants.{ReadFault as SourceFailed};
 ghost use Rattle.swh_fastrows.specs.Explains.{Stops, Refusal, line_refusal};
@@ -30,10 +31,7 @@ pub fn peek<S: Source>(rows: &mut RowReader<S>) -> Result<bool, ReadFail>
     ensures onward { rows.old.at ≤ rows.new.at }
     ensures within { rows.new.at ≤ 2 ^ 33 }
 
-    ensures same_path { rows.new.path ≡ rows.old.path }
-    ensures later { rows.old.faults ≤ rows.new.faults }
-    ensures quiet { IfOk result (λ _. rows.new.faults ≡ rows.old.faults) }
-    ensures cause { IsErrOf result SourceFailed → Rose rows.old.faults rows.new.faults }
+    ensures on { AreReadOn rows.old rows.new SourceFailed result }
 {
     match rows.look()? {
         Ahead::Line => match word_limit(rows.alloc(), rows.line())? {

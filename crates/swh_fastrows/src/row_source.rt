@@ -1,7 +1,8 @@
 //! Rows of a stream, read from a source: lines that are looked at before they are taken.
 ghost use Rattle.std.specs.Prelude.{◌≡◌, ◌≢◌, ◌≤◌, ◌<◌, ◌+◌, ◌^◌, ◌++◌, ◌∷◌, [], false, length, IfOk, IfErr, IsErrOf};
 ghost use Rattle.swh_base.specs.Limits.{body_limit, line_limit};
-ghost use Rattle.swh_outside.specs.Faults.{Rose, HasCause};
+ghost use Rattle.swh_outside.specs.Faults.{HasCause};
+ghost use Rattle.swh_fastrows.specs.ReadOn.{AreReadOn};
 ghost use Rattle.swh_fastlex.specs.Line.{IsLine};
 ghost use Rattle.swh_fastlex.specs.Delimited.{AreLines};
 ghost use Rattle.swh_fastlex.specs.declared.fault.DataFault.TheVariants.{Failed as DataFailed};
@@ -138,10 +139,7 @@ impl<S: Source> RowReader<S> {
         ensures onward { self.old.at ≤ self.new.at }
         ensures within { self.new.at ≤ 2 ^ 33 }
 
-        ensures same_path { self.new.path ≡ self.old.path }
-        ensures later { self.old.faults ≤ self.new.faults }
-        ensures quiet { IfOk result (λ _. self.new.faults ≡ self.old.faults) }
-        ensures cause { IsErrOf result Failed → Rose self.old.faults self.new.faults }
+        ensures on { AreReadOn self.old self.new Failed result }
     {
         match hold_line(&mut self.window, &mut self.source, &mut self.held) {
             Ok(()) => Ok(()),
@@ -162,10 +160,7 @@ impl<S: Source> RowReader<S> {
         ensures onward { self.old.at ≤ self.new.at }
         ensures within { self.new.at ≤ 2 ^ 33 }
 
-        ensures same_path { self.new.path ≡ self.old.path }
-        ensures later { self.old.faults ≤ self.new.faults }
-        ensures quiet { IfOk result (λ _. self.new.faults ≡ self.old.faults) }
-        ensures cause { IsErrOf result Failed → Rose self.old.faults self.new.faults }
+        ensures on { AreReadOn self.old self.new Failed result }
     {
         if !self.held.is_empty() {
             return Ok(ahead_of(self.at, &self.held));
@@ -186,10 +181,7 @@ impl<S: Source> RowReader<S> {
         ensures onward { self.old.at ≤ self.new.at }
         ensures within { self.new.at ≤ 2 ^ 33 }
 
-        ensures same_path { self.new.path ≡ self.old.path }
-        ensures later { self.old.faults ≤ self.new.faults }
-        ensures quiet { IfOk result (λ _. self.new.faults ≡ self.old.faults) }
-        ensures cause { IsErrOf result Failed → Rose self.old.faults self.new.faults }
+        ensures on { AreReadOn self.old self.new Failed result }
     {
         'comments: loop {
             match self.hold()? {
@@ -221,10 +213,7 @@ impl<S: Source> RowReader<S> {
         ensures onward { IfOk result (λ _. self.old.at ≤ self.new.at) }
         ensures within { self.new.at ≤ self.old.at + count }
 
-        ensures same_path { self.new.path ≡ self.old.path }
-        ensures later { self.old.faults ≤ self.new.faults }
-        ensures quiet { IfOk result (λ _. self.new.faults ≡ self.old.faults) }
-        ensures cause { IsErrOf result LineFailed → Rose self.old.faults self.new.faults }
+        ensures on { AreReadOn self.old self.new LineFailed result }
     {
         let bytes = next_data(self.alloc, &mut self.window, &mut self.source, count);
         self.at = self.window.place();
@@ -249,10 +238,7 @@ impl<S: Source> RowReader<S> {
         ensures onward { IfOk result (λ _. self.old.at ≤ self.new.at) }
         ensures most { self.new.at ≤ self.old.at + (limit + line_limit + 1) }
 
-        ensures same_path { self.new.path ≡ self.old.path }
-        ensures later { self.old.faults ≤ self.new.faults }
-        ensures quiet { IfOk result (λ _. self.new.faults ≡ self.old.faults) }
-        ensures cause { IsErrOf result DataFailed → Rose self.old.faults self.new.faults }
+        ensures on { AreReadOn self.old self.new DataFailed result }
     {
         let bytes = next_delimited(self.alloc, &mut self.window, &mut self.source, word, limit);
         self.at = self.window.place();

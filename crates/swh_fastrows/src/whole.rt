@@ -1,6 +1,6 @@
 // What comes next where a command is whole already.
-ghost use Rattle.std.specs.Prelude.{◌≡◌, ◌≤◌, ◌^◌, true, false, [], IfOk, IsErrOf};
-ghost use Rattle.swh_outside.specs.Faults.{Rose};
+ghost use Rattle.std.specs.Prelude.{◌≡◌, ◌≤◌, ◌^◌, true, false, [], IfOk};
+ghost use Rattle.swh_fastrows.specs.ReadOn.{AreReadOn};
 ghost use Rattle.swh_fastrows.specs.declared.fail.Outside.TheVariants.{Failed};
 ghost use Rattle.swh_fastrows.specs.Held.{IsNext};
 ghost use Rattle.swh_fastrows.specs.Places.{Took};
@@ -21,10 +21,7 @@ pub fn next_line<S: Source>(rows: &mut RowReader<S>) -> Result<bool, Outside>
     ensures onward { rows.old.at ≤ rows.new.at }
     ensures within { rows.new.at ≤ 2 ^ 33 }
 
-    ensures same_path { rows.new.path ≡ rows.old.path }
-    ensures later { rows.old.faults ≤ rows.new.faults }
-    ensures quiet { IfOk result (λ _. rows.new.faults ≡ rows.old.faults) }
-    ensures cause { IsErrOf result Failed → Rose rows.old.faults rows.new.faults }
+    ensures on { AreReadOn rows.old rows.new Failed result }
 {
     match rows.look()? {
         Ahead::Line => match word_limit(rows.alloc(), rows.line())? {

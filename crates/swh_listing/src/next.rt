@@ -1,6 +1,6 @@
 // The next line of a listing.
-ghost use Rattle.std.specs.Prelude.{◌≡◌, ◌≤◌, ◌<◌, IfOk, IfErr, IfSome, IfNone, IsErrOf};
-ghost use Rattle.swh_outside.specs.Faults.{Rose};
+ghost use Rattle.std.specs.Prelude.{◌≡◌, ◌≤◌, ◌<◌, IfOk, IfErr, IfSome, IfNone};
+ghost use Rattle.swh_fastlex.specs.ReadOn.{IsReadOn};
 ghost use Rattle.swh_fastlex.specs.Line.{unread, IsAtEnd};
 ghost use Rattle.swh_listing.specs.declared.fault.ListingFault.TheVariants.{ReadFault as NotRead};
 ghost use Rattle.swh_listing.specs.Fault.{NextBreaks, MayBreak};
@@ -79,10 +79,7 @@ pub fn next_listed<S: Source>(
     ensures onward { IfOk result (λ found. IfSome found (λ _. window.old.place < window.new.place)) }
     ensures within { IfOk result (λ found. IfSome found (λ _. window.new.place ≤ LISTING_LIMIT)) }
 
-    ensures same_path { S.path source.new ≡ S.path source.old }
-    ensures later { S.faults source.old ≤ S.faults source.new }
-    ensures quiet { IfOk result (λ _. S.faults source.new ≡ S.faults source.old) }
-    ensures cause { IsErrOf result NotRead → Rose (S.faults source.old) (S.faults source.new) }
+    ensures on { IsReadOn S.path S.faults source.old source.new NotRead result }
 {
     let found = match next_line(alloc, window, source) {
         Ok(found) => found,

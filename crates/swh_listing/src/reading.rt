@@ -1,6 +1,6 @@
 // A whole listing.
-ghost use Rattle.std.specs.Prelude.{◌≡◌, ◌≤◌, [], IfOk, IfErr, IsErrOf};
-ghost use Rattle.swh_outside.specs.Faults.{Rose};
+ghost use Rattle.std.specs.Prelude.{◌≡◌, [], IfOk, IfErr};
+ghost use Rattle.swh_fastlex.specs.ReadOn.{IsReadOn};
 ghost use Rattle.swh_listing.specs.declared.fault.ListingFault.TheVariants.{ReadFault as NotRead};
 ghost use Rattle.swh_listing.specs.Fault.{MayBreak};
 ghost use Rattle.swh_listing.specs.Listing.{IsListing};
@@ -26,10 +26,7 @@ pub fn read_listing<S: Source>(alloc: Global, source: &mut S) -> Result<Vec<List
     // Also of a source that does not tell what is left.
     ensures may { IfErr result MayBreak }
 
-    ensures same_path { S.path source.new ≡ S.path source.old }
-    ensures later { S.faults source.old ≤ S.faults source.new }
-    ensures quiet { IfOk result (λ _. S.faults source.new ≡ S.faults source.old) }
-    ensures cause { IsErrOf result NotRead → Rose (S.faults source.old) (S.faults source.new) }
+    ensures on { IsReadOn S.path S.faults source.old source.new NotRead result }
 {
     let mut window = Window::new(alloc)?;
     let mut lines = Vec::new(alloc);

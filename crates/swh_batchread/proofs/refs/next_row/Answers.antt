@@ -14,7 +14,7 @@ returns-in-Err-clause-err g c =
     let why = c.line_fault.ensures ∙ ap (λ (n : ℕ). told c.in-Err.fault n c.args.number) c.place.ensures in
     subst (Fails g.S.Source.tells MayBreakLines (LineBreaks c.args.number c.args.window.now.place (unread c.args.window.now left)) old new) (sym why)
     (row_told g.S.Source.tells c.args.window.now c.next_line.new.window left (g.S.Source.left c.next_line.new.source) c.args.number old new c.in-Err.fault c.requires.first c.requires.last
-    (λ e. c.in-Err.ensures.cause (ap Err e)) (λ t e. c.in-Err.ensures.end t (ap Err e)) (λ t e. c.in-Err.ensures.limit t (ap Err e)))
+    (λ e. c.in-Err.ensures.on.cause (ap Err e)) (λ t e. c.in-Err.ensures.end t (ap Err e)) (λ t e. c.in-Err.ensures.limit t (ap Err e)))
 
 pub returns-then-place-gt-INPUT_LIMIT-clause-err : goal.returns-then-place-gt-INPUT_LIMIT-clause-err
 returns-then-place-gt-INPUT_LIMIT-clause-err g c =

@@ -52,8 +52,8 @@ lines-preserved g c =
           goes_on before whole c.lines.window.place (unread c.lines.window (g.S.Source.left c.lines.source)) c.lines.line c.lines.spots.items c.take_line.new.spots.items c.lines.places.items c.take_line.new.places.items t.line rest c.next_listed.new.window.place c.in-Some.listed so t.takes t.says t.here taken;
       held = λ names h. done.held names (inv.held names h);
       onward = then_on c.args.spots.now.items c.lines.spots.items c.take_line.new.spots.items c.args.places.now.items c.lines.places.items c.take_line.new.places.items inv.onward done.goes;
-      same_path = next.same_path ∙ inv.same_path;
-      quiet = next.quiet ∙ inv.quiet;
+      same_path = next.on.same_path ∙ inv.same_path;
+      quiet = next.on.quiet ∙ inv.quiet;
     }
 
 pub returns-in-No-clause-err : goal.returns-in-No-clause-err

@@ -57,6 +57,6 @@ lines-preserved g c =
           ∙ ap (λ (t : List ℕ). t ++ unread c.next_line.new.window (g.S.Source.left c.next_line.new.source)) (sym joined);
       counted = omega (arith, counted, long, c.lines.invariant.counted);
       within = omega (arith, long, c.if-len-limit.false, c.len.ensures, c.len-in-lines.ensures, c.lines.invariant.within);
-      same_path = c.in_ok-line.ensures.same_path ∙ c.lines.invariant.same_path;
-      quiet = c.in_ok-line.ensures.quiet ∙ c.lines.invariant.quiet;
+      same_path = c.in_ok-line.ensures.on.same_path ∙ c.lines.invariant.same_path;
+      quiet = c.in_ok-line.ensures.on.quiet ∙ c.lines.invariant.quiet;
     }

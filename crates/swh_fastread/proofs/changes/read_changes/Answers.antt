@@ -29,9 +29,9 @@ changes-preserved g c = record {
   line = c.in_ok-more.ensures.line;
   end = c.in_ok-more.ensures.end;
   none = λ e. absurd (not_both c.changes.more c.changes-test.true (c.changes.invariant.none e).0);
-  same_path = c.next_line.ensures.same_path ∙ c.next_change.ensures.same_path ∙ c.changes.invariant.same_path;
+  same_path = c.next_line.ensures.on.same_path ∙ c.next_change.ensures.on.same_path ∙ c.changes.invariant.same_path;
   onward = let on = rw c.in-Some.is at c.in_ok-change.ensures.onward in omega (arith, on, c.next_line.ensures.onward, c.changes.invariant.onward);
-  quiet = c.in_ok-more.ensures.quiet ∙ c.in_ok-change.ensures.quiet ∙ c.changes.invariant.quiet;
+  quiet = c.in_ok-more.ensures.on.quiet ∙ c.in_ok-change.ensures.on.quiet ∙ c.changes.invariant.quiet;
 }
 
 pub returns-clause-changes : goal.returns-clause-changes

@@ -1,4 +1,4 @@
-use Rattle.std.proofs.Common.{refl, ◌≡◌, sym, ap, ◌∙◌, subst, List, ℕ}
+use Rattle.std.proofs.Common.{refl, arith, ◌≡◌, sym, ap, ◌∙◌, subst, List, ℕ}
 use Rattle.std.proofs.lemmas.Result.{err_from_is_err_and}
 use Rattle.swh_fastrows.specs.declared.fail.ReadFail.TheVariants.{ReadFault as SourceFailed}
 use Rattle.swh_fastrows.specs.Explains.{line_refusal}
@@ -58,8 +58,13 @@ returns-in-No-clause-fails g c = λ told p.
     let same : c.line-in-No.result.now ≡ c.line.result.now = same_line c.line-in-No.result.now c.line.result.now (sym c.line-in-No.ensures ∙ c.line.ensures) in
     line_explains c.args.rows.now c.line.result.now c.at.result c.refused_line.result c.requires.next c.line.ensures is.0 is.1 c.at.ensures (c.refused_line.ensures ∙ ap (λ (l : List ℕ). line_refusal l c.at.result) same) p
 
-pub returns-in-No-clause-cause : goal.returns-in-No-clause-cause
-returns-in-No-clause-cause g c = λ e. absurd (no_read_fault c.line-in-No.result.now c.at.result (sym c.refused_line.ensures ∙ same_fail c.refused_line.result SourceFailed _ refl e))
+pub returns-in-No-clause-on : goal.returns-in-No-clause-on
+returns-in-No-clause-on g c = record {
+  same_path = refl;
+  later = omega arith;
+  quiet = tt;
+  cause = λ e. absurd (no_read_fault c.line-in-No.result.now c.at.result (sym c.refused_line.ensures ∙ same_fail c.refused_line.result SourceFailed _ refl e));
+}
 
 pub returns-in-No-clause-may : goal.returns-in-No-clause-may
 returns-in-No-clause-may g c = subst MayFail (sym c.refused_line.ensures) (refusal_may c.line-in-No.result.now c.at.result)

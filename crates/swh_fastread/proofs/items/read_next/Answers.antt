@@ -22,9 +22,9 @@ items-smaller-in-Promise g c = let on = rw c.in-Promise.is at c.in_ok-command.en
 pub items-preserved-in-Promise : goal.items-preserved-in-Promise
 items-preserved-in-Promise g c = record {
   passed = λ told. passed_promise c.args.rows.now c.items.rows c.read_item.new.rows c.args.promised c.items.wants_done (c.items.invariant.passed told) (rw c.in-Promise.is at (c.in_ok-command.ensures.item told));
-  same_path = c.read_item.ensures.same_path ∙ c.items.invariant.same_path;
+  same_path = c.read_item.ensures.on.same_path ∙ c.items.invariant.same_path;
   onward = let on = rw c.in-Promise.is at c.in_ok-command.ensures.onward in omega (arith, on.0, c.items.invariant.onward);
-  quiet = c.in_ok-command.ensures.quiet ∙ c.items.invariant.quiet;
+  quiet = c.in_ok-command.ensures.on.quiet ∙ c.items.invariant.quiet;
 }
 
 pub items-smaller : goal.items-smaller
@@ -33,9 +33,9 @@ items-smaller g c = let on = rw c.in-Nothing.is at c.in_ok-command.ensures.onwar
 pub items-preserved : goal.items-preserved
 items-preserved g c = record {
   passed = λ told. passed_silent c.args.rows.now c.items.rows c.read_item.new.rows c.args.promised c.items.wants_done (c.items.invariant.passed told) (rw c.in-Nothing.is at (c.in_ok-command.ensures.item told));
-  same_path = c.read_item.ensures.same_path ∙ c.items.invariant.same_path;
+  same_path = c.read_item.ensures.on.same_path ∙ c.items.invariant.same_path;
   onward = let on = rw c.in-Nothing.is at c.in_ok-command.ensures.onward in omega (arith, on.0, c.items.invariant.onward);
-  quiet = c.in_ok-command.ensures.quiet ∙ c.items.invariant.quiet;
+  quiet = c.in_ok-command.ensures.on.quiet ∙ c.items.invariant.quiet;
 }
 
 pub returns-in-Command-clause-onward : goal.returns-in-Command-clause-onward

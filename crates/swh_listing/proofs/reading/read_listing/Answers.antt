@@ -19,8 +19,8 @@ lines-preserved g c =
           subst (λ (lines : List Listed). Reads 0 whole lines c.next_listed.new.window.place rest) (sym c.in_ok-push.ensures.items) (subst (λ (n : ℕ). Reads 0 whole (c.lines.lines.items ++ c.in-Some.listed ∷ []) n rest) (sym t.here) more);
       within = within;
       count = omega (arith, c.in_ok-push.ensures.len, onward, c.lines.invariant.count);
-      same_path = next.same_path ∙ c.lines.invariant.same_path;
-      quiet = next.quiet ∙ c.lines.invariant.quiet;
+      same_path = next.on.same_path ∙ c.lines.invariant.same_path;
+      quiet = next.on.quiet ∙ c.lines.invariant.quiet;
     }
 
 pub returns-clause-whole : goal.returns-clause-whole
