@@ -2,6 +2,7 @@ pub mod Breaking
 pub mod Headers
 pub mod NamesKnown
 pub mod Reaching
+pub mod ReadsOn
 pub mod RefLines
 pub mod RefsHeld
 pub mod RefsRead

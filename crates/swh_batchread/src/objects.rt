@@ -6,6 +6,8 @@ ghost use Rattle.swh_outside.specs.Views.{sources};
 ghost use Rattle.swh_object.specs.Object.{IsObject};
 ghost use Rattle.swh_fastlex.specs.Line.{unread, IsAtEnd};
 ghost use Rattle.swh_made.specs.Making.{made_from, made};
+ghost use Rattle.swh_fastlex.specs.ReadOn.{IsReadOn};
+ghost use Rattle.swh_batchread.specs.declared.fault.BatchFault.TheVariants.{ReadFault as NotRead};
 ghost use Rattle.swh_batchread.specs.BatchFault.{
   ObjectBreaks,
   BreaksHere,
@@ -79,9 +81,7 @@ fn next_object<N: Namer, S: Source>(
         (BreaksHere N.id_of window.old.place (unread window.old (S.left source.old)))
         (S.faults source.old) (S.faults source.new)) }
 
-    ensures same_path { S.path source.new ≡ S.path source.old }
-    ensures later { S.faults source.old ≤ S.faults source.new }
-    ensures quiet { IfOk result (λ _. S.faults source.new ≡ S.faults source.old) }
+    ensures on { IsReadOn S.path S.faults source.old source.new NotRead result }
 {
     let start = window.place();
     let Some(header) = next_header(alloc, window, source)? else {
@@ -130,9 +130,7 @@ fn read_objects<N: Namer, S: Source>(
     ensures err { IfErr result (Fails S.tells MayBreakBatch (BreaksBatch N.id_of (S.left source.old))
         (S.faults source.old) (S.faults source.new)) }
 
-    ensures same_path { S.path source.new ≡ S.path source.old }
-    ensures later { S.faults source.old ≤ S.faults source.new }
-    ensures quiet { IfOk result (λ _. S.faults source.new ≡ S.faults source.old) }
+    ensures on { IsReadOn S.path S.faults source.old source.new NotRead result }
 {
     let mut seen = Seen::new(alloc);
     let mut objects = Vec::new(alloc);
@@ -162,14 +160,12 @@ pub fn read_batch<N: Namer, S: Source>(
     ensures ok { IfOk result (λ os. MeansLeft N.id_of (sources S.tells S.left S.faults S.path) source.old
         (made os.items)) }
     ensures good { IfOk result (λ os. AllByRecursion (IsObject N.id_of) os.items) }
-    // All of it was read, and no read failed.
+    // All of it was read.
     ensures read { S.tells → IfOk result (λ _. S.left source.new ≡ []) }
-    ensures quiet { IfOk result (λ _. S.faults source.new ≡ S.faults source.old) }
     // A batch that is refused breaks so, or the source failed.
     ensures err { IfErr result (ExplainsBatch N.id_of (sources S.tells S.left S.faults S.path) source.old source.new) }
 
-    ensures same_path { S.path source.new ≡ S.path source.old }
-    ensures later { S.faults source.old ≤ S.faults source.new }
+    ensures on { IsReadOn S.path S.faults source.old source.new NotRead result }
 {
     let mut window = Window::new(alloc)?;
     read_objects(alloc, namer, &mut window, source)

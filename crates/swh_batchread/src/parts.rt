@@ -19,6 +19,8 @@ ghost use Rattle.swh_base.specs.Limits.{body_limit};
 ghost use Rattle.swh_base.specs.declared.visit.Which.TheVariants.{Stream as WholeInput};
 ghost use Rattle.swh_outside.specs.Faults.{HasCause};
 ghost use Rattle.swh_fastlex.specs.Line.{unread, Takes, IsAtEnd, IsLine};
+ghost use Rattle.swh_fastlex.specs.ReadOn.{IsReadOn};
+ghost use Rattle.swh_batchread.specs.declared.fault.BatchFault.TheVariants.{ReadFault as NotRead};
 ghost use Rattle.swh_batchread.specs.declared.fault.BatchFault.TheVariants.{BadBatch, Limit};
 ghost use Rattle.swh_batchread.specs.Batch.{IsHeader, header_text};
 ghost use Rattle.swh_batchread.specs.BatchFault.{HeaderBreaks, BodyBreaks, MayBreakBatch};
@@ -76,9 +78,7 @@ pub fn next_header<S: Source>(
         (HeaderBreaks window.old.place (unread window.old (S.left source.old)))
         (S.faults source.old) (S.faults source.new)) }
 
-    ensures same_path { S.path source.new ≡ S.path source.old }
-    ensures later { S.faults source.old ≤ S.faults source.new }
-    ensures quiet { IfOk result (λ _. S.faults source.new ≡ S.faults source.old) }
+    ensures on { IsReadOn S.path S.faults source.old source.new NotRead result }
 {
     let start = window.place();
     let line = match next_line(alloc, window, source) {
@@ -156,9 +156,7 @@ pub fn next_body<S: Source>(
         (BodyBreaks start window.old.place (unread window.old (S.left source.old)) size)
         (S.faults source.old) (S.faults source.new)) }
 
-    ensures same_path { S.path source.new ≡ S.path source.old }
-    ensures later { S.faults source.old ≤ S.faults source.new }
-    ensures quiet { IfOk result (λ _. S.faults source.new ≡ S.faults source.old) }
+    ensures on { IsReadOn S.path S.faults source.old source.new NotRead result }
 {
     if size > BODY_LIMIT {
         return Err(BatchFault::Limit {

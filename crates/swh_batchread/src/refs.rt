@@ -5,6 +5,8 @@ ghost use Rattle.std.specs.BTreeMap.{is_at};
 ghost use Rattle.std.specs.Cmp.Lexicographic.{slice_cmp};
 ghost use Rattle.swh_base.specs.Limits.{line_limit};
 ghost use Rattle.swh_fastlex.specs.Line.{unread, Takes, IsAtEnd, IsLine};
+ghost use Rattle.swh_fastlex.specs.ReadOn.{IsReadOn};
+ghost use Rattle.swh_batchread.specs.declared.fault.BatchFault.TheVariants.{ReadFault as NotRead};
 ghost use Rattle.swh_batchread.specs.Failing.{Fails};
 ghost use Rattle.swh_batchread.specs.Refs.{RefLine, kept_refs};
 ghost use Rattle.swh_batchread.specs.RefsFault.{LineBreaks, RefBreaks, BreaksLines, MayBreakLines};
@@ -153,9 +155,7 @@ fn next_row<S: Source>(
         (LineBreaks number window.old.place (unread window.old (S.left source.old)))
         (S.faults source.old) (S.faults source.new)) }
 
-    ensures same_path { S.path source.new ≡ S.path source.old }
-    ensures later { S.faults source.old ≤ S.faults source.new }
-    ensures quiet { IfOk result (λ _. S.faults source.new ≡ S.faults source.old) }
+    ensures on { IsReadOn S.path S.faults source.old source.new NotRead result }
 {
     let line = match next_line(alloc, window, source) {
         Ok(Some(line)) => line,
@@ -184,9 +184,7 @@ pub fn read_lines<S: Source>(
     ensures err { IfErr result (Fails S.tells MayBreakLines (BreaksLines (S.left source.old))
         (S.faults source.old) (S.faults source.new)) }
 
-    ensures same_path { S.path source.new ≡ S.path source.old }
-    ensures later { S.faults source.old ≤ S.faults source.new }
-    ensures quiet { IfOk result (λ _. S.faults source.new ≡ S.faults source.old) }
+    ensures on { IsReadOn S.path S.faults source.old source.new NotRead result }
 {
     let mut refs = no_refs(alloc);
     let mut number = 1u64;

@@ -9,6 +9,8 @@ ghost use Rattle.swh_object.specs.Object.{IsObject};
 ghost use Rattle.swh_snpfmt.specs.Branches.{branch_views};
 ghost use Rattle.swh_made.specs.Making.{made_from, object_of};
 ghost use Rattle.swh_made.specs.Whole.{HasAllThatIsReached};
+ghost use Rattle.swh_fastlex.specs.ReadOn.{IsReadOn};
+ghost use Rattle.swh_batchread.specs.declared.fault.BatchFault.TheVariants.{ReadFault as NotRead};
 ghost use Rattle.swh_batchread.specs.Failing.{Fails};
 ghost use Rattle.swh_batchread.specs.Refs.{RefLine, branch_to, branch_with, AreRefLines, GivesSnapshot, EndsWithSnapshot};
 ghost use Rattle.swh_batchread.specs.RefsFault.{SnapshotBreaks, MayBreakSnapshot, MeansRefsLeft, ExplainsRefs};
@@ -201,14 +203,12 @@ pub fn read_refs<N: Namer, S: Source>(
     ensures kept { IfOk result (λ given. EndsWithSnapshot objects.items given.objects.items given.snapshot) }
     // All that is named is there.
     ensures whole { IfOk result (HasAllThatIsReached N.id_of) }
-    // All of it was read, and no read failed.
+    // All of it was read.
     ensures read { S.tells → IfOk result (λ _. S.left source.new ≡ []) }
-    ensures quiet { IfOk result (λ _. S.faults source.new ≡ S.faults source.old) }
     // Refs that are refused break so, or the source failed.
     ensures err { IfErr result (ExplainsRefs (sources S.tells S.left S.faults S.path) source.old objects.items source.new) }
 
-    ensures same_path { S.path source.new ≡ S.path source.old }
-    ensures later { S.faults source.old ≤ S.faults source.new }
+    ensures on { IsReadOn S.path S.faults source.old source.new NotRead result }
 {
     let mut window = Window::new(alloc)?;
     let refs = read_lines(alloc, &mut window, source)?;

@@ -1,6 +1,7 @@
-use Rattle.std.proofs.Common.{ℕ, subst}
+use Rattle.std.proofs.Common.{ℕ, ◌∙◌, subst, arith}
 use Rattle.swh_fastlex.specs.Line.{unread}
 use Rattle.swh_batchread.specs.BatchFault.{MayBreakBatch, ObjectBreaks, BreaksBehind, BreaksHere}
+use Rattle.swh_batchread.proofs.ReadsOn.{not_read, left_by}
 use Rattle.swh_batchread.proofs.Reaching.{exits, object_fails, here_behind, here_object, takes_object}
 use Rattle.swh_batchread.proofs.objects.next_object.Goals as goal
 
@@ -21,6 +22,13 @@ returns-in_err-object-clause-err g c =
     (subst (λ (n : ℕ). BreaksBehind id n h c.next_header.new.window.place (unread c.next_header.new.window middle) fault) c.place-start.ensures
     (here_object id c.place-start.result h c.next_header.new.window c.next_body.new.window middle rest c.in_ok-body.body.items fault c.in_ok-body.ensures.size c.in_ok-body.ensures.short (c.in_ok-body.ensures.taken told) c.in_ok-body.ensures.within breaks)))
     c.in_err-object.ensures.err)
+
+pub returns-in_err-object-clause-on : goal.returns-in_err-object-clause-on
+returns-in_err-object-clause-on g c =
+    let head = c.in_ok-header.ensures.on in
+    let body = c.in_ok-body.ensures.on in
+    left_by g.S.Source.path g.S.Source.faults c.args.source.now c.next_body.new.source c.from_residual-in_err-object.result (body.same_path ∙ head.same_path) c.in_err-object.field-0.0 c.from_residual-in_err-object.ensures.1 (omega (arith, head.quiet, body.quiet))
+    (not_read MayBreakBatch (ObjectBreaks g.N.Namer.id_of c.place-start.result c.in-Some.header c.in_ok-body.body.items) c.in_err-object.field-0.0 c.in_err-object.ensures.err)
 
 pub returns-clause-taken : goal.returns-clause-taken
 returns-clause-taken g c = λ told.

@@ -1,6 +1,7 @@
 use Rattle.std.proofs.Common.{ℕ, List, ◌∙◌, subst, arith}
 use Rattle.swh_batchread.specs.RefsFault.{RefBreaks, BreaksLines, MayBreakLines}
 use Rattle.swh_batchread.specs.RefSteps.{TakesLine}
+use Rattle.swh_batchread.proofs.ReadsOn.{not_read, left_by}
 use Rattle.swh_batchread.proofs.Reaching.{exits, object_fails, nothing_left}
 use Rattle.swh_batchread.proofs.RefsRead.{line_more, line_breaks, line_some}
 use Rattle.swh_batchread.proofs.refs.read_lines.Goals as goal
@@ -26,6 +27,13 @@ returns-in_err-take_line-clause-err g c =
     (subst (λ (line : List ℕ). RefBreaks h.lines c.lines.number line fault) c.as_slice.ensures.value breaks))
     (λ n. c.in_err-take_line.ensures.err h.lines h.held n))
 
+pub returns-in_err-take_line-clause-on : goal.returns-in_err-take_line-clause-on
+returns-in_err-take_line-clause-on g c =
+    let h = c.lines.invariant.has in
+    let next = c.in_ok-line.ensures.on in
+    left_by g.S.Source.path g.S.Source.faults c.args.source.now c.next_row.new.source c.from_residual-in_err-take_line.result (next.same_path ∙ c.lines.invariant.same_path) c.in_err-take_line.field-0.0 c.from_residual-in_err-take_line.ensures.1 (omega (arith, next.quiet, c.lines.invariant.quiet))
+    (not_read MayBreakLines (RefBreaks h.lines c.lines.number c.as_slice.result.now) c.in_err-take_line.field-0.0 (λ n. c.in_err-take_line.ensures.err h.lines h.held n))
+
 pub lines-preserved : goal.lines-preserved
 lines-preserved g c =
     let h = c.lines.invariant.has in
@@ -41,6 +49,6 @@ lines-preserved g c =
       has =
           line_more g.S.Source.tells (g.S.Source.left c.args.source.now) c.lines.window c.next_row.new.window (g.S.Source.left c.lines.source) (g.S.Source.left c.next_row.new.source) c.in-Some.line.items c.lines.number c.lines.refs c.take_line.new.refs h takes
           (λ told. let took = c.in_ok-line.ensures.taken told in rw c.in-Some.is at took) counted low;
-      same_path = c.in_ok-line.ensures.same_path ∙ c.lines.invariant.same_path;
-      quiet = c.in_ok-line.ensures.quiet ∙ c.lines.invariant.quiet;
+      same_path = c.in_ok-line.ensures.on.same_path ∙ c.lines.invariant.same_path;
+      quiet = c.in_ok-line.ensures.on.quiet ∙ c.lines.invariant.quiet;
     }
