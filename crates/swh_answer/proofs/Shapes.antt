@@ -4,7 +4,7 @@ use Rattle.std.proofs.Common.{◌≡◌, ◌≢◌, ℕ, ◌==◌, true≢false,
 use Rattle.std.proofs.lemmas.List.{append_cancel_left, append_cancel_right, reverse-append}
 use Rattle.swh_base.proofs.Splits.{first_split, absent}
 use Rattle.swh_pieces.proofs.Middle.{in_middle}
-use Rattle.swh_answer.specs.Shape.{Shape, Known, Visits, Origin, Revision, Log, Release, Directory, DirectoryEntry, Snapshot, Content, Resolve, Raw, Load, IsOnePart, IsShape, HasParts, Spells, word_of, tail_of}
+use Rattle.swh_answer.specs.Shape.{Shape, Known, Visits, Origin, Revision, Log, Release, Directory, DirectoryEntry, Snapshot, Content, Resolve, Raw, Cook, Load, IsOnePart, IsShape, HasParts, Spells, word_of, tail_of}
 
 word-no_slash : (s : Shape) → Contains (word_of s) 47 → ⊥
 word-no_slash Known = absent 47 (codes "known") refl
@@ -19,6 +19,7 @@ word-no_slash (Snapshot id) = absent 47 (codes "snapshot") refl
 word-no_slash (Content id) = absent 47 (codes "content") refl
 word-no_slash (Resolve swhid) = absent 47 (codes "resolve") refl
 word-no_slash (Raw core) = absent 47 (codes "raw") refl
+word-no_slash (Cook core) = absent 47 (codes "cook") refl
 word-no_slash (Load url) = absent 47 (codes "load") refl
 
 -- ---- what stands before the last bytes
@@ -134,6 +135,7 @@ same_shape (Snapshot a) (Snapshot b) g h w e = ap Snapshot (append_cancel_right 
 same_shape (Content a) (Content b) g h w e = ap Content (append_cancel_right a b (codes "/") (append_cancel_left (codes "sha1_git:") _ _ e))
 same_shape (Resolve a) (Resolve b) g h w e = ap Resolve (append_cancel_right a b (codes "/") e)
 same_shape (Raw a) (Raw b) g h w e = ap Raw (append_cancel_right a b (codes "/") e)
+same_shape (Cook a) (Cook b) g h w e = ap Cook (append_cancel_right a b (codes "/") e)
 same_shape (Load a) (Load b) g h w e = ap Load (append_cancel_right a b (codes "/") (append_cancel_left (codes "fast/") _ _ e))
 same_shape s t g h w e = absurd (true≢false (ap (bytes_eq (word_of s)) w))
 

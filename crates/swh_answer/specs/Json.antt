@@ -165,6 +165,13 @@ error_data word = object (member (codes "error") (string word) no_members)
 abbrev pub not_held_data : Name → Data
 not_held_data name = object (member (codes "error") (string (codes "not held")) (member (codes "name") (string (core_text name)) no_members))
 
+-- an object that is not cooked, and the word that tells why
+abbrev pub uncarried_data : Name → List ℕ → Data
+uncarried_data name why =
+    object (member (codes "error") (string (codes "uncarried"))
+    (member (codes "name") (string (core_text name))
+    (member (codes "why") (string why) no_members)))
+
 -- the number of the component that leads nowhere
 abbrev pub no_path_data : ℕ → Data
 no_path_data component = object (member (codes "component") (number_data component) (member (codes "error") (string (codes "no path")) no_members))

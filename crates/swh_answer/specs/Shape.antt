@@ -18,6 +18,7 @@ pub data Shape : Type 0 where
   Content : List ℕ → Shape
   Resolve : List ℕ → Shape
   Raw : List ℕ → Shape
+  Cook : List ℕ → Shape
   Load : List ℕ → Shape
 
 -- the first word of the path
@@ -34,6 +35,7 @@ word_of (Snapshot id) = codes "snapshot"
 word_of (Content id) = codes "content"
 word_of (Resolve swhid) = codes "resolve"
 word_of (Raw core) = codes "raw"
+word_of (Cook core) = codes "cook"
 word_of (Load url) = codes "load"
 
 -- what stands behind the word and its slash
@@ -50,6 +52,7 @@ tail_of (Snapshot id) = id ++ codes "/"
 tail_of (Content id) = codes "sha1_git:" ++ (id ++ codes "/")
 tail_of (Resolve swhid) = swhid ++ codes "/"
 tail_of (Raw core) = core ++ codes "/"
+tail_of (Cook core) = core ++ codes "/"
 tail_of (Load url) = codes "fast/" ++ (url ++ codes "/")
 
 -- There is no slash in it.
@@ -70,6 +73,7 @@ IsShape (Snapshot id) = IsOnePart id
 IsShape (Content id) = IsOnePart id
 IsShape (Resolve swhid) = Unit {0}
 IsShape (Raw core) = IsOnePart core
+IsShape (Cook core) = IsOnePart core
 IsShape (Load url) = Unit {0}
 
 -- A word, and what stands behind it and a slash, are those of the shape.
@@ -97,4 +101,5 @@ shape_of (asked.Snapshot id) = Snapshot id.now
 shape_of (asked.Content id) = Content id.now
 shape_of (asked.Resolve swhid) = Resolve swhid.now
 shape_of (asked.Raw core) = Raw core.now
+shape_of (asked.Cook core) = Cook core.now
 shape_of (asked.Load url) = Load url.now

@@ -32,6 +32,8 @@ pub enum Asked<'a> {
     Resolve(&'a [u8]),
     /// `raw/<core identifier>/`
     Raw(&'a [u8]),
+    /// `cook/<core identifier>/`
+    Cook(&'a [u8]),
     /// `load/fast/<url>/`: a load of the stream in the body.
     Load(&'a [u8]),
 }
@@ -180,6 +182,16 @@ fn raw(tail: &[u8]) -> Option<Asked<'_>>
     Some(Asked::Raw(core))
 }
 
+fn cook(tail: &[u8]) -> Option<Asked<'_>>
+    ensures some { IfSome result (λ a. HasParts (codes "cook") tail.now (shape_of a)) }
+    ensures none { IfNone result ((s : Shape) → HasParts (codes "cook") tail.now s → ⊥) }
+{
+    let Some(core) = one_part(tail) else {
+        return None;
+    };
+    Some(Asked::Cook(core))
+}
+
 fn load(tail: &[u8]) -> Option<Asked<'_>>
     ensures some { IfSome result (λ a. HasParts (codes "load") tail.now (shape_of a)) }
     ensures none { IfNone result ((s : Shape) → HasParts (codes "load") tail.now s → ⊥) }
@@ -216,6 +228,8 @@ fn asked_by<'a>(word: &[u8], tail: &'a [u8]) -> Option<Asked<'a>>
         resolve(tail)
     } else if word == b"raw".as_slice() {
         raw(tail)
+    } else if word == b"cook".as_slice() {
+        cook(tail)
     } else if word == b"load".as_slice() {
         load(tail)
     } else {

@@ -23,8 +23,8 @@ pub use entries::entries_reply;
 pub use known::listed_names;
 pub use laws::one_shape;
 pub use replies::{
-    content_reply, id_of, known_reply, no_path, not_held, origin_reply, raw_reply, refusal, url_of,
-    visits_reply,
+    content_reply, core_of, id_of, known_reply, no_path, not_held, origin_reply, raw_reply,
+    refusal, uncarried, url_of, visits_reply,
 };
 pub use value::json_reply;
 pub use visits::visits_value;

@@ -1,7 +1,7 @@
 // Refusals, and the replies on origins, contents, bodies and lists of names.
 ghost use Rattle.std.specs.Prelude.{◌≡◌, IfOk, IfSome, IfNone};
 ghost use Rattle.serde_json.specs.View.{view};
-ghost use Rattle.swh_answer.specs.Json.{visits_data, origin_data, error_data, not_held_data, no_path_data, tree_reply, error_reply};
+ghost use Rattle.swh_answer.specs.Json.{visits_data, origin_data, error_data, not_held_data, uncarried_data, no_path_data, tree_reply, error_reply};
 ghost use Rattle.swh_answer.specs.Answers.{
   SpellsUrl,
   NoUrl,
@@ -43,6 +43,13 @@ fn not_held_value(alloc: Global, name: &Name) -> Result<Value, AllocError>
     json!(in alloc; {"error": "not held", "name": text})
 }
 
+fn uncarried_value(alloc: Global, name: &Name, why: &str) -> Result<Value, AllocError>
+    ensures { IfOk result (λ value. view value ≡ uncarried_data name.now why.now) }
+{
+    let text = core_string(alloc, name)?;
+    json!(in alloc; {"error": "uncarried", "name": text, "why": why})
+}
+
 fn no_path_value(alloc: Global, component: u64) -> Result<Value, AllocError>
     ensures { IfOk result (λ value. view value ≡ no_path_data component) }
 {
@@ -63,6 +70,14 @@ pub fn not_held(alloc: Global, name: &Name) -> Result<Reply, Memory>
 {
     let value = not_held_value(alloc, name)?;
     json_reply(alloc, 404, &value)
+}
+
+/// The reply where an object is not cooked, with the word that tells why: 422.
+pub fn uncarried(alloc: Global, name: &Name, why: &str) -> Result<Reply, Memory>
+    ensures { IfOk result (λ reply. reply ≡ tree_reply 422 (uncarried_data name.now why.now)) }
+{
+    let value = uncarried_value(alloc, name, why)?;
+    json_reply(alloc, 422, &value)
 }
 
 /// The reply where a component of a path leads nowhere: 404.
@@ -143,8 +158,8 @@ pub fn id_of(kind: Kind, text: &[u8]) -> Option<Name>
     Name::from_hex(kind, text)
 }
 
-// The name whose core identifier a text in a path is; none where it is none.
-fn core_of(text: &[u8]) -> Option<Name>
+/// The name whose core identifier a text in a path is; none where it is none.
+pub fn core_of(text: &[u8]) -> Option<Name>
     ensures some { IfSome result (SpellsCore text.now) }
     ensures none { IfNone result (NoCore text.now) }
 {

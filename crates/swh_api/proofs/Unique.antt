@@ -26,12 +26,14 @@ use Rattle.swh_graph.specs.Resolve.{IsResolveAnswer}
 use Rattle.swh_graph.proofs.OneLog.{one_log_lem}
 use Rattle.swh_graph.proofs.OnePath.{one_path_lem}
 use Rattle.swh_graph.proofs.OneResolution.{one_resolution_lem}
-use Rattle.swh_answer.specs.Shape.{Shape, Known, Visits, Origin, Revision, Log, Release, Directory, DirectoryEntry as Entry, Snapshot, Content, Resolve, Raw, Load}
+use Rattle.swh_answer.specs.Shape.{Shape, Known, Visits, Origin, Revision, Log, Release, Directory, DirectoryEntry as Entry, Snapshot, Content, Resolve, Raw, Cook, Load}
 use Rattle.swh_answer.specs.Json.{visits_data, origin_data, revision_data, log_data, release_data, entry_data, directory_data, snapshot_data, resolved_data}
 use Rattle.swh_answer.proofs.Shapes.{one_shape}
-use Rattle.swh_answer.proofs.Unique.{one_id, one_origin_reply, one_content_reply, one_raw_reply, one_known_reply}
+use Rattle.swh_answer.proofs.Unique.{one_id, one_core, one_origin_reply, one_content_reply, one_raw_reply, one_known_reply}
 use Rattle.swh_api.specs.Answer.{log_limit, IsRead, graph_reply, TellsAnswer, IsIdReply, IsResolveReply, IsShapeReply, IsReplyTo, IsAnswer}
+use Rattle.swh_api.specs.Cook.{TellsCook, IsCookReply}
 use Rattle.swh_api.specs.Get.{get_request, text_of, IsReplyToGet}
+use Rattle.swh_api.proofs.Cooks.{one_cook_told}
 
 -- ---- what is read under a name
 
@@ -91,6 +93,13 @@ one_resolve_reply bodies text r s (inr h) (inr k) =
     one_told (IsResolveAnswer bodies k.0) resolved_data (one_resolution_lem bodies k.0) r s
     (subst (λ (swhid : Swhid). TellsAnswer (IsResolveAnswer bodies swhid) resolved_data r) (one_value text h.0 k.0 h.1 k.1) h.2) k.2
 
+one_cook_reply : (bodies : Bodies) (text : List ℕ) (r s : Reply) → IsCookReply bodies text r → IsCookReply bodies text s → r ≡ s
+one_cook_reply bodies text r s (inl h) (inl k) = h.1 ∙ sym k.1
+one_cook_reply bodies text r s (inl h) (inr k) = absurd (h.0 k.0 k.1)
+one_cook_reply bodies text r s (inr h) (inl k) = absurd (k.0 h.0 h.1)
+one_cook_reply bodies text r s (inr h) (inr k) =
+    one_cook_told bodies k.0 r s (subst (λ (name : Name). TellsCook bodies name r) (one_core text h.0 k.0 h.1.core k.1.core) h.2) k.2
+
 -- ---- requests
 
 one_shape_reply : (a : Archive) (body : List ℕ) (shape : Shape) (r s : Reply) → IsShapeReply a body shape r → IsShapeReply a body shape s → r ≡ s
@@ -107,6 +116,7 @@ one_shape_reply a body (Snapshot id) r s h k = one_id_reply kind.Snapshot (IsRea
 one_shape_reply a body (Content id) r s h k = one_content_reply a id r s h k
 one_shape_reply a body (Resolve text) r s h k = one_resolve_reply a.bodies text r s h k
 one_shape_reply a body (Raw core) r s h k = one_raw_reply a core r s h k
+one_shape_reply a body (Cook core) r s h k = one_cook_reply a.bodies core r s h k
 one_shape_reply a body (Load url) r s h k = h.1 ∙ sym k.1
 
 one_reply_to : (a : Archive) (request : Request) (shape : Shape) (r s : Reply) → IsReplyTo a request shape r → IsReplyTo a request shape s → r ≡ s

@@ -15,9 +15,10 @@ use Rattle.swh_graph.specs.Holding.{HoldsDirectory, HoldsRevision, HoldsRelease,
 use Rattle.swh_graph.specs.Log.{IsLogAnswer}
 use Rattle.swh_graph.specs.Path.{IsPathAnswer}
 use Rattle.swh_graph.specs.Resolve.{IsResolveAnswer}
-use Rattle.swh_answer.specs.Shape.{Shape, Known, Visits, Origin, Revision, Log, Release, Directory, DirectoryEntry, Snapshot, Content, Resolve, Raw, Load, Spells}
+use Rattle.swh_answer.specs.Shape.{Shape, Known, Visits, Origin, Revision, Log, Release, Directory, DirectoryEntry, Snapshot, Content, Resolve, Raw, Cook, Load, Spells}
 use Rattle.swh_answer.specs.Json.{visits_data, origin_data, revision_data, log_data, release_data, entry_data, directory_data, snapshot_data, resolved_data, no_path_data, tree_reply, error_reply}
 use Rattle.swh_answer.specs.Answers.{NoUrl, SpellsId, NoId, bad_text, not_found, not_held, IsOriginReply, IsContentReply, IsRawReply, IsKnownReply}
+use Rattle.swh_api.specs.Cook.{IsCookReply}
 
 -- ---- objects and the graph
 
@@ -77,6 +78,7 @@ IsShapeReply a body (Snapshot id) reply = IsIdReply kind.Snapshot (IsRead HoldsS
 IsShapeReply a body (Content id) reply = IsContentReply a id reply
 IsShapeReply a body (Resolve swhid) reply = IsResolveReply a.bodies swhid reply
 IsShapeReply a body (Raw core) reply = IsRawReply a core reply
+IsShapeReply a body (Cook core) reply = IsCookReply a.bodies core reply
 IsShapeReply a body (Load url) reply = NoUrl url × (reply ≡ bad_text)
 
 -- The path has no shape.

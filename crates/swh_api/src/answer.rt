@@ -6,6 +6,7 @@ ghost use Rattle.swh_answer.specs.Shape.{Load, shape_of};
 ghost use Rattle.swh_api.specs.Answer.{method_of, IsShapeReply, IsAnswer};
 ghost use Rattle.swh_api.specs.Route.{AsksNoLoad};
 
+use crate::cooking::cook_reply;
 use crate::objects::{
     directory_reply, entry_reply, log_reply, release_reply, resolve_reply, revision_reply,
     snapshot_reply,
@@ -57,14 +58,15 @@ fn reply_to<L: Look>(
         Asked::Content(id) => content_reply(alloc, look, id),
         Asked::Resolve(swhid) => resolve_reply(alloc, look, swhid),
         Asked::Raw(core) => raw_reply(alloc, look, core),
+        Asked::Cook(core) => cook_reply(alloc, look, core),
         Asked::Load(_) => refusal(alloc, 400, "swhid"),
     }
 }
 
 /// The reply to a request that is no load, over what is looked at. A path that is none of the API's is 404 `not found`, and
 /// then another method than the path's is 405 `method`; a text that is no id, SWHID or URL is 400 `swhid`, and a body that
-/// lists no names 400 `json`; what is not held is 404 `not held`, and a path that leads nowhere 404 `no path`. Fails where
-/// memory runs out.
+/// lists no names 400 `json`; what is not held is 404 `not held`, a path that leads nowhere 404 `no path`, and what is not
+/// cooked 422 `uncarried`. Fails where memory runs out.
 pub fn reply<L: Look>(alloc: Global, look: &L, request: &Request) -> Result<Reply, Memory>
     requires { AsksNoLoad request.now }
     ensures { IfOk result (IsAnswer (L.archive look.now) request.now) }

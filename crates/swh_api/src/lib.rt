@@ -1,10 +1,13 @@
 //! The read API: which requests are loads, and the reply to every other request, over an archive that is looked at.
-//! Stands on `swh_base`, `swh_model`, `swh_swhid`, `swh_graph` and `swh_answer`.
+//! Stands on `swh_base`, `swh_model`, `swh_swhid`, `swh_graph`, `swh_fastcook` and `swh_answer`.
 //! Callers may rely on: a reply is the archive's answer to the request.
 #![tactic(auto)]
 
 mod answer;
+mod collected;
+mod cooking;
 mod get;
+mod laws;
 mod objects;
 mod refusals;
 mod routing;
@@ -12,6 +15,7 @@ mod wanted;
 
 pub use answer::reply;
 pub use get::reply_to_get;
+pub use laws::{carried_is_cooked, one_answer};
 pub use refusals::refusal_reply;
 pub use routing::route;
 pub use wanted::Route;

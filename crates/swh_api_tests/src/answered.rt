@@ -1,10 +1,11 @@
 //! An archive of objects and visits, and what one request is answered over it.
-use std::alloc::Global;
+use crate::cooked::ODD_OBJECTS;
+use std::alloc::{AllocError, Global};
 use std::test::Fail;
 use swh_api::{Route, reply, route};
-use swh_base::{Bytes, Memory, Reply, Request, Status, Url, VisitKind};
-use swh_graph_fixtures::archive_of;
+use swh_base::{Bytes, Kind, Memory, Reply, Request, Status, Url, VisitKind};
 use swh_graph_fixtures::objects::OBJECTS;
+use swh_graph_fixtures::{add, archive_of};
 use swh_replay::Replayed;
 
 /// A text in pieces.
@@ -73,11 +74,28 @@ fn add_visits(alloc: Global, shown: &mut Replayed) -> Result<bool, Memory> {
     Ok(true)
 }
 
+fn add_objects(
+    alloc: Global,
+    shown: &mut Replayed,
+    objects: &[(Kind, &[u8])],
+) -> Result<bool, AllocError> {
+    for (kind, body) in objects {
+        let body = body.to_vec(alloc)?;
+        if add(alloc, shown, *kind, body).is_none() {
+            return Ok(false);
+        }
+    }
+    Ok(true)
+}
+
 /// What is in memory of an archive with these objects and visits.
 pub fn archive(alloc: Global) -> Result<Replayed, Fail> {
     let Some(mut shown) = archive_of(alloc, OBJECTS) else {
         return Err(Fail::from("objects"));
     };
+    if !add_objects(alloc, &mut shown, ODD_OBJECTS)? {
+        return Err(Fail::from("odd objects"));
+    }
     if add_visits(alloc, &mut shown)? {
         Ok(shown)
     } else {

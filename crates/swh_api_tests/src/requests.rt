@@ -51,7 +51,7 @@ const REFUSALS: &[Case] = &[
     // Without a path the method is not looked at.
     ((b"GET", &[b"/x"], b""), NO_PATH),
     ((b"DELETE", &[b"/x"], b""), NO_PATH),
-    ((b"POST", &[b"/api/1/cook/", VERSION_1, b"/"], b""), NO_PATH),
+    ((b"POST", &[b"/api/1/cook/", VERSION_1], b""), NO_PATH),
     // With another method nothing else is looked at: no id, no URL, no body, and nothing that is held or not.
     ((b"DELETE", &[b"/api/1/known/"], b""), METHOD),
     ((b"GET", &[b"/api/1/known/"], b"["), METHOD),

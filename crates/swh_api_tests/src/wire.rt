@@ -32,6 +32,15 @@ HTTP/1.1 200 OK\r\nContent-Length: 2\r\nContent-Type: application/json\r\nConnec
         b"HTTP/1.1 200 OK\r\nContent-Length: 10\r\nContent-Type: application/octet-stream\r\n\r\nversion 1\n",
     ),
     (
+        b"GET /api/1/cook/swh:1:cnt:83baae61804e65cc73a7201a7252750c76066a30/ HTTP/1.1\r\n\r\n",
+        b"HTTP/1.1 200 OK\r\nContent-Length: 10\r\nContent-Type: application/octet-stream\r\n\r\nversion 1\n",
+    ),
+    (
+        b"GET /api/1/cook/swh:1:snp:b946e4724fdd49510377065272bb882d27fafbc0/ HTTP/1.1\r\n\r\n",
+        b"HTTP/1.1 422 Unprocessable Entity\r\nContent-Length: 96\r\nContent-Type: application/json\r\n\r\n\
+{\"error\":\"uncarried\",\"name\":\"swh:1:snp:b946e4724fdd49510377065272bb882d27fafbc0\",\"why\":\"branch\"}",
+    ),
+    (
         b"GET / HTTP/2.0\r\n\r\n",
         b"HTTP/1.1 400 Bad Request\r\nContent-Length: 19\r\nContent-Type: application/json\r\n\
 Connection: close\r\n\r\n{\"error\":\"request\"}",
@@ -74,7 +83,7 @@ fn put_answer(alloc: Global, out: &mut Vec<u8>, shown: &Replayed, ask: &Ask) -> 
     let Some((reply, keep)) = answered(alloc, shown, ask)? else {
         return Ok(());
     };
-    let has_body = matches!(reply.status, 200 | 400 | 404 | 405 | 413 | 431 | 501);
+    let has_body = matches!(reply.status, 200 | 400 | 404 | 405 | 413 | 422 | 431 | 501);
     if has_body {
         let bytes = reply_bytes(alloc, &reply, keep)?;
         out.extend_from_slice(bytes.as_slice())?;

@@ -4,7 +4,6 @@ use std::test::Fail;
 use swh_program_fixtures::{Case, INIT, LOAD};
 
 const REFUSALS: &[Case<'static>] = &[
-    // `cook` is none yet.
     Case {
         name: "no path",
         setting: LOADING,
@@ -17,7 +16,7 @@ const REFUSALS: &[Case<'static>] = &[
                 "/",
                 "/x",
                 "/api/1/known",
-                "/api/1/cook/swh:1:cnt:83baae61804e65cc73a7201a7252750c76066a30/",
+                "/api/1/cook/swh:1:cnt:83baae61804e65cc73a7201a7252750c76066a30",
                 "/api/1/revision/ad8f82034ad809f6d68cfeb8fecb079a0db51ac2",
             ],
         ],
@@ -71,6 +70,8 @@ const REFUSALS: &[Case<'static>] = &[
                 "/api/1/raw/swh:1:cnt:83baae61804e65cc73a7201a7252750c76066a30;lines=1/",
                 "/api/1/resolve/swh:1:cnt:83baae61804e65cc73a7201a7252750c76066a30;lines=0/",
                 "/api/1/resolve//",
+                "/api/1/cook//",
+                "/api/1/cook/swh:1:dir:e742133ff8e74ffd2bfc2759a0ee947b4bda8016/",
             ],
         ],
         statuses: &[0, 0, 1],
@@ -79,7 +80,8 @@ const REFUSALS: &[Case<'static>] = &[
 {\"error\":\"swhid\"}\n400 17\n{\"error\":\"swhid\"}\n400 17\n{\"error\":\"swhid\"}\n400 17\n\
 {\"error\":\"swhid\"}\n400 17\n{\"error\":\"swhid\"}\n400 17\n{\"error\":\"swhid\"}\n400 17\n\
 {\"error\":\"swhid\"}\n400 17\n{\"error\":\"swhid\"}\n400 17\n{\"error\":\"swhid\"}\n400 17\n\
-{\"error\":\"swhid\"}\n400 17\n{\"error\":\"swhid\"}\n",
+{\"error\":\"swhid\"}\n400 17\n{\"error\":\"swhid\"}\n400 17\n{\"error\":\"swhid\"}\n400 17\n\
+{\"error\":\"swhid\"}\n",
         leaves: None,
     },
     // An id of another kind of object among them.
@@ -110,6 +112,7 @@ visit=swh:1:snp:fbdd80abc88d1192da78a6d1f783b0df37589edc;\
 anchor=swh:1:rev:dcdd17533213497f53991befddc832f5b11c0b64;path=/none/",
                 "/api/1/resolve/swh:1:cnt:ad8f82034ad809f6d68cfeb8fecb079a0db51ac2;\
 anchor=swh:1:rev:1111111111111111111111111111111111111111;path=/none/",
+                "/api/1/cook/swh:1:rel:ad8f82034ad809f6d68cfeb8fecb079a0db51ac2/",
             ],
         ],
         statuses: &[0, 0, 1],
@@ -125,7 +128,8 @@ anchor=swh:1:rev:1111111111111111111111111111111111111111;path=/none/",
 {\"error\":\"not held\",\"name\":\"swh:1:rev:83baae61804e65cc73a7201a7252750c76066a30\"}\n404 80\n\
 {\"error\":\"not held\",\"name\":\"swh:1:snp:ad8f82034ad809f6d68cfeb8fecb079a0db51ac2\"}\n404 80\n\
 {\"error\":\"not held\",\"name\":\"swh:1:rev:dcdd17533213497f53991befddc832f5b11c0b64\"}\n404 80\n\
-{\"error\":\"not held\",\"name\":\"swh:1:cnt:ad8f82034ad809f6d68cfeb8fecb079a0db51ac2\"}\n",
+{\"error\":\"not held\",\"name\":\"swh:1:cnt:ad8f82034ad809f6d68cfeb8fecb079a0db51ac2\"}\n404 80\n\
+{\"error\":\"not held\",\"name\":\"swh:1:rel:ad8f82034ad809f6d68cfeb8fecb079a0db51ac2\"}\n",
         leaves: None,
     },
     // Paths that lead to nothing, or to another object.

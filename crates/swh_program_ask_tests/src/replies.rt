@@ -221,6 +221,30 @@ v3\x0020:<)\xbdQ\x97\x05[\x87^\x8cb\x19}7\xfc \xef\x1fg\xfarelease refs/tags/v1\
 \xe4\xe6\xbf|\xcf\xd3\n200 0\n\n",
         leaves: None,
     },
+    // `git fast-import` makes the same commit of the stream.
+    Case {
+        name: "cooked",
+        setting: LOADING,
+        runs: &[
+            INIT,
+            LOAD,
+            &[
+                "ask",
+                "A",
+                "/api/1/cook/swh:1:cnt:83baae61804e65cc73a7201a7252750c76066a30/",
+                "/api/1/cook/swh:1:rev:d86aa2fcf270757bda859539696bcfe39f5dadcd/",
+            ],
+        ],
+        statuses: &[0, 0, 0],
+        printed: b"made\nhttps://e.org/a;b 50% \xc3\xa9\t1\tfull\tswh:1:snp:fbdd80abc88d1192da78a6d1f783b0df375\
+89edc\n200 10\nversion 1\n\n200 452\n\
+feature done\nblob\nmark :1\ndata 3\nhi\n\nblob\nmark :2\ndata 10\nversion 1\n\nreset refs/swh/cook\n\n\
+commit refs/swh/cook\nmark :3\nauthor A <a@e.org> 1000000000 +0000\ncommitter A <a@e.org> 1000000000 +0000\n\
+data 6\nfirst\n\ndeleteall\nM 100755 :1 \"a;b/50% \\303\\251\"\nM 120000 :1 a;b/link\n\
+M 160000 295c0651a95ba32ac5e14f92da0161b122942cac module\nM 100644 :2 test.txt\n\nreset refs/heads/main\nfrom :3\n\n\
+reset refs/swh/cook\nfrom 0000000000000000000000000000000000000000\n\ndone\n\n",
+        leaves: None,
+    },
 ];
 
 #[test]

@@ -19,6 +19,32 @@ const RUNS: &[Case<'static>] = &[
 \"visit\":1}]\n",
         leaves: None,
     },
+    // A tag that another took the place of, and to which a second leads still.
+    Case {
+        name: "tagless",
+        setting: Setting {
+            input: Some(&[Piece::Text(
+                b"commit refs/heads/main\nmark :1\ncommitter A <a@e.org> 1000000000 +0000\ndata 6\nfirst\n\
+tag v1\nmark :2\nfrom :1\ntagger A <a@e.org> 1000000000 +0000\ndata 3\nv1\n\
+tag v2\nmark :3\nfrom :2\ntagger A <a@e.org> 1000000000 +0000\ndata 3\nv2\n\
+tag v1\nmark :4\nfrom :1\ntagger A <a@e.org> 1000000000 +0000\ndata 4\nnew\n",
+            )]),
+            ..LOADING
+        },
+        runs: &[
+            INIT,
+            LOAD,
+            &[
+                "ask",
+                "A",
+                "/api/1/cook/swh:1:snp:efea0a79fecb9c7b0a1e85738acb8eada5e58b69/",
+            ],
+        ],
+        statuses: &[0, 0, 1],
+        printed: b"made\nhttps://e.org/p\t1\tfull\tswh:1:snp:efea0a79fecb9c7b0a1e85738acb8eada5e58b69\n422 97\n\
+{\"error\":\"uncarried\",\"name\":\"swh:1:rel:69b8f07f34f1dcbaee569a71ee78ca9e0e6d92ce\",\"why\":\"tagless\"}\n",
+        leaves: None,
+    },
     // One empty content.
     Case {
         name: "no bytes",

@@ -3,7 +3,7 @@ use std::test::Fail;
 use swh_answer::{Asked, read_path};
 
 // Each path, the word of what it asks for, and the texts in it.
-static PATHS: [(&[u8], &str, &[u8], &[u8]); 26] = [
+static PATHS: [(&[u8], &str, &[u8], &[u8]); 28] = [
     (b"/api/1/known/", "known", b"", b""),
     (b"/api/1/known/?page=1/", "known", b"", b""),
     (
@@ -44,6 +44,8 @@ static PATHS: [(&[u8], &str, &[u8], &[u8]); 26] = [
     ),
     (b"/api/1/resolve//", "resolve", b"", b""),
     (b"/api/1/raw/swh:1:cnt:ab/", "raw", b"swh:1:cnt:ab", b""),
+    (b"/api/1/cook/swh:1:rev:ab/", "cook", b"swh:1:rev:ab", b""),
+    (b"/api/1/cook//?raw/", "cook", b"", b""),
     (
         b"/api/1/load/fast/https://e.org/p/",
         "load",
@@ -75,7 +77,7 @@ static NO_PATHS: [&[u8]; 24] = [
     b"/api/1/content/sha256:ab/",
     b"/api/1/content/sha1_git:a/b/",
     b"/api/1/raw/a/b/",
-    b"/api/1/cook/swh:1:cnt:ab/",
+    b"/api/1/cook/a/b/",
     b"/api/1/load/dir/https://e.org/p/",
 ];
 
@@ -93,6 +95,7 @@ fn parts<'a>(asked: Asked<'a>) -> (&'static str, &'a [u8], &'a [u8]) {
         Asked::Content(id) => ("content", id, b""),
         Asked::Resolve(swhid) => ("resolve", swhid, b""),
         Asked::Raw(core) => ("raw", core, b""),
+        Asked::Cook(core) => ("cook", core, b""),
         Asked::Load(url) => ("load", url, b""),
     }
 }

@@ -1,0 +1,170 @@
+// Replies with what a name is cooked to.
+ghost use Rattle.std.specs.Prelude.{◌≡◌, ◌≢◌, IfOk, IfErr, IfSome, IfNone};
+ghost use Rattle.swh_base.specs.declared.kind.Kind.TheVariants.{Content as ContentKind, Directory as DirectoryKind};
+ghost use Rattle.swh_api.specs.Cook.{
+  Cooked,
+  IsCookAnswer,
+  RefusesCook,
+  word_of_why,
+  TellsCook,
+  IsCookFaultReply,
+  SpellsCooked,
+  NoCooked,
+  IsCookReply,
+};
+
+use crate::collected::{Collected, Measured};
+use std::alloc::Global;
+use swh_answer::{core_of, not_held, refusal, uncarried};
+use swh_base::{Kind, Memory, Name, Reply, Shared};
+use swh_carried::{CookFault, Why};
+use swh_fastcook::cook;
+use swh_model::Look;
+
+fn word_of_why(why: Why) -> &'static str
+    ensures { result.now ≡ word_of_why why }
+{
+    match why {
+        Why::Cycle => "cycle",
+        Why::Revision => "revision",
+        Why::Release => "release",
+        Why::Empty => "empty",
+        Why::Dots => "dots",
+        Why::Text => "text",
+        Why::Path => "path",
+        Why::Branch => "branch",
+        Why::Tagless => "tagless",
+        Why::Refs => "refs",
+        Why::Length => "length",
+    }
+}
+
+// The reply that tells why a name has no text. A text in memory is broken off for want of memory alone.
+fn cook_fault_reply(alloc: Global, fault: CookFault) -> Result<Reply, Memory>
+    ensures { IfOk result (IsCookFaultReply fault) }
+{
+    match fault {
+        CookFault::NotHeld { name } => not_held(alloc, &name),
+        CookFault::Uncarried { name, why } => uncarried(alloc, &name, word_of_why(why)),
+        CookFault::WriteFault | CookFault::Memory => Err(Memory),
+    }
+}
+
+// The length of the text that a name is cooked to.
+fn cooked_length<L: Look>(alloc: Global, look: &L, name: Name) -> Result<usize, CookFault>
+    requires { name.kind ≢ DirectoryKind }
+    ensures { IfErr result (RefusesCook (L.archive look.now).bodies name) }
+{
+    let mut measured = Measured::new();
+    look.is_graph();
+    let _head = match cook(alloc, look, name, &mut measured) {
+        Ok(head) => head,
+        Err(fault) => return Err(fault),
+    };
+    Ok(measured.length())
+}
+
+// The text that a name is cooked to, in room for this length.
+fn collect<L: Look>(
+    alloc: Global,
+    look: &L,
+    name: Name,
+    length: usize,
+) -> Result<Vec<u8>, CookFault>
+    requires { name.kind ≢ DirectoryKind }
+    ensures ok { IfOk result (λ text. IsCookAnswer (L.archive look.now).bodies name (Cooked text.items)) }
+    ensures err { IfErr result (RefusesCook (L.archive look.now).bodies name) }
+{
+    let Ok(mut collected) = Collected::with_room(alloc, length) else {
+        return Err(CookFault::Memory);
+    };
+    look.is_graph();
+    let _head = match cook(alloc, look, name, &mut collected) {
+        Ok(head) => head,
+        Err(fault) => return Err(fault),
+    };
+    Ok(collected.into_bytes())
+}
+
+// The text that a name is cooked to. It is measured first, so that room is taken once and no byte is held twice.
+fn cooked_text<L: Look>(alloc: Global, look: &L, name: Name) -> Result<Vec<u8>, CookFault>
+    requires { name.kind ≢ DirectoryKind }
+    ensures ok { IfOk result (λ text. IsCookAnswer (L.archive look.now).bodies name (Cooked text.items)) }
+    ensures err { IfErr result (RefusesCook (L.archive look.now).bodies name) }
+{
+    match cooked_length(alloc, look, name) {
+        Ok(length) => collect(alloc, look, name, length),
+        Err(fault) => Err(fault),
+    }
+}
+
+// The reply with the bytes of a content. They are not copied.
+fn content_told<L: Look>(alloc: Global, look: &L, name: Name) -> Result<Reply, Memory>
+    requires { name.kind ≡ ContentKind }
+    ensures { IfOk result (TellsCook (L.archive look.now).bodies name) }
+{
+    look.is_graph();
+    let Some(held) = look.body(&name) else {
+        return not_held(alloc, &name);
+    };
+    let body = held.again()?;
+    Ok(Reply {
+        status: 200,
+        json: false,
+        body,
+    })
+}
+
+// The reply with the stream of all that is reached from a name.
+fn stream_told<L: Look>(alloc: Global, look: &L, name: Name) -> Result<Reply, Memory>
+    requires { name.kind ≢ DirectoryKind }
+    ensures { IfOk result (TellsCook (L.archive look.now).bodies name) }
+{
+    let text = match cooked_text(alloc, look, name) {
+        Ok(text) => text,
+        Err(fault) => return cook_fault_reply(alloc, fault),
+    };
+    let body = Shared::from_vec(text)?;
+    Ok(Reply {
+        status: 200,
+        json: false,
+        body,
+    })
+}
+
+fn told<L: Look>(alloc: Global, look: &L, name: Name) -> Result<Reply, Memory>
+    requires { name.kind ≢ DirectoryKind }
+    ensures { IfOk result (TellsCook (L.archive look.now).bodies name) }
+{
+    match name.kind {
+        Kind::Content => content_told(alloc, look, name),
+        _ => stream_told(alloc, look, name),
+    }
+}
+
+// The name whose core identifier a text is, where it is no directory's.
+fn cooked_name(text: &[u8]) -> Option<Name>
+    ensures some { IfSome result (SpellsCooked text.now) }
+    ensures none { IfNone result (NoCooked text.now) }
+{
+    let Some(name) = core_of(text) else {
+        return None;
+    };
+    match name.kind {
+        Kind::Directory => None,
+        _ => Some(name),
+    }
+}
+
+/// The reply with what the name is cooked to whose core identifier a text is: a content as its bytes, which are not copied,
+/// and a revision, a release or a snapshot as a stream (git-fast-import(1)). 400 where the text is no core identifier, or a
+/// directory's; 404 with the first name that a walk enters and that is not held; 422 with the first that a stream cannot
+/// carry, and why. Fails where memory runs out.
+pub fn cook_reply<L: Look>(alloc: Global, look: &L, text: &[u8]) -> Result<Reply, Memory>
+    ensures { IfOk result (IsCookReply (L.archive look.now).bodies text.now) }
+{
+    let Some(name) = cooked_name(text) else {
+        return refusal(alloc, 400, "swhid");
+    };
+    told(alloc, look, name)
+}
