@@ -2,8 +2,14 @@
 use crate::folders::Layout;
 use crate::pieces::Piece;
 
+/// A file that stands at a path of the inputs, and the number of its call, from 0, that fails.
+pub type StandingFile<'a> = (&'a str, &'a [Piece<'a>], Option<u64>);
+
+/// A folder that stands at a path of the inputs, and the number of its call, from 0, that fails.
+pub type StandingFolder<'a> = (&'a str, Layout<'a>, Option<u64>);
+
 /// What runs begin with: the folder `A` of a depot, the file `J` and the folder `D` of the desk, and the inputs `e` and
-/// `f`. Of each part the call with the given number, from 0, fails.
+/// `f`, with other files and folders beside them. Of each part the call with the given number, from 0, fails.
 #[derive(Clone, Copy)]
 pub struct Setting<'a> {
     /// The ledger in `A`, where it is there.
@@ -22,9 +28,11 @@ pub struct Setting<'a> {
     pub desk_fails: Option<u64>,
     pub input: Option<&'a [Piece<'a>]>,
     pub input_fails: Option<u64>,
-    /// An opening of an input where `e` is not there.
+    /// An opening of a part of an input, where that is not there.
     pub origins_fail: Option<u64>,
     pub other_input: Option<&'a [Piece<'a>]>,
+    pub files: &'a [StandingFile<'a>],
+    pub folders: &'a [StandingFolder<'a>],
     pub clock_fails: Option<u64>,
     pub sink_fails: Option<u64>,
 }
@@ -45,6 +53,8 @@ pub const BARE: Setting<'static> = Setting {
     input_fails: None,
     origins_fail: None,
     other_input: None,
+    files: &[],
+    folders: &[],
     clock_fails: None,
     sink_fails: None,
 };

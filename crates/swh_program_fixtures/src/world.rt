@@ -72,7 +72,24 @@ fn add_inputs(
     setting: &Setting<'_>,
 ) -> Result<(), AllocError> {
     add_file(alloc, files, "e", setting.input, setting.input_fails)?;
-    add_file(alloc, files, "f", setting.other_input, None)
+    add_file(alloc, files, "f", setting.other_input, None)?;
+    for (path, pieces, call_fails) in setting.files {
+        add_file(alloc, files, path, Some(*pieces), *call_fails)?;
+    }
+    Ok(())
+}
+
+// Adds the folders of the inputs.
+fn add_folders(
+    alloc: Global,
+    folders: &mut Vec<FolderInput>,
+    setting: &Setting<'_>,
+) -> Result<(), AllocError> {
+    for (path, layout, call_fails) in setting.folders {
+        let failing = failing(alloc, *call_fails)?;
+        folders.push(folder_input(alloc, path, layout, failing)?)?;
+    }
+    Ok(())
 }
 
 // Adds the folder of the desk, where there is one.
@@ -95,6 +112,7 @@ struct Parts {
     jobs_failing: Vec<u64>,
     folders: Vec<FolderInput>,
     inputs: Vec<Input>,
+    input_folders: Vec<FolderInput>,
     inputs_failing: Vec<u64>,
     sink: MemorySink,
     clock_failing: Vec<u64>,
@@ -106,6 +124,7 @@ fn empty_parts(alloc: Global, setting: &Setting<'_>) -> Result<Parts, AllocError
         jobs_failing: failing(alloc, setting.desk_fails)?,
         folders: Vec::new(alloc),
         inputs: Vec::new(alloc),
+        input_folders: Vec::new(alloc),
         inputs_failing: failing(alloc, setting.origins_fail)?,
         sink: MemorySink::new(alloc, 65_536, failing(alloc, setting.sink_fails)?)?,
         clock_failing: failing(alloc, setting.clock_fails)?,
@@ -115,6 +134,7 @@ fn empty_parts(alloc: Global, setting: &Setting<'_>) -> Result<Parts, AllocError
 fn fill_parts(alloc: Global, parts: &mut Parts, setting: &Setting<'_>) -> Result<(), AllocError> {
     add_file(alloc, &mut parts.jobs, "J", setting.jobs, setting.jobs_fail)?;
     add_folder(alloc, &mut parts.folders, setting)?;
+    add_folders(alloc, &mut parts.input_folders, setting)?;
     add_inputs(alloc, &mut parts.inputs, setting)
 }
 
@@ -123,7 +143,12 @@ fn world_of<N: Namer, P: Depot>(alloc: Global, namer: N, depot: P, parts: Parts)
         namer,
         depot,
         desk: MemoryOrigins::with_folders(alloc, parts.jobs, parts.folders, parts.jobs_failing),
-        origins: MemoryOrigins::new(alloc, parts.inputs, parts.inputs_failing),
+        origins: MemoryOrigins::with_folders(
+            alloc,
+            parts.inputs,
+            parts.input_folders,
+            parts.inputs_failing,
+        ),
         yard: MemoryYard::new(alloc),
         sink: parts.sink,
         clock: MemoryClock::new(1_000_000_000, parts.clock_failing),
