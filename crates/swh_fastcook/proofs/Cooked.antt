@@ -77,7 +77,7 @@ module _ (bodies : Bodies) (children_of : Name → Option (List Name)) (graph : 
         back Refs x = (x.0, content_few bodies order root kind x.1)
         back Length x = (x.0, x.1.0 kind)
 
-    content_carried : IsCarriedStream bodies children_of root
+    pub content_carried : IsCarriedStream bodies children_of root
     content_carried = record {
       order = root ∷ [];
       is_order = alone;
@@ -87,10 +87,10 @@ module _ (bodies : Bodies) (children_of : Name → Option (List Name)) (graph : 
       };
     }
 
-    content_text : IsCookedText bodies children_of root body
+    pub content_text : IsCookedText bodies children_of root body
     content_text = subst (λ (k : Kind). IsTextOfKind bodies children_of root k body) (sym kind) held
 
-    not_snapshot : (target : List ℕ) → LeadsHead bodies root target → ⊥
+    pub not_snapshot : (target : List ℕ) → LeadsHead bodies root target → ⊥
     not_snapshot target h = let e : Content ≡ Snapshot = sym kind ∙ h.kind in cc
 
     pub content_cooked : (tells : Type 0) (old new : List ℕ) → (tells → new ≡ old ++ body) → IsCooked bodies children_of root tells old new None
@@ -102,10 +102,10 @@ module _ (bodies : Bodies) (children_of : Name → Option (List Name)) (graph : 
 -- ---- streams
 
 module _ (bodies : Bodies) (children_of : Name → Option (List Name)) (root : Name) (other : root.kind ≢ Content) (order : List Name) (head : Option (List ℕ)) (ready : IsReady bodies children_of root order head) where
-  ready_carried : IsCarriedStream bodies children_of root
+  pub ready_carried : IsCarriedStream bodies children_of root
   ready_carried = record { order = order; is_order = ready.is_order; carried = ready.carried }
 
-  stream_text : (text : List ℕ) → IsStreamText bodies order root text → IsCookedText bodies children_of root text
+  pub stream_text : (text : List ℕ) → IsStreamText bodies order root text → IsCookedText bodies children_of root text
   stream_text text is = by root.kind refl (record { order = order; is_order = ready.is_order; is = is })
     where
       by : (kind : Kind) → root.kind ≡ kind → IsStreamOf bodies children_of root text → IsTextOfKind bodies children_of root kind text

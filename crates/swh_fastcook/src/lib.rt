@@ -30,5 +30,6 @@ pub use length::is_long_stream;
 pub use loaded::loads_many;
 pub use marks::Marks;
 pub use objects::write_objects;
+pub use ready::{Ready, make_ready};
 pub use stream::{write_order, write_stream};
 pub use tips::write_tips;

@@ -1,0 +1,72 @@
+-- How the cooking of a name may end.
+use Rattle.std.proofs.Common.{◌≡◌, inl, inr, Option, List, ◌∷◌, ◌++◌, Contains, refl, sym, subst, arith}
+use Rattle.std.proofs.lemmas.List.Elements.{Contains-append_right}
+use Rattle.swh_base.specs.declared.kind.Kind.{Kind}
+use Rattle.swh_base.specs.declared.kind.Kind.TheVariants.{Content, Directory, Revision, Release, Snapshot}
+use Rattle.swh_base.specs.declared.name.Name.{Name}
+use Rattle.swh_model.specs.Archive.{Bodies}
+use Rattle.swh_postorder.specs.Postorder.{IsFirstMissing}
+use Rattle.swh_postorder.proofs.Stops.{one_order, not_order_and_gap}
+use Rattle.swh_carried.specs.declared.fault.Why.{Why}
+use Rattle.swh_carried.specs.Uncarried as form
+use Rattle.swh_fastcook.specs.Cook.{BreaksStream, IsCarriedStream, IsUncarriedStream}
+use Rattle.swh_dircook.specs.Cook.{IsCarriedFolder, IsUncarriedFolder}
+use Rattle.swh_dircook.specs.Rules.{BreaksInFolder}
+use Rattle.swh_cook.specs.Cook.{IsCarried, IsUncarried, IsCarriedOf, IsUncarriedOf}
+
+in_order : (order before behind : List Name) (name : Name) → order ≡ before ++ name ∷ behind → Contains order name
+in_order order before behind name cut =
+    let first : Contains (name ∷ behind) name = (0, omega arith, refl) in
+    subst (λ (ns : List Name). Contains ns name) (sym cut) (Contains-append_right before (name ∷ behind) name first)
+
+-- a form does not carry all of an order and refuse one of it
+not_both : (children_of : Name → Option (List Name)) (Breaks : Name → Why → Type 0) (order : List Name) (name : Name) (why : Why) → form.AreCarried children_of Breaks order → form.IsUncarried children_of Breaks order name why → ⊥
+not_both children_of Breaks order name why carried (inl cycle) =
+    let f = cycle.1 in
+    carried.acyclic name (in_order order f.before f.behind name f.cut) f.is
+not_both children_of Breaks order name why carried (inr breaks) =
+    let f = breaks.1 in
+    carried.none name (in_order order f.before f.behind name f.cut) why f.is.is
+
+module _ (bodies : Bodies) (children_of : Name → Option (List Name)) (root : Name) where
+  held_of : (kind : Kind) (missing : Name) → IsCarriedOf bodies children_of root kind → IsFirstMissing children_of root missing → ⊥
+  held_of Content missing c m = not_order_and_gap children_of root missing c.order c.is_order m
+  held_of Directory missing c m = not_order_and_gap children_of root missing c.order c.is_order m
+  held_of Revision missing c m = not_order_and_gap children_of root missing c.order c.is_order m
+  held_of Release missing c m = not_order_and_gap children_of root missing c.order c.is_order m
+  held_of Snapshot missing c m = not_order_and_gap children_of root missing c.order c.is_order m
+
+  reached_of : (kind : Kind) (name missing : Name) (why : Why) → IsUncarriedOf bodies children_of root kind name why → IsFirstMissing children_of root missing → ⊥
+  reached_of Content name missing why u m = not_order_and_gap children_of root missing u.order u.is_order m
+  reached_of Directory name missing why u m = not_order_and_gap children_of root missing u.order u.is_order m
+  reached_of Revision name missing why u m = not_order_and_gap children_of root missing u.order u.is_order m
+  reached_of Release name missing why u m = not_order_and_gap children_of root missing u.order u.is_order m
+  reached_of Snapshot name missing why u m = not_order_and_gap children_of root missing u.order u.is_order m
+
+  stream_or : (name : Name) (why : Why) → IsCarriedStream bodies children_of root → IsUncarriedStream bodies children_of root name why → ⊥
+  stream_or name why c u =
+      let same = one_order children_of root u.order c.order u.is_order c.is_order in
+      not_both children_of (BreaksStream bodies root c.order) c.order name why c.carried
+      (subst (λ (order : List Name). form.IsUncarried children_of (BreaksStream bodies root order) order name why) same u.is)
+
+  folder_or : (name : Name) (why : Why) → IsCarriedFolder bodies children_of root → IsUncarriedFolder bodies children_of root name why → ⊥
+  folder_or name why c u =
+      let same = one_order children_of root u.order c.order u.is_order c.is_order in
+      not_both children_of (BreaksInFolder bodies root) c.order name why c.carried
+      (subst (λ (order : List Name). form.IsUncarried children_of (BreaksInFolder bodies root) order name why) same u.is)
+
+  carried_of : (kind : Kind) (name : Name) (why : Why) → IsCarriedOf bodies children_of root kind → IsUncarriedOf bodies children_of root kind name why → ⊥
+  carried_of Content name why c u = stream_or name why c u
+  carried_of Directory name why c u = folder_or name why c u
+  carried_of Revision name why c u = stream_or name why c u
+  carried_of Release name why c u = stream_or name why c u
+  carried_of Snapshot name why c u = stream_or name why c u
+
+pub carried_held : (bodies : Bodies) (children_of : Name → Option (List Name)) (root missing : Name) → IsCarried bodies children_of root → IsFirstMissing children_of root missing → ⊥
+carried_held bodies children_of root missing c m = held_of bodies children_of root root.kind missing c m
+
+pub uncarried_held : (bodies : Bodies) (children_of : Name → Option (List Name)) (root name missing : Name) (why : Why) → IsUncarried bodies children_of root name why → IsFirstMissing children_of root missing → ⊥
+uncarried_held bodies children_of root name missing why u m = reached_of bodies children_of root root.kind name missing why u m
+
+pub carried_or : (bodies : Bodies) (children_of : Name → Option (List Name)) (root name : Name) (why : Why) → IsCarried bodies children_of root → IsUncarried bodies children_of root name why → ⊥
+carried_or bodies children_of root name why c u = carried_of bodies children_of root root.kind name why c u

@@ -1,0 +1,11 @@
+use Rattle.swh_cook.proofs.Ends.{carried_held, uncarried_held, carried_or}
+use Rattle.swh_cook.proofs.laws.one_end.Goals as goal
+
+pub returns-clause-held : goal.returns-clause-held
+returns-clause-held c = carried_held
+
+pub returns-clause-reached : goal.returns-clause-reached
+returns-clause-reached c = uncarried_held
+
+pub returns-clause-carried : goal.returns-clause-carried
+returns-clause-carried c = carried_or

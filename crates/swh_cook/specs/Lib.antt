@@ -1,0 +1,2 @@
+pub mod Cook
+pub mod Words
