@@ -1,6 +1,5 @@
 -- How the cooking of a name may end.
-use Rattle.std.proofs.Common.{◌≡◌, inl, inr, Option, List, ◌∷◌, ◌++◌, Contains, refl, sym, subst, arith}
-use Rattle.std.proofs.lemmas.List.Elements.{Contains-append_right}
+use Rattle.std.proofs.Common.{◌≡◌, inl, inr, Option, List, subst}
 use Rattle.swh_base.specs.declared.kind.Kind.{Kind}
 use Rattle.swh_base.specs.declared.kind.Kind.TheVariants.{Content, Directory, Revision, Release, Snapshot}
 use Rattle.swh_base.specs.declared.name.Name.{Name}
@@ -12,12 +11,8 @@ use Rattle.swh_carried.specs.Uncarried as form
 use Rattle.swh_fastcook.specs.Cook.{BreaksStream, IsCarriedStream, IsUncarriedStream}
 use Rattle.swh_dircook.specs.Cook.{IsCarriedFolder, IsUncarriedFolder}
 use Rattle.swh_dircook.specs.Rules.{BreaksInFolder}
+use Rattle.swh_cook.proofs.Firsts.{in_order, one_first_uncarried}
 use Rattle.swh_cook.specs.Cook.{IsCarried, IsUncarried, IsCarriedOf, IsUncarriedOf}
-
-in_order : (order before behind : List Name) (name : Name) → order ≡ before ++ name ∷ behind → Contains order name
-in_order order before behind name cut =
-    let first : Contains (name ∷ behind) name = (0, omega arith, refl) in
-    subst (λ (ns : List Name). Contains ns name) (sym cut) (Contains-append_right before (name ∷ behind) name first)
 
 -- a form does not carry all of an order and refuse one of it
 not_both : (children_of : Name → Option (List Name)) (Breaks : Name → Why → Type 0) (order : List Name) (name : Name) (why : Why) → form.AreCarried children_of Breaks order → form.IsUncarried children_of Breaks order name why → ⊥
@@ -55,6 +50,25 @@ module _ (bodies : Bodies) (children_of : Name → Option (List Name)) (root : N
       not_both children_of (BreaksInFolder bodies root) c.order name why c.carried
       (subst (λ (order : List Name). form.IsUncarried children_of (BreaksInFolder bodies root) order name why) same u.is)
 
+  stream_once : (m n : Name) (v w : Why) → IsUncarriedStream bodies children_of root m v → IsUncarriedStream bodies children_of root n w → (m ≡ n) × (v ≡ w)
+  stream_once m n v w c d =
+      let same = one_order children_of root c.order d.order c.is_order d.is_order in
+      one_first_uncarried children_of (BreaksStream bodies root d.order) d.order m n v w
+      (subst (λ (order : List Name). form.IsUncarried children_of (BreaksStream bodies root order) order m v) same c.is) d.is
+
+  folder_once : (m n : Name) (v w : Why) → IsUncarriedFolder bodies children_of root m v → IsUncarriedFolder bodies children_of root n w → (m ≡ n) × (v ≡ w)
+  folder_once m n v w c d =
+      let same = one_order children_of root c.order d.order c.is_order d.is_order in
+      one_first_uncarried children_of (BreaksInFolder bodies root) d.order m n v w
+      (subst (λ (order : List Name). form.IsUncarried children_of (BreaksInFolder bodies root) order m v) same c.is) d.is
+
+  once_of : (kind : Kind) (m n : Name) (v w : Why) → IsUncarriedOf bodies children_of root kind m v → IsUncarriedOf bodies children_of root kind n w → (m ≡ n) × (v ≡ w)
+  once_of Content m n v w c d = stream_once m n v w c d
+  once_of Directory m n v w c d = folder_once m n v w c d
+  once_of Revision m n v w c d = stream_once m n v w c d
+  once_of Release m n v w c d = stream_once m n v w c d
+  once_of Snapshot m n v w c d = stream_once m n v w c d
+
   carried_of : (kind : Kind) (name : Name) (why : Why) → IsCarriedOf bodies children_of root kind → IsUncarriedOf bodies children_of root kind name why → ⊥
   carried_of Content name why c u = stream_or name why c u
   carried_of Directory name why c u = folder_or name why c u
@@ -70,3 +84,6 @@ uncarried_held bodies children_of root name missing why u m = reached_of bodies 
 
 pub carried_or : (bodies : Bodies) (children_of : Name → Option (List Name)) (root name : Name) (why : Why) → IsCarried bodies children_of root → IsUncarried bodies children_of root name why → ⊥
 carried_or bodies children_of root name why c u = carried_of bodies children_of root root.kind name why c u
+
+pub one_uncarried : (bodies : Bodies) (children_of : Name → Option (List Name)) (root m n : Name) (v w : Why) → IsUncarried bodies children_of root m v → IsUncarried bodies children_of root n w → (m ≡ n) × (v ≡ w)
+one_uncarried bodies children_of root m n v w c d = once_of bodies children_of root root.kind m n v w c d

@@ -1,3 +1,5 @@
+pub mod Graphs
+pub mod Firsts
 pub mod Ends
 pub mod Files
 pub mod Folders

@@ -5,20 +5,20 @@ ghost use Rattle.swh_cook.specs.Words.{why_word};
 use swh_carried::Why;
 
 /// The word that tells why a form cannot carry an object.
-pub fn why_word(why: Why) -> &'static [u8]
+pub fn why_word(why: Why) -> &'static str
     ensures { result.now ≡ why_word why }
 {
     match why {
-        Why::Cycle => b"cycle".as_slice(),
-        Why::Revision => b"revision".as_slice(),
-        Why::Release => b"release".as_slice(),
-        Why::Empty => b"empty".as_slice(),
-        Why::Dots => b"dots".as_slice(),
-        Why::Text => b"text".as_slice(),
-        Why::Path => b"path".as_slice(),
-        Why::Branch => b"branch".as_slice(),
-        Why::Tagless => b"tagless".as_slice(),
-        Why::Refs => b"refs".as_slice(),
-        Why::Length => b"length".as_slice(),
+        Why::Cycle => "cycle",
+        Why::Revision => "revision",
+        Why::Release => "release",
+        Why::Empty => "empty",
+        Why::Dots => "dots",
+        Why::Text => "text",
+        Why::Path => "path",
+        Why::Branch => "branch",
+        Why::Tagless => "tagless",
+        Why::Refs => "refs",
+        Why::Length => "length",
     }
 }

@@ -3,8 +3,6 @@ use Rattle.std.proofs.Common.{◌≡◌, ◌≢◌, ◌⊎◌, inl, inr, ℕ, �
 use Rattle.std.proofs.lemmas.List.{append-nil}
 use Rattle.swh_base.specs.declared.kind.Kind.{Kind}
 use Rattle.swh_base.specs.declared.name.Name.{Name}
-use Rattle.swh_base.specs.Manifest.{AreChildren}
-use Rattle.swh_base.proofs.Children.{one_list}
 use Rattle.swh_outside.specs.Files.{Files}
 use Rattle.swh_model.specs.declared.event.Event.{Event}
 use Rattle.swh_model.specs.Archive.{Archive, Bodies, IsGraphOf}
@@ -19,6 +17,7 @@ use Rattle.swh_swhid.proofs.Values.{one_value}
 use Rattle.swh_dircook.specs.Made.{Made, Yarded, IsFrontOfMade}
 use Rattle.swh_cook.specs.Cook.{IsCarried, IsCooked, MakesAll, MakesFront}
 use Rattle.swh_cook.proofs.Ends.{carried_held, carried_or}
+use Rattle.swh_cook.proofs.Graphs.{one_graph}
 use Rattle.swh_program.specs.Seen.{Folders, Span}
 use Rattle.swh_program.specs.Answers.{TellsLine, TellsDisk, status_of, status_for, printed_by}
 use Rattle.swh_program.specs.Archives.{archive_at, old_archive, new_archive}
@@ -39,35 +38,6 @@ use Rattle.swh_program.proofs.Archived.{usable, one_archive, harmed}
 use Rattle.swh_program.proofs.Completes.{Tells, told_unless}
 use Rattle.swh_program.proofs.ReadOnly.{Settles, does_read, read_names}
 use Rattle.swh_program.proofs.Statuses.{run_comes, run_exactly}
-
--- ---- one graph
-
--- bodies have one graph
-module _ (bodies : Bodies) (f g : Name → Option (List Name)) (is_f : IsGraphOf bodies f) (is_g : IsGraphOf bodies g) where
-  held_or : (n : Name) (kids : List Name) → f n ≡ Some kids → g n ≡ None → ⊥
-  held_or n kids has none = let held = is_f.held n kids has in let e : Some held.0 ≡ None = sym held.1 ∙ is_g.missing n none in cc
-
-  or_held : (n : Name) (kids : List Name) → g n ≡ Some kids → f n ≡ None → ⊥
-  or_held n kids has none = let held = is_g.held n kids has in let e : Some held.0 ≡ None = sym held.1 ∙ is_f.missing n none in cc
-
-  same_kids : (n : Name) (kids others : List Name) → f n ≡ Some kids → g n ≡ Some others → kids ≡ others
-  same_kids n kids others has also =
-      let a = is_f.held n kids has in
-      let b = is_g.held n others also in
-      let body : a.0 ≡ b.0 = some_same a.0 b.0 (sym a.1 ∙ b.1) in
-      one_list n.kind b.0 kids others (subst (λ (x : List ℕ). AreChildren n.kind x kids) body a.2) b.2
-    where
-      some_same : (x z : List ℕ) → Some x ≡ Some z → x ≡ z
-      some_same x z e = cc
-
-  same_at : (n : Name) (a b : Option (List Name)) → f n ≡ a → g n ≡ b → f n ≡ g n
-  same_at n None None x z = x ∙ sym z
-  same_at n None (Some others) x z = absurd (or_held n others z x)
-  same_at n (Some kids) None x z = absurd (held_or n kids x z)
-  same_at n (Some kids) (Some others) x z = x ∙ ap (λ (ns : List Name). Some ns) (same_kids n kids others x z) ∙ sym z
-
-  pub one_graph : f ≡ g
-  one_graph = λ i n. same_at n (f n) (g n) refl refl i
 
 -- ---- what is told of a name
 

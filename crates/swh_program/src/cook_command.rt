@@ -73,7 +73,7 @@ fn uncarried_line(alloc: Global, name: &Name, why: Why) -> Result<Bytes, Memory>
     line.extend_from_slice(b"swharc: uncarried ")?;
     line.extend_from_slice(&text)?;
     line.push(b' ')?;
-    line.extend_from_slice(why_word(why))?;
+    line.extend_from_slice(why_word(why).as_bytes())?;
     line.push(b'\n')?;
     Ok(Bytes::from_vec(line))
 }
