@@ -72,7 +72,7 @@ module _ (children_of : Name → Option (List Name)) (Breaks : Name → Why → 
   breaks_first : (m n : Name) (v w : Why) → IsFirstToBreak Breaks order m v → IsFirstToBreak Breaks order n w → (m ≡ n) × (v ≡ w)
   breaks_first m n v w f g =
       let same = one_first (λ (k : Name). (why : Why) × Breaks k why) f.before g.before f.behind g.behind m n (sym f.cut ∙ g.cut) (v, f.is.is) (w, g.is.is)
-          (λ k there broke. f.none k there broke.0 broke.1) (λ k there broke. g.none k there broke.0 broke.1) in
+      (λ k there broke. f.none k there broke.0 broke.1) (λ k there broke. g.none k there broke.0 broke.1) in
       (same, one_rule Breaks n v w (subst (λ (k : Name). BreaksFirst Breaks k v) same f.is) g.is)
 
   pub one_first_uncarried : (m n : Name) (v w : Why) → IsUncarried children_of Breaks order m v → IsUncarried children_of Breaks order n w → (m ≡ n) × (v ≡ w)

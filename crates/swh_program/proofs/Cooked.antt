@@ -3,6 +3,7 @@ use Rattle.std.proofs.Common.{◌≡◌, ◌≢◌, ◌⊎◌, inl, inr, ℕ, �
 use Rattle.std.proofs.lemmas.List.{append-nil}
 use Rattle.swh_base.specs.declared.kind.Kind.{Kind}
 use Rattle.swh_base.specs.declared.name.Name.{Name}
+use Rattle.swh_outside.specs.Faults.{Rose}
 use Rattle.swh_outside.specs.Files.{Files}
 use Rattle.swh_model.specs.declared.event.Event.{Event}
 use Rattle.swh_model.specs.Archive.{Archive, Bodies, IsGraphOf}
@@ -14,14 +15,17 @@ use Rattle.swh_swhid.specs.Qualifier.{IsSwhid, HasSwhid}
 use Rattle.swh_swhid.specs.declared.swhid.Swhid.{Swhid}
 use Rattle.swh_swhid.proofs.Fronts.{one_break}
 use Rattle.swh_swhid.proofs.Values.{one_value}
+use Rattle.swh_carried.specs.declared.fault.CookFault.{CookFault}
+use Rattle.swh_carried.specs.declared.fault.CookFault.TheVariants as fault
+use Rattle.swh_fastcook.specs.Cause.{CookBreaks}
 use Rattle.swh_dircook.specs.Made.{Made, Yarded, IsFrontOfMade}
-use Rattle.swh_cook.specs.Cook.{IsCarried, IsCooked, MakesAll, MakesFront}
+use Rattle.swh_cook.specs.Cook.{IsCarried, IsCooked, IsBrokenOff, ExplainsUncooked, MakesAll, MakesFront}
 use Rattle.swh_cook.proofs.Ends.{carried_held, carried_or}
 use Rattle.swh_cook.proofs.Graphs.{one_graph}
 use Rattle.swh_program.specs.Seen.{Folders, Span}
 use Rattle.swh_program.specs.Answers.{TellsLine, TellsDisk, status_of, status_for, printed_by}
 use Rattle.swh_program.specs.Archives.{archive_at, old_archive, new_archive}
-use Rattle.swh_program.specs.CookCommand.{no_swhid_line, IsRefused, RefusesCook, TellsCook, BreaksOff, LeavesYard, LeavesCook, cooking, RefusesSwhid, EndsUnread, CooksName, Cooks, IsUncooked, CannotCook, PrintsCooked, DoesCook}
+use Rattle.swh_program.specs.CookCommand.{cook_line, not_held_line, uncarried_line, no_swhid_line, TellsMissing, TellsUncarried, TellsUncooked, IsRefused, RefusesCook, TellsCook, BreaksOff, LeavesYard, LeavesCook, cooking, RefusesSwhid, EndsUnread, CooksName, Cooks, IsUncooked, CannotCook, PrintsCooked, DoesCook}
 use Rattle.swh_program.specs.Commands.{telling, LooksLeave, ReadsLeave}
 use Rattle.swh_program.specs.Damage.{damaged_line, IsUndamaged, IsHarmedAt}
 use Rattle.swh_program.specs.Opening.{IsArchive, IsUnusable, IsOpenRefusal}
@@ -43,13 +47,13 @@ use Rattle.swh_program.proofs.Statuses.{run_comes, run_exactly}
 
 module _ (y : Yards) (a : Archive) (name : Name) (out : List ℕ) where
   -- a line is told of it
-  pub told_cook : (line : List ℕ) (end : Ending) (answer : Answer) → TellsCook y a name out line end → TellsLine line end answer → IsOfArchive (cooking y name out) a answer
+  told_cook : (line : List ℕ) (end : Ending) (answer : Answer) → TellsCook y a name out line end → TellsLine line end answer → IsOfArchive (cooking y name out) a answer
   told_cook line end (Told text e) tells told = subst (λ (f : Ending). TellsCook y a name out text f) (sym told.1) (subst (λ (t : List ℕ). TellsCook y a name out t end) (sym told.0) tells)
   told_cook line end Memory tells told = tt
   told_cook line end _ tells told = absurd told
 
   -- and the yard is left as it says, or as it was left before memory ran out
-  pub line_leaves : (line : List ℕ) (end : Ending) (answer : Answer) → y.same ⊎ BreaksOff y a name out → TellsLine line end answer → LeavesYard y a name out answer
+  line_leaves : (line : List ℕ) (end : Ending) (answer : Answer) → y.same ⊎ BreaksOff y a name out → TellsLine line end answer → LeavesYard y a name out answer
   line_leaves line end (Told text e) left told = tt
   line_leaves line end Memory left told = left
   line_leaves line end _ left told = absurd told
@@ -61,7 +65,7 @@ module _ (y : Yards) (a : Archive) (name : Name) (out : List ℕ) where
   all_front : (old new : Yarded) (children_of : Name → Option (List Name)) → MakesAll a.bodies children_of name out old new → MakesFront a.bodies children_of name out old new
   all_front old new children_of m = record { made = m.made; are = m.are; front = record { some = m.made; front = whole_front m.made; is = m.is } }
 
-  pub cooked_off : (children_of : Name → Option (List Name)) (head : Option (List ℕ)) → IsGraphOf a.bodies children_of → IsCooked a.bodies children_of name out y.tells y.old y.new head → BreaksOff y a name out
+  cooked_off : (children_of : Name → Option (List Name)) (head : Option (List ℕ)) → IsGraphOf a.bodies children_of → IsCooked a.bodies children_of name out y.tells y.old y.new head → BreaksOff y a name out
   cooked_off children_of head graph c = record {
     children_of = children_of;
     graph = graph;
@@ -75,6 +79,57 @@ line_inside line end answer told e = subst (TellsLine line end) e told
 pub line_undamaged : (line : List ℕ) (end : Ending) (answer : Answer) → TellsLine line end answer → IsUndamaged answer
 line_undamaged line end (Damaged text) told = told
 line_undamaged line end _ told = tt
+
+-- ---- what is told of a name, by how its cooking ended
+
+module _ (y : Yards) (a : Archive) (name : Name) (out : List ℕ) (children_of : Name → Option (List Name)) (graph : IsGraphOf a.bodies children_of) where
+  abbrev Explains : CookFault → Type 0
+  Explains why = ExplainsUncooked a.bodies children_of name out y.tells y.same y.old y.new why
+
+  broken_off : IsBrokenOff a.bodies children_of name out y.tells y.old y.new → BreaksOff y a name out
+  broken_off front = record { children_of = children_of; graph = graph; front = front }
+
+  refuses : (text : List ℕ) → TellsMissing a name children_of text ⊎ TellsUncarried a name children_of text → y.same → RefusesCook y a name out text
+  refuses text tells same = record { children_of = children_of; graph = graph; tells = tells; same = same }
+
+  pub told_cooked : (head : Option (List ℕ)) (answer : Answer) → IsCooked a.bodies children_of name out y.tells y.old y.new head → TellsLine (cook_line name head) ending.Done answer → IsOfArchive (cooking y name out) a answer
+  told_cooked head answer cooked told =
+      told_cook y a name out (cook_line name head) ending.Done answer
+      (record { children_of = children_of; graph = graph; head = head; cooked = cooked; text_is = refl }) told
+
+  pub leaves_cooked : (head : Option (List ℕ)) (answer : Answer) → IsCooked a.bodies children_of name out y.tells y.old y.new head → TellsLine (cook_line name head) ending.Done answer → LeavesYard y a name out answer
+  leaves_cooked head answer cooked told =
+      line_leaves y a name out (cook_line name head) ending.Done answer (inr (cooked_off y a name out children_of head graph cooked)) told
+
+  pub told_uncooked : (before now : ℕ) → (Rose before now → y.failed) → (f : CookFault) (answer : Answer) → CookBreaks before now f → Explains f → TellsUncooked f answer → IsOfArchive (cooking y name out) a answer
+  told_uncooked before now rose (fault.NotHeld missing) answer breaks why told =
+      told_cook y a name out (not_held_line missing) ending.Wanting answer
+      (refuses (not_held_line missing) (inl (record { missing = missing; is = why.0; text_is = refl })) why.1) told
+  told_uncooked before now rose (fault.Uncarried first rule) answer breaks why told =
+      told_cook y a name out (uncarried_line first rule) ending.Wanting answer
+      (refuses (uncarried_line first rule) (inr (record { first = first; why = rule; is = why.0; text_is = refl })) why.1) told
+  told_uncooked before now rose fault.WriteFault answer breaks why told =
+      subst (IsOfArchive (cooking y name out) a) (sym told) (record { left = broken_off why; failed = rose breaks })
+  told_uncooked before now rose fault.Memory answer breaks why told = subst (IsOfArchive (cooking y name out) a) (sym told) tt
+
+  pub leaves_uncooked : (f : CookFault) (answer : Answer) → Explains f → TellsUncooked f answer → LeavesYard y a name out answer
+  leaves_uncooked (fault.NotHeld missing) answer why told = line_leaves y a name out (not_held_line missing) ending.Wanting answer (inl why.1) told
+  leaves_uncooked (fault.Uncarried first rule) answer why told = line_leaves y a name out (uncarried_line first rule) ending.Wanting answer (inl why.1) told
+  leaves_uncooked fault.WriteFault answer why told = subst (LeavesYard y a name out) (sym told) tt
+  leaves_uncooked fault.Memory answer (inl same) told = subst (LeavesYard y a name out) (sym told) (inl same)
+  leaves_uncooked fault.Memory answer (inr front) told = subst (LeavesYard y a name out) (sym told) (inr (broken_off front))
+
+pub uncooked_inside : (f : CookFault) (answer : Answer) → TellsUncooked f answer → answer ≢ OutsideDisk
+uncooked_inside (fault.NotHeld missing) answer told = line_inside (not_held_line missing) ending.Wanting answer told
+uncooked_inside (fault.Uncarried first why) answer told = line_inside (uncarried_line first why) ending.Wanting answer told
+uncooked_inside fault.WriteFault answer told = λ e. let f : OutsideYard ≡ OutsideDisk = sym told ∙ e in cc
+uncooked_inside fault.Memory answer told = λ e. let f : Memory ≡ OutsideDisk = sym told ∙ e in cc
+
+pub uncooked_undamaged : (f : CookFault) (answer : Answer) → TellsUncooked f answer → IsUndamaged answer
+uncooked_undamaged (fault.NotHeld missing) answer told = line_undamaged (not_held_line missing) ending.Wanting answer told
+uncooked_undamaged (fault.Uncarried first why) answer told = line_undamaged (uncarried_line first why) ending.Wanting answer told
+uncooked_undamaged fault.WriteFault answer told = subst IsUndamaged (sym told) tt
+uncooked_undamaged fault.Memory answer told = subst IsUndamaged (sym told) tt
 
 pub cook_settles : (y : Yards) (name : Name) (out : List ℕ) → Settles (cooking y name out)
 cook_settles y name out a text ending.Done told = inl refl

@@ -14,6 +14,8 @@ use Rattle.swh_swhid.specs.Qualifier.{IsSwhid, HasSwhid}
 use Rattle.swh_swhid.specs.declared.swhid.Swhid.{Swhid}
 use Rattle.swh_postorder.specs.Postorder.{IsFirstMissing}
 use Rattle.swh_carried.specs.declared.fault.Why.{Why}
+use Rattle.swh_carried.specs.declared.fault.CookFault.{CookFault}
+use Rattle.swh_carried.specs.declared.fault.CookFault.TheVariants as fault
 use Rattle.swh_cook.specs.Cook.{IsCarried, IsUncarried, IsCooked, IsBrokenOff}
 use Rattle.swh_cook.specs.Words.{why_word}
 use Rattle.swh_program.specs.Seen.{Span, DepotFailed, YardFailed, SinkFailed}
@@ -52,6 +54,13 @@ uncarried_line name why = refusal (codes "uncarried " ++ (core_text name ++ 32 �
 -- what is printed of a word that is no SWHID
 abbrev pub no_swhid_line : ℕ → List ℕ
 no_swhid_line at = refusal (codes "no swhid " ++ decimal at)
+
+-- The answer tells why a name was not cooked.
+abbrev pub TellsUncooked : CookFault → Answer → Type 0
+TellsUncooked (fault.NotHeld missing) answer = TellsLine (not_held_line missing) ending.Wanting answer
+TellsUncooked (fault.Uncarried first why) answer = TellsLine (uncarried_line first why) ending.Wanting answer
+TellsUncooked fault.WriteFault answer = answer ≡ OutsideYard
+TellsUncooked fault.Memory answer = answer ≡ Memory
 
 -- The text tells why the name is not cooked: of what is reached the first that is not held, or the first that its form cannot
 -- carry.

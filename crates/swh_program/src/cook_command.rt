@@ -9,6 +9,7 @@ ghost use Rattle.swh_program.specs.CookCommand.{
   not_held_line,
   uncarried_line,
   no_swhid_line,
+  TellsUncooked,
   cooking,
   LeavesYard,
   Cooks,
@@ -142,6 +143,18 @@ fn tell_no_swhid(alloc: Global, at: u64) -> Answer
     }
 }
 
+// The answer that tells why a name was not cooked.
+fn tell_uncooked(alloc: Global, fault: CookFault) -> Answer
+    ensures { TellsUncooked fault result }
+{
+    match fault {
+        CookFault::NotHeld { name } => tell_not_held(alloc, &name),
+        CookFault::Uncarried { name, why } => tell_uncarried(alloc, &name, why),
+        CookFault::WriteFault => Answer::OutsideYard,
+        CookFault::Memory => Answer::Memory,
+    }
+}
+
 /// Cooks a name of an archive into the yard, at the path `out`, and tells what came of it.
 pub fn tell_cook<Y: Yard>(
     alloc: Global,
@@ -163,10 +176,7 @@ pub fn tell_cook<Y: Yard>(
     replayed.is_graph();
     match cook_name(alloc, replayed, name, yard, out) {
         Ok(head) => tell_cooked(alloc, &name, &head),
-        Err(CookFault::NotHeld { name }) => tell_not_held(alloc, &name),
-        Err(CookFault::Uncarried { name, why }) => tell_uncarried(alloc, &name, why),
-        Err(CookFault::WriteFault) => Answer::OutsideYard,
-        Err(CookFault::Memory) => Answer::Memory,
+        Err(fault) => tell_uncooked(alloc, fault),
     }
 }
 
