@@ -1,5 +1,5 @@
 -- A text becomes a file of a yard.
-use Rattle.std.proofs.Common.{◌≡◌, ◌≢◌, inl, inr, ℕ, Option, List, [], ◌∷◌, ◌++◌, length, take, refl, sym, ap, ap₂, ◌∙◌, subst}
+use Rattle.std.proofs.Common.{◌≡◌, ◌≢◌, inl, inr, ℕ, Option, List, [], ◌∷◌, ◌++◌, length, take, refl, sym, ap, ap₂, ◌∙◌}
 use Rattle.std.proofs.Math.Seq.{take-append_seam}
 use Rattle.swh_base.specs.declared.kind.Kind.{Kind}
 use Rattle.swh_base.specs.declared.kind.Kind.TheVariants.{Content, Directory, Revision, Release, Snapshot}
@@ -10,8 +10,8 @@ use Rattle.swh_carried.specs.declared.fault.CookFault.{CookFault}
 use Rattle.swh_carried.specs.declared.fault.CookFault.TheVariants.{NotHeld, Uncarried, WriteFault, Memory}
 use Rattle.swh_written.specs.Sinks.{IsTaken}
 use Rattle.swh_fastcook.specs.Cause.{Breaks}
-use Rattle.swh_fastcook.specs.Cook.{IsHeadOf, IsCarriedStream, IsCookedText}
-use Rattle.swh_dircook.specs.Made.{Made, FileMade, Yarded, yarded, after_made, MakesSome}
+use Rattle.swh_fastcook.specs.Cook.{IsCarriedStream, IsCookedText}
+use Rattle.swh_dircook.specs.Made.{Made, FileMade, Yarded, yarded}
 use Rattle.swh_cook.specs.Cook.{IsFileOf, AreMadeOf, AreMade, IsCarriedOf, IsCarried, MakesAll, MakesFront, IsCooked, IsBrokenOff, ExplainsUncooked}
 
 module _ (bodies : Bodies) (children_of : Name → Option (List Name)) (root : Name) (other : root.kind ≢ Directory) where

@@ -8,10 +8,10 @@ use Rattle.swh_carried.specs.declared.fault.Why.{Why}
 use Rattle.swh_carried.specs.declared.fault.CookFault.{CookFault}
 use Rattle.swh_carried.specs.declared.fault.CookFault.TheVariants.{NotHeld, Uncarried, WriteFault, Memory}
 use Rattle.swh_fastcook.specs.Cause as stream
-use Rattle.swh_fastcook.specs.Cook.{IsHeadOf, LeadsHead}
+use Rattle.swh_fastcook.specs.Cook.{LeadsHead}
 use Rattle.swh_dircook.specs.Cook.{IsFolderOf, MakesFolder, MakesFrontOfFolder, IsCarriedFolder, IsUncarriedFolder, ExplainsNoFolder, CookBreaks}
 use Rattle.swh_dircook.specs.Made.{Made, Yarded}
-use Rattle.swh_cook.specs.Cook.{AreMadeOf, AreMade, IsCarriedOf, IsCarried, IsUncarriedOf, IsUncarried, MakesAll, MakesFront, IsCooked, IsBrokenOff, ExplainsUncooked}
+use Rattle.swh_cook.specs.Cook.{AreMadeOf, AreMade, IsCarriedOf, IsCarried, IsUncarriedOf, IsUncarried, MakesFront, IsCooked, IsBrokenOff, ExplainsUncooked}
 
 -- the count of faults does the same
 pub same_breaks : (before now : ℕ) (fault : CookFault) → CookBreaks before now fault → stream.CookBreaks before now fault

@@ -30,6 +30,7 @@ use std::alloc::Global;
 use swh_base::{Bytes, Memory, Name, Namer};
 use swh_carried::{CookFault, Why};
 use swh_cook::{cook_name, why_word};
+use swh_model::Look;
 use swh_outside::{Clock, Depot, Doors, Gate, Origins, Sink, Yard};
 use swh_replay::Replayed;
 use swh_swhid::{SwhidFault, core_text, parse};
