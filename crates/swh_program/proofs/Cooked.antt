@@ -1,12 +1,12 @@
 -- What a cook means for `cook`.
-use Rattle.std.proofs.Common.{◌≡◌, ◌≢◌, ◌⊎◌, inl, inr, ℕ, ◌<◌, ◌≤◌, Option, Some, None, List, [], ◌∷◌, ◌++◌, refl, sym, ap, ◌∙◌, subst, arith}
+use Rattle.std.proofs.Common.{◌≡◌, ◌≢◌, ◌⊎◌, inl, inr, ℕ, ◌<◌, ◌≤◌, Option, List, [], ◌++◌, refl, sym, ap, ◌∙◌, subst, arith}
 use Rattle.std.proofs.lemmas.List.{append-nil}
 use Rattle.swh_base.specs.declared.kind.Kind.{Kind}
 use Rattle.swh_base.specs.declared.name.Name.{Name}
 use Rattle.swh_outside.specs.Faults.{Rose}
 use Rattle.swh_outside.specs.Files.{Files}
 use Rattle.swh_model.specs.declared.event.Event.{Event}
-use Rattle.swh_model.specs.Archive.{Archive, Bodies, IsGraphOf}
+use Rattle.swh_model.specs.Archive.{Archive, IsGraphOf}
 use Rattle.swh_model.specs.Step.{replay}
 use Rattle.swh_segment.specs.Making.{IsNotMade}
 use Rattle.swh_keeper.specs.Own.{AreOwn}
@@ -27,8 +27,8 @@ use Rattle.swh_program.specs.Answers.{TellsLine, TellsDisk, status_of, status_fo
 use Rattle.swh_program.specs.Archives.{archive_at, old_archive, new_archive}
 use Rattle.swh_program.specs.CookCommand.{cook_line, not_held_line, uncarried_line, no_swhid_line, TellsMissing, TellsUncarried, TellsUncooked, IsRefused, RefusesCook, TellsCook, BreaksOff, LeavesYard, LeavesCook, cooking, RefusesSwhid, EndsUnread, CooksName, Cooks, IsUncooked, CannotCook, PrintsCooked, DoesCook}
 use Rattle.swh_program.specs.Commands.{telling, LooksLeave, ReadsLeave}
-use Rattle.swh_program.specs.Damage.{damaged_line, IsUndamaged, IsHarmedAt}
-use Rattle.swh_program.specs.Opening.{IsArchive, IsUnusable, IsOpenRefusal}
+use Rattle.swh_program.specs.Damage.{damaged_line, IsUndamaged}
+use Rattle.swh_program.specs.Opening.{IsUnusable, IsOpenRefusal}
 use Rattle.swh_program.specs.Reading.{Telling, IsOfArchive, ReadEnds, Prints, DoesRead}
 use Rattle.swh_program.specs.Run.{ComesTo, IsExactly, IsTold, IsPrintedUnlessFailed, NamesFailed}
 use Rattle.swh_program.specs.Yards.{Yards, yards_of}

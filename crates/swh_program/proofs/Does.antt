@@ -24,7 +24,7 @@ use Rattle.swh_program.specs.Run.{IsTold, NamesFailed}
 use Rattle.swh_program.specs.Yards.{yards_of}
 use Rattle.swh_segment.specs.Making.{IsMade}
 use Rattle.swh_program.specs.declared.answer.Answer.{Answer}
-use Rattle.swh_program.specs.declared.answer.Answer.TheVariants.{Made, NoJobFile, BadJob, NotMade, Damaged, OutsideDisk, OutsideSource, OutsideFolder, OutsideYard, OutsideClock, Memory}
+use Rattle.swh_program.specs.declared.answer.Answer.TheVariants.{Made, NoJobFile, BadJob, NotMade, Damaged, OutsideDisk, OutsideSource, OutsideFolder, OutsideClock, Memory}
 use Rattle.swh_program.proofs.Asked.{ask_settles, does_ask}
 use Rattle.swh_program.proofs.Checked.{check_settles, does_check}
 use Rattle.swh_program.proofs.Cooked.{does_cook, cook_names}

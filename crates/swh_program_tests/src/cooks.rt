@@ -3,7 +3,9 @@
 use Grown::{File, Folder};
 use std::alloc::Global;
 use std::test::Fail;
-use swh_program_fixtures::{BARE, Case, Grown, INIT, LOAD, LOADED, LOADING, Piece, Setting, is_met_leaving};
+use swh_program_fixtures::{
+    BARE, Case, Grown, INIT, LOAD, LOADED, LOADING, Piece, Setting, is_met_leaving,
+};
 
 /// A row, and what then stands in the yard.
 type Cooked = (Case<'static>, &'static [Grown<'static>]);
@@ -44,7 +46,12 @@ const STREAMS: &[Cooked] = &[
         Case {
             name: "a revision",
             setting: LOADED,
-            runs: &[&["cook", "A", "swh:1:rev:295c0651a95ba32ac5e14f92da0161b122942cac", "OUT"]],
+            runs: &[&[
+                "cook",
+                "A",
+                "swh:1:rev:295c0651a95ba32ac5e14f92da0161b122942cac",
+                "OUT",
+            ]],
             statuses: &[0],
             printed: b"swh:1:rev:295c0651a95ba32ac5e14f92da0161b122942cac\t-\n",
             leaves: None,
@@ -55,7 +62,12 @@ const STREAMS: &[Cooked] = &[
         Case {
             name: "a snapshot",
             setting: LOADED,
-            runs: &[&["cook", "A", "swh:1:snp:5036c2b4a676f9dad60fbaed431ca21ecdec56ff", "OUT"]],
+            runs: &[&[
+                "cook",
+                "A",
+                "swh:1:snp:5036c2b4a676f9dad60fbaed431ca21ecdec56ff",
+                "OUT",
+            ]],
             statuses: &[0],
             printed: b"swh:1:snp:5036c2b4a676f9dad60fbaed431ca21ecdec56ff\t-\n",
             leaves: None,
@@ -69,7 +81,12 @@ const STREAMS: &[Cooked] = &[
             runs: &[
                 INIT,
                 LOAD,
-                &["cook", "A", "swh:1:snp:6a27147bf068e96885531e22302944aa7bf4c5c8", "OUT"],
+                &[
+                    "cook",
+                    "A",
+                    "swh:1:snp:6a27147bf068e96885531e22302944aa7bf4c5c8",
+                    "OUT",
+                ],
             ],
             statuses: &[0, 0, 0],
             printed: b"made\nhttps://e.org/p\t1\tfull\tswh:1:snp:6a27147bf068e96885531e22302944aa7bf4c5c8\n\
@@ -88,8 +105,18 @@ swh:1:snp:6a27147bf068e96885531e22302944aa7bf4c5c8\trefs/heads/main\n",
             runs: &[
                 INIT,
                 LOAD,
-                &["cook", "A", "swh:1:snp:8e4ab9c68fed5533e5989465f92058fa230a8b5a", "OUT"],
-                &["cook", "A", "swh:1:rel:b0d5ede077ab52c24dca95995fe1840e94308346", "TAG"],
+                &[
+                    "cook",
+                    "A",
+                    "swh:1:snp:8e4ab9c68fed5533e5989465f92058fa230a8b5a",
+                    "OUT",
+                ],
+                &[
+                    "cook",
+                    "A",
+                    "swh:1:rel:b0d5ede077ab52c24dca95995fe1840e94308346",
+                    "TAG",
+                ],
             ],
             statuses: &[0, 0, 0, 0],
             printed: b"made\nhttps://e.org/p\t1\tfull\tswh:1:snp:8e4ab9c68fed5533e5989465f92058fa230a8b5a\n\
@@ -136,7 +163,12 @@ const HELD: Setting<'static> = Setting {
     ..BARE
 };
 
-const WIDE: &[&str] = &["cook", "A", "swh:1:dir:255133e809c8aebade61e342e71848c4309f166f", "OUT"];
+const WIDE: &[&str] = &[
+    "cook",
+    "A",
+    "swh:1:dir:255133e809c8aebade61e342e71848c4309f166f",
+    "OUT",
+];
 
 /// All that is made of the directory of all kinds of entries.
 const WIDE_MADE: &[Grown<'static>] = &[
@@ -156,7 +188,12 @@ const FOLDERS: &[Cooked] = &[
         Case {
             name: "a content",
             setting: HELD,
-            runs: &[&["cook", "A", "swh:1:cnt:83baae61804e65cc73a7201a7252750c76066a30", "OUT"]],
+            runs: &[&[
+                "cook",
+                "A",
+                "swh:1:cnt:83baae61804e65cc73a7201a7252750c76066a30",
+                "OUT",
+            ]],
             statuses: &[0],
             printed: b"swh:1:cnt:83baae61804e65cc73a7201a7252750c76066a30\t-\n",
             leaves: None,
@@ -179,8 +216,18 @@ const FOLDERS: &[Cooked] = &[
             name: "two directories, of which one is empty",
             setting: HELD,
             runs: &[
-                &["cook", "A", "swh:1:dir:4b825dc642cb6eb9a060e54bf8d69288fbee4904", "none"],
-                &["cook", "A", "swh:1:dir:d8329fc1cc938780ffdd9f94e0d364e0ea74f579;path=/x", "one"],
+                &[
+                    "cook",
+                    "A",
+                    "swh:1:dir:4b825dc642cb6eb9a060e54bf8d69288fbee4904",
+                    "none",
+                ],
+                &[
+                    "cook",
+                    "A",
+                    "swh:1:dir:d8329fc1cc938780ffdd9f94e0d364e0ea74f579;path=/x",
+                    "one",
+                ],
             ],
             statuses: &[0, 0],
             printed: b"swh:1:dir:4b825dc642cb6eb9a060e54bf8d69288fbee4904\t-\nswh:1:dir:d8329fc1cc938780ffdd9f94e0d364e0ea74f579\t-\n",
@@ -206,7 +253,10 @@ const REFUSED: &[Cooked] = &[
         Case {
             name: "no SWHIDs",
             setting: BARE,
-            runs: &[&["cook", "A", "swh:1:cnt:x", "OUT"], &["cook", "A", "", "OUT"]],
+            runs: &[
+                &["cook", "A", "swh:1:cnt:x", "OUT"],
+                &["cook", "A", "", "OUT"],
+            ],
             statuses: &[1, 1],
             printed: b"swharc: no swhid 10\nswharc: no swhid 0\n",
             leaves: None,
@@ -229,9 +279,24 @@ const REFUSED: &[Cooked] = &[
             name: "names that are not held",
             setting: HELD,
             runs: &[
-                &["cook", "A", "swh:1:cnt:4b825dc642cb6eb9a060e54bf8d69288fbee4904", "OUT"],
-                &["cook", "A", "swh:1:rev:93fbec691ed551b0cd0694416577872a39e6982f", "OUT"],
-                &["cook", "A", "swh:1:dir:93fbec691ed551b0cd0694416577872a39e6982f", "OUT"],
+                &[
+                    "cook",
+                    "A",
+                    "swh:1:cnt:4b825dc642cb6eb9a060e54bf8d69288fbee4904",
+                    "OUT",
+                ],
+                &[
+                    "cook",
+                    "A",
+                    "swh:1:rev:93fbec691ed551b0cd0694416577872a39e6982f",
+                    "OUT",
+                ],
+                &[
+                    "cook",
+                    "A",
+                    "swh:1:dir:93fbec691ed551b0cd0694416577872a39e6982f",
+                    "OUT",
+                ],
             ],
             statuses: &[1, 1, 1],
             printed: b"swharc: not held swh:1:cnt:4b825dc642cb6eb9a060e54bf8d69288fbee4904\n\
@@ -245,8 +310,18 @@ swharc: not held swh:1:dir:2222222222222222222222222222222222222222\nswharc: not
             name: "what a stream cannot carry",
             setting: HELD,
             runs: &[
-                &["cook", "A", "swh:1:rev:96a9786356688a9b9ea40920cc289238ba66a83b", "OUT"],
-                &["cook", "A", "swh:1:rev:78efb83a3d56b3d812ac366cbd81f14a2bb9caa5", "OUT"],
+                &[
+                    "cook",
+                    "A",
+                    "swh:1:rev:96a9786356688a9b9ea40920cc289238ba66a83b",
+                    "OUT",
+                ],
+                &[
+                    "cook",
+                    "A",
+                    "swh:1:rev:78efb83a3d56b3d812ac366cbd81f14a2bb9caa5",
+                    "OUT",
+                ],
             ],
             statuses: &[1, 1],
             printed: b"swharc: uncarried swh:1:rev:96a9786356688a9b9ea40920cc289238ba66a83b revision\n\
@@ -262,56 +337,69 @@ fn what_is_not_cooked_leaves_the_yard(rt: HostRuntime) -> Result<(), Fail> {
     all_cooked(rt.alloc(), REFUSED)
 }
 
-/// The archive of all kinds, with a yard of which this call fails.
-const fn failing(number: u64) -> Setting<'static> {
-    Setting {
-        yard_fails: Some(number),
-        ..HELD
-    }
-}
+const CONTENT: &[&str] = &[
+    "cook",
+    "A",
+    "swh:1:cnt:83baae61804e65cc73a7201a7252750c76066a30",
+    "OUT",
+];
 
-const CONTENT: &[&str] = &["cook", "A", "swh:1:cnt:83baae61804e65cc73a7201a7252750c76066a30", "OUT"];
-
-const OUTSIDE: &[u8] = b"swharc: outside yard\n";
-
-const fn fault(
-    name: &'static str,
-    number: u64,
-    words: &'static [&'static [&'static str]],
-) -> Case<'static> {
+const THERE_ALREADY: &[Cooked] = &[(
     Case {
-        name,
-        setting: failing(number),
-        runs: words,
-        statuses: &[4],
-        printed: OUTSIDE,
+        name: "what is there already",
+        setting: HELD,
+        runs: &[CONTENT, CONTENT, WIDE],
+        statuses: &[0, 4, 4],
+        printed: b"swh:1:cnt:83baae61804e65cc73a7201a7252750c76066a30\t-\nswharc: outside yard\nswharc: outside yard\n",
         leaves: None,
-    }
+    },
+    &[File("OUT", b"version 1\n")],
+)];
+
+#[test]
+fn what_is_there_stays(rt: HostRuntime) -> Result<(), Fail> {
+    all_cooked(rt.alloc(), THERE_ALREADY)
 }
 
-const FAULTS: &[Cooked] = &[
-    (fault("a content's file", 0, &[CONTENT]), &[]),
-    (fault("a content's bytes", 1, &[CONTENT]), &[File("OUT", b"versi")]),
-    (fault("the folder", 0, &[WIDE]), &[]),
-    (fault("its first file", 1, &[WIDE]), &[Folder("OUT")]),
+/// A cook from the archive of all kinds: what fails, the number of that call of the yard, the words, and what then stands in
+/// the yard.
+type Failing = (
+    &'static str,
+    u64,
+    &'static [&'static str],
+    &'static [Grown<'static>],
+);
+
+const FAULTS: &[Failing] = &[
+    ("a content's file", 0, CONTENT, &[]),
+    ("a content's bytes", 1, CONTENT, &[File("OUT", b"versi")]),
+    ("the folder", 0, WIDE, &[]),
+    ("its first file", 1, WIDE, &[Folder("OUT")]),
     (
-        fault("that file's bytes", 2, &[WIDE]),
+        "that file's bytes",
+        2,
+        WIDE,
         &[Folder("OUT"), File("OUT/a", b"versi")],
-    ),
-    (
-        Case {
-            name: "what is there already",
-            setting: HELD,
-            runs: &[CONTENT, CONTENT, WIDE],
-            statuses: &[0, 4, 4],
-            printed: b"swh:1:cnt:83baae61804e65cc73a7201a7252750c76066a30\t-\nswharc: outside yard\nswharc: outside yard\n",
-            leaves: None,
-        },
-        &[File("OUT", b"version 1\n")],
     ),
 ];
 
 #[test]
 fn each_call_of_the_yard_may_fail(rt: HostRuntime) -> Result<(), Fail> {
-    all_cooked(rt.alloc(), FAULTS)
+    for (name, number, words, grown) in FAULTS {
+        let case = Case {
+            name: *name,
+            setting: Setting {
+                yard_fails: Some(*number),
+                ..HELD
+            },
+            runs: &[*words],
+            statuses: &[4],
+            printed: b"swharc: outside yard\n",
+            leaves: None,
+        };
+        if !is_met_leaving(rt.alloc(), &case, grown)? {
+            return Err(Fail::new(name));
+        }
+    }
+    Ok(())
 }

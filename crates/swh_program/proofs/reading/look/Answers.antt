@@ -1,5 +1,4 @@
-use Rattle.std.proofs.Common.{refl}
-use Rattle.swh_program.specs.declared.reading.Reading.TheVariants.{Ask, Check, Cook}
+use Rattle.swh_program.specs.declared.reading.Reading.TheVariants.{Ask, Cook}
 use Rattle.swh_program.proofs.Cooked.{told_as, leaves_as}
 use Rattle.swh_program.proofs.reading.look.Goals as goal
 
@@ -11,9 +10,9 @@ returns-in-Ask-clause-told g c =
 pub returns-in-Cook-clause-told : goal.returns-in-Cook-clause-told
 returns-in-Cook-clause-told g c =
     let shown = c.replayed-in-Cook.ensures c.requires in
-    told_as g.N.Namer.id_of _ _ (Cook c.in-Cook.name.now c.in-Cook.out) c.in-Cook.is _ c.tell_cook.result (rw shown at c.tell_cook.ensures.told)
+    told_as g.N.Namer.id_of _ _ (Cook c.in-Cook.name c.in-Cook.out) c.in-Cook.is _ c.tell_cook.result (rw shown at c.tell_cook.ensures.told)
 
 pub returns-in-Cook-clause-leaves : goal.returns-in-Cook-clause-leaves
 returns-in-Cook-clause-leaves g c =
     let shown = c.replayed-in-Cook.ensures c.requires in
-    leaves_as _ _ (Cook c.in-Cook.name.now c.in-Cook.out) c.in-Cook.is _ c.tell_cook.result (rw shown at c.tell_cook.ensures.leaves)
+    leaves_as _ _ (Cook c.in-Cook.name c.in-Cook.out) c.in-Cook.is _ c.tell_cook.result (rw shown at c.tell_cook.ensures.leaves)
