@@ -105,6 +105,7 @@ abbrev pub end_room : End → ℕ
 end_room (Failed bad) = bad_room bad
 end_room end = detail_room
 
+-- the most bytes of what a load came to
 abbrev pub outcome_room : Result Loaded LoadFault → ℕ
 outcome_room (Ok loaded) = end_room loaded.end
 outcome_room (Err fault) = detail_room

@@ -33,6 +33,7 @@ pub struct Setting<'a> {
     pub other_input: Option<&'a [Piece<'a>]>,
     pub files: &'a [StandingFile<'a>],
     pub folders: &'a [StandingFolder<'a>],
+    pub yard_fails: Option<u64>,
     pub clock_fails: Option<u64>,
     pub sink_fails: Option<u64>,
 }
@@ -55,6 +56,7 @@ pub const BARE: Setting<'static> = Setting {
     other_input: None,
     files: &[],
     folders: &[],
+    yard_fails: None,
     clock_fails: None,
     sink_fails: None,
 };
