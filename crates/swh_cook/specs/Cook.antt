@@ -48,9 +48,11 @@ module _ (bodies : Bodies) (children_of : Name → Option (List Name)) (root : N
   abbrev pub AreMade : List ℕ → List Made → Type 0
   AreMade out made = AreMadeOf root.kind out made
 
+  -- All that is reached from the root is held, and the form of its kind carries it.
   abbrev pub IsCarried : Type 0
   IsCarried = IsCarriedOf root.kind
 
+  -- All that is reached from the root is held, and of it this is the first that the form of its kind cannot carry.
   abbrev pub IsUncarried : Name → Why → Type 0
   IsUncarried name why = IsUncarriedOf root.kind name why
 

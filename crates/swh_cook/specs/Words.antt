@@ -3,6 +3,7 @@ use Rattle.std.specs.Prelude.{ℕ, List, codes}
 use Rattle.swh_carried.specs.declared.fault.Why.{Why}
 use Rattle.swh_carried.specs.declared.fault.Why.TheVariants.{Cycle, Revision, Release, Empty, Dots, Text, Path, Branch, Tagless, Refs, Length}
 
+-- the word of a rule that an object breaks
 abbrev pub why_word : Why → List ℕ
 why_word Cycle = codes "cycle"
 why_word Revision = codes "revision"

@@ -65,11 +65,13 @@ TellsUncooked fault.Memory answer = answer ≡ Memory
 -- The text tells why the name is not cooked: of what is reached the first that is not held, or the first that its form cannot
 -- carry.
 module _ (a : Archive) (name : Name) (children_of : Name → Option (List Name)) where
+  -- The text tells the first name that a walk enters and that is not held.
   pub record TellsMissing (text : List ℕ) : Type 0 where
     pub missing : Name
     pub is : IsFirstMissing children_of name missing
     pub text_is : text ≡ not_held_line missing
 
+  -- The text tells the first that its form cannot carry, and why.
   pub record TellsUncarried (text : List ℕ) : Type 0 where
     pub first : Name
     pub why : Why
