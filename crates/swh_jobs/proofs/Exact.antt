@@ -4,7 +4,8 @@ use Rattle.std.proofs.lemmas.List.{append-nil}
 use Rattle.std.specs.List.{AllByRecursion}
 use Rattle.swh_base.proofs.Splits.{not_nil}
 use Rattle.swh_jobs.specs.Answers.{ExplainsJobs, SpellsNone}
-use Rattle.swh_jobs.specs.Job.{Job, IsJob, line_text}
+use Rattle.swh_jobs.specs.Job.{Job, JobInput, IsJob, fields_of, fields_text, line_text}
+use Rattle.swh_jobs.specs.Job.JobInput.{StreamAt, FolderAt, BatchAt}
 use Rattle.swh_jobs.specs.JobFile.{AreJobs, LineBreaks, EndsLine, IsJobFileFault, IsJobFile, lines_text}
 use Rattle.swh_jobs.specs.declared.fault.JobWhy.{JobWhy}
 use Rattle.swh_jobs.specs.declared.fault.JobWhy.TheVariants.{Form, Origin, Limit}
@@ -17,9 +18,14 @@ lines-not_nil : (job : Job) (jobs : List Job) → [] ≡ lines_text (job ∷ job
 lines-not_nil job jobs e = not_nil (line_text job) (lines_text jobs) 10 (sym e)
 
 -- no job's line is empty
+feed-no_fields : (url more : List ℕ) (input : JobInput) → 10 ∷ [] ≡ fields_text url (fields_of input) ++ more → ⊥
+feed-no_fields url more (StreamAt path head) e = cc
+feed-no_fields url more (FolderAt path modes) e = cc
+feed-no_fields url more (BatchAt path refs) e = cc
+
 feed-no_lines : (jobs : List Job) → 10 ∷ [] ≡ lines_text jobs → ⊥
 feed-no_lines [] e = cc
-feed-no_lines (job ∷ jobs) e = cc
+feed-no_lines (job ∷ jobs) e = feed-no_fields job.url (10 ∷ lines_text jobs) job.input e
 
 -- the same lines
 same_lines : (jobs others : List Job) → AllByRecursion IsJob jobs → AllByRecursion IsJob others → lines_text jobs ≡ lines_text others → jobs ≡ others

@@ -5,21 +5,44 @@ use Rattle.std.specs.List.{AllByRecursion}
 use Rattle.std.specs.Prelude.{IfSome}
 use Rattle.swh_base.proofs.Splits.{first_split, absent, not_nil}
 use Rattle.swh_pieces.proofs.Middle.{in_middle}
-use Rattle.swh_jobs.specs.Job.{Job, IsJob, IsHeadText, head_text, line_text}
+use Rattle.swh_base.specs.Visit.{visit_kind_word}
+use Rattle.swh_base.specs.declared.visit.VisitKind.{VisitKind}
+use Rattle.swh_base.specs.declared.visit.VisitKind.TheVariants.{Fast, Dir, Batch}
+use Rattle.swh_jobs.specs.Job.{Job, JobInput, HasNoFeed, IsJob, IsJobInput, IsJobPath, IsHeadText, fields_of, more_text, line_text}
+use Rattle.swh_jobs.specs.Job.JobInput.{StreamAt, FolderAt, BatchAt}
 use Rattle.swh_jobs.specs.JobFile.{BeginsJob, EndsLine, lines_text}
 use Rattle.swh_jobs.specs.Reading.{IsFirstLine, IsLeft}
 use Rattle.swh_base.proofs.Lacks.{not_in_middle, ref-no_feed}
 use Rattle.swh_jobs.proofs.Cuts.{url-no_feed, one_job}
 
-path-no_feed : (path : List ℕ) (head : Option (List ℕ)) → (Contains path 10 → ⊥) → IfSome head IsHeadText → Contains (path ++ head_text head) 10 → ⊥
-path-no_feed path None none h c = none (subst (λ (l : List ℕ). Contains l 10) (append-nil path) c)
-path-no_feed path (Some head) none h c = not_in_middle path head 9 10 none (λ e. absurd (omega arith)) (ref-no_feed head h.is_ref) c
+end-no_feed : (path : List ℕ) (more : Option (List ℕ)) → (Contains path 10 → ⊥) → IfSome more HasNoFeed → Contains (path ++ more_text more) 10 → ⊥
+end-no_feed path None none h c = none (subst (λ (l : List ℕ). Contains l 10) (append-nil path) c)
+end-no_feed path (Some more) none h c = not_in_middle path more 9 10 none (λ e. absurd (omega arith)) h c
+
+head-no_feed : (head : Option (List ℕ)) → IfSome head IsHeadText → IfSome head HasNoFeed
+head-no_feed None h = tt
+head-no_feed (Some head) h = ref-no_feed head h.is_ref
+
+modes-no_feed : (modes : Option (List ℕ)) → IfSome modes IsJobPath → IfSome modes HasNoFeed
+modes-no_feed None h = tt
+modes-no_feed (Some modes) h = h.no_feed
+
+fields-no_feed : (input : JobInput) → IsJobInput input → Contains ((fields_of input).path ++ more_text (fields_of input).more) 10 → ⊥
+fields-no_feed (StreamAt path head) h = end-no_feed path head h.0.no_feed (head-no_feed head h.1)
+fields-no_feed (FolderAt path modes) h = end-no_feed path modes h.0.no_feed (modes-no_feed modes h.1)
+fields-no_feed (BatchAt path refs) h = end-no_feed path (Some refs) h.0.no_feed h.1.no_feed
+
+word-no_feed : (kind : VisitKind) → Contains (visit_kind_word kind) 10 → ⊥
+word-no_feed Fast = absent 10 (codes "fast") refl
+word-no_feed Dir = absent 10 (codes "dir") refl
+word-no_feed Batch = absent 10 (codes "batch") refl
 
 -- the line of a job has no LF
 pub line-no_feed : (job : Job) → IsJob job → Contains (line_text job) 10 → ⊥
 line-no_feed job h =
-    not_in_middle (codes "fast") (job.url ++ 9 ∷ (job.path ++ head_text job.head)) 9 10 (absent 10 (codes "fast") refl) (λ e. absurd (omega arith))
-    (not_in_middle job.url (job.path ++ head_text job.head) 9 10 (url-no_feed job.url h.is_url) (λ e. absurd (omega arith)) (path-no_feed job.path job.head h.is_path.no_feed h.is_head))
+    let f = fields_of job.input in
+    not_in_middle (visit_kind_word f.kind) (job.url ++ 9 ∷ (f.path ++ more_text f.more)) 9 10 (word-no_feed f.kind) (λ e. absurd (omega arith))
+    (not_in_middle job.url (f.path ++ more_text f.more) 9 10 (url-no_feed job.url h.is_url) (λ e. absurd (omega arith)) (fields-no_feed job.input h.is_input))
 
 -- the first of lines determines its job, and what follows
 pub one_front : (a b : Job) (x y : List ℕ) → IsJob a → IsJob b → line_text a ++ 10 ∷ x ≡ line_text b ++ 10 ∷ y → (a ≡ b) × (x ≡ y)

@@ -1,14 +1,23 @@
 -- What the reader answers.
-use Rattle.std.specs.Prelude.{ℕ, List, map, string_bytes}
-use Rattle.swh_jobs.specs.Job.{Job}
+use Rattle.std.specs.Prelude.{ℕ, List, Option, option_map, map, string_bytes}
+use Rattle.swh_jobs.specs.Job.{Job, JobInput}
+use Rattle.swh_jobs.specs.Job.JobInput.{StreamAt, FolderAt, BatchAt}
 use Rattle.swh_jobs.specs.JobFile.{IsJobFile, IsJobFileFault}
 use Rattle.swh_jobs.specs.declared.fault.JobsFault.{JobsFault}
 use Rattle.swh_jobs.specs.declared.fault.JobsFault.TheVariants.{Bad, Memory}
+use Rattle.swh_jobs.specs.declared.job.JobInput.{JobInput as OwnedInput}
+use Rattle.swh_jobs.specs.declared.job.JobInput.TheVariants.{Fast, Dir, Batch}
 use Rattle.swh_jobs.specs.declared.job.JobLine.{JobLine}
+
+-- an input in memory of its own, as the grammar's
+abbrev pub input_of : OwnedInput → JobInput
+input_of (Fast path head) = StreamAt (string_bytes path) head
+input_of (Dir path modes) = FolderAt (string_bytes path) (option_map string_bytes modes)
+input_of (Batch path refs) = BatchAt (string_bytes path) (string_bytes refs)
 
 -- a job of its own, as the grammar's
 abbrev pub job_of : JobLine → Job
-job_of line = record { url = line.url; path = string_bytes line.path; head = line.head }
+job_of line = record { url = line.url; input = input_of line.input }
 
 -- jobs of their own, as the grammar's
 abbrev pub owned_jobs : List JobLine → List Job

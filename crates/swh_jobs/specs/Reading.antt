@@ -5,16 +5,21 @@ use Rattle.std.specs.Borrow.{Bor}
 use Rattle.std.specs.Cmp.Lexicographic.{slice_cmp}
 use Rattle.std.specs.List.{list_any}
 use Rattle.std.specs.Ordering.{nat_cmp}
-use Rattle.swh_jobs.specs.Job.{Job, IsJob, line_text}
+use Rattle.swh_jobs.specs.Job.{Job, JobInput, Fields, IsJob, IsJobInput, fields_of, fields_text}
 use Rattle.swh_jobs.specs.JobFile.{LineBreaks, lines_text, most_jobs, origins}
 use Rattle.swh_jobs.specs.declared.fault.JobsFault.{JobsFault}
 use Rattle.swh_jobs.specs.declared.fault.JobsFault.TheVariants.{Bad, Memory}
 
--- These are the fields of the line, between its TABs, whether or not they are fields of a job.
-pub record HasFields (line : List ℕ) (job : Job) : Type 0 where
-  pub text : line ≡ line_text job
-  pub url_no_tab : Contains job.url 9 → ⊥
-  pub path_no_tab : Contains job.path 9 → ⊥
+-- These are the URL and the fields of the line, between its TABs, whether or not they are those of a job.
+pub record HasFields (line url : List ℕ) (f : Fields) : Type 0 where
+  pub text : line ≡ fields_text url f
+  pub url_no_tab : Contains url 9 → ⊥
+  pub path_no_tab : Contains f.path 9 → ⊥
+
+-- The fields are those of this input, which is a job's.
+pub record IsInputOf (f : Fields) (input : JobInput) : Type 0 where
+  pub is_input : IsJobInput input
+  pub are : fields_of input ≡ f
 
 -- The bytes begin with this line, which is given without its LF, and go on with `rest`.
 pub record IsFirstLine (bytes line rest : List ℕ) : Type 0 where

@@ -1,4 +1,4 @@
-//! Job files: which origins are loaded, and where their streams stand.
+//! Job files: which origins are loaded, and where their inputs stand: streams, folders with listings, and batches with refs.
 //! Stands on `swh_base` and `swh_pieces`.
 //! Callers may rely on: exactly the grammar is read, and a refusal names the first line that breaks and why.
 #![tactic(auto)]
@@ -11,7 +11,7 @@ mod line;
 mod reading;
 
 pub use fault::{JobWhy, JobsFault};
-pub use job::JobLine;
+pub use job::{JobInput, JobLine};
 pub use laws::{fault_of_front, longest, no_jobs, one_fault, one_reading};
-pub use limits::{JOBS_LIMIT, LONGEST, STREAM_PATH_LIMIT};
+pub use limits::{INPUT_PATH_LIMIT, JOBS_LIMIT, LONGEST};
 pub use reading::parse_jobs;

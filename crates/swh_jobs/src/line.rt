@@ -1,46 +1,73 @@
 //! The job of one line.
-ghost use Rattle.std.specs.Prelude.{◌≡◌, ◌++◌, ◌↔◌, Contains, IsTrue, IfSome, IfNone, IsUtf8};
+ghost use Rattle.std.specs.Prelude.{◌≡◌, ◌++◌, ◌∷◌, ◌↔◌, ℕ, List, Contains, IsTrue, IfSome, IfNone, IsUtf8};
 ghost use Rattle.std.specs.Option.{option_copied};
 ghost use Rattle.swh_base.specs.Url.{IsUrl};
-ghost use Rattle.swh_jobs.specs.Job.{Job, IsJobPath, IsHeadText, IsLineOf, head_text};
-ghost use Rattle.swh_jobs.specs.Reading.{HasFields};
-ghost use Rattle.swh_jobs.specs.Spelled.{job_of_fields, spelled_job};
+ghost use Rattle.swh_base.specs.Visit.{visit_kind_word};
+ghost use Rattle.swh_base.specs.declared.visit.VisitKind.{VisitKind as Kind};
+ghost use Rattle.swh_base.specs.declared.visit.VisitKind.TheVariants.{Fast, Dir, Batch};
+ghost use Rattle.swh_jobs.specs.Job.{Job, JobInput, Fields, HasNoFeed, IsJobPath, IsHeadText, IsLineOf, fields, more_text};
+ghost use Rattle.swh_jobs.specs.Reading.{HasFields, IsInputOf};
+ghost use Rattle.swh_jobs.specs.Spelled.{fields_cut, spelled_input, spelled_job};
 
-use crate::job::SpelledJob;
-use crate::limits::STREAM_PATH_LIMIT;
-use swh_base::{is_ref, is_url};
+use crate::job::{SpelledInput, SpelledJob};
+use crate::limits::INPUT_PATH_LIMIT;
+use swh_base::{VisitKind, is_ref, is_url};
 use swh_pieces::{behind, split_at_byte};
 
-/// What stands between the TABs of a line, which is not looked at yet.
+/// What stands between the TABs of a line, which is not looked at yet: the kind of the input, the URL, the path, and what
+/// stands behind that.
 #[derive(Clone, Copy)]
-struct Fields<'a> {
+struct Cut<'a> {
+    kind: VisitKind,
     url: &'a [u8],
     path: &'a [u8],
-    head: Option<&'a [u8]>,
+    more: Option<&'a [u8]>,
 }
 
-// The path, and the head where one follows it.
-fn path_and_head(bytes: &[u8]) -> (&[u8], Option<&[u8]>)
-    ensures { (Contains result.0.now 9 → ⊥) × (bytes.now ≡ result.0.now ++ head_text (option_copied result.1)) }
+// The kind of the input, and what stands behind its word and a TAB.
+fn kind_and_rest(line: &[u8]) -> Option<(VisitKind, &[u8])>
+    ensures some { IfSome result (λ x. line.now ≡ visit_kind_word x.0 ++ 9 ∷ x.1.now) }
+    ensures none { IfNone result ((kind : Kind) (rest : List ℕ) → line.now ≡ visit_kind_word kind ++ 9 ∷ rest → ⊥) }
+{
+    if let Some(rest) = behind(b"fast\t", line) {
+        return Some((VisitKind::Fast, rest));
+    }
+    if let Some(rest) = behind(b"dir\t", line) {
+        return Some((VisitKind::Dir, rest));
+    }
+    if let Some(rest) = behind(b"batch\t", line) {
+        return Some((VisitKind::Batch, rest));
+    }
+    None
+}
+
+// The path, and what stands behind it where a TAB follows.
+fn path_and_more(bytes: &[u8]) -> (&[u8], Option<&[u8]>)
+    ensures { (Contains result.0.now 9 → ⊥) × (bytes.now ≡ result.0.now ++ more_text (option_copied result.1)) }
 {
     match split_at_byte(bytes, b'\t') {
-        Some((path, head)) => (path, Some(head)),
+        Some((path, more)) => (path, Some(more)),
         None => (bytes, None),
     }
 }
 
-fn cut_line(line: &[u8]) -> Option<Fields<'_>>
-    ensures some { IfSome result (λ fields. HasFields line.now (job_of_fields fields)) }
-    ensures none { IfNone result ((job : Job) → HasFields line.now job → ⊥) }
+fn cut_line(line: &[u8]) -> Option<Cut<'_>>
+    ensures some { IfSome result (λ cut. HasFields line.now cut.url.now (fields_cut cut)) }
+    ensures none { IfNone result ((url : List ℕ) (fields : Fields) → HasFields line.now url fields → ⊥) }
 {
-    let Some(rest) = behind(b"fast\t", line) else {
+    let Some((kind, rest)) = kind_and_rest(line) else {
         return None;
     };
     let Some((url, last)) = split_at_byte(rest, b'\t') else {
         return None;
     };
-    let (path, head) = path_and_head(last);
-    Some(Fields { url, path, head })
+    let (path, more) = path_and_more(last);
+    Some(Cut {
+        kind,
+        url,
+        path,
+        more,
+    })
 }
 
 // The URL as text, where it is one.
@@ -56,12 +83,14 @@ fn url_text(url: &[u8]) -> Option<&str>
 
 // The path as text, where it is one of a job.
 fn path_text(path: &[u8]) -> Option<&str>
-    requires no_tab { Contains path.now 9 → ⊥ }
-    requires no_feed { Contains path.now 10 → ⊥ }
+    requires { HasNoFeed path.now }
     ensures some { IfSome result (λ text. IsJobPath path.now × (text.now ≡ path.now)) }
     ensures none { IfNone result (IsJobPath path.now → ⊥) }
 {
-    if path.is_empty() || path.len() > STREAM_PATH_LIMIT {
+    if path.is_empty() || path.len() > INPUT_PATH_LIMIT {
+        return None;
+    }
+    if let Some(_) = split_at_byte(path, b'\t') {
         return None;
     }
     str::from_utf8(path).ok()
@@ -89,28 +118,92 @@ fn may_end(head: Option<&[u8]>) -> bool
     }
 }
 
-/// The job that a line spells: `fast`, the URL, the path and, where one is named, the head, with TABs between. None
+// The stream at a path, where what stands behind the path is a head or nothing.
+fn stream_at<'a>(path: &'a str, more: Option<&'a [u8]>) -> Option<SpelledInput<'a>>
+    requires { IsJobPath path.now }
+    ensures some { IfSome result (λ input. IsInputOf (fields Fast path.now (option_copied more.entry))
+        (spelled_input input)) }
+    ensures none { IfNone result ((input : JobInput)
+        → IsInputOf (fields Fast path.now (option_copied more.entry)) input → ⊥) }
+{
+    if !may_end(more) {
+        return None;
+    }
+    Some(SpelledInput::Fast { path, head: more })
+}
+
+// The folder at a path, where what stands behind the path is that of a listing or nothing.
+fn folder_at<'a>(path: &'a str, more: Option<&'a [u8]>) -> Option<SpelledInput<'a>>
+    requires path { IsJobPath path.now }
+    requires no_feed { IfSome (option_copied more) HasNoFeed }
+    ensures some { IfSome result (λ input. IsInputOf (fields Dir path.now (option_copied more.entry))
+        (spelled_input input)) }
+    ensures none { IfNone result ((input : JobInput)
+        → IsInputOf (fields Dir path.now (option_copied more.entry)) input → ⊥) }
+{
+    let Some(more) = more else {
+        return Some(SpelledInput::Dir { path, modes: None });
+    };
+    let Some(modes) = path_text(more) else {
+        return None;
+    };
+    Some(SpelledInput::Dir {
+        path,
+        modes: Some(modes),
+    })
+}
+
+// The batch at a path, where what stands behind the path is that of its refs.
+fn batch_at<'a>(path: &'a str, more: Option<&'a [u8]>) -> Option<SpelledInput<'a>>
+    requires path { IsJobPath path.now }
+    requires no_feed { IfSome (option_copied more) HasNoFeed }
+    ensures some { IfSome result (λ input. IsInputOf (fields Batch path.now (option_copied more.entry))
+        (spelled_input input)) }
+    ensures none { IfNone result ((input : JobInput)
+        → IsInputOf (fields Batch path.now (option_copied more.entry)) input → ⊥) }
+{
+    let Some(more) = more else {
+        return None;
+    };
+    let Some(refs) = path_text(more) else {
+        return None;
+    };
+    Some(SpelledInput::Batch { path, refs })
+}
+
+// The input that fields of a line spell.
+fn input_at<'a>(cut: &Cut<'a>) -> Option<SpelledInput<'a>>
+    requires path { HasNoFeed cut.now.path.now }
+    requires more { IfSome (option_copied cut.now.more) HasNoFeed }
+    ensures some { IfSome result (λ input. IsInputOf (fields_cut cut.now) (spelled_input input)) }
+    ensures none { IfNone result ((input : JobInput) → IsInputOf (fields_cut cut.now) input → ⊥) }
+{
+    let Some(path) = path_text(cut.path) else {
+        return None;
+    };
+    match cut.kind {
+        VisitKind::Fast => stream_at(path, cut.more),
+        VisitKind::Dir => folder_at(path, cut.more),
+        VisitKind::Batch => batch_at(path, cut.more),
+    }
+}
+
+/// The job that a line spells: the kind of its input, the URL, the path, and then for a stream the head, where one is named,
+/// for a folder the path of its listing, where it has one, and for a batch the path of its refs, with TABs between. None
 /// where the line spells no job.
 pub fn spelled_line(line: &[u8]) -> Option<SpelledJob<'_>>
-    requires { Contains line.now 10 → ⊥ }
+    requires { HasNoFeed line.now }
     ensures some { IfSome result (λ job. IsLineOf line.now (spelled_job job)) }
     ensures none { IfNone result ((job : Job) → IsLineOf line.now job → ⊥) }
 {
-    let Some(fields) = cut_line(line) else {
+    let Some(cut) = cut_line(line) else {
         return None;
     };
-    let Some(url) = url_text(fields.url) else {
+    let Some(url) = url_text(cut.url) else {
         return None;
     };
-    let Some(path) = path_text(fields.path) else {
+    let Some(input) = input_at(&cut) else {
         return None;
     };
-    if !may_end(fields.head) {
-        return None;
-    }
-    Some(SpelledJob {
-        url,
-        path,
-        head: fields.head,
-    })
+    Some(SpelledJob { url, input })
 }

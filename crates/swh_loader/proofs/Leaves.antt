@@ -1,99 +1,184 @@
 -- What a load leaves, by what reading its input gave.
-use Rattle.std.proofs.Common.{◌≡◌, inl, inr, ℕ, Result, Ok, Option, List, [], ◌∷◌, refl, sym, ap, subst, le_refl}
+use Rattle.std.proofs.Common.{◌≡◌, inl, inr, ℕ, ◌≤◌, Result, Ok, Option, Some, None, List, [], ◌∷◌, length, refl, sym, ap, subst, le_refl, arith}
+use Rattle.std.specs.Prelude.{IfSome}
 use Rattle.std.specs.List.{AllByRecursion}
 use Rattle.swh_base.specs.declared.kind.Kind.{Kind}
 use Rattle.swh_base.specs.declared.entry.Entry.{Entry}
-use Rattle.swh_outside.specs.Views.{Sources}
+use Rattle.swh_base.specs.declared.visit.VisitKind.{VisitKind}
+use Rattle.swh_base.specs.declared.visit.VisitKind.TheVariants as kind
+use Rattle.swh_base.specs.Limits.{path_limit}
 use Rattle.swh_outside.specs.declared.fault.Opened.{Opened}
 use Rattle.swh_outside.specs.declared.fault.Opened.TheVariants as opened
 use Rattle.swh_model.specs.Archive.{Bodies}
 use Rattle.swh_made.specs.declared.objects.Objects.{Objects}
 use Rattle.swh_made.specs.Whole.{HasAllThatIsReached}
-use Rattle.swh_fastload.specs.Input.{Means}
 use Rattle.swh_fastload.specs.Loaded.{making_of}
 use Rattle.swh_walk.specs.declared.end.End as walk
 use Rattle.swh_walk.specs.declared.end.End.TheVariants.{Full, NotFound, Unread, Bad, Met}
-use Rattle.swh_walk.specs.declared.input.Input.{Input}
+use Rattle.swh_walk.specs.declared.input.Input.{Input as Given}
 use Rattle.swh_walk.specs.declared.input.Input.TheVariants as given
+use Rattle.swh_walk.specs.declared.input.Opening.{Opening}
+use Rattle.swh_walk.specs.declared.input.Opening.TheVariants as opening
 use Rattle.swh_walk.specs.Loading as walking
 use Rattle.swh_walk.specs.Owning.{AreAmong}
 use Rattle.swh_walk.proofs.Closes.{whole_good}
+use Rattle.swh_inputs.specs.Input.{InputText, MeansInput, MayBreakInput}
+use Rattle.swh_inputs.specs.Opening.{kind_of, opening_of}
+use Rattle.swh_inputs.specs.Parts.{Parts, Folders, IfTold, TellAll, text_of, IsSameInput, IsSamePart, IsSameListing, IsSameSource, IsSameFolder}
+use Rattle.swh_inputs.specs.Reading.{IsRead}
+use Rattle.swh_inputs.specs.declared.bad.BadText.{BadText}
+use Rattle.swh_inputs.specs.declared.bad.BadText.TheVariants as broken
+use Rattle.swh_inputs.specs.declared.bad.InputFault.{InputFault}
+use Rattle.swh_inputs.specs.declared.bad.InputFault.TheVariants as fault
+use Rattle.swh_inputs.specs.declared.input.Input.{Input}
+use Rattle.swh_inputs.specs.declared.input.Input.TheVariants.{Fast, Dir, Batch}
 use Rattle.swh_loader.specs.declared.end.BadInput.{BadInput}
 use Rattle.swh_loader.specs.declared.end.BadInput.TheVariants.{Broken, Collision, Read}
 use Rattle.swh_loader.specs.declared.end.End.{End}
-use Rattle.swh_loader.specs.Ending.{MeansObjects, IsMadeBy, AreMadeBy, IsJobEnd, statuses_of}
-use Rattle.swh_loader.specs.Leaving.{AreAllowed, IsSameInput}
-use Rattle.swh_loader.specs.Reading.{Broke, IsReadInput, end_for, opening_for}
+use Rattle.swh_loader.specs.declared.end.End.TheVariants as reported
+use Rattle.swh_loader.specs.Ending.{MeansObjects, IsMadeBy, AreMadeBy, IsEndOf, IsEndAt, IsJobEnd, end_for, statuses_of}
+use Rattle.swh_loader.specs.Leaving.{AreAllowed, AreAllowedAt}
+use Rattle.swh_loader.specs.Report.{detail_limit, end_room, text_room}
 
 -- the statuses of an end are those of its report
-pub same_statuses : (end : walk.End BadInput) → walking.statuses_of end ≡ statuses_of (end_for end)
+pub same_statuses : (end : walk.End InputFault) → walking.statuses_of end ≡ statuses_of (end_for end)
 same_statuses (Full snapshot) = refl
 same_statuses NotFound = refl
 same_statuses Unread = refl
-same_statuses (Bad bad) = refl
+same_statuses (Bad (fault.Bad bad)) = refl
+same_statuses (Bad fault.ReadFault) = refl
 same_statuses (Met name) = refl
 
-made_by : (id : Kind → List ℕ → List ℕ) (head : Option (List ℕ)) (text : List ℕ) (objects : List Entry) (snapshot : List ℕ) → MeansObjects id head text objects snapshot → (entries : List Entry) → AreAmong objects entries → AllByRecursion (IsMadeBy id head text) entries
-made_by id head text objects snapshot m [] h = tt
-made_by id head text objects snapshot m (e ∷ entries) h = (record { objects = objects; snapshot = snapshot; means = m; among = h.0 }, made_by id head text objects snapshot m entries h.1)
+made_by : (id : Kind → List ℕ → List ℕ) (text : InputText) (objects : List Entry) (snapshot : List ℕ) → MeansObjects id text objects snapshot → (entries : List Entry) → AreAmong objects entries → AllByRecursion (IsMadeBy id text) entries
+made_by id text objects snapshot m [] h = tt
+made_by id text objects snapshot m (e ∷ entries) h = (record { objects = objects; snapshot = snapshot; means = m; among = h.0 }, made_by id text objects snapshot m entries h.1)
 
-module _ {S : Type 0} (id : Kind → List ℕ → List ℕ) (head : Option (List ℕ)) (sources : Sources S) where
-  broke_end : (bodies : Bodies) (s t : S) (bad : BadInput) → Broke id head sources s t bad → IsJobEnd id head sources bodies (opened.Found s) (opened.Found t) (end_for (Bad bad))
-  broke_end bodies s t (Broken bad) r = r
-  broke_end bodies s t (Collision name) r = absurd r
-  broke_end bodies s t Read r = r
+-- what is said of a text that is told
+told_as : (text : Option InputText) (P Q : InputText → Type 0) → ((held : InputText) → P held → Q held) → IfSome text P → IfSome text Q
+told_as (Some text) P Q f h = f text h
+told_as None P Q f h = h
 
-as_it_was : {S : Type 0} (sources : Sources S) (stream : Opened S) → IsSameInput sources stream stream
-as_it_was sources (opened.Found s) = (refl, le_refl (sources.faults s))
-as_it_was sources opened.NotFound = tt
-as_it_was sources opened.Failed = tt
-as_it_was sources opened.Memory = tt
+-- How long the detail of an input that breaks so may be.
+text_short : (of_kind : VisitKind) (bad : BadText) → MayBreakInput of_kind bad → text_room bad ≤ detail_limit of_kind
+unfolding MayBreakInput
+text_short kind.Fast (broken.Other path) may = absurd may
+text_short kind.Batch (broken.Other path) may = absurd may
+text_short kind.Dir (broken.Other path) may = let short : length path ≤ path_limit = may in omega (arith, short)
+text_short kind.Fast (broken.Stream at why) may = omega arith
+text_short kind.Fast (broken.Batch at) may = omega arith
+text_short kind.Fast (broken.Name given got) may = omega arith
+text_short kind.Fast (broken.Refs line) may = omega arith
+text_short kind.Fast (broken.NoObject id) may = omega arith
+text_short kind.Fast (broken.Modes line) may = omega arith
+text_short kind.Fast (broken.Limit which number) may = omega arith
+text_short kind.Dir (broken.Stream at why) may = omega arith
+text_short kind.Dir (broken.Batch at) may = omega arith
+text_short kind.Dir (broken.Name given got) may = omega arith
+text_short kind.Dir (broken.Refs line) may = omega arith
+text_short kind.Dir (broken.NoObject id) may = omega arith
+text_short kind.Dir (broken.Modes line) may = omega arith
+text_short kind.Dir (broken.Limit which number) may = omega arith
+text_short kind.Batch (broken.Stream at why) may = omega arith
+text_short kind.Batch (broken.Batch at) may = omega arith
+text_short kind.Batch (broken.Name given got) may = omega arith
+text_short kind.Batch (broken.Refs line) may = omega arith
+text_short kind.Batch (broken.NoObject id) may = omega arith
+text_short kind.Batch (broken.Modes line) may = omega arith
+text_short kind.Batch (broken.Limit which number) may = omega arith
 
-module _ {S N : Type 0} (id : Kind → List ℕ → List ℕ) (head : Option (List ℕ)) (sources : Sources S) where
+-- no detail that names no path is above the limit
+pub small_short : (of_kind : VisitKind) → 86 ≤ detail_limit of_kind
+small_short kind.Fast = omega arith
+small_short kind.Dir = omega arith
+small_short kind.Batch = omega arith
+
+part_as_it_was : {X : Type 0} (IsSame : X → X → Type 0) → ((x : X) → IsSame x x) → (part : Opened X) → IsSamePart IsSame part part
+part_as_it_was IsSame same (opened.Found x) = same x
+part_as_it_was IsSame same opened.NotFound = tt
+part_as_it_was IsSame same opened.Failed = tt
+part_as_it_was IsSame same opened.Memory = tt
+
+module _ {S F : Type 0} (p : Parts S F) where
+  same_source : (s : S) → IsSameSource p.sources s s
+  same_source s = (refl, le_refl (p.sources.faults s))
+
+  same_folder : (f : F) → IsSameFolder p.folders f f
+  same_folder f = record { path = refl; later = le_refl (p.folders.faults f); holds = λ told. refl }
+
+  listing_as_it_was : (modes : Option (Opened S)) → IsSameListing (IsSameSource p.sources) modes modes
+  listing_as_it_was (Some part) = part_as_it_was (IsSameSource p.sources) same_source part
+  listing_as_it_was None = tt
+
+  as_it_was : (i : Input S F) → IsSameInput p i i
+  as_it_was (Fast stream head) = (part_as_it_was (IsSameSource p.sources) same_source stream, refl)
+  as_it_was (Dir folder modes) = (part_as_it_was (IsSameFolder p.folders) same_folder folder, listing_as_it_was modes)
+  as_it_was (Batch objects refs) = (part_as_it_was (IsSameSource p.sources) same_source objects, part_as_it_was (IsSameSource p.sources) same_source refs)
+
+module _ {S F : Type 0} (id : Kind → List ℕ → List ℕ) (p : Parts S F) where
+  -- the report of an end has a bound
+  found_short : (bodies : Bodies) (i now : Input S F) (end : End) → IsEndOf id p bodies i now end → end_room end ≤ detail_limit (kind_of i)
+  found_short bodies i now (reported.Full snapshot) h = small_short (kind_of i)
+  found_short bodies i now reported.NotFound h = absurd h
+  found_short bodies i now (reported.Failed (Broken bad)) h = text_short (kind_of i) bad h.may
+  found_short bodies i now (reported.Failed (Collision name)) h = small_short (kind_of i)
+  found_short bodies i now (reported.Failed Read) h = small_short (kind_of i)
+
+  short_at : (o : Opening) (bodies : Bodies) (i now : Input S F) (end : End) → IsEndAt id p bodies o i now end → end_room end ≤ detail_limit (kind_of i)
+  short_at opening.Found bodies i now end h = found_short bodies i now end h
+  short_at opening.NotFound bodies i now end h = subst (λ (e : End). end_room e ≤ detail_limit (kind_of i)) (sym h) (small_short (kind_of i))
+  short_at opening.Failed bodies i now end h = subst (λ (e : End). end_room e ≤ detail_limit (kind_of i)) (sym h) (small_short (kind_of i))
+  short_at opening.Memory bodies i now end h = absurd h
+
+  pub job_short : (bodies : Bodies) (i now : Input S F) (end : End) → IsJobEnd id p bodies i now end → end_room end ≤ detail_limit (kind_of i)
+  job_short bodies i now end h = short_at (opening_of i) bodies i now end h
+
+module _ {S F N : Type 0} (id : Kind → List ℕ → List ℕ) (p : Parts S F) where
   -- the objects that were made are meant
-  means_made : (s : S) (made : Objects N) → HasAllThatIsReached id made → (sources.tells → Means id head (sources.left s) (making_of made)) → sources.tells → MeansObjects id head (sources.left s) made.objects.items made.snapshot
-  means_made s made w m told = record { meaning = m told; good = whole_good id made.objects.items w.objects.each }
+  means_made : (text : InputText) (made : Objects N) → HasAllThatIsReached id made → MeansInput id text (making_of made) → MeansObjects id text made.objects.items made.snapshot
+  means_made text made w m = record { meaning = m; good = whole_good id made.objects.items w.objects.each }
 
   -- some of what was made is made by the input
-  among_read : (s : S) (now : Opened S) (x : Input N BadInput) → IsReadInput id head sources (opened.Found s) now x → walking.IsWhole id x → (entries : List Entry) → walking.AreOf x entries → AreMadeBy id head sources s entries
-  among_read s (opened.Found t) (given.Made made) r w entries are = λ told. made_by id head (sources.left s) made.objects.items made.snapshot (means_made s made w r told) entries are
-  among_read s (opened.Found t) (given.Bad bad) r w entries are = absurd are
-  among_read s opened.NotFound x r w entries are = absurd r
-  among_read s opened.Failed x r w entries are = absurd r
-  among_read s opened.Memory x r w entries are = absurd r
+  among_read : (i now : Input S F) (x : Given N InputFault) → IsRead id p i now x → walking.IsWhole id x → (entries : List Entry) → walking.AreOf x entries → AreMadeBy id p i entries
+  among_read i now (given.Made made) r w entries are = λ told.
+      told_as (text_of p i) (λ text. MeansInput id text (making_of made)) (λ text. AllByRecursion (IsMadeBy id text) entries)
+      (λ text m. made_by id text made.objects.items made.snapshot (means_made text made w m) entries are) (r told)
+  among_read i now (given.Bad bad) r w entries are = absurd are
 
   -- the end of a load whose input was read
-  read_end : (bodies : Bodies) (s : S) (now : Opened S) (x : Input N BadInput) (end : walk.End BadInput) → IsReadInput id head sources (opened.Found s) now x → walking.IsWhole id x → walking.IsEndOf bodies x end
-      → IsJobEnd id head sources bodies (opened.Found s) now (end_for end)
-  read_end bodies s (opened.Found t) (given.Made made) (Full snapshot) r w h = λ told. record {
-    objects = made.objects.items;
-    means = subst (MeansObjects id head (sources.left s) made.objects.items) (sym h.0) (means_made s made w r told);
-    held = h.1;
-  }
-  read_end bodies s (opened.Found t) (given.Made made) (Met name) r w h = λ told. record { objects = made.objects.items; snapshot = made.snapshot; means = means_made s made w r told; collision = h }
-  read_end bodies s (opened.Found t) (given.Made made) NotFound r w h = absurd h
-  read_end bodies s (opened.Found t) (given.Made made) Unread r w h = absurd h
-  read_end bodies s (opened.Found t) (given.Made made) (Bad bad) r w h = absurd h
-  read_end bodies s (opened.Found t) (given.Bad bad) end r w h = subst (λ (e : walk.End BadInput). IsJobEnd id head sources bodies (opened.Found s) (opened.Found t) (end_for e)) (sym h) (broke_end id head sources bodies s t bad r)
-  read_end bodies s opened.NotFound x end r w h = absurd r
-  read_end bodies s opened.Failed x end r w h = absurd r
-  read_end bodies s opened.Memory x end r w h = absurd r
+  read_end : (bodies : Bodies) (i now : Input S F) (x : Given N InputFault) (end : walk.End InputFault) → IsRead id p i now x → walking.IsWhole id x → walking.IsEndOf bodies x end → IsEndOf id p bodies i now (end_for end)
+  read_end bodies i now (given.Made made) (Full snapshot) r w h = λ told.
+      told_as (text_of p i) (λ text. MeansInput id text (making_of made)) _
+      (λ text m. record { objects = made.objects.items; means = subst (MeansObjects id text made.objects.items) (sym h.0) (means_made text made w m); held = h.1 }) (r told)
+  read_end bodies i now (given.Made made) (Met name) r w h = λ told.
+      told_as (text_of p i) (λ text. MeansInput id text (making_of made)) _
+      (λ text m. record { objects = made.objects.items; snapshot = made.snapshot; means = means_made text made w m; collision = h }) (r told)
+  read_end bodies i now (given.Made made) NotFound r w h = absurd h
+  read_end bodies i now (given.Made made) Unread r w h = absurd h
+  read_end bodies i now (given.Made made) (Bad bad) r w h = absurd h
+  read_end bodies i now (given.Bad (fault.Bad bad)) end r w h = subst (λ (e : walk.End InputFault). IsEndOf id p bodies i now (end_for e)) (sym h) r
+  read_end bodies i now (given.Bad fault.ReadFault) end r w h = subst (λ (e : walk.End InputFault). IsEndOf id p bodies i now (end_for e)) (sym h) r
 
   -- What reading an input answers.
-  module _ {E : Type 0} (Reads : Opened S → Result (Input N BadInput) E → Opened S → Type 0) (read : (stream now : Opened S) (x : Input N BadInput) → Reads stream (Ok x) now → IsReadInput id head sources stream now x)
-      (whole : (stream now : Opened S) (x : Input N BadInput) → Reads stream (Ok x) now → walking.IsWhole id x) (same : (stream now : Opened S) (r : Result (Input N BadInput) E) → Reads stream r now → IsSameInput sources stream now) where
-    pub allowed : (stream : Opened S) (entries : List Entry) → walking.AreAllowed Reads (opening_for stream) stream entries → AreAllowed id head sources stream entries
-    allowed (opened.Found s) entries are = among_read s are.now are.given (read (opened.Found s) are.now are.given are.read) (whole (opened.Found s) are.now are.given are.read) entries are.are_of
-    allowed opened.NotFound entries are = absurd are
-    allowed opened.Failed entries are = absurd are
-    allowed opened.Memory entries are = absurd are
+  module _ {E : Type 0} (Reads : Input S F → Result (Given N InputFault) E → Input S F → Type 0) (read : (i now : Input S F) (x : Given N InputFault) → Reads i (Ok x) now → IsRead id p i now x)
+      (whole : (i now : Input S F) (x : Given N InputFault) → Reads i (Ok x) now → walking.IsWhole id x) (same : (i now : Input S F) (r : Result (Given N InputFault) E) → Reads i r now → IsSameInput p i now) where
+    allowed_at : (o : Opening) (i : Input S F) (entries : List Entry) → walking.AreAllowed Reads o i entries → AreAllowedAt id p i o entries
+    allowed_at opening.Found i entries are = among_read i are.now are.given (read i are.now are.given are.read) (whole i are.now are.given are.read) entries are.are_of
+    allowed_at opening.NotFound i entries are = absurd are
+    allowed_at opening.Failed i entries are = absurd are
+    allowed_at opening.Memory i entries are = absurd are
 
-    pub job_end : (bodies : Bodies) (stream now : Opened S) (end : walk.End BadInput) → walking.IsEndAt Reads (opening_for stream) bodies stream now end → IsJobEnd id head sources bodies stream now (end_for end)
-    job_end bodies (opened.Found s) now end h = read_end bodies s now h.given end (read (opened.Found s) now h.given h.read) (whole (opened.Found s) now h.given h.read) h.is_end
-    job_end bodies opened.NotFound now end h = ap (λ (e : walk.End BadInput). end_for e) h.0
-    job_end bodies opened.Failed now end h = ap (λ (e : walk.End BadInput). end_for e) h.0
-    job_end bodies opened.Memory now end h = absurd h
+    pub allowed : (i : Input S F) (entries : List Entry) → walking.AreAllowed Reads (opening_of i) i entries → AreAllowed id p i entries
+    allowed i entries are = allowed_at (opening_of i) i entries are
 
-    pub same_input : (stream now : Opened S) → walking.IsSameOrRead Reads (opening_for stream) stream now → IsSameInput sources stream now
-    same_input stream now (inl is) = subst (IsSameInput sources stream) (sym is) (as_it_was sources stream)
-    same_input stream now (inr was) = same stream now was.result was.read
+    end_at : (o : Opening) (bodies : Bodies) (i now : Input S F) (end : walk.End InputFault) → walking.IsEndAt Reads o bodies i now end → IsEndAt id p bodies o i now (end_for end)
+    end_at opening.Found bodies i now end h = read_end bodies i now h.given end (read i now h.given h.read) (whole i now h.given h.read) h.is_end
+    end_at opening.NotFound bodies i now end h = ap (λ (e : walk.End InputFault). end_for e) h.0
+    end_at opening.Failed bodies i now end h = ap (λ (e : walk.End InputFault). end_for e) h.0
+    end_at opening.Memory bodies i now end h = absurd h
+
+    pub job_end : (bodies : Bodies) (i now : Input S F) (end : walk.End InputFault) → walking.IsEndAt Reads (opening_of i) bodies i now end → IsJobEnd id p bodies i now (end_for end)
+    job_end bodies i now end h = end_at (opening_of i) bodies i now end h
+
+    pub same_input : (i now : Input S F) → walking.IsSameOrRead Reads (opening_of i) i now → IsSameInput p i now
+    same_input i now (inl is) = subst (IsSameInput p i) (sym is) (as_it_was p i)
+    same_input i now (inr was) = same i now was.result was.read

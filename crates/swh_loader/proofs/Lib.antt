@@ -1,3 +1,4 @@
+pub mod Escapes
 pub mod Leaves
 pub mod Marks
 pub mod Missing

@@ -1,22 +1,27 @@
 -- What a visit's end says of its input and of the archive.
-use Rattle.std.specs.Prelude.{◌≡◌, ℕ, Option, Some, None, List, [], ◌∷◌, Contains}
+use Rattle.std.specs.Prelude.{◌≡◌, ℕ, Some, None, List, [], ◌∷◌, Contains}
 use Rattle.std.specs.List.{AllByRecursion}
 use Rattle.swh_base.specs.declared.kind.Kind.{Kind}
 use Rattle.swh_base.specs.declared.name.Name.{Name}
 use Rattle.swh_base.specs.declared.entry.Entry.{Entry}
 use Rattle.swh_base.specs.declared.visit.Status.TheVariants.{Ongoing, Full as FullStatus, NotFound as NotFoundStatus, Failed as FailedStatus}
-use Rattle.swh_outside.specs.Faults.{Rose}
-use Rattle.swh_outside.specs.Views.{Sources}
+use Rattle.swh_base.specs.Visit.{Statuses}
 use Rattle.swh_model.specs.Archive.{Bodies}
 use Rattle.swh_model.specs.Step.{HasItsChildrenAndName, replay}
-use Rattle.swh_keeper.specs.Kept.{Kept}
-use Rattle.swh_base.specs.Visit.{Statuses}
-use Rattle.swh_outside.specs.declared.fault.Opened.{Opened}
-use Rattle.swh_outside.specs.declared.fault.Opened.TheVariants.{Found, NotFound as Missing, Failed as Unopened, Memory as NoRoom}
-use Rattle.swh_fastload.specs.Input.{Means}
 use Rattle.swh_made.specs.Making.{made}
-use Rattle.swh_fastload.specs.Sourced.{BreaksLeft}
+use Rattle.swh_keeper.specs.Kept.{Kept}
+use Rattle.swh_walk.specs.declared.end.End as walk
+use Rattle.swh_walk.specs.declared.end.End.TheVariants as walked
+use Rattle.swh_walk.specs.declared.input.Opening.{Opening}
+use Rattle.swh_walk.specs.declared.input.Opening.TheVariants as opening
 use Rattle.swh_walk.specs.Sending.{AllHeld, IsMet}
+use Rattle.swh_inputs.specs.Input.{InputText, MeansInput}
+use Rattle.swh_inputs.specs.Opening.{opening_of}
+use Rattle.swh_inputs.specs.Parts.{Parts, IfTold, HasFailed}
+use Rattle.swh_inputs.specs.Reading.{BreaksLeft}
+use Rattle.swh_inputs.specs.declared.bad.InputFault.{InputFault}
+use Rattle.swh_inputs.specs.declared.bad.InputFault.TheVariants as fault
+use Rattle.swh_inputs.specs.declared.input.Input.{Input}
 use Rattle.swh_loader.specs.declared.end.BadInput.{BadInput}
 use Rattle.swh_loader.specs.declared.end.BadInput.TheVariants.{Broken, Collision, Read}
 use Rattle.swh_loader.specs.declared.end.End.{End}
@@ -32,55 +37,66 @@ statuses_of (Full snapshot) = (Ongoing, None) ∷ (FullStatus, Some snapshot) �
 statuses_of NotFound = (NotFoundStatus, None) ∷ []
 statuses_of (Failed bad) = (Ongoing, None) ∷ (FailedStatus, None) ∷ []
 
--- With this head, or none, the input means these objects, each under its name and with its children, and this snapshot.
-pub record MeansObjects (id : Kind → List ℕ → List ℕ) (head : Option (List ℕ)) (text : List ℕ) (objects : List Entry) (snapshot : List ℕ) : Type 0 where
-  pub meaning : Means id head text (record { objects = made objects; snapshot = snapshot })
+-- how the end of a load is reported
+abbrev pub end_for : walk.End InputFault → End
+end_for (walked.Full snapshot) = Full snapshot
+end_for walked.NotFound = NotFound
+end_for walked.Unread = Failed Read
+end_for (walked.Bad (fault.Bad bad)) = Failed (Broken bad)
+end_for (walked.Bad fault.ReadFault) = Failed Read
+end_for (walked.Met name) = Failed (Collision name)
+
+-- The input means these objects, each under its name and with its children, and this snapshot.
+pub record MeansObjects (id : Kind → List ℕ → List ℕ) (text : InputText) (objects : List Entry) (snapshot : List ℕ) : Type 0 where
+  pub meaning : MeansInput id text (record { objects = made objects; snapshot = snapshot })
   pub good : AllByRecursion (HasItsChildrenAndName id) objects
 
 -- The input makes this object.
-pub record IsMadeBy (id : Kind → List ℕ → List ℕ) (head : Option (List ℕ)) (text : List ℕ) (e : Entry) : Type 0 where
+pub record IsMadeBy (id : Kind → List ℕ → List ℕ) (text : InputText) (e : Entry) : Type 0 where
   pub objects : List Entry
   pub snapshot : List ℕ
-  pub means : MeansObjects id head text objects snapshot
+  pub means : MeansObjects id text objects snapshot
   pub among : Contains objects e
 
--- Where the source tells what is left of it, those bytes make each of these entries.
-abbrev pub AreMadeBy : {S : Type 0} → (Kind → List ℕ → List ℕ) → Option (List ℕ) → Sources S → S → List Entry → Type 0
-AreMadeBy id head sources s entries = sources.tells → AllByRecursion (IsMadeBy id head (sources.left s)) entries
-
 -- All of the input is held.
-pub record IsFull (id : Kind → List ℕ → List ℕ) (head : Option (List ℕ)) (text : List ℕ) (bodies : Bodies) (snapshot : List ℕ) : Type 0 where
+pub record IsFull (id : Kind → List ℕ → List ℕ) (text : InputText) (bodies : Bodies) (snapshot : List ℕ) : Type 0 where
   pub objects : List Entry
-  pub means : MeansObjects id head text objects snapshot
+  pub means : MeansObjects id text objects snapshot
   pub held : AllHeld bodies objects
 
 -- Another body is held under the name of an object of the input.
-pub record Collided (id : Kind → List ℕ → List ℕ) (head : Option (List ℕ)) (text : List ℕ) (bodies : Bodies) (name : Name) : Type 0 where
+pub record Collided (id : Kind → List ℕ → List ℕ) (text : InputText) (bodies : Bodies) (name : Name) : Type 0 where
   pub objects : List Entry
   pub snapshot : List ℕ
-  pub means : MeansObjects id head text objects snapshot
+  pub means : MeansObjects id text objects snapshot
   pub collision : IsMet bodies objects name
 
-module _ {S : Type 0} (id : Kind → List ℕ → List ℕ) (head : Option (List ℕ)) (sources : Sources S) (bodies : Bodies) where
-  -- Why a source, `s` before the load and `now` after it, is bad: what was left of it breaks so, or an object of it
-  -- collides; or it failed, and its count of faults rose.
-  abbrev pub IsBad : S → S → BadInput → Type 0
-  IsBad s now (Broken bad) = BreaksLeft id head sources s bad
-  IsBad s now (Collision name) = sources.tells → Collided id head (sources.left s) bodies name
-  IsBad s now Read = Rose (sources.faults s) (sources.faults now)
+module _ {S F : Type 0} (id : Kind → List ℕ → List ℕ) (p : Parts S F) where
+  -- Where the parts of the input tell what they hold, that makes each of these entries.
+  abbrev pub AreMadeBy : Input S F → List Entry → Type 0
+  AreMadeBy i entries = IfTold p i (λ text. AllByRecursion (IsMadeBy id text) entries)
 
-  -- What the end says of an input that is found.
-  abbrev pub IsEndOf : S → S → End → Type 0
-  IsEndOf s now (Full snapshot) = sources.tells → IsFull id head (sources.left s) bodies snapshot
-  IsEndOf s now NotFound = ⊥
-  IsEndOf s now (Failed bad) = IsBad s now bad
+  module _ (bodies : Bodies) where
+    -- Why an input, `i` before the load and `now` after it, is bad: what its parts held breaks so, or an object of it
+    -- collides; or one of them failed, and its count of faults rose.
+    abbrev pub IsBad : Input S F → Input S F → BadInput → Type 0
+    IsBad i now (Broken bad) = BreaksLeft id p i bad
+    IsBad i now (Collision name) = IfTold p i (λ text. Collided id text bodies name)
+    IsBad i now Read = HasFailed p i now
 
-  -- What the end says of an input as it was opened.
-  abbrev pub IsJobEnd : Opened S → Opened S → End → Type 0
-  IsJobEnd (Found s) (Found now) end = IsEndOf s now end
-  IsJobEnd (Found s) Missing end = ⊥
-  IsJobEnd (Found s) Unopened end = ⊥
-  IsJobEnd (Found s) NoRoom end = ⊥
-  IsJobEnd Missing now end = end ≡ NotFound
-  IsJobEnd Unopened now end = end ≡ Failed Read
-  IsJobEnd NoRoom now end = ⊥
+    -- What the end says of an input that is found.
+    abbrev pub IsEndOf : Input S F → Input S F → End → Type 0
+    IsEndOf i now (Full snapshot) = IfTold p i (λ text. IsFull id text bodies snapshot)
+    IsEndOf i now NotFound = ⊥
+    IsEndOf i now (Failed bad) = IsBad i now bad
+
+    -- What the end says of an input that was found so.
+    abbrev pub IsEndAt : Opening → Input S F → Input S F → End → Type 0
+    IsEndAt opening.Found i now end = IsEndOf i now end
+    IsEndAt opening.NotFound i now end = end ≡ NotFound
+    IsEndAt opening.Failed i now end = end ≡ Failed Read
+    IsEndAt opening.Memory i now end = ⊥
+
+    -- What the end says of an input as it was opened.
+    abbrev pub IsJobEnd : Input S F → Input S F → End → Type 0
+    IsJobEnd i now end = IsEndAt (opening_of i) i now end

@@ -1,12 +1,12 @@
 // How a visit ends.
 use swh_base::Name;
-use swh_fastload::BadStream;
+use swh_inputs::BadText;
 
 /// Why an input makes no snapshot.
-#[derive(Clone, Copy, Debug, PartialEq, Eq)]
+#[derive(Debug, Drop)]
 pub enum BadInput {
-    /// It is no stream, or passes a limit.
-    Broken(BadStream),
+    /// It breaks, or passes a limit.
+    Broken(BadText),
     /// An object of the input bears the name of another body.
     Collision { name: Name },
     /// The input does not open, or fails while it is read.
@@ -14,7 +14,7 @@ pub enum BadInput {
 }
 
 /// The end of a visit.
-#[derive(Clone, Copy, Debug, PartialEq, Eq)]
+#[derive(Debug, Drop)]
 pub enum End {
     /// All that the snapshot reaches is held.
     Full { snapshot: [u8; 20] },
@@ -24,7 +24,7 @@ pub enum End {
 }
 
 /// A visit by its number, and its end.
-#[derive(Clone, Copy, Debug, PartialEq, Eq)]
+#[derive(Debug, Drop)]
 pub struct Loaded {
     pub visit: u64,
     pub end: End,

@@ -1,10 +1,9 @@
 // What is loaded.
-use swh_base::{Bytes, Url};
-use swh_outside::{Opened, Source};
+use swh_base::Url;
+use swh_inputs::Input;
 
-/// An origin, its input as it was opened, and the head that is named for it.
-pub struct Job<S: Source> {
+/// An origin, and its input as it was opened.
+pub struct Job<S, F> {
     pub origin: Url,
-    pub stream: Opened<S>,
-    pub head: Option<Bytes>,
+    pub input: Input<S, F>,
 }

@@ -1,19 +1,22 @@
 //! Loads the input of an origin into an archive, as one visit, and reports it by a line.
-//! Stands on a load over a keeper (`swh_alone`), on the reader of inputs (`swh_fastload`), on `swh_swhid` and `itoa` for its
-//! lines, and on crates below these; crates.txt lists all.
+//! Stands on a load over a keeper (`swh_alone`), on inputs of three kinds (`swh_inputs`), on `swh_swhid`, `hex`,
+//! `percent_encoding` and `itoa` for its lines, and on crates below these; crates.txt lists all.
 //! Callers may rely on: a load adds the events of its visit alone; a visit whose load stopped has no end; a crash at
 //! any device call leaves the events up to some place in their order, with all that were acknowledged; and the line
 //! says how the visit ended.
 #![tactic(auto)]
 
+mod detail;
 mod end;
 mod job;
 mod loading;
 mod report;
+mod writing;
 
 pub use end::{BadInput, End, Loaded};
 pub use job::Job;
 pub use loading::load_one;
-pub use report::{REPORT_LIMIT, report_line};
-pub use swh_fastload::{BadStream, StreamWhy};
+pub use report::{report_limit, report_line};
+pub use swh_fastload::StreamWhy;
+pub use swh_inputs::{BadText, Input};
 pub use swh_walk::{LoadFault, Stop, Turn, Worker};

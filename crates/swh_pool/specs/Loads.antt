@@ -1,71 +1,71 @@
 -- Jobs loaded one after the other.
-use Rattle.std.specs.Prelude.{◌≡◌, ℕ, ◌≤◌, IfSome, Some, None, Result, Ok, Err, List, [], ◌∷◌, map}
+use Rattle.std.specs.Prelude.{◌≡◌, ℕ, ◌≤◌, Some, None, Result, Ok, Err, List, [], ◌∷◌, map}
 use Rattle.swh_base.specs.declared.kind.Kind.{Kind}
-use Rattle.swh_base.specs.Text.{IsRef}
 use Rattle.swh_base.specs.declared.entry.Entry.{Entry}
 use Rattle.swh_base.specs.declared.visit.Status.TheVariants.{Created}
-use Rattle.swh_base.specs.declared.visit.VisitKind.TheVariants.{Fast}
-use Rattle.swh_outside.specs.Views.{Disks, Sources}
+use Rattle.swh_outside.specs.Views.{Disks}
 use Rattle.swh_keeper.specs.Kept.{Kept}
 use Rattle.swh_loader.specs.declared.end.Loaded.{Loaded}
 use Rattle.swh_walk.specs.declared.end.LoadFault.{LoadFault}
 use Rattle.swh_walk.specs.Owning.{Attempt, attempt}
 use Rattle.swh_loader.specs.Ending.{IsJobEnd, statuses_of, held_bodies}
-use Rattle.swh_loader.specs.Leaving.{AreAllowed, IsSameInput}
+use Rattle.swh_inputs.specs.Opening.{kind_of}
+use Rattle.swh_inputs.specs.Parts.{Parts, HasGoodHead, IsSameInput}
+use Rattle.swh_loader.specs.Leaving.{AreAllowed}
 use Rattle.swh_alone.specs.Loading.{AddsVisit, MakesVisitCalls, Stops, IsHeldBack}
 use Rattle.swh_walk.specs.Visiting.{next_visit, IsVisit}
 use Rattle.swh_alone.specs.Leaving.{KeepsAll}
 use Rattle.swh_pool.specs.declared.dated.DatedJob.{DatedJob}
 
--- The job's head is a ref, where it names one.
-abbrev pub HasHead : {S : Type 0} → DatedJob S → Type 0
-HasHead dated = IfSome dated.job.head IsRef
+-- The head that is named for the job's stream is a ref.
+abbrev pub HasHead : {S F : Type 0} → DatedJob S F → Type 0
+HasHead dated = HasGoodHead dated.job.input
 
 -- one job: as it was, as it is afterwards, and how its load ended
-pub record OneLoad (S : Type 0) : Type 0 where
-  pub job : DatedJob S
-  pub after : DatedJob S
+pub record OneLoad (S F : Type 0) : Type 0 where
+  pub job : DatedJob S F
+  pub after : DatedJob S F
   pub outcome : Result Loaded LoadFault
 
 -- the load of a job
-abbrev pub one_load : {S : Type 0} → DatedJob S → DatedJob S → Result Loaded LoadFault → OneLoad S
+abbrev pub one_load : {S F : Type 0} → DatedJob S F → DatedJob S F → Result Loaded LoadFault → OneLoad S F
 one_load job after outcome = record { job = job; after = after; outcome = outcome }
 
--- what loads are done with: how objects are named, by whom events are, and what the sources and the disks tell
-pub record Loading (S D : Type 0) : Type 1 where
+-- what loads are done with: how objects are named, by whom events are, and what the parts of inputs and the disks tell
+pub record Loading (S F D : Type 0) : Type 1 where
   pub id : Kind → List ℕ → List ℕ
   pub by : ℕ
-  pub sources : Sources S
+  pub parts : Parts S F
   pub disks : Disks D
 
 -- loads done with these
-abbrev pub loading : {S D : Type 0} → (Kind → List ℕ → List ℕ) → ℕ → Sources S → Disks D → Loading S D
-loading id by sources disks = record { id = id; by = by; sources = sources; disks = disks }
+abbrev pub loading : {S F D : Type 0} → (Kind → List ℕ → List ℕ) → ℕ → Parts S F → Disks D → Loading S F D
+loading id by parts disks = record { id = id; by = by; parts = parts; disks = disks }
 
-module _ {S D : Type 0} (given : Loading S D) where
+module _ {S F D : Type 0} (given : Loading S F D) where
   -- who loads the job, and when
-  abbrev pub attempt_at : OneLoad S → Attempt
-  attempt_at l = attempt given.by l.job.job.origin Fast l.job.date
+  abbrev pub attempt_at : OneLoad S F → Attempt
+  attempt_at l = attempt given.by l.job.job.origin (kind_of l.job.job.input) l.job.date
 
   -- The batches of the load hold only what its input makes.
-  abbrev pub AreAllowedAt : OneLoad S → List Entry → Type 0
-  AreAllowedAt l = AreAllowed given.id l.job.job.head given.sources l.job.job.stream
+  abbrev pub AreAllowedAt : OneLoad S F → List Entry → Type 0
+  AreAllowedAt l = AreAllowed given.id given.parts l.job.job.input
 
   -- The load ended its visit, the next of its origin.
-  pub record IsEnded (l : OneLoad S) (old new : Kept D) (loaded : Loaded) : Type 0 where
+  pub record IsEnded (l : OneLoad S F) (old new : Kept D) (loaded : Loaded) : Type 0 where
     pub number : loaded.visit ≡ next_visit old.history l.job.job.origin
     pub visit : IsVisit new.history (attempt_at l) loaded.visit ((Created, None) ∷ statuses_of loaded.end)
-    pub means : IsJobEnd given.id l.job.job.head given.sources (held_bodies new) l.job.job.stream l.after.job.stream loaded.end
+    pub means : IsJobEnd given.id given.parts (held_bodies new) l.job.job.input l.after.job.input loaded.end
     pub on : KeepsAll old new
     pub before_it : old.wounded ≡ None
 
   -- What the outcome says.
-  abbrev pub IsLoadOutcome : OneLoad S → Kept D → Kept D → Result Loaded LoadFault → Type 0
+  abbrev pub IsLoadOutcome : OneLoad S F → Kept D → Kept D → Result Loaded LoadFault → Type 0
   IsLoadOutcome l old new (Ok loaded) = IsEnded l old new loaded
   IsLoadOutcome l old new (Err fault) = Stops given.id given.disks (AreAllowedAt l) (attempt_at l) old new fault
 
   -- The load of one job, between two states of the archive.
-  pub record IsOneLoad (l : OneLoad S) (old new : Kept D) : Type 0 where
+  pub record IsOneLoad (l : OneLoad S F) (old new : Kept D) : Type 0 where
     pub adds : AddsVisit (AreAllowedAt l) (attempt_at l) old.history new.history
     pub ends : IsLoadOutcome l old new l.outcome
     pub wounded : (n : ℕ) → old.wounded ≡ Some n → IsHeldBack old new l.outcome
@@ -73,18 +73,17 @@ module _ {S D : Type 0} (given : Loading S D) where
     pub store_later : given.disks.faults old.store ≤ given.disks.faults new.store
     pub ledger_later : given.disks.faults old.ledger ≤ given.disks.faults new.ledger
     pub same_origin : l.after.job.origin ≡ l.job.job.origin
-    pub same_head : l.after.job.head ≡ l.job.job.head
-    pub same_input : IsSameInput given.sources l.job.job.stream l.after.job.stream
+    pub same_input : IsSameInput given.parts l.job.job.input l.after.job.input
     pub same_date : l.after.date ≡ l.job.date
 
   -- Each load begins where the one before it ended.
-  abbrev pub AreLoads : List (OneLoad S) → Kept D → Kept D → Type 0
+  abbrev pub AreLoads : List (OneLoad S F) → Kept D → Kept D → Type 0
   AreLoads [] old new = new ≡ old
   AreLoads (l ∷ loads) old new = (between : Kept D) × IsOneLoad l old between × AreLoads loads between new
 
   -- These jobs were loaded one after the other, with these outcomes.
-  pub record AreLoaded (before now : List (DatedJob S)) (old new : Kept D) (outcomes : List (Result Loaded LoadFault)) : Type 0 where
-    pub loads : List (OneLoad S)
+  pub record AreLoaded (before now : List (DatedJob S F)) (old new : Kept D) (outcomes : List (Result Loaded LoadFault)) : Type 0 where
+    pub loads : List (OneLoad S F)
     pub jobs : before ≡ map (λ l. l.job) loads
     pub after : now ≡ map (λ l. l.after) loads
     pub ended : outcomes ≡ map (λ l. l.outcome) loads

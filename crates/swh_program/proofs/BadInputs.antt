@@ -1,7 +1,6 @@
 -- A job whose input is bad is not full.
 use Rattle.std.proofs.Common.{◌≡◌, inl, inr, ⊎_elim, ℕ, Option, Some, Result, Ok, Err, List, [], ◌∷◌, ◌++◌, map, Contains, sym, ap, ◌∙◌, subst}
 use Rattle.std.specs.List.{AllByRecursion}
-use Rattle.swh_base.specs.declared.visit.VisitKind.TheVariants.{Fast}
 use Rattle.swh_base.specs.declared.kind.Kind.{Kind}
 use Rattle.swh_base.specs.declared.name.Name.{Name}
 use Rattle.swh_base.specs.declared.entry.Entry.{Entry}
@@ -13,9 +12,9 @@ use Rattle.swh_model.specs.Meaning.{Made as MadeObject, StreamMeaning}
 use Rattle.swh_model.specs.Step.{IsHistory, HasItsChildrenAndName, replay}
 use Rattle.swh_model.proofs.Growing.{bodies_grow}
 use Rattle.swh_model.proofs.Histories.{fronts}
-use Rattle.swh_fastload.specs.Input.{Means}
+use Rattle.swh_inputs.specs.Input.{InputText, MeansInput}
 use Rattle.swh_made.specs.Making.{made_from, made}
-use Rattle.swh_fastload.proofs.InputLaws.{one_making, unbroken}
+use Rattle.swh_inputs.proofs.OneInput.{one_making, unbroken}
 use Rattle.swh_walk.specs.Owning.{attempt}
 use Rattle.swh_loader.specs.Ending.{IsFull}
 use Rattle.swh_walk.proofs.Batches.{at_element}
@@ -25,6 +24,7 @@ use Rattle.swh_loader.specs.declared.end.Loaded.{Loaded}
 use Rattle.swh_walk.specs.declared.end.LoadFault.{LoadFault}
 use Rattle.swh_program.specs.Causes.{HasTwoBodies, IsBroken, IsBadInput}
 use Rattle.swh_program.specs.Complete.{HasBodyOrMakes}
+use Rattle.swh_program.specs.Found.{kind_at}
 use Rattle.swh_program.specs.Inputs.{loader, Inputs, input_of, IsInputEnd, IsJobOutcome}
 use Rattle.swh_program.specs.Lines.{LoadedJob, outcomes, ending_of_end, ending_for, ending_of_all}
 use Rattle.swh_program.specs.Load.{AreJobLoads}
@@ -34,15 +34,15 @@ use Rattle.swh_program.proofs.LoadEndings.{both_done, why_undone}
 use Rattle.swh_program.proofs.Loads.{all_behind}
 
 -- Nothing is wrong with the input of a full job.
-module _ (id_of : Kind → List ℕ → List ℕ) (bodies held : Bodies) (within : IsWithin bodies held) (head : Option (List ℕ)) (text snapshot : List ℕ) (full : IsFull id_of head text held snapshot) where
+module _ (id_of : Kind → List ℕ → List ℕ) (bodies held : Bodies) (within : IsWithin bodies held) (text : InputText) (snapshot : List ℕ) (full : IsFull id_of text held snapshot) where
   -- what it means, in the order in which it was made
   abbrev full_making : StreamMeaning
   full_making = record { objects = made full.objects; snapshot = snapshot }
 
-  has_then : (making : StreamMeaning) → Means id_of head text making → (name : Name) (body : List ℕ) → HasBodyOrMakes id_of bodies making.objects name body → body_of held name ≡ Some body
+  has_then : (making : StreamMeaning) → MeansInput id_of text making → (name : Name) (body : List ℕ) → HasBodyOrMakes id_of bodies making.objects name body → body_of held name ≡ Some body
   has_then making means name body (inl there) = within name body there
   has_then making means name body (inr makes) =
-      let same = one_making id_of head text making full_making means full.means.meaning in
+      let same = one_making id_of text making full_making means full.means.meaning in
       let object : MadeObject = record { kind = name.kind; body = body } in
       let from = from_map made_from full.objects object ((same.objects object).0 makes.0) in
       let entry = from.0 in
@@ -53,11 +53,11 @@ module _ (id_of : Kind → List ℕ → List ℕ) (bodies held : Bodies) (within
       let names : entry.name ≡ name = λ i. record { kind = kinds i; id = ids i } in
       subst (λ (n : Name). body_of held n ≡ Some body) names (at_element (λ (e : Entry). body_of held e.name ≡ Some e.body) full.objects entry full.held from.1 ∙ ap (λ (b : List ℕ). Some b) texts)
 
-  not_bad : IsBadInput id_of head bodies (Some text) → ⊥
+  not_bad : IsBadInput id_of bodies (Some text) → ⊥
   not_bad bad =
       ⊎_elim
-      (λ (broken : IsBroken id_of head text). unbroken id_of head text full_making broken.0 full.means.meaning broken.1)
-      (λ (two : HasTwoBodies id_of head bodies text).
+      (λ (broken : IsBroken id_of text). unbroken id_of text full_making broken.0 full.means.meaning broken.1)
+      (λ (two : HasTwoBodies id_of bodies text).
       let t = two.1 in
       t.apart (let both : Some t.a ≡ Some t.b = sym (has_then t.making t.means two.0 t.a t.has_a) ∙ has_then t.making t.means two.0 t.b t.has_b in cc))
       bad
@@ -65,13 +65,13 @@ module _ (id_of : Kind → List ℕ → List ℕ) (bodies held : Bodies) (within
 module _ (id_of : Kind → List ℕ → List ℕ) (of_jobs : Inputs) (told : of_jobs.tell) (bodies : Bodies) where
   -- so a job that is done has no bad input
   end_not_bad : (job : Job) (held : Bodies) → IsWithin bodies held → (end : End) → IsInputEnd id_of (input_of of_jobs job) held end
-      → ending_of_end end ≡ ending.Done → IsBadInput id_of job.head bodies (of_jobs.at job.path) → ⊥
-  end_not_bad job held within (Full snapshot) is e bad = let t = is told in not_bad id_of bodies held within job.head t.0 snapshot t.2 (subst (IsBadInput id_of job.head bodies) t.1 bad)
+      → ending_of_end end ≡ ending.Done → IsBadInput id_of bodies (input_of of_jobs job).found → ⊥
+  end_not_bad job held within (Full snapshot) is e bad = let t = is told in not_bad id_of bodies held within t.0 snapshot t.2 (subst (IsBadInput id_of bodies) t.1 bad)
   end_not_bad job held within NotFound is e bad = let f : ending.Wanting ≡ ending.Done = e in cc
   end_not_bad job held within (Failed reason) is e bad = let f : ending.Wanting ≡ ending.Done = e in cc
 
   load_not_bad : (job : Job) (date : ℕ) (h h' : List Event) → IsWithin bodies (replay h').bodies → (outcome : Result Loaded LoadFault)
-      → IsJobOutcome id_of (input_of of_jobs job) (attempt loader job.url Fast date) h h' outcome → ending_for outcome ≡ ending.Done → IsBadInput id_of job.head bodies (of_jobs.at job.path) → ⊥
+      → IsJobOutcome id_of (input_of of_jobs job) (attempt loader job.url (kind_at job.input) date) h h' outcome → ending_for outcome ≡ ending.Done → IsBadInput id_of bodies (input_of of_jobs job).found → ⊥
   load_not_bad job date h h' within (Ok l) line e bad = end_not_bad job (replay h').bodies within l.end line.end e bad
   load_not_bad job date h h' within (Err f) line e bad = why_undone f.why e
 
@@ -82,7 +82,7 @@ module _ (id_of : Kind → List ℕ → List ℕ) (of_jobs : Inputs) (told : of_
       subst (λ (b : Bodies). body_of b n ≡ Some body) (ap (λ a. a.bodies) (sym parts.2)) (bodies_grow id_of (replay h) more parts.1 n body (within n body held))
 
   pub none_bad : (loads : List LoadedJob) (h after : List Event) → AreJobLoads id_of of_jobs loads h after → IsHistory id_of after → IsWithin bodies (replay h).bodies
-      → ending_of_all (outcomes loads) ≡ ending.Done → AllByRecursion (λ l. IsBadInput id_of l.job.head bodies (of_jobs.at l.job.path) → ⊥) loads
+      → ending_of_all (outcomes loads) ≡ ending.Done → AllByRecursion (λ l. IsBadInput id_of bodies (input_of of_jobs l.job).found → ⊥) loads
   none_bad [] h after each history within e = tt
   none_bad (l ∷ loads) h after each history within e =
       let between = each.0 in
@@ -95,9 +95,9 @@ module _ (id_of : Kind → List ℕ → List ℕ) (of_jobs : Inputs) (told : of_
 
   -- of jobs that are all done none has a bad input
   pub bad_undone : (loads : List LoadedJob) (h after : List Event) → AreJobLoads id_of of_jobs loads h after → IsHistory id_of after → bodies ≡ (replay h).bodies
-      → (job : Job) → Contains (map (λ l. l.job) loads) job → IsBadInput id_of job.head bodies (of_jobs.at job.path) → ending_of_all (outcomes loads) ≡ ending.Done → ⊥
+      → (job : Job) → Contains (map (λ l. l.job) loads) job → IsBadInput id_of bodies (input_of of_jobs job).found → ending_of_all (outcomes loads) ≡ ending.Done → ⊥
   bad_undone loads h after each history same job among bad e =
       let from = from_map (λ (l : LoadedJob). l.job) loads job among in
-      at_element (λ (l : LoadedJob). IsBadInput id_of l.job.head bodies (of_jobs.at l.job.path) → ⊥) loads from.0
+      at_element (λ (l : LoadedJob). IsBadInput id_of bodies (input_of of_jobs l.job).found → ⊥) loads from.0
       (none_bad loads h after each history (λ n body held. subst (λ (b : Bodies). body_of b n ≡ Some body) same held) e) from.1
-      (subst (λ (j : Job). IsBadInput id_of j.head bodies (of_jobs.at j.path)) (sym from.2) bad)
+      (subst (λ (j : Job). IsBadInput id_of bodies (input_of of_jobs j).found) (sym from.2) bad)

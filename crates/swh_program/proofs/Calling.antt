@@ -2,7 +2,8 @@
 use Rattle.std.proofs.Common.{◌≡◌, ℕ, ◌≤◌, Option, Some, None, Result, Ok, Err, List, [], ◌∷◌, ◌++◌, refl, sym, ap, ◌∙◌, subst, append_assoc, arith}
 use Rattle.std.proofs.lemmas.List.Elements.{Contains-append_right}
 use Rattle.swh_base.specs.declared.kind.Kind.{Kind}
-use Rattle.swh_outside.specs.Views.{Disks, Sources}
+use Rattle.swh_outside.specs.Views.{Disks}
+use Rattle.swh_inputs.specs.Parts.{Parts}
 use Rattle.swh_model.specs.declared.event.Event.{Event}
 use Rattle.swh_keeper.specs.Kept.{Kept}
 use Rattle.swh_jobs.specs.Job.{Job}
@@ -28,19 +29,19 @@ by_wound : {P : Type 0} (w : Option ℕ) → ((n : ℕ) → w ≡ Some n → P) 
 by_wound (Some n) stopped going = stopped n refl
 by_wound None stopped going = going refl
 
-module _ {S : Type 0} (id_of : Kind → List ℕ → List ℕ) (sources : Sources S) (opened_by : Inputs) (after : List ℕ → ℕ)
-    (later : (p : List ℕ) → opened_by.failures p ≤ opened_by.failures_now p) (later_still : (p : List ℕ) → opened_by.failures_now p ≤ after p) {D : Type 0} (disks : Disks D) where
-  abbrev from : Loading S D
-  from = loading id_of loader sources disks
+module _ {S F : Type 0} (id_of : Kind → List ℕ → List ℕ) (p : Parts S F) (opened_by : Inputs) (after : List ℕ → ℕ)
+    (later : (q : List ℕ) → opened_by.failures q ≤ opened_by.failures_now q) (later_still : (q : List ℕ) → opened_by.failures_now q ≤ after q) {D : Type 0} (disks : Disks D) where
+  abbrev from : Loading S F D
+  from = loading id_of loader p disks
 
-  abbrev All : List (OneLoad S) → Kept D → Kept D → Type 0
+  abbrev All : List (OneLoad S F) → Kept D → Kept D → Type 0
   All loads old new = AreLoads from loads old new
 
   abbrev Next : List LoadedJob → List Event → Event → Type 0
-  Next loads h event = IsNextOf id_of (of_jobs id_of sources opened_by after later later_still) loads h event
+  Next loads h event = IsNextOf id_of (of_jobs id_of p opened_by after later later_still) loads h event
 
   -- Once a disk has failed, all is left as it was.
-  held_back : (loads : List (OneLoad S)) (old new : Kept D) (n : ℕ) → old.wounded ≡ Some n → All loads old new → new ≡ old
+  held_back : (loads : List (OneLoad S F)) (old new : Kept D) (n : ℕ) → old.wounded ≡ Some n → All loads old new → new ≡ old
   held_back [] old new n wounded are = are
   held_back (l ∷ loads) old new n wounded are =
       let same : are.0 ≡ old = as_it_was old are.0 l.outcome (are.1.wounded n wounded) in
@@ -50,7 +51,7 @@ module _ {S : Type 0} (id_of : Kind → List ℕ → List ℕ) (sources : Source
   among_more x loads h e next = record { l = next.l; among = Contains-append_right (x ∷ []) loads next.l next.among; between = next.between; adds = next.adds }
 
   -- what comes next in a load
-  next_of : (job : Job) (l : OneLoad S) (more : List LoadedJob) (old new : Kept D) (added : List Event) → IsOpenedJob sources opened_by job l.job → new.history ≡ old.history ++ added
+  next_of : (job : Job) (l : OneLoad S F) (more : List LoadedJob) (old new : Kept D) (added : List Event) → IsOpenedJob p opened_by job l.job → new.history ≡ old.history ++ added
       → (e : Event) → AreOfVisit (AreAllowedAt from l) (attempt_at from l) (next_visit old.history l.job.job.origin) (added ++ e ∷ []) → Next (loaded_job job l ∷ more) new.history e
   next_of job l more old new added opened behind e are =
       let adds : AddsVisit (AreAllowedAt from l) (attempt_at from l) old.history (new.history ++ e ∷ []) =
@@ -59,10 +60,10 @@ module _ {S : Type 0} (id_of : Kind → List ℕ → List ℕ) (sources : Source
         l = loaded_job job l;
         among = (0, omega arith, refl);
         between = old.history;
-        adds = adds_of id_of sources opened_by after later later_still disks job l old.history (new.history ++ e ∷ []) opened adds;
+        adds = adds_of id_of p opened_by after later later_still disks job l old.history (new.history ++ e ∷ []) opened adds;
       }
 
-  pub calls_of : disks.tells → (jobs : List Job) (loads : List (OneLoad S)) (old new : Kept D) → Open sources opened_by jobs loads → All loads old new → old.wounded ≡ None → MakesCalls id_of disks.file (Next (loaded_jobs jobs loads) new.history) old new
+  pub calls_of : disks.tells → (jobs : List Job) (loads : List (OneLoad S F)) (old new : Kept D) → Open p opened_by jobs loads → All loads old new → old.wounded ≡ None → MakesCalls id_of disks.file (Next (loaded_jobs jobs loads) new.history) old new
   calls_of t [] [] old new opened are none = calls_none id_of disks.file (Next [] new.history) old new are
   calls_of t [] (l ∷ loads) old new opened are none = absurd opened
   calls_of t (job ∷ jobs) [] old new opened are none = absurd opened

@@ -41,14 +41,14 @@ no_disk_end NotFound e = let f : ending.Wanting ≡ ending.OutsideDisk = e in cc
 no_disk_end (Failed bad) e = let f : ending.Wanting ≡ ending.OutsideDisk = e in cc
 
 -- Loads of which one tells of a disk: a count rose.
-module _ {S D : Type 0} (given : Loading S D) where
+module _ {S F D : Type 0} (given : Loading S F D) where
   abbrev Raised : Kept D → Kept D → Type 0
   Raised old new = ADiskFailed (given.disks.faults old.store) (given.disks.faults new.store) (given.disks.faults old.ledger) (given.disks.faults new.ledger)
 
   abbrev Later : Kept D → Kept D → Type 0
   Later old new = (given.disks.faults old.store ≤ given.disks.faults new.store) × (given.disks.faults old.ledger ≤ given.disks.faults new.ledger)
 
-  abbrev All : List (OneLoad S) → Kept D → Kept D → Type 0
+  abbrev All : List (OneLoad S F) → Kept D → Kept D → Type 0
   All loads old new = AreLoads given loads old new
 
   raised_since : (old between new : Kept D) → Later old between → Raised between new → Raised old new
@@ -59,7 +59,7 @@ module _ {S D : Type 0} (given : Loading S D) where
   raised_until old between new (inl rose) later = inl (omega (arith, later.0, rose))
   raised_until old between new (inr rose) later = inr (omega (arith, later.1, rose))
 
-  all_later : (loads : List (OneLoad S)) (old new : Kept D) → All loads old new → Later old new
+  all_later : (loads : List (OneLoad S F)) (old new : Kept D) → All loads old new → Later old new
   all_later [] old new are =
       let store = ap (λ (k : Kept D). given.disks.faults k.store) are in
       let ledger = ap (λ (k : Kept D). given.disks.faults k.ledger) are in
@@ -71,7 +71,7 @@ module _ {S D : Type 0} (given : Loading S D) where
       (omega (arith, store, rest.0), omega (arith, ledger, rest.1))
 
   -- the first load, by how it ended, and those after it
-  module _ (l : OneLoad S) (rest : List (Result Loaded LoadFault)) (old between new : Kept D) (first : Later old between) (behind : Later between new)
+  module _ (l : OneLoad S F) (rest : List (Result Loaded LoadFault)) (old between new : Kept D) (first : Later old between) (behind : Later between new)
       (later : AreStops false rest → ending_of_all rest ≡ ending.OutsideDisk → Raised between new) where
     from_later : (e : Ending) → (e ≡ ending.OutsideDisk → ⊥) → AreStops false rest → worse e (ending_of_all rest) ≡ ending.OutsideDisk → Raised old new
     from_later e none stops is = ⊎_elim (λ (h : e ≡ ending.OutsideDisk). absurd (none h)) (λ (h : ending_of_all rest ≡ ending.OutsideDisk). raised_since old between new first (later stops h)) (worse_disk e (ending_of_all rest) is)
@@ -89,13 +89,13 @@ module _ {S D : Type 0} (given : Loading S D) where
     by_outcome (Ok loaded) unwounded ends more is = from_later (ending_of_end loaded.end) (no_disk_end loaded.end) more is
     by_outcome (Err fault) unwounded ends more is = by_why fault.visit fault.why unwounded ends more is
 
-  pub raised : (loads : List (OneLoad S)) (old new : Kept D) → All loads old new → AreStops false (map (λ l. l.outcome) loads) → ending_of_all (map (λ l. l.outcome) loads) ≡ ending.OutsideDisk → Raised old new
+  pub raised : (loads : List (OneLoad S F)) (old new : Kept D) → All loads old new → AreStops false (map (λ l. l.outcome) loads) → ending_of_all (map (λ l. l.outcome) loads) ≡ ending.OutsideDisk → Raised old new
   raised [] old new are stops is = absurd (let f : ending.Done ≡ ending.OutsideDisk = is in cc)
   raised (l ∷ loads) old new are stops is =
       by_outcome l (map (λ m. m.outcome) loads) old are.0 new (are.1.store_later, are.1.ledger_later) (all_later loads are.0 new are.2) (raised loads are.0 new are.2) l.outcome stops.0 are.1.ends stops.1 is
 
 -- the answer that tells a report tells the loads
-pub told_loads : {S : Type 0} (now : List (DatedJob S)) (ends : List (Result Loaded LoadFault)) (loads : List LoadedJob) (answer : Answer) → ended now ends ≡ map url_and_outcome loads → ends ≡ outcomes loads → TellsReport now ends answer
+pub told_loads : {S F : Type 0} (now : List (DatedJob S F)) (ends : List (Result Loaded LoadFault)) (loads : List LoadedJob) (answer : Answer) → ended now ends ≡ map url_and_outcome loads → ends ≡ outcomes loads → TellsReport now ends answer
     → TellsLoad loads answer
 told_loads {S} now ends loads answer pairs same told =
     let text : told.text ≡ flat_map load_line loads = told.text_is ∙ ap lines_of pairs ∙ flat_map-map (λ (j : List ℕ × Result Loaded LoadFault). report_of j.0 j.1) url_and_outcome loads in

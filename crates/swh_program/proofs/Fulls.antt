@@ -12,7 +12,7 @@ use Rattle.swh_model.specs.Meaning.{Made, StreamMeaning}
 use Rattle.swh_model.specs.Step.{IsHistory, after, after_kind, after_all, replay, HasItsChildrenAndName}
 use Rattle.swh_model.proofs.Histories.{fronts}
 use Rattle.swh_model.proofs.Maps.{added-all}
-use Rattle.swh_fastload.specs.Input.{Means}
+use Rattle.swh_inputs.specs.Input.{InputText, MeansInput}
 use Rattle.swh_made.specs.Making.{made_from, made}
 use Rattle.swh_walk.specs.Owning.{Attempt}
 use Rattle.swh_alone.specs.Loading.{IsOwnEvent, AddsVisit, AreOfVisit}
@@ -28,24 +28,24 @@ abbrev pub Had : (Kind → List ℕ → List ℕ) → Bodies → List Made → B
 Had id_of bodies objects now = (n : Name) (body : List ℕ) → body_of now n ≡ Some body → HasBodyOrMakes id_of bodies objects n body
 
 module _ (id_of : Kind → List ℕ → List ℕ) (objects : List Made) where
-  -- All that the text means, with this head or none, is among the objects.
-  abbrev pub MakesWithin : Option (List ℕ) → List ℕ → Type 0
-  MakesWithin head text = (making : StreamMeaning) → Means id_of head text making → (o : Made) → Contains making.objects o → Contains objects o
+  -- All that the text means is among the objects.
+  abbrev pub MakesWithin : InputText → Type 0
+  MakesWithin text = (making : StreamMeaning) → MeansInput id_of text making → (o : Made) → Contains making.objects o → Contains objects o
 
-  module _ (head : Option (List ℕ)) (text : List ℕ) (within : MakesWithin head text) where
-    makes_body : (es : List Entry) (snapshot : List ℕ) → MeansObjects id_of head text es snapshot → (e : Entry) → Contains es e → MakesBody id_of objects e.name e.body
+  module _ (text : InputText) (within : MakesWithin text) where
+    makes_body : (es : List Entry) (snapshot : List ℕ) → MeansObjects id_of text es snapshot → (e : Entry) → Contains es e → MakesBody id_of objects e.name e.body
     makes_body es snapshot m e among = (
       within (record { objects = made es; snapshot = snapshot }) m.meaning (made_from e) (map_contains made_from es e among),
       (at_element (HasItsChildrenAndName id_of) es e m.good among).named,
     )
 
     -- a batch of what the text makes
-    pub are_made : (entries : List Entry) → AllByRecursion (IsMadeBy id_of head text) entries → AreMade id_of objects entries
+    pub are_made : (entries : List Entry) → AllByRecursion (IsMadeBy id_of text) entries → AreMade id_of objects entries
     are_made [] all = tt
     are_made (e ∷ entries) all = (makes_body all.0.objects all.0.snapshot all.0.means e all.0.among, are_made entries all.1)
 
     -- no name collides where each has one body
-    pub none_collides : (bodies now : Bodies) (name : Name) → Had id_of bodies objects now → HasOneBody id_of bodies objects → Collided id_of head text now name → ⊥
+    pub none_collides : (bodies now : Bodies) (name : Name) → Had id_of bodies objects now → HasOneBody id_of bodies objects → Collided id_of text now name → ⊥
     none_collides bodies now name had one collided =
         let c = collided.collision in
         let makes = makes_body collided.objects collided.snapshot collided.means c.entry c.among in

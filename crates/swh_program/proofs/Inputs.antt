@@ -1,14 +1,18 @@
 -- What the loads of opened inputs say of what stands at their paths.
 use Rattle.std.proofs.Common.{◌≡◌, inl, inr, ℕ, ◌<◌, ◌≤◌, Option, Some, Result, Ok, Err, List, [], ◌∷◌, ◌++◌, length, map, refl, sym, ap, ◌∙◌, subst, arith, append_assoc, length-append}
 use Rattle.std.specs.List.{AllByRecursion}
-use Rattle.swh_base.specs.declared.visit.VisitKind.TheVariants.{Fast}
+use Rattle.std.specs.Prelude.{IfSome}
+use Rattle.swh_base.specs.declared.visit.VisitKind.{VisitKind}
 use Rattle.swh_base.specs.declared.kind.Kind.{Kind}
 use Rattle.swh_base.specs.declared.entry.Entry.{Entry}
-use Rattle.swh_outside.specs.Views.{Disks, Sources}
-use Rattle.swh_outside.specs.Faults.{Rose}
-use Rattle.swh_outside.specs.Opened.{IfFound}
-use Rattle.swh_outside.specs.declared.fault.Opened.{Opened}
-use Rattle.swh_outside.specs.declared.fault.Opened.TheVariants.{Found, NotFound as Missing, Failed as Unopened, Memory as NoRoom}
+use Rattle.swh_outside.specs.Views.{Disks}
+use Rattle.swh_walk.specs.declared.input.Opening.{Opening}
+use Rattle.swh_walk.specs.declared.input.Opening.TheVariants.{Found as Here, NotFound as Missing, Failed as Unopened, Memory as NoRoom}
+use Rattle.swh_inputs.specs.Input.{InputText, BreaksInput, MayBreakInput}
+use Rattle.swh_inputs.specs.Opening.{opening_of}
+use Rattle.swh_inputs.specs.Parts.{Parts, TellAll, IfTold, text_of, IsSameInput}
+use Rattle.swh_inputs.specs.declared.input.Input.{Input as OpenedInput}
+use Rattle.swh_inputs.proofs.Founds.{found_text}
 use Rattle.swh_model.specs.declared.event.Event.{Event}
 use Rattle.swh_model.specs.declared.event.EventKind.{EventKind}
 use Rattle.swh_model.specs.declared.event.EventKind.TheVariants.{Batch}
@@ -18,8 +22,8 @@ use Rattle.swh_keeper.specs.Kept.{Kept}
 use Rattle.swh_jobs.specs.Job.{Job}
 use Rattle.swh_walk.specs.Owning.{Attempt, attempt, open_event}
 use Rattle.swh_alone.specs.Loading.{IsEvent, IsOwnEvent, AreOfVisit, AddsVisit, Stops}
-use Rattle.swh_loader.specs.Ending.{IsEndOf, IsJobEnd}
-use Rattle.swh_loader.specs.Leaving.{AreAllowed, IsSameInput}
+use Rattle.swh_loader.specs.Ending.{IsMadeBy, IsFull, Collided, IsEndOf, IsEndAt, IsJobEnd}
+use Rattle.swh_loader.specs.Leaving.{AreAllowed, AreAllowedAt as AreAllowedAs}
 use Rattle.swh_walk.specs.Visiting.{next_visit}
 use Rattle.swh_alone.specs.Leaving as stopping
 use Rattle.swh_alone.proofs.Allowing.{adds_visit}
@@ -32,20 +36,12 @@ use Rattle.swh_walk.specs.declared.stop.Stop.TheVariants as why
 use Rattle.swh_walk.specs.declared.end.LoadFault.{LoadFault}
 use Rattle.swh_pool.specs.Lines.{ended}
 use Rattle.swh_pool.specs.Loads.{Loading, loading, attempt_at, AreAllowedAt, OneLoad, IsLoadOutcome as IsOutcomeOf, IsOneLoad, AreLoads}
-use Rattle.swh_program.specs.Dated.{IsOpenedAt, IsOpenedJob, AreOpenedJobs, IsGivenBack, AreGivenBack}
-use Rattle.swh_program.specs.Inputs.{loader, Inputs, inputs, Input, input_of, IsOfInput, IsInputEnd, StopsJobFor, StopsVisit, IsJobOutcome}
+use Rattle.swh_program.specs.Dated.{IsInputAt, IsOpenedJob, AreOpenedJobs, IsGivenBack, AreGivenBack}
+use Rattle.swh_program.specs.Found.{kind_at}
+use Rattle.swh_program.specs.Inputs.{loader, Inputs, inputs, Input, input_of, OfText, IsOfInput, IsInputEnd, StopsJobFor, StopsVisit, IsJobOutcome}
 use Rattle.swh_program.specs.Lines.{LoadedJob, dates, outcomes}
 use Rattle.swh_program.specs.Load.{IsJobLoad, AreJobLoads}
-
--- a count that rose later rose since before
-pub rose_since : (a b c : ℕ) → a ≤ b → Rose b c → Rose a c
-rose_since a b c le rose = omega (arith, le, rose)
-
-pub rose_until : (a b c : ℕ) → Rose a b → b ≤ c → Rose a c
-rose_until a b c rose le = omega (arith, rose, le)
-
-pub rose_above : (a b : ℕ) → Rose a b → 0 < b
-rose_above a b rose = omega (arith, rose)
+use Rattle.swh_program.proofs.OpenedInputs.{same_kind, same_text, no_text, opening_failed, read_failed, failed_until}
 
 -- what the line of a load is made of
 abbrev pub url_and_outcome : LoadedJob → List ℕ × Result Loaded LoadFault
@@ -103,39 +99,39 @@ module _ {D : Type 0} (id_of : Kind → List ℕ → List ℕ) (input : Input) (
       record { visit = inr (later.visit, later.more, later.opened, later.unended); stops = stops_for (IsOwnEvent P a fault.visit) own fault.why later.stops }
 
 -- a job as it was loaded
-abbrev pub loaded_job : {S : Type 0} → Job → OneLoad S → LoadedJob
+abbrev pub loaded_job : {S F : Type 0} → Job → OneLoad S F → LoadedJob
 loaded_job job l = record { job = job; date = l.job.date; outcome = l.outcome }
 
-abbrev pub loaded_jobs : {S : Type 0} → List Job → List (OneLoad S) → List LoadedJob
+abbrev pub loaded_jobs : {S F : Type 0} → List Job → List (OneLoad S F) → List LoadedJob
 loaded_jobs [] loads = []
 loaded_jobs (job ∷ jobs) [] = []
 loaded_jobs (job ∷ jobs) (l ∷ loads) = loaded_job job l ∷ loaded_jobs jobs loads
 
 -- Loads of opened jobs.
-module _ {S : Type 0} (sources : Sources S) (opened_by : Inputs) where
-  abbrev pub Open : List Job → List (OneLoad S) → Type 0
-  Open jobs loads = AreOpenedJobs sources opened_by jobs (map (λ l. l.job) loads)
+module _ {S F : Type 0} (p : Parts S F) (opened_by : Inputs) where
+  abbrev pub Open : List Job → List (OneLoad S F) → Type 0
+  Open jobs loads = AreOpenedJobs p opened_by jobs (map (λ l. l.job) loads)
 
   -- their jobs, dates and outcomes
-  pub same_jobs : (jobs : List Job) (loads : List (OneLoad S)) → Open jobs loads → map (λ l. l.job) (loaded_jobs jobs loads) ≡ jobs
+  pub same_jobs : (jobs : List Job) (loads : List (OneLoad S F)) → Open jobs loads → map (λ l. l.job) (loaded_jobs jobs loads) ≡ jobs
   same_jobs [] loads opened = refl
   same_jobs (job ∷ jobs) [] opened = absurd opened
   same_jobs (job ∷ jobs) (l ∷ loads) opened = ap (λ (more : List Job). job ∷ more) (same_jobs jobs loads opened.1)
 
-  pub same_dates : (jobs : List Job) (loads : List (OneLoad S)) → Open jobs loads → dates (loaded_jobs jobs loads) ≡ map (λ j. j.date) (map (λ l. l.job) loads)
+  pub same_dates : (jobs : List Job) (loads : List (OneLoad S F)) → Open jobs loads → dates (loaded_jobs jobs loads) ≡ map (λ j. j.date) (map (λ l. l.job) loads)
   same_dates [] [] opened = refl
   same_dates [] (l ∷ loads) opened = absurd opened
   same_dates (job ∷ jobs) [] opened = absurd opened
   same_dates (job ∷ jobs) (l ∷ loads) opened = ap (λ (more : List ℕ). l.job.date ∷ more) (same_dates jobs loads opened.1)
 
-  pub same_outcomes : (jobs : List Job) (loads : List (OneLoad S)) → Open jobs loads → outcomes (loaded_jobs jobs loads) ≡ map (λ l. l.outcome) loads
+  pub same_outcomes : (jobs : List Job) (loads : List (OneLoad S F)) → Open jobs loads → outcomes (loaded_jobs jobs loads) ≡ map (λ l. l.outcome) loads
   same_outcomes [] [] opened = refl
   same_outcomes [] (l ∷ loads) opened = absurd opened
   same_outcomes (job ∷ jobs) [] opened = absurd opened
   same_outcomes (job ∷ jobs) (l ∷ loads) opened = ap (λ (more : List (Result Loaded LoadFault)). l.outcome ∷ more) (same_outcomes jobs loads opened.1)
 
   -- their origins beside their outcomes
-  pub same_ended : {D : Type 0} (given : Loading S D) (jobs : List Job) (loads : List (OneLoad S)) (old new : Kept D) → Open jobs loads → AreLoads given loads old new
+  pub same_ended : {D : Type 0} (given : Loading S F D) (jobs : List Job) (loads : List (OneLoad S F)) (old new : Kept D) → Open jobs loads → AreLoads given loads old new
       → ended (map (λ l. l.after) loads) (map (λ l. l.outcome) loads) ≡ map url_and_outcome (loaded_jobs jobs loads)
   same_ended given [] [] old new opened are = refl
   same_ended given [] (l ∷ loads) old new opened are = absurd opened
@@ -145,82 +141,92 @@ module _ {S : Type 0} (sources : Sources S) (opened_by : Inputs) where
       let rest = same_ended given jobs loads are.0 new opened.1 are.2 in
       λ i. (url i, l.outcome) ∷ rest i
 
--- The inputs of jobs: opened, and given back.
-module _ {S : Type 0} (id_of : Kind → List ℕ → List ℕ) (sources : Sources S) (opened_by : Inputs) (after : List ℕ → ℕ)
-    (later : (p : List ℕ) → opened_by.failures p ≤ opened_by.failures_now p) (later_still : (p : List ℕ) → opened_by.failures_now p ≤ after p) where
-  -- by the counts before the open_event and after the giving back
-  abbrev pub of_jobs : Inputs
-  of_jobs = inputs opened_by.tell opened_by.at opened_by.failures after
+-- what is said of a text where all parts of an input tell it
+told_text : (P : InputText → Type 0) (found : Option InputText) (text : InputText) → found ≡ Some text → IfSome found P → P text
+told_text P found text e h = let there : IfSome (Some text) P = subst (λ (x : Option InputText). IfSome x P) e h in there
 
-  abbrev pub Opens : Job → Opened S → Type 0
-  Opens job stream = IsOpenedAt sources opened_by job.path stream
+-- The inputs of jobs: opened, and given back.
+module _ {S F : Type 0} (id_of : Kind → List ℕ → List ℕ) (p : Parts S F) (opened_by : Inputs) (after : List ℕ → ℕ)
+    (later : (q : List ℕ) → opened_by.failures q ≤ opened_by.failures_now q) (later_still : (q : List ℕ) → opened_by.failures_now q ≤ after q) where
+  -- by the counts before the opening and after the giving back
+  abbrev pub of_jobs : Inputs
+  of_jobs = inputs opened_by.tell opened_by.files opened_by.folders opened_by.failures after
 
   abbrev pub OfJob : Job → List Entry → Type 0
   OfJob job = IsOfInput id_of (input_of of_jobs job)
 
-  pub allowed : (job : Job) (s : Opened S) → (opened_by.tell → sources.tells) → (opened_by.tell → IfFound s (λ x. opened_by.at job.path ≡ Some (sources.left x))) → (entries : List Entry) → AreAllowed id_of job.head sources s entries → OfJob job entries
-  allowed job (Found s) told is entries allowed_by = λ t. (sources.left s, is t, allowed_by (told t))
-  allowed job _ told is entries allowed_by = absurd allowed_by
+  -- what is told of the text of an input that was found is told of what stands at its paths
+  of_text : (P : InputText → Type 0) (job : Job) (i : OpenedInput S F) → IsInputAt p opened_by job.input i → (opened_by.tell → TellAll p i) → opening_of i ≡ Here → IfTold p i P → OfText id_of (input_of of_jobs job) P
+  of_text P job i is told here h = λ t.
+      let same = same_text p opened_by t job.input i is here in
+      let found = found_text p i here in
+      (found.0, same ∙ found.1, told_text P (text_of p i) found.0 found.1 (h (told t)))
 
-  -- a path's count rose where a source of that path had failed
-  back_at : (path : List ℕ) (s : S) → sources.path s ≡ path → (0 < sources.faults s → Rose (opened_by.failures_now (sources.path s)) (after (sources.path s))) → 0 < sources.faults s → Rose (opened_by.failures path) (after path)
-  back_at path s at back some = rose_since (opened_by.failures path) (opened_by.failures_now path) (after path) (later path) (subst (λ (p : List ℕ). Rose (opened_by.failures_now p) (after p)) at (back some))
+  pub allowed : (job : Job) (i : OpenedInput S F) → IsInputAt p opened_by job.input i → (opened_by.tell → TellAll p i) → (entries : List Entry) → AreAllowed id_of p i entries → OfJob job entries
+  allowed job i is told entries by = at (opening_of i) refl by
+    where
+      at : (o : Opening) → opening_of i ≡ o → AreAllowedAs id_of p i o entries → OfJob job entries
+      at Here e h = of_text (λ text. AllByRecursion (IsMadeBy id_of text) entries) job i is told e h
+      at Missing e h = absurd h
+      at Unopened e h = absurd h
+      at NoRoom e h = absurd h
 
-  found_end : (job : Job) (bodies : Bodies) (s t : S) → (opened_by.tell → sources.tells) → (opened_by.tell → opened_by.at job.path ≡ Some (sources.left s)) → sources.faults s ≡ 0 → sources.path t ≡ job.path → (0 < sources.faults t → Rose (opened_by.failures_now (sources.path t)) (after (sources.path t)))
-      → (end : End) → IsEndOf id_of job.head sources bodies s t end → IsInputEnd id_of (input_of of_jobs job) bodies end
-  found_end job bodies s t told is none at back (Full snapshot) ends = λ h. (sources.left s, is h, ends (told h))
-  found_end job bodies s t told is none at back NotFound ends = absurd ends
-  found_end job bodies s t told is none at back (Failed (Broken bad)) ends = (ends.may, λ h. (sources.left s, is h, ends.breaks (told h)))
-  found_end job bodies s t told is none at back (Failed (Collision name)) ends = λ h. (sources.left s, is h, ends (told h))
-  found_end job bodies s t told is none at back (Failed Read) ends = back_at job.path t at back (rose_above (sources.faults s) (sources.faults t) ends)
+  found_end : (job : Job) (bodies : Bodies) (i now : OpenedInput S F) → IsInputAt p opened_by job.input i → (opened_by.tell → TellAll p i) → opening_of i ≡ Here → IsSameInput p i now → IsGivenBack p opened_by.failures_now after now
+      → (end : End) → IsEndOf id_of p bodies i now end → IsInputEnd id_of (input_of of_jobs job) bodies end
+  found_end job bodies i now is told here same back (Full snapshot) ends = of_text (λ text. IsFull id_of text bodies snapshot) job i is told here ends
+  found_end job bodies i now is told here same back NotFound ends = absurd ends
+  found_end job bodies i now is told here same back (Failed (Broken bad)) ends = (subst (λ (k : VisitKind). MayBreakInput k bad) (same_kind p opened_by job.input i is) ends.may, of_text (λ text. BreaksInput id_of text bad) job i is told here ends.breaks)
+  found_end job bodies i now is told here same back (Failed (Collision name)) ends = of_text (λ text. Collided id_of text bodies name) job i is told here ends
+  found_end job bodies i now is told here same back (Failed Read) ends = read_failed p opened_by after later job.input i now is same back ends
 
-  input_end : (job : Job) (bodies : Bodies) (s t : Opened S) → Opens job s → IsSameInput sources s t → IsGivenBack sources opened_by.failures_now after t → (end : End) → IsJobEnd id_of job.head sources bodies s t end
+  input_end : (job : Job) (bodies : Bodies) (i now : OpenedInput S F) → IsInputAt p opened_by job.input i → (opened_by.tell → TellAll p i) → IsSameInput p i now → IsGivenBack p opened_by.failures_now after now → (end : End) → IsJobEnd id_of p bodies i now end
       → IsInputEnd id_of (input_of of_jobs job) bodies end
-  input_end job bodies (Found s) (Found t) opened same back end ends = found_end job bodies s t opened.told opened.found opened.quiet (same.0 ∙ opened.at) back end ends
-  input_end job bodies (Found s) _ opened same back end ends = absurd ends
-  input_end job bodies Missing t opened same back end ends = subst (IsInputEnd id_of (input_of of_jobs job) bodies) (sym ends) (λ h. opened.absent h tt)
-  input_end job bodies Unopened t opened same back end ends =
-      subst (IsInputEnd id_of (input_of of_jobs job) bodies) (sym ends) (rose_until (opened_by.failures job.path) (opened_by.failures_now job.path) (after job.path) (opened.failed tt) (later_still job.path))
-  input_end job bodies NoRoom t opened same back end ends = absurd ends
+  input_end job bodies i now is told same back end ends = at (opening_of i) refl ends
+    where
+      at : (o : Opening) → opening_of i ≡ o → IsEndAt id_of p bodies o i now end → IsInputEnd id_of (input_of of_jobs job) bodies end
+      at Here e h = found_end job bodies i now is told e same back end h
+      at Missing e h = subst (IsInputEnd id_of (input_of of_jobs job) bodies) (sym h) (λ t. no_text p opened_by t job.input i is e)
+      at Unopened e h = subst (IsInputEnd id_of (input_of of_jobs job) bodies) (sym h) (failed_until opened_by.failures opened_by.failures_now after later_still job.input (opening_failed p opened_by job.input i is e))
+      at NoRoom e h = absurd h
 
   module _ {D : Type 0} (disks : Disks D) where
     -- what the loads are done with
-    abbrev pub given : Loading S D
-    given = loading id_of loader sources disks
+    abbrev pub given : Loading S F D
+    given = loading id_of loader p disks
 
-    -- what the load of an opened job says, with the job's head
-    line : (job : Job) (l : OneLoad S) (old new : Kept D) → Opens job l.job.job.stream → l.job.job.head ≡ job.head → IsGivenBack sources opened_by.failures_now after l.after.job.stream
-        → AddsVisit (AreAllowed id_of job.head sources l.job.job.stream) (attempt_at given l) old.history new.history → IsSameInput sources l.job.job.stream l.after.job.stream
+    -- who loads the job, and when
+    abbrev attempt_for : Job → OneLoad S F → Attempt
+    attempt_for job l = attempt loader job.url (kind_at job.input) l.job.date
+
+    same_attempt : (job : Job) (l : OneLoad S F) → IsOpenedJob p opened_by job l.job → attempt_at given l ≡ attempt_for job l
+    same_attempt job l opened = λ k. attempt loader (opened.origin k) (same_kind p opened_by job.input l.job.job.input opened.input k) l.job.date
+
+    -- what the load of an opened job says
+    line : (job : Job) (l : OneLoad S F) (old new : Kept D) → IsOpenedJob p opened_by job l.job → IsGivenBack p opened_by.failures_now after l.after.job.input
+        → AddsVisit (AreAllowedAt given l) (attempt_at given l) old.history new.history → IsSameInput p l.job.job.input l.after.job.input
         → (outcome : Result Loaded LoadFault) → IsOutcomeOf given l old new outcome
         → IsJobOutcome id_of (input_of of_jobs job) (attempt_at given l) old.history new.history outcome
-    line job l old new opened head back adds same (Ok loaded) is =
-        let means = subst (λ (h : Option (List ℕ)). IsJobEnd id_of h sources (replay new.history).bodies l.job.job.stream l.after.job.stream loaded.end) head is.means in
-        record { number = is.number; visit = is.visit; end = input_end job (replay new.history).bodies l.job.job.stream l.after.job.stream opened same back loaded.end means }
-    line job l old new opened head back adds same (Err fault) is =
-        let stops = subst (λ (h : Option (List ℕ)). Stops id_of disks (AreAllowed id_of h sources l.job.job.stream) (attempt_at given l) old new fault) head is in
-        stops_visit id_of (input_of of_jobs job) disks (AreAllowed id_of job.head sources l.job.job.stream) (attempt_at given l) old new (allowed job l.job.job.stream opened.told opened.found) adds fault stops
+    line job l old new opened back adds same (Ok loaded) is =
+        record { number = is.number; visit = is.visit; end = input_end job (replay new.history).bodies l.job.job.input l.after.job.input opened.input opened.told same back loaded.end is.means }
+    line job l old new opened back adds same (Err fault) is =
+        stops_visit id_of (input_of of_jobs job) disks (AreAllowedAt given l) (attempt_at given l) old new (allowed job l.job.job.input opened.input opened.told) adds fault is
 
-    -- what it adds, with the job's head
-    pub adds_with : (job : Job) (l : OneLoad S) (before after' : List Event) → l.job.job.head ≡ job.head → AddsVisit (AreAllowedAt given l) (attempt_at given l) before after'
-        → AddsVisit (AreAllowed id_of job.head sources l.job.job.stream) (attempt_at given l) before after'
-    adds_with job l before after' head adds = subst (λ (h : Option (List ℕ)). AddsVisit (AreAllowed id_of h sources l.job.job.stream) (attempt_at given l) before after') head adds
-
-    pub adds_of : (job : Job) (l : OneLoad S) (before after' : List Event) → IsOpenedJob sources opened_by job l.job → AddsVisit (AreAllowedAt given l) (attempt_at given l) before after'
-        → AddsVisit (OfJob job) (attempt loader job.url Fast l.job.date) before after'
+    pub adds_of : (job : Job) (l : OneLoad S F) (before after' : List Event) → IsOpenedJob p opened_by job l.job → AddsVisit (AreAllowedAt given l) (attempt_at given l) before after'
+        → AddsVisit (OfJob job) (attempt_for job l) before after'
     adds_of job l before after' opened adds =
-        subst (λ (u : List ℕ). AddsVisit (OfJob job) (attempt loader u Fast l.job.date) before after') opened.origin
-        (adds_visit (AreAllowed id_of job.head sources l.job.job.stream) (OfJob job) (attempt_at given l) (allowed job l.job.job.stream opened.input.told opened.input.found) before after' (adds_with job l before after' opened.head adds))
+        subst (λ (a : Attempt). AddsVisit (OfJob job) a before after') (same_attempt job l opened)
+        (adds_visit (AreAllowedAt given l) (OfJob job) (attempt_at given l) (allowed job l.job.job.input opened.input opened.told) before after' adds)
 
-    pub one_job : (job : Job) (l : OneLoad S) (old new : Kept D) → IsOpenedJob sources opened_by job l.job → IsGivenBack sources opened_by.failures_now after l.after.job.stream → IsOneLoad given l old new
+    pub one_job : (job : Job) (l : OneLoad S F) (old new : Kept D) → IsOpenedJob p opened_by job l.job → IsGivenBack p opened_by.failures_now after l.after.job.input → IsOneLoad given l old new
         → IsJobLoad id_of of_jobs (loaded_job job l) old.history new.history
     one_job job l old new opened back is =
-        let told = line job l old new opened.input opened.head back (adds_with job l old.history new.history opened.head is.adds) is.same_input l.outcome is.ends in
+        let told = line job l old new opened back is.adds is.same_input l.outcome is.ends in
         record {
           nothing_else = adds_of job l old.history new.history opened is.adds;
-          line = subst (λ (u : List ℕ). IsJobOutcome id_of (input_of of_jobs job) (attempt loader u Fast l.job.date) old.history new.history l.outcome) opened.origin told;
+          line = subst (λ (a : Attempt). IsJobOutcome id_of (input_of of_jobs job) a old.history new.history l.outcome) (same_attempt job l opened) told;
         }
 
-    pub each_job : (jobs : List Job) (loads : List (OneLoad S)) (old new : Kept D) → Open sources opened_by jobs loads → AreGivenBack sources opened_by.failures_now after (map (λ l. l.after) loads)
+    pub each_job : (jobs : List Job) (loads : List (OneLoad S F)) (old new : Kept D) → Open p opened_by jobs loads → AreGivenBack p opened_by.failures_now after (map (λ l. l.after) loads)
         → AreLoads given loads old new → AreJobLoads id_of of_jobs (loaded_jobs jobs loads) old.history new.history
     each_job [] [] old new opened back are = ap (λ (k : Kept D). k.history) are
     each_job [] (l ∷ loads) old new opened back are = absurd opened

@@ -13,8 +13,8 @@ use Rattle.swh_program.specs.declared.answer.Answer.{Answer}
 use Rattle.swh_program.specs.declared.answer.Answer.TheVariants.{BadJob, Memory}
 
 -- A front of the file at a path was read, longer than any job file where it is not all of it.
-module _ (file_at : FileAt) (path left now front : List ℕ) (there : file_at path ≡ Some left) (read : IsFront left now 1837056 front) where
-  whole_at : length front ≤ 1837056 → file_at path ≡ Some front
+module _ (file_at : FileAt) (path left now front : List ℕ) (there : file_at path ≡ Some left) (read : IsFront left now 2623744 front) where
+  whole_at : length front ≤ 2623744 → file_at path ≡ Some front
   whole_at short = there ∙ ap (λ (bytes : List ℕ). Some bytes) (read.cut ∙ ap (λ (rest : List ℕ). front ++ rest) (read.whole short) ∙ append-nil front)
 
   pub jobs_at : (jobs : List Job) → IsJobFile front jobs → AreJobsAt file_at path jobs
@@ -23,11 +23,11 @@ module _ (file_at : FileAt) (path left now front : List ℕ) (there : file_at pa
   tells_bad : (text : List ℕ) → TellsFault front text → TellsBadJob file_at path text
   tells_bad text tells =
       ⊎_elim
-      (λ (long : 1837056 < length front).
+      (λ (long : 2623744 < length front).
       let fault = front_lem front now tells.line tells.why long tells.fault in
       record { line = tells.line; why = tells.why; bad = record { bytes = front ++ now; there = there ∙ ap (λ (bytes : List ℕ). Some bytes) read.cut; fault = fault }; text_is = tells.text_is })
-      (λ (short : length front ≤ 1837056). record { line = tells.line; why = tells.why; bad = record { bytes = front; there = whole_at short; fault = tells.fault }; text_is = tells.text_is })
-      (cases_lt 1837056 (length front))
+      (λ (short : length front ≤ 2623744). record { line = tells.line; why = tells.why; bad = record { bytes = front; there = whole_at short; fault = tells.fault }; text_is = tells.text_is })
+      (cases_lt 2623744 (length front))
 
   pub refused_at : (answer : Answer) → IsReadRefusal front answer → IsJobRefused file_at path answer
   refused_at (BadJob text) is = tells_bad text is

@@ -2,6 +2,8 @@ pub mod Elements
 pub mod Ends
 pub mod Told
 pub mod Opened
+pub mod Rises
+pub mod OpenedInputs
 pub mod Inputs
 pub mod Endings
 pub mod Calling

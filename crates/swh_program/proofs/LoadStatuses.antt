@@ -13,6 +13,7 @@ use Rattle.swh_program.specs.Causes.{IsFullLine, HasShortLine, IsBadInput}
 use Rattle.swh_program.specs.Run.{ComesTo, IsExactly}
 use Rattle.swh_program.specs.Archives.{old_archive, new_archive}
 use Rattle.swh_program.specs.LoadCommand.{givens_of, IsByLines}
+use Rattle.swh_program.specs.Found.{found_at}
 use Rattle.swh_program.specs.Jobs.{AreJobsAt, HasJobs, HasNoJobs, IsBadAt, IsJobRefusal, bad_job_line}
 use Rattle.swh_program.specs.Lines.{LoadedJob, outcomes, load_line, ending_of_all, TellsLoads}
 use Rattle.swh_program.specs.Load.{Givens, AreLoadedJobs, IsUnloaded, IsLoadedOrNot, LoadEnds, IsJobsRun, IsNoJobsRun}
@@ -159,7 +160,7 @@ module _ (g : Givens) (desk_at : FileAt) (path : List ℕ) (old new : Files) whe
 
   -- a bad input
   module _ (inputs : g.inputs.tell) (disks : g.disks_tell) (before : List Event) (archive : IsArchive g.id_of old before) where
-    outcome_bad : (answer : Answer) (jobs : List Job) (job : Job) → Contains jobs job → IsLoadedOrNot g old new jobs answer → IsBadInput g.id_of job.head (replay before).bodies (g.inputs.at job.path) → ComesTo 1 (status_of answer)
+    outcome_bad : (answer : Answer) (jobs : List Job) (job : Job) → Contains jobs job → IsLoadedOrNot g old new jobs answer → IsBadInput g.id_of (replay before).bodies (found_at g.inputs.files g.inputs.folders job.input) → ComesTo 1 (status_of answer)
     outcome_bad answer jobs job among (inl loaded) bad =
         let told = told_of loaded.loads answer loaded.told in
         let load = loaded.load in
@@ -175,7 +176,7 @@ module _ (g : Givens) (desk_at : FileAt) (path : List ℕ) (old new : Files) whe
         ⊎_elim (λ (disk : answer ≡ OutsideDisk). inr (inl (ap status_of disk))) (λ (memory : answer ≡ Memory). inr (inr (ap status_of memory))) (opening_of_archive g.id_of old new before archive answer refused.0 (refused.1 disks)))
         (unloaded_cases g.id_of g.disks_tell old new answer none)
 
-    pub load_input : (jobs : List Job) (job : Job) → AreJobsAt desk_at path jobs → Contains jobs job → IsBadInput g.id_of job.head (replay before).bodies (g.inputs.at job.path) → (answer : Answer) → Ends answer → ComesTo 1 (status_of answer)
+    pub load_input : (jobs : List Job) (job : Job) → AreJobsAt desk_at path jobs → Contains jobs job → IsBadInput g.id_of (replay before).bodies (found_at g.inputs.files g.inputs.folders job.input) → (answer : Answer) → Ends answer → ComesTo 1 (status_of answer)
     load_input jobs job there among bad answer (inl run) =
         outcome_bad answer run.jobs job (subst (λ (js : List Job). Contains js job) (one_list desk_at path jobs run.jobs there (run.there inputs)) among) run.outcome bad
     load_input jobs job there among bad answer (inr none) = right_comes inputs answer none jobs there 1

@@ -1,7 +1,7 @@
 -- Loads against which nothing stands are told as their inputs have it, or memory ran out.
 use Rattle.std.proofs.Common.{◌≡◌, ◌⊎◌, inl, inr, ⊎_elim, ℕ, ◌+◌, ◌*◌, ◌≤◌, Option, Some, None, Result, Ok, Err, List, [], ◌∷◌, ◌++◌, length, map, Contains, refl, sym, ap, ◌∙◌, subst, arith}
 use Rattle.std.specs.List.{AllByRecursion, flat_map}
-use Rattle.swh_base.specs.declared.visit.VisitKind.TheVariants.{Fast}
+use Rattle.swh_base.specs.declared.visit.VisitKind.{VisitKind}
 use Rattle.swh_base.specs.declared.kind.Kind.{Kind}
 use Rattle.swh_base.specs.declared.entry.Entry.{Entry}
 use Rattle.swh_base.specs.declared.name.Name.{Name}
@@ -32,6 +32,8 @@ use Rattle.swh_walk.specs.declared.end.LoadFault.{LoadFault}
 use Rattle.swh_loader.proofs.Marks.{others, others_none, others_most, ended_most}
 use Rattle.swh_loader.proofs.Room.{HasRoomLeft, room_after, none_meets_end}
 use Rattle.swh_program.specs.Complete.{AreMade, HasAllMade, HasBodyOrMakes, HasOneBody}
+use Rattle.swh_inputs.specs.Input.{InputText}
+use Rattle.swh_program.specs.Found.{kind_at, found_at}
 use Rattle.swh_program.specs.Exact.{line_for, lines_for, ending_of_ends, MeansSnapshot, IsEndFor, IsExactEnd, AreExactEnds}
 use Rattle.swh_program.specs.Inputs.{Inputs, input_of, loader, IsInputEnd, MeetsEnd, StopsJobFor, StopsVisit, IsJobOutcome}
 use Rattle.swh_program.specs.Lines.{LoadedJob, outcomes, load_line, ending_of_end, ending_of_why, ending_for, ending_of_all, worse}
@@ -72,7 +74,7 @@ memory-worse ends =
 
 -- Nothing stands against the loads of these jobs but their inputs.
 module _ (id_of : Kind → List ℕ → List ℕ) (of_jobs : Inputs) (told : of_jobs.tell) (before : List Event) (all : List Job) (objects : List MadeObject)
-    (has : HasAllMade id_of of_jobs.at all objects) (one : HasOneBody id_of (replay before).bodies objects) where
+    (has : HasAllMade id_of of_jobs.files of_jobs.folders all objects) (one : HasOneBody id_of (replay before).bodies objects) where
   abbrev HadBefore : List Event → Type 0
   HadBefore h = Had id_of (replay before).bodies objects (replay h).bodies
 
@@ -106,21 +108,21 @@ module _ (id_of : Kind → List ℕ → List ℕ) (of_jobs : Inputs) (told : of_
 
   -- one job
   module _ (job : Job) (among : Contains all job) where
-    within : (text : List ℕ) → of_jobs.at job.path ≡ Some text → MakesWithin id_of objects job.head text
+    within : (text : InputText) → found_at of_jobs.files of_jobs.folders job.input ≡ Some text → MakesWithin id_of objects text
     within text there making means = has.has job text making among there means
 
     abbrev Allowed : List Entry → Type 0
     Allowed entries = IsOfJob id_of of_jobs job entries
 
     of_job : (entries : List Entry) → Allowed entries → AreMade id_of objects entries
-    of_job entries is = let t = is told in are_made id_of objects job.head t.0 (within t.0 t.1) entries t.2
+    of_job entries is = let t = is told in are_made id_of objects t.0 (within t.0 t.1) entries t.2
 
     -- its load's events are those of its text
-    of_load : (date : ℕ) (h h' : List Event) → AddsVisit Allowed (attempt loader job.url Fast date) h h' → AddsVisit (AreMade id_of objects) (attempt loader job.url Fast date) h h'
-    of_load date h h' adds = adds_visit Allowed (AreMade id_of objects) (attempt loader job.url Fast date) of_job h h' adds
+    of_load : (date : ℕ) (h h' : List Event) → AddsVisit Allowed (attempt loader job.url (kind_at job.input) date) h h' → AddsVisit (AreMade id_of objects) (attempt loader job.url (kind_at job.input) date) h h'
+    of_load date h h' adds = adds_visit Allowed (AreMade id_of objects) (attempt loader job.url (kind_at job.input) date) of_job h h' adds
 
-    had_load : (date : ℕ) (h h' : List Event) → IsHistory id_of h' → AddsVisit Allowed (attempt loader job.url Fast date) h h' → HadBefore h → HadBefore h'
-    had_load date h h' history adds had = had_after id_of objects (replay before).bodies (attempt loader job.url Fast date) h h' history (of_load date h h' adds) had
+    had_load : (date : ℕ) (h h' : List Event) → IsHistory id_of h' → AddsVisit Allowed (attempt loader job.url (kind_at job.input) date) h h' → HadBefore h → HadBefore h'
+    had_load date h h' history adds had = had_after id_of objects (replay before).bodies (attempt loader job.url (kind_at job.input) date) h h' history (of_load date h h' adds) had
 
     wider : (making : StreamMeaning) → ((o : MadeObject) → Contains making.objects o → Contains objects o) → HasOneBody id_of (replay before).bodies making.objects
     wider making more = record { one = λ name a b x y. one.one name a b (has_more name a x) (has_more name b y) }
@@ -130,10 +132,10 @@ module _ (id_of : Kind → List ℕ → List ℕ) (of_jobs : Inputs) (told : of_
         has_more name body (inr makes) = inr (more (record { kind = name.kind; body = body }) makes.0, makes.1)
 
     -- one load of it
-    module _ (date : ℕ) (h h' later : List Event) (history : IsHistory id_of h') (fits : AreCodable 0 (h' ++ later)) (adds : AddsVisit Allowed (attempt loader job.url Fast date) h h') (had : HadBefore h') (next : IsNextAt h job)
+    module _ (date : ℕ) (h h' later : List Event) (history : IsHistory id_of h') (fits : AreCodable 0 (h' ++ later)) (adds : AddsVisit Allowed (attempt loader job.url (kind_at job.input) date) h h') (had : HadBefore h') (next : IsNextAt h job)
         (is_job : IsJob job) where
       abbrev t : Attempt
-      t = attempt loader job.url Fast date
+      t = attempt loader job.url (kind_at job.input) date
 
       made_adds : AddsVisit (AreMade id_of objects) t h h'
       made_adds = of_load date h h' adds
@@ -178,16 +180,16 @@ module _ (id_of : Kind → List ℕ → List ℕ) (of_jobs : Inputs) (told : of_
           let t = is told in
           let full = t.2 in
           let making : StreamMeaning = record { objects = made full.objects; snapshot = snapshot } in
-          let means : MeansSnapshot id_of job.head (replay before).bodies t.0 snapshot =
+          let means : MeansSnapshot id_of (replay before).bodies t.0 snapshot =
           record { making = making; means = full.means.meaning; one = wider making (within t.0 t.1 making full.means.meaning); snapshot_is = refl } in
-          inl (subst (λ (found : Option (List ℕ)). IsEndFor id_of job.head (replay before).bodies found (Full snapshot)) (sym t.1) means)
-      end_exact NotFound is = inl (subst (λ (found : Option (List ℕ)). IsEndFor id_of job.head (replay before).bodies found NotFound) (sym (is told)) refl)
+          inl (subst (λ (found : Option InputText). IsEndFor id_of (replay before).bodies found (Full snapshot)) (sym t.1) means)
+      end_exact NotFound is = inl (subst (λ (found : Option InputText). IsEndFor id_of (replay before).bodies found NotFound) (sym (is told)) refl)
       end_exact (Failed (Broken bad)) is =
           let t = is.1 told in
-          inl (subst (λ (found : Option (List ℕ)). IsEndFor id_of job.head (replay before).bodies found (Failed (Broken bad))) (sym t.1) t.2)
+          inl (subst (λ (found : Option InputText). IsEndFor id_of (replay before).bodies found (Failed (Broken bad))) (sym t.1) t.2)
       end_exact (Failed (Collision name)) is =
           let t = is told in
-          absurd (none_collides id_of objects job.head t.0 (within t.0 t.1) (replay before).bodies (replay h').bodies name had one t.2)
+          absurd (none_collides id_of objects t.0 (within t.0 t.1) (replay before).bodies (replay h').bodies name had one t.2)
       end_exact (Failed Read) is = inr (refl, is)
 
       -- why it stopped
@@ -207,12 +209,12 @@ module _ (id_of : Kind → List ℕ → List ℕ) (of_jobs : Inputs) (told : of_
       one_done (Err f) marks enough room line apart = inl (stop_done f marks enough room line f.why line.stops apart)
 
   -- a load leaves the next visits of the jobs after it
-  others_next : (P : List Entry → Type 0) (origin : List ℕ) (date : ℕ) (h h' : List Event) → IsHistory id_of h' → AddsVisit P (attempt loader origin Fast date) h h' → (jobs : List Job)
+  others_next : (P : List Entry → Type 0) (origin : List ℕ) (kind : VisitKind) (date : ℕ) (h h' : List Event) → IsHistory id_of h' → AddsVisit P (attempt loader origin kind date) h h' → (jobs : List Job)
       → (Contains (origins jobs) origin → ⊥) → AllByRecursion (IsNextAt h) jobs → AllByRecursion (IsNextAt h') jobs
-  others_next P origin date h h' history adds [] apart next = tt
-  others_next P origin date h h' history adds (job ∷ jobs) apart next = (
-    next_stays P (attempt loader origin Fast date) job.url (λ e. apart (subst (λ (u : List ℕ). Contains (job.url ∷ origins jobs) u) e (contains_first job.url (origins jobs)))) id_of h h' history adds ∙ next.0,
-    others_next P origin date h h' history adds jobs (λ there. apart (contains_more job.url (origins jobs) origin there)) next.1,
+  others_next P origin kind date h h' history adds [] apart next = tt
+  others_next P origin kind date h h' history adds (job ∷ jobs) apart next = (
+    next_stays P (attempt loader origin kind date) job.url (λ e. apart (subst (λ (u : List ℕ). Contains (job.url ∷ origins jobs) u) e (contains_first job.url (origins jobs)))) id_of h h' history adds ∙ next.0,
+    others_next P origin kind date h h' history adds jobs (λ there. apart (contains_more job.url (origins jobs) origin there)) next.1,
   )
 
   -- one done and the others
@@ -244,12 +246,12 @@ module _ (id_of : Kind → List ℕ → List ℕ) (of_jobs : Inputs) (told : of_
       let rest = all_behind id_of of_jobs loads between after each.2 in
       let here : IsHistory id_of between = (fronts id_of empty_archive between rest.0 (subst (IsHistory id_of) rest.1 history)).0 in
       let fits_here : AreCodable 0 (between ++ rest.0) = subst (AreCodable 0) rest.1 fits in
-      let adds = subst (λ (j : Job). AddsVisit (IsOfJob id_of of_jobs j) (attempt loader j.url Fast l.date) h between) same each.1.nothing_else in
-      let line = subst (λ (j : Job). IsJobOutcome id_of (input_of of_jobs j) (attempt loader j.url Fast l.date) h between l.outcome) same each.1.line in
+      let adds = subst (λ (j : Job). AddsVisit (IsOfJob id_of of_jobs j) (attempt loader j.url (kind_at j.input) l.date) h between) same each.1.nothing_else in
+      let line = subst (λ (j : Job). IsJobOutcome id_of (input_of of_jobs j) (attempt loader j.url (kind_at j.input) l.date) h between l.outcome) same each.1.line in
       let had_here = had_load job among.0 l.date h between here adds had in
       let marks = length (job ∷ jobs) * 3 in
       let room_here = room_left job among.0 l.date h between rest.0 here fits_here adds had_here next.0 good.0 l.outcome marks (length jobs * 3) line (omega arith) room in
       both_done l loads job jobs same
       (one_done job among.0 l.date h between rest.0 here fits_here adds had_here next.0 good.0 l.outcome marks (omega arith) room line (first_apart l.outcome (outcomes loads) apart))
-      (all_done loads jobs between after others_same among.1 good.1 distinct.1 (others_next (IsOfJob id_of of_jobs job) job.url l.date h between here adds jobs distinct.0 next.1) had_here room_here
+      (all_done loads jobs between after others_same among.1 good.1 distinct.1 (others_next (IsOfJob id_of of_jobs job) job.url (kind_at job.input) l.date h between here adds jobs distinct.0 next.1) had_here room_here
       history fits each.2 (others_apart l.outcome (outcomes loads) apart))

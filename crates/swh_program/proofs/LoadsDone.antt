@@ -10,8 +10,9 @@ use Rattle.swh_model.specs.declared.event.Event.{Event}
 use Rattle.swh_model.specs.Archive.{Bodies, body_of}
 use Rattle.swh_model.specs.Meaning.{Made as MadeObject, StreamMeaning}
 use Rattle.swh_model.specs.Step.{replay}
-use Rattle.swh_fastload.specs.Input.{IsSameMaking, Means}
-use Rattle.swh_fastload.proofs.InputLaws.{one_making, unbroken}
+use Rattle.swh_fastload.specs.Input.{IsSameMaking}
+use Rattle.swh_inputs.specs.Input.{InputText, MeansInput}
+use Rattle.swh_inputs.proofs.OneInput.{one_making, unbroken}
 use Rattle.swh_walk.specs.Visiting.{next_visit}
 use Rattle.swh_walk.proofs.Batches.{at_element}
 use Rattle.swh_loader.proofs.Room.{HasRoomLeft, room_at_entry}
@@ -22,6 +23,7 @@ use Rattle.swh_program.specs.Seen.{FileAt}
 use Rattle.swh_program.specs.Answers.{TellsDisk, status_of, status_for, last_line_for, printed_by}
 use Rattle.swh_program.specs.Complete.{MeantJob, jobs_of_meant, full_lines, all_made, IsMeant, AreMeant, HasAllMade, HasBodyOrMakes, HasOneBody, HasRoomForLoads, AreQuiet}
 use Rattle.swh_program.specs.Exact.{line_for, lines_for, ending_of_ends, MeansCollision, IsEndFor, IsExactEnd, AreExactEnds, IsExact}
+use Rattle.swh_program.specs.Found.{found_at, paths_of}
 use Rattle.swh_program.specs.Jobs.{AreJobsAt}
 use Rattle.swh_program.specs.Inputs.{Inputs}
 use Rattle.swh_program.specs.Lines.{LoadedJob, outcomes, ending_of_end, ending_of_all, worse, TellsLoads}
@@ -47,7 +49,7 @@ no_disk_told loads text end tells apart e = apart (tells.end_is ∙ e)
 -- a run of `load`
 module _ (g : Givens) (desk_at : FileAt) (inputs : g.inputs.tell) (disks : g.disks_tell)
     (path : List ℕ) (before : List Event) (jobs : List Job) (objects : List MadeObject) (old new : Files) (archive : IsArchive g.id_of old before) (there : AreJobsAt desk_at path jobs)
-    (has : HasAllMade g.id_of g.inputs.at jobs objects) (one : HasOneBody g.id_of (replay before).bodies objects) (room : HasRoomForLoads g.id_of before jobs objects) where
+    (has : HasAllMade g.id_of g.inputs.files g.inputs.folders jobs objects) (one : HasOneBody g.id_of (replay before).bodies objects) (room : HasRoomForLoads g.id_of before jobs objects) where
   abbrev Exactly : Answer → Type 0
   Exactly answer = IsExact g.id_of g.inputs (replay before) jobs answer
 
@@ -106,21 +108,21 @@ module _ (g : Givens) (desk_at : FileAt) (inputs : g.inputs.tell) (disks : g.dis
 
 -- Jobs whose inputs are there and mean something.
 module _ (id_of : Kind → List ℕ → List ℕ) (of_jobs : Inputs) where
-  this_making : (m : MeantJob) → IsMeant id_of of_jobs.at m → (text : List ℕ) (making : StreamMeaning) → of_jobs.at m.job.path ≡ Some text → Means id_of m.job.head text making → IsSameMaking making m.making
+  this_making : (m : MeantJob) → IsMeant id_of of_jobs.files of_jobs.folders m → (text : InputText) (making : StreamMeaning) → found_at of_jobs.files of_jobs.folders m.job.input ≡ Some text → MeansInput id_of text making → IsSameMaking making m.making
   this_making m meant text making is means =
       let both : Some text ≡ Some meant.text = sym is ∙ meant.there in
       let same : text ≡ meant.text = cc in
-      one_making id_of m.job.head meant.text making m.making (subst (λ (t : List ℕ). Means id_of m.job.head t making) same means) meant.means
+      one_making id_of meant.text making m.making (subst (λ (t : InputText). MeansInput id_of t making) same means) meant.means
 
   -- what they make
-  pub meant_all_made : (meant : List MeantJob) → AreMeant id_of of_jobs.at meant → HasAllMade id_of of_jobs.at (jobs_of_meant meant) (all_made meant)
+  pub meant_all_made : (meant : List MeantJob) → AreMeant id_of of_jobs.files of_jobs.folders meant → HasAllMade id_of of_jobs.files of_jobs.folders (jobs_of_meant meant) (all_made meant)
   meant_all_made meant are = record { has = λ job text making among is means o made. has job text making o is means made (from_map (λ (m : MeantJob). m.job) meant job among) }
     where
-      has : (job : Job) (text : List ℕ) (making : StreamMeaning) (o : MadeObject) → of_jobs.at job.path ≡ Some text → Means id_of job.head text making → Contains making.objects o
+      has : (job : Job) (text : InputText) (making : StreamMeaning) (o : MadeObject) → found_at of_jobs.files of_jobs.folders job.input ≡ Some text → MeansInput id_of text making → Contains making.objects o
           → (m : MeantJob) × Contains meant m × (m.job ≡ job) → Contains (all_made meant) o
       has job text making o is means made from =
           let m = from.0 in
-          let same = this_making m (at_element (IsMeant id_of of_jobs.at) meant m are from.1) text making (subst (λ (j : Job). of_jobs.at j.path ≡ Some text) (sym from.2) is) (subst (λ (j : Job). Means id_of j.head text making) (sym from.2) means) in
+          let same = this_making m (at_element (IsMeant id_of of_jobs.files of_jobs.folders) meant m are from.1) text making (subst (λ (j : Job). found_at of_jobs.files of_jobs.folders j.input ≡ Some text) (sym from.2) is) means in
           flat_contains (λ (k : MeantJob). k.making.objects) meant m o from.1 ((same.objects o).0 made)
 
   -- where none of their paths has failed, and no name has two bodies
@@ -128,32 +130,32 @@ module _ (id_of : Kind → List ℕ → List ℕ) (of_jobs : Inputs) where
     abbrev bodies : Bodies
     bodies = (replay before).bodies
 
-    module _ (m : MeantJob) (among : Contains all m) (meant : IsMeant id_of of_jobs.at m) where
+    module _ (m : MeantJob) (among : Contains all m) (meant : IsMeant id_of of_jobs.files of_jobs.folders m) where
       has_more : (making : StreamMeaning) → IsSameMaking making m.making → (name : Name) (body : List ℕ) → HasBodyOrMakes id_of bodies making.objects name body → HasBodyOrMakes id_of bodies (all_made all) name body
       has_more making same name body (inl held) = inl held
       has_more making same name body (inr makes) =
           let object : MadeObject = record { kind = name.kind; body = body } in
           inr (flat_contains (λ (k : MeantJob). k.making.objects) all m object among ((same.objects object).0 makes.0), makes.1)
 
-      no_collision : (name : Name) → MeansCollision id_of m.job.head bodies meant.text name → ⊥
+      no_collision : (name : Name) → MeansCollision id_of bodies meant.text name → ⊥
       no_collision name c =
-          let same = one_making id_of m.job.head meant.text c.making m.making c.means meant.means in
+          let same = one_making id_of meant.text c.making m.making c.means meant.means in
           c.apart (one.one name c.a c.b (has_more c.making same name c.a c.has_a) (has_more c.making same name c.b c.has_b))
 
       -- each is full
-      end_full : (end : End) → IsEndFor id_of m.job.head bodies (Some meant.text) end → end ≡ Full m.making.snapshot
-      end_full (Full snapshot) is = ap Full (is.snapshot_is ∙ (one_making id_of m.job.head meant.text is.making m.making is.means meant.means).snapshot)
+      end_full : (end : End) → IsEndFor id_of bodies (Some meant.text) end → end ≡ Full m.making.snapshot
+      end_full (Full snapshot) is = ap Full (is.snapshot_is ∙ (one_making id_of meant.text is.making m.making is.means meant.means).snapshot)
       end_full NotFound is = absurd is
-      end_full (Failed (Broken bad)) is = absurd (unbroken id_of m.job.head meant.text m.making bad meant.means is)
+      end_full (Failed (Broken bad)) is = absurd (unbroken id_of meant.text m.making bad meant.means is)
       end_full (Failed (Collision name)) is = absurd (no_collision name is)
       end_full (Failed Read) is = absurd is
 
-      exact_full : IsQuiet (of_jobs.failures m.job.path) (of_jobs.failures_now m.job.path) → (end : End) → IsExactEnd id_of of_jobs (replay before) m.job end → end ≡ Full m.making.snapshot
-      exact_full quiet end (inl is) = end_full end (subst (λ (f : Option (List ℕ)). IsEndFor id_of m.job.head bodies f end) meant.there is)
-      exact_full quiet end (inr read) = absurd (quiet read.1)
+      exact_full : AllByRecursion (λ path. IsQuiet (of_jobs.failures path) (of_jobs.failures_now path)) (paths_of m.job.input) → (end : End) → IsExactEnd id_of of_jobs (replay before) m.job end → end ≡ Full m.making.snapshot
+      exact_full quiet end (inl is) = end_full end (subst (λ (f : Option InputText). IsEndFor id_of bodies f end) meant.there is)
+      exact_full quiet end (inr read) = absurd (at_element (λ path. IsQuiet (of_jobs.failures path) (of_jobs.failures_now path)) (paths_of m.job.input) read.1.path quiet read.1.among read.1.rose)
 
     -- and its line says it
-    all_full : (ms : List MeantJob) → AllByRecursion (Contains all) ms → AreMeant id_of of_jobs.at ms → AreQuiet of_jobs.failures of_jobs.failures_now ms → (ends : List End) → AreExactEnds id_of of_jobs (replay before) (jobs_of_meant ms) ends
+    all_full : (ms : List MeantJob) → AllByRecursion (Contains all) ms → AreMeant id_of of_jobs.files of_jobs.folders ms → AreQuiet of_jobs.failures of_jobs.failures_now ms → (ends : List End) → AreExactEnds id_of of_jobs (replay before) (jobs_of_meant ms) ends
         → (ending_of_ends ends ≡ ending.Done) × (lines_for (replay before) (jobs_of_meant ms) ends ≡ full_lines before ms)
     all_full [] among are quiet [] exact = (refl, refl)
     all_full [] among are quiet (end ∷ ends) exact = absurd exact
@@ -163,7 +165,7 @@ module _ (id_of : Kind → List ℕ → List ℕ) (of_jobs : Inputs) where
         let rest = all_full ms among.1 are.1 quiet.1 ends exact.1 in
         (λ i. worse (ending_of_end (full i)) (rest.0 i), λ i. line_for (replay before) m.job (full i) ++ rest.1 i)
 
-    pub load_done : AreMeant id_of of_jobs.at all → AreQuiet of_jobs.failures of_jobs.failures_now all → (answer : Answer) → IsExact id_of of_jobs (replay before) (jobs_of_meant all) answer → Tells (full_lines before all) 0 answer
+    pub load_done : AreMeant id_of of_jobs.files of_jobs.folders all → AreQuiet of_jobs.failures of_jobs.failures_now all → (answer : Answer) → IsExact id_of of_jobs (replay before) (jobs_of_meant all) answer → Tells (full_lines before all) 0 answer
     load_done are quiet answer (inl memory) = inl memory
     load_done are quiet answer (inr exact) =
         let full = all_full all (each_among all) are quiet exact.ends exact.are in

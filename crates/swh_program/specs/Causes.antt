@@ -3,8 +3,8 @@ use Rattle.std.specs.Prelude.{◌⊎◌, ℕ, Option, Some, None, Result, Ok, Er
 use Rattle.swh_base.specs.declared.kind.Kind.{Kind}
 use Rattle.swh_base.specs.declared.name.Name.{Name}
 use Rattle.swh_model.specs.Archive.{Bodies}
-use Rattle.swh_fastload.specs.Input.{Breaks}
-use Rattle.swh_fastload.specs.declared.bad.BadStream.{BadStream}
+use Rattle.swh_inputs.specs.Input.{InputText, BreaksInput}
+use Rattle.swh_inputs.specs.declared.bad.BadText.{BadText}
 use Rattle.swh_loader.specs.declared.end.End.{End}
 use Rattle.swh_loader.specs.declared.end.End.TheVariants.{Full, NotFound, Failed}
 use Rattle.swh_loader.specs.declared.end.Loaded.{Loaded}
@@ -49,15 +49,15 @@ pub record HasShortLine (ended : List (Result Loaded LoadFault)) : Type 0 where
   pub among : Contains ended outcome
   pub short : IsShortLine outcome
 
--- Under some name this input, with this head or none, would put a second body.
-abbrev pub HasTwoBodies : (Kind → List ℕ → List ℕ) → Option (List ℕ) → Bodies → List ℕ → Type 0
-HasTwoBodies id_of head bodies text = (name : Name) × MeansCollision id_of head bodies text name
+-- Under some name this input would put a second body.
+abbrev pub HasTwoBodies : (Kind → List ℕ → List ℕ) → Bodies → InputText → Type 0
+HasTwoBodies id_of bodies text = (name : Name) × MeansCollision id_of bodies text name
 
--- The input breaks in some way, with this head or none.
-abbrev pub IsBroken : (Kind → List ℕ → List ℕ) → Option (List ℕ) → List ℕ → Type 0
-IsBroken id_of head text = (bad : BadStream) × Breaks id_of head text bad
+-- The input breaks in some way.
+abbrev pub IsBroken : (Kind → List ℕ → List ℕ) → InputText → Type 0
+IsBroken id_of text = (bad : BadText) × BreaksInput id_of text bad
 
--- The input is not there, breaks with this head or none, or would put a second body under some name.
-abbrev pub IsBadInput : (Kind → List ℕ → List ℕ) → Option (List ℕ) → Bodies → Option (List ℕ) → Type 0
-IsBadInput id_of head bodies None = Unit {0}
-IsBadInput id_of head bodies (Some text) = IsBroken id_of head text ⊎ HasTwoBodies id_of head bodies text
+-- The input is not all there, breaks, or would put a second body under some name.
+abbrev pub IsBadInput : (Kind → List ℕ → List ℕ) → Bodies → Option InputText → Type 0
+IsBadInput id_of bodies None = Unit {0}
+IsBadInput id_of bodies (Some text) = IsBroken id_of text ⊎ HasTwoBodies id_of bodies text

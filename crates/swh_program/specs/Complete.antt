@@ -13,10 +13,11 @@ use Rattle.swh_model.specs.Limits.{store_length, ledger_length}
 use Rattle.swh_base.specs.Limits.{file_limit}
 use Rattle.swh_model.specs.Meaning.{Made, StreamMeaning}
 use Rattle.swh_base.specs.Snapshot.{snapshot_name}
-use Rattle.swh_fastload.specs.Input.{Means}
+use Rattle.swh_inputs.specs.Input.{InputText, MeansInput}
 use Rattle.swh_walk.specs.Visiting.{next_visit}
 use Rattle.swh_loader.specs.Room.{ledger_growth, store_growth}
-use Rattle.swh_program.specs.Seen.{FileAt}
+use Rattle.swh_program.specs.Found.{found_at, paths_of}
+use Rattle.swh_program.specs.Seen.{FileAt, FolderAt}
 use Rattle.swh_program.specs.Run.{IsQuiet}
 
 -- a job and what its input makes
@@ -41,15 +42,15 @@ abbrev pub all_made : List MeantJob → List Made
 all_made meant = flat_map (λ m. m.making.objects) meant
 
 module _ (id_of : Kind → List ℕ → List ℕ) where
-  -- The job's input is there, and means what stands beside the job, with the job's head.
-  pub record IsMeant (input_at : FileAt) (m : MeantJob) : Type 0 where
-    pub text : List ℕ
-    pub there : input_at m.job.path ≡ Some text
-    pub means : Means id_of m.job.head text m.making
+  -- The job's input is there, and means what stands beside the job.
+  pub record IsMeant (files : FileAt) (folders : FolderAt) (m : MeantJob) : Type 0 where
+    pub text : InputText
+    pub there : found_at files folders m.job.input ≡ Some text
+    pub means : MeansInput id_of text m.making
 
   -- The inputs of these jobs are there, and each means what stands beside its job.
-  abbrev pub AreMeant : FileAt → List MeantJob → Type 0
-  AreMeant input_at meant = AllByRecursion (IsMeant input_at) meant
+  abbrev pub AreMeant : FileAt → FolderAt → List MeantJob → Type 0
+  AreMeant files folders meant = AllByRecursion (IsMeant files folders) meant
 
   -- This body is made, under this name.
   abbrev pub MakesBody : List Made → Name → List ℕ → Type 0
@@ -64,8 +65,8 @@ module _ (id_of : Kind → List ℕ → List ℕ) where
   AreMade objects entries = AllByRecursion (λ e. MakesBody objects e.name e.body) entries
 
   -- All that the inputs of these jobs make is among these objects.
-  pub record HasAllMade (input_at : FileAt) (jobs : List Job) (objects : List Made) : Type 0 where
-    pub has : (job : Job) (text : List ℕ) (making : StreamMeaning) → Contains jobs job → input_at job.path ≡ Some text → Means id_of job.head text making
+  pub record HasAllMade (files : FileAt) (folders : FolderAt) (jobs : List Job) (objects : List Made) : Type 0 where
+    pub has : (job : Job) (text : InputText) (making : StreamMeaning) → Contains jobs job → found_at files folders job.input ≡ Some text → MeansInput id_of text making
         → (o : Made) → Contains making.objects o → Contains objects o
 
   -- No name has two bodies among those that are held and those that are made.
@@ -80,4 +81,4 @@ module _ (id_of : Kind → List ℕ → List ℕ) where
 
 -- None of the jobs' paths has failed.
 abbrev pub AreQuiet : (List ℕ → ℕ) → (List ℕ → ℕ) → List MeantJob → Type 0
-AreQuiet failures failures_now meant = AllByRecursion (λ m. IsQuiet (failures m.job.path) (failures_now m.job.path)) meant
+AreQuiet failures failures_now meant = AllByRecursion (λ m. AllByRecursion (λ path. IsQuiet (failures path) (failures_now path)) (paths_of m.job.input)) meant

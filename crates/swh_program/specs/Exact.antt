@@ -6,12 +6,12 @@ use Rattle.swh_base.specs.declared.name.Name.{Name}
 use Rattle.swh_jobs.specs.Job.{Job}
 use Rattle.swh_model.specs.Archive.{Archive, Bodies, visits_of}
 use Rattle.swh_model.specs.Meaning.{StreamMeaning}
-use Rattle.swh_fastload.specs.Input.{Means, Breaks}
+use Rattle.swh_inputs.specs.Input.{InputText, MeansInput, BreaksInput}
 use Rattle.swh_loader.specs.Report.{report_of}
 use Rattle.swh_loader.specs.declared.end.BadInput.TheVariants.{Broken, Collision, Read}
 use Rattle.swh_loader.specs.declared.end.End.{End}
 use Rattle.swh_loader.specs.declared.end.End.TheVariants.{Full, NotFound, Failed}
-use Rattle.swh_program.specs.Inputs.{Inputs, HasFailed}
+use Rattle.swh_program.specs.Inputs.{Inputs, input_of}
 use Rattle.swh_program.specs.Answers.{status_of}
 use Rattle.swh_program.specs.Complete.{HasBodyOrMakes, HasOneBody}
 use Rattle.swh_program.specs.Lines.{ending_of_end, worse}
@@ -36,37 +36,36 @@ ending_of_ends [] = ending.Done
 ending_of_ends (end ∷ ends) = worse (ending_of_end end) (ending_of_ends ends)
 
 module _ (id_of : Kind → List ℕ → List ℕ) where
-  -- With this head or none, the input means this snapshot, and no name has two bodies among what is held and what it
-  -- makes.
-  pub record MeansSnapshot (head : Option (List ℕ)) (bodies : Bodies) (text snapshot : List ℕ) : Type 0 where
+  -- The input means this snapshot, and no name has two bodies among what is held and what it makes.
+  pub record MeansSnapshot (bodies : Bodies) (text : InputText) (snapshot : List ℕ) : Type 0 where
     pub making : StreamMeaning
-    pub means : Means id_of head text making
+    pub means : MeansInput id_of text making
     pub one : HasOneBody id_of bodies making.objects
     pub snapshot_is : snapshot ≡ making.snapshot
 
-  -- With this head or none, the input would put a second body under this name.
-  pub record MeansCollision (head : Option (List ℕ)) (bodies : Bodies) (text : List ℕ) (name : Name) : Type 0 where
+  -- The input would put a second body under this name.
+  pub record MeansCollision (bodies : Bodies) (text : InputText) (name : Name) : Type 0 where
     pub making : StreamMeaning
-    pub means : Means id_of head text making
+    pub means : MeansInput id_of text making
     pub a : List ℕ
     pub b : List ℕ
     pub has_a : HasBodyOrMakes id_of bodies making.objects name a
     pub has_b : HasBodyOrMakes id_of bodies making.objects name b
     pub apart : a ≢ b
 
-  -- The end of a visit that loads what stands at a path, with this head or none, where these bodies are held.
-  abbrev pub IsEndFor : Option (List ℕ) → Bodies → Option (List ℕ) → End → Type 0
-  IsEndFor head bodies None end = end ≡ NotFound
-  IsEndFor head bodies (Some text) (Full snapshot) = MeansSnapshot head bodies text snapshot
-  IsEndFor head bodies (Some text) NotFound = ⊥
-  IsEndFor head bodies (Some text) (Failed (Broken bad)) = Breaks id_of head text bad
-  IsEndFor head bodies (Some text) (Failed (Collision name)) = MeansCollision head bodies text name
-  IsEndFor head bodies (Some text) (Failed Read) = ⊥
+  -- The end of a visit that loads what an input holds, where these bodies are held; nothing where it is not all there.
+  abbrev pub IsEndFor : Bodies → Option InputText → End → Type 0
+  IsEndFor bodies None end = end ≡ NotFound
+  IsEndFor bodies (Some text) (Full snapshot) = MeansSnapshot bodies text snapshot
+  IsEndFor bodies (Some text) NotFound = ⊥
+  IsEndFor bodies (Some text) (Failed (Broken bad)) = BreaksInput id_of text bad
+  IsEndFor bodies (Some text) (Failed (Collision name)) = MeansCollision bodies text name
+  IsEndFor bodies (Some text) (Failed Read) = ⊥
 
   module _ (of_jobs : Inputs) where
-    -- The job's visit ended as its input has it, or in a read that failed, where its path has failed.
+    -- The job's visit ended as its input has it, or in a read that failed, where a path of it has failed.
     abbrev pub IsExactEnd : Archive → Job → End → Type 0
-    IsExactEnd a job end = IsEndFor job.head a.bodies (of_jobs.at job.path) end ⊎ ((end ≡ Failed Read) × HasFailed of_jobs job)
+    IsExactEnd a job end = IsEndFor a.bodies (input_of of_jobs job).found end ⊎ ((end ≡ Failed Read) × (input_of of_jobs job).failed)
 
     -- The jobs' visits ended so, in their order, each as its input has it.
     abbrev pub AreExactEnds : Archive → List Job → List End → Type 0

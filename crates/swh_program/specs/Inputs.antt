@@ -4,14 +4,14 @@ use Rattle.std.specs.List.{AllByRecursion}
 use Rattle.swh_base.specs.declared.kind.Kind.{Kind}
 use Rattle.swh_base.specs.declared.entry.Entry.{Entry}
 use Rattle.swh_base.specs.declared.visit.Status.TheVariants.{Created}
+use Rattle.swh_base.specs.declared.visit.VisitKind.{VisitKind}
 use Rattle.swh_base.specs.declared.visit.Which.{Which}
-use Rattle.swh_outside.specs.Faults.{Rose}
 use Rattle.swh_jobs.specs.Job.{Job}
 use Rattle.swh_model.specs.declared.event.Event.{Event}
 use Rattle.swh_model.specs.Archive.{Bodies}
 use Rattle.swh_model.specs.Judge.{FilePasses}
 use Rattle.swh_model.specs.Step.{May, replay}
-use Rattle.swh_fastload.specs.Input.{Breaks, MayBreak}
+use Rattle.swh_inputs.specs.Input.{InputText, BreaksInput, MayBreakInput}
 use Rattle.swh_walk.specs.Owning.{Attempt, open_event}
 use Rattle.swh_loader.specs.Ending.{IsMadeBy, IsFull, Collided, statuses_of}
 use Rattle.swh_alone.specs.Loading.{AddsVisit, IsOpen}
@@ -23,7 +23,8 @@ use Rattle.swh_loader.specs.declared.end.Loaded.{Loaded}
 use Rattle.swh_walk.specs.declared.stop.Stop.{Stop}
 use Rattle.swh_walk.specs.declared.stop.Stop.TheVariants as why
 use Rattle.swh_walk.specs.declared.end.LoadFault.{LoadFault}
-use Rattle.swh_program.specs.Seen.{FileAt}
+use Rattle.swh_program.specs.Found.{kind_at, found_at, HasFailed}
+use Rattle.swh_program.specs.Seen.{FileAt, FolderAt}
 
 -- who loads the jobs of a run
 abbrev pub loader : ℕ
@@ -33,44 +34,41 @@ loader = 1
 -- before and has failed now
 pub record Inputs : Type 1 where
   pub tell : Type 0
-  pub at : FileAt
+  pub files : FileAt
+  pub folders : FolderAt
   pub failures : List ℕ → ℕ
   pub failures_now : List ℕ → ℕ
 
 -- the inputs with these parts
-abbrev pub inputs : Type 0 → FileAt → (List ℕ → ℕ) → (List ℕ → ℕ) → Inputs
-inputs tell at failures failures_now = record { tell = tell; at = at; failures = failures; failures_now = failures_now }
+abbrev pub inputs : Type 0 → FileAt → FolderAt → (List ℕ → ℕ) → (List ℕ → ℕ) → Inputs
+inputs tell files folders failures failures_now = record { tell = tell; files = files; folders = folders; failures = failures; failures_now = failures_now }
 
--- The path of the job's input has failed.
-abbrev pub HasFailed : Inputs → Job → Type 0
-HasFailed of_jobs job = Rose (of_jobs.failures job.path) (of_jobs.failures_now job.path)
-
--- one input: whether it tells what it holds, what stands at its path, if anything, the head that its job names, and
--- whether its path has failed
+-- one input: its kind, whether it tells what it holds, what that is, if all of it is there, and whether a path of it has
+-- failed
 pub record Input : Type 1 where
+  pub kind : VisitKind
   pub tells : Type 0
-  pub found : Option (List ℕ)
-  pub head : Option (List ℕ)
+  pub found : Option InputText
   pub failed : Type 0
 
 -- the input of a job
 abbrev pub input_of : Inputs → Job → Input
 input_of of_jobs job = record {
+  kind = kind_at job.input;
   tells = of_jobs.tell;
-  found = of_jobs.at job.path;
-  head = job.head;
-  failed = HasFailed of_jobs job;
+  found = found_at of_jobs.files of_jobs.folders job.input;
+  failed = HasFailed of_jobs.failures of_jobs.failures_now job.input;
 }
 
 -- What a load says of its input.
 module _ (id_of : Kind → List ℕ → List ℕ) (input : Input) where
   -- Where the input tells what it holds, it is there, and `P` holds of its text.
-  abbrev pub OfText : (List ℕ → Type 0) → Type 0
-  OfText P = input.tells → (text : List ℕ) × (input.found ≡ Some text) × P text
+  abbrev pub OfText : (InputText → Type 0) → Type 0
+  OfText P = input.tells → (text : InputText) × (input.found ≡ Some text) × P text
 
   -- The input makes all of these entries.
   abbrev pub IsOfInput : List Entry → Type 0
-  IsOfInput entries = OfText (λ text. AllByRecursion (IsMadeBy id_of input.head text) entries)
+  IsOfInput entries = OfText (λ text. AllByRecursion (IsMadeBy id_of text) entries)
 
   -- An event of this load that may happen next would pass a file's end.
   pub record MeetsEnd (a : Attempt) (before after : List Event) (which : Which) (number : ℕ) : Type 0 where
@@ -97,10 +95,10 @@ module _ (id_of : Kind → List ℕ → List ℕ) (input : Input) where
 
   -- What this end of a visit says of its input, where these bodies are held.
   abbrev pub IsInputEnd : Bodies → End → Type 0
-  IsInputEnd bodies (Full snapshot) = OfText (λ text. IsFull id_of input.head text bodies snapshot)
+  IsInputEnd bodies (Full snapshot) = OfText (λ text. IsFull id_of text bodies snapshot)
   IsInputEnd bodies NotFound = input.tells → input.found ≡ None
-  IsInputEnd bodies (Failed (Broken bad)) = MayBreak bad × OfText (λ text. Breaks id_of input.head text bad)
-  IsInputEnd bodies (Failed (Collision name)) = OfText (λ text. Collided id_of input.head text bodies name)
+  IsInputEnd bodies (Failed (Broken bad)) = MayBreakInput input.kind bad × OfText (λ text. BreaksInput id_of text bad)
+  IsInputEnd bodies (Failed (Collision name)) = OfText (λ text. Collided id_of text bodies name)
   IsInputEnd bodies (Failed Read) = input.failed
 
   -- The visit is the next of its origin, and ended as its input has it.

@@ -22,6 +22,7 @@ pub mod Load
 pub mod Loading
 pub mod Complete
 pub mod Exact
+pub mod Found
 pub mod Causes
 pub mod LoadCommand
 pub mod Commands

@@ -1,6 +1,5 @@
 -- The loads of a run, and how it ends.
 use Rattle.std.specs.Prelude.{◌≡◌, ◌⊎◌, ℕ, Some, false, Result, List, [], ◌∷◌, ◌++◌, Contains, map}
-use Rattle.swh_base.specs.declared.visit.VisitKind.TheVariants.{Fast}
 use Rattle.swh_base.specs.declared.kind.Kind.{Kind}
 use Rattle.swh_base.specs.declared.entry.Entry.{Entry}
 use Rattle.swh_outside.specs.Disk.{File}
@@ -26,6 +25,7 @@ use Rattle.swh_walk.specs.declared.end.LoadFault.{LoadFault}
 use Rattle.swh_pool.specs.Stops.{AreStops, HaveNoDiskFault}
 use Rattle.swh_program.specs.Seen.{FileAt}
 use Rattle.swh_program.specs.Dated.{AreSaid}
+use Rattle.swh_program.specs.Found.{kind_at}
 use Rattle.swh_program.specs.Jobs.{AreJobsAt, IsJobRefusal, IsJobRefused}
 use Rattle.swh_program.specs.Opening.{IsArchive, IsOnlyOpened, IsOpenRefusal, OpenEnds}
 use Rattle.swh_program.specs.declared.answer.Answer.{Answer}
@@ -48,7 +48,7 @@ pub record LeavesDisks (id_of : Kind → List ℕ → List ℕ) (ledger store : 
 
 -- who loaded a job, and when
 abbrev pub attempt_for : LoadedJob → Attempt
-attempt_for l = attempt loader l.job.url Fast l.date
+attempt_for l = attempt loader l.job.url (kind_at l.job.input) l.date
 
 -- The loads of jobs with these inputs.
 module _ (id_of : Kind → List ℕ → List ℕ) (of_jobs : Inputs) where

@@ -14,6 +14,7 @@ use Rattle.swh_program.specs.Archives.{old_archive, new_archive, SameElsewhere}
 use Rattle.swh_program.specs.Causes.{IsFullLine, HasShortLine, IsBadInput}
 use Rattle.swh_program.specs.Complete.{MeantJob, jobs_of_meant, full_lines, all_made, AreMeant, HasAllMade, HasOneBody, HasRoomForLoads, AreQuiet}
 use Rattle.swh_program.specs.Exact.{IsExact}
+use Rattle.swh_program.specs.Found.{found_at}
 use Rattle.swh_program.specs.Inputs.{Inputs, inputs}
 use Rattle.swh_program.specs.Jobs.{HasJobs, HasNoJobs, AreJobsAt, IsBadAt, bad_job_line}
 use Rattle.swh_program.specs.Damage.{damaged_line, IsHarmedAt}
@@ -28,7 +29,7 @@ use Rattle.swh_program.specs.declared.answer.Answer.TheVariants.{OutsideSource, 
 
 -- the inputs of the jobs of a run
 abbrev pub inputs_of : Span → Inputs
-inputs_of s = inputs s.told.origins s.old.origins.file_at s.old.origins.path_faults s.new.origins.path_faults
+inputs_of s = inputs s.told.origins s.old.origins.file_at s.old.origins.folder_at s.old.origins.path_faults s.new.origins.path_faults
 
 -- what its load goes by
 abbrev pub givens_of : Span → Givens
@@ -92,13 +93,13 @@ pub record DoesLoad (dir path : List ℕ) (s : Span) (status : ℕ) : Type 0 whe
   pub by_lines : status < 2 → IsByLines dir path s status
   pub bad_input : (jobs : List Job) (job : Job) (before : List Event) → s.told.depot → s.told.origins
       → IsArchive s.id_of (old_archive dir s) before → AreJobsAt s.old.desk.file_at path jobs → Contains jobs job
-      → IsBadInput s.id_of job.head (replay before).bodies (s.old.origins.file_at job.path) → ComesTo 1 status
+      → IsBadInput s.id_of (replay before).bodies (found_at s.old.origins.file_at s.old.origins.folder_at job.input) → ComesTo 1 status
   -- Each job's line is the one that the archive and its input call for, or tells a read that failed, which it does only
-  -- where the job's path has failed; unless memory runs out, where no name has two bodies, the files have room at entry
+  -- where a path of the job has failed; unless memory runs out, where no name has two bodies, the files have room at entry
   -- for what the inputs make, and neither a disk nor the desk nor the clock failed.
   pub exact_lines : (before : List Event) (jobs : List Job) (objects : List Made) → s.told.depot → s.told.origins
       → IsArchive s.id_of (old_archive dir s) before → AreJobsAt s.old.desk.file_at path jobs
-      → HasAllMade s.id_of s.old.origins.file_at jobs objects → HasOneBody s.id_of (replay before).bodies objects
+      → HasAllMade s.id_of s.old.origins.file_at s.old.origins.folder_at jobs objects → HasOneBody s.id_of (replay before).bodies objects
       → HasRoomForLoads s.id_of before jobs objects
       → (DepotFailed s → ⊥) → (DeskFailed s → ⊥) → (ClockFailed s → ⊥)
       → Ends (IsExact s.id_of (inputs_of s) (replay before) jobs) s status
@@ -106,7 +107,7 @@ pub record DoesLoad (dir path : List ℕ) (s : Span) (status : ℕ) : Type 0 whe
   -- bodies, the files have room at entry for what they make, and no part of the outside failed.
   pub complete : (before : List Event) (meant : List MeantJob) → s.told.depot → s.told.origins
       → IsArchive s.id_of (old_archive dir s) before → AreJobsAt s.old.desk.file_at path (jobs_of_meant meant)
-      → AreMeant s.id_of s.old.origins.file_at meant → HasOneBody s.id_of (replay before).bodies (all_made meant)
+      → AreMeant s.id_of s.old.origins.file_at s.old.origins.folder_at meant → HasOneBody s.id_of (replay before).bodies (all_made meant)
       → HasRoomForLoads s.id_of before (jobs_of_meant meant) (all_made meant)
       → (DepotFailed s → ⊥) → (DeskFailed s → ⊥) → AreQuiet s.old.origins.path_faults s.new.origins.path_faults meant
       → (ClockFailed s → ⊥) → (SinkFailed s → ⊥) → IsPrintedWith (full_lines before meant) 0 s status

@@ -9,7 +9,7 @@ use Rattle.swh_program.specs.declared.answer.Answer.{Answer}
 use Rattle.swh_program.specs.declared.answer.Answer.TheVariants.{Told}
 
 -- The answer tells the lines of these loads and the worst of their endings.
-pub record TellsReport {S : Type 0} (jobs : List (DatedJob S)) (outcomes : List (Result Loaded LoadFault)) (answer : Answer) : Type 0 where
+pub record TellsReport {S F : Type 0} (jobs : List (DatedJob S F)) (outcomes : List (Result Loaded LoadFault)) (answer : Answer) : Type 0 where
   pub text : List ℕ
   pub text_is : text ≡ lines_of (ended jobs outcomes)
   pub tells : answer ≡ Told text (ending_of_all outcomes)

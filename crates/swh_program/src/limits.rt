@@ -13,10 +13,11 @@ ghost use Rattle.swh_base.specs.Limits.{
   run_limit,
   file_limit,
 };
+ghost use Rattle.swh_base.specs.declared.visit.VisitKind.TheVariants.{Fast, Dir, Batch};
 ghost use Rattle.swh_fastmeaning.specs.Ending.{refs_limit};
 ghost use Rattle.swh_fastrows.specs.declared.row_source.TheConstants.{STREAM_LIMIT};
 ghost use Rattle.swh_jobs.specs.JobFile.{most_jobs};
-ghost use Rattle.swh_jobs.specs.declared.limits.TheConstants.{STREAM_PATH_LIMIT};
+ghost use Rattle.swh_jobs.specs.declared.limits.TheConstants.{INPUT_PATH_LIMIT};
 ghost use Rattle.swh_loader.specs.Report.{report_line_limit};
 
 /// Each limit of the clauses is this number.
@@ -34,6 +35,7 @@ pub fn limits_in_numbers()
     ensures run { run_limit ≡ 75616256 }
     ensures file { file_limit ≡ 2 ^ 62 }
     ensures jobs { most_jobs ≡ 256 }
-    ensures job_path { STREAM_PATH_LIMIT ≡ 4096 }
-    ensures report_line { report_line_limit ≡ 2141 }
+    ensures job_path { INPUT_PATH_LIMIT ≡ 4096 }
+    ensures report_line { (report_line_limit Fast ≡ 2167) × (report_line_limit Batch ≡ 2167) }
+    ensures folder_line { report_line_limit Dir ≡ 198692 }
 {}

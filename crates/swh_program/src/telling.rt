@@ -10,8 +10,8 @@ use swh_base::Memory;
 use swh_loader::{End, LoadFault, Loaded, Stop};
 use swh_pool::Report;
 
-fn ending_of_end(end: End) -> Ending
-    ensures { result ≡ ending_of_end end }
+fn ending_of_end(end: &End) -> Ending
+    ensures { result ≡ ending_of_end end.now }
 {
     match end {
         End::Full { .. } => Ending::Done,
@@ -29,11 +29,11 @@ fn ending_of_why(why: Stop) -> Ending
     }
 }
 
-fn ending_of(outcome: Result<Loaded, LoadFault>) -> Ending
-    ensures { result ≡ ending_for outcome }
+fn ending_of(outcome: &Result<Loaded, LoadFault>) -> Ending
+    ensures { result ≡ ending_for outcome.now }
 {
     match outcome {
-        Ok(loaded) => ending_of_end(loaded.end),
+        Ok(loaded) => ending_of_end(&loaded.end),
         Err(fault) => ending_of_why(fault.why),
     }
 }
@@ -55,7 +55,7 @@ fn worst_of(outcomes: &[Result<Loaded, LoadFault>]) -> Ending
 {
     let mut worst = Ending::Done;
     for outcome in outcomes {
-        worst = worse(worst, ending_of(*outcome));
+        worst = worse(worst, ending_of(outcome));
     }
     worst
 }

@@ -1,6 +1,6 @@
 use Rattle.std.proofs.Common.{◌∙◌, ap, ap₂}
 use Rattle.swh_outside.specs.Files.{files_of}
-use Rattle.swh_program.proofs.Inputs.{rose_since, rose_above}
+use Rattle.swh_program.proofs.Rises.{rose_since, rose_above}
 use Rattle.swh_program.proofs.Owned.{keeps_by_end}
 use Rattle.swh_program.proofs.ReadOnly.{one_refused, one_told, refused_ends, told_ends}
 use Rattle.swh_program.proofs.reading.read_archive.Goals as goal
