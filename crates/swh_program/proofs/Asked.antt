@@ -91,8 +91,8 @@ does_ask dir paths s answer status told r =
     record {
       reads = does_read (asking paths) (ask_settles paths) s answer status dir told r;
       short_reply = λ h replies k archive are.
-          run_exactly answer s status 1 (HasShortReply replies) (omega arith) (ask_exactly paths (replay h) replies are answer (read_done s.id_of (asking paths) (ask_settles paths) old new h archive answer (r.ends k))) told;
+          run_exactly answer s status 1 (HasShortReply replies) (omega arith) (ask_exactly paths (replay h) replies are answer (read_done s.id_of (asking paths) (ask_settles paths) old new h archive (λ a broke. broke) answer (r.ends k))) told;
       complete = λ h replies k archive are no_disk no_sink.
           told_with (flat_map reply_line replies) (replies_status replies) answer s status
-          (ask_done paths (replay h) replies are answer (λ failed. no_disk (r.cause failed)) (read_done s.id_of (asking paths) (ask_settles paths) old new h archive answer (r.ends k))) no_sink told;
+          (ask_done paths (replay h) replies are answer (λ failed. no_disk (r.cause failed)) (read_done s.id_of (asking paths) (ask_settles paths) old new h archive (λ a broke. broke) answer (r.ends k))) no_sink told;
     }

@@ -11,7 +11,7 @@ use Rattle.swh_program.specs.Reading.{IsOfArchive, IsReadAnswer, Reads}
 use Rattle.swh_program.specs.Run.{IsTold}
 use Rattle.swh_program.specs.declared.answer.Ending.TheVariants as ending
 use Rattle.swh_program.specs.declared.answer.Answer.{Answer}
-use Rattle.swh_program.specs.declared.answer.Answer.TheVariants.{Told, NotMade, Damaged, OutsideDisk, Memory}
+use Rattle.swh_program.specs.declared.answer.Answer.TheVariants.{Told, NotMade, Damaged, OutsideDisk, OutsideYard, Memory}
 use Rattle.swh_program.proofs.ReadOnly.{Settles, does_read}
 use Rattle.swh_program.proofs.Statuses.{run_never}
 
@@ -31,6 +31,7 @@ module _ (id_of : Kind → List ℕ → List ℕ) where
   check_statuses NotMade is = inr (omega arith)
   check_statuses (Damaged text) is = inr (omega arith)
   check_statuses OutsideDisk is = inr (omega arith)
+  check_statuses OutsideYard is = inr (omega arith)
   check_statuses Memory is = inr (omega arith)
   check_statuses _ is = absurd is
 

@@ -1,35 +1,38 @@
 -- What a command does, from the answer that came of it and was told.
 use Rattle.std.proofs.Common.{◌≡◌, ◌<◌, ◌≤◌, refl, ℕ, List, subst, arith, inl, inr}
 use Rattle.swh_base.specs.declared.kind.Kind.{Kind}
-use Rattle.swh_words.specs.Words.{Wanted, ToInit, ToLoad, ToAsk, ToCheck, ToIdentify, ToIdentifyFolder}
+use Rattle.swh_words.specs.Words.{Wanted, ToInit, ToLoad, ToAsk, ToCheck, ToCook, ToIdentify, ToIdentifyFolder}
 use Rattle.swh_program.specs.Seen.{Sink, Seen, Told, Same, Span}
 use Rattle.swh_program.specs.Answers.{last_line_of}
 use Rattle.swh_program.specs.Archives.{SameElsewhere, old_archive, new_archive}
 use Rattle.swh_program.specs.AskCommand.{asking}
 use Rattle.swh_program.specs.CheckCommand.{checking}
 use Rattle.swh_program.specs.Commands.{Does, Comes}
+use Rattle.swh_program.specs.CookCommand.{Cooks, cooking}
 use Rattle.swh_program.specs.Complete.{jobs_of_meant, all_made, full_lines}
 use Rattle.swh_program.specs.Damage.{damaged_line}
 use Rattle.swh_program.specs.IdentifyCommand.{Identifies, DoesIdentify, HasNoBody, IsIdentifyAnswer, name_of_bytes, name_line}
 use Rattle.swh_program.specs.IdentifyFolderCommand.{IdentifiesFolder, DoesIdentifyFolder, HasNoDirectory, IsFolderAnswer, directory_line}
 use Rattle.swh_program.specs.InitCommand.{Inits, DoesInit, IsInitAnswer}
 use Rattle.swh_program.specs.Jobs.{HasJobs, HasNoJobs, bad_job_line}
-use Rattle.swh_program.specs.LeftAlone.{IsOnDepot, IsOnDesk, IsBeforeInputs, IsRefusedInOrder}
+use Rattle.swh_program.specs.LeftAlone.{TouchesNothing, IsOnDepot, IsOnDesk, IsBeforeInputs, IsRefusedInOrder}
 use Rattle.swh_program.specs.LoadCommand.{inputs_of, givens_of, Loads, DoesLoad}
 use Rattle.swh_program.specs.Opening.{IsUnusable}
 use Rattle.swh_program.specs.Own.{KeepsOwn}
 use Rattle.swh_program.specs.Reading.{Telling, Reads}
 use Rattle.swh_program.specs.Run.{IsTold, NamesFailed}
+use Rattle.swh_program.specs.Yards.{yards_of}
 use Rattle.swh_segment.specs.Making.{IsMade}
 use Rattle.swh_program.specs.declared.answer.Answer.{Answer}
 use Rattle.swh_program.specs.declared.answer.Answer.TheVariants.{Made, NoJobFile, BadJob, NotMade, Damaged, OutsideDisk, OutsideSource, OutsideFolder, OutsideClock, Memory}
 use Rattle.swh_program.proofs.Asked.{ask_settles, does_ask}
 use Rattle.swh_program.proofs.Checked.{check_settles, does_check}
+use Rattle.swh_program.proofs.Cooked.{does_cook, cook_names}
 use Rattle.swh_program.proofs.Damages.{load_harm}
 use Rattle.swh_program.proofs.Completes.{told_with, told_unless, init_done}
 use Rattle.swh_program.proofs.Ends.{safe}
 use Rattle.swh_program.proofs.Exacts.{init_statuses, init_archive}
-use Rattle.swh_program.proofs.FolderNaming.{folder_statuses, folder_disk, folder_exactly, folder_named, load_no_folder}
+use Rattle.swh_program.proofs.FolderNaming.{folder_statuses, folder_disk, folder_exactly, folder_named, load_no_folder, load_no_yard}
 use Rattle.swh_program.proofs.LoadFiles.{load_files, refused_files}
 use Rattle.swh_program.proofs.LoadStatuses.{load_job, load_bad, load_archive, load_lines, load_input}
 use Rattle.swh_program.proofs.LoadsDone.{load_exact, meant_all_made, load_done}
@@ -44,7 +47,7 @@ pub came : (a b : Wanted) (s : Span) (answer : Answer) → a ≡ b → Comes a s
 came a b s answer e is = subst (λ (w : Wanted). Comes w s answer) e is
 
 -- where memory ran out before a command was known, all is left alone
-module _ (id_of : Kind → List ℕ → List ℕ) (told : Told) (seen : Seen) (same : Same) (depot : same.depot) (desk : same.desk) (origins : same.origins) (clock : same.clock) where
+module _ (id_of : Kind → List ℕ → List ℕ) (told : Told) (seen : Seen) (same : Same) (depot : same.depot) (desk : same.desk) (origins : same.origins) (yard : same.yard) (clock : same.clock) where
   abbrev nothing : Span
   nothing = record { id_of = id_of; told = told; old = seen; new = seen; same = same }
 
@@ -101,6 +104,11 @@ module _ (id_of : Kind → List ℕ → List ℕ) (told : Told) (seen : Seen) (s
   }
   nothing_came (ToAsk dir paths) = nothing_read (asking paths) dir
   nothing_came (ToCheck dir) = nothing_read (checking id_of) dir
+  nothing_came (ToCook dir swhid out) = inr (inl (record {
+    is = refl;
+    untouched = record { depot = depot; desk = desk; origins = origins; yard = yard; clock = clock };
+    files = refl;
+  }))
   nothing_came (ToIdentify kind path) = record {
     one_of = tt;
     ends = λ t. tt;
@@ -141,6 +149,9 @@ module _ (s : Span) (sink : Sink) (same_sink : Type 0) where
   on_desk_still : IsOnDesk s → IsOnDesk (with_sink s sink same_sink)
   on_desk_still is = record { depot = is.depot; origins = is.origins; clock = is.clock }
 
+  untouched_still : TouchesNothing s → TouchesNothing (with_sink s sink same_sink)
+  untouched_still is = record { depot = is.depot; desk = is.desk; origins = is.origins; yard = is.yard; clock = is.clock }
+
   before_still : IsBeforeInputs s → IsBeforeInputs (with_sink s sink same_sink)
   before_still is = record { origins = is.origins; clock = is.clock }
 
@@ -162,6 +173,19 @@ read_still t dir s sink same_sink answer r = record {
   cause = r.cause;
   left = on_depot_still s sink same_sink r.left;
 }
+
+cook_still : (dir swhid out : List ℕ) (s : Span) (sink : Sink) (same_sink : Type 0) (answer : Answer) → Cooks dir swhid out s answer → Cooks dir swhid out (with_sink s sink same_sink) answer
+cook_still dir swhid out s sink same_sink answer (inl r) =
+    inl (record { at = r.at; breaks = r.breaks; tells = r.tells; untouched = untouched_still s sink same_sink r.untouched; files = r.files })
+cook_still dir swhid out s sink same_sink answer (inr (inl u)) =
+    inr (inl (record { is = u.is; untouched = untouched_still s sink same_sink u.untouched; files = u.files }))
+cook_still dir swhid out s sink same_sink answer (inr (inr c)) = inr (inr (record {
+  value = c.value;
+  is = c.is;
+  reads = read_still (cooking (yards_of s) c.value.core out) dir s sink same_sink answer c.reads;
+  left = c.left;
+  left_there = c.left_there;
+}))
 
 -- an answer says nothing of the sink that it is told on
 pub comes_still : (wanted : Wanted) (s : Span) (sink : Sink) (same_sink : Type 0) (answer : Answer) → Comes wanted s answer → Comes wanted (with_sink s sink same_sink) answer
@@ -186,6 +210,7 @@ comes_still (ToLoad dir jobs) s sink same_sink answer l = record {
 }
 comes_still (ToAsk dir paths) s sink same_sink answer r = read_still (asking paths) dir s sink same_sink answer r
 comes_still (ToCheck dir) s sink same_sink answer r = read_still (checking s.id_of) dir s sink same_sink answer r
+comes_still (ToCook dir swhid out) s sink same_sink answer c = cook_still dir swhid out s sink same_sink answer c
 comes_still (ToIdentify kind path) s sink same_sink answer i = record {
   one_of = i.one_of;
   ends = i.ends;
@@ -278,6 +303,7 @@ does (ToInit dir) s answer status told came = does_init dir s answer status told
 does (ToLoad dir jobs) s answer status told came = does_load dir jobs s answer status told came
 does (ToAsk dir paths) s answer status told came = does_ask dir paths s answer status told came
 does (ToCheck dir) s answer status told came = does_check dir s answer status told came
+does (ToCook dir swhid out) s answer status told came = does_cook dir swhid out s answer status told came
 does (ToIdentify kind path) s answer status told came = does_identify kind path s answer status told came
 does (ToIdentifyFolder path) s answer status told came = does_identify_folder path s answer status told came
 
@@ -287,25 +313,30 @@ comes_names (ToInit dir) s answer i = record {
   disk = λ tells. i.cause (init_disk answer i.one_of tells);
   source = λ e. absurd (subst IsInitAnswer e i.one_of);
   folder = λ e. absurd (subst IsInitAnswer e i.one_of);
+  yard = λ e. absurd (subst IsInitAnswer e i.one_of);
   clock = λ e. absurd (subst IsInitAnswer e i.one_of);
 }
 comes_names (ToLoad dir jobs) s answer l = record {
   disk = l.disk_cause;
   source = l.source_cause;
   folder = λ e. absurd (load_no_folder (givens_of s) s.old.desk.file_at jobs (old_archive dir s) (new_archive dir s) answer l.ends e);
+  yard = λ e. absurd (load_no_yard (givens_of s) s.old.desk.file_at jobs (old_archive dir s) (new_archive dir s) answer l.ends e);
   clock = l.clock_cause;
 }
-comes_names (ToAsk dir paths) s answer r = read_names (asking paths) (ask_settles paths) dir s answer r
-comes_names (ToCheck dir) s answer r = read_names (checking s.id_of) (check_settles s.id_of) dir s answer r
+comes_names (ToAsk dir paths) s answer r = read_names (asking paths) (ask_settles paths) dir s (λ a broke. absurd broke) answer r
+comes_names (ToCheck dir) s answer r = read_names (checking s.id_of) (check_settles s.id_of) dir s (λ a broke. absurd broke) answer r
+comes_names (ToCook dir swhid out) s answer c = cook_names dir swhid out s answer c
 comes_names (ToIdentify kind path) s answer i = record {
   disk = λ tells. absurd (subst (IsIdentifyAnswer s.id_of kind) (identify_disk s.id_of kind answer i.one_of tells) i.one_of);
   source = i.cause;
   folder = λ e. absurd (subst (IsIdentifyAnswer s.id_of kind) e i.one_of);
+  yard = λ e. absurd (subst (IsIdentifyAnswer s.id_of kind) e i.one_of);
   clock = λ e. absurd (subst (IsIdentifyAnswer s.id_of kind) e i.one_of);
 }
 comes_names (ToIdentifyFolder path) s answer i = record {
   disk = λ tells. absurd (folder_disk s.id_of answer i.one_of tells);
   source = λ e. absurd (subst (IsFolderAnswer s.id_of) e i.one_of);
   folder = i.cause;
+  yard = λ e. absurd (subst (IsFolderAnswer s.id_of) e i.one_of);
   clock = λ e. absurd (subst (IsFolderAnswer s.id_of) e i.one_of);
 }

@@ -14,7 +14,7 @@ use Rattle.swh_segment.proofs.Crash.{making_moments}
 use Rattle.swh_keeper.proofs.OwnLemmas.{making_moments as own_making_moments}
 use Rattle.swh_program.specs.InitCommand.{InitEnds, IsSafeInit}
 use Rattle.swh_program.specs.declared.answer.Answer.{Answer}
-use Rattle.swh_program.specs.declared.answer.Answer.TheVariants.{Made, Told, Words, NoJobFile, BadJob, AlreadyMade, NotMade, Damaged, OutsideDisk, OutsideSource, OutsideFolder, OutsideClock, Memory}
+use Rattle.swh_program.specs.declared.answer.Answer.TheVariants.{Made, Told, Words, NoJobFile, BadJob, AlreadyMade, NotMade, Damaged, OutsideDisk, OutsideSource, OutsideFolder, OutsideYard, OutsideClock, Memory}
 
 left_by : (old new : Files) (answer : Answer) → InitEnds old new answer → IsNotMade (old 0).seen → EachImage (old 0) IsNotMade → EachImages new IsNotMadeOrEmpty
 left_by old new Made e not_made each = files_left_whole (making_calls (old 0).seen) old new IsNotMadeOrEmpty (making_moments old not_made each).moments e.done
@@ -51,6 +51,7 @@ answer_status (Damaged text) = inr (inr (inr (inl refl)))
 answer_status OutsideDisk = inr (inr (inr (inr (inl refl))))
 answer_status OutsideSource = inr (inr (inr (inr (inl refl))))
 answer_status OutsideFolder = inr (inr (inr (inr (inl refl))))
+answer_status OutsideYard = inr (inr (inr (inr (inl refl))))
 answer_status OutsideClock = inr (inr (inr (inr (inl refl))))
 answer_status Memory = inr (inr (inr (inr (inr refl))))
 

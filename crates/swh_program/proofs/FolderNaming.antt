@@ -18,7 +18,7 @@ use Rattle.swh_program.specs.IdentifyFolderCommand.{directory_line, TellsFault, 
 use Rattle.swh_program.specs.declared.answer.Ending.{Ending}
 use Rattle.swh_program.specs.declared.answer.Ending.TheVariants as ending
 use Rattle.swh_program.specs.declared.answer.Answer.{Answer}
-use Rattle.swh_program.specs.declared.answer.Answer.TheVariants.{Told, OutsideDisk, OutsideFolder, Memory}
+use Rattle.swh_program.specs.declared.answer.Answer.TheVariants.{Told, OutsideDisk, OutsideFolder, OutsideYard, Memory}
 use Rattle.swh_program.proofs.Completes.{Tells}
 use Rattle.swh_program.proofs.Exacts.{stopped}
 use Rattle.swh_program.proofs.LoadEndings.{told_status}
@@ -115,7 +115,7 @@ module _ (id_of : Kind → List ℕ → List ℕ) where
     pub folder_named : (found : Option Tree) (answer : Answer) → found ≡ Some tree → answer ≢ OutsideFolder → FolderEnds id_of found answer → Tells (directory_line root) 0 answer
     folder_named found answer there no_folder ends = tree_named answer no_folder (subst (λ (f : Option Tree). FolderEnds id_of f answer) there ends)
 
--- a load has no such answer
+-- a load has no such answer, and does not name the yard
 module _ (g : Givens) (desk_at : FileAt) (path : List ℕ) (old new : Files) where
   none_of_load : LoadEnds g desk_at path old new OutsideFolder → ⊥
   none_of_load (inl run) = elim run.outcome [
@@ -123,6 +123,16 @@ module _ (g : Givens) (desk_at : FileAt) (path : List ℕ) (old new : Files) whe
     | inr none ↦ none.0
   ]
   none_of_load (inr none) = none.one_of
+
+  no_yard_of_load : LoadEnds g desk_at path old new OutsideYard → ⊥
+  no_yard_of_load (inl run) = elim run.outcome [
+    | inl loaded ↦ loaded.told
+    | inr none ↦ none.0
+  ]
+  no_yard_of_load (inr none) = none.one_of
+
+  pub load_no_yard : (answer : Answer) → LoadEnds g desk_at path old new answer → answer ≡ OutsideYard → ⊥
+  load_no_yard answer ends is = no_yard_of_load (subst (LoadEnds g desk_at path old new) is ends)
 
   pub load_no_folder : (answer : Answer) → LoadEnds g desk_at path old new answer → answer ≡ OutsideFolder → ⊥
   load_no_folder answer ends is = none_of_load (subst (LoadEnds g desk_at path old new) is ends)

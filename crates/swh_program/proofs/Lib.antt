@@ -35,4 +35,5 @@ pub mod Orders
 pub mod ReadOnly
 pub mod Asked
 pub mod Checked
+pub mod Cooked
 pub mod Does

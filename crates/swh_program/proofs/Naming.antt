@@ -11,7 +11,7 @@ use Rattle.swh_program.specs.IdentifyCommand.{name_of_bytes, name_line, IsBody, 
 use Rattle.swh_program.specs.declared.answer.Ending.{Ending}
 use Rattle.swh_program.specs.declared.answer.Ending.TheVariants as ending
 use Rattle.swh_program.specs.declared.answer.Answer.{Answer}
-use Rattle.swh_program.specs.declared.answer.Answer.TheVariants.{Made, Told, Words, NoJobFile, BadJob, AlreadyMade, NotMade, Damaged, OutsideDisk, OutsideSource, OutsideFolder, OutsideClock, Memory}
+use Rattle.swh_program.specs.declared.answer.Answer.TheVariants.{Made, Told, Words, NoJobFile, BadJob, AlreadyMade, NotMade, Damaged, OutsideDisk, OutsideSource, OutsideFolder, OutsideYard, OutsideClock, Memory}
 use Rattle.swh_program.proofs.Completes.{Tells}
 use Rattle.swh_program.proofs.Exacts.{stopped}
 use Rattle.swh_program.proofs.LoadEndings.{told_status}
@@ -30,6 +30,7 @@ module _ (id_of : Kind → List ℕ → List ℕ) (kind : Kind) where
   told_file found line end OutsideDisk tells told = absurd told
   told_file found line end OutsideSource tells told = absurd told
   told_file found line end OutsideFolder tells told = absurd told
+  told_file found line end OutsideYard tells told = absurd told
   told_file found line end OutsideClock tells told = absurd told
   told_file found line end Memory tells told = tt
 

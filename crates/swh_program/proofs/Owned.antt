@@ -29,7 +29,7 @@ use Rattle.swh_program.specs.Own.{HasOpened, AreAfterCrash, KeepsOwn, EndsOwn}
 use Rattle.swh_program.specs.Run.{IsExactly, IsTold}
 use Rattle.swh_program.specs.Seen.{Span}
 use Rattle.swh_program.specs.declared.answer.Answer.{Answer}
-use Rattle.swh_program.specs.declared.answer.Answer.TheVariants.{Made, Told, Words, NoJobFile, BadJob, AlreadyMade, NotMade, Damaged, OutsideDisk, OutsideSource, OutsideFolder, OutsideClock, Memory}
+use Rattle.swh_program.specs.declared.answer.Answer.TheVariants.{Made, Told, Words, NoJobFile, BadJob, AlreadyMade, NotMade, Damaged, OutsideDisk, OutsideSource, OutsideFolder, OutsideYard, OutsideClock, Memory}
 use Rattle.swh_program.proofs.Statuses.{uncut}
 
 -- what holds at an error, where there is one
@@ -89,6 +89,7 @@ low_opened (Damaged text) less = absurd (omega (arith, less))
 low_opened OutsideDisk less = absurd (omega (arith, less))
 low_opened OutsideSource less = absurd (omega (arith, less))
 low_opened OutsideFolder less = absurd (omega (arith, less))
+low_opened OutsideYard less = absurd (omega (arith, less))
 low_opened OutsideClock less = tt
 low_opened Memory less = absurd (omega (arith, less))
 

@@ -6,7 +6,7 @@ use Rattle.swh_outside.specs.Files.{Files}
 use Rattle.swh_model.specs.declared.event.Event.{Event}
 use Rattle.swh_model.specs.Archive.{Archive}
 use Rattle.swh_model.specs.Step.{IsHistory, replay}
-use Rattle.swh_program.specs.Seen.{Span, SinkFailed}
+use Rattle.swh_program.specs.Seen.{Span, YardFailed, SinkFailed}
 use Rattle.swh_program.specs.Answers.{TellsDisk, status_of, status_for, printed_by, last_line_for, IsPrinted}
 use Rattle.swh_program.specs.Archives.{old_archive, new_archive}
 use Rattle.swh_program.specs.Damage.{damaged_line, IsHarmedAt, IsUndamaged}
@@ -16,11 +16,11 @@ use Rattle.swh_program.specs.Run.{IsExactly, IsTold, NamesFailed}
 use Rattle.swh_program.specs.declared.answer.Ending.{Ending}
 use Rattle.swh_program.specs.declared.answer.Ending.TheVariants as ending
 use Rattle.swh_program.specs.declared.answer.Answer.{Answer}
-use Rattle.swh_program.specs.declared.answer.Answer.TheVariants.{Told, NotMade, Damaged, OutsideDisk, Memory}
+use Rattle.swh_program.specs.declared.answer.Answer.TheVariants.{Told, NotMade, Damaged, OutsideDisk, OutsideYard, Memory}
 use Rattle.swh_program.proofs.Archived.{usable, one_archive, harmed, no_archive}
 use Rattle.swh_program.proofs.Completes.{told_unless}
 use Rattle.swh_program.proofs.Damages.{IsLineOfHarm, refusal_harm}
-use Rattle.swh_program.proofs.Exacts.{refusal_exactly}
+use Rattle.swh_program.proofs.Exacts.{stopped, refusal_exactly}
 use Rattle.swh_program.proofs.Owned.{exactly_not_made, ends_own}
 use Rattle.swh_program.proofs.Statuses.{run_exactly, run_never}
 
@@ -45,6 +45,7 @@ module _ (id_of : Kind → List ℕ → List ℕ) (t : Telling) where
   pub one_refused : (answer : Answer) → IsOpenRefusal answer → IsReadAnswer id_of t answer
   one_refused (Told text end) is = absurd is
   one_refused (Damaged text) is = inl is
+  one_refused OutsideYard is = absurd is
   one_refused _ is = is
 
   -- and so is what is told of a history
@@ -52,6 +53,7 @@ module _ (id_of : Kind → List ℕ → List ℕ) (t : Telling) where
   one_told history happens (Told text end) is = record { history = history; happens = happens; is = is }
   one_told history happens (Damaged text) is = inr (record { history = history; happens = happens; is = is })
   one_told history happens OutsideDisk is = tt
+  one_told history happens OutsideYard is = record { history = history; happens = happens; is = is }
   one_told history happens Memory is = tt
   one_told history happens _ is = absurd is
 
@@ -59,6 +61,7 @@ module _ (id_of : Kind → List ℕ → List ℕ) (t : Telling) where
     -- an opening that is refused ends the command
     pub refused_ends : (answer : Answer) → OpenEnds id_of old new answer → ReadEnds id_of t old new answer
     refused_ends (Told text end) ends = absurd ends
+    refused_ends OutsideYard ends = absurd ends
     refused_ends _ ends = ends
 
     -- the archive is told of, or a disk failed, or memory ran out
@@ -66,6 +69,7 @@ module _ (id_of : Kind → List ℕ → List ℕ) (t : Telling) where
     told_ends history archive opened (Told text end) is whole = record { history = history; archive = archive; told = is; opened = opened }
     told_ends history archive opened (Damaged text) is whole = absurd whole
     told_ends history archive opened OutsideDisk is whole = inl (inr opened)
+    told_ends history archive opened OutsideYard is whole = record { history = history; archive = archive; broke = is; opened = opened }
     told_ends history archive opened Memory is whole = inr opened
     told_ends history archive opened _ is whole = absurd is
 
@@ -87,6 +91,7 @@ module _ (id_of : Kind → List ℕ → List ℕ) (t : Telling) (settles : Settl
   read_statuses NotMade is = inr (omega arith)
   read_statuses (Damaged text) is = inr (omega arith)
   read_statuses OutsideDisk is = inr (omega arith)
+  read_statuses OutsideYard is = inr (omega arith)
   read_statuses Memory is = inr (omega arith)
   read_statuses _ is = absurd is
 
@@ -105,6 +110,7 @@ module _ (id_of : Kind → List ℕ → List ℕ) (t : Telling) (settles : Settl
     read_archive NotMade ends = refusal_exactly id_of old new NotMade tt ends
     read_archive (Damaged text) ends = refusal_exactly id_of old new (Damaged text) (ends.0.file, ends.0.at, ends.0.text_is) ends
     read_archive OutsideDisk ends = refusal_exactly id_of old new OutsideDisk tt ends
+    read_archive OutsideYard ends = stopped 3 4 (IsUnusable id_of old) (λ e. omega (arith, e)) (inr (inl refl))
     read_archive Memory ends = refusal_exactly id_of old new Memory tt ends
     read_archive _ ends = absurd ends
 
@@ -114,11 +120,13 @@ module _ (id_of : Kind → List ℕ → List ℕ) (t : Telling) (settles : Settl
     read_harm file at harm NotMade ends = refusal_harm id_of old file at harm new NotMade ends
     read_harm file at harm (Damaged text) ends = refusal_harm id_of old file at harm new (Damaged text) ends
     read_harm file at harm OutsideDisk ends = inl refl
+    read_harm file at harm OutsideYard ends = inl refl
     read_harm file at harm Memory ends = inr (inl refl)
     read_harm file at harm _ ends = absurd ends
 
-    -- where the files stand for a history: a disk failed, or memory ran out, or the answer tells of its replay
-    module _ (h : List Event) (archive : IsArchive id_of old h) where
+    -- where the files stand for a history, and the yard did not fail: a disk failed, or memory ran out, or the answer tells
+    -- of its replay
+    module _ (h : List Event) (archive : IsArchive id_of old h) (unbroken : (a : Archive) → t.breaks a → ⊥) where
       pub read_done : (answer : Answer) → ReadEnds id_of t old new answer → (answer ≡ OutsideDisk) ⊎ (answer ≡ Memory) ⊎ Says t (replay h) answer
       read_done (Told text end) ends =
           let same = one_archive id_of old ends.history h ends.archive archive in
@@ -126,6 +134,7 @@ module _ (id_of : Kind → List ℕ → List ℕ) (t : Telling) (settles : Settl
       read_done NotMade ends = absurd (usable id_of old h archive (inl ends.0))
       read_done (Damaged text) ends = absurd (usable id_of old h archive (inr (harmed id_of old text ends.0)))
       read_done OutsideDisk ends = inl refl
+      read_done OutsideYard ends = absurd (unbroken (replay ends.history) ends.broke)
       read_done Memory ends = inr (inl refl)
       read_done _ ends = absurd ends
 
@@ -166,14 +175,16 @@ module _ (t : Telling) (settles : Settles t) (s : Span) (answer : Answer) (statu
         undamaged = λ k own.
             exactly_not_made s.id_of old status own (run_exactly answer s status 3 (IsUnusable s.id_of old) (omega arith) (read_archive s.id_of t settles old new answer (r.ends k)) told);
         own = λ k. ends_own s.id_of old new answer s status (r.own k) told;
-        complete = λ h k archive no_disk no_sink. prints (replay h) (λ failed. no_disk (r.cause failed)) (read_done s.id_of t settles old new h archive answer (r.ends k)) no_sink told;
+        complete = λ h k archive no_disk unbroken no_sink.
+            prints (replay h) (λ failed. no_disk (r.cause failed)) (read_done s.id_of t settles old new h archive unbroken answer (r.ends k)) no_sink told;
       }
 
 -- which part the answer names
-pub read_names : (t : Telling) → Settles t → (dir : List ℕ) (s : Span) (answer : Answer) → Reads t dir s answer → NamesFailed s answer
-read_names t settles dir s answer r = record {
+pub read_names : (t : Telling) → Settles t → (dir : List ℕ) (s : Span) → ((a : Archive) → t.breaks a → YardFailed s) → (answer : Answer) → Reads t dir s answer → NamesFailed s answer
+read_names t settles dir s broke answer r = record {
   disk = λ tells. r.cause (read_disk s.id_of t settles answer r.one_of tells);
   source = λ e. absurd (subst (IsReadAnswer s.id_of t) e r.one_of);
   folder = λ e. absurd (subst (IsReadAnswer s.id_of t) e r.one_of);
+  yard = λ e. let is = subst (IsReadAnswer s.id_of t) e r.one_of in broke (replay is.history) is.is;
   clock = λ e. absurd (subst (IsReadAnswer s.id_of t) e r.one_of);
 }

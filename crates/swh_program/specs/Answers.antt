@@ -6,7 +6,7 @@ use Rattle.swh_program.specs.Refusal.{refusal}
 use Rattle.swh_program.specs.declared.answer.Ending.{Ending}
 use Rattle.swh_program.specs.declared.answer.Ending.TheVariants as ending
 use Rattle.swh_program.specs.declared.answer.Answer.{Answer}
-use Rattle.swh_program.specs.declared.answer.Answer.TheVariants.{Made, Told, Words, NoJobFile, BadJob, AlreadyMade, NotMade, Damaged, OutsideDisk, OutsideSource, OutsideFolder, OutsideClock, Memory}
+use Rattle.swh_program.specs.declared.answer.Answer.TheVariants.{Made, Told, Words, NoJobFile, BadJob, AlreadyMade, NotMade, Damaged, OutsideDisk, OutsideSource, OutsideFolder, OutsideYard, OutsideClock, Memory}
 
 -- what is printed after lines or replies
 abbrev pub last_line_for : Ending → List ℕ
@@ -28,6 +28,7 @@ last_line_of (Damaged text) = []
 last_line_of OutsideDisk = refusal (codes "outside disk")
 last_line_of OutsideSource = refusal (codes "outside source")
 last_line_of OutsideFolder = refusal (codes "outside folder")
+last_line_of OutsideYard = refusal (codes "outside yard")
 last_line_of OutsideClock = refusal (codes "outside clock")
 last_line_of Memory = refusal (codes "memory")
 
@@ -62,6 +63,7 @@ status_of (Damaged text) = 3
 status_of OutsideDisk = 4
 status_of OutsideSource = 4
 status_of OutsideFolder = 4
+status_of OutsideYard = 4
 status_of OutsideClock = 4
 status_of Memory = 5
 

@@ -45,9 +45,10 @@ pub record TellsArchive (paths : List (List ℕ)) (a : Archive) (text : List ℕ
   pub are_replies : AreReplies a paths replies
   pub tells : TellsReplies replies text end
 
--- What `ask` has to tell of an archive: its replies to the paths. It finds no damage.
+-- What `ask` has to tell of an archive: its replies to the paths. It finds no damage, and has
+-- no use for the yard.
 abbrev pub asking : List (List ℕ) → Telling
-asking paths = record { tells = λ a text end. TellsArchive paths a text end; finds = λ a text. ⊥ }
+asking paths = record { tells = λ a text end. TellsArchive paths a text end; finds = λ a text. ⊥; breaks = λ a. ⊥ }
 
 -- What a run of `ask` does.
 pub record DoesAsk (dir : List ℕ) (paths : List (List ℕ)) (s : Span) (status : ℕ) : Type 0 where

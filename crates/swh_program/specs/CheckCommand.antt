@@ -22,7 +22,11 @@ pub record TellsCounts (a : Archive) (text : List ℕ) : Type 0 where
 
 -- What `check` has to tell of an archive: its counts, or a body that reads otherwise than its name says.
 abbrev pub checking : (Kind → List ℕ → List ℕ) → Telling
-checking id_of = record { tells = λ a text end. TellsCounts a text × (end ≡ Done); finds = λ a text. TellsBody id_of a text }
+checking id_of = record {
+  tells = λ a text end. TellsCounts a text × (end ≡ Done);
+  finds = λ a text. TellsBody id_of a text;
+  breaks = λ a. ⊥;
+}
 
 -- What a run of `check` does.
 pub record DoesCheck (dir : List ℕ) (s : Span) (status : ℕ) : Type 0 where

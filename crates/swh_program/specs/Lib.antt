@@ -7,10 +7,12 @@ pub mod LeftAlone
 pub mod Damage
 pub mod Opening
 pub mod Own
+pub mod Yards
 pub mod Reading
 pub mod InitCommand
 pub mod AskCommand
 pub mod CheckCommand
+pub mod CookCommand
 pub mod IdentifyCommand
 pub mod IdentifyFolderCommand
 pub mod Jobs

@@ -21,19 +21,21 @@ use Rattle.swh_program.specs.Run.{IsExactly, Ends, IsPrintedUnlessFailed}
 use Rattle.swh_program.specs.Opening.{IsArchive, IsUnusable, IsOnlyOpened, IsOpenRefusal, OpenEnds}
 use Rattle.swh_program.specs.declared.answer.Ending.{Ending}
 use Rattle.swh_program.specs.declared.answer.Answer.{Answer}
-use Rattle.swh_program.specs.declared.answer.Answer.TheVariants.{Told, Damaged, OutsideDisk, Memory}
+use Rattle.swh_program.specs.declared.answer.Answer.TheVariants.{Told, Damaged, OutsideDisk, OutsideYard, Memory}
 
--- What a command has to tell of an archive: the text, with how the run ends; and the line of a damage that it may find
--- in an archive that opens, where the disks do not tell.
+-- What a command has to tell of an archive: the text, with how the run ends; the line of a damage that it may find in an
+-- archive that opens, where the disks do not tell; and how it ends where the yard fails.
 pub record Telling : Type 1 where
   pub tells : Archive → List ℕ → Ending → Type 0
   pub finds : Archive → List ℕ → Type 0
+  pub breaks : Archive → Type 0
 
--- The answer is what the command has to tell of the archive, or a disk failed, or memory ran out.
+-- The answer is what the command has to tell of the archive, or a disk or the yard failed, or memory ran out.
 abbrev pub IsOfArchive : Telling → Archive → Answer → Type 0
 IsOfArchive t a (Told text end) = t.tells a text end
 IsOfArchive t a (Damaged text) = t.finds a text
 IsOfArchive t a OutsideDisk = Unit {0}
+IsOfArchive t a OutsideYard = t.breaks a
 IsOfArchive t a Memory = Unit {0}
 IsOfArchive t a _ = ⊥
 
@@ -51,12 +53,19 @@ module _ (id_of : Kind → List ℕ → List ℕ) where
     pub happens : IsHistory id_of history
     pub is : Is (replay history)
 
+  -- It is so of the replay of the history for which the files stand.
+  pub record OfArchive (files : Files) (Is : Archive → Type 0) : Type 0 where
+    pub history : List Event
+    pub archive : IsArchive id_of files history
+    pub is : Is (replay history)
+
   module _ (t : Telling) where
     -- The command has no other answers, whether the depot tells its content or not: each tells of the replay of one
     -- history, or is the refusal of an opening.
     abbrev pub IsReadAnswer : Answer → Type 0
     IsReadAnswer (Told text end) = OfHistory (λ a. t.tells a text end)
     IsReadAnswer (Damaged text) = IsDamagedLine text ⊎ OfHistory (λ a. t.finds a text)
+    IsReadAnswer OutsideYard = OfHistory (λ a. t.breaks a)
     IsReadAnswer answer = IsOpenRefusal answer
 
     -- What is told is of the replay of the history for which the files stand, and nothing is written.
@@ -66,9 +75,17 @@ module _ (id_of : Kind → List ℕ → List ℕ) where
       pub told : t.tells (replay history) text end
       pub opened : IsOnlyOpened old new
 
+    -- The yard failed once the archive was opened, and nothing is written.
+    pub record BreaksFiles (old new : Files) : Type 0 where
+      pub history : List Event
+      pub archive : IsArchive id_of old history
+      pub broke : t.breaks (replay history)
+      pub opened : IsOnlyOpened old new
+
     -- how the command ends, by the files of its folder
     abbrev pub ReadEnds : Files → Files → Answer → Type 0
     ReadEnds old new (Told text end) = TellsFiles old new text end
+    ReadEnds old new OutsideYard = BreaksFiles old new
     ReadEnds old new answer = OpenEnds id_of old new answer
 
 -- What the command has to tell of the archive was printed, and the status is the one for that.
@@ -104,4 +121,4 @@ module _ (t : Telling) (dir : List ℕ) (s : Span) where
     -- What is to be told of the archive is printed with its status, unless memory runs out, where no part of the outside
     -- failed.
     pub complete : (h : List Event) → s.told.depot → IsArchive s.id_of (old_archive dir s) h
-        → (DepotFailed s → ⊥) → (SinkFailed s → ⊥) → (status ≡ 5) ⊎ Prints t (replay h) s status
+        → (DepotFailed s → ⊥) → ((a : Archive) → t.breaks a → ⊥) → (SinkFailed s → ⊥) → (status ≡ 5) ⊎ Prints t (replay h) s status

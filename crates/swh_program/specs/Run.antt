@@ -4,11 +4,11 @@ use Rattle.std.specs.List.{list_all}
 use Rattle.swh_outside.specs.Faults.{Rose}
 use Rattle.swh_model.specs.Answer.{ReplyText}
 use Rattle.swh_words.specs.Words.{Wanted, IsCommand}
-use Rattle.swh_program.specs.Seen.{Span, DepotFailed, DeskFailed, ClockFailed, SinkFailed}
+use Rattle.swh_program.specs.Seen.{Span, DepotFailed, DeskFailed, YardFailed, ClockFailed, SinkFailed}
 use Rattle.swh_program.specs.Answers.{TellsDisk, IsToldOf}
 use Rattle.swh_program.specs.LeftAlone.{TouchesNothing}
 use Rattle.swh_program.specs.declared.answer.Answer.{Answer}
-use Rattle.swh_program.specs.declared.answer.Answer.TheVariants.{Words, OutsideSource, OutsideFolder, OutsideClock, Memory}
+use Rattle.swh_program.specs.declared.answer.Answer.TheVariants.{Words, OutsideSource, OutsideFolder, OutsideYard, OutsideClock, Memory}
 
 -- The statuses that a run may end with.
 abbrev pub IsStatus : ℕ → Type 0
@@ -67,9 +67,10 @@ pub record NamesFailed (s : Span) (answer : Answer) : Type 0 where
   pub disk : TellsDisk answer → DepotFailed s
   pub source : answer ≡ OutsideSource → DeskFailed s
   pub folder : answer ≡ OutsideFolder → DeskFailed s
+  pub yard : answer ≡ OutsideYard → YardFailed s
   pub clock : answer ≡ OutsideClock → ClockFailed s
 
 -- Status 4 comes only where a part failed, and where a line names a part, that one.
 pub record TellsFailures (s : Span) (status : ℕ) : Type 0 where
-  pub some : status ≡ 4 → DepotFailed s ⊎ DeskFailed s ⊎ ClockFailed s ⊎ SinkFailed s
+  pub some : status ≡ 4 → DepotFailed s ⊎ DeskFailed s ⊎ YardFailed s ⊎ ClockFailed s ⊎ SinkFailed s
   pub named : Ends (NamesFailed s) s status

@@ -4,6 +4,7 @@ use Rattle.swh_base.specs.declared.kind.Kind.{Kind}
 use Rattle.swh_outside.specs.Faults.{Rose}
 use Rattle.swh_outside.specs.Files.{Files}
 use Rattle.swh_outside.specs.Folder.{Tree}
+use Rattle.swh_outside.specs.Sink.{Begun}
 
 -- the bytes of the file at each path
 abbrev pub FileAt : Type 0
@@ -30,6 +31,12 @@ pub record Origins : Type 0 where
   pub path_faults : List ℕ → ℕ
   pub faults : ℕ
 
+-- a yard: what was begun in it, the bytes that were put, and how often it has failed
+pub record Yard : Type 0 where
+  pub begun : List Begun
+  pub taken : List ℕ
+  pub faults : ℕ
+
 -- a sink: the bytes that it has taken, and how often it has failed
 pub record Sink : Type 0 where
   pub taken : List ℕ
@@ -49,7 +56,7 @@ pub record Seen : Type 0 where
   pub depot : Depot
   pub desk : Origins
   pub origins : Origins
-  pub yard : Sink
+  pub yard : Yard
   pub sink : Sink
   pub clock : Clock
   pub doors : Doors
@@ -89,6 +96,10 @@ DepotFailed s = Rose s.old.depot.faults s.new.depot.faults
 -- The desk failed.
 abbrev pub DeskFailed : Span → Type 0
 DeskFailed s = Rose s.old.desk.faults s.new.desk.faults
+
+-- The yard failed.
+abbrev pub YardFailed : Span → Type 0
+YardFailed s = Rose s.old.yard.faults s.new.yard.faults
 
 -- The clock failed.
 abbrev pub ClockFailed : Span → Type 0

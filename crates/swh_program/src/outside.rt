@@ -45,7 +45,7 @@ impl<N: Namer, P: Depot, O: Origins, Y: Yard, K: Sink, C: Clock, D: Doors, G: Ga
             path_faults = O.path_faults w.origins;
             faults = O.faults w.origins;
           };
-          yard = record { taken = Y.Sink.taken w.yard; faults = Y.Sink.faults w.yard };
+          yard = record { begun = Y.Sink.begun w.yard; taken = Y.Sink.taken w.yard; faults = Y.Sink.faults w.yard };
           sink = record { taken = K.taken w.sink; faults = K.faults w.sink };
           clock = record { time = C.time w.clock; faults = C.faults w.clock };
           doors = record { faults = D.faults w.doors };

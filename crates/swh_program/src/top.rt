@@ -2,7 +2,7 @@
 ghost use Rattle.std.specs.Prelude.{◌≡◌, ◌⊎◌, map, string_bytes};
 ghost use Rattle.swh_words.specs.Words.{Wanted, IsCommand, IsOffered, wanted_by};
 ghost use Rattle.swh_program.specs.Commands.{Does, Comes};
-ghost use Rattle.swh_program.specs.LeftAlone.{KeepsTheRest, TouchesNothing};
+ghost use Rattle.swh_program.specs.LeftAlone.{KeepsOthers, NeedsNoYard, TouchesNothing};
 ghost use Rattle.swh_program.specs.Run.{IsStatus, IsNoCommand, NamesFailed, RefusesWords, TellsFailures};
 ghost use Rattle.swh_program.specs.declared.answer.Answer.TheVariants.{Words, Memory};
 
@@ -26,8 +26,9 @@ impl<N: Namer, P: Depot, O: Origins, Y: Yard, K: Sink, C: Clock, D: Doors, G: Ga
     fn carry_out(&mut self, alloc: Global, command: &Command<'_>) -> Answer
         requires { IsOffered (wanted_by command.now) }
         ensures comes { Comes (wanted_by command.now) (⟦<Self as Shown>⟧.span self.old self.new) result }
+        ensures yard { NeedsNoYard (wanted_by command.now) → self.new.yard ≡ self.old.yard }
         ensures same_sink { self.new.sink ≡ self.old.sink }
-        ensures rest { KeepsTheRest (⟦<Self as Shown>⟧.span self.old self.new) }
+        ensures rest { KeepsOthers (⟦<Self as Shown>⟧.span self.old self.new) }
     {
         match command {
             Command::Init { dir } => init(&mut self.depot, dir),
@@ -36,11 +37,24 @@ impl<N: Namer, P: Depot, O: Origins, Y: Yard, K: Sink, C: Clock, D: Doors, G: Ga
                 let reading = Reading::Ask {
                     paths: paths.as_slice(),
                 };
-                read_archive(alloc, self.namer, &mut self.depot, dir, &reading)
+                read_archive(
+                    alloc,
+                    self.namer,
+                    &mut self.depot,
+                    &mut self.yard,
+                    dir,
+                    &reading,
+                )
             }
-            Command::Check { dir } => {
-                read_archive(alloc, self.namer, &mut self.depot, dir, &Reading::Check)
-            }
+            Command::Check { dir } => read_archive(
+                alloc,
+                self.namer,
+                &mut self.depot,
+                &mut self.yard,
+                dir,
+                &Reading::Check,
+            ),
+            Command::Cook { dir, swhid, out } => self.cook(alloc, dir, swhid, out),
             Command::Identify { kind, path } => identify(
                 alloc,
                 &self.namer,
@@ -62,8 +76,10 @@ impl<N: Namer, P: Depot, O: Origins, Y: Yard, K: Sink, C: Clock, D: Doors, G: Ga
         ensures comes { (wanted : Wanted) → IsCommand (map string_bytes words.now) wanted
             → Comes wanted (⟦<Self as Shown>⟧.span self.old self.new) result }
         ensures named { NamesFailed (⟦<Self as Shown>⟧.span self.old self.new) result }
+        ensures yard { (wanted : Wanted) → IsCommand (map string_bytes words.now) wanted → NeedsNoYard wanted
+            → self.new.yard ≡ self.old.yard }
         ensures same_sink { self.new.sink ≡ self.old.sink }
-        ensures rest { KeepsTheRest (⟦<Self as Shown>⟧.span self.old self.new) }
+        ensures rest { KeepsOthers (⟦<Self as Shown>⟧.span self.old self.new) }
     {
         match parse_words(alloc, words) {
             Ok(command) => self.carry_out(alloc, &command),
@@ -95,8 +111,10 @@ pub fn run<R, N: Namer, P: Depot, O: Origins, Y: Yard, K: Sink, C: Clock, D: Doo
     // 4: a part of the outside failed, and where a line names one, that one.
     ensures failures { TellsFailures (⟦<Outside<N, P, O, Y, K, C, D, G> as Shown>⟧.span world.old world.new) result }
 
-    // What no command has a use for is as it was, and no count of faults falls.
-    ensures rest { KeepsTheRest (⟦<Outside<N, P, O, Y, K, C, D, G> as Shown>⟧.span world.old world.new) }
+    // What no command has a use for is as it was, and no count of faults falls; the yard is as it was too, but for `cook`.
+    ensures rest { KeepsOthers (⟦<Outside<N, P, O, Y, K, C, D, G> as Shown>⟧.span world.old world.new) }
+    ensures yard { (wanted : Wanted) → IsCommand (map string_bytes words.now) wanted → NeedsNoYard wanted
+        → world.new.yard ≡ world.old.yard }
 {
     let answer = world.obey(alloc, words);
     tell(&mut world.sink, &answer)

@@ -9,10 +9,12 @@ mod plain;
 mod setting;
 mod words;
 mod world;
+mod yards;
 
 pub use folders::{Laid, Layout};
 pub use pieces::{Piece, spelled};
 pub use plain::{PlainDepot, Spoil};
 pub use setting::{BARE, Case, Setting};
 pub use words::{ASK, CHECK, INIT, LEDGER, LOAD, LOADED, LOADING, STORE, TWO_JOBS};
-pub use world::{is_met, is_met_by, is_met_printing};
+pub use world::{is_met, is_met_by, is_met_leaving, is_met_printing};
+pub use yards::Grown;

@@ -25,6 +25,7 @@ pub struct Setting<'a> {
     /// An opening of an input where `e` is not there.
     pub origins_fail: Option<u64>,
     pub other_input: Option<&'a [Piece<'a>]>,
+    pub yard_fails: Option<u64>,
     pub clock_fails: Option<u64>,
     pub sink_fails: Option<u64>,
 }
@@ -45,6 +46,7 @@ pub const BARE: Setting<'static> = Setting {
     input_fails: None,
     origins_fail: None,
     other_input: None,
+    yard_fails: None,
     clock_fails: None,
     sink_fails: None,
 };

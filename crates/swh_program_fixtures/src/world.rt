@@ -3,6 +3,7 @@
 use crate::folders::folder_input;
 use crate::pieces::{Piece, spelled};
 use crate::setting::{Case, Setting};
+use crate::yards::{Grown, has_grown};
 use std::alloc::{AllocError, Global};
 use swh_base::{Namer, Sha1Namer};
 use swh_memory::{
@@ -96,6 +97,7 @@ struct Parts {
     folders: Vec<FolderInput>,
     inputs: Vec<Input>,
     inputs_failing: Vec<u64>,
+    yard: MemoryYard,
     sink: MemorySink,
     clock_failing: Vec<u64>,
 }
@@ -107,6 +109,7 @@ fn empty_parts(alloc: Global, setting: &Setting<'_>) -> Result<Parts, AllocError
         folders: Vec::new(alloc),
         inputs: Vec::new(alloc),
         inputs_failing: failing(alloc, setting.origins_fail)?,
+        yard: MemoryYard::with_room(alloc, 65_536, failing(alloc, setting.yard_fails)?)?,
         sink: MemorySink::new(alloc, 65_536, failing(alloc, setting.sink_fails)?)?,
         clock_failing: failing(alloc, setting.clock_fails)?,
     })
@@ -124,7 +127,7 @@ fn world_of<N: Namer, P: Depot>(alloc: Global, namer: N, depot: P, parts: Parts)
         depot,
         desk: MemoryOrigins::with_folders(alloc, parts.jobs, parts.folders, parts.jobs_failing),
         origins: MemoryOrigins::new(alloc, parts.inputs, parts.inputs_failing),
-        yard: MemoryYard::new(alloc),
+        yard: parts.yard,
         sink: parts.sink,
         clock: MemoryClock::new(1_000_000_000, parts.clock_failing),
         doors: MemoryDoors::new(alloc),
@@ -213,16 +216,41 @@ fn is_left(depot: &MemoryDepot, case: &Case<'_>) -> bool {
     }
 }
 
-/// Says whether the runs of a row end as it says, with the namer of the program and files in memory, but print this.
-pub fn is_met_printing(alloc: Global, case: &Case<'_>, printed: &[u8]) -> Result<bool, AllocError> {
+// Says whether the runs of a row end as it says, but print this; and whether this then stands in the yard, where it is
+// looked at.
+fn ends_with(
+    alloc: Global,
+    case: &Case<'_>,
+    printed: &[u8],
+    grown: Option<&[Grown<'_>]>,
+) -> Result<bool, AllocError> {
     let mut parts = empty_parts(alloc, &case.setting)?;
     fill_parts(alloc, &mut parts, &case.setting)?;
     let mut depot = empty_depot(alloc, &case.setting)?;
     lay_files(alloc, &mut depot, &case.setting)?;
     let mut world = world_of(alloc, Sha1Namer, depot, parts);
     let ends = end_so(alloc, &mut world, case, printed);
-    let left = is_left(&world.depot, case);
+    let left = is_left(&world.depot, case)
+        && match grown {
+            Some(expected) => has_grown(&world.yard, expected),
+            None => true,
+        };
     ends.map(|ends| ends && left)
+}
+
+/// Says whether the runs of a row end as it says, with the namer of the program and files in memory, but print this.
+pub fn is_met_printing(alloc: Global, case: &Case<'_>, printed: &[u8]) -> Result<bool, AllocError> {
+    ends_with(alloc, case, printed, None)
+}
+
+/// Says whether the runs of a row end as it says, with the namer of the program and files in memory, and leave just this in
+/// the yard.
+pub fn is_met_leaving(
+    alloc: Global,
+    case: &Case<'_>,
+    grown: &[Grown<'_>],
+) -> Result<bool, AllocError> {
+    ends_with(alloc, case, case.printed, Some(grown))
 }
 
 /// Says whether the runs of a row end as it says, with the namer of the program and files in memory.

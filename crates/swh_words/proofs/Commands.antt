@@ -5,7 +5,7 @@ use Rattle.clap.specs.Words.{Row, Text, all_of, first_of, subcommand_of}
 use Rattle.swh_base.specs.declared.kind.Kind.{Kind}
 use Rattle.swh_base.specs.declared.kind.Kind.TheVariants.{Content, Directory, Revision, Release, Snapshot}
 use Rattle.swh_words.specs.Definition.{program_app}
-use Rattle.swh_words.specs.Words.{Wanted, ToInit, ToLoad, ToAsk, ToCheck, ToIdentify, ToIdentifyFolder, AsksFor, IsCommand, IsGiven, IsOffered}
+use Rattle.swh_words.specs.Words.{Wanted, ToInit, ToLoad, ToAsk, ToCheck, ToCook, ToIdentify, ToIdentifyFolder, AsksFor, IsCommand, IsGiven, IsOffered}
 use Rattle.swh_base.specs.Kind.{kind_letters}
 use Rattle.swh_words.specs.declared.command.Command.{Command}
 use Rattle.swh_words.specs.declared.command.WordsFault.{WordsFault}
@@ -44,33 +44,43 @@ identified_file Release path file = refl
 identified_file Snapshot path file = refl
 
 -- the length and the first letter tell the subcommands apart
-abbrev wanted_from : Text → Option Text → Option Text → Option Text → Option (List Text) → Option Text → Wanted
-wanted_from name dir jobs kind paths path =
+abbrev wanted_from : Text → Option Text → Option Text → Option Text → Option (List Text) → Option Text → Option Text → Option Text → Wanted
+wanted_from name dir jobs kind paths path swhid out =
     if length name == 8 then identified (kind_from (unwrap_or kind [])) (unwrap_or path [])
     else if get_or name 0 0 == 105 then ToInit (unwrap_or dir [])
     else if get_or name 0 0 == 108 then ToLoad (unwrap_or dir []) (unwrap_or jobs [])
-    else if get_or name 0 0 == 99 then ToCheck (unwrap_or dir [])
-    else ToAsk (unwrap_or dir []) (unwrap_or paths [])
+    else if get_or name 0 0 == 97 then ToAsk (unwrap_or dir []) (unwrap_or paths [])
+    else if length name == 5 then ToCheck (unwrap_or dir [])
+    else ToCook (unwrap_or dir []) (unwrap_or swhid []) (unwrap_or out [])
 
 abbrev pub read : Text × List Row → Wanted
 read given = wanted_from given.0 (first_of (codes "dir") given.1) (first_of (codes "jobs") given.1) (first_of (codes "kind") given.1)
-    (all_of (codes "path") given.1) (first_of (codes "path") given.1)
+    (all_of (codes "path") given.1) (first_of (codes "path") given.1) (first_of (codes "swhid") given.1) (first_of (codes "out") given.1)
 
 pub read-given : (given : Text × List Row) (wanted : Wanted) → IsGiven given wanted → IsOffered wanted → read given ≡ wanted
 read-given given (ToInit dir) h offered =
-    (λ i. wanted_from (h.0 i) (h.1 i) (first_of (codes "jobs") given.1) (first_of (codes "kind") given.1) (all_of (codes "path") given.1) (first_of (codes "path") given.1))
+    (λ i. wanted_from (h.0 i) (h.1 i) (first_of (codes "jobs") given.1) (first_of (codes "kind") given.1) (all_of (codes "path") given.1) (first_of (codes "path") given.1)
+    (first_of (codes "swhid") given.1) (first_of (codes "out") given.1))
 read-given given (ToLoad dir jobs) h offered =
-    (λ i. wanted_from (h.0 i) (h.1 i) (h.2 i) (first_of (codes "kind") given.1) (all_of (codes "path") given.1) (first_of (codes "path") given.1))
+    (λ i. wanted_from (h.0 i) (h.1 i) (h.2 i) (first_of (codes "kind") given.1) (all_of (codes "path") given.1) (first_of (codes "path") given.1)
+    (first_of (codes "swhid") given.1) (first_of (codes "out") given.1))
 read-given given (ToAsk dir paths) h offered =
-    (λ i. wanted_from (h.0 i) (h.1 i) (first_of (codes "jobs") given.1) (first_of (codes "kind") given.1) (h.2 i) (first_of (codes "path") given.1))
+    (λ i. wanted_from (h.0 i) (h.1 i) (first_of (codes "jobs") given.1) (first_of (codes "kind") given.1) (h.2 i) (first_of (codes "path") given.1)
+    (first_of (codes "swhid") given.1) (first_of (codes "out") given.1))
 read-given given (ToCheck dir) h offered =
-    (λ i. wanted_from (h.0 i) (h.1 i) (first_of (codes "jobs") given.1) (first_of (codes "kind") given.1) (all_of (codes "path") given.1) (first_of (codes "path") given.1))
+    (λ i. wanted_from (h.0 i) (h.1 i) (first_of (codes "jobs") given.1) (first_of (codes "kind") given.1) (all_of (codes "path") given.1) (first_of (codes "path") given.1)
+    (first_of (codes "swhid") given.1) (first_of (codes "out") given.1))
+read-given given (ToCook dir swhid out) h offered =
+    (λ i. wanted_from (h.0 i) (h.1 i) (first_of (codes "jobs") given.1) (first_of (codes "kind") given.1) (all_of (codes "path") given.1) (first_of (codes "path") given.1)
+    (h.2 i) (h.3 i))
 read-given given (ToIdentify kind path) h offered =
-    (λ i. wanted_from (h.0 i) (first_of (codes "dir") given.1) (first_of (codes "jobs") given.1) (h.1 i) (all_of (codes "path") given.1) (h.2 i))
+    (λ i. wanted_from (h.0 i) (first_of (codes "dir") given.1) (first_of (codes "jobs") given.1) (h.1 i) (all_of (codes "path") given.1) (h.2 i)
+    (first_of (codes "swhid") given.1) (first_of (codes "out") given.1))
     ∙ ap (λ k. identified k path) (kind_from-kind_letters kind)
     ∙ identified_file kind path offered
 read-given given (ToIdentifyFolder path) h offered =
-    (λ i. wanted_from (h.0 i) (first_of (codes "dir") given.1) (first_of (codes "jobs") given.1) (h.1 i) (all_of (codes "path") given.1) (h.2 i))
+    (λ i. wanted_from (h.0 i) (first_of (codes "dir") given.1) (first_of (codes "jobs") given.1) (h.1 i) (all_of (codes "path") given.1) (h.2 i)
+    (first_of (codes "swhid") given.1) (first_of (codes "out") given.1))
 
 one_asked : (o : Option (Text × List Row)) (a b : Wanted) → IsSomeAnd o (λ given. AsksFor given a) → IsSomeAnd o (λ given. AsksFor given b) → a ≡ b
 one_asked None a b is_a is_b = absurd is_a

@@ -8,16 +8,16 @@ use Rattle.clap.specs.Walk.{Row, Text, idle, nothing_held, subcommand_met, walk_
 use Rattle.clap.specs.Simple.{names_of, subcommand_of}
 use Rattle.clap.specs.Words.{App, first_of}
 use Rattle.clap.proofs.OnLiterals.{clap_on_literals}
-use Rattle.swh_words.specs.Definition.{ask_app, check_app, identify_app, init_app, load_app, program_app}
+use Rattle.swh_words.specs.Definition.{ask_app, check_app, cook_app, identify_app, init_app, load_app, program_app}
 use Rattle.swh_words.proofs.Commands.{kind_from, identified, offered, read, read-given}
 use Rattle.swh_words.specs.Spelling.{is_flag, spelling_of, values_given, IsNoKind, NamesNoKind}
-use Rattle.swh_words.specs.Words.{Wanted, ToInit, ToLoad, ToAsk, ToCheck, ToIdentify, ToIdentifyFolder, AsksFor, IsCommand, IsGiven, IsOffered, spelled_command}
+use Rattle.swh_words.specs.Words.{Wanted, ToInit, ToLoad, ToAsk, ToCheck, ToCook, ToIdentify, ToIdentifyFolder, AsksFor, IsCommand, IsGiven, IsOffered, spelled_command}
 use Rattle.swh_base.specs.declared.kind.Kind.{Kind}
 use Rattle.swh_base.specs.declared.kind.Kind.TheVariants.{Content, Directory, Revision, Release, Snapshot}
 use Rattle.swh_base.specs.Kind.{kind_letters}
 use Rattle.swh_words.proofs.Flags.{HasValuesOnly, dashes, first_bad, first_clean, is_clean, refused, value_met, value_passes, word_refused}
 use Rattle.swh_words.proofs.Values.{given_by, some≢none, turned_by}
-use Rattle.swh_words.proofs.Subcommands.{Enters, ask_rows, ask_taken, built_sub, check_rows, check_taken, enters_ask, enters_check, enters_identify, enters_init, enters_load, fault_in, identify_rows, identify_taken, init_rows, init_taken, load_rows, load_taken, only_ask, only_check, only_identify, only_init, only_load, program, reads, rows_in, taken_values, init_by, load_by, ask_by, check_by, identify_by}
+use Rattle.swh_words.proofs.Subcommands.{Enters, ask_rows, ask_taken, built_sub, check_rows, check_taken, cook_rows, cook_taken, enters_ask, enters_check, enters_cook, enters_identify, enters_init, enters_load, fault_in, identify_rows, identify_taken, init_rows, init_taken, load_rows, load_taken, only_ask, only_check, only_cook, only_identify, only_init, only_load, program, reads, rows_in, taken_values, init_by, load_by, ask_by, check_by, cook_by, identify_by}
 use Rattle.clap.specs.Kinds.{Kinds}
 
 -- ---- words that spell a command are one
@@ -81,6 +81,10 @@ spelled_is_command (ToCheck dir) name rest values given same few offered =
     named_as rest values name (codes "check") (dir ∷ []) (ToCheck dir) same
     (command_of (codes "check") check_app rest (dir ∷ []) _ (ToCheck dir) enters_check only_check (given_as rest values name _ _ given same)
     (check_taken dir) (check_rows dir) (record { is_given = (refl, refl); offered = offered }))
+spelled_is_command (ToCook dir swhid out) name rest values given same few offered =
+    named_as rest values name (codes "cook") (dir ∷ swhid ∷ out ∷ []) (ToCook dir swhid out) same
+    (command_of (codes "cook") cook_app rest (dir ∷ swhid ∷ out ∷ []) _ (ToCook dir swhid out) enters_cook only_cook (given_as rest values name _ _ given same)
+    (cook_taken dir swhid out) (cook_rows dir swhid out) (record { is_given = (refl, refl, refl, refl); offered = offered }))
 spelled_is_command (ToIdentify kind path) name rest values given same few offered =
     named_as rest values name (codes "identify") (kind_letters kind ∷ path ∷ []) (ToIdentify kind path) same
     (command_of (codes "identify") identify_app rest (kind_letters kind ∷ path ∷ []) _ (ToIdentify kind path) enters_identify only_identify
@@ -130,6 +134,10 @@ check_spells : (wanted : Wanted) (values : List Text) → fault_in check_app tru
 check_spells wanted = check_by (Spells (codes "check") check_app wanted)
     (λ dir asked. ap spelled_command (read_as_wanted (codes "check") _ _ wanted (check_rows dir) asked))
 
+cook_spells : (wanted : Wanted) (values : List Text) → fault_in cook_app true values ≡ [] → Spells (codes "cook") cook_app wanted values
+cook_spells wanted = cook_by (Spells (codes "cook") cook_app wanted)
+    (λ dir swhid out asked. ap spelled_command (read_as_wanted (codes "cook") _ _ wanted (cook_rows dir swhid out) asked))
+
 spelled_identified : (kind : Kind) (path : Text) → spelled_command (identified kind path) ≡ codes "identify" ∷ kind_letters kind ∷ path ∷ []
 spelled_identified Content path = refl
 spelled_identified Directory path = refl
@@ -161,12 +169,13 @@ identify_spells wanted = identify_by (Spells (codes "identify") identify_app wan
     (read_as_wanted (codes "identify") _ _ wanted (identify_rows kind path) asked) asked.is_given)
 
 -- a word that names no subcommand is refused
-abbrev name_met : Bool → Bool → Bool → Bool → Bool → Option Text
-name_met is_init is_load is_ask is_check is_identify = option_map (λ (s : Text × List Text). s.0)
+abbrev name_met : Bool → Bool → Bool → Bool → Bool → Bool → Option Text
+name_met is_init is_load is_ask is_check is_cook is_identify = option_map (λ (s : Text × List Text). s.0)
     (if is_init || false then Some (codes "init", [])
     else if is_load || false then Some (codes "load", [])
     else if is_ask || false then Some (codes "ask", [])
     else if is_check || false then Some (codes "check", [])
+    else if is_cook || false then Some (codes "cook", [])
     else if is_identify || false then Some (codes "identify", [])
     else None)
 
@@ -191,12 +200,13 @@ other_turn name none no_dashes = go (is_flag name) refl
         (value_passes program.top (names_of program) idle name nothing_held none no_dashes no_flag))
 
 other_name : (name : Text) (rest : List Text) → bytes_eq (codes "init") name ≡ false → bytes_eq (codes "load") name ≡ false
-    → bytes_eq (codes "ask") name ≡ false → bytes_eq (codes "check") name ≡ false → bytes_eq (codes "identify") name ≡ false → fault_of program_app (name ∷ rest) ≡ [] → ⊥
+    → bytes_eq (codes "ask") name ≡ false → bytes_eq (codes "check") name ≡ false
+    → bytes_eq (codes "cook") name ≡ false → bytes_eq (codes "identify") name ≡ false → fault_of program_app (name ∷ rest) ≡ [] → ⊥
 unfolding clap_on_literals
-other_name name rest no_init no_load no_ask no_check no_identify clean = go (bytes_eq name dashes) refl
+other_name name rest no_init no_load no_ask no_check no_cook no_identify clean = go (bytes_eq name dashes) refl
   where
     none : subcommand_met (names_of program) idle name ≡ None
-    none = λ i. name_met (no_init i) (no_load i) (no_ask i) (no_check i) (no_identify i)
+    none = λ i. name_met (no_init i) (no_load i) (no_ask i) (no_check i) (no_cook i) (no_identify i)
 
     go : (d : Bool) → bytes_eq name dashes ≡ d → ⊥
     go true same = refused (fault_of program_app (name ∷ rest))
@@ -218,11 +228,12 @@ pub taken_by : (Holds : List Text → Type 0)
     → ((rest : List Text) → fault_of program_app (codes "load" ∷ rest) ≡ [] → Holds (codes "load" ∷ rest))
     → ((rest : List Text) → fault_of program_app (codes "ask" ∷ rest) ≡ [] → Holds (codes "ask" ∷ rest))
     → ((rest : List Text) → fault_of program_app (codes "check" ∷ rest) ≡ [] → Holds (codes "check" ∷ rest))
+    → ((rest : List Text) → fault_of program_app (codes "cook" ∷ rest) ≡ [] → Holds (codes "cook" ∷ rest))
     → ((rest : List Text) → fault_of program_app (codes "identify" ∷ rest) ≡ [] → Holds (codes "identify" ∷ rest))
     → (words : List Text) → fault_of program_app words ≡ [] → Holds words
 unfolding clap_on_literals
-taken_by Holds of_init of_load of_ask of_check of_identify [] clean = absurd (refused (fault_of program_app []) refl clean)
-taken_by Holds of_init of_load of_ask of_check of_identify (name ∷ rest) clean = elim (same_or_not (codes "init") name) [
+taken_by Holds of_init of_load of_ask of_check of_cook of_identify [] clean = absurd (refused (fault_of program_app []) refl clean)
+taken_by Holds of_init of_load of_ask of_check of_cook of_identify (name ∷ rest) clean = elim (same_or_not (codes "init") name) [
   | inl same ↦ as_name (codes "init") of_init same
   | inr no_init ↦ elim (same_or_not (codes "load") name) [
     | inl same ↦ as_name (codes "load") of_load same
@@ -230,9 +241,12 @@ taken_by Holds of_init of_load of_ask of_check of_identify (name ∷ rest) clean
       | inl same ↦ as_name (codes "ask") of_ask same
       | inr no_ask ↦ elim (same_or_not (codes "check") name) [
         | inl same ↦ as_name (codes "check") of_check same
-        | inr no_check ↦ elim (same_or_not (codes "identify") name) [
-          | inl same ↦ as_name (codes "identify") of_identify same
-          | inr no_identify ↦ absurd (other_name name rest no_init no_load no_ask no_check no_identify clean)
+        | inr no_check ↦ elim (same_or_not (codes "cook") name) [
+          | inl same ↦ as_name (codes "cook") of_cook same
+          | inr no_cook ↦ elim (same_or_not (codes "identify") name) [
+            | inl same ↦ as_name (codes "identify") of_identify same
+            | inr no_identify ↦ absurd (other_name name rest no_init no_load no_ask no_check no_cook no_identify clean)
+          ]
         ]
       ]
     ]
@@ -273,6 +287,7 @@ command_is_spelled words wanted is = taken_by (SpellsWhatItIs wanted)
     (named_spells (codes "load") load_app wanted enters_load only_load (load_spells wanted))
     (named_spells (codes "ask") ask_app wanted enters_ask only_ask (ask_spells wanted))
     (named_spells (codes "check") check_app wanted enters_check only_check (check_spells wanted))
+    (named_spells (codes "cook") cook_app wanted enters_cook only_cook (cook_spells wanted))
     (named_spells (codes "identify") identify_app wanted enters_identify only_identify (identify_spells wanted)) words is.taken is.asked
 
 pub spelled_words : (words : List Text) (wanted : Wanted) → length words < 2 ^ 64
@@ -318,6 +333,11 @@ unfolding clap_on_literals
 check_asks = check_by (λ values. AsksNothing (codes "check") check_app values → ⊥)
     (λ dir none. none (ToCheck dir) (record { is_given = (refl, refl); offered = tt }))
 
+cook_asks : (values : List Text) → fault_in cook_app true values ≡ [] → AsksNothing (codes "cook") cook_app values → ⊥
+unfolding clap_on_literals
+cook_asks = cook_by (λ values. AsksNothing (codes "cook") cook_app values → ⊥)
+    (λ dir swhid out none. none (ToCook dir swhid out) (record { is_given = (refl, refl, refl, refl); offered = tt }))
+
 no_kind : (letters path : Text) → AsksNothing (codes "identify") identify_app (letters ∷ path ∷ []) → IsNoKind letters
 unfolding clap_on_literals
 no_kind letters path none Content same = none (ToIdentify Content path) (record { is_given = (refl, ap (λ l. Some l) same, refl); offered = λ e. cc })
@@ -349,6 +369,7 @@ no_command words none = go (fault_of program_app words) refl
     go [] clean = inr (taken_by NamesNoKindIfNone (named_asks (codes "init") init_app enters_init only_init init_asks)
         (named_asks (codes "load") load_app enters_load only_load load_asks)
         (named_asks (codes "ask") ask_app enters_ask only_ask ask_asks) (named_asks (codes "check") check_app enters_check only_check check_asks)
+        (named_asks (codes "cook") cook_app enters_cook only_cook cook_asks)
         identify_names words clean
         (λ wanted asked. none wanted (record { taken = clean; asked = asked })))
     go (k ∷ rest) bad = inl (refused (fault_of program_app words) (ap is_clean bad))
@@ -364,6 +385,7 @@ names_no_command (Some given) (ToInit dir) names asked = no_other_name given.0 (
 names_no_command (Some given) (ToLoad dir jobs) names asked = no_other_name given.0 (codes "load") (codes "identify") refl asked.is_given.0 names.0
 names_no_command (Some given) (ToAsk dir paths) names asked = no_other_name given.0 (codes "ask") (codes "identify") refl asked.is_given.0 names.0
 names_no_command (Some given) (ToCheck dir) names asked = no_other_name given.0 (codes "check") (codes "identify") refl asked.is_given.0 names.0
+names_no_command (Some given) (ToCook dir swhid out) names asked = no_other_name given.0 (codes "cook") (codes "identify") refl asked.is_given.0 names.0
 names_no_command (Some given) (ToIdentify kind path) names asked =
     subst (λ (o : Option Text). IsSomeAnd o IsNoKind) asked.is_given.1 names.1 kind refl
 names_no_command (Some given) (ToIdentifyFolder path) names asked =

@@ -13,7 +13,7 @@ use Rattle.clap.specs.Walk.{Held, Names, Row, Rule, Text, Walk, finished, idle, 
 use Rattle.clap.specs.Simple.{Shape, built, built_leaf, entered, inherited, marked_built, names_of, subcommand_of, with_leaf_noted}
 use Rattle.clap.specs.Words.{App}
 use Rattle.clap.proofs.OnLiterals.{clap_on_literals}
-use Rattle.swh_words.specs.Definition.{ask_app, check_app, identify_app, init_app, load_app, program_app}
+use Rattle.swh_words.specs.Definition.{ask_app, check_app, cook_app, identify_app, init_app, load_app, program_app}
 use Rattle.swh_words.specs.Spelling.{values_given}
 use Rattle.swh_words.proofs.Flags.{HasValuesOnly, first_clean, or_else-nil, refused}
 use Rattle.swh_words.proofs.Values.{as_values, flags_refused, stands}
@@ -114,6 +114,10 @@ pub enters_check : Enters (codes "check") check_app
 unfolding clap_on_literals
 enters_check = enters_at (codes "check") check_app refl refl (λ rest. refl) (λ rest. refl)
 
+pub enters_cook : Enters (codes "cook") cook_app
+unfolding clap_on_literals
+enters_cook = enters_at (codes "cook") cook_app refl refl (λ rest. refl) (λ rest. refl)
+
 pub enters_identify : Enters (codes "identify") identify_app
 unfolding clap_on_literals
 enters_identify = enters_at (codes "identify") identify_app refl refl (λ rest. refl) (λ rest. refl)
@@ -155,6 +159,9 @@ only_ask = record { no_long = λ name. refl; no_short = λ c. refl; no_trail = (
 pub only_check : HasValuesOnly (built_sub check_app).rules
 only_check = record { no_long = λ name. refl; no_short = λ c. refl; no_trail = (refl, tt) }
 
+pub only_cook : HasValuesOnly (built_sub cook_app).rules
+only_cook = record { no_long = λ name. refl; no_short = λ c. refl; no_trail = (refl, (refl, (refl, tt))) }
+
 pub only_identify : HasValuesOnly (built_sub identify_app).rules
 only_identify = record { no_long = λ name. refl; no_short = λ c. refl; no_trail = (refl, (refl, tt)) }
 
@@ -188,6 +195,16 @@ check_taken dir = refl
 pub check_rows : (dir : Text) → rows_in check_app true (dir ∷ []) ≡ given_row (codes "dir") (dir ∷ []) ∷ []
 unfolding clap_on_literals
 check_rows dir = refl
+
+pub cook_taken : (dir swhid out : Text) → fault_in cook_app true (dir ∷ swhid ∷ out ∷ []) ≡ []
+unfolding clap_on_literals
+cook_taken dir swhid out = refl
+
+pub cook_rows : (dir swhid out : Text)
+    → rows_in cook_app true (dir ∷ swhid ∷ out ∷ [])
+    ≡ given_row (codes "dir") (dir ∷ []) ∷ given_row (codes "swhid") (swhid ∷ []) ∷ given_row (codes "out") (out ∷ []) ∷ []
+unfolding clap_on_literals
+cook_rows dir swhid out = refl
 
 pub identify_taken : (kind path : Text) → fault_in identify_app true (kind ∷ path ∷ []) ≡ []
 unfolding clap_on_literals
@@ -271,6 +288,15 @@ unfolding clap_on_literals
 check_by Holds one [] clean = absurd (refused (fault_in check_app true []) refl clean)
 check_by Holds one (dir ∷ []) clean = one dir
 check_by Holds one (dir ∷ more ∷ rest) clean = absurd (refused (fault_in check_app true (dir ∷ more ∷ rest)) refl clean)
+
+pub cook_by : (Holds : List Text → Type 0) → ((dir swhid out : Text) → Holds (dir ∷ swhid ∷ out ∷ [])) → (values : List Text)
+    → fault_in cook_app true values ≡ [] → Holds values
+unfolding clap_on_literals
+cook_by Holds three [] clean = absurd (refused (fault_in cook_app true []) refl clean)
+cook_by Holds three (dir ∷ []) clean = absurd (refused (fault_in cook_app true (dir ∷ [])) refl clean)
+cook_by Holds three (dir ∷ swhid ∷ []) clean = absurd (refused (fault_in cook_app true (dir ∷ swhid ∷ [])) refl clean)
+cook_by Holds three (dir ∷ swhid ∷ out ∷ []) clean = three dir swhid out
+cook_by Holds three (dir ∷ swhid ∷ out ∷ more ∷ rest) clean = absurd (refused (fault_in cook_app true (dir ∷ swhid ∷ out ∷ more ∷ rest)) refl clean)
 
 pub identify_by : (Holds : List Text → Type 0) → ((kind path : Text) → Holds (kind ∷ path ∷ [])) → (values : List Text)
     → fault_in identify_app true values ≡ [] → Holds values

@@ -29,6 +29,10 @@ ask_app = with_rule (with_rule (new_app (codes "ask")) (one_word (codes "dir")))
 abbrev pub check_app : App
 check_app = with_rule (new_app (codes "check")) (one_word (codes "dir"))
 
+-- `cook`, a folder, a SWHID and a path
+abbrev pub cook_app : App
+cook_app = with_rule (with_rule (with_rule (new_app (codes "cook")) (one_word (codes "dir"))) (one_word (codes "swhid"))) (one_word (codes "out"))
+
 -- `identify`, a kind and a path
 abbrev pub identify_app : App
 identify_app = with_rule (with_rule (new_app (codes "identify")) (one_word (codes "kind"))) (one_word (codes "path"))
@@ -47,12 +51,12 @@ bare_shape s = record s {
 abbrev pub bare_app : App → App
 bare_app a = record a { top = bare_shape a.top }
 
--- the program: its five subcommands
+-- the program: its six subcommands
 abbrev pub program_app : App
 program_app =
     let bare = bare_app (new_app (codes "swharc")) in
-    with_subcommand (with_subcommand (with_subcommand (with_subcommand (with_subcommand bare init_app.top) load_app.top) ask_app.top) check_app.top)
-    identify_app.top
+    with_subcommand (with_subcommand (with_subcommand (with_subcommand (with_subcommand (with_subcommand bare init_app.top) load_app.top) ask_app.top) check_app.top)
+    cook_app.top) identify_app.top
 
 -- the command has this definition, and no argument that its subcommands share
 pub record IsDefinedAs (app : App) (command : Command) : Type 0 where

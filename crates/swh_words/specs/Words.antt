@@ -6,7 +6,7 @@ use Rattle.swh_base.specs.Kind.{kind_letters}
 use Rattle.swh_base.specs.declared.kind.Kind.TheVariants.{Directory}
 use Rattle.swh_words.specs.Definition.{program_app}
 use Rattle.swh_words.specs.declared.command.Command.{Command}
-use Rattle.swh_words.specs.declared.command.Command.TheVariants.{Init, Load, Ask, Check, Identify, IdentifyFolder}
+use Rattle.swh_words.specs.declared.command.Command.TheVariants.{Init, Load, Ask, Check, Cook, Identify, IdentifyFolder}
 
 -- what a run may be asked to do
 pub data Wanted : Type 0 where
@@ -18,6 +18,8 @@ pub data Wanted : Type 0 where
   ToAsk : List ℕ → List (List ℕ) → Wanted
   -- to check the archive in a folder
   ToCheck : List ℕ → Wanted
+  -- to cook the name of a SWHID, which the archive in a folder holds, at a path
+  ToCook : List ℕ → List ℕ → List ℕ → Wanted
   -- to name the bytes of a file as a body of a kind
   ToIdentify : Kind → List ℕ → Wanted
   -- to name a folder as a directory
@@ -29,6 +31,7 @@ wanted_by (Init dir) = ToInit dir.now
 wanted_by (Load dir jobs) = ToLoad dir.now jobs.now
 wanted_by (Ask dir paths) = ToAsk dir.now (map (λ path. path.now) paths.items)
 wanted_by (Check dir) = ToCheck dir.now
+wanted_by (Cook dir swhid out) = ToCook dir.now swhid.now out.now
 wanted_by (Identify kind path) = ToIdentify kind path.now
 wanted_by (IdentifyFolder path) = ToIdentifyFolder path.now
 
@@ -38,6 +41,7 @@ spelled_command (ToInit dir) = codes "init" ∷ dir ∷ []
 spelled_command (ToLoad dir jobs) = codes "load" ∷ dir ∷ jobs ∷ []
 spelled_command (ToAsk dir paths) = codes "ask" ∷ dir ∷ paths
 spelled_command (ToCheck dir) = codes "check" ∷ dir ∷ []
+spelled_command (ToCook dir swhid out) = codes "cook" ∷ dir ∷ swhid ∷ out ∷ []
 spelled_command (ToIdentify kind path) = codes "identify" ∷ kind_letters kind ∷ path ∷ []
 spelled_command (ToIdentifyFolder path) = codes "identify" ∷ kind_letters Directory ∷ path ∷ []
 
@@ -49,6 +53,9 @@ IsGiven given (ToLoad dir jobs) =
 IsGiven given (ToAsk dir paths) =
     (given.0 ≡ codes "ask") × (first_of (codes "dir") given.1 ≡ Some dir) × (all_of (codes "path") given.1 ≡ Some paths)
 IsGiven given (ToCheck dir) = (given.0 ≡ codes "check") × (first_of (codes "dir") given.1 ≡ Some dir)
+IsGiven given (ToCook dir swhid out) =
+    (given.0 ≡ codes "cook") × (first_of (codes "dir") given.1 ≡ Some dir) × (first_of (codes "swhid") given.1 ≡ Some swhid)
+    × (first_of (codes "out") given.1 ≡ Some out)
 IsGiven given (ToIdentify kind path) =
     (given.0 ≡ codes "identify") × (first_of (codes "kind") given.1 ≡ Some (kind_letters kind)) × (first_of (codes "path") given.1 ≡ Some path)
 IsGiven given (ToIdentifyFolder path) =
@@ -60,6 +67,7 @@ IsOffered (ToInit dir) = Unit {0}
 IsOffered (ToLoad dir jobs) = Unit {0}
 IsOffered (ToAsk dir paths) = 0 < length paths
 IsOffered (ToCheck dir) = Unit {0}
+IsOffered (ToCook dir swhid out) = Unit {0}
 IsOffered (ToIdentify kind path) = kind ≢ Directory
 IsOffered (ToIdentifyFolder path) = Unit {0}
 

@@ -16,6 +16,12 @@ pub enum Command<'a> {
     Ask { dir: &'a str, paths: Vec<&'a str> },
     /// To check the archive in a folder.
     Check { dir: &'a str },
+    /// To cook the name of a SWHID, which the archive in a folder holds, at a path.
+    Cook {
+        dir: &'a str,
+        swhid: &'a str,
+        out: &'a str,
+    },
     /// To name the bytes of a file as a body of a kind, which is no directory.
     Identify { kind: Kind, path: &'a str },
     /// To name a folder as a directory.

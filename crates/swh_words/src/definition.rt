@@ -9,6 +9,7 @@ ghost use Rattle.swh_words.specs.Definition.{
   load_app,
   ask_app,
   check_app,
+  cook_app,
   identify_app,
   bare_app,
   program_app,
@@ -63,6 +64,15 @@ fn check_command<'a>(alloc: Global) -> Result<Command<'a>, AllocError>
     Command::new(alloc, "check").arg(one_word(alloc, "dir"))
 }
 
+fn cook_command<'a>(alloc: Global) -> Result<Command<'a>, AllocError>
+    ensures { IfOk result (IsDefinedAs cook_app) }
+{
+    Command::new(alloc, "cook")
+        .arg(one_word(alloc, "dir"))?
+        .arg(one_word(alloc, "swhid"))?
+        .arg(one_word(alloc, "out"))
+}
+
 fn identify_command<'a>(alloc: Global) -> Result<Command<'a>, AllocError>
     ensures { IfOk result (IsDefinedAs identify_app) }
 {
@@ -83,8 +93,8 @@ fn bare_command<'a>(alloc: Global) -> Command<'a>
         .subcommand_required(true)
 }
 
-/// The program's definition for clap: `init`, `load`, `ask`, `check` and `identify`, with their words. Fails where
-/// memory runs out.
+/// The program's definition for clap: `init`, `load`, `ask`, `check`, `cook` and `identify`, with their words.
+/// Fails where memory runs out.
 pub fn program<'a>(alloc: Global) -> Result<Command<'a>, AllocError>
     ensures { IfOk result (IsDefinedAs program_app) }
 {
@@ -93,5 +103,6 @@ pub fn program<'a>(alloc: Global) -> Result<Command<'a>, AllocError>
         .subcommand(load_command(alloc)?)?
         .subcommand(ask_command(alloc)?)?
         .subcommand(check_command(alloc)?)?
+        .subcommand(cook_command(alloc)?)?
         .subcommand(identify_command(alloc)?)
 }

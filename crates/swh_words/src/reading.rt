@@ -114,6 +114,21 @@ fn check_of<'a>(values: &ArgMatches<'a>) -> Result<Command<'a>, WordsFault>
     Ok(Command::Check { dir })
 }
 
+fn cook_of<'a>(values: &ArgMatches<'a>) -> Result<Command<'a>, WordsFault>
+    ensures { Answers (AsksFor (codes "cook", rows_of (found_of values.now))) result }
+{
+    let Some(dir) = value_of(values, "dir") else {
+        return Err(WordsFault::Words);
+    };
+    let Some(swhid) = value_of(values, "swhid") else {
+        return Err(WordsFault::Words);
+    };
+    let Some(out) = value_of(values, "out") else {
+        return Err(WordsFault::Words);
+    };
+    Ok(Command::Cook { dir, swhid, out })
+}
+
 fn identify_of<'a>(values: &ArgMatches<'a>) -> Result<Command<'a>, WordsFault>
     ensures { Answers (AsksFor (codes "identify", rows_of (found_of values.now))) result }
 {
@@ -149,6 +164,8 @@ fn command_of<'a>(
         ask_of(alloc, values)
     } else if name == "check" {
         check_of(values)
+    } else if name == "cook" {
+        cook_of(values)
     } else if name == "identify" {
         identify_of(values)
     } else {

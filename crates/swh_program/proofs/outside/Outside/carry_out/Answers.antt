@@ -1,5 +1,6 @@
-use Rattle.std.proofs.Common.{rules, ◌≡◌, ℕ, List, Bor, sym, ◌∙◌, ap, map, refl}
+use Rattle.std.proofs.Common.{rules, ◌≡◌, ℕ, List, Bor, sym, subst, ◌∙◌, ap, map, refl}
 use Rattle.swh_words.specs.Words.{ToInit, ToAsk, ToCheck, wanted_by}
+use Rattle.swh_program.specs.LeftAlone.{NeedsNoYard}
 use Rattle.swh_program.proofs.Does.{came}
 use Rattle.swh_program.proofs.Ends.{safe}
 use Rattle.swh_program.proofs.outside.Outside.carry_out.Goals as goal
@@ -32,3 +33,6 @@ returns-in-Ask-clause-comes g c =
     came (ToAsk c.in-Ask.dir.now (map (λ path. path.now) c.as_slice.result.now)) _ _ _
     (ap (λ (l : List (Bor (List ℕ))). ToAsk c.in-Ask.dir.now (map (λ path. path.now) l)) slice ∙ ap wanted_by (sym c.in-Ask.is))
     (record { one_of = r.one_of; ends = r.ends; elsewhere = r.elsewhere; own = r.own; cause = r.cause; left = record { desk = refl; origins = refl; clock = refl } })
+
+pub returns-in-Cook-clause-yard : goal.returns-in-Cook-clause-yard
+returns-in-Cook-clause-yard g c needs = absurd (subst NeedsNoYard (ap wanted_by c.in-Cook.is) needs)
