@@ -7,8 +7,8 @@ use std::test::Fail;
 use swh_base::{Bytes, Sha1Namer, Url};
 use swh_fixtures::{Archive, kept, made_archive};
 use swh_keeper::Keeper;
-use swh_loader::{Job, Worker};
-use swh_memory::{MemoryDisk, MemorySource};
+use swh_loader::{Input, Job, Worker};
+use swh_memory::{MemoryDisk, MemoryFolder, MemorySource};
 use swh_outside::{OpenGate, Opened};
 use swh_pool::{DatedJob, load_all};
 
@@ -42,27 +42,22 @@ pub fn open_again(alloc: Global, store: MemoryDisk, ledger: MemoryDisk) -> Resul
     Ok(Held { events, visits })
 }
 
-fn dated(origin: Url, stream: Opened<MemorySource>) -> DatedJob<MemorySource>
+fn dated(origin: Url, stream: Opened<MemorySource>) -> DatedJob<MemorySource, MemoryFolder>
     ensures { HasHead result }
 {
-    let head = None;
+    let input = Input::Fast { stream, head: None };
     DatedJob {
-        job: Job {
-            origin,
-            stream,
-            head,
-        },
+        job: Job { origin, input },
         date: 1_000_000_000,
     }
 }
 
-fn let_go(mut jobs: Vec<DatedJob<MemorySource>>) {
+fn let_go(mut jobs: Vec<DatedJob<MemorySource, MemoryFolder>>) {
     'jobs: while let Some(dated) = jobs.pop() {
         let DatedJob { job, date: _date } = dated;
         let Job {
             origin: _origin,
-            stream: _stream,
-            head: _head,
+            input: _input,
         } = job;
     }
     jobs.destroy_empty();
@@ -72,7 +67,7 @@ fn let_go(mut jobs: Vec<DatedJob<MemorySource>>) {
 fn lines_of(
     alloc: Global,
     keeper: &mut Archive<Sha1Namer>,
-    jobs: &mut [DatedJob<MemorySource>],
+    jobs: &mut [DatedJob<MemorySource, MemoryFolder>],
 ) -> Result<Bytes, Fail>
     requires { All HasHead jobs.old }
 {
@@ -88,7 +83,7 @@ fn lines_of(
 // Loads jobs into an archive of no event.
 fn load_anew(
     alloc: Global,
-    jobs: &mut [DatedJob<MemorySource>],
+    jobs: &mut [DatedJob<MemorySource, MemoryFolder>],
     ledger_failing: &[u64],
 ) -> Result<Left, Fail>
     requires { All HasHead jobs.old }
@@ -109,7 +104,7 @@ fn three_jobs(
     first: Opened<MemorySource>,
     second: Opened<MemorySource>,
     third: Opened<MemorySource>,
-) -> Result<Vec<DatedJob<MemorySource>>, Fail>
+) -> Result<Vec<DatedJob<MemorySource, MemoryFolder>>, Fail>
     ensures { IfOk result (λ jobs. All HasHead jobs.items) }
 {
     let p = Url::new(alloc, "https://e.org/p")?;
