@@ -5,8 +5,8 @@ use swh_base::{Kind, Name, Namer, Sha1Namer, Url};
 use swh_check::{CheckFault, Report, check_all};
 use swh_fixtures::{Archive, CONTENT, STREAM, URL, found, made_archive};
 use swh_keeper::{Keeper, OpenFault, Plan};
-use swh_loader::{Job, Turn, Worker, load_one};
-use swh_memory::{MemoryCall, MemoryDisk, MemorySource};
+use swh_loader::{Input, Job, Turn, Worker, load_one};
+use swh_memory::{MemoryCall, MemoryDisk, MemoryFolder, MemorySource};
 use swh_object::Object;
 use swh_outside::{Disk, OpenGate, Opened};
 
@@ -18,11 +18,8 @@ fn is_loaded<N: Namer>(
     origin: Url,
     stream: Opened<MemorySource>,
 ) -> bool {
-    let mut job = Job {
-        origin,
-        stream,
-        head: None,
-    };
+    let input: Input<MemorySource, MemoryFolder> = Input::Fast { stream, head: None };
+    let mut job = Job { origin, input };
     let worker = Worker {
         by: 1,
         gate: &OpenGate,
@@ -35,8 +32,7 @@ fn is_loaded<N: Namer>(
     let answer = load_one(alloc, namer, keeper, &turn, &mut job, 1_000_000_000);
     let Job {
         origin: _origin,
-        stream: _stream,
-        head: _head,
+        input: _input,
     } = job;
     answer.is_ok()
 }

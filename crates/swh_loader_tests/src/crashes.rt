@@ -5,6 +5,7 @@ use std::test::Fail;
 use swh_base::Sha1Namer;
 use swh_fixtures::{STREAM, URL, disk, found, kept, made_archive};
 use swh_keeper::Keeper;
+use swh_loader::Input;
 use swh_memory::MemoryDisk;
 
 /// The calls of the ledger that make an archive.
@@ -16,7 +17,10 @@ fn loaded(
     ledger_failing: &[u64],
     store_failing: &[u64],
 ) -> Result<(MemoryDisk, MemoryDisk), Fail> {
-    let input = found(alloc, STREAM, &[])?;
+    let input = Input::Fast {
+        stream: found(alloc, STREAM, &[])?,
+        head: None,
+    };
     let mut keeper = made_archive(alloc, Sha1Namer, ledger_failing, store_failing)?;
     let _answer = load(alloc, &Sha1Namer, &mut keeper, URL, input);
     Ok(keeper.close())

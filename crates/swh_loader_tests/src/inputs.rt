@@ -1,14 +1,12 @@
 // What becomes of inputs.
+use crate::lines::line_of;
 use crate::world::{holds, load, objects_in};
 use std::alloc::{AllocError, Global};
 use std::test::Fail;
-use swh_base::{ByteNamer, Kind, Name, Namer, Sha1Namer};
-use swh_fixtures::{
-    Archive, CONTENT, DIRECTORY, EMPTY_SNAPSHOT, REVISION, SNAPSHOT, STREAM, URL, found,
-    made_archive,
-};
-use swh_loader::{BadInput, BadStream, End, LoadFault, Loaded, Stop, StreamWhy};
-use swh_memory::MemorySource;
+use swh_base::{ByteNamer, Kind, Name, Namer, Sha1Namer, Url};
+use swh_fixtures::{Archive, CONTENT, DIRECTORY, REVISION, STREAM, URL, found, made_archive};
+use swh_loader::Input;
+use swh_memory::{MemoryFolder, MemorySource};
 use swh_outside::Opened;
 
 // The input of a load.
@@ -17,28 +15,45 @@ enum Given<'a> {
     Text(&'a [u8]),
     /// The source fails at its second call.
     Broken(&'a [u8]),
+    /// A batch of objects, and its refs.
+    Batch(&'a [u8], &'a [u8]),
     NotFound,
     Failed,
     Memory,
 }
 
-// A load, how it ends, and how many events and objects the archive has then.
+// A load, its line behind the origin, and how many events and objects the archive has then.
 #[derive(Clone, Copy)]
 struct Step<'a> {
     url: &'a str,
     given: Given<'a>,
-    ends: Result<Loaded, LoadFault>,
+    told: &'a [u8],
     events: usize,
     objects: usize,
 }
 
-fn opened(alloc: Global, given: Given<'_>) -> Result<Opened<MemorySource>, AllocError> {
+fn stream(opened: Opened<MemorySource>) -> Input<MemorySource, MemoryFolder> {
+    Input::Fast {
+        stream: opened,
+        head: None,
+    }
+}
+
+fn opened(
+    alloc: Global,
+    given: Given<'_>,
+) -> Result<Input<MemorySource, MemoryFolder>, AllocError> {
     match given {
-        Given::Text(text) => found(alloc, text, &[]),
-        Given::Broken(text) => found(alloc, text, &[1]),
-        Given::NotFound => Ok(Opened::NotFound),
-        Given::Failed => Ok(Opened::Failed),
-        Given::Memory => Ok(Opened::Memory),
+        Given::Text(text) => Ok(stream(found(alloc, text, &[])?)),
+        Given::Broken(text) => Ok(stream(found(alloc, text, &[1])?)),
+        Given::Batch(objects, refs) => {
+            let objects = found(alloc, objects, &[])?;
+            let refs = found(alloc, refs, &[])?;
+            Ok(Input::Batch { objects, refs })
+        }
+        Given::NotFound => Ok(stream(Opened::NotFound)),
+        Given::Failed => Ok(stream(Opened::Failed)),
+        Given::Memory => Ok(stream(Opened::Memory)),
     }
 }
 
@@ -49,10 +64,19 @@ fn ends_so<N: Namer>(
     keeper: &mut Archive<N>,
     step: &Step<'_>,
 ) -> Result<bool, AllocError> {
+    let Ok(url) = Url::new(alloc, step.url) else {
+        return Ok(false);
+    };
     let input = opened(alloc, step.given)?;
     let answer = load(alloc, namer, keeper, step.url, input);
+    let line = line_of(alloc, &url, &answer)?;
+    let front = url.as_str().as_bytes();
+    let told = match line.as_slice().strip_prefix(front) {
+        Some(rest) => rest.strip_prefix(b"\t") == Some(step.told),
+        None => false,
+    };
     let history = keeper.history();
-    Ok(answer == step.ends && history.len() == step.events && objects_in(history) == step.objects)
+    Ok(told && history.len() == step.events && objects_in(history) == step.objects)
 }
 
 // The number, from 0, of the first load that ends in another way.
@@ -70,95 +94,109 @@ fn first_other<N: Namer>(
     Ok(None)
 }
 
-const FULL: End = End::Full { snapshot: SNAPSHOT };
-
-const READ: End = End::Failed(BadInput::Read);
-
-const CUT: End = End::Failed(BadInput::Broken(BadStream::Stream {
-    at: 13,
-    why: StreamWhy::End,
-}));
-
-// Each load adds the visit's opening and its two marks, and a batch where something is new.
+// Each load adds the visit's opening and its two marks, and a batch where something is new. Ids of contents are those of
+// `git hash-object`, of snapshots by SWHID v1.2.
 const STEPS: &[Step<'static>] = &[
     Step {
         url: "https://e.org/e",
         given: Given::Text(b""),
-        ends: Ok(Loaded {
-            visit: 1,
-            end: End::Full {
-                snapshot: EMPTY_SNAPSHOT,
-            },
-        }),
+        told: b"1\tfull\tswh:1:snp:1a8893e6a86f444e8be8e7bda6cb34fb1735a00e\n",
         events: 4,
         objects: 1,
     },
     Step {
         url: URL,
         given: Given::Text(STREAM),
-        ends: Ok(Loaded {
-            visit: 1,
-            end: FULL,
-        }),
+        told: b"1\tfull\tswh:1:snp:5036c2b4a676f9dad60fbaed431ca21ecdec56ff\n",
         events: 8,
         objects: 5,
     },
     Step {
         url: URL,
         given: Given::Text(STREAM),
-        ends: Ok(Loaded {
-            visit: 2,
-            end: FULL,
-        }),
+        told: b"2\tfull\tswh:1:snp:5036c2b4a676f9dad60fbaed431ca21ecdec56ff\n",
         events: 11,
         objects: 5,
     },
     Step {
         url: URL,
         given: Given::Text(b"feature done\n"),
-        ends: Ok(Loaded { visit: 3, end: CUT }),
+        told: b"3\tfailed\tstream 13 end\n",
         events: 14,
         objects: 5,
     },
     Step {
         url: URL,
         given: Given::Broken(STREAM),
-        ends: Ok(Loaded {
-            visit: 4,
-            end: READ,
-        }),
+        told: b"4\tfailed\tread\n",
         events: 17,
         objects: 5,
     },
     Step {
         url: URL,
         given: Given::Failed,
-        ends: Ok(Loaded {
-            visit: 5,
-            end: READ,
-        }),
+        told: b"5\tfailed\tread\n",
         events: 20,
         objects: 5,
     },
     Step {
         url: URL,
         given: Given::NotFound,
-        ends: Ok(Loaded {
-            visit: 6,
-            end: End::NotFound,
-        }),
+        told: b"6\tnot_found\t-\n",
         events: 22,
         objects: 5,
     },
     Step {
         url: URL,
         given: Given::Memory,
-        ends: Err(LoadFault {
-            visit: 7,
-            why: Stop::Memory,
-        }),
+        told: b"7\tstopped\tmemory\n",
         events: 23,
         objects: 5,
+    },
+    // A batch whose one object is held; its snapshot is new.
+    Step {
+        url: "https://e.org/b",
+        given: Given::Batch(
+            b"83baae61804e65cc73a7201a7252750c76066a30 blob 10\nversion 1\n\n",
+            b"83baae61804e65cc73a7201a7252750c76066a30 refs/tags/v1\n",
+        ),
+        told: b"1\tfull\tswh:1:snp:802b11ac802806ac49686e0ea96c29f4edc78963\n",
+        events: 27,
+        objects: 6,
+    },
+    Step {
+        url: "https://e.org/b",
+        given: Given::Batch(b"x\n", b""),
+        told: b"2\tfailed\tbatch 0\n",
+        events: 30,
+        objects: 6,
+    },
+    Step {
+        url: "https://e.org/b",
+        given: Given::Batch(
+            b"83baae61804e65cc73a7201a7252750c76066a31 blob 10\nversion 1\n\n",
+            b"",
+        ),
+        told: b"3\tfailed\tname 83baae61804e65cc73a7201a7252750c76066a31 83baae61804e65cc73a7201a7252750c76066a30\n",
+        events: 33,
+        objects: 6,
+    },
+    Step {
+        url: "https://e.org/b",
+        given: Given::Batch(b"", b"x\n"),
+        told: b"4\tfailed\trefs 1\n",
+        events: 36,
+        objects: 6,
+    },
+    Step {
+        url: "https://e.org/b",
+        given: Given::Batch(
+            b"",
+            b"83baae61804e65cc73a7201a7252750c76066a30 refs/tags/v1\n",
+        ),
+        told: b"5\tfailed\tno-object 83baae61804e65cc73a7201a7252750c76066a30\n",
+        events: 39,
+        objects: 6,
     },
 ];
 
@@ -190,29 +228,18 @@ const COLLIDED: Name = Name {
     id: *b"\0\0\0\0\0\0\0\0\0\0\0\0\0\0\0\0\0\0\0\xc3",
 };
 
-const COLLIDED_IN_A_STREAM: Name = Name {
-    kind: Kind::Content,
-    id: *b"\0\0\0\0\0\0\0\0\0\0\0\0\0\0\0\0\0\0\0\xc7",
-};
-
 const TWO_BODIES: &[Step<'static>] = &[
     Step {
         url: URL,
         given: Given::Text(b"blob\nmark :1\ndata 2\nab"),
-        ends: Ok(Loaded {
-            visit: 1,
-            end: End::Full { snapshot: [0; 20] },
-        }),
+        told: b"1\tfull\tswh:1:snp:0000000000000000000000000000000000000000\n",
         events: 4,
         objects: 2,
     },
     Step {
         url: "https://e.org/q",
         given: Given::Text(b"blob\nmark :1\ndata 2\nba"),
-        ends: Ok(Loaded {
-            visit: 1,
-            end: End::Failed(BadInput::Collision { name: COLLIDED }),
-        }),
+        told: b"1\tfailed\tcollision swh:1:cnt:00000000000000000000000000000000000000c3\n",
         events: 7,
         objects: 2,
     },
@@ -220,12 +247,7 @@ const TWO_BODIES: &[Step<'static>] = &[
     Step {
         url: "https://e.org/r",
         given: Given::Text(b"blob\nmark :1\ndata 2\ncd\nblob\nmark :2\ndata 2\ndc"),
-        ends: Ok(Loaded {
-            visit: 1,
-            end: End::Failed(BadInput::Collision {
-                name: COLLIDED_IN_A_STREAM,
-            }),
-        }),
+        told: b"1\tfailed\tcollision swh:1:cnt:00000000000000000000000000000000000000c7\n",
         events: 11,
         objects: 3,
     },

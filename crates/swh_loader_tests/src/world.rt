@@ -2,10 +2,10 @@
 use std::alloc::Global;
 use swh_base::{Kind, Name, Namer, Url};
 use swh_fixtures::Archive;
-use swh_loader::{Job, LoadFault, Loaded, Stop, Turn, Worker, load_one};
-use swh_memory::MemorySource;
+use swh_loader::{Input, Job, LoadFault, Loaded, Stop, Turn, Worker, load_one};
+use swh_memory::{MemoryFolder, MemorySource};
 use swh_model::{Event, EventKind};
-use swh_outside::{OpenGate, Opened};
+use swh_outside::OpenGate;
 
 /// Loads an input of an origin.
 pub fn load<N: Namer>(
@@ -13,7 +13,7 @@ pub fn load<N: Namer>(
     namer: &N,
     keeper: &mut Archive<N>,
     url: &str,
-    stream: Opened<MemorySource>,
+    input: Input<MemorySource, MemoryFolder>,
 ) -> Result<Loaded, LoadFault> {
     let Ok(origin) = Url::new(alloc, url) else {
         return Err(LoadFault {
@@ -21,11 +21,7 @@ pub fn load<N: Namer>(
             why: Stop::Memory,
         });
     };
-    let mut job = Job {
-        origin,
-        stream,
-        head: None,
-    };
+    let mut job = Job { origin, input };
     let date = 1_000_000_000;
     let worker = Worker {
         by: 1,
@@ -39,8 +35,7 @@ pub fn load<N: Namer>(
     let answer = load_one(alloc, namer, keeper, &turn, &mut job, date);
     let Job {
         origin: _origin,
-        stream: _stream,
-        head: _head,
+        input: _input,
     } = job;
     answer
 }

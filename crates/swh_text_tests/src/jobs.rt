@@ -1,30 +1,52 @@
 // Job files: their jobs, the line that breaks, and the limits.
 use std::alloc::{AllocError, Global};
 use std::test::Fail;
-use swh_jobs::{JobLine, JobWhy, JobsFault, LONGEST, parse_jobs};
+use swh_base::{Bytes, VisitKind};
+use swh_jobs::{JobInput, JobLine, JobWhy, JobsFault, LONGEST, parse_jobs};
 
 // A CR at a line's end belongs to the path; the last LF lacks.
 const FILE: &[u8] =
-    b"fast\thttps://e.org/a\tstreams/a.fi\nfast\thttps://e.org/b c\tb c\r\nfast\t\xc3\xbc\t\xc3\xa9\trefs/heads/\xc3\xb6";
+    b"fast\thttps://e.org/a\tstreams/a.fi\nfast\thttps://e.org/b c\tb c\r\ndir\td\tin\ndir\te\tin\tin.modes\nbatch\tbatch\tb\tr\nfast\t\xc3\xbc\t\xc3\xa9\trefs/heads/\xc3\xb6";
 
-static JOBS: [(&str, &str, &[u8]); 3] = [
-    ("https://e.org/a", "streams/a.fi", b""),
-    ("https://e.org/b c", "b c\r", b""),
-    ("ü", "é", b"refs/heads/\xc3\xb6"),
+// The kind of an input, its path, and its head or its second path; none is written as an empty one, which no job has.
+type Parts = (VisitKind, &'static str, &'static [u8]);
+
+static JOBS: [(&str, Parts); 6] = [
+    ("https://e.org/a", (VisitKind::Fast, "streams/a.fi", b"")),
+    ("https://e.org/b c", (VisitKind::Fast, "b c\r", b"")),
+    ("d", (VisitKind::Dir, "in", b"")),
+    ("e", (VisitKind::Dir, "in", b"in.modes")),
+    ("batch", (VisitKind::Batch, "b", b"r")),
+    ("ü", (VisitKind::Fast, "é", b"refs/heads/\xc3\xb6")),
 ];
 
-// Whether a job has these parts; no head is written as an empty one, which no job has.
-fn is_job(job: &JobLine, url: &str, path: &str, head: &[u8]) -> bool {
-    let found = match &job.head {
+fn head_bytes(head: &Option<Bytes>) -> &[u8] {
+    match head {
         Some(head) => head.as_slice(),
         None => b"",
+    }
+}
+
+fn modes_bytes(modes: &Option<String>) -> &[u8] {
+    match modes {
+        Some(path) => path.as_bytes(),
+        None => b"",
+    }
+}
+
+fn has_parts(input: &JobInput, (kind, path, more): &Parts) -> bool {
+    let (found, first, second) = match input {
+        JobInput::Fast { path, head } => (VisitKind::Fast, path.as_str(), head_bytes(head)),
+        JobInput::Dir { path, modes } => (VisitKind::Dir, path.as_str(), modes_bytes(modes)),
+        JobInput::Batch { path, refs } => (VisitKind::Batch, path.as_str(), refs.as_bytes()),
     };
-    job.url.as_str() == url && job.path.as_str() == path && found == head
+    found == *kind && first == *path && second == *more
 }
 
 fn are_jobs(jobs: &[JobLine]) -> bool {
     let mut pairs = jobs.iter().zip(&JOBS);
-    jobs.len() == JOBS.len() && pairs.all(|(job, (url, path, head))| is_job(job, url, path, head))
+    jobs.len() == JOBS.len()
+        && pairs.all(|(job, (url, parts))| job.url.as_str() == *url && has_parts(&job.input, parts))
 }
 
 #[test]
@@ -45,7 +67,7 @@ fn breaks_at(alloc: Global, bytes: &[u8], line: u64, why: JobWhy) -> bool {
 }
 
 // The first line that breaks is named; at one line the form goes before the origin.
-static BAD: [(&[u8], u64, JobWhy); 24] = [
+static BAD: [(&[u8], u64, JobWhy); 33] = [
     (b"\n", 1, JobWhy::Form),
     (b"\nfast\tu\tp\n", 1, JobWhy::Form),
     (b"fast", 1, JobWhy::Form),
@@ -63,8 +85,17 @@ static BAD: [(&[u8], u64, JobWhy); 24] = [
     (b"fast\tu\tp\tm\xff", 1, JobWhy::Form),
     (b"Fast\tu\tp", 1, JobWhy::Form),
     (b" fast\tu\tp", 1, JobWhy::Form),
-    (b"dir\tu\tp", 1, JobWhy::Form),
-    (b"batch\tu\tp\tr", 1, JobWhy::Form),
+    (b"dir", 1, JobWhy::Form),
+    (b"dir\tu", 1, JobWhy::Form),
+    (b"dir\tu\t\tm", 1, JobWhy::Form),
+    (b"dir\tu\tp\t", 1, JobWhy::Form),
+    (b"dir\tu\tp\tm\tm", 1, JobWhy::Form),
+    (b"dir\tu\tp\tm\xff", 1, JobWhy::Form),
+    (b"dirs\tu\tp", 1, JobWhy::Form),
+    (b"batch\tu\tp", 1, JobWhy::Form),
+    (b"batch\tu\tp\t", 1, JobWhy::Form),
+    (b"batch\tu\tp\tr\t", 1, JobWhy::Form),
+    (b"batch\tu\tp\tr\ndir\tu\tp", 2, JobWhy::Origin),
     (b"\xef\xbb\xbffast\tu\tp", 1, JobWhy::Form),
     (b"fast\tu\tp\nfast\tv\tp\nfast\tu\tq\n", 3, JobWhy::Origin),
     (b"fast\tu\tp\nfast\tu\tp\nfast\n", 2, JobWhy::Origin),
@@ -79,9 +110,9 @@ fn lines_that_break(rt: HostRuntime) {
     }
 }
 
-// A line with so many bytes of a URL, a path and a head, and without an LF.
-fn long_line(alloc: Global, lengths: &[usize; 3]) -> Result<Vec<u8>, AllocError> {
-    let mut line = b"fast".to_vec(alloc)?;
+// A line of this kind with so many bytes of a URL, a path and what stands behind it, and without an LF.
+fn long_line(alloc: Global, kind: &[u8], lengths: &[usize; 3]) -> Result<Vec<u8>, AllocError> {
+    let mut line = kind.to_vec(alloc)?;
     for length in lengths {
         line.push(b'\t')?;
         for _ in 0..*length {
@@ -91,24 +122,38 @@ fn long_line(alloc: Global, lengths: &[usize; 3]) -> Result<Vec<u8>, AllocError>
     Ok(line)
 }
 
-// Lengths of a URL, a path and a head: each is one too many.
-static TOO_LONG: [[usize; 3]; 3] = [[2_049, 1, 1], [1, 4_097, 1], [1, 1, 1_025]];
+// Kinds, and lengths of a URL, a path and what stands behind it: each is one too many.
+static TOO_LONG: [(&[u8], [usize; 3]); 5] = [
+    (b"fast", [2_049, 1, 1]),
+    (b"fast", [1, 4_097, 1]),
+    (b"fast", [1, 1, 1_025]),
+    (b"dir", [1, 1, 4_097]),
+    (b"batch", [1, 1, 4_097]),
+];
 
 #[test]
 fn limits_of_a_line(rt: HostRuntime) -> Result<(), Fail> {
-    for lengths in &TOO_LONG {
-        let line = long_line(rt.alloc(), lengths)?;
+    for (kind, lengths) in &TOO_LONG {
+        let line = long_line(rt.alloc(), kind, lengths)?;
         assert!(rt; breaks_at(rt.alloc(), &line, 1, JobWhy::Form));
     }
     Ok(())
 }
 
+// Kinds, and the longest lengths of their parts.
+static LONG: [(&[u8], [usize; 3]); 3] = [
+    (b"fast", [2_048, 4_096, 1_024]),
+    (b"dir", [2_048, 4_096, 4_096]),
+    (b"batch", [2_048, 4_096, 4_096]),
+];
+
 #[test]
-fn the_longest_line(rt: HostRuntime) -> Result<(), Fail> {
-    let mut longest = long_line(rt.alloc(), &[2_048, 4_096, 1_024])?;
-    longest.push(b'\n')?;
-    assert!(rt; longest.len() == LONGEST / 256);
-    assert!(rt; count(rt.alloc(), &longest) == Ok(1));
+fn the_longest_lines(rt: HostRuntime) -> Result<(), Fail> {
+    for (kind, lengths) in &LONG {
+        let longest = long_line(rt.alloc(), kind, lengths)?;
+        assert!(rt; longest.len() < LONGEST / 256);
+        assert!(rt; count(rt.alloc(), &longest) == Ok(1));
+    }
     Ok(())
 }
 
