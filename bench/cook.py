@@ -1,0 +1,129 @@
+#!/usr/bin/env python3
+"""Times cooking beside `git fast-export` and `git checkout-index`, in one run.
+
+    python3 bench/cook.py [PROGRAM]
+
+A history of 5,000 commits, each of two changes over 3,000 files in 300 folders, is loaded, and its snapshot cooked; and a
+folder of 100,000 files in 1,000 folders is loaded, and its directory cooked. The time and the memory of an opening, which is
+that of an `ask` for the name, are taken off. The history has to be cooked at least as fast as `git fast-export` writes it, and
+the folder at least 0.8 times as fast as `git checkout-index -a -f` makes it; and each may hold 200 bytes an object beside what
+is held. What was cooked is loaded again, to the same name. The program is the built one, outside the gate.
+"""
+import json
+import os
+import shutil
+import subprocess
+import sys
+import tempfile
+import time
+
+from launched import launch
+from load_folder import make_folder
+from load_history import git, history_commits, make_stream
+from program import find_program
+from verdict import Verdict
+
+COMMITS = 5_000
+FILES, FOLDERS = 100_000, 1_000
+LEAST_OF_EXPORT = 1
+LEAST_OF_CHECKOUT = 0.8
+BYTES_AN_OBJECT = 200
+WINDOW = 1_114_112
+ROUNDS = 3
+
+
+def load(program, scratch, line):
+    """A new archive of this one job; its path, and the SWHID of the snapshot."""
+    archive = os.path.join(scratch, "archive")
+    shutil.rmtree(archive, ignore_errors=True)
+    subprocess.run([program, "init", archive], check=True, stdout=subprocess.DEVNULL)
+    jobs = os.path.join(scratch, "jobs")
+    with open(jobs, "w") as file:
+        file.write(line + "\n")
+    said = subprocess.run([program, "load", archive, jobs], check=True, stdout=subprocess.PIPE).stdout
+    if b"\tfull\t" not in said:
+        sys.exit("not full: %r" % said[:200])
+    return archive, said.split(b"\t")[3].strip().decode()
+
+
+def ask(program, archive, path):
+    return json.loads(subprocess.run([program, "ask", archive, path], check=True, stdout=subprocess.PIPE).stdout.split(b"\n", 1)[1])
+
+
+def remove(out):
+    shutil.rmtree(out, ignore_errors=True)
+    for path in (out, out + ".modes"):
+        if os.path.isfile(path):
+            os.remove(path)
+
+
+def cook(program, archive, name, out):
+    """The seconds and the bytes that the cooking of a name takes beside an opening."""
+    opened = [launch(program, "ask", archive, "/api/1/origin/none/get/")[:2] for _ in range(ROUNDS)]
+    cooked = []
+    for _ in range(ROUNDS):
+        remove(out)
+        took, peak, status, said = launch(program, "cook", archive, name, out)
+        if status != 0:
+            sys.exit("not cooked: %r" % said[:200])
+        cooked.append((took, peak))
+    return (min(one[0] for one in cooked) - min(one[0] for one in opened),
+            min(one[1] for one in cooked) - min(one[1] for one in opened), said)
+
+
+def measure_history(program, scratch, verdict):
+    stream, _, objects, _ = make_stream(scratch, "history", history_commits(COMMITS))
+    archive, name = load(program, scratch, "fast\thttps://e.org/p\t%s\trefs/heads/main" % stream)
+    out = os.path.join(scratch, "cooked")
+    took, beside, _ = cook(program, archive, name, out)
+    exported = []
+    for _ in range(ROUNDS):
+        begun = time.monotonic()
+        with open(os.path.join(scratch, "exported"), "wb") as file:
+            subprocess.run(["git", "-C", stream + ".git", "fast-export", "--all"], check=True, stdout=file)
+        exported.append(time.monotonic() - begun)
+    print("history of %d commits: cooked in %.3f s (%d bytes), written by git fast-export in %.3f s"
+          % (COMMITS, took, os.path.getsize(out), min(exported)))
+    _, again = load(program, scratch, "fast\thttps://e.org/p\t%s\trefs/heads/main" % out)
+    verdict.as_told("the cooked history loads to its name", None if again == name else again)
+    verdict.at_least("history, times as fast as git fast-export", min(exported) / took, LEAST_OF_EXPORT)
+    verdict.at_most("history, bytes beside what is held", beside, BYTES_AN_OBJECT * objects + WINDOW)
+
+
+def measure_folder(program, scratch, verdict):
+    folder = os.path.join(scratch, "folder")
+    make_folder(folder, FILES, FOLDERS)
+    archive, snapshot = load(program, scratch, "dir\thttps://e.org/p\t%s" % folder)
+    head = ask(program, archive, "/api/1/snapshot/%s/" % snapshot.rpartition(":")[2])["branches"]["HEAD"]["target"]
+    out = os.path.join(scratch, "out")
+    took, beside, _ = cook(program, archive, "swh:1:dir:" + head, out)
+    bare = os.path.join(scratch, "new.git")
+    git_words = ["git", "--git-dir", bare, "--work-tree"]
+    subprocess.run(["git", "init", "--quiet", "--bare", bare], check=True)
+    subprocess.run([*git_words, folder, "add", "-A"], check=True)
+    checked = []
+    made = os.path.join(scratch, "made")
+    for _ in range(ROUNDS):
+        shutil.rmtree(made, ignore_errors=True)
+        os.mkdir(made)
+        begun = time.monotonic()
+        subprocess.run([*git_words, made, "checkout-index", "-a", "-f"], check=True)
+        checked.append(time.monotonic() - begun)
+    print("folder of %d files: cooked in %.3f s, made by git checkout-index in %.3f s" % (FILES, took, min(checked)))
+    named = subprocess.run([program, "identify", "dir", out], stdout=subprocess.PIPE).stdout.strip().decode()
+    verdict.as_told("the cooked folder has its name", None if named == "swh:1:dir:" + head else named)
+    verdict.at_least("folder, times as fast as git checkout-index", min(checked) / took, LEAST_OF_CHECKOUT)
+    verdict.at_most("folder, bytes beside what is held", beside, BYTES_AN_OBJECT * (FILES + FOLDERS + 2) + WINDOW)
+
+
+def main():
+    program = find_program()
+    verdict = Verdict()
+    with tempfile.TemporaryDirectory() as scratch:
+        measure_history(program, scratch, verdict)
+        measure_folder(program, scratch, verdict)
+    verdict.end()
+
+
+if __name__ == "__main__":
+    main()
