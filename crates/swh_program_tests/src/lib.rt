@@ -5,6 +5,8 @@
 #![tactic(auto)]
 
 #[cfg(test)]
+mod cooks;
+#[cfg(test)]
 mod damages;
 #[cfg(test)]
 mod devices;
