@@ -361,45 +361,81 @@ fn what_is_there_stays(rt: HostRuntime) -> Result<(), Fail> {
     all_cooked(rt.alloc(), THERE_ALREADY)
 }
 
-/// A cook from the archive of all kinds: what fails, the number of that call of the yard, the words, and what then stands in
-/// the yard.
-type Failing = (
-    &'static str,
-    u64,
-    &'static [&'static str],
-    &'static [Grown<'static>],
-);
-
-const FAULTS: &[Failing] = &[
-    ("a content's file", 0, CONTENT, &[]),
-    ("a content's bytes", 1, CONTENT, &[File("OUT", b"versi")]),
-    ("the folder", 0, WIDE, &[]),
-    ("its first file", 1, WIDE, &[Folder("OUT")]),
+/// Cooks of which this call of the yard fails, counted from 0.
+const FAULTS: &[Cooked] = &[
     (
-        "that file's bytes",
-        2,
-        WIDE,
+        Case {
+            name: "a content's file",
+            setting: Setting {
+                yard_fails: Some(0),
+                ..HELD
+            },
+            runs: &[CONTENT],
+            statuses: &[4],
+            printed: b"swharc: outside yard\n",
+            leaves: None,
+        },
+        &[],
+    ),
+    (
+        Case {
+            name: "a content's bytes",
+            setting: Setting {
+                yard_fails: Some(1),
+                ..HELD
+            },
+            runs: &[CONTENT],
+            statuses: &[4],
+            printed: b"swharc: outside yard\n",
+            leaves: None,
+        },
+        &[File("OUT", b"versi")],
+    ),
+    (
+        Case {
+            name: "the folder",
+            setting: Setting {
+                yard_fails: Some(0),
+                ..HELD
+            },
+            runs: &[WIDE],
+            statuses: &[4],
+            printed: b"swharc: outside yard\n",
+            leaves: None,
+        },
+        &[],
+    ),
+    (
+        Case {
+            name: "its first file",
+            setting: Setting {
+                yard_fails: Some(1),
+                ..HELD
+            },
+            runs: &[WIDE],
+            statuses: &[4],
+            printed: b"swharc: outside yard\n",
+            leaves: None,
+        },
+        &[Folder("OUT")],
+    ),
+    (
+        Case {
+            name: "that file's bytes",
+            setting: Setting {
+                yard_fails: Some(2),
+                ..HELD
+            },
+            runs: &[WIDE],
+            statuses: &[4],
+            printed: b"swharc: outside yard\n",
+            leaves: None,
+        },
         &[Folder("OUT"), File("OUT/a", b"versi")],
     ),
 ];
 
 #[test]
 fn each_call_of_the_yard_may_fail(rt: HostRuntime) -> Result<(), Fail> {
-    for (name, number, words, grown) in FAULTS {
-        let case = Case {
-            name: *name,
-            setting: Setting {
-                yard_fails: Some(*number),
-                ..HELD
-            },
-            runs: &[*words],
-            statuses: &[4],
-            printed: b"swharc: outside yard\n",
-            leaves: None,
-        };
-        if !is_met_leaving(rt.alloc(), &case, grown)? {
-            return Err(Fail::new(name));
-        }
-    }
-    Ok(())
+    all_cooked(rt.alloc(), FAULTS)
 }
