@@ -9,13 +9,23 @@ use swh_base::Kind;
 #[derive(Debug, Drop)]
 pub enum Command<'a> {
     /// To make an archive in a folder.
-    Init { dir: &'a str },
+    Init {
+        dir: &'a str,
+    },
     /// To load the jobs of a file into the archive in a folder.
-    Load { dir: &'a str, jobs: &'a str },
+    Load {
+        dir: &'a str,
+        jobs: &'a str,
+    },
     /// To ask the archive in a folder by paths, one or more.
-    Ask { dir: &'a str, paths: Vec<&'a str> },
+    Ask {
+        dir: &'a str,
+        paths: Vec<&'a str>,
+    },
     /// To check the archive in a folder.
-    Check { dir: &'a str },
+    Check {
+        dir: &'a str,
+    },
     /// To cook the name of a SWHID, which the archive in a folder holds, at a path.
     Cook {
         dir: &'a str,
@@ -23,9 +33,14 @@ pub enum Command<'a> {
         out: &'a str,
     },
     /// To name the bytes of a file as a body of a kind, which is no directory.
-    Identify { kind: Kind, path: &'a str },
+    Identify {
+        kind: Kind,
+        path: &'a str,
+    },
     /// To name a folder as a directory.
-    IdentifyFolder { path: &'a str },
+    IdentifyFolder {
+        path: &'a str,
+    },
 }
 
 /// Why words give no command.
