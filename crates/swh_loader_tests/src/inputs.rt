@@ -1,4 +1,7 @@
 // What becomes of inputs.
+ghost use Rattle.std.specs.Prelude.{IfOk};
+ghost use Rattle.swh_inputs.specs.Parts.{HasGoodHead};
+
 use crate::lines::line_of;
 use crate::world::{holds, load, objects_in};
 use std::alloc::{AllocError, Global};
@@ -32,17 +35,18 @@ struct Step<'a> {
     objects: usize,
 }
 
-fn stream(opened: Opened<MemorySource>) -> Input<MemorySource, MemoryFolder> {
+fn stream(opened: Opened<MemorySource>) -> Input<MemorySource, MemoryFolder>
+    ensures { HasGoodHead result }
+{
     Input::Fast {
         stream: opened,
         head: None,
     }
 }
 
-fn opened(
-    alloc: Global,
-    given: Given<'_>,
-) -> Result<Input<MemorySource, MemoryFolder>, AllocError> {
+fn opened(alloc: Global, given: Given<'_>) -> Result<Input<MemorySource, MemoryFolder>, AllocError>
+    ensures { IfOk result HasGoodHead }
+{
     match given {
         Given::Text(text) => Ok(stream(found(alloc, text, &[])?)),
         Given::Broken(text) => Ok(stream(found(alloc, text, &[1])?)),

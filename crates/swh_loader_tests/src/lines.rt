@@ -216,7 +216,8 @@ fn outcome_of(
 
 /// The room for the detail of an end; for that of a path of more than 26 bytes none is taken here.
 fn room_of(ended: &Result<Loaded, LoadFault>) -> Option<usize>
-    ensures { IfSome result (λ room. outcome_room ended.now ≤ room) }
+    ensures enough { IfSome result (λ room. outcome_room ended.now ≤ room) }
+    ensures small { IfSome result (λ room. room ≤ 86) }
 {
     match ended {
         Ok(loaded) => match &loaded.end {

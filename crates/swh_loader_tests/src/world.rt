@@ -1,4 +1,6 @@
 // Loads over memory, and what they leave.
+ghost use Rattle.swh_inputs.specs.Parts.{HasGoodHead};
+
 use std::alloc::Global;
 use swh_base::{Kind, Name, Namer, Url};
 use swh_fixtures::Archive;
@@ -7,14 +9,16 @@ use swh_memory::{MemoryFolder, MemorySource};
 use swh_model::{Event, EventKind};
 use swh_outside::OpenGate;
 
-/// Loads an input of an origin.
+/// Loads an input of an origin, whose head, where it has one, is a ref.
 pub fn load<N: Namer>(
     alloc: Global,
     namer: &N,
     keeper: &mut Archive<N>,
     url: &str,
     input: Input<MemorySource, MemoryFolder>,
-) -> Result<Loaded, LoadFault> {
+) -> Result<Loaded, LoadFault>
+    requires { HasGoodHead input }
+{
     let Ok(origin) = Url::new(alloc, url) else {
         return Err(LoadFault {
             visit: 0,
