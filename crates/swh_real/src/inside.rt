@@ -1,4 +1,4 @@
-// Where a yard makes what it makes: a folder first, then what stands in it, and files right beside it.
+// Where a yard makes what it makes: one file, or a folder first, then what stands in it, and files right beside it.
 
 /// Whether this may stand in a folder. No name of a path has a slash.
 fn is_name(name: &str) -> bool {

@@ -12,8 +12,9 @@ use std::rt::Files;
 use std::{fs, io};
 use swh_outside::{Failed, OutFault, Sink, Yard};
 
-/// A yard of the file system. It makes one folder first, and after that what stands in it, and files right beside it
-/// whose names begin with its name; nothing of that may have stood before, and all else fails. Within the folder a path
+/// A yard of the file system. It makes one file and nothing else; or it makes one folder first, and after that what stands
+/// in it, and files right beside it whose names begin with its name. Nothing of that may have stood before, and all else
+/// fails. Within the folder a path
 /// leads through the folder that was made last, or one above it, so that no link is followed, and by a name that may
 /// stand in a folder; a link that somebody else puts in the place of such a folder is followed. A contract sees the count
 /// of faults.
@@ -64,10 +65,16 @@ fn no_place() -> io::Error {
     io::Error::from(ErrorKind::InvalidInput)
 }
 
-// Makes a folder, the first one or within that.
-fn make_folder<R: Files>(rt: &R, first: usize, last: &str, path: &str) -> io::Result<()> {
+// Makes a folder: the first one where no file was begun, or one within that.
+fn make_folder<R: Files>(
+    rt: &R,
+    first: usize,
+    last: &str,
+    is_begun: bool,
+    path: &str,
+) -> io::Result<()> {
     let may_stand = if first == 0 {
-        ends_in_name(path)
+        !is_begun && ends_in_name(path)
     } else {
         is_within(first, last, path)
     };
@@ -78,14 +85,20 @@ fn make_folder<R: Files>(rt: &R, first: usize, last: &str, path: &str) -> io::Re
     }
 }
 
-// Makes a file within the first folder, or right beside it.
+// Makes a file: within the first folder, or right beside it, or where nothing was made the only one.
 fn make_file<R: Files<File = File>>(
     rt: &R,
     first: usize,
     last: &str,
+    is_begun: bool,
     path: &str,
 ) -> io::Result<File> {
-    if first > 0 && (is_within(first, last, path) || is_beside(first, last, path)) {
+    let may_stand = if first == 0 {
+        !is_begun && ends_in_name(path)
+    } else {
+        is_within(first, last, path) || is_beside(first, last, path)
+    };
+    if may_stand {
         File::create_new(rt, path)
     } else {
         Err(no_place())
@@ -119,7 +132,8 @@ impl<R: Files<File = File> + Drop + Send> Sink for RealYard<R> {
 impl<R: Files<File = File> + Drop + Send> Yard for RealYard<R> {
     fn folder(&mut self, path: &str) -> Result<(), OutFault> {
         let last = String::from_str(self.alloc, path)?;
-        if let Err(fault) = make_folder(&self.rt, self.first, self.last.as_str(), path) {
+        let is_begun = self.file.is_some();
+        if let Err(fault) = make_folder(&self.rt, self.first, self.last.as_str(), is_begun, path) {
             return match fault_of(&fault) {
                 OutFault::Memory => Err(OutFault::Memory),
                 OutFault::Failed => Err(OutFault::from(self.count.refuse())),
@@ -133,7 +147,8 @@ impl<R: Files<File = File> + Drop + Send> Yard for RealYard<R> {
     }
 
     fn file(&mut self, path: &str) -> Result<(), OutFault> {
-        match make_file(&self.rt, self.first, self.last.as_str(), path) {
+        let is_begun = self.file.is_some();
+        match make_file(&self.rt, self.first, self.last.as_str(), is_begun, path) {
             Ok(file) => {
                 self.file = Some(file);
                 Ok(())

@@ -81,7 +81,7 @@ fn ends_so(rt: &HostRuntime, name: &str, laid: &[Laid], acts: &[Act]) -> Result<
 }
 
 const MAKING: &[Act] = &[
-    // No file stands outside of the folder that comes first, and no byte goes anywhere before a file is begun.
+    // No file stands in a folder that is not there, and no byte goes anywhere before a file is begun.
     BeginsNot("out/early"),
     PutsNot(b"lost"),
     Faults(2),
@@ -109,6 +109,44 @@ const MAKING: &[Act] = &[
 #[test]
 fn a_yard_makes_folders_and_files(rt: HostRuntime) -> Result<(), Fail> {
     ends_so(&rt, "yard", &[], MAKING)
+}
+
+const ALONE: &[Act] = &[
+    BeginsNot(""),
+    BeginsNot(".."),
+    BeginsNot("absent/file"),
+    Begins("only"),
+    Puts(b"one "),
+    BeginsNot("other"),
+    BeginsNot("only"),
+    BeginsNot("only.modes"),
+    MakesNot("folder"),
+    Puts(b"two"),
+    Faults(7),
+    Has("only", b"one two"),
+    Lacks("other"),
+    Lacks("only.modes"),
+    Lacks("folder"),
+];
+
+#[test]
+fn a_yard_makes_one_file_alone(rt: HostRuntime) -> Result<(), Fail> {
+    ends_so(&rt, "yard-alone", &[], ALONE)
+}
+
+const KEPT: &[Act] = &[
+    BeginsNot("file"),
+    BeginsNot("folder"),
+    BeginsNot("link"),
+    BeginsNot("loose"),
+    Lacks("nowhere"),
+    Faults(4),
+    Has("file", b"kept"),
+];
+
+#[test]
+fn a_yard_begins_no_file_that_stands(rt: HostRuntime) -> Result<(), Fail> {
+    ends_so(&rt, "yard-kept", LAID, KEPT)
 }
 
 const LAID: &[Laid] = &[
