@@ -35,7 +35,7 @@ use swh_object::Object;
 use swh_outside::Source;
 
 /// Why an input whose stream is not read on makes no objects.
-fn read_fault(fail: ReadFail) -> InputFault
+pub fn read_fault(fail: ReadFail) -> InputFault
     ensures { result ≡ read_fault fail }
 {
     match fail {
@@ -47,7 +47,7 @@ fn read_fault(fail: ReadFail) -> InputFault
 }
 
 /// Why an input with a command that is not carried out makes no objects.
-fn feed_fault(fault: FeedFault) -> InputFault
+pub fn feed_fault(fault: FeedFault) -> InputFault
     ensures { result ≡ feed_fault fault }
 {
     match fault {

@@ -11,8 +11,10 @@ mod bad;
 mod input;
 mod laws;
 mod reading;
+mod streaming;
 
 pub use bad::{BadText, InputFault};
 pub use input::Input;
 pub use laws::{one_break, one_meaning};
 pub use reading::read_input;
+pub use streaming::{StreamTurns, next_of_stream};

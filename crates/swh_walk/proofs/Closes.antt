@@ -14,6 +14,7 @@ use Rattle.swh_model.proofs.Certificates.{certified-closed}
 use Rattle.swh_object.specs.Object.{IsObject}
 use Rattle.swh_made.specs.declared.objects.Objects.{Objects}
 use Rattle.swh_made.specs.Whole.{names_of, HasChildrenAmong, AreWhole, HasAllThatIsReached}
+use Rattle.swh_walk.specs.Parts.{ReachesAll}
 use Rattle.swh_walk.specs.Sending.{AllHeld}
 use Rattle.swh_walk.proofs.Batches.{at_element}
 
@@ -48,6 +49,14 @@ pub whole_closed : {N : Type 0} (id : Kind → List ℕ → List ℕ) (bodies : 
 whole_closed id bodies made w held =
     let no_name : (n : Name) → Contains [] n → IsClosed bodies n = λ n c. absurd (no_element n c) in
     certified-closed bodies [] (names_of made.objects.items) (snapshot_name made.snapshot) no_name (certifies id bodies made.objects.items (snapshot_name made.snapshot) w.objects held w.snapshot)
+  where
+    no_element : (n : Name) → Contains [] n → ⊥
+    no_element n (k, less, is) = omega (arith, less)
+
+pub reaches_closed : (id : Kind → List ℕ → List ℕ) (bodies : Bodies) (objects : List Entry) (snapshot : List ℕ) → ReachesAll id objects snapshot → AllHeld bodies objects → IsClosed bodies (snapshot_name snapshot)
+reaches_closed id bodies objects snapshot r held =
+    let no_name : (n : Name) → Contains [] n → IsClosed bodies n = λ n c. absurd (no_element n c) in
+    certified-closed bodies [] (names_of objects) (snapshot_name snapshot) no_name (certifies id bodies objects (snapshot_name snapshot) r.whole held r.root)
   where
     no_element : (n : Name) → Contains [] n → ⊥
     no_element n (k, less, is) = omega (arith, less)

@@ -5,3 +5,5 @@ pub mod Marks
 pub mod Closes
 pub mod Ends
 pub mod Loads
+pub mod InHand
+pub mod SoFar

@@ -26,9 +26,9 @@ use swh_plan::{How, Plan};
 
 /// A snapshot, and names among which all stands that is reached from it.
 #[derive(Drop)]
-struct Reached {
-    snapshot: [u8; 20],
-    names: Vec<Name>,
+pub struct Reached {
+    pub snapshot: [u8; 20],
+    pub names: Vec<Name>,
 }
 
 /// The names of objects, in ascending order.
@@ -42,7 +42,7 @@ fn names_of<N: Namer>(alloc: Global, objects: &[Object<N>]) -> Result<Vec<Name>,
 }
 
 /// Ends a visit whose input is all held, on both sides of the gate.
-fn end_full<N: Namer, S, P: Place<Plan<N>, S>, G: Gate>(
+pub fn end_full<N: Namer, S, P: Place<Plan<N>, S>, G: Gate>(
     alloc: Global,
     place: &P,
     seat: &mut S,

@@ -26,9 +26,9 @@ use swh_plan::{How, Plan};
 
 /// An open visit, and the turn at which its input is loaded.
 #[derive(Drop)]
-struct Task<'a, G: Gate> {
-    visit: OpenVisit<'a>,
-    turn: &'a Turn<'a, G>,
+pub struct Task<'a, G: Gate> {
+    pub visit: OpenVisit<'a>,
+    pub turn: &'a Turn<'a, G>,
 }
 
 /// Marks that a visit goes on, and reads its input.
@@ -100,7 +100,7 @@ fn end_read<N: Namer, S, P: Place<Plan<N>, S>, B: Drop, G: Gate>(
 }
 
 /// Ends a visit whose input does not open.
-fn end_unread<N: Namer, S, P: Place<Plan<N>, S>, B: Drop>(
+pub fn end_unread<N: Namer, S, P: Place<Plan<N>, S>, B: Drop>(
     alloc: Global,
     place: &P,
     seat: &mut S,
