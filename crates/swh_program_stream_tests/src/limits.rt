@@ -105,8 +105,8 @@ fn each_limit_of_a_word(rt: HostRuntime) -> Result<(), Fail> {
     all_end_so(rt.alloc(), LIMITS)
 }
 
-// Fails with the name of the first row that is not met, over files that take no more memory than they are long.
-fn all_met_plainly(alloc: Global, cases: &[Case<'_>]) -> Result<(), Fail> {
+/// Fails with the name of the first row that is not met, over files that take no more memory than they are long.
+pub fn all_met_plainly(alloc: Global, cases: &[Case<'_>]) -> Result<(), Fail> {
     for case in cases {
         if !is_met_by(alloc, Sha1Namer, PlainDepot::new(alloc, None), case)? {
             return Err(Fail::new(case.name));

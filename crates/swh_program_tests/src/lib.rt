@@ -15,6 +15,8 @@ mod folders;
 #[cfg(test)]
 mod jobs;
 #[cfg(test)]
+mod kinds;
+#[cfg(test)]
 mod loads;
 #[cfg(test)]
 mod refusals;
