@@ -2,7 +2,7 @@
 //! but for those that one list alone has: it changes them.
 //! The sides of a fork are about as deep as each other, so of n entries about log n forks stand above a piece.
 
-ghost use Rattle.std.specs.Prelude.{◌≡◌, ◌<◌, ◌≤◌, ◌++◌, ℕ, length, slice_index_or, IsTrue, IsFalse, IfOk, OnOk};
+ghost use Rattle.std.specs.Prelude.{◌≡◌, ◌<◌, ◌≤◌, ◌+◌, ◌-◌, ◌++◌, ℕ, length, slice_index_or, IsTrue, IsFalse, IfOk, OnOk};
 ghost use Rattle.std.specs.List.{insert, remove, slice_get};
 ghost use Rattle.std.specs.Rc.{rc_value};
 ghost use Rattle.swh_entries.specs.declared.entry.Entry.{Entry};
@@ -113,16 +113,40 @@ fn entry_at(span: &Span, place: usize) -> Entry
     }
 }
 
-/// The entry before a place in a slice, and the one at it.
-fn sides_in(entries: &[Entry], place: usize) -> (Option<Entry>, Option<Entry>)
-    ensures before { result.0 ≡ entry_before entries.now place }
-    ensures at { result.1 ≡ slice_get entries.now place }
+/// The piece that a place is in, or at whose end it is, and the place there.
+fn piece_at(span: &Span, place: usize) -> (&[Entry], usize)
+    requires { IsCounted span.now }
+    ensures within { result.1 ≤ place }
+    ensures same { (k : ℕ) → k ≤ result.1
+        → slice_get result.0.now k ≡ slice_get (items_of span.now) (place - result.1 + k) }
 {
-    let at = entries.get(place).copied();
-    if place == 0 {
-        return (None, at);
+    match span {
+        Span::Piece(entries) => (entries.as_slice(), place),
+        Span::Fork(left, right, _, _, _) => {
+            let before = len_of(left);
+            if place < before {
+                piece_at(left, place)
+            } else {
+                piece_at(right, place - before)
+            }
+        }
     }
-    (entries.get(place - 1).copied(), at)
+}
+
+/// The entry at a place in a piece, where there is one.
+fn entry_in(piece: &[Entry], place: usize) -> Option<Entry>
+    ensures { result ≡ slice_get piece.now place }
+{
+    piece.get(place).copied()
+}
+
+/// The entry at a place, where there is one.
+fn get_in(span: &Span, place: usize) -> Option<Entry>
+    requires { IsCounted span.now }
+    ensures { result ≡ slice_get (items_of span.now) place }
+{
+    let (piece, inner) = piece_at(span, place);
+    entry_in(piece, inner)
 }
 
 /// The entry before a place, and the one at it.
@@ -131,21 +155,16 @@ fn sides_of(span: &Span, place: usize) -> (Option<Entry>, Option<Entry>)
     ensures before { result.0 ≡ entry_before (items_of span.now) place }
     ensures at { result.1 ≡ slice_get (items_of span.now) place }
 {
-    match span {
-        Span::Piece(entries) => sides_in(entries.as_slice(), place),
-        Span::Fork(left, right, _, _, _) => {
-            let count = len_of(left);
-            if place < count {
-                return sides_of(left, place);
-            }
-            if place > count {
-                return sides_of(right, place - count);
-            }
-            let (before, _) = sides_of(left, place);
-            let (_, at) = sides_of(right, 0);
-            (before, at)
-        }
+    if place == 0 {
+        return (None, get_in(span, 0));
     }
+    let (piece, inner) = piece_at(span, place);
+    let at = entry_in(piece, inner);
+    if inner == 0 {
+        return (get_in(span, place - 1), at);
+    }
+    let before = entry_in(piece, inner - 1);
+    (before, at)
 }
 
 /// These entries in one piece.

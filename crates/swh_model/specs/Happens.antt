@@ -43,6 +43,7 @@ CanHappenKind = MayWhere CanBeAdded
 abbrev pub CanHappen : Archive → Event → Type 0
 CanHappen a e = CanHappenKind a e.by e.what
 
+-- The visit that what happens marks, if it marks one, is there.
 abbrev pub HasItsVisitKind : Archive → EventKind → Type 0
 HasItsVisitKind a (Mark origin visit status snapshot) = (0 < visit) × (visit ≤ length (visits_of a.origins origin))
 HasItsVisitKind a _ = Unit {0}
