@@ -6,4 +6,6 @@
 #[cfg(test)]
 mod desk;
 #[cfg(test)]
+mod faulty;
+#[cfg(test)]
 mod walks;

@@ -111,13 +111,18 @@ const CASES: &[Case<'static>] = &[
     },
 ];
 
+// A content.
+pub fn content_of(alloc: Global, body: Vec<u8>) -> Result<Object<ByteNamer>, AllocError> {
+    match Object::make(alloc, &ByteNamer, Kind::Content, body) {
+        Ok(object) => Ok(object),
+        Err(_) => Err(AllocError),
+    }
+}
+
 // A plan of one content.
 fn content(alloc: Global, body: &[u8]) -> Result<Plan<ByteNamer>, AllocError> {
     let mut objects = Vec::with_capacity(alloc, 1)?;
-    let Ok(object) = Object::make(alloc, &ByteNamer, Kind::Content, body.to_vec(alloc)?) else {
-        return Err(AllocError);
-    };
-    objects.push(object)?;
+    objects.push(content_of(alloc, body.to_vec(alloc)?)?)?;
     Ok(Plan::Batch(objects))
 }
 
@@ -188,7 +193,7 @@ fn events_by(history: &[Event], by: u32) -> usize {
 }
 
 // How many objects the batches of loader 2 have.
-fn objects_in(history: &[Event]) -> usize {
+pub fn objects_in(history: &[Event]) -> usize {
     let mut count: usize = 0;
     for event in history {
         if let EventKind::Batch(entries) = &event.what {
