@@ -51,7 +51,7 @@ release refs/tags/v2\020:\
 const ON_COOK: &[u8] = b"revision refs/swh/cook\020:\
 \x29\x5c\x06\x51\xa9\x5b\xa3\x2a\xc5\xe1\x4f\x92\xda\x01\x61\xb1\x22\x94\x2c\xac";
 
-const MADE: &[(Kind, &[u8])] = &[
+pub const MADE: &[(Kind, &[u8])] = &[
     (Kind::Revision, JOIN),
     (Kind::Release, V1),
     (Kind::Release, V2),
@@ -60,7 +60,7 @@ const MADE: &[(Kind, &[u8])] = &[
 ];
 
 /// A commit without parents: its branch is left, and that of all commits taken away.
-const FIRST_STREAM: &[u8] = b"feature done\n\
+pub const FIRST_STREAM: &[u8] = b"feature done\n\
 blob\n\
 mark :1\n\
 data 10\n\
@@ -87,7 +87,7 @@ from 0000000000000000000000000000000000000000\n\
 done\n";
 
 /// The same commit on the branch of all commits, which is not taken away.
-const COOK_STREAM: &[u8] = b"feature done\n\
+pub const COOK_STREAM: &[u8] = b"feature done\n\
 blob\n\
 mark :1\n\
 data 10\n\
@@ -111,7 +111,7 @@ from :2\n\
 done\n";
 
 /// A tag of a content: no commit is written, and no branch taken away.
-const BLOB_STREAM: &[u8] = b"feature done\n\
+pub const BLOB_STREAM: &[u8] = b"feature done\n\
 blob\n\
 mark :1\n\
 data 10\n\
@@ -136,7 +136,7 @@ version 1\n\
 done\n";
 
 /// All of it: a commit stands before its child, and a content once, before the first tree that names it.
-const WHOLE_STREAM: &[u8] = b"feature done\n\
+pub const WHOLE_STREAM: &[u8] = b"feature done\n\
 blob\n\
 mark :1\n\
 data 10\n\
@@ -222,9 +222,9 @@ from 0000000000000000000000000000000000000000\n\
 \n\
 done\n";
 
-const WHOLE_NAME: &[u8] = b"swh:1:snp:f5368197b035ba21f643bb28428861dd6e1d3f32";
+pub const WHOLE_NAME: &[u8] = b"swh:1:snp:f5368197b035ba21f643bb28428861dd6e1d3f32";
 
-const ON_COOK_NAME: &[u8] = b"swh:1:snp:05ef4930d73e61502af689bd3086c69521e9bcdf";
+pub const ON_COOK_NAME: &[u8] = b"swh:1:snp:05ef4930d73e61502af689bd3086c69521e9bcdf";
 
 /// Roots, and their streams.
 const CASES: &[(&[u8], &[u8])] = &[
