@@ -3,11 +3,13 @@
 
     python3 bench/cook.py [PROGRAM]
 
-A history of 5,000 commits, each of two changes over 3,000 files in 300 folders, is loaded, and its snapshot cooked; and a
-folder of 100,000 files in 1,000 folders is loaded, and its directory cooked. The time and the memory of an opening, which is
-that of an `ask` for the name, are taken off. The history has to be cooked at least as fast as `git fast-export` writes it, and
-the folder at least 0.8 times as fast as `git checkout-index -a -f` makes it; and each may hold 200 bytes an object beside what
-is held. What was cooked is loaded again, to the same name. The program is the built one, outside the gate.
+Two histories of 5,000 commits, each of two changes, one over 3,000 files in 300 folders and one over 8 files in 2, are loaded,
+and their snapshots cooked; and a folder of 100,000 files in 1,000 folders is loaded, and its directory cooked. The time and
+the memory of an opening, which is that of an `ask` for the name, are taken off. A cooked stream has each commit with all of
+its files, so a history has to be cooked at least as fast as `git fast-export --full-tree` writes the same; and the one of few
+files as fast as a `git fast-export` that writes the changes alone, whose time is printed for both. The folder has to be cooked
+at least 0.8 times as fast as `git checkout-index -a -f` makes it. Each may hold 200 bytes an object beside what is held. What
+was cooked is loaded again, to the same name. The program is the built one, outside the gate.
 """
 import json
 import os
@@ -24,6 +26,7 @@ from program import find_program
 from verdict import Verdict
 
 COMMITS = 5_000
+FEW_FILES, FEW_FOLDERS = 8, 2
 FILES, FOLDERS = 100_000, 1_000
 LEAST_OF_EXPORT = 1
 LEAST_OF_CHECKOUT = 0.8
@@ -71,23 +74,32 @@ def cook(program, archive, name, out):
             min(one[1] for one in cooked) - min(one[1] for one in opened), said)
 
 
-def measure_history(program, scratch, verdict):
-    stream, _, objects, _ = make_stream(scratch, "history", history_commits(COMMITS))
+def export(bare, scratch, *words):
+    """The seconds that `git fast-export` takes, and how many bytes it writes."""
+    path = os.path.join(scratch, "exported")
+    took = []
+    for _ in range(ROUNDS):
+        begun = time.monotonic()
+        with open(path, "wb") as file:
+            subprocess.run(["git", "-C", bare, "fast-export", "--all", *words], check=True, stdout=file)
+        took.append(time.monotonic() - begun)
+    return min(took), os.path.getsize(path)
+
+
+def measure_history(program, scratch, verdict, what, commits):
+    stream, _, objects, _ = make_stream(scratch, what.replace(" ", "-"), commits)
     archive, name = load(program, scratch, "fast\thttps://e.org/p\t%s\trefs/heads/main" % stream)
     out = os.path.join(scratch, "cooked")
     took, beside, _ = cook(program, archive, name, out)
-    exported = []
-    for _ in range(ROUNDS):
-        begun = time.monotonic()
-        with open(os.path.join(scratch, "exported"), "wb") as file:
-            subprocess.run(["git", "-C", stream + ".git", "fast-export", "--all"], check=True, stdout=file)
-        exported.append(time.monotonic() - begun)
-    print("history of %d commits: cooked in %.3f s (%d bytes), written by git fast-export in %.3f s"
-          % (COMMITS, took, os.path.getsize(out), min(exported)))
+    changes, short_bytes = export(stream + ".git", scratch)
+    whole, full_bytes = export(stream + ".git", scratch, "--full-tree")
+    print("%s: cooked in %.3f s (%d bytes), written by git fast-export in %.3f s (%d bytes), with --full-tree in %.3f s (%d bytes)"
+          % (what, took, os.path.getsize(out), changes, short_bytes, whole, full_bytes))
     _, again = load(program, scratch, "fast\thttps://e.org/p\t%s\trefs/heads/main" % out)
-    verdict.as_told("the cooked history loads to its name", None if again == name else again)
-    verdict.at_least("history, times as fast as git fast-export", min(exported) / took, LEAST_OF_EXPORT)
-    verdict.at_most("history, bytes beside what is held", beside, BYTES_AN_OBJECT * objects + WINDOW)
+    verdict.as_told("the cooked %s loads to its name" % what, None if again == name else again)
+    verdict.at_least("%s, times as fast as fast-export --full-tree" % what, whole / took, LEAST_OF_EXPORT)
+    verdict.at_most("%s, bytes beside what is held" % what, beside, BYTES_AN_OBJECT * objects + WINDOW)
+    return changes / took
 
 
 def measure_folder(program, scratch, verdict):
@@ -120,7 +132,10 @@ def main():
     program = find_program()
     verdict = Verdict()
     with tempfile.TemporaryDirectory() as scratch:
-        measure_history(program, scratch, verdict)
+        measure_history(program, scratch, verdict, "history", history_commits(COMMITS))
+        beside_changes = measure_history(program, scratch, verdict, "history of few files",
+                                         history_commits(COMMITS, FEW_FILES, FEW_FOLDERS))
+        verdict.at_least("history of few files, times as fast as git fast-export", beside_changes, LEAST_OF_EXPORT)
         measure_folder(program, scratch, verdict)
     verdict.end()
 

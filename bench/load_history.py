@@ -100,17 +100,17 @@ def blob_commits():
     yield commit(1, [(b"small/%d/%d" % (n % 100, n), noise.randbytes(small)) for n in range(SMALL_BYTES // small)])
 
 
-def history_commits(count):
+def history_commits(count, files=FILES, folders=FOLDERS):
     """The first commit has all files, and each other one changes some."""
     noise = random.Random(2)
 
     def path(number):
-        return b"folder%03d/file%04d" % (number % FOLDERS, number)
+        return b"folder%03d/file%04d" % (number % folders, number)
 
-    yield commit(0, [(path(number), b"file %d\n" % number) for number in range(FILES)])
+    yield commit(0, [(path(number), b"file %d\n" % number) for number in range(files)])
     for number in range(1, count):
         yield commit(number, [(path(changed), b"file %d of %d\n" % (changed, number))
-                              for changed in noise.sample(range(FILES), CHANGES)])
+                              for changed in noise.sample(range(files), CHANGES)])
 
 
 def entries_of(tree):
