@@ -1,7 +1,6 @@
 pub mod FirstRules
-pub mod Ones
 pub mod OddObjects
+pub mod Ones
 pub mod OwnBranches
 pub mod Reaching
-pub mod WayCounts
-pub mod WaySteps
+pub mod RevisionRoots

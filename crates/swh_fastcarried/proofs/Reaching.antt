@@ -16,10 +16,11 @@ use Rattle.swh_carried.specs.declared.fault.Why.{Why}
 use Rattle.swh_carried.specs.declared.fault.Why.TheVariants.{Cycle, Revision, Release, Empty, Dots, Text, Path, Branch, Tagless, Refs, Length}
 use Rattle.swh_carried.specs.Rules.{HasDirectoryEntry, HasDots, HasLongPath, way_length}
 use Rattle.swh_carried.specs.Uncarried.{BreaksNone, IsFirstToBreak}
+use Rattle.swh_ways.specs.Ways.{Tells}
 use Rattle.swh_fastcarried.specs.First.{HaveDots, IsOneOf, IsFolderAt, IsOwnTag, IsFirstRule}
 use Rattle.swh_fastcarried.specs.Known.{IsEmptyFolder, IsLongOver, IsFolderRule}
 use Rattle.swh_fastcarried.specs.Rules.{IsEmptyEntry, IsRevisionRoot, HasOddBranch, HaveOddBranch, StandsAtBranch}
-use Rattle.swh_fastcarried.specs.Ways.{IsWay, Tells}
+use Rattle.swh_fastcarried.specs.RevisionWays.{IsWay}
 
 -- the same rule, where the same are broken
 pub rule_same : (e d p e' d' p' : Type 0) → e ↔ e' → d ↔ d' → p ↔ p' → (rule : Option Why) → IsFolderRule e d p rule → IsFolderRule e' d' p' rule

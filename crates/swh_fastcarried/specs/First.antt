@@ -1,11 +1,12 @@
 -- The first rule that a name breaks, and what it takes to tell.
-use Rattle.std.specs.Prelude.{◌≡◌, ℕ, ◌+◌, ◌<◌, Option, Some, None, List, length, Contains}
-use Rattle.swh_base.specs.declared.kind.Kind.TheVariants.{Release as ReleaseKind}
+use Rattle.std.specs.Prelude.{◌≡◌, Option, Some, None, List, Contains}
+use Rattle.swh_base.specs.declared.kind.Kind.TheVariants.{Revision as RevisionKind, Release as ReleaseKind}
 use Rattle.swh_base.specs.declared.name.Name.{Name}
 use Rattle.swh_base.specs.Directory.{DirectoryEntry}
-use Rattle.swh_base.specs.Limits.{path_limit}
+use Rattle.swh_base.specs.Revision.{Revision}
 use Rattle.swh_base.specs.Snapshot.{SnapshotBranch, ToObject}
 use Rattle.swh_model.specs.Archive.{Bodies}
+use Rattle.swh_graph.specs.Holding.{HoldsRevision}
 use Rattle.swh_graph.specs.Path.{directory_name}
 use Rattle.swh_carried.specs.declared.fault.Why.{Why}
 use Rattle.swh_carried.specs.Rules.{HasDirectoryEntry, IsDots}
@@ -17,12 +18,6 @@ pub record HaveDots (entries : List DirectoryEntry) : Type 0 where
   pub entry : DirectoryEntry
   pub there : Contains entries entry
   pub is : IsDots entry.name
-
--- A path of so many bytes and one of the entries is longer than a path may be.
-pub record HaveLong (way : ℕ) (entries : List DirectoryEntry) : Type 0 where
-  pub entry : DirectoryEntry
-  pub there : Contains entries entry
-  pub long : path_limit < way + length entry.name
 
 -- The name has the property with one of these.
 pub record IsOneOf {X : Type 0} (Is : X → Name → Type 0) (those : List X) (name : Name) : Type 0 where
@@ -39,6 +34,13 @@ pub record IsFolderAt (bodies : Bodies) (parent name : Name) : Type 0 where
   pub entry : DirectoryEntry
   pub is_entry : HasDirectoryEntry bodies parent entry
   pub folder : IsFolderOf entry name
+
+-- The directory is that of the revision that is held under this name.
+pub record IsRootAt (bodies : Bodies) (commit name : Name) : Type 0 where
+  pub kind : commit.kind ≡ RevisionKind
+  pub revision : Revision
+  pub holds : HoldsRevision bodies commit revision
+  pub named : name ≡ directory_name revision.directory
 
 -- The branch leads to the release, and is its own.
 abbrev pub IsOwnTag : Bodies → SnapshotBranch → Name → Type 0

@@ -24,10 +24,9 @@ ghost use Rattle.swh_fastcarried.specs.Rules.{
 };
 
 use crate::branches::have_odd_branch;
-use crate::directories::{have_dots, have_long};
+use crate::directories::have_dots;
 use crate::plain::{is_odd_release, is_odd_revision};
 use crate::reached::{Reached, survey};
-use crate::ways::way_to;
 use std::alloc::Global;
 use std::collections::BTreeMap;
 use swh_base::{Kind, Memory, Name};
@@ -36,6 +35,7 @@ use swh_closure::Closed;
 use swh_dirfmt::SpelledEntry;
 use swh_graph::{GraphFault, directory_at, snapshot_at};
 use swh_model::Look;
+use swh_ways::{have_long, way_to};
 
 /// Whether a directory of these entries is empty, and one of the folders.
 fn is_empty_folder(folders: &Closed, name: Name, entries: &[SpelledEntry<'_>]) -> bool

@@ -1,6 +1,6 @@
 //! What a stream (git-fast-import(1)) cannot carry of all that is reached from a name.
 //! Stands on `swh_carried`, which has what any form cannot carry and why, on `swh_postorder`, which has the order of the
-//! objects, on `swh_closure` for sets of names, and on the readers of what is held.
+//! objects, on `swh_ways` for how long paths are, on `swh_closure` for sets of names, and on the readers of what is held.
 //! Callers may rely on: of an order in which each name stands once and behind its children, the first object that a stream
 //! cannot carry is told, with the first rule that it breaks; whether the stream loads too many branches is handed in, and how
 //! long it is remains to be seen.
@@ -12,13 +12,14 @@ mod first;
 mod folders;
 mod plain;
 mod reached;
+mod roots;
 mod tagged;
 mod ways;
 
 pub use branches::{have_odd_branch, is_at_own_branch};
-pub use directories::{have_dots, have_long};
+pub use directories::have_dots;
 pub use first::first_uncarried;
 pub use folders::folders_of;
 pub use plain::{first_odd_object, is_odd_release, is_odd_revision};
 pub use tagged::tagged_of;
-pub use ways::{way_to, ways_of};
+pub use ways::ways_of;

@@ -1,27 +1,23 @@
-use Rattle.std.proofs.Common.{◌≡◌, ◌+◌, ◌-◌, ℕ, drop, subst, arith}
-use Rattle.swh_fastcarried.specs.Ways.{ComesFrom, TellAll}
-use Rattle.swh_fastcarried.proofs.WaySteps.{told_at, all_told}
+use Rattle.std.proofs.Common.{◌≡◌, ◌∙◌, List, subst, sym}
+use Rattle.std.specs.Prelude.{Contains, ◌↔◌}
+use Rattle.swh_base.specs.declared.name.Name.{Name}
+use Rattle.swh_fastcarried.specs.Rules.{IsRevisionRoot}
+use Rattle.swh_fastcarried.proofs.Reaching.{if_ok}
+use Rattle.swh_fastcarried.proofs.RevisionRoots.{root_in, ways_same}
 use Rattle.swh_fastcarried.proofs.ways.ways_of.Goals as goal
 
-pub names-preserved : goal.names-preserved
-names-preserved g c =
-    let bodies = (g.L.Look.archive c.args.look.now).bodies in
-    let order = c.args.order.now in
-    let some = c.names-test.true in
-    let few = c.names.invariant.few in
-    let next : c.names.left ≡ (c.names.left - 1) + 1 = omega (arith, some) in
-    record {
-      few = omega (arith, few);
-      tell =
-          told_at bodies (g.L.Graph.children_of c.args.look.now) c.is_graph.ensures order c.requires.preceded c.requires.once (c.names.left - 1) _ (omega (arith, some, few)) c.names.ways.entries c.tell.new.ways.entries
-          (subst (λ (n : ℕ). TellAll (ComesFrom bodies order (drop n order)) c.names.ways.entries) next c.names.invariant.tell) c.in_ok-tell.ensures;
-    }
+pub ways_from-requires-clause-there : goal.ways_from-requires-clause-there
+ways_from-requires-clause-there g c =
+    let same : c.as_slice.result.now ≡ c.in_ok-roots.roots = c.as_slice.ensures.value ∙ c.in_ok-starts.ensures.same in
+    λ n h.
+    root_in (g.L.Look.archive c.args.look.now).bodies (g.L.Graph.children_of c.args.look.now) c.is_graph.ensures c.args.order.now c.requires.preceded n
+    ((c.in_ok-roots.ensures n).0 (subst (λ (l : List Name). Contains l n) same h))
 
 pub returns : goal.returns
 returns g c =
     let bodies = (g.L.Look.archive c.args.look.now).bodies in
     let order = c.args.order.now in
-    let done = c.names-test.false in
-    let none : c.names.left ≡ 0 = omega (arith, done) in
-    all_told bodies (g.L.Graph.children_of c.args.look.now) c.is_graph.ensures order c.requires.preceded c.requires.once c.names.ways.entries
-    (subst (λ (n : ℕ). TellAll (ComesFrom bodies order (drop n order)) c.names.ways.entries) none c.names.invariant.tell)
+    let same : c.as_slice.result.now ≡ c.in_ok-roots.roots = c.as_slice.ensures.value ∙ c.in_ok-starts.ensures.same in
+    if_ok c.ways_from.result
+    (λ ways. ways_same bodies order c.as_slice.result.now (λ n. subst (λ (l : List Name). Contains l n ↔ IsRevisionRoot bodies order n) (sym same) (c.in_ok-roots.ensures n)) ways.entries)
+    c.ways_from.ensures
