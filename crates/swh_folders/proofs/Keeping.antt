@@ -1,12 +1,13 @@
 -- Which names are kept after several steps.
-use Rattle.std.proofs.Common.{◌≡◌, ◌⊎◌, inl, inr, ℕ, zero, suc, ◌<◌, List, [], ◌∷◌, ◌++◌, length, get_or, Contains, sym, subst, ◌∙◌, arith}
+use Rattle.std.proofs.Common.{◌≡◌, ◌⊎◌, inl, inr, ℕ, zero, suc, ◌<◌, List, [], ◌∷◌, ◌++◌, length, get_or, Contains, Option, Some, None, sym, subst, ◌∙◌, arith}
 use Rattle.std.proofs.lemmas.List.{get_or_default}
 use Rattle.std.proofs.lemmas.List.Elements.{Contains-append_left, Contains-append_right, Contains-append_cases}
 use Rattle.std.specs.Borrow.{Bor}
 use Rattle.std.specs.Global.{Vec}
 use Rattle.swh_entries.specs.Keys.{texts}
+use Rattle.swh_entries.specs.declared.entry.Child.{Child}
 use Rattle.swh_folders.specs.Arena.{parts_of}
-use Rattle.swh_folders.specs.Kept.{AreAmong}
+use Rattle.swh_folders.specs.Kept.{AreAmong, named}
 use Rattle.swh_folders.proofs.Walks.{component-at, length-parts_of}
 
 pub among-self : (xs : List (List ℕ)) → AreAmong xs xs
@@ -63,6 +64,14 @@ pub component-among : (path : List (Bor (List ℕ))) (i : ℕ) (d : Bor (List �
 component-among path i d lt =
     let within : i < length (parts_of path) = rw (length-parts_of path) lt in
     among-one (get_or path i d).now (parts_of path) (i, within, get_or_default (parts_of path) i (get_or path i d).now [] within ∙ component-at path i d lt)
+
+pub named-among : (name : List ℕ) (child : Option Child) (path : List (List ℕ)) → AreAmong (name ∷ []) path → AreAmong (named name child) path
+named-among name None path h = among-none path
+named-among name (Some child) path h = h
+
+-- nothing was given
+pub kept-none : (old new : List (List ℕ)) → AreAmong new (old ++ []) → AreAmong new old
+kept-none old new h = among-on new (old ++ []) old h (among-both old [] old (among-self old) (among-none old))
 
 -- ## The folder and the name of a path
 

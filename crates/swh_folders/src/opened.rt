@@ -8,7 +8,7 @@ ghost use Rattle.swh_base.specs.Directory.{IsEntryName};
 ghost use Rattle.swh_folders.specs.Arena.{stands_of, forest_of, tree_at, AreGood, IsIn, Grows};
 ghost use Rattle.swh_entries.specs.Keys.{texts};
 ghost use Rattle.swh_entries.specs.Named.{Extends};
-ghost use Rattle.swh_folders.specs.Kept.{AreAmong};
+ghost use Rattle.swh_folders.specs.Kept.{AreAmong, named};
 ghost use Rattle.swh_folders.specs.Forest.{Forest, Nothing, IsFolder, child_at, put, forest, found, flat};
 ghost use Rattle.swh_folders.specs.Roots.{IsBelow, IsGood, map_at, map_of_number, root_forest};
 ghost use Rattle.swh_folders.specs.PathMap.{set, delete, held};
@@ -170,7 +170,7 @@ impl Opened {
         requires child { IsIn (count_of folders.old) child }
         requires sound { IsSoundHere (stands_of (tree_at folders.old.names.items folders.old.nodes.items) child) }
         ensures names { Extends folders.old.names.items folders.new.names.items }
-        ensures kept { AreAmong (texts folders.new.names.items) (texts folders.old.names.items ++ name.now ∷ []) }
+        ensures kept { AreAmong (texts folders.new.names.items) (texts folders.old.names.items ++ named name.now child) }
         ensures nodes { folders.new.nodes.items ≡ folders.old.nodes.items }
         ensures counts { KeepsCounts folders.old folders.new }
         ensures opened { IfOk result (λ o. IsOpened folders.new.names.items folders.new.nodes.items o) }
@@ -312,7 +312,7 @@ fn deleted_here(
     requires opened { IsOpened folders.old.names.items folders.old.nodes.items opened }
     requires name { IsEntryName name.now }
     ensures names { Extends folders.old.names.items folders.new.names.items }
-    ensures kept { AreAmong (texts folders.new.names.items) (texts folders.old.names.items ++ name.now ∷ []) }
+    ensures kept { AreAmong (texts folders.new.names.items) (texts folders.old.names.items) }
     ensures path { IfOk result (λ o. o.path ≡ opened.path) }
     ensures nodes { folders.new.nodes.items ≡ folders.old.nodes.items }
     ensures counts { KeepsCounts folders.old folders.new }
@@ -339,7 +339,7 @@ fn deleted_there(
     requires root { IsBelow (count_of folders.old) root }
     requires path { IsPath path.now }
     ensures names { Extends folders.old.names.items folders.new.names.items }
-    ensures kept { AreAmong (texts folders.new.names.items) (texts folders.old.names.items ++ components path.now) }
+    ensures kept { AreAmong (texts folders.new.names.items) (texts folders.old.names.items) }
     ensures path { IfOk result (λ s. AreAmong (open_path s) (components path.now)) }
     ensures nodes { folders.new.nodes.items ≡ folders.old.nodes.items }
     ensures counts { KeepsCounts folders.old folders.new }
@@ -372,8 +372,7 @@ pub fn delete_in(
     requires path { IsPath path.now }
     ensures stays { StaysBelow base folders.old folders.new }
     ensures tallied { IsTallied base folders.new }
-    ensures kept { AreAmong (texts folders.new.names.items) (texts folders.old.names.items
-        ++ (open_path start ++ components path.now)) }
+    ensures kept { AreAmong (texts folders.new.names.items) (texts folders.old.names.items ++ open_path start) }
     ensures path { IfOk result (λ s. AreAmong (open_path s) (components path.now)) }
     ensures start { IfOk result (λ s. IsStart folders.new s) }
     ensures bounded { IfOk result (λ s. StaysBounded base folders.old folders.new (root_of_start s)

@@ -1,4 +1,4 @@
-use Rattle.std.proofs.Common.{◌≤◌, sym, ap, subst, refl, ◌∙◌, List, ℕ, length, arith, ◌∷◌, []}
+use Rattle.std.proofs.Common.{◌≤◌, sym, ap, subst, refl, ◌∙◌, List, ℕ, length, arith}
 use Rattle.swh_entries.specs.declared.entry.Entry.{Entry}
 use Rattle.swh_folders.specs.Arena.{stands, forest_of, AreGood}
 use Rattle.swh_entries.specs.Keys.{texts}
@@ -7,6 +7,7 @@ use Rattle.swh_folders.proofs.Arenas.{if_ok, good-more, same-forest}
 use Rattle.swh_folders.proofs.Steps.{inserted-nothing, with-good, forest-with}
 use Rattle.swh_folders.proofs.Orders.{ordered-more}
 use Rattle.swh_folders.proofs.Keeping.{kept-one, among-left}
+use Rattle.swh_folders.specs.Kept.{named}
 use Rattle.swh_folders.proofs.arena.add_some.Goals as goal
 
 pub with_entry-requires-clause-others : goal.with_entry-requires-clause-others
@@ -37,10 +38,10 @@ returns-in_ok-number-in-Some-clause-forest c = λ at k good.
     rw c.in-Some.is (if_ok c.with_entry.result (λ p is. ap (forest_of (texts new) at) is ∙ forest-with (texts new) e at c.args.out.items ∙ tail) (rw c.as_slice.ensures.value at c.with_entry.ensures))
 
 pub returns-in_err-number-in-Some-clause-kept : goal.returns-in_err-number-in-Some-clause-kept
-returns-in_err-number-in-Some-clause-kept c = kept-one c.args.names.now.items c.number.new.self.items c.args.name.now c.number.ensures.one
+returns-in_err-number-in-Some-clause-kept c = rw c.in-Some.is (kept-one c.args.names.now.items c.number.new.self.items c.args.name.now c.number.ensures.one)
 
 pub returns-in_ok-number-in-Some-clause-kept : goal.returns-in_ok-number-in-Some-clause-kept
-returns-in_ok-number-in-Some-clause-kept c = kept-one c.args.names.now.items c.number.new.self.items c.args.name.now c.number.ensures.one
+returns-in_ok-number-in-Some-clause-kept c = rw c.in-Some.is (kept-one c.args.names.now.items c.number.new.self.items c.args.name.now c.number.ensures.one)
 
 pub returns-in-None-clause-kept : goal.returns-in-None-clause-kept
-returns-in-None-clause-kept c = among-left (texts c.args.names.now.items) (c.args.name.now ∷ [])
+returns-in-None-clause-kept c = among-left (texts c.args.names.now.items) (named c.args.name.now c.args.child)

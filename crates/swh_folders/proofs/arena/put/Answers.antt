@@ -1,4 +1,4 @@
-use Rattle.std.proofs.Common.{ap, sym, subst, ◌∙◌, length, arith, ◌∷◌, []}
+use Rattle.std.proofs.Common.{ap, sym, subst, ◌∙◌, length, arith}
 use Rattle.std.proofs.lemmas.List.{take_all}
 use Rattle.swh_folders.specs.Forest.{put, folder, forest}
 use Rattle.swh_folders.specs.Sound.{IsSound, IsSoundHere}
@@ -8,6 +8,7 @@ use Rattle.swh_folders.proofs.Arenas.{if_ok, tree-names, arena-names, sound-name
 use Rattle.swh_folders.proofs.Ordering.{left-ordered}
 use Rattle.swh_folders.proofs.Sounds.{put-sound, folder-sound}
 use Rattle.swh_folders.proofs.Keeping.{among-left}
+use Rattle.swh_folders.specs.Kept.{named}
 use Rattle.swh_folders.proofs.arena.put.Goals as goal
 
 pub returns-in_err-out-clause-good : goal.returns-in_err-out-clause-good
@@ -87,4 +88,4 @@ returns-clause-sound c =
     if_ok c.seal.result (λ r e. subst IsSoundHere (sym (e ∙ ap folder added)) (folder-sound (put c.args.name.now (stands_of (tree_at old nodes) c.args.child) (forest (stands_of (tree_at old nodes) c.args.under))) whole)) (c.seal.ensures.folder new)
 
 pub returns-in_err-rest-clause-kept : goal.returns-in_err-rest-clause-kept
-returns-in_err-rest-clause-kept c = among-left (texts c.args.names.now.items) (c.args.name.now ∷ [])
+returns-in_err-rest-clause-kept c = among-left (texts c.args.names.now.items) (named c.args.name.now c.args.child)

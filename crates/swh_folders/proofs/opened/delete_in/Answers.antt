@@ -1,4 +1,4 @@
-use Rattle.std.proofs.Common.{ℕ, List, subst, inr, ◌∷◌, ◌++◌, [], ap, ◌∙◌}
+use Rattle.std.proofs.Common.{ℕ, List, subst, inr, ◌++◌, ap, ◌∙◌}
 use Rattle.std.specs.List.{AllByRecursion}
 use Rattle.swh_base.specs.Directory.{IsEntryName}
 use Rattle.swh_folders.specs.Opened.{lent_path, start_map, open_path, folder_path}
@@ -7,7 +7,7 @@ use Rattle.swh_folders.proofs.Changes.{last-name}
 use Rattle.swh_folders.proofs.Closings.{stays-self, stays-names, bounded-names}
 use Rattle.swh_folders.proofs.Components.{path-names}
 use Rattle.swh_folders.proofs.Tallies.{tallied-same}
-use Rattle.swh_folders.proofs.Keeping.{among-on, among-left, among-right, kept-wider, kept-then, last-among, front-among, path-among}
+use Rattle.swh_folders.proofs.Keeping.{among-on, among-left, front-among, path-among}
 use Rattle.swh_entries.specs.Keys.{texts}
 use Rattle.swh_fastlex.specs.Path.{components}
 use Rattle.swh_folders.proofs.opened.delete_in.Goals as goal
@@ -44,19 +44,19 @@ pub returns-in-At-clause-tallied : goal.returns-in-At-clause-tallied
 returns-in-At-clause-tallied c = tallied-same c.args.base c.args.folders.now c.deleted_there-in-At.new.folders c.requires.tallied c.deleted_there-in-At.ensures.nodes c.deleted_there-in-At.ensures.counts.counted c.deleted_there-in-At.ensures.counts.entries
 
 pub returns-in_err-deleted_here-in-In-clause-kept : goal.returns-in_err-deleted_here-in-In-clause-kept
-returns-in_err-deleted_here-in-In-clause-kept c = kept-wider (texts c.args.folders.now.names.items) (texts c.deleted_here.new.folders.names.items) (c.split_path.result.1.now ∷ []) (open_path c.args.start ++ components c.args.path.now) c.deleted_here.ensures.kept (among-on (c.split_path.result.1.now ∷ []) (components c.args.path.now) (open_path c.args.start ++ components c.args.path.now) (last-among (components c.args.path.now) (lent_path c.split_path.result.0) c.split_path.result.1.now c.split_path.ensures) (among-right (open_path c.args.start) (components c.args.path.now)))
+returns-in_err-deleted_here-in-In-clause-kept c = among-on (texts c.deleted_here.new.folders.names.items) (texts c.args.folders.now.names.items) (texts c.args.folders.now.names.items ++ open_path c.args.start) c.deleted_here.ensures.kept (among-left (texts c.args.folders.now.names.items) (open_path c.args.start))
 
 pub returns-then-same-clause-kept : goal.returns-then-same-clause-kept
-returns-then-same-clause-kept c = kept-wider (texts c.args.folders.now.names.items) (texts c.deleted_here.new.folders.names.items) (c.split_path.result.1.now ∷ []) (open_path c.args.start ++ components c.args.path.now) c.deleted_here.ensures.kept (among-on (c.split_path.result.1.now ∷ []) (components c.args.path.now) (open_path c.args.start ++ components c.args.path.now) (last-among (components c.args.path.now) (lent_path c.split_path.result.0) c.split_path.result.1.now c.split_path.ensures) (among-right (open_path c.args.start) (components c.args.path.now)))
+returns-then-same-clause-kept c = among-on (texts c.deleted_here.new.folders.names.items) (texts c.args.folders.now.names.items) (texts c.args.folders.now.names.items ++ open_path c.args.start) c.deleted_here.ensures.kept (among-left (texts c.args.folders.now.names.items) (open_path c.args.start))
 
 pub returns-then-same-clause-path : goal.returns-then-same-clause-path
 returns-then-same-clause-path c = path-among (folder_path c.in_ok-deleted_here-in-In.field-0.path) (lent_path c.split_path.result.0) (components c.args.path.now) (ap folder_path c.in_ok-deleted_here-in-In.ensures.path ∙ c.is_same_folder-same.ensures c.if-same.true) (front-among (components c.args.path.now) (lent_path c.split_path.result.0) c.split_path.result.1.now c.split_path.ensures)
 
 pub returns-in_err-root-in-In-clause-kept : goal.returns-in_err-root-in-In-clause-kept
-returns-in_err-root-in-In-clause-kept c = rw c.in-In.is (kept-wider (texts c.args.folders.now.names.items) (texts c.closed.new.folders.names.items) (folder_path c.in-In.opened.path) (folder_path c.in-In.opened.path ++ components c.args.path.now) c.closed.ensures.kept (among-left (folder_path c.in-In.opened.path) (components c.args.path.now)))
+returns-in_err-root-in-In-clause-kept c = rw c.in-In.is c.closed.ensures.kept
 
 pub returns-in_ok-root-in-In-clause-kept : goal.returns-in_ok-root-in-In-clause-kept
-returns-in_ok-root-in-In-clause-kept c = rw c.in-In.is (kept-then (texts c.args.folders.now.names.items) (texts c.closed.new.folders.names.items) (texts c.deleted_there.new.folders.names.items) (folder_path c.in-In.opened.path) (components c.args.path.now) c.closed.ensures.kept c.deleted_there.ensures.kept)
+returns-in_ok-root-in-In-clause-kept c = rw c.in-In.is (among-on (texts c.deleted_there.new.folders.names.items) (texts c.closed.new.folders.names.items) (texts c.args.folders.now.names.items ++ folder_path c.in-In.opened.path) c.deleted_there.ensures.kept c.closed.ensures.kept)
 
 pub returns-in-At-clause-kept : goal.returns-in-At-clause-kept
-returns-in-At-clause-kept c = kept-wider (texts c.args.folders.now.names.items) (texts c.deleted_there-in-At.new.folders.names.items) (components c.args.path.now) (open_path c.args.start ++ components c.args.path.now) c.deleted_there-in-At.ensures.kept (among-right (open_path c.args.start) (components c.args.path.now))
+returns-in-At-clause-kept c = among-on (texts c.deleted_there-in-At.new.folders.names.items) (texts c.args.folders.now.names.items) (texts c.args.folders.now.names.items ++ open_path c.args.start) c.deleted_there-in-At.ensures.kept (among-left (texts c.args.folders.now.names.items) (open_path c.args.start))

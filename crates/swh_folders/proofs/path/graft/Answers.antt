@@ -7,7 +7,7 @@ use Rattle.swh_folders.specs.Arena.{stands_of, tree_at, parts_of, AreFronts}
 use Rattle.swh_folders.proofs.Arenas.{same-stands_of}
 use Rattle.swh_folders.proofs.Walks.{graft-more, component-at, length-parts_of, put-along, grows-more, grows-none}
 use Rattle.swh_entries.specs.Keys.{texts}
-use Rattle.swh_folders.proofs.Keeping.{among-left, kept-on, kept-wider, component-among}
+use Rattle.swh_folders.proofs.Keeping.{among-left, kept-on, kept-wider, named-among, component-among}
 use Rattle.swh_folders.proofs.path.graft.Goals as goal
 
 pub up-preserved : goal.up-preserved
@@ -39,7 +39,7 @@ up-preserved c =
       sound = c.in_ok-here.ensures.sound;
       grows = grows-more c.args.names.now.items c.up.names.items c.put.new.names.items c.args.nodes.now.items c.up.nodes.items c.put.new.nodes.items c.up.invariant.grows c.put.ensures.grows;
       kept = kept-on (texts c.args.names.now.items) (texts c.up.names.items) (texts c.put.new.names.items) comps c.up.invariant.kept
-          (kept-wider (texts c.up.names.items) (texts c.put.new.names.items) _ comps c.put.ensures.kept (component-among c.args.path.now j _ within));
+          (kept-wider (texts c.up.names.items) (texts c.put.new.names.items) _ comps c.put.ensures.kept (named-among _ c.up.here comps (component-among c.args.path.now j _ within)));
       inside = c.in_ok-here.ensures.inside;
       grafted = c.in_ok-here.ensures.put
           ∙ put-along _ (get_or comps j []) (stands_of now c.up.here) (graft (drop (j + 1) comps) x (found (take (j + 1) comps) y)) (stands_of now c.index.result.now) (found (take j comps) y) (sym (component-at c.args.path.now j _ within)) before front
@@ -60,7 +60,7 @@ returns-in_err-here-clause-kept c =
     let comps = parts_of c.args.path.now in
     let within : c.up.left - 1 < length c.args.path.now = let w = c.up.invariant.within in omega arith in
     kept-on (texts c.args.names.now.items) (texts c.up.names.items) (texts c.put.new.names.items) comps c.up.invariant.kept
-    (kept-wider (texts c.up.names.items) (texts c.put.new.names.items) _ comps c.put.ensures.kept (component-among c.args.path.now (c.up.left - 1) _ within))
+    (kept-wider (texts c.up.names.items) (texts c.put.new.names.items) _ comps c.put.ensures.kept (named-among _ c.up.here comps (component-among c.args.path.now (c.up.left - 1) _ within)))
 
 pub up-init : goal.up-init
 up-init c =

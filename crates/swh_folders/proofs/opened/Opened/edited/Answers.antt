@@ -1,4 +1,4 @@
-use Rattle.std.proofs.Common.{◌≡◌, ap, sym, subst, ◌∙◌, List, length, ◌∷◌, []}
+use Rattle.std.proofs.Common.{◌≡◌, ap, sym, subst, ◌∙◌, List, length}
 use Rattle.swh_entries.specs.declared.entry.Entry.{Entry}
 use Rattle.swh_folders.specs.Arena.{stands_of, forest_of, tree_at, AreGood, entries_without}
 use Rattle.swh_entries.specs.Keys.{texts}
@@ -10,6 +10,7 @@ use Rattle.swh_folders.proofs.Orders.{ordered}
 use Rattle.swh_folders.proofs.Sounds.{put-sound}
 use Rattle.swh_folders.proofs.Steps.{forest-without, without-good}
 use Rattle.swh_folders.proofs.Keeping.{among-left}
+use Rattle.swh_folders.specs.Kept.{named}
 use Rattle.swh_folders.proofs.opened.Opened.edited.Goals as goal
 
 pub kept-requires-clause-ordered : goal.kept-requires-clause-ordered
@@ -59,4 +60,4 @@ returns-clause-own c =
     edited-own names new nodes es c.args.name.now c.args.child c.in_ok-rest.rest.items c.in_ok-node.node.items c.requires.good c.add_some.ensures.names c.requires.opened.entries c.requires.child is (c.in_ok-node.ensures.forest (tree_at new nodes) (length nodes) kept)
 
 pub returns-in_err-rest-clause-kept : goal.returns-in_err-rest-clause-kept
-returns-in_err-rest-clause-kept c = among-left (texts c.args.folders.now.names.items) (c.args.name.now ∷ [])
+returns-in_err-rest-clause-kept c = among-left (texts c.args.folders.now.names.items) (named c.args.name.now c.args.child)
