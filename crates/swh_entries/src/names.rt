@@ -65,7 +65,7 @@ fn is_name(names: &[Vec<u8>], number: usize, name: &[u8]) -> bool
 }
 
 impl Names {
-    ghost use Rattle.std.specs.Prelude.{◌≡◌, ◌<◌, [], ℕ, length, IfOk, OnErr};
+    ghost use Rattle.std.specs.Prelude.{◌≡◌, ◌⊎◌, ◌<◌, ◌++◌, ◌∷◌, [], ℕ, length, IfOk, OnErr};
     ghost use Rattle.swh_entries.specs.Keys.{name_at, texts};
     ghost use Rattle.swh_entries.specs.Named.{Extends};
 
@@ -95,6 +95,8 @@ impl Names {
         ensures number { IfOk result (λ n. (n < length self.new.items) × (name_at (texts self.new.items) n ≡ name.now)) }
         ensures known { (n : ℕ) → n < length self.old.items → name_at (texts self.old.items) n ≡ name.now
             → self.new.items ≡ self.old.items }
+        ensures one { (self.new.items ≡ self.old.items)
+            ⊎ (texts self.new.items ≡ texts self.old.items ++ name.now ∷ []) }
         ensures err { OnErr result (self.new.items ≡ self.old.items) }
     {
         let digest = digest_of(name);

@@ -23,3 +23,4 @@ pub mod Splittings
 pub mod Openings
 pub mod Closings
 pub mod Changes
+pub mod Keeping

@@ -1,5 +1,6 @@
 pub mod Arena
 pub mod Forest
+pub mod Kept
 pub mod Leaf
 pub mod Live
 pub mod Moved

@@ -55,6 +55,11 @@ pub record StandsIn (names : List (Vec ℕ)) (nodes : List Listed) (o : Opened) 
   pub here : forest (found (folder_path o.path) (IsFolder whole)) ≡ own_forest names nodes o
   pub change : (c : List ℕ) (x : Stands) → root_with names nodes o (put c x (own_forest names nodes o)) ≡ graft (folder_path o.path ++ c ∷ []) x (IsFolder whole)
 
+-- the components of the path of the folder that is open, if one is
+abbrev pub open_path : Start → List (List ℕ)
+open_path (At root) = []
+open_path (In o) = folder_path o.path
+
 -- the root as it was before its folder was opened, or as it is
 abbrev pub root_of_start : Start → Option ℕ
 root_of_start (At root) = root

@@ -1,6 +1,6 @@
 //! Folders by their numbers. None is ever changed.
 
-ghost use Rattle.std.specs.Prelude.{◌≡◌, ◌<◌, ◌≤◌, ℕ, List, length, All, IfOk, IfSome, OnOk, None};
+ghost use Rattle.std.specs.Prelude.{◌≡◌, ◌<◌, ◌≤◌, ◌++◌, ℕ, List, length, All, IfOk, IfSome, OnOk, None};
 ghost use Rattle.std.specs.Global.{Vec};
 ghost use Rattle.swh_folders.specs.Forest.{Forest, step, without, inserted, put, folder, forest};
 ghost use Rattle.swh_folders.specs.Sound.{IsSound, IsSoundHere};
@@ -18,6 +18,7 @@ ghost use Rattle.swh_folders.specs.Arena.{
 ghost use Rattle.swh_entries.specs.Keys.{name_at, texts};
 ghost use Rattle.swh_entries.specs.Named.{Extends};
 ghost use Rattle.swh_base.specs.Directory.{IsEntryName};
+ghost use Rattle.swh_folders.specs.Kept.{AreAmong, named};
 ghost use Rattle.swh_folders.specs.Ordered.{AreOrdered};
 ghost use Rattle.swh_folders.specs.Roots.{AreSound, IsGood};
 
@@ -79,6 +80,7 @@ pub fn add_some(
     requires others { All (λ f. f.name < length names.old.items) out.items }
     requires ordered { AreOrdered (texts names.old.items) out.items }
     ensures names { Extends names.old.items names.new.items }
+    ensures kept { AreAmong (texts names.new.items) (texts names.old.items ++ named name.now child) }
     ensures good { (k : ℕ) → AreGood (length names.old.items) k out.items → IsIn k child
         → IfOk result (λ p. AreGood (length names.new.items) k p.items) }
     ensures forest { (at : ℕ → Forest) (k : ℕ) → AreGood (length names.old.items) k out.items
@@ -134,6 +136,7 @@ pub fn put(
     requires sound { IsSoundHere (stands_of (tree_at names.old.items nodes.old.items) child) }
     ensures good { IsGood names.new.items nodes.new.items }
     ensures grows { Grows names.old.items nodes.old.items names.new.items nodes.new.items }
+    ensures kept { AreAmong (texts names.new.items) (texts names.old.items ++ named name.now child) }
     ensures inside { IfOk result (λ r. IsIn (length nodes.new.items) r) }
     ensures sound { IfOk result (λ r. IsSoundHere (stands_of (tree_at names.new.items nodes.new.items) r)) }
     ensures put { IfOk result (λ r. stands_of (tree_at names.new.items nodes.new.items) r

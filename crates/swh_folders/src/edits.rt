@@ -1,10 +1,12 @@
 //! What the changes of a commit make of a tree (git-fast-import(1), filemodify, filedelete, filecopy, filerename).
 
-ghost use Rattle.std.specs.Prelude.{◌≡◌, ◌≢◌, ℕ, List, [], length, IfOk, IfSome, IfNone};
+ghost use Rattle.std.specs.Prelude.{◌≡◌, ◌≢◌, ◌++◌, ℕ, List, [], length, IfOk, IfSome, IfNone};
 ghost use Rattle.std.specs.Global.{Vec};
 ghost use Rattle.std.specs.List.{AllByRecursion};
 ghost use Rattle.swh_folders.specs.Arena.{stands_of, tree_at, parts_of, Grows, IsIn};
 ghost use Rattle.swh_folders.specs.Forest.{Forest, forest};
+ghost use Rattle.swh_entries.specs.Keys.{texts};
+ghost use Rattle.swh_folders.specs.Kept.{AreAmong};
 ghost use Rattle.swh_folders.specs.PathMap.{set, delete, held};
 ghost use Rattle.swh_folders.specs.Sound.{IsLeaf};
 ghost use Rattle.swh_folders.specs.Roots.{IsBelow, map_of_number, IsGood, map_at, root_forest};
@@ -60,6 +62,7 @@ fn left_of(
     requires source { AllByRecursion IsEntryName (parts_of source.now) }
     ensures good { IsGood names.new.items nodes.new.items }
     ensures grows { Grows names.old.items nodes.old.items names.new.items nodes.new.items }
+    ensures kept { AreAmong (texts names.new.items) (texts names.old.items ++ parts_of source.now) }
     ensures inside { IfOk result (λ r. IsIn (length nodes.new.items) r) }
     ensures left { IfOk result (λ r. stands_of (tree_at names.new.items nodes.new.items) r
         ≡ left_by way (parts_of source.now) (stands_of (tree_at names.old.items nodes.old.items) here)) }
@@ -87,6 +90,8 @@ pub fn transfer_path(
     requires target { IsPath target.now }
     ensures good { IsGood names.new.items nodes.new.items }
     ensures grows { Grows names.old.items nodes.old.items names.new.items nodes.new.items }
+    ensures kept { AreAmong (texts names.new.items) (texts names.old.items
+        ++ (components source.now ++ components target.now)) }
     ensures none { IfOk result (λ o. IfNone o (held (components source.now)
         (map_of_number (map_at names.old.items nodes.old.items) root) ≡ [])) }
     ensures left { IfOk result (λ o. IfNone o (nodes.new.items ≡ nodes.old.items)) }

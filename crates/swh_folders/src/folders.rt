@@ -1,7 +1,9 @@
 //! Folders at work: the changes of a commit made to them, and what is no longer needed dropped now and then.
 
-ghost use Rattle.std.specs.Prelude.{◌≡◌, ◌≢◌, ◌≤◌, ◌+◌, ◌*◌, [], ℕ, IsFalse, IfOk, IfSome, IfNone};
+ghost use Rattle.std.specs.Prelude.{◌≡◌, ◌≢◌, ◌≤◌, ◌+◌, ◌*◌, ◌++◌, [], ℕ, IsFalse, IfOk, IfSome, IfNone};
 ghost use Rattle.swh_entries.specs.Listed.{cost_of};
+ghost use Rattle.swh_entries.specs.Keys.{texts};
+ghost use Rattle.swh_folders.specs.Kept.{AreAmong};
 ghost use Rattle.swh_folders.specs.Roots.{IsBelow};
 ghost use Rattle.swh_fastlex.specs.Path.{components, IsPath};
 ghost use Rattle.swh_folders.specs.PathMap.{set, delete, held};
@@ -48,6 +50,7 @@ impl Folders {
     pub fn new(alloc: Global) -> Folders
         ensures good { AreFolders result }
         ensures none { result.nodes.items ≡ [] }
+        ensures names { result.names.items ≡ [] }
         ensures tallied { IsTallied 0 result }
         ensures room { result.room ≡ spare }
         ensures most { result.most ≡ spare }
@@ -143,6 +146,7 @@ pub fn settled(
     requires root { IsBelow (count_of folders.old) root }
     ensures stays { StaysBelow base folders.old folders.new }
     ensures tallied { IsTallied base folders.new }
+    ensures names { folders.new.names.items ≡ folders.old.names.items }
     ensures inside { IfOk result (λ r. IsBelow (count_of folders.new) r) }
     ensures bounded { IfOk result (IsBounded base folders.old folders.new) }
     ensures map { IfOk result (λ r. root_map folders.new r ≡ root_map folders.old root) }
@@ -178,6 +182,8 @@ pub fn transfer_in(
     requires target { IsPath target.now }
     ensures stays { StaysBelow base folders.old folders.new }
     ensures tallied { IsTallied base folders.new }
+    ensures kept { AreAmong (texts folders.new.names.items) (texts folders.old.names.items
+        ++ (components source.now ++ components target.now)) }
     ensures none { IfOk result (λ o. IfNone o (held (components source.now) (root_map folders.old root) ≡ [])) }
     ensures left { IfOk result (λ o. IfNone o (IsBelow (count_of folders.new) root)) }
     ensures lists { IfOk result (λ o. IfNone o (folders.new.nodes.items ≡ folders.old.nodes.items)) }

@@ -8,6 +8,7 @@ ghost use Rattle.swh_base.specs.Directory.{IsEntryName};
 ghost use Rattle.swh_folders.specs.Arena.{stands_of, forest_of, tree_at, AreGood, IsIn, Grows};
 ghost use Rattle.swh_entries.specs.Keys.{texts};
 ghost use Rattle.swh_entries.specs.Named.{Extends};
+ghost use Rattle.swh_folders.specs.Kept.{AreAmong, named};
 ghost use Rattle.swh_folders.specs.Forest.{Forest, Nothing, IsFolder, child_at, put, forest, found, flat};
 ghost use Rattle.swh_folders.specs.Roots.{IsBelow, IsGood, map_at, map_of_number, root_forest};
 ghost use Rattle.swh_folders.specs.PathMap.{set, delete, held};
@@ -18,6 +19,7 @@ ghost use Rattle.swh_folders.specs.Working.{AreFolders, count_of, root_map, Stay
 ghost use Rattle.swh_folders.specs.Opened.{
   lent_path,
   folder_path,
+  open_path,
   own_forest,
   open_forest,
   root_of_start,
@@ -137,6 +139,7 @@ impl Opened {
         requires opened { IsOpened names.old.items nodes.old.items self }
         ensures good { IsGood names.new.items nodes.new.items }
         ensures grows { Grows names.old.items nodes.old.items names.new.items nodes.new.items }
+        ensures kept { AreAmong (texts names.new.items) (texts names.old.items ++ folder_path self.path) }
         ensures inside { IfOk result (λ r. IsBelow (length nodes.new.items) r) }
         ensures forest { IfOk result (λ r. root_forest (tree_at names.new.items nodes.new.items) r
             ≡ open_forest names.old.items nodes.old.items self) }
@@ -167,6 +170,7 @@ impl Opened {
         requires child { IsIn (count_of folders.old) child }
         requires sound { IsSoundHere (stands_of (tree_at folders.old.names.items folders.old.nodes.items) child) }
         ensures names { Extends folders.old.names.items folders.new.names.items }
+        ensures kept { AreAmong (texts folders.new.names.items) (texts folders.old.names.items ++ named name.now child) }
         ensures nodes { folders.new.nodes.items ≡ folders.old.nodes.items }
         ensures counts { KeepsCounts folders.old folders.new }
         ensures opened { IfOk result (λ o. IsOpened folders.new.names.items folders.new.nodes.items o) }
@@ -196,6 +200,8 @@ fn closed(
     requires opened { IsOpened folders.old.names.items folders.old.nodes.items opened }
     ensures stays { StaysBelow base folders.old folders.new }
     ensures tallied { IsTallied base folders.new }
+    ensures kept { AreAmong (texts folders.new.names.items) (texts folders.old.names.items
+        ++ folder_path opened.path) }
     ensures inside { IfOk result (λ r. IsBelow (count_of folders.new) r) }
     ensures bounded { IfOk result (IsBounded base folders.old folders.new) }
     ensures map { IfOk result (λ r. root_map folders.new r
@@ -216,6 +222,7 @@ pub fn root_from(
     requires start { IsStart folders.old start }
     ensures stays { (base : ℕ) → IsTallied base folders.old → StaysBelow base folders.old folders.new }
     ensures tallied { (base : ℕ) → IsTallied base folders.old → IsTallied base folders.new }
+    ensures kept { AreAmong (texts folders.new.names.items) (texts folders.old.names.items ++ open_path start) }
     ensures inside { IfOk result (λ r. IsBelow (count_of folders.new) r) }
     ensures map { IfOk result (λ r. root_map folders.new r ≡ start_map folders.old start) }
 {
@@ -239,6 +246,7 @@ fn opened_at(
     requires folder { AllByRecursion IsEntryName (lent_path folder) }
     ensures stays { StaysBelow base folders.old folders.new }
     ensures tallied { IsTallied base folders.new }
+    ensures kept { AreAmong (texts folders.new.names.items) (texts folders.old.names.items ++ open_path start) }
     ensures opened { IfOk result (λ o. IsOpened folders.new.names.items folders.new.nodes.items o) }
     ensures path { IfOk result (λ o. folder_path o.path ≡ lent_path folder.entry) }
     ensures bounded { IfOk result (λ o. StaysBounded base folders.old folders.new o.root
@@ -279,6 +287,9 @@ pub fn set_in(
     requires leaf { IsLeaf leaf }
     ensures stays { StaysBelow base folders.old folders.new }
     ensures tallied { IsTallied base folders.new }
+    ensures kept { AreAmong (texts folders.new.names.items) (texts folders.old.names.items
+        ++ (open_path start ++ components path.now)) }
+    ensures path { IfOk result (λ o. AreAmong (folder_path o.path) (components path.now)) }
     ensures opened { IfOk result (λ o. IsOpened folders.new.names.items folders.new.nodes.items o) }
     ensures bounded { IfOk result (λ o. StaysBounded base folders.old folders.new o.root
         (start_map folders.old start)) }
@@ -301,6 +312,8 @@ fn deleted_here(
     requires opened { IsOpened folders.old.names.items folders.old.nodes.items opened }
     requires name { IsEntryName name.now }
     ensures names { Extends folders.old.names.items folders.new.names.items }
+    ensures kept { AreAmong (texts folders.new.names.items) (texts folders.old.names.items) }
+    ensures path { IfOk result (λ o. o.path ≡ opened.path) }
     ensures nodes { folders.new.nodes.items ≡ folders.old.nodes.items }
     ensures counts { KeepsCounts folders.old folders.new }
     ensures opened { IfOk result (λ o. IsOpened folders.new.names.items folders.new.nodes.items o) }
@@ -326,6 +339,8 @@ fn deleted_there(
     requires root { IsBelow (count_of folders.old) root }
     requires path { IsPath path.now }
     ensures names { Extends folders.old.names.items folders.new.names.items }
+    ensures kept { AreAmong (texts folders.new.names.items) (texts folders.old.names.items) }
+    ensures path { IfOk result (λ s. AreAmong (open_path s) (components path.now)) }
     ensures nodes { folders.new.nodes.items ≡ folders.old.nodes.items }
     ensures counts { KeepsCounts folders.old folders.new }
     ensures start { IfOk result (λ s. IsStart folders.new s) }
@@ -357,6 +372,8 @@ pub fn delete_in(
     requires path { IsPath path.now }
     ensures stays { StaysBelow base folders.old folders.new }
     ensures tallied { IsTallied base folders.new }
+    ensures kept { AreAmong (texts folders.new.names.items) (texts folders.old.names.items ++ open_path start) }
+    ensures path { IfOk result (λ s. AreAmong (open_path s) (components path.now)) }
     ensures start { IfOk result (λ s. IsStart folders.new s) }
     ensures bounded { IfOk result (λ s. StaysBounded base folders.old folders.new (root_of_start s)
         (start_map folders.old start)) }
@@ -414,6 +431,8 @@ fn transfer_sealed(
     requires target { IsPath target.now }
     ensures good { IsGood names.new.items nodes.new.items }
     ensures grows { Grows names.old.items nodes.old.items names.new.items nodes.new.items }
+    ensures kept { AreAmong (texts names.new.items) (texts names.old.items
+        ++ (folder_path opened.path ++ (components source.now ++ components target.now))) }
     ensures none { IfOk result (λ o. IfNone o (held (components source.now)
         (flat (open_forest names.old.items nodes.old.items opened)) ≡ [])) }
     ensures some { IfOk result (λ o. IfSome o (λ r. held (components source.now)
@@ -445,6 +464,9 @@ fn transfer_open(
     requires target { IsPath target.now }
     ensures stays { StaysBelow base folders.old folders.new }
     ensures tallied { IsTallied base folders.new }
+    ensures kept { AreAmong (texts folders.new.names.items) (texts folders.old.names.items
+        ++ (folder_path opened.path ++ (components source.now ++ components target.now))) }
+    ensures path { IfOk result (λ m. IfErr m (λ s. open_path s ≡ folder_path opened.path)) }
     ensures none { IfOk result (λ m. IfErr m (λ s. held (components source.now)
         (flat (open_forest folders.old.names.items folders.old.nodes.items opened)) ≡ [])) }
     ensures left { IfOk result (λ m. IfErr m (λ s. IsStart folders.new s)) }
@@ -489,6 +511,9 @@ pub fn transfer_from(
     requires target { IsPath target.now }
     ensures stays { StaysBelow base folders.old folders.new }
     ensures tallied { IsTallied base folders.new }
+    ensures kept { AreAmong (texts folders.new.names.items) (texts folders.old.names.items
+        ++ (open_path start ++ (components source.now ++ components target.now))) }
+    ensures path { IfOk result (λ m. IfErr m (λ s. open_path s ≡ open_path start)) }
     ensures none { IfOk result (λ m. IfErr m (λ s. held (components source.now) (start_map folders.old start) ≡ [])) }
     ensures left { IfOk result (λ m. IfErr m (λ s. IsStart folders.new s)) }
     ensures lists { IfOk result (λ m. IfErr m (λ s. folders.new.nodes.items ≡ folders.old.nodes.items)) }

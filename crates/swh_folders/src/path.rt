@@ -1,9 +1,11 @@
 //! What stands at a path, and what something put at a path makes.
 
-ghost use Rattle.std.specs.Prelude.{◌≡◌, length, IfOk};
+ghost use Rattle.std.specs.Prelude.{◌≡◌, ◌++◌, length, IfOk};
 ghost use Rattle.std.specs.List.{AllByRecursion};
 ghost use Rattle.swh_base.specs.Directory.{IsEntryName};
 ghost use Rattle.swh_fastlex.specs.Path.{components};
+ghost use Rattle.swh_entries.specs.Keys.{texts};
+ghost use Rattle.swh_folders.specs.Kept.{AreAmong};
 ghost use Rattle.swh_folders.specs.Sound.{IsSoundHere};
 ghost use Rattle.swh_folders.specs.Forest.{found, graft};
 ghost use Rattle.swh_folders.specs.Roots.{IsGood};
@@ -72,6 +74,7 @@ pub fn graft(
     requires sound { IsSoundHere (stands_of (tree_at names.old.items nodes.old.items) child) }
     ensures good { IsGood names.new.items nodes.new.items }
     ensures grows { Grows names.old.items nodes.old.items names.new.items nodes.new.items }
+    ensures kept { AreAmong (texts names.new.items) (texts names.old.items ++ parts_of path.now) }
     ensures inside { IfOk result (λ r. IsIn (length nodes.new.items) r) }
     ensures graft { IfOk result (λ r. stands_of (tree_at names.new.items nodes.new.items) r
         ≡ graft (parts_of path.now) (stands_of (tree_at names.old.items nodes.old.items) child)

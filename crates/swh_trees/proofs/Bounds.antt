@@ -17,7 +17,7 @@ use Rattle.swh_trees.specs.Grove.{Grove, map_of}
 use Rattle.swh_trees.specs.Held.{grove}
 use Rattle.swh_trees.specs.Makes.{IsFolderOf}
 use Rattle.swh_trees.proofs.Counts.{costs-seen}
-use Rattle.swh_trees.proofs.Parts.{grove-at, map_is, root_is, root-good, folder_of}
+use Rattle.swh_trees.proofs.Parts.{grove-at, grove-long, map_is, root_is, root-good, folder_of}
 
 cleared : (f : Folders) (o : Option Opened) (ids : List (List ℕ)) (root : Option ℕ) (m : PathMap) → AreFolders f → IsBelow (count_of f) root → AreNeeded (length ids) f root → IsSetAnew (length ids) f → root_map f root ≡ m → IsCleared (grove f o ids) m
 cleared f o ids root m good low needed anew is = record {
@@ -73,6 +73,7 @@ none-cost made f is = ap cost_of (drop_all made f.nodes.items (omega arith))
 pub emptied : (f : Folders) (ids : List (List ℕ)) → length ids ≡ count_of f → f.most ≤ count_of f + spare → f.room ≤ spare → IsEmptied (grove f None ids)
 emptied f ids all most room = record {
   standing = sym all;
+  closed = grove-long f None ids ∙ sym all;
   entries = ap cost_of (drop_all (length ids) f.nodes.items (omega arith));
   most = omega arith;
   room = room;

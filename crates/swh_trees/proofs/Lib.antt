@@ -3,3 +3,4 @@ pub mod Listings
 pub mod Parts
 pub mod Counts
 pub mod Bounds
+pub mod Namings

@@ -134,7 +134,7 @@ value-at f (suc n) k lt = elim (cases_lt k n) [
       rw is (ap (λ (i : ℕ). get_or (first_values f n ++ f n ∷ []) i []) (sym long) ∙ get_or-append_seam (first_values f n) (f n) [] [])
 ]
 
-grove-long : (f : Folders) (opened : Option Opened) (ids : List (List ℕ)) → length (grove f opened ids).folders ≡ count_with opened (count_of f)
+pub grove-long : (f : Folders) (opened : Option Opened) (ids : List (List ℕ)) → length (grove f opened ids).folders ≡ count_with opened (count_of f)
 grove-long f None ids = values-long (map_at f.names.items f.nodes.items) (count_of f)
 grove-long f (Some o) ids =
     let maps = first_values (map_at f.names.items f.nodes.items) (count_of f) in

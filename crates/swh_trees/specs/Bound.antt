@@ -40,9 +40,10 @@ pub record IsCleared (g : Grove) (m : PathMap) : Type 0 where
 abbrev pub IsBounded : Grove → Grove → PathMap → Type 0
 IsBounded old new m = IsStill old new ⊎ IsWithin old new ⊎ IsCleared new m
 
--- Each folder that stands has its object, and 65,536 more folders, and entries, may stand.
+-- Each folder that stands has its object, none is open, and 65,536 more folders, and entries, may stand.
 pub record IsEmptied (g : Grove) : Type 0 where
   pub standing : g.standing ≡ g.made
+  pub closed : length g.folders ≡ g.made
   pub entries : g.entries ≡ 0
   pub most : g.most ≤ g.made + 65536
   pub room : g.room ≤ 65536

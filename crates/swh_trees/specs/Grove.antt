@@ -1,12 +1,12 @@
 -- Trees as their callers see them: the folders by their numbers, each as the map of its paths.
-use Rattle.std.specs.Prelude.{◌≡◌, ℕ, ◌<◌, List, [], length, slice_index_or}
+use Rattle.std.specs.Prelude.{◌≡◌, ℕ, ◌<◌, List, [], ◌++◌, length, slice_index_or}
 use Rattle.swh_trees.specs.declared.tree.Tree.{Tree}
 use Rattle.swh_folders.specs.PathMap.{PathMap}
 use Rattle.swh_folders.specs.Roots.{IsBelow, map_of_number}
 
 -- the map of each folder, in the order of their numbers, and of how many folders, the first ones, the objects were made; how many
 -- folders stand in memory, beside one that is open, and how many entries the lists of those without objects cost; and how many
--- folders and entries may stand
+-- folders and entries may stand; the names of entries that are kept, and the components of the path of the folder that is open
 pub record Grove : Type 0 where
   pub folders : List PathMap
   pub made : ℕ
@@ -14,10 +14,16 @@ pub record Grove : Type 0 where
   pub entries : ℕ
   pub most : ℕ
   pub room : ℕ
+  pub names : List (List ℕ)
+  pub path : List (List ℕ)
 
 -- no tree but the empty one
 abbrev pub no_trees : Grove
-no_trees = record { folders = []; made = 0; standing = 0; entries = 0; most = 65536; room = 65536 }
+no_trees = record { folders = []; made = 0; standing = 0; entries = 0; most = 65536; room = 65536; names = []; path = [] }
+
+-- all names that are kept, those of a path among them
+abbrev pub kept_names : Grove → List (List ℕ)
+kept_names g = g.names ++ g.path
 
 -- the map of the folder of this number
 abbrev pub folder_map : Grove → ℕ → PathMap

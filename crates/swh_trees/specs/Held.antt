@@ -13,7 +13,8 @@ use Rattle.swh_trees.specs.Directory.{directory_id}
 use Rattle.swh_folders.specs.Forest.{Forest, Bare, flat}
 use Rattle.swh_trees.specs.Listing.{directory}
 use Rattle.swh_folders.specs.PathMap.{PathMap}
-use Rattle.swh_folders.specs.Opened.{open_forest, IsOpened}
+use Rattle.swh_entries.specs.Keys.{texts}
+use Rattle.swh_folders.specs.Opened.{folder_path, open_forest, IsOpened}
 use Rattle.swh_folders.specs.Roots.{map_at}
 use Rattle.swh_trees.specs.Grove.{Grove}
 
@@ -49,6 +50,11 @@ abbrev pub maps_with : List (Vec ℕ) → List Listed → Option Opened → List
 maps_with names nodes None = first_values (map_at names nodes) (length nodes)
 maps_with names nodes (Some o) = first_values (map_at names nodes) (length nodes) ++ flat (open_forest names nodes o) ∷ []
 
+-- the components of the path of the folder that is open, if one is
+abbrev pub opened_path : Option Opened → List (List ℕ)
+opened_path None = []
+opened_path (Some o) = folder_path o.path
+
 -- what callers see
 abbrev pub grove : Folders → Option Opened → List (List ℕ) → Grove
 grove f opened ids = record {
@@ -58,6 +64,8 @@ grove f opened ids = record {
   entries = cost_from (length ids) f;
   most = f.most;
   room = f.room;
+  names = texts f.names.items;
+  path = opened_path opened;
 }
 
 -- how many trees have numbers, where so many folders have

@@ -30,6 +30,7 @@ fn empty_folder(
     requires empty { IsEmptyFolder (folder_at folders.old) base empty }
     ensures stays { StaysBelow base folders.old folders.new }
     ensures tallied { IsTallied base folders.new }
+    ensures names { folders.new.names.items ≡ folders.old.names.items }
     ensures inside { IfOk result (λ r. r < count_of folders.new) }
     ensures bare { IfOk result (λ r. folder_at folders.new r ≡ Bare) }
 {
@@ -57,6 +58,7 @@ pub fn root_number(
     requires empty { IsEmptyFolder (folder_at folders.old) base empty }
     ensures stays { StaysBelow base folders.old folders.new }
     ensures tallied { IsTallied base folders.new }
+    ensures names { folders.new.names.items ≡ folders.old.names.items }
     ensures inside { IfOk result (λ r. r < count_of folders.new) }
     ensures same { IfOk result (λ r. folder_at folders.new r ≡ root_forest (folder_at folders.old) root) }
 {
@@ -72,6 +74,7 @@ pub fn drop_unmade(folders: &mut Folders, made: usize)
     requires tallied { IsTallied made folders.old }
     ensures stays { StaysBelow made folders.old folders.new }
     ensures tallied { IsTallied made folders.new }
+    ensures names { folders.new.names.items ≡ folders.old.names.items }
     ensures all { made ≡ count_of folders.new }
     ensures most { folders.new.most ≤ count_of folders.new + spare }
     ensures room { folders.new.room ≤ spare }
@@ -97,6 +100,7 @@ pub fn make_folders<N: Namer>(
     ensures stays { StaysBelow (length ids.old.items) folders.old folders.new }
     ensures within { length ids.new.items ≤ count_of folders.new }
     ensures tallied { IsTallied (length ids.new.items) folders.new }
+    ensures names { folders.new.names.items ≡ folders.old.names.items }
     ensures known { AreIds (directory_id N.id_of) (folder_at folders.new) ids.new.items }
     ensures front { length ids.old.items ≤ length ids.new.items }
     ensures none_made { OnErr result (ids.new.items ≡ ids.old.items) }

@@ -110,8 +110,26 @@ fn parts_of(start: Start, count: usize) -> (Option<usize>, Option<Opened>)
 }
 
 impl<N: Namer> Trees<N> {
-    ghost use Rattle.std.specs.Prelude.{◌≡◌, ◌≢◌, ◌↔◌, [], IsTrue, IfOk, IfErr, IfSome, IfNone, OnErr};
-    ghost use Rattle.swh_trees.specs.Grove.{map_of, IsTree, Keeps, StandsFor, no_trees};
+    ghost use Rattle.std.specs.Prelude.{
+      ◌≡◌,
+      ◌≢◌,
+      ◌↔◌,
+      ◌<◌,
+      ◌++◌,
+      [],
+      ℕ,
+      length,
+      slice_index_or,
+      IsTrue,
+      IfOk,
+      IfErr,
+      IfSome,
+      IfNone,
+      OnErr,
+    };
+    ghost use Rattle.swh_entries.specs.Keys.{texts};
+    ghost use Rattle.swh_folders.specs.Kept.{AreAmong};
+    ghost use Rattle.swh_trees.specs.Grove.{map_of, kept_names, IsTree, Keeps, StandsFor, no_trees};
     ghost use Rattle.swh_trees.specs.Bound.{IsStill, IsBounded, IsEmptied};
     ghost use Rattle.swh_folders.specs.Leaf.{IsLeafMode};
     ghost use Rattle.swh_trees.specs.Makes.{Makes, ExplainsTree};
@@ -130,6 +148,15 @@ impl<N: Namer> Trees<N> {
             ids: Vec::new(alloc),
             empty: None,
         }
+    }
+
+    /// The names of entries that are kept, each once: also those that stand in no folder any more.
+    pub fn names(&self) -> &[Vec<u8>]
+        ensures value { texts result.now ≡ self.now.names }
+        ensures once { (i j : ℕ) → i < length self.now.names → j < length self.now.names
+            → slice_index_or self.now.names i [] ≡ slice_index_or self.now.names j [] → i ≡ j }
+    {
+        self.folders.names.as_slice()
     }
 
     /// Whether this tree stands here.
@@ -153,6 +180,7 @@ impl<N: Namer> Trees<N> {
         requires path { IsPath path.now }
         requires mode { IsLeafMode leaf.mode }
         ensures keeps { Keeps self.old self.new }
+        ensures names { AreAmong (kept_names self.new) (kept_names self.old ++ components path.now) }
         ensures map { IfOk result (λ t. StandsFor self.new t (set (components path.now) leaf (map_of self.old tree))) }
         ensures bounded { IfOk result (λ t. IsBounded self.old self.new (map_of self.old tree)) }
         ensures failed { OnErr result (IsEmptied self.new) }
@@ -181,6 +209,8 @@ impl<N: Namer> Trees<N> {
         requires tree { IsTree self.old tree }
         requires path { IsPath path.now }
         ensures keeps { Keeps self.old self.new }
+        ensures names { AreAmong self.new.names (kept_names self.old) }
+        ensures path { AreAmong self.new.path (components path.now) }
         ensures map { IfOk result (λ t. StandsFor self.new t (delete (components path.now) (map_of self.old tree))) }
         ensures bounded { IfOk result (λ t. IsBounded self.old self.new (map_of self.old tree)) }
         ensures failed { OnErr result (IsEmptied self.new) }
@@ -213,6 +243,8 @@ impl<N: Namer> Trees<N> {
         requires source { IsPath source.now }
         requires target { IsPath target.now }
         ensures keeps { Keeps self.old self.new }
+        ensures names { AreAmong (kept_names self.new) (kept_names self.old
+            ++ (components source.now ++ components target.now)) }
         ensures none { IfOk result (λ o. IfNone o (held (components source.now) (map_of self.old tree) ≡ [])) }
         ensures left { IfOk result (λ o. IfNone o (StandsFor self.new tree (map_of self.old tree))) }
         ensures still { IfOk result (λ o. IfNone o (IsStill self.old self.new)) }
@@ -239,6 +271,8 @@ impl<N: Namer> Trees<N> {
         requires source { IsPath source.now }
         requires target { IsPath target.now }
         ensures keeps { Keeps self.old self.new }
+        ensures names { AreAmong (kept_names self.new) (kept_names self.old
+            ++ (components source.now ++ components target.now)) }
         ensures none { IfOk result (λ o. IfNone o (held (components source.now) (map_of self.old tree) ≡ [])) }
         ensures left { IfOk result (λ o. IfNone o (StandsFor self.new tree (map_of self.old tree))) }
         ensures still { IfOk result (λ o. IfNone o (IsStill self.old self.new)) }
@@ -264,6 +298,8 @@ impl<N: Namer> Trees<N> {
         requires source { IsPath source.now }
         requires target { IsPath target.now }
         ensures keeps { Keeps self.old self.new }
+        ensures names { AreAmong (kept_names self.new) (kept_names self.old
+            ++ (components source.now ++ components target.now)) }
         ensures none { IfOk result (λ o. IfNone o (held (components source.now) (map_of self.old tree) ≡ [])) }
         ensures left { IfOk result (λ o. IfNone o (StandsFor self.new tree (map_of self.old tree))) }
         ensures still { IfOk result (λ o. IfNone o (IsStill self.old self.new)) }
@@ -306,6 +342,7 @@ impl<N: Namer> Trees<N> {
         ensures makes { IfOk result (λ m. Makes N.id_of self.old self.new (map_of self.old tree) m.tree m.id
             m.objects.items) }
         ensures keeps { OnErr result (Keeps self.old self.new) }
+        ensures names { AreAmong (kept_names self.new) (kept_names self.old) }
         ensures bounded { IfOk result (λ m. IsEmptied self.new) }
         ensures err { IfErr result (ExplainsTree N.id_of (map_of self.old tree)) }
     {
@@ -334,6 +371,7 @@ impl<N: Namer> Trees<N> {
         ensures makes { IfOk result (λ m. Makes N.id_of self.old self.new (map_of self.old tree) m.tree m.id
             m.objects.items) }
         ensures keeps { OnErr result (Keeps self.old self.new) }
+        ensures names { AreAmong (kept_names self.new) (kept_names self.old) }
         ensures emptied { IsEmptied self.new }
         ensures err { IfErr result (ExplainsTree N.id_of (map_of self.old tree)) }
     {

@@ -6,6 +6,8 @@ use Rattle.swh_folders.specs.Forest.{inserted}
 use Rattle.swh_folders.proofs.Arenas.{if_ok, good-more, same-forest}
 use Rattle.swh_folders.proofs.Steps.{inserted-nothing, with-good, forest-with}
 use Rattle.swh_folders.proofs.Orders.{ordered-more}
+use Rattle.swh_folders.proofs.Keeping.{kept-one, among-left}
+use Rattle.swh_folders.specs.Kept.{named}
 use Rattle.swh_folders.proofs.arena.add_some.Goals as goal
 
 pub with_entry-requires-clause-others : goal.with_entry-requires-clause-others
@@ -34,3 +36,12 @@ returns-in_ok-number-in-Some-clause-forest c = λ at k good.
     let tail = ap (λ (n : List ℕ). inserted n (stands at c.in-Some.child) (forest_of (texts new) at c.args.out.items)) c.in_ok-number-in-Some.ensures.number.1
     ∙ ap (inserted c.args.name.now (stands at c.in-Some.child)) (same-forest (texts new) (texts old) at at (length old) k c.args.out.items good c.number.ensures.names.same_names (λ j lt. refl)) in
     rw c.in-Some.is (if_ok c.with_entry.result (λ p is. ap (forest_of (texts new) at) is ∙ forest-with (texts new) e at c.args.out.items ∙ tail) (rw c.as_slice.ensures.value at c.with_entry.ensures))
+
+pub returns-in_err-number-in-Some-clause-kept : goal.returns-in_err-number-in-Some-clause-kept
+returns-in_err-number-in-Some-clause-kept c = rw c.in-Some.is (kept-one c.args.names.now.items c.number.new.self.items c.args.name.now c.number.ensures.one)
+
+pub returns-in_ok-number-in-Some-clause-kept : goal.returns-in_ok-number-in-Some-clause-kept
+returns-in_ok-number-in-Some-clause-kept c = rw c.in-Some.is (kept-one c.args.names.now.items c.number.new.self.items c.args.name.now c.number.ensures.one)
+
+pub returns-in-None-clause-kept : goal.returns-in-None-clause-kept
+returns-in-None-clause-kept c = among-left (texts c.args.names.now.items) (named c.args.name.now c.args.child)

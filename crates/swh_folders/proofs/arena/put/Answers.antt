@@ -7,6 +7,8 @@ use Rattle.swh_entries.specs.Keys.{texts}
 use Rattle.swh_folders.proofs.Arenas.{if_ok, tree-names, arena-names, sound-names, under-sound, put-added, names-in_range}
 use Rattle.swh_folders.proofs.Ordering.{left-ordered}
 use Rattle.swh_folders.proofs.Sounds.{put-sound, folder-sound}
+use Rattle.swh_folders.proofs.Keeping.{among-left}
+use Rattle.swh_folders.specs.Kept.{named}
 use Rattle.swh_folders.proofs.arena.put.Goals as goal
 
 pub returns-in_err-out-clause-good : goal.returns-in_err-out-clause-good
@@ -84,3 +86,6 @@ returns-clause-sound c =
     let whole : IsSound (put c.args.name.now (stands_of (tree_at old nodes) c.args.child) (forest (stands_of (tree_at old nodes) c.args.under))) =
     put-sound c.args.name.now (stands_of (tree_at old nodes) c.args.child) (forest (stands_of (tree_at old nodes) c.args.under)) c.requires.name c.requires.sound (under-sound old nodes c.args.under c.requires.good.sound c.requires.under) in
     if_ok c.seal.result (λ r e. subst IsSoundHere (sym (e ∙ ap folder added)) (folder-sound (put c.args.name.now (stands_of (tree_at old nodes) c.args.child) (forest (stands_of (tree_at old nodes) c.args.under))) whole)) (c.seal.ensures.folder new)
+
+pub returns-in_err-rest-clause-kept : goal.returns-in_err-rest-clause-kept
+returns-in_err-rest-clause-kept c = among-left (texts c.args.names.now.items) (named c.args.name.now c.args.child)

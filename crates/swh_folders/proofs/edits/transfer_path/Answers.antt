@@ -1,4 +1,4 @@
-use Rattle.std.proofs.Common.{length, sym, ap, subst, ◌∙◌, Some}
+use Rattle.std.proofs.Common.{length, sym, ap, subst, ◌∙◌, Some, ◌++◌}
 use Rattle.swh_folders.specs.Arena.{stands_of, tree_at, IsIn}
 use Rattle.swh_folders.specs.Forest.{Stands, found, graft}
 use Rattle.swh_folders.specs.Sound.{IsSoundHere}
@@ -6,6 +6,8 @@ use Rattle.swh_fastlex.specs.Path.{components}
 use Rattle.swh_folders.proofs.Arenas.{same-stands_of}
 use Rattle.swh_folders.proofs.Components.{path-names}
 use Rattle.swh_folders.proofs.EditedRoots.{from-root, to-root, here-sound, found-path, held-none, held-some, transfer-done, some-stands}
+use Rattle.swh_folders.proofs.Keeping.{among-left, kept-wider, kept-then}
+use Rattle.swh_entries.specs.Keys.{texts}
 use Rattle.swh_folders.proofs.edits.transfer_path.Goals as goal
 
 pub find-requires-clause-root : goal.find-requires-clause-root
@@ -74,3 +76,21 @@ returns-clause-map c =
     ((rw (c.as_slice-5.ensures.value, c.in_ok-to.ensures) at c.in_ok-there.ensures.graft)
     ∙ ap (λ (x : Stands). graft t x (stands_of (tree_at c.left_of.new.names.items c.left_of.new.nodes.items) c.in_ok-left.left)) (same ∙ some)
     ∙ ap (λ (z : Stands). graft t (found (components c.args.source.now) y) z) (rw (c.as_slice-4.ensures.value, c.in_ok-from.ensures) at c.in_ok-left.ensures.left))
+
+pub returns-in_err-from-clause-kept : goal.returns-in_err-from-clause-kept
+returns-in_err-from-clause-kept c = among-left (texts c.args.names.now.items) (components c.args.source.now ++ components c.args.target.now)
+
+pub returns-in_err-to-clause-kept : goal.returns-in_err-to-clause-kept
+returns-in_err-to-clause-kept c = among-left (texts c.args.names.now.items) (components c.args.source.now ++ components c.args.target.now)
+
+pub returns-in_default-clause-kept : goal.returns-in_default-clause-kept
+returns-in_default-clause-kept c = among-left (texts c.args.names.now.items) (components c.args.source.now ++ components c.args.target.now)
+
+pub returns-in_err-left-clause-kept : goal.returns-in_err-left-clause-kept
+returns-in_err-left-clause-kept c = kept-wider (texts c.args.names.now.items) (texts c.left_of.new.names.items) (components c.args.source.now) (components c.args.source.now ++ components c.args.target.now) (rw (c.as_slice-4.ensures.value, c.in_ok-from.ensures) at c.left_of.ensures.kept) (among-left (components c.args.source.now) (components c.args.target.now))
+
+pub returns-in_err-there-clause-kept : goal.returns-in_err-there-clause-kept
+returns-in_err-there-clause-kept c = kept-then (texts c.args.names.now.items) (texts c.left_of.new.names.items) (texts c.graft.new.names.items) (components c.args.source.now) (components c.args.target.now) (rw (c.as_slice-4.ensures.value, c.in_ok-from.ensures) at c.left_of.ensures.kept) (rw (c.as_slice-5.ensures.value, c.in_ok-to.ensures) at c.graft.ensures.kept)
+
+pub returns-clause-kept : goal.returns-clause-kept
+returns-clause-kept c = kept-then (texts c.args.names.now.items) (texts c.left_of.new.names.items) (texts c.graft.new.names.items) (components c.args.source.now) (components c.args.target.now) (rw (c.as_slice-4.ensures.value, c.in_ok-from.ensures) at c.left_of.ensures.kept) (rw (c.as_slice-5.ensures.value, c.in_ok-to.ensures) at c.graft.ensures.kept)

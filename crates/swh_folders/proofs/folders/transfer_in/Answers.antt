@@ -16,3 +16,9 @@ returns-in_default-clause-tallied c = tallied-grown c.args.base c.args.folders.n
 
 pub settled-requires-clause-tallied : goal.settled-requires-clause-tallied
 settled-requires-clause-tallied c = tallied-grown c.args.base c.args.folders.now _ c.requires.tallied c.transfer_path.ensures.grows refl refl
+
+pub returns-in_err-settled-clause-kept : goal.returns-in_err-settled-clause-kept
+returns-in_err-settled-clause-kept c = rw c.settled.ensures.names c.transfer_path.ensures.kept
+
+pub returns-clause-kept : goal.returns-clause-kept
+returns-clause-kept c = rw c.settled.ensures.names c.transfer_path.ensures.kept

@@ -7,3 +7,6 @@ returns-in_err-there-clause-tallied c = tallied-grown c.args.base c.args.folders
 
 pub settled-requires-clause-tallied : goal.settled-requires-clause-tallied
 settled-requires-clause-tallied c = tallied-grown c.args.base c.args.folders.now _ c.requires.tallied c.sealed.ensures.grows refl refl
+
+pub returns-clause-kept : goal.returns-clause-kept
+returns-clause-kept c = rw c.settled.ensures.names c.sealed.ensures.kept

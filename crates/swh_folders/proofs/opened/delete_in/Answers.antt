@@ -1,12 +1,15 @@
-use Rattle.std.proofs.Common.{ℕ, List, subst, inr}
+use Rattle.std.proofs.Common.{ℕ, List, subst, inr, ◌++◌, ap, ◌∙◌}
 use Rattle.std.specs.List.{AllByRecursion}
 use Rattle.swh_base.specs.Directory.{IsEntryName}
-use Rattle.swh_folders.specs.Opened.{lent_path, start_map}
+use Rattle.swh_folders.specs.Opened.{lent_path, start_map, open_path, folder_path}
 use Rattle.swh_folders.proofs.Arenas.{if_ok}
 use Rattle.swh_folders.proofs.Changes.{last-name}
 use Rattle.swh_folders.proofs.Closings.{stays-self, stays-names, bounded-names}
 use Rattle.swh_folders.proofs.Components.{path-names}
 use Rattle.swh_folders.proofs.Tallies.{tallied-same}
+use Rattle.swh_folders.proofs.Keeping.{among-on, among-left, front-among, path-among}
+use Rattle.swh_entries.specs.Keys.{texts}
+use Rattle.swh_fastlex.specs.Path.{components}
 use Rattle.swh_folders.proofs.opened.delete_in.Goals as goal
 
 pub deleted_here-requires-clause-name : goal.deleted_here-requires-clause-name
@@ -39,3 +42,21 @@ returns-in_ok-root-in-In-clause-tallied c = tallied-same c.args.base c.closed.ne
 
 pub returns-in-At-clause-tallied : goal.returns-in-At-clause-tallied
 returns-in-At-clause-tallied c = tallied-same c.args.base c.args.folders.now c.deleted_there-in-At.new.folders c.requires.tallied c.deleted_there-in-At.ensures.nodes c.deleted_there-in-At.ensures.counts.counted c.deleted_there-in-At.ensures.counts.entries
+
+pub returns-in_err-deleted_here-in-In-clause-kept : goal.returns-in_err-deleted_here-in-In-clause-kept
+returns-in_err-deleted_here-in-In-clause-kept c = among-on (texts c.deleted_here.new.folders.names.items) (texts c.args.folders.now.names.items) (texts c.args.folders.now.names.items ++ open_path c.args.start) c.deleted_here.ensures.kept (among-left (texts c.args.folders.now.names.items) (open_path c.args.start))
+
+pub returns-then-same-clause-kept : goal.returns-then-same-clause-kept
+returns-then-same-clause-kept c = among-on (texts c.deleted_here.new.folders.names.items) (texts c.args.folders.now.names.items) (texts c.args.folders.now.names.items ++ open_path c.args.start) c.deleted_here.ensures.kept (among-left (texts c.args.folders.now.names.items) (open_path c.args.start))
+
+pub returns-then-same-clause-path : goal.returns-then-same-clause-path
+returns-then-same-clause-path c = path-among (folder_path c.in_ok-deleted_here-in-In.field-0.path) (lent_path c.split_path.result.0) (components c.args.path.now) (ap folder_path c.in_ok-deleted_here-in-In.ensures.path ∙ c.is_same_folder-same.ensures c.if-same.true) (front-among (components c.args.path.now) (lent_path c.split_path.result.0) c.split_path.result.1.now c.split_path.ensures)
+
+pub returns-in_err-root-in-In-clause-kept : goal.returns-in_err-root-in-In-clause-kept
+returns-in_err-root-in-In-clause-kept c = rw c.in-In.is c.closed.ensures.kept
+
+pub returns-in_ok-root-in-In-clause-kept : goal.returns-in_ok-root-in-In-clause-kept
+returns-in_ok-root-in-In-clause-kept c = rw c.in-In.is (among-on (texts c.deleted_there.new.folders.names.items) (texts c.closed.new.folders.names.items) (texts c.args.folders.now.names.items ++ folder_path c.in-In.opened.path) c.deleted_there.ensures.kept c.closed.ensures.kept)
+
+pub returns-in-At-clause-kept : goal.returns-in-At-clause-kept
+returns-in-At-clause-kept c = among-on (texts c.deleted_there-in-At.new.folders.names.items) (texts c.args.folders.now.names.items) (texts c.args.folders.now.names.items ++ open_path c.args.start) c.deleted_there-in-At.ensures.kept (among-left (texts c.args.folders.now.names.items) (open_path c.args.start))

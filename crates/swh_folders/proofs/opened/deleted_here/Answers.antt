@@ -8,6 +8,7 @@ use Rattle.swh_folders.proofs.Changes.{names-with, delete-in, delete-nothing}
 use Rattle.swh_folders.proofs.EditedRoots.{some-stands}
 use Rattle.swh_folders.proofs.Openings.{stands-own}
 use Rattle.swh_folders.proofs.Orders.{ordered}
+use Rattle.swh_folders.proofs.Keeping.{among-self, kept-none}
 use Rattle.swh_folders.proofs.opened.deleted_here.Goals as goal
 
 pub child_in-requires-clause-ordered : goal.child_in-requires-clause-ordered
@@ -33,3 +34,9 @@ returns-in-None-clause-map c =
     let nodes = c.args.folders.now.nodes.items in
     let none = (rw c.as_slice.ensures.value at c.in-None.ensures.child) (tree_at names nodes) c.requires.opened.sound in
     delete-nothing c.args.folders.now c.args.opened c.args.name.now c.requires.good c.requires.opened c.requires.name (sym none)
+
+pub returns-in-None-clause-kept : goal.returns-in-None-clause-kept
+returns-in-None-clause-kept c = among-self (texts c.args.folders.now.names.items)
+
+pub returns-in-Some-clause-kept : goal.returns-in-Some-clause-kept
+returns-in-Some-clause-kept c = kept-none (texts c.args.folders.now.names.items) (texts c.edited.new.folders.names.items) c.edited.ensures.kept

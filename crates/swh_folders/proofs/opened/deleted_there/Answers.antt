@@ -11,6 +11,8 @@ use Rattle.swh_folders.proofs.Changes.{front-names, last-name, delete-in, stands
 use Rattle.swh_folders.proofs.Components.{path-names}
 use Rattle.swh_folders.proofs.EditedRoots.{from-root, here-sound, deleted-none, some-stands}
 use Rattle.swh_folders.proofs.Openings.{stands-taken}
+use Rattle.swh_folders.proofs.Keeping.{among-none, front-among, path-among, among-self, kept-none}
+use Rattle.swh_entries.specs.Keys.{texts}
 use Rattle.swh_folders.proofs.opened.deleted_there.Goals as goal
 
 pub find-requires-clause-root : goal.find-requires-clause-root
@@ -46,3 +48,24 @@ returns-clause-map c =
     let some : child_at name (own_forest names nodes o) ≢ Nothing = λ e. some-stands (tree_at names nodes) c.in-Some._child (there ∙ stands-there names nodes o c.args.root (components c.args.path.now) name y is (c.root_of.ensures.same (tree_at names nodes)) own ∙ e) in
     let stands = stands-taken names nodes o c.args.root (root_map c.args.folders.now c.args.root) c.requires.good c.requires.root c.in_ok-opened.ensures.root own refl in
     delete-in c.args.folders.now c.edited.new.folders o c.in_ok-edited.field-0 (root_map c.args.folders.now c.args.root) (components c.args.path.now) name c.requires.good c.edited.ensures.names c.edited.ensures.nodes stands is (path-names c.args.path.now c.requires.path) some c.in_ok-edited.ensures.root c.in_ok-edited.ensures.path c.in_ok-edited.ensures.own
+
+pub returns-in_err-parts-clause-kept : goal.returns-in_err-parts-clause-kept
+returns-in_err-parts-clause-kept c = among-self (texts c.args.folders.now.names.items)
+
+pub returns-in_default-clause-kept : goal.returns-in_default-clause-kept
+returns-in_default-clause-kept c = among-self (texts c.args.folders.now.names.items)
+
+pub returns-in_default-clause-path : goal.returns-in_default-clause-path
+returns-in_default-clause-path c = among-none (components c.args.path.now)
+
+pub returns-in_err-opened-clause-kept : goal.returns-in_err-opened-clause-kept
+returns-in_err-opened-clause-kept c = among-self (texts c.args.folders.now.names.items)
+
+pub returns-in_err-edited-clause-kept : goal.returns-in_err-edited-clause-kept
+returns-in_err-edited-clause-kept c = kept-none (texts c.args.folders.now.names.items) (texts c.edited.new.folders.names.items) c.edited.ensures.kept
+
+pub returns-clause-kept : goal.returns-clause-kept
+returns-clause-kept c = kept-none (texts c.args.folders.now.names.items) (texts c.edited.new.folders.names.items) c.edited.ensures.kept
+
+pub returns-clause-path : goal.returns-clause-path
+returns-clause-path c = path-among (folder_path c.in_ok-edited.field-0.path) (lent_path c.split_path.result.0) (components c.args.path.now) (ap folder_path c.in_ok-edited.ensures.path ∙ c.in_ok-opened.ensures.path) (front-among (components c.args.path.now) (lent_path c.split_path.result.0) c.split_path.result.1.now c.split_path.ensures)

@@ -5,6 +5,9 @@ use Rattle.swh_folders.specs.Roots.{root_forest}
 use Rattle.swh_folders.specs.Working.{root_map}
 use Rattle.swh_folders.proofs.Arenas.{if_ok3}
 use Rattle.swh_folders.proofs.Openings.{stands-own, stands-taken}
+use Rattle.swh_folders.proofs.Keeping.{among-left}
+use Rattle.swh_entries.specs.Keys.{texts}
+use Rattle.swh_folders.specs.Opened.{open_path}
 use Rattle.swh_folders.proofs.opened.opened_at.Goals as goal
 
 pub returns-then-same-clause-stands : goal.returns-then-same-clause-stands
@@ -29,3 +32,15 @@ returns-in-At-clause-stands c =
     stands-taken names nodes o root (root_map c.args.folders.now root) c.requires.good (rw c.in-At.is at c.requires.start) is
     (own ∙ ap (λ (p : List (List ℕ)). forest (found p (IsFolder (root_forest (tree_at names nodes) root)))) (sym path)) refl)
     c.taken-in-At.ensures.path c.taken-in-At.ensures.root (rw (c.as_slice-names-in-At.ensures.value, c.as_slice-nodes-in-At.ensures.value) at c.taken-in-At.ensures.own))
+
+pub returns-then-same-clause-kept : goal.returns-then-same-clause-kept
+returns-then-same-clause-kept c = among-left (texts c.args.folders.now.names.items) (open_path c.args.start)
+
+pub returns-in_err-root-in-In-clause-kept : goal.returns-in_err-root-in-In-clause-kept
+returns-in_err-root-in-In-clause-kept c = rw c.in-In.is c.closed.ensures.kept
+
+pub returns-in_ok-root-in-In-clause-kept : goal.returns-in_ok-root-in-In-clause-kept
+returns-in_ok-root-in-In-clause-kept c = rw c.in-In.is c.closed.ensures.kept
+
+pub returns-in-At-clause-kept : goal.returns-in-At-clause-kept
+returns-in-At-clause-kept c = among-left (texts c.args.folders.now.names.items) (open_path c.args.start)

@@ -1,7 +1,11 @@
-use Rattle.std.proofs.Common.{rules, ◌≡◌, ℕ, length, take, refl, ap, ◌∙◌}
+use Rattle.std.proofs.Common.{rules, ◌≡◌, ℕ, length, take, refl, ap, ◌∙◌, ◌++◌}
 use Rattle.swh_folders.specs.Forest.{flat}
 use Rattle.swh_folders.proofs.Changes.{IsAgain, open-again, opened-again, stays-again}
 use Rattle.swh_folders.proofs.Tallies.{tallied-same}
+use Rattle.swh_folders.proofs.Keeping.{among-left}
+use Rattle.swh_entries.specs.Keys.{texts}
+use Rattle.swh_folders.specs.Opened.{folder_path}
+use Rattle.swh_fastlex.specs.Path.{components}
 use Rattle.swh_folders.proofs.opened.transfer_open.Goals as goal
 
 pub returns-in_default-clause-stays : goal.returns-in_default-clause-stays
@@ -44,3 +48,12 @@ returns-in_default-clause-tallied c =
     let nodes = c.transfer_sealed.new.nodes.items in
     let n : c.len-count.result ≡ length c.args.folders.now.nodes.items = search rules in
     tallied-same c.args.base c.args.folders.now _ c.requires.tallied (c.truncate.ensures.items ∙ ap (λ (k : ℕ). take k nodes) n ∙ c.transfer_sealed.ensures.grows.lists) refl refl
+
+pub returns-in_err-again-clause-kept : goal.returns-in_err-again-clause-kept
+returns-in_err-again-clause-kept c = among-left (texts c.args.folders.now.names.items) (folder_path c.args.opened.path ++ (components c.args.source.now ++ components c.args.target.now))
+
+pub returns-in_err-settled-clause-kept : goal.returns-in_err-settled-clause-kept
+returns-in_err-settled-clause-kept c = rw c.settled.ensures.names c.transfer_sealed.ensures.kept
+
+pub returns-clause-kept : goal.returns-clause-kept
+returns-clause-kept c = rw c.settled.ensures.names c.transfer_sealed.ensures.kept

@@ -1,11 +1,13 @@
-use Rattle.std.proofs.Common.{◌≡◌, ◌+◌, ◌-◌, ◌<◌, ℕ, take, drop, length, get_or, [], sym, ap, subst, ◌∙◌, arith, None}
-use Rattle.std.proofs.lemmas.List.{get_or_default}
+use Rattle.std.proofs.Common.{rules, List, ◌≡◌, ◌+◌, ◌-◌, ◌<◌, ℕ, take, drop, length, get_or, [], sym, ap, subst, ◌∙◌, arith, None}
+use Rattle.std.proofs.lemmas.List.{get_or_default, drop_all}
 use Rattle.std.proofs.lemmas.List.Elements.{All-from_recursion}
 use Rattle.swh_base.specs.Directory.{IsEntryName}
 use Rattle.swh_folders.specs.Forest.{found, graft}
 use Rattle.swh_folders.specs.Arena.{stands_of, tree_at, parts_of, AreFronts}
 use Rattle.swh_folders.proofs.Arenas.{same-stands_of}
-use Rattle.swh_folders.proofs.Walks.{graft-more, component-at, length-parts_of, put-along, grows-more}
+use Rattle.swh_folders.proofs.Walks.{graft-more, component-at, length-parts_of, put-along, grows-more, grows-none}
+use Rattle.swh_entries.specs.Keys.{texts}
+use Rattle.swh_folders.proofs.Keeping.{among-left, kept-on, kept-wider, named-among, component-among}
 use Rattle.swh_folders.proofs.path.graft.Goals as goal
 
 pub up-preserved : goal.up-preserved
@@ -36,6 +38,8 @@ up-preserved c =
       good = c.put.ensures.good;
       sound = c.in_ok-here.ensures.sound;
       grows = grows-more c.args.names.now.items c.up.names.items c.put.new.names.items c.args.nodes.now.items c.up.nodes.items c.put.new.nodes.items c.up.invariant.grows c.put.ensures.grows;
+      kept = kept-on (texts c.args.names.now.items) (texts c.up.names.items) (texts c.put.new.names.items) comps c.up.invariant.kept
+          (kept-wider (texts c.up.names.items) (texts c.put.new.names.items) _ comps c.put.ensures.kept (named-among _ c.up.here comps (component-among c.args.path.now j _ within)));
       inside = c.in_ok-here.ensures.inside;
       grafted = c.in_ok-here.ensures.put
           ∙ put-along _ (get_or comps j []) (stands_of now c.up.here) (graft (drop (j + 1) comps) x (found (take (j + 1) comps) y)) (stands_of now c.index.result.now) (found (take j comps) y) (sym (component-at c.args.path.now j _ within)) before front
@@ -47,3 +51,31 @@ put-requires-clause-name c =
     let within : c.up.left - 1 < length c.args.path.now = let w = c.up.invariant.within in omega arith in
     let among : c.up.left - 1 < length (parts_of c.args.path.now) = rw (length-parts_of c.args.path.now) within in
     subst IsEntryName (component-at c.args.path.now (c.up.left - 1) _ within) (All-from_recursion IsEntryName (parts_of c.args.path.now) c.requires.path (c.up.left - 1) [] among)
+
+pub returns-in_err-fronts-clause-kept : goal.returns-in_err-fronts-clause-kept
+returns-in_err-fronts-clause-kept c = among-left (texts c.args.names.now.items) (parts_of c.args.path.now)
+
+pub returns-in_err-here-clause-kept : goal.returns-in_err-here-clause-kept
+returns-in_err-here-clause-kept c =
+    let comps = parts_of c.args.path.now in
+    let within : c.up.left - 1 < length c.args.path.now = let w = c.up.invariant.within in omega arith in
+    kept-on (texts c.args.names.now.items) (texts c.up.names.items) (texts c.put.new.names.items) comps c.up.invariant.kept
+    (kept-wider (texts c.up.names.items) (texts c.put.new.names.items) _ comps c.put.ensures.kept (named-among _ c.up.here comps (component-among c.args.path.now (c.up.left - 1) _ within)))
+
+pub up-init : goal.up-init
+up-init c =
+    let names = c.args.names.now.items in
+    let nodes = c.args.nodes.now.items in
+    let comps = parts_of c.args.path.now in
+    let x = stands_of (tree_at names nodes) c.args.child in
+    let y = found (take (length c.args.path.now) comps) (stands_of (tree_at names nodes) c.args.root) in
+    let none : drop (length c.args.path.now) comps ≡ [] = drop_all (length c.args.path.now) comps (omega (arith, length-parts_of c.args.path.now)) in
+    record {
+      within = search rules;
+      good = c.requires.good;
+      sound = c.requires.sound;
+      grows = grows-none names nodes;
+      kept = among-left (texts names) comps;
+      inside = c.requires.child;
+      grafted = sym (ap (λ (p : List (List ℕ)). graft p x y) none);
+    }

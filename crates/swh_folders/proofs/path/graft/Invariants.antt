@@ -1,7 +1,9 @@
-use Rattle.std.proofs.Common.{◌≡◌, ◌≤◌, take, drop, length}
+use Rattle.std.proofs.Common.{◌≡◌, ◌≤◌, ◌++◌, take, drop, length}
+use Rattle.swh_entries.specs.Keys.{texts}
 use Rattle.swh_folders.specs.Forest.{found, graft}
 use Rattle.swh_folders.specs.Sound.{IsSoundHere}
 use Rattle.swh_folders.specs.Arena.{stands_of, tree_at, parts_of, IsIn, Grows}
+use Rattle.swh_folders.specs.Kept.{AreAmong}
 use Rattle.swh_folders.specs.Roots.{IsGood}
 use Rattle.swh_folders.proofs.path.graft.Given as goal
 
@@ -11,6 +13,7 @@ invariant-up l = record {
   good : IsGood l.names.items l.nodes.items;
   sound : IsSoundHere (stands_of (tree_at l.names.items l.nodes.items) l.here);
   grows : Grows l.fn.names.items l.fn.nodes.items l.names.items l.nodes.items;
+  kept : AreAmong (texts l.names.items) (texts l.fn.names.items ++ parts_of l.path);
   inside : IsIn (length l.nodes.items) l.here;
   grafted : stands_of (tree_at l.names.items l.nodes.items) l.here ≡ graft (drop l.left (parts_of l.path)) (stands_of (tree_at l.fn.names.items l.fn.nodes.items) l.fn.child) (found (take l.left (parts_of l.path)) (stands_of (tree_at l.fn.names.items l.fn.nodes.items) l.fn.root));
 }

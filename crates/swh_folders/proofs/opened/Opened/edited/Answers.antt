@@ -9,6 +9,8 @@ use Rattle.swh_folders.proofs.Ordering.{left-ordered}
 use Rattle.swh_folders.proofs.Orders.{ordered}
 use Rattle.swh_folders.proofs.Sounds.{put-sound}
 use Rattle.swh_folders.proofs.Steps.{forest-without, without-good}
+use Rattle.swh_folders.proofs.Keeping.{among-left}
+use Rattle.swh_folders.specs.Kept.{named}
 use Rattle.swh_folders.proofs.opened.Opened.edited.Goals as goal
 
 pub kept-requires-clause-ordered : goal.kept-requires-clause-ordered
@@ -56,3 +58,6 @@ returns-clause-own c =
     let is : c.in_ok-rest.rest.items ≡ entries_without (texts names) c.args.name.now es = (rw c.as_slice.ensures.value at c.in_ok-rest.ensures) (tree_at names nodes) c.requires.opened.sound in
     let kept : AreGood (length names) (length nodes) c.in_ok-rest.rest.items = subst (λ (r : List Entry). AreGood (length names) (length nodes) r) (sym is) (without-good (texts names) c.args.name.now (length names) (length nodes) es c.requires.opened.entries) in
     edited-own names new nodes es c.args.name.now c.args.child c.in_ok-rest.rest.items c.in_ok-node.node.items c.requires.good c.add_some.ensures.names c.requires.opened.entries c.requires.child is (c.in_ok-node.ensures.forest (tree_at new nodes) (length nodes) kept)
+
+pub returns-in_err-rest-clause-kept : goal.returns-in_err-rest-clause-kept
+returns-in_err-rest-clause-kept c = among-left (texts c.args.folders.now.names.items) (named c.args.name.now c.args.child)

@@ -7,6 +7,8 @@ use Rattle.swh_folders.specs.Roots.{root_forest}
 use Rattle.swh_folders.proofs.Closings.{graft-here, root-grown}
 use Rattle.swh_folders.proofs.Walks.{grows-more}
 use Rattle.swh_folders.proofs.Workings.{below-grown}
+use Rattle.swh_folders.proofs.Keeping.{among-left}
+use Rattle.swh_folders.specs.Opened.{folder_path}
 use Rattle.swh_folders.proofs.opened.Opened.sealed.Goals as goal
 
 pub returns-in_err-child-clause-grows : goal.returns-in_err-child-clause-grows
@@ -46,3 +48,18 @@ returns-in-None-clause-grows c = c.seal.ensures.grows c.args.names.now.items
 
 pub returns-in-None-clause-inside : goal.returns-in-None-clause-inside
 returns-in-None-clause-inside c = c.number_of-in-None.ensures.inside (length c.seal.new.nodes.items) c.in_ok-child.ensures.inside
+
+pub returns-in_err-child-clause-kept : goal.returns-in_err-child-clause-kept
+returns-in_err-child-clause-kept c = among-left (texts c.args.names.now.items) (folder_path c.args.self.path)
+
+pub returns-in_err-parts-in-Some-clause-kept : goal.returns-in_err-parts-in-Some-clause-kept
+returns-in_err-parts-in-Some-clause-kept c = among-left (texts c.args.names.now.items) (folder_path c.args.self.path)
+
+pub returns-in-None-clause-kept : goal.returns-in-None-clause-kept
+returns-in-None-clause-kept c = among-left (texts c.args.names.now.items) (folder_path c.args.self.path)
+
+pub returns-in_err-there-in-Some-clause-kept : goal.returns-in_err-there-in-Some-clause-kept
+returns-in_err-there-in-Some-clause-kept c = rw c.in-Some.is (rw (c.as_slice-in-Some.ensures.value, c.in_ok-parts-in-Some.ensures, c.as_slice.ensures.value) at c.graft.ensures.kept)
+
+pub returns-in_ok-there-in-Some-clause-kept : goal.returns-in_ok-there-in-Some-clause-kept
+returns-in_ok-there-in-Some-clause-kept c = rw c.in-Some.is (rw (c.as_slice-in-Some.ensures.value, c.in_ok-parts-in-Some.ensures, c.as_slice.ensures.value) at c.graft.ensures.kept)

@@ -9,6 +9,8 @@ use Rattle.swh_trees.specs.Makes.{Makes, ExplainsTree}
 use Rattle.swh_folders.proofs.Workings.{stays-on}
 use Rattle.swh_trees.proofs.Bounds.{emptied}
 use Rattle.swh_trees.proofs.Parts.{bare-stays, keeps-seen, keeps-stays, on-err, explained, IsMaking, makes-done, makes-from, start-of}
+use Rattle.swh_folders.specs.Opened.{open_path}
+use Rattle.swh_trees.proofs.Namings.{start-path, names-closed}
 use Rattle.swh_trees.proofs.trees.Trees.make_objects.Goals as goal
 
 pub root_from-requires-clause-start : goal.root_from-requires-clause-start
@@ -103,3 +105,27 @@ returns-clause-makes g c =
 
 pub returns-clause-bounded : goal.returns-clause-bounded
 returns-clause-bounded g c = rw c.take.ensures.after (emptied c.make_folders.new.folders c.make_folders.new.ids.items c.in_ok-number.ensures.all c.in_ok-number.ensures.most c.in_ok-number.ensures.room)
+
+pub returns-in_err-there-clause-names : goal.returns-in_err-there-clause-names
+returns-in_err-there-clause-names g c =
+    let path = open_path c.start_with-start.result in
+    let own = start-path c.self.inside.opened c.take.result c.args.tree.number c.len.result c.start_with-start.result c.take.ensures.value c.start_with-start.ensures in
+    rw c.take.ensures.after (names-closed _ c.self.inside.folders c.root_from.new.folders c.self.inside.opened c.self.inside.ids.items path c.self.view_is own c.root_from.ensures.kept)
+
+pub returns-in_err-root-clause-names : goal.returns-in_err-root-clause-names
+returns-in_err-root-clause-names g c =
+    let path = open_path c.start_with-start.result in
+    let own = start-path c.self.inside.opened c.take.result c.args.tree.number c.len.result c.start_with-start.result c.take.ensures.value c.start_with-start.ensures in
+    rw c.take.ensures.after (names-closed _ c.self.inside.folders c.root_number.new.folders c.self.inside.opened c.self.inside.ids.items path c.self.view_is own (rw c.root_number.ensures.names c.root_from.ensures.kept))
+
+pub returns-in_err-number-clause-names : goal.returns-in_err-number-clause-names
+returns-in_err-number-clause-names g c =
+    let path = open_path c.start_with-start.result in
+    let own = start-path c.self.inside.opened c.take.result c.args.tree.number c.len.result c.start_with-start.result c.take.ensures.value c.start_with-start.ensures in
+    rw c.take.ensures.after (names-closed _ c.self.inside.folders c.make_folders.new.folders c.self.inside.opened c.self.inside.ids.items path c.self.view_is own (rw (c.make_folders.ensures.names, c.root_number.ensures.names) c.root_from.ensures.kept))
+
+pub returns-clause-names : goal.returns-clause-names
+returns-clause-names g c =
+    let path = open_path c.start_with-start.result in
+    let own = start-path c.self.inside.opened c.take.result c.args.tree.number c.len.result c.start_with-start.result c.take.ensures.value c.start_with-start.ensures in
+    rw c.take.ensures.after (names-closed _ c.self.inside.folders c.make_folders.new.folders c.self.inside.opened c.self.inside.ids.items path c.self.view_is own (rw (c.make_folders.ensures.names, c.root_number.ensures.names) c.root_from.ensures.kept))

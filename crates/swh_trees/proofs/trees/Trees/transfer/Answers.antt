@@ -1,11 +1,16 @@
-use Rattle.std.proofs.Common.{rules, ◌≡◌, ◌≢◌, [], length, ap, sym, subst, ◌∙◌}
+use Rattle.std.proofs.Common.{rules, ◌≡◌, ◌≢◌, [], length, ap, sym, subst, ◌∙◌, ◌++◌, None}
 use Rattle.swh_fastlex.specs.Path.{components}
 use Rattle.swh_folders.specs.PathMap.{PathMap, held}
 use Rattle.swh_folders.specs.Transfer.{transferred}
 use Rattle.swh_folders.specs.Working.{count_of}
 use Rattle.swh_folders.proofs.Workings.{stays-on}
-use Rattle.swh_trees.proofs.Bounds.{bounded-seen, still-seen}
+use Rattle.swh_trees.proofs.Bounds.{bounded-seen, still-seen, emptied}
 use Rattle.swh_trees.proofs.Parts.{keeps-seen, number-start, stands-for, stands-start, start-of}
+use Rattle.swh_folders.specs.Opened.{open_path}
+use Rattle.swh_folders.proofs.Keeping.{among-none, among-left, path-among}
+use Rattle.swh_trees.specs.Held.{opened_of, opened_path}
+use Rattle.swh_trees.proofs.Namings.{start-path, path-opened, names-changed}
+use Rattle.swh_folders.specs.Kept.{AreAmong}
 use Rattle.swh_trees.proofs.trees.Trees.transfer.Goals as goal
 
 pub transfer_from-requires-clause-start : goal.transfer_from-requires-clause-start
@@ -73,3 +78,31 @@ returns-in-Ok-moved-clause-bounded g c =
 pub returns-in-Err-moved-clause-still : goal.returns-in-Err-moved-clause-still
 returns-in-Err-moved-clause-still g c =
     still-seen _ c.self.inside.folders c.transfer_from.new.folders c.self.inside.opened _ c.self.inside.ids.items c.self.view_is (rw c.in-Err-moved.is at c.in-Ok.ensures.lists) (rw c.in-Err-moved.is at c.in-Ok.ensures.counts)
+
+pub returns-in-Err-clause-names : goal.returns-in-Err-clause-names
+returns-in-Err-clause-names g c =
+    let path = open_path c.start_with-start.result in
+    let own = start-path c.self.inside.opened c.take.result c.args.tree.number c.len.result c.start_with-start.result c.take.ensures.value c.start_with-start.ensures in
+    let given = components c.args.source.now ++ components c.args.target.now in
+    rw c.take.ensures.after (names-changed _ c.self.inside.folders c.drop_unmade.new.folders c.self.inside.opened None c.self.inside.ids.items path given c.self.view_is own (rw c.drop_unmade.ensures.names c.transfer_from.ensures.kept) (among-none (path ++ given)))
+
+pub returns-in-Ok-moved-clause-names : goal.returns-in-Ok-moved-clause-names
+returns-in-Ok-moved-clause-names g c =
+    let path = open_path c.start_with-start.result in
+    let own = start-path c.self.inside.opened c.take.result c.args.tree.number c.len.result c.start_with-start.result c.take.ensures.value c.start_with-start.ensures in
+    let given = components c.args.source.now ++ components c.args.target.now in
+    rw c.take.ensures.after (names-changed _ c.self.inside.folders c.transfer_from.new.folders c.self.inside.opened None c.self.inside.ids.items path given c.self.view_is own c.transfer_from.ensures.kept (among-none (path ++ given)))
+
+pub returns-in-Err-moved-clause-names : goal.returns-in-Err-moved-clause-names
+returns-in-Err-moved-clause-names g c =
+    let path = open_path c.start_with-start.result in
+    let own = start-path c.self.inside.opened c.take.result c.args.tree.number c.len.result c.start_with-start.result c.take.ensures.value c.start_with-start.ensures in
+    let given = components c.args.source.now ++ components c.args.target.now in
+    let l = c.in-Err-moved.left in
+    let left : AreAmong (opened_path (opened_of l)) (path ++ given) = path-among (opened_path (opened_of l)) path (path ++ given) (path-opened l ∙ (rw c.in-Err-moved.is at c.in-Ok.ensures.path)) (among-left path given) in
+    rw c.parts_of-opened.ensures.opened (names-changed _ c.self.inside.folders c.transfer_from.new.folders c.self.inside.opened (opened_of l) c.self.inside.ids.items path given c.self.view_is own c.transfer_from.ensures.kept left)
+
+pub returns-in-Err-clause-failed : goal.returns-in-Err-clause-failed
+returns-in-Err-clause-failed g c =
+    let n : c.len-base.result ≡ length c.self.inside.ids.items = search rules in
+    rw c.take.ensures.after (emptied c.drop_unmade.new.folders c.self.inside.ids.items (sym n ∙ c.drop_unmade.ensures.all) c.drop_unmade.ensures.most c.drop_unmade.ensures.room)
