@@ -42,7 +42,7 @@ module _ (id : Kind → List ℕ → List ℕ) where
   then_makes a b o (inl h) = inl (Contains-append_right a.objects b.objects o h)
   then_makes a b o (inr h) = inr (h.0, Contains-append_right a.trees b.trees h.0 h.1, h.2)
 
-  steps_keep : (m n : Making) (cs : List Command) (o : Made) → steps id m cs ≡ Ok n → Makes id m o → Makes id n o
+  pub steps_keep : (m n : Making) (cs : List Command) (o : Made) → steps id m cs ≡ Ok n → Makes id m o → Makes id n o
   steps_keep m n [] o e h = let same : m ≡ n = cc in subst (λ (x : Making). Makes id x o) same h
   steps_keep m n (c ∷ cs) o e h = on (step id m.aims c) (λ x f. steps_keep (then id m x) n cs o f (then_keeps m x o h)) e
     where

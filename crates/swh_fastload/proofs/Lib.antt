@@ -13,3 +13,4 @@ pub mod MadeKinds
 pub mod Progresses
 pub mod Readings
 pub mod Meanings
+pub mod Givings

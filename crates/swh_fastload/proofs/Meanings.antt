@@ -1,11 +1,9 @@
 -- What an input means of which all commands were carried out.
 use Rattle.std.proofs.Common.{◌≡◌, ◌⊎◌, ◌↔◌, ℕ, ◌≤◌, inl, inr, false, List, [], ◌∷◌, ◌++◌, Option, Contains, length, sym, ap, ◌∙◌, subst}
-use Rattle.std.specs.Prelude.{◌≢◌, Result, Ok, Err, IfOk, IfErr}
+use Rattle.std.specs.Prelude.{◌≢◌, Result}
 use Rattle.std.specs.List.{AllByRecursion}
 use Rattle.std.proofs.lemmas.List.{map-append, append-nil}
 use Rattle.std.proofs.lemmas.List.Elements.{Contains-append_left, Contains-append_right, Contains-append_cases}
-use Rattle.swh_outside.specs.Faults.{Rose}
-use Rattle.swh_outside.specs.Views.{Sources}
 use Rattle.swh_base.specs.Limits.{body_limit}
 use Rattle.swh_base.specs.declared.kind.Kind.{Kind}
 use Rattle.swh_base.specs.declared.kind.Kind.TheVariants.{Snapshot}
@@ -18,21 +16,17 @@ use Rattle.swh_fastrows.specs.Outcome.{IsStreamWithin}
 use Rattle.swh_fastread.proofs.Outcomes.{stream_carries, carries_with}
 use Rattle.swh_fastmeaning.specs.declared.feed_fault.FeedFault.{FeedFault}
 use Rattle.swh_fastmeaning.specs.declared.feed_fault.FeedFault.TheVariants.{BadStream as BadFeed, Limit as PassesBody, Memory as FeedMemory}
-use Rattle.swh_made.specs.declared.objects.Objects.{Objects}
 use Rattle.swh_fastmeaning.specs.Aims.{AllAims}
 use Rattle.swh_fastmeaning.specs.Commands.{Making, Makes}
 use Rattle.swh_fastmeaning.specs.Ending.{refs_limit, EndsParts, PassesEnd, ExplainsEnd}
 use Rattle.swh_fastmeaning.specs.Feeding.{Loading}
 use Rattle.swh_made.specs.Giving.{AreNew}
 use Rattle.swh_fastload.specs.Input.{beginning, MeansStream, Means, Breaks, MayBreak}
-use Rattle.swh_fastload.specs.Loaded.{making_of}
+use Rattle.swh_fastload.specs.Giving.{meaning_of}
 use Rattle.swh_made.specs.Making.{made_from, made, names_of_made}
-use Rattle.swh_fastload.specs.declared.bad.InputFault.{InputFault}
-use Rattle.swh_fastload.specs.declared.bad.InputFault.TheVariants.{Bad, ReadFault, Memory}
-use Rattle.swh_fastload.specs.Reading.{feed_fault, HasRead, FailsSo, BreaksSo, IsQuiet}
-use Rattle.swh_fastload.specs.Sourced.{MeansLeft, ExplainsSource}
+use Rattle.swh_fastload.specs.Reading.{feed_fault, HasRead, BreaksSo, IsQuiet}
 use Rattle.swh_fastmeaning.specs.Snapshots.{refs_of, snapshot_of}
-use Rattle.swh_made.specs.Whole.{names_of, AreWhole, HasAllThatIsReached}
+use Rattle.swh_made.specs.Whole.{names_of, AreWhole}
 use Rattle.swh_made.proofs.Elements.{first_or_later, first_is, none_is, from_map, each_is}
 use Rattle.swh_made.proofs.Givens.{new_push}
 use Rattle.swh_fastload.proofs.Readings.{body_may}
@@ -65,15 +59,15 @@ module _ (id : Kind → List ℕ → List ℕ) (head : Option (List ℕ)) where
       back (inr k) = Contains-append_right (made es) (made_from o ∷ []) m (subst (λ (x : Made). Contains (made_from o ∷ []) x) (e ∙ sym k) (first_is (made_from o) []))
 
   -- All was carried out, and the snapshot is this object.
-  means_stream : {N : Type 0} (text : List ℕ) (state : Result Loading FeedFault) (es : List Entry) (h : HasRead id text state es) (o : Entry) (loaded : Objects N) → EndsParts head h.come.loading o → IsObject id o → loaded.objects.items ≡ es ++ o ∷ [] → loaded.snapshot ≡ o.name.id → MeansStream id head text (making_of loaded)
-  means_stream text state es h o loaded ends object items named =
+  means_stream : (text : List ℕ) (state : Result Loading FeedFault) (es : List Entry) (h : HasRead id text state es) (o : Entry) (all : List Entry) (snapshot : List ℕ) → EndsParts head h.come.loading o → IsObject id o → all ≡ es ++ o ∷ [] → snapshot ≡ o.name.id → MeansStream id head text (meaning_of all snapshot)
+  means_stream text state es h o all id_of ends object items named =
       let l = h.come.loaded in
       let snapshot : made_from o ≡ snapshot_of head l.making.aims = ends.snapshot ∙ ap (snapshot_of head) l.stands.aims in
       let few : length (refs_of l.making.aims) ≤ refs_limit = subst (λ a. length (refs_of a) ≤ refs_limit) l.stands.aims ends.few in
       let short : length (snapshot_of head l.making.aims).body ≤ body_limit = subst (λ (m : Made). length m.body ≤ body_limit) snapshot object.short in
       let in_given : (m : Made) → Contains (made es) m → Makes id l.making m = λ m c. l.stands.sound m (subst (λ (ms : List Made). Contains ms m) (sym l.stands.given) c) in
       let given : (m : Made) → Makes id l.making m → Contains (made es) m = λ m c. subst (λ (ms : List Made). Contains ms m) l.stands.given (l.stands.full m c) in
-      let objects : (m : Made) → Contains (made loaded.objects.items) m ↔ (Makes id l.making m ⊎ (m ≡ snapshot_of head l.making.aims)) = subst (λ (xs : List Entry). (m : Made) → Contains (made xs) m ↔ (Makes id l.making m ⊎ (m ≡ snapshot_of head l.making.aims))) (sym items) (members h.come.loading l.making es o in_given given snapshot) in
+      let objects : (m : Made) → Contains (made all) m ↔ (Makes id l.making m ⊎ (m ≡ snapshot_of head l.making.aims)) = subst (λ (xs : List Entry). (m : Made) → Contains (made xs) m ↔ (Makes id l.making m ⊎ (m ≡ snapshot_of head l.making.aims))) (sym items) (members h.come.loading l.making es o in_given given snapshot) in
       record {
         commands = l.commands;
         making = l.making;
@@ -83,23 +77,22 @@ module _ (id : Kind → List ℕ → List ℕ) (head : Option (List ℕ)) where
         meant = record { objects = objects; snapshot = named ∙ snapshot_of_object l.making o snapshot object };
       }
 
-  pub means : {N : Type 0} (text : List ℕ) (state : Result Loading FeedFault) (es : List Entry) (h : HasRead id text state es) (o : Entry) (loaded : Objects N) → EndsParts head h.come.loading o → IsObject id o → loaded.objects.items ≡ es ++ o ∷ [] → loaded.snapshot ≡ o.name.id → Means id head text (making_of loaded)
+  pub means_all : (text : List ℕ) (state : Result Loading FeedFault) (es : List Entry) (h : HasRead id text state es) (o : Entry) (all : List Entry) (snapshot : List ℕ) → EndsParts head h.come.loading o → IsObject id o → all ≡ es ++ o ∷ [] → snapshot ≡ o.name.id → Means id head text (meaning_of all snapshot)
   unfolding Means
-  means text state es h o loaded ends object items named = means_stream text state es h o loaded ends object items named
+  means_all text state es h o all snapshot ends object items named = means_stream text state es h o all snapshot ends object items named
 
-  -- The objects have all of their children.
-  pub reaches_all : {N : Type 0} (l : Loading) (es : List Entry) (o : Entry) (loaded : Objects N) → l.given ≡ made es → AreNew id [] es → EndsParts head l o → IsObject id o → AllByRecursion (Contains (names_of_made id l.given)) o.kids → loaded.objects.items ≡ es ++ o ∷ [] → loaded.snapshot ≡ o.name.id → HasAllThatIsReached id loaded
-  reaches_all l es o loaded given fresh ends object kids items named =
+  -- The objects have all of their children, and the snapshot is one of them.
+  pub reaches_whole : (l : Loading) (es : List Entry) (o : Entry) (all : List Entry) (snapshot : List ℕ) → l.given ≡ made es → AreNew id [] es → EndsParts head l o → IsObject id o → AllByRecursion (Contains (names_of_made id l.given)) o.kids → all ≡ es ++ o ∷ [] → snapshot ≡ o.name.id → AreWhole id all × Contains (names_of all) (snapshot_name snapshot)
+  reaches_whole l es o all snapshot given fresh ends object kids items named =
       let whole : AreWhole id es = new_whole id es fresh in
       let among : AllByRecursion (Contains (names_of es)) o.kids = subst (λ (ns : List Name). AllByRecursion (Contains ns) o.kids) (ap (names_of_made id) given ∙ same_names id es whole.each) kids in
-      let all : AreWhole id (es ++ o ∷ []) = whole_one id es o whole object among in
+      let every : AreWhole id (es ++ o ∷ []) = whole_one id es o whole object among in
       let kind : o.name.kind ≡ Snapshot = ap (λ (m : Made). m.kind) ends.snapshot in
-      let name : o.name ≡ snapshot_name loaded.snapshot = ap (λ (k : Kind). let n : Name = record { kind = k; id = o.name.id } in n) kind ∙ ap (λ (i : List ℕ). let n : Name = record { kind = Snapshot; id = i } in n) (sym named) in
-      let there : Contains (names_of (es ++ o ∷ [])) o.name = subst (λ (ns : List Name). Contains ns o.name) (sym (map-append (λ (e : Entry). e.name) es (o ∷ []))) (Contains-append_right (names_of es) (o.name ∷ []) o.name (first_is o.name [])) in
-      record {
-        objects = subst (AreWhole id) (sym items) all;
-        snapshot = subst (λ (xs : List Entry). Contains (names_of xs) (snapshot_name loaded.snapshot)) (sym items) (subst (Contains (names_of (es ++ o ∷ []))) name there);
-      }
+      let name : o.name ≡ snapshot_name snapshot = ap (λ (k : Kind). let n : Name = record { kind = k; id = o.name.id } in n) kind ∙ ap (λ (i : List ℕ). let n : Name = record { kind = Snapshot; id = i } in n) (sym named) in
+      let there : Contains (names_of (es ++ o ∷ [])) o.name = subst (λ (ns : List Name). Contains ns o.name) (sym (map-append (λ (e : Entry). e.name) es (o ∷ []))) (Contains-append_right (names_of es) (o.name ∷ []) o.name (first_is o.name [])) in (
+        subst (AreWhole id) (sym items) every,
+        subst (λ (xs : List Entry). Contains (names_of xs) (snapshot_name snapshot)) (sym items) (subst (Contains (names_of (es ++ o ∷ []))) name there),
+      )
 
   -- The snapshot is new, since none was given.
   pub ends_new : (l : Loading) (es : List Entry) (o : Entry) → l.given ≡ made es → AreNew id [] es → AllByRecursion (λ e. e.name.kind ≢ Snapshot) es → EndsParts head l o → IsObject id o → AllByRecursion (Contains (names_of_made id l.given)) o.kids → AreNew id [] (es ++ o ∷ [])
@@ -132,27 +125,3 @@ quiet head aims (BadFeed at why) e = tt
 quiet head aims (PassesBody which number) (inl (refs, is, above)) = inr (refs, above)
 quiet head aims (PassesBody which number) (inr (body, few, is, above)) = inl (body_may which number body above)
 quiet head aims FeedMemory e = tt
-
-module _ {S : Type 0} (id : Kind → List ℕ → List ℕ) (head : Option (List ℕ)) (sources : Sources S) (s now : S) (text : List ℕ) (same : text ≡ sources.left s) where
-  -- why a source gives no objects whose stream is not carried out
-  pub fails_source : (old new : ℕ) (fault : InputFault) → old ≡ sources.faults s → new ≡ sources.faults now → FailsSo id sources.tells text old new fault → ExplainsSource id head sources s now fault
-  unfolding MayBreak
-  fails_source old new (Bad bad) a b f = record { may = f.0; breaks = λ told. subst (λ (t : List ℕ). Breaks id head t bad) same (f.1 told head) }
-  fails_source old new ReadFault a b f = subst (λ (n : ℕ). Rose n (sources.faults now)) a (subst (Rose old) b f)
-  fails_source old new Memory a b f = tt
-
-  -- why one gives none whose stream was carried out
-  pub ends_source : {N : Type 0} (r : Result (Objects N) InputFault) → (sources.tells → IfErr r (BreaksSo id head text)) → IfErr r IsQuiet → IfErr r (ExplainsSource id head sources s now)
-  unfolding MayBreak
-  ends_source (Ok loaded) f q = tt
-  ends_source (Err (Bad bad)) f q = record { may = q; breaks = λ told. subst (λ (t : List ℕ). Breaks id head t bad) same (f told) }
-  ends_source (Err ReadFault) f q = absurd q
-  ends_source (Err Memory) f q = tt
-
-  pub means_source : {N : Type 0} (r : Result (Objects N) InputFault) → (sources.tells → IfOk r (λ (loaded : Objects N). Means id head text (making_of loaded))) → IfOk r (λ (loaded : Objects N). MeansLeft id head sources s (making_of loaded))
-  means_source (Ok loaded) f = λ told. subst (λ (t : List ℕ). Means id head t (making_of loaded)) same (f told)
-  means_source (Err fault) f = tt
-
--- the same of an equal text and equal counts
-pub fails_moved : {X : Type 0} (id : Kind → List ℕ → List ℕ) (tells : Type 0) (text other : List ℕ) (a b m n : ℕ) (r : Result X InputFault) → text ≡ other → a ≡ b → m ≡ n → IfErr r (FailsSo id tells text a m) → IfErr r (FailsSo id tells other b n)
-fails_moved id tells text other a b m n r t e f h = subst (λ (x : List ℕ). IfErr r (FailsSo id tells x b n)) t (subst (λ (k : ℕ). IfErr r (FailsSo id tells text k n)) e (subst (λ (k : ℕ). IfErr r (FailsSo id tells text a k)) f h))

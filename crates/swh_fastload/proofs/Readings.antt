@@ -26,7 +26,6 @@ use Rattle.swh_fastrows.specs.Places.{Place, Position, HoldsFront, left, positio
 use Rattle.swh_fastread.specs.Steps.{IsStreamBefore, EndsHere, done_line}
 use Rattle.swh_fastread.specs.Standing.{Standing, LeadsOn, Answers, ending_of}
 use Rattle.swh_fastread.proofs.Outcomes.{before_carries, fault_carries, limit_carries, carries_with, starts_join}
-use Rattle.swh_fastload.specs.declared.bad.InputFault.{InputFault}
 use Rattle.swh_fastmeaning.specs.declared.feed_fault.FeedFault.{FeedFault}
 use Rattle.swh_fastmeaning.specs.declared.feed_fault.FeedFault.TheVariants.{BadStream as BadFeed, Limit as PassesBody, Memory as FeedMemory}
 use Rattle.swh_fastmeaning.specs.Aims.{Missing}
@@ -66,20 +65,6 @@ reads_up_to text other place now same s h = record {
     by_held : (left place ≡ []) ⊎ (place.held ≡ done_line) → length (place.held ++ h.front) ≤ length done_line + WINDOW
     by_held (inl e) = let within = h.within in omega (arith, within, ap length e, length-append place.held place.rest, length-append place.held h.front)
     by_held (inr e) = let within = h.within in omega (arith, within, ap length e, length-append place.held h.front)
-
-pub ok_reads : {X : Type 0} (r : Result X InputFault) (text other : List ℕ) (place : Place) (now : List ℕ) → text ≡ other → IfOk r (λ _. StopsAtEnd text place) → HoldsFront place.rest now → IfOk r (λ _. ReadsUpTo other now)
-ok_reads (Ok x) text other place now same s h = reads_up_to text other place now same s h
-ok_reads (Err fault) text other place now same s h = tt
-
--- what holds whatever is made
-pub ok_any : {X E P : Type 0} (r : Result X E) → P → IfOk r (λ _. P)
-ok_any (Ok x) p = p
-ok_any (Err e) p = tt
-
--- a count that did not rise, as another counts it
-pub ok_quiet : {X E : Type 0} (r : Result X E) (a b m n : ℕ) → IfOk r (λ _. a ≡ b) → m ≡ a → b ≡ n → IfOk r (λ _. m ≡ n)
-ok_quiet (Ok x) a b m n q e f = e ∙ q ∙ f
-ok_quiet (Err fault) a b m n q e f = tt
 
 module _ (id : Kind → List ℕ → List ℕ) where
   pub has_read : (text : List ℕ) (old new : Place) (promised : Bool) (state : Result Loading FeedFault) (es : List Entry) → HasCome id text (position old promised) state es → EndsHere old new promised → HasRead id text state es

@@ -5,3 +5,4 @@ pub mod Progress
 pub mod Loaded
 pub mod Sourced
 pub mod Reading
+pub mod Giving

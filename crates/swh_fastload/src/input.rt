@@ -1,160 +1,99 @@
-//! An input, read and made (git-fast-import(1), input format and commands).
-ghost use Rattle.std.specs.Prelude.{◌≡◌, ◌≤◌, ℕ, List, [], false, Ok, Err, IfOk, IfErr, IfSome};
+//! An input, read and made at once (git-fast-import(1), input format and commands).
+ghost use Rattle.std.specs.Prelude.{◌≡◌, ◌≤◌, ◌++◌, ℕ, List, [], IfOk, IfErr, IfSome};
 ghost use Rattle.std.specs.Option.{option_copied};
 ghost use Rattle.swh_base.specs.Text.{IsRef};
 ghost use Rattle.swh_outside.specs.Views.{sources};
-ghost use Rattle.swh_fastrows.specs.Places.{left};
-ghost use Rattle.swh_fastread.specs.declared.reader.Ending.TheVariants.{Open};
+ghost use Rattle.swh_fastload.specs.Giving.{AreWholeAndNew, BreaksOff, EndsStream, GoesOn};
 ghost use Rattle.swh_fastload.specs.Loaded.{making_of};
-ghost use Rattle.swh_fastload.specs.Loads.{no_loading};
-ghost use Rattle.swh_fastload.specs.Reading.{
-  read_fault,
-  feed_fault,
-  HasGiven,
-  HasRead,
-  StopsAtEnd,
-  ReadsUpTo,
-  FailsSo,
-  BreaksSo,
-  IsQuiet,
-};
+ghost use Rattle.swh_fastload.specs.Reading.{ReadsUpTo};
 ghost use Rattle.swh_fastload.specs.Input.{Means};
 ghost use Rattle.swh_fastload.specs.Sourced.{MeansLeft, ExplainsSource};
 ghost use Rattle.swh_made.specs.Giving.{AreNew};
 ghost use Rattle.swh_made.specs.Whole.{HasAllThatIsReached};
 
-use crate::bad::{BadStream, InputFault};
-use crate::load::FastLoad;
-use std::alloc::{AllocError, Global};
-use swh_base::Namer;
+use crate::bad::InputFault;
+use crate::parts::{StreamPart, StreamParts};
+use std::alloc::Global;
+use swh_base::{Memory, Namer};
 use swh_fastlex::Window;
-use swh_fastmeaning::FeedFault;
-use swh_fastread::{Lent, ReadFail, Reader};
+use swh_fastread::Lent;
 use swh_made::Objects;
 use swh_object::Object;
 use swh_outside::Source;
 
-/// Why an input whose stream is not read on makes no objects.
-fn read_fault(fail: ReadFail) -> InputFault
-    ensures { result ≡ read_fault fail }
+/// All objects, with the last ones behind them.
+fn with_last<N: Namer>(objects: Vec<Object<N>>, last: Objects<N>) -> Result<Objects<N>, Memory>
+    ensures objects { IfOk result (λ all. all.objects.items ≡ objects.items ++ last.objects.items) }
+    ensures snapshot { IfOk result (λ all. all.snapshot ≡ last.snapshot) }
 {
-    match fail {
-        ReadFail::BadStream { at, why } => InputFault::Bad(BadStream::Stream { at, why }),
-        ReadFail::ReadFault => InputFault::ReadFault,
-        ReadFail::Limit { which, number } => InputFault::Bad(BadStream::Limit { which, number }),
-        ReadFail::Memory => InputFault::Memory,
-    }
+    let Objects {
+        objects: mut more,
+        snapshot,
+    } = last;
+    let mut objects = objects;
+    objects.append(&mut more)?;
+    Ok(Objects { objects, snapshot })
 }
 
-/// Why an input with a command that is not carried out makes no objects.
-fn feed_fault(fault: FeedFault) -> InputFault
-    ensures { result ≡ feed_fault fault }
-{
-    match fault {
-        FeedFault::BadStream { at, why } => InputFault::Bad(BadStream::Stream { at, why }),
-        FeedFault::Limit { which, number } => InputFault::Bad(BadStream::Limit { which, number }),
-        FeedFault::Memory => InputFault::Memory,
-    }
-}
-
-/// The objects of all commands of a stream, in the order of making.
-fn load_commands<N: Namer, S: Source>(
+/// The objects of all parts of a stream, in the order in which they are given.
+fn load_all<N: Namer, S: Source>(
     alloc: Global,
-    reader: &mut Reader<S>,
-    load: &mut FastLoad<N>,
-) -> Result<Vec<Object<N>>, InputFault>
-    requires still { reader.old.ending ≡ Open }
-    requires begins { reader.old.place.at ≡ 0 }
-    requires no_promise { reader.old.promised ≡ false }
-    requires fresh { load.old ≡ Ok no_loading }
-    ensures given { IfOk result (λ os. HasGiven N.id_of load.new os.items) }
-    ensures read { S.tells → IfOk result (λ os. HasRead N.id_of (left reader.old.place) load.new os.items) }
-    ensures fails { IfErr result (FailsSo N.id_of S.tells (left reader.old.place) reader.old.place.faults
-        reader.new.place.faults) }
-
-    ensures stops { S.tells → IfOk result (λ _. StopsAtEnd (left reader.old.place) reader.new.place) }
-
-    ensures same_path { reader.new.place.path ≡ reader.old.place.path }
-    ensures later { reader.old.place.faults ≤ reader.new.place.faults }
-    ensures quiet { IfOk result (λ _. reader.new.place.faults ≡ reader.old.place.faults) }
+    parts: &mut StreamParts<N, S>,
+    head: Option<&[u8]>,
+) -> Result<Objects<N>, InputFault>
+    requires { IfSome (option_copied head) IsRef }
+    ensures given { (text : List ℕ) (faults : ℕ) (path : List ℕ)
+        → GoesOn N.id_of S.tells text faults path [] parts.old
+        → IfOk result (EndsStream N.id_of S.tells (option_copied head.entry) text faults path [] parts.new) }
+    ensures err { (text : List ℕ) (faults : ℕ) (path : List ℕ)
+        → GoesOn N.id_of S.tells text faults path [] parts.old
+        → IfErr result (BreaksOff N.id_of S.tells (option_copied head.entry) text faults
+        parts.new.standing.place.faults) }
+    ensures same_path { parts.new.standing.place.path ≡ parts.old.standing.place.path }
+    ensures later { parts.old.standing.place.faults ≤ parts.new.standing.place.faults }
 {
     let mut objects = Vec::new(alloc);
-    'commands: loop {
-        let _place = reader.place();
-        let command = match reader.next_command() {
-            Ok(Some(command)) => command,
-            Ok(None) => return Ok(objects),
-            Err(fail) => return Err(read_fault(fail)),
-        };
-        let mut more = match load.feed(alloc, command) {
-            Ok(more) => more,
-            Err(fault) => return Err(feed_fault(fault)),
+    'stream: loop {
+        let mut more = match parts.next(alloc, head) {
+            Ok(StreamPart::More(more)) => more,
+            Ok(StreamPart::Last(last)) => return Ok(with_last(objects, last)?),
+            Err(fault) => return Err(fault),
         };
         objects.append(&mut more)?;
     }
 }
 
-/// Puts the objects of all commands of a source, or why there are none, and hands the source back.
-fn read_source<'a, N: Namer, S: Source>(
+/// Puts what a source makes, or why it makes nothing, and hands the source back.
+fn load_lent<'a, N: Namer, S: Source>(
     alloc: Global,
-    load: &mut FastLoad<N>,
+    namer: &N,
+    head: Option<&[u8]>,
     source: &'a mut S,
-    objects: &mut Result<Vec<Object<N>>, InputFault>,
+    loaded: &mut Result<Objects<N>, InputFault>,
 ) -> Lent<'a, S>
-    requires fresh { load.old ≡ Ok no_loading }
-    ensures given { IfOk objects.new (λ os. HasGiven N.id_of load.new os.items) }
-    ensures read { S.tells → IfOk objects.new (λ os. HasRead N.id_of (S.left source.old) load.new os.items) }
-    ensures fails { IfErr objects.new (FailsSo N.id_of S.tells (S.left source.old) (S.faults source.old)
-        (S.faults result.source.now)) }
+    requires { IfSome (option_copied head) IsRef }
+    ensures means { S.tells → IfOk loaded.new (λ made. Means N.id_of (option_copied head.entry) (S.left source.old)
+        (making_of made)) }
+    ensures all { IfOk loaded.new (λ made. AreWholeAndNew N.id_of made.objects.items made.snapshot) }
+    ensures stops { S.tells → IfOk loaded.new (λ _. ReadsUpTo (S.left source.old) (S.left result.source.now)) }
+    ensures quiet { IfOk loaded.new (λ _. S.faults result.source.now ≡ S.faults source.old) }
+    ensures breaks { IfErr loaded.new (BreaksOff N.id_of S.tells (option_copied head.entry) (S.left source.old)
+        (S.faults source.old) (S.faults result.source.now)) }
 
     ensures same_reference { result.source.ghost_name ≡ source.entry.ghost_name }
     ensures same_path { S.path result.source.now ≡ S.path source.old }
     ensures later { S.faults source.old ≤ S.faults result.source.now }
-    ensures stops { S.tells → IfOk objects.new (λ _. ReadsUpTo (S.left source.old) (S.left result.source.now)) }
-    ensures quiet { IfOk objects.new (λ _. S.faults result.source.now ≡ S.faults source.old) }
 {
     let window = match Window::new(alloc) {
         Ok(window) => window,
         Err(fault) => {
-            *objects = Err(fault.into());
+            *loaded = Err(fault.into());
             return Lent { source };
         }
     };
-    let mut reader = Reader::new(alloc, window, Lent { source });
-    *objects = load_commands(alloc, &mut reader, load);
-    reader.close()
-}
-
-/// Ends an input of which these objects were made: the snapshot is added to them.
-fn end_input<N: Namer>(
-    alloc: Global,
-    load: &mut FastLoad<N>,
-    head: Option<&[u8]>,
-    objects: Vec<Object<N>>,
-) -> Result<Objects<N>, InputFault>
-    requires given { HasGiven N.id_of load.old objects.items }
-    requires head { IfSome (option_copied head) IsRef }
-    ensures means { (text : List ℕ) → HasRead N.id_of text load.old objects.items
-        → IfOk result (λ loaded. Means N.id_of (option_copied head.entry) text (making_of loaded)) }
-    ensures whole { IfOk result (HasAllThatIsReached N.id_of) }
-    ensures order { IfOk result (λ loaded. AreNew N.id_of [] loaded.objects.items) }
-    ensures breaks { (text : List ℕ) → HasRead N.id_of text load.old objects.items
-        → IfErr result (BreaksSo N.id_of (option_copied head.entry) text) }
-    ensures quiet { IfErr result IsQuiet }
-{
-    let snapshot = match load.finish(alloc, head) {
-        Ok(snapshot) => snapshot,
-        Err(fault) => return Err(feed_fault(fault)),
-    };
-    let id = snapshot.name().id;
-    let mut objects = objects;
-    match objects.push(snapshot) {
-        Ok(()) => Ok(Objects {
-            objects,
-            snapshot: id,
-        }),
-        Err(fault) => Err(AllocError::from(fault).into()),
-    }
+    let mut parts = StreamParts::new(alloc, window, *namer, Lent { source });
+    *loaded = load_all(alloc, &mut parts, head);
+    parts.close()
 }
 
 /// Reads what is left of a source, and makes its objects, where this head is named, or none.
@@ -182,9 +121,7 @@ pub fn load_source<N: Namer, S: Source>(
     ensures same_path { S.path source.new ≡ S.path source.old }
     ensures later { S.faults source.old ≤ S.faults source.new }
 {
-    let mut load = FastLoad::new(alloc, *namer);
-    let mut read = Err(InputFault::Memory);
-    let Lent { source: _ } = read_source(alloc, &mut load, source, &mut read);
-    let objects = read?;
-    end_input(alloc, &mut load, head, objects)
+    let mut loaded = Err(InputFault::Memory);
+    let Lent { source: _ } = load_lent(alloc, namer, head, source, &mut loaded);
+    loaded
 }

@@ -17,11 +17,14 @@ mod input;
 mod laws;
 mod load;
 mod parents;
+mod parts;
 
 pub use bad::{BadStream, InputFault};
 pub use input::load_source;
 pub use laws::{never_both, one_break, one_limit, same_making, ways_to_break};
 pub use load::FastLoad;
+pub use parts::{StreamPart, StreamParts};
 pub use swh_fastgrammar::StreamWhy;
+pub use swh_fastlex::Window;
 pub use swh_fastmeaning::{FeedFault, MarksAndTips, Target, blob_of, commit_of};
 pub use swh_made::{Novelty, Objects, Seen};
