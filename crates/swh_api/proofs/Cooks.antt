@@ -1,5 +1,5 @@
 -- What is answered of a name that is to be cooked.
-use Rattle.std.proofs.Common.{◌≡◌, inr, ℕ, false, Result, Ok, Err, IfOk, Option, Some, None, List, [], ◌++◌, refl, sym, ap, ◌∙◌, subst}
+use Rattle.std.proofs.Common.{◌≡◌, ◌≢◌, inr, ℕ, false, Result, Ok, Err, IfOk, Option, Some, None, List, [], ◌++◌, refl, sym, ap, ◌∙◌, subst}
 use Rattle.swh_base.specs.declared.kind.Kind.{Kind}
 use Rattle.swh_base.specs.declared.kind.Kind.TheVariants as kind
 use Rattle.swh_base.specs.declared.memory.Memory.{Memory as OutOfMemory}
@@ -11,14 +11,17 @@ use Rattle.swh_carried.specs.declared.fault.Why.{Why}
 use Rattle.swh_carried.specs.declared.fault.CookFault.{CookFault}
 use Rattle.swh_carried.specs.declared.fault.CookFault.TheVariants.{NotHeld, WriteFault, Memory, Uncarried as IsNotCarried}
 use Rattle.swh_carried.specs.Uncarried as form
-use Rattle.swh_fastcook.specs.Cook.{BreaksStream, IsCarriedStream, IsUncarriedStream, IsTextOfKind, IsCookedText, IsCooked, ExplainsNoText}
+use Rattle.swh_fastcook.specs.Cook.{BreaksStream, IsCarriedStream, IsUncarriedStream, IsTextOfKind}
+use Rattle.swh_fastcook.specs.Ready.{IsReady, ExplainsNotReady}
 use Rattle.swh_fastcook.specs.Stream.{IsStreamOf, IsStreamText}
-use Rattle.swh_fastcook.proofs.Cooked.{missing_first, content_cooked}
+use Rattle.swh_fastcook.proofs.Cooked.{missing_first, content_carried, content_text, ready_carried, stream_text}
 use Rattle.swh_fastcook.proofs.StreamTexts.{one_stream}
+use Rattle.swh_reachedbytes.specs.Reached.{AreReachedOfBytes}
+use Rattle.swh_reachedbytes.proofs.Reached.{content_of_bytes}
 use Rattle.swh_answer.specs.Answers.{SpellsCore, plain_reply}
 use Rattle.swh_answer.proofs.Unique.{one_core}
 use Rattle.swh_api.specs.Carried.{IsCarriedName, HasCookedText}
-use Rattle.swh_api.specs.Cook.{CookAnswer, Cooked, Missing, Uncarried, AnswersCook, IsCookAnswer, RefusesCook, cook_reply, TellsCook, IsCookFaultReply, SpellsCooked, NoCooked, IsCookReply}
+use Rattle.swh_api.specs.Cook.{CookAnswer, Cooked, Missing, Uncarried, IsCookedTo, AnswersCook, IsCookAnswer, RefusesCook, cook_reply, TellsCook, IsCookFaultReply, SpellsCooked, NoCooked, IsCookReply}
 use Rattle.swh_api.proofs.Firsts.{one_uncarried, not_both}
 use Rattle.swh_api.proofs.Graphs.{one_graph}
 
@@ -53,13 +56,13 @@ module _ (bodies : Bodies) (children_of : Name → Option (List Name)) (root : N
       (subst (λ (order : List Name). form.IsUncarried children_of (BreaksStream bodies root order) order name why) same u.is)
 
   one_answer_over : (a b : CookAnswer) → AnswersCook bodies children_of root a → AnswersCook bodies children_of root b → a ≡ b
-  one_answer_over (Cooked s) (Cooked t) h k = ap Cooked (one_text_of root.kind s t h.1 k.1)
-  one_answer_over (Cooked s) (Missing n) h k = absurd (not_order_and_gap children_of root n h.0.order h.0.is_order k)
-  one_answer_over (Cooked s) (Uncarried n w) h k = absurd (carried_or n w h.0 k)
-  one_answer_over (Missing m) (Cooked t) h k = absurd (not_order_and_gap children_of root m k.0.order k.0.is_order h)
+  one_answer_over (Cooked s) (Cooked t) h k = ap Cooked (one_text_of root.kind s t h.is k.is)
+  one_answer_over (Cooked s) (Missing n) h k = absurd (not_order_and_gap children_of root n h.carried.order h.carried.is_order k)
+  one_answer_over (Cooked s) (Uncarried n w) h k = absurd (carried_or n w h.carried k)
+  one_answer_over (Missing m) (Cooked t) h k = absurd (not_order_and_gap children_of root m k.carried.order k.carried.is_order h)
   one_answer_over (Missing m) (Missing n) h k = ap Missing (one_gap children_of root m n h k)
   one_answer_over (Missing m) (Uncarried n w) h k = absurd (not_order_and_gap children_of root m k.order k.is_order h)
-  one_answer_over (Uncarried m v) (Cooked t) h k = absurd (carried_or m v k.0 h)
+  one_answer_over (Uncarried m v) (Cooked t) h k = absurd (carried_or m v k.carried h)
   one_answer_over (Uncarried m v) (Missing n) h k = absurd (not_order_and_gap children_of root n h.order h.is_order k)
   one_answer_over (Uncarried m v) (Uncarried n w) h k =
       let same = uncarried_once m n v w h k in
@@ -82,16 +85,20 @@ module _ (bodies : Bodies) (children_of : Name → Option (List Name)) (graph : 
   answered : (answer : CookAnswer) → AnswersCook bodies children_of root answer → IsCookAnswer bodies root answer
   answered answer is = record { children_of = children_of; graph = graph; is = is }
 
-  pub cook_refused : (tells same : Type 0) (old new : List ℕ) (fault : CookFault) → ExplainsNoText bodies children_of root tells same old new fault → RefusesCook bodies root fault
-  cook_refused tells same old new (NotHeld missing) h = answered (Missing missing) h.0
-  cook_refused tells same old new (IsNotCarried name why) h = answered (Uncarried name why) h.0
-  cook_refused tells same old new WriteFault h = tt
-  cook_refused tells same old new Memory h = tt
+  pub not_ready : (fault : CookFault) → ExplainsNotReady bodies children_of root fault → RefusesCook bodies root fault
+  not_ready (NotHeld missing) h = answered (Missing missing) h
+  not_ready (IsNotCarried name why) h = answered (Uncarried name why) h
+  not_ready WriteFault h = tt
+  not_ready Memory h = tt
 
-  pub cook_collected : (tells : Type 0) (old new text : List ℕ) (head : Option (List ℕ)) → tells → old ≡ [] → text ≡ new → IsCooked bodies children_of root tells old new head → IsCookAnswer bodies root (Cooked text)
-  cook_collected tells old new text head told none same c =
-      let all : text ≡ c.text = same ∙ c.took told ∙ ap (λ (bytes : List ℕ). bytes ++ c.text) none in
-      answered (Cooked text) (c.carried, subst (IsCookedText bodies children_of root) (sym all) c.is)
+  pub written : (other : root.kind ≢ kind.Content) (order : List Name) (head : Option (List ℕ)) → IsReady bodies children_of root order head → AreReachedOfBytes bodies children_of root → (all text : List ℕ) → IsStreamText bodies order root all → text ≡ all → IsCookAnswer bodies root (Cooked text)
+  written other order head ready bytes all text is same =
+      answered (Cooked text)
+      (record {
+        carried = ready_carried bodies children_of root other order head ready;
+        of_bytes = bytes;
+        is = stream_text bodies children_of root other order head ready text (subst (IsStreamText bodies order root) (sym same) is);
+      })
 
   pub missing_told : (r : Result Reply OutOfMemory) → body_of bodies root ≡ None → IfOk r (λ reply. reply ≡ cook_reply (Missing root)) → IfOk r (TellsCook bodies root)
   missing_told (Err e) none told = tt
@@ -99,9 +106,11 @@ module _ (bodies : Bodies) (children_of : Name → Option (List Name)) (graph : 
 
   module _ (is : root.kind ≡ kind.Content) (body : List ℕ) (held : body_of bodies root ≡ Some body) where
     pub content_answer : IsCookAnswer bodies root (Cooked body)
-    content_answer =
-        let c = content_cooked bodies children_of graph root is body held (Unit {0}) [] body (λ _. refl) in
-        answered (Cooked body) (c.carried, subst (λ (k : Kind). IsTextOfKind bodies children_of root k body) (sym is) held)
+    content_answer = answered (Cooked body) (record {
+      carried = content_carried bodies children_of graph root is body held;
+      of_bytes = content_of_bytes bodies children_of root graph is;
+      is = content_text bodies children_of graph root is body held;
+    })
 
 pub refused_told : (bodies : Bodies) (root : Name) (fault : CookFault) (r : Result Reply OutOfMemory) → RefusesCook bodies root fault → IfOk r (IsCookFaultReply fault) → IfOk r (TellsCook bodies root)
 refused_told bodies root fault (Err e) h told = tt
@@ -128,7 +137,7 @@ module _ (bodies : Bodies) (name : Name) (carried : IsCarriedName bodies name) w
   over = carried.children_of
 
   carried_over : (answer : CookAnswer) (reply : Reply) → AnswersCook bodies over name answer → reply ≡ cook_reply answer → HasCookedText bodies name reply
-  carried_over (Cooked text) reply is told = record { children_of = over; graph = carried.graph; text = text; is = is.1; told = told }
+  carried_over (Cooked text) reply is told = record { children_of = over; graph = carried.graph; text = text; is = is.is; told = told }
   carried_over (Missing missing) reply is told = absurd (not_order_and_gap over name missing carried.carried.order carried.carried.is_order is)
   carried_over (Uncarried other why) reply is told = absurd (carried_or bodies over name other why carried.carried is)
 

@@ -11,6 +11,7 @@ use Rattle.swh_carried.specs.declared.fault.Why.TheVariants as why
 use Rattle.swh_carried.specs.declared.fault.CookFault.{CookFault}
 use Rattle.swh_carried.specs.declared.fault.CookFault.TheVariants.{NotHeld, WriteFault, Memory, Uncarried as IsNotCarried}
 use Rattle.swh_fastcook.specs.Cook.{IsCarriedStream, IsUncarriedStream, IsCookedText}
+use Rattle.swh_reachedbytes.specs.Reached.{AreReachedOfBytes}
 use Rattle.swh_answer.specs.Json.{uncarried_data, tree_reply}
 use Rattle.swh_answer.specs.Answers.{SpellsCore, bad_text, not_held, plain_reply}
 
@@ -22,8 +23,15 @@ pub data CookAnswer : Type 0 where
 
 -- what is answered of a root, over a graph
 module _ (bodies : Bodies) (children_of : Name → Option (List Name)) (root : Name) where
+  -- A stream carries all that is reached, and the root is cooked to this text. The directories that are reached are made of
+  -- bytes, as all is that lies in memory.
+  pub record IsCookedTo (text : List ℕ) : Type 0 where
+    pub carried : IsCarriedStream bodies children_of root
+    pub of_bytes : AreReachedOfBytes bodies children_of root
+    pub is : IsCookedText bodies children_of root text
+
   abbrev pub AnswersCook : CookAnswer → Type 0
-  AnswersCook (Cooked text) = IsCarriedStream bodies children_of root × IsCookedText bodies children_of root text
+  AnswersCook (Cooked text) = IsCookedTo text
   AnswersCook (Missing missing) = IsFirstMissing children_of root missing
   AnswersCook (Uncarried name why) = IsUncarriedStream bodies children_of root name why
 

@@ -1,38 +1,7 @@
-// A text in memory, and its length.
+// A text in memory.
 
-use std::alloc::{AllocError, Global};
+use std::alloc::Global;
 use swh_outside::{Failed, Sink};
-
-/// Counts the bytes of a text, as far as a number goes, and keeps none.
-#[derive(Drop)]
-pub struct Measured {
-    length: usize,
-}
-
-impl Measured {
-    pub fn new() -> Self {
-        Measured { length: 0 }
-    }
-
-    pub fn length(&self) -> usize {
-        self.length
-    }
-}
-
-impl Sink for Measured {
-    ghost use Rattle.std.specs.Prelude.{[]};
-
-    ghost tells = { ⊥ };
-
-    ghost taken = { λ _. [] };
-
-    ghost faults = { λ _. 0 };
-
-    fn put(&mut self, bytes: &[u8]) -> Result<(), Failed> {
-        self.length = self.length.saturating_add(bytes.len());
-        Ok(())
-    }
-}
 
 /// The bytes of a text. It fails where memory runs out, and for nothing else.
 #[derive(Drop)]
@@ -42,15 +11,17 @@ pub struct Collected {
 }
 
 impl Collected {
-    ghost use Rattle.std.specs.Prelude.{◌≡◌, [], IfOk};
+    ghost use Rattle.std.specs.Prelude.{◌≡◌, []};
     ghost use Rattle.swh_api.specs.Collected.{collected_bytes};
 
-    /// No bytes yet, with room for a text of this length.
-    pub fn with_room(alloc: Global, length: usize) -> Result<Self, AllocError>
-        ensures { IfOk result (λ c. collected_bytes c ≡ []) }
+    /// No bytes yet.
+    pub fn new(alloc: Global) -> Self
+        ensures { collected_bytes result ≡ [] }
     {
-        let bytes = Vec::with_capacity(alloc, length)?;
-        Ok(Collected { bytes, faults: 0 })
+        Collected {
+            bytes: Vec::new(alloc),
+            faults: 0,
+        }
     }
 
     pub fn into_bytes(self) -> Vec<u8>

@@ -13,13 +13,14 @@ ghost use Rattle.swh_api.specs.Cook.{
   IsCookReply,
 };
 
-use crate::collected::{Collected, Measured};
+use crate::collected::Collected;
 use std::alloc::Global;
 use swh_answer::{core_of, not_held, refusal, uncarried};
 use swh_base::{Kind, Memory, Name, Reply, Shared};
 use swh_carried::{CookFault, Why};
-use swh_fastcook::cook;
+use swh_fastcook::{make_ready, write_stream};
 use swh_model::Look;
+use swh_reachedbytes::know_reached;
 
 fn word_of_why(why: Why) -> &'static str
     ensures { result.now ≡ word_of_why why }
@@ -50,51 +51,22 @@ fn cook_fault_reply(alloc: Global, fault: CookFault) -> Result<Reply, Memory>
     }
 }
 
-// The length of the text that a name is cooked to.
-fn cooked_length<L: Look>(alloc: Global, look: &L, name: Name) -> Result<usize, CookFault>
-    requires { name.kind ≢ DirectoryKind }
-    ensures { IfErr result (RefusesCook (L.archive look.now).bodies name) }
-{
-    let mut measured = Measured::new();
-    look.is_graph();
-    let _head = match cook(alloc, look, name, &mut measured) {
-        Ok(head) => head,
-        Err(fault) => return Err(fault),
-    };
-    Ok(measured.length())
-}
-
-// The text that a name is cooked to, in room for this length.
-fn collect<L: Look>(
-    alloc: Global,
-    look: &L,
-    name: Name,
-    length: usize,
-) -> Result<Vec<u8>, CookFault>
-    requires { name.kind ≢ DirectoryKind }
-    ensures ok { IfOk result (λ text. IsCookAnswer (L.archive look.now).bodies name (Cooked text.items)) }
-    ensures err { IfErr result (RefusesCook (L.archive look.now).bodies name) }
-{
-    let Ok(mut collected) = Collected::with_room(alloc, length) else {
-        return Err(CookFault::Memory);
-    };
-    look.is_graph();
-    let _head = match cook(alloc, look, name, &mut collected) {
-        Ok(head) => head,
-        Err(fault) => return Err(fault),
-    };
-    Ok(collected.into_bytes())
-}
-
-// The text that a name is cooked to. It is measured first, so that room is taken once and no byte is held twice.
+// The text that a name is cooked to. All is known of it before its first byte is written, and it is written once.
 fn cooked_text<L: Look>(alloc: Global, look: &L, name: Name) -> Result<Vec<u8>, CookFault>
-    requires { name.kind ≢ DirectoryKind }
+    requires { name.kind ≢ ContentKind }
     ensures ok { IfOk result (λ text. IsCookAnswer (L.archive look.now).bodies name (Cooked text.items)) }
     ensures err { IfErr result (RefusesCook (L.archive look.now).bodies name) }
 {
-    match cooked_length(alloc, look, name) {
-        Ok(length) => collect(alloc, look, name, length),
-        Err(fault) => Err(fault),
+    look.is_graph();
+    let ready = match make_ready(alloc, look, name) {
+        Ok(ready) => ready,
+        Err(fault) => return Err(fault),
+    };
+    know_reached(look, &name, ready.marks.order());
+    let mut collected = Collected::new(alloc);
+    match write_stream(alloc, look, &ready.marks, name, &mut collected) {
+        Ok(()) => Ok(collected.into_bytes()),
+        Err(_) => Err(CookFault::Memory),
     }
 }
 
@@ -117,7 +89,7 @@ fn content_told<L: Look>(alloc: Global, look: &L, name: Name) -> Result<Reply, M
 
 // The reply with the stream of all that is reached from a name.
 fn stream_told<L: Look>(alloc: Global, look: &L, name: Name) -> Result<Reply, Memory>
-    requires { name.kind ≢ DirectoryKind }
+    requires { name.kind ≢ ContentKind }
     ensures { IfOk result (TellsCook (L.archive look.now).bodies name) }
 {
     let text = match cooked_text(alloc, look, name) {

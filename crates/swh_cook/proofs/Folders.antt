@@ -11,6 +11,7 @@ use Rattle.swh_fastcook.specs.Cause as stream
 use Rattle.swh_fastcook.specs.Cook.{LeadsHead}
 use Rattle.swh_dircook.specs.Cook.{IsFolderOf, MakesFolder, MakesFrontOfFolder, IsCarriedFolder, IsUncarriedFolder, ExplainsNoFolder, CookBreaks}
 use Rattle.swh_dircook.specs.Made.{Made, Yarded}
+use Rattle.swh_reachedbytes.specs.Reached.{AreReachedOfBytes}
 use Rattle.swh_cook.specs.Cook.{AreMadeOf, AreMade, IsCarriedOf, IsCarried, IsUncarriedOf, IsUncarried, MakesFront, IsCooked, IsBrokenOff, ExplainsUncooked}
 
 -- the count of faults does the same
@@ -35,9 +36,10 @@ module _ (bodies : Bodies) (children_of : Name → Option (List Name)) (root : N
   no_head target h = let e : Directory ≡ Snapshot = sym kind ∙ h.kind in cc
 
   module _ (out : List ℕ) (tells : Type 0) (old new : Yarded) where
-    pub whole_folder : IsCarriedFolder bodies children_of root → (tells → MakesFolder bodies root out old new) → IsCooked bodies children_of root out tells old new None
-    whole_folder carried makes = record {
+    pub whole_folder : AreReachedOfBytes bodies children_of root → IsCarriedFolder bodies children_of root → (tells → MakesFolder bodies root out old new) → IsCooked bodies children_of root out tells old new None
+    whole_folder bytes carried makes = record {
       carried = carried_folder carried;
+      of_bytes = bytes;
       is_head = no_head;
       made = λ t. let m = makes t in record { made = m.made; are = are_folder out m.made m.folder; is = m.is };
     }

@@ -3,3 +3,4 @@ pub mod Firsts
 pub mod Ends
 pub mod Files
 pub mod Folders
+pub mod Again

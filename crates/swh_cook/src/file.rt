@@ -12,6 +12,7 @@ use swh_carried::CookFault;
 use swh_fastcook::{make_ready, write_stream};
 use swh_model::Look;
 use swh_outside::{OutFault, Yard};
+use swh_reachedbytes::know_reached;
 
 /// Begins the file at a path.
 fn begin_file<Y: Yard>(yard: &mut Y, out: &str) -> Result<(), CookFault>
@@ -78,6 +79,7 @@ pub fn cook_stream<L: Look, Y: Yard>(
         Ok(ready) => ready,
         Err(fault) => return Err(fault),
     };
+    know_reached(look, &name, ready.marks.order());
     if let Err(fault) = begin_file(yard, out) {
         return Err(fault);
     }
