@@ -13,6 +13,8 @@ mod ids_of_git;
 #[cfg(test)]
 mod many;
 #[cfg(test)]
+mod names;
+#[cfg(test)]
 mod plain;
 #[cfg(test)]
 mod short_lists;
