@@ -1,5 +1,5 @@
 -- The device calls of events, one stretch after another.
-use Rattle.std.proofs.Common.{◌≡◌, ℕ, Some, None, List, [], ◌++◌, refl, sym, ap, ◌∙◌, subst}
+use Rattle.std.proofs.Common.{◌≡◌, ℕ, None, List, [], ◌++◌, refl, sym, ap, ◌∙◌, subst}
 use Rattle.std.proofs.lemmas.List.{append-nil}
 use Rattle.std.proofs.lemmas.Option.{none-some}
 use Rattle.swh_base.specs.declared.kind.Kind.{Kind}

@@ -5,13 +5,9 @@ use Rattle.swh_base.specs.declared.kind.Kind.{Kind}
 use Rattle.swh_base.specs.declared.visit.Status.{Status}
 use Rattle.swh_base.specs.declared.visit.Which.{Which}
 use Rattle.swh_outside.specs.Faults.{Rose}
-use Rattle.swh_outside.specs.Files.{Files, FileCall, FilesBreaks, files_done}
 use Rattle.swh_outside.specs.Views.{Disks}
-use Rattle.swh_outside.proofs.Numbered.{files_done-append}
-use Rattle.swh_segment.specs.Calls.{calls_for, all_calls}
 use Rattle.swh_segment.specs.Makes.{ADiskFailed}
 use Rattle.swh_segment.specs.Moments.{BreaksAtEvent}
-use Rattle.swh_segment.proofs.Moments.{all_calls-append}
 use Rattle.swh_model.specs.declared.event.Event.{Event}
 use Rattle.swh_model.specs.declared.event.Wish.{Wish}
 use Rattle.swh_model.specs.declared.event.No.TheVariants as cause

@@ -12,8 +12,8 @@ use Rattle.swh_model.specs.Step.{HasItsChildrenAndName}
 use Rattle.swh_base.specs.Snapshot.{snapshot_name}
 use Rattle.swh_model.proofs.Certificates.{certified-closed}
 use Rattle.swh_object.specs.Object.{IsObject}
-use Rattle.swh_made.specs.declared.objects.Objects.{Objects}
-use Rattle.swh_made.specs.Whole.{names_of, HasChildrenAmong, AreWhole, HasAllThatIsReached}
+use Rattle.swh_made.specs.Whole.{names_of, HasChildrenAmong, AreWhole}
+use Rattle.swh_walk.specs.Parts.{ReachesAll}
 use Rattle.swh_walk.specs.Sending.{AllHeld}
 use Rattle.swh_walk.proofs.Batches.{at_element}
 
@@ -44,10 +44,10 @@ certifies id bodies es root w held there = record {
   kids = λ n child listed is. inl (at_element (λ (m : Name). (k : Name) → IsChild bodies m k → Contains (names_of es) k) (names_of es) n (all_names (λ (m : Name). (k : Name) → IsChild bodies m k → Contains (names_of es) k) es (all_children_there id bodies (names_of es) es w.each w.kids held)) listed child is);
 }
 
-pub whole_closed : {N : Type 0} (id : Kind → List ℕ → List ℕ) (bodies : Bodies) (made : Objects N) → HasAllThatIsReached id made → AllHeld bodies made.objects.items → IsClosed bodies (snapshot_name made.snapshot)
-whole_closed id bodies made w held =
+pub reaches_closed : (id : Kind → List ℕ → List ℕ) (bodies : Bodies) (objects : List Entry) (snapshot : List ℕ) → ReachesAll id objects snapshot → AllHeld bodies objects → IsClosed bodies (snapshot_name snapshot)
+reaches_closed id bodies objects snapshot r held =
     let no_name : (n : Name) → Contains [] n → IsClosed bodies n = λ n c. absurd (no_element n c) in
-    certified-closed bodies [] (names_of made.objects.items) (snapshot_name made.snapshot) no_name (certifies id bodies made.objects.items (snapshot_name made.snapshot) w.objects held w.snapshot)
+    certified-closed bodies [] (names_of objects) (snapshot_name snapshot) no_name (certifies id bodies objects (snapshot_name snapshot) r.whole held r.root)
   where
     no_element : (n : Name) → Contains [] n → ⊥
     no_element n (k, less, is) = omega (arith, less)

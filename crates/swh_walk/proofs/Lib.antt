@@ -5,3 +5,7 @@ pub mod Marks
 pub mod Closes
 pub mod Ends
 pub mod Loads
+pub mod InHand
+pub mod Owned
+pub mod SoFar
+pub mod Once

@@ -11,21 +11,16 @@ use Rattle.swh_model.specs.declared.event.EventKind.{EventKind}
 use Rattle.swh_model.specs.declared.event.EventKind.TheVariants as happened
 use Rattle.swh_model.specs.declared.event.Wish.{Wish}
 use Rattle.swh_model.specs.declared.event.Wish.TheVariants as wished
-use Rattle.swh_model.specs.Archive.{Bodies}
-use Rattle.swh_made.specs.declared.objects.Objects.{Objects}
 use Rattle.swh_place.specs.Knowing.{Words, IsLawful}
 use Rattle.swh_walk.specs.declared.end.End.{End}
-use Rattle.swh_walk.specs.declared.end.End.TheVariants.{NotFound, Unread}
-use Rattle.swh_walk.specs.declared.input.Opening.{Opening}
-use Rattle.swh_walk.specs.declared.input.Opening.TheVariants as opening
-use Rattle.swh_walk.specs.declared.input.Input.{Input}
-use Rattle.swh_walk.specs.declared.input.Input.TheVariants as given
+use Rattle.swh_walk.specs.declared.end.Loaded.{Loaded}
+use Rattle.swh_walk.specs.declared.end.LoadFault.{LoadFault}
 use Rattle.swh_walk.specs.declared.stop.Stop.{Stop}
-use Rattle.swh_walk.specs.Owning.{Attempt, attempt, open_event, mark_of, IsKind, IsWished, AreAmong}
+use Rattle.swh_walk.specs.Owning.{Attempt, attempt, open_event, mark_of, IsKind, IsWished}
 use Rattle.swh_walk.specs.Visiting.{IsMine}
 use Rattle.swh_walk.specs.Walking.{Adds, Opens, StopsNow, StopsAfter}
-use Rattle.swh_walk.specs.Ending.{IsMarkOf, IsMarkAsked, IsOfVisit, IsOfVisitAsked}
-use Rattle.swh_walk.specs.Loading.{IsOwn, IsOwnAsked, AreOf, AreRead, AreAllowed, IsReadEnd, IsEndAt, IsSameOrRead, StopsUnended, last_at, statuses_of}
+use Rattle.swh_walk.specs.Ending.{IsMarkOf, IsMarkAsked}
+use Rattle.swh_walk.specs.Loading.{EndsOwn, IsOwn, IsOwnAsked, StopsLoad, StopsUnended, last_at, statuses_of}
 use Rattle.swh_walk.proofs.Ends.{of_mark, asked_mark}
 use Rattle.swh_walk.proofs.Steps.{adds_as, adds_then, after_as, after_now, after_then, asking_as}
 
@@ -53,14 +48,6 @@ own_mark w A t number what m = subst (IsOwn w.alone A t number) (sym m.is) (refl
 pub own_mark_asked : (A : List Entry → Type 0) (t : Attempt) (number : ℕ) (wish : Wish) → IsMarkAsked t number wish → IsOwnAsked A t number wish
 own_mark_asked A t number wish m = subst (IsOwnAsked A t number) (sym m.is) (refl, refl)
 
-pub own_part : {S : Type 0} (w : Words S) (objects : List Entry) (A : List Entry → Type 0) (t : Attempt) (number : ℕ) → ((entries : List Entry) → AreAmong objects entries → A entries) → (what : EventKind) → IsOfVisit w.alone objects t number what → IsOwn w.alone A t number what
-own_part w objects A t number f what (inl b) = subst (IsOwn w.alone A t number) (sym b.is) (b.some, f b.entries b.among)
-own_part w objects A t number f what (inr m) = own_mark w A t number what m
-
-pub own_part_asked : (objects : List Entry) (A : List Entry → Type 0) (t : Attempt) (number : ℕ) → ((entries : List Entry) → AreAmong objects entries → A entries) → (wish : Wish) → IsOfVisitAsked objects t number wish → IsOwnAsked A t number wish
-own_part_asked objects A t number f wish (inl b) = subst (IsOwnAsked A t number) (sym b.is) (b.some, f b.entries b.among)
-own_part_asked objects A t number f wish (inr m) = own_mark_asked A t number wish m
-
 -- where more batches are allowed
 pub own_as : {S : Type 0} (w : Words S) (A B : List Entry → Type 0) (t : Attempt) (number : ℕ) → ((entries : List Entry) → A entries → B entries) → (what : EventKind) → IsOwn w.alone A t number what → IsOwn w.alone B t number what
 own_as w A B t number f (happened.Batch entries) h = (h.0, f entries h.1)
@@ -75,6 +62,22 @@ own_asked_as A B t number f (wished.Open origin kind date) h = absurd h
 module _ {S : Type 0} (id : Kind → List ℕ → List ℕ) (w : Words S) (law : IsLawful id w) where
   pub unended_as : (P P' : EventKind → Type 0) (Q Q' : Wish → Type 0) (a b : S) (why : Stop) → ((what : EventKind) → P what → P' what) → ((wish : Wish) → Q wish → Q' wish) → StopsUnended id w P Q a b why → StopsUnended id w P' Q' a b why
   unended_as P P' Q Q' a b why f g h = record { marks = h.marks; unended = h.unended; after_them = after_as id w law P P' Q Q' h.marks a b why f g h.after_them }
+
+  pub ends_as : {B : Type 0} (A A' : List Entry → Type 0) (t : Attempt) (a b : S) → ((entries : List Entry) → A entries → A' entries) → (loaded : Loaded B) → EndsOwn id w A t a b loaded → EndsOwn id w A' t a b loaded
+  ends_as A A' t a b f loaded h = record {
+    mid = h.mid;
+    opened = h.opened;
+    own = adds_as id w law (IsOwn w.alone A t loaded.visit) (IsOwn w.alone A' t loaded.visit) (statuses_of loaded.end) h.mid b (own_as w A A' t loaded.visit f) h.own;
+    last = h.last;
+  }
+
+  pub stops_as : (A A' : List Entry → Type 0) (t : Attempt) (a b : S) → ((entries : List Entry) → A entries → A' entries) → (fault : LoadFault) → StopsLoad id w A t a b fault → StopsLoad id w A' t a b fault
+  stops_as A A' t a b f fault (inl h) = inl (record { no_visit = h.no_visit; now = h.now })
+  stops_as A A' t a b f fault (inr h) = inr (record {
+    mid = h.mid;
+    opened = h.opened;
+    later = unended_as (IsOwn w.alone A t fault.visit) (IsOwn w.alone A' t fault.visit) (IsOwnAsked A t fault.visit) (IsOwnAsked A' t fault.visit) h.mid b fault.why (own_as w A A' t fault.visit f) (own_asked_as A A' t fault.visit f) h.later;
+  })
 
   -- nothing was marked
   pub unended_now : (P : EventKind → Type 0) (Q : Wish → Type 0) (a b : S) (why : Stop) → w.ready a → StopsNow id w Q a b why → StopsUnended id w P Q a b why
@@ -107,20 +110,6 @@ module _ {S : Type 0} (id : Kind → List ℕ → List ℕ) (w : Words S) (law :
     pub now_own : (A : List Entry → Type 0) (a b : S) (why : Stop) → StopsNow id w (IsMarkAsked t number) a b why → StopsNow id w (IsOwnAsked A t number) a b why
     now_own A a b why h = asking_as id w law (IsMarkAsked t number) (IsOwnAsked A t number) a b why (own_mark_asked A t number) h
 
-    -- what was sent and marked, as a load's own
-    pub part_own : (objects : List Entry) (A : List Entry → Type 0) (marks : Statuses) (a b : S) → ((entries : List Entry) → AreAmong objects entries → A entries) → Adds w (IsOfVisit w.alone objects t number) marks a b → Adds w (IsOwn w.alone A t number) marks a b
-    part_own objects A marks a b f h = adds_as id w law (IsOfVisit w.alone objects t number) (IsOwn w.alone A t number) marks a b (own_part w objects A t number f) h
-
-    pub part_stops_own : (objects : List Entry) (A : List Entry → Type 0) (a b : S) (why : Stop) → ((entries : List Entry) → AreAmong objects entries → A entries) → StopsAfter id w (IsOfVisit w.alone objects t number) (IsOfVisitAsked objects t number) [] a b why → StopsAfter id w (IsOwn w.alone A t number) (IsOwnAsked A t number) [] a b why
-    part_stops_own objects A a b why f h = after_as id w law (IsOfVisit w.alone objects t number) (IsOwn w.alone A t number) (IsOfVisitAsked objects t number) (IsOwnAsked A t number) [] a b why (own_part w objects A t number f) (own_part_asked objects A t number f) h
-
-    -- what an input made, sent and marked
-    pub given_part : {N B : Type 0} (x : Input N B) (made : Objects N) → x ≡ given.Made made → (marks : Statuses) (a b : S) → Adds w (IsOfVisit w.alone made.objects.items t number) marks a b → Adds w (IsOwn w.alone (AreOf x) t number) marks a b
-    given_part x made is marks a b h = part_own made.objects.items (AreOf x) marks a b (λ entries among. subst (λ y. AreOf y entries) (sym is) among) h
-
-    pub given_stops : {N B : Type 0} (x : Input N B) (made : Objects N) → x ≡ given.Made made → (a b : S) (why : Stop) → StopsAfter id w (IsOfVisit w.alone made.objects.items t number) (IsOfVisitAsked made.objects.items t number) [] a b why → StopsAfter id w (IsOwn w.alone (AreOf x) t number) (IsOwnAsked (AreOf x) t number) [] a b why
-    given_stops x made is a b why h = part_stops_own made.objects.items (AreOf x) a b why (λ entries among. subst (λ y. AreOf y entries) (sym is) among) h
-
     -- a mark, and then a load's own
     pub begun_own : (A B : List Entry → Type 0) (last : Status × Option (List ℕ)) (a m b : S) → ((entries : List Entry) → A entries → B entries) → Begun (IsMarkOf t number) a m → Adds w (IsOwn w.alone A t number) (last ∷ []) m b → Adds w (IsOwn w.alone B t number) ((Ongoing, None) ∷ (last ∷ [])) a b
     begun_own A B last a m b f h k =
@@ -146,20 +135,3 @@ module _ {S : Type 0} (id : Kind → List ℕ → List ℕ) (w : Words S) (law :
 
   pub opened_mine : (t : Attempt) (a m : S) (number : ℕ) → (w.known a).number ≡ t.by → Opens id w t a m number → IsMine (w.known m) t number
   opened_mine t a m number same h = record { by_one = (law.grows (open_event t ∷ []) a m h.adds).number ∙ same; statuses = _; visit = h.visit }
-
--- what is said of an input that was found so
-module _ {I N B E : Type 0} (Reads : I → Result (Input N B) E → I → Type 0) (is : Opening) where
-  pub allowed_found : (i : I) → is ≡ opening.Found → (entries : List Entry) → AreRead Reads i entries → AreAllowed Reads is i entries
-  allowed_found i found entries h = subst (λ (o : Opening). AreAllowed Reads o i entries) (sym found) h
-
-  pub end_found : {F : Type 0} (r : Result (End B) F) (bodies : Bodies) (i now : I) → is ≡ opening.Found → IfOk r (IsReadEnd Reads bodies i now) → IfOk r (IsEndAt Reads is bodies i now)
-  end_found r bodies i now found h = subst (λ (o : Opening). IfOk r (IsEndAt Reads o bodies i now)) (sym found) h
-
-  pub same_found : (i now : I) → is ≡ opening.Found → IsSameOrRead Reads opening.Found i now → IsSameOrRead Reads is i now
-  same_found i now found h = subst (λ (o : Opening). IsSameOrRead Reads o i now) (sym found) h
-
-  pub end_absent : {F : Type 0} (r : Result (End B) F) (bodies : Bodies) (i : I) → is ≡ opening.NotFound → IfOk r (λ end. end ≡ NotFound) → IfOk r (IsEndAt Reads is bodies i i)
-  end_absent r bodies i found h = subst (λ (o : Opening). IfOk r (IsEndAt Reads o bodies i i)) (sym found) (ok_as r (λ end. end ≡ NotFound) (IsEndAt Reads opening.NotFound bodies i i) (λ end e. (e, refl)) h)
-
-  pub end_unread : {F : Type 0} (r : Result (End B) F) (bodies : Bodies) (i : I) → is ≡ opening.Failed → IfOk r (λ end. end ≡ Unread) → IfOk r (IsEndAt Reads is bodies i i)
-  end_unread r bodies i found h = subst (λ (o : Opening). IfOk r (IsEndAt Reads o bodies i i)) (sym found) (ok_as r (λ end. end ≡ Unread) (IsEndAt Reads opening.Failed bodies i i) (λ end e. (e, refl)) h)

@@ -29,7 +29,7 @@ use Rattle.swh_walk.specs.declared.stop.Stop.{Stop}
 use Rattle.swh_model.specs.declared.event.EventKind.{EventKind}
 use Rattle.swh_model.specs.declared.event.Wish.{Wish}
 use Rattle.swh_place.specs.Knowing.{Words, IsLawful}
-use Rattle.swh_walk.specs.Sending.{IsHeldWhole, AllHeld, IsMet, AreSent, BatchHasRoom, IsJoined, IsPendingBatch, IsInHand, KeepsInHand, HasRoomNow, IsTakenIn, TakesEntry}
+use Rattle.swh_walk.specs.Sending.{IsHeldWhole, AllHeld, IsMet, AreSent, BatchHasRoom, IsJoined, IsPendingBatch, IsInHand, KeepsInHand, HasRoomNow, IsTakenIn, TakesEntry, AreTakenIn, AreSentAfter}
 use Rattle.swh_walk.proofs.Steps.{all_as, adds_then, adds_as, after_then, after_as, asking_as}
 use Rattle.swh_walk.proofs.Batches.{at_element, among_all}
 
@@ -46,6 +46,9 @@ last_among xs e = Contains-append_right xs (e ∷ []) e (0, omega arith, refl)
 
 pub among_push : (xs ys : List Entry) (e : Entry) → AreAmong xs ys → AreAmong (xs ++ e ∷ []) (ys ++ e ∷ [])
 among_push xs ys e h = all-append (Contains (xs ++ e ∷ [])) ys (e ∷ []) (among_front xs (e ∷ []) ys h) (last_among xs e, tt)
+
+pub among_both : (xs ys zs : List Entry) → AreAmong xs ys → AreAmong (xs ++ zs) (ys ++ zs)
+among_both xs ys zs h = all-append (Contains (xs ++ zs)) ys zs (among_front xs zs ys h) (all_as (Contains zs) (Contains (xs ++ zs)) (λ e. Contains-append_right xs zs e) zs (among_all zs))
 
 -- those that wait and the next object are among all objects
 pub among_next : (all done left next : List Entry) (e : Entry) (waiting : List Entry) → all ≡ done ++ left → left ≡ (e ∷ []) ++ next → AreAmong all waiting → AreAmong all (waiting ++ e ∷ [])
@@ -236,11 +239,16 @@ module _ {N : Type 0} (id : Kind → List ℕ → List ℕ) (alone : Bool) where
   in_hand_held a b p w sent e (inl held) = w e.name e.body held
   in_hand_held a b p w sent e (inr waits) = waits_held b p.objects.items e sent waits
 
-  -- all was taken in, and what waited was sent
-  pub took_all : (a b : Bodies) (p : Pending N) (all left : List Entry) → Took a p all left → left ≡ [] → IsWithin a b → AllHeld b p.objects.items → AllHeld b all
-  took_all a b p all left t none w sent =
+  -- all was taken in
+  pub took_in_hand : (bodies : Bodies) (p : Pending N) (all left : List Entry) → Took bodies p all left → left ≡ [] → AllByRecursion (IsInHand bodies p) all
+  took_in_hand bodies p all left t none =
       let whole : all ≡ t.done = t.cut ∙ ap (λ (x : List Entry). t.done ++ x) none ∙ append-nil t.done in
-      subst (AllHeld b) (sym whole) (all_as (IsInHand a p) (IsHeldWhole b) (in_hand_held a b p w sent) t.done t.each)
+      subst (AllByRecursion (IsInHand bodies p)) (sym whole) t.each
+
+  -- what waited was sent
+  pub sent_after : (a b c : Bodies) (p q : Pending N) (es : List Entry) (o : Option Name) → AreTakenIn id alone a p es b q → IsWithin b c → AreSent c q.objects.items o → AreSentAfter a p es c o
+  sent_after a b c p q es None t w sent = (λ e h. in_hand_held b c q w sent e (t.keeps e h), all_as (IsInHand b q) (IsHeldWhole c) (in_hand_held b c q w sent) es t.taken)
+  sent_after a b c p q es (Some name) t w met = met_among c (p.objects.items ++ es) q.objects.items name t.among met
 
 -- a batch of some of these is one of these
 pub batch_as : (alone : Bool) (xs ys : List Entry) → AreAmong xs ys → (what : EventKind) → IsBatchAmong alone ys what → IsBatchAmong alone xs what
@@ -262,7 +270,6 @@ module _ {S : Type 0} (id : Kind → List ℕ → List ℕ) (w : Words S) (law :
   pub stops_next : (why : Stop) → StopsNow id w (IsBatchAsked ys) b c why → StopsAfter id w (IsBatchAmong w.alone xs) (IsBatchAsked xs) [] a c why
   stops_next why k = record { mid = b; first = first; stops = asking_as id w law (IsBatchAsked ys) (IsBatchAsked xs) b c why (asked_as xs ys among) k }
 
--- what came of all objects, by what came of those that waited last
-pub sent_all : {N : Type 0} (id : Kind → List ℕ → List ℕ) (alone : Bool) (a b : Bodies) (p : Pending N) (all left : List Entry) (o : Option Name) → Took id alone a p all left → left ≡ [] → AreAmong all p.objects.items → IsWithin a b → AreSent b p.objects.items o → AreSent b all o
-sent_all id alone a b p all left None t none among w sent = took_all id alone a b p all left t none w sent
-sent_all id alone a b p all left (Some name) t none among w met = met_among b all p.objects.items name among met
+-- a cut behind what waited before
+pub front_cut : (front all done left : List Entry) → all ≡ done ++ left → front ++ all ≡ (front ++ done) ++ left
+front_cut front all done left cut = ap (λ (t : List Entry). front ++ t) cut ∙ sym (append_assoc front done left)

@@ -5,3 +5,4 @@ pub mod Stopping
 pub mod Visiting
 pub mod Walking
 pub mod Sending
+pub mod Parts

@@ -96,3 +96,24 @@ TakesEntry id alone before p e bodies (Collides name) = IsMet bodies (p.objects.
 abbrev pub MakesRoom : {N : Type 0} → (Kind → List ℕ → List ℕ) → Bool → Bodies → Pending N → Bodies → Taken N → Type 0
 MakesRoom id alone before p bodies (Waits q) = HasRoomNow id alone before p bodies q
 MakesRoom id alone before p bodies (Collides name) = IsMet bodies p.objects.items name
+
+-- The entries are in hand, after those that were before.
+pub record AreTakenIn {N : Type 0} (id : Kind → List ℕ → List ℕ) (alone : Bool) (before : Bodies) (p : Pending N) (es : List Entry) (bodies : Bodies) (q : Pending N) : Type 0 where
+  pub waiting : IsPendingBatch id alone bodies q
+  pub among : AreAmong (p.objects.items ++ es) q.objects.items
+  pub keeps : KeepsInHand before p bodies q
+  pub taken : AllByRecursion (IsInHand bodies q) es
+
+-- What became of some objects, after those that wait.
+abbrev pub TakesPart : {N : Type 0} → (Kind → List ℕ → List ℕ) → Bool → Bodies → Pending N → List Entry → Bodies → Taken N → Type 0
+TakesPart id alone before p es bodies (Waits q) = AreTakenIn id alone before p es bodies q
+TakesPart id alone before p es bodies (Collides name) = IsMet bodies (p.objects.items ++ es) name
+
+-- What was in hand is held.
+abbrev pub HoldsInHand : {N : Type 0} → Bodies → Pending N → Bodies → Type 0
+HoldsInHand before p bodies = (e : Entry) → IsInHand before p e → IsHeldWhole bodies e
+
+-- All are held after what was in hand, or one collides.
+abbrev pub AreSentAfter : {N : Type 0} → Bodies → Pending N → List Entry → Bodies → Option Name → Type 0
+AreSentAfter before p es bodies None = HoldsInHand before p bodies × AllHeld bodies es
+AreSentAfter before p es bodies (Some name) = IsMet bodies (p.objects.items ++ es) name

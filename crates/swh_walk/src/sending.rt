@@ -6,7 +6,7 @@ ghost use Rattle.swh_place.specs.Knowing.{held_in};
 ghost use Rattle.swh_store.specs.Adding.{HasOther};
 ghost use Rattle.swh_store.specs.Entries.{bodies_in};
 ghost use Rattle.swh_walk.specs.Owning.{IsBatchAmong, IsBatchAsked};
-ghost use Rattle.swh_walk.specs.Sending.{BatchHasRoom, IsPendingBatch, IsMet, AreSent, MakesRoom, TakesEntry};
+ghost use Rattle.swh_walk.specs.Sending.{AreSent, AreSentAfter, BatchHasRoom, IsMet, IsPendingBatch, MakesRoom, TakesEntry, TakesPart};
 ghost use Rattle.swh_walk.specs.Walking.{Adds, StopsNow, StopsAfter};
 
 use crate::pending::Pending;
@@ -201,29 +201,62 @@ fn take_in<N: Namer, S, P: Place<Plan<N>, S>>(
     }
 }
 
-/// Sends what is new of some objects, in order, up to the first that collides.
-pub fn send_all<N: Namer, S, P: Place<Plan<N>, S>>(
+/// Takes some objects in, in order, up to the first that collides. What is new is sent as soon as a batch is full.
+pub fn send_part<N: Namer, S, P: Place<Plan<N>, S>>(
     alloc: Global,
     place: &P,
     seat: &mut S,
+    pending: Pending<N>,
+    objects: Vec<Object<N>>,
+) -> Result<Taken<N>, Stop>
+    requires fits { P.fits place.now }
+    requires ready { (P.words place.now).ready seat.old }
+    requires waiting { IsPendingBatch N.id_of (P.words place.now).alone
+        (held_in ((P.words place.now).known seat.old)) pending }
+    ensures taken { IfOk result (TakesPart N.id_of (P.words place.now).alone
+        (held_in ((P.words place.now).known seat.old)) pending objects.items
+        (held_in ((P.words place.now).known seat.new))) }
+    ensures adds { OnOk result (Adds (P.words place.now)
+        (IsBatchAmong (P.words place.now).alone (pending.objects.items ++ objects.items)) [] seat.old seat.new) }
+    ensures stops { IfErr result (StopsAfter N.id_of (P.words place.now)
+        (IsBatchAmong (P.words place.now).alone (pending.objects.items ++ objects.items))
+        (IsBatchAsked (pending.objects.items ++ objects.items)) [] seat.old seat.new) }
+{
+    let mut left = VecDeque::from_vec(objects);
+    let mut waiting = pending;
+    'objects: while let Some(object) = left.pop_front() {
+        waiting = match take_in(alloc, place, seat, waiting, object) {
+            Ok(Taken::Waits(waiting)) => waiting,
+            Ok(Taken::Collides(name)) => return Ok(Taken::Collides(name)),
+            Err(why) => return Err(why),
+        };
+    }
+    Ok(Taken::Waits(waiting))
+}
+
+/// Takes the last objects in, and sends what waits then. Answers the name of the first that collides.
+pub fn send_last<N: Namer, S, P: Place<Plan<N>, S>>(
+    alloc: Global,
+    place: &P,
+    seat: &mut S,
+    pending: Pending<N>,
     objects: Vec<Object<N>>,
 ) -> Result<Option<Name>, Stop>
     requires fits { P.fits place.now }
     requires ready { (P.words place.now).ready seat.old }
-    ensures sent { IfOk result (AreSent (held_in ((P.words place.now).known seat.new)) objects.items) }
+    requires waiting { IsPendingBatch N.id_of (P.words place.now).alone
+        (held_in ((P.words place.now).known seat.old)) pending }
+    ensures sent { IfOk result (AreSentAfter (held_in ((P.words place.now).known seat.old)) pending objects.items
+        (held_in ((P.words place.now).known seat.new))) }
     ensures adds { OnOk result (Adds (P.words place.now)
-        (IsBatchAmong (P.words place.now).alone objects.items) [] seat.old seat.new) }
+        (IsBatchAmong (P.words place.now).alone (pending.objects.items ++ objects.items)) [] seat.old seat.new) }
     ensures stops { IfErr result (StopsAfter N.id_of (P.words place.now)
-        (IsBatchAmong (P.words place.now).alone objects.items) (IsBatchAsked objects.items) [] seat.old seat.new) }
+        (IsBatchAmong (P.words place.now).alone (pending.objects.items ++ objects.items))
+        (IsBatchAsked (pending.objects.items ++ objects.items)) [] seat.old seat.new) }
 {
-    let mut left = VecDeque::from_vec(objects);
-    let mut pending = Pending::new(alloc);
-    'objects: while let Some(object) = left.pop_front() {
-        pending = match take_in(alloc, place, seat, pending, object) {
-            Ok(Taken::Waits(pending)) => pending,
-            Ok(Taken::Collides(name)) => return Ok(Some(name)),
-            Err(why) => return Err(why),
-        };
+    match send_part(alloc, place, seat, pending, objects) {
+        Ok(Taken::Waits(waiting)) => flush(place, seat, waiting),
+        Ok(Taken::Collides(name)) => Ok(Some(name)),
+        Err(why) => Err(why),
     }
-    flush(place, seat, pending)
 }

@@ -2,12 +2,13 @@
 ghost use Rattle.std.specs.Prelude.{IfOk, IfSome};
 ghost use Rattle.swh_base.specs.Namer.{byte_id};
 ghost use Rattle.swh_made.specs.Whole.{HasAllThatIsReached};
+ghost use Rattle.swh_walk.specs.Loading.{IsWhole};
 
 use crate::desk::{Desk, Second};
 use std::alloc::{AllocError, Global};
 use std::collections::VecDeque;
 use std::test::Fail;
-use swh_base::{ByteNamer, Kind, Name, Url, VisitKind};
+use swh_base::{ByteNamer, Kind, Memory, Name, Url, VisitKind};
 use swh_fastload::load_source;
 use swh_fixtures::{URL, made_archive};
 use swh_made::Objects;
@@ -15,8 +16,8 @@ use swh_memory::MemorySource;
 use swh_model::{Event, EventKind};
 use swh_object::Object;
 use swh_outside::OpenGate;
-use swh_plan::{How, Plan};
-use swh_walk::{OpenVisit, Turn, Worker, finish, mark, open_visit};
+use swh_plan::Plan;
+use swh_walk::{self as walk, ByCall, Input, Job, Opening, Turn, Worker, load};
 
 // The end of a walk.
 #[derive(Clone, Copy, Debug, PartialEq, Eq)]
@@ -110,13 +111,18 @@ const CASES: &[Case<'static>] = &[
     },
 ];
 
+// A content.
+pub fn content_of(alloc: Global, body: Vec<u8>) -> Result<Object<ByteNamer>, AllocError> {
+    match Object::make(alloc, &ByteNamer, Kind::Content, body) {
+        Ok(object) => Ok(object),
+        Err(_) => Err(AllocError),
+    }
+}
+
 // A plan of one content.
 fn content(alloc: Global, body: &[u8]) -> Result<Plan<ByteNamer>, AllocError> {
     let mut objects = Vec::with_capacity(alloc, 1)?;
-    let Ok(object) = Object::make(alloc, &ByteNamer, Kind::Content, body.to_vec(alloc)?) else {
-        return Err(AllocError);
-    };
-    objects.push(object)?;
+    objects.push(content_of(alloc, body.to_vec(alloc)?)?)?;
     Ok(Plan::Batch(objects))
 }
 
@@ -141,26 +147,10 @@ fn made_of(alloc: Global, stream: &[u8]) -> Result<Option<Objects<ByteNamer>>, A
     }
 }
 
-// Opens a visit, and ends it once what was made is sent.
-fn walk(alloc: Global, desk: &mut Desk, origin: &Url, made: Objects<ByteNamer>) -> End
+// Loads what was made, as a visit of this origin.
+fn load_made(alloc: Global, desk: &mut Desk, origin: &Url, made: Objects<ByteNamer>) -> End
     requires { HasAllThatIsReached byte_id made }
 {
-    let kind = VisitKind::Fast;
-    let date = 1_000_000_000;
-    let Ok(number) = open_visit::<ByteNamer, Desk, Second>(alloc, &Second, desk, origin, kind, date)
-    else {
-        return End::Stopped;
-    };
-    let visit = OpenVisit {
-        by: 2,
-        origin,
-        kind,
-        date,
-        number,
-    };
-    if mark::<ByteNamer, Desk, Second>(alloc, &Second, desk, &visit, How::Ongoing).is_err() {
-        return End::Stopped;
-    }
     let worker = Worker {
         by: 2,
         gate: &OpenGate,
@@ -170,9 +160,29 @@ fn walk(alloc: Global, desk: &mut Desk, origin: &Url, made: Objects<ByteNamer>) 
         worker: &worker,
         job: 0,
     };
-    match finish(alloc, &Second, desk, &visit, made, &turn) {
-        Ok(None) => End::Full,
-        Ok(Some(name)) => End::Met(name),
+    let job = Job {
+        origin,
+        kind: VisitKind::Fast,
+        date: 1_000_000_000,
+        opening: Opening::Found,
+        read: ByCall {
+            call: |made: &mut Option<Objects<ByteNamer>>| -> Result<Input<ByteNamer, ()>, Memory>
+                requires { IfSome made.old (HasAllThatIsReached byte_id) }
+                ensures { IfOk result (IsWhole byte_id) }
+            {
+                match made.take() {
+                    Some(made) => Ok(Input::Made(made)),
+                    None => Err(Memory),
+                }
+            },
+        },
+    };
+    match load(alloc, &Second, desk, &turn, &job, &mut Some(made)) {
+        Ok(loaded) => match loaded.end {
+            walk::End::Full { .. } => End::Full,
+            walk::End::Met(name) => End::Met(name),
+            _ => End::Stopped,
+        },
         Err(_) => End::Stopped,
     }
 }
@@ -183,7 +193,7 @@ fn events_by(history: &[Event], by: u32) -> usize {
 }
 
 // How many objects the batches of loader 2 have.
-fn objects_in(history: &[Event]) -> usize {
+pub fn objects_in(history: &[Event]) -> usize {
     let mut count: usize = 0;
     for event in history {
         if let EventKind::Batch(entries) = &event.what {
@@ -214,7 +224,7 @@ fn ends_so(
     let Ok(origin) = Url::new(alloc, URL) else {
         return Ok(false);
     };
-    let end = walk(alloc, desk, &origin, made);
+    let end = load_made(alloc, desk, &origin, made);
     let held = holds_ab(desk);
     let history = desk.keeper.history();
     Ok(

@@ -1,45 +1,57 @@
-use Rattle.std.proofs.Common.{inl, inr, refl}
+use Rattle.swh_walk.specs.Loading as once
 use Rattle.swh_walk.specs.Owning.{attempt}
-use Rattle.swh_walk.proofs.Loads.{opened_mine, opened_ready, opens_by}
+use Rattle.swh_walk.specs.Parts as parts
+use Rattle.swh_walk.proofs.Loads.{ends_as, err_as, ok_as, stops_as}
+use Rattle.swh_walk.proofs.Once.{allowed_once, end_once, same_once, whole_once}
+use Rattle.swh_place.specs.Knowing.{held_in}
 use Rattle.swh_walk.proofs.loading.load.Goals as goal
 
-pub load_opened-requires-clause-ready : goal.load_opened-requires-clause-ready
-load_opened-requires-clause-ready g c κs within =
-    let job = c.args.job.now in
-    let w = g.P.Place.words c.args.place.now in
-    opened_ready g.N.Namer.id_of w (g.met.P.Place.lawful c.args.place.now) (attempt (w.known c.args.seat.now).number job.origin.now job.kind job.date) c.args.seat.now c.open_visit.new.seat c.in-Ok.number c.in-Ok.ensures.opened
+pub load_parts-requires-clause-whole : goal.load_parts-requires-clause-whole
+load_parts-requires-clause-whole g c κs within =
+    whole_once (g.R.Reads.gives c.args.job.now.read) c.args.input.now g.N.Namer.id_of c.requires.whole
 
-pub load_opened-requires-clause-mine : goal.load_opened-requires-clause-mine
-load_opened-requires-clause-mine g c κs within =
+pub returns-clause-ended : goal.returns-clause-ended
+returns-clause-ended g c =
     let job = c.args.job.now in
-    let by = c.args.turn.now.worker.now.by in
     let id = g.N.Namer.id_of in
     let w = g.P.Place.words c.args.place.now in
-    let law = g.met.P.Place.lawful c.args.place.now in
-    opened_mine id w law (attempt by job.origin.now job.kind job.date) c.args.seat.now c.open_visit.new.seat c.in-Ok.number c.requires.number
-    (opens_by id w law job.origin.now job.kind job.date by c.args.seat.now c.open_visit.new.seat c.in-Ok.number c.requires.number c.in-Ok.ensures.opened)
+    let t = attempt c.args.turn.now.worker.now.by job.origin.now job.kind job.date in
+    let reads = g.R.Reads.gives job.read in
+    let i = c.args.input.now in
+    let A = parts.AreAllowed (parts.GivesAtOnce reads) job.opening i in
+    let B = once.AreAllowed reads job.opening i in
+    let a = c.args.seat.now in
+    let b = c.load_parts.new.seat in
+    ok_as c.load_parts.result (once.EndsOwn id w A t a b) (once.EndsOwn id w B t a b)
+    (ends_as id w (g.met.P.Place.lawful c.args.place.now) A B t a b (allowed_once reads i job.opening)) c.load_parts.ensures.ended
 
-pub returns-in-Ok-load_opened-clause-ended : goal.returns-in-Ok-load_opened-clause-ended
-returns-in-Ok-load_opened-clause-ended g c =
+pub returns-clause-end : goal.returns-clause-end
+returns-clause-end g c =
     let job = c.args.job.now in
-    let by = c.args.turn.now.worker.now.by in record {
-      mid = c.open_visit.new.seat;
-      opened = opens_by g.N.Namer.id_of (g.P.Place.words c.args.place.now) (g.met.P.Place.lawful c.args.place.now) job.origin.now job.kind job.date by c.args.seat.now c.open_visit.new.seat c.in-Ok.number c.requires.number c.in-Ok.ensures.opened;
-      own = c.in-Ok-load_opened.ensures.adds;
-      last = c.in-Ok-load_opened.ensures.last;
-    }
+    let w = g.P.Place.words c.args.place.now in
+    let reads = g.R.Reads.gives job.read in
+    let i = c.args.input.now in
+    let now = c.load_parts.new.input in
+    let bodies = held_in (w.known c.load_parts.new.seat) in
+    ok_as c.load_parts.result (λ loaded. parts.IsEndAt (parts.GivesAtOnce reads) job.opening bodies i now loaded.end) (λ loaded. once.IsEndAt reads job.opening bodies i now loaded.end)
+    (λ loaded h. end_once reads i job.opening bodies now loaded.end h) c.load_parts.ensures.end
 
-pub returns-in-Err-clause-stops : goal.returns-in-Err-clause-stops
-returns-in-Err-clause-stops g c = inl (record { no_visit = refl; now = c.in-Err.ensures.stops })
-
-pub returns-in-Err-clause-input : goal.returns-in-Err-clause-input
-returns-in-Err-clause-input g c = inl refl
-
-pub returns-in-Err-load_opened-clause-stops : goal.returns-in-Err-load_opened-clause-stops
-returns-in-Err-load_opened-clause-stops g c =
+pub returns-clause-stops : goal.returns-clause-stops
+returns-clause-stops g c =
     let job = c.args.job.now in
-    let by = c.args.turn.now.worker.now.by in inr (record {
-      mid = c.open_visit.new.seat;
-      opened = opens_by g.N.Namer.id_of (g.P.Place.words c.args.place.now) (g.met.P.Place.lawful c.args.place.now) job.origin.now job.kind job.date by c.args.seat.now c.open_visit.new.seat c.in-Ok.number c.requires.number c.in-Ok.ensures.opened;
-      later = c.in-Err-load_opened.ensures.stops;
-    })
+    let id = g.N.Namer.id_of in
+    let w = g.P.Place.words c.args.place.now in
+    let t = attempt c.args.turn.now.worker.now.by job.origin.now job.kind job.date in
+    let reads = g.R.Reads.gives job.read in
+    let i = c.args.input.now in
+    let A = parts.AreAllowed (parts.GivesAtOnce reads) job.opening i in
+    let B = once.AreAllowed reads job.opening i in
+    let a = c.args.seat.now in
+    let b = c.load_parts.new.seat in
+    err_as c.load_parts.result (once.StopsLoad id w A t a b) (once.StopsLoad id w B t a b)
+    (stops_as id w (g.met.P.Place.lawful c.args.place.now) A B t a b (allowed_once reads i job.opening)) c.load_parts.ensures.stops
+
+pub returns-clause-input : goal.returns-clause-input
+returns-clause-input g c =
+    let job = c.args.job.now in
+    same_once (g.R.Reads.gives job.read) c.args.input.now job.opening c.load_parts.new.input c.load_parts.ensures.input

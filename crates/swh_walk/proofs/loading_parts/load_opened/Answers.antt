@@ -5,12 +5,14 @@ use Rattle.swh_walk.specs.declared.end.End.TheVariants.{NotFound, Unread}
 use Rattle.swh_walk.specs.declared.stop.Stop.TheVariants.{Memory}
 use Rattle.swh_walk.specs.Owning.{attempt_of}
 use Rattle.swh_walk.specs.Ending.{IsMarkOf, IsMarkAsked}
-use Rattle.swh_walk.specs.Loading.{AreAllowed, AreRead, IsOwn, IsOwnAsked, StopsUnended, last_at, statuses_of}
+use Rattle.swh_walk.specs.Loading.{IsOwn, IsOwnAsked, StopsUnended, last_at, statuses_of}
 use Rattle.swh_walk.specs.Visiting.{HasLast}
 use Rattle.swh_walk.specs.Walking.{Adds, StopsNow}
-use Rattle.swh_walk.proofs.Loads.{allowed_found, end_absent, end_found, end_unread, err_as, marks_own, now_own, ok_as, on_as, own_as, own_asked_as, same_found, told_so, unended_as, unended_now, unended_own}
+use Rattle.swh_walk.specs.Parts.{AreAllowed, AreGiven}
+use Rattle.swh_walk.proofs.Loads.{err_as, marks_own, now_own, ok_as, on_as, own_as, own_asked_as, told_so, unended_as, unended_now, unended_own}
+use Rattle.swh_walk.proofs.Owned.{allowed_found, end_absent, end_found, end_unread, same_found}
 use Rattle.swh_walk.proofs.Steps.{adds_as}
-use Rattle.swh_walk.proofs.loading.load_opened.Goals as goal
+use Rattle.swh_walk.proofs.loading_parts.load_opened.Goals as goal
 
 pub load_found-requires-clause-takes : goal.load_found-requires-clause-takes
 load_found-requires-clause-takes g c κs within = c.requires.takes c.in-Found.is
@@ -18,7 +20,7 @@ load_found-requires-clause-takes g c κs within = c.requires.takes c.in-Found.is
 pub returns-in-Found-clause-end : goal.returns-in-Found-clause-end
 returns-in-Found-clause-end g c =
     let job = c.args.job.now in
-    end_found (g.R.Reads.gives job.read) job.opening c.load_found.result (held_in ((g.P.Place.words c.args.place.now).known c.load_found.new.seat)) c.args.input.now c.load_found.new.input c.in-Found.is c.load_found.ensures.end
+    end_found (g.R.ReadsParts.gives job.read) job.opening c.load_found.result (held_in ((g.P.Place.words c.args.place.now).known c.load_found.new.seat)) c.args.input.now c.load_found.new.input c.in-Found.is c.load_found.ensures.end
 
 pub returns-in-Found-clause-adds : goal.returns-in-Found-clause-adds
 returns-in-Found-clause-adds g c =
@@ -26,12 +28,12 @@ returns-in-Found-clause-adds g c =
     let v = c.args.task.now.visit in
     let t = attempt_of v in
     let w = g.P.Place.words c.args.place.now in
-    let A = AreRead (g.R.Reads.gives job.read) c.args.input.now in
-    let B = AreAllowed (g.R.Reads.gives job.read) job.opening c.args.input.now in
+    let A = AreGiven (g.R.ReadsParts.gives job.read) c.args.input.now in
+    let B = AreAllowed (g.R.ReadsParts.gives job.read) job.opening c.args.input.now in
     let a = c.args.seat.now in
     let b = c.load_found.new.seat in
     ok_as c.load_found.result (λ end. Adds w (IsOwn w.alone A t v.number) (statuses_of end) a b) (λ end. Adds w (IsOwn w.alone B t v.number) (statuses_of end) a b)
-    (λ end h. adds_as g.N.Namer.id_of w (g.met.P.Place.lawful c.args.place.now) (IsOwn w.alone A t v.number) (IsOwn w.alone B t v.number) (statuses_of end) a b (own_as w A B t v.number (allowed_found (g.R.Reads.gives job.read) job.opening c.args.input.now c.in-Found.is)) h) c.load_found.ensures.adds
+    (λ end h. adds_as g.N.Namer.id_of w (g.met.P.Place.lawful c.args.place.now) (IsOwn w.alone A t v.number) (IsOwn w.alone B t v.number) (statuses_of end) a b (own_as w A B t v.number (allowed_found (g.R.ReadsParts.gives job.read) job.opening c.args.input.now c.in-Found.is)) h) c.load_found.ensures.adds
 
 pub returns-in-Found-clause-stops : goal.returns-in-Found-clause-stops
 returns-in-Found-clause-stops g c =
@@ -40,9 +42,9 @@ returns-in-Found-clause-stops g c =
     let t = attempt_of v in
     let id = g.N.Namer.id_of in
     let w = g.P.Place.words c.args.place.now in
-    let A = AreRead (g.R.Reads.gives job.read) c.args.input.now in
-    let B = AreAllowed (g.R.Reads.gives job.read) job.opening c.args.input.now in
-    let f = allowed_found (g.R.Reads.gives job.read) job.opening c.args.input.now c.in-Found.is in
+    let A = AreGiven (g.R.ReadsParts.gives job.read) c.args.input.now in
+    let B = AreAllowed (g.R.ReadsParts.gives job.read) job.opening c.args.input.now in
+    let f = allowed_found (g.R.ReadsParts.gives job.read) job.opening c.args.input.now c.in-Found.is in
     let a = c.args.seat.now in
     let b = c.load_found.new.seat in
     err_as c.load_found.result (StopsUnended id w (IsOwn w.alone A t v.number) (IsOwnAsked A t v.number) a b) (StopsUnended id w (IsOwn w.alone B t v.number) (IsOwnAsked B t v.number) a b)
@@ -51,12 +53,12 @@ returns-in-Found-clause-stops g c =
 pub returns-in-Found-clause-input : goal.returns-in-Found-clause-input
 returns-in-Found-clause-input g c =
     let job = c.args.job.now in
-    same_found (g.R.Reads.gives job.read) job.opening c.args.input.now c.load_found.new.input c.in-Found.is c.load_found.ensures.input
+    same_found (g.R.ReadsParts.gives job.read) job.opening c.args.input.now c.load_found.new.input c.in-Found.is c.load_found.ensures.input
 
 pub returns-in-NotFound-clause-end : goal.returns-in-NotFound-clause-end
 returns-in-NotFound-clause-end g c =
     let job = c.args.job.now in
-    end_absent (g.R.Reads.gives job.read) job.opening c.end_as.result (held_in ((g.P.Place.words c.args.place.now).known c.end_as.new.seat)) c.args.input.now c.in-NotFound.is c.end_as.ensures.is
+    end_absent (g.R.ReadsParts.gives job.read) job.opening c.end_as.result (held_in ((g.P.Place.words c.args.place.now).known c.end_as.new.seat)) c.args.input.now c.in-NotFound.is c.end_as.ensures.is
 
 pub returns-in-NotFound-clause-last : goal.returns-in-NotFound-clause-last
 returns-in-NotFound-clause-last g c =
@@ -69,7 +71,7 @@ returns-in-NotFound-clause-adds g c =
     let v = c.args.task.now.visit in
     let t = attempt_of v in
     let w = g.P.Place.words c.args.place.now in
-    let B = AreAllowed (g.R.Reads.gives job.read) job.opening c.args.input.now in
+    let B = AreAllowed (g.R.ReadsParts.gives job.read) job.opening c.args.input.now in
     told_so c.end_as.result NotFound (λ end. Adds w (IsOwn w.alone B t v.number) (statuses_of end) c.args.seat.now c.end_as.new.seat) c.end_as.ensures.is
     (on_as c.end_as.result (λ h. marks_own g.N.Namer.id_of w (g.met.P.Place.lawful c.args.place.now) t v.number B ((NotFoundStatus, None) ∷ []) c.args.seat.now c.end_as.new.seat h) c.end_as.ensures.adds)
 
@@ -81,7 +83,7 @@ returns-in-NotFound-clause-stops g c =
     let id = g.N.Namer.id_of in
     let w = g.P.Place.words c.args.place.now in
     let law = g.met.P.Place.lawful c.args.place.now in
-    let B = AreAllowed (g.R.Reads.gives job.read) job.opening c.args.input.now in
+    let B = AreAllowed (g.R.ReadsParts.gives job.read) job.opening c.args.input.now in
     let a = c.args.seat.now in
     let b = c.end_as.new.seat in
     err_as c.end_as.result (StopsNow id w (IsMarkAsked t v.number) a b) (StopsUnended id w (IsOwn w.alone B t v.number) (IsOwnAsked B t v.number) a b)
@@ -93,7 +95,7 @@ returns-in-NotFound-clause-input g c = inl refl
 pub returns-in-Failed-clause-end : goal.returns-in-Failed-clause-end
 returns-in-Failed-clause-end g c =
     let job = c.args.job.now in
-    end_unread (g.R.Reads.gives job.read) job.opening c.end_unread.result (held_in ((g.P.Place.words c.args.place.now).known c.end_unread.new.seat)) c.args.input.now c.in-Failed.is c.end_unread.ensures.is
+    end_unread (g.R.ReadsParts.gives job.read) job.opening c.end_unread.result (held_in ((g.P.Place.words c.args.place.now).known c.end_unread.new.seat)) c.args.input.now c.in-Failed.is c.end_unread.ensures.is
 
 pub returns-in-Failed-clause-last : goal.returns-in-Failed-clause-last
 returns-in-Failed-clause-last g c =
@@ -106,7 +108,7 @@ returns-in-Failed-clause-adds g c =
     let v = c.args.task.now.visit in
     let t = attempt_of v in
     let w = g.P.Place.words c.args.place.now in
-    let B = AreAllowed (g.R.Reads.gives job.read) job.opening c.args.input.now in
+    let B = AreAllowed (g.R.ReadsParts.gives job.read) job.opening c.args.input.now in
     told_so c.end_unread.result Unread (λ end. Adds w (IsOwn w.alone B t v.number) (statuses_of end) c.args.seat.now c.end_unread.new.seat) c.end_unread.ensures.is
     (on_as c.end_unread.result (λ h. marks_own g.N.Namer.id_of w (g.met.P.Place.lawful c.args.place.now) t v.number B ((Ongoing, None) ∷ (Failed, None) ∷ []) c.args.seat.now c.end_unread.new.seat h) c.end_unread.ensures.adds)
 
@@ -117,7 +119,7 @@ returns-in-Failed-clause-stops g c =
     let t = attempt_of v in
     let id = g.N.Namer.id_of in
     let w = g.P.Place.words c.args.place.now in
-    let B = AreAllowed (g.R.Reads.gives job.read) job.opening c.args.input.now in
+    let B = AreAllowed (g.R.ReadsParts.gives job.read) job.opening c.args.input.now in
     let a = c.args.seat.now in
     let b = c.end_unread.new.seat in
     err_as c.end_unread.result (StopsUnended id w (IsMarkOf t v.number) (IsMarkAsked t v.number) a b) (StopsUnended id w (IsOwn w.alone B t v.number) (IsOwnAsked B t v.number) a b)
@@ -132,7 +134,7 @@ returns-in-Memory-clause-stops g c =
     let v = c.args.task.now.visit in
     let t = attempt_of v in
     let w = g.P.Place.words c.args.place.now in
-    let B = AreAllowed (g.R.Reads.gives job.read) job.opening c.args.input.now in
+    let B = AreAllowed (g.R.ReadsParts.gives job.read) job.opening c.args.input.now in
     unended_now g.N.Namer.id_of w (g.met.P.Place.lawful c.args.place.now) (IsOwn w.alone B t v.number) (IsOwnAsked B t v.number) c.args.seat.now c.args.seat.now Memory c.requires.ready (inl (refl, refl))
 
 pub returns-in-Memory-clause-input : goal.returns-in-Memory-clause-input

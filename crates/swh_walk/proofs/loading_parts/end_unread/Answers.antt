@@ -7,7 +7,7 @@ use Rattle.swh_walk.specs.Walking.{StopsNow}
 use Rattle.swh_walk.proofs.Ends.{mine_on}
 use Rattle.swh_walk.proofs.Loads.{begun, not_begun, begun_stops, on_as, err_as}
 use Rattle.swh_walk.proofs.Steps.{adds_then}
-use Rattle.swh_walk.proofs.loading.end_unread.Goals as goal
+use Rattle.swh_walk.proofs.loading_parts.end_unread.Goals as goal
 
 pub end_as-requires-clause-mine : goal.end_as-requires-clause-mine
 end_as-requires-clause-mine g c κs within =

@@ -1,0 +1,118 @@
+// What an input gives part by part, added to what is held.
+ghost use Rattle.std.specs.Prelude.{◌≡◌, ◌++◌, [], IfOk, IfErr, OnOk};
+ghost use Rattle.swh_place.specs.Knowing.{held_in};
+ghost use Rattle.swh_walk.specs.Owning.{IsBatchAmong, IsBatchAsked};
+ghost use Rattle.swh_walk.specs.Parts.{AreGiven, IsBatchAskedFor, IsBatchFor, IsLastSent, IsReadOn, IsSentSo};
+ghost use Rattle.swh_walk.specs.Sending.{IsPendingBatch};
+ghost use Rattle.swh_walk.specs.Walking.{Adds, StopsAfter};
+
+use crate::ending::Reached;
+use crate::parts::{Next, ReadsParts};
+use crate::pending::Pending;
+use crate::sending::{Taken, send_last, send_part};
+use crate::stop::Stop;
+use std::alloc::Global;
+use swh_base::{Memory, Name, Namer};
+use swh_made::Objects;
+use swh_object::Object;
+use swh_place::Place;
+use swh_plan::Plan;
+
+/// What became of the objects of an input.
+#[derive(Drop)]
+pub enum Sent<B> {
+    /// All are held.
+    All(Reached),
+    /// Another body is held under this name.
+    Met(Name),
+    /// The input is bad.
+    Bad(B),
+}
+
+/// Adds the names of objects.
+fn add_names<N: Namer>(names: &mut Vec<Name>, objects: &[Object<N>]) -> Result<(), Memory> {
+    for object in objects {
+        names.push(object.name())?;
+    }
+    Ok(())
+}
+
+/// Takes the last objects in, sends what waits then, and answers the names of all objects, in ascending order.
+fn send_rest<N: Namer, S, P: Place<Plan<N>, S>, B: Drop>(
+    alloc: Global,
+    place: &P,
+    seat: &mut S,
+    pending: Pending<N>,
+    names: Vec<Name>,
+    made: Objects<N>,
+) -> Result<Sent<B>, Stop>
+    requires fits { P.fits place.now }
+    requires ready { (P.words place.now).ready seat.old }
+    requires waiting { IsPendingBatch N.id_of (P.words place.now).alone
+        (held_in ((P.words place.now).known seat.old)) pending }
+    ensures sent { IfOk result (IsLastSent (held_in ((P.words place.now).known seat.old)) pending made
+        (held_in ((P.words place.now).known seat.new))) }
+    ensures adds { OnOk result (Adds (P.words place.now)
+        (IsBatchAmong (P.words place.now).alone (pending.objects.items ++ made.objects.items)) [] seat.old seat.new) }
+    ensures stops { IfErr result (StopsAfter N.id_of (P.words place.now)
+        (IsBatchAmong (P.words place.now).alone (pending.objects.items ++ made.objects.items))
+        (IsBatchAsked (pending.objects.items ++ made.objects.items)) [] seat.old seat.new) }
+{
+    let mut names = names;
+    let Ok(()) = add_names(&mut names, &made.objects) else {
+        return Err(Stop::Memory);
+    };
+    let snapshot = made.snapshot;
+    match send_last(alloc, place, seat, pending, made.objects) {
+        Ok(None) => {
+            names.sort_unstable();
+            Ok(Sent::All(Reached { snapshot, names }))
+        }
+        Ok(Some(name)) => Ok(Sent::Met(name)),
+        Err(why) => Err(why),
+    }
+}
+
+/// Reads an input part by part, and sends what is new of its objects, in order, up to the first that collides. A batch is
+/// sent as soon as it is full; what waits where the input is bad is not sent. Of the objects it keeps those of the part at
+/// hand and those that wait, which are a batch at most; of what was sent or found held it keeps the name alone, for the
+/// certificate.
+pub fn send_parts<N: Namer, S, P: Place<Plan<N>, S>, I, B: Drop, R: ReadsParts<I, Next<N, B>>>(
+    alloc: Global,
+    place: &P,
+    seat: &mut S,
+    read: &R,
+    input: &mut I,
+) -> Result<Sent<B>, Stop>
+    requires fits { P.fits place.now }
+    requires ready { (P.words place.now).ready seat.old }
+    requires takes { R.takes read.now input.old }
+    ensures sent { IfOk result (IsSentSo (R.gives read.now) (held_in ((P.words place.now).known seat.new))
+        input.old input.new) }
+    ensures adds { OnOk result (Adds (P.words place.now)
+        (IsBatchFor (P.words place.now).alone (AreGiven (R.gives read.now) input.old)) [] seat.old seat.new) }
+    ensures stops { IfErr result (StopsAfter N.id_of (P.words place.now)
+        (IsBatchFor (P.words place.now).alone (AreGiven (R.gives read.now) input.old))
+        (IsBatchAskedFor (AreGiven (R.gives read.now) input.old)) [] seat.old seat.new) }
+    ensures input { IsReadOn (R.gives read.now) input.old input.new }
+{
+    let mut pending = Pending::new(alloc);
+    let mut names = Vec::new(alloc);
+    'parts: loop {
+        match read.next(input) {
+            Ok(Next::Part(objects)) => {
+                let Ok(()) = add_names(&mut names, &objects) else {
+                    return Err(Stop::Memory);
+                };
+                pending = match send_part(alloc, place, seat, pending, objects) {
+                    Ok(Taken::Waits(waiting)) => waiting,
+                    Ok(Taken::Collides(name)) => return Ok(Sent::Met(name)),
+                    Err(why) => return Err(why),
+                };
+            }
+            Ok(Next::Last(made)) => return send_rest(alloc, place, seat, pending, names, made),
+            Ok(Next::Bad(bad)) => return Ok(Sent::Bad(bad)),
+            Err(_) => return Err(Stop::Memory),
+        }
+    }
+}
