@@ -1,5 +1,5 @@
 //! Tests of the loader of sources over streams in memory: faults and their places, streams that git wrote, and streams
-//! by hand, with the ids that git gives.
+//! by hand, with the ids that git gives; and streams that are read part by part.
 //! Stands on `swh_base`, `swh_memory_input`, `swh_object` and `swh_fastload`.
 //! Nothing stands above it.
 #![tactic(auto)]
@@ -8,6 +8,8 @@
 mod faults;
 #[cfg(test)]
 mod first_steps;
+#[cfg(test)]
+mod parts;
 #[cfg(test)]
 mod streams_by_hand;
 #[cfg(test)]

@@ -1,6 +1,5 @@
 -- An input that was found holds something.
-use Rattle.std.proofs.Common.{◌≡◌, Option, Some, None, refl}
-use Rattle.swh_outside.specs.declared.fault.Opened.{Opened}
+use Rattle.std.proofs.Common.{◌≡◌, Some, None, refl}
 use Rattle.swh_outside.specs.declared.fault.Opened.TheVariants as part
 use Rattle.swh_walk.specs.declared.input.Opening.TheVariants.{Found}
 use Rattle.swh_inputs.specs.Input.{InputText}

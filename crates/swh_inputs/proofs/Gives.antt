@@ -1,5 +1,5 @@
 -- What the readers' faults say of an input.
-use Rattle.std.proofs.Common.{◌≡◌, ◌⊎◌, ℕ, inl, inr, Some, None, Option, List, Result, Ok, Err, refl, sym, subst}
+use Rattle.std.proofs.Common.{◌≡◌, ℕ, Some, Option, List, Result, Ok, Err, refl, sym, subst}
 use Rattle.std.specs.Prelude.{IfSome, IfOk}
 use Rattle.std.specs.List.{AllByRecursion}
 use Rattle.swh_base.specs.declared.kind.Kind.{Kind}
@@ -31,7 +31,7 @@ use Rattle.swh_walk.specs.Loading.{IsWhole}
 use Rattle.swh_walk.specs.declared.input.Input.{Input as Given}
 use Rattle.swh_walk.specs.declared.input.Input.TheVariants as given
 use Rattle.swh_inputs.specs.declared.bad.InputFault.{InputFault}
-use Rattle.swh_inputs.specs.Input.{listing_text, AreOfBatch, BreaksBoth, MayBreakBoth, MeansInput, BreaksInput, MayBreakInput}
+use Rattle.swh_inputs.specs.Input.{listing_text, BreaksBoth, MayBreakBoth, MeansInput, BreaksInput, MayBreakInput}
 use Rattle.swh_inputs.specs.Input.InputText.{StreamText, FolderText, BatchText}
 use Rattle.swh_inputs.specs.Reading.{GivesSo, IsTold, told_of_stream, told_of_folder, told_of_batch}
 

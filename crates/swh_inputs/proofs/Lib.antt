@@ -1,3 +1,4 @@
 pub mod Founds
 pub mod Gives
 pub mod OneInput
+pub mod Streamings

@@ -2,3 +2,4 @@ pub mod Input
 pub mod Opening
 pub mod Parts
 pub mod Reading
+pub mod Streaming

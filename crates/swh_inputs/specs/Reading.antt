@@ -2,8 +2,6 @@
 use Rattle.std.specs.Prelude.{◌≡◌, ℕ, Option, Some, None, List, IfSome}
 use Rattle.swh_base.specs.declared.kind.Kind.{Kind}
 use Rattle.swh_base.specs.declared.visit.VisitKind.{VisitKind}
-use Rattle.swh_model.specs.Meaning.{StreamMeaning}
-use Rattle.swh_made.specs.declared.objects.Objects.{Objects}
 use Rattle.swh_fastload.specs.Loaded.{making_of}
 use Rattle.swh_fastload.specs.declared.bad.BadStream.TheVariants as stream
 use Rattle.swh_fastload.specs.declared.bad.InputFault.{InputFault as StreamFault}

@@ -25,22 +25,32 @@ use swh_fastload::{BadStream, InputFault as StreamFault, load_source};
 use swh_outside::{Folder, Opened, Source};
 use swh_walk::Input as Given;
 
+/// The fault of an input for one of its stream.
+pub fn fault_of_stream(fault: StreamFault) -> Result<InputFault, Memory>
+    ensures told { IfOk result (λ told. told_of_stream fault ≡ Some told) }
+    ensures memory { IfErr result (λ _. told_of_stream fault ≡ None) }
+{
+    match fault {
+        StreamFault::Bad(BadStream::Stream { at, why }) => {
+            Ok(InputFault::Bad(BadText::Stream { at, why }))
+        }
+        StreamFault::Bad(BadStream::Limit { which, number }) => {
+            Ok(InputFault::Bad(BadText::Limit { which, number }))
+        }
+        StreamFault::ReadFault => Ok(InputFault::ReadFault),
+        StreamFault::Memory => Err(Memory),
+    }
+}
+
 /// What is told of a stream's faults.
 fn told_of_stream<N: Namer>(fault: StreamFault) -> Result<Given<N, InputFault>, Memory>
     ensures told { IfOk result (IsTold (told_of_stream fault)) }
     ensures memory { IfErr result (λ _. told_of_stream fault ≡ None) }
 {
-    let fault = match fault {
-        StreamFault::Bad(BadStream::Stream { at, why }) => {
-            InputFault::Bad(BadText::Stream { at, why })
-        }
-        StreamFault::Bad(BadStream::Limit { which, number }) => {
-            InputFault::Bad(BadText::Limit { which, number })
-        }
-        StreamFault::ReadFault => InputFault::ReadFault,
-        StreamFault::Memory => return Err(Memory),
-    };
-    Ok(Given::Bad(fault))
+    match fault_of_stream(fault) {
+        Ok(fault) => Ok(Given::Bad(fault)),
+        Err(fault) => Err(fault),
+    }
 }
 
 /// What is told of the faults of a folder and its listing.
@@ -76,7 +86,7 @@ fn told_of_batch<N: Namer>(fault: BatchFault) -> Result<Given<N, InputFault>, Me
 }
 
 /// The bytes of a head, where one is named.
-fn head_of(head: &Option<Bytes>) -> Option<&[u8]>
+pub fn head_of(head: &Option<Bytes>) -> Option<&[u8]>
     ensures { option_copied result ≡ head.now }
 {
     match head {

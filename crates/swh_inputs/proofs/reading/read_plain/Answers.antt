@@ -1,4 +1,4 @@
-use Rattle.std.proofs.Common.{◌⊎◌, ⊎_elim, Some, None, Err, ap}
+use Rattle.std.proofs.Common.{⊎_elim, Some, None, Err, ap}
 use Rattle.swh_base.specs.declared.visit.VisitKind.TheVariants.{Dir}
 use Rattle.swh_outside.specs.Faults.{Rose}
 use Rattle.swh_inputs.specs.Input.InputText.{FolderText}

@@ -1,0 +1,102 @@
+-- What a stream gave that is read part by part.
+use Rattle.std.proofs.Common.{◌≡◌, ℕ, inl, inr, List, [], ◌++◌, Option, Some, None, Result, Ok, Contains, sym, ap, ◌∙◌, subst}
+use Rattle.std.specs.Prelude.{IfOk}
+use Rattle.std.specs.Global.{Vec}
+use Rattle.swh_base.specs.declared.kind.Kind.{Kind}
+use Rattle.swh_base.specs.declared.entry.Entry.{Entry}
+use Rattle.swh_base.specs.declared.memory.Memory.{Memory}
+use Rattle.swh_base.specs.declared.visit.VisitKind.TheVariants.{Fast}
+use Rattle.swh_outside.specs.Faults.{Rose}
+use Rattle.swh_model.specs.Meaning.{Made, StreamMeaning}
+use Rattle.swh_made.specs.Making.{made}
+use Rattle.swh_fastload.specs.Giving.{BreaksOff, EndsStream, GoesOn, StreamState, meaning_of}
+use Rattle.swh_fastload.specs.declared.bad.BadStream.TheVariants as stream
+use Rattle.swh_fastload.specs.declared.bad.InputFault.{InputFault as StreamFault}
+use Rattle.swh_fastload.specs.declared.bad.InputFault.TheVariants as of_stream
+use Rattle.swh_fastload.specs.Input.{Means}
+use Rattle.swh_fastload.proofs.Givings.{come_first, given_meant, gives_first, gives_meant}
+use Rattle.swh_walk.specs.declared.parts.Next.{Next}
+use Rattle.swh_walk.specs.declared.parts.Next.TheVariants as next
+use Rattle.swh_walk.specs.Parts.{GaveSoFar, GaveSome, GaveAll, Broke, MayHaveGiven, ReachesAll}
+use Rattle.swh_walk.proofs.SoFar.{so_far_keeps, some_keeps}
+use Rattle.swh_inputs.specs.Input.{InputText, BreaksInput, MayBreakInput, MeansInput}
+use Rattle.swh_inputs.specs.Input.InputText.{StreamText, FolderText, BatchText}
+use Rattle.swh_inputs.specs.Streaming.{AreMeantBy, IsNextOf, MayGiveInput}
+use Rattle.swh_inputs.specs.Reading.{told_of_stream}
+use Rattle.swh_inputs.specs.declared.bad.BadText.{BadText}
+use Rattle.swh_inputs.specs.declared.bad.BadText.TheVariants.{Stream, Limit}
+use Rattle.swh_inputs.specs.declared.bad.InputFault.{InputFault}
+use Rattle.swh_inputs.specs.declared.bad.InputFault.TheVariants.{Bad, ReadFault}
+use Rattle.swh_inputs.proofs.OneInput.{one_making}
+
+-- why nothing comes any more
+pub told_next : (N : Type 0) (id : Kind → List ℕ → List ℕ) (tells : Type 0) (head : Option (List ℕ)) (text : List ℕ) (faults : ℕ) (path : List ℕ) (given : List Entry) (s : StreamState) (fault : StreamFault) (told : InputFault) → told_of_stream fault ≡ Some told → BreaksOff id tells head text faults s.standing.place.faults fault → IsNextOf {N = N} id tells head text faults path given s (next.Bad told)
+unfolding BreaksInput MayBreakInput
+told_next N id tells head text faults path given s (of_stream.Bad (stream.Stream at why)) told is h = let same : Bad (Stream at why) ≡ told = cc in subst (λ (t : InputFault). IsNextOf {N = N} id tells head text faults path given s (next.Bad t)) same h
+told_next N id tells head text faults path given s (of_stream.Bad (stream.Limit which number)) told is h = let same : Bad (Limit which number) ≡ told = cc in subst (λ (t : InputFault). IsNextOf {N = N} id tells head text faults path given s (next.Bad t)) same h
+told_next N id tells head text faults path given s of_stream.ReadFault told is h = let same : ReadFault ≡ told = cc in subst (λ (t : InputFault). IsNextOf {N = N} id tells head text faults path given s (next.Bad t)) same h
+told_next N id tells head text faults path given s of_stream.Memory told is h = let no : None ≡ Some told = is in absurd cc
+
+-- `Gives` is a way to read a stream on.
+module _ {N : Type 0} (id : Kind → List ℕ → List ℕ) (tells : Type 0) (head : Option (List ℕ)) (text : List ℕ) (faults : ℕ) (path : List ℕ) (Gives : StreamState → Result (Next N InputFault) Memory → StreamState → Type 0)
+    (on : (i : StreamState) (found : Result (Next N InputFault) Memory) (now : StreamState) (given : List Entry) → Gives i found now → GoesOn id tells text faults path given i → IfOk found (IsNextOf id tells head text faults path given now)) where
+  step : (given : List Entry) (objects : Vec Entry) (mid now : StreamState) → GoesOn id tells text faults path given mid → Gives mid (Ok (next.Part objects)) now → GoesOn id tells text faults path (given ++ objects.items) now
+  step given objects mid now h g = on mid (Ok (next.Part objects)) now given g h
+
+  -- The stream goes on behind parts of it.
+  pub so_far : (i : StreamState) (objects : List Entry) (now : StreamState) → GoesOn id tells text faults path [] i → GaveSoFar Gives i objects now → GoesOn id tells text faults path objects now
+  so_far i objects now h g = so_far_keeps Gives (λ (given : List Entry) (s : StreamState). GoesOn id tells text faults path given s) step i now objects h g
+
+  -- It ended.
+  pub ended : (i : StreamState) (objects : List Entry) (snapshot : List ℕ) (now : StreamState) → GoesOn id tells text faults path [] i → (g : GaveAll Gives i objects snapshot now) → EndsStream id tells head text faults path g.front now g.last
+  ended i objects snapshot now h g = on g.mid (Ok (next.Last g.last)) now g.front g.gives (so_far i g.front g.mid h g.so_far)
+
+  meant : (i : StreamState) (objects : List Entry) (snapshot : List ℕ) (now : StreamState) → GoesOn id tells text faults path [] i → GaveAll Gives i objects snapshot now → tells → Means id head text (meaning_of objects snapshot)
+  meant i objects snapshot now h g told =
+      let same : meaning_of objects snapshot ≡ meaning_of (g.front ++ g.last.objects.items) g.last.snapshot = ap (λ (es : List Entry). meaning_of es snapshot) g.are ∙ ap (λ (s : List ℕ). meaning_of (g.front ++ g.last.objects.items) s) g.root in
+      subst (λ (m : StreamMeaning). Means id head text m) (sym same) ((ended i objects snapshot now h g).means told)
+
+  -- With all that it gave it means something.
+  pub means_all : (i : StreamState) (objects : List Entry) (snapshot : List ℕ) (now : StreamState) → GoesOn id tells text faults path [] i → GaveAll Gives i objects snapshot now → tells → MeansInput id (StreamText head text) (meaning_of objects snapshot)
+  unfolding MeansInput
+  means_all i objects snapshot now h g told = meant i objects snapshot now h g told
+
+  -- What it gave in all has all that is reached from its snapshot.
+  pub reaches_all : (i : StreamState) (objects : List Entry) (snapshot : List ℕ) (now : StreamState) → GoesOn id tells text faults path [] i → GaveAll Gives i objects snapshot now → ReachesAll id objects snapshot
+  reaches_all i objects snapshot now h g =
+      let e = ended i objects snapshot now h g in
+      subst (λ (s : List ℕ). ReachesAll id objects s) (sym g.root) (subst (λ (es : List Entry). ReachesAll id es g.last.snapshot) (sym g.are) (record { whole = e.all.whole; root = e.all.root }))
+
+  -- How it broke.
+  pub broke_so : (i : StreamState) (bad : BadText) (now : StreamState) → GoesOn id tells text faults path [] i → Broke Gives i (Bad bad) now → MayBreakInput Fast bad × (tells → BreaksInput id (StreamText head text) bad)
+  broke_so i bad now h g = on g.mid (Ok (next.Bad (Bad bad))) now g.front g.gives (so_far i g.front g.mid h g.so_far)
+
+  -- Its source failed.
+  pub failed_so : (i now : StreamState) → GoesOn id tells text faults path [] i → Broke Gives i ReadFault now → Rose faults now.standing.place.faults
+  failed_so i now h g = on g.mid (Ok (next.Bad ReadFault)) now g.front g.gives (so_far i g.front g.mid h g.so_far)
+
+  gave_some : (i : StreamState) (objects : List Entry) (now : StreamState) → GoesOn id tells text faults path [] i → GaveSome Gives i objects now → GoesOn id tells text faults path objects now
+  gave_some i objects now h g = some_keeps Gives (λ (given : List Entry) (s : StreamState). GoesOn id tells text faults path given s) step i now objects h g
+
+  -- What it gave it may give.
+  pub may_give : (i : StreamState) (objects : List Entry) (now : StreamState) → GoesOn id tells text faults path [] i → MayHaveGiven Gives i objects now → tells → MayGiveInput id (StreamText head text) (made objects)
+  unfolding MayGiveInput
+  may_give i objects now h (inl g) told =
+      let on_now = gave_some i objects now h g in
+      gives_first id head text (made objects) (come_first id text now objects (on_now.come told))
+  may_give i objects now h (inr (snapshot, g)) told = gives_meant id head text (made objects) (record { meaning = meaning_of objects snapshot; means = meant i objects snapshot now h g told; among = λ m c. c })
+
+-- What is given at the end belongs to all that the input means.
+meant_among : (id : Kind → List ℕ → List ℕ) (text : InputText) (objects : List Made) (meaning : StreamMeaning) → AreMeantBy id text objects → MeansInput id text meaning → (m : Made) → Contains objects m → Contains meaning.objects m
+meant_among id text objects meaning a h m c = ((one_making id text a.meaning meaning a.means h).objects m).0 (a.among m c)
+
+stream_among : (id : Kind → List ℕ → List ℕ) (head : Option (List ℕ)) (text : List ℕ) (objects : List Made) (meaning : StreamMeaning) → MayGiveInput id (StreamText head text) objects → MeansInput id (StreamText head text) meaning → (m : Made) → Contains objects m → Contains meaning.objects m
+unfolding MayGiveInput MeansInput
+stream_among id head text objects meaning g h m c = given_meant id head text objects meaning g h m c
+
+-- What an input gives belongs to what it means.
+pub given_among : (id : Kind → List ℕ → List ℕ) (text : InputText) (objects : List Made) (meaning : StreamMeaning) → MayGiveInput id text objects → MeansInput id text meaning → (m : Made) → Contains objects m → Contains meaning.objects m
+unfolding MayGiveInput
+given_among id (StreamText head text) objects meaning g h m c = stream_among id head text objects meaning g h m c
+given_among id (FolderText tree listing) objects meaning g h m c = meant_among id (FolderText tree listing) objects meaning g h m c
+given_among id (BatchText of_batch refs) objects meaning g h m c = meant_among id (BatchText of_batch refs) objects meaning g h m c
