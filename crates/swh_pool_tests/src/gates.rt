@@ -14,7 +14,8 @@ struct NotingGate {
 
 impl NotingGate {
     fn note(&self, side: u64, worker: u32, job: u32) {
-        let call = (side * 100)
+        let call = side
+            .saturating_mul(100)
             .saturating_add(u64::from(worker).saturating_mul(10))
             .saturating_add(u64::from(job));
         let noted = self.digits.load(Ordering::SeqCst);
