@@ -23,7 +23,7 @@ pub struct LongOrigins<'a> {
     pub files: &'a [LongFile<'a>],
 }
 
-/// The folder that is at no path.
+/// The folder that is at no path, so that no call of it is made.
 #[derive(Drop)]
 pub struct NoFolder;
 
@@ -41,8 +41,8 @@ impl Folder for NoFolder {
 
     ghost faults = { λ _. 0 };
 
-    fn list(&mut self, alloc: Global, _dir: &str) -> Result<Vec<Item>, OutFault> {
-        Ok(Vec::new(alloc))
+    fn list(&mut self, _alloc: Global, _dir: &str) -> Result<Vec<Item>, OutFault> {
+        Err(OutFault::Memory)
     }
 
     fn read(&mut self, _path: &str) -> Result<RepeatedFile, OutFault> {
