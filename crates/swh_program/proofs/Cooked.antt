@@ -3,33 +3,36 @@ use Rattle.std.proofs.Common.{◌≡◌, ◌≢◌, ◌⊎◌, inl, inr, ℕ, �
 use Rattle.std.proofs.lemmas.List.{append-nil}
 use Rattle.swh_base.specs.declared.kind.Kind.{Kind}
 use Rattle.swh_base.specs.declared.name.Name.{Name}
+use Rattle.swh_base.specs.Name.{IsName}
 use Rattle.swh_outside.specs.Faults.{Rose}
 use Rattle.swh_outside.specs.Files.{Files}
 use Rattle.swh_model.specs.declared.event.Event.{Event}
 use Rattle.swh_model.specs.Archive.{Archive, IsGraphOf}
-use Rattle.swh_model.specs.Step.{replay}
+use Rattle.swh_model.specs.Step.{IsHistory, replay}
 use Rattle.swh_segment.specs.Making.{IsNotMade}
 use Rattle.swh_keeper.specs.Own.{AreOwn}
 use Rattle.swh_swhid.specs.Front.{BreaksAt}
 use Rattle.swh_swhid.specs.Qualifier.{IsSwhid, HasSwhid}
 use Rattle.swh_swhid.specs.declared.swhid.Swhid.{Swhid}
 use Rattle.swh_swhid.proofs.Fronts.{one_break}
-use Rattle.swh_swhid.proofs.Values.{one_value}
+use Rattle.swh_swhid.proofs.Values.{one_value, read_value}
 use Rattle.swh_carried.specs.declared.fault.CookFault.{CookFault}
 use Rattle.swh_carried.specs.declared.fault.CookFault.TheVariants as fault
 use Rattle.swh_fastcook.specs.Cause.{CookBreaks}
 use Rattle.swh_dircook.specs.Made.{Made, Yarded, IsFrontOfMade}
+use Rattle.swh_cook.specs.Back.{IsAgain}
 use Rattle.swh_cook.specs.Cook.{IsCarried, IsCooked, IsBrokenOff, ExplainsUncooked, MakesAll, MakesFront}
+use Rattle.swh_cook.proofs.Again.{made_again}
 use Rattle.swh_cook.proofs.Ends.{carried_held, carried_or}
 use Rattle.swh_cook.proofs.Graphs.{one_graph}
 use Rattle.swh_program.specs.Seen.{Folders, Span}
-use Rattle.swh_program.specs.Answers.{TellsLine, TellsDisk, status_of, status_for, printed_by}
+use Rattle.swh_program.specs.Answers.{TellsLine, TellsDisk, status_of, status_for, printed_by, IsPrinted}
 use Rattle.swh_program.specs.Archives.{archive_at, old_archive, new_archive}
-use Rattle.swh_program.specs.CookCommand.{cook_line, not_held_line, uncarried_line, no_swhid_line, TellsMissing, TellsUncarried, TellsUncooked, IsRefused, RefusesCook, TellsCook, BreaksOff, LeavesYard, LeavesCook, cooking, RefusesSwhid, EndsUnread, CooksName, Cooks, IsUncooked, CannotCook, PrintsCooked, DoesCook}
+use Rattle.swh_program.specs.CookCommand.{cook_line, not_held_line, uncarried_line, no_swhid_line, TellsMissing, TellsUncarried, TellsUncooked, IsRefused, TellsCooked, RefusesCook, TellsCook, BreaksOff, LeavesYard, LeavesCook, cooking, RefusesSwhid, EndsUnread, CooksName, Cooks, IsUncooked, CannotCook, PrintsCooked, DoesCook}
 use Rattle.swh_program.specs.Commands.{telling, LooksLeave, ReadsLeave}
 use Rattle.swh_program.specs.Damage.{damaged_line, IsUndamaged}
 use Rattle.swh_program.specs.Opening.{IsUnusable, IsOpenRefusal}
-use Rattle.swh_program.specs.Reading.{Telling, IsOfArchive, ReadEnds, Prints, DoesRead}
+use Rattle.swh_program.specs.Reading.{Telling, IsOfArchive, OfHistory, OfArchive, IsReadAnswer, ReadEnds, Prints, DoesRead}
 use Rattle.swh_program.specs.Run.{ComesTo, IsExactly, IsTold, IsPrintedUnlessFailed, NamesFailed}
 use Rattle.swh_program.specs.Yards.{Yards, yards_of}
 use Rattle.swh_program.specs.declared.answer.Ending.{Ending}
@@ -250,6 +253,60 @@ module _ (id_of : Kind → List ℕ → List ℕ) (y : Yards) (swhid : List ℕ)
     ];
   }
 
+-- ---- a name that was cooked
+
+module _ (s : Span) (name : Name) (is_name : IsName name) (out : List ℕ) (status : ℕ) (zero : status ≡ 0) where
+  -- what was made is the name again
+  module _ (h : List Event) (happens : IsHistory s.id_of h) (text : List ℕ) (c : TellsCooked (yards_of s) (replay h) name out text) where
+    is_again : (told : s.told.yard) → IsAgain s.id_of (replay h).bodies c.children_of name out (c.cooked.made told).made c.head
+    is_again told =
+        let made = c.cooked.made told in
+        made_again s.id_of h c.children_of name out made.made c.head happens c.graph is_name c.cooked.of_bytes c.cooked.is_head c.cooked.carried made.are
+
+    pub prints_cooked : (s.told.sink → s.new.sink.taken ≡ s.old.sink.taken ++ text) → PrintsCooked (replay h) name out s status
+    prints_cooked printed = record { text = text; cooked = c; again = is_again; printed = printed; status_is = zero }
+
+  -- the line is all that was printed
+  line_printed : (text : List ℕ) → IsPrinted (Told text ending.Done) s.told.sink s.old.sink.taken s.new.sink.taken status → s.told.sink → s.new.sink.taken ≡ s.old.sink.taken ++ text
+  line_printed text p k = p.printed k ∙ ap (λ (l : List ℕ). s.old.sink.taken ++ l) (append-nil text)
+
+  abbrev IsAllPrinted : Answer → Type 0
+  IsAllPrinted answer = IsPrinted answer s.told.sink s.old.sink.taken s.new.sink.taken status
+
+  not_zero : (answer : Answer) → 1 ≤ status_of answer → IsAllPrinted answer → ⊥
+  not_zero answer some p = omega (arith, p.status_is, zero, some)
+
+  -- out of which archive, by the answer that was printed
+  out_of_history : (answer : Answer) → IsReadAnswer s.id_of (cooking (yards_of s) name out) answer → IsAllPrinted answer → OfHistory s.id_of (λ a. PrintsCooked a name out s status)
+  out_of_history (Told text ending.Done) one p = record { history = one.history; happens = one.happens; is = prints_cooked one.history one.happens text one.is (line_printed text p) }
+  out_of_history (Told text ending.Wanting) one p = absurd (not_zero (Told text ending.Wanting) (omega arith) p)
+  out_of_history (Told text ending.OutsideDisk) one p = absurd one.is
+  out_of_history (Told text ending.Memory) one p = absurd one.is
+  out_of_history NotMade one p = absurd (not_zero NotMade (omega arith) p)
+  out_of_history (Damaged text) one p = absurd (not_zero (Damaged text) (omega arith) p)
+  out_of_history OutsideDisk one p = absurd (not_zero OutsideDisk (omega arith) p)
+  out_of_history OutsideYard one p = absurd (not_zero OutsideYard (omega arith) p)
+  out_of_history Memory one p = absurd (not_zero Memory (omega arith) p)
+  out_of_history _ one p = absurd one
+
+  module _ (old new : Files) where
+    out_of_files : (answer : Answer) → ReadEnds s.id_of (cooking (yards_of s) name out) old new answer → IsAllPrinted answer → OfArchive s.id_of old (λ a. PrintsCooked a name out s status)
+    out_of_files (Told text ending.Done) ends p = record { history = ends.history; archive = ends.archive; is = prints_cooked ends.history ends.archive.history text ends.told (line_printed text p) }
+    out_of_files (Told text ending.Wanting) ends p = absurd (not_zero (Told text ending.Wanting) (omega arith) p)
+    out_of_files (Told text ending.OutsideDisk) ends p = absurd ends.told
+    out_of_files (Told text ending.Memory) ends p = absurd ends.told
+    out_of_files NotMade ends p = absurd (not_zero NotMade (omega arith) p)
+    out_of_files (Damaged text) ends p = absurd (not_zero (Damaged text) (omega arith) p)
+    out_of_files OutsideDisk ends p = absurd (not_zero OutsideDisk (omega arith) p)
+    out_of_files OutsideYard ends p = absurd (not_zero OutsideYard (omega arith) p)
+    out_of_files Memory ends p = absurd (not_zero Memory (omega arith) p)
+    out_of_files _ ends p = absurd ends
+
+  -- with 0 the answer was printed whole
+  whole_answer : (answer : Answer) → IsTold answer s status → IsAllPrinted answer
+  whole_answer answer (inl printed) = printed
+  whole_answer answer (inr cut) = absurd (omega (arith, cut.status_is, zero))
+
 -- ---- the command
 
 -- a line that tells a word that is no SWHID
@@ -322,6 +379,15 @@ module _ (dir swhid out : List ℕ) (s : Span) (answer : Answer) (status : ℕ) 
       ]
     ]
 
+    not_done : status ≡ 0 → ⊥
+    not_done is = elim comes_short [
+      | inl one ↦ omega (arith, one, is)
+      | inr rest ↦ elim rest [
+        | inl four ↦ omega (arith, four, is)
+        | inr five ↦ omega (arith, five, is)
+      ]
+    ]
+
     place_told : (at : ℕ) → BreaksAt HasSwhid swhid at → IsPrintedUnlessFailed (no_swhid_line at) 1 s status
     place_told at breaks =
         let same = ap no_swhid_line (one_break HasSwhid swhid r.at at r.breaks breaks) in
@@ -331,6 +397,8 @@ module _ (dir swhid out : List ℕ) (s : Span) (answer : Answer) (status : ℕ) 
     does_refuse = record {
       ends = record { answer = answer; is_one = inl r; told = told };
       not_refused = other_status 2 (omega arith) (omega arith);
+      cooked = λ e. absurd (not_done e);
+      cooked_there = λ k e. absurd (not_done e);
       no_swhid = place_told;
       wanting = λ k. record { only = λ e. inl r.breaks.refused; there = λ cause. comes_short };
       unusable = λ k. record { only = λ e. absurd (other_status 3 (omega arith) (omega arith) e); there = λ cause. absurd (r.breaks.refused cause.0) };
@@ -365,6 +433,8 @@ module _ (dir swhid out : List ℕ) (s : Span) (answer : Answer) (status : ℕ) 
     does_end = record {
       ends = record { answer = answer; is_one = inr (inl u); told = told };
       not_refused = no_status 2 (omega arith);
+      cooked = λ e. absurd (no_status 0 (omega arith) e);
+      cooked_there = λ k e. absurd (no_status 0 (omega arith) e);
       no_swhid = λ at breaks. no_line (no_swhid_line at) 1;
       wanting = λ k. never 1 (CannotCook s.id_of old swhid) (omega arith);
       unusable = λ k. never 3 (HasSwhid swhid × IsUnusable s.id_of old) (omega arith);
@@ -389,9 +459,12 @@ module _ (dir swhid out : List ℕ) (s : Span) (answer : Answer) (status : ℕ) 
     does : DoesRead (cooking y c.value.core out) dir s status
     does = does_read (cooking y c.value.core out) (cook_settles y c.value.core out) s answer status dir told c.reads
 
-    module _ (h : List Event) (children_of : Name → Option (List Name)) (graph : IsGraphOf (replay h).bodies children_of) (carried : IsCarried (replay h).bodies children_of c.value.core) where
+    is_name : IsName c.value.core
+    is_name = (read_value swhid c.value c.is).named
+
+    module _ (h : List Event) (happens : IsHistory s.id_of h) (children_of : Name → Option (List Name)) (graph : IsGraphOf (replay h).bodies children_of) (carried : IsCarried (replay h).bodies children_of c.value.core) where
       by_ending : (text : List ℕ) (end : Ending) → TellsCook y (replay h) c.value.core out text end → (s.told.sink → s.new.sink.taken ≡ s.old.sink.taken ++ text) → status ≡ status_for end → PrintsCooked (replay h) c.value.core out s status
-      by_ending text ending.Done cooked printed is = record { text = text; cooked = cooked; printed = printed; status_is = is }
+      by_ending text ending.Done cooked printed is = prints_cooked s c.value.core is_name out status is h happens text cooked printed
       by_ending text ending.Wanting r printed is =
           absurd (carried_unrefused (replay h) c.value.core children_of r.children_of graph r.graph carried (refusal_of y (replay h) c.value.core out text r))
       by_ending text ending.OutsideDisk tells printed is = absurd tells
@@ -405,6 +478,12 @@ module _ (dir swhid out : List ℕ) (s : Span) (answer : Answer) (status : ℕ) 
     does_name = record {
       ends = record { answer = answer; is_one = inr (inr c); told = told };
       not_refused = does.not_refused;
+      cooked = λ e. record { value = c.value; is = c.is; prints = out_of_history s c.value.core is_name out status e answer c.reads.one_of (whole_answer s c.value.core is_name out status e answer told) };
+      cooked_there = λ k e. record {
+        value = c.value;
+        is = c.is;
+        prints = out_of_files s c.value.core is_name out status e old new answer (c.reads.ends k) (whole_answer s c.value.core is_name out status e answer told);
+      };
       no_swhid = λ at breaks. absurd (breaks.refused has);
       wanting = λ k. run_exactly answer s status 1 (CannotCook s.id_of old swhid) (omega arith) (cook_exactly s.id_of y swhid c.value c.is out old new answer (c.reads.ends k)) told;
       unusable = λ k. exactly_with (HasSwhid swhid) (IsUnusable s.id_of old) 3 status has (does.unusable k);
@@ -415,7 +494,7 @@ module _ (dir swhid out : List ℕ) (s : Span) (answer : Answer) (status : ℕ) 
       complete = λ h value children_of k is archive graph carried no_disk no_yard no_sink.
           let same = one_value swhid value c.value is c.is in
           let here : IsCarried (replay h).bodies children_of c.value.core = subst (λ (v : Swhid). IsCarried (replay h).bodies children_of v.core) same carried in
-          let ended = cooked h children_of graph here (does.complete h k archive no_disk (λ a broke. no_yard broke.failed) no_sink) in
+          let ended = cooked h archive.history children_of graph here (does.complete h k archive no_disk (λ a broke. no_yard broke.failed) no_sink) in
           subst (λ (v : Swhid). (status ≡ 5) ⊎ PrintsCooked (replay h) v.core out s status) (sym same) ended;
     }
 

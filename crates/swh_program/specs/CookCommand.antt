@@ -16,6 +16,7 @@ use Rattle.swh_postorder.specs.Postorder.{IsFirstMissing}
 use Rattle.swh_carried.specs.declared.fault.Why.{Why}
 use Rattle.swh_carried.specs.declared.fault.CookFault.{CookFault}
 use Rattle.swh_carried.specs.declared.fault.CookFault.TheVariants as fault
+use Rattle.swh_cook.specs.Back.{IsAgain}
 use Rattle.swh_cook.specs.Cook.{IsCarried, IsUncarried, IsCooked, IsBrokenOff}
 use Rattle.swh_cook.specs.Words.{why_word}
 use Rattle.swh_program.specs.Seen.{Span, DepotFailed, YardFailed, SinkFailed}
@@ -177,18 +178,30 @@ module _ (id_of : Kind → List ℕ → List ℕ) (files : Files) where
   abbrev pub CannotCook : List ℕ → Type 0
   CannotCook swhid = (HasSwhid swhid → ⊥) ⊎ ((value : Swhid) × IsSwhid swhid value × IsUncooked value.core)
 
--- The name was cooked, its line was printed, and the status is 0.
+-- The name was cooked, and its line was printed, with status 0. What was made, read as an input is read, with the head that was
+-- printed, is the name again.
 pub record PrintsCooked (a : Archive) (name : Name) (out : List ℕ) (s : Span) (status : ℕ) : Type 0 where
   pub text : List ℕ
   pub cooked : TellsCooked (yards_of s) a name out text
+  pub again : (told : s.told.yard) → IsAgain s.id_of a.bodies cooked.children_of name out (cooked.cooked.made told).made cooked.head
   pub printed : s.told.sink → s.new.sink.taken ≡ s.old.sink.taken ++ text
   pub status_is : status ≡ 0
+
+-- The name of the SWHID was cooked so, where what an archive has `Of` it says which archive.
+pub record CooksWord (Of : (Archive → Type 0) → Type 0) (swhid out : List ℕ) (s : Span) (status : ℕ) : Type 0 where
+  pub value : Swhid
+  pub is : IsSwhid swhid value
+  pub prints : Of (λ a. PrintsCooked a value.core out s status)
 
 -- What a run of `cook` does.
 pub record DoesCook (dir swhid out : List ℕ) (s : Span) (status : ℕ) : Type 0 where
   pub ends : Ends (Cooks dir swhid out s) s status
   -- It refuses no job.
   pub not_refused : status ≢ 2
+  -- 0: the name was cooked, out of the archive of the history for which the files stand, or where the depot does not tell it,
+  -- of one that may happen; and what was made loads back.
+  pub cooked : status ≡ 0 → CooksWord (OfHistory s.id_of) swhid out s status
+  pub cooked_there : s.told.depot → status ≡ 0 → CooksWord (OfArchive s.id_of (old_archive dir s)) swhid out s status
   -- 1: the word is no SWHID, and then its place is told before the archive is opened; or of what its name reaches something
   -- is not held, or not carried.
   pub no_swhid : (at : ℕ) → BreaksAt HasSwhid swhid at → IsPrintedUnlessFailed (no_swhid_line at) 1 s status
@@ -202,8 +215,8 @@ pub record DoesCook (dir swhid out : List ℕ) (s : Span) (status : ℕ) : Type 
       → IsExactly 3 (HasSwhid swhid × IsNotMade (old_archive dir s 0).seen) status
   pub own : s.told.depot → HasSwhid swhid → EndsOwn s.id_of (old_archive dir s) (new_archive dir s) status
   pub own_still : s.told.depot → AreOwn s.id_of (old_archive dir s) → AreOwn s.id_of (new_archive dir s)
-  -- A name is cooked of which all that is reached is held and carried, unless memory runs out, where no part of the outside
-  -- failed.
+  -- A name of which all that is reached is held and carried is cooked, and loads back, unless memory runs out, where no part
+  -- of the outside failed.
   pub complete : (h : List Event) (value : Swhid) (children_of : Name → Option (List Name)) → s.told.depot → IsSwhid swhid value
       → IsArchive s.id_of (old_archive dir s) h → IsGraphOf (replay h).bodies children_of
       → IsCarried (replay h).bodies children_of value.core
