@@ -1,0 +1,54 @@
+//! The objects that the tests cook. git named them (`git hash-object`, `git mktree`).
+use swh_base::Kind;
+
+/// A program and a link to it.
+pub const PROGRAM: &[u8] = b"swh:1:dir:fd1ddbd0b36255b027b7f28a48011a50332941b4";
+
+/// A folder of a folder without entries.
+pub const EMPTY_INSIDE: &[u8] = b"swh:1:dir:f4ec99e8174c01eab488469b4c2680500bbb18da";
+
+/// No entries.
+pub const EMPTY: &[u8] = b"swh:1:dir:4b825dc642cb6eb9a060e54bf8d69288fbee4904";
+
+/// Files, folders, one of them empty, a program, a link, and a revision of another project.
+pub const ALL: &[u8] = b"swh:1:dir:73fbd121bbdd1d4e86ee7dbe2c21e3b679b90d84";
+
+/// Each body with its kind.
+pub const OBJECTS: &[(Kind, &[u8])] = &[
+    (Kind::Content, b"version 1\n"),
+    (Kind::Content, b"hi\n"),
+    (Kind::Content, b"run"),
+    (Kind::Directory, b""),
+    (
+        Kind::Directory,
+        b"100644 test.txt\0\
+\x83\xba\xae\x61\x80\x4e\x65\xcc\x73\xa7\x20\x1a\x72\x52\x75\x0c\x76\x06\x6a\x30",
+    ),
+    (
+        Kind::Directory,
+        b"120000 ln\0\
+\xe5\x22\x4d\x53\x3e\xf2\x7b\x00\x12\x24\x85\x9a\x9b\x36\x69\x68\x46\xa7\xe7\xfe\
+100755 run\0\
+\x45\xb9\x83\xbe\x36\xb7\x3c\x07\x88\xdc\x9c\xbc\xb7\x6c\xbb\x80\xfc\x7b\xb0\x57",
+    ),
+    (
+        Kind::Directory,
+        b"40000 empty\0\
+\x4b\x82\x5d\xc6\x42\xcb\x6e\xb9\xa0\x60\xe5\x4b\xf8\xd6\x92\x88\xfb\xee\x49\x04",
+    ),
+    (
+        Kind::Directory,
+        b"100644 a.b\0\
+\x83\xba\xae\x61\x80\x4e\x65\xcc\x73\xa7\x20\x1a\x72\x52\x75\x0c\x76\x06\x6a\x30\
+40000 a\0\
+\xfd\x1d\xdb\xd0\xb3\x62\x55\xb0\x27\xb7\xf2\x8a\x48\x01\x1a\x50\x33\x29\x41\xb4\
+100644 a0\0\
+\x45\xb9\x83\xbe\x36\xb7\x3c\x07\x88\xdc\x9c\xbc\xb7\x6c\xbb\x80\xfc\x7b\xb0\x57\
+40000 caf\xc3\xa9\0\
+\xd8\x32\x9f\xc1\xcc\x93\x87\x80\xff\xdd\x9f\x94\xe0\xd3\x64\xe0\xea\x74\xf5\x79\
+40000 empty\0\
+\x4b\x82\x5d\xc6\x42\xcb\x6e\xb9\xa0\x60\xe5\x4b\xf8\xd6\x92\x88\xfb\xee\x49\x04\
+160000 module\0\
+\x29\x5c\x06\x51\xa9\x5b\xa3\x2a\xc5\xe1\x4f\x92\xda\x01\x61\xb1\x22\x94\x2c\xac",
+    ),
+];
