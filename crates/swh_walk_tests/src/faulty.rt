@@ -1,4 +1,6 @@
 // What is held of an input that turns out to be bad behind some parts.
+ghost use Rattle.std.specs.Prelude.{◌≡◌};
+
 use crate::desk::{Desk, Second};
 use crate::walks::{content_of, objects_in};
 use std::alloc::{AllocError, Global};
@@ -8,6 +10,8 @@ use swh_base::{ByteNamer, Memory, Url, VisitKind};
 use swh_fixtures::{URL, made_archive};
 use swh_object::Object;
 use swh_outside::OpenGate;
+use swh_place::Place;
+use swh_plan::Plan;
 use swh_walk::{End, Job, Next, Opening, ReadsParts, Turn, Worker, load_parts};
 
 // Parts that come in their order, and then a fault.
@@ -76,7 +80,16 @@ fn parts_of(alloc: Global, bytes: usize) -> Result<Parts, AllocError> {
 }
 
 // Says whether a load of them is told to be bad.
-fn is_bad(alloc: Global, desk: &mut Desk, origin: &Url, parts: Parts) -> bool {
+fn is_bad<S, P: Place<Plan<ByteNamer>, S>>(
+    alloc: Global,
+    place: &P,
+    desk: &mut S,
+    origin: &Url,
+    parts: Parts,
+) -> bool
+    requires fits { P.fits place.now }
+    requires number { ((P.words place.now).known desk.old).number ≡ 2 }
+{
     let worker = Worker {
         by: 2,
         gate: &OpenGate,
@@ -94,7 +107,7 @@ fn is_bad(alloc: Global, desk: &mut Desk, origin: &Url, parts: Parts) -> bool {
         read: Faulty,
     };
     let mut parts = parts;
-    match load_parts(alloc, &Second, desk, &turn, &job, &mut parts) {
+    match load_parts(alloc, place, desk, &turn, &job, &mut parts) {
         Ok(loaded) => loaded.end == End::Bad(()),
         Err(_) => false,
     }
@@ -111,7 +124,7 @@ fn comes_out(alloc: Global, case: Case) -> Result<bool, AllocError> {
     };
     let others = VecDeque::from_vec(Vec::new(alloc));
     let mut desk = Desk { keeper, others };
-    let bad = is_bad(alloc, &mut desk, &origin, parts);
+    let bad = is_bad::<Desk, Second>(alloc, &Second, &mut desk, &origin, parts);
     let Desk {
         keeper,
         others: _others,

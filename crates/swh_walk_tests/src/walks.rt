@@ -1,5 +1,5 @@
 // What becomes of an input's visit, where another loader adds between.
-ghost use Rattle.std.specs.Prelude.{IfOk, IfSome};
+ghost use Rattle.std.specs.Prelude.{◌≡◌, IfOk, IfSome};
 ghost use Rattle.swh_base.specs.Namer.{byte_id};
 ghost use Rattle.swh_made.specs.Whole.{HasAllThatIsReached};
 ghost use Rattle.swh_walk.specs.Loading.{IsWhole};
@@ -16,6 +16,7 @@ use swh_memory::MemorySource;
 use swh_model::{Event, EventKind};
 use swh_object::Object;
 use swh_outside::OpenGate;
+use swh_place::Place;
 use swh_plan::Plan;
 use swh_walk::{self as walk, ByCall, Input, Job, Opening, Turn, Worker, load};
 
@@ -148,8 +149,16 @@ fn made_of(alloc: Global, stream: &[u8]) -> Result<Option<Objects<ByteNamer>>, A
 }
 
 // Loads what was made, as a visit of this origin.
-fn load_made(alloc: Global, desk: &mut Desk, origin: &Url, made: Objects<ByteNamer>) -> End
-    requires { HasAllThatIsReached byte_id made }
+fn load_made<S, P: Place<Plan<ByteNamer>, S>>(
+    alloc: Global,
+    place: &P,
+    desk: &mut S,
+    origin: &Url,
+    made: Objects<ByteNamer>,
+) -> End
+    requires fits { P.fits place.now }
+    requires number { ((P.words place.now).known desk.old).number ≡ 2 }
+    requires whole { HasAllThatIsReached byte_id made }
 {
     let worker = Worker {
         by: 2,
@@ -177,7 +186,7 @@ fn load_made(alloc: Global, desk: &mut Desk, origin: &Url, made: Objects<ByteNam
             },
         },
     };
-    match load(alloc, &Second, desk, &turn, &job, &mut Some(made)) {
+    match load(alloc, place, desk, &turn, &job, &mut Some(made)) {
         Ok(loaded) => match loaded.end {
             walk::End::Full { .. } => End::Full,
             walk::End::Met(name) => End::Met(name),
@@ -224,7 +233,7 @@ fn ends_so(
     let Ok(origin) = Url::new(alloc, URL) else {
         return Ok(false);
     };
-    let end = load_made(alloc, desk, &origin, made);
+    let end = load_made::<Desk, Second>(alloc, &Second, desk, &origin, made);
     let held = holds_ab(desk);
     let history = desk.keeper.history();
     Ok(
