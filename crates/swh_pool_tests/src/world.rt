@@ -9,7 +9,7 @@ use swh_fixtures::{Archive, kept, made_archive};
 use swh_keeper::Keeper;
 use swh_loader::{Input, Job, Worker};
 use swh_memory::{MemoryDisk, MemoryFolder, MemorySource};
-use swh_outside::{OpenGate, Opened};
+use swh_outside::{Gate, Opened};
 use swh_pool::{DatedJob, load_all};
 
 /// What the loads of three jobs leave.
@@ -64,8 +64,9 @@ fn let_go(mut jobs: Vec<DatedJob<MemorySource, MemoryFolder>>) {
 }
 
 // Loads jobs, and gives their lines.
-fn lines_of(
+fn lines_of<G: Gate>(
     alloc: Global,
+    gate: &G,
     keeper: &mut Archive<Sha1Namer>,
     jobs: &mut [DatedJob<MemorySource, MemoryFolder>],
 ) -> Result<Bytes, Fail>
@@ -73,7 +74,7 @@ fn lines_of(
 {
     let worker = Worker {
         by: 1,
-        gate: &OpenGate,
+        gate,
         number: 1,
     };
     let report = load_all(alloc, &Sha1Namer, keeper, &worker, jobs)?;
@@ -81,15 +82,16 @@ fn lines_of(
 }
 
 // Loads jobs into an archive of no event.
-fn load_anew(
+fn load_anew<G: Gate>(
     alloc: Global,
+    gate: &G,
     jobs: &mut [DatedJob<MemorySource, MemoryFolder>],
     ledger_failing: &[u64],
 ) -> Result<Left, Fail>
     requires { All HasHead jobs.old }
 {
     let mut keeper = made_archive(alloc, Sha1Namer, ledger_failing, &[])?;
-    let text = lines_of(alloc, &mut keeper, jobs);
+    let text = lines_of(alloc, gate, &mut keeper, jobs);
     let (store, ledger) = keeper.close();
     let text = text?;
     Ok(Left {
@@ -117,17 +119,18 @@ fn three_jobs(
     Ok(jobs)
 }
 
-/// Loads three inputs into an archive of no event. The ledger's calls of these numbers fail, those of its making
-/// counted.
-pub fn load_three(
+/// Loads three inputs into an archive of no event, before this gate. The ledger's calls of these numbers fail, those of
+/// its making counted.
+pub fn load_three<G: Gate>(
     alloc: Global,
+    gate: &G,
     first: Opened<MemorySource>,
     second: Opened<MemorySource>,
     third: Opened<MemorySource>,
     ledger_failing: &[u64],
 ) -> Result<Left, Fail> {
     let mut jobs = three_jobs(alloc, first, second, third)?;
-    let left = load_anew(alloc, jobs.as_mut_slice(), ledger_failing);
+    let left = load_anew(alloc, gate, jobs.as_mut_slice(), ledger_failing);
     let_go(jobs);
     left
 }
