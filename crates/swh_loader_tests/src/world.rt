@@ -19,6 +19,20 @@ pub fn load<N: Namer>(
 ) -> Result<Loaded, LoadFault>
     requires { HasGoodHead input }
 {
+    load_by(alloc, namer, keeper, 1, url, input)
+}
+
+/// The same by the loader of this number.
+pub fn load_by<N: Namer>(
+    alloc: Global,
+    namer: &N,
+    keeper: &mut Archive<N>,
+    by: u32,
+    url: &str,
+    input: Input<MemorySource, MemoryFolder>,
+) -> Result<Loaded, LoadFault>
+    requires { HasGoodHead input }
+{
     let Ok(origin) = Url::new(alloc, url) else {
         return Err(LoadFault {
             visit: 0,
@@ -28,7 +42,7 @@ pub fn load<N: Namer>(
     let mut job = Job { origin, input };
     let date = 1_000_000_000;
     let worker = Worker {
-        by: 1,
+        by,
         gate: &OpenGate,
         number: 0,
     };
