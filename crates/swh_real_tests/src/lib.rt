@@ -4,6 +4,8 @@
 #![tactic(auto)]
 
 #[cfg(test)]
+mod cooks;
+#[cfg(test)]
 mod disks;
 #[cfg(test)]
 mod folders;

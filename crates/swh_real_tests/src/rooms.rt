@@ -85,3 +85,9 @@ pub fn is_file_in(
     let path = path_in(rt.alloc(), folder, name)?;
     Ok(is_file(rt, path.as_str(), bytes))
 }
+
+/// Says whether something stands at a name of a folder.
+pub fn stands(rt: &HostRuntime, folder: &str, name: &str) -> Result<bool, AllocError> {
+    let path = path_in(rt.alloc(), folder, name)?;
+    Ok(fs::symlink_metadata(rt, path.as_str()).is_ok())
+}

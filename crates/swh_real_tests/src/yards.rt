@@ -1,6 +1,5 @@
 // Yards over the system.
-use crate::rooms::{Laid, Thing, clear, fresh_room, is_file_in, path_in};
-use std::fs;
+use crate::rooms::{Laid, Thing, clear, fresh_room, is_file_in, path_in, stands};
 use std::os::unix::fs::symlink;
 use std::test::Fail;
 use swh_outside::{Failed, Sink, Yard};
@@ -36,11 +35,6 @@ fn makes(rt: &HostRuntime, yard: &mut HostYard, room: &str, name: &str) -> Resul
 fn begins(rt: &HostRuntime, yard: &mut HostYard, room: &str, name: &str) -> Result<bool, Fail> {
     let path = path_in(rt.alloc(), room, name)?;
     Ok(yard.file(path.as_str()) == Ok(()))
-}
-
-fn stands(rt: &HostRuntime, room: &str, name: &str) -> Result<bool, Fail> {
-    let path = path_in(rt.alloc(), room, name)?;
-    Ok(fs::symlink_metadata(rt, path.as_str()).is_ok())
 }
 
 fn link(rt: &HostRuntime, room: &str, name: &str, target: &str) -> Result<bool, Fail> {
