@@ -1,7 +1,5 @@
-// An archive of one loaded stream, and rows of what is asked of it.
-use std::alloc::Global;
-use std::test::Fail;
-use swh_program_fixtures::{BARE, Case, Piece, Setting, is_met};
+// An archive of one loaded stream.
+use swh_program_fixtures::{BARE, Piece, Setting};
 
 // A merge, a program, a link, a revision of another project, names that are escaped, and releases of a revision, of a
 // release and of a content.
@@ -22,13 +20,3 @@ pub const LOADING: Setting<'static> = Setting {
     input: Some(&[Piece::Text(STREAM)]),
     ..BARE
 };
-
-/// Fails with the name of the first row that is not met.
-pub fn all_met(alloc: Global, cases: &[Case<'_>]) -> Result<(), Fail> {
-    for case in cases {
-        if !is_met(alloc, case)? {
-            return Err(Fail::new(case.name));
-        }
-    }
-    Ok(())
-}

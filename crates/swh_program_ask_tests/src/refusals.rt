@@ -1,7 +1,7 @@
 // Each path that is refused: the word, and what it names.
-use crate::asked::{LOADING, all_met};
+use crate::asked::LOADING;
 use std::test::Fail;
-use swh_program_fixtures::{Case, INIT, LOAD};
+use swh_program_fixtures::{Case, INIT, LOAD, all_met};
 
 const REFUSALS: &[Case<'static>] = &[
     Case {

@@ -1,7 +1,7 @@
 // Each path that is answered.
-use crate::asked::{LOADING, all_met};
+use crate::asked::LOADING;
 use std::test::Fail;
-use swh_program_fixtures::{Case, INIT, LOAD};
+use swh_program_fixtures::{Case, INIT, LOAD, all_met};
 
 const REPLIES: &[Case<'static>] = &[
     // A byte stands for itself or is escaped, but for `%` and `?`.

@@ -1,7 +1,6 @@
 // Runs over other archives, and of several paths.
-use crate::asked::all_met;
 use std::test::Fail;
-use swh_program_fixtures::{ASK, BARE, Case, INIT, LOAD, LOADED, LOADING, Piece, Setting};
+use swh_program_fixtures::{ASK, BARE, Case, INIT, LOAD, LOADED, LOADING, Piece, Setting, all_met};
 
 const RUNS: &[Case<'static>] = &[
     // A stream of nothing, and its one visit.

@@ -6,6 +6,7 @@
 mod folders;
 mod pieces;
 mod plain;
+mod rows;
 mod setting;
 mod words;
 mod world;
@@ -14,6 +15,7 @@ mod yards;
 pub use folders::{Laid, Layout};
 pub use pieces::{Piece, spelled};
 pub use plain::{PlainDepot, Spoil};
+pub use rows::{all_met, all_met_in_sums, all_met_plainly};
 pub use setting::{BARE, Case, Setting, StandingFile, StandingFolder};
 pub use words::{ASK, CHECK, INIT, LEDGER, LOAD, LOADED, LOADING, STORE, TWO_JOBS};
 pub use world::{is_met, is_met_by, is_met_leaving, is_met_printing};

@@ -1,12 +1,8 @@
 // Each limit of a stream, of a body and of a job file: what is just within it, and what is one above.
 use crate::streams::{EMPTY, Load, all_end_so};
-use std::alloc::Global;
 use std::test::Fail;
-use swh_base::Sha1Namer;
 use swh_fixtures::STREAM;
-use swh_program_fixtures::{
-    CHECK, Case, INIT, LOAD, LOADING, Piece, PlainDepot, Setting, is_met_by,
-};
+use swh_program_fixtures::{CHECK, Case, INIT, LOAD, LOADING, Piece, Setting, all_met_plainly};
 
 // A commit without a tree, up to where its changes stand.
 const COMMIT: &[u8] = b"commit refs/heads/m\ncommitter A <a@e.org> 1000000000 +0000\ndata 0\n";
@@ -103,16 +99,6 @@ const LIMITS: &[Load<'static>] = &[
 #[test]
 fn each_limit_of_a_word(rt: HostRuntime) -> Result<(), Fail> {
     all_end_so(rt.alloc(), LIMITS)
-}
-
-// Fails with the name of the first row that is not met, over files that take no more memory than they are long.
-fn all_met_plainly(alloc: Global, cases: &[Case<'_>]) -> Result<(), Fail> {
-    for case in cases {
-        if !is_met_by(alloc, Sha1Namer, PlainDepot::new(alloc, None), case)? {
-            return Err(Fail::new(case.name));
-        }
-    }
-    Ok(())
 }
 
 // With the worked stream's branch there are 65,536 refs; and there are more objects than a batch has.

@@ -1,11 +1,10 @@
 // What `identify dir` prints of folders, and each line that tells a refusal. The names of the first two are those that
 // git's documents print, and the third is that of another SHA-1.
-use crate::rows::all_met;
 use Laid::{Broken, Bytes, Fill, List, LongName};
 use What::{File, Folder, Other};
 use std::test::Fail;
 use swh_outside::What;
-use swh_program_fixtures::{BARE, Case, Laid, Layout, Setting};
+use swh_program_fixtures::{BARE, Case, Laid, Layout, Setting, all_met};
 
 const NAME: &[&str] = &["identify", "dir", "D"];
 

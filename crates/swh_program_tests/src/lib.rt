@@ -1,6 +1,7 @@
 //! Tests of the program over memory: what each command prints, with its status, and each part of the outside failing in
 //! turn.
-//! Stands on the program's fixtures. How streams break, and limits, are in `swh_program_stream_tests`.
+//! Stands on the program's fixtures. What jobs load is in `swh_program_load_tests`, how streams break, and limits, in
+//! `swh_program_stream_tests`, what is asked in `swh_program_ask_tests`.
 //! Nothing stands above it.
 #![tactic(auto)]
 
@@ -13,10 +14,4 @@ mod devices;
 #[cfg(test)]
 mod folders;
 #[cfg(test)]
-mod jobs;
-#[cfg(test)]
-mod loads;
-#[cfg(test)]
 mod refusals;
-#[cfg(test)]
-mod rows;

@@ -1,7 +1,8 @@
 // What each command prints, with its status: answers, and each line that tells a refusal.
-use crate::rows::all_met;
 use std::test::Fail;
-use swh_program_fixtures::{ASK, BARE, CHECK, Case, INIT, LOAD, LOADED, LOADING, Piece, Setting};
+use swh_program_fixtures::{
+    ASK, BARE, CHECK, Case, INIT, LOAD, LOADED, LOADING, Piece, Setting, all_met,
+};
 
 // Words that are no command.
 const WORDS: &[Case<'static>] = &[Case {

@@ -114,6 +114,71 @@ const FILES: &[JobFile<'static>] = &[
         statuses: &[0, 2],
         printed: &[Piece::Text(b"made\nswharc: job line 2: origin\n")],
     },
+    // Paths of listings and of refs.
+    JobFile {
+        lines: &[
+            Piece::Text(b"dir\thttps://e.org/p\tx\t"),
+            Piece::Fill(4_096),
+        ],
+        statuses: &[0, 1],
+        printed: NOT_FOUND,
+    },
+    JobFile {
+        lines: &[
+            Piece::Text(b"dir\thttps://e.org/p\tx\t"),
+            Piece::Fill(4_097),
+        ],
+        statuses: &[0, 2],
+        printed: FORM,
+    },
+    JobFile {
+        lines: &[
+            Piece::Text(b"batch\thttps://e.org/p\tx\t"),
+            Piece::Fill(4_096),
+        ],
+        statuses: &[0, 1],
+        printed: NOT_FOUND,
+    },
+    JobFile {
+        lines: &[
+            Piece::Text(b"batch\thttps://e.org/p\tx\t"),
+            Piece::Fill(4_097),
+        ],
+        statuses: &[0, 2],
+        printed: FORM,
+    },
+    // An origin stands once, whatever the kinds are; and the form goes before it.
+    JobFile {
+        lines: &[Piece::Text(b"dir\tu1\td\nbatch\tu2\tb\tr\nfast\tu1\te\n")],
+        statuses: &[0, 2],
+        printed: &[Piece::Text(b"made\nswharc: job line 3: origin\n")],
+    },
+    JobFile {
+        lines: &[Piece::Text(b"dir\tu1\td\nbatch\tu1\tb\n")],
+        statuses: &[0, 2],
+        printed: FORM_BEHIND,
+    },
+];
+
+const FORM_BEHIND: &[Piece<'static>] = &[Piece::Text(b"made\nswharc: job line 2: form\n")];
+
+/// Second lines that are no job: no path, an empty one, an empty listing, a part too many, no refs, empty refs, a head
+/// behind refs, an empty head, an empty URL, other words for a kind, and nothing.
+const FORMS: &[&[u8]] = &[
+    b"dir\tu2",
+    b"dir\tu2\t",
+    b"dir\tu2\td\t",
+    b"dir\tu2\td\tm\tm",
+    b"batch\tu2\tb",
+    b"batch\tu2\tb\t",
+    b"batch\tu2\t\tr",
+    b"batch\tu2\tb\tr\trefs/heads/m",
+    b"fast\tu2\te\t",
+    b"dir\t\td",
+    b"Dir\tu2\td",
+    b"git\tu2\td",
+    b"\tu2\td",
+    b"",
 ];
 
 // The row of a load into a new archive, without what it prints. A file that is refused leaves the archive as it was made.
@@ -144,6 +209,29 @@ fn ends_so(alloc: Global, file: &JobFile<'_>) -> Result<bool, AllocError> {
 fn each_job_file(rt: HostRuntime) -> Result<(), Fail> {
     for (number, file) in FILES.iter().enumerate() {
         if !ends_so(rt.alloc(), file)? {
+            return Err(Fail::new(number));
+        }
+    }
+    Ok(())
+}
+
+fn is_no_job(alloc: Global, line: &[u8]) -> Result<bool, AllocError> {
+    let file = JobFile {
+        lines: &[
+            Piece::Text(b"dir\tu1\td\n"),
+            Piece::Text(line),
+            Piece::Text(b"\n"),
+        ],
+        statuses: &[0, 2],
+        printed: FORM_BEHIND,
+    };
+    ends_so(alloc, &file)
+}
+
+#[test]
+fn lines_of_no_job(rt: HostRuntime) -> Result<(), Fail> {
+    for (number, line) in FORMS.iter().enumerate() {
+        if !is_no_job(rt.alloc(), line)? {
             return Err(Fail::new(number));
         }
     }

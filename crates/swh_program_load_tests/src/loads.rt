@@ -1,12 +1,9 @@
 // Loads of one job and of several: their lines, and what is left.
-use crate::rows::all_met;
-use std::alloc::{AllocError, Global};
 use std::test::Fail;
-use swh_base::ByteNamer;
 use swh_fixtures::MADE_LEDGER;
 use swh_program_fixtures::{
-    ASK, CHECK, Case, INIT, LEDGER, LOAD, LOADED, LOADING, Piece, PlainDepot, STORE, Setting,
-    TWO_JOBS, is_met_by,
+    ASK, BARE, CHECK, Case, INIT, LEDGER, LOAD, LOADED, LOADING, Piece, STORE, Setting, TWO_JOBS,
+    all_met,
 };
 
 // A path that is none.
@@ -153,6 +150,37 @@ https://e.org/a\t1\tnot_found\t-\n",
         printed: b"made\nhttps://e.org/p\t1\tfull\tswh:1:snp:5036",
         leaves: Some((LEDGER, STORE)),
     },
+    // The job file comes before the archive, and the archive before the clock.
+    Case {
+        name: "no job file and no archive",
+        setting: BARE,
+        runs: &[LOAD],
+        statuses: &[2],
+        printed: b"swharc: no job file\n",
+        leaves: None,
+    },
+    Case {
+        name: "a line that is no job, and no archive",
+        setting: Setting {
+            jobs: Some(&[Piece::Text(b"x\n")]),
+            ..BARE
+        },
+        runs: &[LOAD],
+        statuses: &[2],
+        printed: b"swharc: job line 1: form\n",
+        leaves: None,
+    },
+    Case {
+        name: "no archive, and a clock that would fail",
+        setting: Setting {
+            clock_fails: Some(0),
+            ..LOADING
+        },
+        runs: &[LOAD],
+        statuses: &[3],
+        printed: b"swharc: not made\n",
+        leaves: None,
+    },
     // The clock is asked once for each job, and all inputs are opened, before the first job is loaded.
     Case {
         name: "a clock that fails at the second job",
@@ -171,34 +199,4 @@ https://e.org/a\t1\tnot_found\t-\n",
 #[test]
 fn each_load_is_told(rt: HostRuntime) -> Result<(), Fail> {
     all_met(rt.alloc(), LOADS)
-}
-
-// Two bodies of one id, by a namer that sums up their bytes: the first stays, and no line after it does.
-const COLLISION: Case<'static> = Case {
-    name: "a collision",
-    setting: Setting {
-        jobs: Some(TWO_JOBS),
-        input: Some(&[Piece::Text(b"blob\nmark :1\ndata 2\nab")]),
-        other_input: Some(&[Piece::Text(b"blob\nmark :1\ndata 2\nba")]),
-        ..LOADING
-    },
-    runs: &[INIT, LOAD, CHECK],
-    statuses: &[0, 1, 0],
-    printed: b"made\nhttps://e.org/p\t1\tfull\tswh:1:snp:0000000000000000000000000000000000000000\n\
-https://e.org/a\t1\tfailed\tcollision swh:1:cnt:00000000000000000000000000000000000000c3\n\
-objects 2 closed 1 visits 2\n",
-    leaves: None,
-};
-
-fn is_collision_told(alloc: Global) -> Result<bool, AllocError> {
-    is_met_by(alloc, ByteNamer, PlainDepot::new(alloc, None), &COLLISION)
-}
-
-#[test]
-fn a_collision_is_told(rt: HostRuntime) -> Result<(), Fail> {
-    if is_collision_told(rt.alloc())? {
-        Ok(())
-    } else {
-        Err(Fail::new("a collision"))
-    }
 }
