@@ -1,4 +1,5 @@
 pub mod Escapes
+pub mod Later
 pub mod Leaves
 pub mod Marks
 pub mod Missing

@@ -1,9 +1,10 @@
 -- Jobs loaded one after the other.
-use Rattle.std.specs.Prelude.{◌≡◌, ℕ, ◌≤◌, Some, None, Result, Ok, Err, List, [], ◌∷◌, map}
+use Rattle.std.specs.Prelude.{◌≡◌, ℕ, ◌≤◌, Some, None, Result, Ok, Err, List, [], ◌∷◌, ◌++◌, map}
 use Rattle.swh_base.specs.declared.kind.Kind.{Kind}
 use Rattle.swh_base.specs.declared.entry.Entry.{Entry}
 use Rattle.swh_base.specs.declared.visit.Status.TheVariants.{Created}
 use Rattle.swh_outside.specs.Views.{Disks}
+use Rattle.swh_model.specs.declared.event.Event.{Event}
 use Rattle.swh_keeper.specs.Kept.{Kept}
 use Rattle.swh_loader.specs.declared.end.Loaded.{Loaded}
 use Rattle.swh_walk.specs.declared.end.LoadFault.{LoadFault}
@@ -12,7 +13,7 @@ use Rattle.swh_loader.specs.Ending.{IsJobEnd, statuses_of, held_bodies}
 use Rattle.swh_inputs.specs.Opening.{kind_of}
 use Rattle.swh_inputs.specs.Parts.{Parts, HasGoodHead, IsSameInput}
 use Rattle.swh_loader.specs.Leaving.{AreAllowed}
-use Rattle.swh_alone.specs.Loading.{AddsVisit, MakesVisitCalls, Stops, IsHeldBack}
+use Rattle.swh_alone.specs.Loading.{AreOfVisit, MakesVisitCalls, Stops, IsHeldBack}
 use Rattle.swh_walk.specs.Visiting.{next_visit, IsVisit}
 use Rattle.swh_alone.specs.Leaving.{KeepsAll}
 use Rattle.swh_pool.specs.declared.dated.DatedJob.{DatedJob}
@@ -21,15 +22,16 @@ use Rattle.swh_pool.specs.declared.dated.DatedJob.{DatedJob}
 abbrev pub HasHead : {S F : Type 0} → DatedJob S F → Type 0
 HasHead dated = HasGoodHead dated.job.input
 
--- one job: as it was, as it is afterwards, and how its load ended
+-- one job: as it was, as it is afterwards, the events that its load added, in their order, and how that ended
 pub record OneLoad (S F : Type 0) : Type 0 where
   pub job : DatedJob S F
   pub after : DatedJob S F
+  pub own : List Event
   pub outcome : Result Loaded LoadFault
 
 -- the load of a job
-abbrev pub one_load : {S F : Type 0} → DatedJob S F → DatedJob S F → Result Loaded LoadFault → OneLoad S F
-one_load job after outcome = record { job = job; after = after; outcome = outcome }
+abbrev pub one_load : {S F : Type 0} → DatedJob S F → DatedJob S F → List Event → Result Loaded LoadFault → OneLoad S F
+one_load job after own outcome = record { job = job; after = after; own = own; outcome = outcome }
 
 -- what loads are done with: how objects are named, by whom events are, and what the parts of inputs and the disks tell
 pub record Loading (S F D : Type 0) : Type 1 where
@@ -64,9 +66,10 @@ module _ {S F D : Type 0} (given : Loading S F D) where
   IsLoadOutcome l old new (Ok loaded) = IsEnded l old new loaded
   IsLoadOutcome l old new (Err fault) = Stops given.id given.disks (AreAllowedAt l) (attempt_at l) old new fault
 
-  -- The load of one job, between two states of the archive.
+  -- The load of one job, between two states of the archive: its own events were added, and no others.
   pub record IsOneLoad (l : OneLoad S F) (old new : Kept D) : Type 0 where
-    pub adds : AddsVisit (AreAllowedAt l) (attempt_at l) old.history new.history
+    pub behind : new.history ≡ old.history ++ l.own
+    pub are_own : AreOfVisit (AreAllowedAt l) (attempt_at l) (next_visit old.history l.job.job.origin) l.own
     pub ends : IsLoadOutcome l old new l.outcome
     pub wounded : (n : ℕ) → old.wounded ≡ Some n → IsHeldBack old new l.outcome
     pub calls : given.disks.tells → MakesVisitCalls given.id given.disks (AreAllowedAt l) (attempt_at l) old new

@@ -39,3 +39,36 @@ AreStops false (o ∷ outcomes) = IsUnwounded o × AreStops (is_disk_fault o) ou
 -- No disk failed in any of these loads.
 abbrev pub HaveNoDiskFault : List (Result Loaded LoadFault) → Type 0
 HaveNoDiskFault outcomes = AllByRecursion (λ o. is_disk_fault o ≡ false) outcomes
+
+-- whether a load stopped for this for want of memory
+abbrev pub is_want : Stop → Bool
+is_want (Ended status) = false
+is_want DiskFault = false
+is_want Wounded = false
+is_want (Limit which number) = false
+is_want Memory = true
+
+-- whether its load stopped for want of memory
+abbrev pub is_memory_stop : Result Loaded LoadFault → Bool
+is_memory_stop (Ok loaded) = false
+is_memory_stop (Err fault) = is_want fault.why
+
+-- None of these loads stopped for want of memory.
+abbrev pub HaveNoMemoryStop : List (Result Loaded LoadFault) → Type 0
+HaveNoMemoryStop outcomes = AllByRecursion (λ o. is_memory_stop o ≡ false) outcomes
+
+-- It did not stop because its visit had an end already.
+abbrev pub IsNotCutShort : Stop → Type 0
+IsNotCutShort (Ended status) = ⊥
+IsNotCutShort _ = Unit {0}
+
+-- Its load did not stop because its visit had an end already.
+abbrev pub HasOwnEnd : Result Loaded LoadFault → Type 0
+HasOwnEnd (Ok loaded) = Unit {0}
+HasOwnEnd (Err fault) = IsNotCutShort fault.why
+
+-- However many workers load: a load stops for a disk that had failed only beside a load that says so, and because its visit
+-- had an end already only beside one that memory stopped.
+pub record AreStopsOfMany (outcomes : List (Result Loaded LoadFault)) : Type 0 where
+  pub wounded : HaveNoDiskFault outcomes → AllByRecursion IsUnwounded outcomes
+  pub cut_short : HaveNoMemoryStop outcomes → AllByRecursion HasOwnEnd outcomes

@@ -1,21 +1,19 @@
 -- A job whose input is bad is not full.
-use Rattle.std.proofs.Common.{◌≡◌, inl, inr, ⊎_elim, ℕ, Option, Some, Result, Ok, Err, List, [], ◌∷◌, ◌++◌, map, Contains, sym, ap, ◌∙◌, subst}
+use Rattle.std.proofs.Common.{◌≡◌, inl, inr, ⊎_elim, ℕ, Some, Result, Ok, Err, List, [], ◌∷◌, map, Contains, sym, ap, ◌∙◌, subst}
 use Rattle.std.specs.List.{AllByRecursion}
 use Rattle.swh_base.specs.declared.kind.Kind.{Kind}
 use Rattle.swh_base.specs.declared.name.Name.{Name}
 use Rattle.swh_base.specs.declared.entry.Entry.{Entry}
 use Rattle.swh_jobs.specs.Job.{Job}
 use Rattle.swh_model.specs.declared.event.Event.{Event}
-use Rattle.swh_model.specs.Archive.{Bodies, empty_archive, body_of}
+use Rattle.swh_model.specs.Archive.{Bodies, body_of}
 use Rattle.swh_model.specs.Grows.{IsWithin}
 use Rattle.swh_model.specs.Meaning.{Made as MadeObject, StreamMeaning}
-use Rattle.swh_model.specs.Step.{IsHistory, HasItsChildrenAndName, replay}
-use Rattle.swh_model.proofs.Growing.{bodies_grow}
-use Rattle.swh_model.proofs.Histories.{fronts}
+use Rattle.swh_model.specs.Step.{HasItsChildrenAndName, replay}
 use Rattle.swh_inputs.specs.Input.{InputText, MeansInput}
 use Rattle.swh_made.specs.Making.{made_from, made}
 use Rattle.swh_inputs.proofs.OneInput.{one_making, unbroken}
-use Rattle.swh_walk.specs.Owning.{attempt}
+use Rattle.swh_walk.specs.Owning.{Attempt}
 use Rattle.swh_loader.specs.Ending.{IsFull}
 use Rattle.swh_walk.proofs.Batches.{at_element}
 use Rattle.swh_loader.specs.declared.end.End.{End}
@@ -24,14 +22,12 @@ use Rattle.swh_loader.specs.declared.end.Loaded.{Loaded}
 use Rattle.swh_walk.specs.declared.end.LoadFault.{LoadFault}
 use Rattle.swh_program.specs.Causes.{HasTwoBodies, IsBroken, IsBadInput}
 use Rattle.swh_program.specs.Complete.{HasBodyOrMakes}
-use Rattle.swh_program.specs.Found.{kind_at}
-use Rattle.swh_program.specs.Inputs.{loader, Inputs, input_of, IsInputEnd, IsJobOutcome}
+use Rattle.swh_program.specs.Inputs.{Inputs, input_of, IsInputEnd}
+use Rattle.swh_program.specs.JobLoad.{attempt_for, IsJobOutcome, IsJobLoad}
 use Rattle.swh_program.specs.Lines.{LoadedJob, outcomes, ending_of_end, ending_for, ending_of_all}
-use Rattle.swh_program.specs.Load.{AreJobLoads}
 use Rattle.swh_program.specs.declared.answer.Ending.TheVariants as ending
 use Rattle.swh_program.proofs.Elements.{from_map}
 use Rattle.swh_program.proofs.LoadEndings.{both_done, why_undone}
-use Rattle.swh_program.proofs.Loads.{all_behind}
 
 -- Nothing is wrong with the input of a full job.
 module _ (id_of : Kind → List ℕ → List ℕ) (bodies held : Bodies) (within : IsWithin bodies held) (text : InputText) (snapshot : List ℕ) (full : IsFull id_of text held snapshot) where
@@ -70,34 +66,22 @@ module _ (id_of : Kind → List ℕ → List ℕ) (of_jobs : Inputs) (told : of_
   end_not_bad job held within NotFound is e bad = let f : ending.Wanting ≡ ending.Done = e in cc
   end_not_bad job held within (Failed reason) is e bad = let f : ending.Wanting ≡ ending.Done = e in cc
 
-  load_not_bad : (job : Job) (date : ℕ) (h h' : List Event) → IsWithin bodies (replay h').bodies → (outcome : Result Loaded LoadFault)
-      → IsJobOutcome id_of (input_of of_jobs job) (attempt loader job.url (kind_at job.input) date) h h' outcome → ending_for outcome ≡ ending.Done → IsBadInput id_of bodies (input_of of_jobs job).found → ⊥
-  load_not_bad job date h h' within (Ok l) line e bad = end_not_bad job (replay h').bodies within l.end line.end e bad
-  load_not_bad job date h h' within (Err f) line e bad = why_undone f.why e
+  module _ (before after : List Event) (within : IsWithin bodies (replay after).bodies) where
+    load_not_bad : (job : Job) (a : Attempt) (own : List Event) (outcome : Result Loaded LoadFault) → IsJobOutcome id_of (input_of of_jobs job) a before after own outcome → ending_for outcome ≡ ending.Done
+        → IsBadInput id_of bodies (input_of of_jobs job).found → ⊥
+    load_not_bad job a own (Ok l) line e bad = end_not_bad job (replay after).bodies within l.end line.end e bad
+    load_not_bad job a own (Err f) line e bad = why_undone f.why e
 
-  -- what is held at entry is held after each load
-  within_more : (h more : List Event) → IsHistory id_of (h ++ more) → IsWithin bodies (replay h).bodies → IsWithin bodies (replay (h ++ more)).bodies
-  within_more h more history within n body held =
-      let parts = fronts id_of empty_archive h more history in
-      subst (λ (b : Bodies). body_of b n ≡ Some body) (ap (λ a. a.bodies) (sym parts.2)) (bodies_grow id_of (replay h) more parts.1 n body (within n body held))
+    none_bad : (loads : List LoadedJob) → AllByRecursion (IsJobLoad id_of of_jobs before after) loads → ending_of_all (outcomes loads) ≡ ending.Done → AllByRecursion (λ l. IsBadInput id_of bodies (input_of of_jobs l.job).found → ⊥) loads
+    none_bad [] each e = tt
+    none_bad (l ∷ loads) each e =
+        let done = both_done (ending_for l.outcome) (ending_of_all (outcomes loads)) e in
+        (load_not_bad l.job (attempt_for l) l.own l.outcome each.0.line done.0, none_bad loads each.1 done.1)
 
-  pub none_bad : (loads : List LoadedJob) (h after : List Event) → AreJobLoads id_of of_jobs loads h after → IsHistory id_of after → IsWithin bodies (replay h).bodies
-      → ending_of_all (outcomes loads) ≡ ending.Done → AllByRecursion (λ l. IsBadInput id_of bodies (input_of of_jobs l.job).found → ⊥) loads
-  none_bad [] h after each history within e = tt
-  none_bad (l ∷ loads) h after each history within e =
-      let between = each.0 in
-      let adds = each.1.nothing_else in
-      let rest = all_behind id_of of_jobs loads between after each.2 in
-      let here : IsHistory id_of between = (fronts id_of empty_archive between rest.0 (subst (IsHistory id_of) rest.1 history)).0 in
-      let held : IsWithin bodies (replay between).bodies = subst (λ (g : List Event). IsWithin bodies (replay g).bodies) (sym adds.behind) (within_more h adds.more (subst (IsHistory id_of) adds.behind here) within) in
-      let done = both_done (ending_for l.outcome) (ending_of_all (outcomes loads)) e in
-      (load_not_bad l.job l.date h between held l.outcome each.1.line done.0, none_bad loads between after each.2 history held done.1)
-
-  -- of jobs that are all done none has a bad input
-  pub bad_undone : (loads : List LoadedJob) (h after : List Event) → AreJobLoads id_of of_jobs loads h after → IsHistory id_of after → bodies ≡ (replay h).bodies
-      → (job : Job) → Contains (map (λ l. l.job) loads) job → IsBadInput id_of bodies (input_of of_jobs job).found → ending_of_all (outcomes loads) ≡ ending.Done → ⊥
-  bad_undone loads h after each history same job among bad e =
-      let from = from_map (λ (l : LoadedJob). l.job) loads job among in
-      at_element (λ (l : LoadedJob). IsBadInput id_of bodies (input_of of_jobs l.job).found → ⊥) loads from.0
-      (none_bad loads h after each history (λ n body held. subst (λ (b : Bodies). body_of b n ≡ Some body) same held) e) from.1
-      (subst (λ (j : Job). IsBadInput id_of bodies (input_of of_jobs j).found) (sym from.2) bad)
+    -- of jobs that are all done none has a bad input
+    pub bad_undone : (loads : List LoadedJob) → AllByRecursion (IsJobLoad id_of of_jobs before after) loads → (job : Job) → Contains (map (λ l. l.job) loads) job → IsBadInput id_of bodies (input_of of_jobs job).found
+        → ending_of_all (outcomes loads) ≡ ending.Done → ⊥
+    bad_undone loads each job among bad e =
+        let from = from_map (λ (l : LoadedJob). l.job) loads job among in
+        at_element (λ (l : LoadedJob). IsBadInput id_of bodies (input_of of_jobs l.job).found → ⊥) loads from.0 (none_bad loads each e) from.1
+        (subst (λ (j : Job). IsBadInput id_of bodies (input_of of_jobs j).found) (sym from.2) bad)

@@ -17,8 +17,8 @@ use Rattle.swh_pool.specs.Loads.{Loading, loading, attempt_at, AreAllowedAt, One
 use Rattle.swh_program.specs.Inputs.{loader, Inputs}
 use Rattle.swh_program.specs.Dated.{IsOpenedJob}
 use Rattle.swh_program.specs.Lines.{LoadedJob}
-use Rattle.swh_program.specs.Load.{IsNextOf}
-use Rattle.swh_program.proofs.Inputs.{of_jobs, adds_of, loaded_job, loaded_jobs, Open}
+use Rattle.swh_program.specs.InTurn.{IsNextOf}
+use Rattle.swh_program.proofs.Inputs.{of_jobs, adds_own, adds_of, loaded_job, loaded_jobs, Open}
 
 -- a load on an archive whose disk had failed leaves it as it was
 as_it_was : {D : Type 0} (old new : Kept D) (o : Result Loaded LoadFault) → IsHeldBack old new o → new ≡ old
@@ -69,7 +69,7 @@ module _ {S F : Type 0} (id_of : Kind → List ℕ → List ℕ) (p : Parts S F)
   calls_of t (job ∷ jobs) [] old new opened are none = absurd opened
   calls_of t (job ∷ jobs) (l ∷ loads) old new opened are none =
       let between = are.0 in
-      let first = are.1.adds in
+      let first = adds_own id_of p opened_by after later later_still disks l old between are.1 in
       let mine = Next (loaded_job job l ∷ loaded_jobs jobs loads) in
       let this : MakesCallsOf id_of disks.file _ first.more old between = are.1.calls t first.more first.behind in
       let stopped : (n : ℕ) → between.wounded ≡ Some n → MakesCalls id_of disks.file (mine new.history) old new = λ n some.

@@ -262,12 +262,12 @@ does_load dir path s answer status told l =
           run_comes answer s status 1 (load_input g desk_at path old new inputs disks before archive jobs job there among bad answer l.ends) told;
       exact_lines = λ before jobs objects disks inputs archive there has one room no_disk no_desk no_clock. record {
         answer = answer;
-        is_one = load_exact g desk_at inputs disks path before jobs objects old new archive there has one room answer l.ends
+        is_one = load_exact g refl desk_at inputs disks path before jobs objects old new archive there has one room answer l.ends
             (λ failed. no_disk (l.disk_cause failed)) (λ failed. no_desk (l.source_cause failed)) (λ failed. no_clock (l.clock_cause failed));
         told = told;
       };
       complete = λ before meant disks inputs archive there are one room no_disk no_desk quiet no_clock no_sink.
-          let exact = load_exact g desk_at inputs disks path before (jobs_of_meant meant) (all_made meant) old new archive there (meant_all_made s.id_of (inputs_of s) meant are) one room answer l.ends
+          let exact = load_exact g refl desk_at inputs disks path before (jobs_of_meant meant) (all_made meant) old new archive there (meant_all_made s.id_of (inputs_of s) meant are) one room answer l.ends
           (λ failed. no_disk (l.disk_cause failed)) (λ failed. no_desk (l.source_cause failed)) (λ failed. no_clock (l.clock_cause failed)) in
           told_with (full_lines before meant) 0 answer s status (load_done s.id_of (inputs_of s) before meant one are quiet answer exact) no_sink told;
     }

@@ -1,5 +1,5 @@
--- What a load of an input that means something adds, and that no name of it collides.
-use Rattle.std.proofs.Common.{◌≡◌, inr, ℕ, true, Option, Some, List, [], ◌∷◌, Contains, sym, ap, ◌∙◌, subst}
+-- What loads of inputs that mean something add, and that no name of them collides.
+use Rattle.std.proofs.Common.{◌≡◌, inr, ℕ, false, Some, List, [], ◌∷◌, ◌++◌, Contains, sym, subst}
 use Rattle.std.specs.List.{AllByRecursion}
 use Rattle.swh_base.specs.declared.kind.Kind.{Kind}
 use Rattle.swh_base.specs.declared.name.Name.{Name}
@@ -15,11 +15,11 @@ use Rattle.swh_model.proofs.Maps.{added-all}
 use Rattle.swh_inputs.specs.Input.{InputText, MeansInput}
 use Rattle.swh_made.specs.Making.{made_from, made}
 use Rattle.swh_walk.specs.Owning.{Attempt}
-use Rattle.swh_alone.specs.Loading.{IsOwnEvent, AddsVisit, AreOfVisit}
 use Rattle.swh_walk.specs.Loading.{IsOwn}
+use Rattle.swh_walk.specs.Walking.{IsBy}
 use Rattle.swh_loader.specs.Ending.{MeansObjects, IsMadeBy, Collided}
-use Rattle.swh_walk.specs.Visiting.{next_visit}
 use Rattle.swh_walk.proofs.Batches.{at_element}
+use Rattle.swh_program.specs.JobLoad.{AreOwnEvents}
 use Rattle.swh_program.specs.Complete.{AreMade, MakesBody, HasBodyOrMakes, HasOneBody}
 use Rattle.swh_program.proofs.Elements.{map_contains}
 
@@ -52,28 +52,44 @@ module _ (id_of : Kind → List ℕ → List ℕ) (objects : List Made) where
         let other = c.other.0 in
         c.other.2 (one.one c.entry.name other c.entry.body (had c.entry.name other c.other.1) (inr makes))
 
+  -- A batch is of what is made.
+  abbrev IsMadeBatch : EventKind → Type 0
+  IsMadeBatch (Batch entries) = AreMade id_of objects entries
+  IsMadeBatch what = Unit {0}
+
+  -- The event adds nothing but what is made.
+  abbrev pub AddsMade : Event → Type 0
+  AddsMade e = IsMadeBatch e.what
+
+  -- So does a load whose batches are made.
+  module _ (P : List Entry → Type 0) (of_made : (entries : List Entry) → P entries → AreMade id_of objects entries) (a : Attempt) (number : ℕ) where
+    adds_kind : (what : EventKind) → IsOwn false P a number what → IsMadeBatch what
+    adds_kind (Batch entries) own = of_made entries own.1
+    adds_kind what own = tt
+
+    adds_own : (es : List Event) → AllByRecursion (IsBy a.by (IsOwn false P a number)) es → AllByRecursion AddsMade es
+    adds_own [] own = tt
+    adds_own (e ∷ es) own = (adds_kind e.what own.0.added, adds_own es own.1)
+
+    pub adds_made : (own : List Event) → AreOwnEvents P a number own → AllByRecursion AddsMade own
+    adds_made [] are = tt
+    adds_made (e ∷ es) are = (subst AddsMade (sym are.0) tt, adds_own es are.1)
+
   -- what is held stays held, or was made
   module _ (bodies : Bodies) where
     makes_all : (entries : List Entry) → AreMade id_of objects entries → AllByRecursion (λ e. HasBodyOrMakes id_of bodies objects e.name e.body) entries
     makes_all [] all = tt
     makes_all (e ∷ entries) all = (inr all.0, makes_all entries all.1)
 
-    had_kind : (a : Archive) (by : ℕ) (t : Attempt) (number : ℕ) (what : EventKind) → IsOwn true (AreMade id_of objects) t number what → Had id_of bodies objects a.bodies → Had id_of bodies objects (after_kind a by what).bodies
-    had_kind a by t number (Batch entries) own had = added-all (HasBodyOrMakes id_of bodies objects) a.bodies entries had (makes_all entries own.1)
-    had_kind a by t number what own had = had
+    had_kind : (a : Archive) (by : ℕ) (what : EventKind) → IsMadeBatch what → Had id_of bodies objects a.bodies → Had id_of bodies objects (after_kind a by what).bodies
+    had_kind a by (Batch entries) made had = added-all (HasBodyOrMakes id_of bodies objects) a.bodies entries had (makes_all entries made)
+    had_kind a by what made had = had
 
-    had_own : (t : Attempt) (number : ℕ) (a : Archive) (es : List Event) → AllByRecursion (IsOwnEvent (AreMade id_of objects) t number) es → Had id_of bodies objects a.bodies → Had id_of bodies objects (after_all a es).bodies
-    had_own t number a [] own had = had
-    had_own t number a (e ∷ es) own had = had_own t number (after a e) es own.1 (had_kind a e.by t number e.what own.0.added had)
+    had_all : (a : Archive) (es : List Event) → AllByRecursion AddsMade es → Had id_of bodies objects a.bodies → Had id_of bodies objects (after_all a es).bodies
+    had_all a [] made had = had
+    had_all a (e ∷ es) made had = had_all (after a e) es made.1 (had_kind a e.by e.what made.0 had)
 
-    had_visit : (t : Attempt) (number : ℕ) (a : Archive) (es : List Event) → AreOfVisit (AreMade id_of objects) t number es → Had id_of bodies objects a.bodies → Had id_of bodies objects (after_all a es).bodies
-    had_visit t number a [] are had = had
-    had_visit t number a (e ∷ es) are had =
-        had_own t number (after a e) es are.1 (subst (λ (x : Event). Had id_of bodies objects (after a x).bodies) (sym are.0) had)
-
-    -- which the archive holds after the load
-    pub had_after : (t : Attempt) (h h' : List Event) → IsHistory id_of h' → AddsVisit (AreMade id_of objects) t h h' → Had id_of bodies objects (replay h).bodies → Had id_of bodies objects (replay h').bodies
-    had_after t h h' history adds had =
-        let parts = fronts id_of empty_archive h adds.more (subst (IsHistory id_of) adds.behind history) in
-        let grown : replay h' ≡ after_all (replay h) adds.more = ap replay adds.behind ∙ parts.2 in
-        subst (λ (a : Archive). Had id_of bodies objects a.bodies) (sym grown) (had_visit t (next_visit h t.origin) (replay h) adds.more adds.are had)
+    -- which the archive holds after them
+    pub had_after : (h more : List Event) → IsHistory id_of (h ++ more) → AllByRecursion AddsMade more → Had id_of bodies objects (replay h).bodies → Had id_of bodies objects (replay (h ++ more)).bodies
+    had_after h more history made had =
+        subst (λ (a : Archive). Had id_of bodies objects a.bodies) (sym (fronts id_of empty_archive h more history).2) (had_all (replay h) more made had)

@@ -1,6 +1,7 @@
 -- What the loads of opened inputs say of what stands at their paths.
-use Rattle.std.proofs.Common.{◌≡◌, inl, inr, ℕ, ◌<◌, ◌≤◌, Option, Some, Result, Ok, Err, List, [], ◌∷◌, ◌++◌, length, map, refl, sym, ap, ◌∙◌, subst, arith, append_assoc, length-append}
+use Rattle.std.proofs.Common.{◌≡◌, inl, inr, ℕ, ◌≤◌, Option, Some, Result, Ok, Err, List, [], ◌∷◌, ◌++◌, length, map, refl, sym, ap, ◌∙◌, subst, arith, append_assoc, length-append}
 use Rattle.std.specs.List.{AllByRecursion}
+use Rattle.std.proofs.lemmas.List.{append_cancel_left}
 use Rattle.std.specs.Prelude.{IfSome}
 use Rattle.swh_base.specs.declared.visit.VisitKind.{VisitKind}
 use Rattle.swh_base.specs.declared.kind.Kind.{Kind}
@@ -14,8 +15,6 @@ use Rattle.swh_inputs.specs.Parts.{Parts, TellAll, IfTold, text_of, IsSameInput}
 use Rattle.swh_inputs.specs.declared.input.Input.{Input as OpenedInput}
 use Rattle.swh_inputs.proofs.Founds.{found_text}
 use Rattle.swh_model.specs.declared.event.Event.{Event}
-use Rattle.swh_model.specs.declared.event.EventKind.{EventKind}
-use Rattle.swh_model.specs.declared.event.EventKind.TheVariants.{Batch}
 use Rattle.swh_model.specs.Archive.{Bodies}
 use Rattle.swh_model.specs.Step.{replay}
 use Rattle.swh_keeper.specs.Kept.{Kept}
@@ -38,16 +37,16 @@ use Rattle.swh_pool.specs.Lines.{ended}
 use Rattle.swh_pool.specs.Loads.{Loading, loading, attempt_at, AreAllowedAt, OneLoad, IsLoadOutcome as IsOutcomeOf, IsOneLoad, AreLoads}
 use Rattle.swh_program.specs.Dated.{IsInputAt, IsOpenedJob, AreOpenedJobs, IsGivenBack, AreGivenBack}
 use Rattle.swh_program.specs.Found.{kind_at}
-use Rattle.swh_program.specs.Inputs.{loader, Inputs, inputs, Input, input_of, OfText, IsOfInput, IsInputEnd, StopsJobFor, StopsVisit, IsJobOutcome}
+use Rattle.swh_program.specs.Inputs.{loader, Inputs, inputs, Input, input_of, OfText, IsOfInput, IsInputEnd}
 use Rattle.swh_program.specs.Lines.{LoadedJob, dates, outcomes}
-use Rattle.swh_program.specs.Load.{IsJobLoad, AreJobLoads}
+use Rattle.swh_program.specs.InTurn.{StopsNowFor, StopsVisitNow, IsOutcomeNow, IsLoadInTurn, AreLoadsInTurn}
 use Rattle.swh_program.proofs.OpenedInputs.{same_kind, same_text, no_text, opening_failed, read_failed, failed_until}
 
 -- what the line of a load is made of
 abbrev pub url_and_outcome : LoadedJob → List ℕ × Result Loaded LoadFault
 url_and_outcome l = (l.job.url, l.outcome)
 
-all_append : {X : Type 0} (P : X → Type 0) (xs ys : List X) → AllByRecursion P xs → AllByRecursion P ys → AllByRecursion P (xs ++ ys)
+pub all_append : {X : Type 0} (P : X → Type 0) (xs ys : List X) → AllByRecursion P xs → AllByRecursion P ys → AllByRecursion P (xs ++ ys)
 all_append P [] ys h k = k
 all_append P (x ∷ xs) ys h k = (h.0, all_append P xs ys h.1 k)
 
@@ -76,7 +75,7 @@ module _ (P : List Entry → Type 0) (a : Attempt) (h h' : List Event) (e : Even
 module _ {D : Type 0} (id_of : Kind → List ℕ → List ℕ) (input : Input) (disks : Disks D) (P : List Entry → Type 0) (a : Attempt) (old new : Kept D)
     (allowed : (entries : List Entry) → P entries → IsOfInput id_of input entries) (adds : AddsVisit P a old.history new.history) where
   stops_for : (tried : Event → Type 0) → ((e : Event) → tried e → AddsVisit P a old.history (new.history ++ e ∷ [])) → (reason : Stop) → stopping.StopsFor id_of disks.faults tried old new reason
-      → StopsJobFor id_of input a old.history new.history reason
+      → StopsNowFor id_of input a old.history new.history reason
   stops_for tried next (why.Ended status) stops = stops
   stops_for tried next why.DiskFault stops = tt
   stops_for tried next why.Wounded stops = tt
@@ -88,7 +87,7 @@ module _ {D : Type 0} (id_of : Kind → List ℕ → List ℕ) (input : Input) (
   }
   stops_for tried next why.Memory stops = tt
 
-  stops_visit : (fault : LoadFault) → Stops id_of disks P a old new fault → StopsVisit id_of input a old.history new.history fault
+  stops_visit : (fault : LoadFault) → Stops id_of disks P a old new fault → StopsVisitNow id_of input a old.history new.history fault
   stops_visit fault (inl once) =
       record {
         visit = inl (once.no_visit, once.same);
@@ -100,7 +99,7 @@ module _ {D : Type 0} (id_of : Kind → List ℕ → List ℕ) (input : Input) (
 
 -- a job as it was loaded
 abbrev pub loaded_job : {S F : Type 0} → Job → OneLoad S F → LoadedJob
-loaded_job job l = record { job = job; date = l.job.date; outcome = l.outcome }
+loaded_job job l = record { job = job; date = l.job.date; by = loader; own = l.own; outcome = l.outcome }
 
 abbrev pub loaded_jobs : {S F : Type 0} → List Job → List (OneLoad S F) → List LoadedJob
 loaded_jobs [] loads = []
@@ -205,11 +204,15 @@ module _ {S F : Type 0} (id_of : Kind → List ℕ → List ℕ) (p : Parts S F)
     line : (job : Job) (l : OneLoad S F) (old new : Kept D) → IsOpenedJob p opened_by job l.job → IsGivenBack p opened_by.failures_now after l.after.job.input
         → AddsVisit (AreAllowedAt given l) (attempt_at given l) old.history new.history → IsSameInput p l.job.job.input l.after.job.input
         → (outcome : Result Loaded LoadFault) → IsOutcomeOf given l old new outcome
-        → IsJobOutcome id_of (input_of of_jobs job) (attempt_at given l) old.history new.history outcome
+        → IsOutcomeNow id_of (input_of of_jobs job) (attempt_at given l) old.history new.history outcome
     line job l old new opened back adds same (Ok loaded) is =
         record { number = is.number; visit = is.visit; end = input_end job (replay new.history).bodies l.job.job.input l.after.job.input opened.input opened.told same back loaded.end is.means }
     line job l old new opened back adds same (Err fault) is =
         stops_visit id_of (input_of of_jobs job) disks (AreAllowedAt given l) (attempt_at given l) old new (allowed job l.job.job.input opened.input opened.told) adds fault is
+
+    -- the events that a load added
+    pub adds_own : (l : OneLoad S F) (old new : Kept D) → IsOneLoad given l old new → AddsVisit (AreAllowedAt given l) (attempt_at given l) old.history new.history
+    adds_own l old new is = record { more = l.own; behind = is.behind; are = is.are_own }
 
     pub adds_of : (job : Job) (l : OneLoad S F) (before after' : List Event) → IsOpenedJob p opened_by job l.job → AddsVisit (AreAllowedAt given l) (attempt_at given l) before after'
         → AddsVisit (OfJob job) (attempt_for job l) before after'
@@ -218,16 +221,19 @@ module _ {S F : Type 0} (id_of : Kind → List ℕ → List ℕ) (p : Parts S F)
         (adds_visit (AreAllowedAt given l) (OfJob job) (attempt_at given l) (allowed job l.job.job.input opened.input opened.told) before after' adds)
 
     pub one_job : (job : Job) (l : OneLoad S F) (old new : Kept D) → IsOpenedJob p opened_by job l.job → IsGivenBack p opened_by.failures_now after l.after.job.input → IsOneLoad given l old new
-        → IsJobLoad id_of of_jobs (loaded_job job l) old.history new.history
+        → IsLoadInTurn id_of of_jobs (loaded_job job l) old.history new.history
     one_job job l old new opened back is =
-        let told = line job l old new opened back is.adds is.same_input l.outcome is.ends in
+        let told = line job l old new opened back (adds_own l old new is) is.same_input l.outcome is.ends in
+        let adds = adds_of job l old.history new.history opened (adds_own l old new is) in
         record {
-          nothing_else = adds_of job l old.history new.history opened is.adds;
-          line = subst (λ (a : Attempt). IsJobOutcome id_of (input_of of_jobs job) a old.history new.history l.outcome) (same_attempt job l opened) told;
+          by_loader = refl;
+          behind = is.behind;
+          are_own = subst (AreOfVisit (OfJob job) (attempt_for job l) (next_visit old.history job.url)) (append_cancel_left old.history adds.more l.own (sym adds.behind ∙ is.behind)) adds.are;
+          line = subst (λ (a : Attempt). IsOutcomeNow id_of (input_of of_jobs job) a old.history new.history l.outcome) (same_attempt job l opened) told;
         }
 
     pub each_job : (jobs : List Job) (loads : List (OneLoad S F)) (old new : Kept D) → Open p opened_by jobs loads → AreGivenBack p opened_by.failures_now after (map (λ l. l.after) loads)
-        → AreLoads given loads old new → AreJobLoads id_of of_jobs (loaded_jobs jobs loads) old.history new.history
+        → AreLoads given loads old new → AreLoadsInTurn id_of of_jobs (loaded_jobs jobs loads) old.history new.history
     each_job [] [] old new opened back are = ap (λ (k : Kept D). k.history) are
     each_job [] (l ∷ loads) old new opened back are = absurd opened
     each_job (job ∷ jobs) [] old new opened back are = absurd opened

@@ -10,6 +10,8 @@ pub mod Calling
 pub mod KeptRuns
 pub mod Openings
 pub mod Owned
+pub mod Turns
+pub mod Shared
 pub mod Loads
 pub mod JobReads
 pub mod Archived
@@ -18,7 +20,7 @@ pub mod Completes
 pub mod Damages
 pub mod LoadEndings
 pub mod Fulls
-pub mod OtherOrigins
+pub mod RoomInTurn
 pub mod Loadings
 pub mod JobRefusals
 pub mod LoadAnswers

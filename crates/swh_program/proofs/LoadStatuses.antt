@@ -6,6 +6,7 @@ use Rattle.swh_outside.specs.Files.{Files}
 use Rattle.swh_jobs.specs.Job.{Job}
 use Rattle.swh_jobs.specs.declared.fault.JobWhy.{JobWhy}
 use Rattle.swh_model.specs.declared.event.Event.{Event}
+use Rattle.swh_model.specs.Grows.{IsWithin}
 use Rattle.swh_model.specs.Step.{replay}
 use Rattle.swh_program.specs.Seen.{FileAt, Span}
 use Rattle.swh_program.specs.Answers.{status_of, status_for, printed_by, IsPrinted}
@@ -167,7 +168,7 @@ module _ (g : Givens) (desk_at : FileAt) (path : List ℕ) (old new : Files) whe
         let same : before ≡ load.before = one_archive g.id_of old before load.before archive (load.archive disks) in
         subst (λ (a : Answer). ComesTo 1 (status_of a)) (sym told.3)
         (not_done loaded.loads told.0 told.1 told.2
-        (bad_undone g.id_of g.inputs inputs (replay before).bodies loaded.loads load.before load.after load.each load.history (ap (λ (h : List Event). (replay h).bodies) same) job
+        (bad_undone g.id_of g.inputs inputs (replay before).bodies load.before (load.before ++ load.more) (subst (λ (h : List Event). IsWithin (replay h).bodies (replay (load.before ++ load.more)).bodies) (sym same) load.held) loaded.loads load.each job
         (subst (λ (js : List Job). Contains js job) (sym loaded.jobs_are) among) bad))
     outcome_bad answer jobs job among (inr none) bad =
         ⊎_elim

@@ -5,15 +5,16 @@ use Rattle.std.proofs.lemmas.List.{append-nil}
 use Rattle.swh_base.specs.declared.kind.Kind.{Kind}
 use Rattle.swh_base.specs.declared.name.Name.{Name}
 use Rattle.swh_outside.specs.Files.{Files}
-use Rattle.swh_jobs.specs.Job.{Job}
+use Rattle.std.proofs.lemmas.List.{length-map}
+use Rattle.swh_jobs.specs.Job.{Job, IsJob}
+use Rattle.swh_jobs.specs.JobFile.{AreDistinct, origins}
 use Rattle.swh_model.specs.declared.event.Event.{Event}
-use Rattle.swh_model.specs.Archive.{Bodies, body_of}
+use Rattle.swh_model.specs.Archive.{Bodies}
 use Rattle.swh_model.specs.Meaning.{Made as MadeObject, StreamMeaning}
-use Rattle.swh_model.specs.Step.{replay}
+use Rattle.swh_model.specs.Step.{IsHistory, replay}
 use Rattle.swh_fastload.specs.Input.{IsSameMaking}
 use Rattle.swh_inputs.specs.Input.{InputText, MeansInput}
 use Rattle.swh_inputs.proofs.OneInput.{one_making, unbroken}
-use Rattle.swh_walk.specs.Visiting.{next_visit}
 use Rattle.swh_walk.proofs.Batches.{at_element}
 use Rattle.swh_loader.proofs.Room.{HasRoomLeft, room_at_entry}
 use Rattle.swh_loader.specs.declared.end.BadInput.TheVariants.{Broken, Collision, Read}
@@ -26,6 +27,7 @@ use Rattle.swh_program.specs.Exact.{line_for, lines_for, ending_of_ends, MeansCo
 use Rattle.swh_program.specs.Found.{found_at, paths_of}
 use Rattle.swh_program.specs.Jobs.{AreJobsAt}
 use Rattle.swh_program.specs.Inputs.{Inputs}
+use Rattle.swh_program.specs.JobLoad.{IsJobLoad}
 use Rattle.swh_program.specs.Lines.{LoadedJob, outcomes, ending_of_end, ending_of_all, worse, TellsLoads}
 use Rattle.swh_program.specs.Load.{Givens, IsLoad, AreLoadedJobs, IsUnloaded, IsLoadedOrNot, LoadEnds}
 use Rattle.swh_program.specs.Opening.{IsArchive, IsOpenRefusal, OpenEnds}
@@ -40,42 +42,54 @@ use Rattle.swh_program.proofs.Elements.{each_among, from_map, flat_contains}
 use Rattle.swh_program.proofs.LoadEndings.{no_disk_faults}
 use Rattle.swh_program.proofs.JobRefusals.{one_list, refusal_of_jobs}
 use Rattle.swh_program.proofs.Loadings.{AreDone, all_done}
+use Rattle.swh_program.proofs.RoomInTurn.{HasRoomFor, none_filled}
 use Rattle.swh_program.proofs.LoadAnswers.{told_of, unloaded_cases}
 
 -- no disk failed where none is told
 no_disk_told : (loads : List LoadedJob) (text : List ℕ) (end : Ending) → TellsLoads loads text end → (end ≡ ending.OutsideDisk → ⊥) → ending_of_all (outcomes loads) ≡ ending.OutsideDisk → ⊥
 no_disk_told loads text end tells apart e = apart (tells.end_is ∙ e)
 
+-- what each of a list is made to is
+of_map : {X Y : Type 0} (f : X → Y) (P : Y → Type 0) (xs : List X) → AllByRecursion P (map f xs) → AllByRecursion (λ x. P (f x)) xs
+of_map f P [] are = tt
+of_map f P (x ∷ xs) are = (are.0, of_map f P xs are.1)
+
 -- a run of `load`
-module _ (g : Givens) (desk_at : FileAt) (inputs : g.inputs.tell) (disks : g.disks_tell)
+module _ (g : Givens) (one_worker : g.workers ≡ 1) (desk_at : FileAt) (inputs : g.inputs.tell) (disks : g.disks_tell)
     (path : List ℕ) (before : List Event) (jobs : List Job) (objects : List MadeObject) (old new : Files) (archive : IsArchive g.id_of old before) (there : AreJobsAt desk_at path jobs)
     (has : HasAllMade g.id_of g.inputs.files g.inputs.folders jobs objects) (one : HasOneBody g.id_of (replay before).bodies objects) (room : HasRoomForLoads g.id_of before jobs objects) where
   abbrev Exactly : Answer → Type 0
   Exactly answer = IsExact g.id_of g.inputs (replay before) jobs answer
 
   -- the lines of loads that are told, or memory ran out
-  module _ (loads : List LoadedJob) (text : List ℕ) (end : Ending) (tells : TellsLoads loads text end) where
-    told_lines : AreDone g.id_of g.inputs inputs before jobs objects has one loads jobs → Exactly (Told text end)
+  module _ (loads : List LoadedJob) (are : map (λ l. l.job) loads ≡ jobs) (text : List ℕ) (end : Ending) (tells : TellsLoads loads text end) where
+    told_lines : AreDone g.id_of g.inputs inputs before jobs objects has one loads → Exactly (Told text end)
     told_lines (inl memory) = inl (ap status_for (tells.end_is ∙ memory))
     told_lines (inr done) =
         let finished : end ≡ ending_of_ends done.ends = tells.end_is ∙ done.ending_is in
-        let lines : text ≡ lines_for (replay before) jobs done.ends = tells.text_is ∙ done.lines_are in
-        inr (record { ends = done.ends; are = done.are_ends; is = λ i. Told (lines i) (finished i) })
+        let lines : text ≡ lines_for (replay before) jobs done.ends = tells.text_is ∙ done.lines_are ∙ ap (λ (js : List Job). lines_for (replay before) js done.ends) are in
+        inr (record { ends = done.ends; are = subst (λ (js : List Job). AreExactEnds g.id_of g.inputs (replay before) js done.ends) are done.are_ends; is = λ i. Told (lines i) (finished i) })
 
-  -- after the history at entry
-  next_same : (h : List Event) → h ≡ before → (js : List Job) → AllByRecursion (λ job. next_visit h job.url ≡ next_visit before job.url) js
-  next_same h same [] = tt
-  next_same h same (job ∷ js) = (ap (λ (g : List Event). next_visit g job.url) same, next_same h same js)
+  -- one worker's loads meet no file's end
+  loads_filled : (loads : List LoadedJob) → map (λ l. l.job) loads ≡ jobs → (load : IsLoad g old new loads) → load.before ≡ before → AllByRecursion (λ l. Contains jobs l.job) loads → (ending_of_all (outcomes loads) ≡ ending.OutsideDisk → ⊥)
+      → AllByRecursion HasRoomFor (outcomes loads)
+  loads_filled loads are load same among apart =
+      let standing = (load.disks disks).standing (no_disk_faults (outcomes loads) apart) in
+      let good = of_map (λ (l : LoadedJob). l.job) IsJob loads (subst (AllByRecursion IsJob) (sym are) there.are.good.each) in
+      let long : length jobs ≡ length loads = sym (ap length are) ∙ length-map loads (λ (l : LoadedJob). l.job) in
+      let left : HasRoomLeft g.id_of objects before (length loads * 3) = subst (λ (n : ℕ). HasRoomLeft g.id_of objects before (n * 3)) long (room_at_entry g.id_of objects before (length jobs) room.ledger room.store) in
+      none_filled g.id_of g.inputs inputs jobs objects has loads load.before (load.before ++ load.more) among good (subst (λ (h : List Event). HasRoomLeft g.id_of objects h (length loads * 3)) (sym same) left)
+      load.history standing.stand.codable (load.in_turn one_worker).each
 
   loads_done : (loads : List LoadedJob) → map (λ l. l.job) loads ≡ jobs → IsLoad g old new loads → (ending_of_all (outcomes loads) ≡ ending.OutsideDisk → ⊥)
-      → AreDone g.id_of g.inputs inputs before jobs objects has one loads jobs
+      → AreDone g.id_of g.inputs inputs before jobs objects has one loads
   loads_done loads are load apart =
       let same : load.before ≡ before = one_archive g.id_of old load.before before (load.archive disks) archive in
-      let standing = (load.disks disks).standing (no_disk_faults (outcomes loads) apart) in
-      all_done g.id_of g.inputs inputs before jobs objects has one loads jobs load.before load.after are (each_among jobs) there.are.good.each there.are.good.distinct (next_same load.before same jobs)
-      (λ n body held. inl (subst (λ (h : List Event). body_of (replay h).bodies n ≡ Some body) same held))
-      (subst (λ (h : List Event). HasRoomLeft g.id_of objects h (length jobs * 3)) (sym same) (room_at_entry g.id_of objects before (length jobs) room.ledger room.store))
-      load.history standing.stand.codable load.each apart
+      let among = of_map (λ (l : LoadedJob). l.job) (Contains jobs) loads (subst (AllByRecursion (Contains jobs)) (sym are) (each_among jobs)) in
+      all_done g.id_of g.inputs inputs before jobs objects has one g.workers loads load.more among (subst (λ (js : List Job). AreDistinct (origins js)) (sym are) there.are.good.distinct)
+      (subst (λ (h : List Event). IsHistory g.id_of (h ++ load.more)) same load.history) load.shared
+      (subst (λ (h : List Event). AllByRecursion (IsJobLoad g.id_of g.inputs h (h ++ load.more)) loads) same load.each) load.stops
+      (loads_filled loads are load same among apart) apart
 
   loaded_done : (answer : Answer) → AreLoadedJobs g old new jobs answer → (TellsDisk answer → ⊥) → Exactly answer
   loaded_done answer loaded no_disk =
@@ -85,7 +99,7 @@ module _ (g : Givens) (desk_at : FileAt) (inputs : g.inputs.tell) (disks : g.dis
       let tells = told.2 in
       let apart : end ≡ ending.OutsideDisk → ⊥ = λ e. no_disk (subst TellsDisk (sym told.3) e) in
       subst Exactly (sym told.3)
-      (told_lines loaded.loads text end tells (loads_done loaded.loads loaded.jobs_are loaded.load (no_disk_told loaded.loads text end tells apart)))
+      (told_lines loaded.loads loaded.jobs_are text end tells (loads_done loaded.loads loaded.jobs_are loaded.load (no_disk_told loaded.loads text end tells apart)))
 
   unloaded_done : (answer : Answer) → IsUnloaded g.id_of g.disks_tell old new answer → (TellsDisk answer → ⊥) → (answer ≡ OutsideClock → ⊥) → Exactly answer
   unloaded_done answer is no_disk no_clock =

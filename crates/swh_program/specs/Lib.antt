@@ -20,6 +20,9 @@ pub mod Inputs
 pub mod Dated
 pub mod Telling
 pub mod Lines
+pub mod Sharing
+pub mod JobLoad
+pub mod InTurn
 pub mod Load
 pub mod Loading
 pub mod Complete

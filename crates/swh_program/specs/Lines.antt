@@ -1,6 +1,7 @@
 -- How loads end together, and the lines that tell them.
 use Rattle.std.specs.Prelude.{◌≡◌, ℕ, Result, Ok, Err, List, [], ◌∷◌, map, flat_map}
 use Rattle.swh_jobs.specs.Job.{Job}
+use Rattle.swh_model.specs.declared.event.Event.{Event}
 use Rattle.swh_loader.specs.Report.{report_of}
 use Rattle.swh_loader.specs.declared.end.End.{End}
 use Rattle.swh_loader.specs.declared.end.End.TheVariants.{Full, NotFound, Failed}
@@ -32,10 +33,12 @@ abbrev pub ending_for : Result Loaded LoadFault → Ending
 ending_for (Ok loaded) = ending_of_end loaded.end
 ending_for (Err fault) = ending_of_why fault.why
 
--- a job, the date of its load, and how that ended
+-- a job, the date of its load, which worker loaded it, the load's own events in their order, and how it ended
 pub record LoadedJob : Type 0 where
   pub job : Job
   pub date : ℕ
+  pub by : ℕ
+  pub own : List Event
   pub outcome : Result Loaded LoadFault
 
 -- the dates of loads

@@ -36,6 +36,7 @@ abbrev pub givens_of : Span → Givens
 givens_of s = record {
   id_of = s.id_of;
   inputs = inputs_of s;
+  workers = 1;
   clock_tells = s.told.clock;
   time = s.old.clock.time;
   disks_tell = s.told.depot;
@@ -61,7 +62,7 @@ pub record IsByLines (dir path : List ℕ) (s : Span) (status : ℕ) : Type 0 wh
   pub full : IsExactly 0 (AllByRecursion IsFullLine (outcomes loads)) status
   pub short : IsExactly 1 (HasShortLine (outcomes loads)) status
 
--- Some jobs were loaded, one after the other.
+-- Some jobs were loaded.
 pub record HasLoaded (dir : List ℕ) (s : Span) : Type 0 where
   pub loads : List LoadedJob
   pub load : IsLoad (givens_of s) (old_archive dir s) (new_archive dir s) loads

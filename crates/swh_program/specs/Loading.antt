@@ -8,7 +8,8 @@ use Rattle.swh_keeper.specs.Calls.{MakesCalls}
 use Rattle.swh_pool.specs.Stops.{AreStops, HaveNoDiskFault}
 use Rattle.swh_program.specs.Dated.{AreSaid}
 use Rattle.swh_program.specs.Lines.{LoadedJob, dates, outcomes, ending_of_all, TellsLoad}
-use Rattle.swh_program.specs.Load.{Givens, AreJobLoads, IsNextOf}
+use Rattle.swh_program.specs.InTurn.{AreLoadsInTurn, IsNextOf}
+use Rattle.swh_program.specs.Load.{Givens}
 use Rattle.swh_program.specs.declared.answer.Ending.TheVariants as ending
 use Rattle.swh_program.specs.declared.answer.Answer.{Answer}
 use Rattle.swh_program.specs.declared.answer.Answer.TheVariants.{OutsideClock, Memory}
@@ -21,7 +22,7 @@ IsUnstarted answer = (answer ≡ OutsideClock) ⊎ (answer ≡ Memory)
 module _ {D : Type 0} (g : Givens) (disks : Disks D) where
   -- The loads, from one state of a keeper to another.
   pub record AreKeptLoads (loads : List LoadedJob) (old new : Kept D) : Type 0 where
-    pub each : AreJobLoads g.id_of g.inputs loads old.history new.history
+    pub each : AreLoadsInTurn g.id_of g.inputs loads old.history new.history
     pub stops : AreStops false (outcomes loads)
     pub unwounded : (new.wounded ≡ None) ↔ HaveNoDiskFault (outcomes loads)
     pub rose : ending_of_all (outcomes loads) ≡ ending.OutsideDisk

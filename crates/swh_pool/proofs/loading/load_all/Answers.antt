@@ -4,7 +4,6 @@ use Rattle.std.specs.List.{AllByRecursion}
 use Rattle.std.proofs.lemmas.List.Elements.{recursion_from_All}
 use Rattle.swh_outside.specs.Views.{disks, sources}
 use Rattle.swh_pool.specs.declared.dated.DatedJob.{DatedJob}
-use Rattle.swh_inputs.specs.Opening.{kind_of}
 use Rattle.swh_inputs.specs.Parts.{folders, parts}
 use Rattle.swh_loader.specs.Report.{detail_limit, outcome_room, report_line_limit}
 use Rattle.swh_pool.specs.Lines.{room_of}
@@ -64,9 +63,10 @@ jobs-preserved g c =
     let job = get_or c.jobs.jobs c.jobs.dated-index c.dated-item.result in
     let said = c.load_one-outcome.ensures in
     let after : DatedJob g.row.S.Denot g.row.F.Denot = record { job = c.load_one-outcome.new.job; date = job.date } in
-    let load = one_load job after c.load_one-outcome.result in
+    let load = one_load job after said.adds.more c.load_one-outcome.result in
     let one : IsOneLoad (loading g.N.Namer.id_of c.args.worker.now.by (parts (sources g.S.Source.tells g.S.Source.left g.S.Source.faults g.S.Source.path) (folders g.F.Folder.tells g.F.Folder.holds g.F.Folder.faults g.F.Folder.opened_at)) (disks g.D.Disk.tells g.D.Disk.file g.D.Disk.faults)) load c.jobs.keeper c.load_one-outcome.new.keeper = record {
-      adds = said.adds;
+      behind = said.adds.behind;
+      are_own = said.adds.are;
       ends = outcome_of (loading g.N.Namer.id_of c.args.worker.now.by (parts (sources g.S.Source.tells g.S.Source.left g.S.Source.faults g.S.Source.path) (folders g.F.Folder.tells g.F.Folder.holds g.F.Folder.faults g.F.Folder.opened_at)) (disks g.D.Disk.tells g.D.Disk.file g.D.Disk.faults)) load c.jobs.keeper c.load_one-outcome.new.keeper c.load_one-outcome.result said.ended said.end said.stops;
       wounded = said.wounded;
       calls = said.calls;

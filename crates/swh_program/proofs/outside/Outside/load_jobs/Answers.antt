@@ -1,4 +1,4 @@
-use Rattle.std.proofs.Common.{inr}
+use Rattle.std.proofs.Common.{inr, arith}
 use Rattle.swh_outside.specs.Views.{disks}
 use Rattle.swh_jobs.specs.Answers.{owned_jobs}
 use Rattle.swh_program.specs.Archives.{archive_at}
@@ -15,7 +15,7 @@ pub returns-clause-load : goal.returns-clause-load
 returns-clause-load g c =
     run_files _ (disks g.P.D.Disk.tells g.P.D.Disk.file g.P.D.Disk.faults) c.in-Ok.keeper c.load_lines-answer.new.keeper _ _
     (λ t. (c.in-Ok.ensures.opened t).archive) c.close_archive.ensures.kept c.in-Ok.ensures.disks_tell (λ t. (c.in-Ok.ensures.opened t).sees) (λ t. (c.in-Ok.ensures.opened t).opened) c.close_archive.ensures.taken c.in-Ok.ensures.unwounded
-    (owned_jobs c.args.lines.items) c.load_lines-answer.result c.load_lines-answer.ensures.load
+    (omega arith) (owned_jobs c.args.lines.items) c.load_lines-answer.result c.load_lines-answer.ensures.load
 
 pub returns-in-Err-clause-own : goal.returns-in-Err-clause-own
 returns-in-Err-clause-own g c told = (c.in-Err.ensures.refused told).own
