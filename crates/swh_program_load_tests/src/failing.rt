@@ -143,12 +143,12 @@ fn folders_of(
 }
 
 // Says whether the two jobs print this with these statuses where the call with this number of a part fails.
-fn prints(
+fn prints<'a>(
     alloc: Global,
     part: Part,
     number: u64,
-    statuses: &[u8],
-    printed: &[u8],
+    statuses: &'a [u8],
+    printed: &'a [u8],
 ) -> Result<bool, AllocError> {
     let files = files_of(alloc, part, number)?;
     let folders = folders_of(alloc, part, number)?;
@@ -204,11 +204,11 @@ const STREAM_FULL: &[u8] =
     b"made\nhttps://e.org/p\t1\tfull\tswh:1:snp:5036c2b4a676f9dad60fbaed431ca21ecdec56ff\n";
 
 // Says whether the worked stream's load prints this where this call of the stream fails.
-fn stream_prints(
+fn stream_prints<'a>(
     alloc: Global,
     number: u64,
-    statuses: &[u8],
-    printed: &[u8],
+    statuses: &'a [u8],
+    printed: &'a [u8],
 ) -> Result<bool, AllocError> {
     let case = Case {
         name: "a call of a stream fails",
