@@ -1,6 +1,6 @@
 //! Tests of the reading of batches and of refs over sources in memory: what git wrote, with the ids that git gives; each fault
 //! at its place; limits; and reads that fail.
-//! Stands on `swh_base`, `swh_outside`, `swh_memory_input`, `swh_repeated_input`, `swh_object`, `swh_made` and `swh_batchread`.
+//! Stands on `swh_base`, `swh_outside`, `swh_memory_input`, `swh_object`, `swh_made` and `swh_batchread`.
 //! Nothing stands above it.
 #![tactic(auto)]
 
@@ -14,10 +14,6 @@ mod faults;
 mod kept_objects;
 #[cfg(test)]
 mod limits;
-#[cfg(test)]
-mod long_batches;
-#[cfg(test)]
-mod long_refs;
 #[cfg(test)]
 mod refs_faults;
 #[cfg(test)]

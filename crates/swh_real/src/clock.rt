@@ -1,9 +1,9 @@
 // The system's clock.
 ghost use Rattle.std.specs.Prelude.{◌≡◌};
 
-use crate::count::Count;
 use std::marker::Model;
 use std::rt;
+use swh_files::Count;
 use swh_outside::{Clock, Failed};
 
 /// The time of day. A contract sees the count of faults.

@@ -2,13 +2,11 @@
 ghost use Rattle.std.specs.Prelude.{◌≡◌};
 
 use crate::RealDisk;
-use crate::count::Count;
-use crate::opening::Access;
-use crate::place::Place;
 use std::alloc::{AllocError, Global};
 use std::fs::File;
 use std::marker::Model;
 use std::rt::Files;
+use swh_files::{Access, Count, Place};
 use swh_outside::{Depot, OutFault};
 
 /// Archives' folders in the file system. A file that is absent is made at its first write, and its folder with it. A link

@@ -1,18 +1,13 @@
 // A file of the system.
 ghost use Rattle.std.specs.Prelude.{◌≡◌};
 
-use crate::count::Count;
-use crate::forgetting::forget_cached;
-use crate::opening::Access;
-use crate::place::{Names, Place};
-use crate::reading::read_from;
-use crate::size_limit::check_size_limit;
 use std::fs::File;
 use std::io;
 use std::io::ErrorKind;
 use std::marker::Model;
 use std::os::unix::fs::FileExt;
 use std::rt::Files;
+use swh_files::{Access, Count, Names, Place, check_size_limit, forget_cached, read_from};
 use swh_outside::{Disk, Failed};
 
 /// A file that is read and written at places. One that does not stand is empty, and is made at the first write. A

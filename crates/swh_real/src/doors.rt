@@ -2,8 +2,8 @@
 ghost use Rattle.std.specs.Prelude.{◌≡◌};
 
 use crate::RealLink;
-use crate::count::Count;
 use std::marker::Model;
+use swh_files::Count;
 use swh_outside::{Doors, OutFault};
 
 /// Doors. Each call that can fail does so and is counted. A contract sees the count of faults.

@@ -4,15 +4,15 @@ ghost use Rattle.swh_outside.specs.Folder.{AreNames};
 ghost use Rattle.swh_folder_names.specs.Names.{names_of};
 
 use crate::RealSource;
-use crate::count::Count;
-use crate::items::{fault_of, items_at, look_inside, look_through, path_in};
-use crate::opening::{Access, open_ordinary};
 use std::alloc::Global;
 use std::fs::File;
 use std::io;
 use std::io::ErrorKind;
 use std::marker::Model;
 use std::rt::Files;
+use swh_files::{
+    Access, Count, fault_of, items_at, look_inside, look_through, open_ordinary, path_in,
+};
 use swh_outside::{Folder, Item, OutFault};
 
 /// A folder of the file system. In it no link is followed, and only folders and ordinary files are opened; a path that

@@ -1,25 +1,17 @@
 //! The outside over files, standard output and the clock: the trusted edge.
-//! Stands on `swh_outside`, `swh_folder_names` and `libc`.
+//! Stands on `swh_outside`, `swh_folder_names` and `swh_files`.
 //! Callers may rely on: each part's count of faults, which rises where the system refuses, and the bounds on lengths;
 //! what a file really holds no part tells.
 #![tactic(auto)]
 
 mod clock;
-mod count;
 mod depot;
 mod disk;
 mod doors;
 mod folder;
-mod forgetting;
-mod inside;
-mod items;
 mod link;
-mod opening;
 mod origins;
-mod place;
-mod reading;
 mod sink;
-mod size_limit;
 mod source;
 mod yard;
 

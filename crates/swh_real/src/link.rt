@@ -1,8 +1,8 @@
 // A link of the system whose calls fail.
 ghost use Rattle.std.specs.Prelude.{◌≡◌};
 
-use crate::count::Count;
 use std::marker::Model;
+use swh_files::Count;
 use swh_outside::{Failed, Link, Sink, Source};
 
 /// A link. Each call fails and is counted. A contract sees the count of faults.

@@ -1,7 +1,6 @@
 // Files and folders of the system as inputs.
 ghost use Rattle.std.specs.Prelude.{◌≡◌, ◌≢◌, ◌≤◌, List, ℕ};
 
-use crate::count::Count;
 use crate::{RealFolder, RealSource};
 use std::alloc::{AllocError, Global};
 use std::fs::File;
@@ -9,6 +8,7 @@ use std::io::ErrorKind;
 use std::marker::Model;
 use std::rt::Files;
 use std::{fs, io};
+use swh_files::Count;
 use swh_outside::{Opened, Origins, PathCounts};
 
 /// Inputs in the file system. What stands at a path and is no folder fails to open as one. A contract sees the count of

@@ -1,10 +1,10 @@
 // A stream of the system that takes bytes, as standard output.
 ghost use Rattle.std.specs.Prelude.{◌≡◌};
 
-use crate::count::Count;
 use std::io;
 use std::io::Write;
 use std::marker::Model;
+use swh_files::Count;
 use swh_outside::{Failed, Sink};
 
 /// Where output goes. Each `put` is flushed. A contract sees the count of faults.

@@ -1,10 +1,9 @@
 // A file of the system that is read once, from its front.
 ghost use Rattle.std.specs.Prelude.{◌≡◌, string_bytes};
 
-use crate::count::Count;
-use crate::reading::read_next;
 use std::fs::File;
 use std::marker::Model;
+use swh_files::{Count, read_next};
 use swh_outside::{Failed, Source};
 
 /// An input. A contract sees its count of faults and where it was opened.

@@ -1,15 +1,13 @@
 // A yard of the system.
 ghost use Rattle.std.specs.Prelude.{◌≡◌};
 
-use crate::count::Count;
-use crate::inside::{ends_in_name, is_beside, is_within};
-use crate::items::fault_of;
 use std::alloc::Global;
 use std::fs::File;
 use std::io::{ErrorKind, Write};
 use std::marker::Model;
 use std::rt::Files;
 use std::{fs, io};
+use swh_files::{Count, ends_in_name, fault_of, is_beside, is_within};
 use swh_outside::{Failed, OutFault, Sink, Yard};
 
 /// A yard of the file system. It makes one file and nothing else; or it makes one folder first, and after that what stands

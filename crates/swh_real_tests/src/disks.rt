@@ -1,10 +1,10 @@
 // Disks over files, which are written, closed, opened again and read.
-use crate::rooms::{Laid, Thing, clear, fresh_room, is_file_in, path_in};
 use std::alloc::AllocError;
 use std::test::Fail;
 use std::{fs, mem};
 use swh_outside::{Depot, Disk};
 use swh_real::{RealDepot, RealDisk};
+use swh_rooms::{Laid, Thing, clear, fresh_room, is_file_in, path_in};
 
 type HostDepot = RealDepot<HostRuntime>;
 

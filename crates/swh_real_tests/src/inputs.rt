@@ -1,10 +1,10 @@
 // Inputs over files.
-use crate::rooms::{Laid, Thing, clear, fresh_room, path_in};
 use std::alloc::AllocError;
 use std::fs::File;
 use std::test::Fail;
 use swh_outside::{Opened, Origins, Source};
 use swh_real::{RealOrigins, RealSource};
+use swh_rooms::{Laid, Thing, clear, fresh_room, path_in};
 
 type HostOrigins = RealOrigins<HostRuntime>;
 

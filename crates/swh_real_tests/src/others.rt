@@ -1,10 +1,10 @@
 // The clock, the sink, and the parts whose calls fail.
-use crate::rooms::{clear, fresh_room, is_file, path_in};
 use std::fs::File;
 use std::test::Fail;
 use std::time::{SystemTime, UNIX_EPOCH};
 use swh_outside::{Clock, Doors, Failed, OutFault, Sink, Source};
 use swh_real::{RealClock, RealDoors, RealLink, RealSink};
+use swh_rooms::{clear, fresh_room, is_file, path_in};
 
 // Whole seconds since 1970, as the library says them; none where it says none.
 fn seconds(rt: &HostRuntime) -> Option<u64> {

@@ -1,9 +1,9 @@
 // Yards over the system.
-use crate::rooms::{Laid, Thing, clear, fresh_room, is_file_in, path_in, stands};
 use std::os::unix::fs::symlink;
 use std::test::Fail;
 use swh_outside::{Failed, Sink, Yard};
 use swh_real::RealYard;
+use swh_rooms::{Laid, Thing, clear, fresh_room, is_file_in, path_in, stands};
 
 type HostYard = RealYard<HostRuntime>;
 

@@ -20,6 +20,7 @@ impl Model for Count {
 }
 
 impl Count {
+    /// No fault yet.
     pub fn new() -> Self
         ensures { result ≡ 0 }
     {
@@ -36,6 +37,7 @@ impl Count {
         Failed
     }
 
+    /// How many faults were counted.
     pub fn get(&self) -> u64
         ensures { result ≡ self.now }
     {

@@ -1,9 +1,9 @@
 // Runs of the program over the system, in the room of a test.
-use crate::rooms::{is_file_in, path_in};
 use std::alloc::{AllocError, Global};
 use std::fs::File;
 use std::test::Fail;
 use swh_real::RealSink;
+use swh_rooms::{is_file_in, path_in};
 use swh_start::start;
 
 /// The words of a run, in which a first `@` stands for the room; the status that it gives, and what it prints.

@@ -1,11 +1,11 @@
 // An archive that is made, loaded, asked and checked.
-use crate::rooms::{Thing, clear, fresh_room, path_in};
 use crate::starts::{Run, all_end_so, run};
 use std::fs;
 use std::test::Fail;
 use swh_fixtures::STREAM;
 use swh_outside::Depot;
 use swh_real::RealDepot;
+use swh_rooms::{Thing, clear, fresh_room, path_in};
 
 const VISITS: &str = "/api/1/origin/https://e.org/p/visits/";
 

@@ -1,0 +1,24 @@
+//! Files and folders of the system, as the parts of the outside need them: opened only where they are ordinary, locked,
+//! named and synced, read on past signals; and a count of faults.
+//! Stands on `swh_outside`, `swh_folder_names` and `libc`.
+//! Callers may rely on: the count rises by one at each fault; a read gives no more than it was asked for; the names that
+//! a listed folder has are good ones. What a file really holds nothing tells.
+#![tactic(auto)]
+
+mod count;
+mod forgetting;
+mod inside;
+mod items;
+mod opening;
+mod place;
+mod reading;
+mod size_limit;
+
+pub use count::Count;
+pub use forgetting::forget_cached;
+pub use inside::{ends_in_name, is_beside, is_within};
+pub use items::{fault_of, items_at, look_inside, look_through, path_in};
+pub use opening::{Access, open_ordinary};
+pub use place::{Names, Place};
+pub use reading::{read_from, read_next};
+pub use size_limit::check_size_limit;
