@@ -9,13 +9,13 @@ use Rattle.swh_base.specs.Directory.{DirectoryEntry, child_of}
 use Rattle.swh_base.specs.Reach.{IsChildIn}
 use Rattle.swh_dirfmt.specs.declared.entry.SpelledEntry.{SpelledEntry}
 use Rattle.swh_dirfmt.specs.Entries.{entry_of}
-use Rattle.swh_model.specs.Archive.{Bodies, body_of, IsGraphOf}
+use Rattle.swh_model.specs.Archive.{Bodies, IsGraphOf}
 use Rattle.swh_graph.specs.Holding.{HoldsDirectory}
 use Rattle.swh_graph.specs.Path.{directory_name}
-use Rattle.swh_postorder.specs.Cycle.{IsSomePostorder, ArePreceded}
-use Rattle.swh_postorder.proofs.Preceded.{held_in, cut_at}
+use Rattle.swh_postorder.specs.Cycle.{ArePreceded}
+use Rattle.swh_postorder.proofs.Preceded.{cut_at}
 use Rattle.swh_postorder.proofs.Trips.{none_in, first_in, later_in, in_cases}
-use Rattle.swh_pathwalk.specs.Walk.{Coming, Standing, with_entries, BeginsAt, ComesInside, MissesNext, Steps}
+use Rattle.swh_pathwalk.specs.Walk.{Coming, Standing, with_entries, BeginsAt, ComesInside, Steps}
 use Rattle.swh_pathwalk.specs.Weight.{coming_weight, LeadInto}
 use Rattle.swh_pathwalk.proofs.Weights.{kids_are, lead_at_first, lighter}
 use Rattle.swh_fastcook.specs.Files.{IsFileIn, FilesLeadInto, Leads}
@@ -48,14 +48,7 @@ file_in (d ∷ ds) e there folder project =
     in_entries : (x : DirectoryEntry) (xs : List DirectoryEntry) (y : DirectoryEntry) → Contains (x ∷ xs) y → (x ≡ y) ⊎ Contains xs y
     in_entries x xs y there = in_cases x xs y there
 
-module _ (bodies : Bodies) (children_of : Name → Option (List Name)) (graph : IsGraphOf bodies children_of) (order : List Name) (some : IsSomePostorder children_of order) where
-  -- what is in the order is held
-  pub not_missing : (name : Name) → Contains order name → body_of bodies name ≡ None → ⊥
-  not_missing name there none =
-      let kids = held_in children_of order some name there in
-      let held = graph.held name kids.0 kids.1 in
-      let e : Some held.0 ≡ None = sym held.1 ∙ none in cc
-
+module _ (bodies : Bodies) (children_of : Name → Option (List Name)) (graph : IsGraphOf bodies children_of) (order : List Name) where
   in_with : (front : List ℕ) (entries : List DirectoryEntry) (ls : List Coming) → ((l : Coming) → Contains (with_entries ls) l → Contains ls l)
       → (l : Coming) → Contains (with_entries (record { front = front; entries = entries } ∷ ls)) l → Contains (record { front = front; entries = entries } ∷ ls) l
   in_with front [] ls rest l there = later_in (record { front = front; entries = [] }) ls l (rest l there)
@@ -64,13 +57,6 @@ module _ (bodies : Bodies) (children_of : Name → Option (List Name)) (graph : 
   in_all : (ls : List Coming) (l : Coming) → Contains (with_entries ls) l → Contains ls l
   in_all [] l there = there
   in_all (m ∷ ls) l there = in_with m.front m.entries ls (in_all ls) l there
-
-  -- the next folder is held
-  pub no_gap : (old : Standing) (missing : Name) → LeadInto order old.levels → MissesNext bodies old missing → ⊥
-  no_gap old missing lead m =
-      let l : Coming = record { front = m.front; entries = m.e ∷ m.rest } in
-      let there = in_all old.levels l (subst (λ (ls : List Coming). Contains ls l) (sym m.next) (first_in l m.below)) in
-      not_missing missing (subst (Contains order) (sym m.named) (lead l m.e there (first_in m.e m.rest) m.folder)) m.none
 
   module _ (preceded : ArePreceded children_of order) where
     -- the contents of a directory's files are in the order

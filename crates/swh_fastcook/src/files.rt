@@ -1,11 +1,10 @@
 //! The files of a revision's tree.
-ghost use Rattle.std.specs.Prelude.{◌≡◌, ◌++◌, ℕ, List, OnOk, IfOk, Contains};
+ghost use Rattle.std.specs.Prelude.{◌≡◌, ◌++◌, OnOk, Contains};
 ghost use Rattle.swh_dirfmt.specs.Entries.{entry_of};
 ghost use Rattle.swh_graph.specs.Path.{directory_name};
 ghost use Rattle.swh_postorder.specs.Cycle.{IsSomePostorder, ArePreceded};
-ghost use Rattle.swh_pathwalk.specs.Walk.{BeginsAt, Steps};
 ghost use Rattle.swh_fastcook.specs.Cause.{HasWriteCause};
-ghost use Rattle.swh_fastcook.specs.Files.{IsFileIn, row_at, AreFilesOf, Leads};
+ghost use Rattle.swh_fastcook.specs.Files.{IsFileIn, row_at, AreFilesOf};
 ghost use Rattle.swh_written.specs.Held.{WroteSome, kept};
 ghost use Rattle.swh_fastcook.specs.Stream.{file_text};
 
@@ -15,9 +14,8 @@ use swh_base::{Kind, Memory, Name};
 use swh_carried::CookFault;
 use swh_dirfmt::SpelledEntry;
 use swh_fasttext::{push_file, push_project};
-use swh_graph::GraphFault;
+use swh_heldpaths::{begin, next};
 use swh_model::Look;
-use swh_pathwalk::PathWalk;
 use swh_written::{Taker, settle};
 
 /// Appends what stands for an entry of a tree: nothing for a folder.
@@ -41,46 +39,6 @@ fn push_entry(
     push_file(held, entry.mode, marks.get(&Name { kind, id }), path)
 }
 
-/// A walk over the files of a directory that is held.
-fn begin<'a, L: Look>(
-    alloc: Global,
-    look: &'a L,
-    marks: &Marks,
-    directory: [u8; 20],
-) -> Result<PathWalk<'a>, Memory>
-    requires order { IsSomePostorder (L.children_of look.now) marks.now }
-    requires there { Contains marks.now (directory_name directory) }
-    ensures { IfOk result (λ walk. BeginsAt (L.archive look.now).bodies (directory_name directory) walk) }
-{
-    look.is_graph();
-    match PathWalk::begin(alloc, look, directory) {
-        Ok(walk) => Ok(walk),
-        Err(GraphFault::Memory) => Err(Memory),
-        Err(GraphFault::NotHeld { .. }) => unreachable!(),
-        Err(GraphFault::NoPath { .. }) => unreachable!(),
-    }
-}
-
-/// The next entry of a walk of which all is held.
-fn next<'a, L: Look>(
-    alloc: Global,
-    look: &'a L,
-    marks: &Marks,
-    walk: &mut PathWalk<'a>,
-) -> Result<Option<SpelledEntry<'a>>, Memory>
-    requires order { IsSomePostorder (L.children_of look.now) marks.now }
-    requires leads { Leads marks.now walk.old.levels }
-    ensures { IfOk result (λ found. Steps (L.archive look.now).bodies walk.old found walk.new) }
-{
-    look.is_graph();
-    match walk.next(alloc, look) {
-        Ok(found) => Ok(found),
-        Err(GraphFault::Memory) => Err(Memory),
-        Err(GraphFault::NotHeld { .. }) => unreachable!(),
-        Err(GraphFault::NoPath { .. }) => unreachable!(),
-    }
-}
-
 /// Writes the lines of the files of a directory, in the order of the walk over its paths.
 pub fn write_files<L: Look, T: Taker>(
     alloc: Global,
@@ -98,8 +56,9 @@ pub fn write_files<L: Look, T: Taker>(
     ensures cause { HasWriteCause (T.failures taker.old) (T.failures taker.new) result }
 {
     look.is_graph();
-    let mut walk = begin(alloc, look, marks, directory)?;
-    'entries: while let Some(entry) = next(alloc, look, marks, &mut walk)? {
+    let order = marks.order();
+    let mut walk = begin(alloc, look, order, directory)?;
+    'entries: while let Some(entry) = next(alloc, look, order, &mut walk)? {
         push_entry(held, marks, walk.path(), &entry)?;
         settle(taker, held)?;
     }

@@ -12,7 +12,7 @@ pub entries-init : goal.entries-init
 entries-init g c =
     let bodies = (g.L.Look.archive c.args.look.now).bodies in
     record {
-      leads = leads_at_first bodies (g.L.Graph.children_of c.args.look.now) c.is_graph.ensures c.args.marks.now c.requires.order c.requires.preceded c.args.directory c.in_ok-walk.walk c.in_ok-walk.ensures c.requires.there;
+      leads = leads_at_first bodies (g.L.Graph.children_of c.args.look.now) c.is_graph.ensures c.args.marks.now c.requires.preceded c.args.directory c.in_ok-walk.walk c.in_ok-walk.ensures c.requires.there;
       quiet = refl;
       rows = [];
       so_far = rows_begin bodies c.args.directory c.in_ok-walk.walk c.in_ok-walk.ensures;
@@ -33,7 +33,7 @@ pub push_entry-requires : goal.push_entry-requires
 push_entry-requires g c =
     let bodies = (g.L.Look.archive c.args.look.now).bodies in
     let s = rw c.in-Some.is at c.in_ok-entry.ensures in
-    (steps_on bodies (g.L.Graph.children_of c.args.look.now) c.is_graph.ensures c.args.marks.now c.requires.order c.requires.preceded c.entries.walk c.next.new.walk c.in-Some.entry c.entries.invariant.leads s).file
+    (steps_on bodies (g.L.Graph.children_of c.args.look.now) c.is_graph.ensures c.args.marks.now c.requires.preceded c.entries.walk c.next.new.walk c.in-Some.entry c.entries.invariant.leads s).file
 
 pub returns-in_err-push_entry-clause-bytes : goal.returns-in_err-push_entry-clause-bytes
 returns-in_err-push_entry-clause-bytes g c =
@@ -50,7 +50,7 @@ pub entries-smaller : goal.entries-smaller
 entries-smaller g c =
     let bodies = (g.L.Look.archive c.args.look.now).bodies in
     let s = rw c.in-Some.is at c.in_ok-entry.ensures in
-    (steps_on bodies (g.L.Graph.children_of c.args.look.now) c.is_graph.ensures c.args.marks.now c.requires.order c.requires.preceded c.entries.walk c.next.new.walk c.in-Some.entry c.entries.invariant.leads s).lighter_now
+    (steps_on bodies (g.L.Graph.children_of c.args.look.now) c.is_graph.ensures c.args.marks.now c.requires.preceded c.entries.walk c.next.new.walk c.in-Some.entry c.entries.invariant.leads s).lighter_now
 
 pub entries-preserved : goal.entries-preserved
 entries-preserved g c =
@@ -66,7 +66,7 @@ entries-preserved g c =
     let line : c.push_entry.new.held.items ≡ c.entries.held.items ++ file_text order row =
     c.in_ok-push_entry.ensures ∙ ap (λ (p : List ℕ). c.entries.held.items ++ file_text order (row_at p entry)) c.path.ensures in
     record {
-      leads = (steps_on bodies (g.L.Graph.children_of c.args.look.now) c.is_graph.ensures order c.requires.order c.requires.preceded c.entries.walk c.next.new.walk entry inv.leads s).leads;
+      leads = (steps_on bodies (g.L.Graph.children_of c.args.look.now) c.is_graph.ensures order c.requires.preceded c.entries.walk c.next.new.walk entry inv.leads s).leads;
       quiet = c.in_ok-settle.ensures.cause.quiet ∙ inv.quiet;
       rows = inv.rows ++ row ∷ [];
       so_far = rows_more bodies c.args.directory inv.rows c.entries.walk c.next.new.walk entry s inv.so_far;
