@@ -11,6 +11,8 @@ use Rattle.swh_carried.specs.declared.fault.Why.{Why}
 use Rattle.swh_carried.specs.declared.fault.CookFault.{CookFault}
 use Rattle.swh_carried.specs.declared.fault.CookFault.TheVariants.{NotHeld, WriteFault, Memory, Uncarried as IsNotCarried}
 use Rattle.swh_carried.specs.Uncarried as form
+use Rattle.swh_carried.proofs.Firsts.{one_first_uncarried, not_both}
+use Rattle.swh_carried.proofs.Graphs.{one_graph}
 use Rattle.swh_fastcook.specs.Cook.{BreaksStream, IsCarriedStream, IsUncarriedStream, IsTextOfKind}
 use Rattle.swh_fastcook.specs.Ready.{IsReady, ExplainsNotReady}
 use Rattle.swh_fastcook.specs.Stream.{IsStreamOf, IsStreamText}
@@ -22,8 +24,6 @@ use Rattle.swh_answer.specs.Answers.{SpellsCore, plain_reply}
 use Rattle.swh_answer.proofs.Unique.{one_core}
 use Rattle.swh_api.specs.Carried.{IsCarriedName, HasCookedText}
 use Rattle.swh_api.specs.Cook.{CookAnswer, Cooked, Missing, Uncarried, IsCookedTo, AnswersCook, IsCookAnswer, RefusesCook, cook_reply, TellsCook, IsCookFaultReply, SpellsCooked, NoCooked, IsCookReply}
-use Rattle.swh_api.proofs.Firsts.{one_uncarried, not_both}
-use Rattle.swh_api.proofs.Graphs.{one_graph}
 
 -- ---- one answer over a graph
 
@@ -46,7 +46,7 @@ module _ (bodies : Bodies) (children_of : Name → Option (List Name)) (root : N
   uncarried_once : (m n : Name) (a b : Why) → IsUncarriedStream bodies children_of root m a → IsUncarriedStream bodies children_of root n b → (m ≡ n) × (a ≡ b)
   uncarried_once m n a b h k =
       let same = one_order children_of root h.order k.order h.is_order k.is_order in
-      one_uncarried children_of (BreaksStream bodies root k.order) k.order m n a b
+      one_first_uncarried children_of (BreaksStream bodies root k.order) k.order m n a b
       (subst (λ (order : List Name). form.IsUncarried children_of (BreaksStream bodies root order) order m a) same h.is) k.is
 
   carried_or : (name : Name) (why : Why) → IsCarriedStream bodies children_of root → IsUncarriedStream bodies children_of root name why → ⊥

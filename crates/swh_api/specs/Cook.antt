@@ -7,7 +7,7 @@ use Rattle.swh_base.specs.declared.request.Reply.{Reply}
 use Rattle.swh_model.specs.Archive.{Bodies, IsGraphOf}
 use Rattle.swh_postorder.specs.Postorder.{IsFirstMissing}
 use Rattle.swh_carried.specs.declared.fault.Why.{Why}
-use Rattle.swh_carried.specs.declared.fault.Why.TheVariants as why
+use Rattle.swh_carried.specs.Words.{why_word}
 use Rattle.swh_carried.specs.declared.fault.CookFault.{CookFault}
 use Rattle.swh_carried.specs.declared.fault.CookFault.TheVariants.{NotHeld, WriteFault, Memory, Uncarried as IsNotCarried}
 use Rattle.swh_fastcook.specs.Cook.{IsCarriedStream, IsUncarriedStream, IsCookedText}
@@ -50,25 +50,11 @@ RefusesCook bodies root Memory = Unit {0}
 
 -- ---- replies
 
--- the word that tells why a stream cannot carry an object
-abbrev pub word_of_why : Why → List ℕ
-word_of_why why.Cycle = codes "cycle"
-word_of_why why.Revision = codes "revision"
-word_of_why why.Release = codes "release"
-word_of_why why.Empty = codes "empty"
-word_of_why why.Dots = codes "dots"
-word_of_why why.Text = codes "text"
-word_of_why why.Path = codes "path"
-word_of_why why.Branch = codes "branch"
-word_of_why why.Tagless = codes "tagless"
-word_of_why why.Refs = codes "refs"
-word_of_why why.Length = codes "length"
-
 -- the reply that tells an answer: a text as it is
 abbrev pub cook_reply : CookAnswer → Reply
 cook_reply (Cooked text) = plain_reply text
 cook_reply (Missing missing) = not_held missing
-cook_reply (Uncarried name why) = tree_reply 422 (uncarried_data name (word_of_why why))
+cook_reply (Uncarried name why) = tree_reply 422 (uncarried_data name (why_word why))
 
 -- The reply tells the answer of a root.
 pub record TellsCook (bodies : Bodies) (root : Name) (reply : Reply) : Type 0 where

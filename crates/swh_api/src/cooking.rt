@@ -5,7 +5,6 @@ ghost use Rattle.swh_api.specs.Cook.{
   Cooked,
   IsCookAnswer,
   RefusesCook,
-  word_of_why,
   TellsCook,
   IsCookFaultReply,
   SpellsCooked,
@@ -17,28 +16,10 @@ use crate::collected::Collected;
 use std::alloc::Global;
 use swh_answer::{core_of, not_held, refusal, uncarried};
 use swh_base::{Kind, Memory, Name, Reply, Shared};
-use swh_carried::{CookFault, Why};
+use swh_carried::{CookFault, why_word};
 use swh_fastcook::{make_ready, write_stream};
 use swh_model::Look;
 use swh_reachedbytes::know_reached;
-
-fn word_of_why(why: Why) -> &'static str
-    ensures { result.now ≡ word_of_why why }
-{
-    match why {
-        Why::Cycle => "cycle",
-        Why::Revision => "revision",
-        Why::Release => "release",
-        Why::Empty => "empty",
-        Why::Dots => "dots",
-        Why::Text => "text",
-        Why::Path => "path",
-        Why::Branch => "branch",
-        Why::Tagless => "tagless",
-        Why::Refs => "refs",
-        Why::Length => "length",
-    }
-}
 
 // The reply that tells why a name has no text. A text in memory is broken off for want of memory alone.
 fn cook_fault_reply(alloc: Global, fault: CookFault) -> Result<Reply, Memory>
@@ -46,7 +27,7 @@ fn cook_fault_reply(alloc: Global, fault: CookFault) -> Result<Reply, Memory>
 {
     match fault {
         CookFault::NotHeld { name } => not_held(alloc, &name),
-        CookFault::Uncarried { name, why } => uncarried(alloc, &name, word_of_why(why)),
+        CookFault::Uncarried { name, why } => uncarried(alloc, &name, why_word(why)),
         CookFault::WriteFault | CookFault::Memory => Err(Memory),
     }
 }

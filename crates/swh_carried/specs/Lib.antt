@@ -1,2 +1,4 @@
+pub mod Cause
 pub mod Rules
 pub mod Uncarried
+pub mod Words

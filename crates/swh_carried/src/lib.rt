@@ -6,6 +6,8 @@
 
 mod fault;
 mod order;
+mod words;
 
 pub use fault::{CookFault, Why};
 pub use order::acyclic_order;
+pub use words::why_word;

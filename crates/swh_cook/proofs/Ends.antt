@@ -8,20 +8,11 @@ use Rattle.swh_postorder.specs.Postorder.{IsFirstMissing}
 use Rattle.swh_postorder.proofs.Stops.{one_order, not_order_and_gap}
 use Rattle.swh_carried.specs.declared.fault.Why.{Why}
 use Rattle.swh_carried.specs.Uncarried as form
+use Rattle.swh_carried.proofs.Firsts.{one_first_uncarried, not_both}
 use Rattle.swh_fastcook.specs.Cook.{BreaksStream, IsCarriedStream, IsUncarriedStream}
 use Rattle.swh_dircook.specs.Cook.{IsCarriedFolder, IsUncarriedFolder}
 use Rattle.swh_dircook.specs.Rules.{BreaksInFolder}
-use Rattle.swh_cook.proofs.Firsts.{in_order, one_first_uncarried}
 use Rattle.swh_cook.specs.Cook.{IsCarried, IsUncarried, IsCarriedOf, IsUncarriedOf}
-
--- a form does not carry all of an order and refuse one of it
-not_both : (children_of : Name → Option (List Name)) (Breaks : Name → Why → Type 0) (order : List Name) (name : Name) (why : Why) → form.AreCarried children_of Breaks order → form.IsUncarried children_of Breaks order name why → ⊥
-not_both children_of Breaks order name why carried (inl cycle) =
-    let f = cycle.1 in
-    carried.acyclic name (in_order order f.before f.behind name f.cut) f.is
-not_both children_of Breaks order name why carried (inr breaks) =
-    let f = breaks.1 in
-    carried.none name (in_order order f.before f.behind name f.cut) why f.is.is
 
 module _ (bodies : Bodies) (children_of : Name → Option (List Name)) (root : Name) where
   held_of : (kind : Kind) (missing : Name) → IsCarriedOf bodies children_of root kind → IsFirstMissing children_of root missing → ⊥

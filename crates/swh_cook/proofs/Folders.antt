@@ -7,19 +7,11 @@ use Rattle.swh_model.specs.Archive.{Bodies}
 use Rattle.swh_carried.specs.declared.fault.Why.{Why}
 use Rattle.swh_carried.specs.declared.fault.CookFault.{CookFault}
 use Rattle.swh_carried.specs.declared.fault.CookFault.TheVariants.{NotHeld, Uncarried, WriteFault, Memory}
-use Rattle.swh_fastcook.specs.Cause as stream
 use Rattle.swh_fastcook.specs.Cook.{LeadsHead}
-use Rattle.swh_dircook.specs.Cook.{IsFolderOf, MakesFolder, MakesFrontOfFolder, IsCarriedFolder, IsUncarriedFolder, ExplainsNoFolder, CookBreaks}
+use Rattle.swh_dircook.specs.Cook.{IsFolderOf, MakesFolder, MakesFrontOfFolder, IsCarriedFolder, IsUncarriedFolder, ExplainsNoFolder}
 use Rattle.swh_dircook.specs.Made.{Made, Yarded}
 use Rattle.swh_reachedbytes.specs.Reached.{AreReachedOfBytes}
 use Rattle.swh_cook.specs.Cook.{AreMadeOf, AreMade, IsCarriedOf, IsCarried, IsUncarriedOf, IsUncarried, MakesFront, IsCooked, IsBrokenOff, ExplainsUncooked}
-
--- the count of faults does the same
-pub same_breaks : (before now : ℕ) (fault : CookFault) → CookBreaks before now fault → stream.CookBreaks before now fault
-same_breaks before now (NotHeld name) h = h
-same_breaks before now (Uncarried name why) h = h
-same_breaks before now WriteFault h = h
-same_breaks before now Memory h = h
 
 module _ (bodies : Bodies) (children_of : Name → Option (List Name)) (root : Name) (kind : root.kind ≡ Directory) where
   pub carried_folder : IsCarriedFolder bodies children_of root → IsCarried bodies children_of root

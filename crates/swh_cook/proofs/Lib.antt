@@ -1,5 +1,3 @@
-pub mod Graphs
-pub mod Firsts
 pub mod Ends
 pub mod Files
 pub mod Folders

@@ -2,7 +2,7 @@
 ghost use Rattle.std.specs.Prelude.{◌≡◌, IfOk, IfErr, OnOk};
 ghost use Rattle.swh_base.specs.declared.kind.Kind.TheVariants.{Directory as DirectoryKind};
 ghost use Rattle.swh_postorder.specs.Walk.{ExplainsOrder};
-ghost use Rattle.swh_fastcook.specs.Cause.{HasCookCause};
+ghost use Rattle.swh_carried.specs.Cause.{HasCookCause};
 ghost use Rattle.swh_reachedbytes.specs.Reached.{AreReachedOfBytes};
 ghost use Rattle.swh_dircook.specs.Made.{yarded};
 ghost use Rattle.swh_cook.specs.Cook.{IsCooked, ExplainsUncooked};

@@ -2,7 +2,8 @@
 ghost use Rattle.std.specs.Prelude.{◌≡◌, ◌≢◌, ◌++◌, ◌∷◌, [], length, IfOk, IfErr, OnOk, OnErr};
 ghost use Rattle.swh_base.specs.declared.kind.Kind.TheVariants.{Content as ContentKind, Directory as DirectoryKind};
 ghost use Rattle.swh_outside.specs.Sink.{FileAt};
-ghost use Rattle.swh_fastcook.specs.Cause.{HasWriteCause, HasCookCause};
+ghost use Rattle.swh_carried.specs.Cause.{HasCookCause};
+ghost use Rattle.swh_fastcook.specs.Cause.{HasWriteCause};
 ghost use Rattle.swh_dircook.specs.Made.{yarded};
 ghost use Rattle.swh_cook.specs.Cook.{IsCooked, ExplainsUncooked};
 

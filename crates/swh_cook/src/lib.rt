@@ -9,8 +9,6 @@
 mod cooking;
 mod file;
 mod laws;
-mod words;
 
 pub use cooking::cook_name;
 pub use laws::{one_end, what_was_made_is_again};
-pub use words::why_word;

@@ -14,7 +14,8 @@ use Rattle.swh_carried.specs.declared.fault.Why.{Why}
 use Rattle.swh_carried.specs.declared.fault.CookFault.{CookFault}
 use Rattle.swh_carried.specs.declared.fault.CookFault.TheVariants.{NotHeld, Uncarried, WriteFault, Memory}
 use Rattle.swh_carried.specs.Uncarried.{HasNoCycle, ExplainsNoOrder, IsFirstToBreak}
-use Rattle.swh_dircook.specs.Cook.{IsUncarriedFolder, MakesFolder, MakesFrontOfFolder, ExplainsUncarried, ExplainsNoFolder, CookBreaks, HasCookCause}
+use Rattle.swh_carried.specs.Cause.{CookBreaks, HasCookCause}
+use Rattle.swh_dircook.specs.Cook.{IsUncarriedFolder, MakesFolder, MakesFrontOfFolder, ExplainsUncarried, ExplainsNoFolder}
 use Rattle.swh_dircook.specs.Made.{folder_made, Yarded, Makes}
 use Rattle.swh_dircook.specs.Rules.{BreaksInFolder}
 

@@ -1,7 +1,6 @@
 -- How the cooking of a directory ends, and what it leaves in the yard.
-use Rattle.std.specs.Prelude.{◌≡◌, ◌⊎◌, ◌≤◌, ℕ, Option, List, Result, OnOk, IfErr}
+use Rattle.std.specs.Prelude.{◌≡◌, ◌⊎◌, ℕ, Option, List}
 use Rattle.swh_base.specs.declared.name.Name.{Name}
-use Rattle.swh_outside.specs.Faults.{Rose}
 use Rattle.swh_model.specs.Archive.{Bodies}
 use Rattle.swh_postorder.specs.Postorder.{IsPostorder, IsFirstMissing}
 use Rattle.swh_pathwalk.specs.Tree.{Row, IsPathWalk}
@@ -57,16 +56,3 @@ module _ (bodies : Bodies) (children_of : Name → Option (List Name)) (root : N
   ExplainsNoFolder out tells same old new (Uncarried name why) = IsUncarriedFolder name why × same
   ExplainsNoFolder out tells same old new WriteFault = IsCarriedFolder × (tells → MakesFrontOfFolder bodies root out old new)
   ExplainsNoFolder out tells same old new Memory = same ⊎ (IsCarriedFolder × (tells → MakesFrontOfFolder bodies root out old new))
-
--- What the count of faults does where a folder is not made whole: it rose just where the yard failed.
-abbrev pub CookBreaks : ℕ → ℕ → CookFault → Type 0
-CookBreaks before now (NotHeld name) = now ≡ before
-CookBreaks before now (Uncarried name why) = now ≡ before
-CookBreaks before now WriteFault = Rose before now
-CookBreaks before now Memory = now ≡ before
-
--- what it does in a call that makes a folder
-pub record HasCookCause {T : Type 0} (before now : ℕ) (result : Result T CookFault) : Type 0 where
-  pub later : before ≤ now
-  pub failed : IfErr result (CookBreaks before now)
-  pub quiet : OnOk result (now ≡ before)

@@ -2,6 +2,7 @@
 ghost use Rattle.std.specs.Prelude.{◌≡◌, ◌≢◌, OnOk, IfOk, IfErr, IfSome, IfNone, Contains};
 ghost use Rattle.swh_base.specs.declared.kind.Kind.TheVariants.{Directory as DirectoryKind};
 ghost use Rattle.swh_base.specs.declared.name.Name.{Name as Named};
+ghost use Rattle.swh_carried.specs.Cause.{HasCookCause};
 ghost use Rattle.swh_carried.specs.Uncarried.{AreCarried, HasNoCycle, IsFirstToBreak, BreaksNone};
 ghost use Rattle.swh_graph.specs.Path.{directory_name};
 ghost use Rattle.swh_postorder.specs.Postorder.{IsPostorder};
@@ -10,7 +11,6 @@ ghost use Rattle.swh_dircook.specs.Cook.{
   MakesFolder,
   ExplainsUncarried,
   ExplainsNoFolder,
-  HasCookCause,
 };
 ghost use Rattle.swh_dircook.specs.Made.{yarded};
 ghost use Rattle.swh_dircook.specs.Rules.{BreaksInFolder};

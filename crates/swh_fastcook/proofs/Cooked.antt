@@ -17,7 +17,8 @@ use Rattle.swh_carried.specs.declared.fault.CookFault.TheVariants.{NotHeld, Unca
 use Rattle.swh_fastcarried.specs.Rules.{IsOddKind, IsOddObject, BreaksIn}
 use Rattle.swh_fastcarried.proofs.FirstRules.{rule_none}
 use Rattle.swh_written.specs.Sinks.{IsTaken}
-use Rattle.swh_fastcook.specs.Cause.{Breaks, CookBreaks}
+use Rattle.swh_carried.specs.Cause.{CookBreaks}
+use Rattle.swh_fastcook.specs.Cause.{Breaks}
 use Rattle.swh_fastcook.specs.Cook.{BreaksStream, LeadsHead, IsCarriedStream, IsTextOfKind, IsCookedText, IsCooked, IsFrontCooked, ExplainsNoText}
 use Rattle.swh_fastcook.specs.Ready.{IsReady, ExplainsNotReady}
 use Rattle.swh_fastcook.specs.Stream.{IsStreamOf, IsStreamText}

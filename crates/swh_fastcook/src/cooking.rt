@@ -1,7 +1,7 @@
 //! A name is cooked.
 ghost use Rattle.std.specs.Prelude.{◌≡◌, ◌≢◌, IfOk, IfErr};
 ghost use Rattle.swh_base.specs.declared.kind.Kind.TheVariants.{Content as ContentKind, Directory as DirectoryKind};
-ghost use Rattle.swh_fastcook.specs.Cause.{HasCookCause};
+ghost use Rattle.swh_carried.specs.Cause.{HasCookCause};
 ghost use Rattle.swh_fastcook.specs.Cook.{IsCooked, ExplainsNoText};
 
 use crate::ready::make_ready;

@@ -16,15 +16,15 @@ use Rattle.swh_swhid.specs.Qualifier.{IsSwhid, HasSwhid}
 use Rattle.swh_swhid.specs.declared.swhid.Swhid.{Swhid}
 use Rattle.swh_swhid.proofs.Fronts.{one_break}
 use Rattle.swh_swhid.proofs.Values.{one_value, read_value}
+use Rattle.swh_carried.specs.Cause.{CookBreaks}
+use Rattle.swh_carried.proofs.Graphs.{one_graph}
 use Rattle.swh_carried.specs.declared.fault.CookFault.{CookFault}
 use Rattle.swh_carried.specs.declared.fault.CookFault.TheVariants as fault
-use Rattle.swh_fastcook.specs.Cause.{CookBreaks}
 use Rattle.swh_dircook.specs.Made.{Made, Yarded, IsFrontOfMade}
 use Rattle.swh_cook.specs.Back.{IsAgain}
 use Rattle.swh_cook.specs.Cook.{IsCarried, IsCooked, IsBrokenOff, ExplainsUncooked, MakesAll, MakesFront}
 use Rattle.swh_cook.proofs.Again.{made_again}
 use Rattle.swh_cook.proofs.Ends.{carried_held, carried_or}
-use Rattle.swh_cook.proofs.Graphs.{one_graph}
 use Rattle.swh_program.specs.Seen.{Folders, Span}
 use Rattle.swh_program.specs.Answers.{TellsLine, TellsDisk, status_of, status_for, printed_by, IsPrinted}
 use Rattle.swh_program.specs.Archives.{archive_at, old_archive, new_archive}

@@ -13,12 +13,12 @@ use Rattle.swh_swhid.specs.Front.{BreaksAt}
 use Rattle.swh_swhid.specs.Qualifier.{IsSwhid, HasSwhid}
 use Rattle.swh_swhid.specs.declared.swhid.Swhid.{Swhid}
 use Rattle.swh_postorder.specs.Postorder.{IsFirstMissing}
+use Rattle.swh_carried.specs.Words.{why_word}
 use Rattle.swh_carried.specs.declared.fault.Why.{Why}
 use Rattle.swh_carried.specs.declared.fault.CookFault.{CookFault}
 use Rattle.swh_carried.specs.declared.fault.CookFault.TheVariants as fault
 use Rattle.swh_cook.specs.Back.{IsAgain}
 use Rattle.swh_cook.specs.Cook.{IsCarried, IsUncarried, IsCooked, IsBrokenOff}
-use Rattle.swh_cook.specs.Words.{why_word}
 use Rattle.swh_program.specs.Seen.{Span, DepotFailed, YardFailed, SinkFailed}
 use Rattle.swh_program.specs.Answers.{TellsLine}
 use Rattle.swh_program.specs.Archives.{old_archive, new_archive}

@@ -1,4 +1,4 @@
-use Rattle.swh_cook.proofs.Folders.{same_breaks, whole_folder, no_folder}
+use Rattle.swh_cook.proofs.Folders.{whole_folder, no_folder}
 use Rattle.swh_cook.proofs.cooking.cook_folder.Goals as goal
 
 pub returns-in-Ok-cook_dir-clause-ok : goal.returns-in-Ok-cook_dir-clause-ok
@@ -15,6 +15,6 @@ returns-in-Ok-cook_dir-clause-cause g c = record { later = c.in-Ok-cook_dir.ensu
 pub returns-in-Err-clause-cause : goal.returns-in-Err-clause-cause
 returns-in-Err-clause-cause g c = record {
   later = c.in-Err.ensures.cause.later;
-  failed = same_breaks _ _ c.in-Err.fault c.in-Err.ensures.cause.failed;
+  failed = c.in-Err.ensures.cause.failed;
   quiet = tt;
 }

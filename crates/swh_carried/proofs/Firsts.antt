@@ -1,11 +1,11 @@
--- That one name at most is the first that a form cannot carry, for one reason.
+-- That one name at most is the first that a form cannot carry, for one reason, and none where it carries all.
 use Rattle.std.proofs.Common.{◌≡◌, ℕ, ◌==◌, ◌<◌, if◌then◌else◌, inl, inr, Option, List, [], ◌∷◌, ◌++◌, Contains, refl, sym, ap, ◌∙◌, subst, arith}
 use Rattle.std.proofs.lemmas.List.Elements.{Contains-append_right}
 use Rattle.swh_base.specs.declared.name.Name.{Name}
 use Rattle.swh_postorder.specs.Cycle.{IsOnCycle, IsFirstOnCycle}
 use Rattle.swh_carried.specs.declared.fault.Why.{Why}
 use Rattle.swh_carried.specs.declared.fault.Why.TheVariants.{Cycle, Revision, Release, Empty, Dots, Text, Path, Branch, Tagless, Refs, Length}
-use Rattle.swh_carried.specs.Uncarried.{rule_number, BreaksFirst, IsFirstToBreak, HasNoCycle, IsUncarried}
+use Rattle.swh_carried.specs.Uncarried.{rule_number, BreaksFirst, IsFirstToBreak, HasNoCycle, IsUncarried, AreCarried}
 
 pub in_order : (order before behind : List Name) (name : Name) → order ≡ before ++ name ∷ behind → Contains order name
 in_order order before behind name cut =
@@ -81,3 +81,8 @@ module _ (children_of : Name → Option (List Name)) (Breaks : Name → Why → 
   one_first_uncarried m n v w (inl c) (inr d) = absurd (on_cycle m d.0 c.1)
   one_first_uncarried m n v w (inr c) (inl d) = absurd (on_cycle n c.0 d.1)
   one_first_uncarried m n v w (inr c) (inr d) = breaks_first m n v w c.1 d.1
+
+  -- a form does not carry all of an order and refuse one of it
+  pub not_both : (name : Name) (why : Why) → AreCarried children_of Breaks order → IsUncarried children_of Breaks order name why → ⊥
+  not_both name why carried (inl c) = on_cycle name carried.acyclic c.1
+  not_both name why carried (inr c) = carried.none name (in_order order c.1.before c.1.behind name c.1.cut) why c.1.is.is

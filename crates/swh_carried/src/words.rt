@@ -1,8 +1,8 @@
 //! Words that are printed.
 ghost use Rattle.std.specs.Prelude.{◌≡◌};
-ghost use Rattle.swh_cook.specs.Words.{why_word};
+ghost use Rattle.swh_carried.specs.Words.{why_word};
 
-use swh_carried::Why;
+use crate::fault::Why;
 
 /// The word that tells why a form cannot carry an object.
 pub fn why_word(why: Why) -> &'static str
