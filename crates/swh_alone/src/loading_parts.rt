@@ -9,7 +9,7 @@ ghost use Rattle.swh_outside.specs.Views.{disks};
 ghost use Rattle.swh_model.specs.Step.{replay};
 ghost use Rattle.swh_walk.specs.declared.input.Opening.TheVariants.{Found};
 ghost use Rattle.swh_walk.specs.Loading.{statuses_of};
-ghost use Rattle.swh_walk.specs.Parts.{AreAllowed, GaveAll, IsEndAt, IsSameOrReadOn, ReachesAll};
+ghost use Rattle.swh_walk.specs.Parts.{AreAllowed, GaveAll, IsGivenEndAt, IsSameOrReadOn, ReachesAll};
 ghost use Rattle.swh_walk.specs.Owning.{attempt};
 ghost use Rattle.swh_alone.specs.Alone.{AddsOn, alone_words};
 ghost use Rattle.swh_alone.specs.Loading.{AddsVisit, EndsVisit, IsHeldBack, MakesVisitCalls, NoCountFell, Stops};
@@ -43,8 +43,8 @@ pub fn load_kept_parts<N: Namer, D: Disk, I, B: Drop, R: ReadsParts<I, Next<N, B
     ensures ended { IfOk result (λ loaded. EndsVisit
         (attempt turn.now.worker.now.by job.now.origin.now job.now.kind job.now.date) keeper.old keeper.new
         loaded.visit (statuses_of loaded.end)) }
-    // The end says what the input gave, and what is held.
-    ensures end { IfOk result (λ loaded. IsEndAt (R.gives job.now.read) job.now.opening
+    // The end says what the input gave, and what is held: where the input is bad, all that it gave, but for a batch at most.
+    ensures end { IfOk result (λ loaded. IsGivenEndAt (R.gives job.now.read) job.now.opening
         (replay keeper.new.history).bodies input.old input.new loaded.end) }
 
     // Whatever it answers, it adds its visit's events alone, with nothing but what the input may have given.

@@ -97,7 +97,7 @@ module _ {N E : Type 0} (id : Kind → List ℕ → List ℕ) (tells : Type 0) (
   whole_all (Ok all) e = e.all
   whole_all (Err fault) e = tt
 
-  pub stops_all : (r : Result (Objects N) E) → IfOk r (EndsStream id tells head text faults path [] s) → (now : List ℕ) → HoldsFront s.standing.place.rest now → tells → IfOk r (λ _. ReadsUpTo text now)
+  pub stops_all : (r : Result (Objects N) E) → IfOk r (EndsStream id tells head text faults path [] s) → (now : List ℕ) → HoldsFront s.standing.place.buffered s.standing.place.rest now → tells → IfOk r (λ _. ReadsUpTo text now)
   stops_all (Ok all) e now held told = reads_up_to text text s.standing.place now refl (e.stops told) held
   stops_all (Err fault) e now held told = tt
 

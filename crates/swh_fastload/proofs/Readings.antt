@@ -52,7 +52,7 @@ pub body_may : (which : Which) (number : ℕ) → which ≡ Body → body_limit 
 body_may which number e above = subst (λ (w : Which). MayPass w number) (sym e) above
 
 -- What is left of a source whose reader was closed.
-pub reads_up_to : (text other : List ℕ) (place : Place) (now : List ℕ) → text ≡ other → StopsAtEnd text place → HoldsFront place.rest now → ReadsUpTo other now
+pub reads_up_to : (text other : List ℕ) (place : Place) (now : List ℕ) → text ≡ other → StopsAtEnd text place → HoldsFront place.buffered place.rest now → ReadsUpTo other now
 reads_up_to text other place now same s h = record {
   commands = s.commands;
   ending = left place;

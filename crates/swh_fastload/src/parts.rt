@@ -196,7 +196,7 @@ impl<N: Namer, S: Source> StreamParts<N, S> {
     pub fn close(self) -> S
         ensures faults { S.faults result ≡ self.standing.place.faults }
         ensures path { S.path result ≡ self.standing.place.path }
-        ensures left { HoldsFront self.standing.place.rest (S.left result) }
+        ensures left { HoldsFront self.standing.place.buffered self.standing.place.rest (S.left result) }
     {
         let StreamParts { reader, load: _ } = self;
         reader.close()

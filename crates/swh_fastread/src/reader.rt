@@ -1,5 +1,5 @@
 //! The reader of a stream's commands.
-ghost use Rattle.std.specs.Prelude.{◌≡◌, ◌≤◌, ◌⊎◌, [], false, IfOk, IfErr, IfSome, IsErrOf, ◌<◌, ◌^◌};
+ghost use Rattle.std.specs.Prelude.{◌≡◌, ◌≤◌, ◌⊎◌, ◌+◌, [], false, length, IfOk, IfErr, IfSome, IsErrOf, ◌<◌, ◌^◌};
 ghost use Rattle.swh_outside.specs.Faults.{Rose};
 ghost use Rattle.swh_fastrows.specs.ReadOn.{AreReadOn};
 ghost use Rattle.swh_fastgrammar.specs.Givable.{IsGivable};
@@ -51,7 +51,7 @@ impl<S: Source> Reader<S> {
     pub fn new(alloc: Global, window: Window, source: S) -> Reader<S>
         requires empty { window.bytes ≡ [] }
         requires first { window.place ≡ 0 }
-        ensures place { result.place ≡ record { at = 0; held = []; rest = S.left source; faults = S.faults source; path = S.path source } }
+        ensures place { result.place ≡ record { at = 0; held = []; rest = S.left source; buffered = 0; faults = S.faults source; path = S.path source } }
         ensures promised { result.promised ≡ false }
         ensures open { result.ending ≡ IsOpen }
     {
@@ -126,11 +126,20 @@ impl<S: Source> Reader<S> {
         self.rows.place()
     }
 
+    /// How many bytes its source gave beyond the commands that were answered and the lines that were skipped after them:
+    /// a line and a window at most.
+    pub fn held(&self) -> u64
+        ensures count { result ≡ length self.now.place.held + self.now.place.buffered }
+        ensures within { result ≤ 1114112 }
+    {
+        self.rows.count()
+    }
+
     /// The source, which may have given more than was read, by a window at most.
     pub fn close(self) -> S
         ensures faults { S.faults result ≡ self.place.faults }
         ensures path { S.path result ≡ self.place.path }
-        ensures left { HoldsFront self.place.rest (S.left result) }
+        ensures left { HoldsFront self.place.buffered self.place.rest (S.left result) }
     {
         let Reader { rows, .. } = self;
         rows.back()

@@ -1,11 +1,12 @@
 -- The bytes that are held, and lines that are taken.
-use Rattle.std.proofs.Common.{◌≡◌, ℕ, ◌+◌, ◌≤◌, inl, inr, true, false, List, [], ◌∷◌, ◌++◌, length, length-append, Contains, refl, sym, ap, ◌∙◌, subst, arith, append_assoc, Result, Ok, Err, IfErr}
+use Rattle.std.proofs.Common.{◌≡◌, ℕ, ◌+◌, ◌≤◌, inl, inr, Bool, true, false, List, [], ◌∷◌, ◌++◌, length, length-append, Contains, refl, sym, ap, ◌∙◌, subst, arith, append_assoc, Result, Ok, Err, IfErr}
 use Rattle.swh_base.proofs.Splits.{sized_split}
 use Rattle.swh_base.specs.Limits.{line_limit}
-use Rattle.swh_fastlex.specs.Line.{Held, unread, IsLine}
+use Rattle.swh_fastlex.specs.Line.{Held, unread, IsLine, MovesFront}
 use Rattle.swh_fastlex.specs.Delimited.{IsDataFault}
 use Rattle.swh_fastlex.specs.declared.fault.DataFault.{DataFault}
 use Rattle.swh_fastlex.specs.declared.fault.DataFault.TheVariants as Data
+use Rattle.swh_fastlex.proofs.Windows.{moved_length}
 use Rattle.swh_fastgrammar.specs.Grammar.{line_at}
 use Rattle.swh_fastrows.specs.Held.{EndsNext, HeldCounts, IsNext, LinesFail}
 use Rattle.swh_fastrows.specs.Within.{LineFits, Fits}
@@ -24,9 +25,15 @@ in_middle (c ∷ a) x = has_more c (a ++ 10 ∷ x) (in_middle a x)
 pub line_feeds : (line : List ℕ) → IsLine line → Contains line 10
 line_feeds line l = subst (λ (t : List ℕ). Contains t 10) (sym l.text) (in_middle l.front [])
 
+-- What goes from the window to the line stays among the bytes that are held.
+pub moved_few : (line longer : List ℕ) (w v : Held) (room : ℕ) (ended : Bool) (limit : ℕ) → MovesFront w v line longer room ended → length line + length w.bytes ≤ limit → length longer + length v.bytes ≤ limit
+moved_few line longer w v room ended limit m few =
+    let long = moved_length line longer w v room ended m in
+    omega (arith, long, few, ap length m.cut, length-append m.front v.bytes)
+
 -- the place after what is held was taken
 abbrev pub taken : Place → Place
-taken b = record { at = b.at + length b.held; held = []; rest = b.rest; faults = b.faults; path = b.path }
+taken b = record { at = b.at + length b.held; held = []; rest = b.rest; buffered = b.buffered; faults = b.faults; path = b.path }
 
 -- The held line has no LF before its end.
 pub front_of : (held line : List ℕ) → held ≡ line ++ 10 ∷ [] → IsLine held → Contains line 10 → ⊥

@@ -5,6 +5,7 @@ use Rattle.swh_base.specs.declared.visit.Which.{Which}
 use Rattle.swh_fastlines.specs.Limit.{PassesWords}
 use Rattle.swh_fastlex.specs.Delimited.{AreLines}
 use Rattle.swh_fastlex.specs.Line.{Held, unread, IsLine}
+use Rattle.swh_fastlex.specs.declared.source.TheConstants.{WINDOW}
 use Rattle.swh_fastlex.specs.declared.fault.DataFault.{DataFault}
 use Rattle.swh_fastlex.specs.declared.fault.DataFault.TheVariants.{Failed, Body, Memory}
 use Rattle.swh_fastlex.specs.declared.fault.DataFault.TheVariants as Data
@@ -22,6 +23,10 @@ IsHeld held = IsLine held ⊎ (Contains held 10 → ⊥)
 abbrev pub held_limit : ℕ
 held_limit = line_limit + 1
 
+-- a line and a window: the most bytes that a source gave and that are not read
+abbrev pub before_limit : ℕ
+before_limit = line_limit + WINDOW
+
 -- What is held comes before what the window holds; where it is the beginning of a line, and no longer than a line may be,
 -- nothing follows it.
 pub record Holds (tells : Type 0) (at : ℕ) (held : List ℕ) (window : Held) (left : List ℕ) : Type 0 where
@@ -29,6 +34,7 @@ pub record Holds (tells : Type 0) (at : ℕ) (held : List ℕ) (window : Held) (
   pub short : length held ≤ held_limit
   pub counted : window.place ≡ at + length held
   pub within : window.place ≤ 2 ^ 33
+  pub few : length held + length window.bytes ≤ before_limit
   pub at_end : tells → 0 < length held → length held < held_limit → (Contains held 10 → ⊥) → unread window left ≡ []
 
 -- what the held bytes are

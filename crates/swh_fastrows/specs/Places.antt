@@ -8,18 +8,20 @@ use Rattle.swh_fastrows.specs.Within.{LineFits, Fits, AllFit}
 pub use Rattle.swh_fastrows.specs.Within.{FirstLine}
 
 -- Where a reader of rows stands: the place of the first byte that is to be read, the bytes that it holds, what follows them
--- in its source, how often that failed, and where it was opened.
+-- in its source, how many bytes of this the source gave already, how often it failed, and where it was opened.
 pub record Place : Type 0 where
   pub at : ℕ
   pub held : List ℕ
   pub rest : List ℕ
+  pub buffered : ℕ
   pub faults : ℕ
   pub path : List ℕ
 
--- The bytes `now` are `rest` without a front, which is no longer than a window: the reader holds it.
-pub record HoldsFront (rest now : List ℕ) : Type 0 where
+-- The bytes `now` are `rest` without a front of this many bytes, no more than a window: the reader holds it.
+pub record HoldsFront (count : ℕ) (rest now : List ℕ) : Type 0 where
   pub front : List ℕ
   pub cut : rest ≡ front ++ now
+  pub counted : length front ≡ count
   pub within : length front ≤ WINDOW
 
 -- what is to be read

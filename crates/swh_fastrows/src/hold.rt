@@ -2,7 +2,7 @@
 ghost use Rattle.std.specs.Prelude.{◌≡◌, ◌≤◌, ◌<◌, ◌+◌, ◌^◌, ◌++◌, [], Contains, IfOk, length};
 ghost use Rattle.swh_fastlex.specs.ReadOn.{IsReadOn};
 ghost use Rattle.swh_fastlex.specs.Line.{unread};
-ghost use Rattle.swh_fastrows.specs.Held.{IsHeld, held_limit};
+ghost use Rattle.swh_fastrows.specs.Held.{IsHeld, before_limit, held_limit};
 ghost use Rattle.swh_fastrows.specs.declared.fail.Outside.TheVariants.{Failed};
 
 use crate::fail::Outside;
@@ -28,6 +28,7 @@ pub fn hold_line<S: Source>(
     requires place { window.old.place ≤ 2 ^ 33 }
     ensures shape { IfOk result (λ _. IsHeld line.new.items) }
     ensures within { IfOk result (λ _. length line.new.items ≤ held_limit) }
+    ensures few { IfOk result (λ _. length line.new.items + length window.new.bytes ≤ before_limit) }
     ensures counted { IfOk result (λ _. window.new.place ≡ window.old.place + length line.new.items) }
     ensures onward { window.old.place ≤ window.new.place }
     ensures place { window.new.place ≤ window.old.place + held_limit }
@@ -38,10 +39,12 @@ pub fn hold_line<S: Source>(
 
     ensures on { IsReadOn S.path S.faults source.old source.new Failed result }
 {
+    let _before = window.count();
     'pieces: while line.len() < HELD_LIMIT {
         if !window.fill(source)? {
             return Ok(());
         }
+        let _held = window.count();
         let room = HELD_LIMIT - line.len();
         if move_front(window, line, room)? {
             return Ok(());

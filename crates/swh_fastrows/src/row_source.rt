@@ -46,11 +46,11 @@ impl<S: Source> Model for RowReader<S> {
 
     ghost Value = { Place };
 
-    ghost use Rattle.std.specs.Prelude.{◌++◌};
+    ghost use Rattle.std.specs.Prelude.{◌++◌, length};
     ghost use Rattle.swh_fastrows.specs.Held.{Holds};
     ghost use Rattle.swh_fastlex.specs.Line.{unread};
 
-    ghost view = { λ r. record { at = r.at; held = r.held.items; rest = unread r.window (S.left r.source); faults = S.faults r.source; path = S.path r.source } };
+    ghost view = { λ r. record { at = r.at; held = r.held.items; rest = unread r.window (S.left r.source); buffered = length r.window.bytes; faults = S.faults r.source; path = S.path r.source } };
 
     ghost invariant = { λ r. Holds S.tells r.at r.held.items r.window (S.left r.source) };
 }
@@ -60,7 +60,7 @@ impl<S: Source> RowReader<S> {
     pub fn new(alloc: Global, window: Window, source: S) -> RowReader<S>
         requires empty { window.bytes ≡ [] }
         requires first { window.place ≡ 0 }
-        ensures { result ≡ record { at = 0; held = []; rest = S.left source; faults = S.faults source; path = S.path source } }
+        ensures { result ≡ record { at = 0; held = []; rest = S.left source; buffered = 0; faults = S.faults source; path = S.path source } }
     {
         let held = Vec::new(alloc);
         RowReader {
@@ -76,11 +76,19 @@ impl<S: Source> RowReader<S> {
     pub fn back(self) -> S
         ensures faults { S.faults result ≡ self.faults }
         ensures path { S.path result ≡ self.path }
-        ensures left { HoldsFront self.rest (S.left result) }
+        ensures left { HoldsFront self.buffered self.rest (S.left result) }
     {
         let _count = self.window.count();
         let RowReader { source, .. } = self;
         source
+    }
+
+    /// How many bytes its source gave that were not taken: those that are held, and those in the window.
+    pub fn count(&self) -> u64
+        ensures count { result ≡ length self.now.held + self.now.buffered }
+        ensures within { result ≤ 1114112 }
+    {
+        self.held.len() as u64 + self.window.count() as u64
     }
 
     /// The place of the first byte that was not taken.
@@ -123,7 +131,7 @@ impl<S: Source> RowReader<S> {
     /// Takes the line that is held.
     pub fn take(&mut self)
         requires { IsLine self.old.held }
-        ensures { self.new ≡ record { at = self.old.at + length self.old.held; held = []; rest = self.old.rest; faults = self.old.faults; path = self.old.path } }
+        ensures { self.new ≡ record { at = self.old.at + length self.old.held; held = []; rest = self.old.rest; buffered = self.old.buffered; faults = self.old.faults; path = self.old.path } }
     {
         self.at += self.held.len() as u64;
         self.held.clear();
@@ -144,6 +152,7 @@ impl<S: Source> RowReader<S> {
         match hold_line(&mut self.window, &mut self.source, &mut self.held) {
             Ok(()) => Ok(()),
             Err(fault) => {
+                let _count = self.window.count();
                 self.held.clear();
                 self.at = self.window.place();
                 Err(fault)
@@ -216,6 +225,7 @@ impl<S: Source> RowReader<S> {
         ensures on { AreReadOn self.old self.new LineFailed result }
     {
         let bytes = next_data(self.alloc, &mut self.window, &mut self.source, count);
+        let _count = self.window.count();
         self.at = self.window.place();
         bytes
     }
@@ -241,6 +251,7 @@ impl<S: Source> RowReader<S> {
         ensures on { AreReadOn self.old self.new DataFailed result }
     {
         let bytes = next_delimited(self.alloc, &mut self.window, &mut self.source, word, limit);
+        let _count = self.window.count();
         self.at = self.window.place();
         bytes
     }
@@ -257,6 +268,7 @@ impl<S: Source> RowReader<S> {
         ensures cause { HasCause self.old.faults self.new.faults result }
     {
         let fed = next_feed(&mut self.window, &mut self.source);
+        let _count = self.window.count();
         self.at = self.window.place();
         fed
     }

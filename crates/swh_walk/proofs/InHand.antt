@@ -25,11 +25,11 @@ use Rattle.swh_walk.specs.declared.stop.Stop.{Stop}
 use Rattle.swh_walk.specs.Loading.{last_at}
 use Rattle.swh_walk.specs.Owning.{AreAmong, IsBatchAmong, IsBatchAsked}
 use Rattle.swh_walk.specs.Parts.{objects_in, IsPart, Gave, GaveSoFar, GaveSome, GaveAll, MayHaveGiven, AreGiven, IsReadOn, IsSentSo, IsGivenEnd, IsBatchFor, IsBatchAskedFor, IsLastSent, IfAll, ReachesAll, end_of}
-use Rattle.swh_walk.specs.Sending.{IsHeldWhole, IsInHand, IsMet, AreTakenIn}
+use Rattle.swh_walk.specs.Sending.{IsHeldWhole, IsInHand, IsMet, IsPendingBatch, AreSentButABatch, AreTakenIn}
 use Rattle.swh_walk.specs.Walking.{Adds, StopsAfter}
 use Rattle.swh_walk.proofs.Closes.{reaches_closed}
 use Rattle.swh_walk.proofs.Steps.{adds_as, adds_then, adds_within, after_as, after_then, all_as}
-use Rattle.swh_walk.proofs.Waiting.{among_both, among_further, all_within, met_among, other_within}
+use Rattle.swh_walk.proofs.Waiting.{among_both, among_further, all_within, batch_within, met_among, other_within}
 
 objects_in-push : (parts : List (List Entry)) (part : List Entry) → objects_in (parts ++ part ∷ []) ≡ objects_in parts ++ part
 objects_in-push [] part = append-nil part
@@ -159,6 +159,10 @@ module _ {I N B E : Type 0} (Gives : I → Result (Next N B) E → I → Type 0)
     )
     last_sent a b p mid now last (sent.Bad bad) h gives l = absurd l
 
+    -- what was given so far is held, but for what waits
+    pub hand_sent : (id : Kind → List ℕ → List ℕ) (alone : Bool) (bodies : Bodies) (p : Pending N) (now : I) (h : HasInHand bodies p now) → IsPendingBatch id alone bodies p → AreSentButABatch bodies h.objects
+    hand_sent id alone bodies p now h waits = record { waiting = p.objects.items; among = h.among; limits = waits.limits; each = h.each }
+
     -- all that was sent is still held
     pub end_on : (a b : Bodies) (now : I) (s : Sent B) (end : End B) → IsWithin a b → end ≡ end_of s → IsSentSo Gives a i now s → IsGivenEnd Gives b i now end
     end_on a b now s end w is h = subst (IsGivenEnd Gives b i now) (sym is) (on s h)
@@ -166,7 +170,7 @@ module _ {I N B E : Type 0} (Gives : I → Result (Next N B) E → I → Type 0)
         on : (s : Sent B) → IsSentSo Gives a i now s → IsGivenEnd Gives b i now (end_of s)
         on (sent.All reached) h = (h.0, h.1, all_within a b h.0 w h.2)
         on (sent.Met name) h = (h.0, h.1, record { entry = h.2.entry; among = h.2.among; named = h.2.named; other = other_within a b h.2.entry w h.2.other })
-        on (sent.Bad bad) h = h
+        on (sent.Bad bad) h = record { broke = h.broke; sent = batch_within a b h.broke.front w h.sent }
 
     -- where all was sent, the snapshot is closed
     pub sent_closed : (id : Kind → List ℕ → List ℕ) (bodies : Bodies) (now : I) (s : Sent B) → ((objects : List Entry) (snapshot : List ℕ) (then : I) → GaveAll Gives i objects snapshot then → ReachesAll id objects snapshot) → IsSentSo Gives bodies i now s → IfAll s (λ snapshot. IsClosed bodies (snapshot_name snapshot))

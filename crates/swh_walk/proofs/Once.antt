@@ -17,7 +17,7 @@ use Rattle.swh_walk.specs.declared.parts.Next.{Next}
 use Rattle.swh_walk.specs.declared.parts.Next.TheVariants as next
 use Rattle.swh_walk.specs.Loading as whole
 use Rattle.swh_walk.specs.Owning.{AreAmong}
-use Rattle.swh_walk.specs.Parts.{next_of, objects_in, GivesAtOnce, Gave, GaveSoFar, GaveSome, GaveAll, Broke, MayHaveGiven, AreAllowed, IsGivenEnd, IsEndAt, IsSameOrReadOn, ReachesAll}
+use Rattle.swh_walk.specs.Parts.{next_of, objects_in, GivesAtOnce, Gave, GaveSoFar, GaveSome, GaveAll, Broke, MayHaveGiven, AreAllowed, IsGivenEnd, IsGivenEndAt, IsSameOrReadOn, ReachesAll}
 use Rattle.swh_walk.specs.Sending.{AllHeld, IsMet}
 
 module _ {N B E : Type 0} where
@@ -106,11 +106,11 @@ module _ {I N B E : Type 0} (Reads : I → Result (Input N B) E → I → Type 0
         read = m.1.read;
         is_end = subst (λ (xs : List Entry). IsMet bodies xs name) m.1.are h.2;
       }
-  end_read bodies now (ended.Bad bad) h = record { given = given.Bad bad; read = broke_bad bad now h; is_end = refl }
+  end_read bodies now (ended.Bad bad) h = record { given = given.Bad bad; read = broke_bad bad now h.broke; is_end = refl }
   end_read bodies now ended.NotFound h = absurd h
   end_read bodies now ended.Unread h = absurd h
 
-  pub end_once : (is : Opening) (bodies : Bodies) (now : I) (end : End B) → IsEndAt Once is bodies i now end → whole.IsEndAt Reads is bodies i now end
+  pub end_once : (is : Opening) (bodies : Bodies) (now : I) (end : End B) → IsGivenEndAt Once is bodies i now end → whole.IsEndAt Reads is bodies i now end
   end_once opening.Found bodies now end h = end_read bodies now end h
   end_once opening.NotFound bodies now end h = h
   end_once opening.Failed bodies now end h = h

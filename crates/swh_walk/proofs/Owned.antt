@@ -17,7 +17,7 @@ use Rattle.swh_walk.specs.declared.stop.Stop.{Stop}
 use Rattle.swh_walk.specs.Ending.{IsMarkOf, IsMarkAsked}
 use Rattle.swh_walk.specs.Loading.{IsOwn, IsOwnAsked}
 use Rattle.swh_walk.specs.Owning.{Attempt}
-use Rattle.swh_walk.specs.Parts.{AreGiven, AreAllowed, IsEndAt, IsSameOrReadOn, IsGivenEnd, IsBatchFor, IsBatchAskedFor}
+use Rattle.swh_walk.specs.Parts.{AreGiven, AreAllowed, IsGivenEndAt, IsSameOrReadOn, IsGivenEnd, IsBatchFor, IsBatchAskedFor}
 use Rattle.swh_walk.specs.Walking.{Adds, StopsAfter}
 use Rattle.swh_walk.proofs.Loads.{ok_as, own_mark, own_mark_asked}
 use Rattle.swh_walk.proofs.Steps.{adds_as, adds_then, after_as, after_then}
@@ -52,14 +52,14 @@ module _ {I N B E : Type 0} (Gives : I → Result (Next N B) E → I → Type 0)
   pub allowed_found : (i : I) → is ≡ opening.Found → (entries : List Entry) → AreGiven Gives i entries → AreAllowed Gives is i entries
   allowed_found i found entries h = subst (λ (o : Opening). AreAllowed Gives o i entries) (sym found) h
 
-  pub end_found : {F : Type 0} (r : Result (End B) F) (bodies : Bodies) (i now : I) → is ≡ opening.Found → IfOk r (IsGivenEnd Gives bodies i now) → IfOk r (IsEndAt Gives is bodies i now)
-  end_found r bodies i now found h = subst (λ (o : Opening). IfOk r (IsEndAt Gives o bodies i now)) (sym found) h
+  pub end_found : {F : Type 0} (r : Result (End B) F) (bodies : Bodies) (i now : I) → is ≡ opening.Found → IfOk r (IsGivenEnd Gives bodies i now) → IfOk r (IsGivenEndAt Gives is bodies i now)
+  end_found r bodies i now found h = subst (λ (o : Opening). IfOk r (IsGivenEndAt Gives o bodies i now)) (sym found) h
 
   pub same_found : (i now : I) → is ≡ opening.Found → IsSameOrReadOn Gives opening.Found i now → IsSameOrReadOn Gives is i now
   same_found i now found h = subst (λ (o : Opening). IsSameOrReadOn Gives o i now) (sym found) h
 
-  pub end_absent : {F : Type 0} (r : Result (End B) F) (bodies : Bodies) (i : I) → is ≡ opening.NotFound → IfOk r (λ end. end ≡ NotFound) → IfOk r (IsEndAt Gives is bodies i i)
-  end_absent r bodies i found h = subst (λ (o : Opening). IfOk r (IsEndAt Gives o bodies i i)) (sym found) (ok_as r (λ end. end ≡ NotFound) (IsEndAt Gives opening.NotFound bodies i i) (λ end e. (e, refl)) h)
+  pub end_absent : {F : Type 0} (r : Result (End B) F) (bodies : Bodies) (i : I) → is ≡ opening.NotFound → IfOk r (λ end. end ≡ NotFound) → IfOk r (IsGivenEndAt Gives is bodies i i)
+  end_absent r bodies i found h = subst (λ (o : Opening). IfOk r (IsGivenEndAt Gives o bodies i i)) (sym found) (ok_as r (λ end. end ≡ NotFound) (IsGivenEndAt Gives opening.NotFound bodies i i) (λ end e. (e, refl)) h)
 
-  pub end_unread : {F : Type 0} (r : Result (End B) F) (bodies : Bodies) (i : I) → is ≡ opening.Failed → IfOk r (λ end. end ≡ Unread) → IfOk r (IsEndAt Gives is bodies i i)
-  end_unread r bodies i found h = subst (λ (o : Opening). IfOk r (IsEndAt Gives o bodies i i)) (sym found) (ok_as r (λ end. end ≡ Unread) (IsEndAt Gives opening.Failed bodies i i) (λ end e. (e, refl)) h)
+  pub end_unread : {F : Type 0} (r : Result (End B) F) (bodies : Bodies) (i : I) → is ≡ opening.Failed → IfOk r (λ end. end ≡ Unread) → IfOk r (IsGivenEndAt Gives is bodies i i)
+  end_unread r bodies i found h = subst (λ (o : Opening). IfOk r (IsGivenEndAt Gives o bodies i i)) (sym found) (ok_as r (λ end. end ≡ Unread) (IsGivenEndAt Gives opening.Failed bodies i i) (λ end e. (e, refl)) h)

@@ -1,5 +1,5 @@
 -- What waits, and what is in hand.
-use Rattle.std.proofs.Common.{◌≡◌, inl, inr, ℕ, ◌+◌, ◌<◌, ◌≤◌, Bool, true, Option, Some, None, List, [], ◌∷◌, ◌++◌, length, Contains, refl, sym, ap, ◌∙◌, subst, arith, append_assoc, length-append}
+use Rattle.std.proofs.Common.{◌≡◌, ◌⊎◌, inl, inr, ℕ, ◌+◌, ◌<◌, ◌≤◌, Bool, true, Option, Some, None, List, [], ◌∷◌, ◌++◌, length, Contains, refl, sym, ap, ◌∙◌, subst, arith, append_assoc, length-append}
 use Rattle.std.specs.Prelude.{sum_by}
 use Rattle.std.specs.List.{AllByRecursion}
 use Rattle.std.specs.FinMap as finite
@@ -29,7 +29,7 @@ use Rattle.swh_walk.specs.declared.stop.Stop.{Stop}
 use Rattle.swh_model.specs.declared.event.EventKind.{EventKind}
 use Rattle.swh_model.specs.declared.event.Wish.{Wish}
 use Rattle.swh_place.specs.Knowing.{Words, IsLawful}
-use Rattle.swh_walk.specs.Sending.{IsHeldWhole, AllHeld, IsMet, AreSent, BatchHasRoom, IsJoined, IsPendingBatch, IsInHand, KeepsInHand, HasRoomNow, IsTakenIn, TakesEntry, AreTakenIn, AreSentAfter}
+use Rattle.swh_walk.specs.Sending.{IsHeldWhole, AllHeld, IsMet, AreSent, BatchHasRoom, IsJoined, IsPendingBatch, IsInHand, KeepsInHand, HasRoomNow, IsTakenIn, TakesEntry, AreTakenIn, AreSentAfter, AreSentButABatch}
 use Rattle.swh_walk.proofs.Steps.{all_as, adds_then, adds_as, after_then, after_as, asking_as}
 use Rattle.swh_walk.proofs.Batches.{at_element, among_all}
 
@@ -103,6 +103,19 @@ all_within a b es w h = all_as (IsHeldWhole a) (IsHeldWhole b) (λ e held. w e.n
 -- another body stays
 pub other_within : (a b : Bodies) (e : Entry) → IsWithin a b → HasOther a e → HasOther b e
 other_within a b e w (body, there, other) = (body, w e.name body there, other)
+
+-- what is held but for a batch stays so
+held_or_waits : (a b : Bodies) (waiting : List Entry) → IsWithin a b → (e : Entry) → IsHeldWhole a e ⊎ IsHeldWhole (bodies_in waiting) e → IsHeldWhole b e ⊎ IsHeldWhole (bodies_in waiting) e
+held_or_waits a b waiting w e (inl held) = inl (w e.name e.body held)
+held_or_waits a b waiting w e (inr waits) = inr waits
+
+pub batch_within : (a b : Bodies) (es : List Entry) → IsWithin a b → AreSentButABatch a es → AreSentButABatch b es
+batch_within a b es w h = record {
+  waiting = h.waiting;
+  among = h.among;
+  limits = h.limits;
+  each = all_as (λ e. IsHeldWhole a e ⊎ IsHeldWhole (bodies_in h.waiting) e) (λ e. IsHeldWhole b e ⊎ IsHeldWhole (bodies_in h.waiting) e) (held_or_waits a b h.waiting w) es h.each;
+}
 
 module _ {N : Type 0} (id : Kind → List ℕ → List ℕ) (alone : Bool) where
   -- nothing waits

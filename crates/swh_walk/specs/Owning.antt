@@ -61,11 +61,12 @@ pub record IsBatchAsked (objects : List Entry) (wish : Wish) : Type 0 where
   pub some : entries ≢ []
   pub among : AreAmong objects entries
 
--- the statuses that events gave
+-- the status that an event of this kind gave, where it gave one
 abbrev pub marks_in : EventKind → Statuses
 marks_in (Mark origin visit status snapshot) = (status, snapshot) ∷ []
 marks_in what = []
 
+-- the statuses that these events gave, in their order
 abbrev pub marks_of : List Event → Statuses
 marks_of [] = []
 marks_of (e ∷ es) = marks_in e.what ++ marks_of es

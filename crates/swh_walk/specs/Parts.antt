@@ -23,7 +23,7 @@ use Rattle.swh_walk.specs.declared.sending_parts.Sent.{Sent}
 use Rattle.swh_walk.specs.declared.sending_parts.Sent.TheVariants as sent
 use Rattle.swh_walk.specs.declared.pending.Pending.{Pending}
 use Rattle.swh_walk.specs.Owning.{AreAmong}
-use Rattle.swh_walk.specs.Sending.{AllHeld, AreSentAfter, IsMet}
+use Rattle.swh_walk.specs.Sending.{AllHeld, AreSentAfter, AreSentButABatch, IsMet}
 
 -- There is more of the input behind this.
 abbrev pub IsMore : {N B : Type 0} → Next N B → Type 0
@@ -87,6 +87,11 @@ module _ {I N B E : Type 0} (Gives : I → Result (Next N B) E → I → Type 0)
     pub so_far : GaveSoFar i front mid
     pub gives : Gives mid (Ok (next.Bad bad)) now
 
+  -- The input gave some objects, and is bad; those that it gave are held, but for a batch at most.
+  pub record BrokeBehind (bodies : Bodies) (i : I) (bad : B) (now : I) : Type 0 where
+    pub broke : Broke i bad now
+    pub sent : AreSentButABatch bodies broke.front
+
   -- The input gave these objects, some of them just now, and there is more of it.
   pub record GaveSome (i : I) (objects : List Entry) (now : I) : Type 0 where
     pub front : List Entry
@@ -120,25 +125,25 @@ module _ {I N B E : Type 0} (Gives : I → Result (Next N B) E → I → Type 0)
     pub rest : (now ≡ mid) ⊎ ((found : Result (Next N B) E) × Gives mid found now)
 
   -- What became of the objects of an input: all were given and are held, or one of those that were given collides, or the input
-  -- is bad.
+  -- is bad and those that were given are held, but for a batch at most.
   abbrev pub IsSentSo : Bodies → I → I → Sent B → Type 0
   IsSentSo bodies i now (sent.All reached) = (objects : List Entry) × GaveAll i objects reached.snapshot now × AllHeld bodies objects
   IsSentSo bodies i now (sent.Met name) = (objects : List Entry) × MayHaveGiven i objects now × IsMet bodies objects name
-  IsSentSo bodies i now (sent.Bad bad) = Broke i bad now
+  IsSentSo bodies i now (sent.Bad bad) = BrokeBehind bodies i bad now
 
   -- The visit ended as what the input gave has it.
   abbrev pub IsGivenEnd : Bodies → I → I → End B → Type 0
   IsGivenEnd bodies i now (ended.Full snapshot) = (objects : List Entry) × GaveAll i objects snapshot now × AllHeld bodies objects
   IsGivenEnd bodies i now (ended.Met name) = (objects : List Entry) × MayHaveGiven i objects now × IsMet bodies objects name
-  IsGivenEnd bodies i now (ended.Bad bad) = Broke i bad now
+  IsGivenEnd bodies i now (ended.Bad bad) = BrokeBehind bodies i bad now
   IsGivenEnd bodies i now _ = ⊥
 
   -- What the end says of an input that was found so.
-  abbrev pub IsEndAt : Opening → Bodies → I → I → End B → Type 0
-  IsEndAt opening.Found bodies i now end = IsGivenEnd bodies i now end
-  IsEndAt opening.NotFound bodies i now end = (end ≡ ended.NotFound) × (now ≡ i)
-  IsEndAt opening.Failed bodies i now end = (end ≡ ended.Unread) × (now ≡ i)
-  IsEndAt opening.Memory bodies i now end = ⊥
+  abbrev pub IsGivenEndAt : Opening → Bodies → I → I → End B → Type 0
+  IsGivenEndAt opening.Found bodies i now end = IsGivenEnd bodies i now end
+  IsGivenEndAt opening.NotFound bodies i now end = (end ≡ ended.NotFound) × (now ≡ i)
+  IsGivenEndAt opening.Failed bodies i now end = (end ≡ ended.Unread) × (now ≡ i)
+  IsGivenEndAt opening.Memory bodies i now end = ⊥
 
   -- The input was found, and read up to here.
   pub record WasReadOn (is : Opening) (i now : I) : Type 0 where

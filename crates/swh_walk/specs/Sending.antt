@@ -109,6 +109,13 @@ abbrev pub TakesPart : {N : Type 0} → (Kind → List ℕ → List ℕ) → Boo
 TakesPart id alone before p es bodies (Waits q) = AreTakenIn id alone before p es bodies q
 TakesPart id alone before p es bodies (Collides name) = IsMet bodies (p.objects.items ++ es) name
 
+-- Each of these objects is held, but for those of a batch that waits.
+pub record AreSentButABatch (bodies : Bodies) (objects : List Entry) : Type 0 where
+  pub waiting : List Entry
+  pub among : AreAmong objects waiting
+  pub limits : IsWithinLimits waiting
+  pub each : AllByRecursion (λ e. IsHeldWhole bodies e ⊎ IsHeldWhole (bodies_in waiting) e) objects
+
 -- What was in hand is held.
 abbrev pub HoldsInHand : {N : Type 0} → Bodies → Pending N → Bodies → Type 0
 HoldsInHand before p bodies = (e : Entry) → IsInHand before p e → IsHeldWhole bodies e

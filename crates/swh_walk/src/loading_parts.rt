@@ -10,7 +10,7 @@ ghost use Rattle.swh_walk.specs.declared.end.End.TheVariants.{Unread as EndUnrea
 ghost use Rattle.swh_walk.specs.Ending.{IsMarkOf, IsMarkAsked};
 ghost use Rattle.swh_walk.specs.Loading.{EndsOwn, IsOwn, IsOwnAsked, StopsLoad, StopsUnended, last_at, statuses_of};
 ghost use Rattle.swh_walk.specs.Owning.{attempt, attempt_of};
-ghost use Rattle.swh_walk.specs.Parts.{AreAllowed, AreGiven, GaveAll, IfAll, IsEndAt, IsGivenEnd, IsReadOn, IsSameOrReadOn, ReachesAll, end_of};
+ghost use Rattle.swh_walk.specs.Parts.{AreAllowed, AreGiven, GaveAll, IfAll, IsGivenEndAt, IsGivenEnd, IsReadOn, IsSameOrReadOn, ReachesAll, end_of};
 ghost use Rattle.swh_walk.specs.Visiting.{IsMine, HasLast};
 ghost use Rattle.swh_walk.specs.Walking.{Adds, StopsAfter};
 
@@ -197,7 +197,7 @@ fn load_opened<
     requires takes { job.now.opening ≡ Found → R.takes job.now.read input.old }
     requires whole { (objects : List Entry) (snapshot : List ℕ) (now : _)
         → GaveAll (R.gives job.now.read) input.old objects snapshot now → ReachesAll N.id_of objects snapshot }
-    ensures end { IfOk result (IsEndAt (R.gives job.now.read) job.now.opening
+    ensures end { IfOk result (IsGivenEndAt (R.gives job.now.read) job.now.opening
         (held_in ((P.words place.now).known seat.new)) input.old input.new) }
     ensures last { IfOk result (λ end. HasLast ((P.words place.now).known seat.new).front
         (attempt_of task.now.visit) task.now.visit.number (last_at end)) }
@@ -258,8 +258,8 @@ pub fn load_parts<
     ensures ended { IfOk result (EndsOwn N.id_of (P.words place.now)
         (AreAllowed (R.gives job.now.read) job.now.opening input.old)
         (attempt turn.now.worker.now.by job.now.origin.now job.now.kind job.now.date) seat.old seat.new) }
-    // The end says what the input gave, and what is held.
-    ensures end { IfOk result (λ loaded. IsEndAt (R.gives job.now.read) job.now.opening
+    // The end says what the input gave, and what is held: where the input is bad, all that it gave, but for a batch at most.
+    ensures end { IfOk result (λ loaded. IsGivenEndAt (R.gives job.now.read) job.now.opening
         (held_in ((P.words place.now).known seat.new)) input.old input.new loaded.end) }
     // Why it stopped, and what is added then.
     ensures stops { IfErr result (StopsLoad N.id_of (P.words place.now)

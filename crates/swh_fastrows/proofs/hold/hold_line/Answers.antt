@@ -1,7 +1,8 @@
 use Rattle.std.proofs.Common.{arith, inl, List, ℕ, Contains, sym, ◌∙◌, subst}
 use Rattle.swh_fastlex.specs.Line.{IsLine, unread}
 use Rattle.swh_fastlex.proofs.Windows.{line_joined, none_joined, moved_text, moved_length}
-use Rattle.swh_fastrows.proofs.HeldLines.{line_feeds}
+use Rattle.swh_fastrows.specs.Held.{before_limit}
+use Rattle.swh_fastrows.proofs.HeldLines.{line_feeds, moved_few}
 use Rattle.swh_fastrows.proofs.hold.hold_line.Goals as goal
 
 pub returns-then-branch-clause-shape : goal.returns-then-branch-clause-shape
@@ -26,6 +27,7 @@ pieces-preserved g c =
       text = λ told. moved_text (unread c.args.window.now (g.S.Source.left c.args.source.now)) c.pieces.line.items c.move_front.new.line.items (unread c.pieces.window (g.S.Source.left c.pieces.source)) (g.S.Source.left c.fill.new.source) c.fill.new.self c.move_front.new.window _ _ (c.pieces.invariant.text told) (c.in_ok-fill.ensures.kept told) moved;
       counted = omega (arith, long, moved.counted, c.in_ok-fill.ensures.same_place, c.pieces.invariant.counted);
       within = omega (arith, long, moved.within, c.pieces.invariant.within, c.len-room.ensures);
+      few = moved_few c.pieces.line.items c.move_front.new.line.items c.fill.new.self c.move_front.new.window _ _ before_limit moved (omega arith);
       same_path = c.in_ok-fill.ensures.same_path ∙ c.pieces.invariant.same_path;
       quiet = c.in_ok-fill.ensures.cause.quiet ∙ c.pieces.invariant.quiet;
     }

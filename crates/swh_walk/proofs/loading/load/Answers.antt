@@ -33,7 +33,7 @@ returns-clause-end g c =
     let i = c.args.input.now in
     let now = c.load_parts.new.input in
     let bodies = held_in (w.known c.load_parts.new.seat) in
-    ok_as c.load_parts.result (λ loaded. parts.IsEndAt (parts.GivesAtOnce reads) job.opening bodies i now loaded.end) (λ loaded. once.IsEndAt reads job.opening bodies i now loaded.end)
+    ok_as c.load_parts.result (λ loaded. parts.IsGivenEndAt (parts.GivesAtOnce reads) job.opening bodies i now loaded.end) (λ loaded. once.IsEndAt reads job.opening bodies i now loaded.end)
     (λ loaded h. end_once reads i job.opening bodies now loaded.end h) c.load_parts.ensures.end
 
 pub returns-clause-stops : goal.returns-clause-stops

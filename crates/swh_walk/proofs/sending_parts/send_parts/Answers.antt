@@ -4,7 +4,7 @@ use Rattle.swh_place.specs.Knowing.{held_in}
 use Rattle.swh_walk.specs.Owning.{IsBatchAmong, IsBatchAsked}
 use Rattle.swh_walk.specs.Parts.{AreGiven, IsBatchFor, IsBatchAskedFor, IsLastSent, IsSentSo}
 use Rattle.swh_walk.specs.Walking.{StopsAfter}
-use Rattle.swh_walk.proofs.InHand.{hand_none, hand_more, last_adds, last_sent, last_stops, part_adds, part_met, part_stops, read_on}
+use Rattle.swh_walk.proofs.InHand.{hand_none, hand_more, hand_sent, last_adds, last_sent, last_stops, part_adds, part_met, part_stops, read_on}
 use Rattle.swh_walk.proofs.Steps.{adds_none, adds_ready}
 use Rattle.swh_walk.proofs.Waiting.{waits_none}
 use Rattle.swh_walk.proofs.sending_parts.send_parts.Goals as goal
@@ -166,12 +166,17 @@ pub returns-in-Ok-Last-clause-input : goal.returns-in-Ok-Last-clause-input
 returns-in-Ok-Last-clause-input g c = read_on (g.R.ReadsParts.gives c.args.read.now) c.args.input.now c.parts.input c.next.new.input c.parts.invariant.hand.objects c.next.result c.parts.invariant.hand.so_far c.next.ensures.gives
 
 pub returns-in-Ok-Bad-clause-sent : goal.returns-in-Ok-Bad-clause-sent
-returns-in-Ok-Bad-clause-sent g c = record {
-  front = c.parts.invariant.hand.objects;
-  mid = c.parts.input;
-  so_far = c.parts.invariant.hand.so_far;
-  gives = rw c.in-Ok-Bad.field-0-is at (rw c.in-Ok-Bad.is at c.next.ensures.gives);
-}
+returns-in-Ok-Bad-clause-sent g c =
+    let w = g.P.Place.words c.args.place.now in
+    let before = c.parts.invariant in record {
+      broke = record {
+        front = before.hand.objects;
+        mid = c.parts.input;
+        so_far = before.hand.so_far;
+        gives = rw c.in-Ok-Bad.field-0-is at (rw c.in-Ok-Bad.is at c.next.ensures.gives);
+      };
+      sent = hand_sent (g.R.ReadsParts.gives c.args.read.now) c.args.input.now g.N.Namer.id_of w.alone (held_in (w.known c.parts.seat)) c.parts.pending c.parts.input before.hand before.waits;
+    }
 
 pub returns-in-Ok-Bad-clause-input : goal.returns-in-Ok-Bad-clause-input
 returns-in-Ok-Bad-clause-input g c = read_on (g.R.ReadsParts.gives c.args.read.now) c.args.input.now c.parts.input c.next.new.input c.parts.invariant.hand.objects c.next.result c.parts.invariant.hand.so_far c.next.ensures.gives
