@@ -104,7 +104,14 @@ pub fn load_stream<N: Namer, D: Disk, S: Source, F: Folder, G: Gate>(
         visit: 0,
         why: Stop::Memory,
     });
-    let Lent { source: _ } =
-        load_lent::<N, D, S, F, G>(alloc, namer, keeper, turn, job, source, &mut outcome);
+    let Lent { source: _ } = load_lent::<N, D, S, F, G>(
+        alloc,
+        namer,
+        keeper,
+        turn,
+        job,
+        source,
+        &mut outcome,
+    );
     outcome
 }
