@@ -1,5 +1,5 @@
 -- What a load of a stream leaves that is read part by part.
-use Rattle.std.proofs.Common.{◌≡◌, inl, inr, ℕ, ◌≤◌, Option, Some, Result, List, [], ◌∷◌, refl, sym, ap, ◌∙◌, subst, arith}
+use Rattle.std.proofs.Common.{◌≡◌, inl, inr, ℕ, ◌-◌, ◌^◌, ◌<◌, ◌≤◌, Option, Some, Result, Ok, Err, List, [], ◌∷◌, refl, sym, ap, ◌∙◌, subst, arith}
 use Rattle.std.specs.Prelude.{IfOk, IfErr}
 use Rattle.std.specs.List.{AllByRecursion}
 use Rattle.swh_base.specs.declared.kind.Kind.{Kind}
@@ -26,7 +26,7 @@ use Rattle.swh_alone.specs.Loading.{AddsVisit, EndsVisit, IsHeldBack, MakesVisit
 use Rattle.swh_inputs.specs.Input.{InputText}
 use Rattle.swh_inputs.specs.Input.InputText.{StreamText}
 use Rattle.swh_inputs.specs.Parts.{Parts, IsSameInput}
-use Rattle.swh_inputs.specs.Streaming.{IsNextOf}
+use Rattle.swh_inputs.specs.Streaming.{CameOn, IsNextOf, MayGoOn}
 use Rattle.swh_inputs.specs.declared.bad.InputFault.{InputFault}
 use Rattle.swh_inputs.specs.declared.bad.InputFault.TheVariants as fault
 use Rattle.swh_inputs.specs.declared.input.Input.{Input}
@@ -36,6 +36,18 @@ use Rattle.swh_loader.specs.Ending.{MayGiveObjects, IsJobEnd, end_for, held_bodi
 use Rattle.swh_loader.specs.Leaving.{AreAllowed, IsLoadOf}
 use Rattle.swh_loader.proofs.Leaves.{given_by}
 use Rattle.swh_loader.proofs.Outcomes.{load_of}
+
+-- The path is the same, and the count of faults did not fall.
+abbrev pub Keeps : StreamState → StreamState → Type 0
+Keeps i now = (now.standing.place.path ≡ i.standing.place.path) × (i.standing.place.faults ≤ now.standing.place.faults)
+
+-- A stream that gave a part may be read on, and fewer parts may come.
+pub goes_on : {N : Type 0} (old new : StreamState) (found : Result (Next N InputFault) Memory) → IfOk found (λ next. walking.IsMore next → CameOn old new) → old.standing.place.at ≤ 2 ^ 33
+    → IfOk found (λ next. walking.IsMore next → MayGoOn new × (2 ^ 34 - new.standing.place.at < 2 ^ 34 - old.standing.place.at))
+goes_on old new (Ok next) came within = λ more.
+    let onward = (came more).onward in
+    ((came more).still, omega (arith, onward, within))
+goes_on old new (Err fault) came within = tt
 
 module _ {S F N : Type 0} (id : Kind → List ℕ → List ℕ) (p : Parts S F) (head : Option (List ℕ)) (s : S) (path : List ℕ)
     (Gives : StreamState → Result (Next N InputFault) Memory → StreamState → Type 0)
@@ -80,19 +92,24 @@ module _ {S F N : Type 0} (id : Kind → List ℕ → List ℕ) (p : Parts S F) 
     stream_end bodies Unread h = absurd h
 
     -- The reader's path has the name of the loan before the source's own.
-    module _ (keeps : (i : StreamState) (found : Result (Next N InputFault) Memory) (now : StreamState) → Gives i found now → (now.standing.place.path ≡ i.standing.place.path) × (i.standing.place.faults ≤ now.standing.place.faults)) where
+    module _ (keeps : (i : StreamState) (found : Result (Next N InputFault) Memory) (now : StreamState) → Gives i found now → Keeps i now) where
       kept : walking.IsSameOrReadOn Gives Found i now → (now.standing.place.path ≡ path) × (p.sources.faults s ≤ now.standing.place.faults)
       kept (inl still) =
           let quiet : now.standing.place.faults ≡ p.sources.faults s = ap (λ (x : StreamState). x.standing.place.faults) still ∙ begins.quiet in
           (ap (λ (x : StreamState). x.standing.place.path) still ∙ begins.same_path, omega (arith, quiet))
       kept (inr was) = read_kept id p.sources.tells head (p.sources.left s) (p.sources.faults s) path Gives on keeps i now begins was.read
 
+      same_paths : (name other : ℕ) → path ≡ name ∷ p.sources.path s → other ∷ p.sources.path back ≡ now.standing.place.path → walking.IsSameOrReadOn Gives Found i now → other ∷ p.sources.path back ≡ name ∷ p.sources.path s
+      same_paths name other begun ended read = ended ∙ (kept read).0 ∙ begun
+
+      pub stream_loan : (name other : ℕ) → path ≡ name ∷ p.sources.path s → other ∷ p.sources.path back ≡ now.standing.place.path → walking.IsSameOrReadOn Gives Found i now → other ≡ name
+      stream_loan name other begun ended read = let both = same_paths name other begun ended read in cc
+
       pub stream_same : (name other : ℕ) → path ≡ name ∷ p.sources.path s → other ∷ p.sources.path back ≡ now.standing.place.path → walking.IsSameOrReadOn Gives Found i now → IsSameInput p (input s) (input back)
       stream_same name other begun ended read =
-          let same = kept read in
-          let both : other ∷ p.sources.path back ≡ name ∷ p.sources.path s = ended ∙ same.0 ∙ begun in
+          let both = same_paths name other begun ended read in
           let there : p.sources.path back ≡ p.sources.path s = cc in
-          let later = same.1 in
+          let later = (kept read).1 in
           ((there, omega (arith, later, faults)), refl)
 
       -- All that is said of the load.

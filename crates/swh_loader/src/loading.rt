@@ -106,17 +106,17 @@ pub fn load_one<N: Namer, D: Disk, S: Source, F: Folder, G: Gate>(
         (folders F.tells F.holds F.faults F.opened_at)) job.old job.new }
 {
     match &mut job.input {
-        Input::Fast {
-            stream: Opened::Found(source),
-            head,
-        } => {
-            let stream = StreamJob {
-                origin: &job.origin,
-                head: &*head,
-                date,
-            };
-            load_stream::<N, D, S, F, G>(alloc, namer, keeper, turn, &stream, source)
-        }
+        Input::Fast { stream, head } => match stream {
+            Opened::Found(source) => {
+                let stream = StreamJob {
+                    origin: &job.origin,
+                    head: &*head,
+                    date,
+                };
+                load_stream::<N, D, S, F, G>(alloc, namer, keeper, turn, &stream, source)
+            }
+            _ => load_at_once(alloc, namer, keeper, turn, job, date),
+        },
         _ => load_at_once(alloc, namer, keeper, turn, job, date),
     }
 }

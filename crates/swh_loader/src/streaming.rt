@@ -28,9 +28,9 @@ use swh_walk::{ByParts, Job, LoadFault, Next, Opening, Stop, Turn};
 
 /// An origin whose input is a stream, the head that is named for the stream, or none, and when it is loaded.
 #[derive(Drop)]
-pub struct StreamJob<'a> {
+pub struct StreamJob<'a, 'b> {
     pub origin: &'a Url,
-    pub head: &'a Option<Bytes>,
+    pub head: &'b Option<Bytes>,
     pub date: u64,
 }
 
@@ -67,11 +67,11 @@ fn load_lent<'a, N: Namer, D: Disk, S: Source, F: Folder, G: Gate>(
         opening: Opening::Found,
         read: ByParts {
             said: StreamByParts,
-            call: |parts: &mut StreamParts<N, Lent<'a, S>>| -> Result<Next<N, InputFault>, Memory>
-                requires head { IfSome head.now IsRef }
+            call: |parts: &mut StreamParts<N, Lent<S>>| -> Result<Next<N, InputFault>, Memory>
+                requires { IfSome head.now IsRef }
                 ensures given { (text : List ℕ) (faults : ℕ) (path : List ℕ) (given : List Entry)
                     → GoesOn N.id_of S.tells text faults path given parts.old
-                    → IfOk result (IsNextOf N.id_of S.tells head.now text faults path given parts.new) }
+                    → IfOk result (IsNextOf N.id_of S.tells head.entry.now text faults path given parts.new) }
                 ensures on { IfOk result (λ next. IsMore next → CameOn parts.old parts.new) }
                 ensures within { parts.old.standing.place.at ≤ 2 ^ 33 }
                 ensures same_path { parts.new.standing.place.path ≡ parts.old.standing.place.path }
