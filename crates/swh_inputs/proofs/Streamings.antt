@@ -1,14 +1,17 @@
 -- What a stream gave that is read part by part.
-use Rattle.std.proofs.Common.{◌≡◌, ℕ, inl, inr, List, [], ◌++◌, Option, Some, None, Result, Ok, Contains, sym, ap, ◌∙◌, subst}
+use Rattle.std.proofs.Common.{◌≡◌, ◌⊎◌, ℕ, ◌≤◌, inl, inr, List, [], ◌++◌, Option, Some, None, Result, Ok, Contains, arith, sym, ap, ◌∙◌, subst}
 use Rattle.std.specs.Prelude.{IfOk}
 use Rattle.std.specs.Global.{Vec}
+use Rattle.std.specs.List.{AllByRecursion}
 use Rattle.swh_base.specs.declared.kind.Kind.{Kind}
 use Rattle.swh_base.specs.declared.entry.Entry.{Entry}
 use Rattle.swh_base.specs.declared.memory.Memory.{Memory}
 use Rattle.swh_base.specs.declared.visit.VisitKind.TheVariants.{Fast}
 use Rattle.swh_outside.specs.Faults.{Rose}
 use Rattle.swh_model.specs.Meaning.{Made, StreamMeaning}
+use Rattle.swh_object.specs.Object.{IsObject}
 use Rattle.swh_made.specs.Making.{made}
+use Rattle.swh_made.proofs.Wholes.{new_whole}
 use Rattle.swh_fastload.specs.Giving.{BreaksOff, EndsStream, GoesOn, StreamState, meaning_of}
 use Rattle.swh_fastload.specs.declared.bad.BadStream.TheVariants as stream
 use Rattle.swh_fastload.specs.declared.bad.InputFault.{InputFault as StreamFault}
@@ -17,7 +20,7 @@ use Rattle.swh_fastload.specs.Input.{Means}
 use Rattle.swh_fastload.proofs.Givings.{come_first, given_meant, gives_first, gives_meant}
 use Rattle.swh_walk.specs.declared.parts.Next.{Next}
 use Rattle.swh_walk.specs.declared.parts.Next.TheVariants as next
-use Rattle.swh_walk.specs.Parts.{GaveSoFar, GaveSome, GaveAll, Broke, MayHaveGiven, ReachesAll}
+use Rattle.swh_walk.specs.Parts.{GaveSoFar, GaveSome, GaveAll, Broke, MayHaveGiven, IsReadOn, ReachesAll}
 use Rattle.swh_walk.proofs.SoFar.{so_far_keeps, some_keeps}
 use Rattle.swh_inputs.specs.Input.{InputText, BreaksInput, MayBreakInput, MeansInput}
 use Rattle.swh_inputs.specs.Input.InputText.{StreamText, FolderText, BatchText}
@@ -86,6 +89,26 @@ module _ {N : Type 0} (id : Kind → List ℕ → List ℕ) (tells : Type 0) (he
       gives_first id head text (made objects) (come_first id text now objects (on_now.come told))
   may_give i objects now h (inr (snapshot, g)) told = gives_meant id head text (made objects) (record { meaning = meaning_of objects snapshot; means = meant i objects snapshot now h g told; among = λ m c. c })
 
+  -- Each object that it gave is one.
+  pub objects_given : (i : StreamState) (objects : List Entry) (now : StreamState) → GoesOn id tells text faults path [] i → MayHaveGiven Gives i objects now → AllByRecursion (IsObject id) objects
+  objects_given i objects now h (inl g) = (new_whole id objects (gave_some i objects now h g).are.fresh).each
+  objects_given i objects now h (inr (snapshot, g)) = subst (λ (es : List Entry). AllByRecursion (IsObject id) es) (sym g.are) (ended i objects snapshot now h g).all.whole.each
+
+  -- Where reading on keeps the path and lets no count of faults fall, so does all that was read.
+  module _ (keeps : (i : StreamState) (found : Result (Next N InputFault) Memory) (now : StreamState) → Gives i found now → (now.standing.place.path ≡ i.standing.place.path) × (i.standing.place.faults ≤ now.standing.place.faults)) where
+    kept_behind : (mid now : StreamState) (front : List Entry) → GoesOn id tells text faults path front mid → (now ≡ mid) ⊎ ((found : Result (Next N InputFault) Memory) × Gives mid found now) → (now.standing.place.path ≡ path) × (faults ≤ now.standing.place.faults)
+    kept_behind mid now front g (inl still) =
+        let quiet : now.standing.place.faults ≡ faults = ap (λ (s : StreamState). s.standing.place.faults) still ∙ g.quiet in
+        (ap (λ (s : StreamState). s.standing.place.path) still ∙ g.same_path, omega (arith, quiet))
+    kept_behind mid now front g (inr (found, gives)) =
+        let k = keeps mid found now gives in
+        let later = k.1 in
+        let quiet = g.quiet in
+        (k.0 ∙ g.same_path, omega (arith, later, quiet))
+
+    pub read_kept : (i now : StreamState) → GoesOn id tells text faults path [] i → IsReadOn Gives i now → (now.standing.place.path ≡ path) × (faults ≤ now.standing.place.faults)
+    read_kept i now h r = kept_behind r.mid now r.front (so_far i r.front r.mid h r.so_far) r.rest
+
 -- What is given at the end belongs to all that the input means.
 meant_among : (id : Kind → List ℕ → List ℕ) (text : InputText) (objects : List Made) (meaning : StreamMeaning) → AreMeantBy id text objects → MeansInput id text meaning → (m : Made) → Contains objects m → Contains meaning.objects m
 meant_among id text objects meaning a h m c = ((one_making id text a.meaning meaning a.means h).objects m).0 (a.among m c)
@@ -100,3 +123,14 @@ unfolding MayGiveInput
 given_among id (StreamText head text) objects meaning g h m c = stream_among id head text objects meaning g h m c
 given_among id (FolderText tree listing) objects meaning g h m c = meant_among id (FolderText tree listing) objects meaning g h m c
 given_among id (BatchText of_batch refs) objects meaning g h m c = meant_among id (BatchText of_batch refs) objects meaning g h m c
+
+stream_given : (id : Kind → List ℕ → List ℕ) (head : Option (List ℕ)) (text : List ℕ) (meaning : StreamMeaning) → MeansInput id (StreamText head text) meaning → MayGiveInput id (StreamText head text) meaning.objects
+unfolding MayGiveInput MeansInput
+stream_given id head text meaning h = gives_meant id head text meaning.objects (record { meaning = meaning; means = h; among = λ m c. c })
+
+-- What an input means it may give.
+pub meant_given : (id : Kind → List ℕ → List ℕ) (text : InputText) (meaning : StreamMeaning) → MeansInput id text meaning → MayGiveInput id text meaning.objects
+unfolding MayGiveInput
+meant_given id (StreamText head text) meaning h = stream_given id head text meaning h
+meant_given id (FolderText tree listing) meaning h = record { meaning = meaning; means = h; among = λ m c. c }
+meant_given id (BatchText of_batch refs) meaning h = record { meaning = meaning; means = h; among = λ m c. c }

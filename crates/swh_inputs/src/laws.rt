@@ -22,9 +22,12 @@ pub fn one_break()
         → BreaksInput id text bad → BreaksInput id text other → IsOneBreak text bad other }
 {}
 
-/// What an input may give before its reading stops belongs to what it means, where it means something.
+/// What an input may give before its reading stops belongs to what it means, where it means something; and all that it means
+/// it may give.
 pub fn given_is_meant()
-    ensures { (id : Kind → List ℕ → List ℕ) (text : InputText) (objects : List Made) (meaning : StreamMeaning)
+    ensures among { (id : Kind → List ℕ → List ℕ) (text : InputText) (objects : List Made) (meaning : StreamMeaning)
         → MayGiveInput id text objects → MeansInput id text meaning
         → (made : Made) → Contains objects made → Contains meaning.objects made }
+    ensures all { (id : Kind → List ℕ → List ℕ) (text : InputText) (meaning : StreamMeaning)
+        → MeansInput id text meaning → MayGiveInput id text meaning.objects }
 {}

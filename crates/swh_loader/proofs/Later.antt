@@ -37,8 +37,7 @@ module _ (id : Kind → List ℕ → List ℕ) (text : InputText) (a b : Bodies)
       let met = is.collision in
       record {
         objects = is.objects;
-        snapshot = is.snapshot;
-        means = is.means;
+        may = is.may;
         collision = record { entry = met.entry; among = met.among; named = met.named; other = (met.other.0, within met.entry.name met.other.0 met.other.1, met.other.2) };
       }
 

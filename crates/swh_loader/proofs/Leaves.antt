@@ -26,6 +26,7 @@ use Rattle.swh_inputs.specs.Input.{InputText, MeansInput, MayBreakInput}
 use Rattle.swh_inputs.specs.Opening.{kind_of, opening_of}
 use Rattle.swh_inputs.specs.Parts.{Parts, Folders, IfTold, TellAll, text_of, IsSameInput, IsSamePart, IsSameListing, IsSameSource, IsSameFolder}
 use Rattle.swh_inputs.specs.Reading.{IsRead}
+use Rattle.swh_inputs.proofs.Streamings.{meant_given}
 use Rattle.swh_inputs.specs.declared.bad.BadText.{BadText}
 use Rattle.swh_inputs.specs.declared.bad.BadText.TheVariants as broken
 use Rattle.swh_inputs.specs.declared.bad.InputFault.{InputFault}
@@ -36,7 +37,7 @@ use Rattle.swh_loader.specs.declared.end.BadInput.{BadInput}
 use Rattle.swh_loader.specs.declared.end.BadInput.TheVariants.{Broken, Collision, Read}
 use Rattle.swh_loader.specs.declared.end.End.{End}
 use Rattle.swh_loader.specs.declared.end.End.TheVariants as reported
-use Rattle.swh_loader.specs.Ending.{MeansObjects, IsMadeBy, AreMadeBy, IsEndOf, IsEndAt, IsJobEnd, end_for, statuses_of}
+use Rattle.swh_loader.specs.Ending.{MeansObjects, MayGiveObjects, IsGivenBy, AreGivenBy, IsEndOf, IsEndAt, IsJobEnd, end_for, statuses_of}
 use Rattle.swh_loader.specs.Leaving.{AreAllowed, AreAllowedAt}
 use Rattle.swh_loader.specs.Report.{detail_limit, end_room, text_room}
 
@@ -49,9 +50,10 @@ same_statuses (Bad (fault.Bad bad)) = refl
 same_statuses (Bad fault.ReadFault) = refl
 same_statuses (Met name) = refl
 
-made_by : (id : Kind → List ℕ → List ℕ) (text : InputText) (objects : List Entry) (snapshot : List ℕ) → MeansObjects id text objects snapshot → (entries : List Entry) → AreAmong objects entries → AllByRecursion (IsMadeBy id text) entries
-made_by id text objects snapshot m [] h = tt
-made_by id text objects snapshot m (e ∷ entries) h = (record { objects = objects; snapshot = snapshot; means = m; among = h.0 }, made_by id text objects snapshot m entries h.1)
+-- some of what may be given
+pub given_by : (id : Kind → List ℕ → List ℕ) (text : InputText) (objects : List Entry) → MayGiveObjects id text objects → (entries : List Entry) → AreAmong objects entries → AllByRecursion (IsGivenBy id text) entries
+given_by id text objects may [] h = tt
+given_by id text objects may (e ∷ entries) h = (record { objects = objects; may = may; among = h.0 }, given_by id text objects may entries h.1)
 
 -- what is said of a text that is told
 told_as : (text : Option InputText) (P Q : InputText → Type 0) → ((held : InputText) → P held → Q held) → IfSome text P → IfSome text Q
@@ -109,7 +111,7 @@ module _ {S F : Type 0} (p : Parts S F) where
   listing_as_it_was (Some part) = part_as_it_was (IsSameSource p.sources) same_source part
   listing_as_it_was None = tt
 
-  as_it_was : (i : Input S F) → IsSameInput p i i
+  pub as_it_was : (i : Input S F) → IsSameInput p i i
   as_it_was (Fast stream head) = (part_as_it_was (IsSameSource p.sources) same_source stream, refl)
   as_it_was (Dir folder modes) = (part_as_it_was (IsSameFolder p.folders) same_folder folder, listing_as_it_was modes)
   as_it_was (Batch objects refs) = (part_as_it_was (IsSameSource p.sources) same_source objects, part_as_it_was (IsSameSource p.sources) same_source refs)
@@ -137,11 +139,15 @@ module _ {S F N : Type 0} (id : Kind → List ℕ → List ℕ) (p : Parts S F) 
   means_made : (text : InputText) (made : Objects N) → HasAllThatIsReached id made → MeansInput id text (making_of made) → MeansObjects id text made.objects.items made.snapshot
   means_made text made w m = record { meaning = m; good = whole_good id made.objects.items w.objects.each }
 
-  -- some of what was made is made by the input
-  among_read : (i now : Input S F) (x : Given N InputFault) → IsRead id p i now x → walking.IsWhole id x → (entries : List Entry) → walking.AreOf x entries → AreMadeBy id p i entries
+  -- which the input may give
+  given_made : (text : InputText) (made : Objects N) → HasAllThatIsReached id made → MeansInput id text (making_of made) → MayGiveObjects id text made.objects.items
+  given_made text made w m = record { given = meant_given id text (making_of made) m; good = whole_good id made.objects.items w.objects.each }
+
+  -- some of what was made is given by the input
+  among_read : (i now : Input S F) (x : Given N InputFault) → IsRead id p i now x → walking.IsWhole id x → (entries : List Entry) → walking.AreOf x entries → AreGivenBy id p i entries
   among_read i now (given.Made made) r w entries are = λ told.
-      told_as (text_of p i) (λ text. MeansInput id text (making_of made)) (λ text. AllByRecursion (IsMadeBy id text) entries)
-      (λ text m. made_by id text made.objects.items made.snapshot (means_made text made w m) entries are) (r told)
+      told_as (text_of p i) (λ text. MeansInput id text (making_of made)) (λ text. AllByRecursion (IsGivenBy id text) entries)
+      (λ text m. given_by id text made.objects.items (given_made text made w m) entries are) (r told)
   among_read i now (given.Bad bad) r w entries are = absurd are
 
   -- the end of a load whose input was read
@@ -151,7 +157,7 @@ module _ {S F N : Type 0} (id : Kind → List ℕ → List ℕ) (p : Parts S F) 
       (λ text m. record { objects = made.objects.items; means = subst (MeansObjects id text made.objects.items) (sym h.0) (means_made text made w m); held = h.1 }) (r told)
   read_end bodies i now (given.Made made) (Met name) r w h = λ told.
       told_as (text_of p i) (λ text. MeansInput id text (making_of made)) _
-      (λ text m. record { objects = made.objects.items; snapshot = made.snapshot; means = means_made text made w m; collision = h }) (r told)
+      (λ text m. record { objects = made.objects.items; may = given_made text made w m; collision = h }) (r told)
   read_end bodies i now (given.Made made) NotFound r w h = absurd h
   read_end bodies i now (given.Made made) Unread r w h = absurd h
   read_end bodies i now (given.Made made) (Bad bad) r w h = absurd h

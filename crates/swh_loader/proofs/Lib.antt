@@ -4,3 +4,5 @@ pub mod Leaves
 pub mod Marks
 pub mod Missing
 pub mod Room
+mod Outcomes
+mod Streams

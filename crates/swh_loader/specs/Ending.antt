@@ -1,5 +1,5 @@
 -- What a visit's end says of its input and of the archive.
-use Rattle.std.specs.Prelude.{◌≡◌, ℕ, Some, None, List, [], ◌∷◌, Contains}
+use Rattle.std.specs.Prelude.{◌≡◌, ℕ, Some, None, Result, Ok, Err, List, [], ◌∷◌, Contains}
 use Rattle.std.specs.List.{AllByRecursion}
 use Rattle.swh_base.specs.declared.kind.Kind.{Kind}
 use Rattle.swh_base.specs.declared.name.Name.{Name}
@@ -11,11 +11,14 @@ use Rattle.swh_model.specs.Step.{HasItsChildrenAndName, replay}
 use Rattle.swh_made.specs.Making.{made}
 use Rattle.swh_keeper.specs.Kept.{Kept}
 use Rattle.swh_walk.specs.declared.end.End as walk
+use Rattle.swh_walk.specs.declared.end.Loaded.{Loaded as WalkLoaded}
+use Rattle.swh_walk.specs.declared.end.LoadFault.{LoadFault}
 use Rattle.swh_walk.specs.declared.end.End.TheVariants as walked
 use Rattle.swh_walk.specs.declared.input.Opening.{Opening}
 use Rattle.swh_walk.specs.declared.input.Opening.TheVariants as opening
 use Rattle.swh_walk.specs.Sending.{AllHeld, IsMet}
 use Rattle.swh_inputs.specs.Input.{InputText, MeansInput}
+use Rattle.swh_inputs.specs.Streaming.{MayGiveInput}
 use Rattle.swh_inputs.specs.Opening.{opening_of}
 use Rattle.swh_inputs.specs.Parts.{Parts, IfTold, HasFailed}
 use Rattle.swh_inputs.specs.Reading.{BreaksLeft}
@@ -26,6 +29,7 @@ use Rattle.swh_loader.specs.declared.end.BadInput.{BadInput}
 use Rattle.swh_loader.specs.declared.end.BadInput.TheVariants.{Broken, Collision, Read}
 use Rattle.swh_loader.specs.declared.end.End.{End}
 use Rattle.swh_loader.specs.declared.end.End.TheVariants.{Full, NotFound, Failed}
+use Rattle.swh_loader.specs.declared.end.Loaded.{Loaded}
 
 -- the bodies that an archive holds
 abbrev pub held_bodies : {D : Type 0} → Kept D → Bodies
@@ -46,16 +50,26 @@ end_for (walked.Bad (fault.Bad bad)) = Failed (Broken bad)
 end_for (walked.Bad fault.ReadFault) = Failed Read
 end_for (walked.Met name) = Failed (Collision name)
 
+-- what a load came to, as it is reported
+abbrev pub outcome_for : Result (WalkLoaded InputFault) LoadFault → Result Loaded LoadFault
+outcome_for (Ok loaded) = Ok (record { visit = loaded.visit; end = end_for loaded.end })
+outcome_for (Err fault) = Err fault
+
 -- The input means these objects, each under its name and with its children, and this snapshot.
 pub record MeansObjects (id : Kind → List ℕ → List ℕ) (text : InputText) (objects : List Entry) (snapshot : List ℕ) : Type 0 where
   pub meaning : MeansInput id text (record { objects = made objects; snapshot = snapshot })
   pub good : AllByRecursion (HasItsChildrenAndName id) objects
 
--- The input makes this object.
-pub record IsMadeBy (id : Kind → List ℕ → List ℕ) (text : InputText) (e : Entry) : Type 0 where
+-- The input may give these objects before its reading stops, each under its name and with its children.
+pub record MayGiveObjects (id : Kind → List ℕ → List ℕ) (text : InputText) (objects : List Entry) : Type 0 where
+  pub given : MayGiveInput id text (made objects)
+  pub good : AllByRecursion (HasItsChildrenAndName id) objects
+
+-- The input may give this object before its reading stops: one that it means, or, of a stream that breaks, one that whole commands
+-- before the fault make.
+pub record IsGivenBy (id : Kind → List ℕ → List ℕ) (text : InputText) (e : Entry) : Type 0 where
   pub objects : List Entry
-  pub snapshot : List ℕ
-  pub means : MeansObjects id text objects snapshot
+  pub may : MayGiveObjects id text objects
   pub among : Contains objects e
 
 -- All of the input is held.
@@ -64,17 +78,16 @@ pub record IsFull (id : Kind → List ℕ → List ℕ) (text : InputText) (bodi
   pub means : MeansObjects id text objects snapshot
   pub held : AllHeld bodies objects
 
--- Another body is held under the name of an object of the input.
+-- Another body is held under the name of an object that the input may give before its reading stops.
 pub record Collided (id : Kind → List ℕ → List ℕ) (text : InputText) (bodies : Bodies) (name : Name) : Type 0 where
   pub objects : List Entry
-  pub snapshot : List ℕ
-  pub means : MeansObjects id text objects snapshot
+  pub may : MayGiveObjects id text objects
   pub collision : IsMet bodies objects name
 
 module _ {S F : Type 0} (id : Kind → List ℕ → List ℕ) (p : Parts S F) where
-  -- Where the parts of the input tell what they hold, that makes each of these entries.
-  abbrev pub AreMadeBy : Input S F → List Entry → Type 0
-  AreMadeBy i entries = IfTold p i (λ text. AllByRecursion (IsMadeBy id text) entries)
+  -- Where the parts of the input tell what they hold, that may give each of these entries.
+  abbrev pub AreGivenBy : Input S F → List Entry → Type 0
+  AreGivenBy i entries = IfTold p i (λ text. AllByRecursion (IsGivenBy id text) entries)
 
   module _ (bodies : Bodies) where
     -- Why an input, `i` before the load and `now` after it, is bad: what its parts held breaks so, or an object of it

@@ -1,24 +1,31 @@
 -- What a load may add, and what it leaves of its job.
-use Rattle.std.specs.Prelude.{◌≡◌, ℕ, List}
+use Rattle.std.specs.Prelude.{◌≡◌, ℕ, Some, Result, List, IfOk, IfErr}
 use Rattle.swh_base.specs.declared.kind.Kind.{Kind}
 use Rattle.swh_base.specs.declared.entry.Entry.{Entry}
+use Rattle.swh_outside.specs.Views.{Disks}
+use Rattle.swh_keeper.specs.Kept.{Kept}
+use Rattle.swh_walk.specs.declared.end.LoadFault.{LoadFault}
 use Rattle.swh_walk.specs.declared.input.Opening.{Opening}
 use Rattle.swh_walk.specs.declared.input.Opening.TheVariants.{Found, NotFound, Failed, Memory}
+use Rattle.swh_walk.specs.Owning.{Attempt}
+use Rattle.swh_alone.specs.Loading.{AddsVisit, EndsVisit, IsHeldBack, MakesVisitCalls, NoCountFell, Stops}
 use Rattle.swh_inputs.specs.Opening.{opening_of}
 use Rattle.swh_inputs.specs.Parts.{Parts, IsSameInput}
 use Rattle.swh_inputs.specs.declared.input.Input.{Input}
+use Rattle.swh_loader.specs.declared.end.Loaded.{Loaded}
 use Rattle.swh_loader.specs.declared.job.Job.{Job}
-use Rattle.swh_loader.specs.Ending.{AreMadeBy}
+use Rattle.swh_loader.specs.Ending.{AreGivenBy, IsJobEnd, held_bodies, statuses_of}
 
 module _ {S F : Type 0} (id : Kind → List ℕ → List ℕ) (p : Parts S F) (i : Input S F) where
-  -- The batches of a load whose input was found so hold only what it makes; without an input there are none.
+  -- The batches of a load whose input was found so hold only what it may give before its reading stops; without an input there
+  -- are none.
   abbrev pub AreAllowedAt : Opening → List Entry → Type 0
-  AreAllowedAt Found entries = AreMadeBy id p i entries
+  AreAllowedAt Found entries = AreGivenBy id p i entries
   AreAllowedAt NotFound entries = ⊥
   AreAllowedAt Failed entries = ⊥
   AreAllowedAt Memory entries = ⊥
 
-  -- The batches of a load hold only what its input makes; without an input there are none.
+  -- The batches of a load hold only what its input may give before its reading stops; without an input there are none.
   abbrev pub AreAllowed : List Entry → Type 0
   AreAllowed entries = AreAllowedAt (opening_of i) entries
 
@@ -26,3 +33,14 @@ module _ {S F : Type 0} (id : Kind → List ℕ → List ℕ) (p : Parts S F) (i
 pub record IsSameJob {S F : Type 0} (p : Parts S F) (job now : Job S F) : Type 0 where
   pub origin : now.origin ≡ job.origin
   pub input : IsSameInput p job.input now.input
+
+-- A load of an input, `i` before it and `now` after it, came to this: all that `load_one` says of it.
+pub record IsLoadOf {S F D : Type 0} (id : Kind → List ℕ → List ℕ) (p : Parts S F) (disks : Disks D) (a : Attempt) (i now : Input S F) (old new : Kept D) (result : Result Loaded LoadFault) : Type 0 where
+  pub ended : IfOk result (λ loaded. EndsVisit a old new loaded.visit (statuses_of loaded.end))
+  pub end : IfOk result (λ loaded. IsJobEnd id p (held_bodies new) i now loaded.end)
+  pub adds : AddsVisit (AreAllowed id p i) a old.history new.history
+  pub calls : disks.tells → MakesVisitCalls id disks (AreAllowed id p i) a old new
+  pub wounded : (n : ℕ) → old.wounded ≡ Some n → IsHeldBack old new result
+  pub stops : IfErr result (Stops id disks (AreAllowed id p i) a old new)
+  pub later : NoCountFell disks old new
+  pub same : IsSameInput p i now

@@ -8,35 +8,60 @@ ghost use Rattle.swh_alone.specs.Loading.{AddsVisit, EndsVisit, IsHeldBack, Make
 ghost use Rattle.swh_inputs.specs.Opening.{kind_of, opening_of};
 ghost use Rattle.swh_inputs.specs.Parts.{HasGoodHead, IsSameInput, folders, parts};
 ghost use Rattle.swh_inputs.specs.Reading.{IsRead};
-ghost use Rattle.swh_loader.specs.Ending.{IsJobEnd, end_for, held_bodies, statuses_of};
-ghost use Rattle.swh_loader.specs.Leaving.{AreAllowed, IsSameJob};
+ghost use Rattle.swh_loader.specs.Ending.{IsJobEnd, held_bodies, statuses_of};
+ghost use Rattle.swh_loader.specs.Leaving.{AreAllowed, IsLoadOf, IsSameJob};
 ghost use Rattle.swh_loader.specs.Report.{detail_limit, end_room};
 
-use crate::end::{BadInput, End, Loaded};
+use crate::end::Loaded;
 use crate::job::Job;
+use crate::outcome::outcome_of;
+use crate::streaming::{StreamJob, load_stream};
 use std::alloc::Global;
 use swh_alone::load_kept;
 use swh_base::{Memory, Namer};
 use swh_inputs::{Input, InputFault, read_input};
 use swh_keeper::Keeper;
-use swh_outside::{Disk, Folder, Gate, Source};
+use swh_outside::{Disk, Folder, Gate, Opened, Source};
 use swh_walk::{self as walk, ByCall, LoadFault, Turn};
 
-/// The end of a visit, as it is reported.
-fn end_of(end: walk::End<InputFault>) -> End
-    ensures { result ≡ end_for end }
+/// Loads the input of an origin, which is read at once, as a new visit of it.
+fn load_at_once<N: Namer, D: Disk, S: Source, F: Folder, G: Gate>(
+    alloc: Global,
+    namer: &N,
+    keeper: &mut Keeper<N, D>,
+    turn: &Turn<G>,
+    job: &mut Job<S, F>,
+    date: u64,
+) -> Result<Loaded, LoadFault>
+    requires { HasGoodHead job.old.input }
+    ensures load { IsLoadOf N.id_of (parts (sources S.tells S.left S.faults S.path)
+        (folders F.tells F.holds F.faults F.opened_at)) (disks D.tells D.file D.faults)
+        (attempt turn.now.worker.now.by job.old.origin (kind_of job.old.input) date)
+        job.old.input job.new.input keeper.old keeper.new result }
+    ensures same_origin { job.new.origin ≡ job.old.origin }
 {
-    match end {
-        walk::End::Full { snapshot } => End::Full { snapshot },
-        walk::End::NotFound => End::NotFound,
-        walk::End::Unread => End::Failed(BadInput::Read),
-        walk::End::Bad(InputFault::Bad(bad)) => End::Failed(BadInput::Broken(bad)),
-        walk::End::Bad(InputFault::ReadFault) => End::Failed(BadInput::Read),
-        walk::End::Met(name) => End::Failed(BadInput::Collision { name }),
-    }
+    let load = walk::Job {
+        origin: &job.origin,
+        kind: job.input.kind(),
+        date,
+        opening: job.input.opening(),
+        read: ByCall {
+            call: |input: &mut Input<S, F>| -> Result<walk::Input<N, InputFault>, Memory>
+                requires found { opening_of input.old ≡ Found }
+                requires head { HasGoodHead input.old }
+                ensures read { IfOk result (IsRead N.id_of (parts (sources S.tells S.left S.faults S.path)
+                    (folders F.tells F.holds F.faults F.opened_at)) input.old input.new) }
+                ensures whole { IfOk result (IsWhole N.id_of) }
+                ensures same { IsSameInput (parts (sources S.tells S.left S.faults S.path)
+                    (folders F.tells F.holds F.faults F.opened_at)) input.old input.new }
+            { read_input(alloc, namer, input) },
+        },
+    };
+    outcome_of(load_kept(alloc, keeper, turn, &load, &mut job.input))
 }
 
-/// Loads the input of an origin, as a new visit of it.
+/// Loads the input of an origin, as a new visit of it. A stream is read part by part, and what is new of its objects is sent while
+/// it is read; a folder and a batch are read at once.
 pub fn load_one<N: Namer, D: Disk, S: Source, F: Folder, G: Gate>(
     alloc: Global,
     namer: &N,
@@ -57,7 +82,8 @@ pub fn load_one<N: Namer, D: Disk, S: Source, F: Folder, G: Gate>(
     // Its report has a bound by the kind of the input.
     ensures short { IfOk result (λ loaded. end_room loaded.end ≤ detail_limit (kind_of job.old.input)) }
 
-    // Whatever it answers, it adds its visit's events alone, with nothing but what the input makes.
+    // Whatever it answers, it adds its visit's events alone, with nothing but what the input may give before
+    // its reading stops.
     ensures adds { AddsVisit (AreAllowed N.id_of (parts (sources S.tells S.left S.faults S.path)
         (folders F.tells F.holds F.faults F.opened_at)) job.old.input)
         (attempt turn.now.worker.now.by job.old.origin (kind_of job.old.input) date)
@@ -79,28 +105,18 @@ pub fn load_one<N: Namer, D: Disk, S: Source, F: Folder, G: Gate>(
     ensures same { IsSameJob (parts (sources S.tells S.left S.faults S.path)
         (folders F.tells F.holds F.faults F.opened_at)) job.old job.new }
 {
-    let load = walk::Job {
-        origin: &job.origin,
-        kind: job.input.kind(),
-        date,
-        opening: job.input.opening(),
-        read: ByCall {
-            call: |input: &mut Input<S, F>| -> Result<walk::Input<N, InputFault>, Memory>
-                requires found { opening_of input.old ≡ Found }
-                requires head { HasGoodHead input.old }
-                ensures read { IfOk result (IsRead N.id_of (parts (sources S.tells S.left S.faults S.path)
-                    (folders F.tells F.holds F.faults F.opened_at)) input.old input.new) }
-                ensures whole { IfOk result (IsWhole N.id_of) }
-                ensures same { IsSameInput (parts (sources S.tells S.left S.faults S.path)
-                    (folders F.tells F.holds F.faults F.opened_at)) input.old input.new }
-            { read_input(alloc, namer, input) },
+    match &mut job.input {
+        Input::Fast { stream, head } => match stream {
+            Opened::Found(source) => {
+                let stream = StreamJob {
+                    origin: &job.origin,
+                    head: &*head,
+                    date,
+                };
+                load_stream::<N, D, S, F, G>(alloc, namer, keeper, turn, &stream, source)
+            }
+            _ => load_at_once(alloc, namer, keeper, turn, job, date),
         },
-    };
-    match load_kept(alloc, keeper, turn, &load, &mut job.input) {
-        Ok(loaded) => Ok(Loaded {
-            visit: loaded.visit,
-            end: end_of(loaded.end),
-        }),
-        Err(fault) => Err(fault),
+        _ => load_at_once(alloc, namer, keeper, turn, job, date),
     }
 }

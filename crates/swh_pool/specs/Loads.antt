@@ -49,7 +49,7 @@ module _ {S F D : Type 0} (given : Loading S F D) where
   abbrev pub attempt_at : OneLoad S F → Attempt
   attempt_at l = attempt given.by l.job.job.origin (kind_of l.job.job.input) l.job.date
 
-  -- The batches of the load hold only what its input makes.
+  -- The batches of the load hold only what its input may give before its reading stops.
   abbrev pub AreAllowedAt : OneLoad S F → List Entry → Type 0
   AreAllowedAt l = AreAllowed given.id given.parts l.job.job.input
 

@@ -1,4 +1,4 @@
--- What loads of inputs that mean something add, and that no name of them collides.
+-- What loads of inputs add, and that no name of them collides.
 use Rattle.std.proofs.Common.{◌≡◌, inr, ℕ, false, Some, List, [], ◌∷◌, ◌++◌, Contains, sym, subst}
 use Rattle.std.specs.List.{AllByRecursion}
 use Rattle.swh_base.specs.declared.kind.Kind.{Kind}
@@ -8,16 +8,17 @@ use Rattle.swh_model.specs.declared.event.Event.{Event}
 use Rattle.swh_model.specs.declared.event.EventKind.{EventKind}
 use Rattle.swh_model.specs.declared.event.EventKind.TheVariants.{Batch}
 use Rattle.swh_model.specs.Archive.{Archive, Bodies, empty_archive, body_of}
-use Rattle.swh_model.specs.Meaning.{Made, StreamMeaning}
+use Rattle.swh_model.specs.Meaning.{Made}
 use Rattle.swh_model.specs.Step.{IsHistory, after, after_kind, after_all, replay, HasItsChildrenAndName}
 use Rattle.swh_model.proofs.Histories.{fronts}
 use Rattle.swh_model.proofs.Maps.{added-all}
-use Rattle.swh_inputs.specs.Input.{InputText, MeansInput}
+use Rattle.swh_inputs.specs.Input.{InputText}
+use Rattle.swh_inputs.specs.Streaming.{MayGiveInput}
 use Rattle.swh_made.specs.Making.{made_from, made}
 use Rattle.swh_walk.specs.Owning.{Attempt}
 use Rattle.swh_walk.specs.Loading.{IsOwn}
 use Rattle.swh_walk.specs.Walking.{IsBy}
-use Rattle.swh_loader.specs.Ending.{MeansObjects, IsMadeBy, Collided}
+use Rattle.swh_loader.specs.Ending.{MayGiveObjects, IsGivenBy, Collided}
 use Rattle.swh_walk.proofs.Batches.{at_element}
 use Rattle.swh_program.specs.JobLoad.{AreOwnEvents}
 use Rattle.swh_program.specs.Complete.{AreMade, MakesBody, HasBodyOrMakes, HasOneBody}
@@ -28,27 +29,27 @@ abbrev pub Had : (Kind → List ℕ → List ℕ) → Bodies → List Made → B
 Had id_of bodies objects now = (n : Name) (body : List ℕ) → body_of now n ≡ Some body → HasBodyOrMakes id_of bodies objects n body
 
 module _ (id_of : Kind → List ℕ → List ℕ) (objects : List Made) where
-  -- All that the text means is among the objects.
-  abbrev pub MakesWithin : InputText → Type 0
-  MakesWithin text = (making : StreamMeaning) → MeansInput id_of text making → (o : Made) → Contains making.objects o → Contains objects o
+  -- All that the text may give is among the objects.
+  abbrev pub GivesWithin : InputText → Type 0
+  GivesWithin text = (given : List Made) → MayGiveInput id_of text given → (o : Made) → Contains given o → Contains objects o
 
-  module _ (text : InputText) (within : MakesWithin text) where
-    makes_body : (es : List Entry) (snapshot : List ℕ) → MeansObjects id_of text es snapshot → (e : Entry) → Contains es e → MakesBody id_of objects e.name e.body
-    makes_body es snapshot m e among = (
-      within (record { objects = made es; snapshot = snapshot }) m.meaning (made_from e) (map_contains made_from es e among),
+  module _ (text : InputText) (within : GivesWithin text) where
+    gives_body : (es : List Entry) → MayGiveObjects id_of text es → (e : Entry) → Contains es e → MakesBody id_of objects e.name e.body
+    gives_body es m e among = (
+      within (made es) m.given (made_from e) (map_contains made_from es e among),
       (at_element (HasItsChildrenAndName id_of) es e m.good among).named,
     )
 
-    -- a batch of what the text makes
-    pub are_made : (entries : List Entry) → AllByRecursion (IsMadeBy id_of text) entries → AreMade id_of objects entries
+    -- a batch of what the text may give
+    pub are_made : (entries : List Entry) → AllByRecursion (IsGivenBy id_of text) entries → AreMade id_of objects entries
     are_made [] all = tt
-    are_made (e ∷ entries) all = (makes_body all.0.objects all.0.snapshot all.0.means e all.0.among, are_made entries all.1)
+    are_made (e ∷ entries) all = (gives_body all.0.objects all.0.may e all.0.among, are_made entries all.1)
 
     -- no name collides where each has one body
     pub none_collides : (bodies now : Bodies) (name : Name) → Had id_of bodies objects now → HasOneBody id_of bodies objects → Collided id_of text now name → ⊥
     none_collides bodies now name had one collided =
         let c = collided.collision in
-        let makes = makes_body collided.objects collided.snapshot collided.means c.entry c.among in
+        let makes = gives_body collided.objects collided.may c.entry c.among in
         let other = c.other.0 in
         c.other.2 (one.one c.entry.name other c.entry.body (had c.entry.name other c.other.1) (inr makes))
 

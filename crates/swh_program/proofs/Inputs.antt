@@ -21,7 +21,7 @@ use Rattle.swh_keeper.specs.Kept.{Kept}
 use Rattle.swh_jobs.specs.Job.{Job}
 use Rattle.swh_walk.specs.Owning.{Attempt, attempt, open_event}
 use Rattle.swh_alone.specs.Loading.{IsEvent, IsOwnEvent, AreOfVisit, AddsVisit, Stops}
-use Rattle.swh_loader.specs.Ending.{IsMadeBy, IsFull, Collided, IsEndOf, IsEndAt, IsJobEnd}
+use Rattle.swh_loader.specs.Ending.{IsGivenBy, IsFull, Collided, IsEndOf, IsEndAt, IsJobEnd}
 use Rattle.swh_loader.specs.Leaving.{AreAllowed, AreAllowedAt as AreAllowedAs}
 use Rattle.swh_walk.specs.Visiting.{next_visit}
 use Rattle.swh_alone.specs.Leaving as stopping
@@ -165,7 +165,7 @@ module _ {S F : Type 0} (id_of : Kind → List ℕ → List ℕ) (p : Parts S F)
   allowed job i is told entries by = at (opening_of i) refl by
     where
       at : (o : Opening) → opening_of i ≡ o → AreAllowedAs id_of p i o entries → OfJob job entries
-      at Here e h = of_text (λ text. AllByRecursion (IsMadeBy id_of text) entries) job i is told e h
+      at Here e h = of_text (λ text. AllByRecursion (IsGivenBy id_of text) entries) job i is told e h
       at Missing e h = absurd h
       at Unopened e h = absurd h
       at NoRoom e h = absurd h

@@ -12,6 +12,7 @@ use Rattle.swh_model.specs.Meaning.{Made as MadeObject, StreamMeaning}
 use Rattle.swh_model.specs.Step.{IsHistory, replay}
 use Rattle.swh_made.specs.Making.{made}
 use Rattle.swh_inputs.specs.Input.{InputText}
+use Rattle.swh_inputs.proofs.Streamings.{meant_given}
 use Rattle.swh_walk.specs.Owning.{Attempt}
 use Rattle.swh_walk.specs.Visiting.{next_visit, IsVisit}
 use Rattle.swh_walk.specs.declared.stop.Stop.{Stop}
@@ -24,7 +25,7 @@ use Rattle.swh_loader.specs.declared.end.End.{End}
 use Rattle.swh_loader.specs.declared.end.End.TheVariants.{Full, NotFound, Failed}
 use Rattle.swh_loader.specs.declared.end.Loaded.{Loaded}
 use Rattle.swh_pool.specs.Stops.{is_want, is_memory_stop, HaveNoMemoryStop, IsNotCutShort, HasOwnEnd, AreStopsOfMany}
-use Rattle.swh_program.specs.Complete.{HasAllMade, HasBodyOrMakes, HasOneBody}
+use Rattle.swh_program.specs.Complete.{HasAllGiven, HasBodyOrMakes, HasOneBody}
 use Rattle.swh_program.specs.Found.{found_at}
 use Rattle.swh_program.specs.Exact.{line_for, lines_for, ending_of_ends, MeansSnapshot, IsEndFor, IsExactEnd, AreExactEnds}
 use Rattle.swh_program.specs.Inputs.{Inputs, input_of, IsInputEnd, IsOfJob}
@@ -34,7 +35,7 @@ use Rattle.swh_program.specs.Sharing.{AreShared}
 use Rattle.swh_program.specs.declared.answer.Ending.{Ending}
 use Rattle.swh_program.specs.declared.answer.Ending.TheVariants as ending
 use Rattle.swh_program.proofs.LoadEndings.{first_apart, others_apart}
-use Rattle.swh_program.proofs.Fulls.{Had, MakesWithin, none_collides, AddsMade, had_after, adds_made}
+use Rattle.swh_program.proofs.Fulls.{Had, GivesWithin, none_collides, AddsMade, had_after, adds_made}
 use Rattle.swh_program.proofs.RoomInTurn.{IsNotFilled, HasRoomFor, within, of_job}
 use Rattle.swh_program.proofs.Shared.{all_shared, next_number}
 
@@ -83,7 +84,7 @@ memory_or_not ended apart = at (ending_of_all ended) refl
 
 -- Nothing stands against the loads of these jobs but their inputs.
 module _ (id_of : Kind → List ℕ → List ℕ) (of_jobs : Inputs) (told : of_jobs.tell) (before : List Event) (all : List Job) (objects : List MadeObject)
-    (has : HasAllMade id_of of_jobs.files of_jobs.folders all objects) (one : HasOneBody id_of (replay before).bodies objects) where
+    (has : HasAllGiven id_of of_jobs.files of_jobs.folders all objects) (one : HasOneBody id_of (replay before).bodies objects) where
   abbrev IsEnd : Job → End → Type 0
   IsEnd job end = IsExactEnd id_of of_jobs (replay before) job end
 
@@ -116,7 +117,7 @@ module _ (id_of : Kind → List ℕ → List ℕ) (of_jobs : Inputs) (told : of_
           has_more name body (inl held) = inl held
           has_more name body (inr makes) = inr (more (record { kind = name.kind; body = body }) makes.0, makes.1)
 
-      abbrev Within : (text : InputText) → found_at of_jobs.files of_jobs.folders job.input ≡ Some text → MakesWithin id_of objects text
+      abbrev Within : (text : InputText) → found_at of_jobs.files of_jobs.folders job.input ≡ Some text → GivesWithin id_of objects text
       Within = within id_of of_jobs told all objects has job among
 
       -- how its visit ends
@@ -126,7 +127,7 @@ module _ (id_of : Kind → List ℕ → List ℕ) (of_jobs : Inputs) (told : of_
           let full = t.2 in
           let making : StreamMeaning = record { objects = made full.objects; snapshot = snapshot } in
           let means : MeansSnapshot id_of (replay before).bodies t.0 snapshot =
-          record { making = making; means = full.means.meaning; one = wider making (Within t.0 t.1 making full.means.meaning); snapshot_is = refl } in
+          record { making = making; means = full.means.meaning; one = wider making (Within t.0 t.1 making.objects (meant_given id_of t.0 making full.means.meaning)); snapshot_is = refl } in
           inl (subst (λ (found : Option InputText). IsEndFor id_of (replay before).bodies found (Full snapshot)) (sym t.1) means)
       end_exact NotFound is = inl (subst (λ (found : Option InputText). IsEndFor id_of (replay before).bodies found NotFound) (sym (is told)) refl)
       end_exact (Failed (Broken bad)) is =

@@ -13,8 +13,10 @@ use Rattle.swh_model.specs.Archive.{Bodies}
 use Rattle.swh_model.specs.Meaning.{Made as MadeObject, StreamMeaning}
 use Rattle.swh_model.specs.Step.{IsHistory, replay}
 use Rattle.swh_fastload.specs.Input.{IsSameMaking}
-use Rattle.swh_inputs.specs.Input.{InputText, MeansInput}
+use Rattle.swh_inputs.specs.Input.{InputText}
+use Rattle.swh_inputs.specs.Streaming.{MayGiveInput}
 use Rattle.swh_inputs.proofs.OneInput.{one_making, unbroken}
+use Rattle.swh_inputs.proofs.Streamings.{given_among}
 use Rattle.swh_walk.proofs.Batches.{at_element}
 use Rattle.swh_loader.proofs.Room.{HasRoomLeft, room_at_entry}
 use Rattle.swh_loader.specs.declared.end.BadInput.TheVariants.{Broken, Collision, Read}
@@ -22,7 +24,7 @@ use Rattle.swh_loader.specs.declared.end.End.{End}
 use Rattle.swh_loader.specs.declared.end.End.TheVariants.{Full, NotFound, Failed}
 use Rattle.swh_program.specs.Seen.{FileAt}
 use Rattle.swh_program.specs.Answers.{TellsDisk, status_of, status_for, last_line_for, printed_by}
-use Rattle.swh_program.specs.Complete.{MeantJob, jobs_of_meant, full_lines, all_made, IsMeant, AreMeant, HasAllMade, HasBodyOrMakes, HasOneBody, HasRoomForLoads, AreQuiet}
+use Rattle.swh_program.specs.Complete.{MeantJob, jobs_of_meant, full_lines, all_made, IsMeant, AreMeant, HasAllGiven, HasBodyOrMakes, HasOneBody, HasRoomForLoads, AreQuiet}
 use Rattle.swh_program.specs.Exact.{line_for, lines_for, ending_of_ends, MeansCollision, IsEndFor, IsExactEnd, AreExactEnds, IsExact}
 use Rattle.swh_program.specs.Found.{found_at, paths_of}
 use Rattle.swh_program.specs.Jobs.{AreJobsAt}
@@ -57,7 +59,7 @@ of_map f P (x ∷ xs) are = (are.0, of_map f P xs are.1)
 -- a run of `load`
 module _ (g : Givens) (one_worker : g.workers ≡ 1) (desk_at : FileAt) (inputs : g.inputs.tell) (disks : g.disks_tell)
     (path : List ℕ) (before : List Event) (jobs : List Job) (objects : List MadeObject) (old new : Files) (archive : IsArchive g.id_of old before) (there : AreJobsAt desk_at path jobs)
-    (has : HasAllMade g.id_of g.inputs.files g.inputs.folders jobs objects) (one : HasOneBody g.id_of (replay before).bodies objects) (room : HasRoomForLoads g.id_of before jobs objects) where
+    (has : HasAllGiven g.id_of g.inputs.files g.inputs.folders jobs objects) (one : HasOneBody g.id_of (replay before).bodies objects) (room : HasRoomForLoads g.id_of before jobs objects) where
   abbrev Exactly : Answer → Type 0
   Exactly answer = IsExact g.id_of g.inputs (replay before) jobs answer
 
@@ -122,22 +124,23 @@ module _ (g : Givens) (one_worker : g.workers ≡ 1) (desk_at : FileAt) (inputs 
 
 -- Jobs whose inputs are there and mean something.
 module _ (id_of : Kind → List ℕ → List ℕ) (of_jobs : Inputs) where
-  this_making : (m : MeantJob) → IsMeant id_of of_jobs.files of_jobs.folders m → (text : InputText) (making : StreamMeaning) → found_at of_jobs.files of_jobs.folders m.job.input ≡ Some text → MeansInput id_of text making → IsSameMaking making m.making
-  this_making m meant text making is means =
+  this_given : (m : MeantJob) → IsMeant id_of of_jobs.files of_jobs.folders m → (text : InputText) (given : List MadeObject) → found_at of_jobs.files of_jobs.folders m.job.input ≡ Some text → MayGiveInput id_of text given
+      → (o : MadeObject) → Contains given o → Contains m.making.objects o
+  this_given m meant text given is may =
       let both : Some text ≡ Some meant.text = sym is ∙ meant.there in
       let same : text ≡ meant.text = cc in
-      one_making id_of meant.text making m.making (subst (λ (t : InputText). MeansInput id_of t making) same means) meant.means
+      given_among id_of meant.text given m.making (subst (λ (t : InputText). MayGiveInput id_of t given) same may) meant.means
 
-  -- what they make
-  pub meant_all_made : (meant : List MeantJob) → AreMeant id_of of_jobs.files of_jobs.folders meant → HasAllMade id_of of_jobs.files of_jobs.folders (jobs_of_meant meant) (all_made meant)
-  meant_all_made meant are = record { has = λ job text making among is means o made. has job text making o is means made (from_map (λ (m : MeantJob). m.job) meant job among) }
+  -- what they give is what they mean
+  pub meant_all_made : (meant : List MeantJob) → AreMeant id_of of_jobs.files of_jobs.folders meant → HasAllGiven id_of of_jobs.files of_jobs.folders (jobs_of_meant meant) (all_made meant)
+  meant_all_made meant are = record { has = λ job text given among is may o there. has job text given o is may there (from_map (λ (m : MeantJob). m.job) meant job among) }
     where
-      has : (job : Job) (text : InputText) (making : StreamMeaning) (o : MadeObject) → found_at of_jobs.files of_jobs.folders job.input ≡ Some text → MeansInput id_of text making → Contains making.objects o
+      has : (job : Job) (text : InputText) (given : List MadeObject) (o : MadeObject) → found_at of_jobs.files of_jobs.folders job.input ≡ Some text → MayGiveInput id_of text given → Contains given o
           → (m : MeantJob) × Contains meant m × (m.job ≡ job) → Contains (all_made meant) o
-      has job text making o is means made from =
+      has job text given o is may there from =
           let m = from.0 in
-          let same = this_making m (at_element (IsMeant id_of of_jobs.files of_jobs.folders) meant m are from.1) text making (subst (λ (j : Job). found_at of_jobs.files of_jobs.folders j.input ≡ Some text) (sym from.2) is) means in
-          flat_contains (λ (k : MeantJob). k.making.objects) meant m o from.1 ((same.objects o).0 made)
+          flat_contains (λ (k : MeantJob). k.making.objects) meant m o from.1
+          (this_given m (at_element (IsMeant id_of of_jobs.files of_jobs.folders) meant m are from.1) text given (subst (λ (j : Job). found_at of_jobs.files of_jobs.folders j.input ≡ Some text) (sym from.2) is) may o there)
 
   -- where none of their paths has failed, and no name has two bodies
   module _ (before : List Event) (all : List MeantJob) (one : HasOneBody id_of (replay before).bodies (all_made all)) where

@@ -1,4 +1,4 @@
--- Loads of one worker, one after the other, meet no file's end where there is room for what their inputs make.
+-- Loads of one worker, one after the other, meet no file's end where there is room for what their inputs may give.
 use Rattle.std.proofs.Common.{◌≡◌, ⊎_elim, ℕ, ◌+◌, ◌*◌, ◌≤◌, Some, None, Result, Ok, Err, List, [], ◌∷◌, ◌++◌, length, Contains, subst, arith}
 use Rattle.std.specs.List.{AllByRecursion}
 use Rattle.swh_base.specs.declared.kind.Kind.{Kind}
@@ -25,13 +25,13 @@ use Rattle.swh_loader.specs.Ending.{statuses_of}
 use Rattle.swh_loader.specs.declared.end.Loaded.{Loaded}
 use Rattle.swh_loader.proofs.Marks.{others, others_none, others_most, ended_most}
 use Rattle.swh_loader.proofs.Room.{HasRoomLeft, room_after, none_meets_end}
-use Rattle.swh_program.specs.Complete.{AreMade, HasAllMade}
+use Rattle.swh_program.specs.Complete.{AreMade, HasAllGiven}
 use Rattle.swh_program.specs.Found.{found_at}
 use Rattle.swh_program.specs.Inputs.{Inputs, Input, input_of, IsOfJob}
 use Rattle.swh_program.specs.InTurn.{MeetsEndNow, StopsNowFor, StopsVisitNow, IsOutcomeNow, IsLoadInTurn, AreLoadsInTurn}
 use Rattle.swh_program.specs.JobLoad.{attempt_for}
 use Rattle.swh_program.specs.Lines.{LoadedJob, outcomes}
-use Rattle.swh_program.proofs.Fulls.{MakesWithin, are_made}
+use Rattle.swh_program.proofs.Fulls.{GivesWithin, are_made}
 use Rattle.swh_program.proofs.Turns.{all_own, all_behind}
 
 -- It did not stop at a file's end.
@@ -45,11 +45,11 @@ HasRoomFor (Ok loaded) = Unit {0}
 HasRoomFor (Err fault) = IsNotFilled fault.why
 
 module _ (id_of : Kind → List ℕ → List ℕ) (of_jobs : Inputs) (told : of_jobs.tell) (all : List Job) (objects : List MadeObject)
-    (has : HasAllMade id_of of_jobs.files of_jobs.folders all objects) where
-  -- what the input of a job makes is among all that is made
+    (has : HasAllGiven id_of of_jobs.files of_jobs.folders all objects) where
+  -- what the input of a job may give is among all the objects
   module _ (job : Job) (among : Contains all job) where
-    pub within : (text : InputText) → found_at of_jobs.files of_jobs.folders job.input ≡ Some text → MakesWithin id_of objects text
-    within text there making means = has.has job text making among there means
+    pub within : (text : InputText) → found_at of_jobs.files of_jobs.folders job.input ≡ Some text → GivesWithin id_of objects text
+    within text there given may = has.has job text given among there may
 
     pub of_job : (entries : List Entry) → IsOfJob id_of of_jobs job entries → AreMade id_of objects entries
     of_job entries is = let t = is told in are_made id_of objects t.0 (within t.0 t.1) entries t.2

@@ -1,4 +1,4 @@
--- When jobs have to be full, and their lines; what their inputs make, and the room that they need.
+-- When jobs have to be full, and their lines; what their inputs give and mean, and the room that they need.
 use Rattle.std.specs.Prelude.{◌≡◌, ◌⊎◌, ℕ, ◌+◌, ◌≤◌, Some, List, length, Contains, map, flat_map, codes}
 use Rattle.std.specs.List.{AllByRecursion}
 use Rattle.swh_base.specs.declared.kind.Kind.{Kind}
@@ -14,6 +14,7 @@ use Rattle.swh_base.specs.Limits.{file_limit}
 use Rattle.swh_model.specs.Meaning.{Made, StreamMeaning}
 use Rattle.swh_base.specs.Snapshot.{snapshot_name}
 use Rattle.swh_inputs.specs.Input.{InputText, MeansInput}
+use Rattle.swh_inputs.specs.Streaming.{MayGiveInput}
 use Rattle.swh_walk.specs.Visiting.{next_visit}
 use Rattle.swh_loader.specs.Room.{ledger_growth, store_growth}
 use Rattle.swh_program.specs.Found.{found_at, paths_of}
@@ -64,16 +65,16 @@ module _ (id_of : Kind → List ℕ → List ℕ) where
   abbrev pub AreMade : List Made → List Entry → Type 0
   AreMade objects entries = AllByRecursion (λ e. MakesBody objects e.name e.body) entries
 
-  -- All that the inputs of these jobs make is among these objects.
-  pub record HasAllMade (files : FileAt) (folders : FolderAt) (jobs : List Job) (objects : List Made) : Type 0 where
-    pub has : (job : Job) (text : InputText) (making : StreamMeaning) → Contains jobs job → found_at files folders job.input ≡ Some text → MeansInput id_of text making
-        → (o : Made) → Contains making.objects o → Contains objects o
+  -- All that the inputs of these jobs may give before their reading stops is among these objects; and so is all that they mean.
+  pub record HasAllGiven (files : FileAt) (folders : FolderAt) (jobs : List Job) (objects : List Made) : Type 0 where
+    pub has : (job : Job) (text : InputText) (given : List Made) → Contains jobs job → found_at files folders job.input ≡ Some text → MayGiveInput id_of text given
+        → (o : Made) → Contains given o → Contains objects o
 
   -- No name has two bodies among those that are held and those that are made.
   pub record HasOneBody (bodies : Bodies) (objects : List Made) : Type 0 where
     pub one : (name : Name) (a b : List ℕ) → HasBodyOrMakes bodies objects name a → HasBodyOrMakes bodies objects name b → a ≡ b
 
-  -- After the history at entry both files have room for the most that loads of these jobs add, whose inputs make these
+  -- After the history at entry both files have room for the most that loads of these jobs add, whose inputs give these
   -- objects.
   pub record HasRoomForLoads (before : List Event) (jobs : List Job) (objects : List Made) : Type 0 where
     pub ledger : ledger_length before + ledger_growth (length jobs) objects ≤ file_limit

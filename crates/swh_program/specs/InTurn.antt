@@ -57,7 +57,8 @@ module _ (id_of : Kind → List ℕ → List ℕ) (input : Input) where
 
 -- The loads of jobs with these inputs.
 module _ (id_of : Kind → List ℕ → List ℕ) (of_jobs : Inputs) where
-  -- One job's load, from a history to the next: nothing else is added than its visit, with what its input makes.
+  -- One job's load, from a history to the next: nothing else is added than its visit, with what its input may
+  -- give before its reading stops.
   pub record IsLoadInTurn (l : LoadedJob) (before after : List Event) : Type 0 where
     pub by_loader : l.by ≡ loader
     pub behind : after ≡ before ++ l.own

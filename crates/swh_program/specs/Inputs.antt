@@ -7,7 +7,7 @@ use Rattle.swh_base.specs.declared.visit.VisitKind.{VisitKind}
 use Rattle.swh_jobs.specs.Job.{Job}
 use Rattle.swh_model.specs.Archive.{Bodies}
 use Rattle.swh_inputs.specs.Input.{InputText, BreaksInput, MayBreakInput}
-use Rattle.swh_loader.specs.Ending.{IsMadeBy, IsFull, Collided}
+use Rattle.swh_loader.specs.Ending.{IsGivenBy, IsFull, Collided}
 use Rattle.swh_loader.specs.declared.end.BadInput.TheVariants.{Broken, Collision, Read}
 use Rattle.swh_loader.specs.declared.end.End.{End}
 use Rattle.swh_loader.specs.declared.end.End.TheVariants.{Full, NotFound, Failed}
@@ -54,9 +54,9 @@ module _ (id_of : Kind → List ℕ → List ℕ) (input : Input) where
   abbrev pub OfText : (InputText → Type 0) → Type 0
   OfText P = input.tells → (text : InputText) × (input.found ≡ Some text) × P text
 
-  -- The input makes all of these entries.
+  -- The input may give all of these entries before its reading stops.
   abbrev pub IsOfInput : List Entry → Type 0
-  IsOfInput entries = OfText (λ text. AllByRecursion (IsMadeBy id_of text) entries)
+  IsOfInput entries = OfText (λ text. AllByRecursion (IsGivenBy id_of text) entries)
 
   -- What this end of a visit says of its input, where these bodies are held.
   abbrev pub IsInputEnd : Bodies → End → Type 0
@@ -66,6 +66,6 @@ module _ (id_of : Kind → List ℕ → List ℕ) (input : Input) where
   IsInputEnd bodies (Failed (Collision name)) = OfText (λ text. Collided id_of text bodies name)
   IsInputEnd bodies (Failed Read) = input.failed
 
--- The job's input makes all of these entries.
+-- The job's input may give all of these entries before its reading stops.
 abbrev pub IsOfJob : (Kind → List ℕ → List ℕ) → Inputs → Job → List Entry → Type 0
 IsOfJob id_of of_jobs job = IsOfInput id_of (input_of of_jobs job)

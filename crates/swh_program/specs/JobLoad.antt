@@ -96,7 +96,7 @@ module _ (id_of : Kind → List ℕ → List ℕ) (input : Input) where
   IsJobOutcome a before after own (Err fault) = StopsJob a before after own fault
 
 -- The load of a job with one of these inputs, by the histories before and after the run: its own events add nothing but
--- what its input makes, and its line says how its visit ended.
+-- what its input may give before its reading stops, and its line says how its visit ended.
 pub record IsJobLoad (id_of : Kind → List ℕ → List ℕ) (of_jobs : Inputs) (before after : List Event) (l : LoadedJob) : Type 0 where
   pub nothing_else : AreOwnEvents (IsOfJob id_of of_jobs l.job) (attempt_for l) (visit_of l.outcome) l.own
   pub line : IsJobOutcome id_of (input_of of_jobs l.job) (attempt_for l) before after l.own l.outcome

@@ -12,7 +12,7 @@ use Rattle.swh_program.specs.Seen.{Span, DepotFailed, DeskFailed, ClockFailed, S
 use Rattle.swh_program.specs.Answers.{TellsDisk}
 use Rattle.swh_program.specs.Archives.{old_archive, new_archive, SameElsewhere}
 use Rattle.swh_program.specs.Causes.{IsFullLine, HasShortLine, IsBadInput}
-use Rattle.swh_program.specs.Complete.{MeantJob, jobs_of_meant, full_lines, all_made, AreMeant, HasAllMade, HasOneBody, HasRoomForLoads, AreQuiet}
+use Rattle.swh_program.specs.Complete.{MeantJob, jobs_of_meant, full_lines, all_made, AreMeant, HasAllGiven, HasOneBody, HasRoomForLoads, AreQuiet}
 use Rattle.swh_program.specs.Exact.{IsExact}
 use Rattle.swh_program.specs.Found.{found_at}
 use Rattle.swh_program.specs.Inputs.{Inputs, inputs}
@@ -97,10 +97,10 @@ pub record DoesLoad (dir path : List ℕ) (s : Span) (status : ℕ) : Type 0 whe
       → IsBadInput s.id_of (replay before).bodies (found_at s.old.origins.file_at s.old.origins.folder_at job.input) → ComesTo 1 status
   -- Each job's line is the one that the archive and its input call for, or tells a read that failed, which it does only
   -- where a path of the job has failed; unless memory runs out, where no name has two bodies, the files have room at entry
-  -- for what the inputs make, and neither a disk nor the desk nor the clock failed.
+  -- for what the inputs may give before their reading stops, and neither a disk nor the desk nor the clock failed.
   pub exact_lines : (before : List Event) (jobs : List Job) (objects : List Made) → s.told.depot → s.told.origins
       → IsArchive s.id_of (old_archive dir s) before → AreJobsAt s.old.desk.file_at path jobs
-      → HasAllMade s.id_of s.old.origins.file_at s.old.origins.folder_at jobs objects → HasOneBody s.id_of (replay before).bodies objects
+      → HasAllGiven s.id_of s.old.origins.file_at s.old.origins.folder_at jobs objects → HasOneBody s.id_of (replay before).bodies objects
       → HasRoomForLoads s.id_of before jobs objects
       → (DepotFailed s → ⊥) → (DeskFailed s → ⊥) → (ClockFailed s → ⊥)
       → Ends (IsExact s.id_of (inputs_of s) (replay before) jobs) s status

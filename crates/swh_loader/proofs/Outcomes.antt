@@ -1,0 +1,100 @@
+-- What is said of a load of an input, by what is said of the walk beneath it.
+use Rattle.std.proofs.Common.{◌≡◌, ◌≤◌, inl, inr, ℕ, Option, Some, Result, Ok, Err, List, [], ◌∷◌, ◌++◌, refl, sym, ◌∙◌, subst, le_refl}
+use Rattle.std.specs.Prelude.{IfOk, IfErr}
+use Rattle.std.proofs.lemmas.List.{append-nil, append_cancel_left}
+use Rattle.swh_base.specs.declared.kind.Kind.{Kind}
+use Rattle.swh_base.specs.declared.entry.Entry.{Entry}
+use Rattle.swh_base.specs.Visit.{Statuses}
+use Rattle.swh_base.specs.declared.visit.VisitKind.TheVariants as kind
+use Rattle.swh_outside.specs.Views.{Disks}
+use Rattle.swh_outside.specs.declared.fault.Opened.TheVariants.{Found as Here}
+use Rattle.swh_model.specs.Archive.{Bodies}
+use Rattle.swh_model.specs.declared.event.Event.{Event}
+use Rattle.swh_keeper.specs.Calls.{MakesCallsOf}
+use Rattle.swh_keeper.specs.Kept.{Kept}
+use Rattle.swh_walk.specs.declared.end.End as walk
+use Rattle.swh_walk.specs.declared.end.Loaded.{Loaded}
+use Rattle.swh_walk.specs.declared.end.LoadFault.{LoadFault}
+use Rattle.swh_walk.specs.declared.input.Input.{Input as Given}
+use Rattle.swh_walk.specs.declared.stop.Stop.TheVariants.{Memory}
+use Rattle.swh_walk.specs.Loading as walking
+use Rattle.swh_walk.specs.Owning.{Attempt, attempt}
+use Rattle.swh_walk.specs.Visiting.{next_visit}
+use Rattle.swh_alone.specs.Loading.{AddsVisit, AreOfVisit, EndsVisit, IsHeldBack, MakesVisitCalls, NoCountFell, Stops}
+use Rattle.swh_alone.proofs.Allowing.{adds_visit, visit_calls, stops_as}
+use Rattle.swh_alone.proofs.Calls.{same_calls}
+use Rattle.swh_inputs.specs.Opening.{kind_of, opening_of}
+use Rattle.swh_inputs.specs.Parts.{Parts, IsSameInput}
+use Rattle.swh_inputs.specs.Reading.{IsRead}
+use Rattle.swh_inputs.specs.declared.bad.InputFault.{InputFault}
+use Rattle.swh_inputs.specs.declared.input.Input.{Input}
+use Rattle.swh_inputs.specs.declared.input.Input.TheVariants.{Fast}
+use Rattle.swh_loader.specs.declared.end.Loaded.{Loaded as Reported}
+use Rattle.swh_loader.specs.Ending.{IsJobEnd, end_for, held_bodies, outcome_for}
+use Rattle.swh_loader.specs.Leaving.{AreAllowed, IsLoadOf}
+use Rattle.swh_loader.specs.Report.{detail_limit, end_room}
+use Rattle.swh_loader.proofs.Leaves.{allowed, as_it_was, job_end, job_short, same_input, same_statuses}
+
+module _ {S F D : Type 0} (id : Kind → List ℕ → List ℕ) (p : Parts S F) (disks : Disks D) (a : Attempt) where
+  -- `P` holds of what the walk may have sent, and `E` of the end of its visit.
+  module _ (i now : Input S F) (old new : Kept D) (P : List Entry → Type 0) (E : walk.End InputFault → Type 0)
+      (more : (entries : List Entry) → P entries → AreAllowed id p i entries)
+      (ends : (end : walk.End InputFault) → E end → IsJobEnd id p (held_bodies new) i now (end_for end)) where
+    pub load_of : (result : Result (Loaded InputFault) LoadFault) → IfOk result (λ loaded. EndsVisit a old new loaded.visit (walking.statuses_of loaded.end)) → IfOk result (λ loaded. E loaded.end)
+        → AddsVisit P a old.history new.history → (disks.tells → MakesVisitCalls id disks P a old new) → ((n : ℕ) → old.wounded ≡ Some n → IsHeldBack old new result)
+        → IfErr result (Stops id disks P a old new) → NoCountFell disks old new → IsSameInput p i now → IsLoadOf id p disks a i now old new (outcome_for result)
+    load_of (Ok loaded) ended end adds calls wounded stops later same = record {
+      ended = subst (λ (later : Statuses). EndsVisit a old new loaded.visit later) (same_statuses loaded.end) ended;
+      end = ends loaded.end end;
+      adds = adds_visit P (AreAllowed id p i) a more old.history new.history adds;
+      calls = λ told. visit_calls P (AreAllowed id p i) a more id disks old new (calls told);
+      wounded = wounded;
+      stops = tt;
+      later = later;
+      same = same;
+    }
+    load_of (Err fault) ended end adds calls wounded stops later same = record {
+      ended = tt;
+      end = tt;
+      adds = adds_visit P (AreAllowed id p i) a more old.history new.history adds;
+      calls = λ told. visit_calls P (AreAllowed id p i) a more id disks old new (calls told);
+      wounded = wounded;
+      stops = stops_as P (AreAllowed id p i) a more id disks old new fault stops;
+      later = later;
+      same = same;
+    }
+
+  -- There was no memory to begin with.
+  pub none_begun : (i : Input S F) (k : Kept D) → IsLoadOf id p disks a i i k k (Err (record { visit = 0; why = Memory }))
+  none_begun i k = record {
+    ended = tt;
+    end = tt;
+    adds = record { more = []; behind = sym (append-nil k.history); are = tt };
+    calls = λ told more behind.
+        subst (λ (xs : List Event). MakesCallsOf id disks.file (λ next. AreOfVisit (AreAllowed id p i) a (next_visit k.history a.origin) (xs ++ next ∷ [])) xs k k)
+        (append_cancel_left k.history [] more (append-nil k.history ∙ behind))
+        (same_calls id disks.file (λ next. AreOfVisit (AreAllowed id p i) a (next_visit k.history a.origin) (next ∷ [])) k k refl);
+    wounded = λ n some. (refl, record { same = refl; cause = inr refl });
+    stops = inl (record { no_visit = refl; same = refl; stops = refl });
+    later = record { store = le_refl (disks.faults k.store); ledger = le_refl (disks.faults k.ledger) };
+    same = as_it_was p i;
+  }
+
+-- A load of an input that is read at once, by what reading it answers.
+module _ {S F D N E : Type 0} (id : Kind → List ℕ → List ℕ) (p : Parts S F) (Reads : Input S F → Result (Given N InputFault) E → Input S F → Type 0)
+    (read : (i now : Input S F) (x : Given N InputFault) → Reads i (Ok x) now → IsRead id p i now x) (whole : (i now : Input S F) (x : Given N InputFault) → Reads i (Ok x) now → walking.IsWhole id x)
+    (same : (i now : Input S F) (r : Result (Given N InputFault) E) → Reads i r now → IsSameInput p i now) (disks : Disks D) (a : Attempt) (i now : Input S F) (old new : Kept D) where
+  pub once_load : (result : Result (Loaded InputFault) LoadFault) → IfOk result (λ loaded. EndsVisit a old new loaded.visit (walking.statuses_of loaded.end)) → IfOk result (λ loaded. walking.IsEndAt Reads (opening_of i) (held_bodies new) i now loaded.end)
+      → AddsVisit (walking.AreAllowed Reads (opening_of i) i) a old.history new.history → (disks.tells → MakesVisitCalls id disks (walking.AreAllowed Reads (opening_of i) i) a old new) → ((n : ℕ) → old.wounded ≡ Some n → IsHeldBack old new result)
+      → IfErr result (Stops id disks (walking.AreAllowed Reads (opening_of i) i) a old new) → NoCountFell disks old new → walking.IsSameOrRead Reads (opening_of i) i now → IsLoadOf id p disks a i now old new (outcome_for result)
+  once_load result ended end adds calls wounded stops later was =
+      load_of id p disks a i now old new (walking.AreAllowed Reads (opening_of i) i) (walking.IsEndAt Reads (opening_of i) (held_bodies new) i now)
+      (allowed id p Reads read whole same i) (job_end id p Reads read whole same (held_bodies new) i now) result ended end adds calls wounded stops later (same_input id p Reads read whole same i now was)
+
+-- The report of a load has a bound.
+pub outcome_short : {S F : Type 0} (id : Kind → List ℕ → List ℕ) (p : Parts S F) (bodies : Bodies) (i now : Input S F) (outcome : Result Reported LoadFault) → IfOk outcome (λ loaded. IsJobEnd id p bodies i now loaded.end) → IfOk outcome (λ loaded. end_room loaded.end ≤ detail_limit (kind_of i))
+outcome_short id p bodies i now (Ok loaded) end = job_short id p bodies i now loaded.end end
+outcome_short id p bodies i now (Err fault) end = tt
+
+pub stream_short : {S F : Type 0} (id : Kind → List ℕ → List ℕ) (p : Parts S F) (bodies : Bodies) (s back : S) (head : Option (List ℕ)) (outcome : Result Reported LoadFault) → IfOk outcome (λ loaded. IsJobEnd id p bodies (Fast (Here s) head) (Fast (Here back) head) loaded.end) → IfOk outcome (λ loaded. end_room loaded.end ≤ detail_limit kind.Fast)
+stream_short id p bodies s back head outcome end = outcome_short id p bodies (Fast (Here s) head) (Fast (Here back) head) outcome end
