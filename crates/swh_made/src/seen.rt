@@ -19,12 +19,11 @@ ghost use Rattle.std.specs.Prelude.{
 ghost use Rattle.std.specs.Map.{lookup};
 ghost use Rattle.std.specs.BTreeMap.{is_at};
 ghost use Rattle.std.specs.Ordering.{nat_cmp};
-ghost use Rattle.std.specs.Cmp.Lexicographic.{slice_cmp};
 ghost use Rattle.swh_model.specs.Meaning.{Made};
 ghost use Rattle.swh_made.specs.Making.{made_from, object_of};
-ghost use Rattle.swh_made.specs.Seen.{kept_made, IsNoted, SamePlaces, Adds};
+ghost use Rattle.swh_made.specs.Seen.{digest_of, kept_made, IsNoted, SamePlaces, Adds};
 
-use crate::places::{Places, add_other, lead, others_of};
+use crate::places::{Places, add_other, digest_of, lead, others_of};
 use std::alloc::Global;
 use std::marker::{Model, PhantomData};
 use swh_base::{Kind, Memory, Name, Namer, Shared};
@@ -37,7 +36,7 @@ pub struct Kept {
     pub body: Shared<u8>,
 }
 
-/// The objects that were made, in the order in which they were added, and at which of them each id stands.
+/// The objects that were made, in the order in which they were added, and at which of them those of each digest stand.
 #[derive(Drop)]
 pub struct Seen<N: Namer> {
     made: Vec<Kept>,
@@ -98,8 +97,8 @@ fn stands_among(made: &[Kept], places: &[usize], kind: Kind, body: &[u8]) -> boo
     false
 }
 
-/// Looks for the object of this name and body at the places of its id; where it stands at none of them, the id gets this
-/// place.
+/// Looks for the object of this name and body at the places of its id's digest; where it stands at none of them, the digest
+/// gets this place.
 fn note(
     alloc: Global,
     places: &mut Places,
@@ -108,21 +107,22 @@ fn note(
     body: &[u8],
     place: usize,
 ) -> Result<Novelty, Memory>
-    ensures noted { IfOk result (IsNoted (map kept_made made.now) name.now.id place (object_of name.now.kind body.now)
+    ensures noted { IfOk result (IsNoted (map kept_made made.now) (digest_of name.now.id) place (object_of name.now.kind body.now)
         places.old places.new) }
     ensures err { OnErr result (SamePlaces places.old places.new) }
 {
-    let Some(first) = lead(&mut places.first, &name.id, place)? else {
+    let digest = digest_of(&name.id);
+    let Some(first) = lead(&mut places.first, digest, place)? else {
         return Ok(Novelty::New);
     };
     if stands_at(made, first, name.kind, body) {
         return Ok(Novelty::Known);
     }
-    let others = others_of(&places.further, &name.id);
+    let others = others_of(&places.further, digest);
     if stands_among(made, others, name.kind, body) {
         return Ok(Novelty::Known);
     }
-    add_other(alloc, &mut places.further, &name.id, place)?;
+    add_other(alloc, &mut places.further, digest, place)?;
     Ok(Novelty::New)
 }
 

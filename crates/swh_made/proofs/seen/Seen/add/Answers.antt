@@ -5,7 +5,7 @@ use Rattle.swh_base.specs.declared.name.Name.{Name}
 use Rattle.swh_model.specs.Meaning.{Made}
 use Rattle.swh_made.specs.declared.seen.Kept.{Kept}
 use Rattle.swh_made.specs.Making.{made_from, object_of}
-use Rattle.swh_made.specs.Seen.{kept_made, places_at, GetsPlace, IsIndexed}
+use Rattle.swh_made.specs.Seen.{digest_of, kept_made, places_at, GetsPlace, IsIndexed}
 use Rattle.swh_made.proofs.Seens.{indexed_same, indexed_more, absent, same_object, noted_known, noted_new}
 use Rattle.swh_made.proofs.seen.Seen.add.Goals as goal
 
@@ -18,14 +18,14 @@ invariant_of-self-in_err-note g c =
 pub invariant_of-self-in-Known : goal.invariant_of-self-in-Known
 invariant_of-self-in-Known g c =
     let inside = c.self.inside in
-    let same = noted_known (map kept_made c.as_slice-made.result.now) c.name-name.result.id c.len-place.result (object_of c.name-name.result.kind c.body-2.result.now) inside.places c.note.new.places _ c.in-Known.is c.in_ok-note.ensures.noted in
+    let same = noted_known (map kept_made c.as_slice-made.result.now) (digest_of c.name-name.result.id) c.len-place.result (object_of c.name-name.result.kind c.body-2.result.now) inside.places c.note.new.places _ c.in-Known.is c.in_ok-note.ensures.noted in
     subst (λ (t : List Kept). IsIndexed g.N.Namer.id_of (map kept_made t) c.note.new.places) (sym c.in_ok-reserve.ensures.items)
     (indexed_same g.N.Namer.id_of (map kept_made inside.made.items) inside.places c.note.new.places same.0 c.self.invariant)
 
 pub invariant_of-self-in-Known-2 : goal.invariant_of-self-in-Known-2
 invariant_of-self-in-Known-2 g c =
     let inside = c.self.inside in
-    let same = noted_known (map kept_made c.as_slice-made.result.now) c.name-name.result.id c.len-place.result (object_of c.name-name.result.kind c.body-2.result.now) inside.places c.note.new.places _ c.in-Known.is c.in_ok-note.ensures.noted in
+    let same = noted_known (map kept_made c.as_slice-made.result.now) (digest_of c.name-name.result.id) c.len-place.result (object_of c.name-name.result.kind c.body-2.result.now) inside.places c.note.new.places _ c.in-Known.is c.in_ok-note.ensures.noted in
     subst (λ (t : List Kept). IsIndexed g.N.Namer.id_of (map kept_made t) c.note.new.places) (sym c.in_ok-reserve.ensures.items)
     (indexed_same g.N.Namer.id_of (map kept_made inside.made.items) inside.places c.note.new.places same.0 c.self.invariant)
 
@@ -37,10 +37,10 @@ invariant_of-self-in-New g c =
     let id : c.name-name.result.id ≡ g.N.Namer.id_of n.kind n.body = ap (λ (n : Name). n.id) c.name-name.ensures.name ∙ c.name-name.ensures.good.named in
     let mapped = length-map inside.made.items kept_made in
     let place : c.len-place.result ≡ length old = omega (arith, c.len-place.ensures, c.in_ok-reserve.ensures.len, inside.made.ok.0, mapped) in
-    let noted = noted_new (map kept_made c.as_slice-made.result.now) c.name-name.result.id c.len-place.result (object_of c.name-name.result.kind c.body-2.result.now) inside.places c.note.new.places _ c.in-New.is c.in_ok-note.ensures.noted in
-    let gets : GetsPlace (g.N.Namer.id_of n.kind n.body) (length old) inside.places c.note.new.places =
-    subst (λ (i : List ℕ). GetsPlace i (length old) inside.places c.note.new.places) id
-    (subst (λ (k : ℕ). GetsPlace c.name-name.result.id k inside.places c.note.new.places) place noted.0) in
+    let noted = noted_new (map kept_made c.as_slice-made.result.now) (digest_of c.name-name.result.id) c.len-place.result (object_of c.name-name.result.kind c.body-2.result.now) inside.places c.note.new.places _ c.in-New.is c.in_ok-note.ensures.noted in
+    let gets : GetsPlace (digest_of (g.N.Namer.id_of n.kind n.body)) (length old) inside.places c.note.new.places =
+    subst (λ (i : List ℕ). GetsPlace (digest_of i) (length old) inside.places c.note.new.places) id
+    (subst (λ (k : ℕ). GetsPlace (digest_of c.name-name.result.id) k inside.places c.note.new.places) place noted.0) in
     let kept : object_of c.name-name.result.kind c.in_ok-body.body ≡ n =
     same_object c.name-name.result.kind n.kind c.in_ok-body.body n.body (ap (λ (n : Name). n.kind) c.name-name.ensures.name) (c.in_ok-body.ensures ∙ ap (λ (e : Entry). e.body) c.entry.ensures.entry) in
     let added : map kept_made c.push_reserved.new.self.items ≡ old ++ n ∷ [] =
@@ -64,7 +64,7 @@ returns-in-New-clause-ok g c =
     ap (map kept_made) c.push_reserved.ensures.items ∙ map-append kept_made c.reserve.new.self.items _
     ∙ ap (λ (ms : List Made). ms ++ object_of c.name-name.result.kind c.in_ok-body.body ∷ []) (ap (map kept_made) c.in_ok-reserve.ensures.items)
     ∙ ap (λ (m : Made). old ++ m ∷ []) kept in
-    let noted = noted_new (map kept_made c.as_slice-made.result.now) c.name-name.result.id c.len-place.result (object_of c.name-name.result.kind c.body-2.result.now) inside.places c.note.new.places _ c.in-New.is c.in_ok-note.ensures.noted in
+    let noted = noted_new (map kept_made c.as_slice-made.result.now) (digest_of c.name-name.result.id) c.len-place.result (object_of c.name-name.result.kind c.body-2.result.now) inside.places c.note.new.places _ c.in-New.is c.in_ok-note.ensures.noted in
     let fresh = absent g.N.Namer.id_of old inside.places n c.self.invariant
-    (λ k h e. noted.1 k (subst (λ (i : List ℕ). Contains (places_at inside.places i) k) (sym id) h) (ap (λ (t : List Kept). slice_get (map kept_made t) k) (c.as_slice-made.ensures.value ∙ c.in_ok-reserve.ensures.items) ∙ e ∙ ap Some (sym asked))) in
+    (λ k h e. noted.1 k (subst (λ (i : List ℕ). Contains (places_at inside.places (digest_of i)) k) (sym id) h) (ap (λ (t : List Kept). slice_get (map kept_made t) k) (c.as_slice-made.ensures.value ∙ c.in_ok-reserve.ensures.items) ∙ e ∙ ap Some (sym asked))) in
     (λ h. fresh (subst (λ (t : List Made). Contains t n) (sym c.self.view_is) h), added ∙ ap (λ (t : List Made). t ++ n ∷ []) c.self.view_is)
