@@ -77,7 +77,7 @@ module _ {S F N : Type 0} (id : Kind → List ℕ → List ℕ) (p : Parts S F) 
 
   -- The source is back.
   module _ (now : StreamState) (back : S) (faults : p.sources.faults back ≡ now.standing.place.faults) where
-    pub stream_end : (bodies : Bodies) (end : walk.End InputFault) → walking.IsEndAt Gives Found bodies i now end → IsJobEnd id p bodies (input s) (input back) (end_for end)
+    pub stream_end : (bodies : Bodies) (end : walk.End InputFault) → walking.IsGivenEndAt Gives Found bodies i now end → IsJobEnd id p bodies (input s) (input back) (end_for end)
     stream_end bodies (Full snapshot) h = λ told. record {
       objects = h.0;
       means = record { meaning = means_all id p.sources.tells head (p.sources.left s) (p.sources.faults s) path Gives on i h.0 snapshot now begins h.1 told; good = whole_good id h.0 (good h.0 now (inr (snapshot, h.1))) };
@@ -85,9 +85,9 @@ module _ {S F N : Type 0} (id : Kind → List ℕ → List ℕ) (p : Parts S F) 
     }
     stream_end bodies (Met name) h = λ told. record { objects = h.0; may = may_objects h.0 now h.1 told; collision = h.2 }
     stream_end bodies (Bad (fault.Bad bad)) h =
-        let why = broke_so id p.sources.tells head (p.sources.left s) (p.sources.faults s) path Gives on i bad now begins h in
+        let why = broke_so id p.sources.tells head (p.sources.left s) (p.sources.faults s) path Gives on i bad now begins h.broke in
         record { may = why.0; breaks = why.1 }
-    stream_end bodies (Bad fault.ReadFault) h = subst (Rose (p.sources.faults s)) (sym faults) (failed_so id p.sources.tells head (p.sources.left s) (p.sources.faults s) path Gives on i now begins h)
+    stream_end bodies (Bad fault.ReadFault) h = subst (Rose (p.sources.faults s)) (sym faults) (failed_so id p.sources.tells head (p.sources.left s) (p.sources.faults s) path Gives on i now begins h.broke)
     stream_end bodies NotFound h = absurd h
     stream_end bodies Unread h = absurd h
 
@@ -114,9 +114,9 @@ module _ {S F N : Type 0} (id : Kind → List ℕ → List ℕ) (p : Parts S F) 
 
       -- All that is said of the load.
       pub stream_load : {D : Type 0} (disks : Disks D) (a : Attempt) (old new : Kept D) (name other : ℕ) → path ≡ name ∷ p.sources.path s → other ∷ p.sources.path back ≡ now.standing.place.path → (result : Result (Loaded InputFault) LoadFault)
-          → IfOk result (λ loaded. EndsVisit a old new loaded.visit (statuses_of loaded.end)) → IfOk result (λ loaded. walking.IsEndAt Gives Found (held_bodies new) i now loaded.end)
+          → IfOk result (λ loaded. EndsVisit a old new loaded.visit (statuses_of loaded.end)) → IfOk result (λ loaded. walking.IsGivenEndAt Gives Found (held_bodies new) i now loaded.end)
           → AddsVisit (walking.AreAllowed Gives Found i) a old.history new.history → (disks.tells → MakesVisitCalls id disks (walking.AreAllowed Gives Found i) a old new) → ((n : ℕ) → old.wounded ≡ Some n → IsHeldBack old new result)
           → IfErr result (Stops id disks (walking.AreAllowed Gives Found i) a old new) → NoCountFell disks old new → walking.IsSameOrReadOn Gives Found i now → IsLoadOf id p disks a (input s) (input back) old new (outcome_for result)
       stream_load disks a old new name other begun ended_at result ended end adds calls wounded stops later read =
-          load_of id p disks a (input s) (input back) old new (walking.AreAllowed Gives Found i) (walking.IsEndAt Gives Found (held_bodies new) i now)
+          load_of id p disks a (input s) (input back) old new (walking.AreAllowed Gives Found i) (walking.IsGivenEndAt Gives Found (held_bodies new) i now)
           stream_allowed (stream_end (held_bodies new)) result ended end adds calls wounded stops later (stream_same name other begun ended_at read)
