@@ -282,3 +282,38 @@ fn the_same_ever_after(rt: HostRuntime) -> Result<(), Fail> {
     }
     Ok(())
 }
+
+/// A stream, the size of its pieces, and how many bytes are taken of it beyond each of its commands.
+type Ahead = (&'static [u8], usize, &'static [u64]);
+
+const AHEAD: &[Ahead] = &[
+    (b"blob\ndata 1\nx\nblob\ndata 1\ny\n", 65_536, &[14, 0]),
+    (b"blob\ndata 1\nx\nblob\ndata 1\ny\n", 3, &[1, 0]),
+    (b"blob\ndata 1\nx\nblob\ndata 1\ny\n", 1, &[0, 0]),
+    // The line behind a commit is looked at, and comments before it are skipped.
+    (
+        b"commit n\ncommitter A <a> 1 +0000\ndata 0\n#c\nreset m\nreset o\n",
+        1,
+        &[8, 8, 0],
+    ),
+    (
+        b"commit n\ncommitter A <a> 1 +0000\ndata 0\n#c\nreset m\nreset o\n",
+        65_536,
+        &[16, 8, 0],
+    ),
+];
+
+/// What is held beyond a command is what the source gave and no command has.
+#[test]
+fn bytes_ahead(rt: HostRuntime) -> Result<(), Fail> {
+    let alloc = rt.alloc();
+    for (number, (bytes, piece, ahead)) in AHEAD.iter().enumerate() {
+        let mut reader = reader_of(alloc, Vec::from_slice(alloc, bytes)?, *piece, &[])?;
+        for (place, held) in ahead.iter().enumerate() {
+            let found = matches!(reader.next_command(), Ok(Some(_)));
+            assert!(rt; found, "row {number}, command {place}");
+            assert_eq!(rt; reader.held(), *held, "row {number}, command {place}");
+        }
+    }
+    Ok(())
+}

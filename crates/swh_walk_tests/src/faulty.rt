@@ -1,0 +1,159 @@
+// What is held of an input that turns out to be bad behind some parts.
+ghost use Rattle.std.specs.Prelude.{◌≡◌};
+
+use crate::desk::{Desk, Second};
+use crate::walks::{content_of, objects_in};
+use std::alloc::{AllocError, Global};
+use std::collections::VecDeque;
+use std::test::Fail;
+use swh_base::{ByteNamer, Memory, Url, VisitKind};
+use swh_fixtures::{Archive, URL, disk, kept};
+use swh_keeper::{Keeper, OpenWhy};
+use swh_memory::{MemoryDisk, Room};
+use swh_object::Object;
+use swh_outside::OpenGate;
+use swh_place::Place;
+use swh_plan::Plan;
+use swh_walk::{End, Job, Next, Opening, ReadsParts, Turn, Worker, load_parts};
+
+// Parts that come in their order, and then a fault.
+type Parts = VecDeque<Vec<Object<ByteNamer>>>;
+
+// The way to read them.
+#[derive(Clone, Copy, Debug)]
+struct Faulty;
+
+impl ReadsParts<Parts, Next<ByteNamer, ()>> for Faulty {
+    ghost use Rattle.std.specs.Prelude.{length};
+    ghost use Rattle.swh_walk_tests.specs.Faulty.{NeverEnds};
+
+    ghost takes = { λ r i. Unit {0} };
+
+    ghost gives = { λ r i x now. NeverEnds x };
+
+    ghost left = { λ r i. length i.items };
+
+    fn next(&self, parts: &mut Parts) -> Result<Next<ByteNamer, ()>, Memory> {
+        match parts.pop_front() {
+            Some(objects) => Ok(Next::Part(objects)),
+            None => Ok(Next::Bad(())),
+        }
+    }
+}
+
+// How many bytes the first body has, and how many objects are held of it and of the two that come behind it.
+#[derive(Clone, Copy)]
+struct Case {
+    first: usize,
+    sent: usize,
+}
+
+const CASES: &[Case] = &[
+    // Nothing is full, so nothing is sent.
+    Case { first: 1, sent: 0 },
+    // With one more the batch is full.
+    Case {
+        first: 8_388_608,
+        sent: 2,
+    },
+    // The batch is full of one.
+    Case {
+        first: 8_388_609,
+        sent: 1,
+    },
+];
+
+// A part of one content.
+fn part(alloc: Global, body: &[u8]) -> Result<Vec<Object<ByteNamer>>, AllocError> {
+    let mut objects = Vec::with_capacity(alloc, 1)?;
+    objects.push(content_of(alloc, body.to_vec(alloc)?)?)?;
+    Ok(objects)
+}
+
+// A body of this many zero bytes, and two behind it, each in a part of its own.
+fn parts_of(alloc: Global, bytes: usize) -> Result<Parts, AllocError> {
+    let mut parts = Vec::with_capacity(alloc, 3)?;
+    let mut first = Vec::with_capacity(alloc, 1)?;
+    first.push(content_of(alloc, Vec::from_elem(alloc, 0, bytes)?)?)?;
+    parts.push(first)?;
+    parts.push(part(alloc, b"ab")?)?;
+    parts.push(part(alloc, b"cd")?)?;
+    Ok(VecDeque::from_vec(parts))
+}
+
+// Says whether a load of them is told to be bad.
+fn is_bad<S, P: Place<Plan<ByteNamer>, S>>(
+    alloc: Global,
+    place: &P,
+    desk: &mut S,
+    origin: &Url,
+    parts: Parts,
+) -> bool
+    requires fits { P.fits place.now }
+    requires number { ((P.words place.now).known desk.old).number ≡ 2 }
+{
+    let worker = Worker {
+        by: 2,
+        gate: &OpenGate,
+        number: 0,
+    };
+    let turn = Turn {
+        worker: &worker,
+        job: 0,
+    };
+    let job = Job {
+        origin,
+        kind: VisitKind::Fast,
+        date: 1_000_000_000,
+        opening: Opening::Found,
+        read: Faulty,
+    };
+    let mut parts = parts;
+    match load_parts(alloc, place, desk, &turn, &job, &mut parts) {
+        Ok(loaded) => loaded.end == End::Bad(()),
+        Err(_) => false,
+    }
+}
+
+// A store's room for a full batch with a body more.
+const STORE_ROOM: Room = Room {
+    bytes: 16_777_216,
+    calls: 256,
+};
+
+// An archive of no event whose store has that room. The archives that other tests share have room for 4,096 bytes.
+fn roomy_archive(alloc: Global) -> Result<Archive<ByteNamer>, OpenWhy> {
+    let store = MemoryDisk::new(alloc, b"", STORE_ROOM, Vec::new(alloc))?;
+    let ledger = disk(alloc, b"", &[])?;
+    kept(Keeper::make(alloc, ByteNamer, store, ledger))
+}
+
+// Says whether a case comes out, over an archive of its own.
+fn comes_out(alloc: Global, case: Case) -> Result<bool, AllocError> {
+    let parts = parts_of(alloc, case.first)?;
+    let Ok(origin) = Url::new(alloc, URL) else {
+        return Ok(false);
+    };
+    let Ok(keeper) = roomy_archive(alloc) else {
+        return Ok(false);
+    };
+    let others = VecDeque::from_vec(Vec::new(alloc));
+    let mut desk = Desk { keeper, others };
+    let bad = is_bad::<Desk, Second>(alloc, &Second, &mut desk, &origin, parts);
+    let Desk {
+        keeper,
+        others: _others,
+    } = desk;
+    let sent = objects_in(keeper.history());
+    let (_store, _ledger) = keeper.close();
+    Ok(bad && sent == case.sent)
+}
+
+#[test]
+fn full_batches_are_sent_while_an_input_is_read(rt: HostRuntime) -> Result<(), Fail> {
+    let alloc = rt.alloc();
+    for case in CASES {
+        assert!(rt; comes_out(alloc, *case)?);
+    }
+    Ok(())
+}
