@@ -2,3 +2,4 @@ pub mod IndexLemmas
 pub mod AddingLemmas
 pub mod FirstPlaces
 pub mod Fronts
+pub mod MarkLemmas

@@ -1,5 +1,6 @@
 -- Entries in memory, in the order of their adding, and the place of each by its name's key.
-use Rattle.std.specs.Prelude.{◌≡◌, ◌<◌, ℕ, cond, Option, Some, None, List, [], ◌∷◌, ◌++◌, length, get_or, unwrap_or}
+use Rattle.std.specs.Prelude.{◌≡◌, ◌<◌, ◌+◌, ◌*◌, ◌%◌, ◌^◌, ℕ, Bool, true, cond, Contains, Option, Some, None, List, [], ◌∷◌, ◌++◌, length, get_or, slice_index_or, unwrap_or}
+use Rattle.std.specs.List.{fold}
 use Rattle.std.specs.declared.cmp.Ordering.{Ordering}
 use Rattle.std.specs.Ordering.{nat_cmp}
 use Rattle.std.specs.Cmp.Lexicographic.{slice_cmp}
@@ -47,9 +48,26 @@ pub record IsIndex (place_at : List ℕ → Option ℕ) (es : List Entry) : Type
   pub new : AreNew finite.empty es
   pub finds : (n : Name) → IsFound es n (place_at (name_key n))
 
--- The places are those of the entries.
-abbrev pub IsIndexed : Held → Type 0
-IsIndexed held = IsIndex (get keys_cmp held.places) held.entries.items
+-- a number with a byte behind it, of which 64 bits are kept
+abbrev pub with_byte : ℕ → ℕ → ℕ
+with_byte number byte = ((number * 256) % 2 ^ 64 + byte) % 2 ^ 64
+
+-- the number of a name's mark: the last twenty bits of its id
+abbrev pub mark_of : Name → ℕ
+mark_of n = fold with_byte 0 n.id % 2 ^ 20
+
+-- whether a name may be held, by its mark, where it has one
+abbrev pub may_hold : List Bool → Name → Bool
+may_hold marks n = slice_index_or marks (mark_of n) true
+
+-- The name of each entry may be held.
+abbrev pub AreMarked : List Bool → List Entry → Type 0
+AreMarked marks es = (e : Entry) → Contains es e → may_hold marks e.name ≡ true
+
+-- The places are those of the entries, and the marks are set for their names.
+pub record IsIndexed (held : Held) : Type 0 where
+  pub index : IsIndex (get keys_cmp held.places) held.entries.items
+  pub marked : AreMarked held.marks.items held.entries.items
 
 -- The entry was new, and stands at the end now.
 pub record IsPutIn (before now : List Entry) (e : Entry) : Type 0 where

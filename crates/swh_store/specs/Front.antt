@@ -9,7 +9,7 @@ use Rattle.swh_base.specs.declared.entry.Entry.{Entry}
 use Rattle.swh_base.specs.Name.{name_key}
 use Rattle.swh_model.specs.Step.{HasItsChildren, AreNew}
 use Rattle.swh_store.specs.Stored.{Stored, stored_code}
-use Rattle.swh_store.specs.Entries.{keys_cmp, stored_in}
+use Rattle.swh_store.specs.Entries.{keys_cmp, stored_in, AreMarked}
 use Rattle.swh_store.specs.declared.entries.Held.{Held}
 
 -- what is shown, and the entries to come
@@ -31,9 +31,10 @@ abbrev pub first_place : ℕ → List Entry → List ℕ → Option ℕ
 first_place from [] key = None
 first_place from (e ∷ es) key = cond (is_at (keys_cmp (name_key e.name)) key) (Some from) (first_place (from + 1) es key)
 
--- Each entry has its children, and each key leads to the first entry of its name.
+-- Each entry has its children, each key leads to the first entry of its name, and the marks are set for their names.
 pub record IsFirstIndex (held : Held) : Type 0 where
   pub good : AllByRecursion HasItsChildren held.entries.items
+  pub marked : AreMarked held.marks.items held.entries.items
   pub leads : (key : List ℕ) → get keys_cmp held.places key ≡ first_place 0 held.entries.items key
 
 -- The first `count` entries are new, one after another, and no more than these are.

@@ -10,6 +10,7 @@ ghost use Rattle.swh_store.specs.Adding.{IsStanding, Joins, IsTakenUp, IsEntryFa
 
 use crate::entries::{Held, key_of, lead, push_again};
 use crate::fault::StoreFault;
+use crate::marks::set_mark;
 use swh_base::{Entry, Memory};
 
 /// How an entry stands to what is held.
@@ -65,6 +66,7 @@ pub fn join(held: &mut Held, entry: Entry) -> Result<Standing, Memory>
     if at < place {
         return Ok(standing_beside(&held.entries[at], &entry));
     }
+    set_mark(&mut held.marks, &entry.name);
     held.entries.push_reserved(entry);
     Ok(Standing::New)
 }

@@ -1,14 +1,16 @@
 //! Entries in the order of their adding, and the place of each by its name's key.
+use crate::marks::{may_hold, set_mark};
 use std::alloc::Global;
 use std::collections::BTreeMap;
 use swh_base::{Entry, Memory, Name};
 use swh_model::kind_byte;
 
 /// Entries of which no two have one name. The map holds their places alone, so that its nodes are small; those that were
-/// added last can be taken out again, which wants no memory.
+/// added last can be taken out again, which wants no memory. Where there are marks, one that is not set spares a look-up.
 #[derive(Drop)]
 pub struct Held {
     pub places: BTreeMap<[u8; 21], usize>,
+    pub marks: Vec<bool>,
     pub entries: Vec<Entry>,
 }
 
@@ -47,13 +49,14 @@ impl Held {
     ghost use Rattle.swh_store.specs.Stored.{IsEntryOf};
     ghost use Rattle.swh_store.specs.Entries.{bodies_in, stored_in, IsIndexed};
 
-    /// No entries. It takes no memory.
+    /// No entries, and no marks. It takes no memory.
     pub fn new(alloc: Global) -> Held
         ensures indexed { IsIndexed result }
         ensures none { result.entries.items ≡ [] }
     {
         Held {
             places: BTreeMap::new(alloc),
+            marks: Vec::new(alloc),
             entries: Vec::new(alloc),
         }
     }
@@ -64,6 +67,9 @@ impl Held {
         ensures some { IfSome result (λ entry. IsEntryOf (stored_in self.now.entries.items) name.now entry.now) }
         ensures none { IfNone result (body_of (bodies_in self.now.entries.items) name.now ≡ None) }
     {
+        if !may_hold(self.marks.as_slice(), name) {
+            return None;
+        }
         match self.places.get(&key_of(name)) {
             Some(place) => Some(&self.entries[*place]),
             None => None,
@@ -81,6 +87,7 @@ impl Held {
     {
         self.entries.reserve(1)?;
         self.places.insert(key_of(&entry.name), self.entries.len())?;
+        set_mark(&mut self.marks, &entry.name);
         self.entries.push_reserved(entry);
         Ok(())
     }
@@ -118,7 +125,11 @@ impl Held {
     pub fn into_entries(self) -> Vec<Entry>
         ensures { result.items ≡ self.entries.items }
     {
-        let Held { places: _, entries } = self;
+        let Held {
+            places: _,
+            marks: _,
+            entries,
+        } = self;
         entries
     }
 

@@ -6,6 +6,7 @@ ghost use Rattle.swh_model.specs.Step.{HasItsChildren, AreNew};
 ghost use Rattle.swh_store.specs.Front.{backwards, IsFirstIndex, AreFresh};
 
 use crate::entries::{Held, key_of};
+use crate::marks::marks_of;
 use crate::store::Store;
 use std::alloc::Global;
 use std::collections::BTreeMap;
@@ -57,7 +58,12 @@ fn index(alloc: Global, entries: Vec<Entry>) -> Result<Held, Memory>
 {
     let pairs = places_backwards(alloc, entries.as_slice())?;
     let places = BTreeMap::from_iter(alloc, pairs)?;
-    Ok(Held { places, entries })
+    let marks = marks_of(alloc, entries.as_slice())?;
+    Ok(Held {
+        places,
+        marks,
+        entries,
+    })
 }
 
 /// Whether the entry behind new ones is new too, which it is where its name leads to it.

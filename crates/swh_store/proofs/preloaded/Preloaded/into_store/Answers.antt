@@ -12,8 +12,11 @@ invariant_of-result c =
     let inside = c.self.inside in
     let es = inside.held.entries.items in
     let all = shown-all inside.held inside.fresh inside.shown c.self.invariant (ap (λ (f : Front). f.rest) c.self.view_is ∙ c.requires) in
-    index-same (first_place 0 es) (get keys_cmp inside.held.places) es c.self.invariant.index.leads
-    (subst (λ (l : List Entry). IsIndex (first_place 0 l) l) all (shown-index inside.held inside.fresh inside.shown c.self.invariant))
+    record {
+      index = index-same (first_place 0 es) (get keys_cmp inside.held.places) es c.self.invariant.index.leads
+          (subst (λ (l : List Entry). IsIndex (first_place 0 l) l) all (shown-index inside.held inside.fresh inside.shown c.self.invariant));
+      marked = c.self.invariant.index.marked;
+    }
 
 pub returns : goal.returns
 returns c =

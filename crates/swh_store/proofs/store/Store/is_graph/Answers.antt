@@ -8,4 +8,4 @@ use Rattle.swh_store.proofs.store.Store.is_graph.Goals as goal
 
 pub returns : goal.returns
 returns c =
-    subst (λ (s : Stored). IsGraphOf s.bodies (children_in s)) c.self.view_is (graph_is (get keys_cmp c.self.inside.held.places) c.self.inside.held.entries.items c.self.invariant)
+    subst (λ (s : Stored). IsGraphOf s.bodies (children_in s)) c.self.view_is (graph_is (get keys_cmp c.self.inside.held.places) c.self.inside.held.entries.items c.self.invariant.index)

@@ -8,4 +8,4 @@ use Rattle.swh_store.proofs.store.Store.len.Goals as goal
 
 pub returns : goal.returns
 returns c =
-    c.len.ensures ∙ c.self.inside.held.entries.ok.0 ∙ sym (size (get keys_cmp c.self.inside.held.places) c.self.inside.held.entries.items c.self.invariant) ∙ ap (λ (s : Stored). finite.len s.bodies) c.self.view_is
+    c.len.ensures ∙ c.self.inside.held.entries.ok.0 ∙ sym (size (get keys_cmp c.self.inside.held.places) c.self.inside.held.entries.items c.self.invariant.index) ∙ ap (λ (s : Stored). finite.len s.bodies) c.self.view_is

@@ -1,0 +1,54 @@
+//! Marks by which it is told of most names that are not held that they are not, without a look-up.
+ghost use Rattle.std.specs.Prelude.{◌≡◌, true, IfOk};
+ghost use Rattle.swh_base.specs.declared.name.Name.{Name};
+ghost use Rattle.swh_store.specs.Entries.{mark_of, may_hold, AreMarked};
+
+use std::alloc::Global;
+use swh_base::{Entry, Memory, Name};
+
+/// So many marks there are, of which a name has one.
+const MARKS: usize = 1_048_576;
+
+/// The number of a name's mark: the last twenty bits of its id.
+fn mark_of(name: &Name) -> usize
+    ensures { result ≡ mark_of name.now }
+{
+    let mut number: u64 = 0;
+    for byte in &name.id {
+        number = number.wrapping_mul(256).wrapping_add(*byte as u64);
+    }
+    (number % 1_048_576) as usize
+}
+
+/// Whether a name may be held, by its mark. Where there are no marks each may be.
+pub fn may_hold(marks: &[bool], name: &Name) -> bool
+    ensures { result ≡ may_hold marks.now name.now }
+{
+    match marks.get(mark_of(name)) {
+        Some(mark) => *mark,
+        None => true,
+    }
+}
+
+/// Sets the mark of a name, where there are marks. None is taken back.
+pub fn set_mark(marks: &mut Vec<bool>, name: &Name)
+    ensures it { may_hold marks.new.items name.now ≡ true }
+    ensures others { (n : Name) → may_hold marks.old.items n ≡ true → may_hold marks.new.items n ≡ true }
+{
+    let number = mark_of(name);
+    if number < marks.len() {
+        marks[number] = true;
+    }
+}
+
+/// Marks, set for the names of these entries.
+pub fn marks_of(alloc: Global, entries: &[Entry]) -> Result<Vec<bool>, Memory>
+    ensures { IfOk result (λ marks. AreMarked marks.items entries.now) }
+{
+    let mut marks = Vec::new(alloc);
+    marks.resize(MARKS, false)?;
+    for entry in entries {
+        set_mark(&mut marks, &entry.name);
+    }
+    Ok(marks)
+}
