@@ -20,6 +20,10 @@ ruled_out place_at es marks n index marked unset =
 pub marked-none : (marks : List Bool) → AreMarked marks []
 marked-none marks e (k, less, is) = absurd (omega (arith, less))
 
+-- where there are no marks each name may be held
+pub marked-without : (marks : List Bool) (es : List Entry) → marks ≡ [] → AreMarked marks es
+marked-without marks es is = subst (λ (l : List Bool). AreMarked l es) (sym is) (λ e h. refl)
+
 -- one entry more, whose mark is set
 pub marked-push : (old new : List Bool) (es : List Entry) (e : Entry) → ((n : Name) → may_hold old n ≡ true → may_hold new n ≡ true) → may_hold new e.name ≡ true → AreMarked old es → AreMarked new (es ++ e ∷ [])
 marked-push old new es e more it marked f h =

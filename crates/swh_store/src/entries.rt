@@ -1,5 +1,5 @@
 //! Entries in the order of their adding, and the place of each by its name's key.
-use crate::marks::{may_hold, set_mark};
+use crate::marks::{marks_of, may_hold, set_mark};
 use std::alloc::Global;
 use std::collections::BTreeMap;
 use swh_base::{Entry, Memory, Name};
@@ -92,6 +92,22 @@ impl Held {
         Ok(())
     }
 
+    /// Makes marks, where there are none and the entries are many. Where memory is short there are none, which costs time
+    /// alone.
+    fn add_marks(&mut self)
+        requires { IsIndexed self.old }
+        ensures indexed { IsIndexed self.new }
+        ensures same { self.new.entries.items ≡ self.old.entries.items }
+    {
+        if !self.marks.is_empty() {
+            return;
+        }
+        let alloc = *self.entries.allocator();
+        if let Ok(marks) = marks_of(alloc, self.entries.as_slice()) {
+            self.marks = marks;
+        }
+    }
+
     /// Adds entries whose names are not held, one after another, and takes them out again where memory runs out.
     pub fn push_all(&mut self, entries: &[Entry]) -> Result<(), Memory>
         requires indexed { IsIndexed self.old }
@@ -101,6 +117,7 @@ impl Held {
         ensures ok { OnOk result (self.new.entries.items ≡ self.old.entries.items ++ entries.now) }
         ensures err { OnErr result (self.new.entries.items ≡ self.old.entries.items) }
     {
+        self.add_marks();
         let before = self.entries.len();
         for entry in entries {
             if let Err(fault) = push_again(self, entry) {

@@ -9,6 +9,9 @@ use swh_base::{Entry, Memory, Name};
 /// So many marks there are, of which a name has one.
 const MARKS: usize = 1_048_576;
 
+/// Fewer entries have no marks: a look-up among them is short, and the marks take a megabyte.
+const MANY: usize = 16_384;
+
 /// The number of a name's mark: the last twenty bits of its id.
 fn mark_of(name: &Name) -> usize
     ensures { result ≡ mark_of name.now }
@@ -41,11 +44,14 @@ pub fn set_mark(marks: &mut Vec<bool>, name: &Name)
     }
 }
 
-/// Marks, set for the names of these entries.
+/// Marks, set for the names of these entries, and none where these are few.
 pub fn marks_of(alloc: Global, entries: &[Entry]) -> Result<Vec<bool>, Memory>
     ensures { IfOk result (λ marks. AreMarked marks.items entries.now) }
 {
     let mut marks = Vec::new(alloc);
+    if entries.len() < MANY {
+        return Ok(marks);
+    }
     marks.resize(MARKS, false)?;
     for entry in entries {
         set_mark(&mut marks, &entry.name);

@@ -3,8 +3,11 @@ use Rattle.std.proofs.lemmas.List.{take_all}
 use Rattle.swh_base.specs.declared.entry.Entry.{Entry}
 use Rattle.swh_model.proofs.PlainLists.{take-more}
 use Rattle.swh_store.specs.Entries.{AreMarked}
-use Rattle.swh_store.proofs.MarkLemmas.{marked-none, marked-push}
+use Rattle.swh_store.proofs.MarkLemmas.{marked-none, marked-push, marked-without}
 use Rattle.swh_store.proofs.marks.marks_of.Goals as goal
+
+pub returns-then-entries-lt-MANY : goal.returns-then-entries-lt-MANY
+returns-then-entries-lt-MANY c = marked-without _ c.args.entries.now c.new-marks.ensures.items
 
 pub loop-entry-init : goal.loop-entry-init
 loop-entry-init c = marked-none _
