@@ -1,4 +1,7 @@
-use Rattle.std.proofs.Common.{◌≡◌, ℕ, List, [], ◌∷◌, ◌++◌, refl, ap, ◌∙◌}
+use Rattle.std.proofs.Common.{◌≡◌, ℕ, List, [], ◌∷◌, ◌++◌, refl, sym, ap, ◌∙◌, subst}
+use Rattle.swh_base.specs.declared.name.Name.{Name}
+use Rattle.swh_heldpaths.specs.Held.{IsHeldOrder}
+use Rattle.swh_pathwalk.specs.Weight.{LeadInto}
 use Rattle.swh_pathwalk.specs.Walk.{row_of}
 use Rattle.swh_written.specs.Held.{kept}
 use Rattle.swh_written.proofs.Pieces.{goes_none, front_none}
@@ -7,6 +10,20 @@ use Rattle.swh_fastcook.specs.Stream.{file_text, files_text}
 use Rattle.swh_fastcook.proofs.FileWalks.{leads_at_first, steps_on}
 use Rattle.swh_fastcook.proofs.Texts.{stopped_some, settled, files_more, files_broke, line_broke, rows_begin, rows_more, rows_end}
 use Rattle.swh_fastcook.proofs.files.write_files.Goals as goal
+
+pub begin-requires-clause-order : goal.begin-requires-clause-order
+begin-requires-clause-order g c =
+    subst (IsHeldOrder (g.L.Graph.children_of c.args.look.now)) (sym c.order-order.ensures)
+    (record { some = c.requires.order; preceded = c.requires.preceded })
+
+pub next-requires-clause-order : goal.next-requires-clause-order
+next-requires-clause-order g c =
+    subst (IsHeldOrder (g.L.Graph.children_of c.args.look.now)) (sym c.order-order.ensures)
+    (record { some = c.requires.order; preceded = c.requires.preceded })
+
+pub next-requires-clause-leads : goal.next-requires-clause-leads
+next-requires-clause-leads g c =
+    subst (λ (order : List Name). LeadInto order c.entries.walk.levels) (sym c.order-order.ensures) c.entries.invariant.leads.folders
 
 pub entries-init : goal.entries-init
 entries-init g c =
