@@ -24,7 +24,7 @@ use Rattle.swh_walk.specs.Owning.{AreAmong}
 use Rattle.swh_walk.proofs.Closes.{whole_good}
 use Rattle.swh_inputs.specs.Input.{InputText, MeansInput, MayBreakInput}
 use Rattle.swh_inputs.specs.Opening.{kind_of, opening_of}
-use Rattle.swh_inputs.specs.Parts.{Parts, Folders, IfTold, TellAll, text_of, IsSameInput, IsSamePart, IsSameListing, IsSameSource, IsSameFolder}
+use Rattle.swh_inputs.specs.Parts.{Parts, text_of, IsSameInput, IsSamePart, IsSameListing, IsSameSource, IsSameFolder}
 use Rattle.swh_inputs.specs.Reading.{IsRead}
 use Rattle.swh_inputs.proofs.Streamings.{meant_given}
 use Rattle.swh_inputs.specs.declared.bad.BadText.{BadText}
@@ -33,7 +33,6 @@ use Rattle.swh_inputs.specs.declared.bad.InputFault.{InputFault}
 use Rattle.swh_inputs.specs.declared.bad.InputFault.TheVariants as fault
 use Rattle.swh_inputs.specs.declared.input.Input.{Input}
 use Rattle.swh_inputs.specs.declared.input.Input.TheVariants.{Fast, Dir, Batch}
-use Rattle.swh_loader.specs.declared.end.BadInput.{BadInput}
 use Rattle.swh_loader.specs.declared.end.BadInput.TheVariants.{Broken, Collision, Read}
 use Rattle.swh_loader.specs.declared.end.End.{End}
 use Rattle.swh_loader.specs.declared.end.End.TheVariants as reported

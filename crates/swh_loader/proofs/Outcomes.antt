@@ -18,7 +18,7 @@ use Rattle.swh_walk.specs.declared.end.LoadFault.{LoadFault}
 use Rattle.swh_walk.specs.declared.input.Input.{Input as Given}
 use Rattle.swh_walk.specs.declared.stop.Stop.TheVariants.{Memory}
 use Rattle.swh_walk.specs.Loading as walking
-use Rattle.swh_walk.specs.Owning.{Attempt, attempt}
+use Rattle.swh_walk.specs.Owning.{Attempt}
 use Rattle.swh_walk.specs.Visiting.{next_visit}
 use Rattle.swh_alone.specs.Loading.{AddsVisit, AreOfVisit, EndsVisit, IsHeldBack, MakesVisitCalls, NoCountFell, Stops}
 use Rattle.swh_alone.proofs.Allowing.{adds_visit, visit_calls, stops_as}

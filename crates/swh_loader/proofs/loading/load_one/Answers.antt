@@ -1,8 +1,7 @@
 use Rattle.std.proofs.Common.{◌≤◌, sym, ap, subst}
 use Rattle.std.specs.Prelude.{IfOk}
 use Rattle.swh_base.specs.declared.visit.VisitKind.{VisitKind}
-use Rattle.swh_outside.specs.Views.{disks, sources}
-use Rattle.swh_outside.specs.declared.fault.Opened.TheVariants.{Found as Here}
+use Rattle.swh_outside.specs.Views.{sources}
 use Rattle.swh_inputs.specs.Opening.{kind_of}
 use Rattle.swh_inputs.specs.Parts.{folders, parts}
 use Rattle.swh_loader.specs.Ending.{held_bodies}
